@@ -1,0 +1,46 @@
+-- What the operators give, on the bits of two values of one kind.
+use Rattle.std.specs.Prelude.{ℕ, ◌+◌, ◌-◌, ◌*◌, ◌/◌, ◌%◌, ◌^◌, ◌<◌, ⊤, ℤ, pos, negsuc, nat_lt, Bool, if◌then◌else◌, ◌==◌, not, bit_and, bit_or, bit_xor}
+use Rattle.std.specs.Int.RustNames.{int_lt, int_le, int_div, int_rem}
+use Rattle.tapa_base.specs.declared.kind.Kind.{Kind}
+use Rattle.tapa_base.specs.declared.op.Op.{Op}
+use Rattle.tapa_base.specs.declared.op.Op.TheVariants as op
+use Rattle.tapa_base.specs.Kinds.{bits_of, values_of, number, residue}
+
+abbrev pub bit : Bool → ℕ
+bit b = if b then 1 else 0
+
+-- the greatest whole number whose d-fold is no greater
+abbrev pub floor_div : ℤ → ℕ → ℤ
+floor_div (pos n) d = pos (n / d)
+floor_div (negsuc n) d = negsuc (n / d)
+
+-- every bit is the sign
+abbrev pub sign_bits : Kind → ℤ → ℕ
+sign_bits k (pos n) = 0
+sign_bits k (negsuc n) = values_of k - 1
+
+-- what an operator asks of its right operand: a value of the kind, not 0 for a divisor; any count for a shift
+abbrev pub CanApply : Op → Kind → ℕ → Type 0
+CanApply op.Div k b = (0 < b) × (b < values_of k)
+CanApply op.Rem k b = (0 < b) × (b < values_of k)
+CanApply op.Shl k b = ⊤
+CanApply op.Shr k b = ⊤
+CanApply o k b = b < values_of k
+
+abbrev pub applied : Op → Kind → ℕ → ℕ → ℕ
+applied op.Add k a b = (a + b) % values_of k
+applied op.Sub k a b = (a + (values_of k - b)) % values_of k
+applied op.Mul k a b = (a * b) % values_of k
+applied op.Div k a b = residue (values_of k) (int_div (number k a) (number k b))
+applied op.Rem k a b = residue (values_of k) (int_rem (number k a) (number k b))
+applied op.Shl k a b = if nat_lt b (bits_of k) then (a * 2 ^ b) % values_of k else 0
+applied op.Shr k a b = if nat_lt b (bits_of k) then residue (values_of k) (floor_div (number k a) (2 ^ b)) else sign_bits k (number k a)
+applied op.And k a b = bit_and a b
+applied op.Or k a b = bit_or a b
+applied op.Xor k a b = bit_xor a b
+applied op.Eq k a b = bit (a == b)
+applied op.Ne k a b = bit (not (a == b))
+applied op.Lt k a b = bit (int_lt (number k a) (number k b))
+applied op.Le k a b = bit (int_le (number k a) (number k b))
+applied op.Gt k a b = bit (int_lt (number k b) (number k a))
+applied op.Ge k a b = bit (int_le (number k b) (number k a))
