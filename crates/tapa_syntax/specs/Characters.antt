@@ -1,0 +1,60 @@
+-- The bytes of a source: their classes, and the lines and columns where they stand (ISO C++ [lex.charset], [lex.name]).
+use Rattle.std.specs.Prelude.{ℕ, ◌+◌, Bool, true, false, not, ◌&&◌, ◌||◌, if◌then◌else◌, ◌==◌, nat_le, List, [], ◌∷◌, ◌++◌, length, count_by}
+use Rattle.std.specs.List.{list_any, list_all}
+use Rattle.tapa_base.specs.declared.text.Place.{Place}
+
+abbrev pub Bytes : Type 0
+Bytes = List ℕ
+
+-- space, tab, carriage return, line feed
+abbrev pub is_blank : ℕ → Bool
+is_blank b = b == 32 || b == 9 || b == 13 || b == 10
+
+-- anything but the line feed, which ends a line
+abbrev pub is_in_line : ℕ → Bool
+is_in_line b = not (b == 10)
+
+abbrev pub is_digit : ℕ → Bool
+is_digit b = nat_le 48 b && nat_le b 57
+
+-- a letter or `_`
+abbrev pub is_letter : ℕ → Bool
+is_letter b = (nat_le 97 b && nat_le b 122) || (nat_le 65 b && nat_le b 90) || b == 95
+
+-- what a name or a number goes on with
+abbrev pub is_word_byte : ℕ → Bool
+is_word_byte b = is_letter b || is_digit b
+
+-- what stands between the quotes of a string: printable, and neither `"` nor `\`
+abbrev pub is_plain : ℕ → Bool
+is_plain b = nat_le 32 b && nat_le b 126 && not (b == 34) && not (b == 92)
+
+-- a byte is one of these
+abbrev pub is_among : List ℕ → ℕ → Bool
+is_among set b = list_any (λ c. c == b) set
+
+-- the first byte is of a class; there is none in no bytes
+abbrev pub begins : (ℕ → Bool) → Bytes → Bool
+begins class [] = false
+begins class (b ∷ z) = class b
+
+-- how many bytes of a class stand in front
+abbrev pub run : (ℕ → Bool) → Bytes → ℕ
+run class [] = 0
+run class (b ∷ z) = if class b then run class z + 1 else 0
+
+-- the bytes behind the last line feed, where `line` are those before
+abbrev pub line_behind : Bytes → Bytes → Bytes
+line_behind line [] = line
+line_behind line (b ∷ z) = line_behind (if b == 10 then [] else line ++ b ∷ []) z
+
+abbrev pub last_line : Bytes → Bytes
+last_line = line_behind []
+
+-- whether only blanks stand in the line so far
+abbrev pub opens_line : Bytes → Bool
+opens_line before = list_all is_blank (last_line before)
+
+-- the place of the byte behind these: lines and columns count from 1
+abbrev pub place_of : Bytes → Place
+place_of before = record { line = 1 + count_by (λ b. b == 10) before; col = 1 + length (last_line before) }
