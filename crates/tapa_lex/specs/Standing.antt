@@ -1,0 +1,17 @@
+-- What the lexer knows of the text behind it.
+use Rattle.std.specs.Prelude.{◌≡◌, List, [], ◌∷◌, length, Option, Some, None}
+use Rattle.tapa_syntax.specs.Characters.{Bytes, opens_line, place_of}
+use Rattle.tapa_lex.specs.declared.cursor.Cursor.{Cursor}
+use Rattle.tapa_syntax.specs.declared.lexeme.LexKind.{LexKind}
+use Rattle.tapa_syntax.specs.declared.lexeme.Lexeme.{Lexeme}
+
+-- a cursor stands behind these bytes
+pub record IsBehind (before : Bytes) (cursor : Cursor) : Type 0 where
+  pub at : cursor.at ≡ length before
+  pub place : cursor.place ≡ place_of before
+  pub opens : cursor.opens ≡ opens_line before
+
+-- the lexeme between two places; a gap is none
+abbrev pub spanned : Option LexKind → Cursor → Cursor → List Lexeme
+spanned None from to = []
+spanned (Some kind) from to = record { kind = kind; from = from.at; to = to.at; place = from.place } ∷ []

@@ -1,0 +1,65 @@
+//! Where the lexer stands in a text.
+
+ghost use Rattle.std.specs.Prelude.{◌≡◌, ◌+◌, ◌<◌, ◌≤◌, ◌^◌, ◌++◌, ◌&&◌, [], ◌∷◌, length};
+ghost use Rattle.tapa_syntax.specs.Characters.{Bytes};
+ghost use Rattle.tapa_lex.specs.Standing.{IsBehind};
+
+use crate::class::is_blank;
+use tapa_base::Place;
+
+/// An index of a text, its place, and whether only blanks stand before it in its line.
+#[derive(Clone, Copy)]
+pub struct Cursor {
+    pub at: u32,
+    pub place: Place,
+    pub opens: bool,
+}
+
+impl Cursor {
+    pub fn start() -> Self
+        ensures { IsBehind [] result }
+    {
+        Cursor { at: 0, place: Place { line: 1, col: 1 }, opens: true }
+    }
+
+    /// Where one stands behind one more byte.
+    fn past(self, b: u8) -> Self
+        requires at { self.at + 1 < 2 ^ 32 }
+        requires line { self.place.line + 1 < 2 ^ 32 }
+        requires col { self.place.col + 1 < 2 ^ 32 }
+        ensures behind { (before : Bytes) → IsBehind before self → IsBehind (before ++ b ∷ []) result }
+        ensures next_at { result.at ≤ self.at + 1 }
+        ensures next_line { result.place.line ≤ self.place.line + 1 }
+        ensures next_col { result.place.col ≤ self.place.col + 1 }
+    {
+        let Cursor { at, place, opens } = self;
+        if b == b'\n' {
+            let place = Place { line: place.line + 1, col: 1 };
+            Cursor { at: at + 1, place, opens: true }
+        } else {
+            let place = Place { line: place.line, col: place.col + 1 };
+            let opens = both(opens, is_blank(b));
+            Cursor { at: at + 1, place, opens }
+        }
+    }
+
+    /// Where one stands behind more bytes.
+    pub fn past_all(self, bytes: &[u8]) -> Self
+        requires at { self.at + length bytes.now < 2 ^ 32 }
+        requires line { self.place.line + length bytes.now < 2 ^ 32 }
+        requires col { self.place.col + length bytes.now < 2 ^ 32 }
+        ensures { (before : Bytes) → IsBehind before self → IsBehind (before ++ bytes.now) result }
+    {
+        let mut cursor = self;
+        for b in bytes {
+            cursor = cursor.past(*b);
+        }
+        cursor
+    }
+}
+
+fn both(a: bool, b: bool) -> bool
+    ensures { result ≡ (a && b) }
+{
+    a && b
+}
