@@ -1,2 +1,7 @@
 pub mod Places
 pub mod Values
+pub mod Runs
+pub mod Bytes
+pub mod Signs
+pub mod Gaps
+pub mod Pieces

@@ -63,17 +63,29 @@ pub record IsWord (first : ℕ → Bool) (bytes rest : Bytes) : Type 0 where
 abbrev pub IsString : Bytes → Type 0
 IsString bytes = (body : Bytes) × (bytes ≡ 34 ∷ body ++ 34 ∷ []) × (list_all is_plain body ≡ true)
 
+abbrev pub singles : List ℕ
+singles = codes "(){}[]<>,;:?.=+-*/%&|^~!"
+
+abbrev pub doubled : List ℕ
+doubled = codes ":<>=&|+-"
+
+abbrev pub before_equals : List ℕ
+before_equals = codes "<>!+-*/%&|^"
+
+abbrev pub shifts : List ℕ
+shifts = codes "<>"
+
 -- punctuation of one byte
 abbrev pub is_single : ℕ → Bool
-is_single = is_among (codes "(){}[]<>,;:?.=+-*/%&|^~!")
+is_single = is_among singles
 
--- of two: `::` `<<` `>>` `==` `&&` `||` `++` `--`, or an operator and `=`
+-- of two: `::` `<<` `>>` `==` `&&` `||` `++` `--`; and `<=` `>=` `!=` `+=` `-=` `*=` `/=` `%=` `&=` `|=` `^=`
 abbrev pub is_pair : ℕ → ℕ → Bool
-is_pair b c = (b == c && is_among (codes ":<>=&|+-") b) || (c == 61 && is_among (codes "<>!+-*/%&|^") b)
+is_pair b c = (b == c && is_among doubled b) || (c == 61 && is_among before_equals b)
 
 -- of three: `<<=` `>>=`
 abbrev pub is_triple : ℕ → ℕ → ℕ → Bool
-is_triple b c d = b == c && d == 61 && is_among (codes "<>") b
+is_triple b c d = b == c && d == 61 && is_among shifts b
 
 unfoldable pub is_sign : Bytes → Bool
 is_sign [] = false
