@@ -5,3 +5,4 @@ pub mod Bytes
 pub mod Signs
 pub mod Gaps
 pub mod Pieces
+pub mod Cuts

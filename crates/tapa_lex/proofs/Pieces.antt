@@ -1,6 +1,6 @@
 -- What is cut stands, and what stands is cut.
-use Rattle.std.proofs.Common.{◌≡◌, ℕ, zero, suc, ◌+◌, ◌<◌, ◌≤◌, Bool, true, false, cond, not, ◌&&◌, ◌||◌, ◌⊎◌, inl, inr, ⊎_elim, List, [], ◌∷◌, ◌++◌, append_assoc, length, take, drop, get_or, Option, Some, None, Result, Ok, Err, refl, sym, ap, subst, ◌∙◌, arith, nat_eq, add-one, eqb-true, eqb-false, ne_eqb}
-use Rattle.std.proofs.lemmas.Bool.{or_cases, and_parts, false≢true, cases_Bool}
+use Rattle.std.proofs.Common.{◌≡◌, ℕ, zero, suc, ◌+◌, ◌<◌, ◌≤◌, Bool, true, false, cond, not, ◌&&◌, ◌||◌, ◌⊎◌, inl, inr, ⊎_elim, List, [], ◌∷◌, ◌++◌, append_assoc, length, take, drop, get_or, Option, Some, None, Result, Ok, Err, refl, sym, ap, subst, ◌∙◌, arith, nat_eq, add-one, eqb-true, ne_eqb}
+use Rattle.std.proofs.lemmas.Bool.{or_cases, and_parts, false≢true, cases_Bool, eqb-false}
 use Rattle.std.proofs.lemmas.List.{length-append, take_at}
 use Rattle.tapa_base.specs.declared.kind.Kind.{Kind}
 use Rattle.tapa_syntax.specs.declared.lexeme.LexKind.{LexKind}
