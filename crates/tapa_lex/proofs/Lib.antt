@@ -6,3 +6,4 @@ pub mod Signs
 pub mod Gaps
 pub mod Pieces
 pub mod Cuts
+pub mod Whole
