@@ -4,7 +4,8 @@ use Rattle.std.specs.List.{list_all, list_any}
 use Rattle.std.proofs.lemmas.Bool.{and_parts, or_cases, false≢true}
 use Rattle.std.proofs.lemmas.Bool.Decides.{nat_tests}
 use Rattle.tapa_syntax.specs.Characters.{Bytes, is_blank, is_in_line, is_digit, is_letter, is_word_byte, is_among}
-use Rattle.tapa_syntax.specs.Lexemes.{is_inner_blank, is_single, is_pair, is_triple, singles, doubled, before_equals, shifts}
+use Rattle.tapa_syntax.specs.Lexemes.{is_inner_blank}
+use Rattle.tapa_lex.specs.Reading.{is_single, is_pair, is_triple, singles, doubled, before_equals, shifts}
 
 pub letter_no_blank : (b : ℕ) → is_letter b ≡ true → is_blank b ≡ false
 letter_no_blank b h = grind (arith, nat_tests)
@@ -62,7 +63,7 @@ single_apart b h =
     let one = and_parts (not (is_blank b)) (not (is_letter b)) two.0 in
     record { blank = not_false _ one.0; letter = not_false _ one.1; digit = not_false _ two.1; quote = not_false _ three.1; line = not_false _ four.1 }
 
-pair_cases : (b c : ℕ) → is_pair b c ≡ true → ((nat_eq b c ≡ true) × (is_among doubled b ≡ true)) ⊎ ((nat_eq c 61 ≡ true) × (is_among before_equals b ≡ true))
+pub pair_cases : (b c : ℕ) → is_pair b c ≡ true → ((nat_eq b c ≡ true) × (is_among doubled b ≡ true)) ⊎ ((nat_eq c 61 ≡ true) × (is_among before_equals b ≡ true))
 pair_cases b c h =
     ⊎_elim
     (λ (e : (nat_eq b c && is_among doubled b) ≡ true). inl (and_parts (nat_eq b c) (is_among doubled b) e))

@@ -8,14 +8,14 @@ use Rattle.tapa_syntax.specs.declared.lexeme.LexKind.{LexKind}
 use Rattle.tapa_syntax.specs.declared.lexeme.LexKind.TheVariants as kind
 use Rattle.tapa_syntax.specs.Characters.{Bytes, is_blank, is_in_line, is_digit, is_letter, is_word_byte, is_plain, begins, run, opens_line}
 use Rattle.tapa_syntax.specs.Literals.{literal_of}
-use Rattle.tapa_syntax.specs.Lexemes.{Stands, IsBlank, IsLineComment, has_close, IsBlockComment, IsSkippedLine, IsWord, IsString, IsPunctuation, IsGap, IsLexeme, NothingStands, is_sign}
+use Rattle.tapa_syntax.specs.Lexemes.{Stands, IsBlank, IsLineComment, has_close, IsBlockComment, IsSkippedLine, IsWord, IsString, IsPunctuation, IsGap, IsLexeme, NothingStands}
 use Rattle.tapa_lex.specs.Reading.{Cut, closing, sign_length, first_word, is_known, cut_literal, cut_string, cut_line, cut_comment, cut_sign, cut_mark, cut_quoted, cut_word, cut}
 use Rattle.tapa_lex.specs.Refusals.{code_at}
 use Rattle.tapa_lex.specs.declared.fault.LexCode.{LexCode}
 use Rattle.tapa_lex.specs.declared.fault.LexCode.TheVariants.{L1, L2, L3, L4}
 use Rattle.tapa_lex.proofs.Runs.{split, run_within, run_some}
 use Rattle.tapa_lex.proofs.Bytes.{letter_no_blank, digit_no_blank, digit_no_letter, IsApart, single_apart}
-use Rattle.tapa_lex.proofs.Signs.{sign_at, IsCutSign, sign_cut}
+use Rattle.tapa_lex.proofs.Signs.{sign_at, IsCutSign, sign_cut, nothing_signed}
 use Rattle.tapa_lex.proofs.Gaps.{word_run, line_run, closing_is, string_run, string_ends, skipped_word, skipped_run}
 
 -- ---- one test after the other
@@ -97,8 +97,7 @@ some_sign : (n : ℕ) → 0 < n → cut_sign n ≡ Ok (Some kind.Punct, n)
 some_sign n some = rw (ne_eqb n 0 (λ e. omega arith)) refl
 
 punctuation_cut : (before bytes rest : Bytes) → IsPunctuation bytes rest → IsCut before (Some kind.Punct) bytes rest
-unfolding is_sign
-punctuation_cut before [] rest h = absurd (false≢true h.sign)
+punctuation_cut before [] rest h = absurd (false≢true (sym nothing_signed ∙ h.sign))
 punctuation_cut before (b ∷ w) rest h =
     let c = sign_cut (b ∷ w) rest h in
     let apart = single_apart b c.first in
@@ -138,8 +137,7 @@ word_some first [] rest h = absurd (false≢true h.begun)
 word_some first (b ∷ w) rest h = omega arith
 
 sign_some : (bytes rest : Bytes) → IsPunctuation bytes rest → 0 < length bytes
-unfolding is_sign
-sign_some [] rest h = absurd (false≢true h.sign)
+sign_some [] rest h = absurd (false≢true (sym nothing_signed ∙ h.sign))
 sign_some (b ∷ w) rest h = omega arith
 
 lexeme_some : (k : LexKind) (bytes rest : Bytes) → IsLexeme k bytes rest → 0 < length bytes

@@ -24,13 +24,12 @@ word_run first bytes rest h = run_is is_word_byte bytes rest h.word h.longest
 -- ---- comments of a line
 
 pub line_stands : (y : Bytes) → IsLineComment (take (run is_in_line (47 ∷ 47 ∷ y)) (47 ∷ 47 ∷ y)) (drop (run is_in_line (47 ∷ 47 ∷ y)) (47 ∷ 47 ∷ y))
-line_stands y =
-    (
-      take (run is_in_line y) y,
-      rw (add-one (run is_in_line y + 1), add-one (run is_in_line y)) refl,
-      run_passes is_in_line y,
-      rw (add-one (run is_in_line y + 1), add-one (run is_in_line y)) (run_stops is_in_line y),
-    )
+line_stands y = (
+  take (run is_in_line y) y,
+  rw (add-one (run is_in_line y + 1), add-one (run is_in_line y)) refl,
+  run_passes is_in_line y,
+  rw (add-one (run is_in_line y + 1), add-one (run is_in_line y)) (run_stops is_in_line y),
+)
 
 pub line_run : (bytes rest : Bytes) → IsLineComment bytes rest → run is_in_line (bytes ++ rest) ≡ length bytes
 line_run bytes rest h = let all : list_all is_in_line bytes ≡ true = rw h.1 h.2 in run_is is_in_line bytes rest all h.3

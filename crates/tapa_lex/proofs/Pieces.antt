@@ -61,10 +61,10 @@ sign_found before b y s n m h k is e =
     split (nat_eq m 0) (Err L1) (Ok (Some kind.Punct, m)) (Ok (s, n)) e
     (λ t e1. absurd cc)
     (λ f e1.
-      let none = eqb-false m 0 f in
-      let some : 0 < m = omega arith in
-      let l = sign_stands b y m h k is some in
-      found_at before (b ∷ y) (Some kind.Punct) s m n (record { stands = l.0; some = some; within = l.1 }) e1)
+    let none = eqb-false m 0 f in
+    let some : 0 < m = omega arith in
+    let l = sign_stands b y m h k is some in
+    found_at before (b ∷ y) (Some kind.Punct) s m n (record { stands = l.0; some = some; within = l.1 }) e1)
 
 mark_found : (before : Bytes) (b : ℕ) (y : Bytes) (s : Sort) (n : ℕ) → cut_mark (b ∷ y) ≡ Ok (s, n) → Found before (b ∷ y) s n
 unfolding cut_mark
@@ -84,8 +84,8 @@ string_found before y s n e =
     let one : get_or (34 ∷ y) (m + 1) 0 ≡ get_or y m 0 = rw (add-one m) refl in
     split (nat_eq (get_or (34 ∷ y) (m + 1) 0) 34) (Ok (Some kind.Str, m + 2)) (Err L2) (Ok (s, n)) e
     (λ t is.
-      let l = string_stands y (subst (λ (x : ℕ). nat_eq x 34 ≡ true) one t) in
-      found_at before (34 ∷ y) (Some kind.Str) s (m + 2) n (record { stands = l.0; some = omega arith; within = l.1 }) is)
+    let l = string_stands y (subst (λ (x : ℕ). nat_eq x 34 ≡ true) one t) in
+    found_at before (34 ∷ y) (Some kind.Str) s (m + 2) n (record { stands = l.0; some = omega arith; within = l.1 }) is)
     (λ f is. absurd cc)
 
 skipped_found : (before y : Bytes) (s : Sort) (n : ℕ) → cut_line (opens_line before) (35 ∷ y) ≡ Ok (s, n) → Found before (35 ∷ y) s n

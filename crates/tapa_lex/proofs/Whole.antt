@@ -96,9 +96,9 @@ front_more text cursor next told sort n h lt e steps =
       pieces = h.pieces ++ p ∷ [];
       is = text_more h.pieces p [] ∙ ap (text_of h.pieces) (append-nil bytes) ∙ text_split h.pieces bytes ∙ ap (λ (l : Bytes). l ++ bytes) h.is ∙ there;
       standing = subst (λ (l : Bytes). StandInTurn [] (h.pieces ++ p ∷ []) l) rest
-      (turn_more [] h.pieces p (drop n z)
-      (subst (StandInTurn [] h.pieces) (sym (take-append-drop n z)) h.standing)
-      (subst (λ (b : Bytes). Stands b sort bytes (drop n z)) (sym h.is) f.stands));
+          (turn_more [] h.pieces p (drop n z)
+          (subst (StandInTurn [] h.pieces) (sym (take-append-drop n z)) h.standing)
+          (subst (λ (b : Bytes). Stands b sort bytes (drop n z)) (sym h.is) f.stands));
       lexemes = told_more [] h.pieces p ∙ ap (λ (l : List Lexeme). l ++ lexeme_of (text_of h.pieces []) sort bytes) h.lexemes ∙ ap (λ (b : Bytes). told ++ lexeme_of b sort bytes) h.is ∙ ap (λ (l : List Lexeme). told ++ l) (sym (spanned_is before bytes sort cursor next h.behind (omega (arith, at, size, size_before))));
       behind = subst (λ (b : Bytes). IsBehind b next) there behind;
       within = omega (arith, within, left, at);
@@ -148,8 +148,7 @@ ok_same x y e = cc
 first_same : (before a b x y : Bytes) (s t : Option LexKind) → Stands before s a x → Stands before t b y → a ++ x ≡ b ++ y → (s ≡ t) × (a ≡ b)
 first_same before a b x y s t h k e =
     let both = ok_same (s, length a) (t, length b) (sym (is_cut before s a x h) ∙ ap (cut (opens_line before)) e ∙ is_cut before t b y k) in
-    let size : length a ≡ length b = ap (λ (p : Option LexKind × ℕ). p.1) both in
-    (
+    let size : length a ≡ length b = ap (λ (p : Option LexKind × ℕ). p.1) both in (
       ap (λ (p : Option LexKind × ℕ). p.0) both,
       sym (take_at a x (length a) refl) ∙ ap (take (length a)) e ∙ take_at b y (length a) (sym size),
     )
@@ -198,8 +197,7 @@ one_list text some others h k =
 
 pub one_refusal : (text : Bytes) (code other : LexCode) (place there : Place) → IsRefused text code place → IsRefused text other there → (code ≡ other) × (place ≡ there)
 one_refusal text code other place there h k =
-    let same = pieces_same [] h.pieces k.pieces h.behind k.behind (whole_refused text code place h) (whole_refused text other there k) (h.is ∙ sym k.is) in
-    (
+    let same = pieces_same [] h.pieces k.pieces h.behind k.behind (whole_refused text code place h) (whole_refused text other there k) (h.is ∙ sym k.is) in (
       h.told ∙ ap (λ (ps : List Piece). code_at (opens_line (text_of ps [])) h.behind) same.0 ∙ ap (code_at (opens_line (text_of k.pieces []))) same.1 ∙ sym k.told,
       h.at ∙ ap (λ (ps : List Piece). place_of (text_of ps [])) same.0 ∙ sym k.at,
     )

@@ -4,9 +4,9 @@ use Rattle.std.specs.Str.{bytes_eq}
 use Rattle.tapa_base.specs.declared.kind.Kind.{Kind}
 use Rattle.tapa_syntax.specs.declared.lexeme.LexKind.{LexKind}
 use Rattle.tapa_syntax.specs.declared.lexeme.LexKind.TheVariants as kind
-use Rattle.tapa_syntax.specs.Characters.{Bytes, is_blank, is_in_line, is_digit, is_letter, is_word_byte, is_plain, run}
+use Rattle.tapa_syntax.specs.Characters.{Bytes, is_blank, is_in_line, is_digit, is_letter, is_word_byte, is_plain, is_among, run}
 use Rattle.tapa_syntax.specs.Literals.{is_digit_of, literal_of}
-use Rattle.tapa_syntax.specs.Lexemes.{is_inner_blank, is_single, is_pair, is_triple}
+use Rattle.tapa_syntax.specs.Lexemes.{is_inner_blank}
 use Rattle.tapa_lex.specs.declared.class.Class.{Class}
 use Rattle.tapa_lex.specs.declared.class.Class.TheVariants as class
 use Rattle.tapa_lex.specs.declared.fault.LexCode.{LexCode}
@@ -23,6 +23,33 @@ is_in (class.DigitOf base) = is_digit_of base
 unfoldable pub closing : Bytes → Option ℕ
 closing [] = None
 closing (b ∷ z) = if b == 42 && slice_index z 0 == 47 then Some 2 else option_map (λ n. n + 1) (closing z)
+
+-- ---- signs
+
+-- of one byte
+abbrev pub singles : List ℕ
+singles = codes "(){}[]<>,;:?.=+-*/%&|^~!"
+
+-- of two: `::` `<<` `>>` `==` `&&` `||` `++` `--`
+abbrev pub doubled : List ℕ
+doubled = codes ":<>=&|+-"
+
+-- of two: `<=` `>=` `!=` `+=` `-=` `*=` `/=` `%=` `&=` `|=` `^=`
+abbrev pub before_equals : List ℕ
+before_equals = codes "<>!+-*/%&|^"
+
+-- of three: `<<=` `>>=`
+abbrev pub shifts : List ℕ
+shifts = codes "<>"
+
+abbrev pub is_single : ℕ → Bool
+is_single = is_among singles
+
+abbrev pub is_pair : ℕ → ℕ → Bool
+is_pair b c = (b == c && is_among doubled b) || (c == 61 && is_among before_equals b)
+
+abbrev pub is_triple : ℕ → ℕ → ℕ → Bool
+is_triple b c d = b == c && d == 61 && is_among shifts b
 
 -- how many bytes the longest sign has, and 0 where there is none
 unfoldable pub sign_length : ℕ → ℕ → ℕ → ℕ

@@ -19,7 +19,11 @@ impl Cursor {
     pub fn start() -> Self
         ensures { IsBehind [] result }
     {
-        Cursor { at: 0, place: Place { line: 1, col: 1 }, opens: true }
+        Cursor {
+            at: 0,
+            place: Place { line: 1, col: 1 },
+            opens: true,
+        }
     }
 
     /// Where one stands behind one more byte.
@@ -34,12 +38,26 @@ impl Cursor {
     {
         let Cursor { at, place, opens } = self;
         if b == b'\n' {
-            let place = Place { line: place.line + 1, col: 1 };
-            Cursor { at: at + 1, place, opens: true }
+            let place = Place {
+                line: place.line + 1,
+                col: 1,
+            };
+            Cursor {
+                at: at + 1,
+                place,
+                opens: true,
+            }
         } else {
-            let place = Place { line: place.line, col: place.col + 1 };
+            let place = Place {
+                line: place.line,
+                col: place.col + 1,
+            };
             let opens = both(opens, is_blank(b));
-            Cursor { at: at + 1, place, opens }
+            Cursor {
+                at: at + 1,
+                place,
+                opens,
+            }
         }
     }
 

@@ -2,7 +2,6 @@
 
 ghost use Rattle.std.specs.Prelude.{◌≡◌, ◌+◌, ◌<◌, ◌≤◌, ◌^◌, length, drop, IfOk, IfSome};
 ghost use Rattle.tapa_lex.specs.Reading as reading;
-ghost use Rattle.tapa_syntax.specs.Lexemes as lexemes;
 
 use crate::class::{Class, byte, is_blank, is_digit, is_letter, run};
 use crate::fault::LexCode;
@@ -160,7 +159,7 @@ fn sign_length(b: u8, c: u8, d: u8) -> usize
 }
 
 fn is_pair(b: u8, c: u8) -> bool
-    ensures { result ≡ lexemes.is_pair b c }
+    ensures { result ≡ reading.is_pair b c }
 {
     b == c && b":<>=&|+-".contains(&b) || c == b'=' && b"<>!+-*/%&|^".contains(&b)
 }

@@ -4,7 +4,7 @@ ghost use Rattle.std.specs.Prelude.{◌≡◌, ◌<◌, ◌^◌, ◌-◌, ◌++�
 ghost use Rattle.std.specs.List.{AllByRecursion};
 ghost use Rattle.tapa_base.specs.declared.text.Place.{Place};
 ghost use Rattle.tapa_syntax.specs.declared.lexeme.Lexeme.{Lexeme};
-ghost use Rattle.tapa_syntax.specs.Lexemes.{HasLexemes, IsSliceOf};
+ghost use Rattle.tapa_syntax.specs.Lexemes.{HasLexemes, IsSliceOf, InOrder};
 ghost use Rattle.tapa_lex.specs.Refusals.{IsCause, IsRefused, Answers, Refuses};
 ghost use Rattle.tapa_lex.specs.Standing.{spanned};
 ghost use Rattle.tapa_lex.specs.declared.fault.LexCode.{LexCode};
@@ -21,6 +21,7 @@ pub fn lex(alloc: Global, text: &[u8]) -> Result<Vec<Lexeme>, LexFault>
     // What is answered are the lexemes of the text, each with its slice, its place and a value of its kind.
     ensures found { IfOk result (λ v. HasLexemes text.now v.items) }
     ensures slices { IfOk result (λ v. AllByRecursion (IsSliceOf text.now) v.items) }
+    ensures in_order { IfOk result (λ v. InOrder 0 v.items) }
     // A refusal tells the first place at which the text has no piece, and what was begun there.
     ensures refused { IfErr result (IsCause text.now) }
     // A text that has lexemes gets them, and one that is refused is told so, unless memory runs out.
@@ -33,7 +34,10 @@ pub fn lex(alloc: Global, text: &[u8]) -> Result<Vec<Lexeme>, LexFault>
         let rest = &text[cursor.at as usize..];
         let (sort, len) = match cut(cursor.opens, rest) {
             Ok(piece) => piece,
-            Err(code) => return Err(LexFault::At { code, place: cursor.place }),
+            Err(code) => return Err(LexFault::At {
+                code,
+                place: cursor.place,
+            }),
         };
         let next = cursor.past_all(&rest[..len]);
         put(&mut found, sort, cursor, next)?;
@@ -43,12 +47,22 @@ pub fn lex(alloc: Global, text: &[u8]) -> Result<Vec<Lexeme>, LexFault>
 }
 
 /// Puts the lexeme between two places at the end. A gap is none.
-fn put(found: &mut Vec<Lexeme>, sort: Option<LexKind>, from: Cursor, to: Cursor) -> Result<(), LexFault>
+fn put(
+    found: &mut Vec<Lexeme>,
+    sort: Option<LexKind>,
+    from: Cursor,
+    to: Cursor,
+) -> Result<(), LexFault>
     ensures ok { OnOk result (found.new.items ≡ found.old.items ++ spanned sort from to) }
     ensures err { IfErr result (λ e. e ≡ LexFault.OutOfMemory) }
 {
     if let Some(kind) = sort {
-        found.push(Lexeme { kind, from: from.at, to: to.at, place: from.place })?;
+        found.push(Lexeme {
+            kind,
+            from: from.at,
+            to: to.at,
+            place: from.place,
+        })?;
     }
     Ok(())
 }

@@ -48,7 +48,11 @@ fn behind_mark(word: &[u8], base: u64) -> &[u8]
     requires { base ≡ literals.base_of word.now }
     ensures { result.now ≡ literals.behind_mark word.now }
 {
-    if base == 16 || base == 2 { &word[2..] } else { word }
+    if base == 16 || base == 2 {
+        &word[2..]
+    } else {
+        word
+    }
 }
 
 /// The value of digits, where it is below 2^64.

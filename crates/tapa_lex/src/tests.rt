@@ -10,10 +10,18 @@ fn only(alloc: Global, text: &[u8]) -> Option<LexKind> {
     if text.len() > 1000 {
         return None;
     }
-    match lex(alloc, text).ok()?.as_slice() {
-        [Lexeme { kind, from: 0, to, place: Place { line: 1, col: 1 } }] if *to as usize == text.len() => Some(*kind),
-        _ => None,
+    let found = lex(alloc, text).ok()?;
+    if found.len() != 1 {
+        return None;
     }
+    let Lexeme {
+        kind,
+        from,
+        to,
+        place,
+    } = found[0];
+    let whole = from == 0 && to as usize == text.len() && place == Place { line: 1, col: 1 };
+    if whole { Some(kind) } else { None }
 }
 
 /// Where a text is refused.
@@ -72,7 +80,11 @@ fn a_literal_has_the_first_kind_that_holds_it(rt: HostRuntime) {
         ("00000000000000000000000000000000000017", Kind::I32, 15),
     ];
     for (text, kind, value) in rows {
-        assert_eq!(rt; only(alloc, text.as_bytes()), Some(LexKind::Literal { kind, value }), "at {text}");
+        assert_eq!(rt;
+            only(alloc, text.as_bytes()),
+            Some(LexKind::Literal { kind, value }),
+            "at {text}"
+        );
     }
 }
 
@@ -101,7 +113,11 @@ fn a_word_of_another_form_is_no_literal(rt: HostRuntime) {
         "12ab",
     ];
     for text in rows {
-        assert_eq!(rt; refusal(alloc, text.as_bytes()), Some((LexCode::L3, 1, 1)), "at {text}");
+        assert_eq!(rt;
+            refusal(alloc, text.as_bytes()),
+            Some((LexCode::L3, 1, 1)),
+            "at {text}"
+        );
     }
 }
 
@@ -122,7 +138,16 @@ fn a_text_has_its_lexemes(rt: HostRuntime) -> Result<(), Fail> {
     ];
     assert_eq!(rt; found.len(), 9);
     for ((kind, from, to, line, col), lexeme) in rows.iter().copied().zip(found.iter().copied()) {
-        assert_eq!(rt; lexeme, Lexeme { kind, from, to, place: Place { line, col } }, "at {line}:{col}");
+        assert_eq!(rt;
+            lexeme,
+            Lexeme {
+                kind,
+                from,
+                to,
+                place: Place { line, col }
+            },
+            "at {line}:{col}"
+        );
     }
     Ok(())
 }
@@ -130,9 +155,14 @@ fn a_text_has_its_lexemes(rt: HostRuntime) -> Result<(), Fail> {
 #[test]
 fn punctuation_is_the_longest(rt: HostRuntime) {
     let alloc = rt.alloc();
-    let signs = "<<= >>= :: << >> <= >= == != && || ++ -- += -= *= /= %= &= |= ^= ( ) { } [ ] < > , ; : ? . = + - * / % & | ^ ~ !";
+    let signs =
+        "<<= >>= :: << >> <= >= == != && || ++ -- += -= *= /= %= &= |= ^= ( ) { } [ ] < > , ; : ? . = + - * / % & | ^ ~ !";
     for sign in signs.split_whitespace() {
-        assert_eq!(rt; only(alloc, sign.as_bytes()), Some(LexKind::Punct), "at {sign}");
+        assert_eq!(rt;
+            only(alloc, sign.as_bytes()),
+            Some(LexKind::Punct),
+            "at {sign}"
+        );
     }
     for pair in ["->", "~=", "=<", "::=", "?:"] {
         assert_eq!(rt; only(alloc, pair.as_bytes()), None, "at {pair}");
@@ -162,6 +192,10 @@ fn a_refusal_tells_the_first_place(rt: HostRuntime) {
         ("#\ninclude", LexCode::L4, 1, 1),
     ];
     for (text, code, line, col) in rows {
-        assert_eq!(rt; refusal(alloc, text.as_bytes()), Some((code, line, col)), "at {text}");
+        assert_eq!(rt;
+            refusal(alloc, text.as_bytes()),
+            Some((code, line, col)),
+            "at {text}"
+        );
     }
 }

@@ -2,7 +2,8 @@
 -- gaps and lexemes in turn, each judged in sight of the text before it and behind it. The definition doesn't say how
 -- they are found.
 use Rattle.std.specs.Prelude.{◌≡◌, ℕ, ◌+◌, ◌<◌, ◌≤◌, ⊤, Bool, true, false, not, ◌&&◌, ◌||◌, ◌==◌, ◌⊎◌, List, [], ◌∷◌, ◌++◌, length, take, drop, slice_index, slice_range, Option, Some, None, codes}
-use Rattle.std.specs.List.{list_all, AllByRecursion}
+use Rattle.std.specs.List.{list_all, list_any, AllByRecursion}
+use Rattle.std.specs.Str.{bytes_eq}
 use Rattle.tapa_base.specs.Kinds.{values_of}
 use Rattle.tapa_syntax.specs.declared.lexeme.LexKind.{LexKind}
 use Rattle.tapa_syntax.specs.declared.lexeme.LexKind.TheVariants.{Word, Literal, Str, Punct}
@@ -63,43 +64,20 @@ pub record IsWord (first : ℕ → Bool) (bytes rest : Bytes) : Type 0 where
 abbrev pub IsString : Bytes → Type 0
 IsString bytes = (body : Bytes) × (bytes ≡ 34 ∷ body ++ 34 ∷ []) × (list_all is_plain body ≡ true)
 
-abbrev pub singles : List ℕ
-singles = codes "(){}[]<>,;:?.=+-*/%&|^~!"
-
-abbrev pub doubled : List ℕ
-doubled = codes ":<>=&|+-"
-
-abbrev pub before_equals : List ℕ
-before_equals = codes "<>!+-*/%&|^"
-
-abbrev pub shifts : List ℕ
-shifts = codes "<>"
-
--- punctuation of one byte
-abbrev pub is_single : ℕ → Bool
-is_single = is_among singles
-
--- of two: `::` `<<` `>>` `==` `&&` `||` `++` `--`; and `<=` `>=` `!=` `+=` `-=` `*=` `/=` `%=` `&=` `|=` `^=`
-abbrev pub is_pair : ℕ → ℕ → Bool
-is_pair b c = (b == c && is_among doubled b) || (c == 61 && is_among before_equals b)
-
--- of three: `<<=` `>>=`
-abbrev pub is_triple : ℕ → ℕ → ℕ → Bool
-is_triple b c d = b == c && d == 61 && is_among shifts b
+-- the operators and punctuators of the language
+abbrev pub signs : List Bytes
+signs =
+    codes "<<=" ∷ codes ">>=" ∷ codes "::" ∷ codes "<<" ∷ codes ">>" ∷ codes "<=" ∷ codes ">=" ∷ codes "==" ∷ codes "!=" ∷ codes "&&" ∷ codes "||" ∷ codes "++" ∷ codes "--"
+    ∷ codes "+=" ∷ codes "-=" ∷ codes "*=" ∷ codes "/=" ∷ codes "%=" ∷ codes "&=" ∷ codes "|=" ∷ codes "^="
+    ∷ codes "(" ∷ codes ")" ∷ codes "{" ∷ codes "}" ∷ codes "[" ∷ codes "]" ∷ codes "<" ∷ codes ">" ∷ codes "," ∷ codes ";" ∷ codes ":" ∷ codes "?" ∷ codes "." ∷ codes "="
+    ∷ codes "+" ∷ codes "-" ∷ codes "*" ∷ codes "/" ∷ codes "%" ∷ codes "&" ∷ codes "|" ∷ codes "^" ∷ codes "~" ∷ codes "!" ∷ []
 
 unfoldable pub is_sign : Bytes → Bool
-is_sign [] = false
-is_sign (b ∷ []) = is_single b
-is_sign (b ∷ c ∷ []) = is_pair b c
-is_sign (b ∷ c ∷ d ∷ []) = is_triple b c d
-is_sign (b ∷ c ∷ d ∷ e ∷ z) = false
+is_sign bytes = list_any (bytes_eq bytes) signs
 
--- `//` or `/*`
+-- what a comment begins with
 unfoldable pub is_comment_mark : Bytes → Bool
-is_comment_mark [] = false
-is_comment_mark (b ∷ []) = false
-is_comment_mark (b ∷ c ∷ []) = b == 47 && (c == 47 || c == 42)
-is_comment_mark (b ∷ c ∷ d ∷ z) = false
+is_comment_mark bytes = list_any (bytes_eq bytes) (codes "//" ∷ codes "/*" ∷ [])
 
 -- the longest sign that stands here, where a comment's mark counts as one
 pub record IsPunctuation (bytes rest : Bytes) : Type 0 where

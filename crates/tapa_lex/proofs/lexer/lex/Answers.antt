@@ -5,7 +5,7 @@ use Rattle.tapa_syntax.specs.Lexemes.{HasLexemes}
 use Rattle.tapa_lex.specs.declared.fault.LexCode.{LexCode}
 use Rattle.tapa_lex.specs.declared.fault.LexFault.{LexFault}
 use Rattle.tapa_lex.specs.declared.fault.LexFault.TheVariants.{At}
-use Rattle.tapa_lex.proofs.Whole.{HasFront, front_none, front_all, front_next, refused_here, piece_fits, next_is_behind, one_list, one_refusal, not_both, are_slices}
+use Rattle.tapa_lex.proofs.Whole.{HasFront, front_none, front_all, front_next, refused_here, piece_fits, next_is_behind, one_list, one_refusal, not_both, are_slices, in_order}
 use Rattle.tapa_lex.proofs.lexer.lex.Goals as goal
 
 fault_same : (c d : LexCode) (p q : Place) → (c ≡ d) × (p ≡ q) → At c p ≡ At d q
@@ -44,6 +44,9 @@ pieces-preserved c =
 
 pub returns-clause-slices : goal.returns-clause-slices
 returns-clause-slices c = are_slices c.args.text.now c.pieces.found.items (front_all c.args.text.now c.pieces.cursor c.pieces.found.items c.pieces.invariant (omega arith))
+
+pub returns-clause-in_order : goal.returns-clause-in_order
+returns-clause-in_order c = in_order c.args.text.now c.pieces.found.items (front_all c.args.text.now c.pieces.cursor c.pieces.found.items c.pieces.invariant (omega arith))
 
 pub returns-clause-only : goal.returns-clause-only
 returns-clause-only c = λ lexemes h. one_list c.args.text.now c.pieces.found.items lexemes (front_all c.args.text.now c.pieces.cursor c.pieces.found.items c.pieces.invariant (omega arith)) h
