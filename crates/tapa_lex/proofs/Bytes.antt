@@ -1,9 +1,9 @@
 -- Classes of bytes that have no byte in common.
-use Rattle.std.proofs.Common.{⊎_elim, inl, inr, ◌⊎◌, ◌≡◌, ℕ, zero, suc, ◌+◌, ◌<◌, ◌≤◌, Bool, true, false, cond, not, ◌&&◌, ◌||◌, List, [], ◌∷◌, refl, sym, ap, subst, ◌∙◌, arith, nat_eq, nat_lt, eqb-true}
-use Rattle.std.specs.List.{list_all, list_any}
-use Rattle.std.proofs.lemmas.Bool.{and_parts, or_cases, false≢true}
+use Rattle.std.proofs.Common.{⊎_elim, inl, inr, ◌⊎◌, ◌≡◌, ℕ, Bool, true, false, not, ◌&&◌, List, [], ◌∷◌, refl, sym, subst, arith, nat_eq, eqb-true}
+use Rattle.std.specs.List.{list_all}
+use Rattle.std.proofs.lemmas.Bool.{and_parts, or_cases}
 use Rattle.std.proofs.lemmas.Bool.Decides.{nat_tests}
-use Rattle.tapa_syntax.specs.Characters.{Bytes, is_blank, is_in_line, is_digit, is_letter, is_word_byte, is_among}
+use Rattle.tapa_syntax.specs.Characters.{is_blank, is_in_line, is_digit, is_letter, is_word_byte, is_among}
 use Rattle.tapa_syntax.specs.Lexemes.{is_inner_blank}
 use Rattle.tapa_lex.specs.Reading.{is_single, is_pair, is_triple, singles, doubled, before_equals, shifts}
 

@@ -1,21 +1,21 @@
 -- What stands is cut, and where nothing stands the code tells what was begun.
-use Rattle.std.proofs.Common.{◌≡◌, ℕ, zero, suc, ◌+◌, ◌<◌, ◌≤◌, Bool, true, false, cond, not, ◌&&◌, ◌||◌, ◌⊎◌, inl, inr, ⊎_elim, List, [], ◌∷◌, ◌++◌, append_assoc, length, take, drop, get_or, Option, Some, None, Result, Ok, Err, refl, sym, ap, subst, ◌∙◌, arith, nat_eq, add-one, eqb-true, ne_eqb}
+use Rattle.std.proofs.Common.{◌≡◌, ℕ, ◌+◌, ◌<◌, Bool, true, false, cond, ◌&&◌, inl, inr, [], ◌∷◌, ◌++◌, append_assoc, length, take, drop, get_or, Option, Some, None, Ok, Err, refl, sym, ap, subst, ◌∙◌, arith, nat_eq, add-one, eqb-true, ne_eqb}
 use Rattle.std.specs.List.{list_all}
-use Rattle.std.proofs.lemmas.Bool.{or_cases, and_parts, false≢true, cases_Bool, eqb-false}
+use Rattle.std.proofs.lemmas.Bool.{false≢true}
 use Rattle.std.proofs.lemmas.List.{length-append, take_at}
 use Rattle.tapa_base.specs.declared.kind.Kind.{Kind}
 use Rattle.tapa_syntax.specs.declared.lexeme.LexKind.{LexKind}
 use Rattle.tapa_syntax.specs.declared.lexeme.LexKind.TheVariants as kind
-use Rattle.tapa_syntax.specs.Characters.{Bytes, is_blank, is_in_line, is_digit, is_letter, is_word_byte, is_plain, begins, run, opens_line}
+use Rattle.tapa_syntax.specs.Characters.{Bytes, is_blank, is_in_line, is_digit, is_letter, is_word_byte, is_plain, run, opens_line}
 use Rattle.tapa_syntax.specs.Literals.{literal_of}
-use Rattle.tapa_syntax.specs.Lexemes.{Stands, IsBlank, IsLineComment, has_close, IsBlockComment, IsSkippedLine, IsWord, IsString, IsPunctuation, IsGap, IsLexeme, NothingStands}
-use Rattle.tapa_lex.specs.Reading.{Cut, closing, sign_length, first_word, is_known, cut_literal, cut_string, cut_line, cut_comment, cut_sign, cut_mark, cut_quoted, cut_word, cut}
+use Rattle.tapa_syntax.specs.Lexemes.{Stands, IsLineComment, has_close, IsSkippedLine, IsWord, IsPunctuation, IsGap, IsLexeme, NothingStands}
+use Rattle.tapa_lex.specs.Reading.{Cut, closing, first_word, is_known, cut_literal, cut_string, cut_line, cut_comment, cut_sign, cut_mark, cut_quoted, cut_word, cut}
 use Rattle.tapa_lex.specs.Refusals.{code_at}
 use Rattle.tapa_lex.specs.declared.fault.LexCode.{LexCode}
 use Rattle.tapa_lex.specs.declared.fault.LexCode.TheVariants.{L1, L2, L3, L4}
-use Rattle.tapa_lex.proofs.Runs.{split, run_within, run_some}
-use Rattle.tapa_lex.proofs.Bytes.{letter_no_blank, digit_no_blank, digit_no_letter, IsApart, single_apart}
-use Rattle.tapa_lex.proofs.Signs.{sign_at, IsCutSign, sign_cut, nothing_signed}
+use Rattle.tapa_lex.proofs.Runs.{split}
+use Rattle.tapa_lex.proofs.Bytes.{letter_no_blank, digit_no_blank, digit_no_letter, single_apart}
+use Rattle.tapa_lex.proofs.Signs.{sign_at, sign_cut, nothing_signed}
 use Rattle.tapa_lex.proofs.Gaps.{word_run, line_run, closing_is, string_run, string_ends, skipped_word, skipped_run}
 
 -- ---- one test after the other

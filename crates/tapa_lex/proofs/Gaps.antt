@@ -1,16 +1,15 @@
 -- Comments, skipped lines, strings and words: what is cut stands, and what stands is cut.
-use Rattle.std.proofs.Common.{◌≡◌, ℕ, zero, suc, ◌+◌, ◌<◌, ◌≤◌, Bool, true, false, cond, not, ◌&&◌, ◌||◌, ◌⊎◌, inl, inr, ⊎_elim, List, [], ◌∷◌, ◌++◌, append_assoc, length, take, drop, get_or, Option, Some, None, refl, sym, ap, subst, ◌∙◌, arith, nat_eq, add-one, eqb-true}
+use Rattle.std.proofs.Common.{◌≡◌, ℕ, zero, suc, ◌+◌, ◌<◌, ◌≤◌, Bool, true, false, ◌&&◌, ◌||◌, ◌⊎◌, inl, inr, ⊎_elim, [], ◌∷◌, ◌++◌, append_assoc, length, take, drop, get_or, Option, Some, None, refl, sym, ap, subst, ◌∙◌, arith, nat_eq, add-one, eqb-true}
 use Rattle.std.specs.Prelude.{option_map, codes}
 use Rattle.std.specs.List.{list_all}
-use Rattle.std.proofs.lemmas.Bool.{or_cases, and_parts, and_from, false≢true, cases_Bool}
-use Rattle.std.proofs.lemmas.List.{length-append, length-drop, length-take-le, take_at, drop_at, drop-drop, take-append-drop, get_or_at, take_more, append-nil}
-use Rattle.std.proofs.lemmas.List.Folds.{list_all-append}
+use Rattle.std.proofs.lemmas.Bool.{or_cases, and_parts, false≢true}
+use Rattle.std.proofs.lemmas.List.{take_at, drop_at, get_or_at, take_more}
 use Rattle.std.specs.Str.{bytes_eq}
 use Rattle.std.proofs.lemmas.Slice.Eq.{bytes_eq-Decides}
-use Rattle.tapa_syntax.specs.Characters.{Bytes, is_blank, is_in_line, is_digit, is_letter, is_word_byte, is_plain, begins, run, opens_line}
+use Rattle.tapa_syntax.specs.Characters.{Bytes, is_in_line, is_word_byte, is_plain, begins, run, opens_line}
 use Rattle.tapa_syntax.specs.Lexemes.{EndsLine, IsLineComment, has_close, IsBlockComment, is_inner_blank, IsSkippedLine, IsWord, IsString}
 use Rattle.tapa_lex.specs.Reading.{closing, first_word, is_known}
-use Rattle.tapa_lex.proofs.Runs.{split, run_passes, run_stops, run_within, run_some, run_is, begins_take, begins_taken, begins_append, run_split, take_both}
+use Rattle.tapa_lex.proofs.Runs.{split, run_passes, run_stops, run_some, run_is, begins_take, begins_taken, begins_append, run_split, take_both}
 use Rattle.tapa_lex.proofs.Bytes.{word_in_line, inner_in_line, ends_word}
 
 -- ---- words

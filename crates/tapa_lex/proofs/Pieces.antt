@@ -1,20 +1,18 @@
 -- What is cut stands, and what stands is cut.
-use Rattle.std.proofs.Common.{◌≡◌, ℕ, zero, suc, ◌+◌, ◌<◌, ◌≤◌, Bool, true, false, cond, not, ◌&&◌, ◌||◌, ◌⊎◌, inl, inr, ⊎_elim, List, [], ◌∷◌, ◌++◌, append_assoc, length, take, drop, get_or, Option, Some, None, Result, Ok, Err, refl, sym, ap, subst, ◌∙◌, arith, nat_eq, add-one, eqb-true, ne_eqb}
-use Rattle.std.proofs.lemmas.Bool.{or_cases, and_parts, false≢true, cases_Bool, eqb-false}
-use Rattle.std.proofs.lemmas.List.{length-append, take_at}
+use Rattle.std.proofs.Common.{◌≡◌, ℕ, ◌+◌, ◌<◌, ◌≤◌, true, false, cond, ◌&&◌, inl, inr, [], ◌∷◌, length, take, drop, get_or, Option, Some, None, Ok, Err, refl, sym, subst, arith, nat_eq, add-one, eqb-true}
+use Rattle.std.proofs.lemmas.Bool.{and_parts, false≢true, eqb-false}
 use Rattle.tapa_base.specs.declared.kind.Kind.{Kind}
 use Rattle.tapa_syntax.specs.declared.lexeme.LexKind.{LexKind}
 use Rattle.tapa_syntax.specs.declared.lexeme.LexKind.TheVariants as kind
-use Rattle.tapa_syntax.specs.Characters.{Bytes, is_blank, is_in_line, is_digit, is_letter, is_word_byte, is_plain, begins, run, opens_line}
+use Rattle.tapa_syntax.specs.Characters.{Bytes, is_blank, is_in_line, is_digit, is_letter, is_word_byte, is_plain, run, opens_line}
 use Rattle.tapa_syntax.specs.Literals.{literal_of}
-use Rattle.tapa_syntax.specs.Lexemes.{Stands, IsBlank, IsLineComment, IsBlockComment, IsSkippedLine, IsWord, IsString, IsPunctuation, IsGap}
-use Rattle.tapa_lex.specs.Reading.{Cut, closing, sign_length, first_word, is_known, cut_literal, cut_string, cut_line, cut_comment, cut_sign, cut_mark, cut_quoted, cut_word, cut}
-use Rattle.tapa_lex.specs.declared.fault.LexCode.{LexCode}
-use Rattle.tapa_lex.specs.declared.fault.LexCode.TheVariants.{L1, L2, L3, L4}
+use Rattle.tapa_syntax.specs.Lexemes.{Stands}
+use Rattle.tapa_lex.specs.Reading.{Cut, closing, first_word, is_known, cut_literal, cut_string, cut_line, cut_comment, cut_sign, cut_mark, cut_quoted, cut_word, cut}
+use Rattle.tapa_lex.specs.declared.fault.LexCode.TheVariants.{L1, L2, L4}
 use Rattle.tapa_lex.proofs.Runs.{split, run_within, run_some}
-use Rattle.tapa_lex.proofs.Bytes.{letter_no_blank, digit_no_blank, digit_no_letter, letter_in_word, digit_in_word, IsApart, single_apart}
-use Rattle.tapa_lex.proofs.Signs.{sign_at, sign_stands, IsCutSign, sign_cut}
-use Rattle.tapa_lex.proofs.Gaps.{word_stands, word_run, line_stands, line_run, Closes, closing_stands, closing_is, block_stands, string_stands, string_run, string_ends, skipped_stands, skipped_word, skipped_run}
+use Rattle.tapa_lex.proofs.Bytes.{letter_in_word, digit_in_word}
+use Rattle.tapa_lex.proofs.Signs.{sign_at, sign_stands}
+use Rattle.tapa_lex.proofs.Gaps.{word_stands, line_stands, Closes, closing_stands, block_stands, string_stands, skipped_stands}
 
 -- a piece of n bytes stands in front of a text
 pub record Found (before z : Bytes) (sort : Option LexKind) (n : ℕ) : Type 0 where

@@ -1,12 +1,12 @@
 -- Places behind more bytes.
-use Rattle.std.proofs.Common.{◌≡◌, ℕ, zero, suc, ◌+◌, ◌<◌, ◌≤◌, Bool, true, false, cond, ◌&&◌, List, [], ◌∷◌, ◌++◌, append_assoc, length, take, get_or, refl, sym, ap, subst, ◌∙◌, arith, nat_eq, add-one}
+use Rattle.std.proofs.Common.{◌≡◌, ℕ, suc, ◌+◌, ◌<◌, ◌≤◌, Bool, true, false, cond, ◌&&◌, [], ◌∷◌, ◌++◌, append_assoc, length, take, get_or, refl, sym, ap, ◌∙◌, arith, nat_eq}
 use Rattle.std.specs.Prelude.{count_by}
 use Rattle.std.specs.List.{list_all}
 use Rattle.std.proofs.lemmas.List.{length-append, take_more}
 use Rattle.std.proofs.lemmas.List.Sums.{sum_by-append, count_by-le-length}
 use Rattle.std.proofs.lemmas.List.Folds.{list_all-append}
 use Rattle.tapa_base.specs.declared.text.Place.{Place}
-use Rattle.tapa_syntax.specs.Characters.{Bytes, is_blank, line_behind, last_line, opens_line, place_of}
+use Rattle.tapa_syntax.specs.Characters.{Bytes, is_blank, line_behind, last_line, place_of}
 use Rattle.tapa_lex.specs.declared.cursor.Cursor.{Cursor}
 use Rattle.tapa_lex.specs.Standing.{IsBehind}
 

@@ -1,13 +1,13 @@
 -- The value of digits, and the kinds that hold it.
-use Rattle.std.proofs.Common.{◌≡◌, ℕ, zero, suc, ◌+◌, ◌-◌, ◌*◌, ◌<◌, ◌≤◌, ◌^◌, Bool, true, false, cond, List, [], ◌∷◌, length, get_or, take, drop, Option, Some, None, refl, sym, ap, subst, ◌∙◌, arith, nat_eq, nat_lt}
+use Rattle.std.proofs.Common.{◌≡◌, ℕ, ◌+◌, ◌*◌, ◌<◌, ◌≤◌, ◌^◌, Bool, true, false, cond, List, [], ◌∷◌, length, get_or, take, drop, Option, Some, None, refl, sym, ap, subst, ◌∙◌, arith, nat_eq}
 use Rattle.std.proofs.lemmas.List.{drop_more}
 use Rattle.std.proofs.lemmas.Bool.{ltb-true, le-ltb}
 use Rattle.std.proofs.Math.Nat.{mul-le-mul_left}
 use Rattle.tapa_base.specs.declared.kind.Kind.{Kind}
 use Rattle.tapa_base.specs.declared.kind.Kind.TheVariants.{Bool as BoolKind, I8, U8, I16, U16, I32, U32, I64, U64}
-use Rattle.tapa_base.specs.Kinds.{bits_of, is_signed, values_of}
+use Rattle.tapa_base.specs.Kinds.{values_of}
 use Rattle.tapa_syntax.specs.Characters.{Bytes, run}
-use Rattle.tapa_syntax.specs.Literals.{worth, is_digit_of, value_behind, holds, first_that_holds, kinds_for, with_kind, with_suffix, Suffix, literal_of, literal_in, base_of, behind_mark, suffix_of}
+use Rattle.tapa_syntax.specs.Literals.{worth, is_digit_of, value_behind, holds, first_that_holds, kinds_for, with_kind, with_suffix, Suffix, literal_of, base_of, behind_mark, suffix_of}
 
 -- no digit makes a value less
 pub value_grows : (base n : ℕ) (z : Bytes) → 0 < base → n ≤ value_behind base n z

@@ -1,9 +1,8 @@
 -- Pieces one after the other, and the one list of them that a text has.
-use Rattle.std.proofs.Common.{◌≡◌, ℕ, zero, suc, ◌+◌, ◌-◌, ◌<◌, ◌≤◌, Bool, true, false, List, [], ◌∷◌, ◌++◌, append_assoc, length, take, drop, Option, Some, None, Result, Ok, Err, refl, sym, ap, subst, ◌∙◌, arith}
+use Rattle.std.proofs.Common.{◌≡◌, ℕ, ◌+◌, ◌-◌, ◌<◌, ◌≤◌, Bool, List, [], ◌∷◌, ◌++◌, append_assoc, length, take, drop, Option, Some, None, Ok, Err, refl, sym, ap, subst, ◌∙◌, arith}
 use Rattle.std.specs.Prelude.{slice_range}
 use Rattle.std.specs.List.{AllByRecursion}
 use Rattle.std.proofs.lemmas.List.{length-append, length-drop, length-take-le, take_at, drop_at, drop-drop, take-append-drop, append-nil, append_cancel_left, take_all, drop_all, take_rest}
-use Rattle.tapa_base.specs.declared.kind.Kind.{Kind}
 use Rattle.tapa_base.specs.declared.text.Place.{Place}
 use Rattle.tapa_syntax.specs.declared.lexeme.LexKind.{LexKind}
 use Rattle.tapa_syntax.specs.declared.lexeme.LexKind.TheVariants as kind
@@ -17,7 +16,7 @@ use Rattle.tapa_lex.specs.declared.cursor.Cursor.{Cursor}
 use Rattle.tapa_lex.specs.declared.fault.LexCode.{LexCode}
 use Rattle.tapa_lex.proofs.Runs.{take_both}
 use Rattle.tapa_lex.proofs.Places.{line_within, col_within}
-use Rattle.tapa_lex.proofs.Pieces.{Found, found}
+use Rattle.tapa_lex.proofs.Pieces.{found}
 use Rattle.tapa_lex.proofs.Cuts.{is_cut, is_some, code_is, nothing_stands}
 use Rattle.tapa_lex.proofs.Values.{literal_holds}
 

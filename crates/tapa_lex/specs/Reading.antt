@@ -1,5 +1,5 @@
 -- What the lexer finds in front of a text.
-use Rattle.std.specs.Prelude.{◌≡◌, ℕ, ◌+◌, Bool, true, false, not, ◌&&◌, ◌||◌, if◌then◌else◌, ◌==◌, List, [], ◌∷◌, length, take, drop, slice_index, Option, Some, None, option_map, Result, Ok, Err, codes}
+use Rattle.std.specs.Prelude.{ℕ, ◌+◌, Bool, ◌&&◌, ◌||◌, if◌then◌else◌, ◌==◌, List, [], ◌∷◌, take, drop, slice_index, Option, Some, None, option_map, Result, Ok, Err, codes}
 use Rattle.std.specs.Str.{bytes_eq}
 use Rattle.tapa_base.specs.declared.kind.Kind.{Kind}
 use Rattle.tapa_syntax.specs.declared.lexeme.LexKind.{LexKind}

@@ -1,5 +1,5 @@
 -- Where a text has no lexemes, and what the lexer answers.
-use Rattle.std.specs.Prelude.{◌≡◌, ℕ, ◌<◌, ⊤, Bool, ◌&&◌, ◌⊎◌, if◌then◌else◌, ◌==◌, List, [], ◌++◌, length, slice_index, Result, Ok, Err, Vec}
+use Rattle.std.specs.Prelude.{◌≡◌, ◌<◌, ⊤, Bool, ◌&&◌, ◌⊎◌, if◌then◌else◌, ◌==◌, List, [], length, slice_index, Result, Ok, Err, Vec}
 use Rattle.std.specs.Global.{Global}
 use Rattle.tapa_base.specs.declared.text.Place.{Place}
 use Rattle.tapa_syntax.specs.declared.lexeme.Lexeme.{Lexeme}

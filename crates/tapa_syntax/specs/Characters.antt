@@ -1,5 +1,5 @@
 -- The bytes of a source: their classes, and the lines and columns where they stand (ISO C++ [lex.charset], [lex.name]).
-use Rattle.std.specs.Prelude.{ℕ, ◌+◌, Bool, true, false, not, ◌&&◌, ◌||◌, if◌then◌else◌, ◌==◌, nat_le, List, [], ◌∷◌, ◌++◌, length, count_by}
+use Rattle.std.specs.Prelude.{ℕ, ◌+◌, Bool, false, not, ◌&&◌, ◌||◌, if◌then◌else◌, ◌==◌, nat_le, List, [], ◌∷◌, ◌++◌, length, count_by}
 use Rattle.std.specs.List.{list_any, list_all}
 use Rattle.tapa_base.specs.declared.text.Place.{Place}
 

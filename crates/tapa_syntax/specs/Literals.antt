@@ -1,9 +1,9 @@
 -- Integer literals, their kinds and their values (ISO C++ [lex.icon]).
-use Rattle.std.specs.Prelude.{ℕ, ◌+◌, ◌-◌, ◌*◌, ◌^◌, Bool, true, false, not, ◌&&◌, ◌||◌, if◌then◌else◌, ◌==◌, nat_lt, nat_le, List, [], ◌∷◌, take, drop, slice_index, Option, Some, None}
+use Rattle.std.specs.Prelude.{ℕ, ◌+◌, ◌-◌, ◌*◌, ◌^◌, Bool, true, false, ◌&&◌, ◌||◌, if◌then◌else◌, ◌==◌, nat_lt, nat_le, List, [], ◌∷◌, take, drop, slice_index, Option, Some, None}
 use Rattle.tapa_base.specs.declared.kind.Kind.{Kind}
 use Rattle.tapa_base.specs.declared.kind.Kind.TheVariants.{I32, U32, I64, U64}
 use Rattle.tapa_base.specs.Kinds.{bits_of, is_signed}
-use Rattle.tapa_syntax.specs.Characters.{Bytes, is_digit, run, is_among}
+use Rattle.tapa_syntax.specs.Characters.{Bytes, is_digit, run}
 
 -- what a digit is worth, in any base up to 16; 16 for a byte that is none
 abbrev pub worth : ℕ → ℕ
@@ -75,8 +75,8 @@ first_that_holds n (k ∷ ks) = if holds k n then Some k else first_that_holds n
 abbrev pub base_of : Bytes → ℕ
 base_of word =
     if slice_index word 0 == 48 then
-      (let mark = slice_index word 1 in
-      if mark == 120 || mark == 88 then 16 else (if mark == 98 || mark == 66 then 2 else 8))
+    (let mark = slice_index word 1 in
+    if mark == 120 || mark == 88 then 16 else (if mark == 98 || mark == 66 then 2 else 8))
     else 10
 
 -- what stands behind `0x` or `0b`

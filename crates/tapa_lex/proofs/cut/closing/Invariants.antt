@@ -1,4 +1,4 @@
-use Rattle.std.proofs.Common.{◌≡◌, ◌+◌, ℕ, length}
+use Rattle.std.proofs.Common.{◌≡◌, ◌+◌, length}
 use Rattle.std.specs.Prelude.{option_map}
 use Rattle.tapa_lex.specs.Reading as reading
 use Rattle.tapa_lex.proofs.cut.closing.Given as goal

@@ -1,9 +1,6 @@
-use Rattle.std.proofs.Common.{◌≡◌, ◌+◌, ◌-◌, ◌<◌, ◌≤◌, ◌++◌, length, take, drop, arith, inl, inr, subst, sym, ap, ◌∙◌, List}
+use Rattle.std.proofs.Common.{◌≡◌, arith, inl, subst, sym}
 use Rattle.tapa_base.specs.declared.text.Place.{Place}
-use Rattle.tapa_syntax.specs.declared.lexeme.Lexeme.{Lexeme}
-use Rattle.tapa_syntax.specs.Lexemes.{HasLexemes}
 use Rattle.tapa_lex.specs.declared.fault.LexCode.{LexCode}
-use Rattle.tapa_lex.specs.declared.fault.LexFault.{LexFault}
 use Rattle.tapa_lex.specs.declared.fault.LexFault.TheVariants.{At}
 use Rattle.tapa_lex.proofs.Whole.{HasFront, front_none, front_all, front_next, refused_here, piece_fits, next_is_behind, one_list, one_refusal, not_both, are_slices, in_order}
 use Rattle.tapa_lex.proofs.lexer.lex.Goals as goal

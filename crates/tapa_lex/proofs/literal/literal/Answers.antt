@@ -1,4 +1,3 @@
-use Rattle.std.proofs.Common.{◌≡◌}
 use Rattle.tapa_lex.proofs.Values.{too_wide}
 use Rattle.tapa_lex.proofs.literal.literal.Goals as goal
 

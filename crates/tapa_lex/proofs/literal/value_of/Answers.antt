@@ -1,6 +1,6 @@
-use Rattle.std.proofs.Common.{◌≡◌, ◌≤◌, ◌+◌, ◌*◌, ◌<◌, ◌^◌, ℕ, length, drop, get_or, arith, ap, subst, ◌∙◌, sym}
+use Rattle.std.proofs.Common.{◌≡◌, ◌+◌, ◌*◌, ◌<◌, ◌^◌, ℕ, arith, ap, subst, ◌∙◌, sym}
 use Rattle.std.proofs.lemmas.List.{drop_all}
-use Rattle.tapa_syntax.specs.Literals.{value_behind, worth}
+use Rattle.tapa_syntax.specs.Literals.{value_behind}
 use Rattle.tapa_lex.proofs.Values.{too_great}
 use Rattle.tapa_lex.proofs.literal.value_of.Goals as goal
 

@@ -1,5 +1,4 @@
-use Rattle.std.proofs.Common.{◌≡◌, ◌&&◌, arith, eq-eqb, ne_eqb, ◌∙◌, ap, Bool}
-use Rattle.tapa_syntax.specs.Characters.{is_blank}
+use Rattle.std.proofs.Common.{◌&&◌, eq-eqb, ne_eqb, ◌∙◌, ap, Bool}
 use Rattle.tapa_lex.proofs.Places.{behind_feed, behind_byte}
 use Rattle.tapa_lex.proofs.cursor.Cursor.past.Goals as goal
 

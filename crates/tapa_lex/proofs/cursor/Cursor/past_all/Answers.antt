@@ -1,4 +1,4 @@
-use Rattle.std.proofs.Common.{◌≡◌, ◌≤◌, ◌+◌, ◌<◌, ◌++◌, length, take, arith, subst, ap, sym, List, ℕ}
+use Rattle.std.proofs.Common.{◌++◌, take, arith, subst, sym}
 use Rattle.std.proofs.lemmas.List.{take_all, append-nil}
 use Rattle.tapa_syntax.specs.Characters.{Bytes}
 use Rattle.tapa_lex.specs.Standing.{IsBehind}
