@@ -15,7 +15,8 @@ use crate::fault::{LexCode, LexFault};
 use std::alloc::Global;
 use tapa_syntax::{LexKind, Lexeme};
 
-/// The lexemes of a source, or the first place at which it has none. It takes a time that is linear in the text.
+/// The lexemes of a source, or the first place at which it has none. No byte is read again for a place, so the work
+/// grows with the length of the text.
 pub fn lex(alloc: Global, text: &[u8]) -> Result<Vec<Lexeme>, LexFault>
     requires { length text.now < 2 ^ 32 - 1 }
     // What is answered are the lexemes of the text, each with its slice, its place and a value of its kind.

@@ -54,7 +54,7 @@ IsGap before bytes rest = IsBlank bytes ⊎ (IsLineComment bytes rest ⊎ (IsBlo
 
 -- ---- words, strings and punctuation
 
--- a word that begins in this way, and is as long as words bytes go on
+-- a word that begins with such a byte and goes on as long as letters, digits and `_` do
 pub record IsWord (first : ℕ → Bool) (bytes rest : Bytes) : Type 0 where
   pub begun : begins first bytes ≡ true
   pub word : list_all is_word_byte bytes ≡ true
@@ -102,11 +102,12 @@ abbrev pub Stands : Bytes → Option LexKind → Bytes → Bytes → Type 0
 Stands before None bytes rest = IsGap before bytes rest
 Stands before (Some kind) bytes rest = IsLexeme kind bytes rest
 
--- the bytes of pieces, and what stands behind them
+-- the bytes of pieces, and the rest of the text
 abbrev pub text_of : List Piece → Bytes → Bytes
 text_of [] rest = rest
 text_of (p ∷ ps) rest = p.bytes ++ text_of ps rest
 
+-- each piece stands where the one before it ends
 abbrev pub StandInTurn : Bytes → List Piece → Bytes → Type 0
 StandInTurn before [] rest = ⊤
 StandInTurn before (p ∷ ps) rest = Stands before p.sort p.bytes (text_of ps rest) × StandInTurn (before ++ p.bytes) ps rest
@@ -116,18 +117,19 @@ abbrev pub lexeme_of : Bytes → Option LexKind → Bytes → List Lexeme
 lexeme_of before None bytes = []
 lexeme_of before (Some kind) bytes = record { kind = kind; from = length before; to = length before + length bytes; place = place_of before } ∷ []
 
+-- the lexemes of pieces, behind the text before them
 abbrev pub lexemes_of : Bytes → List Piece → List Lexeme
 lexemes_of before [] = []
 lexemes_of before (p ∷ ps) = lexeme_of before p.sort p.bytes ++ lexemes_of (before ++ p.bytes) ps
 
--- a text is pieces in turn, and these are their lexemes
+-- a text is pieces in turn, and these are their lexemes, with their slices and places
 pub record HasLexemes (text : Bytes) (lexemes : List Lexeme) : Type 0 where
   pub pieces : List Piece
   pub is : text_of pieces [] ≡ text
   pub standing : StandInTurn [] pieces []
   pub told : lexemes_of [] pieces ≡ lexemes
 
--- no piece stands between what is before and any rest of what is behind
+-- no front of what is behind is a piece there
 abbrev pub NothingStands : Bytes → Bytes → Type 0
 NothingStands before behind = (sort : Option LexKind) (bytes rest : Bytes) → bytes ++ rest ≡ behind → Stands before sort bytes rest → ⊥
 

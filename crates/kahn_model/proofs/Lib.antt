@@ -1,0 +1,13 @@
+pub mod Order
+pub mod Grow
+pub mod Count
+pub mod Late
+pub mod Reach
+pub mod Statements
+pub mod Wired
+pub mod Clocked
+pub mod Bound
+pub mod SlowSteps
+pub mod SlowFlows
+pub mod Local
+pub mod Ends

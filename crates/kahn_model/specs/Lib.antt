@@ -1,0 +1,10 @@
+pub mod Prefix
+pub mod Job
+pub mod Network
+pub mod Counts
+pub mod Trace
+pub mod Whole
+pub mod Timed
+pub mod Slow
+pub mod Outcome
+pub mod Start

@@ -1,0 +1,73 @@
+// The laws of rounds and counts.
+
+ghost use Rattle.std.specs.Prelude.{ℕ, suc, ◌≡◌, ◌<◌, ◌≤◌, ◌+◌, ◌*◌, ◌⊎◌, Bool, List, length, Some, slice_get};
+ghost use Rattle.kahn_model.specs.Job.{Tick, ticks};
+ghost use Rattle.kahn_model.specs.Network.{Network, IsNetwork, stream, round};
+ghost use Rattle.kahn_model.specs.Counts.{IsReachable, IsFounded, IsEnding, IsKahnPrefix, written, ticks_made, next, HasToken, IsSupplied, HasEnded, IsKahnStream, total, round_of};
+ghost use Rattle.kahn_model.specs.Outcome.{WaitsToWrite, WaitsToRead, HasBadToken, IsGreatest};
+ghost use Rattle.kahn_model.specs.Timed.{Clock, IsClock, count_at};
+ghost use Rattle.kahn_model.specs.Trace.{State};
+ghost use Rattle.kahn_model.specs.Whole.{net_of, IsWired};
+ghost use Rattle.tapa_syntax.specs.declared.program.Program.{Program};
+ghost use Rattle.kahn_model.specs.Prefix.{IsPrefixOf};
+
+/// Each round's streams are prefixes of the next round's.
+pub fn law_rounds_grow()
+    ensures { (net : Network) → IsNetwork net → (n s : ℕ) → IsPrefixOf (stream net n s) (stream net (suc n) s) }
+{}
+
+/// Every count that is reachable without regard to room has its ticks in its own round, and what it has written is a
+/// prefix of the Kahn streams. A reachable count is one of these.
+pub fn law_reach_is_kahn()
+    ensures founded { (net : Network) (k : ℕ → ℕ) → IsReachable net k → IsFounded net k }
+    ensures made { (net : Network) → IsNetwork net → (k : ℕ → ℕ) → IsFounded net k → (i : ℕ) → length (ticks_made net k i) ≡ k i }
+    ensures kahn { (net : Network) → IsNetwork net → (k : ℕ → ℕ) → IsFounded net k → (s : ℕ) → IsKahnPrefix net s (written net k s) }
+{}
+
+/// What the producer of a stream has written where it has ended is the whole Kahn stream.
+pub fn law_done_is_whole()
+    ensures { (net : Network) → IsNetwork net → (k : ℕ → ℕ) (s : ℕ) → HasEnded net k (net.producer s) → IsKahnStream net s (written net k s) }
+{}
+
+/// At most one reachable count allows no step.
+pub fn law_one_end()
+    ensures { (net : Network) → IsNetwork net → (k m : ℕ → ℕ) → IsEnding net k → IsEnding net m → (i : ℕ) → k i ≡ m i }
+{}
+
+/// The next tick of a count is the tick there of any round, if its token is written or it needs none.
+pub fn law_next_in_time()
+    ensures { (net : Network) → IsNetwork net → (k : ℕ → ℕ) → IsFounded net k → (n i : ℕ) (t : Tick) → i < net.size → slice_get (round net n i) (k i) ≡ Some t → HasToken net k t → next net k i ≡ Some t }
+{}
+
+/// The laws hold for the network of every program whose streams each have their two ends.
+pub fn law_program_network()
+    ensures { (program : Program) → IsWired program → (first : ℕ → State) → IsNetwork (net_of program first) }
+{}
+
+/// The counts of a clock are counts that streams without limit reach, so what they have written is a prefix of the
+/// Kahn streams.
+pub fn law_clock_is_founded()
+    ensures { (net : Network) → IsNetwork net → (clock : Clock) (n : ℕ) → IsFounded net (count_at net clock n) }
+{}
+
+/// What has ended in a reachable count has ended in the counts of a clock after at most so many cycles.
+pub fn law_done_in_time()
+    ensures { (net : Network) → IsNetwork net → (clock : Clock) (top : ℕ) (ready : ℕ → Bool) (waits : ℕ) → IsClock clock top ready waits → (k : ℕ → ℕ) → IsReachable net k → (n : ℕ) × (1 ≤ n) × (n ≤ 1 + total net.size k * suc top + waits) × ((i : ℕ) → HasEnded net k i → HasEnded net (count_at net clock n) i) }
+{}
+
+/// The next tick of an instance whose token is there is its job's next tick on the tokens that are written so far, and
+/// no other tick is.
+pub fn law_next_is_local()
+    ensures found { (net : Network) → IsNetwork net → (k : ℕ → ℕ) → IsFounded net k → (i : ℕ) (supplied : IsSupplied net k i) → slice_get (ticks (net.job i (round_of net k)) (written net k)) (k i) ≡ Some supplied.tick }
+    ensures only { (net : Network) → IsNetwork net → (k : ℕ → ℕ) → IsFounded net k → (n i : ℕ) (t : Tick) → i < net.size → slice_get (ticks (net.job i n) (written net k)) (k i) ≡ Some t → (next net k i ≡ Some t) × HasToken net k t }
+{}
+
+/// An instance that has not ended where no step is allowed waits to write, waits to read or has a bad token.
+pub fn law_waits()
+    ensures { (net : Network) → IsNetwork net → (k : ℕ → ℕ) → IsEnding net k → (i : ℕ) → i < net.size → (HasEnded net k i → ⊥) → ((s : ℕ) × WaitsToWrite net k i s) ⊎ (((s : ℕ) × WaitsToRead net k i s) ⊎ ((s : ℕ) × HasBadToken net k i s)) }
+{}
+
+/// Among the reachable counts with at most so many ticks of each instance one is at least every other.
+pub fn law_greatest()
+    ensures { (net : Network) → IsNetwork net → (cap : ℕ) → (k : ℕ → ℕ) × IsGreatest net cap k }
+{}
