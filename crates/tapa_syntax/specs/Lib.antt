@@ -1,0 +1,5 @@
+pub mod Trees
+pub mod Symbols
+pub mod Spans
+pub mod Grammar
+pub mod Limits
