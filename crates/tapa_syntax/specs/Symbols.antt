@@ -52,9 +52,8 @@ abbrev pub look_up : Mark → List (List ℕ × Mark) → List ℕ → Mark
 look_up otherwise [] text = otherwise
 look_up otherwise (entry ∷ table) text = if bytes_eq entry.0 text then entry.1 else look_up otherwise table text
 
--- Every byte of a name is ASCII.
 unfoldable pub word_mark : List ℕ → Mark
-word_mark text = look_up (look_up (if list_all is_ascii text then mark.Name else mark.Reserved) other_words text) words text
+word_mark text = look_up (look_up mark.Name other_words text) words text
 
 unfoldable pub sign_mark : List ℕ → Mark
 sign_mark = look_up mark.Reserved signs
@@ -80,9 +79,10 @@ pub record Symbol : Type 0 where
 unfoldable pub text_of : List ℕ → Lexeme → List ℕ
 text_of source lexeme = if nat_le lexeme.from lexeme.to && nat_le lexeme.to (length source) then slice_range source lexeme.from lexeme.to else []
 
+-- Lexemes are ASCII.
 unfoldable pub symbol_of : List ℕ → Lexeme → Symbol
 symbol_of source lexeme = record {
-  mark = mark_of lexeme.kind (text_of source lexeme);
+  mark = if list_all is_ascii (text_of source lexeme) then mark_of lexeme.kind (text_of source lexeme) else mark.Reserved;
   text = text_of source lexeme;
   literal = literal_of lexeme.kind;
   place = lexeme.place;
