@@ -102,8 +102,13 @@ name_here i = record { text = first_text i; place = first_place i }
 unfoldable pub name : Reader Name
 name i = if is_name (next i) then Ok (name_here i, drop 1 i) else Err (P1, i)
 
+abbrev pub plain_by : Mark → Reader Name
+plain_by mark.Name i = Ok (name_here i, drop 1 i)
+plain_by _ i = Err (P1, i)
+
+-- a name behind `tapa ::` or a dot
 unfoldable pub plain_name : Reader Name
-plain_name i = if sees mark.Name i then Ok (name_here i, drop 1 i) else Err (P1, i)
+plain_name i = plain_by (next i) i
 
 unfoldable pub literal_value : Reader (Kind × ℕ)
 literal_value i = if sees mark.Literal i then Ok (first_literal i, drop 1 i) else Err (P1, i)

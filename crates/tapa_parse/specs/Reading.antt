@@ -17,6 +17,7 @@ use Rattle.tapa_syntax.specs.declared.tree.Parameter.TheVariants as parameter_fo
 use Rattle.tapa_syntax.specs.Symbols.{Symbol}
 use Rattle.tapa_syntax.specs.Trees.{ExpressionTree, literal, boolean, variable, element, call, nullptr, construct, static_cast, cast, parenthesized, prefix, binary, conditional, expressions, PlaceTree, variable_place, element_place, ActionTree, call_action, write, read, assign, postfix, prefix_step, CountForm, literal_count, name_count, parenthesized_count, CountTree, DeclaratorTree, plain, initialized, array, DeclarationTree, AttributeTree, StartTree, no_start, declare_start, act_start, HeadTree, StatementTree, attributed, empty, block, declare, act, if_only, if_else, while, for, while_not_eot, break, continue, statements, StreamTree, ArgumentTree, InvocationTree, BodyTree, leaf, upper, TaskTree, ItemTree, constant, task}
 use Rattle.tapa_syntax.specs.Grammar.{is_name, sized_kind, word_kind, prefix_operator_of, binary_operator_of, step_operator_of, assignment_operator_of, binds_at, sum_level, or_level}
+use Rattle.tapa_syntax.specs.Limits.{most_operators}
 use Rattle.tapa_parse.specs.declared.fault.ParseCode.TheVariants.{P1, P2}
 use Rattle.tapa_parse.specs.Readers.{Outcome, Reader, and_then, ◌>>=◌, ◌>>◌, pure, refuse, next, first_place, sees, skip, here, expect, past, eat, known, name, plain_name, literal_value, repeat_behind, repeat, separated, separated_until}
 
@@ -529,6 +530,13 @@ readers limit inner = record {
 unfoldable pub below_room : ℕ → ℕ → Option Readers
 below_room limit zero = None
 below_room limit (suc room) = Some (readers limit (below_room limit room))
+
+-- within the limits
+abbrev pub below : ℕ → Option Readers
+below room = below_room most_operators room
+
+abbrev pub at : ℕ → Readers
+at room = readers most_operators (below room)
 
 -- ---- tasks and files
 

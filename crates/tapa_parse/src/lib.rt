@@ -2,5 +2,7 @@
 #![tactic(auto)]
 
 mod fault;
+mod mark;
+mod parser;
 
 pub use fault::{ParseCode, ParseFault};
