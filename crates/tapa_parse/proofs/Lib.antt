@@ -1,1 +1,3 @@
 mod Symbols
+mod Turns
+mod Rows

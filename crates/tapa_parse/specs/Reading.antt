@@ -51,12 +51,13 @@ type_by mark.Short = skip >> eat mark.Int >> pure kind.I16
 type_by mark.Long = skip >> eat mark.Long >> eat mark.Int >> pure kind.I64
 type_by _ = one
 
-unfoldable pub type : Reader Kind
-type i = type_by (next i) i
+unfoldable pub type_name : Reader Kind
+type_name i = type_by (next i) i
 
--- Behind a parenthesis: the words of a type, unless it is a type of one word with a parenthesis behind it.
+-- A parenthesis with the words of a type behind it, unless it is a type of one word with a parenthesis behind that.
 unfoldable pub begins_cast : List Symbol → Bool
-begins_cast i = if sees mark.Std i then not (sees mark.LeftParen (drop 3 i)) else is_some (one_kind (next i)) && not (sees mark.LeftParen (drop 1 i))
+begins_cast i =
+    if sees mark.Std (drop 1 i) then not (sees mark.LeftParen (drop 4 i)) else is_some (one_kind (next (drop 1 i))) && not (sees mark.LeftParen (drop 2 i))
 
 -- ---- levels of nesting
 
@@ -127,6 +128,14 @@ unfoldable pub more_arguments : Readers → ℕ → List ExpressionTree → Coun
 more_arguments below zero found n = pure (found, n)
 more_arguments below (suc turns) found n = λ i. if sees mark.Comma i then (skip >> argument below n >>= (λ e. more_arguments below turns (found ++ e.0 ∷ []) e.1)) i else Ok ((found, n), i)
 
+unfoldable pub some_arguments : Readers → Counting (List ExpressionTree)
+some_arguments below n = do
+  e ← argument below n
+  (λ i. more_arguments below (length i) (e.0 ∷ []) e.1 i)
+
+unfoldable pub any_arguments : Readers → Counting (List ExpressionTree)
+any_arguments below n = λ i. if sees mark.RightParen i then Ok (([], n), i) else some_arguments below n i
+
 -- inner has the readers one level below, if one more level may be opened
 module _ (inner : Option Readers) where
   unfoldable pub in_parentheses : Counting ExpressionTree
@@ -143,15 +152,10 @@ module _ (inner : Option Readers) where
     expect mark.RightBracket
     pure e
 
-  unfoldable pub some_arguments : Readers → Counting (List ExpressionTree)
-  some_arguments below n = do
-    e ← argument below n
-    (λ i. more_arguments below (length i) (e.0 ∷ []) e.1 i)
-
   unfoldable pub arguments : Counting (List ExpressionTree)
   arguments n = do
     below ← open_level mark.LeftParen inner
-    es ← (λ i. if sees mark.RightParen i then Ok (([], n), i) else some_arguments below n i)
+    es ← any_arguments below n
     expect mark.RightParen
     pure es
 
@@ -182,7 +186,7 @@ module _ (inner : Option Readers) where
   statically_cast n = do
     skip
     expect mark.Less
-    k ← type
+    k ← type_name
     expect mark.Greater
     e ← in_parentheses n
     pure (static_cast k e.0, e.1)
@@ -207,7 +211,7 @@ module _ (inner : Option Readers) where
   unfoldable pub converted : Counting ExpressionTree
   converted n = do
     below ← open_level mark.LeftParen inner
-    k ← type
+    k ← type_name
     expect mark.RightParen
     e ← below.unary n
     pure (cast k e.0, e.1)
@@ -223,7 +227,7 @@ module _ (inner : Option Readers) where
 
   abbrev pub unary_by : Option PrefixOperator → Counting ExpressionTree
   unary_by (Some o) n = prefixed o n
-  unary_by None n = λ i. if sees mark.LeftParen i then (if begins_cast (drop 1 i) then converted n i else parenthesis n i) else primary n i
+  unary_by None n = λ i. if sees mark.LeftParen i then (if begins_cast i then converted n i else parenthesis n i) else primary n i
 
   unfoldable pub unary_with : Counting ExpressionTree
   unary_with n = λ i. unary_by (prefix_operator_of (next i)) n i
@@ -355,7 +359,7 @@ module _ (limit : ℕ) (inner : Option Readers) where
   unfoldable pub declaration_with : Reader DeclarationTree
   declaration_with = do
     is_const ← eat mark.Const
-    k ← type
+    k ← type_name
     names ← separated mark.Comma declarator
     pure (record { constant = is_const; kind = k; names = names })
 
@@ -544,7 +548,7 @@ unfoldable pub stream_kind : Reader Kind
 stream_kind = do
   skip
   expect mark.Less
-  k ← type
+  k ← type_name
   expect mark.Greater
   expect mark.Ampersand
   pure k
@@ -562,7 +566,7 @@ port_by mark.Mmap = do
   skip
   expect mark.Less
   is_const ← eat mark.Const
-  k ← type
+  k ← type_name
   expect mark.Greater
   x ← name
   pure (parameter_form.Memory is_const k x)
@@ -574,7 +578,7 @@ port = λ i. port_by (next i) i
 unfoldable pub scalar : Reader Parameter
 scalar = do
   is_const ← eat mark.Const
-  k ← type
+  k ← type_name
   x ← name
   pure (parameter_form.Scalar is_const k x)
 
@@ -614,7 +618,7 @@ module _ (limit : ℕ) (inner : Option Readers) where
     expect mark.Scope
     expect mark.Stream
     expect mark.Less
-    k ← type
+    k ← type_name
     depth ← depth
     expect mark.Greater
     names ← separated mark.Comma stream_name
@@ -667,7 +671,7 @@ module _ (limit : ℕ) (inner : Option Readers) where
   unfoldable pub constant_behind : List AttributeTree → Reader ItemTree
   constant_behind attributes = do
     constant_word
-    k ← type
+    k ← type_name
     x ← name
     expect mark.Assign
     e ← whole_expression limit inner

@@ -3,6 +3,8 @@
 
 mod fault;
 mod mark;
+mod expression;
 mod parser;
+mod types;
 
 pub use fault::{ParseCode, ParseFault};

@@ -94,15 +94,21 @@ impl<'a> Parser<'a> {
         same(self.next(), mark)
     }
 
-    /// Whether the mark comes behind so many others.
+    /// What the lexeme behind so many others is.
+    pub(crate) fn next_behind(&self, others: usize) -> Mark
+        ensures { result ≡ spec.next (drop others self.now) }
+    {
+        match self.rest.get(others) {
+            Some(lexeme) => mark_of(self.source, lexeme),
+            None => Mark::End,
+        }
+    }
+
     #[tactic(auto, unfolding(crate::specs::Readers::sees))]
     pub(crate) fn sees_behind(&self, others: usize, mark: Mark) -> bool
         ensures { result ≡ spec.sees mark (drop others self.now) }
     {
-        match self.rest.get(others) {
-            Some(lexeme) => same(mark_of(self.source, lexeme), mark),
-            None => same(Mark::End, mark),
-        }
+        same(self.next_behind(others), mark)
     }
 
     pub(crate) fn skip(&mut self)
