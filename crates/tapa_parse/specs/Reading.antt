@@ -255,16 +255,16 @@ abbrev pub whole : Counting ExpressionTree → ℕ → Reader ExpressionTree
 whole counting limit = counting limit >>= (λ e. pure e.0)
 
 module _ (limit : ℕ) (inner : Option Readers) where
-  unfoldable pub whole_expression : Reader ExpressionTree
+  abbrev pub whole_expression : Reader ExpressionTree
   whole_expression = whole (expression_with inner) limit
 
-  unfoldable pub sum : Reader ExpressionTree
+  abbrev pub sum : Reader ExpressionTree
   sum = whole (level (unary_with inner) sum_level) limit
 
-  unfoldable pub condition : Reader ExpressionTree
+  abbrev pub condition : Reader ExpressionTree
   condition = whole (in_parentheses inner) limit
 
-  unfoldable pub index : Reader ExpressionTree
+  abbrev pub index : Reader ExpressionTree
   index = whole (in_brackets inner) limit
 
   unfoldable pub place_from : Name → Reader PlaceTree
@@ -279,6 +279,12 @@ module _ (limit : ℕ) (inner : Option Readers) where
     es ← separated_until mark.RightParen mark.Comma (whole (argument below) limit)
     expect mark.RightParen
     pure es
+
+  abbrev pub written : Reader (List ExpressionTree)
+  written = repeat (sees mark.ShiftLeft) (skip >> sum)
+
+  abbrev pub targets : Reader (List PlaceTree)
+  targets = repeat (sees mark.ShiftRight) (skip >> place_with)
 
   abbrev pub assigned_by : Option StepOperator → Option AssignmentOperator → PlaceTree → Reader ActionTree
   assigned_by (Some step) o target = do
@@ -302,10 +308,10 @@ module _ (limit : ℕ) (inner : Option Readers) where
     es ← call_arguments
     pure (call_action stream method es)
   acted_by mark.ShiftLeft stream = do
-    es ← repeat (sees mark.ShiftLeft) (skip >> sum)
+    es ← written
     pure (write stream es)
   acted_by mark.ShiftRight stream = do
-    places ← repeat (sees mark.ShiftRight) (skip >> place_with)
+    places ← targets
     pure (read stream places)
   acted_by _ x = place_from x >>= assigned
 
@@ -335,9 +341,15 @@ module _ (limit : ℕ) (inner : Option Readers) where
     x ← name
     pure (name_count x)
 
+  abbrev pub form : Reader CountForm
+  form = λ i. form_by (next i) i
+
   -- a depth or a number of cells
   unfoldable pub counted : Reader CountTree
-  counted = λ i. (form_by (next i) >>= (λ form. pure (record { place = first_place i; form = form }))) i
+  counted = do
+    at ← here
+    form ← form
+    pure (record { place = at; form = form })
 
   abbrev pub declarator_by : Mark → Name → Reader DeclaratorTree
   declarator_by mark.Assign x = do
@@ -363,26 +375,30 @@ module _ (limit : ℕ) (inner : Option Readers) where
     names ← separated mark.Comma declarator
     pure (record { constant = is_const; kind = k; names = names })
 
-  -- ---- attributes
+-- ---- attributes
 
-  abbrev pub attribute_argument_by : Mark → Reader AttributeArgument
-  attribute_argument_by mark.Literal = do
-    v ← literal_value
-    pure (argument_form.Literal v.0 v.1)
-  attribute_argument_by mark.Str = skip >> pure argument_form.Str
-  attribute_argument_by _ = do
-    x ← name
-    pure (argument_form.Name x)
+abbrev pub attribute_argument_by : Mark → Reader AttributeArgument
+attribute_argument_by mark.Literal = do
+  v ← literal_value
+  pure (argument_form.Literal v.0 v.1)
+attribute_argument_by mark.Str = skip >> pure argument_form.Str
+attribute_argument_by _ = do
+  x ← name
+  pure (argument_form.Name x)
 
-  unfoldable pub attribute_argument : Reader AttributeArgument
-  attribute_argument = λ i. attribute_argument_by (next i) i
+unfoldable pub attribute_argument : Reader AttributeArgument
+attribute_argument = λ i. attribute_argument_by (next i) i
 
+module _ (inner : Option Readers) where
   unfoldable pub listed_arguments : Reader (List AttributeArgument)
   listed_arguments = do
     below ← open_level mark.LeftParen inner
     arguments ← separated_until mark.RightParen mark.Comma attribute_argument
     expect mark.RightParen
     pure arguments
+
+  unfoldable pub attribute_arguments : Reader (Option (List AttributeArgument))
+  attribute_arguments = λ i. if sees mark.LeftParen i then (listed_arguments >>= (λ a. pure (Some a))) i else Ok (None, i)
 
   unfoldable pub attribute : Reader AttributeTree
   attribute = do
@@ -391,12 +407,12 @@ module _ (limit : ℕ) (inner : Option Readers) where
     expect mark.Tapa
     expect mark.Scope
     x ← plain_name
-    arguments ← (λ i. if sees mark.LeftParen i then (listed_arguments >>= (λ a. pure (Some a))) i else Ok (None, i))
+    arguments ← attribute_arguments
     expect mark.RightBracket
     expect mark.RightBracket
     pure (record { name = x; arguments = arguments })
 
-  unfoldable pub attributes : Reader (List AttributeTree)
+  abbrev pub attributes : Reader (List AttributeTree)
   attributes = repeat (sees mark.LeftBracket) attribute
 
 -- ---- statements
@@ -421,11 +437,28 @@ begins_other _ = false
 abbrev pub begins_statement : Mark → Bool
 begins_statement m = begins_other m || begins_action m || is_some (one_kind m)
 
+unfoldable pub start : Readers → Reader StartTree
+start below = λ i. if sees mark.Semicolon i then Ok (no_start, i) else (if begins_action (next i) then (do a ← below.action; pure (act_start a)) i else (do d ← below.declaration; pure (declare_start d)) i)
+
+unfoldable pub test : ℕ → Readers → Reader (Option ExpressionTree)
+test limit below = λ i. if sees mark.Semicolon i then Ok (None, i) else (do e ← whole below.expression limit; pure (Some e)) i
+
+unfoldable pub step : Readers → Reader (Option ActionTree)
+step below = λ i. if sees mark.RightParen i then Ok (None, i) else (do a ← below.action; pure (Some a)) i
+
+-- a keyword and its semicolon
+unfoldable pub jump : Reader Place
+jump = do
+  at ← here
+  skip
+  expect mark.Semicolon
+  pure at
+
 module _ (limit : ℕ) (inner : Option Readers) where
   unfoldable pub statement_with : Reader StatementTree
   statement_with = λ i. if begins_statement (next i) then (enter inner >>= (λ below. below.inside)) i else Err (P1, i)
 
-  unfoldable pub statements_with : Reader (List StatementTree)
+  abbrev pub statements_with : Reader (List StatementTree)
   statements_with = repeat (λ i. not (sees mark.RightBrace i)) statement_with
 
   unfoldable pub simple : Reader StatementTree
@@ -456,21 +489,12 @@ module _ (limit : ℕ) (inner : Option Readers) where
     s ← statement_with
     pure (while c s)
 
-  unfoldable pub start : Readers → Reader StartTree
-  start below = λ i. if sees mark.Semicolon i then Ok (no_start, i) else (if begins_action (next i) then (do a ← below.action; pure (act_start a)) i else (do d ← below.declaration; pure (declare_start d)) i)
-
-  unfoldable pub test : Readers → Reader (Option ExpressionTree)
-  test below = λ i. if sees mark.Semicolon i then Ok (None, i) else (do e ← whole below.expression limit; pure (Some e)) i
-
-  unfoldable pub step : Readers → Reader (Option ActionTree)
-  step below = λ i. if sees mark.RightParen i then Ok (None, i) else (do a ← below.action; pure (Some a)) i
-
   unfoldable pub head : Reader HeadTree
   head = do
     below ← open_level mark.LeftParen inner
     start ← start below
     expect mark.Semicolon
-    test ← test below
+    test ← test limit below
     expect mark.Semicolon
     step ← step below
     expect mark.RightParen
@@ -492,14 +516,6 @@ module _ (limit : ℕ) (inner : Option Readers) where
     s ← statement_with
     pure (while_not_eot stream s)
 
-  -- a statement of a keyword and its semicolon
-  unfoldable pub jump : (Place → StatementTree) → Reader StatementTree
-  jump form = do
-    at ← here
-    skip
-    expect mark.Semicolon
-    pure (form at)
-
   abbrev pub bare_by : Mark → Reader StatementTree
   bare_by mark.Semicolon = skip >> pure empty
   bare_by mark.LeftBrace = braces
@@ -507,8 +523,8 @@ module _ (limit : ℕ) (inner : Option Readers) where
   bare_by mark.While = repetition
   bare_by mark.For = counting_loop
   bare_by mark.WhileNotEot = transaction_loop
-  bare_by mark.Break = jump break
-  bare_by mark.Continue = jump continue
+  bare_by mark.Break = jump >>= (λ at. pure (break at))
+  bare_by mark.Continue = jump >>= (λ at. pure (continue at))
   bare_by _ = simple
 
   -- a statement without attributes
@@ -516,7 +532,7 @@ module _ (limit : ℕ) (inner : Option Readers) where
   bare = λ i. bare_by (next i) i
 
   unfoldable pub inside_with : Reader StatementTree
-  inside_with = λ i. if sees mark.LeftBracket i then (do found ← attributes limit inner; s ← bare; pure (attributed found s)) i else bare i
+  inside_with = λ i. if sees mark.LeftBracket i then (do found ← attributes inner; s ← bare; pure (attributed found s)) i else bare i
 
 -- ---- all levels
 
@@ -608,6 +624,18 @@ abbrev pub ended : List Symbol → Outcome (Unit {0})
 ended [] = Ok (tt, [])
 ended (x ∷ rest) = Err (P1, x ∷ rest)
 
+unfoldable pub invocation_argument : ℕ → Readers → Reader ArgumentTree
+invocation_argument limit below = do
+  at ← here
+  e ← whole below.expression limit
+  pure (record { place = at; value = e })
+
+abbrev pub invocation_arguments : ℕ → Readers → Reader (List ArgumentTree)
+invocation_arguments limit below = repeat (sees mark.Comma) (skip >> invocation_argument limit below)
+
+unfoldable pub constant_word : Reader (Unit {0})
+constant_word = λ i. if sees mark.Const i || sees mark.Constexpr i then Ok (tt, drop 1 i) else Err (P1, i)
+
 module _ (limit : ℕ) (inner : Option Readers) where
   unfoldable pub depth : Reader (Option CountTree)
   depth = λ i. if sees mark.Comma i then (do skip; count ← counted limit inner; pure (Some count)) i else Ok (None, i)
@@ -625,9 +653,6 @@ module _ (limit : ℕ) (inner : Option Readers) where
     expect mark.Semicolon
     pure (record { kind = k; depth = depth; names = names })
 
-  unfoldable pub invocation_argument : Readers → Reader ArgumentTree
-  invocation_argument below = λ i. (whole below.expression limit >>= (λ e. pure (record { place = first_place i; value = e }))) i
-
   unfoldable pub invocation : Reader InvocationTree
   invocation = do
     expect mark.Dot
@@ -635,9 +660,15 @@ module _ (limit : ℕ) (inner : Option Readers) where
     mode ← mode
     below ← open_level mark.LeftParen inner
     x ← name
-    arguments ← repeat (sees mark.Comma) (skip >> invocation_argument below)
+    arguments ← invocation_arguments limit below
     expect mark.RightParen
     pure (record { mode = mode; task = x; arguments = arguments })
+
+  -- at least one
+  unfoldable pub chained : Reader (List InvocationTree)
+  chained = do
+    first ← invocation
+    repeat_behind (sees mark.Dot) invocation (first ∷ [])
 
   unfoldable pub invocations : Reader (List InvocationTree)
   invocations = do
@@ -646,13 +677,15 @@ module _ (limit : ℕ) (inner : Option Readers) where
     expect mark.Task
     expect mark.LeftParen
     expect mark.RightParen
-    first ← invocation
-    found ← repeat_behind (sees mark.Dot) invocation (first ∷ [])
+    found ← chained
     expect mark.Semicolon
     pure found
 
+  abbrev pub streams : Reader (List StreamTree)
+  streams = repeat (λ i. sees mark.Stream (drop 2 i)) stream
+
   unfoldable pub body : Reader BodyTree
-  body = λ i. if sees mark.Tapa i then (do streams ← repeat (λ i. sees mark.Stream (drop 2 i)) stream; found ← invocations; pure (upper streams found)) i else (do ss ← statements_with limit inner; pure (leaf (statements ss))) i
+  body = λ i. if sees mark.Tapa i then (do declared ← streams; found ← invocations; pure (upper declared found)) i else (do ss ← statements_with limit inner; pure (leaf (statements ss))) i
 
   unfoldable pub task_behind : List AttributeTree → Reader TaskTree
   task_behind attributes = do
@@ -664,9 +697,6 @@ module _ (limit : ℕ) (inner : Option Readers) where
     at ← here
     expect mark.RightBrace
     pure (record { attributes = attributes; name = x; parameters = parameters; body = body; end = at })
-
-  unfoldable pub constant_word : Reader (Unit {0})
-  constant_word = λ i. if sees mark.Const i || sees mark.Constexpr i then Ok (tt, drop 1 i) else Err (P1, i)
 
   unfoldable pub constant_behind : List AttributeTree → Reader ItemTree
   constant_behind attributes = do
@@ -680,11 +710,14 @@ module _ (limit : ℕ) (inner : Option Readers) where
 
   unfoldable pub item : Reader ItemTree
   item = do
-    found ← attributes limit inner
+    found ← attributes inner
     (λ i. if sees mark.Void i then (do t ← task_behind found; pure (task t)) i else constant_behind found i)
+
+  abbrev pub items : Reader (List ItemTree)
+  items = repeat is_left item
 
   unfoldable pub file : Reader (List ItemTree)
   file = do
-    items ← repeat is_left item
+    items ← items
     ended
     pure items

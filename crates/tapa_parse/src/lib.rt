@@ -3,8 +3,14 @@
 
 mod fault;
 mod mark;
+mod action;
+mod declaration;
 mod expression;
+mod source;
 mod parser;
+mod statement;
+mod task;
 mod types;
 
 pub use fault::{ParseCode, ParseFault};
+pub use source::parse;

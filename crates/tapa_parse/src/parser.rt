@@ -87,6 +87,25 @@ impl<'a> Parser<'a> {
         self.rest.len()
     }
 
+    pub(crate) fn is_left(&self) -> bool
+        ensures { result ≡ reading.is_left self.now }
+    {
+        match self.rest {
+            [_, ..] => true,
+            [] => false,
+        }
+    }
+
+    /// No lexeme is left.
+    pub(crate) fn ended(&self) -> Result<(), Fault>
+        ensures { Gives (λ x. x) result self.now (reading.ended self.now) }
+    {
+        match self.rest {
+            [_, ..] => Err(Fault::Refused(ParseCode::P1)),
+            [] => Ok(()),
+        }
+    }
+
     #[tactic(auto, unfolding(crate::specs::Readers::sees))]
     pub(crate) fn sees(&self, mark: Mark) -> bool
         ensures { result ≡ spec.sees mark self.now }

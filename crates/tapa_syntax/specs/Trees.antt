@@ -212,7 +212,7 @@ abbrev mutual
   statement (If' c p s) = if_only (expression c) (statement s)
   statement (IfElse' c p s q t) = if_else (expression c) (statement s) (statement t)
   statement (While' c p s) = while (expression c) (statement s)
-  statement (For' head p s) = for (head_of head) (statement s)
+  statement (For' head p s) = for (head_of head.value) (statement s)
   statement (WhileNotEot' stream p s) = while_not_eot stream (statement s)
   statement (Break at) = break at
   statement (Continue at) = continue at
