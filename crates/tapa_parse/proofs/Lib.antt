@@ -1,3 +1,6 @@
 mod Symbols
 mod Turns
 mod Rows
+pub mod Parts
+pub mod SoundTypes
+pub mod SoundExpressions
