@@ -4,3 +4,4 @@ mod Rows
 pub mod Parts
 pub mod SoundTypes
 pub mod SoundExpressions
+pub mod CompleteTypes

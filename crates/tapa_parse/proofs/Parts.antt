@@ -102,3 +102,56 @@ unfolding literal_value
 literal_yields [] = yields_if (sees mark.Literal []) (λ e. absurd (let is = sees_is mark.Literal [] e in cc)) (λ e. yields_none (λ v j. IsLiteral v.0 v.1 [] j) (P1, []))
 literal_yields (x ∷ i) =
     yields_if (sees mark.Literal (x ∷ i)) (λ e. yields_pure (λ v j. IsLiteral v.0 v.1 (x ∷ i) j) x.literal i (x, (sees_is mark.Literal (x ∷ i) e, refl), refl)) (λ e. yields_none (λ v j. IsLiteral v.0 v.1 (x ∷ i) j) (P1, x ∷ i))
+
+-- ---- what is given exactly
+
+pub then_is : {A B : Type 0} {o : Outcome A} {y : Outcome B} (f : A → Reader B) (a : A) (j : Symbols) → o ≡ Ok (a, j) → f a j ≡ y → and_then o f ≡ y
+then_is f a j e h = ap (λ o. and_then o f) e ∙ h
+
+pub if_true : {A : Type 0} {test : Bool} {p y : A} (q : A) → test ≡ true → p ≡ y → cond test p q ≡ y
+if_true {A} {p = p} q e h = ap (λ b. cond {A = A} b p q) e ∙ h
+
+pub if_false : {A : Type 0} {test : Bool} {q y : A} (p : A) → test ≡ false → q ≡ y → cond test p q ≡ y
+if_false {A} {q = q} p e h = ap (λ b. cond {A = A} b p q) e ∙ h
+
+-- marks of which something else holds are not the same
+pub differ_by : {A : Type 0} (f : Mark → A) (m n : Mark) → (f m ≡ f n → ⊥) → same m n ≡ false
+unfolding same
+differ_by f m n h = pick (same m n) refl
+  where
+    pick : (b : Bool) → same m n ≡ b → same m n ≡ false
+    pick false e = e
+    pick true e = absurd (h (ap f (same_true the_type (search rules) _ _ e)))
+
+pub next_is : (m : Mark) (i j : Symbols) → Takes m i j → next i ≡ m
+next_is m i j (x, e, is) = ap next is ∙ e
+
+pub seen_is : (m : Mark) (i j : Symbols) → Takes m i j → sees m i ≡ true
+seen_is m i j h = is_seen m i (next_is m i j h)
+
+pub dropped : (m : Mark) (i j : Symbols) → Takes m i j → drop 1 i ≡ j
+dropped m i j (x, e, is) = ap (drop 1) is
+
+pub expect_is : (m : Mark) (i j : Symbols) → Takes m i j → expect m i ≡ Ok (tt, j)
+unfolding expect
+expect_is m i j h = if_true _ (seen_is m i j h) (ap (λ (k : Symbols). done (tt, k)) (dropped m i j h))
+
+pub past_is : (m : Mark) (i j : Symbols) → Takes m i j → past m i ≡ j
+unfolding past
+past_is m i j h = if_true _ (seen_is m i j h) (dropped m i j h)
+
+pub past_none : (m : Mark) (i : Symbols) → sees m i ≡ false → past m i ≡ i
+unfolding past
+past_none m i e = if_false _ e refl
+
+pub name_is : (x : Name) (i j : Symbols) → IsName x i j → name i ≡ Ok (x, j)
+unfolding name
+name_is x i j (s, e, is) = rw is (if_true _ e.0 (ap (λ (y : Name). done (y, j)) e.1))
+
+pub plain_is : (x : Name) (i j : Symbols) → IsPlainName x i j → plain_name i ≡ Ok (x, j)
+unfolding plain_name
+plain_is x i j (s, e, is) = rw (is, e.0) (ap (λ (y : Name). done (y, j)) e.1)
+
+pub literal_is : (k : Kind) (v : ℕ) (i j : Symbols) → IsLiteral k v i j → literal_value i ≡ Ok ((k, v), j)
+unfolding literal_value
+literal_is k v i j (s, e, is) = rw is (if_true _ (is_seen mark.Literal (s ∷ j) e.0) (ap (λ (y : Kind × ℕ). done (y, j)) e.1))
