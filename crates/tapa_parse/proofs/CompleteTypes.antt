@@ -1,14 +1,14 @@
 -- What is spelled as a type is read, where it does not go on.
-use Rattle.std.proofs.Common.{◌≡◌, ℕ, zero, suc, ◌<◌, ◌≤◌, ◌⊎◌, inl, inr, Bool, true, false, cond, List, [], ◌∷◌, length, drop, Option, Some, None, Result, Ok, Err, refl, sym, ap, subst, ◌∙◌, arith, rules}
+use Rattle.std.proofs.Common.{◌≡◌, ◌<◌, ◌≤◌, inl, inr, Bool, true, false, ◌∷◌, length, Some, Ok, refl, sym, ap, ◌∙◌, arith}
 use Rattle.tapa_base.specs.declared.kind.Kind.{Kind}
 use Rattle.tapa_base.specs.declared.kind.Kind.TheVariants as kind
 use Rattle.tapa_syntax.specs.declared.mark.Mark.{Mark}
 use Rattle.tapa_syntax.specs.declared.mark.Mark.TheVariants as mark
 use Rattle.tapa_syntax.specs.Symbols.{Symbol}
-use Rattle.tapa_syntax.specs.Grammar.{Takes, May, Means, sized_kind, word_kind, IsOne, AreWords, IsType}
-use Rattle.tapa_parse.specs.Readers.{Outcome, Reader, and_then, next, same, sees, skip, expect, past, eat, known, pure, refuse, ◌>>◌}
-use Rattle.tapa_parse.specs.Reading.{sized, or_else, one_kind, one, unsigned_by, unsigned, type_by, type_name}
-use Rattle.tapa_parse.proofs.Parts.{Symbols, done, then_is, if_true, if_false, differ_by, next_is, seen_is, dropped, expect_is, past_is, past_none, is_seen}
+use Rattle.tapa_syntax.specs.Grammar.{Takes, May, sized_kind, word_kind, IsOne, IsType}
+use Rattle.tapa_parse.specs.Readers.{next, same, sees, past}
+use Rattle.tapa_parse.specs.Reading.{sized, one_kind, one, unsigned_by, unsigned, type_by, type_name}
+use Rattle.tapa_parse.proofs.Parts.{Symbols, done, ok_is, then_is, if_true, if_false, differ_by, next_is, seen_is, dropped, expect_is, past_is, past_none}
 
 -- no word follows that would go on with a type
 abbrev pub extends_type : Mark → Bool
@@ -19,7 +19,7 @@ extends_type _ = false
 
 -- ---- words
 
-sized_is_one : (m : Mark) (k : Kind) → sized_kind m ≡ Some k → one_kind m ≡ Some k
+pub sized_is_one : (m : Mark) (k : Kind) → sized_kind m ≡ Some k → one_kind m ≡ Some k
 sized_is_one mark.Int8 k e = e
 sized_is_one mark.Uint8 k e = e
 sized_is_one mark.Int16 k e = e
@@ -30,7 +30,7 @@ sized_is_one mark.Int64 k e = e
 sized_is_one mark.Uint64 k e = e
 sized_is_one _ k e = absurd cc
 
-word_is_one : (m : Mark) (k : Kind) → word_kind m ≡ Some k → one_kind m ≡ Some k
+pub word_is_one : (m : Mark) (k : Kind) → word_kind m ≡ Some k → one_kind m ≡ Some k
 word_is_one m k e = rw e refl
 
 -- a word of a type, which is not `std`
@@ -51,7 +51,7 @@ sees_no : (m : Mark) (r : Symbols) → extends_type (next r) ≡ false → exten
 unfolding sees
 sees_no m r e f = differ_by extends_type (next r) m (λ g. cc)
 
-sees_other : (m n : Mark) (i j : Symbols) → Takes m i j → same m n ≡ false → sees n i ≡ false
+pub sees_other : (m n : Mark) (i j : Symbols) → Takes m i j → same m n ≡ false → sees n i ≡ false
 unfolding sees
 sees_other m n i j h e = rw (next_is m i j h) e
 
@@ -113,13 +113,10 @@ type_complete _ i r (inr h) ends = absurd h
 
 -- ---- each has a symbol
 
-
-
-
 pub takes_longer : (m : Mark) (i r : Symbols) → Takes m i r → length r < length i
 takes_longer m i r (x, e, is) = omega (arith, ap length is)
 
-may_longer : (m : Mark) (i r : Symbols) → May m i r → length r ≤ length i
+pub may_longer : (m : Mark) (i r : Symbols) → May m i r → length r ≤ length i
 may_longer m i r (inl (x, e, is)) = omega (arith, ap length is)
 may_longer m i r (inr is) = omega (arith, ap length is)
 
@@ -136,3 +133,8 @@ type_longer kind.U64 i r (inr (j, first, (l, long, (o, again, int)))) = omega (a
 type_longer kind.I16 i r (inr (j, short, int)) = omega (arith, takes_longer mark.Short i j short, takes_longer mark.Int j r int)
 type_longer kind.I64 i r (inr (j, long, (o, again, int))) = omega (arith, takes_longer mark.Long i j long, may_longer mark.Long j o again, may_longer mark.Int o r int)
 type_longer _ i r (inr h) = absurd h
+
+-- ---- one kind
+
+pub type_unique : (k l : Kind) (i r : Symbols) → IsType k i r → IsType l i r → extends_type (next r) ≡ false → k ≡ l
+type_unique k l i r h g ends = ap (λ (x : Kind × Symbols). x.0) (ok_is (k, r) (l, r) (sym (type_complete k i r h ends) ∙ type_complete l i r g ends))

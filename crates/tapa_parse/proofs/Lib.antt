@@ -5,3 +5,6 @@ pub mod Parts
 pub mod SoundTypes
 pub mod SoundExpressions
 pub mod CompleteTypes
+pub mod CompleteLevels
+pub mod Begins
+pub mod CompleteExpressions

@@ -1,5 +1,5 @@
 -- What a reader gives, part by part.
-use Rattle.std.proofs.Common.{◌≡◌, ℕ, zero, suc, ◌≤◌, ◌⊎◌, inl, inr, Bool, true, false, cond, List, [], ◌∷◌, length, drop, Option, Some, None, Result, Ok, Err, refl, sym, ap, subst, ◌∙◌, arith, rules}
+use Rattle.std.proofs.Common.{◌≡◌, ℕ, Bool, true, false, cond, List, [], ◌∷◌, drop, Option, Some, None, Ok, Err, refl, ap, subst, ◌∙◌, rules}
 use denote.Enum.Bare.{same_true, true_same}
 use Rattle.tapa_base.specs.declared.kind.Kind.{Kind}
 use Rattle.tapa_syntax.specs.contracts.mark.Mark.{the_type}
@@ -9,8 +9,8 @@ use Rattle.tapa_syntax.specs.declared.tree.Name.{Name}
 use Rattle.tapa_syntax.specs.Symbols.{Symbol}
 use Rattle.tapa_syntax.specs.Grammar.{Takes, Means, MeansAt, IsName, IsPlainName, IsLiteral, named, is_name}
 use Rattle.tapa_parse.specs.declared.fault.ParseCode.{ParseCode}
-use Rattle.tapa_parse.specs.declared.fault.ParseCode.TheVariants.{P1, P2}
-use Rattle.tapa_parse.specs.Readers.{Outcome, Reader, and_then, next, first_place, same, sees, expect, past, known, name_here, name, plain_by, plain_name, literal_value}
+use Rattle.tapa_parse.specs.declared.fault.ParseCode.TheVariants.{P1}
+use Rattle.tapa_parse.specs.Readers.{Outcome, Reader, and_then, next, first_place, same, sees, expect, past, name, plain_by, plain_name, literal_value}
 
 abbrev pub Symbols : Type 0
 Symbols = List Symbol

@@ -1,27 +1,21 @@
 -- What is read as an expression is spelled so, nests no deeper than it may, and has as many operators as were counted.
-use Rattle.std.proofs.Common.{◌≡◌, ℕ, zero, suc, ◌+◌, ◌-◌, ◌<◌, ◌≤◌, max, ◌⊎◌, inl, inr, Bool, true, false, cond, List, [], ◌∷◌, ◌++◌, length, drop, Option, Some, None, Result, Ok, Err, refl, sym, ap, subst, ◌∙◌, arith, rules, append_assoc}
+use Rattle.std.proofs.Common.{◌≡◌, ℕ, zero, suc, ◌+◌, ◌≤◌, Bool, true, false, cond, List, [], ◌∷◌, ◌++◌, length, drop, Option, Some, None, refl, sym, ap, subst, ◌∙◌, arith, append_assoc}
 use Rattle.std.specs.Prelude.{◌==◌}
 use Rattle.std.proofs.lemmas.Bool.{eqb-true}
-use Rattle.tapa_base.specs.declared.kind.Kind.{Kind}
-use Rattle.tapa_base.specs.declared.kind.Kind.TheVariants as kind
-use Rattle.tapa_base.specs.declared.op.Op.TheVariants as op
-use Rattle.tapa_base.specs.declared.text.Place.{Place}
 use Rattle.tapa_syntax.specs.declared.mark.Mark.{Mark}
 use Rattle.tapa_syntax.specs.declared.mark.Mark.TheVariants as mark
 use Rattle.tapa_syntax.specs.declared.tree.Name.{Name}
 use Rattle.tapa_syntax.specs.declared.tree.PrefixOperator.{PrefixOperator}
 use Rattle.tapa_syntax.specs.declared.tree.BinaryOperator.{BinaryOperator}
-use Rattle.tapa_syntax.specs.declared.tree.BinaryOperator.TheVariants.{LogicalOr, LogicalAnd, Value}
 use Rattle.tapa_syntax.specs.Symbols.{Symbol}
-use Rattle.tapa_syntax.specs.Trees.{ExpressionTree, literal, boolean, variable, element, call, nullptr, construct, static_cast, cast, parenthesized, prefix, binary, conditional, Expressions, expressions, CountForm, literal_count, name_count, parenthesized_count, CountTree}
-use Rattle.tapa_syntax.specs.Trees.{none as no_expression, one as one_expression}
+use Rattle.tapa_syntax.specs.Trees.{ExpressionTree, literal, boolean, variable, element, call, nullptr, construct, static_cast, cast, parenthesized, prefix, binary, conditional, expressions, CountForm, literal_count, name_count, parenthesized_count, CountTree}
 use Rattle.tapa_syntax.specs.Limits.{nesting, nestings, operators, operators_in, form_nesting, form_operators}
 use Rattle.tapa_syntax.specs.Spans.{◌⨾◌}
-use Rattle.tapa_syntax.specs.Grammar.{Takes, TakesAt, Means, MeansAt, IsName, IsPlainName, IsLiteral, StandsAt, IsOne, IsType, IsExpression, AreArguments, AreMoreArguments, IsCountForm, IsCount, is_name, prefix_operator_of, binary_operator_of, binds_at, sum_level, or_level, expression_level, argument_level}
+use Rattle.tapa_syntax.specs.Grammar.{Takes, TakesAt, IsName, StandsAt, IsExpression, AreArguments, AreMoreArguments, IsCountForm, IsCount, is_name, prefix_operator_of, binary_operator_of, binds_at, or_level, expression_level, argument_level}
 use Rattle.tapa_parse.specs.declared.fault.ParseCode.TheVariants.{P1, P2}
-use Rattle.tapa_parse.specs.Readers.{Outcome, Reader, and_then, next, first_place, sees, skip, here, expect, name, plain_name, literal_value, pure, refuse}
-use Rattle.tapa_parse.specs.Reading.{one, type_name, begins_cast, Counting, Readers, enter, open_level, count, at_level, operator_of, chain_by, chain, chain_of, level, argument, more_arguments, some_arguments, any_arguments, in_parentheses, in_brackets, arguments, named_by, named, constructed, statically_cast, primary_by, primary, parenthesis, converted, prefixed, unary_by, unary_with, arms, expression_with, whole, form_by, counted, readers, below_room}
-use Rattle.tapa_parse.proofs.Parts.{Symbols, Yields, yields_pure, yields_none, yields_then, yields_if, weaker, done, takes, expect_yields, means, sees_is, is_seen, is_end, name_yields, plain_yields, literal_yields}
+use Rattle.tapa_parse.specs.Readers.{Reader, and_then, next, first_place, sees}
+use Rattle.tapa_parse.specs.Reading.{begins_cast, Counting, Readers, enter, open_level, count, at_level, operator_of, chain_by, chain, chain_of, level, argument, more_arguments, some_arguments, any_arguments, in_parentheses, in_brackets, arguments, named_by, named, constructed, statically_cast, primary_by, primary, parenthesis, converted, prefixed, unary_by, unary_with, arms, expression_with, whole, form_by, counted, below_room}
+use Rattle.tapa_parse.proofs.Parts.{Symbols, Yields, yields_pure, yields_none, yields_then, yields_if, weaker, takes, expect_yields, means, sees_is, is_end, name_yields, plain_yields, literal_yields}
 use Rattle.tapa_parse.proofs.SoundTypes.{one_sound, type_sound, takes_it}
 
 -- ---- what it is that was read
@@ -100,6 +94,7 @@ operator_sound l i o e = pick (binary_operator_of (next i)) refl e
     bound : (p : BinaryOperator) (b : Bool) → ◌==◌ (binds_at p) l ≡ b → cond {A = Option BinaryOperator} b (Some p) None ≡ Some o → (binds_at p ≡ l) × (p ≡ o)
     bound p true is e = (eqb-true (binds_at p) l is, cc)
     bound p false is e = absurd cc
+
     pick : (found : Option BinaryOperator) → binary_operator_of (next i) ≡ found → at_level l found ≡ Some o → (binds_at o ≡ l) × (binary_operator_of (next i) ≡ Some o)
     pick None is e = absurd cc
     pick (Some p) is e = let b = bound p (◌==◌ (binds_at p) l) refl e in (subst (λ q. binds_at q ≡ l) b.1 b.0, is ∙ ap Some b.1)
@@ -122,6 +117,7 @@ chain_sound operand l room h (suc turns) n0 i0 left n i so_far = pick (chain_sou
         let left_spelled = subst (λ m. IsExpression (suc m) left i0 i) (sym s.0) so_far.spelled in
         let right_spelled = subst (λ m. IsExpression m right (drop 1 i) r) (sym s.0) right_read.spelled in
         record { spelled = (omega (arith, s.0), (i, left_spelled, (drop 1 i, means binary_operator_of i o refl s.1, right_spelled))); nests = omega arith; counted = omega arith }
+
     pick : ((longer : ExpressionTree) (k : ℕ) (j : Symbols) → IsRead (suc l) room n0 i0 longer k j → Yields (λ a r. IsRead (suc l) room n0 i0 a.0 a.1 r) (chain operand l turns longer k j))
         → (o : Option BinaryOperator) → operator_of l i ≡ o → Yields (λ a r. IsRead (suc l) room n0 i0 a.0 a.1 r) (chain_by operand (chain operand l turns) left o n i)
     pick more None is = yields_pure (λ a r. IsRead (suc l) room n0 i0 a.0 a.1 r) (left, n) i so_far
@@ -145,14 +141,14 @@ record AreRead (room n : ℕ) (found : List ExpressionTree) (i : Symbols) (es : 
   nests : nestings (expressions more) ≤ room
   counted : operators_in (expressions more) + left ≡ n
 
-nothing_more : (found : List ExpressionTree) → found ≡ found ++ []
+pub nothing_more : (found : List ExpressionTree) → found ≡ found ++ []
 nothing_more [] = refl
 nothing_more (e ∷ es) = ap (λ (xs : List ExpressionTree). e ∷ xs) (nothing_more es)
 
 all_read : (room n : ℕ) (found : List ExpressionTree) (i : Symbols) → AreRead room n found i found n i
 all_read room n found i = record { more = []; all = nothing_more found; spelled = refl; nests = omega arith; counted = omega arith }
 
-argument_sound : (room : ℕ) (R : Readers) → AreSound room R → (n : ℕ) (i : Symbols) → Yields (λ a r. IsRead argument_level room n i a.0 a.1 r) (argument R n i)
+pub argument_sound : (room : ℕ) (R : Readers) → AreSound room R → (n : ℕ) (i : Symbols) → Yields (λ a r. IsRead argument_level room n i a.0 a.1 r) (argument R n i)
 unfolding argument
 argument_sound room R h n i =
     yields_if (sees mark.Nullptr i)
@@ -314,8 +310,10 @@ module _ (room : ℕ) (inner : Option Readers) (h : MayBeSound room inner) where
   pub expression_sound : ReadsAt expression_level room (expression_with inner)
   unfolding expression_with
   expression_sound =
-      record { on = λ n i. yields_then ((level_sound (unary_with inner) room unary_sound or_level).on n i) (λ c j k.
-      yields_if (sees mark.Question j) (λ e. arms_sound n i c.0 c.1 j k e) (λ e. yields_pure (IsAny n i) c j (record { spelled = looser or_level c.0 i j k.spelled; nests = k.nests; counted = k.counted }))) }
+      record {
+        on = λ n i. yields_then ((level_sound (unary_with inner) room unary_sound or_level).on n i) (λ c j k.
+            yields_if (sees mark.Question j) (λ e. arms_sound n i c.0 c.1 j k e) (λ e. yields_pure (IsAny n i) c j (record { spelled = looser or_level c.0 i j k.spelled; nests = k.nests; counted = k.counted })));
+      }
 
   form_sound : (limit : ℕ) (i : Symbols) → Yields (λ f r. IsReadForm room limit i f r) (form_by limit inner (next i) i)
   form_sound limit i = pick (next i) refl

@@ -1,15 +1,14 @@
 -- What is read as a type is spelled so.
-use Rattle.std.proofs.Common.{◌≡◌, ℕ, zero, suc, ◌≤◌, ◌⊎◌, inl, inr, Bool, true, false, cond, List, [], ◌∷◌, length, drop, Option, Some, None, Result, Ok, Err, refl, sym, ap, subst, ◌∙◌, arith, rules}
+use Rattle.std.proofs.Common.{◌≡◌, ◌⊎◌, inl, inr, Bool, true, false, cond, drop, Option, Some, None, refl, ap, ◌∙◌}
 use Rattle.tapa_base.specs.declared.kind.Kind.{Kind}
 use Rattle.tapa_base.specs.declared.kind.Kind.TheVariants as kind
 use Rattle.tapa_syntax.specs.declared.mark.Mark.{Mark}
 use Rattle.tapa_syntax.specs.declared.mark.Mark.TheVariants as mark
-use Rattle.tapa_syntax.specs.Symbols.{Symbol}
-use Rattle.tapa_syntax.specs.Grammar.{Takes, May, Means, sized_kind, word_kind, IsOne, AreWords, IsType}
-use Rattle.tapa_parse.specs.declared.fault.ParseCode.TheVariants.{P1, P2}
-use Rattle.tapa_parse.specs.Readers.{Outcome, Reader, and_then, next, sees, skip, expect, past, eat, known, pure, refuse, ◌>>◌}
+use Rattle.tapa_syntax.specs.Grammar.{Takes, May, Means, sized_kind, word_kind, IsOne, IsType}
+use Rattle.tapa_parse.specs.declared.fault.ParseCode.TheVariants.{P1}
+use Rattle.tapa_parse.specs.Readers.{and_then, next, sees, skip, past, known, pure, ◌>>◌}
 use Rattle.tapa_parse.specs.Reading.{sized, or_else, one_kind, one, unsigned_by, unsigned, type_by, type_name}
-use Rattle.tapa_parse.proofs.Parts.{Symbols, Yields, yields_pure, yields_none, yields_then, yields_if, weaker, takes, expect_yields, means_it, sees_is, is_seen, is_end, done}
+use Rattle.tapa_parse.proofs.Parts.{Symbols, Yields, yields_pure, yields_none, yields_then, yields_if, weaker, takes, expect_yields, means_it, is_seen, is_end, done}
 
 -- the next symbol, if it means a type
 known_yields : (table : Mark → Option Kind) (i : Symbols) → table mark.End ≡ None → (o : Option Kind) → table (next i) ≡ o → Yields (λ k j. Means table k i j) (and_then (known o i) (λ k. skip >> pure k))
@@ -62,6 +61,7 @@ unsigned_sound i0 i first = pick (next i) refl
         pick : (b : Bool) → sees mark.Int i ≡ b → IsType kind.U32 i0 (cond b (drop 1 i) i)
         pick true e = inr (i, first, takes mark.Int i refl e)
         pick false e = let x = first in inl (inl (x.0, ap word_kind x.1, x.2))
+
     pick : (m : Mark) → next i ≡ m → Yields (λ k r. IsType k i0 r) (unsigned_by m i)
     pick mark.Short e = yields_pure (λ k r. IsType k i0 r) kind.U16 (past mark.Int (drop 1 i)) (inr (i, first, (drop 1 i, takes_it mark.Short i refl e, may mark.Int (drop 1 i) refl)))
     pick mark.Long e =
@@ -79,6 +79,7 @@ type_sound i = pick (next i) refl
         pick : (b : Bool) → sees mark.Int (drop 1 i) ≡ b → IsType kind.I16 i (cond b (drop 1 (drop 1 i)) (drop 1 i))
         pick true seen = inr (drop 1 i, takes_it mark.Short i refl e, takes mark.Int (drop 1 i) refl seen)
         pick false seen = let x = takes_it mark.Short i refl e in inl (inl (x.0, ap word_kind x.1, x.2))
+
     pick : (m : Mark) → next i ≡ m → Yields (λ k r. IsType k i r) (type_by m i)
     pick mark.Unsigned e = unsigned_sound i (drop 1 i) (takes_it mark.Unsigned i refl e)
     pick mark.Short e = short e
