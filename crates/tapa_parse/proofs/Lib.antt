@@ -8,3 +8,4 @@ pub mod CompleteTypes
 pub mod CompleteLevels
 pub mod Begins
 pub mod CompleteExpressions
+pub mod Lists
