@@ -1,8 +1,13 @@
-pub mod Characters
-pub mod Literals
-pub mod Lexemes
 pub mod ArrayUse
+pub mod Characters
+pub mod Grammar
 pub mod LeafKinds
+pub mod Lexemes
+pub mod Limits
+pub mod Literals
+pub mod Spans
 pub mod StreamUse
+pub mod Symbols
+pub mod Trees
 pub mod Typed
 pub mod WellFormed

@@ -1,0 +1,20 @@
+-- What the parser answers.
+use Rattle.std.specs.Prelude.{◌≡◌, List, [], ◌∷◌, Result, Ok, Err}
+use Rattle.tapa_base.specs.declared.text.Place.{Place}
+use Rattle.tapa_syntax.specs.declared.tree.File.{File}
+use Rattle.tapa_syntax.specs.Symbols.{Symbol}
+use Rattle.tapa_syntax.specs.Trees.{ItemTree, file_of}
+use Rattle.tapa_parse.specs.declared.fault.ParseFault.{ParseFault}
+use Rattle.tapa_parse.specs.declared.fault.ParseFault.TheVariants.{At, OutOfMemory}
+use Rattle.tapa_parse.specs.Readers.{Outcome}
+
+-- the place of the first symbol that is left
+abbrev pub IsRefusedAt : Place → List Symbol → Type 0
+IsRefusedAt place [] = Unit {0}
+IsRefusedAt place (x ∷ rest) = place ≡ x.place
+
+-- the answer is what reading gives, unless memory ran out
+abbrev pub Reads : Result File ParseFault → Outcome (List ItemTree) → Type 0
+Reads (Ok file) outcome = (left : List Symbol) × (outcome ≡ Ok (file_of file, left))
+Reads (Err OutOfMemory) outcome = Unit {0}
+Reads (Err (At code place)) outcome = (left : List Symbol) × IsRefusedAt place left × (outcome ≡ Err (code, left))

@@ -1,0 +1,58 @@
+//! The tree of a source.
+
+ghost use Rattle.std.specs.Prelude.{◌≡◌, ◌<◌, ◌-◌, ◌^◌, length};
+ghost use Rattle.tapa_syntax.specs.Symbols.{symbols_of};
+ghost use Rattle.tapa_syntax.specs.Limits.{most_levels, most_operators};
+ghost use Rattle.tapa_parse.specs.Answers.{Reads, IsRefusedAt};
+ghost use Rattle.tapa_parse.specs.Reading as spec;
+
+use crate::fault::{Fault, ParseFault};
+use crate::parser::{MOST_LEVELS, Parser};
+use std::alloc::Global;
+use tapa_base::Place;
+use tapa_syntax::{File, Lexeme};
+
+/// The place behind the last byte.
+fn end_place(text: &[u8]) -> Place
+    requires { length text.now < 2 ^ 32 - 1 }
+{
+    let mut line = 1;
+    let mut col = 1;
+    for turn in 0..text.len() {
+        if text[turn] == b'\n' {
+            line += 1;
+            col = 1;
+        } else {
+            col += 1;
+        }
+    }
+    Place { line, col }
+}
+
+fn refused_place(parser: &Parser, text: &[u8]) -> Place
+    requires { length text.now < 2 ^ 32 - 1 }
+    ensures { IsRefusedAt result parser.now }
+{
+    if parser.is_left() {
+        parser.place()
+    } else {
+        end_place(text)
+    }
+}
+
+/// The tree of the lexemes of a text, or the first lexeme that is refused. Which of the two codes is told where no
+/// lexeme is left, and that the place behind the last byte is told then, is shown by tests.
+pub fn parse(alloc: Global, lexemes: &[Lexeme], text: &[u8]) -> Result<File, ParseFault>
+    requires { length text.now < 2 ^ 32 - 1 }
+    ensures { Reads result (spec.file most_operators (spec.below most_levels) (symbols_of text.now lexemes.now)) }
+{
+    let mut parser = Parser::new(alloc, text, lexemes);
+    match parser.file(MOST_LEVELS) {
+        Ok(file) => Ok(file),
+        Err(Fault::OutOfMemory) => Err(ParseFault::OutOfMemory),
+        Err(Fault::Refused(code)) => Err(ParseFault::At {
+            code,
+            place: refused_place(&parser, text),
+        }),
+    }
+}
