@@ -5,6 +5,7 @@ pub mod Late
 pub mod Reach
 pub mod Statements
 pub mod Wired
+pub mod WellFormed
 pub mod Clocked
 pub mod Bound
 pub mod SlowSteps
