@@ -12,3 +12,4 @@ pub mod SlowSteps
 pub mod SlowFlows
 pub mod Local
 pub mod Ends
+pub mod Values
