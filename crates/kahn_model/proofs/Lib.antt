@@ -13,3 +13,4 @@ pub mod SlowFlows
 pub mod Local
 pub mod Ends
 pub mod Values
+pub mod Fits
