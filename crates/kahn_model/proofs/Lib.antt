@@ -14,3 +14,4 @@ pub mod Local
 pub mod Ends
 pub mod Values
 pub mod Fits
+pub mod FitsNetwork
