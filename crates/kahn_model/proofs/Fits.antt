@@ -1,5 +1,5 @@
 -- A leaf that is typed puts tokens of the kinds of its streams and stores values of the kinds of its memories.
-use Rattle.std.proofs.Common.{◌≡◌, ℕ, zero, suc, ◌+◌, ◌-◌, ◌*◌, ◌^◌, ◌<◌, List, [], ◌∷◌, get_or, replicate, refl, subst, arith}
+use Rattle.std.proofs.Common.{◌≡◌, ℕ, zero, suc, ◌-◌, ◌*◌, ◌^◌, ◌<◌, List, [], ◌∷◌, get_or, replicate, subst, arith}
 use Rattle.std.specs.Prelude.{slice_index, slice_index_or, slice_set}
 use Rattle.std.proofs.lemmas.Nat.{pow_pos}
 use Rattle.tapa_base.specs.declared.token.Token.{Token}
@@ -14,7 +14,7 @@ use Rattle.tapa_syntax.specs.declared.program.Stmt.{Stmt, Row_of-Stmt, end_of-St
 use Rattle.tapa_syntax.specs.declared.program.Stmt.TheVariants.{Set, SetCell, SetCellBy, Store as StoreCell, StoreBy, ReadVar, ReadCell, ReadStore, Write, Open as OpenIt, Close, Discard, Clear, If', Loop', Break, Continue}
 use Rattle.tapa_syntax.specs.LeafKinds.{Kinds}
 use Rattle.tapa_syntax.specs.Typed.{HasKind, IsTyped, AreTyped, IsTypedBody, right_kind, result_kind}
-use Rattle.kahn_model.specs.Behavior.{Action, Local, Put, Load, Store, StreamOperation, Read as ByRead, Peek as ByPeek, TestEot, Open as ByOpen, Behavior, Finished, OutOfTurns, Act, Await, Answer, judge_token}
+use Rattle.kahn_model.specs.Behavior.{Action, Local, Load, Store, Read as ByRead, Peek as ByPeek, TestEot, Open as ByOpen, Behavior, Finished, Act, Await, Answer, judge_token}
 use Rattle.kahn_model.specs.Trace.{State, cell, with_cell, set_var, set_cell, store_cell, cells_of, cleared, at_zero, expr, locals, turns, stmt, block, statements, job_of}
 use Rattle.kahn_model.specs.Fits.{IsTokenOf, ActionFits, KeepsKinds}
 use Rattle.kahn_model.proofs.Values.{converted_fits, applied_fits}

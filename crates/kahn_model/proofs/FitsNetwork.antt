@@ -1,11 +1,11 @@
 -- In a well-formed program's network on an input that fits, every token is one of its stream's kind.
-use Rattle.std.proofs.Common.{◌≡◌, ℕ, zero, suc, ◌<◌, ◌≤◌, List, [], ◌∷◌, ◌++◌, length, take, drop, get_or, replicate, map, Bool, true, false, ◌&&◌, Option, Some, None, refl, sym, ap, ◌∙◌, subst, ⊎_elim, arith}
-use Rattle.std.specs.Prelude.{All, ◌==◌, if◌then◌else◌, flat_map, slice_get, slice_index, slice_index_or, slice_set, option_map, unwrap_or}
+use Rattle.std.proofs.Common.{◌≡◌, ℕ, zero, suc, ◌<◌, List, [], ◌∷◌, length, drop, get_or, replicate, map, Bool, true, false, ◌&&◌, Option, Some, None, refl, sym, ap, ◌∙◌, subst, ⊎_elim, arith}
+use Rattle.std.specs.Prelude.{All, ◌==◌, if◌then◌else◌, flat_map, slice_get, slice_index, slice_index_or, slice_set}
 use Rattle.std.proofs.lemmas.Nat.{pow_pos}
-use Rattle.std.proofs.lemmas.Bool.{cases_lt, cases_eq}
+use Rattle.std.proofs.lemmas.Bool.{cases_eq}
 use Rattle.std.proofs.lemmas.Bool.Decides.{nat_tests}
-use Rattle.std.proofs.lemmas.List.Elements.{All-nil, All-cons, All-head, All-tail, All-append, All-drop, All-take, All-get_or}
-use Rattle.std.proofs.lemmas.Option.{slice_get_within, slice_get-get_or, slice_get_past, get_or_from_slice_get}
+use Rattle.std.proofs.lemmas.List.Elements.{All-nil, All-cons, All-head, All-tail, All-append, All-drop, All-take}
+use Rattle.std.proofs.lemmas.Option.{get_or_from_slice_get}
 use Rattle.tapa_base.specs.declared.token.Token.{Token}
 use Rattle.tapa_base.specs.declared.token.Token.TheVariants.{Datum, Eot}
 use Rattle.tapa_base.specs.declared.kind.Kind.{Kind}
@@ -18,15 +18,14 @@ use Rattle.tapa_syntax.specs.declared.program.Instance.{Instance}
 use Rattle.tapa_syntax.specs.declared.program.Leaf.{Leaf}
 use Rattle.tapa_syntax.specs.declared.program.Program.{Program}
 use Rattle.tapa_syntax.specs.declared.program.Scalar.{Scalar}
-use Rattle.tapa_syntax.specs.declared.program.Stream.{Stream}
-use Rattle.tapa_syntax.specs.LeafKinds.{Kinds, kinds_of, writes_of}
+use Rattle.tapa_syntax.specs.LeafKinds.{kinds_of, writes_of}
 use Rattle.tapa_syntax.specs.WellFormed.{IsBoundTo, last_kind, IsInstance, IsWellFormed}
 use Rattle.kahn_model.specs.Behavior.{Action, Local, Put, Load, Store, Tick, Did, Take, See, End, StreamOperation, Read, Peek, TestEot, Open, Behavior, Finished, OutOfTurns, Act, Await, Offer, NoToken, WrongToken, Answer, judge_token, first_offer, takes, tick_of, lists_after, on_offer, ticks}
 use Rattle.kahn_model.specs.Network.{Network, put_on, stream, round}
 use Rattle.kahn_model.specs.Counts.{round_of, ticks_made, written}
-use Rattle.kahn_model.specs.Trace.{State, cell, job_of, act_at, at_streams}
-use Rattle.kahn_model.specs.ProgramNetwork.{stream_at, leaf_job, instance_job, network_with}
-use Rattle.kahn_model.specs.Start.{through, bound_value, with_values, leaf_state, instance_state, first_state, network_of}
+use Rattle.kahn_model.specs.Trace.{cell, job_of, act_at, at_streams}
+use Rattle.kahn_model.specs.ProgramNetwork.{stream_at, leaf_job, instance_job}
+use Rattle.kahn_model.specs.Start.{through, bound_value, with_values, leaf_state, instance_state, network_of}
 use Rattle.kahn_model.specs.Fits.{IsTokenOf, ActionFits, KeepsKinds, TickFits, stream_kind, kind_in_leaf, leaf_of, memory_kind, FitsInput}
 use Rattle.kahn_model.proofs.Values.{converted_fits}
 use Rattle.kahn_model.proofs.Fits.{IsFitState, set_below, zeros_below, job_keeps_kinds}
@@ -193,10 +192,10 @@ first_fits program scalars memories fits i x leaf h =
     let kinds = map (λ (c : Scalar). c.kind) program.scalars.items in
     record {
       vars = with_values_below leaf.scalars.items (map (bound_value kinds scalars) x.scalars.items) (replicate (length leaf.vars.items) 0) (λ y. values_of ((kinds_of leaf).vars y))
-        (λ y. zeros_below (length leaf.vars.items) y _ (pow_pos (bits_of ((kinds_of leaf).vars y))))
-        (λ p y v ey ev.
-        let (b, eb, same) = mapped_there (bound_value kinds scalars) x.scalars.items p v ev in
-        subst (λ q. q < values_of ((kinds_of leaf).vars y)) same (bound_fits program scalars memories fits _ b (h.scalars p y b eb ey)));
+          (λ y. zeros_below (length leaf.vars.items) y _ (pow_pos (bits_of ((kinds_of leaf).vars y))))
+          (λ p y v ey ev.
+          let (b, eb, same) = mapped_there (bound_value kinds scalars) x.scalars.items p v ev in
+          subst (λ q. q < values_of ((kinds_of leaf).vars y)) same (bound_fits program scalars memories fits _ b (h.scalars p y b eb ey)));
       arrays = λ a j. arrays_below leaf.arrays.items a j _ (pow_pos (bits_of ((kinds_of leaf).arrays a)));
       cells = λ p j. cells_below x.memories.items memories p j _ (pow_pos (bits_of ((kinds_of leaf).memories p))) (memory_fits program scalars memories fits i x leaf h p j);
     }

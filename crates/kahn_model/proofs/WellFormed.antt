@@ -1,7 +1,7 @@
 -- A well-formed program is wired: each leaf uses its streams as it declares them, and each stream is bound to the two
 -- instances that write and read it.
-use Rattle.std.proofs.Common.{◌≡◌, ℕ, ◌<◌, List, length, Bool, true, false, Option, Some, None, get_or, refl, sym, ap, ◌∙◌, subst, arith}
-use Rattle.std.specs.Prelude.{slice_get, slice_index, option_map, unwrap_or}
+use Rattle.std.proofs.Common.{◌≡◌, ℕ, List, length, Bool, true, false, Option, Some, None, get_or, refl, sym, ap, ◌∙◌, subst, arith}
+use Rattle.std.specs.Prelude.{slice_get, option_map, unwrap_or}
 use Rattle.std.proofs.lemmas.Option.{slice_get_within, slice_get-get_or}
 use Rattle.tapa_syntax.specs.declared.program.End.{End}
 use Rattle.tapa_syntax.specs.declared.program.Instance.{Instance}
@@ -9,7 +9,7 @@ use Rattle.tapa_syntax.specs.declared.program.Leaf.{Leaf}
 use Rattle.tapa_syntax.specs.declared.program.Program.{Program}
 use Rattle.tapa_syntax.specs.declared.program.Stream.{Stream}
 use Rattle.tapa_syntax.specs.LeafKinds.{kinds_of, writes_of}
-use Rattle.tapa_syntax.specs.WellFormed.{IsEndOf, IsStreamAt, IsLeaf, IsInstance, IsWellFormed}
+use Rattle.tapa_syntax.specs.WellFormed.{IsEndOf, IsInstance, IsWellFormed}
 use Rattle.kahn_model.specs.Network.{IsNetwork}
 use Rattle.kahn_model.specs.ProgramNetwork.{stream_at, end_of, IsBound, IsWired}
 use Rattle.tapa_base.specs.declared.kind.Kind.TheVariants.{U64}
