@@ -16,3 +16,5 @@ pub mod Ends
 pub mod Values
 pub mod Fits
 pub mod FitsNetwork
+pub mod Past
+pub mod RoundLists

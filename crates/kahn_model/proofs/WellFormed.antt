@@ -27,7 +27,7 @@ pub get_there : {A B : Type 0} (xs : List A) (ys : List B) (p : ℕ) (y : B) →
 get_there xs ys p y e h x = let l = slice_get_within ys p y h in slice_get-get_or xs p x (omega arith)
 
 -- the stream at a position, for either end
-bound_end : (program : Program) (i : ℕ) (x : Instance) (leaf : Leaf) → IsInstance program i x leaf → (p : ℕ) (b : Bool) → writes_of leaf.streams.items p ≡ Some b → (r : Stream) × (slice_get program.streams.items (stream_at x p) ≡ Some r) × IsEndOf i b r
+pub bound_end : (program : Program) (i : ℕ) (x : Instance) (leaf : Leaf) → IsInstance program i x leaf → (p : ℕ) (b : Bool) → writes_of leaf.streams.items p ≡ Some b → (r : Stream) × (slice_get program.streams.items (stream_at x p) ≡ Some r) × IsEndOf i b r
 bound_end program i x leaf h p b w =
     let (e, is, ew) = end_there (slice_get leaf.streams.items p) b w in
     let at = h.streams p (stream_at x p) e (get_there x.streams.items leaf.streams.items p e h.streams_len is 0) is in

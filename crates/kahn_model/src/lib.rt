@@ -3,5 +3,7 @@
 
 mod cells;
 pub mod laws;
+pub mod rounds;
 pub mod slow;
+mod start;
 pub mod tick;
