@@ -6,4 +6,6 @@ pub mod laws;
 pub mod rounds;
 pub mod slow;
 mod start;
+#[cfg(test)]
+mod tests;
 pub mod tick;

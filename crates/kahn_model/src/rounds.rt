@@ -130,7 +130,6 @@ fn next_round(
     n: u64,
     lists: &[Vec<Token>],
 ) -> Result<Vec<Vec<Token>>, Fault>
-    requires { IsWellFormed program.now }
     ensures many { IfOk result (λ r. length r.items ≡ length program.now.streams.items) }
     ensures each { IfOk result (λ r. (s : ℕ) → s < length program.now.streams.items → whole r.items s ≡ flat_map (put_on s) (ticks ((network_of program.now scalars.now (rows_of memories.now)).job ((network_of program.now scalars.now (rows_of memories.now)).producer s) n) (whole lists.now))) }
 {
@@ -162,8 +161,7 @@ pub fn streams(
     memories: &[Vec<u64>],
     n: u64,
 ) -> Result<Vec<Vec<Token>>, Fault>
-    requires { IsWellFormed program.now }
-    ensures { IfOk result (λ r. (s : ℕ) → whole r.items s ≡ stream (network_of program.now scalars.now (rows_of memories.now)) n s) }
+    ensures { IsWellFormed program.now → IfOk result (λ r. (s : ℕ) → whole r.items s ≡ stream (network_of program.now scalars.now (rows_of memories.now)) n s) }
 {
     let mut lists = no_tokens(alloc, program.streams.len())?;
     for round in 0..n {
