@@ -16,5 +16,6 @@ pub mod Ends
 pub mod Values
 pub mod Fits
 pub mod FitsNetwork
+pub mod FitsCells
 pub mod Past
 pub mod RoundLists

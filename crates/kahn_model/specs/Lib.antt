@@ -9,3 +9,4 @@ pub mod Slow
 pub mod Outcome
 pub mod Start
 pub mod Fits
+pub mod Cells

@@ -1,4 +1,6 @@
--- The job of a leaf body: a recursion on its statements.
+-- The job of a leaf body: a recursion on its statements (ISO C++ [stmt.stmt], [expr]; TAPA, streams and memories).
+-- Operands are evaluated from left to right, an operation's index before it, and a value before the index that it is
+-- assigned to; where C++ leaves the order open, this one is taken.
 use Rattle.std.specs.Prelude.{ℕ, zero, suc, ◌-◌, ◌*◌, ◌^◌, List, [], ◌∷◌, length, replicate, slice_index, slice_index_or, slice_set}
 use Rattle.tapa_base.specs.declared.token.Token.TheVariants.{Datum, Eot as EotToken}
 use Rattle.tapa_base.specs.Kinds.{bits_of, converted}

@@ -1,4 +1,5 @@
-// Streams of a network of tasks, by Kahn's rounds and by counts of ticks.
+//! Streams of a network of tasks, by Kahn's rounds and by counts of ticks: the definitions, their laws, and a plain slow
+//! run of the definitions.
 #![tactic(auto)]
 
 mod cells;

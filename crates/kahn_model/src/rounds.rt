@@ -52,16 +52,16 @@ fn instance_ticks(
 }
 
 // The token that a tick puts on stream s.
-fn put_by(tick: Tick, s: u32) -> Option<Token>
+fn put_by(tick: Tick, s: usize) -> Option<Token>
     ensures { option_to_list result ≡ put_on s tick }
 {
     match tick {
-        Tick::Did(Action::Put(r, token)) => { if r == s { Some(token) } else { None } }
+        Tick::Did(Action::Put(r, token)) => { if r as usize == s { Some(token) } else { None } }
         _ => None,
     }
 }
 
-fn push_put(tokens: &mut Vec<Token>, tick: Tick, s: u32) -> Result<(), AllocError>
+fn push_put(tokens: &mut Vec<Token>, tick: Tick, s: usize) -> Result<(), AllocError>
     ensures { IfOk result (λ u. tokens.new.items ≡ tokens.old.items ++ put_on s tick) }
 {
     if let Some(token) = put_by(tick, s) {
@@ -71,7 +71,7 @@ fn push_put(tokens: &mut Vec<Token>, tick: Tick, s: u32) -> Result<(), AllocErro
 }
 
 // The tokens that ticks put on stream s.
-fn puts_on(alloc: Global, ticks: &[Tick], s: u32) -> Result<Vec<Token>, AllocError>
+fn puts_on(alloc: Global, ticks: &[Tick], s: usize) -> Result<Vec<Token>, AllocError>
     ensures { IfOk result (λ v. v.items ≡ flat_map (put_on s) ticks.now) }
 {
     let mut tokens = Vec::new(alloc);
@@ -81,10 +81,10 @@ fn puts_on(alloc: Global, ticks: &[Tick], s: u32) -> Result<Vec<Token>, AllocErr
     Ok(tokens)
 }
 
-fn producer_of(program: &Program, s: u32) -> u32
+fn producer_of(program: &Program, s: usize) -> u32
     ensures { result ≡ end_of (λ (r : Stream). r.producer) (slice_get program.now.streams.items s) }
 {
-    match program.streams.get(s as usize) {
+    match program.streams.get(s) {
         Some(stream) => stream.producer,
         None => 0,
     }
@@ -96,7 +96,7 @@ fn next_stream(
     program: &Program,
     scalars: &[u64],
     memories: &[Vec<u64>],
-    s: u32,
+    s: usize,
     n: u64,
     lists: &[Vec<Token>],
 ) -> Result<Vec<Token>, Fault>
@@ -135,7 +135,7 @@ fn next_round(
 {
     let mut next = Vec::new(alloc);
     for s in 0..program.streams.len() {
-        let tokens = next_stream(alloc, program, scalars, memories, s as u32, n, lists)?;
+        let tokens = next_stream(alloc, program, scalars, memories, s, n, lists)?;
         push_list(&mut next, tokens)?;
     }
     Ok(next)

@@ -1,4 +1,4 @@
-// The trace of an instance, computed as it is defined.
+//! The trace of an instance, computed as it is defined.
 
 ghost use Rattle.std.specs.Prelude.{◌≡◌, ◌∷◌, ◌++◌, [], length, replicate, slice_index_or, IfOk, MatchOption};
 ghost use Rattle.kahn_model.specs.declared.tick.StreamOperation.{StreamOperation};
