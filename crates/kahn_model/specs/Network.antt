@@ -1,10 +1,11 @@
--- Networks of jobs: Kahn's rounds, and counts of ticks.
+-- Networks of tasks and Kahn's rounds: from streams without a token, what the tasks give on what they gave before (Kahn
+-- 1974).
 use Rattle.std.specs.Prelude.{◌≡◌, ℕ, zero, suc, ◌≤◌, List, [], ◌∷◌, ◌==◌, if◌then◌else◌, flat_map}
 use Rattle.tapa_base.specs.declared.token.Token.{Token}
-use Rattle.kahn_model.specs.Job.{Action, Put, Tick, Did, Take, Behavior, Finished, OutOfTurns, Act, Await, ticks, Extends, Lasts}
+use Rattle.kahn_model.specs.Behavior.{Action, Put, Tick, Did, Take, Behavior, Finished, OutOfTurns, Act, Await, ticks, Extends, Lasts}
 
--- a network: for each instance a job, by the number of tests that each run of a loop may make, and for each stream
--- its two ends and its depth
+-- a network: for each instance a job, which has a behavior for each number of tests that a run of a loop may make, and
+-- for each stream its two ends and its depth
 pub record Network : Type 0 where
   pub size : ℕ
   pub job : ℕ → ℕ → Behavior
@@ -12,7 +13,7 @@ pub record Network : Type 0 where
   pub consumer : ℕ → ℕ
   pub depth : ℕ → ℕ
 
--- a job puts on no stream and waits for no stream but its own
+-- a behavior puts on no stream and awaits no stream but its own
 abbrev pub OwnAct : (ℕ → ℕ) → ℕ → Action → Type 0
 OwnAct producer i (Put s t) = producer s ≡ i
 OwnAct producer i _ = Unit {0}

@@ -1,7 +1,12 @@
-// Streams of a network of tasks, by Kahn's rounds and by counts of ticks.
+//! Streams of a network of tasks, by Kahn's rounds and by counts of ticks: the definitions, their laws, and a plain slow
+//! run of the definitions.
 #![tactic(auto)]
 
+mod cells;
 pub mod laws;
-mod rows;
+pub mod rounds;
 pub mod slow;
+mod start;
+#[cfg(test)]
+mod tests;
 pub mod tick;

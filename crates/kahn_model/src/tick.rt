@@ -1,8 +1,9 @@
-// What a job does, one step at a time.
+//! What a task does, one tick at a time.
 
 use tapa_base::Token;
 
-/// An act that waits for no token.
+/// An act that waits for no token: a local step, a token put on a stream, a cell of a memory loaded, or stored with a
+/// value.
 #[derive(Clone, Copy, PartialEq, Eq, Debug)]
 pub enum Action {
     Local,
@@ -20,7 +21,8 @@ pub enum Tick {
     End,
 }
 
-/// Where the ticks end.
+/// Why the ticks end: the task has ended, a list is used up, the next token is none that the operation may have, or a
+/// loop has made its tests.
 #[derive(Clone, Copy, PartialEq, Eq, Debug)]
 pub enum Mark {
     Ended,
@@ -29,7 +31,8 @@ pub enum Mark {
     Turns,
 }
 
-/// An operation that waits for a token.
+/// An operation that waits for a token. `Read` and `Open` take it, `Peek` and `TestEot` leave it; `Read` and `Peek` are for
+/// data, `Open` is for the end of a transaction, and `TestEot` tells which of them is next.
 #[derive(Clone, Copy, PartialEq, Eq, Debug)]
 pub enum StreamOperation {
     Read,

@@ -1,4 +1,6 @@
--- What a job does: its ticks on whole lists of tokens.
+-- What a task does: a tree of its acts and of what it awaits, with a branch for each answer of its streams (an
+-- interaction tree: Xia et al., POPL 2020), and its ticks on whole lists of tokens (Kahn, The semantics of a simple
+-- language for parallel programming, 1974).
 use Rattle.std.specs.Prelude.{◌≡◌, ℕ, pred, List, [], ◌∷◌, Bool, true, false, ◌&&◌, ◌==◌, if◌then◌else◌, drop}
 pub use Rattle.kahn_model.specs.declared.tick.Action.{Action}
 pub use Rattle.kahn_model.specs.declared.tick.Action.TheVariants.{Local, Put, Load, Store}
@@ -11,15 +13,15 @@ pub use Rattle.kahn_model.specs.declared.tick.StreamOperation.TheVariants.{Read,
 use Rattle.tapa_base.specs.declared.token.Token.{Token}
 use Rattle.tapa_base.specs.declared.token.Token.TheVariants.{Datum, Eot}
 
--- a job for every answer that its streams may give: each path has its acts in order, and a path that
--- would make more tests of a loop than are allowed ends in OutOfTurns
+-- each path has its acts in order, and a path that would make more tests of a loop than are allowed ends in OutOfTurns
 pub data Behavior : Type 0 where
   Finished : Behavior
   OutOfTurns : Behavior
   Act : (a : Action) (rest : Behavior) → Behavior
   Await : (s : ℕ) (how : StreamOperation) (rest : ℕ → Behavior) → Behavior
 
--- what an operation finds on a list: nothing, a bad token, or a token with the value that it gives
+-- what an operation finds on a list: nothing, a token that it may not have, or a token with the value that it gives
+-- (TAPA: read and peek are for data, open is for the end of a transaction, eot tells which of them is next)
 pub data Offer : Type 0 where
   NoToken : Offer
   WrongToken : Offer
@@ -60,7 +62,7 @@ on_offer NoToken a b f = a
 on_offer WrongToken a b f = b
 on_offer (Answer t v) a b f = f t v
 
--- the ticks of a job on whole lists
+-- the ticks of a behavior on whole lists
 abbrev pub ticks : Behavior → (ℕ → List Token) → List Tick
 ticks Finished ins = End ∷ []
 ticks OutOfTurns ins = []
@@ -76,14 +78,14 @@ mark (Act a rest) ins = mark rest ins
 mark (Await s how rest) ins =
     on_offer (first_offer how (ins s)) (Needs s) (Bad s) (λ t v. mark (rest v) (lists_after how s ins))
 
--- the second tree is the first, where the first is not cut
+-- the second tree is the first, where the first is not out of turns
 abbrev pub Extends : Behavior → Behavior → Type 0
 Extends Finished b = b ≡ Finished
 Extends OutOfTurns b = Unit {0}
 Extends (Act a rest) b = (rest' : Behavior) × (b ≡ Act a rest') × Extends rest rest'
 Extends (Await s how rest) b = (rest' : ℕ → Behavior) × (b ≡ Await s how rest') × ((v : ℕ) → Extends (rest v) (rest' v))
 
--- a path that is cut has at least n ticks before
+-- a path that is out of turns has at least n ticks before
 abbrev pub Lasts : Behavior → ℕ → Type 0
 Lasts Finished n = Unit {0}
 Lasts OutOfTurns n = n ≡ 0
