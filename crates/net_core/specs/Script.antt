@@ -1,0 +1,48 @@
+-- The job of a list of steps.
+use Rattle.std.specs.Prelude.{◌≡◌, ℕ, ◌+◌, ◌<◌, List, [], ◌∷◌, ◌++◌, length, drop, Bool, true, false}
+use Rattle.kahn_model.specs.declared.tick.Tick.{Tick}
+use Rattle.kahn_model.specs.declared.tick.Action.TheVariants.{Local, Put}
+use Rattle.kahn_model.specs.declared.tick.StreamOperation.TheVariants.{Read}
+use Rattle.kahn_model.specs.Job.{Behavior, Finished, OutOfTurns, Act, Await}
+use Rattle.net_core.specs.declared.ports.Ports.{Ports}
+use Rattle.net_core.specs.declared.steps.Step.{Step}
+use Rattle.net_core.specs.declared.steps.Step.TheVariants.{Work, Send, Receive}
+use Rattle.net_core.specs.declared.steps.Script.{Script}
+use Rattle.net_core.specs.Run.{InRange}
+use Rattle.net_core.specs.Follow.{Rest, Over, Still, ticks_left, mark_left, left, Follows, Going}
+use Rattle.net_core.specs.Ports.{waiting, Moved}
+use Rattle.kahn_model.specs.Prefix.{IsPrefixOf}
+use Rattle.tapa_base.specs.declared.token.Token.{Token}
+
+abbrev pub script : List Step → Behavior
+script [] = Finished
+script (Work ∷ rest) = Act Local (script rest)
+script (Send p t ∷ rest) = Act (Put p t) (script rest)
+script (Receive p ∷ rest) = Await p Read (λ v. script rest)
+
+abbrev pub rest_by : Bool → List Step → Rest
+rest_by true steps = Over
+rest_by false steps = Still (script steps)
+
+abbrev pub rest_of : Script → Rest
+rest_of s = rest_by s.ended (drop s.at s.steps.items)
+
+abbrev pub AreInRange : ℕ → Rest → Type 0
+AreInRange m Over = Unit {0}
+AreInRange m (Still a) = InRange m a
+
+-- a script stands for a job after these ticks
+pub record IsAt (s : Script) (job : ℕ → Behavior) (ts : List Tick) : Type 0 where
+  pub follows : Follows job ts (λ n. rest_of s)
+  pub count : length ts ≡ s.made
+  pub in_range : (m : ℕ) → ((n : ℕ) → InRange m (job n)) → AreInRange m (rest_of s)
+
+-- one tick of a call
+pub record GoesTo (rest : Rest) (before : Ports) (next : Rest) (after : Ports) : Type 0 where
+  pub tick : Tick
+  pub step :
+      (ins : ℕ → List Token) → IsPrefixOf (tick ∷ []) (ticks_left rest ins) → (ticks_left rest ins ≡ tick ∷ ticks_left next (left (tick ∷ []) ins)) × (mark_left rest ins ≡ mark_left next (left (tick ∷ []) ins))
+  pub more : List Tick
+  pub head : ticks_left rest (λ p. waiting before p) ≡ tick ∷ more
+  pub moved : Moved before (tick ∷ []) after
+  pub in_range : (m : ℕ) → AreInRange m rest → AreInRange m next

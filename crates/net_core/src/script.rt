@@ -1,0 +1,99 @@
+// A body that follows a list of steps.
+
+ghost use Rattle.std.specs.Prelude.{ℕ, ◌≡◌, ◌<◌, ◌≤◌, ◌+◌, ◌^◌, ◌++◌, ◌∷◌, List, [], length, slice_get};
+ghost use Rattle.kahn_model.specs.declared.tick.Tick.{Tick};
+ghost use Rattle.kahn_model.specs.Job.{Behavior};
+ghost use Rattle.net_core.specs.declared.ports.Ports.{Ports};
+ghost use Rattle.net_core.specs.Ports.{ports_of, Moved};
+ghost use Rattle.net_core.specs.Run.{InRange, Agrees};
+ghost use Rattle.net_core.specs.Follow.{IsLook, IsReady};
+ghost use Rattle.net_core.specs.Script.{rest_of, AreInRange, IsAt, GoesTo};
+
+use crate::body::{Body, Pause};
+use crate::ports::Ports;
+use crate::steps::{Script, Step};
+use tapa_base::Token;
+
+impl Script {
+    // The next step.
+    fn step_at(&self) -> Option<Step>
+        ensures { result ≡ slice_get self.now.steps.items self.now.at }
+    {
+        self.steps.get(self.at).copied()
+    }
+
+    // StreamOperation the script stands at its ports.
+    fn look(&self, ports: &Ports) -> Pause
+        requires { AreInRange (ports_of ports.now) (rest_of self.now) }
+        ensures { IsLook (rest_of self.now) ports.now result }
+    {
+        if self.ended {
+            return Pause::Ended;
+        }
+        match self.step_at() {
+            None => Pause::Fuel,
+            Some(Step::Work) => Pause::Fuel,
+            Some(Step::Send(p, _)) => {
+                if ports.room(p) {
+                    Pause::Fuel
+                } else {
+                    Pause::WantsWrite(p)
+                }
+            }
+            Some(Step::Receive(p)) => match ports.front(p) {
+                None => Pause::WantsRead(p),
+                Some(Token::Eot) => Pause::BadToken(p),
+                Some(Token::Datum(_)) => Pause::Fuel,
+            },
+        }
+    }
+
+    // Makes a tick.
+    fn tick(&mut self, ports: &mut Ports)
+        requires ready { IsReady (rest_of self.old) ports.old }
+        requires in_range { AreInRange (ports_of ports.old) (rest_of self.old) }
+        requires few { self.old.made + 1 < 2 ^ 64 }
+        ensures made { self.new.made ≡ self.old.made + 1 }
+        ensures goes { GoesTo (rest_of self.old) ports.old (rest_of self.new) ports.new }
+    {
+        self.made += 1;
+        match self.step_at() {
+            None => {
+                self.ended = true;
+                return;
+            }
+            Some(Step::Work) => {
+                self.at += 1;
+                return;
+            }
+            Some(Step::Send(p, t)) => {
+                self.at += 1;
+                let _put = ports.put(p, t);
+                return;
+            }
+            Some(Step::Receive(p)) => {
+                self.at += 1;
+                let _token = ports.take(p);
+                return;
+            }
+        }
+    }
+}
+
+impl Body for Script {
+    ghost stands = { IsAt };
+
+    fn resume(&mut self, ports: &mut Ports, fuel: u64) -> Pause {
+        for _tick in 0..fuel {
+            match self.look(ports) {
+                Pause::Fuel => self.tick(ports),
+                pause => return pause,
+            }
+        }
+        self.look(ports)
+    }
+
+    fn ticks(&self) -> u64 {
+        self.made
+    }
+}
