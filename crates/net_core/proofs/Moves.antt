@@ -13,7 +13,7 @@ use Rattle.kahn_model.specs.declared.tick.Action.TheVariants.{Local, Put, Load, 
 use Rattle.kahn_model.specs.Network.{put_on, take_from}
 use Rattle.net_core.specs.declared.port.Port.{Port}
 use Rattle.net_core.specs.declared.ports.Ports.{Ports}
-use Rattle.net_core.specs.Ports.{waiting_in, carried_in, room_in, waiting, carried, room_at, ports_of, Moved, Adjusted, many_in, carried_by, waiting_by, room_by, many_of, carried_of, waiting_of, room_of, Refit}
+use Rattle.net_core.specs.Ports.{waiting_in, carried_in, room_in, waiting, carried, room_at, port_count, Moved, Adjusted, port_count_in, carried_by, waiting_by, room_by, port_count_of, carried_of, waiting_of, room_of, IsReloaded}
 
 pub drop_sum : {A : Type 0} (m n q : ℕ) (xs : List A) → q ≡ m + n → drop n (drop m xs) ≡ drop q xs
 drop_sum zero n q xs e = ap (λ k. drop k xs) (omega arith)
@@ -173,13 +173,13 @@ pub adjust_at : (a b : Ports) (s : ℕ) (r : Port) → s < length a.ports.items 
 adjust_at a b s r h eb = ap (λ l. slice_get l s) eb ∙ get_set_same a.ports.items s r h
 
 -- one instance's ports among all
-pub refit : (all new : List Ports) (i p : ℕ) (x y : Ports) → slice_get all i ≡ Some x → new ≡ slice_set all i y → Adjusted x p y → Refit all i p new
-refit all new i p x y e en a = record {
+pub reloaded : (all new : List Ports) (i p : ℕ) (x y : Ports) → slice_get all i ≡ Some x → new ≡ slice_set all i y → Adjusted x p y → IsReloaded all i p new
+reloaded all new i p x y e en a = record {
   len = ap length en ∙ length-set all i y;
-  many = λ j.
+  as_many = λ j.
       ⊎_elim
-      (λ (q : i ≡ j). subst (λ z. many_of new z ≡ many_of all z) q (ap many_in here ∙ a.as_many ∙ ap many_in (sym e)))
-      (λ (d : i ≡ j → ⊥). ap many_in (other j d))
+      (λ (q : i ≡ j). subst (λ z. port_count_of new z ≡ port_count_of all z) q (ap port_count_in here ∙ a.as_many ∙ ap port_count_in (sym e)))
+      (λ (d : i ≡ j → ⊥). ap port_count_in (other j d))
       (cases_eq i j);
   carries = λ j q.
       ⊎_elim

@@ -5,8 +5,8 @@ use Rattle.std.proofs.lemmas.Bool.{cases_lt}
 use Rattle.std.proofs.lemmas.Option.{slice_get_within}
 use Rattle.tapa_syntax.specs.declared.program.Program.{Program}
 use Rattle.net_core.specs.declared.net.Net.{Net}
-use Rattle.net_core.specs.Fill.{IsIn}
-use Rattle.net_core.specs.Stand.{ticks_of}
+use Rattle.net_core.specs.Load.{IsIn}
+use Rattle.net_core.specs.State.{total_ticks}
 use Rattle.net_core.specs.Settle.{IsQuiet, Visited, Passed}
 
 -- an instance is quiet, or on the new list, or still to be visited

@@ -13,11 +13,11 @@ use Rattle.kahn_model.proofs.Reach.{total_has}
 use Rattle.net_core.specs.declared.body.Pause.{Pause}
 use Rattle.net_core.specs.declared.body.Pause.TheVariants.{Fuel}
 use Rattle.net_core.specs.declared.net.Net.{Net}
-use Rattle.net_core.specs.Bounded.{IsSound, the_net, stream_at, Reads, Writes}
+use Rattle.net_core.specs.Bounded.{IsConnected, network_of, stream_at, Reads, Writes}
 use Rattle.net_core.specs.Waits.{HoldsPause}
-use Rattle.net_core.specs.Fill.{IsIn, AreWoken}
-use Rattle.net_core.specs.Stand.{NetAt, at, ticks_of, Called}
-use Rattle.net_core.specs.Settle.{IsQuiet, Limited, Visited, Passed}
+use Rattle.net_core.specs.Load.{IsIn, AreWoken}
+use Rattle.net_core.specs.State.{NetAt, at, total_ticks, HasResumed}
+use Rattle.net_core.specs.Settle.{IsQuiet, IsLimited, Visited, Passed}
 use Rattle.net_core.proofs.Moves.{get_set_same, get_set_other}
 use Rattle.net_core.proofs.Chunk.{plus, total_plus}
 
@@ -37,7 +37,7 @@ decide_in x (y ∷ xs) =
     no d n zero e = d (cc)
     no d n (suc m) e = n (m, e)
 
-module _ {B : Type 0} (Stands : B → (ℕ → Behavior) → List Tick → Type 0) (old new : Net B) (i fuel : ℕ) (pause : Pause) (made : ℕ) (c : Called Stands old new i fuel pause made) (sound : IsSound old.program) (inside : i < length old.program.instances.items) (plen : length old.pauses.items ≡ length old.program.instances.items) where
+module _ {B : Type 0} (Stands : B → (ℕ → Behavior) → List Tick → Type 0) (old new : Net B) (i fuel : ℕ) (pause : Pause) (made : ℕ) (c : HasResumed Stands old new i fuel pause made) (connected : IsConnected old.program) (inside : i < length old.program.instances.items) (plen : length old.pauses.items ≡ length old.program.instances.items) where
   abbrev P : Program
   P = old.program
 
@@ -53,12 +53,12 @@ module _ {B : Type 0} (Stands : B → (ℕ → Behavior) → List Tick → Type 
   none_made : made ≡ 0 → at new ≡ at old
   none_made e = fun_ext (λ j. c.counts j ∙ grind (arith, nat_tests))
 
-  size_in : i < (the_net P).size
-  size_in = let e = sound.size in omega arith
+  size_in : i < (network_of P).size
+  size_in = let e = connected.size in omega arith
 
-  ticks_after : new.program ≡ old.program → ticks_of new ≡ ticks_of old + made
+  ticks_after : new.program ≡ old.program → total_ticks new ≡ total_ticks old + made
   ticks_after e =
-      ap (λ p. total (the_net p).size (at new)) e ∙ ap (total (the_net P).size) counted ∙ total_plus (the_net P).size i made (at old) size_in
+      ap (λ p. total (network_of p).size (at new)) e ∙ ap (total (network_of P).size) counted ∙ total_plus (network_of P).size i made (at old) size_in
 
   pub visited_limit : new.program ≡ old.program → pause ≡ Fuel → (later : List ℕ) → Visited P old new i fuel (fuel - made) later later false
   visited_limit e p later =
@@ -75,22 +75,22 @@ module _ {B : Type 0} (Stands : B → (ℕ → Behavior) → List Tick → Type 
       }
 
   module _ (stopped : pause ≡ Fuel → ⊥) where
-    quiet_own : ((p : ℕ) → Reads P i p → written (the_net P) (at new) (stream_at P i p) ≡ written (the_net P) (at old) (stream_at P i p)) → ((p : ℕ) → Writes P i p → taken (the_net P) (at new) (stream_at P i p) ≡ taken (the_net P) (at old) (stream_at P i p)) → IsQuiet P new i
+    quiet_own : ((p : ℕ) → Reads P i p → written (network_of P) (at new) (stream_at P i p) ≡ written (network_of P) (at old) (stream_at P i p)) → ((p : ℕ) → Writes P i p → taken (network_of P) (at new) (stream_at P i p) ≡ taken (network_of P) (at old) (stream_at P i p)) → IsQuiet P new i
     quiet_own w t = record { pause = pause; last = own_pause; stopped = stopped; holds = c.own stopped w t }
 
-    quiet_other : (j : ℕ) → (j ≡ i → ⊥) → j < length P.instances.items → ((s : ℕ) → (the_net P).consumer s ≡ j → written (the_net P) (at new) s ≡ written (the_net P) (at old) s) → ((s : ℕ) → (the_net P).producer s ≡ j → taken (the_net P) (at new) s ≡ taken (the_net P) (at old) s) → IsQuiet P old j → IsQuiet P new j
+    quiet_other : (j : ℕ) → (j ≡ i → ⊥) → j < length P.instances.items → ((s : ℕ) → (network_of P).consumer s ≡ j → written (network_of P) (at new) s ≡ written (network_of P) (at old) s) → ((s : ℕ) → (network_of P).producer s ≡ j → taken (network_of P) (at new) s ≡ taken (network_of P) (at old) s) → IsQuiet P old j → IsQuiet P new j
     quiet_other j d l w t q = record { pause = q.pause; last = other_pause j d ∙ q.last; stopped = q.stopped; holds = c.others j q.pause d l w t q.stopped q.holds }
 
     pub quiet_none : made ≡ 0 → (later : List ℕ) (j : ℕ) → j < length P.instances.items → (j ≡ i) ⊎ (IsQuiet P old j ⊎ IsIn j later) → IsQuiet P new j ⊎ IsIn j later
     quiet_none e later j l h =
         ⊎_elim
-        (λ (q : j ≡ i). inl (subst (IsQuiet P new) (sym q) (quiet_own (λ p d. ap (λ m. written (the_net P) m (stream_at P i p)) same) (λ p d. ap (λ m. taken (the_net P) m (stream_at P i p)) same))))
+        (λ (q : j ≡ i). inl (subst (IsQuiet P new) (sym q) (quiet_own (λ p d. ap (λ m. written (network_of P) m (stream_at P i p)) same) (λ p d. ap (λ m. taken (network_of P) m (stream_at P i p)) same))))
         (λ (d : j ≡ i → ⊥).
         ⊎_elim
         (λ (q : j ≡ i). absurd (d q))
         (λ (g : IsQuiet P old j ⊎ IsIn j later).
         ⊎_elim
-        (λ (q : IsQuiet P old j). inl (quiet_other j d l (λ s x. ap (λ m. written (the_net P) m s) same) (λ s x. ap (λ m. taken (the_net P) m s) same) q))
+        (λ (q : IsQuiet P old j). inl (quiet_other j d l (λ s x. ap (λ m. written (network_of P) m s) same) (λ s x. ap (λ m. taken (network_of P) m s) same) q))
         (λ (n : IsIn j later). inr n)
         g)
         h)
@@ -109,8 +109,8 @@ module _ {B : Type 0} (Stands : B → (ℕ → Behavior) → List Tick → Type 
         let no' : IsIn i later' → ⊥ = subst (λ z. IsIn z later' → ⊥) q no in
         inl (subst (IsQuiet P new) (sym q)
         (quiet_own
-        (λ p d. c.written_else (stream_at P i p) (λ r w e. no' (subst (λ z. IsIn z later') (ap (the_net P).producer (sym e) ∙ (sound.plugged i inside).writer r w) ((woken p).writer d))))
-        (λ p d. c.taken_else (stream_at P i p) (λ r w e. no' (subst (λ z. IsIn z later') (ap (the_net P).consumer (sym e) ∙ (sound.plugged i inside).reader r w) ((woken p).reader d)))))))
+        (λ p d. c.written_else (stream_at P i p) (λ r w e. no' (subst (λ z. IsIn z later') (ap (network_of P).producer (sym e) ∙ (connected.plugged i inside).writer r w) ((woken p).writer d))))
+        (λ p d. c.taken_else (stream_at P i p) (λ r w e. no' (subst (λ z. IsIn z later') (ap (network_of P).consumer (sym e) ∙ (connected.plugged i inside).reader r w) ((woken p).reader d)))))))
         (λ (d : j ≡ i → ⊥).
         ⊎_elim
         (λ (q : j ≡ i). absurd (d q))
@@ -118,8 +118,8 @@ module _ {B : Type 0} (Stands : B → (ℕ → Behavior) → List Tick → Type 
         ⊎_elim
         (λ (q : IsQuiet P old j).
         inl (quiet_other j d l
-        (λ s x. c.written_else s (λ r w e. no (subst (λ z. IsIn z later') (ap (the_net P).consumer e ∙ x) ((woken r).reader w))))
-        (λ s x. c.taken_else s (λ r w e. no (subst (λ z. IsIn z later') (ap (the_net P).producer e ∙ x) ((woken r).writer w)))) q))
+        (λ s x. c.written_else s (λ r w e. no (subst (λ z. IsIn z later') (ap (network_of P).consumer e ∙ x) ((woken r).reader w))))
+        (λ s x. c.taken_else s (λ r w e. no (subst (λ z. IsIn z later') (ap (network_of P).producer e ∙ x) ((woken r).writer w)))) q))
         (λ (n : IsIn j later). absurd (no (kept j n)))
         g)
         h)

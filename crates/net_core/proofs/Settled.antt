@@ -1,4 +1,4 @@
--- StreamOperation driving a net ends.
+-- How driving a net ends.
 use Rattle.std.proofs.Common.{◌≡◌, ℕ, ◌+◌, ◌-◌, ◌<◌, ◌≤◌, ◌⊎◌, List, length, Bool, true, false, Option, Some, None, refl, sym, ap, ◌∙◌, subst, ⊎_elim, arith}
 use Rattle.std.specs.Prelude.{slice_get}
 use Rattle.tapa_syntax.specs.declared.program.Program.{Program}
@@ -12,50 +12,50 @@ use Rattle.net_core.specs.declared.body.Pause.{Pause}
 use Rattle.net_core.specs.declared.body.Pause.TheVariants.{Ended, Fuel}
 use Rattle.net_core.specs.declared.outcome.Outcome.TheVariants.{Done, Stopped, Limit}
 use Rattle.net_core.specs.declared.net.Net.{Net}
-use Rattle.net_core.specs.Bounded.{IsSound, the_net, stream_at}
+use Rattle.net_core.specs.Bounded.{IsConnected, network_of, stream_at}
 use Rattle.net_core.specs.Waits.{HoldsPause, IsToldBy}
-use Rattle.net_core.specs.Fill.{IsIn}
-use Rattle.net_core.specs.Stand.{NetAt, at, ticks_of}
-use Rattle.net_core.specs.Settle.{IsQuiet, Limited, EndsAs, AreAllEnded, IsSomeNotEnded, IsSettled}
+use Rattle.net_core.specs.Load.{IsIn}
+use Rattle.net_core.specs.State.{NetAt, at, total_ticks}
+use Rattle.net_core.specs.Settle.{IsQuiet, IsLimited, EndsAs, AreAllEnded, IsSomeNotEnded, IsSettled}
 use Rattle.net_core.proofs.Ends.{stopped, told, is_limit, not_ended}
 
-module _ {B : Type 0} (Stands : B → (ℕ → Behavior) → List Tick → Type 0) (P : Program) (sound : IsSound P) (net : Net B) (n : NetAt Stands net) (same : net.program ≡ P) (budget left : ℕ) (ticks : ticks_of net + left ≡ budget) where
-  reached : IsReachable (the_net P) (at net)
-  reached = subst (λ p. IsReachable (the_net p) (at net)) same n.reachable
+module _ {B : Type 0} (Stands : B → (ℕ → Behavior) → List Tick → Type 0) (P : Program) (connected : IsConnected P) (net : Net B) (n : NetAt Stands net) (same : net.program ≡ P) (budget left : ℕ) (ticks : total_ticks net + left ≡ budget) where
+  reached : IsReachable (network_of P) (at net)
+  reached = subst (λ p. IsReachable (network_of p) (at net)) same n.reachable
 
-  founded : IsFounded (the_net P) (at net)
-  founded = reach_founded (the_net P) (at net) reached
+  founded : IsFounded (network_of P) (at net)
+  founded = reach_founded (network_of P) (at net) reached
 
-  ticks_is : ticks_of net ≡ total (the_net P).size (at net)
-  ticks_is = ap (λ p. total (the_net p).size (at net)) same
+  ticks_is : total_ticks net ≡ total (network_of P).size (at net)
+  ticks_is = ap (λ p. total (network_of p).size (at net)) same
 
-  pub limit_ends : Limited P net left → EndsAs P net budget Limit
+  pub limit_ends : IsLimited P net left → EndsAs P net budget Limit
   limit_ends l = λ m e.
-      let a = is_limit (the_net P) sound.is_network (at net) l.instance reached l.allowed m e in
+      let a = is_limit (network_of P) connected.is_network (at net) l.instance reached l.allowed m e in
       let t = ticks_is in
       let s = l.spent in
       omega arith
 
   module _ (quiet : (j : ℕ) → j < length P.instances.items → IsQuiet P net j) where
-    inside : (j : ℕ) → j < (the_net P).size → j < length P.instances.items
-    inside j l = let e = sound.size in omega arith
+    inside : (j : ℕ) → j < (network_of P).size → j < length P.instances.items
+    inside j l = let e = connected.size in omega arith
 
-    outside : (j : ℕ) → j < length P.instances.items → j < (the_net P).size
-    outside j l = let e = sound.size in omega arith
+    outside : (j : ℕ) → j < length P.instances.items → j < (network_of P).size
+    outside j l = let e = connected.size in omega arith
 
-    ending : IsEnding (the_net P) (at net)
+    ending : IsEnding (network_of P) (at net)
     ending = record {
       reachable = reached;
       over = λ i a.
-          let l : i < (the_net P).size = a.supplied.inside in
+          let l : i < (network_of P).size = a.supplied.inside in
           let q = quiet i (inside i l) in
-          stopped (the_net P) sound.is_network (at net) founded i l (stream_at P i) q.pause q.stopped q.holds a;
+          stopped (network_of P) connected.is_network (at net) founded i l (stream_at P i) q.pause q.stopped q.holds a;
     }
 
-    pub settled : (j : ℕ) → j < length P.instances.items → (x : Pause) × (slice_get net.pauses.items j ≡ Some (Some x)) × IsToldBy (the_net P) (at net) j (stream_at P j) x
+    pub settled : (j : ℕ) → j < length P.instances.items → (x : Pause) × (slice_get net.pauses.items j ≡ Some (Some x)) × IsToldBy (network_of P) (at net) j (stream_at P j) x
     settled j l =
         let q = quiet j l in
-        (q.pause, q.last, told (the_net P) sound.is_network (at net) founded j (outside j l) (stream_at P j) q.pause q.stopped q.holds)
+        (q.pause, q.last, told (network_of P) connected.is_network (at net) founded j (outside j l) (stream_at P j) q.pause q.stopped q.holds)
 
     pub done_ends : AreAllEnded net.pauses.items → EndsAs P net budget (Done (budget - left))
     done_ends h =
@@ -70,7 +70,7 @@ module _ {B : Type 0} (Stands : B → (ℕ → Behavior) → List Tick → Type 
                 let e = h i (omega arith) in
                 let d = s.1 in
                 let x : s.0 ≡ Ended = cc in
-                subst (λ z. IsToldBy (the_net P) (at net) i (stream_at P i) z) x s.2;
+                subst (λ z. IsToldBy (network_of P) (at net) i (stream_at P i) z) x s.2;
           },
           omega arith,
           omega arith,
@@ -87,7 +87,7 @@ module _ {B : Type 0} (Stands : B → (ℕ → Behavior) → List Tick → Type 
             ending = ending;
             instance = j;
             inside = outside j lj;
-            goes_on = not_ended (the_net P) sound.is_network (at net) founded j (outside j lj) (stream_at P j) q.pause q.stopped (λ e. d (q.last ∙ ap (λ z. Some (Some z)) e)) q.holds;
+            goes_on = not_ended (network_of P) connected.is_network (at net) founded j (outside j lj) (stream_at P j) q.pause q.stopped (λ e. d (q.last ∙ ap (λ z. Some (Some z)) e)) q.holds;
           },
           omega arith,
           omega arith,

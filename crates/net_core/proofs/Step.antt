@@ -25,7 +25,7 @@ use Rattle.kahn_model.proofs.Local.{here, here_all, here_prefix, here_is_fed}
 use Rattle.net_core.specs.declared.ports.Ports.{Ports}
 use Rattle.net_core.specs.declared.body.Pause.{Pause}
 use Rattle.net_core.specs.declared.body.Pause.TheVariants.{Ended as HasEnded, WantsRead, WantsWrite, BadToken, Fuel}
-use Rattle.net_core.specs.Ports.{waiting, carried, room_at, ports_of, Moved}
+use Rattle.net_core.specs.Ports.{waiting, carried, room_at, port_count, Moved}
 use Rattle.net_core.specs.Run.{lists_at, Agrees, HasRoomAt, StopsAt, GoesOnBy, PausesBy, Resumed}
 use Rattle.net_core.specs.Waits.{StopsIn, IsFullFor, HoldsPause}
 use Rattle.net_core.specs.Plug.{tick_at, mark_at, AsksAt, PutsAct, IsAt, TickAt, AreAt, IsPlugged, IsStanding, PortsAre}

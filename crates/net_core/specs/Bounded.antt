@@ -15,7 +15,7 @@ use Rattle.kahn_model.specs.Counts.{written, taken, total, IsReachable, IsEnding
 use Rattle.kahn_model.specs.Whole.{net_of, kinds_of, writes_of}
 use Rattle.net_core.specs.declared.ports.Ports.{Ports}
 use Rattle.net_core.specs.declared.body.Pause.{Pause}
-use Rattle.net_core.specs.Ports.{carried_of, many_of}
+use Rattle.net_core.specs.Ports.{carried_of, port_count_of}
 use Rattle.net_core.specs.Plug.{IsPlugged, IsStanding}
 
 -- the instance and its leaf
@@ -38,8 +38,8 @@ zeros_of (Some leaf) = record {
 abbrev pub first_of : Program → ℕ → State
 first_of program i = zeros_of (leaf_at program i)
 
-unfoldable pub the_net : Program → Network
-the_net program = net_of program (first_of program)
+unfoldable pub network_of : Program → Network
+network_of program = net_of program (first_of program)
 
 -- the job of an instance by the positions of its streams
 abbrev pub job_in : Option Leaf → State → ℕ → Behavior
@@ -73,36 +73,36 @@ Reads program i p = (p < arity program i) × (end_in (leaf_at program i) p ≡ S
 abbrev pub Writes : Program → ℕ → ℕ → Type 0
 Writes program i p = (p < arity program i) × (end_in (leaf_at program i) p ≡ Some true)
 
--- an instance has a leaf with as many streams, which are there
+-- an instance has a leaf with as as_many streams, which are there
 pub record IsBuilt (program : Program) (x : Instance) : Type 0 where
   pub body : x.body < length program.bodies.items
   pub as_many : (leaf : Leaf) → slice_get program.bodies.items x.body ≡ Some leaf → length leaf.streams.items ≡ length x.streams.items
   pub streams : (p : ℕ) → p < length x.streams.items → slice_index x.streams.items p < length program.streams.items
 
 pub record IsLinked (program : Program) (s : ℕ) (r : Stream) : Type 0 where
-  pub producer : (the_net program).producer s ≡ r.producer
-  pub consumer : (the_net program).consumer s ≡ r.consumer
-  pub depth : (the_net program).depth s ≡ r.depth
+  pub producer : (network_of program).producer s ≡ r.producer
+  pub consumer : (network_of program).consumer s ≡ r.consumer
+  pub depth : (network_of program).depth s ≡ r.depth
   pub producer_in : r.producer < length program.instances.items
   pub consumer_in : r.consumer < length program.instances.items
 
 -- what the flat program of an accepted source has
-pub record IsSound (program : Program) : Type 0 where
-  pub is_network : IsNetwork (the_net program)
-  pub size : (the_net program).size ≡ length program.instances.items
-  pub plugged : (i : ℕ) → i < length program.instances.items → IsPlugged (the_net program) i (arity program i) (job_at program i) (stream_at program i) (Reads program i) (Writes program i)
+pub record IsConnected (program : Program) : Type 0 where
+  pub is_network : IsNetwork (network_of program)
+  pub size : (network_of program).size ≡ length program.instances.items
+  pub plugged : (i : ℕ) → i < length program.instances.items → IsPlugged (network_of program) i (arity program i) (job_at program i) (stream_at program i) (Reads program i) (Writes program i)
   pub built : (i : ℕ) (x : Instance) → slice_get program.instances.items i ≡ Some x → IsBuilt program x
   pub linked : (s : ℕ) (r : Stream) → slice_get program.streams.items s ≡ Some r → IsLinked program s r
-  pub written_at : (s : ℕ) → s < length program.streams.items → (p : ℕ) × Writes program ((the_net program).producer s) p × (stream_at program ((the_net program).producer s) p ≡ s)
-  pub read_at : (s : ℕ) → s < length program.streams.items → (p : ℕ) × Reads program ((the_net program).consumer s) p × (stream_at program ((the_net program).consumer s) p ≡ s)
+  pub written_at : (s : ℕ) → s < length program.streams.items → (p : ℕ) × Writes program ((network_of program).producer s) p × (stream_at program ((network_of program).producer s) p ≡ s)
+  pub read_at : (s : ℕ) → s < length program.streams.items → (p : ℕ) × Reads program ((network_of program).consumer s) p × (stream_at program ((network_of program).consumer s) p ≡ s)
 
 -- the count of ticks that a net keeps
 abbrev pub count_of : List ℕ → ℕ → ℕ
 count_of counts i = slice_index counts i
 
 -- a net stands at its count
-pub record NetIs {B : Type 0} (Stands : B → (ℕ → Behavior) → List Tick → Type 0) (program : Program) (bodies : List B) (ports : List Ports) (writers offered taken_list counts : List ℕ) (pauses : List (Option Pause)) : Type 0 where
-  pub reachable : IsReachable (the_net program) (count_of counts)
+pub record IsNetAt {B : Type 0} (Stands : B → (ℕ → Behavior) → List Tick → Type 0) (program : Program) (bodies : List B) (ports : List Ports) (writers offered taken_list counts : List ℕ) (pauses : List (Option Pause)) : Type 0 where
+  pub reachable : IsReachable (network_of program) (count_of counts)
   pub bodies_len : length bodies ≡ length program.instances.items
   pub ports_len : length ports ≡ length program.instances.items
   pub counts_len : length counts ≡ length program.instances.items
@@ -110,8 +110,8 @@ pub record NetIs {B : Type 0} (Stands : B → (ℕ → Behavior) → List Tick �
   pub writers_len : length writers ≡ length program.streams.items
   pub offered_len : length offered ≡ length program.streams.items
   pub taken_len : length taken_list ≡ length program.streams.items
-  pub standing : (i : ℕ) (b : B) → slice_get bodies i ≡ Some b → IsStanding (Stands b) (the_net program) (count_of counts) i (job_at program i) (stream_at program i)
-  pub many : (i : ℕ) → i < length program.instances.items → many_of ports i ≡ arity program i
-  pub carries : (i p : ℕ) → i < length program.instances.items → Writes program i p → carried_of ports i p ≡ written (the_net program) (count_of counts) (stream_at program i p)
-  pub took : (s : ℕ) → s < length program.streams.items → slice_index taken_list s ≡ length (taken (the_net program) (count_of counts) s)
-  pub writes : (s : ℕ) → s < length program.streams.items → Writes program ((the_net program).producer s) (slice_index writers s) × (stream_at program ((the_net program).producer s) (slice_index writers s) ≡ s)
+  pub standing : (i : ℕ) (b : B) → slice_get bodies i ≡ Some b → IsStanding (Stands b) (network_of program) (count_of counts) i (job_at program i) (stream_at program i)
+  pub as_many : (i : ℕ) → i < length program.instances.items → port_count_of ports i ≡ arity program i
+  pub carries : (i p : ℕ) → i < length program.instances.items → Writes program i p → carried_of ports i p ≡ written (network_of program) (count_of counts) (stream_at program i p)
+  pub took : (s : ℕ) → s < length program.streams.items → slice_index taken_list s ≡ length (taken (network_of program) (count_of counts) s)
+  pub writes : (s : ℕ) → s < length program.streams.items → Writes program ((network_of program).producer s) (slice_index writers s) × (stream_at program ((network_of program).producer s) (slice_index writers s) ≡ s)

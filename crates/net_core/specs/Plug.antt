@@ -13,7 +13,7 @@ use Rattle.kahn_model.specs.Network.{Network}
 use Rattle.kahn_model.specs.Counts.{written, taken}
 use Rattle.kahn_model.specs.Trace.{act_at, at_streams}
 use Rattle.net_core.specs.declared.ports.Ports.{Ports}
-use Rattle.net_core.specs.Ports.{waiting, room_at, ports_of}
+use Rattle.net_core.specs.Ports.{waiting, room_at, port_count}
 use Rattle.net_core.specs.Run.{InRange}
 
 abbrev pub tick_at : (ℕ → ℕ) → Tick → Tick
@@ -79,6 +79,6 @@ pub record IsStanding (Stands : (ℕ → Behavior) → List Tick → Type 0) (ne
 
 -- the ports of an instance hold what its streams have
 pub record PortsAre (net : Network) (k : ℕ → ℕ) (ports : Ports) (arity : ℕ) (f : ℕ → ℕ) (R W : ℕ → Type 0) : Type 0 where
-  pub many : ports_of ports ≡ arity
+  pub as_many : port_count ports ≡ arity
   pub waits : (p : ℕ) → R p → waiting ports p ≡ drop (length (taken net k (f p))) (written net k (f p))
   pub room : (p : ℕ) → W p → room_at ports p ≡ net.depth (f p) - (length (written net k (f p)) - length (taken net k (f p)))

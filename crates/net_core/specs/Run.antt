@@ -13,7 +13,7 @@ use Rattle.kahn_model.specs.Prefix.{IsPrefixOf}
 use Rattle.net_core.specs.declared.ports.Ports.{Ports}
 use Rattle.net_core.specs.declared.body.Pause.{Pause}
 use Rattle.net_core.specs.declared.body.Pause.TheVariants.{Ended as HasEnded, WantsRead, WantsWrite, BadToken, Fuel}
-use Rattle.net_core.specs.Ports.{waiting, room_at, ports_of, Moved}
+use Rattle.net_core.specs.Ports.{waiting, room_at, port_count, Moved}
 
 -- a job is at ports that are there
 abbrev pub InRangeAct : ℕ → Action → Type 0
@@ -39,7 +39,7 @@ pub record CanResume (Stands : (ℕ → Behavior) → List Tick → Type 0) (por
   pub job : ℕ → Behavior
   pub ticks : List Tick
   pub stands : Stands job ticks
-  pub in_range : (n : ℕ) → InRange (ports_of ports) (job n)
+  pub in_range : (n : ℕ) → InRange (port_count ports) (job n)
   pub agrees : Agrees job ticks ports
   pub fits : length ticks + fuel < 2 ^ 64
 

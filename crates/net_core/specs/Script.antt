@@ -5,9 +5,9 @@ use Rattle.kahn_model.specs.declared.tick.Action.TheVariants.{Local, Put}
 use Rattle.kahn_model.specs.declared.tick.StreamOperation.TheVariants.{Read}
 use Rattle.kahn_model.specs.Job.{Behavior, Finished, OutOfTurns, Act, Await}
 use Rattle.net_core.specs.declared.ports.Ports.{Ports}
-use Rattle.net_core.specs.declared.steps.Step.{Step}
-use Rattle.net_core.specs.declared.steps.Step.TheVariants.{Work, Send, Receive}
-use Rattle.net_core.specs.declared.steps.Script.{Script}
+use Rattle.net_core.specs.declared.script.Step.{Step}
+use Rattle.net_core.specs.declared.script.Step.TheVariants.{Work, Send, Receive}
+use Rattle.net_core.specs.declared.script.Script.{Script}
 use Rattle.net_core.specs.Run.{InRange}
 use Rattle.net_core.specs.Follow.{Rest, Over, Still, ticks_left, mark_left, left, Follows, Going}
 use Rattle.net_core.specs.Ports.{waiting, Moved}

@@ -3,7 +3,7 @@
 ghost use Rattle.std.specs.Prelude.{ℕ, ◌≡◌, ◌<◌, ◌≤◌, ◌↔◌, [], ◌∷◌, length, slice_get, MatchOption, IsTrue, IfOk, MatchBool};
 ghost use Rattle.kahn_model.specs.declared.tick.Tick.TheVariants.{Did, Take};
 ghost use Rattle.kahn_model.specs.declared.tick.Action.TheVariants.{Put};
-ghost use Rattle.net_core.specs.Ports.{waiting, carried, room_at, ports_of, Moved, Adjusted};
+ghost use Rattle.net_core.specs.Ports.{waiting, carried, room_at, port_count, Moved, Adjusted};
 
 use crate::port::Port;
 use tapa_base::Token;
@@ -18,7 +18,7 @@ pub struct Ports {
 impl Ports {
     /// The token that waits at a port.
     pub fn front(&self, s: u32) -> Option<Token>
-        requires { s < ports_of self.now }
+        requires { s < port_count self.now }
         ensures { result ≡ slice_get (waiting self.now s) 0 }
     {
         let port = &self.ports[s as usize];
@@ -27,7 +27,7 @@ impl Ports {
 
     /// Takes the token that waits at a port.
     pub fn take(&mut self, s: u32) -> Option<Token>
-        requires { s < ports_of self.old }
+        requires { s < port_count self.old }
         ensures token { result ≡ slice_get (waiting self.old s) 0 }
         ensures moved { MatchOption result (self.new ≡ self.old) (λ t. Moved self.old (Take s t ∷ []) self.new) }
     {
@@ -43,7 +43,7 @@ impl Ports {
 
     /// Whether a port has room for a token.
     pub fn room(&self, s: u32) -> bool
-        requires { s < ports_of self.now }
+        requires { s < port_count self.now }
         ensures { IsTrue result ↔ 0 < room_at self.now s }
     {
         self.ports[s as usize].room > 0
@@ -51,7 +51,7 @@ impl Ports {
 
     /// Puts a token, where there is room.
     pub fn put(&mut self, s: u32, t: Token) -> bool
-        requires { s < ports_of self.old }
+        requires { s < port_count self.old }
         ensures { MatchBool result (Moved self.old (Did (Put s t) ∷ []) self.new) ((self.new ≡ self.old) × (room_at self.old s ≡ 0)) }
     {
         if !self.room(s) {
@@ -65,9 +65,9 @@ impl Ports {
         }
     }
 
-    /// StreamOperation many tokens wait at a port.
+    /// How as_many tokens wait at a port.
     pub fn left(&self, s: usize) -> usize
-        requires { s < ports_of self.now }
+        requires { s < port_count self.now }
         ensures { result ≡ length (waiting self.now s) }
     {
         let port = &self.ports[s];
@@ -76,7 +76,7 @@ impl Ports {
 
     /// All tokens that were written to a port's stream.
     pub fn carried(&self, s: usize) -> &[Token]
-        requires { s < ports_of self.now }
+        requires { s < port_count self.now }
         ensures { result.now ≡ carried self.now s }
     {
         self.ports[s].carried.as_slice()
@@ -84,7 +84,7 @@ impl Ports {
 
     /// Lets these tokens wait at a port.
     pub fn offer(&mut self, s: usize, tokens: Vec<Token>)
-        requires { s < ports_of self.old }
+        requires { s < port_count self.old }
         ensures adjusted { Adjusted self.old s self.new }
         ensures waits { waiting self.new s ≡ tokens.items }
     {
@@ -95,7 +95,7 @@ impl Ports {
 
     /// Makes room for tokens at a port.
     pub fn make_room(&mut self, s: usize, room: usize) -> Result<(), AllocError>
-        requires { s < ports_of self.old }
+        requires { s < port_count self.old }
         ensures adjusted { Adjusted self.old s self.new }
         ensures room { IfOk result (λ _. room_at self.new s ≡ room) }
     {

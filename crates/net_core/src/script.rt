@@ -4,15 +4,31 @@ ghost use Rattle.std.specs.Prelude.{ℕ, ◌≡◌, ◌<◌, ◌≤◌, ◌+◌,
 ghost use Rattle.kahn_model.specs.declared.tick.Tick.{Tick};
 ghost use Rattle.kahn_model.specs.Job.{Behavior};
 ghost use Rattle.net_core.specs.declared.ports.Ports.{Ports};
-ghost use Rattle.net_core.specs.Ports.{ports_of, Moved};
+ghost use Rattle.net_core.specs.Ports.{port_count, Moved};
 ghost use Rattle.net_core.specs.Run.{InRange, Agrees};
 ghost use Rattle.net_core.specs.Follow.{IsLook, IsReady};
 ghost use Rattle.net_core.specs.Script.{rest_of, AreInRange, IsAt, GoesTo};
 
 use crate::body::{Body, Pause};
 use crate::ports::Ports;
-use crate::steps::{Script, Step};
 use tapa_base::Token;
+
+/// One step.
+#[derive(Clone, Copy, PartialEq, Eq, Debug)]
+pub enum Step {
+    Work,
+    Send(u32, Token),
+    Receive(u32),
+}
+
+/// A list of steps, and how as_many of them were made.
+#[derive(Drop)]
+pub struct Script {
+    pub steps: Vec<Step>,
+    pub at: usize,
+    pub ended: bool,
+    pub made: u64,
+}
 
 impl Script {
     // The next step.
@@ -22,9 +38,9 @@ impl Script {
         self.steps.get(self.at).copied()
     }
 
-    // StreamOperation the script stands at its ports.
+    // How the script stands at its ports.
     fn look(&self, ports: &Ports) -> Pause
-        requires { AreInRange (ports_of ports.now) (rest_of self.now) }
+        requires { AreInRange (port_count ports.now) (rest_of self.now) }
         ensures { IsLook (rest_of self.now) ports.now result }
     {
         if self.ended {
@@ -51,7 +67,7 @@ impl Script {
     // Makes a tick.
     fn tick(&mut self, ports: &mut Ports)
         requires ready { IsReady (rest_of self.old) ports.old }
-        requires in_range { AreInRange (ports_of ports.old) (rest_of self.old) }
+        requires in_range { AreInRange (port_count ports.old) (rest_of self.old) }
         requires few { self.old.made + 1 < 2 ^ 64 }
         ensures made { self.new.made ≡ self.old.made + 1 }
         ensures goes { GoesTo (rest_of self.old) ports.old (rest_of self.new) ports.new }
