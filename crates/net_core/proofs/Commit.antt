@@ -3,7 +3,7 @@ use Rattle.std.proofs.Common.{◌≡◌, ℕ, ◌+◌, ◌-◌, ◌<◌, ◌≤�
 use Rattle.std.specs.Prelude.{flat_map}
 use Rattle.kahn_model.specs.declared.tick.Tick.{Tick}
 use Rattle.kahn_model.specs.Prefix.{IsPrefixOf}
-use Rattle.kahn_model.specs.Job.{ticks}
+use Rattle.kahn_model.specs.Behavior.{ticks}
 use Rattle.kahn_model.specs.Network.{Network, IsNetwork, put_on}
 use Rattle.kahn_model.specs.Counts.{ticks_made, written, taken, IsReachable}
 use Rattle.kahn_model.proofs.Order.{prefix_trans, prefix_flat_map, prefix_whole}

@@ -6,7 +6,7 @@ use Rattle.std.proofs.Math.Path.{fun_ext}
 use Rattle.tapa_base.specs.declared.token.Token.{Token}
 use Rattle.kahn_model.specs.declared.tick.Tick.{Tick}
 use Rattle.tapa_syntax.specs.declared.program.Program.{Program}
-use Rattle.kahn_model.specs.Job.{Behavior}
+use Rattle.kahn_model.specs.Behavior.{Behavior}
 use Rattle.kahn_model.specs.Network.{Network}
 use Rattle.kahn_model.specs.Counts.{total, written, taken, zeros, IsReachable}
 use Rattle.net_core.specs.declared.ports.Ports.{Ports}

@@ -16,7 +16,7 @@ use Rattle.kahn_model.specs.declared.tick.Mark.TheVariants.{Ended, Needs, Bad, T
 use Rattle.kahn_model.specs.declared.tick.StreamOperation.{StreamOperation}
 use Rattle.kahn_model.specs.declared.tick.StreamOperation.TheVariants.{Read, Peek, TestEot, Open}
 use Rattle.kahn_model.specs.Prefix.{IsPrefixOf}
-use Rattle.kahn_model.specs.Job.{Behavior, Finished, OutOfTurns, Act, Await, Offer, NoToken, WrongToken, Answer, judge_token, first_offer, takes, tick_of, lists_after, on_offer, ticks, mark}
+use Rattle.kahn_model.specs.Behavior.{Behavior, Finished, OutOfTurns, Act, Await, Offer, NoToken, WrongToken, Answer, judge_token, first_offer, takes, tick_of, lists_after, on_offer, ticks, mark}
 use Rattle.kahn_model.specs.Network.{put_on, take_from}
 use Rattle.kahn_model.proofs.Order.{prefix_trans, prefix_append}
 use Rattle.net_core.specs.declared.ports.Ports.{Ports}

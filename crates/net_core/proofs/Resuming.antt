@@ -10,7 +10,7 @@ use Rattle.tapa_base.specs.declared.token.Token.{Token}
 use Rattle.kahn_model.specs.declared.tick.Tick.{Tick}
 use Rattle.tapa_syntax.specs.declared.program.Program.{Program}
 use Rattle.kahn_model.specs.Prefix.{IsPrefixOf}
-use Rattle.kahn_model.specs.Job.{Behavior}
+use Rattle.kahn_model.specs.Behavior.{Behavior}
 use Rattle.kahn_model.specs.Network.{Network, IsNetwork, put_on, take_from}
 use Rattle.kahn_model.specs.Counts.{written, taken, IsAllowed, IsReachable, IsFounded}
 use Rattle.kahn_model.proofs.Order.{prefix_length}

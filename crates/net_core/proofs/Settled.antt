@@ -3,7 +3,7 @@ use Rattle.std.proofs.Common.{◌≡◌, ℕ, ◌+◌, ◌-◌, ◌<◌, ◌≤�
 use Rattle.std.specs.Prelude.{slice_get}
 use Rattle.tapa_syntax.specs.declared.program.Program.{Program}
 use Rattle.kahn_model.specs.declared.tick.Tick.{Tick}
-use Rattle.kahn_model.specs.Job.{Behavior}
+use Rattle.kahn_model.specs.Behavior.{Behavior}
 use Rattle.kahn_model.specs.Network.{Network}
 use Rattle.kahn_model.specs.Counts.{total, IsAllowed, IsReachable, IsFounded, IsEnding, HasEnded}
 use Rattle.kahn_model.specs.Outcome.{IsDone, IsStopped}

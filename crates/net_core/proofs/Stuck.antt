@@ -11,7 +11,7 @@ use Rattle.kahn_model.specs.declared.tick.Tick.TheVariants.{Did, Take, See, End}
 use Rattle.kahn_model.specs.declared.tick.Mark.{Mark}
 use Rattle.kahn_model.specs.declared.tick.Mark.TheVariants.{Ended, Needs, Bad, Turns}
 use Rattle.kahn_model.specs.Prefix.{IsPrefixOf}
-use Rattle.kahn_model.specs.Job.{Behavior, Finished, OutOfTurns, Act, Await, Offer, NoToken, WrongToken, Answer, first_offer, lists_after, on_offer, ticks, mark, Extends, Lasts}
+use Rattle.kahn_model.specs.Behavior.{Behavior, Finished, OutOfTurns, Act, Await, Offer, NoToken, WrongToken, Answer, first_offer, lists_after, on_offer, ticks, mark, Extends, Lasts}
 use Rattle.kahn_model.specs.Network.{Network, IsNetwork, put_on, take_from, stream, round}
 use Rattle.kahn_model.specs.Counts.{total, round_of, ticks_made, written, taken, next, HasToken, HasRoom, IsSupplied, IsAllowed, IsReachable, IsFounded, HasEnded}
 use Rattle.kahn_model.specs.Outcome.{StandsAt}
@@ -38,7 +38,7 @@ settled (Act a rest) b xs (rest', e, h) d =
 settled (Await s how rest) b xs (rest', e, h) d =
     let p = settled_found (first_offer how (xs s)) (Needs s) (Bad s) _ _ _ _
     (λ t v d'. let q = settled (rest v) (rest' v) (lists_after how s xs) (h v) d' in
-    (ap (λ l. Rattle.kahn_model.specs.Job.tick_of how s t ∷ l) q.0, q.1)) d in (
+    (ap (λ l. Rattle.kahn_model.specs.Behavior.tick_of how s t ∷ l) q.0, q.1)) d in (
       ap (λ t. ticks t xs) e ∙ p.0,
       ap (λ t. mark t xs) e ∙ p.1,
     )

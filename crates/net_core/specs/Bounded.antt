@@ -8,11 +8,11 @@ use Rattle.tapa_syntax.specs.declared.program.Leaf.{Leaf}
 use Rattle.tapa_syntax.specs.declared.program.Instance.{Instance}
 use Rattle.tapa_syntax.specs.declared.program.Stream.{Stream}
 use Rattle.tapa_syntax.specs.declared.program.Program.{Program}
-use Rattle.kahn_model.specs.Job.{Behavior, Finished}
+use Rattle.kahn_model.specs.Behavior.{Behavior, Finished}
 use Rattle.kahn_model.specs.Trace.{State, job_of}
 use Rattle.kahn_model.specs.Network.{Network, IsNetwork}
 use Rattle.kahn_model.specs.Counts.{written, taken, total, IsReachable, IsEnding}
-use Rattle.kahn_model.specs.Whole.{net_of, kinds_of, writes_of}
+use Rattle.kahn_model.specs.ProgramNetwork.{network_with, kinds_of, writes_of}
 use Rattle.net_core.specs.declared.ports.Ports.{Ports}
 use Rattle.net_core.specs.declared.body.Pause.{Pause}
 use Rattle.net_core.specs.Ports.{carried_of, port_count_of}
@@ -39,7 +39,7 @@ abbrev pub first_of : Program → ℕ → State
 first_of program i = zeros_of (leaf_at program i)
 
 unfoldable pub network_of : Program → Network
-network_of program = net_of program (first_of program)
+network_of program = network_with program (first_of program)
 
 -- the job of an instance by the positions of its streams
 abbrev pub job_in : Option Leaf → State → ℕ → Behavior

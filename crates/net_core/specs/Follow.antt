@@ -9,7 +9,7 @@ use Rattle.kahn_model.specs.declared.tick.Mark.{Mark}
 use Rattle.kahn_model.specs.declared.tick.Mark.TheVariants.{Ended}
 use Rattle.kahn_model.specs.declared.tick.StreamOperation.{StreamOperation}
 use Rattle.kahn_model.specs.Prefix.{IsPrefixOf}
-use Rattle.kahn_model.specs.Job.{Behavior, Finished, OutOfTurns, Act, Await, WrongToken, Answer, judge_token, ticks, mark}
+use Rattle.kahn_model.specs.Behavior.{Behavior, Finished, OutOfTurns, Act, Await, WrongToken, Answer, judge_token, ticks, mark}
 use Rattle.kahn_model.specs.Network.{take_from}
 use Rattle.net_core.specs.declared.ports.Ports.{Ports}
 use Rattle.net_core.specs.declared.body.Pause.{Pause}

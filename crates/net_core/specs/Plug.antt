@@ -8,7 +8,7 @@ use Rattle.kahn_model.specs.declared.tick.Tick.TheVariants.{Did, Take, See, End}
 use Rattle.kahn_model.specs.declared.tick.Mark.{Mark}
 use Rattle.kahn_model.specs.declared.tick.Mark.TheVariants.{Ended, Needs, Bad, Turns}
 use Rattle.kahn_model.specs.Prefix.{IsPrefixOf}
-use Rattle.kahn_model.specs.Job.{Behavior, Finished, OutOfTurns, Act, Await, ticks}
+use Rattle.kahn_model.specs.Behavior.{Behavior, Finished, OutOfTurns, Act, Await, ticks}
 use Rattle.kahn_model.specs.Network.{Network}
 use Rattle.kahn_model.specs.Counts.{written, taken}
 use Rattle.kahn_model.specs.Trace.{act_at, at_streams}
@@ -75,7 +75,7 @@ pub record IsStanding (Stands : (ℕ → Behavior) → List Tick → Type 0) (ne
   pub stands : Stands job ticks
   pub count : length ticks ≡ k i
   pub tests : ℕ
-  pub runs : IsPrefixOf ticks (Rattle.kahn_model.specs.Job.ticks (job tests) (λ p. written net k (f p)))
+  pub runs : IsPrefixOf ticks (Rattle.kahn_model.specs.Behavior.ticks (job tests) (λ p. written net k (f p)))
 
 -- the ports of an instance hold what its streams have
 pub record PortsAre (net : Network) (k : ℕ → ℕ) (ports : Ports) (arity : ℕ) (f : ℕ → ℕ) (R W : ℕ → Type 0) : Type 0 where

@@ -3,7 +3,7 @@ use Rattle.std.specs.Prelude.{◌≡◌, ℕ, ◌+◌, ◌<◌, List, [], ◌∷
 use Rattle.kahn_model.specs.declared.tick.Tick.{Tick}
 use Rattle.kahn_model.specs.declared.tick.Action.TheVariants.{Local, Put}
 use Rattle.kahn_model.specs.declared.tick.StreamOperation.TheVariants.{Read}
-use Rattle.kahn_model.specs.Job.{Behavior, Finished, OutOfTurns, Act, Await}
+use Rattle.kahn_model.specs.Behavior.{Behavior, Finished, OutOfTurns, Act, Await}
 use Rattle.net_core.specs.declared.ports.Ports.{Ports}
 use Rattle.net_core.specs.declared.script.Step.{Step}
 use Rattle.net_core.specs.declared.script.Step.TheVariants.{Work, Send, Receive}

@@ -2,7 +2,7 @@
 use Rattle.std.specs.Prelude.{◌≡◌, ℕ, ◌+◌, ◌<◌, ◌≤◌, ◌⊎◌, List, length, Bool, true, false, Option, Some, None, slice_get}
 use Rattle.tapa_syntax.specs.declared.program.Program.{Program}
 use Rattle.kahn_model.specs.declared.tick.Tick.{Tick}
-use Rattle.kahn_model.specs.Job.{Behavior}
+use Rattle.kahn_model.specs.Behavior.{Behavior}
 use Rattle.kahn_model.specs.Counts.{total, written, IsAllowed, IsReachable, IsEnding}
 use Rattle.kahn_model.specs.Outcome.{IsDone, IsStopped}
 use Rattle.net_core.specs.declared.body.Pause.{Pause}

@@ -5,7 +5,7 @@ use Rattle.kahn_model.specs.declared.tick.Action.TheVariants.{Put}
 use Rattle.kahn_model.specs.declared.tick.Tick.TheVariants.{Did}
 use Rattle.kahn_model.specs.declared.tick.Mark.{Mark}
 use Rattle.kahn_model.specs.declared.tick.Mark.TheVariants.{Ended, Needs, Bad}
-use Rattle.kahn_model.specs.Job.{ticks, mark}
+use Rattle.kahn_model.specs.Behavior.{ticks, mark}
 use Rattle.kahn_model.specs.Network.{Network}
 use Rattle.kahn_model.specs.Counts.{written, taken, IsAllowed, HasEnded as Ends}
 use Rattle.kahn_model.specs.Outcome.{WaitsToRead, WaitsToWrite, HasBadToken}

@@ -2,7 +2,7 @@
 
 ghost use Rattle.std.specs.Prelude.{ℕ, ◌≡◌, List, length};
 ghost use Rattle.kahn_model.specs.declared.tick.Tick.{Tick};
-ghost use Rattle.kahn_model.specs.Job.{Behavior};
+ghost use Rattle.kahn_model.specs.Behavior.{Behavior};
 ghost use Rattle.net_core.specs.Run.{CanResume, InRange, Agrees, Resumed};
 ghost use Rattle.net_core.specs.Ports.{port_count};
 

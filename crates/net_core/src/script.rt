@@ -2,7 +2,7 @@
 
 ghost use Rattle.std.specs.Prelude.{ℕ, ◌≡◌, ◌<◌, ◌≤◌, ◌+◌, ◌^◌, ◌++◌, ◌∷◌, List, [], length, slice_get};
 ghost use Rattle.kahn_model.specs.declared.tick.Tick.{Tick};
-ghost use Rattle.kahn_model.specs.Job.{Behavior};
+ghost use Rattle.kahn_model.specs.Behavior.{Behavior};
 ghost use Rattle.net_core.specs.declared.ports.Ports.{Ports};
 ghost use Rattle.net_core.specs.Ports.{port_count, Moved};
 ghost use Rattle.net_core.specs.Run.{InRange, Agrees};

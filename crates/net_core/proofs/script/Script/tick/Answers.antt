@@ -5,7 +5,7 @@ use Rattle.tapa_base.specs.declared.token.Token.TheVariants.{Datum, Eot}
 use Rattle.kahn_model.specs.declared.tick.Tick.TheVariants.{Did, End, Take}
 use Rattle.kahn_model.specs.declared.tick.Action.TheVariants.{Local, Put}
 use Rattle.kahn_model.specs.declared.tick.StreamOperation.TheVariants.{Read}
-use Rattle.kahn_model.specs.Job.{Await}
+use Rattle.kahn_model.specs.Behavior.{Await}
 use Rattle.net_core.specs.declared.script.Step.TheVariants.{Work, Send, Receive}
 use Rattle.net_core.specs.Ports.{waiting, port_count, room_at, Moved}
 use Rattle.net_core.specs.Follow.{IsReady, Still}
