@@ -9,8 +9,11 @@ use Rattle.tapa_syntax.specs.declared.program.Leaf.{Leaf}
 use Rattle.tapa_syntax.specs.declared.program.Instance.{Instance}
 use Rattle.tapa_syntax.specs.declared.program.Program.{Program}
 use Rattle.kahn_model.specs.Job.{Action, Local, Put, Load, Store, StreamOperation, Read as ByRead, Peek as ByPeek, TestEot, Open as ByOpen, Behavior, Finished, OutOfTurns, Act, Await, Extends, Lasts}
-use Rattle.kahn_model.specs.Trace.{State, Kinds, cells_of, at_zero, expr, locals, turns, stmt, block, statements, job_of, act_at, at_streams}
-use Rattle.kahn_model.specs.Whole.{UsesExpr, UsesStmt, UsesBlock, UsesBody, writes_of, kinds_of, stream_at, leaf_job, instance_job, net_of, IsBound, IsWired}
+use Rattle.kahn_model.specs.Trace.{State, cells_of, at_zero, expr, locals, turns, stmt, block, statements, job_of, act_at, at_streams}
+use Rattle.tapa_syntax.specs.LeafKinds.{Kinds}
+use Rattle.kahn_model.specs.Whole.{stream_at, leaf_job, instance_job, net_of, IsBound, IsWired}
+use Rattle.tapa_syntax.specs.LeafKinds.{writes_of, kinds_of}
+use Rattle.tapa_syntax.specs.StreamUse.{UsesExpr, UsesStmt, UsesBlock, UsesBody}
 use Rattle.kahn_model.specs.Network.{IsNetwork, OwnAct, Owns}
 use Rattle.kahn_model.proofs.Statements.{job_extends, job_lasts}
 

@@ -7,3 +7,4 @@ pub mod Whole
 pub mod Timed
 pub mod Slow
 pub mod Outcome
+pub mod Start

@@ -8,6 +8,7 @@ use Rattle.tapa_syntax.specs.declared.program.Expr.{Expr}
 use Rattle.tapa_syntax.specs.declared.program.Expr.TheVariants.{Lit, Var, Cell', Read, Peek, Eot, Load' as LoadCell, Conv', Apply', Flip', Not', And', Or', Choose'}
 use Rattle.tapa_syntax.specs.declared.program.Stmt.{Stmt, Row_of-Stmt, end_of-Stmt, more_of-Stmt}
 use Rattle.tapa_syntax.specs.declared.program.Stmt.TheVariants.{Set, SetCell, SetCellBy, Store as StoreCell, StoreBy, ReadVar, ReadCell, ReadStore, Write, Open as OpenIt, Close, Discard, Clear, If', Loop', Break, Continue}
+use Rattle.tapa_syntax.specs.LeafKinds.{Kinds}
 use Rattle.kahn_model.specs.Job.{Action, Local, Put, Load, Store, Read as ByRead, Peek as ByPeek, TestEot, Open as ByOpen, Behavior, Finished, OutOfTurns, Act, Await}
 
 -- what a job keeps: its variables, its arrays and the cells of its memories
@@ -15,13 +16,6 @@ pub record State : Type 0 where
   pub vars : List ℕ
   pub arrays : List (List ℕ)
   pub cells : List (List ℕ)
-
--- the kinds of a leaf's variables, arrays, memories and streams
-pub record Kinds : Type 0 where
-  pub vars : ℕ → Kind
-  pub arrays : ℕ → Kind
-  pub memories : ℕ → Kind
-  pub streams : ℕ → Kind
 
 -- the first where the number is 0, and else the second
 abbrev pub at_zero : {A : Type 0} → ℕ → A → A → A
