@@ -8,10 +8,10 @@ use Rattle.tapa_syntax.specs.declared.program.Stmt.TheVariants.{Set, SetCell, Se
 use Rattle.tapa_syntax.specs.declared.program.Leaf.{Leaf}
 use Rattle.tapa_syntax.specs.declared.program.Instance.{Instance}
 use Rattle.tapa_syntax.specs.declared.program.Program.{Program}
-use Rattle.kahn_model.specs.Job.{Action, Local, Put, Load, Store, StreamOperation, Read as ByRead, Peek as ByPeek, TestEot, Open as ByOpen, Behavior, Finished, OutOfTurns, Act, Await, Extends, Lasts}
+use Rattle.kahn_model.specs.Behavior.{Action, Local, Put, Load, Store, StreamOperation, Read as ByRead, Peek as ByPeek, TestEot, Open as ByOpen, Behavior, Finished, OutOfTurns, Act, Await, Extends, Lasts}
 use Rattle.kahn_model.specs.Trace.{State, cells_of, at_zero, expr, locals, turns, stmt, block, statements, job_of, act_at, at_streams}
 use Rattle.tapa_syntax.specs.LeafKinds.{Kinds}
-use Rattle.kahn_model.specs.Whole.{stream_at, leaf_job, instance_job, net_of, IsBound, IsWired}
+use Rattle.kahn_model.specs.ProgramNetwork.{stream_at, leaf_job, instance_job, network_with, IsBound, IsWired}
 use Rattle.tapa_syntax.specs.LeafKinds.{writes_of, kinds_of}
 use Rattle.tapa_syntax.specs.StreamUse.{UsesExpr, UsesStmt, UsesBlock, UsesBody}
 use Rattle.kahn_model.specs.Network.{IsNetwork, OwnAct, Owns}
@@ -156,8 +156,8 @@ instance_owns : (p c : ℕ → ℕ) (i : ℕ) (leaves : List Leaf) (o : Option I
 instance_owns p c i leaves None σ n h = tt
 instance_owns p c i leaves (Some instance) σ n h = leaf_owns p c i (slice_get leaves instance.body) instance σ n (λ leaf e. h instance leaf refl e)
 
-pub program_net : (program : Program) → IsWired program → (first : ℕ → State) → IsNetwork (net_of program first)
-program_net program w first = record {
+pub wired_network : (program : Program) → IsWired program → (first : ℕ → State) → IsNetwork (network_with program first)
+wired_network program w first = record {
   grows = λ i n m le. instance_grows program.bodies.items (slice_get program.instances.items i) (first i) n m le;
   lasts = λ i n. instance_lasts program.bodies.items (slice_get program.instances.items i) (first i) n;
   owns = λ i n. instance_owns _ _ i program.bodies.items (slice_get program.instances.items i) (first i) n (λ instance leaf. w.bound first i instance leaf);

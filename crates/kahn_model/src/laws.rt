@@ -1,13 +1,15 @@
 // The laws of rounds and counts.
 
 ghost use Rattle.std.specs.Prelude.{ℕ, suc, ◌≡◌, ◌<◌, ◌≤◌, ◌+◌, ◌*◌, ◌⊎◌, Bool, List, length, Some, slice_get};
-ghost use Rattle.kahn_model.specs.Job.{Tick, ticks};
+ghost use Rattle.kahn_model.specs.Behavior.{Tick, ticks};
 ghost use Rattle.kahn_model.specs.Network.{Network, IsNetwork, stream, round};
 ghost use Rattle.kahn_model.specs.Counts.{IsReachable, IsFounded, IsEnding, IsKahnPrefix, written, ticks_made, next, HasToken, IsSupplied, HasEnded, IsKahnStream, total, round_of};
 ghost use Rattle.kahn_model.specs.Outcome.{WaitsToWrite, WaitsToRead, HasBadToken, IsGreatest};
 ghost use Rattle.kahn_model.specs.Timed.{Clock, IsClock, count_at};
 ghost use Rattle.kahn_model.specs.Trace.{State};
-ghost use Rattle.kahn_model.specs.Whole.{net_of, IsWired};
+ghost use Rattle.kahn_model.specs.ProgramNetwork.{network_with, IsWired};
+ghost use Rattle.kahn_model.specs.Start.{network_of};
+ghost use Rattle.tapa_syntax.specs.WellFormed.{IsWellFormed};
 ghost use Rattle.tapa_syntax.specs.declared.program.Program.{Program};
 ghost use Rattle.kahn_model.specs.Prefix.{IsPrefixOf};
 
@@ -40,8 +42,14 @@ pub fn law_next_in_time()
 {}
 
 /// The laws hold for the network of every program whose streams each have their two ends.
+pub fn law_wired_network()
+    ensures { (program : Program) → IsWired program → (first : ℕ → State) → IsNetwork (network_with program first) }
+{}
+
+/// Every well-formed program is such a program, so the laws hold for its network on every input.
 pub fn law_program_network()
-    ensures { (program : Program) → IsWired program → (first : ℕ → State) → IsNetwork (net_of program first) }
+    ensures wired { (program : Program) → IsWellFormed program → IsWired program }
+    ensures network { (program : Program) → IsWellFormed program → (scalars : List ℕ) (memories : List (List ℕ)) → IsNetwork (network_of program scalars memories) }
 {}
 
 /// The counts of a clock are counts that streams without limit reach, so what they have written is a prefix of the
