@@ -23,7 +23,7 @@ use Rattle.net_core.specs.declared.ports.Ports.{Ports}
 use Rattle.net_core.specs.declared.body.Pause.{Pause}
 use Rattle.net_core.specs.declared.body.Pause.TheVariants.{Ended as HasEnded, WantsRead, WantsWrite, BadToken, Fuel}
 use Rattle.net_core.specs.Ports.{waiting, room_at, Moved}
-use Rattle.net_core.specs.Run.{lists_at, Agrees, HasRoomAt, StopsAt, GoesOnBy, PausesBy, Resumed}
+use Rattle.net_core.specs.Resume.{lists_at, Agrees, HasRoomAt, StopsAt, GoesOnBy, PausesBy, Resumed}
 use Rattle.net_core.specs.Follow.{Rest, Over, Still, ticks_left, mark_left, left, Follows, Going, IsReady, IsLook}
 use Rattle.net_core.proofs.Moves.{drop_sum, moved_none, moved_append}
 

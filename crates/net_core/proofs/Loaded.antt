@@ -6,7 +6,7 @@ use Rattle.tapa_syntax.specs.declared.program.Program.{Program}
 use Rattle.kahn_model.specs.Network.{Network}
 use Rattle.net_core.specs.declared.ports.Ports.{Ports}
 use Rattle.net_core.specs.Ports.{IsReloaded, port_count_of, carried_of, waiting_of, room_of}
-use Rattle.net_core.specs.Plug.{IsPlugged}
+use Rattle.net_core.specs.Placement.{IsPlugged}
 use Rattle.net_core.specs.Bounded.{IsConnected, network_of, arity, job_at, stream_at, Reads, Writes}
 use Rattle.net_core.specs.Load.{IsIn, AreBelow, HasPorts, AreKept, AreLoaded, IsLoaded, AreWoken, list_at, queue_at}
 

@@ -17,7 +17,7 @@ use Rattle.kahn_model.specs.Prefix.{IsPrefixOf}
 use Rattle.kahn_model.specs.Behavior.{Behavior, Finished, OutOfTurns, Act, Await, Offer, NoToken, WrongToken, Answer, judge_token, first_offer, takes, tick_of, lists_after, on_offer, ticks, mark}
 use Rattle.kahn_model.specs.Network.{Owns, put_on, take_from}
 use Rattle.kahn_model.specs.Trace.{act_at, at_streams}
-use Rattle.net_core.specs.Plug.{tick_at, mark_at, AsksAt, PutsAct, IsAt, TickAt, AreAt}
+use Rattle.net_core.specs.Placement.{tick_at, mark_at, AsksAt, PutsAct, IsAt, TickAt, AreAt}
 
 same_test : (a b c d : ℕ) → (a ≡ b → c ≡ d) → (c ≡ d → a ≡ b) → (a == b) ≡ (c == d)
 same_test a b c d h k =

@@ -19,9 +19,9 @@ use Rattle.net_core.specs.declared.ports.Ports.{Ports}
 use Rattle.net_core.specs.declared.body.Pause.{Pause}
 use Rattle.net_core.specs.declared.body.Pause.TheVariants.{Fuel}
 use Rattle.net_core.specs.Ports.{waiting, carried, room_at, port_count, Moved, port_count_in, carried_by, waiting_by, room_by, port_count_of, carried_of, waiting_of, room_of}
-use Rattle.net_core.specs.Run.{CanResume, Resumed}
+use Rattle.net_core.specs.Resume.{CanResume, Resumed}
 use Rattle.net_core.specs.Waits.{HoldsPause}
-use Rattle.net_core.specs.Plug.{tick_at, IsPlugged, IsStanding, PortsAre}
+use Rattle.net_core.specs.Placement.{tick_at, IsPlugged, IsStanding, PortsAre}
 use Rattle.net_core.specs.Bounded.{IsConnected, network_of, job_at, arity, stream_at, Reads, Writes, count_of, IsNetAt}
 use Rattle.net_core.specs.Load.{HasPorts, AreKept, AreLoaded, list_at, queue_at}
 use Rattle.net_core.proofs.Moves.{get_set_same, get_set_other, test_true, test_false}
@@ -108,10 +108,10 @@ module _ {B : Type 0} (Stands : B → (ℕ → Behavior) → List Tick → Type 
       abbrev pub st : IsStanding (Stands b) (network_of program) (count_of counts) i (job_at program i) (stream_at program i)
       st = n.standing i b eb
 
-      pub in_range_at : (m : ℕ) → Rattle.net_core.specs.Run.InRange (port_count x) (job_at program i m)
-      in_range_at m = subst (λ z. Rattle.net_core.specs.Run.InRange z (job_at program i m)) (sym ports_are.as_many) ((connected.plugged i inside).in_range m)
+      pub in_range_at : (m : ℕ) → Rattle.net_core.specs.Resume.InRange (port_count x) (job_at program i m)
+      in_range_at m = subst (λ z. Rattle.net_core.specs.Resume.InRange z (job_at program i m)) (sym ports_are.as_many) ((connected.plugged i inside).in_range m)
 
-      pub agrees_at : Rattle.net_core.specs.Run.Agrees (job_at program i) st.ticks x
+      pub agrees_at : Rattle.net_core.specs.Resume.Agrees (job_at program i) st.ticks x
       agrees_at = agrees (network_of program) connected.is_network (count_of counts) n.reachable i (arity program i) (job_at program i) (stream_at program i) (Reads program i) (Writes program i) (connected.plugged i inside) (Stands b) st x ports_are
 
       pub can_resume : (fuel : ℕ) → count_of counts i + fuel < 2 ^ 64 → CanResume (Stands b) x fuel
@@ -119,7 +119,7 @@ module _ {B : Type 0} (Stands : B → (ℕ → Behavior) → List Tick → Type 
         job = job_at program i;
         ticks = st.ticks;
         stands = st.stands;
-        in_range = λ m. subst (λ z. Rattle.net_core.specs.Run.InRange z (job_at program i m)) (sym ports_are.as_many) ((connected.plugged i inside).in_range m);
+        in_range = λ m. subst (λ z. Rattle.net_core.specs.Resume.InRange z (job_at program i m)) (sym ports_are.as_many) ((connected.plugged i inside).in_range m);
         agrees = agrees (network_of program) connected.is_network (count_of counts) n.reachable i (arity program i) (job_at program i) (stream_at program i) (Reads program i) (Writes program i) (connected.plugged i inside) (Stands b) st x ports_are;
         fits = let c = st.count in omega arith;
       }

@@ -13,7 +13,7 @@ use Rattle.net_core.specs.declared.script.Step.{Step}
 use Rattle.net_core.specs.declared.script.Step.TheVariants.{Work, Send, Receive}
 use Rattle.net_core.specs.declared.script.Script.{Script}
 use Rattle.net_core.specs.Ports.{waiting, Moved}
-use Rattle.net_core.specs.Run.{InRange, Resumed}
+use Rattle.net_core.specs.Resume.{InRange, Resumed}
 use Rattle.net_core.specs.Follow.{Rest, Over, Still, ticks_left, mark_left, left, Going, IsReady, IsLook}
 use Rattle.net_core.specs.Script.{script, rest_by, rest_of, AreInRange, IsAt, GoesTo}
 use Rattle.net_core.specs.declared.body.Pause.{Pause}

@@ -26,9 +26,9 @@ use Rattle.net_core.specs.declared.ports.Ports.{Ports}
 use Rattle.net_core.specs.declared.body.Pause.{Pause}
 use Rattle.net_core.specs.declared.body.Pause.TheVariants.{Ended as HasEnded, WantsRead, WantsWrite, BadToken, Fuel}
 use Rattle.net_core.specs.Ports.{waiting, carried, room_at, port_count, Moved}
-use Rattle.net_core.specs.Run.{lists_at, Agrees, HasRoomAt, StopsAt, GoesOnBy, PausesBy, Resumed}
+use Rattle.net_core.specs.Resume.{lists_at, Agrees, HasRoomAt, StopsAt, GoesOnBy, PausesBy, Resumed}
 use Rattle.net_core.specs.Waits.{StopsIn, IsFullFor, HoldsPause}
-use Rattle.net_core.specs.Plug.{tick_at, mark_at, AsksAt, PutsAct, IsAt, TickAt, AreAt, IsPlugged, IsStanding, PortsAre}
+use Rattle.net_core.specs.Placement.{tick_at, mark_at, AsksAt, PutsAct, IsAt, TickAt, AreAt, IsPlugged, IsStanding, PortsAre}
 use Rattle.net_core.proofs.Placed.{placed_ticks, placed_mark, asks_ticks, asks_mark, ticks_own, mark_own, takes_begin, ticks_at, at_asks, are_prefix, takes_same, puts_same, put_found, take_found, map_prefix, map_get, at_get}
 use Rattle.net_core.proofs.Chunk.{plus, plus_same, plus_other, HasRoomFor, Chunk, chunk, written_after, is_step}
 use Rattle.net_core.proofs.Stuck.{stays_stopped}

@@ -15,7 +15,7 @@ use Rattle.net_core.specs.declared.ports.Ports.{Ports}
 use Rattle.net_core.specs.declared.body.Pause.{Pause}
 use Rattle.net_core.specs.declared.body.Pause.TheVariants.{Ended as HasEnded, WantsRead, WantsWrite, BadToken, Fuel}
 use Rattle.net_core.specs.Ports.{waiting, room_at, Moved}
-use Rattle.net_core.specs.Run.{lists_at, HasRoomAt}
+use Rattle.net_core.specs.Resume.{lists_at, HasRoomAt}
 
 -- the rest of a job, or nothing after End
 pub data Rest : Type 0 where

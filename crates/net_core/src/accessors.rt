@@ -1,40 +1,39 @@
-// What a net shows.
-
-ghost use Rattle.std.specs.Prelude.{ℕ, ◌≡◌, ◌<◌, length, slice_get, Some};
+ghost use Rattle.std.specs.Prelude.{◌≡◌, ◌<◌, length, slice_get, Some};
 ghost use Rattle.kahn_model.specs.Counts.{written};
-ghost use Rattle.net_core.specs.Bounded.{IsConnected, network_of};
-ghost use Rattle.net_core.specs.State.{NetAt, at};
+ghost use Rattle.net_core.specs.Kinds.{AreTokensOf};
+ghost use Rattle.net_core.specs.Bindings.{stream_kind};
+ghost use Rattle.net_core.specs.Bounded.{IsBodyAt};
+ghost use Rattle.net_core.specs.State.{network, count};
 
+use crate::bindings::producer;
 use crate::body::{Body, Pause};
 use crate::net::Net;
-use crate::bindings::producer;
 use tapa_base::Token;
 
 impl<B: Body> Net<B> {
-    /// The tokens that were written to a stream.
-    pub fn carried(&self, s: usize) -> &[Token]
-        requires connected { IsConnected self.now.program }
-        requires stands { NetAt B.stands self.now }
-        requires stream { s < length self.now.program.streams.items }
-        ensures { result.now ≡ written (network_of self.now.program) (at self.now) s }
+    /// The tokens that were written to a stream, first to last.
+    pub fn carried(&self, stream: u32) -> &[Token]
+        requires { stream < length self.now.program.streams.items }
+        ensures written { result.now ≡ written (network self.now) (count self.now) stream }
+        ensures kind { AreTokensOf (stream_kind self.now.program stream) result.now }
     {
-        let j = producer(&self.program, s);
-        self.ports[j].carried(self.writers[s])
+        let j = producer(&self.program, stream as usize);
+        self.ports[j].carried(self.writers[stream as usize])
     }
 
-    /// What the last resume of an instance answered.
-    pub fn pause(&self, i: usize) -> Option<Pause>
-        requires { i < length self.now.pauses.items }
-        ensures { slice_get self.now.pauses.items i ≡ Some result }
+    /// What the last resume of an instance answered, and `None` before its first.
+    pub fn pause(&self, instance: u32) -> Option<Pause>
+        requires { instance < length self.now.program.instances.items }
+        ensures { slice_get self.now.pauses instance ≡ Some result }
     {
-        self.pauses[i]
+        self.pauses[instance as usize]
     }
 
-    /// The body of an instance.
-    pub fn body(&self, i: usize) -> &B
-        requires { i < length self.now.bodies.items }
-        ensures { slice_get self.now.bodies.items i ≡ Some result.now }
+    /// The body of an instance, which has made its count of ticks.
+    pub fn body(&self, instance: u32) -> &B
+        requires { instance < length self.now.program.instances.items }
+        ensures { IsBodyAt (B.stands result.now) self.now.program self.now.input self.now.counts instance }
     {
-        &self.bodies[i]
+        &self.bodies[instance as usize]
     }
 }

@@ -1,16 +1,26 @@
-// How the instances of a program are bound.
+// How the instances of a program are bound to its streams.
+ghost use Rattle.std.specs.Prelude.{◌≡◌, ◌<◌, length, MatchBool};
+ghost use Rattle.net_core.specs.Bindings.{IsConnected, arity, ends_at, stream_at, Reads, Writes, producer_of, consumer_of, depth_of};
 
-ghost use Rattle.std.specs.Prelude.{ℕ, ◌≡◌, ◌<◌, length, slice_get, MatchBool, Some};
-ghost use Rattle.net_core.specs.Bounded.{IsConnected, network_of, arity, stream_at, Reads, Writes};
+use tapa_syntax::{End, Program};
 
-use tapa_syntax::Program;
-
-/// How as_many streams an instance has.
+/// How many streams an instance has.
 pub fn arity(program: &Program, i: usize) -> usize
     requires { i < length program.now.instances.items }
     ensures { result ≡ arity program.now i }
 {
     program.instances[i].streams.len()
+}
+
+/// The streams of an instance's leaf.
+pub fn ends(program: &Program, i: usize) -> &[End]
+    requires connected { IsConnected program.now }
+    requires instance { i < length program.now.instances.items }
+    ensures ends { result.now ≡ ends_at program.now i }
+    ensures as_many { length result.now ≡ arity program.now i }
+{
+    let leaf = &program.bodies[program.instances[i].body as usize];
+    leaf.streams.as_slice()
 }
 
 /// The stream at a position of an instance.
@@ -31,15 +41,15 @@ pub fn writes_at(program: &Program, i: usize, p: usize) -> bool
     requires position { p < arity program.now i }
     ensures { MatchBool result (Writes program.now i p) (Reads program.now i p) }
 {
-    let leaf = &program.bodies[program.instances[i].body as usize];
-    leaf.streams[p].writes
+    let ends = ends(program, i);
+    ends[p].writes
 }
 
 /// The instance that writes a stream.
 pub fn producer(program: &Program, s: usize) -> usize
     requires connected { IsConnected program.now }
     requires stream { s < length program.now.streams.items }
-    ensures is { result ≡ (network_of program.now).producer s }
+    ensures is { result ≡ producer_of program.now s }
     ensures inside { result < length program.now.instances.items }
 {
     program.streams[s].producer as usize
@@ -49,7 +59,7 @@ pub fn producer(program: &Program, s: usize) -> usize
 pub fn consumer(program: &Program, s: usize) -> usize
     requires connected { IsConnected program.now }
     requires stream { s < length program.now.streams.items }
-    ensures is { result ≡ (network_of program.now).consumer s }
+    ensures is { result ≡ consumer_of program.now s }
     ensures inside { result < length program.now.instances.items }
 {
     program.streams[s].consumer as usize
@@ -59,7 +69,7 @@ pub fn consumer(program: &Program, s: usize) -> usize
 pub fn depth(program: &Program, s: usize) -> usize
     requires connected { IsConnected program.now }
     requires stream { s < length program.now.streams.items }
-    ensures { result ≡ (network_of program.now).depth s }
+    ensures { result ≡ depth_of program.now s }
 {
     program.streams[s].depth as usize
 }

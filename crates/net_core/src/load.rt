@@ -1,18 +1,19 @@
 // The ports of an instance, loaded from the streams before a call and read after it.
 
-ghost use Rattle.std.specs.Prelude.{ℕ, ◌≡◌, ◌<◌, ◌≤◌, ◌-◌, ◌++◌, List, length, drop, slice_index, slice_get, IfOk};
-ghost use Rattle.net_core.specs.Ports.{IsReloaded, port_count_of, carried_of, waiting_of, room_of};
-ghost use Rattle.net_core.specs.Bounded.{IsConnected, network_of, arity, stream_at, Reads, Writes};
+ghost use Rattle.std.specs.Prelude.{ℕ, ◌≡◌, ◌<◌, ◌≤◌, ◌-◌, length, drop, slice_index, IfOk};
+ghost use Rattle.net_core.specs.Kinds.{AreTokensOf};
+ghost use Rattle.net_core.specs.Ports.{IsReloaded, ends_in, carried_of, waiting_of, room_of};
+ghost use Rattle.net_core.specs.Bindings.{IsConnected, arity, ends_at, stream_at, Reads, Writes, producer_of, consumer_of, depth_of};
 ghost use Rattle.net_core.specs.Load.{IsIn, AreBelow, AreKept, AreLoaded, IsLoaded, AreWoken, HasPorts, queue_at};
 
 use crate::ports::Ports;
 use crate::bindings::{arity, consumer, depth, producer, stream_at, writes_at};
 use tapa_syntax::Program;
-use tapa_base::Token;
-use std::alloc::{AllocError, Global};
+use tapa_base::{OutOfMemory, Token};
+use std::alloc::Global;
 
 // The tokens from an index on.
-fn copied(alloc: Global, list: &[Token], from: usize) -> Result<Vec<Token>, AllocError>
+fn copied(alloc: Global, list: &[Token], from: usize) -> Result<Vec<Token>, OutOfMemory>
     requires { from ≤ length list.now }
     ensures { IfOk result (λ v. v.items ≡ drop from list.now) }
 {
@@ -29,7 +30,7 @@ fn load_reader(
     taken: &Vec<usize>,
     i: usize,
     p: usize,
-) -> Result<(), AllocError>
+) -> Result<(), OutOfMemory>
     requires connected { IsConnected program.now }
     requires ports { HasPorts program.now all.old.items writers.now.items offered.old.items taken.now.items }
     requires instance { i < length program.now.instances.items }
@@ -37,7 +38,7 @@ fn load_reader(
     ensures reloaded { IsReloaded all.old.items i p all.new.items }
     ensures offered_len { length offered.new.items ≡ length offered.old.items }
     ensures waits { IfOk result (λ _. waiting_of all.new.items i p ≡ queue_at program.now all.old.items writers.now.items taken.now.items (stream_at program.now i p)) }
-    ensures offered { IfOk result (λ _. slice_index offered.new.items (stream_at program.now i p) ≡ length (carried_of all.old.items ((network_of program.now).producer (stream_at program.now i p)) (slice_index writers.now.items (stream_at program.now i p)))) }
+    ensures offered { IfOk result (λ _. slice_index offered.new.items (stream_at program.now i p) ≡ length (carried_of all.old.items (producer_of program.now (stream_at program.now i p)) (slice_index writers.now.items (stream_at program.now i p)))) }
     ensures others { (s : ℕ) → (s ≡ stream_at program.now i p → ⊥) → slice_index offered.new.items s ≡ slice_index offered.old.items s }
 {
     let s = stream_at(program, i, p);
@@ -58,15 +59,15 @@ fn load_writer(
     taken: &Vec<usize>,
     i: usize,
     p: usize,
-) -> Result<(), AllocError>
+) -> Result<(), OutOfMemory>
     requires connected { IsConnected program.now }
-    requires as_many { port_count_of all.old.items i ≡ arity program.now i }
+    requires ends { ends_in all.old.items i ≡ ends_at program.now i }
     requires taken_len { length taken.now.items ≡ length program.now.streams.items }
     requires ports_len { length all.old.items ≡ length program.now.instances.items }
     requires instance { i < length program.now.instances.items }
     requires writes { Writes program.now i p }
     ensures reloaded { IsReloaded all.old.items i p all.new.items }
-    ensures room { IfOk result (λ _. room_of all.new.items i p ≡ (network_of program.now).depth (stream_at program.now i p) - (length (carried_of all.old.items i p) - slice_index taken.now.items (stream_at program.now i p))) }
+    ensures room { IfOk result (λ _. room_of all.new.items i p ≡ depth_of program.now (stream_at program.now i p) - (length (carried_of all.old.items i p) - slice_index taken.now.items (stream_at program.now i p))) }
 {
     let s = stream_at(program, i, p);
     let len = all[i].carried(p).len();
@@ -85,7 +86,7 @@ fn load_port(
     taken: &Vec<usize>,
     i: usize,
     p: usize,
-) -> Result<(), AllocError>
+) -> Result<(), OutOfMemory>
     requires connected { IsConnected program.now }
     requires ports { HasPorts program.now all.old.items writers.now.items offered.old.items taken.now.items }
     requires instance { i < length program.now.instances.items }
@@ -110,7 +111,7 @@ pub fn load_ports(
     offered: &mut Vec<usize>,
     taken: &Vec<usize>,
     i: usize,
-) -> Result<(), AllocError>
+) -> Result<(), OutOfMemory>
     requires connected { IsConnected program.now }
     requires ports { HasPorts program.now all.old.items writers.now.items offered.old.items taken.now.items }
     requires instance { i < length program.now.instances.items }
@@ -136,7 +137,7 @@ fn count_taken_at(
     requires instance { i < length program.now.instances.items }
     requires position { p < arity program.now i }
     requires ports_len { length all.now.items ≡ length program.now.instances.items }
-    requires as_many { port_count_of all.now.items i ≡ arity program.now i }
+    requires ends { ends_in all.now.items i ≡ ends_at program.now i }
     requires offered_len { length offered.now.items ≡ length program.now.streams.items }
     requires taken_len { length taken.old.items ≡ length program.now.streams.items }
     requires enough { Reads program.now i p → length (waiting_of all.now.items i p) ≤ slice_index offered.now.items (stream_at program.now i p) }
@@ -162,7 +163,7 @@ pub fn count_taken(
     requires connected { IsConnected program.now }
     requires instance { i < length program.now.instances.items }
     requires ports_len { length all.now.items ≡ length program.now.instances.items }
-    requires as_many { port_count_of all.now.items i ≡ arity program.now i }
+    requires ends { ends_in all.now.items i ≡ ends_at program.now i }
     requires offered_len { length offered.now.items ≡ length program.now.streams.items }
     requires taken_len { length taken.old.items ≡ length program.now.streams.items }
     requires enough { (p : ℕ) → Reads program.now i p → length (waiting_of all.now.items i p) ≤ slice_index offered.now.items (stream_at program.now i p) }
@@ -181,8 +182,8 @@ fn other_end(program: &Program, i: usize, p: usize) -> usize
     requires instance { i < length program.now.instances.items }
     requires position { p < arity program.now i }
     ensures inside { result < length program.now.instances.items }
-    ensures reader { Writes program.now i p → result ≡ (network_of program.now).consumer (stream_at program.now i p) }
-    ensures writer { Reads program.now i p → result ≡ (network_of program.now).producer (stream_at program.now i p) }
+    ensures reader { Writes program.now i p → result ≡ consumer_of program.now (stream_at program.now i p) }
+    ensures writer { Reads program.now i p → result ≡ producer_of program.now (stream_at program.now i p) }
 {
     let s = stream_at(program, i, p);
     if writes_at(program, i, p) {
@@ -193,7 +194,7 @@ fn other_end(program: &Program, i: usize, p: usize) -> usize
 }
 
 // Puts the other ends of an instance's streams on a list.
-pub fn wake(program: &Program, later: &mut Vec<usize>, i: usize) -> Result<(), AllocError>
+pub fn wake(program: &Program, later: &mut Vec<usize>, i: usize) -> Result<(), OutOfMemory>
     requires connected { IsConnected program.now }
     requires instance { i < length program.now.instances.items }
     requires below { AreBelow (length program.now.instances.items) later.old.items }

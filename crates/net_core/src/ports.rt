@@ -1,25 +1,24 @@
-// The ports of an instance.
-
-ghost use Rattle.std.specs.Prelude.{ℕ, ◌≡◌, ◌<◌, ◌≤◌, ◌↔◌, [], ◌∷◌, length, slice_get, MatchOption, IsTrue, IfOk, MatchBool};
+ghost use Rattle.std.specs.Prelude.{◌≡◌, ◌<◌, ◌↔◌, [], ◌∷◌, length, slice_get, MatchOption, IsTrue, IfOk, MatchBool};
 ghost use Rattle.kahn_model.specs.declared.tick.Tick.TheVariants.{Did, Take};
 ghost use Rattle.kahn_model.specs.declared.tick.Action.TheVariants.{Put};
-ghost use Rattle.net_core.specs.Ports.{waiting, carried, room_at, port_count, Moved, Adjusted};
+ghost use Rattle.net_core.specs.Kinds.{IsTokenOf, AreTokensOf};
+ghost use Rattle.net_core.specs.Ports.{waiting, carried, room_at, port_count, kind_at, Moved, Adjusted};
 
 use crate::port::Port;
-use tapa_base::Token;
-use std::alloc::AllocError;
+use tapa_base::{OutOfMemory, Token};
 
-/// The ports of an instance, by the positions of its streams.
+/// The ports of an instance, by the positions of its streams. Each datum in them is a value of the kind of its stream.
 #[derive(Drop)]
 pub struct Ports {
-    pub ports: Vec<Port>,
+    pub(crate) ports: Vec<Port>,
 }
 
 impl Ports {
     /// The token that waits at a port.
     pub fn front(&self, s: u32) -> Option<Token>
         requires { s < port_count self.now }
-        ensures { result ≡ slice_get (waiting self.now s) 0 }
+        ensures token { result ≡ slice_get (waiting self.now s) 0 }
+        ensures kind { (t : Token) → result ≡ Some t → IsTokenOf (kind_at self.now s) t }
     {
         let port = &self.ports[s as usize];
         port.tokens.get(port.head).copied()
@@ -29,6 +28,7 @@ impl Ports {
     pub fn take(&mut self, s: u32) -> Option<Token>
         requires { s < port_count self.old }
         ensures token { result ≡ slice_get (waiting self.old s) 0 }
+        ensures kind { (t : Token) → result ≡ Some t → IsTokenOf (kind_at self.old s) t }
         ensures moved { MatchOption result (self.new ≡ self.old) (λ t. Moved self.old (Take s t ∷ []) self.new) }
     {
         match self.front(s) {
@@ -51,7 +51,8 @@ impl Ports {
 
     /// Puts a token, where there is room.
     pub fn put(&mut self, s: u32, t: Token) -> bool
-        requires { s < port_count self.old }
+        requires port { s < port_count self.old }
+        requires kind { IsTokenOf (kind_at self.old s) t }
         ensures { MatchBool result (Moved self.old (Did (Put s t) ∷ []) self.new) ((self.new ≡ self.old) × (room_at self.old s ≡ 0)) }
     {
         if !self.room(s) {
@@ -65,8 +66,8 @@ impl Ports {
         }
     }
 
-    /// How as_many tokens wait at a port.
-    pub fn left(&self, s: usize) -> usize
+    /// How many tokens wait at a port.
+    pub(crate) fn left(&self, s: usize) -> usize
         requires { s < port_count self.now }
         ensures { result ≡ length (waiting self.now s) }
     {
@@ -75,16 +76,18 @@ impl Ports {
     }
 
     /// All tokens that were written to a port's stream.
-    pub fn carried(&self, s: usize) -> &[Token]
+    pub(crate) fn carried(&self, s: usize) -> &[Token]
         requires { s < port_count self.now }
-        ensures { result.now ≡ carried self.now s }
+        ensures tokens { result.now ≡ carried self.now s }
+        ensures kind { AreTokensOf (kind_at self.now s) result.now }
     {
         self.ports[s].carried.as_slice()
     }
 
     /// Lets these tokens wait at a port.
-    pub fn offer(&mut self, s: usize, tokens: Vec<Token>)
-        requires { s < port_count self.old }
+    pub(crate) fn offer(&mut self, s: usize, tokens: Vec<Token>)
+        requires port { s < port_count self.old }
+        requires kind { AreTokensOf (kind_at self.old s) tokens.items }
         ensures adjusted { Adjusted self.old s self.new }
         ensures waits { waiting self.new s ≡ tokens.items }
     {
@@ -94,7 +97,7 @@ impl Ports {
     }
 
     /// Makes room for tokens at a port.
-    pub fn make_room(&mut self, s: usize, room: usize) -> Result<(), AllocError>
+    pub(crate) fn make_room(&mut self, s: usize, room: usize) -> Result<(), OutOfMemory>
         requires { s < port_count self.old }
         ensures adjusted { Adjusted self.old s self.new }
         ensures room { IfOk result (λ _. room_at self.new s ≡ room) }

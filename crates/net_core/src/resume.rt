@@ -1,23 +1,22 @@
 // A call of one body.
-
-ghost use Rattle.std.specs.Prelude.{ℕ, ◌≡◌, ◌<◌, ◌≤◌, ◌+◌, ◌^◌, List, length, slice_index, slice_set, Some, IfOk, OnErr};
+ghost use Rattle.std.specs.Prelude.{◌≡◌, ◌<◌, ◌+◌, ◌^◌, List, length, IfOk, OnErr};
 ghost use Rattle.kahn_model.specs.declared.tick.Tick.{Tick};
-ghost use Rattle.kahn_model.specs.Behavior.{Behavior};
-ghost use Rattle.net_core.specs.Run.{CanResume, InRange, Agrees, Resumed};
-ghost use Rattle.net_core.specs.Ports.{port_count};
-ghost use Rattle.net_core.specs.Bounded.{IsConnected, count_of};
-ghost use Rattle.net_core.specs.State.{NetAt, at, HasResumed};
+ghost use Rattle.net_core.specs.Job.{Job};
+ghost use Rattle.net_core.specs.Resume.{CanResume, Agrees, Resumed};
+ghost use Rattle.net_core.specs.Ports.{ends_of};
+ghost use Rattle.net_core.specs.State.{count, HasResumed};
 
 use crate::body::{Body, Pause};
 use crate::load::{count_taken, load_ports};
 use crate::net::Net;
 use crate::ports::Ports;
-use std::alloc::{AllocError, Global};
+use std::alloc::Global;
+use tapa_base::OutOfMemory;
 
-// Resumes a body, and counts the ticks that it makes.
+/// Resumes a body, and counts the ticks that it makes.
 fn resume_body<B: Body>(body: &mut B, ports: &mut Ports, fuel: u64) -> (Pause, u64)
     requires { CanResume (B.stands body.old) ports.old fuel }
-    ensures { (job : ℕ → Behavior) (ts : List Tick) → B.stands body.old job ts → ((n : ℕ) → InRange (port_count ports.old) (job n)) → Agrees job ts ports.old → (h : Resumed (B.stands body.new job) job ts ports.old fuel result.0 ports.new) × (length h.made ≡ result.1) }
+    ensures { (job : Job) (ts : List Tick) → B.stands body.old job ts → ends_of ports.old ≡ job.ends → Agrees job.behavior ts ports.old → (h : Resumed (B.stands body.new job) job.behavior ts ports.old fuel result.0 ports.new) × (length h.made ≡ result.1) }
 {
     let before = body.ticks();
     let pause = body.resume(ports, fuel);
@@ -25,20 +24,17 @@ fn resume_body<B: Body>(body: &mut B, ports: &mut Ports, fuel: u64) -> (Pause, u
     (pause, made)
 }
 
-/// Resumes one instance with its ports.
+/// Resumes one instance with its ports, and gives its answer and the ticks that it made.
 pub fn resume_instance<B: Body>(
     alloc: Global,
     net: &mut Net<B>,
     i: usize,
     fuel: u64,
-) -> Result<(Pause, u64), AllocError>
-    requires connected { IsConnected net.old.program }
-    requires stands { NetAt B.stands net.old }
+) -> Result<(Pause, u64), OutOfMemory>
     requires instance { i < length net.old.program.instances.items }
-    requires fits { at net.old i + fuel < 2 ^ 64 }
-    ensures program { net.new.program ≡ net.old.program }
-    ensures failed { OnErr result (NetAt B.stands net.new) }
-    ensures resumed { IfOk result (λ r. HasResumed B.stands net.old net.new i fuel r.0 r.1) }
+    requires fits { count net.old i + fuel < 2 ^ 64 }
+    ensures failed { OnErr result (net.new ≡ net.old) }
+    ensures resumed { IfOk result (λ r. HasResumed net.old net.new i fuel r.0 r.1) }
 {
     load_ports(
         alloc,

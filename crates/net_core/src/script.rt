@@ -1,13 +1,9 @@
-// A body that follows a list of steps.
-
-ghost use Rattle.std.specs.Prelude.{ℕ, ◌≡◌, ◌<◌, ◌≤◌, ◌+◌, ◌^◌, ◌++◌, ◌∷◌, List, [], length, slice_get};
-ghost use Rattle.kahn_model.specs.declared.tick.Tick.{Tick};
-ghost use Rattle.kahn_model.specs.Behavior.{Behavior};
-ghost use Rattle.net_core.specs.declared.ports.Ports.{Ports};
-ghost use Rattle.net_core.specs.Ports.{port_count, Moved};
-ghost use Rattle.net_core.specs.Run.{InRange, Agrees};
+// A body that follows a list of steps: a small example of the trait, for tests.
+ghost use Rattle.std.specs.Prelude.{ℕ, ◌≡◌, ◌<◌, ◌+◌, ◌^◌, List, length, drop, slice_get};
+ghost use Rattle.tapa_syntax.specs.declared.program.End.{End};
+ghost use Rattle.net_core.specs.Ports.{ends_of};
 ghost use Rattle.net_core.specs.Follow.{IsLook, IsReady};
-ghost use Rattle.net_core.specs.Script.{rest_of, AreInRange, IsAt, GoesTo};
+ghost use Rattle.net_core.specs.Script.{rest_of, AreAtStreams, IsAt, GoesTo};
 
 use crate::body::{Body, Pause};
 use crate::ports::Ports;
@@ -40,7 +36,7 @@ impl Script {
 
     // How the script stands at its ports.
     fn look(&self, ports: &Ports) -> Pause
-        requires { AreInRange (port_count ports.now) (rest_of self.now) }
+        requires { AreAtStreams (ends_of ports.now) (drop self.now.at self.now.steps.items) }
         ensures { IsLook (rest_of self.now) ports.now result }
     {
         if self.ended {
@@ -67,10 +63,11 @@ impl Script {
     // Makes a tick.
     fn tick(&mut self, ports: &mut Ports)
         requires ready { IsReady (rest_of self.old) ports.old }
-        requires in_range { AreInRange (port_count ports.old) (rest_of self.old) }
+        requires at_streams { AreAtStreams (ends_of ports.old) (drop self.old.at self.old.steps.items) }
         requires few { self.old.made + 1 < 2 ^ 64 }
         ensures made { self.new.made ≡ self.old.made + 1 }
         ensures goes { GoesTo (rest_of self.old) ports.old (rest_of self.new) ports.new }
+        ensures at_streams { (ends : List End) → AreAtStreams ends (drop self.old.at self.old.steps.items) → AreAtStreams ends (drop self.new.at self.new.steps.items) }
     {
         self.made += 1;
         match self.step_at() {

@@ -2,7 +2,7 @@ use Rattle.std.proofs.Common.{◌≡◌, ℕ, ◌+◌, ◌≤◌, List, length}
 use Rattle.kahn_model.specs.declared.tick.Tick.{Tick}
 use Rattle.kahn_model.specs.Behavior.{Behavior}
 use Rattle.net_core.specs.Ports.{port_count}
-use Rattle.net_core.specs.Run.{InRange, Agrees}
+use Rattle.net_core.specs.Resume.{InRange, Agrees}
 use Rattle.net_core.specs.Follow.{Going}
 use Rattle.net_core.specs.Script.{rest_of, AreInRange, IsAt}
 use Rattle.net_core.proofs.script.ScriptBody.resume.Given as goal

@@ -13,8 +13,7 @@ use Rattle.kahn_model.specs.Network.{Network}
 use Rattle.kahn_model.specs.Counts.{written, taken}
 use Rattle.kahn_model.specs.Trace.{act_at, at_streams}
 use Rattle.net_core.specs.declared.ports.Ports.{Ports}
-use Rattle.net_core.specs.Ports.{waiting, room_at, port_count}
-use Rattle.net_core.specs.Run.{InRange}
+use Rattle.net_core.specs.Ports.{waiting, room_at}
 
 abbrev pub tick_at : (ℕ → ℕ) → Tick → Tick
 tick_at f (Did a) = Did (act_at f a)
@@ -58,27 +57,25 @@ abbrev pub AreAt : (ℕ → Type 0) → (ℕ → Type 0) → List Tick → Type 
 AreAt R W [] = Unit {0}
 AreAt R W (t ∷ ts) = TickAt R W t × AreAt R W ts
 
--- instance i of a network is bound so
-pub record IsPlugged (net : Network) (i : ℕ) (arity : ℕ) (job : ℕ → Behavior) (f : ℕ → ℕ) (R W : ℕ → Type 0) : Type 0 where
+-- instance i of a network has this behavior, whose positions are bound to these streams
+pub record IsPlaced (net : Network) (i : ℕ) (job : ℕ → Behavior) (f : ℕ → ℕ) (R W : ℕ → Type 0) : Type 0 where
   pub inside : i < net.size
   pub placed : (n : ℕ) → net.job i n ≡ at_streams f (job n)
   pub at : (n : ℕ) → IsAt R W (job n)
-  pub in_range : (n : ℕ) → InRange arity (job n)
   pub reads_one : (p q : ℕ) → R p → R q → f p ≡ f q → p ≡ q
   pub writes_one : (p q : ℕ) → W p → W q → f p ≡ f q → p ≡ q
   pub reader : (p : ℕ) → R p → net.consumer (f p) ≡ i
   pub writer : (p : ℕ) → W p → net.producer (f p) ≡ i
 
 -- a body stands for the job of instance i after its ticks, on the tokens of its streams
-pub record IsStanding (Stands : (ℕ → Behavior) → List Tick → Type 0) (net : Network) (k : ℕ → ℕ) (i : ℕ) (job : ℕ → Behavior) (f : ℕ → ℕ) : Type 0 where
+pub record IsStanding (Stands : List Tick → Type 0) (net : Network) (k : ℕ → ℕ) (i : ℕ) (job : ℕ → Behavior) (f : ℕ → ℕ) : Type 0 where
   pub ticks : List Tick
-  pub stands : Stands job ticks
+  pub stands : Stands ticks
   pub count : length ticks ≡ k i
   pub tests : ℕ
   pub runs : IsPrefixOf ticks (Rattle.kahn_model.specs.Behavior.ticks (job tests) (λ p. written net k (f p)))
 
 -- the ports of an instance hold what its streams have
-pub record PortsAre (net : Network) (k : ℕ → ℕ) (ports : Ports) (arity : ℕ) (f : ℕ → ℕ) (R W : ℕ → Type 0) : Type 0 where
-  pub as_many : port_count ports ≡ arity
+pub record PortsAre (net : Network) (k : ℕ → ℕ) (ports : Ports) (f : ℕ → ℕ) (R W : ℕ → Type 0) : Type 0 where
   pub waits : (p : ℕ) → R p → waiting ports p ≡ drop (length (taken net k (f p))) (written net k (f p))
   pub room : (p : ℕ) → W p → room_at ports p ≡ net.depth (f p) - (length (written net k (f p)) - length (taken net k (f p)))

@@ -13,18 +13,8 @@ use Rattle.kahn_model.specs.Prefix.{IsPrefixOf}
 use Rattle.net_core.specs.declared.ports.Ports.{Ports}
 use Rattle.net_core.specs.declared.body.Pause.{Pause}
 use Rattle.net_core.specs.declared.body.Pause.TheVariants.{Ended as HasEnded, WantsRead, WantsWrite, BadToken, Fuel}
-use Rattle.net_core.specs.Ports.{waiting, room_at, port_count, Moved}
-
--- a job is at ports that are there
-abbrev pub InRangeAct : ℕ → Action → Type 0
-InRangeAct m (Put p t) = p < m
-InRangeAct m _ = Unit {0}
-
-abbrev pub InRange : ℕ → Behavior → Type 0
-InRange m Finished = Unit {0}
-InRange m OutOfTurns = Unit {0}
-InRange m (Act a rest) = InRangeAct m a × InRange m rest
-InRange m (Await p how rest) = (p < m) × ((v : ℕ) → InRange m (rest v))
+use Rattle.net_core.specs.Ports.{waiting, room_at, ends_of, Moved}
+use Rattle.net_core.specs.Job.{Job}
 
 -- the lists of a job that has made these ticks: the tokens that it took, and those that wait
 abbrev pub lists_at : List Tick → Ports → ℕ → List Token
@@ -35,12 +25,12 @@ abbrev pub Agrees : (ℕ → Behavior) → List Tick → Ports → Type 0
 Agrees job ts ports = (n : ℕ) × IsPrefixOf ts (ticks (job n) (lists_at ts ports))
 
 -- what a call of resume asks
-pub record CanResume (Stands : (ℕ → Behavior) → List Tick → Type 0) (ports : Ports) (fuel : ℕ) : Type 0 where
-  pub job : ℕ → Behavior
+pub record CanResume (Stands : Job → List Tick → Type 0) (ports : Ports) (fuel : ℕ) : Type 0 where
+  pub job : Job
   pub ticks : List Tick
   pub stands : Stands job ticks
-  pub in_range : (n : ℕ) → InRange (port_count ports) (job n)
-  pub agrees : Agrees job ticks ports
+  pub ends : ends_of ports ≡ job.ends
+  pub agrees : Agrees job.behavior ticks ports
   pub fits : length ticks + fuel < 2 ^ 64
 
 -- the port has room for the token that a tick puts
