@@ -13,3 +13,5 @@ pub mod SlowFlows
 pub mod Local
 pub mod Ends
 pub mod Values
+pub mod Fits
+pub mod FitsNetwork

@@ -1,17 +1,19 @@
 -- A well-formed program is wired: each leaf uses its streams as it declares them, and each stream is bound to the two
 -- instances that write and read it.
-use Rattle.std.proofs.Common.{◌≡◌, ℕ, ◌<◌, List, length, Bool, true, false, Option, Some, None, get_or, refl, sym, ap, ◌∙◌, subst, arith}
-use Rattle.std.specs.Prelude.{slice_get, slice_index, option_map}
+use Rattle.std.proofs.Common.{◌≡◌, ℕ, List, length, Bool, true, false, Option, Some, None, get_or, refl, sym, ap, ◌∙◌, subst, arith}
+use Rattle.std.specs.Prelude.{slice_get, option_map, unwrap_or}
 use Rattle.std.proofs.lemmas.Option.{slice_get_within, slice_get-get_or}
 use Rattle.tapa_syntax.specs.declared.program.End.{End}
 use Rattle.tapa_syntax.specs.declared.program.Instance.{Instance}
 use Rattle.tapa_syntax.specs.declared.program.Leaf.{Leaf}
 use Rattle.tapa_syntax.specs.declared.program.Program.{Program}
 use Rattle.tapa_syntax.specs.declared.program.Stream.{Stream}
-use Rattle.tapa_syntax.specs.LeafKinds.{writes_of}
-use Rattle.tapa_syntax.specs.WellFormed.{IsEndOf, IsStreamAt, IsLeaf, IsInstance, IsWellFormed}
+use Rattle.tapa_syntax.specs.LeafKinds.{kinds_of, writes_of}
+use Rattle.tapa_syntax.specs.WellFormed.{IsEndOf, IsInstance, IsWellFormed}
 use Rattle.kahn_model.specs.Network.{IsNetwork}
 use Rattle.kahn_model.specs.ProgramNetwork.{stream_at, end_of, IsBound, IsWired}
+use Rattle.tapa_base.specs.declared.kind.Kind.TheVariants.{U64}
+use Rattle.kahn_model.specs.Fits.{stream_kind}
 use Rattle.kahn_model.specs.Start.{network_of, first_state}
 use Rattle.kahn_model.proofs.Wired.{wired_network}
 
@@ -30,6 +32,12 @@ bound_end program i x leaf h p b w =
     let (e, is, ew) = end_there (slice_get leaf.streams.items p) b w in
     let at = h.streams p (stream_at x p) e (get_there x.streams.items leaf.streams.items p e h.streams_len is 0) is in
     (at.stream, at.is, subst (λ c. IsEndOf i c at.stream) ew at.end)
+
+pub stream_kind_at : (program : Program) (i : ℕ) (x : Instance) (leaf : Leaf) → IsInstance program i x leaf → (p : ℕ) (b : Bool) → writes_of leaf.streams.items p ≡ Some b → (kinds_of leaf).streams p ≡ stream_kind program (stream_at x p)
+stream_kind_at program i x leaf h p b w =
+    let (e, is, ew) = end_there (slice_get leaf.streams.items p) b w in
+    let at = h.streams p (stream_at x p) e (get_there x.streams.items leaf.streams.items p e h.streams_len is 0) is in
+    ap (λ o. unwrap_or (option_map (λ (e : End). e.kind) o) U64) is ∙ sym at.kind ∙ sym (ap (λ o. unwrap_or (option_map (λ (r : Stream). r.kind) o) U64) at.is)
 
 same_leaf : (a b : Leaf) (o : Option Leaf) → o ≡ Some a → o ≡ Some b → a ≡ b
 same_leaf a b o e f = cc

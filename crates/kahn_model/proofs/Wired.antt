@@ -18,13 +18,13 @@ use Rattle.kahn_model.specs.Network.{IsNetwork, OwnAct, Owns}
 use Rattle.kahn_model.proofs.Statements.{job_extends, job_lasts}
 
 -- a job puts only where w says so, and waits only where it says the other
-abbrev KeepsAct : (ℕ → Option Bool) → Action → Type 0
+abbrev pub KeepsAct : (ℕ → Option Bool) → Action → Type 0
 KeepsAct w Local = Unit {0}
 KeepsAct w (Put s t) = w s ≡ Some true
 KeepsAct w (Load m a) = Unit {0}
 KeepsAct w (Store m a v) = Unit {0}
 
-abbrev Keeps : (ℕ → Option Bool) → Behavior → Type 0
+abbrev pub Keeps : (ℕ → Option Bool) → Behavior → Type 0
 Keeps w Finished = Unit {0}
 Keeps w OutOfTurns = Unit {0}
 Keeps w (Act a rest) = KeepsAct w a × Keeps w rest
@@ -105,6 +105,10 @@ kept_statements : (w : ℕ → Option Bool) (K : Kinds) (n : ℕ) (code : List S
 kept_statements w K n [] u f fo fa h ho ha σ = h σ
 kept_statements w K n (s ∷ rest) (us, ur) f fo fa h ho ha σ = kept_stmt w K n s us _ fo fa (kept_statements w K n rest ur f fo fa h ho ha) ho ha σ
 
+pub body_keeps : (leaf : Leaf) → UsesBody (writes_of leaf.streams.items) leaf.code.items → (σ : State) (n : ℕ) → Keeps (writes_of leaf.streams.items) (job_of (kinds_of leaf) leaf.code.items σ n)
+body_keeps leaf u σ n =
+    (kept_statements (writes_of leaf.streams.items) (kinds_of leaf) n leaf.code.items u _ _ _ (finished _) (finished _) (finished _) σ).kept
+
 -- at the streams of an instance
 extends_at : (f : ℕ → ℕ) (a b : Behavior) → Extends a b → Extends (at_streams f a) (at_streams f b)
 extends_at f Finished b e = ap (at_streams f) e
@@ -142,7 +146,7 @@ leaf_owns : (p c : ℕ → ℕ) (i : ℕ) (o : Option Leaf) (instance : Instance
 leaf_owns p c i None instance σ n h = tt
 leaf_owns p c i (Some leaf) instance σ n h =
     let b = h leaf refl in
-    owns_at p c i (writes_of leaf.streams.items) (stream_at instance) b.writer b.reader _ (kept_statements (writes_of leaf.streams.items) (kinds_of leaf) n leaf.code.items b.uses _ _ _ (finished _) (finished _) (finished _) σ).kept
+    owns_at p c i (writes_of leaf.streams.items) (stream_at instance) b.writer b.reader _ (body_keeps leaf b.uses σ n)
 
 instance_grows : (leaves : List Leaf) (o : Option Instance) (σ : State) (n m : ℕ) → n ≤ m → Extends (instance_job leaves o σ n) (instance_job leaves o σ m)
 instance_grows leaves None σ n m le = refl

@@ -8,3 +8,4 @@ pub mod Timed
 pub mod Slow
 pub mod Outcome
 pub mod Start
+pub mod Fits

@@ -1,7 +1,6 @@
 -- The job of a leaf body: a recursion on its statements.
-use Rattle.std.specs.Prelude.{ℕ, zero, suc, ◌+◌, ◌-◌, ◌*◌, ◌%◌, ◌^◌, List, [], ◌∷◌, length, replicate, ◌==◌, nat_lt, if◌then◌else◌, slice_index, slice_index_or, slice_set}
+use Rattle.std.specs.Prelude.{ℕ, zero, suc, ◌-◌, ◌*◌, ◌^◌, List, [], ◌∷◌, length, replicate, slice_index, slice_index_or, slice_set}
 use Rattle.tapa_base.specs.declared.token.Token.TheVariants.{Datum, Eot as EotToken}
-use Rattle.tapa_base.specs.declared.kind.Kind.{Kind}
 use Rattle.tapa_base.specs.Kinds.{bits_of, converted}
 use Rattle.tapa_base.specs.Operators.{applied}
 use Rattle.tapa_syntax.specs.declared.program.Expr.{Expr}

@@ -1,6 +1,6 @@
 // The laws of rounds and counts.
 
-ghost use Rattle.std.specs.Prelude.{ℕ, suc, ◌≡◌, ◌<◌, ◌≤◌, ◌+◌, ◌*◌, ◌⊎◌, Bool, List, length, Some, slice_get};
+ghost use Rattle.std.specs.Prelude.{ℕ, suc, ◌≡◌, ◌<◌, ◌≤◌, ◌+◌, ◌*◌, ◌⊎◌, Bool, List, length, Some, slice_get, All};
 ghost use Rattle.kahn_model.specs.Behavior.{Tick, ticks};
 ghost use Rattle.kahn_model.specs.Network.{Network, IsNetwork, stream, round};
 ghost use Rattle.kahn_model.specs.Counts.{IsReachable, IsFounded, IsEnding, IsKahnPrefix, written, ticks_made, next, HasToken, IsSupplied, HasEnded, IsKahnStream, total, round_of};
@@ -9,6 +9,7 @@ ghost use Rattle.kahn_model.specs.Timed.{Clock, IsClock, count_at};
 ghost use Rattle.kahn_model.specs.Trace.{State};
 ghost use Rattle.kahn_model.specs.ProgramNetwork.{network_with, IsWired};
 ghost use Rattle.kahn_model.specs.Start.{network_of};
+ghost use Rattle.kahn_model.specs.Fits.{IsTokenOf, KeepsKinds, TickFits, stream_kind, memory_kind, FitsInput};
 ghost use Rattle.tapa_syntax.specs.WellFormed.{IsWellFormed};
 ghost use Rattle.tapa_syntax.specs.declared.program.Program.{Program};
 ghost use Rattle.kahn_model.specs.Prefix.{IsPrefixOf};
@@ -50,6 +51,15 @@ pub fn law_wired_network()
 pub fn law_program_network()
     ensures wired { (program : Program) → IsWellFormed program → IsWired program }
     ensures network { (program : Program) → IsWellFormed program → (scalars : List ℕ) (memories : List (List ℕ)) → IsNetwork (network_of program scalars memories) }
+{}
+
+/// In the network of a well-formed program on an input that fits it, every token is one of its stream's kind, and what
+/// a task stores is a value of its memory's kind.
+pub fn law_tokens_fit()
+    ensures behaviors { (program : Program) → IsWellFormed program → (scalars : List ℕ) (memories : List (List ℕ)) → FitsInput program scalars memories → (i n : ℕ) → KeepsKinds (stream_kind program) (memory_kind program i) ((network_of program scalars memories).job i n) }
+    ensures rounds { (program : Program) → IsWellFormed program → (scalars : List ℕ) (memories : List (List ℕ)) → FitsInput program scalars memories → (n s : ℕ) → All (IsTokenOf (stream_kind program s)) (stream (network_of program scalars memories) n s) }
+    ensures written { (program : Program) → IsWellFormed program → (scalars : List ℕ) (memories : List (List ℕ)) → FitsInput program scalars memories → (k : ℕ → ℕ) (s : ℕ) → All (IsTokenOf (stream_kind program s)) (written (network_of program scalars memories) k s) }
+    ensures made { (program : Program) → IsWellFormed program → (scalars : List ℕ) (memories : List (List ℕ)) → FitsInput program scalars memories → (k : ℕ → ℕ) (i : ℕ) → All (TickFits (stream_kind program) (memory_kind program i)) (ticks_made (network_of program scalars memories) k i) }
 {}
 
 /// The counts of a clock are counts that streams without limit reach, so what they have written is a prefix of the
