@@ -11,9 +11,13 @@ use Rattle.kahn_model.specs.Network.{Network}
 use Rattle.kahn_model.specs.Counts.{total, written, taken, zeros, IsReachable}
 use Rattle.net_core.specs.declared.ports.Ports.{Ports}
 use Rattle.net_core.specs.declared.body.Pause.{Pause}
-use Rattle.net_core.specs.Ports.{port_count_of, carried_of}
-use Rattle.net_core.specs.Bounded.{IsConnected, network_of, job_at, arity, stream_at, Writes, count_of, IsNetAt}
-use Rattle.net_core.specs.State.{IsWriter}
+use Rattle.net_core.specs.declared.input.Input.{Input}
+use Rattle.net_core.specs.Job.{Job}
+use Rattle.net_core.specs.Ports.{ends_in, carried_of}
+use Rattle.tapa_syntax.specs.WellFormed.{IsWellFormed}
+use Rattle.kahn_model.specs.Fits.{FitsInput}
+use Rattle.net_core.specs.Bindings.{IsConnected, ends_at, stream_at, producer_of, IsWriter}
+use Rattle.net_core.specs.Bounded.{scalars_of, memories_of, network_on, instance_job, IsNetworkOf, count_of, IsNetAt}
 
 -- what holds at each index of a list and of one more element
 pub get_push : {A X : Type 0} (f : Option A → X) (xs : List A) (y : A) (P : ℕ → X → Type 0) → ((i : ℕ) → i < length xs → P i (f (slice_get xs i))) → P (length xs) (f (Some y)) → (i : ℕ) → i < length xs + 1 → P i (f (slice_get (xs ++ y ∷ []) i))
@@ -40,8 +44,8 @@ pub zero_total : (m : ℕ) → total m zeros ≡ 0
 zero_total zero = refl
 zero_total (suc m) = let a = zero_total m in omega arith
 
-pub writer_push : (program : Program) (xs zs : List ℕ) (y : ℕ) → zs ≡ xs ++ y ∷ [] → ((s : ℕ) → s < length xs → IsWriter program s (slice_index xs s)) → IsWriter program (length xs) y → (s : ℕ) → s < length xs + 1 → IsWriter program s (slice_index zs s)
-writer_push program xs zs y e h g s l = subst (λ v. IsWriter program s (slice_index v s)) (sym e) (go xs (λ s p. IsWriter program s p) h g s l)
+pub writer_push : (program : Program) (xs zs : List ℕ) (y : ℕ) → zs ≡ xs ++ y ∷ [] → ((s : ℕ) → s < length xs → IsWriter program s (producer_of program s) (slice_index xs s)) → IsWriter program (length xs) (producer_of program (length xs)) y → (s : ℕ) → s < length xs + 1 → IsWriter program s (producer_of program s) (slice_index zs s)
+writer_push program xs zs y e h g s l = subst (λ v. IsWriter program s (producer_of program s) (slice_index v s)) (sym e) (go xs (λ s p. IsWriter program s (producer_of program s) p) h g s l)
   where
     go : (xs : List ℕ) (P : ℕ → ℕ → Type 0) → ((s : ℕ) → s < length xs → P s (slice_index xs s)) → P (length xs) y → (s : ℕ) → s < length xs + 1 → P s (slice_index (xs ++ y ∷ []) s)
     go [] P h g zero l = g
@@ -49,9 +53,13 @@ writer_push program xs zs y e h g s l = subst (λ v. IsWriter program s (slice_i
     go (x ∷ xs) P h g zero l = h zero (omega arith)
     go (x ∷ xs) P h g (suc s) l = go xs (λ n. P (suc n)) (λ n k. h (suc n) (omega arith)) g s (omega arith)
 
-pub first_net : {B : Type 0} (Stands : B → (ℕ → Behavior) → List Tick → Type 0) (program : Program) (bodies : List B) (ports : List Ports) (writers offered taken_list counts : List ℕ) (pauses : List (Option Pause)) → length bodies ≡ length program.instances.items → length ports ≡ length program.instances.items → length counts ≡ length program.instances.items → length pauses ≡ length program.instances.items → length writers ≡ length program.streams.items → length offered ≡ length program.streams.items → length taken_list ≡ length program.streams.items → ((i : ℕ) (b : B) → slice_get bodies i ≡ Some b → Stands b (job_at program i) []) → ((i : ℕ) → i < length program.instances.items → port_count_of ports i ≡ arity program i) → ((i p : ℕ) → carried_of ports i p ≡ []) → ((s : ℕ) → s < length program.streams.items → IsWriter program s (slice_index writers s)) → ((s : ℕ) → slice_index taken_list s ≡ 0) → zeros ≡ count_of counts → IsNetAt Stands program bodies ports writers offered taken_list counts pauses
-first_net Stands program bodies ports writers offered taken_list counts pauses lb lp lc lu lw lo lt first as_many none wr tz z = record {
-  reachable = subst (IsReachable (network_of program)) z (record { steps = []; allowed = tt; is_after = λ i. refl });
+pub first_net : {B : Type 0} (Stands : B → Job → List Tick → Type 0) (program : Program) (input : Input) → IsConnected program → IsNetworkOf program input → IsWellFormed program → FitsInput program (scalars_of input) (memories_of input) → (bodies : List B) (ports : List Ports) (writers offered taken_list counts : List ℕ) (pauses : List (Option Pause)) → length bodies ≡ length program.instances.items → length ports ≡ length program.instances.items → length counts ≡ length program.instances.items → length pauses ≡ length program.instances.items → length writers ≡ length program.streams.items → length offered ≡ length program.streams.items → length taken_list ≡ length program.streams.items → ((i : ℕ) (b : B) → slice_get bodies i ≡ Some b → Stands b (instance_job program input i) []) → ((i : ℕ) → i < length program.instances.items → ends_in ports i ≡ ends_at program i) → ((i p : ℕ) → carried_of ports i p ≡ []) → ((s : ℕ) → s < length program.streams.items → IsWriter program s (producer_of program s) (slice_index writers s)) → ((s : ℕ) → slice_index taken_list s ≡ 0) → zeros ≡ count_of counts → IsNetAt Stands program input bodies ports writers offered taken_list counts pauses
+first_net Stands program input connected network well fits bodies ports writers offered taken_list counts pauses lb lp lc lu lw lo lt first ends none wr tz z = record {
+  connected = connected;
+  network = network;
+  well_formed = well;
+  fits = fits;
+  reachable = subst (IsReachable (network_on program input)) z (record { steps = []; allowed = tt; is_after = λ i. refl });
   bodies_len = lb;
   ports_len = lp;
   counts_len = lc;
@@ -60,8 +68,8 @@ first_net Stands program bodies ports writers offered taken_list counts pauses l
   offered_len = lo;
   taken_len = lt;
   standing = λ i b e. record { ticks = []; stands = first i b e; count = ap (λ m. m i) z; tests = 0; runs = tt };
-  as_many = as_many;
-  carries = λ i p l d. none i p ∙ ap (λ m. written (network_of program) m (stream_at program i p)) z;
-  took = λ s l. tz s ∙ ap (λ m. length (taken (network_of program) m s)) z;
-  writes = wr;
+  ends = ends;
+  carries = λ i p l d. none i p ∙ ap (λ m. written (network_on program input) m (stream_at program i p)) z;
+  took = λ s l. tz s ∙ ap (λ m. length (taken (network_on program input) m s)) z;
+  writer_is = wr;
 }

@@ -1,5 +1,5 @@
 -- Ports after ticks.
-use Rattle.std.proofs.Common.{◌≡◌, ℕ, zero, suc, ◌+◌, ◌<◌, ◌≤◌, List, [], ◌∷◌, ◌++◌, length, drop, Option, Some, None, refl, sym, ap, ◌∙◌, subst, ⊎_elim, arith, length-append, append_assoc}
+use Rattle.std.proofs.Common.{◌≡◌, ℕ, zero, suc, ◌+◌, ◌<◌, ◌≤◌, List, [], ◌∷◌, ◌++◌, length, map, drop, Option, Some, None, refl, sym, ap, ◌∙◌, subst, ⊎_elim, arith, length-append, append_assoc}
 use Rattle.std.specs.Prelude.{slice_get, slice_set, flat_map, Bool, true, false, ◌==◌, if◌then◌else◌}
 use Rattle.std.proofs.lemmas.Bool.{cases_eq}
 use Rattle.std.proofs.lemmas.Bool.Decides.{nat_tests}
@@ -13,7 +13,7 @@ use Rattle.kahn_model.specs.declared.tick.Action.TheVariants.{Local, Put, Load, 
 use Rattle.kahn_model.specs.Network.{put_on, take_from}
 use Rattle.net_core.specs.declared.port.Port.{Port}
 use Rattle.net_core.specs.declared.ports.Ports.{Ports}
-use Rattle.net_core.specs.Ports.{waiting_in, carried_in, room_in, waiting, carried, room_at, port_count, Moved, Adjusted, port_count_in, carried_by, waiting_by, room_by, port_count_of, carried_of, waiting_of, room_of, IsReloaded}
+use Rattle.net_core.specs.Ports.{waiting_in, carried_in, room_in, waiting, carried, room_at, ends_of, kind_at, Moved, Adjusted, ends_by, carried_by, waiting_by, room_by, ends_in, carried_of, waiting_of, room_of, IsReloaded}
 
 pub drop_sum : {A : Type 0} (m n q : ℕ) (xs : List A) → q ≡ m + n → drop n (drop m xs) ≡ drop q xs
 drop_sum zero n q xs e = ap (λ k. drop k xs) (omega arith)
@@ -24,11 +24,11 @@ drop_sum (suc m) n zero (x ∷ xs) e = absurd (omega arith)
 drop_sum (suc m) n (suc q) (x ∷ xs) e = drop_sum m n q xs (omega arith)
 
 pub moved_none : (a b : Ports) → a ≡ b → Moved a [] b
-moved_none a b e = subst (Moved a []) e (record { as_many = refl; waits = λ p. refl; puts = λ p. sym (append-nil (carried a p)); rooms = λ p. omega arith })
+moved_none a b e = subst (Moved a []) e (record { ends = refl; waits = λ p. refl; puts = λ p. sym (append-nil (carried a p)); rooms = λ p. omega arith })
 
 pub moved_append : (a b c : Ports) (xs ys : List Tick) → Moved a xs b → Moved b ys c → Moved a (xs ++ ys) c
 moved_append a b c xs ys h k = record {
-  as_many = k.as_many ∙ h.as_many;
+  ends = k.ends ∙ h.ends;
   waits = λ p.
       k.waits p ∙ ap (drop (length (flat_map (take_from p) ys))) (h.waits p)
       ∙ drop_sum (length (flat_map (take_from p) xs)) (length (flat_map (take_from p) ys)) (length (flat_map (take_from p) (xs ++ ys))) (waiting a p) (ap length (flat_map-append (take_from p) xs ys) ∙ length-append (flat_map (take_from p) xs) (flat_map (take_from p) ys));
@@ -46,7 +46,7 @@ moved_append a b c xs ys h k = record {
 
 pub moved_still : (a b : Ports) (t : Tick) → ((p : ℕ) → take_from p t ≡ []) → ((p : ℕ) → put_on p t ≡ []) → Moved a [] b → Moved a (t ∷ []) b
 moved_still a b t ht hp h = record {
-  as_many = h.as_many;
+  ends = h.ends;
   waits = λ p. h.waits p ∙ ap (λ l. drop (length (l ++ [])) (waiting a p)) (sym (ht p));
   puts = λ p. h.puts p ∙ ap (λ l. carried a p ++ (l ++ [])) (sym (hp p));
   rooms = λ p. let e = ap (λ (l : List Token). length (l ++ [])) (hp p) in let r = h.rooms p in omega arith;
@@ -82,10 +82,16 @@ put_same s t = ap (λ b. (if b then t ∷ [] else []) ++ []) (test_true s s refl
 put_other : (s p : ℕ) (t : Token) → (s ≡ p → ⊥) → flat_map (put_on p) (Did (Put s t) ∷ []) ≡ []
 put_other s p t h = ap (λ b. (if b then t ∷ [] else []) ++ []) (test_false s p h)
 
+-- a change of one element that its image does not see
+pub map_set : {A B : Type 0} (f : A → B) (xs : List A) (s : ℕ) (q r : A) → slice_get xs s ≡ Some q → f r ≡ f q → map f (slice_set xs s r) ≡ map f xs
+map_set f [] s q r e h = refl
+map_set f (x ∷ xs) zero q r e h = let w : x ≡ q = cc in ap (λ y. y ∷ map f xs) (h ∙ ap f (sym w))
+map_set f (x ∷ xs) (suc s) q r e h = ap (λ l. f x ∷ l) (map_set f xs s q r e h)
+
 -- what one port's change does to all
-pub moved_take : (a b : Ports) (s : ℕ) (t : Token) (q r : Port) → slice_get a.ports.items s ≡ Some q → b.ports.items ≡ slice_set a.ports.items s r → r.tokens ≡ q.tokens → r.head ≡ q.head + 1 → r.carried ≡ q.carried → r.room ≡ q.room → Moved a (Take s t ∷ []) b
-moved_take a b s t q r eq eb et eh ec er = record {
-  as_many = ap length eb ∙ length-set a.ports.items s r;
+pub moved_take : (a b : Ports) (s : ℕ) (t : Token) (q r : Port) → slice_get a.ports.items s ≡ Some q → b.ports.items ≡ slice_set a.ports.items s r → r.end ≡ q.end → r.tokens ≡ q.tokens → r.head ≡ q.head + 1 → r.carried ≡ q.carried → r.room ≡ q.room → Moved a (Take s t ∷ []) b
+moved_take a b s t q r eq eb ee et eh ec er = record {
+  ends = ap (map (λ (p : Port). p.end)) eb ∙ map_set (λ (p : Port). p.end) a.ports.items s q r eq ee;
   waits = λ p.
       ⊎_elim
       (λ (e : s ≡ p). subst (λ x. waiting b x ≡ drop (length (flat_map (take_from x) (Take s t ∷ []))) (waiting a x)) e
@@ -120,9 +126,9 @@ moved_take a b s t q r eq eb et eh ec er = record {
     there : s < length a.ports.items
     there = slice_get_within a.ports.items s q eq
 
-pub moved_put : (a b : Ports) (s : ℕ) (t : Token) (q r : Port) → slice_get a.ports.items s ≡ Some q → b.ports.items ≡ slice_set a.ports.items s r → r.tokens ≡ q.tokens → r.head ≡ q.head → r.carried.items ≡ q.carried.items ++ t ∷ [] → r.room + 1 ≡ q.room → Moved a (Did (Put s t) ∷ []) b
-moved_put a b s t q r eq eb et eh ec er = record {
-  as_many = ap length eb ∙ length-set a.ports.items s r;
+pub moved_put : (a b : Ports) (s : ℕ) (t : Token) (q r : Port) → slice_get a.ports.items s ≡ Some q → b.ports.items ≡ slice_set a.ports.items s r → r.end ≡ q.end → r.tokens ≡ q.tokens → r.head ≡ q.head → r.carried.items ≡ q.carried.items ++ t ∷ [] → r.room + 1 ≡ q.room → Moved a (Did (Put s t) ∷ []) b
+moved_put a b s t q r eq eb ee et eh ec er = record {
+  ends = ap (map (λ (p : Port). p.end)) eb ∙ map_set (λ (p : Port). p.end) a.ports.items s q r eq ee;
   waits = λ p.
       ⊎_elim
       (λ (e : s ≡ p). subst (λ x. waiting b x ≡ waiting a x) e
@@ -156,9 +162,9 @@ moved_put a b s t q r eq eb et eh ec er = record {
     there : s < length a.ports.items
     there = slice_get_within a.ports.items s q eq
 
-pub adjust : (a b : Ports) (s : ℕ) (q r : Port) → slice_get a.ports.items s ≡ Some q → b.ports.items ≡ slice_set a.ports.items s r → r.carried.items ≡ q.carried.items → Adjusted a s b
-adjust a b s q r eq eb ec = record {
-  as_many = ap length eb ∙ length-set a.ports.items s r;
+pub adjust : (a b : Ports) (s : ℕ) (q r : Port) → slice_get a.ports.items s ≡ Some q → b.ports.items ≡ slice_set a.ports.items s r → r.end ≡ q.end → r.carried.items ≡ q.carried.items → Adjusted a s b
+adjust a b s q r eq eb ee ec = record {
+  ends = ap (map (λ (p : Port). p.end)) eb ∙ map_set (λ (p : Port). p.end) a.ports.items s q r eq ee;
   carries = λ p.
       ⊎_elim
       (λ (e : s ≡ p). subst (λ x. carried b x ≡ carried a x) e
@@ -176,10 +182,10 @@ adjust_at a b s r h eb = ap (λ l. slice_get l s) eb ∙ get_set_same a.ports.it
 pub reloaded : (all new : List Ports) (i p : ℕ) (x y : Ports) → slice_get all i ≡ Some x → new ≡ slice_set all i y → Adjusted x p y → IsReloaded all i p new
 reloaded all new i p x y e en a = record {
   len = ap length en ∙ length-set all i y;
-  as_many = λ j.
+  ends = λ j.
       ⊎_elim
-      (λ (q : i ≡ j). subst (λ z. port_count_of new z ≡ port_count_of all z) q (ap port_count_in here ∙ a.as_many ∙ ap port_count_in (sym e)))
-      (λ (d : i ≡ j → ⊥). ap port_count_in (other j d))
+      (λ (q : i ≡ j). subst (λ z. ends_in new z ≡ ends_in all z) q (ap ends_by here ∙ a.ends ∙ ap ends_by (sym e)))
+      (λ (d : i ≡ j → ⊥). ap ends_by (other j d))
       (cases_eq i j);
   carries = λ j q.
       ⊎_elim

@@ -18,15 +18,19 @@ use Rattle.kahn_model.proofs.Reach.{reach_founded}
 use Rattle.net_core.specs.declared.ports.Ports.{Ports}
 use Rattle.net_core.specs.declared.body.Pause.{Pause}
 use Rattle.net_core.specs.declared.body.Pause.TheVariants.{Fuel}
-use Rattle.net_core.specs.Ports.{waiting, carried, room_at, port_count, Moved, port_count_in, carried_by, waiting_by, room_by, port_count_of, carried_of, waiting_of, room_of}
-use Rattle.net_core.specs.Resume.{CanResume, Resumed}
+use Rattle.net_core.specs.Ports.{waiting, carried, room_at, ends_of, Moved, ends_by, carried_by, waiting_by, room_by, ends_in, carried_of, waiting_of, room_of}
+use Rattle.net_core.specs.declared.input.Input.{Input}
+use Rattle.net_core.specs.Job.{Job}
+use Rattle.net_core.specs.Resume.{CanResume, Agrees, Resumed}
 use Rattle.net_core.specs.Waits.{HoldsPause}
-use Rattle.net_core.specs.Placement.{tick_at, IsPlugged, IsStanding, PortsAre}
-use Rattle.net_core.specs.Bounded.{IsConnected, network_of, job_at, arity, stream_at, Reads, Writes, count_of, IsNetAt}
+use Rattle.net_core.specs.Placement.{tick_at, IsPlaced, IsStanding, PortsAre}
+use Rattle.net_core.specs.Bindings.{IsConnected, IsReader, arity, arity_in, ends_at, stream_at, stream_in, Reads, Writes, producer_of, consumer_of, depth_of}
+use Rattle.net_core.specs.Bounded.{network_on, instance_job, IsNetworkOf, IsBodyAt, count_of, IsNetAt}
+use Rattle.net_core.specs.State.{HasResumed}
 use Rattle.net_core.specs.Load.{HasPorts, AreKept, AreLoaded, list_at, queue_at}
 use Rattle.net_core.proofs.Moves.{get_set_same, get_set_other, test_true, test_false}
 use Rattle.net_core.proofs.Chunk.{plus, plus_same, plus_other, Chunk}
-use Rattle.net_core.proofs.Step.{plus_above, taken_begins, standing_other, holds_other, agrees, stepped, standing, carried_after, taken_after, written_else, taken_else, took_count, holds, goes_on}
+use Rattle.net_core.proofs.Stepped.{plus_above, taken_begins, standing_other, holds_other, agrees, stepped, standing, carried_after, taken_after, written_else, taken_else, took_count, holds, goes_on}
 
 pub has_item : {A : Type 0} (xs : List A) (i : ℕ) → i < length xs → (x : A) × (slice_get xs i ≡ Some x)
 has_item [] i h = absurd (omega arith)
@@ -37,16 +41,16 @@ pub in_streams : (program : Program) → IsConnected program → (i p : ℕ) →
 in_streams program connected i p inside l =
     let x = has_item program.instances.items i inside in
     let b = connected.built i x.0 x.1 in
-    let l' : p < length x.0.streams.items = subst (λ o. p < Rattle.net_core.specs.Bounded.arity_in o) x.1 l in
-    subst (λ o. Rattle.net_core.specs.Bounded.stream_in o p < length program.streams.items) (sym x.1) (b.streams p l')
+    let l' : p < length x.0.streams.items = subst (λ o. p < arity_in o) x.1 l in
+    subst (λ o. stream_in o p < length program.streams.items) (sym x.1) (b.streams p l')
 
-pub producer_in : (program : Program) → IsConnected program → (s : ℕ) → s < length program.streams.items → (network_of program).producer s < length program.instances.items
+pub producer_in : (program : Program) → IsConnected program → (s : ℕ) → s < length program.streams.items → producer_of program s < length program.instances.items
 producer_in program connected s l =
     let r = has_item program.streams.items s l in
     let k = connected.linked s r.0 r.1 in
     subst (λ n. n < length program.instances.items) (sym k.producer) k.producer_in
 
-pub consumer_in : (program : Program) → IsConnected program → (s : ℕ) → s < length program.streams.items → (network_of program).consumer s < length program.instances.items
+pub consumer_in : (program : Program) → IsConnected program → (s : ℕ) → s < length program.streams.items → consumer_of program s < length program.instances.items
 consumer_in program connected s l =
     let r = has_item program.streams.items s l in
     let k = connected.linked s r.0 r.1 in
@@ -61,15 +65,27 @@ count_set counts i v m l e j =
     (λ (d : j ≡ i → ⊥). get_or-set_other counts i j v 0 d ∙ ap (λ (t : Bool). if t then count_of counts j + m else count_of counts j) (sym (test_false j i d)))
     (cases_eq j i)
 
-module _ {B : Type 0} (Stands : B → (ℕ → Behavior) → List Tick → Type 0) (program : Program) (connected : IsConnected program) (bodies : List B) (ports : List Ports) (writers offered taken_list counts : List ℕ) (pauses : List (Option Pause)) (n : IsNetAt Stands program bodies ports writers offered taken_list counts pauses) where
-  founded : IsFounded (network_of program) (count_of counts)
-  founded = reach_founded (network_of program) (count_of counts) n.reachable
+module _ {B : Type 0} (Stands : B → Job → List Tick → Type 0) (program : Program) (input : Input) (bodies : List B) (ports : List Ports) (writers offered taken_list counts : List ℕ) (pauses : List (Option Pause)) (n : IsNetAt Stands program input bodies ports writers offered taken_list counts pauses) where
+  abbrev pub connected : IsConnected program
+  connected = n.connected
 
-  pub list_is : (s : ℕ) → s < length program.streams.items → list_at program ports writers s ≡ written (network_of program) (count_of counts) s
+  abbrev pub net : Network
+  net = network_on program input
+
+  abbrev pub is_network : IsNetwork (network_on program input)
+  is_network = n.network.is_network
+
+  abbrev pub job_at : ℕ → ℕ → Behavior
+  job_at i = (instance_job program input i).behavior
+
+  founded : IsFounded net (count_of counts)
+  founded = reach_founded net (count_of counts) n.reachable
+
+  pub list_is : (s : ℕ) → s < length program.streams.items → list_at program ports writers s ≡ written net (count_of counts) s
   list_is s l =
-      let w = n.writes s l in
-      n.carries ((network_of program).producer s) (slice_index writers s) (producer_in program connected s l) w.0
-      ∙ ap (written (network_of program) (count_of counts)) w.1
+      let w = n.writer_is s l in
+      n.carries (producer_of program s) (slice_index writers s) (producer_in program connected s l) w.0
+      ∙ ap (written net (count_of counts)) w.1
 
   pub has_ports : HasPorts program ports writers offered taken_list
   has_ports = record {
@@ -77,72 +93,69 @@ module _ {B : Type 0} (Stands : B → (ℕ → Behavior) → List Tick → Type 
     writers_len = n.writers_len;
     offered_len = n.offered_len;
     taken_len = n.taken_len;
-    as_many = n.as_many;
-    writes = λ s l. (n.writes s l).0;
+    ends = n.ends;
+    writer_is = n.writer_is;
     enough = λ s l.
         let a = n.took s l in
         let b = ap length (list_is s l) in
-        let c = prefix_length _ _ (taken_begins (network_of program) connected.is_network (count_of counts) founded s) in
+        let c = prefix_length _ _ (taken_begins net is_network (count_of counts) founded s) in
         omega arith;
   }
 
   module _ (i : ℕ) (inside : i < length program.instances.items) (ports' : List Ports) (offered' : List ℕ) (kept : AreKept ports offered ports' offered') (loaded : AreLoaded program (arity program i) i ports writers taken_list ports' offered') (x : Ports) (ex : slice_get ports' i ≡ Some x) where
-    pub ports_are : PortsAre (network_of program) (count_of counts) x (arity program i) (stream_at program i) (Reads program i) (Writes program i)
+    pub ports_are : PortsAre net (count_of counts) x (stream_at program i) (Reads program i) (Writes program i)
     ports_are = record {
-      as_many = ap port_count_in (sym ex) ∙ kept.as_many i ∙ n.as_many i inside;
       waits = λ p d.
           let s = stream_at program i p in
           let l = in_streams program connected i p inside d.0 in
           ap (λ o. waiting_by o p) (sym ex) ∙ loaded.waits p d.0 d
           ∙ ap (λ m. drop m (list_at program ports writers s)) (n.took s l)
-          ∙ ap (drop (length (taken (network_of program) (count_of counts) s))) (list_is s l);
+          ∙ ap (drop (length (taken net (count_of counts) s))) (list_is s l);
       room = λ p d.
           let s = stream_at program i p in
           let l = in_streams program connected i p inside d.0 in
           ap (λ o. room_by o p) (sym ex) ∙ loaded.rooms p d.0 d
-          ∙ ap (λ m. (network_of program).depth s - (m - slice_index taken_list s)) (ap length (n.carries i p inside d))
-          ∙ ap (λ m. (network_of program).depth s - (length (written (network_of program) (count_of counts) s) - m)) (n.took s l);
+          ∙ ap (λ m. m - (length (carried_of ports i p) - slice_index taken_list s)) (sym (n.network.depth s))
+          ∙ ap (λ m. net.depth s - (m - slice_index taken_list s)) (ap length (n.carries i p inside d))
+          ∙ ap (λ m. net.depth s - (length (written net (count_of counts) s) - m)) (n.took s l);
     }
 
     module _ (b : B) (eb : slice_get bodies i ≡ Some b) where
-      abbrev pub st : IsStanding (Stands b) (network_of program) (count_of counts) i (job_at program i) (stream_at program i)
+      abbrev pub st : IsBodyAt (Stands b) program input counts i
       st = n.standing i b eb
 
-      pub in_range_at : (m : ℕ) → Rattle.net_core.specs.Resume.InRange (port_count x) (job_at program i m)
-      in_range_at m = subst (λ z. Rattle.net_core.specs.Resume.InRange z (job_at program i m)) (sym ports_are.as_many) ((connected.plugged i inside).in_range m)
+      pub ends_are : ends_of x ≡ (instance_job program input i).ends
+      ends_are = ap ends_by (sym ex) ∙ kept.ends i ∙ n.ends i inside ∙ sym (n.network.ends i)
 
-      pub agrees_at : Rattle.net_core.specs.Resume.Agrees (job_at program i) st.ticks x
-      agrees_at = agrees (network_of program) connected.is_network (count_of counts) n.reachable i (arity program i) (job_at program i) (stream_at program i) (Reads program i) (Writes program i) (connected.plugged i inside) (Stands b) st x ports_are
+      pub agrees_at : Agrees (instance_job program input i).behavior st.ticks x
+      agrees_at = agrees net is_network (count_of counts) n.reachable i (job_at i) (stream_at program i) (Reads program i) (Writes program i) (n.network.placed i inside) (Stands b (instance_job program input i)) st x ports_are
 
       pub can_resume : (fuel : ℕ) → count_of counts i + fuel < 2 ^ 64 → CanResume (Stands b) x fuel
       can_resume fuel l = record {
-        job = job_at program i;
+        job = instance_job program input i;
         ticks = st.ticks;
         stands = st.stands;
-        in_range = λ m. subst (λ z. Rattle.net_core.specs.Resume.InRange z (job_at program i m)) (sym ports_are.as_many) ((connected.plugged i inside).in_range m);
-        agrees = agrees (network_of program) connected.is_network (count_of counts) n.reachable i (arity program i) (job_at program i) (stream_at program i) (Reads program i) (Writes program i) (connected.plugged i inside) (Stands b) st x ports_are;
+        ends = ends_are;
+        agrees = agrees_at;
         fits = let c = st.count in omega arith;
       }
 
       -- after the call
-      module _ (b' : B) (fuel : ℕ) (pause : Pause) (y : Ports) (h : Resumed (Stands b' (job_at program i)) (job_at program i) st.ticks x fuel pause y) where
-        abbrev net : Network
-        net = network_of program
-
+      module _ (b' : B) (fuel : ℕ) (pause : Pause) (y : Ports) (h : Resumed (Stands b' (instance_job program input i)) (instance_job program input i).behavior st.ticks x fuel pause y) where
         abbrev k : ℕ → ℕ
         k = count_of counts
 
         abbrev f : ℕ → ℕ
         f = stream_at program i
 
-        abbrev plug : IsPlugged net i (arity program i) (job_at program i) f (Reads program i) (Writes program i)
-        plug = connected.plugged i inside
+        abbrev plug : IsPlaced net i (job_at i) f (Reads program i) (Writes program i)
+        plug = n.network.placed i inside
 
         abbrev later : ℕ → ℕ
         later = plus i (length h.made) k
 
         chunk_is : Chunk net k i (map (tick_at f) h.made) later
-        chunk_is = stepped net connected.is_network k n.reachable i (arity program i) (job_at program i) f (Reads program i) (Writes program i) plug (Stands b) st x ports_are (Stands b') fuel pause y h
+        chunk_is = stepped net is_network k n.reachable i (job_at i) f (Reads program i) (Writes program i) plug (Stands b (instance_job program input i)) st x ports_are (Stands b' (instance_job program input i)) fuel pause y h
 
         other_same : (j : ℕ) → (j ≡ i → ⊥) → later j ≡ k j
         other_same j d = plus_other i (length h.made) j k d
@@ -153,7 +166,7 @@ module _ {B : Type 0} (Stands : B → (ℕ → Behavior) → List Tick → Type 
             let l = in_streams program connected i p inside d.0 in
             let a = loaded.offers p d.0 d in
             let bl = ap length (list_is s l) in
-            let c = took_count net connected.is_network k n.reachable i (arity program i) (job_at program i) f (Reads program i) (Writes program i) plug (Stands b) st x ports_are (Stands b') fuel pause y h p in
+            let c = took_count net is_network k n.reachable i (job_at i) f (Reads program i) (Writes program i) plug (Stands b (instance_job program input i)) st x ports_are (Stands b' (instance_job program input i)) fuel pause y h p in
             let w = ap length (ports_are.waits p d) in
             let e = length-drop (length (taken net k s)) (written net k s) in
             omega arith
@@ -164,49 +177,49 @@ module _ {B : Type 0} (Stands : B → (ℕ → Behavior) → List Tick → Type 
             let l = in_streams program connected i p inside d.0 in
             let a = loaded.offers p d.0 d in
             let bl = ap length (list_is s l) in
-            let c = took_count net connected.is_network k n.reachable i (arity program i) (job_at program i) f (Reads program i) (Writes program i) plug (Stands b) st x ports_are (Stands b') fuel pause y h p in
+            let c = took_count net is_network k n.reachable i (job_at i) f (Reads program i) (Writes program i) plug (Stands b (instance_job program input i)) st x ports_are (Stands b' (instance_job program input i)) fuel pause y h p in
             let w = ap length (ports_are.waits p d) in
             let g = length-drop (length (taken net k s)) (written net k s) in
-            let u = ap length (taken_after net connected.is_network k n.reachable i (arity program i) (job_at program i) f (Reads program i) (Writes program i) plug (Stands b) st x ports_are (Stands b') fuel pause y h p d) in
+            let u = ap length (taken_after net is_network k n.reachable i (job_at i) f (Reads program i) (Writes program i) plug (Stands b (instance_job program input i)) st x ports_are (Stands b' (instance_job program input i)) fuel pause y h p d) in
             let v = length-append (taken net k s) (flat_map (take_from p) h.made) in
-            let z = prefix_length _ _ (taken_begins net connected.is_network k founded s) in
+            let z = prefix_length _ _ (taken_begins net is_network k founded s) in
             omega arith
 
         took_all : (t' : List ℕ) → ((p : ℕ) → Reads program i p → slice_index t' (f p) ≡ slice_index offered' (f p) - length (waiting y p)) → ((s : ℕ) → ((p : ℕ) → Reads program i p → f p ≡ s → ⊥) → slice_index t' s ≡ slice_index taken_list s) → (s : ℕ) → s < length program.streams.items → slice_index t' s ≡ length (taken net later s)
         took_all t' tk to s l =
             ⊎_elim
             (λ (e : net.consumer s ≡ i).
-            let r = subst (λ z. (p : ℕ) × Reads program z p × (stream_at program z p ≡ s)) e (connected.read_at s l) in
-            subst (λ z. slice_index t' z ≡ length (taken net later z)) r.2 (took_here t' r.0 r.1 (tk r.0 r.1)))
+            let r = subst (λ z. (p : ℕ) × IsReader program s z p) (sym (n.network.consumer s) ∙ e) (connected.read_at s l) in
+            subst (λ z. slice_index t' z ≡ length (taken net later z)) r.1.1 (took_here t' r.0 r.1.0 (tk r.0 r.1.0)))
             (λ (d : net.consumer s ≡ i → ⊥).
             let none : (p : ℕ) → Reads program i p → f p ≡ s → ⊥ = λ p w q. d (subst (λ z. net.consumer z ≡ i) q (plug.reader p w)) in
             to s none ∙ n.took s l
-            ∙ sym (ap length (taken_else net connected.is_network k n.reachable i (arity program i) (job_at program i) f (Reads program i) (Writes program i) plug (Stands b) st x ports_are (Stands b') fuel pause y h s none)))
+            ∙ sym (ap length (taken_else net is_network k n.reachable i (job_at i) f (Reads program i) (Writes program i) plug (Stands b (instance_job program input i)) st x ports_are (Stands b' (instance_job program input i)) fuel pause y h s none)))
             (cases_eq (net.consumer s) i)
 
-        standing_all : (j : ℕ) (c : B) → slice_get (slice_set bodies i b') j ≡ Some c → IsStanding (Stands c) net later j (job_at program j) (stream_at program j)
+        standing_all : (j : ℕ) (c : B) → slice_get (slice_set bodies i b') j ≡ Some c → IsStanding (Stands c (instance_job program input j)) net later j (job_at j) (stream_at program j)
         standing_all j c e =
             ⊎_elim
             (λ (q : i ≡ j).
             let e' : slice_get (slice_set bodies i b') i ≡ Some c = subst (λ z. slice_get (slice_set bodies i b') z ≡ Some c) (sym q) e in
             let g = get_set_same bodies i b' (slice_get_within bodies i b eb) in
             let same : b' ≡ c = cc in
-            subst (λ z. IsStanding (Stands c) net later z (job_at program z) (stream_at program z)) q
-            (subst (λ z. IsStanding (Stands z) net later i (job_at program i) f) same
-            (standing net connected.is_network k n.reachable i (arity program i) (job_at program i) f (Reads program i) (Writes program i) plug (Stands b) st x ports_are (Stands b') fuel pause y h)))
+            subst (λ z. IsStanding (Stands c (instance_job program input z)) net later z (job_at z) (stream_at program z)) q
+            (subst (λ z. IsStanding (Stands z (instance_job program input i)) net later i (job_at i) f) same
+            (standing net is_network k n.reachable i (job_at i) f (Reads program i) (Writes program i) plug (Stands b (instance_job program input i)) st x ports_are (Stands b' (instance_job program input i)) fuel pause y h)))
             (λ (d : i ≡ j → ⊥).
-            standing_other net connected.is_network k later i (map (tick_at f) h.made) chunk_is (plus_above i (length h.made) k) other_same (Stands c) j (job_at program j) (stream_at program j) (λ q. d (sym q))
+            standing_other net is_network k later i (map (tick_at f) h.made) chunk_is (plus_above i (length h.made) k) other_same (Stands c (instance_job program input j)) j (job_at j) (stream_at program j) (λ q. d (sym q))
             (n.standing j c (sym (get_set_other bodies i j b' d) ∙ e)))
             (cases_eq i j)
 
         there : i < length ports'
         there = slice_get_within ports' i x ex
 
-        many_all : (j : ℕ) → j < length program.instances.items → port_count_of (slice_set ports' i y) j ≡ arity program j
-        many_all j l =
+        ends_all : (j : ℕ) → j < length program.instances.items → ends_in (slice_set ports' i y) j ≡ ends_at program j
+        ends_all j l =
             ⊎_elim
-            (λ (q : i ≡ j). subst (λ z. port_count_of (slice_set ports' i y) z ≡ arity program z) q (ap port_count_in (get_set_same ports' i y there) ∙ h.moved.as_many ∙ ports_are.as_many))
-            (λ (d : i ≡ j → ⊥). ap port_count_in (get_set_other ports' i j y d) ∙ kept.as_many j ∙ n.as_many j l)
+            (λ (q : i ≡ j). subst (λ z. ends_in (slice_set ports' i y) z ≡ ends_at program z) q (ap ends_by (get_set_same ports' i y there) ∙ h.moved.ends ∙ ap ends_by (sym ex) ∙ kept.ends i ∙ n.ends i inside))
+            (λ (d : i ≡ j → ⊥). ap ends_by (get_set_other ports' i j y d) ∙ kept.ends j ∙ n.ends j l)
             (cases_eq i j)
 
         carries_all : (j p : ℕ) → j < length program.instances.items → Writes program j p → carried_of (slice_set ports' i y) j p ≡ written net later (stream_at program j p)
@@ -216,10 +229,10 @@ module _ {B : Type 0} (Stands : B → (ℕ → Behavior) → List Tick → Type 
             (λ d'.
             ap (λ o. carried_by o p) (get_set_same ports' i y there) ∙ h.moved.puts p
             ∙ ap (λ z. z ++ flat_map (put_on p) h.made) (ap (λ o. carried_by o p) (sym ex) ∙ kept.carries i p ∙ n.carries i p inside d')
-            ∙ sym (carried_after net connected.is_network k n.reachable i (arity program i) (job_at program i) f (Reads program i) (Writes program i) plug (Stands b) st x ports_are (Stands b') fuel pause y h p d')) d)
+            ∙ sym (carried_after net is_network k n.reachable i (job_at i) f (Reads program i) (Writes program i) plug (Stands b (instance_job program input i)) st x ports_are (Stands b' (instance_job program input i)) fuel pause y h p d')) d)
             (λ (w : i ≡ j → ⊥).
             let s = stream_at program j p in
-            let own = (connected.plugged j l).writer p d in
+            let own = (n.network.placed j l).writer p d in
             ap (λ o. carried_by o p) (get_set_other ports' i j y w) ∙ kept.carries j p ∙ n.carries j p l d
             ∙ ap (flat_map (put_on s)) (sym (chunk_is.other (net.producer s) (λ e. w (sym e ∙ own)))))
             (cases_eq i j)
@@ -228,8 +241,12 @@ module _ {B : Type 0} (Stands : B → (ℕ → Behavior) → List Tick → Type 
           same_count : later ≡ count_of c'
           same_count = fun_ext (λ j. sym (ec j))
 
-          pub net_is : IsNetAt Stands program (slice_set bodies i b') (slice_set ports' i y) writers offered' t' c' pauses'
+          pub net_is : IsNetAt Stands program input (slice_set bodies i b') (slice_set ports' i y) writers offered' t' c' pauses'
           net_is = record {
+            connected = n.connected;
+            network = n.network;
+            well_formed = n.well_formed;
+            fits = n.fits;
             reachable = subst (IsReachable net) same_count chunk_is.reachable;
             bodies_len = length-set bodies i b' ∙ n.bodies_len;
             ports_len = length-set ports' i y ∙ kept.len ∙ n.ports_len;
@@ -238,36 +255,49 @@ module _ {B : Type 0} (Stands : B → (ℕ → Behavior) → List Tick → Type 
             writers_len = n.writers_len;
             offered_len = kept.offered_len ∙ n.offered_len;
             taken_len = len' ∙ n.taken_len;
-            standing = λ j c e. subst (λ m. IsStanding (Stands c) net m j (job_at program j) (stream_at program j)) same_count (standing_all j c e);
-            as_many = many_all;
+            standing = λ j c e. subst (λ m. IsStanding (Stands c (instance_job program input j)) net m j (job_at j) (stream_at program j)) same_count (standing_all j c e);
+            ends = ends_all;
             carries = λ j p l d. carries_all j p l d ∙ ap (λ m. written net m (stream_at program j p)) same_count;
             took = λ s l. took_all t' tk to s l ∙ ap (λ m. length (taken net m s)) same_count;
-            writes = n.writes;
+            writer_is = n.writer_is;
           }
 
           pub spent : pause ≡ Fuel → (length h.made ≡ fuel) × IsAllowed net (count_of c') i
           spent e =
-              let g = goes_on net connected.is_network k n.reachable i (arity program i) (job_at program i) f (Reads program i) (Writes program i) plug (Stands b) st x ports_are (Stands b') fuel pause y h e in
+              let g = goes_on net is_network k n.reachable i (job_at i) f (Reads program i) (Writes program i) plug (Stands b (instance_job program input i)) st x ports_are (Stands b' (instance_job program input i)) fuel pause y h e in
               (g.0, subst (λ m. IsAllowed net m i) same_count g.1)
 
           pub written_stays : (s : ℕ) → ((p : ℕ) → Writes program i p → f p ≡ s → ⊥) → written net (count_of c') s ≡ written net k s
           written_stays s d =
               ap (λ m. written net m s) (sym same_count)
-              ∙ written_else net connected.is_network k n.reachable i (arity program i) (job_at program i) f (Reads program i) (Writes program i) plug (Stands b) st x ports_are (Stands b') fuel pause y h s d
+              ∙ written_else net is_network k n.reachable i (job_at i) f (Reads program i) (Writes program i) plug (Stands b (instance_job program input i)) st x ports_are (Stands b' (instance_job program input i)) fuel pause y h s d
 
           pub taken_stays : (s : ℕ) → ((p : ℕ) → Reads program i p → f p ≡ s → ⊥) → taken net (count_of c') s ≡ taken net k s
           taken_stays s d =
               ap (λ m. taken net m s) (sym same_count)
-              ∙ taken_else net connected.is_network k n.reachable i (arity program i) (job_at program i) f (Reads program i) (Writes program i) plug (Stands b) st x ports_are (Stands b') fuel pause y h s d
+              ∙ taken_else net is_network k n.reachable i (job_at i) f (Reads program i) (Writes program i) plug (Stands b (instance_job program input i)) st x ports_are (Stands b' (instance_job program input i)) fuel pause y h s d
 
           pub own_holds : (pause ≡ Fuel → ⊥) → ((p : ℕ) → Reads program i p → written net (count_of c') (f p) ≡ written net k (f p)) → ((p : ℕ) → Writes program i p → taken net (count_of c') (f p) ≡ taken net k (f p)) → HoldsPause net (count_of c') i f pause
           own_holds u w v =
               subst (λ m. HoldsPause net m i f pause) same_count
-              (holds net connected.is_network k n.reachable i (arity program i) (job_at program i) f (Reads program i) (Writes program i) plug (Stands b) st x ports_are (Stands b') fuel pause y h u
+              (holds net is_network k n.reachable i (job_at i) f (Reads program i) (Writes program i) plug (Stands b (instance_job program input i)) st x ports_are (Stands b' (instance_job program input i)) fuel pause y h u
               (λ p d. ap (λ m. written net m (f p)) same_count ∙ w p d) (λ p d. ap (λ m. taken net m (f p)) same_count ∙ v p d))
 
-          pub others_hold : (j : ℕ) (z : Pause) → (j ≡ i → ⊥) → j < length program.instances.items → ((s : ℕ) → net.consumer s ≡ j → written net (count_of c') s ≡ written net k s) → ((s : ℕ) → net.producer s ≡ j → taken net (count_of c') s ≡ taken net k s) → (z ≡ Fuel → ⊥) → HoldsPause net k j (stream_at program j) z → HoldsPause net (count_of c') j (stream_at program j) z
+          pub others_hold : (j : ℕ) (z : Pause) → (j ≡ i → ⊥) → j < length program.instances.items → ((s : ℕ) → consumer_of program s ≡ j → written net (count_of c') s ≡ written net k s) → ((s : ℕ) → producer_of program s ≡ j → taken net (count_of c') s ≡ taken net k s) → (z ≡ Fuel → ⊥) → HoldsPause net k j (stream_at program j) z → HoldsPause net (count_of c') j (stream_at program j) z
           others_hold j z d l w v u q =
               subst (λ m. HoldsPause net m j (stream_at program j) z) same_count
-              (holds_other net connected.is_network k later i (map (tick_at f) h.made) chunk_is (plus_above i (length h.made) k) other_same j (stream_at program j) z d (connected.plugged j l).inside founded
-              (λ s e. ap (λ m. written net m s) same_count ∙ w s e) (λ s e. ap (λ m. taken net m s) same_count ∙ v s e) u q)
+              (holds_other net is_network k later i (map (tick_at f) h.made) chunk_is (plus_above i (length h.made) k) other_same j (stream_at program j) z d (n.network.placed j l).inside founded
+              (λ s e. ap (λ m. written net m s) same_count ∙ w s (sym (n.network.consumer s) ∙ e)) (λ s e. ap (λ m. taken net m s) same_count ∙ v s (sym (n.network.producer s) ∙ e)) u q)
+
+          pub has_resumed : (made : ℕ) → length h.made ≡ made → pauses' ≡ slice_set pauses i (Some pause) → HasResumed (record { program = program; input = input; counts = counts; pauses = pauses }) (record { program = program; input = input; counts = c'; pauses = pauses' }) i fuel pause made
+          has_resumed made m ep = record {
+            given = refl;
+            counts = λ j. ec j ∙ ap (λ z. if j == i then count_of counts j + z else count_of counts j) m;
+            within = let a = h.within in omega arith;
+            fuel_spent = λ e. let z = spent e in (sym m ∙ z.0, z.1);
+            pauses = ep;
+            written_else = written_stays;
+            taken_else = taken_stays;
+            own = own_holds;
+            others = others_hold;
+          }

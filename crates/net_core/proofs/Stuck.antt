@@ -24,7 +24,7 @@ use Rattle.kahn_model.proofs.Ends.{has_end}
 use Rattle.net_core.specs.Waits.{StopsIn, HoldsPause}
 use Rattle.net_core.proofs.Placed.{ticks_own, mark_own}
 
--- a job that stops does the same however as_many tests its loops may make
+-- a job that stops does the same however many tests its loops may make
 settled_found : (o : Offer) (a b : Mark) (f : Token → ℕ → List Tick) (g : Token → ℕ → List Tick) (m : Token → ℕ → Mark) (n : Token → ℕ → Mark) → ((t : Token) (v : ℕ) → (m t v ≡ Turns → ⊥) → (g t v ≡ f t v) × (n t v ≡ m t v)) → (on_offer o a b m ≡ Turns → ⊥) → (on_offer o [] [] g ≡ on_offer o [] [] f) × (on_offer o a b n ≡ on_offer o a b m)
 settled_found NoToken a b f g m n h d = (refl, refl)
 settled_found WrongToken a b f g m n h d = (refl, refl)
@@ -43,7 +43,7 @@ settled (Await s how rest) b xs (rest', e, h) d =
       ap (λ t. mark t xs) e ∙ p.1,
     )
 
--- a job that is cut has made as as_many ticks as its loops may make tests
+-- a job that is cut has made as many ticks as its loops may make tests
 cut_late : (net : Network) → IsNetwork net → (n i : ℕ) (xs : ℕ → List Token) → mark (net.job i n) xs ≡ Turns → n ≤ length (ticks (net.job i n) xs)
 cut_late net ok n i xs e =
     subst (λ m. IsLate m (ticks (net.job i n) xs) (ticks (net.job i n) xs) xs n) e

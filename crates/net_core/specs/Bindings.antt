@@ -1,7 +1,5 @@
 -- How the instances of a program are bound to its streams.
-use Rattle.std.specs.Prelude.{◌≡◌, ℕ, ◌<◌, List, [], length, Bool, true, false, Option, Some, None, slice_get, slice_index, option_map, unwrap_or}
-use Rattle.tapa_base.specs.declared.kind.Kind.{Kind}
-use Rattle.tapa_base.specs.declared.kind.Kind.TheVariants.{U64}
+use Rattle.std.specs.Prelude.{◌≡◌, ℕ, ◌<◌, List, [], length, Bool, true, false, Option, Some, None, slice_get, slice_index}
 use Rattle.tapa_syntax.specs.declared.program.End.{End}
 use Rattle.tapa_syntax.specs.declared.program.Leaf.{Leaf}
 use Rattle.tapa_syntax.specs.declared.program.Instance.{Instance}
@@ -9,6 +7,7 @@ use Rattle.tapa_syntax.specs.declared.program.Stream.{Stream}
 use Rattle.tapa_syntax.specs.declared.program.Program.{Program}
 use Rattle.tapa_syntax.specs.LeafKinds.{writes_of}
 use Rattle.kahn_model.specs.ProgramNetwork.{end_of}
+use Rattle.kahn_model.specs.Fits.{stream_kind}
 use Rattle.net_core.specs.Kinds.{kind_in}
 
 abbrev pub leaf_in : Program → Option Instance → Option Leaf
@@ -49,7 +48,7 @@ Reads program i p = (p < arity program i) × (writes_of (ends_at program i) p �
 abbrev pub Writes : Program → ℕ → ℕ → Type 0
 Writes program i p = (p < arity program i) × (writes_of (ends_at program i) p ≡ Some true)
 
--- the two ends of a stream, its depth and its kind
+-- the two ends of a stream and its depth
 unfoldable pub producer_of : Program → ℕ → ℕ
 producer_of program s = end_of (λ (r : Stream). r.producer) (slice_get program.streams.items s)
 
@@ -58,9 +57,6 @@ consumer_of program s = end_of (λ (r : Stream). r.consumer) (slice_get program.
 
 unfoldable pub depth_of : Program → ℕ → ℕ
 depth_of program s = end_of (λ (r : Stream). r.depth) (slice_get program.streams.items s)
-
-unfoldable pub stream_kind : Program → ℕ → Kind
-stream_kind program s = unwrap_or (option_map (λ (r : Stream). r.kind) (slice_get program.streams.items s)) U64
 
 -- an instance has a leaf with as many streams, which are there
 pub record IsBuilt (program : Program) (i : ℕ) (x : Instance) : Type 0 where

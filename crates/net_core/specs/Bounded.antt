@@ -9,7 +9,9 @@ use Rattle.kahn_model.specs.Behavior.{Behavior, Finished}
 use Rattle.kahn_model.specs.Trace.{State, job_of}
 use Rattle.kahn_model.specs.Network.{Network, IsNetwork}
 use Rattle.kahn_model.specs.Counts.{written, taken, IsReachable}
+use Rattle.tapa_syntax.specs.WellFormed.{IsWellFormed}
 use Rattle.kahn_model.specs.Start.{first_state, network_of}
+use Rattle.kahn_model.specs.Fits.{FitsInput}
 use Rattle.net_core.specs.declared.input.Input.{Input}
 use Rattle.net_core.specs.declared.ports.Ports.{Ports}
 use Rattle.net_core.specs.declared.body.Pause.{Pause}
@@ -63,6 +65,8 @@ IsBodyAt Stands program input counts i =
 pub record IsNetAt {B : Type 0} (Stands : B → Job → List Tick → Type 0) (program : Program) (input : Input) (bodies : List B) (ports : List Ports) (writers offered taken_list counts : List ℕ) (pauses : List (Option Pause)) : Type 0 where
   pub connected : IsConnected program
   pub network : IsNetworkOf program input
+  pub well_formed : IsWellFormed program
+  pub fits : FitsInput program (scalars_of input) (memories_of input)
   pub reachable : IsReachable (network_on program input) (count_of counts)
   pub bodies_len : length bodies ≡ length program.instances.items
   pub ports_len : length ports ≡ length program.instances.items
@@ -75,4 +79,4 @@ pub record IsNetAt {B : Type 0} (Stands : B → Job → List Tick → Type 0) (p
   pub ends : (i : ℕ) → i < length program.instances.items → ends_in ports i ≡ ends_at program i
   pub carries : (i p : ℕ) → i < length program.instances.items → Writes program i p → carried_of ports i p ≡ written (network_on program input) (count_of counts) (stream_at program i p)
   pub took : (s : ℕ) → s < length program.streams.items → slice_index taken_list s ≡ length (taken (network_on program input) (count_of counts) s)
-  pub writers : (s : ℕ) → s < length program.streams.items → IsWriter program s (producer_of program s) (slice_index writers s)
+  pub writer_is : (s : ℕ) → s < length program.streams.items → IsWriter program s (producer_of program s) (slice_index writers s)

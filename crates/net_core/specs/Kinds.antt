@@ -1,16 +1,11 @@
--- Which tokens a stream carries: data of its own kind, and ends of transactions (TAPA, streams).
+-- The kinds of the streams of a leaf, and lists of tokens of one kind.
 use Rattle.std.specs.Prelude.{◌≡◌, ℕ, ◌<◌, List, Some, slice_get, option_map, unwrap_or}
 use Rattle.tapa_base.specs.declared.kind.Kind.{Kind}
 use Rattle.tapa_base.specs.declared.kind.Kind.TheVariants.{U64}
 use Rattle.tapa_base.specs.declared.token.Token.{Token}
-use Rattle.tapa_base.specs.declared.token.Token.TheVariants.{Datum, Eot}
+use Rattle.tapa_base.specs.declared.token.Token.TheVariants.{Datum}
 use Rattle.tapa_base.specs.Kinds.{values_of}
 use Rattle.tapa_syntax.specs.declared.program.End.{End}
-
--- an end of a transaction, or the bits of a value of the kind
-abbrev pub IsTokenOf : Kind → Token → Type 0
-IsTokenOf k (Datum v) = v < values_of k
-IsTokenOf k Eot = Unit {0}
 
 -- each datum of a list is a value of the kind
 abbrev pub AreTokensOf : Kind → List Token → Type 0

@@ -27,7 +27,7 @@ pub record HasPorts (program : Program) (all : List Ports) (writers offered take
   pub offered_len : length offered ≡ length program.streams.items
   pub taken_len : length taken_list ≡ length program.streams.items
   pub ends : (i : ℕ) → i < length program.instances.items → ends_in all i ≡ ends_at program i
-  pub writers : (s : ℕ) → s < length program.streams.items → IsWriter program s (producer_of program s) (slice_index writers s)
+  pub writer_is : (s : ℕ) → s < length program.streams.items → IsWriter program s (producer_of program s) (slice_index writers s)
   pub enough : (s : ℕ) → s < length program.streams.items → slice_index taken_list s ≤ length (list_at program all writers s)
 
 -- what loading leaves as it is

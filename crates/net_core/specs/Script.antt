@@ -11,7 +11,8 @@ use Rattle.net_core.specs.declared.ports.Ports.{Ports}
 use Rattle.net_core.specs.declared.script.Step.{Step}
 use Rattle.net_core.specs.declared.script.Step.TheVariants.{Work, Send, Receive}
 use Rattle.net_core.specs.declared.script.Script.{Script}
-use Rattle.net_core.specs.Kinds.{IsTokenOf, kind_in}
+use Rattle.kahn_model.specs.Fits.{IsTokenOf}
+use Rattle.net_core.specs.Kinds.{kind_in}
 use Rattle.net_core.specs.Job.{Job}
 use Rattle.net_core.specs.Follow.{Rest, Over, Still, ticks_left, mark_left, left, Follows}
 use Rattle.net_core.specs.Ports.{waiting, Moved}

@@ -4,7 +4,8 @@ ghost use Rattle.std.specs.Arc.{arc_value};
 ghost use Rattle.tapa_syntax.specs.WellFormed.{IsWellFormed};
 ghost use Rattle.net_core.specs.Ports.{ends_of, ends_in, carried, carried_of};
 ghost use Rattle.net_core.specs.Bindings.{IsConnected, ends_at, producer_of, IsWriter};
-ghost use Rattle.net_core.specs.Bounded.{instance_job};
+ghost use Rattle.kahn_model.specs.Fits.{FitsInput};
+ghost use Rattle.net_core.specs.Bounded.{scalars_of, memories_of, instance_job};
 ghost use Rattle.net_core.specs.State.{IsNew};
 
 use crate::bindings::{arity, ends, producer, stream_at, writes_at};
@@ -112,6 +113,7 @@ impl<B: Body + Drop> Net<B> {
         bodies: Vec<B>,
     ) -> Result<Net<B>, OutOfMemory>
         requires well_formed { IsWellFormed (arc_value program) }
+        requires fits { FitsInput (arc_value program) (scalars_of (arc_value input)) (memories_of (arc_value input)) }
         requires as_many { length bodies.items ≡ length (arc_value program).instances.items }
         requires first { (i : ℕ) (b : _) → slice_get bodies.items i ≡ Some b → B.stands b (instance_job (arc_value program) (arc_value input) i) [] }
         ensures program { IfOk result (λ net. net.program ≡ arc_value program) }

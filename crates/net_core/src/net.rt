@@ -27,7 +27,13 @@ impl<B: Body> Model for Net<B> {
     ghost use Rattle.net_core.specs.declared.net_state.NetState.{NetState};
     ghost use Rattle.net_core.specs.Bounded.{IsNetAt};
 
+    ghost use Rattle.std.specs.Coded.{codes};
+    ghost use Rattle.tapa_syntax.specs.contracts.program.Stmt as stmt;
+    ghost use Rattle.tapa_syntax.specs.contracts.program.Expr as expr;
+
     ghost Value = { NetState };
+
+    ghost coded = { Prim.hlevel (codes, stmt.the_row.coded, expr.the_row.coded) };
 
     ghost view = { λ n. record { program = arc_value n.program; input = arc_value n.input; counts = n.counts.items; pauses = n.pauses.items } };
 

@@ -1,7 +1,8 @@
 ghost use Rattle.std.specs.Prelude.{◌≡◌, ◌<◌, ◌↔◌, [], ◌∷◌, length, slice_get, MatchOption, IsTrue, IfOk, MatchBool};
 ghost use Rattle.kahn_model.specs.declared.tick.Tick.TheVariants.{Did, Take};
 ghost use Rattle.kahn_model.specs.declared.tick.Action.TheVariants.{Put};
-ghost use Rattle.net_core.specs.Kinds.{IsTokenOf, AreTokensOf};
+ghost use Rattle.kahn_model.specs.Fits.{IsTokenOf};
+ghost use Rattle.net_core.specs.Kinds.{AreTokensOf};
 ghost use Rattle.net_core.specs.Ports.{waiting, carried, room_at, port_count, kind_at, Moved, Adjusted};
 
 use crate::port::Port;

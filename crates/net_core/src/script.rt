@@ -17,7 +17,7 @@ pub enum Step {
     Receive(u32),
 }
 
-/// A list of steps, and how as_many of them were made.
+/// A list of steps, and how many of them were made.
 #[derive(Drop)]
 pub struct Script {
     pub steps: Vec<Step>,

@@ -1,7 +1,7 @@
 use Rattle.std.proofs.Common.{◌≡◌, ℕ, ◌-◌, ◌<◌, length}
 use Rattle.std.specs.Prelude.{slice_index}
 use Rattle.net_core.specs.Ports.{waiting_of}
-use Rattle.net_core.specs.Bounded.{stream_at, Reads}
+use Rattle.net_core.specs.Bindings.{stream_at, Reads}
 use Rattle.net_core.proofs.load.count_taken.Given as goal
 
 abbrev pub invariant-loop-p : goal.invariant-loop-p

@@ -1,6 +1,6 @@
 use Rattle.std.proofs.Common.{◌<◌, subst, sym, length, arith}
 use Rattle.net_core.specs.Load.{IsIn, AreBelow}
-use Rattle.net_core.specs.Bounded.{arity}
+use Rattle.net_core.specs.Bindings.{arity}
 use Rattle.net_core.proofs.Loaded.{in_more, below_push, woken_push}
 use Rattle.net_core.proofs.load.wake.Goals as goal
 

@@ -25,10 +25,10 @@ use Rattle.kahn_model.proofs.Local.{here, here_all, here_prefix, here_is_fed}
 use Rattle.net_core.specs.declared.ports.Ports.{Ports}
 use Rattle.net_core.specs.declared.body.Pause.{Pause}
 use Rattle.net_core.specs.declared.body.Pause.TheVariants.{Ended as HasEnded, WantsRead, WantsWrite, BadToken, Fuel}
-use Rattle.net_core.specs.Ports.{waiting, carried, room_at, port_count, Moved}
+use Rattle.net_core.specs.Ports.{waiting, carried, room_at, Moved}
 use Rattle.net_core.specs.Resume.{lists_at, Agrees, HasRoomAt, StopsAt, GoesOnBy, PausesBy, Resumed}
 use Rattle.net_core.specs.Waits.{StopsIn, IsFullFor, HoldsPause}
-use Rattle.net_core.specs.Placement.{tick_at, mark_at, AsksAt, PutsAct, IsAt, TickAt, AreAt, IsPlugged, IsStanding, PortsAre}
+use Rattle.net_core.specs.Placement.{tick_at, mark_at, AsksAt, PutsAct, IsAt, TickAt, AreAt, IsPlaced, IsStanding, PortsAre}
 use Rattle.net_core.proofs.Placed.{placed_ticks, placed_mark, asks_ticks, asks_mark, ticks_own, mark_own, takes_begin, ticks_at, at_asks, are_prefix, takes_same, puts_same, put_found, take_found, map_prefix, map_get, at_get}
 use Rattle.net_core.proofs.Chunk.{plus, plus_same, plus_other, HasRoomFor, Chunk, chunk, written_after, is_step}
 use Rattle.net_core.proofs.Stuck.{stays_stopped}
@@ -64,7 +64,7 @@ module _ (net : Network) (ok : IsNetwork net) (k m : ℕ → ℕ) (i : ℕ) (ts 
   pub written_up : (s : ℕ) → IsPrefixOf (written net k s) (written net m s)
   written_up s = prefix_flat_map (put_on s) _ _ (made_le net ok k m above (net.producer s))
 
-  pub standing_other : (Stands : (ℕ → Behavior) → List Tick → Type 0) (j : ℕ) (job : ℕ → Behavior) (f : ℕ → ℕ) → (j ≡ i → ⊥) → IsStanding Stands net k j job f → IsStanding Stands net m j job f
+  pub standing_other : (Stands : List Tick → Type 0) (j : ℕ) (job : ℕ → Behavior) (f : ℕ → ℕ) → (j ≡ i → ⊥) → IsStanding Stands net k j job f → IsStanding Stands net m j job f
   standing_other Stands j job f d st = record {
     ticks = st.ticks;
     stands = st.stands;
@@ -131,7 +131,7 @@ module _ (net : Network) (ok : IsNetwork net) (k : ℕ → ℕ) (r : IsFounded n
       (prefix_flat_map (take_from s) _ _ (take_prefix (k c) (here net k c))))
       (takes_begin (net.job c (round_of net k)) (written net k) s)
 
-module _ (net : Network) (ok : IsNetwork net) (k : ℕ → ℕ) (r : IsReachable net k) (i : ℕ) (arity : ℕ) (job : ℕ → Behavior) (f : ℕ → ℕ) (R W : ℕ → Type 0) (plug : IsPlugged net i arity job f R W) (Stands : (ℕ → Behavior) → List Tick → Type 0) (st : IsStanding Stands net k i job f) where
+module _ (net : Network) (ok : IsNetwork net) (k : ℕ → ℕ) (r : IsReachable net k) (i : ℕ) (job : ℕ → Behavior) (f : ℕ → ℕ) (R W : ℕ → Type 0) (plug : IsPlaced net i job f R W) (Stands : List Tick → Type 0) (st : IsStanding Stands net k i job f) where
   abbrev ours : ℕ → List Token
   ours p = written net k (f p)
 
@@ -168,7 +168,7 @@ module _ (net : Network) (ok : IsNetwork net) (k : ℕ → ℕ) (r : IsReachable
       ∙ ap (flat_map (take_from (f p))) (sym made_is_map)
       ∙ ap (λ j. flat_map (take_from (f p)) (ticks_made net k j)) (sym (plug.reader p d))
 
-  module _ (ports : Ports) (are : PortsAre net k ports arity f R W) where
+  module _ (ports : Ports) (are : PortsAre net k ports f R W) where
     lists_are : (p : ℕ) → R p → lists_at st.ticks ports p ≡ written net k (f p)
     lists_are p d =
         ap (λ l. l ++ waiting ports p) (took_is p d)
@@ -184,7 +184,7 @@ module _ (net : Network) (ok : IsNetwork net) (k : ℕ → ℕ) (r : IsReachable
     pub agrees : Agrees job st.ticks ports
     agrees = (st.tests, subst (IsPrefixOf st.ticks) (sym (runs_same st.tests)) st.runs)
 
-    module _ (Later : (ℕ → Behavior) → List Tick → Type 0) (fuel : ℕ) (pause : Pause) (after : Ports) (h : Resumed (Later job) job st.ticks ports fuel pause after) where
+    module _ (Later : List Tick → Type 0) (fuel : ℕ) (pause : Pause) (after : Ports) (h : Resumed Later job st.ticks ports fuel pause after) where
       run : IsPrefixOf (st.ticks ++ h.made) (ticks (job h.tests) (λ p. written net k (f p)))
       run = subst (IsPrefixOf (st.ticks ++ h.made)) (runs_same h.tests) h.are_next
 

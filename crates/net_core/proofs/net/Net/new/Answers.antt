@@ -4,7 +4,7 @@ use Rattle.std.proofs.lemmas.List.{length-replicate}
 use Rattle.kahn_model.specs.Counts.{total, zeros}
 use Rattle.net_core.specs.Bounded.{network_of, count_of}
 use Rattle.net_core.proofs.Constructed.{first_net, zero_at, zero_count, zero_total}
-use Rattle.net_core.proofs.construct.new_net.Goals as goal
+use Rattle.net_core.proofs.net.Net.new.Goals as goal
 
 pub returns-clause-stands : goal.returns-clause-stands
 returns-clause-stands g c =
