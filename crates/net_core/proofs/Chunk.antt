@@ -54,7 +54,7 @@ made_other net ok k i j r r' d =
     let e = bump_other i j k d in
     sym (prefix_whole _ _ (made_le net ok k (with_tick_of i k) (bump_above i k) j) (omega arith))
 
-take_get : {A : Type 0} (n : ℕ) (xs : List A) (x : A) → slice_get xs n ≡ Some x → take (suc n) xs ≡ take n xs ++ x ∷ []
+pub take_get : {A : Type 0} (n : ℕ) (xs : List A) (x : A) → slice_get xs n ≡ Some x → take (suc n) xs ≡ take n xs ++ x ∷ []
 take_get n [] x e = cc
 take_get zero (y ∷ xs) x e = let q : y ≡ x = cc in ap (λ z. z ∷ []) q
 take_get (suc n) (y ∷ xs) x e = ap (λ l. y ∷ l) (take_get n xs x e)

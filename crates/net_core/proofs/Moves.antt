@@ -52,6 +52,11 @@ moved_still a b t ht hp h = record {
   rooms = λ p. let e = ap (λ (l : List Token). length (l ++ [])) (hp p) in let r = h.rooms p in omega arith;
 }
 
+pub has_item : {A : Type 0} (xs : List A) (i : ℕ) → i < length xs → (x : A) × (slice_get xs i ≡ Some x)
+has_item [] i h = absurd (omega arith)
+has_item (x ∷ xs) zero h = (x, refl)
+has_item (x ∷ xs) (suc i) h = has_item xs i (omega arith)
+
 pub get_set_same : {A : Type 0} (xs : List A) (i : ℕ) (y : A) → i < length xs → slice_get (slice_set xs i y) i ≡ Some y
 get_set_same [] i y h = absurd (omega arith)
 get_set_same (x ∷ xs) zero y h = refl

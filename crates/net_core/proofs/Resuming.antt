@@ -28,14 +28,9 @@ use Rattle.net_core.specs.Bindings.{IsConnected, IsReader, arity, arity_in, ends
 use Rattle.net_core.specs.Bounded.{network_on, instance_job, IsNetworkOf, IsBodyAt, count_of, IsNetAt}
 use Rattle.net_core.specs.State.{HasResumed}
 use Rattle.net_core.specs.Load.{HasPorts, AreKept, AreLoaded, list_at, queue_at}
-use Rattle.net_core.proofs.Moves.{get_set_same, get_set_other, test_true, test_false}
+use Rattle.net_core.proofs.Moves.{has_item, get_set_same, get_set_other, test_true, test_false}
 use Rattle.net_core.proofs.Chunk.{plus, plus_same, plus_other, Chunk}
 use Rattle.net_core.proofs.Stepped.{plus_above, taken_begins, standing_other, holds_other, agrees, stepped, standing, carried_after, taken_after, written_else, taken_else, took_count, holds, goes_on}
-
-pub has_item : {A : Type 0} (xs : List A) (i : ℕ) → i < length xs → (x : A) × (slice_get xs i ≡ Some x)
-has_item [] i h = absurd (omega arith)
-has_item (x ∷ xs) zero h = (x, refl)
-has_item (x ∷ xs) (suc i) h = has_item xs i (omega arith)
 
 pub in_streams : (program : Program) → IsConnected program → (i p : ℕ) → i < length program.instances.items → p < arity program i → stream_at program i p < length program.streams.items
 in_streams program connected i p inside l =
