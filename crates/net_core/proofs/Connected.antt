@@ -1,8 +1,7 @@
 -- The positions and streams of a well-formed program are bound one to one, and its network is that of its jobs.
-use Rattle.std.proofs.Common.{◌≡◌, ℕ, ◌<◌, List, length, Bool, true, false, Option, Some, None, refl, sym, ap, ◌∙◌, subst, inl, inr, ⊎_elim, ◌⊎◌, arith}
+use Rattle.std.proofs.Common.{◌≡◌, ℕ, ◌<◌, length, Bool, true, false, Option, Some, None, refl, sym, ap, ◌∙◌, subst, inl, inr, ⊎_elim, ◌⊎◌, arith}
 use Rattle.std.specs.Prelude.{slice_get, slice_index, option_map, unwrap_or}
 use Rattle.std.proofs.lemmas.Option.{slice_get_within, slice_get-get_or, get_or_from_slice_get}
-use Rattle.tapa_base.specs.declared.kind.Kind.{Kind}
 use Rattle.tapa_base.specs.declared.kind.Kind.TheVariants.{U64}
 use Rattle.tapa_syntax.specs.declared.program.End.{End}
 use Rattle.tapa_syntax.specs.declared.program.Instance.{Instance}
@@ -10,12 +9,11 @@ use Rattle.tapa_syntax.specs.declared.program.Leaf.{Leaf}
 use Rattle.tapa_syntax.specs.declared.program.Program.{Program}
 use Rattle.tapa_syntax.specs.declared.program.Stream.{Stream}
 use Rattle.tapa_syntax.specs.LeafKinds.{writes_of}
-use Rattle.tapa_syntax.specs.WellFormed.{IsEndOf, IsStreamAt, IsInstance, IsJoined, IsStream, IsWellFormed}
+use Rattle.tapa_syntax.specs.WellFormed.{IsEndOf, IsStreamAt, IsInstance, IsJoined, IsWellFormed}
 use Rattle.kahn_model.specs.declared.tick.Action.{Action}
 use Rattle.kahn_model.specs.declared.tick.Action.TheVariants.{Local, Put, Load, Store}
 use Rattle.kahn_model.specs.Behavior.{Behavior, Finished, OutOfTurns, Act, Await}
 use Rattle.kahn_model.specs.Trace.{State, at_streams}
-use Rattle.kahn_model.specs.Network.{Network}
 use Rattle.kahn_model.specs.ProgramNetwork.{end_of, leaf_job, instance_job as program_job}
 use Rattle.kahn_model.specs.Start.{first_state, network_of}
 use Rattle.kahn_model.specs.Fits.{stream_kind}
@@ -23,9 +21,9 @@ use Rattle.kahn_model.proofs.Wired.{KeepsAct, Keeps, body_keeps}
 use Rattle.kahn_model.proofs.WellFormed.{program_network}
 use Rattle.net_core.specs.declared.input.Input.{Input}
 use Rattle.net_core.specs.Kinds.{kind_in}
-use Rattle.net_core.specs.Placement.{PutsAct, IsAt, IsPlaced}
+use Rattle.net_core.specs.Placement.{PutsAct, IsAt}
 use Rattle.net_core.specs.Bindings.{leaf_in, leaf_at, ends_in_leaf, ends_at, arity, arity_in, stream_in, stream_at, Reads, Writes, producer_of, consumer_of, depth_of, IsBuilt, IsLinked, IsWriter, IsReader, IsConnected}
-use Rattle.net_core.specs.Bounded.{scalars_of, memories_of, network_on, leaf_behavior, instance_job, IsNetworkOf}
+use Rattle.net_core.specs.Bounded.{scalars_of, memories_of, leaf_behavior, instance_job, IsNetworkOf}
 use Rattle.net_core.proofs.Moves.{has_item}
 
 either : {A : Type 0} (o : Option A) → (o ≡ None) ⊎ ((x : A) × (o ≡ Some x))

@@ -1,5 +1,5 @@
 -- New tables.
-use Rattle.std.proofs.Common.{◌≡◌, ℕ, zero, suc, ◌+◌, ◌<◌, ◌≤◌, List, [], ◌∷◌, ◌++◌, length, map, take, Option, Some, None, refl, sym, ap, ◌∙◌, subst, ⊎_elim, arith}
+use Rattle.std.proofs.Common.{◌≡◌, ℕ, zero, suc, ◌+◌, ◌<◌, List, [], ◌∷◌, ◌++◌, length, map, take, Option, Some, None, refl, sym, ap, ◌∙◌, subst, arith}
 use Rattle.std.specs.Prelude.{slice_get}
 use Rattle.std.specs.Prelude.{replicate, slice_index}
 use Rattle.std.proofs.lemmas.List.{map-append}
@@ -7,11 +7,8 @@ use Rattle.tapa_syntax.specs.declared.program.End.{End}
 use Rattle.net_core.specs.declared.port.Port.{Port}
 use Rattle.net_core.proofs.Chunk.{take_get}
 use Rattle.std.proofs.Math.Path.{fun_ext}
-use Rattle.tapa_base.specs.declared.token.Token.{Token}
 use Rattle.kahn_model.specs.declared.tick.Tick.{Tick}
 use Rattle.tapa_syntax.specs.declared.program.Program.{Program}
-use Rattle.kahn_model.specs.Behavior.{Behavior}
-use Rattle.kahn_model.specs.Network.{Network}
 use Rattle.kahn_model.specs.Counts.{total, written, taken, zeros, IsReachable}
 use Rattle.net_core.specs.declared.ports.Ports.{Ports}
 use Rattle.net_core.specs.declared.body.Pause.{Pause}
@@ -84,6 +81,7 @@ first_net Stands program input connected network well fits bodies ports writers 
   writers_len = lw;
   offered_len = lo;
   taken_len = lt;
+  unresumed = λ i e. sym (ap (λ m. m i) z);
   standing = λ i b e. record { ticks = []; stands = first i b e; count = ap (λ m. m i) z; tests = 0; runs = tt };
   ends = ends;
   carries = λ i p l d. none i p ∙ ap (λ m. written (network_on program input) m (stream_at program i p)) z;

@@ -1,25 +1,23 @@
 -- The job of a list of steps, step by step.
-use Rattle.std.proofs.Common.{◌≡◌, ℕ, zero, suc, ◌+◌, ◌<◌, ◌≤◌, List, [], ◌∷◌, ◌++◌, length, drop, Bool, true, false, Option, Some, None, refl, sym, ap, ◌∙◌, subst, arith, length-append}
+use Rattle.std.proofs.Common.{◌≡◌, ℕ, zero, suc, ◌+◌, ◌<◌, ◌≤◌, List, [], ◌∷◌, ◌++◌, length, drop, Bool, true, false, Some, None, refl, sym, ap, ◌∙◌, subst, arith, length-append}
 use Rattle.std.specs.Prelude.{slice_get}
 use Rattle.std.proofs.lemmas.List.{length-map}
 use Rattle.tapa_base.specs.declared.token.Token.{Token}
 use Rattle.tapa_base.specs.declared.token.Token.TheVariants.{Datum, Eot}
 use Rattle.kahn_model.specs.declared.tick.Tick.{Tick}
-use Rattle.kahn_model.specs.declared.tick.Tick.TheVariants.{Did, Take, See, End}
+use Rattle.kahn_model.specs.declared.tick.Tick.TheVariants.{Did, Take, End}
 use Rattle.kahn_model.specs.declared.tick.Action.TheVariants.{Local, Put}
 use Rattle.kahn_model.specs.declared.tick.StreamOperation.TheVariants.{Read}
-use Rattle.kahn_model.specs.Behavior.{Behavior, Finished, OutOfTurns, Act, Await, judge_token, Answer, first_offer, on_offer, tick_of, ticks, lists_after}
+use Rattle.kahn_model.specs.Behavior.{Behavior, Finished, Await, judge_token, Answer, first_offer, on_offer, tick_of, ticks, lists_after}
 use Rattle.net_core.specs.declared.ports.Ports.{Ports}
 use Rattle.net_core.specs.declared.script.Step.{Step}
 use Rattle.net_core.specs.declared.script.Step.TheVariants.{Work, Send, Receive}
 use Rattle.net_core.specs.declared.script.Script.{Script}
 use Rattle.net_core.specs.Ports.{waiting, port_count, ends_of, Moved}
 use Rattle.tapa_syntax.specs.declared.program.End.{End as StreamEnd}
-use Rattle.kahn_model.specs.Fits.{IsTokenOf}
-use Rattle.net_core.specs.Kinds.{kind_in}
 use Rattle.net_core.specs.Job.{Job}
 use Rattle.net_core.specs.Resume.{Resumed}
-use Rattle.net_core.specs.Follow.{Rest, Over, Still, ticks_left, mark_left, left, Going, IsReady, IsLook}
+use Rattle.net_core.specs.Follow.{Rest, Over, Still, Going, IsReady, IsLook}
 use Rattle.net_core.specs.Script.{script, rest_by, rest_of, AreAtStreams, IsAt, GoesTo}
 use Rattle.net_core.specs.declared.body.Pause.{Pause}
 use Rattle.net_core.specs.declared.body.Pause.TheVariants.{Fuel}

@@ -1,9 +1,8 @@
 -- What contracts say of a net, and what resuming one of its instances does.
-use Rattle.std.specs.Prelude.{◌≡◌, ℕ, ◌+◌, ◌<◌, ◌≤◌, ◌⊎◌, ◌==◌, if◌then◌else◌, List, length, Option, Some, None, slice_get, slice_index, slice_set}
-use Rattle.kahn_model.specs.declared.tick.Tick.{Tick}
+use Rattle.std.specs.Prelude.{◌≡◌, ℕ, ◌+◌, ◌<◌, ◌≤◌, ◌==◌, if◌then◌else◌, length, Some, None, slice_get, slice_set}
 use Rattle.tapa_syntax.specs.declared.program.Program.{Program}
 use Rattle.kahn_model.specs.Network.{Network, IsNetwork}
-use Rattle.kahn_model.specs.Counts.{written, taken, total, IsAllowed, IsReachable, IsEnding}
+use Rattle.kahn_model.specs.Counts.{written, taken, total, IsAllowed, IsReachable}
 use Rattle.net_core.specs.declared.body.Pause.{Pause}
 use Rattle.net_core.specs.declared.body.Pause.TheVariants.{Fuel}
 use Rattle.net_core.specs.declared.input.Input.{Input}
@@ -39,6 +38,7 @@ pub record IsValid (net : NetState) : Type 0 where
   pub size : (network net).size ≡ length net.program.instances.items
   pub reachable : IsReachable (network net) (count net)
   pub counts_len : length net.counts ≡ length net.program.instances.items
+  pub unresumed : (i : ℕ) → slice_get net.pauses i ≡ Some None → count net i ≡ 0
   pub pauses_len : length net.pauses ≡ length net.program.instances.items
 
 -- no instance was resumed

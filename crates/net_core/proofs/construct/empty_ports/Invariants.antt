@@ -1,4 +1,4 @@
-use Rattle.std.proofs.Common.{◌≡◌, ℕ, List, [], length, map, take}
+use Rattle.std.proofs.Common.{◌≡◌, ℕ, [], map, take}
 use Rattle.std.specs.Prelude.{slice_get}
 use Rattle.net_core.specs.declared.port.Port.{Port}
 use Rattle.net_core.specs.Ports.{carried_in}

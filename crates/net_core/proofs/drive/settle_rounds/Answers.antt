@@ -1,12 +1,11 @@
-use Rattle.std.proofs.Common.{◌≡◌, ℕ, ◌+◌, ◌<◌, ◌⊎◌, length, refl, sym, ap, subst, inl, inr, ⊎_elim, ◌∙◌, arith}
+use Rattle.std.proofs.Common.{◌≡◌, ℕ, ◌<◌, length, sym, ap, subst, ⊎_elim, ◌∙◌, arith}
 use Rattle.std.proofs.lemmas.Bool.Decides.{nat_tests}
 use Rattle.std.proofs.lemmas.Option.{slice_get_within}
 use Rattle.tapa_syntax.specs.declared.program.Program.{Program}
 use Rattle.net_core.specs.declared.input.Input.{Input}
 use Rattle.net_core.specs.declared.net_state.NetState.{NetState}
 use Rattle.net_core.specs.Load.{IsIn, AreBelow}
-use Rattle.net_core.specs.State.{given}
-use Rattle.net_core.specs.Settle.{IsQuiet, IsLimited, AreAllEnded, IsSomeNotEnded}
+use Rattle.net_core.specs.Settle.{IsQuiet, AreAllEnded, IsSomeNotEnded}
 use Rattle.net_core.proofs.Settled.{limit_ends, done_ends, stopped_ends, settled}
 use Rattle.net_core.proofs.drive.settle_rounds.Goals as goal
 

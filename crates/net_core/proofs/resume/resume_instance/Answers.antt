@@ -1,6 +1,6 @@
 -- The facts of a call, from the net's invariant to what it stands for after the call.
 use Rattle.std.proofs.Common.{◌≡◌, ℕ, ◌+◌, ◌-◌, ◌<◌, ◌≤◌, ◌^◌, length, Some, refl, sym, ap, ◌∙◌, subst, arith}
-use Rattle.std.specs.Prelude.{slice_get, slice_set, slice_index, ◌==◌, if◌then◌else◌}
+use Rattle.std.specs.Prelude.{slice_set, slice_index, ◌==◌, if◌then◌else◌}
 use Rattle.std.specs.Arc.{arc_value}
 use Rattle.std.proofs.lemmas.List.{length-set}
 use Rattle.std.proofs.lemmas.Option.{slice_get_read, get_or_from_slice_get}
@@ -12,7 +12,7 @@ use Rattle.net_core.specs.Load.{HasPorts, AreLoaded}
 use Rattle.net_core.specs.State.{count, HasResumed}
 use Rattle.net_core.specs.declared.net_state.NetState.{NetState}
 use Rattle.net_core.proofs.Moves.{get_set_same}
-use Rattle.net_core.proofs.Resuming.{has_ports, can_resume, ends_are, agrees_at, ports_are, enough, count_set, net_is, has_resumed}
+use Rattle.net_core.proofs.Resuming.{has_ports, can_resume, ends_are, agrees_at, enough, count_set, net_is, has_resumed}
 use Rattle.net_core.proofs.resume.resume_instance.Goals as goal
 
 pub load_ports-requires-clause-ports : goal.load_ports-requires-clause-ports
@@ -160,13 +160,13 @@ invariant_of-net-2 g c =
     let new = c.index_mut-3.result.now + c.resume_body-pause.result.1 in
     let ec : (j : ℕ) → count_of (slice_set I.counts.items i new) j ≡ (if j == i then count_of I.counts.items j + length h.made else count_of I.counts.items j) = count_set I.counts.items i new (length h.made) inc (omega arith) in
     let tk : (p : ℕ) → Reads P i p → slice_index c.count_taken.new.taken.items (stream_at P i p) ≡ slice_index c.load_ports.new.offered.items (stream_at P i p) - length (waiting y p) =
-        subst (λ (z : Program). (p : ℕ) → Reads z i p → slice_index c.count_taken.new.taken.items (stream_at z i p) ≡ slice_index c.load_ports.new.offered.items (stream_at z i p) - length (waiting y p)) c.deref-2.ensures
-        (λ p d. c.count_taken.ensures.took p d ∙ ap (λ o. slice_index c.load_ports.new.offered.items (stream_at c.deref-2.result.now i p) - length (waiting_by o p)) here)
+    subst (λ (z : Program). (p : ℕ) → Reads z i p → slice_index c.count_taken.new.taken.items (stream_at z i p) ≡ slice_index c.load_ports.new.offered.items (stream_at z i p) - length (waiting y p)) c.deref-2.ensures
+    (λ p d. c.count_taken.ensures.took p d ∙ ap (λ o. slice_index c.load_ports.new.offered.items (stream_at c.deref-2.result.now i p) - length (waiting_by o p)) here)
     in
     let to : (s : ℕ) → ((p : ℕ) → Reads P i p → stream_at P i p ≡ s → ⊥) → slice_index c.count_taken.new.taken.items s ≡ slice_index I.taken.items s =
-        subst (λ (z : Program). (s : ℕ) → ((p : ℕ) → Reads z i p → stream_at z i p ≡ s → ⊥) → slice_index c.count_taken.new.taken.items s ≡ slice_index I.taken.items s) c.deref-2.ensures c.count_taken.ensures.others
+    subst (λ (z : Program). (s : ℕ) → ((p : ℕ) → Reads z i p → stream_at z i p ≡ s → ⊥) → slice_index c.count_taken.new.taken.items s ≡ slice_index I.taken.items s) c.deref-2.ensures c.count_taken.ensures.others
     in
-    net_is g.B.Body.stands P inp I.bodies.items I.ports.items I.writers.items I.offered.items I.taken.items I.counts.items I.pauses.items n i ins c.load_ports.new.all.items c.load_ports.new.offered.items k w x ex b eb c.resume_body-pause.new.body c.args.fuel c.resume_body-pause.result.0 y h c.count_taken.new.taken.items (slice_set I.counts.items i new) c.count_taken.ensures.len (length-set I.counts.items i _) ec tk to (slice_set I.pauses.items i (Some c.resume_body-pause.result.0)) (length-set I.pauses.items i _)
+    net_is g.B.Body.stands P inp I.bodies.items I.ports.items I.writers.items I.offered.items I.taken.items I.counts.items I.pauses.items n i ins c.load_ports.new.all.items c.load_ports.new.offered.items k w x ex b eb c.resume_body-pause.new.body c.args.fuel c.resume_body-pause.result.0 y h c.count_taken.new.taken.items (slice_set I.counts.items i new) c.count_taken.ensures.len (length-set I.counts.items i _) ec tk to (slice_set I.pauses.items i (Some c.resume_body-pause.result.0)) (length-set I.pauses.items i _) refl
 
 pub returns-clause-resumed : goal.returns-clause-resumed
 returns-clause-resumed g c =
@@ -199,11 +199,11 @@ returns-clause-resumed g c =
     let new = c.index_mut-3.result.now + c.resume_body-pause.result.1 in
     let ec : (j : ℕ) → count_of (slice_set I.counts.items i new) j ≡ (if j == i then count_of I.counts.items j + length h.made else count_of I.counts.items j) = count_set I.counts.items i new (length h.made) inc (omega arith) in
     let tk : (p : ℕ) → Reads P i p → slice_index c.count_taken.new.taken.items (stream_at P i p) ≡ slice_index c.load_ports.new.offered.items (stream_at P i p) - length (waiting y p) =
-        subst (λ (z : Program). (p : ℕ) → Reads z i p → slice_index c.count_taken.new.taken.items (stream_at z i p) ≡ slice_index c.load_ports.new.offered.items (stream_at z i p) - length (waiting y p)) c.deref-2.ensures
-        (λ p d. c.count_taken.ensures.took p d ∙ ap (λ o. slice_index c.load_ports.new.offered.items (stream_at c.deref-2.result.now i p) - length (waiting_by o p)) here)
+    subst (λ (z : Program). (p : ℕ) → Reads z i p → slice_index c.count_taken.new.taken.items (stream_at z i p) ≡ slice_index c.load_ports.new.offered.items (stream_at z i p) - length (waiting y p)) c.deref-2.ensures
+    (λ p d. c.count_taken.ensures.took p d ∙ ap (λ o. slice_index c.load_ports.new.offered.items (stream_at c.deref-2.result.now i p) - length (waiting_by o p)) here)
     in
     let to : (s : ℕ) → ((p : ℕ) → Reads P i p → stream_at P i p ≡ s → ⊥) → slice_index c.count_taken.new.taken.items s ≡ slice_index I.taken.items s =
-        subst (λ (z : Program). (s : ℕ) → ((p : ℕ) → Reads z i p → stream_at z i p ≡ s → ⊥) → slice_index c.count_taken.new.taken.items s ≡ slice_index I.taken.items s) c.deref-2.ensures c.count_taken.ensures.others
+    subst (λ (z : Program). (s : ℕ) → ((p : ℕ) → Reads z i p → stream_at z i p ≡ s → ⊥) → slice_index c.count_taken.new.taken.items s ≡ slice_index I.taken.items s) c.deref-2.ensures c.count_taken.ensures.others
     in
     subst (λ (v : NetState). HasResumed v (record { program = P; input = inp; counts = slice_set I.counts.items i new; pauses = slice_set I.pauses.items i (Some c.resume_body-pause.result.0) }) i c.args.fuel c.resume_body-pause.result.0 c.resume_body-pause.result.1) c.net.view_is
-    (has_resumed g.B.Body.stands P inp I.bodies.items I.ports.items I.writers.items I.offered.items I.taken.items I.counts.items I.pauses.items n i ins c.load_ports.new.all.items c.load_ports.new.offered.items k w x ex b eb c.resume_body-pause.new.body c.args.fuel c.resume_body-pause.result.0 y h c.count_taken.new.taken.items (slice_set I.counts.items i new) c.count_taken.ensures.len (length-set I.counts.items i _) ec tk to (slice_set I.pauses.items i (Some c.resume_body-pause.result.0)) (length-set I.pauses.items i _) c.resume_body-pause.result.1 m refl)
+    (has_resumed g.B.Body.stands P inp I.bodies.items I.ports.items I.writers.items I.offered.items I.taken.items I.counts.items I.pauses.items n i ins c.load_ports.new.all.items c.load_ports.new.offered.items k w x ex b eb c.resume_body-pause.new.body c.args.fuel c.resume_body-pause.result.0 y h c.count_taken.new.taken.items (slice_set I.counts.items i new) c.count_taken.ensures.len (length-set I.counts.items i _) ec tk to (slice_set I.pauses.items i (Some c.resume_body-pause.result.0)) (length-set I.pauses.items i _) refl c.resume_body-pause.result.1 m)

@@ -1,16 +1,12 @@
-use Rattle.std.proofs.Common.{◌≡◌, ◌+◌, ◌<◌, ◌≤◌, ℕ, drop, length, Some, None, refl, sym, ap, ◌∙◌, subst, arith}
+use Rattle.std.proofs.Common.{◌≡◌, ◌+◌, ◌<◌, drop, Some, None, refl, sym, subst, arith}
 use Rattle.std.specs.Prelude.{slice_get}
-use Rattle.std.proofs.lemmas.Option.{slice_get_within}
 use Rattle.tapa_base.specs.declared.token.Token.TheVariants.{Datum, Eot}
-use Rattle.kahn_model.specs.declared.tick.Tick.TheVariants.{Did, End, Take}
-use Rattle.kahn_model.specs.declared.tick.Action.TheVariants.{Local, Put}
 use Rattle.kahn_model.specs.declared.tick.StreamOperation.TheVariants.{Read}
-use Rattle.kahn_model.specs.Behavior.{Await}
 use Rattle.net_core.specs.declared.script.Step.TheVariants.{Work, Send, Receive}
-use Rattle.net_core.specs.Ports.{waiting, ends_of, port_count, room_at, Moved}
-use Rattle.net_core.specs.Follow.{IsReady, Still}
-use Rattle.net_core.specs.Script.{script, rest_of, rest_by}
-use Rattle.net_core.proofs.Scripted.{rest_none, rest_some, streams_here, count_ends, look_empty, goes_end, goes_work, goes_send, goes_receive, ready_datum, not_over, next_is, no_ticks, ready_room}
+use Rattle.net_core.specs.Ports.{waiting, ends_of, room_at}
+use Rattle.net_core.specs.Follow.{IsReady}
+use Rattle.net_core.specs.Script.{script, rest_of}
+use Rattle.net_core.proofs.Scripted.{rest_none, rest_some, streams_here, count_ends, look_empty}
 use Rattle.net_core.proofs.script.Script.look.Goals as goal
 
 pub room-requires : goal.room-requires
