@@ -5,7 +5,7 @@ ghost use Rattle.net_core.specs.Straight.{statement, writing, reading, IsDepth, 
 
 #[cfg(test)]
 mod tests {
-    use crate::{Input, Net, Outcome, Pause, Script, Step, settle};
+    use crate::{Body, Input, Net, Outcome, Pause, Script, Step, settle};
     use std::alloc::Global;
     use std::sync::Arc;
     use tapa_base::{Kind, OutOfMemory, Text, Token};
@@ -177,14 +177,14 @@ mod tests {
         Net::new(alloc, program, input, bodies)
     }
 
-    // How the two scripts end, the tokens on stream 0, and the last pauses.
+    // How the two scripts end, the tokens on stream 0, the ticks of the first, and the last pauses.
     fn run(
         alloc: Global,
         depths: (u32, u32, u32),
         first: Vec<Step>,
         second: Vec<Step>,
         budget: u64,
-    ) -> Result<Option<(Outcome, usize, Option<Pause>, Option<Pause>)>, OutOfMemory>
+    ) -> Result<Option<(Outcome, usize, u64, Option<Pause>, Option<Pause>)>, OutOfMemory>
         requires depths { IsDepth depths.0 × IsDepth depths.1 × IsDepth depths.2 }
         requires budget { budget ≤ 1000000000000 }
     {
@@ -197,7 +197,8 @@ mod tests {
         let mut net = new_net(alloc, depths, first, second)?;
         let outcome = settle(alloc, &mut net, budget)?;
         let carried = net.carried(0).len();
-        Ok(Some((outcome, carried, net.pause(0), net.pause(1))))
+        let ticks = net.body(0).ticks();
+        Ok(Some((outcome, carried, ticks, net.pause(0), net.pause(1))))
     }
 
     fn sends(alloc: Global, p: u32, t: Token, n: usize) -> Result<Vec<Step>, OutOfMemory> {
@@ -216,7 +217,7 @@ mod tests {
         received: usize,
         depth: u32,
         budget: u64,
-    ) -> Result<Option<(Outcome, usize, Option<Pause>, Option<Pause>)>, OutOfMemory>
+    ) -> Result<Option<(Outcome, usize, u64, Option<Pause>, Option<Pause>)>, OutOfMemory>
         requires depth { IsDepth depth }
         requires budget { budget ≤ 1000000000000 }
     {
@@ -225,10 +226,15 @@ mod tests {
         run(alloc, (depth, 1, 1), first, second, budget)
     }
 
-    fn ended(ticks: u64, carried: usize) -> Option<(Outcome, usize, Option<Pause>, Option<Pause>)> {
+    fn ended(
+        ticks: u64,
+        carried: usize,
+        first: u64,
+    ) -> Option<(Outcome, usize, u64, Option<Pause>, Option<Pause>)> {
         Some((
             Outcome::Done { ticks },
             carried,
+            first,
             Some(Pause::Ended),
             Some(Pause::Ended),
         ))
@@ -237,12 +243,14 @@ mod tests {
     fn stopped(
         ticks: u64,
         carried: usize,
+        made: u64,
         first: Pause,
         second: Pause,
-    ) -> Option<(Outcome, usize, Option<Pause>, Option<Pause>)> {
+    ) -> Option<(Outcome, usize, u64, Option<Pause>, Option<Pause>)> {
         Some((
             Outcome::Stopped { ticks },
             carried,
+            made,
             Some(first),
             Some(second),
         ))
@@ -252,26 +260,37 @@ mod tests {
     fn a_pipe_ends_or_waits(rt: HostRuntime) {
         let a = rt.alloc();
         let d = Token::Datum(5);
-        assert!(rt; pipe(a, 3, d, 3, 1, 8) == Ok(ended(8, 3)));
-        assert!(rt; pipe(a, 3, d, 3, 4096, 8) == Ok(ended(8, 3)));
+        assert!(rt; pipe(a, 3, d, 3, 1, 8) == Ok(ended(8, 3, 4)));
+        assert!(rt; pipe(a, 3, d, 3, 4096, 8) == Ok(ended(8, 3, 4)));
         assert!(rt;
-            pipe(a, 3, d, 4, 2, 100) == Ok(stopped(7, 3, Pause::Ended, Pause::WantsRead(0)))
+            pipe(a, 3, d, 4, 2, 100) == Ok(stopped(7, 3, 4, Pause::Ended, Pause::WantsRead(0)))
         );
         assert!(rt;
-            pipe(a, 9, d, 4, 2, 100) == Ok(stopped(11, 6, Pause::WantsWrite(0), Pause::Ended))
+            pipe(a, 9, d, 4, 2, 100) == Ok(stopped(11, 6, 6, Pause::WantsWrite(0), Pause::Ended))
         );
         assert!(rt;
-            pipe(a, 1, Token::Eot, 1, 1, 100) == Ok(stopped(2, 1, Pause::Ended, Pause::BadToken(0)))
+            pipe(a, 1, Token::Eot, 1, 1, 100)
+                == Ok(stopped(2, 1, 2, Pause::Ended, Pause::BadToken(0)))
         );
-        assert!(rt; matches!(pipe(a, 3, d, 3, 1, 7), Ok(Some((Outcome::Limit, 3, _, _)))));
-        assert!(rt; matches!(pipe(a, 3, d, 3, 1, 0), Ok(Some((Outcome::Limit, 0, _, _)))));
+        assert!(rt;
+            matches!(
+                pipe(a, 3, d, 3, 1, 7),
+                Ok(Some((Outcome::Limit, 3, _, _, _)))
+            )
+        );
+        assert!(rt;
+            matches!(
+                pipe(a, 3, d, 3, 1, 0),
+                Ok(Some((Outcome::Limit, 0, _, _, _)))
+            )
+        );
     }
 
     // Two data on stream 0 and then one on stream 1, which is read first.
     fn crossing(
         alloc: Global,
         depth: u32,
-    ) -> Result<Option<(Outcome, usize, Option<Pause>, Option<Pause>)>, OutOfMemory>
+    ) -> Result<Option<(Outcome, usize, u64, Option<Pause>, Option<Pause>)>, OutOfMemory>
         requires { IsDepth depth }
     {
         let d = Token::Datum(7);
@@ -288,7 +307,7 @@ mod tests {
         alloc: Global,
         sent: usize,
         depth: u32,
-    ) -> Result<Option<(Outcome, usize, Option<Pause>, Option<Pause>)>, OutOfMemory>
+    ) -> Result<Option<(Outcome, usize, u64, Option<Pause>, Option<Pause>)>, OutOfMemory>
         requires { IsDepth depth }
     {
         let mut first = sends(alloc, 2, Token::Datum(9), sent)?;
@@ -300,11 +319,13 @@ mod tests {
     #[test]
     fn loops_and_crossings_need_room(rt: HostRuntime) {
         let a = rt.alloc();
-        assert!(rt; crossing(a, 2) == Ok(ended(8, 2)));
-        assert!(rt; crossing(a, 1) == Ok(stopped(1, 1, Pause::WantsWrite(0), Pause::WantsRead(0))));
-        assert!(rt; itself(a, 1, 1) == Ok(ended(5, 0)));
-        assert!(rt; itself(a, 2, 2) == Ok(ended(6, 0)));
-        assert!(rt; itself(a, 2, 1) == Ok(stopped(2, 0, Pause::WantsWrite(2), Pause::Ended)));
-        assert!(rt; itself(a, 0, 1) == Ok(stopped(1, 0, Pause::WantsRead(3), Pause::Ended)));
+        assert!(rt; crossing(a, 2) == Ok(ended(8, 2, 4)));
+        assert!(rt;
+            crossing(a, 1) == Ok(stopped(1, 1, 1, Pause::WantsWrite(0), Pause::WantsRead(1)))
+        );
+        assert!(rt; itself(a, 1, 1) == Ok(ended(5, 0, 4)));
+        assert!(rt; itself(a, 2, 2) == Ok(ended(6, 0, 5)));
+        assert!(rt; itself(a, 2, 1) == Ok(stopped(2, 0, 1, Pause::WantsWrite(2), Pause::Ended)));
+        assert!(rt; itself(a, 0, 1) == Ok(stopped(1, 0, 0, Pause::WantsRead(3), Pause::Ended)));
     }
 }
