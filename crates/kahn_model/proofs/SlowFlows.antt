@@ -13,8 +13,9 @@ use Rattle.kahn_model.specs.declared.slow.Flow.{Flow}
 use Rattle.kahn_model.specs.declared.slow.Flow.TheVariants.{Next, Out, Again, Stopped as StoppedFlow}
 use Rattle.kahn_model.specs.declared.slow.Turn.{Turn}
 use Rattle.kahn_model.specs.declared.slow.Turn.TheVariants.{On, Over, Stopped as StoppedTurn}
-use Rattle.kahn_model.specs.Job.{Action, Local, Tick, Did, End, Mark, Ended, Turns, Behavior, Finished, OutOfTurns, Act, ticks, mark}
-use Rattle.kahn_model.specs.Trace.{State, Kinds, at_zero, expr, stmt, block, statements, job_of}
+use Rattle.kahn_model.specs.Behavior.{Action, Local, Tick, Did, End, Mark, Ended, Turns, Behavior, Finished, OutOfTurns, Act, ticks, mark}
+use Rattle.kahn_model.specs.Trace.{State, at_zero, expr, stmt, block, statements, job_of}
+use Rattle.tapa_syntax.specs.LeafKinds.{Kinds}
 use Rattle.kahn_model.specs.Slow.{row_at, feed, whole, GoesOn, Stops, GivesValue, GivesFlow, GivesTurn, inside, turn_of, loop_of, turn_left}
 
 pub goes_trans : (b1 b2 b3 : List Tick) (a1 a2 a3 : Behavior) (i1 i2 i3 : ℕ → List Token) → GoesOn b1 a1 i1 b2 a2 i2 → GoesOn b2 a2 i2 b3 a3 i3 → GoesOn b1 a1 i1 b3 a3 i3

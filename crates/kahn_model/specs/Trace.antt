@@ -1,27 +1,20 @@
 -- The job of a leaf body: a recursion on its statements.
-use Rattle.std.specs.Prelude.{ℕ, zero, suc, ◌+◌, ◌-◌, ◌*◌, ◌%◌, ◌^◌, List, [], ◌∷◌, length, replicate, ◌==◌, nat_lt, if◌then◌else◌, slice_index, slice_index_or, slice_set}
+use Rattle.std.specs.Prelude.{ℕ, zero, suc, ◌-◌, ◌*◌, ◌^◌, List, [], ◌∷◌, length, replicate, slice_index, slice_index_or, slice_set}
 use Rattle.tapa_base.specs.declared.token.Token.TheVariants.{Datum, Eot as EotToken}
-use Rattle.tapa_base.specs.declared.kind.Kind.{Kind}
 use Rattle.tapa_base.specs.Kinds.{bits_of, converted}
 use Rattle.tapa_base.specs.Operators.{applied}
 use Rattle.tapa_syntax.specs.declared.program.Expr.{Expr}
 use Rattle.tapa_syntax.specs.declared.program.Expr.TheVariants.{Lit, Var, Cell', Read, Peek, Eot, Load' as LoadCell, Conv', Apply', Flip', Not', And', Or', Choose'}
 use Rattle.tapa_syntax.specs.declared.program.Stmt.{Stmt, Row_of-Stmt, end_of-Stmt, more_of-Stmt}
 use Rattle.tapa_syntax.specs.declared.program.Stmt.TheVariants.{Set, SetCell, SetCellBy, Store as StoreCell, StoreBy, ReadVar, ReadCell, ReadStore, Write, Open as OpenIt, Close, Discard, Clear, If', Loop', Break, Continue}
-use Rattle.kahn_model.specs.Job.{Action, Local, Put, Load, Store, Read as ByRead, Peek as ByPeek, TestEot, Open as ByOpen, Behavior, Finished, OutOfTurns, Act, Await}
+use Rattle.tapa_syntax.specs.LeafKinds.{Kinds}
+use Rattle.kahn_model.specs.Behavior.{Action, Local, Put, Load, Store, Read as ByRead, Peek as ByPeek, TestEot, Open as ByOpen, Behavior, Finished, OutOfTurns, Act, Await}
 
 -- what a job keeps: its variables, its arrays and the cells of its memories
 pub record State : Type 0 where
   pub vars : List ℕ
   pub arrays : List (List ℕ)
   pub cells : List (List ℕ)
-
--- the kinds of a leaf's variables, arrays, memories and streams
-pub record Kinds : Type 0 where
-  pub vars : ℕ → Kind
-  pub arrays : ℕ → Kind
-  pub memories : ℕ → Kind
-  pub streams : ℕ → Kind
 
 -- the first where the number is 0, and else the second
 abbrev pub at_zero : {A : Type 0} → ℕ → A → A → A

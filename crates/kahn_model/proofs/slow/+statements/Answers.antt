@@ -6,7 +6,8 @@ use Rattle.kahn_model.specs.declared.slow.Flow.TheVariants.{Next, Out, Again, St
 use Rattle.kahn_model.specs.declared.slow.Turn.TheVariants.{On, Over, Stopped as StoppedTurn}
 use Rattle.std.proofs.lemmas.List.{drop_more}
 use Rattle.kahn_model.specs.Slow.{feed, state_of, GivesFlow, turn_of, loop_of, turn_left}
-use Rattle.kahn_model.specs.Trace.{Kinds, statements, stmt}
+use Rattle.kahn_model.specs.Trace.{statements, stmt}
+use Rattle.tapa_syntax.specs.LeafKinds.{Kinds}
 use Rattle.kahn_model.proofs.SlowFlows.{turn_begins, turn_stops, turn_out, turn_next, turn_again, turn_at, flow_at, flow_after, if_begins, code_at_zero, code_not_zero, block_step, block_leaves, loop_on, loop_over, loop_stops}
 use Rattle.kahn_model.proofs.slow.+statements.Goals as goal
 

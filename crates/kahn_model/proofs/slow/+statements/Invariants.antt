@@ -1,7 +1,8 @@
 use Rattle.std.proofs.Common.{◌≡◌, ◌-◌, length, drop}
-use Rattle.kahn_model.specs.Job.{Behavior}
+use Rattle.kahn_model.specs.Behavior.{Behavior}
 use Rattle.kahn_model.specs.Slow.{feed, state_of, GoesOn, loop_of}
-use Rattle.kahn_model.specs.Trace.{State, Kinds, statements}
+use Rattle.kahn_model.specs.Trace.{State, statements}
+use Rattle.tapa_syntax.specs.LeafKinds.{Kinds}
 use Rattle.kahn_model.proofs.slow.+statements.Given as goal
 
 abbrev pub invariant-run_block-loop-s : goal.invariant-run_block-loop-s
