@@ -11,15 +11,16 @@ use Rattle.tapa_syntax.specs.declared.program.Expr.TheVariants.{Lit, Var, Cell',
 use Rattle.tapa_syntax.specs.declared.program.Stmt.{Stmt}
 use Rattle.tapa_syntax.specs.declared.program.Stmt.TheVariants.{Set, SetCell, SetCellBy, Store, StoreBy, ReadVar, ReadCell, ReadStore, Write, Open, Close, Discard, Clear, If', Loop', Break, Continue}
 use Rattle.tapa_syntax.specs.declared.program.Leaf.{Leaf}
-use Rattle.kahn_model.specs.Job.{Behavior, Finished, ticks}
-use Rattle.kahn_model.specs.Trace.{State, Kinds, statements, job_of}
-use Rattle.kahn_model.specs.Whole.{kinds_of}
+use Rattle.kahn_model.specs.Behavior.{Behavior, Finished, ticks}
+use Rattle.kahn_model.specs.Trace.{State, statements, job_of}
+use Rattle.tapa_syntax.specs.LeafKinds.{Kinds, kinds_of}
 use Rattle.task_fsm.specs.Follows.{Follows}
 use Rattle.task_fsm.specs.Machine.{forms_of, StateForm, SetAt, CellAt, ReadAt, WriteAt, PeekAt, EotAt, OpenAt, CloseAt, LoadAt, StoreAt, ClearAt, EndAt, TrapAt, Converted, CellOf, Reg}
 use Rattle.task_fsm.specs.Run.{trap_of, cells_after, IsMachineOf}
-use Rattle.task_fsm.specs.Fits.{IsNoJump, FitsBody, cleared_by}
+use Rattle.tapa_syntax.specs.WellFormed.{IsLeaf}
+use Rattle.tapa_syntax.specs.ArrayUse.{IsNoJump, FitsBody, cleared_by}
 use Rattle.task_fsm.specs.Code.{Emitted, emit, going_to, operation_count, residual, discarded, size_of, size_of_block, old_with, stmt_code, block_code, list_code, size_of_list, last_code, leaf_code}
-use Rattle.task_fsm.specs.Lowered.{FitsLeaf, IsStart, IsLowered, with_temporaries}
+use Rattle.task_fsm.specs.Lowered.{IsStart, IsLowered, with_temporaries}
 use Rattle.task_fsm.proofs.Grows.{front_trans, IsTail, tail_trans, Grows, grows_trans, grows_none, grows_stmt, IsFirst, first_put, first_hold, first_ops, first_test, stands}
 use Rattle.task_fsm.proofs.Simulates.{Holds}
 use Rattle.task_fsm.proofs.Executes.{Goes, goes_more, sub_more, f_stmt}
@@ -122,10 +123,10 @@ size_leaf leaf =
     let gz = g.size in
     omega arith
 
-pub entry_leaf : (leaf : Leaf) → FitsLeaf leaf → (leaf_code leaf).entry ≡ 0
+pub entry_leaf : (leaf : Leaf) → IsLeaf leaf → (leaf_code leaf).entry ≡ 0
 entry_leaf leaf f =
     let z = size_of_list leaf.code.items in
-    let h = first_list (kinds_of leaf) (z + 2) (length leaf.vars.items) (length leaf.vars.items) (length leaf.arrays.items) [] leaf.code.items z z (last_code (z + 2) leaf) f (record { is = refl }) in
+    let h = first_list (kinds_of leaf) (z + 2) (length leaf.vars.items) (length leaf.vars.items) (length leaf.arrays.items) [] leaf.code.items z z (last_code (z + 2) leaf) f.fits (record { is = refl }) in
     let e = size_leaf leaf in
     h.is ∙ omega arith
 
@@ -136,7 +137,7 @@ trap_leaf leaf =
     let g = grows_list (kinds_of leaf) (z + 2) (length leaf.vars.items) leaf.code.items z z (last_code (z + 2) leaf) in
     stands TrapAt [] P (tail_trans (TrapAt ∷ []) (EndAt ∷ TrapAt ∷ []) P (record { before = EndAt ∷ []; joins = refl }) g.tail)
 
-pub leaf_follows : (leaf : Leaf) (σ : State) → FitsLeaf leaf → IsStart leaf σ → (fuel : ℕ) → Follows (leaf_code leaf).places [] (job_of (kinds_of leaf) leaf.code.items σ fuel) 0 (with_temporaries (length (leaf_code leaf).regs - length leaf.vars.items) σ)
+pub leaf_follows : (leaf : Leaf) (σ : State) → IsLeaf leaf → IsStart leaf σ → (fuel : ℕ) → Follows (leaf_code leaf).places [] (job_of (kinds_of leaf) leaf.code.items σ fuel) 0 (with_temporaries (length (leaf_code leaf).regs - length leaf.vars.items) σ)
 leaf_follows leaf σ f start fuel =
     let K = kinds_of leaf in
     let c = length leaf.vars.items in
@@ -161,7 +162,7 @@ leaf_follows leaf σ f start fuel =
     subst (λ k. IsTail (list_code K k c code z z (last_code k leaf)).places P) (sym e) (record { before = []; joins = refl }) in
     let room : length (list_code K (length P) c code z z (last_code (length P) leaf)).regs ≤ size =
     subst (λ k. length (list_code K k c code z z (last_code k leaf)).regs ≤ size) (sym e) (omega arith) in
-    let follows1 = f_list K P c size n fuel code [] z z (last_code (length P) leaf) tail room (omega arith) f (λ σ'. Finished) (λ σ'. Finished) (λ σ'. Finished) ends out out σ τ [] (λ a h. h) holds in
+    let follows1 = f_list K P c size n fuel code [] z z (last_code (length P) leaf) tail room (omega arith) f.fits (λ σ'. Finished) (λ σ'. Finished) (λ σ'. Finished) ends out out σ τ [] (λ a h. h) holds in
     let follows2 = subst (λ k. Follows P [] job (list_code K k c code z z (last_code k leaf)).entry τ) e follows1 in
     subst (λ k. Follows P [] job k τ) (entry_leaf leaf f) follows2
 
@@ -176,17 +177,17 @@ front_leaf leaf =
     let f = front_trans leaf.vars.items (leaf.vars.items ++ U32 ∷ []) (leaf_code leaf).regs (record { after = U32 ∷ []; joins = refl }) g.front in
     subst (λ l. IsPrefixOf leaf.vars.items l) (sym f.joins) (front_is leaf.vars.items f.after)
 
-follows_at : (leaf : Leaf) (fsm : Fsm) → FitsLeaf leaf → forms_of fsm.states.items ≡ (leaf_code leaf).places → fsm.regs.items ≡ (leaf_code leaf).regs → (σ : State) → IsStart leaf σ → (n : ℕ) → Follows (forms_of fsm.states.items) [] (job_of (kinds_of leaf) leaf.code.items σ n) 0 (with_temporaries (length fsm.regs.items - length leaf.vars.items) σ)
+follows_at : (leaf : Leaf) (fsm : Fsm) → IsLeaf leaf → forms_of fsm.states.items ≡ (leaf_code leaf).places → fsm.regs.items ≡ (leaf_code leaf).regs → (σ : State) → IsStart leaf σ → (n : ℕ) → Follows (forms_of fsm.states.items) [] (job_of (kinds_of leaf) leaf.code.items σ n) 0 (with_temporaries (length fsm.regs.items - length leaf.vars.items) σ)
 follows_at leaf fsm fits p r σ start n =
     subst (λ P. Follows P [] (job_of (kinds_of leaf) leaf.code.items σ n) 0 (with_temporaries (length fsm.regs.items - length leaf.vars.items) σ)) (sym p)
     (subst (λ l. Follows (leaf_code leaf).places [] (job_of (kinds_of leaf) leaf.code.items σ n) 0 (with_temporaries (length l - length leaf.vars.items) σ)) (sym r) (leaf_follows leaf σ fits start n))
 
-machine_at : (leaf : Leaf) (fsm : Fsm) → FitsLeaf leaf → forms_of fsm.states.items ≡ (leaf_code leaf).places → fsm.regs.items ≡ (leaf_code leaf).regs → (σ : State) → IsStart leaf σ → IsMachineOf (λ n. job_of (kinds_of leaf) leaf.code.items σ n) (forms_of fsm.states.items) (with_temporaries (length fsm.regs.items - length leaf.vars.items) σ)
+machine_at : (leaf : Leaf) (fsm : Fsm) → IsLeaf leaf → forms_of fsm.states.items ≡ (leaf_code leaf).places → fsm.regs.items ≡ (leaf_code leaf).regs → (σ : State) → IsStart leaf σ → IsMachineOf (λ n. job_of (kinds_of leaf) leaf.code.items σ n) (forms_of fsm.states.items) (with_temporaries (length fsm.regs.items - length leaf.vars.items) σ)
 machine_at leaf fsm fits p r σ start n ins =
     runs (forms_of fsm.states.items) (job_of (kinds_of leaf) leaf.code.items σ n) [] 0 (with_temporaries (length fsm.regs.items - length leaf.vars.items) σ) ins (follows_at leaf fsm fits p r σ start n)
 
 -- a machine with these places and registers
-pub lowered : (leaf : Leaf) (fsm : Fsm) (w : Emitted) → FitsLeaf leaf → w ≡ leaf_code leaf → forms_of fsm.states.items ≡ w.places → fsm.regs.items ≡ w.regs → fsm.name ≡ leaf.name → fsm.scalars.items ≡ leaf.scalars.items → fsm.arrays.items ≡ leaf.arrays.items → IsLowered leaf fsm
+pub lowered : (leaf : Leaf) (fsm : Fsm) (w : Emitted) → IsLeaf leaf → w ≡ leaf_code leaf → forms_of fsm.states.items ≡ w.places → fsm.regs.items ≡ w.regs → fsm.name ≡ leaf.name → fsm.scalars.items ≡ leaf.scalars.items → fsm.arrays.items ≡ leaf.arrays.items → IsLowered leaf fsm
 lowered leaf fsm w fits e ep er em es ea =
     let p : forms_of fsm.states.items ≡ (leaf_code leaf).places = ep ∙ ap (λ (x : Emitted). x.places) e in
     let r : fsm.regs.items ≡ (leaf_code leaf).regs = er ∙ ap (λ (x : Emitted). x.regs) e in

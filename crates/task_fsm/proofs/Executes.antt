@@ -12,14 +12,16 @@ use Rattle.tapa_syntax.specs.declared.program.Stmt.{Stmt, Row_of-Stmt, end_of-St
 use Rattle.tapa_syntax.specs.declared.program.Stmt.TheVariants.{Set, SetCell, SetCellBy, Store as StoreCell, StoreBy, ReadVar, ReadCell, ReadStore, Write, Open as OpenIt, Close, Discard, Clear, If', Loop', Break, Continue}
 use Rattle.kahn_model.specs.declared.tick.Action.TheVariants.{Local, Put, Load, Store}
 use Rattle.kahn_model.specs.declared.tick.StreamOperation.TheVariants.{Read as ByRead}
-use Rattle.kahn_model.specs.Job.{Behavior, Act, Await}
-use Rattle.kahn_model.specs.Trace.{State, Kinds, at_zero, cell, with_cell, cells_of, cleared, set_var, set_cell, store_cell, expr, locals, turns, stmt, block}
+use Rattle.kahn_model.specs.Behavior.{Behavior, Act, Await}
+use Rattle.kahn_model.specs.Trace.{State, at_zero, cell, with_cell, cells_of, cleared, set_var, set_cell, store_cell, expr, locals, turns, stmt, block}
+use Rattle.tapa_syntax.specs.LeafKinds.{Kinds}
 use Rattle.tapa_base.specs.Kinds.{converted}
 use Rattle.tapa_base.specs.Operators.{applied}
 use Rattle.task_fsm.specs.Follows.{Follows}
 use Rattle.task_fsm.specs.Machine.{Expression, Reg, CellOf, Converted, StateForm, SetAt, CellAt, TestAt, ReadAt, WriteAt, PeekAt, EotAt, OpenAt, CloseAt, LoadAt, StoreAt, ClearAt}
-use Rattle.task_fsm.specs.Run.{value, Performs, is_last, clear_step, also_if_last, step, IsAmong, ReadsOnly}
-use Rattle.task_fsm.specs.Fits.{FitsExpr, FitsStmt, FitsBlock, cleared_by}
+use Rattle.task_fsm.specs.Run.{value, Performs, is_last, clear_step, also_if_last, step, ReadsOnly}
+use Rattle.tapa_syntax.specs.ArrayUse.{In}
+use Rattle.tapa_syntax.specs.ArrayUse.{FitsExpr, FitsStmt, FitsBlock, cleared_by}
 use Rattle.task_fsm.specs.Code.{Emitted, emit, emit_held, going_to, operation_count, residual, operations, discarded, size_of_block, old_with, test_code, stmt_code, block_code}
 use Rattle.task_fsm.proofs.Grows.{IsTail, tail_trans, grows_hold, grows_ops, grows_test, grows_stmt, grows_block, regs_ops, first_test, stands}
 use Rattle.task_fsm.proofs.Simulates.{two, Sub, Apart, apart_set, Holds, holds_apart, no_trap, no_trap_ops, uses_left, value_stays, follows_two, follows_ask, computes}
@@ -234,7 +236,7 @@ module _ (K : Kinds) (P : List StateForm) (c size n : ℕ) where
       (λ v τ' q w. by v τ' (holds_apart c size n t (operation_count e) σ τ τ' lt h q) w)
 
   -- a cell of an array gets a value that is computed from two
-  f_cell : (S : List ℕ) (a : ℕ) (i e : Expr) (V : Expression) (w : State → ℕ → ℕ → ℕ) (B : Emitted) → IsTail (operations K (length P) e (operations K (length P) i (emit (length P) (λ next. CellAt a (residual i (length B.regs)) V next) B))).places P → length (operations K (length P) e (operations K (length P) i (emit (length P) (λ next. CellAt a (residual i (length B.regs)) V next) B))).regs ≤ size → c < length B.regs → IsAmong a S → FitsExpr c S i → FitsExpr c S e → ((T : List ℕ) → Sub S T → ReadsOnly T V) → ((σ τ' : State) (v j : ℕ) → Holds c size n σ τ' → value (residual e (length B.regs + operation_count i)) τ' ≡ v → value (residual i (length B.regs)) τ' ≡ j → value V τ' ≡ w σ v j) → (go : State → Behavior) → Goes S B.entry go → Goes S (operations K (length P) e (operations K (length P) i (emit (length P) (λ next. CellAt a (residual i (length B.regs)) V next) B))).entry (λ σ. expr e σ (λ v. expr i σ (λ j. Act Local (go (set_cell σ a j (w σ v j))))))
+  f_cell : (S : List ℕ) (a : ℕ) (i e : Expr) (V : Expression) (w : State → ℕ → ℕ → ℕ) (B : Emitted) → IsTail (operations K (length P) e (operations K (length P) i (emit (length P) (λ next. CellAt a (residual i (length B.regs)) V next) B))).places P → length (operations K (length P) e (operations K (length P) i (emit (length P) (λ next. CellAt a (residual i (length B.regs)) V next) B))).regs ≤ size → c < length B.regs → In a S → FitsExpr c S i → FitsExpr c S e → ((T : List ℕ) → Sub S T → ReadsOnly T V) → ((σ τ' : State) (v j : ℕ) → Holds c size n σ τ' → value (residual e (length B.regs + operation_count i)) τ' ≡ v → value (residual i (length B.regs)) τ' ≡ j → value V τ' ≡ w σ v j) → (go : State → Behavior) → Goes S B.entry go → Goes S (operations K (length P) e (operations K (length P) i (emit (length P) (λ next. CellAt a (residual i (length B.regs)) V next) B))).entry (λ σ. expr e σ (λ v. expr i σ (λ j. Act Local (go (set_cell σ a j (w σ v j))))))
   f_cell S a i e V w B tail room lt ina fi fe uses is go hg σ τ T sub h =
       let t = length B.regs in
       let p = λ (next : ℕ). CellAt a (residual i t) V next in
@@ -342,7 +344,7 @@ module _ (K : Kinds) (P : List StateForm) (c size n : ℕ) where
       ))
 
   -- a token into a cell of an array
-  f_read_cell : (S : List ℕ) (s a : ℕ) (i : Expr) (B : Emitted) → IsTail (stmt_code K (length P) c (ReadCell s a i) 0 0 B).places P → length (stmt_code K (length P) c (ReadCell s a i) 0 0 B).regs ≤ size → c < length B.regs → IsAmong a S → FitsExpr c S i → (go : State → Behavior) → Goes S B.entry go → Goes S (stmt_code K (length P) c (ReadCell s a i) 0 0 B).entry (λ σ. expr i σ (λ j. Await s ByRead (λ v. Act Local (go (set_cell σ a j (converted (K.streams s) (K.arrays a) v))))))
+  f_read_cell : (S : List ℕ) (s a : ℕ) (i : Expr) (B : Emitted) → IsTail (stmt_code K (length P) c (ReadCell s a i) 0 0 B).places P → length (stmt_code K (length P) c (ReadCell s a i) 0 0 B).regs ≤ size → c < length B.regs → In a S → FitsExpr c S i → (go : State → Behavior) → Goes S B.entry go → Goes S (stmt_code K (length P) c (ReadCell s a i) 0 0 B).entry (λ σ. expr i σ (λ j. Await s ByRead (λ v. Act Local (go (set_cell σ a j (converted (K.streams s) (K.arrays a) v))))))
   f_read_cell S s a i B tail room lt ina fi go hg σ τ T sub h =
       let N = length P in
       let t = length B.regs in

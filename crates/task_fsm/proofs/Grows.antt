@@ -10,7 +10,7 @@ use Rattle.tapa_syntax.specs.declared.program.Expr.{Expr}
 use Rattle.tapa_syntax.specs.declared.program.Expr.TheVariants.{Lit, Var, Cell', Read, Peek, Eot, Load', Conv', Apply', Flip', Not', And', Or', Choose'}
 use Rattle.tapa_syntax.specs.declared.program.Stmt.{Stmt, Row_of-Stmt, end_of-Stmt, more_of-Stmt}
 use Rattle.tapa_syntax.specs.declared.program.Stmt.TheVariants.{Set, SetCell, SetCellBy, Store, StoreBy, ReadVar, ReadCell, ReadStore, Write, Open, Close, Discard, Clear, If', Loop', Break, Continue}
-use Rattle.kahn_model.specs.Trace.{Kinds}
+use Rattle.tapa_syntax.specs.LeafKinds.{Kinds}
 use Rattle.task_fsm.specs.Machine.{StateForm, SetAt, CellAt, TestAt, ReadAt, WriteAt, PeekAt, EotAt, OpenAt, CloseAt, LoadAt, StoreAt, ClearAt, Converted, Reg, CellOf}
 use Rattle.task_fsm.specs.Code.{Emitted, emit, emit_held, going_to, operation_count, residual, operations, discarded, size_of, size_of_block, old_with, test_code, stmt_code, block_code}
 

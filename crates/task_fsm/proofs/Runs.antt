@@ -10,7 +10,7 @@ use Rattle.kahn_model.specs.declared.tick.Mark.{Mark}
 use Rattle.kahn_model.specs.declared.tick.Mark.TheVariants.{Ended, Needs, Bad, Turns}
 use Rattle.kahn_model.specs.declared.tick.StreamOperation.{StreamOperation}
 use Rattle.kahn_model.specs.declared.tick.StreamOperation.TheVariants.{Read, Peek, TestEot, Open}
-use Rattle.kahn_model.specs.Job.{Behavior, Finished, OutOfTurns, Act, Await, Offer, NoToken, WrongToken, Answer, ticks, mark, tick_of, first_offer, on_offer, lists_after}
+use Rattle.kahn_model.specs.Behavior.{Behavior, Finished, OutOfTurns, Act, Await, Offer, NoToken, WrongToken, Answer, ticks, mark, tick_of, first_offer, on_offer, lists_after}
 use Rattle.kahn_model.specs.Trace.{State, cell}
 use Rattle.task_fsm.specs.Follows.{Follows, left_after}
 use Rattle.task_fsm.specs.Machine.{StateForm, SetAt, CellAt, TestAt, ReadAt, WriteAt, PeekAt, EotAt, OpenAt, CloseAt, LoadAt, StoreAt, ClearAt, EndAt, TrapAt}

@@ -7,14 +7,16 @@ use Rattle.tapa_syntax.specs.declared.program.Expr.TheVariants.{Lit, Var, Cell',
 use Rattle.kahn_model.specs.declared.tick.Action.TheVariants.{Load}
 use Rattle.kahn_model.specs.declared.tick.StreamOperation.{StreamOperation}
 use Rattle.kahn_model.specs.declared.tick.StreamOperation.TheVariants.{Read as ByRead, Peek as ByPeek, TestEot}
-use Rattle.kahn_model.specs.Job.{Behavior, Act, Await}
-use Rattle.kahn_model.specs.Trace.{State, Kinds, at_zero, cell, cells_of, set_var, expr}
+use Rattle.kahn_model.specs.Behavior.{Behavior, Act, Await}
+use Rattle.kahn_model.specs.Trace.{State, at_zero, cell, cells_of, set_var, expr}
+use Rattle.tapa_syntax.specs.LeafKinds.{Kinds}
 use Rattle.tapa_base.specs.Kinds.{bits_of, converted}
 use Rattle.tapa_base.specs.Operators.{applied}
 use Rattle.task_fsm.specs.Machine.{StateForm, ReadAt, PeekAt, EotAt, LoadAt, TrapAt}
-use Rattle.task_fsm.specs.Run.{value, Performs, Awaits, step, cleared_after, IsAmong, ReadsOnly, UsesOnly}
+use Rattle.task_fsm.specs.Run.{value, Performs, Awaits, step, cleared_after, ReadsOnly, UsesOnly}
+use Rattle.tapa_syntax.specs.ArrayUse.{In}
 use Rattle.task_fsm.specs.Follows.{Follows}
-use Rattle.task_fsm.specs.Fits.{FitsExpr}
+use Rattle.tapa_syntax.specs.ArrayUse.{FitsExpr}
 use Rattle.task_fsm.specs.Code.{Emitted, emit_held, operation_count, residual, operations}
 use Rattle.task_fsm.proofs.Grows.{IsTail, tail_trans, grows_hold, grows_ops, regs_ops, stands}
 
@@ -30,7 +32,7 @@ pub two : {A B C : Type 0} (f : A → B → C) (a a' : A) (b b' : B) → a ≡ a
 two f a a' b b' e g = ap (λ x. f x b) e ∙ ap (λ y. f a' y) g
 
 abbrev pub Sub : List ℕ → List ℕ → Type 0
-Sub S T = (a : ℕ) → IsAmong a S → IsAmong a T
+Sub S T = (a : ℕ) → In a S → In a T
 
 -- the second differs from the first in the n registers from lo on only
 pub record Apart (lo n : ℕ) (τ τ' : State) : Type 0 where

@@ -8,8 +8,7 @@ use Rattle.tapa_syntax.specs.declared.program.Expr.TheVariants.{Lit, Var, Cell',
 use Rattle.tapa_syntax.specs.declared.program.Stmt.{Stmt, Row_of-Stmt, end_of-Stmt, more_of-Stmt}
 use Rattle.tapa_syntax.specs.declared.program.Stmt.TheVariants.{Set, SetCell, SetCellBy, Store, StoreBy, ReadVar, ReadCell, ReadStore, Write, Open, Close, Discard, Clear, If', Loop', Break, Continue}
 use Rattle.tapa_syntax.specs.declared.program.Leaf.{Leaf}
-use Rattle.kahn_model.specs.Trace.{Kinds}
-use Rattle.kahn_model.specs.Whole.{kinds_of}
+use Rattle.tapa_syntax.specs.LeafKinds.{Kinds, kinds_of}
 use Rattle.task_fsm.specs.Machine.{Expression, Number, Reg, CellOf, Converted, Applied, Flipped, Inverse, Both, Either, Chosen, StateForm, SetAt, CellAt, TestAt, ReadAt, WriteAt, PeekAt, EotAt, OpenAt, CloseAt, LoadAt, StoreAt, ClearAt, EndAt, TrapAt}
 
 -- how many operations an expression has

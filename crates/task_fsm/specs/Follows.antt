@@ -1,7 +1,7 @@
 -- What it means that a machine follows a job, and what is left of both after some ticks.
 use Rattle.std.specs.Prelude.{◌≡◌, ℕ, zero, suc, List, Option, Some, slice_get}
 use Rattle.tapa_base.specs.declared.token.Token.{Token}
-use Rattle.kahn_model.specs.Job.{Behavior, Finished, OutOfTurns, Act, Await, first_offer, on_offer, lists_after}
+use Rattle.kahn_model.specs.Behavior.{Behavior, Finished, OutOfTurns, Act, Await, first_offer, on_offer, lists_after}
 use Rattle.kahn_model.specs.Trace.{State}
 use Rattle.task_fsm.specs.Machine.{StateForm, EndAt, TrapAt}
 use Rattle.task_fsm.specs.Run.{Performs, Awaits, put_into, step, cleared_after, UsesOnly}

@@ -1,7 +1,6 @@
 pub mod Machine
 pub mod Run
 pub mod Follows
-pub mod Fits
 pub mod Code
 pub mod Lowered
 pub mod Draft

@@ -2,19 +2,14 @@
 use Rattle.std.specs.Prelude.{◌≡◌, ℕ, ◌+◌, ◌-◌, ◌<◌, ◌≤◌, List, [], ◌++◌, length, replicate, Some, slice_get}
 use Rattle.tapa_syntax.specs.declared.program.Leaf.{Leaf}
 use Rattle.tapa_base.specs.declared.token.Token.{Token}
-use Rattle.kahn_model.specs.Job.{ticks}
+use Rattle.kahn_model.specs.Behavior.{ticks}
 use Rattle.kahn_model.specs.Prefix.{IsPrefixOf}
 use Rattle.kahn_model.specs.Trace.{State, job_of, cells_of}
-use Rattle.kahn_model.specs.Whole.{kinds_of}
+use Rattle.tapa_syntax.specs.LeafKinds.{kinds_of}
 use Rattle.task_fsm.specs.declared.machine.Fsm.{Fsm}
 use Rattle.task_fsm.specs.Machine.{TrapAt, forms_of}
 use Rattle.task_fsm.specs.Run.{trap_of, run, cells_after, IsMachineOf}
 use Rattle.task_fsm.specs.Follows.{Follows}
-use Rattle.task_fsm.specs.Fits.{FitsBody}
-
--- a body keeps to its own variables and arrays, and uses an array only after its Clear
-abbrev pub FitsLeaf : Leaf → Type 0
-FitsLeaf leaf = FitsBody (length leaf.vars.items) (length leaf.arrays.items) [] leaf.code.items
 
 -- the variables, arrays and cells of a job at its start
 pub record IsStart (leaf : Leaf) (σ : State) : Type 0 where

@@ -1,7 +1,7 @@
 // A machine that is being written, from the last state to the first.
 
 ghost use Rattle.std.specs.Prelude.{◌≡◌, ◌+◌, ◌-◌, ◌<◌, ◌++◌, ◌∷◌, [], IfOk, length};
-ghost use Rattle.kahn_model.specs.Whole.{kinds_of};
+ghost use Rattle.tapa_syntax.specs.LeafKinds.{kinds_of};
 ghost use Rattle.task_fsm.specs.Code.{emit, emit_held};
 ghost use Rattle.task_fsm.specs.Draft.{emitted};
 ghost use Rattle.task_fsm.specs.Machine.{EndAt, TrapAt, form_of, forms_of};

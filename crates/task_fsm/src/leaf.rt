@@ -2,7 +2,8 @@
 
 ghost use Rattle.std.specs.Prelude.{◌≡◌, ◌<◌, ◌++◌, ◌∷◌, [], length, slice_get, Some, IfOk};
 ghost use Rattle.tapa_syntax.specs.declared.program.Leaf.{Leaf};
-ghost use Rattle.task_fsm.specs.Lowered.{FitsLeaf, IsLowered};
+ghost use Rattle.tapa_syntax.specs.WellFormed.{IsLeaf, IsWellFormed};
+ghost use Rattle.task_fsm.specs.Lowered.{IsLowered};
 ghost use Rattle.task_fsm.specs.Draft.{emitted};
 ghost use Rattle.task_fsm.specs.Machine.{EndAt, TrapAt, forms_of};
 
@@ -77,7 +78,7 @@ fn finished(draft: Draft, name: Text, scalars: Vec<u32>, arrays: Vec<Array>) -> 
 
 // The machine of a leaf.
 fn lower_leaf(alloc: Global, leaf: &Leaf) -> Result<Fsm, AllocError>
-    requires { FitsLeaf leaf.now }
+    requires { IsLeaf leaf.now }
     ensures { IfOk result (λ fsm. IsLowered leaf.now fsm) }
 {
     let size = size_list(&leaf.code)?;
@@ -97,7 +98,7 @@ fn lower_leaf(alloc: Global, leaf: &Leaf) -> Result<Fsm, AllocError>
 /// states and registers have 32 bits; a body with more is answered as want of memory.
 pub fn lower(alloc: Global, program: &Program, body: u32) -> Result<Fsm, OutOfMemory>
     requires in_range { body < length program.now.bodies.items }
-    requires fits { (leaf : Leaf) → slice_get program.now.bodies.items body ≡ Some leaf → FitsLeaf leaf }
+    requires well_formed { IsWellFormed program.now }
     ensures { IfOk result (λ fsm. (leaf : Leaf) → slice_get program.now.bodies.items body ≡ Some leaf → IsLowered leaf fsm) }
 {
     let leaf = &program.bodies[body as usize];

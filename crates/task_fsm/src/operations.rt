@@ -1,7 +1,7 @@
 // The places of an expression's operations.
 
 ghost use Rattle.std.specs.Prelude.{◌≡◌, IfOk};
-ghost use Rattle.kahn_model.specs.Whole.{kinds_of};
+ghost use Rattle.tapa_syntax.specs.LeafKinds.{kinds_of};
 ghost use Rattle.task_fsm.specs.Code.{operations, discarded, test_code};
 ghost use Rattle.task_fsm.specs.Draft.{emitted};
 

@@ -2,7 +2,7 @@
 
 ghost use Rattle.std.specs.Prelude.{◌≡◌, IfOk};
 ghost use Rattle.tapa_syntax.specs.declared.program.Stmt.TheVariants.{Set, SetCell, SetCellBy, Store, StoreBy, ReadVar, ReadCell, ReadStore, Write};
-ghost use Rattle.kahn_model.specs.Whole.{kinds_of};
+ghost use Rattle.tapa_syntax.specs.LeafKinds.{kinds_of};
 ghost use Rattle.task_fsm.specs.Code.{plain_code};
 ghost use Rattle.task_fsm.specs.Draft.{emitted};
 

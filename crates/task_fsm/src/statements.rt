@@ -1,7 +1,7 @@
 // Statements, written from the last to the first.
 
 ghost use Rattle.std.specs.Prelude.{◌≡◌, IfOk};
-ghost use Rattle.kahn_model.specs.Whole.{kinds_of};
+ghost use Rattle.tapa_syntax.specs.LeafKinds.{kinds_of};
 ghost use Rattle.task_fsm.specs.Code.{stmt_code, list_code};
 ghost use Rattle.task_fsm.specs.Draft.{emitted};
 

@@ -1,7 +1,7 @@
 use Rattle.std.proofs.Common.{◌∙◌, ◌∷◌, [], ◌++◌, List, ap, refl}
 use Rattle.tapa_base.specs.declared.kind.Kind.{Kind}
 use Rattle.tapa_base.specs.declared.kind.Kind.TheVariants.{U32}
-use Rattle.kahn_model.specs.Whole.{kinds_of}
+use Rattle.tapa_syntax.specs.LeafKinds.{kinds_of}
 use Rattle.task_fsm.specs.Machine.{EndAt, TrapAt}
 use Rattle.task_fsm.specs.Code.{Emitted, list_code, size_of_list}
 use Rattle.task_fsm.specs.Draft.{emitted}

@@ -1,6 +1,6 @@
 use Rattle.std.proofs.Common.{◌≡◌, ◌∙◌, sym}
 use Rattle.std.proofs.lemmas.Result.{IfOk-weaker}
-use Rattle.kahn_model.specs.Whole.{kinds_of}
+use Rattle.tapa_syntax.specs.LeafKinds.{kinds_of}
 use Rattle.task_fsm.specs.Code.{test_code, stmt_code}
 use Rattle.task_fsm.specs.Draft.{emitted}
 use Rattle.task_fsm.proofs.Lists.{if_written, loop_written, length_written}

@@ -1,5 +1,5 @@
 use Rattle.std.proofs.Common.{◌≡◌, drop}
-use Rattle.kahn_model.specs.Whole.{kinds_of}
+use Rattle.tapa_syntax.specs.LeafKinds.{kinds_of}
 use Rattle.task_fsm.specs.Code.{list_code}
 use Rattle.task_fsm.specs.Draft.{emitted}
 use Rattle.task_fsm.proofs.statements.+statements.Given as goal
