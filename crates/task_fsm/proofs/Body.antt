@@ -11,20 +11,20 @@ use Rattle.tapa_syntax.specs.declared.program.Expr.TheVariants.{Lit, Var, Cell',
 use Rattle.tapa_syntax.specs.declared.program.Stmt.{Stmt}
 use Rattle.tapa_syntax.specs.declared.program.Stmt.TheVariants.{Set, SetCell, SetCellBy, Store, StoreBy, ReadVar, ReadCell, ReadStore, Write, Open, Close, Discard, Clear, If', Loop', Break, Continue}
 use Rattle.tapa_syntax.specs.declared.program.Leaf.{Leaf}
-use Rattle.kahn_model.specs.Behavior.{Behavior, Finished, ticks}
+use Rattle.kahn_model.specs.Behavior.{Behavior, Finished}
 use Rattle.kahn_model.specs.Trace.{State, statements, job_of}
 use Rattle.tapa_syntax.specs.LeafKinds.{Kinds, kinds_of}
 use Rattle.task_fsm.specs.Follows.{Follows}
 use Rattle.task_fsm.specs.Machine.{forms_of, StateForm, SetAt, CellAt, ReadAt, WriteAt, PeekAt, EotAt, OpenAt, CloseAt, LoadAt, StoreAt, ClearAt, EndAt, TrapAt, Converted, CellOf, Reg}
-use Rattle.task_fsm.specs.Run.{trap_of, cells_after, IsMachineOf}
+use Rattle.task_fsm.specs.Run.{trap_of, IsMachineOf}
 use Rattle.tapa_syntax.specs.WellFormed.{IsLeaf}
 use Rattle.tapa_syntax.specs.ArrayUse.{IsNoJump, FitsBody, cleared_by}
 use Rattle.task_fsm.specs.Code.{Emitted, emit, going_to, operation_count, residual, discarded, size_of, size_of_block, old_with, stmt_code, block_code, list_code, size_of_list, last_code, leaf_code}
-use Rattle.task_fsm.specs.Lowered.{IsStart, IsLowered, with_temporaries}
+use Rattle.task_fsm.specs.Lowered.{IsStart, with_temporaries}
 use Rattle.task_fsm.proofs.Grows.{front_trans, IsTail, tail_trans, Grows, grows_trans, grows_none, grows_stmt, IsFirst, first_put, first_hold, first_ops, first_test, stands}
 use Rattle.task_fsm.proofs.Simulates.{Holds}
 use Rattle.task_fsm.proofs.Executes.{Goes, goes_more, sub_more, f_stmt}
-use Rattle.task_fsm.proofs.Runs.{runs, run_cells}
+use Rattle.task_fsm.proofs.Runs.{runs}
 
 pub grows_list : (K : Kinds) (N c : ℕ) (l : List Stmt) (out again : ℕ) (B : Emitted) → Grows (size_of_list l) B (list_code K N c l out again B)
 grows_list K N c [] out again B = grows_none B.entry B
@@ -166,47 +166,27 @@ leaf_follows leaf σ f start fuel =
     let follows2 = subst (λ k. Follows P [] job (list_code K k c code z z (last_code k leaf)).entry τ) e follows1 in
     subst (λ k. Follows P [] job k τ) (entry_leaf leaf f) follows2
 
-front_is : (xs ys : List Kind) → IsPrefixOf xs (xs ++ ys)
+pub front_is : (xs ys : List Kind) → IsPrefixOf xs (xs ++ ys)
 front_is [] ys = tt
 front_is (x ∷ xs) ys = (refl, front_is xs ys)
 
-front_leaf : (leaf : Leaf) → IsPrefixOf leaf.vars.items (leaf_code leaf).regs
+pub front_leaf : (leaf : Leaf) → IsPrefixOf leaf.vars.items (leaf_code leaf).regs
 front_leaf leaf =
     let z = size_of_list leaf.code.items in
     let g = grows_list (kinds_of leaf) (z + 2) (length leaf.vars.items) leaf.code.items z z (last_code (z + 2) leaf) in
     let f = front_trans leaf.vars.items (leaf.vars.items ++ U32 ∷ []) (leaf_code leaf).regs (record { after = U32 ∷ []; joins = refl }) g.front in
     subst (λ l. IsPrefixOf leaf.vars.items l) (sym f.joins) (front_is leaf.vars.items f.after)
 
-follows_at : (leaf : Leaf) (fsm : Fsm) → IsLeaf leaf → forms_of fsm.states.items ≡ (leaf_code leaf).places → fsm.regs.items ≡ (leaf_code leaf).regs → (σ : State) → IsStart leaf σ → (n : ℕ) → Follows (forms_of fsm.states.items) [] (job_of (kinds_of leaf) leaf.code.items σ n) 0 (with_temporaries (length fsm.regs.items - length leaf.vars.items) σ)
+pub follows_at : (leaf : Leaf) (fsm : Fsm) → IsLeaf leaf → forms_of fsm.states.items ≡ (leaf_code leaf).places → fsm.regs.items ≡ (leaf_code leaf).regs → (σ : State) → IsStart leaf σ → (n : ℕ) → Follows (forms_of fsm.states.items) [] (job_of (kinds_of leaf) leaf.code.items σ n) 0 (with_temporaries (length fsm.regs.items - length leaf.vars.items) σ)
 follows_at leaf fsm fits p r σ start n =
     subst (λ P. Follows P [] (job_of (kinds_of leaf) leaf.code.items σ n) 0 (with_temporaries (length fsm.regs.items - length leaf.vars.items) σ)) (sym p)
     (subst (λ l. Follows (leaf_code leaf).places [] (job_of (kinds_of leaf) leaf.code.items σ n) 0 (with_temporaries (length l - length leaf.vars.items) σ)) (sym r) (leaf_follows leaf σ fits start n))
 
-machine_at : (leaf : Leaf) (fsm : Fsm) → IsLeaf leaf → forms_of fsm.states.items ≡ (leaf_code leaf).places → fsm.regs.items ≡ (leaf_code leaf).regs → (σ : State) → IsStart leaf σ → IsMachineOf (λ n. job_of (kinds_of leaf) leaf.code.items σ n) (forms_of fsm.states.items) (with_temporaries (length fsm.regs.items - length leaf.vars.items) σ)
+pub machine_at : (leaf : Leaf) (fsm : Fsm) → IsLeaf leaf → forms_of fsm.states.items ≡ (leaf_code leaf).places → fsm.regs.items ≡ (leaf_code leaf).regs → (σ : State) → IsStart leaf σ → IsMachineOf (λ n. job_of (kinds_of leaf) leaf.code.items σ n) (forms_of fsm.states.items) (with_temporaries (length fsm.regs.items - length leaf.vars.items) σ)
 machine_at leaf fsm fits p r σ start n ins =
     runs (forms_of fsm.states.items) (job_of (kinds_of leaf) leaf.code.items σ n) [] 0 (with_temporaries (length fsm.regs.items - length leaf.vars.items) σ) ins (follows_at leaf fsm fits p r σ start n)
 
 -- a machine with these places and registers
-pub lowered : (leaf : Leaf) (fsm : Fsm) (w : Emitted) → IsLeaf leaf → w ≡ leaf_code leaf → forms_of fsm.states.items ≡ w.places → fsm.regs.items ≡ w.regs → fsm.name ≡ leaf.name → fsm.scalars.items ≡ leaf.scalars.items → fsm.arrays.items ≡ leaf.arrays.items → IsLowered leaf fsm
-lowered leaf fsm w fits e ep er em es ea =
-    let p : forms_of fsm.states.items ≡ (leaf_code leaf).places = ep ∙ ap (λ (x : Emitted). x.places) e in
-    let r : fsm.regs.items ≡ (leaf_code leaf).regs = er ∙ ap (λ (x : Emitted). x.regs) e in
-    record {
-      machine = λ σ start. machine_at leaf fsm fits p r σ start;
-      follows = λ σ start. follows_at leaf fsm fits p r σ start;
-      cells = λ σ start n ins.
-          let P = forms_of fsm.states.items in
-          let job = job_of (kinds_of leaf) leaf.code.items σ n in
-          let τ = with_temporaries (length fsm.regs.items - length leaf.vars.items) σ in
-          let m = machine_at leaf fsm fits p r σ start n ins in
-          run_cells P (length (ticks job ins) + 0) 0 τ [] ins ∙ ap (λ l. cells_after l σ.cells) m.first;
-      trap = subst (λ P. slice_get P (trap_of P) ≡ Some TrapAt) (sym p) (trap_leaf leaf);
-      regs = subst (λ l. IsPrefixOf leaf.vars.items l) (sym r) (front_leaf leaf);
-      name = em;
-      scalars = es;
-      arrays = ea;
-    }
-
 -- what was emitted of a body
 pub leaf_written : (leaf : Leaf) (code : List Stmt) (size total counter : ℕ) (B w : Emitted) → code ≡ leaf.code.items → size ≡ size_of_list code → total ≡ size + 2 → counter ≡ length leaf.vars.items → B ≡ record { places = EndAt ∷ TrapAt ∷ []; entry = size; regs = leaf.vars.items ++ U32 ∷ [] } → w ≡ list_code (kinds_of leaf) total counter code size size B → w ≡ leaf_code leaf
 leaf_written leaf code size total counter B w ec es et en eb ew =

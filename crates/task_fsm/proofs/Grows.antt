@@ -48,7 +48,7 @@ grows_trans n m k A B C e p q =
     let p1 = p.size in let q1 = q.size in let p2 = p.regs in let q2 = q.regs in
     record { tail = tail_trans A.places B.places C.places p.tail q.tail; size = omega arith; regs = omega arith; front = front_trans A.regs B.regs C.regs p.front q.front }
 
-no_more : (l : List Kind) → IsFront l l
+pub no_more : (l : List Kind) → IsFront l l
 no_more l = record { after = []; joins = sym (append-nil l) }
 
 pub grows_none : (pc : ℕ) (B : Emitted) → Grows 0 B (going_to pc B)

@@ -3,4 +3,7 @@ pub mod Simulates
 pub mod Executes
 pub mod Runs
 pub mod Body
+pub mod Typed
+pub mod Lowers
+pub mod Steps
 pub mod Lists

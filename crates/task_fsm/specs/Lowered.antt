@@ -10,6 +10,7 @@ use Rattle.task_fsm.specs.declared.machine.Fsm.{Fsm}
 use Rattle.task_fsm.specs.Machine.{TrapAt, forms_of}
 use Rattle.task_fsm.specs.Run.{trap_of, run, cells_after, IsMachineOf}
 use Rattle.task_fsm.specs.Follows.{Follows}
+use Rattle.task_fsm.specs.MachineKinds.{machine_kinds, AreTypedStates}
 
 -- the variables, arrays and cells of a job at its start
 pub record IsStart (leaf : Leaf) (σ : State) : Type 0 where
@@ -31,6 +32,8 @@ pub record IsLowered (leaf : Leaf) (fsm : Fsm) : Type 0 where
   -- and the cells of its memories are those after the job's Stores
   pub cells :
       (σ : State) → IsStart leaf σ → (n : ℕ) (ins : ℕ → List Token) → (run (forms_of fsm.states.items) (length (ticks (job_of (kinds_of leaf) leaf.code.items σ n) ins) + 0) 0 (with_temporaries (length fsm.regs.items - length leaf.vars.items) σ) [] ins).holds.cells ≡ cells_after (ticks (job_of (kinds_of leaf) leaf.code.items σ n) ins) σ.cells
+  -- each expression has its kind
+  pub typed : AreTypedStates (machine_kinds leaf fsm) (forms_of fsm.states.items)
   pub trap : slice_get (forms_of fsm.states.items) (trap_of (forms_of fsm.states.items)) ≡ Some TrapAt
   pub regs : IsPrefixOf leaf.vars.items fsm.regs.items
   pub name : fsm.name ≡ leaf.name

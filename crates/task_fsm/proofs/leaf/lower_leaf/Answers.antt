@@ -5,7 +5,8 @@ use Rattle.tapa_syntax.specs.LeafKinds.{kinds_of}
 use Rattle.task_fsm.specs.Machine.{EndAt, TrapAt}
 use Rattle.task_fsm.specs.Code.{Emitted, list_code, size_of_list}
 use Rattle.task_fsm.specs.Draft.{emitted}
-use Rattle.task_fsm.proofs.Body.{lowered, leaf_written}
+use Rattle.task_fsm.proofs.Body.{leaf_written}
+use Rattle.task_fsm.proofs.Lowers.{lowered}
 use Rattle.task_fsm.proofs.leaf.lower_leaf.Goals as goal
 
 pub returns : goal.returns
