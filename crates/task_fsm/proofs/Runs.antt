@@ -127,13 +127,13 @@ runs P job S pc τ ins f =
     subst (λ (g : ℕ → ℕ). RunsAs P job ins (λ k. run P (g k) pc τ S ins)) (fun_ext (λ k. more_is (ticks job ins) k)) (runs_from P job S pc τ ins f)
 
 -- a step changes the cells by its act discarded
-abbrev StepCells : StateStep → State → Type 0
+abbrev pub StepCells : StateStep → State → Type 0
 StepCells (Performs a pc σ) τ = σ.cells ≡ cells_by a τ.cells
 StepCells (Awaits s how pc into) τ = Unit {0}
 StepCells Completes τ = Unit {0}
 StepCells Halts τ = Unit {0}
 
-into_cells : (τ : State) (into : Option ℕ) (v : ℕ) → (put_into τ into v).cells ≡ τ.cells
+pub into_cells : (τ : State) (into : Option ℕ) (v : ℕ) → (put_into τ into v).cells ≡ τ.cells
 into_cells τ None v = refl
 into_cells τ (Some r) v = refl
 
@@ -157,7 +157,7 @@ step_cells (ClearAt a c next) pc τ = clear_cells (is_last τ a c) a c pc next �
 step_cells EndAt pc τ = tt
 step_cells TrapAt pc τ = tt
 
-step_at_cells : (o : Option StateForm) (pc : ℕ) (τ : State) → StepCells (step_at o pc τ) τ
+pub step_at_cells : (o : Option StateForm) (pc : ℕ) (τ : State) → StepCells (step_at o pc τ) τ
 step_at_cells None pc τ = tt
 step_at_cells (Some p) pc τ = step_cells p pc τ
 

@@ -1,0 +1,5 @@
+pub mod Ticks
+pub mod Rest
+pub mod Compute
+pub mod Continue
+pub mod Resumes
