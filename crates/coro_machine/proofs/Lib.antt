@@ -3,3 +3,4 @@ pub mod Rest
 pub mod Compute
 pub mod Continue
 pub mod Resumes
+pub mod Begins
