@@ -19,7 +19,7 @@ mod token;
 pub use fault::{OutOfMemory, PrintFault, ShelfFault, TakeFault, WriteFailed, WriteFault};
 pub use kind::{Kind, convert};
 pub use memory::{MemShelf, MemSink};
-pub use op::{Op, apply};
+pub use op::{Op, apply, can_apply};
 pub use put::put_all;
 pub use shape::{Port, Shape};
 pub use shelf::Shelf;
