@@ -2,7 +2,7 @@
 
 ghost use Rattle.std.specs.Prelude.{◌≡◌, ◌<◌, ◌++◌, ◌∷◌, [], length, slice_get, Some, IfOk};
 ghost use Rattle.tapa_syntax.specs.declared.program.Leaf.{Leaf};
-ghost use Rattle.tapa_syntax.specs.WellFormed.{IsLeaf, IsWellFormed};
+ghost use Rattle.tapa_syntax.specs.WellFormed.{IsLeaf};
 ghost use Rattle.task_fsm.specs.Lowered.{IsLowered};
 ghost use Rattle.task_fsm.specs.Draft.{emitted};
 ghost use Rattle.task_fsm.specs.Machine.{EndAt, TrapAt, forms_of};
@@ -78,8 +78,7 @@ fn finished(draft: Draft, name: Text, scalars: Vec<u32>, arrays: Vec<Array>) -> 
 
 // The machine of a leaf.
 fn lower_leaf(alloc: Global, leaf: &Leaf) -> Result<Fsm, AllocError>
-    requires { IsLeaf leaf.now }
-    ensures { IfOk result (λ fsm. IsLowered leaf.now fsm) }
+    ensures { IfOk result (λ fsm. IsLeaf leaf.now → IsLowered leaf.now fsm) }
 {
     let size = size_list(&leaf.code)?;
     let total = plus(size, 2)?;
@@ -94,12 +93,11 @@ fn lower_leaf(alloc: Global, leaf: &Leaf) -> Result<Fsm, AllocError>
     Ok(finished(draft, name, scalars, arrays))
 }
 
-/// The machine of a leaf task of a program: it makes the ticks of each of the leaf's jobs, one state a tick. Numbers of
-/// states and registers have 32 bits; a body with more is answered as want of memory.
+/// The machine of a leaf task of a program. Of a well-formed leaf it makes the ticks of each job, one state a tick. Numbers
+/// of states and registers have 32 bits, far above the limits of a task; a body with more is answered as want of memory.
 pub fn lower(alloc: Global, program: &Program, body: u32) -> Result<Fsm, OutOfMemory>
-    requires in_range { body < length program.now.bodies.items }
-    requires well_formed { IsWellFormed program.now }
-    ensures { IfOk result (λ fsm. (leaf : Leaf) → slice_get program.now.bodies.items body ≡ Some leaf → IsLowered leaf fsm) }
+    requires { body < length program.now.bodies.items }
+    ensures { IfOk result (λ fsm. (leaf : Leaf) → slice_get program.now.bodies.items body ≡ Some leaf → IsLeaf leaf → IsLowered leaf fsm) }
 {
     let leaf = &program.bodies[body as usize];
     Ok(lower_leaf(alloc, leaf)?)

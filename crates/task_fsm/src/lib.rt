@@ -9,6 +9,7 @@ mod residual;
 mod simple;
 mod size;
 mod statements;
+mod tests;
 
 pub use leaf::lower;
 pub use machine::{Fsm, State};
