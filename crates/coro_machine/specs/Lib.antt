@@ -1,0 +1,4 @@
+pub mod Compute
+pub mod Run
+pub mod Tick
+pub mod Coro

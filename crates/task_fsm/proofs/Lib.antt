@@ -1,0 +1,9 @@
+pub mod Grows
+pub mod Simulates
+pub mod Executes
+pub mod Runs
+pub mod Body
+pub mod Typed
+pub mod Lowers
+pub mod Steps
+pub mod Lists

@@ -1,0 +1,7 @@
+pub mod Machine
+pub mod Run
+pub mod MachineKinds
+pub mod Follows
+pub mod Code
+pub mod Lowered
+pub mod Draft

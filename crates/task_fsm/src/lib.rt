@@ -1,0 +1,15 @@
+//! The state machine of a leaf task: one state for each place at which it makes ticks.
+#![tactic(auto)]
+
+mod draft;
+mod leaf;
+mod machine;
+mod operations;
+mod residual;
+mod simple;
+mod size;
+mod statements;
+mod tests;
+
+pub use leaf::lower;
+pub use machine::{Fsm, State};

@@ -1,0 +1,109 @@
+// What is left of an expression whose operations have registers.
+
+ghost use Rattle.std.specs.Prelude.{◌≡◌, IfOk};
+ghost use Rattle.task_fsm.specs.Code.{residual, old_with};
+ghost use Rattle.task_fsm.specs.Machine.{expression_of, Converted, Reg};
+
+use crate::size::{count_of, plus};
+use std::alloc::{AllocError, Global};
+use tapa_base::{Kind, Op};
+use tapa_syntax::Expr;
+
+// What is left of an expression whose operations have their values in the registers from t on.
+pub(crate) fn rest(alloc: Global, e: &Expr, t: u32) -> Result<Expr, AllocError>
+    ensures { IfOk result (λ r. expression_of r ≡ residual e.now t) }
+{
+    match e {
+        Expr::Lit(kind, n) => Ok(Expr::Lit(*kind, *n)),
+        Expr::Var(x) => Ok(Expr::Var(*x)),
+        Expr::Cell(a, i) => Ok(Expr::Cell(*a, Box::new(alloc, rest(alloc, i, t)?)?)),
+        Expr::Read(_) => Ok(Expr::Var(t)),
+        Expr::Peek(_) => Ok(Expr::Var(t)),
+        Expr::Eot(_) => Ok(Expr::Var(t)),
+        Expr::Load(_, _) => Ok(Expr::Var(t)),
+        Expr::Conv { from, to, value } => Ok(Expr::Conv {
+            from: *from,
+            to: *to,
+            value: Box::new(alloc, rest(alloc, value, t)?)?,
+        }),
+        Expr::Apply {
+            op,
+            kind,
+            left,
+            right,
+        } => {
+            let after = plus(t, count_of(right)?)?;
+            Ok(Expr::Apply {
+                op: *op,
+                kind: *kind,
+                left: Box::new(alloc, rest(alloc, left, after)?)?,
+                right: Box::new(alloc, rest(alloc, right, t)?)?,
+            })
+        }
+        Expr::Flip(kind, e) => Ok(Expr::Flip(*kind, Box::new(alloc, rest(alloc, e, t)?)?)),
+        Expr::Not(e) => Ok(Expr::Not(Box::new(alloc, rest(alloc, e, t)?)?)),
+        Expr::And(l, r) => {
+            let after = plus(t, count_of(r)?)?;
+            Ok(Expr::And(
+                Box::new(alloc, rest(alloc, l, after)?)?,
+                Box::new(alloc, rest(alloc, r, t)?)?,
+            ))
+        }
+        Expr::Or(l, r) => {
+            let after = plus(t, count_of(r)?)?;
+            Ok(Expr::Or(
+                Box::new(alloc, rest(alloc, l, after)?)?,
+                Box::new(alloc, rest(alloc, r, t)?)?,
+            ))
+        }
+        Expr::Choose(e, a, b) => {
+            let second = count_of(b)?;
+            let both = plus(second, count_of(a)?)?;
+            Ok(Expr::Choose(
+                Box::new(alloc, rest(alloc, e, plus(t, both)?)?)?,
+                Box::new(alloc, rest(alloc, a, plus(t, second)?)?)?,
+                Box::new(alloc, rest(alloc, b, t)?)?,
+            ))
+        }
+    }
+}
+
+// An old value of kind k joined with another by an operator in a kind of its own.
+pub(crate) fn joined(
+    alloc: Global,
+    op: Op,
+    kind: Kind,
+    k: Kind,
+    old: Expr,
+    new: Expr,
+) -> Result<Expr, AllocError>
+    ensures { IfOk result (λ r. expression_of r ≡ old_with op kind k (expression_of old) (expression_of new)) }
+{
+    let left = Expr::Conv {
+        from: k,
+        to: kind,
+        value: Box::new(alloc, old)?,
+    };
+    let value = Expr::Apply {
+        op,
+        kind,
+        left: Box::new(alloc, left)?,
+        right: Box::new(alloc, new)?,
+    };
+    Ok(Expr::Conv {
+        from: kind,
+        to: k,
+        value: Box::new(alloc, value)?,
+    })
+}
+
+// A register's value in another kind.
+pub(crate) fn converted(alloc: Global, from: Kind, to: Kind, t: u32) -> Result<Expr, AllocError>
+    ensures { IfOk result (λ r. expression_of r ≡ Converted from to (Reg t)) }
+{
+    Ok(Expr::Conv {
+        from,
+        to,
+        value: Box::new(alloc, Expr::Var(t))?,
+    })
+}

@@ -1,0 +1,297 @@
+// Statements that have no others in them.
+
+ghost use Rattle.std.specs.Prelude.{◌≡◌, IfOk};
+ghost use Rattle.tapa_syntax.specs.declared.program.Stmt.TheVariants.{Set, SetCell, SetCellBy, Store, StoreBy, ReadVar, ReadCell, ReadStore, Write};
+ghost use Rattle.tapa_syntax.specs.LeafKinds.{kinds_of};
+ghost use Rattle.task_fsm.specs.Code.{plain_code};
+ghost use Rattle.task_fsm.specs.Draft.{emitted};
+
+use crate::draft::{
+    Draft, array_kind, memory_kind, stream_kind, var_kind, write_held, write_state,
+};
+use crate::machine::State;
+use crate::operations::write_ops;
+use crate::residual::{converted, joined, rest};
+use crate::size::{count_of, plus, small};
+use std::alloc::{AllocError, Global};
+use tapa_base::{Kind, Op};
+use tapa_syntax::{Expr, Leaf};
+
+// `x = e`
+pub(crate) fn write_set(
+    alloc: Global,
+    draft: &mut Draft,
+    leaf: &Leaf,
+    total: u32,
+    x: u32,
+    e: &Expr,
+) -> Result<(), AllocError>
+    ensures { IfOk result (λ u. emitted draft.new ≡ plain_code (kinds_of leaf.now) total (Set x e.now) (emitted draft.old)) }
+{
+    let t = small(draft.regs.len())?;
+    let next = draft.entry;
+    let value = rest(alloc, e, t)?;
+    write_state(
+        draft,
+        total,
+        State::Set {
+            reg: x,
+            value,
+            next,
+        },
+    )?;
+    write_ops(alloc, draft, leaf, total, e)
+}
+
+// `a[i] = e`
+pub(crate) fn write_set_cell(
+    alloc: Global,
+    draft: &mut Draft,
+    leaf: &Leaf,
+    total: u32,
+    array: u32,
+    i: &Expr,
+    e: &Expr,
+) -> Result<(), AllocError>
+    ensures { IfOk result (λ u. emitted draft.new ≡ plain_code (kinds_of leaf.now) total (SetCell array i.now e.now) (emitted draft.old)) }
+{
+    let t = small(draft.regs.len())?;
+    let next = draft.entry;
+    let index = rest(alloc, i, t)?;
+    let value = rest(alloc, e, plus(t, count_of(i)?)?)?;
+    let state = State::Cell {
+        array,
+        index,
+        value,
+        next,
+    };
+    write_state(draft, total, state)?;
+    write_ops(alloc, draft, leaf, total, i)?;
+    write_ops(alloc, draft, leaf, total, e)
+}
+
+// `a[i] op= e`
+pub(crate) fn write_set_cell_by(
+    alloc: Global,
+    draft: &mut Draft,
+    leaf: &Leaf,
+    total: u32,
+    array: u32,
+    i: &Expr,
+    op: Op,
+    kind: Kind,
+    e: &Expr,
+) -> Result<(), AllocError>
+    ensures { IfOk result (λ u. emitted draft.new ≡ plain_code (kinds_of leaf.now) total (SetCellBy array i.now op kind e.now) (emitted draft.old)) }
+{
+    let t = small(draft.regs.len())?;
+    let next = draft.entry;
+    let index = rest(alloc, i, t)?;
+    let old = Expr::Cell(array, Box::new(alloc, rest(alloc, i, t)?)?);
+    let new = rest(alloc, e, plus(t, count_of(i)?)?)?;
+    let value = joined(alloc, op, kind, array_kind(leaf, array), old, new)?;
+    let state = State::Cell {
+        array,
+        index,
+        value,
+        next,
+    };
+    write_state(draft, total, state)?;
+    write_ops(alloc, draft, leaf, total, i)?;
+    write_ops(alloc, draft, leaf, total, e)
+}
+
+// `m[i] = e`
+pub(crate) fn write_store(
+    alloc: Global,
+    draft: &mut Draft,
+    leaf: &Leaf,
+    total: u32,
+    memory: u32,
+    i: &Expr,
+    e: &Expr,
+) -> Result<(), AllocError>
+    ensures { IfOk result (λ u. emitted draft.new ≡ plain_code (kinds_of leaf.now) total (Store memory i.now e.now) (emitted draft.old)) }
+{
+    let t = small(draft.regs.len())?;
+    let next = draft.entry;
+    let index = rest(alloc, i, t)?;
+    let value = rest(alloc, e, plus(t, count_of(i)?)?)?;
+    let state = State::Store {
+        memory,
+        index,
+        value,
+        next,
+    };
+    write_state(draft, total, state)?;
+    write_ops(alloc, draft, leaf, total, i)?;
+    write_ops(alloc, draft, leaf, total, e)
+}
+
+// `m[i] op= e`
+pub(crate) fn write_store_by(
+    alloc: Global,
+    draft: &mut Draft,
+    leaf: &Leaf,
+    total: u32,
+    memory: u32,
+    i: &Expr,
+    op: Op,
+    kind: Kind,
+    e: &Expr,
+) -> Result<(), AllocError>
+    ensures { IfOk result (λ u. emitted draft.new ≡ plain_code (kinds_of leaf.now) total (StoreBy memory i.now op kind e.now) (emitted draft.old)) }
+{
+    let t = small(draft.regs.len())?;
+    let next = draft.entry;
+    let cells = memory_kind(leaf, memory);
+    let after = plus(t, 1)?;
+    let index = rest(alloc, i, after)?;
+    let new = rest(alloc, e, plus(after, count_of(i)?)?)?;
+    let value = joined(alloc, op, kind, cells, Expr::Var(t), new)?;
+    let state = State::Store {
+        memory,
+        index,
+        value,
+        next,
+    };
+    write_state(draft, total, state)?;
+    let index = rest(alloc, i, after)?;
+    let next = draft.entry;
+    let state = State::Load {
+        memory,
+        index,
+        into: Some(t),
+        next,
+    };
+    write_held(draft, total, cells, state)?;
+    write_ops(alloc, draft, leaf, total, i)?;
+    write_ops(alloc, draft, leaf, total, e)
+}
+
+// `s >> x`
+pub(crate) fn write_read_var(
+    alloc: Global,
+    draft: &mut Draft,
+    leaf: &Leaf,
+    total: u32,
+    stream: u32,
+    var: u32,
+) -> Result<(), AllocError>
+    ensures { IfOk result (λ u. emitted draft.new ≡ plain_code (kinds_of leaf.now) total (ReadVar stream var) (emitted draft.old)) }
+{
+    let t = small(draft.regs.len())?;
+    let next = draft.entry;
+    let kind = stream_kind(leaf, stream);
+    let value = converted(alloc, kind, var_kind(leaf, var), t)?;
+    write_state(
+        draft,
+        total,
+        State::Set {
+            reg: var,
+            value,
+            next,
+        },
+    )?;
+    let next = draft.entry;
+    let state = State::Read {
+        stream,
+        into: Some(t),
+        next,
+    };
+    write_held(draft, total, kind, state)
+}
+
+// `s >> a[i]`
+pub(crate) fn write_read_cell(
+    alloc: Global,
+    draft: &mut Draft,
+    leaf: &Leaf,
+    total: u32,
+    stream: u32,
+    array: u32,
+    i: &Expr,
+) -> Result<(), AllocError>
+    ensures { IfOk result (λ u. emitted draft.new ≡ plain_code (kinds_of leaf.now) total (ReadCell stream array i.now) (emitted draft.old)) }
+{
+    let t = small(draft.regs.len())?;
+    let next = draft.entry;
+    let kind = stream_kind(leaf, stream);
+    let index = rest(alloc, i, plus(t, 1)?)?;
+    let value = converted(alloc, kind, array_kind(leaf, array), t)?;
+    let state = State::Cell {
+        array,
+        index,
+        value,
+        next,
+    };
+    write_state(draft, total, state)?;
+    let next = draft.entry;
+    let state = State::Read {
+        stream,
+        into: Some(t),
+        next,
+    };
+    write_held(draft, total, kind, state)?;
+    write_ops(alloc, draft, leaf, total, i)
+}
+
+// `s >> m[i]`
+pub(crate) fn write_read_store(
+    alloc: Global,
+    draft: &mut Draft,
+    leaf: &Leaf,
+    total: u32,
+    stream: u32,
+    memory: u32,
+    i: &Expr,
+) -> Result<(), AllocError>
+    ensures { IfOk result (λ u. emitted draft.new ≡ plain_code (kinds_of leaf.now) total (ReadStore stream memory i.now) (emitted draft.old)) }
+{
+    let t = small(draft.regs.len())?;
+    let next = draft.entry;
+    let kind = stream_kind(leaf, stream);
+    let index = rest(alloc, i, plus(t, 1)?)?;
+    let value = converted(alloc, kind, memory_kind(leaf, memory), t)?;
+    let state = State::Store {
+        memory,
+        index,
+        value,
+        next,
+    };
+    write_state(draft, total, state)?;
+    let next = draft.entry;
+    let state = State::Read {
+        stream,
+        into: Some(t),
+        next,
+    };
+    write_held(draft, total, kind, state)?;
+    write_ops(alloc, draft, leaf, total, i)
+}
+
+// `s << e`
+pub(crate) fn write_write(
+    alloc: Global,
+    draft: &mut Draft,
+    leaf: &Leaf,
+    total: u32,
+    stream: u32,
+    e: &Expr,
+) -> Result<(), AllocError>
+    ensures { IfOk result (λ u. emitted draft.new ≡ plain_code (kinds_of leaf.now) total (Write stream e.now) (emitted draft.old)) }
+{
+    let t = small(draft.regs.len())?;
+    let next = draft.entry;
+    let value = rest(alloc, e, t)?;
+    write_state(
+        draft,
+        total,
+        State::Write {
+            stream,
+            value,
+            next,
+        },
+    )?;
+    write_ops(alloc, draft, leaf, total, e)
+}
