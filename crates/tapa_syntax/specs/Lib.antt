@@ -1,5 +1,10 @@
 pub mod ArrayUse
+pub mod Grammar
 pub mod LeafKinds
+pub mod Limits
+pub mod Spans
 pub mod StreamUse
+pub mod Symbols
+pub mod Trees
 pub mod Typed
 pub mod WellFormed

@@ -1,8 +1,17 @@
-//! What the front end reads and gives: the lexemes of a text and the flat program.
+//! What the front end reads and gives: the lexemes of a text, its tree, and the flat program.
 #![tactic(auto)]
 
 mod lexeme;
+mod mark;
 mod program;
+mod tree;
 
 pub use lexeme::{LexKind, Lexeme};
+pub use mark::Mark;
 pub use program::{Array, Bound, End, Expr, Instance, Leaf, Memory, Program, Scalar, Stmt, Stream};
+pub use tree::{
+    Action, AssignmentOperator, Attribute, AttributeArgument, AttributeArguments, BinaryOperator,
+    Count, CountValue, Declaration, Declarator, Expression, File, FileItem, ForHead, ForStart,
+    Invocation, InvocationArgument, Name, Parameter, PlaceExpression, PrefixOperator, Statement,
+    StepOperator, StreamDeclaration, TaskBody, TaskDeclaration,
+};

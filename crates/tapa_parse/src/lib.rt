@@ -1,0 +1,6 @@
+//! The tree of a source's lexemes.
+#![tactic(auto)]
+
+mod fault;
+
+pub use fault::{ParseCode, ParseFault};
