@@ -1,0 +1,6 @@
+pub mod Answers
+pub mod Flat
+pub mod Leaves
+pub mod Names
+pub mod Programs
+pub mod Steps

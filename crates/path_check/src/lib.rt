@@ -1,0 +1,5 @@
+//! From the tree of a source to its flat program, for the path language.
+#![tactic(auto)]
+
+mod fault;
+mod names;
