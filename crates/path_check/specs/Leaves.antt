@@ -100,7 +100,7 @@ is_loop_variable None n = false
 is_loop_variable (Some i) n = i == n
 
 abbrev pub in_scope : ℕ → Scope → Bool
-in_scope n s = list_any (λ m. m == n) s.outer || is_of_loop s.inner n
+in_scope n s = is_of_loop s.inner n || list_any (λ m. m == n) s.outer
 
 -- the number of a variable in scope
 abbrev pub variable_of : List ℕ → Scope → Option ℕ
