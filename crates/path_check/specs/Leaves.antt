@@ -269,9 +269,9 @@ left s = record { ends = s.ends; names = s.names; outer = s.outer; inner = None 
 -- i = 0, and then the loop of the test i < turns, the body, and the step i = i + 1
 abbrev pub loop_code : ℕ → ℕ → List FlatAction → List FlatStatement
 loop_code i turns body =
-  act (set i (converted_int 0))
-  ∷ loop (apply op.Lt kind.U64 (variable i) (converted_int turns)) body (set i (apply op.Add kind.U64 (variable i) (literal kind.U64 1)) ∷ [])
-  ∷ []
+    act (set i (converted_int 0))
+    ∷ loop (apply op.Lt kind.U64 (variable i) (converted_int turns)) body (set i (apply op.Add kind.U64 (variable i) (literal kind.U64 1)) ∷ [])
+    ∷ []
 
 abbrev pub loop_of : Scope → HeadTree → StatementTree → Option (List FlatStatement × Scope)
 loop_of s head body = do

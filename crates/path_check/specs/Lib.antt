@@ -4,3 +4,4 @@ pub mod Leaves
 pub mod Names
 pub mod Programs
 pub mod Steps
+pub mod Views

@@ -76,13 +76,16 @@ invocation_of bodies names k i = given (is_absent i.mode) (do
   b ← position (λ (leaf : FlatLeaf). bytes_eq leaf.name i.task.text) bodies
   leaf ← slice_get bodies b
   streams ← run argument_of names i.arguments
-  given (nat_lt 0 (length streams.0) && (length streams.0 == length leaf.streams)) (Some (record {
-    label = label_of leaf.name k;
-    body = b;
-    scalars = [];
-    streams = streams.0;
-    memories = [];
-  } ∷ [], k + 1)))
+  given (nat_lt 0 (length streams.0) && (length streams.0 == length leaf.streams)) (Some (
+    record {
+      label = label_of leaf.name k;
+      body = b;
+      scalars = [];
+      streams = streams.0;
+      memories = [];
+    } ∷ [],
+    k + 1,
+  )))
 
 -- ---- which instances write and read a stream
 

@@ -1,6 +1,8 @@
 //! From the tree of a source to its flat program, for the path language.
 #![tactic(auto)]
 
+mod expression;
 mod fault;
 mod names;
 mod scope;
+mod statement;
