@@ -9,7 +9,8 @@ use Rattle.tapa_syntax.specs.declared.program.Expr.{Expr}
 use Rattle.tapa_syntax.specs.declared.program.Stmt.{Stmt, Loop, Loop', Row_of-Stmt, end_of-Stmt, more_of-Stmt, items-the_row-Stmt, items_hidden-the_row-Stmt-0}
 use Rattle.tapa_syntax.specs.Trees.{StatementTree, one, call, expression, expressions_in, expressions, block, statement_then, statement, statements_in, statements}
 use Rattle.path_check.specs.Flat.{FlatExpression, read, loop, flat_expression, flat_action, flat_actions, flat_statement}
-use Rattle.path_check.specs.Leaves.{Scope, named_of, listed}
+use Rattle.path_check.specs.Leaves.{Scope, named_of, listed, block_of, inner_of}
+use Rattle.path_check.specs.Steps.{run}
 use Rattle.path_check.specs.Views.{read_of}
 
 of_expressions : (n : _) (row : Row_of-Expression n) → expressions_in row ≡ expressions (map expression (items-the_row-Expression n row))
@@ -64,3 +65,6 @@ flat-Loop test body step =
     let s = step_row (Loop test body step) in
     ap (λ xs. loop (flat_expression test) xs (flat_actions s.1)) (of_actions b.0 b.1 ∙ ap (map flat_action) (items_hidden-the_row-Stmt-0 body))
     ∙ ap (λ xs. loop (flat_expression test) (map flat_action body.items) xs) (of_actions s.0 s.1 ∙ ap (map flat_action) (items_hidden-the_row-Stmt-0 step))
+
+pub block-Block : (s : Scope) (ss : Vec Statement Global) → block_of s (statement (Block ss)) ≡ run inner_of s (map statement ss.items)
+block-Block s ss = ap (block_of s) (statement-Block ss) ∙ ap (run inner_of s) (listed-statements (map statement ss.items))

@@ -256,9 +256,10 @@ head_of head = do
   step ← head.step
   given (is_step i step) (Some (i, turns))
 
-abbrev pub block_of : StatementTree → Option (List StatementTree)
-block_of (tree.block ss) = Some (listed ss)
-block_of _ = None
+-- { .. }
+abbrev pub block_of : Scope → StatementTree → Option (List FlatAction × Scope)
+block_of s (tree.block ss) = run inner_of s (listed ss)
+block_of s _ = None
 
 abbrev pub entered : ℕ → Scope → Scope
 entered i s = record { ends = s.ends; names = s.names; outer = s.outer; inner = Some i }
@@ -266,20 +267,24 @@ entered i s = record { ends = s.ends; names = s.names; outer = s.outer; inner = 
 abbrev pub left : Scope → Scope
 left s = record { ends = s.ends; names = s.names; outer = s.outer; inner = None }
 
--- i = 0, and then the loop of the test i < turns, the body, and the step i = i + 1
-abbrev pub loop_code : ℕ → ℕ → List FlatAction → List FlatStatement
-loop_code i turns body =
-    act (set i (converted_int 0))
-    ∷ loop (apply op.Lt kind.U64 (variable i) (converted_int turns)) body (set i (apply op.Add kind.U64 (variable i) (literal kind.U64 1)) ∷ [])
-    ∷ []
+-- i < turns
+abbrev pub loop_test : ℕ → ℕ → FlatExpression
+loop_test i turns = apply op.Lt kind.U64 (variable i) (converted_int turns)
 
+-- i = i + 1
+abbrev pub loop_step : ℕ → List FlatAction
+loop_step i = set i (apply op.Add kind.U64 (variable i) (literal kind.U64 1)) ∷ []
+
+abbrev pub turning : ℕ → ℕ → List FlatAction → FlatStatement
+turning i turns body = loop (loop_test i turns) body (loop_step i)
+
+-- i = 0, and then the loop
 abbrev pub loop_of : Scope → HeadTree → StatementTree → Option (List FlatStatement × Scope)
 loop_of s head body = do
   named ← head_of head
   made ← declare named.0 s
-  statements ← block_of (bare body)
-  inside ← run inner_of (entered made.0 made.1) statements
-  Some (loop_code made.0 named.1 inside.0, left inside.1)
+  inside ← block_of (entered made.0 made.1) (bare body)
+  Some (act (set made.0 (converted_int 0)) ∷ turning made.0 named.1 inside.0 ∷ [], left inside.1)
 
 abbrev pub acted : List FlatAction × Scope → List FlatStatement × Scope
 acted ([], s) = ([], s)

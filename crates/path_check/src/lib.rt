@@ -3,6 +3,7 @@
 
 mod expression;
 mod fault;
+mod loops;
 mod names;
 mod scope;
 mod statement;
