@@ -1,3 +1,6 @@
+pub mod LeafSteps
+pub mod Outer
+pub mod PlaceSums
 pub mod Rows
 pub mod Runs
 pub mod Turning

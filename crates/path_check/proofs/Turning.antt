@@ -14,8 +14,8 @@ some_is x y h = cc
 pub loop_made : (i n : ℕ) (test : Expr) (body step : Vec Stmt Global) → Some (loop_test i n) ≡ Some (flat_expression test) → Some (loop_step i) ≡ Some (map flat_action step.items) → Some (turning i n (map flat_action body.items)) ≡ Some (flat_statement (Loop test body step))
 loop_made i n test body step t s =
     ap Some (ap (λ e. loop e (map flat_action body.items) (loop_step i)) (some_is (loop_test i n) (flat_expression test) t)
-      ∙ ap (loop (flat_expression test) (map flat_action body.items)) (some_is (loop_step i) (map flat_action step.items) s)
-      ∙ sym (flat-Loop test body step))
+    ∙ ap (loop (flat_expression test) (map flat_action body.items)) (some_is (loop_step i) (map flat_action step.items) s)
+    ∙ sym (flat-Loop test body step))
 
 bound : {A B : Type 0} (o : Option A) (x : A) (f : A → Option B) → o ≡ Some x → option_and_then f o ≡ f x
 bound o x f h = rw h refl

@@ -319,9 +319,12 @@ abbrev pub statement_places : FlatStatement → ℕ
 statement_places (act a) = action_places a
 statement_places (loop test body step) = reads_in test + 1 + actions_places body + actions_places step
 
+abbrev pub statements_places : List FlatStatement → ℕ
+statements_places [] = 0
+statements_places (s ∷ rest) = statement_places s + statements_places rest
+
 abbrev pub places_of : List FlatStatement → ℕ
-places_of [] = 1
-places_of (s ∷ rest) = statement_places s + places_of rest
+places_of code = statements_places code + 1
 
 -- ---- leaves
 
@@ -340,18 +343,22 @@ abbrev pub body_of : BodyTree → Option (List StatementTree)
 body_of (tree.leaf ss) = Some (listed ss)
 body_of (tree.upper streams invocations) = None
 
--- a leaf, with at most as many parameters as 1,024 streams have ends, 1,024 variables and 100 tick places
-abbrev pub leaf_of : TaskTree → Option FlatLeaf
-leaf_of t = do
-  parameters ← run parameter_of [] t.parameters
-  statements ← body_of t.body
-  body ← given (nat_le (length parameters.0) 2048) (run statement_of (record { ends = parameters.0; names = parameters.1; outer = []; inner = None }) statements)
+-- a leaf of these statements: at most as many parameters as 1,024 streams have ends, 1,024 variables, 100 tick places
+abbrev pub named_leaf : List ℕ → List End → List (List ℕ) → List StatementTree → Option FlatLeaf
+named_leaf name ends names statements = do
+  body ← given (nat_le (length ends) 2048) (run statement_of (record { ends = ends; names = names; outer = []; inner = None }) statements)
   given (nat_le (places_of body.0) 100) (Some (record {
-    name = t.name.text;
+    name = name;
     scalars = [];
-    streams = parameters.0;
+    streams = body.1.ends;
     memories = [];
     vars = replicate (variables body.1) kind.U64;
     arrays = [];
     code = body.0;
   }))
+
+abbrev pub leaf_of : TaskTree → Option FlatLeaf
+leaf_of t = do
+  parameters ← run parameter_of [] t.parameters
+  statements ← body_of t.body
+  named_leaf t.name.text parameters.0 parameters.1 statements

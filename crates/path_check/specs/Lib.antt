@@ -4,4 +4,5 @@ pub mod Leaves
 pub mod Names
 pub mod Programs
 pub mod Steps
+pub mod Uppers
 pub mod Views

@@ -1,7 +1,7 @@
 -- The program of a file of the path language.
 use Rattle.std.specs.Prelude.{◌≡◌, ℕ, suc, ◌+◌, ◌-◌, ◌/◌, ◌%◌, List, [], ◌∷◌, ◌++◌, length, take, Bool, true, false, not, ◌&&◌, Option, Some, None, option_map, slice_get, nat_lt, nat_le, ◌==◌, position, filter, bytes_eq}
 use Rattle.std.specs.Prelude.{if◌then◌else◌}
-use Rattle.std.specs.List.{list_any}
+use Rattle.std.specs.List.{list_any, position_from}
 use Rattle.tapa_base.specs.declared.kind.Kind.{Kind}
 use Rattle.tapa_base.specs.declared.kind.Kind.TheVariants as kind
 use Rattle.tapa_syntax.specs.declared.program.End.{End}
@@ -11,6 +11,7 @@ use Rattle.tapa_syntax.specs.declared.tree.File.{File}
 use Rattle.tapa_syntax.specs.declared.tree.Name.{Name}
 use Rattle.tapa_syntax.specs.Trees as tree
 use Rattle.tapa_syntax.specs.Trees.{ExpressionTree, CountForm, CountTree, StreamTree, ArgumentTree, InvocationTree, BodyTree, TaskTree, ItemTree, file_of}
+use Rattle.path_check.specs.declared.bindings.Binding.{Binding}
 use Rattle.path_check.specs.Flat.{FlatLeaf, FlatInstance, FlatProgram, flat_program}
 use Rattle.path_check.specs.Leaves.{is_long, place_of, with_name, leaf_of}
 use Rattle.path_check.specs.Steps.{◌>>=◌, given, only, run}
@@ -70,10 +71,14 @@ abbrev pub is_absent : Option Name → Bool
 is_absent None = true
 is_absent (Some x) = false
 
+-- the number of a leaf among the bodies
+abbrev pub leaf_place : List ℕ → List FlatLeaf → Option ℕ
+leaf_place name bodies = position_from (λ (leaf : FlatLeaf). bytes_eq leaf.name name) 0 bodies
+
 -- .invoke(leaf, stream, stream): as many streams as the leaf has parameters, and at least one
 abbrev pub invocation_of : List FlatLeaf → List (List ℕ) → ℕ → InvocationTree → Option (List FlatInstance × ℕ)
 invocation_of bodies names k i = given (is_absent i.mode) (do
-  b ← position (λ (leaf : FlatLeaf). bytes_eq leaf.name i.task.text) bodies
+  b ← leaf_place i.task.text bodies
   leaf ← slice_get bodies b
   streams ← run argument_of names i.arguments
   given (nat_lt 0 (length streams.0) && (length streams.0 == length leaf.streams)) (Some (
@@ -88,13 +93,6 @@ invocation_of bodies names k i = given (is_absent i.mode) (do
   )))
 
 -- ---- which instances write and read a stream
-
--- the parameter at a position of an instance is bound to a stream, which it writes or reads
-pub record Binding : Type 0 where
-  pub instance : ℕ
-  pub position : ℕ
-  pub stream : ℕ
-  pub writes : Bool
 
 abbrev pub bindings_at : ℕ → ℕ → List ℕ → List End → List Binding
 bindings_at i p [] ends = []
@@ -120,9 +118,9 @@ end_of_stream bindings s writes = do
   Some binding.instance
 
 -- each stream of the top has one producer and one consumer
-abbrev pub stream_at : List Binding → List ℕ → ℕ → List ℕ → Option (List Stream × ℕ)
-stream_at bindings depths s name = do
-  depth ← slice_get depths s
+abbrev pub stream_at : List Binding → List (List ℕ) → ℕ → ℕ → Option (List Stream × ℕ)
+stream_at bindings names s depth = do
+  name ← slice_get names s
   producer ← end_of_stream bindings s true
   consumer ← end_of_stream bindings s false
   Some (record { label = name; kind = kind.U64; depth = depth; producer = producer; consumer = consumer } ∷ [], s + 1)
@@ -148,11 +146,12 @@ top_of item top = do
   upper ← upper_of t.body
   given (bytes_eq t.name.text top && (length t.parameters == 0)) (Some (t.name.text, upper))
 
+-- the instances and streams of the top: 1 to 64 instances, and so no more bodies, and at most 1,024 streams
 abbrev pub network_of : List FlatLeaf → List ℕ → Upper → Option FlatProgram
 network_of bodies top upper = do
   declared ← run stream_item [] upper.streams
-  invoked ← given (nat_le (length declared.0) 1024) (run (invocation_of bodies declared.1) 0 upper.invocations)
-  streams ← given (nat_le 1 (length invoked.0) && nat_le (length invoked.0) 64) (run (stream_at (bindings_from bodies 0 invoked.0) declared.0) 0 declared.1)
+  invoked ← given (nat_le (length declared.1) 1024 && (nat_le (length bodies) 64 && (nat_le 1 (length upper.invocations) && nat_le (length upper.invocations) 64))) (run (invocation_of bodies declared.1) 0 upper.invocations)
+  streams ← run (stream_at (bindings_from bodies 0 invoked.0) declared.1) 0 declared.0
   Some (record {
     top = top;
     scalars = [];
@@ -174,3 +173,7 @@ program_of items top = do
 -- the program of a file and the name of its top task, up to where it lies in memory
 abbrev pub IsPathProgram : File → List ℕ → Program → Type 0
 IsPathProgram file top program = program_of (file_of file) top ≡ Some (flat_program program)
+
+-- the file is no program of the path language
+abbrev pub HasNoProgram : File → List ℕ → Type 0
+HasNoProgram file top = (program : Program) → IsPathProgram file top program → ⊥

@@ -1,16 +1,21 @@
 -- What parts of a tree stand for where they lie in lists.
 use denote.Ref.{Bor}
-use Rattle.std.specs.Prelude.{ℕ, List, [], ◌∷◌, ◌++◌, ◌≡◌, map, false, Option, Some, None, option_map, Result, Ok, Err}
+use Rattle.std.specs.Prelude.{ℕ, min, ◌^◌, ◌-◌, List, [], ◌∷◌, ◌++◌, ◌≡◌, map, false, Option, Some, None, option_map, Result, Ok, Err}
 use Rattle.path_check.specs.declared.fault.Fault.{Fault}
 use Rattle.path_check.specs.declared.fault.Fault.TheVariants.{OutOfMemory, NoPath}
 use Rattle.tapa_syntax.specs.declared.program.Stmt.{Stmt}
 use Rattle.tapa_syntax.specs.declared.tree.Expression.{Expression}
-use Rattle.path_check.specs.Flat.{FlatExpression, read, FlatAction, flat_action, FlatStatement, flat_statement}
+use Rattle.path_check.specs.Flat.{FlatExpression, read, FlatAction, flat_action, FlatStatement, act, flat_statement}
 use Rattle.path_check.specs.Leaves.{Scope, is_read, stream_of}
 use Rattle.path_check.specs.Steps.{given}
 
 abbrev pub action_list : Stmt → List FlatAction
 action_list s = flat_action s ∷ []
+
+-- an answer is no loop
+abbrev pub IsSimple : Result Stmt Fault → Type 0
+IsSimple (Ok s) = flat_statement s ≡ act (flat_action s)
+IsSimple (Err e) = Unit {0}
 
 -- a call is a value where it is s.read()
 abbrev pub read_of : List ℕ → List ℕ → List Expression → Scope → Option FlatExpression
@@ -31,3 +36,7 @@ abbrev pub Adds : Result (Unit {0}) Fault → List Stmt → List Stmt → Scope 
 Adds (Ok x) before after s o = (code : List FlatStatement) × (map flat_statement after ≡ map flat_statement before ++ code) × (o ≡ Some (code, s))
 Adds (Err OutOfMemory) before after s o = Unit {0}
 Adds (Err NoPath) before after s o = o ≡ None
+
+-- the number, or the greatest of 64 bits where it is more
+abbrev pub capped : ℕ → ℕ
+capped n = min n (2 ^ 64 - 1)

@@ -1,9 +1,15 @@
 //! From the tree of a source to its flat program, for the path language.
 #![tactic(auto)]
 
+mod bindings;
 mod expression;
 mod fault;
+mod leaf;
 mod loops;
 mod names;
+mod places;
+mod program;
 mod scope;
 mod statement;
+
+pub use program::path_program;

@@ -1,6 +1,8 @@
-ghost use Rattle.std.specs.Prelude.{◌≡◌, ◌<◌, IfSome, bytes_eq, length, map};
+ghost use Rattle.std.specs.Prelude.{◌≡◌, ◌<◌, ◌+◌, IfOk, IfSome, Some, [], bytes_eq, length, map, slice_get};
+ghost use Rattle.path_check.specs.Answers.{Gives};
 ghost use Rattle.path_check.specs.Leaves.{place_of, with_name};
 ghost use Rattle.path_check.specs.Names.{named};
+ghost use Rattle.path_check.specs.Views.{name_of};
 
 use crate::fault::Fault;
 use std::alloc::Global;
@@ -23,7 +25,7 @@ impl<'a> Model for Names<'a> {
 
 impl<'a> Names<'a> {
     pub(crate) fn new(alloc: Global) -> Self
-        ensures { length result ≡ 0 }
+        ensures { result ≡ [] }
     {
         Names {
             names: Vec::new(alloc),
@@ -36,6 +38,17 @@ impl<'a> Names<'a> {
         self.names.len()
     }
 
+    /// The name at a place.
+    pub(crate) fn get(&self, place: usize) -> Option<&'a Text>
+        ensures { name_of result ≡ slice_get self.now place }
+    {
+        if place < self.names.len() {
+            Some(self.names[place])
+        } else {
+            None
+        }
+    }
+
     /// The place of a name.
     pub(crate) fn place(&self, wanted: &Text) -> Option<usize>
         ensures place { result ≡ place_of wanted.now self.now }
@@ -46,7 +59,8 @@ impl<'a> Names<'a> {
 
     /// One name more, which is not there yet.
     pub(crate) fn add(&mut self, name: &'a Text) -> Result<(), Fault>
-        ensures { named result self.old self.new (with_name name.now self.old) }
+        ensures name { named result self.old self.new (with_name name.now self.old) }
+        ensures count { IfOk result (λ _. length self.new ≡ length self.old + 1) }
     {
         if self.place(name).is_some() {
             return Err(Fault::NoPath);
@@ -79,4 +93,14 @@ pub(crate) fn is_word(name: &Text, word: &[u8]) -> bool
     ensures { result ≡ bytes_eq name.now word.now }
 {
     name.bytes() == word
+}
+
+/// A copy of a name.
+pub(crate) fn copied(alloc: Global, name: &Text) -> Result<Text, Fault>
+    ensures { Gives (λ text. text) result (Some name.now) }
+{
+    let bytes = name.bytes();
+    let mut copy = Vec::new(alloc);
+    copy.extend_from_slice(bytes)?;
+    Ok(Text::new(copy))
 }

@@ -4,7 +4,7 @@ ghost use Rattle.path_check.specs.Answers.{Leaves};
 ghost use Rattle.path_check.specs.Flat.{flat_action};
 ghost use Rattle.path_check.specs.Leaves as path;
 ghost use Rattle.path_check.specs.Steps.{run};
-ghost use Rattle.path_check.specs.Views.{action_list};
+ghost use Rattle.path_check.specs.Views.{IsSimple, action_list};
 
 use crate::expression::value_of;
 use crate::fault::Fault;
@@ -32,7 +32,8 @@ fn declarator<'a>(
     scope: &mut Scope<'a>,
     declarator: &'a Declarator,
 ) -> Result<Stmt, Fault>
-    ensures { Leaves action_list result scope.new (path.declarator_of scope.old (tree.declarator_of declarator.now)) }
+    ensures code { Leaves action_list result scope.new (path.declarator_of scope.old (tree.declarator_of declarator.now)) }
+    ensures plain { IsSimple result }
 {
     match declarator {
         Declarator::Plain(name) => {
@@ -62,7 +63,8 @@ fn declaration<'a>(
     scope: &mut Scope<'a>,
     declaration: &'a Declaration,
 ) -> Result<Stmt, Fault>
-    ensures { Leaves action_list result scope.new (path.declaration_of scope.old (tree.declaration_of declaration.now)) }
+    ensures code { Leaves action_list result scope.new (path.declaration_of scope.old (tree.declaration_of declaration.now)) }
+    ensures plain { IsSimple result }
 {
     if !is_long(declaration) {
         return Err(Fault::NoPath);
@@ -74,7 +76,8 @@ fn declaration<'a>(
 }
 
 fn write(alloc: Global, scope: &Scope, stream: &Text, value: &Expression) -> Result<Stmt, Fault>
-    ensures { Leaves action_list result scope.now (path.write_of scope.now stream.now (tree.expression value.now)) }
+    ensures code { Leaves action_list result scope.now (path.write_of scope.now stream.now (tree.expression value.now)) }
+    ensures plain { IsSimple result }
 {
     let stream = scope.stream(true, stream)?;
     let value = value_of(alloc, scope, value)?;
@@ -88,7 +91,8 @@ fn call(
     method: &Text,
     arguments: &[Expression],
 ) -> Result<Stmt, Fault>
-    ensures { Leaves action_list result scope.now (path.call_of scope.now stream.now method.now (map tree.expression arguments.now)) }
+    ensures code { Leaves action_list result scope.now (path.call_of scope.now stream.now method.now (map tree.expression arguments.now)) }
+    ensures plain { IsSimple result }
 {
     match arguments {
         [] if is_word(method, b"read") => Ok(Stmt::Discard(Expr::Read(scope.stream(
@@ -105,7 +109,8 @@ fn assignment(
     target: &PlaceExpression,
     value: &Expression,
 ) -> Result<Stmt, Fault>
-    ensures { Leaves action_list result scope.now (path.assignment_of scope.now (tree.place_expression_of target.now) (tree.expression value.now)) }
+    ensures code { Leaves action_list result scope.now (path.assignment_of scope.now (tree.place_expression_of target.now) (tree.expression value.now)) }
+    ensures plain { IsSimple result }
 {
     match target {
         PlaceExpression::Variable(name) => {
@@ -118,7 +123,8 @@ fn assignment(
 }
 
 fn action(alloc: Global, scope: &Scope, action: &Action) -> Result<Stmt, Fault>
-    ensures { Leaves action_list result scope.now (path.action_of scope.now (tree.action_of action.now)) }
+    ensures code { Leaves action_list result scope.now (path.action_of scope.now (tree.action_of action.now)) }
+    ensures plain { IsSimple result }
 {
     match action {
         Action::Call {
@@ -146,7 +152,8 @@ pub(crate) fn simple<'a>(
     scope: &mut Scope<'a>,
     statement: &'a Statement,
 ) -> Result<Stmt, Fault>
-    ensures { Leaves action_list result scope.new (path.simple_of scope.old (tree.statement statement.now)) }
+    ensures code { Leaves action_list result scope.new (path.simple_of scope.old (tree.statement statement.now)) }
+    ensures plain { IsSimple result }
 {
     match statement {
         Statement::Declare(declared) => declaration(alloc, scope, declared),
