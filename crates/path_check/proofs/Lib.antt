@@ -1,3 +1,4 @@
+pub mod EndSteps
 pub mod LeafSteps
 pub mod Outer
 pub mod PlaceSums

@@ -1,4 +1,4 @@
-ghost use Rattle.std.specs.Prelude.{◌≡◌, ◌≤◌, ◌++◌, IfOk, length, map};
+ghost use Rattle.std.specs.Prelude.{◌≡◌, ◌≤◌, ◌++◌, IfOk, length, map, slice_get};
 ghost use Rattle.path_check.specs.Flat.{flat_instance, flat_leaf};
 ghost use Rattle.path_check.specs.Programs as path;
 
@@ -38,6 +38,16 @@ fn bind(
     Ok(())
 }
 
+/// The parameters of a body.
+fn ends_at(bodies: &[Leaf], body: u32) -> &[End]
+    ensures { result.now ≡ path.ends_of (slice_get (map flat_leaf bodies.now) body) }
+{
+    match bodies.get(body as usize) {
+        Some(leaf) => &leaf.streams,
+        None => &[],
+    }
+}
+
 /// The bindings of all instances.
 pub(crate) fn bindings(
     alloc: Global,
@@ -49,15 +59,8 @@ pub(crate) fn bindings(
 {
     let mut bindings = Vec::new(alloc);
     for (number, instance) in instances.iter().enumerate() {
-        let body = instance.body as usize;
-        if body < bodies.len() {
-            bind(
-                number as u32,
-                &instance.streams,
-                &bodies[body].streams,
-                &mut bindings,
-            )?;
-        }
+        let ends = ends_at(bodies, instance.body);
+        bind(number as u32, &instance.streams, ends, &mut bindings)?;
     }
     Ok(bindings)
 }

@@ -175,16 +175,27 @@ fn label(alloc: Global, name: &Text, number: u32) -> Result<Text, Fault>
     requires { number < 64 }
     ensures { Gives (λ label. label) result (Some (path.label_of name.now number)) }
 {
+    let digits = digits(alloc, number)?;
     let mut bytes = Vec::new(alloc);
     bytes.extend_from_slice(name.bytes())?;
     bytes.push(b'$')?;
-    if number >= 10 {
-        bytes.push(b'0' + (number / 10) as u8)?;
-        bytes.push(b'0' + (number % 10) as u8)?;
-    } else {
-        bytes.push(b'0' + number as u8)?;
-    }
+    bytes.extend_from_slice(&digits)?;
     Ok(Text::new(bytes))
+}
+
+/// The decimal digits of a number.
+fn digits(alloc: Global, number: u32) -> Result<Vec<u8>, Fault>
+    requires { number < 64 }
+    ensures { Gives (λ digits. digits.items) result (Some (path.digits number)) }
+{
+    let mut bytes = Vec::new(alloc);
+    if number < 10 {
+        bytes.push(b'0' + number as u8)?;
+        return Ok(bytes);
+    }
+    bytes.push(b'0' + (number / 10) as u8)?;
+    bytes.push(b'0' + (number % 10) as u8)?;
+    Ok(bytes)
 }
 
 fn instance(
