@@ -10,7 +10,7 @@ use Rattle.tapa_syntax.specs.declared.program.End.{End}
 use Rattle.tapa_syntax.specs.LeafKinds.{writes_of}
 use Rattle.tapa_syntax.specs.Trees as tree
 use Rattle.tapa_syntax.specs.Trees.{ExpressionTree, Expressions, PlaceTree, ActionTree, DeclaratorTree, DeclarationTree, HeadTree, StatementTree}
-use Rattle.path_check.specs.Flat.{FlatExpression, literal, variable, read, convert, apply, FlatAction, set, write, discard, FlatStatement, act, loop}
+use Rattle.path_check.specs.Flat.{FlatExpression, literal, variable, read, convert, apply, other, FlatAction, set, write, discard, no_action, FlatStatement, act, loop}
 use Rattle.path_check.specs.Leaves as path
 use Rattle.path_check.specs.Leaves.{Scope, variables}
 use Rattle.path_check.specs.Steps.{given, only, run}
@@ -99,7 +99,7 @@ int_is : (k : Kind) (s : Scope) (n : ℕ) (v : FlatExpression) → given (path.i
 int_is k s n v h =
     let b = asked _ _ v h in
     let l = ltb-true n (2 ^ 31) (both _ _ b.0).1 in
-    subst (GoodValue s) (the_same (path.converted_int n) v b.1) (refl, refl, small n l)
+    subst (GoodValue s) (the_same (path.converted_int n) v b.1) (refl, (refl, small n l))
 
 operand_good : (e : ExpressionTree) (s : Scope) (v : FlatExpression) → path.operand_of e s ≡ Some v → GoodValue s v
 operand_good (tree.literal k n) s v h = int_is k s n v h
@@ -112,7 +112,8 @@ value_good (tree.binary o at a b) s v h =
     let d = asked _ _ v h in
     let l = opened (path.named_of a s) _ v d.1 in
     let r = opened (path.operand_of b s) _ v l.2 in
-    subst (GoodValue s) (the_same _ v r.2) (refl, named_good a s l.0 l.1, operand_good b s r.0 r.1, tt)
+    let g : GoodValue s (apply op.Add kind.U64 l.0 r.0) = (refl, named_good a s l.0 l.1, operand_good b s r.0 r.1, tt) in
+    subst (GoodValue s) (the_same (apply op.Add kind.U64 l.0 r.0) v r.2) g
 value_good (tree.literal k n) s v h = operand_good (tree.literal k n) s v h
 value_good (tree.variable x) s v h = operand_good (tree.variable x) s v h
 value_good (tree.call q m es) s v h = operand_good (tree.call q m es) s v h
@@ -153,7 +154,7 @@ acts_on s t u xs ys a b = record {
   sound = b.sound;
   grows = grows_on s t u a.grows b.grows;
   good = actions_append (writes_of u.ends) (variables u) xs ys
-    (actions_more (writes_of u.ends) (variables t) (variables u) (more_variables t u b.grows) xs (subst (λ (e : List End). GoodActions (writes_of e) (variables t) xs) b.grows.ends a.good)) b.good;
+      (actions_more (writes_of u.ends) (variables t) (variables u) (more_variables t u b.grows) xs (subst (λ (e : List End). GoodActions (writes_of e) (variables t) xs) b.grows.ends a.good)) b.good;
 }
 
 runs_none : (s : Scope) → Sound s → Runs s [] s
@@ -164,7 +165,7 @@ runs_on s t u xs ys a b = record {
   sound = b.sound;
   grows = grows_on s t u a.grows b.grows;
   good = code_append (writes_of u.ends) (variables u) xs ys
-    (code_more (writes_of u.ends) (variables t) (variables u) (more_variables t u b.grows) xs (subst (λ (e : List End). GoodCode (writes_of e) (variables t) xs) b.grows.ends a.good)) b.good;
+      (code_more (writes_of u.ends) (variables t) (variables u) (more_variables t u b.grows) xs (subst (λ (e : List End). GoodCode (writes_of e) (variables t) xs) b.grows.ends a.good)) b.good;
 }
 
 -- a declaration adds one variable, which has the number that it answers
@@ -200,7 +201,7 @@ acted_one s t a i g h = record { sound = i; grows = g; good = (h, tt) }
 same_scope : (s : Scope) → Grows s s
 same_scope s = record { ends = refl; names = omega arith }
 
-acts_at : (s : Scope) (xs ys : List FlatAction) (t u : Scope) → Some (xs, t) ≡ Some (ys, u) → Acts s xs t → Acts s ys u
+acts_at : (s : Scope) (xs ys : List FlatAction) (t u : Scope) → ◌≡◌ {A = Option (List FlatAction × Scope)} (Some (xs, t)) (Some (ys, u)) → Acts s xs t → Acts s ys u
 acts_at s xs ys t u h a = subst (λ (p : List FlatAction × Scope). Acts s p.0 p.1) (the_same (xs, t) (ys, u) h) a
 
 later : (s t : Scope) (v : FlatExpression) → Grows s t → GoodValue s v → GoodValue t v
@@ -272,9 +273,9 @@ simple_good s _ xs t i h = absurd (nothing (xs, t) h)
 inner_good : (s : Scope) (ss : List StatementTree) (xs : List FlatAction) (t : Scope) → run path.inner_of s ss ≡ Some (xs, t) → Sound s → Acts s xs t
 inner_good s ss xs t h =
     run_by path.inner_of (λ s xs t. Sound s → Acts s xs t) acts_none
-      (λ s t u xs ys a b i. let k = a i in acts_on s t u xs ys k (b k.sound))
-      (λ s b xs t e i. simple_good s (path.bare b) xs t i e)
-      s ss xs t h
+    (λ s t u xs ys a b i. let k = a i in acts_on s t u xs ys k (b k.sound))
+    (λ s b xs t e i. simple_good s (path.bare b) xs t i e)
+    s ss xs t h
 
 block_good : (s : Scope) (b : StatementTree) (xs : List FlatAction) (t : Scope) → Sound s → path.block_of s b ≡ Some (xs, t) → Acts s xs t
 block_good s (tree.block ss) xs t i h = inner_good s (path.listed ss) xs t h i
@@ -283,7 +284,7 @@ block_good s _ xs t i h = absurd (nothing (xs, t) h)
 -- ---- loops
 
 int_value : (s : Scope) (n : ℕ) → n < 2 ^ 32 → GoodValue s (path.converted_int n)
-int_value s n l = (refl, refl, l)
+int_value s n l = (refl, (refl, l))
 
 below_all : (n : ℕ) → n ≤ 1000 → n < 2 ^ 32
 below_all n h = omega arith
@@ -316,9 +317,11 @@ head_few head x n h =
 
 turned_good : (s : Scope) (n i : ℕ) (b : List FlatAction) → i < variables s → n < 2 ^ 32 → GoodActions (writes_of s.ends) (variables s) b → GoodCode (writes_of s.ends) (variables s) (act (set i (path.converted_int 0)) ∷ path.turning i n b ∷ [])
 turned_good s n i b l m g =
-    ((l, int_value s 0 (lit< tt)),
-    ((refl, (l, refl), int_value s n m, tt), g, ((l, (refl, (l, refl), (refl, lit< tt), tt)), tt)),
-    tt)
+    let set_to_zero : GoodStatement (writes_of s.ends) (variables s) (act (set i (path.converted_int 0))) = (l, int_value s 0 (lit< tt)) in
+    let test : Good (writes_of s.ends) (variables s) (path.loop_test i n) kind.Bool = (refl, (l, refl), int_value s n m, tt) in
+    let next : GoodValue s (apply op.Add kind.U64 (variable i) (literal kind.U64 1)) = (refl, (l, refl), (refl, lit< tt), tt) in
+    let turns : GoodStatement (writes_of s.ends) (variables s) (path.turning i n b) = (test, g, ((l, next), tt)) in
+    (set_to_zero, (turns, tt))
 
 loop_good : (s : Scope) (head : HeadTree) (body : StatementTree) (xs : List FlatStatement) (t : Scope) → Sound s → path.loop_of s head body ≡ Some (xs, t) → Runs s xs t
 loop_good s head body xs t i h =
@@ -354,6 +357,6 @@ outer_good s _ xs t i h = absurd (nothing (xs, t) h)
 pub code_good : (s : Scope) (ss : List StatementTree) (xs : List FlatStatement) (t : Scope) → run path.statement_of s ss ≡ Some (xs, t) → Sound s → Runs s xs t
 code_good s ss xs t h =
     run_by path.statement_of (λ s xs t. Sound s → Runs s xs t) runs_none
-      (λ s t u xs ys a b i. let k = a i in runs_on s t u xs ys k (b k.sound))
-      (λ s b xs t e i. outer_good s (path.bare b) xs t i e)
-      s ss xs t h
+    (λ s t u xs ys a b i. let k = a i in runs_on s t u xs ys k (b k.sound))
+    (λ s b xs t e i. outer_good s (path.bare b) xs t i e)
+    s ss xs t h

@@ -68,7 +68,7 @@ leaf_well l g =
       cells = λ a r h. absurd (none_in l.arrays.items a r g.arrays h);
       uses = code_uses (kinds_of l) u (writes_of l.streams.items) g.count l.code.items g.code;
       fits = subst (λ k. FitsBody (length l.vars.items) k [] l.code.items) (sym (ap length g.arrays))
-        (subst (λ k. FitsBody k 0 [] l.code.items) (sym n) (code_fits (kinds_of l) u (writes_of l.streams.items) g.count l.code.items g.code));
+          (subst (λ k. FitsBody k 0 [] l.code.items) (sym n) (code_fits (kinds_of l) u (writes_of l.streams.items) g.count l.code.items g.code));
       typed = code_typed (kinds_of l) u (writes_of l.streams.items) g.count l.code.items g.code;
     }
 

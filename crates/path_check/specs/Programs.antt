@@ -150,7 +150,7 @@ top_of item top = do
 abbrev pub network_of : List FlatLeaf → List ℕ → Upper → Option FlatProgram
 network_of bodies top upper = do
   declared ← run stream_item [] upper.streams
-  invoked ← given (nat_le (length declared.1) 1024 && (nat_le (length bodies) 64 && (nat_le 1 (length upper.invocations) && nat_le (length upper.invocations) 64))) (run (invocation_of bodies declared.1) 0 upper.invocations)
+  invoked ← given (nat_le (length declared.0) 1024 && (nat_le (length bodies) 64 && (nat_le 1 (length upper.invocations) && nat_le (length upper.invocations) 64))) (run (invocation_of bodies declared.1) 0 upper.invocations)
   streams ← run (stream_at (bindings_from bodies 0 invoked.0) declared.1) 0 declared.0
   Some (record {
     top = top;
@@ -161,14 +161,19 @@ network_of bodies top upper = do
     streams = streams.0;
   })
 
+-- the program of a top task and of the items before it
+abbrev pub program_with : List ℕ → Upper → List ItemTree → Option FlatProgram
+program_with name upper items = do
+  leaves ← run (leaf_item upper.invocations) [] items
+  names ← with_name name leaves.1
+  network_of leaves.0 name upper
+
 -- the flat program of a file whose last item is the top task
 abbrev pub program_of : List ItemTree → List ℕ → Option FlatProgram
 program_of items top = do
   item ← slice_get items (length items - 1)
   named ← top_of item top
-  leaves ← run (leaf_item named.1.invocations) [] (take (length items - 1) items)
-  names ← with_name named.0 leaves.1
-  network_of leaves.0 named.0 named.1
+  program_with named.0 named.1 (take (length items - 1) items)
 
 -- the program of a file and the name of its top task, up to where it lies in memory
 abbrev pub IsPathProgram : File → List ℕ → Program → Type 0

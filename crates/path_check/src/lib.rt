@@ -4,6 +4,7 @@
 mod bindings;
 mod expression;
 mod fault;
+mod laws;
 mod leaf;
 mod loops;
 mod names;
@@ -12,4 +13,5 @@ mod program;
 mod scope;
 mod statement;
 
+pub use laws::law_path_programs_are_well_formed;
 pub use program::path_program;

@@ -1,4 +1,4 @@
-ghost use Rattle.std.specs.Prelude.{◌≡◌, ◌≤◌, ◌<◌, ◌+◌, ◌∷◌, [], IfNone, IfOk, IfSome, Some, length, map};
+ghost use Rattle.std.specs.Prelude.{◌≡◌, ◌≤◌, ◌<◌, ◌+◌, ◌∷◌, [], IfNone, IfOk, IfSome, Some, length, map, vec_len};
 ghost use Rattle.tapa_syntax.specs.Trees as tree;
 ghost use Rattle.path_check.specs.Answers.{Gives, Leaves};
 ghost use Rattle.path_check.specs.Flat.{flat_instance, flat_leaf, flat_program};
@@ -97,7 +97,8 @@ fn depth_of(depth: &Option<Count>) -> Option<u32>
 
 /// The depth of a stream of the top, whose name is added.
 fn stream_item<'a>(names: &mut Names<'a>, stream: &'a StreamDeclaration) -> Result<u32, Fault>
-    ensures { Leaves (λ depth. depth ∷ []) result names.new (path.stream_item names.old (tree.stream_of stream.now)) }
+    ensures depth { Leaves (λ depth. depth ∷ []) result names.new (path.stream_item names.old (tree.stream_of stream.now)) }
+    ensures count { IfOk result (λ _. length names.new ≡ length names.old + 1) }
 {
     if stream.kind != Kind::U64 {
         return Err(Fault::NoPath);
@@ -119,7 +120,8 @@ fn stream_items<'a>(
     names: &mut Names<'a>,
     streams: &'a [StreamDeclaration],
 ) -> Result<Vec<u32>, Fault>
-    ensures { Leaves (λ depths. depths.items) result names.new (run path.stream_item names.old (map tree.stream_of streams.now)) }
+    ensures depths { Leaves (λ depths. depths.items) result names.new (run path.stream_item names.old (map tree.stream_of streams.now)) }
+    ensures count { IfOk result (λ depths. length names.new ≡ length names.old + vec_len depths) }
 {
     let mut depths = Vec::new(alloc);
     for stream in streams {
@@ -240,7 +242,8 @@ fn instances(
     requires few { length invocations.now ≤ 64 }
     requires bodies { length bodies.now ≤ 64 }
     requires names { length names.now ≤ 1024 }
-    ensures { Leaves (λ instances. map flat_instance instances.items) result (length invocations.now) (run (path.invocation_of (map flat_leaf bodies.now) names.now) 0 (map tree.invocation_of invocations.now)) }
+    ensures instances { Leaves (λ instances. map flat_instance instances.items) result (length invocations.now) (run (path.invocation_of (map flat_leaf bodies.now) names.now) 0 (map tree.invocation_of invocations.now)) }
+    ensures count { IfOk result (λ instances. vec_len instances ≡ length invocations.now) }
 {
     let mut instances = Vec::new(alloc);
     for (number, invocation) in invocations.iter().enumerate() {
@@ -325,7 +328,7 @@ fn network(alloc: Global, bodies: Vec<Leaf>, upper: &Upper) -> Result<Program, F
 {
     let mut names = Names::new(alloc);
     let depths = stream_items(alloc, &mut names, upper.streams)?;
-    if names.len() > MOST_STREAMS || bodies.len() > MOST_INSTANCES {
+    if depths.len() > MOST_STREAMS || bodies.len() > MOST_INSTANCES {
         return Err(Fault::NoPath);
     }
     if upper.invocations.is_empty() || upper.invocations.len() > MOST_INSTANCES {
@@ -344,25 +347,28 @@ fn network(alloc: Global, bodies: Vec<Leaf>, upper: &Upper) -> Result<Program, F
     })
 }
 
-fn program(alloc: Global, file: &File, top: &str) -> Result<Program, Fault>
-    ensures { Gives flat_program result (path.program_of (tree.file_of file.now) top.now) }
+/// The program of a top task and of the items before it.
+fn program_with(alloc: Global, upper: &Upper, items: &[FileItem]) -> Result<Program, Fault>
+    ensures { Gives flat_program result (path.program_with upper.now.name.now (upper_of upper.now) (map tree.item_of items.now)) }
 {
-    let count = file.items.len();
-    if count == 0 {
+    let mut names = Names::new(alloc);
+    let leaves = leaf_items(alloc, upper.invocations, &mut names, items)?;
+    names.add(upper.name)?;
+    network(alloc, leaves, upper)
+}
+
+fn program(alloc: Global, items: &[FileItem], top: &str) -> Result<Program, Fault>
+    ensures { Gives flat_program result (path.program_of (map tree.item_of items.now) top.now) }
+{
+    if items.is_empty() {
         return Err(Fault::NoPath);
     }
-    let Some(upper) = top_of(&file.items[count - 1], top) else {
-        return Err(Fault::NoPath);
-    };
-    let mut names = Names::new(alloc);
-    let leaves = leaf_items(
-        alloc,
-        upper.invocations,
-        &mut names,
-        &file.items[..count - 1],
-    )?;
-    names.add(upper.name)?;
-    network(alloc, leaves, &upper)
+    let before = items.len() - 1;
+    let last = &items[before];
+    match top_of(last, top) {
+        Some(upper) => program_with(alloc, &upper, &items[..before]),
+        None => Err(Fault::NoPath),
+    }
 }
 
 /// The flat program of a file of the path language, whose last item is the task `top`, and none where the file is no
@@ -371,7 +377,7 @@ pub fn path_program(alloc: Global, file: &File, top: &str) -> Result<Option<Prog
     ensures found { IfOk result (λ found. IfSome found (λ program. IsPathProgram file.now top.now program)) }
     ensures none { IfOk result (λ found. IfNone found (HasNoProgram file.now top.now)) }
 {
-    match program(alloc, file, top) {
+    match program(alloc, &file.items, top) {
         Ok(found) => Ok(Some(found)),
         Err(Fault::NoPath) => Ok(None),
         Err(Fault::OutOfMemory) => Err(OutOfMemory),
