@@ -38,3 +38,15 @@ file_begins items i x top h e p =
     bound (slice_get (map item_of items) (length (map item_of items) - 1)) (item_of x) (λ (item : ItemTree). option_and_then (λ (named : List ℕ × path.Upper). path.program_with named.0 named.1 (take (length (map item_of items) - 1) (map item_of items))) (path.top_of item top)) (last_is items i x h e p)
     ∙ ap (λ its. option_and_then (λ (named : List ℕ × path.Upper). path.program_with named.0 named.1 its) (path.top_of (item_of x) top))
     (ap (λ n. take (n - 1) (map item_of items)) (length-map item_of items) ∙ ap (λ n. take n (map item_of items)) (sym p) ∙ take-map item_of i items)
+
+pub file_refused : (items : List FileItem) (i : ℕ) (x : FileItem) (top : List ℕ) → i < length items → x ≡ get_or items i x → i ≡ length items - 1 → None ≡ path.top_of (item_of x) top → path.program_of (map item_of items) top ≡ None
+file_refused items i x top h e p n =
+    file_begins items i x top h e p
+    ∙ ap (option_and_then (λ (named : List ℕ × path.Upper). path.program_with named.0 named.1 (map item_of (take i items)))) (sym n)
+
+pub file_goes : (items : List FileItem) (i : ℕ) (x : FileItem) (top name : List ℕ) (upper : path.Upper) → i < length items → x ≡ get_or items i x → i ≡ length items - 1 → Some (name, upper) ≡ path.top_of (item_of x) top → path.program_of (map item_of items) top ≡ path.program_with name upper (map item_of (take (i - 0) items))
+file_goes items i x top name upper h e p n =
+    let z : i ≡ i - 0 = omega arith in
+    file_begins items i x top h e p
+    ∙ ap (option_and_then (λ (named : List ℕ × path.Upper). path.program_with named.0 named.1 (map item_of (take i items)))) (sym n)
+    ∙ ap (λ k. path.program_with name upper (map item_of (take k items))) z

@@ -1,4 +1,6 @@
 pub mod EndSteps
+pub mod Ends
+pub mod Facts
 pub mod Files
 pub mod Good
 pub mod GoodLeaves
@@ -10,3 +12,4 @@ pub mod Rows
 pub mod Runs
 pub mod Turning
 pub mod WellLeaves
+pub mod WellPrograms
