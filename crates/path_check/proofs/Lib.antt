@@ -1,0 +1,15 @@
+pub mod EndSteps
+pub mod Ends
+pub mod Facts
+pub mod Files
+pub mod Good
+pub mod GoodLeaves
+pub mod LeafSteps
+pub mod Opened
+pub mod Outer
+pub mod PlaceSums
+pub mod Rows
+pub mod Runs
+pub mod Turning
+pub mod WellLeaves
+pub mod WellPrograms

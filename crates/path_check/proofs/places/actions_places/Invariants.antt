@@ -1,0 +1,8 @@
+use Rattle.std.proofs.Common.{◌≡◌, ◌≤◌, ◌^◌, ◌+◌, ◌-◌, map, drop}
+use Rattle.path_check.specs.Flat.{flat_action}
+use Rattle.path_check.specs.Leaves as path
+use Rattle.path_check.specs.Views.{capped}
+use Rattle.path_check.proofs.places.actions_places.Given as goal
+
+abbrev pub invariant-loop-action : goal.invariant-loop-action
+invariant-loop-action l = (capped (path.actions_places (map flat_action l.actions)) ≡ capped (l.places + path.actions_places (map flat_action (drop l.action-index l.actions)))) × (l.places ≤ 2 ^ 64 - 1)
