@@ -1,0 +1,5 @@
+pub mod Meaning
+pub mod Refusal
+pub mod Status
+pub mod Told
+pub mod Words
