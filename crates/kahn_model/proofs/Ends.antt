@@ -6,7 +6,7 @@ use Rattle.std.proofs.lemmas.Bool.{cases_lt, cases_eq}
 use Rattle.std.proofs.lemmas.List.{take_all}
 use Rattle.std.proofs.lemmas.Option.{slice_get-get_or}
 use Rattle.tapa_base.specs.declared.token.Token.{Token}
-use Rattle.kahn_model.specs.Job.{Local, Put, Load, Store, Tick, Did, Take, See, End, Mark, Ended, Needs, Bad, Turns, Offer, NoToken, WrongToken, Answer, first_offer, tick_of, lists_after, on_offer, Behavior, Finished, OutOfTurns, Act, Await, ticks, mark}
+use Rattle.kahn_model.specs.Behavior.{Local, Put, Load, Store, Tick, Did, Take, See, End, Mark, Ended, Needs, Bad, Turns, Offer, NoToken, WrongToken, Answer, first_offer, tick_of, lists_after, on_offer, Behavior, Finished, OutOfTurns, Act, Await, ticks, mark}
 use Rattle.kahn_model.specs.Network.{Network, IsNetwork, round}
 use Rattle.kahn_model.specs.Counts.{total, round_of, ticks_made, written, taken, next, HasToken, HasRoom, IsAllowed, with_tick_of, after, AreAllowed, zeros, IsReachable, IsFounded, IsEnding, HasEnded}
 use Rattle.kahn_model.specs.Outcome.{WaitsToWrite, WaitsToRead, HasBadToken, IsCapped, IsGreatest}

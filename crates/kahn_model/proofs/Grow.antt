@@ -3,7 +3,7 @@ use Rattle.std.proofs.Common.{◌≡◌, ℕ, zero, suc, ◌≤◌, List, [], �
 use Rattle.std.specs.Prelude.{◌==◌, flat_map}
 use Rattle.tapa_base.specs.declared.token.Token.{Token}
 use Rattle.kahn_model.specs.Prefix.{IsPrefixOf}
-use Rattle.kahn_model.specs.Job.{Tick, Did, End, StreamOperation, Behavior, Finished, OutOfTurns, Act, Await, Offer, NoToken, WrongToken, Answer, judge_token, first_offer, takes, lists_after, on_offer, ticks, Extends}
+use Rattle.kahn_model.specs.Behavior.{Tick, Did, End, StreamOperation, Behavior, Finished, OutOfTurns, Act, Await, Offer, NoToken, WrongToken, Answer, judge_token, first_offer, takes, lists_after, on_offer, ticks, Extends}
 use Rattle.kahn_model.specs.Network.{Network, IsNetwork, put_on, stream, round}
 use Rattle.kahn_model.proofs.Order.{prefix_flat_map, prefix_if}
 

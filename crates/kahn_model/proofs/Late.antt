@@ -5,7 +5,7 @@ use Rattle.std.proofs.lemmas.Bool.Decides.{nat_tests}
 use Rattle.tapa_base.specs.declared.token.Token.{Token}
 use Rattle.tapa_base.specs.declared.token.Token.TheVariants.{Datum, Eot}
 use Rattle.kahn_model.specs.Prefix.{IsPrefixOf}
-use Rattle.kahn_model.specs.Job.{Tick, Did, Take, See, End, Mark, Ended, Needs, Bad, Turns, StreamOperation, Read, Peek, TestEot, Open, Behavior, Finished, OutOfTurns, Act, Await, Offer, NoToken, WrongToken, Answer, judge_token, first_offer, tick_of, lists_after, on_offer, ticks, mark, Extends, Lasts}
+use Rattle.kahn_model.specs.Behavior.{Tick, Did, Take, See, End, Mark, Ended, Needs, Bad, Turns, StreamOperation, Read, Peek, TestEot, Open, Behavior, Finished, OutOfTurns, Act, Await, Offer, NoToken, WrongToken, Answer, judge_token, first_offer, tick_of, lists_after, on_offer, ticks, mark, Extends, Lasts}
 use Rattle.kahn_model.specs.Network.{take_from}
 use Rattle.kahn_model.proofs.Grow.{Grows, after_grows}
 

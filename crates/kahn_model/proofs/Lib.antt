@@ -5,9 +5,13 @@ pub mod Late
 pub mod Reach
 pub mod Statements
 pub mod Wired
+pub mod WellFormed
 pub mod Clocked
 pub mod Bound
 pub mod SlowSteps
 pub mod SlowFlows
 pub mod Local
 pub mod Ends
+pub mod Values
+pub mod Fits
+pub mod FitsNetwork

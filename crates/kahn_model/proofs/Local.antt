@@ -8,7 +8,7 @@ use Rattle.std.proofs.lemmas.List.{length-take-le, take_all}
 use Rattle.std.proofs.lemmas.Option.{slice_get_within}
 use Rattle.tapa_base.specs.declared.token.Token.{Token}
 use Rattle.kahn_model.specs.Prefix.{IsPrefixOf}
-use Rattle.kahn_model.specs.Job.{Tick, Did, Take, See, End, Mark, Ended, Needs, Bad, Turns, StreamOperation, Read, Peek, TestEot, Open, Offer, NoToken, WrongToken, Answer, judge_token, first_offer, tick_of, lists_after, on_offer, Behavior, Finished, OutOfTurns, Act, Await, ticks, mark}
+use Rattle.kahn_model.specs.Behavior.{Tick, Did, Take, See, End, Mark, Ended, Needs, Bad, Turns, StreamOperation, Read, Peek, TestEot, Open, Offer, NoToken, WrongToken, Answer, judge_token, first_offer, tick_of, lists_after, on_offer, Behavior, Finished, OutOfTurns, Act, Await, ticks, mark}
 use Rattle.kahn_model.specs.Network.{Network, IsNetwork, put_on, take_from, stream, round}
 use Rattle.kahn_model.specs.Counts.{total, round_of, ticks_made, written, taken, next, HasToken, IsSupplied, with_tick_of, after, AreSupplied, zeros, IsFounded}
 use Rattle.kahn_model.proofs.Order.{prefix_trans, prefix_flat_map, prefix_take, take_prefix, prefix_length, prefix_get, prefix_get_back, prefix_whole}

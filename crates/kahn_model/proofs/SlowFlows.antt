@@ -13,7 +13,7 @@ use Rattle.kahn_model.specs.declared.slow.Flow.{Flow}
 use Rattle.kahn_model.specs.declared.slow.Flow.TheVariants.{Next, Out, Again, Stopped as StoppedFlow}
 use Rattle.kahn_model.specs.declared.slow.Turn.{Turn}
 use Rattle.kahn_model.specs.declared.slow.Turn.TheVariants.{On, Over, Stopped as StoppedTurn}
-use Rattle.kahn_model.specs.Job.{Action, Local, Tick, Did, End, Mark, Ended, Turns, Behavior, Finished, OutOfTurns, Act, ticks, mark}
+use Rattle.kahn_model.specs.Behavior.{Action, Local, Tick, Did, End, Mark, Ended, Turns, Behavior, Finished, OutOfTurns, Act, ticks, mark}
 use Rattle.kahn_model.specs.Trace.{State, at_zero, expr, stmt, block, statements, job_of}
 use Rattle.tapa_syntax.specs.LeafKinds.{Kinds}
 use Rattle.kahn_model.specs.Slow.{row_at, feed, whole, GoesOn, Stops, GivesValue, GivesFlow, GivesTurn, inside, turn_of, loop_of, turn_left}

@@ -4,7 +4,7 @@ use Rattle.tapa_syntax.specs.declared.program.Expr.{Expr}
 use Rattle.tapa_syntax.specs.declared.program.Expr.TheVariants.{Lit, Var, Cell', Read, Peek, Eot, Load' as LoadCell, Conv', Apply', Flip', Not', And', Or', Choose'}
 use Rattle.tapa_syntax.specs.declared.program.Stmt.{Stmt, Row_of-Stmt, end_of-Stmt, more_of-Stmt}
 use Rattle.tapa_syntax.specs.declared.program.Stmt.TheVariants.{Set, SetCell, SetCellBy, Store as StoreCell, StoreBy, ReadVar, ReadCell, ReadStore, Write, Open as OpenIt, Close, Discard, Clear, If', Loop', Break, Continue}
-use Rattle.kahn_model.specs.Job.{Action, Local, Load, Store, StreamOperation, Read as ByRead, Peek as ByPeek, TestEot, Open as ByOpen, Behavior, Finished, OutOfTurns, Act, Await, Extends, Lasts}
+use Rattle.kahn_model.specs.Behavior.{Action, Local, Load, Store, StreamOperation, Read as ByRead, Peek as ByPeek, TestEot, Open as ByOpen, Behavior, Finished, OutOfTurns, Act, Await, Extends, Lasts}
 use Rattle.kahn_model.specs.Trace.{State, cells_of, at_zero, expr, locals, turns, stmt, block, statements, job_of}
 use Rattle.tapa_syntax.specs.LeafKinds.{Kinds}
 

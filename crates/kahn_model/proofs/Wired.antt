@@ -8,23 +8,23 @@ use Rattle.tapa_syntax.specs.declared.program.Stmt.TheVariants.{Set, SetCell, Se
 use Rattle.tapa_syntax.specs.declared.program.Leaf.{Leaf}
 use Rattle.tapa_syntax.specs.declared.program.Instance.{Instance}
 use Rattle.tapa_syntax.specs.declared.program.Program.{Program}
-use Rattle.kahn_model.specs.Job.{Action, Local, Put, Load, Store, StreamOperation, Read as ByRead, Peek as ByPeek, TestEot, Open as ByOpen, Behavior, Finished, OutOfTurns, Act, Await, Extends, Lasts}
+use Rattle.kahn_model.specs.Behavior.{Action, Local, Put, Load, Store, StreamOperation, Read as ByRead, Peek as ByPeek, TestEot, Open as ByOpen, Behavior, Finished, OutOfTurns, Act, Await, Extends, Lasts}
 use Rattle.kahn_model.specs.Trace.{State, cells_of, at_zero, expr, locals, turns, stmt, block, statements, job_of, act_at, at_streams}
 use Rattle.tapa_syntax.specs.LeafKinds.{Kinds}
-use Rattle.kahn_model.specs.Whole.{stream_at, leaf_job, instance_job, net_of, IsBound, IsWired}
+use Rattle.kahn_model.specs.ProgramNetwork.{stream_at, leaf_job, instance_job, network_with, IsBound, IsWired}
 use Rattle.tapa_syntax.specs.LeafKinds.{writes_of, kinds_of}
 use Rattle.tapa_syntax.specs.StreamUse.{UsesExpr, UsesStmt, UsesBlock, UsesBody}
 use Rattle.kahn_model.specs.Network.{IsNetwork, OwnAct, Owns}
 use Rattle.kahn_model.proofs.Statements.{job_extends, job_lasts}
 
 -- a job puts only where w says so, and waits only where it says the other
-abbrev KeepsAct : (ℕ → Option Bool) → Action → Type 0
+abbrev pub KeepsAct : (ℕ → Option Bool) → Action → Type 0
 KeepsAct w Local = Unit {0}
 KeepsAct w (Put s t) = w s ≡ Some true
 KeepsAct w (Load m a) = Unit {0}
 KeepsAct w (Store m a v) = Unit {0}
 
-abbrev Keeps : (ℕ → Option Bool) → Behavior → Type 0
+abbrev pub Keeps : (ℕ → Option Bool) → Behavior → Type 0
 Keeps w Finished = Unit {0}
 Keeps w OutOfTurns = Unit {0}
 Keeps w (Act a rest) = KeepsAct w a × Keeps w rest
@@ -105,6 +105,10 @@ kept_statements : (w : ℕ → Option Bool) (K : Kinds) (n : ℕ) (code : List S
 kept_statements w K n [] u f fo fa h ho ha σ = h σ
 kept_statements w K n (s ∷ rest) (us, ur) f fo fa h ho ha σ = kept_stmt w K n s us _ fo fa (kept_statements w K n rest ur f fo fa h ho ha) ho ha σ
 
+pub body_keeps : (leaf : Leaf) → UsesBody (writes_of leaf.streams.items) leaf.code.items → (σ : State) (n : ℕ) → Keeps (writes_of leaf.streams.items) (job_of (kinds_of leaf) leaf.code.items σ n)
+body_keeps leaf u σ n =
+    (kept_statements (writes_of leaf.streams.items) (kinds_of leaf) n leaf.code.items u _ _ _ (finished _) (finished _) (finished _) σ).kept
+
 -- at the streams of an instance
 extends_at : (f : ℕ → ℕ) (a b : Behavior) → Extends a b → Extends (at_streams f a) (at_streams f b)
 extends_at f Finished b e = ap (at_streams f) e
@@ -142,7 +146,7 @@ leaf_owns : (p c : ℕ → ℕ) (i : ℕ) (o : Option Leaf) (instance : Instance
 leaf_owns p c i None instance σ n h = tt
 leaf_owns p c i (Some leaf) instance σ n h =
     let b = h leaf refl in
-    owns_at p c i (writes_of leaf.streams.items) (stream_at instance) b.writer b.reader _ (kept_statements (writes_of leaf.streams.items) (kinds_of leaf) n leaf.code.items b.uses _ _ _ (finished _) (finished _) (finished _) σ).kept
+    owns_at p c i (writes_of leaf.streams.items) (stream_at instance) b.writer b.reader _ (body_keeps leaf b.uses σ n)
 
 instance_grows : (leaves : List Leaf) (o : Option Instance) (σ : State) (n m : ℕ) → n ≤ m → Extends (instance_job leaves o σ n) (instance_job leaves o σ m)
 instance_grows leaves None σ n m le = refl
@@ -156,8 +160,8 @@ instance_owns : (p c : ℕ → ℕ) (i : ℕ) (leaves : List Leaf) (o : Option I
 instance_owns p c i leaves None σ n h = tt
 instance_owns p c i leaves (Some instance) σ n h = leaf_owns p c i (slice_get leaves instance.body) instance σ n (λ leaf e. h instance leaf refl e)
 
-pub program_net : (program : Program) → IsWired program → (first : ℕ → State) → IsNetwork (net_of program first)
-program_net program w first = record {
+pub wired_network : (program : Program) → IsWired program → (first : ℕ → State) → IsNetwork (network_with program first)
+wired_network program w first = record {
   grows = λ i n m le. instance_grows program.bodies.items (slice_get program.instances.items i) (first i) n m le;
   lasts = λ i n. instance_lasts program.bodies.items (slice_get program.instances.items i) (first i) n;
   owns = λ i n. instance_owns _ _ i program.bodies.items (slice_get program.instances.items i) (first i) n (λ instance leaf. w.bound first i instance leaf);

@@ -2,7 +2,7 @@
 use Rattle.std.specs.Prelude.{◌≡◌, ℕ, zero, suc, ◌+◌, ◌-◌, ◌<◌, List, [], ◌∷◌, length, take, ◌==◌, if◌then◌else◌, Option, Some, slice_get, flat_map}
 use Rattle.tapa_base.specs.declared.token.Token.{Token}
 use Rattle.kahn_model.specs.Prefix.{IsPrefixOf}
-use Rattle.kahn_model.specs.Job.{Put, Tick, Did, Take, See, End}
+use Rattle.kahn_model.specs.Behavior.{Put, Tick, Did, Take, See, End}
 use Rattle.kahn_model.specs.Network.{Network, put_on, take_from, stream, round}
 
 -- the sum of the first m numbers of a count

@@ -1,10 +1,11 @@
 pub mod Prefix
-pub mod Job
+pub mod Behavior
 pub mod Network
 pub mod Counts
 pub mod Trace
-pub mod Whole
+pub mod ProgramNetwork
 pub mod Timed
 pub mod Slow
 pub mod Outcome
 pub mod Start
+pub mod Fits

@@ -1,7 +1,7 @@
 -- Networks of jobs: Kahn's rounds, and counts of ticks.
 use Rattle.std.specs.Prelude.{◌≡◌, ℕ, zero, suc, ◌≤◌, List, [], ◌∷◌, ◌==◌, if◌then◌else◌, flat_map}
 use Rattle.tapa_base.specs.declared.token.Token.{Token}
-use Rattle.kahn_model.specs.Job.{Action, Put, Tick, Did, Take, Behavior, Finished, OutOfTurns, Act, Await, ticks, Extends, Lasts}
+use Rattle.kahn_model.specs.Behavior.{Action, Put, Tick, Did, Take, Behavior, Finished, OutOfTurns, Act, Await, ticks, Extends, Lasts}
 
 -- a network: for each instance a job, by the number of tests that each run of a loop may make, and for each stream
 -- its two ends and its depth

@@ -1,7 +1,7 @@
 -- StreamOperation a network ends at its declared depths.
 use Rattle.std.specs.Prelude.{◌≡◌, ℕ, ◌<◌, ◌≤◌, length, Some}
 use Rattle.tapa_base.specs.declared.token.Token.{Token}
-use Rattle.kahn_model.specs.Job.{Did, Put, Mark, Needs, Bad, ticks, mark}
+use Rattle.kahn_model.specs.Behavior.{Did, Put, Mark, Needs, Bad, ticks, mark}
 use Rattle.kahn_model.specs.Network.{Network}
 use Rattle.kahn_model.specs.Counts.{round_of, written, next, IsReachable, IsEnding, HasEnded}
 

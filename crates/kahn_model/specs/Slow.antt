@@ -12,7 +12,7 @@ use Rattle.tapa_syntax.specs.declared.program.Stmt.{Stmt, Row_of-Stmt}
 use Rattle.tapa_syntax.specs.declared.program.Stmt.TheVariants.{Loop'}
 use Rattle.kahn_model.specs.Trace.{State, at_zero, expr, turns, block}
 use Rattle.tapa_syntax.specs.LeafKinds.{Kinds}
-use Rattle.kahn_model.specs.Job.{Tick, Mark, Behavior, OutOfTurns, Act, Local, ticks, mark}
+use Rattle.kahn_model.specs.Behavior.{Tick, Mark, Behavior, OutOfTurns, Act, Local, ticks, mark}
 
 abbrev pub row_at : Option (Vec Token Global) → List Token
 row_at None = []

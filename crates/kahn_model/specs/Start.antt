@@ -12,7 +12,7 @@ use Rattle.tapa_syntax.specs.declared.program.Program.{Program}
 use Rattle.tapa_syntax.specs.declared.program.Scalar.{Scalar}
 use Rattle.kahn_model.specs.Network.{Network}
 use Rattle.kahn_model.specs.Trace.{State}
-use Rattle.kahn_model.specs.Whole.{net_of}
+use Rattle.kahn_model.specs.ProgramNetwork.{network_with}
 
 -- a value of the first kind, converted through these kinds in order
 abbrev pub through : Kind → List Kind → ℕ → ℕ
@@ -53,4 +53,4 @@ first_state program scalars memories i = instance_state program scalars memories
 
 -- the network of a program on an input
 unfoldable pub network_of : Program → List ℕ → List (List ℕ) → Network
-network_of program scalars memories = net_of program (first_state program scalars memories)
+network_of program scalars memories = network_with program (first_state program scalars memories)

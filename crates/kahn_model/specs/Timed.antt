@@ -1,6 +1,6 @@
 -- Counts by clock cycles: when each instance makes its ticks over channels with latency.
 use Rattle.std.specs.Prelude.{◌≡◌, ℕ, zero, suc, ◌-◌, ◌*◌, ◌≤◌, List, [], ◌∷◌, length, get_or, Bool, true, false, ◌&&◌, not, nat_lt, if◌then◌else◌, Option, Some, None}
-use Rattle.kahn_model.specs.Job.{Local, Put, Load, Store, Tick, Did, Take, See, End}
+use Rattle.kahn_model.specs.Behavior.{Local, Put, Load, Store, Tick, Did, Take, See, End}
 use Rattle.kahn_model.specs.Network.{Network}
 use Rattle.kahn_model.specs.Counts.{written, taken, next, zeros}
 

@@ -1,7 +1,6 @@
 -- The job of a leaf body: a recursion on its statements.
-use Rattle.std.specs.Prelude.{ℕ, zero, suc, ◌+◌, ◌-◌, ◌*◌, ◌%◌, ◌^◌, List, [], ◌∷◌, length, replicate, ◌==◌, nat_lt, if◌then◌else◌, slice_index, slice_index_or, slice_set}
+use Rattle.std.specs.Prelude.{ℕ, zero, suc, ◌-◌, ◌*◌, ◌^◌, List, [], ◌∷◌, length, replicate, slice_index, slice_index_or, slice_set}
 use Rattle.tapa_base.specs.declared.token.Token.TheVariants.{Datum, Eot as EotToken}
-use Rattle.tapa_base.specs.declared.kind.Kind.{Kind}
 use Rattle.tapa_base.specs.Kinds.{bits_of, converted}
 use Rattle.tapa_base.specs.Operators.{applied}
 use Rattle.tapa_syntax.specs.declared.program.Expr.{Expr}
@@ -9,7 +8,7 @@ use Rattle.tapa_syntax.specs.declared.program.Expr.TheVariants.{Lit, Var, Cell',
 use Rattle.tapa_syntax.specs.declared.program.Stmt.{Stmt, Row_of-Stmt, end_of-Stmt, more_of-Stmt}
 use Rattle.tapa_syntax.specs.declared.program.Stmt.TheVariants.{Set, SetCell, SetCellBy, Store as StoreCell, StoreBy, ReadVar, ReadCell, ReadStore, Write, Open as OpenIt, Close, Discard, Clear, If', Loop', Break, Continue}
 use Rattle.tapa_syntax.specs.LeafKinds.{Kinds}
-use Rattle.kahn_model.specs.Job.{Action, Local, Put, Load, Store, Read as ByRead, Peek as ByPeek, TestEot, Open as ByOpen, Behavior, Finished, OutOfTurns, Act, Await}
+use Rattle.kahn_model.specs.Behavior.{Action, Local, Put, Load, Store, Read as ByRead, Peek as ByPeek, TestEot, Open as ByOpen, Behavior, Finished, OutOfTurns, Act, Await}
 
 -- what a job keeps: its variables, its arrays and the cells of its memories
 pub record State : Type 0 where

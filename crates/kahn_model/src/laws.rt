@@ -1,13 +1,16 @@
 // The laws of rounds and counts.
 
-ghost use Rattle.std.specs.Prelude.{ℕ, suc, ◌≡◌, ◌<◌, ◌≤◌, ◌+◌, ◌*◌, ◌⊎◌, Bool, List, length, Some, slice_get};
-ghost use Rattle.kahn_model.specs.Job.{Tick, ticks};
+ghost use Rattle.std.specs.Prelude.{ℕ, suc, ◌≡◌, ◌<◌, ◌≤◌, ◌+◌, ◌*◌, ◌⊎◌, Bool, List, length, Some, slice_get, All};
+ghost use Rattle.kahn_model.specs.Behavior.{Tick, ticks};
 ghost use Rattle.kahn_model.specs.Network.{Network, IsNetwork, stream, round};
 ghost use Rattle.kahn_model.specs.Counts.{IsReachable, IsFounded, IsEnding, IsKahnPrefix, written, ticks_made, next, HasToken, IsSupplied, HasEnded, IsKahnStream, total, round_of};
 ghost use Rattle.kahn_model.specs.Outcome.{WaitsToWrite, WaitsToRead, HasBadToken, IsGreatest};
 ghost use Rattle.kahn_model.specs.Timed.{Clock, IsClock, count_at};
 ghost use Rattle.kahn_model.specs.Trace.{State};
-ghost use Rattle.kahn_model.specs.Whole.{net_of, IsWired};
+ghost use Rattle.kahn_model.specs.ProgramNetwork.{network_with, IsWired};
+ghost use Rattle.kahn_model.specs.Start.{network_of};
+ghost use Rattle.kahn_model.specs.Fits.{IsTokenOf, KeepsKinds, TickFits, stream_kind, memory_kind, FitsInput};
+ghost use Rattle.tapa_syntax.specs.WellFormed.{IsWellFormed};
 ghost use Rattle.tapa_syntax.specs.declared.program.Program.{Program};
 ghost use Rattle.kahn_model.specs.Prefix.{IsPrefixOf};
 
@@ -40,8 +43,23 @@ pub fn law_next_in_time()
 {}
 
 /// The laws hold for the network of every program whose streams each have their two ends.
+pub fn law_wired_network()
+    ensures { (program : Program) → IsWired program → (first : ℕ → State) → IsNetwork (network_with program first) }
+{}
+
+/// Every well-formed program is such a program, so the laws hold for its network on every input.
 pub fn law_program_network()
-    ensures { (program : Program) → IsWired program → (first : ℕ → State) → IsNetwork (net_of program first) }
+    ensures wired { (program : Program) → IsWellFormed program → IsWired program }
+    ensures network { (program : Program) → IsWellFormed program → (scalars : List ℕ) (memories : List (List ℕ)) → IsNetwork (network_of program scalars memories) }
+{}
+
+/// In the network of a well-formed program on an input that fits it, every token is one of its stream's kind, and what
+/// a task stores is a value of its memory's kind.
+pub fn law_tokens_fit()
+    ensures behaviors { (program : Program) → IsWellFormed program → (scalars : List ℕ) (memories : List (List ℕ)) → FitsInput program scalars memories → (i n : ℕ) → KeepsKinds (stream_kind program) (memory_kind program i) ((network_of program scalars memories).job i n) }
+    ensures rounds { (program : Program) → IsWellFormed program → (scalars : List ℕ) (memories : List (List ℕ)) → FitsInput program scalars memories → (n s : ℕ) → All (IsTokenOf (stream_kind program s)) (stream (network_of program scalars memories) n s) }
+    ensures written { (program : Program) → IsWellFormed program → (scalars : List ℕ) (memories : List (List ℕ)) → FitsInput program scalars memories → (k : ℕ → ℕ) (s : ℕ) → All (IsTokenOf (stream_kind program s)) (written (network_of program scalars memories) k s) }
+    ensures made { (program : Program) → IsWellFormed program → (scalars : List ℕ) (memories : List (List ℕ)) → FitsInput program scalars memories → (k : ℕ → ℕ) (i : ℕ) → All (TickFits (stream_kind program) (memory_kind program i)) (ticks_made (network_of program scalars memories) k i) }
 {}
 
 /// The counts of a clock are counts that streams without limit reach, so what they have written is a prefix of the

@@ -2,6 +2,6 @@
 #![tactic(auto)]
 
 pub mod laws;
-mod rows;
 pub mod slow;
+mod tests;
 pub mod tick;

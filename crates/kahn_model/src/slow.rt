@@ -2,7 +2,7 @@
 
 ghost use Rattle.std.specs.Prelude.{◌≡◌, ◌<◌, IsTrue, ◌∷◌, ◌++◌, [], length, replicate, slice_set, IfOk, IfSome, MatchOption};
 ghost use Rattle.kahn_model.specs.declared.tick.StreamOperation.{StreamOperation};
-ghost use Rattle.kahn_model.specs.Job.{Await, WrongToken, Answer as GotToken, judge_token, takes, tick_of, ticks, mark};
+ghost use Rattle.kahn_model.specs.Behavior.{Await, WrongToken, Answer as GotToken, judge_token, takes, tick_of, ticks, mark};
 ghost use Rattle.tapa_base.specs.Kinds.{values_of};
 ghost use Rattle.tapa_base.specs.Operators.{CanApply, applied};
 ghost use Rattle.kahn_model.specs.Slow.{feed, state_of, GivesValue, GivesFlow, GivesTurn, turn_of, loop_of, turn_left, whole};

@@ -1,5 +1,5 @@
 use Rattle.std.proofs.Common.{◌≡◌, ◌-◌, length, drop}
-use Rattle.kahn_model.specs.Job.{Behavior}
+use Rattle.kahn_model.specs.Behavior.{Behavior}
 use Rattle.kahn_model.specs.Slow.{feed, state_of, GoesOn, loop_of}
 use Rattle.kahn_model.specs.Trace.{State, statements}
 use Rattle.tapa_syntax.specs.LeafKinds.{Kinds}

@@ -1,10 +1,10 @@
 -- The network of a program on an input.
-use Rattle.std.specs.Prelude.{◌≡◌, ℕ, List, [], ◌∷◌, length, Bool, true, false, Option, Some, None, slice_get, slice_index, slice_index_or, option_map, unwrap_or}
+use Rattle.std.specs.Prelude.{◌≡◌, ℕ, List, length, true, false, Option, Some, None, slice_get, slice_index}
 use Rattle.tapa_syntax.specs.declared.program.Leaf.{Leaf}
 use Rattle.tapa_syntax.specs.declared.program.Instance.{Instance}
 use Rattle.tapa_syntax.specs.declared.program.Stream.{Stream}
 use Rattle.tapa_syntax.specs.declared.program.Program.{Program}
-use Rattle.kahn_model.specs.Job.{Behavior, Finished}
+use Rattle.kahn_model.specs.Behavior.{Behavior, Finished}
 use Rattle.kahn_model.specs.Trace.{State, job_of, at_streams}
 use Rattle.tapa_syntax.specs.LeafKinds.{kinds_of, writes_of}
 use Rattle.tapa_syntax.specs.StreamUse.{UsesBody}
@@ -28,8 +28,8 @@ end_of f None = 0
 end_of f (Some stream) = f stream
 
 -- the network of a program, whose instances begin in these states
-abbrev pub net_of : Program → (ℕ → State) → Network
-net_of program first = record {
+abbrev pub network_with : Program → (ℕ → State) → Network
+network_with program first = record {
   size = length program.instances.items;
   job = λ i n. instance_job program.bodies.items (slice_get program.instances.items i) (first i) n;
   producer = λ s. end_of (λ (r : Stream). r.producer) (slice_get program.streams.items s);
@@ -46,4 +46,4 @@ pub record IsBound (producer consumer : ℕ → ℕ) (i : ℕ) (instance : Insta
 -- what the laws ask of a program
 pub record IsWired (program : Program) : Type 0 where
   pub bound :
-      (first : ℕ → State) (i : ℕ) (instance : Instance) (leaf : Leaf) → slice_get program.instances.items i ≡ Some instance → slice_get program.bodies.items instance.body ≡ Some leaf → IsBound (net_of program first).producer (net_of program first).consumer i instance leaf
+      (first : ℕ → State) (i : ℕ) (instance : Instance) (leaf : Leaf) → slice_get program.instances.items i ≡ Some instance → slice_get program.bodies.items instance.body ≡ Some leaf → IsBound (network_with program first).producer (network_with program first).consumer i instance leaf
