@@ -2,11 +2,15 @@
 #![tactic(auto)]
 
 mod refusal;
+mod shown;
 mod source;
 mod status;
+mod waits;
 mod words;
 
 pub use refusal::{Refusal, tell, tell_stopped};
+pub use shown::show;
 pub use source::SourceCode;
 pub use status::Status;
+pub use waits::wait_lines;
 pub use words::{Command, read_words};

@@ -1,0 +1,75 @@
+-- New tables.
+use Rattle.std.proofs.Common.{◌≡◌, ℕ, zero, suc, ◌+◌, ◌<◌, ◌≤◌, List, [], ◌∷◌, ◌++◌, length, Option, Some, None, refl, sym, ap, ◌∙◌, subst, ⊎_elim, arith}
+use Rattle.std.specs.Prelude.{slice_get}
+use Rattle.std.specs.Prelude.{replicate, slice_index}
+use Rattle.std.proofs.Math.Path.{fun_ext}
+use Rattle.tapa_base.specs.declared.token.Token.{Token}
+use Rattle.kahn_model.specs.declared.tick.Tick.{Tick}
+use Rattle.tapa_syntax.specs.declared.program.Program.{Program}
+use Rattle.kahn_model.specs.Behavior.{Behavior}
+use Rattle.kahn_model.specs.Network.{Network}
+use Rattle.kahn_model.specs.Counts.{total, written, taken, zeros, IsReachable}
+use Rattle.net_core.specs.declared.ports.Ports.{Ports}
+use Rattle.net_core.specs.declared.body.Pause.{Pause}
+use Rattle.net_core.specs.declared.input.Input.{Input}
+use Rattle.net_core.specs.Job.{Job}
+use Rattle.net_core.specs.Ports.{ends_in, carried_of}
+use Rattle.tapa_syntax.specs.WellFormed.{IsWellFormed}
+use Rattle.kahn_model.specs.Fits.{FitsInput}
+use Rattle.net_core.specs.Bindings.{IsConnected, ends_at, stream_at, producer_of, IsWriter}
+use Rattle.net_core.specs.Bounded.{scalars_of, memories_of, network_on, instance_job, IsNetworkOf, count_of, IsNetAt}
+
+-- what holds at each index of a list and of one more element
+pub get_push : {A X : Type 0} (f : Option A → X) (xs : List A) (y : A) (P : ℕ → X → Type 0) → ((i : ℕ) → i < length xs → P i (f (slice_get xs i))) → P (length xs) (f (Some y)) → (i : ℕ) → i < length xs + 1 → P i (f (slice_get (xs ++ y ∷ []) i))
+get_push f [] y P h g zero l = g
+get_push f [] y P h g (suc i) l = absurd (omega arith)
+get_push f (x ∷ xs) y P h g zero l = h zero (omega arith)
+get_push f (x ∷ xs) y P h g (suc i) l = get_push f xs y (λ n. P (suc n)) (λ n k. h (suc n) (omega arith)) g i (omega arith)
+
+pub get_push_all : {A X : Type 0} (f : Option A → X) (z : X) (xs : List A) (y : A) → ((i : ℕ) → f (slice_get xs i) ≡ z) → f (Some y) ≡ z → (i : ℕ) → f (slice_get (xs ++ y ∷ []) i) ≡ z
+get_push_all f z [] y h g zero = g
+get_push_all f z [] y h g (suc i) = h (suc i)
+get_push_all f z (x ∷ xs) y h g zero = h zero
+get_push_all f z (x ∷ xs) y h g (suc i) = get_push_all f z xs y (λ n. h (suc n)) g i
+
+pub zero_at : (n i : ℕ) → slice_index (replicate n 0) i ≡ 0
+zero_at zero i = refl
+zero_at (suc n) zero = refl
+zero_at (suc n) (suc i) = zero_at n i
+
+pub zero_count : (n : ℕ) → zeros ≡ count_of (replicate n 0)
+zero_count n = fun_ext (λ i. sym (zero_at n i))
+
+pub zero_total : (m : ℕ) → total m zeros ≡ 0
+zero_total zero = refl
+zero_total (suc m) = let a = zero_total m in omega arith
+
+pub writer_push : (program : Program) (xs zs : List ℕ) (y : ℕ) → zs ≡ xs ++ y ∷ [] → ((s : ℕ) → s < length xs → IsWriter program s (producer_of program s) (slice_index xs s)) → IsWriter program (length xs) (producer_of program (length xs)) y → (s : ℕ) → s < length xs + 1 → IsWriter program s (producer_of program s) (slice_index zs s)
+writer_push program xs zs y e h g s l = subst (λ v. IsWriter program s (producer_of program s) (slice_index v s)) (sym e) (go xs (λ s p. IsWriter program s (producer_of program s) p) h g s l)
+  where
+    go : (xs : List ℕ) (P : ℕ → ℕ → Type 0) → ((s : ℕ) → s < length xs → P s (slice_index xs s)) → P (length xs) y → (s : ℕ) → s < length xs + 1 → P s (slice_index (xs ++ y ∷ []) s)
+    go [] P h g zero l = g
+    go [] P h g (suc s) l = absurd (omega arith)
+    go (x ∷ xs) P h g zero l = h zero (omega arith)
+    go (x ∷ xs) P h g (suc s) l = go xs (λ n. P (suc n)) (λ n k. h (suc n) (omega arith)) g s (omega arith)
+
+pub first_net : {B : Type 0} (Stands : B → Job → List Tick → Type 0) (program : Program) (input : Input) → IsConnected program → IsNetworkOf program input → IsWellFormed program → FitsInput program (scalars_of input) (memories_of input) → (bodies : List B) (ports : List Ports) (writers offered taken_list counts : List ℕ) (pauses : List (Option Pause)) → length bodies ≡ length program.instances.items → length ports ≡ length program.instances.items → length counts ≡ length program.instances.items → length pauses ≡ length program.instances.items → length writers ≡ length program.streams.items → length offered ≡ length program.streams.items → length taken_list ≡ length program.streams.items → ((i : ℕ) (b : B) → slice_get bodies i ≡ Some b → Stands b (instance_job program input i) []) → ((i : ℕ) → i < length program.instances.items → ends_in ports i ≡ ends_at program i) → ((i p : ℕ) → carried_of ports i p ≡ []) → ((s : ℕ) → s < length program.streams.items → IsWriter program s (producer_of program s) (slice_index writers s)) → ((s : ℕ) → slice_index taken_list s ≡ 0) → zeros ≡ count_of counts → IsNetAt Stands program input bodies ports writers offered taken_list counts pauses
+first_net Stands program input connected network well fits bodies ports writers offered taken_list counts pauses lb lp lc lu lw lo lt first ends none wr tz z = record {
+  connected = connected;
+  network = network;
+  well_formed = well;
+  fits = fits;
+  reachable = subst (IsReachable (network_on program input)) z (record { steps = []; allowed = tt; is_after = λ i. refl });
+  bodies_len = lb;
+  ports_len = lp;
+  counts_len = lc;
+  pauses_len = lu;
+  writers_len = lw;
+  offered_len = lo;
+  taken_len = lt;
+  standing = λ i b e. record { ticks = []; stands = first i b e; count = ap (λ m. m i) z; tests = 0; runs = tt };
+  ends = ends;
+  carries = λ i p l d. none i p ∙ ap (λ m. written (network_on program input) m (stream_at program i p)) z;
+  took = λ s l. tz s ∙ ap (λ m. length (taken (network_on program input) m s)) z;
+  writer_is = wr;
+}

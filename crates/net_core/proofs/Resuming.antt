@@ -1,0 +1,289 @@
+-- A call of one instance of a net.
+use Rattle.std.proofs.Common.{◌≡◌, ℕ, zero, suc, ◌+◌, ◌-◌, ◌<◌, ◌≤◌, ◌^◌, List, [], ◌∷◌, ◌++◌, length, map, drop, Bool, true, false, Option, Some, None, refl, sym, ap, ◌∙◌, subst, ⊎_elim, arith, length-append, length-drop}
+use Rattle.std.specs.Prelude.{slice_get, slice_index, slice_set, flat_map, ◌==◌, if◌then◌else◌}
+use Rattle.std.proofs.Math.Path.{fun_ext}
+use Rattle.std.proofs.lemmas.Bool.{cases_eq, cases_lt}
+use Rattle.std.proofs.lemmas.Bool.Decides.{nat_tests}
+use Rattle.std.proofs.lemmas.List.{length-set, get_or-set_same, get_or-set_other}
+use Rattle.std.proofs.lemmas.Option.{slice_get_within}
+use Rattle.tapa_base.specs.declared.token.Token.{Token}
+use Rattle.kahn_model.specs.declared.tick.Tick.{Tick}
+use Rattle.tapa_syntax.specs.declared.program.Program.{Program}
+use Rattle.kahn_model.specs.Prefix.{IsPrefixOf}
+use Rattle.kahn_model.specs.Behavior.{Behavior}
+use Rattle.kahn_model.specs.Network.{Network, IsNetwork, put_on, take_from}
+use Rattle.kahn_model.specs.Counts.{written, taken, IsAllowed, IsReachable, IsFounded}
+use Rattle.kahn_model.proofs.Order.{prefix_length}
+use Rattle.kahn_model.proofs.Reach.{reach_founded}
+use Rattle.net_core.specs.declared.ports.Ports.{Ports}
+use Rattle.net_core.specs.declared.body.Pause.{Pause}
+use Rattle.net_core.specs.declared.body.Pause.TheVariants.{Fuel}
+use Rattle.net_core.specs.Ports.{waiting, carried, room_at, ends_of, Moved, ends_by, carried_by, waiting_by, room_by, ends_in, carried_of, waiting_of, room_of}
+use Rattle.net_core.specs.declared.input.Input.{Input}
+use Rattle.net_core.specs.Job.{Job}
+use Rattle.net_core.specs.Resume.{CanResume, Agrees, Resumed}
+use Rattle.net_core.specs.Waits.{HoldsPause}
+use Rattle.net_core.specs.Placement.{tick_at, IsPlaced, IsStanding, PortsAre}
+use Rattle.net_core.specs.Bindings.{IsConnected, IsReader, arity, arity_in, ends_at, stream_at, stream_in, Reads, Writes, producer_of, consumer_of, depth_of}
+use Rattle.net_core.specs.Bounded.{network_on, instance_job, IsNetworkOf, IsBodyAt, count_of, IsNetAt}
+use Rattle.net_core.specs.Load.{HasPorts, AreKept, AreLoaded, list_at, queue_at}
+use Rattle.net_core.proofs.Moves.{get_set_same, get_set_other, test_true, test_false}
+use Rattle.net_core.proofs.Chunk.{plus, plus_same, plus_other, Chunk}
+use Rattle.net_core.proofs.Stepped.{plus_above, taken_begins, standing_other, holds_other, agrees, stepped, standing, carried_after, taken_after, written_else, taken_else, took_count, holds, goes_on}
+
+pub has_item : {A : Type 0} (xs : List A) (i : ℕ) → i < length xs → (x : A) × (slice_get xs i ≡ Some x)
+has_item [] i h = absurd (omega arith)
+has_item (x ∷ xs) zero h = (x, refl)
+has_item (x ∷ xs) (suc i) h = has_item xs i (omega arith)
+
+pub in_streams : (program : Program) → IsConnected program → (i p : ℕ) → i < length program.instances.items → p < arity program i → stream_at program i p < length program.streams.items
+in_streams program connected i p inside l =
+    let x = has_item program.instances.items i inside in
+    let b = connected.built i x.0 x.1 in
+    let l' : p < length x.0.streams.items = subst (λ o. p < arity_in o) x.1 l in
+    subst (λ o. stream_in o p < length program.streams.items) (sym x.1) (b.streams p l')
+
+pub producer_in : (program : Program) → IsConnected program → (s : ℕ) → s < length program.streams.items → producer_of program s < length program.instances.items
+producer_in program connected s l =
+    let r = has_item program.streams.items s l in
+    let k = connected.linked s r.0 r.1 in
+    subst (λ n. n < length program.instances.items) (sym k.producer) k.producer_in
+
+pub consumer_in : (program : Program) → IsConnected program → (s : ℕ) → s < length program.streams.items → consumer_of program s < length program.instances.items
+consumer_in program connected s l =
+    let r = has_item program.streams.items s l in
+    let k = connected.linked s r.0 r.1 in
+    subst (λ n. n < length program.instances.items) (sym k.consumer) k.consumer_in
+
+pub count_set : (counts : List ℕ) (i v m : ℕ) → i < length counts → v ≡ slice_index counts i + m → (j : ℕ) → count_of (slice_set counts i v) j ≡ (if j == i then count_of counts j + m else count_of counts j)
+count_set counts i v m l e j =
+    ⊎_elim
+    (λ (q : j ≡ i). let a = get_or-set_same counts i v 0 l in let b = test_true j i q in
+    subst (λ z. count_of (slice_set counts i v) z ≡ (if z == i then count_of counts z + m else count_of counts z)) (sym q)
+    (a ∙ e ∙ ap (λ (t : Bool). if t then count_of counts i + m else count_of counts i) (sym (test_true i i refl))))
+    (λ (d : j ≡ i → ⊥). get_or-set_other counts i j v 0 d ∙ ap (λ (t : Bool). if t then count_of counts j + m else count_of counts j) (sym (test_false j i d)))
+    (cases_eq j i)
+
+module _ {B : Type 0} (Stands : B → Job → List Tick → Type 0) (program : Program) (input : Input) (bodies : List B) (ports : List Ports) (writers offered taken_list counts : List ℕ) (pauses : List (Option Pause)) (n : IsNetAt Stands program input bodies ports writers offered taken_list counts pauses) where
+  abbrev pub connected : IsConnected program
+  connected = n.connected
+
+  abbrev pub net : Network
+  net = network_on program input
+
+  abbrev pub is_network : IsNetwork (network_on program input)
+  is_network = n.network.is_network
+
+  abbrev pub job_at : ℕ → ℕ → Behavior
+  job_at i = (instance_job program input i).behavior
+
+  founded : IsFounded net (count_of counts)
+  founded = reach_founded net (count_of counts) n.reachable
+
+  pub list_is : (s : ℕ) → s < length program.streams.items → list_at program ports writers s ≡ written net (count_of counts) s
+  list_is s l =
+      let w = n.writer_is s l in
+      n.carries (producer_of program s) (slice_index writers s) (producer_in program connected s l) w.0
+      ∙ ap (written net (count_of counts)) w.1
+
+  pub has_ports : HasPorts program ports writers offered taken_list
+  has_ports = record {
+    ports_len = n.ports_len;
+    writers_len = n.writers_len;
+    offered_len = n.offered_len;
+    taken_len = n.taken_len;
+    ends = n.ends;
+    writer_is = n.writer_is;
+    enough = λ s l.
+        let a = n.took s l in
+        let b = ap length (list_is s l) in
+        let c = prefix_length _ _ (taken_begins net is_network (count_of counts) founded s) in
+        omega arith;
+  }
+
+  module _ (i : ℕ) (inside : i < length program.instances.items) (ports' : List Ports) (offered' : List ℕ) (kept : AreKept ports offered ports' offered') (loaded : AreLoaded program (arity program i) i ports writers taken_list ports' offered') (x : Ports) (ex : slice_get ports' i ≡ Some x) where
+    pub ports_are : PortsAre net (count_of counts) x (stream_at program i) (Reads program i) (Writes program i)
+    ports_are = record {
+      waits = λ p d.
+          let s = stream_at program i p in
+          let l = in_streams program connected i p inside d.0 in
+          ap (λ o. waiting_by o p) (sym ex) ∙ loaded.waits p d.0 d
+          ∙ ap (λ m. drop m (list_at program ports writers s)) (n.took s l)
+          ∙ ap (drop (length (taken net (count_of counts) s))) (list_is s l);
+      room = λ p d.
+          let s = stream_at program i p in
+          let l = in_streams program connected i p inside d.0 in
+          ap (λ o. room_by o p) (sym ex) ∙ loaded.rooms p d.0 d
+          ∙ ap (λ m. m - (length (carried_of ports i p) - slice_index taken_list s)) (sym (n.network.depth s))
+          ∙ ap (λ m. net.depth s - (m - slice_index taken_list s)) (ap length (n.carries i p inside d))
+          ∙ ap (λ m. net.depth s - (length (written net (count_of counts) s) - m)) (n.took s l);
+    }
+
+    module _ (b : B) (eb : slice_get bodies i ≡ Some b) where
+      abbrev pub st : IsBodyAt (Stands b) program input counts i
+      st = n.standing i b eb
+
+      pub ends_are : ends_of x ≡ (instance_job program input i).ends
+      ends_are = ap ends_by (sym ex) ∙ kept.ends i ∙ n.ends i inside ∙ sym (n.network.ends i)
+
+      pub agrees_at : Agrees (instance_job program input i).behavior st.ticks x
+      agrees_at = agrees net is_network (count_of counts) n.reachable i (job_at i) (stream_at program i) (Reads program i) (Writes program i) (n.network.placed i inside) (Stands b (instance_job program input i)) st x ports_are
+
+      pub can_resume : (fuel : ℕ) → count_of counts i + fuel < 2 ^ 64 → CanResume (Stands b) x fuel
+      can_resume fuel l = record {
+        job = instance_job program input i;
+        ticks = st.ticks;
+        stands = st.stands;
+        ends = ends_are;
+        agrees = agrees_at;
+        fits = let c = st.count in omega arith;
+      }
+
+      -- after the call
+      module _ (b' : B) (fuel : ℕ) (pause : Pause) (y : Ports) (h : Resumed (Stands b' (instance_job program input i)) (instance_job program input i).behavior st.ticks x fuel pause y) where
+        abbrev k : ℕ → ℕ
+        k = count_of counts
+
+        abbrev f : ℕ → ℕ
+        f = stream_at program i
+
+        abbrev plug : IsPlaced net i (job_at i) f (Reads program i) (Writes program i)
+        plug = n.network.placed i inside
+
+        abbrev later : ℕ → ℕ
+        later = plus i (length h.made) k
+
+        chunk_is : Chunk net k i (map (tick_at f) h.made) later
+        chunk_is = stepped net is_network k n.reachable i (job_at i) f (Reads program i) (Writes program i) plug (Stands b (instance_job program input i)) st x ports_are (Stands b' (instance_job program input i)) fuel pause y h
+
+        other_same : (j : ℕ) → (j ≡ i → ⊥) → later j ≡ k j
+        other_same j d = plus_other i (length h.made) j k d
+
+        pub enough : (p : ℕ) → Reads program i p → length (waiting y p) ≤ slice_index offered' (f p)
+        enough p d =
+            let s = f p in
+            let l = in_streams program connected i p inside d.0 in
+            let a = loaded.offers p d.0 d in
+            let bl = ap length (list_is s l) in
+            let c = took_count net is_network k n.reachable i (job_at i) f (Reads program i) (Writes program i) plug (Stands b (instance_job program input i)) st x ports_are (Stands b' (instance_job program input i)) fuel pause y h p in
+            let w = ap length (ports_are.waits p d) in
+            let e = length-drop (length (taken net k s)) (written net k s) in
+            omega arith
+
+        took_here : (t' : List ℕ) (p : ℕ) → Reads program i p → slice_index t' (f p) ≡ slice_index offered' (f p) - length (waiting y p) → slice_index t' (f p) ≡ length (taken net later (f p))
+        took_here t' p d e =
+            let s = f p in
+            let l = in_streams program connected i p inside d.0 in
+            let a = loaded.offers p d.0 d in
+            let bl = ap length (list_is s l) in
+            let c = took_count net is_network k n.reachable i (job_at i) f (Reads program i) (Writes program i) plug (Stands b (instance_job program input i)) st x ports_are (Stands b' (instance_job program input i)) fuel pause y h p in
+            let w = ap length (ports_are.waits p d) in
+            let g = length-drop (length (taken net k s)) (written net k s) in
+            let u = ap length (taken_after net is_network k n.reachable i (job_at i) f (Reads program i) (Writes program i) plug (Stands b (instance_job program input i)) st x ports_are (Stands b' (instance_job program input i)) fuel pause y h p d) in
+            let v = length-append (taken net k s) (flat_map (take_from p) h.made) in
+            let z = prefix_length _ _ (taken_begins net is_network k founded s) in
+            omega arith
+
+        took_all : (t' : List ℕ) → ((p : ℕ) → Reads program i p → slice_index t' (f p) ≡ slice_index offered' (f p) - length (waiting y p)) → ((s : ℕ) → ((p : ℕ) → Reads program i p → f p ≡ s → ⊥) → slice_index t' s ≡ slice_index taken_list s) → (s : ℕ) → s < length program.streams.items → slice_index t' s ≡ length (taken net later s)
+        took_all t' tk to s l =
+            ⊎_elim
+            (λ (e : net.consumer s ≡ i).
+            let r = subst (λ z. (p : ℕ) × IsReader program s z p) (sym (n.network.consumer s) ∙ e) (connected.read_at s l) in
+            subst (λ z. slice_index t' z ≡ length (taken net later z)) r.1.1 (took_here t' r.0 r.1.0 (tk r.0 r.1.0)))
+            (λ (d : net.consumer s ≡ i → ⊥).
+            let none : (p : ℕ) → Reads program i p → f p ≡ s → ⊥ = λ p w q. d (subst (λ z. net.consumer z ≡ i) q (plug.reader p w)) in
+            to s none ∙ n.took s l
+            ∙ sym (ap length (taken_else net is_network k n.reachable i (job_at i) f (Reads program i) (Writes program i) plug (Stands b (instance_job program input i)) st x ports_are (Stands b' (instance_job program input i)) fuel pause y h s none)))
+            (cases_eq (net.consumer s) i)
+
+        standing_all : (j : ℕ) (c : B) → slice_get (slice_set bodies i b') j ≡ Some c → IsStanding (Stands c (instance_job program input j)) net later j (job_at j) (stream_at program j)
+        standing_all j c e =
+            ⊎_elim
+            (λ (q : i ≡ j).
+            let e' : slice_get (slice_set bodies i b') i ≡ Some c = subst (λ z. slice_get (slice_set bodies i b') z ≡ Some c) (sym q) e in
+            let g = get_set_same bodies i b' (slice_get_within bodies i b eb) in
+            let same : b' ≡ c = cc in
+            subst (λ z. IsStanding (Stands c (instance_job program input z)) net later z (job_at z) (stream_at program z)) q
+            (subst (λ z. IsStanding (Stands z (instance_job program input i)) net later i (job_at i) f) same
+            (standing net is_network k n.reachable i (job_at i) f (Reads program i) (Writes program i) plug (Stands b (instance_job program input i)) st x ports_are (Stands b' (instance_job program input i)) fuel pause y h)))
+            (λ (d : i ≡ j → ⊥).
+            standing_other net is_network k later i (map (tick_at f) h.made) chunk_is (plus_above i (length h.made) k) other_same (Stands c (instance_job program input j)) j (job_at j) (stream_at program j) (λ q. d (sym q))
+            (n.standing j c (sym (get_set_other bodies i j b' d) ∙ e)))
+            (cases_eq i j)
+
+        there : i < length ports'
+        there = slice_get_within ports' i x ex
+
+        ends_all : (j : ℕ) → j < length program.instances.items → ends_in (slice_set ports' i y) j ≡ ends_at program j
+        ends_all j l =
+            ⊎_elim
+            (λ (q : i ≡ j). subst (λ z. ends_in (slice_set ports' i y) z ≡ ends_at program z) q (ap ends_by (get_set_same ports' i y there) ∙ h.moved.ends ∙ ap ends_by (sym ex) ∙ kept.ends i ∙ n.ends i inside))
+            (λ (d : i ≡ j → ⊥). ap ends_by (get_set_other ports' i j y d) ∙ kept.ends j ∙ n.ends j l)
+            (cases_eq i j)
+
+        carries_all : (j p : ℕ) → j < length program.instances.items → Writes program j p → carried_of (slice_set ports' i y) j p ≡ written net later (stream_at program j p)
+        carries_all j p l d =
+            ⊎_elim
+            (λ (q : i ≡ j). subst (λ z. Writes program z p → carried_of (slice_set ports' i y) z p ≡ written net later (stream_at program z p)) q
+            (λ d'.
+            ap (λ o. carried_by o p) (get_set_same ports' i y there) ∙ h.moved.puts p
+            ∙ ap (λ z. z ++ flat_map (put_on p) h.made) (ap (λ o. carried_by o p) (sym ex) ∙ kept.carries i p ∙ n.carries i p inside d')
+            ∙ sym (carried_after net is_network k n.reachable i (job_at i) f (Reads program i) (Writes program i) plug (Stands b (instance_job program input i)) st x ports_are (Stands b' (instance_job program input i)) fuel pause y h p d')) d)
+            (λ (w : i ≡ j → ⊥).
+            let s = stream_at program j p in
+            let own = (n.network.placed j l).writer p d in
+            ap (λ o. carried_by o p) (get_set_other ports' i j y w) ∙ kept.carries j p ∙ n.carries j p l d
+            ∙ ap (flat_map (put_on s)) (sym (chunk_is.other (net.producer s) (λ e. w (sym e ∙ own)))))
+            (cases_eq i j)
+
+        module _ (t' c' : List ℕ) (len' : length t' ≡ length taken_list) (clen' : length c' ≡ length counts) (ec : (j : ℕ) → count_of c' j ≡ (if j == i then count_of counts j + length h.made else count_of counts j)) (tk : (p : ℕ) → Reads program i p → slice_index t' (f p) ≡ slice_index offered' (f p) - length (waiting y p)) (to : (s : ℕ) → ((p : ℕ) → Reads program i p → f p ≡ s → ⊥) → slice_index t' s ≡ slice_index taken_list s) (pauses' : List (Option Pause)) (plen' : length pauses' ≡ length pauses) where
+          same_count : later ≡ count_of c'
+          same_count = fun_ext (λ j. sym (ec j))
+
+          pub net_is : IsNetAt Stands program input (slice_set bodies i b') (slice_set ports' i y) writers offered' t' c' pauses'
+          net_is = record {
+            connected = n.connected;
+            network = n.network;
+            well_formed = n.well_formed;
+            fits = n.fits;
+            reachable = subst (IsReachable net) same_count chunk_is.reachable;
+            bodies_len = length-set bodies i b' ∙ n.bodies_len;
+            ports_len = length-set ports' i y ∙ kept.len ∙ n.ports_len;
+            counts_len = clen' ∙ n.counts_len;
+            pauses_len = plen' ∙ n.pauses_len;
+            writers_len = n.writers_len;
+            offered_len = kept.offered_len ∙ n.offered_len;
+            taken_len = len' ∙ n.taken_len;
+            standing = λ j c e. subst (λ m. IsStanding (Stands c (instance_job program input j)) net m j (job_at j) (stream_at program j)) same_count (standing_all j c e);
+            ends = ends_all;
+            carries = λ j p l d. carries_all j p l d ∙ ap (λ m. written net m (stream_at program j p)) same_count;
+            took = λ s l. took_all t' tk to s l ∙ ap (λ m. length (taken net m s)) same_count;
+            writer_is = n.writer_is;
+          }
+
+          pub spent : pause ≡ Fuel → (length h.made ≡ fuel) × IsAllowed net (count_of c') i
+          spent e =
+              let g = goes_on net is_network k n.reachable i (job_at i) f (Reads program i) (Writes program i) plug (Stands b (instance_job program input i)) st x ports_are (Stands b' (instance_job program input i)) fuel pause y h e in
+              (g.0, subst (λ m. IsAllowed net m i) same_count g.1)
+
+          pub written_stays : (s : ℕ) → ((p : ℕ) → Writes program i p → f p ≡ s → ⊥) → written net (count_of c') s ≡ written net k s
+          written_stays s d =
+              ap (λ m. written net m s) (sym same_count)
+              ∙ written_else net is_network k n.reachable i (job_at i) f (Reads program i) (Writes program i) plug (Stands b (instance_job program input i)) st x ports_are (Stands b' (instance_job program input i)) fuel pause y h s d
+
+          pub taken_stays : (s : ℕ) → ((p : ℕ) → Reads program i p → f p ≡ s → ⊥) → taken net (count_of c') s ≡ taken net k s
+          taken_stays s d =
+              ap (λ m. taken net m s) (sym same_count)
+              ∙ taken_else net is_network k n.reachable i (job_at i) f (Reads program i) (Writes program i) plug (Stands b (instance_job program input i)) st x ports_are (Stands b' (instance_job program input i)) fuel pause y h s d
+
+          pub own_holds : (pause ≡ Fuel → ⊥) → ((p : ℕ) → Reads program i p → written net (count_of c') (f p) ≡ written net k (f p)) → ((p : ℕ) → Writes program i p → taken net (count_of c') (f p) ≡ taken net k (f p)) → HoldsPause net (count_of c') i f pause
+          own_holds u w v =
+              subst (λ m. HoldsPause net m i f pause) same_count
+              (holds net is_network k n.reachable i (job_at i) f (Reads program i) (Writes program i) plug (Stands b (instance_job program input i)) st x ports_are (Stands b' (instance_job program input i)) fuel pause y h u
+              (λ p d. ap (λ m. written net m (f p)) same_count ∙ w p d) (λ p d. ap (λ m. taken net m (f p)) same_count ∙ v p d))
+
+          pub others_hold : (j : ℕ) (z : Pause) → (j ≡ i → ⊥) → j < length program.instances.items → ((s : ℕ) → consumer_of program s ≡ j → written net (count_of c') s ≡ written net k s) → ((s : ℕ) → producer_of program s ≡ j → taken net (count_of c') s ≡ taken net k s) → (z ≡ Fuel → ⊥) → HoldsPause net k j (stream_at program j) z → HoldsPause net (count_of c') j (stream_at program j) z
+          others_hold j z d l w v u q =
+              subst (λ m. HoldsPause net m j (stream_at program j) z) same_count
+              (holds_other net is_network k later i (map (tick_at f) h.made) chunk_is (plus_above i (length h.made) k) other_same j (stream_at program j) z d (n.network.placed j l).inside founded
+              (λ s e. ap (λ m. written net m s) same_count ∙ w s (sym (n.network.consumer s) ∙ e)) (λ s e. ap (λ m. taken net m s) same_count ∙ v s (sym (n.network.producer s) ∙ e)) u q)

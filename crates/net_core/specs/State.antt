@@ -1,0 +1,48 @@
+-- What contracts say of a net, and what resuming one of its instances does.
+use Rattle.std.specs.Prelude.{◌≡◌, ℕ, ◌+◌, ◌<◌, ◌≤◌, ◌⊎◌, ◌==◌, if◌then◌else◌, List, length, Option, Some, None, slice_get, slice_index, slice_set}
+use Rattle.kahn_model.specs.declared.tick.Tick.{Tick}
+use Rattle.tapa_syntax.specs.declared.program.Program.{Program}
+use Rattle.kahn_model.specs.Network.{Network}
+use Rattle.kahn_model.specs.Counts.{written, taken, total, IsAllowed, IsReachable, IsEnding}
+use Rattle.net_core.specs.declared.body.Pause.{Pause}
+use Rattle.net_core.specs.declared.body.Pause.TheVariants.{Fuel}
+use Rattle.net_core.specs.declared.input.Input.{Input}
+use Rattle.net_core.specs.declared.net_state.NetState.{NetState}
+use Rattle.net_core.specs.Bindings.{stream_at, Reads, Writes, producer_of, consumer_of}
+use Rattle.net_core.specs.Bounded.{network_on, count_of}
+use Rattle.net_core.specs.Waits.{HoldsPause}
+
+-- the network of a net's program on its input
+abbrev pub network : NetState → Network
+network net = network_on net.program net.input
+
+-- the ticks that each instance has made
+abbrev pub count : NetState → ℕ → ℕ
+count net = count_of net.counts
+
+-- the ticks of all instances
+abbrev pub total_ticks : NetState → ℕ
+total_ticks net = total (network net).size (count net)
+
+-- what a net keeps: its program and its input
+abbrev pub given : NetState → Program × Input
+given net = (net.program, net.input)
+
+-- no instance was resumed
+pub record IsNew (net : NetState) : Type 0 where
+  pub none_made : (i : ℕ) → count net i ≡ 0
+  pub none_resumed : (i : ℕ) → i < length net.program.instances.items → slice_get net.pauses i ≡ Some None
+
+-- what a call with this fuel did to a net
+pub record HasResumed (old new : NetState) (i fuel : ℕ) (pause : Pause) (made : ℕ) : Type 0 where
+  pub given : given new ≡ given old
+  pub counts : (j : ℕ) → count new j ≡ (if j == i then count old j + made else count old j)
+  pub within : made ≤ fuel
+  pub fuel_spent : pause ≡ Fuel → (made ≡ fuel) × IsAllowed (network old) (count new) i
+  pub pauses : new.pauses ≡ slice_set old.pauses i (Some pause)
+  pub written_else : (s : ℕ) → ((p : ℕ) → Writes old.program i p → stream_at old.program i p ≡ s → ⊥) → written (network old) (count new) s ≡ written (network old) (count old) s
+  pub taken_else : (s : ℕ) → ((p : ℕ) → Reads old.program i p → stream_at old.program i p ≡ s → ⊥) → taken (network old) (count new) s ≡ taken (network old) (count old) s
+  pub own :
+      (pause ≡ Fuel → ⊥) → ((p : ℕ) → Reads old.program i p → written (network old) (count new) (stream_at old.program i p) ≡ written (network old) (count old) (stream_at old.program i p)) → ((p : ℕ) → Writes old.program i p → taken (network old) (count new) (stream_at old.program i p) ≡ taken (network old) (count old) (stream_at old.program i p)) → HoldsPause (network old) (count new) i (stream_at old.program i) pause
+  pub others :
+      (j : ℕ) (x : Pause) → (j ≡ i → ⊥) → j < length old.program.instances.items → ((s : ℕ) → consumer_of old.program s ≡ j → written (network old) (count new) s ≡ written (network old) (count old) s) → ((s : ℕ) → producer_of old.program s ≡ j → taken (network old) (count new) s ≡ taken (network old) (count old) s) → (x ≡ Fuel → ⊥) → HoldsPause (network old) (count old) j (stream_at old.program j) x → HoldsPause (network old) (count new) j (stream_at old.program j) x

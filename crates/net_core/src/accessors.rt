@@ -1,0 +1,36 @@
+ghost use Rattle.std.specs.Prelude.{◌≡◌, ◌<◌, length, slice_get, Some};
+ghost use Rattle.kahn_model.specs.Counts.{written};
+ghost use Rattle.net_core.specs.Bounded.{IsBodyAt};
+ghost use Rattle.net_core.specs.State.{network, count};
+
+use crate::bindings::producer;
+use crate::body::{Body, Pause};
+use crate::net::Net;
+use tapa_base::Token;
+
+impl<B: Body> Net<B> {
+    /// The tokens that were written to a stream, first to last.
+    pub fn carried(&self, stream: u32) -> &[Token]
+        requires { stream < length self.now.program.streams.items }
+        ensures { result.now ≡ written (network self.now) (count self.now) stream }
+    {
+        let j = producer(&self.program, stream as usize);
+        self.ports[j].carried(self.writers[stream as usize])
+    }
+
+    /// What the last resume of an instance answered, and `None` before its first.
+    pub fn pause(&self, instance: u32) -> Option<Pause>
+        requires { instance < length self.now.program.instances.items }
+        ensures { slice_get self.now.pauses instance ≡ Some result }
+    {
+        self.pauses[instance as usize]
+    }
+
+    /// The body of an instance, which has made its count of ticks.
+    pub fn body(&self, instance: u32) -> &B
+        requires { instance < length self.now.program.instances.items }
+        ensures { IsBodyAt (B.stands result.now) self.now.program self.now.input self.now.counts instance }
+    {
+        &self.bodies[instance as usize]
+    }
+}

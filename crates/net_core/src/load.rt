@@ -1,0 +1,210 @@
+// The ports of an instance, loaded from the streams before a call and read after it.
+
+ghost use Rattle.std.specs.Prelude.{ℕ, ◌≡◌, ◌<◌, ◌≤◌, ◌-◌, length, drop, slice_index, IfOk};
+ghost use Rattle.net_core.specs.Kinds.{AreTokensOf};
+ghost use Rattle.net_core.specs.Ports.{IsReloaded, ends_in, carried_of, waiting_of, room_of};
+ghost use Rattle.net_core.specs.Bindings.{IsConnected, arity, ends_at, stream_at, Reads, Writes, producer_of, consumer_of, depth_of};
+ghost use Rattle.net_core.specs.Load.{IsIn, AreBelow, AreKept, AreLoaded, IsLoaded, AreWoken, HasPorts, queue_at};
+
+use crate::ports::Ports;
+use crate::bindings::{arity, consumer, depth, producer, stream_at, writes_at};
+use tapa_syntax::Program;
+use tapa_base::{OutOfMemory, Token};
+use std::alloc::Global;
+
+// The tokens from an index on.
+fn copied(alloc: Global, list: &[Token], from: usize) -> Result<Vec<Token>, OutOfMemory>
+    requires { from ≤ length list.now }
+    ensures { IfOk result (λ v. v.items ≡ drop from list.now) }
+{
+    Ok(Vec::from_slice(alloc, &list[from..])?)
+}
+
+// Fills a port that reads.
+fn load_reader(
+    alloc: Global,
+    program: &Program,
+    all: &mut Vec<Ports>,
+    writers: &Vec<usize>,
+    offered: &mut Vec<usize>,
+    taken: &Vec<usize>,
+    i: usize,
+    p: usize,
+) -> Result<(), OutOfMemory>
+    requires connected { IsConnected program.now }
+    requires ports { HasPorts program.now all.old.items writers.now.items offered.old.items taken.now.items }
+    requires instance { i < length program.now.instances.items }
+    requires reads { Reads program.now i p }
+    ensures reloaded { IsReloaded all.old.items i p all.new.items }
+    ensures offered_len { length offered.new.items ≡ length offered.old.items }
+    ensures waits { IfOk result (λ _. waiting_of all.new.items i p ≡ queue_at program.now all.old.items writers.now.items taken.now.items (stream_at program.now i p)) }
+    ensures offered { IfOk result (λ _. slice_index offered.new.items (stream_at program.now i p) ≡ length (carried_of all.old.items (producer_of program.now (stream_at program.now i p)) (slice_index writers.now.items (stream_at program.now i p)))) }
+    ensures others { (s : ℕ) → (s ≡ stream_at program.now i p → ⊥) → slice_index offered.new.items s ≡ slice_index offered.old.items s }
+{
+    let s = stream_at(program, i, p);
+    let j = producer(program, s);
+    let q = writers[s];
+    let list = all[j].carried(q);
+    let as_many = list.len();
+    let tokens = copied(alloc, list, taken[s])?;
+    offered[s] = as_many;
+    all[i].offer(p, tokens);
+    Ok(())
+}
+
+// Makes room at a port that writes.
+fn load_writer(
+    program: &Program,
+    all: &mut Vec<Ports>,
+    taken: &Vec<usize>,
+    i: usize,
+    p: usize,
+) -> Result<(), OutOfMemory>
+    requires connected { IsConnected program.now }
+    requires ends { ends_in all.old.items i ≡ ends_at program.now i }
+    requires taken_len { length taken.now.items ≡ length program.now.streams.items }
+    requires ports_len { length all.old.items ≡ length program.now.instances.items }
+    requires instance { i < length program.now.instances.items }
+    requires writes { Writes program.now i p }
+    ensures reloaded { IsReloaded all.old.items i p all.new.items }
+    ensures room { IfOk result (λ _. room_of all.new.items i p ≡ depth_of program.now (stream_at program.now i p) - (length (carried_of all.old.items i p) - slice_index taken.now.items (stream_at program.now i p))) }
+{
+    let s = stream_at(program, i, p);
+    let len = all[i].carried(p).len();
+    let queue = len.saturating_sub(taken[s]);
+    let room = depth(program, s).saturating_sub(queue);
+    all[i].make_room(p, room)
+}
+
+// Fills one port.
+fn load_port(
+    alloc: Global,
+    program: &Program,
+    all: &mut Vec<Ports>,
+    writers: &Vec<usize>,
+    offered: &mut Vec<usize>,
+    taken: &Vec<usize>,
+    i: usize,
+    p: usize,
+) -> Result<(), OutOfMemory>
+    requires connected { IsConnected program.now }
+    requires ports { HasPorts program.now all.old.items writers.now.items offered.old.items taken.now.items }
+    requires instance { i < length program.now.instances.items }
+    requires position { p < arity program.now i }
+    ensures reloaded { IsReloaded all.old.items i p all.new.items }
+    ensures offered_len { length offered.new.items ≡ length offered.old.items }
+    ensures loaded { IfOk result (λ _. IsLoaded program.now i p all.old.items writers.now.items taken.now.items offered.old.items all.new.items offered.new.items) }
+{
+    if writes_at(program, i, p) {
+        load_writer(program, all, taken, i, p)
+    } else {
+        load_reader(alloc, program, all, writers, offered, taken, i, p)
+    }
+}
+
+/// Fills the ports of an instance.
+pub fn load_ports(
+    alloc: Global,
+    program: &Program,
+    all: &mut Vec<Ports>,
+    writers: &Vec<usize>,
+    offered: &mut Vec<usize>,
+    taken: &Vec<usize>,
+    i: usize,
+) -> Result<(), OutOfMemory>
+    requires connected { IsConnected program.now }
+    requires ports { HasPorts program.now all.old.items writers.now.items offered.old.items taken.now.items }
+    requires instance { i < length program.now.instances.items }
+    ensures kept { AreKept all.old.items offered.old.items all.new.items offered.new.items }
+    ensures loaded { IfOk result (λ _. AreLoaded program.now (arity program.now i) i all.old.items writers.now.items taken.now.items all.new.items offered.new.items) }
+{
+    for p in 0..arity(program, i) {
+        load_port(alloc, program, all, writers, offered, taken, i, p)?;
+    }
+    Ok(())
+}
+
+// Takes over what an instance took at one port.
+fn count_taken_at(
+    program: &Program,
+    all: &Vec<Ports>,
+    offered: &Vec<usize>,
+    taken: &mut Vec<usize>,
+    i: usize,
+    p: usize,
+)
+    requires connected { IsConnected program.now }
+    requires instance { i < length program.now.instances.items }
+    requires position { p < arity program.now i }
+    requires ports_len { length all.now.items ≡ length program.now.instances.items }
+    requires ends { ends_in all.now.items i ≡ ends_at program.now i }
+    requires offered_len { length offered.now.items ≡ length program.now.streams.items }
+    requires taken_len { length taken.old.items ≡ length program.now.streams.items }
+    requires enough { Reads program.now i p → length (waiting_of all.now.items i p) ≤ slice_index offered.now.items (stream_at program.now i p) }
+    ensures len { length taken.new.items ≡ length taken.old.items }
+    ensures took { Reads program.now i p → slice_index taken.new.items (stream_at program.now i p) ≡ slice_index offered.now.items (stream_at program.now i p) - length (waiting_of all.now.items i p) }
+    ensures others { (s : ℕ) → (Reads program.now i p → s ≡ stream_at program.now i p → ⊥) → slice_index taken.new.items s ≡ slice_index taken.old.items s }
+{
+    if writes_at(program, i, p) {
+        return;
+    }
+    let s = stream_at(program, i, p);
+    taken[s] = offered[s] - all[i].left(p);
+}
+
+// Takes over what an instance took from its ports.
+pub fn count_taken(
+    program: &Program,
+    all: &Vec<Ports>,
+    offered: &Vec<usize>,
+    taken: &mut Vec<usize>,
+    i: usize,
+)
+    requires connected { IsConnected program.now }
+    requires instance { i < length program.now.instances.items }
+    requires ports_len { length all.now.items ≡ length program.now.instances.items }
+    requires ends { ends_in all.now.items i ≡ ends_at program.now i }
+    requires offered_len { length offered.now.items ≡ length program.now.streams.items }
+    requires taken_len { length taken.old.items ≡ length program.now.streams.items }
+    requires enough { (p : ℕ) → Reads program.now i p → length (waiting_of all.now.items i p) ≤ slice_index offered.now.items (stream_at program.now i p) }
+    ensures len { length taken.new.items ≡ length taken.old.items }
+    ensures took { (p : ℕ) → Reads program.now i p → slice_index taken.new.items (stream_at program.now i p) ≡ slice_index offered.now.items (stream_at program.now i p) - length (waiting_of all.now.items i p) }
+    ensures others { (s : ℕ) → ((p : ℕ) → Reads program.now i p → stream_at program.now i p ≡ s → ⊥) → slice_index taken.new.items s ≡ slice_index taken.old.items s }
+{
+    for p in 0..arity(program, i) {
+        count_taken_at(program, all, offered, taken, i, p);
+    }
+}
+
+// The instance at the other end of a port's stream.
+fn other_end(program: &Program, i: usize, p: usize) -> usize
+    requires connected { IsConnected program.now }
+    requires instance { i < length program.now.instances.items }
+    requires position { p < arity program.now i }
+    ensures inside { result < length program.now.instances.items }
+    ensures reader { Writes program.now i p → result ≡ consumer_of program.now (stream_at program.now i p) }
+    ensures writer { Reads program.now i p → result ≡ producer_of program.now (stream_at program.now i p) }
+{
+    let s = stream_at(program, i, p);
+    if writes_at(program, i, p) {
+        consumer(program, s)
+    } else {
+        producer(program, s)
+    }
+}
+
+// Puts the other ends of an instance's streams on a list.
+pub fn wake(program: &Program, later: &mut Vec<usize>, i: usize) -> Result<(), OutOfMemory>
+    requires connected { IsConnected program.now }
+    requires instance { i < length program.now.instances.items }
+    requires below { AreBelow (length program.now.instances.items) later.old.items }
+    ensures below { AreBelow (length program.now.instances.items) later.new.items }
+    ensures kept { (x : ℕ) → IsIn x later.old.items → IsIn x later.new.items }
+    ensures woken { IfOk result (λ _. (p : ℕ) → AreWoken program.now i p later.new.items) }
+{
+    for p in 0..arity(program, i) {
+        let other = other_end(program, i, p);
+        later.push(other)?;
+    }
+    Ok(())
+}

@@ -1,0 +1,112 @@
+ghost use Rattle.std.specs.Prelude.{◌≡◌, ◌<◌, ◌↔◌, [], ◌∷◌, length, slice_get, MatchOption, IsTrue, IfOk, MatchBool};
+ghost use Rattle.kahn_model.specs.declared.tick.Tick.TheVariants.{Did, Take};
+ghost use Rattle.kahn_model.specs.declared.tick.Action.TheVariants.{Put};
+ghost use Rattle.kahn_model.specs.Fits.{IsTokenOf};
+ghost use Rattle.net_core.specs.Kinds.{AreTokensOf};
+ghost use Rattle.net_core.specs.Ports.{waiting, carried, room_at, port_count, kind_at, Moved, Adjusted};
+
+use crate::port::Port;
+use tapa_base::{OutOfMemory, Token};
+
+/// The ports of an instance, by the positions of its streams. Each datum in them is a value of the kind of its stream.
+#[derive(Drop)]
+pub struct Ports {
+    pub(crate) ports: Vec<Port>,
+}
+
+impl Ports {
+    /// The token that waits at a port.
+    pub fn front(&self, s: u32) -> Option<Token>
+        requires { s < port_count self.now }
+        ensures token { result ≡ slice_get (waiting self.now s) 0 }
+        ensures kind { (t : Token) → result ≡ Some t → IsTokenOf (kind_at self.now s) t }
+    {
+        let port = &self.ports[s as usize];
+        port.tokens.get(port.head).copied()
+    }
+
+    /// Takes the token that waits at a port.
+    pub fn take(&mut self, s: u32) -> Option<Token>
+        requires { s < port_count self.old }
+        ensures token { result ≡ slice_get (waiting self.old s) 0 }
+        ensures kind { (t : Token) → result ≡ Some t → IsTokenOf (kind_at self.old s) t }
+        ensures moved { MatchOption result (self.new ≡ self.old) (λ t. Moved self.old (Take s t ∷ []) self.new) }
+    {
+        match self.front(s) {
+            None => None,
+            Some(t) => {
+                let port = &mut self.ports[s as usize];
+                port.head += 1;
+                Some(t)
+            }
+        }
+    }
+
+    /// Whether a port has room for a token.
+    pub fn room(&self, s: u32) -> bool
+        requires { s < port_count self.now }
+        ensures { IsTrue result ↔ 0 < room_at self.now s }
+    {
+        self.ports[s as usize].room > 0
+    }
+
+    /// Puts a token, where there is room.
+    pub fn put(&mut self, s: u32, t: Token) -> bool
+        requires port { s < port_count self.old }
+        requires kind { IsTokenOf (kind_at self.old s) t }
+        ensures { MatchBool result (Moved self.old (Did (Put s t) ∷ []) self.new) ((self.new ≡ self.old) × (room_at self.old s ≡ 0)) }
+    {
+        if !self.room(s) {
+            return false;
+        }
+        let port = &mut self.ports[s as usize];
+        port.room -= 1;
+        match port.carried.push(t) {
+            Ok(()) => true,
+            Err(_) => false,
+        }
+    }
+
+    /// How many tokens wait at a port.
+    pub(crate) fn left(&self, s: usize) -> usize
+        requires { s < port_count self.now }
+        ensures { result ≡ length (waiting self.now s) }
+    {
+        let port = &self.ports[s];
+        port.tokens.len() - port.head
+    }
+
+    /// All tokens that were written to a port's stream.
+    pub(crate) fn carried(&self, s: usize) -> &[Token]
+        requires { s < port_count self.now }
+        ensures tokens { result.now ≡ carried self.now s }
+        ensures kind { AreTokensOf (kind_at self.now s) result.now }
+    {
+        self.ports[s].carried.as_slice()
+    }
+
+    /// Lets these tokens wait at a port.
+    pub(crate) fn offer(&mut self, s: usize, tokens: Vec<Token>)
+        requires port { s < port_count self.old }
+        requires kind { AreTokensOf (kind_at self.old s) tokens.items }
+        ensures adjusted { Adjusted self.old s self.new }
+        ensures waits { waiting self.new s ≡ tokens.items }
+    {
+        let port = &mut self.ports[s];
+        port.head = 0;
+        port.tokens = tokens;
+    }
+
+    /// Makes room for tokens at a port.
+    pub(crate) fn make_room(&mut self, s: usize, room: usize) -> Result<(), OutOfMemory>
+        requires { s < port_count self.old }
+        ensures adjusted { Adjusted self.old s self.new }
+        ensures room { IfOk result (λ _. room_at self.new s ≡ room) }
+    {
+        let port = &mut self.ports[s];
+        port.room = 0;
+        port.carried.reserve(room)?;
+        port.room = room;
+        Ok(())
+    }
+}
