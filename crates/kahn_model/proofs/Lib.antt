@@ -10,6 +10,7 @@ pub mod Clocked
 pub mod Bound
 pub mod SlowSteps
 pub mod SlowFlows
+pub mod SlowStatements
 pub mod Local
 pub mod Ends
 pub mod Values

@@ -1,4 +1,4 @@
--- StreamOperation runs go on, one after another.
+-- How runs go on, one after another.
 use Rattle.std.proofs.Common.{◌≡◌, ℕ, zero, suc, List, [], ◌∷◌, ◌++◌, get_or, drop, refl, sym, ap, ◌∙◌, subst, append_assoc}
 use Rattle.std.specs.Prelude.{Vec, slice_get, replicate}
 use Rattle.std.specs.declared.alloc.Global.{Global}
@@ -8,35 +8,70 @@ use Rattle.tapa_base.specs.declared.token.Token.{Token}
 use Rattle.tapa_syntax.specs.declared.program.Expr.{Expr}
 use Rattle.tapa_syntax.specs.declared.program.Stmt.{Stmt, Row_of-Stmt, end_of-Stmt, more_of-Stmt, If, If', Loop, Loop', items-the_row-Stmt, items_hidden-the_row-Stmt-0}
 use Rattle.kahn_model.specs.declared.slow.Value.{Value}
-use Rattle.kahn_model.specs.declared.slow.Value.TheVariants.{Given}
+use Rattle.kahn_model.specs.declared.slow.Value.TheVariants.{Given, Stopped}
+use Rattle.kahn_model.specs.declared.slow.Pair.{Pair}
+use Rattle.kahn_model.specs.declared.slow.Pair.TheVariants.{Given as GivenPair, Stopped as StoppedPair}
 use Rattle.kahn_model.specs.declared.slow.Flow.{Flow}
 use Rattle.kahn_model.specs.declared.slow.Flow.TheVariants.{Next, Out, Again, Stopped as StoppedFlow}
 use Rattle.kahn_model.specs.declared.slow.Turn.{Turn}
 use Rattle.kahn_model.specs.declared.slow.Turn.TheVariants.{On, Over, Stopped as StoppedTurn}
-use Rattle.kahn_model.specs.Behavior.{Action, Local, Tick, Did, End, Mark, Ended, Turns, Behavior, Finished, OutOfTurns, Act, ticks, mark}
-use Rattle.kahn_model.specs.Trace.{State, at_zero, expr, stmt, block, statements, job_of}
+use Rattle.kahn_model.specs.Behavior.{Action, Local, Tick, Did, End, Mark, Ended, Turns, StreamOperation, Behavior, Finished, OutOfTurns, Act, Await, ticks, mark}
+use Rattle.kahn_model.specs.Trace.{State, at_zero, expr, locals, stmt, block, statements, job_of, act_at, at_streams}
 use Rattle.tapa_syntax.specs.LeafKinds.{Kinds}
-use Rattle.kahn_model.specs.Slow.{row_at, feed, whole, GoesOn, Stops, GivesValue, GivesFlow, GivesTurn, inside, turn_of, loop_of, turn_left}
+use Rattle.kahn_model.specs.Slow.{row_at, feed, whole, Point, GoesOn, Stops, GivesAnswer, GivesValue, GivesPair, GivesFlow, GivesTurn, inside, turn_of, loop_of, turn_left}
 
-pub goes_trans : (b1 b2 b3 : List Tick) (a1 a2 a3 : Behavior) (i1 i2 i3 : ℕ → List Token) → GoesOn b1 a1 i1 b2 a2 i2 → GoesOn b2 a2 i2 b3 a3 i3 → GoesOn b1 a1 i1 b3 a3 i3
-goes_trans b1 b2 b3 a1 a2 a3 i1 i2 i3 p q = record { ticks_are = p.ticks_are ∙ q.ticks_are; mark_is = p.mark_is ∙ q.mark_is }
+-- at the streams of an instance, from one point to another
+abbrev pub Goes : (ℕ → ℕ) → Point → Behavior → Point → Behavior → Type 0
+Goes f P a Q b = GoesOn P.ticks (at_streams f a) P.ins Q.ticks (at_streams f b) Q.ins
 
-pub goes_stops : (b1 b2 b3 : List Tick) (a1 a2 : Behavior) (i1 i2 : ℕ → List Token) (m : Mark) → GoesOn b1 a1 i1 b2 a2 i2 → Stops b2 a2 i2 b3 m → Stops b1 a1 i1 b3 m
-goes_stops b1 b2 b3 a1 a2 i1 i2 m p q = record { ticks_are = p.ticks_are ∙ q.ticks_are; mark_is = p.mark_is ∙ q.mark_is }
+abbrev pub Ends : (ℕ → ℕ) → Point → Behavior → Point → Mark → Type 0
+Ends f P a Q m = Stops P.ticks (at_streams f a) P.ins Q.ticks m
 
-pub goes_tick : (before after : List Tick) (a : Action) (t : Behavior) (ins : ℕ → List Token) → after ≡ before ++ Did a ∷ [] → GoesOn before (Act a t) ins after t ins
-goes_tick before after a t ins e =
-    record { ticks_are = sym (append_assoc before (Did a ∷ []) (ticks t ins)) ∙ ap (λ x. x ++ ticks t ins) (sym e); mark_is = refl }
+pub trans : (f : ℕ → ℕ) (P M Q : Point) (a b c : Behavior) → Goes f P a M b → Goes f M b Q c → Goes f P a Q c
+trans f P M Q a b c p q = record { ticks_are = p.ticks_are ∙ q.ticks_are; mark_is = p.mark_is ∙ q.mark_is }
 
-pub goes_same : (before : List Tick) (a b : Behavior) (ins : ℕ → List Token) → a ≡ b → GoesOn before a ins before b ins
-goes_same before a b ins e = record { ticks_are = ap (λ t. before ++ ticks t ins) e; mark_is = ap (λ t. mark t ins) e }
+pub ends : (f : ℕ → ℕ) (P M Q : Point) (a b : Behavior) (m : Mark) → Goes f P a M b → Ends f M b Q m → Ends f P a Q m
+ends f P M Q a b m p q = record { ticks_are = p.ticks_are ∙ q.ticks_are; mark_is = p.mark_is ∙ q.mark_is }
+
+pub same : (f : ℕ → ℕ) (P : Point) (a b : Behavior) → a ≡ b → Goes f P a P b
+same f P a b e = record { ticks_are = ap (λ t. P.ticks ++ ticks (at_streams f t) P.ins) e; mark_is = ap (λ t. mark (at_streams f t) P.ins) e }
+
+pub tick : (f : ℕ → ℕ) (P Q : Point) (a : Action) (t : Behavior) → Q.ticks ≡ P.ticks ++ Did (act_at f a) ∷ [] → Q.ins ≡ P.ins → Goes f P (Act a t) Q t
+tick f P Q a t e ei =
+    let T = at_streams f t in
+    record {
+      ticks_are = sym (append_assoc P.ticks (Did (act_at f a) ∷ []) (ticks T P.ins)) ∙ ap (λ x. x ++ ticks T P.ins) (sym e) ∙ ap (λ o. Q.ticks ++ ticks T o) (sym ei);
+      mark_is = ap (mark T) (sym ei);
+    }
+
+-- so many ticks
+many : (f : ℕ → ℕ) (n : ℕ) (t : Behavior) (ins : ℕ → List Token) → ticks (at_streams f (locals n t)) ins ≡ replicate n (Did Local) ++ ticks (at_streams f t) ins
+many f zero t ins = refl
+many f (suc n) t ins = ap (λ x. Did Local ∷ x) (many f n t ins)
+
+many_mark : (f : ℕ → ℕ) (n : ℕ) (t : Behavior) (ins : ℕ → List Token) → mark (at_streams f (locals n t)) ins ≡ mark (at_streams f t) ins
+many_mark f zero t ins = refl
+many_mark f (suc n) t ins = many_mark f n t ins
+
+pub tick_times : (f : ℕ → ℕ) (P Q : Point) (n : ℕ) (t : Behavior) → Q.ticks ≡ P.ticks ++ replicate n (Did Local) → Q.ins ≡ P.ins → Goes f P (locals n t) Q t
+tick_times f P Q n t e ei =
+    let T = at_streams f t in
+    record {
+      ticks_are = ap (λ x. P.ticks ++ x) (many f n t P.ins) ∙ sym (append_assoc P.ticks (replicate n (Did Local)) (ticks T P.ins)) ∙ ap (λ x. x ++ ticks T P.ins) (sym e) ∙ ap (λ o. Q.ticks ++ ticks T o) (sym ei);
+      mark_is = many_mark f n t P.ins ∙ ap (mark T) (sym ei);
+    }
+
+-- an operation at the position of its stream
+pub asked_at : (f : ℕ → ℕ) (v : Value) (P Q : Point) (s p : ℕ) (how : StreamOperation) → s ≡ f p → GivesAnswer v P s how Q → GivesValue f v P (λ go. Await p how go) Q
+asked_at f (Given v) P Q s p how e h = λ go. subst (λ x. GoesOn P.ticks (Await x how (λ v. at_streams f (go v))) P.ins Q.ticks (at_streams f (go v)) Q.ins) e (h (λ v. at_streams f (go v)))
+asked_at f (Stopped m) P Q s p how e h = λ go. subst (λ x. Stops P.ticks (Await x how (λ v. at_streams f (go v))) P.ins Q.ticks m) e (h (λ v. at_streams f (go v)))
 
 -- what goes on before a statement's flow
-pub flow_after : (f : Flow) (before mid after : List Tick) (a b : (State → Behavior) → (State → Behavior) → (State → Behavior) → Behavior) (ins outs ends : ℕ → List Token) (σ : State) → ((go out again : State → Behavior) → GoesOn before (a go out again) ins mid (b go out again) outs) → GivesFlow f mid b outs after ends σ → GivesFlow f before a ins after ends σ
-flow_after Next before mid after a b ins outs ends σ p q = λ go out again. goes_trans _ _ _ _ _ _ _ _ _ (p go out again) (q go out again)
-flow_after Out before mid after a b ins outs ends σ p q = λ go out again. goes_trans _ _ _ _ _ _ _ _ _ (p go out again) (q go out again)
-flow_after Again before mid after a b ins outs ends σ p q = λ go out again. goes_trans _ _ _ _ _ _ _ _ _ (p go out again) (q go out again)
-flow_after (StoppedFlow m) before mid after a b ins outs ends σ p q = λ go out again. goes_stops _ _ _ _ _ _ _ m (p go out again) (q go out again)
+pub flow_after : (f : ℕ → ℕ) (x : Flow) (P M Q : Point) (a b : (State → Behavior) → (State → Behavior) → (State → Behavior) → Behavior) → ((go out again : State → Behavior) → Goes f P (a go out again) M (b go out again)) → GivesFlow f x M b Q → GivesFlow f x P a Q
+flow_after f Next P M Q a b p q = λ go out again. trans f P M Q _ _ _ (p go out again) (q go out again)
+flow_after f Out P M Q a b p q = λ go out again. trans f P M Q _ _ _ (p go out again) (q go out again)
+flow_after f Again P M Q a b p q = λ go out again. trans f P M Q _ _ _ (p go out again) (q go out again)
+flow_after f (StoppedFlow m) P M Q a b p q = λ go out again. ends f P M Q _ _ m (p go out again) (q go out again)
 
 -- a block is the statements of its list
 pub block_is : (K : Kinds) (n : ℕ) (l : _) (row : Row_of-Stmt l) (σ : State) (go out again : State → Behavior) → block K n row σ go out again ≡ statements K n (items-the_row-Stmt l row) σ go out again
@@ -104,116 +139,126 @@ code_not_zero zero a b d = absurd (d refl)
 code_not_zero (suc v) a b d = refl
 
 -- after the test of an `if`, with the tick of the test
-pub if_goes : (K : Kinds) (n : ℕ) (e : Expr) (left right : Vec Stmt Global) (σ σ' : State) (before mid after : List Tick) (ins outs : ℕ → List Token) (v : ℕ) (code : List Stmt) → GivesValue (Given v) before (expr e σ) ins mid outs → after ≡ mid ++ Did Local ∷ [] → σ ≡ σ' → at_zero v right.items left.items ≡ code → (go out again : State → Behavior) → GoesOn before (stmt K n (If e left right) σ go out again) ins after (statements K n code σ' go out again) outs
-if_goes K n e left right σ σ' before mid after ins outs v code given et es ec go out again =
+pub if_begins : (f : ℕ → ℕ) (K : Kinds) (n : ℕ) (s : Stmt) (e : Expr) (left right : Vec Stmt Global) (code : List Stmt) (P M Q : Point) (x : Value) (v : ℕ) → s ≡ If e left right → x ≡ Given v → GivesValue f x P (λ go. expr e P.state go) M → Q.ticks ≡ M.ticks ++ Did Local ∷ [] → Q.ins ≡ M.ins → P.state ≡ Q.state → at_zero v right.items left.items ≡ code → (go out again : State → Behavior) → Goes f P (stmt K n s P.state go out again) Q (statements K n code Q.state go out again)
+if_begins f K n s e left right code P M Q x v is ex given et ei es ec go out again =
+    let σ = P.state in
+    let k = λ (v : ℕ). Act Local (at_zero v (statements K n right.items σ go out again) (statements K n left.items σ go out again)) in
+    let g : Goes f P (expr e σ k) M (k v) = subst (λ y. GivesValue f y P (λ go. expr e P.state go) M) ex given k in
     let T = at_zero v (statements K n right.items σ go out again) (statements K n left.items σ go out again) in
-    let g = given (λ v. Act Local (at_zero v (statements K n right.items σ go out again) (statements K n left.items σ go out again))) in
-    goes_trans before before after _ _ _ ins ins outs (goes_same before _ _ ins (stmt_if K n e left right σ go out again))
-    (goes_trans before mid after _ _ _ ins outs outs g
-    (goes_trans mid after after (Act Local T) T _ outs outs outs (goes_tick mid after Local T outs et)
-    (goes_same after T _ outs (at_zero_code v K n right.items left.items σ go out again ∙ ap (λ c. statements K n c σ go out again) ec ∙ ap (λ s. statements K n code s go out again) es))))
+    trans f P P Q _ _ _ (same f P _ _ (ap (λ t. stmt K n t σ go out again) is ∙ stmt_if K n e left right σ go out again))
+    (trans f P M Q _ (k v) _ g
+    (trans f M Q Q (Act Local T) T _ (tick f M Q Local T et ei)
+    (same f Q T _ (at_zero_code v K n right.items left.items σ go out again ∙ ap (λ c. statements K n c σ go out again) ec ∙ ap (λ s. statements K n code s go out again) es))))
 
--- and of a turn
-pub turn_goes : (K : Kinds) (n : ℕ) (e : Expr) (body step : Vec Stmt Global) (σ σ' : State) (before mid after : List Tick) (ins outs : ℕ → List Token) (v : ℕ) → GivesValue (Given v) before (expr e σ) ins mid outs → after ≡ mid ++ Did Local ∷ [] → σ ≡ σ' → (v ≡ 0 → ⊥) → (go next : State → Behavior) → GoesOn before (turn_of K n (Loop e body step) σ go next) ins after (inside_items K n body.items step.items σ' go next) outs
-turn_goes K n e body step σ σ' before mid after ins outs v given et es d go next =
+-- after the test of a loop that holds
+pub turn_begins : (f : ℕ → ℕ) (K : Kinds) (n : ℕ) (s : Stmt) (e : Expr) (body step : Vec Stmt Global) (code code2 : List Stmt) (P M Q : Point) (x : Value) (v : ℕ) → s ≡ Loop e body step → x ≡ Given v → GivesValue f x P (λ go. expr e P.state go) M → Q.ticks ≡ M.ticks ++ Did Local ∷ [] → Q.ins ≡ M.ins → P.state ≡ Q.state → body.items ≡ code → step.items ≡ code2 → (v ≡ 0 → ⊥) → (go next : State → Behavior) → Goes f P (turn_of K n s P.state go next) Q (inside_items K n code code2 Q.state go next)
+turn_begins f K n s e body step code code2 P M Q x v is ex given et ei es eb ec d go next =
+    let σ = P.state in
+    let k = λ (v : ℕ). Act Local (at_zero v (go σ) (inside_items K n body.items step.items σ go next)) in
+    let g : Goes f P (expr e σ k) M (k v) = subst (λ y. GivesValue f y P (λ go. expr e P.state go) M) ex given k in
     let X = inside_items K n body.items step.items σ go next in
     let T = at_zero v (go σ) X in
-    let g = given (λ v. Act Local (at_zero v (go σ) (inside_items K n body.items step.items σ go next))) in
-    goes_trans before before after _ _ _ ins ins outs (goes_same before _ _ ins (turn_is K n e body step σ go next))
-    (goes_trans before mid after _ _ _ ins outs outs g
-    (goes_trans mid after after (Act Local T) T _ outs outs outs (goes_tick mid after Local T outs et)
-    (goes_same after T _ outs (at_zero_not v (go σ) X d ∙ ap (λ s. inside_items K n body.items step.items s go next) es))))
+    trans f P P Q _ _ _ (same f P _ _ (ap (λ t. turn_of K n t σ go next) is ∙ turn_is K n e body step σ go next))
+    (trans f P M Q _ (k v) _ g
+    (trans f M Q Q (Act Local T) T _ (tick f M Q Local T et ei)
+    (same f Q T _ (at_zero_not v (go σ) X d ∙ ap (λ c. inside_items K n c step.items σ go next) eb ∙ ap (λ c. inside_items K n code c σ go next) ec ∙ ap (λ s. inside_items K n code code2 s go next) es))))
 
 -- a turn whose body is left by a break, or ends
-pub turn_out : (K : Kinds) (n : ℕ) (s : Stmt) (body step : List Stmt) (σ σ' σ'' : State) (before mid after : List Tick) (ins outs ends : ℕ → List Token) → ((go next : State → Behavior) → GoesOn before (turn_of K n s σ go next) ins mid (inside_items K n body step σ' go next) outs) → GivesFlow Out mid (statements K n body σ') outs after ends σ'' → GivesTurn Over before (turn_of K n s σ) ins after ends σ''
-turn_out K n s body step σ σ' σ'' before mid after ins outs ends p q = λ go next. goes_trans _ _ _ _ _ _ _ _ _ (p go next) (q _ go _)
+pub turn_out : (f : ℕ → ℕ) (K : Kinds) (n : ℕ) (body step : List Stmt) (a : (State → Behavior) → (State → Behavior) → Behavior) (P M Q : Point) → ((go next : State → Behavior) → Goes f P (a go next) M (inside_items K n body step M.state go next)) → GivesFlow f Out M (statements K n body M.state) Q → GivesTurn f Over P a Q
+turn_out f K n body step a P M Q p q = λ go next. trans f P M Q _ _ _ (p go next) (q _ go _)
 
-pub turn_stops : (K : Kinds) (n : ℕ) (s : Stmt) (body step : List Stmt) (σ σ' σ'' : State) (m : Mark) (before mid after : List Tick) (ins outs ends : ℕ → List Token) → ((go next : State → Behavior) → GoesOn before (turn_of K n s σ go next) ins mid (inside_items K n body step σ' go next) outs) → GivesFlow (StoppedFlow m) mid (statements K n body σ') outs after ends σ'' → GivesTurn (StoppedTurn m) before (turn_of K n s σ) ins after ends σ''
-turn_stops K n s body step σ σ' σ'' m before mid after ins outs ends p q = λ go next. goes_stops _ _ _ _ _ _ _ m (p go next) (q _ go _)
+pub turn_stops : (f : ℕ → ℕ) (K : Kinds) (n : ℕ) (body step : List Stmt) (a : (State → Behavior) → (State → Behavior) → Behavior) (m : Mark) (P M Q : Point) → ((go next : State → Behavior) → Goes f P (a go next) M (inside_items K n body step M.state go next)) → GivesFlow f (StoppedFlow m) M (statements K n body M.state) Q → GivesTurn f (StoppedTurn m) P a Q
+turn_stops f K n body step a m P M Q p q = λ go next. ends f P M Q _ _ m (p go next) (q _ go _)
 
 -- a turn whose body is left for the step
-turn_left_by : (K : Kinds) (n : ℕ) (step : List Stmt) (a : (State → Behavior) → (State → Behavior) → Behavior) (σ' σ'' : State) (before mid after : List Tick) (ins outs ends : ℕ → List Token) (f : Flow) → ((go next : State → Behavior) → GoesOn before (a go next) ins mid (statements K n step σ' next go next) outs) → GivesFlow f mid (statements K n step σ') outs after ends σ'' → GivesTurn (turn_left f) before a ins after ends σ''
-turn_left_by K n step a σ' σ'' before mid after ins outs ends Next p q = λ go next. goes_trans _ _ _ _ _ _ _ _ _ (p go next) (q next go next)
-turn_left_by K n step a σ' σ'' before mid after ins outs ends Out p q = λ go next. goes_trans _ _ _ _ _ _ _ _ _ (p go next) (q next go next)
-turn_left_by K n step a σ' σ'' before mid after ins outs ends Again p q = λ go next. goes_trans _ _ _ _ _ _ _ _ _ (p go next) (q next go next)
-turn_left_by K n step a σ' σ'' before mid after ins outs ends (StoppedFlow m) p q = λ go next. goes_stops _ _ _ _ _ _ _ m (p go next) (q next go next)
+turn_left_by : (f : ℕ → ℕ) (K : Kinds) (n : ℕ) (step : List Stmt) (a : (State → Behavior) → (State → Behavior) → Behavior) (P M Q : Point) (x : Flow) → ((go next : State → Behavior) → Goes f P (a go next) M (statements K n step M.state next go next)) → GivesFlow f x M (statements K n step M.state) Q → GivesTurn f (turn_left x) P a Q
+turn_left_by f K n step a P M Q Next p q = λ go next. trans f P M Q _ _ _ (p go next) (q next go next)
+turn_left_by f K n step a P M Q Out p q = λ go next. trans f P M Q _ _ _ (p go next) (q next go next)
+turn_left_by f K n step a P M Q Again p q = λ go next. trans f P M Q _ _ _ (p go next) (q next go next)
+turn_left_by f K n step a P M Q (StoppedFlow m) p q = λ go next. ends f P M Q _ _ m (p go next) (q next go next)
 
-pub turn_next : (K : Kinds) (n : ℕ) (s : Stmt) (body step : List Stmt) (σ σ' σ'' σ3 : State) (before mid late after : List Tick) (ins outs mids ends : ℕ → List Token) (f : Flow) → ((go next : State → Behavior) → GoesOn before (turn_of K n s σ go next) ins mid (inside_items K n body step σ' go next) outs) → GivesFlow Next mid (statements K n body σ') outs late mids σ'' → GivesFlow f late (statements K n step σ'') mids after ends σ3 → GivesTurn (turn_left f) before (turn_of K n s σ) ins after ends σ3
-turn_next K n s body step σ σ' σ'' σ3 before mid late after ins outs mids ends f p q r =
-    turn_left_by K n step (turn_of K n s σ) σ'' σ3 before late after ins mids ends f (λ go next. goes_trans _ _ _ _ _ _ _ _ _ (p go next) (q _ go _)) r
+pub turn_next : (f : ℕ → ℕ) (K : Kinds) (n : ℕ) (body step : List Stmt) (a : (State → Behavior) → (State → Behavior) → Behavior) (P M N Q : Point) (x : Flow) → ((go next : State → Behavior) → Goes f P (a go next) M (inside_items K n body step M.state go next)) → GivesFlow f Next M (statements K n body M.state) N → GivesFlow f x N (statements K n step N.state) Q → GivesTurn f (turn_left x) P a Q
+turn_next f K n body step a P M N Q x p q r = turn_left_by f K n step a P N Q x (λ go next. trans f P M N _ _ _ (p go next) (q _ go _)) r
 
-pub turn_again : (K : Kinds) (n : ℕ) (s : Stmt) (body step : List Stmt) (σ σ' σ'' σ3 : State) (before mid late after : List Tick) (ins outs mids ends : ℕ → List Token) (f : Flow) → ((go next : State → Behavior) → GoesOn before (turn_of K n s σ go next) ins mid (inside_items K n body step σ' go next) outs) → GivesFlow Again mid (statements K n body σ') outs late mids σ'' → GivesFlow f late (statements K n step σ'') mids after ends σ3 → GivesTurn (turn_left f) before (turn_of K n s σ) ins after ends σ3
-turn_again K n s body step σ σ' σ'' σ3 before mid late after ins outs mids ends f p q r =
-    turn_left_by K n step (turn_of K n s σ) σ'' σ3 before late after ins mids ends f (λ go next. goes_trans _ _ _ _ _ _ _ _ _ (p go next) (q _ go _)) r
+pub turn_again : (f : ℕ → ℕ) (K : Kinds) (n : ℕ) (body step : List Stmt) (a : (State → Behavior) → (State → Behavior) → Behavior) (P M N Q : Point) (x : Flow) → ((go next : State → Behavior) → Goes f P (a go next) M (inside_items K n body step M.state go next)) → GivesFlow f Again M (statements K n body M.state) N → GivesFlow f x N (statements K n step N.state) Q → GivesTurn f (turn_left x) P a Q
+turn_again f K n body step a P M N Q x p q r = turn_left_by f K n step a P N Q x (λ go next. trans f P M N _ _ _ (p go next) (q _ go _)) r
 
--- a loop's next turn
-pub loop_goes : (K : Kinds) (n m k : ℕ) (s : Stmt) (σ : State) (before : List Tick) (ins : ℕ → List Token) → m ≡ suc k → (go out again : State → Behavior) → GoesOn before (loop_of K n m s σ go out again) ins before (turn_of K n s σ go (λ σ'. loop_of K n k s σ' go out again)) ins
-loop_goes K n m k s σ before ins e go out again =
-    goes_same before _ _ ins (ap (λ x. loop_of K n x s σ go out again) e ∙ loop_turn K n k s σ go out again)
+pub flow_at : (f : ℕ → ℕ) (x y : Flow) (P Q : Point) (a : (State → Behavior) → (State → Behavior) → (State → Behavior) → Behavior) → x ≡ y → GivesFlow f x P a Q → GivesFlow f y P a Q
+flow_at f x y P Q a e h = subst (λ z. GivesFlow f z P a Q) e h
 
-pub loop_ends : (K : Kinds) (n m : ℕ) (s : Stmt) (σ : State) (before : List Tick) (ins : ℕ → List Token) → m ≡ 0 → (go out again : State → Behavior) → Stops before (loop_of K n m s σ go out again) ins before Turns
-loop_ends K n m s σ before ins e go out again =
-    let c = ap (λ x. loop_of K n x s σ go out again) e ∙ loop_cut K n s σ go out again in
-    record { ticks_are = ap (λ t. before ++ ticks t ins) c ∙ append-nil before; mark_is = ap (λ t. mark t ins) c }
-
--- the same with what a run knows as equations
-pub turn_begins : (K : Kinds) (n : ℕ) (s : Stmt) (e : Expr) (body step : Vec Stmt Global) (code code2 : List Stmt) (σ σ' : State) (before mid after : List Tick) (ins outs outs' : ℕ → List Token) (f : Value) (v : ℕ) → s ≡ Loop e body step → f ≡ Given v → GivesValue f before (expr e σ) ins mid outs → after ≡ mid ++ Did Local ∷ [] → σ ≡ σ' → outs ≡ outs' → body.items ≡ code → step.items ≡ code2 → (v ≡ 0 → ⊥) → (go next : State → Behavior) → GoesOn before (turn_of K n s σ go next) ins after (inside_items K n code code2 σ' go next) outs'
-turn_begins K n s e body step code code2 σ σ' before mid after ins outs outs' f v is fv given et es eo eb ec d go next =
-    subst (λ t. GoesOn before (turn_of K n t σ go next) ins after (inside_items K n code code2 σ' go next) outs') (sym is)
-    (subst (λ c. GoesOn before (turn_of K n (Loop e body step) σ go next) ins after (inside_items K n c code2 σ' go next) outs') eb
-    (subst (λ c. GoesOn before (turn_of K n (Loop e body step) σ go next) ins after (inside_items K n body.items c σ' go next) outs') ec
-    (subst (λ o. GoesOn before (turn_of K n (Loop e body step) σ go next) ins after (inside_items K n body.items step.items σ' go next) o) eo
-    (turn_goes K n e body step σ σ' before mid after ins outs v (subst (λ g. GivesValue g before (expr e σ) ins mid outs) fv given) et es d go next))))
-
-pub if_begins : (K : Kinds) (n : ℕ) (s : Stmt) (e : Expr) (left right : Vec Stmt Global) (code : List Stmt) (σ σ' : State) (before mid after : List Tick) (ins outs outs' : ℕ → List Token) (f : Value) (v : ℕ) → s ≡ If e left right → f ≡ Given v → GivesValue f before (expr e σ) ins mid outs → after ≡ mid ++ Did Local ∷ [] → σ ≡ σ' → outs ≡ outs' → at_zero v right.items left.items ≡ code → (go out again : State → Behavior) → GoesOn before (stmt K n s σ go out again) ins after (statements K n code σ' go out again) outs'
-if_begins K n s e left right code σ σ' before mid after ins outs outs' f v is fv given et es eo ec go out again =
-    subst (λ t. GoesOn before (stmt K n t σ go out again) ins after (statements K n code σ' go out again) outs') (sym is)
-    (subst (λ o. GoesOn before (stmt K n (If e left right) σ go out again) ins after (statements K n code σ' go out again) o) eo
-    (if_goes K n e left right σ σ' before mid after ins outs v code (subst (λ g. GivesValue g before (expr e σ) ins mid outs) fv given) et es ec go out again))
-
-pub flow_at : (f g : Flow) (before after : List Tick) (a : (State → Behavior) → (State → Behavior) → (State → Behavior) → Behavior) (ins outs : ℕ → List Token) (σ : State) → f ≡ g → GivesFlow f before a ins after outs σ → GivesFlow g before a ins after outs σ
-flow_at f g before after a ins outs σ e h = subst (λ x. GivesFlow x before a ins after outs σ) e h
-
-pub turn_at : (f g : Turn) (before after : List Tick) (a : (State → Behavior) → (State → Behavior) → Behavior) (ins outs : ℕ → List Token) (σ : State) → f ≡ g → GivesTurn f before a ins after outs σ → GivesTurn g before a ins after outs σ
-turn_at f g before after a ins outs σ e h = subst (λ x. GivesTurn x before a ins after outs σ) e h
+pub turn_at : (f : ℕ → ℕ) (x y : Turn) (P Q : Point) (a : (State → Behavior) → (State → Behavior) → Behavior) → x ≡ y → GivesTurn f x P a Q → GivesTurn f y P a Q
+turn_at f x y P Q a e h = subst (λ z. GivesTurn f z P a Q) e h
 
 -- one more statement of a list
-pub block_step : (K : Kinds) (n : ℕ) (A : Behavior) (l rest : List Stmt) (s : Stmt) (σ1 σ2 : State) (b0 b1 b2 : List Tick) (i0 i1 i2 : ℕ → List Token) (go out again : State → Behavior) → GoesOn b0 A i0 b1 (statements K n l σ1 go out again) i1 → l ≡ s ∷ rest → GivesFlow Next b1 (stmt K n s σ1) i1 b2 i2 σ2 → GoesOn b0 A i0 b2 (statements K n rest σ2 go out again) i2
-block_step K n A l rest s σ1 σ2 b0 b1 b2 i0 i1 i2 go out again p e q =
-    goes_trans b0 b1 b2 A (statements K n (s ∷ rest) σ1 go out again) _ i0 i1 i2
-    (subst (λ x. GoesOn b0 A i0 b1 (statements K n x σ1 go out again) i1) e p)
+pub block_step : (f : ℕ → ℕ) (K : Kinds) (n : ℕ) (A : Behavior) (l rest : List Stmt) (s : Stmt) (P M Q : Point) (go out again : State → Behavior) → Goes f P A M (statements K n l M.state go out again) → l ≡ s ∷ rest → GivesFlow f Next M (stmt K n s M.state) Q → Goes f P A Q (statements K n rest Q.state go out again)
+block_step f K n A l rest s P M Q go out again p e q =
+    trans f P M Q A (statements K n (s ∷ rest) M.state go out again) _
+    (subst (λ x. Goes f P A M (statements K n x M.state go out again)) e p)
     (q (λ σ'. statements K n rest σ' go out again) out again)
 
-pub block_leaves : (K : Kinds) (n : ℕ) (code l rest : List Stmt) (s : Stmt) (σ0 σ1 σ2 : State) (b0 b1 b2 : List Tick) (i0 i1 i2 : ℕ → List Token) (f : Flow) → (f ≡ Next → ⊥) → ((go out again : State → Behavior) → GoesOn b0 (statements K n code σ0 go out again) i0 b1 (statements K n l σ1 go out again) i1) → l ≡ s ∷ rest → GivesFlow f b1 (stmt K n s σ1) i1 b2 i2 σ2 → GivesFlow f b0 (statements K n code σ0) i0 b2 i2 σ2
-block_leaves K n code l rest s σ0 σ1 σ2 b0 b1 b2 i0 i1 i2 Next d p e q = absurd (d refl)
-block_leaves K n code l rest s σ0 σ1 σ2 b0 b1 b2 i0 i1 i2 Out d p e q = λ go out again.
-    goes_trans b0 b1 b2 _ (statements K n (s ∷ rest) σ1 go out again) _ i0 i1 i2
-    (subst (λ x. GoesOn b0 (statements K n code σ0 go out again) i0 b1 (statements K n x σ1 go out again) i1) e (p go out again))
+pub block_leaves : (f : ℕ → ℕ) (K : Kinds) (n : ℕ) (code l rest : List Stmt) (s : Stmt) (P M Q : Point) (x : Flow) → (x ≡ Next → ⊥) → ((go out again : State → Behavior) → Goes f P (statements K n code P.state go out again) M (statements K n l M.state go out again)) → l ≡ s ∷ rest → GivesFlow f x M (stmt K n s M.state) Q → GivesFlow f x P (statements K n code P.state) Q
+block_leaves f K n code l rest s P M Q Next d p e q = absurd (d refl)
+block_leaves f K n code l rest s P M Q Out d p e q = λ go out again.
+    trans f P M Q _ (statements K n (s ∷ rest) M.state go out again) _
+    (subst (λ x. Goes f P (statements K n code P.state go out again) M (statements K n x M.state go out again)) e (p go out again))
     (q (λ σ'. statements K n rest σ' go out again) out again)
-block_leaves K n code l rest s σ0 σ1 σ2 b0 b1 b2 i0 i1 i2 Again d p e q = λ go out again.
-    goes_trans b0 b1 b2 _ (statements K n (s ∷ rest) σ1 go out again) _ i0 i1 i2
-    (subst (λ x. GoesOn b0 (statements K n code σ0 go out again) i0 b1 (statements K n x σ1 go out again) i1) e (p go out again))
+block_leaves f K n code l rest s P M Q Again d p e q = λ go out again.
+    trans f P M Q _ (statements K n (s ∷ rest) M.state go out again) _
+    (subst (λ x. Goes f P (statements K n code P.state go out again) M (statements K n x M.state go out again)) e (p go out again))
     (q (λ σ'. statements K n rest σ' go out again) out again)
-block_leaves K n code l rest s σ0 σ1 σ2 b0 b1 b2 i0 i1 i2 (StoppedFlow m) d p e q = λ go out again.
-    goes_stops b0 b1 b2 _ (statements K n (s ∷ rest) σ1 go out again) i0 i1 m
-    (subst (λ x. GoesOn b0 (statements K n code σ0 go out again) i0 b1 (statements K n x σ1 go out again) i1) e (p go out again))
+block_leaves f K n code l rest s P M Q (StoppedFlow m) d p e q = λ go out again.
+    ends f P M Q _ (statements K n (s ∷ rest) M.state go out again) m
+    (subst (λ x. Goes f P (statements K n code P.state go out again) M (statements K n x M.state go out again)) e (p go out again))
     (q (λ σ'. statements K n rest σ' go out again) out again)
 
--- one more turn of a loop
-pub loop_on : (K : Kinds) (n m k : ℕ) (A : Behavior) (s : Stmt) (σ1 σ2 : State) (b0 b1 b2 : List Tick) (i0 i1 i2 : ℕ → List Token) (go out again : State → Behavior) → GoesOn b0 A i0 b1 (loop_of K n m s σ1 go out again) i1 → m ≡ suc k → GivesTurn On b1 (turn_of K n s σ1) i1 b2 i2 σ2 → GoesOn b0 A i0 b2 (loop_of K n k s σ2 go out again) i2
-loop_on K n m k A s σ1 σ2 b0 b1 b2 i0 i1 i2 go out again p e q =
-    goes_trans b0 b1 b2 A _ _ i0 i1 i2 p
-    (goes_trans b1 b1 b2 _ _ _ i1 i1 i2 (loop_goes K n m k s σ1 b1 i1 e go out again) (q go (λ σ'. loop_of K n k s σ' go out again)))
+-- a loop's next turn
+loop_goes : (f : ℕ → ℕ) (K : Kinds) (n m k : ℕ) (s : Stmt) (P : Point) → m ≡ suc k → (go out again : State → Behavior) → Goes f P (loop_of K n m s P.state go out again) P (turn_of K n s P.state go (λ σ'. loop_of K n k s σ' go out again))
+loop_goes f K n m k s P e go out again = same f P _ _ (ap (λ x. loop_of K n x s P.state go out again) e ∙ loop_turn K n k s P.state go out again)
 
-pub loop_over : (K : Kinds) (n m k : ℕ) (A : Behavior) (s : Stmt) (σ1 σ2 : State) (b0 b1 b2 : List Tick) (i0 i1 i2 : ℕ → List Token) (go out again : State → Behavior) → GoesOn b0 A i0 b1 (loop_of K n m s σ1 go out again) i1 → m ≡ suc k → GivesTurn Over b1 (turn_of K n s σ1) i1 b2 i2 σ2 → GoesOn b0 A i0 b2 (go σ2) i2
-loop_over K n m k A s σ1 σ2 b0 b1 b2 i0 i1 i2 go out again p e q =
-    goes_trans b0 b1 b2 A _ _ i0 i1 i2 p
-    (goes_trans b1 b1 b2 _ _ _ i1 i1 i2 (loop_goes K n m k s σ1 b1 i1 e go out again) (q go (λ σ'. loop_of K n k s σ' go out again)))
+pub loop_ends : (f : ℕ → ℕ) (K : Kinds) (n m : ℕ) (s : Stmt) (P : Point) → m ≡ 0 → (go out again : State → Behavior) → Ends f P (loop_of K n m s P.state go out again) P Turns
+loop_ends f K n m s P e go out again =
+    let c = ap (λ x. loop_of K n x s P.state go out again) e ∙ loop_cut K n s P.state go out again in
+    record { ticks_are = ap (λ t. P.ticks ++ ticks (at_streams f t) P.ins) c ∙ append-nil P.ticks; mark_is = ap (λ t. mark (at_streams f t) P.ins) c }
 
-pub loop_stops : (K : Kinds) (n m k : ℕ) (A : Behavior) (s : Stmt) (σ1 σ2 : State) (x : Mark) (b0 b1 b2 : List Tick) (i0 i1 i2 : ℕ → List Token) (go out again : State → Behavior) → GoesOn b0 A i0 b1 (loop_of K n m s σ1 go out again) i1 → m ≡ suc k → GivesTurn (StoppedTurn x) b1 (turn_of K n s σ1) i1 b2 i2 σ2 → Stops b0 A i0 b2 x
-loop_stops K n m k A s σ1 σ2 x b0 b1 b2 i0 i1 i2 go out again p e q =
-    goes_stops b0 b1 b2 A _ i0 i1 x p
-    (goes_stops b1 b1 b2 _ _ i1 i1 x (loop_goes K n m k s σ1 b1 i1 e go out again) (q go (λ σ'. loop_of K n k s σ' go out again)))
+pub loop_on : (f : ℕ → ℕ) (K : Kinds) (n m k : ℕ) (A : Behavior) (s : Stmt) (P M Q : Point) (go out again : State → Behavior) → Goes f P A M (loop_of K n m s M.state go out again) → m ≡ suc k → GivesTurn f On M (turn_of K n s M.state) Q → Goes f P A Q (loop_of K n k s Q.state go out again)
+loop_on f K n m k A s P M Q go out again p e q =
+    trans f P M Q A _ _ p (trans f M M Q _ _ _ (loop_goes f K n m k s M e go out again) (q go (λ σ'. loop_of K n k s σ' go out again)))
+
+pub loop_over : (f : ℕ → ℕ) (K : Kinds) (n m k : ℕ) (A : Behavior) (s : Stmt) (P M Q : Point) (go out again : State → Behavior) → Goes f P A M (loop_of K n m s M.state go out again) → m ≡ suc k → GivesTurn f Over M (turn_of K n s M.state) Q → Goes f P A Q (go Q.state)
+loop_over f K n m k A s P M Q go out again p e q =
+    trans f P M Q A _ _ p (trans f M M Q _ _ _ (loop_goes f K n m k s M e go out again) (q go (λ σ'. loop_of K n k s σ' go out again)))
+
+pub loop_stops : (f : ℕ → ℕ) (K : Kinds) (n m k : ℕ) (A : Behavior) (s : Stmt) (x : Mark) (P M Q : Point) (go out again : State → Behavior) → Goes f P A M (loop_of K n m s M.state go out again) → m ≡ suc k → GivesTurn f (StoppedTurn x) M (turn_of K n s M.state) Q → Ends f P A Q x
+loop_stops f K n m k A s x P M Q go out again p e q =
+    ends f P M Q A _ x p (ends f M M Q _ _ x (loop_goes f K n m k s M e go out again) (q go (λ σ'. loop_of K n k s σ' go out again)))
+
+-- a statement that computes two values and makes one tick
+pub pair_tick : (f : ℕ → ℕ) (P M Q : Point) (A B : Behavior) (a : (ℕ → ℕ → Behavior) → Behavior) (k : ℕ → ℕ → Behavior) (x : Pair) (v w : ℕ) (act : Action) (t : Behavior) → A ≡ a k → x ≡ GivenPair v w → GivesPair f x P a M → k v w ≡ Act act t → Q.ticks ≡ M.ticks ++ Did (act_at f act) ∷ [] → Q.ins ≡ M.ins → t ≡ B → Goes f P A Q B
+pair_tick f P M Q A B a k x v w act t ea ex given ek et ei eb =
+    let g : Goes f P (a k) M (k v w) = subst (λ y. GivesPair f y P a M) ex given k in
+    trans f P P Q _ _ _ (same f P A (a k) ea)
+    (trans f P M Q _ (k v w) _ g
+    (trans f M M Q _ (Act act t) _ (same f M _ _ ek)
+    (trans f M Q Q (Act act t) t _ (tick f M Q act t et ei) (same f Q t B eb))))
+
+pub pair_stops : (f : ℕ → ℕ) (P M : Point) (A : Behavior) (a : (ℕ → ℕ → Behavior) → Behavior) (k : ℕ → ℕ → Behavior) (x : Pair) (m : Mark) → A ≡ a k → x ≡ StoppedPair m → GivesPair f x P a M → Ends f P A M m
+pair_stops f P M A a k x m ea ex given = ends f P P M _ _ m (same f P A (a k) ea) (subst (λ y. GivesPair f y P a M) ex given k)
+
+pub value_tick : (f : ℕ → ℕ) (P M Q : Point) (A B : Behavior) (a : (ℕ → Behavior) → Behavior) (k : ℕ → Behavior) (x : Value) (v : ℕ) (act : Action) (t : Behavior) → A ≡ a k → x ≡ Given v → GivesValue f x P a M → k v ≡ Act act t → Q.ticks ≡ M.ticks ++ Did (act_at f act) ∷ [] → Q.ins ≡ M.ins → t ≡ B → Goes f P A Q B
+value_tick f P M Q A B a k x v act t ea ex given ek et ei eb =
+    let g : Goes f P (a k) M (k v) = subst (λ y. GivesValue f y P a M) ex given k in
+    trans f P P Q _ _ _ (same f P A (a k) ea)
+    (trans f P M Q _ (k v) _ g
+    (trans f M M Q _ (Act act t) _ (same f M _ _ ek)
+    (trans f M Q Q (Act act t) t _ (tick f M Q act t et ei) (same f Q t B eb))))
+
+pub value_stops : (f : ℕ → ℕ) (P M : Point) (A : Behavior) (a : (ℕ → Behavior) → Behavior) (k : ℕ → Behavior) (x : Value) (m : Mark) → A ≡ a k → x ≡ Stopped m → GivesValue f x P a M → Ends f P A M m
+value_stops f P M A a k x m ea ex given = ends f P P M _ _ m (same f P A (a k) ea) (subst (λ y. GivesValue f y P a M) ex given k)
+
+pub value_goes : (f : ℕ → ℕ) (P M : Point) (A B : Behavior) (a : (ℕ → Behavior) → Behavior) (k : ℕ → Behavior) (x : Value) (v : ℕ) → A ≡ a k → x ≡ Given v → GivesValue f x P a M → k v ≡ B → Goes f P A M B
+value_goes f P M A B a k x v ea ex given eb =
+    let g : Goes f P (a k) M (k v) = subst (λ y. GivesValue f y P a M) ex given k in
+    trans f P P M _ _ _ (same f P A (a k) ea) (trans f P M M _ (k v) _ g (same f M _ _ eb))
 
 -- no token is taken at the start
 pub feed_whole : (lists : List (Vec Token Global)) (n : ℕ) → feed lists (replicate n zero) ≡ whole lists
@@ -224,28 +269,27 @@ feed_whole lists n = fun_ext (λ s. ap (λ k. drop k (row_at (slice_get lists s)
     none_taken (suc n) zero = refl
     none_taken (suc n) (suc s) = none_taken n s
 
-pub trace_stops : (K : Kinds) (n : ℕ) (code : List Stmt) (σ σ' : State) (before after : List Tick) (ins outs whole_ins : ℕ → List Token) (f : Flow) (m : Mark) → before ≡ [] → ins ≡ whole_ins → f ≡ StoppedFlow m → GivesFlow f before (statements K n code σ) ins after outs σ' → (after ≡ ticks (job_of K code σ n) whole_ins) × (m ≡ mark (job_of K code σ n) whole_ins)
-trace_stops K n code σ σ' before after ins outs whole_ins f m eb ei ef h =
-    let g = flow_at f (StoppedFlow m) before after (statements K n code σ) ins outs σ' ef h in
-    let p = g (λ q. Finished) (λ q. Finished) (λ q. Finished) in
-    let t = job_of K code σ n in (
-      sym p.ticks_are ∙ ap (λ b. b ++ ticks t ins) eb ∙ ap (ticks t) ei,
+pub trace_stops : (f : ℕ → ℕ) (K : Kinds) (n : ℕ) (code : List Stmt) (P Q : Point) (whole_ins : ℕ → List Token) (x : Flow) (m : Mark) → P.ticks ≡ [] → P.ins ≡ whole_ins → x ≡ StoppedFlow m → GivesFlow f x P (statements K n code P.state) Q → (Q.ticks ≡ ticks (at_streams f (job_of K code P.state n)) whole_ins) × (m ≡ mark (at_streams f (job_of K code P.state n)) whole_ins)
+trace_stops f K n code P Q whole_ins x m eb ei ef h =
+    let p : Ends f P (job_of K code P.state n) Q m = flow_at f x (StoppedFlow m) P Q (statements K n code P.state) ef h (λ q. Finished) (λ q. Finished) (λ q. Finished) in
+    let t = at_streams f (job_of K code P.state n) in (
+      sym p.ticks_are ∙ ap (λ b. b ++ ticks t P.ins) eb ∙ ap (ticks t) ei,
       sym p.mark_is ∙ ap (mark t) ei,
     )
 
-finish_ends : (K : Kinds) (n : ℕ) (code : List Stmt) (σ : State) (before after : List Tick) (ins outs : ℕ → List Token) → GoesOn before (job_of K code σ n) ins after Finished outs → (before ++ ticks (job_of K code σ n) ins ≡ after ++ End ∷ []) × (mark (job_of K code σ n) ins ≡ Ended)
-finish_ends K n code σ before after ins outs p = (p.ticks_are, p.mark_is)
-
-pub trace_ends : (K : Kinds) (n : ℕ) (code : List Stmt) (σ σ' : State) (before after late : List Tick) (ins outs whole_ins : ℕ → List Token) (f : Flow) → before ≡ [] → ins ≡ whole_ins → ((m : Mark) → f ≡ StoppedFlow m → ⊥) → late ≡ after ++ End ∷ [] → GivesFlow f before (statements K n code σ) ins after outs σ' → (late ≡ ticks (job_of K code σ n) whole_ins) × (Ended ≡ mark (job_of K code σ n) whole_ins)
-trace_ends K n code σ σ' before after late ins outs whole_ins f eb ei d el h =
-    let t = job_of K code σ n in
-    let p = go f d h in (
-      el ∙ sym p.0 ∙ ap (λ b. b ++ ticks t ins) eb ∙ ap (ticks t) ei,
+pub trace_ends : (f : ℕ → ℕ) (K : Kinds) (n : ℕ) (code : List Stmt) (P Q : Point) (late : List Tick) (whole_ins : ℕ → List Token) (x : Flow) → P.ticks ≡ [] → P.ins ≡ whole_ins → ((m : Mark) → x ≡ StoppedFlow m → ⊥) → late ≡ Q.ticks ++ End ∷ [] → GivesFlow f x P (statements K n code P.state) Q → (late ≡ ticks (at_streams f (job_of K code P.state n)) whole_ins) × (Ended ≡ mark (at_streams f (job_of K code P.state n)) whole_ins)
+trace_ends f K n code P Q late whole_ins x eb ei d el h =
+    let t = at_streams f (job_of K code P.state n) in
+    let p = go x d h in (
+      el ∙ sym p.0 ∙ ap (λ b. b ++ ticks t P.ins) eb ∙ ap (ticks t) ei,
       sym p.1 ∙ ap (mark t) ei,
     )
   where
-    go : (f : Flow) → ((m : Mark) → f ≡ StoppedFlow m → ⊥) → GivesFlow f before (statements K n code σ) ins after outs σ' → (before ++ ticks (job_of K code σ n) ins ≡ after ++ End ∷ []) × (mark (job_of K code σ n) ins ≡ Ended)
-    go Next d h = finish_ends K n code σ before after ins outs (h (λ q. Finished) (λ q. Finished) (λ q. Finished))
-    go Out d h = finish_ends K n code σ before after ins outs (h (λ q. Finished) (λ q. Finished) (λ q. Finished))
-    go Again d h = finish_ends K n code σ before after ins outs (h (λ q. Finished) (λ q. Finished) (λ q. Finished))
+    finish : Goes f P (job_of K code P.state n) Q Finished → (P.ticks ++ ticks (at_streams f (job_of K code P.state n)) P.ins ≡ Q.ticks ++ End ∷ []) × (mark (at_streams f (job_of K code P.state n)) P.ins ≡ Ended)
+    finish p = (p.ticks_are, p.mark_is)
+
+    go : (x : Flow) → ((m : Mark) → x ≡ StoppedFlow m → ⊥) → GivesFlow f x P (statements K n code P.state) Q → (P.ticks ++ ticks (at_streams f (job_of K code P.state n)) P.ins ≡ Q.ticks ++ End ∷ []) × (mark (at_streams f (job_of K code P.state n)) P.ins ≡ Ended)
+    go Next d h = finish (h (λ q. Finished) (λ q. Finished) (λ q. Finished))
+    go Out d h = finish (h (λ q. Finished) (λ q. Finished) (λ q. Finished))
+    go Again d h = finish (h (λ q. Finished) (λ q. Finished) (λ q. Finished))
     go (StoppedFlow m) d h = absurd (d m refl)

@@ -1,23 +1,36 @@
-// The trace of a body, computed as it is defined.
+// The trace of an instance, computed as it is defined.
 
-ghost use Rattle.std.specs.Prelude.{◌≡◌, ◌<◌, IsTrue, ◌∷◌, ◌++◌, [], length, replicate, slice_set, IfOk, IfSome, MatchOption};
+ghost use Rattle.std.specs.Prelude.{◌≡◌, ◌∷◌, ◌++◌, [], length, replicate, slice_index_or, IfOk, MatchOption};
 ghost use Rattle.kahn_model.specs.declared.tick.StreamOperation.{StreamOperation};
+ghost use Rattle.kahn_model.specs.declared.tick.StreamOperation.TheVariants.{Read as ByRead};
+ghost use Rattle.kahn_model.specs.declared.tick.Tick.TheVariants.{Did};
+ghost use Rattle.kahn_model.specs.declared.tick.Action.TheVariants.{Local, Load, Store};
 ghost use Rattle.kahn_model.specs.Behavior.{Await, WrongToken, Answer as GotToken, judge_token, takes, tick_of, ticks, mark};
-ghost use Rattle.tapa_base.specs.Kinds.{values_of};
-ghost use Rattle.tapa_base.specs.Operators.{CanApply, applied};
-ghost use Rattle.kahn_model.specs.Slow.{feed, state_of, GivesValue, GivesFlow, GivesTurn, turn_of, loop_of, turn_left, whole};
-ghost use Rattle.kahn_model.specs.Trace.{expr, stmt, statements, job_of};
-ghost use Rattle.tapa_syntax.specs.LeafKinds.{Kinds};
+ghost use Rattle.kahn_model.specs.Slow.{point, numbers, state_of, rows_of, GivesAnswer, GivesValue, GivesPair, GivesFlow, GivesTurn, turn_of, loop_of, turn_left, whole};
+ghost use Rattle.kahn_model.specs.Trace.{expr, stmt, statements, job_of, at_streams, set_var, set_cell, store_cell, cell, cells_of, cleared};
+ghost use Rattle.tapa_syntax.specs.LeafKinds.{kinds_of};
 
+use crate::cells::{
+    apply_values, array_kind, both, cell_of, changed, chosen, convert_value, either, flipped,
+    memory_kind, negated, number_at, set_cell_of, stream_kind, value_at, var_kind,
+};
 use crate::tick::{Action, Mark, StreamOperation, Tick};
 use std::alloc::{AllocError, Global};
-use tapa_base::{Kind, Op, Token, apply};
-use tapa_syntax::{Expr, Stmt};
+use tapa_base::Token;
+use tapa_syntax::{Expr, Leaf, Stmt};
 
-/// What a run has so far: its variables, how many tokens it has taken from each list, and its ticks.
+/// What an instance holds: its variables, its arrays, and the cells of its memories.
+#[derive(Drop)]
+pub struct Variables {
+    pub vars: Vec<u64>,
+    pub arrays: Vec<Vec<u64>>,
+    pub cells: Vec<Vec<u64>>,
+}
+
+/// What a run has so far: what the instance holds, how many tokens it has taken from each list, and its ticks.
 #[derive(Drop)]
 pub struct Run {
-    pub vars: Vec<u64>,
+    pub state: Variables,
     pub heads: Vec<usize>,
     pub ticks: Vec<Tick>,
 }
@@ -67,7 +80,7 @@ fn tick_for(how: StreamOperation, s: u32, token: Token) -> Tick
     }
 }
 
-// One operation on a stream.
+// One operation on stream s.
 fn ask(
     lists: &[Vec<Token>],
     run: &mut Run,
@@ -76,9 +89,8 @@ fn ask(
 ) -> Result<Value, AllocError>
     requires { length run.old.heads.items ≡ length lists.now }
     ensures heads { IfOk result (λ v. length run.new.heads.items ≡ length lists.now) }
-    ensures vars { IfOk result (λ v. run.new.vars ≡ run.old.vars) }
-    ensures value { IfOk result
-        (λ v. GivesValue v run.old.ticks.items (λ go. Await s how go) (feed lists.now run.old.heads.items) run.new.ticks.items (feed lists.now run.new.heads.items)) }
+    ensures state { IfOk result (λ v. run.new.state ≡ run.old.state) }
+    ensures value { IfOk result (λ v. GivesAnswer v (point lists.now run.old) s how (point lists.now run.new)) }
 {
     let i = s as usize;
     if i >= lists.len() {
@@ -102,11 +114,27 @@ fn ask(
     }
 }
 
+// One operation on the stream at a position.
+fn ask_at(
+    lists: &[Vec<Token>],
+    streams: &[u32],
+    run: &mut Run,
+    p: u32,
+    how: StreamOperation,
+) -> Result<Value, AllocError>
+    requires { length run.old.heads.items ≡ length lists.now }
+    ensures heads { IfOk result (λ v. length run.new.heads.items ≡ length lists.now) }
+    ensures state { IfOk result (λ v. run.new.state ≡ run.old.state) }
+    ensures value { IfOk result (λ v. GivesValue (numbers streams.now) v (point lists.now run.old) (λ go. Await p how go) (point lists.now run.new)) }
+{
+    ask(lists, run, number_at(streams, p), how)
+}
+
 /// Why there is no trace.
 #[derive(Clone, Copy, PartialEq, Eq, Debug)]
 pub enum Fault {
-    /// A part of the language that this run does not have.
-    Unsupported,
+    /// A value is none of its kind, so an operator has no meaning there.
+    NotOfItsKind,
     OutOfMemory,
 }
 
@@ -116,67 +144,100 @@ impl From<AllocError> for Fault {
     }
 }
 
-// Whether an operator is defined at these operands.
-fn is_defined(op: Op, kind: Kind, a: u64, b: u64) -> bool
-    ensures left { IsTrue result → a < values_of kind }
-    ensures right { IsTrue result → CanApply op kind b }
+// One more tick.
+fn note(run: &mut Run, tick: Tick) -> Result<(), AllocError>
+    ensures ticks { IfOk result (λ u. run.new.ticks.items ≡ run.old.ticks.items ++ tick ∷ []) }
+    ensures state { run.new.state ≡ run.old.state }
+    ensures heads { run.new.heads ≡ run.old.heads }
 {
-    match op {
-        Op::Shl => kind.holds(a),
-        Op::Shr => kind.holds(a),
-        Op::Div => kind.holds(a) && kind.holds(b) && b > 0,
-        Op::Rem => kind.holds(a) && kind.holds(b) && b > 0,
-        _ => kind.holds(a) && kind.holds(b),
-    }
+    run.ticks.push(tick)?;
+    Ok(())
 }
 
-// The value of an operator, where it is defined.
-fn apply_values(op: Op, kind: Kind, a: u64, b: u64) -> Option<u64>
-    ensures { IfSome result (λ v. v ≡ applied op kind a b) }
+// A tick that loads a cell, and its value.
+fn load_cell(run: &mut Run, m: u32, i: u64) -> Result<u64, AllocError>
+    ensures ticks { IfOk result (λ v. run.new.ticks.items ≡ run.old.ticks.items ++ Did (Load m i) ∷ []) }
+    ensures value { IfOk result (λ v. v ≡ cell (state_of run.old.state).cells m i) }
+    ensures state { run.new.state ≡ run.old.state }
+    ensures heads { run.new.heads ≡ run.old.heads }
 {
-    if is_defined(op, kind, a, b) {
-        Some(apply(op, kind, a, b))
-    } else {
-        None
-    }
+    note(run, Tick::Did(Action::Load(m, i)))?;
+    Ok(cell_of(&run.state.cells, m, i))
 }
 
 // The value of an expression.
-fn run_expr(lists: &[Vec<Token>], run: &mut Run, e: &Expr) -> Result<Value, Fault>
+fn run_expr(lists: &[Vec<Token>], streams: &[u32], run: &mut Run, e: &Expr) -> Result<Value, Fault>
     requires { length run.old.heads.items ≡ length lists.now }
     ensures heads { IfOk result (λ v. length run.new.heads.items ≡ length lists.now) }
-    ensures vars { IfOk result (λ v. run.new.vars ≡ run.old.vars) }
-    ensures value { IfOk result
-        (λ v. GivesValue v run.old.ticks.items (λ go. expr e.now (state_of run.old.vars.items) go) (feed lists.now run.old.heads.items) run.new.ticks.items (feed lists.now run.new.heads.items)) }
+    ensures state { IfOk result (λ v. run.new.state ≡ run.old.state) }
+    ensures value { IfOk result (λ v. GivesValue (numbers streams.now) v (point lists.now run.old) (λ go. expr e.now (state_of run.old.state) go) (point lists.now run.new)) }
 {
     match e {
         Expr::Lit(_, n) => Ok(Value::Given(*n)),
-        Expr::Var(x) => Ok(Value::Given(run.vars.get(*x as usize).copied().unwrap_or(0))),
-        Expr::Read(s) => Ok(ask(lists, run, *s, StreamOperation::Read)?),
-        Expr::Peek(s) => Ok(ask(lists, run, *s, StreamOperation::Peek)?),
-        Expr::Eot(s) => Ok(ask(lists, run, *s, StreamOperation::TestEot)?),
+        Expr::Var(x) => Ok(Value::Given(value_at(&run.state.vars, *x))),
+        Expr::Cell(a, index) => match run_expr(lists, streams, run, index)? {
+            Value::Stopped(m) => Ok(Value::Stopped(m)),
+            Value::Given(i) => Ok(Value::Given(cell_of(&run.state.arrays, *a, i))),
+        },
+        Expr::Read(p) => Ok(ask_at(lists, streams, run, *p, StreamOperation::Read)?),
+        Expr::Peek(p) => Ok(ask_at(lists, streams, run, *p, StreamOperation::Peek)?),
+        Expr::Eot(p) => Ok(ask_at(lists, streams, run, *p, StreamOperation::TestEot)?),
+        Expr::Load(m, index) => match run_expr(lists, streams, run, index)? {
+            Value::Stopped(mark) => Ok(Value::Stopped(mark)),
+            Value::Given(i) => Ok(Value::Given(load_cell(run, *m, i)?)),
+        },
+        Expr::Conv { from, to, value } => match run_expr(lists, streams, run, value)? {
+            Value::Stopped(m) => Ok(Value::Stopped(m)),
+            Value::Given(v) => Ok(Value::Given(convert_value(*from, *to, v)?)),
+        },
         Expr::Apply {
             op,
             kind,
             left,
             right,
-        } => {
-            match run_expr(lists, run, left)? {
+        } => match run_expr(lists, streams, run, left)? {
+            Value::Stopped(m) => Ok(Value::Stopped(m)),
+            Value::Given(a) => match run_expr(lists, streams, run, right)? {
                 Value::Stopped(m) => Ok(Value::Stopped(m)),
-                Value::Given(a) => match run_expr(lists, run, right)? {
+                Value::Given(b) => Ok(Value::Given(apply_values(*op, *kind, a, b)?)),
+            },
+        },
+        Expr::Flip(kind, value) => match run_expr(lists, streams, run, value)? {
+            Value::Stopped(m) => Ok(Value::Stopped(m)),
+            Value::Given(v) => Ok(Value::Given(flipped(*kind, v))),
+        },
+        Expr::Not(value) => match run_expr(lists, streams, run, value)? {
+            Value::Stopped(m) => Ok(Value::Stopped(m)),
+            Value::Given(v) => Ok(Value::Given(negated(v))),
+        },
+        Expr::And(left, right) => match run_expr(lists, streams, run, left)? {
+            Value::Stopped(m) => Ok(Value::Stopped(m)),
+            Value::Given(a) => match run_expr(lists, streams, run, right)? {
+                Value::Stopped(m) => Ok(Value::Stopped(m)),
+                Value::Given(b) => Ok(Value::Given(both(a, b)?)),
+            },
+        },
+        Expr::Or(left, right) => match run_expr(lists, streams, run, left)? {
+            Value::Stopped(m) => Ok(Value::Stopped(m)),
+            Value::Given(a) => match run_expr(lists, streams, run, right)? {
+                Value::Stopped(m) => Ok(Value::Stopped(m)),
+                Value::Given(b) => Ok(Value::Given(either(a, b))),
+            },
+        },
+        Expr::Choose(test, left, right) => match run_expr(lists, streams, run, test)? {
+            Value::Stopped(m) => Ok(Value::Stopped(m)),
+            Value::Given(v) => match run_expr(lists, streams, run, left)? {
+                Value::Stopped(m) => Ok(Value::Stopped(m)),
+                Value::Given(a) => match run_expr(lists, streams, run, right)? {
                     Value::Stopped(m) => Ok(Value::Stopped(m)),
-                    Value::Given(b) => match apply_values(*op, *kind, a, b) {
-                        Some(v) => Ok(Value::Given(v)),
-                        None => Err(Fault::Unsupported),
-                    },
+                    Value::Given(b) => Ok(Value::Given(chosen(v, a, b))),
                 },
-            }
-        }
-        _ => Err(Fault::Unsupported),
+            },
+        },
     }
 }
 
-/// StreamOperation a statement is left: to the next one, by a break, by a continue, or at the mark at which the run ends.
+/// How a statement is left: to the next one, by a break, by a continue, or at the mark at which the run ends.
 #[derive(Clone, Copy, PartialEq, Eq, Debug)]
 pub enum Flow {
     Next,
@@ -185,7 +246,7 @@ pub enum Flow {
     Stopped(Mark),
 }
 
-/// StreamOperation a turn of a loop is left.
+/// How a turn of a loop is left: for the next test, for what follows the loop, or at a mark.
 #[derive(Clone, Copy, PartialEq, Eq, Debug)]
 pub enum Turn {
     On,
@@ -195,90 +256,335 @@ pub enum Turn {
 
 // A variable gets a value.
 fn set_value(run: &mut Run, x: u32, v: u64)
-    ensures vars { run.new.vars.items ≡ slice_set run.old.vars.items x v }
+    ensures state { state_of run.new.state ≡ set_var (state_of run.old.state) x v }
     ensures heads { run.new.heads ≡ run.old.heads }
     ensures ticks { run.new.ticks ≡ run.old.ticks }
 {
     let i = x as usize;
-    if i < run.vars.len() {
-        run.vars[i] = v;
+    if i < run.state.vars.len() {
+        run.state.vars[i] = v;
     }
 }
 
-// One more tick.
-fn note(run: &mut Run, tick: Tick) -> Result<(), AllocError>
-    ensures ticks { IfOk result (λ u. run.new.ticks.items ≡ run.old.ticks.items ++ tick ∷ []) }
-    ensures vars { run.new.vars ≡ run.old.vars }
+// A cell of an array gets a value.
+fn set_array(run: &mut Run, a: u32, i: u64, v: u64)
+    ensures state { state_of run.new.state ≡ set_cell (state_of run.old.state) a i v }
+    ensures heads { run.new.heads ≡ run.old.heads }
+    ensures ticks { run.new.ticks ≡ run.old.ticks }
+{
+    set_cell_of(&mut run.state.arrays, a, i, v);
+}
+
+// A tick that stores a value in a cell of a memory.
+fn store_tick(run: &mut Run, m: u32, i: u64, v: u64) -> Result<(), AllocError>
+    ensures ticks { IfOk result (λ u. run.new.ticks.items ≡ run.old.ticks.items ++ Did (Store m i v) ∷ []) }
+    ensures state { IfOk result (λ u. state_of run.new.state ≡ store_cell (state_of run.old.state) m i v) }
     ensures heads { run.new.heads ≡ run.old.heads }
 {
-    run.ticks.push(tick)?;
+    note(run, Tick::Did(Action::Store(m, i, v)))?;
+    set_cell_of(&mut run.state.cells, m, i, v);
     Ok(())
+}
+
+// A variable gets a value, in one tick.
+fn set_var_tick(run: &mut Run, x: u32, v: u64) -> Result<(), AllocError>
+    ensures ticks { IfOk result (λ u. run.new.ticks.items ≡ run.old.ticks.items ++ Did Local ∷ []) }
+    ensures state { IfOk result (λ u. state_of run.new.state ≡ set_var (state_of run.old.state) x v) }
+    ensures heads { run.new.heads ≡ run.old.heads }
+{
+    note(run, Tick::Did(Action::Local))?;
+    set_value(run, x, v);
+    Ok(())
+}
+
+fn set_cell_tick(run: &mut Run, a: u32, i: u64, v: u64) -> Result<(), AllocError>
+    ensures ticks { IfOk result (λ u. run.new.ticks.items ≡ run.old.ticks.items ++ Did Local ∷ []) }
+    ensures state { IfOk result (λ u. state_of run.new.state ≡ set_cell (state_of run.old.state) a i v) }
+    ensures heads { run.new.heads ≡ run.old.heads }
+{
+    note(run, Tick::Did(Action::Local))?;
+    set_array(run, a, i, v);
+    Ok(())
+}
+
+// Every cell of a row becomes 0.
+fn zero_row(row: &mut [u64])
+    ensures { row.new ≡ replicate (length row.old) 0 }
+{
+    row.fill(0);
+}
+
+// Every cell of an array becomes 0.
+fn zero_array(run: &mut Run, a: u32)
+    ensures state { state_of run.new.state ≡ cleared (state_of run.old.state) a }
+    ensures heads { run.new.heads ≡ run.old.heads }
+    ensures ticks { run.new.ticks ≡ run.old.ticks }
+{
+    let i = a as usize;
+    if i < run.state.arrays.len() {
+        zero_row(&mut run.state.arrays[i]);
+    }
+}
+
+// How many cells an array has.
+fn cell_count(arrays: &[Vec<u64>], a: u32) -> usize
+    ensures { result ≡ length (slice_index_or (rows_of arrays.now) a []) }
+{
+    match arrays.get(a as usize) {
+        Some(row) => row.len(),
+        None => 0,
+    }
+}
+
+// So many ticks.
+fn note_times(run: &mut Run, count: usize) -> Result<(), AllocError>
+    ensures ticks { IfOk result (λ u. run.new.ticks.items ≡ run.old.ticks.items ++ replicate count (Did Local)) }
+    ensures state { IfOk result (λ u. run.new.state ≡ run.old.state) }
+    ensures heads { IfOk result (λ u. run.new.heads ≡ run.old.heads) }
+{
+    for _tick in 0..count {
+        note(run, Tick::Did(Action::Local))?;
+    }
+    Ok(())
+}
+
+// Every cell of an array becomes 0, one a tick.
+fn clear(run: &mut Run, a: u32) -> Result<(), AllocError>
+    ensures ticks { IfOk result (λ u. run.new.ticks.items ≡ run.old.ticks.items ++ replicate (cells_of (state_of run.old.state) a) (Did Local)) }
+    ensures state { IfOk result (λ u. state_of run.new.state ≡ cleared (state_of run.old.state) a) }
+    ensures heads { IfOk result (λ u. run.new.heads ≡ run.old.heads) }
+{
+    let count = cell_count(&run.state.arrays, a);
+    note_times(run, count)?;
+    zero_array(run, a);
+    Ok(())
+}
+
+/// Two values, or the mark at which the run ends.
+#[derive(Clone, Copy, PartialEq, Eq, Debug)]
+pub enum Pair {
+    Given(u64, u64),
+    Stopped(Mark),
+}
+
+// The values of two expressions, one after the other.
+fn run_pair(
+    lists: &[Vec<Token>],
+    streams: &[u32],
+    run: &mut Run,
+    first: &Expr,
+    second: &Expr,
+) -> Result<Pair, Fault>
+    requires { length run.old.heads.items ≡ length lists.now }
+    ensures heads { IfOk result (λ v. length run.new.heads.items ≡ length lists.now) }
+    ensures state { IfOk result (λ v. run.new.state ≡ run.old.state) }
+    ensures value { IfOk result (λ v. GivesPair (numbers streams.now) v (point lists.now run.old) (λ go. expr first.now (state_of run.old.state) (λ a. expr second.now (state_of run.old.state) (go a))) (point lists.now run.new)) }
+{
+    match run_expr(lists, streams, run, first)? {
+        Value::Stopped(m) => Ok(Pair::Stopped(m)),
+        Value::Given(a) => match run_expr(lists, streams, run, second)? {
+            Value::Stopped(m) => Ok(Pair::Stopped(m)),
+            Value::Given(b) => Ok(Pair::Given(a, b)),
+        },
+    }
+}
+
+// The value of an index, and then that of the token that is read from a stream.
+fn run_read(
+    lists: &[Vec<Token>],
+    streams: &[u32],
+    run: &mut Run,
+    index: &Expr,
+    p: u32,
+) -> Result<Pair, Fault>
+    requires { length run.old.heads.items ≡ length lists.now }
+    ensures heads { IfOk result (λ v. length run.new.heads.items ≡ length lists.now) }
+    ensures state { IfOk result (λ v. run.new.state ≡ run.old.state) }
+    ensures value { IfOk result (λ v. GivesPair (numbers streams.now) v (point lists.now run.old) (λ go. expr index.now (state_of run.old.state) (λ a. Await p ByRead (go a))) (point lists.now run.new)) }
+{
+    match run_expr(lists, streams, run, index)? {
+        Value::Stopped(m) => Ok(Pair::Stopped(m)),
+        Value::Given(a) => match ask_at(lists, streams, run, p, StreamOperation::Read)? {
+            Value::Stopped(m) => Ok(Pair::Stopped(m)),
+            Value::Given(b) => Ok(Pair::Given(a, b)),
+        },
+    }
 }
 
 // One statement.
 #[cycle(statements)]
-fn run_stmt(lists: &[Vec<Token>], run: &mut Run, n: u64, s: &Stmt) -> Result<Flow, Fault>
+fn run_stmt(
+    lists: &[Vec<Token>],
+    leaf: &Leaf,
+    streams: &[u32],
+    run: &mut Run,
+    n: u64,
+    s: &Stmt,
+) -> Result<Flow, Fault>
     requires { length run.old.heads.items ≡ length lists.now }
     ensures heads { IfOk result (λ f. length run.new.heads.items ≡ length lists.now) }
-    ensures flow { IfOk result
-        (λ f. (K : Kinds) → GivesFlow f run.old.ticks.items (stmt K n s.now (state_of run.old.vars.items)) (feed lists.now run.old.heads.items) run.new.ticks.items (feed lists.now run.new.heads.items) (state_of run.new.vars.items)) }
+    ensures flow { IfOk result (λ f. GivesFlow (numbers streams.now) f (point lists.now run.old) (stmt (kinds_of leaf.now) n s.now (state_of run.old.state)) (point lists.now run.new)) }
 {
     match s {
-        Stmt::Set(x, e) => match run_expr(lists, run, e)? {
+        Stmt::Set(x, e) => match run_expr(lists, streams, run, e)? {
             Value::Stopped(m) => Ok(Flow::Stopped(m)),
             Value::Given(v) => {
-                note(run, Tick::Did(Action::Local))?;
-                set_value(run, *x, v);
+                set_var_tick(run, *x, v)?;
                 Ok(Flow::Next)
             }
         },
-        Stmt::Write(p, e) => match run_expr(lists, run, e)? {
-            Value::Stopped(m) => Ok(Flow::Stopped(m)),
-            Value::Given(v) => {
-                note(run, Tick::Did(Action::Put(*p, Token::Datum(v))))?;
+        Stmt::SetCell {
+            array,
+            index,
+            value,
+        } => match run_pair(lists, streams, run, value, index)? {
+            Pair::Stopped(m) => Ok(Flow::Stopped(m)),
+            Pair::Given(v, i) => {
+                set_cell_tick(run, *array, i, v)?;
                 Ok(Flow::Next)
             }
         },
-        Stmt::Open(p) => match ask(lists, run, *p, StreamOperation::Open)? {
+        Stmt::SetCellBy {
+            array,
+            index,
+            op,
+            kind,
+            value,
+        } => match run_pair(lists, streams, run, value, index)? {
+            Pair::Stopped(m) => Ok(Flow::Stopped(m)),
+            Pair::Given(v, i) => {
+                let old = cell_of(&run.state.arrays, *array, i);
+                let new = changed(array_kind(leaf, *array), *kind, *op, old, v)?;
+                set_cell_tick(run, *array, i, new)?;
+                Ok(Flow::Next)
+            }
+        },
+        Stmt::Store {
+            memory,
+            index,
+            value,
+        } => match run_pair(lists, streams, run, value, index)? {
+            Pair::Stopped(m) => Ok(Flow::Stopped(m)),
+            Pair::Given(v, i) => {
+                store_tick(run, *memory, i, v)?;
+                Ok(Flow::Next)
+            }
+        },
+        Stmt::StoreBy {
+            memory,
+            index,
+            op,
+            kind,
+            value,
+        } => match run_pair(lists, streams, run, value, index)? {
+            Pair::Stopped(m) => Ok(Flow::Stopped(m)),
+            Pair::Given(v, i) => {
+                let old = load_cell(run, *memory, i)?;
+                let new = changed(memory_kind(leaf, *memory), *kind, *op, old, v)?;
+                store_tick(run, *memory, i, new)?;
+                Ok(Flow::Next)
+            }
+        },
+        Stmt::ReadVar { stream, var } => match ask_at(
+            lists,
+            streams,
+            run,
+            *stream,
+            StreamOperation::Read,
+        )? {
+            Value::Stopped(m) => Ok(Flow::Stopped(m)),
+            Value::Given(v) => {
+                let v = convert_value(stream_kind(leaf, *stream), var_kind(leaf, *var), v)?;
+                set_var_tick(run, *var, v)?;
+                Ok(Flow::Next)
+            }
+        },
+        Stmt::ReadCell {
+            stream,
+            array,
+            index,
+        } => match run_read(lists, streams, run, index, *stream)? {
+            Pair::Stopped(m) => Ok(Flow::Stopped(m)),
+            Pair::Given(i, v) => {
+                let v = convert_value(stream_kind(leaf, *stream), array_kind(leaf, *array), v)?;
+                set_cell_tick(run, *array, i, v)?;
+                Ok(Flow::Next)
+            }
+        },
+        Stmt::ReadStore {
+            stream,
+            memory,
+            index,
+        } => match run_read(lists, streams, run, index, *stream)? {
+            Pair::Stopped(m) => Ok(Flow::Stopped(m)),
+            Pair::Given(i, v) => {
+                let v = convert_value(stream_kind(leaf, *stream), memory_kind(leaf, *memory), v)?;
+                store_tick(run, *memory, i, v)?;
+                Ok(Flow::Next)
+            }
+        },
+        Stmt::Write(p, e) => match run_expr(lists, streams, run, e)? {
+            Value::Stopped(m) => Ok(Flow::Stopped(m)),
+            Value::Given(v) => {
+                note(
+                    run,
+                    Tick::Did(Action::Put(number_at(streams, *p), Token::Datum(v))),
+                )?;
+                Ok(Flow::Next)
+            }
+        },
+        Stmt::Open(p) => match ask_at(lists, streams, run, *p, StreamOperation::Open)? {
             Value::Stopped(m) => Ok(Flow::Stopped(m)),
             Value::Given(_) => Ok(Flow::Next),
         },
         Stmt::Close(p) => {
-            note(run, Tick::Did(Action::Put(*p, Token::Eot)))?;
+            note(
+                run,
+                Tick::Did(Action::Put(number_at(streams, *p), Token::Eot)),
+            )?;
             Ok(Flow::Next)
         }
-        Stmt::Discard(e) => match run_expr(lists, run, e)? {
+        Stmt::Discard(e) => match run_expr(lists, streams, run, e)? {
             Value::Stopped(m) => Ok(Flow::Stopped(m)),
             Value::Given(_) => Ok(Flow::Next),
         },
-        Stmt::If(e, left, right) => match run_expr(lists, run, e)? {
+        Stmt::Clear(a) => {
+            clear(run, *a)?;
+            Ok(Flow::Next)
+        }
+        Stmt::If(e, left, right) => match run_expr(lists, streams, run, e)? {
             Value::Stopped(m) => Ok(Flow::Stopped(m)),
             Value::Given(v) => {
                 note(run, Tick::Did(Action::Local))?;
                 if v == 0 {
-                    run_block(lists, run, n, right)
+                    run_block(lists, leaf, streams, run, n, right)
                 } else {
-                    run_block(lists, run, n, left)
+                    run_block(lists, leaf, streams, run, n, left)
                 }
             }
         },
-        Stmt::Loop { .. } => run_loop(lists, run, n, s),
+        Stmt::Loop { .. } => run_loop(lists, leaf, streams, run, n, s),
         Stmt::Break => Ok(Flow::Out),
         Stmt::Continue => Ok(Flow::Again),
-        _ => Err(Fault::Unsupported),
     }
 }
 
 // Statements one after another.
 #[cycle(statements)]
-fn run_block(lists: &[Vec<Token>], run: &mut Run, n: u64, code: &[Stmt]) -> Result<Flow, Fault>
+fn run_block(
+    lists: &[Vec<Token>],
+    leaf: &Leaf,
+    streams: &[u32],
+    run: &mut Run,
+    n: u64,
+    code: &[Stmt],
+) -> Result<Flow, Fault>
     requires { length run.old.heads.items ≡ length lists.now }
     ensures heads { IfOk result (λ f. length run.new.heads.items ≡ length lists.now) }
-    ensures flow { IfOk result
-        (λ f. (K : Kinds) → GivesFlow f run.old.ticks.items (statements K n code.now (state_of run.old.vars.items)) (feed lists.now run.old.heads.items) run.new.ticks.items (feed lists.now run.new.heads.items) (state_of run.new.vars.items)) }
+    ensures flow { IfOk result (λ f. GivesFlow (numbers streams.now) f (point lists.now run.old) (statements (kinds_of leaf.now) n code.now (state_of run.old.state)) (point lists.now run.new)) }
 {
     for s in code {
-        match run_stmt(lists, run, n, s)? {
+        match run_stmt(lists, leaf, streams, run, n, s)? {
             Flow::Next => {}
             flow => return Ok(flow),
         }
@@ -288,29 +594,35 @@ fn run_block(lists: &[Vec<Token>], run: &mut Run, n: u64, code: &[Stmt]) -> Resu
 
 // One turn of a loop.
 #[cycle(statements)]
-fn run_turn(lists: &[Vec<Token>], run: &mut Run, n: u64, s: &Stmt) -> Result<Turn, Fault>
+fn run_turn(
+    lists: &[Vec<Token>],
+    leaf: &Leaf,
+    streams: &[u32],
+    run: &mut Run,
+    n: u64,
+    s: &Stmt,
+) -> Result<Turn, Fault>
     requires { length run.old.heads.items ≡ length lists.now }
     ensures heads { IfOk result (λ f. length run.new.heads.items ≡ length lists.now) }
-    ensures turn { IfOk result
-        (λ f. (K : Kinds) → GivesTurn f run.old.ticks.items (turn_of K n s.now (state_of run.old.vars.items)) (feed lists.now run.old.heads.items) run.new.ticks.items (feed lists.now run.new.heads.items) (state_of run.new.vars.items)) }
+    ensures turn { IfOk result (λ f. GivesTurn (numbers streams.now) f (point lists.now run.old) (turn_of (kinds_of leaf.now) n s.now (state_of run.old.state)) (point lists.now run.new)) }
 {
     match s {
-        Stmt::Loop { test, body, step } => match run_expr(lists, run, test)? {
+        Stmt::Loop { test, body, step } => match run_expr(lists, streams, run, test)? {
             Value::Stopped(m) => Ok(Turn::Stopped(m)),
             Value::Given(v) => {
                 note(run, Tick::Did(Action::Local))?;
                 if v == 0 {
                     return Ok(Turn::Over);
                 }
-                match run_block(lists, run, n, body)? {
+                match run_block(lists, leaf, streams, run, n, body)? {
                     Flow::Stopped(m) => Ok(Turn::Stopped(m)),
                     Flow::Out => Ok(Turn::Over),
-                    Flow::Next => Ok(turn_after(run_block(lists, run, n, step)?)),
-                    Flow::Again => Ok(turn_after(run_block(lists, run, n, step)?)),
+                    Flow::Next => Ok(turn_after(run_block(lists, leaf, streams, run, n, step)?)),
+                    Flow::Again => Ok(turn_after(run_block(lists, leaf, streams, run, n, step)?)),
                 }
             }
         },
-        _ => Err(Fault::Unsupported),
+        _ => Ok(Turn::Stopped(Mark::Turns)),
     }
 }
 
@@ -328,14 +640,20 @@ fn turn_after(flow: Flow) -> Turn
 
 // A loop of at most n tests.
 #[cycle(statements)]
-fn run_loop(lists: &[Vec<Token>], run: &mut Run, n: u64, s: &Stmt) -> Result<Flow, Fault>
+fn run_loop(
+    lists: &[Vec<Token>],
+    leaf: &Leaf,
+    streams: &[u32],
+    run: &mut Run,
+    n: u64,
+    s: &Stmt,
+) -> Result<Flow, Fault>
     requires { length run.old.heads.items ≡ length lists.now }
     ensures heads { IfOk result (λ f. length run.new.heads.items ≡ length lists.now) }
-    ensures flow { IfOk result
-        (λ f. (K : Kinds) → GivesFlow f run.old.ticks.items (loop_of K n n s.now (state_of run.old.vars.items)) (feed lists.now run.old.heads.items) run.new.ticks.items (feed lists.now run.new.heads.items) (state_of run.new.vars.items)) }
+    ensures flow { IfOk result (λ f. GivesFlow (numbers streams.now) f (point lists.now run.old) (loop_of (kinds_of leaf.now) n n s.now (state_of run.old.state)) (point lists.now run.new)) }
 {
     for _turn in 0..n {
-        match run_turn(lists, run, n, s)? {
+        match run_turn(lists, leaf, streams, run, n, s)? {
             Turn::On => {}
             Turn::Over => return Ok(Flow::Next),
             Turn::Stopped(m) => return Ok(Flow::Stopped(m)),
@@ -351,26 +669,25 @@ fn none_taken(alloc: Global, n: usize) -> Result<Vec<usize>, AllocError>
     Ok(vec![in alloc; 0; n]?)
 }
 
-/// The trace of a body without arrays and memories: its ticks on whole lists, where each run of a loop makes at most n
-/// tests, and its mark.
+/// The trace of an instance of a leaf: its ticks and its mark on whole lists, one for each stream of the program, where
+/// each run of a loop makes at most n tests. `streams` has the numbers of the streams at the leaf's positions.
 pub fn trace(
     alloc: Global,
-    code: &[Stmt],
-    vars: Vec<u64>,
+    leaf: &Leaf,
+    streams: &[u32],
+    state: Variables,
     n: u64,
     lists: &[Vec<Token>],
 ) -> Result<(Vec<Tick>, Mark), Fault>
-    ensures ticks { IfOk result
-        (λ r. (K : Kinds) → r.0.items ≡ ticks (job_of K code.now (state_of vars.items) n) (whole lists.now)) }
-    ensures mark { IfOk result
-        (λ r. (K : Kinds) → r.1 ≡ mark (job_of K code.now (state_of vars.items) n) (whole lists.now)) }
+    ensures ticks { IfOk result (λ r. r.0.items ≡ ticks (at_streams (numbers streams.now) (job_of (kinds_of leaf.now) leaf.now.code.items (state_of state) n)) (whole lists.now)) }
+    ensures mark { IfOk result (λ r. r.1 ≡ mark (at_streams (numbers streams.now) (job_of (kinds_of leaf.now) leaf.now.code.items (state_of state) n)) (whole lists.now)) }
 {
     let mut run = Run {
-        vars,
+        state,
         heads: none_taken(alloc, lists.len())?,
         ticks: Vec::new(alloc),
     };
-    match run_block(lists, &mut run, n, code)? {
+    match run_block(lists, leaf, streams, &mut run, n, &leaf.code)? {
         Flow::Stopped(m) => Ok((run.ticks, m)),
         _ => {
             note(&mut run, Tick::End)?;

@@ -1,108 +1,159 @@
-use Rattle.std.proofs.Common.{◌+◌, ◌-◌, ◌∷◌, drop, ℕ, sym, ap, subst, refl, ◌∙◌, arith}
+use Rattle.std.proofs.Common.{◌+◌, ◌-◌, List, ◌∷◌, drop, ℕ, sym, ap, refl, ◌∙◌, arith}
 use Rattle.std.specs.Prelude.{Vec}
 use Rattle.std.specs.declared.alloc.Global.{Global}
 use Rattle.std.proofs.lemmas.Result.{IfOk-weaker}
+use Rattle.std.proofs.lemmas.List.{drop_more}
+use Rattle.tapa_syntax.specs.LeafKinds.{kinds_of}
 use Rattle.kahn_model.specs.declared.slow.Flow.TheVariants.{Next, Out, Again, Stopped as StoppedFlow}
 use Rattle.kahn_model.specs.declared.slow.Turn.TheVariants.{On, Over, Stopped as StoppedTurn}
-use Rattle.std.proofs.lemmas.List.{drop_more}
-use Rattle.kahn_model.specs.Slow.{feed, state_of, GivesFlow, turn_of, loop_of, turn_left}
-use Rattle.kahn_model.specs.Trace.{statements, stmt}
-use Rattle.tapa_syntax.specs.LeafKinds.{Kinds}
+use Rattle.kahn_model.specs.Slow.{point, numbers, feed, state_of, rows_of, GivesFlow, turn_of, loop_of, turn_left}
+use Rattle.kahn_model.specs.Trace.{cell, statements, stmt}
 use Rattle.kahn_model.proofs.SlowFlows.{turn_begins, turn_stops, turn_out, turn_next, turn_again, turn_at, flow_at, flow_after, if_begins, code_at_zero, code_not_zero, block_step, block_leaves, loop_on, loop_over, loop_stops}
+use Rattle.kahn_model.proofs.SlowStatements.{set_cell_goes, set_cell_stops, set_cell_by_goes, set_cell_by_stops, store_goes, store_stops, store_by_goes, store_by_stops, read_var_goes, read_var_stops, read_cell_goes, read_cell_stops, read_store_goes, read_store_stops, open_goes, open_stops, clear_goes}
 use Rattle.kahn_model.proofs.slow.+statements.Goals as goal
 
-pub run_turn-returns-in-Stopped-2-clause-turn : goal.run_turn-returns-in-Stopped-2-clause-turn
-run_turn-returns-in-Stopped-2-clause-turn t c = λ K.
-    turn_stops K c.args.n c.args.s.now c.deref.result.now c.in-Loop.step.items (state_of c.args.run.now.vars.items) (state_of c.note.new.run.vars.items) (state_of c.run_block.new.run.vars.items) c.in-Stopped-2.m c.args.run.now.ticks.items c.note.new.run.ticks.items c.run_block.new.run.ticks.items (feed c.args.lists.now c.args.run.now.heads.items) (feed c.args.lists.now c.note.new.run.heads.items) (feed c.args.lists.now c.run_block.new.run.heads.items)
-    (turn_begins K c.args.n c.args.s.now c.in-Loop.test c.in-Loop.body c.in-Loop.step c.deref.result.now c.in-Loop.step.items (state_of c.args.run.now.vars.items) (state_of c.note.new.run.vars.items) c.args.run.now.ticks.items c.run_expr.new.run.ticks.items c.note.new.run.ticks.items (feed c.args.lists.now c.args.run.now.heads.items) (feed c.args.lists.now c.run_expr.new.run.heads.items) (feed c.args.lists.now c.note.new.run.heads.items) c.in_ok-m-in-Loop.field-0 c.in-Given.v c.in-Loop.is c.in-Given.is c.in_ok-m-in-Loop.ensures.value c.in_ok-note-in-Given.ensures.ticks (ap (λ (v : Vec ℕ Global). state_of v.items) (sym (c.in_ok-note-in-Given.ensures.vars ∙ c.in_ok-m-in-Loop.ensures.vars))) (ap (λ (v : Vec ℕ Global). feed c.args.lists.now v.items) (sym c.in_ok-note-in-Given.ensures.heads)) (sym c.deref.ensures.value) refl c.if-v-eq0.false)
-    (flow_at c.in_ok-m-in-Given.field-0 (StoppedFlow c.in-Stopped-2.m) c.note.new.run.ticks.items c.run_block.new.run.ticks.items (statements K c.args.n c.deref.result.now (state_of c.note.new.run.vars.items)) (feed c.args.lists.now c.note.new.run.heads.items) (feed c.args.lists.now c.run_block.new.run.heads.items) (state_of c.run_block.new.run.vars.items) c.in-Stopped-2.is (c.in_ok-m-in-Given.ensures.flow K))
+pub run_stmt-returns-in-Stopped-2-clause-flow : goal.run_stmt-returns-in-Stopped-2-clause-flow
+run_stmt-returns-in-Stopped-2-clause-flow t c =
+    set_cell_stops (numbers c.args.streams.now) (kinds_of c.args.leaf.now) c.args.n c.args.s.now c.in-SetCell.array c.in-SetCell.index c.in-SetCell.value (point c.args.lists.now c.args.run.now) (point c.args.lists.now c.run_pair.new.run) c.in_ok-m-in-SetCell.field-0 c.in-Stopped-2.m c.in-SetCell.is c.in-Stopped-2.is c.in_ok-m-in-SetCell.ensures.value
 
-pub run_turn-returns-in-Out-clause-turn : goal.run_turn-returns-in-Out-clause-turn
-run_turn-returns-in-Out-clause-turn t c = λ K.
-    turn_out K c.args.n c.args.s.now c.deref.result.now c.in-Loop.step.items (state_of c.args.run.now.vars.items) (state_of c.note.new.run.vars.items) (state_of c.run_block.new.run.vars.items) c.args.run.now.ticks.items c.note.new.run.ticks.items c.run_block.new.run.ticks.items (feed c.args.lists.now c.args.run.now.heads.items) (feed c.args.lists.now c.note.new.run.heads.items) (feed c.args.lists.now c.run_block.new.run.heads.items)
-    (turn_begins K c.args.n c.args.s.now c.in-Loop.test c.in-Loop.body c.in-Loop.step c.deref.result.now c.in-Loop.step.items (state_of c.args.run.now.vars.items) (state_of c.note.new.run.vars.items) c.args.run.now.ticks.items c.run_expr.new.run.ticks.items c.note.new.run.ticks.items (feed c.args.lists.now c.args.run.now.heads.items) (feed c.args.lists.now c.run_expr.new.run.heads.items) (feed c.args.lists.now c.note.new.run.heads.items) c.in_ok-m-in-Loop.field-0 c.in-Given.v c.in-Loop.is c.in-Given.is c.in_ok-m-in-Loop.ensures.value c.in_ok-note-in-Given.ensures.ticks (ap (λ (v : Vec ℕ Global). state_of v.items) (sym (c.in_ok-note-in-Given.ensures.vars ∙ c.in_ok-m-in-Loop.ensures.vars))) (ap (λ (v : Vec ℕ Global). feed c.args.lists.now v.items) (sym c.in_ok-note-in-Given.ensures.heads)) (sym c.deref.ensures.value) refl c.if-v-eq0.false)
-    (flow_at c.in_ok-m-in-Given.field-0 Out c.note.new.run.ticks.items c.run_block.new.run.ticks.items (statements K c.args.n c.deref.result.now (state_of c.note.new.run.vars.items)) (feed c.args.lists.now c.note.new.run.heads.items) (feed c.args.lists.now c.run_block.new.run.heads.items) (state_of c.run_block.new.run.vars.items) c.in-Out.is (c.in_ok-m-in-Given.ensures.flow K))
+pub run_stmt-returns-in_ok-set_cell_tick-in-Given-2-clause-flow : goal.run_stmt-returns-in_ok-set_cell_tick-in-Given-2-clause-flow
+run_stmt-returns-in_ok-set_cell_tick-in-Given-2-clause-flow t c =
+    set_cell_goes (numbers c.args.streams.now) (kinds_of c.args.leaf.now) c.args.n c.args.s.now c.in-SetCell.array c.in-SetCell.index c.in-SetCell.value (point c.args.lists.now c.args.run.now) (point c.args.lists.now c.run_pair.new.run) (point c.args.lists.now c.set_cell_tick.new.run) c.in_ok-m-in-SetCell.field-0 c.in-Given-2.v c.in-Given-2.i c.in-SetCell.is c.in-Given-2.is c.in_ok-m-in-SetCell.ensures.value (ap state_of c.in_ok-m-in-SetCell.ensures.state) c.in_ok-set_cell_tick-in-Given-2.ensures.ticks (ap (λ (v : Vec ℕ Global). feed c.args.lists.now v.items) c.in_ok-set_cell_tick-in-Given-2.ensures.heads) c.in_ok-set_cell_tick-in-Given-2.ensures.state
 
-pub run_turn-returns-in_ok-run_block-in-Next-clause-turn : goal.run_turn-returns-in_ok-run_block-in-Next-clause-turn
-run_turn-returns-in_ok-run_block-in-Next-clause-turn t c = λ K.
-    turn_at (turn_left c.in_ok-run_block-in-Next.field-0) _ c.args.run.now.ticks.items c.run_block-in-Next.new.run.ticks.items (turn_of K c.args.n c.args.s.now (state_of c.args.run.now.vars.items)) (feed c.args.lists.now c.args.run.now.heads.items) (feed c.args.lists.now c.run_block-in-Next.new.run.heads.items) (state_of c.run_block-in-Next.new.run.vars.items) (sym c.turn_after.ensures)
-    (turn_next K c.args.n c.args.s.now c.deref.result.now c.deref-in-Next.result.now (state_of c.args.run.now.vars.items) (state_of c.note.new.run.vars.items) (state_of c.run_block.new.run.vars.items) (state_of c.run_block-in-Next.new.run.vars.items) c.args.run.now.ticks.items c.note.new.run.ticks.items c.run_block.new.run.ticks.items c.run_block-in-Next.new.run.ticks.items (feed c.args.lists.now c.args.run.now.heads.items) (feed c.args.lists.now c.note.new.run.heads.items) (feed c.args.lists.now c.run_block.new.run.heads.items) (feed c.args.lists.now c.run_block-in-Next.new.run.heads.items) c.in_ok-run_block-in-Next.field-0
-    (turn_begins K c.args.n c.args.s.now c.in-Loop.test c.in-Loop.body c.in-Loop.step c.deref.result.now c.deref-in-Next.result.now (state_of c.args.run.now.vars.items) (state_of c.note.new.run.vars.items) c.args.run.now.ticks.items c.run_expr.new.run.ticks.items c.note.new.run.ticks.items (feed c.args.lists.now c.args.run.now.heads.items) (feed c.args.lists.now c.run_expr.new.run.heads.items) (feed c.args.lists.now c.note.new.run.heads.items) c.in_ok-m-in-Loop.field-0 c.in-Given.v c.in-Loop.is c.in-Given.is c.in_ok-m-in-Loop.ensures.value c.in_ok-note-in-Given.ensures.ticks (ap (λ (v : Vec ℕ Global). state_of v.items) (sym (c.in_ok-note-in-Given.ensures.vars ∙ c.in_ok-m-in-Loop.ensures.vars))) (ap (λ (v : Vec ℕ Global). feed c.args.lists.now v.items) (sym c.in_ok-note-in-Given.ensures.heads)) (sym c.deref.ensures.value) (sym c.deref-in-Next.ensures.value) c.if-v-eq0.false)
-    (flow_at c.in_ok-m-in-Given.field-0 Next c.note.new.run.ticks.items c.run_block.new.run.ticks.items (statements K c.args.n c.deref.result.now (state_of c.note.new.run.vars.items)) (feed c.args.lists.now c.note.new.run.heads.items) (feed c.args.lists.now c.run_block.new.run.heads.items) (state_of c.run_block.new.run.vars.items) c.in-Next.is (c.in_ok-m-in-Given.ensures.flow K))
-    (c.in_ok-run_block-in-Next.ensures.flow K))
+pub run_stmt-returns-in-Stopped-3-clause-flow : goal.run_stmt-returns-in-Stopped-3-clause-flow
+run_stmt-returns-in-Stopped-3-clause-flow t c =
+    set_cell_by_stops (numbers c.args.streams.now) (kinds_of c.args.leaf.now) c.args.n c.args.s.now c.in-SetCellBy.array c.in-SetCellBy.index c.in-SetCellBy.op c.in-SetCellBy.kind c.in-SetCellBy.value (point c.args.lists.now c.args.run.now) (point c.args.lists.now c.run_pair-in-SetCellBy.new.run) c.in_ok-m-in-SetCellBy.field-0 c.in-Stopped-3.m c.in-SetCellBy.is c.in-Stopped-3.is c.in_ok-m-in-SetCellBy.ensures.value
 
-pub run_turn-returns-in_ok-run_block-in-Again-clause-turn : goal.run_turn-returns-in_ok-run_block-in-Again-clause-turn
-run_turn-returns-in_ok-run_block-in-Again-clause-turn t c = λ K.
-    turn_at (turn_left c.in_ok-run_block-in-Again.field-0) _ c.args.run.now.ticks.items c.run_block-in-Again.new.run.ticks.items (turn_of K c.args.n c.args.s.now (state_of c.args.run.now.vars.items)) (feed c.args.lists.now c.args.run.now.heads.items) (feed c.args.lists.now c.run_block-in-Again.new.run.heads.items) (state_of c.run_block-in-Again.new.run.vars.items) (sym c.turn_after-in-Again.ensures)
-    (turn_again K c.args.n c.args.s.now c.deref.result.now c.deref-in-Again.result.now (state_of c.args.run.now.vars.items) (state_of c.note.new.run.vars.items) (state_of c.run_block.new.run.vars.items) (state_of c.run_block-in-Again.new.run.vars.items) c.args.run.now.ticks.items c.note.new.run.ticks.items c.run_block.new.run.ticks.items c.run_block-in-Again.new.run.ticks.items (feed c.args.lists.now c.args.run.now.heads.items) (feed c.args.lists.now c.note.new.run.heads.items) (feed c.args.lists.now c.run_block.new.run.heads.items) (feed c.args.lists.now c.run_block-in-Again.new.run.heads.items) c.in_ok-run_block-in-Again.field-0
-    (turn_begins K c.args.n c.args.s.now c.in-Loop.test c.in-Loop.body c.in-Loop.step c.deref.result.now c.deref-in-Again.result.now (state_of c.args.run.now.vars.items) (state_of c.note.new.run.vars.items) c.args.run.now.ticks.items c.run_expr.new.run.ticks.items c.note.new.run.ticks.items (feed c.args.lists.now c.args.run.now.heads.items) (feed c.args.lists.now c.run_expr.new.run.heads.items) (feed c.args.lists.now c.note.new.run.heads.items) c.in_ok-m-in-Loop.field-0 c.in-Given.v c.in-Loop.is c.in-Given.is c.in_ok-m-in-Loop.ensures.value c.in_ok-note-in-Given.ensures.ticks (ap (λ (v : Vec ℕ Global). state_of v.items) (sym (c.in_ok-note-in-Given.ensures.vars ∙ c.in_ok-m-in-Loop.ensures.vars))) (ap (λ (v : Vec ℕ Global). feed c.args.lists.now v.items) (sym c.in_ok-note-in-Given.ensures.heads)) (sym c.deref.ensures.value) (sym c.deref-in-Again.ensures.value) c.if-v-eq0.false)
-    (flow_at c.in_ok-m-in-Given.field-0 Again c.note.new.run.ticks.items c.run_block.new.run.ticks.items (statements K c.args.n c.deref.result.now (state_of c.note.new.run.vars.items)) (feed c.args.lists.now c.note.new.run.heads.items) (feed c.args.lists.now c.run_block.new.run.heads.items) (state_of c.run_block.new.run.vars.items) c.in-Again.is (c.in_ok-m-in-Given.ensures.flow K))
-    (c.in_ok-run_block-in-Again.ensures.flow K))
+pub run_stmt-returns-in_ok-set_cell_tick-in-Given-3-clause-flow : goal.run_stmt-returns-in_ok-set_cell_tick-in-Given-3-clause-flow
+run_stmt-returns-in_ok-set_cell_tick-in-Given-3-clause-flow t c =
+    set_cell_by_goes (numbers c.args.streams.now) (kinds_of c.args.leaf.now) c.args.n c.args.s.now c.in-SetCellBy.array c.in-SetCellBy.index c.in-SetCellBy.op c.in-SetCellBy.kind c.in-SetCellBy.value (point c.args.lists.now c.args.run.now) (point c.args.lists.now c.run_pair-in-SetCellBy.new.run) (point c.args.lists.now c.set_cell_tick-in-Given-3.new.run) c.in_ok-m-in-SetCellBy.field-0 c.in-Given-3.v c.in-Given-3.i c.array_kind.result c.cell_of-old.result c.in_ok-new-in-Given-3.new c.in-SetCellBy.is c.in-Given-3.is c.in_ok-m-in-SetCellBy.ensures.value (ap state_of c.in_ok-m-in-SetCellBy.ensures.state) c.array_kind.ensures (c.cell_of-old.ensures ∙ ap (λ (x : List (Vec ℕ Global)). cell (rows_of x) c.in-SetCellBy.array c.in-Given-3.i) c.deref.ensures.value) c.in_ok-new-in-Given-3.ensures c.in_ok-set_cell_tick-in-Given-3.ensures.ticks (ap (λ (v : Vec ℕ Global). feed c.args.lists.now v.items) c.in_ok-set_cell_tick-in-Given-3.ensures.heads) c.in_ok-set_cell_tick-in-Given-3.ensures.state
+
+pub run_stmt-returns-in-Stopped-4-clause-flow : goal.run_stmt-returns-in-Stopped-4-clause-flow
+run_stmt-returns-in-Stopped-4-clause-flow t c =
+    store_stops (numbers c.args.streams.now) (kinds_of c.args.leaf.now) c.args.n c.args.s.now c.in-Store.memory c.in-Store.index c.in-Store.value (point c.args.lists.now c.args.run.now) (point c.args.lists.now c.run_pair-in-Store.new.run) c.in_ok-m-in-Store.field-0 c.in-Stopped-4.m c.in-Store.is c.in-Stopped-4.is c.in_ok-m-in-Store.ensures.value
+
+pub run_stmt-returns-in_ok-store_tick-in-Given-4-clause-flow : goal.run_stmt-returns-in_ok-store_tick-in-Given-4-clause-flow
+run_stmt-returns-in_ok-store_tick-in-Given-4-clause-flow t c =
+    store_goes (numbers c.args.streams.now) (kinds_of c.args.leaf.now) c.args.n c.args.s.now c.in-Store.memory c.in-Store.index c.in-Store.value (point c.args.lists.now c.args.run.now) (point c.args.lists.now c.run_pair-in-Store.new.run) (point c.args.lists.now c.store_tick.new.run) c.in_ok-m-in-Store.field-0 c.in-Given-4.v c.in-Given-4.i c.in-Store.is c.in-Given-4.is c.in_ok-m-in-Store.ensures.value (ap state_of c.in_ok-m-in-Store.ensures.state) c.in_ok-store_tick-in-Given-4.ensures.ticks (ap (λ (v : Vec ℕ Global). feed c.args.lists.now v.items) c.in_ok-store_tick-in-Given-4.ensures.heads) c.in_ok-store_tick-in-Given-4.ensures.state
+
+pub run_stmt-returns-in-Stopped-5-clause-flow : goal.run_stmt-returns-in-Stopped-5-clause-flow
+run_stmt-returns-in-Stopped-5-clause-flow t c =
+    store_by_stops (numbers c.args.streams.now) (kinds_of c.args.leaf.now) c.args.n c.args.s.now c.in-StoreBy.memory c.in-StoreBy.index c.in-StoreBy.op c.in-StoreBy.kind c.in-StoreBy.value (point c.args.lists.now c.args.run.now) (point c.args.lists.now c.run_pair-in-StoreBy.new.run) c.in_ok-m-in-StoreBy.field-0 c.in-Stopped-5.m c.in-StoreBy.is c.in-Stopped-5.is c.in_ok-m-in-StoreBy.ensures.value
+
+pub run_stmt-returns-in_ok-store_tick-in-Given-5-clause-flow : goal.run_stmt-returns-in_ok-store_tick-in-Given-5-clause-flow
+run_stmt-returns-in_ok-store_tick-in-Given-5-clause-flow t c =
+    store_by_goes (numbers c.args.streams.now) (kinds_of c.args.leaf.now) c.args.n c.args.s.now c.in-StoreBy.memory c.in-StoreBy.index c.in-StoreBy.op c.in-StoreBy.kind c.in-StoreBy.value (point c.args.lists.now c.args.run.now) (point c.args.lists.now c.run_pair-in-StoreBy.new.run) (point c.args.lists.now c.load_cell.new.run) (point c.args.lists.now c.store_tick-in-Given-5.new.run) c.in_ok-m-in-StoreBy.field-0 c.in-Given-5.v c.in-Given-5.i c.memory_kind.result c.in_ok-old-in-Given-5.old c.in_ok-new-in-Given-5.new c.in-StoreBy.is c.in-Given-5.is c.in_ok-m-in-StoreBy.ensures.value (ap state_of c.in_ok-m-in-StoreBy.ensures.state) c.memory_kind.ensures c.in_ok-old-in-Given-5.ensures.value c.in_ok-new-in-Given-5.ensures c.in_ok-old-in-Given-5.ensures.ticks (ap (λ (v : Vec ℕ Global). feed c.args.lists.now v.items) c.in_ok-old-in-Given-5.ensures.heads) (ap state_of c.in_ok-old-in-Given-5.ensures.state) c.in_ok-store_tick-in-Given-5.ensures.ticks (ap (λ (v : Vec ℕ Global). feed c.args.lists.now v.items) c.in_ok-store_tick-in-Given-5.ensures.heads) c.in_ok-store_tick-in-Given-5.ensures.state
+
+pub run_stmt-returns-in-Stopped-6-clause-flow : goal.run_stmt-returns-in-Stopped-6-clause-flow
+run_stmt-returns-in-Stopped-6-clause-flow t c =
+    read_var_stops (numbers c.args.streams.now) (kinds_of c.args.leaf.now) c.args.n c.args.s.now c.in-ReadVar.stream c.in-ReadVar.var (point c.args.lists.now c.args.run.now) (point c.args.lists.now c.ask_at.new.run) c.in_ok-m-in-ReadVar.field-0 c.in-Stopped-6.m c.in-ReadVar.is c.in-Stopped-6.is c.in_ok-m-in-ReadVar.ensures.value
+
+pub run_stmt-returns-in_ok-set_var_tick-in-Given-6-clause-flow : goal.run_stmt-returns-in_ok-set_var_tick-in-Given-6-clause-flow
+run_stmt-returns-in_ok-set_var_tick-in-Given-6-clause-flow t c =
+    read_var_goes (numbers c.args.streams.now) (kinds_of c.args.leaf.now) c.args.n c.args.s.now c.in-ReadVar.stream c.in-ReadVar.var (point c.args.lists.now c.args.run.now) (point c.args.lists.now c.ask_at.new.run) (point c.args.lists.now c.set_var_tick-in-Given-6.new.run) c.in_ok-m-in-ReadVar.field-0 c.in-Given-6.v c.stream_kind.result c.var_kind.result c.in_ok-v-in-Given-6.v c.in-ReadVar.is c.in-Given-6.is c.in_ok-m-in-ReadVar.ensures.value (ap state_of c.in_ok-m-in-ReadVar.ensures.state) c.stream_kind.ensures c.var_kind.ensures c.in_ok-v-in-Given-6.ensures c.in_ok-set_var_tick-in-Given-6.ensures.ticks (ap (λ (v : Vec ℕ Global). feed c.args.lists.now v.items) c.in_ok-set_var_tick-in-Given-6.ensures.heads) c.in_ok-set_var_tick-in-Given-6.ensures.state
+
+pub run_stmt-returns-in-Stopped-7-clause-flow : goal.run_stmt-returns-in-Stopped-7-clause-flow
+run_stmt-returns-in-Stopped-7-clause-flow t c =
+    read_cell_stops (numbers c.args.streams.now) (kinds_of c.args.leaf.now) c.args.n c.args.s.now c.in-ReadCell.stream c.in-ReadCell.array c.in-ReadCell.index (point c.args.lists.now c.args.run.now) (point c.args.lists.now c.run_read.new.run) c.in_ok-m-in-ReadCell.field-0 c.in-Stopped-7.m c.in-ReadCell.is c.in-Stopped-7.is c.in_ok-m-in-ReadCell.ensures.value
+
+pub run_stmt-returns-in_ok-set_cell_tick-in-Given-7-clause-flow : goal.run_stmt-returns-in_ok-set_cell_tick-in-Given-7-clause-flow
+run_stmt-returns-in_ok-set_cell_tick-in-Given-7-clause-flow t c =
+    read_cell_goes (numbers c.args.streams.now) (kinds_of c.args.leaf.now) c.args.n c.args.s.now c.in-ReadCell.stream c.in-ReadCell.array c.in-ReadCell.index (point c.args.lists.now c.args.run.now) (point c.args.lists.now c.run_read.new.run) (point c.args.lists.now c.set_cell_tick-in-Given-7.new.run) c.in_ok-m-in-ReadCell.field-0 c.in-Given-7.i c.in-Given-7.v c.stream_kind-in-Given-7.result c.array_kind-in-Given-7.result c.in_ok-v-in-Given-7.v c.in-ReadCell.is c.in-Given-7.is c.in_ok-m-in-ReadCell.ensures.value (ap state_of c.in_ok-m-in-ReadCell.ensures.state) c.stream_kind-in-Given-7.ensures c.array_kind-in-Given-7.ensures c.in_ok-v-in-Given-7.ensures c.in_ok-set_cell_tick-in-Given-7.ensures.ticks (ap (λ (v : Vec ℕ Global). feed c.args.lists.now v.items) c.in_ok-set_cell_tick-in-Given-7.ensures.heads) c.in_ok-set_cell_tick-in-Given-7.ensures.state
+
+pub run_stmt-returns-in-Stopped-8-clause-flow : goal.run_stmt-returns-in-Stopped-8-clause-flow
+run_stmt-returns-in-Stopped-8-clause-flow t c =
+    read_store_stops (numbers c.args.streams.now) (kinds_of c.args.leaf.now) c.args.n c.args.s.now c.in-ReadStore.stream c.in-ReadStore.memory c.in-ReadStore.index (point c.args.lists.now c.args.run.now) (point c.args.lists.now c.run_read-in-ReadStore.new.run) c.in_ok-m-in-ReadStore.field-0 c.in-Stopped-8.m c.in-ReadStore.is c.in-Stopped-8.is c.in_ok-m-in-ReadStore.ensures.value
+
+pub run_stmt-returns-in_ok-store_tick-in-Given-8-clause-flow : goal.run_stmt-returns-in_ok-store_tick-in-Given-8-clause-flow
+run_stmt-returns-in_ok-store_tick-in-Given-8-clause-flow t c =
+    read_store_goes (numbers c.args.streams.now) (kinds_of c.args.leaf.now) c.args.n c.args.s.now c.in-ReadStore.stream c.in-ReadStore.memory c.in-ReadStore.index (point c.args.lists.now c.args.run.now) (point c.args.lists.now c.run_read-in-ReadStore.new.run) (point c.args.lists.now c.store_tick-in-Given-8.new.run) c.in_ok-m-in-ReadStore.field-0 c.in-Given-8.i c.in-Given-8.v c.stream_kind-in-Given-8.result c.memory_kind-in-Given-8.result c.in_ok-v-in-Given-8.v c.in-ReadStore.is c.in-Given-8.is c.in_ok-m-in-ReadStore.ensures.value (ap state_of c.in_ok-m-in-ReadStore.ensures.state) c.stream_kind-in-Given-8.ensures c.memory_kind-in-Given-8.ensures c.in_ok-v-in-Given-8.ensures c.in_ok-store_tick-in-Given-8.ensures.ticks (ap (λ (v : Vec ℕ Global). feed c.args.lists.now v.items) c.in_ok-store_tick-in-Given-8.ensures.heads) c.in_ok-store_tick-in-Given-8.ensures.state
+
+pub run_stmt-returns-in-Stopped-10-clause-flow : goal.run_stmt-returns-in-Stopped-10-clause-flow
+run_stmt-returns-in-Stopped-10-clause-flow t c =
+    open_stops (numbers c.args.streams.now) (kinds_of c.args.leaf.now) c.args.n c.args.s.now c.in-Open.p (point c.args.lists.now c.args.run.now) (point c.args.lists.now c.ask_at-in-Open.new.run) c.in_ok-m-in-Open.field-0 c.in-Stopped-10.m c.in-Open.is c.in-Stopped-10.is c.in_ok-m-in-Open.ensures.value
+
+pub run_stmt-returns-in-Given-10-clause-flow : goal.run_stmt-returns-in-Given-10-clause-flow
+run_stmt-returns-in-Given-10-clause-flow t c =
+    open_goes (numbers c.args.streams.now) (kinds_of c.args.leaf.now) c.args.n c.args.s.now c.in-Open.p (point c.args.lists.now c.args.run.now) (point c.args.lists.now c.ask_at-in-Open.new.run) c.in_ok-m-in-Open.field-0 _ c.in-Open.is c.in-Given-10.is c.in_ok-m-in-Open.ensures.value (ap state_of c.in_ok-m-in-Open.ensures.state)
+
+pub run_stmt-returns-in_ok-clear-in-Clear-clause-flow : goal.run_stmt-returns-in_ok-clear-in-Clear-clause-flow
+run_stmt-returns-in_ok-clear-in-Clear-clause-flow t c =
+    clear_goes (numbers c.args.streams.now) (kinds_of c.args.leaf.now) c.args.n c.args.s.now c.in-Clear.a (point c.args.lists.now c.args.run.now) (point c.args.lists.now c.clear.new.run) c.in-Clear.is c.in_ok-clear-in-Clear.ensures.ticks (ap (λ (v : Vec ℕ Global). feed c.args.lists.now v.items) c.in_ok-clear-in-Clear.ensures.heads) c.in_ok-clear-in-Clear.ensures.state
 
 pub run_stmt-returns-then-v-eq0-clause-flow : goal.run_stmt-returns-then-v-eq0-clause-flow
 run_stmt-returns-then-v-eq0-clause-flow t c =
     IfOk-weaker c.run_block.result
-    (λ f. (K : Kinds) → GivesFlow f c.note-in-Given-5.new.run.ticks.items (statements K c.args.n c.deref.result.now (state_of c.note-in-Given-5.new.run.vars.items)) (feed c.args.lists.now c.note-in-Given-5.new.run.heads.items) c.run_block.new.run.ticks.items (feed c.args.lists.now c.run_block.new.run.heads.items) (state_of c.run_block.new.run.vars.items))
-    (λ f. (K : Kinds) → GivesFlow f c.args.run.now.ticks.items (stmt K c.args.n c.args.s.now (state_of c.args.run.now.vars.items)) (feed c.args.lists.now c.args.run.now.heads.items) c.run_block.new.run.ticks.items (feed c.args.lists.now c.run_block.new.run.heads.items) (state_of c.run_block.new.run.vars.items))
-    (λ f h K. flow_after f c.args.run.now.ticks.items c.note-in-Given-5.new.run.ticks.items c.run_block.new.run.ticks.items (stmt K c.args.n c.args.s.now (state_of c.args.run.now.vars.items)) (statements K c.args.n c.deref.result.now (state_of c.note-in-Given-5.new.run.vars.items)) (feed c.args.lists.now c.args.run.now.heads.items) (feed c.args.lists.now c.note-in-Given-5.new.run.heads.items) (feed c.args.lists.now c.run_block.new.run.heads.items) (state_of c.run_block.new.run.vars.items)
-    (if_begins K c.args.n c.args.s.now c.in-If.e c.in-If.left c.in-If.right c.deref.result.now (state_of c.args.run.now.vars.items) (state_of c.note-in-Given-5.new.run.vars.items) c.args.run.now.ticks.items c.run_expr-in-If.new.run.ticks.items c.note-in-Given-5.new.run.ticks.items (feed c.args.lists.now c.args.run.now.heads.items) (feed c.args.lists.now c.run_expr-in-If.new.run.heads.items) (feed c.args.lists.now c.note-in-Given-5.new.run.heads.items) c.in_ok-m-in-If.field-0 c.in-Given-5.v c.in-If.is c.in-Given-5.is c.in_ok-m-in-If.ensures.value c.in_ok-note-in-Given-5.ensures.ticks (ap (λ (v : Vec ℕ Global). state_of v.items) (sym (c.in_ok-note-in-Given-5.ensures.vars ∙ c.in_ok-m-in-If.ensures.vars))) (ap (λ (v : Vec ℕ Global). feed c.args.lists.now v.items) (sym c.in_ok-note-in-Given-5.ensures.heads)) (code_at_zero c.in-Given-5.v c.in-If.right.items c.in-If.left.items c.if-v-eq0.true ∙ sym c.deref.ensures.value))
-    (h K))
+    (λ x. GivesFlow (numbers c.args.streams.now) x (point c.args.lists.now c.note-in-Given-12.new.run) (statements (kinds_of c.args.leaf.now) c.args.n c.deref-then-v-eq0.result.now (state_of c.note-in-Given-12.new.run.state)) (point c.args.lists.now c.run_block.new.run))
+    (λ x. GivesFlow (numbers c.args.streams.now) x (point c.args.lists.now c.args.run.now) (stmt (kinds_of c.args.leaf.now) c.args.n c.args.s.now (state_of c.args.run.now.state)) (point c.args.lists.now c.run_block.new.run))
+    (λ x h. flow_after (numbers c.args.streams.now) x (point c.args.lists.now c.args.run.now) (point c.args.lists.now c.note-in-Given-12.new.run) (point c.args.lists.now c.run_block.new.run) (stmt (kinds_of c.args.leaf.now) c.args.n c.args.s.now (state_of c.args.run.now.state)) (statements (kinds_of c.args.leaf.now) c.args.n c.deref-then-v-eq0.result.now (state_of c.note-in-Given-12.new.run.state))
+    (if_begins (numbers c.args.streams.now) (kinds_of c.args.leaf.now) c.args.n c.args.s.now c.in-If.e c.in-If.left c.in-If.right c.deref-then-v-eq0.result.now (point c.args.lists.now c.args.run.now) (point c.args.lists.now c.run_expr-in-If.new.run) (point c.args.lists.now c.note-in-Given-12.new.run) c.in_ok-m-in-If.field-0 c.in-Given-12.v c.in-If.is c.in-Given-12.is c.in_ok-m-in-If.ensures.value c.in_ok-note-in-Given-12.ensures.ticks (ap (λ (v : Vec ℕ Global). feed c.args.lists.now v.items) c.in_ok-note-in-Given-12.ensures.heads) (ap state_of (sym (c.in_ok-note-in-Given-12.ensures.state ∙ c.in_ok-m-in-If.ensures.state))) (code_at_zero c.in-Given-12.v c.in-If.right.items c.in-If.left.items c.if-v-eq0.true ∙ sym c.deref-then-v-eq0.ensures.value))
+    h)
     c.run_block.ensures.flow
 
 pub run_stmt-returns-else-v-eq0-clause-flow : goal.run_stmt-returns-else-v-eq0-clause-flow
 run_stmt-returns-else-v-eq0-clause-flow t c =
     IfOk-weaker c.run_block-else-v-eq0.result
-    (λ f. (K : Kinds) → GivesFlow f c.note-in-Given-5.new.run.ticks.items (statements K c.args.n c.deref-else-v-eq0.result.now (state_of c.note-in-Given-5.new.run.vars.items)) (feed c.args.lists.now c.note-in-Given-5.new.run.heads.items) c.run_block-else-v-eq0.new.run.ticks.items (feed c.args.lists.now c.run_block-else-v-eq0.new.run.heads.items) (state_of c.run_block-else-v-eq0.new.run.vars.items))
-    (λ f. (K : Kinds) → GivesFlow f c.args.run.now.ticks.items (stmt K c.args.n c.args.s.now (state_of c.args.run.now.vars.items)) (feed c.args.lists.now c.args.run.now.heads.items) c.run_block-else-v-eq0.new.run.ticks.items (feed c.args.lists.now c.run_block-else-v-eq0.new.run.heads.items) (state_of c.run_block-else-v-eq0.new.run.vars.items))
-    (λ f h K. flow_after f c.args.run.now.ticks.items c.note-in-Given-5.new.run.ticks.items c.run_block-else-v-eq0.new.run.ticks.items (stmt K c.args.n c.args.s.now (state_of c.args.run.now.vars.items)) (statements K c.args.n c.deref-else-v-eq0.result.now (state_of c.note-in-Given-5.new.run.vars.items)) (feed c.args.lists.now c.args.run.now.heads.items) (feed c.args.lists.now c.note-in-Given-5.new.run.heads.items) (feed c.args.lists.now c.run_block-else-v-eq0.new.run.heads.items) (state_of c.run_block-else-v-eq0.new.run.vars.items)
-    (if_begins K c.args.n c.args.s.now c.in-If.e c.in-If.left c.in-If.right c.deref-else-v-eq0.result.now (state_of c.args.run.now.vars.items) (state_of c.note-in-Given-5.new.run.vars.items) c.args.run.now.ticks.items c.run_expr-in-If.new.run.ticks.items c.note-in-Given-5.new.run.ticks.items (feed c.args.lists.now c.args.run.now.heads.items) (feed c.args.lists.now c.run_expr-in-If.new.run.heads.items) (feed c.args.lists.now c.note-in-Given-5.new.run.heads.items) c.in_ok-m-in-If.field-0 c.in-Given-5.v c.in-If.is c.in-Given-5.is c.in_ok-m-in-If.ensures.value c.in_ok-note-in-Given-5.ensures.ticks (ap (λ (v : Vec ℕ Global). state_of v.items) (sym (c.in_ok-note-in-Given-5.ensures.vars ∙ c.in_ok-m-in-If.ensures.vars))) (ap (λ (v : Vec ℕ Global). feed c.args.lists.now v.items) (sym c.in_ok-note-in-Given-5.ensures.heads)) (code_not_zero c.in-Given-5.v c.in-If.right.items c.in-If.left.items c.if-v-eq0.false ∙ sym c.deref-else-v-eq0.ensures.value))
-    (h K))
+    (λ x. GivesFlow (numbers c.args.streams.now) x (point c.args.lists.now c.note-in-Given-12.new.run) (statements (kinds_of c.args.leaf.now) c.args.n c.deref-else-v-eq0.result.now (state_of c.note-in-Given-12.new.run.state)) (point c.args.lists.now c.run_block-else-v-eq0.new.run))
+    (λ x. GivesFlow (numbers c.args.streams.now) x (point c.args.lists.now c.args.run.now) (stmt (kinds_of c.args.leaf.now) c.args.n c.args.s.now (state_of c.args.run.now.state)) (point c.args.lists.now c.run_block-else-v-eq0.new.run))
+    (λ x h. flow_after (numbers c.args.streams.now) x (point c.args.lists.now c.args.run.now) (point c.args.lists.now c.note-in-Given-12.new.run) (point c.args.lists.now c.run_block-else-v-eq0.new.run) (stmt (kinds_of c.args.leaf.now) c.args.n c.args.s.now (state_of c.args.run.now.state)) (statements (kinds_of c.args.leaf.now) c.args.n c.deref-else-v-eq0.result.now (state_of c.note-in-Given-12.new.run.state))
+    (if_begins (numbers c.args.streams.now) (kinds_of c.args.leaf.now) c.args.n c.args.s.now c.in-If.e c.in-If.left c.in-If.right c.deref-else-v-eq0.result.now (point c.args.lists.now c.args.run.now) (point c.args.lists.now c.run_expr-in-If.new.run) (point c.args.lists.now c.note-in-Given-12.new.run) c.in_ok-m-in-If.field-0 c.in-Given-12.v c.in-If.is c.in-Given-12.is c.in_ok-m-in-If.ensures.value c.in_ok-note-in-Given-12.ensures.ticks (ap (λ (v : Vec ℕ Global). feed c.args.lists.now v.items) c.in_ok-note-in-Given-12.ensures.heads) (ap state_of (sym (c.in_ok-note-in-Given-12.ensures.state ∙ c.in_ok-m-in-If.ensures.state))) (code_not_zero c.in-Given-12.v c.in-If.right.items c.in-If.left.items c.if-v-eq0.false ∙ sym c.deref-else-v-eq0.ensures.value))
+    h)
     c.run_block-else-v-eq0.ensures.flow
 
-pub run_stmt-returns-in-Loop-clause-flow : goal.run_stmt-returns-in-Loop-clause-flow
-run_stmt-returns-in-Loop-clause-flow t c =
-    IfOk-weaker c.run_loop.result
-    (λ f. (K : Kinds) → GivesFlow f c.args.run.now.ticks.items (loop_of K c.args.n c.args.n c.args.s.now (state_of c.args.run.now.vars.items)) (feed c.args.lists.now c.args.run.now.heads.items) c.run_loop.new.run.ticks.items (feed c.args.lists.now c.run_loop.new.run.heads.items) (state_of c.run_loop.new.run.vars.items))
-    (λ f. (K : Kinds) → GivesFlow f c.args.run.now.ticks.items (stmt K c.args.n c.args.s.now (state_of c.args.run.now.vars.items)) (feed c.args.lists.now c.args.run.now.heads.items) c.run_loop.new.run.ticks.items (feed c.args.lists.now c.run_loop.new.run.heads.items) (state_of c.run_loop.new.run.vars.items))
-    (λ f h K. subst (λ s. GivesFlow f c.args.run.now.ticks.items (stmt K c.args.n s (state_of c.args.run.now.vars.items)) (feed c.args.lists.now c.args.run.now.heads.items) c.run_loop.new.run.ticks.items (feed c.args.lists.now c.run_loop.new.run.heads.items) (state_of c.run_loop.new.run.vars.items)) (sym c.in-Loop.is)
-    (subst (λ s. GivesFlow f c.args.run.now.ticks.items (loop_of K c.args.n c.args.n s (state_of c.args.run.now.vars.items)) (feed c.args.lists.now c.args.run.now.heads.items) c.run_loop.new.run.ticks.items (feed c.args.lists.now c.run_loop.new.run.heads.items) (state_of c.run_loop.new.run.vars.items)) c.in-Loop.is (h K)))
-    c.run_loop.ensures.flow
+pub run_turn-returns-in-Stopped-2-clause-turn : goal.run_turn-returns-in-Stopped-2-clause-turn
+run_turn-returns-in-Stopped-2-clause-turn t c =
+    turn_stops (numbers c.args.streams.now) (kinds_of c.args.leaf.now) c.args.n c.deref.result.now c.in-Loop.step.items (turn_of (kinds_of c.args.leaf.now) c.args.n c.args.s.now (state_of c.args.run.now.state)) c.in-Stopped-2.m (point c.args.lists.now c.args.run.now) (point c.args.lists.now c.note.new.run) (point c.args.lists.now c.run_block.new.run)
+    (turn_begins (numbers c.args.streams.now) (kinds_of c.args.leaf.now) c.args.n c.args.s.now c.in-Loop.test c.in-Loop.body c.in-Loop.step c.deref.result.now c.in-Loop.step.items (point c.args.lists.now c.args.run.now) (point c.args.lists.now c.run_expr.new.run) (point c.args.lists.now c.note.new.run) c.in_ok-m-in-Loop.field-0 c.in-Given.v c.in-Loop.is c.in-Given.is c.in_ok-m-in-Loop.ensures.value c.in_ok-note-in-Given.ensures.ticks (ap (λ (v : Vec ℕ Global). feed c.args.lists.now v.items) c.in_ok-note-in-Given.ensures.heads) (ap state_of (sym (c.in_ok-note-in-Given.ensures.state ∙ c.in_ok-m-in-Loop.ensures.state))) (sym c.deref.ensures.value) refl c.if-v-eq0.false)
+    (flow_at (numbers c.args.streams.now) c.in_ok-m-in-Given.field-0 (StoppedFlow c.in-Stopped-2.m) (point c.args.lists.now c.note.new.run) (point c.args.lists.now c.run_block.new.run) (statements (kinds_of c.args.leaf.now) c.args.n c.deref.result.now (state_of c.note.new.run.state)) c.in-Stopped-2.is c.in_ok-m-in-Given.ensures.flow)
 
-pub run_stmt-returns-in-Stopped-3-clause-flow : goal.run_stmt-returns-in-Stopped-3-clause-flow
-run_stmt-returns-in-Stopped-3-clause-flow t c = λ K go out again.
-    let h = rw c.in-Stopped-3.is at c.in_ok-m-in-Open.ensures.value in
-    rw c.in-Open.is (h (λ v. go (state_of c.args.run.now.vars.items)))
+pub run_turn-returns-in-Out-clause-turn : goal.run_turn-returns-in-Out-clause-turn
+run_turn-returns-in-Out-clause-turn t c =
+    turn_out (numbers c.args.streams.now) (kinds_of c.args.leaf.now) c.args.n c.deref.result.now c.in-Loop.step.items (turn_of (kinds_of c.args.leaf.now) c.args.n c.args.s.now (state_of c.args.run.now.state)) (point c.args.lists.now c.args.run.now) (point c.args.lists.now c.note.new.run) (point c.args.lists.now c.run_block.new.run)
+    (turn_begins (numbers c.args.streams.now) (kinds_of c.args.leaf.now) c.args.n c.args.s.now c.in-Loop.test c.in-Loop.body c.in-Loop.step c.deref.result.now c.in-Loop.step.items (point c.args.lists.now c.args.run.now) (point c.args.lists.now c.run_expr.new.run) (point c.args.lists.now c.note.new.run) c.in_ok-m-in-Loop.field-0 c.in-Given.v c.in-Loop.is c.in-Given.is c.in_ok-m-in-Loop.ensures.value c.in_ok-note-in-Given.ensures.ticks (ap (λ (v : Vec ℕ Global). feed c.args.lists.now v.items) c.in_ok-note-in-Given.ensures.heads) (ap state_of (sym (c.in_ok-note-in-Given.ensures.state ∙ c.in_ok-m-in-Loop.ensures.state))) (sym c.deref.ensures.value) refl c.if-v-eq0.false)
+    (flow_at (numbers c.args.streams.now) c.in_ok-m-in-Given.field-0 Out (point c.args.lists.now c.note.new.run) (point c.args.lists.now c.run_block.new.run) (statements (kinds_of c.args.leaf.now) c.args.n c.deref.result.now (state_of c.note.new.run.state)) c.in-Out.is c.in_ok-m-in-Given.ensures.flow)
 
-pub run_stmt-returns-in-Given-3-clause-flow : goal.run_stmt-returns-in-Given-3-clause-flow
-run_stmt-returns-in-Given-3-clause-flow t c = λ K go out again.
-    let h = rw c.in-Given-3.is at c.in_ok-m-in-Open.ensures.value in
-    rw (c.in-Open.is, c.in_ok-m-in-Open.ensures.vars) (h (λ v. go (state_of c.args.run.now.vars.items)))
+pub run_turn-returns-in_ok-run_block-in-Next-clause-turn : goal.run_turn-returns-in_ok-run_block-in-Next-clause-turn
+run_turn-returns-in_ok-run_block-in-Next-clause-turn t c =
+    turn_at (numbers c.args.streams.now) (turn_left c.in_ok-run_block-in-Next.field-0) _ (point c.args.lists.now c.args.run.now) (point c.args.lists.now c.run_block-in-Next.new.run) (turn_of (kinds_of c.args.leaf.now) c.args.n c.args.s.now (state_of c.args.run.now.state)) (sym c.turn_after.ensures)
+    (turn_next (numbers c.args.streams.now) (kinds_of c.args.leaf.now) c.args.n c.deref.result.now c.deref-in-Next.result.now (turn_of (kinds_of c.args.leaf.now) c.args.n c.args.s.now (state_of c.args.run.now.state)) (point c.args.lists.now c.args.run.now) (point c.args.lists.now c.note.new.run) (point c.args.lists.now c.run_block.new.run) (point c.args.lists.now c.run_block-in-Next.new.run) c.in_ok-run_block-in-Next.field-0
+    (turn_begins (numbers c.args.streams.now) (kinds_of c.args.leaf.now) c.args.n c.args.s.now c.in-Loop.test c.in-Loop.body c.in-Loop.step c.deref.result.now c.deref-in-Next.result.now (point c.args.lists.now c.args.run.now) (point c.args.lists.now c.run_expr.new.run) (point c.args.lists.now c.note.new.run) c.in_ok-m-in-Loop.field-0 c.in-Given.v c.in-Loop.is c.in-Given.is c.in_ok-m-in-Loop.ensures.value c.in_ok-note-in-Given.ensures.ticks (ap (λ (v : Vec ℕ Global). feed c.args.lists.now v.items) c.in_ok-note-in-Given.ensures.heads) (ap state_of (sym (c.in_ok-note-in-Given.ensures.state ∙ c.in_ok-m-in-Loop.ensures.state))) (sym c.deref.ensures.value) (sym c.deref-in-Next.ensures.value) c.if-v-eq0.false)
+    (flow_at (numbers c.args.streams.now) c.in_ok-m-in-Given.field-0 Next (point c.args.lists.now c.note.new.run) (point c.args.lists.now c.run_block.new.run) (statements (kinds_of c.args.leaf.now) c.args.n c.deref.result.now (state_of c.note.new.run.state)) c.in-Next.is c.in_ok-m-in-Given.ensures.flow)
+    c.in_ok-run_block-in-Next.ensures.flow)
+
+pub run_turn-returns-in_ok-run_block-in-Again-clause-turn : goal.run_turn-returns-in_ok-run_block-in-Again-clause-turn
+run_turn-returns-in_ok-run_block-in-Again-clause-turn t c =
+    turn_at (numbers c.args.streams.now) (turn_left c.in_ok-run_block-in-Again.field-0) _ (point c.args.lists.now c.args.run.now) (point c.args.lists.now c.run_block-in-Again.new.run) (turn_of (kinds_of c.args.leaf.now) c.args.n c.args.s.now (state_of c.args.run.now.state)) (sym c.turn_after-in-Again.ensures)
+    (turn_again (numbers c.args.streams.now) (kinds_of c.args.leaf.now) c.args.n c.deref.result.now c.deref-in-Again.result.now (turn_of (kinds_of c.args.leaf.now) c.args.n c.args.s.now (state_of c.args.run.now.state)) (point c.args.lists.now c.args.run.now) (point c.args.lists.now c.note.new.run) (point c.args.lists.now c.run_block.new.run) (point c.args.lists.now c.run_block-in-Again.new.run) c.in_ok-run_block-in-Again.field-0
+    (turn_begins (numbers c.args.streams.now) (kinds_of c.args.leaf.now) c.args.n c.args.s.now c.in-Loop.test c.in-Loop.body c.in-Loop.step c.deref.result.now c.deref-in-Again.result.now (point c.args.lists.now c.args.run.now) (point c.args.lists.now c.run_expr.new.run) (point c.args.lists.now c.note.new.run) c.in_ok-m-in-Loop.field-0 c.in-Given.v c.in-Loop.is c.in-Given.is c.in_ok-m-in-Loop.ensures.value c.in_ok-note-in-Given.ensures.ticks (ap (λ (v : Vec ℕ Global). feed c.args.lists.now v.items) c.in_ok-note-in-Given.ensures.heads) (ap state_of (sym (c.in_ok-note-in-Given.ensures.state ∙ c.in_ok-m-in-Loop.ensures.state))) (sym c.deref.ensures.value) (sym c.deref-in-Again.ensures.value) c.if-v-eq0.false)
+    (flow_at (numbers c.args.streams.now) c.in_ok-m-in-Given.field-0 Again (point c.args.lists.now c.note.new.run) (point c.args.lists.now c.run_block.new.run) (statements (kinds_of c.args.leaf.now) c.args.n c.deref.result.now (state_of c.note.new.run.state)) c.in-Again.is c.in_ok-m-in-Given.ensures.flow)
+    c.in_ok-run_block-in-Again.ensures.flow)
 
 pub run_block-loop-s-preserved : goal.run_block-loop-s-preserved
-run_block-loop-s-preserved t c = record {
-  heads = c.in_ok-flow.ensures.heads;
-  goes = λ K go out again.
-      block_step K c.args.n (statements K c.args.n c.args.code.now (state_of c.args.run.now.vars.items) go out again) (drop c.loop-s.s-index c.args.code.now) (drop (c.loop-s.s-index + 1) c.args.code.now) c.s-item.result (state_of c.loop-s.run.vars.items) (state_of c.run_stmt.new.run.vars.items) c.args.run.now.ticks.items c.loop-s.run.ticks.items c.run_stmt.new.run.ticks.items (feed c.args.lists.now c.args.run.now.heads.items) (feed c.args.lists.now c.loop-s.run.heads.items) (feed c.args.lists.now c.run_stmt.new.run.heads.items) go out again
-      (c.loop-s.invariant.goes K go out again) (drop_more c.args.code.now c.loop-s.s-index c.s-item.result c.loop-s-test.true ∙ ap (λ x. x ∷ drop (c.loop-s.s-index + 1) c.args.code.now) (sym c.s-item.is))
-      (flow_at c.in_ok-flow.flow Next c.loop-s.run.ticks.items c.run_stmt.new.run.ticks.items (stmt K c.args.n c.s-item.result (state_of c.loop-s.run.vars.items)) (feed c.args.lists.now c.loop-s.run.heads.items) (feed c.args.lists.now c.run_stmt.new.run.heads.items) (state_of c.run_stmt.new.run.vars.items) c.in-Next.is (c.in_ok-flow.ensures.flow K));
-}
+run_block-loop-s-preserved t c =
+    record {
+      heads = c.in_ok-flow.ensures.heads;
+      goes = λ go out again. block_step (numbers c.args.streams.now) (kinds_of c.args.leaf.now) c.args.n (statements (kinds_of c.args.leaf.now) c.args.n c.args.code.now (state_of c.args.run.now.state) go out again) (drop c.loop-s.s-index c.args.code.now) (drop (c.loop-s.s-index + 1) c.args.code.now) c.s-item.result (point c.args.lists.now c.args.run.now) (point c.args.lists.now c.loop-s.run) (point c.args.lists.now c.run_stmt.new.run) go out again (c.loop-s.invariant.goes go out again) (drop_more c.args.code.now c.loop-s.s-index c.s-item.result c.loop-s-test.true ∙ ap (λ x. x ∷ drop (c.loop-s.s-index + 1) c.args.code.now) (sym c.s-item.is))
+          (flow_at (numbers c.args.streams.now) c.in_ok-flow.flow Next (point c.args.lists.now c.loop-s.run) (point c.args.lists.now c.run_stmt.new.run) (stmt (kinds_of c.args.leaf.now) c.args.n c.s-item.result (state_of c.loop-s.run.state)) c.in-Next.is c.in_ok-flow.ensures.flow);
+    }
 
 pub run_block-returns-in_default : goal.run_block-returns-in_default
-run_block-returns-in_default t c = record {
-  heads = c.in_ok-flow.ensures.heads;
-  flow = λ K.
-      block_leaves K c.args.n c.args.code.now (drop c.loop-s.s-index c.args.code.now) (drop (c.loop-s.s-index + 1) c.args.code.now) c.s-item.result (state_of c.args.run.now.vars.items) (state_of c.loop-s.run.vars.items) (state_of c.run_stmt.new.run.vars.items) c.args.run.now.ticks.items c.loop-s.run.ticks.items c.run_stmt.new.run.ticks.items (feed c.args.lists.now c.args.run.now.heads.items) (feed c.args.lists.now c.loop-s.run.heads.items) (feed c.args.lists.now c.run_stmt.new.run.heads.items) c.in_ok-flow.flow c.in_default.not-Next
-      (c.loop-s.invariant.goes K) (drop_more c.args.code.now c.loop-s.s-index c.s-item.result c.loop-s-test.true ∙ ap (λ x. x ∷ drop (c.loop-s.s-index + 1) c.args.code.now) (sym c.s-item.is)) (c.in_ok-flow.ensures.flow K);
-}
+run_block-returns-in_default t c =
+    record {
+      heads = c.in_ok-flow.ensures.heads;
+      flow = block_leaves (numbers c.args.streams.now) (kinds_of c.args.leaf.now) c.args.n c.args.code.now (drop c.loop-s.s-index c.args.code.now) (drop (c.loop-s.s-index + 1) c.args.code.now) c.s-item.result (point c.args.lists.now c.args.run.now) (point c.args.lists.now c.loop-s.run) (point c.args.lists.now c.run_stmt.new.run) c.in_ok-flow.flow c.in_default.not-Next c.loop-s.invariant.goes (drop_more c.args.code.now c.loop-s.s-index c.s-item.result c.loop-s-test.true ∙ ap (λ x. x ∷ drop (c.loop-s.s-index + 1) c.args.code.now) (sym c.s-item.is)) c.in_ok-flow.ensures.flow;
+    }
 
 pub run_loop-loop-turn-preserved : goal.run_loop-loop-turn-preserved
-run_loop-loop-turn-preserved t c = record {
-  heads = c.in_ok-run_turn.ensures.heads;
-  goes = λ K go out again. loop_on K c.args.n (c.args.n - c.loop-turn._turn) (c.args.n - (c.loop-turn._turn + 1)) (loop_of K c.args.n c.args.n c.args.s.now (state_of c.args.run.now.vars.items) go out again) c.args.s.now (state_of c.loop-turn.run.vars.items) (state_of c.run_turn.new.run.vars.items) c.args.run.now.ticks.items c.loop-turn.run.ticks.items c.run_turn.new.run.ticks.items (feed c.args.lists.now c.args.run.now.heads.items) (feed c.args.lists.now c.loop-turn.run.heads.items) (feed c.args.lists.now c.run_turn.new.run.heads.items) go out again (c.loop-turn.invariant.goes K go out again) (omega arith) (turn_at c.in_ok-run_turn.field-0 On c.loop-turn.run.ticks.items c.run_turn.new.run.ticks.items (turn_of K c.args.n c.args.s.now (state_of c.loop-turn.run.vars.items)) (feed c.args.lists.now c.loop-turn.run.heads.items) (feed c.args.lists.now c.run_turn.new.run.heads.items) (state_of c.run_turn.new.run.vars.items) c.in-On.is (c.in_ok-run_turn.ensures.turn K));
-}
+run_loop-loop-turn-preserved t c =
+    record {
+      heads = c.in_ok-run_turn.ensures.heads;
+      goes = λ go out again. loop_on (numbers c.args.streams.now) (kinds_of c.args.leaf.now) c.args.n (c.args.n - c.loop-turn._turn) (c.args.n - (c.loop-turn._turn + 1)) (loop_of (kinds_of c.args.leaf.now) c.args.n c.args.n c.args.s.now (state_of c.args.run.now.state) go out again) c.args.s.now (point c.args.lists.now c.args.run.now) (point c.args.lists.now c.loop-turn.run) (point c.args.lists.now c.run_turn.new.run) go out again (c.loop-turn.invariant.goes go out again) (omega arith) (turn_at (numbers c.args.streams.now) c.in_ok-run_turn.field-0 On (point c.args.lists.now c.loop-turn.run) (point c.args.lists.now c.run_turn.new.run) (turn_of (kinds_of c.args.leaf.now) c.args.n c.args.s.now (state_of c.loop-turn.run.state)) c.in-On.is c.in_ok-run_turn.ensures.turn);
+    }
 
 pub run_loop-returns-in-Over-clause-flow : goal.run_loop-returns-in-Over-clause-flow
-run_loop-returns-in-Over-clause-flow t c = λ K go out again. loop_over K c.args.n (c.args.n - c.loop-turn._turn) (c.args.n - (c.loop-turn._turn + 1)) (loop_of K c.args.n c.args.n c.args.s.now (state_of c.args.run.now.vars.items) go out again) c.args.s.now (state_of c.loop-turn.run.vars.items) (state_of c.run_turn.new.run.vars.items) c.args.run.now.ticks.items c.loop-turn.run.ticks.items c.run_turn.new.run.ticks.items (feed c.args.lists.now c.args.run.now.heads.items) (feed c.args.lists.now c.loop-turn.run.heads.items) (feed c.args.lists.now c.run_turn.new.run.heads.items) go out again (c.loop-turn.invariant.goes K go out again) (omega arith) (turn_at c.in_ok-run_turn.field-0 Over c.loop-turn.run.ticks.items c.run_turn.new.run.ticks.items (turn_of K c.args.n c.args.s.now (state_of c.loop-turn.run.vars.items)) (feed c.args.lists.now c.loop-turn.run.heads.items) (feed c.args.lists.now c.run_turn.new.run.heads.items) (state_of c.run_turn.new.run.vars.items) c.in-Over.is (c.in_ok-run_turn.ensures.turn K))
+run_loop-returns-in-Over-clause-flow t c =
+    λ go out again. loop_over (numbers c.args.streams.now) (kinds_of c.args.leaf.now) c.args.n (c.args.n - c.loop-turn._turn) (c.args.n - (c.loop-turn._turn + 1)) (loop_of (kinds_of c.args.leaf.now) c.args.n c.args.n c.args.s.now (state_of c.args.run.now.state) go out again) c.args.s.now (point c.args.lists.now c.args.run.now) (point c.args.lists.now c.loop-turn.run) (point c.args.lists.now c.run_turn.new.run) go out again (c.loop-turn.invariant.goes go out again) (omega arith) (turn_at (numbers c.args.streams.now) c.in_ok-run_turn.field-0 Over (point c.args.lists.now c.loop-turn.run) (point c.args.lists.now c.run_turn.new.run) (turn_of (kinds_of c.args.leaf.now) c.args.n c.args.s.now (state_of c.loop-turn.run.state)) c.in-Over.is c.in_ok-run_turn.ensures.turn)
 
 pub run_loop-returns-in-Stopped-clause-flow : goal.run_loop-returns-in-Stopped-clause-flow
-run_loop-returns-in-Stopped-clause-flow t c = λ K go out again. loop_stops K c.args.n (c.args.n - c.loop-turn._turn) (c.args.n - (c.loop-turn._turn + 1)) (loop_of K c.args.n c.args.n c.args.s.now (state_of c.args.run.now.vars.items) go out again) c.args.s.now (state_of c.loop-turn.run.vars.items) (state_of c.run_turn.new.run.vars.items) c.in-Stopped.m c.args.run.now.ticks.items c.loop-turn.run.ticks.items c.run_turn.new.run.ticks.items (feed c.args.lists.now c.args.run.now.heads.items) (feed c.args.lists.now c.loop-turn.run.heads.items) (feed c.args.lists.now c.run_turn.new.run.heads.items) go out again (c.loop-turn.invariant.goes K go out again) (omega arith) (turn_at c.in_ok-run_turn.field-0 (StoppedTurn c.in-Stopped.m) c.loop-turn.run.ticks.items c.run_turn.new.run.ticks.items (turn_of K c.args.n c.args.s.now (state_of c.loop-turn.run.vars.items)) (feed c.args.lists.now c.loop-turn.run.heads.items) (feed c.args.lists.now c.run_turn.new.run.heads.items) (state_of c.run_turn.new.run.vars.items) c.in-Stopped.is (c.in_ok-run_turn.ensures.turn K))
+run_loop-returns-in-Stopped-clause-flow t c =
+    λ go out again. loop_stops (numbers c.args.streams.now) (kinds_of c.args.leaf.now) c.args.n (c.args.n - c.loop-turn._turn) (c.args.n - (c.loop-turn._turn + 1)) (loop_of (kinds_of c.args.leaf.now) c.args.n c.args.n c.args.s.now (state_of c.args.run.now.state) go out again) c.args.s.now c.in-Stopped.m (point c.args.lists.now c.args.run.now) (point c.args.lists.now c.loop-turn.run) (point c.args.lists.now c.run_turn.new.run) go out again (c.loop-turn.invariant.goes go out again) (omega arith) (turn_at (numbers c.args.streams.now) c.in_ok-run_turn.field-0 (StoppedTurn c.in-Stopped.m) (point c.args.lists.now c.loop-turn.run) (point c.args.lists.now c.run_turn.new.run) (turn_of (kinds_of c.args.leaf.now) c.args.n c.args.s.now (state_of c.loop-turn.run.state)) c.in-Stopped.is c.in_ok-run_turn.ensures.turn)

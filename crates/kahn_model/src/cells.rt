@@ -1,0 +1,178 @@
+// Values of kinds and rows of cells, as the trace uses them.
+
+ghost use Rattle.std.specs.Prelude.{◌≡◌, ◌-◌, ◌*◌, ◌^◌, ◌<◌, IsTrue, IfOk, slice_index};
+ghost use Rattle.kahn_model.specs.Slow.{rows_of};
+ghost use Rattle.kahn_model.specs.Trace.{at_zero, cell, with_cell};
+ghost use Rattle.tapa_base.specs.Kinds.{bits_of, values_of, converted};
+ghost use Rattle.tapa_base.specs.Operators.{CanApply, applied};
+ghost use Rattle.tapa_syntax.specs.LeafKinds.{kinds_of};
+
+use crate::slow::Fault;
+use tapa_base::{Kind, Op, apply, convert};
+use tapa_syntax::Leaf;
+
+pub(crate) fn var_kind(leaf: &Leaf, x: u32) -> Kind
+    ensures { result ≡ (kinds_of leaf.now).vars x }
+{
+    match leaf.vars.get(x as usize) {
+        Some(kind) => *kind,
+        None => Kind::U64,
+    }
+}
+
+pub(crate) fn array_kind(leaf: &Leaf, a: u32) -> Kind
+    ensures { result ≡ (kinds_of leaf.now).arrays a }
+{
+    match leaf.arrays.get(a as usize) {
+        Some(array) => array.kind,
+        None => Kind::U64,
+    }
+}
+
+pub(crate) fn memory_kind(leaf: &Leaf, m: u32) -> Kind
+    ensures { result ≡ (kinds_of leaf.now).memories m }
+{
+    match leaf.memories.get(m as usize) {
+        Some(kind) => *kind,
+        None => Kind::U64,
+    }
+}
+
+pub(crate) fn stream_kind(leaf: &Leaf, p: u32) -> Kind
+    ensures { result ≡ (kinds_of leaf.now).streams p }
+{
+    match leaf.streams.get(p as usize) {
+        Some(end) => end.kind,
+        None => Kind::U64,
+    }
+}
+
+// The number at a position, and 0 past the end.
+pub(crate) fn number_at(numbers: &[u32], p: u32) -> u32
+    ensures { result ≡ slice_index numbers.now p }
+{
+    match numbers.get(p as usize) {
+        Some(n) => *n,
+        None => 0,
+    }
+}
+
+pub(crate) fn value_at(values: &[u64], p: u32) -> u64
+    ensures { result ≡ slice_index values.now p }
+{
+    match values.get(p as usize) {
+        Some(n) => *n,
+        None => 0,
+    }
+}
+
+// Whether an operator is defined at these operands.
+fn is_defined(op: Op, kind: Kind, a: u64, b: u64) -> bool
+    ensures left { IsTrue result → a < values_of kind }
+    ensures right { IsTrue result → CanApply op kind b }
+{
+    match op {
+        Op::Shl => kind.holds(a),
+        Op::Shr => kind.holds(a),
+        Op::Div => kind.holds(a) && kind.holds(b) && b > 0,
+        Op::Rem => kind.holds(a) && kind.holds(b) && b > 0,
+        _ => kind.holds(a) && kind.holds(b),
+    }
+}
+
+// What an operator gives.
+pub(crate) fn apply_values(op: Op, kind: Kind, a: u64, b: u64) -> Result<u64, Fault>
+    ensures { IfOk result (λ v. v ≡ applied op kind a b) }
+{
+    if is_defined(op, kind, a, b) {
+        Ok(apply(op, kind, a, b))
+    } else {
+        Err(Fault::NotOfItsKind)
+    }
+}
+
+pub(crate) fn convert_value(from: Kind, to: Kind, v: u64) -> Result<u64, Fault>
+    ensures { IfOk result (λ w. w ≡ converted from to v) }
+{
+    if from.holds(v) {
+        Ok(convert(from, to, v))
+    } else {
+        Err(Fault::NotOfItsKind)
+    }
+}
+
+// The cell of kind `own` that holds `old`, after `op=` with a value.
+pub(crate) fn changed(own: Kind, kind: Kind, op: Op, old: u64, v: u64) -> Result<u64, Fault>
+    ensures { IfOk result (λ w. w ≡ converted kind own (applied op kind (converted own kind old) v)) }
+{
+    let left = convert_value(own, kind, old)?;
+    let value = apply_values(op, kind, left, v)?;
+    convert_value(kind, own, value)
+}
+
+pub(crate) fn flipped(kind: Kind, v: u64) -> u64
+    ensures { result ≡ 2 ^ bits_of kind - 1 - v }
+{
+    let top: u64 = match kind {
+        Kind::Bool => 0x1,
+        Kind::I8 | Kind::U8 => 0xff,
+        Kind::I16 | Kind::U16 => 0xffff,
+        Kind::I32 | Kind::U32 => 0xffff_ffff,
+        Kind::I64 | Kind::U64 => 0xffff_ffff_ffff_ffff,
+    };
+    top.saturating_sub(v)
+}
+
+pub(crate) fn negated(v: u64) -> u64
+    ensures { result ≡ 1 - v }
+{
+    1u64.saturating_sub(v)
+}
+
+pub(crate) fn both(a: u64, b: u64) -> Result<u64, Fault>
+    ensures { IfOk result (λ v. v ≡ a * b) }
+{
+    match a.checked_mul(b) {
+        Some(v) => Ok(v),
+        None => Err(Fault::NotOfItsKind),
+    }
+}
+
+pub(crate) fn either(a: u64, b: u64) -> u64
+    ensures { result ≡ 1 - (1 - a) * (1 - b) }
+{
+    if a == 0 { u64::from(b != 0) } else { 1 }
+}
+
+pub(crate) fn chosen(v: u64, a: u64, b: u64) -> u64
+    ensures { result ≡ at_zero v b a }
+{
+    if v == 0 { b } else { a }
+}
+
+// A cell, or 0 past the end.
+pub(crate) fn cell_of(rows: &[Vec<u64>], r: u32, i: u64) -> u64
+    ensures { result ≡ cell (rows_of rows.now) r i }
+{
+    match rows.get(r as usize) {
+        Some(row) => match row.get(i as usize) {
+            Some(v) => *v,
+            None => 0,
+        },
+        None => 0,
+    }
+}
+
+// A cell gets a value, where it is there.
+pub(crate) fn set_cell_of(rows: &mut Vec<Vec<u64>>, r: u32, i: u64, v: u64)
+    ensures { rows_of rows.new.items ≡ with_cell (rows_of rows.old.items) r i v }
+{
+    let r = r as usize;
+    let i = i as usize;
+    if r < rows.len() {
+        let row = &mut rows[r];
+        if i < row.len() {
+            row[i] = v;
+        }
+    }
+}
