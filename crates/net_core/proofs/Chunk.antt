@@ -1,23 +1,21 @@
 -- The ticks of one call are steps of one instance.
-use Rattle.std.proofs.Common.{◌≡◌, ℕ, zero, suc, ◌+◌, ◌-◌, ◌<◌, ◌≤◌, ◌⊎◌, List, [], ◌∷◌, ◌++◌, length, take, Option, Some, None, refl, sym, ap, ◌∙◌, subst, ⊎_elim, arith, length-append, append_assoc, length-take}
+use Rattle.std.proofs.Common.{◌≡◌, ℕ, zero, suc, ◌+◌, ◌-◌, ◌<◌, ◌≤◌, List, [], ◌∷◌, ◌++◌, length, take, Some, refl, sym, ap, ◌∙◌, subst, arith, length-append, append_assoc}
 use Rattle.std.specs.Prelude.{slice_get, flat_map, ◌==◌, if◌then◌else◌}
 use Rattle.std.proofs.Math.Path.{fun_ext}
-use Rattle.std.proofs.lemmas.Bool.{cases_eq, cases_lt}
 use Rattle.std.proofs.lemmas.Bool.Decides.{nat_tests}
 use Rattle.std.proofs.lemmas.List.{append-nil, length-take-le}
 use Rattle.std.proofs.lemmas.Option.{slice_get_within}
 use Rattle.std.proofs.lemmas.Grind.{flat_map-append}
-use Rattle.tapa_base.specs.declared.token.Token.{Token}
 use Rattle.kahn_model.specs.declared.tick.Action.TheVariants.{Local, Put, Load, Store}
 use Rattle.kahn_model.specs.declared.tick.Tick.{Tick}
 use Rattle.kahn_model.specs.declared.tick.Tick.TheVariants.{Did, Take, See, End}
 use Rattle.kahn_model.specs.Prefix.{IsPrefixOf}
 use Rattle.kahn_model.specs.Behavior.{ticks}
-use Rattle.kahn_model.specs.Network.{Network, IsNetwork, put_on, take_from, round}
-use Rattle.kahn_model.specs.Counts.{total, round_of, ticks_made, written, taken, next, HasToken, HasRoom, IsSupplied, IsAllowed, with_tick_of, IsReachable, IsFounded}
-use Rattle.kahn_model.proofs.Order.{prefix_refl, prefix_trans, prefix_flat_map, prefix_take, take_prefix, prefix_length, prefix_get, prefix_whole}
+use Rattle.kahn_model.specs.Network.{Network, IsNetwork, put_on, round}
+use Rattle.kahn_model.specs.Counts.{total, round_of, ticks_made, written, taken, next, HasRoom, IsAllowed, with_tick_of, IsReachable, IsFounded}
+use Rattle.kahn_model.proofs.Order.{prefix_trans, prefix_flat_map, prefix_take, prefix_get, prefix_whole}
 use Rattle.kahn_model.proofs.Grow.{Grows, ticks_grow, round_le}
-use Rattle.kahn_model.proofs.Count.{OwnTick, own_ticks, IsBelow, total_grows, total_bump, bump_same, bump_other, bump_above, made_le, taken_le}
+use Rattle.kahn_model.proofs.Count.{OwnTick, own_ticks, total_bump, bump_same, bump_other, bump_above, made_le, taken_le}
 use Rattle.kahn_model.proofs.Reach.{reach_founded, all_made}
 use Rattle.kahn_model.proofs.Local.{here_is_fed}
 use Rattle.kahn_model.proofs.Ends.{reach_push}
@@ -54,7 +52,7 @@ made_other net ok k i j r r' d =
     let e = bump_other i j k d in
     sym (prefix_whole _ _ (made_le net ok k (with_tick_of i k) (bump_above i k) j) (omega arith))
 
-take_get : {A : Type 0} (n : ℕ) (xs : List A) (x : A) → slice_get xs n ≡ Some x → take (suc n) xs ≡ take n xs ++ x ∷ []
+pub take_get : {A : Type 0} (n : ℕ) (xs : List A) (x : A) → slice_get xs n ≡ Some x → take (suc n) xs ≡ take n xs ++ x ∷ []
 take_get n [] x e = cc
 take_get zero (y ∷ xs) x e = let q : y ≡ x = cc in ap (λ z. z ∷ []) q
 take_get (suc n) (y ∷ xs) x e = ap (λ l. y ∷ l) (take_get n xs x e)

@@ -1,11 +1,11 @@
 -- The ticks of a batch are steps at every later count at which its instance has not moved.
-use Rattle.std.proofs.Common.{◌≡◌, ℕ, ◌+◌, ◌-◌, ◌<◌, ◌≤◌, List, ◌++◌, length, sym, ap, ◌∙◌, subst, arith}
+use Rattle.std.proofs.Common.{◌≡◌, ℕ, ◌<◌, List, ◌++◌, length, sym, ap, ◌∙◌, subst, arith}
 use Rattle.std.specs.Prelude.{flat_map}
 use Rattle.kahn_model.specs.declared.tick.Tick.{Tick}
 use Rattle.kahn_model.specs.Prefix.{IsPrefixOf}
 use Rattle.kahn_model.specs.Behavior.{ticks}
 use Rattle.kahn_model.specs.Network.{Network, IsNetwork, put_on}
-use Rattle.kahn_model.specs.Counts.{ticks_made, written, taken, IsReachable}
+use Rattle.kahn_model.specs.Counts.{ticks_made, written, IsReachable}
 use Rattle.kahn_model.proofs.Order.{prefix_trans, prefix_flat_map, prefix_whole}
 use Rattle.kahn_model.proofs.Grow.{ticks_grow}
 use Rattle.kahn_model.proofs.Count.{IsBelow, made_le, taken_le}

@@ -1,13 +1,14 @@
 -- New tables.
-use Rattle.std.proofs.Common.{◌≡◌, ℕ, zero, suc, ◌+◌, ◌<◌, ◌≤◌, List, [], ◌∷◌, ◌++◌, length, Option, Some, None, refl, sym, ap, ◌∙◌, subst, ⊎_elim, arith}
+use Rattle.std.proofs.Common.{◌≡◌, ℕ, zero, suc, ◌+◌, ◌<◌, List, [], ◌∷◌, ◌++◌, length, map, take, Option, Some, None, refl, sym, ap, ◌∙◌, subst, arith}
 use Rattle.std.specs.Prelude.{slice_get}
 use Rattle.std.specs.Prelude.{replicate, slice_index}
+use Rattle.std.proofs.lemmas.List.{map-append}
+use Rattle.tapa_syntax.specs.declared.program.End.{End}
+use Rattle.net_core.specs.declared.port.Port.{Port}
+use Rattle.net_core.proofs.Chunk.{take_get}
 use Rattle.std.proofs.Math.Path.{fun_ext}
-use Rattle.tapa_base.specs.declared.token.Token.{Token}
 use Rattle.kahn_model.specs.declared.tick.Tick.{Tick}
 use Rattle.tapa_syntax.specs.declared.program.Program.{Program}
-use Rattle.kahn_model.specs.Behavior.{Behavior}
-use Rattle.kahn_model.specs.Network.{Network}
 use Rattle.kahn_model.specs.Counts.{total, written, taken, zeros, IsReachable}
 use Rattle.net_core.specs.declared.ports.Ports.{Ports}
 use Rattle.net_core.specs.declared.body.Pause.{Pause}
@@ -31,6 +32,19 @@ get_push_all f z [] y h g zero = g
 get_push_all f z [] y h g (suc i) = h (suc i)
 get_push_all f z (x ∷ xs) y h g zero = h zero
 get_push_all f z (x ∷ xs) y h g (suc i) = get_push_all f z xs y (λ n. h (suc n)) g i
+
+pub ends_push : (ports zs : List Port) (p : Port) (ends : List End) (n : ℕ) → zs ≡ ports ++ p ∷ [] → map (λ (p : Port). p.end) ports ≡ take n ends → slice_get ends n ≡ Some p.end → map (λ (p : Port). p.end) zs ≡ take (n + 1) ends
+ends_push ports zs p ends n e h g =
+    ap (map (λ (p : Port). p.end)) e ∙ map-append (λ (p : Port). p.end) ports (p ∷ []) ∙ ap (λ l. l ++ p.end ∷ []) h
+    ∙ sym (take_get n ends p.end g) ∙ ap (λ m. take m ends) (let q : suc n ≡ n + 1 = omega arith in q)
+
+abbrev pub no_pauses : ℕ → List (Option Pause)
+no_pauses n = replicate n None
+
+pub none_at : (n i : ℕ) → i < n → slice_get (no_pauses n) i ≡ Some None
+none_at zero i l = absurd (omega arith)
+none_at (suc n) zero l = refl
+none_at (suc n) (suc i) l = none_at n i (omega arith)
 
 pub zero_at : (n i : ℕ) → slice_index (replicate n 0) i ≡ 0
 zero_at zero i = refl
@@ -67,6 +81,7 @@ first_net Stands program input connected network well fits bodies ports writers 
   writers_len = lw;
   offered_len = lo;
   taken_len = lt;
+  unresumed = λ i e. sym (ap (λ m. m i) z);
   standing = λ i b e. record { ticks = []; stands = first i b e; count = ap (λ m. m i) z; tests = 0; runs = tt };
   ends = ends;
   carries = λ i p l d. none i p ∙ ap (λ m. written (network_on program input) m (stream_at program i p)) z;

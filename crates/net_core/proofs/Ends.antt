@@ -1,20 +1,18 @@
 -- How a net ends.
-use Rattle.std.proofs.Common.{◌≡◌, ℕ, zero, suc, ◌+◌, ◌-◌, ◌<◌, ◌≤◌, List, [], ◌∷◌, length, Option, Some, None, refl, sym, ap, ◌∙◌, subst, ⊎_elim, arith, length-take}
+use Rattle.std.proofs.Common.{◌≡◌, ℕ, zero, suc, ◌<◌, List, [], ◌∷◌, Some, refl, sym, ◌∙◌, subst, arith, length-take}
 use Rattle.std.specs.Prelude.{slice_get}
 use Rattle.tapa_base.specs.declared.token.Token.{Token}
 use Rattle.kahn_model.specs.declared.tick.Action.TheVariants.{Put}
 use Rattle.kahn_model.specs.declared.tick.Tick.{Tick}
-use Rattle.kahn_model.specs.declared.tick.Tick.TheVariants.{Did, Take, See, End}
+use Rattle.kahn_model.specs.declared.tick.Tick.TheVariants.{Did, End}
 use Rattle.kahn_model.specs.declared.tick.Mark.{Mark}
 use Rattle.kahn_model.specs.declared.tick.StreamOperation.{StreamOperation}
 use Rattle.kahn_model.specs.declared.tick.StreamOperation.TheVariants.{Read, Peek, TestEot, Open}
 use Rattle.kahn_model.specs.Behavior.{Behavior, Finished, OutOfTurns, Act, Await, Offer, NoToken, WrongToken, Answer, first_offer, tick_of, lists_after, on_offer, ticks, mark}
 use Rattle.kahn_model.specs.declared.tick.Mark.TheVariants.{Ended, Needs, Bad, Turns}
 use Rattle.kahn_model.specs.Network.{Network, IsNetwork, stream, round}
-use Rattle.kahn_model.specs.Counts.{total, round_of, ticks_made, next, written, taken, HasRoom, IsSupplied, IsAllowed, with_tick_of, zeros, IsReachable, IsFounded, IsEnding, HasEnded}
-use Rattle.kahn_model.specs.Outcome.{IsDone, IsStopped, WaitsToWrite, WaitsToRead, HasBadToken}
+use Rattle.kahn_model.specs.Counts.{total, round_of, ticks_made, next, written, HasRoom, IsAllowed, with_tick_of, zeros, IsReachable, IsFounded, IsEnding, HasEnded}
 use Rattle.kahn_model.proofs.Count.{IsBelow, total_bump, total_grows, below_end}
-use Rattle.kahn_model.proofs.Reach.{reach_founded}
 use Rattle.kahn_model.proofs.Local.{here, here_is_fed}
 use Rattle.kahn_model.proofs.Late.{end_last}
 use Rattle.kahn_model.proofs.Order.{prefix_get, take_prefix}

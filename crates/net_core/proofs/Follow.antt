@@ -1,5 +1,5 @@
 -- Steps of what is left of a job.
-use Rattle.std.proofs.Common.{◌≡◌, ℕ, zero, suc, ◌+◌, ◌<◌, ◌≤◌, List, [], ◌∷◌, ◌++◌, length, drop, Bool, true, false, ◌&&◌, Option, Some, None, refl, sym, ap, ◌∙◌, subst, ⊎_elim, arith, length-append, append_assoc}
+use Rattle.std.proofs.Common.{◌≡◌, ℕ, ◌+◌, List, [], ◌∷◌, ◌++◌, length, drop, Bool, true, false, Some, refl, sym, ap, ◌∙◌, subst, length-append, append_assoc}
 use Rattle.std.specs.Prelude.{slice_get, flat_map, ◌==◌, if◌then◌else◌}
 use Rattle.std.proofs.Math.Path.{fun_ext}
 use Rattle.std.proofs.Math.Seq.{drop-append_seam}
@@ -8,22 +8,22 @@ use Rattle.std.proofs.lemmas.Grind.{flat_map-append}
 use Rattle.tapa_base.specs.declared.token.Token.{Token}
 use Rattle.tapa_base.specs.declared.token.Token.TheVariants.{Datum, Eot}
 use Rattle.kahn_model.specs.declared.tick.Action.{Action}
-use Rattle.kahn_model.specs.declared.tick.Action.TheVariants.{Local, Put, Load, Store}
+use Rattle.kahn_model.specs.declared.tick.Action.TheVariants.{Put}
 use Rattle.kahn_model.specs.declared.tick.Tick.{Tick}
-use Rattle.kahn_model.specs.declared.tick.Tick.TheVariants.{Did, Take, See, End}
+use Rattle.kahn_model.specs.declared.tick.Tick.TheVariants.{Did, End}
 use Rattle.kahn_model.specs.declared.tick.Mark.{Mark}
-use Rattle.kahn_model.specs.declared.tick.Mark.TheVariants.{Ended, Needs, Bad, Turns}
+use Rattle.kahn_model.specs.declared.tick.Mark.TheVariants.{Ended, Needs, Bad}
 use Rattle.kahn_model.specs.declared.tick.StreamOperation.{StreamOperation}
 use Rattle.kahn_model.specs.declared.tick.StreamOperation.TheVariants.{Read, Peek, TestEot, Open}
 use Rattle.kahn_model.specs.Prefix.{IsPrefixOf}
-use Rattle.kahn_model.specs.Behavior.{Behavior, Finished, OutOfTurns, Act, Await, Offer, NoToken, WrongToken, Answer, judge_token, first_offer, takes, tick_of, lists_after, on_offer, ticks, mark}
-use Rattle.kahn_model.specs.Network.{put_on, take_from}
+use Rattle.kahn_model.specs.Behavior.{Behavior, Finished, OutOfTurns, Act, Await, Offer, NoToken, WrongToken, Answer, judge_token, first_offer, tick_of, lists_after, on_offer, ticks, mark}
+use Rattle.kahn_model.specs.Network.{take_from}
 use Rattle.kahn_model.proofs.Order.{prefix_trans, prefix_append}
 use Rattle.net_core.specs.declared.ports.Ports.{Ports}
 use Rattle.net_core.specs.declared.body.Pause.{Pause}
 use Rattle.net_core.specs.declared.body.Pause.TheVariants.{Ended as HasEnded, WantsRead, WantsWrite, BadToken, Fuel}
-use Rattle.net_core.specs.Ports.{waiting, room_at, Moved}
-use Rattle.net_core.specs.Resume.{lists_at, Agrees, HasRoomAt, StopsAt, GoesOnBy, PausesBy, Resumed}
+use Rattle.net_core.specs.Ports.{waiting, Moved}
+use Rattle.net_core.specs.Resume.{lists_at, Agrees, HasRoomAt, StopsAt, GoesOnBy, PausesBy}
 use Rattle.net_core.specs.Follow.{Rest, Over, Still, ticks_left, mark_left, left, Follows, Going, IsReady, IsLook}
 use Rattle.net_core.proofs.Moves.{drop_sum, moved_none, moved_append}
 

@@ -1,12 +1,29 @@
 -- Filled ports.
-use Rattle.std.proofs.Common.{◌≡◌, ℕ, zero, suc, ◌+◌, ◌-◌, ◌<◌, ◌≤◌, List, [], ◌∷◌, ◌++◌, length, drop, Bool, true, false, Option, Some, None, refl, sym, ap, ◌∙◌, subst, ⊎_elim, arith}
+use Rattle.std.proofs.Common.{◌≡◌, ℕ, zero, suc, ◌+◌, ◌-◌, ◌<◌, ◌≤◌, List, [], ◌∷◌, ◌++◌, length, drop, Some, refl, sym, ap, ◌∙◌, subst, ⊎_elim, arith}
 use Rattle.std.specs.Prelude.{slice_get, slice_index}
 use Rattle.std.proofs.lemmas.Bool.{cases_lt}
 use Rattle.tapa_syntax.specs.declared.program.Program.{Program}
 use Rattle.net_core.specs.declared.ports.Ports.{Ports}
-use Rattle.net_core.specs.Ports.{IsReloaded, ends_in, carried_of, waiting_of, room_of}
-use Rattle.net_core.specs.Bindings.{IsConnected, ends_at, stream_at, Reads, Writes, producer_of, consumer_of, depth_of}
+use Rattle.tapa_base.specs.declared.token.Token.{Token}
+use Rattle.kahn_model.specs.Fits.{stream_kind}
+use Rattle.net_core.specs.Kinds.{kind_in}
+use Rattle.net_core.specs.Ports.{carried, kind_at, ends_by, carried_by, IsReloaded, ends_in, carried_of, waiting_of, room_of}
+use Rattle.net_core.specs.Bindings.{IsConnected, IsWriter, arity, ends_at, stream_at, Reads, Writes, producer_of, consumer_of, depth_of}
 use Rattle.net_core.specs.Load.{IsIn, AreBelow, HasPorts, AreKept, AreLoaded, IsLoaded, AreWoken, list_at, queue_at}
+
+-- what a reading port is loaded from
+pub list_read : (program : Program) (all : List Ports) (writers : List ℕ) (s s' j q : ℕ) (x : Ports) (list : List Token) → s ≡ s' → j ≡ producer_of program s → slice_index writers s ≡ q → slice_get all j ≡ Some x → list ≡ carried x q → list ≡ list_at program all writers s'
+list_read program all writers s s' j q x list es ej qw at e =
+    e ∙ ap (λ o. carried_by o q) (sym at) ∙ ap (λ z. carried_of all z q) ej ∙ ap (carried_of all (producer_of program s)) (sym qw) ∙ ap (list_at program all writers) es
+
+kind_of_end : (program : Program) → IsConnected program → (i p : ℕ) (all : List Ports) (x : Ports) → p < arity program i → slice_get all i ≡ Some x → ends_in all i ≡ ends_at program i → kind_at x p ≡ stream_kind program (stream_at program i p)
+kind_of_end program connected i p all x l e h = ap (λ ends. kind_in ends p) (ap ends_by (sym e) ∙ h) ∙ connected.kinds i p l
+
+-- the two ends of a stream have its kind
+pub same_kind : (program : Program) → IsConnected program → (all : List Ports) (writers : List ℕ) (i p s j q : ℕ) (x y : Ports) → ((i : ℕ) → i < length program.instances.items → ends_in all i ≡ ends_at program i) → i < length program.instances.items → Reads program i p → s ≡ stream_at program i p → j ≡ producer_of program s → j < length program.instances.items → slice_index writers s ≡ q → IsWriter program s (producer_of program s) (slice_index writers s) → slice_get all i ≡ Some x → slice_get all j ≡ Some y → kind_at y q ≡ kind_at x p
+same_kind program connected all writers i p s j q x y ends inside d es ej lj qw w ex ey =
+    let w' : IsWriter program s j q = subst (λ z. IsWriter program s z q) (sym ej) (subst (IsWriter program s (producer_of program s)) qw w) in
+    kind_of_end program connected j q all y w'.0.0 ey (ends j lj) ∙ ap (stream_kind program) (w'.1 ∙ es) ∙ sym (kind_of_end program connected i p all x d.0 ex (ends i inside))
 
 pub read_or_write : (program : Program) (i p : ℕ) → Reads program i p → Writes program i p → ⊥
 read_or_write program i p r w = let a = r.1 in let b = w.1 in cc

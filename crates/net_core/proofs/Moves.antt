@@ -1,6 +1,6 @@
 -- Ports after ticks.
-use Rattle.std.proofs.Common.{◌≡◌, ℕ, zero, suc, ◌+◌, ◌<◌, ◌≤◌, List, [], ◌∷◌, ◌++◌, length, map, drop, Option, Some, None, refl, sym, ap, ◌∙◌, subst, ⊎_elim, arith, length-append, append_assoc}
-use Rattle.std.specs.Prelude.{slice_get, slice_set, flat_map, Bool, true, false, ◌==◌, if◌then◌else◌}
+use Rattle.std.proofs.Common.{◌≡◌, ℕ, zero, suc, ◌+◌, ◌<◌, List, [], ◌∷◌, ◌++◌, length, map, drop, Some, refl, sym, ap, ◌∙◌, subst, ⊎_elim, arith, length-append, append_assoc}
+use Rattle.std.specs.Prelude.{slice_get, slice_set, flat_map, true, false, ◌==◌, if◌then◌else◌}
 use Rattle.std.proofs.lemmas.Bool.{cases_eq}
 use Rattle.std.proofs.lemmas.Bool.Decides.{nat_tests}
 use Rattle.std.proofs.lemmas.List.{append-nil, length-set}
@@ -8,12 +8,12 @@ use Rattle.std.proofs.lemmas.Option.{slice_get_within}
 use Rattle.std.proofs.lemmas.Grind.{common_steps, flat_map-append}
 use Rattle.tapa_base.specs.declared.token.Token.{Token}
 use Rattle.kahn_model.specs.declared.tick.Tick.{Tick}
-use Rattle.kahn_model.specs.declared.tick.Tick.TheVariants.{Did, Take, See, End}
-use Rattle.kahn_model.specs.declared.tick.Action.TheVariants.{Local, Put, Load, Store}
+use Rattle.kahn_model.specs.declared.tick.Tick.TheVariants.{Did, Take}
+use Rattle.kahn_model.specs.declared.tick.Action.TheVariants.{Put}
 use Rattle.kahn_model.specs.Network.{put_on, take_from}
 use Rattle.net_core.specs.declared.port.Port.{Port}
 use Rattle.net_core.specs.declared.ports.Ports.{Ports}
-use Rattle.net_core.specs.Ports.{waiting_in, carried_in, room_in, waiting, carried, room_at, ends_of, kind_at, Moved, Adjusted, ends_by, carried_by, waiting_by, room_by, ends_in, carried_of, waiting_of, room_of, IsReloaded}
+use Rattle.net_core.specs.Ports.{waiting_in, carried_in, room_in, waiting, carried, room_at, Moved, Adjusted, ends_by, carried_by, waiting_by, room_by, ends_in, carried_of, IsReloaded}
 
 pub drop_sum : {A : Type 0} (m n q : ℕ) (xs : List A) → q ≡ m + n → drop n (drop m xs) ≡ drop q xs
 drop_sum zero n q xs e = ap (λ k. drop k xs) (omega arith)
@@ -51,6 +51,11 @@ moved_still a b t ht hp h = record {
   puts = λ p. h.puts p ∙ ap (λ l. carried a p ++ (l ++ [])) (sym (hp p));
   rooms = λ p. let e = ap (λ (l : List Token). length (l ++ [])) (hp p) in let r = h.rooms p in omega arith;
 }
+
+pub has_item : {A : Type 0} (xs : List A) (i : ℕ) → i < length xs → (x : A) × (slice_get xs i ≡ Some x)
+has_item [] i h = absurd (omega arith)
+has_item (x ∷ xs) zero h = (x, refl)
+has_item (x ∷ xs) (suc i) h = has_item xs i (omega arith)
 
 pub get_set_same : {A : Type 0} (xs : List A) (i : ℕ) (y : A) → i < length xs → slice_get (slice_set xs i y) i ≡ Some y
 get_set_same [] i y h = absurd (omega arith)

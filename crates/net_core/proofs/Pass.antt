@@ -1,11 +1,11 @@
 -- One more visit of a pass.
-use Rattle.std.proofs.Common.{◌≡◌, ℕ, zero, suc, ◌+◌, ◌-◌, ◌<◌, ◌≤◌, ◌⊎◌, List, [], ◌∷◌, length, Bool, true, false, Option, Some, None, refl, sym, ap, ◌∙◌, subst, inl, inr, ⊎_elim, arith}
+use Rattle.std.proofs.Common.{◌≡◌, ℕ, ◌+◌, ◌<◌, ◌≤◌, ◌⊎◌, List, length, Bool, true, Some, subst, inl, inr, ⊎_elim, arith}
 use Rattle.std.specs.Prelude.{slice_get}
 use Rattle.std.proofs.lemmas.Bool.{cases_lt}
 use Rattle.std.proofs.lemmas.Option.{slice_get_within}
 use Rattle.net_core.specs.declared.net_state.NetState.{NetState}
 use Rattle.net_core.specs.Load.{IsIn}
-use Rattle.net_core.specs.Settle.{IsQuiet, Visited, Passed}
+use Rattle.net_core.specs.Settle.{IsQuiet, Visited}
 
 -- an instance is quiet, or on the new list, or still to be visited
 abbrev pub IsCovered : NetState → List ℕ → List ℕ → ℕ → ℕ → Type 0

@@ -1,15 +1,11 @@
 -- Instances that a call leaves as they were.
-use Rattle.std.proofs.Common.{◌≡◌, ℕ, zero, suc, ◌+◌, ◌-◌, ◌<◌, ◌≤◌, ◌⊎◌, List, [], ◌∷◌, length, Bool, true, false, Option, Some, None, refl, sym, ap, ◌∙◌, subst, inl, inr, ⊎_elim, arith}
-use Rattle.std.specs.Prelude.{slice_get, slice_set, ◌==◌, if◌then◌else◌}
+use Rattle.std.proofs.Common.{◌≡◌, ℕ, zero, suc, ◌+◌, ◌-◌, ◌<◌, ◌⊎◌, List, [], ◌∷◌, length, true, false, Some, sym, ap, ◌∙◌, subst, inl, inr, ⊎_elim, arith}
+use Rattle.std.specs.Prelude.{slice_get}
 use Rattle.std.proofs.Math.Path.{fun_ext}
 use Rattle.std.proofs.lemmas.Bool.{cases_eq}
 use Rattle.std.proofs.lemmas.Bool.Decides.{nat_tests}
 use Rattle.tapa_syntax.specs.declared.program.Program.{Program}
-use Rattle.kahn_model.specs.declared.tick.Tick.{Tick}
-use Rattle.kahn_model.specs.Behavior.{Behavior}
-use Rattle.kahn_model.specs.Network.{Network}
 use Rattle.kahn_model.specs.Counts.{total, written, taken, IsAllowed}
-use Rattle.kahn_model.proofs.Reach.{total_has}
 use Rattle.net_core.specs.declared.body.Pause.{Pause}
 use Rattle.net_core.specs.declared.body.Pause.TheVariants.{Fuel}
 use Rattle.net_core.specs.declared.input.Input.{Input}
@@ -18,8 +14,8 @@ use Rattle.net_core.specs.Bindings.{IsConnected, stream_at, Reads, Writes, produ
 use Rattle.net_core.specs.Bounded.{network_on}
 use Rattle.net_core.specs.Waits.{HoldsPause}
 use Rattle.net_core.specs.Load.{IsIn, AreWoken}
-use Rattle.net_core.specs.State.{network, count, total_ticks, given, HasResumed}
-use Rattle.net_core.specs.Settle.{IsQuiet, IsLimited, Visited, Passed}
+use Rattle.net_core.specs.State.{network, count, total_ticks, HasResumed}
+use Rattle.net_core.specs.Settle.{IsQuiet, Visited}
 use Rattle.net_core.proofs.Moves.{get_set_same, get_set_other}
 use Rattle.net_core.proofs.Chunk.{plus, total_plus}
 

@@ -1,15 +1,12 @@
 -- A call of one instance of a net.
-use Rattle.std.proofs.Common.{◌≡◌, ℕ, zero, suc, ◌+◌, ◌-◌, ◌<◌, ◌≤◌, ◌^◌, List, [], ◌∷◌, ◌++◌, length, map, drop, Bool, true, false, Option, Some, None, refl, sym, ap, ◌∙◌, subst, ⊎_elim, arith, length-append, length-drop}
+use Rattle.std.proofs.Common.{◌≡◌, ℕ, ◌+◌, ◌-◌, ◌<◌, ◌≤◌, ◌^◌, List, ◌++◌, length, map, drop, Bool, Option, Some, None, refl, sym, ap, ◌∙◌, subst, ⊎_elim, arith, length-append, length-drop}
 use Rattle.std.specs.Prelude.{slice_get, slice_index, slice_set, flat_map, ◌==◌, if◌then◌else◌}
 use Rattle.std.proofs.Math.Path.{fun_ext}
-use Rattle.std.proofs.lemmas.Bool.{cases_eq, cases_lt}
-use Rattle.std.proofs.lemmas.Bool.Decides.{nat_tests}
+use Rattle.std.proofs.lemmas.Bool.{cases_eq}
 use Rattle.std.proofs.lemmas.List.{length-set, get_or-set_same, get_or-set_other}
 use Rattle.std.proofs.lemmas.Option.{slice_get_within}
-use Rattle.tapa_base.specs.declared.token.Token.{Token}
 use Rattle.kahn_model.specs.declared.tick.Tick.{Tick}
 use Rattle.tapa_syntax.specs.declared.program.Program.{Program}
-use Rattle.kahn_model.specs.Prefix.{IsPrefixOf}
 use Rattle.kahn_model.specs.Behavior.{Behavior}
 use Rattle.kahn_model.specs.Network.{Network, IsNetwork, put_on, take_from}
 use Rattle.kahn_model.specs.Counts.{written, taken, IsAllowed, IsReachable, IsFounded}
@@ -18,23 +15,19 @@ use Rattle.kahn_model.proofs.Reach.{reach_founded}
 use Rattle.net_core.specs.declared.ports.Ports.{Ports}
 use Rattle.net_core.specs.declared.body.Pause.{Pause}
 use Rattle.net_core.specs.declared.body.Pause.TheVariants.{Fuel}
-use Rattle.net_core.specs.Ports.{waiting, carried, room_at, ends_of, Moved, ends_by, carried_by, waiting_by, room_by, ends_in, carried_of, waiting_of, room_of}
+use Rattle.net_core.specs.Ports.{waiting, ends_of, ends_by, carried_by, waiting_by, room_by, ends_in, carried_of}
 use Rattle.net_core.specs.declared.input.Input.{Input}
 use Rattle.net_core.specs.Job.{Job}
 use Rattle.net_core.specs.Resume.{CanResume, Agrees, Resumed}
 use Rattle.net_core.specs.Waits.{HoldsPause}
 use Rattle.net_core.specs.Placement.{tick_at, IsPlaced, IsStanding, PortsAre}
-use Rattle.net_core.specs.Bindings.{IsConnected, IsReader, arity, arity_in, ends_at, stream_at, stream_in, Reads, Writes, producer_of, consumer_of, depth_of}
-use Rattle.net_core.specs.Bounded.{network_on, instance_job, IsNetworkOf, IsBodyAt, count_of, IsNetAt}
-use Rattle.net_core.specs.Load.{HasPorts, AreKept, AreLoaded, list_at, queue_at}
-use Rattle.net_core.proofs.Moves.{get_set_same, get_set_other, test_true, test_false}
-use Rattle.net_core.proofs.Chunk.{plus, plus_same, plus_other, Chunk}
+use Rattle.net_core.specs.Bindings.{IsConnected, IsReader, arity, arity_in, ends_at, stream_at, stream_in, Reads, Writes, producer_of, consumer_of}
+use Rattle.net_core.specs.Bounded.{network_on, instance_job, IsBodyAt, count_of, IsNetAt}
+use Rattle.net_core.specs.State.{HasResumed}
+use Rattle.net_core.specs.Load.{HasPorts, AreKept, AreLoaded, list_at}
+use Rattle.net_core.proofs.Moves.{has_item, get_set_same, get_set_other, test_true, test_false}
+use Rattle.net_core.proofs.Chunk.{plus, plus_other, Chunk}
 use Rattle.net_core.proofs.Stepped.{plus_above, taken_begins, standing_other, holds_other, agrees, stepped, standing, carried_after, taken_after, written_else, taken_else, took_count, holds, goes_on}
-
-pub has_item : {A : Type 0} (xs : List A) (i : ℕ) → i < length xs → (x : A) × (slice_get xs i ≡ Some x)
-has_item [] i h = absurd (omega arith)
-has_item (x ∷ xs) zero h = (x, refl)
-has_item (x ∷ xs) (suc i) h = has_item xs i (omega arith)
 
 pub in_streams : (program : Program) → IsConnected program → (i p : ℕ) → i < length program.instances.items → p < arity program i → stream_at program i p < length program.streams.items
 in_streams program connected i p inside l =
@@ -236,7 +229,7 @@ module _ {B : Type 0} (Stands : B → Job → List Tick → Type 0) (program : P
             ∙ ap (flat_map (put_on s)) (sym (chunk_is.other (net.producer s) (λ e. w (sym e ∙ own)))))
             (cases_eq i j)
 
-        module _ (t' c' : List ℕ) (len' : length t' ≡ length taken_list) (clen' : length c' ≡ length counts) (ec : (j : ℕ) → count_of c' j ≡ (if j == i then count_of counts j + length h.made else count_of counts j)) (tk : (p : ℕ) → Reads program i p → slice_index t' (f p) ≡ slice_index offered' (f p) - length (waiting y p)) (to : (s : ℕ) → ((p : ℕ) → Reads program i p → f p ≡ s → ⊥) → slice_index t' s ≡ slice_index taken_list s) (pauses' : List (Option Pause)) (plen' : length pauses' ≡ length pauses) where
+        module _ (t' c' : List ℕ) (len' : length t' ≡ length taken_list) (clen' : length c' ≡ length counts) (ec : (j : ℕ) → count_of c' j ≡ (if j == i then count_of counts j + length h.made else count_of counts j)) (tk : (p : ℕ) → Reads program i p → slice_index t' (f p) ≡ slice_index offered' (f p) - length (waiting y p)) (to : (s : ℕ) → ((p : ℕ) → Reads program i p → f p ≡ s → ⊥) → slice_index t' s ≡ slice_index taken_list s) (pauses' : List (Option Pause)) (plen' : length pauses' ≡ length pauses) (ep : pauses' ≡ slice_set pauses i (Some pause)) where
           same_count : later ≡ count_of c'
           same_count = fun_ext (λ j. sym (ec j))
 
@@ -254,6 +247,16 @@ module _ {B : Type 0} (Stands : B → Job → List Tick → Type 0) (program : P
             writers_len = n.writers_len;
             offered_len = kept.offered_len ∙ n.offered_len;
             taken_len = len' ∙ n.taken_len;
+            unresumed = λ j e.
+                ⊎_elim
+                (λ (q : i ≡ j).
+                let l : i < length pauses = let a = n.pauses_len in omega arith in
+                let here : slice_get pauses' j ≡ Some (Some pause) = subst (λ z. slice_get pauses' z ≡ Some (Some pause)) q (ap (λ ps. slice_get ps i) ep ∙ get_set_same pauses i (Some pause) l) in
+                absurd (cc))
+                (λ (d : i ≡ j → ⊥).
+                let before : slice_get pauses j ≡ Some None = sym (get_set_other pauses i j (Some pause) d) ∙ ap (λ ps. slice_get ps j) (sym ep) ∙ e in
+                sym (ap (λ m. m j) same_count) ∙ other_same j (λ q. d (sym q)) ∙ n.unresumed j before)
+                (cases_eq i j);
             standing = λ j c e. subst (λ m. IsStanding (Stands c (instance_job program input j)) net m j (job_at j) (stream_at program j)) same_count (standing_all j c e);
             ends = ends_all;
             carries = λ j p l d. carries_all j p l d ∙ ap (λ m. written net m (stream_at program j p)) same_count;
@@ -287,3 +290,16 @@ module _ {B : Type 0} (Stands : B → Job → List Tick → Type 0) (program : P
               subst (λ m. HoldsPause net m j (stream_at program j) z) same_count
               (holds_other net is_network k later i (map (tick_at f) h.made) chunk_is (plus_above i (length h.made) k) other_same j (stream_at program j) z d (n.network.placed j l).inside founded
               (λ s e. ap (λ m. written net m s) same_count ∙ w s (sym (n.network.consumer s) ∙ e)) (λ s e. ap (λ m. taken net m s) same_count ∙ v s (sym (n.network.producer s) ∙ e)) u q)
+
+          pub has_resumed : (made : ℕ) → length h.made ≡ made → HasResumed (record { program = program; input = input; counts = counts; pauses = pauses }) (record { program = program; input = input; counts = c'; pauses = pauses' }) i fuel pause made
+          has_resumed made m = record {
+            given = refl;
+            counts = λ j. ec j ∙ ap (λ z. if j == i then count_of counts j + z else count_of counts j) m;
+            within = let a = h.within in omega arith;
+            fuel_spent = λ e. let z = spent e in (sym m ∙ z.0, z.1);
+            pauses = ep;
+            written_else = written_stays;
+            taken_else = taken_stays;
+            own = own_holds;
+            others = others_hold;
+          }

@@ -1,21 +1,24 @@
 -- The job of a list of steps, step by step.
-use Rattle.std.proofs.Common.{◌≡◌, ℕ, zero, suc, ◌+◌, ◌<◌, ◌≤◌, List, [], ◌∷◌, ◌++◌, length, drop, Bool, true, false, Option, Some, None, refl, sym, ap, ◌∙◌, subst, arith, length-append}
+use Rattle.std.proofs.Common.{◌≡◌, ℕ, zero, suc, ◌+◌, ◌<◌, ◌≤◌, List, [], ◌∷◌, ◌++◌, length, drop, Bool, true, false, Some, None, refl, sym, ap, ◌∙◌, subst, arith, length-append}
 use Rattle.std.specs.Prelude.{slice_get}
+use Rattle.std.proofs.lemmas.List.{length-map}
 use Rattle.tapa_base.specs.declared.token.Token.{Token}
 use Rattle.tapa_base.specs.declared.token.Token.TheVariants.{Datum, Eot}
 use Rattle.kahn_model.specs.declared.tick.Tick.{Tick}
-use Rattle.kahn_model.specs.declared.tick.Tick.TheVariants.{Did, Take, See, End}
+use Rattle.kahn_model.specs.declared.tick.Tick.TheVariants.{Did, Take, End}
 use Rattle.kahn_model.specs.declared.tick.Action.TheVariants.{Local, Put}
 use Rattle.kahn_model.specs.declared.tick.StreamOperation.TheVariants.{Read}
-use Rattle.kahn_model.specs.Behavior.{Behavior, Finished, OutOfTurns, Act, Await, judge_token, Answer, first_offer, on_offer, tick_of, ticks, lists_after}
+use Rattle.kahn_model.specs.Behavior.{Behavior, Finished, Await, judge_token, Answer, first_offer, on_offer, tick_of, ticks, lists_after}
 use Rattle.net_core.specs.declared.ports.Ports.{Ports}
 use Rattle.net_core.specs.declared.script.Step.{Step}
 use Rattle.net_core.specs.declared.script.Step.TheVariants.{Work, Send, Receive}
 use Rattle.net_core.specs.declared.script.Script.{Script}
-use Rattle.net_core.specs.Ports.{waiting, Moved}
-use Rattle.net_core.specs.Resume.{InRange, Resumed}
-use Rattle.net_core.specs.Follow.{Rest, Over, Still, ticks_left, mark_left, left, Going, IsReady, IsLook}
-use Rattle.net_core.specs.Script.{script, rest_by, rest_of, AreInRange, IsAt, GoesTo}
+use Rattle.net_core.specs.Ports.{waiting, port_count, ends_of, Moved}
+use Rattle.tapa_syntax.specs.declared.program.End.{End as StreamEnd}
+use Rattle.net_core.specs.Job.{Job}
+use Rattle.net_core.specs.Resume.{Resumed}
+use Rattle.net_core.specs.Follow.{Rest, Over, Still, Going, IsReady, IsLook}
+use Rattle.net_core.specs.Script.{script, rest_by, rest_of, AreAtStreams, IsAt, GoesTo}
 use Rattle.net_core.specs.declared.body.Pause.{Pause}
 use Rattle.net_core.specs.declared.body.Pause.TheVariants.{Fuel}
 use Rattle.net_core.proofs.Follow.{step_do, step_end, step_ask, going_step, paused}
@@ -40,11 +43,12 @@ rest_some ended steps n m x e g f =
     ap (λ b. rest_by b (drop n steps)) e ∙ ap (λ l. Still (script l)) (drop_some steps n x g)
     ∙ ap (λ k. Still (script (x ∷ drop k steps))) (let q : suc n ≡ m = omega arith in q)
 
-pub in_range_put : (m p : ℕ) (t : Token) (r : Rest) (l : List Step) → r ≡ Still (script (Send p t ∷ l)) → AreInRange m r → p < m
-in_range_put m p t r l e h = (subst (AreInRange m) e h).0
+-- the next step is at streams that are there
+pub streams_here : (ends : List StreamEnd) (steps : List Step) (n m : ℕ) (x : Step) → slice_get steps n ≡ Some x → m ≡ n + 1 → AreAtStreams ends (drop n steps) → AreAtStreams ends (x ∷ drop m steps)
+streams_here ends steps n m x g e h = subst (AreAtStreams ends) (drop_some steps n x g ∙ ap (λ k. x ∷ drop k steps) (let q : suc n ≡ m = omega arith in q)) h
 
-pub in_range_ask : (m p : ℕ) (r : Rest) (l : List Step) → r ≡ Still (script (Receive p ∷ l)) → AreInRange m r → p < m
-in_range_ask m p r l e h = (subst (AreInRange m) e h).0
+pub count_ends : (ports : Ports) → length (ends_of ports) ≡ port_count ports
+count_ends ports = length-map ports.ports.items _
 
 get_none : (l : List Token) → slice_get l 0 ≡ None → l ≡ []
 get_none [] e = refl
@@ -57,19 +61,19 @@ pub goes_end : (rest next : Rest) (before after : Ports) → rest ≡ Still Fini
 goes_end rest next before after e f m =
     subst (λ r. GoesTo r before next after) (sym e)
     (subst (λ n. GoesTo (Still Finished) before n after) (sym f)
-    (record { tick = End; step = λ ins q. step_end ins; more = []; head = refl; moved = m; in_range = λ n h. tt }))
+    (record { tick = End; step = λ ins q. step_end ins; more = []; head = refl; moved = m }))
 
 pub goes_work : (rest next : Rest) (before after : Ports) (l : List Step) → rest ≡ Still (script (Work ∷ l)) → next ≡ Still (script l) → Moved before (Did Local ∷ []) after → GoesTo rest before next after
 goes_work rest next before after l e f m =
     subst (λ r. GoesTo r before next after) (sym e)
     (subst (λ n. GoesTo (Still (script (Work ∷ l))) before n after) (sym f)
-    (record { tick = Did Local; step = λ ins q. step_do Local (script l) ins; more = ticks (script l) (λ p. waiting before p); head = refl; moved = m; in_range = λ n h. h.1 }))
+    (record { tick = Did Local; step = λ ins q. step_do Local (script l) ins; more = ticks (script l) (λ p. waiting before p); head = refl; moved = m }))
 
 pub goes_send : (rest next : Rest) (before after : Ports) (p : ℕ) (t : Token) (l : List Step) → rest ≡ Still (script (Send p t ∷ l)) → next ≡ Still (script l) → Moved before (Did (Put p t) ∷ []) after → GoesTo rest before next after
 goes_send rest next before after p t l e f m =
     subst (λ r. GoesTo r before next after) (sym e)
     (subst (λ n. GoesTo (Still (script (Send p t ∷ l))) before n after) (sym f)
-    (record { tick = Did (Put p t); step = λ ins q. step_do (Put p t) (script l) ins; more = ticks (script l) (λ p. waiting before p); head = refl; moved = m; in_range = λ n h. h.1 }))
+    (record { tick = Did (Put p t); step = λ ins q. step_do (Put p t) (script l) ins; more = ticks (script l) (λ p. waiting before p); head = refl; moved = m }))
 
 find_is : (l : List Token) (v : ℕ) → slice_get l 0 ≡ Some (Datum v) → first_offer Read l ≡ Answer (Datum v) v
 find_is [] v e = cc
@@ -85,7 +89,6 @@ goes_receive rest next before after p v l e f g m =
       more = ticks (script l) (lists_after Read p (λ p. waiting before p));
       head = ap (λ o. on_offer o [] [] (λ t w. tick_of Read p t ∷ ticks (script l) (lists_after Read p (λ p. waiting before p)))) (find_is (waiting before p) v g);
       moved = m;
-      in_range = λ n h. h.1 v;
     }))
 
 -- a script that may read has a datum
@@ -120,13 +123,13 @@ going_more job ts before ports ports' rest rest' m x (made, l, g) = (
   going_step job ts before made ports (λ n. rest) g (λ n. rest') x.tick x.more ports' (λ n ins q. x.step ins q) x.head x.moved,
 )
 
-pub resumed : (a b : Script) (job : ℕ → Behavior) (ts : List Tick) (before after : Ports) (fuel m : ℕ) (pause : Pause) → IsAt a job ts → ((r : ℕ) → ((n : ℕ) → InRange r (job n)) → AreInRange r (rest_of b)) → b.made ≡ a.made + m → m ≤ fuel → ((made : List Tick) × (length made ≡ m) × Going job ts before made after (λ n. rest_of b)) → (pause ≡ Fuel → m ≡ fuel) → IsLook (rest_of b) after pause → Resumed (IsAt b job) job ts before fuel pause after
+pub resumed : (a b : Script) (job : Job) (ts : List Tick) (before after : Ports) (fuel m : ℕ) (pause : Pause) → IsAt a job ts → AreAtStreams job.ends (drop b.at b.steps.items) → b.made ≡ a.made + m → m ≤ fuel → ((made : List Tick) × (length made ≡ m) × Going job.behavior ts before made after (λ n. rest_of b)) → (pause ≡ Fuel → m ≡ fuel) → IsLook (rest_of b) after pause → Resumed (IsAt b job) job.behavior ts before fuel pause after
 resumed a b job ts before after fuel m pause s r e le (made, l, g) f look = record {
   made = made;
   within = omega arith;
-  stands = record { follows = g.follows; count = (let x = length-append ts made in let c = s.count in omega arith); in_range = r };
+  stands = record { follows = g.follows; count = (let x = length-append ts made in let c = s.count in omega arith); at_streams = r };
   tests = g.tests;
   are_next = g.runs;
   moved = g.moved;
-  pauses = paused job ts before made after (λ n. rest_of b) g (length made ≡ fuel) pause (λ q. l ∙ f q) look;
+  pauses = paused job.behavior ts before made after (λ n. rest_of b) g (length made ≡ fuel) pause (λ q. l ∙ f q) look;
 }

@@ -1,19 +1,13 @@
 -- How driving a net ends.
-use Rattle.std.proofs.Common.{◌≡◌, ℕ, ◌+◌, ◌-◌, ◌<◌, ◌≤◌, ◌⊎◌, List, length, Bool, true, false, Option, Some, None, refl, sym, ap, ◌∙◌, subst, ⊎_elim, arith}
-use Rattle.std.specs.Prelude.{slice_get}
-use Rattle.tapa_syntax.specs.declared.program.Program.{Program}
-use Rattle.kahn_model.specs.declared.tick.Tick.{Tick}
-use Rattle.kahn_model.specs.Behavior.{Behavior}
-use Rattle.kahn_model.specs.Network.{Network, IsNetwork}
-use Rattle.kahn_model.specs.Counts.{total, IsAllowed, IsReachable, IsFounded, IsEnding, HasEnded}
-use Rattle.kahn_model.specs.Outcome.{IsDone, IsStopped}
+use Rattle.std.proofs.Common.{◌≡◌, ℕ, ◌+◌, ◌-◌, ◌<◌, length, Some, ap, ◌∙◌, subst, arith}
+use Rattle.kahn_model.specs.Network.{IsNetwork}
+use Rattle.kahn_model.specs.Counts.{IsReachable, IsFounded, IsEnding}
 use Rattle.kahn_model.proofs.Reach.{reach_founded}
-use Rattle.net_core.specs.declared.body.Pause.{Pause}
-use Rattle.net_core.specs.declared.body.Pause.TheVariants.{Ended, Fuel}
+use Rattle.net_core.specs.declared.body.Pause.TheVariants.{Ended}
 use Rattle.net_core.specs.declared.outcome.Outcome.TheVariants.{Done, Stopped, Limit}
 use Rattle.net_core.specs.declared.net_state.NetState.{NetState}
 use Rattle.net_core.specs.Bindings.{stream_at}
-use Rattle.net_core.specs.Waits.{HoldsPause, IsToldBy}
+use Rattle.net_core.specs.Waits.{IsToldBy}
 use Rattle.net_core.specs.State.{network, count, total_ticks}
 use Rattle.net_core.specs.Settle.{IsQuiet, IsLimited, EndsAs, AreTold, AreAllEnded, IsSomeNotEnded}
 use Rattle.net_core.proofs.Ends.{stopped, told, is_limit, not_ended}

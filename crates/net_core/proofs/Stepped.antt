@@ -1,35 +1,33 @@
 -- What a call of resume does to a network's count.
-use Rattle.std.proofs.Common.{◌≡◌, ℕ, zero, suc, ◌+◌, ◌-◌, ◌<◌, ◌≤◌, ◌⊎◌, List, [], ◌∷◌, ◌++◌, length, map, take, drop, Option, Some, None, refl, sym, ap, ◌∙◌, subst, inl, inr, ⊎_elim, arith, length-append, length-take, length-drop}
-use Rattle.std.specs.Prelude.{slice_get, flat_map, ◌==◌, if◌then◌else◌}
+use Rattle.std.proofs.Common.{◌≡◌, ℕ, ◌+◌, ◌-◌, ◌<◌, ◌≤◌, List, [], ◌∷◌, ◌++◌, length, map, take, drop, Some, refl, sym, ap, ◌∙◌, subst, ⊎_elim, arith, length-append, length-take, length-drop}
+use Rattle.std.specs.Prelude.{slice_get, flat_map}
 use Rattle.std.proofs.lemmas.Bool.{cases_lt, cases_eq}
 use Rattle.std.proofs.lemmas.Bool.Decides.{nat_tests}
 use Rattle.std.proofs.lemmas.List.{append-nil, length-take-le, take_all, map-append, length-map}
-use Rattle.std.proofs.lemmas.Option.{slice_get_within}
 use Rattle.std.proofs.lemmas.Grind.{flat_map-append}
 use Rattle.tapa_base.specs.declared.token.Token.{Token}
 use Rattle.kahn_model.specs.declared.tick.Action.TheVariants.{Local, Put, Load, Store}
 use Rattle.kahn_model.specs.declared.tick.Tick.{Tick}
 use Rattle.kahn_model.specs.declared.tick.Tick.TheVariants.{Did, Take, See, End}
 use Rattle.kahn_model.specs.declared.tick.Mark.{Mark}
-use Rattle.kahn_model.specs.declared.tick.Mark.TheVariants.{Ended, Needs, Bad, Turns}
+use Rattle.kahn_model.specs.declared.tick.Mark.TheVariants.{Ended, Needs, Bad}
 use Rattle.kahn_model.specs.Prefix.{IsPrefixOf}
 use Rattle.kahn_model.specs.Behavior.{Behavior, Finished, OutOfTurns, Act, Await, ticks, mark, Extends}
-use Rattle.kahn_model.specs.Trace.{at_streams}
 use Rattle.kahn_model.specs.Network.{Network, IsNetwork, put_on, take_from, round}
-use Rattle.kahn_model.specs.Counts.{total, round_of, ticks_made, written, taken, next, HasToken, HasRoom, IsSupplied, IsAllowed, IsReachable, IsFounded}
+use Rattle.kahn_model.specs.Counts.{round_of, ticks_made, written, taken, IsAllowed, IsReachable, IsFounded}
 use Rattle.kahn_model.proofs.Order.{prefix_refl, prefix_trans, prefix_flat_map, prefix_take, take_prefix, prefix_length, prefix_get, prefix_whole}
-use Rattle.kahn_model.proofs.Grow.{Grows, ticks_grow}
-use Rattle.kahn_model.proofs.Count.{IsBelow, own_ticks, made_le, written_le, taken_le}
+use Rattle.kahn_model.proofs.Grow.{ticks_grow}
+use Rattle.kahn_model.proofs.Count.{IsBelow, own_ticks, made_le, taken_le}
 use Rattle.kahn_model.proofs.Reach.{reach_founded, full, all_made}
-use Rattle.kahn_model.proofs.Local.{here, here_all, here_prefix, here_is_fed}
+use Rattle.kahn_model.proofs.Local.{here, here_all, here_prefix}
 use Rattle.net_core.specs.declared.ports.Ports.{Ports}
 use Rattle.net_core.specs.declared.body.Pause.{Pause}
 use Rattle.net_core.specs.declared.body.Pause.TheVariants.{Ended as HasEnded, WantsRead, WantsWrite, BadToken, Fuel}
-use Rattle.net_core.specs.Ports.{waiting, carried, room_at, Moved}
+use Rattle.net_core.specs.Ports.{waiting, room_at}
 use Rattle.net_core.specs.Resume.{lists_at, Agrees, HasRoomAt, StopsAt, GoesOnBy, PausesBy, Resumed}
 use Rattle.net_core.specs.Waits.{StopsIn, IsFullFor, HoldsPause}
-use Rattle.net_core.specs.Placement.{tick_at, mark_at, AsksAt, PutsAct, IsAt, TickAt, AreAt, IsPlaced, IsStanding, PortsAre}
-use Rattle.net_core.proofs.Placed.{placed_ticks, placed_mark, asks_ticks, asks_mark, ticks_own, mark_own, takes_begin, ticks_at, at_asks, are_prefix, takes_same, puts_same, put_found, take_found, map_prefix, map_get, at_get}
+use Rattle.net_core.specs.Placement.{tick_at, mark_at, TickAt, AreAt, IsPlaced, IsStanding, PortsAre}
+use Rattle.net_core.proofs.Placed.{placed_ticks, placed_mark, asks_ticks, asks_mark, takes_begin, ticks_at, at_asks, are_prefix, takes_same, puts_same, put_found, take_found, map_prefix, map_get, at_get}
 use Rattle.net_core.proofs.Chunk.{plus, plus_same, plus_other, HasRoomFor, Chunk, chunk, written_after, is_step}
 use Rattle.net_core.proofs.Stuck.{stays_stopped}
 

@@ -1,27 +1,25 @@
 -- An instance that stopped makes no step until its own streams change.
-use Rattle.std.proofs.Common.{◌≡◌, ℕ, zero, suc, pred, ◌+◌, ◌-◌, ◌<◌, ◌≤◌, ◌⊎◌, List, [], ◌∷◌, length, take, Option, Some, None, refl, sym, ap, ◌∙◌, subst, inl, inr, ⊎_elim, arith, length-take}
-use Rattle.std.specs.Prelude.{slice_get, flat_map}
+use Rattle.std.proofs.Common.{◌≡◌, ℕ, ◌<◌, ◌≤◌, List, [], ◌∷◌, length, take, Some, refl, sym, ap, ◌∙◌, subst, ⊎_elim, arith, length-take}
+use Rattle.std.specs.Prelude.{slice_get}
 use Rattle.std.proofs.lemmas.Bool.{cases_lt}
 use Rattle.std.proofs.lemmas.List.{take_all}
 use Rattle.std.proofs.lemmas.Option.{slice_get_within}
 use Rattle.tapa_base.specs.declared.token.Token.{Token}
-use Rattle.kahn_model.specs.declared.tick.Action.TheVariants.{Local, Put, Load, Store}
 use Rattle.kahn_model.specs.declared.tick.Tick.{Tick}
-use Rattle.kahn_model.specs.declared.tick.Tick.TheVariants.{Did, Take, See, End}
+use Rattle.kahn_model.specs.declared.tick.Tick.TheVariants.{Did, End}
 use Rattle.kahn_model.specs.declared.tick.Mark.{Mark}
 use Rattle.kahn_model.specs.declared.tick.Mark.TheVariants.{Ended, Needs, Bad, Turns}
-use Rattle.kahn_model.specs.Prefix.{IsPrefixOf}
 use Rattle.kahn_model.specs.Behavior.{Behavior, Finished, OutOfTurns, Act, Await, Offer, NoToken, WrongToken, Answer, first_offer, lists_after, on_offer, ticks, mark, Extends, Lasts}
-use Rattle.kahn_model.specs.Network.{Network, IsNetwork, put_on, take_from, stream, round}
-use Rattle.kahn_model.specs.Counts.{total, round_of, ticks_made, written, taken, next, HasToken, HasRoom, IsSupplied, IsAllowed, IsReachable, IsFounded, HasEnded}
+use Rattle.kahn_model.specs.Network.{Network, IsNetwork, round}
+use Rattle.kahn_model.specs.Counts.{round_of, ticks_made, written, IsSupplied, IsFounded, HasEnded}
 use Rattle.kahn_model.specs.Outcome.{StandsAt}
-use Rattle.kahn_model.proofs.Order.{prefix_refl, prefix_trans, prefix_flat_map, prefix_take, prefix_length, prefix_get, prefix_whole}
-use Rattle.kahn_model.proofs.Grow.{Grows, ticks_grow, stream_le, round_le, stream_is_round}
+use Rattle.kahn_model.proofs.Order.{prefix_refl, prefix_take, prefix_length, prefix_whole}
+use Rattle.kahn_model.proofs.Grow.{ticks_grow}
 use Rattle.kahn_model.proofs.Late.{IsLate, late}
-use Rattle.kahn_model.proofs.Reach.{reach_founded, full, all_made, total_has}
-use Rattle.kahn_model.proofs.Local.{here, here_all, here_prefix, fed_is_here, here_is_fed}
+use Rattle.kahn_model.proofs.Reach.{full, total_has}
+use Rattle.kahn_model.proofs.Local.{here, here_prefix, fed_is_here}
 use Rattle.kahn_model.proofs.Ends.{has_end}
-use Rattle.net_core.specs.Waits.{StopsIn, HoldsPause}
+use Rattle.net_core.specs.Waits.{StopsIn}
 use Rattle.net_core.proofs.Placed.{ticks_own, mark_own}
 
 -- a job that stops does the same however many tests its loops may make

@@ -1,15 +1,14 @@
 -- Tokens of one kind in lists and ports.
-use Rattle.std.proofs.Common.{◌≡◌, ℕ, zero, suc, ◌+◌, ◌<◌, List, [], ◌∷◌, ◌++◌, length, map, drop, Option, Some, None, refl, sym, ap, ◌∙◌, subst, arith}
+use Rattle.std.proofs.Common.{◌≡◌, ℕ, zero, suc, ◌+◌, List, [], ◌∷◌, ◌++◌, map, drop, Some, sym, ap, ◌∙◌, subst, arith}
 use Rattle.std.specs.Prelude.{slice_get, Bool, true, false, if◌then◌else◌}
 use Rattle.tapa_base.specs.declared.kind.Kind.{Kind}
 use Rattle.tapa_base.specs.declared.token.Token.{Token}
 use Rattle.tapa_base.specs.declared.token.Token.TheVariants.{Datum, Eot}
-use Rattle.tapa_base.specs.Kinds.{values_of}
 use Rattle.kahn_model.specs.Fits.{IsTokenOf}
 use Rattle.net_core.specs.declared.port.Port.{Port}
 use Rattle.net_core.specs.declared.ports.Ports.{Ports}
 use Rattle.net_core.specs.Kinds.{AreTokensOf, kind_in}
-use Rattle.net_core.specs.Ports.{waiting, waiting_in, ends_of, kind_at}
+use Rattle.net_core.specs.Ports.{waiting, waiting_in, kind_at}
 
 get_map : (xs : List Port) (s : ℕ) (q : Port) → slice_get xs s ≡ Some q → kind_in (map (λ (p : Port). p.end) xs) s ≡ q.end.kind
 get_map [] s q e = cc

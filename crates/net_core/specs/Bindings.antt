@@ -1,5 +1,5 @@
 -- How the instances of a program are bound to its streams.
-use Rattle.std.specs.Prelude.{◌≡◌, ℕ, ◌<◌, List, [], length, Bool, true, false, Option, Some, None, slice_get, slice_index}
+use Rattle.std.specs.Prelude.{◌≡◌, ℕ, ◌<◌, List, [], length, true, false, Option, Some, None, slice_get, slice_index}
 use Rattle.tapa_syntax.specs.declared.program.End.{End}
 use Rattle.tapa_syntax.specs.declared.program.Leaf.{Leaf}
 use Rattle.tapa_syntax.specs.declared.program.Instance.{Instance}

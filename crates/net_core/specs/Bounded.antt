@@ -1,5 +1,5 @@
 -- The bounded network of a program on an input, and what it means that a net stands at a count of it.
-use Rattle.std.specs.Prelude.{◌≡◌, ℕ, ◌<◌, List, [], length, map, Option, Some, None, Vec, slice_get, slice_index}
+use Rattle.std.specs.Prelude.{◌≡◌, ℕ, ◌<◌, List, length, map, Option, Some, None, Vec, slice_get, slice_index}
 use Rattle.std.specs.declared.alloc.Global.{Global}
 use Rattle.kahn_model.specs.declared.tick.Tick.{Tick}
 use Rattle.tapa_syntax.specs.declared.program.Leaf.{Leaf}
@@ -75,6 +75,8 @@ pub record IsNetAt {B : Type 0} (Stands : B → Job → List Tick → Type 0) (p
   pub writers_len : length writers ≡ length program.streams.items
   pub offered_len : length offered ≡ length program.streams.items
   pub taken_len : length taken_list ≡ length program.streams.items
+  -- no tick was made before the first resume
+  pub unresumed : (i : ℕ) → slice_get pauses i ≡ Some None → count_of counts i ≡ 0
   pub standing : (i : ℕ) (b : B) → slice_get bodies i ≡ Some b → IsBodyAt (Stands b) program input counts i
   pub ends : (i : ℕ) → i < length program.instances.items → ends_in ports i ≡ ends_at program i
   pub carries : (i p : ℕ) → i < length program.instances.items → Writes program i p → carried_of ports i p ≡ written (network_on program input) (count_of counts) (stream_at program i p)

@@ -1,6 +1,5 @@
 -- A job at the streams of its instance.
-use Rattle.std.specs.Prelude.{◌≡◌, ℕ, ◌+◌, ◌-◌, ◌<◌, ◌≤◌, List, [], ◌∷◌, length, drop}
-use Rattle.tapa_base.specs.declared.token.Token.{Token}
+use Rattle.std.specs.Prelude.{◌≡◌, ℕ, ◌-◌, ◌<◌, List, [], ◌∷◌, length, drop}
 use Rattle.kahn_model.specs.declared.tick.Action.{Action}
 use Rattle.kahn_model.specs.declared.tick.Action.TheVariants.{Local, Put, Load, Store}
 use Rattle.kahn_model.specs.declared.tick.Tick.{Tick}

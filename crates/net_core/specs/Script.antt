@@ -1,12 +1,12 @@
 -- The job of a list of steps.
-use Rattle.std.specs.Prelude.{◌≡◌, ℕ, ◌+◌, ◌<◌, List, [], ◌∷◌, ◌++◌, length, drop, Bool, true, false}
+use Rattle.std.specs.Prelude.{◌≡◌, ℕ, ◌<◌, List, [], ◌∷◌, length, drop, Bool, true, false}
 use Rattle.tapa_base.specs.declared.token.Token.{Token}
 use Rattle.tapa_syntax.specs.declared.program.End.{End}
 use Rattle.kahn_model.specs.Prefix.{IsPrefixOf}
 use Rattle.kahn_model.specs.declared.tick.Tick.{Tick}
 use Rattle.kahn_model.specs.declared.tick.Action.TheVariants.{Local, Put}
 use Rattle.kahn_model.specs.declared.tick.StreamOperation.TheVariants.{Read}
-use Rattle.kahn_model.specs.Behavior.{Behavior, Finished, OutOfTurns, Act, Await}
+use Rattle.kahn_model.specs.Behavior.{Behavior, Finished, Act, Await}
 use Rattle.net_core.specs.declared.ports.Ports.{Ports}
 use Rattle.net_core.specs.declared.script.Step.{Step}
 use Rattle.net_core.specs.declared.script.Step.TheVariants.{Work, Send, Receive}

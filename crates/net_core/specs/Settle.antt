@@ -1,6 +1,6 @@
 -- How driving a net ends, and what its rounds keep.
-use Rattle.std.specs.Prelude.{◌≡◌, ℕ, ◌+◌, ◌<◌, ◌≤◌, ◌⊎◌, List, length, Bool, true, false, Option, Some, None, slice_get}
-use Rattle.kahn_model.specs.Counts.{total, written, IsAllowed, IsReachable, IsEnding}
+use Rattle.std.specs.Prelude.{◌≡◌, ℕ, ◌+◌, ◌<◌, ◌≤◌, ◌⊎◌, List, length, Bool, true, false, Option, Some, slice_get}
+use Rattle.kahn_model.specs.Counts.{total, IsAllowed, IsEnding}
 use Rattle.kahn_model.specs.Outcome.{IsDone, IsStopped}
 use Rattle.net_core.specs.declared.body.Pause.{Pause}
 use Rattle.net_core.specs.declared.body.Pause.TheVariants.{Ended, Fuel}

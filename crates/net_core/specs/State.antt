@@ -1,15 +1,16 @@
 -- What contracts say of a net, and what resuming one of its instances does.
-use Rattle.std.specs.Prelude.{◌≡◌, ℕ, ◌+◌, ◌<◌, ◌≤◌, ◌⊎◌, ◌==◌, if◌then◌else◌, List, length, Option, Some, None, slice_get, slice_index, slice_set}
-use Rattle.kahn_model.specs.declared.tick.Tick.{Tick}
+use Rattle.std.specs.Prelude.{◌≡◌, ℕ, ◌+◌, ◌<◌, ◌≤◌, ◌==◌, if◌then◌else◌, length, Some, None, slice_get, slice_set}
 use Rattle.tapa_syntax.specs.declared.program.Program.{Program}
-use Rattle.kahn_model.specs.Network.{Network}
-use Rattle.kahn_model.specs.Counts.{written, taken, total, IsAllowed, IsReachable, IsEnding}
+use Rattle.kahn_model.specs.Network.{Network, IsNetwork}
+use Rattle.kahn_model.specs.Counts.{written, taken, total, IsAllowed, IsReachable}
 use Rattle.net_core.specs.declared.body.Pause.{Pause}
 use Rattle.net_core.specs.declared.body.Pause.TheVariants.{Fuel}
 use Rattle.net_core.specs.declared.input.Input.{Input}
 use Rattle.net_core.specs.declared.net_state.NetState.{NetState}
-use Rattle.net_core.specs.Bindings.{stream_at, Reads, Writes, producer_of, consumer_of}
-use Rattle.net_core.specs.Bounded.{network_on, count_of}
+use Rattle.tapa_syntax.specs.WellFormed.{IsWellFormed}
+use Rattle.kahn_model.specs.Fits.{FitsInput}
+use Rattle.net_core.specs.Bindings.{IsConnected, stream_at, Reads, Writes, producer_of, consumer_of}
+use Rattle.net_core.specs.Bounded.{scalars_of, memories_of, network_on, count_of}
 use Rattle.net_core.specs.Waits.{HoldsPause}
 
 -- the network of a net's program on its input
@@ -27,6 +28,18 @@ total_ticks net = total (network net).size (count net)
 -- what a net keeps: its program and its input
 abbrev pub given : NetState → Program × Input
 given net = (net.program, net.input)
+
+-- what holds of every net
+pub record IsValid (net : NetState) : Type 0 where
+  pub well_formed : IsWellFormed net.program
+  pub fits : FitsInput net.program (scalars_of net.input) (memories_of net.input)
+  pub connected : IsConnected net.program
+  pub is_network : IsNetwork (network net)
+  pub size : (network net).size ≡ length net.program.instances.items
+  pub reachable : IsReachable (network net) (count net)
+  pub counts_len : length net.counts ≡ length net.program.instances.items
+  pub unresumed : (i : ℕ) → slice_get net.pauses i ≡ Some None → count net i ≡ 0
+  pub pauses_len : length net.pauses ≡ length net.program.instances.items
 
 -- no instance was resumed
 pub record IsNew (net : NetState) : Type 0 where

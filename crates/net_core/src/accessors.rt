@@ -1,7 +1,7 @@
 ghost use Rattle.std.specs.Prelude.{◌≡◌, ◌<◌, length, slice_get, Some};
 ghost use Rattle.kahn_model.specs.Counts.{written};
 ghost use Rattle.net_core.specs.Bounded.{IsBodyAt};
-ghost use Rattle.net_core.specs.State.{network, count};
+ghost use Rattle.net_core.specs.State.{network, count, IsValid};
 
 use crate::bindings::producer;
 use crate::body::{Body, Pause};
@@ -9,6 +9,13 @@ use crate::net::Net;
 use tapa_base::Token;
 
 impl<B: Body> Net<B> {
+    /// What holds of every net, for proofs: it stands at a reachable count of its program's network. It does nothing.
+    pub fn valid(&self)
+        ensures { IsValid self.now }
+    {
+        let _counts = &self.counts;
+    }
+
     /// The tokens that were written to a stream, first to last.
     pub fn carried(&self, stream: u32) -> &[Token]
         requires { stream < length self.now.program.streams.items }

@@ -94,14 +94,9 @@ fn none_made(alloc: Global, n: usize) -> Result<Vec<u64>, OutOfMemory>
 }
 
 fn no_pauses(alloc: Global, n: usize) -> Result<Vec<Option<Pause>>, OutOfMemory>
-    ensures len { IfOk result (λ v. length v.items ≡ n) }
-    ensures none { IfOk result (λ v. (i : ℕ) → i < n → slice_get v.items i ≡ Some None) }
+    ensures { IfOk result (λ v. v.items ≡ replicate n None) }
 {
-    let mut all = Vec::new(alloc);
-    for _i in 0..n {
-        all.push(None)?;
-    }
-    Ok(all)
+    Ok(vec![in alloc; None; n]?)
 }
 
 impl<B: Body + Drop> Net<B> {

@@ -6,11 +6,11 @@ ghost use Rattle.net_core.specs.Ports.{IsReloaded, ends_in, carried_of, waiting_
 ghost use Rattle.net_core.specs.Bindings.{IsConnected, arity, ends_at, stream_at, Reads, Writes, producer_of, consumer_of, depth_of};
 ghost use Rattle.net_core.specs.Load.{IsIn, AreBelow, AreKept, AreLoaded, IsLoaded, AreWoken, HasPorts, queue_at};
 
-use crate::ports::Ports;
 use crate::bindings::{arity, consumer, depth, producer, stream_at, writes_at};
-use tapa_syntax::Program;
-use tapa_base::{OutOfMemory, Token};
+use crate::ports::Ports;
 use std::alloc::Global;
+use tapa_base::{OutOfMemory, Token};
+use tapa_syntax::Program;
 
 // The tokens from an index on.
 fn copied(alloc: Global, list: &[Token], from: usize) -> Result<Vec<Token>, OutOfMemory>

@@ -26,7 +26,6 @@ impl<B: Body> Model for Net<B> {
     ghost use Rattle.std.specs.Arc.{arc_value};
     ghost use Rattle.net_core.specs.declared.net_state.NetState.{NetState};
     ghost use Rattle.net_core.specs.Bounded.{IsNetAt};
-
     ghost use Rattle.std.specs.Coded.{codes};
     ghost use Rattle.tapa_syntax.specs.contracts.program.Stmt as stmt;
     ghost use Rattle.tapa_syntax.specs.contracts.program.Expr as expr;

@@ -1,4 +1,4 @@
-use Rattle.std.proofs.Common.{◌≡◌, ◌<◌, length, Some, refl, subst, arith}
+use Rattle.std.proofs.Common.{◌<◌, length, refl, subst, arith}
 use Rattle.std.proofs.lemmas.Option.{slice_get_read, get_or_from_slice_get}
 use Rattle.net_core.specs.Bindings.{arity_in}
 use Rattle.net_core.proofs.bindings.stream_at.Goals as goal

@@ -1,26 +1,45 @@
-use Rattle.std.proofs.Common.{◌≡◌, ◌<◌, ◌≤◌, subst, arith}
+use Rattle.std.proofs.Common.{◌≡◌, ℕ, ◌<◌, length, ap, ◌∙◌, subst, arith}
 use Rattle.kahn_model.proofs.Reach.{total_has}
-use Rattle.net_core.specs.Bounded.{network_of}
-use Rattle.net_core.specs.State.{at}
+use Rattle.tapa_syntax.specs.declared.program.Program.{Program}
+use Rattle.net_core.specs.declared.input.Input.{Input}
+use Rattle.net_core.specs.declared.net_state.NetState.{NetState}
+use Rattle.net_core.specs.Load.{AreBelow, AreWoken}
+use Rattle.net_core.specs.State.{network, count}
 use Rattle.net_core.proofs.Quiet.{visited_limit, visited_none, visited_woken}
 use Rattle.net_core.proofs.drive.visit.Goals as goal
 
 pub resume_instance-requires-clause-fits : goal.resume_instance-requires-clause-fits
 resume_instance-requires-clause-fits g c =
-    let e = c.requires.connected.size in
-    let l : c.args.i < (network_of c.args.net.now.program).size = let x = c.requires.instance in omega arith in
-    let a = total_has (network_of c.args.net.now.program).size c.args.i (at c.args.net.now) l in
+    let v = c.valid.ensures in
+    let e = v.size in
+    let l : c.args.i < (network c.args.net.now).size = let x = c.requires.instance in omega arith in
+    let a = total_has (network c.args.net.now).size c.args.i (count c.args.net.now) l in
     let f = c.requires.fits in
     omega arith
 
 pub returns-in-Fuel-clause-visited : goal.returns-in-Fuel-clause-visited
 returns-in-Fuel-clause-visited g c =
-    visited_limit g.B.Body.stands c.args.net.now c.resume_instance.new.net c.args.i c.args.left.now c.in_ok-pause.pause c.in_ok-pause.made c.in_ok-pause.ensures.resumed c.requires.connected c.requires.instance c.requires.stands.pauses_len c.in_ok-pause.ensures.program c.in-Fuel.is c.args.later.now.items
+    let v = c.valid.ensures in
+    visited_limit c.args.net.now c.resume_instance.new.net c.args.i c.args.left.now c.in_ok-pause.pause c.in_ok-pause.made c.in_ok-pause.ensures.resumed v.connected v.size c.requires.instance v.pauses_len c.in-Fuel.is c.args.later.now.items
 
-pub returns-in_ok-wake-clause-visited : goal.returns-in_ok-wake-clause-visited
-returns-in_ok-wake-clause-visited g c =
-    visited_woken g.B.Body.stands c.args.net.now c.resume_instance.new.net c.args.i c.args.left.now c.in_ok-pause.pause c.in_ok-pause.made c.in_ok-pause.ensures.resumed c.requires.connected c.requires.instance c.requires.stands.pauses_len c.in_default.not-Fuel c.in_ok-pause.ensures.program c.if-made-gt0.true c.args.later.now.items c.wake.new.later.items c.in_ok-wake.ensures.kept c.in_ok-wake.ensures.woken
+pub returns-then-made-eq0 : goal.returns-then-made-eq0
+returns-then-made-eq0 g c =
+    let v = c.valid.ensures in
+    record {
+      given = c.in_ok-pause.ensures.resumed.given;
+      below = c.requires.below;
+      visited = visited_none c.args.net.now c.resume_instance.new.net c.args.i c.args.left.now c.in_ok-pause.pause c.in_ok-pause.made c.in_ok-pause.ensures.resumed v.connected v.size c.requires.instance v.pauses_len c.in_default.not-Fuel c.if-made-eq0.true c.args.later.now.items;
+    }
 
-pub returns-else-made-gt0-clause-visited : goal.returns-else-made-gt0-clause-visited
-returns-else-made-gt0-clause-visited g c =
-    visited_none g.B.Body.stands c.args.net.now c.resume_instance.new.net c.args.i c.args.left.now c.in_ok-pause.pause c.in_ok-pause.made c.in_ok-pause.ensures.resumed c.requires.connected c.requires.instance c.requires.stands.pauses_len c.in_default.not-Fuel c.in_ok-pause.ensures.program (let z = c.if-made-gt0.false in omega arith) c.args.later.now.items
+pub returns : goal.returns
+returns g c =
+    let v = c.valid.ensures in
+    let h = c.in_ok-pause.ensures.resumed in
+    let same : c.deref.result.now ≡ c.resume_instance.new.net.program = c.deref.ensures ∙ ap (λ (z : NetState). z.program) c.net.view_is in
+    let woken : (p : ℕ) → AreWoken c.resume_instance.new.net.program c.args.i p c.wake.new.later.items = subst (λ z. (p : ℕ) → AreWoken z c.args.i p c.wake.new.later.items) same c.in_ok-wake.ensures.woken in
+    let len : length c.deref.result.now.instances.items ≡ length c.args.net.now.program.instances.items = ap (λ (z : Program). length z.instances.items) same ∙ ap (λ (z : Program × Input). length z.0.instances.items) h.given in
+    record {
+      given = h.given;
+      below = subst (λ m. AreBelow m c.wake.new.later.items) len c.in_ok-wake.ensures.below;
+      visited = visited_woken c.args.net.now c.resume_instance.new.net c.args.i c.args.left.now c.in_ok-pause.pause c.in_ok-pause.made h v.connected v.size c.requires.instance v.pauses_len c.in_default.not-Fuel (let z = c.if-made-eq0.false in omega arith) c.args.later.now.items c.wake.new.later.items c.in_ok-wake.ensures.kept woken;
+    }

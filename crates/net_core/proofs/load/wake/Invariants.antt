@@ -1,4 +1,4 @@
-use Rattle.std.proofs.Common.{◌≡◌, ℕ, ◌<◌, length}
+use Rattle.std.proofs.Common.{ℕ, ◌<◌, length}
 use Rattle.net_core.specs.Load.{IsIn, AreBelow, AreWoken}
 use Rattle.net_core.proofs.load.wake.Given as goal
 

@@ -1,29 +1,29 @@
-use Rattle.std.proofs.Common.{◌≡◌, ◌+◌, ◌<◌, ◌≤◌, ℕ, drop, length, Some, None, refl, sym, ap, ◌∙◌, subst, arith}
+use Rattle.std.proofs.Common.{◌≡◌, ◌+◌, ◌<◌, drop, Some, None, refl, sym, subst, arith}
 use Rattle.std.specs.Prelude.{slice_get}
-use Rattle.std.proofs.lemmas.Option.{slice_get_within}
 use Rattle.tapa_base.specs.declared.token.Token.TheVariants.{Datum, Eot}
-use Rattle.kahn_model.specs.declared.tick.Tick.TheVariants.{Did, End, Take}
-use Rattle.kahn_model.specs.declared.tick.Action.TheVariants.{Local, Put}
 use Rattle.kahn_model.specs.declared.tick.StreamOperation.TheVariants.{Read}
-use Rattle.kahn_model.specs.Behavior.{Await}
 use Rattle.net_core.specs.declared.script.Step.TheVariants.{Work, Send, Receive}
-use Rattle.net_core.specs.Ports.{waiting, port_count, room_at, Moved}
-use Rattle.net_core.specs.Follow.{IsReady, Still}
-use Rattle.net_core.specs.Script.{script, rest_of, rest_by}
-use Rattle.net_core.proofs.Scripted.{rest_none, rest_some, in_range_put, in_range_ask, look_empty, goes_end, goes_work, goes_send, goes_receive, ready_datum, not_over, next_is, no_ticks, ready_room}
+use Rattle.net_core.specs.Ports.{waiting, ends_of, room_at}
+use Rattle.net_core.specs.Follow.{IsReady}
+use Rattle.net_core.specs.Script.{script, rest_of}
+use Rattle.net_core.proofs.Scripted.{rest_none, rest_some, streams_here, count_ends, look_empty}
 use Rattle.net_core.proofs.script.Script.look.Goals as goal
 
 pub room-requires : goal.room-requires
 room-requires c =
     let g : slice_get c.args.self.now.steps.items c.args.self.now.at ≡ Some (Send c.in-Some-Send.p c.in-Some-Send.field-0-1) = cc in
-    let e = rest_some c.args.self.now.ended c.args.self.now.steps.items c.args.self.now.at (c.args.self.now.at + 1) (Send c.in-Some-Send.p c.in-Some-Send.field-0-1) c.if-self.false g refl in
-    in_range_put (port_count c.args.ports.now) c.in-Some-Send.p c.in-Some-Send.field-0-1 (rest_of c.args.self.now) (drop (c.args.self.now.at + 1) c.args.self.now.steps.items) e c.requires
+    let s = streams_here (ends_of c.args.ports.now) c.args.self.now.steps.items c.args.self.now.at (c.args.self.now.at + 1) (Send c.in-Some-Send.p c.in-Some-Send.field-0-1) g refl c.requires in
+    let l = s.0 in
+    let n = count_ends c.args.ports.now in
+    omega arith
 
 pub front-requires : goal.front-requires
 front-requires c =
     let g : slice_get c.args.self.now.steps.items c.args.self.now.at ≡ Some (Receive c.in-Some-Receive.p) = cc in
-    let e = rest_some c.args.self.now.ended c.args.self.now.steps.items c.args.self.now.at (c.args.self.now.at + 1) (Receive c.in-Some-Receive.p) c.if-self.false g refl in
-    in_range_ask (port_count c.args.ports.now) c.in-Some-Receive.p (rest_of c.args.self.now) (drop (c.args.self.now.at + 1) c.args.self.now.steps.items) e c.requires
+    let s = streams_here (ends_of c.args.ports.now) c.args.self.now.steps.items c.args.self.now.at (c.args.self.now.at + 1) (Receive c.in-Some-Receive.p) g refl c.requires in
+    let l = s.0 in
+    let n = count_ends c.args.ports.now in
+    omega arith
 
 pub returns-in-None : goal.returns-in-None
 returns-in-None c =

@@ -1,16 +1,12 @@
-use Rattle.std.proofs.Common.{◌≡◌, ◌+◌, ◌<◌, ◌≤◌, ℕ, drop, length, Some, None, refl, sym, ap, ◌∙◌, subst, arith}
+use Rattle.std.proofs.Common.{◌≡◌, ◌+◌, drop, Some, None, refl, ◌∙◌, arith}
 use Rattle.std.specs.Prelude.{slice_get}
 use Rattle.std.proofs.lemmas.Option.{slice_get_within}
-use Rattle.tapa_base.specs.declared.token.Token.TheVariants.{Datum, Eot}
-use Rattle.kahn_model.specs.declared.tick.Tick.TheVariants.{Did, End, Take}
-use Rattle.kahn_model.specs.declared.tick.Action.TheVariants.{Local, Put}
-use Rattle.kahn_model.specs.declared.tick.StreamOperation.TheVariants.{Read}
-use Rattle.kahn_model.specs.Behavior.{Await}
+use Rattle.kahn_model.specs.declared.tick.Tick.TheVariants.{Did, End}
+use Rattle.kahn_model.specs.declared.tick.Action.TheVariants.{Local}
 use Rattle.net_core.specs.declared.script.Step.TheVariants.{Work, Send, Receive}
-use Rattle.net_core.specs.Ports.{waiting, port_count, room_at, Moved}
-use Rattle.net_core.specs.Follow.{IsReady, Still}
-use Rattle.net_core.specs.Script.{script, rest_of, rest_by}
-use Rattle.net_core.proofs.Scripted.{rest_none, rest_some, in_range_put, in_range_ask, look_empty, goes_end, goes_work, goes_send, goes_receive, ready_datum, not_over, next_is, no_ticks, ready_room, put_done}
+use Rattle.net_core.specs.Ports.{ends_of}
+use Rattle.net_core.specs.Script.{rest_of, rest_by}
+use Rattle.net_core.proofs.Scripted.{rest_none, rest_some, streams_here, count_ends, goes_end, goes_work, goes_send, goes_receive, ready_datum, not_over, next_is, no_ticks, ready_room, put_done}
 use Rattle.net_core.proofs.script.Script.tick.Goals as goal
 
 pub returns-in-None-clause-goes : goal.returns-in-None-clause-goes
@@ -43,12 +39,37 @@ overflow_add-self-in-Some-Send c =
     let l = slice_get_within c.args.self.now.steps.items c.args.self.now.at _ g in
     let o = c.args.self.now.steps.ok.0 in let small = c.args.self.now.steps.small in omega arith
 
-pub put-put-requires : goal.put-put-requires
-put-put-requires c =
-    let still = not_over c.args.self.now.ended (drop c.args.self.now.at c.args.self.now.steps.items) c.args.ports.now c.requires.ready in
+pub put-put-requires-clause-port : goal.put-put-requires-clause-port
+put-put-requires-clause-port c =
     let g : slice_get c.args.self.now.steps.items c.args.self.now.at ≡ Some (Send c.in-Some-Send.p c.in-Some-Send.t) = cc in
-    let e = rest_some c.args.self.now.ended c.args.self.now.steps.items c.args.self.now.at (c.args.self.now.at + 1) (Send c.in-Some-Send.p c.in-Some-Send.t) still g refl in
-    in_range_put (port_count c.args.ports.now) c.in-Some-Send.p c.in-Some-Send.t (rest_of c.args.self.now) (drop (c.args.self.now.at + 1) c.args.self.now.steps.items) e c.requires.in_range
+    let s = streams_here (ends_of c.args.ports.now) c.args.self.now.steps.items c.args.self.now.at (c.args.self.now.at + 1) (Send c.in-Some-Send.p c.in-Some-Send.t) g refl c.requires.at_streams in
+    let l = s.0 in
+    let n = count_ends c.args.ports.now in
+    omega arith
+
+pub put-put-requires-clause-kind : goal.put-put-requires-clause-kind
+put-put-requires-clause-kind c =
+    let g : slice_get c.args.self.now.steps.items c.args.self.now.at ≡ Some (Send c.in-Some-Send.p c.in-Some-Send.t) = cc in
+    let s = streams_here (ends_of c.args.ports.now) c.args.self.now.steps.items c.args.self.now.at (c.args.self.now.at + 1) (Send c.in-Some-Send.p c.in-Some-Send.t) g refl c.requires.at_streams in
+    s.1
+
+pub returns-in-Some-Work-clause-at_streams : goal.returns-in-Some-Work-clause-at_streams
+returns-in-Some-Work-clause-at_streams c = λ ends h.
+    let g : slice_get c.args.self.now.steps.items c.args.self.now.at ≡ Some (Work) = cc in
+    let s = streams_here ends c.args.self.now.steps.items c.args.self.now.at (c.args.self.now.at + 1) (Work) g refl h in
+    s
+
+pub returns-in-Some-Send-clause-at_streams : goal.returns-in-Some-Send-clause-at_streams
+returns-in-Some-Send-clause-at_streams c = λ ends h.
+    let g : slice_get c.args.self.now.steps.items c.args.self.now.at ≡ Some (Send c.in-Some-Send.p c.in-Some-Send.t) = cc in
+    let s = streams_here ends c.args.self.now.steps.items c.args.self.now.at (c.args.self.now.at + 1) (Send c.in-Some-Send.p c.in-Some-Send.t) g refl h in
+    s.2
+
+pub returns-in-Some-Receive-clause-at_streams : goal.returns-in-Some-Receive-clause-at_streams
+returns-in-Some-Receive-clause-at_streams c = λ ends h.
+    let g : slice_get c.args.self.now.steps.items c.args.self.now.at ≡ Some (Receive c.in-Some-Receive.p) = cc in
+    let s = streams_here ends c.args.self.now.steps.items c.args.self.now.at (c.args.self.now.at + 1) (Receive c.in-Some-Receive.p) g refl h in
+    s.1
 
 pub returns-in-Some-Send-clause-goes : goal.returns-in-Some-Send-clause-goes
 returns-in-Some-Send-clause-goes c =
@@ -68,10 +89,11 @@ overflow_add-self-in-Some-Receive c =
 
 pub take-token-requires : goal.take-token-requires
 take-token-requires c =
-    let still = not_over c.args.self.now.ended (drop c.args.self.now.at c.args.self.now.steps.items) c.args.ports.now c.requires.ready in
     let g : slice_get c.args.self.now.steps.items c.args.self.now.at ≡ Some (Receive c.in-Some-Receive.p) = cc in
-    let e = rest_some c.args.self.now.ended c.args.self.now.steps.items c.args.self.now.at (c.args.self.now.at + 1) (Receive c.in-Some-Receive.p) still g refl in
-    in_range_ask (port_count c.args.ports.now) c.in-Some-Receive.p (rest_of c.args.self.now) (drop (c.args.self.now.at + 1) c.args.self.now.steps.items) e c.requires.in_range
+    let s = streams_here (ends_of c.args.ports.now) c.args.self.now.steps.items c.args.self.now.at (c.args.self.now.at + 1) (Receive c.in-Some-Receive.p) g refl c.requires.at_streams in
+    let l = s.0 in
+    let n = count_ends c.args.ports.now in
+    omega arith
 
 pub returns-in-Some-Receive-clause-goes : goal.returns-in-Some-Receive-clause-goes
 returns-in-Some-Receive-clause-goes c =
