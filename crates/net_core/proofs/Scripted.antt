@@ -11,7 +11,7 @@ use Rattle.kahn_model.specs.declared.tick.StreamOperation.TheVariants.{Read}
 use Rattle.kahn_model.specs.Behavior.{Behavior, Finished, Await, judge_token, Answer, first_offer, on_offer, tick_of, ticks, lists_after}
 use Rattle.net_core.specs.declared.ports.Ports.{Ports}
 use Rattle.net_core.specs.declared.script.Step.{Step}
-use Rattle.net_core.specs.declared.script.Step.TheVariants.{Work, Send, Receive}
+use Rattle.net_core.specs.declared.script.Step.TheVariants.{Send, Receive}
 use Rattle.net_core.specs.declared.script.Script.{Script}
 use Rattle.net_core.specs.Ports.{waiting, port_count, ends_of, Moved}
 use Rattle.tapa_syntax.specs.declared.program.End.{End as StreamEnd}
@@ -62,12 +62,6 @@ goes_end rest next before after e f m =
     subst (λ r. GoesTo r before next after) (sym e)
     (subst (λ n. GoesTo (Still Finished) before n after) (sym f)
     (record { tick = End; step = λ ins q. step_end ins; more = []; head = refl; moved = m }))
-
-pub goes_work : (rest next : Rest) (before after : Ports) (l : List Step) → rest ≡ Still (script (Work ∷ l)) → next ≡ Still (script l) → Moved before (Did Local ∷ []) after → GoesTo rest before next after
-goes_work rest next before after l e f m =
-    subst (λ r. GoesTo r before next after) (sym e)
-    (subst (λ n. GoesTo (Still (script (Work ∷ l))) before n after) (sym f)
-    (record { tick = Did Local; step = λ ins q. step_do Local (script l) ins; more = ticks (script l) (λ p. waiting before p); head = refl; moved = m }))
 
 pub goes_send : (rest next : Rest) (before after : Ports) (p : ℕ) (t : Token) (l : List Step) → rest ≡ Still (script (Send p t ∷ l)) → next ≡ Still (script l) → Moved before (Did (Put p t) ∷ []) after → GoesTo rest before next after
 goes_send rest next before after p t l e f m =

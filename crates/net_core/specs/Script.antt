@@ -9,7 +9,7 @@ use Rattle.kahn_model.specs.declared.tick.StreamOperation.TheVariants.{Read}
 use Rattle.kahn_model.specs.Behavior.{Behavior, Finished, Act, Await}
 use Rattle.net_core.specs.declared.ports.Ports.{Ports}
 use Rattle.net_core.specs.declared.script.Step.{Step}
-use Rattle.net_core.specs.declared.script.Step.TheVariants.{Work, Send, Receive}
+use Rattle.net_core.specs.declared.script.Step.TheVariants.{Send, Receive}
 use Rattle.net_core.specs.declared.script.Script.{Script}
 use Rattle.kahn_model.specs.Fits.{IsTokenOf}
 use Rattle.net_core.specs.Kinds.{kind_in}
@@ -19,7 +19,6 @@ use Rattle.net_core.specs.Ports.{waiting, Moved}
 
 abbrev pub script : List Step → Behavior
 script [] = Finished
-script (Work ∷ rest) = Act Local (script rest)
 script (Send p t ∷ rest) = Act (Put p t) (script rest)
 script (Receive p ∷ rest) = Await p Read (λ v. script rest)
 
@@ -33,7 +32,6 @@ rest_of s = rest_by s.ended (drop s.at s.steps.items)
 -- the steps are at streams that are there, and send tokens of their kinds
 abbrev pub AreAtStreams : List End → List Step → Type 0
 AreAtStreams ends [] = Unit {0}
-AreAtStreams ends (Work ∷ rest) = AreAtStreams ends rest
 AreAtStreams ends (Send p t ∷ rest) = (p < length ends) × IsTokenOf (kind_in ends p) t × AreAtStreams ends rest
 AreAtStreams ends (Receive p ∷ rest) = (p < length ends) × AreAtStreams ends rest
 

@@ -12,7 +12,6 @@ use tapa_base::Token;
 /// One step.
 #[derive(Clone, Copy, PartialEq, Eq, Debug)]
 pub enum Step {
-    Work,
     Send(u32, Token),
     Receive(u32),
 }
@@ -44,7 +43,6 @@ impl Script {
         }
         match self.step_at() {
             None => Pause::Fuel,
-            Some(Step::Work) => Pause::Fuel,
             Some(Step::Send(p, _)) => {
                 if ports.room(p) {
                     Pause::Fuel
@@ -73,10 +71,6 @@ impl Script {
         match self.step_at() {
             None => {
                 self.ended = true;
-                return;
-            }
-            Some(Step::Work) => {
-                self.at += 1;
                 return;
             }
             Some(Step::Send(p, t)) => {

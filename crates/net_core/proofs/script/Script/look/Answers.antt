@@ -2,7 +2,7 @@ use Rattle.std.proofs.Common.{◌≡◌, ◌+◌, ◌<◌, drop, Some, None, ref
 use Rattle.std.specs.Prelude.{slice_get}
 use Rattle.tapa_base.specs.declared.token.Token.TheVariants.{Datum, Eot}
 use Rattle.kahn_model.specs.declared.tick.StreamOperation.TheVariants.{Read}
-use Rattle.net_core.specs.declared.script.Step.TheVariants.{Work, Send, Receive}
+use Rattle.net_core.specs.declared.script.Step.TheVariants.{Send, Receive}
 use Rattle.net_core.specs.Ports.{waiting, ends_of, room_at}
 use Rattle.net_core.specs.Follow.{IsReady}
 use Rattle.net_core.specs.Script.{script, rest_of}
@@ -29,12 +29,6 @@ pub returns-in-None : goal.returns-in-None
 returns-in-None c =
     let g : slice_get c.args.self.now.steps.items c.args.self.now.at ≡ None = cc in
     let e = rest_none c.args.self.now.ended c.args.self.now.steps.items c.args.self.now.at c.if-self.false g in
-    subst (λ r. IsReady r c.args.ports.now) (sym e) tt
-
-pub returns-in-Some-Work : goal.returns-in-Some-Work
-returns-in-Some-Work c =
-    let g : slice_get c.args.self.now.steps.items c.args.self.now.at ≡ Some Work = cc in
-    let e = rest_some c.args.self.now.ended c.args.self.now.steps.items c.args.self.now.at (c.args.self.now.at + 1) Work c.if-self.false g refl in
     subst (λ r. IsReady r c.args.ports.now) (sym e) tt
 
 pub returns-then-room : goal.returns-then-room

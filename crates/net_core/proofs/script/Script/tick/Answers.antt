@@ -3,10 +3,10 @@ use Rattle.std.specs.Prelude.{slice_get}
 use Rattle.std.proofs.lemmas.Option.{slice_get_within}
 use Rattle.kahn_model.specs.declared.tick.Tick.TheVariants.{Did, End}
 use Rattle.kahn_model.specs.declared.tick.Action.TheVariants.{Local}
-use Rattle.net_core.specs.declared.script.Step.TheVariants.{Work, Send, Receive}
+use Rattle.net_core.specs.declared.script.Step.TheVariants.{Send, Receive}
 use Rattle.net_core.specs.Ports.{ends_of}
 use Rattle.net_core.specs.Script.{rest_of, rest_by}
-use Rattle.net_core.proofs.Scripted.{rest_none, rest_some, streams_here, count_ends, goes_end, goes_work, goes_send, goes_receive, ready_datum, not_over, next_is, no_ticks, ready_room, put_done}
+use Rattle.net_core.proofs.Scripted.{rest_none, rest_some, streams_here, count_ends, goes_end, goes_send, goes_receive, ready_datum, not_over, next_is, no_ticks, ready_room, put_done}
 use Rattle.net_core.proofs.script.Script.tick.Goals as goal
 
 pub returns-in-None-clause-goes : goal.returns-in-None-clause-goes
@@ -15,21 +15,6 @@ returns-in-None-clause-goes c =
     let g : slice_get c.args.self.now.steps.items c.args.self.now.at ≡ None = cc in
     let e = rest_none c.args.self.now.ended c.args.self.now.steps.items c.args.self.now.at still g in
     goes_end (rest_of c.args.self.now) _ c.args.ports.now c.args.ports.now e refl (no_ticks c.args.ports.now End (λ p. refl) (λ p. refl))
-
-pub overflow_add-self-in-Some-Work : goal.overflow_add-self-in-Some-Work
-overflow_add-self-in-Some-Work c =
-    let still = not_over c.args.self.now.ended (drop c.args.self.now.at c.args.self.now.steps.items) c.args.ports.now c.requires.ready in
-    let g : slice_get c.args.self.now.steps.items c.args.self.now.at ≡ Some Work = cc in
-    let e = rest_some c.args.self.now.ended c.args.self.now.steps.items c.args.self.now.at (c.args.self.now.at + 1) Work still g refl in
-    let l = slice_get_within c.args.self.now.steps.items c.args.self.now.at _ g in
-    let o = c.args.self.now.steps.ok.0 in let small = c.args.self.now.steps.small in omega arith
-
-pub returns-in-Some-Work-clause-goes : goal.returns-in-Some-Work-clause-goes
-returns-in-Some-Work-clause-goes c =
-    let still = not_over c.args.self.now.ended (drop c.args.self.now.at c.args.self.now.steps.items) c.args.ports.now c.requires.ready in
-    let g : slice_get c.args.self.now.steps.items c.args.self.now.at ≡ Some Work = cc in
-    let e = rest_some c.args.self.now.ended c.args.self.now.steps.items c.args.self.now.at (c.args.self.now.at + 1) Work still g refl in
-    goes_work (rest_of c.args.self.now) (rest_by c.args.self.now.ended (drop (c.args.self.now.at + 1) c.args.self.now.steps.items)) c.args.ports.now c.args.ports.now (drop (c.args.self.now.at + 1) c.args.self.now.steps.items) e (next_is c.args.self.now.ended c.args.self.now.steps.items (c.args.self.now.at + 1) still) (no_ticks c.args.ports.now (Did Local) (λ p. refl) (λ p. refl))
 
 pub overflow_add-self-in-Some-Send : goal.overflow_add-self-in-Some-Send
 overflow_add-self-in-Some-Send c =
@@ -52,12 +37,6 @@ put-put-requires-clause-kind c =
     let g : slice_get c.args.self.now.steps.items c.args.self.now.at ≡ Some (Send c.in-Some-Send.p c.in-Some-Send.t) = cc in
     let s = streams_here (ends_of c.args.ports.now) c.args.self.now.steps.items c.args.self.now.at (c.args.self.now.at + 1) (Send c.in-Some-Send.p c.in-Some-Send.t) g refl c.requires.at_streams in
     s.1
-
-pub returns-in-Some-Work-clause-at_streams : goal.returns-in-Some-Work-clause-at_streams
-returns-in-Some-Work-clause-at_streams c = λ ends h.
-    let g : slice_get c.args.self.now.steps.items c.args.self.now.at ≡ Some (Work) = cc in
-    let s = streams_here ends c.args.self.now.steps.items c.args.self.now.at (c.args.self.now.at + 1) (Work) g refl h in
-    s
 
 pub returns-in-Some-Send-clause-at_streams : goal.returns-in-Some-Send-clause-at_streams
 returns-in-Some-Send-clause-at_streams c = λ ends h.
