@@ -1,0 +1,149 @@
+ghost use Rattle.std.specs.Prelude.{◌≡◌, ◌≤◌, ◌++◌, codes, IfOk, OnOk, OnErr, IsErrOf};
+ghost use Rattle.std.specs.Io.KnownBytes.{Appends};
+ghost use Rattle.tapa_base.specs.Outside.{AppendsPart, Rose};
+ghost use Rattle.run_data.specs.Report.{number_text, token_text, tokens_text, numbers_text, stream_line, memory_line, last_line};
+
+use itoa::Buffer;
+use std::alloc::{AllocError, Global};
+use tapa_base::{PrintFault, Sink, Token, put_all};
+
+/// How a run ended: the ticks of a run, or the cycle of a simulation.
+#[derive(Clone, Copy, PartialEq, Eq, Debug)]
+pub enum Last {
+    Done(u64),
+    Stopped(u64),
+    Running(u64),
+}
+
+// A space and a number.
+fn push_number(line: &mut Vec<u8>, buffer: &mut Buffer, number: u64) -> Result<(), AllocError>
+    ensures { OnOk result (line.new.items ≡ line.old.items ++ number_text number) }
+{
+    line.push(b' ')?;
+    line.extend_from_slice(buffer.format(number).as_bytes())?;
+    Ok(())
+}
+
+// A space and a token.
+fn push_token(line: &mut Vec<u8>, buffer: &mut Buffer, token: Token) -> Result<(), AllocError>
+    ensures { OnOk result (line.new.items ≡ line.old.items ++ token_text token) }
+{
+    match token {
+        Token::Datum(number) => push_number(line, buffer, number),
+        Token::Eot => {
+            line.extend_from_slice(b" eot")?;
+            Ok(())
+        }
+    }
+}
+
+fn push_tokens(line: &mut Vec<u8>, tokens: &[Token]) -> Result<(), AllocError>
+    ensures { OnOk result (line.new.items ≡ line.old.items ++ tokens_text tokens.now) }
+{
+    let mut buffer = Buffer::new();
+    for token in tokens {
+        push_token(line, &mut buffer, *token)?;
+    }
+    Ok(())
+}
+
+fn push_numbers(line: &mut Vec<u8>, numbers: &[u64]) -> Result<(), AllocError>
+    ensures { OnOk result (line.new.items ≡ line.old.items ++ numbers_text numbers.now) }
+{
+    let mut buffer = Buffer::new();
+    for number in numbers {
+        push_number(line, &mut buffer, *number)?;
+    }
+    Ok(())
+}
+
+// The front of a line: a word, a name and a colon.
+fn line_front(alloc: Global, word: &[u8], name: &[u8]) -> Result<Vec<u8>, AllocError>
+    ensures { IfOk result (λ line. line.items ≡ word.now ++ (name.now ++ codes ":")) }
+{
+    let mut line = Vec::from_slice(alloc, word)?;
+    line.extend_from_slice(name)?;
+    line.push(b':')?;
+    Ok(line)
+}
+
+fn stream_text(alloc: Global, label: &[u8], tokens: &[Token]) -> Result<Vec<u8>, AllocError>
+    ensures { IfOk result (λ line. line.items ≡ stream_line label.now tokens.now) }
+{
+    let mut line = line_front(alloc, b"stream ", label)?;
+    push_tokens(&mut line, tokens)?;
+    line.push(b'\n')?;
+    Ok(line)
+}
+
+fn memory_text(alloc: Global, name: &[u8], cells: &[u64]) -> Result<Vec<u8>, AllocError>
+    ensures { IfOk result (λ line. line.items ≡ memory_line name.now cells.now) }
+{
+    let mut line = line_front(alloc, b"memory ", name)?;
+    push_numbers(&mut line, cells)?;
+    line.push(b'\n')?;
+    Ok(line)
+}
+
+fn last_text(alloc: Global, last: Last) -> Result<Vec<u8>, AllocError>
+    ensures { IfOk result (λ line. line.items ≡ last_line last) }
+{
+    let mut buffer = Buffer::new();
+    let (word, number) = match last {
+        Last::Done(number) => (b"done ".as_slice(), number),
+        Last::Stopped(number) => (b"stopped ".as_slice(), number),
+        Last::Running(number) => (b"running ".as_slice(), number),
+    };
+    let mut line = Vec::from_slice(alloc, word)?;
+    line.extend_from_slice(buffer.format(number).as_bytes())?;
+    line.push(b'\n')?;
+    Ok(line)
+}
+
+/// Writes the line of a stream: its label and the tokens that it carried. After an error the sink holds what it held and
+/// a front part of the line.
+pub fn report_stream<O: Sink>(
+    alloc: Global,
+    label: &[u8],
+    tokens: &[Token],
+    out: &mut O,
+) -> Result<(), PrintFault>
+    ensures whole { OnOk result (Appends (O.contents out.old) (O.contents out.new) (stream_line label.now tokens.now)) }
+    ensures part { OnErr result (AppendsPart (O.contents out.old) (O.contents out.new) (stream_line label.now tokens.now)) }
+    ensures later { O.faults out.old ≤ O.faults out.new }
+    ensures fault { IsErrOf result PrintFault.WriteFault → Rose (O.faults out.old) (O.faults out.new) }
+{
+    let line = stream_text(alloc, label, tokens)?;
+    put_all(out, &line)?;
+    Ok(())
+}
+
+/// Writes the line of a memory: its name and its cells. After an error the sink holds what it held and a front part of
+/// the line.
+pub fn report_memory<O: Sink>(
+    alloc: Global,
+    name: &[u8],
+    cells: &[u64],
+    out: &mut O,
+) -> Result<(), PrintFault>
+    ensures whole { OnOk result (Appends (O.contents out.old) (O.contents out.new) (memory_line name.now cells.now)) }
+    ensures part { OnErr result (AppendsPart (O.contents out.old) (O.contents out.new) (memory_line name.now cells.now)) }
+    ensures later { O.faults out.old ≤ O.faults out.new }
+    ensures fault { IsErrOf result PrintFault.WriteFault → Rose (O.faults out.old) (O.faults out.new) }
+{
+    let line = memory_text(alloc, name, cells)?;
+    put_all(out, &line)?;
+    Ok(())
+}
+
+/// Writes the last line of a report. After an error the sink holds what it held and a front part of the line.
+pub fn report_last<O: Sink>(alloc: Global, last: Last, out: &mut O) -> Result<(), PrintFault>
+    ensures whole { OnOk result (Appends (O.contents out.old) (O.contents out.new) (last_line last)) }
+    ensures part { OnErr result (AppendsPart (O.contents out.old) (O.contents out.new) (last_line last)) }
+    ensures later { O.faults out.old ≤ O.faults out.new }
+    ensures fault { IsErrOf result PrintFault.WriteFault → Rose (O.faults out.old) (O.faults out.new) }
+{
+    let line = last_text(alloc, last)?;
+    put_all(out, &line)?;
+    Ok(())
+}

@@ -1,0 +1,16 @@
+//! The top call: the words of a command, the file that they name, the program that it means, its run and the report.
+#![tactic(auto)]
+
+mod refusal;
+mod shown;
+mod source;
+mod status;
+mod waits;
+mod words;
+
+pub use refusal::{Refusal, tell, tell_stopped};
+pub use shown::show;
+pub use source::SourceCode;
+pub use status::Status;
+pub use waits::wait_lines;
+pub use words::{Command, read_words};

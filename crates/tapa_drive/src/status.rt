@@ -1,0 +1,41 @@
+ghost use Rattle.std.specs.Prelude.{◌≡◌};
+ghost use Rattle.tapa_drive.specs.Status.{code_of};
+
+/// How a command ended.
+#[derive(Clone, Copy, Debug, PartialEq, Eq)]
+pub enum Status {
+    /// The work is done, and all of it is written.
+    Ok,
+    /// A source is refused.
+    Source,
+    /// The words are no command.
+    Usage,
+    /// A file could not be read.
+    Read,
+    /// Standard output or standard error could not be written to.
+    Write,
+    /// A limit is passed: of a file's length, or of a run's ticks.
+    Limit,
+    /// The program stopped at its declared depths before every instance had ended.
+    Stopped,
+    /// Memory was wanting.
+    Memory,
+}
+
+impl Status {
+    /// The number that the program ends with.
+    pub fn code(self) -> u8
+        ensures { result ≡ code_of self }
+    {
+        match self {
+            Status::Ok => 0,
+            Status::Source => 1,
+            Status::Usage => 2,
+            Status::Read => 5,
+            Status::Write => 6,
+            Status::Limit => 7,
+            Status::Stopped => 8,
+            Status::Memory => 9,
+        }
+    }
+}
