@@ -138,7 +138,10 @@ pub enum Statement {
     If(Expression, Box<Statement>),
     IfElse(Expression, Box<Statement>, Box<Statement>),
     While(Expression, Box<Statement>),
-    For { head: ForHead, body: Box<Statement> },
+    For {
+        head: Box<ForHead>,
+        body: Box<Statement>,
+    },
     /// `TAPA_WHILE_NOT_EOT(stream) body`.
     WhileNotEot(Name, Box<Statement>),
     Break(Place),
