@@ -1,6 +1,6 @@
 -- Lists of streams that grow at their end, and first states.
 use Rattle.std.proofs.Common.{◌≡◌, ℕ, zero, suc, ◌+◌, ◌<◌, ◌≤◌, List, [], ◌∷◌, ◌++◌, length, drop, get_or, map, refl, sym, ap, ◌∙◌, subst, ⊎_elim, arith}
-use Rattle.std.specs.Prelude.{Vec, flat_map, slice_set}
+use Rattle.std.specs.Prelude.{Vec, slice_get, flat_map, slice_set}
 use Rattle.std.specs.declared.alloc.Global.{Global}
 use Rattle.std.proofs.Math.Path.{fun_ext}
 use Rattle.std.proofs.lemmas.Bool.{cases_lt, cases_eq}
@@ -11,10 +11,11 @@ use Rattle.tapa_base.specs.declared.kind.Kind.{Kind}
 use Rattle.tapa_base.specs.Kinds.{converted}
 use Rattle.tapa_syntax.specs.declared.program.Program.{Program}
 use Rattle.tapa_syntax.specs.WellFormed.{IsWellFormed}
-use Rattle.kahn_model.specs.Behavior.{ticks}
+use Rattle.kahn_model.specs.Behavior.{Tick, ticks}
 use Rattle.kahn_model.specs.Network.{put_on, stream}
 use Rattle.kahn_model.specs.Slow.{row_at, whole}
-use Rattle.kahn_model.specs.Start.{through, with_values, network_of}
+use Rattle.kahn_model.specs.Start.{through, with_values, instance_state, network_of}
+use Rattle.kahn_model.specs.ProgramNetwork.{instance_job}
 use Rattle.kahn_model.proofs.Past.{stream_past}
 
 pub push_none : (xs : List (Vec Token Global)) (v : Vec Token Global) → ((s : ℕ) → whole xs s ≡ []) → v.items ≡ [] → (s : ℕ) → whole (xs ++ v ∷ []) s ≡ []
@@ -87,3 +88,10 @@ with_no_bound f xs bs bounds p vars eb l =
     let m = length-map bs f in
     let e = ap length eb in
     with_fewer xs (map f bs) p (p + 1) vars (omega arith) (omega arith)
+
+-- what a stream gets in a round
+pub next_is : (program : Program) (scalars : List ℕ) (memories : List (List ℕ)) (s n i : ℕ) (ins : ℕ → List Token) (v : List Token) (ts : List Tick) → v ≡ flat_map (put_on s) ts → ts ≡ ticks (instance_job program.bodies.items (slice_get program.instances.items i) (instance_state program scalars memories (slice_get program.instances.items i)) n) ins → i ≡ (network_of program scalars memories).producer s → v ≡ flat_map (put_on s) (ticks ((network_of program scalars memories).job ((network_of program scalars memories).producer s) n) ins)
+unfolding network_of
+next_is program scalars memories s n i ins v ts ev et ei =
+    ev ∙ ap (flat_map (put_on s)) et
+    ∙ ap (λ (j : ℕ). flat_map (put_on s) (ticks (instance_job program.bodies.items (slice_get program.instances.items j) (instance_state program scalars memories (slice_get program.instances.items j)) n) ins)) ei

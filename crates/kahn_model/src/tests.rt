@@ -240,7 +240,7 @@ fn crossing(alloc: Global) -> Result<Program, AllocError> {
         alloc,
         leaf(alloc, 2, 0, writer)?,
         leaf(alloc, 0, 2, reader)?,
-        0,
+        stream(alloc, 0, 1),
     )
 }
 
@@ -255,11 +255,16 @@ fn feedback(alloc: Global) -> Result<Program, AllocError> {
         alloc,
         leaf(alloc, 1, 1, asks)?,
         leaf(alloc, 1, 1, answers)?,
-        1,
+        stream(alloc, 1, 0),
     )
 }
 
-fn two_tasks(alloc: Global, first: Leaf, second: Leaf, writer: u32) -> Result<Program, AllocError> {
+fn two_tasks(
+    alloc: Global,
+    first: Leaf,
+    second: Leaf,
+    other: Stream,
+) -> Result<Program, AllocError> {
     let numbers = Vec::from_array(alloc, [0, 1])?;
     let again = Vec::from_array(alloc, [0, 1])?;
     let bodies = Vec::from_array(alloc, [first, second])?;
@@ -267,10 +272,7 @@ fn two_tasks(alloc: Global, first: Leaf, second: Leaf, writer: u32) -> Result<Pr
         alloc,
         [instance(alloc, 0, numbers), instance(alloc, 1, again)],
     )?;
-    let streams = Vec::from_array(
-        alloc,
-        [stream(alloc, 0, 1), stream(alloc, writer, 1 - writer)],
-    )?;
+    let streams = Vec::from_array(alloc, [stream(alloc, 0, 1), other])?;
     Ok(program(alloc, bodies, instances, streams))
 }
 

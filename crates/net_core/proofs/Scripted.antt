@@ -6,7 +6,7 @@ use Rattle.tapa_base.specs.declared.token.Token.{Token}
 use Rattle.tapa_base.specs.declared.token.Token.TheVariants.{Datum, Eot}
 use Rattle.kahn_model.specs.declared.tick.Tick.{Tick}
 use Rattle.kahn_model.specs.declared.tick.Tick.TheVariants.{Did, Take, End}
-use Rattle.kahn_model.specs.declared.tick.Action.TheVariants.{Local, Put}
+use Rattle.kahn_model.specs.declared.tick.Action.TheVariants.{Put}
 use Rattle.kahn_model.specs.declared.tick.StreamOperation.TheVariants.{Read}
 use Rattle.kahn_model.specs.Behavior.{Behavior, Finished, Await, judge_token, Answer, first_offer, on_offer, tick_of, ticks, lists_after}
 use Rattle.net_core.specs.declared.ports.Ports.{Ports}

@@ -1,10 +1,9 @@
 -- The programs of straight leaves are well formed, and a script stands for the job of such a leaf.
-use Rattle.std.proofs.Common.{◌≡◌, ℕ, zero, suc, ◌+◌, ◌<◌, ◌≤◌, ◌^◌, List, [], ◌∷◌, ◌++◌, length, map, drop, Bool, true, false, Option, Some, None, refl, sym, ap, ◌∙◌, subst, arith}
-use Rattle.std.specs.Prelude.{Vec, slice_get, slice_index, option_map, unwrap_or}
+use Rattle.std.proofs.Common.{◌≡◌, ℕ, zero, suc, ◌<◌, ◌≤◌, List, [], ◌∷◌, ◌++◌, length, map, drop, Bool, true, false, Some, refl, sym, ap, ◌∙◌, subst, arith}
+use Rattle.std.specs.Prelude.{Vec, slice_get, option_map, unwrap_or}
 use Rattle.std.specs.declared.alloc.Global.{Global}
 use Rattle.std.proofs.Math.Path.{fun_ext}
 use Rattle.std.proofs.lemmas.Option.{slice_get_within}
-use Rattle.tapa_base.specs.declared.kind.Kind.{Kind}
 use Rattle.tapa_base.specs.declared.kind.Kind.TheVariants.{U64}
 use Rattle.tapa_base.specs.declared.token.Token.TheVariants.{Datum, Eot}
 use Rattle.tapa_base.specs.Kinds.{values_of}
@@ -28,13 +27,12 @@ use Rattle.net_core.specs.declared.input.Input.{Input}
 use Rattle.net_core.specs.declared.script.Step.{Step}
 use Rattle.net_core.specs.declared.script.Step.TheVariants.{Send, Receive}
 use Rattle.net_core.specs.declared.script.Script.{Script}
-use Rattle.net_core.specs.Kinds.{kind_in}
 use Rattle.net_core.specs.Job.{Job}
 use Rattle.net_core.specs.Follow.{Still, Follows}
 use Rattle.net_core.specs.Script.{script, rest_by, rest_of, AreAtStreams, IsAt}
-use Rattle.net_core.specs.Bindings.{leaf_in, leaf_at, ends_at}
+use Rattle.net_core.specs.Bindings.{leaf_in, leaf_at}
 use Rattle.net_core.specs.Bounded.{scalars_of, memories_of, leaf_behavior, instance_job}
-use Rattle.net_core.specs.Straight.{statement, writing, reading, IsSmall, Suits, AllSuit, IsStraight, IsFresh, IsPlainInstance, IsPlainStream, first_ends, second_ends, IsBench}
+use Rattle.net_core.specs.Straight.{statement, writing, reading, Suits, AllSuit, IsStraight, IsFresh, IsPlainStream, first_ends, second_ends, IsBench}
 use Rattle.net_core.proofs.Follow.{follows_first}
 use Rattle.net_core.proofs.Connected.{ends_is}
 

@@ -4,7 +4,7 @@ use Rattle.tapa_base.specs.declared.token.Token.{Token}
 use Rattle.tapa_syntax.specs.declared.program.End.{End}
 use Rattle.kahn_model.specs.Prefix.{IsPrefixOf}
 use Rattle.kahn_model.specs.declared.tick.Tick.{Tick}
-use Rattle.kahn_model.specs.declared.tick.Action.TheVariants.{Local, Put}
+use Rattle.kahn_model.specs.declared.tick.Action.TheVariants.{Put}
 use Rattle.kahn_model.specs.declared.tick.StreamOperation.TheVariants.{Read}
 use Rattle.kahn_model.specs.Behavior.{Behavior, Finished, Act, Await}
 use Rattle.net_core.specs.declared.ports.Ports.{Ports}

@@ -1,6 +1,6 @@
 -- The bindings of a program's instances.
-use Rattle.std.proofs.Common.{◌≡◌, ◌<◌, ◌≤◌, ◌+◌, ◌⊎◌, inl, inr, ℕ, zero, suc, List, [], ◌∷◌, ◌++◌, length, Bool, true, false, not, ◌&&◌, Some, None, refl, sym, ap, subst, ◌∙◌, arith}
-use Rattle.std.specs.Prelude.{Option, option_map, slice_get, filter, ◌==◌, cond}
+use Rattle.std.proofs.Common.{◌≡◌, ◌+◌, ◌⊎◌, inl, inr, ℕ, zero, suc, List, [], ◌∷◌, ◌++◌, Bool, true, false, not, ◌&&◌, Some, refl, sym, ap, subst, ◌∙◌, arith}
+use Rattle.std.specs.Prelude.{slice_get, filter, ◌==◌, cond}
 use Rattle.std.proofs.lemmas.Bool.{eqb-true, eq-eqb}
 use Rattle.tapa_syntax.specs.declared.program.End.{End}
 use Rattle.tapa_syntax.specs.LeafKinds.{writes_of}
@@ -76,7 +76,7 @@ bound_from bodies k (y ∷ rest) zero p s w x h a b =
     member_left _ (bindings_at k 0 y.streams (ends_of (slice_get bodies y.body))) (bindings_from bodies (k + 1) rest) (subst (λ (b : Binding). Member b (bindings_at k 0 y.streams (ends_of (slice_get bodies y.body)))) (at_zero k p s w) n)
 bound_from bodies k (y ∷ rest) (suc i) p s w x h a b =
     member_right _ (bindings_at k 0 y.streams (ends_of (slice_get bodies y.body))) (bindings_from bodies (k + 1) rest)
-      (subst (λ n. Member (binding n p s w) (bindings_from bodies (k + 1) rest)) (shifted k i) (bound_from bodies (k + 1) rest i p s w x h a b))
+    (subst (λ n. Member (binding n p s w) (bindings_from bodies (k + 1) rest)) (shifted k i) (bound_from bodies (k + 1) rest i p s w x h a b))
 
 -- where a binding comes from
 pub record BoundAt (i k : ℕ) (streams : List ℕ) (ends : List End) (b : Binding) : Type 0 where
@@ -135,7 +135,7 @@ pub of_bindings : (bodies : List FlatLeaf) (k : ℕ) (instances : List FlatInsta
 of_bindings bodies k [] b m = absurd m
 of_bindings bodies k (x ∷ rest) b m =
     elim (member_append b (bindings_at k 0 x.streams (ends_of (slice_get bodies x.body))) (bindings_from bodies (k + 1) rest) m) [
-      inl l ↦ first_from bodies k x rest b (of_bindings_at k 0 x.streams (ends_of (slice_get bodies x.body)) b l)
+      | inl l ↦ first_from bodies k x rest b (of_bindings_at k 0 x.streams (ends_of (slice_get bodies x.body)) b l)
       | inr r ↦ later_from bodies k x rest b (of_bindings bodies (k + 1) rest b r)
     ]
 

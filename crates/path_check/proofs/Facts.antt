@@ -1,8 +1,7 @@
 -- What the definition says of the instances and streams of a path program.
 use Rattle.std.proofs.Common.{◌≡◌, ◌<◌, ◌≤◌, ◌+◌, ◌-◌, ℕ, zero, suc, List, [], ◌∷◌, ◌++◌, length, take, Bool, true, false, ◌&&◌, Some, None, refl, sym, ap, subst, ◌∙◌, arith, length-append}
-use Rattle.std.specs.Prelude.{Option, option_and_then, slice_get, nat_lt, nat_le, ◌==◌, bytes_eq, if◌then◌else◌}
+use Rattle.std.specs.Prelude.{Option, option_and_then, slice_get, nat_lt, nat_le, ◌==◌, if◌then◌else◌}
 use Rattle.std.proofs.lemmas.Bool.{leb-true, eqb-true}
-use Rattle.tapa_base.specs.declared.kind.Kind.{Kind}
 use Rattle.tapa_base.specs.declared.kind.Kind.TheVariants as kind
 use Rattle.tapa_syntax.specs.declared.program.Stream.{Stream}
 use Rattle.tapa_syntax.specs.declared.tree.Name.{Name}
@@ -13,7 +12,7 @@ use Rattle.path_check.specs.Flat.{FlatLeaf, FlatInstance, FlatProgram}
 use Rattle.path_check.specs.Leaves.{is_long, place_of, with_name, leaf_of}
 use Rattle.path_check.specs.Programs as path
 use Rattle.path_check.specs.Steps.{given, only, run}
-use Rattle.path_check.proofs.Opened.{nothing, the_same, opened, asked, both, place_below, Each, each_append, Split, split, run_by}
+use Rattle.path_check.proofs.Opened.{nothing, the_same, opened, asked, both, place_below, Each, each_append, split, run_by}
 use Rattle.path_check.proofs.WellLeaves.{GoodLeaf, leaf_good, added}
 
 -- ---- each step gives one
@@ -191,8 +190,8 @@ streams_good bindings names k (d ∷ ds) ys t (i, j) h s r g =
     let o = stream_good bindings names k d q.head q.middle i q.first in
     let e : o.stream ∷ q.tail ≡ ys = ap (λ hs. hs ++ q.tail) o.is ∙ q.joined in
     stream_cases bindings k o.stream q.tail s r o.facts
-      (λ z v a. subst (λ m. StreamFacts bindings (m + z) v) o.next (streams_good bindings names q.middle ds q.tail t j q.rest z v a))
-      (ap (λ zs. slice_get zs s) e ∙ g)
+    (λ z v a. subst (λ m. StreamFacts bindings (m + z) v) o.next (streams_good bindings names q.middle ds q.tail t j q.rest z v a))
+    (ap (λ zs. slice_get zs s) e ∙ g)
 
 -- ---- the whole
 

@@ -1,9 +1,9 @@
 -- A file in parts: its last item, and those before it.
 use Rattle.std.proofs.Common.{◌≡◌, ◌<◌, ◌-◌, ℕ, zero, suc, List, [], ◌∷◌, map, take, length, get_or, Some, None, refl, sym, ap, ◌∙◌, arith}
-use Rattle.std.specs.Prelude.{Option, option_and_then, slice_get}
+use Rattle.std.specs.Prelude.{option_and_then, slice_get, Bool, false, ◌==◌}
+use Rattle.std.proofs.lemmas.Bool.{eqb-false}
 use Rattle.tapa_syntax.specs.declared.tree.FileItem.{FileItem}
 use Rattle.tapa_syntax.specs.Trees.{ItemTree, item_of}
-use Rattle.path_check.specs.Flat.{FlatProgram}
 use Rattle.path_check.specs.Programs as path
 use Rattle.path_check.proofs.LeafSteps.{bound}
 
@@ -44,9 +44,10 @@ file_refused items i x top h e p n =
     file_begins items i x top h e p
     ∙ ap (option_and_then (λ (named : List ℕ × path.Upper). path.program_with named.0 named.1 (map item_of (take i items)))) (sym n)
 
-pub file_goes : (items : List FileItem) (i : ℕ) (x : FileItem) (top name : List ℕ) (upper : path.Upper) → i < length items → x ≡ get_or items i x → i ≡ length items - 1 → Some (name, upper) ≡ path.top_of (item_of x) top → path.program_of (map item_of items) top ≡ path.program_with name upper (map item_of (take (i - 0) items))
+pub file_goes : (items : List FileItem) (i : ℕ) (x : FileItem) (top name : List ℕ) (upper : path.Upper) → i < length items → x ≡ get_or items i x → i ≡ length items - 1 → Some (name, upper) ≡ path.top_of (item_of x) top → path.program_of (map item_of items) top ≡ path.program_with name upper (map item_of (take i items))
 file_goes items i x top name upper h e p n =
-    let z : i ≡ i - 0 = omega arith in
     file_begins items i x top h e p
     ∙ ap (option_and_then (λ (named : List ℕ × path.Upper). path.program_with named.0 named.1 (map item_of (take i items)))) (sym n)
-    ∙ ap (λ k. path.program_with name upper (map item_of (take k items))) z
+
+pub some_before : (n : ℕ) (b : Bool) → b ≡ (n == 0) → b ≡ false → n - 1 < n
+some_before n b e f = let h = eqb-false n 0 (sym e ∙ f) in omega arith

@@ -1,11 +1,10 @@
 -- The code of a leaf of the path language is good.
-use Rattle.std.proofs.Common.{◌≡◌, ◌<◌, ◌≤◌, ◌+◌, ◌-◌, ◌^◌, ℕ, zero, suc, List, [], ◌∷◌, ◌++◌, length, map, replicate, Bool, true, false, not, ◌&&◌, Some, None, refl, sym, ap, subst, ◌∙◌, arith, lit<, length-append}
+use Rattle.std.proofs.Common.{◌≡◌, ◌<◌, ◌≤◌, ◌+◌, ◌-◌, ◌^◌, ℕ, List, [], ◌∷◌, ◌++◌, length, Bool, true, false, not, ◌&&◌, Some, refl, sym, ap, subst, ◌∙◌, arith, lit<, length-append}
 use Rattle.std.specs.Prelude.{Option, option_and_then, option_map, slice_get, nat_lt, nat_le, is_none}
 use Rattle.std.proofs.lemmas.Bool.{leb-true, ltb-true}
 use Rattle.tapa_base.specs.declared.kind.Kind.{Kind}
 use Rattle.tapa_base.specs.declared.kind.Kind.TheVariants as kind
 use Rattle.tapa_base.specs.declared.op.Op.TheVariants as op
-use Rattle.tapa_base.specs.Kinds.{values_of}
 use Rattle.tapa_syntax.specs.declared.program.End.{End}
 use Rattle.tapa_syntax.specs.LeafKinds.{writes_of}
 use Rattle.tapa_syntax.specs.Trees as tree

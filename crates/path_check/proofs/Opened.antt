@@ -1,8 +1,8 @@
 -- What a reading that gives something says of its parts.
-use Rattle.std.proofs.Common.{◌≡◌, ◌<◌, ◌≤◌, ◌+◌, ℕ, zero, suc, List, [], ◌∷◌, ◌++◌, length, Bool, true, false, ◌&&◌, Some, None, refl, sym, ap, subst, ◌∙◌, arith}
+use Rattle.std.proofs.Common.{◌≡◌, ◌<◌, ◌+◌, ℕ, suc, List, [], ◌∷◌, ◌++◌, length, Bool, true, false, ◌&&◌, Some, None, refl, ap, subst, ◌∙◌, arith}
 use Rattle.std.specs.Prelude.{Option, option_and_then, option_map, cond}
 use Rattle.std.specs.List.{position_from}
-use Rattle.path_check.specs.Steps.{◌>>=◌, given, only, run}
+use Rattle.path_check.specs.Steps.{given, only, run}
 
 pub nothing : {A : Type 0} (x : A) → None ≡ Some x → ⊥
 nothing x h = cc

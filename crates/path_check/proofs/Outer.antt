@@ -1,11 +1,11 @@
 -- Statements of a leaf's own block.
-use Rattle.std.proofs.Common.{◌≡◌, List, [], ◌∷◌, ◌++◌, map, Some, None, refl, sym, ap, ◌∙◌}
-use Rattle.std.specs.Prelude.{Option, option_map}
+use Rattle.std.proofs.Common.{◌≡◌, List, [], ◌∷◌, ◌++◌, map, Some, None, ap, ◌∙◌}
+use Rattle.std.specs.Prelude.{option_map}
 use Rattle.std.proofs.lemmas.List.{map_push}
 use Rattle.tapa_syntax.specs.declared.program.Stmt.{Stmt}
 use Rattle.tapa_syntax.specs.Trees as tree
 use Rattle.tapa_syntax.specs.Trees.{StatementTree}
-use Rattle.path_check.specs.Flat.{FlatAction, FlatStatement, act, flat_action, flat_statement}
+use Rattle.path_check.specs.Flat.{FlatAction, act, flat_action, flat_statement}
 use Rattle.path_check.specs.Leaves.{Scope, simple_of, outer_of, acted}
 
 not_both : (a : List FlatAction × Scope) → None ≡ Some a → ⊥

@@ -1,6 +1,5 @@
 -- The trees and the flat statements of lists that lie in rows.
-use Rattle.std.proofs.Common.{◌≡◌, ℕ, List, [], ◌∷◌, map, length, Bool, true, false, Vec, Global, Some, None, refl, ap, ◌∙◌}
-use Rattle.std.specs.Prelude.{Option}
+use Rattle.std.proofs.Common.{◌≡◌, List, [], ◌∷◌, map, Vec, Global, refl, ap, ◌∙◌}
 use mathlib.Core.Former.{Count}
 use Rattle.tapa_syntax.specs.declared.tree.Name.{Name}
 use Rattle.tapa_syntax.specs.declared.tree.Expression.{Expression, Call, Call', Row_of-Expression, end_of-Expression, more_of-Expression, items-the_row-Expression, items_hidden-the_row-Expression-0}
@@ -8,7 +7,7 @@ use Rattle.tapa_syntax.specs.declared.tree.Statement.{Statement, Block, Block', 
 use Rattle.tapa_syntax.specs.declared.program.Expr.{Expr}
 use Rattle.tapa_syntax.specs.declared.program.Stmt.{Stmt, Loop, Loop', Row_of-Stmt, end_of-Stmt, more_of-Stmt, items-the_row-Stmt, items_hidden-the_row-Stmt-0}
 use Rattle.tapa_syntax.specs.Trees.{StatementTree, one, call, expression, expressions_in, expressions, block, statement_then, statement, statements_in, statements}
-use Rattle.path_check.specs.Flat.{FlatExpression, read, loop, flat_expression, flat_action, flat_actions, flat_statement}
+use Rattle.path_check.specs.Flat.{loop, flat_expression, flat_action, flat_actions, flat_statement}
 use Rattle.path_check.specs.Leaves.{Scope, named_of, listed, block_of, inner_of}
 use Rattle.path_check.specs.Steps.{run}
 use Rattle.path_check.specs.Views.{read_of}

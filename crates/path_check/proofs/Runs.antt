@@ -1,8 +1,8 @@
 -- Readings step by step.
-use Rattle.std.proofs.Common.{◌≡◌, ℕ, ◌+◌, ◌<◌, List, [], ◌∷◌, ◌++◌, Bool, true, false, Some, None, refl, sym, ap, ◌∙◌, append_assoc}
+use Rattle.std.proofs.Common.{◌≡◌, List, [], ◌∷◌, ◌++◌, Bool, true, false, Some, None, refl, sym, ap, ◌∙◌, append_assoc}
 use Rattle.std.proofs.lemmas.List.{append-nil}
 use Rattle.std.specs.Prelude.{Option, option_map, option_and_then}
-use Rattle.path_check.specs.Steps.{◌>>=◌, given, only, run}
+use Rattle.path_check.specs.Steps.{given, run}
 
 pub given-true : {A : Type 0} (b : Bool) (o : Option A) → b ≡ true → given b o ≡ o
 given-true true o h = refl

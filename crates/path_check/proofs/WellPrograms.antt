@@ -1,20 +1,20 @@
 -- Path programs are well formed.
-use Rattle.std.proofs.Common.{◌≡◌, ◌<◌, ◌≤◌, ◌+◌, ℕ, zero, suc, List, [], ◌∷◌, length, map, Bool, true, false, Some, None, refl, sym, ap, subst, ◌∙◌, arith}
-use Rattle.std.specs.Prelude.{Option, option_map, slice_get}
-use Rattle.tapa_base.specs.declared.kind.Kind.TheVariants as kind
-use Rattle.tapa_syntax.specs.declared.program.Bound.{Bound}
+use Rattle.std.proofs.Common.{◌≡◌, ◌<◌, ◌≤◌, ◌+◌, ℕ, zero, suc, List, [], ◌∷◌, length, map, Bool, true, false, Some, refl, sym, ap, subst, ◌∙◌, arith}
+use Rattle.std.specs.Prelude.{option_map, slice_get}
 use Rattle.tapa_syntax.specs.declared.program.End.{End}
 use Rattle.tapa_syntax.specs.declared.program.Instance.{Instance}
 use Rattle.tapa_syntax.specs.declared.program.Leaf.{Leaf}
 use Rattle.tapa_syntax.specs.declared.program.Program.{Program}
 use Rattle.tapa_syntax.specs.declared.program.Stream.{Stream}
 use Rattle.tapa_syntax.specs.LeafKinds.{writes_of}
-use Rattle.tapa_syntax.specs.WellFormed.{IsLeaf, IsEndOf, IsStreamAt, IsInstance, IsJoined, IsStream, IsWellFormed}
+use Rattle.tapa_syntax.specs.declared.tree.File.{File}
+use Rattle.tapa_syntax.specs.Trees.{file_of}
+use Rattle.tapa_syntax.specs.WellFormed.{IsEndOf, IsInstance, IsJoined, IsWellFormed}
 use Rattle.path_check.specs.declared.bindings.Binding.{Binding}
-use Rattle.path_check.specs.Flat.{FlatLeaf, FlatInstance, flat_leaf, flat_instance}
-use Rattle.path_check.specs.Programs.{bindings_from, ends_of}
-use Rattle.path_check.proofs.Ends.{Member, binding, bound_from, of_bindings, BoundFrom, TheEnd, the_end}
-use Rattle.path_check.proofs.Facts.{Facts, GoodInstance, StreamFacts}
+use Rattle.path_check.specs.Flat.{FlatLeaf, FlatInstance, flat_leaf, flat_instance, flat_program}
+use Rattle.path_check.specs.Programs.{bindings_from, ends_of, IsPathProgram}
+use Rattle.path_check.proofs.Ends.{Member, binding, bound_from, of_bindings, TheEnd, the_end}
+use Rattle.path_check.proofs.Facts.{Facts, GoodInstance, StreamFacts, program_facts}
 use Rattle.path_check.proofs.Opened.{nothing, the_same, Each}
 use Rattle.path_check.proofs.WellLeaves.{GoodLeaf, IsLong, leaf_well}
 
@@ -116,28 +116,30 @@ one_position p i q o s false r f m n =
 
 instance_well : (p : Program) → FactsOf p → (i : ℕ) (x : Instance) → slice_get p.instances.items i ≡ Some x → (leaf : Leaf) × IsInstance p i x leaf
 instance_well p f i x h =
-    let l = leaf_of p f i x h in
-    (l.leaf, record {
-      body = l.is;
-      streams_len = l.good.lengths ∙ ap (λ (fl : FlatLeaf). length fl.streams) (sym l.same);
-      streams = λ q s e a b.
-        let r = stream_of p f x l q s a in
-        let m = bound_here p i x h l q s e.writes a (ap (option_map (λ (n : End). n.writes)) b) in
-        record {
-          stream = r.stream;
-          is = r.is;
-          kind = r.facts.kind ∙ sym (each_get IsLong l.leaf.streams.items q e l.fine.long b);
-          end = end_at p i q s e.writes r.stream r.facts m;
-        };
-      streams_once = λ q o s w a b u v.
-        let r = stream_of p f x l q s a in
-        one_position p i q o s w r.stream r.facts (bound_here p i x h l q s w a u) (bound_here p i x h l o s w b v);
-      memories_len = ap length l.good.memories ∙ sym (ap length l.fine.memories);
-      memories = λ q m k a b. absurd (none_in x.memories.items q m l.good.memories a);
-      memories_once = λ q o m a b. absurd (none_in x.memories.items q m l.good.memories a);
-      scalars_len = ap length l.good.scalars ∙ sym (ap length l.fine.scalars);
-      scalars = λ q v b a c. absurd (none_in x.scalars.items q b l.good.scalars a);
-    })
+    let l = leaf_of p f i x h in (
+      l.leaf,
+      record {
+        body = l.is;
+        streams_len = l.good.lengths ∙ ap (λ (fl : FlatLeaf). length fl.streams) (sym l.same);
+        streams = λ q s e a b.
+            let r = stream_of p f x l q s a in
+            let m = bound_here p i x h l q s e.writes a (ap (option_map (λ (n : End). n.writes)) b) in
+            record {
+              stream = r.stream;
+              is = r.is;
+              kind = r.facts.kind ∙ sym (each_get IsLong l.leaf.streams.items q e l.fine.long b);
+              end = end_at p i q s e.writes r.stream r.facts m;
+            };
+        streams_once = λ q o s w a b u v.
+            let r = stream_of p f x l q s a in
+            one_position p i q o s w r.stream r.facts (bound_here p i x h l q s w a u) (bound_here p i x h l o s w b v);
+        memories_len = ap length l.good.memories ∙ sym (ap length l.fine.memories);
+        memories = λ q m k a b. absurd (none_in x.memories.items q m l.good.memories a);
+        memories_once = λ q o m a b. absurd (none_in x.memories.items q m l.good.memories a);
+        scalars_len = ap length l.good.scalars ∙ sym (ap length l.fine.scalars);
+        scalars = λ q v b a c. absurd (none_in x.scalars.items q b l.good.scalars a);
+      },
+    )
 
 zero_number : (i k n : ℕ) → i ≡ 0 + k → i ≡ n → k ≡ n
 zero_number i k n h e = omega arith
@@ -152,7 +154,7 @@ joined_well p f s n w t =
     let x = get_unmap flat_instance p.instances.items b.number b.instance b.there in
     let l = leaf_of p f b.number x.0 x.1 in
     let e : ends_of (slice_get (bodies_of p) b.instance.body) ≡ l.leaf.streams.items
-          = ap (λ (y : FlatInstance). ends_of (slice_get (bodies_of p) y.body)) (sym x.2) ∙ ap ends_of (get_map flat_leaf p.bodies.items x.0.body l.leaf l.is) in
+    = ap (λ (y : FlatInstance). ends_of (slice_get (bodies_of p) y.body)) (sym x.2) ∙ ap ends_of (get_map flat_leaf p.bodies.items x.0.body l.leaf l.is) in
     record {
       instance = x.0;
       is = subst (λ k. slice_get p.instances.items k ≡ Some x.0) number x.1;
@@ -170,11 +172,14 @@ program_well p f = record {
   leaves = λ b l h. leaf_well l (each_get GoodLeaf (bodies_of p) b (flat_leaf l) f.leaves (get_map flat_leaf p.bodies.items b l h));
   instances = λ i x h. instance_well p f i x h;
   streams = λ s r h.
-    let g = f.joined s r h in
-    record {
-      some_depth = g.depth.0;
-      within = g.depth.1;
-      written = joined_well p f s r.producer true (the_end (bindings_of p) s true r.producer g.producer);
-      read = joined_well p f s r.consumer false (the_end (bindings_of p) s false r.consumer g.consumer);
-    };
+      let g = f.joined s r h in
+      record {
+        some_depth = g.depth.0;
+        within = g.depth.1;
+        written = joined_well p f s r.producer true (the_end (bindings_of p) s true r.producer g.producer);
+        read = joined_well p f s r.consumer false (the_end (bindings_of p) s false r.consumer g.consumer);
+      };
 }
+
+pub path_well : (file : File) (top : List ℕ) (p : Program) → IsPathProgram file top p → IsWellFormed p
+path_well file top p h = program_well p (program_facts (file_of file) top (flat_program p) h)

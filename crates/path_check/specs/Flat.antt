@@ -1,5 +1,5 @@
 -- The flat program of a path program as plain data: numbers, names and lists.
-use Rattle.std.specs.Prelude.{ℕ, List, [], ◌∷◌, map, Bool}
+use Rattle.std.specs.Prelude.{ℕ, List, [], ◌∷◌, map}
 use Rattle.tapa_base.specs.declared.kind.Kind.{Kind}
 use Rattle.tapa_base.specs.declared.op.Op.{Op}
 use Rattle.tapa_syntax.specs.declared.program.Array.{Array}

@@ -1,22 +1,21 @@
 -- The leaf tasks of the path language: what they may say, and what they are in the flat program.
-use Rattle.std.specs.Prelude.{ℕ, ◌+◌, ◌-◌, ◌^◌, List, [], ◌∷◌, ◌++◌, length, replicate, Bool, true, false, not, ◌&&◌, ◌||◌, cond, Option, Some, None, is_none, option_map, slice_get, nat_lt, nat_le, ◌==◌, bytes_eq}
+use Rattle.std.specs.Prelude.{ℕ, ◌+◌, ◌-◌, ◌^◌, List, [], ◌∷◌, ◌++◌, length, replicate, Bool, true, false, not, ◌&&◌, ◌||◌, Option, Some, None, is_none, option_map, slice_get, nat_lt, nat_le, ◌==◌, bytes_eq}
 use Rattle.std.specs.List.{list_any, position_from}
 use Rattle.tapa_base.specs.declared.kind.Kind.{Kind}
 use Rattle.tapa_base.specs.declared.kind.Kind.TheVariants as kind
-use Rattle.tapa_base.specs.declared.op.Op.{Op}
 use Rattle.tapa_base.specs.declared.op.Op.TheVariants as op
 use Rattle.tapa_syntax.specs.declared.program.End.{End}
 use Rattle.tapa_syntax.specs.declared.tree.Parameter.{Parameter}
-use Rattle.tapa_syntax.specs.declared.tree.Parameter.TheVariants.{InputStream, OutputStream, Memory, Scalar}
+use Rattle.tapa_syntax.specs.declared.tree.Parameter.TheVariants.{InputStream, OutputStream}
 use Rattle.tapa_syntax.specs.declared.tree.BinaryOperator.{BinaryOperator}
-use Rattle.tapa_syntax.specs.declared.tree.BinaryOperator.TheVariants.{LogicalOr, LogicalAnd, Value}
+use Rattle.tapa_syntax.specs.declared.tree.BinaryOperator.TheVariants.{Value}
 use Rattle.tapa_syntax.specs.declared.tree.StepOperator.{StepOperator}
 use Rattle.tapa_syntax.specs.declared.tree.StepOperator.TheVariants.{Increment, Decrement}
 use Rattle.tapa_syntax.specs.declared.tree.AssignmentOperator.{AssignmentOperator}
 use Rattle.tapa_syntax.specs.declared.tree.AssignmentOperator.TheVariants.{Plain, Compound}
 use Rattle.tapa_syntax.specs.Trees as tree
 use Rattle.tapa_syntax.specs.Trees.{ExpressionTree, Expressions, PlaceTree, ActionTree, DeclaratorTree, DeclarationTree, StartTree, HeadTree, StatementTree, Statements, TaskTree, BodyTree}
-use Rattle.path_check.specs.Flat.{FlatExpression, literal, variable, read, convert, apply, other, FlatAction, set, write, discard, no_action, FlatStatement, act, loop, FlatLeaf}
+use Rattle.path_check.specs.Flat.{FlatExpression, literal, variable, read, convert, apply, FlatAction, set, write, discard, no_action, FlatStatement, act, loop, FlatLeaf}
 use Rattle.path_check.specs.Steps.{◌>>=◌, given, only, run}
 
 -- ---- words

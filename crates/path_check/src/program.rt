@@ -1,5 +1,6 @@
 ghost use Rattle.std.specs.Prelude.{◌≡◌, ◌≤◌, ◌<◌, ◌+◌, ◌∷◌, [], IfNone, IfOk, IfSome, Some, length, map, vec_len};
 ghost use Rattle.tapa_syntax.specs.Trees as tree;
+ghost use Rattle.tapa_syntax.specs.WellFormed.{IsWellFormed};
 ghost use Rattle.path_check.specs.Answers.{Gives, Leaves};
 ghost use Rattle.path_check.specs.Flat.{flat_instance, flat_leaf, flat_program};
 ghost use Rattle.path_check.specs.Programs as path;
@@ -376,6 +377,7 @@ fn program(alloc: Global, items: &[FileItem], top: &str) -> Result<Program, Faul
 pub fn path_program(alloc: Global, file: &File, top: &str) -> Result<Option<Program>, OutOfMemory>
     ensures found { IfOk result (λ found. IfSome found (λ program. IsPathProgram file.now top.now program)) }
     ensures none { IfOk result (λ found. IfNone found (HasNoProgram file.now top.now)) }
+    ensures well_formed { IfOk result (λ found. IfSome found (λ program. IsWellFormed program)) }
 {
     match program(alloc, &file.items, top) {
         Ok(found) => Ok(Some(found)),

@@ -1,7 +1,11 @@
+pub mod Ending
+pub mod Fresh
 pub mod Meaning
 pub mod Pauses
 pub mod Refusal
 pub mod Run
+pub mod Start
+pub mod Started
 pub mod Status
 pub mod Told
 pub mod Words

@@ -2,15 +2,19 @@
 #![tactic(auto)]
 
 mod refusal;
+mod run;
 mod shown;
 mod source;
+mod start;
 mod status;
 mod waits;
 mod words;
 
 pub use refusal::{Refusal, tell, tell_stopped};
+pub use run::{RunEnd, run_program};
 pub use shown::show;
 pub use source::SourceCode;
+pub use start::coroutines;
 pub use status::Status;
 pub use waits::wait_lines;
 pub use words::{Command, read_words};

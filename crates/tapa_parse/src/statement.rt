@@ -1,9 +1,11 @@
 //! Statements.
 
-ghost use Rattle.std.specs.Prelude.{◌≡◌, map};
+ghost use Rattle.std.specs.Prelude.{◌≡◌, List, map};
+ghost use Rattle.tapa_syntax.specs.Symbols.{Symbol};
 ghost use Rattle.tapa_syntax.specs.Limits.{most_operators};
 ghost use Rattle.tapa_syntax.specs.Trees as view;
-ghost use Rattle.tapa_parse.specs.Readers.{Gives};
+ghost use Rattle.tapa_syntax.specs.Trees.{StatementTree};
+ghost use Rattle.tapa_parse.specs.Readers.{Gives, Outcome, and_then, pure};
 ghost use Rattle.tapa_parse.specs.Reading as spec;
 
 use crate::fault::{Fault, ParseCode};
@@ -12,6 +14,14 @@ use crate::parser::Parser;
 use std::alloc::Global;
 use tapa_base::Place;
 use tapa_syntax::{Action, Expression, ForHead, ForStart, Mark, Statement};
+
+// A loop of a head and a body, where the body was read.
+fn for_statement(alloc: Global, head: Box<ForHead>, body: Result<Statement, Fault>) -> Result<Statement, Fault>
+    ensures { (left : List Symbol) (outcome : Outcome StatementTree) → Gives view.statement body left outcome → Gives view.statement result left (and_then outcome (λ s. pure (view.for (view.head_of head.value) s))) }
+{
+    let body = Box::new(alloc, body?)?;
+    Ok(Statement::For { head, body })
+}
 
 impl<'a> Parser<'a> {
     // An action or a declaration, and a semicolon.
@@ -176,9 +186,8 @@ impl<'a> Parser<'a> {
     {
         self.skip();
         let head = self.head(room)?;
-        let body = self.statement(room)?;
-        let body = Box::new(self.alloc(), body)?;
-        Ok(Statement::For { head, body })
+        let body = self.statement(room);
+        for_statement(self.alloc(), head, body)
     }
 
     #[cycle(statement)]

@@ -1,4 +1,5 @@
 // The states of small leaves, against the tick places that the language names for them.
+ghost use Rattle.std.specs.Prelude.{◌≡◌, IfOk, length};
 
 #[cfg(test)]
 mod tests {
@@ -87,7 +88,9 @@ mod tests {
         ]?)
     }
 
-    fn program(alloc: Global, code: Vec<Stmt>) -> Result<Program, AllocError> {
+    fn program(alloc: Global, code: Vec<Stmt>) -> Result<Program, AllocError>
+        ensures { IfOk result (λ p. length p.bodies.items ≡ 1) }
+    {
         let reads = End {
             kind: Kind::U64,
             writes: false,

@@ -1,4 +1,4 @@
-use Rattle.std.proofs.Common.{◌≤◌, length, rules, map, ap, ◌∙◌, refl, sym, Some}
+use Rattle.std.proofs.Common.{◌≤◌, length, rules, map, ap, ◌∙◌, refl, Some}
 use Rattle.tapa_syntax.specs.Trees as tree
 use Rattle.path_check.specs.Flat.{flat_statement}
 use Rattle.path_check.specs.Leaves as path

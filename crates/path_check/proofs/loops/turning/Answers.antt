@@ -1,4 +1,4 @@
-use Rattle.std.proofs.Common.{◌∷◌, [], map, ap, ◌∙◌, sym}
+use Rattle.std.proofs.Common.{◌∷◌, [], map, ap, sym}
 use Rattle.tapa_syntax.specs.declared.program.Stmt.TheVariants.{Set}
 use Rattle.tapa_syntax.specs.Trees as tree
 use Rattle.path_check.specs.Flat.{act, set, flat_action, flat_expression}

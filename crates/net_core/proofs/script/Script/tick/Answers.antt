@@ -1,8 +1,7 @@
 use Rattle.std.proofs.Common.{◌≡◌, ◌+◌, drop, Some, None, refl, ◌∙◌, arith}
 use Rattle.std.specs.Prelude.{slice_get}
 use Rattle.std.proofs.lemmas.Option.{slice_get_within}
-use Rattle.kahn_model.specs.declared.tick.Tick.TheVariants.{Did, End}
-use Rattle.kahn_model.specs.declared.tick.Action.TheVariants.{Local}
+use Rattle.kahn_model.specs.declared.tick.Tick.TheVariants.{End}
 use Rattle.net_core.specs.declared.script.Step.TheVariants.{Send, Receive}
 use Rattle.net_core.specs.Ports.{ends_of}
 use Rattle.net_core.specs.Script.{rest_of, rest_by}

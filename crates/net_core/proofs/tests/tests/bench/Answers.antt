@@ -1,4 +1,4 @@
-use Rattle.std.proofs.Common.{◌≡◌, subst}
+use Rattle.std.proofs.Common.{subst}
 use Rattle.net_core.specs.Straight.{IsStraight, IsPlainInstance}
 use Rattle.net_core.proofs.tests.tests.bench.Goals as goal
 
