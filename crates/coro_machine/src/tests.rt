@@ -50,7 +50,7 @@ mod tests {
     fn holds_its_first_cells(rt: HostRuntime) {
         match coroutine(rt.alloc()) {
             Ok(coro) => {
-                assert_eq!(rt; coro.memory(0), &[10, 20]);
+                assert!(rt; *coro.memory(0) == *[10, 20].as_slice());
                 assert_eq!(rt; coro.memory(1).len(), 0);
                 assert_eq!(rt; coro.ticks(), 0);
             }

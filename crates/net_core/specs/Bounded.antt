@@ -39,6 +39,7 @@ leaf_behavior (Some leaf) σ n = job_of (kinds_of leaf) leaf.code.items σ n
 unfoldable pub instance_job : Program → Input → ℕ → Job
 instance_job program input i = record {
   ends = ends_at program i;
+  cells = (first_state program (scalars_of input) (memories_of input) i).cells;
   behavior = leaf_behavior (leaf_at program i) (first_state program (scalars_of input) (memories_of input) i);
 }
 

@@ -20,7 +20,7 @@ fn copied(alloc: Global, list: &[Token], from: usize) -> Result<Vec<Token>, OutO
     Ok(Vec::from_slice(alloc, &list[from..])?)
 }
 
-// Fills a port that reads.
+// Loads a port that reads.
 fn load_reader(
     alloc: Global,
     program: &Program,
@@ -45,9 +45,9 @@ fn load_reader(
     let j = producer(program, s);
     let q = writers[s];
     let list = all[j].carried(q);
-    let as_many = list.len();
+    let total = list.len();
     let tokens = copied(alloc, list, taken[s])?;
-    offered[s] = as_many;
+    offered[s] = total;
     all[i].offer(p, tokens);
     Ok(())
 }
@@ -76,7 +76,7 @@ fn load_writer(
     all[i].make_room(p, room)
 }
 
-// Fills one port.
+// Loads one port.
 fn load_port(
     alloc: Global,
     program: &Program,
@@ -102,7 +102,7 @@ fn load_port(
     }
 }
 
-/// Fills the ports of an instance.
+/// Loads the ports of an instance.
 pub fn load_ports(
     alloc: Global,
     program: &Program,

@@ -16,7 +16,7 @@ pub enum Step {
     Receive(u32),
 }
 
-/// A list of steps, and how many of them were made.
+/// A list of steps, the next of them, whether the end after them was made, and the ticks made.
 #[derive(Drop)]
 pub struct Script {
     pub steps: Vec<Step>,

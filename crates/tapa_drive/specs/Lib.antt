@@ -1,9 +1,14 @@
+pub mod Answer
+pub mod Codes
 pub mod Ending
+pub mod Found
 pub mod Fresh
 pub mod Meaning
 pub mod Pauses
 pub mod Refusal
+pub mod Refused
 pub mod Run
+pub mod Source
 pub mod Start
 pub mod Started
 pub mod Status

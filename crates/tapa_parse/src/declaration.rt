@@ -11,7 +11,8 @@ use crate::fault::Fault;
 use crate::parser::Parser;
 use std::alloc::Global;
 use tapa_syntax::{
-    Attribute, AttributeArgument, AttributeArguments, Count, CountValue, Declaration, Declarator, Mark,
+    Attribute, AttributeArgument, AttributeArguments, Count, CountValue, Declaration, Declarator,
+    Mark,
 };
 
 impl<'a> Parser<'a> {

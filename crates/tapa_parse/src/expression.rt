@@ -15,6 +15,7 @@ use tapa_syntax::{BinaryOperator, Expression, Mark, Name, PrefixOperator};
 
 /// The level of sums.
 pub(crate) const SUM_LEVEL: u8 = 2;
+
 const OR_LEVEL: u8 = 10;
 
 /// One more operator.
@@ -42,7 +43,11 @@ impl<'a> Parser<'a> {
 
     #[cycle(expression)]
     #[tactic(auto, unfolding(crate::specs::Reading::in_parentheses))]
-    pub(crate) fn in_parentheses(&mut self, room: u32, operators: &mut u32) -> Result<Expression, Fault>
+    pub(crate) fn in_parentheses(
+        &mut self,
+        room: u32,
+        operators: &mut u32,
+    ) -> Result<Expression, Fault>
         ensures { Gives (λ e. (view.expression e, operators.new)) result self.new (spec.in_parentheses (spec.below room) operators.old self.old) }
     {
         let room = self.open(Mark::LeftParen, room)?;
@@ -53,7 +58,11 @@ impl<'a> Parser<'a> {
 
     #[cycle(expression)]
     #[tactic(auto, unfolding(crate::specs::Reading::in_brackets))]
-    pub(crate) fn in_brackets(&mut self, room: u32, operators: &mut u32) -> Result<Expression, Fault>
+    pub(crate) fn in_brackets(
+        &mut self,
+        room: u32,
+        operators: &mut u32,
+    ) -> Result<Expression, Fault>
         ensures { Gives (λ e. (view.expression e, operators.new)) result self.new (spec.in_brackets (spec.below room) operators.old self.old) }
     {
         let room = self.open(Mark::LeftBracket, room)?;
@@ -214,7 +223,12 @@ impl<'a> Parser<'a> {
 
     #[cycle(expression)]
     #[tactic(auto, unfolding(crate::specs::Reading::prefixed))]
-    fn prefixed(&mut self, operator: PrefixOperator, room: u32, operators: &mut u32) -> Result<Expression, Fault>
+    fn prefixed(
+        &mut self,
+        operator: PrefixOperator,
+        room: u32,
+        operators: &mut u32,
+    ) -> Result<Expression, Fault>
         ensures { Gives (λ e. (view.expression e, operators.new)) result self.new (spec.prefixed (spec.below room) operator operators.old self.old) }
     {
         *operators = count(*operators)?;
@@ -246,7 +260,12 @@ impl<'a> Parser<'a> {
     /// An expression with operators of levels below this one.
     #[cycle(expression)]
     #[tactic(auto, unfolding(crate::specs::Reading::level))]
-    pub(crate) fn level(&mut self, level: u8, room: u32, operators: &mut u32) -> Result<Expression, Fault>
+    pub(crate) fn level(
+        &mut self,
+        level: u8,
+        room: u32,
+        operators: &mut u32,
+    ) -> Result<Expression, Fault>
         ensures { Gives (λ e. (view.expression e, operators.new)) result self.new (spec.level ((spec.at room).unary) level operators.old self.old) }
     {
         if level == 0 {
@@ -259,7 +278,13 @@ impl<'a> Parser<'a> {
     // The operators of one level, with what stands between them.
     #[cycle(expression)]
     #[tactic(auto, unfolding(crate::specs::Reading::chain, crate::specs::Reading::chain_of))]
-    fn chain(&mut self, level: u8, room: u32, left: Expression, operators: &mut u32) -> Result<Expression, Fault>
+    fn chain(
+        &mut self,
+        level: u8,
+        room: u32,
+        left: Expression,
+        operators: &mut u32,
+    ) -> Result<Expression, Fault>
         ensures { Gives (λ e. (view.expression e, operators.new)) result self.new (spec.chain_of (spec.level ((spec.at room).unary) level) level (view.expression left) operators.old self.old) }
     {
         let mut left = left;
@@ -283,7 +308,12 @@ impl<'a> Parser<'a> {
 
     #[cycle(expression)]
     #[tactic(auto, unfolding(crate::specs::Reading::arms))]
-    fn arms(&mut self, room: u32, test: Expression, operators: &mut u32) -> Result<Expression, Fault>
+    fn arms(
+        &mut self,
+        room: u32,
+        test: Expression,
+        operators: &mut u32,
+    ) -> Result<Expression, Fault>
         ensures { Gives (λ e. (view.expression e, operators.new)) result self.new (spec.arms (spec.below room) (view.expression test) operators.old self.old) }
     {
         *operators = count(*operators)?;

@@ -1,13 +1,13 @@
 //! The tree of a source's lexemes.
 #![tactic(auto)]
 
-mod fault;
-mod mark;
 mod action;
 mod declaration;
 mod expression;
-mod source;
+mod fault;
+mod mark;
 mod parser;
+mod source;
 mod statement;
 mod task;
 mod types;

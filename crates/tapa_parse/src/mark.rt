@@ -8,7 +8,9 @@ ghost use Rattle.tapa_syntax.specs.Grammar as grammar;
 ghost use Rattle.tapa_parse.specs.Reading as spec;
 
 use tapa_base::{Kind, Op};
-use tapa_syntax::{AssignmentOperator, BinaryOperator, LexKind, Lexeme, Mark, PrefixOperator, StepOperator};
+use tapa_syntax::{
+    AssignmentOperator, BinaryOperator, LexKind, Lexeme, Mark, PrefixOperator, StepOperator,
+};
 
 const WORDS: [(&[u8], Mark); 36] = [
     (b"istream", Mark::Istream),
@@ -194,7 +196,13 @@ pub(crate) fn is_name(mark: Mark) -> bool
 {
     matches!(
         mark,
-        Mark::Name | Mark::Istream | Mark::Ostream | Mark::Stream | Mark::Mmap | Mark::Task | Mark::Invoke
+        Mark::Name
+            | Mark::Istream
+            | Mark::Ostream
+            | Mark::Stream
+            | Mark::Mmap
+            | Mark::Task
+            | Mark::Invoke
     )
 }
 

@@ -16,11 +16,48 @@ use tapa_base::Place;
 use tapa_syntax::{Action, Expression, ForHead, ForStart, Mark, Statement};
 
 // A loop of a head and a body, where the body was read.
-fn for_statement(alloc: Global, head: Box<ForHead>, body: Result<Statement, Fault>) -> Result<Statement, Fault>
+fn for_statement(
+    alloc: Global,
+    head: Box<ForHead>,
+    body: Result<Statement, Fault>,
+) -> Result<Statement, Fault>
     ensures { (left : List Symbol) (outcome : Outcome StatementTree) → Gives view.statement body left outcome → Gives view.statement result left (and_then outcome (λ s. pure (view.for (view.head_of head.value) s))) }
 {
     let body = Box::new(alloc, body?)?;
     Ok(Statement::For { head, body })
+}
+
+// A statement of its parts, where the last was read or refused. These stand outside the recursion, so that no branch is
+// made there while the other parts are alive.
+fn if_statement(alloc: Global, test: Expression, first: Statement) -> Result<Statement, Fault>
+    ensures { (left : List Symbol) → Gives view.statement result left (Ok (view.if_only (view.expression test) (view.statement first), left)) }
+{
+    let first = Box::new(alloc, first)?;
+    Ok(Statement::If(test, first))
+}
+
+fn if_else_statement(
+    alloc: Global,
+    test: Expression,
+    first: Statement,
+    second: Result<Statement, Fault>,
+) -> Result<Statement, Fault>
+    ensures { (left : List Symbol) (outcome : Outcome StatementTree) → Gives view.statement second left outcome → Gives view.statement result left (and_then outcome (λ t. pure (view.if_else (view.expression test) (view.statement first) t))) }
+{
+    let first = Box::new(alloc, first)?;
+    let second = Box::new(alloc, second?)?;
+    Ok(Statement::IfElse(test, first, second))
+}
+
+fn while_statement(
+    alloc: Global,
+    test: Expression,
+    body: Result<Statement, Fault>,
+) -> Result<Statement, Fault>
+    ensures { (left : List Symbol) (outcome : Outcome StatementTree) → Gives view.statement body left outcome → Gives view.statement result left (and_then outcome (λ s. pure (view.while (view.expression test) s))) }
+{
+    let body = Box::new(alloc, body?)?;
+    Ok(Statement::While(test, body))
 }
 
 impl<'a> Parser<'a> {
@@ -142,19 +179,20 @@ impl<'a> Parser<'a> {
     // What may follow the first side of an `if`: an `else` belongs to the nearest one.
     #[cycle(statement)]
     #[tactic(auto, unfolding(crate::specs::Reading::otherwise))]
-    fn otherwise(&mut self, test: Expression, first: Statement, room: u32) -> Result<Statement, Fault>
+    fn otherwise(
+        &mut self,
+        test: Expression,
+        first: Statement,
+        room: u32,
+    ) -> Result<Statement, Fault>
         ensures { Gives view.statement result self.new (spec.otherwise most_operators (spec.below room) (view.expression test) (view.statement first) self.old) }
     {
         if !self.sees(Mark::Else) {
-            return Ok(Statement::If(test, Box::new(self.alloc(), first)?));
+            return if_statement(self.alloc(), test, first);
         }
         self.skip();
-        let second = self.statement(room)?;
-        Ok(Statement::IfElse(
-            test,
-            Box::new(self.alloc(), first)?,
-            Box::new(self.alloc(), second)?,
-        ))
+        let second = self.statement(room);
+        if_else_statement(self.alloc(), test, first, second)
     }
 
     #[cycle(statement)]
@@ -175,8 +213,8 @@ impl<'a> Parser<'a> {
     {
         self.skip();
         let test = self.condition(room)?;
-        let body = self.statement(room)?;
-        Ok(Statement::While(test, Box::new(self.alloc(), body)?))
+        let body = self.statement(room);
+        while_statement(self.alloc(), test, body)
     }
 
     #[cycle(statement)]

@@ -12,8 +12,8 @@ use crate::parser::Parser;
 use std::alloc::Global;
 use tapa_base::Kind;
 use tapa_syntax::{
-    Attribute, Count, File, FileItem, Invocation, InvocationArgument, Mark, Name, Parameter, StreamDeclaration,
-    TaskBody, TaskDeclaration,
+    Attribute, Count, File, FileItem, Invocation, InvocationArgument, Mark, Name, Parameter,
+    StreamDeclaration, TaskBody, TaskDeclaration,
 };
 
 impl<'a> Parser<'a> {
@@ -302,7 +302,11 @@ impl<'a> Parser<'a> {
     }
 
     #[tactic(auto, unfolding(crate::specs::Reading::task_behind))]
-    fn task_behind(&mut self, attributes: Vec<Attribute>, room: u32) -> Result<TaskDeclaration, Fault>
+    fn task_behind(
+        &mut self,
+        attributes: Vec<Attribute>,
+        room: u32,
+    ) -> Result<TaskDeclaration, Fault>
         ensures { Gives view.task_of result self.new (spec.task_behind most_operators (spec.below room) (map view.attribute_of attributes.items) self.old) }
     {
         self.expect(Mark::Void)?;

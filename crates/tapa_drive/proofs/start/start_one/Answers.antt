@@ -21,5 +21,5 @@ returns c = λ input s m.
     let at = slice_get_read items (length items) c.args.i x refl c.requires.instance c.index-instance.ensures in
     let h = c.requires.well_formed.instances c.args.i x at in
     started c.in_ok-coroutine.coroutine h.0 c.in_ok-machine.machine (arc_value c.in_ok-new.field-0) c.deref.result.now (rows_of c.new-2.result.items) _ (instance_job c.args.program.now input c.args.i)
-    (c.requires.well_formed.leaves x.body h.0 h.1.body) (c.in_ok-machine.ensures h.0 h.1.body) c.in_ok-new.ensures.ok (c.deref.ensures.value ∙ c.in_ok-scalars.ensures) (ap rows_of c.new-2.ensures.items)
+    (c.requires.well_formed.leaves x.body h.0 h.1.body) (c.in_ok-machine.ensures h.0 h.1.body (c.requires.well_formed.leaves x.body h.0 h.1.body)) c.in_ok-new.ensures.ok (c.deref.ensures.value ∙ c.in_ok-scalars.ensures) (ap rows_of c.new-2.ensures.items)
     (leaf_fits c.args.program.now c.requires.well_formed c.requires.closed c.args.i x h.0 h.1) (job_is c.args.program.now c.requires.well_formed c.requires.closed input c.args.i x h.0 s m at h.1) c.in_ok-coroutine.ensures

@@ -1,0 +1,70 @@
+-- The program of a source, and where a source is refused.
+use Rattle.std.specs.Prelude.{◌≡◌, ℕ, List, [], Ok, Err}
+use Rattle.tapa_base.specs.declared.text.Place.{Place}
+use Rattle.tapa_syntax.specs.declared.lexeme.Lexeme.{Lexeme}
+use Rattle.tapa_syntax.specs.declared.program.Program.{Program}
+use Rattle.tapa_syntax.specs.declared.tree.File.{File}
+use Rattle.tapa_syntax.specs.Lexemes.{HasLexemes}
+use Rattle.tapa_syntax.specs.Limits.{most_levels, most_operators}
+use Rattle.tapa_syntax.specs.Symbols.{Symbol, symbols_of}
+use Rattle.tapa_syntax.specs.Trees.{ItemTree, file_of}
+use Rattle.tapa_lex.specs.declared.fault.LexCode.{LexCode}
+use Rattle.tapa_lex.specs.declared.fault.LexCode.TheVariants as lex
+use Rattle.tapa_lex.specs.Refusals.{IsRefused}
+use Rattle.tapa_parse.specs.declared.fault.ParseCode.{ParseCode}
+use Rattle.tapa_parse.specs.declared.fault.ParseCode.TheVariants as parse
+use Rattle.tapa_parse.specs.Answers.{IsRefusedAt}
+use Rattle.tapa_parse.specs.Readers.{Outcome}
+use Rattle.tapa_parse.specs.Reading as reading
+use Rattle.path_check.specs.Programs.{IsPathProgram, HasNoProgram}
+use Rattle.tapa_drive.specs.declared.source.SourceCode.{SourceCode}
+use Rattle.tapa_drive.specs.declared.source.SourceCode.TheVariants.{L1, L2, L3, L4, P1, P2, N1}
+
+-- what reading the lexemes of a text gives
+abbrev pub tree_of : List ℕ → List Lexeme → Outcome (List ItemTree)
+tree_of text lexemes = reading.file most_operators (reading.below most_levels) (symbols_of text lexemes)
+
+-- the text has lexemes, these have a tree, and this file is it
+pub record HasTree (text : List ℕ) (file : File) : Type 0 where
+  pub lexemes : List Lexeme
+  pub are : HasLexemes text lexemes
+  pub left : List Symbol
+  pub read : tree_of text lexemes ≡ Ok (file_of file, left)
+
+-- the flat program of a text and the name of its top task
+pub record IsProgramOf (text top : List ℕ) (program : Program) : Type 0 where
+  pub file : File
+  pub tree : HasTree text file
+  pub means : IsPathProgram file top program
+
+-- the lexemes of the text have no tree, and reading them stops with this code at this place
+pub record HasNoTree (text : List ℕ) (place : Place) (code : ParseCode) : Type 0 where
+  pub lexemes : List Lexeme
+  pub are : HasLexemes text lexemes
+  pub left : List Symbol
+  pub at : IsRefusedAt place left
+  pub refused : tree_of text lexemes ≡ Err (code, left)
+
+-- the text has a tree, of which this top task is no path program
+pub record IsNoPath (text top : List ℕ) : Type 0 where
+  pub file : File
+  pub tree : HasTree text file
+  pub none : HasNoProgram file top
+
+-- the first line, the first column
+abbrev pub IsFirstPlace : Place → Type 0
+IsFirstPlace place = (place.line ≡ 1) × (place.col ≡ 1)
+
+-- the text is refused at this place by this rule
+abbrev pub IsRefusedSource : List ℕ → List ℕ → Place → SourceCode → Type 0
+IsRefusedSource text top place L1 = IsRefused text lex.L1 place
+IsRefusedSource text top place L2 = IsRefused text lex.L2 place
+IsRefusedSource text top place L3 = IsRefused text lex.L3 place
+IsRefusedSource text top place L4 = IsRefused text lex.L4 place
+IsRefusedSource text top place P1 = HasNoTree text place parse.P1
+IsRefusedSource text top place P2 = HasNoTree text place parse.P2
+IsRefusedSource text top place N1 = IsFirstPlace place × IsNoPath text top
+
+-- the source means no program
+abbrev pub MeansNothing : List ℕ → List ℕ → Type 0
+MeansNothing text top = (program : Program) → IsProgramOf text top program → ⊥

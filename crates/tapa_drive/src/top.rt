@@ -1,0 +1,112 @@
+ghost use Rattle.std.specs.Prelude.{◌≡◌, ◌≢◌, ◌≤◌, [], IfOk, IfErr};
+ghost use Rattle.tapa_syntax.specs.WellFormed.{IsWellFormed};
+ghost use Rattle.kahn_model.specs.Fits.{FitsInput};
+ghost use Rattle.tapa_drive.specs.Words.{texts};
+ghost use Rattle.tapa_drive.specs.Meaning.{reason};
+ghost use Rattle.tapa_drive.specs.Refusal.{Reason};
+ghost use Rattle.tapa_drive.specs.Answer.{OfRun, OfFile, HasRun, HasCause, Leaves};
+ghost use Rattle.tapa_drive.specs.Found.{IsNotFound, EndsFor};
+ghost use Rattle.tapa_drive.specs.Source.{IsProgramOf};
+ghost use Rattle.tapa_drive.specs.Told.{IsToldAs};
+
+use crate::{
+    Command, Refusal, RunEnd, SourceFault, Status, read_program, read_words, run_program, tell,
+    tell_stopped,
+};
+use std::alloc::Global;
+use tapa_base::{PrintFault, Shelf, Sink, TakeFault, take_file};
+use tapa_syntax::Program;
+
+const SOURCE_LIMIT: u64 = 262_144;
+const TICK_LIMIT: u64 = 100_000_000;
+
+/// How a command ended that no step refused.
+#[derive(Drop)]
+pub enum Ended {
+    Done,
+    Stopped { lines: Vec<Vec<u8>> },
+}
+
+// The program of a source on a shelf.
+fn read_source<'a, S: Shelf>(
+    alloc: Global,
+    source: &'a str,
+    top: &str,
+    shelf: &mut S,
+) -> Result<Program, Refusal<'a>>
+    ensures found { IfOk result (λ program. OfFile (S.files shelf.old) source.now (λ text. IsProgramOf text top.now program)) }
+    ensures well_formed { IfOk result (λ program. IsWellFormed program) }
+    ensures closed { IfOk result (λ program. FitsInput program [] []) }
+    ensures refused { IfErr result (λ refusal. IsNotFound (S.files shelf.old) (S.faults shelf.old) (S.faults shelf.new) source.now top.now (reason refusal)) }
+{
+    let text = match take_file(alloc, shelf, source, SOURCE_LIMIT) {
+        Ok(text) => text,
+        Err(TakeFault::ReadFault) => return Err(Refusal::Read { file: source }),
+        Err(TakeFault::TooLong { limit }) => return Err(Refusal::TooLong {
+            file: source,
+            limit,
+        }),
+        Err(TakeFault::OutOfMemory) => return Err(Refusal::Memory),
+    };
+    match read_program(alloc, &text, top) {
+        Ok(program) => Ok(program),
+        Err(SourceFault::At { code, place }) => Err(Refusal::Source {
+            file: source,
+            place,
+            code,
+        }),
+        Err(SourceFault::OutOfMemory) => Err(Refusal::Memory),
+    }
+}
+
+// Carries a command out, up to the first step that refuses.
+fn carry_out<'a, S: Shelf, O: Sink>(
+    alloc: Global,
+    words: &'a [String],
+    shelf: &mut S,
+    out: &mut O,
+) -> Result<Ended, Refusal<'a>>
+    ensures ended { IfOk result (EndsFor (texts words.now) (S.files shelf.old) (O.contents out.old) (O.contents out.new)) }
+    ensures cause { IfErr result (λ refusal. HasCause (texts words.now) (S.files shelf.old) (S.faults shelf.old) (S.faults shelf.new)
+        (O.faults out.old) (O.faults out.new) (O.contents out.old) (O.contents out.new) (reason refusal)) }
+    ensures leaves { IfErr result (λ refusal. Leaves (texts words.now) (S.files shelf.old) (O.contents out.old) (O.contents out.new) (reason refusal)) }
+    ensures later { O.faults out.old ≤ O.faults out.new }
+{
+    let Some(Command::Run { source, top }) = read_words(words) else {
+        return Err(Refusal::Usage);
+    };
+    let program = match read_source(alloc, source, top, shelf) {
+        Ok(program) => program,
+        Err(refusal) => return Err(refusal),
+    };
+    match run_program(alloc, program, TICK_LIMIT, out) {
+        Ok(RunEnd::Done) => Ok(Ended::Done),
+        Ok(RunEnd::Stopped { lines }) => Ok(Ended::Stopped { lines }),
+        Ok(RunEnd::Limit) => Err(Refusal::Ticks { limit: TICK_LIMIT }),
+        Err(PrintFault::WriteFault) => Err(Refusal::Write),
+        Err(PrintFault::OutOfMemory) => Err(Refusal::Memory),
+    }
+}
+
+/// The program: the words of a command, without the program's name; the files that it reads; and what it writes to.
+pub fn tapa<S: Shelf, O: Sink, E: Sink>(
+    alloc: Global,
+    words: &[String],
+    shelf: &mut S,
+    out: &mut O,
+    err: &mut E,
+) -> Status
+    // Every instance of the source's program has ended, and the report of the whole Kahn streams is written.
+    ensures ok { result ≡ Status.Ok → OfRun (texts words.now) (λ source top. OfFile (S.files shelf.old) source (λ text. HasRun text top (O.contents out.old) (O.contents out.new))) }
+    ensures ok_err { result ≡ Status.Ok → err.new ≡ err.old }
+    // Each other status tells its reason, which has its cause and leaves the output so.
+    ensures told { result ≢ Status.Ok → (told : Reason) × IsToldAs told result (E.contents err.old) (E.contents err.new) (E.faults err.old) (E.faults err.new)
+        × HasCause (texts words.now) (S.files shelf.old) (S.faults shelf.old) (S.faults shelf.new) (O.faults out.old) (O.faults out.new) (O.contents out.old) (O.contents out.new) told
+        × Leaves (texts words.now) (S.files shelf.old) (O.contents out.old) (O.contents out.new) told }
+{
+    match carry_out(alloc, words, shelf, out) {
+        Ok(Ended::Done) => Status::Ok,
+        Ok(Ended::Stopped { lines }) => tell_stopped(&lines, err),
+        Err(refusal) => tell(alloc, &refusal, err),
+    }
+}
