@@ -15,6 +15,3 @@ mod statement;
 
 pub use laws::law_path_programs_are_well_formed;
 pub use program::path_program;
-
-#[cfg(test)]
-mod tests;
