@@ -440,8 +440,8 @@ begins_statement m = begins_other m || begins_action m || is_some (one_kind m)
 unfoldable pub start : Readers → Reader StartTree
 start below = λ i. if sees mark.Semicolon i then Ok (no_start, i) else (if begins_action (next i) then (do a ← below.action; pure (act_start a)) i else (do d ← below.declaration; pure (declare_start d)) i)
 
-unfoldable pub test : ℕ → Readers → Reader (Option ExpressionTree)
-test limit below = λ i. if sees mark.Semicolon i then Ok (None, i) else (do e ← whole below.expression limit; pure (Some e)) i
+unfoldable pub loop_test : ℕ → Readers → Reader (Option ExpressionTree)
+loop_test limit below = λ i. if sees mark.Semicolon i then Ok (None, i) else (do e ← whole below.expression limit; pure (Some e)) i
 
 unfoldable pub step : Readers → Reader (Option ActionTree)
 step below = λ i. if sees mark.RightParen i then Ok (None, i) else (do a ← below.action; pure (Some a)) i
@@ -494,7 +494,7 @@ module _ (limit : ℕ) (inner : Option Readers) where
     below ← open_level mark.LeftParen inner
     start ← start below
     expect mark.Semicolon
-    test ← test limit below
+    test ← loop_test limit below
     expect mark.Semicolon
     step ← step below
     expect mark.RightParen

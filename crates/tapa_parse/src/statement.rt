@@ -101,9 +101,9 @@ impl<'a> Parser<'a> {
         Ok(ForStart::Declare(declaration))
     }
 
-    #[tactic(auto, unfolding(crate::specs::Reading::test))]
+    #[tactic(auto, unfolding(crate::specs::Reading::loop_test))]
     fn test(&mut self, room: u32) -> Result<Option<Expression>, Fault>
-        ensures { Gives (view.option_of view.expression) result self.new (spec.test most_operators (spec.at room) self.old) }
+        ensures { Gives (view.option_of view.expression) result self.new (spec.loop_test most_operators (spec.at room) self.old) }
     {
         if self.sees(Mark::Semicolon) {
             return Ok(None);
