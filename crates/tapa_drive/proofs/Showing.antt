@@ -23,7 +23,7 @@ module _ (t : ℕ → List Token) where
   lines_next n (x ∷ xs) (suc i) d h =
       ap (λ (l : List ℕ). stream_line x.label (t n) ++ l)
       (lines_next (suc n) xs i d (omega arith) ∙ ap (λ (m : ℕ). stream_lines t (suc n) (take i xs) ++ (stream_line (get_or xs i d).label (t m) ++ stream_lines t (suc n + suc i) (drop (suc i) xs))) (omega arith)
-        ∙ ap (λ (m : ℕ). stream_lines t (suc n) (take i xs) ++ (stream_line (get_or xs i d).label (t (n + suc i)) ++ stream_lines t m (drop (suc i) xs))) (omega arith))
+      ∙ ap (λ (m : ℕ). stream_lines t (suc n) (take i xs) ++ (stream_line (get_or xs i d).label (t (n + suc i)) ++ stream_lines t m (drop (suc i) xs))) (omega arith))
       ∙ sym (append_assoc (stream_line x.label (t n)) (stream_lines t (suc n) (take i xs)) _)
 
   -- one more line

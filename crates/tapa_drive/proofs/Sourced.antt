@@ -1,5 +1,5 @@
 -- A refused source means no program, and a program of a source has no scalars and no memories.
-use Rattle.std.proofs.Common.{◌≡◌, ℕ, List, [], length, Option, Some, None, Ok, Err, refl, sym, ◌∙◌, ap, subst}
+use Rattle.std.proofs.Common.{◌≡◌, ◌-◌, ℕ, List, [], length, take, Bool, ◌&&◌, Option, Some, None, Ok, Err, refl, sym, ◌∙◌, ap, subst}
 use Rattle.tapa_base.specs.declared.text.Place.{Place}
 use Rattle.tapa_syntax.specs.declared.lexeme.Lexeme.{Lexeme}
 use Rattle.tapa_syntax.specs.declared.program.Memory.{Memory}
@@ -16,12 +16,16 @@ use Rattle.tapa_lex.proofs.Whole.{one_list, not_both}
 use Rattle.tapa_parse.specs.declared.fault.ParseCode.{ParseCode}
 use Rattle.tapa_parse.specs.declared.fault.ParseCode.TheVariants as parse
 use Rattle.tapa_parse.specs.Readers.{Outcome}
-use Rattle.path_check.specs.Flat.{FlatLeaf, FlatProgram, flat_program}
-use Rattle.path_check.specs.Programs.{IsPathProgram, HasNoProgram, Upper, network_of, program_of}
-use Rattle.path_check.specs.Steps.{◌>>=◌, given}
+use Rattle.tapa_syntax.specs.declared.program.Stream.{Stream}
+use Rattle.path_check.specs.Flat.{FlatLeaf, FlatInstance, FlatProgram, flat_program}
+use Rattle.path_check.specs.Programs as path
+use Rattle.path_check.specs.Programs.{IsPathProgram, HasNoProgram, Upper, program_of}
+use Rattle.path_check.specs.Leaves.{with_name}
+use Rattle.path_check.specs.Steps.{given, run}
+use Rattle.path_check.proofs.Opened.{the_same, opened}
 use Rattle.tapa_drive.specs.declared.source.SourceCode.{SourceCode}
 use Rattle.tapa_drive.specs.declared.source.SourceCode.TheVariants.{L1, L2, L3, L4, P1, P2, N1}
-use Rattle.std.specs.Prelude.{slice_get}
+use Rattle.std.specs.Prelude.{option_and_then, slice_get, nat_le}
 use Rattle.tapa_base.specs.Outside.{Files}
 use Rattle.tapa_base.specs.Take.{IsFileOf}
 use Rattle.kahn_model.specs.Fits.{FitsInput}
@@ -29,8 +33,11 @@ use Rattle.tapa_drive.specs.Answer.{OfFile}
 use Rattle.tapa_drive.specs.Codes.{lex_code, parse_code}
 use Rattle.tapa_drive.specs.Source.{tree_of, HasTree, HasNoTree, IsProgramOf, IsRefusedSource, MeansNothing}
 
+ok_pair : (p q : List ItemTree × List Symbol) → (let E : Outcome (List ItemTree) = Ok p in E) ≡ Ok q → p ≡ q
+ok_pair p q e = cc
+
 ok_tree : (a b : List ItemTree) (l m : List Symbol) → (let E : Outcome (List ItemTree) = Ok (a, l) in E) ≡ Ok (b, m) → a ≡ b
-ok_tree a b l m e = cc
+ok_tree a b l m e = ap (λ (p : List ItemTree × List Symbol). p.0) (ok_pair (a, l) (b, m) e)
 
 -- a text has one tree
 one_tree : (text : List ℕ) (file other : File) → HasTree text file → HasTree text other → file_of file ≡ file_of other
@@ -68,26 +75,34 @@ refused_by_parser text top place parse.P2 h = h
 
 -- ---- no scalars and no memories
 
-abbrev Always : {A : Type 0} → (A → Type 0) → Option A → Type 0
-Always {A} P o = (a : A) → o ≡ Some a → P a
-
-always_then : {A B : Type 0} (P : B → Type 0) (o : Option A) (f : A → Option B) → ((a : A) → Always P (f a)) → Always P (o >>= f)
-always_then P None f h = λ b e. absurd (let n : None ≡ Some b = e in cc)
-always_then P (Some a) f h = h a
-
 abbrev IsClosed : FlatProgram → Type 0
 IsClosed p = (p.scalars ≡ []) × (p.memories ≡ [])
 
-closed_by : (a p : FlatProgram) → Some a ≡ Some p → a.scalars ≡ [] → a.memories ≡ [] → IsClosed p
-closed_by a p e s m = let same : a ≡ p = cc in (ap (λ (q : FlatProgram). q.scalars) (sym same) ∙ s, ap (λ (q : FlatProgram). q.memories) (sym same) ∙ m)
+-- the program that a network's parts make
+abbrev netted : List FlatLeaf → List ℕ → List FlatInstance → List Stream → FlatProgram
+netted bodies top instances streams = record { top = top; scalars = []; memories = []; bodies = bodies; instances = instances; streams = streams }
 
-closed_network : (bodies : List FlatLeaf) (top : List ℕ) (upper : Upper) → Always IsClosed (network_of bodies top upper)
-closed_network bodies top upper =
-    always_then IsClosed _ _ (λ declared. always_then IsClosed _ _ (λ invoked. always_then IsClosed _ _ (λ streams p e. closed_by _ p e refl refl)))
+abbrev within_limits : List FlatLeaf → Upper → List ℕ → Bool
+within_limits bodies upper ds = nat_le (length ds) 1024 && (nat_le (length bodies) 64 && (nat_le 1 (length upper.invocations) && nat_le (length upper.invocations) 64))
 
-closed_program : (items : List ItemTree) (top : List ℕ) → Always IsClosed (program_of items top)
-closed_program items top =
-    always_then IsClosed _ _ (λ item. always_then IsClosed _ _ (λ named. always_then IsClosed _ _ (λ leaves. always_then IsClosed _ _ (λ names. closed_network leaves.0 named.0 named.1))))
+closed_network : (bodies : List FlatLeaf) (top : List ℕ) (upper : Upper) (p : FlatProgram) → path.network_of bodies top upper ≡ Some p → IsClosed p
+closed_network bodies top upper p h =
+    let d = opened (run path.stream_item [] upper.streams) (λ (declared : List ℕ × List (List ℕ)). option_and_then (λ (invoked : List FlatInstance × ℕ). option_and_then (λ (streams : List Stream × ℕ). Some (netted bodies top invoked.0 streams.0)) (run (path.stream_at (path.bindings_from bodies 0 invoked.0) declared.1) 0 declared.0)) (given (within_limits bodies upper declared.0) (run (path.invocation_of bodies declared.1) 0 upper.invocations))) p h in
+    let n = opened (given (within_limits bodies upper d.0.0) (run (path.invocation_of bodies d.0.1) 0 upper.invocations)) (λ (invoked : List FlatInstance × ℕ). option_and_then (λ (streams : List Stream × ℕ). Some (netted bodies top invoked.0 streams.0)) (run (path.stream_at (path.bindings_from bodies 0 invoked.0) d.0.1) 0 d.0.0)) p d.2 in
+    let s = opened (run (path.stream_at (path.bindings_from bodies 0 n.0.0) d.0.1) 0 d.0.0) (λ (streams : List Stream × ℕ). Some (netted bodies top n.0.0 streams.0)) p n.2 in
+    subst IsClosed (the_same (netted bodies top n.0.0 s.0.0) p s.2) (refl, refl)
+
+closed_below : (name : List ℕ) (upper : Upper) (items : List ItemTree) (p : FlatProgram) → path.program_with name upper items ≡ Some p → IsClosed p
+closed_below name upper items p h =
+    let a = opened (run (path.leaf_item upper.invocations) [] items) (λ (leaves : List FlatLeaf × List (List ℕ)). option_and_then (λ (names : List (List ℕ)). path.network_of leaves.0 name upper) (with_name name leaves.1)) p h in
+    let b = opened (with_name name a.0.1) (λ (names : List (List ℕ)). path.network_of a.0.0 name upper) p a.2 in
+    closed_network a.0.0 name upper p b.2
+
+closed_program : (items : List ItemTree) (top : List ℕ) (p : FlatProgram) → path.program_of items top ≡ Some p → IsClosed p
+closed_program items top p h =
+    let a = opened (slice_get items (length items - 1)) (λ (item : ItemTree). option_and_then (λ (named : List ℕ × Upper). path.program_with named.0 named.1 (take (length items - 1) items)) (path.top_of item top)) p h in
+    let b = opened (path.top_of a.0 top) (λ (named : List ℕ × Upper). path.program_with named.0 named.1 (take (length items - 1) items)) p a.2 in
+    closed_below b.0.0 b.0.1 (take (length items - 1) items) p b.2
 
 pub program_closed : (file : File) (top : List ℕ) (program : Program) → IsPathProgram file top program → (program.scalars.items ≡ []) × (program.memories.items ≡ [])
 program_closed file top program h = closed_program (file_of file) top (flat_program program) h

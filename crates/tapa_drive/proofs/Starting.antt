@@ -137,6 +137,6 @@ pushed (a ∷ xs) y x (suc j) h = elim (pushed xs y x j h) [ inl w ↦ inl (omeg
 pub started_more : (program : Program) (n : ℕ) (all : List Coro) (c : Coro) → length all ≡ n → AreStarted program n all → ((input : Input) → scalars_of input ≡ [] → memories_of input ≡ [] → IsCoroOf c (instance_job program input n) []) → AreStarted program (n + 1) (all ++ c ∷ [])
 started_more program n all c len before last input s m i x within at =
     elim (pushed all c x i at) [
-      inl w ↦ before input s m i x (omega (arith, w.0, len)) w.1
+      | inl w ↦ before input s m i x (omega (arith, w.0, len)) w.1
       | inr w ↦ subst (λ (k : ℕ). IsCoroOf x (instance_job program input k) []) (omega (arith, w.0, len)) (subst (λ (d : Coro). IsCoroOf d (instance_job program input n) []) w.1 (last input s m))
     ]

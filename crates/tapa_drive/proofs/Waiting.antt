@@ -23,7 +23,7 @@ module _ (net : Network) (k : ℕ → ℕ) (streams : List Stream) where
   waits_append n (x ∷ xs) ys t u both rest =
       let next : AreWaitLines net k streams (suc n + length xs) ys u = subst (λ (m : ℕ). AreWaitLines net k streams m ys u) (omega arith) rest in
       elim both [
-        inl w ↦ inl (w.0, waits_append (suc n) xs ys t u w.1 next)
+        | inl w ↦ inl (w.0, waits_append (suc n) xs ys t u w.1 next)
         | inr w ↦ inr (w.0, w.1 ++ u, ap (λ (v : List ℕ). v ++ u) w.2 ∙ append_assoc w.0 w.1 u, w.3, waits_append (suc n) xs ys w.1 u w.4 next)
       ]
 
@@ -39,4 +39,4 @@ module _ (net : Network) (k : ℕ → ℕ) (streams : List Stream) where
   pub waits_more : (xs : List Instance) (i : ℕ) (d : Instance) (t : List ℕ) (pause : Pause) → i < length xs → AreWaitLines net k streams 0 (take i xs) t → IsToldBy net k i (λ p. slice_index (get_or xs i d).streams.items p) pause → AreWaitLines net k streams 0 (take (suc i) xs) (t ++ unwrap_or (pause_line streams (get_or xs i d) pause) [])
   waits_more xs i d t pause h so_far told =
       rw (take-suc xs i d h) (waits_append 0 (take i xs) (get_or xs i d ∷ []) t _ so_far
-        (subst (λ (m : ℕ). AreWaitLines net k streams m (get_or xs i d ∷ []) (unwrap_or (pause_line streams (get_or xs i d) pause) [])) (let l = length-take-le i xs (omega arith) in omega arith) (waits_one i (get_or xs i d) pause told)))
+      (subst (λ (m : ℕ). AreWaitLines net k streams m (get_or xs i d ∷ []) (unwrap_or (pause_line streams (get_or xs i d) pause) [])) (let l = length-take-le i xs (omega arith) in omega arith) (waits_one i (get_or xs i d) pause told)))

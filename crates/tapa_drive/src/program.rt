@@ -65,12 +65,15 @@ pub fn read_program(alloc: Global, text: &[u8], top: &str) -> Result<Program, So
         }
         Err(ParseFault::OutOfMemory) => return Err(SourceFault::OutOfMemory),
     };
-    match path_program(alloc, &file, top) {
-        Ok(Some(program)) => Ok(program),
-        Ok(None) => Err(SourceFault::At {
+    let found = match path_program(alloc, &file, top) {
+        Ok(found) => found,
+        Err(_) => return Err(SourceFault::OutOfMemory),
+    };
+    match found {
+        Some(program) => Ok(program),
+        None => Err(SourceFault::At {
             code: SourceCode::N1,
             place: Place { line: 1, col: 1 },
         }),
-        Err(_) => Err(SourceFault::OutOfMemory),
     }
 }

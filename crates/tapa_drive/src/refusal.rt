@@ -36,6 +36,7 @@ pub enum Refusal<'a> {
 }
 
 const USAGE: &str = "tapa: usage: tapa build|run|cosim|plan|gen\n";
+
 const NO_MEMORY: &str = "tapa: out of memory\n";
 
 impl Refusal<'_> {

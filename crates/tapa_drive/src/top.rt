@@ -1,7 +1,7 @@
-ghost use Rattle.std.specs.Prelude.{◌≡◌, ◌≢◌, ◌≤◌, [], IfOk, IfErr};
+ghost use Rattle.std.specs.Prelude.{◌≡◌, ◌≢◌, ◌≤◌, ℕ, List, [], Some, IfOk, IfErr};
 ghost use Rattle.tapa_syntax.specs.WellFormed.{IsWellFormed};
 ghost use Rattle.kahn_model.specs.Fits.{FitsInput};
-ghost use Rattle.tapa_drive.specs.Words.{texts};
+ghost use Rattle.tapa_drive.specs.Words.{texts, command_of, Run};
 ghost use Rattle.tapa_drive.specs.Meaning.{reason};
 ghost use Rattle.tapa_drive.specs.Refusal.{Reason};
 ghost use Rattle.tapa_drive.specs.Answer.{OfRun, OfFile, HasRun, HasCause, Leaves};
@@ -18,6 +18,7 @@ use tapa_base::{PrintFault, Shelf, Sink, TakeFault, take_file};
 use tapa_syntax::Program;
 
 const SOURCE_LIMIT: u64 = 262_144;
+
 const TICK_LIMIT: u64 = 100_000_000;
 
 /// How a command ended that no step refused.
@@ -59,6 +60,39 @@ fn read_source<'a, S: Shelf>(
     }
 }
 
+// Runs the program of a source on a shelf, up to the first step that refuses.
+fn run_source<'a, S: Shelf, O: Sink>(
+    alloc: Global,
+    source: &'a str,
+    top: &str,
+    shelf: &mut S,
+    out: &mut O,
+) -> Result<Ended, Refusal<'a>>
+    ensures ended { (words : List (List ℕ)) → command_of words ≡ Some (Run source.now top.now) →
+        IfOk result (EndsFor words (S.files shelf.old) (O.contents out.old) (O.contents out.new)) }
+    ensures cause { (words : List (List ℕ)) → command_of words ≡ Some (Run source.now top.now) →
+        IfErr result (λ refusal. HasCause words (S.files shelf.old) (S.faults shelf.old) (S.faults shelf.new)
+        (O.faults out.old) (O.faults out.new) (O.contents out.old) (O.contents out.new) (reason refusal)) }
+    ensures leaves { (words : List (List ℕ)) → command_of words ≡ Some (Run source.now top.now) →
+        IfErr result (λ refusal. Leaves words (S.files shelf.old) (O.contents out.old) (O.contents out.new) (reason refusal)) }
+    ensures later { O.faults out.old ≤ O.faults out.new }
+{
+    let program = match read_source(alloc, source, top, shelf) {
+        Ok(program) => program,
+        Err(refusal) => return Err(refusal),
+    };
+    let end = match run_program(alloc, program, TICK_LIMIT, out) {
+        Ok(end) => end,
+        Err(PrintFault::WriteFault) => return Err(Refusal::Write),
+        Err(PrintFault::OutOfMemory) => return Err(Refusal::Memory),
+    };
+    match end {
+        RunEnd::Done => Ok(Ended::Done),
+        RunEnd::Stopped { lines } => Ok(Ended::Stopped { lines }),
+        RunEnd::Limit => Err(Refusal::Ticks { limit: TICK_LIMIT }),
+    }
+}
+
 // Carries a command out, up to the first step that refuses.
 fn carry_out<'a, S: Shelf, O: Sink>(
     alloc: Global,
@@ -72,19 +106,12 @@ fn carry_out<'a, S: Shelf, O: Sink>(
     ensures leaves { IfErr result (λ refusal. Leaves (texts words.now) (S.files shelf.old) (O.contents out.old) (O.contents out.new) (reason refusal)) }
     ensures later { O.faults out.old ≤ O.faults out.new }
 {
-    let Some(Command::Run { source, top }) = read_words(words) else {
-        return Err(Refusal::Usage);
+    let command = match read_words(words) {
+        Some(command) => command,
+        None => return Err(Refusal::Usage),
     };
-    let program = match read_source(alloc, source, top, shelf) {
-        Ok(program) => program,
-        Err(refusal) => return Err(refusal),
-    };
-    match run_program(alloc, program, TICK_LIMIT, out) {
-        Ok(RunEnd::Done) => Ok(Ended::Done),
-        Ok(RunEnd::Stopped { lines }) => Ok(Ended::Stopped { lines }),
-        Ok(RunEnd::Limit) => Err(Refusal::Ticks { limit: TICK_LIMIT }),
-        Err(PrintFault::WriteFault) => Err(Refusal::Write),
-        Err(PrintFault::OutOfMemory) => Err(Refusal::Memory),
+    match command {
+        Command::Run { source, top } => run_source(alloc, source, top, shelf, out),
     }
 }
 

@@ -39,7 +39,11 @@ fn line_of(alloc: Global, label: &[u8], what: &[u8], stream: &[u8]) -> Result<Ve
 fn label_at<'a>(program: &'a Program, instance: &Instance, position: u32) -> &'a [u8]
     ensures { result.now ≡ bound_label program.now.streams.items instance.now position }
 {
-    let stream = instance.streams.get(position as usize).copied().unwrap_or(0);
+    let stream = instance
+        .streams
+        .get(position as usize)
+        .copied()
+        .unwrap_or(0);
     stream_label(program, stream)
 }
 
@@ -56,15 +60,30 @@ fn pause_text(
     let label = instance.label.bytes();
     match pause {
         Pause::WantsRead(p) => {
-            let line = line_of(alloc, label, b" waits to read ", label_at(program, instance, p))?;
+            let line = line_of(
+                alloc,
+                label,
+                b" waits to read ",
+                label_at(program, instance, p),
+            )?;
             Ok(Some(line))
         }
         Pause::WantsWrite(p) => {
-            let line = line_of(alloc, label, b" waits to write ", label_at(program, instance, p))?;
+            let line = line_of(
+                alloc,
+                label,
+                b" waits to write ",
+                label_at(program, instance, p),
+            )?;
             Ok(Some(line))
         }
         Pause::BadToken(p) => {
-            let line = line_of(alloc, label, b" bad token on ", label_at(program, instance, p))?;
+            let line = line_of(
+                alloc,
+                label,
+                b" bad token on ",
+                label_at(program, instance, p),
+            )?;
             Ok(Some(line))
         }
         Pause::Ended => Ok(None),

@@ -31,10 +31,10 @@ turn program net i x o before after same told within is last grown so_far =
     let xs = program.instances.items in
     let at = told i (subst (λ (p : Program). i < length p.instances.items) same within) in
     let f : (p : ℕ) → stream_at net.program i p ≡ slice_index (get_or xs i x).streams.items p =
-      λ p. ap (λ (q : Program). stream_at q i p) (sym same) ∙ ap (λ (y : Option Instance). stream_in y p) (slice_get-get_or xs i x within) in
+    λ p. ap (λ (q : Program). stream_at q i p) (sym same) ∙ ap (λ (y : Option Instance). stream_in y p) (slice_get-get_or xs i x within) in
     let pause_is : o ≡ Some at.0 = some_is _ _ (sym last ∙ at.1) in
     let line : last_pause_text program.streams.items x o ≡ unwrap_or (pause_line program.streams.items (get_or xs i x) at.0) [] =
-      ap (λ (y : Instance). last_pause_text program.streams.items y o) is ∙ last_text program.streams.items (get_or xs i x) o at.0 pause_is in
+    ap (λ (y : Instance). last_pause_text program.streams.items y o) is ∙ last_text program.streams.items (get_or xs i x) o at.0 pause_is in
     let next = waits_more (network net) (count net) program.streams.items xs i x before at.0 within so_far (told_same (network net) (count net) i (stream_at net.program i) (λ p. slice_index (get_or xs i x).streams.items p) f at.0 at.2) in
     rw (add-one i) (subst (λ (v : List ℕ). AreWaitLines (network net) (count net) program.streams.items 0 (take (suc i) xs) v) (sym (grown ∙ ap (λ (v : List ℕ). before ++ v) line)) next)
 
