@@ -1,5 +1,6 @@
 pub mod Answer
 pub mod Codes
+pub mod Decided
 pub mod Ending
 pub mod Found
 pub mod Fresh

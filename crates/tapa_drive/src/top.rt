@@ -1,4 +1,4 @@
-ghost use Rattle.std.specs.Prelude.{◌≡◌, ◌≢◌, ◌≤◌, ℕ, List, [], Some, IfOk, IfErr};
+ghost use Rattle.std.specs.Prelude.{◌≡◌, ◌≢◌, ◌⊎◌, ◌≤◌, ℕ, List, [], Some, IfOk, IfErr};
 ghost use Rattle.tapa_syntax.specs.WellFormed.{IsWellFormed};
 ghost use Rattle.kahn_model.specs.Fits.{FitsInput};
 ghost use Rattle.tapa_drive.specs.Words.{texts, command_of, Run};
@@ -8,6 +8,7 @@ ghost use Rattle.tapa_drive.specs.Answer.{OfRun, OfFile, HasRun, HasCause, Leave
 ghost use Rattle.tapa_drive.specs.Found.{IsNotFound, EndsFor};
 ghost use Rattle.tapa_drive.specs.Source.{IsProgramOf};
 ghost use Rattle.tapa_drive.specs.Told.{IsToldAs};
+ghost use Rattle.tapa_drive.specs.Decided.{Expects, IsStill};
 
 use crate::{
     Command, Refusal, RunEnd, SourceFault, Status, read_program, read_words, run_program, tell,
@@ -115,6 +116,27 @@ fn carry_out<'a, S: Shelf, O: Sink>(
     }
 }
 
+// The program, with the cause of each answer.
+fn answer<S: Shelf, O: Sink, E: Sink>(
+    alloc: Global,
+    words: &[String],
+    shelf: &mut S,
+    out: &mut O,
+    err: &mut E,
+) -> Status
+    ensures ok { result ≡ Status.Ok → OfRun (texts words.now) (λ source top. OfFile (S.files shelf.old) source (λ text. HasRun text top (O.contents out.old) (O.contents out.new))) }
+    ensures ok_err { result ≡ Status.Ok → err.new ≡ err.old }
+    ensures told { result ≢ Status.Ok → (told : Reason) × IsToldAs told result (E.contents err.old) (E.contents err.new) (E.faults err.old) (E.faults err.new)
+        × HasCause (texts words.now) (S.files shelf.old) (S.faults shelf.old) (S.faults shelf.new) (O.faults out.old) (O.faults out.new) (O.contents out.old) (O.contents out.new) told
+        × Leaves (texts words.now) (S.files shelf.old) (O.contents out.old) (O.contents out.new) told }
+{
+    match carry_out(alloc, words, shelf, out) {
+        Ok(Ended::Done) => Status::Ok,
+        Ok(Ended::Stopped { lines }) => tell_stopped(&lines, err),
+        Err(refusal) => tell(alloc, &refusal, err),
+    }
+}
+
 /// The program: the words of a command, without the program's name; the files that it reads; and what it writes to.
 pub fn tapa<S: Shelf, O: Sink, E: Sink>(
     alloc: Global,
@@ -130,10 +152,9 @@ pub fn tapa<S: Shelf, O: Sink, E: Sink>(
     ensures told { result ≢ Status.Ok → (told : Reason) × IsToldAs told result (E.contents err.old) (E.contents err.new) (E.faults err.old) (E.faults err.new)
         × HasCause (texts words.now) (S.files shelf.old) (S.faults shelf.old) (S.faults shelf.new) (O.faults out.old) (O.faults out.new) (O.contents out.old) (O.contents out.new) told
         × Leaves (texts words.now) (S.files shelf.old) (O.contents out.old) (O.contents out.new) told }
+    // Where the files are told and nothing outside fails, the answer is what the source means, or want of memory.
+    ensures decided { (source top : List ℕ) → command_of (texts words.now) ≡ Some (Run source top) → (expected : Status) → Expects (S.files shelf.old) source top expected →
+        IsStill source (S.faults shelf.old) (S.faults shelf.new) (O.faults out.old) (O.faults out.new) (E.faults err.old) (E.faults err.new) → (result ≡ expected) ⊎ (result ≡ Status.Memory) }
 {
-    match carry_out(alloc, words, shelf, out) {
-        Ok(Ended::Done) => Status::Ok,
-        Ok(Ended::Stopped { lines }) => tell_stopped(&lines, err),
-        Err(refusal) => tell(alloc, &refusal, err),
-    }
+    answer(alloc, words, shelf, out, err)
 }
