@@ -1,0 +1,8 @@
+//! The one text of a design.
+#![tactic(auto, using(crate::proofs::Lists::fold_two))]
+
+mod page;
+mod printed;
+mod words;
+
+pub use printed::print_modules;

@@ -1,0 +1,8 @@
+use Rattle.std.proofs.Common.{◌≡◌, drop}
+use Rattle.std.specs.List.{flat_map}
+use Rattle.vlog_tree.specs.Table.{first_violation}
+use Rattle.vlog_tree.specs.V6.{module_tops}
+use Rattle.vlog_design.proofs.outside.first_misplaced.Given as goal
+
+abbrev pub invariant-loop-m : goal.invariant-loop-m
+invariant-loop-m l = first_violation (flat_map (module_tops l.library) l.library) ≡ first_violation (flat_map (module_tops l.library) (drop l.m-index l.modules))

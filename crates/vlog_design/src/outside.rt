@@ -1,0 +1,145 @@
+// The first name at which the top or a clock breaks a rule.
+
+ghost use Rattle.std.specs.Prelude.{◌≡◌, ◌∷◌, ◌++◌, ◌==◌, ◌&&◌, [], ℕ, List, Bool, Option, false, true, map, bytes_eq, if◌then◌else◌, length, IfOk};
+ghost use Rattle.std.specs.Option.{option_copied, option_map_or};
+ghost use Rattle.std.specs.List.{flat_map};
+ghost use Rattle.vlog_tree.specs.Form.{ModuleTree};
+ghost use Rattle.vlog_tree.specs.NameTable.{CountsTo, times_in};
+ghost use Rattle.vlog_tree.specs.Table.{first_violation, port_declared};
+ghost use Rattle.vlog_tree.specs.V6.{contained_names, roots, first_name, is_top as is_top_lem, is_whole_top as is_whole_top_lem, top_ports, clock_link as clock_link_lem, clock_links as clock_links_lem, module_tops, v6_uses};
+
+use crate::roots::{contained_counts, count_roots, first_root};
+use crate::top::{first_misfit_port, has_port};
+use std::alloc::{AllocError, Global};
+use tapa_base::Text;
+use vlog_rules::{Library, Scope, is_clock, named_if};
+use vlog_tree::{Item, Link, Module, PortDecl};
+
+#[tactic(auto, unfolding(vlog_tree::specs::V6::clock_link))]
+fn clock_link(link: &Link) -> Option<&Text>
+    ensures { option_copied result ≡ first_violation (clock_link_lem link.now ∷ []) }
+{
+    named_if(&link.port, is_clock(&link.port) && !is_clock(&link.net))
+}
+
+fn links(links: &[Link]) -> Option<&Text>
+    ensures { option_copied result ≡ first_violation (map clock_link_lem links.now) }
+{
+    for l in links {
+        if let Some(x) = clock_link(l) {
+            return Some(x);
+        }
+    }
+    None
+}
+
+fn item(item: &Item) -> Option<&Text>
+    ensures { option_copied result ≡ first_violation (clock_links_lem item.now) }
+{
+    match item {
+        Item::Instance(_, _, joins) => links(joins.links()),
+        Item::Wire(_, _) => None,
+        Item::Reg(_, _) => None,
+        Item::Memory(_, _, _) => None,
+        Item::Assign(_, _) => None,
+        Item::Always(_) => None,
+    }
+}
+
+fn items(items: &[Item]) -> Option<&Text>
+    ensures { option_copied result ≡ first_violation (flat_map clock_links_lem items.now) }
+{
+    for i in items {
+        if let Some(x) = item(i) {
+            return Some(x);
+        }
+    }
+    None
+}
+
+/// Whether a module is the top, by its name and that of the first root.
+pub(crate) fn is_top(root: Option<&Text>, name: &Text) -> bool
+    ensures { result ≡ option_map_or (λ y. bytes_eq y name.now) (option_copied root.entry) false }
+{
+    match root {
+        Some(r) => r.bytes() == name.bytes(),
+        None => false,
+    }
+}
+
+#[tactic(auto, unfolding(vlog_tree::specs::V6::is_whole_top, vlog_tree::specs::Table::clk, vlog_tree::specs::Labels::rst, vlog_tree::specs::Labels::done))]
+fn is_whole_top(roots_count: usize, ports: &Scope) -> bool
+    ensures { (ms : List ModuleTree) → roots_count ≡ length (roots ms) → result ≡ is_whole_top_lem ms ports.now }
+{
+    roots_count == 1
+        && has_port(ports, b"clk")
+        && has_port(ports, b"rst")
+        && has_port(ports, b"done")
+}
+
+fn ports<'a>(
+    alloc: Global,
+    top: bool,
+    scope: &Scope,
+    ports: &'a [PortDecl],
+) -> Result<Option<&'a Text>, AllocError>
+    ensures { IfOk result (λ o. option_copied o ≡ first_violation (if top then top_ports scope.now [] ports.now else [])) }
+{
+    if top {
+        first_misfit_port(alloc, scope, ports)
+    } else {
+        Ok(None)
+    }
+}
+
+#[tactic(auto, using(vlog_tree::proofs::Walks::passes, vlog_tree::proofs::Walks::tells))]
+fn ports_and_items<'a>(
+    alloc: Global,
+    top: bool,
+    scope: &Scope,
+    m: &'a Module,
+) -> Result<Option<&'a Text>, AllocError>
+    ensures { IfOk result (λ o. option_copied o ≡ first_violation ((if top then top_ports scope.now [] m.now.ports else []) ++ flat_map clock_links_lem m.now.items)) }
+{
+    if let Some(x) = ports(alloc, top, scope, m.ports())? {
+        return Ok(Some(x));
+    }
+    Ok(items(m.items()))
+}
+
+#[tactic(auto, unfolding(vlog_tree::specs::V6::module_tops))]
+fn module_names<'a>(
+    alloc: Global,
+    library: &Library,
+    top: bool,
+    roots_count: usize,
+    m: &'a Module,
+) -> Result<Option<&'a Text>, AllocError>
+    requires top { top ≡ is_top_lem library.now m.now.name }
+    requires roots { roots_count ≡ length (roots library.now) }
+    ensures { IfOk result (λ o. option_copied o ≡ first_violation (module_tops library.now m.now)) }
+{
+    let scope = Scope::of_ports(alloc, m.ports())?;
+    let whole = is_whole_top(roots_count, &scope);
+    if let Some(x) = named_if(m.name(), top && !whole) {
+        return Ok(Some(x));
+    }
+    ports_and_items(alloc, top, &scope, m)
+}
+
+/// The first name in the text at which the top module, its ports or the link of a clock break the rule.
+pub fn first_misplaced(alloc: Global, library: &Library) -> Result<Option<&Text>, AllocError>
+    ensures { IfOk result (λ o. option_copied o ≡ first_violation (v6_uses library.now)) }
+{
+    let modules = library.modules();
+    let counts = contained_counts(alloc, modules)?;
+    let root = first_root(&counts, modules);
+    let roots_count = count_roots(&counts, modules);
+    for m in modules {
+        let top = is_top(root, m.name());
+        if let Some(x) = module_names(alloc, library, top, roots_count, m)? {
+            return Ok(Some(x));
+        }
+    }
+    Ok(None)
+}

@@ -1,0 +1,13 @@
+use Rattle.std.proofs.Common.{◌≡◌, ◌∙◌, sym, ap}
+use Rattle.std.specs.Option.{option_copied}
+use Rattle.vlog_tree.specs.V2.{item_uses}
+use Rattle.vlog_tree.proofs.Walks.{goes_on, found}
+use Rattle.vlog_rules.proofs.names.items.Goals as goal
+
+pub returns-in-Some : goal.returns-in-Some
+returns-in-Some c =
+    sym (found (item_uses c.args.library.now c.args.scope.now) c.args.items.now c.loop-i.i-index _ c.i-item.result _ c.loop-i-test.true c.i-item.is (sym c.in_ok-x.ensures ∙ ap option_copied c.in-Some.is) c.loop-i.invariant)
+
+pub loop-i-preserved : goal.loop-i-preserved
+loop-i-preserved c =
+    goes_on (item_uses c.args.library.now c.args.scope.now) c.args.items.now c.loop-i.i-index _ c.i-item.result c.loop-i-test.true c.i-item.is (sym c.in_ok-x.ensures ∙ ap option_copied c.in_default.is) c.loop-i.invariant

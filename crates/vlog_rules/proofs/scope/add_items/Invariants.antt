@@ -1,0 +1,7 @@
+use Rattle.std.proofs.Common.{◌≡◌, ◌++◌, drop, map}
+use Rattle.vlog_tree.specs.Table.{items_declared, port_declared}
+use Rattle.vlog_tree.specs.Table.{module_declared}
+use Rattle.vlog_rules.proofs.scope.add_items.Given as goal
+
+abbrev pub invariant-loop-item : goal.invariant-loop-item
+invariant-loop-item l = l.declarations.items ++ items_declared (drop l.item-index l.items) ≡ l.fn.declarations.items ++ items_declared l.items

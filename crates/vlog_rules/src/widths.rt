@@ -1,0 +1,247 @@
+// The first name at which a width or a value doesn't fit.
+#![tactic(auto, using(vlog_tree::proofs::Walks::passes, vlog_tree::proofs::Walks::tells))]
+
+ghost use Rattle.std.specs.Prelude.{◌≡◌, ◌≤◌, ◌^◌, ◌∷◌, ◌++◌, [], map, sum, nat_le, nat_lt, IfOk, ◌==◌, ◌&&◌, ◌*◌};
+ghost use Rattle.std.specs.Option.{option_copied};
+ghost use Rattle.std.specs.List.{flat_map, list_all};
+ghost use Rattle.vlog_tree.specs.Table.{first_violation, declared};
+ghost use Rattle.vlog_tree.specs.V3.{is_width as is_width_lem, atom_bits as bits_of_atom, atom_fits as fits_atom, has_bits as has_bits_lem, is_divisor as is_divisor_lem, op_fits as fits_op, value_fits as fits_value, step_widths, link_widths, item_widths, port_widths, module_widths, v3_uses};
+
+use crate::library::Library;
+use crate::names::named_if;
+use crate::scope::Scope;
+use tapa_base::Text;
+use vlog_tree::{Atom, BinaryOp, Item, Link, Module, PortDecl, Step, Value};
+
+fn is_width(bits: u32) -> bool
+    ensures { result ≡ is_width_lem bits }
+{
+    1 <= bits && bits <= 128
+}
+
+fn atom_bits(scope: &Scope, atom: &Atom) -> u64
+    ensures { result ≡ bits_of_atom scope.now atom.now }
+{
+    match atom {
+        Atom::Net(x) => scope.find(x).1 as u64,
+        Atom::Part(_, high, low) => (*high as u64 + 1).saturating_sub(*low as u64),
+        Atom::Literal(bits, _) => *bits as u64,
+    }
+}
+
+fn is_below(n: u128, bits: u32) -> bool
+    requires { bits ≤ 128 }
+    ensures { result ≡ nat_lt n (2 ^ bits) }
+{
+    bits == 128 || n < 1u128 << bits
+}
+
+fn part_fits(bits: u32, high: u32, low: u32) -> bool
+    ensures { result ≡ nat_le 2 bits && nat_le low high && nat_lt high bits }
+{
+    2 <= bits && low <= high && high < bits
+}
+
+fn atom_fits(scope: &Scope, atom: &Atom) -> bool
+    ensures { result ≡ fits_atom scope.now atom.now }
+{
+    match atom {
+        Atom::Net(_) => true,
+        Atom::Part(x, high, low) => part_fits(scope.find(x).1, *high, *low),
+        Atom::Literal(bits, n) => is_width(*bits) && is_below(*n, *bits),
+    }
+}
+
+fn has_bits(scope: &Scope, bits: u64, atom: &Atom) -> bool
+    ensures { result ≡ has_bits_lem scope.now bits atom.now }
+{
+    atom_fits(scope, atom) && atom_bits(scope, atom) == bits
+}
+
+fn is_divisor(atom: &Atom) -> bool
+    ensures { result ≡ is_divisor_lem atom.now }
+{
+    match atom {
+        Atom::Literal(_, n) => *n != 0,
+        Atom::Net(_) | Atom::Part(_, _, _) => false,
+    }
+}
+
+fn both(scope: &Scope, bits: u64, a: &Atom, b: &Atom) -> bool
+    ensures { result ≡ (has_bits_lem scope.now bits a.now && has_bits_lem scope.now bits b.now) }
+{
+    has_bits(scope, bits, a) && has_bits(scope, bits, b)
+}
+
+fn compares(scope: &Scope, bits: u64, a: &Atom, b: &Atom) -> bool
+    ensures { result ≡ ((bits == 1) && fits_atom scope.now a.now && has_bits_lem scope.now (bits_of_atom scope.now a.now) b.now) }
+{
+    bits == 1 && atom_fits(scope, a) && has_bits(scope, atom_bits(scope, a), b)
+}
+
+fn op_fits(scope: &Scope, bits: u64, op: BinaryOp, a: &Atom, b: &Atom) -> bool
+    ensures { result ≡ fits_op scope.now bits op a.now b.now }
+{
+    match op {
+        BinaryOp::Plus
+        | BinaryOp::Minus
+        | BinaryOp::Times
+        | BinaryOp::And
+        | BinaryOp::Or
+        | BinaryOp::Xor => both(scope, bits, a, b),
+        BinaryOp::Divide | BinaryOp::Remainder => both(scope, bits, a, b) && is_divisor(b),
+        BinaryOp::ShiftLeft | BinaryOp::ShiftRight => has_bits(scope, bits, a)
+            && atom_fits(scope, b),
+        BinaryOp::Equals | BinaryOp::Differs | BinaryOp::Less => compares(scope, bits, a, b),
+    }
+}
+
+fn all_fit(scope: &Scope, atoms: &[Atom]) -> bool
+    ensures { result ≡ list_all (fits_atom scope.now) atoms.now }
+{
+    atoms.iter().all(|a| atom_fits(scope, a))
+}
+
+// Whether the atoms have so many bits together.
+fn have_bits(scope: &Scope, bits: u64, atoms: &[Atom]) -> bool
+    ensures { result ≡ (sum (map (bits_of_atom scope.now) atoms.now) == bits) }
+{
+    let mut left = bits;
+    for a in atoms {
+        let own = atom_bits(scope, a);
+        if own > left {
+            return false;
+        }
+        left -= own;
+    }
+    left == 0
+}
+
+fn copies_fit(scope: &Scope, bits: u64, n: u32, atom: &Atom) -> bool
+    ensures { result ≡ (fits_atom scope.now atom.now && (n * bits_of_atom scope.now atom.now == bits)) }
+{
+    atom_fits(scope, atom) && n as u128 * atom_bits(scope, atom) as u128 == bits as u128
+}
+
+fn value_fits(scope: &Scope, bits: u64, value: &Value) -> bool
+    ensures { result ≡ fits_value scope.now bits value.now }
+{
+    match value {
+        Value::Plain(a) | Value::Invert(a) => has_bits(scope, bits, a),
+        Value::Binary(a, op, b) => op_fits(scope, bits, *op, a, b),
+        Value::Choose(c, a, b) => has_bits(scope, 1, c) && both(scope, bits, a, b),
+        Value::Concat(atoms) => all_fit(scope, atoms.atoms())
+            && have_bits(scope, bits, atoms.atoms()),
+        Value::Repeat(n, a) => copies_fit(scope, bits, *n, a),
+        Value::Cell(m, _) => scope.find(m).1 as u64 == bits,
+    }
+}
+
+fn step<'a>(scope: &Scope, step: &'a Step) -> Option<&'a Text>
+    ensures { option_copied result ≡ first_violation (step_widths scope.now step.now) }
+{
+    match step {
+        Step::If(c) => named_if(c, scope.find(c).1 != 1),
+        Step::Else | Step::End => None,
+        Step::NonblockingAssign(x, a) => named_if(x, !has_bits(scope, scope.find(x).1 as u64, a)),
+        Step::MemoryAssign(m, _, a) => named_if(m, !has_bits(scope, scope.find(m).1 as u64, a)),
+    }
+}
+
+fn steps<'a>(scope: &Scope, steps: &'a [Step]) -> Option<&'a Text>
+    ensures { option_copied result ≡ first_violation (flat_map (step_widths scope.now) steps.now) }
+{
+    for s in steps {
+        if let Some(x) = step(scope, s) {
+            return Some(x);
+        }
+    }
+    None
+}
+
+#[tactic(auto, unfolding(vlog_tree::specs::V3::link_widths))]
+fn link<'a>(ports: &Scope, scope: &Scope, link: &'a Link) -> Option<&'a Text>
+    ensures { option_copied result ≡ first_violation (link_widths ports.now scope.now link.now) }
+{
+    let same = ports.find(&link.port).1 == scope.find(&link.net).1;
+    named_if(&link.port, !same)
+}
+
+fn links<'a>(ports: &Scope, scope: &Scope, links: &'a [Link]) -> Option<&'a Text>
+    ensures { option_copied result ≡ first_violation (flat_map (link_widths ports.now scope.now) links.now) }
+{
+    for l in links {
+        if let Some(x) = link(ports, scope, l) {
+            return Some(x);
+        }
+    }
+    None
+}
+
+#[tactic(auto, unfolding(vlog_tree::specs::V3::port_widths))]
+fn port<'a>(port: &'a PortDecl) -> Option<&'a Text>
+    ensures { option_copied result ≡ first_violation (port_widths port.now) }
+{
+    named_if(&port.name, !is_width(port.bits))
+}
+
+fn ports<'a>(ports: &'a [PortDecl]) -> Option<&'a Text>
+    ensures { option_copied result ≡ first_violation (flat_map port_widths ports.now) }
+{
+    for p in ports {
+        if let Some(x) = port(p) {
+            return Some(x);
+        }
+    }
+    None
+}
+
+#[tactic(auto, unfolding(vlog_tree::specs::V3::item_widths))]
+fn item<'a>(library: &Library, scope: &Scope, item: &'a Item) -> Option<&'a Text>
+    ensures { option_copied result ≡ first_violation (item_widths library.now scope.now item.now) }
+{
+    match item {
+        Item::Wire(bits, x) => named_if(x, !is_width(*bits)),
+        Item::Reg(bits, x) => named_if(x, !is_width(*bits)),
+        Item::Memory(bits, x, cells) => named_if(x, !(is_width(*bits) && *cells <= 1_048_576)),
+        Item::Assign(x, e) => named_if(x, !value_fits(scope, scope.find(x).1 as u64, e)),
+        Item::Always(b) => steps(scope, b.steps()),
+        Item::Instance(m, _, joins) => links(library.ports_named(m), scope, joins.links()),
+    }
+}
+
+fn items<'a>(library: &Library, scope: &Scope, items: &'a [Item]) -> Option<&'a Text>
+    ensures { option_copied result ≡ first_violation (flat_map (item_widths library.now scope.now) items.now) }
+{
+    for i in items {
+        if let Some(x) = item(library, scope, i) {
+            return Some(x);
+        }
+    }
+    None
+}
+
+#[tactic(auto, using(vlog_tree::proofs::Walks::passes, vlog_tree::proofs::Walks::tells), unfolding(vlog_tree::specs::V3::module_widths))]
+fn module_names<'a>(library: &Library, scope: &Scope, m: &'a Module) -> Option<&'a Text>
+    requires { scope.now ≡ declared m.now }
+    ensures { option_copied result ≡ first_violation (module_widths library.now m.now) }
+{
+    if let Some(x) = ports(m.ports()) {
+        return Some(x);
+    }
+    items(library, scope, m.items())
+}
+
+/// The first name in the text at which a width or a value doesn't fit.
+pub fn first_misfit(library: &Library) -> Option<&Text>
+    ensures { option_copied result ≡ first_violation (v3_uses library.now) }
+{
+    let modules = library.modules();
+    let scopes = library.scopes();
+    for at in 0..modules.len() {
+        if let Some(x) = module_names(library, &scopes[at], &modules[at]) {
+            return Some(x);
+        }
+    }
+    None
+}

@@ -1,0 +1,5 @@
+pub mod Walks
+pub mod Ranked
+pub mod Grounds
+pub mod Nesting
+pub mod NameTables

@@ -1,0 +1,132 @@
+-- What stands around a design, and what its streams and memories carry.
+use Rattle.std.specs.Prelude.{◌≡◌, ℕ, zero, suc, ◌-◌, ◌^◌, ◌<◌, ◌≤◌, Bool, true, false, ◌&&◌, List, [], ◌∷◌, ◌++◌, Option, Some, None, length, unwrap_or, slice_get, slice_set, nat_le, nat_lt, ◌==◌, if◌then◌else◌, bytes_eq}
+use Rattle.std.specs.List.{AllByRecursion, flat_map, list_any}
+use Rattle.vlog_tree.specs.declared.tree.Item.{Item}
+use Rattle.vlog_tree.specs.declared.tree.Item.TheVariants.{Wire, Reg, Memory, Assign, Always, Instance}
+use Rattle.vlog_tree.specs.declared.tree.PortDecl.{PortDecl}
+use Rattle.vlog_tree.specs.declared.table.Declaration.{Declaration}
+use Rattle.tapa_base.specs.declared.shape.Port.{Port}
+use Rattle.vlog_tree.specs.Form.{ModuleTree}
+use Rattle.vlog_tree.specs.Table.{Name, declared, bits_of}
+use Rattle.vlog_tree.specs.Cycle.{Cycle, Path, Runs}
+use Rattle.vlog_tree.specs.Labels.{rst, done, scalar, m_ack, m_rdata, m_addr, m_wdata, m_we, s_din, s_wr, s_rdy, scalar_of, ack_of, din_of}
+
+pub record ShapeTree : Type 0 where
+  pub scalars : List Port
+  pub memories : List Port
+
+abbrev pub scalar_label : PortDecl → Option Name → List Port
+scalar_label p None = []
+scalar_label p (Some x) = record { name = x; bits = p.bits } ∷ []
+
+abbrev pub memory_label : List Declaration → Option Name → List Port
+memory_label ds None = []
+memory_label ds (Some x) = record { name = x; bits = bits_of ds (m_rdata x) } ∷ []
+
+-- the scalars in the order of their ports, the memories in that of their acks
+abbrev pub shape_of : ModuleTree → ShapeTree
+shape_of top = record {
+  scalars = flat_map (λ (p : PortDecl). scalar_label p (scalar_of p.name)) top.ports;
+  memories = flat_map (λ (p : PortDecl). memory_label (declared top) (ack_of p.name)) top.ports;
+}
+
+abbrev pub is_wire_of : Name → Item → Bool
+is_wire_of x (Wire w y) = bytes_eq y x && (w == 1)
+is_wire_of x (Reg w y) = false
+is_wire_of x (Memory w y n) = false
+is_wire_of x (Assign y e) = false
+is_wire_of x (Always b) = false
+is_wire_of x (Instance m i links) = false
+
+unfoldable pub is_stream : List Item → ℕ → Name → Name → Bool
+is_stream items w wr rdy = nat_le 2 w && nat_le w 65 && list_any (is_wire_of wr) items && list_any (is_wire_of rdy) items
+
+abbrev pub stream_label : List Item → ℕ → Option Name → List Port
+stream_label items w None = []
+stream_label items w (Some x) = if is_stream items w (s_wr x) (s_rdy x) then record { name = x; bits = w } ∷ [] else []
+
+abbrev pub item_stream : List Item → Item → List Port
+item_stream items (Wire w y) = stream_label items w (din_of y)
+item_stream items (Reg w y) = []
+item_stream items (Memory w y n) = []
+item_stream items (Assign y e) = []
+item_stream items (Always b) = []
+item_stream items (Instance m i links) = []
+
+-- the streams in the order of their din
+abbrev pub streams_of : ModuleTree → List Port
+streams_of top = flat_map (item_stream top.items) top.items
+
+-- a value for each scalar, and for each memory its first cells and its ready bits
+pub record Environment : Type 0 where
+  pub scalars : List ℕ
+  pub memories : List (List ℕ)
+  pub ready : List (List Bool)
+
+-- two lists of one length whose elements fit each other
+abbrev pub AllTwo : {A B : Type 0} → (A → B → Type 0) → List A → List B → Type 0
+AllTwo R [] [] = Unit {0}
+AllTwo R [] (y ∷ ys) = ⊥
+AllTwo R (x ∷ xs) [] = ⊥
+AllTwo R (x ∷ xs) (y ∷ ys) = R x y × AllTwo R xs ys
+
+pub record FitsShape (env : Environment) (shape : ShapeTree) : Type 0 where
+  pub scalars : AllTwo (λ (l : Port) n. n < 2 ^ l.bits) shape.scalars env.scalars
+  pub memories : AllTwo (λ (l : Port) cells. AllByRecursion (λ n. n < 2 ^ l.bits) cells) shape.memories env.memories
+  pub ready : length env.ready ≡ length env.memories
+
+-- entry n, counted from 1, and 1 after the list's end; in cycle 0 it is 0
+abbrev pub ready_at : List Bool → ℕ → ℕ
+ready_at bits zero = 0
+ready_at bits (suc n) = if unwrap_or (slice_get bits n) true then 1 else 0
+
+-- past the end nothing changes
+abbrev pub set_cell : List ℕ → ℕ → ℕ → List ℕ
+set_cell cells a v = if nat_lt a (length cells) then slice_set cells a v else cells
+
+-- the cells of a memory in a cycle, before the store of that cycle; run has the numbers of the top's nets
+abbrev pub cells_at : (ℕ → Cycle) → Name → List ℕ → ℕ → List ℕ
+cells_at run x first zero = first
+cells_at run x first (suc n) =
+    let c = run n in
+    let cells = cells_at run x first n in
+    if (c.net (m_ack x) == 1) && (c.net (m_we x) == 1) then set_cell cells (c.net (m_addr x)) (c.net (m_wdata x)) else cells
+
+-- what a memory answers in every cycle
+pub record Answers (run : ℕ → Cycle) (x : Name) (first : List ℕ) (ready : List Bool) : Type 0 where
+  pub ack : (n : ℕ) → (run n).net (m_ack x) ≡ ready_at ready n
+  pub rdata : (n : ℕ) → (run n).net (m_rdata x) ≡ unwrap_or (slice_get (cells_at run x first n) ((run n).net (m_addr x))) 0
+
+abbrev pub AllAnswer : (ℕ → Cycle) → List Port → List (List ℕ) → List (List Bool) → Type 0
+AllAnswer run [] [] [] = Unit {0}
+AllAnswer run [] [] (r ∷ rs) = ⊥
+AllAnswer run [] (c ∷ cs) ready = ⊥
+AllAnswer run (l ∷ ls) [] ready = ⊥
+AllAnswer run (l ∷ ls) (c ∷ cs) [] = ⊥
+AllAnswer run (l ∷ ls) (c ∷ cs) (r ∷ rs) = Answers run l.name c r × AllAnswer run ls cs rs
+
+-- the top's inputs: reset in cycle 0 alone, the scalars, and what the memories answer
+pub record Stands (top : ModuleTree) (env : Environment) (run : ℕ → Cycle) : Type 0 where
+  pub reset : (run 0).net rst ≡ 1
+  pub runs : (n : ℕ) → (run (suc n)).net rst ≡ 0
+  pub scalars : (n : ℕ) → AllTwo (λ (l : Port) v. (run n).net (scalar l.name) ≡ v) (shape_of top).scalars env.scalars
+  pub memories : AllAnswer run (shape_of top).memories env.memories env.ready
+
+-- a run of a design in an environment, from any power-up contents
+pub record RunsIn (ms : List ModuleTree) (top : ModuleTree) (env : Environment) (nets : ℕ → Path → Cycle) : Type 0 where
+  pub runs : Runs ms top nets
+  pub stands : Stands top env (λ n. nets n [])
+
+-- the numbers on the stream's din in those cycles from 1 to n in which it carries
+abbrev pub carried : (ℕ → Cycle) → Name → ℕ → List ℕ
+carried run x zero = []
+carried run x (suc n) =
+    let c = run (suc n) in
+    if (c.net (s_wr x) == 1) && (c.net (s_rdy x) == 1) then carried run x n ++ c.net (s_din x) ∷ [] else carried run x n
+
+-- what w bits on din mean: None is an end, and Some a datum
+abbrev pub token : ℕ → ℕ → Option ℕ
+token w d = if nat_le (2 ^ (w - 1)) d then None else Some d
+
+abbrev pub IsDone : (ℕ → Cycle) → ℕ → Type 0
+IsDone run n = (1 ≤ n) × ((run n).net done ≡ 1)

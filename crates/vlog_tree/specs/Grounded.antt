@@ -1,0 +1,18 @@
+-- Walks along parts, loops, and what rests on parts that come to an end.
+use Rattle.std.specs.Prelude.{◌≡◌, ℕ, zero, suc, ◌⊎◌, List, [], ◌∷◌}
+
+abbrev pub Has : {N : Type 0} → List N → N → Type 0
+Has [] b = ⊥
+Has (x ∷ xs) b = (x ≡ b) ⊎ Has xs b
+
+-- n steps from a thing to a part of a part and so on
+abbrev pub Walk : {N : Type 0} → (N → List N) → ℕ → N → N → Type 0
+Walk parts zero a b = a ≡ b
+Walk {N} parts (suc n) a b = (c : N) × Has (parts a) c × Walk parts n c b
+
+abbrev pub OnLoop : {N : Type 0} → (N → List N) → N → Type 0
+OnLoop parts a = (n : ℕ) × Walk parts (suc n) a a
+
+-- each of its parts comes to an end, and then it does
+pub data IsGrounded {N : Type 0} (parts : N → List N) : N → Type 0 where
+  grounded : {a : N} → ((b : N) → Has (parts a) b → IsGrounded parts b) → IsGrounded parts a

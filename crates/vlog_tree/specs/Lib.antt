@@ -1,0 +1,16 @@
+pub mod Names
+pub mod Form
+pub mod Cycle
+pub mod Table
+pub mod V2
+pub mod V3
+pub mod V4
+pub mod Labels
+pub mod Grounded
+pub mod Loops
+pub mod Flattened
+pub mod V6
+pub mod Environment
+pub mod Spelling
+pub mod Refused
+pub mod NameTable

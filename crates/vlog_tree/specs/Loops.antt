@@ -1,0 +1,141 @@
+-- Loops of wires, and modules that contain themselves.
+use Rattle.std.specs.Prelude.{◌≡◌, ◌⊎◌, Bool, true, false, List, [], ◌∷◌, ◌++◌, Option, Some, None, if◌then◌else◌, map}
+use Rattle.std.specs.List.{flat_map}
+use Rattle.vlog_tree.specs.declared.tree.Atom.{Atom}
+use Rattle.vlog_tree.specs.declared.tree.Atom.TheVariants.{Net, Part, Literal}
+use Rattle.vlog_tree.specs.declared.tree.Value.{Value}
+use Rattle.vlog_tree.specs.declared.tree.Value.TheVariants.{Plain, Invert, Binary, Choose, Concat, Repeat, Cell}
+use Rattle.vlog_tree.specs.declared.tree.Link.{Link}
+use Rattle.vlog_tree.specs.declared.tree.Item.{Item}
+use Rattle.vlog_tree.specs.declared.tree.Item.TheVariants.{Wire, Reg, Memory, Assign, Always, Instance}
+use Rattle.vlog_tree.specs.declared.table.Declaration.{Declaration}
+use Rattle.vlog_tree.specs.declared.table.Sort.TheVariants.{Input, Output}
+use Rattle.vlog_tree.specs.Form.{ModuleTree}
+use Rattle.vlog_tree.specs.Cycle.{module_named}
+use Rattle.vlog_tree.specs.Table.{Name, declared, port_declared, sort_of, sort_is_input, ports_of}
+use Rattle.vlog_tree.specs.Grounded.{Has}
+use Rattle.vlog_tree.specs.Labels.{address_of}
+use Rattle.vlog_tree.specs.V6.{module_children}
+
+abbrev pub atom_nets : Atom → List Name
+atom_nets (Net x) = x ∷ []
+atom_nets (Part x high low) = x ∷ []
+atom_nets (Literal w n) = []
+
+-- the nets of a driver; a cell depends on its place
+abbrev pub value_nets : Value → List Name
+value_nets (Plain a) = atom_nets a
+value_nets (Invert a) = atom_nets a
+value_nets (Binary a op b) = atom_nets a ++ atom_nets b
+value_nets (Choose c a b) = atom_nets c ++ (atom_nets a ++ atom_nets b)
+value_nets (Concat atoms) = flat_map atom_nets atoms
+value_nets (Repeat n a) = atom_nets a
+value_nets (Cell m x) = x ∷ []
+
+-- the hierarchical name of a port of an instance (IEEE 1364-2005, 12.4), which no name of the module is
+unfoldable pub port_of : Name → Name → Name
+port_of i p = i ++ 46 ∷ p
+
+-- pairs of a thing and a thing that it rests on
+abbrev pub Edges : Type 0
+Edges = List (Name × Name)
+
+-- in the same cycle an instance's input has the number of its net, and a net that of the instance's output
+unfoldable pub link_edge : List Declaration → Name → Link → Name × Name
+link_edge ports i l = if sort_is_input (sort_of ports l.port) then (port_of i l.port, l.net) else (l.net, port_of i l.port)
+
+-- a driven net rests on the nets of its driver; an assigned register rests on nothing of its own cycle
+abbrev pub line_edges : List ModuleTree → Item → Edges
+line_edges ms (Assign x e) = map (λ y. (x, y)) (value_nets e)
+line_edges ms (Instance m i links) = map (link_edge (map port_declared (ports_of ms m)) i) links
+line_edges ms (Wire w x) = []
+line_edges ms (Reg w x) = []
+line_edges ms (Memory w x n) = []
+line_edges ms (Always b) = []
+
+-- what a memory of the top gives rests on the place that it is asked for
+abbrev pub answer_edges : Declaration → Edges
+answer_edges d = map (λ y. (d.name, y)) (address_of d.name)
+
+abbrev pub memory_edges : Bool → List Declaration → Edges
+memory_edges false ds = []
+memory_edges true ds = flat_map answer_edges ds
+
+-- what a module's own lines say; is_top says of a module's name whether it is the top's
+abbrev pub direct_edges : List ModuleTree → (Name → Bool) → ModuleTree → Edges
+direct_edges ms is_top m = flat_map (line_edges ms) m.items ++ memory_edges (is_top m.name) (declared m)
+
+-- an instance's module and the instance's name
+abbrev pub item_instances : Item → List (Name × Name)
+item_instances (Instance m i links) = (m, i) ∷ []
+item_instances (Wire w x) = []
+item_instances (Reg w x) = []
+item_instances (Memory w x n) = []
+item_instances (Assign x e) = []
+item_instances (Always b) = []
+
+abbrev pub instances : ModuleTree → List (Name × Name)
+instances m = flat_map item_instances m.items
+
+-- In a module one net rests on another in the same cycle, through any number of lines and instances. An instance's output
+-- rests on those inputs on which it rests inside.
+pub data Rests (ms : List ModuleTree) (is_top : Name → Bool) : ModuleTree → Name → Name → Type 0 where
+  directly : {m : ModuleTree} {x y : Name} → Has (direct_edges ms is_top m) (x, y) → Rests ms is_top m x y
+  through : {m : ModuleTree} {a b : Name} (k : ModuleTree) (kn i x y : Name) → Has (instances m) (kn, i) → module_named ms kn ≡ Some k
+      → sort_of (map port_declared k.ports) x ≡ Output → sort_of (map port_declared k.ports) y ≡ Input → Rests ms is_top k x y
+      → a ≡ port_of i x → b ≡ port_of i y → Rests ms is_top m a b
+  after : {m : ModuleTree} {x z : Name} (y : Name) → Rests ms is_top m x y → Rests ms is_top m y z → Rests ms is_top m x z
+
+-- which module contains which
+unfoldable pub own_containment : ModuleTree → Edges
+own_containment m = map (λ k. (m.name, k)) (module_children m)
+
+abbrev pub containment : List ModuleTree → Edges
+containment ms = flat_map own_containment ms
+
+-- one or more steps of a relation
+pub data Chain {N : Type 0} (R : N → N → Type 0) : N → N → Type 0 where
+  one : {a b : N} → R a b → Chain R a b
+  more : {a c : N} (b : N) → R a b → Chain R b c → Chain R a c
+
+-- from a thing to another along edges
+abbrev pub Reaches : Edges → Name → Name → Type 0
+Reaches edges a b = Chain (λ x y. Has edges (x, y)) a b
+
+-- a place in the text: a module's name, or with it a name that it declares
+abbrev pub TextPlace : Type 0
+TextPlace = Name × Option Name
+
+abbrev pub place_name : TextPlace → Name
+place_name (m, None) = m
+place_name (m, Some x) = x
+
+abbrev pub own_places : ModuleTree → List TextPlace
+own_places m = (m.name, None) ∷ map (λ (d : Declaration). (m.name, Some d.name)) (declared m)
+
+abbrev pub text_places : List ModuleTree → List TextPlace
+text_places ms = flat_map own_places ms
+
+-- A module's name is wrong where the module contains itself. A net is where it rests on itself in its module, and a port
+-- also where it does so as a wire of a module that has an instance of its own.
+abbrev pub LiesOnLoop : List ModuleTree → (Name → Bool) → TextPlace → Type 0
+LiesOnLoop ms is_top (m, None) = Reaches (containment ms) m m
+LiesOnLoop ms is_top (m, Some x) =
+    ((k : ModuleTree) × Has ms k × (k.name ≡ m) × Rests ms is_top k x x)
+    ⊎ ((k : ModuleTree) × (i : Name) × Has ms k × Has (instances k) (m, i) × Rests ms is_top k (port_of i x) (port_of i x))
+
+-- the first of a list with a property
+pub record IsFirst {A : Type 0} (P : A → Type 0) (xs : List A) (x : A) : Type 0 where
+  pub before : List A
+  pub after : List A
+  pub split : xs ≡ before ++ x ∷ after
+  pub none_before : (y : A) → Has before y → P y → ⊥
+  pub this : P x
+
+-- the first name that lies on a loop
+abbrev pub TellsLoop : List ModuleTree → (Name → Bool) → Name → Type 0
+TellsLoop ms is_top x = (s : TextPlace) × IsFirst (LiesOnLoop ms is_top) (text_places ms) s × (place_name s ≡ x)
+
+-- no name lies on a loop
+abbrev pub IsLoopless : List ModuleTree → (Name → Bool) → Type 0
+IsLoopless ms is_top = (s : TextPlace) → Has (text_places ms) s → LiesOnLoop ms is_top s → ⊥

@@ -1,0 +1,133 @@
+-- What the names of a module stand for.
+use Rattle.std.specs.Prelude.{ℕ, Bool, true, false, ◌||◌, List, [], ◌∷◌, ◌++◌, Option, Some, None, codes, nat_le, if◌then◌else◌, bytes_eq, map, count_by}
+use Rattle.vlog_tree.specs.declared.tree.Item.{Item}
+use Rattle.vlog_tree.specs.declared.tree.Item.TheVariants.{Wire, Reg, Memory, Assign, Always, Instance}
+use Rattle.vlog_tree.specs.declared.tree.PortDecl.{PortDecl}
+use Rattle.vlog_tree.specs.declared.table.Sort.{Sort}
+use Rattle.vlog_tree.specs.declared.table.Sort.TheVariants.{Unknown, Input, Output, WireNet, Register, MemoryArray, ChildInstance}
+use Rattle.vlog_tree.specs.declared.table.Declaration.{Declaration}
+use Rattle.vlog_tree.specs.Form.{ModuleTree}
+
+abbrev pub Name : Type 0
+Name = List ℕ
+
+abbrev pub no : Bool → Bool
+no b = if b then false else true
+
+unfoldable pub clk : Name
+clk = codes "clk"
+
+abbrev pub is_clk : Name → Bool
+is_clk x = bytes_eq x clk
+
+abbrev pub port_declared : PortDecl → Declaration
+port_declared p = record { name = p.name; sort = if p.input then Input else Output; bits = p.bits }
+
+abbrev pub items_declared : List Item → List Declaration
+items_declared [] = []
+items_declared (Wire w x ∷ items) = record { name = x; sort = WireNet; bits = w } ∷ items_declared items
+items_declared (Reg w x ∷ items) = record { name = x; sort = Register; bits = w } ∷ items_declared items
+items_declared (Memory w x n ∷ items) = record { name = x; sort = MemoryArray; bits = w } ∷ items_declared items
+items_declared (Instance m i links ∷ items) = record { name = i; sort = ChildInstance; bits = 0 } ∷ items_declared items
+items_declared (Assign x e ∷ items) = items_declared items
+items_declared (Always b ∷ items) = items_declared items
+
+-- the names of a module, in the order of the text
+abbrev pub declared : ModuleTree → List Declaration
+declared m = map port_declared m.ports ++ items_declared m.items
+
+abbrev pub declaration_name : Declaration → Name
+declaration_name d = d.name
+
+-- a module's name, as a declaration among those of the other modules
+abbrev pub module_declared : ModuleTree → Declaration
+module_declared m = record { name = m.name; sort = Unknown; bits = 0 }
+
+abbrev pub unknown : Declaration
+unknown = record { name = []; sort = Unknown; bits = 0 }
+
+-- the first that has this name
+abbrev pub find_name : List Declaration → Name → Declaration
+find_name [] x = unknown
+find_name (d ∷ ds) x = if bytes_eq d.name x then d else find_name ds x
+
+abbrev pub sort_of : List Declaration → Name → Sort
+sort_of ds x = (find_name ds x).sort
+
+abbrev pub bits_of : List Declaration → Name → ℕ
+bits_of ds x = (find_name ds x).bits
+
+abbrev pub is_doubled_name : List Declaration → Name → Bool
+is_doubled_name ds x = nat_le 2 (count_by (λ d. bytes_eq d.name x) ds)
+
+-- the sorts whose number can be read
+abbrev pub sort_is_read : Sort → Bool
+sort_is_read Unknown = false
+sort_is_read Input = true
+sort_is_read Output = true
+sort_is_read WireNet = true
+sort_is_read Register = true
+sort_is_read MemoryArray = false
+sort_is_read ChildInstance = false
+
+-- the sorts that an assign or an instance may name as driven; an input among them is refused by the rule on drivers
+abbrev pub sort_is_driven : Sort → Bool
+sort_is_driven Unknown = false
+sort_is_driven Input = true
+sort_is_driven Output = true
+sort_is_driven WireNet = true
+sort_is_driven Register = false
+sort_is_driven MemoryArray = false
+sort_is_driven ChildInstance = false
+
+abbrev pub sort_is_register : Sort → Bool
+sort_is_register Unknown = false
+sort_is_register Input = false
+sort_is_register Output = false
+sort_is_register WireNet = false
+sort_is_register Register = true
+sort_is_register MemoryArray = false
+sort_is_register ChildInstance = false
+
+abbrev pub sort_is_memory : Sort → Bool
+sort_is_memory Unknown = false
+sort_is_memory Input = false
+sort_is_memory Output = false
+sort_is_memory WireNet = false
+sort_is_memory Register = false
+sort_is_memory MemoryArray = true
+sort_is_memory ChildInstance = false
+
+abbrev pub sort_is_input : Sort → Bool
+sort_is_input Unknown = false
+sort_is_input Input = true
+sort_is_input Output = false
+sort_is_input WireNet = false
+sort_is_input Register = false
+sort_is_input MemoryArray = false
+sort_is_input ChildInstance = false
+
+-- the ports of the first module of this name
+abbrev pub ports_of : List ModuleTree → Name → List PortDecl
+ports_of [] x = []
+ports_of (m ∷ ms) x = if bytes_eq m.name x then m.ports else ports_of ms x
+
+abbrev pub is_module : List ModuleTree → Name → Bool
+is_module [] x = false
+is_module (m ∷ ms) x = bytes_eq m.name x || is_module ms x
+
+-- a name of the text, and whether it breaks the rule there
+abbrev pub NameUse : Type 0
+NameUse = Name × Bool
+
+-- the first name in the text that breaks the rule
+abbrev pub first_violation : List NameUse → Option Name
+first_violation [] = None
+first_violation (u ∷ us) = if u.1 then Some u.0 else first_violation us
+
+-- the names that each module declares
+abbrev pub names_of : List ModuleTree → List (List Declaration)
+names_of ms = map declared ms
+
+abbrev pub all_ports : List ModuleTree → List (List Declaration)
+all_ports ms = map (λ (m : ModuleTree). map port_declared m.ports) ms

@@ -1,0 +1,23 @@
+//! The tree of a small Verilog subset: its types and their form, and the definitions of what its designs do cycle by
+//! cycle, which trees are refused, and how a tree is spelled.
+#![tactic(auto)]
+
+mod fault;
+mod form;
+mod laws;
+mod module;
+mod name_table;
+mod names;
+mod table;
+mod tree;
+
+pub use fault::VFault;
+pub use laws::{law_grounded_is_on_no_loop, law_if, law_if_alone, law_one_solution, law_two};
+pub use module::Module;
+pub use name_table::{
+    NameBits, NameCounts, NameTable, add_before, bits_of_name, count_of, count_one, find_name,
+    set_bits,
+};
+pub use names::is_name;
+pub use table::{Declaration, Sort};
+pub use tree::{Atom, Atoms, BinaryOp, Block, Item, Link, Links, PortDecl, Step, Value};
