@@ -3,7 +3,7 @@ use Rattle.std.specs.Prelude.{ℕ, List, [], ◌∷◌, ◌++◌, Bool, true, fa
 use Rattle.tapa_base.specs.declared.kind.Kind.{Kind}
 use Rattle.tapa_base.specs.declared.kind.Kind.TheVariants.{U64}
 use Rattle.leaf_check.specs.declared.sort.Sort.{Sort}
-use Rattle.leaf_check.specs.declared.sort.Sort.TheVariants.{Constant, Variable, Array, Memory, Stream, Task}
+use Rattle.leaf_check.specs.declared.sort.Sort.TheVariants.{Constant, Variable, Array, Memory, Stream, Channel, Task}
 
 -- the declarations of a block, in order
 abbrev pub Block : Type 0
@@ -47,6 +47,7 @@ kind_of_sort (Some (Variable free k n)) = k
 kind_of_sort (Some (Array free k n)) = k
 kind_of_sort (Some (Memory free k n)) = k
 kind_of_sort (Some (Stream writes k n)) = k
+kind_of_sort (Some (Channel k n)) = k
 kind_of_sort (Some Task) = U64
 kind_of_sort None = U64
 
@@ -56,6 +57,7 @@ number_of (Some (Variable free k n)) = n
 number_of (Some (Array free k n)) = n
 number_of (Some (Memory free k n)) = n
 number_of (Some (Stream writes k n)) = n
+number_of (Some (Channel k n)) = n
 number_of _ = 0
 
 -- it has a value

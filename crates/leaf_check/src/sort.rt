@@ -32,5 +32,10 @@ pub enum Sort {
         kind: Kind,
         number: u32,
     },
+    /// A stream that an upper-level task declares, with its number among them: its instances read and write it.
+    Channel {
+        kind: Kind,
+        number: u32,
+    },
     Task,
 }
