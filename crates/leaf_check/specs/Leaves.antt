@@ -8,12 +8,12 @@ use Rattle.tapa_syntax.specs.declared.tree.Parameter.TheVariants.{InputStream, O
 use Rattle.tapa_base.specs.declared.text.Place.{Place}
 use Rattle.tapa_syntax.specs.Trees.{Statements, TaskTree}
 use Rattle.tapa_syntax.specs.Flat.{FlatExpression, FlatStatement, FlatStatements, literal, variable, cell, read, peek, is_end, load, convert, apply, flip, negation, conjunction, disjunction, choice, set, set_cell, set_cell_by, store, store_by, read_variable, read_cell, read_store, write, take_end, put_end, discard, clear, branch, loop, break, continue, no_statement, statement_then, FlatLeaf}
-use Rattle.leaf_check.specs.declared.sort.Sort.{Sort}
-use Rattle.leaf_check.specs.declared.sort.Sort.TheVariants as sort
-use Rattle.leaf_check.specs.Scopes.{Block, Scope, declaring}
-use Rattle.leaf_check.specs.declared.fault.Broken.{Broken}
-use Rattle.leaf_check.specs.Faults.{over, where_so}
-use Rattle.leaf_check.specs.Statements.{Frame, doubled, variable_faults, with_variable, statements_faults, codes_of, after_all}
+use Rattle.expression_check.specs.declared.sort.Sort.{Sort}
+use Rattle.expression_check.specs.declared.sort.Sort.TheVariants as sort
+use Rattle.expression_check.specs.Scopes.{Block, Scope, declaring}
+use Rattle.expression_check.specs.declared.fault.Broken.{Broken}
+use Rattle.expression_check.specs.Faults.{over, where_so, doubled}
+use Rattle.leaf_check.specs.Statements.{Frame, variable_faults, with_name, with_variable, statements_faults, codes_of, after_all}
 
 -- ---- parameters, which are in one block with the body (ISO C++ [basic.scope.param])
 
@@ -23,9 +23,6 @@ pub record Head : Type 0 where
   pub streams : List End
   pub memories : List Kind
   pub scalars : List ℕ
-
-abbrev pub with_name : Name → Sort → Frame → Frame
-with_name x s f = record { scope = declaring x.text s f.scope; vars = f.vars; arrays = f.arrays }
 
 abbrev pub with_stream : Bool → Kind → Name → Head → Head
 with_stream writes k x h =
@@ -55,7 +52,7 @@ parameters_faults h (p ∷ rest) = parameter_faults h p ++ parameters_faults (af
 
 -- a task of a file that has declared these names
 abbrev pub task_begins : Block → Head
-task_begins file = record { frame = record { scope = [] ∷ file ∷ []; vars = []; arrays = [] }; streams = []; memories = []; scalars = [] }
+task_begins file = record { frame = record { scope = file ∷ [] ∷ []; vars = []; arrays = [] }; streams = []; memories = []; scalars = [] }
 
 -- ---- tick places: what a tick of the task is made at
 

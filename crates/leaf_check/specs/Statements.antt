@@ -20,14 +20,14 @@ use Rattle.tapa_syntax.specs.Trees.{ExpressionTree, PlaceTree, ActionTree, Decla
 use Rattle.tapa_syntax.specs.Typed.{right_kind}
 use Rattle.tapa_syntax.specs.Flat as flat
 use Rattle.tapa_syntax.specs.Flat.{FlatExpression, FlatStatement, FlatStatements, literal, variable, set, set_cell, set_cell_by, store, store_by, read_variable, read_cell, read_store, take_end, put_end, discard, clear, branch, loop, in_row}
-use Rattle.leaf_check.specs.declared.fault.CheckCode.TheVariants.{C2, C3}
-use Rattle.leaf_check.specs.declared.sort.Sort.{Sort}
-use Rattle.leaf_check.specs.declared.sort.Sort.TheVariants as sort
-use Rattle.leaf_check.specs.Scopes.{Scope, Block, sort_of, sort_here, declaring, kind_of_sort, number_of, is_free_variable, has_free_cells, is_output, is_input}
-use Rattle.leaf_check.specs.declared.fault.Broken.{Broken}
-use Rattle.leaf_check.specs.Faults.{fault, over, where_so, name_faults}
-use Rattle.leaf_check.specs.Expressions.{Method, reads, peeks, tests_end, writes, opens, closes, method_of, call_faults, kind_of, value_of, wanted, as_kind, binary_kind, operated, operated_kind, faults_of, divides, divisor_faults}
-use Rattle.leaf_check.specs.Counts.{count_of, count_faults}
+use Rattle.expression_check.specs.declared.fault.CheckCode.TheVariants.{C2, C3}
+use Rattle.expression_check.specs.declared.sort.Sort.{Sort}
+use Rattle.expression_check.specs.declared.sort.Sort.TheVariants as sort
+use Rattle.expression_check.specs.Scopes.{Scope, Block, sort_of, sort_here, declaring, kind_of_sort, number_of, is_free_variable, has_free_cells, is_output, is_input}
+use Rattle.expression_check.specs.declared.fault.Broken.{Broken}
+use Rattle.expression_check.specs.Faults.{fault, over, where_so, name_faults, doubled}
+use Rattle.expression_check.specs.Expressions.{Method, reads, peeks, tests_end, writes, opens, closes, method_of, call_faults, kind_of, value_of, wanted, as_kind, binary_kind, operated, operated_kind, faults_of, divides, divisor_faults}
+use Rattle.expression_check.specs.Counts.{count_of, count_faults}
 
 -- What a task has declared where a statement stands: the names in scope, and the kinds of its variables and its arrays so
 -- far, which are numbered in order of declaration.
@@ -38,7 +38,7 @@ pub record Frame : Type 0 where
 
 -- a block begins in a frame
 abbrev pub opened : Frame → Frame
-opened f = record { scope = [] ∷ f.scope; vars = f.vars; arrays = f.arrays }
+opened f = record { scope = f.scope ++ [] ∷ []; vars = f.vars; arrays = f.arrays }
 
 -- behind a block the names are those before it, and numbers go on
 abbrev pub closed : Frame → Frame → Frame
@@ -46,17 +46,13 @@ closed f g = record { scope = f.scope; vars = g.vars; arrays = g.arrays }
 
 -- ---- declarations
 
-abbrev pub is_there : Option Sort → Bool
-is_there None = false
-is_there (Some s) = true
-
--- C2: no name is declared twice in one block (ISO C++ [basic.scope.declarative])
-abbrev pub doubled : Scope → Name → List Broken
-doubled E x = where_so (is_there (sort_here x.text E)) (fault C2 x.place)
-
 -- C11: a task has at most 1,024 variables
 abbrev pub variable_faults : Frame → Name → List Broken
 variable_faults f x = doubled f.scope x ++ where_so (nat_le 1024 (length f.vars)) (over 1024 x.place)
+
+-- one declaration more
+abbrev pub with_name : Name → Sort → Frame → Frame
+with_name x s f = record { scope = declaring x.text s f.scope; vars = f.vars; arrays = f.arrays }
 
 abbrev pub with_variable : Bool → Kind → Name → Frame → Frame
 with_variable free k x f = record { scope = declaring x.text (sort.Variable free k (length f.vars)) f.scope; vars = f.vars ++ k ∷ []; arrays = f.arrays }
@@ -130,66 +126,78 @@ abbrev pub index_faults : Scope → PlaceTree → List Broken
 index_faults E (tree.variable_place x) = []
 index_faults E (tree.element_place x e) = faults_of E false e
 
-abbrev pub place_faults : Scope → PlaceTree → List Broken
-place_faults E p = target_faults E p ++ index_faults E p
-
 abbrev pub is_bool : Kind → Bool
 is_bool kind.Bool = true
 is_bool k = false
 
 -- C3: ++ is not for bool (ISO C++17 [expr.pre.incr])
+abbrev pub changed_faults : Scope → Bool → PlaceTree → List Broken
+changed_faults E increment p = target_faults E p ++ where_so (increment && is_bool (place_kind E p)) (fault C3 (place_name p).place) ++ index_faults E p
+
+abbrev pub place_faults : Scope → PlaceTree → List Broken
+place_faults E p = changed_faults E false p
+
+abbrev pub is_increment : StepOperator → Bool
+is_increment Increment = true
+is_increment Decrement = false
+
 abbrev pub step_faults : Scope → StepOperator → PlaceTree → List Broken
-step_faults E Increment p = target_faults E p ++ where_so (is_bool (place_kind E p)) (fault C3 (place_name p).place) ++ index_faults E p
-step_faults E Decrement p = place_faults E p
+step_faults E step p = changed_faults E (is_increment step) p
 
 -- ---- assignments: of a value of some kind
 
-abbrev pub set_element : Option Sort → FlatExpression → FlatExpression → FlatStatement
-set_element (Some (sort.Memory free k n)) i e = store n i e
-set_element sort i e = set_cell (number_of sort) i e
+-- what is assigned, with its kind and its number, and for a cell of an array or a word of a memory its index
+pub data Target : Type 0 where
+  in_variable : Kind → ℕ → Target
+  in_cell : Kind → ℕ → FlatExpression → Target
+  in_word : Kind → ℕ → FlatExpression → Target
 
-abbrev pub set_place : Scope → PlaceTree → Kind → FlatExpression → FlatStatement
-set_place E (tree.variable_place x) k e = set (number_of (sort_of x.text E)) (as_kind k (kind_of_sort (sort_of x.text E)) e)
-set_place E (tree.element_place x i) k e = set_element (sort_of x.text E) (wanted E kind.U64 i) (as_kind k (kind_of_sort (sort_of x.text E)) e)
+abbrev pub element_target : Option Sort → FlatExpression → Target
+element_target (Some (sort.Memory free k n)) i = in_word k n i
+element_target sort i = in_cell (kind_of_sort sort) (number_of sort) i
 
-abbrev pub change_element : Option Sort → FlatExpression → Op → Kind → FlatExpression → FlatStatement
-change_element (Some (sort.Memory free k n)) i o j e = store_by n i o j e
-change_element sort i o j e = set_cell_by (number_of sort) i o j e
+abbrev pub target_of : Scope → PlaceTree → Target
+target_of E (tree.variable_place x) = in_variable (kind_of_sort (sort_of x.text E)) (number_of (sort_of x.text E))
+target_of E (tree.element_place x i) = element_target (sort_of x.text E) (wanted E kind.U64 i)
+
+abbrev pub set_target : Target → Kind → FlatExpression → FlatStatement
+set_target (in_variable j n) k e = set n (as_kind k j e)
+set_target (in_cell j n i) k e = set_cell n i (as_kind k j e)
+set_target (in_word j n i) k e = store n i (as_kind k j e)
 
 -- x op= e is x = x op e, with the index of x evaluated once
-abbrev pub change_place : Scope → PlaceTree → Op → Kind → FlatExpression → FlatStatement
-change_place E (tree.variable_place x) o k e =
-    set (number_of (sort_of x.text E)) (as_kind (binary_kind (Value o) (kind_of_sort (sort_of x.text E)) k) (kind_of_sort (sort_of x.text E))
-    (operated o (kind_of_sort (sort_of x.text E)) k (variable (number_of (sort_of x.text E))) e))
-change_place E (tree.element_place x i) o k e =
-    change_element (sort_of x.text E) (wanted E kind.U64 i) o (operated_kind o (kind_of_sort (sort_of x.text E)) k)
-    (as_kind k (right_kind o (operated_kind o (kind_of_sort (sort_of x.text E)) k)) e)
+abbrev pub change_target : Target → Op → Kind → FlatExpression → FlatStatement
+change_target (in_variable j n) o k e = set n (as_kind (binary_kind (Value o) j k) j (operated o j k (variable n) e))
+change_target (in_cell j n i) o k e = set_cell_by n i o (operated_kind o j k) (as_kind k (right_kind o (operated_kind o j k)) e)
+change_target (in_word j n i) o k e = store_by n i o (operated_kind o j k) (as_kind k (right_kind o (operated_kind o j k)) e)
 
-abbrev pub assigned : Scope → PlaceTree → AssignmentOperator → ExpressionTree → FlatStatement
-assigned E p Plain e = set_place E p (kind_of E e) (value_of E e)
-assigned E p (Compound o) e = change_place E p o (kind_of E e) (value_of E e)
+abbrev pub read_target : ℕ → Target → FlatStatement
+read_target s (in_variable j n) = read_variable s n
+read_target s (in_cell j n i) = read_cell s n i
+read_target s (in_word j n i) = read_store s n i
+
+abbrev pub assigned : Target → AssignmentOperator → Kind → FlatExpression → FlatStatement
+assigned t Plain k e = set_target t k e
+assigned t (Compound o) k e = change_target t o k e
 
 abbrev pub step_op : StepOperator → Op
 step_op Increment = op.Add
 step_op Decrement = op.Sub
 
+abbrev pub kind_of_target : Target → Kind
+kind_of_target (in_variable k n) = k
+kind_of_target (in_cell k n i) = k
+kind_of_target (in_word k n i) = k
+
 -- ++x is x = x + 1 with a 1 of the promoted kind
-abbrev pub stepped : Scope → StepOperator → PlaceTree → FlatStatement
-stepped E step p = change_place E p (step_op step) (promoted (place_kind E p)) (literal (promoted (place_kind E p)) 1)
+abbrev pub stepped : Target → StepOperator → FlatStatement
+stepped t step = change_target t (step_op step) (promoted (kind_of_target t)) (literal (promoted (kind_of_target t)) 1)
 
 abbrev pub assignment_divides : AssignmentOperator → Bool
 assignment_divides Plain = false
 assignment_divides (Compound o) = divides (Value o)
 
 -- ---- actions
-
-abbrev pub read_element : ℕ → Option Sort → FlatExpression → FlatStatement
-read_element s (Some (sort.Memory free k n)) i = read_store s n i
-read_element s sort i = read_cell s (number_of sort) i
-
-abbrev pub read_into : Scope → ℕ → PlaceTree → FlatStatement
-read_into E s (tree.variable_place x) = read_variable s (number_of (sort_of x.text E))
-read_into E s (tree.element_place x i) = read_element s (sort_of x.text E) (wanted E kind.U64 i)
 
 -- the value that a method is given
 abbrev pub given_faults : Scope → Option Method → List Broken
@@ -215,10 +223,10 @@ action_faults E (tree.prefix_step step at p) = step_faults E step p
 abbrev pub action_code : Scope → ActionTree → List FlatStatement
 action_code E (tree.call_action s m es) = called E (kind_of_sort (sort_of s.text E)) (number_of (sort_of s.text E)) (method_of m.text es) ∷ []
 action_code E (tree.write s es) = map (λ e. flat.write (number_of (sort_of s.text E)) (wanted E (kind_of_sort (sort_of s.text E)) e)) es
-action_code E (tree.read s places) = map (read_into E (number_of (sort_of s.text E))) places
-action_code E (tree.assign p o at e) = assigned E p o e ∷ []
-action_code E (tree.postfix p step at) = stepped E step p ∷ []
-action_code E (tree.prefix_step step at p) = stepped E step p ∷ []
+action_code E (tree.read s places) = map (λ p. read_target (number_of (sort_of s.text E)) (target_of E p)) places
+action_code E (tree.assign p o at e) = assigned (target_of E p) o (kind_of E e) (value_of E e) ∷ []
+action_code E (tree.postfix p step at) = stepped (target_of E p) step ∷ []
+action_code E (tree.prefix_step step at p) = stepped (target_of E p) step ∷ []
 
 -- ---- loops
 

@@ -1,8 +1,16 @@
 //! The rules of leaf tasks, and what a legal one is in the flat program.
 #![tactic(auto)]
 
-mod fault;
-mod sort;
+mod action;
+mod call;
+mod declaration;
+mod frame;
+mod leaf;
+mod places;
+mod statement;
+mod target;
 
-pub use fault::{Broken, CheckCode, CheckFault};
-pub use sort::Sort;
+pub use expression_check::{
+    Broken, CheckCode, CheckFault, FileNames, Sort, check_constant, check_count,
+};
+pub use leaf::check_leaf;

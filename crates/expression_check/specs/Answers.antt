@@ -1,8 +1,8 @@
 -- What a check answers.
 use Rattle.std.specs.Prelude.{◌≡◌, List, [], ◌∷◌, Result, Ok, Err}
-use Rattle.leaf_check.specs.declared.fault.Broken.{Broken}
-use Rattle.leaf_check.specs.declared.fault.CheckFault.{CheckFault}
-use Rattle.leaf_check.specs.declared.fault.CheckFault.TheVariants.{At, OutOfMemory}
+use Rattle.expression_check.specs.declared.fault.Broken.{Broken}
+use Rattle.expression_check.specs.declared.fault.CheckFault.{CheckFault}
+use Rattle.expression_check.specs.declared.fault.CheckFault.TheVariants.{At, OutOfMemory}
 
 abbrev pub IsFirst : List Broken → Broken → Type 0
 IsFirst [] b = ⊥

@@ -1,13 +1,12 @@
 -- Depths of streams and sizes of arrays: constant expressions within limits.
-use Rattle.std.specs.Prelude.{ℕ, ◌%◌, List, [], ◌++◌, Bool, not, ◌&&◌, nat_le, ℤ, pos, negsuc}
-use Rattle.tapa_base.specs.declared.kind.Kind.{Kind}
+use Rattle.std.specs.Prelude.{ℕ, ◌%◌, List, [], ◌++◌, not, ◌&&◌, nat_le, ℤ, pos, negsuc}
 use Rattle.tapa_base.specs.Kinds.{number, values_of}
 use Rattle.tapa_syntax.specs.Trees as tree
 use Rattle.tapa_syntax.specs.Trees.{CountForm, CountTree}
-use Rattle.leaf_check.specs.Scopes.{Scope, sort_of, is_constant, kind_of_sort}
-use Rattle.leaf_check.specs.declared.fault.Broken.{Broken}
-use Rattle.leaf_check.specs.Faults.{where_so, over, name_faults}
-use Rattle.leaf_check.specs.Expressions.{kind_of, value_of, named_value, constant_value, constant_faults}
+use Rattle.expression_check.specs.Scopes.{Scope, sort_of, is_constant, kind_of_sort}
+use Rattle.expression_check.specs.declared.fault.Broken.{Broken}
+use Rattle.expression_check.specs.Faults.{where_so, over, name_faults}
+use Rattle.expression_check.specs.Expressions.{kind_of, value_of, named_value, constant_value, constant_faults}
 
 abbrev pub form_faults : Scope → CountForm → List Broken
 form_faults E (tree.literal_count k n) = []

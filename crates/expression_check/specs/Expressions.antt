@@ -1,6 +1,6 @@
 -- The rules of expressions, and what an expression means: its kind and its flat form with every conversion written out
 -- (ISO C++ [conv.prom], [expr.arith.conv], [expr]).
-use Rattle.std.specs.Prelude.{ℕ, ◌-◌, ◌^◌, ◌%◌, List, [], ◌∷◌, ◌++◌, Bool, true, false, not, ◌&&◌, ◌||◌, Option, Some, None, codes, bytes_eq, if◌then◌else◌, nat_lt}
+use Rattle.std.specs.Prelude.{ℕ, ◌-◌, ◌*◌, ◌^◌, ◌%◌, ◌==◌, List, [], ◌∷◌, ◌++◌, Bool, true, false, not, ◌&&◌, ◌||◌, Option, Some, None, codes, bytes_eq, if◌then◌else◌, nat_lt}
 use Rattle.tapa_base.specs.declared.kind.Kind.{Kind}
 use Rattle.tapa_base.specs.declared.kind.Kind.TheVariants as kind
 use Rattle.tapa_base.specs.declared.op.Op.{Op}
@@ -15,15 +15,17 @@ use Rattle.tapa_syntax.specs.declared.tree.BinaryOperator.{BinaryOperator}
 use Rattle.tapa_syntax.specs.declared.tree.BinaryOperator.TheVariants.{Value, LogicalAnd, LogicalOr}
 use Rattle.tapa_syntax.specs.Trees as tree
 use Rattle.tapa_syntax.specs.Trees.{ExpressionTree, Expressions}
-use Rattle.tapa_syntax.specs.Flat.{FlatExpression, literal, variable, cell, read, peek, is_end, load, convert, apply, flip, negation, conjunction, disjunction, choice}
-use Rattle.leaf_check.specs.declared.fault.CheckCode.TheVariants.{C1, C3, C6, C8, C9}
-use Rattle.leaf_check.specs.declared.sort.Sort.{Sort}
-use Rattle.leaf_check.specs.declared.sort.Sort.TheVariants as sort
-use Rattle.leaf_check.specs.Scopes.{Scope, sort_of, kind_of_sort, number_of, is_scalar, is_memory, has_cells, is_stream}
-use Rattle.leaf_check.specs.Scopes as scope
-use Rattle.leaf_check.specs.declared.fault.Broken.{Broken}
-use Rattle.leaf_check.specs.Kinds.{same_kind}
-use Rattle.leaf_check.specs.Faults.{fault, where_so, wrong_sort, name_faults}
+use Rattle.tapa_syntax.specs.Flat.{FlatExpression, flat_expression, literal, variable, cell, read, peek, is_end, load, convert, apply, flip, negation, conjunction, disjunction, choice}
+use Rattle.expression_check.specs.declared.fault.CheckCode.TheVariants.{C3, C6, C8, C9}
+use Rattle.expression_check.specs.declared.sort.Sort.{Sort}
+use Rattle.expression_check.specs.declared.sort.Sort.TheVariants as sort
+use Rattle.expression_check.specs.Scopes.{Scope, sort_of, kind_of_sort, number_of, is_scalar, is_memory, has_cells, is_stream}
+use Rattle.expression_check.specs.Scopes as scope
+use Rattle.expression_check.specs.declared.fault.Broken.{Broken}
+use Rattle.expression_check.specs.declared.typed.Typed.{Typed}
+use Rattle.expression_check.specs.declared.constant.Constant.{Constant}
+use Rattle.expression_check.specs.Kinds.{same_kind}
+use Rattle.expression_check.specs.Faults.{fault, where_so, wrong_sort, name_faults}
 
 -- ---- methods of streams (TAPA: istream and ostream)
 
@@ -199,7 +201,23 @@ value_of E (tree.conditional at c a b) =
 abbrev pub wanted : Scope → Kind → ExpressionTree → FlatExpression
 wanted E k e = as_kind (kind_of E e) k (value_of E e)
 
--- ---- constant expressions: literals, constants of the file, operators and casts
+-- the flat form of an expression, and its kind
+pub record Meaning : Type 0 where
+  pub value : FlatExpression
+  pub kind : Kind
+
+abbrev pub meaning_of : Scope → ExpressionTree → Meaning
+meaning_of E e = record { value = value_of E e; kind = kind_of E e }
+
+abbrev pub typed : Typed → Meaning
+typed t = record { value = flat_expression t.value; kind = t.kind }
+
+-- a call of a stream's method as an operand
+abbrev pub operand : Option Sort → Option Method → Meaning
+operand sort method = record { value = called_value (number_of sort) method; kind = call_kind (kind_of_sort sort) method }
+
+-- ---- constant expressions: literals, constants of the file, operators and casts (nullptr is a literal too, [lex.nullptr],
+-- and stands only as an argument of a method)
 
 -- a name in it is that of a constant
 abbrev pub is_constant_name : Option Sort → Bool
@@ -212,7 +230,7 @@ is_constant E (tree.boolean b) = true
 is_constant E (tree.variable x) = is_constant_name (sort_of x.text E)
 is_constant E (tree.element x e) = false
 is_constant E (tree.call s m es) = false
-is_constant E tree.nullptr = false
+is_constant E tree.nullptr = true
 is_constant E (tree.construct k e) = is_constant E e
 is_constant E (tree.static_cast k e) = is_constant E e
 is_constant E (tree.cast k e) = is_constant E e
@@ -228,10 +246,14 @@ constant_value (convert from to e) = converted from to (constant_value e)
 constant_value (apply o k a b) = applied o k (constant_value a) (constant_value b)
 constant_value (flip k e) = 2 ^ bits_of k - 1 - constant_value e
 constant_value (negation e) = 1 - constant_value e
-constant_value (conjunction a b) = bit (nat_lt 0 (constant_value a) && nat_lt 0 (constant_value b))
-constant_value (disjunction a b) = bit (nat_lt 0 (constant_value a) || nat_lt 0 (constant_value b))
-constant_value (choice c a b) = if nat_lt 0 (constant_value c) then constant_value a else constant_value b
+constant_value (conjunction a b) = constant_value a * constant_value b
+constant_value (disjunction a b) = 1 - (1 - constant_value a) * (1 - constant_value b)
+constant_value (choice c a b) = if constant_value c == 0 then constant_value b else constant_value a
 constant_value e = 0
+
+-- the value of a constant expression, and its kind
+abbrev pub constant_of : Scope → ExpressionTree → Option Constant
+constant_of E e = if is_constant E e then Some (record { kind = kind_of E e; value = constant_value (value_of E e) }) else None
 
 -- ---- the rules
 
@@ -251,6 +273,10 @@ is_logical (Value o) = false
 is_logical LogicalAnd = true
 is_logical LogicalOr = true
 
+-- the faults of a call as an operand
+abbrev pub operand_faults : Option Sort → Bool → Option Method → Name → Name → List Broken
+operand_faults sort c method s m = call_faults sort method s m ++ no_value method m ++ where_so c (fault C8 m.place)
+
 -- The faults of an expression in the order of the text. In a conditional place, which is the right operand of && or ||
 -- or an arm of ?:, no operation on a stream or memory stands (C8): C++ would make it only where the operand is evaluated.
 abbrev pub faults_of : Scope → Bool → ExpressionTree → List Broken
@@ -258,7 +284,7 @@ faults_of E c (tree.literal k n) = []
 faults_of E c (tree.boolean b) = []
 faults_of E c (tree.variable x) = name_faults E is_scalar x
 faults_of E c (tree.element x e) = name_faults E has_cells x ++ where_so (c && is_memory (sort_of x.text E)) (fault C8 x.place) ++ faults_of E c e
-faults_of E c (tree.call s m es) = call_faults (sort_of s.text E) (method_of m.text (listed es)) s m ++ no_value (method_of m.text (listed es)) m ++ where_so c (fault C8 m.place)
+faults_of E c (tree.call s m es) = operand_faults (sort_of s.text E) c (method_of m.text (listed es)) s m
 faults_of E c tree.nullptr = []
 faults_of E c (tree.construct k e) = faults_of E c e
 faults_of E c (tree.static_cast k e) = faults_of E c e

@@ -1,9 +1,10 @@
 -- The names that are in scope at a place of a source (ISO C++ [basic.scope.block], [basic.lookup.unqual]).
-use Rattle.std.specs.Prelude.{ℕ, List, [], ◌∷◌, ◌++◌, Bool, true, false, Option, Some, None, bytes_eq, if◌then◌else◌}
+use Rattle.std.specs.Prelude.{ℕ, ◌<◌, List, [], ◌∷◌, ◌++◌, Bool, true, false, Option, Some, None, bytes_eq, if◌then◌else◌}
 use Rattle.tapa_base.specs.declared.kind.Kind.{Kind}
 use Rattle.tapa_base.specs.declared.kind.Kind.TheVariants.{U64}
-use Rattle.leaf_check.specs.declared.sort.Sort.{Sort}
-use Rattle.leaf_check.specs.declared.sort.Sort.TheVariants.{Constant, Variable, Array, Memory, Stream, Channel, Task}
+use Rattle.tapa_base.specs.Kinds.{values_of}
+use Rattle.expression_check.specs.declared.sort.Sort.{Sort}
+use Rattle.expression_check.specs.declared.sort.Sort.TheVariants.{Constant, Variable, Array, Memory, Stream, Channel, Task}
 
 -- the declarations of a block, in order
 abbrev pub Block : Type 0
@@ -104,3 +105,12 @@ abbrev pub is_input : Sort → Bool
 is_input (Stream true k n) = false
 is_input (Stream false k n) = true
 is_input _ = false
+
+-- the value of a constant is one of its kind
+abbrev pub IsSound : Sort → Type 0
+IsSound (Constant k n) = n < values_of k
+IsSound _ = Unit {0}
+
+abbrev pub AreSound : Block → Type 0
+AreSound [] = Unit {0}
+AreSound (d ∷ rest) = IsSound d.1 × AreSound rest
