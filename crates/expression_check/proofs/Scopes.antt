@@ -1,5 +1,5 @@
 -- Blocks and the names in them.
-use Rattle.std.proofs.Common.{◌≡◌, ℕ, suc, ◌-◌, ◌+◌, ◌<◌, List, [], ◌∷◌, ◌++◌, length, get_or, Bool, true, false, Some, None, refl, sym, ap, ◌∙◌, arith}
+use Rattle.std.proofs.Common.{◌≡◌, ℕ, zero, suc, ◌-◌, ◌+◌, ◌<◌, List, [], ◌∷◌, ◌++◌, length, get_or, slice_set, Bool, true, false, Some, None, refl, sym, ap, ◌∙◌, arith}
 use Rattle.std.specs.Prelude.{Option, IfSome, bytes_eq, ◌==◌, if◌then◌else◌}
 use Rattle.std.proofs.lemmas.Bool.{eqb-false}
 use Rattle.expression_check.specs.declared.sort.Sort.{Sort}
@@ -30,6 +30,17 @@ pub declaring-last : (x : List ℕ) (s : Sort) (E : Scope) (b : Block) → decla
 declaring-last x s [] b = refl
 declaring-last x s (a ∷ []) b = refl
 declaring-last x s (a ∷ c ∷ rest) b = ap (λ E. a ∷ E) (declaring-last x s (c ∷ rest) b)
+
+pub declaring-set : (x : List ℕ) (s : Sort) (E : Scope) (n : ℕ) (b : Block) → n + 1 ≡ length E → b ≡ get_or E n b → declaring x s E ≡ slice_set E n (b ++ (x, s) ∷ [])
+declaring-set x s [] n b h k = absurd (omega arith)
+declaring-set x s (c ∷ []) zero b h k = ap (λ e. (e ++ (x, s) ∷ []) ∷ []) (sym k)
+declaring-set x s (c ∷ []) (suc n) b h k = absurd (omega arith)
+declaring-set x s (c ∷ d ∷ rest) zero b h k = absurd (omega arith)
+declaring-set x s (c ∷ d ∷ rest) (suc n) b h k = ap (λ E. c ∷ E) (declaring-set x s (d ∷ rest) n b (omega arith) k)
+
+pub declaring-below : (x : List ℕ) (s : Sort) (a : Block) (E : Scope) → 0 < length E → declaring x s (a ∷ E) ≡ a ∷ declaring x s E
+declaring-below x s a [] h = absurd (omega arith)
+declaring-below x s a (c ∷ rest) h = refl
 
 pub here-last : (x : List ℕ) (a : Block) (E : Scope) (b : Block) (n : ℕ) → n + 1 ≡ length E → b ≡ get_or E n b → sort_here x (a ∷ E) ≡ in_block x b
 here-last x a [] b n h k = absurd (omega arith)

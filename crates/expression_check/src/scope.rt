@@ -1,4 +1,4 @@
-ghost use Rattle.std.specs.Prelude.{◌≡◌, ◌<◌, ◌∷◌, ◌++◌, [], IfSome, IfOk, Some, length};
+ghost use Rattle.std.specs.Prelude.{◌≡◌, ◌<◌, ◌≤◌, ◌+◌, ◌∷◌, ◌++◌, [], IfSome, IfOk, Some, length};
 ghost use Rattle.expression_check.specs.Answers.{Answers};
 ghost use Rattle.expression_check.specs.Faults as faults;
 ghost use Rattle.expression_check.specs.Roles.{fits};
@@ -44,7 +44,8 @@ impl<'a> Scope<'a> {
 
     /// A block begins.
     pub fn enter(&mut self, alloc: Global) -> Result<(), CheckFault>
-        ensures { Answers (λ x. self.new) result [] (self.old ++ [] ∷ []) }
+        ensures count { length self.old ≤ length self.new }
+        ensures value { Answers (λ x. self.new) result [] (self.old ++ [] ∷ []) }
     {
         self.blocks.push(Names::new(alloc))?;
         Ok(())
@@ -52,7 +53,8 @@ impl<'a> Scope<'a> {
 
     /// The innermost block ends.
     pub fn leave(&mut self)
-        ensures { (E : Blocks) (b : Block) → 0 < length E → self.old ≡ E ++ b ∷ [] → self.new ≡ E }
+        ensures count { length self.old ≤ length self.new + 1 }
+        ensures value { (E : Blocks) (b : Block) → 0 < length E → self.old ≡ E ++ b ∷ [] → self.new ≡ E }
     {
         let Some(_innermost) = self.blocks.pop() else {
             return;
@@ -103,15 +105,28 @@ impl<'a> Scope<'a> {
     pub fn declare(&mut self, alloc: Global, name: &Text, sort: Sort) -> Result<(), CheckFault>
         requires some { 1 < length self.old }
         requires sound { IsSound sort }
-        ensures { Answers (λ x. self.new) result [] (scope.declaring name.now sort self.old) }
+        ensures count { length self.new ≡ length self.old }
+        ensures value { Answers (λ x. self.new) result [] (scope.declaring name.now sort self.old) }
     {
-        let Some(mut block) = self.blocks.pop() else {
-            return Ok(());
-        };
-        block.declare(alloc, name, sort)?;
-        self.blocks.push(block)?;
-        Ok(())
+        declare_in_last(alloc, &mut self.blocks, name, sort)
     }
+}
+
+fn declare_in_last(
+    alloc: Global,
+    blocks: &mut [Names],
+    name: &Text,
+    sort: Sort,
+) -> Result<(), CheckFault>
+    requires some { 0 < length blocks.old }
+    requires sound { IsSound sort }
+    ensures count { length blocks.new ≡ length blocks.old }
+    ensures value { Answers (λ x. blocks.new) result [] (scope.declaring name.now sort blocks.old) }
+{
+    let last = blocks.len() - 1;
+    let block = &mut blocks[last];
+    block.declare(alloc, name, sort)?;
+    Ok(())
 }
 
 fn innermost(blocks: &[Names], name: &Text) -> Option<Sort>

@@ -26,15 +26,21 @@ pub record Head : Type 0 where
 
 abbrev pub with_stream : Bool → Kind → Name → Head → Head
 with_stream writes k x h =
-    record { frame = with_name x (sort.Stream writes k (length h.streams)) h.frame; streams = h.streams ++ record { kind = k; writes = writes } ∷ []; memories = h.memories; scalars = h.scalars }
+    record { frame = with_name x.text (sort.Stream writes k (length h.streams)) h.frame; streams = h.streams ++ record { kind = k; writes = writes } ∷ []; memories = h.memories; scalars = h.scalars }
+
+abbrev pub with_memory : Bool → Kind → Name → Head → Head
+with_memory free k x h =
+    record { frame = with_name x.text (sort.Memory free k (length h.memories)) h.frame; streams = h.streams; memories = h.memories ++ k ∷ []; scalars = h.scalars }
+
+abbrev pub with_scalar : Bool → Kind → Name → Head → Head
+with_scalar free k x h =
+    record { frame = with_variable free k x h.frame; streams = h.streams; memories = h.memories; scalars = h.scalars ++ length h.frame.vars ∷ [] }
 
 abbrev pub after_parameter : Head → Parameter → Head
 after_parameter h (InputStream k x) = with_stream false k x h
 after_parameter h (OutputStream k x) = with_stream true k x h
-after_parameter h (Memory constant k x) =
-    record { frame = with_name x (sort.Memory (not constant) k (length h.memories)) h.frame; streams = h.streams; memories = h.memories ++ k ∷ []; scalars = h.scalars }
-after_parameter h (Scalar constant k x) =
-    record { frame = with_variable (not constant) k x h.frame; streams = h.streams; memories = h.memories; scalars = h.scalars ++ length h.frame.vars ∷ [] }
+after_parameter h (Memory constant k x) = with_memory (not constant) k x h
+after_parameter h (Scalar constant k x) = with_scalar (not constant) k x h
 
 abbrev pub parameter_faults : Head → Parameter → List Broken
 parameter_faults h (InputStream k x) = doubled h.frame.scope x
@@ -112,16 +118,24 @@ leaf_faults file t ss =
     ++ statements_faults false (after_parameters (task_begins file) t.parameters).frame ss
     ++ size_faults (codes_of (after_parameters (task_begins file) t.parameters).frame ss) t.end
 
-abbrev pub leaf_with : List ℕ → Head → Statements → FlatLeaf
-leaf_with name h ss = record {
+-- the leaf of parameters and variables, and its code
+abbrev pub leaf_made : List ℕ → Head → List FlatStatement → FlatLeaf
+leaf_made name h code = record {
   name = name;
   scalars = h.scalars;
   streams = h.streams;
   memories = h.memories;
-  vars = (after_all h.frame ss).vars;
-  arrays = (after_all h.frame ss).arrays;
-  code = codes_of h.frame ss;
+  vars = h.frame.vars;
+  arrays = h.frame.arrays;
+  code = code;
 }
+
+-- behind the statements
+abbrev pub ended : Head → Statements → Head
+ended h ss = record { frame = after_all h.frame ss; streams = h.streams; memories = h.memories; scalars = h.scalars }
+
+abbrev pub leaf_with : List ℕ → Head → Statements → FlatLeaf
+leaf_with name h ss = leaf_made name (ended h ss) (codes_of h.frame ss)
 
 abbrev pub leaf_of : Block → TaskTree → Statements → FlatLeaf
 leaf_of file t ss = leaf_with t.name.text (after_parameters (task_begins file) t.parameters) ss

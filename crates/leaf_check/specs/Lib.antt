@@ -1,3 +1,4 @@
 pub mod Statements
 pub mod Leaves
 pub mod Views
+pub mod Heads

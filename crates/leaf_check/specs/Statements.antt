@@ -51,8 +51,8 @@ abbrev pub variable_faults : Frame → Name → List Broken
 variable_faults f x = doubled f.scope x ++ where_so (nat_le 1024 (length f.vars)) (over 1024 x.place)
 
 -- one declaration more
-abbrev pub with_name : Name → Sort → Frame → Frame
-with_name x s f = record { scope = declaring x.text s f.scope; vars = f.vars; arrays = f.arrays }
+abbrev pub with_name : List ℕ → Sort → Frame → Frame
+with_name x s f = record { scope = declaring x s f.scope; vars = f.vars; arrays = f.arrays }
 
 abbrev pub with_variable : Bool → Kind → Name → Frame → Frame
 with_variable free k x f = record { scope = declaring x.text (sort.Variable free k (length f.vars)) f.scope; vars = f.vars ++ k ∷ []; arrays = f.arrays }
@@ -300,7 +300,7 @@ abbrev mutual
   statement_faults l f (tree.declare d) = declaration_faults f d
   statement_faults l f (tree.act a) = action_faults f.scope a
   statement_faults l f (tree.if_only c s) = faults_of f.scope false c ++ statement_faults l (opened f) s
-  statement_faults l f (tree.if_else c s t) = faults_of f.scope false c ++ statement_faults l (opened f) s ++ statement_faults l (opened (closed f (after (opened f) s))) t
+  statement_faults l f (tree.if_else c s t) = faults_of f.scope false c ++ (statement_faults l (opened f) s ++ statement_faults l (opened (closed f (after (opened f) s))) t)
   statement_faults l f (tree.while c s) = faults_of f.scope false c ++ statement_faults true (opened f) s
   statement_faults l f (tree.for head s) = head_faults f head ++ statement_faults true (opened (in_head f head)) s
   statement_faults l f (tree.while_not_eot stream s) = name_faults f.scope is_input stream ++ statement_faults true (opened f) s
@@ -331,3 +331,14 @@ abbrev mutual
   pub codes_of : Frame → Statements → List FlatStatement
   codes_of f tree.no_statement = []
   codes_of f (tree.statement_then s ss) = code_of f s ++ codes_of (after f s) ss
+
+-- ---- the two arms of a choice
+
+abbrev pub arms_faults : Bool → Frame → StatementTree → StatementTree → List Broken
+arms_faults l f s t = statement_faults l (opened f) s ++ statement_faults l (opened (closed f (after (opened f) s))) t
+
+abbrev pub after_arms : Frame → StatementTree → StatementTree → Frame
+after_arms f s t = closed f (after (opened (closed f (after (opened f) s))) t)
+
+abbrev pub arms_code : Frame → FlatExpression → StatementTree → StatementTree → List FlatStatement
+arms_code f e s t = branch e (in_row (code_of (opened f) s)) (in_row (code_of (opened (closed f (after (opened f) s))) t)) ∷ []

@@ -19,8 +19,7 @@ fn variable(
     value: Expr,
     code: &mut Vec<Stmt>,
 ) -> Result<(), CheckFault>
-    requires some { 1 < length frame.old.scope }
-    requires room { length frame.old.vars < 1024 }
+    requires { length frame.old.vars < 1024 }
     ensures { Adds result frame.new code.old.items code.new.items [] (task.with_variable free kind name.now frame.old) (flat.set (length frame.old.vars) (flat_expression value) ∷ []) }
 {
     let number = frame.add_variable(free, kind, name)?;
@@ -37,7 +36,6 @@ fn array(
     count: &Count,
     code: &mut Vec<Stmt>,
 ) -> Result<(), CheckFault>
-    requires some { 1 < length frame.old.scope }
     ensures { Adds result frame.new code.old.items code.new.items (task.declarator_faults frame.old (tree.array name.now (tree.count_of count.now))) (task.after_declarator free kind frame.old (tree.array name.now (tree.count_of count.now))) (flat.clear (length frame.old.arrays) ∷ []) }
 {
     frame.scope().check_new(name)?;
@@ -55,7 +53,6 @@ fn declarator(
     declarator: &Declarator,
     code: &mut Vec<Stmt>,
 ) -> Result<(), CheckFault>
-    requires some { 1 < length frame.old.scope }
     ensures { Adds result frame.new code.old.items code.new.items (task.declarator_faults frame.old (tree.declarator_of declarator.now)) (task.after_declarator free kind frame.old (tree.declarator_of declarator.now)) (task.declarator_code kind frame.old (tree.declarator_of declarator.now) ∷ []) }
 {
     match declarator {
@@ -72,17 +69,34 @@ fn declarator(
     }
 }
 
+fn declarators(
+    frame: &mut Frame,
+    free: bool,
+    kind: Kind,
+    names: &[Declarator],
+    code: &mut Vec<Stmt>,
+) -> Result<(), CheckFault>
+    ensures { Adds result frame.new code.old.items code.new.items (task.declarators_faults free kind frame.old (map tree.declarator_of names.now)) (task.after_declarators free kind frame.old (map tree.declarator_of names.now)) (task.declarators_code free kind frame.old (map tree.declarator_of names.now)) }
+{
+    for name in names {
+        declarator(frame, free, kind, name, code)?;
+    }
+    Ok(())
+}
+
 /// A declaration.
 pub(crate) fn declaration(
     frame: &mut Frame,
     declared: &Declaration,
     code: &mut Vec<Stmt>,
 ) -> Result<(), CheckFault>
-    requires some { 1 < length frame.old.scope }
     ensures { Adds result frame.new code.old.items code.new.items (task.declaration_faults frame.old (tree.declaration_of declared.now)) (task.after_declaration frame.old (tree.declaration_of declared.now)) (task.declaration_code frame.old (tree.declaration_of declared.now)) }
 {
-    for one in &declared.names {
-        declarator(frame, !declared.constant, declared.kind, one, code)?;
-    }
-    Ok(())
+    declarators(
+        frame,
+        !declared.constant,
+        declared.kind,
+        &declared.names,
+        code,
+    )
 }

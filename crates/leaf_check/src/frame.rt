@@ -3,6 +3,7 @@ ghost use Rattle.expression_check.specs.Answers.{Answers};
 ghost use Rattle.expression_check.specs.Faults.{doubled};
 ghost use Rattle.expression_check.specs.Scopes.{Block, Scope as Blocks, IsSound, declaring};
 ghost use Rattle.leaf_check.specs.Statements as task;
+ghost use Rattle.leaf_check.specs.Views.{Numbered};
 
 use expression_check::{CheckFault, FileNames, Scope, Sort, over};
 use std::alloc::Global;
@@ -35,7 +36,7 @@ impl<'a> Model for Frame<'a> {
 
     ghost view = { λ f. record { scope = f.scope; vars = f.vars.items; arrays = f.arrays.items } };
 
-    ghost invariant = { λ f. (f.cells ≡ all_cells f.arrays.items) × (length f.arrays.items ≤ f.cells) × (f.cells ≤ 65536) };
+    ghost invariant = { λ f. (1 < length f.scope) × (f.cells ≡ all_cells f.arrays.items) × (length f.arrays.items ≤ f.cells) × (f.cells ≤ 65536) };
 }
 
 impl<'a> Frame<'a> {
@@ -76,22 +77,23 @@ impl<'a> Frame<'a> {
 
     /// A block begins.
     pub(crate) fn enter(&mut self) -> Result<(), CheckFault>
-        ensures { Answers (λ x. self.new) result [] (task.opened self.old) }
+        ensures deep { IfOk result (λ x. 2 < length self.new.scope) }
+        ensures value { Answers (λ x. self.new) result [] (task.opened self.old) }
     {
         self.scope.enter(self.alloc)
     }
 
     /// A block ends.
     pub(crate) fn leave(&mut self)
-        ensures { (E : Blocks) (b : Block) → 0 < length E → self.old.scope ≡ E ++ b ∷ [] → self.new ≡ record { scope = E; vars = self.old.vars; arrays = self.old.arrays } }
+        requires { 2 < length self.old.scope }
+        ensures { (E : Blocks) (b : Block) → self.old.scope ≡ E ++ b ∷ [] → self.new ≡ record { scope = E; vars = self.old.vars; arrays = self.old.arrays } }
     {
         self.scope.leave();
     }
 
     /// One declaration more, which is no variable and no array.
     pub(crate) fn declare(&mut self, name: &Text, sort: Sort) -> Result<(), CheckFault>
-        requires some { 1 < length self.old.scope }
-        requires sound { IsSound sort }
+        requires { IsSound sort }
         ensures { Answers (λ x. self.new) result [] (task.with_name name.now sort self.old) }
     {
         self.scope.declare(self.alloc, name, sort)
@@ -116,9 +118,8 @@ impl<'a> Frame<'a> {
         kind: Kind,
         name: &Name,
     ) -> Result<u32, CheckFault>
-        requires some { 1 < length self.old.scope }
-        requires room { length self.old.vars < 1024 }
-        ensures { Answers (λ n. (n, self.new)) result [] (length self.old.vars, task.with_variable free kind name.now self.old) }
+        requires { length self.old.vars < 1024 }
+        ensures { Answers {B = Numbered} (λ n. (n, self.new)) result [] (length self.old.vars, task.with_variable free kind name.now self.old) }
     {
         let number = self.vars.len() as u32;
         let sort = Sort::Variable { free, kind, number };
@@ -147,10 +148,9 @@ impl<'a> Frame<'a> {
         name: &Name,
         cells: u32,
     ) -> Result<u32, CheckFault>
-        requires some { 1 < length self.old.scope }
         requires cells { 1 ≤ cells }
         requires room { task.all_cells self.old.arrays + cells ≤ 65536 }
-        ensures { Answers (λ n. (n, self.new)) result [] (length self.old.arrays, task.with_array free kind name.now cells self.old) }
+        ensures { Answers {B = Numbered} (λ n. (n, self.new)) result [] (length self.old.arrays, task.with_array free kind name.now cells self.old) }
     {
         let number = self.arrays.len() as u32;
         let sort = Sort::Array { free, kind, number };
