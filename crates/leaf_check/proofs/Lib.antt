@@ -1,0 +1,5 @@
+pub mod Blocks
+pub mod Order
+pub mod Pushed
+pub mod Rows
+pub mod Sums

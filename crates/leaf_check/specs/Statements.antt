@@ -331,14 +331,3 @@ abbrev mutual
   pub codes_of : Frame → Statements → List FlatStatement
   codes_of f tree.no_statement = []
   codes_of f (tree.statement_then s ss) = code_of f s ++ codes_of (after f s) ss
-
--- ---- the two arms of a choice
-
-abbrev pub arms_faults : Bool → Frame → StatementTree → StatementTree → List Broken
-arms_faults l f s t = statement_faults l (opened f) s ++ statement_faults l (opened (closed f (after (opened f) s))) t
-
-abbrev pub after_arms : Frame → StatementTree → StatementTree → Frame
-after_arms f s t = closed f (after (opened (closed f (after (opened f) s))) t)
-
-abbrev pub arms_code : Frame → FlatExpression → StatementTree → StatementTree → List FlatStatement
-arms_code f e s t = branch e (in_row (code_of (opened f) s)) (in_row (code_of (opened (closed f (after (opened f) s))) t)) ∷ []

@@ -17,9 +17,7 @@ use expression_check::{
 };
 use std::alloc::Global;
 use tapa_base::{Kind, Op, Place};
-use tapa_syntax::{
-    Action, AssignmentOperator, Expression, PlaceExpression, StepOperator, Stmt,
-};
+use tapa_syntax::{Action, AssignmentOperator, Expression, PlaceExpression, StepOperator, Stmt};
 
 /// Values that are written, in order.
 fn written(
@@ -129,7 +127,14 @@ pub(crate) fn action(
         }
         Action::Write(stream, values) => {
             let sort = scope.named(Role::Output, stream)?;
-            written(alloc, scope, sort_kind(sort), sort_number(sort), values, code)
+            written(
+                alloc,
+                scope,
+                sort_kind(sort),
+                sort_number(sort),
+                values,
+                code,
+            )
         }
         Action::Read(stream, places) => {
             let sort = scope.named(Role::Input, stream)?;
@@ -140,8 +145,19 @@ pub(crate) fn action(
             operator,
             place,
             value,
-        } => push(assignment(alloc, scope, target, *operator, *place, value), code),
-        Action::Postfix { target, step: operator, .. } => push(step(alloc, scope, *operator, target), code),
-        Action::Prefix { step: operator, target, .. } => push(step(alloc, scope, *operator, target), code),
+        } => push(
+            assignment(alloc, scope, target, *operator, *place, value),
+            code,
+        ),
+        Action::Postfix {
+            target,
+            step: operator,
+            ..
+        } => push(step(alloc, scope, *operator, target), code),
+        Action::Prefix {
+            step: operator,
+            target,
+            ..
+        } => push(step(alloc, scope, *operator, target), code),
     }
 }

@@ -1,4 +1,4 @@
-ghost use Rattle.std.specs.Prelude.{◌≡◌, ◌+◌, map};
+ghost use Rattle.std.specs.Prelude.{ℕ, ◌≡◌, ◌+◌, map};
 ghost use Rattle.tapa_syntax.specs.Flat.{flat_expression, flat_statement, in_row};
 ghost use Rattle.leaf_check.specs.Leaves as leaf;
 ghost use Rattle.leaf_check.specs.Views.{capped};
@@ -37,6 +37,16 @@ fn two(first: &Expr, second: &Expr, more: u64) -> u64
         .saturating_add(more)
 }
 
+/// A test, and two parts of so many places.
+fn with_test(test: &Expr, first: u64, second: u64) -> u64
+    ensures { (m n : ℕ) → first ≡ capped m → second ≡ capped n → result ≡ capped (leaf.operations (flat_expression test.now) + 1 + m + n) }
+{
+    operations(test)
+        .saturating_add(1)
+        .saturating_add(first)
+        .saturating_add(second)
+}
+
 /// The tick places of a statement, at most the greatest number.
 #[cycle(places)]
 fn places(statement: &Stmt) -> u64
@@ -56,22 +66,8 @@ fn places(statement: &Stmt) -> u64
         Stmt::Close(_) => 1,
         Stmt::Discard(value) => operations(value),
         Stmt::Clear(_) => 1,
-        Stmt::If(test, left, right) => {
-            let right = places_in(right);
-            let left = places_in(left);
-            operations(test)
-                .saturating_add(1)
-                .saturating_add(left)
-                .saturating_add(right)
-        }
-        Stmt::Loop { test, body, step } => {
-            let step = places_in(step);
-            let body = places_in(body);
-            operations(test)
-                .saturating_add(1)
-                .saturating_add(body)
-                .saturating_add(step)
-        }
+        Stmt::If(test, left, right) => with_test(test, places_in(left), places_in(right)),
+        Stmt::Loop { test, body, step } => with_test(test, places_in(body), places_in(step)),
         Stmt::Break => 0,
         Stmt::Continue => 0,
     }

@@ -52,6 +52,13 @@ fn jump(
     Ok(())
 }
 
+/// A test, and the step of a loop or the first arm of a choice.
+#[derive(Drop)]
+struct Turn {
+    test: Expr,
+    step: Vec<Stmt>,
+}
+
 /// A choice without `else`, whose statement was read or refused. These stand outside the recursion, so that no branch is
 /// made there while the other parts are alive.
 fn push_if(
@@ -68,27 +75,27 @@ fn push_if(
 }
 
 fn push_if_else(
-    test: Expr,
-    first: Vec<Stmt>,
+    turn: Turn,
     second: Result<Vec<Stmt>, CheckFault>,
     code: &mut Vec<Stmt>,
 ) -> Result<(), CheckFault>
-    ensures { (f g : FrameValue) (faults : List Broken) (inner : List FlatStatement) → Answers {B = Part} (λ c. (f, map flat_statement c.items)) second faults (g, inner) → Adds result f code.old.items code.new.items faults g (flat.branch (flat_expression test) (in_row (map flat_statement first.items)) (in_row inner) ∷ []) }
+    ensures { (f g : FrameValue) (faults : List Broken) (inner : List FlatStatement) → Answers {B = Part} (λ c. (f, map flat_statement c.items)) second faults (g, inner) → Adds result f code.old.items code.new.items faults g (flat.branch (flat_expression turn.test) (in_row (map flat_statement turn.step.items)) (in_row inner) ∷ []) }
 {
     let second = second?;
+    let Turn { test, step: first } = turn;
     code.push(Stmt::If(test, first, second))?;
     Ok(())
 }
 
 fn push_loop(
-    test: Expr,
-    step: Vec<Stmt>,
+    turn: Turn,
     body: Result<Vec<Stmt>, CheckFault>,
     code: &mut Vec<Stmt>,
 ) -> Result<(), CheckFault>
-    ensures { (f g : FrameValue) (faults : List Broken) (inner : List FlatStatement) → Answers {B = Part} (λ c. (f, map flat_statement c.items)) body faults (g, inner) → Adds result f code.old.items code.new.items faults g (flat.loop (flat_expression test) (in_row inner) (in_row (map flat_statement step.items)) ∷ []) }
+    ensures { (f g : FrameValue) (faults : List Broken) (inner : List FlatStatement) → Answers {B = Part} (λ c. (f, map flat_statement c.items)) body faults (g, inner) → Adds result f code.old.items code.new.items faults g (flat.loop (flat_expression turn.test) (in_row inner) (in_row (map flat_statement turn.step.items)) ∷ []) }
 {
     let body = body?;
+    let Turn { test, step } = turn;
     code.push(Stmt::Loop { test, body, step })?;
     Ok(())
 }
@@ -125,25 +132,15 @@ fn loop_step(frame: &Frame, done: &Option<Action>) -> Result<Vec<Stmt>, CheckFau
     Ok(code)
 }
 
-/// The test and the step of a `for`.
-#[derive(Drop)]
-struct Turn {
-    test: Expr,
-    step: Vec<Stmt>,
-}
-
 /// The head of a `for`, which is a block.
-fn head(
-    frame: &mut Frame,
-    head: &ForHead,
-    code: &mut Vec<Stmt>,
-) -> Result<Turn, CheckFault>
+fn head(frame: &mut Frame, head: &ForHead, code: &mut Vec<Stmt>) -> Result<Turn, CheckFault>
     ensures deep { IfOk result (λ turn. 2 < length frame.new.scope) }
-    ensures value { Answers {B = HeadPart} (λ turn. (frame.new, map flat_statement code.new.items, flat_expression turn.test, map flat_statement turn.step.items)) result (task.head_faults frame.old (tree.head_of head.now))
-        (task.in_head frame.old (tree.head_of head.now),
-        map flat_statement code.old.items ++ task.start_code (task.opened frame.old) (tree.head_of head.now).start,
-        task.test_of (task.in_head frame.old (tree.head_of head.now)).scope (tree.head_of head.now).test,
-        task.next_code (task.in_head frame.old (tree.head_of head.now)).scope (tree.head_of head.now).step) }
+    ensures value { Answers {B = HeadPart} (λ turn. (frame.new, map flat_statement code.new.items, flat_expression turn.test, map flat_statement turn.step.items)) result (task.head_faults frame.old (tree.head_of head.now)) (
+      task.in_head frame.old (tree.head_of head.now),
+      map flat_statement code.old.items ++ task.start_code (task.opened frame.old) (tree.head_of head.now).start,
+      task.test_of (task.in_head frame.old (tree.head_of head.now)).scope (tree.head_of head.now).test,
+      task.next_code (task.in_head frame.old (tree.head_of head.now)).scope (tree.head_of head.now).step,
+    ) }
 {
     frame.enter()?;
     start(frame, &head.start, code)?;
@@ -182,22 +179,6 @@ fn block(
 }
 
 #[cycle(statements)]
-fn choice(
-    frame: &mut Frame,
-    in_loop: bool,
-    test: Expr,
-    first: &Statement,
-    second: &Statement,
-    code: &mut Vec<Stmt>,
-) -> Result<(), CheckFault>
-    ensures { Adds result frame.new code.old.items code.new.items (task.arms_faults in_loop frame.old (tree.statement first.now) (tree.statement second.now))
-        (task.after_arms frame.old (tree.statement first.now) (tree.statement second.now)) (task.arms_code frame.old (flat_expression test) (tree.statement first.now) (tree.statement second.now)) }
-{
-    let first = body(frame, in_loop, first)?;
-    push_if_else(test, first, body(frame, in_loop, second), code)
-}
-
-#[cycle(statements)]
 fn counted(
     frame: &mut Frame,
     turn: Turn,
@@ -208,8 +189,7 @@ fn counted(
         (task.closed frame.old (task.after (task.opened frame.old) (tree.statement inner.now)))
         (flat.loop (flat_expression turn.test) (in_row (task.code_of (task.opened frame.old) (tree.statement inner.now))) (in_row (map flat_statement turn.step.items)) ∷ []) }
 {
-    let Turn { test, step } = turn;
-    push_loop(test, step, body(frame, true, inner), code)
+    push_loop(turn, body(frame, true, inner), code)
 }
 
 /// A statement; whether it stands in a loop.
@@ -234,14 +214,18 @@ fn statement(
         }
         Statement::IfElse(condition, first, second) => {
             let test = test(frame, condition)?;
-            choice(frame, in_loop, test, first, second, code)
+            let step = body(frame, in_loop, first)?;
+            push_if_else(Turn { test, step }, body(frame, in_loop, second), code)
         }
         Statement::While(condition, inner) => {
             let test = test(frame, condition)?;
             let step = Vec::new(frame.alloc());
             counted(frame, Turn { test, step }, inner, code)
         }
-        Statement::For { head: told, body: inner } => {
+        Statement::For {
+            head: told,
+            body: inner,
+        } => {
             let turn = head(frame, told, code)?;
             counted(frame, turn, inner, code)?;
             frame.leave();

@@ -125,12 +125,7 @@ fn change_variable(
 }
 
 /// An assignment with an operator (ISO C++ [expr.ass]).
-fn change_target(
-    alloc: Global,
-    target: Target,
-    op: Op,
-    value: Typed,
-) -> Result<Stmt, CheckFault>
+fn change_target(alloc: Global, target: Target, op: Op, value: Typed) -> Result<Stmt, CheckFault>
     ensures { Answers flat_statement result [] (task.change_target (flat_target target) op value.kind (flat_expression value.value)) }
 {
     match target {
@@ -184,11 +179,7 @@ fn target_kind(target: &Target) -> Kind
 }
 
 /// `++` or `--`.
-pub(crate) fn stepped(
-    alloc: Global,
-    target: Target,
-    step: StepOperator,
-) -> Result<Stmt, CheckFault>
+pub(crate) fn stepped(alloc: Global, target: Target, step: StepOperator) -> Result<Stmt, CheckFault>
     ensures { Answers flat_statement result [] (task.stepped (flat_target target) step) }
 {
     let kind = promoted(target_kind(&target));

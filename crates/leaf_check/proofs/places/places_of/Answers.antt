@@ -1,0 +1,8 @@
+use Rattle.std.proofs.Common.{map, arith}
+use Rattle.tapa_syntax.specs.Flat.{flat_statement, in_row}
+use Rattle.leaf_check.specs.Leaves as leaf
+use Rattle.leaf_check.proofs.Sums.{with_end}
+use Rattle.leaf_check.proofs.places.places_of.Goals as goal
+
+pub returns : goal.returns
+returns c = let e = with_end (map flat_statement c.args.code.now) in omega arith
