@@ -1,7 +1,6 @@
 -- Blocks that open and end.
-use Rattle.std.proofs.Common.{◌≡◌, ℕ, zero, suc, ◌+◌, ◌<◌, List, [], ◌∷◌, ◌++◌, length, Bool, true, append_assoc, refl, sym, ap, subst, ◌∙◌, arith, length-append}
+use Rattle.std.proofs.Common.{◌≡◌, ℕ, ◌<◌, List, [], ◌∷◌, ◌++◌, length, Bool, true, append_assoc, refl, sym, ap, subst, ◌∙◌, arith, length-append}
 use Rattle.tapa_base.specs.declared.kind.Kind.{Kind}
-use Rattle.tapa_syntax.specs.declared.program.Array.{Array}
 use Rattle.tapa_syntax.specs.Trees as tree
 use Rattle.tapa_syntax.specs.Trees.{DeclaratorTree, DeclarationTree, StartTree, HeadTree, StatementTree, Statements}
 use Rattle.tapa_syntax.specs.Flat as flat
@@ -11,7 +10,7 @@ use Rattle.leaf_check.proofs.Pushed.{parts}
 use Rattle.expression_check.specs.declared.fault.Broken.{Broken}
 use Rattle.expression_check.specs.declared.sort.Sort.{Sort}
 use Rattle.expression_check.specs.Scopes.{Block, Scope, declaring}
-use Rattle.leaf_check.specs.Statements.{Frame, head_faults, statement_faults, start_code, test_of, next_code, code_of, opened, closed, after_declarator, after_declarators, after_declaration, after_start, in_head, after, after_all}
+use Rattle.leaf_check.specs.Statements.{Frame, head_faults, statement_faults, start_code, test_of, next_code, code_of, opened, closed, after_declarator, after_declarators, after_start, in_head, after, after_all}
 
 -- the innermost block of a frame lies within these
 pub record IsWithin (E : Scope) (f : Frame) : Type 0 where

@@ -1,6 +1,6 @@
 -- The rules of the statements of a leaf task, and what they mean in the flat program (ISO C++ [stmt.stmt], [expr.ass];
 -- TAPA, streams).
-use Rattle.std.specs.Prelude.{ℕ, ◌+◌, List, [], ◌∷◌, ◌++◌, length, map, Bool, true, false, not, ◌&&◌, Option, Some, None, nat_le, nat_lt, if◌then◌else◌}
+use Rattle.std.specs.Prelude.{ℕ, ◌+◌, List, [], ◌∷◌, ◌++◌, length, map, Bool, true, false, not, ◌&&◌, Option, Some, None, nat_le, nat_lt}
 use Rattle.std.specs.List.{flat_map}
 use Rattle.tapa_base.specs.declared.kind.Kind.{Kind}
 use Rattle.tapa_base.specs.declared.kind.Kind.TheVariants as kind
@@ -20,13 +20,13 @@ use Rattle.tapa_syntax.specs.Trees.{ExpressionTree, PlaceTree, ActionTree, Decla
 use Rattle.tapa_syntax.specs.Typed.{right_kind}
 use Rattle.tapa_syntax.specs.Flat as flat
 use Rattle.tapa_syntax.specs.Flat.{FlatExpression, FlatStatement, FlatStatements, literal, variable, set, set_cell, set_cell_by, store, store_by, read_variable, read_cell, read_store, take_end, put_end, discard, clear, branch, loop, in_row}
-use Rattle.expression_check.specs.declared.fault.CheckCode.TheVariants.{C2, C3}
+use Rattle.expression_check.specs.declared.fault.CheckCode.TheVariants.{C3}
 use Rattle.expression_check.specs.declared.sort.Sort.{Sort}
 use Rattle.expression_check.specs.declared.sort.Sort.TheVariants as sort
-use Rattle.expression_check.specs.Scopes.{Scope, Block, sort_of, sort_here, declaring, kind_of_sort, number_of, is_free_variable, has_free_cells, is_output, is_input}
+use Rattle.expression_check.specs.Scopes.{Scope, sort_of, declaring, kind_of_sort, number_of, is_free_variable, has_free_cells, is_output, is_input}
 use Rattle.expression_check.specs.declared.fault.Broken.{Broken}
 use Rattle.expression_check.specs.Faults.{fault, over, where_so, name_faults, doubled}
-use Rattle.expression_check.specs.Expressions.{Method, reads, peeks, tests_end, writes, opens, closes, method_of, call_faults, kind_of, value_of, wanted, as_kind, binary_kind, operated, operated_kind, faults_of, divides, divisor_faults}
+use Rattle.expression_check.specs.Expressions.{Method, peeks, tests_end, writes, opens, closes, method_of, call_faults, kind_of, value_of, wanted, as_kind, binary_kind, operated, operated_kind, faults_of, divides, divisor_faults}
 use Rattle.expression_check.specs.Counts.{count_of, count_faults}
 
 -- What a task has declared where a statement stands: the names in scope, and the kinds of its variables and its arrays so

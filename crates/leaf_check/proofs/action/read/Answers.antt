@@ -1,4 +1,4 @@
-use Rattle.std.proofs.Common.{Err, map, drop, sym, ap, subst}
+use Rattle.std.proofs.Common.{map, drop, sym}
 use Rattle.std.proofs.lemmas.Result.{err_from_is_err_and}
 use Rattle.std.specs.List.{flat_map}
 use Rattle.tapa_syntax.specs.Trees as tree

@@ -1,9 +1,9 @@
-use Rattle.std.proofs.Common.{◌≡◌, List, [], ◌++◌, false, map, ap, ◌∙◌, sym}
+use Rattle.std.proofs.Common.{◌++◌, false, map, ap, ◌∙◌, sym}
 use Rattle.std.proofs.lemmas.Result.{err_from_is_err_and}
 use Rattle.tapa_syntax.specs.Trees as tree
 use Rattle.leaf_check.specs.Heads.{head_of}
 use Rattle.leaf_check.specs.Leaves as leaf
-use Rattle.leaf_check.specs.Statements.{Frame, codes_of, statements_faults}
+use Rattle.leaf_check.specs.Statements.{codes_of, statements_faults}
 use Rattle.leaf_check.proofs.Order.{fails, then_fails, same}
 use Rattle.leaf_check.proofs.leaf.check_leaf.Goals as goal
 

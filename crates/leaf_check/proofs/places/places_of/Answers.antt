@@ -1,6 +1,5 @@
 use Rattle.std.proofs.Common.{map, arith}
-use Rattle.tapa_syntax.specs.Flat.{flat_statement, in_row}
-use Rattle.leaf_check.specs.Leaves as leaf
+use Rattle.tapa_syntax.specs.Flat.{flat_statement}
 use Rattle.leaf_check.proofs.Sums.{with_end}
 use Rattle.leaf_check.proofs.places.places_of.Goals as goal
 

@@ -1,4 +1,4 @@
-use Rattle.std.proofs.Common.{◌≡◌, ◌+◌, ◌<◌, ◌≤◌, ◌∷◌, [], length, ap, sym, subst, ◌∙◌, arith, length-append}
+use Rattle.std.proofs.Common.{◌+◌, ◌≤◌, ◌∷◌, [], length, ap, sym, subst, ◌∙◌, arith, length-append}
 use Rattle.tapa_syntax.specs.declared.program.Array.{Array}
 use Rattle.leaf_check.specs.Statements.{Frame, all_cells}
 use Rattle.leaf_check.proofs.Sums.{all_cells-more}
