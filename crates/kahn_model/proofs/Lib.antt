@@ -19,3 +19,5 @@ pub mod FitsNetwork
 pub mod FitsCells
 pub mod Past
 pub mod RoundLists
+pub mod OneMeaning
+pub mod Standing

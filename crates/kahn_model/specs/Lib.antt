@@ -10,3 +10,5 @@ pub mod Outcome
 pub mod Start
 pub mod Fits
 pub mod Cells
+pub mod OneMeaning
+pub mod Standing
