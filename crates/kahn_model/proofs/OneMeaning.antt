@@ -24,8 +24,8 @@ use Rattle.tapa_syntax.specs.declared.program.Stream.{Stream}
 use Rattle.tapa_syntax.specs.Flat as flat
 use Rattle.tapa_syntax.specs.Flat.{FlatExpression, FlatStatement, FlatStatements, FlatLeaf, FlatBound, FlatInstance, FlatProgram, flat_expression, flat_statement, flat_row, flat_leaf, flat_bound, flat_instance, flat_program}
 use Rattle.tapa_syntax.specs.LeafKinds.{Kinds, kinds_of}
-use Rattle.kahn_model.specs.Behavior.{Action, Local, Put, Load, Store, Read as ByRead, Peek as ByPeek, TestEot, Open as ByOpen, Behavior, Finished, OutOfTurns, Act, Await}
-use Rattle.kahn_model.specs.Trace.{State, at_zero, cell, set_var, set_cell, store_cell, cells_of, cleared, expr, locals, turns, stmt, block, statements, job_of, at_streams}
+use Rattle.kahn_model.specs.Behavior.{Local, Put, Load, Store, Read as ByRead, Peek as ByPeek, TestEot, Open as ByOpen, Behavior, Finished, Act, Await}
+use Rattle.kahn_model.specs.Trace.{State, at_zero, cell, set_var, set_cell, store_cell, cells_of, cleared, expr, locals, turns, stmt, block, statements, at_streams}
 use Rattle.kahn_model.specs.Network.{Network}
 use Rattle.kahn_model.specs.ProgramNetwork.{stream_at, leaf_job, instance_job, end_of, network_with}
 use Rattle.kahn_model.specs.Start.{through, bound_value, with_values, empty_state, leaf_state, instance_state, first_state, network_of}

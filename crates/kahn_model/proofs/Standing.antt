@@ -1,12 +1,12 @@
 -- An instance of a reachable count has ended, or waits for one thing.
-use Rattle.std.proofs.Common.{◌≡◌, ◌<◌, ◌≤◌, ℕ, zero, suc, List, [], ◌∷◌, length, take, Some, refl, sym, ap, subst, ◌∙◌, arith}
+use Rattle.std.proofs.Common.{◌≡◌, ◌<◌, ℕ, zero, suc, List, [], ◌∷◌, length, take, Some, refl, sym, subst, ◌∙◌, arith}
 use Rattle.std.specs.Prelude.{slice_get}
 use Rattle.std.proofs.lemmas.List.{length-take-le}
 use Rattle.std.proofs.lemmas.Option.{slice_get_within}
 use Rattle.tapa_base.specs.declared.token.Token.{Token}
 use Rattle.kahn_model.specs.Behavior.{Put, Tick, Did, End, Mark, Ended, Needs, Bad, StreamOperation, Behavior, Finished, OutOfTurns, Act, Await, Offer, NoToken, WrongToken, Answer, first_offer, tick_of, lists_after, on_offer, ticks, mark}
-use Rattle.kahn_model.specs.Network.{Network, IsNetwork, round}
-use Rattle.kahn_model.specs.Counts.{round_of, ticks_made, written, next, HasEnded, IsReachable, IsFounded}
+use Rattle.kahn_model.specs.Network.{Network, IsNetwork, stream, round}
+use Rattle.kahn_model.specs.Counts.{total, round_of, written, HasEnded, IsReachable, IsFounded}
 use Rattle.kahn_model.specs.Outcome.{StandsAt, WaitsToWrite}
 use Rattle.kahn_model.specs.Standing.{Standing, over, to_read, to_write, at_bad, StandsSo}
 use Rattle.kahn_model.proofs.Order.{prefix_get, take_prefix}
@@ -38,7 +38,7 @@ module _ (net : Network) (ok : IsNetwork net) (k : ℕ → ℕ) (r : IsFounded n
       let us = round net (round_of net k) i in
       let made = slice_get_within (take (k i) us) j End e in
       let short = length-take-le (k i) us in
-      let all = end_last _ _ j (prefix_get (take (k i) us) us j End (take_prefix (k i) us) e) in
+      let all : length us ≡ suc j = end_last (net.job i (round_of net k)) (stream net (total net.size k)) j (prefix_get (take (k i) us) us j End (take_prefix (k i) us) e) in
       let there = slice_get_within us (k i) (Did (Put s t)) w in
       omega arith
 
