@@ -120,12 +120,12 @@ is_allowed net k i =
         (has_token net k t)
 
 -- a step below the cap, if there is one
-record Step (net : Network) (cap : ℕ) (k : ℕ → ℕ) : Type 0 where
-  at : ℕ
-  allowed : IsAllowed net k at
-  below : k at < cap
+pub record Step (net : Network) (cap : ℕ) (k : ℕ → ℕ) : Type 0 where
+  pub at : ℕ
+  pub allowed : IsAllowed net k at
+  pub below : k at < cap
 
-find_step : (net : Network) (cap : ℕ) (k : ℕ → ℕ) (n : ℕ) → Step net cap k ⊎ ((i : ℕ) → i < n → IsAllowed net k i → k i < cap → ⊥)
+pub find_step : (net : Network) (cap : ℕ) (k : ℕ → ℕ) (n : ℕ) → Step net cap k ⊎ ((i : ℕ) → i < n → IsAllowed net k i → k i < cap → ⊥)
 find_step net cap k zero = inr (λ i l a b. omega arith)
 find_step net cap k (suc n) =
     ⊎_elim

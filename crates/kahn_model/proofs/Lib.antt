@@ -21,3 +21,4 @@ pub mod Past
 pub mod RoundLists
 pub mod OneMeaning
 pub mod Standing
+pub mod Ending

@@ -12,3 +12,4 @@ pub mod Fits
 pub mod Cells
 pub mod OneMeaning
 pub mod Standing
+pub mod Ending

@@ -5,6 +5,7 @@ ghost use Rattle.kahn_model.specs.Behavior.{Tick, ticks};
 ghost use Rattle.kahn_model.specs.Network.{Network, IsNetwork, stream, round};
 ghost use Rattle.kahn_model.specs.Counts.{IsReachable, IsFounded, IsEnding, IsKahnPrefix, written, ticks_made, next, HasToken, IsSupplied, HasEnded, IsKahnStream, total, round_of};
 ghost use Rattle.kahn_model.specs.Outcome.{WaitsToWrite, WaitsToRead, HasBadToken, IsGreatest};
+ghost use Rattle.kahn_model.specs.Ending.{NetworksRunInThreeWays};
 ghost use Rattle.kahn_model.specs.Standing.{InstancesStandOneWay};
 ghost use Rattle.kahn_model.specs.Timed.{Clock, IsClock, count_at};
 ghost use Rattle.kahn_model.specs.Trace.{State};
@@ -98,6 +99,11 @@ pub fn law_next_is_local()
 /// An instance that has not ended where no step is allowed waits to write, waits to read or has a bad token.
 pub fn law_waits()
     ensures { (net : Network) → IsNetwork net → (k : ℕ → ℕ) → IsEnding net k → (i : ℕ) → i < net.size → (HasEnded net k i → ⊥) → ((s : ℕ) × WaitsToWrite net k i s) ⊎ (((s : ℕ) × WaitsToRead net k i s) ⊎ ((s : ℕ) × HasBadToken net k i s)) }
+{}
+
+/// Within a number of ticks a network ends, or it stops, or it makes more ticks or never ends.
+pub fn law_three_ways()
+    ensures { NetworksRunInThreeWays }
 {}
 
 /// In a reachable count an instance has ended, waits to read one stream, waits to write one, or has a bad token on one:
