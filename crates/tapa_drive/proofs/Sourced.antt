@@ -17,7 +17,7 @@ use Rattle.tapa_parse.specs.declared.fault.ParseCode.{ParseCode}
 use Rattle.tapa_parse.specs.declared.fault.ParseCode.TheVariants as parse
 use Rattle.tapa_parse.specs.Readers.{Outcome}
 use Rattle.tapa_syntax.specs.declared.program.Stream.{Stream}
-use Rattle.path_check.specs.Flat.{FlatLeaf, FlatInstance, FlatProgram, flat_program}
+use Rattle.tapa_syntax.specs.Flat.{FlatLeaf, FlatInstance, FlatProgram, flat_program}
 use Rattle.path_check.specs.Programs as path
 use Rattle.path_check.specs.Programs.{IsPathProgram, HasNoProgram, Upper, program_of}
 use Rattle.path_check.specs.Leaves.{with_name}
