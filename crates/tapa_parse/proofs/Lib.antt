@@ -9,3 +9,6 @@ pub mod CompleteLevels
 pub mod Begins
 pub mod CompleteExpressions
 pub mod Lists
+pub mod SoundLevels
+pub mod SoundActions
+pub mod SoundStatements
