@@ -12,3 +12,4 @@ pub mod Lists
 pub mod SoundLevels
 pub mod SoundActions
 pub mod SoundStatements
+pub mod SoundTasks

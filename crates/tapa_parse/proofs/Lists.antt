@@ -98,7 +98,7 @@ pub record AreSome {A : Type 0} (P : A → Part) (f g : A → ℕ) (room limit :
 
 module _ {A : Type 0} (P : A → Part) (f g : A → ℕ) (room limit : ℕ) where
   -- one, and those behind it
-  some_of : (x : A) (i j : Symbols) (xs : List A) (r : Symbols) → IsPart P f g room limit x i j → (more : List A) → xs ≡ x ∷ more → AreParts P f g room limit more j r → AreSome P f g room limit xs i r
+  pub some_of : (x : A) (i j : Symbols) (xs : List A) (r : Symbols) → IsPart P f g room limit x i j → (more : List A) → xs ≡ x ∷ more → AreParts P f g room limit more j r → AreSome P f g room limit xs i r
   some_of x i j xs r h more is k =
       let all : AreSome P f g room limit (x ∷ more) i r = record { spelled = (j, h.spelled, k.spelled); nests = omega (arith, h.nests, k.nests); within = omega (arith, h.within, k.within) } in
       subst (λ (ys : List A). AreSome P f g room limit ys i r) (sym is) all

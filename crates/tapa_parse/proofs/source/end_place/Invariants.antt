@@ -1,7 +1,4 @@
 use Rattle.std.proofs.Common.{◌≤◌, ◌+◌}
-use Rattle.tapa_parse.proofs.SoundLevels.{Sound}
-use Rattle.tapa_parse.proofs.SoundActions.{action_reads}
-use Rattle.tapa_parse.proofs.SoundStatements.{levels_sound}
 use Rattle.tapa_parse.proofs.source.end_place.Given as goal
 
 abbrev pub invariant-loop-turn : goal.invariant-loop-turn
