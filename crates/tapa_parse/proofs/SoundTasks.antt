@@ -9,11 +9,11 @@ use Rattle.tapa_syntax.specs.declared.tree.Parameter.TheVariants as parameter_fo
 use Rattle.tapa_syntax.specs.Spans.{◌⨾◌, ◌∣◌, Maybe, Each, EachOfSome, SeparatedOrNone}
 use Rattle.tapa_syntax.specs.Trees.{ExpressionTree, CountTree, AttributeTree, StreamTree, ArgumentTree, InvocationTree, BodyTree, leaf, upper, TaskTree, ItemTree, constant, task, statements}
 use Rattle.tapa_syntax.specs.Grammar.{Part, Takes, TakesAt, IsName, IsExpression, expression_level, IsType, IsCount, StandsAt, IsAttribute, IsParameter, MayBeLabelled, IsStream, IsArgument, IsMode, IsInvocation, IsBody, IsTask, IsItem, IsTreeOf}
-use Rattle.tapa_syntax.specs.Limits.{most, if_there, nesting, operators, form_nesting, form_operators, stream_nesting, stream_operators, invocation_nesting, invocation_operators, body_nesting, body_operators, item_nesting, item_operators}
+use Rattle.tapa_syntax.specs.Limits.{most, if_there, nesting, operators, form_nesting, form_operators, stream_nesting, stream_operators, invocation_nesting, invocation_operators, body_nesting, body_operators, item_nesting, item_operators, most_levels, most_operators, IsWithinLimits}
 use Rattle.tapa_parse.specs.declared.fault.ParseCode.TheVariants.{P1}
 use Rattle.tapa_parse.specs.Readers.{Outcome, ◌>>◌, skip, next, first_place, sees, expect, past, separated_until}
 use Rattle.tapa_parse.specs.Reading as spec
-use Rattle.tapa_parse.specs.Reading.{Readers, below_room, stream_kind, port_by, port, scalar, parameter, parameters, stream_name, mode, is_left, ended, depth, stream, invocation_argument, invocation_arguments, invocation, chained, invocations, streams, body, task_behind, constant_word, constant_behind, item, items, file}
+use Rattle.tapa_parse.specs.Reading.{Readers, below_room, below, stream_kind, port_by, port, scalar, parameter, parameters, stream_name, mode, is_left, ended, depth, stream, invocation_argument, invocation_arguments, invocation, chained, invocations, streams, body, task_behind, constant_word, constant_behind, item, items, file}
 use Rattle.tapa_parse.proofs.Parts.{Symbols, Yields, yields_pure, yields_none, yields_then, yields_if, weaker, takes, expect_yields, name_yields, plain_yields}
 use Rattle.tapa_parse.proofs.Lists.{IsPart, AreParts, AreSome, AreListed, repeat_sound, repeat_behind_sound, behind_sound, separated_sound, separated_until_sound, some_of}
 use Rattle.tapa_parse.proofs.CompleteLevels.{expression_longer}
@@ -261,3 +261,7 @@ file_reads limit room some i =
 
 pub file_sound : (limit room : ℕ) → 1 ≤ room → (i r : Symbols) (found : List ItemTree) → file limit (below_room limit room) i ≡ Ok (found, r) → IsTreeOf i found × (most item_nesting found ≤ room) × (most item_operators found ≤ limit) × (r ≡ [])
 file_sound limit room some i r found e = let all = (file_reads limit room some i).on found r e in (all.tree, all.nests, all.within, all.ends)
+
+-- what `parse` promises of a file that it found
+pub found_sound : (i r : Symbols) (found : List ItemTree) → file most_operators (below most_levels) i ≡ Ok (found, r) → IsTreeOf i found × IsWithinLimits found
+found_sound i r found e = let all = file_sound most_operators most_levels (omega arith) i r found e in (all.0, record { levels = all.1; longest = all.2 })
