@@ -9,3 +9,7 @@ pub mod CompleteLevels
 pub mod Begins
 pub mod CompleteExpressions
 pub mod Lists
+pub mod SoundLevels
+pub mod SoundActions
+pub mod SoundStatements
+pub mod SoundTasks
