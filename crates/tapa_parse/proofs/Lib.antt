@@ -9,3 +9,4 @@ pub mod CompleteLevels
 pub mod Begins
 pub mod CompleteExpressions
 pub mod Lists
+pub mod CompleteActions
