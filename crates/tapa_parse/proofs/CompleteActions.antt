@@ -188,7 +188,7 @@ form_longer (literal_count v w) i r (x, h, is) = omega (arith, ap length is)
 form_longer (name_count x) i r h = name_longer x i r h
 form_longer (parenthesized_count e) i r (j, begin, (k, inside, close)) = omega (arith, takes_longer mark.LeftParen i j begin, expression_longer expression_level e j k inside, takes_longer mark.RightParen k r close)
 
-declarator_longer : (d : DeclaratorTree) (i r : Symbols) → IsDeclarator d i r → length r < length i
+pub declarator_longer : (d : DeclaratorTree) (i r : Symbols) → IsDeclarator d i r → length r < length i
 declarator_longer (plain x) i r h = name_longer x i r h
 declarator_longer (initialized x e) i r (j, h, (k, sign, value)) = omega (arith, name_longer x i j h, takes_longer mark.Assign j k sign, expression_longer expression_level e k r value)
 declarator_longer (array x count) i r (j, h, (k, begin, (l, inside, close))) =

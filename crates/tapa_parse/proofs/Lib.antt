@@ -10,3 +10,4 @@ pub mod Begins
 pub mod CompleteExpressions
 pub mod Lists
 pub mod CompleteActions
+pub mod CompleteLengths
