@@ -117,7 +117,7 @@ assignment_no_step mark.Increment o e = absurd cc
 assignment_no_step mark.Decrement o e = absurd cc
 assignment_no_step _ o e = refl
 
-step_no_name : (m : Mark) (s : StepOperator) → step_operator_of m ≡ Some s → is_name m ≡ false
+pub step_no_name : (m : Mark) (s : StepOperator) → step_operator_of m ≡ Some s → is_name m ≡ false
 step_no_name mark.Increment s e = refl
 step_no_name mark.Decrement s e = refl
 step_no_name _ s e = absurd cc
@@ -199,10 +199,10 @@ module _ (limit room : ℕ) (inner : Option Readers) (h : MayComplete limit room
   whole_expression_complete e i r k stop =
       whole_complete expression_level room limit (expression_with inner) (expression_complete room inner (may_be limit room inner h)) i e r (record { spelled = k.spelled; nests = k.nests; within = k.within }) (stop_ends expression_level (next r) stop)
 
-  pub condition_complete : (e : ExpressionTree) (i r : Symbols) → (Takes mark.LeftParen ⨾ IsExpression expression_level e ⨾ Takes mark.RightParen) i r → suc (nesting e) ≤ room → operators e ≤ limit → spec.condition limit inner i ≡ Ok (e, r)
-  condition_complete e i r is deep few =
+  pub condition_complete : (e : ExpressionTree) (i j k r : Symbols) → Takes mark.LeftParen i j → IsExpression expression_level e j k → Takes mark.RightParen k r → suc (nesting e) ≤ room → operators e ≤ limit → spec.condition limit inner i ≡ Ok (e, r)
+  condition_complete e i j k r begin is close deep few =
       let counts : operators e + (limit - operators e) ≡ limit = omega arith in
-      then_is _ (e, limit - operators e) r (in_parentheses_complete room inner (may_be limit room inner h) limit i e (limit - operators e) r (record { spelled = is; nests = deep; counted = counts })) refl
+      then_is _ (e, limit - operators e) r (in_parentheses_complete room inner (may_be limit room inner h) limit i e (limit - operators e) r (record { spelled = (j, begin, (k, is, close)); nests = deep; counted = counts })) refl
 
   index_complete : (e : ExpressionTree) (i r : Symbols) → (Takes mark.LeftBracket ⨾ IsExpression expression_level e ⨾ Takes mark.RightBracket) i r → suc (nesting e) ≤ room → operators e ≤ limit → spec.index limit inner i ≡ Ok (e, r)
   index_complete e i r is deep few =

@@ -11,3 +11,4 @@ pub mod CompleteExpressions
 pub mod Lists
 pub mod CompleteActions
 pub mod CompleteLengths
+pub mod CompleteStatements
