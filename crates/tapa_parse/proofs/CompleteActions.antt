@@ -183,7 +183,7 @@ names_begin : (ds : List DeclaratorTree) (i r : Symbols) → Separated (Takes ma
 names_begin [] i r h = absurd h
 names_begin (d ∷ ds) i r (j, h, rest) = declarator_begins d i j h
 
-form_longer : (f : CountForm) (i r : Symbols) → IsCountForm f i r → length r < length i
+pub form_longer : (f : CountForm) (i r : Symbols) → IsCountForm f i r → length r < length i
 form_longer (literal_count v w) i r (x, h, is) = omega (arith, ap length is)
 form_longer (name_count x) i r h = name_longer x i r h
 form_longer (parenthesized_count e) i r (j, begin, (k, inside, close)) = omega (arith, takes_longer mark.LeftParen i j begin, expression_longer expression_level e j k inside, takes_longer mark.RightParen k r close)

@@ -12,3 +12,4 @@ pub mod Lists
 pub mod CompleteActions
 pub mod CompleteLengths
 pub mod CompleteStatements
+pub mod CompleteTasks
