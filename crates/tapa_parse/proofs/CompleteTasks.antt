@@ -115,7 +115,7 @@ depth_begins (Some count) i j r (k, comma, is) greater = rw (next_is mark.Comma 
 count_longer : (count : CountTree) (i r : Symbols) → IsCount count i r → length r < length i
 count_longer count i r h = form_longer count.form i r h.1
 
-stream_longer : (s : StreamTree) (i r : Symbols) → IsStream s i r → length r < length i
+pub stream_longer : (s : StreamTree) (i r : Symbols) → IsStream s i r → length r < length i
 stream_longer s i r (a, tapa, (b, scope, (c, word, (d, less, (e, type, (f, count, (g, greater, (l, names, end)))))))) =
     omega (arith, takes_longer mark.Tapa i a tapa, takes_longer mark.Scope a b scope, takes_longer mark.Stream b c word, takes_longer mark.Less c d less, type_longer s.kind d e type, maybe_longer (λ count. Takes mark.Comma ⨾ IsCount count) (behind_longer mark.Comma IsCount count_longer) s.depth e f count, takes_longer mark.Greater f g greater, separated_longer mark.Comma (λ x. IsName x ⨾ MayBeLabelled) stream_name_longer s.names g l names, takes_longer mark.Semicolon l r end)
 
@@ -159,7 +159,7 @@ arguments_read limit room R h = record {
   longer = behind_longer mark.Comma IsArgument argument_longer;
 }
 
-invocation_longer : (x : InvocationTree) (i r : Symbols) → IsInvocation x i r → length r < length i
+pub invocation_longer : (x : InvocationTree) (i r : Symbols) → IsInvocation x i r → length r < length i
 invocation_longer x i r (a, dot, (b, word, (c, mode, (d, begin, (e, named, (f, all, close)))))) =
     omega (arith, takes_longer mark.Dot i a dot, takes_longer mark.Invoke a b word, maybe_longer IsMode mode_longer x.mode b c mode, takes_longer mark.LeftParen c d begin, name_longer x.task d e named, each_longer (λ a. Takes mark.Comma ⨾ IsArgument a) (behind_longer mark.Comma IsArgument argument_longer) x.arguments e f all, takes_longer mark.RightParen f r close)
 

@@ -13,3 +13,4 @@ pub mod CompleteActions
 pub mod CompleteLengths
 pub mod CompleteStatements
 pub mod CompleteTasks
+pub mod CompleteFiles
