@@ -1,6 +1,5 @@
 -- What is spelled as an action or as a declaration, within the limits, is read, where it does not go on.
-use Rattle.std.proofs.Common.{◌≡◌, ℕ, zero, suc, ◌+◌, ◌-◌, ◌<◌, ◌≤◌, ◌⊎◌, inl, inr, Bool, true, false, List, [], ◌∷◌, length, drop, Option, Some, None, Ok, refl, sym, ap, subst, ◌∙◌, arith}
-use Rattle.std.specs.Prelude.{◌||◌, is_some}
+use Rattle.std.proofs.Common.{◌≡◌, ℕ, zero, suc, ◌+◌, ◌-◌, ◌<◌, ◌≤◌, ◌⊎◌, inl, inr, Bool, true, false, List, [], ◌∷◌, length, Option, Some, None, Ok, refl, ap, ◌∙◌, arith}
 use Rattle.tapa_base.specs.declared.kind.Kind.{Kind}
 use Rattle.tapa_base.specs.declared.kind.Kind.TheVariants as kind
 use Rattle.tapa_base.specs.declared.text.Place.{Place}
@@ -10,16 +9,15 @@ use Rattle.tapa_syntax.specs.declared.tree.Name.{Name}
 use Rattle.tapa_syntax.specs.declared.tree.StepOperator.{StepOperator}
 use Rattle.tapa_syntax.specs.declared.tree.AssignmentOperator.{AssignmentOperator}
 use Rattle.tapa_syntax.specs.Spans.{◌⨾◌, Nothing, When, EachOfSome, Separated, SeparatedOrNone}
-use Rattle.tapa_syntax.specs.Trees.{ExpressionTree, parenthesized, PlaceTree, variable_place, element_place, ActionTree, call_action, write, read, assign, postfix, prefix_step, CountForm, literal_count, name_count, parenthesized_count, DeclaratorTree, plain, initialized, array, DeclarationTree, StatementTree}
+use Rattle.tapa_syntax.specs.Trees.{ExpressionTree, PlaceTree, variable_place, element_place, ActionTree, call_action, write, read, assign, postfix, prefix_step, CountForm, literal_count, name_count, parenthesized_count, DeclaratorTree, plain, initialized, array, DeclarationTree, StatementTree}
 use Rattle.tapa_syntax.specs.Grammar.{Part, Takes, MeansAt, IsName, IsType, IsExpression, is_name, step_operator_of, assignment_operator_of, sum_level, expression_level, argument_level, IsPlace, IsAction, IsCountForm, IsDeclarator, IsDeclaration, IsStatement, IsClosed}
 use Rattle.tapa_syntax.specs.Limits.{most, nesting, operators, place_nesting, place_operators, action_nesting, action_operators, declarator_nesting, declarator_operators, declaration_nesting, declaration_operators, statement_nesting, statement_operators}
-use Rattle.tapa_parse.specs.Readers.{Outcome, Reader, and_then, ◌>>◌, pure, skip, next, same, sees, past}
+use Rattle.tapa_parse.specs.Readers.{Outcome, and_then, ◌>>◌, skip, next, same, sees, past}
 use Rattle.tapa_parse.specs.Reading.{Readers, enter, open_level, argument, level, unary_with, expression_with, whole, place_from, place_with, call_arguments, assigned_by, assigned, acted_by, acted, stepped, action_with, declarator_by, declarator, declaration_with}
 use Rattle.tapa_parse.specs.Reading as spec
 use Rattle.tapa_parse.proofs.Parts.{Symbols, done, then_is, if_true, if_false, differ_by, next_is, seen_is, dropped, expect_is, past_is, past_none, name_is, plain_is}
-use Rattle.tapa_parse.proofs.SoundExpressions.{IsReadWhole, IsReadCount, IsReadInBrackets}
-use Rattle.tapa_parse.proofs.Lists.{IsPart, AreParts, AreSome, AreListed, AreSeparated, ReadsAll, ReadsEach, repeat_some_complete, separated_complete, separated_until_complete}
-use Rattle.tapa_parse.proofs.CompleteTypes.{extends_type, type_complete, type_longer, takes_longer, sees_other}
+use Rattle.tapa_parse.proofs.Lists.{IsPart, ReadsAll, ReadsEach, repeat_some_complete, separated_complete, separated_until_complete}
+use Rattle.tapa_parse.proofs.CompleteTypes.{extends_type, type_complete, takes_longer, sees_other}
 use Rattle.tapa_parse.proofs.CompleteLevels.{stops, stop_ends, ends_at, Ends, shift_ends_sum, ends_tighter, CompletesAt, AreComplete, MayBeComplete, expression_longer, level_complete}
 use Rattle.tapa_parse.proofs.Begins.{begins_type, one_begins, name_begins}
 use Rattle.tapa_parse.proofs.CompleteExpressions.{argument_complete, argument_begins, in_parentheses_complete, in_brackets_complete, unary_complete, expression_complete, counted_complete, whole_complete}

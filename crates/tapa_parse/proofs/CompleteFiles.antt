@@ -1,19 +1,22 @@
 -- What is spelled as a file, within the limits, is read; so a list of symbols has one tree.
-use Rattle.std.proofs.Common.{◌≡◌, ℕ, zero, suc, max, ◌<◌, ◌≤◌, ◌⊎◌, inl, inr, Bool, true, false, List, [], ◌∷◌, length, drop, Option, Some, None, Ok, refl, sym, ap, ◌∙◌, arith}
+use Rattle.std.proofs.Common.{◌≡◌, ℕ, suc, max, ◌<◌, ◌≤◌, inl, inr, true, false, List, [], ◌∷◌, length, drop, Option, Some, None, Result, Ok, Err, refl, sym, ap, ◌∙◌, arith}
 use Rattle.std.specs.Prelude.{◌||◌}
 use Rattle.tapa_base.specs.declared.text.Place.{Place}
 use Rattle.tapa_syntax.specs.declared.mark.Mark.{Mark}
 use Rattle.tapa_syntax.specs.declared.mark.Mark.TheVariants as mark
 use Rattle.tapa_syntax.specs.declared.tree.AttributeArgument.{AttributeArgument}
-use Rattle.tapa_syntax.specs.Spans.{◌⨾◌, ◌∣◌, Each, EachOfSome}
-use Rattle.tapa_syntax.specs.Symbols.{Symbol}
-use Rattle.tapa_syntax.specs.Trees.{AttributeTree, Statements, no_statement, statement_then, StreamTree, InvocationTree, BodyTree, leaf, upper, TaskTree, ItemTree, constant, task}
-use Rattle.tapa_syntax.specs.Grammar.{Part, Takes, TakesAt, AreStatements, IsAttribute, IsParameter, IsStream, IsInvocation, IsBody, IsTask, IsItem, IsTreeOf, HaveOneTree, expression_level}
-use Rattle.tapa_syntax.specs.Limits.{most, if_there, attribute_nesting, body_nesting, body_operators, item_nesting, item_operators}
+use Rattle.tapa_syntax.specs.declared.tree.File.{File}
+use Rattle.tapa_syntax.specs.Spans.{◌∣◌, Each}
+use Rattle.tapa_syntax.specs.Trees.{AttributeTree, Statements, no_statement, statement_then, StreamTree, BodyTree, leaf, upper, TaskTree, ItemTree, constant, task, file_of}
+use Rattle.tapa_syntax.specs.Grammar.{Takes, TakesAt, AreStatements, IsAttribute, IsParameter, IsStream, IsInvocation, IsBody, IsItem, IsTreeOf, HaveOneTree, expression_level}
+use Rattle.tapa_syntax.specs.Limits.{most, if_there, attribute_nesting, body_nesting, body_operators, item_nesting, item_operators, most_levels, most_operators, IsWithinLimits}
+use Rattle.tapa_parse.specs.declared.fault.ParseFault.{ParseFault}
+use Rattle.tapa_parse.specs.declared.fault.ParseFault.TheVariants.{At, OutOfMemory}
+use Rattle.tapa_parse.specs.Answers.{Reads, Answers}
 use Rattle.tapa_parse.specs.Readers.{next, first_place, same, sees}
-use Rattle.tapa_parse.specs.Reading.{Readers, attribute, attributes, is_left, constant_word, body, task_behind, constant_behind, item, items, file, below_room}
+use Rattle.tapa_parse.specs.Reading.{Readers, attribute, attributes, is_left, constant_word, body, task_behind, constant_behind, item, file, below_room, below}
 use Rattle.tapa_parse.proofs.Parts.{Symbols, done, ok_is, then_is, if_true, if_false, next_is, seen_is, dropped, expect_is, name_is}
-use Rattle.tapa_parse.proofs.Lists.{IsPart, AreParts, ReadsAll, repeat_complete}
+use Rattle.tapa_parse.proofs.Lists.{IsPart, ReadsAll, repeat_complete}
 use Rattle.tapa_parse.proofs.CompleteTypes.{type_complete, type_longer, takes_longer, sees_other}
 use Rattle.tapa_parse.proofs.CompleteLevels.{stops, expression_longer}
 use Rattle.tapa_parse.proofs.CompleteActions.{MayComplete, name_behind, name_longer, whole_expression_complete}
@@ -152,3 +155,9 @@ one_tree symbols a b h k =
     let first = file_complete limit room symbols a h (omega arith) (omega arith) (omega arith) in
     let second = file_complete limit room symbols b k (omega arith) (omega arith) (omega arith) in
     ap (λ (x : List ItemTree × Symbols). x.0) (ok_is (a, []) (b, []) (sym first ∙ second))
+
+-- what is read is what the symbols have
+pub answered : (result : Result File ParseFault) (i : Symbols) → Reads result (file most_operators (below most_levels) i) → (trees : List ItemTree) → IsTreeOf i trees → IsWithinLimits trees → Answers result trees
+answered (Ok found) i (left, is) trees h k = ap (λ (x : List ItemTree × Symbols). x.0) (ok_is (file_of found, left) (trees, []) (sym is ∙ file_complete most_operators most_levels i trees h k.levels k.longest (omega arith)))
+answered (Err OutOfMemory) i is trees h k = refl
+answered (Err (At code place)) i (left, at, is) trees h k = absurd (let read = file_complete most_operators most_levels i trees h k.levels k.longest (omega arith) in cc)

@@ -1,6 +1,6 @@
 -- What is spelled as attributes or as a statement, within the limits, is read; an else belongs to the nearest if.
-use Rattle.std.proofs.Common.{◌≡◌, ℕ, zero, suc, ◌+◌, ◌-◌, ◌<◌, ◌≤◌, ◌⊎◌, inl, inr, Bool, true, false, List, [], ◌∷◌, length, drop, Option, Some, None, Ok, refl, sym, ap, subst, ◌∙◌, arith}
-use Rattle.std.specs.Prelude.{◌||◌, not, is_some}
+use Rattle.std.proofs.Common.{◌≡◌, ℕ, zero, suc, ◌-◌, ◌≤◌, inl, inr, Bool, true, false, List, [], ◌∷◌, Option, Some, None, Ok, refl, ap, ◌∙◌, arith}
+use Rattle.std.specs.Prelude.{◌||◌, not}
 use Rattle.tapa_base.specs.declared.text.Place.{Place}
 use Rattle.tapa_syntax.specs.declared.mark.Mark.{Mark}
 use Rattle.tapa_syntax.specs.declared.mark.Mark.TheVariants as mark
@@ -10,18 +10,18 @@ use Rattle.tapa_syntax.specs.declared.tree.AttributeArgument.{AttributeArgument}
 use Rattle.tapa_syntax.specs.declared.tree.AttributeArgument.TheVariants as argument_form
 use Rattle.tapa_syntax.specs.Spans.{◌⨾◌, Maybe, When, Each, EachOfSome, SeparatedOrNone}
 use Rattle.tapa_syntax.specs.Trees.{ExpressionTree, ActionTree, call_action, write, read, assign, postfix, prefix_step, PlaceTree, variable_place, element_place, DeclarationTree, AttributeTree, StartTree, no_start, declare_start, act_start, HeadTree, StatementTree, attributed, empty, block, declare, act, if_only, if_else, while, for, while_not_eot, break, continue, Statements, no_statement, statement_then, statements}
-use Rattle.tapa_syntax.specs.Grammar.{Part, Takes, TakesAt, IsName, IsExpression, is_name, step_operator_of, expression_level, IsPlace, IsAction, IsDeclaration, IsAttributeArgument, AreAttributeArguments, IsAttribute, IsClosed, IsBare, IsStart, IsHead, IsStatement, AreStatements}
+use Rattle.tapa_syntax.specs.Grammar.{Takes, TakesAt, IsName, IsExpression, is_name, step_operator_of, expression_level, IsPlace, IsAction, IsDeclaration, IsAttributeArgument, AreAttributeArguments, IsAttribute, IsBare, IsStart, IsHead, IsStatement, AreStatements}
 use Rattle.tapa_syntax.specs.Limits.{most, if_there, nesting, operators, action_nesting, action_operators, attribute_nesting, start_nesting, start_operators, head_nesting, head_operators, statement_nesting, statement_operators, statements_nesting, statements_operators}
-use Rattle.tapa_parse.specs.Readers.{Reader, and_then, pure, next, first_place, same, sees, name}
+use Rattle.tapa_parse.specs.Readers.{and_then, pure, next, same, sees, name}
 use Rattle.tapa_parse.specs.Reading.{Readers, whole, begins_action, begins_statement, attribute_argument_by, attribute_argument, listed_arguments, attribute_arguments, attribute, action_with, declaration_with, start, loop_test, step, jump, statement_with, statements_with, simple, braces, otherwise, choice, repetition, counting_loop, transaction_loop, bare_by, bare, inside_with, readers, below_room}
 use Rattle.tapa_parse.specs.Reading as spec
 use Rattle.tapa_parse.proofs.Parts.{Symbols, done, then_is, if_true, if_false, differ_by, is_seen, next_is, seen_is, dropped, expect_is, name_is, plain_is, literal_is}
-use Rattle.tapa_parse.proofs.Lists.{IsPart, AreParts, AreSome, AreListed, ReadsAll, ReadsEach, repeat_complete, repeat_some_complete, separated_until_complete}
+use Rattle.tapa_parse.proofs.Lists.{IsPart, ReadsAll, repeat_complete, repeat_some_complete, separated_until_complete}
 use Rattle.tapa_parse.proofs.CompleteTypes.{sees_other}
-use Rattle.tapa_parse.proofs.CompleteLevels.{stops, stop_ends, ends_at}
+use Rattle.tapa_parse.proofs.CompleteLevels.{stops, stop_ends}
 use Rattle.tapa_parse.proofs.Begins.{begins_type, name_begins, expression_begins, begins_otherwise}
 use Rattle.tapa_parse.proofs.CompleteExpressions.{whole_complete, unary_complete, expression_complete}
-use Rattle.tapa_parse.proofs.CompleteActions.{Stops, NoElse, Complete, MayComplete, entered, opened, may_be, type_begins, step_no_name, condition_complete, place_complete, action_complete, declaration_complete}
+use Rattle.tapa_parse.proofs.CompleteActions.{NoElse, Complete, MayComplete, entered, opened, may_be, type_begins, condition_complete, place_complete, action_complete, declaration_complete}
 use Rattle.tapa_parse.proofs.CompleteLengths.{attribute_argument_longer, attribute_longer, statement_longer}
 
 -- ---- what a statement begins with

@@ -1,5 +1,5 @@
 -- What is spelled as parameters, streams and invocations, within the limits, is read.
-use Rattle.std.proofs.Common.{◌≡◌, ℕ, zero, suc, ◌+◌, ◌<◌, ◌≤◌, ◌⊎◌, inl, inr, Bool, true, false, List, [], ◌∷◌, length, drop, Option, Some, None, Ok, refl, sym, ap, ◌∙◌, arith}
+use Rattle.std.proofs.Common.{◌≡◌, ℕ, ◌<◌, ◌≤◌, inl, inr, Bool, true, false, List, [], ◌∷◌, length, drop, Option, Some, None, Ok, refl, ap, ◌∙◌, arith}
 use Rattle.tapa_base.specs.declared.kind.Kind.{Kind}
 use Rattle.tapa_base.specs.declared.text.Place.{Place}
 use Rattle.tapa_syntax.specs.declared.mark.Mark.{Mark}
@@ -7,20 +7,20 @@ use Rattle.tapa_syntax.specs.declared.mark.Mark.TheVariants as mark
 use Rattle.tapa_syntax.specs.declared.tree.Name.{Name}
 use Rattle.tapa_syntax.specs.declared.tree.Parameter.{Parameter}
 use Rattle.tapa_syntax.specs.declared.tree.Parameter.TheVariants as parameter_form
-use Rattle.tapa_syntax.specs.Spans.{◌⨾◌, Maybe, When, Each, EachOfSome, SeparatedOrNone}
+use Rattle.tapa_syntax.specs.Spans.{◌⨾◌, Maybe, When, EachOfSome, SeparatedOrNone}
 use Rattle.tapa_syntax.specs.Trees.{ExpressionTree, CountTree, StreamTree, ArgumentTree, InvocationTree}
-use Rattle.tapa_syntax.specs.Grammar.{Part, Takes, StandsAt, IsName, IsPlainName, IsType, IsExpression, expression_level, IsCount, IsParameter, MayBeLabelled, IsStream, IsArgument, IsMode, IsInvocation}
+use Rattle.tapa_syntax.specs.Grammar.{Takes, IsName, IsType, expression_level, IsCount, IsParameter, MayBeLabelled, IsStream, IsArgument, IsMode, IsInvocation}
 use Rattle.tapa_syntax.specs.Limits.{most, if_there, nesting, operators, form_nesting, form_operators, stream_nesting, stream_operators, invocation_nesting, invocation_operators}
-use Rattle.tapa_parse.specs.Readers.{Reader, ◌>>◌, pure, skip, next, same, sees, past}
-use Rattle.tapa_parse.specs.Reading.{Readers, whole, stream_kind, port, scalar, parameter, parameters, stream_name, mode, invocation_argument, invocation_arguments, depth, stream, invocation, chained, invocations, streams}
+use Rattle.tapa_parse.specs.Readers.{◌>>◌, skip, next, same, sees}
+use Rattle.tapa_parse.specs.Reading.{Readers, stream_kind, port, scalar, parameter, parameters, stream_name, mode, invocation_argument, depth, stream, invocation, chained, invocations, streams}
 use Rattle.tapa_parse.proofs.Parts.{Symbols, done, then_is, if_true, if_false, next_is, seen_is, dropped, expect_is, name_is, plain_is}
-use Rattle.tapa_parse.proofs.Lists.{IsPart, AreParts, AreListed, AreSeparated, ReadsAll, ReadsEach, repeat_complete, repeat_one_complete, separated_complete, separated_until_complete}
+use Rattle.tapa_parse.proofs.Lists.{IsPart, AreParts, ReadsAll, repeat_complete, repeat_one_complete, separated_complete, separated_until_complete}
 use Rattle.tapa_parse.proofs.CompleteTypes.{extends_type, type_complete, type_longer, takes_longer, sees_other}
 use Rattle.tapa_parse.proofs.CompleteLevels.{Ends, ends_at, expression_longer}
 use Rattle.tapa_parse.proofs.Begins.{begins_type}
 use Rattle.tapa_parse.proofs.CompleteExpressions.{counted_complete, whole_complete, stands}
 use Rattle.tapa_parse.proofs.CompleteActions.{Complete, MayComplete, opened, may_be, name_behind, type_other, const_is, name_longer, form_longer}
-use Rattle.tapa_parse.proofs.CompleteLengths.{each_longer, some_longer, separated_longer, maybe_longer, when_longer, behind_longer}
+use Rattle.tapa_parse.proofs.CompleteLengths.{each_longer, separated_longer, maybe_longer, when_longer, behind_longer}
 use Rattle.tapa_parse.proofs.CompleteStatements.{most_is}
 
 -- ---- parameters

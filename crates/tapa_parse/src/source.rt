@@ -1,9 +1,11 @@
 //! The tree of a source.
 
-ghost use Rattle.std.specs.Prelude.{◌≡◌, ◌<◌, ◌-◌, ◌^◌, length};
+ghost use Rattle.std.specs.Prelude.{◌≡◌, ◌<◌, ◌-◌, ◌^◌, List, length};
 ghost use Rattle.tapa_syntax.specs.Symbols.{symbols_of};
-ghost use Rattle.tapa_syntax.specs.Limits.{most_levels, most_operators};
-ghost use Rattle.tapa_parse.specs.Answers.{Reads, IsRefusedAt};
+ghost use Rattle.tapa_syntax.specs.Trees.{ItemTree};
+ghost use Rattle.tapa_syntax.specs.Grammar.{IsTreeOf};
+ghost use Rattle.tapa_syntax.specs.Limits.{most_levels, most_operators, IsWithinLimits};
+ghost use Rattle.tapa_parse.specs.Answers.{Reads, IsRefusedAt, Answers};
 ghost use Rattle.tapa_parse.specs.Reading as spec;
 
 use crate::fault::{Fault, ParseFault};
@@ -44,7 +46,8 @@ fn refused_place(parser: &Parser, text: &[u8]) -> Place
 /// lexeme is left, and that the place behind the last byte is told then, is shown by tests.
 pub fn parse(alloc: Global, lexemes: &[Lexeme], text: &[u8]) -> Result<File, ParseFault>
     requires { length text.now < 2 ^ 32 - 1 }
-    ensures { Reads result (spec.file most_operators (spec.below most_levels) (symbols_of text.now lexemes.now)) }
+    ensures reads { Reads result (spec.file most_operators (spec.below most_levels) (symbols_of text.now lexemes.now)) }
+    ensures only { (items : List ItemTree) → IsTreeOf (symbols_of text.now lexemes.now) items → IsWithinLimits items → Answers result items }
 {
     let mut parser = Parser::new(alloc, text, lexemes);
     match parser.file(MOST_LEVELS) {
