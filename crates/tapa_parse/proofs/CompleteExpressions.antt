@@ -132,7 +132,7 @@ type_no_paren m e = differ_by begins_type m mark.LeftParen (λ f. cc)
 abbrev count_tree : Place → CountForm → CountTree
 count_tree at f = record { place = at; form = f }
 
-stands : (i : Symbols) (at : Place) → StandsAt at i → first_place i ≡ at
+pub stands : (i : Symbols) (at : Place) → StandsAt at i → first_place i ≡ at
 stands [] at h = absurd h
 stands (x ∷ i) at h = h
 

@@ -13,3 +13,8 @@ pub mod SoundLevels
 pub mod SoundActions
 pub mod SoundStatements
 pub mod SoundTasks
+pub mod CompleteActions
+pub mod CompleteLengths
+pub mod CompleteStatements
+pub mod CompleteTasks
+pub mod CompleteFiles
