@@ -29,7 +29,7 @@ network_is program net p s m =
     ap (λ (q : Program). network_of q (scalars_of net.input) (memories_of net.input)) p ∙ ap (λ (l : List ℕ). network_of program l (memories_of net.input)) s
     ∙ ap (λ (l : List (List ℕ)). network_of program [] l) m
 
-size_of : (program : Program) → (network program).size ≡ length program.instances.items
+pub size_of : (program : Program) → (network program).size ≡ length program.instances.items
 unfolding network_of
 size_of program = refl
 

@@ -40,7 +40,7 @@ ok_tree : (a b : List ItemTree) (l m : List Symbol) → (let E : Outcome (List I
 ok_tree a b l m e = ap (λ (p : List ItemTree × List Symbol). p.0) (ok_pair (a, l) (b, m) e)
 
 -- a text has one tree
-one_tree : (text : List ℕ) (file other : File) → HasTree text file → HasTree text other → file_of file ≡ file_of other
+pub one_tree : (text : List ℕ) (file other : File) → HasTree text file → HasTree text other → file_of file ≡ file_of other
 one_tree text file other a b =
     let same = one_list text a.lexemes b.lexemes a.are b.are in
     let read : tree_of text b.lexemes ≡ Ok (file_of file, a.left) = ap (λ (l : List Lexeme). tree_of text l) (sym same) ∙ a.read in

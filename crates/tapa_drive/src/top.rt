@@ -8,7 +8,7 @@ ghost use Rattle.tapa_drive.specs.Answer.{OfRun, OfFile, HasRun, HasCause, Leave
 ghost use Rattle.tapa_drive.specs.Found.{IsNotFound, EndsFor};
 ghost use Rattle.tapa_drive.specs.Source.{IsProgramOf};
 ghost use Rattle.tapa_drive.specs.Told.{IsToldAs};
-ghost use Rattle.tapa_drive.specs.Decided.{Expects, IsStill};
+ghost use Rattle.tapa_drive.specs.Decided.{SourceMeaning, Expects, IsStill, Tells};
 
 use crate::{
     Command, Refusal, RunEnd, SourceFault, Status, read_program, read_words, run_program, tell,
@@ -152,9 +152,11 @@ pub fn tapa<S: Shelf, O: Sink, E: Sink>(
     ensures told { result ≢ Status.Ok → (told : Reason) × IsToldAs told result (E.contents err.old) (E.contents err.new) (E.faults err.old) (E.faults err.new)
         × HasCause (texts words.now) (S.files shelf.old) (S.faults shelf.old) (S.faults shelf.new) (O.faults out.old) (O.faults out.new) (O.contents out.old) (O.contents out.new) told
         × Leaves (texts words.now) (S.files shelf.old) (O.contents out.old) (O.contents out.new) told }
-    // Where the files are told and nothing outside fails, the answer is what the source means, or want of memory.
-    ensures decided { (source top : List ℕ) → command_of (texts words.now) ≡ Some (Run source top) → (expected : Status) → Expects (S.files shelf.old) source top expected →
-        IsStill source (S.faults shelf.old) (S.faults shelf.new) (O.faults out.old) (O.faults out.new) (E.faults err.old) (E.faults err.new) → (result ≡ expected) ⊎ (result ≡ Status.Memory) }
+    // Where the files are told and nothing outside fails, the answer tells what the source means, and the report is
+    // written whole: or memory ran out.
+    ensures decided { (source top : List ℕ) → command_of (texts words.now) ≡ Some (Run source top) → (meaning : SourceMeaning) → Expects (S.files shelf.old) source top meaning →
+        IsStill source (S.faults shelf.old) (S.faults shelf.new) (O.faults out.old) (O.faults out.new) (E.faults err.old) (E.faults err.new) →
+        Tells meaning result (O.contents out.old) (O.contents out.new) (E.contents err.old) (E.contents err.new) ⊎ (result ≡ Status.Memory) }
 {
     answer(alloc, words, shelf, out, err)
 }
