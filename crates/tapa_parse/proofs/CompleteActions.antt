@@ -18,7 +18,7 @@ use Rattle.tapa_parse.specs.Reading as spec
 use Rattle.tapa_parse.proofs.Parts.{Symbols, done, then_is, if_true, if_false, differ_by, next_is, seen_is, dropped, expect_is, past_is, past_none, name_is, plain_is}
 use Rattle.tapa_parse.proofs.Lists.{IsPart, ReadsAll, ReadsEach, repeat_some_complete, separated_complete, separated_until_complete}
 use Rattle.tapa_parse.proofs.CompleteTypes.{extends_type, type_complete, takes_longer, sees_other}
-use Rattle.tapa_parse.proofs.CompleteLevels.{stops, stop_ends, ends_at, Ends, shift_ends_sum, ends_tighter, CompletesAt, AreComplete, MayBeComplete, expression_longer, level_complete}
+use Rattle.tapa_parse.proofs.CompleteLevels.{stops, stop_ends, ends_at, Ends, shift_ends_sum, ends_tighter, CompletesAt, AreComplete, MayDo, MayBeComplete, entered, opened, expression_longer, level_complete}
 use Rattle.tapa_parse.proofs.Begins.{begins_type, one_begins, name_begins}
 use Rattle.tapa_parse.proofs.CompleteExpressions.{argument_complete, argument_begins, in_parentheses_complete, in_brackets_complete, unary_complete, expression_complete, counted_complete, whole_complete}
 
@@ -58,28 +58,7 @@ pub record Complete (limit room : ℕ) (R : Readers) : Type 0 where
   pub inside : (s : StatementTree) (i r : Symbols) → IsPart IsStatement statement_nesting statement_operators (suc room) limit s i r → NoElse s r → R.inside i ≡ Ok (s, r)
 
 abbrev pub MayComplete : ℕ → ℕ → Option Readers → Type 0
-MayComplete limit zero inner = Unit {0}
-MayComplete limit (suc room) None = ⊥
-MayComplete limit (suc room) (Some R) = Complete limit room R
-
--- a level that was opened for what nests so deep
-pub record IsEntered (limit d : ℕ) (o : Outcome Readers) (j : Symbols) : Type 0 where
-  pub readers : Readers
-  pub less : ℕ
-  pub deep : d ≤ less
-  pub complete : Complete limit less readers
-  pub is : o ≡ Ok (readers, j)
-
-pub entered : (limit room d : ℕ) (inner : Option Readers) (i : Symbols) → MayComplete limit room inner → suc d ≤ room → IsEntered limit d (enter inner i) i
-entered limit zero d inner i h le = absurd (omega arith)
-entered limit (suc room) d None i h le = absurd h
-entered limit (suc room) d (Some R) i h le = record { readers = R; less = room; deep = omega arith; complete = h; is = refl }
-
-pub opened : (limit room d : ℕ) (inner : Option Readers) (m : Mark) (i j : Symbols) → MayComplete limit room inner → suc d ≤ room → Takes m i j → IsEntered limit d (open_level m inner i) j
-unfolding open_level
-opened limit room d inner m i j h le t =
-    let e = entered limit room d inner i h le in
-    record { readers = e.readers; less = e.less; deep = e.deep; complete = e.complete; is = if_true _ (seen_is m i j t) (then_is _ e.readers i e.is (ap (λ (k : Symbols). done (e.readers, k)) (dropped m i j t))) }
+MayComplete limit = MayDo (Complete limit)
 
 pub may_be : (limit room : ℕ) (inner : Option Readers) → MayComplete limit room inner → MayBeComplete room inner
 may_be limit zero inner h = tt
@@ -251,7 +230,7 @@ module _ (limit room : ℕ) (inner : Option Readers) (h : MayComplete limit room
       → suc (most nesting es) ≤ room → most operators es ≤ limit → call_arguments limit inner i ≡ Ok (es, r)
   unfolding call_arguments same
   call_arguments_complete es i r (j, begin, (k, all, close)) deep few =
-      let o = opened limit room (most nesting es) inner mark.LeftParen i j h deep begin in
+      let o = opened (Complete limit) room (most nesting es) inner mark.LeftParen i j h deep begin in
       then_is _ o.readers j o.is
       (then_is _ es k
       (separated_until_complete mark.Comma (IsExpression argument_level) nesting operators o.less limit (whole (argument o.readers) limit) (λ r. Ends argument_level (next r)) (values_read o.readers o.less o.complete.expressions)
@@ -291,7 +270,7 @@ module _ (limit room : ℕ) (inner : Option Readers) (h : MayComplete limit room
   unfolding action_with stepped
   prefix_complete s at p i j r sign is deep few free =
       let x = sign.0 in
-      let e = entered limit room (place_nesting p) inner (x ∷ j) h deep in
+      let e = entered (Complete limit) room (place_nesting p) inner (x ∷ j) h deep in
       rw (sign.2, step_no_name x.mark s sign.1.0, sign.1.0)
       (then_is _ e.readers (x ∷ j) e.is
       (then_is _ p r (e.complete.place p j r (record { spelled = is; nests = e.deep; within = few }) free)

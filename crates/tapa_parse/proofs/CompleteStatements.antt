@@ -18,10 +18,10 @@ use Rattle.tapa_parse.specs.Reading as spec
 use Rattle.tapa_parse.proofs.Parts.{Symbols, done, then_is, if_true, if_false, differ_by, is_seen, next_is, seen_is, dropped, expect_is, name_is, plain_is, literal_is}
 use Rattle.tapa_parse.proofs.Lists.{IsPart, ReadsAll, repeat_complete, repeat_some_complete, separated_until_complete}
 use Rattle.tapa_parse.proofs.CompleteTypes.{sees_other}
-use Rattle.tapa_parse.proofs.CompleteLevels.{stops, stop_ends}
+use Rattle.tapa_parse.proofs.CompleteLevels.{stops, stop_ends, entered, opened}
 use Rattle.tapa_parse.proofs.Begins.{begins_type, name_begins, expression_begins, begins_otherwise}
 use Rattle.tapa_parse.proofs.CompleteExpressions.{whole_complete, unary_complete, expression_complete}
-use Rattle.tapa_parse.proofs.CompleteActions.{NoElse, Complete, MayComplete, entered, opened, may_be, type_begins, condition_complete, place_complete, action_complete, declaration_complete}
+use Rattle.tapa_parse.proofs.CompleteActions.{NoElse, Complete, MayComplete, may_be, type_begins, condition_complete, place_complete, action_complete, declaration_complete}
 use Rattle.tapa_parse.proofs.CompleteLengths.{attribute_argument_longer, attribute_longer, statement_longer}
 
 -- ---- what a statement begins with
@@ -253,7 +253,7 @@ module _ (limit room : ℕ) (inner : Option Readers) (h : MayComplete limit room
   listed_complete : (xs : List AttributeArgument) (i r : Symbols) → (Takes mark.LeftParen ⨾ SeparatedOrNone (Takes mark.Comma) IsAttributeArgument xs ⨾ Takes mark.RightParen) i r → 1 ≤ room → listed_arguments inner i ≡ Ok (xs, r)
   unfolding listed_arguments same
   listed_complete xs i r (j, begin, (k, all, close)) deep =
-      let o = opened limit room 0 inner mark.LeftParen i j h deep begin in
+      let o = opened (Complete limit) room 0 inner mark.LeftParen i j h deep begin in
       then_is _ o.readers j o.is
       (then_is _ xs k
       (separated_until_complete mark.Comma IsAttributeArgument (λ a. 0) (λ a. 0) 0 0 attribute_argument (λ r. Unit {0}) (record { reads = λ a i r k free. attribute_argument_complete a i r k.spelled; longer = attribute_argument_longer })
@@ -290,7 +290,7 @@ module _ (limit room : ℕ) (inner : Option Readers) (h : MayComplete limit room
   statement_complete : (s : StatementTree) (i r : Symbols) → IsPart IsStatement statement_nesting statement_operators room limit s i r → NoElse s r → statement_with limit inner i ≡ Ok (s, r)
   unfolding statement_with
   statement_complete s i r k free =
-      let e = entered limit room (statement_nesting s - 1) inner i h (omega (arith, statement_levels s, k.nests)) in
+      let e = entered (Complete limit) room (statement_nesting s - 1) inner i h (omega (arith, statement_levels s, k.nests)) in
       if_true _ (statement_begins s i r k.spelled)
       (then_is _ e.readers i e.is (e.complete.inside s i r (record { spelled = k.spelled; nests = omega (arith, statement_levels s, e.deep); within = k.within }) free))
 
@@ -383,7 +383,7 @@ module _ (limit room : ℕ) (inner : Option Readers) (h : MayComplete limit room
   head_complete : (head : HeadTree) (i j k r : Symbols) → Takes mark.LeftParen i j → IsHead head j k → Takes mark.RightParen k r → suc (head_nesting head) ≤ room → head_operators head ≤ limit → spec.head limit inner i ≡ Ok (head, r)
   unfolding spec.head
   head_complete head i j k r begin (l, start, (o, first, (p, test, (q, second, step)))) close deep few =
-      let b = opened limit room (head_nesting head) inner mark.LeftParen i j h deep begin in
+      let b = opened (Complete limit) room (head_nesting head) inner mark.LeftParen i j h deep begin in
       then_is _ b.readers j b.is
       (then_is _ head.start l (start_complete limit b.less b.readers b.complete head.start j l (record { spelled = start; nests = omega (arith, b.deep); within = omega arith }) (next_is mark.Semicolon l o first))
       (then_is _ tt o (expect_is mark.Semicolon l o first)
@@ -404,7 +404,7 @@ module _ (limit room : ℕ) (inner : Option Readers) (h : MayComplete limit room
   unfolding bare transaction_loop
   while_not_eot_complete x s i r k free =
       let (j, word, (l, begin, (o, stream, (p, close, body)))) = k.spelled in
-      let b = opened limit room 0 inner mark.LeftParen j l h (omega (arith, k.nests)) begin in
+      let b = opened (Complete limit) room 0 inner mark.LeftParen j l h (omega (arith, k.nests)) begin in
       rw (next_is mark.WhileNotEot i j word, dropped mark.WhileNotEot i j word)
       (then_is _ b.readers l b.is
       (then_is _ x o (name_is x l o stream)

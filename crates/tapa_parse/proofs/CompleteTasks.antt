@@ -16,10 +16,10 @@ use Rattle.tapa_parse.specs.Reading.{Readers, stream_kind, port, scalar, paramet
 use Rattle.tapa_parse.proofs.Parts.{Symbols, done, then_is, if_true, if_false, next_is, seen_is, dropped, expect_is, name_is, plain_is}
 use Rattle.tapa_parse.proofs.Lists.{IsPart, AreParts, ReadsAll, repeat_complete, repeat_one_complete, separated_complete, separated_until_complete}
 use Rattle.tapa_parse.proofs.CompleteTypes.{extends_type, type_complete, type_longer, takes_longer, sees_other}
-use Rattle.tapa_parse.proofs.CompleteLevels.{Ends, ends_at, expression_longer}
+use Rattle.tapa_parse.proofs.CompleteLevels.{Ends, ends_at, opened, expression_longer}
 use Rattle.tapa_parse.proofs.Begins.{begins_type}
 use Rattle.tapa_parse.proofs.CompleteExpressions.{counted_complete, whole_complete, stands}
-use Rattle.tapa_parse.proofs.CompleteActions.{Complete, MayComplete, opened, may_be, name_behind, type_other, const_is, name_longer, form_longer}
+use Rattle.tapa_parse.proofs.CompleteActions.{Complete, MayComplete, may_be, name_behind, type_other, const_is, name_longer, form_longer}
 use Rattle.tapa_parse.proofs.CompleteLengths.{each_longer, separated_longer, maybe_longer, when_longer, behind_longer}
 use Rattle.tapa_parse.proofs.CompleteStatements.{most_is}
 
@@ -203,7 +203,7 @@ module _ (limit room : ℕ) (inner : Option Readers) (h : MayComplete limit room
   unfolding invocation same
   invocation_complete x i r k =
       let (a, dot, (b, word, (c, mode, (d, begin, (e, named, (f, all, close)))))) = k.spelled in
-      let o = opened limit room (most (λ a. nesting a.value) x.arguments) inner mark.LeftParen c d h k.nests begin in
+      let o = opened (Complete limit) room (most (λ a. nesting a.value) x.arguments) inner mark.LeftParen c d h k.nests begin in
       then_is _ tt a (expect_is mark.Dot i a dot)
       (then_is _ tt b (expect_is mark.Invoke a b word)
       (then_is _ x.mode c (mode_complete x.mode b c mode (sees_other mark.LeftParen mark.Less c d begin refl))
