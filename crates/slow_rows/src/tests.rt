@@ -34,8 +34,7 @@ void B(tapa::istream<uint64_t>& in, tapa::ostream<uint64_t>& out) { out << in.re
 void T() { tapa::stream<uint64_t> x; tapa::stream<uint64_t> y; tapa::task().invoke(A, y, x).invoke(B, x, y); }
 ";
 
-const MIX: &str =
-    "void Deal(tapa::ostream<uint64_t>& a, tapa::ostream<uint64_t>& b) {
+const MIX: &str = "void Deal(tapa::ostream<uint64_t>& a, tapa::ostream<uint64_t>& b) {
   uint64_t t = 3; for (uint64_t i = 0; i < 5; ++i) { a << t; t = t + i; b.write(t + 7); } }
 void Mix(tapa::istream<uint64_t>& a, tapa::istream<uint64_t>& b, tapa::ostream<uint64_t>& c) {
   for (uint64_t i = 0; i < 5; ++i) { c << a.read() + b.read(); } }
@@ -44,8 +43,7 @@ void T() { tapa::stream<uint64_t, 1> a; tapa::stream<uint64_t, 3> b; tapa::strea
   tapa::task().invoke(Deal, a, b).invoke(Mix, a, b, c).invoke(Keep, c); }
 ";
 
-const RING: &str =
-    "void Start(tapa::istream<uint64_t>& back, tapa::ostream<uint64_t>& on) {
+const RING: &str = "void Start(tapa::istream<uint64_t>& back, tapa::ostream<uint64_t>& on) {
   on << 1; for (uint64_t i = 0; i < 6; ++i) { uint64_t x = back.read(); on << x + 2; } back.read(); }
 void Pass(tapa::istream<uint64_t>& in, tapa::ostream<uint64_t>& out) {
   for (uint64_t i = 0; i < 7; ++i) { out << in.read() + 1; } }
@@ -53,8 +51,7 @@ void T() { tapa::stream<uint64_t, 1> on; tapa::stream<uint64_t, 1> mid; tapa::st
   tapa::task().invoke(Start, back, on).invoke(Pass, on, mid).invoke(Pass, mid, back); }
 ";
 
-const STARVED: &str =
-    "void Two(tapa::ostream<uint64_t>& a, tapa::ostream<uint64_t>& b) {
+const STARVED: &str = "void Two(tapa::ostream<uint64_t>& a, tapa::ostream<uint64_t>& b) {
   for (uint64_t i = 0; i < 3; ++i) { a << i; } for (uint64_t j = 0; j < 3; ++j) { b << j + 10; } }
 void Swap(tapa::istream<uint64_t>& a, tapa::istream<uint64_t>& b, tapa::ostream<uint64_t>& c, tapa::ostream<uint64_t>& d) {
   for (uint64_t i = 0; i < 3; ++i) { d << a.read(); c << b.read() + 1; } }

@@ -6,9 +6,8 @@ use Rattle.tapa_syntax.specs.declared.program.Program.{Program}
 use Rattle.tapa_syntax.specs.declared.program.Stream.{Stream}
 use Rattle.tapa_syntax.specs.WellFormed.{IsWellFormed}
 use Rattle.kahn_model.specs.Network.{Network, IsNetwork}
-use Rattle.kahn_model.specs.Counts.{total, HasEnded, IsReachable, IsEnding}
+use Rattle.kahn_model.specs.Counts.{HasEnded, IsReachable, IsEnding}
 use Rattle.kahn_model.specs.Ending.{EndsWithin, StopsWithin, GoesPast}
-use Rattle.kahn_model.specs.Outcome.{IsDone, IsStopped, WaitsToRead, WaitsToWrite, HasBadToken}
 use Rattle.kahn_model.specs.Standing.{Standing, over, to_read, to_write, at_bad, StandsSo}
 use Rattle.kahn_model.proofs.Count.{one_end}
 use Rattle.kahn_model.proofs.Ending.{has_ended, three_ways}

@@ -1,12 +1,12 @@
 -- The programs of a source are one as plain data, and run alike.
-use Rattle.std.proofs.Common.{◌≡◌, ◌⊎◌, ◌<◌, ◌≤◌, ℕ, suc, List, [], ◌∷◌, ◌++◌, length, map, Some, inl, inr, refl, sym, ap, subst, ◌∙◌}
+use Rattle.std.proofs.Common.{◌≡◌, ◌<◌, ◌≤◌, ℕ, suc, List, [], ◌∷◌, ◌++◌, length, map, inl, inr, sym, ap, subst, ◌∙◌}
 use Rattle.tapa_syntax.specs.declared.program.Instance.{Instance}
 use Rattle.tapa_syntax.specs.declared.program.Program.{Program}
 use Rattle.tapa_syntax.specs.declared.program.Stream.{Stream}
 use Rattle.tapa_syntax.specs.Flat.{FlatInstance, FlatProgram, flat_instance, flat_program}
 use Rattle.tapa_syntax.specs.Trees.{ItemTree}
 use Rattle.kahn_model.specs.Network.{Network}
-use Rattle.kahn_model.specs.Counts.{total, written, HasEnded, IsEnding, IsKahnStream}
+use Rattle.kahn_model.specs.Counts.{total, written, IsEnding, IsKahnStream}
 use Rattle.kahn_model.specs.Outcome.{IsDone, IsStopped}
 use Rattle.kahn_model.proofs.OneMeaning.{one_meaning}
 use Rattle.path_check.specs.Programs.{program_of}

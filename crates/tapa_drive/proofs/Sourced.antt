@@ -1,12 +1,11 @@
 -- A refused source means no program, and a program of a source has no scalars and no memories.
-use Rattle.std.proofs.Common.{◌≡◌, ◌-◌, ℕ, List, [], length, take, Bool, ◌&&◌, Option, Some, None, Ok, Err, refl, sym, ◌∙◌, ap, subst}
+use Rattle.std.proofs.Common.{◌≡◌, ◌≤◌, ◌-◌, ℕ, List, [], length, take, Bool, ◌&&◌, Option, Some, None, Ok, Err, refl, sym, ◌∙◌, ap, subst}
 use Rattle.tapa_base.specs.declared.text.Place.{Place}
 use Rattle.tapa_syntax.specs.declared.lexeme.Lexeme.{Lexeme}
 use Rattle.tapa_syntax.specs.declared.program.Memory.{Memory}
 use Rattle.tapa_syntax.specs.declared.program.Program.{Program}
 use Rattle.tapa_syntax.specs.declared.program.Scalar.{Scalar}
 use Rattle.tapa_syntax.specs.declared.tree.File.{File}
-use Rattle.tapa_syntax.specs.Lexemes.{HasLexemes}
 use Rattle.tapa_syntax.specs.Symbols.{Symbol}
 use Rattle.tapa_syntax.specs.Trees.{ItemTree, file_of}
 use Rattle.tapa_lex.specs.declared.fault.LexCode.{LexCode}
@@ -29,9 +28,9 @@ use Rattle.std.specs.Prelude.{option_and_then, slice_get, nat_le}
 use Rattle.tapa_base.specs.Outside.{Files}
 use Rattle.tapa_base.specs.Take.{IsFileOf}
 use Rattle.kahn_model.specs.Fits.{FitsInput}
-use Rattle.tapa_drive.specs.Answer.{OfFile}
+use Rattle.tapa_drive.specs.Answer.{OfSource, source_limit}
 use Rattle.tapa_drive.specs.Codes.{lex_code, parse_code}
-use Rattle.tapa_drive.specs.Source.{tree_of, HasTree, HasNoTree, IsProgramOf, IsRefusedSource, MeansNothing}
+use Rattle.tapa_drive.specs.Source.{tree_of, HasTree, HasNoTree, IsRefusedSource, MeansNothing}
 
 ok_pair : (p q : List ItemTree × List Symbol) → (let E : Outcome (List ItemTree) = Ok p in E) ≡ Ok q → p ≡ q
 ok_pair p q e = cc
@@ -120,10 +119,10 @@ closed_fits program h = record {
 }
 
 -- where the files are told, what holds of the bytes that were taken holds of the file
-pub of_taken : (files : Option Files) (name bytes : List ℕ) (P : List ℕ → Type 0) → IsFileOf files name bytes → P bytes → OfFile files name P
-of_taken None name bytes P is h = tt
-of_taken (Some files) name bytes P is h = subst P is h
+pub of_taken : (files : Option Files) (name bytes : List ℕ) (P : List ℕ → Type 0) → IsFileOf files name bytes → length bytes ≤ source_limit → P bytes → OfSource files name P
+of_taken None name bytes P is few h = tt
+of_taken (Some files) name bytes P is few h = (subst (λ (text : List ℕ). length text ≤ source_limit) is few, subst P is h)
 
-pub of_file_also : (files : Option Files) (name : List ℕ) (P Q : List ℕ → Type 0) → ((text : List ℕ) → P text → Q text) → OfFile files name P → OfFile files name Q
-of_file_also None name P Q f h = tt
-of_file_also (Some files) name P Q f h = f _ h
+pub of_source_also : (files : Option Files) (name : List ℕ) (P Q : List ℕ → Type 0) → ((text : List ℕ) → P text → Q text) → OfSource files name P → OfSource files name Q
+of_source_also None name P Q f h = tt
+of_source_also (Some files) name P Q f (few, h) = (few, f _ h)

@@ -1,9 +1,9 @@
 -- What a source means, and what a call must answer to it where nothing outside of it fails.
-use Rattle.std.specs.Prelude.{◌≡◌, ◌⊎◌, ℕ, List, Option}
+use Rattle.std.specs.Prelude.{◌≡◌, ◌<◌, ℕ, List, length, Option, Some, None, ⊤}
 use Rattle.std.specs.Io.KnownBytes.{Appends}
-use Rattle.tapa_base.specs.Outside.{Files, Rose}
+use Rattle.tapa_base.specs.Outside.{Files, file_bytes, Rose}
 use Rattle.tapa_syntax.specs.declared.program.Program.{Program}
-use Rattle.tapa_drive.specs.Answer.{OfFile, IsWithin, tick_limit}
+use Rattle.tapa_drive.specs.Answer.{OfSource, source_limit, tick_limit}
 use Rattle.tapa_drive.specs.Refusal.{message_of, Endless}
 use Rattle.tapa_drive.specs.Run.{RunsToEnd, StopsShort, RunsPast}
 use Rattle.tapa_drive.specs.Source.{IsProgramOf, MeansNothing}
@@ -43,6 +43,15 @@ pub record IsStill (source : List ℕ) (reads_old reads_new : List ℕ → ℕ) 
   pub written : Rose writes_old writes_new → ⊥
   pub told : Rose errors_old errors_new → ⊥
 
+abbrev pub AreTold : Option Files → Type 0
+AreTold None = ⊥
+AreTold (Some files) = ⊤
+
 -- the files are told, the source has no more bytes than it may, and it means this
 abbrev pub Expects : Option Files → List ℕ → List ℕ → SourceMeaning → Type 0
-Expects files source top meaning = IsWithin files source × OfFile files source (λ text. Means text top meaning)
+Expects files source top meaning = AreTold files × OfSource files source (λ text. Means text top meaning)
+
+-- the files are told, and the source has more bytes than it may
+abbrev pub IsLengthy : Option Files → List ℕ → Type 0
+IsLengthy None source = ⊥
+IsLengthy (Some files) source = source_limit < length (file_bytes files source)

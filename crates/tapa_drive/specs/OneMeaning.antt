@@ -2,9 +2,11 @@
 use Rattle.std.specs.Prelude.{◌≡◌, ℕ, List}
 use Rattle.tapa_syntax.specs.declared.program.Program.{Program}
 use Rattle.tapa_syntax.specs.Flat.{flat_program}
-use Rattle.tapa_drive.specs.Decided.{SourceMeaning, Means}
+use Rattle.tapa_base.specs.declared.text.Place.{Place}
+use Rattle.tapa_drive.specs.declared.source.SourceCode.{SourceCode}
+use Rattle.tapa_drive.specs.Decided.{SourceMeaning, Nothing, Means}
 use Rattle.tapa_drive.specs.Run.{RunsToEnd, StopsShort, RunsPast}
-use Rattle.tapa_drive.specs.Source.{IsProgramOf}
+use Rattle.tapa_drive.specs.Source.{IsProgramOf, IsRefusedSource}
 
 -- what holds of one program of a source, of any other
 abbrev pub HoldsOfEach : (Program → Type 0) → Type 0
@@ -30,3 +32,7 @@ SourcesMeanOneThing = (text top : List ℕ) (m n : SourceMeaning) → Means text
 -- and where it has a program it has one
 abbrev pub SourcesMeanSomething : Type 0
 SourcesMeanSomething = (text top : List ℕ) (p : Program) → IsProgramOf text top p → (m : SourceMeaning) × Means text top m
+
+-- where a rule refuses it it has none
+abbrev pub RefusedSourcesMeanNothing : Type 0
+RefusedSourcesMeanNothing = (text top : List ℕ) (place : Place) (code : SourceCode) → IsRefusedSource text top place code → Means text top Nothing

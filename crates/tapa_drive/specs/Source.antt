@@ -1,5 +1,5 @@
 -- The program of a source, and where a source is refused.
-use Rattle.std.specs.Prelude.{◌≡◌, ℕ, List, [], Ok, Err}
+use Rattle.std.specs.Prelude.{◌≡◌, ℕ, List, Ok, Err}
 use Rattle.tapa_base.specs.declared.text.Place.{Place}
 use Rattle.tapa_syntax.specs.declared.lexeme.Lexeme.{Lexeme}
 use Rattle.tapa_syntax.specs.declared.program.Program.{Program}
@@ -8,7 +8,6 @@ use Rattle.tapa_syntax.specs.Lexemes.{HasLexemes}
 use Rattle.tapa_syntax.specs.Limits.{most_levels, most_operators}
 use Rattle.tapa_syntax.specs.Symbols.{Symbol, symbols_of}
 use Rattle.tapa_syntax.specs.Trees.{ItemTree, file_of}
-use Rattle.tapa_lex.specs.declared.fault.LexCode.{LexCode}
 use Rattle.tapa_lex.specs.declared.fault.LexCode.TheVariants as lex
 use Rattle.tapa_lex.specs.Refusals.{IsRefused}
 use Rattle.tapa_parse.specs.declared.fault.ParseCode.{ParseCode}

@@ -1,8 +1,3 @@
-use Rattle.std.proofs.Common.{◌≡◌, ℕ, List, Option, Some, None, refl, subst}
-use Rattle.std.specs.Prelude.{IfSome, IfNone}
-use Rattle.tapa_syntax.specs.declared.program.Program.{Program}
-use Rattle.tapa_syntax.specs.declared.tree.File.{File}
-use Rattle.path_check.specs.Programs.{IsPathProgram, HasNoProgram}
 use Rattle.tapa_drive.proofs.Answered.{has_tree, program_of_tree, no_path_of_tree}
 use Rattle.tapa_drive.proofs.program.read_program.Goals as goal
 
