@@ -1,15 +1,13 @@
 -- Statements that were read are spelled so, and pass no limit.
-use Rattle.std.proofs.Common.{◌≡◌, ◌⊎◌, inl, inr, ℕ, zero, suc, ◌≤◌, Bool, true, false, not, List, [], ◌∷◌, drop, Option, Some, None, refl, sym, ◌∙◌, arith}
-use Rattle.tapa_base.specs.declared.text.Place.{Place}
+use Rattle.std.proofs.Common.{◌≡◌, inl, inr, ℕ, zero, suc, true, false, not, List, [], ◌∷◌, drop, Option, Some, None, refl, sym, ◌∙◌, arith}
 use Rattle.tapa_syntax.specs.declared.mark.Mark.{Mark}
 use Rattle.tapa_syntax.specs.declared.mark.Mark.TheVariants as mark
 use Rattle.tapa_syntax.specs.Spans.{◌⨾◌, Maybe}
 use Rattle.tapa_syntax.specs.Trees.{ExpressionTree, ActionTree, StartTree, no_start, declare_start, act_start, HeadTree, StatementTree, attributed, empty, block, declare, act, if_only, if_else, while, for, while_not_eot, break, continue, statements}
-use Rattle.tapa_syntax.specs.Grammar.{Part, Takes, TakesAt, IsName, IsExpression, expression_level, IsAction, IsClosed, IsBare, IsStart, IsHead, IsStatement, AreStatements}
+use Rattle.tapa_syntax.specs.Grammar.{Part, Takes, TakesAt, IsExpression, expression_level, IsAction, IsClosed, IsBare, IsStart, IsHead, IsStatement, AreStatements}
 use Rattle.tapa_syntax.specs.Limits.{if_there, nesting, operators, action_nesting, action_operators, start_nesting, start_operators, head_nesting, head_operators, statement_nesting, statement_operators, statements_nesting, statements_operators}
 use Rattle.tapa_parse.specs.declared.fault.ParseCode.TheVariants.{P1}
 use Rattle.tapa_parse.specs.Readers.{next, first_place, sees}
-use Rattle.tapa_parse.specs.Reading as spec
 use Rattle.tapa_parse.specs.Reading.{Readers, begins_action, begins_statement, start, loop_test, step, head, jump, statement_with, statements_with, simple, braces, otherwise, choice, repetition, counting_loop, transaction_loop, bare_by, bare, inside_with, readers, below_room}
 use Rattle.tapa_parse.proofs.Parts.{Symbols, Yields, yields_pure, yields_none, yields_then, yields_if, weaker, takes, expect_yields, sees_is, is_seen, is_end, name_yields}
 use Rattle.tapa_parse.proofs.Lists.{IsPart, AreParts, repeat_sound}
@@ -130,12 +128,14 @@ module _ (limit room : ℕ) (inner : Option Readers) (h : MayBe (Sound limit) ro
   otherwise_sound c s i0 i j k first test then =
       yields_if (sees mark.Else k)
       (λ e. yields_then (statement_reads (drop 1 k)) (λ t r other.
-      yields_pure (IsReadBare i0) (if_else c s t) r
-      (record {
-        spelled = ((closed then.spelled.1 e, under mark.If c (IsStatement s ⨾ Takes mark.Else ⨾ IsStatement t) i0 i j r first test (k, then.spelled.0, (drop 1 k, takes mark.Else k refl e, other.spelled.0))), other.spelled.1);
-        nests = omega (arith, test.nests, then.nests, other.nests);
-        within = omega (arith, test.within, then.within, other.within);
-      }, tt)))
+      yields_pure (IsReadBare i0) (if_else c s t) r (
+        record {
+          spelled = ((closed then.spelled.1 e, under mark.If c (IsStatement s ⨾ Takes mark.Else ⨾ IsStatement t) i0 i j r first test (k, then.spelled.0, (drop 1 k, takes mark.Else k refl e, other.spelled.0))), other.spelled.1);
+          nests = omega (arith, test.nests, then.nests, other.nests);
+          within = omega (arith, test.within, then.within, other.within);
+        },
+        tt,
+      )))
       (λ e. yields_pure (IsReadBare i0) (if_only c s) k (record { spelled = (under mark.If c (IsStatement s) i0 i j k first test then.spelled.0, inr e); nests = omega (arith, test.nests, then.nests); within = omega (arith, test.within, then.within) }, tt))
     where
       closed : TakesNoElse s k → sees mark.Else k ≡ true → IsClosed s
@@ -158,12 +158,14 @@ module _ (limit room : ℕ) (inner : Option Readers) (h : MayBe (Sound limit) ro
           yields_pure (IsReadBare i) (while c s) r (record { spelled = (under mark.While c (IsStatement s) i (drop 1 i) j r (takes_it mark.While i refl e) test body.spelled.0, body.spelled.1); nests = omega (arith, test.nests, body.nests); within = omega (arith, test.within, body.within) }, tt)))
       pick mark.For e =
           yields_then (head_reads (drop 1 i)) (λ d j test. yields_then (statement_reads j) (λ s r body.
-          yields_pure (IsReadBare i) (for d s) r
-          (record {
-            spelled = ((drop 1 i, takes_it mark.For i refl e, and_behind (Takes mark.LeftParen) (IsHead d) (Takes mark.RightParen) (IsStatement s) (drop 1 i) j r test.spelled body.spelled.0), body.spelled.1);
-            nests = omega (arith, test.nests, body.nests);
-            within = omega (arith, test.within, body.within);
-          }, tt)))
+          yields_pure (IsReadBare i) (for d s) r (
+            record {
+              spelled = ((drop 1 i, takes_it mark.For i refl e, and_behind (Takes mark.LeftParen) (IsHead d) (Takes mark.RightParen) (IsStatement s) (drop 1 i) j r test.spelled body.spelled.0), body.spelled.1);
+              nests = omega (arith, test.nests, body.nests);
+              within = omega (arith, test.within, body.within);
+            },
+            tt,
+          )))
       pick mark.WhileNotEot e =
           yields_then (open_sound (Sound limit) room inner mark.LeftParen (drop 1 i) refl h) (λ R j opened. yields_then (name_yields j) (λ x k is. yields_then (expect_yields mark.RightParen k refl) (λ _ l close. yields_then (statement_reads l) (λ s r body.
           yields_pure (IsReadBare i) (while_not_eot x s) r

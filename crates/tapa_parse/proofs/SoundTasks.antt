@@ -1,5 +1,5 @@
 -- Files that were read are spelled so, and pass no limit.
-use Rattle.std.proofs.Common.{◌≡◌, ◌⊎◌, inl, inr, ℕ, suc, ◌<◌, ◌≤◌, Bool, true, false, cond, ◌||◌, List, [], ◌∷◌, length, drop, Option, Some, None, Ok, Err, refl, subst, arith}
+use Rattle.std.proofs.Common.{◌≡◌, inl, inr, ℕ, ◌≤◌, Bool, true, false, cond, ◌||◌, List, [], ◌∷◌, drop, Option, Some, None, Ok, Err, refl, subst, arith}
 use Rattle.tapa_base.specs.declared.kind.Kind.{Kind}
 use Rattle.tapa_syntax.specs.declared.mark.Mark.{Mark}
 use Rattle.tapa_syntax.specs.declared.mark.Mark.TheVariants as mark
@@ -7,13 +7,12 @@ use Rattle.tapa_syntax.specs.declared.tree.Name.{Name}
 use Rattle.tapa_syntax.specs.declared.tree.Parameter.{Parameter}
 use Rattle.tapa_syntax.specs.declared.tree.Parameter.TheVariants as parameter_form
 use Rattle.tapa_syntax.specs.Spans.{◌⨾◌, ◌∣◌, Maybe, Each, EachOfSome, SeparatedOrNone}
-use Rattle.tapa_syntax.specs.Trees.{ExpressionTree, CountTree, AttributeTree, StreamTree, ArgumentTree, InvocationTree, BodyTree, leaf, upper, TaskTree, ItemTree, constant, task, statements}
-use Rattle.tapa_syntax.specs.Grammar.{Part, Takes, TakesAt, IsName, IsExpression, expression_level, IsType, IsCount, StandsAt, IsAttribute, IsParameter, MayBeLabelled, IsStream, IsArgument, IsMode, IsInvocation, IsBody, IsTask, IsItem, IsTreeOf}
+use Rattle.tapa_syntax.specs.Trees.{ExpressionTree, CountTree, AttributeTree, ArgumentTree, InvocationTree, BodyTree, leaf, upper, ItemTree, constant, task, statements}
+use Rattle.tapa_syntax.specs.Grammar.{Part, Takes, TakesAt, IsName, IsExpression, expression_level, IsType, IsCount, StandsAt, IsAttribute, IsParameter, MayBeLabelled, IsStream, IsArgument, IsMode, IsInvocation, IsBody, IsItem, IsTreeOf}
 use Rattle.tapa_syntax.specs.Limits.{most, if_there, nesting, operators, form_nesting, form_operators, stream_nesting, stream_operators, invocation_nesting, invocation_operators, body_nesting, body_operators, item_nesting, item_operators, most_levels, most_operators, IsWithinLimits}
 use Rattle.tapa_parse.specs.declared.fault.ParseCode.TheVariants.{P1}
 use Rattle.tapa_parse.specs.Readers.{Outcome, ◌>>◌, skip, next, first_place, sees, expect, past, separated_until}
-use Rattle.tapa_parse.specs.Reading as spec
-use Rattle.tapa_parse.specs.Reading.{Readers, below_room, below, stream_kind, port_by, port, scalar, parameter, parameters, stream_name, mode, is_left, ended, depth, stream, invocation_argument, invocation_arguments, invocation, chained, invocations, streams, body, task_behind, constant_word, constant_behind, item, items, file}
+use Rattle.tapa_parse.specs.Reading.{Readers, below_room, below, stream_kind, port_by, port, scalar, parameter, parameters, stream_name, mode, is_left, ended, depth, stream, invocation_argument, invocation_arguments, invocation, chained, invocations, body, task_behind, constant_word, constant_behind, item, file}
 use Rattle.tapa_parse.proofs.Parts.{Symbols, Yields, yields_pure, yields_none, yields_then, yields_if, weaker, takes, expect_yields, name_yields, plain_yields}
 use Rattle.tapa_parse.proofs.Lists.{IsPart, AreParts, AreSome, AreListed, repeat_sound, repeat_behind_sound, behind_sound, separated_sound, separated_until_sound, some_of}
 use Rattle.tapa_parse.proofs.CompleteLevels.{expression_longer}
