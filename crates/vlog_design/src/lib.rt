@@ -1,7 +1,6 @@
 //! A checked design of the Verilog subset: its modules, its top, and what the top asks of the outside.
 #![tactic(auto)]
 
-mod labels;
 mod outside;
 mod roots;
 mod shape;

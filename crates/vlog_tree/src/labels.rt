@@ -9,7 +9,7 @@ use std::alloc::{AllocError, Global};
 use tapa_base::Text;
 
 // The label between a front and an end, which isn't empty.
-#[tactic(auto, unfolding(vlog_tree::specs::Labels::label_in))]
+#[tactic(auto, unfolding(crate::specs::Labels::label_in))]
 fn label_in<'a>(front: &[u8], end: &[u8], x: &'a [u8]) -> Option<&'a [u8]>
     ensures value { option_copied result ≡ label_lem front.now end.now x.now }
     ensures ascii { IsAscii x.now → IfSome result (λ l. IsAscii l.now) }
@@ -30,56 +30,63 @@ fn label_in<'a>(front: &[u8], end: &[u8], x: &'a [u8]) -> Option<&'a [u8]>
     }
 }
 
-#[tactic(auto, unfolding(vlog_tree::specs::Labels::scalar_of))]
-pub(crate) fn scalar_of(x: &Text) -> Option<&[u8]>
+/// The label of a scalar's port, `v_X`.
+#[tactic(auto, unfolding(crate::specs::Labels::scalar_of))]
+pub fn scalar_of(x: &Text) -> Option<&[u8]>
     ensures value { option_copied result ≡ scalar_lem x.now }
     ensures ascii { IfSome result (λ l. IsAscii l.now) }
 {
     label_in(b"v_", b"", x.bytes())
 }
 
-#[tactic(auto, unfolding(vlog_tree::specs::Labels::ack_of))]
-pub(crate) fn ack_of(x: &Text) -> Option<&[u8]>
+/// The label in `m_X_ack`.
+#[tactic(auto, unfolding(crate::specs::Labels::ack_of))]
+pub fn ack_of(x: &Text) -> Option<&[u8]>
     ensures value { option_copied result ≡ ack_lem x.now }
     ensures ascii { IfSome result (λ l. IsAscii l.now) }
 {
     label_in(b"m_", b"_ack", x.bytes())
 }
 
-#[tactic(auto, unfolding(vlog_tree::specs::Labels::rdata_of))]
-pub(crate) fn rdata_of(x: &Text) -> Option<&[u8]>
+/// The label in `m_X_rdata`.
+#[tactic(auto, unfolding(crate::specs::Labels::rdata_of))]
+pub fn rdata_of(x: &Text) -> Option<&[u8]>
     ensures value { option_copied result ≡ rdata_lem x.now }
     ensures ascii { IfSome result (λ l. IsAscii l.now) }
 {
     label_in(b"m_", b"_rdata", x.bytes())
 }
 
-#[tactic(auto, unfolding(vlog_tree::specs::Labels::addr_of))]
-pub(crate) fn addr_of(x: &Text) -> Option<&[u8]>
+/// The label in `m_X_addr`.
+#[tactic(auto, unfolding(crate::specs::Labels::addr_of))]
+pub fn addr_of(x: &Text) -> Option<&[u8]>
     ensures value { option_copied result ≡ addr_lem x.now }
     ensures ascii { IfSome result (λ l. IsAscii l.now) }
 {
     label_in(b"m_", b"_addr", x.bytes())
 }
 
-#[tactic(auto, unfolding(vlog_tree::specs::Labels::wdata_of))]
-pub(crate) fn wdata_of(x: &Text) -> Option<&[u8]>
+/// The label in `m_X_wdata`.
+#[tactic(auto, unfolding(crate::specs::Labels::wdata_of))]
+pub fn wdata_of(x: &Text) -> Option<&[u8]>
     ensures value { option_copied result ≡ wdata_lem x.now }
     ensures ascii { IfSome result (λ l. IsAscii l.now) }
 {
     label_in(b"m_", b"_wdata", x.bytes())
 }
 
-#[tactic(auto, unfolding(vlog_tree::specs::Labels::we_of))]
-pub(crate) fn we_of(x: &Text) -> Option<&[u8]>
+/// The label in `m_X_we`.
+#[tactic(auto, unfolding(crate::specs::Labels::we_of))]
+pub fn we_of(x: &Text) -> Option<&[u8]>
     ensures value { option_copied result ≡ we_lem x.now }
     ensures ascii { IfSome result (λ l. IsAscii l.now) }
 {
     label_in(b"m_", b"_we", x.bytes())
 }
 
-#[tactic(auto, unfolding(vlog_tree::specs::Labels::din_of))]
-pub(crate) fn din_of(x: &Text) -> Option<&[u8]>
+/// The label in `s_X_din`.
+#[tactic(auto, unfolding(crate::specs::Labels::din_of))]
+pub fn din_of(x: &Text) -> Option<&[u8]>
     ensures value { option_copied result ≡ din_lem x.now }
     ensures ascii { IfSome result (λ l. IsAscii l.now) }
 {
@@ -95,50 +102,57 @@ fn joined(alloc: Global, front: &[u8], label: &[u8], end: &[u8]) -> Result<Vec<u
     Ok(name)
 }
 
-#[tactic(auto, unfolding(vlog_tree::specs::Labels::m_ack))]
-pub(crate) fn ack_name(alloc: Global, label: &[u8]) -> Result<Vec<u8>, AllocError>
+/// The name `m_X_ack`.
+#[tactic(auto, unfolding(crate::specs::Labels::m_ack))]
+pub fn ack_name(alloc: Global, label: &[u8]) -> Result<Vec<u8>, AllocError>
     ensures { IfOk result (λ v. v.items ≡ m_ack label.now) }
 {
     joined(alloc, b"m_", label, b"_ack")
 }
 
-#[tactic(auto, unfolding(vlog_tree::specs::Labels::m_rdata))]
-pub(crate) fn rdata_name(alloc: Global, label: &[u8]) -> Result<Vec<u8>, AllocError>
+/// The name `m_X_rdata`.
+#[tactic(auto, unfolding(crate::specs::Labels::m_rdata))]
+pub fn rdata_name(alloc: Global, label: &[u8]) -> Result<Vec<u8>, AllocError>
     ensures { IfOk result (λ v. v.items ≡ m_rdata label.now) }
 {
     joined(alloc, b"m_", label, b"_rdata")
 }
 
-#[tactic(auto, unfolding(vlog_tree::specs::Labels::m_addr))]
-pub(crate) fn addr_name(alloc: Global, label: &[u8]) -> Result<Vec<u8>, AllocError>
+/// The name `m_X_addr`.
+#[tactic(auto, unfolding(crate::specs::Labels::m_addr))]
+pub fn addr_name(alloc: Global, label: &[u8]) -> Result<Vec<u8>, AllocError>
     ensures { IfOk result (λ v. v.items ≡ m_addr label.now) }
 {
     joined(alloc, b"m_", label, b"_addr")
 }
 
-#[tactic(auto, unfolding(vlog_tree::specs::Labels::m_wdata))]
-pub(crate) fn wdata_name(alloc: Global, label: &[u8]) -> Result<Vec<u8>, AllocError>
+/// The name `m_X_wdata`.
+#[tactic(auto, unfolding(crate::specs::Labels::m_wdata))]
+pub fn wdata_name(alloc: Global, label: &[u8]) -> Result<Vec<u8>, AllocError>
     ensures { IfOk result (λ v. v.items ≡ m_wdata label.now) }
 {
     joined(alloc, b"m_", label, b"_wdata")
 }
 
-#[tactic(auto, unfolding(vlog_tree::specs::Labels::m_we))]
-pub(crate) fn we_name(alloc: Global, label: &[u8]) -> Result<Vec<u8>, AllocError>
+/// The name `m_X_we`.
+#[tactic(auto, unfolding(crate::specs::Labels::m_we))]
+pub fn we_name(alloc: Global, label: &[u8]) -> Result<Vec<u8>, AllocError>
     ensures { IfOk result (λ v. v.items ≡ m_we label.now) }
 {
     joined(alloc, b"m_", label, b"_we")
 }
 
-#[tactic(auto, unfolding(vlog_tree::specs::Labels::s_wr))]
-pub(crate) fn wr_name(alloc: Global, label: &[u8]) -> Result<Vec<u8>, AllocError>
+/// The name `s_X_wr`.
+#[tactic(auto, unfolding(crate::specs::Labels::s_wr))]
+pub fn wr_name(alloc: Global, label: &[u8]) -> Result<Vec<u8>, AllocError>
     ensures { IfOk result (λ v. v.items ≡ s_wr label.now) }
 {
     joined(alloc, b"s_", label, b"_wr")
 }
 
-#[tactic(auto, unfolding(vlog_tree::specs::Labels::s_rdy))]
-pub(crate) fn rdy_name(alloc: Global, label: &[u8]) -> Result<Vec<u8>, AllocError>
+/// The name `s_X_rdy`.
+#[tactic(auto, unfolding(crate::specs::Labels::s_rdy))]
+pub fn rdy_name(alloc: Global, label: &[u8]) -> Result<Vec<u8>, AllocError>
     ensures { IfOk result (λ v. v.items ≡ s_rdy label.now) }
 {
     joined(alloc, b"s_", label, b"_rdy")
