@@ -1,7 +1,10 @@
 -- With sums that are sound and closed, edges reach just what rests.
 use Rattle.std.proofs.Common.{◌≡◌, ℕ, zero, suc, ◌+◌, ◌-◌, ◌<◌, ◌≤◌, Bool, true, false, cond, List, [], ◌∷◌, ◌++◌, length, get_or, Option, Some, None, inl, inr, refl, sym, ap, subst, ◌∙◌, arith, map}
-use Rattle.std.specs.Prelude.{bytes_eq, slice_get, ◌⊎◌, ◌↔◌, is_some, unwrap_or}
+use Rattle.std.specs.Prelude.{bytes_eq, slice_get, ◌⊎◌, ◌↔◌, ◌≢◌, slice_set, is_some, unwrap_or}
 use Rattle.std.specs.List.{flat_map}
+use Rattle.std.proofs.lemmas.Bool.{cases_eq}
+use Rattle.std.proofs.lemmas.List.{get_or-set_other, length-set}
+use Rattle.std.proofs.lemmas.Grind.{get_or-set_at}
 use Rattle.vlog_tree.specs.declared.table.Sort.TheVariants.{Input, Output}
 use Rattle.vlog_tree.specs.Grounded.{Has}
 use Rattle.vlog_tree.specs.Form.{ModuleTree}
@@ -107,3 +110,28 @@ pub sum_missing : (start : ℕ) (ms : List ModuleTree) (sums : List Edges) (x : 
 sum_missing start [] sums x e = refl
 sum_missing start (m ∷ ms) [] x e = refl
 sum_missing start (m ∷ ms) (s ∷ sums) x e = missing_here m ms s sums start x (bytes_eq m.name x) (sum_missing (suc start) ms sums x) e
+
+pub sum_at : (ms : List ModuleTree) (sums : List Edges) (x : Name) (place : ℕ) (again : Bool) → places_from 0 (names ms) x ≡ Some (place, again) → sum_named ms sums x ≡ get_or sums place []
+sum_at ms sums x place again e = let z : place - 0 ≡ place = omega arith in sum_there 0 ms sums x place again e ∙ ap (λ n. get_or sums n []) z
+
+-- one sum made anew
+set_same : (sums : List Edges) (at : ℕ) (s : Edges) → at < length sums → get_or (slice_set sums at s) at [] ≡ s
+set_same sums at s h = get_or-set_at sums at at s [] refl h
+
+set_of : (P : ModuleTree → Edges → Type 0) (ms : List ModuleTree) (sums : List Edges) (at j : ℕ) (m k : ModuleTree) (s : Edges) → at < length sums → slice_get ms at ≡ Some m → P m s
+    → slice_get ms j ≡ Some k → P k (get_or sums j []) → (j ≡ at) ⊎ (j ≢ at) → P k (get_or (slice_set sums at s) j [])
+set_of P ms sums at j m k s h is p e old (inl same) =
+    let tree : m ≡ k = cc (is, e, same) in
+    subst (λ t. P t (get_or (slice_set sums at s) j [])) tree (subst (λ v. P m v) (sym (ap (λ n. get_or (slice_set sums at s) n []) same ∙ set_same sums at s h)) p)
+set_of P ms sums at j m k s h is p e old (inr other) = subst (λ v. P k v) (sym (get_or-set_other sums at j s [] other)) old
+
+pub sums_set : (P : ModuleTree → Edges → Type 0) (ms : List ModuleTree) (sums : List Edges) (at : ℕ) (m : ModuleTree) (s : Edges) → at < length sums → slice_get ms at ≡ Some m → P m s
+    → AreSums P ms sums → AreSums P ms (slice_set sums at s)
+sums_set P ms sums at m s h is p a = record {
+  len = length-set sums at s ∙ a.len;
+  each = λ j k e. set_of P ms sums at j m k s h is p e (a.each j k e) (cases_eq j at);
+}
+
+pub sound_of : (ms : List ModuleTree) (is_top : Name → Bool) (sums : List Edges) (m : ModuleTree) (s : Edges) → AreSums (IsSoundSum ms is_top) ms sums
+    → IsSumOf (module_edges ms is_top sums m) (map port_declared m.ports) s → IsSoundSum ms is_top m s
+sound_of ms is_top sums m s sound all x y h = let p = (all x y).0 h in (p.0, p.1, reaches_rests ms is_top sums sound m p.2)

@@ -1,14 +1,19 @@
 -- The first place with a property.
-use Rattle.std.proofs.Common.{◌≡◌, ℕ, Bool, true, false, List, [], ◌∷◌, ◌++◌, Option, Some, None, inl, inr, refl, sym, ap, subst, ◌∙◌, append_assoc}
-use Rattle.std.specs.Prelude.{◌⊎◌, ◌↔◌, slice_get}
+use Rattle.std.proofs.Common.{◌≡◌, ℕ, ◌+◌, ◌<◌, ◌≤◌, Bool, true, false, List, [], ◌∷◌, ◌++◌, length, arith, Option, Some, None, inl, inr, refl, sym, ap, subst, ◌∙◌, append_assoc}
+use Rattle.std.specs.Prelude.{◌⊎◌, ◌↔◌, ◌≢◌, slice_get}
+use Rattle.std.proofs.lemmas.Bool.{cases_eq}
 use Rattle.vlog_tree.specs.Grounded.{Has}
 use Rattle.vlog_tree.specs.Form.{ModuleTree}
 use Rattle.vlog_tree.specs.Table.{Name}
-use Rattle.vlog_tree.specs.Loops.{Reaches, Rests, port_of, instances, TextPlace, place_name, IsFirst, LiesOnLoop}
+use Rattle.vlog_tree.specs.Loops.{Edges, Reaches, Rests, port_of, instances, TextPlace, place_name, IsFirst, LiesOnLoop}
 use Rattle.vlog_feedback.specs.declared.suspects.Suspect.{Suspect}
 use Rattle.vlog_feedback.specs.declared.suspects.Loops.{Loops}
-use Rattle.vlog_feedback.specs.Search.{IsSearched, LoopsIn, IsSuspect, IsEvidence}
-use Rattle.vlog_feedback.proofs.Lists.{has_got}
+use Rattle.vlog_feedback.specs.Search.{IsSearched, LoopsIn, IsSuspect, IsEvidence, IsJudged}
+use Rattle.vlog_feedback.specs.Summaries.{module_edges, AreRight}
+use Rattle.vlog_loops.specs.Graphs.{IsGraphOf}
+use Rattle.vlog_loops.proofs.Numbered.{has_left, has_right, has_split}
+use Rattle.vlog_feedback.proofs.Resting.{rests_is_reaches}
+use Rattle.vlog_feedback.proofs.Lists.{has_got, got_has}
 
 module _ (P : TextPlace → Type 0) where
   pub hits : (s : TextPlace) (xs : List TextPlace) → P s → IsSearched P (s ∷ xs) (Some (place_name s))
@@ -68,3 +73,57 @@ module _ (ms : List ModuleTree) (is_top : Name → Bool) (m x : Name) where
     lies_not (inr h) =
         found_of h.0 (ev.others h.0 h.2) (port_of h.1 x) h.4
         (λ s v has same r. none s has v (inr (h.1, subst (λ (w : ModuleTree). Has (instances w) (m, h.1)) (sym same) h.3, r)))
+
+-- a graph that was put to the others
+pub judged_pushed : (edges : Edges) (place : ℕ) (old : List Suspect) (s : Suspect) → s.place ≡ place → IsGraphOf edges s.graph → IsJudged edges place old (old ++ s ∷ [])
+judged_pushed edges place old s at g = record {
+  right = λ t h. elim (has_split old (s ∷ []) t h) [
+    | inl l ↦ inl l
+    | inr r ↦ (elim r [ inl e ↦ inr (sym (ap (λ (v : Suspect). v.place) e) ∙ at, subst (λ (v : Suspect). IsGraphOf edges v.graph) e g) | inr n ↦ absurd n ])
+  ];
+  kept = λ t h. has_left old (s ∷ []) t h;
+  judged = inr (s, has_right old (s ∷ []) s (inl refl), at);
+}
+
+-- the modules before a place were judged
+pub record SuspectsSoFar (ms : List ModuleTree) (is_top : Name → Bool) (place : ℕ) (suspects : List Suspect) : Type 0 where
+  pub right : (s : Suspect) → Has suspects s → IsSuspect ms is_top s
+  pub others : (j : ℕ) (m : ModuleTree) → j < place → slice_get ms j ≡ Some m
+      → ((x : Name) → Rests ms is_top m x x → ⊥) ⊎ ((s : Suspect) × Has suspects s × (slice_get ms s.place ≡ Some m))
+
+module _ (ms : List ModuleTree) (is_top : Name → Bool) (sums : List Edges) (r : AreRight ms is_top sums) (place : ℕ) (m : ModuleTree) (at : slice_get ms place ≡ Some m)
+    (old new : List Suspect) (j : IsJudged (module_edges ms is_top sums m) place old new) (before : SuspectsSoFar ms is_top place old) where
+  right_of : (s : Suspect) → Has old s ⊎ ((s.place ≡ place) × IsGraphOf (module_edges ms is_top sums m) s.graph) → IsSuspect ms is_top s
+  right_of s (inl h) = before.right s h
+  right_of s (inr p) = record {
+    tree = m;
+    at = ap (λ n. slice_get ms n) p.0 ∙ at;
+    edges = module_edges ms is_top sums m;
+    graph = p.1;
+    reaches = rests_is_reaches ms is_top sums r m;
+  }
+
+  judged_of : (k : ModuleTree) → m ≡ k → ((x : Name) → Reaches (module_edges ms is_top sums m) x x → ⊥) ⊎ ((s : Suspect) × Has new s × (s.place ≡ place))
+      → ((x : Name) → Rests ms is_top k x x → ⊥) ⊎ ((s : Suspect) × Has new s × (slice_get ms s.place ≡ Some k))
+  judged_of k same (inl none) = inl (λ x h. none x ((rests_is_reaches ms is_top sums r m x x).0 (subst (λ t. Rests ms is_top t x x) (sym same) h)))
+  judged_of k same (inr t) = inr (t.0, t.1, ap (λ n. slice_get ms n) t.2 ∙ at ∙ ap (λ z. Some z) same)
+
+  kept_of : (k : ModuleTree) → ((x : Name) → Rests ms is_top k x x → ⊥) ⊎ ((s : Suspect) × Has old s × (slice_get ms s.place ≡ Some k))
+      → ((x : Name) → Rests ms is_top k x x → ⊥) ⊎ ((s : Suspect) × Has new s × (slice_get ms s.place ≡ Some k))
+  kept_of k (inl none) = inl none
+  kept_of k (inr t) = inr (t.0, j.kept t.0 t.1, t.2)
+
+  others_of : (i : ℕ) (k : ModuleTree) → i < place + 1 → slice_get ms i ≡ Some k → (i ≡ place) ⊎ (i ≢ place)
+      → ((x : Name) → Rests ms is_top k x x → ⊥) ⊎ ((s : Suspect) × Has new s × (slice_get ms s.place ≡ Some k))
+  others_of i k low e (inl same) = let tree : m ≡ k = cc (at, e, same) in judged_of k tree j.judged
+  others_of i k low e (inr other) = kept_of k (before.others i k (omega (arith, other)) e)
+
+  pub next_judged : SuspectsSoFar ms is_top (place + 1) new
+  next_judged = record {
+    right = λ s h. right_of s (j.right s h);
+    others = λ i k low e. others_of i k low e (cases_eq i place);
+  }
+
+pub all_judged : (ms : List ModuleTree) (is_top : Name → Bool) (place : ℕ) (suspects : List Suspect) → length ms ≤ place → SuspectsSoFar ms is_top place suspects
+    → (m : ModuleTree) → Has ms m → ((x : Name) → Rests ms is_top m x x → ⊥) ⊎ ((s : Suspect) × Has suspects s × (slice_get ms s.place ≡ Some m))
+all_judged ms is_top place suspects over so m h = let g = got_has ms m h in let low : g.0 < length ms = g.1 in so.others g.0 m (omega arith) g.2

@@ -1,5 +1,5 @@
 -- The search for the first name on a loop.
-use Rattle.std.specs.Prelude.{◌≡◌, ◌⊎◌, ◌↔◌, List, Bool, true, Option, Some, None, slice_get}
+use Rattle.std.specs.Prelude.{◌≡◌, ◌⊎◌, ◌↔◌, ℕ, List, Bool, true, Option, Some, None, slice_get}
 use Rattle.vlog_tree.specs.Grounded.{Has}
 use Rattle.vlog_tree.specs.Form.{ModuleTree}
 use Rattle.vlog_tree.specs.Table.{Name}
@@ -24,6 +24,12 @@ pub record IsSuspect (ms : List ModuleTree) (is_top : Name → Bool) (s : Suspec
   pub edges : Edges
   pub graph : IsGraphOf edges s.graph
   pub reaches : (x y : Name) → Rests ms is_top tree x y ↔ Reaches edges x y
+
+-- a graph with these edges was put to the others, or has no loop
+pub record IsJudged (edges : Edges) (place : ℕ) (old new : List Suspect) : Type 0 where
+  pub right : (s : Suspect) → Has new s → Has old s ⊎ ((s.place ≡ place) × IsGraphOf edges s.graph)
+  pub kept : (s : Suspect) → Has old s → Has new s
+  pub judged : ((x : Name) → Reaches edges x x → ⊥) ⊎ ((s : Suspect) × Has new s × (s.place ≡ place))
 
 -- graphs of modules, so that no other module has a loop, and the graph of what contains what
 pub record IsEvidence (ms : List ModuleTree) (is_top : Name → Bool) (loops : Loops) : Type 0 where

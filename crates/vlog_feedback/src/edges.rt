@@ -124,12 +124,7 @@ fn add_links(
     Ok(())
 }
 
-fn add_line(
-    alloc: Global,
-    g: &mut Graph,
-    library: &Library,
-    item: &Item,
-) -> Result<(), AllocError>
+fn add_line(alloc: Global, g: &mut Graph, library: &Library, item: &Item) -> Result<(), AllocError>
     ensures { OnOk result (Adds g.old g.new (line_edges library.now item.now)) }
 {
     match item {

@@ -7,11 +7,11 @@ ghost use Rattle.vlog_tree.specs.Table.{declared};
 ghost use Rattle.vlog_tree.specs.V6.{item_children, module_children};
 ghost use Rattle.vlog_tree.specs.Form.{ModuleTree};
 ghost use Rattle.vlog_tree.specs.Grounded.{Has};
-ghost use Rattle.vlog_tree.specs.Loops.{own_containment, containment, Reaches, Rests, own_places, text_places, LiesOnLoop};
+ghost use Rattle.vlog_tree.specs.Loops.{Edges, own_containment, containment, Reaches, Rests, own_places, text_places, LiesOnLoop};
 ghost use Rattle.vlog_loops.specs.Graphs.{IsGraphOf};
 ghost use Rattle.vlog_feedback.specs.declared.suspects.Suspect.{Suspect};
 ghost use Rattle.vlog_feedback.specs.Growth.{Adds};
-ghost use Rattle.vlog_feedback.specs.Search.{IsSearched, IsSuspect, IsEvidence};
+ghost use Rattle.vlog_feedback.specs.Search.{IsSearched, IsSuspect, IsEvidence, IsJudged};
 ghost use Rattle.vlog_feedback.specs.Summaries.{is_named, AreRight};
 
 use crate::edges::{add, graph_of};
@@ -57,6 +57,22 @@ fn containment_of(alloc: Global, modules: &[Module]) -> Result<Graph, AllocError
     Ok(g)
 }
 
+// Keeps the graph of a module where no levels show that it has no loop.
+fn judge(
+    alloc: Global,
+    suspects: &mut Vec<Suspect>,
+    place: usize,
+    graph: Graph,
+) -> Result<(), AllocError>
+    ensures { OnOk result ((edges : Edges) → IsGraphOf edges graph → IsJudged edges place suspects.old.items suspects.new.items) }
+{
+    let loopless = has_levels(alloc, &graph)?;
+    if !loopless {
+        suspects.push(Suspect { place, graph })?;
+    }
+    Ok(())
+}
+
 // The modules that may have loops.
 fn suspects_of(
     alloc: Global,
@@ -72,9 +88,7 @@ fn suspects_of(
     let modules = library.modules();
     for place in 0..modules.len() {
         let graph = graph_of(alloc, library, root, sums, &modules[place])?;
-        if !has_levels(alloc, &graph)? {
-            suspects.push(Suspect { place, graph })?;
-        }
+        judge(alloc, &mut suspects, place, graph)?;
     }
     Ok(suspects)
 }
@@ -93,7 +107,12 @@ fn loops_of(alloc: Global, library: &Library, root: Option<&Text>) -> Result<Loo
     })
 }
 
-fn contains_itself(alloc: Global, library: &Library, loops: &Loops, name: &Text) -> Result<bool, AllocError>
+fn contains_itself(
+    alloc: Global,
+    library: &Library,
+    loops: &Loops,
+    name: &Text,
+) -> Result<bool, AllocError>
     requires { (is_top : List ℕ → Bool) × IsEvidence library.now is_top loops.now }
     ensures { (is_top : List ℕ → Bool) → IsEvidence library.now is_top loops.now → IfOk result (λ b. (b ≡ true) ↔ Reaches (containment library.now) name.now name.now) }
 {
@@ -117,7 +136,8 @@ fn first_net<'a>(
         → IfOk result (λ o. IsSearched (LiesOnLoop library.now is_top) (map (λ d. (owner.now, Some d.name)) names.now) (option_copied o)) }
 {
     for d in names {
-        if on_loop(alloc, library, loops, owner, &d.name)? {
+        let found = on_loop(alloc, library, loops, owner, &d.name)?;
+        if found {
             return Ok(Some(&d.name));
         }
     }
@@ -137,10 +157,13 @@ fn first_of_module<'a>(
     ensures { (is_top : List ℕ → Bool) → IsEvidence library.now is_top loops.now
         → IfOk result (λ o. IsSearched (LiesOnLoop library.now is_top) (own_places m.now) (option_copied o)) }
 {
-    if contains_itself(alloc, library, loops, m.name())? {
-        return Ok(Some(m.name()));
+    let name = m.name();
+    let found = contains_itself(alloc, library, loops, name)?;
+    if found {
+        return Ok(Some(name));
     }
-    first_net(alloc, library, loops, m.name(), scope.declarations())
+    let net = first_net(alloc, library, loops, name, scope.declarations())?;
+    Ok(net)
 }
 
 /// The first name in the text that lies on a loop: a module that contains itself, or a net that rests on itself within

@@ -92,7 +92,9 @@ fn add_input(
 {
     if is_input(ports, y) {
         if is_marked(graph, marks, y.bytes()) {
-            pairs.push((copy(alloc, x)?, copy(alloc, y)?))?;
+            let from = copy(alloc, x)?;
+            let to = copy(alloc, y)?;
+            pairs.push((from, to))?;
         }
     }
     Ok(())
@@ -232,7 +234,7 @@ fn empty_sums(alloc: Global, count: usize) -> Result<Vec<Sum>, AllocError>
     ensures empty { IfOk result (λ v. (at : ℕ) → get_or v.items at [] ≡ []) }
 {
     let mut sums = Vec::new(alloc);
-    for _ in 0..count {
+    for made in 0..count {
         sums.push(Sum::empty(alloc))?;
     }
     Ok(sums)
@@ -247,14 +249,12 @@ pub(crate) fn sums_of(
     ensures { IfOk result (λ sums. AreRight library.now (is_named (option_copied root.entry)) sums.items) }
 {
     let mut sums = empty_sums(alloc, library.modules().len())?;
-    // whether each pass so far was the last
-    let mut passes: Vec<bool> = Vec::new(alloc);
-    for _ in 0..usize::MAX {
-        let steady = renew_all(alloc, library, root, &mut sums)?;
-        if steady {
+    let mut passes = Vec::new(alloc);
+    for pass in 0..usize::MAX {
+        if renew_all(alloc, library, root, &mut sums)? {
             return Ok(sums);
         }
-        passes.push(steady)?;
+        passes.push(pass)?;
     }
     Ok(sums)
 }

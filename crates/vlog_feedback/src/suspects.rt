@@ -80,7 +80,8 @@ fn some_port_returns(
         → IfOk result (λ b. (b ≡ true) ↔ ((i : List ℕ) × Has (instances k.now) (owner.now, i) × Reaches edges (port_of i port.now) (port_of i port.now))) }
 {
     for item in k.items() {
-        if port_returns(alloc, graph, item, owner, port)? {
+        let found = port_returns(alloc, graph, item, owner, port)?;
+        if found {
             return Ok(true);
         }
     }
@@ -147,7 +148,8 @@ pub(crate) fn on_loop(
     ensures { (is_top : List ℕ → Bool) → IsEvidence library.now is_top loops.now → IfOk result (λ b. (b ≡ true) ↔ LiesOnLoop library.now is_top (owner.now, Some name.now)) }
 {
     for s in &loops.suspects {
-        if suspect_loops(alloc, library, s, owner, name)? {
+        let found = suspect_loops(alloc, library, s, owner, name)?;
+        if found {
             return Ok(true);
         }
     }

@@ -17,7 +17,11 @@ fn ports(alloc: Global, names: &[(bool, &str)]) -> Result<Vec<PortDecl>, AllocEr
     let mut ports = Vec::new(alloc);
     for (input, name) in names {
         let name = text(alloc, name)?;
-        ports.push(PortDecl { input: *input, bits: 1, name })?;
+        ports.push(PortDecl {
+            input: *input,
+            bits: 1,
+            name,
+        })?;
     }
     Ok(ports)
 }
@@ -40,7 +44,12 @@ fn set(alloc: Global, x: &str, y: &str) -> Result<Item, AllocError> {
     Ok(Item::Always(Block::of(steps)))
 }
 
-fn instance(alloc: Global, of: &str, name: &str, pairs: &[(&str, &str)]) -> Result<Item, AllocError> {
+fn instance(
+    alloc: Global,
+    of: &str,
+    name: &str,
+    pairs: &[(&str, &str)],
+) -> Result<Item, AllocError> {
     let mut links = Vec::new(alloc);
     for (port, to) in pairs {
         let port = text(alloc, port)?;
@@ -74,11 +83,7 @@ fn top(alloc: Global, lines: Vec<Item>) -> Result<Module, AllocError> {
     for line in lines {
         items.push(line)?;
     }
-    let names = [
-        (true, "clk"),
-        (true, "m_A_rdata"),
-        (false, "m_A_addr"),
-    ];
+    let names = [(true, "clk"), (true, "m_A_rdata"), (false, "m_A_addr")];
     module(alloc, "t", ports(alloc, &names)?, items)
 }
 

@@ -11,7 +11,7 @@ loop-item-init c = so_far_start (λ (items : List Item). flat_map (through_edges
 
 pub loop-item-preserved : goal.loop-item-preserved
 loop-item-preserved c =
-    so_far_step (λ (items : List Item). flat_map (through_edges c.args.library.now c.args.sums.now) (flat_map item_instances items)) c.args.items.now c.loop-item.item-index c.item-item.result c.args.g.now c.loop-item.g c.add_through-in-loop-item.new.g (flat_map (through_edges c.args.library.now c.args.sums.now) (item_instances c.item-item.result)) (λ rest. flat_map-append (through_edges c.args.library.now c.args.sums.now) (item_instances c.item-item.result) (flat_map item_instances rest))
+    so_far_step (λ (items : List Item). flat_map (through_edges c.args.library.now c.args.sums.now) (flat_map item_instances items)) c.args.items.now c.loop-item.item-index c.item-item.result c.args.g.now c.loop-item.g c.add_through.new.g (flat_map (through_edges c.args.library.now c.args.sums.now) (item_instances c.item-item.result)) (λ rest. flat_map-append (through_edges c.args.library.now c.args.sums.now) (item_instances c.item-item.result) (flat_map item_instances rest))
     c.loop-item-test.true c.item-item.is c.loop-item.invariant c.in_ok-add_through.ensures
 
 pub returns : goal.returns

@@ -9,7 +9,7 @@ loop-d-init c = so_far_start (flat_map answer_edges) c.args.names.now c.args.g.n
 
 pub loop-d-preserved : goal.loop-d-preserved
 loop-d-preserved c =
-    so_far_step (flat_map answer_edges) c.args.names.now c.loop-d.d-index c.d-item.result c.args.g.now c.loop-d.g c.add_answer-in-loop-d.new.g (answer_edges c.d-item.result) (λ rest. refl)
+    so_far_step (flat_map answer_edges) c.args.names.now c.loop-d.d-index c.d-item.result c.args.g.now c.loop-d.g c.add_answer.new.g (answer_edges c.d-item.result) (λ rest. refl)
     c.loop-d-test.true c.d-item.is c.loop-d.invariant c.in_ok-add_answer.ensures
 
 pub returns : goal.returns

@@ -11,7 +11,7 @@ loop-a-init c = so_far_start (λ (atoms : List Atom). map (λ (y : Name). (c.arg
 
 pub loop-a-preserved : goal.loop-a-preserved
 loop-a-preserved c =
-    so_far_step (λ (atoms : List Atom). map (λ (y : Name). (c.args.x.now, y)) (flat_map atom_nets atoms)) c.args.atoms.now c.loop-a.a-index c.a-item.result c.args.g.now c.loop-a.g c.add_atom-in-loop-a.new.g (map (λ (y : Name). (c.args.x.now, y)) (atom_nets c.a-item.result)) (λ rest. map-append (λ (y : Name). (c.args.x.now, y)) (atom_nets c.a-item.result) (flat_map atom_nets rest))
+    so_far_step (λ (atoms : List Atom). map (λ (y : Name). (c.args.x.now, y)) (flat_map atom_nets atoms)) c.args.atoms.now c.loop-a.a-index c.a-item.result c.args.g.now c.loop-a.g c.add_atom.new.g (map (λ (y : Name). (c.args.x.now, y)) (atom_nets c.a-item.result)) (λ rest. map-append (λ (y : Name). (c.args.x.now, y)) (atom_nets c.a-item.result) (flat_map atom_nets rest))
     c.loop-a-test.true c.a-item.is c.loop-a.invariant c.in_ok-add_atom.ensures
 
 pub returns : goal.returns

@@ -9,7 +9,7 @@ loop-item-init c = so_far_start (flat_map (line_edges c.args.library.now)) c.arg
 
 pub loop-item-preserved : goal.loop-item-preserved
 loop-item-preserved c =
-    so_far_step (flat_map (line_edges c.args.library.now)) c.args.items.now c.loop-item.item-index c.item-item.result c.args.g.now c.loop-item.g c.add_line-in-loop-item.new.g (line_edges c.args.library.now c.item-item.result) (λ rest. refl)
+    so_far_step (flat_map (line_edges c.args.library.now)) c.args.items.now c.loop-item.item-index c.item-item.result c.args.g.now c.loop-item.g c.add_line.new.g (line_edges c.args.library.now c.item-item.result) (λ rest. refl)
     c.loop-item-test.true c.item-item.is c.loop-item.invariant c.in_ok-add_line.ensures
 
 pub returns : goal.returns

@@ -9,7 +9,7 @@ loop-l-init c = so_far_start (map (link_edge c.args.ports.now c.args.instance.no
 
 pub loop-l-preserved : goal.loop-l-preserved
 loop-l-preserved c =
-    so_far_step (map (link_edge c.args.ports.now c.args.instance.now)) c.args.links.now c.loop-l.l-index c.l-item.result c.args.g.now c.loop-l.g c.add_link-in-loop-l.new.g (link_edge c.args.ports.now c.args.instance.now c.l-item.result ∷ []) (λ rest. refl)
+    so_far_step (map (link_edge c.args.ports.now c.args.instance.now)) c.args.links.now c.loop-l.l-index c.l-item.result c.args.g.now c.loop-l.g c.add_link.new.g (link_edge c.args.ports.now c.args.instance.now c.l-item.result ∷ []) (λ rest. refl)
     c.loop-l-test.true c.l-item.is c.loop-l.invariant c.in_ok-add_link.ensures
 
 pub returns : goal.returns

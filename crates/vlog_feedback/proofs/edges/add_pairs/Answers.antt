@@ -9,7 +9,7 @@ loop-pair-init c = so_far_start (map (port_pair c.args.instance.now)) c.args.pai
 
 pub loop-pair-preserved : goal.loop-pair-preserved
 loop-pair-preserved c =
-    so_far_step (map (port_pair c.args.instance.now)) c.args.pairs.now c.loop-pair.pair-index c.pair-item.result c.args.g.now c.loop-pair.g c.add_pair-in-loop-pair.new.g (port_pair c.args.instance.now c.pair-item.result ∷ []) (λ rest. refl)
+    so_far_step (map (port_pair c.args.instance.now)) c.args.pairs.now c.loop-pair.pair-index c.pair-item.result c.args.g.now c.loop-pair.g c.add_pair.new.g (port_pair c.args.instance.now c.pair-item.result ∷ []) (λ rest. refl)
     c.loop-pair-test.true c.pair-item.is c.loop-pair.invariant c.in_ok-add_pair.ensures
 
 pub returns : goal.returns
