@@ -10,8 +10,9 @@ use Rattle.std.proofs.lemmas.List.Sums.{sum_by-cons}
 use Rattle.vlog_tree.specs.Grounded.{Has}
 use Rattle.vlog_tree.specs.Form.{ModuleTree}
 use Rattle.vlog_tree.specs.NameTable.{times_in}
-use Rattle.vlog_tree.specs.Table.{Name, NameUse, no, first_violation, port_declared}
-use Rattle.vlog_tree.specs.V6.{module_children, contained_names, roots, first_name, is_top, is_whole_top, module_tops, v6_uses}
+use Rattle.vlog_tree.specs.Table.{Name, NameUse, no, clk, first_violation, port_declared}
+use Rattle.vlog_tree.specs.Labels.{rst, done}
+use Rattle.vlog_tree.specs.V6.{module_children, contained_names, roots, first_name, is_top, has_port, top_ports, clock_links, is_whole_top, module_tops, v6_uses}
 use Rattle.vlog_tree.specs.Loops.{Edges, Chain, one, more, Reaches, own_containment, containment, own_places, text_places, LiesOnLoop, IsLoopless}
 use Rattle.vlog_feedback.proofs.Lists.{has_flat, of_flat, has_map}
 
@@ -71,9 +72,9 @@ module _ (ms : List ModuleTree) (loopless : (m : ModuleTree) → Has ms m → Re
   covers : (left : List Name) (h k : ModuleTree) → Has (containment ms) (k.name, h.name) → (w : Without left k.name) → Covers left h → Covers w.rest k
   covers left h k step w cover m hm =
       elim (cover m hm) [
-        inl t ↦ (elim (w.others m.name t) [ inl r ↦ inl r | inr e ↦ inr (inl e) ])
+        | inl t ↦ (elim (w.others m.name t) [ inl r ↦ inl r | inr e ↦ inr (inl e) ])
         | inr p ↦ inr (inr (elim p [
-          inl e ↦ one (subst (λ x. Has (containment ms) (k.name, x)) (sym e) step)
+          | inl e ↦ one (subst (λ x. Has (containment ms) (k.name, x)) (sym e) step)
           | inr r ↦ more h.name step r
         ]))
       ]
@@ -131,9 +132,9 @@ then_whole true true e t = refl
 then_whole true false e t = cc
 then_whole false whole e t = cc
 
-first_part : (a b : Bool) → (a && b) ≡ true → a ≡ true
-first_part true b e = refl
-first_part false b e = cc
+first_of_four : (a b c d : Bool) → (a && b && c && d) ≡ true → a ≡ true
+first_of_four true b c d e = refl
+first_of_four false b c d e = cc
 
 filtered_of : {A : Type 0} (p : A → Bool) (x y : A) (xs : List A) (b : Bool) → (Has (filter p xs) y → Has xs y) → Has (cond b (x ∷ filter p xs) (filter p xs)) y → (x ≡ y) ⊎ Has xs y
 filtered_of p x y xs true ih (inl e) = inl e
@@ -150,8 +151,11 @@ top_named ms m rest e = ap (λ (l : List ModuleTree). option_map_or (λ y. bytes
 whole_top : (ms : List ModuleTree) (m : ModuleTree) → first_violation (module_tops ms m) ≡ None → is_top ms m.name ≡ true → (length (roots ms) == 1) ≡ true
 unfolding module_tops is_whole_top
 whole_top ms m e t =
-    let whole = then_whole (is_top ms m.name) (is_whole_top ms (map port_declared m.ports)) (not_wrong _ m.name _ e) t in
-    first_part (length (roots ms) == 1) _ whole
+    let ports = map port_declared m.ports in
+    let others = cond (is_top ms m.name) (top_ports ports [] m.ports) [] ++ flat_map clock_links m.items in
+    let wrong = is_top ms m.name && no (is_whole_top ms ports) in
+    let whole = then_whole (is_top ms m.name) (is_whole_top ms ports) (not_wrong wrong m.name others e) t in
+    first_of_four (length (roots ms) == 1) (has_port ports clk) (has_port ports rst) (has_port ports done) whole
 
 empty_rest : (m : ModuleTree) (rest : List ModuleTree) → (length (m ∷ rest) == 1) ≡ true → m ∷ rest ≡ m ∷ []
 empty_rest m [] e = refl

@@ -51,7 +51,8 @@ fn check_loops(alloc: Global, library: &Library, root: Option<&Text>) -> Result<
     ensures loopless { OnOk result (IsLoopless library.now (is_top library.now)) }
 {
     if let Some(x) = first_on_loop(alloc, library, root)? {
-        return Err(VFault::V5(copy(alloc, x)?));
+        let name = copy(alloc, x)?;
+        return Err(VFault::V5(name));
     }
     Ok(())
 }
@@ -63,7 +64,8 @@ fn check_outside(alloc: Global, library: &Library) -> Result<(), VFault>
     ensures outside { OnOk result (first_violation (v6_uses library.now) ≡ None) }
 {
     if let Some(x) = first_misplaced(alloc, library)? {
-        return Err(VFault::V6(copy(alloc, x)?));
+        let name = copy(alloc, x)?;
+        return Err(VFault::V6(name));
     }
     Ok(())
 }

@@ -7,6 +7,3 @@ mod sums;
 mod suspects;
 
 pub use search::first_on_loop;
-
-#[cfg(test)]
-mod tests;

@@ -1,85 +1,37 @@
-use crate::first_on_loop;
+// Which nets and modules are told as lying on a loop.
+
+use crate::trees::{instance, module, net, plain, port, reg, set, text, top_ports_of, wire};
 use std::alloc::{AllocError, Global};
 use std::test::Fail;
 use tapa_base::Text;
+use vlog_design::Design;
+use vlog_feedback::first_on_loop;
 use vlog_rules::Library;
-use vlog_tree::{Atom, Block, Item, Link, Links, Module, PortDecl, Step, Value};
-
-fn text(alloc: Global, name: &str) -> Result<Text, AllocError> {
-    if name.is_ascii() {
-        Ok(Text::new(name.as_bytes().to_vec(alloc)?))
-    } else {
-        Ok(Text::new(Vec::new(alloc)))
-    }
-}
+use vlog_tree::{Item, Module, PortDecl, VFault};
 
 fn ports(alloc: Global, names: &[(bool, &str)]) -> Result<Vec<PortDecl>, AllocError> {
     let mut ports = Vec::new(alloc);
     for (input, name) in names {
-        let name = text(alloc, name)?;
-        ports.push(PortDecl {
-            input: *input,
-            bits: 1,
-            name,
-        })?;
+        ports.push(port(alloc, *input, 1, name)?)?;
     }
     Ok(ports)
 }
 
-fn wire(alloc: Global, name: &str) -> Result<Item, AllocError> {
-    Ok(Item::Wire(1, text(alloc, name)?))
+fn follow(alloc: Global, x: &str, y: &str) -> Result<Item, AllocError> {
+    plain(alloc, x, net(alloc, y)?)
 }
 
-fn assign(alloc: Global, x: &str, y: &str) -> Result<Item, AllocError> {
-    let to = text(alloc, x)?;
-    let net = text(alloc, y)?;
-    Ok(Item::Assign(to, Value::Plain(Atom::Net(net))))
-}
-
-fn set(alloc: Global, x: &str, y: &str) -> Result<Item, AllocError> {
-    let to = text(alloc, x)?;
-    let net = text(alloc, y)?;
-    let mut steps = Vec::new(alloc);
-    steps.push(Step::NonblockingAssign(to, Atom::Net(net)))?;
-    Ok(Item::Always(Block::of(steps)))
-}
-
-fn instance(
-    alloc: Global,
-    of: &str,
-    name: &str,
-    pairs: &[(&str, &str)],
-) -> Result<Item, AllocError> {
-    let mut links = Vec::new(alloc);
-    for (port, to) in pairs {
-        let port = text(alloc, port)?;
-        let net = text(alloc, to)?;
-        links.push(Link { port, net })?;
-    }
-    let of = text(alloc, of)?;
-    let name = text(alloc, name)?;
-    Ok(Item::Instance(of, name, Links::of(links)))
-}
-
-fn module(
-    alloc: Global,
-    name: &str,
-    ports: Vec<PortDecl>,
-    items: Vec<Item>,
-) -> Result<Module, AllocError> {
-    match Module::checked(alloc, text(alloc, name)?, ports, items)? {
-        Some(m) => Ok(m),
-        None => Err(AllocError),
-    }
+fn keep(alloc: Global, x: &str, y: &str) -> Result<Item, AllocError> {
+    set(alloc, x, net(alloc, y)?)
 }
 
 // The top `t` has the wires a, b and c.
 fn top(alloc: Global, lines: Vec<Item>) -> Result<Module, AllocError> {
     let mut items = Vec::new(alloc);
     for name in ["a", "b", "c"] {
-        items.push(wire(alloc, name)?)?;
+        items.push(wire(alloc, 1, name)?)?;
     }
-    items.push(Item::Reg(1, text(alloc, "r")?))?;
+    items.push(reg(alloc, 1, "r")?)?;
     for line in lines {
         items.push(line)?;
     }
@@ -90,10 +42,10 @@ fn top(alloc: Global, lines: Vec<Item>) -> Result<Module, AllocError> {
 // The child `k` gives x on as y, and keeps what z was.
 fn child(alloc: Global) -> Result<Module, AllocError> {
     let mut items = Vec::new(alloc);
-    items.push(Item::Reg(1, text(alloc, "r")?))?;
-    items.push(assign(alloc, "y", "x")?)?;
-    items.push(set(alloc, "r", "z")?)?;
-    items.push(assign(alloc, "q", "r")?)?;
+    items.push(reg(alloc, 1, "r")?)?;
+    items.push(follow(alloc, "y", "x")?)?;
+    items.push(keep(alloc, "r", "z")?)?;
+    items.push(follow(alloc, "q", "r")?)?;
     let names = [
         (true, "clk"),
         (true, "x"),
@@ -117,21 +69,21 @@ fn lines(alloc: Global, case: usize) -> Result<Vec<Item>, AllocError> {
     match case {
         // a loop within the module
         0 => {
-            all.push(assign(alloc, "c", "a")?)?;
-            all.push(assign(alloc, "b", "c")?)?;
-            all.push(assign(alloc, "c", "b")?)?;
+            all.push(follow(alloc, "c", "a")?)?;
+            all.push(follow(alloc, "b", "c")?)?;
+            all.push(follow(alloc, "c", "b")?)?;
         }
         // a loop through an instance: the net in the top comes first
         1 => {
             all.push(instance(alloc, "k", "i", &[("x", "c"), ("y", "a")])?)?;
-            all.push(assign(alloc, "c", "a")?)?;
+            all.push(follow(alloc, "c", "a")?)?;
         }
         // a register breaks a loop
         2 => all.push(instance(alloc, "k", "i", &[("z", "c"), ("q", "c")])?)?,
         // what a memory gives rests on its address
         3 => {
-            all.push(assign(alloc, "a", "m_A_rdata")?)?;
-            all.push(assign(alloc, "m_A_addr", "a")?)?;
+            all.push(follow(alloc, "a", "m_A_rdata")?)?;
+            all.push(follow(alloc, "m_A_addr", "a")?)?;
         }
         // two levels of instances
         4 => all.push(instance(alloc, "p", "i", &[("x", "b"), ("y", "b")])?)?,
@@ -141,11 +93,11 @@ fn lines(alloc: Global, case: usize) -> Result<Vec<Item>, AllocError> {
             all.push(instance(alloc, "p", "j", &[("x", "b"), ("y", "c")])?)?;
         }
         // a net that rests on itself
-        6 => all.push(assign(alloc, "b", "b")?)?,
+        6 => all.push(follow(alloc, "b", "b")?)?,
         // a register of the module itself
         7 => {
-            all.push(set(alloc, "r", "a")?)?;
-            all.push(assign(alloc, "a", "r")?)?;
+            all.push(keep(alloc, "r", "a")?)?;
+            all.push(follow(alloc, "a", "r")?)?;
         }
         _ => {}
     }
@@ -208,5 +160,66 @@ fn a_module_that_contains_itself_is_told(rt: HostRuntime) -> Result<(), Fail> {
     all.push(parent(alloc, "w", "p")?)?;
     let x = told(alloc, all, "t")?;
     assert_eq!(rt; x.bytes(), b"p".as_slice());
+    Ok(())
+}
+
+// A top that has an instance `i` of `k`, with its input joined to one net and its output to another.
+fn two_modules(alloc: Global, input: &str, output: &str) -> Result<Vec<Module>, AllocError> {
+    let mut items = Vec::new(alloc);
+    for name in ["a", "b", "c"] {
+        items.push(wire(alloc, 1, name)?)?;
+    }
+    let pairs = [
+        ("clk", "clk"),
+        ("x", input),
+        ("y", output),
+        ("z", "b"),
+        ("q", "c"),
+    ];
+    items.push(instance(alloc, "k", "i", &pairs)?)?;
+    items.push(follow(alloc, "b", "c")?)?;
+    items.push(follow(alloc, "done", "c")?)?;
+    let mut all = Vec::new(alloc);
+    all.push(child(alloc)?)?;
+    all.push(module(alloc, "t", top_ports_of(alloc)?, items)?)?;
+    Ok(all)
+}
+
+fn design(alloc: Global, all: Vec<Module>) -> Result<Design, VFault> {
+    if all.is_empty() {
+        Err(VFault::OutOfMemory)
+    } else {
+        Design::of(alloc, all)
+    }
+}
+
+#[test]
+fn a_design_stands_where_a_register_breaks_the_loop(rt: HostRuntime) -> Result<(), Fail> {
+    let alloc = rt.alloc();
+    match design(alloc, two_modules(alloc, "c", "a")?) {
+        Ok(d) => {
+            assert_eq!(rt; d.modules().len(), 2);
+            assert_eq!(rt; d.top().name().bytes(), b"t".as_slice());
+            assert_eq!(rt; d.shape(alloc)?.scalars.len(), 0);
+            assert_eq!(rt; d.streams(alloc)?.len(), 0);
+        }
+        Err(_) => assert!(rt; false),
+    }
+    Ok(())
+}
+
+#[test]
+fn a_loop_through_an_instance_is_refused(rt: HostRuntime) -> Result<(), Fail> {
+    let alloc = rt.alloc();
+    let refused = design(alloc, two_modules(alloc, "a", "a")?);
+    assert!(rt; matches!(refused, Err(VFault::V5(x)) if x.bytes() == b"x".as_slice()));
+    Ok(())
+}
+
+#[test]
+fn names_are_refused_before_loops(rt: HostRuntime) -> Result<(), Fail> {
+    let alloc = rt.alloc();
+    let refused = design(alloc, two_modules(alloc, "n", "a")?);
+    assert!(rt; matches!(refused, Err(VFault::V2(x)) if x.bytes() == b"n".as_slice()));
     Ok(())
 }
