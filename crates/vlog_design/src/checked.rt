@@ -17,7 +17,8 @@ use std::alloc::{AllocError, Global};
 use std::marker::Model;
 use tapa_base::{Port, Shape, Text};
 use vlog_feedback::first_on_loop;
-use vlog_rules::{Library, Sound};
+use vlog_rules::{Library, copy_text};
+use vlog_sound::Sound;
 use vlog_tree::{Module, VFault};
 
 /// Modules that break none of the rules on names, widths, drivers, loops and the top, and the top's place among them.
@@ -38,12 +39,6 @@ impl Model for Design {
     ghost invariant = { λ d. IsDesign d.sound d.top };
 }
 
-fn copy(alloc: Global, text: &Text) -> Result<Text, AllocError>
-    ensures { IfOk result (λ t. t ≡ text.now) }
-{
-    Ok(Text::new(text.bytes().to_vec(alloc)?))
-}
-
 fn check_loops(alloc: Global, library: &Library, root: Option<&Text>) -> Result<(), VFault>
     requires sound { IsSound library.now }
     requires root { option_copied root ≡ first_name (roots library.now) }
@@ -51,7 +46,7 @@ fn check_loops(alloc: Global, library: &Library, root: Option<&Text>) -> Result<
     ensures loopless { OnOk result (IsLoopless library.now (is_top library.now)) }
 {
     if let Some(x) = first_on_loop(alloc, library, root)? {
-        let name = copy(alloc, x)?;
+        let name = copy_text(alloc, x)?;
         return Err(VFault::V5(name));
     }
     Ok(())
@@ -64,7 +59,7 @@ fn check_outside(alloc: Global, library: &Library) -> Result<(), VFault>
     ensures outside { OnOk result (first_violation (v6_uses library.now) ≡ None) }
 {
     if let Some(x) = first_misplaced(alloc, library)? {
-        let name = copy(alloc, x)?;
+        let name = copy_text(alloc, x)?;
         return Err(VFault::V6(name));
     }
     Ok(())

@@ -15,7 +15,7 @@ use std::alloc::{AllocError, Global};
 use std::marker::Model;
 use tapa_base::Text;
 use vlog_loops::{Graph, is_marked, reach_from};
-use vlog_rules::{Library, Scope};
+use vlog_rules::{Library, Scope, copy_text};
 use vlog_tree::{Module, Sort};
 
 /// Pairs of an output and an input on which it rests.
@@ -58,12 +58,6 @@ pub(crate) fn pairs_at(sums: &[Sum], place: usize) -> &[(Text, Text)]
     }
 }
 
-fn copy(alloc: Global, text: &Text) -> Result<Text, AllocError>
-    ensures { IfOk result (λ t. t ≡ text.now) }
-{
-    Ok(Text::new(text.bytes().to_vec(alloc)?))
-}
-
 fn is_output(ports: &Scope, name: &Text) -> bool
     ensures { (result ≡ true) ↔ (sort_of ports.now name.now ≡ Output) }
 {
@@ -92,8 +86,8 @@ fn add_input(
 {
     if is_input(ports, y) {
         if is_marked(graph, marks, y.bytes()) {
-            let from = copy(alloc, x)?;
-            let to = copy(alloc, y)?;
+            let from = copy_text(alloc, x)?;
+            let to = copy_text(alloc, y)?;
             pairs.push((from, to))?;
         }
     }

@@ -8,7 +8,8 @@ use std::alloc::{AllocError, Global};
 use std::test::Fail;
 use tapa_base::Text;
 use vlog_design::{first_misplaced, top_shape, top_streams};
-use vlog_rules::{Library, Sound};
+use vlog_rules::Library;
+use vlog_sound::Sound;
 use vlog_tree::{Atom, Atoms, BinaryOp, Item, Module, PortDecl, VFault, Value, is_name};
 
 // Names: w, v and b are wires of 1 bit, e and f of 8, g of 4, r and s registers of 1, m has 4 cells of 8.

@@ -7,14 +7,12 @@ ghost use Rattle.vlog_tree.specs.NameTable.{count_in, CountsTo, times_in};
 ghost use Rattle.vlog_tree.specs.Table.{first_violation, port_declared, declared, ports_of};
 ghost use Rattle.vlog_tree.specs.V4.{link_driven, line_driven, drives, one_if, step_assigns, is_block_of, breaks_driving as breaks_driving_lem, module_drives, v4_uses};
 
-use crate::library::Library;
-use crate::names::{is_input, named_if};
-use crate::scope::Scope;
 use std::alloc::{AllocError, Global};
 use tapa_base::Text;
+use vlog_rules::{Library, Scope, is_input, named_if};
 use vlog_tree::{Declaration, Item, Link, Module, NameCounts, Sort, Step, count_of, count_one};
 
-#[tactic(auto, using(crate::proofs::Counts::one_name_more, crate::proofs::Counts::no_name_more), unfolding(vlog_tree::specs::V4::link_driven))]
+#[tactic(auto, using(vlog_rules::proofs::Counts::one_name_more, vlog_rules::proofs::Counts::no_name_more), unfolding(vlog_tree::specs::V4::link_driven))]
 fn count_link(
     alloc: Global,
     counts: &mut NameCounts,
@@ -44,7 +42,7 @@ fn count_links(
     Ok(())
 }
 
-#[tactic(auto, using(crate::proofs::Counts::one_name_more, crate::proofs::Counts::no_name_more))]
+#[tactic(auto, using(vlog_rules::proofs::Counts::one_name_more, vlog_rules::proofs::Counts::no_name_more))]
 fn count_line(
     alloc: Global,
     counts: &mut NameCounts,
@@ -157,7 +155,7 @@ fn block_counts(alloc: Global, items: &[Item]) -> Result<NameCounts, AllocError>
     Ok(counts)
 }
 
-#[tactic(auto, using(crate::proofs::Counts::none, crate::proofs::Counts::once, crate::proofs::Counts::twice))]
+#[tactic(auto, using(vlog_rules::proofs::Counts::none, vlog_rules::proofs::Counts::once, vlog_rules::proofs::Counts::twice))]
 fn breaks_driving(drives: usize, blocks: usize, sort: Sort) -> bool
     ensures { (n k : ℕ) → drives ≡ min n 2 → blocks ≡ min k 2 → result ≡ breaks_driving_lem n k sort }
 {

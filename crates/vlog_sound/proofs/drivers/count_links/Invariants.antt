@@ -2,7 +2,7 @@ use Rattle.std.proofs.Common.{◌≡◌, ◌++◌, ℕ, List, drop}
 use Rattle.std.specs.List.{flat_map}
 use Rattle.vlog_tree.specs.NameTable.{CountsTo, times_in}
 use Rattle.vlog_tree.specs.V4.{link_driven}
-use Rattle.vlog_rules.proofs.drivers.count_links.Given as goal
+use Rattle.vlog_sound.proofs.drivers.count_links.Given as goal
 
 abbrev pub invariant-loop-l : goal.invariant-loop-l
 invariant-loop-l l =

@@ -4,12 +4,9 @@ ghost use Rattle.std.specs.Prelude.{◌≡◌, IfErr, IfOk, OnOk};
 ghost use Rattle.vlog_tree.specs.Refused.{Refuses, IsSound};
 
 use crate::drivers::first_misdriven;
-use crate::library::Library;
-use crate::names::first_unknown;
-use crate::scope::copy;
-use crate::widths::first_misfit;
 use std::alloc::Global;
 use std::marker::Model;
+use vlog_rules::{Library, copy_text, first_misfit, first_unknown};
 use vlog_tree::{Module, VFault};
 
 /// Modules whose names, widths and drivers are right. Loops, and what the top asks of the outside, are not looked at.
@@ -35,13 +32,13 @@ fn check(alloc: Global, library: &Library) -> Result<(), VFault>
     ensures sound { OnOk result (IsSound library.now) }
 {
     if let Some(x) = first_unknown(alloc, library)? {
-        return Err(VFault::V2(copy(alloc, x)?));
+        return Err(VFault::V2(copy_text(alloc, x)?));
     }
     if let Some(x) = first_misfit(library) {
-        return Err(VFault::V3(copy(alloc, x)?));
+        return Err(VFault::V3(copy_text(alloc, x)?));
     }
     if let Some(x) = first_misdriven(alloc, library)? {
-        return Err(VFault::V4(copy(alloc, x)?));
+        return Err(VFault::V4(copy_text(alloc, x)?));
     }
     Ok(())
 }

@@ -3,7 +3,7 @@ use Rattle.std.specs.List.{list_any}
 use Rattle.vlog_tree.specs.NameTable.{count_in}
 use Rattle.vlog_tree.specs.V4.{one_if, step_assigns}
 use Rattle.vlog_rules.proofs.Counts.{any_more, all_taken}
-use Rattle.vlog_rules.proofs.drivers.count_block.Goals as goal
+use Rattle.vlog_sound.proofs.drivers.count_block.Goals as goal
 
 pub loop-s-preserved : goal.loop-s-preserved
 loop-s-preserved c = record {

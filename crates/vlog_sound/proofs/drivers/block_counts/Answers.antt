@@ -2,7 +2,7 @@ use Rattle.std.proofs.Common.{◌≡◌, ◌∙◌, ap, take, min}
 use Rattle.std.specs.Prelude.{count_by}
 use Rattle.vlog_tree.specs.V4.{is_block_of}
 use Rattle.vlog_rules.proofs.Counts.{count_more}
-use Rattle.vlog_rules.proofs.drivers.block_counts.Goals as goal
+use Rattle.vlog_sound.proofs.drivers.block_counts.Goals as goal
 
 pub loop-i-preserved : goal.loop-i-preserved
 loop-i-preserved c = λ x.

@@ -4,7 +4,7 @@ use Rattle.std.proofs.lemmas.List.{append-nil}
 use Rattle.vlog_tree.specs.NameTable.{CountsTo, times_in}
 use Rattle.vlog_tree.specs.V4.{link_driven}
 use Rattle.vlog_tree.proofs.Walks.{grows, over}
-use Rattle.vlog_rules.proofs.drivers.count_links.Goals as goal
+use Rattle.vlog_sound.proofs.drivers.count_links.Goals as goal
 
 pub loop-l-preserved : goal.loop-l-preserved
 loop-l-preserved c = λ names e.

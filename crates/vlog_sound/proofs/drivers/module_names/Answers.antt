@@ -5,7 +5,7 @@ use Rattle.vlog_tree.specs.declared.table.Declaration.{Declaration}
 use Rattle.vlog_tree.specs.Form.{ModuleTree}
 use Rattle.vlog_tree.specs.Table.{Name, first_violation, declared}
 use Rattle.vlog_tree.specs.V4.{drives, is_block_of, breaks_driving, driving_use, module_drives}
-use Rattle.vlog_rules.proofs.drivers.module_names.Goals as goal
+use Rattle.vlog_sound.proofs.drivers.module_names.Goals as goal
 
 abbrev told : List ModuleTree → List Item → List Item → List Declaration → Option Name
 told ms items more ds = first_violation (map (λ (d : Declaration). (d.name, breaks_driving (drives ms items d.name) (count_by (is_block_of d.name) more) d.sort)) ds)

@@ -4,7 +4,7 @@ use Rattle.std.proofs.lemmas.List.{append-nil}
 use Rattle.vlog_tree.specs.NameTable.{CountsTo, times_in}
 use Rattle.vlog_tree.specs.V4.{line_driven}
 use Rattle.vlog_tree.proofs.Walks.{grows, over}
-use Rattle.vlog_rules.proofs.drivers.drive_counts.Goals as goal
+use Rattle.vlog_sound.proofs.drivers.drive_counts.Goals as goal
 
 pub loop-i-preserved : goal.loop-i-preserved
 loop-i-preserved c =

@@ -2,7 +2,7 @@ use Rattle.std.proofs.Common.{◌≡◌, ◌+◌, ℕ, List, take, min}
 use Rattle.std.specs.List.{list_any}
 use Rattle.vlog_tree.specs.NameTable.{CountsTo, count_in}
 use Rattle.vlog_tree.specs.V4.{one_if, step_assigns}
-use Rattle.vlog_rules.proofs.drivers.count_block.Given as goal
+use Rattle.vlog_sound.proofs.drivers.count_block.Given as goal
 
 abbrev pub invariant-loop-s : goal.invariant-loop-s
 invariant-loop-s l = record {

@@ -3,7 +3,7 @@ use Rattle.vlog_tree.specs.declared.table.Declaration.{Declaration}
 use Rattle.vlog_tree.specs.NameTable.{CountsTo}
 use Rattle.vlog_tree.specs.Table.{NameUse, first_violation}
 use Rattle.vlog_tree.specs.V4.{breaks_driving}
-use Rattle.vlog_rules.proofs.drivers.declarations.Given as goal
+use Rattle.vlog_sound.proofs.drivers.declarations.Given as goal
 
 abbrev uses : (List ℕ → ℕ) → (List ℕ → ℕ) → Declaration → NameUse
 uses f g d = (d.name, breaks_driving (f d.name) (g d.name) d.sort)
