@@ -1,10 +1,11 @@
 // Which nets and modules are told as lying on a loop.
 
-use crate::trees::{instance, module, net, plain, port, reg, set, text, top_ports_of, wire};
+use crate::trees::{
+    design, instance, module, net, plain, port, reg, set, text, top_ports_of, wire,
+};
 use std::alloc::{AllocError, Global};
 use std::test::Fail;
 use tapa_base::Text;
-use vlog_design::Design;
 use vlog_feedback::first_on_loop;
 use vlog_rules::Library;
 use vlog_tree::{Item, Module, PortDecl, VFault};
@@ -183,14 +184,6 @@ fn two_modules(alloc: Global, input: &str, output: &str) -> Result<Vec<Module>, 
     all.push(child(alloc)?)?;
     all.push(module(alloc, "t", top_ports_of(alloc)?, items)?)?;
     Ok(all)
-}
-
-fn design(alloc: Global, all: Vec<Module>) -> Result<Design, VFault> {
-    if all.is_empty() {
-        Err(VFault::OutOfMemory)
-    } else {
-        Design::of(alloc, all)
-    }
 }
 
 #[test]

@@ -1,10 +1,10 @@
 // The text of a small tree.
 
-use crate::trees::{module, plain, top_ports_of};
+use crate::trees::{design, module, plain, top_ports_of};
 use std::alloc::{AllocError, Global};
 use std::test::Fail;
 use tapa_base::{MemSink, PrintFault};
-use verilog_text::print_modules;
+use verilog_text::{print, print_modules};
 use vlog_tree::{Atom, Module};
 
 fn modules(alloc: Global) -> Result<Vec<Module>, AllocError> {
@@ -16,10 +16,13 @@ fn modules(alloc: Global) -> Result<Vec<Module>, AllocError> {
 }
 
 #[test]
-fn a_module_is_three_lines(rt: HostRuntime) -> Result<(), Fail> {
+fn a_design_of_one_module_is_three_lines(rt: HostRuntime) -> Result<(), Fail> {
     let alloc = rt.alloc();
     let mut sink = MemSink::new(alloc, 200, Vec::new(alloc))?;
-    assert!(rt; print_modules(alloc, &modules(alloc)?, &mut sink).is_ok());
+    match design(alloc, modules(alloc)?) {
+        Ok(d) => assert!(rt; print(alloc, &d, &mut sink).is_ok()),
+        Err(_) => assert!(rt; false),
+    }
     let wanted =
         "module t_X ( input clk , input rst , output done ) ;\n  assign done = 1'd1 ;\nendmodule\n";
     assert_eq!(rt; sink.bytes(), wanted.as_bytes());

@@ -2,7 +2,8 @@
 
 use std::alloc::{AllocError, Global};
 use tapa_base::Text;
-use vlog_tree::{Atom, BinaryOp, Block, Item, Link, Links, Module, PortDecl, Step, Value};
+use vlog_design::Design;
+use vlog_tree::{Atom, BinaryOp, Block, Item, Link, Links, Module, PortDecl, Step, VFault, Value};
 
 pub(crate) fn text(alloc: Global, name: &str) -> Result<Text, AllocError> {
     if name.is_ascii() {
@@ -107,5 +108,13 @@ pub(crate) fn module(
     match Module::checked(alloc, text(alloc, name)?, ports, items)? {
         Some(m) => Ok(m),
         None => Err(AllocError),
+    }
+}
+
+pub(crate) fn design(alloc: Global, all: Vec<Module>) -> Result<Design, VFault> {
+    if all.is_empty() {
+        Err(VFault::OutOfMemory)
+    } else {
+        Design::of(alloc, all)
     }
 }
