@@ -1,0 +1,5 @@
+pub mod Constants
+pub mod Order
+pub mod Rows
+pub mod Scopes
+pub mod Values

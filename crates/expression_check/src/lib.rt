@@ -1,0 +1,29 @@
+//! The rules of expressions, and what a legal one is in the flat program: its kind and its form with every conversion
+//! written out.
+#![tactic(auto)]
+
+mod constant;
+mod constant_use;
+mod count;
+mod expression;
+mod fault;
+mod kinds;
+mod method;
+mod names;
+mod role;
+mod scope;
+mod sort;
+mod typed;
+
+pub use constant::{Constant, check_divisor};
+pub use constant_use::check_constant;
+pub use count::{MOST_OF_COUNT, check_count, count_in};
+pub use expression::{check_expression, check_wanted};
+pub use fault::{Broken, CheckCode, CheckFault, over, refused};
+pub use kinds::{operated_kind, promoted, right_kind};
+pub use method::{StreamCall, StreamMethod, check_call, method_of};
+pub use names::{FileNames, Names, copied};
+pub use role::Role;
+pub use scope::Scope;
+pub use sort::Sort;
+pub use typed::{Typed, as_kind, binary_kind, operated, sort_kind, sort_number};

@@ -1,0 +1,24 @@
+-- What parts of a task stand for.
+use Rattle.std.specs.Prelude.{List, ◌++◌, map, Result}
+use Rattle.tapa_syntax.specs.declared.program.Stmt.{Stmt}
+use Rattle.tapa_syntax.specs.Flat.{FlatStatement, flat_expression, flat_statement}
+use Rattle.expression_check.specs.declared.fault.Broken.{Broken}
+use Rattle.expression_check.specs.declared.fault.CheckFault.{CheckFault}
+use Rattle.expression_check.specs.Answers.{Answers}
+use Rattle.leaf_check.specs.declared.target.Target.{Target}
+use Rattle.leaf_check.specs.declared.target.Target.TheVariants.{Variable, Cell, Word}
+use Rattle.leaf_check.specs.Statements as task
+use Rattle.leaf_check.specs.Statements.{Frame}
+
+abbrev pub flat_target : Target → task.Target
+flat_target (Variable k n) = task.in_variable k n
+flat_target (Cell k n i) = task.in_cell k n (flat_expression i)
+flat_target (Word k n i) = task.in_word k n (flat_expression i)
+
+-- code is added that a part means, and a frame is left
+abbrev pub Adds : Result (Unit {0}) CheckFault → Frame → List Stmt → List Stmt → List Broken → Frame → List FlatStatement → Type 0
+Adds result f before after faults g code = Answers (λ x. (f, map flat_statement after)) result faults (g, map flat_statement before ++ code)
+
+-- the same where the frame is the one before
+abbrev pub Appends : Result (Unit {0}) CheckFault → List Stmt → List Stmt → List Broken → List FlatStatement → Type 0
+Appends result before after faults code = Answers (λ x. map flat_statement after) result faults (map flat_statement before ++ code)
