@@ -1,3 +1,5 @@
+ghost use Rattle.std.specs.Prelude.{◌≤◌, length};
+
 use kahn_model::rounds::streams;
 use kahn_model::slow::{Variables, trace};
 use run_data::{Last, report_last, report_stream};
@@ -64,6 +66,14 @@ void T() { tapa::stream<uint64_t, 2> a; tapa::stream<uint64_t> b; tapa::stream<u
 // More rounds than any of these programs needs.
 const ROUNDS: u64 = 24;
 
+// The bytes of a source, which is short.
+fn short(text: &str) -> &[u8]
+    ensures { length result.now ≤ 4096 }
+{
+    let bytes = text.as_bytes();
+    if bytes.len() <= 4096 { bytes } else { &[] }
+}
+
 fn first_state(alloc: Global, leaf: &Leaf) -> Result<Variables, AllocError> {
     Ok(Variables {
         vars: vec![in alloc; 0; leaf.vars.len()]?,
@@ -87,7 +97,7 @@ fn ticks_in_all(alloc: Global, program: &Program, lists: &[Vec<Token>]) -> Resul
 
 // The report of the last round, by the slow functions alone.
 fn slow_report(alloc: Global, text: &str) -> Result<MemSink, Fail> {
-    let program = read_program(alloc, text.as_bytes(), "T")?;
+    let program = read_program(alloc, short(text), "T")?;
     let lists = streams(alloc, &program, &[], &[], ROUNDS)?;
     let ticks = ticks_in_all(alloc, &program, &lists)?;
     let mut out = MemSink::new(alloc, 4096, Vec::new(alloc))?;
@@ -100,7 +110,7 @@ fn slow_report(alloc: Global, text: &str) -> Result<MemSink, Fail> {
 
 // The report of a run, and whether it ended.
 fn run_report(alloc: Global, text: &str) -> Result<(bool, MemSink), Fail> {
-    let program = read_program(alloc, text.as_bytes(), "T")?;
+    let program = read_program(alloc, short(text), "T")?;
     let mut out = MemSink::new(alloc, 4096, Vec::new(alloc))?;
     let end = run_program(alloc, program, 100_000, &mut out)?;
     Ok((matches!(end, RunEnd::Done), out))
