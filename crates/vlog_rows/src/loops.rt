@@ -65,43 +65,16 @@ fn parent(alloc: Global, name: &str, of: &str) -> Result<Module, AllocError> {
     module(alloc, name, ports(alloc, &names)?, items)
 }
 
-fn lines(alloc: Global, case: usize) -> Result<Vec<Item>, AllocError> {
+fn one(alloc: Global, line: Item) -> Result<Vec<Item>, AllocError> {
     let mut all = Vec::new(alloc);
-    match case {
-        // a loop within the module
-        0 => {
-            all.push(follow(alloc, "c", "a")?)?;
-            all.push(follow(alloc, "b", "c")?)?;
-            all.push(follow(alloc, "c", "b")?)?;
-        }
-        // a loop through an instance: the net in the top comes first
-        1 => {
-            all.push(instance(alloc, "k", "i", &[("x", "c"), ("y", "a")])?)?;
-            all.push(follow(alloc, "c", "a")?)?;
-        }
-        // a register breaks a loop
-        2 => all.push(instance(alloc, "k", "i", &[("z", "c"), ("q", "c")])?)?,
-        // what a memory gives rests on its address
-        3 => {
-            all.push(follow(alloc, "a", "m_A_rdata")?)?;
-            all.push(follow(alloc, "m_A_addr", "a")?)?;
-        }
-        // two levels of instances
-        4 => all.push(instance(alloc, "p", "i", &[("x", "b"), ("y", "b")])?)?,
-        // no loop: from one output to another input
-        5 => {
-            all.push(instance(alloc, "k", "i", &[("x", "a"), ("y", "b")])?)?;
-            all.push(instance(alloc, "p", "j", &[("x", "b"), ("y", "c")])?)?;
-        }
-        // a net that rests on itself
-        6 => all.push(follow(alloc, "b", "b")?)?,
-        // a register of the module itself
-        7 => {
-            all.push(keep(alloc, "r", "a")?)?;
-            all.push(follow(alloc, "a", "r")?)?;
-        }
-        _ => {}
-    }
+    all.push(line)?;
+    Ok(all)
+}
+
+fn two(alloc: Global, first: Item, second: Item) -> Result<Vec<Item>, AllocError> {
+    let mut all = Vec::new(alloc);
+    all.push(first)?;
+    all.push(second)?;
     Ok(all)
 }
 
@@ -114,18 +87,67 @@ fn told(alloc: Global, all: Vec<Module>, root: &str) -> Result<Text, AllocError>
     }
 }
 
+// Whether a top with these lines, beside the modules p and k, is told just by this name, which is empty for none.
+fn tells(alloc: Global, lines: Vec<Item>, name: &str) -> Result<bool, AllocError> {
+    let mut all = Vec::new(alloc);
+    all.push(top(alloc, lines)?)?;
+    all.push(parent(alloc, "p", "k")?)?;
+    all.push(child(alloc)?)?;
+    let x = told(alloc, all, "t")?;
+    Ok(x.bytes() == name.as_bytes())
+}
+
+// An instance of p from the wire b to itself.
+fn through_two(alloc: Global) -> Result<Vec<Item>, AllocError> {
+    one(alloc, instance(alloc, "p", "i", &[("x", "b"), ("y", "b")])?)
+}
+
+fn through_memory(alloc: Global) -> Result<Vec<Item>, AllocError> {
+    let read = follow(alloc, "a", "m_A_rdata")?;
+    let asked = follow(alloc, "m_A_addr", "a")?;
+    two(alloc, read, asked)
+}
+
 #[test]
-fn the_first_net_on_a_loop_is_told(rt: HostRuntime) -> Result<(), Fail> {
+fn the_first_net_on_a_loop_of_lines_is_told(rt: HostRuntime) -> Result<(), Fail> {
     let alloc = rt.alloc();
-    let wanted = ["b", "a", "", "m_A_rdata", "b", "", "b", "", ""];
-    for (case, name) in wanted.iter().enumerate() {
-        let mut all = Vec::new(alloc);
-        all.push(top(alloc, lines(alloc, case)?)?)?;
-        all.push(parent(alloc, "p", "k")?)?;
-        all.push(child(alloc)?)?;
-        let x = told(alloc, all, "t")?;
-        assert_eq!(rt; x.bytes(), name.as_bytes(), "case {case}");
-    }
+    assert!(rt; tells(alloc, Vec::new(alloc), "")?);
+    let itself = one(alloc, follow(alloc, "b", "b")?)?;
+    assert!(rt; tells(alloc, itself, "b")?);
+    let ring = two(alloc, follow(alloc, "c", "b")?, follow(alloc, "b", "c")?)?;
+    assert!(rt; tells(alloc, ring, "b")?);
+    let chain = two(alloc, follow(alloc, "c", "b")?, follow(alloc, "b", "a")?)?;
+    assert!(rt; tells(alloc, chain, "")?);
+    Ok(())
+}
+
+#[test]
+fn a_loop_through_instances_is_told(rt: HostRuntime) -> Result<(), Fail> {
+    let alloc = rt.alloc();
+    let child = instance(alloc, "k", "i", &[("x", "c"), ("y", "a")])?;
+    let lines = two(alloc, child, follow(alloc, "c", "a")?)?;
+    assert!(rt; tells(alloc, lines, "a")?);
+    assert!(rt; tells(alloc, through_two(alloc)?, "b")?);
+    let first = instance(alloc, "k", "i", &[("x", "a"), ("y", "b")])?;
+    let second = instance(alloc, "p", "j", &[("x", "b"), ("y", "c")])?;
+    assert!(rt; tells(alloc, two(alloc, first, second)?, "")?);
+    Ok(())
+}
+
+#[test]
+fn a_register_breaks_a_loop(rt: HostRuntime) -> Result<(), Fail> {
+    let alloc = rt.alloc();
+    let inside = one(alloc, instance(alloc, "k", "i", &[("z", "c"), ("q", "c")])?)?;
+    assert!(rt; tells(alloc, inside, "")?);
+    let own = two(alloc, keep(alloc, "r", "a")?, follow(alloc, "a", "r")?)?;
+    assert!(rt; tells(alloc, own, "")?);
+    Ok(())
+}
+
+#[test]
+fn what_a_memory_gives_rests_on_its_address(rt: HostRuntime) -> Result<(), Fail> {
+    let alloc = rt.alloc();
+    assert!(rt; tells(alloc, through_memory(alloc)?, "m_A_rdata")?);
     Ok(())
 }
 
@@ -135,7 +157,7 @@ fn a_port_is_told_before_the_net_outside(rt: HostRuntime) -> Result<(), Fail> {
     let mut all = Vec::new(alloc);
     all.push(child(alloc)?)?;
     all.push(parent(alloc, "p", "k")?)?;
-    all.push(top(alloc, lines(alloc, 4)?)?)?;
+    all.push(top(alloc, through_two(alloc)?)?)?;
     let x = told(alloc, all, "t")?;
     assert_eq!(rt; x.bytes(), b"x".as_slice());
     Ok(())
@@ -145,7 +167,7 @@ fn a_port_is_told_before_the_net_outside(rt: HostRuntime) -> Result<(), Fail> {
 fn the_address_of_another_module_is_no_loop(rt: HostRuntime) -> Result<(), Fail> {
     let alloc = rt.alloc();
     let mut all = Vec::new(alloc);
-    all.push(top(alloc, lines(alloc, 3)?)?)?;
+    all.push(top(alloc, through_memory(alloc)?)?)?;
     let x = told(alloc, all, "u")?;
     assert_eq!(rt; x.bytes(), b"".as_slice());
     Ok(())
@@ -155,7 +177,7 @@ fn the_address_of_another_module_is_no_loop(rt: HostRuntime) -> Result<(), Fail>
 fn a_module_that_contains_itself_is_told(rt: HostRuntime) -> Result<(), Fail> {
     let alloc = rt.alloc();
     let mut all = Vec::new(alloc);
-    all.push(top(alloc, lines(alloc, 8)?)?)?;
+    all.push(top(alloc, Vec::new(alloc))?)?;
     all.push(parent(alloc, "v", "p")?)?;
     all.push(parent(alloc, "p", "w")?)?;
     all.push(parent(alloc, "w", "p")?)?;
@@ -165,7 +187,11 @@ fn a_module_that_contains_itself_is_told(rt: HostRuntime) -> Result<(), Fail> {
 }
 
 // A top that has an instance `i` of `k`, with its input joined to one net and its output to another.
-fn two_modules(alloc: Global, input: &str, output: &str) -> Result<Vec<Module>, AllocError> {
+fn two_modules(
+    alloc: Global,
+    input: &'static str,
+    output: &'static str,
+) -> Result<Vec<Module>, AllocError> {
     let mut items = Vec::new(alloc);
     for name in ["a", "b", "c"] {
         items.push(wire(alloc, 1, name)?)?;
@@ -201,18 +227,28 @@ fn a_design_stands_where_a_register_breaks_the_loop(rt: HostRuntime) -> Result<(
     Ok(())
 }
 
+// The rule that modules break and the name that is told, and 0 where they are a design.
+fn refused(alloc: Global, all: Vec<Module>) -> Result<(u8, Text), AllocError> {
+    match design(alloc, all) {
+        Ok(_design) => Ok((0, text(alloc, "")?)),
+        Err(VFault::V2(x)) => Ok((2, x)),
+        Err(VFault::V5(x)) => Ok((5, x)),
+        Err(_fault) => Err(AllocError),
+    }
+}
+
 #[test]
 fn a_loop_through_an_instance_is_refused(rt: HostRuntime) -> Result<(), Fail> {
     let alloc = rt.alloc();
-    let refused = design(alloc, two_modules(alloc, "a", "a")?);
-    assert!(rt; matches!(refused, Err(VFault::V5(x)) if x.bytes() == b"x".as_slice()));
+    let (rule, x) = refused(alloc, two_modules(alloc, "a", "a")?)?;
+    assert_eq!(rt; (rule, x.bytes()), (5, b"x".as_slice()));
     Ok(())
 }
 
 #[test]
 fn names_are_refused_before_loops(rt: HostRuntime) -> Result<(), Fail> {
     let alloc = rt.alloc();
-    let refused = design(alloc, two_modules(alloc, "n", "a")?);
-    assert!(rt; matches!(refused, Err(VFault::V2(x)) if x.bytes() == b"n".as_slice()));
+    let (rule, x) = refused(alloc, two_modules(alloc, "n", "a")?)?;
+    assert_eq!(rt; (rule, x.bytes()), (2, b"n".as_slice()));
     Ok(())
 }
