@@ -1,3 +1,0 @@
-pub mod Statements
-pub mod Leaves
-pub mod Views
