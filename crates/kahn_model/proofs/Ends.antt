@@ -47,7 +47,7 @@ no_room net k i (See s t) l e tok d = absurd (d (record { supplied = record { in
 no_room net k i End l e tok d = absurd (d (record { supplied = record { inside = l; tick = End; is_next = e; token = tok }; room = tt }))
 
 -- the ticks made are those found on what is written, where these are no more
-here_made : (net : Network) → IsNetwork net → (k : ℕ → ℕ) → IsFounded net k → (i : ℕ) → length (here net k i) ≡ k i → ticks_made net k i ≡ here net k i
+pub here_made : (net : Network) → IsNetwork net → (k : ℕ → ℕ) → IsFounded net k → (i : ℕ) → length (here net k i) ≡ k i → ticks_made net k i ≡ here net k i
 here_made net ok k r i e =
     let ts = here net k i in
     let us = round net (round_of net k) i in
@@ -120,12 +120,12 @@ is_allowed net k i =
         (has_token net k t)
 
 -- a step below the cap, if there is one
-record Step (net : Network) (cap : ℕ) (k : ℕ → ℕ) : Type 0 where
-  at : ℕ
-  allowed : IsAllowed net k at
-  below : k at < cap
+pub record Step (net : Network) (cap : ℕ) (k : ℕ → ℕ) : Type 0 where
+  pub at : ℕ
+  pub allowed : IsAllowed net k at
+  pub below : k at < cap
 
-find_step : (net : Network) (cap : ℕ) (k : ℕ → ℕ) (n : ℕ) → Step net cap k ⊎ ((i : ℕ) → i < n → IsAllowed net k i → k i < cap → ⊥)
+pub find_step : (net : Network) (cap : ℕ) (k : ℕ → ℕ) (n : ℕ) → Step net cap k ⊎ ((i : ℕ) → i < n → IsAllowed net k i → k i < cap → ⊥)
 find_step net cap k zero = inr (λ i l a b. omega arith)
 find_step net cap k (suc n) =
     ⊎_elim

@@ -96,7 +96,7 @@ ended_found how s NoToken f h j e = cc
 ended_found how s WrongToken f h j e = cc
 ended_found how s (Answer t v) f h j e = h t v j e
 
-no_end : (how : StreamOperation) (s : ℕ) (t : Token) → tick_of how s t ≡ End → ⊥
+pub no_end : (how : StreamOperation) (s : ℕ) (t : Token) → tick_of how s t ≡ End → ⊥
 no_end Read s t e = cc
 no_end Peek s t e = cc
 no_end TestEot s t e = cc

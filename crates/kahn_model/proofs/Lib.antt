@@ -19,3 +19,6 @@ pub mod FitsNetwork
 pub mod FitsCells
 pub mod Past
 pub mod RoundLists
+pub mod OneMeaning
+pub mod Standing
+pub mod Ending

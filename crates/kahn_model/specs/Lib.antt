@@ -10,3 +10,6 @@ pub mod Outcome
 pub mod Start
 pub mod Fits
 pub mod Cells
+pub mod OneMeaning
+pub mod Standing
+pub mod Ending

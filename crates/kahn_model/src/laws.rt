@@ -5,10 +5,13 @@ ghost use Rattle.kahn_model.specs.Behavior.{Tick, ticks};
 ghost use Rattle.kahn_model.specs.Network.{Network, IsNetwork, stream, round};
 ghost use Rattle.kahn_model.specs.Counts.{IsReachable, IsFounded, IsEnding, IsKahnPrefix, written, ticks_made, next, HasToken, IsSupplied, HasEnded, IsKahnStream, total, round_of};
 ghost use Rattle.kahn_model.specs.Outcome.{WaitsToWrite, WaitsToRead, HasBadToken, IsGreatest};
+ghost use Rattle.kahn_model.specs.Ending.{NetworksRunInThreeWays};
+ghost use Rattle.kahn_model.specs.Standing.{InstancesStandOneWay};
 ghost use Rattle.kahn_model.specs.Timed.{Clock, IsClock, count_at};
 ghost use Rattle.kahn_model.specs.Trace.{State};
 ghost use Rattle.kahn_model.specs.ProgramNetwork.{network_with, IsWired};
 ghost use Rattle.kahn_model.specs.Start.{network_of};
+ghost use Rattle.kahn_model.specs.OneMeaning.{ProgramsOfOneMeaning};
 ghost use Rattle.kahn_model.specs.Cells.{cells_at};
 ghost use Rattle.tapa_base.specs.Kinds.{values_of};
 ghost use Rattle.tapa_syntax.specs.declared.program.Memory.{Memory};
@@ -56,6 +59,11 @@ pub fn law_program_network()
     ensures network { (program : Program) → IsWellFormed program → (scalars : List ℕ) (memories : List (List ℕ)) → IsNetwork (network_of program scalars memories) }
 {}
 
+/// The network of a program is a function of its plain data: where it lies in memory is no matter.
+pub fn law_one_meaning()
+    ensures { ProgramsOfOneMeaning }
+{}
+
 /// In the network of a well-formed program on an input that fits it, every token is one of its stream's kind, and what
 /// a task stores is a value of its memory's kind.
 pub fn law_tokens_fit()
@@ -91,6 +99,17 @@ pub fn law_next_is_local()
 /// An instance that has not ended where no step is allowed waits to write, waits to read or has a bad token.
 pub fn law_waits()
     ensures { (net : Network) → IsNetwork net → (k : ℕ → ℕ) → IsEnding net k → (i : ℕ) → i < net.size → (HasEnded net k i → ⊥) → ((s : ℕ) × WaitsToWrite net k i s) ⊎ (((s : ℕ) × WaitsToRead net k i s) ⊎ ((s : ℕ) × HasBadToken net k i s)) }
+{}
+
+/// Within a number of ticks a network ends, or it stops, or it makes more ticks or never ends.
+pub fn law_three_ways()
+    ensures { NetworksRunInThreeWays }
+{}
+
+/// In a reachable count an instance has ended, waits to read one stream, waits to write one, or has a bad token on one:
+/// no two of these.
+pub fn law_one_standing()
+    ensures { InstancesStandOneWay }
 {}
 
 /// Among the reachable counts with at most so many ticks of each instance one is at least every other.

@@ -5,7 +5,7 @@ use Rattle.std.proofs.lemmas.Bool.{eqb-true, eq-eqb}
 use Rattle.tapa_syntax.specs.declared.program.End.{End}
 use Rattle.tapa_syntax.specs.LeafKinds.{writes_of}
 use Rattle.path_check.specs.declared.bindings.Binding.{Binding}
-use Rattle.path_check.specs.Flat.{FlatLeaf, FlatInstance}
+use Rattle.tapa_syntax.specs.Flat.{FlatLeaf, FlatInstance}
 use Rattle.path_check.specs.Programs.{bindings_at, bindings_from, ends_of, is_end, end_of_stream}
 use Rattle.path_check.specs.Steps.{only}
 use Rattle.path_check.proofs.Opened.{nothing, the_same, opened, both, one_is}

@@ -8,7 +8,7 @@ use Rattle.tapa_syntax.specs.declared.tree.Name.{Name}
 use Rattle.tapa_syntax.specs.Trees as tree
 use Rattle.tapa_syntax.specs.Trees.{ExpressionTree, CountForm, CountTree, StreamTree, ArgumentTree, InvocationTree, TaskTree, ItemTree}
 use Rattle.path_check.specs.declared.bindings.Binding.{Binding}
-use Rattle.path_check.specs.Flat.{FlatLeaf, FlatInstance, FlatProgram}
+use Rattle.tapa_syntax.specs.Flat.{FlatLeaf, FlatInstance, FlatProgram}
 use Rattle.path_check.specs.Leaves.{is_long, place_of, with_name, leaf_of}
 use Rattle.path_check.specs.Programs as path
 use Rattle.path_check.specs.Steps.{given, only, run}

@@ -14,7 +14,7 @@ use Rattle.tapa_syntax.specs.LeafKinds.{Kinds}
 use Rattle.tapa_syntax.specs.StreamUse.{UsesExpr, UsesStmt, UsesBlock, UsesBody}
 use Rattle.tapa_syntax.specs.ArrayUse.{FitsExpr, FitsStmt, FitsBlock, FitsBody, cleared_by, IsNoJump}
 use Rattle.tapa_syntax.specs.Typed.{result_kind, right_kind, MayDivide, HasKind, IsTyped, AreTyped, IsTypedBody}
-use Rattle.path_check.specs.Flat.{FlatExpression, literal, variable, read, convert, apply, other, FlatAction, set, write, discard, no_action, FlatStatement, act, loop, flat_expression, flat_action, flat_actions, flat_statement}
+use Rattle.tapa_syntax.specs.Flat.{FlatExpression, literal, variable, read, convert, apply, FlatStatement, set, write, discard, loop, FlatStatements, no_statement, statement_then, flat_expression, flat_statement, flat_row}
 
 -- no division
 abbrev pub IsSafe : Op → Type 0
@@ -29,21 +29,26 @@ Good w c (variable x) k = (x < c) × (kind.U64 ≡ k)
 Good w c (read s) k = (w s ≡ Some false) × (kind.U64 ≡ k)
 Good w c (convert from to e) k = (to ≡ k) × Good w c e from
 Good w c (apply o j a b) k = (result_kind o j ≡ k) × Good w c a j × Good w c b (right_kind o j) × IsSafe o
-Good w c other k = ⊥
+Good w c _ k = ⊥
 
-abbrev pub GoodAction : (ℕ → Option Bool) → ℕ → FlatAction → Type 0
+abbrev pub GoodAction : (ℕ → Option Bool) → ℕ → FlatStatement → Type 0
 GoodAction w c (set x e) = (x < c) × Good w c e kind.U64
 GoodAction w c (write s e) = (w s ≡ Some true) × Good w c e kind.U64
 GoodAction w c (discard e) = Good w c e kind.U64
-GoodAction w c no_action = ⊥
+GoodAction w c _ = ⊥
 
-abbrev pub GoodActions : (ℕ → Option Bool) → ℕ → List FlatAction → Type 0
+abbrev pub GoodActions : (ℕ → Option Bool) → ℕ → List FlatStatement → Type 0
 GoodActions w c [] = Unit {0}
 GoodActions w c (a ∷ rest) = GoodAction w c a × GoodActions w c rest
 
+-- the same of a row
+abbrev pub GoodRow : (ℕ → Option Bool) → ℕ → FlatStatements → Type 0
+GoodRow w c no_statement = Unit {0}
+GoodRow w c (statement_then a rest) = GoodAction w c a × GoodRow w c rest
+
 abbrev pub GoodStatement : (ℕ → Option Bool) → ℕ → FlatStatement → Type 0
-GoodStatement w c (act a) = GoodAction w c a
-GoodStatement w c (loop t b s) = Good w c t kind.Bool × GoodActions w c b × GoodActions w c s
+GoodStatement w c (loop t b s) = Good w c t kind.Bool × GoodRow w c b × GoodRow w c s
+GoodStatement w c a = GoodAction w c a
 
 abbrev pub GoodCode : (ℕ → Option Bool) → ℕ → List FlatStatement → Type 0
 GoodCode w c [] = Unit {0}
@@ -91,7 +96,7 @@ pub record Well (K : Kinds) (w : ℕ → Option Bool) (c : ℕ) (s : Stmt) : Typ
   pub clears : cleared_by s [] ≡ []
   pub stays : IsNoJump s
 
-pub action_well : (K : Kinds) → AllLong K → (w : ℕ → Option Bool) (c : ℕ) (s : Stmt) → GoodAction w c (flat_action s) → Well K w c s
+pub action_well : (K : Kinds) → AllLong K → (w : ℕ → Option Bool) (c : ℕ) (s : Stmt) → GoodAction w c (flat_statement s) → Well K w c s
 action_well K u w c (Set x e) (h, g) = record {
   uses = good_uses w c e kind.U64 g;
   fits = (h, good_fits w c e kind.U64 g);
@@ -115,17 +120,17 @@ action_well K u w c (Discard e) g = record {
 }
 action_well K u w c _ g = absurd g
 
-block_uses : (K : Kinds) → AllLong K → (w : ℕ → Option Bool) (c : ℕ) (m : _) (b : Row_of-Stmt m) → GoodActions w c (flat_actions b) → UsesBlock w b
+block_uses : (K : Kinds) → AllLong K → (w : ℕ → Option Bool) (c : ℕ) (m : _) (b : Row_of-Stmt m) → GoodRow w c (flat_row b) → UsesBlock w b
 block_uses K u w c m end_of-Stmt g = tt
 block_uses K u w c m (more_of-Stmt s rest) (a, g) = ((action_well K u w c s a).uses, block_uses K u w c _ rest g)
 
-block_fits : (K : Kinds) → AllLong K → (w : ℕ → Option Bool) (c : ℕ) (m : _) (b : Row_of-Stmt m) → GoodActions w c (flat_actions b) → FitsBlock c 0 [] b
+block_fits : (K : Kinds) → AllLong K → (w : ℕ → Option Bool) (c : ℕ) (m : _) (b : Row_of-Stmt m) → GoodRow w c (flat_row b) → FitsBlock c 0 [] b
 block_fits K u w c m end_of-Stmt g = tt
 block_fits K u w c m (more_of-Stmt s rest) (a, g) =
     let h = action_well K u w c s a in
     (h.fits, subst (λ S. FitsBlock c 0 S rest) (sym h.clears) (block_fits K u w c _ rest g))
 
-block_typed : (K : Kinds) → AllLong K → (w : ℕ → Option Bool) (c : ℕ) (m : _) (b : Row_of-Stmt m) → GoodActions w c (flat_actions b) → AreTyped K b
+block_typed : (K : Kinds) → AllLong K → (w : ℕ → Option Bool) (c : ℕ) (m : _) (b : Row_of-Stmt m) → GoodRow w c (flat_row b) → AreTyped K b
 block_typed K u w c m end_of-Stmt g = tt
 block_typed K u w c m (more_of-Stmt s rest) (a, g) = ((action_well K u w c s a).typed, block_typed K u w c _ rest g)
 

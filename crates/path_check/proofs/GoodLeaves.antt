@@ -9,11 +9,11 @@ use Rattle.tapa_syntax.specs.declared.program.End.{End}
 use Rattle.tapa_syntax.specs.LeafKinds.{writes_of}
 use Rattle.tapa_syntax.specs.Trees as tree
 use Rattle.tapa_syntax.specs.Trees.{ExpressionTree, Expressions, PlaceTree, ActionTree, DeclaratorTree, DeclarationTree, HeadTree, StatementTree}
-use Rattle.path_check.specs.Flat.{FlatExpression, literal, variable, read, convert, apply, other, FlatAction, set, write, discard, no_action, FlatStatement, act, loop}
+use Rattle.tapa_syntax.specs.Flat.{FlatExpression, literal, variable, read, convert, apply, FlatStatement, set, write, discard, loop, FlatStatements, no_statement, statement_then, in_row}
 use Rattle.path_check.specs.Leaves as path
 use Rattle.path_check.specs.Leaves.{Scope, variables}
 use Rattle.path_check.specs.Steps.{given, only, run}
-use Rattle.path_check.proofs.Good.{Good, GoodAction, GoodActions, GoodStatement, GoodCode}
+use Rattle.path_check.proofs.Good.{Good, GoodAction, GoodActions, GoodRow, GoodStatement, GoodCode}
 use Rattle.path_check.proofs.Opened.{nothing, the_same, opened, mapped, asked, both, place_below, run_by}
 
 -- more variables
@@ -23,29 +23,49 @@ good_more w c d l (variable x) k (h, i) = (omega arith, i)
 good_more w c d l (read s) k g = g
 good_more w c d l (convert from to e) k (h, g) = (h, good_more w c d l e from g)
 good_more w c d l (apply o j a b) k (h, x, y, s) = (h, good_more w c d l a j x, good_more w c d l b _ y, s)
-good_more w c d l other k g = absurd g
+good_more w c d l _ k g = absurd g
 
-action_more : (w : ℕ → Option Bool) (c d : ℕ) → c ≤ d → (a : FlatAction) → GoodAction w c a → GoodAction w d a
+action_more : (w : ℕ → Option Bool) (c d : ℕ) → c ≤ d → (a : FlatStatement) → GoodAction w c a → GoodAction w d a
 action_more w c d l (set x e) (h, g) = (omega arith, good_more w c d l e kind.U64 g)
 action_more w c d l (write s e) (h, g) = (h, good_more w c d l e kind.U64 g)
 action_more w c d l (discard e) g = good_more w c d l e kind.U64 g
-action_more w c d l no_action g = absurd g
+action_more w c d l _ g = absurd g
 
-actions_more : (w : ℕ → Option Bool) (c d : ℕ) → c ≤ d → (xs : List FlatAction) → GoodActions w c xs → GoodActions w d xs
+actions_more : (w : ℕ → Option Bool) (c d : ℕ) → c ≤ d → (xs : List FlatStatement) → GoodActions w c xs → GoodActions w d xs
 actions_more w c d l [] g = tt
 actions_more w c d l (x ∷ xs) (a, g) = (action_more w c d l x a, actions_more w c d l xs g)
 
+row_more : (w : ℕ → Option Bool) (c d : ℕ) → c ≤ d → (xs : FlatStatements) → GoodRow w c xs → GoodRow w d xs
+row_more w c d l no_statement g = tt
+row_more w c d l (statement_then x xs) (a, g) = (action_more w c d l x a, row_more w c d l xs g)
+
 statement_more : (w : ℕ → Option Bool) (c d : ℕ) → c ≤ d → (s : FlatStatement) → GoodStatement w c s → GoodStatement w d s
-statement_more w c d l (act a) g = action_more w c d l a g
-statement_more w c d l (loop t b s) (x, y, z) = (good_more w c d l t kind.Bool x, actions_more w c d l b y, actions_more w c d l s z)
+statement_more w c d l (loop t b s) (x, y, z) = (good_more w c d l t kind.Bool x, row_more w c d l b y, row_more w c d l s z)
+statement_more w c d l (set x e) g = action_more w c d l (set x e) g
+statement_more w c d l (write s e) g = action_more w c d l (write s e) g
+statement_more w c d l (discard e) g = action_more w c d l (discard e) g
+statement_more w c d l _ g = absurd g
 
 code_more : (w : ℕ → Option Bool) (c d : ℕ) → c ≤ d → (ss : List FlatStatement) → GoodCode w c ss → GoodCode w d ss
 code_more w c d l [] g = tt
 code_more w c d l (s ∷ ss) (a, g) = (statement_more w c d l s a, code_more w c d l ss g)
 
-actions_append : (w : ℕ → Option Bool) (c : ℕ) (xs ys : List FlatAction) → GoodActions w c xs → GoodActions w c ys → GoodActions w c (xs ++ ys)
+actions_append : (w : ℕ → Option Bool) (c : ℕ) (xs ys : List FlatStatement) → GoodActions w c xs → GoodActions w c ys → GoodActions w c (xs ++ ys)
 actions_append w c [] ys a b = b
 actions_append w c (x ∷ xs) ys (p, a) b = (p, actions_append w c xs ys a b)
+
+-- good actions are good statements, in a row and in a list
+in_row_good : (w : ℕ → Option Bool) (c : ℕ) (xs : List FlatStatement) → GoodActions w c xs → GoodRow w c (in_row xs)
+in_row_good w c [] g = tt
+in_row_good w c (x ∷ xs) (a, g) = (a, in_row_good w c xs g)
+
+as_statement : (w : ℕ → Option Bool) (c : ℕ) (a : FlatStatement) → GoodAction w c a → GoodStatement w c a
+as_statement w c (loop t b s) g = absurd g
+as_statement w c _ g = g
+
+as_code : (w : ℕ → Option Bool) (c : ℕ) (xs : List FlatStatement) → GoodActions w c xs → GoodCode w c xs
+as_code w c [] g = tt
+as_code w c (x ∷ xs) (a, g) = (as_statement w c x a, as_code w c xs g)
 
 code_append : (w : ℕ → Option Bool) (c : ℕ) (xs ys : List FlatStatement) → GoodCode w c xs → GoodCode w c ys → GoodCode w c (xs ++ ys)
 code_append w c [] ys a b = b
@@ -129,7 +149,7 @@ pub record Grows (s t : Scope) : Type 0 where
   pub names : length s.names ≤ length t.names
 
 -- a reading keeps the scope sound, and gives good actions
-pub record Acts (s : Scope) (xs : List FlatAction) (t : Scope) : Type 0 where
+pub record Acts (s : Scope) (xs : List FlatStatement) (t : Scope) : Type 0 where
   pub sound : Sound t
   pub grows : Grows s t
   pub good : GoodActions (writes_of t.ends) (variables t) xs
@@ -148,7 +168,7 @@ grows_on s t u g h = let a = g.names in let b = h.names in record { ends = g.end
 acts_none : (s : Scope) → Sound s → Acts s [] s
 acts_none s i = record { sound = i; grows = record { ends = refl; names = omega arith }; good = tt }
 
-acts_on : (s t u : Scope) (xs ys : List FlatAction) → Acts s xs t → Acts t ys u → Acts s (xs ++ ys) u
+acts_on : (s t u : Scope) (xs ys : List FlatStatement) → Acts s xs t → Acts t ys u → Acts s (xs ++ ys) u
 acts_on s t u xs ys a b = record {
   sound = b.sound;
   grows = grows_on s t u a.grows b.grows;
@@ -194,14 +214,14 @@ declares x s n t i h =
 
 -- ---- statements
 
-acted_one : (s t : Scope) (a : FlatAction) → Sound t → Grows s t → GoodAction (writes_of t.ends) (variables t) a → Acts s (a ∷ []) t
+acted_one : (s t : Scope) (a : FlatStatement) → Sound t → Grows s t → GoodAction (writes_of t.ends) (variables t) a → Acts s (a ∷ []) t
 acted_one s t a i g h = record { sound = i; grows = g; good = (h, tt) }
 
 same_scope : (s : Scope) → Grows s s
 same_scope s = record { ends = refl; names = omega arith }
 
-acts_at : (s : Scope) (xs ys : List FlatAction) (t u : Scope) → ◌≡◌ {A = Option (List FlatAction × Scope)} (Some (xs, t)) (Some (ys, u)) → Acts s xs t → Acts s ys u
-acts_at s xs ys t u h a = subst (λ (p : List FlatAction × Scope). Acts s p.0 p.1) (the_same (xs, t) (ys, u) h) a
+acts_at : (s : Scope) (xs ys : List FlatStatement) (t u : Scope) → ◌≡◌ {A = Option (List FlatStatement × Scope)} (Some (xs, t)) (Some (ys, u)) → Acts s xs t → Acts s ys u
+acts_at s xs ys t u h a = subst (λ (p : List FlatStatement × Scope). Acts s p.0 p.1) (the_same (xs, t) (ys, u) h) a
 
 later : (s t : Scope) (v : FlatExpression) → Grows s t → GoodValue s v → GoodValue t v
 later s t v g h = good_more (writes_of t.ends) (variables s) (variables t) (more_variables s t g) v kind.U64 (subst (λ (e : List End). Good (writes_of e) (variables s) v kind.U64) g.ends h)
@@ -216,7 +236,7 @@ shows s n t v d g = record {
   good = ((d.below, g), tt);
 }
 
-declarator_good : (s : Scope) (d : DeclaratorTree) (xs : List FlatAction) (t : Scope) → Sound s → path.declarator_of s d ≡ Some (xs, t) → Acts s xs t
+declarator_good : (s : Scope) (d : DeclaratorTree) (xs : List FlatStatement) (t : Scope) → Sound s → path.declarator_of s d ≡ Some (xs, t) → Acts s xs t
 declarator_good s (tree.plain x) xs t i h =
     let a = opened (path.declare x.text s) (λ (made : ℕ × Scope). Some (set made.0 (literal kind.U64 0) ∷ [], path.shown made.0 made.1)) (xs, t) h in
     let d = declares x.text s a.0.0 a.0.1 i a.1 in
@@ -228,19 +248,19 @@ declarator_good s (tree.initialized x e) xs t i h =
     acts_at s _ xs _ t a.2 (shows s a.0.0 a.0.1 v.0 d (later s a.0.1 v.0 d.grows (value_good e s v.0 v.1)))
 declarator_good s (tree.array x count) xs t i h = absurd (nothing (xs, t) h)
 
-declaration_good : (s : Scope) (d : DeclarationTree) (xs : List FlatAction) (t : Scope) → Sound s → path.declaration_of s d ≡ Some (xs, t) → Acts s xs t
+declaration_good : (s : Scope) (d : DeclarationTree) (xs : List FlatStatement) (t : Scope) → Sound s → path.declaration_of s d ≡ Some (xs, t) → Acts s xs t
 declaration_good s d xs t i h =
     let a = asked (not d.constant && path.is_long d.kind) (option_and_then (path.declarator_of s) (only d.names)) (xs, t) h in
     let b = opened (only d.names) (path.declarator_of s) (xs, t) a.1 in
     declarator_good s b.0 xs t i b.2
 
-write_good : (s : Scope) (q : List ℕ) (e : ExpressionTree) (xs : List FlatAction) (t : Scope) → Sound s → path.write_of s q e ≡ Some (xs, t) → Acts s xs t
+write_good : (s : Scope) (q : List ℕ) (e : ExpressionTree) (xs : List FlatStatement) (t : Scope) → Sound s → path.write_of s q e ≡ Some (xs, t) → Acts s xs t
 write_good s q e xs t i h =
     let p = opened (path.stream_of true q s) (λ (p : ℕ). option_and_then (λ (v : FlatExpression). Some (write p v ∷ [], s)) (path.value_of e s)) (xs, t) h in
     let v = opened (path.value_of e s) (λ (v : FlatExpression). Some (write p.0 v ∷ [], s)) (xs, t) p.2 in
     acts_at s _ xs s t v.2 (acted_one s s (write p.0 v.0) i (same_scope s) (stream_is true q s p.0 p.1, value_good e s v.0 v.1))
 
-call_good : (s : Scope) (q m : List ℕ) (es : List ExpressionTree) (xs : List FlatAction) (t : Scope) → Sound s → path.call_of s q m es ≡ Some (xs, t) → Acts s xs t
+call_good : (s : Scope) (q m : List ℕ) (es : List ExpressionTree) (xs : List FlatStatement) (t : Scope) → Sound s → path.call_of s q m es ≡ Some (xs, t) → Acts s xs t
 call_good s q m [] xs t i h =
     let a = asked (path.is_read m) (option_and_then (λ (p : ℕ). Some (discard (read p) ∷ [], s)) (path.stream_of false q s)) (xs, t) h in
     let p = opened (path.stream_of false q s) (λ (p : ℕ). Some (discard (read p) ∷ [], s)) (xs, t) a.1 in
@@ -248,7 +268,7 @@ call_good s q m [] xs t i h =
 call_good s q m (e ∷ []) xs t i h = let a = asked (path.is_write m) (path.write_of s q e) (xs, t) h in write_good s q e xs t i a.1
 call_good s q m (e ∷ f ∷ rest) xs t i h = absurd (nothing (xs, t) h)
 
-assignment_good : (s : Scope) (p : PlaceTree) (e : ExpressionTree) (xs : List FlatAction) (t : Scope) → Sound s → path.assignment_of s p e ≡ Some (xs, t) → Acts s xs t
+assignment_good : (s : Scope) (p : PlaceTree) (e : ExpressionTree) (xs : List FlatStatement) (t : Scope) → Sound s → path.assignment_of s p e ≡ Some (xs, t) → Acts s xs t
 assignment_good s (tree.variable_place x) e xs t i h =
     let v = opened (path.value_of e s) (λ (v : FlatExpression). option_and_then (λ (n : ℕ). Some (set n v ∷ [], s)) (path.target_of x.text s)) (xs, t) h in
     let n = opened (path.target_of x.text s) (λ (n : ℕ). Some (set n v.0 ∷ [], s)) (xs, t) v.2 in
@@ -258,25 +278,25 @@ assignment_good s (tree.variable_place x) e xs t i h =
     acts_at s _ xs s t n.2 (acted_one s s (set n.0 v.0) i (same_scope s) (l, value_good e s v.0 v.1))
 assignment_good s (tree.element_place x j) e xs t i h = absurd (nothing (xs, t) h)
 
-action_good : (s : Scope) (a : ActionTree) (xs : List FlatAction) (t : Scope) → Sound s → path.action_of s a ≡ Some (xs, t) → Acts s xs t
+action_good : (s : Scope) (a : ActionTree) (xs : List FlatStatement) (t : Scope) → Sound s → path.action_of s a ≡ Some (xs, t) → Acts s xs t
 action_good s (tree.call_action q m es) xs t i h = call_good s q.text m.text es xs t i h
 action_good s (tree.write q es) xs t i h = let a = opened (only es) (λ (e : ExpressionTree). path.write_of s q.text e) (xs, t) h in write_good s q.text a.0 xs t i a.2
 action_good s (tree.assign target o at e) xs t i h = let a = asked (path.is_plain o) (path.assignment_of s target e) (xs, t) h in assignment_good s target e xs t i a.1
 action_good s _ xs t i h = absurd (nothing (xs, t) h)
 
-simple_good : (s : Scope) (b : StatementTree) (xs : List FlatAction) (t : Scope) → Sound s → path.simple_of s b ≡ Some (xs, t) → Acts s xs t
+simple_good : (s : Scope) (b : StatementTree) (xs : List FlatStatement) (t : Scope) → Sound s → path.simple_of s b ≡ Some (xs, t) → Acts s xs t
 simple_good s (tree.declare d) xs t i h = declaration_good s d xs t i h
 simple_good s (tree.act a) xs t i h = action_good s a xs t i h
 simple_good s _ xs t i h = absurd (nothing (xs, t) h)
 
-inner_good : (s : Scope) (ss : List StatementTree) (xs : List FlatAction) (t : Scope) → run path.inner_of s ss ≡ Some (xs, t) → Sound s → Acts s xs t
+inner_good : (s : Scope) (ss : List StatementTree) (xs : List FlatStatement) (t : Scope) → run path.inner_of s ss ≡ Some (xs, t) → Sound s → Acts s xs t
 inner_good s ss xs t h =
     run_by path.inner_of (λ s xs t. Sound s → Acts s xs t) acts_none
     (λ s t u xs ys a b i. let k = a i in acts_on s t u xs ys k (b k.sound))
     (λ s b xs t e i. simple_good s (path.bare b) xs t i e)
     s ss xs t h
 
-block_good : (s : Scope) (b : StatementTree) (xs : List FlatAction) (t : Scope) → Sound s → path.block_of s b ≡ Some (xs, t) → Acts s xs t
+block_good : (s : Scope) (b : StatementTree) (xs : List FlatStatement) (t : Scope) → Sound s → path.block_of s b ≡ Some (xs, t) → Acts s xs t
 block_good s (tree.block ss) xs t i h = inner_good s (path.listed ss) xs t h i
 block_good s _ xs t i h = absurd (nothing (xs, t) h)
 
@@ -314,38 +334,34 @@ head_few head x n h =
     let q = asked (path.is_step i.0 p.0) (Some (i.0, m.0)) (x, n) p.2 in
     subst (λ (r : List ℕ × ℕ). r.1 < 2 ^ 32) (the_same (i.0, m.0) (x, n) q.1) (test_few i.0 e.0 m.0 m.1)
 
-turned_good : (s : Scope) (n i : ℕ) (b : List FlatAction) → i < variables s → n < 2 ^ 32 → GoodActions (writes_of s.ends) (variables s) b → GoodCode (writes_of s.ends) (variables s) (act (set i (path.converted_int 0)) ∷ path.turning i n b ∷ [])
+turned_good : (s : Scope) (n i : ℕ) (b : List FlatStatement) → i < variables s → n < 2 ^ 32 → GoodActions (writes_of s.ends) (variables s) b → GoodCode (writes_of s.ends) (variables s) (set i (path.converted_int 0) ∷ path.turning i n b ∷ [])
 turned_good s n i b l m g =
-    let set_to_zero : GoodStatement (writes_of s.ends) (variables s) (act (set i (path.converted_int 0))) = (l, int_value s 0 (lit< tt)) in
+    let set_to_zero : GoodStatement (writes_of s.ends) (variables s) (set i (path.converted_int 0)) = (l, int_value s 0 (lit< tt)) in
     let test : Good (writes_of s.ends) (variables s) (path.loop_test i n) kind.Bool = (refl, (l, refl), int_value s n m, tt) in
     let next : GoodValue s (apply op.Add kind.U64 (variable i) (literal kind.U64 1)) = (refl, (l, refl), (refl, lit< tt), tt) in
-    let turns : GoodStatement (writes_of s.ends) (variables s) (path.turning i n b) = (test, g, ((l, next), tt)) in
+    let turns : GoodStatement (writes_of s.ends) (variables s) (path.turning i n b) = (test, in_row_good (writes_of s.ends) (variables s) b g, ((l, next), tt)) in
     (set_to_zero, (turns, tt))
 
 loop_good : (s : Scope) (head : HeadTree) (body : StatementTree) (xs : List FlatStatement) (t : Scope) → Sound s → path.loop_of s head body ≡ Some (xs, t) → Runs s xs t
 loop_good s head body xs t i h =
-    let a = opened (path.head_of head) (λ (named : List ℕ × ℕ). option_and_then (λ (made : ℕ × Scope). option_and_then (λ (inside : List FlatAction × Scope). Some (act (set made.0 (path.converted_int 0)) ∷ path.turning made.0 named.1 inside.0 ∷ [], path.left inside.1)) (path.block_of (path.entered made.0 made.1) (path.bare body))) (path.declare named.0 s)) (xs, t) h in
-    let b = opened (path.declare a.0.0 s) (λ (made : ℕ × Scope). option_and_then (λ (inside : List FlatAction × Scope). Some (act (set made.0 (path.converted_int 0)) ∷ path.turning made.0 a.0.1 inside.0 ∷ [], path.left inside.1)) (path.block_of (path.entered made.0 made.1) (path.bare body))) (xs, t) a.2 in
-    let c = opened (path.block_of (path.entered b.0.0 b.0.1) (path.bare body)) (λ (inside : List FlatAction × Scope). Some (act (set b.0.0 (path.converted_int 0)) ∷ path.turning b.0.0 a.0.1 inside.0 ∷ [], path.left inside.1)) (xs, t) b.2 in
+    let a = opened (path.head_of head) (λ (named : List ℕ × ℕ). option_and_then (λ (made : ℕ × Scope). option_and_then (λ (inside : List FlatStatement × Scope). Some (set made.0 (path.converted_int 0) ∷ path.turning made.0 named.1 inside.0 ∷ [], path.left inside.1)) (path.block_of (path.entered made.0 made.1) (path.bare body))) (path.declare named.0 s)) (xs, t) h in
+    let b = opened (path.declare a.0.0 s) (λ (made : ℕ × Scope). option_and_then (λ (inside : List FlatStatement × Scope). Some (set made.0 (path.converted_int 0) ∷ path.turning made.0 a.0.1 inside.0 ∷ [], path.left inside.1)) (path.block_of (path.entered made.0 made.1) (path.bare body))) (xs, t) a.2 in
+    let c = opened (path.block_of (path.entered b.0.0 b.0.1) (path.bare body)) (λ (inside : List FlatStatement × Scope). Some (set b.0.0 (path.converted_int 0) ∷ path.turning b.0.0 a.0.1 inside.0 ∷ [], path.left inside.1)) (xs, t) b.2 in
     let d = declares a.0.0 s b.0.0 b.0.1 i b.1 in
     let k = block_good (path.entered b.0.0 b.0.1) (path.bare body) c.0.0 c.0.1 (record { ordered = d.sound.ordered; few = d.sound.few }) c.1 in
     let more = more_variables (path.entered b.0.0 b.0.1) c.0.1 k.grows in
     let below = d.below in
-    let made : Runs s (act (set b.0.0 (path.converted_int 0)) ∷ path.turning b.0.0 a.0.1 c.0.0 ∷ []) (path.left c.0.1) = record {
+    let made : Runs s (set b.0.0 (path.converted_int 0) ∷ path.turning b.0.0 a.0.1 c.0.0 ∷ []) (path.left c.0.1) = record {
       sound = record { ordered = k.sound.ordered; few = k.sound.few };
       grows = record { ends = d.grows.ends ∙ k.grows.ends; names = passes (length s.names) (length b.0.1.names) (length c.0.1.names) d.grows.names k.grows.names };
       good = turned_good c.0.1 a.0.1 b.0.0 c.0.0 (reaches b.0.0 (variables b.0.1) (variables c.0.1) below more) (head_few head a.0.0 a.0.1 a.1) k.good;
     } in
-    subst (λ (p : List FlatStatement × Scope). Runs s p.0 p.1) (the_same (act (set b.0.0 (path.converted_int 0)) ∷ path.turning b.0.0 a.0.1 c.0.0 ∷ [], path.left c.0.1) (xs, t) c.2) made
+    subst (λ (p : List FlatStatement × Scope). Runs s p.0 p.1) (the_same (set b.0.0 (path.converted_int 0) ∷ path.turning b.0.0 a.0.1 c.0.0 ∷ [], path.left c.0.1) (xs, t) c.2) made
 
-acted_good : (s : Scope) (a : List FlatAction × Scope) → Acts s a.0 a.1 → Runs s (path.acted a).0 (path.acted a).1
-acted_good s ([], t) a = record { sound = a.sound; grows = a.grows; good = tt }
-acted_good s (x ∷ xs, t) a = record { sound = a.sound; grows = a.grows; good = (a.good.0, tt) }
-
-simply_good : (s : Scope) (b : StatementTree) (xs : List FlatStatement) (t : Scope) → Sound s → option_map path.acted (path.simple_of s b) ≡ Some (xs, t) → Runs s xs t
+simply_good : (s : Scope) (b : StatementTree) (xs : List FlatStatement) (t : Scope) → Sound s → path.simple_of s b ≡ Some (xs, t) → Runs s xs t
 simply_good s b xs t i h =
-    let a = mapped path.acted (path.simple_of s b) (xs, t) h in
-    subst (λ (p : List FlatStatement × Scope). Runs s p.0 p.1) a.2 (acted_good s a.0 (simple_good s b a.0.0 a.0.1 i a.1))
+    let a = simple_good s b xs t i h in
+    record { sound = a.sound; grows = a.grows; good = as_code (writes_of t.ends) (variables t) xs a.good }
 
 outer_good : (s : Scope) (b : StatementTree) (xs : List FlatStatement) (t : Scope) → Sound s → path.outer_of s b ≡ Some (xs, t) → Runs s xs t
 outer_good s (tree.for head body) xs t i h = loop_good s head body xs t i h

@@ -13,7 +13,7 @@ use Rattle.tapa_syntax.specs.declared.tree.TaskBody.{TaskBody}
 use Rattle.tapa_syntax.specs.declared.tree.TaskBody.TheVariants.{Leaf}
 use Rattle.tapa_syntax.specs.Trees as tree
 use Rattle.tapa_syntax.specs.Trees.{StatementTree, TaskTree}
-use Rattle.path_check.specs.Flat.{FlatStatement, FlatLeaf, flat_leaf, flat_statement}
+use Rattle.tapa_syntax.specs.Flat.{FlatStatement, FlatLeaf, flat_leaf, flat_statement}
 use Rattle.path_check.specs.Leaves.{Scope, variables, statement_of, parameter_of, places_of, body_of, named_leaf, leaf_of}
 use Rattle.path_check.specs.Steps.{given, run}
 use Rattle.path_check.specs.Views.{capped}

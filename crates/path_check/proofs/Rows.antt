@@ -7,7 +7,7 @@ use Rattle.tapa_syntax.specs.declared.tree.Statement.{Statement, Block, Block', 
 use Rattle.tapa_syntax.specs.declared.program.Expr.{Expr}
 use Rattle.tapa_syntax.specs.declared.program.Stmt.{Stmt, Loop, Loop', Row_of-Stmt, end_of-Stmt, more_of-Stmt, items-the_row-Stmt, items_hidden-the_row-Stmt-0}
 use Rattle.tapa_syntax.specs.Trees.{StatementTree, one, call, expression, expressions_in, expressions, block, statement_then, statement, statements_in, statements}
-use Rattle.path_check.specs.Flat.{loop, flat_expression, flat_action, flat_actions, flat_statement}
+use Rattle.tapa_syntax.specs.Flat.{FlatStatements, loop, statement_then as then, in_row, flat_expression, flat_statement, flat_row}
 use Rattle.path_check.specs.Leaves.{Scope, named_of, listed, block_of, inner_of}
 use Rattle.path_check.specs.Steps.{run}
 use Rattle.path_check.specs.Views.{read_of}
@@ -46,9 +46,9 @@ pub listed-statements : (ss : List StatementTree) → listed (statements ss) ≡
 listed-statements [] = refl
 listed-statements (s ∷ ss) = ap (λ xs. s ∷ xs) (listed-statements ss)
 
-of_actions : (n : _) (row : Row_of-Stmt n) → flat_actions row ≡ map flat_action (items-the_row-Stmt n row)
+of_actions : (n : _) (row : Row_of-Stmt n) → flat_row row ≡ in_row (map flat_statement (items-the_row-Stmt n row))
 of_actions n end_of-Stmt = refl
-of_actions n (more_of-Stmt s rest) = ap (λ xs. flat_action s ∷ xs) (of_actions _ rest)
+of_actions n (more_of-Stmt s rest) = ap (then (flat_statement s)) (of_actions _ rest)
 
 abbrev body_row : Stmt → (n : Count) × Row_of-Stmt n
 body_row (Loop' _ _ row _ _) = (_, row)
@@ -58,12 +58,12 @@ abbrev step_row : Stmt → (n : Count) × Row_of-Stmt n
 step_row (Loop' _ _ _ _ row) = (_, row)
 step_row _ = (_, end_of-Stmt)
 
-pub flat-Loop : (test : Expr) (body step : Vec Stmt Global) → flat_statement (Loop test body step) ≡ loop (flat_expression test) (map flat_action body.items) (map flat_action step.items)
+pub flat-Loop : (test : Expr) (body step : Vec Stmt Global) → flat_statement (Loop test body step) ≡ loop (flat_expression test) (in_row (map flat_statement body.items)) (in_row (map flat_statement step.items))
 flat-Loop test body step =
     let b = body_row (Loop test body step) in
     let s = step_row (Loop test body step) in
-    ap (λ xs. loop (flat_expression test) xs (flat_actions s.1)) (of_actions b.0 b.1 ∙ ap (map flat_action) (items_hidden-the_row-Stmt-0 body))
-    ∙ ap (λ xs. loop (flat_expression test) (map flat_action body.items) xs) (of_actions s.0 s.1 ∙ ap (map flat_action) (items_hidden-the_row-Stmt-0 step))
+    ap (λ xs. loop (flat_expression test) xs (flat_row s.1)) (of_actions b.0 b.1 ∙ ap (λ (ss : List Stmt). in_row (map flat_statement ss)) (items_hidden-the_row-Stmt-0 body))
+    ∙ ap (λ xs. loop (flat_expression test) (in_row (map flat_statement body.items)) xs) (of_actions s.0 s.1 ∙ ap (λ (ss : List Stmt). in_row (map flat_statement ss)) (items_hidden-the_row-Stmt-0 step))
 
 pub block-Block : (s : Scope) (ss : Vec Statement Global) → block_of s (statement (Block ss)) ≡ run inner_of s (map statement ss.items)
 block-Block s ss = ap (block_of s) (statement-Block ss) ∙ ap (run inner_of s) (listed-statements (map statement ss.items))

@@ -11,7 +11,7 @@ use Rattle.tapa_syntax.specs.LeafKinds.{kinds_of, writes_of}
 use Rattle.tapa_syntax.specs.ArrayUse.{FitsBody}
 use Rattle.tapa_syntax.specs.WellFormed.{IsLeaf}
 use Rattle.tapa_syntax.specs.Trees.{StatementTree, TaskTree}
-use Rattle.path_check.specs.Flat.{FlatStatement, FlatLeaf, flat_leaf}
+use Rattle.tapa_syntax.specs.Flat.{FlatStatement, FlatLeaf, flat_leaf}
 use Rattle.path_check.specs.Leaves as path
 use Rattle.path_check.specs.Leaves.{Scope, variables}
 use Rattle.path_check.specs.Steps.{given, run}

@@ -11,7 +11,7 @@ use Rattle.tapa_syntax.specs.declared.tree.File.{File}
 use Rattle.tapa_syntax.specs.Trees.{file_of}
 use Rattle.tapa_syntax.specs.WellFormed.{IsEndOf, IsInstance, IsJoined, IsWellFormed}
 use Rattle.path_check.specs.declared.bindings.Binding.{Binding}
-use Rattle.path_check.specs.Flat.{FlatLeaf, FlatInstance, flat_leaf, flat_instance, flat_program}
+use Rattle.tapa_syntax.specs.Flat.{FlatLeaf, FlatInstance, flat_leaf, flat_bound, flat_instance, flat_program}
 use Rattle.path_check.specs.Programs.{bindings_from, ends_of, IsPathProgram}
 use Rattle.path_check.proofs.Ends.{Member, binding, bound_from, of_bindings, TheEnd, the_end}
 use Rattle.path_check.proofs.Facts.{Facts, GoodInstance, StreamFacts, program_facts}
@@ -41,6 +41,10 @@ get_below (x ∷ xs) (suc i) h = get_below xs i (omega arith)
 length_map : {A B : Type 0} (f : A → B) (xs : List A) → length (map f xs) ≡ length xs
 length_map f [] = refl
 length_map f (x ∷ xs) = ap suc (length_map f xs)
+
+map_nil : {A B : Type 0} (f : A → B) (xs : List A) → map f xs ≡ [] → xs ≡ []
+map_nil f [] e = refl
+map_nil f (x ∷ xs) e = absurd (cc)
 
 none_in : {A : Type 0} (xs : List A) (p : ℕ) (x : A) → xs ≡ [] → slice_get xs p ≡ Some x → ⊥
 none_in [] p x e h = nothing x h
@@ -136,8 +140,8 @@ instance_well p f i x h =
         memories_len = ap length l.good.memories ∙ sym (ap length l.fine.memories);
         memories = λ q m k a b. absurd (none_in x.memories.items q m l.good.memories a);
         memories_once = λ q o m a b. absurd (none_in x.memories.items q m l.good.memories a);
-        scalars_len = ap length l.good.scalars ∙ sym (ap length l.fine.scalars);
-        scalars = λ q v b a c. absurd (none_in x.scalars.items q b l.good.scalars a);
+        scalars_len = ap length (map_nil flat_bound x.scalars.items l.good.scalars) ∙ sym (ap length l.fine.scalars);
+        scalars = λ q v b a c. absurd (none_in x.scalars.items q b (map_nil flat_bound x.scalars.items l.good.scalars) a);
       },
     )
 

@@ -15,7 +15,7 @@ use Rattle.tapa_syntax.specs.declared.tree.AssignmentOperator.{AssignmentOperato
 use Rattle.tapa_syntax.specs.declared.tree.AssignmentOperator.TheVariants.{Plain, Compound}
 use Rattle.tapa_syntax.specs.Trees as tree
 use Rattle.tapa_syntax.specs.Trees.{ExpressionTree, Expressions, PlaceTree, ActionTree, DeclaratorTree, DeclarationTree, StartTree, HeadTree, StatementTree, Statements, TaskTree, BodyTree}
-use Rattle.path_check.specs.Flat.{FlatExpression, literal, variable, read, convert, apply, FlatAction, set, write, discard, no_action, FlatStatement, act, loop, FlatLeaf}
+use Rattle.tapa_syntax.specs.Flat.{FlatExpression, literal, variable, read, convert, apply, FlatStatement, set, write, discard, loop, FlatStatements, no_statement, statement_then, in_row, FlatLeaf}
 use Rattle.path_check.specs.Steps.{◌>>=◌, given, only, run}
 
 -- ---- words
@@ -157,7 +157,7 @@ bare (tree.attributed attributes s) = bare s
 bare s = s
 
 -- a variable without initialiser is 0; one is in scope after its initialiser
-abbrev pub declarator_of : Scope → DeclaratorTree → Option (List FlatAction × Scope)
+abbrev pub declarator_of : Scope → DeclaratorTree → Option (List FlatStatement × Scope)
 declarator_of s (tree.plain x) = do
   made ← declare x.text s
   Some (set made.0 (literal kind.U64 0) ∷ [], shown made.0 made.1)
@@ -168,26 +168,26 @@ declarator_of s (tree.initialized x e) = do
 declarator_of s (tree.array x count) = None
 
 -- uint64_t x = pe; | uint64_t x;
-abbrev pub declaration_of : Scope → DeclarationTree → Option (List FlatAction × Scope)
+abbrev pub declaration_of : Scope → DeclarationTree → Option (List FlatStatement × Scope)
 declaration_of s d = given (not d.constant && is_long d.kind) (do
   declarator ← only d.names
   declarator_of s declarator)
 
-abbrev pub write_of : Scope → List ℕ → ExpressionTree → Option (List FlatAction × Scope)
+abbrev pub write_of : Scope → List ℕ → ExpressionTree → Option (List FlatStatement × Scope)
 write_of s q e = do
   p ← stream_of true q s
   v ← value_of e s
   Some (write p v ∷ [], s)
 
 -- s.read(); | s.write(pe);
-abbrev pub call_of : Scope → List ℕ → List ℕ → List ExpressionTree → Option (List FlatAction × Scope)
+abbrev pub call_of : Scope → List ℕ → List ℕ → List ExpressionTree → Option (List FlatStatement × Scope)
 call_of s q method [] = given (is_read method) (do
   p ← stream_of false q s
   Some (discard (read p) ∷ [], s))
 call_of s q method (e ∷ []) = given (is_write method) (write_of s q e)
 call_of s q method (e ∷ f ∷ rest) = None
 
-abbrev pub assignment_of : Scope → PlaceTree → ExpressionTree → Option (List FlatAction × Scope)
+abbrev pub assignment_of : Scope → PlaceTree → ExpressionTree → Option (List FlatStatement × Scope)
 assignment_of s (tree.variable_place x) e = do
   v ← value_of e s
   n ← target_of x.text s
@@ -195,7 +195,7 @@ assignment_of s (tree.variable_place x) e = do
 assignment_of s (tree.element_place x i) e = None
 
 -- s.read(); | s.write(pe); | s << pe; | x = pe;
-abbrev pub action_of : Scope → ActionTree → Option (List FlatAction × Scope)
+abbrev pub action_of : Scope → ActionTree → Option (List FlatStatement × Scope)
 action_of s (tree.call_action q method es) = call_of s q.text method.text es
 action_of s (tree.write q es) = do
   e ← only es
@@ -203,12 +203,12 @@ action_of s (tree.write q es) = do
 action_of s (tree.assign target o at e) = given (is_plain o) (assignment_of s target e)
 action_of s _ = None
 
-abbrev pub simple_of : Scope → StatementTree → Option (List FlatAction × Scope)
+abbrev pub simple_of : Scope → StatementTree → Option (List FlatStatement × Scope)
 simple_of s (tree.declare d) = declaration_of s d
 simple_of s (tree.act a) = action_of s a
 simple_of s _ = None
 
-abbrev pub inner_of : Scope → StatementTree → Option (List FlatAction × Scope)
+abbrev pub inner_of : Scope → StatementTree → Option (List FlatStatement × Scope)
 inner_of s t = simple_of s (bare t)
 
 abbrev pub listed : Statements → List StatementTree
@@ -256,7 +256,7 @@ head_of head = do
   given (is_step i step) (Some (i, turns))
 
 -- { .. }
-abbrev pub block_of : Scope → StatementTree → Option (List FlatAction × Scope)
+abbrev pub block_of : Scope → StatementTree → Option (List FlatStatement × Scope)
 block_of s (tree.block ss) = run inner_of s (listed ss)
 block_of s _ = None
 
@@ -271,11 +271,11 @@ abbrev pub loop_test : ℕ → ℕ → FlatExpression
 loop_test i turns = apply op.Lt kind.U64 (variable i) (converted_int turns)
 
 -- i = i + 1
-abbrev pub loop_step : ℕ → List FlatAction
+abbrev pub loop_step : ℕ → List FlatStatement
 loop_step i = set i (apply op.Add kind.U64 (variable i) (literal kind.U64 1)) ∷ []
 
-abbrev pub turning : ℕ → ℕ → List FlatAction → FlatStatement
-turning i turns body = loop (loop_test i turns) body (loop_step i)
+abbrev pub turning : ℕ → ℕ → List FlatStatement → FlatStatement
+turning i turns body = loop (loop_test i turns) (in_row body) (in_row (loop_step i))
 
 -- i = 0, and then the loop
 abbrev pub loop_of : Scope → HeadTree → StatementTree → Option (List FlatStatement × Scope)
@@ -283,15 +283,11 @@ loop_of s head body = do
   named ← head_of head
   made ← declare named.0 s
   inside ← block_of (entered made.0 made.1) (bare body)
-  Some (act (set made.0 (converted_int 0)) ∷ turning made.0 named.1 inside.0 ∷ [], left inside.1)
-
-abbrev pub acted : List FlatAction × Scope → List FlatStatement × Scope
-acted ([], s) = ([], s)
-acted (a ∷ rest, s) = (act a ∷ [], s)
+  Some (set made.0 (converted_int 0) ∷ turning made.0 named.1 inside.0 ∷ [], left inside.1)
 
 abbrev pub outer_of : Scope → StatementTree → Option (List FlatStatement × Scope)
 outer_of s (tree.for head body) = loop_of s head body
-outer_of s t = option_map acted (simple_of s t)
+outer_of s t = simple_of s t
 
 abbrev pub statement_of : Scope → StatementTree → Option (List FlatStatement × Scope)
 statement_of s t = outer_of s (bare t)
@@ -304,19 +300,19 @@ reads_in (convert from to e) = reads_in e
 reads_in (apply o k a b) = reads_in a + reads_in b
 reads_in _ = 0
 
-abbrev pub action_places : FlatAction → ℕ
+abbrev pub action_places : FlatStatement → ℕ
 action_places (set n e) = reads_in e + 1
 action_places (write p e) = reads_in e + 1
 action_places (discard e) = reads_in e
-action_places no_action = 0
+action_places _ = 0
 
-abbrev pub actions_places : List FlatAction → ℕ
-actions_places [] = 0
-actions_places (a ∷ rest) = action_places a + actions_places rest
+abbrev pub actions_places : FlatStatements → ℕ
+actions_places no_statement = 0
+actions_places (statement_then a rest) = action_places a + actions_places rest
 
 abbrev pub statement_places : FlatStatement → ℕ
-statement_places (act a) = action_places a
 statement_places (loop test body step) = reads_in test + 1 + actions_places body + actions_places step
+statement_places a = action_places a
 
 abbrev pub statements_places : List FlatStatement → ℕ
 statements_places [] = 0

@@ -1,5 +1,4 @@
 pub mod Answers
-pub mod Flat
 pub mod Laws
 pub mod Leaves
 pub mod Names

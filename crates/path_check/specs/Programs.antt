@@ -11,7 +11,7 @@ use Rattle.tapa_syntax.specs.declared.tree.Name.{Name}
 use Rattle.tapa_syntax.specs.Trees as tree
 use Rattle.tapa_syntax.specs.Trees.{ExpressionTree, CountForm, CountTree, StreamTree, ArgumentTree, InvocationTree, BodyTree, TaskTree, ItemTree, file_of}
 use Rattle.path_check.specs.declared.bindings.Binding.{Binding}
-use Rattle.path_check.specs.Flat.{FlatLeaf, FlatInstance, FlatProgram, flat_program}
+use Rattle.tapa_syntax.specs.Flat.{FlatLeaf, FlatInstance, FlatProgram, flat_program}
 use Rattle.path_check.specs.Leaves.{is_long, place_of, with_name, leaf_of}
 use Rattle.path_check.specs.Steps.{◌>>=◌, given, only, run}
 

@@ -3,7 +3,7 @@ use Rattle.std.specs.Prelude.{ℕ, List, [], ◌∷◌, map, Option, Some, None}
 use Rattle.tapa_syntax.specs.declared.program.Leaf.{Leaf}
 use Rattle.tapa_syntax.specs.Trees as tree
 use Rattle.path_check.specs.declared.program.Upper.{Upper}
-use Rattle.path_check.specs.Flat.{FlatLeaf, flat_leaf}
+use Rattle.tapa_syntax.specs.Flat.{FlatLeaf, flat_leaf}
 use Rattle.path_check.specs.Programs as path
 
 abbrev pub used_leaf : Option Leaf → List FlatLeaf

@@ -5,17 +5,12 @@ use Rattle.path_check.specs.declared.fault.Fault.{Fault}
 use Rattle.path_check.specs.declared.fault.Fault.TheVariants.{OutOfMemory, NoPath}
 use Rattle.tapa_syntax.specs.declared.program.Stmt.{Stmt}
 use Rattle.tapa_syntax.specs.declared.tree.Expression.{Expression}
-use Rattle.path_check.specs.Flat.{FlatExpression, read, FlatAction, flat_action, FlatStatement, act, flat_statement}
+use Rattle.tapa_syntax.specs.Flat.{FlatExpression, read, FlatStatement, flat_statement}
 use Rattle.path_check.specs.Leaves.{Scope, is_read, stream_of}
 use Rattle.path_check.specs.Steps.{given}
 
-abbrev pub action_list : Stmt → List FlatAction
-action_list s = flat_action s ∷ []
-
--- an answer is no loop
-abbrev pub IsSimple : Result Stmt Fault → Type 0
-IsSimple (Ok s) = flat_statement s ≡ act (flat_action s)
-IsSimple (Err e) = Unit {0}
+abbrev pub action_list : Stmt → List FlatStatement
+action_list s = flat_statement s ∷ []
 
 -- a call is a value where it is s.read()
 abbrev pub read_of : List ℕ → List ℕ → List Expression → Scope → Option FlatExpression

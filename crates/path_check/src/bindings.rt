@@ -1,5 +1,5 @@
 ghost use Rattle.std.specs.Prelude.{◌≡◌, ◌≤◌, ◌++◌, IfOk, length, map, slice_get};
-ghost use Rattle.path_check.specs.Flat.{flat_instance, flat_leaf};
+ghost use Rattle.tapa_syntax.specs.Flat.{flat_instance, flat_leaf};
 ghost use Rattle.path_check.specs.Programs as path;
 
 use std::alloc::{AllocError, Global};

@@ -2,7 +2,7 @@ ghost use Rattle.std.specs.Prelude.{◌≡◌, Some};
 ghost use Rattle.tapa_base.specs.declared.kind.Kind.TheVariants.{U64};
 ghost use Rattle.tapa_syntax.specs.Trees as tree;
 ghost use Rattle.path_check.specs.Answers.{Gives};
-ghost use Rattle.path_check.specs.Flat.{flat_expression, apply};
+ghost use Rattle.tapa_syntax.specs.Flat.{flat_expression, apply};
 ghost use Rattle.path_check.specs.Leaves as path;
 ghost use Rattle.path_check.specs.Views.{read_of};
 

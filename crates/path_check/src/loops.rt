@@ -1,7 +1,7 @@
 ghost use Rattle.std.specs.Prelude.{◌≡◌, map, Some};
 ghost use Rattle.tapa_syntax.specs.Trees as tree;
 ghost use Rattle.path_check.specs.Answers.{Gives, Leaves};
-ghost use Rattle.path_check.specs.Flat.{flat_action, flat_expression, flat_statement};
+ghost use Rattle.tapa_syntax.specs.Flat.{flat_statement, flat_expression};
 ghost use Rattle.path_check.specs.Leaves as path;
 ghost use Rattle.path_check.specs.Views.{name_of, head_value, Adds};
 
@@ -130,7 +130,7 @@ fn loop_test(alloc: Global, variable: u32, turns: u64) -> Result<Expr, Fault>
 
 /// `i = i + 1`.
 fn loop_step(alloc: Global, variable: u32) -> Result<Vec<Stmt>, Fault>
-    ensures { Gives (λ code. map flat_action code.items) result (Some (path.loop_step variable)) }
+    ensures { Gives (λ code. map flat_statement code.items) result (Some (path.loop_step variable)) }
 {
     let next = apply_long(alloc, Op::Add, Expr::Var(variable), Expr::Lit(Kind::U64, 1))?;
     let mut step = Vec::new(alloc);
@@ -140,7 +140,7 @@ fn loop_step(alloc: Global, variable: u32) -> Result<Vec<Stmt>, Fault>
 
 /// The loop whose variable is set to 0 before it.
 fn loop_of(alloc: Global, variable: u32, turns: u64, body: Vec<Stmt>) -> Result<Stmt, Fault>
-    ensures { Gives flat_statement result (Some (path.turning variable turns (map flat_action body.items))) }
+    ensures { Gives flat_statement result (Some (path.turning variable turns (map flat_statement body.items))) }
 {
     Ok(Stmt::Loop {
         test: loop_test(alloc, variable, turns)?,
@@ -155,7 +155,7 @@ fn block<'a>(
     scope: &mut Scope<'a>,
     statement: &'a Statement,
 ) -> Result<Vec<Stmt>, Fault>
-    ensures { Leaves (λ code. map flat_action code.items) result scope.new (path.block_of scope.old (tree.statement statement.now)) }
+    ensures { Leaves (λ code. map flat_statement code.items) result scope.new (path.block_of scope.old (tree.statement statement.now)) }
 {
     match statement {
         Statement::Block(statements) => body(alloc, scope, statements),

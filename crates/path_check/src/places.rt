@@ -1,5 +1,5 @@
 ghost use Rattle.std.specs.Prelude.{◌≡◌, map};
-ghost use Rattle.path_check.specs.Flat.{flat_action, flat_expression, flat_statement, «loop»};
+ghost use Rattle.tapa_syntax.specs.Flat.{flat_expression, flat_statement, in_row, «loop»};
 ghost use Rattle.path_check.specs.Leaves as path;
 ghost use Rattle.path_check.specs.Views.{capped};
 
@@ -17,7 +17,7 @@ fn reads(value: &Expr) -> u64
 }
 
 fn action_places(action: &Stmt) -> u64
-    ensures { result ≡ capped (path.action_places (flat_action action.now)) }
+    ensures { result ≡ capped (path.action_places (flat_statement action.now)) }
 {
     match action {
         Stmt::Set(_, value) => reads(value).saturating_add(1),
@@ -28,7 +28,7 @@ fn action_places(action: &Stmt) -> u64
 }
 
 fn actions_places(actions: &[Stmt]) -> u64
-    ensures { result ≡ capped (path.actions_places (map flat_action actions.now)) }
+    ensures { result ≡ capped (path.actions_places (in_row (map flat_statement actions.now))) }
 {
     let mut places: u64 = 0;
     for action in actions {
@@ -38,7 +38,7 @@ fn actions_places(actions: &[Stmt]) -> u64
 }
 
 fn loop_places(test: &Expr, body: &[Stmt], step: &[Stmt]) -> u64
-    ensures { result ≡ capped (path.statement_places («loop» (flat_expression test.now) (map flat_action body.now) (map flat_action step.now))) }
+    ensures { result ≡ capped (path.statement_places («loop» (flat_expression test.now) (in_row (map flat_statement body.now)) (in_row (map flat_statement step.now)))) }
 {
     let body = actions_places(body);
     let step = actions_places(step);

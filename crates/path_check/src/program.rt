@@ -2,7 +2,7 @@ ghost use Rattle.std.specs.Prelude.{◌≡◌, ◌≤◌, ◌<◌, ◌+◌, ◌�
 ghost use Rattle.tapa_syntax.specs.Trees as tree;
 ghost use Rattle.tapa_syntax.specs.WellFormed.{IsWellFormed};
 ghost use Rattle.path_check.specs.Answers.{Gives, Leaves};
-ghost use Rattle.path_check.specs.Flat.{flat_instance, flat_leaf, flat_program};
+ghost use Rattle.tapa_syntax.specs.Flat.{flat_instance, flat_leaf, flat_program};
 ghost use Rattle.path_check.specs.Programs as path;
 ghost use Rattle.path_check.specs.Programs.{HasNoProgram, IsPathProgram};
 ghost use Rattle.path_check.specs.Steps.{run};

@@ -1,10 +1,10 @@
 ghost use Rattle.std.specs.Prelude.{◌≡◌, ◌&&◌, not, map};
 ghost use Rattle.tapa_syntax.specs.Trees as tree;
 ghost use Rattle.path_check.specs.Answers.{Leaves};
-ghost use Rattle.path_check.specs.Flat.{flat_action};
+ghost use Rattle.tapa_syntax.specs.Flat.{flat_statement};
 ghost use Rattle.path_check.specs.Leaves as path;
 ghost use Rattle.path_check.specs.Steps.{run};
-ghost use Rattle.path_check.specs.Views.{IsSimple, action_list};
+ghost use Rattle.path_check.specs.Views.{action_list};
 
 use crate::expression::value_of;
 use crate::fault::Fault;
@@ -32,8 +32,7 @@ fn declarator<'a>(
     scope: &mut Scope<'a>,
     declarator: &'a Declarator,
 ) -> Result<Stmt, Fault>
-    ensures code { Leaves action_list result scope.new (path.declarator_of scope.old (tree.declarator_of declarator.now)) }
-    ensures plain { IsSimple result }
+    ensures { Leaves action_list result scope.new (path.declarator_of scope.old (tree.declarator_of declarator.now)) }
 {
     match declarator {
         Declarator::Plain(name) => {
@@ -63,8 +62,7 @@ fn declaration<'a>(
     scope: &mut Scope<'a>,
     declaration: &'a Declaration,
 ) -> Result<Stmt, Fault>
-    ensures code { Leaves action_list result scope.new (path.declaration_of scope.old (tree.declaration_of declaration.now)) }
-    ensures plain { IsSimple result }
+    ensures { Leaves action_list result scope.new (path.declaration_of scope.old (tree.declaration_of declaration.now)) }
 {
     if !is_long(declaration) {
         return Err(Fault::NoPath);
@@ -76,8 +74,7 @@ fn declaration<'a>(
 }
 
 fn write(alloc: Global, scope: &Scope, stream: &Text, value: &Expression) -> Result<Stmt, Fault>
-    ensures code { Leaves action_list result scope.now (path.write_of scope.now stream.now (tree.expression value.now)) }
-    ensures plain { IsSimple result }
+    ensures { Leaves action_list result scope.now (path.write_of scope.now stream.now (tree.expression value.now)) }
 {
     let stream = scope.stream(true, stream)?;
     let value = value_of(alloc, scope, value)?;
@@ -91,8 +88,7 @@ fn call(
     method: &Text,
     arguments: &[Expression],
 ) -> Result<Stmt, Fault>
-    ensures code { Leaves action_list result scope.now (path.call_of scope.now stream.now method.now (map tree.expression arguments.now)) }
-    ensures plain { IsSimple result }
+    ensures { Leaves action_list result scope.now (path.call_of scope.now stream.now method.now (map tree.expression arguments.now)) }
 {
     match arguments {
         [] if is_word(method, b"read") => Ok(Stmt::Discard(Expr::Read(scope.stream(
@@ -109,8 +105,7 @@ fn assignment(
     target: &PlaceExpression,
     value: &Expression,
 ) -> Result<Stmt, Fault>
-    ensures code { Leaves action_list result scope.now (path.assignment_of scope.now (tree.place_expression_of target.now) (tree.expression value.now)) }
-    ensures plain { IsSimple result }
+    ensures { Leaves action_list result scope.now (path.assignment_of scope.now (tree.place_expression_of target.now) (tree.expression value.now)) }
 {
     match target {
         PlaceExpression::Variable(name) => {
@@ -123,8 +118,7 @@ fn assignment(
 }
 
 fn action(alloc: Global, scope: &Scope, action: &Action) -> Result<Stmt, Fault>
-    ensures code { Leaves action_list result scope.now (path.action_of scope.now (tree.action_of action.now)) }
-    ensures plain { IsSimple result }
+    ensures { Leaves action_list result scope.now (path.action_of scope.now (tree.action_of action.now)) }
 {
     match action {
         Action::Call {
@@ -152,8 +146,7 @@ pub(crate) fn simple<'a>(
     scope: &mut Scope<'a>,
     statement: &'a Statement,
 ) -> Result<Stmt, Fault>
-    ensures code { Leaves action_list result scope.new (path.simple_of scope.old (tree.statement statement.now)) }
-    ensures plain { IsSimple result }
+    ensures { Leaves action_list result scope.new (path.simple_of scope.old (tree.statement statement.now)) }
 {
     match statement {
         Statement::Declare(declared) => declaration(alloc, scope, declared),
@@ -168,7 +161,7 @@ pub(crate) fn body<'a>(
     scope: &mut Scope<'a>,
     statements: &'a [Statement],
 ) -> Result<Vec<Stmt>, Fault>
-    ensures { Leaves (λ code. map flat_action code.items) result scope.new (run path.inner_of scope.old (map tree.statement statements.now)) }
+    ensures { Leaves (λ code. map flat_statement code.items) result scope.new (run path.inner_of scope.old (map tree.statement statements.now)) }
 {
     let mut code = Vec::new(alloc);
     for statement in statements {

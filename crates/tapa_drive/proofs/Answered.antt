@@ -1,37 +1,48 @@
 -- From what reading and running a source give to what the call answers.
-use Rattle.std.proofs.Common.{◌≡◌, ◌⊎◌, ℕ, List, [], Option, Some, None, Ok, Err, refl, sym, ◌∙◌, ap, subst, inl, inr}
-use Rattle.std.specs.Io.KnownBytes.{Appends}
+use Rattle.std.proofs.Common.{◌≡◌, ℕ, List, Option, Some, None, Ok, Err, refl, sym, ◌∙◌, ap, subst, inl, inr}
 use Rattle.tapa_base.specs.declared.text.Place.{Place}
 use Rattle.tapa_base.specs.Outside.{Files}
 use Rattle.tapa_syntax.specs.declared.lexeme.Lexeme.{Lexeme}
 use Rattle.tapa_syntax.specs.declared.program.Program.{Program}
 use Rattle.tapa_syntax.specs.declared.tree.File.{File}
 use Rattle.tapa_syntax.specs.Lexemes.{HasLexemes}
-use Rattle.tapa_syntax.specs.Symbols.{Symbol}
-use Rattle.tapa_syntax.specs.Trees.{file_of}
+use Rattle.tapa_syntax.specs.Grammar.{IsTreeOf}
+use Rattle.tapa_syntax.specs.Limits.{most_levels, most_operators, IsWithinLimits}
+use Rattle.tapa_syntax.specs.Symbols.{symbols_of}
+use Rattle.tapa_syntax.specs.Trees.{ItemTree, file_of}
 use Rattle.tapa_parse.specs.declared.fault.ParseCode.{ParseCode}
-use Rattle.tapa_parse.specs.Answers.{IsRefusedAt}
-use Rattle.tapa_drive.specs.Answer.{OfRun, OfFile, HasRun, HasStopped, HasRunPast, HasCause, HasPartOf, Leaves, tick_limit}
+use Rattle.tapa_parse.specs.declared.fault.ParseFault.TheVariants.{At, OutOfMemory}
+use Rattle.tapa_parse.specs.Answers.{Reads, Answers}
+use Rattle.tapa_parse.specs.Reading as reading
+use Rattle.tapa_drive.specs.Answer.{OfRun, OfSource, HasRun, HasStopped, HasRunPast, HasCause, HasPartOf, Leaves, tick_limit}
 use Rattle.tapa_drive.specs.Ending.{EndsSo, HasPart}
 use Rattle.tapa_drive.specs.Found.{IsNotFound, EndsFor}
 use Rattle.tapa_drive.specs.Refusal.{Reason, BadWords, Unread, Unwritten, Longer, Unfit, Endless, Blocked, NoMemory}
-use Rattle.tapa_drive.specs.Source.{tree_of, HasTree, HasNoTree, IsProgramOf, IsNoPath, IsRefusedSource}
+use Rattle.tapa_drive.specs.Source.{StopsAt, HasTree, HasNoTree, IsProgramOf, IsRefusedSource}
 use Rattle.tapa_drive.specs.declared.source.SourceCode.TheVariants.{N1}
 use Rattle.path_check.specs.Programs.{IsPathProgram, HasNoProgram}
 use Rattle.tapa_drive.specs.Words.{Run, command_of}
-use Rattle.tapa_drive.specs.declared.run.RunEnd.{RunEnd}
 use Rattle.tapa_drive.specs.declared.run.RunEnd.TheVariants as run_end
-use Rattle.tapa_drive.specs.declared.top.Ended.{Ended}
 use Rattle.tapa_drive.specs.declared.top.Ended.TheVariants as ended
-use Rattle.tapa_drive.proofs.Sourced.{of_file_also}
+use Rattle.tapa_drive.proofs.Sourced.{of_source_also}
 use Rattle.std.specs.Prelude.{Vec, IfSome, IfNone}
 use Rattle.std.specs.declared.alloc.Global.{Global}
 
-pub has_tree : (text : List ℕ) (lexemes seen : List Lexeme) (file : File) (left : List Symbol) → HasLexemes text lexemes → seen ≡ lexemes → tree_of text seen ≡ Ok (file_of file, left) → HasTree text file
-has_tree text lexemes seen file left are same read = record { lexemes = lexemes; are = are; left = left; read = ap (tree_of text) (sym same) ∙ read }
+pub has_tree : (text : List ℕ) (lexemes seen : List Lexeme) (file : File) → HasLexemes text lexemes → seen ≡ lexemes → IsTreeOf (symbols_of text seen) (file_of file) × IsWithinLimits (file_of file) → HasTree text file
+has_tree text lexemes seen file are same found =
+    record { lexemes = lexemes; are = are; spelled = subst (λ (l : List Lexeme). IsTreeOf (symbols_of text l) (file_of file)) same found.0; within = found.1 }
 
-pub has_no_tree : (text : List ℕ) (lexemes seen : List Lexeme) (place : Place) (code : ParseCode) (left : List Symbol) → HasLexemes text lexemes → seen ≡ lexemes → IsRefusedAt place left → tree_of text seen ≡ Err (code, left) → HasNoTree text place code
-has_no_tree text lexemes seen place code left are same at read = record { lexemes = lexemes; are = are; left = left; at = at; refused = ap (tree_of text) (sym same) ∙ read }
+no_memory : (place : Place) (code : ParseCode) → At code place ≡ OutOfMemory → ⊥
+no_memory place code e = cc
+
+pub has_no_tree : (text : List ℕ) (lexemes seen : List Lexeme) (place : Place) (code : ParseCode) → HasLexemes text lexemes → seen ≡ lexemes → Reads (Err (At code place)) (reading.file most_operators (reading.below most_levels) (symbols_of text seen))
+    → ((items : List ItemTree) → IsTreeOf (symbols_of text seen) items → IsWithinLimits items → Answers (Err (At code place)) items) → HasNoTree text place code
+has_no_tree text lexemes seen place code are same reads only = record {
+  lexemes = lexemes;
+  are = are;
+  none = λ items tree within. no_memory place code (only items (subst (λ (l : List Lexeme). IsTreeOf (symbols_of text l) items) (sym same) tree) within);
+  stops = subst (λ (l : List Lexeme). StopsAt (symbols_of text l) place code) same reads;
+}
 
 pub program_of_tree : (text top : List ℕ) (found : Option Program) (program : Program) (file : File) → HasTree text file → found ≡ Some program → IfSome found (λ p. IsPathProgram file top p) → IsProgramOf text top program
 program_of_tree text top found program file tree is means = record { file = file; tree = tree; means = subst (λ (o : Option Program). IfSome o (λ p. IsPathProgram file top p)) is means }
@@ -60,18 +71,18 @@ module _ (words : List (List ℕ)) (files : Option Files) (source top : List ℕ
   not_found_leaves reads_old reads_new old (Blocked lines) h = absurd h
   not_found_leaves reads_old reads_new old NoMemory h = inl refl
 
-  module _ (program : Program) (means : OfFile files source (λ text. IsProgramOf text top program)) (old new : Option (List ℕ)) where
+  module _ (program : Program) (means : OfSource files source (λ text. IsProgramOf text top program)) (old new : Option (List ℕ)) where
     pub ended_done : EndsSo program tick_limit old new run_end.Done → EndsFor words files old new ended.Done
-    ended_done e = (source, top, asked, of_file_also files source (λ text. IsProgramOf text top program) (λ text. HasRun text top old new) (λ text p. record { program = program; means = p; report = e.0; ended = e.1; shown = e.2 }) means)
+    ended_done e = (source, top, asked, of_source_also files source (λ text. IsProgramOf text top program) (λ text. HasRun text top old new) (λ text p. record { program = program; means = p; report = e.0; ended = e.1; shown = e.2 }) means)
 
     pub ended_stopped : (lines : Vec (Vec ℕ Global) Global) → EndsSo program tick_limit old new (run_end.Stopped lines) → EndsFor words files old new (ended.Stopped lines)
-    ended_stopped lines e = (source, top, asked, of_file_also files source (λ text. IsProgramOf text top program) (λ text. HasStopped text top _ old new) (λ text p. record { program = program; means = p; report = e.0; stopped = e.1; shown = e.2 }) means)
+    ended_stopped lines e = (source, top, asked, of_source_also files source (λ text. IsProgramOf text top program) (λ text. HasStopped text top _ old new) (λ text p. record { program = program; means = p; report = e.0; stopped = e.1; shown = e.2 }) means)
 
-    pub run_past : EndsSo program tick_limit old new run_end.Limit → OfRun words (λ source top. OfFile files source (λ text. HasRunPast text top))
-    run_past e = (source, top, asked, of_file_also files source (λ text. IsProgramOf text top program) (λ text. HasRunPast text top) (λ text p. record { program = program; means = p; past = e.0 }) means)
+    pub run_past : EndsSo program tick_limit old new run_end.Limit → OfRun words (λ source top. OfSource files source (λ text. HasRunPast text top))
+    run_past e = (source, top, asked, of_source_also files source (λ text. IsProgramOf text top program) (λ text. HasRunPast text top) (λ text p. record { program = program; means = p; past = e.0 }) means)
 
     pub has_part : HasPart program tick_limit old new → HasPartOf words files old new
     has_part h = elim h [
       | inl same ↦ inl same
-      | inr w ↦ inr (source, top, asked, of_file_also files source (λ text. IsProgramOf text top program) _ (λ text p. (w.0, record { program = program; means = p; is = w.1 }, w.2)) means)
+      | inr w ↦ inr (source, top, asked, of_source_also files source (λ text. IsProgramOf text top program) _ (λ text p. (w.0, record { program = program; means = p; is = w.1 }, w.2)) means)
     ]

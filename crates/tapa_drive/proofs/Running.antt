@@ -1,12 +1,12 @@
 -- How a driven network's end is the program's.
-use Rattle.std.proofs.Common.{◌≡◌, ◌⊎◌, ℕ, ◌<◌, ◌≤◌, List, [], ◌∷◌, ◌++◌, length, Some, refl, sym, ◌∙◌, ap, subst, inl, inr, get_or, arith}
+use Rattle.std.proofs.Common.{◌≡◌, ℕ, ◌<◌, ◌≤◌, List, [], ◌∷◌, ◌++◌, length, Some, refl, ◌∙◌, ap, subst, get_or, arith}
 use Rattle.std.specs.Prelude.{slice_get}
 use Rattle.std.proofs.lemmas.Option.{slice_get-get_or, slice_get_within}
 use Rattle.tapa_syntax.specs.declared.program.Program.{Program}
 use Rattle.tapa_syntax.specs.declared.program.Stream.{Stream}
 use Rattle.tapa_syntax.specs.WellFormed.{IsWellFormed}
 use Rattle.kahn_model.specs.Network.{Network}
-use Rattle.kahn_model.specs.Counts.{total, written, IsEnding, IsKahnStream}
+use Rattle.kahn_model.specs.Counts.{total, written, IsEnding}
 use Rattle.kahn_model.specs.Outcome.{IsDone, IsStopped}
 use Rattle.kahn_model.specs.ProgramNetwork.{end_of}
 use Rattle.kahn_model.specs.Start.{network_of}
@@ -29,7 +29,7 @@ network_is program net p s m =
     ap (λ (q : Program). network_of q (scalars_of net.input) (memories_of net.input)) p ∙ ap (λ (l : List ℕ). network_of program l (memories_of net.input)) s
     ∙ ap (λ (l : List (List ℕ)). network_of program [] l) m
 
-size_of : (program : Program) → (network program).size ≡ length program.instances.items
+pub size_of : (program : Program) → (network program).size ≡ length program.instances.items
 unfolding network_of
 size_of program = refl
 

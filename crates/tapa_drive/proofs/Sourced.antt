@@ -1,13 +1,13 @@
 -- A refused source means no program, and a program of a source has no scalars and no memories.
-use Rattle.std.proofs.Common.{◌≡◌, ◌-◌, ℕ, List, [], length, take, Bool, ◌&&◌, Option, Some, None, Ok, Err, refl, sym, ◌∙◌, ap, subst}
+use Rattle.std.proofs.Common.{◌≡◌, ◌≤◌, ◌-◌, ℕ, List, [], length, take, Bool, ◌&&◌, Option, Some, None, Ok, Err, refl, sym, ◌∙◌, ap, subst}
 use Rattle.tapa_base.specs.declared.text.Place.{Place}
 use Rattle.tapa_syntax.specs.declared.lexeme.Lexeme.{Lexeme}
 use Rattle.tapa_syntax.specs.declared.program.Memory.{Memory}
 use Rattle.tapa_syntax.specs.declared.program.Program.{Program}
 use Rattle.tapa_syntax.specs.declared.program.Scalar.{Scalar}
 use Rattle.tapa_syntax.specs.declared.tree.File.{File}
-use Rattle.tapa_syntax.specs.Lexemes.{HasLexemes}
-use Rattle.tapa_syntax.specs.Symbols.{Symbol}
+use Rattle.tapa_syntax.specs.Grammar.{IsTreeOf}
+use Rattle.tapa_syntax.specs.Symbols.{symbols_of}
 use Rattle.tapa_syntax.specs.Trees.{ItemTree, file_of}
 use Rattle.tapa_lex.specs.declared.fault.LexCode.{LexCode}
 use Rattle.tapa_lex.specs.declared.fault.LexCode.TheVariants as lex
@@ -15,9 +15,9 @@ use Rattle.tapa_lex.specs.Refusals.{IsRefused}
 use Rattle.tapa_lex.proofs.Whole.{one_list, not_both}
 use Rattle.tapa_parse.specs.declared.fault.ParseCode.{ParseCode}
 use Rattle.tapa_parse.specs.declared.fault.ParseCode.TheVariants as parse
-use Rattle.tapa_parse.specs.Readers.{Outcome}
+use Rattle.tapa_parse.proofs.CompleteFiles.{one_tree as tree_is_one}
 use Rattle.tapa_syntax.specs.declared.program.Stream.{Stream}
-use Rattle.path_check.specs.Flat.{FlatLeaf, FlatInstance, FlatProgram, flat_program}
+use Rattle.tapa_syntax.specs.Flat.{FlatLeaf, FlatInstance, FlatProgram, flat_program}
 use Rattle.path_check.specs.Programs as path
 use Rattle.path_check.specs.Programs.{IsPathProgram, HasNoProgram, Upper, program_of}
 use Rattle.path_check.specs.Leaves.{with_name}
@@ -29,28 +29,20 @@ use Rattle.std.specs.Prelude.{option_and_then, slice_get, nat_le}
 use Rattle.tapa_base.specs.Outside.{Files}
 use Rattle.tapa_base.specs.Take.{IsFileOf}
 use Rattle.kahn_model.specs.Fits.{FitsInput}
-use Rattle.tapa_drive.specs.Answer.{OfFile}
+use Rattle.tapa_drive.specs.Answer.{OfSource, source_limit}
 use Rattle.tapa_drive.specs.Codes.{lex_code, parse_code}
-use Rattle.tapa_drive.specs.Source.{tree_of, HasTree, HasNoTree, IsProgramOf, IsRefusedSource, MeansNothing}
-
-ok_pair : (p q : List ItemTree × List Symbol) → (let E : Outcome (List ItemTree) = Ok p in E) ≡ Ok q → p ≡ q
-ok_pair p q e = cc
-
-ok_tree : (a b : List ItemTree) (l m : List Symbol) → (let E : Outcome (List ItemTree) = Ok (a, l) in E) ≡ Ok (b, m) → a ≡ b
-ok_tree a b l m e = ap (λ (p : List ItemTree × List Symbol). p.0) (ok_pair (a, l) (b, m) e)
+use Rattle.tapa_drive.specs.Source.{HasTree, HasNoTree, IsRefusedSource, MeansNothing}
 
 -- a text has one tree
-one_tree : (text : List ℕ) (file other : File) → HasTree text file → HasTree text other → file_of file ≡ file_of other
+pub one_tree : (text : List ℕ) (file other : File) → HasTree text file → HasTree text other → file_of file ≡ file_of other
 one_tree text file other a b =
     let same = one_list text a.lexemes b.lexemes a.are b.are in
-    let read : tree_of text b.lexemes ≡ Ok (file_of file, a.left) = ap (λ (l : List Lexeme). tree_of text l) (sym same) ∙ a.read in
-    ok_tree _ _ _ _ (sym read ∙ b.read)
+    tree_is_one (symbols_of text b.lexemes) (file_of file) (file_of other) (subst (λ (l : List Lexeme). IsTreeOf (symbols_of text l) (file_of file)) same a.spelled) b.spelled
 
 no_tree : (text : List ℕ) (place : Place) (code : ParseCode) (file : File) → HasNoTree text place code → HasTree text file → ⊥
 no_tree text place code file a b =
-    let same = one_list text a.lexemes b.lexemes a.are b.are in
-    let read : tree_of text b.lexemes ≡ Err (code, a.left) = ap (λ (l : List Lexeme). tree_of text l) (sym same) ∙ a.refused in
-    let both : Err (code, a.left) ≡ Ok (file_of file, b.left) = sym read ∙ b.read in cc
+    let same = one_list text b.lexemes a.lexemes b.are a.are in
+    a.none (file_of file) (subst (λ (l : List Lexeme). IsTreeOf (symbols_of text l) (file_of file)) same b.spelled) b.within
 
 pub means_nothing : (text top : List ℕ) (place : Place) (code : SourceCode) → IsRefusedSource text top place code → MeansNothing text top
 means_nothing text top place L1 h = λ program p. not_both text p.tree.lexemes lex.L1 place p.tree.are h
@@ -120,10 +112,10 @@ closed_fits program h = record {
 }
 
 -- where the files are told, what holds of the bytes that were taken holds of the file
-pub of_taken : (files : Option Files) (name bytes : List ℕ) (P : List ℕ → Type 0) → IsFileOf files name bytes → P bytes → OfFile files name P
-of_taken None name bytes P is h = tt
-of_taken (Some files) name bytes P is h = subst P is h
+pub of_taken : (files : Option Files) (name bytes : List ℕ) (P : List ℕ → Type 0) → IsFileOf files name bytes → length bytes ≤ source_limit → P bytes → OfSource files name P
+of_taken None name bytes P is few h = tt
+of_taken (Some files) name bytes P is few h = (subst (λ (text : List ℕ). length text ≤ source_limit) is few, subst P is h)
 
-pub of_file_also : (files : Option Files) (name : List ℕ) (P Q : List ℕ → Type 0) → ((text : List ℕ) → P text → Q text) → OfFile files name P → OfFile files name Q
-of_file_also None name P Q f h = tt
-of_file_also (Some files) name P Q f h = f _ h
+pub of_source_also : (files : Option Files) (name : List ℕ) (P Q : List ℕ → Type 0) → ((text : List ℕ) → P text → Q text) → OfSource files name P → OfSource files name Q
+of_source_also None name P Q f h = tt
+of_source_also (Some files) name P Q f (few, h) = (few, f _ h)

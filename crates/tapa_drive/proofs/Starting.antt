@@ -1,5 +1,5 @@
 -- The job of an instance of a program whose top task has no parameters.
-use Rattle.std.proofs.Common.{◌≡◌, ◌⊎◌, ℕ, zero, suc, ◌+◌, ◌<◌, List, [], ◌∷◌, ◌++◌, inl, inr, length, map, replicate, get_or, Option, Some, None, Vec, refl, sym, ◌∙◌, ap, subst, arith}
+use Rattle.std.proofs.Common.{◌≡◌, ◌⊎◌, ℕ, zero, suc, ◌+◌, ◌<◌, List, [], ◌∷◌, ◌++◌, inl, inr, length, map, replicate, get_or, Option, Some, None, refl, sym, ◌∙◌, ap, subst, arith}
 use Rattle.std.specs.Prelude.{slice_get, slice_index_or}
 use Rattle.std.proofs.lemmas.Option.{slice_get-get_or}
 use Rattle.tapa_base.specs.declared.kind.Kind.{Kind}
@@ -13,7 +13,7 @@ use Rattle.tapa_syntax.specs.declared.program.Leaf.{Leaf}
 use Rattle.tapa_syntax.specs.declared.program.Memory.{Memory}
 use Rattle.tapa_syntax.specs.declared.program.Program.{Program}
 use Rattle.tapa_syntax.specs.declared.program.Scalar.{Scalar}
-use Rattle.tapa_syntax.specs.WellFormed.{IsLeaf, IsWellFormed, IsInstance, IsMemoryAt, IsBoundTo}
+use Rattle.tapa_syntax.specs.WellFormed.{IsLeaf, IsWellFormed, IsInstance, IsBoundTo}
 use Rattle.kahn_model.specs.Fits.{FitsInput}
 use Rattle.kahn_model.specs.Start.{bound_value, instance_state, leaf_state, with_values}
 use Rattle.kahn_model.specs.Trace.{State, job_of}
@@ -21,7 +21,7 @@ use Rattle.kahn_model.proofs.WellFormed.{get_there}
 use Rattle.kahn_model.proofs.Fits.{IsFitState}
 use Rattle.kahn_model.proofs.FitsNetwork.{first_fits}
 use Rattle.net_core.specs.declared.input.Input.{Input}
-use Rattle.net_core.specs.Bindings.{ends_at, ends_in_leaf, leaf_at, leaf_in}
+use Rattle.net_core.specs.Bindings.{ends_at, ends_in_leaf, leaf_in}
 use Rattle.net_core.specs.Bounded.{instance_job, leaf_behavior, scalars_of, memories_of}
 use Rattle.net_core.specs.Job.{Job}
 use Rattle.task_fsm.specs.declared.machine.Fsm.{Fsm}

@@ -8,9 +8,7 @@ use Rattle.tapa_drive.specs.Ending.{IsReportOf}
 use Rattle.tapa_drive.specs.Words.{Run, command_of}
 use Rattle.tapa_drive.specs.Refusal.{Reason, BadWords, Unread, Unwritten, Longer, Unfit, Endless, Blocked, NoMemory}
 use Rattle.tapa_drive.specs.Run.{RunsToEnd, StopsShort, RunsPast}
-use Rattle.tapa_drive.specs.Source.{IsProgramOf, IsRefusedSource, MeansNothing}
-use Rattle.tapa_drive.specs.declared.status.Status.{Status}
-use Rattle.tapa_drive.specs.declared.status.Status.TheVariants as status
+use Rattle.tapa_drive.specs.Source.{IsProgramOf, IsRefusedSource}
 
 -- the most bytes that a source may have
 abbrev pub source_limit : ℕ
@@ -24,10 +22,10 @@ tick_limit = 100000000
 abbrev pub OfRun : List (List ℕ) → (List ℕ → List ℕ → Type 0) → Type 0
 OfRun words P = (source : List ℕ) × (top : List ℕ) × (command_of words ≡ Some (Run source top)) × P source top
 
--- where the files are told, this holds of the bytes of a file
-abbrev pub OfFile : Option Files → List ℕ → (List ℕ → Type 0) → Type 0
-OfFile None name P = ⊤
-OfFile (Some files) name P = P (file_bytes files name)
+-- where the files are told, a source has no more bytes than it may, and this holds of them
+abbrev pub OfSource : Option Files → List ℕ → (List ℕ → Type 0) → Type 0
+OfSource None name P = ⊤
+OfSource (Some files) name P = (length (file_bytes files name) ≤ source_limit) × P (file_bytes files name)
 
 -- a report of the program of a source, and its program
 pub record IsReportOfSource (text top report : List ℕ) : Type 0 where
@@ -64,15 +62,15 @@ HasCause words files reads_old reads_new writes_old writes_new old new BadWords 
 HasCause words files reads_old reads_new writes_old writes_new old new (Unread file) = OfRun words (λ source top. (source ≡ file) × Rose (reads_old file) (reads_new file))
 HasCause words files reads_old reads_new writes_old writes_new old new Unwritten = Rose writes_old writes_new
 HasCause words files reads_old reads_new writes_old writes_new old new (Longer file limit) = OfRun words (λ source top. (source ≡ file) × (limit ≡ source_limit) × IsLongerThan files file limit)
-HasCause words files reads_old reads_new writes_old writes_new old new (Unfit file place code) = OfRun words (λ source top. (source ≡ file) × OfFile files file (λ text. IsRefusedSource text top place code))
-HasCause words files reads_old reads_new writes_old writes_new old new (Endless limit) = (limit ≡ tick_limit) × OfRun words (λ source top. OfFile files source (λ text. HasRunPast text top))
-HasCause words files reads_old reads_new writes_old writes_new old new (Blocked lines) = OfRun words (λ source top. OfFile files source (λ text. HasStopped text top lines old new))
+HasCause words files reads_old reads_new writes_old writes_new old new (Unfit file place code) = OfRun words (λ source top. (source ≡ file) × OfSource files file (λ text. IsRefusedSource text top place code))
+HasCause words files reads_old reads_new writes_old writes_new old new (Endless limit) = (limit ≡ tick_limit) × OfRun words (λ source top. OfSource files source (λ text. HasRunPast text top))
+HasCause words files reads_old reads_new writes_old writes_new old new (Blocked lines) = OfRun words (λ source top. OfSource files source (λ text. HasStopped text top lines old new))
 HasCause words files reads_old reads_new writes_old writes_new old new NoMemory = ⊤
 
 -- nothing was written, or a front part of a report of the source
 abbrev pub HasPartOf : List (List ℕ) → Option Files → Option (List ℕ) → Option (List ℕ) → Type 0
 HasPartOf words files old new =
-    (new ≡ old) ⊎ OfRun words (λ source top. OfFile files source (λ text. (report : List ℕ) × IsReportOfSource text top report × AppendsPart old new report))
+    (new ≡ old) ⊎ OfRun words (λ source top. OfSource files source (λ text. (report : List ℕ) × IsReportOfSource text top report × AppendsPart old new report))
 
 -- what stands in the output after a call that tells this reason
 abbrev pub Leaves : List (List ℕ) → Option Files → Option (List ℕ) → Option (List ℕ) → Reason → Type 0
@@ -84,8 +82,3 @@ Leaves words files old new (Unfit file place code) = new ≡ old
 Leaves words files old new (Endless limit) = new ≡ old
 Leaves words files old new (Blocked lines) = ⊤
 Leaves words files old new NoMemory = HasPartOf words files old new
-
--- the files are told, and the named file has no more bytes than it may
-abbrev pub IsWithin : Option Files → List ℕ → Type 0
-IsWithin None source = ⊥
-IsWithin (Some files) source = length (file_bytes files source) ≤ source_limit

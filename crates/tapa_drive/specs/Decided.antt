@@ -1,24 +1,41 @@
--- What a call must answer where nothing outside of it fails.
-use Rattle.std.specs.Prelude.{◌≡◌, ◌⊎◌, ℕ, ◌≤◌, length, List, Option, Some, None}
+-- What a source means, and what a call must answer to it where nothing outside of it fails.
+use Rattle.std.specs.Prelude.{◌≡◌, ◌<◌, ℕ, List, length, Option, Some, None, ⊤}
+use Rattle.std.specs.Io.KnownBytes.{Appends}
 use Rattle.tapa_base.specs.Outside.{Files, file_bytes, Rose}
 use Rattle.tapa_syntax.specs.declared.program.Program.{Program}
-use Rattle.tapa_drive.specs.Answer.{OfFile, IsWithin, tick_limit}
+use Rattle.tapa_drive.specs.Answer.{OfSource, source_limit, tick_limit}
+use Rattle.tapa_drive.specs.Refusal.{message_of, Endless}
 use Rattle.tapa_drive.specs.Run.{RunsToEnd, StopsShort, RunsPast}
 use Rattle.tapa_drive.specs.Source.{IsProgramOf, MeansNothing}
 use Rattle.tapa_drive.specs.declared.status.Status.{Status}
-use Rattle.tapa_drive.specs.declared.status.Status.TheVariants.{Ok, Source, Stopped, Limit, Memory}
+use Rattle.tapa_drive.specs.declared.status.Status.TheVariants.{Ok, Source, Stopped, Limit}
 
--- the source has a program, and this holds of each
+-- what a text means with the name of its top task: a program that ends with this report; one that stops with this
+-- report, where these lines tell what its instances wait for; one that makes more ticks than it may, or never ends; or
+-- no program
+pub data SourceMeaning : Type 0 where
+  Ends : (report : List ℕ) → SourceMeaning
+  Stops : (report lines : List ℕ) → SourceMeaning
+  Exceeds : SourceMeaning
+  Nothing : SourceMeaning
+
+-- the source has a program, of which this holds
 abbrev pub OfProgram : List ℕ → List ℕ → (Program → Type 0) → Type 0
-OfProgram text top P = ((program : Program) × IsProgramOf text top program) × ((program : Program) → IsProgramOf text top program → P program)
+OfProgram text top P = (program : Program) × IsProgramOf text top program × P program
 
--- what the status says of a source: its program ends, stops, or makes more ticks than it may, or there is none
-abbrev pub Means : List ℕ → List ℕ → Status → Type 0
-Means text top Ok = OfProgram text top (λ program. (report : List ℕ) × RunsToEnd program tick_limit report)
-Means text top Stopped = OfProgram text top (λ program. (report : List ℕ) × (lines : List ℕ) × StopsShort program tick_limit report lines)
-Means text top Limit = OfProgram text top (λ program. RunsPast program tick_limit)
-Means text top Source = MeansNothing text top
-Means text top _ = ⊥
+abbrev pub Means : List ℕ → List ℕ → SourceMeaning → Type 0
+Means text top (Ends report) = OfProgram text top (λ program. RunsToEnd program tick_limit report)
+Means text top (Stops report lines) = OfProgram text top (λ program. StopsShort program tick_limit report lines)
+Means text top Exceeds = OfProgram text top (λ program. RunsPast program tick_limit)
+Means text top Nothing = MeansNothing text top
+
+-- the status that tells a meaning, and what the output and the errors held and hold: a report is written whole, and so
+-- are the lines of a stop
+abbrev pub Tells : SourceMeaning → Status → Option (List ℕ) → Option (List ℕ) → Option (List ℕ) → Option (List ℕ) → Type 0
+Tells (Ends report) status old new errors_old errors_new = (status ≡ Ok) × Appends old new report × (errors_new ≡ errors_old)
+Tells (Stops report lines) status old new errors_old errors_new = (status ≡ Stopped) × Appends old new report × Appends errors_old errors_new lines
+Tells Exceeds status old new errors_old errors_new = (status ≡ Limit) × (new ≡ old) × Appends errors_old errors_new (message_of (Endless tick_limit))
+Tells Nothing status old new errors_old errors_new = (status ≡ Source) × (new ≡ old)
 
 -- no read of the source failed, no write of the output, and none of the errors
 pub record IsStill (source : List ℕ) (reads_old reads_new : List ℕ → ℕ) (writes_old writes_new errors_old errors_new : ℕ) : Type 0 where
@@ -26,6 +43,15 @@ pub record IsStill (source : List ℕ) (reads_old reads_new : List ℕ → ℕ) 
   pub written : Rose writes_old writes_new → ⊥
   pub told : Rose errors_old errors_new → ⊥
 
--- the files are told, the source has no more bytes than it may, and the status says this of it
-abbrev pub Expects : Option Files → List ℕ → List ℕ → Status → Type 0
-Expects files source top status = IsWithin files source × OfFile files source (λ text. Means text top status)
+abbrev pub AreTold : Option Files → Type 0
+AreTold None = ⊥
+AreTold (Some files) = ⊤
+
+-- the files are told, the source has no more bytes than it may, and it means this
+abbrev pub Expects : Option Files → List ℕ → List ℕ → SourceMeaning → Type 0
+Expects files source top meaning = AreTold files × OfSource files source (λ text. Means text top meaning)
+
+-- the files are told, and the source has more bytes than it may
+abbrev pub IsLengthy : Option Files → List ℕ → Type 0
+IsLengthy None source = ⊥
+IsLengthy (Some files) source = source_limit < length (file_bytes files source)

@@ -1,5 +1,5 @@
 -- How a run leaves the output.
-use Rattle.std.specs.Prelude.{◌≡◌, ◌⊎◌, ℕ, ◌≤◌, List, Option}
+use Rattle.std.specs.Prelude.{◌≡◌, ◌⊎◌, ℕ, List, Option}
 use Rattle.std.specs.Io.KnownBytes.{Appends}
 use Rattle.tapa_base.specs.Outside.{AppendsPart}
 use Rattle.tapa_syntax.specs.declared.program.Program.{Program}

@@ -1,5 +1,5 @@
 -- A network before its first tick.
-use Rattle.std.specs.Prelude.{◌≡◌, List, []}
+use Rattle.std.specs.Prelude.{◌≡◌, []}
 use Rattle.tapa_syntax.specs.declared.program.Program.{Program}
 use Rattle.tapa_syntax.specs.WellFormed.{IsWellFormed}
 use Rattle.net_core.specs.declared.net_state.NetState.{NetState}

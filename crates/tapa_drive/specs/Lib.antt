@@ -5,6 +5,7 @@ pub mod Ending
 pub mod Found
 pub mod Fresh
 pub mod Meaning
+pub mod OneMeaning
 pub mod Pauses
 pub mod Refusal
 pub mod Refused

@@ -1,5 +1,5 @@
 -- The line that an instance's last pause gives.
-use Rattle.std.specs.Prelude.{ℕ, List, [], codes, Option, Some, None, unwrap_or, slice_index}
+use Rattle.std.specs.Prelude.{ℕ, List, [], Option, Some, None, unwrap_or, slice_index}
 use Rattle.tapa_syntax.specs.declared.program.Instance.{Instance}
 use Rattle.tapa_syntax.specs.declared.program.Stream.{Stream}
 use Rattle.net_core.specs.declared.body.Pause.{Pause}

@@ -1,8 +1,6 @@
 -- The run of a flat program at its declared depths: how it ends, what its report is, and what a stopped one waits for.
-use Rattle.std.specs.Prelude.{◌≡◌, ◌⊎◌, ℕ, suc, ◌<◌, ◌≤◌, List, [], ◌∷◌, ◌++◌, length, codes, Option, Some, None, option_map, unwrap_or, slice_get, slice_index}
-use Rattle.std.specs.Io.KnownBytes.{Appends}
+use Rattle.std.specs.Prelude.{◌≡◌, ◌⊎◌, ℕ, suc, ◌<◌, ◌≤◌, List, [], ◌∷◌, ◌++◌, length, codes, option_map, unwrap_or, slice_get}
 use Rattle.tapa_base.specs.declared.token.Token.{Token}
-use Rattle.tapa_base.specs.Outside.{AppendsPart}
 use Rattle.tapa_syntax.specs.declared.program.Instance.{Instance}
 use Rattle.tapa_syntax.specs.declared.program.Program.{Program}
 use Rattle.tapa_syntax.specs.declared.program.Stream.{Stream}

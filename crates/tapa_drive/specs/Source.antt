@@ -1,35 +1,30 @@
 -- The program of a source, and where a source is refused.
-use Rattle.std.specs.Prelude.{◌≡◌, ℕ, List, [], Ok, Err}
+use Rattle.std.specs.Prelude.{◌≡◌, ℕ, List, Ok, Err}
 use Rattle.tapa_base.specs.declared.text.Place.{Place}
 use Rattle.tapa_syntax.specs.declared.lexeme.Lexeme.{Lexeme}
 use Rattle.tapa_syntax.specs.declared.program.Program.{Program}
 use Rattle.tapa_syntax.specs.declared.tree.File.{File}
 use Rattle.tapa_syntax.specs.Lexemes.{HasLexemes}
-use Rattle.tapa_syntax.specs.Limits.{most_levels, most_operators}
+use Rattle.tapa_syntax.specs.Grammar.{IsTreeOf}
+use Rattle.tapa_syntax.specs.Limits.{most_levels, most_operators, IsWithinLimits}
 use Rattle.tapa_syntax.specs.Symbols.{Symbol, symbols_of}
 use Rattle.tapa_syntax.specs.Trees.{ItemTree, file_of}
-use Rattle.tapa_lex.specs.declared.fault.LexCode.{LexCode}
 use Rattle.tapa_lex.specs.declared.fault.LexCode.TheVariants as lex
 use Rattle.tapa_lex.specs.Refusals.{IsRefused}
 use Rattle.tapa_parse.specs.declared.fault.ParseCode.{ParseCode}
 use Rattle.tapa_parse.specs.declared.fault.ParseCode.TheVariants as parse
 use Rattle.tapa_parse.specs.Answers.{IsRefusedAt}
-use Rattle.tapa_parse.specs.Readers.{Outcome}
 use Rattle.tapa_parse.specs.Reading as reading
 use Rattle.path_check.specs.Programs.{IsPathProgram, HasNoProgram}
 use Rattle.tapa_drive.specs.declared.source.SourceCode.{SourceCode}
 use Rattle.tapa_drive.specs.declared.source.SourceCode.TheVariants.{L1, L2, L3, L4, P1, P2, N1}
 
--- what reading the lexemes of a text gives
-abbrev pub tree_of : List ℕ → List Lexeme → Outcome (List ItemTree)
-tree_of text lexemes = reading.file most_operators (reading.below most_levels) (symbols_of text lexemes)
-
--- the text has lexemes, these have a tree, and this file is it
+-- the text has lexemes, and this is the file that the grammar has for them, within the limits
 pub record HasTree (text : List ℕ) (file : File) : Type 0 where
   pub lexemes : List Lexeme
   pub are : HasLexemes text lexemes
-  pub left : List Symbol
-  pub read : tree_of text lexemes ≡ Ok (file_of file, left)
+  pub spelled : IsTreeOf (symbols_of text lexemes) (file_of file)
+  pub within : IsWithinLimits (file_of file)
 
 -- the flat program of a text and the name of its top task
 pub record IsProgramOf (text top : List ℕ) (program : Program) : Type 0 where
@@ -37,13 +32,16 @@ pub record IsProgramOf (text top : List ℕ) (program : Program) : Type 0 where
   pub tree : HasTree text file
   pub means : IsPathProgram file top program
 
--- the lexemes of the text have no tree, and reading them stops with this code at this place
+-- reading the symbols from left to right stops at this place, with this code
+abbrev pub StopsAt : List Symbol → Place → ParseCode → Type 0
+StopsAt symbols place code = (left : List Symbol) × IsRefusedAt place left × (reading.file most_operators (reading.below most_levels) symbols ≡ Err (code, left))
+
+-- the grammar has no file for the lexemes of the text, within the limits, and reading them stops so
 pub record HasNoTree (text : List ℕ) (place : Place) (code : ParseCode) : Type 0 where
   pub lexemes : List Lexeme
   pub are : HasLexemes text lexemes
-  pub left : List Symbol
-  pub at : IsRefusedAt place left
-  pub refused : tree_of text lexemes ≡ Err (code, left)
+  pub none : (items : List ItemTree) → IsTreeOf (symbols_of text lexemes) items → IsWithinLimits items → ⊥
+  pub stops : StopsAt (symbols_of text lexemes) place code
 
 -- the text has a tree, of which this top task is no path program
 pub record IsNoPath (text top : List ℕ) : Type 0 where

@@ -1,6 +1,7 @@
 //! The top call: the words of a command, the file that they name, the program that it means, its run and the report.
 #![tactic(auto)]
 
+pub mod laws;
 mod program;
 mod refusal;
 mod run;

@@ -1,14 +1,15 @@
-ghost use Rattle.std.specs.Prelude.{◌≡◌, ◌≢◌, ◌⊎◌, ◌≤◌, ℕ, List, [], Some, IfOk, IfErr};
+ghost use Rattle.std.specs.Prelude.{◌≡◌, ◌≢◌, ◌⊎◌, ◌≤◌, ℕ, List, [], Some, None, IfOk, IfErr};
+ghost use Rattle.tapa_base.specs.Outside.{Rose};
 ghost use Rattle.tapa_syntax.specs.WellFormed.{IsWellFormed};
 ghost use Rattle.kahn_model.specs.Fits.{FitsInput};
 ghost use Rattle.tapa_drive.specs.Words.{texts, command_of, Run};
 ghost use Rattle.tapa_drive.specs.Meaning.{reason};
 ghost use Rattle.tapa_drive.specs.Refusal.{Reason};
-ghost use Rattle.tapa_drive.specs.Answer.{OfRun, OfFile, HasRun, HasCause, Leaves};
+ghost use Rattle.tapa_drive.specs.Answer.{OfRun, OfSource, HasRun, HasCause, Leaves};
 ghost use Rattle.tapa_drive.specs.Found.{IsNotFound, EndsFor};
 ghost use Rattle.tapa_drive.specs.Source.{IsProgramOf};
 ghost use Rattle.tapa_drive.specs.Told.{IsToldAs};
-ghost use Rattle.tapa_drive.specs.Decided.{Expects, IsStill};
+ghost use Rattle.tapa_drive.specs.Decided.{SourceMeaning, Expects, IsLengthy, IsStill, Tells};
 
 use crate::{
     Command, Refusal, RunEnd, SourceFault, Status, read_program, read_words, run_program, tell,
@@ -36,7 +37,7 @@ fn read_source<'a, S: Shelf>(
     top: &str,
     shelf: &mut S,
 ) -> Result<Program, Refusal<'a>>
-    ensures found { IfOk result (λ program. OfFile (S.files shelf.old) source.now (λ text. IsProgramOf text top.now program)) }
+    ensures found { IfOk result (λ program. OfSource (S.files shelf.old) source.now (λ text. IsProgramOf text top.now program)) }
     ensures well_formed { IfOk result (λ program. IsWellFormed program) }
     ensures closed { IfOk result (λ program. FitsInput program [] []) }
     ensures refused { IfErr result (λ refusal. IsNotFound (S.files shelf.old) (S.faults shelf.old) (S.faults shelf.new) source.now top.now (reason refusal)) }
@@ -124,7 +125,7 @@ fn answer<S: Shelf, O: Sink, E: Sink>(
     out: &mut O,
     err: &mut E,
 ) -> Status
-    ensures ok { result ≡ Status.Ok → OfRun (texts words.now) (λ source top. OfFile (S.files shelf.old) source (λ text. HasRun text top (O.contents out.old) (O.contents out.new))) }
+    ensures ok { result ≡ Status.Ok → OfRun (texts words.now) (λ source top. OfSource (S.files shelf.old) source (λ text. HasRun text top (O.contents out.old) (O.contents out.new))) }
     ensures ok_err { result ≡ Status.Ok → err.new ≡ err.old }
     ensures told { result ≢ Status.Ok → (told : Reason) × IsToldAs told result (E.contents err.old) (E.contents err.new) (E.faults err.old) (E.faults err.new)
         × HasCause (texts words.now) (S.files shelf.old) (S.faults shelf.old) (S.faults shelf.new) (O.faults out.old) (O.faults out.new) (O.contents out.old) (O.contents out.new) told
@@ -146,15 +147,23 @@ pub fn tapa<S: Shelf, O: Sink, E: Sink>(
     err: &mut E,
 ) -> Status
     // Every instance of the source's program has ended, and the report of the whole Kahn streams is written.
-    ensures ok { result ≡ Status.Ok → OfRun (texts words.now) (λ source top. OfFile (S.files shelf.old) source (λ text. HasRun text top (O.contents out.old) (O.contents out.new))) }
+    ensures ok { result ≡ Status.Ok → OfRun (texts words.now) (λ source top. OfSource (S.files shelf.old) source (λ text. HasRun text top (O.contents out.old) (O.contents out.new))) }
     ensures ok_err { result ≡ Status.Ok → err.new ≡ err.old }
     // Each other status tells its reason, which has its cause and leaves the output so.
     ensures told { result ≢ Status.Ok → (told : Reason) × IsToldAs told result (E.contents err.old) (E.contents err.new) (E.faults err.old) (E.faults err.new)
         × HasCause (texts words.now) (S.files shelf.old) (S.faults shelf.old) (S.faults shelf.new) (O.faults out.old) (O.faults out.new) (O.contents out.old) (O.contents out.new) told
         × Leaves (texts words.now) (S.files shelf.old) (O.contents out.old) (O.contents out.new) told }
-    // Where the files are told and nothing outside fails, the answer is what the source means, or want of memory.
-    ensures decided { (source top : List ℕ) → command_of (texts words.now) ≡ Some (Run source top) → (expected : Status) → Expects (S.files shelf.old) source top expected →
-        IsStill source (S.faults shelf.old) (S.faults shelf.new) (O.faults out.old) (O.faults out.new) (E.faults err.old) (E.faults err.new) → (result ≡ expected) ⊎ (result ≡ Status.Memory) }
+    // Where the files are told and nothing outside fails, the answer tells what the source means, and the report is
+    // written whole: or memory ran out.
+    ensures decided { (source top : List ℕ) → command_of (texts words.now) ≡ Some (Run source top) → (meaning : SourceMeaning) → Expects (S.files shelf.old) source top meaning →
+        IsStill source (S.faults shelf.old) (S.faults shelf.new) (O.faults out.old) (O.faults out.new) (E.faults err.old) (E.faults err.new) →
+        Tells meaning result (O.contents out.old) (O.contents out.new) (E.contents err.old) (E.contents err.new) ⊎ (result ≡ Status.Memory) }
+    // The same where the source has more bytes than it may, and where the words are no command.
+    ensures lengthy { (source top : List ℕ) → command_of (texts words.now) ≡ Some (Run source top) → IsLengthy (S.files shelf.old) source →
+        IsStill source (S.faults shelf.old) (S.faults shelf.new) (O.faults out.old) (O.faults out.new) (E.faults err.old) (E.faults err.new) →
+        ((result ≡ Status.Limit) × (O.contents out.new ≡ O.contents out.old)) ⊎ (result ≡ Status.Memory) }
+    ensures usage { command_of (texts words.now) ≡ None → (Rose (O.faults out.old) (O.faults out.new) → ⊥) → (Rose (E.faults err.old) (E.faults err.new) → ⊥) →
+        ((result ≡ Status.Usage) × (O.contents out.new ≡ O.contents out.old)) ⊎ (result ≡ Status.Memory) }
 {
     answer(alloc, words, shelf, out, err)
 }

@@ -132,7 +132,7 @@ type_no_paren m e = differ_by begins_type m mark.LeftParen (λ f. cc)
 abbrev count_tree : Place → CountForm → CountTree
 count_tree at f = record { place = at; form = f }
 
-stands : (i : Symbols) (at : Place) → StandsAt at i → first_place i ≡ at
+pub stands : (i : Symbols) (at : Place) → StandsAt at i → first_place i ≡ at
 stands [] at h = absurd h
 stands (x ∷ i) at h = h
 
@@ -143,7 +143,7 @@ module _ (room : ℕ) (inner : Option Readers) (h : MayBeComplete room inner) wh
       let parts = k.spelled in
       let j = parts.0 in
       let l = parts.2.0 in
-      let o = opened room (nesting e) inner mark.LeftParen i j h k.nests parts.1 in
+      let o = opened AreComplete room (nesting e) inner mark.LeftParen i j h k.nests parts.1 in
       then_is _ o.readers j o.is
       (then_is _ (e, left) l (o.complete.expression.on n j e left l (record { spelled = parts.2.1; nests = o.deep; counted = k.counted }) (ends_at expression_level mark.RightParen l r parts.2.2 refl))
       (then_is _ tt r (expect_is mark.RightParen l r parts.2.2) refl))
@@ -154,7 +154,7 @@ module _ (room : ℕ) (inner : Option Readers) (h : MayBeComplete room inner) wh
       let parts = k.spelled in
       let j = parts.0 in
       let l = parts.2.0 in
-      let o = opened room (nesting e) inner mark.LeftBracket i j h k.nests parts.1 in
+      let o = opened AreComplete room (nesting e) inner mark.LeftBracket i j h k.nests parts.1 in
       then_is _ o.readers j o.is
       (then_is _ (e, left) l (o.complete.expression.on n j e left l (record { spelled = parts.2.1; nests = o.deep; counted = k.counted }) (ends_at expression_level mark.RightBracket l r parts.2.2 refl))
       (then_is _ tt r (expect_is mark.RightBracket l r parts.2.2) refl))
@@ -162,7 +162,7 @@ module _ (room : ℕ) (inner : Option Readers) (h : MayBeComplete room inner) wh
   arguments_complete : (n : ℕ) (i : Symbols) (es : Expressions) (left : ℕ) (r : Symbols) → (Takes mark.LeftParen ⨾ AreArguments es ⨾ Takes mark.RightParen) i r → suc (nestings es) ≤ room → operators_in es + left ≡ n → arguments inner n i ≡ Ok ((list_of es, left), r)
   unfolding arguments
   arguments_complete n i es left r (j, begin, (l, all, close)) deep counts =
-      let o = opened room (nestings es) inner mark.LeftParen i j h deep begin in
+      let o = opened AreComplete room (nestings es) inner mark.LeftParen i j h deep begin in
       then_is _ o.readers j o.is
       (then_is _ (list_of es, left) l (any_arguments_complete o.less o.readers o.complete es n j left l r all o.deep counts close)
       (then_is _ tt r (expect_is mark.RightParen l r close) refl))
@@ -206,7 +206,7 @@ module _ (room : ℕ) (inner : Option Readers) (h : MayBeComplete room inner) wh
       let sign = k.spelled.1 in
       let x = sign.0 in
       let one_less : n ≡ suc (operators e + left) = omega (arith, k.counted) in
-      let b = entered room (nesting e) inner (x ∷ j) h k.nests in
+      let b = entered AreComplete room (nesting e) inner (x ∷ j) h k.nests in
       rw (sign.2, sign.1.0)
       (then_is _ (operators e + left) (x ∷ j) (count_is n (operators e + left) (x ∷ j) one_less)
       (then_is _ b.readers (x ∷ j) b.is
@@ -222,7 +222,7 @@ module _ (room : ℕ) (inner : Option Readers) (h : MayBeComplete room inner) wh
       let type = k.spelled.2.1 in
       let o = k.spelled.2.2.0 in
       let close = k.spelled.2.2.1 in
-      let b = opened room (nesting e) inner mark.LeftParen i j h k.nests begin in
+      let b = opened AreComplete room (nesting e) inner mark.LeftParen i j h k.nests begin in
       let no_word : extends_type (next l) ≡ false = rw (next_is mark.RightParen l o close) refl in
       rw (next_is mark.LeftParen i j begin)
       (if_true _ (seen_is mark.LeftParen i j begin) (if_true _ (cast_begins i j begin ∙ is_cast kind j l o type close)
@@ -322,7 +322,7 @@ module _ (room : ℕ) (inner : Option Readers) (h : MayBeComplete room inner) wh
       let sign : Takes mark.Question j l = (x, question.1.0, question.2) in
       let place : first_place j ≡ at = ap first_place question.2 ∙ question.1.1 in
       let m = operators a + operators b + left in
-      let w = entered room (max (nesting a) (nesting b)) inner j h (omega (arith, k.nests)) in
+      let w = entered AreComplete room (max (nesting a) (nesting b)) inner j h (omega (arith, k.nests)) in
       let question_next : Ends or_level (next j) = rw (next_is mark.Question j l sign) question_ends in
       then_is _ (c, suc m) j (tests.on n i c (suc m) j (record { spelled = parts.1; nests = omega (arith, k.nests); counted = omega (arith, k.counted) }) question_next)
       (if_true _ (seen_is mark.Question j l sign)

@@ -109,28 +109,32 @@ pub record AreComplete (room : ℕ) (R : Readers) : Type 0 where
   pub unary : CompletesAt 0 room R.unary
   pub expression : CompletesAt expression_level room R.expression
 
+-- the readers of the level below do what they are to, if there is one more level
+abbrev pub MayDo : (ℕ → Readers → Type 0) → ℕ → Option Readers → Type 0
+MayDo Does zero inner = Unit {0}
+MayDo Does (suc room) None = ⊥
+MayDo Does (suc room) (Some R) = Does room R
+
 abbrev pub MayBeComplete : ℕ → Option Readers → Type 0
-MayBeComplete zero inner = Unit {0}
-MayBeComplete (suc room) None = ⊥
-MayBeComplete (suc room) (Some R) = AreComplete room R
+MayBeComplete = MayDo AreComplete
 
 -- a level that was opened for what nests so deep
-pub record IsOpened (d : ℕ) (o : Outcome Readers) (j : Symbols) : Type 0 where
+pub record IsOpened (Does : ℕ → Readers → Type 0) (d : ℕ) (o : Outcome Readers) (j : Symbols) : Type 0 where
   pub readers : Readers
   pub less : ℕ
   pub deep : d ≤ less
-  pub complete : AreComplete less readers
+  pub complete : Does less readers
   pub is : o ≡ Ok (readers, j)
 
-pub entered : (room d : ℕ) (inner : Option Readers) (i : Symbols) → MayBeComplete room inner → suc d ≤ room → IsOpened d (enter inner i) i
-entered zero d inner i h le = absurd (omega arith)
-entered (suc room) d None i h le = absurd h
-entered (suc room) d (Some R) i h le = record { readers = R; less = room; deep = omega arith; complete = h; is = refl }
+pub entered : (Does : ℕ → Readers → Type 0) (room d : ℕ) (inner : Option Readers) (i : Symbols) → MayDo Does room inner → suc d ≤ room → IsOpened Does d (enter inner i) i
+entered Does zero d inner i h le = absurd (omega arith)
+entered Does (suc room) d None i h le = absurd h
+entered Does (suc room) d (Some R) i h le = record { readers = R; less = room; deep = omega arith; complete = h; is = refl }
 
-pub opened : (room d : ℕ) (inner : Option Readers) (m : Mark) (i j : Symbols) → MayBeComplete room inner → suc d ≤ room → Takes m i j → IsOpened d (open_level m inner i) j
+pub opened : (Does : ℕ → Readers → Type 0) (room d : ℕ) (inner : Option Readers) (m : Mark) (i j : Symbols) → MayDo Does room inner → suc d ≤ room → Takes m i j → IsOpened Does d (open_level m inner i) j
 unfolding open_level
-opened room d inner m i j h le t =
-    let e = entered room d inner i h le in
+opened Does room d inner m i j h le t =
+    let e = entered Does room d inner i h le in
     record { readers = e.readers; less = e.less; deep = e.deep; complete = e.complete; is = if_true _ (seen_is m i j t) (then_is _ e.readers i e.is (ap (λ (k : Symbols). done (e.readers, k)) (dropped m i j t))) }
 
 pub count_is : (n m : ℕ) (i : Symbols) → n ≡ suc m → count n i ≡ Ok (m, i)

@@ -98,7 +98,7 @@ pub record AreSome {A : Type 0} (P : A → Part) (f g : A → ℕ) (room limit :
 
 module _ {A : Type 0} (P : A → Part) (f g : A → ℕ) (room limit : ℕ) where
   -- one, and those behind it
-  some_of : (x : A) (i j : Symbols) (xs : List A) (r : Symbols) → IsPart P f g room limit x i j → (more : List A) → xs ≡ x ∷ more → AreParts P f g room limit more j r → AreSome P f g room limit xs i r
+  pub some_of : (x : A) (i j : Symbols) (xs : List A) (r : Symbols) → IsPart P f g room limit x i j → (more : List A) → xs ≡ x ∷ more → AreParts P f g room limit more j r → AreSome P f g room limit xs i r
   some_of x i j xs r h more is k =
       let all : AreSome P f g room limit (x ∷ more) i r = record { spelled = (j, h.spelled, k.spelled); nests = omega (arith, h.nests, k.nests); within = omega (arith, h.within, k.within) } in
       subst (λ (ys : List A). AreSome P f g room limit ys i r) (sym is) all
@@ -147,13 +147,14 @@ module _ {A : Type 0} (between : Mark) (P : A → Part) (f g : A → ℕ) (room 
   abbrev Behind : A → Part
   Behind x = Takes between ⨾ P x
 
+  -- one more, behind the mark
+  pub behind_sound : is_end between ≡ false → ((i : Symbols) → Yields (λ x r. IsPart P f g room limit x i r) (item i)) → ReadsParts Behind f g room limit (sees between) (skip >> item)
+  behind_sound real h i e = weaker (h (drop 1 i)) (λ x r k. record { spelled = (drop 1 i, takes between i real e, k.spelled); nests = k.nests; within = k.within })
+
   pub separated_sound : is_end between ≡ false → ((i : Symbols) → Yields (λ x r. IsPart P f g room limit x i r) (item i)) → (i : Symbols) → Yields (λ xs r. AreSeparated between P f g room limit xs i r) (separated between item i)
   unfolding separated
-  separated_sound real h i = yields_then (h i) (λ x j k. weaker (repeat_behind_sound Behind f g room limit (sees between) (skip >> item) next (x ∷ []) j) (λ xs r l. all x j xs r k l.0 l.1 l.2))
+  separated_sound real h i = yields_then (h i) (λ x j k. weaker (repeat_behind_sound Behind f g room limit (sees between) (skip >> item) (behind_sound real h) (x ∷ []) j) (λ xs r l. all x j xs r k l.0 l.1 l.2))
     where
-      next : ReadsParts Behind f g room limit (sees between) (skip >> item)
-      next i e = weaker (h (drop 1 i)) (λ x r k. record { spelled = (drop 1 i, takes between i real e, k.spelled); nests = k.nests; within = k.within })
-
       all : (x : A) (j : Symbols) (xs : List A) (r : Symbols) → IsPart P f g room limit x i j → (more : List A) → xs ≡ x ∷ more → AreParts Behind f g room limit more j r → AreSeparated between P f g room limit xs i r
       all x j xs r k more is l =
           let found : AreSeparated between P f g room limit (x ∷ more) i r = record { spelled = (j, k.spelled, l.spelled); nests = omega (arith, k.nests, l.nests); within = omega (arith, k.within, l.within) } in

@@ -44,29 +44,32 @@ pub record AreSound (room : ℕ) (R : Readers) : Type 0 where
   pub unary : ReadsAt 0 room R.unary
   pub expression : ReadsAt expression_level room R.expression
 
--- the readers one level below
+-- the readers one level below, by what is said of the readers of a level with so much room
+abbrev pub MayBe : (ℕ → Readers → Type 0) → ℕ → Option Readers → Type 0
+MayBe S room None = Unit {0}
+MayBe S zero (Some R) = ⊥
+MayBe S (suc room) (Some R) = S room R
+
 abbrev pub MayBeSound : ℕ → Option Readers → Type 0
-MayBeSound room None = Unit {0}
-MayBeSound zero (Some R) = ⊥
-MayBeSound (suc room) (Some R) = AreSound room R
+MayBeSound = MayBe AreSound
 
 -- they have less room
-pub record IsBelow (room : ℕ) (R : Readers) : Type 0 where
+pub record IsBelow (S : ℕ → Readers → Type 0) (room : ℕ) (R : Readers) : Type 0 where
   pub less : ℕ
   pub fewer : less + 1 ≤ room
-  pub sound : AreSound less R
+  pub sound : S less R
 
-pub enters : {B : Type 0} {Q : B → Symbols → Type 0} (f : Readers → Reader B) (room : ℕ) (inner : Option Readers) (i : Symbols) → MayBeSound room inner → ((R : Readers) → IsBelow room R → Yields Q (f R i)) → Yields Q (and_then (enter inner i) f)
-enters {Q = Q} f room None i h k = yields_none Q (P2, i)
-enters f zero (Some R) i h k = absurd h
-enters f (suc room) (Some R) i h k = k R (record { less = room; fewer = omega arith; sound = h })
+pub enters : {B : Type 0} {Q : B → Symbols → Type 0} (S : ℕ → Readers → Type 0) (f : Readers → Reader B) (room : ℕ) (inner : Option Readers) (i : Symbols) → MayBe S room inner → ((R : Readers) → IsBelow S room R → Yields Q (f R i)) → Yields Q (and_then (enter inner i) f)
+enters {Q = Q} S f room None i h k = yields_none Q (P2, i)
+enters S f zero (Some R) i h k = absurd h
+enters S f (suc room) (Some R) i h k = k R (record { less = room; fewer = omega arith; sound = h })
 
-pub open_sound : (room : ℕ) (inner : Option Readers) (m : Mark) (i : Symbols) → is_end m ≡ false → MayBeSound room inner → Yields (λ R j. Takes m i j × IsBelow room R) (open_level m inner i)
+pub open_sound : (S : ℕ → Readers → Type 0) (room : ℕ) (inner : Option Readers) (m : Mark) (i : Symbols) → is_end m ≡ false → MayBe S room inner → Yields (λ R j. Takes m i j × IsBelow S room R) (open_level m inner i)
 unfolding open_level
-open_sound room inner m i real h =
+open_sound S room inner m i real h =
     yields_if (sees m i)
-    (λ e. enters _ room inner i h (λ R b. yields_pure (λ R j. Takes m i j × IsBelow room R) R (drop 1 i) (takes m i real e, b)))
-    (λ e. yields_none (λ R j. Takes m i j × IsBelow room R) (P1, i))
+    (λ e. enters S _ room inner i h (λ R b. yields_pure (λ R j. Takes m i j × IsBelow S room R) R (drop 1 i) (takes m i real e, b)))
+    (λ e. yields_none (λ R j. Takes m i j × IsBelow S room R) (P1, i))
 
 -- ---- levels
 
@@ -191,7 +194,7 @@ any_arguments_sound room R h n i =
 
 -- ---- an expression
 
-takes_at : (m : Mark) (i : Symbols) → is_end m ≡ false → sees m i ≡ true → TakesAt m (first_place i) i (drop 1 i)
+pub takes_at : (m : Mark) (i : Symbols) → is_end m ≡ false → sees m i ≡ true → TakesAt m (first_place i) i (drop 1 i)
 takes_at m [] real e = absurd (let t = takes m [] real e in cc)
 takes_at m (x ∷ i) real e = (x, (sees_is m (x ∷ i) e, refl), refl)
 
@@ -218,19 +221,19 @@ module _ (room : ℕ) (inner : Option Readers) (h : MayBeSound room inner) where
   pub in_parentheses_sound : (n : ℕ) (i : Symbols) → Yields (λ a r. IsRead 0 room n i (parenthesized a.0) a.1 r) (in_parentheses inner n i)
   unfolding in_parentheses
   in_parentheses_sound n i =
-      yields_then (open_sound room inner mark.LeftParen i refl h) (λ R j opened. yields_then (opened.1.sound.expression.on n j) (λ a k e. yields_then (expect_yields mark.RightParen k refl) (λ _ r close.
+      yields_then (open_sound AreSound room inner mark.LeftParen i refl h) (λ R j opened. yields_then (opened.1.sound.expression.on n j) (λ a k e. yields_then (expect_yields mark.RightParen k refl) (λ _ r close.
       yields_pure (λ a r. IsRead 0 room n i (parenthesized a.0) a.1 r) a r (record { spelled = (j, opened.0, (k, e.spelled, close)); nests = omega (arith, opened.1.fewer, e.nests); counted = e.counted }))))
 
   pub in_brackets_sound : (n : ℕ) (i : Symbols) → Yields (λ a r. IsReadInBrackets room n i a.0 a.1 r) (in_brackets inner n i)
   unfolding in_brackets
   in_brackets_sound n i =
-      yields_then (open_sound room inner mark.LeftBracket i refl h) (λ R j opened. yields_then (opened.1.sound.expression.on n j) (λ a k e. yields_then (expect_yields mark.RightBracket k refl) (λ _ r close.
+      yields_then (open_sound AreSound room inner mark.LeftBracket i refl h) (λ R j opened. yields_then (opened.1.sound.expression.on n j) (λ a k e. yields_then (expect_yields mark.RightBracket k refl) (λ _ r close.
       yields_pure (λ a r. IsReadInBrackets room n i a.0 a.1 r) a r (record { spelled = (j, opened.0, (k, e.spelled, close)); nests = omega (arith, opened.1.fewer, e.nests); counted = e.counted }))))
 
   arguments_sound : (n : ℕ) (i : Symbols) → Yields (λ a r. AreReadInParentheses room n i a.0 a.1 r) (arguments inner n i)
   unfolding arguments
   arguments_sound n i =
-      yields_then (open_sound room inner mark.LeftParen i refl h) (λ R j opened. yields_then (any_arguments_sound opened.1.less R opened.1.sound n j) (λ a k e. yields_then (expect_yields mark.RightParen k refl) (λ _ r close.
+      yields_then (open_sound AreSound room inner mark.LeftParen i refl h) (λ R j opened. yields_then (any_arguments_sound opened.1.less R opened.1.sound n j) (λ a k e. yields_then (expect_yields mark.RightParen k refl) (λ _ r close.
       yields_pure (λ a r. AreReadInParentheses room n i a.0 a.1 r) a r (record { spelled = (j, opened.0, (k, e.spelled, close)); nests = omega (arith, opened.1.fewer, e.nests); counted = e.counted }))))
 
   abbrev IsUnary : ℕ → Symbols → ExpressionTree × ℕ → Symbols → Type 0
@@ -273,13 +276,13 @@ module _ (room : ℕ) (inner : Option Readers) (h : MayBeSound room inner) where
   converted_sound : (n : ℕ) (i : Symbols) → Yields (IsUnary n i) (converted inner n i)
   unfolding converted
   converted_sound n i =
-      yields_then (open_sound room inner mark.LeftParen i refl h) (λ R j opened. yields_then (type_sound j) (λ k l is. yields_then (expect_yields mark.RightParen l refl) (λ _ o close. yields_then (opened.1.sound.unary.on n o) (λ a r e.
+      yields_then (open_sound AreSound room inner mark.LeftParen i refl h) (λ R j opened. yields_then (type_sound j) (λ k l is. yields_then (expect_yields mark.RightParen l refl) (λ _ o close. yields_then (opened.1.sound.unary.on n o) (λ a r e.
       yields_pure (IsUnary n i) (cast k a.0, a.1) r (record { spelled = (j, opened.0, (l, is, (o, close, e.spelled))); nests = omega (arith, opened.1.fewer, e.nests); counted = e.counted })))))
 
   prefixed_sound : (o : PrefixOperator) (n : ℕ) (i : Symbols) → prefix_operator_of (next i) ≡ Some o → Yields (IsUnary n i) (prefixed inner o n i)
   unfolding prefixed
   prefixed_sound o n i is =
-      counts _ n i (λ m one_less. enters _ room inner i h (λ R b. yields_then (b.sound.unary.on m (drop 1 i)) (λ a r e.
+      counts _ n i (λ m one_less. enters AreSound _ room inner i h (λ R b. yields_then (b.sound.unary.on m (drop 1 i)) (λ a r e.
       yields_pure (IsUnary n i) (prefix o (first_place i) a.0, a.1) r (record { spelled = (drop 1 i, means prefix_operator_of i o refl is, e.spelled); nests = omega (arith, b.fewer, e.nests); counted = omega (arith, one_less, e.counted) }))))
 
   pub unary_sound : ReadsAt 0 room (unary_with inner)
@@ -299,7 +302,7 @@ module _ (room : ℕ) (inner : Option Readers) (h : MayBeSound room inner) where
   arms_sound : (n0 : ℕ) (i0 : Symbols) (c : ExpressionTree) (n : ℕ) (i : Symbols) → IsRead or_level room n0 i0 c n i → sees mark.Question i ≡ true → Yields (IsAny n0 i0) (arms inner c n i)
   unfolding arms
   arms_sound n0 i0 c n i test seen =
-      counts _ n i (λ m one_less. enters _ room inner i h (λ R below. yields_then (below.sound.expression.on m (drop 1 i)) (λ a j k. yields_then (expect_yields mark.Colon j refl) (λ _ l colon. yields_then (below.sound.expression.on a.1 l) (λ b r o.
+      counts _ n i (λ m one_less. enters AreSound _ room inner i h (λ R below. yields_then (below.sound.expression.on m (drop 1 i)) (λ a j k. yields_then (expect_yields mark.Colon j refl) (λ _ l colon. yields_then (below.sound.expression.on a.1 l) (λ b r o.
       yields_pure (IsAny n0 i0) (conditional (first_place i) c a.0 b.0, b.1) r
       (record {
         spelled = (omega arith, (i, test.spelled, (drop 1 i, takes_at mark.Question i refl seen, (j, k.spelled, (l, colon, o.spelled)))));

@@ -18,3 +18,8 @@ abbrev pub Reads : Result File ParseFault → Outcome (List ItemTree) → Type 0
 Reads (Ok file) outcome = (left : List Symbol) × (outcome ≡ Ok (file_of file, left))
 Reads (Err OutOfMemory) outcome = Unit {0}
 Reads (Err (At code place)) outcome = (left : List Symbol) × IsRefusedAt place left × (outcome ≡ Err (code, left))
+
+-- a file with this tree, unless memory ran out
+abbrev pub Answers : Result File ParseFault → List ItemTree → Type 0
+Answers (Ok file) items = file_of file ≡ items
+Answers (Err fault) items = fault ≡ OutOfMemory

@@ -5,6 +5,7 @@ mod action;
 mod declaration;
 mod expression;
 mod fault;
+mod laws;
 mod mark;
 mod parser;
 mod source;
@@ -13,4 +14,5 @@ mod task;
 mod types;
 
 pub use fault::{ParseCode, ParseFault};
+pub use laws::one_tree;
 pub use source::parse;

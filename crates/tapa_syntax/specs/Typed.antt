@@ -1,5 +1,5 @@
 -- The kind of each expression of a leaf, with every conversion written out (ISO C++ [conv], [expr]).
-use Rattle.std.specs.Prelude.{◌≡◌, ℕ, ◌<◌, List, [], ◌∷◌}
+use Rattle.std.specs.Prelude.{◌≡◌, ℕ, zero, suc, ◌-◌, ◌*◌, ◌^◌, ◌<◌, List, [], ◌∷◌}
 use Rattle.tapa_base.specs.declared.kind.Kind.{Kind}
 use Rattle.tapa_base.specs.declared.kind.Kind.TheVariants as kind
 use Rattle.tapa_base.specs.declared.op.Op.{Op}
@@ -28,17 +28,32 @@ right_kind op.Shl k = kind.U64
 right_kind op.Shr k = kind.U64
 right_kind o k = k
 
+-- the first where the number is 0, and else the second
+abbrev pub by_zero : ℕ → ℕ → ℕ → ℕ
+by_zero zero a b = a
+by_zero (suc n) a b = b
+
 -- the value of an expression of literals, operators and conversions alone
 abbrev pub constant : Expr → ℕ
 constant (Lit k n) = n
 constant (Conv' from to p e) = converted from to (constant e)
 constant (Apply' o k p l q r) = applied o k (constant l) (constant r)
+constant (Flip' k p e) = 2 ^ bits_of k - 1 - constant e
+constant (Not' p e) = 1 - constant e
+constant (And' p l q r) = constant l * constant r
+constant (Or' p l q r) = 1 - (1 - constant l) * (1 - constant r)
+constant (Choose' p e q a r b) = by_zero (constant e) (constant b) (constant a)
 constant _ = 0
 
 abbrev pub IsConstant : Expr → Type 0
 IsConstant (Lit k n) = Unit {0}
 IsConstant (Conv' from to p e) = IsConstant e
 IsConstant (Apply' o k p l q r) = IsConstant l × IsConstant r
+IsConstant (Flip' k p e) = IsConstant e
+IsConstant (Not' p e) = IsConstant e
+IsConstant (And' p l q r) = IsConstant l × IsConstant r
+IsConstant (Or' p l q r) = IsConstant l × IsConstant r
+IsConstant (Choose' p e q a r b) = IsConstant e × IsConstant a × IsConstant b
 IsConstant _ = ⊥
 
 -- a divisor is a constant other than 0

@@ -1,12 +1,12 @@
 -- The machine of a typed leaf is typed.
-use Rattle.std.proofs.Common.{◌≡◌, ℕ, ◌+◌, ◌-◌, ◌<◌, List, [], ◌∷◌, ◌++◌, length, Some, None, refl, sym, ap, ◌∙◌, subst, arith, length-append}
-use Rattle.std.specs.Prelude.{slice_index_or}
+use Rattle.std.proofs.Common.{◌≡◌, ℕ, zero, suc, ◌+◌, ◌-◌, ◌*◌, ◌<◌, List, [], ◌∷◌, ◌++◌, length, Some, None, refl, sym, ap, ◌∙◌, subst, arith, length-append}
+use Rattle.std.specs.Prelude.{◌^◌, slice_index_or}
 use Rattle.std.proofs.lemmas.List.{get_or_append_left, get_or-append-add}
 use Rattle.tapa_base.specs.declared.kind.Kind.{Kind}
 use Rattle.tapa_base.specs.declared.kind.Kind.TheVariants as kind
 use Rattle.tapa_base.specs.declared.op.Op.{Op}
 use Rattle.tapa_base.specs.declared.op.Op.TheVariants as op
-use Rattle.tapa_base.specs.Kinds.{converted}
+use Rattle.tapa_base.specs.Kinds.{bits_of, converted}
 use Rattle.tapa_base.specs.Operators.{applied}
 use Rattle.tapa_syntax.specs.declared.program.Expr.{Expr}
 use Rattle.tapa_syntax.specs.declared.program.Expr.TheVariants.{Lit, Var, Cell', Read, Peek, Eot, Load', Conv', Apply', Flip', Not', And', Or', Choose'}
@@ -14,8 +14,8 @@ use Rattle.tapa_syntax.specs.declared.program.Stmt.{Stmt, Row_of-Stmt, end_of-St
 use Rattle.tapa_syntax.specs.declared.program.Stmt.TheVariants.{Set, SetCell, SetCellBy, Store, StoreBy, ReadVar, ReadCell, ReadStore, Write, Open, Close, Discard, Clear, If', Loop', Break, Continue}
 use Rattle.tapa_syntax.specs.LeafKinds.{Kinds}
 use Rattle.tapa_syntax.specs.ArrayUse.{FitsExpr, FitsStmt, FitsBlock, FitsBody, cleared_by}
-use Rattle.tapa_syntax.specs.Typed.{HasKind, MayDivide, IsConstant, constant, IsTyped, AreTyped, IsTypedBody, right_kind, result_kind}
-use Rattle.kahn_model.specs.Trace.{State}
+use Rattle.tapa_syntax.specs.Typed.{HasKind, MayDivide, IsConstant, by_zero, constant, IsTyped, AreTyped, IsTypedBody, right_kind, result_kind}
+use Rattle.kahn_model.specs.Trace.{State, at_zero}
 use Rattle.task_fsm.specs.Machine.{Expression, Reg, CellOf, Converted, StateForm, SetAt, CellAt, TestAt, ReadAt, WriteAt, LoadAt, StoreAt}
 use Rattle.task_fsm.specs.Run.{value}
 use Rattle.task_fsm.specs.MachineKinds.{with_registers, IsDivisor, GivesKind, IsOfKind, IsTypedState, AreTypedStates}
@@ -40,6 +40,14 @@ HasRegisters K F t (And' p l q r) = HasRegisters K F t r × HasRegisters K F (t 
 HasRegisters K F t (Or' p l q r) = HasRegisters K F t r × HasRegisters K F (t + operation_count r) l
 HasRegisters K F t (Choose' p e q a r b) = HasRegisters K F t b × HasRegisters K F (t + operation_count b) a × HasRegisters K F (t + (operation_count b + operation_count a)) e
 
+-- a choice by a value
+same_choice : (v a b : ℕ) → at_zero v a b ≡ by_zero v a b
+same_choice zero a b = refl
+same_choice (suc v) a b = refl
+
+chosen : (v w x x' y y' : ℕ) → v ≡ w → x ≡ x' → y ≡ y' → at_zero v y x ≡ by_zero w y' x'
+chosen v w x x' y y' p q r = same_choice v y x ∙ cc
+
 -- the value of a constant is the same in each state
 constant_value : (e : Expr) (t : ℕ) (σ : State) → IsConstant e → value (residual e t) σ ≡ constant e
 constant_value (Lit k n) t σ h = refl
@@ -51,11 +59,12 @@ constant_value (Eot s) t σ h = absurd h
 constant_value (Load' m p e) t σ h = absurd h
 constant_value (Conv' source target p e) t σ h = ap (converted source target) (constant_value e t σ h)
 constant_value (Apply' o k p l q r) t σ h = two (applied o k) _ _ _ _ (constant_value l (t + operation_count r) σ h.0) (constant_value r t σ h.1)
-constant_value (Flip' k p e) t σ h = absurd h
-constant_value (Not' p e) t σ h = absurd h
-constant_value (And' p l q r) t σ h = absurd h
-constant_value (Or' p l q r) t σ h = absurd h
-constant_value (Choose' p e q a r b) t σ h = absurd h
+constant_value (Flip' k p e) t σ h = ap (λ v. 2 ^ bits_of k - 1 - v) (constant_value e t σ h)
+constant_value (Not' p e) t σ h = ap (λ v. 1 - v) (constant_value e t σ h)
+constant_value (And' p l q r) t σ h = two (λ v w. v * w) _ _ _ _ (constant_value l (t + operation_count r) σ h.0) (constant_value r t σ h.1)
+constant_value (Or' p l q r) t σ h = two (λ v w. 1 - (1 - v) * (1 - w)) _ _ _ _ (constant_value l (t + operation_count r) σ h.0) (constant_value r t σ h.1)
+constant_value (Choose' p e q a r b) t σ h =
+    chosen _ _ _ _ _ _ (constant_value e (t + (operation_count b + operation_count a)) σ h.0) (constant_value a (t + operation_count b) σ h.1) (constant_value b t σ h.2)
 
 never_zero : (e : Expr) (t : ℕ) → IsConstant e × (0 < constant e) → (σ : State) → 0 < value (residual e t) σ
 never_zero e t h σ = subst (λ v. 0 < v) (sym (constant_value e t σ h.0)) h.1

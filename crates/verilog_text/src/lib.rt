@@ -5,4 +5,4 @@ mod page;
 mod printed;
 mod words;
 
-pub use printed::print_modules;
+pub use printed::{print, print_modules};

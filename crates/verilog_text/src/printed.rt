@@ -9,6 +9,7 @@ use crate::page::Page;
 use crate::words::modules;
 use std::alloc::{AllocError, Global};
 use tapa_base::{PrintFault, Sink, WriteFault, put_all};
+use vlog_design::Design;
 use vlog_tree::Module;
 
 fn spell(alloc: Global, parts: &[Module]) -> Result<Vec<u8>, AllocError>
@@ -64,4 +65,14 @@ pub fn print_modules<O: Sink>(
     let text = spell(alloc, parts)?;
     put_lines(out, &text)?;
     Ok(())
+}
+
+/// Writes the one text of a design, a line at a time.
+pub fn print<O: Sink>(alloc: Global, design: &Design, out: &mut O) -> Result<(), PrintFault>
+    ensures whole { OnOk result (Appends (O.contents out.old) (O.contents out.new) (spelling design.now.modules)) }
+    ensures part { OnErr result (AppendsPart (O.contents out.old) (O.contents out.new) (spelling design.now.modules)) }
+    ensures later { O.faults out.old ≤ O.faults out.new }
+    ensures fault { IsErrOf result PrintFault.WriteFault → Rose (O.faults out.old) (O.faults out.new) }
+{
+    print_modules(alloc, design.modules(), out)
 }

@@ -1,11 +1,12 @@
 //! A checked design of the Verilog subset: its modules, its top, and what the top asks of the outside.
 #![tactic(auto)]
 
-mod labels;
+mod checked;
 mod outside;
 mod roots;
 mod shape;
 mod top;
 
+pub use checked::Design;
 pub use outside::first_misplaced;
 pub use shape::{top_shape, top_streams};

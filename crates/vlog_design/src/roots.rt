@@ -1,8 +1,9 @@
 // The modules that no other contains.
 
-ghost use Rattle.std.specs.Prelude.{◌≡◌, ◌++◌, ◌==◌, ℕ, List, length, IfOk, OnOk};
+ghost use Rattle.std.specs.Prelude.{◌≡◌, ◌++◌, ◌∷◌, ◌==◌, ℕ, List, Some, length, slice_get, IfOk, OnOk};
 ghost use Rattle.std.specs.Option.{option_copied};
 ghost use Rattle.std.specs.List.{flat_map};
+ghost use Rattle.vlog_tree.specs.Form.{ModuleTree};
 ghost use Rattle.vlog_tree.specs.NameTable.{CountsTo, times_in};
 ghost use Rattle.vlog_tree.specs.V6.{item_children, module_children, contained_names, roots_among, first_name};
 
@@ -75,4 +76,16 @@ pub(crate) fn count_roots(counts: &NameCounts, modules: &[Module]) -> usize
         }
     }
     count
+}
+
+/// The place of the first module that no other contains, and 0 where there is none.
+pub(crate) fn root_place(counts: &NameCounts, modules: &[Module]) -> usize
+    ensures { (names : List (List ℕ)) → CountsTo counts.now (times_in names) → (m : ModuleTree) (rest : List ModuleTree) → roots_among names modules.now ≡ m ∷ rest → slice_get modules.now result ≡ Some m }
+{
+    for place in 0..modules.len() {
+        if is_root(counts, &modules[place]) {
+            return place;
+        }
+    }
+    0
 }

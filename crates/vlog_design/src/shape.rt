@@ -7,11 +7,10 @@ ghost use Rattle.vlog_tree.specs.Table.{bits_of, declared};
 ghost use Rattle.vlog_tree.specs.Environment.{scalar_label, memory_label, shape_of, is_stream as is_stream_lem, is_wire_of, stream_label, item_stream, streams_of};
 ghost use Rattle.vlog_tree.specs.Labels.{scalar_of as scalar_lem, ack_of as ack_lem, din_of as din_lem};
 
-use crate::labels::{ack_of, din_of, rdata_name, rdy_name, scalar_of, wr_name};
 use std::alloc::{AllocError, Global};
 use tapa_base::{Port, Shape, Text};
 use vlog_rules::Scope;
-use vlog_tree::{Item, Module, PortDecl};
+use vlog_tree::{Item, Module, PortDecl, ack_of, din_of, rdata_name, rdy_name, scalar_of, wr_name};
 
 fn push(alloc: Global, out: &mut Vec<Port>, label: &[u8], bits: u32) -> Result<(), AllocError>
     requires { IsAscii label.now }

@@ -86,7 +86,7 @@ impl Graph {
 }
 
 /// Whether a name is marked by its number.
-pub(crate) fn is_marked(graph: &Graph, marks: &[bool], name: &[u8]) -> bool
+pub fn is_marked(graph: &Graph, marks: &[bool], name: &[u8]) -> bool
     ensures { result ≡ mark_of graph.now marks.now name.now }
 {
     match graph.number(name) {
@@ -105,7 +105,7 @@ fn mark_at(marks: &[bool], number: usize) -> bool
 }
 
 /// Marks the names that a name reaches by one or more edges.
-pub(crate) fn reach_from(alloc: Global, graph: &Graph, name: &[u8]) -> Result<Vec<bool>, AllocError>
+pub fn reach_from(alloc: Global, graph: &Graph, name: &[u8]) -> Result<Vec<bool>, AllocError>
     requires { (edges : Edges) × IsGraphOf edges graph.now }
     ensures { (edges : Edges) → IsGraphOf edges graph.now → IfOk result (λ marks. (y : List ℕ) → (mark_of graph.now marks.items y ≡ true) ↔ Reaches edges name.now y) }
 {
@@ -119,7 +119,7 @@ pub(crate) fn reach_from(alloc: Global, graph: &Graph, name: &[u8]) -> Result<Ve
 }
 
 /// Whether levels were found that show that no name reaches itself.
-pub(crate) fn has_levels(alloc: Global, graph: &Graph) -> Result<bool, AllocError>
+pub fn has_levels(alloc: Global, graph: &Graph) -> Result<bool, AllocError>
     ensures { (edges : Edges) → IsGraphOf edges graph.now → IfOk result (λ b. b ≡ true → (x : List ℕ) → Reaches edges x x → ⊥) }
 {
     let levels = levels_of(alloc, &graph.targets)?;

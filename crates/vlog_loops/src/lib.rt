@@ -1,8 +1,8 @@
-//! Which wires of a design lie on loops, module by module, and which modules contain themselves.
+//! Graphs of names: what a name reaches, and levels that show that no name reaches itself.
 #![tactic(auto)]
 
 mod graph;
 mod levels;
 mod reach;
 
-pub use graph::Graph;
+pub use graph::{Graph, has_levels, is_marked, reach_from};

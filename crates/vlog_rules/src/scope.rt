@@ -30,7 +30,8 @@ impl Model for Scope {
     ghost invariant = { λ scope. (x : List ℕ) → place_in scope.places x ≡ places_from 0 (map declaration_name scope.declarations.items) x };
 }
 
-pub(crate) fn copy(alloc: Global, text: &Text) -> Result<Text, AllocError>
+/// A text of its own with the same bytes.
+pub fn copy_text(alloc: Global, text: &Text) -> Result<Text, AllocError>
     ensures { IfOk result (λ t. t ≡ text.now) }
 {
     Ok(Text::new(text.bytes().to_vec(alloc)?))
@@ -45,7 +46,7 @@ fn add(
 ) -> Result<(), AllocError>
     ensures { OnOk result (declarations.new.items ≡ declarations.old.items ++ record { name = name.now; sort = sort; bits = bits } ∷ []) }
 {
-    let name = copy(alloc, name)?;
+    let name = copy_text(alloc, name)?;
     declarations.push(Declaration { name, sort, bits })?;
     Ok(())
 }

@@ -4,6 +4,7 @@
 
 mod fault;
 mod form;
+mod labels;
 mod laws;
 mod module;
 mod name_table;
@@ -12,6 +13,10 @@ mod table;
 mod tree;
 
 pub use fault::VFault;
+pub use labels::{
+    ack_name, ack_of, addr_name, addr_of, din_of, rdata_name, rdata_of, rdy_name, scalar_of,
+    wdata_name, wdata_of, we_name, we_of, wr_name,
+};
 pub use laws::{law_grounded_is_on_no_loop, law_if, law_if_alone, law_one_solution, law_two};
 pub use module::Module;
 pub use name_table::{

@@ -1,5 +1,5 @@
 use Rattle.std.proofs.Common.{◌≡◌, ◌++◌, map, drop}
-use Rattle.path_check.specs.Flat.{flat_leaf, flat_instance}
+use Rattle.tapa_syntax.specs.Flat.{flat_leaf, flat_instance}
 use Rattle.path_check.specs.Programs as path
 use Rattle.path_check.proofs.bindings.bindings.Given as goal
 

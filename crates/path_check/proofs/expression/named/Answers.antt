@@ -1,7 +1,7 @@
 use Rattle.std.proofs.Common.{ap, ◌∙◌, sym, subst}
 use Rattle.tapa_syntax.specs.Trees as tree
 use Rattle.path_check.specs.Answers.{Gives}
-use Rattle.path_check.specs.Flat.{flat_expression}
+use Rattle.tapa_syntax.specs.Flat.{flat_expression}
 use Rattle.path_check.specs.Leaves as path
 use Rattle.path_check.specs.Views.{read_of}
 use Rattle.path_check.proofs.Rows.{named-Call}

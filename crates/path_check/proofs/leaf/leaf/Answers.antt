@@ -1,7 +1,7 @@
 use Rattle.std.proofs.Common.{map, ap, ◌∙◌, sym, subst}
 use Rattle.tapa_syntax.specs.Trees as tree
 use Rattle.path_check.specs.Answers.{Gives}
-use Rattle.path_check.specs.Flat.{flat_leaf}
+use Rattle.tapa_syntax.specs.Flat.{flat_leaf}
 use Rattle.path_check.specs.Leaves as path
 use Rattle.path_check.proofs.LeafSteps.{leaf_given, leaf_statements, parameters_run}
 use Rattle.path_check.proofs.leaf.leaf.Goals as goal

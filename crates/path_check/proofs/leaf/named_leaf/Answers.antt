@@ -1,6 +1,6 @@
 use Rattle.std.proofs.Common.{◌≤◌, length, rules, map, ap, ◌∙◌, refl, Some}
 use Rattle.tapa_syntax.specs.Trees as tree
-use Rattle.path_check.specs.Flat.{flat_statement}
+use Rattle.tapa_syntax.specs.Flat.{flat_statement}
 use Rattle.path_check.specs.Leaves as path
 use Rattle.path_check.proofs.LeafSteps.{named_made, uncapped, leaf_is, scope_run, few_code, same_count}
 use Rattle.path_check.proofs.leaf.named_leaf.Goals as goal

@@ -1,4 +1,4 @@
-use Rattle.path_check.specs.Flat.{flat_statement}
+use Rattle.tapa_syntax.specs.Flat.{flat_statement}
 use Rattle.path_check.proofs.PlaceSums.{statements_end}
 use Rattle.path_check.proofs.places.places.Goals as goal
 

@@ -1,5 +1,5 @@
 use Rattle.std.proofs.Common.{◌≡◌, ◌≤◌, ◌^◌, ◌+◌, ◌-◌, map, drop}
-use Rattle.path_check.specs.Flat.{flat_statement}
+use Rattle.tapa_syntax.specs.Flat.{flat_statement}
 use Rattle.path_check.specs.Leaves as path
 use Rattle.path_check.specs.Views.{capped}
 use Rattle.path_check.proofs.places.places.Given as goal

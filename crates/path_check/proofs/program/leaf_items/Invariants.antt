@@ -1,6 +1,6 @@
 use Rattle.std.proofs.Common.{◌≡◌, map, drop}
 use Rattle.tapa_syntax.specs.Trees as tree
-use Rattle.path_check.specs.Flat.{flat_leaf}
+use Rattle.tapa_syntax.specs.Flat.{flat_leaf}
 use Rattle.path_check.specs.Programs as path
 use Rattle.path_check.specs.Steps.{run}
 use Rattle.path_check.proofs.Runs.{after}

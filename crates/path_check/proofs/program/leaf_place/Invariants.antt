@@ -1,6 +1,6 @@
 use Rattle.std.proofs.Common.{◌≡◌, map, drop, bytes_eq}
 use Rattle.std.specs.List.{position_from}
-use Rattle.path_check.specs.Flat.{FlatLeaf, flat_leaf}
+use Rattle.tapa_syntax.specs.Flat.{FlatLeaf, flat_leaf}
 use Rattle.path_check.proofs.program.leaf_place.Given as goal
 
 abbrev pub invariant-loop-place : goal.invariant-loop-place

@@ -1,6 +1,6 @@
 use Rattle.std.proofs.Common.{◌<◌, ◌-◌, length, refl, sym, subst}
 use Rattle.path_check.specs.Answers.{Gives}
-use Rattle.path_check.specs.Flat.{flat_program}
+use Rattle.tapa_syntax.specs.Flat.{flat_program}
 use Rattle.path_check.specs.Uppers.{upper_of}
 use Rattle.path_check.proofs.Files.{file_refused, file_goes, some_before}
 use Rattle.path_check.proofs.program.program.Goals as goal

@@ -1,7 +1,7 @@
 use Rattle.std.proofs.Common.{inl, inr}
 use Rattle.tapa_drive.specs.Meaning.{joined}
 use Rattle.tapa_drive.proofs.Lines.{on_err}
-use Rattle.tapa_drive.proofs.Running.{done_report, stopped_report, limit_past}
+use Rattle.tapa_drive.proofs.Running.{done_report, stopped_report}
 use Rattle.tapa_drive.proofs.run.drive.Goals as goal
 
 pub returns-in_err-show-in-Done-clause-part : goal.returns-in_err-show-in-Done-clause-part

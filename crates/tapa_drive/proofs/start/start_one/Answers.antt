@@ -1,4 +1,4 @@
-use Rattle.std.proofs.Common.{◌≡◌, ℕ, List, [], length, Some, map, ◌∙◌, ap, sym, subst, refl}
+use Rattle.std.proofs.Common.{length, ◌∙◌, ap, refl}
 use Rattle.std.proofs.lemmas.Option.{slice_get_read}
 use Rattle.std.specs.Arc.{arc_value}
 use Rattle.net_core.specs.Bounded.{instance_job}

@@ -2,8 +2,7 @@ use Rattle.std.proofs.Common.{subst, refl}
 use Rattle.tapa_drive.specs.declared.run.RunEnd.{RunEnd}
 use Rattle.tapa_drive.specs.Answer.{tick_limit}
 use Rattle.tapa_drive.specs.Ending.{EndsSo}
-use Rattle.tapa_drive.specs.Meaning.{reason}
-use Rattle.tapa_drive.proofs.Answered.{not_found_cause, not_found_leaves, ended_done, ended_stopped, run_past, has_part}
+use Rattle.tapa_drive.proofs.Answered.{ended_done, ended_stopped, run_past, has_part}
 use Rattle.tapa_drive.proofs.top.run_source.Goals as goal
 
 pub returns-in-Done-clause-ended : goal.returns-in-Done-clause-ended

@@ -1,0 +1,5 @@
+//! Runs beside the definitions: the reports of programs against the rounds and traces that the slow functions compute.
+#![tactic(auto)]
+
+#[cfg(test)]
+mod tests;

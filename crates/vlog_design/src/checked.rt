@@ -1,0 +1,125 @@
+// A design: modules that break none of the rules, with the place of their top.
+
+ghost use Rattle.std.specs.Prelude.{◌≡◌, ◌≤◌, ℕ, List, length, slice_get, Some, IfOk, IfErr, OnOk};
+ghost use Rattle.std.specs.Option.{option_copied};
+ghost use Rattle.vlog_tree.specs.Form.{ModuleTree};
+ghost use Rattle.vlog_tree.specs.Environment.{shape_of, streams_of};
+ghost use Rattle.vlog_tree.specs.Loops.{IsLoopless};
+ghost use Rattle.vlog_tree.specs.Table.{first_violation};
+ghost use Rattle.vlog_tree.specs.V6.{is_top, roots, first_name, v6_uses};
+ghost use Rattle.vlog_tree.specs.Refused.{Refuses, IsSound, IsDesign};
+ghost use Rattle.vlog_design.specs.Designs.{TopOf};
+
+use crate::outside::first_misplaced;
+use crate::roots::{contained_counts, first_root, root_place};
+use crate::shape::{top_shape, top_streams};
+use std::alloc::{AllocError, Global};
+use std::marker::Model;
+use tapa_base::{Port, Shape, Text};
+use vlog_feedback::first_on_loop;
+use vlog_rules::{Library, copy_text};
+use vlog_sound::Sound;
+use vlog_tree::{Module, VFault};
+
+/// Modules that break none of the rules on names, widths, drivers, loops and the top, and the top's place among them.
+#[derive(Drop)]
+pub struct Design {
+    sound: Sound,
+    top: usize,
+}
+
+impl Model for Design {
+    ghost use Rattle.vlog_tree.specs.Refused.{IsDesign};
+    ghost use Rattle.vlog_design.specs.Designs.{DesignTree};
+
+    ghost Value = { DesignTree };
+
+    ghost view = { λ d. record { modules = d.sound; top = d.top } };
+
+    ghost invariant = { λ d. IsDesign d.sound d.top };
+}
+
+fn check_loops(alloc: Global, library: &Library, root: Option<&Text>) -> Result<(), VFault>
+    requires sound { IsSound library.now }
+    requires root { option_copied root ≡ first_name (roots library.now) }
+    ensures refused { IfErr result (λ e. Refuses library.now e) }
+    ensures loopless { OnOk result (IsLoopless library.now (is_top library.now)) }
+{
+    if let Some(x) = first_on_loop(alloc, library, root)? {
+        let name = copy_text(alloc, x)?;
+        return Err(VFault::V5(name));
+    }
+    Ok(())
+}
+
+fn check_outside(alloc: Global, library: &Library) -> Result<(), VFault>
+    requires sound { IsSound library.now }
+    requires loopless { IsLoopless library.now (is_top library.now) }
+    ensures refused { IfErr result (λ e. Refuses library.now e) }
+    ensures outside { OnOk result (first_violation (v6_uses library.now) ≡ None) }
+{
+    if let Some(x) = first_misplaced(alloc, library)? {
+        let name = copy_text(alloc, x)?;
+        return Err(VFault::V6(name));
+    }
+    Ok(())
+}
+
+// The place of the top, where modules are a design.
+fn place_of_top(alloc: Global, library: &Library) -> Result<usize, VFault>
+    requires sound { IsSound library.now }
+    requires some { 1 ≤ length library.now }
+    ensures refused { IfErr result (λ e. Refuses library.now e) }
+    ensures design { IfOk result (λ top. IsDesign library.now top) }
+{
+    let counts = contained_counts(alloc, library.modules())?;
+    let root = first_root(&counts, library.modules());
+    check_loops(alloc, library, root)?;
+    check_outside(alloc, library)?;
+    Ok(root_place(&counts, library.modules()))
+}
+
+impl Design {
+    /// The modules as a design, or else the first rule that they break, in the order of the rules, with the first name
+    /// in the text that breaks it.
+    pub fn of(alloc: Global, modules: Vec<Module>) -> Result<Design, VFault>
+        requires { 1 ≤ length modules.items }
+        ensures refused { IfErr result (λ e. Refuses modules.items e) }
+        ensures value { IfOk result (λ d. d.modules ≡ modules.items) }
+        ensures design { IfOk result (λ d. IsDesign modules.items d.top) }
+    {
+        let sound = Sound::of(alloc, modules)?;
+        let top = place_of_top(alloc, sound.library())?;
+        Ok(Design { sound, top })
+    }
+
+    pub fn modules(&self) -> &[Module]
+        ensures value { result.now ≡ self.now.modules }
+        ensures design { IsDesign self.now.modules self.now.top }
+    {
+        self.sound.library().modules()
+    }
+
+    /// The top module.
+    pub fn top(&self) -> &Module
+        ensures { TopOf self.now result.now }
+    {
+        let place = self.top;
+        let modules = self.modules();
+        &modules[place]
+    }
+
+    /// The top's scalars and memories.
+    pub fn shape(&self, alloc: Global) -> Result<Shape, AllocError>
+        ensures { IfOk result (λ s. (m : ModuleTree) → TopOf self.now m → (s.scalars.items ≡ (shape_of m).scalars) × (s.memories.items ≡ (shape_of m).memories)) }
+    {
+        top_shape(alloc, self.top())
+    }
+
+    /// The top's streams, with the bits of their din.
+    pub fn streams(&self, alloc: Global) -> Result<Vec<Port>, AllocError>
+        ensures { IfOk result (λ v. (m : ModuleTree) → TopOf self.now m → v.items ≡ streams_of m) }
+    {
+        top_streams(alloc, self.top())
+    }
+}

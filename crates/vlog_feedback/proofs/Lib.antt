@@ -1,0 +1,5 @@
+pub mod Growing
+pub mod Lists
+pub mod Resting
+pub mod Gathering
+pub mod Searching

@@ -1,0 +1,3 @@
+pub mod Summaries
+pub mod Growth
+pub mod Search

@@ -1,0 +1,59 @@
+-- What the check of loops keeps of each module: which of its outputs rest on which of its inputs.
+use Rattle.std.specs.Prelude.{◌≡◌, ◌↔◌, ℕ, List, [], ◌∷◌, ◌++◌, Bool, false, Option, Some, bytes_eq, if◌then◌else◌, map, length, slice_get, get_or}
+use Rattle.std.specs.List.{flat_map}
+use Rattle.std.specs.Option.{option_map_or}
+use Rattle.vlog_tree.specs.declared.table.Declaration.{Declaration}
+use Rattle.vlog_tree.specs.declared.table.Sort.TheVariants.{Input, Output}
+use Rattle.vlog_tree.specs.Grounded.{Has}
+use Rattle.vlog_tree.specs.Form.{ModuleTree}
+use Rattle.vlog_tree.specs.Table.{Name, port_declared, sort_of}
+use Rattle.vlog_tree.specs.Loops.{Edges, Reaches, Rests, port_of, direct_edges, instances}
+
+-- whether a module is the top, by the name of the first that no other contains
+abbrev pub is_named : Option Name → Name → Bool
+is_named root x = option_map_or (λ y. bytes_eq y x) root false
+
+-- the sum of the first module of this name
+abbrev pub sum_named : List ModuleTree → List Edges → Name → Edges
+sum_named [] sums x = []
+sum_named (m ∷ ms) [] x = []
+sum_named (m ∷ ms) (s ∷ sums) x = if bytes_eq m.name x then s else sum_named ms sums x
+
+-- a pair of a sum, as wires of an instance
+abbrev pub port_pair : Name → Name × Name → Name × Name
+port_pair i e = (port_of i e.0, port_of i e.1)
+
+abbrev pub through_edges : List ModuleTree → List Edges → Name × Name → Edges
+through_edges ms sums k = map (port_pair k.1) (sum_named ms sums k.0)
+
+-- the lines of a module, and what its instances do by their sums
+abbrev pub module_edges : List ModuleTree → (Name → Bool) → List Edges → ModuleTree → Edges
+module_edges ms is_top sums m = direct_edges ms is_top m ++ flat_map (through_edges ms sums) (instances m)
+
+-- an output that reaches an input
+abbrev pub IsPair : Edges → List Declaration → Name → Name → Type 0
+IsPair edges ports x y = (sort_of ports x ≡ Output) × (sort_of ports y ≡ Input) × Reaches edges x y
+
+-- just these pairs
+abbrev pub IsSumOf : Edges → List Declaration → Edges → Type 0
+IsSumOf edges ports sum = (x y : Name) → Has sum (x, y) ↔ IsPair edges ports x y
+
+-- each pair of a sum is right
+abbrev pub IsSoundSum : List ModuleTree → (Name → Bool) → ModuleTree → Edges → Type 0
+IsSoundSum ms is_top m sum =
+    (x y : Name) → Has sum (x, y)
+    → (sort_of (map port_declared m.ports) x ≡ Output) × (sort_of (map port_declared m.ports) y ≡ Input) × Rests ms is_top m x y
+
+-- a sum has each pair that the module's edges give
+abbrev pub IsClosedSum : List ModuleTree → (Name → Bool) → List Edges → ModuleTree → Edges → Type 0
+IsClosedSum ms is_top sums m sum = (x y : Name) → IsPair (module_edges ms is_top sums m) (map port_declared m.ports) x y → Has sum (x, y)
+
+-- the sums stand in the order of the modules
+pub record AreSums (P : ModuleTree → Edges → Type 0) (ms : List ModuleTree) (sums : List Edges) : Type 0 where
+  pub len : length sums ≡ length ms
+  pub each : (at : ℕ) (m : ModuleTree) → slice_get ms at ≡ Some m → P m (get_or sums at [])
+
+-- the sums say all that outputs rest on, and nothing more
+pub record AreRight (ms : List ModuleTree) (is_top : Name → Bool) (sums : List Edges) : Type 0 where
+  pub sound : AreSums (IsSoundSum ms is_top) ms sums
+  pub closed : AreSums (IsClosedSum ms is_top sums) ms sums

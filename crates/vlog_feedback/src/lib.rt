@@ -1,0 +1,9 @@
+//! Which wires of a design lie on loops, module by module and through instances, and which modules contain themselves.
+#![tactic(auto)]
+
+mod edges;
+mod search;
+mod sums;
+mod suspects;
+
+pub use search::first_on_loop;
