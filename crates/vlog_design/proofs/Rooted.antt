@@ -1,6 +1,6 @@
 -- Modules of which none contains itself have one that no other contains.
-use Rattle.std.proofs.Common.{◌≡◌, ℕ, zero, suc, ◌+◌, ◌<◌, ◌≤◌, Bool, true, false, cond, List, [], ◌∷◌, ◌++◌, length, map, Option, Some, None, inl, inr, refl, sym, ap, subst, ◌∙◌, arith}
-use Rattle.std.specs.Prelude.{◌⊎◌, ◌==◌, ◌&&◌, bytes_eq, count_by, filter, slice_get, is_some}
+use Rattle.std.proofs.Common.{◌≡◌, ℕ, zero, suc, ◌+◌, ◌≤◌, Bool, true, false, cond, List, [], ◌∷◌, ◌++◌, length, map, Some, None, inl, inr, refl, sym, ap, subst, ◌∙◌, arith}
+use Rattle.std.specs.Prelude.{◌⊎◌, ◌==◌, ◌&&◌, bytes_eq, filter, slice_get}
 use Rattle.std.specs.List.{flat_map}
 use Rattle.std.specs.Option.{option_map_or}
 use Rattle.std.specs.Cmp.Lexicographic.{bytes_decides}
@@ -13,7 +13,7 @@ use Rattle.vlog_tree.specs.NameTable.{times_in}
 use Rattle.vlog_tree.specs.Table.{Name, NameUse, no, clk, first_violation, port_declared}
 use Rattle.vlog_tree.specs.Labels.{rst, done}
 use Rattle.vlog_tree.specs.V6.{module_children, contained_names, roots, first_name, is_top, has_port, top_ports, clock_links, is_whole_top, module_tops, v6_uses}
-use Rattle.vlog_tree.specs.Loops.{Edges, Chain, one, more, Reaches, own_containment, containment, own_places, text_places, LiesOnLoop, IsLoopless}
+use Rattle.vlog_tree.specs.Loops.{one, more, Reaches, own_containment, containment, own_places, IsLoopless}
 use Rattle.vlog_feedback.proofs.Lists.{has_flat, of_flat, has_map}
 
 none_more : (n : ℕ) → 0 + n ≡ n

@@ -1,18 +1,17 @@
 -- With sums that are sound and closed, edges reach just what rests.
-use Rattle.std.proofs.Common.{◌≡◌, ℕ, zero, suc, ◌+◌, ◌-◌, ◌<◌, ◌≤◌, Bool, true, false, cond, List, [], ◌∷◌, ◌++◌, length, get_or, Option, Some, None, inl, inr, refl, sym, ap, subst, ◌∙◌, arith, map}
+use Rattle.std.proofs.Common.{◌≡◌, ℕ, suc, ◌-◌, ◌<◌, ◌≤◌, Bool, true, false, cond, List, [], ◌∷◌, length, get_or, Option, Some, None, inl, inr, refl, sym, ap, subst, ◌∙◌, arith, map}
 use Rattle.std.specs.Prelude.{bytes_eq, slice_get, ◌⊎◌, ◌↔◌, ◌≢◌, slice_set, is_some, unwrap_or}
 use Rattle.std.specs.List.{flat_map}
 use Rattle.std.proofs.lemmas.Bool.{cases_eq}
 use Rattle.std.proofs.lemmas.List.{get_or-set_other, length-set}
 use Rattle.std.proofs.lemmas.Grind.{get_or-set_at}
-use Rattle.vlog_tree.specs.declared.table.Sort.TheVariants.{Input, Output}
 use Rattle.vlog_tree.specs.Grounded.{Has}
 use Rattle.vlog_tree.specs.Form.{ModuleTree}
 use Rattle.vlog_tree.specs.Cycle.{module_named}
 use Rattle.vlog_tree.specs.NameTable.{places_from}
-use Rattle.vlog_tree.specs.Table.{Name, port_declared, sort_of, declaration_name, module_declared}
-use Rattle.vlog_tree.specs.Loops.{Edges, Reaches, Chain, one, more, Rests, directly, through, after, port_of, direct_edges, instances}
-use Rattle.vlog_feedback.specs.Summaries.{sum_named, port_pair, through_edges, module_edges, IsPair, IsSumOf, IsSoundSum, IsClosedSum, AreSums, AreRight}
+use Rattle.vlog_tree.specs.Table.{Name, port_declared, declaration_name, module_declared}
+use Rattle.vlog_tree.specs.Loops.{Edges, Reaches, one, more, Rests, directly, through, after, port_of, direct_edges, instances}
+use Rattle.vlog_feedback.specs.Summaries.{sum_named, port_pair, through_edges, module_edges, IsSumOf, IsSoundSum, IsClosedSum, AreSums, AreRight}
 use Rattle.vlog_rules.proofs.Found.{module_found}
 use Rattle.vlog_loops.proofs.Numbered.{has_left, has_right, has_split}
 use Rattle.vlog_loops.proofs.Reached.{chains}

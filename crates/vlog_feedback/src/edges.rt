@@ -3,7 +3,7 @@
 ghost use Rattle.std.specs.Prelude.{◌≡◌, ◌++◌, ◌∷◌, [], map, IfOk, OnOk};
 ghost use Rattle.std.specs.List.{flat_map};
 ghost use Rattle.std.specs.Option.{option_copied};
-ghost use Rattle.vlog_tree.specs.Table.{port_declared, ports_of, declared};
+ghost use Rattle.vlog_tree.specs.Table.{declared};
 ghost use Rattle.vlog_tree.specs.Loops.{atom_nets, value_nets, port_of, link_edge, line_edges, answer_edges, memory_edges, item_instances};
 ghost use Rattle.vlog_loops.specs.Graphs.{IsGraphOf};
 ghost use Rattle.vlog_feedback.specs.Growth.{Adds};

@@ -1,10 +1,9 @@
 // The first name in the text that lies on a loop.
 
 ghost use Rattle.std.specs.Prelude.{◌≡◌, ◌↔◌, ◌⊎◌, ℕ, List, Bool, true, map, slice_get, Some, IfOk, OnOk};
-ghost use Rattle.std.specs.List.{flat_map};
 ghost use Rattle.std.specs.Option.{option_copied};
 ghost use Rattle.vlog_tree.specs.Table.{declared};
-ghost use Rattle.vlog_tree.specs.V6.{item_children, module_children};
+ghost use Rattle.vlog_tree.specs.V6.{item_children};
 ghost use Rattle.vlog_tree.specs.Form.{ModuleTree};
 ghost use Rattle.vlog_tree.specs.Grounded.{Has};
 ghost use Rattle.vlog_tree.specs.Loops.{Edges, own_containment, containment, Reaches, Rests, own_places, text_places, LiesOnLoop};

@@ -1,4 +1,4 @@
-use Rattle.std.proofs.Common.{◌≡◌, ◌∙◌, sym, ap, subst, Option, Some, None, Bool}
+use Rattle.std.proofs.Common.{◌≡◌, sym, ap, subst, Option, Bool}
 use Rattle.std.specs.Option.{option_copied}
 use Rattle.vlog_tree.specs.Table.{Name}
 use Rattle.vlog_tree.specs.V6.{is_top}

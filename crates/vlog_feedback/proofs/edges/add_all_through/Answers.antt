@@ -1,9 +1,9 @@
-use Rattle.std.proofs.Common.{List, [], ◌∷◌, map, refl}
+use Rattle.std.proofs.Common.{List, refl}
 use Rattle.std.specs.List.{flat_map}
 use Rattle.vlog_tree.specs.declared.tree.Item.{Item}
 use Rattle.vlog_tree.specs.Loops.{item_instances}
 use Rattle.vlog_feedback.specs.Summaries.{through_edges}
-use Rattle.vlog_feedback.proofs.Growing.{so_far_start, so_far_step, so_far_end, map-append, flat_map-append}
+use Rattle.vlog_feedback.proofs.Growing.{so_far_start, so_far_step, so_far_end, flat_map-append}
 use Rattle.vlog_feedback.proofs.edges.add_all_through.Goals as goal
 
 pub loop-item-init : goal.loop-item-init

@@ -1,4 +1,3 @@
-use Rattle.std.proofs.Common.{List, map}
 use Rattle.std.specs.List.{flat_map}
 use Rattle.vlog_tree.specs.Loops.{answer_edges}
 use Rattle.vlog_feedback.proofs.Growing.{AddsSoFar}

@@ -1,9 +1,9 @@
-use Rattle.std.proofs.Common.{List, [], ◌∷◌, map, refl}
+use Rattle.std.proofs.Common.{List, map, refl}
 use Rattle.std.specs.List.{flat_map}
 use Rattle.vlog_tree.specs.declared.tree.Atom.{Atom}
 use Rattle.vlog_tree.specs.Loops.{atom_nets}
 use Rattle.vlog_tree.specs.Table.{Name}
-use Rattle.vlog_feedback.proofs.Growing.{so_far_start, so_far_step, so_far_end, map-append, flat_map-append}
+use Rattle.vlog_feedback.proofs.Growing.{so_far_start, so_far_step, so_far_end, map-append}
 use Rattle.vlog_feedback.proofs.edges.add_atoms.Goals as goal
 
 pub loop-a-init : goal.loop-a-init

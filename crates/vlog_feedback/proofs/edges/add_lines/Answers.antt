@@ -1,7 +1,7 @@
-use Rattle.std.proofs.Common.{List, [], ◌∷◌, map, refl}
+use Rattle.std.proofs.Common.{refl}
 use Rattle.std.specs.List.{flat_map}
 use Rattle.vlog_tree.specs.Loops.{line_edges}
-use Rattle.vlog_feedback.proofs.Growing.{so_far_start, so_far_step, so_far_end, map-append, flat_map-append}
+use Rattle.vlog_feedback.proofs.Growing.{so_far_start, so_far_step, so_far_end}
 use Rattle.vlog_feedback.proofs.edges.add_lines.Goals as goal
 
 pub loop-item-init : goal.loop-item-init

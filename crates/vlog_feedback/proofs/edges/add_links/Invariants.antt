@@ -1,5 +1,4 @@
-use Rattle.std.proofs.Common.{List, map}
-use Rattle.std.specs.List.{flat_map}
+use Rattle.std.proofs.Common.{map}
 use Rattle.vlog_tree.specs.Loops.{link_edge}
 use Rattle.vlog_feedback.proofs.Growing.{AddsSoFar}
 use Rattle.vlog_feedback.proofs.edges.add_links.Given as goal

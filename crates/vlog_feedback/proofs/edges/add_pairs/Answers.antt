@@ -1,7 +1,6 @@
-use Rattle.std.proofs.Common.{List, [], ◌∷◌, map, refl}
-use Rattle.std.specs.List.{flat_map}
+use Rattle.std.proofs.Common.{[], ◌∷◌, map, refl}
 use Rattle.vlog_feedback.specs.Summaries.{port_pair}
-use Rattle.vlog_feedback.proofs.Growing.{so_far_start, so_far_step, so_far_end, map-append, flat_map-append}
+use Rattle.vlog_feedback.proofs.Growing.{so_far_start, so_far_step, so_far_end}
 use Rattle.vlog_feedback.proofs.edges.add_pairs.Goals as goal
 
 pub loop-pair-init : goal.loop-pair-init

@@ -1,4 +1,4 @@
-use Rattle.std.proofs.Common.{◌≡◌, ◌∙◌, sym, ap, List, map}
+use Rattle.std.proofs.Common.{◌∙◌, sym, ap, List, map}
 use Rattle.vlog_tree.specs.declared.table.Declaration.{Declaration}
 use Rattle.vlog_tree.specs.NameTable.{places_from}
 use Rattle.vlog_tree.specs.Table.{declaration_name}

@@ -1,11 +1,11 @@
-use Rattle.std.proofs.Common.{◌≡◌, List, [], ◌∷◌, map, refl, sym, ap, subst}
+use Rattle.std.proofs.Common.{List, map, refl, subst}
 use Rattle.std.specs.List.{flat_map}
 use Rattle.vlog_tree.specs.declared.tree.Item.{Item}
 use Rattle.vlog_tree.specs.Table.{Name}
 use Rattle.vlog_tree.specs.V6.{item_children, module_children}
 use Rattle.vlog_tree.specs.Loops.{own_containment}
 use Rattle.vlog_feedback.specs.Growth.{Adds}
-use Rattle.vlog_feedback.proofs.Growing.{so_far_start, so_far_step, so_far_end, map-append}
+use Rattle.vlog_feedback.proofs.Growing.{so_far_step, so_far_end, map-append}
 use Rattle.vlog_feedback.proofs.search.add_children.Goals as goal
 
 pub loop-item-preserved : goal.loop-item-preserved

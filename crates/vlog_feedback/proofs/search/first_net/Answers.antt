@@ -1,4 +1,4 @@
-use Rattle.std.proofs.Common.{◌≡◌, ◌∙◌, ◌+◌, sym, ap, subst, refl, true, List, map, drop, Option, Some, None}
+use Rattle.std.proofs.Common.{◌≡◌, ◌+◌, sym, subst, true, List, map, drop, Some, None}
 use Rattle.vlog_tree.specs.declared.table.Declaration.{Declaration}
 use Rattle.vlog_tree.specs.Table.{Name}
 use Rattle.vlog_tree.specs.Loops.{LiesOnLoop, TextPlace}

@@ -1,6 +1,5 @@
-use Rattle.std.proofs.Common.{◌≡◌, ◌∷◌, ◌∙◌, sym, ap, subst, refl, true, List, map, Option, Some, None}
+use Rattle.std.proofs.Common.{◌≡◌, ◌∷◌, ◌∙◌, sym, subst, true, List, map, Some, None}
 use Rattle.std.specs.Option.{option_copied}
-use Rattle.std.specs.Prelude.{◌↔◌}
 use Rattle.vlog_tree.specs.declared.table.Declaration.{Declaration}
 use Rattle.vlog_tree.specs.Table.{Name, declared}
 use Rattle.vlog_tree.specs.Loops.{LiesOnLoop, Reaches, containment, TextPlace}

@@ -1,4 +1,4 @@
-use Rattle.std.proofs.Common.{◌≡◌, ◌∙◌, ◌+◌, sym, ap, subst, List, drop, Option, Some, None}
+use Rattle.std.proofs.Common.{◌+◌, sym, ap, subst, List, drop, Option, Some, None}
 use Rattle.std.specs.Option.{option_copied}
 use Rattle.vlog_tree.specs.Form.{ModuleTree}
 use Rattle.vlog_tree.specs.Table.{Name}

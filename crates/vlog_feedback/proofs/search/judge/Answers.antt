@@ -1,4 +1,4 @@
-use Rattle.std.proofs.Common.{◌≡◌, ◌∷◌, [], ◌++◌, refl, sym, subst, List}
+use Rattle.std.proofs.Common.{refl, sym, subst, List}
 use Rattle.vlog_feedback.specs.declared.suspects.Suspect.{Suspect}
 use Rattle.vlog_feedback.specs.Search.{IsJudged}
 use Rattle.vlog_feedback.proofs.Searching.{judged_pushed}

@@ -1,10 +1,10 @@
-use Rattle.std.proofs.Common.{◌≡◌, ◌∙◌, ap, sym, subst, List, Some, length, ◌≤◌}
+use Rattle.std.proofs.Common.{◌≡◌, subst, List, Some, length, ◌≤◌}
 use Rattle.std.specs.Prelude.{slice_get}
 use Rattle.std.specs.Option.{option_copied}
 use Rattle.vlog_tree.specs.Form.{ModuleTree}
 use Rattle.vlog_feedback.specs.Summaries.{is_named}
 use Rattle.vlog_feedback.proofs.Lists.{got_index}
-use Rattle.vlog_feedback.proofs.Searching.{next_judged, all_judged, SuspectsSoFar}
+use Rattle.vlog_feedback.proofs.Searching.{next_judged, all_judged}
 use Rattle.vlog_feedback.proofs.search.suspects_of.Goals as goal
 
 pub loop-place-preserved : goal.loop-place-preserved

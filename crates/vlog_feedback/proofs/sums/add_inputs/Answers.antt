@@ -1,4 +1,3 @@
-use Rattle.std.proofs.Common.{◌≡◌, sym, ap, subst}
 use Rattle.vlog_feedback.specs.Summaries.{IsPair}
 use Rattle.vlog_feedback.proofs.Gathering.{next_input, all_inputs}
 use Rattle.vlog_feedback.proofs.sums.add_inputs.Goals as goal

@@ -1,4 +1,4 @@
-use Rattle.std.proofs.Common.{◌≡◌, List, ℕ, true, map, take}
+use Rattle.std.proofs.Common.{◌≡◌, true, map, take}
 use Rattle.std.specs.Prelude.{◌↔◌}
 use Rattle.vlog_tree.specs.Grounded.{Has}
 use Rattle.vlog_tree.specs.Table.{Name, declaration_name}

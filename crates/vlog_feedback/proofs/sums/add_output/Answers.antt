@@ -1,4 +1,4 @@
-use Rattle.std.proofs.Common.{◌≡◌, ◌∙◌, sym, ap, subst, List, Bool, true}
+use Rattle.std.proofs.Common.{◌≡◌, sym, subst, List, Bool, true}
 use Rattle.vlog_tree.specs.Table.{Name}
 use Rattle.vlog_tree.specs.Loops.{Reaches}
 use Rattle.std.specs.Prelude.{◌↔◌}

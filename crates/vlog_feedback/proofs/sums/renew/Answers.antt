@@ -1,4 +1,4 @@
-use Rattle.std.proofs.Common.{◌≡◌, ◌∙◌, ◌<◌, sym, ap, subst, Some, List, length, map}
+use Rattle.std.proofs.Common.{◌≡◌, ◌<◌, sym, subst, Some, List, length, map}
 use Rattle.std.specs.Prelude.{slice_get}
 use Rattle.std.specs.Option.{option_copied}
 use Rattle.vlog_tree.specs.Form.{ModuleTree}

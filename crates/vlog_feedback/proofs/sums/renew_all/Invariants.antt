@@ -1,4 +1,4 @@
-use Rattle.std.proofs.Common.{◌≡◌, ◌<◌, ℕ, [], true, length, get_or, Some}
+use Rattle.std.proofs.Common.{◌≡◌, ◌<◌, ℕ, [], true, get_or, Some}
 use Rattle.std.specs.Prelude.{slice_get}
 use Rattle.std.specs.Option.{option_copied}
 use Rattle.vlog_tree.specs.Form.{ModuleTree}

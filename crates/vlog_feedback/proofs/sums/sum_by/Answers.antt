@@ -1,4 +1,4 @@
-use Rattle.std.proofs.Common.{◌≡◌, [], sym, ap, subst}
+use Rattle.std.proofs.Common.{[]}
 use Rattle.vlog_feedback.specs.Summaries.{IsPair}
 use Rattle.vlog_feedback.proofs.Gathering.{next_output, all_outputs}
 use Rattle.std.proofs.Common.{refl}

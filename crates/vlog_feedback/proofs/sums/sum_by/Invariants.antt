@@ -1,6 +1,6 @@
 use Rattle.std.proofs.Common.{[], map, take}
 use Rattle.vlog_tree.specs.Grounded.{Has}
-use Rattle.vlog_tree.specs.Table.{Name, declaration_name}
+use Rattle.vlog_tree.specs.Table.{declaration_name}
 use Rattle.vlog_tree.specs.Loops.{Edges}
 use Rattle.vlog_loops.specs.Graphs.{IsGraphOf}
 use Rattle.vlog_feedback.specs.Growth.{Gathers}

@@ -1,9 +1,8 @@
-use Rattle.std.proofs.Common.{◌≡◌, ◌∙◌, sym, ap, subst, inl, inr, refl, true, List, take}
-use Rattle.std.specs.Prelude.{◌↔◌}
+use Rattle.std.proofs.Common.{◌≡◌, ◌∙◌, sym, subst, inl, inr, refl, true, List}
 use Rattle.std.proofs.lemmas.List.{take_all}
 use Rattle.vlog_tree.specs.Grounded.{Has}
 use Rattle.vlog_feedback.specs.declared.suspects.Suspect.{Suspect}
-use Rattle.vlog_feedback.specs.Search.{LoopsIn, IsSuspect, IsEvidence}
+use Rattle.vlog_feedback.specs.Search.{LoopsIn, IsSuspect}
 use Rattle.vlog_feedback.proofs.Lists.{has_index, taken_split}
 use Rattle.vlog_feedback.proofs.Searching.{loops_lie, lies_not}
 use Rattle.vlog_feedback.proofs.suspects.on_loop.Goals as goal
