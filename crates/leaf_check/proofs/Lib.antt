@@ -3,3 +3,4 @@ pub mod Order
 pub mod Pushed
 pub mod Rows
 pub mod Sums
+pub mod Flats
