@@ -4,3 +4,4 @@ pub mod Pushed
 pub mod Rows
 pub mod Sums
 pub mod Flats
+pub mod Conversions
