@@ -5,3 +5,5 @@ pub mod Rows
 pub mod Sums
 pub mod Flats
 pub mod Conversions
+pub mod Meanings
+pub mod Frames
