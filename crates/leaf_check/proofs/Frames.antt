@@ -153,15 +153,15 @@ code_row W S (s ∷ xs) (a, g) = (a, code_row W (clears s S) xs g)
 -- ---- parts of a task
 
 -- in a leaf, where these arrays are cleared: the code, and the names behind it; a jump stands in a loop
-pub record Sound (W : FlatLeaf) (S : List ℕ) (l : Bool) (E : Scope) (code : List FlatStatement) : Type 0 where
-  pub code : IsCode W S code
-  pub straight : l ≡ false → AreStraight code
-  pub scope : KnownScope W (clears_all code S) E
+pub record Sound (W : FlatLeaf) (S : List ℕ) (l : Bool) (E : Scope) (xs : List FlatStatement) : Type 0 where
+  pub code : IsCode W S xs
+  pub straight : l ≡ false → AreStraight xs
+  pub scope : KnownScope W (clears_all xs S) E
 
-pub record Runs (l : Bool) (f g : Frame) (code : List FlatStatement) : Type 0 where
+pub record Runs (l : Bool) (f g : Frame) (xs : List FlatStatement) : Type 0 where
   pub grows : Grows f g
   pub few : Few f → Few g
-  pub sound : (W : FlatLeaf) (S : List ℕ) → Reaches g W → KnownScope W S f.scope → Sound W S l g.scope code
+  pub sound : (W : FlatLeaf) (S : List ℕ) → Reaches g W → KnownScope W S f.scope → Sound W S l g.scope xs
 
 pub runs_none : (l : Bool) (f : Frame) → Runs l f f []
 runs_none l f = record { grows = stays f; few = λ h. h; sound = λ W S r k. record { code = tt; straight = λ e. tt; scope = k } }

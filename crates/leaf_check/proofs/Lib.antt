@@ -7,3 +7,4 @@ pub mod Flats
 pub mod Conversions
 pub mod Meanings
 pub mod Frames
+pub mod Actions
