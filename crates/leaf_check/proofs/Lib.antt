@@ -8,3 +8,4 @@ pub mod Conversions
 pub mod Meanings
 pub mod Frames
 pub mod Actions
+pub mod Parts

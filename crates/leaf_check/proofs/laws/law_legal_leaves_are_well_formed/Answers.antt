@@ -1,3 +1,4 @@
+use Rattle.leaf_check.proofs.Parts.{statements_runs}
 use Rattle.leaf_check.proofs.Actions.{action_good}
 use Rattle.leaf_check.proofs.Frames.{single}
 use Rattle.leaf_check.proofs.Meanings.{meaning_good}
