@@ -9,3 +9,4 @@ pub mod Meanings
 pub mod Frames
 pub mod Actions
 pub mod Parts
+pub mod Leaves
