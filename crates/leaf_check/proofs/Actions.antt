@@ -1,11 +1,10 @@
 -- What an action without faults means is code of a leaf.
-use Rattle.std.proofs.Common.{◌≡◌, ◌<◌, ◌^◌, ℕ, List, [], ◌∷◌, ◌++◌, map, Bool, true, false, not, ◌&&◌, Some, None, refl, sym, ap, subst, ◌∙◌, arith, lit<}
+use Rattle.std.proofs.Common.{◌≡◌, ◌<◌, ℕ, List, [], ◌∷◌, ◌++◌, map, Bool, true, false, ◌&&◌, Some, None, refl, sym, subst, lit<}
 use Rattle.std.specs.Prelude.{Option, IfSome, slice_get}
 use Rattle.std.specs.List.{flat_map}
 use Rattle.tapa_base.specs.declared.kind.Kind.{Kind}
 use Rattle.tapa_base.specs.declared.kind.Kind.TheVariants as kind
 use Rattle.tapa_base.specs.declared.op.Op.{Op}
-use Rattle.tapa_base.specs.declared.op.Op.TheVariants as op
 use Rattle.tapa_base.specs.declared.text.Place.{Place}
 use Rattle.tapa_base.specs.Kinds.{promoted, values_of}
 use Rattle.tapa_syntax.specs.declared.tree.Name.{Name}
@@ -20,14 +19,13 @@ use Rattle.tapa_syntax.specs.Trees as tree
 use Rattle.tapa_syntax.specs.Trees.{ExpressionTree, PlaceTree, ActionTree}
 use Rattle.tapa_syntax.specs.Flat as flat
 use Rattle.tapa_syntax.specs.Flat.{FlatExpression, literal, variable, FlatStatement, FlatLeaf}
-use Rattle.expression_check.specs.declared.fault.Broken.{Broken}
 use Rattle.expression_check.specs.declared.fault.CheckCode.TheVariants.{C3}
 use Rattle.expression_check.specs.declared.sort.Sort.{Sort}
 use Rattle.expression_check.specs.declared.sort.Sort.TheVariants as sort
 use Rattle.expression_check.specs.Faults.{wrong_sort, name_faults, where_so, fault}
 use Rattle.expression_check.specs.Scopes.{Scope, sort_of, kind_of_sort, number_of, is_free_variable, has_free_cells, is_output, is_input}
-use Rattle.expression_check.specs.Expressions.{Method, reads, peeks, tests_end, writes, opens, closes, method_of, call_faults, kind_of, value_of, wanted, as_kind, binary_kind, operated, operated_kind, faults_of, divisor_faults}
-use Rattle.leaf_check.specs.Statements.{Target, in_variable, in_cell, in_word, element_target, target_of, set_target, change_target, read_target, assigned, kind_of_target, step_op, stepped, is_increment, is_bool, place_name, place_kind, target_faults, index_faults, changed_faults, place_faults, assignment_divides, given_faults, called, action_faults, action_code}
+use Rattle.expression_check.specs.Expressions.{Method, reads, peeks, tests_end, writes, opens, closes, method_of, call_faults, kind_of, value_of, wanted, binary_kind, operated, operated_kind, faults_of, divisor_faults}
+use Rattle.leaf_check.specs.Statements.{Target, in_variable, in_cell, in_word, element_target, target_of, set_target, change_target, read_target, assigned, kind_of_target, step_op, stepped, is_increment, is_bool, place_kind, target_faults, index_faults, changed_faults, place_faults, assignment_divides, given_faults, called, action_faults, action_code}
 use Rattle.leaf_check.proofs.Flats.{IsEnd, IsArrayOf, IsValue, MayDivideBy, IsStep, IsCode, IsStraight, AreStraight, clears}
 use Rattle.leaf_check.proofs.Conversions.{cast_value, cast_divides}
 use Rattle.leaf_check.proofs.Meanings.{left_empty, right_empty, IsKnown, KnownScope, known_at, meaning_good, divisor_good, operated_good}

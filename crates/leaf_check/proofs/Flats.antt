@@ -1,6 +1,6 @@
 -- The flat code of a legal leaf: what holds of its plain data holds of the code in memory.
 use Rattle.std.proofs.Common.{◌≡◌, ◌<◌, ◌-◌, ◌*◌, ◌^◌, ℕ, zero, suc, List, [], ◌∷◌, length, map, Bool, true, false, Some, refl, sym, ap, subst, ◌∙◌, arith}
-use Rattle.std.specs.Prelude.{Option, option_map, unwrap_or, slice_get, slice_index_or, if◌then◌else◌, ◌==◌}
+use Rattle.std.specs.Prelude.{option_map, unwrap_or, slice_get, slice_index_or, if◌then◌else◌, ◌==◌}
 use Rattle.std.proofs.lemmas.Bool.{ne_eqb}
 use Rattle.std.proofs.lemmas.Option.{slice_get_within, get_or_from_slice_get}
 use Rattle.tapa_base.specs.declared.kind.Kind.{Kind}

@@ -1,5 +1,5 @@
 -- Every legal leaf is well formed.
-use Rattle.std.proofs.Common.{◌≡◌, ◌⊎◌, inl, inr, ◌<◌, ◌≤◌, ◌+◌, ℕ, zero, suc, List, [], ◌∷◌, ◌++◌, length, get_or, Bool, true, false, not, Some, None, refl, sym, ap, subst, ◌∙◌, arith, lit<}
+use Rattle.std.proofs.Common.{◌≡◌, ◌⊎◌, inl, inr, ◌<◌, ◌≤◌, ◌+◌, ℕ, zero, suc, List, [], ◌∷◌, ◌++◌, length, get_or, Bool, true, false, not, Some, refl, sym, ap, subst, ◌∙◌, arith}
 use Rattle.std.specs.Prelude.{slice_get}
 use Rattle.std.proofs.lemmas.Option.{none-some, same_Some, slice_get_within, slice_get-get_or}
 use Rattle.tapa_base.specs.declared.kind.Kind.{Kind}
@@ -10,17 +10,17 @@ use Rattle.tapa_syntax.specs.declared.tree.Name.{Name}
 use Rattle.tapa_syntax.specs.declared.tree.Parameter.{Parameter}
 use Rattle.tapa_syntax.specs.declared.tree.Parameter.TheVariants.{InputStream, OutputStream, Memory, Scalar}
 use Rattle.tapa_syntax.specs.Trees.{Statements, TaskTree}
-use Rattle.tapa_syntax.specs.Flat.{FlatStatement, FlatLeaf, flat_leaf}
+use Rattle.tapa_syntax.specs.Flat.{FlatLeaf, flat_leaf}
 use Rattle.tapa_syntax.specs.WellFormed.{IsLeaf, AreDistinct}
 use Rattle.expression_check.specs.declared.sort.Sort.{Sort}
 use Rattle.expression_check.specs.declared.sort.Sort.TheVariants as sort
 use Rattle.expression_check.specs.Scopes.{Block}
 use Rattle.leaf_check.specs.Laws.{IsGlobal, AreGlobal, LegalLeavesAreWellFormed}
-use Rattle.leaf_check.specs.Statements.{Frame, variable_faults, with_variable, after_all, statements_faults, codes_of}
-use Rattle.leaf_check.specs.Leaves.{Head, with_stream, with_memory, with_scalar, after_parameter, parameter_faults, after_parameters, parameters_faults, task_begins, size_faults, leaf_faults, leaf_of, ended}
+use Rattle.leaf_check.specs.Statements.{variable_faults, statements_faults, codes_of}
+use Rattle.leaf_check.specs.Leaves.{Head, with_stream, with_memory, with_scalar, after_parameter, parameter_faults, after_parameters, parameters_faults, task_begins, size_faults, leaf_faults, leaf_of}
 use Rattle.leaf_check.proofs.Flats.{IsCode, AreStraight, code_uses, code_fits, code_typed}
 use Rattle.leaf_check.proofs.Meanings.{left_empty, right_empty, IsKnown, KnownBlock, KnownScope}
-use Rattle.leaf_check.proofs.Frames.{Within, within_more, last_at, Each, each_at, Grows, Reaches, Few, HasFewCells, scope_declared, Sound, Runs}
+use Rattle.leaf_check.proofs.Frames.{Within, within_more, last_at, Each, each_at, Grows, Reaches, Few, HasFewCells, scope_declared}
 use Rattle.leaf_check.proofs.Parts.{variable_few, variable_grows, variable_scope, statements_runs}
 
 -- ---- parameters
@@ -57,7 +57,7 @@ scalar_more vars xs k s =
     record {
       below = λ p x h. elim (pushed xs n x p h) [ inl a ↦ below_more n (length (vars ++ k ∷ [])) x e (s.below p x a) | inr a ↦ last_below n (length (vars ++ k ∷ [])) x e a.1 ];
       distinct = λ p q x h j. elim (pushed xs n x p h) [
-        inl a ↦ elim (pushed xs n x q j) [ inl b ↦ s.distinct p q x a b | inr b ↦ absurd (differ n x (s.below p x a) b.1) ]
+        | inl a ↦ elim (pushed xs n x q j) [ inl b ↦ s.distinct p q x a b | inr b ↦ absurd (differ n x (s.below p x a) b.1) ]
         | inr a ↦ elim (pushed xs n x q j) [ inl b ↦ absurd (differ n x (s.below q x b) a.1) | inr b ↦ a.0 ∙ sym b.0 ]
       ];
     }

@@ -1,5 +1,5 @@
 -- What an expression without faults means is a value of its kind.
-use Rattle.std.proofs.Common.{◌≡◌, ◌<◌, ◌+◌, ◌-◌, ◌*◌, ◌%◌, ◌^◌, ℕ, List, [], ◌∷◌, ◌++◌, Bool, true, false, not, ◌&&◌, Some, None, refl, sym, ap, subst, ◌∙◌, arith}
+use Rattle.std.proofs.Common.{◌≡◌, ◌<◌, ℕ, List, [], ◌∷◌, ◌++◌, Bool, true, false, not, ◌&&◌, Some, None, refl}
 use Rattle.std.specs.Prelude.{Option, IfSome, slice_get, if◌then◌else◌, nat_lt, ◌||◌}
 use Rattle.std.proofs.lemmas.Nat.{pow_pos, mod_below}
 use Rattle.std.proofs.lemmas.Bool.{ltb-true}
@@ -23,8 +23,8 @@ use Rattle.expression_check.specs.declared.sort.Sort.{Sort}
 use Rattle.expression_check.specs.declared.sort.Sort.TheVariants as sort
 use Rattle.expression_check.specs.Faults.{wrong_sort, where_so, fault}
 use Rattle.expression_check.specs.declared.fault.CheckCode.TheVariants.{C8, C9}
-use Rattle.expression_check.specs.Scopes.{Block, Scope, in_block, first_of, sort_of, kind_of_sort, number_of, is_scalar, is_memory, has_cells, declaring}
-use Rattle.expression_check.specs.Expressions.{Method, reads, peeks, tests_end, writes, opens, closes, method_of, listed, call_faults, no_value, operand_faults, call_kind, prefix_kind, operated_kind, binary_kind, arm_kind, kind_of, as_kind, named_value, cell_value, called_value, operated, binary_value, prefix_value, value_of, is_constant_name, is_constant, constant_value, divides, divisor_faults, is_logical, faults_of}
+use Rattle.expression_check.specs.Scopes.{Block, Scope, in_block, first_of, sort_of, kind_of_sort, number_of, is_scalar, is_memory, has_cells}
+use Rattle.expression_check.specs.Expressions.{Method, reads, peeks, tests_end, writes, opens, closes, method_of, listed, call_faults, no_value, call_kind, prefix_kind, binary_kind, arm_kind, kind_of, as_kind, named_value, cell_value, called_value, operated, binary_value, prefix_value, value_of, is_constant_name, is_constant, constant_value, divides, divisor_faults, is_logical, faults_of}
 use Rattle.expression_check.proofs.Values.{bit_fits}
 use Rattle.leaf_check.proofs.Flats.{IsEnd, IsArrayOf, IsValue, IsFlatConstant, MayDivideBy}
 use Rattle.leaf_check.proofs.Conversions.{cast_value, cast_constant, cast_divides}

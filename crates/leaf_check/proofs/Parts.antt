@@ -1,6 +1,6 @@
 -- What statements without faults mean is code of a leaf.
-use Rattle.std.proofs.Common.{◌≡◌, inl, inr, ◌<◌, ◌≤◌, ◌+◌, ◌^◌, ℕ, List, [], ◌∷◌, ◌++◌, length, Bool, true, false, not, ◌&&◌, Some, None, refl, sym, ap, subst, ◌∙◌, arith, lit<, length-append}
-use Rattle.std.specs.Prelude.{Option, option_map, slice_get, nat_le, nat_lt}
+use Rattle.std.proofs.Common.{◌≡◌, inl, inr, ◌≤◌, ℕ, List, [], ◌∷◌, ◌++◌, length, Bool, true, false, not, ◌&&◌, Some, None, refl, sym, ap, subst, arith, lit<, length-append}
+use Rattle.std.specs.Prelude.{Option, option_map, nat_le}
 use Rattle.std.proofs.lemmas.Nat.{pow_pos}
 use Rattle.std.proofs.lemmas.Bool.{leb-true, leb-false}
 use Rattle.tapa_base.specs.declared.kind.Kind.{Kind}
@@ -15,16 +15,16 @@ use Rattle.tapa_syntax.specs.Flat as flat
 use Rattle.tapa_syntax.specs.Flat.{FlatExpression, literal, FlatStatement, set, clear, branch, loop, in_row, FlatLeaf}
 use Rattle.expression_check.specs.declared.fault.Broken.{Broken}
 use Rattle.expression_check.specs.declared.sort.Sort.TheVariants as sort
-use Rattle.expression_check.specs.Faults.{name_faults, where_so, over, doubled, fault}
+use Rattle.expression_check.specs.Faults.{name_faults, where_so, over, doubled}
 use Rattle.expression_check.specs.Scopes.{Scope, sort_of, kind_of_sort, number_of, is_input}
 use Rattle.expression_check.specs.Expressions.{kind_of, value_of, wanted, faults_of}
 use Rattle.expression_check.specs.Counts.{count_of, count_faults, form_faults, most_of_count}
-use Rattle.leaf_check.specs.Statements.{Frame, opened, closed, variable_faults, with_variable, with_array, array_faults, declarator_faults, after_declarator, declarator_code, after_declarators, declarators_faults, declarators_code, after_declaration, declaration_faults, declaration_code, action_faults, action_code, after_start, start_faults, start_code, test_faults, test_of, next_faults, next_code, in_head, head_faults, after, after_all, jump_faults, statement_faults, statements_faults, code_of, codes_of}
-use Rattle.leaf_check.proofs.Flats.{IsEnd, IsValue, IsStep, AreSteps, IsCode, AreStraight}
+use Rattle.leaf_check.specs.Statements.{Frame, opened, closed, variable_faults, with_variable, with_array, array_faults, declarator_faults, after_declarator, declarator_code, after_declarators, declarators_faults, declarators_code, after_declaration, declaration_faults, declaration_code, action_faults, action_code, after_start, start_faults, start_code, test_faults, test_of, next_faults, next_code, in_head, after, after_all, jump_faults, statement_faults, statements_faults, code_of, codes_of}
+use Rattle.leaf_check.proofs.Flats.{IsValue, AreSteps, IsCode}
 use Rattle.leaf_check.proofs.Conversions.{cast_value}
-use Rattle.leaf_check.proofs.Meanings.{left_empty, right_empty, not_so, both_true, IsKnown, KnownScope, meaning_good}
-use Rattle.leaf_check.proofs.Frames.{Within, within_more, last_at, Each, each_more, Grows, Reaches, Few, stays, grows_on, reaches_on, scope_more, scope_declared, scope_opened, covers_all, clears_all, code_row, Sound, Runs, runs_none, runs_on, leaves, single}
-use Rattle.leaf_check.proofs.Actions.{AreActs, acts_code, acts_straight, input_good, action_good}
+use Rattle.leaf_check.proofs.Meanings.{left_empty, right_empty, not_so, both_true, KnownScope, meaning_good}
+use Rattle.leaf_check.proofs.Frames.{Within, within_more, last_at, each_more, Grows, Reaches, Few, stays, grows_on, scope_more, scope_declared, scope_opened, covers_all, clears_all, code_row, Runs, runs_none, runs_on, leaves, single}
+use Rattle.leaf_check.proofs.Actions.{acts_code, acts_straight, input_good, action_good}
 
 -- ---- declarations
 
