@@ -3,3 +3,10 @@ pub mod Order
 pub mod Pushed
 pub mod Rows
 pub mod Sums
+pub mod Flats
+pub mod Conversions
+pub mod Meanings
+pub mod Frames
+pub mod Actions
+pub mod Parts
+pub mod Leaves

@@ -5,6 +5,7 @@ mod action;
 mod call;
 mod declaration;
 mod frame;
+mod laws;
 mod leaf;
 mod places;
 mod statement;
@@ -13,4 +14,5 @@ mod target;
 pub use expression_check::{
     Broken, CheckCode, CheckFault, FileNames, Sort, check_constant, check_count,
 };
+pub use laws::law_legal_leaves_are_well_formed;
 pub use leaf::check_leaf;
