@@ -28,7 +28,7 @@ pub struct Constant {
 }
 
 /// The value as one of another kind: a conversion where the kinds differ.
-pub(crate) fn converted(constant: Constant, to: Kind) -> u64
+pub fn converted(constant: Constant, to: Kind) -> u64
     requires { IsWithin constant }
     ensures value { result ≡ constant_value (meaning.as_kind constant.kind to (spec.literal_of constant)) }
     ensures within { result < values_of to }
@@ -176,7 +176,7 @@ pub(crate) fn literal(kind: Kind, number: u64) -> Constant
 }
 
 /// The value of an expression of literals, constants of the file, operators and casts alone.
-pub(crate) fn evaluated(scope: &Scope, value: &Expression) -> Option<Constant>
+pub fn evaluated(scope: &Scope, value: &Expression) -> Option<Constant>
     ensures value { result ≡ meaning.constant_of scope.now (tree.expression value.now) }
     ensures within { IfSome result IsWithin }
 {

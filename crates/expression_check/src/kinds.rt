@@ -34,7 +34,7 @@ fn rank(kind: Kind) -> u8
 }
 
 /// Whether two kinds are one.
-pub(crate) fn same_kind(first: Kind, second: Kind) -> bool
+pub fn same_kind(first: Kind, second: Kind) -> bool
     ensures { result ≡ spec.same_kind first second }
 {
     rank(first) == rank(second)
@@ -78,7 +78,7 @@ pub(crate) fn arm_kind(first: Kind, second: Kind) -> Kind
 }
 
 /// The lowest bits of a number, as many as a kind has.
-pub(crate) fn low_bits(kind: Kind, number: u64) -> u64
+pub fn low_bits(kind: Kind, number: u64) -> u64
     ensures value { result ≡ number % values_of kind }
     ensures within { result < values_of kind }
 {

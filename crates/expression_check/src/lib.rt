@@ -15,12 +15,12 @@ mod scope;
 mod sort;
 mod typed;
 
-pub use constant::{Constant, check_divisor};
-pub use constant_use::check_constant;
+pub use constant::{Constant, check_divisor, converted, evaluated};
+pub use constant_use::{check_constant, known};
 pub use count::{MOST_OF_COUNT, check_count, count_in};
 pub use expression::{check_expression, check_wanted};
 pub use fault::{Broken, CheckCode, CheckFault, over, refused};
-pub use kinds::{operated_kind, promoted, right_kind};
+pub use kinds::{low_bits, operated_kind, promoted, right_kind, same_kind};
 pub use method::{StreamCall, StreamMethod, check_call, method_of};
 pub use names::{FileNames, Names, copied};
 pub use role::Role;
