@@ -1,0 +1,4 @@
+pub mod Order
+pub mod Limits
+pub mod Levels
+pub mod Whole

@@ -1,0 +1,166 @@
+ghost use Rattle.std.specs.Prelude.{◌≡◌, ◌+◌, [], map, slice_get, slice_index};
+ghost use Rattle.std.specs.Str.{IsAscii};
+ghost use Rattle.tapa_syntax.specs.Flat.{flat_bound, flat_instance};
+ghost use Rattle.expression_check.specs.Answers.{Answers};
+ghost use Rattle.upper_check.specs.Views.{invocation_view, task_view};
+ghost use Rattle.stream_check.specs.Parts as parts;
+
+use crate::label::{below, instance_name};
+use expression_check::{CheckFault, low_bits, same_kind};
+use std::alloc::Global;
+use tapa_base::{Kind, convert};
+use tapa_syntax::{Bound, Instance};
+use upper_check::{Invoked, Link, Task};
+
+/// A value that is bound, converted from the first kind to the second.
+fn passed(alloc: Global, from: Kind, to: Kind, bound: &Bound) -> Result<Bound, CheckFault>
+    ensures { Answers flat_bound result [] (parts.passed from to (flat_bound bound.now)) }
+{
+    match bound {
+        Bound::Number(number) => Ok(Bound::Number(convert(from, to, low_bits(from, *number)))),
+        Bound::Top { scalar, kinds } => {
+            let mut through = kinds.as_slice().to_vec(alloc)?;
+            if !same_kind(from, to) {
+                through.push(to)?;
+            }
+            Ok(Bound::Top {
+                scalar: *scalar,
+                kinds: through,
+            })
+        }
+    }
+}
+
+/// What a scalar parameter is bound to.
+fn scalar_at(
+    alloc: Global,
+    from: Kind,
+    to: Kind,
+    scalars: &[Bound],
+    number: u32,
+) -> Result<Bound, CheckFault>
+    ensures { Answers flat_bound result [] (parts.passed from to (parts.bound_or_zero (slice_get (map flat_bound scalars.now) number))) }
+{
+    match scalars.get(number as usize) {
+        Some(bound) => passed(alloc, from, to, bound),
+        None => passed(alloc, from, to, &Bound::Number(0)),
+    }
+}
+
+/// The stream or memory at a position.
+fn number_at(numbers: &[u32], position: u32) -> u32
+    ensures { result ≡ slice_index numbers.now position }
+{
+    match numbers.get(position as usize) {
+        Some(number) => *number,
+        None => 0,
+    }
+}
+
+/// The number of a stream of an instance's own task.
+fn own_stream(first: u32, number: u32) -> Result<u32, CheckFault>
+    ensures { Answers (λ n. n) result [] (first + number) }
+{
+    if number > u32::MAX - first {
+        Err(CheckFault::OutOfMemory)
+    } else {
+        Ok(first + number)
+    }
+}
+
+/// One argument more of an instance that the task of another invokes.
+fn bind(
+    alloc: Global,
+    outer: &Instance,
+    first: u32,
+    link: Link,
+    made: &mut Instance,
+) -> Result<(), CheckFault>
+    ensures { Answers (λ x. flat_instance made.new) result [] (parts.bind (flat_instance outer.now) first (flat_instance made.old) link) }
+{
+    match link {
+        Link::OwnStream(number) => made.streams.push(own_stream(first, number)?)?,
+        Link::StreamParameter(position) => {
+            made.streams.push(number_at(&outer.streams, position))?;
+        }
+        Link::MemoryParameter(position) => {
+            made.memories.push(number_at(&outer.memories, position))?;
+        }
+        Link::ScalarParameter { number, from, to } => {
+            made.scalars
+                .push(scalar_at(alloc, from, to, &outer.scalars, number)?)?;
+        }
+        Link::Constant(value) => made.scalars.push(Bound::Number(value))?,
+    }
+    Ok(())
+}
+
+fn bind_all(
+    alloc: Global,
+    outer: &Instance,
+    first: u32,
+    links: &[Link],
+    made: &mut Instance,
+) -> Result<(), CheckFault>
+    ensures { Answers (λ x. flat_instance made.new) result [] (parts.bind_all (flat_instance outer.now) first (flat_instance made.old) links.now) }
+{
+    for link in links {
+        bind(alloc, outer, first, *link, made)?;
+    }
+    Ok(())
+}
+
+fn name_at<'t>(tasks: &'t [Task], number: usize) -> &'t [u8]
+    ensures value { result.now ≡ parts.name_of (slice_get (map task_view tasks.now) number) }
+    ensures ascii { IsAscii result.now }
+{
+    match tasks.get(number) {
+        Some(task) => task.declared.name.text.bytes(),
+        None => &[],
+    }
+}
+
+/// A number in 32 bits. What is held in memory has no larger one.
+pub(crate) fn number_of(number: usize) -> Result<u32, CheckFault>
+    ensures { Answers (λ n. n) result [] number }
+{
+    if number <= u32::MAX as usize {
+        Ok(number as u32)
+    } else {
+        Err(CheckFault::OutOfMemory)
+    }
+}
+
+/// The next number. What is held in memory has no number past 32 bits.
+pub(crate) fn next(number: u32) -> Result<u32, CheckFault>
+    ensures { Answers (λ n. n) result [] (number + 1) }
+{
+    if number == u32::MAX {
+        Err(CheckFault::OutOfMemory)
+    } else {
+        Ok(number + 1)
+    }
+}
+
+/// The instance of the invocation at a position of the task of an instance; its body is the number of its task.
+pub(crate) fn invoked(
+    alloc: Global,
+    tasks: &[Task],
+    outer: &Instance,
+    first: u32,
+    position: usize,
+    invocation: &Invoked,
+) -> Result<Instance, CheckFault>
+    ensures { Answers flat_instance result [] (parts.invoked (map task_view tasks.now) (flat_instance outer.now) first position (invocation_view invocation.now)) }
+{
+    let name = instance_name(alloc, name_at(tasks, invocation.task), position)?;
+    let mut made = Instance {
+        label: below(alloc, &outer.label, &name)?,
+        body: number_of(invocation.task)?,
+        scalars: Vec::new(alloc),
+        streams: Vec::new(alloc),
+        memories: Vec::new(alloc),
+    };
+    bind_all(alloc, outer, first, &invocation.links, &mut made)?;
+    Ok(made)
+}
