@@ -2,3 +2,14 @@ pub mod Order
 pub mod Limits
 pub mod Levels
 pub mod Whole
+pub mod WellLists
+pub mod WellValues
+pub mod WellVariables
+pub mod WellPorts
+pub mod WellUppers
+pub mod WellTasks
+pub mod WellParts
+pub mod WellSpots
+pub mod WellTops
+pub mod WellBodies
+pub mod WellPrograms

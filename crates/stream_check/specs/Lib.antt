@@ -1,3 +1,4 @@
 pub mod Parts
 pub mod Programs
 pub mod Views
+pub mod Laws

@@ -5,9 +5,11 @@ mod bindings;
 mod body;
 mod instance;
 mod label;
+mod laws;
 mod parts;
 mod program;
 mod top;
 
 pub use expression_check::{Broken, CheckCode, CheckFault};
+pub use laws::law_legal_programs_are_well_formed;
 pub use program::check;

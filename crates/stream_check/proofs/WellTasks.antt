@@ -1,0 +1,118 @@
+-- The tasks of a file without faults.
+use Rattle.std.proofs.Common.{◌≡◌, ◌<◌, ◌+◌, ◌⊎◌, inl, inr, ℕ, zero, suc, List, [], ◌∷◌, ◌++◌, length, Bool, true, false, ◌||◌, Some, None, refl, sym, ap, subst, ◌∙◌, arith}
+use Rattle.std.specs.Prelude.{slice_get, bytes_eq}
+use Rattle.std.specs.List.{list_any}
+use Rattle.std.proofs.lemmas.Slice.Eq.{bytes_eq-Decides}
+use Rattle.tapa_syntax.specs.Trees as tree
+use Rattle.tapa_syntax.specs.Trees.{BodyTree, TaskTree, ItemTree}
+use Rattle.expression_check.specs.declared.sort.Sort.{Sort}
+use Rattle.expression_check.specs.declared.sort.Sort.TheVariants as sort
+use Rattle.expression_check.specs.Scopes.{Block, Scope}
+use Rattle.expression_check.specs.Expressions.{constant_value, wanted}
+use Rattle.expression_check.specs.Faults.{doubled}
+use Rattle.upper_check.specs.Tasks.{Invocation, Body, leaf_body, upper_body, Task}
+use Rattle.upper_check.specs.declared.task.Channel.{Channel}
+use Rattle.upper_check.specs.Items.{Items, no_items, with_task, body_of, body_faults, after_task, after_item, item_faults, after_items, items_faults, tasks_of}
+use Rattle.stream_check.proofs.WellLists.{no_faults, Each, each_append, each_more, get_left}
+use Rattle.stream_check.proofs.WellValues.{wanted_fits}
+use Rattle.stream_check.proofs.WellPorts.{Ports, no_ports, ports_of, LeafFits, leaf_fits, IsNamed, Means, MeansInFile, Declares, declares_more, in_task, scope_sound, file_global}
+use Rattle.stream_check.proofs.WellUppers.{InvocationFits, UpperFits, upper_fits}
+
+abbrev pub BodyFits : List Task → Ports → Body → Type 0
+BodyFits tasks q (leaf_body l) = LeafFits q l
+BodyFits tasks q (upper_body channels invocations) = UpperFits tasks q channels invocations
+
+abbrev pub TaskFits : List Task → Task → Type 0
+TaskFits tasks t = BodyFits tasks (ports_of t.declared.parameters) t.body
+
+-- ---- more tasks
+
+invocation_more : (tasks more : List Task) (q : Ports) (c : List Channel) (i : Invocation) → InvocationFits tasks q c i → InvocationFits (tasks ++ more) q c i
+invocation_more tasks more q c i f = record { task = f.task; there = get_left tasks more i.task f.task f.there; links = f.links }
+
+body_more : (tasks more : List Task) (q : Ports) (b : Body) → BodyFits tasks q b → BodyFits (tasks ++ more) q b
+body_more tasks more q (leaf_body l) f = f
+body_more tasks more q (upper_body channels invocations) f = record {
+  depths = f.depths;
+  invocations = each_more (InvocationFits tasks q channels) (InvocationFits (tasks ++ more) q channels) (invocation_more tasks more q channels) invocations f.invocations;
+}
+
+task_more : (tasks more : List Task) (t : Task) → TaskFits tasks t → TaskFits (tasks ++ more) t
+task_more tasks more t f = body_more tasks more (ports_of t.declared.parameters) t.body f
+
+named_left : (tasks more : List Task) (x : List ℕ) (b : Bool) → b || list_any (λ (t : Task). bytes_eq t.declared.name.text x) tasks ≡ true → (list_any (λ (t : Task). bytes_eq t.declared.name.text x) tasks ≡ true → list_any (λ (t : Task). bytes_eq t.declared.name.text x) (tasks ++ more) ≡ true) → b || list_any (λ (t : Task). bytes_eq t.declared.name.text x) (tasks ++ more) ≡ true
+named_left tasks more x true h f = refl
+named_left tasks more x false h f = f h
+
+named_more : (tasks more : List Task) (x : List ℕ) → IsNamed tasks x → IsNamed (tasks ++ more) x
+named_more [] more x h = absurd (cc)
+named_more (t ∷ tasks) more x h = named_left tasks more x (bytes_eq t.declared.name.text x) h (named_more tasks more x)
+
+true_first : (a b : Bool) → a ≡ true → a || b ≡ true
+true_first a b h = rw h
+
+true_second : (a b : Bool) → b ≡ true → a || b ≡ true
+true_second true b h = refl
+true_second false b h = h
+
+named_last : (tasks : List Task) (t : Task) → IsNamed (tasks ++ t ∷ []) t.declared.name.text
+named_last [] t = true_first (bytes_eq t.declared.name.text t.declared.name.text) false ((bytes_eq-Decides t.declared.name.text t.declared.name.text).1 refl)
+named_last (u ∷ tasks) t = true_second (bytes_eq u.declared.name.text t.declared.name.text) _ (named_last tasks t)
+
+in_file_more : (tasks more : List Task) (x : List ℕ) (s : Sort) → MeansInFile tasks x s → MeansInFile (tasks ++ more) x s
+in_file_more tasks more x (sort.Constant k n) m = m
+in_file_more tasks more x (sort.Variable free k n) m = m
+in_file_more tasks more x (sort.Array free k n) m = m
+in_file_more tasks more x (sort.Memory free k n) m = m
+in_file_more tasks more x (sort.Stream writes k n) m = m
+in_file_more tasks more x (sort.Channel k n) m = m
+in_file_more tasks more x sort.Task m = named_more tasks more x m
+
+-- ---- items
+
+pub record ItemsFit (f : Items) : Type 0 where
+  pub names : Declares (MeansInFile f.tasks) f.block
+  pub tasks : Each (TaskFits f.tasks) f.tasks
+
+-- the names of a file in a task of it
+names_in : (f : Items) (t : TaskTree) → ItemsFit f → Declares (Means f.tasks t.name.text no_ports []) (with_task f.block t)
+names_in f t g = each_append (λ (d : List ℕ × Sort). Means f.tasks t.name.text no_ports [] d.0 d.1) f.block ((t.name.text, sort.Task) ∷ [])
+    (declares_more (MeansInFile f.tasks) (Means f.tasks t.name.text no_ports []) (in_task f.tasks t.name.text no_ports []) f.block g.names)
+    (inl refl, tt)
+
+body_fits : (f : Items) (t : TaskTree) (b : BodyTree) → ItemsFit f → body_faults (with_task f.block t) f.tasks t b ≡ [] → BodyFits f.tasks (ports_of t.parameters) (body_of (with_task f.block t) f.tasks t b)
+body_fits f t (tree.leaf ss) g h = leaf_fits (with_task f.block t) t ss (file_global f.tasks f.block t.name.text g.names) h
+body_fits f t (tree.upper streams invocations) g h = upper_fits (with_task f.block t) f.tasks t streams invocations (names_in f t g, (tt, tt)) h
+
+task_step : (f : Items) (t : TaskTree) → ItemsFit f → item_faults f (tree.task t) ≡ [] → ItemsFit (after_task f t)
+task_step f t g h =
+    let p = no_faults (doubled (f.block ∷ []) t.name) (body_faults (with_task f.block t) f.tasks t t.body) h in
+    let new : Task = record { declared = t; body = body_of (with_task f.block t) f.tasks t t.body } in
+    record {
+      names = each_append (λ (d : List ℕ × Sort). MeansInFile (f.tasks ++ new ∷ []) d.0 d.1) f.block ((t.name.text, sort.Task) ∷ [])
+          (declares_more (MeansInFile f.tasks) (MeansInFile (f.tasks ++ new ∷ [])) (in_file_more f.tasks (new ∷ [])) f.block g.names)
+          (named_last f.tasks new, tt);
+      tasks = each_append (TaskFits (f.tasks ++ new ∷ [])) f.tasks (new ∷ [])
+          (each_more (TaskFits f.tasks) (TaskFits (f.tasks ++ new ∷ [])) (task_more f.tasks (new ∷ [])) f.tasks g.tasks)
+          (task_more f.tasks (new ∷ []) new (body_fits f t t.body g p.1), tt);
+    }
+
+file_sound : (f : Items) → ItemsFit f → Declares (Means f.tasks [] no_ports []) f.block
+file_sound f g = declares_more (MeansInFile f.tasks) (Means f.tasks [] no_ports []) (in_task f.tasks [] no_ports []) f.block g.names
+
+item_step : (f : Items) (x : ItemTree) → ItemsFit f → item_faults f x ≡ [] → ItemsFit (after_item f x)
+item_step f (tree.constant attributes k x e) g h = record {
+  names = each_append (λ (d : List ℕ × Sort). MeansInFile f.tasks d.0 d.1) f.block ((x.text, sort.Constant k (constant_value (wanted (f.block ∷ []) k e))) ∷ [])
+      g.names (wanted_fits (f.block ∷ []) (scope_sound f.tasks [] no_ports [] (f.block ∷ []) (file_sound f g, tt)) k e, tt);
+  tasks = g.tasks;
+}
+item_step f (tree.task t) g h = task_step f t g h
+
+items_steps : (f : Items) (xs : List ItemTree) → ItemsFit f → items_faults f xs ≡ [] → ItemsFit (after_items f xs)
+items_steps f [] g h = g
+items_steps f (x ∷ xs) g h =
+    let p = no_faults (item_faults f x) (items_faults (after_item f x) xs) h in
+    items_steps (after_item f x) xs (item_step f x g p.0) p.1
+
+pub tasks_fit : (items : List ItemTree) → items_faults no_items items ≡ [] → Each (TaskFits (tasks_of items)) (tasks_of items)
+tasks_fit items h = (items_steps no_items items (record { names = tt; tasks = tt }) h).tasks
