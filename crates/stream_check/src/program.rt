@@ -1,5 +1,6 @@
-ghost use Rattle.std.specs.Prelude.{◌≡◌, map, slice_get};
+ghost use Rattle.std.specs.Prelude.{◌≡◌, map, slice_get, IfOk};
 ghost use Rattle.tapa_syntax.specs.Flat.{flat_instance, flat_program};
+ghost use Rattle.tapa_syntax.specs.WellFormed.{IsWellFormed};
 ghost use Rattle.tapa_syntax.specs.Trees as tree;
 ghost use Rattle.tapa_syntax.specs.Trees.{file_of};
 ghost use Rattle.expression_check.specs.Answers.{Answers};
@@ -94,11 +95,19 @@ fn all_levels() -> u32
     MOST_LEVELS
 }
 
-/// The flat program of a file and the name of its top task, or the first rule that is broken.
-pub fn check(alloc: Global, file: &File, top: &str) -> Result<Program, CheckFault>
+// The flat program of a file and the name of its top task, by its parts.
+fn checked(alloc: Global, file: &File, top: &str) -> Result<Program, CheckFault>
     ensures { Answers flat_program result (spec.program_faults (file_of file.now) top.now) (spec.program_of (file_of file.now) top.now) }
 {
     let tasks = check_items(alloc, &file.items)?;
     let number = place_of(&tasks, top);
     program(alloc, tasks, all_levels(), number)
+}
+
+/// The flat program of a file and the name of its top task, which is well formed, or the first rule that is broken.
+pub fn check(alloc: Global, file: &File, top: &str) -> Result<Program, CheckFault>
+    ensures means { Answers flat_program result (spec.program_faults (file_of file.now) top.now) (spec.program_of (file_of file.now) top.now) }
+    ensures well_formed { IfOk result IsWellFormed }
+{
+    checked(alloc, file, top)
 }

@@ -14,18 +14,25 @@ use Rattle.tapa_parse.specs.declared.fault.ParseCode.{ParseCode}
 use Rattle.tapa_parse.specs.declared.fault.ParseFault.TheVariants.{At, OutOfMemory}
 use Rattle.tapa_parse.specs.Answers.{Reads, Answers}
 use Rattle.tapa_parse.specs.Reading as reading
-use Rattle.tapa_drive.specs.Answer.{OfRun, OfSource, HasRun, HasStopped, HasRunPast, HasCause, HasPartOf, Leaves, tick_limit}
+use Rattle.tapa_drive.specs.Answer.{OfRun, OfSource, HasRun, HasStopped, HasRunPast, HasCause, HasPartOf, Leaves}
 use Rattle.tapa_drive.specs.Ending.{EndsSo, HasPart}
 use Rattle.tapa_drive.specs.Found.{IsNotFound, EndsFor}
 use Rattle.tapa_drive.specs.Refusal.{Reason, BadWords, Unread, Unwritten, Longer, Unfit, Endless, Blocked, NoMemory}
-use Rattle.tapa_drive.specs.Source.{StopsAt, HasTree, HasNoTree, IsProgramOf, IsRefusedSource}
-use Rattle.tapa_drive.specs.declared.source.SourceCode.TheVariants.{N1}
-use Rattle.path_check.specs.Programs.{IsPathProgram, HasNoProgram}
+use Rattle.tapa_drive.specs.Source.{StopsAt, HasTree, HasNoTree, TakesNothing, TakesSomething, IsProgramOf, IsRefusedSource}
+use Rattle.tapa_drive.specs.declared.program.SourceFault.{SourceFault}
+use Rattle.tapa_drive.specs.declared.source.SourceCode.TheVariants.{Rule}
+use Rattle.tapa_drive.specs.Refused.{IsSourceCause, not_built}
+use Rattle.tapa_syntax.specs.Flat.{flat_program}
+use Rattle.expression_check.specs.Answers as check
+use Rattle.expression_check.specs.declared.fault.Broken.{Broken}
+use Rattle.expression_check.specs.declared.fault.CheckFault.{CheckFault}
+use Rattle.expression_check.specs.declared.fault.CheckFault.TheVariants as check_fault
+use Rattle.stream_check.specs.Programs.{program_faults, program_of}
 use Rattle.tapa_drive.specs.Words.{Run, command_of}
 use Rattle.tapa_drive.specs.declared.run.RunEnd.TheVariants as run_end
 use Rattle.tapa_drive.specs.declared.top.Ended.TheVariants as ended
 use Rattle.tapa_drive.proofs.Sourced.{of_source_also}
-use Rattle.std.specs.Prelude.{Vec, IfSome, IfNone}
+use Rattle.std.specs.Prelude.{Vec, Result, IfOk, IfErr}
 use Rattle.std.specs.declared.alloc.Global.{Global}
 
 pub has_tree : (text : List ℕ) (lexemes seen : List Lexeme) (file : File) → HasLexemes text lexemes → seen ≡ lexemes → IsTreeOf (symbols_of text seen) (file_of file) × IsWithinLimits (file_of file) → HasTree text file
@@ -44,20 +51,41 @@ has_no_tree text lexemes seen place code are same reads only = record {
   stops = subst (λ (l : List Lexeme). StopsAt (symbols_of text l) place code) same reads;
 }
 
-pub program_of_tree : (text top : List ℕ) (found : Option Program) (program : Program) (file : File) → HasTree text file → found ≡ Some program → IfSome found (λ p. IsPathProgram file top p) → IsProgramOf text top program
-program_of_tree text top found program file tree is means = record { file = file; tree = tree; means = subst (λ (o : Option Program). IfSome o (λ p. IsPathProgram file top p)) is means }
+-- what the check of a file answers
+abbrev pub Checks : Result Program CheckFault → File → List ℕ → Type 0
+Checks result file top = check.Answers flat_program result (program_faults (file_of file) top) (program_of (file_of file) top)
 
-pub no_path_of_tree : (text top : List ℕ) (found : Option Program) (file : File) → HasTree text file → found ≡ None → IfNone found (HasNoProgram file top) → IsRefusedSource text top (record { line = 1; col = 1 }) N1
-no_path_of_tree text top found file tree is none = ((refl, refl), record { file = file; tree = tree; none = subst (λ (o : Option Program). IfNone o (HasNoProgram file top)) is none })
+program_of_tree : (text top : List ℕ) (program : Program) (file : File) → HasTree text file → Checks (Ok program) file top → TakesNothing (flat_program program) → IsProgramOf text top program
+program_of_tree text top program file tree means nothing = record {
+  file = file;
+  tree = tree;
+  legal = means.0;
+  means = means.1;
+  closed = subst TakesNothing means.1 nothing;
+}
 
-module _ (words : List (List ℕ)) (files : Option Files) (source top : List ℕ) (asked : command_of words ≡ Some (Run source top)) where
+needs_data : (text top : List ℕ) (program : Program) (file : File) → HasTree text file → Checks (Ok program) file top → TakesSomething (flat_program program) → IsSourceCause text top not_built
+needs_data text top program file tree means some = ((refl, refl), record { file = file; tree = tree; legal = means.0; takes = subst TakesSomething means.1 some })
+
+pub closed_found : (text top : List ℕ) (program : Program) (file : File) → HasTree text file → Checks (Ok program) file top → (r : Result Program SourceFault) → IfOk r (λ same. (same ≡ program) × TakesNothing (flat_program program)) → IfOk r (λ p. IsProgramOf text top p)
+closed_found text top program file tree means (Ok p) h = subst (λ (q : Program). IsProgramOf text top q) (sym h.0) (program_of_tree text top program file tree means h.1)
+closed_found text top program file tree means (Err fault) h = tt
+
+pub closed_refused : (text top : List ℕ) (program : Program) (file : File) → HasTree text file → Checks (Ok program) file top → (r : Result Program SourceFault) → IfErr r (λ fault. (fault ≡ not_built) × TakesSomething (flat_program program)) → IfErr r (IsSourceCause text top)
+closed_refused text top program file tree means (Ok p) h = tt
+closed_refused text top program file tree means (Err fault) h = subst (λ (f : SourceFault). IsSourceCause text top f) (sym h.0) (needs_data text top program file tree means h.1)
+
+pub breaks_first : (text top : List ℕ) (broken : Broken) (file : File) → HasTree text file → Checks (Err (check_fault.At broken)) file top → IsRefusedSource text top broken.place (Rule broken.code broken.limit)
+breaks_first text top broken file tree first = record { file = file; tree = tree; first = first }
+
+module _ (words : List (List ℕ)) (files : Option Files) (source top : List ℕ) (limit : ℕ) (asked : command_of words ≡ Some (Run source top limit)) where
   pub not_found_cause : (reads_old reads_new : List ℕ → ℕ) (writes_old writes_new : ℕ) (old new : Option (List ℕ)) (r : Reason) → IsNotFound files reads_old reads_new source top r → HasCause words files reads_old reads_new writes_old writes_new old new r
   not_found_cause reads_old reads_new writes_old writes_new old new BadWords h = absurd h
-  not_found_cause reads_old reads_new writes_old writes_new old new (Unread file) h = (source, top, asked, h)
+  not_found_cause reads_old reads_new writes_old writes_new old new (Unread file) h = (source, top, limit, asked, h)
   not_found_cause reads_old reads_new writes_old writes_new old new Unwritten h = absurd h
-  not_found_cause reads_old reads_new writes_old writes_new old new (Longer file limit) h = (source, top, asked, h)
-  not_found_cause reads_old reads_new writes_old writes_new old new (Unfit file place code) h = (source, top, asked, h)
-  not_found_cause reads_old reads_new writes_old writes_new old new (Endless limit) h = absurd h
+  not_found_cause reads_old reads_new writes_old writes_new old new (Longer file most) h = (source, top, limit, asked, h)
+  not_found_cause reads_old reads_new writes_old writes_new old new (Unfit file place code) h = (source, top, limit, asked, h)
+  not_found_cause reads_old reads_new writes_old writes_new old new (Endless most) h = absurd h
   not_found_cause reads_old reads_new writes_old writes_new old new (Blocked lines) h = absurd h
   not_found_cause reads_old reads_new writes_old writes_new old new NoMemory h = tt
 
@@ -65,24 +93,24 @@ module _ (words : List (List ℕ)) (files : Option Files) (source top : List ℕ
   not_found_leaves reads_old reads_new old BadWords h = absurd h
   not_found_leaves reads_old reads_new old (Unread file) h = refl
   not_found_leaves reads_old reads_new old Unwritten h = absurd h
-  not_found_leaves reads_old reads_new old (Longer file limit) h = refl
+  not_found_leaves reads_old reads_new old (Longer file most) h = refl
   not_found_leaves reads_old reads_new old (Unfit file place code) h = refl
-  not_found_leaves reads_old reads_new old (Endless limit) h = absurd h
+  not_found_leaves reads_old reads_new old (Endless most) h = absurd h
   not_found_leaves reads_old reads_new old (Blocked lines) h = absurd h
   not_found_leaves reads_old reads_new old NoMemory h = inl refl
 
   module _ (program : Program) (means : OfSource files source (λ text. IsProgramOf text top program)) (old new : Option (List ℕ)) where
-    pub ended_done : EndsSo program tick_limit old new run_end.Done → EndsFor words files old new ended.Done
-    ended_done e = (source, top, asked, of_source_also files source (λ text. IsProgramOf text top program) (λ text. HasRun text top old new) (λ text p. record { program = program; means = p; report = e.0; ended = e.1; shown = e.2 }) means)
+    pub ended_done : EndsSo program limit old new run_end.Done → EndsFor words files old new ended.Done
+    ended_done e = (source, top, limit, asked, of_source_also files source (λ text. IsProgramOf text top program) (λ text. HasRun text top limit old new) (λ text p. record { program = program; means = p; report = e.0; ended = e.1; shown = e.2 }) means)
 
-    pub ended_stopped : (lines : Vec (Vec ℕ Global) Global) → EndsSo program tick_limit old new (run_end.Stopped lines) → EndsFor words files old new (ended.Stopped lines)
-    ended_stopped lines e = (source, top, asked, of_source_also files source (λ text. IsProgramOf text top program) (λ text. HasStopped text top _ old new) (λ text p. record { program = program; means = p; report = e.0; stopped = e.1; shown = e.2 }) means)
+    pub ended_stopped : (lines : Vec (Vec ℕ Global) Global) → EndsSo program limit old new (run_end.Stopped lines) → EndsFor words files old new (ended.Stopped lines)
+    ended_stopped lines e = (source, top, limit, asked, of_source_also files source (λ text. IsProgramOf text top program) (λ text. HasStopped text top limit _ old new) (λ text p. record { program = program; means = p; report = e.0; stopped = e.1; shown = e.2 }) means)
 
-    pub run_past : EndsSo program tick_limit old new run_end.Limit → OfRun words (λ source top. OfSource files source (λ text. HasRunPast text top))
-    run_past e = (source, top, asked, of_source_also files source (λ text. IsProgramOf text top program) (λ text. HasRunPast text top) (λ text p. record { program = program; means = p; past = e.0 }) means)
+    pub run_past : EndsSo program limit old new run_end.Limit → OfRun words (λ source top asked. (limit ≡ asked) × OfSource files source (λ text. HasRunPast text top asked))
+    run_past e = (source, top, limit, asked, (refl, of_source_also files source (λ text. IsProgramOf text top program) (λ text. HasRunPast text top limit) (λ text p. record { program = program; means = p; past = e.0 }) means))
 
-    pub has_part : HasPart program tick_limit old new → HasPartOf words files old new
+    pub has_part : HasPart program limit old new → HasPartOf words files old new
     has_part h = elim h [
       | inl same ↦ inl same
-      | inr w ↦ inr (source, top, asked, of_source_also files source (λ text. IsProgramOf text top program) _ (λ text p. (w.0, record { program = program; means = p; is = w.1 }, w.2)) means)
+      | inr w ↦ inr (source, top, limit, asked, of_source_also files source (λ text. IsProgramOf text top program) _ (λ text p. (w.0, record { program = program; means = p; is = w.1 }, w.2)) means)
     ]

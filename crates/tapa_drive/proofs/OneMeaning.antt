@@ -14,9 +14,7 @@ use Rattle.kahn_model.proofs.Ending.{has_ended, three_ways}
 use Rattle.kahn_model.proofs.Ends.{Waits, waits}
 use Rattle.kahn_model.proofs.Standing.{stand_one_way}
 use Rattle.kahn_model.proofs.WellFormed.{program_network}
-use Rattle.path_check.proofs.WellPrograms.{path_well}
 use Rattle.run_data.specs.declared.lines.Last.TheVariants.{Done, Stopped}
-use Rattle.tapa_drive.specs.Answer.{tick_limit}
 use Rattle.tapa_drive.specs.Decided.{SourceMeaning, Ends, Stops, Exceeds, Nothing, Means}
 use Rattle.tapa_drive.specs.Run.{network, ticks_of, report_of, label_of, read_line, write_line, bad_line, IsWaitLine, AreWaitLines, RunsToEnd, StopsShort, RunsPast}
 use Rattle.tapa_drive.specs.Source.{IsProgramOf}
@@ -143,33 +141,33 @@ past_stops p limit report lines past stops = let a = past stops.count stops.stop
 
 -- ---- a source means one thing
 
-module _ (text top : List ℕ) where
+module _ (text top : List ℕ) (limit : ℕ) where
   well : (p : Program) → IsProgramOf text top p → IsWellFormed p
-  well p h = path_well h.file top p h.means
+  well p h = legal_program_well (file_of h.file) top p h.legal h.means
 
   -- what runs of programs of the source say of one of them
-  ends_here : (p q : Program) → IsProgramOf text top p → IsProgramOf text top q → (report : List ℕ) → RunsToEnd p tick_limit report → RunsToEnd q tick_limit report
-  ends_here p q h g report = ends_alike p q (one_program text top p q h g) tick_limit report
+  ends_here : (p q : Program) → IsProgramOf text top p → IsProgramOf text top q → (report : List ℕ) → RunsToEnd p limit report → RunsToEnd q limit report
+  ends_here p q h g report = ends_alike p q (one_program text top p q h g) limit report
 
-  stops_here : (p q : Program) → IsProgramOf text top p → IsProgramOf text top q → (report lines : List ℕ) → StopsShort p tick_limit report lines → StopsShort q tick_limit report lines
-  stops_here p q h g report lines = stops_alike p q (one_program text top p q h g) tick_limit report lines
+  stops_here : (p q : Program) → IsProgramOf text top p → IsProgramOf text top q → (report lines : List ℕ) → StopsShort p limit report lines → StopsShort q limit report lines
+  stops_here p q h g report lines = stops_alike p q (one_program text top p q h g) limit report lines
 
-  past_here : (p q : Program) → IsProgramOf text top p → IsProgramOf text top q → RunsPast p tick_limit → RunsPast q tick_limit
-  past_here p q h g = past_alike p q (one_program text top p q h g) tick_limit
+  past_here : (p q : Program) → IsProgramOf text top p → IsProgramOf text top q → RunsPast p limit → RunsPast q limit
+  past_here p q h g = past_alike p q (one_program text top p q h g) limit
 
-  pub means_one : (m n : SourceMeaning) → Means text top m → Means text top n → m ≡ n
-  means_one (Ends report) (Ends other) (p, h, a) (q, g, b) = ap Ends (one_report q (well q g) tick_limit report other (ends_here p q h g report a) b)
-  means_one (Ends report) (Stops other lines) (p, h, a) (q, g, b) = absurd (ends_stops q (well q g) tick_limit report other lines (ends_here p q h g report a) b)
-  means_one (Ends report) Exceeds (p, h, a) (q, g, b) = absurd (past_ends q tick_limit report b (ends_here p q h g report a))
+  pub means_one : (m n : SourceMeaning) → Means text top limit m → Means text top limit n → m ≡ n
+  means_one (Ends report) (Ends other) (p, h, a) (q, g, b) = ap Ends (one_report q (well q g) limit report other (ends_here p q h g report a) b)
+  means_one (Ends report) (Stops other lines) (p, h, a) (q, g, b) = absurd (ends_stops q (well q g) limit report other lines (ends_here p q h g report a) b)
+  means_one (Ends report) Exceeds (p, h, a) (q, g, b) = absurd (past_ends q limit report b (ends_here p q h g report a))
   means_one (Ends report) Nothing (p, h, a) none = absurd (none p h)
-  means_one (Stops report lines) (Ends other) (p, h, a) (q, g, b) = absurd (ends_stops q (well q g) tick_limit other report lines b (stops_here p q h g report lines a))
+  means_one (Stops report lines) (Ends other) (p, h, a) (q, g, b) = absurd (ends_stops q (well q g) limit other report lines b (stops_here p q h g report lines a))
   means_one (Stops report lines) (Stops other rows) (p, h, a) (q, g, b) =
-      let both = one_stop q (well q g) tick_limit report other lines rows (stops_here p q h g report lines a) b in
+      let both = one_stop q (well q g) limit report other lines rows (stops_here p q h g report lines a) b in
       ap (λ (r : List ℕ). Stops r lines) both.0 ∙ ap (Stops other) both.1
-  means_one (Stops report lines) Exceeds (p, h, a) (q, g, b) = absurd (past_stops q tick_limit report lines b (stops_here p q h g report lines a))
+  means_one (Stops report lines) Exceeds (p, h, a) (q, g, b) = absurd (past_stops q limit report lines b (stops_here p q h g report lines a))
   means_one (Stops report lines) Nothing (p, h, a) none = absurd (none p h)
-  means_one Exceeds (Ends other) (p, h, a) (q, g, b) = absurd (past_ends q tick_limit other (past_here p q h g a) b)
-  means_one Exceeds (Stops other rows) (p, h, a) (q, g, b) = absurd (past_stops q tick_limit other rows (past_here p q h g a) b)
+  means_one Exceeds (Ends other) (p, h, a) (q, g, b) = absurd (past_ends q limit other (past_here p q h g a) b)
+  means_one Exceeds (Stops other rows) (p, h, a) (q, g, b) = absurd (past_stops q limit other rows (past_here p q h g a) b)
   means_one Exceeds Exceeds a b = refl
   means_one Exceeds Nothing (p, h, a) none = absurd (none p h)
   means_one Nothing (Ends other) none (q, g, b) = absurd (none q g)
@@ -177,16 +175,16 @@ module _ (text top : List ℕ) where
   means_one Nothing Exceeds none (q, g, b) = absurd (none q g)
   means_one Nothing Nothing a b = refl
 
-  pub means_some : (p : Program) → IsProgramOf text top p → (m : SourceMeaning) × Means text top m
+  pub means_some : (p : Program) → IsProgramOf text top p → (m : SourceMeaning) × Means text top limit m
   means_some p h =
       let w = well p h in
       ⊎_elim
-      (λ (e : EndsWithin (network p) tick_limit). (Ends _, (p, h, runs_to_end p w (network p) refl e.0 (ticks_of p e.0) tick_limit refl e.2 e.1)))
-      (λ (o : StopsWithin (network p) tick_limit ⊎ GoesPast (network p) tick_limit).
+      (λ (e : EndsWithin (network p) limit). (Ends _, (p, h, runs_to_end p w (network p) refl e.0 (ticks_of p e.0) limit refl e.2 e.1)))
+      (λ (o : StopsWithin (network p) limit ⊎ GoesPast (network p) limit).
       ⊎_elim
-      (λ (s : StopsWithin (network p) tick_limit).
+      (λ (s : StopsWithin (network p) limit).
       let t = some_text (network p) (net_ok p w) s.0 s.1.ending p.streams.items 0 p.instances.items (all_inside p) in
-      (Stops _ t.0, (p, h, stops_short p w (network p) refl s.0 (ticks_of p s.0) tick_limit refl s.2 s.1 t.0 t.1)))
-      (λ (g : GoesPast (network p) tick_limit). (Exceeds, (p, h, g)))
+      (Stops _ t.0, (p, h, stops_short p w (network p) refl s.0 (ticks_of p s.0) limit refl s.2 s.1 t.0 t.1)))
+      (λ (g : GoesPast (network p) limit). (Exceeds, (p, h, g)))
       o)
-      (three_ways (network p) (net_ok p w) tick_limit)
+      (three_ways (network p) (net_ok p w) limit)

@@ -9,8 +9,7 @@ use Rattle.kahn_model.specs.Network.{Network}
 use Rattle.kahn_model.specs.Counts.{total, written, IsEnding, IsKahnStream}
 use Rattle.kahn_model.specs.Outcome.{IsDone, IsStopped}
 use Rattle.kahn_model.proofs.OneMeaning.{one_meaning}
-use Rattle.path_check.specs.Programs.{program_of}
-use Rattle.path_check.proofs.Opened.{the_same}
+use Rattle.stream_check.specs.Programs.{program_of}
 use Rattle.run_data.specs.Report.{last_line}
 use Rattle.run_data.specs.declared.lines.Last.{Last}
 use Rattle.run_data.specs.declared.lines.Last.TheVariants.{Done, Stopped}
@@ -21,7 +20,7 @@ use Rattle.tapa_drive.proofs.Sourced.{one_tree}
 pub one_program : (text top : List ℕ) (p q : Program) → IsProgramOf text top p → IsProgramOf text top q → flat_program p ≡ flat_program q
 one_program text top p q h k =
     let same = one_tree text h.file k.file h.tree k.tree in
-    the_same (flat_program p) (flat_program q) (sym h.means ∙ ap (λ (items : List ItemTree). program_of items top) same ∙ k.means)
+    h.means ∙ ap (λ (items : List ItemTree). program_of items top) same ∙ sym k.means
 
 -- ---- the same lines of waiting instances, whose labels alone are shown
 

@@ -19,5 +19,5 @@ IsNotFound files reads_old reads_new source top _ = ⊥
 
 -- a command that ended so ran the program of its source
 abbrev pub EndsFor : List (List ℕ) → Option Files → Option (List ℕ) → Option (List ℕ) → Ended → Type 0
-EndsFor words files old new Done = OfRun words (λ source top. OfSource files source (λ text. HasRun text top old new))
-EndsFor words files old new (Stopped lines) = OfRun words (λ source top. OfSource files source (λ text. HasStopped text top (joined lines.items) old new))
+EndsFor words files old new Done = OfRun words (λ source top limit. OfSource files source (λ text. HasRun text top limit old new))
+EndsFor words files old new (Stopped lines) = OfRun words (λ source top limit. OfSource files source (λ text. HasStopped text top limit (joined lines.items) old new))

@@ -10,7 +10,10 @@ use Rattle.tapa_drive.specs.declared.refusal.Refusal.{Refusal}
 use Rattle.tapa_drive.specs.declared.refusal.Refusal.TheVariants.{Usage, Read, Write, TooLong, Source, Ticks, Memory}
 
 abbrev pub command : Command → words.Command
-command (Run source top) = words.Run source.now top.now
+command (Run source top limit) = words.Run source.now top.now limit
+
+abbrev pub limit_in : Command → ℕ
+limit_in (Run source top limit) = limit
 
 -- lines one after another
 abbrev pub joined : List (Vec ℕ Global) → List ℕ

@@ -25,14 +25,14 @@ OneProgramStops = (limit : ℕ) (report lines : List ℕ) → HoldsOfEach (λ p.
 abbrev pub OneProgramGoesPast : Type 0
 OneProgramGoesPast = (limit : ℕ) → HoldsOfEach (λ p. RunsPast p limit)
 
--- a source has at most one meaning
+-- under a limit on ticks a source has at most one meaning
 abbrev pub SourcesMeanOneThing : Type 0
-SourcesMeanOneThing = (text top : List ℕ) (m n : SourceMeaning) → Means text top m → Means text top n → m ≡ n
+SourcesMeanOneThing = (text top : List ℕ) (limit : ℕ) (m n : SourceMeaning) → Means text top limit m → Means text top limit n → m ≡ n
 
 -- and where it has a program it has one
 abbrev pub SourcesMeanSomething : Type 0
-SourcesMeanSomething = (text top : List ℕ) (p : Program) → IsProgramOf text top p → (m : SourceMeaning) × Means text top m
+SourcesMeanSomething = (text top : List ℕ) (limit : ℕ) (p : Program) → IsProgramOf text top p → (m : SourceMeaning) × Means text top limit m
 
 -- where a rule refuses it it has none
 abbrev pub RefusedSourcesMeanNothing : Type 0
-RefusedSourcesMeanNothing = (text top : List ℕ) (place : Place) (code : SourceCode) → IsRefusedSource text top place code → Means text top Nothing
+RefusedSourcesMeanNothing = (text top : List ℕ) (limit : ℕ) (place : Place) (code : SourceCode) → IsRefusedSource text top place code → Means text top limit Nothing

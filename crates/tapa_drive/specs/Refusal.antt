@@ -1,8 +1,10 @@
 -- Why a command was not carried out to its end, and what is told of it.
-use Rattle.std.specs.Prelude.{ℕ, List, ◌++◌, codes, decimal}
+use Rattle.std.specs.Prelude.{ℕ, List, [], ◌++◌, Option, Some, None, codes, decimal}
 use Rattle.tapa_base.specs.declared.text.Place.{Place}
+use Rattle.expression_check.specs.declared.fault.CheckCode.{CheckCode}
+use Rattle.expression_check.specs.declared.fault.CheckCode.TheVariants.{C1, C2, C3, C4, C5, C6, C7, C8, C9, C10, C11}
 use Rattle.tapa_drive.specs.declared.source.SourceCode.{SourceCode}
-use Rattle.tapa_drive.specs.declared.source.SourceCode.TheVariants.{L1, L2, L3, L4, P1, P2, N1}
+use Rattle.tapa_drive.specs.declared.source.SourceCode.TheVariants.{L1, L2, L3, L4, P1, P2, Rule, N1}
 
 pub data Reason : Type 0 where
   -- the words are no command
@@ -21,6 +23,25 @@ pub data Reason : Type 0 where
   Blocked : (lines : List ℕ) → Reason
   NoMemory : Reason
 
+-- the code of a rule beyond the grammar, and what it says
+abbrev pub rule_text : CheckCode → List ℕ
+rule_text C1 = codes "C1 unknown name"
+rule_text C2 = codes "C2 doubled name"
+rule_text C3 = codes "C3 wrong kind"
+rule_text C4 = codes "C4 stream without exactly one producer"
+rule_text C5 = codes "C5 stream without exactly one consumer"
+rule_text C6 = codes "C6 nonblocking operation"
+rule_text C7 = codes "C7 memory without exactly one instance"
+rule_text C8 = codes "C8 operation in a conditional place"
+rule_text C9 = codes "C9 divisor"
+rule_text C10 = codes "C10 task invokes itself"
+rule_text C11 = codes "C11 over the limit"
+
+-- the greatest number that a limit allows
+abbrev pub limit_text : Option ℕ → List ℕ
+limit_text None = []
+limit_text (Some limit) = codes " of " ++ decimal limit
+
 -- the code of a rule, and what it says
 abbrev pub code_text : SourceCode → List ℕ
 code_text L1 = codes "L1 byte outside the profile"
@@ -29,6 +50,7 @@ code_text L3 = codes "L3 bad number"
 code_text L4 = codes "L4 refused line"
 code_text P1 = codes "P1 unexpected token"
 code_text P2 = codes "P2 nested too deep"
+code_text (Rule code limit) = rule_text code ++ limit_text limit
 code_text N1 = codes "N1 not built yet"
 
 -- the lines that tell it

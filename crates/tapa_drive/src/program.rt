@@ -1,18 +1,20 @@
 // From the bytes of a source to its flat program.
-ghost use Rattle.std.specs.Prelude.{◌≡◌, ◌<◌, ◌-◌, ◌^◌, [], length, IfOk, IfErr};
+ghost use Rattle.std.specs.Prelude.{◌≡◌, ◌<◌, ◌-◌, ◌^◌, ℕ, List, [], length, IfOk, IfErr};
+ghost use Rattle.tapa_syntax.specs.Flat.{flat_program};
 ghost use Rattle.tapa_syntax.specs.WellFormed.{IsWellFormed};
 ghost use Rattle.kahn_model.specs.Fits.{FitsInput};
-ghost use Rattle.tapa_drive.specs.Refused.{IsSourceCause};
+ghost use Rattle.tapa_drive.specs.Refused.{IsSourceCause, not_built};
 ghost use Rattle.tapa_drive.specs.Codes.{lex_code, parse_code};
-ghost use Rattle.tapa_drive.specs.Source.{IsProgramOf};
+ghost use Rattle.tapa_drive.specs.Source.{HasTree, IsProgramOf, TakesNothing, TakesSomething};
 
 use crate::SourceCode;
-use path_check::path_program;
+use expression_check::CheckFault;
 use std::alloc::Global;
+use stream_check::check;
 use tapa_base::Place;
 use tapa_lex::{LexCode, LexFault, lex};
 use tapa_parse::{ParseCode, ParseFault, parse};
-use tapa_syntax::Program;
+use tapa_syntax::{File, Program};
 
 /// Why a source has no program: the rule that it breaks and where, or want of memory.
 #[derive(Clone, Copy, Debug, PartialEq, Eq)]
@@ -41,13 +43,11 @@ fn of_parser(code: ParseCode) -> SourceCode
     }
 }
 
-/// The flat program of a source whose top task is `top`, or the first rule that the source breaks.
-pub fn read_program(alloc: Global, text: &[u8], top: &str) -> Result<Program, SourceFault>
+// The tree of a text, or where it is refused.
+fn read_tree(alloc: Global, text: &[u8]) -> Result<File, SourceFault>
     requires { length text.now < 2 ^ 32 - 1 }
-    ensures found { IfOk result (λ program. IsProgramOf text.now top.now program) }
-    ensures well_formed { IfOk result (λ program. IsWellFormed program) }
-    ensures closed { IfOk result (λ program. FitsInput program [] []) }
-    ensures refused { IfErr result (IsSourceCause text.now top.now) }
+    ensures found { IfOk result (HasTree text.now) }
+    ensures refused { (top : List ℕ) → IfErr result (IsSourceCause text.now top) }
 {
     let lexemes = match lex(alloc, text) {
         Ok(lexemes) => lexemes,
@@ -57,23 +57,55 @@ pub fn read_program(alloc: Global, text: &[u8], top: &str) -> Result<Program, So
         }
         Err(LexFault::OutOfMemory) => return Err(SourceFault::OutOfMemory),
     };
-    let file = match parse(alloc, &lexemes, text) {
-        Ok(file) => file,
+    match parse(alloc, &lexemes, text) {
+        Ok(file) => Ok(file),
         Err(ParseFault::At { code, place }) => {
             let code = of_parser(code);
-            return Err(SourceFault::At { code, place });
+            Err(SourceFault::At { code, place })
         }
-        Err(ParseFault::OutOfMemory) => return Err(SourceFault::OutOfMemory),
-    };
-    let found = match path_program(alloc, &file, top) {
-        Ok(found) => found,
-        Err(_) => return Err(SourceFault::OutOfMemory),
-    };
-    match found {
-        Some(program) => Ok(program),
-        None => Err(SourceFault::At {
-            code: SourceCode::N1,
-            place: Place { line: 1, col: 1 },
-        }),
+        Err(ParseFault::OutOfMemory) => Err(SourceFault::OutOfMemory),
     }
+}
+
+// A program whose top task has no parameters, until data files are read.
+fn closed(program: Program) -> Result<Program, SourceFault>
+    ensures found { IfOk result (λ same. (same ≡ program) × TakesNothing (flat_program program)) }
+    ensures refused { IfErr result (λ fault. (fault ≡ not_built) × TakesSomething (flat_program program)) }
+{
+    if program.scalars.is_empty() && program.memories.is_empty() {
+        return Ok(program);
+    }
+    Err(SourceFault::At {
+        code: SourceCode::N1,
+        place: Place { line: 1, col: 1 },
+    })
+}
+
+/// The flat program of a source whose top task is `top`, or the first rule that the source breaks.
+pub fn read_program(alloc: Global, text: &[u8], top: &str) -> Result<Program, SourceFault>
+    requires { length text.now < 2 ^ 32 - 1 }
+    ensures found { IfOk result (λ program. IsProgramOf text.now top.now program) }
+    ensures well_formed { IfOk result (λ program. IsWellFormed program) }
+    ensures closed { IfOk result (λ program. FitsInput program [] []) }
+    ensures refused { IfErr result (IsSourceCause text.now top.now) }
+{
+    let file = match read_tree(alloc, text) {
+        Ok(file) => file,
+        Err(fault) => return Err(fault),
+    };
+    let program = match check(alloc, &file, top) {
+        Ok(program) => program,
+        Err(CheckFault::At(broken)) => {
+            let code = SourceCode::Rule {
+                code: broken.code,
+                limit: broken.limit,
+            };
+            return Err(SourceFault::At {
+                code,
+                place: broken.place,
+            });
+        }
+        Err(CheckFault::OutOfMemory) => return Err(SourceFault::OutOfMemory),
+    };
+    closed(program)
 }

@@ -68,7 +68,7 @@ impl Refusal<'_> {
             Refusal::Source { file, place, code } => {
                 let line = place.line;
                 let col = place.col;
-                let text = code.text();
+                let text = code.text(alloc)?;
                 Ok(format!(in alloc; "tapa: {file}:{line}:{col}: {text}\n")?)
             }
             Refusal::Ticks { limit } => Ok(format!(in alloc; "tapa: more than {limit} ticks\n")?),

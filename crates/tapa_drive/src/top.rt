@@ -2,7 +2,7 @@ ghost use Rattle.std.specs.Prelude.{◌≡◌, ◌≢◌, ◌⊎◌, ◌≤◌, 
 ghost use Rattle.tapa_base.specs.Outside.{Rose};
 ghost use Rattle.tapa_syntax.specs.WellFormed.{IsWellFormed};
 ghost use Rattle.kahn_model.specs.Fits.{FitsInput};
-ghost use Rattle.tapa_drive.specs.Words.{texts, command_of, Run};
+ghost use Rattle.tapa_drive.specs.Words.{texts, command_of, most_limit, Run};
 ghost use Rattle.tapa_drive.specs.Meaning.{reason};
 ghost use Rattle.tapa_drive.specs.Refusal.{Reason};
 ghost use Rattle.tapa_drive.specs.Answer.{OfRun, OfSource, HasRun, HasCause, Leaves};
@@ -20,8 +20,6 @@ use tapa_base::{PrintFault, Shelf, Sink, TakeFault, take_file};
 use tapa_syntax::Program;
 
 const SOURCE_LIMIT: u64 = 262_144;
-
-const TICK_LIMIT: u64 = 100_000_000;
 
 /// How a command ended that no step refused.
 #[derive(Drop)]
@@ -67,15 +65,17 @@ fn run_source<'a, S: Shelf, O: Sink>(
     alloc: Global,
     source: &'a str,
     top: &str,
+    limit: u64,
     shelf: &mut S,
     out: &mut O,
 ) -> Result<Ended, Refusal<'a>>
-    ensures ended { (words : List (List ℕ)) → command_of words ≡ Some (Run source.now top.now) →
+    requires { limit ≤ most_limit }
+    ensures ended { (words : List (List ℕ)) → command_of words ≡ Some (Run source.now top.now limit) →
         IfOk result (EndsFor words (S.files shelf.old) (O.contents out.old) (O.contents out.new)) }
-    ensures cause { (words : List (List ℕ)) → command_of words ≡ Some (Run source.now top.now) →
+    ensures cause { (words : List (List ℕ)) → command_of words ≡ Some (Run source.now top.now limit) →
         IfErr result (λ refusal. HasCause words (S.files shelf.old) (S.faults shelf.old) (S.faults shelf.new)
         (O.faults out.old) (O.faults out.new) (O.contents out.old) (O.contents out.new) (reason refusal)) }
-    ensures leaves { (words : List (List ℕ)) → command_of words ≡ Some (Run source.now top.now) →
+    ensures leaves { (words : List (List ℕ)) → command_of words ≡ Some (Run source.now top.now limit) →
         IfErr result (λ refusal. Leaves words (S.files shelf.old) (O.contents out.old) (O.contents out.new) (reason refusal)) }
     ensures later { O.faults out.old ≤ O.faults out.new }
 {
@@ -83,7 +83,7 @@ fn run_source<'a, S: Shelf, O: Sink>(
         Ok(program) => program,
         Err(refusal) => return Err(refusal),
     };
-    let end = match run_program(alloc, program, TICK_LIMIT, out) {
+    let end = match run_program(alloc, program, limit, out) {
         Ok(end) => end,
         Err(PrintFault::WriteFault) => return Err(Refusal::Write),
         Err(PrintFault::OutOfMemory) => return Err(Refusal::Memory),
@@ -91,7 +91,7 @@ fn run_source<'a, S: Shelf, O: Sink>(
     match end {
         RunEnd::Done => Ok(Ended::Done),
         RunEnd::Stopped { lines } => Ok(Ended::Stopped { lines }),
-        RunEnd::Limit => Err(Refusal::Ticks { limit: TICK_LIMIT }),
+        RunEnd::Limit => Err(Refusal::Ticks { limit }),
     }
 }
 
@@ -113,7 +113,7 @@ fn carry_out<'a, S: Shelf, O: Sink>(
         None => return Err(Refusal::Usage),
     };
     match command {
-        Command::Run { source, top } => run_source(alloc, source, top, shelf, out),
+        Command::Run { source, top, limit } => { run_source(alloc, source, top, limit, shelf, out) }
     }
 }
 
@@ -125,7 +125,7 @@ fn answer<S: Shelf, O: Sink, E: Sink>(
     out: &mut O,
     err: &mut E,
 ) -> Status
-    ensures ok { result ≡ Status.Ok → OfRun (texts words.now) (λ source top. OfSource (S.files shelf.old) source (λ text. HasRun text top (O.contents out.old) (O.contents out.new))) }
+    ensures ok { result ≡ Status.Ok → OfRun (texts words.now) (λ source top limit. OfSource (S.files shelf.old) source (λ text. HasRun text top limit (O.contents out.old) (O.contents out.new))) }
     ensures ok_err { result ≡ Status.Ok → err.new ≡ err.old }
     ensures told { result ≢ Status.Ok → (told : Reason) × IsToldAs told result (E.contents err.old) (E.contents err.new) (E.faults err.old) (E.faults err.new)
         × HasCause (texts words.now) (S.files shelf.old) (S.faults shelf.old) (S.faults shelf.new) (O.faults out.old) (O.faults out.new) (O.contents out.old) (O.contents out.new) told
@@ -147,7 +147,7 @@ pub fn tapa<S: Shelf, O: Sink, E: Sink>(
     err: &mut E,
 ) -> Status
     // Every instance of the source's program has ended, and the report of the whole Kahn streams is written.
-    ensures ok { result ≡ Status.Ok → OfRun (texts words.now) (λ source top. OfSource (S.files shelf.old) source (λ text. HasRun text top (O.contents out.old) (O.contents out.new))) }
+    ensures ok { result ≡ Status.Ok → OfRun (texts words.now) (λ source top limit. OfSource (S.files shelf.old) source (λ text. HasRun text top limit (O.contents out.old) (O.contents out.new))) }
     ensures ok_err { result ≡ Status.Ok → err.new ≡ err.old }
     // Each other status tells its reason, which has its cause and leaves the output so.
     ensures told { result ≢ Status.Ok → (told : Reason) × IsToldAs told result (E.contents err.old) (E.contents err.new) (E.faults err.old) (E.faults err.new)
@@ -155,11 +155,11 @@ pub fn tapa<S: Shelf, O: Sink, E: Sink>(
         × Leaves (texts words.now) (S.files shelf.old) (O.contents out.old) (O.contents out.new) told }
     // Where the files are told and nothing outside fails, the answer tells what the source means, and the report is
     // written whole: or memory ran out.
-    ensures decided { (source top : List ℕ) → command_of (texts words.now) ≡ Some (Run source top) → (meaning : SourceMeaning) → Expects (S.files shelf.old) source top meaning →
+    ensures decided { (source top : List ℕ) (limit : ℕ) → command_of (texts words.now) ≡ Some (Run source top limit) → (meaning : SourceMeaning) → Expects (S.files shelf.old) source top limit meaning →
         IsStill source (S.faults shelf.old) (S.faults shelf.new) (O.faults out.old) (O.faults out.new) (E.faults err.old) (E.faults err.new) →
-        Tells meaning result (O.contents out.old) (O.contents out.new) (E.contents err.old) (E.contents err.new) ⊎ (result ≡ Status.Memory) }
+        Tells limit meaning result (O.contents out.old) (O.contents out.new) (E.contents err.old) (E.contents err.new) ⊎ (result ≡ Status.Memory) }
     // The same where the source has more bytes than it may, and where the words are no command.
-    ensures lengthy { (source top : List ℕ) → command_of (texts words.now) ≡ Some (Run source top) → IsLengthy (S.files shelf.old) source →
+    ensures lengthy { (source top : List ℕ) (limit : ℕ) → command_of (texts words.now) ≡ Some (Run source top limit) → IsLengthy (S.files shelf.old) source →
         IsStill source (S.faults shelf.old) (S.faults shelf.new) (O.faults out.old) (O.faults out.new) (E.faults err.old) (E.faults err.new) →
         ((result ≡ Status.Limit) × (O.contents out.new ≡ O.contents out.old)) ⊎ (result ≡ Status.Memory) }
     ensures usage { command_of (texts words.now) ≡ None → (Rose (O.faults out.old) (O.faults out.new) → ⊥) → (Rose (E.faults err.old) (E.faults err.new) → ⊥) →

@@ -1,34 +1,12 @@
+use crate::programs::{
+    BAD_TOKEN, CASTS, ENDLESS, ENDS, FEEDBACK, INT_ENDS, INT_STOPS, LITERALS, NESTED, NESTED_PATH,
+    PATH, STOPS, TOO_DEEP, TRANSACTIONS, TWO_CONSUMERS, TWO_PRODUCERS,
+};
 use std::alloc::Global;
+use std::process::Abort;
 use std::test::Fail;
 use tapa_base::{MemShelf, MemSink};
 use tapa_drive::{Status, tapa};
-
-const PATH: &str =
-    "void P(tapa::ostream<uint64_t>& q) { for (uint64_t i = 0; i < 3; ++i) { q << i + 5; } }
-void C(tapa::istream<uint64_t>& q, tapa::ostream<uint64_t>& r) {
-  for (uint64_t j = 0; j < 3; ++j) { r << q.read() + 1; } }
-void D(tapa::istream<uint64_t>& r) { for (uint64_t k = 0; k < 3; ++k) { uint64_t x = r.read(); } }
-void T() { tapa::stream<uint64_t> q; tapa::stream<uint64_t> r;
-  tapa::task().invoke(P, q).invoke(C, q, r).invoke(D, r); }
-";
-
-const STOPS: &str =
-    "void A(tapa::ostream<uint64_t>& s1, tapa::ostream<uint64_t>& s2) { s1 << 1; s1 << 2; s2 << 3; }
-void B(tapa::istream<uint64_t>& s1, tapa::istream<uint64_t>& s2) { s2.read(); s1.read(); s1.read(); }
-void T() { tapa::stream<uint64_t, 1> s1; tapa::stream<uint64_t, 1> s2; tapa::task().invoke(A, s1, s2).invoke(B, s1, s2); }
-";
-
-const ENDS: &str =
-    "void A(tapa::ostream<uint64_t>& s1, tapa::ostream<uint64_t>& s2) { s1 << 1; s1 << 2; s2 << 3; }
-void B(tapa::istream<uint64_t>& s1, tapa::istream<uint64_t>& s2) { s2.read(); s1.read(); s1.read(); }
-void T() { tapa::stream<uint64_t, 2> s1; tapa::stream<uint64_t, 1> s2; tapa::task().invoke(A, s1, s2).invoke(B, s1, s2); }
-";
-
-const LOOPS: &str =
-    "void A(tapa::istream<uint64_t>& in, tapa::ostream<uint64_t>& out) { out << 5; in.read(); }
-void B(tapa::istream<uint64_t>& in, tapa::ostream<uint64_t>& out) { out << in.read() + 1; }
-void T() { tapa::stream<uint64_t> x; tapa::stream<uint64_t> y; tapa::task().invoke(A, y, x).invoke(B, x, y); }
-";
 
 // What a command answers, and what it wrote.
 #[derive(Drop)]
@@ -75,32 +53,10 @@ fn plainly(alloc: Global, source: &[u8], words: &[&str]) -> Result<Answer, Fail>
     )
 }
 
-// Programs that run: each with its status, its report and what is told.
-#[test]
-fn programs_run(rt: HostRuntime) -> Result<(), Fail> {
-    let alloc = rt.alloc();
-    let rows = [
-        (
-            PATH,
-            Status::Ok,
-            "stream q: 5 6 7\nstream r: 6 7 8\ndone 42\n",
-            "",
-        ),
-        (
-            STOPS,
-            Status::Stopped,
-            "stream s1: 1\nstream s2:\nstopped 1\n",
-            "tapa: A$0 waits to write s1\ntapa: B$1 waits to read s2\n",
-        ),
-        (
-            ENDS,
-            Status::Ok,
-            "stream s1: 1 2\nstream s2: 3\ndone 8\n",
-            "",
-        ),
-        (LOOPS, Status::Ok, "stream x: 5\nstream y: 6\ndone 6\n", ""),
-    ];
-    for (source, status, out, err) in rows {
+// Each of these programs has this status, its report, and what is told.
+fn run_so(rt: &impl Abort, alloc: Global, rows: &[(&str, Status, &str, &str)]) -> Result<(), Fail> {
+    for row in rows {
+        let (source, status, out, err) = *row;
         let said = plainly(alloc, source.as_bytes(), &["run", "r.cpp", "T"])?;
         assert_eq!(rt; said.status, status);
         assert_eq!(rt; said.out.bytes(), out.as_bytes());
@@ -109,10 +65,73 @@ fn programs_run(rt: HostRuntime) -> Result<(), Fail> {
     Ok(())
 }
 
-// Sources that are refused, with the line that is told; nothing is written.
+// Streams that cross, at depths that are enough and at such that are not.
 #[test]
-fn sources_are_refused(rt: HostRuntime) -> Result<(), Fail> {
-    let alloc = rt.alloc();
+fn depths_decide(rt: HostRuntime) -> Result<(), Fail> {
+    let stopped = "stream s1: 1\nstream s2:\nstopped 1\n";
+    let waits = "tapa: A$0 waits to write s1\ntapa: B$1 waits to read s2\n";
+    let done = "stream s1: 1 2\nstream s2: 3\ndone 8\n";
+    let rows = [
+        (STOPS, Status::Stopped, stopped, waits),
+        (ENDS, Status::Ok, done, ""),
+        (INT_STOPS, Status::Stopped, stopped, waits),
+        (INT_ENDS, Status::Ok, done, ""),
+    ];
+    run_so(&rt, rt.alloc(), &rows)
+}
+
+// Chains, a loop of tasks, and tasks in tasks.
+#[test]
+fn networks_run(rt: HostRuntime) -> Result<(), Fail> {
+    let path = "stream q: 5 6 7\nstream r: 6 7 8\ndone 42\n";
+    let feedback = "stream x: 5\nstream y: 6\ndone 6\n";
+    let nested = "stream y: 8\nstream U$0$x: 4\ndone 7\n";
+    let rows = [
+        (PATH, Status::Ok, path, ""),
+        (FEEDBACK, Status::Ok, feedback, ""),
+        (NESTED, Status::Ok, nested, ""),
+        (NESTED_PATH, Status::Ok, nested, ""),
+    ];
+    run_so(&rt, rt.alloc(), &rows)
+}
+
+// Values of all kinds, and ends of transactions.
+#[test]
+fn values_are_carried(rt: HostRuntime) -> Result<(), Fail> {
+    let casts = "stream a: 0\nstream b: 128 2147483648\ndone 11\n";
+    let literals = "stream a: 1099511627776 0 0 4294967296\ndone 20\n";
+    let transactions = "stream q: 7 eot 8 9 eot\nstream r: 7 17\ndone 38\n";
+    let bad = "stream q: eot\nstopped 2\n";
+    let rows = [
+        (CASTS, Status::Ok, casts, ""),
+        (LITERALS, Status::Ok, literals, ""),
+        (TRANSACTIONS, Status::Ok, transactions, ""),
+        (
+            BAD_TOKEN,
+            Status::Stopped,
+            bad,
+            "tapa: C$1 bad token on q\n",
+        ),
+    ];
+    run_so(&rt, rt.alloc(), &rows)
+}
+
+// Each of these sources is refused with the line beside it; nothing is written.
+fn are_refused(rt: &impl Abort, alloc: Global, rows: &[(&str, &str)]) -> Result<(), Fail> {
+    for row in rows {
+        let (source, line) = *row;
+        let said = plainly(alloc, source.as_bytes(), &["run", "r.cpp", "T"])?;
+        let told = format!(in alloc; "tapa: r.cpp:{line}\n")?;
+        assert_eq!(rt; said.status, Status::Source);
+        assert_eq!(rt; said.out.bytes(), b"".as_slice());
+        assert_eq!(rt; said.err.bytes(), told.as_bytes());
+    }
+    Ok(())
+}
+
+// Texts that have no tree.
+#[test]
+fn texts_are_refused(rt: HostRuntime) -> Result<(), Fail> {
     let rows = [
         ("/* x", "1:1: L2 open comment or string"),
         ("void P(", "1:8: P1 unexpected token"),
@@ -124,18 +143,105 @@ fn sources_are_refused(rt: HostRuntime) -> Result<(), Fail> {
             "void F(tapa::ostream<char>& q) { }",
             "1:22: P1 unexpected token",
         ),
-        ("void T() { int x = 1; }", "1:1: N1 not built yet"),
+    ];
+    are_refused(&rt, rt.alloc(), &rows)
+}
+
+// Names and kinds that break a rule, and a top task that is none.
+#[test]
+fn names_are_told(rt: HostRuntime) -> Result<(), Fail> {
+    let rows = [
+        ("void F() { }", "1:1: C1 unknown name"),
+        ("void T() { int x = 1; }", "1:6: C3 wrong kind"),
         (
             "void F() { } void U() { tapa::task().invoke(F); }",
+            "1:1: C1 unknown name",
+        ),
+        (
+            "void F(tapa::istream<int>& q) { int q = 0; }",
+            "1:37: C2 doubled name",
+        ),
+        (
+            "void C(tapa::istream<int>& q) { int x = 0; q.try_read(x); }",
+            "1:46: C6 nonblocking operation",
+        ),
+        (
+            "void F(tapa::istream<int>& q) { bool b = true && q.eot(nullptr); }",
+            "1:52: C8 operation in a conditional place",
+        ),
+        ("void F() { int x = 1 / 0; }", "1:22: C9 divisor"),
+    ];
+    are_refused(&rt, rt.alloc(), &rows)
+}
+
+// Streams, memories and invocations that break a rule, and programs that need data.
+#[test]
+fn bindings_are_told(rt: HostRuntime) -> Result<(), Fail> {
+    let rows = [
+        (
+            TWO_PRODUCERS,
+            "4:21: C4 stream without exactly one producer",
+        ),
+        (
+            TWO_CONSUMERS,
+            "4:21: C5 stream without exactly one consumer",
+        ),
+        (
+            "void F() { }\nvoid T(tapa::mmap<int> a) { tapa::task().invoke(F); }",
+            "2:24: C7 memory without exactly one instance",
+        ),
+        (
+            "void T() { tapa::task().invoke(T); }",
+            "1:32: C10 task invokes itself",
+        ),
+        (TOO_DEEP, "4:21: C11 over the limit of 4096"),
+        (
+            "void F() { } void T(int n) { tapa::task().invoke(F); }",
+            "1:1: N1 not built yet",
+        ),
+        (
+            "void F(tapa::mmap<int> a) { } void T(tapa::mmap<int> a) { tapa::task().invoke(F, a); }",
             "1:1: N1 not built yet",
         ),
     ];
-    for (source, line) in rows {
-        let said = plainly(alloc, source.as_bytes(), &["run", "r.cpp", "T"])?;
-        let told = format!(in alloc; "tapa: r.cpp:{line}\n")?;
-        assert_eq!(rt; said.status, Status::Source);
+    are_refused(&rt, rt.alloc(), &rows)
+}
+
+// A run that has more ticks than its words allow.
+#[test]
+fn ticks_are_counted(rt: HostRuntime) -> Result<(), Fail> {
+    let alloc = rt.alloc();
+    for (limit, number) in [("1000", "1000"), ("1", "1"), ("0001", "1")] {
+        let words = ["run", "r.cpp", "T", "--steps", limit];
+        let said = plainly(alloc, ENDLESS.as_bytes(), &words)?;
+        let told = format!(in alloc; "tapa: more than {number} ticks\n")?;
+        assert_eq!(rt; said.status, Status::Limit);
         assert_eq!(rt; said.out.bytes(), b"".as_slice());
         assert_eq!(rt; said.err.bytes(), told.as_bytes());
+    }
+    Ok(())
+}
+
+// Numbers of ticks that are enough or not, and words that are no such number.
+#[test]
+fn steps_are_read(rt: HostRuntime) -> Result<(), Fail> {
+    let alloc = rt.alloc();
+    for (limit, status) in [
+        ("42", Status::Ok),
+        ("41", Status::Limit),
+        ("1000000000000", Status::Ok),
+        ("0000000000000000042", Status::Ok),
+        ("00000000000000000042", Status::Usage),
+        ("1000000000001", Status::Usage),
+        ("0", Status::Usage),
+        ("", Status::Usage),
+        ("+42", Status::Usage),
+        ("-1", Status::Usage),
+        ("4x", Status::Usage),
+    ] {
+        let words = ["run", "r.cpp", "T", "--steps", limit];
+        let said = plainly(alloc, PATH.as_bytes(), &words)?;
+        assert_eq!(rt; said.status, status);
     }
     Ok(())
 }
@@ -145,8 +251,16 @@ fn sources_are_refused(rt: HostRuntime) -> Result<(), Fail> {
 fn commands_are_refused(rt: HostRuntime) -> Result<(), Fail> {
     let alloc = rt.alloc();
     let usage = "tapa: usage: tapa build|run|cosim|plan|gen\n";
-    for words in [["run", "r.cpp", "--x"], ["walk", "r.cpp", "T"]] {
-        let said = plainly(alloc, PATH.as_bytes(), &words)?;
+    let all: [&[&str]; 6] = [
+        &["run", "r.cpp", "--x"],
+        &["walk", "r.cpp", "T"],
+        &["run", "r.cpp"],
+        &["run", "r.cpp", "T", "--steps"],
+        &["run", "r.cpp", "T", "--stop", "9"],
+        &["run", "r.cpp", "T", "--steps", "9", "--steps", "9"],
+    ];
+    for words in all {
+        let said = plainly(alloc, PATH.as_bytes(), words)?;
         assert_eq!(rt; said.status, Status::Usage);
         assert_eq!(rt; said.err.bytes(), usage.as_bytes());
     }
