@@ -2,4 +2,8 @@
 #![tactic(auto)]
 
 #[cfg(test)]
+mod probes;
+#[cfg(test)]
+mod programs;
+#[cfg(test)]
 mod tests;

@@ -1,67 +1,19 @@
 ghost use Rattle.std.specs.Prelude.{◌≤◌, length};
 
+use crate::probes::{OPERATORS, STATEMENTS};
+use crate::programs::{
+    BAD_TOKEN, CROSSING_ENDS, CROSSING_STOPS, FEEDBACK, GIVEN_NUMBERS, LEVELS, LOOKS_FOR_EOT, MIX,
+    NESTED_TRANSACTIONS, NO_TRANSACTION, PATH, PEEKS, RING, SELF_LOOP, STARVED, TRANSACTIONS,
+};
 use kahn_model::rounds::streams;
 use kahn_model::slow::{Variables, trace};
 use run_data::{Last, report_last, report_stream};
 use std::alloc::{AllocError, Global};
 use std::test::Fail;
 use tapa_base::{MemSink, Token};
-use tapa_drive::{RunEnd, read_program, run_program};
-use tapa_syntax::{Leaf, Program};
-
-const PATH: &str =
-    "void P(tapa::ostream<uint64_t>& q) { for (uint64_t i = 0; i < 3; ++i) { q << i + 5; } }
-void C(tapa::istream<uint64_t>& q, tapa::ostream<uint64_t>& r) {
-  for (uint64_t j = 0; j < 3; ++j) { r << q.read() + 1; } }
-void D(tapa::istream<uint64_t>& r) { for (uint64_t k = 0; k < 3; ++k) { uint64_t x = r.read(); } }
-void T() { tapa::stream<uint64_t> q; tapa::stream<uint64_t> r;
-  tapa::task().invoke(P, q).invoke(C, q, r).invoke(D, r); }
-";
-
-const CROSSING_ENDS: &str =
-    "void A(tapa::ostream<uint64_t>& s1, tapa::ostream<uint64_t>& s2) { s1 << 1; s1 << 2; s2 << 3; }
-void B(tapa::istream<uint64_t>& s1, tapa::istream<uint64_t>& s2) { s2.read(); s1.read(); s1.read(); }
-void T() { tapa::stream<uint64_t, 2> s1; tapa::stream<uint64_t, 1> s2; tapa::task().invoke(A, s1, s2).invoke(B, s1, s2); }
-";
-
-const CROSSING_STOPS: &str =
-    "void A(tapa::ostream<uint64_t>& s1, tapa::ostream<uint64_t>& s2) { s1 << 1; s1 << 2; s2 << 3; }
-void B(tapa::istream<uint64_t>& s1, tapa::istream<uint64_t>& s2) { s2.read(); s1.read(); s1.read(); }
-void T() { tapa::stream<uint64_t, 1> s1; tapa::stream<uint64_t, 1> s2; tapa::task().invoke(A, s1, s2).invoke(B, s1, s2); }
-";
-
-const FEEDBACK: &str =
-    "void A(tapa::istream<uint64_t>& in, tapa::ostream<uint64_t>& out) { out << 5; in.read(); }
-void B(tapa::istream<uint64_t>& in, tapa::ostream<uint64_t>& out) { out << in.read() + 1; }
-void T() { tapa::stream<uint64_t> x; tapa::stream<uint64_t> y; tapa::task().invoke(A, y, x).invoke(B, x, y); }
-";
-
-const MIX: &str = "void Deal(tapa::ostream<uint64_t>& a, tapa::ostream<uint64_t>& b) {
-  uint64_t t = 3; for (uint64_t i = 0; i < 5; ++i) { a << t; t = t + i; b.write(t + 7); } }
-void Mix(tapa::istream<uint64_t>& a, tapa::istream<uint64_t>& b, tapa::ostream<uint64_t>& c) {
-  for (uint64_t i = 0; i < 5; ++i) { c << a.read() + b.read(); } }
-void Keep(tapa::istream<uint64_t>& c) { for (uint64_t i = 0; i < 4; ++i) { c.read(); } uint64_t last = c.read(); }
-void T() { tapa::stream<uint64_t, 1> a; tapa::stream<uint64_t, 3> b; tapa::stream<uint64_t> c;
-  tapa::task().invoke(Deal, a, b).invoke(Mix, a, b, c).invoke(Keep, c); }
-";
-
-const RING: &str = "void Start(tapa::istream<uint64_t>& back, tapa::ostream<uint64_t>& on) {
-  on << 1; for (uint64_t i = 0; i < 6; ++i) { uint64_t x = back.read(); on << x + 2; } back.read(); }
-void Pass(tapa::istream<uint64_t>& in, tapa::ostream<uint64_t>& out) {
-  for (uint64_t i = 0; i < 7; ++i) { out << in.read() + 1; } }
-void T() { tapa::stream<uint64_t, 1> on; tapa::stream<uint64_t, 1> mid; tapa::stream<uint64_t, 1> back;
-  tapa::task().invoke(Start, back, on).invoke(Pass, on, mid).invoke(Pass, mid, back); }
-";
-
-const STARVED: &str = "void Two(tapa::ostream<uint64_t>& a, tapa::ostream<uint64_t>& b) {
-  for (uint64_t i = 0; i < 3; ++i) { a << i; } for (uint64_t j = 0; j < 3; ++j) { b << j + 10; } }
-void Swap(tapa::istream<uint64_t>& a, tapa::istream<uint64_t>& b, tapa::ostream<uint64_t>& c, tapa::ostream<uint64_t>& d) {
-  for (uint64_t i = 0; i < 3; ++i) { d << a.read(); c << b.read() + 1; } }
-void Join(tapa::istream<uint64_t>& c, tapa::istream<uint64_t>& d) {
-  for (uint64_t i = 0; i < 4; ++i) { c.read(); d.read(); } }
-void T() { tapa::stream<uint64_t, 2> a; tapa::stream<uint64_t> b; tapa::stream<uint64_t> c; tapa::stream<uint64_t> d;
-  tapa::task().invoke(Two, a, b).invoke(Swap, a, b, c, d).invoke(Join, c, d); }
-";
+use program_run::{RunEnd, run_program};
+use tapa_drive::{read_input, read_program};
+use tapa_syntax::{Bound, Instance, Leaf, Program};
 
 // More rounds than any of these programs needs.
 const ROUNDS: u64 = 24;
@@ -74,10 +26,21 @@ fn short(text: &str) -> &[u8]
     if bytes.len() <= 4096 { bytes } else { &[] }
 }
 
-fn first_state(alloc: Global, leaf: &Leaf) -> Result<Variables, AllocError> {
+// The variables of an instance before its first tick: zeros, and the numbers that its scalar parameters are given.
+fn first_state(alloc: Global, leaf: &Leaf, instance: &Instance) -> Result<Variables, AllocError> {
+    let mut vars = vec![in alloc; 0; leaf.vars.len()]?;
+    for (x, bound) in leaf.scalars.iter().zip(&instance.scalars) {
+        if let (Bound::Number(number), Some(var)) = (bound, vars.get_mut(*x as usize)) {
+            *var = *number;
+        }
+    }
+    let mut arrays = Vec::new(alloc);
+    for array in &leaf.arrays {
+        arrays.push(vec![in alloc; 0; array.cells as usize]?)?;
+    }
     Ok(Variables {
-        vars: vec![in alloc; 0; leaf.vars.len()]?,
-        arrays: Vec::new(alloc),
+        vars,
+        arrays,
         cells: Vec::new(alloc),
     })
 }
@@ -87,7 +50,7 @@ fn ticks_in_all(alloc: Global, program: &Program, lists: &[Vec<Token>]) -> Resul
     let mut total: u64 = 0;
     for instance in &program.instances {
         if let Some(leaf) = program.bodies.get(instance.body as usize) {
-            let state = first_state(alloc, leaf)?;
+            let state = first_state(alloc, leaf, instance)?;
             let (ticks, _mark) = trace(alloc, leaf, &instance.streams, state, ROUNDS, lists)?;
             total = total.saturating_add(ticks.len() as u64);
         }
@@ -112,15 +75,69 @@ fn slow_report(alloc: Global, text: &str) -> Result<MemSink, Fail> {
 fn run_report(alloc: Global, text: &str) -> Result<(bool, MemSink), Fail> {
     let program = read_program(alloc, short(text), "T")?;
     let mut out = MemSink::new(alloc, 4096, Vec::new(alloc))?;
-    let end = run_program(alloc, program, 100_000, &mut out)?;
+    let Ok(input) = read_input(alloc, &program, b"{}", "{}") else {
+        return Ok((false, out));
+    };
+    let end = run_program(alloc, program, input, 100_000, &mut out)?;
     Ok((matches!(end, RunEnd::Done), out))
+}
+
+// A program of a task with this body, which writes a stream of this kind, and one that reads it to its end.
+fn with_body(alloc: Global, kind: &str, body: &str) -> Result<String, Fail> {
+    let mut text = String::new(alloc);
+    for part in [
+        "void P(tapa::ostream<",
+        kind,
+        ">& q) { ",
+        body,
+        " q.close(); }\nvoid C(tapa::istream<",
+        kind,
+        ">& q) { TAPA_WHILE_NOT_EOT(q) { q.read(); } q.open(); }\nvoid T() { tapa::stream<",
+        kind,
+        "> q(\"q\"); tapa::task().invoke(P, q).invoke(C, q); }\n",
+    ] {
+        text.push_str(part)?;
+    }
+    Ok(text)
+}
+
+// Each small body runs to its end; its report is that of the whole Kahn stream and of the traces on it, and shows the
+// tokens that stand beside it.
+#[test]
+fn small_bodies_are_the_rounds(rt: HostRuntime) -> Result<(), Fail> {
+    let alloc = rt.alloc();
+    for (kind, body, tokens) in OPERATORS.iter().chain(&STATEMENTS) {
+        let text = with_body(alloc, kind, body)?;
+        let slow = slow_report(alloc, &text)?;
+        let (ended, out) = run_report(alloc, &text)?;
+        assert!(rt; ended);
+        assert_eq!(rt; out.bytes(), slow.bytes());
+        let mut line = String::from_str(alloc, "stream q: ")?;
+        line.push_str(tokens)?;
+        line.push_str(" eot\n")?;
+        assert!(rt; out.bytes().starts_with(line.as_bytes()));
+    }
+    Ok(())
 }
 
 // Where a run ends, its report is that of the whole Kahn streams and of the traces on them.
 #[test]
 fn ended_runs_are_the_rounds(rt: HostRuntime) -> Result<(), Fail> {
     let alloc = rt.alloc();
-    for text in [PATH, CROSSING_ENDS, FEEDBACK, MIX, RING] {
+    for text in [
+        PATH,
+        CROSSING_ENDS,
+        FEEDBACK,
+        MIX,
+        RING,
+        PEEKS,
+        LOOKS_FOR_EOT,
+        TRANSACTIONS,
+        NESTED_TRANSACTIONS,
+        SELF_LOOP,
+        GIVEN_NUMBERS,
+        LEVELS,
+    ] {
         let slow = slow_report(alloc, text)?;
         let (ended, out) = run_report(alloc, text)?;
         assert!(rt; ended);
@@ -133,7 +150,12 @@ fn ended_runs_are_the_rounds(rt: HostRuntime) -> Result<(), Fail> {
 #[test]
 fn stopped_runs_are_front_parts(rt: HostRuntime) -> Result<(), Fail> {
     let alloc = rt.alloc();
-    for (text, count) in [(CROSSING_STOPS, 2), (STARVED, 4)] {
+    for (text, count) in [
+        (CROSSING_STOPS, 2),
+        (STARVED, 4),
+        (BAD_TOKEN, 2),
+        (NO_TRANSACTION, 1),
+    ] {
         let slow = slow_report(alloc, text)?;
         let (ended, out) = run_report(alloc, text)?;
         assert!(rt; !ended);

@@ -1,38 +1,33 @@
 -- A source has one meaning: where its program lies in memory is no matter.
 use Rattle.std.specs.Prelude.{◌≡◌, ℕ, List}
+use Rattle.tapa_base.specs.declared.text.Place.{Place}
 use Rattle.tapa_syntax.specs.declared.program.Program.{Program}
 use Rattle.tapa_syntax.specs.Flat.{flat_program}
-use Rattle.tapa_base.specs.declared.text.Place.{Place}
-use Rattle.tapa_drive.specs.declared.source.SourceCode.{SourceCode}
-use Rattle.tapa_drive.specs.Decided.{SourceMeaning, Nothing, Means}
-use Rattle.tapa_drive.specs.Run.{RunsToEnd, StopsShort, RunsPast}
+use Rattle.program_run.specs.Laws.{RunMeaning}
+use Rattle.program_run.specs.Run.{Values}
+use Rattle.tapa_drive.specs.Answer.{IsAsked}
+use Rattle.tapa_drive.specs.Decided.{SourceMeaning, Ran, Nothing, Given, Bytes, Means}
 use Rattle.tapa_drive.specs.Source.{IsProgramOf, IsRefusedSource}
-
--- what holds of one program of a source, of any other
-abbrev pub HoldsOfEach : (Program → Type 0) → Type 0
-HoldsOfEach P = (text top : List ℕ) (p q : Program) → IsProgramOf text top p → IsProgramOf text top q → P p → P q
+use Rattle.tapa_drive.specs.declared.source.SourceCode.{SourceCode}
 
 -- the programs of a source are one as plain data
 abbrev pub SourcesHaveOneProgram : Type 0
 SourcesHaveOneProgram = (text top : List ℕ) (p q : Program) → IsProgramOf text top p → IsProgramOf text top q → flat_program p ≡ flat_program q
 
-abbrev pub OneProgramEnds : Type 0
-OneProgramEnds = (limit : ℕ) (report : List ℕ) → HoldsOfEach (λ p. RunsToEnd p limit report)
+-- data give the programs of a source the same values
+abbrev pub SourcesHaveOneInput : Type 0
+SourcesHaveOneInput = (text top bytes : List ℕ) (p q : Program) (v w : Values) → IsAsked text top bytes p v → IsAsked text top bytes q w → v ≡ w
 
-abbrev pub OneProgramStops : Type 0
-OneProgramStops = (limit : ℕ) (report lines : List ℕ) → HoldsOfEach (λ p. StopsShort p limit report lines)
-
-abbrev pub OneProgramGoesPast : Type 0
-OneProgramGoesPast = (limit : ℕ) → HoldsOfEach (λ p. RunsPast p limit)
-
--- under a limit on ticks a source has at most one meaning
+-- with data and under a limit on ticks a source has at most one meaning
 abbrev pub SourcesMeanOneThing : Type 0
-SourcesMeanOneThing = (text top : List ℕ) (limit : ℕ) (m n : SourceMeaning) → Means text top limit m → Means text top limit n → m ≡ n
+SourcesMeanOneThing = (text top : List ℕ) (given : Given) (limit : ℕ) (m n : SourceMeaning) → Means text top given limit m → Means text top given limit n → m ≡ n
 
--- and where it has a program it has one
+-- and where it has a program to which the data give values it runs in some way
 abbrev pub SourcesMeanSomething : Type 0
-SourcesMeanSomething = (text top : List ℕ) (limit : ℕ) (p : Program) → IsProgramOf text top p → (m : SourceMeaning) × Means text top limit m
+SourcesMeanSomething =
+    (text top bytes : List ℕ) (limit : ℕ) (p : Program) (v : Values) → IsAsked text top bytes p v → (how : RunMeaning) × Means text top (Bytes bytes) limit (Ran how)
 
--- where a rule refuses it it has none
+-- where a rule refuses it it means nothing
 abbrev pub RefusedSourcesMeanNothing : Type 0
-RefusedSourcesMeanNothing = (text top : List ℕ) (limit : ℕ) (place : Place) (code : SourceCode) → IsRefusedSource text top place code → Means text top limit Nothing
+RefusedSourcesMeanNothing =
+    (text top : List ℕ) (given : Given) (limit : ℕ) (place : Place) (code : SourceCode) → IsRefusedSource text top place code → Means text top given limit Nothing

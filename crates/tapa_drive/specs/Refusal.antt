@@ -4,7 +4,13 @@ use Rattle.tapa_base.specs.declared.text.Place.{Place}
 use Rattle.expression_check.specs.declared.fault.CheckCode.{CheckCode}
 use Rattle.expression_check.specs.declared.fault.CheckCode.TheVariants.{C1, C2, C3, C4, C5, C6, C7, C8, C9, C10, C11}
 use Rattle.tapa_drive.specs.declared.source.SourceCode.{SourceCode}
-use Rattle.tapa_drive.specs.declared.source.SourceCode.TheVariants.{L1, L2, L3, L4, P1, P2, Rule, N1}
+use Rattle.tapa_drive.specs.declared.source.SourceCode.TheVariants.{L1, L2, L3, L4, P1, P2, Rule}
+use Rattle.run_data.specs.Data.{Fault, Misshapen, Misfit, Oversized}
+
+-- what is wrong with data: the text is no JSON, or it has this fault
+pub data DataFault : Type 0 where
+  NotJson : DataFault
+  Faulty : (fault : Fault) → DataFault
 
 pub data Reason : Type 0 where
   -- the words are no command
@@ -17,6 +23,8 @@ pub data Reason : Type 0 where
   Longer : (file : List ℕ) (limit : ℕ) → Reason
   -- a source breaks a rule
   Unfit : (file : List ℕ) (place : Place) (code : SourceCode) → Reason
+  -- data are not what the program asks for
+  UnfitData : (file : List ℕ) (fault : DataFault) → Reason
   -- a run makes more ticks than its limit, or never ends
   Endless : (limit : ℕ) → Reason
   -- a run stopped, and these lines tell what its instances wait for
@@ -51,7 +59,13 @@ code_text L4 = codes "L4 refused line"
 code_text P1 = codes "P1 unexpected token"
 code_text P2 = codes "P2 nested too deep"
 code_text (Rule code limit) = rule_text code ++ limit_text limit
-code_text N1 = codes "N1 not built yet"
+
+-- the code of a fault of data, and its key
+abbrev pub data_text : DataFault → List ℕ
+data_text NotJson = codes "J1"
+data_text (Faulty (Misshapen key)) = codes "J2 " ++ key
+data_text (Faulty (Misfit key)) = codes "J3 " ++ key
+data_text (Faulty (Oversized key)) = codes "J4 " ++ key
 
 -- the lines that tell it
 abbrev pub message_of : Reason → List ℕ
@@ -61,6 +75,7 @@ message_of Unwritten = codes "tapa: cannot write\n"
 message_of (Longer file limit) = codes "tapa: " ++ (file ++ (codes " is longer than " ++ (decimal limit ++ codes " bytes\n")))
 message_of (Unfit file place code) =
     codes "tapa: " ++ (file ++ (codes ":" ++ (decimal place.line ++ (codes ":" ++ (decimal place.col ++ (codes ": " ++ (code_text code ++ codes "\n")))))))
+message_of (UnfitData file fault) = codes "tapa: " ++ (file ++ (codes ": " ++ (data_text fault ++ codes "\n")))
 message_of (Endless limit) = codes "tapa: more than " ++ (decimal limit ++ codes " ticks\n")
 message_of (Blocked lines) = lines
 message_of NoMemory = codes "tapa: out of memory\n"

@@ -1,11 +1,11 @@
 -- The program of a source, and where a source is refused.
-use Rattle.std.specs.Prelude.{◌≡◌, ◌≢◌, ◌⊎◌, ℕ, List, [], Ok, Err}
+use Rattle.std.specs.Prelude.{◌≡◌, ℕ, List, [], Err}
 use Rattle.tapa_base.specs.declared.text.Place.{Place}
 use Rattle.tapa_syntax.specs.declared.lexeme.Lexeme.{Lexeme}
 use Rattle.tapa_syntax.specs.declared.program.Program.{Program}
 use Rattle.tapa_syntax.specs.declared.tree.File.{File}
 use Rattle.tapa_syntax.specs.Lexemes.{HasLexemes}
-use Rattle.tapa_syntax.specs.Flat.{FlatProgram, flat_program}
+use Rattle.tapa_syntax.specs.Flat.{flat_program}
 use Rattle.tapa_syntax.specs.Grammar.{IsTreeOf}
 use Rattle.tapa_syntax.specs.Limits.{most_levels, most_operators, IsWithinLimits}
 use Rattle.tapa_syntax.specs.Symbols.{Symbol, symbols_of}
@@ -20,7 +20,7 @@ use Rattle.expression_check.specs.Answers.{IsFirst}
 use Rattle.expression_check.specs.declared.fault.Broken.{Broken}
 use Rattle.stream_check.specs.Programs.{program_faults, program_of}
 use Rattle.tapa_drive.specs.declared.source.SourceCode.{SourceCode}
-use Rattle.tapa_drive.specs.declared.source.SourceCode.TheVariants.{L1, L2, L3, L4, P1, P2, Rule, N1}
+use Rattle.tapa_drive.specs.declared.source.SourceCode.TheVariants.{L1, L2, L3, L4, P1, P2, Rule}
 
 -- the text has lexemes, and this is the file that the grammar has for them, within the limits
 pub record HasTree (text : List ℕ) (file : File) : Type 0 where
@@ -29,22 +29,12 @@ pub record HasTree (text : List ℕ) (file : File) : Type 0 where
   pub spelled : IsTreeOf (symbols_of text lexemes) (file_of file)
   pub within : IsWithinLimits (file_of file)
 
--- its top task has no parameters
-abbrev pub TakesNothing : FlatProgram → Type 0
-TakesNothing program = (program.scalars ≡ []) × (program.memories ≡ [])
-
--- its top task has a scalar or a memory
-abbrev pub TakesSomething : FlatProgram → Type 0
-TakesSomething program = (program.scalars ≢ []) ⊎ (program.memories ≢ [])
-
--- the flat program of a text and the name of its top task: the file breaks no rule and means this program, which takes
--- nothing
+-- the flat program of a text and the name of its top task: the file breaks no rule and means this program
 pub record IsProgramOf (text top : List ℕ) (program : Program) : Type 0 where
   pub file : File
   pub tree : HasTree text file
   pub legal : program_faults (file_of file) top ≡ []
   pub means : flat_program program ≡ program_of (file_of file) top
-  pub closed : TakesNothing (program_of (file_of file) top)
 
 -- reading the symbols from left to right stops at this place, with this code
 abbrev pub StopsAt : List Symbol → Place → ParseCode → Type 0
@@ -63,17 +53,6 @@ pub record BreaksFirst (text top : List ℕ) (broken : Broken) : Type 0 where
   pub tree : HasTree text file
   pub first : IsFirst (program_faults (file_of file) top) broken
 
--- the text has a tree that breaks no rule with this top task, which takes something
-pub record NeedsData (text top : List ℕ) : Type 0 where
-  pub file : File
-  pub tree : HasTree text file
-  pub legal : program_faults (file_of file) top ≡ []
-  pub takes : TakesSomething (program_of (file_of file) top)
-
--- the first line, the first column
-abbrev pub IsFirstPlace : Place → Type 0
-IsFirstPlace place = (place.line ≡ 1) × (place.col ≡ 1)
-
 -- the text is refused at this place by this rule
 abbrev pub IsRefusedSource : List ℕ → List ℕ → Place → SourceCode → Type 0
 IsRefusedSource text top place L1 = IsRefused text lex.L1 place
@@ -83,7 +62,6 @@ IsRefusedSource text top place L4 = IsRefused text lex.L4 place
 IsRefusedSource text top place P1 = HasNoTree text place parse.P1
 IsRefusedSource text top place P2 = HasNoTree text place parse.P2
 IsRefusedSource text top place (Rule code limit) = BreaksFirst text top (record { code = code; place = place; limit = limit })
-IsRefusedSource text top place N1 = IsFirstPlace place × NeedsData text top
 
 -- the source means no program
 abbrev pub MeansNothing : List ℕ → List ℕ → Type 0

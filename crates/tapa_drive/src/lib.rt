@@ -1,25 +1,19 @@
-//! The top call: the words of a command, the file that they name, the program that it means, its run and the report.
+//! The top call: the words of a command, the files that they name, the program and the input that these mean, its run and
+//! the report.
 #![tactic(auto)]
 
+mod files;
+mod inputs;
 pub mod laws;
 mod program;
 mod refusal;
-mod run;
-mod shown;
 mod source;
-mod start;
 mod status;
 mod top;
-mod waits;
-mod words;
 
+pub use inputs::{read_input, shape};
 pub use program::{SourceFault, read_program};
 pub use refusal::{Refusal, tell, tell_stopped};
-pub use run::{RunEnd, run_program};
-pub use shown::show;
 pub use source::SourceCode;
-pub use start::coroutines;
 pub use status::Status;
 pub use top::{Ended, tapa};
-pub use waits::wait_lines;
-pub use words::{Command, read_words};

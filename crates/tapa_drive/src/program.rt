@@ -1,13 +1,11 @@
 // From the bytes of a source to its flat program.
-ghost use Rattle.std.specs.Prelude.{◌≡◌, ◌<◌, ◌-◌, ◌^◌, ℕ, List, [], length, IfOk, IfErr};
-ghost use Rattle.tapa_syntax.specs.Flat.{flat_program};
+ghost use Rattle.std.specs.Prelude.{◌≡◌, ◌<◌, ◌-◌, ◌^◌, ℕ, List, length, IfOk, IfErr};
 ghost use Rattle.tapa_syntax.specs.WellFormed.{IsWellFormed};
-ghost use Rattle.kahn_model.specs.Fits.{FitsInput};
-ghost use Rattle.tapa_drive.specs.Refused.{IsSourceCause, not_built};
+ghost use Rattle.tapa_drive.specs.Refused.{IsSourceCause};
 ghost use Rattle.tapa_drive.specs.Codes.{lex_code, parse_code};
-ghost use Rattle.tapa_drive.specs.Source.{HasTree, IsProgramOf, TakesNothing, TakesSomething};
+ghost use Rattle.tapa_drive.specs.Source.{HasTree, IsProgramOf};
 
-use crate::SourceCode;
+use crate::source::SourceCode;
 use expression_check::CheckFault;
 use std::alloc::Global;
 use stream_check::check;
@@ -67,45 +65,29 @@ fn read_tree(alloc: Global, text: &[u8]) -> Result<File, SourceFault>
     }
 }
 
-// A program whose top task has no parameters, until data files are read.
-fn closed(program: Program) -> Result<Program, SourceFault>
-    ensures found { IfOk result (λ same. (same ≡ program) × TakesNothing (flat_program program)) }
-    ensures refused { IfErr result (λ fault. (fault ≡ not_built) × TakesSomething (flat_program program)) }
-{
-    if program.scalars.is_empty() && program.memories.is_empty() {
-        return Ok(program);
-    }
-    Err(SourceFault::At {
-        code: SourceCode::N1,
-        place: Place { line: 1, col: 1 },
-    })
-}
-
 /// The flat program of a source whose top task is `top`, or the first rule that the source breaks.
 pub fn read_program(alloc: Global, text: &[u8], top: &str) -> Result<Program, SourceFault>
     requires { length text.now < 2 ^ 32 - 1 }
     ensures found { IfOk result (λ program. IsProgramOf text.now top.now program) }
     ensures well_formed { IfOk result (λ program. IsWellFormed program) }
-    ensures closed { IfOk result (λ program. FitsInput program [] []) }
     ensures refused { IfErr result (IsSourceCause text.now top.now) }
 {
     let file = match read_tree(alloc, text) {
         Ok(file) => file,
         Err(fault) => return Err(fault),
     };
-    let program = match check(alloc, &file, top) {
-        Ok(program) => program,
+    match check(alloc, &file, top) {
+        Ok(program) => Ok(program),
         Err(CheckFault::At(broken)) => {
             let code = SourceCode::Rule {
                 code: broken.code,
                 limit: broken.limit,
             };
-            return Err(SourceFault::At {
+            Err(SourceFault::At {
                 code,
                 place: broken.place,
-            });
+            })
         }
-        Err(CheckFault::OutOfMemory) => return Err(SourceFault::OutOfMemory),
-    };
-    closed(program)
+        Err(CheckFault::OutOfMemory) => Err(SourceFault::OutOfMemory),
+    }
 }

@@ -1,17 +1,20 @@
-ghost use Rattle.std.specs.Prelude.{◌≡◌, ◌≤◌, ◌⊎◌, IfOk, OnOk, OnErr, string_bytes};
+ghost use Rattle.std.specs.Prelude.{◌≡◌, ◌≤◌, ◌⊎◌, ◌++◌, codes, IfOk, OnOk, OnErr};
 ghost use Rattle.std.specs.Io.KnownBytes.{Appends};
 ghost use Rattle.tapa_base.specs.Outside.{AppendsPart, Rose};
-ghost use Rattle.tapa_drive.specs.Meaning.{reason, joined};
+ghost use Rattle.program_run.specs.Ending.{joined};
+ghost use Rattle.tapa_drive.specs.Meaning.{reason, data_reason};
 ghost use Rattle.tapa_drive.specs.Told.{IsToldAs};
 ghost use Rattle.tapa_drive.specs.Refusal.{NoMemory, Blocked, message_of};
 ghost use Rattle.tapa_drive.specs.Status.{status_of};
 
-use crate::{SourceCode, Status};
+use crate::source::SourceCode;
+use crate::status::Status;
+use run_data::DataFault;
 use std::alloc::Global;
 use tapa_base::{OutOfMemory, Place, Sink, WriteFault, put_all};
 
 /// Why a command was not carried out to its end.
-#[derive(Clone, Copy, Debug)]
+#[derive(Drop)]
 pub enum Refusal<'a> {
     Usage,
     Read {
@@ -27,6 +30,11 @@ pub enum Refusal<'a> {
         file: &'a str,
         place: Place,
         code: SourceCode,
+    },
+    /// What is wrong with the data, or want of memory in its place.
+    Data {
+        file: &'a str,
+        fault: DataFault,
     },
     /// The run makes more ticks than this, or never ends.
     Ticks {
@@ -49,31 +57,63 @@ impl Refusal<'_> {
             Refusal::Write => Status::Write,
             Refusal::TooLong { .. } => Status::Limit,
             Refusal::Source { .. } => Status::Source,
+            Refusal::Data { fault, .. } => match fault {
+                DataFault::OutOfMemory => Status::Memory,
+                _ => Status::Data,
+            },
             Refusal::Ticks { .. } => Status::Limit,
             Refusal::Memory => Status::Memory,
         }
     }
 
     /// The line that tells it.
-    pub fn line(&self, alloc: Global) -> Result<String, OutOfMemory>
-        ensures { IfOk result (λ line. string_bytes line ≡ message_of (reason self.now)) }
+    pub fn line(&self, alloc: Global) -> Result<Vec<u8>, OutOfMemory>
+        ensures { IfOk result (λ line. line.items ≡ message_of (reason self.now)) }
     {
-        match self {
-            Refusal::Usage => Ok(String::from_str(alloc, USAGE)?),
-            Refusal::Read { file } => Ok(format!(in alloc; "tapa: cannot read {file}\n")?),
-            Refusal::Write => Ok(String::from_str(alloc, "tapa: cannot write\n")?),
+        let line = match self {
+            Refusal::Usage => String::from_str(alloc, USAGE)?,
+            Refusal::Read { file } => format!(in alloc; "tapa: cannot read {file}\n")?,
+            Refusal::Write => String::from_str(alloc, "tapa: cannot write\n")?,
             Refusal::TooLong { file, limit } => {
-                Ok(format!(in alloc; "tapa: {file} is longer than {limit} bytes\n")?)
+                format!(in alloc; "tapa: {file} is longer than {limit} bytes\n")?
             }
             Refusal::Source { file, place, code } => {
                 let line = place.line;
                 let col = place.col;
                 let text = code.text(alloc)?;
-                Ok(format!(in alloc; "tapa: {file}:{line}:{col}: {text}\n")?)
+                format!(in alloc; "tapa: {file}:{line}:{col}: {text}\n")?
             }
-            Refusal::Ticks { limit } => Ok(format!(in alloc; "tapa: more than {limit} ticks\n")?),
-            Refusal::Memory => Ok(String::from_str(alloc, NO_MEMORY)?),
-        }
+            Refusal::Data { file, fault } => return data_line(alloc, file, fault),
+            Refusal::Ticks { limit } => format!(in alloc; "tapa: more than {limit} ticks\n")?,
+            Refusal::Memory => String::from_str(alloc, NO_MEMORY)?,
+        };
+        Ok(line.into_bytes())
+    }
+}
+
+// A line: a file, a code and a key.
+fn key_line(alloc: Global, file: &str, code: &[u8], key: &[u8]) -> Result<Vec<u8>, OutOfMemory>
+    ensures { IfOk result (λ line. line.items ≡ codes "tapa: " ++ (file.now ++ (codes ": " ++ ((code.now ++ key.now) ++ codes "\n")))) }
+{
+    let mut line = Vec::from_slice(alloc, b"tapa: ")?;
+    line.extend_from_slice(file.as_bytes())?;
+    line.extend_from_slice(b": ")?;
+    line.extend_from_slice(code)?;
+    line.extend_from_slice(key)?;
+    line.push(b'\n')?;
+    Ok(line)
+}
+
+// The line that tells a fault of data.
+fn data_line(alloc: Global, file: &str, fault: &DataFault) -> Result<Vec<u8>, OutOfMemory>
+    ensures { IfOk result (λ line. line.items ≡ message_of (data_reason file.now fault.now)) }
+{
+    match fault {
+        DataFault::J1 => key_line(alloc, file, b"J1", b""),
+        DataFault::J2(key) => key_line(alloc, file, b"J2 ", key),
+        DataFault::J3(key) => key_line(alloc, file, b"J3 ", key),
+        DataFault::J4(key) => key_line(alloc, file, b"J4 ", key),
+        DataFault::OutOfMemory => Ok(Vec::from_slice(alloc, NO_MEMORY.as_bytes())?),
     }
 }
 
@@ -108,7 +148,7 @@ pub fn tell<E: Sink>(alloc: Global, refusal: &Refusal<'_>, err: &mut E) -> Statu
     ensures later { E.faults err.old ≤ E.faults err.new }
 {
     match refusal.line(alloc) {
-        Ok(line) => match put_all(err, line.as_bytes()) {
+        Ok(line) => match put_all(err, &line) {
             Ok(()) => refusal.status(),
             Err(_) => Status::Write,
         },

@@ -16,7 +16,6 @@ pub enum SourceCode {
     P2,
     /// A rule beyond the grammar; for a limit with the greatest number that is allowed.
     Rule { code: CheckCode, limit: Option<u32> },
-    N1,
 }
 
 fn text_of_rule(code: CheckCode) -> &'static str
@@ -56,7 +55,6 @@ impl SourceCode {
                     Some(limit) => Ok(format!(in alloc; "{rule} of {limit}")?),
                 }
             }
-            SourceCode::N1 => Ok(String::from_str(alloc, "N1 not built yet")?),
         }
     }
 }

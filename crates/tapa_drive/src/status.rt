@@ -10,6 +10,8 @@ pub enum Status {
     Source,
     /// The words are no command.
     Usage,
+    /// A file of data is not what the program asks for.
+    Data,
     /// A file could not be read.
     Read,
     /// Standard output or standard error could not be written to.
@@ -31,6 +33,7 @@ impl Status {
             Status::Ok => 0,
             Status::Source => 1,
             Status::Usage => 2,
+            Status::Data => 3,
             Status::Read => 5,
             Status::Write => 6,
             Status::Limit => 7,

@@ -1,25 +1,20 @@
-ghost use Rattle.std.specs.Prelude.{◌≡◌, ◌≢◌, ◌⊎◌, ◌≤◌, ℕ, List, [], Some, None, IfOk, IfErr};
+ghost use Rattle.std.specs.Prelude.{◌≡◌, ◌≢◌, ◌⊎◌, ◌≤◌, ℕ, List, Option, Some, None, IfOk, IfErr, option_map};
 ghost use Rattle.tapa_base.specs.Outside.{Rose};
-ghost use Rattle.tapa_syntax.specs.WellFormed.{IsWellFormed};
-ghost use Rattle.kahn_model.specs.Fits.{FitsInput};
-ghost use Rattle.tapa_drive.specs.Words.{texts, command_of, most_limit, Run};
+ghost use Rattle.command_words.specs.Words.{texts, command_of, most_limit, Run};
 ghost use Rattle.tapa_drive.specs.Meaning.{reason};
 ghost use Rattle.tapa_drive.specs.Refusal.{Reason};
-ghost use Rattle.tapa_drive.specs.Answer.{OfRun, OfSource, HasRun, HasCause, Leaves};
-ghost use Rattle.tapa_drive.specs.Found.{IsNotFound, EndsFor};
-ghost use Rattle.tapa_drive.specs.Source.{IsProgramOf};
+ghost use Rattle.tapa_drive.specs.Answer.{IsRun, HasCause, Leaves};
+ghost use Rattle.tapa_drive.specs.Found.{EndsFor};
 ghost use Rattle.tapa_drive.specs.Told.{IsToldAs};
 ghost use Rattle.tapa_drive.specs.Decided.{SourceMeaning, Expects, IsLengthy, IsStill, Tells};
 
-use crate::{
-    Command, Refusal, RunEnd, SourceFault, Status, read_program, read_words, run_program, tell,
-    tell_stopped,
-};
+use crate::files::{read_source, read_values};
+use crate::refusal::{Refusal, tell, tell_stopped};
+use crate::status::Status;
+use command_words::{Command, WordsFault, read_words};
+use program_run::{RunEnd, run_program};
 use std::alloc::Global;
-use tapa_base::{PrintFault, Shelf, Sink, TakeFault, take_file};
-use tapa_syntax::Program;
-
-const SOURCE_LIMIT: u64 = 262_144;
+use tapa_base::{PrintFault, Shelf, Sink};
 
 /// How a command ended that no step refused.
 #[derive(Drop)]
@@ -28,54 +23,23 @@ pub enum Ended {
     Stopped { lines: Vec<Vec<u8>> },
 }
 
-// The program of a source on a shelf.
-fn read_source<'a, S: Shelf>(
-    alloc: Global,
-    source: &'a str,
-    top: &str,
-    shelf: &mut S,
-) -> Result<Program, Refusal<'a>>
-    ensures found { IfOk result (λ program. OfSource (S.files shelf.old) source.now (λ text. IsProgramOf text top.now program)) }
-    ensures well_formed { IfOk result (λ program. IsWellFormed program) }
-    ensures closed { IfOk result (λ program. FitsInput program [] []) }
-    ensures refused { IfErr result (λ refusal. IsNotFound (S.files shelf.old) (S.faults shelf.old) (S.faults shelf.new) source.now top.now (reason refusal)) }
-{
-    let text = match take_file(alloc, shelf, source, SOURCE_LIMIT) {
-        Ok(text) => text,
-        Err(TakeFault::ReadFault) => return Err(Refusal::Read { file: source }),
-        Err(TakeFault::TooLong { limit }) => return Err(Refusal::TooLong {
-            file: source,
-            limit,
-        }),
-        Err(TakeFault::OutOfMemory) => return Err(Refusal::Memory),
-    };
-    match read_program(alloc, &text, top) {
-        Ok(program) => Ok(program),
-        Err(SourceFault::At { code, place }) => Err(Refusal::Source {
-            file: source,
-            place,
-            code,
-        }),
-        Err(SourceFault::OutOfMemory) => Err(Refusal::Memory),
-    }
-}
-
-// Runs the program of a source on a shelf, up to the first step that refuses.
+// Runs the program of a source on its data, up to the first step that refuses.
 fn run_source<'a, S: Shelf, O: Sink>(
     alloc: Global,
     source: &'a str,
     top: &str,
+    named: Option<&'a str>,
     limit: u64,
     shelf: &mut S,
     out: &mut O,
 ) -> Result<Ended, Refusal<'a>>
     requires { limit ≤ most_limit }
-    ensures ended { (words : List (List ℕ)) → command_of words ≡ Some (Run source.now top.now limit) →
+    ensures ended { (words : List (List ℕ)) → command_of words ≡ Some (Run source.now top.now (option_map (λ file. file.now) named) limit) →
         IfOk result (EndsFor words (S.files shelf.old) (O.contents out.old) (O.contents out.new)) }
-    ensures cause { (words : List (List ℕ)) → command_of words ≡ Some (Run source.now top.now limit) →
+    ensures cause { (words : List (List ℕ)) → command_of words ≡ Some (Run source.now top.now (option_map (λ file. file.now) named) limit) →
         IfErr result (λ refusal. HasCause words (S.files shelf.old) (S.faults shelf.old) (S.faults shelf.new)
         (O.faults out.old) (O.faults out.new) (O.contents out.old) (O.contents out.new) (reason refusal)) }
-    ensures leaves { (words : List (List ℕ)) → command_of words ≡ Some (Run source.now top.now limit) →
+    ensures leaves { (words : List (List ℕ)) → command_of words ≡ Some (Run source.now top.now (option_map (λ file. file.now) named) limit) →
         IfErr result (λ refusal. Leaves words (S.files shelf.old) (O.contents out.old) (O.contents out.new) (reason refusal)) }
     ensures later { O.faults out.old ≤ O.faults out.new }
 {
@@ -83,7 +47,11 @@ fn run_source<'a, S: Shelf, O: Sink>(
         Ok(program) => program,
         Err(refusal) => return Err(refusal),
     };
-    let end = match run_program(alloc, program, limit, out) {
+    let input = match read_values(alloc, &program, named, shelf) {
+        Ok(input) => input,
+        Err(refusal) => return Err(refusal),
+    };
+    let end = match run_program(alloc, program, input, limit, out) {
         Ok(end) => end,
         Err(PrintFault::WriteFault) => return Err(Refusal::Write),
         Err(PrintFault::OutOfMemory) => return Err(Refusal::Memory),
@@ -108,12 +76,18 @@ fn carry_out<'a, S: Shelf, O: Sink>(
     ensures leaves { IfErr result (λ refusal. Leaves (texts words.now) (S.files shelf.old) (O.contents out.old) (O.contents out.new) (reason refusal)) }
     ensures later { O.faults out.old ≤ O.faults out.new }
 {
-    let command = match read_words(words) {
-        Some(command) => command,
-        None => return Err(Refusal::Usage),
+    let command = match read_words(alloc, words) {
+        Ok(command) => command,
+        Err(WordsFault::Usage) => return Err(Refusal::Usage),
+        Err(WordsFault::OutOfMemory) => return Err(Refusal::Memory),
     };
     match command {
-        Command::Run { source, top, limit } => { run_source(alloc, source, top, limit, shelf, out) }
+        Command::Run {
+            source,
+            top,
+            data,
+            limit,
+        } => run_source(alloc, source, top, data, limit, shelf, out),
     }
 }
 
@@ -125,7 +99,7 @@ fn answer<S: Shelf, O: Sink, E: Sink>(
     out: &mut O,
     err: &mut E,
 ) -> Status
-    ensures ok { result ≡ Status.Ok → OfRun (texts words.now) (λ source top limit. OfSource (S.files shelf.old) source (λ text. HasRun text top limit (O.contents out.old) (O.contents out.new))) }
+    ensures ok { result ≡ Status.Ok → IsRun (texts words.now) (S.files shelf.old) (O.contents out.old) (O.contents out.new) }
     ensures ok_err { result ≡ Status.Ok → err.new ≡ err.old }
     ensures told { result ≢ Status.Ok → (told : Reason) × IsToldAs told result (E.contents err.old) (E.contents err.new) (E.faults err.old) (E.faults err.new)
         × HasCause (texts words.now) (S.files shelf.old) (S.faults shelf.old) (S.faults shelf.new) (O.faults out.old) (O.faults out.new) (O.contents out.old) (O.contents out.new) told
@@ -146,21 +120,23 @@ pub fn tapa<S: Shelf, O: Sink, E: Sink>(
     out: &mut O,
     err: &mut E,
 ) -> Status
-    // Every instance of the source's program has ended, and the report of the whole Kahn streams is written.
-    ensures ok { result ≡ Status.Ok → OfRun (texts words.now) (λ source top limit. OfSource (S.files shelf.old) source (λ text. HasRun text top limit (O.contents out.old) (O.contents out.new))) }
+    // Every instance of the source's program has ended on its data, and the report of the whole Kahn streams and the last
+    // cells is written.
+    ensures ok { result ≡ Status.Ok → IsRun (texts words.now) (S.files shelf.old) (O.contents out.old) (O.contents out.new) }
     ensures ok_err { result ≡ Status.Ok → err.new ≡ err.old }
     // Each other status tells its reason, which has its cause and leaves the output so.
     ensures told { result ≢ Status.Ok → (told : Reason) × IsToldAs told result (E.contents err.old) (E.contents err.new) (E.faults err.old) (E.faults err.new)
         × HasCause (texts words.now) (S.files shelf.old) (S.faults shelf.old) (S.faults shelf.new) (O.faults out.old) (O.faults out.new) (O.contents out.old) (O.contents out.new) told
         × Leaves (texts words.now) (S.files shelf.old) (O.contents out.old) (O.contents out.new) told }
-    // Where the files are told and nothing outside fails, the answer tells what the source means, and the report is
-    // written whole: or memory ran out.
-    ensures decided { (source top : List ℕ) (limit : ℕ) → command_of (texts words.now) ≡ Some (Run source top limit) → (meaning : SourceMeaning) → Expects (S.files shelf.old) source top limit meaning →
-        IsStill source (S.faults shelf.old) (S.faults shelf.new) (O.faults out.old) (O.faults out.new) (E.faults err.old) (E.faults err.new) →
+    // Where the files are told and nothing outside fails, the answer tells what the source means with its data, and the
+    // report is written whole: or memory ran out.
+    ensures decided { (source top : List ℕ) (named : Option (List ℕ)) (limit : ℕ) → command_of (texts words.now) ≡ Some (Run source top named limit) →
+        (meaning : SourceMeaning) → Expects (S.files shelf.old) source top named limit meaning →
+        IsStill source named (S.faults shelf.old) (S.faults shelf.new) (O.faults out.old) (O.faults out.new) (E.faults err.old) (E.faults err.new) →
         Tells limit meaning result (O.contents out.old) (O.contents out.new) (E.contents err.old) (E.contents err.new) ⊎ (result ≡ Status.Memory) }
     // The same where the source has more bytes than it may, and where the words are no command.
-    ensures lengthy { (source top : List ℕ) (limit : ℕ) → command_of (texts words.now) ≡ Some (Run source top limit) → IsLengthy (S.files shelf.old) source →
-        IsStill source (S.faults shelf.old) (S.faults shelf.new) (O.faults out.old) (O.faults out.new) (E.faults err.old) (E.faults err.new) →
+    ensures lengthy { (source top : List ℕ) (named : Option (List ℕ)) (limit : ℕ) → command_of (texts words.now) ≡ Some (Run source top named limit) → IsLengthy (S.files shelf.old) source →
+        IsStill source named (S.faults shelf.old) (S.faults shelf.new) (O.faults out.old) (O.faults out.new) (E.faults err.old) (E.faults err.new) →
         ((result ≡ Status.Limit) × (O.contents out.new ≡ O.contents out.old)) ⊎ (result ≡ Status.Memory) }
     ensures usage { command_of (texts words.now) ≡ None → (Rose (O.faults out.old) (O.faults out.new) → ⊥) → (Rose (E.faults err.old) (E.faults err.new) → ⊥) →
         ((result ≡ Status.Usage) × (O.contents out.new ≡ O.contents out.old)) ⊎ (result ≡ Status.Memory) }

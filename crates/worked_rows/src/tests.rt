@@ -1,6 +1,7 @@
 use crate::programs::{
     BAD_TOKEN, CASTS, ENDLESS, ENDS, FEEDBACK, INT_ENDS, INT_STOPS, LITERALS, NESTED, NESTED_PATH,
-    PATH, STOPS, TOO_DEEP, TRANSACTIONS, TWO_CONSUMERS, TWO_PRODUCERS,
+    PATH, STOPS, TOO_DEEP, TRANSACTIONS, TWO_CONSUMERS, TWO_PRODUCERS, VECADD, VECADD_DATA,
+    VECADD_REPORT,
 };
 use std::alloc::Global;
 use std::process::Abort;
@@ -16,10 +17,11 @@ struct Answer {
     err: MemSink,
 }
 
-// A command on the one file `r.cpp`, where the calls of these numbers fail.
-fn said(
+// A command on the source `r.cpp` and the data `d.json`, where the calls of these numbers fail.
+fn said_with(
     alloc: Global,
     source: &[u8],
+    given: &[u8],
     words: &[&str],
     shelf_fails: Vec<u64>,
     out_fails: Vec<u64>,
@@ -30,15 +32,39 @@ fn said(
         String::from_str(alloc, "r.cpp")?,
         Vec::from_slice(alloc, source)?,
     ))?;
-    let mut given = Vec::new(alloc);
+    files.push((
+        String::from_str(alloc, "d.json")?,
+        Vec::from_slice(alloc, given)?,
+    ))?;
+    let mut asked = Vec::new(alloc);
     for word in words {
-        given.push(String::from_str(alloc, word)?)?;
+        asked.push(String::from_str(alloc, word)?)?;
     }
     let mut shelf = MemShelf::new(alloc, files, shelf_fails);
     let mut out = MemSink::new(alloc, 4096, out_fails)?;
     let mut err = MemSink::new(alloc, 4096, err_fails)?;
-    let status = tapa(alloc, &given, &mut shelf, &mut out, &mut err);
+    let status = tapa(alloc, &asked, &mut shelf, &mut out, &mut err);
     Ok(Answer { status, out, err })
+}
+
+// The same without data.
+fn said(
+    alloc: Global,
+    source: &[u8],
+    words: &[&str],
+    shelf_fails: Vec<u64>,
+    out_fails: Vec<u64>,
+    err_fails: Vec<u64>,
+) -> Result<Answer, Fail> {
+    said_with(
+        alloc,
+        source,
+        b"{}",
+        words,
+        shelf_fails,
+        out_fails,
+        err_fails,
+    )
 }
 
 // A command on a source, where nothing fails.
@@ -174,7 +200,7 @@ fn names_are_told(rt: HostRuntime) -> Result<(), Fail> {
     are_refused(&rt, rt.alloc(), &rows)
 }
 
-// Streams, memories and invocations that break a rule, and programs that need data.
+// Streams, memories and invocations that break a rule.
 #[test]
 fn bindings_are_told(rt: HostRuntime) -> Result<(), Fail> {
     let rows = [
@@ -195,14 +221,6 @@ fn bindings_are_told(rt: HostRuntime) -> Result<(), Fail> {
             "1:32: C10 task invokes itself",
         ),
         (TOO_DEEP, "4:21: C11 over the limit of 4096"),
-        (
-            "void F() { } void T(int n) { tapa::task().invoke(F); }",
-            "1:1: N1 not built yet",
-        ),
-        (
-            "void F(tapa::mmap<int> a) { } void T(tapa::mmap<int> a) { tapa::task().invoke(F, a); }",
-            "1:1: N1 not built yet",
-        ),
     ];
     are_refused(&rt, rt.alloc(), &rows)
 }
@@ -222,26 +240,112 @@ fn ticks_are_counted(rt: HostRuntime) -> Result<(), Fail> {
     Ok(())
 }
 
-// Numbers of ticks that are enough or not, and words that are no such number.
+// Numbers of ticks that are just enough and one too few.
 #[test]
 fn steps_are_read(rt: HostRuntime) -> Result<(), Fail> {
     let alloc = rt.alloc();
     for (limit, status) in [
-        ("42", Status::Ok),
-        ("41", Status::Limit),
-        ("1000000000000", Status::Ok),
-        ("0000000000000000042", Status::Ok),
-        ("00000000000000000042", Status::Usage),
-        ("1000000000001", Status::Usage),
-        ("0", Status::Usage),
-        ("", Status::Usage),
-        ("+42", Status::Usage),
-        ("-1", Status::Usage),
-        ("4x", Status::Usage),
+        ("--steps=42", Status::Ok),
+        ("--steps=41", Status::Limit),
+        ("--steps=0", Status::Usage),
     ] {
-        let words = ["run", "r.cpp", "T", "--steps", limit];
-        let said = plainly(alloc, PATH.as_bytes(), &words)?;
+        let said = plainly(alloc, PATH.as_bytes(), &["run", limit, "--", "r.cpp", "T"])?;
         assert_eq!(rt; said.status, status);
+    }
+    Ok(())
+}
+
+// Data that a program runs on, and such as it refuses. A bad source is told before the data are looked at.
+#[test]
+fn data_are_read(rt: HostRuntime) -> Result<(), Fail> {
+    let alloc = rt.alloc();
+    let words = ["run", "r.cpp", "VecAdd", "d.json"];
+    let rows = [
+        (VECADD, VECADD_DATA, Status::Ok, VECADD_REPORT, ""),
+        (
+            VECADD,
+            "{\"memories\":{\"a\":[],\"b\":[],\"c\":[7]},\"scalars\":{\"n\":0}}",
+            Status::Ok,
+            "stream a_q:\nstream b_q:\nstream c_q:\nmemory a:\nmemory b:\nmemory c: 7\ndone 12\n",
+            "",
+        ),
+        (VECADD, "{", Status::Data, "", "tapa: d.json: J1\n"),
+        (
+            VECADD,
+            "{}",
+            Status::Data,
+            "",
+            "tapa: d.json: J2 scalars.n\n",
+        ),
+        (
+            VECADD,
+            "{\"scalars\":{\"n\":-1.0},\"memories\":{\"a\":[],\"b\":[],\"c\":[]}}",
+            Status::Data,
+            "",
+            "tapa: d.json: J3 scalars.n\n",
+        ),
+        (
+            "void P(",
+            "{",
+            Status::Source,
+            "",
+            "tapa: r.cpp:1:8: P1 unexpected token\n",
+        ),
+    ];
+    for (source, given, status, out, err) in rows {
+        let said = said_with(
+            alloc,
+            source.as_bytes(),
+            given.as_bytes(),
+            &words,
+            Vec::new(alloc),
+            Vec::new(alloc),
+            Vec::new(alloc),
+        )?;
+        assert_eq!(rt; said.status, status);
+        assert_eq!(rt; said.out.bytes(), out.as_bytes());
+        assert_eq!(rt; said.err.bytes(), err.as_bytes());
+    }
+    let none = plainly(alloc, VECADD.as_bytes(), &["run", "r.cpp", "VecAdd"])?;
+    assert_eq!(rt; none.status, Status::Data);
+    assert_eq!(rt; none.err.bytes(), b"tapa: {}: J2 scalars.n\n".as_slice());
+    let missing = plainly(
+        alloc,
+        VECADD.as_bytes(),
+        &["run", "r.cpp", "VecAdd", "e.json"],
+    )?;
+    assert_eq!(rt; missing.status, Status::Read);
+    assert_eq!(rt;
+        missing.err.bytes(),
+        b"tapa: cannot read e.json\n".as_slice()
+    );
+    Ok(())
+}
+
+// The output failing at each line of a report with memories: it holds the lines before.
+#[test]
+fn reports_are_cut_at_lines(rt: HostRuntime) -> Result<(), Fail> {
+    let alloc = rt.alloc();
+    let words = ["run", "r.cpp", "VecAdd", "d.json"];
+    let report = VECADD_REPORT.as_bytes();
+    let mut shown = 0;
+    for call in 0..7u64 {
+        let failed = said_with(
+            alloc,
+            VECADD.as_bytes(),
+            VECADD_DATA.as_bytes(),
+            &words,
+            Vec::new(alloc),
+            vec![in alloc; call; 1]?,
+            Vec::new(alloc),
+        )?;
+        assert_eq!(rt; failed.status, Status::Write);
+        let held = failed.out.bytes();
+        assert!(rt; report.starts_with(held));
+        assert!(rt; held.is_empty() == (call == 0));
+        assert!(rt; call == 0 || held.len() > shown);
+        assert!(rt; call == 0 || held.ends_with(b"\n"));
+        shown = held.len();
     }
     Ok(())
 }

@@ -1,5 +1,5 @@
-use Rattle.tapa_drive.proofs.OneProgram.{one_program}
+use Rattle.tapa_drive.proofs.OneMeaning.{one_program, asked_once}
 use Rattle.tapa_drive.proofs.laws.law_one_program.Goals as goal
 
 pub returns : goal.returns
-returns c = one_program
+returns c = record { program = one_program; input = asked_once }

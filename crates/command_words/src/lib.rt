@@ -1,0 +1,15 @@
+//! Reads the words of a command.
+#![tactic(auto)]
+
+mod command;
+mod item;
+mod number;
+mod read;
+mod run;
+mod verb;
+
+pub use command::{Command, WordsFault};
+pub use read::read_words;
+
+#[cfg(test)]
+mod tests;

@@ -1,0 +1,7 @@
+pub mod Cells
+pub mod Lines
+pub mod OneWay
+pub mod Running
+pub mod Showing
+pub mod Starting
+pub mod Waiting

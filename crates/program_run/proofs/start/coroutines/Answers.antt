@@ -1,0 +1,14 @@
+use Rattle.std.proofs.Common.{◌+◌, List, arith, sym, subst}
+use Rattle.coro_machine.specs.declared.coro.Coro.{Coro}
+use Rattle.program_run.specs.Started.{AreStarted}
+use Rattle.program_run.proofs.Starting.{started_more}
+use Rattle.program_run.proofs.start.coroutines.Goals as goal
+
+pub loop-i-preserved : goal.loop-i-preserved
+loop-i-preserved c = (
+  omega (arith, c.loop-i.invariant.0, c.in_ok-push.ensures.len),
+  subst (λ (l : List Coro). AreStarted c.args.program.now c.args.input.now (c.loop-i.i + 1) l) (sym c.in_ok-push.ensures.items) (started_more c.args.program.now c.args.input.now c.loop-i.i c.loop-i.all.items c.in_ok-start_one.field-0 c.loop-i.invariant.0 c.loop-i.invariant.1 c.in_ok-start_one.ensures),
+)
+
+pub returns-clause-first : goal.returns-clause-first
+returns-clause-first c = λ i c' within at. c.loop-i.invariant.1 i c' (omega (arith, c.loop-i-test.false, c.len-i-end.ensures, within)) at

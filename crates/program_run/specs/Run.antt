@@ -1,0 +1,114 @@
+-- The run of a flat program on an input at its declared depths: how it ends, what its report is, and what a stopped one
+-- waits for.
+use Rattle.std.specs.Prelude.{◌≡◌, ◌⊎◌, ℕ, suc, ◌<◌, ◌≤◌, List, [], ◌∷◌, ◌++◌, length, codes, option_map, unwrap_or, slice_get, Some}
+use Rattle.tapa_base.specs.declared.token.Token.{Token}
+use Rattle.tapa_syntax.specs.declared.program.Instance.{Instance}
+use Rattle.tapa_syntax.specs.declared.program.Memory.{Memory}
+use Rattle.tapa_syntax.specs.declared.program.Program.{Program}
+use Rattle.tapa_syntax.specs.declared.program.Stream.{Stream}
+use Rattle.kahn_model.specs.Network.{Network}
+use Rattle.kahn_model.specs.Counts.{total, written, IsEnding, HasEnded, IsKahnStream}
+use Rattle.kahn_model.specs.Outcome.{IsDone, IsStopped, WaitsToRead, WaitsToWrite, HasBadToken}
+use Rattle.kahn_model.specs.Start.{network_of}
+use Rattle.kahn_model.specs.Cells.{cells_at}
+use Rattle.net_core.specs.declared.input.Input.{Input}
+use Rattle.net_core.specs.Bounded.{scalars_of, memories_of}
+use Rattle.run_data.specs.Report.{stream_line, memory_line, last_line}
+use Rattle.run_data.specs.declared.lines.Last.{Last}
+use Rattle.run_data.specs.declared.lines.Last.TheVariants.{Done, Stopped}
+
+-- what a program runs on: the values of the top task's scalars, and the first cells of its memories, in their order
+pub record Values : Type 0 where
+  pub scalars : List ℕ
+  pub memories : List (List ℕ)
+
+abbrev pub values_of : Input → Values
+values_of input = record { scalars = scalars_of input; memories = memories_of input }
+
+-- the network of a program on these values
+abbrev pub network : Program → Values → Network
+network program values = network_of program values.scalars values.memories
+
+-- the ticks of all instances
+abbrev pub ticks_of : Program → Values → (ℕ → ℕ) → ℕ
+ticks_of program values k = total (network program values).size k
+
+-- no position is bound to this memory
+abbrev pub IsNotBound : List ℕ → ℕ → Type 0
+IsNotBound bound m = (p : ℕ) → slice_get bound p ≡ Some m → ⊥
+
+-- ---- the report
+
+-- the lines of the streams from number s on, with what was written to each
+abbrev pub stream_lines : (ℕ → List Token) → ℕ → List Stream → List ℕ
+stream_lines tokens s [] = []
+stream_lines tokens s (r ∷ rest) = stream_line r.label (tokens s) ++ stream_lines tokens (suc s) rest
+
+-- the lines of the memories from number m on, with the cells of each
+abbrev pub memory_lines : (ℕ → List ℕ) → ℕ → List Memory → List ℕ
+memory_lines cells m [] = []
+memory_lines cells m (r ∷ rest) = memory_line r.name (cells m) ++ memory_lines cells (suc m) rest
+
+-- the lines of the streams and the memories at a count
+abbrev pub lines_at : Program → Values → (ℕ → ℕ) → List ℕ
+lines_at program values k =
+    stream_lines (written (network program values) k) 0 program.streams.items ++ memory_lines (cells_at program values.scalars values.memories k) 0 program.memories.items
+
+-- the report at a count
+abbrev pub report_of : Program → Values → (ℕ → ℕ) → Last → List ℕ
+report_of program values k last = lines_at program values k ++ last_line last
+
+-- ---- what an instance waits for
+
+abbrev pub label_of : List Stream → ℕ → List ℕ
+label_of streams s = unwrap_or (option_map (λ (r : Stream). r.label) (slice_get streams s)) []
+
+-- an instance, what it waits for, and a stream
+abbrev pub wait_line : List ℕ → List ℕ → List ℕ → List ℕ
+wait_line label what stream = codes "tapa: " ++ (label ++ (what ++ (stream ++ codes "\n")))
+
+abbrev pub read_line : List ℕ → List ℕ → List ℕ
+read_line label stream = wait_line label (codes " waits to read ") stream
+
+abbrev pub write_line : List ℕ → List ℕ → List ℕ
+write_line label stream = wait_line label (codes " waits to write ") stream
+
+abbrev pub bad_line : List ℕ → List ℕ → List ℕ
+bad_line label stream = wait_line label (codes " bad token on ") stream
+
+-- the line of instance i, by what it waits for
+abbrev pub IsWaitLine : Network → (ℕ → ℕ) → List Stream → ℕ → List ℕ → List ℕ → Type 0
+IsWaitLine net k streams i label line =
+    (s : ℕ) × ((WaitsToRead net k i s × (line ≡ read_line label (label_of streams s)))
+    ⊎ ((WaitsToWrite net k i s × (line ≡ write_line label (label_of streams s))) ⊎ (HasBadToken net k i s × (line ≡ bad_line label (label_of streams s)))))
+
+-- the lines of the instances from number i on, in order, one for each that has not ended
+abbrev pub AreWaitLines : Network → (ℕ → ℕ) → List Stream → ℕ → List Instance → List ℕ → Type 0
+AreWaitLines net k streams i [] text = text ≡ []
+AreWaitLines net k streams i (x ∷ rest) text =
+    (HasEnded net k i × AreWaitLines net k streams (suc i) rest text)
+    ⊎ ((line : List ℕ) × (more : List ℕ) × (text ≡ line ++ more) × IsWaitLine net k streams i x.label line × AreWaitLines net k streams (suc i) rest more)
+
+-- ---- how a run ends
+
+-- every instance ends, after at most so many ticks in all; the report shows all of each Kahn stream, and the last cells of
+-- each memory
+pub record RunsToEnd (program : Program) (values : Values) (limit : ℕ) (report : List ℕ) : Type 0 where
+  pub count : ℕ → ℕ
+  pub done : IsDone (network program values) count
+  pub within : ticks_of program values count ≤ limit
+  pub whole : (s : ℕ) → s < length program.streams.items → IsKahnStream (network program values) s (written (network program values) count s)
+  pub shown : report ≡ report_of program values count (Done (ticks_of program values count))
+
+-- no step is allowed and some instance has not ended, after at most so many ticks in all; the report shows what was
+-- written, and the lines tell what each such instance waits for
+pub record StopsShort (program : Program) (values : Values) (limit : ℕ) (report lines : List ℕ) : Type 0 where
+  pub count : ℕ → ℕ
+  pub stopped : IsStopped (network program values) count
+  pub within : ticks_of program values count ≤ limit
+  pub shown : report ≡ report_of program values count (Stopped (ticks_of program values count))
+  pub waits : AreWaitLines (network program values) count program.streams.items 0 program.instances.items lines
+
+-- the run makes more ticks than so many, or never ends
+abbrev pub RunsPast : Program → Values → ℕ → Type 0
+RunsPast program values limit = (k : ℕ → ℕ) → IsEnding (network program values) k → limit < ticks_of program values k

@@ -1,0 +1,33 @@
+-- The machines of a program's leaves, and its instances before their first ticks.
+use Rattle.std.specs.Prelude.{◌≡◌, ℕ, ◌<◌, List, [], map, Some, slice_get, slice_index}
+use Rattle.std.specs.Arc.{arc_value}
+use Rattle.std.specs.declared.sync.Arc.{Arc}
+use Rattle.tapa_base.specs.declared.kind.Kind.{Kind}
+use Rattle.tapa_base.specs.Kinds.{values_of}
+use Rattle.tapa_syntax.specs.declared.program.Leaf.{Leaf}
+use Rattle.tapa_syntax.specs.declared.program.Program.{Program}
+use Rattle.tapa_syntax.specs.declared.program.Scalar.{Scalar}
+use Rattle.tapa_syntax.specs.WellFormed.{IsLeaf}
+use Rattle.task_fsm.specs.declared.machine.Fsm.{Fsm}
+use Rattle.task_fsm.specs.Lowered.{IsLowered}
+use Rattle.net_core.specs.declared.input.Input.{Input}
+use Rattle.net_core.specs.Bounded.{instance_job}
+use Rattle.coro_machine.specs.declared.coro.Coro.{Coro}
+use Rattle.coro_machine.specs.Coro.{IsCoroOf}
+
+-- the kinds of the scalars of a program
+abbrev pub kinds_in : Program → List Kind
+kinds_in program = map (λ (c : Scalar). c.kind) program.scalars.items
+
+-- the values of the scalars have their kinds
+abbrev pub ScalarsFit : Program → List ℕ → Type 0
+ScalarsFit program scalars = (x : ℕ) (c : Scalar) → slice_get program.scalars.items x ≡ Some c → slice_index scalars x < values_of c.kind
+
+-- each of the first m is the machine of its leaf
+abbrev pub AreLowered : Program → ℕ → List (Arc Fsm) → Type 0
+AreLowered program m machines =
+    (b : ℕ) (leaf : Leaf) (machine : Arc Fsm) → b < m → slice_get program.bodies.items b ≡ Some leaf → slice_get machines b ≡ Some machine → IsLeaf leaf → IsLowered leaf (arc_value machine)
+
+-- each of the first m stands for the job of its instance, before its first tick
+abbrev pub AreStarted : Program → Input → ℕ → List Coro → Type 0
+AreStarted program input m all = (i : ℕ) (c : Coro) → i < m → slice_get all i ≡ Some c → IsCoroOf c (instance_job program input i) []

@@ -1,0 +1,16 @@
+//! The run of a flat program on an input: its instances as coroutines, its report, and what a stopped one waits for.
+#![tactic(auto)]
+
+mod bound;
+mod cells;
+pub mod laws;
+mod run;
+mod shown;
+mod start;
+mod waits;
+
+pub use cells::last_cells;
+pub use run::{RunEnd, run_program};
+pub use shown::show;
+pub use start::{coroutines, machines};
+pub use waits::wait_lines;

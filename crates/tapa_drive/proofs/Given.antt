@@ -1,0 +1,74 @@
+-- Data give the programs of a source the same values.
+use Rattle.std.proofs.Common.{◌≡◌, ℕ, List, [], map, Some, refl, sym, ap, subst, ◌∙◌}
+use Rattle.std.specs.Prelude.{None, Option}
+use Rattle.serde_json.specs.Data.{Data as Json}
+use Rattle.tapa_base.specs.declared.shape.Port.{Port}
+use Rattle.tapa_base.specs.declared.shape.Shape.{Shape}
+use Rattle.tapa_syntax.specs.declared.program.Memory.{Memory}
+use Rattle.tapa_syntax.specs.declared.program.Program.{Program}
+use Rattle.tapa_syntax.specs.declared.program.Scalar.{Scalar}
+use Rattle.tapa_syntax.specs.Flat.{FlatProgram, flat_program}
+use Rattle.run_data.specs.Data.{IsJson, Fault, faults, scalars_of, memories_of, misshapen, misshapen_in, misfits, misfits_in, oversized}
+use Rattle.run_data.specs.Answer.{IsFirstFault}
+use Rattle.run_data.specs.Seen.{first}
+use Rattle.program_run.specs.Run.{Values}
+use Rattle.tapa_drive.specs.Inputs.{port_of, IsShapeOf, GivesValues, HasDataFault}
+use Rattle.tapa_drive.specs.Refusal.{DataFault, NotJson, Faulty}
+
+-- a shape with other lists
+with_ports : Shape → List Port → List Port → Shape
+with_ports s xs ms = record { scalars = record s.scalars { items = xs }; memories = record s.memories { items = ms } }
+
+module _ (s t : Shape) (xs : s.scalars.items ≡ t.scalars.items) (ms : s.memories.items ≡ t.memories.items) (file : Json) where
+  end_faults : faults (with_ports s t.scalars.items t.memories.items) file ≡ faults t file
+  unfolding faults misshapen misshapen_in misfits misfits_in oversized
+  end_faults = refl
+
+  end_scalars : scalars_of (with_ports s t.scalars.items t.memories.items) file ≡ scalars_of t file
+  unfolding scalars_of
+  end_scalars = refl
+
+  end_memories : memories_of (with_ports s t.scalars.items t.memories.items) file ≡ memories_of t file
+  unfolding memories_of
+  end_memories = refl
+
+  -- what is read of a file depends on the lists of a shape alone
+  pub same_faults : faults s file ≡ faults t file
+  same_faults = ap (λ (l : List Port). faults (with_ports s l s.memories.items) file) xs ∙ ap (λ (l : List Port). faults (with_ports s t.scalars.items l) file) ms ∙ end_faults
+
+  pub same_scalars : scalars_of s file ≡ scalars_of t file
+  same_scalars = ap (λ (l : List Port). scalars_of (with_ports s l s.memories.items) file) xs ∙ ap (λ (l : List Port). scalars_of (with_ports s t.scalars.items l) file) ms ∙ end_scalars
+
+  pub same_memories : memories_of s file ≡ memories_of t file
+  same_memories = ap (λ (l : List Port). memories_of (with_ports s l s.memories.items) file) xs ∙ ap (λ (l : List Port). memories_of (with_ports s t.scalars.items l) file) ms ∙ end_memories
+
+one_json : (text : List ℕ) (a b : Json) → IsJson text a → IsJson text b → a ≡ b
+one_json text a b h g = let both : Some a ≡ Some b = sym h.1 ∙ g.1 in cc
+
+module _ (p q : Program) (same : flat_program p ≡ flat_program q) where
+  same_scalar_ports : (s t : Shape) → IsShapeOf p s → IsShapeOf q t → s.scalars.items ≡ t.scalars.items
+  same_scalar_ports s t h g = h.scalars ∙ ap (λ (f : FlatProgram). map (λ (c : Scalar). port_of c.name c.kind) f.scalars) same ∙ sym g.scalars
+
+  same_memory_ports : (s t : Shape) → IsShapeOf p s → IsShapeOf q t → s.memories.items ≡ t.memories.items
+  same_memory_ports s t h g = h.memories ∙ ap (λ (f : FlatProgram). map (λ (c : Memory). port_of c.name c.kind) f.memories) same ∙ sym g.memories
+
+  pub one_input : (text : List ℕ) (v w : Values) → GivesValues p text v → GivesValues q text w → v ≡ w
+  one_input text v w h g =
+      let xs = same_scalar_ports h.shape g.shape h.is_shape g.is_shape in
+      let ms = same_memory_ports h.shape g.shape h.is_shape g.is_shape in
+      let json = one_json text h.file g.file h.is_json g.is_json in
+      let scalars : v.scalars ≡ w.scalars = h.scalars ∙ ap (scalars_of h.shape) json ∙ same_scalars h.shape g.shape xs ms g.file ∙ sym g.scalars in
+      let memories : v.memories ≡ w.memories = h.memories ∙ ap (memories_of h.shape) json ∙ same_memories h.shape g.shape xs ms g.file ∙ sym g.memories in
+      ap (λ (l : List ℕ). record { scalars = l; memories = v.memories }) scalars ∙ ap (λ (l : List (List ℕ)). record { scalars = w.scalars; memories = l }) memories
+
+  no_first : (l : List Fault) (f : Fault) → l ≡ [] → first l ≡ Some f → ⊥
+  no_first l f e h = let none : first {A = Fault} [] ≡ Some f = subst (λ (k : List Fault). first k ≡ Some f) e h in cc
+
+  -- data that give values have no fault
+  pub not_misgiven : (text : List ℕ) (v : Values) (fault : DataFault) → GivesValues p text v → HasDataFault q text fault → ⊥
+  not_misgiven text v NotJson h d = d h.file h.is_json
+  not_misgiven text v (Faulty fault) h (shape, is, d) =
+      let xs = same_scalar_ports h.shape shape h.is_shape is in
+      let ms = same_memory_ports h.shape shape h.is_shape is in
+      let none : faults shape d.file ≡ [] = sym (same_faults h.shape shape xs ms d.file) ∙ ap (faults h.shape) (one_json text d.file h.file d.is_json h.is_json) ∙ h.faultless in
+      no_first (faults shape d.file) fault none d.first

@@ -1,0 +1,74 @@
+-- The shape of a program, and the inputs that fit it.
+use Rattle.std.proofs.Common.{◌≡◌, ◌≤◌, ◌<◌, ◌^◌, ℕ, zero, suc, List, [], ◌∷◌, length, map, Option, Some, None, refl, sym, ap, subst, ◌∙◌, arith}
+use Rattle.std.specs.Prelude.{All, slice_get, slice_index, slice_index_or, option_map, Vec}
+use Rattle.std.specs.declared.alloc.Global.{Global}
+use Rattle.std.proofs.lemmas.Option.{slice_get-map}
+use Rattle.std.proofs.lemmas.List.{length-map}
+use Rattle.tapa_base.specs.declared.kind.Kind.{Kind}
+use Rattle.tapa_base.specs.declared.kind.Kind.TheVariants as kind
+use Rattle.tapa_base.specs.Kinds.{bits_of, values_of}
+use Rattle.tapa_base.specs.declared.shape.Port.{Port}
+use Rattle.tapa_base.specs.declared.shape.Shape.{Shape}
+use Rattle.tapa_syntax.specs.declared.program.Memory.{Memory}
+use Rattle.tapa_syntax.specs.declared.program.Program.{Program}
+use Rattle.tapa_syntax.specs.declared.program.Scalar.{Scalar}
+use Rattle.kahn_model.specs.Fits.{FitsInput}
+use Rattle.run_data.specs.Answer.{FitsShape, IsDataOf}
+use Rattle.run_data.specs.declared.data.Data.{Data}
+use Rattle.program_run.specs.Run.{Values}
+use Rattle.tapa_drive.specs.Inputs.{port_of, IsShapeOf, GivesValues}
+
+few_bits : (k : Kind) → bits_of k ≤ 64
+few_bits kind.Bool = omega arith
+few_bits kind.I8 = omega arith
+few_bits kind.U8 = omega arith
+few_bits kind.I16 = omega arith
+few_bits kind.U16 = omega arith
+few_bits kind.I32 = omega arith
+few_bits kind.U32 = omega arith
+few_bits kind.I64 = omega arith
+few_bits kind.U64 = omega arith
+
+abbrev FewBits : Port → Type 0
+FewBits port = port.bits ≤ 64
+
+few_scalars : (xs : List Scalar) → All FewBits (map (λ (c : Scalar). port_of c.name c.kind) xs)
+few_scalars [] = tt
+few_scalars (c ∷ xs) = (few_bits c.kind, few_scalars xs)
+
+few_memories : (xs : List Memory) → All FewBits (map (λ (c : Memory). port_of c.name c.kind) xs)
+few_memories [] = tt
+few_memories (c ∷ xs) = (few_bits c.kind, few_memories xs)
+
+pub scalars_few : (xs : List Scalar) (ports : List Port) → ports ≡ map (λ (c : Scalar). port_of c.name c.kind) xs → All FewBits ports
+scalars_few xs ports is = subst (λ (l : List Port). All FewBits l) (sym is) (few_scalars xs)
+
+pub memories_few : (xs : List Memory) (ports : List Port) → ports ≡ map (λ (c : Memory). port_of c.name c.kind) xs → All FewBits ports
+memories_few xs ports is = subst (λ (l : List Port). All FewBits l) (sym is) (few_memories xs)
+
+get_map : {A B : Type 0} (f : A → B) (xs : List A) (i : ℕ) (x : A) → slice_get xs i ≡ Some x → slice_get (map f xs) i ≡ Some (f x)
+get_map f xs i x at = slice_get-map f xs i ∙ ap (option_map f) at
+
+module _ (program : Program) (shape : Shape) (is : IsShapeOf program shape) (given : Data) (fits : FitsShape shape given) where
+  -- data that fit the shape of a program fit the program
+  pub fits_program : FitsInput program given.scalars.items (map (λ (v : Vec ℕ Global). v.items) given.memories.items)
+  fits_program = record {
+    as_many_scalars = fits.as_many_scalars ∙ ap length is.scalars ∙ length-map program.scalars.items (λ (c : Scalar). port_of c.name c.kind);
+    as_many_memories =
+        length-map given.memories.items (λ (v : Vec ℕ Global). v.items) ∙ fits.as_many_memories ∙ ap length is.memories ∙ length-map program.memories.items (λ (c : Memory). port_of c.name c.kind);
+    scalars_fit = λ x c at.
+        fits.scalars_fit x (port_of c.name c.kind) (ap (λ (l : List Port). slice_get l x) is.scalars ∙ get_map (λ (s : Scalar). port_of s.name s.kind) program.scalars.items x c at);
+    cells_fit = λ m c at.
+        fits.cells_fit m (port_of c.name c.kind) (ap (λ (l : List Port). slice_get l m) is.memories ∙ get_map (λ (s : Memory). port_of s.name s.kind) program.memories.items m c at);
+  }
+
+pub gives_values : (program : Program) (shape : Shape) → IsShapeOf program shape → (text : List ℕ) (given : Data) → IsDataOf text shape given → GivesValues program text (record { scalars = given.scalars.items; memories = map (λ (v : Vec ℕ Global). v.items) given.memories.items })
+gives_values program shape is text given d = record {
+  shape = shape;
+  is_shape = is;
+  file = d.file;
+  is_json = d.is_json;
+  faultless = d.faultless;
+  scalars = d.scalars;
+  memories = d.memories;
+}
