@@ -41,11 +41,7 @@ impl<'a> Parser<'a> {
     /// An expression in parentheses, which are a level; `room` more levels may be opened.
     #[cycle(expression)]
     #[tactic(auto, unfolding(crate::specs::Reading::in_parentheses))]
-    pub fn in_parentheses(
-        &mut self,
-        room: u32,
-        operators: &mut u32,
-    ) -> Result<Expression, Fault>
+    pub fn in_parentheses(&mut self, room: u32, operators: &mut u32) -> Result<Expression, Fault>
         ensures { Gives (λ e. (view.expression e, operators.new)) result self.new (spec.in_parentheses (spec.below room) operators.old self.old) }
     {
         let room = self.open(Mark::LeftParen, room)?;
@@ -57,11 +53,7 @@ impl<'a> Parser<'a> {
     /// An expression in brackets, which are a level.
     #[cycle(expression)]
     #[tactic(auto, unfolding(crate::specs::Reading::in_brackets))]
-    pub fn in_brackets(
-        &mut self,
-        room: u32,
-        operators: &mut u32,
-    ) -> Result<Expression, Fault>
+    pub fn in_brackets(&mut self, room: u32, operators: &mut u32) -> Result<Expression, Fault>
         ensures { Gives (λ e. (view.expression e, operators.new)) result self.new (spec.in_brackets (spec.below room) operators.old self.old) }
     {
         let room = self.open(Mark::LeftBracket, room)?;
@@ -261,12 +253,7 @@ impl<'a> Parser<'a> {
     /// 9 for `||`.
     #[cycle(expression)]
     #[tactic(auto, unfolding(crate::specs::Reading::level))]
-    pub fn level(
-        &mut self,
-        level: u8,
-        room: u32,
-        operators: &mut u32,
-    ) -> Result<Expression, Fault>
+    pub fn level(&mut self, level: u8, room: u32, operators: &mut u32) -> Result<Expression, Fault>
         ensures { Gives (λ e. (view.expression e, operators.new)) result self.new (spec.level ((spec.at room).unary) level operators.old self.old) }
     {
         if level == 0 {

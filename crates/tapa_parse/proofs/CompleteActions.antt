@@ -14,7 +14,7 @@ use Rattle.tapa_syntax.specs.Grammar.{Part, Takes, MeansAt, IsName, IsType, IsEx
 use Rattle.tapa_syntax.specs.Limits.{most, nesting, operators, place_nesting, place_operators, action_nesting, action_operators, declarator_nesting, declarator_operators, declaration_nesting, declaration_operators, statement_nesting, statement_operators}
 use Rattle.expression_parse.specs.Readers.{Outcome, and_then, ◌>>◌, skip, next, same, sees, past}
 use Rattle.expression_parse.specs.Reading.{Readers, enter, open_level, argument, level, unary_with, expression_with, whole, place_from, place_with, call_arguments, assigned_by, assigned, acted_by, acted, stepped, action_with, declarator_by, declarator, declaration_with}
-use Rattle.tapa_parse.specs.Reading as spec
+use Rattle.expression_parse.specs.Reading as spec
 use Rattle.expression_parse.proofs.Parts.{Symbols, done, then_is, if_true, if_false, differ_by, next_is, seen_is, dropped, expect_is, past_is, past_none, name_is, plain_is}
 use Rattle.expression_parse.proofs.Lists.{IsPart, ReadsAll, ReadsEach, repeat_some_complete, separated_complete, separated_until_complete}
 use Rattle.expression_parse.proofs.CompleteTypes.{extends_type, type_complete, takes_longer, sees_other}

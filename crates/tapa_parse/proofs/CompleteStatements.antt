@@ -14,7 +14,7 @@ use Rattle.tapa_syntax.specs.Grammar.{Takes, TakesAt, IsName, IsExpression, is_n
 use Rattle.tapa_syntax.specs.Limits.{most, if_there, nesting, operators, action_nesting, action_operators, attribute_nesting, start_nesting, start_operators, head_nesting, head_operators, statement_nesting, statement_operators, statements_nesting, statements_operators}
 use Rattle.expression_parse.specs.Readers.{and_then, pure, next, same, sees, name}
 use Rattle.expression_parse.specs.Reading.{Readers, whole, begins_action, begins_statement, attribute_argument_by, attribute_argument, listed_arguments, attribute_arguments, attribute, action_with, declaration_with, start, loop_test, step, jump, statement_with, statements_with, simple, braces, otherwise, choice, repetition, counting_loop, transaction_loop, bare_by, bare, inside_with, readers, below_room}
-use Rattle.tapa_parse.specs.Reading as spec
+use Rattle.expression_parse.specs.Reading as spec
 use Rattle.expression_parse.proofs.Parts.{Symbols, done, then_is, if_true, if_false, differ_by, is_seen, next_is, seen_is, dropped, expect_is, name_is, plain_is, literal_is}
 use Rattle.expression_parse.proofs.Lists.{IsPart, ReadsAll, repeat_complete, repeat_some_complete, separated_until_complete}
 use Rattle.expression_parse.proofs.CompleteTypes.{sees_other}

@@ -13,7 +13,7 @@ use Rattle.tapa_syntax.specs.Grammar.{Part, Takes, IsName, IsExpression, is_name
 use Rattle.tapa_syntax.specs.Limits.{most, nesting, operators, place_nesting, place_operators, action_nesting, action_operators, form_nesting, form_operators, declarator_nesting, declarator_operators, declaration_nesting, declaration_operators, attribute_nesting, if_there}
 use Rattle.expression_parse.specs.declared.fault.ParseCode.TheVariants.{P1}
 use Rattle.expression_parse.specs.Readers.{and_then, ◌>>◌, skip, known, next, first_place, sees, past, separated_until}
-use Rattle.tapa_parse.specs.Reading as spec
+use Rattle.expression_parse.specs.Reading as spec
 use Rattle.expression_parse.specs.Reading.{Readers, argument, level, unary_with, expression_with, whole, place_from, place_with, call_arguments, assigned_by, assigned, acted_by, acted, stepped, action_with, counted, declarator_by, declarator, declaration_with, attribute_argument_by, attribute_argument, listed_arguments, attribute_arguments, attribute, attributes}
 use Rattle.expression_parse.proofs.Parts.{Symbols, Yields, yields_pure, yields_none, yields_then, yields_if, weaker, expect_yields, means, is_seen, is_end, name_yields, plain_yields, literal_yields}
 use Rattle.expression_parse.proofs.Lists.{IsPart, AreParts, AreSome, AreListed, repeat_sound, repeat_some_sound, behind_sound, separated_sound, separated_until_sound}

@@ -10,7 +10,6 @@ use Rattle.tapa_syntax.specs.Trees.{CountTree, AttributeTree, statements, Stream
 use Rattle.expression_parse.specs.declared.fault.ParseCode.TheVariants.{P1}
 use Rattle.expression_parse.specs.Readers.{is_left, Reader, ◌>>=◌, ◌>>◌, pure, refuse, next, ended, sees, skip, here, expect, eat, name, plain_name, repeat_behind, repeat, separated, separated_until}
 use Rattle.expression_parse.specs.Reading.{Readers, open_level, type_name, attributes, counted, statements_with, whole, whole_expression}
-
 -- the readers of the levels of nesting
 pub use Rattle.expression_parse.specs.Reading.{below, at}
 

@@ -339,7 +339,11 @@ fn constant_word(parser: &mut Parser) -> Result<(), Fault>
 }
 
 #[tactic(auto, unfolding(crate::specs::Reading::constant_behind))]
-fn constant_behind(parser: &mut Parser, attributes: Vec<Attribute>, room: u32) -> Result<FileItem, Fault>
+fn constant_behind(
+    parser: &mut Parser,
+    attributes: Vec<Attribute>,
+    room: u32,
+) -> Result<FileItem, Fault>
     ensures { Gives view.item_of result parser.new (spec.constant_behind most_operators (spec.below room) (map view.attribute_of attributes.items) parser.old) }
 {
     constant_word(parser)?;
