@@ -10,7 +10,7 @@ use Rattle.tapa_syntax.specs.Grammar.{IsTreeOf}
 use Rattle.tapa_syntax.specs.Limits.{most_levels, most_operators, IsWithinLimits}
 use Rattle.tapa_syntax.specs.Symbols.{symbols_of}
 use Rattle.tapa_syntax.specs.Trees.{ItemTree, file_of}
-use Rattle.tapa_parse.specs.declared.fault.ParseCode.{ParseCode}
+use Rattle.expression_parse.specs.declared.fault.ParseCode.{ParseCode}
 use Rattle.tapa_parse.specs.declared.fault.ParseFault.TheVariants.{At, OutOfMemory}
 use Rattle.tapa_parse.specs.Answers.{Reads, Answers}
 use Rattle.tapa_parse.specs.Reading as reading

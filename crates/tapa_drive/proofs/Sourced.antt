@@ -10,8 +10,8 @@ use Rattle.tapa_lex.specs.declared.fault.LexCode.{LexCode}
 use Rattle.tapa_lex.specs.declared.fault.LexCode.TheVariants as lex
 use Rattle.tapa_lex.specs.Refusals.{IsRefused}
 use Rattle.tapa_lex.proofs.Whole.{one_list, not_both}
-use Rattle.tapa_parse.specs.declared.fault.ParseCode.{ParseCode}
-use Rattle.tapa_parse.specs.declared.fault.ParseCode.TheVariants as parse
+use Rattle.expression_parse.specs.declared.fault.ParseCode.{ParseCode}
+use Rattle.expression_parse.specs.declared.fault.ParseCode.TheVariants as parse
 use Rattle.tapa_parse.proofs.CompleteFiles.{one_tree as tree_is_one}
 use Rattle.expression_check.specs.Answers.{IsFirst}
 use Rattle.expression_check.specs.declared.fault.Broken.{Broken}

@@ -12,8 +12,8 @@ use Rattle.tapa_syntax.specs.Symbols.{Symbol, symbols_of}
 use Rattle.tapa_syntax.specs.Trees.{ItemTree, file_of}
 use Rattle.tapa_lex.specs.declared.fault.LexCode.TheVariants as lex
 use Rattle.tapa_lex.specs.Refusals.{IsRefused}
-use Rattle.tapa_parse.specs.declared.fault.ParseCode.{ParseCode}
-use Rattle.tapa_parse.specs.declared.fault.ParseCode.TheVariants as parse
+use Rattle.expression_parse.specs.declared.fault.ParseCode.{ParseCode}
+use Rattle.expression_parse.specs.declared.fault.ParseCode.TheVariants as parse
 use Rattle.tapa_parse.specs.Answers.{IsRefusedAt}
 use Rattle.tapa_parse.specs.Reading as reading
 use Rattle.expression_check.specs.Answers.{IsFirst}

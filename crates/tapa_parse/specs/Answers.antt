@@ -6,7 +6,7 @@ use Rattle.tapa_syntax.specs.Symbols.{Symbol}
 use Rattle.tapa_syntax.specs.Trees.{ItemTree, file_of}
 use Rattle.tapa_parse.specs.declared.fault.ParseFault.{ParseFault}
 use Rattle.tapa_parse.specs.declared.fault.ParseFault.TheVariants.{At, OutOfMemory}
-use Rattle.tapa_parse.specs.Readers.{Outcome}
+use Rattle.expression_parse.specs.Readers.{Outcome}
 
 -- the place of the first symbol that is left
 abbrev pub IsRefusedAt : Place → List Symbol → Type 0

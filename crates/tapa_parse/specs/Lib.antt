@@ -1,3 +1,3 @@
-pub mod Readers
+pub use Rattle.expression_parse.specs.Readers
 pub mod Reading
 pub mod Answers

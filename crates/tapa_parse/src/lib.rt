@@ -1,18 +1,16 @@
-//! The tree of a source's lexemes.
+//! The tree of a source's lexemes: actions, declarations, statements and tasks, over the parser of expressions.
 #![tactic(auto)]
 
 mod action;
 mod declaration;
-mod expression;
 mod fault;
 mod laws;
 mod mark;
-mod parser;
 mod source;
 mod statement;
 mod task;
-mod types;
 
-pub use fault::{ParseCode, ParseFault};
+pub use expression_parse::ParseCode;
+pub use fault::ParseFault;
 pub use laws::one_tree;
 pub use source::parse;

@@ -8,11 +8,15 @@ ghost use Rattle.tapa_syntax.specs.Limits.{most_levels, most_operators, IsWithin
 ghost use Rattle.tapa_parse.specs.Answers.{Reads, IsRefusedAt, Answers};
 ghost use Rattle.tapa_parse.specs.Reading as spec;
 
-use crate::fault::{Fault, ParseFault};
-use crate::parser::{MOST_LEVELS, Parser};
+use crate::fault::ParseFault;
+use crate::task::file;
+use expression_parse::{Fault, Parser};
 use std::alloc::Global;
 use tapa_base::Place;
 use tapa_syntax::{File, Lexeme};
+
+/// Most levels of nesting.
+const MOST_LEVELS: u32 = 64;
 
 /// The place behind the last byte.
 fn end_place(text: &[u8]) -> Place
@@ -52,7 +56,7 @@ pub fn parse(alloc: Global, lexemes: &[Lexeme], text: &[u8]) -> Result<File, Par
     ensures reads { Reads result (spec.file most_operators (spec.below most_levels) (symbols_of text.now lexemes.now)) }
 {
     let mut parser = Parser::new(alloc, text, lexemes);
-    match parser.file(MOST_LEVELS) {
+    match file(&mut parser, MOST_LEVELS) {
         Ok(file) => Ok(file),
         Err(Fault::OutOfMemory) => Err(ParseFault::OutOfMemory),
         Err(Fault::Refused(code)) => Err(ParseFault::At {

@@ -5,12 +5,13 @@ ghost use Rattle.tapa_syntax.specs.Symbols.{Symbol};
 ghost use Rattle.tapa_syntax.specs.Limits.{most_operators};
 ghost use Rattle.tapa_syntax.specs.Trees as view;
 ghost use Rattle.tapa_syntax.specs.Trees.{StatementTree};
-ghost use Rattle.tapa_parse.specs.Readers.{Gives, Outcome, and_then, pure};
-ghost use Rattle.tapa_parse.specs.Reading as spec;
+ghost use Rattle.expression_parse.specs.Readers.{Gives, Outcome, and_then, pure};
+ghost use Rattle.expression_parse.specs.Reading as spec;
 
-use crate::fault::{Fault, ParseCode};
+use crate::action::{action, condition, whole_expression};
+use crate::declaration::{attributes, declaration};
 use crate::mark::{begins_action, begins_statement};
-use crate::parser::Parser;
+use expression_parse::{Fault, ParseCode, Parser};
 use std::alloc::Global;
 use tapa_base::Place;
 use tapa_syntax::{Action, Expression, ForHead, ForStart, Mark, Statement};
@@ -60,226 +61,224 @@ fn while_statement(
     Ok(Statement::While(test, body))
 }
 
-impl<'a> Parser<'a> {
-    // An action or a declaration, and a semicolon.
-    #[tactic(auto, unfolding(crate::specs::Reading::simple))]
-    fn simple(&mut self, room: u32) -> Result<Statement, Fault>
-        ensures { Gives view.statement result self.new (spec.simple most_operators (spec.below room) self.old) }
-    {
-        if begins_action(self.next()) {
-            let action = self.action(room)?;
-            self.expect(Mark::Semicolon)?;
-            return Ok(Statement::Act(action));
+// An action or a declaration, and a semicolon.
+#[tactic(auto, unfolding(expression_parse::specs::Reading::simple))]
+fn simple(parser: &mut Parser, room: u32) -> Result<Statement, Fault>
+    ensures { Gives view.statement result parser.new (spec.simple most_operators (spec.below room) parser.old) }
+{
+    if begins_action(parser.next()) {
+        let action = action(parser, room)?;
+        parser.expect(Mark::Semicolon)?;
+        return Ok(Statement::Act(action));
+    }
+    let declaration = declaration(parser, room)?;
+    parser.expect(Mark::Semicolon)?;
+    Ok(Statement::Declare(declaration))
+}
+
+#[tactic(auto, unfolding(expression_parse::specs::Reading::jump))]
+fn jump(parser: &mut Parser) -> Result<Place, Fault>
+    ensures { Gives (λ x. x) result parser.new (spec.jump parser.old) }
+{
+    let place = parser.place();
+    parser.skip();
+    parser.expect(Mark::Semicolon)?;
+    Ok(place)
+}
+
+#[tactic(auto, unfolding(expression_parse::specs::Reading::start))]
+fn start(parser: &mut Parser, room: u32) -> Result<ForStart, Fault>
+    ensures { Gives view.start_of result parser.new (spec.start (spec.at room) parser.old) }
+{
+    if parser.sees(Mark::Semicolon) {
+        return Ok(ForStart::Nothing);
+    }
+    if begins_action(parser.next()) {
+        let action = action(parser, room)?;
+        return Ok(ForStart::Act(action));
+    }
+    let declaration = declaration(parser, room)?;
+    Ok(ForStart::Declare(declaration))
+}
+
+#[tactic(auto, unfolding(expression_parse::specs::Reading::loop_test))]
+fn test(parser: &mut Parser, room: u32) -> Result<Option<Expression>, Fault>
+    ensures { Gives (view.option_of view.expression) result parser.new (spec.loop_test most_operators (spec.at room) parser.old) }
+{
+    if parser.sees(Mark::Semicolon) {
+        return Ok(None);
+    }
+    let e = whole_expression(parser, room)?;
+    Ok(Some(e))
+}
+
+#[tactic(auto, unfolding(expression_parse::specs::Reading::step))]
+fn step(parser: &mut Parser, room: u32) -> Result<Option<Action>, Fault>
+    ensures { Gives (view.option_of view.action_of) result parser.new (spec.step (spec.at room) parser.old) }
+{
+    if parser.sees(Mark::RightParen) {
+        return Ok(None);
+    }
+    let action = action(parser, room)?;
+    Ok(Some(action))
+}
+
+#[tactic(auto, unfolding(expression_parse::specs::Reading::head))]
+fn head(parser: &mut Parser, room: u32) -> Result<Box<ForHead>, Fault>
+    ensures { Gives (λ head. view.head_of head.value) result parser.new (spec.head most_operators (spec.below room) parser.old) }
+{
+    let room = parser.open(Mark::LeftParen, room)?;
+    let start = start(parser, room)?;
+    parser.expect(Mark::Semicolon)?;
+    let test = test(parser, room)?;
+    parser.expect(Mark::Semicolon)?;
+    let step = step(parser, room)?;
+    parser.expect(Mark::RightParen)?;
+    Ok(Box::new(parser.alloc(), ForHead { start, test, step })?)
+}
+
+#[cycle(statement)]
+#[tactic(auto, unfolding(expression_parse::specs::Reading::statement_with))]
+fn statement(parser: &mut Parser, room: u32) -> Result<Statement, Fault>
+    ensures { Gives view.statement result parser.new (spec.statement_with most_operators (spec.below room) parser.old) }
+{
+    if !begins_statement(parser.next()) {
+        return Err(Fault::Refused(ParseCode::P1));
+    }
+    let room = parser.enter(room)?;
+    inside(parser, room)
+}
+
+/// Statements up to a closing brace.
+#[cycle(statement)]
+#[tactic(auto, unfolding(expression_parse::specs::Readers::repeat_behind, expression_parse::specs::Readers::repeat_from))]
+pub(crate) fn statements(parser: &mut Parser, room: u32) -> Result<Vec<Statement>, Fault>
+    ensures { Gives (λ ss. map view.statement ss.items) result parser.new (spec.statements_with most_operators (spec.below room) parser.old) }
+{
+    let mut found = Vec::new(parser.alloc());
+    for _turn in 0..parser.left() {
+        if parser.sees(Mark::RightBrace) {
+            return Ok(found);
         }
-        let declaration = self.declaration(room)?;
-        self.expect(Mark::Semicolon)?;
-        Ok(Statement::Declare(declaration))
+        found.push(statement(parser, room)?)?;
     }
+    Ok(found)
+}
 
-    #[tactic(auto, unfolding(crate::specs::Reading::jump))]
-    fn jump(&mut self) -> Result<Place, Fault>
-        ensures { Gives (λ x. x) result self.new (spec.jump self.old) }
-    {
-        let place = self.place();
-        self.skip();
-        self.expect(Mark::Semicolon)?;
-        Ok(place)
+#[cycle(statement)]
+#[tactic(auto, unfolding(expression_parse::specs::Reading::braces))]
+fn braces(parser: &mut Parser, room: u32) -> Result<Statement, Fault>
+    ensures { Gives view.statement result parser.new (spec.braces most_operators (spec.below room) parser.old) }
+{
+    parser.skip();
+    let inner = statements(parser, room)?;
+    parser.expect(Mark::RightBrace)?;
+    Ok(Statement::Block(inner))
+}
+
+// What may follow the first side of an `if`: an `else` belongs to the nearest one.
+#[cycle(statement)]
+#[tactic(auto, unfolding(expression_parse::specs::Reading::otherwise))]
+fn otherwise(
+    parser: &mut Parser,
+    test: Expression,
+    first: Statement,
+    room: u32,
+) -> Result<Statement, Fault>
+    ensures { Gives view.statement result parser.new (spec.otherwise most_operators (spec.below room) (view.expression test) (view.statement first) parser.old) }
+{
+    if !parser.sees(Mark::Else) {
+        return if_statement(parser.alloc(), test, first);
     }
+    parser.skip();
+    let second = statement(parser, room);
+    if_else_statement(parser.alloc(), test, first, second)
+}
 
-    #[tactic(auto, unfolding(crate::specs::Reading::start))]
-    fn start(&mut self, room: u32) -> Result<ForStart, Fault>
-        ensures { Gives view.start_of result self.new (spec.start (spec.at room) self.old) }
-    {
-        if self.sees(Mark::Semicolon) {
-            return Ok(ForStart::Nothing);
+#[cycle(statement)]
+#[tactic(auto, unfolding(expression_parse::specs::Reading::choice))]
+fn choice(parser: &mut Parser, room: u32) -> Result<Statement, Fault>
+    ensures { Gives view.statement result parser.new (spec.choice most_operators (spec.below room) parser.old) }
+{
+    parser.skip();
+    let test = condition(parser, room)?;
+    let first = statement(parser, room)?;
+    otherwise(parser, test, first, room)
+}
+
+#[cycle(statement)]
+#[tactic(auto, unfolding(expression_parse::specs::Reading::repetition))]
+fn repetition(parser: &mut Parser, room: u32) -> Result<Statement, Fault>
+    ensures { Gives view.statement result parser.new (spec.repetition most_operators (spec.below room) parser.old) }
+{
+    parser.skip();
+    let test = condition(parser, room)?;
+    let body = statement(parser, room);
+    while_statement(parser.alloc(), test, body)
+}
+
+#[cycle(statement)]
+#[tactic(auto, unfolding(expression_parse::specs::Reading::counting_loop))]
+fn counting_loop(parser: &mut Parser, room: u32) -> Result<Statement, Fault>
+    ensures { Gives view.statement result parser.new (spec.counting_loop most_operators (spec.below room) parser.old) }
+{
+    parser.skip();
+    let head = head(parser, room)?;
+    let body = statement(parser, room);
+    for_statement(parser.alloc(), head, body)
+}
+
+#[cycle(statement)]
+#[tactic(auto, unfolding(expression_parse::specs::Reading::transaction_loop))]
+fn transaction_loop(parser: &mut Parser, room: u32) -> Result<Statement, Fault>
+    ensures { Gives view.statement result parser.new (spec.transaction_loop most_operators (spec.below room) parser.old) }
+{
+    parser.skip();
+    parser.open(Mark::LeftParen, room)?;
+    let stream = parser.name()?;
+    parser.expect(Mark::RightParen)?;
+    let body = statement(parser, room)?;
+    Ok(Statement::WhileNotEot(stream, Box::new(parser.alloc(), body)?))
+}
+
+// A statement without attributes, whose level is open.
+#[cycle(statement)]
+#[tactic(auto, unfolding(expression_parse::specs::Reading::bare))]
+fn bare(parser: &mut Parser, room: u32) -> Result<Statement, Fault>
+    ensures { Gives view.statement result parser.new (spec.bare most_operators (spec.below room) parser.old) }
+{
+    match parser.next() {
+        Mark::Semicolon => {
+            parser.skip();
+            Ok(Statement::Empty)
         }
-        if begins_action(self.next()) {
-            let action = self.action(room)?;
-            return Ok(ForStart::Act(action));
+        Mark::LeftBrace => braces(parser, room),
+        Mark::If => choice(parser, room),
+        Mark::While => repetition(parser, room),
+        Mark::For => counting_loop(parser, room),
+        Mark::WhileNotEot => transaction_loop(parser, room),
+        Mark::Break => {
+            let place = jump(parser)?;
+            Ok(Statement::Break(place))
         }
-        let declaration = self.declaration(room)?;
-        Ok(ForStart::Declare(declaration))
-    }
-
-    #[tactic(auto, unfolding(crate::specs::Reading::loop_test))]
-    fn test(&mut self, room: u32) -> Result<Option<Expression>, Fault>
-        ensures { Gives (view.option_of view.expression) result self.new (spec.loop_test most_operators (spec.at room) self.old) }
-    {
-        if self.sees(Mark::Semicolon) {
-            return Ok(None);
+        Mark::Continue => {
+            let place = jump(parser)?;
+            Ok(Statement::Continue(place))
         }
-        let e = self.whole_expression(room)?;
-        Ok(Some(e))
+        _ => simple(parser, room),
     }
+}
 
-    #[tactic(auto, unfolding(crate::specs::Reading::step))]
-    fn step(&mut self, room: u32) -> Result<Option<Action>, Fault>
-        ensures { Gives (view.option_of view.action_of) result self.new (spec.step (spec.at room) self.old) }
-    {
-        if self.sees(Mark::RightParen) {
-            return Ok(None);
-        }
-        let action = self.action(room)?;
-        Ok(Some(action))
+// A statement whose level is open.
+#[cycle(statement)]
+#[tactic(auto, unfolding(expression_parse::specs::Reading::inside_with))]
+fn inside(parser: &mut Parser, room: u32) -> Result<Statement, Fault>
+    ensures { Gives view.statement result parser.new ((spec.at room).inside parser.old) }
+{
+    if !parser.sees(Mark::LeftBracket) {
+        return bare(parser, room);
     }
-
-    #[tactic(auto, unfolding(crate::specs::Reading::head))]
-    fn head(&mut self, room: u32) -> Result<Box<ForHead>, Fault>
-        ensures { Gives (λ head. view.head_of head.value) result self.new (spec.head most_operators (spec.below room) self.old) }
-    {
-        let room = self.open(Mark::LeftParen, room)?;
-        let start = self.start(room)?;
-        self.expect(Mark::Semicolon)?;
-        let test = self.test(room)?;
-        self.expect(Mark::Semicolon)?;
-        let step = self.step(room)?;
-        self.expect(Mark::RightParen)?;
-        Ok(Box::new(self.alloc(), ForHead { start, test, step })?)
-    }
-
-    #[cycle(statement)]
-    #[tactic(auto, unfolding(crate::specs::Reading::statement_with))]
-    fn statement(&mut self, room: u32) -> Result<Statement, Fault>
-        ensures { Gives view.statement result self.new (spec.statement_with most_operators (spec.below room) self.old) }
-    {
-        if !begins_statement(self.next()) {
-            return Err(Fault::Refused(ParseCode::P1));
-        }
-        let room = self.enter(room)?;
-        self.inside(room)
-    }
-
-    /// Statements up to a closing brace.
-    #[cycle(statement)]
-    #[tactic(auto, unfolding(crate::specs::Readers::repeat_behind, crate::specs::Readers::repeat_from))]
-    pub(crate) fn statements(&mut self, room: u32) -> Result<Vec<Statement>, Fault>
-        ensures { Gives (λ ss. map view.statement ss.items) result self.new (spec.statements_with most_operators (spec.below room) self.old) }
-    {
-        let mut found = Vec::new(self.alloc());
-        for _turn in 0..self.left() {
-            if self.sees(Mark::RightBrace) {
-                return Ok(found);
-            }
-            found.push(self.statement(room)?)?;
-        }
-        Ok(found)
-    }
-
-    #[cycle(statement)]
-    #[tactic(auto, unfolding(crate::specs::Reading::braces))]
-    fn braces(&mut self, room: u32) -> Result<Statement, Fault>
-        ensures { Gives view.statement result self.new (spec.braces most_operators (spec.below room) self.old) }
-    {
-        self.skip();
-        let inner = self.statements(room)?;
-        self.expect(Mark::RightBrace)?;
-        Ok(Statement::Block(inner))
-    }
-
-    // What may follow the first side of an `if`: an `else` belongs to the nearest one.
-    #[cycle(statement)]
-    #[tactic(auto, unfolding(crate::specs::Reading::otherwise))]
-    fn otherwise(
-        &mut self,
-        test: Expression,
-        first: Statement,
-        room: u32,
-    ) -> Result<Statement, Fault>
-        ensures { Gives view.statement result self.new (spec.otherwise most_operators (spec.below room) (view.expression test) (view.statement first) self.old) }
-    {
-        if !self.sees(Mark::Else) {
-            return if_statement(self.alloc(), test, first);
-        }
-        self.skip();
-        let second = self.statement(room);
-        if_else_statement(self.alloc(), test, first, second)
-    }
-
-    #[cycle(statement)]
-    #[tactic(auto, unfolding(crate::specs::Reading::choice))]
-    fn choice(&mut self, room: u32) -> Result<Statement, Fault>
-        ensures { Gives view.statement result self.new (spec.choice most_operators (spec.below room) self.old) }
-    {
-        self.skip();
-        let test = self.condition(room)?;
-        let first = self.statement(room)?;
-        self.otherwise(test, first, room)
-    }
-
-    #[cycle(statement)]
-    #[tactic(auto, unfolding(crate::specs::Reading::repetition))]
-    fn repetition(&mut self, room: u32) -> Result<Statement, Fault>
-        ensures { Gives view.statement result self.new (spec.repetition most_operators (spec.below room) self.old) }
-    {
-        self.skip();
-        let test = self.condition(room)?;
-        let body = self.statement(room);
-        while_statement(self.alloc(), test, body)
-    }
-
-    #[cycle(statement)]
-    #[tactic(auto, unfolding(crate::specs::Reading::counting_loop))]
-    fn counting_loop(&mut self, room: u32) -> Result<Statement, Fault>
-        ensures { Gives view.statement result self.new (spec.counting_loop most_operators (spec.below room) self.old) }
-    {
-        self.skip();
-        let head = self.head(room)?;
-        let body = self.statement(room);
-        for_statement(self.alloc(), head, body)
-    }
-
-    #[cycle(statement)]
-    #[tactic(auto, unfolding(crate::specs::Reading::transaction_loop))]
-    fn transaction_loop(&mut self, room: u32) -> Result<Statement, Fault>
-        ensures { Gives view.statement result self.new (spec.transaction_loop most_operators (spec.below room) self.old) }
-    {
-        self.skip();
-        self.open(Mark::LeftParen, room)?;
-        let stream = self.name()?;
-        self.expect(Mark::RightParen)?;
-        let body = self.statement(room)?;
-        Ok(Statement::WhileNotEot(stream, Box::new(self.alloc(), body)?))
-    }
-
-    // A statement without attributes, whose level is open.
-    #[cycle(statement)]
-    #[tactic(auto, unfolding(crate::specs::Reading::bare))]
-    fn bare(&mut self, room: u32) -> Result<Statement, Fault>
-        ensures { Gives view.statement result self.new (spec.bare most_operators (spec.below room) self.old) }
-    {
-        match self.next() {
-            Mark::Semicolon => {
-                self.skip();
-                Ok(Statement::Empty)
-            }
-            Mark::LeftBrace => self.braces(room),
-            Mark::If => self.choice(room),
-            Mark::While => self.repetition(room),
-            Mark::For => self.counting_loop(room),
-            Mark::WhileNotEot => self.transaction_loop(room),
-            Mark::Break => {
-                let place = self.jump()?;
-                Ok(Statement::Break(place))
-            }
-            Mark::Continue => {
-                let place = self.jump()?;
-                Ok(Statement::Continue(place))
-            }
-            _ => self.simple(room),
-        }
-    }
-
-    // A statement whose level is open.
-    #[cycle(statement)]
-    #[tactic(auto, unfolding(crate::specs::Reading::inside_with))]
-    fn inside(&mut self, room: u32) -> Result<Statement, Fault>
-        ensures { Gives view.statement result self.new ((spec.at room).inside self.old) }
-    {
-        if !self.sees(Mark::LeftBracket) {
-            return self.bare(room);
-        }
-        let attributes = self.attributes(room)?;
-        let bare = self.bare(room)?;
-        Ok(Statement::Attributed(attributes, Box::new(self.alloc(), bare)?))
-    }
+    let attributes = attributes(parser, room)?;
+    let bare = bare(parser, room)?;
+    Ok(Statement::Attributed(attributes, Box::new(parser.alloc(), bare)?))
 }

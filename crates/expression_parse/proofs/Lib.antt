@@ -1,0 +1,11 @@
+mod Symbols
+pub mod Turns
+pub mod Rows
+pub mod Parts
+pub mod SoundTypes
+pub mod SoundExpressions
+pub mod CompleteTypes
+pub mod CompleteLevels
+pub mod Begins
+pub mod CompleteExpressions
+pub mod Lists

@@ -1,0 +1,10 @@
+use Rattle.std.proofs.Common.{◌≡◌, ◌-◌, ◌+◌, ◌*◌, map, drop, not}
+use Rattle.tapa_syntax.specs.Limits.{most_operators}
+use Rattle.tapa_syntax.specs.Trees as view
+use Rattle.tapa_syntax.specs.declared.mark.Mark.TheVariants as mark
+use Rattle.expression_parse.specs.Readers.{◌>>◌, sees, skip, separated, repeat_from}
+use Rattle.expression_parse.specs.Reading as spec
+use Rattle.tapa_parse.proofs.action.targets.Given as goal
+
+abbrev pub invariant-loop-turn : goal.invariant-loop-turn
+invariant-loop-turn l = spec.targets most_operators (spec.below l.room) l.fn.parser ≡ repeat_from (sees mark.ShiftRight) (skip >> spec.place_with most_operators (spec.below l.room)) (l._turn-end - l._turn) (map view.place_expression_of l.found.items) l.parser

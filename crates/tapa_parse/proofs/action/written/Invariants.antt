@@ -1,0 +1,10 @@
+use Rattle.std.proofs.Common.{◌≡◌, ◌-◌, ◌+◌, ◌*◌, map, drop, not}
+use Rattle.tapa_syntax.specs.Limits.{most_operators}
+use Rattle.tapa_syntax.specs.Trees as view
+use Rattle.tapa_syntax.specs.declared.mark.Mark.TheVariants as mark
+use Rattle.expression_parse.specs.Readers.{◌>>◌, sees, skip, separated, repeat_from}
+use Rattle.expression_parse.specs.Reading as spec
+use Rattle.tapa_parse.proofs.action.written.Given as goal
+
+abbrev pub invariant-loop-turn : goal.invariant-loop-turn
+invariant-loop-turn l = spec.written most_operators (spec.below l.room) l.fn.parser ≡ repeat_from (sees mark.ShiftLeft) (skip >> spec.sum most_operators (spec.below l.room)) (l._turn-end - l._turn) (map view.expression l.found.items) l.parser

@@ -1,0 +1,16 @@
+use Rattle.std.proofs.Common.{◌≡◌, map, drop, not, rules, arith}
+use Rattle.std.proofs.lemmas.Grind.{common_steps}
+use Rattle.tapa_syntax.specs.Limits.{most_operators}
+use Rattle.tapa_syntax.specs.Trees as view
+use Rattle.tapa_syntax.specs.declared.mark.Mark.TheVariants as mark
+use Rattle.expression_parse.specs.Readers.{◌>>◌, sees, skip, repeat_from}
+use Rattle.expression_parse.specs.Reading as spec
+use Rattle.expression_parse.proofs.Turns.{one_more}
+use Rattle.expression_parse.proofs.Rows.{map-push}
+use Rattle.tapa_parse.proofs.declaration.separated_attribute_arguments.Goals as goal
+
+pub loop-turn-preserved : goal.loop-turn-preserved
+unfolding repeat_from
+loop-turn-preserved c =
+    let e = one_more (λ n. repeat_from (sees mark.Comma) (skip >> spec.attribute_argument) n c.loop-turn.found.items c.loop-turn.parser) _ c.loop-turn._turn c.loop-turn-test.true c.loop-turn.invariant in
+    first_of (search rules, grind (arith, common_steps))

@@ -1,0 +1,23 @@
+use Rattle.std.proofs.Common.{◌≡◌, map, drop, not, rules, arith}
+use Rattle.std.proofs.lemmas.Grind.{common_steps}
+use Rattle.tapa_syntax.specs.Limits.{most_operators}
+use Rattle.tapa_syntax.specs.Trees as view
+use Rattle.tapa_syntax.specs.declared.mark.Mark.TheVariants as mark
+use Rattle.expression_parse.specs.Readers.{◌>>◌, sees, skip, repeat_from}
+use Rattle.expression_parse.specs.Reading as spec
+use Rattle.expression_parse.specs.Reading.{braces}
+use Rattle.expression_parse.proofs.Turns.{one_more}
+use Rattle.expression_parse.proofs.Rows.{map-push}
+use Rattle.tapa_parse.proofs.Rows.{statement-Block}
+use Rattle.tapa_parse.proofs.statement.+statement.Goals as goal
+
+pub braces-returns : goal.braces-returns
+unfolding braces
+braces-returns t c = rw (statement-Block c.in_ok-inner.inner) (first_of (search rules, grind (arith, common_steps)))
+
+pub statements-loop-turn-preserved : goal.statements-loop-turn-preserved
+unfolding repeat_from
+statements-loop-turn-preserved t c =
+    let e = one_more (λ n. repeat_from (λ i. not (sees mark.RightBrace i)) (spec.statement_with most_operators (spec.below c.args.room)) n (map view.statement c.loop-turn.found.items) c.loop-turn.parser) _ c.loop-turn._turn c.loop-turn-test.true c.loop-turn.invariant in
+    let p = map-push view.statement c.loop-turn.found.items in
+    first_of (search rules, grind (arith, common_steps))

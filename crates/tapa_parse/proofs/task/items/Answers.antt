@@ -1,0 +1,17 @@
+use Rattle.std.proofs.Common.{◌≡◌, map, drop, not, rules, arith}
+use Rattle.std.proofs.lemmas.Grind.{common_steps}
+use Rattle.tapa_syntax.specs.Limits.{most_operators}
+use Rattle.tapa_syntax.specs.Trees as view
+use Rattle.tapa_syntax.specs.declared.mark.Mark.TheVariants as mark
+use Rattle.expression_parse.specs.Readers.{is_left, ◌>>◌, sees, skip, repeat_from}
+use Rattle.tapa_parse.specs.Reading as spec
+use Rattle.expression_parse.proofs.Turns.{one_more}
+use Rattle.expression_parse.proofs.Rows.{map-push}
+use Rattle.tapa_parse.proofs.task.items.Goals as goal
+
+pub loop-turn-preserved : goal.loop-turn-preserved
+unfolding repeat_from
+loop-turn-preserved c =
+    let e = one_more (λ n. repeat_from is_left (spec.item most_operators (spec.below c.args.room)) n (map view.item_of c.loop-turn.found.items) c.loop-turn.parser) _ c.loop-turn._turn c.loop-turn-test.true c.loop-turn.invariant in
+    let p = map-push view.item_of c.loop-turn.found.items in
+    first_of (search rules, grind (arith, common_steps))

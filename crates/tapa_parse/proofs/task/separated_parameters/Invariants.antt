@@ -1,0 +1,10 @@
+use Rattle.std.proofs.Common.{◌≡◌, ◌-◌, ◌+◌, ◌*◌, map, drop, not}
+use Rattle.tapa_syntax.specs.Limits.{most_operators}
+use Rattle.tapa_syntax.specs.Trees as view
+use Rattle.tapa_syntax.specs.declared.mark.Mark.TheVariants as mark
+use Rattle.expression_parse.specs.Readers.{◌>>◌, sees, skip, separated, repeat_from}
+use Rattle.tapa_parse.specs.Reading as spec
+use Rattle.tapa_parse.proofs.task.separated_parameters.Given as goal
+
+abbrev pub invariant-loop-turn : goal.invariant-loop-turn
+invariant-loop-turn l = separated mark.Comma spec.parameter l.fn.parser ≡ repeat_from (sees mark.Comma) (skip >> spec.parameter) (l._turn-end - l._turn) l.found.items l.parser
