@@ -211,6 +211,24 @@ fn lexemes_grammar_and_items(rt: HostRuntime) -> Result<(), Fail> {
             "const int x = 1 / (4294967295 + 1);",
         ),
         (
+            "void G(tapa::mmap<bool> m) { ++m[0]; }",
+            "C3",
+            32,
+            "void G(tapa::mmap<bool> m) { --m[0]; }",
+        ),
+        (
+            "void G(bool b) { b++; }",
+            "C3",
+            18,
+            "void G(bool b) { b += 1; }",
+        ),
+        (
+            "void G() { G += 1; }",
+            "C3",
+            12,
+            "void G(int G) { G += 1; }",
+        ),
+        (
             "void U() { tapa::task().invoke(U); }",
             "C10",
             32,

@@ -136,6 +136,25 @@ fn the_first_of_several_faults(rt: HostRuntime) {
             (1, 37),
         ),
         (
+            "void F() { } void U() { tapa::stream<int, 0> q; tapa::task().invoke(F); } void T() { tapa::task().invoke(F); }",
+            "T",
+            "C11 4096",
+            (1, 43),
+        ),
+        (
+            "void F() { int a[(4 * 2000)]; a[1] = 1 / 0; }",
+            "F",
+            "C11 4096",
+            (1, 18),
+        ),
+        ("void F() { int a[(4 / 0 + 5000)]; }", "F", "C9", (1, 21)),
+        (
+            "void T(int T) { tapa::task().invoke(T, 1); }",
+            "T",
+            "C3",
+            (1, 37),
+        ),
+        (
             "void P(tapa::ostream<int>& q) { } void U() { tapa::stream<int> r; tapa::task().invoke(P, r); } void F() { } void T() { tapa::task().invoke(F); }",
             "T",
             "",

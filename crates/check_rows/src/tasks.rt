@@ -116,6 +116,12 @@ fn invocations(rt: HostRuntime) -> Result<(), Fail> {
             "void T(int n) { tapa::task().invoke(S, n); }",
         ),
         (
+            "const int N = 1; void T(int n) { tapa::task().invoke(S, N + n); }",
+            "C3",
+            61,
+            "const int N = 1; void T(int n) { tapa::task().invoke(S, N + N); }",
+        ),
+        (
             "void T(int n) { tapa::task().invoke(S, (n)); }",
             "C3",
             41,
