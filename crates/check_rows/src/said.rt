@@ -6,7 +6,7 @@ use tapa_lex::{LexCode, LexFault, lex};
 use tapa_parse::{ParseCode, ParseFault, parse};
 use tapa_syntax::Program;
 
-/// What is told of a text: a code, with its limit for `C11`, and a place. Of an accepted text nothing is told.
+/// What is told of a text that is refused: a code, with its limit for `C11`, and a place.
 #[derive(Clone, Copy)]
 pub(crate) struct Told {
     pub code: &'static str,
@@ -99,22 +99,31 @@ pub(crate) fn program_of(alloc: Global, text: &[u8], top: &str) -> Result<Progra
     }
 }
 
-pub(crate) fn told_of(alloc: Global, text: &[u8], top: &str) -> Told {
+/// What is told of a text, as `CODE LINE:COL`, or `accepted`.
+pub(crate) fn told_of(alloc: Global, text: &[u8], top: &str) -> Result<String, Fail> {
     match program_of(alloc, text, top) {
-        Ok(_program) => nothing(""),
-        Err(told) => told,
+        Ok(_program) => Ok(String::from_str(alloc, "accepted")?),
+        Err(told) => Ok(format!(in alloc; "{} {}:{}", told.code, told.line, told.col)?),
     }
 }
 
 /// What is told of a row between two texts, with the top task `T`.
-pub(crate) fn told_within(alloc: Global, head: &str, row: &str, tail: &str) -> Result<Told, Fail> {
+pub(crate) fn told_within(
+    alloc: Global,
+    head: &str,
+    row: &str,
+    tail: &str,
+) -> Result<String, Fail> {
     let mut text = head.as_bytes().to_vec(alloc)?;
     text.extend_from_slice(row.as_bytes())?;
     text.extend_from_slice(tail.as_bytes())?;
-    Ok(told_of(alloc, &text, "T"))
+    told_of(alloc, &text, "T")
 }
 
-/// It is this code at this line and column.
-pub(crate) fn is_told(told: Told, code: &str, at: (u32, u32)) -> bool {
-    told.code == code && told.line == at.0 && told.col == at.1
+/// What is wanted, a source that is refused, and one that is accepted.
+pub(crate) fn parts(row: &str) -> Option<(&str, &str, &str)> {
+    let (wanted, rest) = row.split_once(" `")?;
+    let (refused, rest) = rest.split_once("` `")?;
+    let (accepted, _end) = rest.split_once("`")?;
+    Some((wanted, refused, accepted))
 }
