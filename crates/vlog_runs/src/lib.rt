@@ -1,0 +1,6 @@
+//! That a design has exactly one run, from each power-up and in each environment.
+#![tactic(auto)]
+
+mod laws;
+
+pub use laws::{law_design_is_grounded, law_one_run_of_inputs};
