@@ -31,7 +31,7 @@ pub first-misshapen_in : (group : Group) (shape : Shape) (file : Json) (found : 
 unfolding misshapen_in
 first-misshapen_in group shape file found ports is all good =
     rw (← is, ← all, good) (first_of_two (key_of group) (filter (λ port. not (is_shaped group (get_member port.name (members_at found)))) ports) (map (key_in group) (filter (λ name. not (list_any (is_name_of name) ports)) (keys_of (members_at found))))
-        ∙ ap (or_else (option_map (key_of group) (first (filter (λ port. not (is_shaped group (get_member port.name (members_at found)))) ports)))) (first-map (key_in group) (filter (λ name. not (list_any (is_name_of name) ports)) (keys_of (members_at found)))))
+    ∙ ap (or_else (option_map (key_of group) (first (filter (λ port. not (is_shaped group (get_member port.name (members_at found)))) ports)))) (first-map (key_in group) (filter (λ name. not (list_any (is_name_of name) ports)) (keys_of (members_at found)))))
 
 -- the same, by what was found
 pub misshapen_by : (group : Group) (shape : Shape) (file : Json) (found : Option Json) (ports : List Port) (port : Option Port) (name : Option (List ℕ)) → found ≡ group_in group file → ports ≡ ports_of group shape → is_absent_or is_object found ≡ true
@@ -48,8 +48,8 @@ pub first-misshapen : (shape : Shape) (file : Json) → is_object file ≡ true
 unfolding misshapen
 first-misshapen shape file good =
     rw good (first-append (misshapen_in Scalars shape file) _ ∙ ap (or_else (first (misshapen_in Scalars shape file)))
-        (first-append (misshapen_in Memories shape file) _ ∙ ap (or_else (first (misshapen_in Memories shape file)))
-            (first-append (misshapen_in Waits shape file) _)))
+    (first-append (misshapen_in Memories shape file) _ ∙ ap (or_else (first (misshapen_in Memories shape file)))
+    (first-append (misshapen_in Waits shape file) _)))
 
 pub first-misfits_in : (group : Group) (shape : Shape) (file : Json) (found : Option Json) (ports : List Port) → found ≡ group_in group file → ports ≡ ports_of group shape
     → first (misfits_in group shape file) ≡ option_map (key_of group) (first (filter (λ port. not (has_right_bits group port (get_member port.name (members_at found)))) ports))

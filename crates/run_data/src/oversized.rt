@@ -11,6 +11,7 @@ use std::alloc::{AllocError, Global};
 use tapa_base::{Port, Shape};
 
 const MOST_CELLS_OF_ONE: usize = 65_536;
+
 const MOST_CELLS_OF_ALL: usize = 1_048_576;
 
 // How many cells a file gives a memory.

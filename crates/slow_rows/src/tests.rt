@@ -7,11 +7,11 @@ use crate::programs::{
 };
 use kahn_model::rounds::streams;
 use kahn_model::slow::{Variables, trace};
+use program_run::{RunEnd, run_program};
 use run_data::{Last, report_last, report_stream};
 use std::alloc::{AllocError, Global};
 use std::test::Fail;
 use tapa_base::{MemSink, Token};
-use program_run::{RunEnd, run_program};
 use tapa_drive::{read_input, read_program};
 use tapa_syntax::{Bound, Instance, Leaf, Program};
 

@@ -20,7 +20,7 @@ returns-then-not-has_right_bits c =
     let told : c.in_ok-key_of.field-0.items ≡ key_of group port = c.in_ok-key_of.ensures ∙ ap (key_in group) c.bytes-name.ensures.value in
     let there = filter_here bad ports c.loop-port.port-index port (omega arith) c.port-item.is is in
     ap Some told ∙ sym (first-misfits_in group c.args.shape.now (view c.args.file.now) found ports c.group_in-found.ensures c.ports-port-items.ensures
-        ∙ ap (option_map (key_of group)) (c.loop-port.invariant ∙ there))
+    ∙ ap (option_map (key_of group)) (c.loop-port.invariant ∙ there))
 
 pub returns : goal.returns
 returns c =
@@ -29,4 +29,4 @@ returns c =
     let ports = c.ports-port-items.result.now in
     let bad = λ (p : Port). not (has_right_bits group p (get_member p.name (members_at found))) in
     sym (first-misfits_in group c.args.shape.now (view c.args.file.now) found ports c.group_in-found.ensures c.ports-port-items.ensures
-        ∙ ap (option_map (key_of group)) (c.loop-port.invariant ∙ filter_over bad ports c.loop-port.port-index (omega arith)))
+    ∙ ap (option_map (key_of group)) (c.loop-port.invariant ∙ filter_over bad ports c.loop-port.port-index (omega arith)))

@@ -10,10 +10,10 @@ returns-then-is_none c =
     let values = c.args.values.now in
     let fails : has_bits c.args.bits (view c.value-item.result) ≡ false = grind (arith, common_steps) in
     sym (all-map (has_bits c.args.bits) view values ∙ c.loop-value.invariant
-        ∙ all_here (λ value. has_bits c.args.bits (view value)) values c.loop-value.value-index c.value-item.result (omega arith) c.value-item.is fails)
+    ∙ all_here (λ value. has_bits c.args.bits (view value)) values c.loop-value.value-index c.value-item.result (omega arith) c.value-item.is fails)
 
 pub returns : goal.returns
 returns c =
     let values = c.args.values.now in
     sym (all-map (has_bits c.args.bits) view values ∙ c.loop-value.invariant
-        ∙ all_over (λ value. has_bits c.args.bits (view value)) values c.loop-value.value-index (omega arith))
+    ∙ all_over (λ value. has_bits c.args.bits (view value)) values c.loop-value.value-index (omega arith))

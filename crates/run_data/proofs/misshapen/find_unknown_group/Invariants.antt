@@ -9,4 +9,4 @@ invariant-loop-key l =
     (goal.iterator-loop-key).can_next l.key-iterator ×
     (goal.iterator-loop-key).is_finite l.key-iterator ×
     (first (filter (λ key. not (is_among group_keys key)) (map string_bytes (entry_keys l.members.entries)))
-        ≡ first (filter (λ key. not (is_among group_keys key)) (map string_bytes l.key-iterator)))
+    ≡ first (filter (λ key. not (is_among group_keys key)) (map string_bytes l.key-iterator)))

@@ -10,4 +10,4 @@ invariant-loop-key l =
     (goal.iterator-loop-key).can_next l.key-iterator ×
     (goal.iterator-loop-key).is_finite l.key-iterator ×
     (first (filter (λ name. not (list_any (is_name_of name) l.ports)) (map string_bytes (entry_keys l.members.entries)))
-        ≡ first (filter (λ name. not (list_any (is_name_of name) l.ports)) (map string_bytes l.key-iterator)))
+    ≡ first (filter (λ name. not (list_any (is_name_of name) l.ports)) (map string_bytes l.key-iterator)))
