@@ -1,4 +1,4 @@
-pub mod Cells
+pub mod LastCells
 pub mod Lines
 pub mod OneWay
 pub mod Running

@@ -24,11 +24,14 @@ use Rattle.net_core.specs.declared.input.Input.{Input}
 use Rattle.net_core.specs.Bindings.{ends_at, ends_in_leaf, leaf_in}
 use Rattle.net_core.specs.Bounded.{instance_job, leaf_behavior, scalars_of, memories_of}
 use Rattle.net_core.specs.Job.{Job}
+use Rattle.std.specs.Arc.{arc_value}
+use Rattle.std.specs.declared.alloc.Global.{Global}
+use Rattle.std.specs.declared.sync.Arc.{Arc}
 use Rattle.task_fsm.specs.declared.machine.Fsm.{Fsm}
 use Rattle.task_fsm.specs.Lowered.{IsLowered}
 use Rattle.coro_machine.specs.declared.coro.Coro.{Coro}
 use Rattle.coro_machine.specs.Coro.{job_with, FitsLeaf, start_of, IsCoroOf}
-use Rattle.program_run.specs.Started.{kinds_in, ScalarsFit, AreStarted}
+use Rattle.program_run.specs.Started.{kinds_in, ScalarsFit, AreLowered, AreStarted}
 
 abbrev job_in_leaf : Program → List ℕ → List (List ℕ) → Instance → Option Leaf → Job
 job_in_leaf program scalars memories x o = record {
@@ -94,4 +97,12 @@ started_more program input n all c len before last i x within at =
     elim (pushed all c x i at) [
       | inl w ↦ before i x (omega (arith, w.0, len)) w.1
       | inr w ↦ subst (λ (k : ℕ). IsCoroOf x (instance_job program input k) []) (omega (arith, w.0, len)) (subst (λ (d : Coro). IsCoroOf d (instance_job program input n) []) w.1 last)
+    ]
+
+-- one machine more
+pub lowered_more : (program : Program) (n : ℕ) (all : List (Arc Fsm Global)) (machine : Arc Fsm Global) → length all ≡ n → AreLowered program n all → ((leaf : Leaf) → slice_get program.bodies.items n ≡ Some leaf → IsLeaf leaf → IsLowered leaf (arc_value machine)) → AreLowered program (n + 1) (all ++ machine ∷ [])
+lowered_more program n all machine len before last b leaf x within at_leaf at is_leaf =
+    elim (pushed all machine x b at) [
+      | inl w ↦ before b leaf x (omega (arith, w.0, len)) at_leaf w.1 is_leaf
+      | inr w ↦ subst (λ (a : Arc Fsm Global). IsLowered leaf (arc_value a)) w.1 (last leaf (subst (λ (k : ℕ). slice_get program.bodies.items k ≡ Some leaf) (omega (arith, w.0, len)) at_leaf) is_leaf)
     ]

@@ -39,15 +39,18 @@ IsNotBound bound m = (p : ℕ) → slice_get bound p ≡ Some m → ⊥
 
 -- ---- the report
 
+-- the lines of things that are counted, from number n on
+abbrev pub lines_from : {A : Type 0} → (A → ℕ → List ℕ) → ℕ → List A → List ℕ
+lines_from line n [] = []
+lines_from line n (x ∷ rest) = line x n ++ lines_from line (suc n) rest
+
 -- the lines of the streams from number s on, with what was written to each
 abbrev pub stream_lines : (ℕ → List Token) → ℕ → List Stream → List ℕ
-stream_lines tokens s [] = []
-stream_lines tokens s (r ∷ rest) = stream_line r.label (tokens s) ++ stream_lines tokens (suc s) rest
+stream_lines tokens s streams = lines_from (λ (r : Stream) n. stream_line r.label (tokens n)) s streams
 
 -- the lines of the memories from number m on, with the cells of each
 abbrev pub memory_lines : (ℕ → List ℕ) → ℕ → List Memory → List ℕ
-memory_lines cells m [] = []
-memory_lines cells m (r ∷ rest) = memory_line r.name (cells m) ++ memory_lines cells (suc m) rest
+memory_lines cells m memories = lines_from (λ (r : Memory) n. memory_line r.name (cells n)) m memories
 
 -- the lines of the streams and the memories at a count
 abbrev pub lines_at : Program → Values → (ℕ → ℕ) → List ℕ

@@ -1,6 +1,7 @@
 -- The machines of a program's leaves, and its instances before their first ticks.
 use Rattle.std.specs.Prelude.{◌≡◌, ℕ, ◌<◌, List, [], map, Some, slice_get, slice_index}
 use Rattle.std.specs.Arc.{arc_value}
+use Rattle.std.specs.declared.alloc.Global.{Global}
 use Rattle.std.specs.declared.sync.Arc.{Arc}
 use Rattle.tapa_base.specs.declared.kind.Kind.{Kind}
 use Rattle.tapa_base.specs.Kinds.{values_of}
@@ -24,9 +25,9 @@ abbrev pub ScalarsFit : Program → List ℕ → Type 0
 ScalarsFit program scalars = (x : ℕ) (c : Scalar) → slice_get program.scalars.items x ≡ Some c → slice_index scalars x < values_of c.kind
 
 -- each of the first m is the machine of its leaf
-abbrev pub AreLowered : Program → ℕ → List (Arc Fsm) → Type 0
+abbrev pub AreLowered : Program → ℕ → List (Arc Fsm Global) → Type 0
 AreLowered program m machines =
-    (b : ℕ) (leaf : Leaf) (machine : Arc Fsm) → b < m → slice_get program.bodies.items b ≡ Some leaf → slice_get machines b ≡ Some machine → IsLeaf leaf → IsLowered leaf (arc_value machine)
+    (b : ℕ) (leaf : Leaf) (machine : Arc Fsm Global) → b < m → slice_get program.bodies.items b ≡ Some leaf → slice_get machines b ≡ Some machine → IsLeaf leaf → IsLowered leaf (arc_value machine)
 
 -- each of the first m stands for the job of its instance, before its first tick
 abbrev pub AreStarted : Program → Input → ℕ → List Coro → Type 0

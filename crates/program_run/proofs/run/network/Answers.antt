@@ -15,6 +15,6 @@ all_started : (seen program : Program) (saw input : Input) (all : List Coro) →
 all_started seen program saw input all same also started len i c at =
     subst (λ (p : Program). IsCoroOf c (instance_job p input i) []) (sym same) (subst (λ (n : Input). IsCoroOf c (instance_job seen n i) []) (sym also) (started i c (omega (arith, len, slice_get_within all i c at)) at))
 
-pub new-requires-4-clause-first : goal.new-requires-4-clause-first
-new-requires-4-clause-first c =
+pub new-requires-clause-first : goal.new-requires-clause-first
+new-requires-clause-first c =
     all_started c.deref.result.now (arc_value c.in_ok-clone.field-0) c.deref-2.result.now (arc_value c.in_ok-clone-2.field-0) c.in_ok-bodies.bodies.items (c.in_ok-clone.ensures.cases ∙ sym c.deref.ensures) (c.in_ok-clone-2.ensures.cases ∙ sym c.deref-2.ensures) c.in_ok-bodies.ensures.first c.in_ok-bodies.ensures.as_many

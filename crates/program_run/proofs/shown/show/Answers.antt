@@ -1,22 +1,61 @@
-use Rattle.std.proofs.Common.{[], ◌++◌, ap, sym, refl}
+use Rattle.std.proofs.Common.{◌≡◌, ℕ, List, [], ◌++◌, ap, sym, refl, ◌∙◌, append_assoc}
 use Rattle.std.proofs.lemmas.List.{append-nil}
-use Rattle.tapa_base.proofs.Known.{part_of_next, appends_none}
+use Rattle.tapa_base.specs.declared.token.Token.{Token}
+use Rattle.tapa_base.proofs.Known.{part_of_next, appends_none, appends_both}
+use Rattle.tapa_syntax.specs.declared.program.Program.{Program}
+use Rattle.kahn_model.specs.Cells.{cells_at}
 use Rattle.kahn_model.specs.Counts.{written}
-use Rattle.net_core.specs.State.{network, count}
+use Rattle.kahn_model.specs.Network.{Network}
+use Rattle.net_core.specs.Bounded.{scalars_of, memories_of}
+use Rattle.net_core.specs.declared.input.Input.{Input}
+use Rattle.net_core.specs.declared.net_state.NetState.{NetState}
+use Rattle.net_core.specs.State as state
 use Rattle.run_data.specs.Report.{last_line}
-use Rattle.program_run.specs.Run.{stream_lines}
+use Rattle.run_data.specs.declared.lines.Last.{Last}
+use Rattle.program_run.specs.Run.{values_of, network, stream_lines, memory_lines, lines_at}
 use Rattle.program_run.proofs.Lines.{on_err, map_on_err}
+use Rattle.program_run.proofs.Running.{network_is}
 use Rattle.program_run.proofs.shown.show.Goals as goal
+
+module _ (program : Program) (input : Input) (net : NetState) (p : program ≡ net.program) (n : input ≡ net.input) (last : Last) where
+  abbrev streams : List ℕ
+  streams = stream_lines (written (state.network net) (state.count net)) 0 program.streams.items
+
+  abbrev memories : List ℕ
+  memories = memory_lines (cells_at program (scalars_of input) (memories_of input) (state.count net)) 0 program.memories.items
+
+  abbrev report : List ℕ
+  report = lines_at program (values_of input) (state.count net) ++ last_line last
+
+  lines_are : lines_at program (values_of input) (state.count net) ≡ streams ++ memories
+  lines_are = ap (λ (N : Network). stream_lines (written N (state.count net)) 0 program.streams.items ++ memories) (sym (network_is program input net (sym p) (sym n)))
+
+  -- the report is the lines of the streams, those of the memories, and the last
+  two_parts : report ≡ (streams ++ memories) ++ last_line last
+  two_parts = ap (λ (l : List ℕ). l ++ last_line last) lines_are
+
+  three_parts : report ≡ streams ++ (memories ++ last_line last)
+  three_parts = two_parts ∙ append_assoc streams memories (last_line last)
 
 pub returns-in_err-show_streams-clause-part : goal.returns-in_err-show_streams-clause-part
 returns-in_err-show_streams-clause-part g c =
     let old = g.O.Sink.contents c.args.out.now in
-    let lines = stream_lines (written (network c.args.net.now) (count c.args.net.now)) 0 c.args.program.now.streams.items in
-    on_err c.from_residual.result (part_of_next old old (g.O.Sink.contents c.show_streams.new.out) (lines ++ last_line c.args.last) [] lines (last_line c.args.last) refl (appends_none old) c.in_err-show_streams.ensures.part)
+    let s = streams c.args.program.now c.args.input.now c.args.net.now c.requires.program c.requires.input c.args.last in
+    on_err c.from_residual.result (part_of_next old old (g.O.Sink.contents c.show_streams.new.out) _ [] s _ (three_parts c.args.program.now c.args.input.now c.args.net.now c.requires.program c.requires.input c.args.last) (appends_none old) c.in_err-show_streams.ensures.part)
+
+pub returns-in_err-show_memories-clause-part : goal.returns-in_err-show_memories-clause-part
+returns-in_err-show_memories-clause-part g c =
+    let s = streams c.args.program.now c.args.input.now c.args.net.now c.requires.program c.requires.input c.args.last in
+    let m = memories c.args.program.now c.args.input.now c.args.net.now c.requires.program c.requires.input c.args.last in
+    on_err c.from_residual-in_err-show_memories.result
+    (part_of_next (g.O.Sink.contents c.args.out.now) (g.O.Sink.contents c.show_streams.new.out) (g.O.Sink.contents c.show_memories.new.out) _ s m (last_line c.args.last) (three_parts c.args.program.now c.args.input.now c.args.net.now c.requires.program c.requires.input c.args.last) c.in_ok-show_streams.ensures.whole c.in_err-show_memories.ensures.part)
 
 pub returns-clause-part : goal.returns-clause-part
 returns-clause-part g c =
-    let lines = stream_lines (written (network c.args.net.now) (count c.args.net.now)) 0 c.args.program.now.streams.items in
+    let s = streams c.args.program.now c.args.input.now c.args.net.now c.requires.program c.requires.input c.args.last in
+    let m = memories c.args.program.now c.args.input.now c.args.net.now c.requires.program c.requires.input c.args.last in
+    let both = appends_both (g.O.Sink.contents c.args.out.now) (g.O.Sink.contents c.show_streams.new.out) (g.O.Sink.contents c.show_memories.new.out) s m c.in_ok-show_streams.ensures.whole c.in_ok-show_memories.ensures.whole in
     map_on_err c.report_last.result
-    (part_of_next (g.O.Sink.contents c.args.out.now) (g.O.Sink.contents c.show_streams.new.out) (g.O.Sink.contents c.report_last.new.out) (lines ++ last_line c.args.last) lines (last_line c.args.last) [] (ap (λ l. lines ++ l) (sym (append-nil (last_line c.args.last)))) c.in_ok-show_streams.ensures.whole)
+    (part_of_next (g.O.Sink.contents c.args.out.now) (g.O.Sink.contents c.show_memories.new.out) (g.O.Sink.contents c.report_last.new.out) _ (s ++ m) (last_line c.args.last) []
+    (two_parts c.args.program.now c.args.input.now c.args.net.now c.requires.program c.requires.input c.args.last ∙ ap (λ l. (s ++ m) ++ l) (sym (append-nil (last_line c.args.last)))) both)
     c.report_last.ensures.part

@@ -20,7 +20,7 @@ returns-in_err-report_stream-clause-part g c =
     let xs = c.args.program.now.streams.items in
     let within : c.loop-s.s < length xs = omega (arith, c.loop-s-test.true, c.len-s-end.ensures) in
     let line = line_is c.bytes-label.result.now c.carried.result.now xs c.loop-s.s c.index.result.now t c.bytes-label.ensures.value c.index.ensures c.carried.ensures in
-    on_err c.from_residual.result (part_of_next (g.O.Sink.contents c.args.out.now) (g.O.Sink.contents c.loop-s.out) (g.O.Sink.contents c.report_stream.new.out) (stream_lines t 0 xs) (stream_lines t 0 (take c.loop-s.s xs)) (stream_line (get_or xs c.loop-s.s c.index.result.now).label (t c.loop-s.s)) (stream_lines t (suc c.loop-s.s) (drop (suc c.loop-s.s) xs)) (first_next t xs c.loop-s.s c.index.result.now within) c.loop-s.invariant.0 (rw line at c.in_err-report_stream.ensures.part))
+    on_err c.from_residual.result (part_of_next (g.O.Sink.contents c.args.out.now) (g.O.Sink.contents c.loop-s.out) (g.O.Sink.contents c.report_stream.new.out) (stream_lines t 0 xs) (stream_lines t 0 (take c.loop-s.s xs)) (stream_line (get_or xs c.loop-s.s c.index.result.now).label (t c.loop-s.s)) (stream_lines t (suc c.loop-s.s) (drop (suc c.loop-s.s) xs)) (first_next (λ (r : Stream) n. stream_line r.label (t n)) xs c.loop-s.s c.index.result.now within) c.loop-s.invariant.0 (rw line at c.in_err-report_stream.ensures.part))
 
 pub loop-s-preserved : goal.loop-s-preserved
 loop-s-preserved g c =
@@ -28,6 +28,6 @@ loop-s-preserved g c =
     let xs = c.args.program.now.streams.items in
     let within : c.loop-s.s < length xs = omega (arith, c.loop-s-test.true, c.len-s-end.ensures) in
     let line = line_is c.bytes-label.result.now c.carried.result.now xs c.loop-s.s c.index.result.now t c.bytes-label.ensures.value c.index.ensures c.carried.ensures in (
-      rw (add-one c.loop-s.s, first_more t xs c.loop-s.s c.index.result.now within) (appends_both (g.O.Sink.contents c.args.out.now) (g.O.Sink.contents c.loop-s.out) (g.O.Sink.contents c.report_stream.new.out) _ _ c.loop-s.invariant.0 (rw line at c.in_ok-report_stream.ensures.whole)),
+      rw (add-one c.loop-s.s, first_more (λ (r : Stream) n. stream_line r.label (t n)) xs c.loop-s.s c.index.result.now within) (appends_both (g.O.Sink.contents c.args.out.now) (g.O.Sink.contents c.loop-s.out) (g.O.Sink.contents c.report_stream.new.out) _ _ c.loop-s.invariant.0 (rw line at c.in_ok-report_stream.ensures.whole)),
       omega (arith, c.loop-s.invariant.1, c.in_ok-report_stream.ensures.later),
     )

@@ -1,0 +1,26 @@
+use Rattle.std.proofs.Common.{◌≡◌, ◌<◌, ◌++◌, ℕ, List, length, take, drop, suc, get_or, ◌∙◌, ap, add-one, arith}
+use Rattle.tapa_base.proofs.Known.{part_so_far, part_of_next, appends_both}
+use Rattle.tapa_syntax.specs.declared.program.Memory.{Memory}
+use Rattle.kahn_model.specs.Cells.{cells_at}
+use Rattle.net_core.specs.Bounded.{scalars_of, memories_of}
+use Rattle.net_core.specs.State.{count}
+use Rattle.run_data.specs.Report.{memory_line}
+use Rattle.program_run.specs.Run.{memory_lines}
+use Rattle.program_run.proofs.Lines.{on_err}
+use Rattle.program_run.proofs.Showing.{first_next, first_more}
+use Rattle.program_run.proofs.shown.show_memories.Goals as goal
+
+-- the line that a turn writes is that of its memory
+line_is : (name cells : List ℕ) (xs : List Memory) (i : ℕ) (x : Memory) (t : ℕ → List ℕ) → name ≡ x.name → x ≡ get_or xs i x → cells ≡ t i → memory_line name cells ≡ memory_line (get_or xs i x).name (t i)
+line_is name cells xs i x t a b e = ap (λ (l : List ℕ). memory_line l cells) (a ∙ ap (λ (r : Memory). r.name) b) ∙ ap (λ (cs : List ℕ). memory_line (get_or xs i x).name cs) e
+
+pub returns-in_err-cells-clause-part : goal.returns-in_err-cells-clause-part
+returns-in_err-cells-clause-part g c =
+    let t = cells_at c.args.program.now (scalars_of c.args.input.now) (memories_of c.args.input.now) (count c.args.net.now) in
+    let xs = c.args.program.now.memories.items in
+    let within : c.loop-m.m < length xs = omega (arith, c.loop-m-test.true, c.len-m-end.ensures) in
+    on_err c.from_residual.result
+    (part_so_far (g.O.Sink.contents c.args.out.now) (g.O.Sink.contents c.loop-m.out) (memory_lines t 0 xs) (memory_lines t 0 (take c.loop-m.m xs)) _ (first_next (λ (r : Memory) n. memory_line r.name (t n)) xs c.loop-m.m (get_or xs c.loop-m.m c.index.result.now) within) c.loop-m.invariant.0)
+
+pub returns-in_err-cells-clause-later : goal.returns-in_err-cells-clause-later
+returns-in_err-cells-clause-later g c = c.loop-m.invariant.1
