@@ -1,6 +1,7 @@
 -- The cells of a memory after the ticks of its instance.
 use Rattle.std.proofs.Common.{◌≡◌, ◌⊎◌, ◌≢◌, ℕ, ◌<◌, List, [], ◌∷◌, length, map, get_or, Bool, true, false, Option, Some, None, refl, sym, ◌∙◌, ap, subst, ⊎_elim, arith}
 use Rattle.std.specs.Prelude.{◌==◌, if◌then◌else◌, ◌≤◌, slice_get, slice_set, slice_index_or, option_map}
+use Rattle.std.proofs.lemmas.Bool.{cases_eq}
 use Rattle.std.proofs.lemmas.Bool.Decides.{nat_tests}
 use Rattle.std.proofs.lemmas.List.{get_or-set_same, get_or-set_other, length-set}
 use Rattle.std.proofs.lemmas.Option.{slice_get_past, slice_get_read, slice_get_within, slice_get-map, get_or_from_slice_get}
@@ -27,9 +28,6 @@ use Rattle.coro_machine.specs.declared.coro.Coro.{Coro}
 use Rattle.coro_machine.specs.Coro.{IsCoroOf}
 use Rattle.program_run.proofs.Starting.{job_is}
 use Rattle.program_run.specs.Run.{IsNotBound}
-
-cases_same : (x y : ℕ) → (x ≡ y) ⊎ (x ≡ y → ⊥)
-cases_same x y = grind nat_tests
 
 same_number : (m r : ℕ) → r ≡ m → (r == m) ≡ true
 same_number m r e = grind (arith, nat_tests)
@@ -84,7 +82,7 @@ module _ (bound : ℕ → Option ℕ) (m : ℕ) where
         (λ (d : q ≡ p → ⊥).
         held_cells ts (with_cell rows q i v) cells (within rows q i v there) (get_or-set_other rows q p (slice_set (slice_index_or rows q []) i v) [] (λ e. d (sym e)) ∙ same)
         ∙ ap (λ (l : List ℕ). after_stores bound m l (map (tick_at f) ts)) (sym (stored_else cells q i v (λ b. d (once q b)))))
-        (cases_same q p)
+        (cases_eq q p)
     held_cells (Take s t ∷ ts) rows cells there same = held_cells ts rows cells there same
     held_cells (See s t ∷ ts) rows cells there same = held_cells ts rows cells there same
     held_cells (End ∷ ts) rows cells there same = held_cells ts rows cells there same
@@ -131,10 +129,10 @@ listed net valid m p o x c cells at_m at_x at_p stands holds =
     let f = stream_at net.program o.owner in
     let inside = slice_get_within net.program.instances.items o.owner x at_x in
     let made =
-        made_is_map (network_on net.program net.input) valid.is_network (count_of net.counts) valid.reachable o.owner job.behavior f (Reads net.program o.owner) (Writes net.program o.owner) ((program_is net.program net.input valid.well_formed).placed o.owner inside) (IsCoroOf c job) stands in
+    made_is_map (network_on net.program net.input) valid.is_network (count_of net.counts) valid.reachable o.owner job.behavior f (Reads net.program o.owner) (Writes net.program o.owner) ((program_is net.program net.input valid.well_formed).placed o.owner inside) (IsCoroOf c job) stands in
     let rows : job.cells ≡ map (λ q. slice_index_or memories q []) x.memories.items = ap (λ (j : Job). j.cells) (job_is net.program net.input valid.fits o.owner x h.0 at_x h.1) in
     let at_row : slice_get job.cells p ≡ Some (slice_index_or memories m []) =
-        ap (λ (l : List (List ℕ)). slice_get l p) rows ∙ slice_get-map (λ q. slice_index_or memories q []) x.memories.items p ∙ ap (option_map (λ q. slice_index_or memories q [])) at_p in
+    ap (λ (l : List (List ℕ)). slice_get l p) rows ∙ slice_get-map (λ q. slice_index_or memories q []) x.memories.items p ∙ ap (option_map (λ q. slice_index_or memories q [])) at_p in
     let row : slice_index_or job.cells p [] ≡ slice_index_or memories m [] = get_or_from_slice_get job.cells p (slice_index_or memories m []) [] at_row in
     let here : memory_at (slice_get net.program.instances.items o.owner) p ≡ Some m = ap (λ (y : Option Instance). memory_at y p) at_x ∙ at_p in
     let once : (q : ℕ) → memory_at (slice_get net.program.instances.items o.owner) q ≡ Some m → q ≡ p = λ q e. h.1.memories_once q p m (sym (ap (λ (y : Option Instance). memory_at y q) at_x) ∙ e) at_p in

@@ -79,8 +79,8 @@ module _ (p q : Program) (same : flat_program p ≡ flat_program q) (values : Va
   networks : network p values ≡ network q values
   networks = one_meaning p q same values.scalars values.memories
 
-  streams : p.streams.items ≡ q.streams.items
-  streams = ap (λ (f : FlatProgram). f.streams) same
+  same_streams : p.streams.items ≡ q.streams.items
+  same_streams = ap (λ (f : FlatProgram). f.streams) same
 
   memories : p.memories.items ≡ q.memories.items
   memories = ap (λ (f : FlatProgram). f.memories) same
@@ -94,7 +94,7 @@ module _ (p q : Program) (same : flat_program p ≡ flat_program q) (values : Va
   lines : (k : ℕ → ℕ) → lines_at p values k ≡ lines_at q values k
   lines k =
       ap (λ (net : Network). stream_lines (written net k) 0 p.streams.items ++ memory_lines (cells_at p values.scalars values.memories k) 0 p.memories.items) networks
-      ∙ ap (λ (ss : List Stream). stream_lines (written (network q values) k) 0 ss ++ memory_lines (cells_at p values.scalars values.memories k) 0 p.memories.items) streams
+      ∙ ap (λ (ss : List Stream). stream_lines (written (network q values) k) 0 ss ++ memory_lines (cells_at p values.scalars values.memories k) 0 p.memories.items) same_streams
       ∙ ap (λ (c : ℕ → List ℕ). stream_lines (written (network q values) k) 0 q.streams.items ++ memory_lines c 0 p.memories.items) (cells k)
       ∙ ap (λ (ms : List Memory). stream_lines (written (network q values) k) 0 q.streams.items ++ memory_lines (cells_at q values.scalars values.memories k) 0 ms) memories
 
@@ -110,7 +110,7 @@ module _ (p q : Program) (same : flat_program p ≡ flat_program q) (values : Va
     within = subst (λ (net : Network). total net.size h.count ≤ limit) networks h.within;
     whole = λ s l.
         subst (λ (net : Network). IsKahnStream net s (written net h.count s)) networks
-        (h.whole s (subst (λ (ss : List Stream). s < length ss) (sym streams) l));
+        (h.whole s (subst (λ (ss : List Stream). s < length ss) (sym same_streams) l));
     shown = h.shown ∙ reports h.count Done;
   }
   runs_alike limit (Stops report lines) h = record {
@@ -119,7 +119,7 @@ module _ (p q : Program) (same : flat_program p ≡ flat_program q) (values : Va
     within = subst (λ (net : Network). total net.size h.count ≤ limit) networks h.within;
     shown = h.shown ∙ reports h.count Stopped;
     waits = relabelled (network q values) h.count q.streams.items 0 p.instances.items q.instances.items lines instances
-        (subst (λ (ss : List Stream). AreWaitLines (network q values) h.count ss 0 p.instances.items lines) streams
+        (subst (λ (ss : List Stream). AreWaitLines (network q values) h.count ss 0 p.instances.items lines) same_streams
         (subst (λ (net : Network). AreWaitLines net h.count p.streams.items 0 p.instances.items lines) networks h.waits));
   }
   runs_alike limit Exceeds h = subst (λ (net : Network). (k : ℕ → ℕ) → IsEnding net k → limit < total net.size k) networks h

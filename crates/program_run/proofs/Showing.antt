@@ -4,6 +4,17 @@ use Rattle.std.proofs.lemmas.List.{append-nil}
 use Rattle.program_run.specs.Run.{lines_from}
 
 module _ {A : Type 0} (line : A → ℕ → List ℕ) where
+  -- the lines so far, and those to come
+  lines_so_far : (n : ℕ) (xs : List A) (i : ℕ) → lines_from line n xs ≡ lines_from line n (take i xs) ++ lines_from line (n + i) (drop i xs)
+  lines_so_far n xs zero = ap (λ (m : ℕ). lines_from line m xs) (sym (add-zero n))
+  lines_so_far n [] (suc i) = refl
+  lines_so_far n (x ∷ xs) (suc i) =
+      ap (λ (l : List ℕ). line x n ++ l) (lines_so_far (suc n) xs i ∙ ap (λ (m : ℕ). lines_from line (suc n) (take i xs) ++ lines_from line m (drop i xs)) (omega arith))
+      ∙ sym (append_assoc (line x n) (lines_from line (suc n) (take i xs)) (lines_from line (n + suc i) (drop i xs)))
+
+  pub first_so_far : (xs : List A) (i : ℕ) → lines_from line 0 xs ≡ lines_from line 0 (take i xs) ++ lines_from line (0 + i) (drop i xs)
+  first_so_far = lines_so_far 0
+
   -- the next line, and those behind it
   lines_next : (n : ℕ) (xs : List A) (i : ℕ) (d : A) → i < length xs → lines_from line n xs ≡ lines_from line n (take i xs) ++ (line (get_or xs i d) (n + i) ++ lines_from line (n + suc i) (drop (suc i) xs))
   lines_next n [] i d h = absurd (omega arith)

@@ -56,7 +56,8 @@ fn show_memories<O: Sink>(
 {
     for m in 0..program.memories.len() {
         let cells = last_cells(program, input, net, m)?;
-        report_memory(alloc, program.memories[m].name.bytes(), cells, out)?;
+        let name = program.memories[m].name.bytes();
+        report_memory(alloc, name, cells, out)?;
     }
     Ok(())
 }

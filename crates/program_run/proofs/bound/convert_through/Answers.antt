@@ -1,6 +1,7 @@
 use Rattle.std.proofs.Common.{◌≡◌, ◌<◌, ◌+◌, ℕ, List, drop, length, get_or, sym, ap, subst, ◌∙◌}
 use Rattle.std.proofs.lemmas.List.{drop_more}
 use Rattle.tapa_base.specs.declared.kind.Kind.{Kind}
+use Rattle.tapa_base.specs.declared.kind.Kind.TheVariants.{Bool}
 use Rattle.tapa_base.specs.Kinds.{converted, values_of}
 use Rattle.kahn_model.specs.Start.{through}
 use Rattle.kahn_model.proofs.Values.{converted_fits}
@@ -12,6 +13,6 @@ one_more kinds i d last value next inside is =
 
 pub loop-kind-preserved : goal.loop-kind-preserved
 loop-kind-preserved c = (
-  one_more c.args.kinds.now c.loop-kind.kind-index _ c.loop-kind.last c.loop-kind.value c.convert-value.result c.loop-kind-test.true c.convert-value.ensures ∙ c.loop-kind.invariant.0,
-  subst (λ (n : ℕ). n < values_of (get_or c.args.kinds.now c.loop-kind.kind-index _)) (sym c.convert-value.ensures) (converted_fits c.loop-kind.last _ c.loop-kind.value),
+  one_more c.args.kinds.now c.loop-kind.kind-index Bool c.loop-kind.last c.loop-kind.value c.convert-value.result c.loop-kind-test.true c.convert-value.ensures ∙ c.loop-kind.invariant.0,
+  subst (λ (n : ℕ). n < values_of (get_or c.args.kinds.now c.loop-kind.kind-index Bool)) (sym c.convert-value.ensures) (converted_fits c.loop-kind.last (get_or c.args.kinds.now c.loop-kind.kind-index Bool) c.loop-kind.value),
 )

@@ -19,5 +19,5 @@ convert_through-requires c =
     let kinds = kinds_in c.args.program.now in
     let x = c.in-Top.scalar in
     let kind : c.scalar_kind.result ≡ unwrap_or (option_map (λ (s : Scalar). s.kind) (slice_get c.args.program.now.scalars.items x)) U64 =
-        c.scalar_kind.ensures ∙ sym (unwrap_or-slice_get kinds x U64) ∙ ap (λ (o : Option Kind). unwrap_or o U64) (slice_get-map (λ (s : Scalar). s.kind) c.args.program.now.scalars.items x) in
+    c.scalar_kind.ensures ∙ sym (unwrap_or-slice_get kinds x U64) ∙ ap (λ (o : Option Kind). unwrap_or o U64) (slice_get-map (λ (s : Scalar). s.kind) c.args.program.now.scalars.items x) in
     subst (λ (k : Kind). c.value_at.result < values_of k) (sym kind) (fits_kind c.args.program.now c.args.scalars.now c.requires x c.value_at.result c.value_at.ensures c.value_at.type_inv (slice_get c.args.program.now.scalars.items x) refl)

@@ -6,7 +6,15 @@ use Rattle.program_run.specs.Run.{values_of}
 use Rattle.program_run.proofs.run.run_program.Goals as goal
 
 pub returns-clause-part : goal.returns-clause-part
-returns-clause-part g c = ?
+returns-clause-part g c =
+    let same : c.deref.result.now ≡ c.args.program = c.deref.ensures ∙ c.in-Ok.ensures.ok in
+    let also : c.deref-2.result.now ≡ c.args.input = c.deref-2.ensures ∙ c.in-Ok-new.ensures.ok in
+    subst (λ (i : Input). OnErr c.drive.result (HasPart c.args.program (values_of i) c.args.limit (g.O.Sink.contents c.args.out.now) (g.O.Sink.contents c.drive.new.out))) also
+    (subst (λ (p : Program). OnErr c.drive.result (HasPart p (values_of c.deref-2.result.now) c.args.limit (g.O.Sink.contents c.args.out.now) (g.O.Sink.contents c.drive.new.out))) same c.drive.ensures.part)
 
 pub returns-clause-end : goal.returns-clause-end
-returns-clause-end g c = ?
+returns-clause-end g c =
+    let same : c.deref.result.now ≡ c.args.program = c.deref.ensures ∙ c.in-Ok.ensures.ok in
+    let also : c.deref-2.result.now ≡ c.args.input = c.deref-2.ensures ∙ c.in-Ok-new.ensures.ok in
+    subst (λ (i : Input). IfOk c.drive.result (λ end. EndsSo c.args.program (values_of i) c.args.limit (g.O.Sink.contents c.args.out.now) (g.O.Sink.contents c.drive.new.out) end)) also
+    (subst (λ (p : Program). IfOk c.drive.result (λ end. EndsSo p (values_of c.deref-2.result.now) c.args.limit (g.O.Sink.contents c.args.out.now) (g.O.Sink.contents c.drive.new.out) end)) same c.drive.ensures.end)

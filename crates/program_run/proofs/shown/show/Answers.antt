@@ -1,6 +1,7 @@
-use Rattle.std.proofs.Common.{◌≡◌, ℕ, List, [], ◌++◌, ap, sym, refl, ◌∙◌, append_assoc}
+use Rattle.std.proofs.Common.{◌≡◌, ℕ, List, [], ◌++◌, Result, Ok, Err, ap, sym, subst, ◌∙◌, append_assoc}
+use Rattle.std.specs.Prelude.{OnOk}
+use Rattle.std.specs.Io.KnownBytes.{Appends}
 use Rattle.std.proofs.lemmas.List.{append-nil}
-use Rattle.tapa_base.specs.declared.token.Token.{Token}
 use Rattle.tapa_base.proofs.Known.{part_of_next, appends_none, appends_both}
 use Rattle.tapa_syntax.specs.declared.program.Program.{Program}
 use Rattle.kahn_model.specs.Cells.{cells_at}
@@ -16,6 +17,10 @@ use Rattle.program_run.specs.Run.{values_of, network, stream_lines, memory_lines
 use Rattle.program_run.proofs.Lines.{on_err, map_on_err}
 use Rattle.program_run.proofs.Running.{network_is}
 use Rattle.program_run.proofs.shown.show.Goals as goal
+
+map_on_ok : {T E P Q : Type 0} (r : Result T E) → (P → Q) → OnOk r P → OnOk r Q
+map_on_ok (Ok x) f p = f p
+map_on_ok (Err e) f p = p
 
 module _ (program : Program) (input : Input) (net : NetState) (p : program ≡ net.program) (n : input ≡ net.input) (last : Last) where
   abbrev streams : List ℕ
@@ -59,3 +64,14 @@ returns-clause-part g c =
     (part_of_next (g.O.Sink.contents c.args.out.now) (g.O.Sink.contents c.show_memories.new.out) (g.O.Sink.contents c.report_last.new.out) _ (s ++ m) (last_line c.args.last) []
     (two_parts c.args.program.now c.args.input.now c.args.net.now c.requires.program c.requires.input c.args.last ∙ ap (λ l. (s ++ m) ++ l) (sym (append-nil (last_line c.args.last)))) both)
     c.report_last.ensures.part
+
+pub returns-clause-whole : goal.returns-clause-whole
+returns-clause-whole g c =
+    let s = streams c.args.program.now c.args.input.now c.args.net.now c.requires.program c.requires.input c.args.last in
+    let m = memories c.args.program.now c.args.input.now c.args.net.now c.requires.program c.requires.input c.args.last in
+    let both = appends_both (g.O.Sink.contents c.args.out.now) (g.O.Sink.contents c.show_streams.new.out) (g.O.Sink.contents c.show_memories.new.out) s m c.in_ok-show_streams.ensures.whole c.in_ok-show_memories.ensures.whole in
+    map_on_ok c.report_last.result
+    (λ last.
+    subst (λ (l : List ℕ). Appends (g.O.Sink.contents c.args.out.now) (g.O.Sink.contents c.report_last.new.out) l) (sym (two_parts c.args.program.now c.args.input.now c.args.net.now c.requires.program c.requires.input c.args.last))
+    (appends_both (g.O.Sink.contents c.args.out.now) (g.O.Sink.contents c.show_memories.new.out) (g.O.Sink.contents c.report_last.new.out) (s ++ m) (last_line c.args.last) both last))
+    c.report_last.ensures.whole

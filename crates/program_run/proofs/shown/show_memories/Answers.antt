@@ -7,7 +7,7 @@ use Rattle.net_core.specs.State.{count}
 use Rattle.run_data.specs.Report.{memory_line}
 use Rattle.program_run.specs.Run.{memory_lines}
 use Rattle.program_run.proofs.Lines.{on_err}
-use Rattle.program_run.proofs.Showing.{first_next, first_more}
+use Rattle.program_run.proofs.Showing.{first_so_far, first_next, first_more}
 use Rattle.program_run.proofs.shown.show_memories.Goals as goal
 
 -- the line that a turn writes is that of its memory
@@ -18,9 +18,27 @@ pub returns-in_err-cells-clause-part : goal.returns-in_err-cells-clause-part
 returns-in_err-cells-clause-part g c =
     let t = cells_at c.args.program.now (scalars_of c.args.input.now) (memories_of c.args.input.now) (count c.args.net.now) in
     let xs = c.args.program.now.memories.items in
-    let within : c.loop-m.m < length xs = omega (arith, c.loop-m-test.true, c.len-m-end.ensures) in
     on_err c.from_residual.result
-    (part_so_far (g.O.Sink.contents c.args.out.now) (g.O.Sink.contents c.loop-m.out) (memory_lines t 0 xs) (memory_lines t 0 (take c.loop-m.m xs)) _ (first_next (λ (r : Memory) n. memory_line r.name (t n)) xs c.loop-m.m (get_or xs c.loop-m.m c.index.result.now) within) c.loop-m.invariant.0)
+    (part_so_far (g.O.Sink.contents c.args.out.now) (g.O.Sink.contents c.loop-m.out) (memory_lines t 0 xs) (memory_lines t 0 (take c.loop-m.m xs)) _ (first_so_far (λ (r : Memory) n. memory_line r.name (t n)) xs c.loop-m.m) c.loop-m.invariant.0)
 
 pub returns-in_err-cells-clause-later : goal.returns-in_err-cells-clause-later
 returns-in_err-cells-clause-later g c = c.loop-m.invariant.1
+
+pub returns-in_err-report_memory-clause-part : goal.returns-in_err-report_memory-clause-part
+returns-in_err-report_memory-clause-part g c =
+    let t = cells_at c.args.program.now (scalars_of c.args.input.now) (memories_of c.args.input.now) (count c.args.net.now) in
+    let xs = c.args.program.now.memories.items in
+    let within : c.loop-m.m < length xs = omega (arith, c.loop-m-test.true, c.len-m-end.ensures) in
+    let line = line_is c.bytes-name.result.now c.in_ok-cells.cells.now xs c.loop-m.m c.index.result.now t c.bytes-name.ensures.value c.index.ensures c.in_ok-cells.ensures in
+    on_err c.from_residual-in_err-report_memory.result
+    (part_of_next (g.O.Sink.contents c.args.out.now) (g.O.Sink.contents c.loop-m.out) (g.O.Sink.contents c.report_memory.new.out) (memory_lines t 0 xs) (memory_lines t 0 (take c.loop-m.m xs)) (memory_line (get_or xs c.loop-m.m c.index.result.now).name (t c.loop-m.m)) (memory_lines t (suc c.loop-m.m) (drop (suc c.loop-m.m) xs)) (first_next (λ (r : Memory) n. memory_line r.name (t n)) xs c.loop-m.m c.index.result.now within) c.loop-m.invariant.0 (rw line at c.in_err-report_memory.ensures.part))
+
+pub loop-m-preserved : goal.loop-m-preserved
+loop-m-preserved g c =
+    let t = cells_at c.args.program.now (scalars_of c.args.input.now) (memories_of c.args.input.now) (count c.args.net.now) in
+    let xs = c.args.program.now.memories.items in
+    let within : c.loop-m.m < length xs = omega (arith, c.loop-m-test.true, c.len-m-end.ensures) in
+    let line = line_is c.bytes-name.result.now c.in_ok-cells.cells.now xs c.loop-m.m c.index.result.now t c.bytes-name.ensures.value c.index.ensures c.in_ok-cells.ensures in (
+      rw (add-one c.loop-m.m, first_more (λ (r : Memory) n. memory_line r.name (t n)) xs c.loop-m.m c.index.result.now within) (appends_both (g.O.Sink.contents c.args.out.now) (g.O.Sink.contents c.loop-m.out) (g.O.Sink.contents c.report_memory.new.out) (memory_lines t 0 (take c.loop-m.m xs)) (memory_line (get_or xs c.loop-m.m c.index.result.now).name (t c.loop-m.m)) c.loop-m.invariant.0 (rw line at c.in_ok-report_memory.ensures.whole)),
+      omega (arith, c.loop-m.invariant.1, c.in_ok-report_memory.ensures.later),
+    )

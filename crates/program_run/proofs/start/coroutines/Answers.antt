@@ -1,6 +1,9 @@
-use Rattle.std.proofs.Common.{◌+◌, List, arith, sym, subst}
+use Rattle.std.proofs.Common.{◌+◌, List, length, arith, sym, subst}
+use Rattle.std.specs.declared.alloc.Global.{Global}
+use Rattle.std.specs.declared.sync.Arc.{Arc}
+use Rattle.task_fsm.specs.declared.machine.Fsm.{Fsm}
 use Rattle.coro_machine.specs.declared.coro.Coro.{Coro}
-use Rattle.program_run.specs.Started.{AreStarted}
+use Rattle.program_run.specs.Started.{AreLowered, AreStarted}
 use Rattle.program_run.proofs.Starting.{started_more}
 use Rattle.program_run.proofs.start.coroutines.Goals as goal
 
@@ -12,3 +15,7 @@ loop-i-preserved c = (
 
 pub returns-clause-first : goal.returns-clause-first
 returns-clause-first c = λ i c' within at. c.loop-i.invariant.1 i c' (omega (arith, c.loop-i-test.false, c.len-i-end.ensures, within)) at
+
+pub start_one-requires-clause-lowered : goal.start_one-requires-clause-lowered
+start_one-requires-clause-lowered c =
+    subst (λ (l : List (Arc Fsm Global)). AreLowered c.args.program.now (length c.args.program.now.bodies.items) l) (sym c.deref.ensures.value) c.in_ok-machines.ensures.lowered
