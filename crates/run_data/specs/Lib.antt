@@ -1,1 +1,4 @@
+pub mod Answer
+pub mod Data
 pub mod Report
+pub mod Seen

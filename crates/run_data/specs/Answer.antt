@@ -1,0 +1,41 @@
+-- What the answers of `read_data` say.
+use Rattle.std.specs.Prelude.{◌≡◌, ℕ, ◌^◌, ◌<◌, List, [], map, length, Some, slice_get, slice_index, slice_index_or, All, ⊤}
+use Rattle.serde_json.specs.Data.{Data as Json}
+use Rattle.tapa_base.specs.declared.shape.Port.{Port}
+use Rattle.tapa_base.specs.declared.shape.Shape.{Shape}
+use Rattle.run_data.specs.Data.{IsJson, Fault, Misshapen, Misfit, Oversized, faults, scalars_of, memories_of, waits_of}
+use Rattle.run_data.specs.Seen.{first}
+use Rattle.run_data.specs.declared.data.Data.{Data}
+use Rattle.run_data.specs.declared.data.DataFault.{DataFault}
+use Rattle.run_data.specs.declared.data.DataFault.TheVariants.{J1, J2, J3, J4, OutOfMemory}
+
+-- the text is JSON and has no fault, and the data are what it gives
+pub record IsDataOf (text : List ℕ) (shape : Shape) (given : Data) : Type 0 where
+  pub file : Json
+  pub is_json : IsJson text file
+  pub faultless : faults shape file ≡ []
+  pub scalars : given.scalars.items ≡ scalars_of shape file
+  pub memories : map (λ cells. cells.items) given.memories.items ≡ memories_of shape file
+  pub waits : map (λ ready. ready.items) given.waits.items ≡ waits_of shape file
+
+-- the text is JSON, and this is its first fault
+pub record IsFirstFault (text : List ℕ) (shape : Shape) (fault : Fault) : Type 0 where
+  pub file : Json
+  pub is_json : IsJson text file
+  pub first : first (faults shape file) ≡ Some fault
+
+-- what a refusal says; want of memory says nothing
+abbrev pub IsCause : List ℕ → Shape → DataFault → Type 0
+IsCause text shape J1 = (file : Json) → IsJson text file → ⊥
+IsCause text shape (J2 key) = IsFirstFault text shape (Misshapen key.items)
+IsCause text shape (J3 key) = IsFirstFault text shape (Misfit key.items)
+IsCause text shape (J4 key) = IsFirstFault text shape (Oversized key.items)
+IsCause text shape OutOfMemory = ⊤
+
+-- one value for each scalar, and cells and ready bits for each memory, all of their bits
+pub record FitsShape (shape : Shape) (given : Data) : Type 0 where
+  pub as_many_scalars : length given.scalars.items ≡ length shape.scalars.items
+  pub as_many_memories : length given.memories.items ≡ length shape.memories.items
+  pub as_many_waits : length given.waits.items ≡ length shape.memories.items
+  pub scalars_fit : (i : ℕ) (port : Port) → slice_get shape.scalars.items i ≡ Some port → slice_index given.scalars.items i < 2 ^ port.bits
+  pub cells_fit : (m : ℕ) (port : Port) → slice_get shape.memories.items m ≡ Some port → All (λ cell. cell < 2 ^ port.bits) (slice_index_or (map (λ cells. cells.items) given.memories.items) m [])

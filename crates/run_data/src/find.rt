@@ -1,0 +1,72 @@
+ghost use Rattle.std.specs.Prelude.{◌≡◌, ◌≤◌, map, option_and_then, IsAscii, IfSome};
+ghost use Rattle.serde_json.specs.Find.{get_member};
+ghost use Rattle.serde_json.specs.View.{view};
+ghost use Rattle.run_data.specs.Data.{group_in, value_in, members_at, items_at, bits_of, bits_of_whole};
+ghost use Rattle.run_data.specs.Seen.{seen};
+
+use crate::group::Group;
+use serde_json::Value;
+use tapa_base::Port;
+
+// What a file has at a group.
+pub(crate) fn group_in<'v>(group: Group, file: &'v Value) -> Option<&'v Value>
+    ensures { seen result ≡ group_in group (view file.now) }
+{
+    file.get(group.key())
+}
+
+// What a group has at a name.
+pub(crate) fn member<'v>(found: Option<&'v Value>, name: &[u8]) -> Option<&'v Value>
+    requires { IsAscii name.now }
+    ensures { seen result ≡ get_member name.now (members_at (seen found.entry)) }
+{
+    let Ok(name) = std::str::from_utf8(name) else {
+        return None;
+    };
+    match found {
+        Some(value) => value.get(name),
+        None => None,
+    }
+}
+
+// The items of a list: none where it is absent or no list.
+pub(crate) fn items(found: Option<&Value>) -> &[Value]
+    ensures { map view result.now ≡ items_at (seen found.entry) }
+{
+    let Some(value) = found else {
+        return &[];
+    };
+    match value.as_array() {
+        Some(list) => list.as_slice(),
+        None => &[],
+    }
+}
+
+// The bits of a number, if it is whole and one of so many bits.
+pub(crate) fn bits_of(bits: u32, value: &Value) -> Option<u64>
+    requires { bits ≤ 64 }
+    ensures { result ≡ bits_of bits (view value.now) }
+{
+    let number = value.as_number()?;
+    let whole = number.as_i128()?;
+    bits_of_whole(bits, whole)
+}
+
+// The bits of a whole number, modulo 2 to their count, if it is one of so many bits.
+fn bits_of_whole(bits: u32, whole: i128) -> Option<u64>
+    requires { bits ≤ 64 }
+    ensures { result ≡ bits_of_whole bits whole }
+{
+    let limit = 1i128 << bits;
+    if whole < 0 {
+        if bits < 2 || whole < -(limit / 2) {
+            None
+        } else {
+            Some((limit + whole) as u64)
+        }
+    } else if whole < limit {
+        Some(whole as u64)
+    } else {
+        None
+    }
+}
