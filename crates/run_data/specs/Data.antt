@@ -55,6 +55,9 @@ keys_of (member key json members) = key ∷ keys_of members
 abbrev pub members_at : Option Json → Members
 members_at found = unwrap_or (option_and_then as_object found) no_members
 
+abbrev pub is_object : Json → Bool
+is_object json = is_some (as_object json)
+
 abbrev pub is_number : Json → Bool
 is_number json = is_some (as_number json)
 
@@ -103,11 +106,14 @@ value_in group file name = get_member name (members_at (group_in group file))
 abbrev pub key_in : Group → List ℕ → List ℕ
 key_in group name = group_key group ++ (codes "." ++ name)
 
-abbrev pub name_of : Port → List ℕ
-name_of port = port.name
+abbrev pub key_of : Group → Port → List ℕ
+key_of group port = key_in group port.name
+
+abbrev pub is_name_of : List ℕ → Port → Bool
+is_name_of name port = bytes_eq name port.name
 
 abbrev pub is_among : List (List ℕ) → List ℕ → Bool
-is_among names name = list_any (bytes_eq name) names
+is_among keys key = list_any (bytes_eq key) keys
 
 -- ---- the keys of faults
 
@@ -115,9 +121,9 @@ is_among names name = list_any (bytes_eq name) names
 -- that are no input's, in the order of their bytes
 unfoldable pub misshapen_in : Group → Shape → Json → List (List ℕ)
 misshapen_in group shape file =
-    if is_absent_or (λ json. is_some (as_object json)) (group_in group file)
-    then map (key_in group) (filter (λ name. not (is_shaped group (value_in group file name))) (map name_of (ports_of group shape)))
-    ++ map (key_in group) (filter (λ name. not (is_among (map name_of (ports_of group shape)) name)) (keys_of (members_at (group_in group file))))
+    if is_absent_or is_object (group_in group file)
+    then map (key_of group) (filter (λ port. not (is_shaped group (value_in group file port.name))) (ports_of group shape))
+    ++ map (key_in group) (filter (λ name. not (list_any (is_name_of name) (ports_of group shape))) (keys_of (members_at (group_in group file))))
     else group_key group ∷ []
 
 abbrev pub group_keys : List (List ℕ)
@@ -126,14 +132,14 @@ group_keys = codes "scalars" ∷ codes "memories" ∷ codes "waits" ∷ []
 -- a file that is no object has the key `.`; the keys that are no group's come last, in the order of their bytes
 unfoldable pub misshapen : Shape → Json → List (List ℕ)
 misshapen shape file =
-    if is_some (as_object file)
+    if is_object file
     then misshapen_in Scalars shape file ++ (misshapen_in Memories shape file ++ (misshapen_in Waits shape file ++ filter (λ key. not (is_among group_keys key)) (keys_of (members_at (Some file)))))
     else codes "." ∷ []
 
 -- the inputs with a number that is not whole, or not one of its bits
 unfoldable pub misfits_in : Group → Shape → Json → List (List ℕ)
 misfits_in group shape file =
-    map (key_in group) (map name_of (filter (λ port. not (has_right_bits group port (value_in group file port.name))) (ports_of group shape)))
+    map (key_of group) (filter (λ port. not (has_right_bits group port (value_in group file port.name))) (ports_of group shape))
 
 unfoldable pub misfits : Shape → Json → List (List ℕ)
 misfits shape file = misfits_in Scalars shape file ++ (misfits_in Memories shape file ++ misfits_in Waits shape file)
@@ -145,22 +151,22 @@ abbrev pub most_cells_of_all : ℕ
 most_cells_of_all = 1048576
 
 -- how many cells a file gives a memory
-abbrev pub cells_in : Json → List ℕ → ℕ
-cells_in file name = length (items_at (value_in Memories file name))
+abbrev pub cells_in : Json → Port → ℕ
+cells_in file port = length (items_at (value_in Memories file port.name))
 
 -- the memories at which the cells so far are too many
-abbrev pub too_many_from : ℕ → Json → List (List ℕ) → List (List ℕ)
-too_many_from before file [] = []
-too_many_from before file (name ∷ names) =
-    if nat_lt most_cells_of_all (before + cells_in file name)
-    then name ∷ too_many_from (before + cells_in file name) file names
-    else too_many_from (before + cells_in file name) file names
+abbrev pub passing_from : ℕ → Json → List Port → List Port
+passing_from before file [] = []
+passing_from before file (port ∷ ports) =
+    if nat_lt most_cells_of_all (before + cells_in file port)
+    then port ∷ passing_from (before + cells_in file port) file ports
+    else passing_from (before + cells_in file port) file ports
 
--- the memories with too many cells of their own, and then those that pass the limit of all
+-- the memories with too many cells of their own, and then those at which all cells so far are too many
 unfoldable pub oversized : Shape → Json → List (List ℕ)
 oversized shape file =
-    map (key_in Memories) (filter (λ name. nat_lt most_cells_of_one (cells_in file name)) (map name_of shape.memories.items))
-    ++ map (key_in Memories) (too_many_from 0 file (map name_of shape.memories.items))
+    map (key_of Memories) (filter (λ port. nat_lt most_cells_of_one (cells_in file port)) shape.memories.items)
+    ++ map (key_of Memories) (passing_from 0 file shape.memories.items)
 
 -- ---- faults
 

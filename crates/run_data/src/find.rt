@@ -1,7 +1,7 @@
-ghost use Rattle.std.specs.Prelude.{◌≡◌, ◌≤◌, map, option_and_then, IsAscii, IfSome};
+ghost use Rattle.std.specs.Prelude.{◌≡◌, ◌≤◌, ◌^◌, map, IsAscii};
 ghost use Rattle.serde_json.specs.Find.{get_member};
 ghost use Rattle.serde_json.specs.View.{view};
-ghost use Rattle.run_data.specs.Data.{group_in, value_in, members_at, items_at, bits_of, bits_of_whole};
+ghost use Rattle.run_data.specs.Data.{group_in, members_at, items_at, bits_of, bits_of_whole};
 ghost use Rattle.run_data.specs.Seen.{seen};
 
 use crate::group::Group;
@@ -52,21 +52,31 @@ pub(crate) fn bits_of(bits: u32, value: &Value) -> Option<u64>
     bits_of_whole(bits, whole)
 }
 
+// How many numbers have so many bits.
+fn numbers_of(bits: u32) -> u128
+    requires { bits ≤ 64 }
+    ensures value { result ≡ 2 ^ bits }
+    ensures within { result ≤ 2 ^ 64 }
+{
+    1 << bits
+}
+
 // The bits of a whole number, modulo 2 to their count, if it is one of so many bits.
 fn bits_of_whole(bits: u32, whole: i128) -> Option<u64>
     requires { bits ≤ 64 }
     ensures { result ≡ bits_of_whole bits whole }
 {
-    let limit = 1i128 << bits;
-    if whole < 0 {
-        if bits < 2 || whole < -(limit / 2) {
-            None
+    let numbers = numbers_of(bits);
+    let size = whole.unsigned_abs();
+    if whole >= 0 {
+        return if size < numbers {
+            Some(size as u64)
         } else {
-            Some((limit + whole) as u64)
-        }
-    } else if whole < limit {
-        Some(whole as u64)
-    } else {
-        None
+            None
+        };
     }
+    if bits < 2 || numbers / 2 < size {
+        return None;
+    }
+    Some((numbers - size) as u64)
 }

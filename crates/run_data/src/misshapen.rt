@@ -1,8 +1,9 @@
-ghost use Rattle.std.specs.Prelude.{◌≡◌, map, find, not, option_map, IfOk};
-ghost use Rattle.std.specs.List.{list_all};
+ghost use Rattle.std.specs.Prelude.{◌≡◌, filter, not, option_map, IfOk};
+ghost use Rattle.std.specs.List.{list_all, list_any};
+ghost use Rattle.std.specs.Option.{option_copied};
 ghost use Rattle.serde_json.specs.Find.{get_member};
 ghost use Rattle.serde_json.specs.View.{view, members_view};
-ghost use Rattle.run_data.specs.Data.{is_number, is_list_of_numbers, is_shaped, is_among, name_of, members_at, keys_of, group_keys, misshapen_in, misshapen};
+ghost use Rattle.run_data.specs.Data.{is_object, is_number, is_absent_or, is_list_of_numbers, is_shaped, is_among, is_name_of, members_at, keys_of, group_keys, misshapen_in, misshapen};
 ghost use Rattle.run_data.specs.Seen.{seen, first};
 
 use crate::find::{group_in, member};
@@ -11,11 +12,17 @@ use serde_json::{Map, Value};
 use std::alloc::{AllocError, Global};
 use tapa_base::{Port, Shape};
 
+fn are_numbers(values: &[Value]) -> bool
+    ensures { result ≡ list_all (λ value. is_number (view value)) values.now }
+{
+    values.iter().all(|value| value.is_number())
+}
+
 fn is_list_of_numbers(value: &Value) -> bool
     ensures { result ≡ is_list_of_numbers (view value.now) }
 {
     match value.as_array() {
-        Some(items) => items.iter().all(|item| item.is_number()),
+        Some(list) => are_numbers(list.as_slice()),
         None => false,
     }
 }
@@ -33,25 +40,24 @@ fn is_shaped(group: Group, found: Option<&Value>) -> bool
 }
 
 // The first input whose value is absent or has another shape.
-fn find_misshapen_name<'s>(
+fn find_misshapen_port<'s>(
     group: Group,
     ports: &'s [Port],
     found: Option<&Value>,
-) -> Option<&'s [u8]>
-    ensures { option_map (λ name. name.now) result
-        ≡ find (λ name. not (is_shaped group (get_member name (members_at (seen found.entry))))) (map name_of ports.now) }
+) -> Option<&'s Port>
+    ensures { option_copied result
+        ≡ first (filter (λ port. not (is_shaped group (get_member port.name (members_at (seen found.entry))))) ports.now) }
 {
     for port in ports {
-        let name = port.name.bytes();
-        if !is_shaped(group, member(found, name)) {
-            return Some(name);
+        if !is_shaped(group, member(found, port.name.bytes())) {
+            return Some(port);
         }
     }
     None
 }
 
-fn is_port(ports: &[Port], name: &[u8]) -> bool
-    ensures { result ≡ is_among (map name_of ports.now) name.now }
+fn is_name_among(ports: &[Port], name: &[u8]) -> bool
+    ensures { result ≡ list_any (is_name_of name.now) ports.now }
 {
     for port in ports {
         if name == port.name.bytes() {
@@ -61,18 +67,41 @@ fn is_port(ports: &[Port], name: &[u8]) -> bool
     false
 }
 
-// The first key that is no input's.
-fn find_unknown<'v>(ports: &[Port], found: Option<&'v Value>) -> Option<&'v [u8]>
+// The first key of an object that is no input's.
+fn find_unknown_key<'v>(ports: &[Port], members: &'v Map<String, Value>) -> Option<&'v [u8]>
     ensures { option_map (λ key. key.now) result
-        ≡ find (λ name. not (is_among (map name_of ports.now) name)) (keys_of (members_at (seen found.entry))) }
+        ≡ first (filter (λ name. not (list_any (is_name_of name) ports.now)) (keys_of (members_view members.now.entries))) }
 {
-    let members = found?.as_object()?;
     for key in members.keys() {
-        if !is_port(ports, key.as_bytes()) {
+        if !is_name_among(ports, key.as_bytes()) {
             return Some(key.as_bytes());
         }
     }
     None
+}
+
+// The first key of a group that is no input's.
+fn find_unknown<'v>(ports: &[Port], found: Option<&'v Value>) -> Option<&'v [u8]>
+    ensures { option_map (λ key. key.now) result
+        ≡ first (filter (λ name. not (list_any (is_name_of name) ports.now)) (keys_of (members_at (seen found.entry)))) }
+{
+    let Some(value) = found else {
+        return None;
+    };
+    match value.as_object() {
+        Some(members) => find_unknown_key(ports, members),
+        None => None,
+    }
+}
+
+// Whether a group is absent or an object.
+fn is_group(found: Option<&Value>) -> bool
+    ensures { result ≡ is_absent_or is_object (seen found.entry) }
+{
+    match found {
+        Some(value) => value.is_object(),
+        None => true,
+    }
 }
 
 // The key of the first fault in a group.
@@ -85,14 +114,12 @@ fn find_misshapen_in(
     ensures { IfOk result (λ key. option_map (λ k. k.items) key ≡ first (misshapen_in group shape.now (view file.now))) }
 {
     let found = group_in(group, file);
-    if let Some(value) = found {
-        if !value.is_object() {
-            return Ok(Some(Vec::from_slice(alloc, group.key().as_bytes())?));
-        }
+    if !is_group(found) {
+        return Ok(Some(Vec::from_slice(alloc, group.key().as_bytes())?));
     }
     let ports = group.ports(shape);
-    if let Some(name) = find_misshapen_name(group, ports, found) {
-        return Ok(Some(group.key_of(alloc, name)?));
+    if let Some(port) = find_misshapen_port(group, ports, found) {
+        return Ok(Some(group.key_of(alloc, port.name.bytes())?));
     }
     match find_unknown(ports, found) {
         Some(name) => Ok(Some(group.key_of(alloc, name)?)),
@@ -100,14 +127,19 @@ fn find_misshapen_in(
     }
 }
 
+fn is_group_key(key: &str) -> bool
+    ensures { result ≡ is_among group_keys key.now }
+{
+    key == "scalars" || key == "memories" || key == "waits"
+}
+
 // The first key of the top object that is no group's.
 fn find_unknown_group(members: &Map<String, Value>) -> Option<&[u8]>
     ensures { option_map (λ key. key.now) result
-        ≡ find (λ key. not (is_among group_keys key)) (keys_of (members_view members.now.entries)) }
+        ≡ first (filter (λ key. not (is_among group_keys key)) (keys_of (members_view members.now.entries))) }
 {
     for key in members.keys() {
-        let known = matches!(key.as_str(), "scalars" | "memories" | "waits");
-        if !known {
+        if !is_group_key(key.as_str()) {
             return Some(key.as_bytes());
         }
     }

@@ -1,0 +1,6 @@
+pub mod Faults
+pub mod Fits
+pub mod Lists
+pub mod Numbers
+pub mod Given
+pub mod Views

@@ -1,0 +1,19 @@
+use Rattle.std.proofs.Common.{◌≡◌, Bool, true, not, Some, string_bytes, sym, ap, ◌∙◌}
+use Rattle.std.proofs.lemmas.Map.Iter.{rest_more, rest_all}
+use Rattle.std.specs.Map.Iter.{deref}
+use Rattle.run_data.specs.Data.{is_among, group_keys}
+use Rattle.run_data.proofs.Views.{key_here, key_nowhere}
+use Rattle.run_data.proofs.misshapen.find_unknown_group.Goals as goal
+
+pub returns-then-not-is_group_key : goal.returns-then-not-is_group_key
+returns-then-not-is_group_key c =
+    let key = c.in-Some.key.now in
+    let left = rest_more deref c.loop-key.key-iterator c.next.new.self c.next.result c.in-Some.key c.in-Some.is c.next.ensures.steps in
+    let unknown : not (is_among group_keys (string_bytes key)) ≡ true = ap not (sym (c.is_group_key.ensures ∙ ap (is_among group_keys) c.as_str.ensures.value) ∙ c.if-not-is_group_key.true) in
+    ap Some c.as_bytes.ensures.value
+    ∙ key_here (λ name. not (is_among group_keys name)) c.args.members.now.entries c.loop-key.key-iterator c.loop-key.invariant.2 key c.next.new.self left unknown
+
+pub returns : goal.returns
+returns c =
+    let left = rest_all deref c.loop-key.key-iterator c.next.new.self c.next.result c.in-None.is c.next.ensures.steps in
+    key_nowhere (λ name. not (is_among group_keys name)) c.args.members.now.entries c.loop-key.key-iterator c.loop-key.invariant.2 left

@@ -1,0 +1,8 @@
+use Rattle.std.proofs.Common.{◌≡◌, map, take}
+use Rattle.serde_json.specs.Find.{get_member}
+use Rattle.run_data.specs.Data.{bits_or_zero, items_at, members_at}
+use Rattle.run_data.specs.Seen.{seen}
+use Rattle.run_data.proofs.values.memories.Given as goal
+
+abbrev pub invariant-loop-port : goal.invariant-loop-port
+invariant-loop-port l = map (λ cells. cells.items) l.memories.items ≡ map (λ port. map (bits_or_zero port.bits) (items_at (get_member port.name (members_at (seen l.found))))) (take l.port-index l.port-items)
