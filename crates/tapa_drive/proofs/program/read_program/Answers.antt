@@ -1,6 +1,6 @@
 use Rattle.std.proofs.Common.{Err, subst}
 use Rattle.expression_check.specs.declared.fault.CheckFault.{CheckFault}
-use Rattle.tapa_drive.proofs.Answered.{Checks, closed_found, closed_refused, breaks_first}
+use Rattle.tapa_drive.proofs.Answered.{Checks, program_of_tree, breaks_first}
 use Rattle.tapa_drive.proofs.program.read_program.Goals as goal
 
 pub returns-in-Err-clause-refused : goal.returns-in-Err-clause-refused
@@ -10,10 +10,5 @@ pub returns-in-Err-At-clause-refused : goal.returns-in-Err-At-clause-refused
 returns-in-Err-At-clause-refused c =
     breaks_first c.args.text.now c.args.top.now c.in-Err-At.broken c.in-Ok.file c.in-Ok.ensures.found (subst (λ (f : CheckFault). Checks (Err f) c.in-Ok.file c.args.top.now) c.in-Err-At.field-0-is c.in-Err-At.ensures.means)
 
-pub returns-clause-found : goal.returns-clause-found
-returns-clause-found c =
-    closed_found c.args.text.now c.args.top.now c.in-Ok-check.program c.in-Ok.file c.in-Ok.ensures.found c.in-Ok-check.ensures.means c.closed.result c.closed.ensures.found
-
-pub returns-clause-refused : goal.returns-clause-refused
-returns-clause-refused c =
-    closed_refused c.args.text.now c.args.top.now c.in-Ok-check.program c.in-Ok.file c.in-Ok.ensures.found c.in-Ok-check.ensures.means c.closed.result c.closed.ensures.refused
+pub returns-in-Ok-check-clause-found : goal.returns-in-Ok-check-clause-found
+returns-in-Ok-check-clause-found c = program_of_tree c.args.text.now c.args.top.now c.in-Ok-check.program c.in-Ok.file c.in-Ok.ensures.found c.in-Ok-check.ensures.means

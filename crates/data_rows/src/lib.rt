@@ -1,0 +1,5 @@
+//! Data files that are read and refused.
+#![tactic(auto)]
+
+#[cfg(test)]
+mod tests;
