@@ -13,7 +13,7 @@ not_both true false b o h = refl
 not_both false c b o h = refl
 
 -- a text without this end has no label before it
-no_label : (front end x : Name) → ((n : ℕ) → drop n (drop (length front) x) ≡ end → ⊥) → label_in front end x ≡ None
+pub no_label : (front end x : Name) → ((n : ℕ) → drop n (drop (length front) x) ≡ end → ⊥) → label_in front end x ≡ None
 unfolding label_in
 no_label front end x h =
     not_both _ _ (bytes_eq (drop (length (drop (length front) x) - length end) (drop (length front) x)) end) _

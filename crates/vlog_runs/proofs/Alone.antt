@@ -45,7 +45,7 @@ module _ {A : Type 0} (p : A → Bool) where
       let rest : 1 ≤ count_by p ys = counted ys x h e in
       omega arith
 
-  twice_counted : (z : A) (zs : List A) (y : A) → p z ≡ true → Has zs y → p y ≡ true → count_by p (z ∷ zs) < 2 → ⊥
+  pub twice_counted : (z : A) (zs : List A) (y : A) → p z ≡ true → Has zs y → p y ≡ true → count_by p (z ∷ zs) < 2 → ⊥
   twice_counted z zs y e k f low =
       let c : count_by p (z ∷ zs) ≡ one_if (p z) + count_by p zs = count_cons p z zs in
       let rest : 1 ≤ count_by p zs = counted zs y k f in

@@ -94,7 +94,7 @@ pub none_counted : (ss : List (Name × Source)) (x : Name) → source_of ss x �
 none_counted [] x e = refl
 none_counted (s ∷ ss) x e = count_cons (names_it x) s ss ∙ none_step ss x s.1 (bytes_eq s.0 x) (none_counted ss x) e
 
-count_map : {A B : Type 0} (p : B → Bool) (f : A → B) (xs : List A) → count_by p (map f xs) ≡ count_by (λ x. p (f x)) xs
+pub count_map : {A B : Type 0} (p : B → Bool) (f : A → B) (xs : List A) → count_by p (map f xs) ≡ count_by (λ x. p (f x)) xs
 count_map p f [] = refl
 count_map p f (x ∷ xs) = count_cons p (f x) (map f xs) ∙ ap (λ n. cond (p (f x)) 1 0 + n) (count_map p f xs) ∙ sym (count_cons (λ x. p (f x)) x xs)
 

@@ -16,3 +16,7 @@ pub mod Solved
 pub mod Only
 pub mod Same
 pub mod Inputs
+pub mod Labelled
+pub mod Lookups
+pub mod Ports
+pub mod Surround

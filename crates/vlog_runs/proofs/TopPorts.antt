@@ -21,7 +21,7 @@ use Rattle.vlog_runs.proofs.Sizes.{found_name}
 use Rattle.vlog_runs.proofs.Alone.{of_items}
 use Rattle.vlog_runs.proofs.Cycles.{port_stands}
 
-memory_clock : (x : Name) → is_clk (m_addr x) ≡ false
+pub memory_clock : (x : Name) → is_clk (m_addr x) ≡ false
 unfolding m_addr clk
 memory_clock x = refl
 
@@ -56,7 +56,7 @@ in_five : (p : PortDecl) (w : Name) (ports : List Declaration) (x : Name) (befor
 in_five p w ports x before h = (both_true _ (has_all_five ports x) (both_true _ (agrees before w p.bits) h).0).1
 
 module _ (ms : List ModuleTree) (tops : first_violation (v6_uses ms) ≡ None) (m : ModuleTree) (in_ms : Has ms m) where
-  use_right : (u : NameUse) → Has (module_tops ms m) u → u.1 ≡ false
+  pub use_right : (u : NameUse) → Has (module_tops ms m) u → u.1 ≡ false
   use_right u h = right (v6_uses ms) tops u (has_flat (module_tops ms) ms m u in_ms h)
 
   -- a clock goes to clocks alone
@@ -88,7 +88,7 @@ module _ (ms : List ModuleTree) (tops : first_violation (v6_uses ms) ≡ None) (
       let r = both_true _ (rdata_fits ports f.0 p) w.0 in
       in_five p (m_wdata x) ports x f.0 (subst (λ (o : Option Name). option_map_or (λ x. p.input && nat_le p.bits 64 && has_all_five ports x && agrees f.0 (m_wdata x) p.bits) o true ≡ true) e r.1)
 
-  five_of : (x : Name) → has_all_five ports x ≡ true
+  pub five_of : (x : Name) → has_all_five ports x ≡ true
       → (has_port ports (m_ack x) ≡ true) × (has_port ports (m_addr x) ≡ true) × (has_port ports (m_wdata x) ≡ true) × (has_port ports (m_we x) ≡ true)
   unfolding has_all_five
   five_of x h =
@@ -97,6 +97,14 @@ module _ (ms : List ModuleTree) (tops : first_violation (v6_uses ms) ≡ None) (
       let a = both_true _ (has_port ports (m_addr x)) w.0 in
       let r = both_true (has_port ports (m_ack x)) (has_port ports (m_rdata x)) a.0 in
       (r.0, a.1, w.1, e.1)
+
+  pub five_rdata : (x : Name) → has_all_five ports x ≡ true → has_port ports (m_rdata x) ≡ true
+  unfolding has_all_five
+  five_rdata x h =
+      let e = both_true _ (has_port ports (m_we x)) h in
+      let w = both_true _ (has_port ports (m_wdata x)) e.0 in
+      let a = both_true _ (has_port ports (m_addr x)) w.0 in
+      (both_true (has_port ports (m_ack x)) (has_port ports (m_rdata x)) a.0).1
 
   asked_read : is_top ms m.name ≡ true → (p : PortDecl) → Has m.ports p → (a : Name) (o : Option Name) → rdata_of p.name ≡ o → Has (read_of o) a → (sort_is_read (sort_of (declared m) a) ≡ true) × (is_clk a ≡ false)
   asked_read top p h a None e k = absurd k

@@ -7,7 +7,8 @@ ghost use Rattle.vlog_tree.specs.Flattened.{FlatNet, parts};
 ghost use Rattle.vlog_tree.specs.Refused.{IsDesign};
 ghost use Rattle.vlog_tree.specs.Table.{Name};
 ghost use Rattle.vlog_tree.specs.Cycle.{Cycle, Path};
-ghost use Rattle.vlog_runs.specs.OneRun.{FitsPowerUp, IsRunOf, IsOnly};
+ghost use Rattle.vlog_runs.specs.OneRun.{FitsPowerUp, IsRunOf, IsRunFrom, IsOnly};
+ghost use Rattle.vlog_tree.specs.Environment.{Environment, FitsShape, shape_of};
 
 /// In a design each net of the flattened tree rests on others in finitely many steps, where what a memory of the top
 /// gives rests on the address that it is asked for.
@@ -20,4 +21,11 @@ pub fn law_design_is_grounded()
 pub fn law_one_run_of_inputs()
     ensures { (ms : List ModuleTree) (top : ℕ) (m : ModuleTree) (inputs : ℕ → Name → ℕ) (contents : Path → Cycle)
         → IsDesign ms top → slice_get ms top ≡ Some m → FitsPowerUp ms m contents → IsOnly ms m (IsRunOf ms m inputs contents) }
+{}
+
+/// A design has exactly one run from each contents that registers and memories can have at power-up, in each environment
+/// that gives its top a value for each scalar, and for each memory its first cells and its ready bits.
+pub fn law_one_run_in_environment()
+    ensures { (ms : List ModuleTree) (top : ℕ) (m : ModuleTree) (env : Environment) (contents : Path → Cycle)
+        → IsDesign ms top → slice_get ms top ≡ Some m → FitsShape env (shape_of m) → FitsPowerUp ms m contents → IsOnly ms m (IsRunFrom ms m env contents) }
 {}

@@ -1,0 +1,7 @@
+//! Small trees of the Verilog subset, and what is told of them.
+#![tactic(auto)]
+
+#[cfg(test)]
+mod tests;
+#[cfg(test)]
+mod trees;
