@@ -8,10 +8,17 @@ use tapa_base::{Port, Shape, Text};
 // So many inputs of a width, named by letters from `a` on.
 fn ports(alloc: Global, count: u8, bits: u32) -> Result<Vec<Port>, AllocError> {
     let mut ports = Vec::new(alloc);
-    for letter in b"abcdefghijklmnopqrstuvwxyz".iter().take(usize::from(count)) {
+    for letter in b"abcdefghijklmnopqrstuvwxyz"
+        .iter()
+        .take(usize::from(count))
+    {
         if letter.is_ascii() {
             let name = vec![in alloc; *letter; 1]?;
-            let name = if name.is_ascii() { name } else { Vec::new(alloc) };
+            let name = if name.is_ascii() {
+                name
+            } else {
+                Vec::new(alloc)
+            };
             ports.push(Port {
                 name: Text::new(name),
                 bits,
@@ -41,8 +48,10 @@ fn told(alloc: Global, text: &[u8], shape: &Shape) -> Result<Vec<u8>, AllocError
     }
     match read_data(alloc, text, shape) {
         Ok(data) => {
-            let line =
-                format!(in alloc; "{:?} {:?} {:?}", data.scalars, data.memories, data.waits)?;
+            let line = format!(in alloc;
+                "{:?} {:?} {:?}",
+                data.scalars, data.memories, data.waits
+            )?;
             Ok(line.into_bytes())
         }
         Err(DataFault::J1) => Vec::from_slice(alloc, b"J1"),
@@ -129,56 +138,185 @@ fn the_first_fault_is_told_with_its_key(rt: HostRuntime) -> Result<(), Fail> {
         (r#"{"scalars":null,"x":1}"#, "J2 scalars"),
         (r#"{"scalars":{"a":1,"b":2}}"#, "J2 memories.a"),
         (r#"{"scalars":{"a":1,"b":2},"memories":3}"#, "J2 memories"),
-        (r#"{"scalars":{"a":1,"b":2},"memories":{"a":[],"b":[]},"waits":[]}"#, "J2 waits"),
-        (r#"{"scalars":{"a":1,"b":2},"memories":{"a":[],"b":[]},"waits":null}"#, "J2 waits"),
+        (
+            r#"{"scalars":{"a":1,"b":2},"memories":{"a":[],"b":[]},"waits":[]}"#,
+            "J2 waits",
+        ),
+        (
+            r#"{"scalars":{"a":1,"b":2},"memories":{"a":[],"b":[]},"waits":null}"#,
+            "J2 waits",
+        ),
         // Missing values.
-        (r#"{"scalars":{"b":2},"memories":{"a":[],"b":[]}}"#, "J2 scalars.a"),
-        (r#"{"scalars":{"a":1},"memories":{"a":[],"b":[]}}"#, "J2 scalars.b"),
-        (r#"{"scalars":{"a":1,"b":2},"memories":{"b":[]}}"#, "J2 memories.a"),
-        (r#"{"scalars":{"a":1,"b":2},"memories":{"a":[]}}"#, "J2 memories.b"),
+        (
+            r#"{"scalars":{"b":2},"memories":{"a":[],"b":[]}}"#,
+            "J2 scalars.a",
+        ),
+        (
+            r#"{"scalars":{"a":1},"memories":{"a":[],"b":[]}}"#,
+            "J2 scalars.b",
+        ),
+        (
+            r#"{"scalars":{"a":1,"b":2},"memories":{"b":[]}}"#,
+            "J2 memories.a",
+        ),
+        (
+            r#"{"scalars":{"a":1,"b":2},"memories":{"a":[]}}"#,
+            "J2 memories.b",
+        ),
         // Values of another shape.
-        (r#"{"scalars":{"a":"1","b":2},"memories":{"a":[],"b":[]}}"#, "J2 scalars.a"),
-        (r#"{"scalars":{"a":1,"b":[2]},"memories":{"a":[],"b":[]}}"#, "J2 scalars.b"),
-        (r#"{"scalars":{"a":true,"b":2},"memories":{"a":[],"b":[]}}"#, "J2 scalars.a"),
-        (r#"{"scalars":{"a":null,"b":2},"memories":{"a":[],"b":[]}}"#, "J2 scalars.a"),
-        (r#"{"scalars":{"a":{},"b":2},"memories":{"a":[],"b":[]}}"#, "J2 scalars.a"),
-        (r#"{"scalars":{"a":1,"b":2},"memories":{"a":1,"b":[]}}"#, "J2 memories.a"),
-        (r#"{"scalars":{"a":1,"b":2},"memories":{"a":[],"b":null}}"#, "J2 memories.b"),
-        (r#"{"scalars":{"a":1,"b":2},"memories":{"a":[1,"2"],"b":[]}}"#, "J2 memories.a"),
-        (r#"{"scalars":{"a":1,"b":2},"memories":{"a":[],"b":[[1]]}}"#, "J2 memories.b"),
-        (r#"{"scalars":{"a":1,"b":2},"memories":{"a":[true],"b":[]}}"#, "J2 memories.a"),
-        (r#"{"scalars":{"a":1,"b":2},"memories":{"a":[],"b":[]},"waits":{"b":1}}"#, "J2 waits.b"),
-        (r#"{"scalars":{"a":1,"b":2},"memories":{"a":[],"b":[]},"waits":{"b":null}}"#, "J2 waits.b"),
-        (r#"{"scalars":{"a":1,"b":2},"memories":{"a":[],"b":[]},"waits":{"a":[true]}}"#, "J2 waits.a"),
+        (
+            r#"{"scalars":{"a":"1","b":2},"memories":{"a":[],"b":[]}}"#,
+            "J2 scalars.a",
+        ),
+        (
+            r#"{"scalars":{"a":1,"b":[2]},"memories":{"a":[],"b":[]}}"#,
+            "J2 scalars.b",
+        ),
+        (
+            r#"{"scalars":{"a":true,"b":2},"memories":{"a":[],"b":[]}}"#,
+            "J2 scalars.a",
+        ),
+        (
+            r#"{"scalars":{"a":null,"b":2},"memories":{"a":[],"b":[]}}"#,
+            "J2 scalars.a",
+        ),
+        (
+            r#"{"scalars":{"a":{},"b":2},"memories":{"a":[],"b":[]}}"#,
+            "J2 scalars.a",
+        ),
+        (
+            r#"{"scalars":{"a":1,"b":2},"memories":{"a":1,"b":[]}}"#,
+            "J2 memories.a",
+        ),
+        (
+            r#"{"scalars":{"a":1,"b":2},"memories":{"a":[],"b":null}}"#,
+            "J2 memories.b",
+        ),
+        (
+            r#"{"scalars":{"a":1,"b":2},"memories":{"a":[1,"2"],"b":[]}}"#,
+            "J2 memories.a",
+        ),
+        (
+            r#"{"scalars":{"a":1,"b":2},"memories":{"a":[],"b":[[1]]}}"#,
+            "J2 memories.b",
+        ),
+        (
+            r#"{"scalars":{"a":1,"b":2},"memories":{"a":[true],"b":[]}}"#,
+            "J2 memories.a",
+        ),
+        (
+            r#"{"scalars":{"a":1,"b":2},"memories":{"a":[],"b":[]},"waits":{"b":1}}"#,
+            "J2 waits.b",
+        ),
+        (
+            r#"{"scalars":{"a":1,"b":2},"memories":{"a":[],"b":[]},"waits":{"b":null}}"#,
+            "J2 waits.b",
+        ),
+        (
+            r#"{"scalars":{"a":1,"b":2},"memories":{"a":[],"b":[]},"waits":{"a":[true]}}"#,
+            "J2 waits.a",
+        ),
         // Unknown keys, in the order of their bytes, after the parameters.
-        (r#"{"scalars":{"a":1,"b":2,"zz":1,"z":1},"memories":{"a":[],"b":[]}}"#, "J2 scalars.z"),
-        (r#"{"scalars":{"a":1,"b":2,"c":1,"C":1},"memories":{"a":[],"b":[]}}"#, "J2 scalars.C"),
-        (r#"{"scalars":{"a":1,"":2},"memories":{"a":[],"b":[]}}"#, "J2 scalars.b"),
-        (r#"{"scalars":{"a":1,"b":2,"":2},"memories":{"a":[],"b":[]}}"#, "J2 scalars."),
-        (r#"{"scalars":{"a":1,"b":2},"memories":{"a":[],"b":[],"ab":[]}}"#, "J2 memories.ab"),
-        (r#"{"scalars":{"a":1,"b":2},"memories":{"a":[],"b":[]},"waits":{"c":[]}}"#, "J2 waits.c"),
-        (r#"{"scalars":{"a":1,"b":2},"memories":{"a":[],"b":[]},"waits":{"c":7}}"#, "J2 waits.c"),
-        (r#"{"scalars":{"a":1,"b":2},"memories":{"a":[],"b":[]},"x":1}"#, "J2 x"),
-        (r#"{"x":1,"scalars":{"a":1,"b":2},"X":1,"memories":{"a":[],"b":[]}}"#, "J2 X"),
-        (r#"{"scalars":{"a":1,"b":2},"memories":{"a":[],"b":[]},"":{}}"#, "J2 "),
-        (r#"{"scalars":{"a":1,"b":2},"memories":{"a":[],"b":[]},"\u00e9\u0041":1}"#, "J2 éA"),
-        (r#"{"scalars":{"a":1,"b":2},"memories":{"a":[],"b":[]},"wait":{}}"#, "J2 wait"),
+        (
+            r#"{"scalars":{"a":1,"b":2,"zz":1,"z":1},"memories":{"a":[],"b":[]}}"#,
+            "J2 scalars.z",
+        ),
+        (
+            r#"{"scalars":{"a":1,"b":2,"c":1,"C":1},"memories":{"a":[],"b":[]}}"#,
+            "J2 scalars.C",
+        ),
+        (
+            r#"{"scalars":{"a":1,"":2},"memories":{"a":[],"b":[]}}"#,
+            "J2 scalars.b",
+        ),
+        (
+            r#"{"scalars":{"a":1,"b":2,"":2},"memories":{"a":[],"b":[]}}"#,
+            "J2 scalars.",
+        ),
+        (
+            r#"{"scalars":{"a":1,"b":2},"memories":{"a":[],"b":[],"ab":[]}}"#,
+            "J2 memories.ab",
+        ),
+        (
+            r#"{"scalars":{"a":1,"b":2},"memories":{"a":[],"b":[]},"waits":{"c":[]}}"#,
+            "J2 waits.c",
+        ),
+        (
+            r#"{"scalars":{"a":1,"b":2},"memories":{"a":[],"b":[]},"waits":{"c":7}}"#,
+            "J2 waits.c",
+        ),
+        (
+            r#"{"scalars":{"a":1,"b":2},"memories":{"a":[],"b":[]},"x":1}"#,
+            "J2 x",
+        ),
+        (
+            r#"{"x":1,"scalars":{"a":1,"b":2},"X":1,"memories":{"a":[],"b":[]}}"#,
+            "J2 X",
+        ),
+        (
+            r#"{"scalars":{"a":1,"b":2},"memories":{"a":[],"b":[]},"":{}}"#,
+            "J2 ",
+        ),
+        (
+            r#"{"scalars":{"a":1,"b":2},"memories":{"a":[],"b":[]},"\u00e9\u0041":1}"#,
+            "J2 éA",
+        ),
+        (
+            r#"{"scalars":{"a":1,"b":2},"memories":{"a":[],"b":[]},"wait":{}}"#,
+            "J2 wait",
+        ),
         // Each place before the next.
         (r#"{"x":1}"#, "J2 scalars.a"),
         (r#"{"scalars":{"a":1,"c":2},"memories":{}}"#, "J2 scalars.b"),
-        (r#"{"scalars":{"a":1,"b":2,"c":2},"memories":{}}"#, "J2 scalars.c"),
-        (r#"{"scalars":{"a":1,"b":2},"memories":{"a":[],"b":[],"c":[]},"waits":1}"#, "J2 memories.c"),
-        (r#"{"scalars":{"a":1,"b":2},"memories":{"a":[],"b":[]},"waits":{"a":1},"A":1}"#, "J2 waits.a"),
+        (
+            r#"{"scalars":{"a":1,"b":2,"c":2},"memories":{}}"#,
+            "J2 scalars.c",
+        ),
+        (
+            r#"{"scalars":{"a":1,"b":2},"memories":{"a":[],"b":[],"c":[]},"waits":1}"#,
+            "J2 memories.c",
+        ),
+        (
+            r#"{"scalars":{"a":1,"b":2},"memories":{"a":[],"b":[]},"waits":{"a":1},"A":1}"#,
+            "J2 waits.a",
+        ),
         // All of J2 before all of J3.
-        (r#"{"scalars":{"a":1.5,"b":2},"memories":{"a":[]}}"#, "J2 memories.b"),
-        (r#"{"scalars":{"a":1,"b":2},"memories":{"a":[256],"b":[]},"x":1}"#, "J2 x"),
-        (r#"{"scalars":{"a":1,"b":-1.0},"memories":{"a":[256],"b":[]}}"#, "J3 scalars.b"),
-        (r#"{"scalars":{"a":1,"b":2},"memories":{"a":[0],"b":[0,256]},"waits":{"a":[2]}}"#, "J3 memories.b"),
-        (r#"{"scalars":{"a":1,"b":2},"memories":{"a":[-129],"b":[256]}}"#, "J3 memories.a"),
-        (r#"{"scalars":{"a":1,"b":2},"memories":{"a":[1.0],"b":[]}}"#, "J3 memories.a"),
-        (r#"{"scalars":{"a":1,"b":2},"memories":{"a":[],"b":[]},"waits":{"a":[0,2]}}"#, "J3 waits.a"),
-        (r#"{"scalars":{"a":1,"b":2},"memories":{"a":[],"b":[]},"waits":{"b":[-1]}}"#, "J3 waits.b"),
-        (r#"{"scalars":{"a":1,"b":2},"memories":{"a":[],"b":[]},"waits":{"a":[0.0],"b":[2]}}"#, "J3 waits.a"),
+        (
+            r#"{"scalars":{"a":1.5,"b":2},"memories":{"a":[]}}"#,
+            "J2 memories.b",
+        ),
+        (
+            r#"{"scalars":{"a":1,"b":2},"memories":{"a":[256],"b":[]},"x":1}"#,
+            "J2 x",
+        ),
+        (
+            r#"{"scalars":{"a":1,"b":-1.0},"memories":{"a":[256],"b":[]}}"#,
+            "J3 scalars.b",
+        ),
+        (
+            r#"{"scalars":{"a":1,"b":2},"memories":{"a":[0],"b":[0,256]},"waits":{"a":[2]}}"#,
+            "J3 memories.b",
+        ),
+        (
+            r#"{"scalars":{"a":1,"b":2},"memories":{"a":[-129],"b":[256]}}"#,
+            "J3 memories.a",
+        ),
+        (
+            r#"{"scalars":{"a":1,"b":2},"memories":{"a":[1.0],"b":[]}}"#,
+            "J3 memories.a",
+        ),
+        (
+            r#"{"scalars":{"a":1,"b":2},"memories":{"a":[],"b":[]},"waits":{"a":[0,2]}}"#,
+            "J3 waits.a",
+        ),
+        (
+            r#"{"scalars":{"a":1,"b":2},"memories":{"a":[],"b":[]},"waits":{"b":[-1]}}"#,
+            "J3 waits.b",
+        ),
+        (
+            r#"{"scalars":{"a":1,"b":2},"memories":{"a":[],"b":[]},"waits":{"a":[0.0],"b":[2]}}"#,
+            "J3 waits.a",
+        ),
     ];
     for (row, want) in rows {
         let line = told(alloc, row.as_bytes(), &shape)?;
