@@ -1,5 +1,5 @@
 -- From what reading and running a source give to what the call answers.
-use Rattle.std.proofs.Common.{◌≡◌, ◌≤◌, ℕ, List, Option, Some, None, Ok, Err, refl, sym, ◌∙◌, ap, subst, inl, inr, arith}
+use Rattle.std.proofs.Common.{◌≡◌, ◌≢◌, ◌⊎◌, ◌≤◌, ℕ, List, Option, Some, None, Ok, Err, Bool, true, false, refl, sym, ◌∙◌, ap, subst, inl, inr, ⊎_elim, arith}
 use Rattle.tapa_base.specs.declared.text.Place.{Place}
 use Rattle.tapa_base.specs.Outside.{Files, Rose}
 use Rattle.tapa_syntax.specs.declared.lexeme.Lexeme.{Lexeme}
@@ -34,6 +34,13 @@ use Rattle.program_run.specs.declared.run.RunEnd.TheVariants as run_end
 use Rattle.tapa_drive.specs.declared.top.Ended.TheVariants as ended
 use Rattle.tapa_drive.proofs.Sourced.{of_file_also, of_both}
 use Rattle.std.specs.Prelude.{Vec, Result, min, ◌+◌, ◌-◌, ◌^◌}
+use Rattle.std.specs.Str.{bytes_eq}
+use Rattle.std.proofs.lemmas.Slice.Eq.{bytes_eq-Decides}
+use Rattle.std.proofs.lemmas.Bool.Decides.{not_from_Decides}
+use Rattle.run_data.specs.declared.data.DataFault.TheVariants.{J1, J2, J3, J4, OutOfMemory as NoRoom}
+use Rattle.tapa_drive.specs.Meaning.{reason}
+use Rattle.tapa_drive.specs.declared.refusal.Refusal.{Refusal}
+use Rattle.tapa_drive.specs.declared.refusal.Refusal.TheVariants.{Usage, Read, Write, TooLong, Source, Data, Ticks, Memory}
 use Rattle.std.proofs.Math.Nat.{min-le_left, min-le_right, le-min}
 use Rattle.std.specs.declared.alloc.Global.{Global}
 
@@ -72,6 +79,33 @@ since m a b c later h =
 -- a count that rose after a later look rose after an earlier one
 rose_since : (a b c : ℕ) → a ≤ b → Rose b c → Rose a c
 rose_since a b c later h = since (2 ^ 64 - 1) a b c later h
+
+bool_cases : (b : Bool) → (b ≡ true) ⊎ (b ≡ false)
+bool_cases true = inl refl
+bool_cases false = inr refl
+
+-- no count falls where one name was asked for
+pub later_all : (name : List ℕ) (old new : List ℕ → ℕ) → old name ≤ new name → ((other : List ℕ) → other ≢ name → new other ≡ old other) → (file : List ℕ) → old file ≤ new file
+later_all name old new later others file =
+    ⊎_elim
+    (λ (e : bytes_eq file name ≡ true). subst (λ (f : List ℕ). old f ≤ new f) (sym ((bytes_eq-Decides file name).0 e)) later)
+    (λ (e : bytes_eq file name ≡ false). let same = others file (not_from_Decides {P = file ≡ name} (bytes_eq file name) (bytes_eq-Decides file name) e) in omega (arith, same))
+    (bool_cases (bytes_eq file name))
+
+-- what stands in the output after a refusal is nothing new, or a front part of a report
+pub left_part : (words : List (List ℕ)) (files : Option Files) (old new : Option (List ℕ)) (r : Refusal) → Leaves words files old new (reason r) → HasPartOf words files old new
+left_part words files old new Usage h = inl h
+left_part words files old new (Read file) h = inl h
+left_part words files old new Write h = h
+left_part words files old new (TooLong file most) h = inl h
+left_part words files old new (Source file place code) h = inl h
+left_part words files old new (Data file J1) h = inl h
+left_part words files old new (Data file (J2 key)) h = inl h
+left_part words files old new (Data file (J3 key)) h = inl h
+left_part words files old new (Data file (J4 key)) h = inl h
+left_part words files old new (Data file NoRoom) h = h
+left_part words files old new (Ticks most) h = inl h
+left_part words files old new Memory h = h
 
 module _ (words : List (List ℕ)) (files : Option Files) (source top : List ℕ) (named : Option (List ℕ)) (limit : ℕ) (asked : command_of words ≡ Some (Run source top named limit)) where
   pub not_found_cause : (reads_old reads_new : List ℕ → ℕ) (writes_old writes_new : ℕ) (old new : Option (List ℕ)) (r : Reason) → IsNotFound files reads_old reads_new source top r → HasCause words files reads_old reads_new writes_old writes_new old new r

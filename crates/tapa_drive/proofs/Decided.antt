@@ -88,7 +88,7 @@ module _ (words : List (List ℕ)) (files : Files) (source top : List ℕ) (name
       told_by Nothing (means_nothing text top place code (subst (λ (f : List ℕ). IsRefusedSource (file_bytes files f) top place code) (sym c.0) c.1.1)) (is, leaves)
   of_reason (UnfitData file fault) h leaves is lines =
       let c = asked_run words source top named limit asked (λ s t d n. (shown_name d ≡ file) × OfTexts (Some files) s d (λ text bytes. HasBadData text t bytes fault)) h in
-      told_with Misgiven (λ bytes. HasBadData text top bytes fault) c.1.1 (λ bytes b. (b.program, b.means, fault, b.fault)) (is, leaves)
+      told_with Misgiven (λ bytes. HasBadData text top bytes fault) c.1.1 (λ bytes b. (b.program, b.means, (fault, b.fault))) (is, leaves)
   of_reason (Endless most) h leaves is lines =
       let c = asked_run words source top named limit asked (λ s t d n. (most ≡ n) × OfTexts (Some files) s d (λ text bytes. HasRunPast text t bytes n)) h in
       told_with (Ran Exceeds) (λ bytes. HasRunPast text top bytes limit) c.1.1 (λ bytes r. (r.program, r.values, r.asked, r.past)) (is, leaves, subst (λ n. Appends errors_before errors_now (message_of (Endless n))) c.0 lines)

@@ -1,6 +1,7 @@
 -- Data give the programs of a source the same values.
-use Rattle.std.proofs.Common.{◌≡◌, ℕ, List, [], map, Some, refl, sym, ap, subst, ◌∙◌}
-use Rattle.std.specs.Prelude.{None, Option}
+use Rattle.std.proofs.Common.{◌≡◌, ℕ, List, [], length, map, Some, refl, sym, ap, subst, ◌∙◌}
+use Rattle.std.specs.Prelude.{Vec}
+use Rattle.std.specs.declared.alloc.Global.{Global}
 use Rattle.serde_json.specs.Data.{Data as Json}
 use Rattle.tapa_base.specs.declared.shape.Port.{Port}
 use Rattle.tapa_base.specs.declared.shape.Shape.{Shape}
@@ -15,32 +16,64 @@ use Rattle.program_run.specs.Run.{Values}
 use Rattle.tapa_drive.specs.Inputs.{port_of, IsShapeOf, GivesValues, HasDataFault}
 use Rattle.tapa_drive.specs.Refusal.{DataFault, NotJson, Faulty}
 
--- a shape with other lists
-with_ports : Shape → List Port → List Port → Shape
-with_ports s xs ms = record { scalars = record s.scalars { items = xs }; memories = record s.memories { items = ms } }
+-- a vector with another list of as many elements
+abbrev with_ports : (v : Vec Port Global) (l : List Port) → length l ≡ length v.items → Vec Port Global
+with_ports v l h = record v { items = l; ok = (v.ok.0 ∙ sym h, v.ok.1) }
 
-module _ (s t : Shape) (xs : s.scalars.items ≡ t.scalars.items) (ms : s.memories.items ≡ t.memories.items) (file : Json) where
-  end_faults : faults (with_ports s t.scalars.items t.memories.items) file ≡ faults t file
-  unfolding faults misshapen misshapen_in misfits misfits_in oversized
-  end_faults = refl
+module _ (s t : Shape) (xs : s.scalars.items ≡ t.scalars.items) (ms : s.memories.items ≡ t.memories.items) where
+  abbrev mixed : (l : List Port) → length l ≡ length s.scalars.items → (k : List Port) → length k ≡ length s.memories.items → Shape
+  mixed l h k g = record { scalars = with_ports s.scalars l h; memories = with_ports s.memories k g }
 
-  end_scalars : scalars_of (with_ports s t.scalars.items t.memories.items) file ≡ scalars_of t file
-  unfolding scalars_of
-  end_scalars = refl
+  abbrev Begins : {A : Type 0} → (Shape → A) → Type 0
+  Begins F = (h : length s.scalars.items ≡ length s.scalars.items) (g : length s.memories.items ≡ length s.memories.items) → F s ≡ F (mixed s.scalars.items h s.memories.items g)
 
-  end_memories : memories_of (with_ports s t.scalars.items t.memories.items) file ≡ memories_of t file
-  unfolding memories_of
-  end_memories = refl
+  abbrev EndsAt : {A : Type 0} → (Shape → A) → Type 0
+  EndsAt F = (h : length t.scalars.items ≡ length s.scalars.items) (g : length t.memories.items ≡ length s.memories.items) → F (mixed t.scalars.items h t.memories.items g) ≡ F t
 
-  -- what is read of a file depends on the lists of a shape alone
-  pub same_faults : faults s file ≡ faults t file
-  same_faults = ap (λ (l : List Port). faults (with_ports s l s.memories.items) file) xs ∙ ap (λ (l : List Port). faults (with_ports s t.scalars.items l) file) ms ∙ end_faults
+  -- what depends on the lists of a shape alone is the same of shapes with the same lists
+  moved : {A : Type 0} (F : Shape → A) → Begins F → EndsAt F → F s ≡ F t
+  moved F begins ends =
+      let h : length t.scalars.items ≡ length s.scalars.items = ap length (sym xs) in
+      let g : length t.memories.items ≡ length s.memories.items = ap length (sym ms) in
+      let first : (h : length t.scalars.items ≡ length s.scalars.items) (g : length s.memories.items ≡ length s.memories.items) → F s ≡ F (mixed t.scalars.items h s.memories.items g) =
+      subst (λ (l : List Port). (h : length l ≡ length s.scalars.items) (g : length s.memories.items ≡ length s.memories.items) → F s ≡ F (mixed l h s.memories.items g)) xs begins in
+      let second : (g : length t.memories.items ≡ length s.memories.items) → F s ≡ F (mixed t.scalars.items h t.memories.items g) =
+      subst (λ (k : List Port). (g : length k ≡ length s.memories.items) → F s ≡ F (mixed t.scalars.items h k g)) ms (first h) in
+      second g ∙ ends h g
 
-  pub same_scalars : scalars_of s file ≡ scalars_of t file
-  same_scalars = ap (λ (l : List Port). scalars_of (with_ports s l s.memories.items) file) xs ∙ ap (λ (l : List Port). scalars_of (with_ports s t.scalars.items l) file) ms ∙ end_scalars
+  module _ (file : Json) where
+    begin_faults : Begins (λ shape. faults shape file)
+    unfolding faults misshapen misshapen_in misfits misfits_in oversized
+    begin_faults h g = refl
 
-  pub same_memories : memories_of s file ≡ memories_of t file
-  same_memories = ap (λ (l : List Port). memories_of (with_ports s l s.memories.items) file) xs ∙ ap (λ (l : List Port). memories_of (with_ports s t.scalars.items l) file) ms ∙ end_memories
+    end_faults : EndsAt (λ shape. faults shape file)
+    unfolding faults misshapen misshapen_in misfits misfits_in oversized
+    end_faults h g = refl
+
+    begin_scalars : Begins (λ shape. scalars_of shape file)
+    unfolding scalars_of
+    begin_scalars h g = refl
+
+    end_scalars : EndsAt (λ shape. scalars_of shape file)
+    unfolding scalars_of
+    end_scalars h g = refl
+
+    begin_memories : Begins (λ shape. memories_of shape file)
+    unfolding memories_of
+    begin_memories h g = refl
+
+    end_memories : EndsAt (λ shape. memories_of shape file)
+    unfolding memories_of
+    end_memories h g = refl
+
+    pub same_faults : faults s file ≡ faults t file
+    same_faults = moved (λ shape. faults shape file) begin_faults end_faults
+
+    pub same_scalars : scalars_of s file ≡ scalars_of t file
+    same_scalars = moved (λ shape. scalars_of shape file) begin_scalars end_scalars
+
+    pub same_memories : memories_of s file ≡ memories_of t file
+    same_memories = moved (λ shape. memories_of shape file) begin_memories end_memories
 
 one_json : (text : List ℕ) (a b : Json) → IsJson text a → IsJson text b → a ≡ b
 one_json text a b h g = let both : Some a ≡ Some b = sym h.1 ∙ g.1 in cc

@@ -34,7 +34,7 @@ module _ (text top : List ℕ) where
       one_way q (well q g.means) w limit how other (runs_alike p q (one_program p q h.means g.means) w limit how at_w) b
 
   not_both : (bytes : List ℕ) (limit : ℕ) (how : RunMeaning) → Means text top (Bytes bytes) limit (Ran how) → Means text top (Bytes bytes) limit Misgiven → ⊥
-  not_both bytes limit how (p, v, h, a) (q, g, fault, d) = not_misgiven p q (one_program p q h.means g) bytes v fault h.gives d
+  not_both bytes limit how (p, v, h, a) (q, g, d) = not_misgiven p q (one_program p q h.means g) bytes v d.0 h.gives d.1
 
   pub means_one : (given : Given) (limit : ℕ) (m n : SourceMeaning) → Means text top given limit m → Means text top given limit n → m ≡ n
   means_one (Bytes bytes) limit (Ran how) (Ran other) (p, v, h, a) (q, w, g, b) = ap Ran (one_run bytes limit p q v w how other h g a b)

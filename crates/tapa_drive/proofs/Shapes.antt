@@ -13,10 +13,13 @@ use Rattle.tapa_syntax.specs.declared.program.Memory.{Memory}
 use Rattle.tapa_syntax.specs.declared.program.Program.{Program}
 use Rattle.tapa_syntax.specs.declared.program.Scalar.{Scalar}
 use Rattle.kahn_model.specs.Fits.{FitsInput}
-use Rattle.run_data.specs.Answer.{FitsShape, IsDataOf}
+use Rattle.run_data.specs.Answer.{FitsShape, IsDataOf, IsCause}
 use Rattle.run_data.specs.declared.data.Data.{Data}
+use Rattle.run_data.specs.declared.data.DataFault.{DataFault}
+use Rattle.run_data.specs.declared.data.DataFault.TheVariants.{J1, J2, J3, J4, OutOfMemory}
 use Rattle.program_run.specs.Run.{Values}
-use Rattle.tapa_drive.specs.Inputs.{port_of, IsShapeOf, GivesValues}
+use Rattle.tapa_drive.specs.Inputs.{port_of, IsShapeOf, GivesValues, IsUnfitBy}
+use Rattle.tapa_drive.specs.Meaning.{data_reason}
 
 few_bits : (k : Kind) → bits_of k ≤ 64
 few_bits kind.Bool = omega arith
@@ -33,12 +36,14 @@ abbrev FewBits : Port → Type 0
 FewBits port = port.bits ≤ 64
 
 few_scalars : (xs : List Scalar) → All FewBits (map (λ (c : Scalar). port_of c.name c.kind) xs)
-few_scalars [] = tt
-few_scalars (c ∷ xs) = (few_bits c.kind, few_scalars xs)
+few_scalars [] k d h = absurd (omega arith)
+few_scalars (c ∷ xs) zero d h = few_bits c.kind
+few_scalars (c ∷ xs) (suc k) d h = few_scalars xs k d (omega arith)
 
 few_memories : (xs : List Memory) → All FewBits (map (λ (c : Memory). port_of c.name c.kind) xs)
-few_memories [] = tt
-few_memories (c ∷ xs) = (few_bits c.kind, few_memories xs)
+few_memories [] k d h = absurd (omega arith)
+few_memories (c ∷ xs) zero d h = few_bits c.kind
+few_memories (c ∷ xs) (suc k) d h = few_memories xs k d (omega arith)
 
 pub scalars_few : (xs : List Scalar) (ports : List Port) → ports ≡ map (λ (c : Scalar). port_of c.name c.kind) xs → All FewBits ports
 scalars_few xs ports is = subst (λ (l : List Port). All FewBits l) (sym is) (few_scalars xs)
@@ -72,3 +77,11 @@ gives_values program shape is text given d = record {
   scalars = d.scalars;
   memories = d.memories;
 }
+
+-- a refusal of data is told as it is, of a file
+pub unfit : (program : Program) (shape : Shape) → IsShapeOf program shape → (text file : List ℕ) (fault : DataFault) → IsCause text shape fault → IsUnfitBy program text file (data_reason file fault)
+unfit program shape is text file J1 h = (refl, h)
+unfit program shape is text file (J2 key) h = (refl, (shape, is, h))
+unfit program shape is text file (J3 key) h = (refl, (shape, is, h))
+unfit program shape is text file (J4 key) h = (refl, (shape, is, h))
+unfit program shape is text file OutOfMemory h = tt

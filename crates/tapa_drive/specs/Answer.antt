@@ -1,5 +1,5 @@
 -- What has come to pass in a call of the program, and what stands after it.
-use Rattle.std.specs.Prelude.{◌≡◌, ◌⊎◌, ℕ, List, Option, Some, ⊤}
+use Rattle.std.specs.Prelude.{◌≡◌, ◌⊎◌, ℕ, List, Option, Some, None, ⊤}
 use Rattle.std.specs.Io.KnownBytes.{Appends}
 use Rattle.tapa_base.specs.Outside.{Files, Rose, AppendsPart}
 use Rattle.tapa_base.specs.Take.{IsLongerThan}
@@ -33,10 +33,10 @@ pub record HasProgram (text top : List ℕ) : Type 0 where
   pub means : IsProgramOf text top program
 
 -- the data have this fault for the source's program
-pub record HasBadData (text top bytes : List ℕ) (fault : DataFault) : Type 0 where
+pub record HasBadData (text top bytes : List ℕ) (wrong : DataFault) : Type 0 where
   pub program : Program
   pub means : IsProgramOf text top program
-  pub fault : HasDataFault program bytes fault
+  pub fault : HasDataFault program bytes wrong
 
 -- a report of the program of a source on its data
 pub record IsReportOfSource (text top bytes : List ℕ) (limit : ℕ) (report : List ℕ) : Type 0 where

@@ -79,9 +79,9 @@ pub fn read_values<'a, S: Shelf>(
     named: Option<&'a str>,
     shelf: &mut S,
 ) -> Result<Input, Refusal<'a>>
-    ensures gives { IfOk result (λ input. OfData (S.files shelf.old) (option_map (λ file. file.now) named) (λ bytes. GivesValues program.now bytes (values_of input))) }
+    ensures gives { IfOk result (λ input. OfData (S.files shelf.old) (option_map (λ file. file.now) named.entry) (λ bytes. GivesValues program.now bytes (values_of input))) }
     ensures fits { IfOk result (λ input. FitsInput program.now (scalars_of input) (memories_of input)) }
-    ensures refused { IfErr result (λ refusal. IsNotGiven (S.files shelf.old) (S.faults shelf.old) (S.faults shelf.new) program.now (option_map (λ file. file.now) named) (reason refusal)) }
+    ensures refused { IfErr result (λ refusal. IsNotGiven (S.files shelf.old) (S.faults shelf.old) (S.faults shelf.new) program.now (option_map (λ file. file.now) named.entry) (reason refusal)) }
 {
     match named {
         None => read_input(alloc, program, b"{}", "{}"),

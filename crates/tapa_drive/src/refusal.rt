@@ -70,24 +70,28 @@ impl Refusal<'_> {
     pub fn line(&self, alloc: Global) -> Result<Vec<u8>, OutOfMemory>
         ensures { IfOk result (λ line. line.items ≡ message_of (reason self.now)) }
     {
-        let line = match self {
-            Refusal::Usage => String::from_str(alloc, USAGE)?,
-            Refusal::Read { file } => format!(in alloc; "tapa: cannot read {file}\n")?,
-            Refusal::Write => String::from_str(alloc, "tapa: cannot write\n")?,
+        match self {
+            Refusal::Usage => Ok(String::from_str(alloc, USAGE)?.into_bytes()),
+            Refusal::Read { file } => {
+                Ok(format!(in alloc; "tapa: cannot read {file}\n")?.into_bytes())
+            }
+            Refusal::Write => Ok(String::from_str(alloc, "tapa: cannot write\n")?.into_bytes()),
             Refusal::TooLong { file, limit } => {
-                format!(in alloc; "tapa: {file} is longer than {limit} bytes\n")?
+                let line = format!(in alloc; "tapa: {file} is longer than {limit} bytes\n")?;
+                Ok(line.into_bytes())
             }
             Refusal::Source { file, place, code } => {
                 let line = place.line;
                 let col = place.col;
                 let text = code.text(alloc)?;
-                format!(in alloc; "tapa: {file}:{line}:{col}: {text}\n")?
+                Ok(format!(in alloc; "tapa: {file}:{line}:{col}: {text}\n")?.into_bytes())
             }
-            Refusal::Data { file, fault } => return data_line(alloc, file, fault),
-            Refusal::Ticks { limit } => format!(in alloc; "tapa: more than {limit} ticks\n")?,
-            Refusal::Memory => String::from_str(alloc, NO_MEMORY)?,
-        };
-        Ok(line.into_bytes())
+            Refusal::Data { file, fault } => data_line(alloc, file, fault),
+            Refusal::Ticks { limit } => {
+                Ok(format!(in alloc; "tapa: more than {limit} ticks\n")?.into_bytes())
+            }
+            Refusal::Memory => Ok(String::from_str(alloc, NO_MEMORY)?.into_bytes()),
+        }
     }
 }
 

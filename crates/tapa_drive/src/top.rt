@@ -34,12 +34,12 @@ fn run_source<'a, S: Shelf, O: Sink>(
     out: &mut O,
 ) -> Result<Ended, Refusal<'a>>
     requires { limit ≤ most_limit }
-    ensures ended { (words : List (List ℕ)) → command_of words ≡ Some (Run source.now top.now (option_map (λ file. file.now) named) limit) →
+    ensures ended { (words : List (List ℕ)) → command_of words ≡ Some (Run source.now top.now (option_map (λ file. file.now) named.entry) limit) →
         IfOk result (EndsFor words (S.files shelf.old) (O.contents out.old) (O.contents out.new)) }
-    ensures cause { (words : List (List ℕ)) → command_of words ≡ Some (Run source.now top.now (option_map (λ file. file.now) named) limit) →
+    ensures cause { (words : List (List ℕ)) → command_of words ≡ Some (Run source.now top.now (option_map (λ file. file.now) named.entry) limit) →
         IfErr result (λ refusal. HasCause words (S.files shelf.old) (S.faults shelf.old) (S.faults shelf.new)
         (O.faults out.old) (O.faults out.new) (O.contents out.old) (O.contents out.new) (reason refusal)) }
-    ensures leaves { (words : List (List ℕ)) → command_of words ≡ Some (Run source.now top.now (option_map (λ file. file.now) named) limit) →
+    ensures leaves { (words : List (List ℕ)) → command_of words ≡ Some (Run source.now top.now (option_map (λ file. file.now) named.entry) limit) →
         IfErr result (λ refusal. Leaves words (S.files shelf.old) (O.contents out.old) (O.contents out.new) (reason refusal)) }
     ensures later { O.faults out.old ≤ O.faults out.new }
 {
