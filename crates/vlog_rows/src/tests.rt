@@ -261,7 +261,7 @@ fn designs_told(alloc: Global, cases: &[Order]) -> Result<usize, AllocError> {
     Ok(cases.len())
 }
 
-const RING: [Line; 6] = [
+const RING: &[Line] = &[
     Line::Wire(1, "a"),
     Line::Wire(1, "b"),
     Line::Plain("a", Part::Number(1, 1)),
@@ -270,7 +270,7 @@ const RING: [Line; 6] = [
     Line::Reg(1, "r"),
 ];
 
-const THROUGH: [Line; 4] = [
+const THROUGH: &[Line] = &[
     Line::Wire(1, "a"),
     Line::Wire(1, "b"),
     Line::Child(
@@ -287,7 +287,7 @@ const THROUGH: [Line; 4] = [
     Line::Plain("done", Part::Net("a")),
 ];
 
-const REGISTERED: [Line; 6] = [
+const REGISTERED: &[Line] = &[
     Line::Wire(1, "a"),
     Line::Wire(1, "b"),
     Line::Wire(1, "c"),
@@ -306,7 +306,7 @@ const REGISTERED: [Line; 6] = [
     Line::Plain("done", Part::Net("a")),
 ];
 
-const UNKNOWN: [Line; 4] = [
+const UNKNOWN: &[Line] = &[
     Line::Wire(1, "a"),
     Line::Wire(1, "c"),
     Line::Child(
@@ -323,7 +323,7 @@ const UNKNOWN: [Line; 4] = [
     Line::Plain("done", Part::Net("done")),
 ];
 
-const OWN: [Line; 4] = [
+const OWN: &[Line] = &[
     Line::Reg(1, "r"),
     Line::Set("r", Part::Net("done")),
     Line::Plain("done", Part::Net("r")),
@@ -335,14 +335,14 @@ fn loops_are_told(rt: HostRuntime) -> Result<(), Fail> {
     let alloc = rt.alloc();
     let cases: [Order; 9] = [
         (&["t"], &[Line::Plain("done", Part::Net("done"))], 5, "done"),
-        (&["t"], &RING, 5, "done"),
-        (&["t", "p", "k"], &THROUGH, 5, "b"),
-        (&["k", "p", "t"], &THROUGH, 5, "x"),
-        (&["k", "t"], &REGISTERED, 0, ""),
-        (&["t"], &OWN, 0, ""),
-        (&["t", "v", "p of w", "w"], &OWN, 5, "p"),
-        (&["k", "t"], &UNKNOWN, 2, "n"),
-        (&["t", "k"], &OWN, 6, "t"),
+        (&["t"], RING, 5, "done"),
+        (&["t", "p", "k"], THROUGH, 5, "b"),
+        (&["k", "p", "t"], THROUGH, 5, "x"),
+        (&["k", "t"], REGISTERED, 0, ""),
+        (&["t"], OWN, 0, ""),
+        (&["t", "v", "p of w", "w"], OWN, 5, "p"),
+        (&["k", "t"], UNKNOWN, 2, "n"),
+        (&["t", "k"], OWN, 6, "t"),
     ];
     assert_eq!(rt; designs_told(alloc, &cases)?, cases.len());
     Ok(())
