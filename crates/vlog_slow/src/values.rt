@@ -92,7 +92,7 @@ fn invert(bits: u32, a: u128) -> u128
 }
 
 /// The number that a driver gives a target of some bits: that of the definition, where it fits 128 bits and an operator
-/// takes its operands. In a design both hold, by the rule on widths.
+/// takes its operands. The rule on widths is meant to give both in a design; that is not proved here.
 pub fn value_of(numbers: &Numbers, bits: u32, value: &Value) -> u128
     requires width { bits ≤ 128 }
     requires operands { CanDrive numbers.now bits value.now }
