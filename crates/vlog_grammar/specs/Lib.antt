@@ -1,0 +1,5 @@
+pub mod Spans
+pub mod Numerals
+pub mod Lexemes
+pub mod Grammar
+pub mod Numbers
