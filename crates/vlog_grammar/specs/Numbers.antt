@@ -1,5 +1,5 @@
 -- The numbers that a spelling writes.
-use Rattle.std.specs.Prelude.{ℕ, ◌-◌, ◌^◌, ◌<◌, List, [], ◌∷◌, ◌++◌, map}
+use Rattle.std.specs.Prelude.{ℕ, ◌^◌, ◌<◌, List, [], ◌∷◌, ◌++◌}
 use Rattle.std.specs.List.{flat_map, AllByRecursion}
 use Rattle.vlog_tree.specs.declared.tree.Atom.{Atom}
 use Rattle.vlog_tree.specs.declared.tree.Atom.TheVariants.{Net, Part, Literal}
@@ -9,7 +9,6 @@ use Rattle.vlog_tree.specs.declared.tree.Step.{Step}
 use Rattle.vlog_tree.specs.declared.tree.Step.TheVariants.{If, Else, End, NonblockingAssign, MemoryAssign}
 use Rattle.vlog_tree.specs.declared.tree.Item.{Item}
 use Rattle.vlog_tree.specs.declared.tree.Item.TheVariants.{Wire, Reg, Memory, Assign, Always, Instance}
-use Rattle.vlog_tree.specs.declared.tree.PortDecl.{PortDecl}
 use Rattle.vlog_tree.specs.Form.{ModuleTree}
 
 abbrev pub atom_numbers : Atom → List ℕ
@@ -42,7 +41,7 @@ item_numbers (Always steps) = flat_map step_numbers steps
 item_numbers (Instance m x links) = []
 
 abbrev pub module_numbers : ModuleTree → List ℕ
-module_numbers m = map (λ p. p.bits) m.ports ++ flat_map item_numbers m.items
+module_numbers m = flat_map (λ p. p.bits ∷ []) m.ports ++ flat_map item_numbers m.items
 
 -- Each number of the tree is one that `decimal` writes whole. The types of a tree hold numbers below 2 ^ 128.
 abbrev pub HasWrittenNumbers : ModuleTree → Type 0

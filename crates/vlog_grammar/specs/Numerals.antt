@@ -1,6 +1,6 @@
 -- Sized literals (IEEE 1364-2005, 3.5.1): a decimal size, `'`, a letter for the base and digits of it. The subset has the
 -- bases 2, 10 and 16, without signs, `_`, `x` and `z`, and no blanks within.
-use Rattle.std.specs.Prelude.{◌≡◌, ℕ, List, [], ◌∷◌, ◌++◌, if◌then◌else◌, ◌==◌}
+use Rattle.std.specs.Prelude.{◌≡◌, ℕ, ◌∷◌, ◌++◌, if◌then◌else◌, ◌==◌}
 use Rattle.std.specs.Str.Parse.{IsNumeral, digits_value}
 use Rattle.vlog_tree.specs.Spelling.{Word}
 

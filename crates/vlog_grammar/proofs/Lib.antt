@@ -1,0 +1,4 @@
+pub mod Alone
+pub mod Laid
+pub mod Nests
+pub mod Spelled
