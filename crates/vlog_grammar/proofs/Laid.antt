@@ -3,7 +3,7 @@ use Rattle.std.proofs.Common.{◌≡◌, inl, inr, ℕ, zero, suc, ◌-◌, Bool
 use Rattle.std.specs.List.{AllByRecursion}
 use Rattle.std.proofs.lemmas.List.{append_assoc, append-nil}
 use Rattle.vlog_tree.specs.Spelling.{Word, Page, lay_word, indent, ends_line, closes}
-use Rattle.vlog_grammar.specs.Lexemes.{Bytes, is_blank, IsWord, gap, word, HasWords}
+use Rattle.vlog_grammar.specs.Lexemes.{Bytes, is_blank, IsGap, IsWord, gap, word, HasWords}
 use Rattle.vlog_grammar.proofs.Alone.{IsApart, StandsAlone}
 
 -- ---- one piece in front of a text
@@ -11,8 +11,12 @@ use Rattle.vlog_grammar.proofs.Alone.{IsApart, StandsAlone}
 pub no_words : HasWords [] []
 no_words = record { pieces = []; is = refl; standing = tt; told = refl }
 
-pub blank_first : (b : ℕ) (text : Bytes) (ws : List Word) → is_blank b ≡ true → HasWords text ws → HasWords (b ∷ text) ws
-blank_first b text ws blank h = record { pieces = gap (b ∷ []) ∷ h.pieces; is = ap (λ t. b ∷ t) h.is; standing = (inl (b, refl, blank), h.standing); told = h.told }
+pub gap_first : (bytes text : Bytes) (ws : List Word) → IsGap bytes text → HasWords text ws → HasWords (bytes ++ text) ws
+gap_first bytes text ws is h =
+    record { pieces = gap bytes ∷ h.pieces; is = ap (λ t. bytes ++ t) h.is; standing = (subst (λ (t : Bytes). IsGap bytes t) (sym h.is) is, h.standing); told = h.told }
+
+blank_first : (b : ℕ) (text : Bytes) (ws : List Word) → is_blank b ≡ true → HasWords text ws → HasWords (b ∷ text) ws
+blank_first b text ws blank h = gap_first (b ∷ []) text ws (inl (b, refl, blank)) h
 
 pub word_first : (w : Word) (text : Bytes) (ws : List Word) → IsWord w text → HasWords text ws → HasWords (w ++ text) (w ∷ ws)
 word_first w text ws is h =

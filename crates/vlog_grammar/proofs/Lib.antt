@@ -2,3 +2,5 @@ pub mod Alone
 pub mod Laid
 pub mod Nests
 pub mod Spelled
+pub mod Cuts
+pub mod Flattened

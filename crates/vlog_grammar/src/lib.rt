@@ -1,6 +1,9 @@
-//! The grammar of a small Verilog subset: which texts have which trees.
+//! The grammar of a small Verilog subset: which texts have which trees, as a relation that neither prints nor reads.
 #![tactic(auto)]
 
 mod laws;
 
-pub use laws::law_spelling_has_tree;
+pub use laws::{
+    law_any_base, law_flat_block, law_gap_in_front, law_one_bit_range, law_one_list_of_words,
+    law_spelling_has_tree,
+};
