@@ -18,7 +18,7 @@ use Rattle.vlog_runs.proofs.Alone.{same_name}
 use Rattle.vlog_runs.proofs.Sizes.{declared_bits, has_port}
 use Rattle.vlog_runs.proofs.Labelled.{label_of, rdata_of_label}
 use Rattle.vlog_runs.proofs.TopPorts.{use_right, five_of, five_rdata}
-use Rattle.vlog_runs.proofs.Ports.{PortFits, port_parts, named_port}
+use Rattle.vlog_runs.proofs.Ports.{port_parts, named_port}
 use Rattle.vlog_widths.proofs.Bits.{same_of}
 
 pub wdata_of_label : (l : Name) → 0 < length l → wdata_of (m_wdata l) ≡ Some l

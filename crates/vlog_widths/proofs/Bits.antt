@@ -1,6 +1,6 @@
 -- A driver's value fits its target, where it reads numbers that fit.
-use Rattle.std.proofs.Common.{◌≡◌, ℕ, zero, suc, ◌+◌, ◌-◌, ◌*◌, ◌/◌, ◌%◌, ◌^◌, ◌<◌, ◌≤◌, Bool, true, false, cond, eqb, ◌&&◌, List, [], ◌∷◌, ◌++◌, inl, refl, sym, ap, subst, ◌∙◌, map, sum, arith, mod-lt, div-le_self, mul-le-mul_right, suc-mul, add_assoc}
-use Rattle.std.specs.Prelude.{◌==◌, nat_lt, bit_and, bit_or, bit_xor}
+use Rattle.std.proofs.Common.{◌≡◌, ℕ, zero, suc, ◌+◌, ◌-◌, ◌*◌, ◌/◌, ◌%◌, ◌^◌, ◌<◌, ◌≤◌, Bool, true, false, cond, ◌&&◌, List, [], ◌∷◌, ◌++◌, inl, refl, sym, ap, subst, ◌∙◌, map, sum, arith, mod-lt, div-le_self, mul-le-mul_right, suc-mul}
+use Rattle.std.specs.Prelude.{◌==◌, nat_lt, bit_and}
 use Rattle.std.specs.List.{list_all, flat_map}
 use Rattle.std.proofs.Math.Nat.{mod-le}
 use Rattle.std.proofs.Math.Pow.{pow_pos}
@@ -20,7 +20,7 @@ use Rattle.vlog_tree.specs.Cycle.{Cycle, Sizes, atom_value, atom_width, op_value
 use Rattle.vlog_tree.specs.V3.{is_width, atom_bits, atom_fits, has_bits, is_divisor, op_fits, value_fits}
 use Rattle.vlog_tree.specs.Loops.{atom_nets, value_nets}
 use Rattle.vlog_loops.proofs.Numbered.{has_left, has_right}
-use Rattle.vlog_runs.proofs.Sound.{both_true, not_no}
+use Rattle.vlog_runs.proofs.Sound.{both_true}
 use Rattle.vlog_widths.specs.Widths.{TakesOperands, Operates}
 
 below_of : (a n : ℕ) → nat_lt a n ≡ true → a < n

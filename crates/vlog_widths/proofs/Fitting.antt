@@ -1,19 +1,13 @@
 -- In each run of a design every number fits.
-use Rattle.std.proofs.Common.{◌≡◌, ℕ, zero, suc, ◌^◌, ◌<◌, true, List, [], Some, None, inl, refl, sym, ap, subst, ◌∙◌}
+use Rattle.std.proofs.Common.{◌≡◌, ℕ, zero, suc, ◌^◌, ◌<◌, true, List, [], Some, inl, refl, sym, ap, subst, ◌∙◌}
 use Rattle.std.specs.Prelude.{slice_get}
-use Rattle.std.specs.List.{AllByRecursion}
-use Rattle.vlog_tree.specs.declared.tree.Value.{Value}
 use Rattle.vlog_tree.specs.declared.tree.Item.{Item}
 use Rattle.vlog_tree.specs.declared.tree.Item.TheVariants.{Wire, Reg, Memory, Assign, Always, Instance}
 use Rattle.vlog_tree.specs.declared.table.Sort.TheVariants.{Register}
 use Rattle.vlog_tree.specs.Form.{ModuleTree}
-use Rattle.vlog_tree.specs.Grounded.{Has, IsGrounded}
-use Rattle.vlog_tree.specs.Cycle.{Cycle, Path, Sizes, Holds, PortHolds, PowersUp, Takes, Runs, driven, run_items, module_at}
-use Rattle.vlog_tree.specs.Table.{Name, declared, sort_of, bits_of, sort_is_read, sort_is_driven, first_violation}
-use Rattle.vlog_tree.specs.V2.{v2_uses}
-use Rattle.vlog_tree.specs.V3.{v3_uses}
-use Rattle.vlog_tree.specs.V4.{v4_uses}
-use Rattle.vlog_tree.specs.V6.{v6_uses}
+use Rattle.vlog_tree.specs.Grounded.{Has}
+use Rattle.vlog_tree.specs.Cycle.{Cycle, Path, Holds, PowersUp, Takes, driven, run_items, module_at}
+use Rattle.vlog_tree.specs.Table.{declared, sort_of, bits_of, sort_is_read, sort_is_driven}
 use Rattle.vlog_tree.specs.Environment.{Environment, FitsShape, shape_of, RunsIn}
 use Rattle.vlog_tree.specs.Refused.{IsDesign}
 use Rattle.vlog_runs.specs.OneRun.{FitsPowerUp}
@@ -22,7 +16,7 @@ use Rattle.vlog_runs.proofs.Alone.{register_clock}
 use Rattle.vlog_runs.proofs.Settled.{design_settles, top_tree, IsTopTree, module_in}
 use Rattle.vlog_runs.proofs.Sizes.{all_at, all_from, declared_sort, has_line, width_held}
 use Rattle.vlog_runs.proofs.Solved.{Allowed}
-use Rattle.vlog_widths.specs.Widths.{NumbersFit, OutsideFits, RunFits, DriverFits, DriversFit}
+use Rattle.vlog_widths.specs.Widths.{NumbersFit, OutsideFits, RunFits, DriversFit}
 use Rattle.vlog_widths.proofs.Bits.{value_operates}
 use Rattle.vlog_widths.proofs.Ruled.{assign_width, assign_clock, net_width, step_fits}
 use Rattle.vlog_widths.proofs.Steps.{register_bits, items_fit}

@@ -1,7 +1,7 @@
 -- In a cycle each net fits its width, where registers, cells and the top's inputs do.
-use Rattle.std.proofs.Common.{◌≡◌, ℕ, ◌^◌, ◌<◌, Bool, true, false, cond, ◌&&◌, List, [], ◌∷◌, Option, Some, None, inl, inr, refl, sym, ap, subst, ◌∙◌, map}
+use Rattle.std.proofs.Common.{◌≡◌, ℕ, ◌^◌, ◌<◌, Bool, true, false, ◌&&◌, List, [], ◌∷◌, Some, None, inl, inr, refl, sym, ap, subst, ◌∙◌, map}
 use Rattle.std.specs.Prelude.{bytes_eq, if◌then◌else◌}
-use Rattle.std.specs.List.{AllByRecursion, flat_map}
+use Rattle.std.specs.List.{flat_map}
 use Rattle.std.proofs.Math.Pow.{pow_pos}
 use Rattle.vlog_tree.specs.declared.tree.Value.{Value}
 use Rattle.vlog_tree.specs.declared.tree.Value.TheVariants.{Plain, Invert, Binary, Choose, Concat, Repeat, Cell}
@@ -26,10 +26,10 @@ use Rattle.vlog_feedback.proofs.Lists.{has_flat, of_flat, has_map}
 use Rattle.vlog_runs.specs.OneRun.{SameHeld, FitsPowerUp}
 use Rattle.vlog_runs.proofs.Sound.{assign_reads, assign_cell, link_port, link_net, link_clock, output_is, is_known_module, input_is}
 use Rattle.vlog_runs.proofs.Alone.{same_name, child_is, module_there, module_is, IsNamed}
-use Rattle.vlog_runs.proofs.Settled.{outside, answers, Joined, joined, child_at, module_in}
+use Rattle.vlog_runs.proofs.Settled.{outside, Joined, joined, child_at, module_in}
 use Rattle.vlog_runs.proofs.Sizes.{sizes_of, cells_of, all_at, all_from, memory_item, memory_cells, register_item}
-use Rattle.vlog_runs.proofs.Drivers.{Source, value, output, sources, line_sources, source_of, source_cases, value_line, output_line, IsDrivenBy}
-use Rattle.vlog_runs.proofs.Equations.{nets_at, first_number, input_value, undriven_value, source_value}
+use Rattle.vlog_runs.proofs.Drivers.{Source, value, output, sources, line_sources, source_cases, value_line, output_line, IsDrivenBy}
+use Rattle.vlog_runs.proofs.Equations.{first_number, input_value, undriven_value, source_value}
 use Rattle.vlog_runs.proofs.Cycles.{port_stands, port_sort_declared}
 use Rattle.vlog_runs.proofs.Alike.{memory_is}
 use Rattle.vlog_runs.proofs.TopPorts.{clock_joined}
@@ -51,7 +51,7 @@ line_part ms root (i ∷ path) x m at b h =
     has_left (flat_map (line_parts ms (i ∷ path) x) (lines_of (module_at ms root (i ∷ path)))) (outside ms root (i ∷ path, x)) b (subst (λ o. Has (flat_map (line_parts ms (i ∷ path) x) (lines_of o)) b) (sym at) h)
 
 -- what may be taken or left by a test
-abbrev pub by_test : Bool → List FlatNet → List FlatNet
+abbrev by_test : Bool → List FlatNet → List FlatNet
 by_test b l = if b then l else []
 
 driver_part : (ms : List ModuleTree) (m : ModuleTree) (path : Path) (x : Name) (e : Value) → Has m.items (Assign x e) → (z : Name) → Has (value_nets e) z → Has (flat_map (line_parts ms path x) m.items) (path, z)
@@ -107,8 +107,8 @@ module _ (ms : List ModuleTree) (root : ModuleTree) (names : first_violation (v2
     cells_below x (Cell y z) has =
         let t = memory_item m y (memory_is _ (assign_cell ms names m here x y z has)) in
         λ a low.
-            subst (λ w. (c path).cell y a < 2 ^ w) (sym (memory_bits ms names m here t.0 y t.1 t.2))
-            (cell_fits t.0 y t.1 t.2 a (subst (λ k. a < k) (memory_cells m ms names here t.0 y t.1 t.2) low))
+        subst (λ w. (c path).cell y a < 2 ^ w) (sym (memory_bits ms names m here t.0 y t.1 t.2))
+        (cell_fits t.0 y t.1 t.2 a (subst (λ k. a < k) (memory_cells m ms names here t.0 y t.1 t.2) low))
     cells_below x (Plain a) has = tt
     cells_below x (Invert a) has = tt
     cells_below x (Binary a op b) has = tt

@@ -1,9 +1,8 @@
 -- What the rule on widths says of a module's lines.
-use Rattle.std.proofs.Common.{◌≡◌, ℕ, ◌≤◌, Bool, true, false, ◌&&◌, ◌||◌, List, [], ◌∷◌, ◌++◌, None, inl, inr, refl, sym, ap, subst, ◌∙◌, map, arith}
+use Rattle.std.proofs.Common.{◌≡◌, ℕ, ◌≤◌, true, false, ◌&&◌, ◌||◌, List, [], ◌∷◌, None, inl, inr, refl, sym, ap, subst, ◌∙◌, map, arith}
 use Rattle.std.specs.Prelude.{◌==◌, nat_le}
 use Rattle.std.specs.List.{flat_map}
 use Rattle.std.proofs.lemmas.Bool.Decides.{nat_tests}
-use Rattle.vlog_tree.specs.declared.tree.Atom.{Atom}
 use Rattle.vlog_tree.specs.declared.tree.Value.{Value}
 use Rattle.vlog_tree.specs.declared.tree.Step.{Step}
 use Rattle.vlog_tree.specs.declared.tree.Step.TheVariants.{If, Else, End, NonblockingAssign, MemoryAssign}
@@ -12,7 +11,6 @@ use Rattle.vlog_tree.specs.declared.tree.Item.{Item}
 use Rattle.vlog_tree.specs.declared.tree.Item.TheVariants.{Wire, Reg, Memory, Assign, Always, Instance}
 use Rattle.vlog_tree.specs.declared.tree.PortDecl.{PortDecl}
 use Rattle.vlog_tree.specs.declared.table.Declaration.{Declaration}
-use Rattle.vlog_tree.specs.declared.table.Sort.{Sort}
 use Rattle.vlog_tree.specs.declared.table.Sort.TheVariants.{ChildInstance}
 use Rattle.vlog_tree.specs.Form.{ModuleTree}
 use Rattle.vlog_tree.specs.Grounded.{Has}
@@ -25,12 +23,14 @@ use Rattle.vlog_feedback.proofs.Lists.{has_flat, of_map}
 use Rattle.vlog_runs.proofs.Sound.{right, both_false, both_true, not_no, true_not_false, item_right, atom_read}
 use Rattle.vlog_runs.proofs.Alone.{of_items}
 use Rattle.vlog_runs.proofs.Sizes.{found_name}
+use Rattle.vlog_widths.specs.Widths.{IsInRange, WidthsInRange}
 use Rattle.vlog_widths.proofs.Bits.{same_of}
 
-few_bits : (w : ℕ) → is_width w ≡ true → w ≤ 128
-few_bits w h = at_most w (both_true (nat_le 1 w) (nat_le w 128) h).1 where
-  at_most : (w : ℕ) → nat_le w 128 ≡ true → w ≤ 128
-  at_most w h = grind (arith, nat_tests)
+at_least : (n w : ℕ) → nat_le n w ≡ true → n ≤ w
+at_least n w h = grind (arith, nat_tests)
+
+in_range : (w : ℕ) → is_width w ≡ true → IsInRange w
+in_range w h = let p = both_true (nat_le 1 w) (nat_le w 128) h in (at_least 1 w p.0, at_least w 128 p.1)
 
 -- a net that can be read, with its number's rule
 abbrev pub IsRead : List Declaration → Name → Type 0
@@ -44,11 +44,11 @@ StepFits ds (If c) = Unit {0}
 StepFits ds Else = Unit {0}
 StepFits ds End = Unit {0}
 
-line_net : (it : Item) (d : Declaration) → Has (items_declared (it ∷ [])) d → (d.sort ≡ ChildInstance → ⊥) → (ms : List ModuleTree) (ds : List Declaration) → ((u : NameUse) → Has (item_widths ms ds it) u → u.1 ≡ false) → d.bits ≤ 128
+line_net : (it : Item) (d : Declaration) → Has (items_declared (it ∷ [])) d → (d.sort ≡ ChildInstance → ⊥) → (ms : List ModuleTree) (ds : List Declaration) → ((u : NameUse) → Has (item_widths ms ds it) u → u.1 ≡ false) → IsInRange d.bits
 unfolding item_widths
-line_net (Wire w x) d (inl e) n ms ds f = subst (λ (k : Declaration). k.bits ≤ 128) e (few_bits w (not_no _ (f (x, no (is_width w)) (inl refl))))
-line_net (Reg w x) d (inl e) n ms ds f = subst (λ (k : Declaration). k.bits ≤ 128) e (few_bits w (not_no _ (f (x, no (is_width w)) (inl refl))))
-line_net (Memory w x k) d (inl e) n ms ds f = subst (λ (k : Declaration). k.bits ≤ 128) e (few_bits w (both_true (is_width w) (nat_le k 1048576) (not_no _ (f (x, no (is_width w && nat_le k 1048576)) (inl refl)))).0)
+line_net (Wire w x) d (inl e) n ms ds f = subst (λ (k : Declaration). IsInRange k.bits) e (in_range w (not_no _ (f (x, no (is_width w)) (inl refl))))
+line_net (Reg w x) d (inl e) n ms ds f = subst (λ (k : Declaration). IsInRange k.bits) e (in_range w (not_no _ (f (x, no (is_width w)) (inl refl))))
+line_net (Memory w x k) d (inl e) n ms ds f = subst (λ (k : Declaration). IsInRange k.bits) e (in_range w (both_true (is_width w) (nat_le k 1048576) (not_no _ (f (x, no (is_width w && nat_le k 1048576)) (inl refl)))).0)
 line_net (Instance kn i links) d (inl e) n ms ds f = absurd (n (ap (λ (k : Declaration). k.sort) (sym e)))
 line_net (Wire w x) d (inr h) n ms ds f = absurd h
 line_net (Reg w x) d (inr h) n ms ds f = absurd h
@@ -89,15 +89,23 @@ module _ (ms : List ModuleTree) (widths : first_violation (v3_uses ms) ≡ None)
       let u : NameUse = (l.port, no (bits_of ports l.port == bits_of (declared m) l.net)) in
       same_of (bits_of ports l.port) (bits_of (declared m) l.net) (not_no _ (width_right (Instance kn i links) has u (has_flat (link_widths ports (declared m)) links l u h (inl refl))))
 
-  -- what can be read has at most 128 bits
-  pub net_width : (x : Name) → sort_is_read (sort_of (declared m) x) ≡ true → bits_of (declared m) x ≤ 128
+  pub net_width : (x : Name) → sort_is_read (sort_of (declared m) x) ≡ true → IsInRange (bits_of (declared m) x)
   net_width x h =
       let f = found_name (declared m) x sort_is_read refl h in
       let d = find_name (declared m) x in
       elim (has_split (map port_declared m.ports) (items_declared m.items) d f.0) [
-        | inl l ↦ (let t = of_map port_declared m.ports d l in subst (λ (k : Declaration). k.bits ≤ 128) t.2 (few_bits t.0.bits (port_width t.0 t.1)))
+        | inl l ↦ (let t = of_map port_declared m.ports d l in subst (λ (k : Declaration). IsInRange k.bits) t.2 (in_range t.0.bits (port_width t.0 t.1)))
         | inr r ↦ (let t = of_items m.items d r in line_net t.0 d t.2 (λ e. true_not_false (sym h ∙ ap sort_is_read e)) ms (declared m) (width_right t.0 t.1))
       ]
+
+  memory_width : (w : ℕ) (y : Name) (k : ℕ) → Has m.items (Memory w y k) → IsInRange w × (k ≤ 1048576)
+  unfolding item_widths
+  memory_width w y k has =
+      let p = both_true (is_width w) (nat_le k 1048576) (not_no _ (width_right (Memory w y k) has (y, no (is_width w && nat_le k 1048576)) (inl refl))) in
+      (in_range w p.0, at_least k 1048576 p.1)
+
+  pub widths_in_range : WidthsInRange m
+  widths_in_range = record { nets = net_width; cells = memory_width }
 
   module _ (names : first_violation (v2_uses ms) ≡ None) (b : List Step) (has : Has m.items (Always b)) where
     step_width : (st : Step) → Has b st → (u : NameUse) → Has (step_widths (declared m) st) u → u.1 ≡ false

@@ -13,6 +13,15 @@ use Rattle.vlog_tree.specs.Table.{Name, is_clk, declared, sort_of, bits_of, sort
 use Rattle.vlog_tree.specs.Cycle.{Cycle, Sizes, Path, Holds, PortHolds, atom_value, driven, module_at}
 use Rattle.vlog_tree.specs.Environment.{Environment, AllTwo, shape_of, cells_at}
 
+-- what a line may declare as a width
+abbrev pub IsInRange : ℕ → Type 0
+IsInRange w = (1 ≤ w) × (w ≤ 128)
+
+-- the widths that a module declares are in range, and so is how many cells each of its memories has
+pub record WidthsInRange (m : ModuleTree) : Type 0 where
+  pub nets : (x : Name) → IsTrue (sort_is_read (sort_of (declared m) x)) → IsInRange (bits_of (declared m) x)
+  pub cells : (w : ℕ) (y : Name) (k : ℕ) → Has m.items (Memory w y k) → IsInRange w × (k ≤ 1048576)
+
 -- The numbers of a module's nets and cells in a cycle fit the widths that it declares. The clock's number is left open,
 -- since no line reads it.
 pub record NumbersFit (m : ModuleTree) (c : Cycle) : Type 0 where
@@ -60,7 +69,7 @@ Operates w c (Cell m x) = Unit {0}
 
 -- a driver of a target of w bits, where the sizes are s
 pub record DriverFits (s : Sizes) (w : ℕ) (c : Cycle) (e : Value) : Type 0 where
-  pub bits : w ≤ 128
+  pub bits : IsInRange w
   pub operands : Operates w c e
   pub value : driven s w c e < 2 ^ w
 

@@ -3,4 +3,4 @@
 
 mod laws;
 
-pub use laws::{law_numbers_fit, law_operators_apply};
+pub use laws::{law_numbers_fit, law_operators_apply, law_widths_in_range};
