@@ -1,0 +1,7 @@
+pub mod Bits
+pub mod Ruled
+pub mod Steps
+pub mod Nets
+pub mod Agreeing
+pub mod Given
+pub mod Fitting

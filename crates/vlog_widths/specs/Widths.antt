@@ -1,0 +1,78 @@
+-- That the numbers of a run fit the widths that its modules declare, and that its operators take their operands.
+use Rattle.std.specs.Prelude.{◌≡◌, ℕ, ◌^◌, ◌<◌, ◌≤◌, List, [], Some, false, IsTrue}
+use Rattle.std.specs.List.{AllByRecursion}
+use Rattle.tapa_base.specs.declared.shape.Port.{Port}
+use Rattle.vlog_tree.specs.declared.tree.BinaryOp.{BinaryOp}
+use Rattle.vlog_tree.specs.declared.tree.BinaryOp.TheVariants.{Plus, Minus, Times, Divide, Remainder, And, Or, Xor, ShiftLeft, ShiftRight, Equals, Differs, Less}
+use Rattle.vlog_tree.specs.declared.tree.Value.{Value}
+use Rattle.vlog_tree.specs.declared.tree.Value.TheVariants.{Plain, Invert, Binary, Choose, Concat, Repeat, Cell}
+use Rattle.vlog_tree.specs.declared.tree.Item.TheVariants.{Memory, Assign}
+use Rattle.vlog_tree.specs.Form.{ModuleTree}
+use Rattle.vlog_tree.specs.Grounded.{Has}
+use Rattle.vlog_tree.specs.Table.{Name, is_clk, declared, sort_of, bits_of, sort_is_read}
+use Rattle.vlog_tree.specs.Cycle.{Cycle, Sizes, Path, Holds, PortHolds, atom_value, driven, module_at}
+use Rattle.vlog_tree.specs.Environment.{Environment, AllTwo, shape_of, cells_at}
+
+-- what a line may declare as a width
+abbrev pub IsInRange : ℕ → Type 0
+IsInRange w = (1 ≤ w) × (w ≤ 128)
+
+-- the widths that a module declares are in range, and so is how many cells each of its memories has
+pub record WidthsInRange (m : ModuleTree) : Type 0 where
+  pub nets : (x : Name) → IsTrue (sort_is_read (sort_of (declared m) x)) → IsInRange (bits_of (declared m) x)
+  pub cells : (w : ℕ) (y : Name) (k : ℕ) → Has m.items (Memory w y k) → IsInRange w × (k ≤ 1048576)
+
+-- The numbers of a module's nets and cells in a cycle fit the widths that it declares. The clock's number is left open,
+-- since no line reads it.
+pub record NumbersFit (m : ModuleTree) (c : Cycle) : Type 0 where
+  pub nets : (x : Name) → IsTrue (sort_is_read (sort_of (declared m) x)) → is_clk x ≡ false → c.net x < 2 ^ bits_of (declared m) x
+  pub cells : (w : ℕ) (y : Name) (k : ℕ) → Has m.items (Memory w y k) → (a : ℕ) → a < k → c.cell y a < 2 ^ w
+
+-- the cells of a memory outside, from these first ones, fit its width in this cycle
+abbrev pub CellsFit : (ℕ → Cycle) → ℕ → Port → List ℕ → Type 0
+CellsFit run n l first = AllByRecursion (λ v. v < 2 ^ l.bits) (cells_at run l.name first n)
+
+-- the cells of all memories outside the top fit in this cycle
+abbrev pub OutsideFits : ModuleTree → Environment → (ℕ → Cycle) → ℕ → Type 0
+OutsideFits top env run n = AllTwo (CellsFit run n) (shape_of top).memories env.memories
+
+-- in each cycle the numbers of all modules fit, and the cells of the memories outside
+pub record RunFits (ms : List ModuleTree) (top : ModuleTree) (env : Environment) (nets : ℕ → Path → Cycle) : Type 0 where
+  pub modules : (n : ℕ) (path : Path) (m : ModuleTree) → module_at ms top path ≡ Some m → NumbersFit m (nets n path)
+  pub outside : (n : ℕ) → OutsideFits top env (λ k. nets k []) n
+
+-- an operator takes its operands, for a target of w bits: a difference is of numbers that fit it, and a divisor is not 0
+abbrev pub TakesOperands : ℕ → BinaryOp → ℕ → ℕ → Type 0
+TakesOperands w Minus a b = (a < 2 ^ w) × (b < 2 ^ w)
+TakesOperands w Divide a b = 0 < b
+TakesOperands w Remainder a b = 0 < b
+TakesOperands w Plus a b = Unit {0}
+TakesOperands w Times a b = Unit {0}
+TakesOperands w And a b = Unit {0}
+TakesOperands w Or a b = Unit {0}
+TakesOperands w Xor a b = Unit {0}
+TakesOperands w ShiftLeft a b = Unit {0}
+TakesOperands w ShiftRight a b = Unit {0}
+TakesOperands w Equals a b = Unit {0}
+TakesOperands w Differs a b = Unit {0}
+TakesOperands w Less a b = Unit {0}
+
+-- the operator of a driver, where it has one, takes its operands
+abbrev pub Operates : ℕ → Cycle → Value → Type 0
+Operates w c (Binary a op b) = TakesOperands w op (atom_value c a) (atom_value c b)
+Operates w c (Plain a) = Unit {0}
+Operates w c (Invert a) = Unit {0}
+Operates w c (Choose t a b) = Unit {0}
+Operates w c (Concat atoms) = Unit {0}
+Operates w c (Repeat n a) = Unit {0}
+Operates w c (Cell m x) = Unit {0}
+
+-- a driver of a target of w bits, where the sizes are s
+pub record DriverFits (s : Sizes) (w : ℕ) (c : Cycle) (e : Value) : Type 0 where
+  pub bits : IsInRange w
+  pub operands : Operates w c e
+  pub value : driven s w c e < 2 ^ w
+
+-- each driver of a module fits in this cycle, by sizes that its ports and lines allow
+abbrev pub DriversFit : ModuleTree → Cycle → Type 0
+DriversFit m c = (s : Sizes) → AllByRecursion (PortHolds s) m.ports → AllByRecursion (Holds s c) m.items → (x : Name) (e : Value) → Has m.items (Assign x e) → DriverFits s (bits_of (declared m) x) c e
