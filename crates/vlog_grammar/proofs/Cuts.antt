@@ -13,11 +13,11 @@ use Rattle.vlog_grammar.specs.Lexemes.{Bytes, begins, is_blank, is_in_line, has_
 
 -- ---- the longest front of a class, and what is behind it
 
-front : (ℕ → Bool) → Bytes → Bytes
+pub front : (ℕ → Bool) → Bytes → Bytes
 front class [] = []
 front class (b ∷ z) = if class b then b ∷ front class z else []
 
-behind : (ℕ → Bool) → Bytes → Bytes
+pub behind : (ℕ → Bool) → Bytes → Bytes
 behind class [] = []
 behind class (b ∷ z) = if class b then behind class z else b ∷ z
 
@@ -31,12 +31,12 @@ unfolding behind
 behind_stops class [] e = refl
 behind_stops class (b ∷ z) e = rw e
 
-front_is : (class : ℕ → Bool) (bytes rest : Bytes) → list_all class bytes ≡ true → begins class rest ≡ false → front class (bytes ++ rest) ≡ bytes
+pub front_is : (class : ℕ → Bool) (bytes rest : Bytes) → list_all class bytes ≡ true → begins class rest ≡ false → front class (bytes ++ rest) ≡ bytes
 unfolding front
 front_is class [] rest all e = front_stops class rest e
 front_is class (b ∷ z) rest all e = let k = and_parts (class b) (list_all class z) all in rw k.0 (ap (λ l. b ∷ l) (front_is class z rest k.1 e))
 
-behind_is : (class : ℕ → Bool) (bytes rest : Bytes) → list_all class bytes ≡ true → begins class rest ≡ false → behind class (bytes ++ rest) ≡ rest
+pub behind_is : (class : ℕ → Bool) (bytes rest : Bytes) → list_all class bytes ≡ true → begins class rest ≡ false → behind class (bytes ++ rest) ≡ rest
 unfolding behind
 behind_is class [] rest all e = behind_stops class rest e
 behind_is class (b ∷ z) rest all e = let k = and_parts (class b) (list_all class z) all in rw k.0 (behind_is class z rest k.1 e)
@@ -101,11 +101,11 @@ digit_low b h = grind arith
 digit_no_blank : (b : ℕ) → is_digit_of 10 b ≡ true → is_blank b ≡ false
 digit_no_blank b h = let k = digit_low b h in grind arith
 
-digit_no_name : (b : ℕ) → is_digit_of 10 b ≡ true → starts_name b ≡ false
+pub digit_no_name : (b : ℕ) → is_digit_of 10 b ≡ true → starts_name b ≡ false
 unfolding starts_name
 digit_no_name b h = let k = digit_low b h in grind arith
 
-all_digits : (base : ℕ) (ds : Bytes) → AllDigits base ds → list_all (is_digit_of base) ds ≡ true
+pub all_digits : (base : ℕ) (ds : Bytes) → AllDigits base ds → list_all (is_digit_of base) ds ≡ true
 all_digits base [] h = refl
 all_digits base (d ∷ ds) (first, more) = let k = is_one base d first in rw (k, all_digits base ds more) refl
   where
@@ -128,7 +128,7 @@ digit_cut [] rest h e = absurd cc
 digit_cut (b ∷ z) rest h e =
     if_false (is_blank b) _ _ (digit_no_blank b h) ∙ if_false (starts_name b) _ _ (digit_no_name b h) ∙ if_true (is_digit_of 10 b) _ _ h ∙ ap word e
 
-digits_begin : (base : ℕ) (w : Bytes) → IsNumeral base w → begins (is_digit_of base) w ≡ true
+pub digits_begin : (base : ℕ) (w : Bytes) → IsNumeral base w → begins (is_digit_of base) w ≡ true
 digits_begin base [] h = absurd (omega (arith, h.0))
 digits_begin base (d ∷ ds) h = (and_parts (is_digit_of base d) (list_all (is_digit_of base) ds) (all_digits base (d ∷ ds) h.1)).0
 
@@ -157,7 +157,7 @@ sized_number l rest h longest =
     ∙ ap (λ s. literal_cut s (behind (is_digit_of 10) (l.size ++ tail))) first ∙ ap (λ t. literal_cut l.size t) more
     ∙ ap (λ d. l.size ++ 39 ∷ l.letter ∷ d) (front_is (is_digit_of (base_of l.letter)) l.digits rest (all_digits (base_of l.letter) l.digits h.1.1) longest)
 
-sized_begins : (l : Sized) → IsSized l → begins (is_digit_of 10) (sized_word l) ≡ true
+pub sized_begins : (l : Sized) → IsSized l → begins (is_digit_of 10) (sized_word l) ≡ true
 sized_begins l h = in_front l.size (39 ∷ l.letter ∷ l.digits) (digits_begin 10 l.size h.0)
   where
     in_front : (a b : Bytes) → begins (is_digit_of 10) a ≡ true → begins (is_digit_of 10) (a ++ b) ≡ true

@@ -4,3 +4,7 @@ pub mod Nests
 pub mod Spelled
 pub mod Cuts
 pub mod Flattened
+pub mod OneAtom
+pub mod OneValue
+pub mod OneBlock
+pub mod OneTree

@@ -6,7 +6,7 @@ use Rattle.vlog_tree.specs.Form.{nested}
 use Rattle.vlog_grammar.specs.Spans.{Part, ◌⨾◌, Takes, Each}
 use Rattle.vlog_grammar.specs.Grammar.{SpellsName, SpellsAtom, SpellsCondition}
 
--- a step without what stands in it
+-- a step without what stands in it: an else and an end close what is open
 abbrev pub SpellsStep : Step → Part
 SpellsStep (If c) = SpellsCondition c ⨾ Takes (codes "begin")
 SpellsStep Else = Takes (codes "end") ⨾ Takes (codes "else") ⨾ Takes (codes "begin")
@@ -14,5 +14,6 @@ SpellsStep End = Takes (codes "end")
 SpellsStep (NonblockingAssign x a) = SpellsName x ⨾ Takes (codes "<=") ⨾ SpellsAtom a ⨾ Takes (codes ";")
 SpellsStep (MemoryAssign m x a) = SpellsName m ⨾ Takes (codes "[") ⨾ SpellsName x ⨾ Takes (codes "]") ⨾ Takes (codes "<=") ⨾ SpellsAtom a ⨾ Takes (codes ";")
 
+-- `begin`, steps that are nested, and `end`
 abbrev pub SpellsFlatBlock : List Step → Part
 SpellsFlatBlock steps i j = (nested [] steps ≡ true) × (Takes (codes "begin") ⨾ Each SpellsStep steps ⨾ Takes (codes "end")) i j

@@ -22,28 +22,31 @@ use Rattle.vlog_grammar.specs.Lexemes.{Bytes, HasWords}
 
 -- ---- names and numbers
 
--- a name is no keyword (3.7.2)
+-- a name, which is no keyword (3.7, 3.7.2)
 abbrev pub SpellsName : List ℕ → Part
 SpellsName x i j = IsName x × Takes x i j
 
+-- a number, as the bounds of a range have (3.5.1)
 abbrev pub SpellsNumber : ℕ → Part
 SpellsNumber n = TakesSome (IsNumber n)
 
--- the last of n places, which are counted from 0
+-- the last of n places, which are counted from 0: it has the number n - 1, and there is no last of none
 abbrev pub SpellsLastOf : ℕ → Part
 SpellsLastOf n i j = (last : ℕ) × (n ≡ last + 1) × SpellsNumber last i j
 
--- a range (4.3), which one bit may have too
+-- the range of a vector (4.3), which is left out or not at one bit
 abbrev pub SpellsRange : ℕ → Part
 SpellsRange bits = Nothing (bits ≡ 1) ∣ Takes (codes "[") ⨾ SpellsLastOf bits ⨾ Takes (codes ":") ⨾ Takes (codes "0") ⨾ Takes (codes "]")
 
 -- ---- atoms and values (clause 5)
 
+-- a net, a part of one (5.2.1) or a literal (3.5.1)
 abbrev pub SpellsAtom : Atom → Part
 SpellsAtom (Net x) = SpellsName x
 SpellsAtom (PartSelect x high low) = SpellsName x ⨾ Takes (codes "[") ⨾ SpellsNumber high ⨾ Takes (codes ":") ⨾ SpellsNumber low ⨾ Takes (codes "]")
 SpellsAtom (Literal width value) = TakesSome (IsLiteral width value)
 
+-- the operators on two atoms (5.1)
 abbrev pub SpellsOperator : BinaryOp → Part
 SpellsOperator Plus = Takes (codes "+")
 SpellsOperator Minus = Takes (codes "-")
@@ -59,6 +62,7 @@ SpellsOperator Equals = Takes (codes "==")
 SpellsOperator Differs = Takes (codes "!=")
 SpellsOperator Less = Takes (codes "<")
 
+-- what drives a wire: an atom, `~`, an operator, a choice (5.1.13), a concatenation or a replication (5.1.14), or a cell of a memory (5.2.2)
 abbrev pub SpellsValue : Value → Part
 SpellsValue (Plain a) = SpellsAtom a
 SpellsValue (Invert a) = Takes (codes "~") ⨾ SpellsAtom a
@@ -70,7 +74,7 @@ SpellsValue (Cell memory x) = SpellsName memory ⨾ Takes (codes "[") ⨾ Spells
 
 -- ---- blocks (clause 9)
 
--- the steps of a block as they stand in each other; each has what stands behind it last
+-- the steps of a block as they stand in each other; each has the steps behind it last
 pub data Steps : Type 0 where
   no_step : Steps
   if_only : List ℕ → Steps → Steps → Steps
@@ -78,7 +82,7 @@ pub data Steps : Type 0 where
   assign : List ℕ → Atom → Steps → Steps
   store : List ℕ → List ℕ → Atom → Steps → Steps
 
--- the list in which a tree keeps them
+-- the list in which a tree keeps them; no else is other than an else without steps
 abbrev pub flat : Steps → List Step
 flat no_step = []
 flat (if_only c p rest) = If c ∷ (flat p ++ End ∷ flat rest)
@@ -86,10 +90,11 @@ flat (if_else c p q rest) = If c ∷ (flat p ++ Else ∷ (flat q ++ End ∷ flat
 flat (assign x a rest) = NonblockingAssign x a ∷ flat rest
 flat (store m x a rest) = MemoryAssign m x a ∷ flat rest
 
--- the head of a step whose block is run where a name is 1
+-- the head of an if (9.4)
 abbrev pub SpellsCondition : List ℕ → Part
 SpellsCondition c = Takes (codes "if") ⨾ Takes (codes "(") ⨾ SpellsName c ⨾ Takes (codes ")")
 
+-- each branch is a block (9.8), so that an else has one if; what is assigned is a reg or a cell, nonblocking (9.2.2)
 abbrev pub SpellsSteps : Steps → Part
 SpellsSteps no_step i j = i ≡ j
 SpellsSteps (if_only c p rest) i j = (SpellsCondition c ⨾ Takes (codes "begin") ⨾ SpellsSteps p ⨾ Takes (codes "end") ⨾ SpellsSteps rest) i j
@@ -99,14 +104,17 @@ SpellsSteps (assign x a rest) i j = (SpellsName x ⨾ Takes (codes "<=") ⨾ Spe
 SpellsSteps (store m x a rest) i j =
     (SpellsName m ⨾ Takes (codes "[") ⨾ SpellsName x ⨾ Takes (codes "]") ⨾ Takes (codes "<=") ⨾ SpellsAtom a ⨾ Takes (codes ";") ⨾ SpellsSteps rest) i j
 
+-- `begin`, steps and `end` (9.8)
 abbrev pub SpellsBlock : List Step → Part
 SpellsBlock steps i j = (s : Steps) × (flat s ≡ steps) × (Takes (codes "begin") ⨾ SpellsSteps s ⨾ Takes (codes "end")) i j
 
 -- ---- items (clauses 4, 6, 9 and 12)
 
+-- a port joined by its name (12.3.6)
 abbrev pub SpellsLink : Link → Part
 SpellsLink l = Takes (codes ".") ⨾ SpellsName l.port ⨾ Takes (codes "(") ⨾ SpellsName l.net ⨾ Takes (codes ")")
 
+-- nets (4.2), regs and memories (4.2.2, 4.9), continuous assignments (6.1), clocked blocks (9.9.2) and instances (12.1.2)
 abbrev pub SpellsItem : Item → Part
 SpellsItem (Wire bits x) = Takes (codes "wire") ⨾ SpellsRange bits ⨾ SpellsName x ⨾ Takes (codes ";")
 SpellsItem (Reg bits x) = Takes (codes "reg") ⨾ SpellsRange bits ⨾ SpellsName x ⨾ Takes (codes ";")
@@ -118,9 +126,11 @@ SpellsItem (Instance m x links) = SpellsName m ⨾ SpellsName x ⨾ Takes (codes
 
 -- ---- modules (clause 12)
 
+-- a port, declared where it is listed (12.3.4)
 abbrev pub SpellsPort : PortDecl → Part
 SpellsPort p = Takes (if p.input then codes "input" else codes "output") ⨾ SpellsRange p.bits ⨾ SpellsName p.name
 
+-- a module (12.1)
 abbrev pub SpellsModule : ModuleTree → Part
 SpellsModule m =
     Takes (codes "module") ⨾ SpellsName m.name ⨾ Takes (codes "(") ⨾ Separated (codes ",") SpellsPort m.ports ⨾ Takes (codes ")") ⨾ Takes (codes ";")

@@ -26,6 +26,7 @@ is_blank b = b == 32 || b == 9 || b == 13 || b == 10
 abbrev pub is_in_line : ℕ → Bool
 is_in_line b = not (b == 10)
 
+-- one blank
 abbrev pub IsBlank : Bytes → Type 0
 IsBlank bytes = (b : ℕ) × (bytes ≡ b ∷ []) × (is_blank b ≡ true)
 
@@ -42,6 +43,7 @@ has_close (b ∷ z) = (b == 42 && slice_index z 0 == 47) || has_close z
 abbrev pub IsBlockComment : Bytes → Type 0
 IsBlockComment bytes = (body : Bytes) × (bytes ≡ 47 ∷ 42 ∷ body ++ 42 ∷ 47 ∷ []) × (has_close (body ++ 42 ∷ []) ≡ false)
 
+-- a gap, in sight of the text behind it
 abbrev pub IsGap : Bytes → Bytes → Type 0
 IsGap bytes rest = IsBlank bytes ⊎ (IsLineComment bytes rest ⊎ IsBlockComment bytes)
 
@@ -52,6 +54,7 @@ pub record IsNameWord (bytes rest : Bytes) : Type 0 where
   pub form : has_name_form bytes ≡ true
   pub longest : begins goes_on rest ≡ false
 
+-- a digit of a base up to 16, in either letter case
 abbrev pub is_digit_of : ℕ → ℕ → Bool
 is_digit_of base b = is_digit b base
 
@@ -79,6 +82,7 @@ signs =
     codes "<=" ∷ codes "<<" ∷ codes ">>" ∷ codes "==" ∷ codes "!=" ∷ codes "(" ∷ codes ")" ∷ codes "[" ∷ codes "]" ∷ codes "{" ∷ codes "}" ∷ codes ";" ∷ codes ":" ∷ codes "," ∷ codes "." ∷ codes "="
     ∷ codes "+" ∷ codes "-" ∷ codes "*" ∷ codes "/" ∷ codes "%" ∷ codes "&" ∷ codes "|" ∷ codes "^" ∷ codes "~" ∷ codes "?" ∷ codes "<" ∷ codes "@" ∷ []
 
+-- whether bytes are a sign
 unfoldable pub is_sign : Bytes → Bool
 is_sign bytes = list_any (bytes_eq bytes) signs
 
@@ -91,11 +95,13 @@ pub record IsSignWord (bytes rest : Bytes) : Type 0 where
   pub sign : is_sign bytes ≡ true
   pub longest : begins (λ b. is_sign_or_mark (bytes ++ b ∷ [])) rest ≡ false
 
+-- a word, in sight of the text behind it
 abbrev pub IsWord : Bytes → Bytes → Type 0
 IsWord bytes rest = IsNameWord bytes rest ⊎ (IsNumberWord bytes rest ⊎ (IsLiteralWord bytes rest ⊎ IsSignWord bytes rest))
 
 -- ---- whole texts
 
+-- a gap or a word
 pub data Piece : Type 0 where
   gap : Bytes → Piece
   word : Bytes → Piece
@@ -105,6 +111,7 @@ abbrev pub Stands : Piece → Bytes → Type 0
 Stands (gap bytes) rest = IsGap bytes rest
 Stands (word bytes) rest = IsWord bytes rest
 
+-- its bytes
 abbrev pub piece_bytes : Piece → Bytes
 piece_bytes (gap bytes) = bytes
 piece_bytes (word bytes) = bytes
@@ -119,6 +126,7 @@ abbrev pub StandInTurn : List Piece → Bytes → Type 0
 StandInTurn [] rest = ⊤
 StandInTurn (p ∷ ps) rest = Stands p (text_of ps rest) × StandInTurn ps rest
 
+-- the words among pieces
 abbrev pub words_of : List Piece → List Word
 words_of [] = []
 words_of (gap bytes ∷ ps) = words_of ps

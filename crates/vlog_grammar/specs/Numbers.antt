@@ -1,4 +1,4 @@
--- The numbers that a spelling writes.
+-- The numbers of a tree.
 use Rattle.std.specs.Prelude.{ℕ, ◌^◌, ◌<◌, List, [], ◌∷◌, ◌++◌}
 use Rattle.std.specs.List.{flat_map, AllByRecursion}
 use Rattle.vlog_tree.specs.declared.tree.Atom.{Atom}
@@ -43,6 +43,6 @@ item_numbers (Instance m x links) = []
 abbrev pub module_numbers : ModuleTree → List ℕ
 module_numbers m = flat_map (λ p. p.bits ∷ []) m.ports ++ flat_map item_numbers m.items
 
--- Each number of the tree is one that `decimal` writes whole. The types of a tree hold numbers below 2 ^ 128.
+-- Each number of the tree is one that `decimal` writes with all its digits. The types of a tree hold numbers below 2 ^ 128.
 abbrev pub HasWrittenNumbers : ModuleTree → Type 0
 HasWrittenNumbers m = AllByRecursion (λ n. n < 10 ^ 64) (module_numbers m)

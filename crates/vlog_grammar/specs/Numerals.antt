@@ -8,11 +8,13 @@ use Rattle.vlog_tree.specs.Spelling.{Word}
 abbrev pub base_of : ℕ → ℕ
 base_of letter = if letter == 100 then 10 else (if letter == 104 then 16 else (if letter == 98 then 2 else 0))
 
+-- the parts of a literal
 pub record Sized : Type 0 where
   pub size : Word
   pub letter : ℕ
   pub digits : Word
 
+-- and their bytes
 abbrev pub sized_word : Sized → Word
 sized_word l = l.size ++ 39 ∷ l.letter ∷ l.digits
 

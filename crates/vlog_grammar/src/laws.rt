@@ -23,6 +23,11 @@ pub fn law_one_list_of_words()
     ensures { (text : List ℕ) (some others : List Word) → HasWords text some → HasWords text others → some ≡ others }
 {}
 
+/// A text has at most one tree.
+pub fn law_one_tree()
+    ensures { (text : List ℕ) (ms ns : List ModuleTree) → HasTree text ms → HasTree text ns → ms ≡ ns }
+{}
+
 /// A block may be read from left to right, step by step, as the tree keeps it.
 pub fn law_flat_block()
     ensures { (steps : List StepTree) (i j : List Word) → SpellsBlock steps i j ↔ SpellsFlatBlock steps i j }

@@ -5,5 +5,5 @@ mod laws;
 
 pub use laws::{
     law_any_base, law_flat_block, law_gap_in_front, law_one_bit_range, law_one_list_of_words,
-    law_spelling_has_tree,
+    law_one_tree, law_spelling_has_tree,
 };
