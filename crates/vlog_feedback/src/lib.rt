@@ -2,6 +2,7 @@
 #![tactic(auto)]
 
 mod edges;
+mod order;
 mod search;
 mod sums;
 mod suspects;

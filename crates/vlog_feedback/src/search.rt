@@ -14,6 +14,7 @@ ghost use Rattle.vlog_feedback.specs.Search.{IsSearched, IsSuspect, IsEvidence, 
 ghost use Rattle.vlog_feedback.specs.Summaries.{is_named, AreRight};
 
 use crate::edges::{add, graph_of};
+use crate::order::order_of;
 use crate::sums::{Sum, sums_of};
 use crate::suspects::{Loops, Suspect, on_loop, returns};
 use std::alloc::{AllocError, Global};
@@ -95,9 +96,10 @@ fn suspects_of(
 fn loops_of(alloc: Global, library: &Library, root: Option<&Text>) -> Result<Loops, AllocError>
     ensures { IfOk result (λ loops. IsEvidence library.now (is_named (option_copied root.entry)) loops) }
 {
-    let sums = sums_of(alloc, library, root)?;
-    let suspects = suspects_of(alloc, library, root, &sums)?;
     let contains = containment_of(alloc, library.modules())?;
+    let order = order_of(alloc, &contains, library.modules())?;
+    let sums = sums_of(alloc, library, root, &order)?;
+    let suspects = suspects_of(alloc, library, root, &sums)?;
     let flat = has_levels(alloc, &contains)?;
     Ok(Loops {
         suspects,

@@ -5,4 +5,4 @@ mod graph;
 mod levels;
 mod reach;
 
-pub use graph::{Graph, has_levels, is_marked, reach_from};
+pub use graph::{Graph, find_levels, has_levels, is_marked, reach_from};
