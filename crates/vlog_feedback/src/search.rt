@@ -16,10 +16,10 @@ ghost use Rattle.vlog_feedback.specs.Summaries.{is_named, AreRight};
 use crate::edges::{add, graph_of};
 use crate::order::order_of;
 use crate::sums::{Sum, sums_of};
-use crate::suspects::{Loops, Suspect, on_loop, returns};
+use crate::suspects::{Loops, Suspect, on_loop};
 use std::alloc::{AllocError, Global};
 use tapa_base::Text;
-use vlog_loops::{Graph, has_levels};
+use vlog_loops::{Graph, LeveledGraph, has_levels};
 use vlog_rules::{Library, Scope};
 use vlog_tree::{Declaration, Item, Module};
 
@@ -68,6 +68,7 @@ fn judge(
 {
     let loopless = has_levels(alloc, &graph)?;
     if !loopless {
+        let graph = LeveledGraph::of(alloc, graph)?;
         suspects.push(Suspect { place, graph })?;
     }
     Ok(())
@@ -97,10 +98,11 @@ fn loops_of(alloc: Global, library: &Library, root: Option<&Text>) -> Result<Loo
     ensures { IfOk result (λ loops. IsEvidence library.now (is_named (option_copied root.entry)) loops) }
 {
     let contains = containment_of(alloc, library.modules())?;
+    let flat = has_levels(alloc, &contains)?;
+    let contains = LeveledGraph::of(alloc, contains)?;
     let order = order_of(alloc, &contains, library.modules())?;
     let sums = sums_of(alloc, library, root, &order)?;
     let suspects = suspects_of(alloc, library, root, &sums)?;
-    let flat = has_levels(alloc, &contains)?;
     Ok(Loops {
         suspects,
         contains,
@@ -120,7 +122,7 @@ fn contains_itself(
     if loops.flat {
         Ok(false)
     } else {
-        returns(alloc, &loops.contains, name.bytes())
+        loops.contains.returns(alloc, name.bytes())
     }
 }
 

@@ -9,7 +9,7 @@ ghost use Rattle.vlog_feedback.specs.Search.{LoopsIn, IsSuspect, IsEvidence};
 use crate::edges::port_name;
 use std::alloc::{AllocError, Global};
 use tapa_base::Text;
-use vlog_loops::{Graph, is_marked, reach_from};
+use vlog_loops::LeveledGraph;
 use vlog_rules::Library;
 use vlog_tree::{Item, Module};
 
@@ -17,7 +17,7 @@ use vlog_tree::{Item, Module};
 #[derive(Drop)]
 pub struct Suspect {
     pub place: usize,
-    pub graph: Graph,
+    pub graph: LeveledGraph,
 }
 
 /// The modules that may have loops, and which module contains which; `flat` says that levels show that no module
@@ -25,23 +25,14 @@ pub struct Suspect {
 #[derive(Drop)]
 pub struct Loops {
     pub suspects: Vec<Suspect>,
-    pub contains: Graph,
+    pub contains: LeveledGraph,
     pub flat: bool,
-}
-
-/// Whether a name reaches itself.
-pub(crate) fn returns(alloc: Global, graph: &Graph, name: &[u8]) -> Result<bool, AllocError>
-    requires { (edges : Edges) × IsGraphOf edges graph.now }
-    ensures { (edges : Edges) → IsGraphOf edges graph.now → IfOk result (λ b. (b ≡ true) ↔ Reaches edges name.now name.now) }
-{
-    let marks = reach_from(alloc, graph, name)?;
-    Ok(is_marked(graph, &marks, name))
 }
 
 // Whether a line is an instance of a module whose port lies on a loop.
 fn port_returns(
     alloc: Global,
-    graph: &Graph,
+    graph: &LeveledGraph,
     item: &Item,
     owner: &Text,
     port: &Text,
@@ -54,7 +45,7 @@ fn port_returns(
         Item::Instance(m, i, _) => {
             if m.bytes() == owner.bytes() {
                 let name = port_name(alloc, i, port)?;
-                returns(alloc, graph, &name)
+                graph.returns(alloc, &name)
             } else {
                 Ok(false)
             }
@@ -70,7 +61,7 @@ fn port_returns(
 // Whether a module has an instance of another one whose port lies on a loop.
 fn some_port_returns(
     alloc: Global,
-    graph: &Graph,
+    graph: &LeveledGraph,
     k: &Module,
     owner: &Text,
     port: &Text,
@@ -90,7 +81,7 @@ fn some_port_returns(
 
 fn own_returns(
     alloc: Global,
-    graph: &Graph,
+    graph: &LeveledGraph,
     k: &Module,
     owner: &Text,
     name: &Text,
@@ -99,7 +90,7 @@ fn own_returns(
     ensures { (edges : Edges) → IsGraphOf edges graph.now → IfOk result (λ b. (b ≡ true) ↔ ((k.now.name ≡ owner.now) × Reaches edges name.now name.now)) }
 {
     if k.name().bytes() == owner.bytes() {
-        returns(alloc, graph, name.bytes())
+        graph.returns(alloc, name.bytes())
     } else {
         Ok(false)
     }
@@ -107,7 +98,7 @@ fn own_returns(
 
 fn loops_in(
     alloc: Global,
-    graph: &Graph,
+    graph: &LeveledGraph,
     k: &Module,
     owner: &Text,
     name: &Text,

@@ -155,11 +155,11 @@ module _ (edges : Edges) (number : Name → Option ℕ) (next : ℕ → List ℕ
   pub reached_by_none : (x y : Name) → number x ≡ None → Reaches edges x y → ⊥
   reached_by_none x y e r = let d = down r in cc (e, d.2)
 
-  pub returned : (x : Name) → Reaches edges x x → (j : ℕ) × Goes j j
+  pub returned : (x : Name) → Reaches edges x x → (j : ℕ) × (number x ≡ Some j) × Goes j j
   returned x r =
       let d = down r in
       let same : d.1 ≡ d.0 = cc (d.2, d.3) in
-      (d.0, subst (λ k. Goes d.0 k) same d.4)
+      (d.0, d.2, subst (λ k. Goes d.0 k) same d.4)
 
 -- without marks nothing is marked
 pub none_marked : (o : Option ℕ) → option_map_or (λ k. get_or [] k false) o false ≡ true → ⊥

@@ -118,12 +118,6 @@ pub fn reach_from(alloc: Global, graph: &Graph, name: &[u8]) -> Result<Vec<bool>
     }
 }
 
-/// Levels of the numbers of a graph, which serve as a hint: nothing is promised of them.
-pub fn find_levels(alloc: Global, graph: &Graph) -> Result<Vec<usize>, AllocError> {
-    let levels = levels_of(alloc, &graph.targets)?;
-    Ok(levels)
-}
-
 /// Whether levels were found that show that no name reaches itself.
 pub fn has_levels(alloc: Global, graph: &Graph) -> Result<bool, AllocError>
     ensures { (edges : Edges) → IsGraphOf edges graph.now → IfOk result (λ b. b ≡ true → (x : List ℕ) → Reaches edges x x → ⊥) }
