@@ -3,6 +3,7 @@
 
 mod edges;
 mod order;
+mod questions;
 mod search;
 mod sums;
 mod suspects;

@@ -15,6 +15,7 @@ ghost use Rattle.vlog_feedback.specs.Summaries.{is_named, AreRight};
 
 use crate::edges::{add, graph_of};
 use crate::order::order_of;
+use crate::questions::questions_of;
 use crate::sums::{Sum, sums_of};
 use crate::suspects::{Loops, Suspect, on_loop};
 use std::alloc::{AllocError, Global};
@@ -103,8 +104,10 @@ fn loops_of(alloc: Global, library: &Library, root: Option<&Text>) -> Result<Loo
     let order = order_of(alloc, &contains, library.modules())?;
     let sums = sums_of(alloc, library, root, &order)?;
     let suspects = suspects_of(alloc, library, root, &sums)?;
+    let questions = questions_of(alloc, library, &suspects)?;
     Ok(Loops {
         suspects,
+        questions,
         contains,
         flat,
     })

@@ -24,7 +24,7 @@ has_split (x ∷ xs) ys b (inl e) = inl (inl e)
 has_split (x ∷ xs) ys b (inr h) = elim (has_split xs ys b h) [ inl l ↦ inl (inr l) | inr r ↦ inr r ]
 
 -- a last number without targets changes no targets
-pub targets_push : {A : Type 0} (xs : List (Vec ℕ A)) (v : Vec ℕ A) → v.items ≡ [] → (j : ℕ) → targets_of (xs ++ v ∷ []) j ≡ targets_of xs j
+pub targets_push : {X A : Type 0} (xs : List (Vec X A)) (v : Vec X A) → v.items ≡ [] → (j : ℕ) → targets_of (xs ++ v ∷ []) j ≡ targets_of xs j
 targets_push [] v e zero = e
 targets_push [] v e (suc j) = refl
 targets_push (x ∷ xs) v e zero = refl

@@ -7,8 +7,8 @@ use Rattle.vlog_tree.specs.Loops.{Edges}
 use Rattle.vlog_tree.specs.NameTable.{value_in}
 use Rattle.vlog_loops.specs.declared.graph.Graph.{Graph}
 
--- the numbers that a number rests on
-abbrev pub targets_of : {A : Type 0} → List (Vec ℕ A) → ℕ → List ℕ
+-- the list at a number, as of the numbers that the number rests on
+abbrev pub targets_of : {X A : Type 0} → List (Vec X A) → ℕ → List X
 targets_of targets j = option_map_or (λ v. v.items) (slice_get targets j) []
 
 -- the numbers stand for names, one for each, and the targets for the edges
