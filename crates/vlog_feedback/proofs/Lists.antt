@@ -55,11 +55,6 @@ pub known : (ds : List Declaration) (x : Name) (s : Sort) → (Unknown ≡ s →
 known [] x s n h = absurd (n h)
 known (d ∷ ds) x s n h = known_of d ds x s _ refl (known ds x s n) h
 
-pub has_index : {A : Type 0} (xs : List A) (i : ℕ) (x : A) → i < length xs → x ≡ get_or xs i x → Has xs x
-has_index [] i x h e = absurd (omega arith)
-has_index (y ∷ ys) zero x h e = inl (sym e)
-has_index (y ∷ ys) (suc i) x h e = inr (has_index ys i x (omega arith) e)
-
 pub got_index : {A : Type 0} (xs : List A) (i : ℕ) (x : A) → i < length xs → x ≡ get_or xs i x → slice_get xs i ≡ Some x
 got_index [] i x h e = absurd (omega arith)
 got_index (y ∷ ys) zero x h e = ap (λ z. Some z) (sym e)
@@ -72,13 +67,4 @@ taken_mapped f xs i x y h e has =
     elim (taken_split xs i x t.0 h e t.1) [
       | inl l ↦ inl (subst (λ z. Has (map f (take i xs)) z) t.2 (has_map f (take i xs) t.0 l))
       | inr same ↦ inr (ap f same ∙ t.2)
-    ]
-
-pub taken_flat : {A B : Type 0} (f : A → List B) (xs : List A) (i : ℕ) (x : A) (y : B) → i < length xs → x ≡ get_or xs i x
-    → Has (flat_map f (take (i + 1) xs)) y → Has (flat_map f (take i xs)) y ⊎ Has (f x) y
-taken_flat f xs i x y h e has =
-    let t = of_flat f (take (i + 1) xs) y has in
-    elim (taken_split xs i x t.0 h e t.1) [
-      | inl l ↦ inl (has_flat f (take i xs) t.0 y l t.2)
-      | inr same ↦ inr (subst (λ z. Has (f z) y) (sym same) t.2)
     ]

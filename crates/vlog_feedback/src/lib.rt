@@ -2,6 +2,8 @@
 #![tactic(auto)]
 
 mod edges;
+mod order;
+mod questions;
 mod search;
 mod sums;
 mod suspects;

@@ -14,11 +14,13 @@ ghost use Rattle.vlog_feedback.specs.Search.{IsSearched, IsSuspect, IsEvidence, 
 ghost use Rattle.vlog_feedback.specs.Summaries.{is_named, AreRight};
 
 use crate::edges::{add, graph_of};
+use crate::order::order_of;
+use crate::questions::questions_of;
 use crate::sums::{Sum, sums_of};
-use crate::suspects::{Loops, Suspect, on_loop, returns};
+use crate::suspects::{Loops, Suspect, on_loop};
 use std::alloc::{AllocError, Global};
 use tapa_base::Text;
-use vlog_loops::{Graph, has_levels};
+use vlog_loops::{Graph, LeveledGraph, has_levels};
 use vlog_rules::{Library, Scope};
 use vlog_tree::{Declaration, Item, Module};
 
@@ -67,6 +69,7 @@ fn judge(
 {
     let loopless = has_levels(alloc, &graph)?;
     if !loopless {
+        let graph = LeveledGraph::of(alloc, graph)?;
         suspects.push(Suspect { place, graph })?;
     }
     Ok(())
@@ -95,12 +98,16 @@ fn suspects_of(
 fn loops_of(alloc: Global, library: &Library, root: Option<&Text>) -> Result<Loops, AllocError>
     ensures { IfOk result (λ loops. IsEvidence library.now (is_named (option_copied root.entry)) loops) }
 {
-    let sums = sums_of(alloc, library, root)?;
-    let suspects = suspects_of(alloc, library, root, &sums)?;
     let contains = containment_of(alloc, library.modules())?;
     let flat = has_levels(alloc, &contains)?;
+    let contains = LeveledGraph::of(alloc, contains)?;
+    let order = order_of(alloc, &contains, library.modules())?;
+    let sums = sums_of(alloc, library, root, &order)?;
+    let suspects = suspects_of(alloc, library, root, &sums)?;
+    let questions = questions_of(alloc, library, &suspects)?;
     Ok(Loops {
         suspects,
+        questions,
         contains,
         flat,
     })
@@ -118,7 +125,7 @@ fn contains_itself(
     if loops.flat {
         Ok(false)
     } else {
-        returns(alloc, &loops.contains, name.bytes())
+        loops.contains.returns(alloc, name.bytes())
     }
 }
 

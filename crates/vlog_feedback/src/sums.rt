@@ -234,15 +234,37 @@ fn empty_sums(alloc: Global, count: usize) -> Result<Vec<Sum>, AllocError>
     Ok(sums)
 }
 
-/// The sums of all modules, by passes over them until none changes.
+// Makes the sums once in an order. Where each module comes after those that it contains, no sum changes later.
+fn renew_in_order(
+    alloc: Global,
+    library: &Library,
+    root: Option<&Text>,
+    sums: &mut Vec<Sum>,
+    order: &[(usize, usize)],
+) -> Result<(), AllocError>
+    requires { AreSums (IsSoundSum library.now (is_named (option_copied root))) library.now sums.old.items }
+    ensures { OnOk result (AreSums (IsSoundSum library.now (is_named (option_copied root.entry))) library.now sums.new.items) }
+{
+    for entry in order {
+        let place = entry.1;
+        if place < library.modules().len() {
+            renew(alloc, library, root, sums, place)?;
+        }
+    }
+    Ok(())
+}
+
+/// The sums of all modules, by passes over them until none changes, the first of them in an order that is given.
 pub(crate) fn sums_of(
     alloc: Global,
     library: &Library,
     root: Option<&Text>,
+    order: &[(usize, usize)],
 ) -> Result<Vec<Sum>, AllocError>
     ensures { IfOk result (λ sums. AreRight library.now (is_named (option_copied root.entry)) sums.items) }
 {
     let mut sums = empty_sums(alloc, library.modules().len())?;
+    renew_in_order(alloc, library, root, &mut sums, order)?;
     let mut passes = Vec::new(alloc);
     for pass in 0..usize::MAX {
         if renew_all(alloc, library, root, &mut sums)? {

@@ -2,14 +2,15 @@
 
 ghost use Rattle.std.specs.Prelude.{◌≡◌, ◌↔◌, ℕ, List, Bool, true, Some, IfOk};
 ghost use Rattle.vlog_tree.specs.Grounded.{Has};
-ghost use Rattle.vlog_tree.specs.Loops.{Edges, Reaches, port_of, item_instances, instances, LiesOnLoop};
+ghost use Rattle.vlog_tree.specs.Loops.{Edges, Reaches, port_of, item_instances, LiesOnLoop};
 ghost use Rattle.vlog_loops.specs.Graphs.{IsGraphOf};
-ghost use Rattle.vlog_feedback.specs.Search.{LoopsIn, IsSuspect, IsEvidence};
+ghost use Rattle.vlog_feedback.specs.Search.{LoopsAt, LoopsBy, IsSuspect, IsEvidence};
 
 use crate::edges::port_name;
+use crate::questions::Questions;
 use std::alloc::{AllocError, Global};
 use tapa_base::Text;
-use vlog_loops::{Graph, is_marked, reach_from};
+use vlog_loops::LeveledGraph;
 use vlog_rules::Library;
 use vlog_tree::{Item, Module};
 
@@ -17,31 +18,23 @@ use vlog_tree::{Item, Module};
 #[derive(Drop)]
 pub struct Suspect {
     pub place: usize,
-    pub graph: Graph,
+    pub graph: LeveledGraph,
 }
 
-/// The modules that may have loops, and which module contains which; `flat` says that levels show that no module
-/// contains itself.
+/// The modules that may have loops, what to ask of each name, and which module contains which; `flat` says that levels
+/// show that no module contains itself.
 #[derive(Drop)]
 pub struct Loops {
     pub suspects: Vec<Suspect>,
-    pub contains: Graph,
+    pub questions: Questions,
+    pub contains: LeveledGraph,
     pub flat: bool,
-}
-
-/// Whether a name reaches itself.
-pub(crate) fn returns(alloc: Global, graph: &Graph, name: &[u8]) -> Result<bool, AllocError>
-    requires { (edges : Edges) × IsGraphOf edges graph.now }
-    ensures { (edges : Edges) → IsGraphOf edges graph.now → IfOk result (λ b. (b ≡ true) ↔ Reaches edges name.now name.now) }
-{
-    let marks = reach_from(alloc, graph, name)?;
-    Ok(is_marked(graph, &marks, name))
 }
 
 // Whether a line is an instance of a module whose port lies on a loop.
 fn port_returns(
     alloc: Global,
-    graph: &Graph,
+    graph: &LeveledGraph,
     item: &Item,
     owner: &Text,
     port: &Text,
@@ -54,7 +47,7 @@ fn port_returns(
         Item::Instance(m, i, _) => {
             if m.bytes() == owner.bytes() {
                 let name = port_name(alloc, i, port)?;
-                returns(alloc, graph, &name)
+                graph.returns(alloc, &name)
             } else {
                 Ok(false)
             }
@@ -67,30 +60,9 @@ fn port_returns(
     }
 }
 
-// Whether a module has an instance of another one whose port lies on a loop.
-fn some_port_returns(
-    alloc: Global,
-    graph: &Graph,
-    k: &Module,
-    owner: &Text,
-    port: &Text,
-) -> Result<bool, AllocError>
-    requires { (edges : Edges) × IsGraphOf edges graph.now }
-    ensures { (edges : Edges) → IsGraphOf edges graph.now
-        → IfOk result (λ b. (b ≡ true) ↔ ((i : List ℕ) × Has (instances k.now) (owner.now, i) × Reaches edges (port_of i port.now) (port_of i port.now))) }
-{
-    for item in k.items() {
-        let found = port_returns(alloc, graph, item, owner, port)?;
-        if found {
-            return Ok(true);
-        }
-    }
-    Ok(false)
-}
-
 fn own_returns(
     alloc: Global,
-    graph: &Graph,
+    graph: &LeveledGraph,
     k: &Module,
     owner: &Text,
     name: &Text,
@@ -99,39 +71,67 @@ fn own_returns(
     ensures { (edges : Edges) → IsGraphOf edges graph.now → IfOk result (λ b. (b ≡ true) ↔ ((k.now.name ≡ owner.now) × Reaches edges name.now name.now)) }
 {
     if k.name().bytes() == owner.bytes() {
-        returns(alloc, graph, name.bytes())
+        graph.returns(alloc, name.bytes())
     } else {
         Ok(false)
     }
 }
 
-fn loops_in(
+// Whether a module has a net or a port of its instance at a line on a loop.
+fn loops_at(
     alloc: Global,
-    graph: &Graph,
+    graph: &LeveledGraph,
     k: &Module,
+    line: Option<usize>,
     owner: &Text,
     name: &Text,
 ) -> Result<bool, AllocError>
     requires { (edges : Edges) × IsGraphOf edges graph.now }
-    ensures { (edges : Edges) → IsGraphOf edges graph.now → IfOk result (λ b. (b ≡ true) ↔ LoopsIn edges k.now owner.now name.now) }
+    ensures { (edges : Edges) → IsGraphOf edges graph.now → IfOk result (λ b. (b ≡ true) ↔ LoopsAt edges k.now line owner.now name.now) }
 {
-    let own = own_returns(alloc, graph, k, owner, name)?;
-    let outside = some_port_returns(alloc, graph, k, owner, name)?;
-    Ok(own || outside)
+    match line {
+        None => own_returns(alloc, graph, k, owner, name),
+        Some(at) => match k.items().get(at) {
+            Some(item) => port_returns(alloc, graph, item, owner, name),
+            None => Ok(false),
+        },
+    }
 }
 
 fn suspect_loops(
     alloc: Global,
     library: &Library,
     suspect: &Suspect,
+    line: Option<usize>,
     owner: &Text,
     name: &Text,
 ) -> Result<bool, AllocError>
     requires { (is_top : List ℕ → Bool) × IsSuspect library.now is_top suspect.now }
-    ensures { (is_top : List ℕ → Bool) → (s : IsSuspect library.now is_top suspect.now) → IfOk result (λ b. (b ≡ true) ↔ LoopsIn s.edges s.tree owner.now name.now) }
+    ensures { (is_top : List ℕ → Bool) → (s : IsSuspect library.now is_top suspect.now) → IfOk result (λ b. (b ≡ true) ↔ LoopsAt s.edges s.tree line owner.now name.now) }
 {
     match library.modules().get(suspect.place) {
-        Some(k) => loops_in(alloc, &suspect.graph, k, owner, name),
+        Some(k) => loops_at(alloc, &suspect.graph, k, line, owner, name),
+        None => Ok(false),
+    }
+}
+
+fn question_loops(
+    alloc: Global,
+    library: &Library,
+    loops: &Loops,
+    question: (usize, Option<usize>),
+    owner: &Text,
+    name: &Text,
+) -> Result<bool, AllocError>
+    requires { (is_top : List ℕ → Bool) × IsEvidence library.now is_top loops.now }
+    ensures right { (is_top : List ℕ → Bool) → IsEvidence library.now is_top loops.now → IfOk result (λ b. b ≡ true → LiesOnLoop library.now is_top (owner.now, Some name.now)) }
+    ensures found { (is_top : List ℕ → Bool) → IsEvidence library.now is_top loops.now → IfOk result (λ b. LoopsBy library.now is_top loops.now.suspects.items owner.now name.now question → b ≡ true) }
+{
+    match loops.suspects.get(question.0) {
+        Some(s) => {
+            let found = suspect_loops(alloc, library, s, question.1, owner, name)?;
+            Ok(found)
+        }
         None => Ok(false),
     }
 }
@@ -147,8 +147,8 @@ pub(crate) fn on_loop(
     requires { (is_top : List ℕ → Bool) × IsEvidence library.now is_top loops.now }
     ensures { (is_top : List ℕ → Bool) → IsEvidence library.now is_top loops.now → IfOk result (λ b. (b ≡ true) ↔ LiesOnLoop library.now is_top (owner.now, Some name.now)) }
 {
-    for s in &loops.suspects {
-        let found = suspect_loops(alloc, library, s, owner, name)?;
+    for question in loops.questions.of_module(owner) {
+        let found = question_loops(alloc, library, loops, *question, owner, name)?;
         if found {
             return Ok(true);
         }

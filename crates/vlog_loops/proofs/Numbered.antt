@@ -24,7 +24,7 @@ has_split (x ∷ xs) ys b (inl e) = inl (inl e)
 has_split (x ∷ xs) ys b (inr h) = elim (has_split xs ys b h) [ inl l ↦ inl (inr l) | inr r ↦ inr r ]
 
 -- a last number without targets changes no targets
-pub targets_push : {A : Type 0} (xs : List (Vec ℕ A)) (v : Vec ℕ A) → v.items ≡ [] → (j : ℕ) → targets_of (xs ++ v ∷ []) j ≡ targets_of xs j
+pub targets_push : {X A : Type 0} (xs : List (Vec X A)) (v : Vec X A) → v.items ≡ [] → (j : ℕ) → targets_of (xs ++ v ∷ []) j ≡ targets_of xs j
 targets_push [] v e zero = e
 targets_push [] v e (suc j) = refl
 targets_push (x ∷ xs) v e zero = refl
@@ -155,11 +155,11 @@ module _ (edges : Edges) (number : Name → Option ℕ) (next : ℕ → List ℕ
   pub reached_by_none : (x y : Name) → number x ≡ None → Reaches edges x y → ⊥
   reached_by_none x y e r = let d = down r in cc (e, d.2)
 
-  pub returned : (x : Name) → Reaches edges x x → (j : ℕ) × Goes j j
+  pub returned : (x : Name) → Reaches edges x x → (j : ℕ) × (number x ≡ Some j) × Goes j j
   returned x r =
       let d = down r in
       let same : d.1 ≡ d.0 = cc (d.2, d.3) in
-      (d.0, subst (λ k. Goes d.0 k) same d.4)
+      (d.0, d.2, subst (λ k. Goes d.0 k) same d.4)
 
 -- without marks nothing is marked
 pub none_marked : (o : Option ℕ) → option_map_or (λ k. get_or [] k false) o false ≡ true → ⊥

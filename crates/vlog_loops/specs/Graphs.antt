@@ -1,5 +1,5 @@
 -- Graphs of numbers, and what names and edges they stand for.
-use Rattle.std.specs.Prelude.{◌≡◌, ◌↔◌, ℕ, ◌<◌, List, [], Bool, true, false, Option, Some, length, slice_get, get_or, Vec}
+use Rattle.std.specs.Prelude.{◌≡◌, ◌↔◌, ℕ, ◌<◌, ◌≤◌, List, [], Bool, true, false, Option, Some, length, slice_get, get_or, Vec}
 use Rattle.std.specs.Option.{option_map_or}
 use Rattle.vlog_tree.specs.Grounded.{Has}
 use Rattle.vlog_tree.specs.Table.{Name}
@@ -7,8 +7,8 @@ use Rattle.vlog_tree.specs.Loops.{Edges}
 use Rattle.vlog_tree.specs.NameTable.{value_in}
 use Rattle.vlog_loops.specs.declared.graph.Graph.{Graph}
 
--- the numbers that a number rests on
-abbrev pub targets_of : {A : Type 0} → List (Vec ℕ A) → ℕ → List ℕ
+-- the list at a number, as of the numbers that the number rests on
+abbrev pub targets_of : {X A : Type 0} → List (Vec X A) → ℕ → List X
 targets_of targets j = option_map_or (λ v. v.items) (slice_get targets j) []
 
 -- the numbers stand for names, one for each, and the targets for the edges
@@ -32,6 +32,10 @@ IsMarked marks found = (m : ℕ) → (get_or marks m false ≡ true) ↔ Has fou
 -- from a number to one of its targets
 abbrev pub Steps : {A : Type 0} → List (Vec ℕ A) → ℕ → ℕ → Type 0
 Steps targets j k = Has (targets_of targets j) k
+
+-- along no step is the second level above the first
+abbrev pub NeverRise : {A : Type 0} → List (Vec ℕ A) → List ℕ → Type 0
+NeverRise targets levels = (j k : ℕ) → Steps targets j k → get_or levels k 0 ≤ get_or levels j 0
 
 -- whether the number of a name is marked
 abbrev pub mark_of : Graph → List Bool → Name → Bool

@@ -27,7 +27,8 @@ fn push_target(targets: &mut Vec<Vec<usize>>, from: usize, to: usize) -> Result<
     Ok(())
 }
 
-fn insert_number(
+/// Gives a name a number.
+pub fn insert_number(
     alloc: Global,
     numbers: &mut HashMap<Vec<u8>, usize>,
     name: &[u8],

@@ -2,7 +2,9 @@
 #![tactic(auto)]
 
 mod graph;
+mod leveled;
 mod levels;
 mod reach;
 
-pub use graph::{Graph, has_levels, is_marked, reach_from};
+pub use graph::{Graph, has_levels, insert_number, is_marked, reach_from};
+pub use leveled::LeveledGraph;

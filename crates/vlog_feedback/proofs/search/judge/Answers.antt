@@ -1,10 +1,13 @@
 use Rattle.std.proofs.Common.{refl, sym, subst, List}
 use Rattle.vlog_feedback.specs.declared.suspects.Suspect.{Suspect}
+use Rattle.vlog_loops.specs.declared.graph.Graph.{Graph}
+use Rattle.vlog_loops.specs.Graphs.{IsGraphOf}
 use Rattle.vlog_feedback.specs.Search.{IsJudged}
 use Rattle.vlog_feedback.proofs.Searching.{judged_pushed}
 use Rattle.vlog_feedback.proofs.search.judge.Goals as goal
 
 pub returns-in_ok-push : goal.returns-in_ok-push
 returns-in_ok-push c = λ edges g.
-    let s : Suspect = record { place = c.args.place; graph = c.args.graph } in
-    subst (λ (l : List Suspect). IsJudged edges c.args.place c.args.suspects.now.items l) (sym c.in_ok-push.ensures.items) (judged_pushed edges c.args.place c.args.suspects.now.items s refl g)
+    let s : Suspect = record { place = c.args.place; graph = c.in_ok-graph.graph } in
+    let same = subst (λ (h : Graph). IsGraphOf edges h) (sym c.in_ok-graph.ensures) g in
+    subst (λ (l : List Suspect). IsJudged edges c.args.place c.args.suspects.now.items l) (sym c.in_ok-push.ensures.items) (judged_pushed edges c.args.place c.args.suspects.now.items s refl same)
