@@ -2,8 +2,7 @@
 
 ghost use Rattle.std.specs.Prelude.{◌≡◌, ◌<◌, ◌^◌, length, get_or, nat_lt, if◌then◌else◌};
 ghost use Rattle.std.specs.Option.{option_copied};
-ghost use Rattle.vlog_tree.specs.Cycle.{read_cell};
-ghost use Rattle.vlog_slow.specs.Numbers.{first_net, first_memory, net_in, bits_in, cycle_of, sizes_of};
+ghost use Rattle.vlog_slow.specs.Numbers.{first_net, first_memory, net_in, bits_in, cells_in};
 
 use tapa_base::Text;
 
@@ -22,14 +21,8 @@ pub struct MemoryCells {
     pub cells: Vec<u128>,
 }
 
-/// The numbers of a module's nets and memories. Of two of one name the first counts.
-#[derive(Drop)]
-pub struct Numbers {
-    pub nets: Vec<NetNumber>,
-    pub memories: Vec<MemoryCells>,
-}
-
-fn find_net<'a>(nets: &'a [NetNumber], name: &Text) -> Option<&'a NetNumber>
+/// The first net of a name.
+pub fn find_net<'a>(nets: &'a [NetNumber], name: &Text) -> Option<&'a NetNumber>
     ensures { option_copied result ≡ first_net nets.now name.now }
 {
     for n in nets {
@@ -40,7 +33,8 @@ fn find_net<'a>(nets: &'a [NetNumber], name: &Text) -> Option<&'a NetNumber>
     None
 }
 
-fn find_memory<'a>(memories: &'a [MemoryCells], name: &Text) -> Option<&'a MemoryCells>
+/// The first memory of a name.
+pub fn find_memory<'a>(memories: &'a [MemoryCells], name: &Text) -> Option<&'a MemoryCells>
     ensures { option_copied result ≡ first_memory memories.now name.now }
 {
     for m in memories {
@@ -51,7 +45,8 @@ fn find_memory<'a>(memories: &'a [MemoryCells], name: &Text) -> Option<&'a Memor
     None
 }
 
-fn cell_at(cells: &[u128], at: u128) -> u128
+/// A cell, 0 past the end.
+pub fn cell_at(cells: &[u128], at: u128) -> u128
     ensures { result ≡ (if nat_lt at (length cells.now) then get_or cells.now at 0 else 0) }
 {
     if at < cells.len() as u128 {
@@ -61,34 +56,32 @@ fn cell_at(cells: &[u128], at: u128) -> u128
     }
 }
 
-impl Numbers {
-    /// The number of a net, 0 where there is none.
-    pub fn net(&self, name: &Text) -> u128
-        ensures { result ≡ net_in self.now.nets.items name.now }
-    {
-        match find_net(&self.nets, name) {
-            Some(n) => n.number,
-            None => 0,
-        }
+/// The number of the first net of a name, 0 where there is none.
+pub fn number_in(nets: &[NetNumber], name: &Text) -> u128
+    ensures { result ≡ net_in nets.now name.now }
+{
+    match find_net(nets, name) {
+        Some(n) => n.number,
+        None => 0,
     }
+}
 
-    /// The width of a net, 0 where there is none.
-    pub fn bits(&self, name: &Text) -> u32
-        ensures { result ≡ bits_in self.now.nets.items name.now }
-    {
-        match find_net(&self.nets, name) {
-            Some(n) => n.bits,
-            None => 0,
-        }
+/// The width of the first net of a name, 0 where there is none.
+pub(crate) fn width_in(nets: &[NetNumber], name: &Text) -> u32
+    ensures { result ≡ bits_in nets.now name.now }
+{
+    match find_net(nets, name) {
+        Some(n) => n.bits,
+        None => 0,
     }
+}
 
-    /// A cell of a memory, 0 past its end and where there is none.
-    pub fn cell(&self, memory: &Text, at: u128) -> u128
-        ensures { result ≡ read_cell (sizes_of self.now) (cycle_of self.now) memory.now at }
-    {
-        match find_memory(&self.memories, memory) {
-            Some(m) => cell_at(&m.cells, at),
-            None => 0,
-        }
+/// A cell of a memory, 0 past its end and where there is none.
+pub(crate) fn cell_in(memories: &[MemoryCells], memory: &Text, at: u128) -> u128
+    ensures { result ≡ (if nat_lt at (length (cells_in memories.now memory.now)) then get_or (cells_in memories.now memory.now) at 0 else 0) }
+{
+    match find_memory(memories, memory) {
+        Some(m) => cell_at(&m.cells, at),
+        None => 0,
     }
 }

@@ -2,7 +2,6 @@
 
 ghost use Rattle.std.specs.Prelude.{◌≡◌, ◌+◌, ◌-◌, ◌*◌, ◌/◌, ◌%◌, ◌^◌, ◌<◌, ◌≤◌};
 ghost use Rattle.vlog_tree.specs.Cycle.{op_value, bit};
-ghost use Rattle.vlog_slow.specs.Applied.{CanApply};
 
 use vlog_tree::BinaryOp;
 
@@ -35,17 +34,15 @@ pub(crate) fn highest(bits: u32) -> u128
     }
 }
 
-#[tactic(auto, using(crate::proofs::Cuts::wraps))]
+#[tactic(auto, using(crate::proofs::Cuts::wraps, crate::proofs::Cuts::stays))]
 fn minus(bits: u32, a: u128, b: u128) -> u128
-    requires width { bits ≤ 128 }
-    requires left { a < 2 ^ bits }
-    requires right { b < 2 ^ bits }
+    requires { bits ≤ 128 }
     ensures { result ≡ (a + 2 ^ bits - b) % 2 ^ bits }
 {
     if b <= a {
-        a - b
+        low_bits(a - b, bits)
     } else {
-        highest(bits) - b + 1 + a
+        highest(bits).saturating_sub(b - a - 1)
     }
 }
 
@@ -72,18 +69,31 @@ pub(crate) fn shift_right(a: u128, b: u128) -> u128
     if b < 128 { a / (1 << b) } else { 0 }
 }
 
+#[tactic(auto, using(crate::proofs::Cuts::over_none))]
+fn divide(a: u128, b: u128) -> u128
+    ensures { result ≡ a / b }
+{
+    if b == 0 { 0 } else { a / b }
+}
+
+#[tactic(auto, using(crate::proofs::Cuts::left_of_none))]
+fn remainder(a: u128, b: u128) -> u128
+    ensures { result ≡ a % b }
+{
+    if b == 0 { a } else { a % b }
+}
+
 /// The result of an operator, for a target of some bits.
 pub fn apply(bits: u32, op: BinaryOp, a: u128, b: u128) -> u128
-    requires width { bits ≤ 128 }
-    requires operands { CanApply bits op a b }
+    requires { bits ≤ 128 }
     ensures { result ≡ op_value bits op a b }
 {
     match op {
         BinaryOp::Plus => plus(bits, a, b),
         BinaryOp::Minus => minus(bits, a, b),
         BinaryOp::Times => times(bits, a, b),
-        BinaryOp::Divide => a / b,
-        BinaryOp::Remainder => a % b,
+        BinaryOp::Divide => divide(a, b),
+        BinaryOp::Remainder => remainder(a, b),
         BinaryOp::And => a & b,
         BinaryOp::Or => a | b,
         BinaryOp::Xor => a ^ b,

@@ -1,10 +1,11 @@
 // The value of an atom and of a driver.
 
-ghost use Rattle.std.specs.Prelude.{◌≡◌, ◌+◌, ◌-◌, ◌*◌, ◌/◌, ◌%◌, ◌^◌, ◌<◌, ◌≤◌};
+ghost use Rattle.std.specs.Prelude.{List, ◌≡◌, ◌+◌, ◌-◌, ◌*◌, ◌/◌, ◌%◌, ◌^◌, ◌<◌, ◌≤◌};
 ghost use Rattle.vlog_tree.specs.Cycle.{atom_value, atom_width, joined, copies, driven};
-ghost use Rattle.vlog_slow.specs.Numbers.{cycle_of, sizes_of, CanDrive};
+ghost use Rattle.vlog_slow.specs.declared.numbers.MemoryCells.{MemoryCells};
+ghost use Rattle.vlog_slow.specs.Numbers.{cycle_of, sizes_of, fitting};
 
-use crate::numbers::Numbers;
+use crate::numbers::{MemoryCells, NetNumber, cell_in, number_in, width_in};
 use crate::operators::{apply, highest, low_bits, shift_right};
 use vlog_tree::{Atom, Value};
 
@@ -24,12 +25,12 @@ fn part(n: u128, high: u32, low: u32) -> u128
 }
 
 /// The number of an atom.
-pub fn value_of_atom(numbers: &Numbers, atom: &Atom) -> u128
-    ensures { result ≡ atom_value (cycle_of numbers.now) atom.now }
+pub fn value_of_atom(nets: &[NetNumber], atom: &Atom) -> u128
+    ensures { (memories : List MemoryCells) → result ≡ atom_value (cycle_of nets.now memories) atom.now }
 {
     match atom {
-        Atom::Net(x) => numbers.net(x),
-        Atom::Part(x, high, low) => part(numbers.net(x), *high, *low),
+        Atom::Net(x) => number_in(nets, x),
+        Atom::Part(x, high, low) => part(number_in(nets, x), *high, *low),
         Atom::Literal(_, n) => *n,
     }
 }
@@ -41,47 +42,49 @@ fn bits_from(high: u32, low: u32) -> u64
 }
 
 /// The width of an atom.
-fn bits_of_atom(numbers: &Numbers, atom: &Atom) -> u64
-    ensures { result ≡ atom_width (sizes_of numbers.now) atom.now }
+fn bits_of_atom(nets: &[NetNumber], atom: &Atom) -> u64
+    ensures { (memories : List MemoryCells) → result ≡ atom_width (sizes_of nets.now memories) atom.now }
 {
     match atom {
-        Atom::Net(x) => u64::from(numbers.bits(x)),
+        Atom::Net(x) => u64::from(width_in(nets, x)),
         Atom::Part(_, high, low) => bits_from(*high, *low),
         Atom::Literal(w, _) => u64::from(*w),
     }
 }
 
 /// A number with some bits put below it.
-#[tactic(auto, using(crate::proofs::Cuts::few_bits))]
-fn put_below(n: u128, bits: u64, low: u128) -> u128
-    requires { n * 2 ^ bits + low < 2 ^ 128 }
-    ensures { result ≡ n * 2 ^ bits + low }
+fn put_below(n: u128, bits: u64, low: u128) -> Option<u128>
+    ensures { result ≡ fitting (n * 2 ^ bits + low) }
 {
-    if n == 0 { low } else { n * (1 << bits) + low }
+    if n == 0 {
+        Some(low)
+    } else if bits < 128 {
+        n.checked_mul(1 << bits)?.checked_add(low)
+    } else {
+        None
+    }
 }
 
-/// The number of a concatenation, which fits 128 bits.
-fn join(numbers: &Numbers, atoms: &[Atom]) -> u128
-    requires { joined (sizes_of numbers.now) (cycle_of numbers.now) 0 atoms.now < 2 ^ 128 }
-    ensures { result ≡ joined (sizes_of numbers.now) (cycle_of numbers.now) 0 atoms.now }
+/// The number of a concatenation.
+fn join(nets: &[NetNumber], atoms: &[Atom]) -> Option<u128>
+    ensures { (memories : List MemoryCells) → result ≡ fitting (joined (sizes_of nets.now memories) (cycle_of nets.now memories) 0 atoms.now) }
 {
     let mut n = 0;
     for a in atoms {
-        n = put_below(n, bits_of_atom(numbers, a), value_of_atom(numbers, a));
+        n = put_below(n, bits_of_atom(nets, a), value_of_atom(nets, a))?;
     }
-    n
+    Some(n)
 }
 
-/// Copies of a number below each other, which fit 128 bits.
-fn repeat(times: u32, bits: u64, a: u128) -> u128
-    requires { copies bits a times < 2 ^ 128 }
-    ensures { result ≡ copies bits a times }
+/// Copies of a number below each other.
+fn repeat(times: u32, bits: u64, a: u128) -> Option<u128>
+    ensures { result ≡ fitting (copies bits a times) }
 {
     let mut n = 0;
     for _i in 0..times {
-        n = put_below(n, bits, a);
+        n = put_below(n, bits, a)?;
     }
-    n
+    Some(n)
 }
 
 fn invert(bits: u32, a: u128) -> u128
@@ -91,36 +94,33 @@ fn invert(bits: u32, a: u128) -> u128
     highest(bits).saturating_sub(a)
 }
 
-/// The number that a driver gives a target of some bits: that of the definition, where it fits 128 bits and an operator
-/// takes its operands. The rule on widths is meant to give both in a design; that is not proved here.
-pub fn value_of(numbers: &Numbers, bits: u32, value: &Value) -> u128
-    requires width { bits ≤ 128 }
-    requires operands { CanDrive numbers.now bits value.now }
-    requires fits { driven (sizes_of numbers.now) bits (cycle_of numbers.now) value.now < 2 ^ 128 }
-    ensures { result ≡ driven (sizes_of numbers.now) bits (cycle_of numbers.now) value.now }
+/// The number that a driver gives a target of some bits, where it fits 128 bits.
+pub fn value_of(
+    nets: &[NetNumber],
+    memories: &[MemoryCells],
+    bits: u32,
+    value: &Value,
+) -> Option<u128>
+    requires { bits ≤ 128 }
+    ensures { result ≡ fitting (driven (sizes_of nets.now memories.now) bits (cycle_of nets.now memories.now) value.now) }
 {
     match value {
-        Value::Plain(a) => value_of_atom(numbers, a),
-        Value::Invert(a) => invert(bits, value_of_atom(numbers, a)),
+        Value::Plain(a) => Some(value_of_atom(nets, a)),
+        Value::Invert(a) => Some(invert(bits, value_of_atom(nets, a))),
         Value::Binary(a, op, b) => {
-            apply(
-                bits,
-                *op,
-                value_of_atom(numbers, a),
-                value_of_atom(numbers, b),
-            )
+            let left = value_of_atom(nets, a);
+            let right = value_of_atom(nets, b);
+            Some(apply(bits, *op, left, right))
         }
         Value::Choose(c, a, b) => {
-            if value_of_atom(numbers, c) == 1 {
-                value_of_atom(numbers, a)
+            if value_of_atom(nets, c) == 1 {
+                Some(value_of_atom(nets, a))
             } else {
-                value_of_atom(numbers, b)
+                Some(value_of_atom(nets, b))
             }
         }
-        Value::Concat(atoms) => join(numbers, atoms.atoms()),
-        Value::Repeat(times, a) => {
-            repeat(*times, bits_of_atom(numbers, a), value_of_atom(numbers, a))
-        }
-        Value::Cell(m, x) => numbers.cell(m, numbers.net(x)),
+        Value::Concat(atoms) => join(nets, atoms.atoms()),
+        Value::Repeat(times, a) => repeat(*times, bits_of_atom(nets, a), value_of_atom(nets, a)),
+        Value::Cell(m, x) => Some(cell_in(memories, m, number_in(nets, x))),
     }
 }

@@ -1,0 +1,147 @@
+// What stands around a design gives its top's inputs.
+
+ghost use Rattle.std.specs.Prelude.{◌≡◌, ◌==◌, IfOk, if◌then◌else◌, bytes_eq};
+ghost use Rattle.std.specs.Option.{option_map, option_copied};
+ghost use Rattle.vlog_tree.specs.Environment.{ready_at as ready_at_lem};
+ghost use Rattle.vlog_tree.specs.Labels.{rst, scalar_of as scalar_lem, ack_of as ack_lem, rdata_of as rdata_lem};
+ghost use Rattle.slow_cycle.specs.Sources.{source_tree, at_label, rdata_source, ack_source, scalar_source, input_source as input_source_lem};
+
+use crate::moment::{Moment, OutsideMemory};
+use crate::sources::{Rule, Source, given, one_read};
+use std::alloc::{AllocError, Global};
+use tapa_base::{Port, Shape, Text};
+use vlog_tree::{ack_of, addr_name, rdata_of, scalar_of};
+
+#[tactic(auto, unfolding(vlog_tree::specs::Labels::rst))]
+fn is_reset(name: &Text) -> bool
+    ensures { result ≡ bytes_eq name.now rst }
+{
+    name.bytes() == b"rst".as_slice()
+}
+
+fn reset_at(cycle: u64) -> u128
+    ensures { result ≡ (if cycle == 0 then 1 else 0) }
+{
+    if cycle == 0 { 1 } else { 0 }
+}
+
+/// An entry of a ready list, counted from 1, and 1 after its end; in cycle 0 it is 0.
+fn ready_at(ready: &[bool], cycle: u64) -> u128
+    ensures { result ≡ ready_at_lem ready.now cycle }
+{
+    if cycle == 0 {
+        return 0;
+    }
+    match ready.get((cycle - 1) as usize) {
+        Some(b) => u128::from(*b),
+        None => 1,
+    }
+}
+
+fn scalar_at(labels: &[Port], values: &[u128], label: &[u8]) -> Option<u128>
+    ensures { result ≡ at_label labels.now values.now label.now }
+{
+    for i in 0..labels.len() {
+        if i >= values.len() {
+            return None;
+        }
+        if labels[i].name.bytes() == label {
+            return Some(values[i]);
+        }
+    }
+    None
+}
+
+/// The memory of a label.
+pub(crate) fn memory_at<'a>(
+    labels: &[Port],
+    memories: &'a [OutsideMemory],
+    label: &[u8],
+) -> Option<&'a OutsideMemory>
+    ensures { option_copied result ≡ at_label labels.now memories.now label.now }
+{
+    for i in 0..labels.len() {
+        if i >= memories.len() {
+            return None;
+        }
+        if labels[i].name.bytes() == label {
+            return Some(&memories[i]);
+        }
+    }
+    None
+}
+
+fn rdata<'a>(
+    alloc: Global,
+    shape: &Shape,
+    now: &'a Moment,
+    x: &Text,
+) -> Result<Option<Source<'a>>, AllocError>
+    ensures { IfOk result (λ o. option_map source_tree o ≡ rdata_source shape.now.memories.items now.now.outside.items (rdata_lem x.now)) }
+{
+    let Some(label) = rdata_of(x) else {
+        return Ok(None);
+    };
+    match memory_at(&shape.memories, &now.outside, label) {
+        Some(m) => {
+            let address = Text::new(addr_name(alloc, label)?);
+            let reads = one_read(alloc, address)?;
+            Ok(Some(Source {
+                path: Vec::new(alloc),
+                reads,
+                rule: Rule::Cells(&m.cells),
+            }))
+        }
+        None => Ok(None),
+    }
+}
+
+fn ack<'a>(
+    alloc: Global,
+    shape: &Shape,
+    now: &'a Moment,
+    x: &Text,
+) -> Result<Option<Source<'a>>, AllocError>
+    ensures { IfOk result (λ o. option_map source_tree o ≡ ack_source now.now.cycle shape.now.memories.items now.now.outside.items (ack_lem x.now) (rdata_source shape.now.memories.items now.now.outside.items (rdata_lem x.now))) }
+{
+    let Some(label) = ack_of(x) else {
+        return rdata(alloc, shape, now, x);
+    };
+    match memory_at(&shape.memories, &now.outside, label) {
+        Some(m) => Ok(Some(given(alloc, ready_at(&m.ready, now.cycle)))),
+        None => Ok(None),
+    }
+}
+
+fn scalar<'a>(
+    alloc: Global,
+    shape: &Shape,
+    now: &'a Moment,
+    x: &Text,
+) -> Result<Option<Source<'a>>, AllocError>
+    ensures { IfOk result (λ o. option_map source_tree o ≡ scalar_source shape.now.scalars.items now.now.scalars.items (scalar_lem x.now) (ack_source now.now.cycle shape.now.memories.items now.now.outside.items (ack_lem x.now) (rdata_source shape.now.memories.items now.now.outside.items (rdata_lem x.now)))) }
+{
+    let Some(label) = scalar_of(x) else {
+        return ack(alloc, shape, now, x);
+    };
+    match scalar_at(&shape.scalars, &now.scalars, label) {
+        Some(v) => Ok(Some(given(alloc, v))),
+        None => Ok(None),
+    }
+}
+
+/// What stands around the design gives an input of the top.
+pub(crate) fn input_source<'a>(
+    alloc: Global,
+    shape: &Shape,
+    now: &'a Moment,
+    x: &Text,
+) -> Result<Option<Source<'a>>, AllocError>
+    ensures { IfOk result (λ o. option_map source_tree o ≡ input_source_lem shape.now.scalars.items shape.now.memories.items now.now x.now) }
+{
+    if is_reset(x) {
+        Ok(Some(given(alloc, reset_at(now.cycle))))
+    } else {
+        scalar(alloc, shape, now, x)
+    }
+}
