@@ -6,6 +6,7 @@ use Rattle.vlog_tree.specs.Form.{ModuleTree}
 use Rattle.vlog_tree.specs.Cycle.{Name, Path, and_then, driven}
 use Rattle.vlog_slow.specs.declared.numbers.NetNumber.{NetNumber}
 use Rattle.vlog_slow.specs.Numbers.{cycle_of, sizes_of, fitting}
+use Rattle.slow_cycle.specs.declared.moment.Circuit.{Circuit}
 use Rattle.slow_cycle.specs.declared.moment.Moment.{Moment}
 use Rattle.slow_cycle.specs.Sources.{RuleTree, SourceTree, source_of}
 
@@ -29,3 +30,6 @@ abbrev pub net_within : List ModuleTree → ModuleTree → List Port → List Po
 net_within ms top scalars memories now zero path x = None
 net_within ms top scalars memories now (suc d) path x =
     and_then (source_of ms top scalars memories now path x) (λ s. and_then (all_numbers (net_within ms top scalars memories now d s.path) s.reads) (by_rule s.rule))
+
+abbrev pub number_at : Circuit → Moment → ℕ → Path → Name → Option ℕ
+number_at c now d path x = net_within c.modules.now c.top.now c.shape.now.scalars.items c.shape.now.memories.items now d path x

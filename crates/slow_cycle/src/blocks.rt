@@ -1,19 +1,19 @@
 // What the blocks of an instance leave for the next cycle.
 
-ghost use Rattle.std.specs.Prelude.{◌≡◌, ◌∷◌, ◌++◌, [], List, map, reverse, OnOk, IfOk};
+ghost use Rattle.std.specs.Prelude.{◌≡◌, ◌∷◌, ◌++◌, [], List, map, reverse, OnOk, IfOk, if◌then◌else◌};
 ghost use Rattle.std.specs.List.{flat_map, list_all};
 ghost use Rattle.vlog_tree.specs.declared.tree.Step.{Step as StepTree};
-ghost use Rattle.vlog_tree.specs.Cycle.{Cycle, put, store, run_steps as run_steps_lem, run_items as run_items_lem};
-ghost use Rattle.vlog_slow.specs.Numbers.{cycle_of, sizes_of};
+ghost use Rattle.vlog_tree.specs.Cycle.{Cycle, Sizes, run_steps as run_steps_lem, run_items as run_items_lem};
+ghost use Rattle.vlog_tree.specs.Environment.{AllTwo};
 ghost use Rattle.slow_cycle.specs.Sources.{net_read};
-ghost use Rattle.slow_cycle.specs.Next.{step_nets, item_nets, Shows, IsAlike};
+ghost use Rattle.slow_cycle.specs.Next.{step_nets, item_nets, put_net, IsStored, ReadsAre, Fits, Shows, IsAlike, step_next, StepLeaves};
 
 use crate::lines::{add_atom, add_net};
 use crate::moment::Held;
 use std::alloc::{AllocError, Global};
 use tapa_base::Text;
-use vlog_rules::Scope;
-use vlog_slow::{MemoryCells, NetNumber, find_memory, number_in, value_of_atom};
+use vlog_rules::{Scope, copy_text};
+use vlog_slow::{MemoryCells, NetNumber, number_in, value_of_atom};
 use vlog_tree::{Item, Step};
 
 fn add_step(
@@ -83,31 +83,62 @@ pub(crate) fn block_reads(
     Ok(out)
 }
 
-fn put_number(nets: &mut [NetNumber], x: &Text, number: u128) {
-    for n in nets.iter_mut() {
-        if n.name.bytes() == x.bytes() {
-            n.number = number;
-        }
+fn put_number(
+    alloc: Global,
+    nets: &[NetNumber],
+    x: &Text,
+    number: u128,
+) -> Result<Vec<NetNumber>, AllocError>
+    ensures { IfOk result (λ v. v.items ≡ map (put_net x.now number) nets.now) }
+{
+    let mut out = Vec::new(alloc);
+    for r in nets {
+        let name = copy_text(alloc, &r.name)?;
+        let new = if r.name.bytes() == x.bytes() {
+            number
+        } else {
+            r.number
+        };
+        out.push(NetNumber {
+            name,
+            bits: r.bits,
+            number: new,
+        })?;
     }
+    Ok(out)
 }
 
-fn cells_of(memories: &[MemoryCells], m: &Text) -> usize {
-    match find_memory(memories, m) {
-        Some(k) => k.cells.len(),
-        None => 0,
+fn stored(
+    alloc: Global,
+    k: &MemoryCells,
+    m: &Text,
+    at: u128,
+    number: u128,
+) -> Result<MemoryCells, AllocError>
+    ensures { IfOk result (λ j. IsStored m.now at number k.now j) }
+{
+    let name = copy_text(alloc, &k.name)?;
+    let mut cells = k.cells.as_slice().to_vec(alloc)?;
+    if k.name.bytes() == m.bytes() && at < cells.len() as u128 {
+        cells[at as usize] = number;
     }
+    Ok(MemoryCells { name, cells })
 }
 
-// A cell below a limit.
-fn put_cell(memories: &mut [MemoryCells], m: &Text, limit: usize, at: u128, number: u128) {
-    if at >= limit as u128 {
-        return;
+fn put_cell(
+    alloc: Global,
+    memories: &[MemoryCells],
+    m: &Text,
+    at: u128,
+    number: u128,
+) -> Result<Vec<MemoryCells>, AllocError>
+    ensures { IfOk result (λ v. AllTwo (IsStored m.now at number) memories.now v.items) }
+{
+    let mut out = Vec::new(alloc);
+    for k in memories {
+        out.push(stored(alloc, k, m, at, number)?)?;
     }
-    for k in memories.iter_mut() {
-        if k.name.bytes() == m.bytes() && at < k.cells.len() as u128 {
-            k.cells[at as usize] = number;
-        }
-    }
+    Ok(out)
 }
 
 fn are_on(on: &[bool]) -> bool
@@ -116,66 +147,120 @@ fn are_on(on: &[bool]) -> bool
     on.iter().all(|b| *b)
 }
 
-// One step over the old numbers, where `on` says of each part that is open, the innermost last, whether it runs.
-fn run_step(
+// Opens and closes parts, where `on` says of each that is open, the innermost last, whether it runs; false where a part
+// is closed that is not open.
+#[tactic(auto, using(vlog_tree::proofs::Nesting::reverse_push))]
+fn turn(nets: &[NetNumber], on: &mut Vec<bool>, step: &Step) -> Result<bool, AllocError>
+    ensures { (s : Sizes) (old : Cycle) (rest : List StepTree) (next : Cycle) → ReadsAre nets.now old (step_nets step.now) → IfOk result (λ fits. run_steps_lem s old (reverse on.old.items) (step.now ∷ rest) next ≡ (if fits then run_steps_lem s old (reverse on.new.items) rest (step_next s old (reverse on.old.items) step.now next) else next)) }
+{
+    match step {
+        Step::If(c) => {
+            on.push(number_in(nets, c) == 1)?;
+            Ok(true)
+        }
+        Step::Else => match on.pop() {
+            Some(b) => {
+                on.push(!b)?;
+                Ok(true)
+            }
+            None => Ok(false),
+        },
+        Step::End => Ok(on.pop().is_some()),
+        Step::NonblockingAssign(_, _) => Ok(true),
+        Step::MemoryAssign(_, _, _) => Ok(true),
+    }
+}
+
+// The write of a step that runs.
+fn write(
+    alloc: Global,
     nets: &[NetNumber],
-    memories: &[MemoryCells],
+    step: &Step,
+    after: &mut Held,
+) -> Result<(), AllocError>
+    ensures value { OnOk result ((s : Sizes) (old : Cycle) (next : Cycle) → ReadsAre nets.now old (step_nets step.now) → Fits s after.old → Shows after.old next → Shows after.new (step_next s old [] step.now next)) }
+    ensures alike { OnOk result (IsAlike after.old after.new) }
+{
+    match step {
+        Step::NonblockingAssign(x, a) => {
+            after.nets = put_number(alloc, &after.nets, x, value_of_atom(nets, a))?;
+        }
+        Step::MemoryAssign(m, x, a) => {
+            let at = number_in(nets, x);
+            after.memories = put_cell(alloc, &after.memories, m, at, value_of_atom(nets, a))?;
+        }
+        Step::If(_) => (),
+        Step::Else => (),
+        Step::End => (),
+    }
+    Ok(())
+}
+
+fn run_step(
+    alloc: Global,
+    nets: &[NetNumber],
     on: &mut Vec<bool>,
     step: &Step,
     after: &mut Held,
-) -> Result<(), AllocError> {
-    match step {
-        Step::If(c) => on.push(number_in(nets, c) == 1)?,
-        Step::Else => {
-            if let Some(b) = on.pop() {
-                on.push(!b)?;
-            }
-        }
-        Step::End => {
-            let _ = on.pop();
-        }
-        Step::NonblockingAssign(x, a) => {
-            if are_on(on) {
-                put_number(&mut after.nets, x, value_of_atom(nets, a));
-            }
-        }
-        Step::MemoryAssign(m, x, a) => {
-            if are_on(on) {
-                let limit = cells_of(memories, m);
-                let at = number_in(nets, x);
-                put_cell(&mut after.memories, m, limit, at, value_of_atom(nets, a));
-            }
-        }
+) -> Result<bool, AllocError>
+    ensures value { (s : Sizes) (old : Cycle) (rest : List StepTree) (next : Cycle) → ReadsAre nets.now old (step_nets step.now) → Fits s after.old → Shows after.old next → IfOk result (λ fits. StepLeaves s old (reverse on.old.items) step.now rest next fits (reverse on.new.items) after.new) }
+    ensures alike { OnOk result (IsAlike after.old after.new) }
+{
+    if are_on(on) {
+        write(alloc, nets, step, after)?;
     }
-    Ok(())
+    turn(nets, on, step)
 }
 
 fn run_steps(
     alloc: Global,
     nets: &[NetNumber],
-    memories: &[MemoryCells],
     steps: &[Step],
     after: &mut Held,
-) -> Result<(), AllocError> {
+) -> Result<(), AllocError>
+    ensures value { OnOk result ((s : Sizes) (old : Cycle) (next : Cycle) → ReadsAre nets.now old (flat_map step_nets steps.now) → Fits s after.old → Shows after.old next → Shows after.new (run_steps_lem s old [] steps.now next)) }
+    ensures alike { OnOk result (IsAlike after.old after.new) }
+{
     let mut on = Vec::new(alloc);
     for step in steps {
-        run_step(nets, memories, &mut on, step, after)?;
+        if !run_step(alloc, nets, &mut on, step, after)? {
+            return Ok(());
+        }
     }
     Ok(())
 }
 
-/// What all blocks of a module leave, over the numbers of the nets that they read and the memories' old cells.
+fn run_item(
+    alloc: Global,
+    nets: &[NetNumber],
+    item: &Item,
+    after: &mut Held,
+) -> Result<(), AllocError>
+    ensures value { OnOk result ((s : Sizes) (old : Cycle) (next : Cycle) → ReadsAre nets.now old (item_nets item.now) → Fits s after.old → Shows after.old next → Shows after.new (run_items_lem s old (item.now ∷ []) next)) }
+    ensures alike { OnOk result (IsAlike after.old after.new) }
+{
+    match item {
+        Item::Always(block) => run_steps(alloc, nets, block.steps(), after),
+        Item::Wire(_, _) => Ok(()),
+        Item::Reg(_, _) => Ok(()),
+        Item::Memory(_, _, _) => Ok(()),
+        Item::Assign(_, _) => Ok(()),
+        Item::Instance(_, _, _) => Ok(()),
+    }
+}
+
+/// What all blocks of a module leave, over the numbers of the nets that they read.
 pub(crate) fn run_items(
     alloc: Global,
     nets: &[NetNumber],
-    memories: &[MemoryCells],
     items: &[Item],
     after: &mut Held,
-) -> Result<(), AllocError> {
+) -> Result<(), AllocError>
+    ensures value { OnOk result ((s : Sizes) (old : Cycle) (next : Cycle) → ReadsAre nets.now old (flat_map item_nets items.now) → Fits s after.old → Shows after.old next → Shows after.new (run_items_lem s old items.now next)) }
+    ensures alike { OnOk result (IsAlike after.old after.new) }
+{
     for item in items {
-        if let Item::Always(block) = item {
-            run_steps(alloc, nets, memories, block.steps(), after)?;
-        }
+        run_item(alloc, nets, item, after)?;
     }
     Ok(())
 }

@@ -1,6 +1,9 @@
 // What a design holds in the next cycle.
 
-ghost use Rattle.std.specs.Prelude.{◌≡◌, IfOk};
+ghost use Rattle.std.specs.Prelude.{◌≡◌, ◌+◌, IfOk, IfSome, is_some};
+ghost use Rattle.vlog_tree.specs.Environment.{AllTwo};
+ghost use Rattle.slow_cycle.specs.Moments.{InRuns, IsAt};
+ghost use Rattle.slow_cycle.specs.Next.{next_known, IsAlike};
 
 use crate::blocks::{block_reads, run_items};
 use crate::moment::{Circuit, Held, Moment, OutsideMemory};
@@ -64,7 +67,7 @@ fn held_after(
     match all_numbers(alloc, design, now, &h.path, &reads, depth)? {
         Some(nets) => {
             let mut after = copy_held(alloc, h)?;
-            run_items(alloc, &nets, &h.memories, m.items(), &mut after)?;
+            run_items(alloc, &nets, m.items(), &mut after)?;
             Ok(Some(after))
         }
         None => Ok(None),
@@ -143,7 +146,12 @@ pub fn next(
     design: &Circuit,
     now: &Moment,
     depth: u32,
-) -> Result<Option<Moment>, AllocError> {
+) -> Result<Option<Moment>, AllocError>
+    ensures known { IfOk result (λ o. is_some o ≡ next_known design.now now.now depth) }
+    ensures cycle { IfOk result (λ o. IfSome o (λ after. after.cycle ≡ now.now.cycle + 1)) }
+    ensures alike { IfOk result (λ o. IfSome o (λ after. AllTwo IsAlike now.now.held.items after.held.items)) }
+    ensures value { IfOk result (λ o. IfSome o (λ after. InRuns design.now now.now (λ env nets. IsAt design.now.modules.now design.now.top.now env nets after))) }
+{
     let Some(cycle) = now.cycle.checked_add(1) else {
         return Ok(None);
     };

@@ -1,8 +1,9 @@
 // The number of a net.
 
-ghost use Rattle.std.specs.Prelude.{◌≡◌, IfOk, unwrap_or, slice_get, Vec};
+ghost use Rattle.std.specs.Prelude.{◌≡◌, IfOk, IfSome, unwrap_or, slice_get, Vec};
 ghost use Rattle.slow_cycle.specs.Sources.{rule_tree, RuleFits};
-ghost use Rattle.slow_cycle.specs.Numbers.{first_number, by_rule as by_rule_lem, all_numbers as all_numbers_lem, net_within};
+ghost use Rattle.slow_cycle.specs.Moments.{InRuns};
+ghost use Rattle.slow_cycle.specs.Numbers.{first_number, by_rule as by_rule_lem, all_numbers as all_numbers_lem, number_at};
 ghost use Rattle.std.specs.Option.{option_map};
 ghost use Rattle.std.specs.declared.alloc.Global.{Global};
 ghost use Rattle.vlog_slow.specs.declared.numbers.NetNumber.{NetNumber};
@@ -61,7 +62,7 @@ pub(crate) fn all_numbers(
     reads: &[NetNumber],
     depth: u32,
 ) -> Result<Option<Vec<NetNumber>>, AllocError>
-    ensures { IfOk result (λ o. option_map (λ (v : Vec NetNumber Global). v.items) o ≡ all_numbers_lem (net_within design.now.modules.now design.now.top.now design.now.shape.now.scalars.items design.now.shape.now.memories.items now.now depth path.now) reads.now) }
+    ensures { IfOk result (λ o. option_map (λ (v : Vec NetNumber Global). v.items) o ≡ all_numbers_lem (number_at design.now now.now depth path.now) reads.now) }
 {
     let mut nets = Vec::new(alloc);
     for r in reads {
@@ -88,7 +89,8 @@ pub fn net_number(
     name: &Text,
     depth: u32,
 ) -> Result<Option<u128>, AllocError>
-    ensures { IfOk result (λ o. o ≡ net_within design.now.modules.now design.now.top.now design.now.shape.now.scalars.items design.now.shape.now.memories.items now.now depth path.now name.now) }
+    ensures within { IfOk result (λ o. o ≡ number_at design.now now.now depth path.now name.now) }
+    ensures value { IfOk result (λ o. IfSome o (λ v. InRuns design.now now.now (λ env nets. (nets now.now.cycle path.now).net name.now ≡ v))) }
 {
     if depth == 0 {
         return Ok(None);

@@ -1,7 +1,12 @@
 // What a stream carries in a cycle, and whether the design is done.
 
-ghost use Rattle.std.specs.Prelude.{◌≡◌, [], IfOk};
-ghost use Rattle.slow_cycle.specs.Numbers.{net_within};
+ghost use Rattle.std.specs.Prelude.{◌≡◌, ◌++◌, ◌↔◌, ◌&&◌, ℕ, suc, [], None, IfOk, IfSome, IsTrue, is_some};
+ghost use Rattle.std.specs.Option.{option_to_list};
+ghost use Rattle.std.specs.Str.{IsAscii};
+ghost use Rattle.vlog_tree.specs.Labels.{s_din, s_wr, s_rdy, done};
+ghost use Rattle.vlog_tree.specs.Environment.{carried, IsDone};
+ghost use Rattle.slow_cycle.specs.Moments.{InRuns};
+ghost use Rattle.slow_cycle.specs.Numbers.{number_at};
 
 use crate::moment::{Circuit, Moment};
 use crate::numbers::net_number;
@@ -17,12 +22,17 @@ pub(crate) fn top_number(
     name: Vec<u8>,
     depth: u32,
 ) -> Result<Option<u128>, AllocError>
-    ensures { IfOk result (λ o. o ≡ net_within design.now.modules.now design.now.top.now design.now.shape.now.scalars.items design.now.shape.now.memories.items now.now depth [] name.items) }
+    requires { IsAscii name.items }
+    ensures within { IfOk result (λ o. o ≡ number_at design.now now.now depth [] name.items) }
+    ensures value { IfOk result (λ o. IfSome o (λ v. InRuns design.now now.now (λ env nets. (nets now.now.cycle []).net name.items ≡ v))) }
 {
     net_number(alloc, design, now, &[], &Text::new(name), depth)
 }
 
-fn din_name(alloc: Global, label: &[u8]) -> Result<Vec<u8>, AllocError> {
+#[tactic(auto, unfolding(vlog_tree::specs::Labels::s_din))]
+fn din_name(alloc: Global, label: &[u8]) -> Result<Vec<u8>, AllocError>
+    ensures { IfOk result (λ v. v.items ≡ s_din label.now) }
+{
     let mut name = b"s_".to_vec(alloc)?;
     name.extend_from_slice(label)?;
     name.extend_from_slice(b"_din")?;
@@ -36,7 +46,11 @@ pub fn carries(
     now: &Moment,
     label: &Text,
     depth: u32,
-) -> Result<Option<Option<u128>>, AllocError> {
+) -> Result<Option<Option<u128>>, AllocError>
+    ensures known { IfOk result (λ o. is_some o ≡ (is_some (number_at design.now now.now depth [] (s_wr label.now)) && is_some (number_at design.now now.now depth [] (s_rdy label.now)) && is_some (number_at design.now now.now depth [] (s_din label.now)))) }
+    ensures first { IfOk result (λ o. IfSome o (λ t. now.now.cycle ≡ 0 → t ≡ None)) }
+    ensures value { IfOk result (λ o. IfSome o (λ t. InRuns design.now now.now (λ env nets. (k : ℕ) → now.now.cycle ≡ suc k → carried (λ n. nets n []) label.now (suc k) ≡ carried (λ n. nets n []) label.now k ++ option_to_list t))) }
+{
     let label = label.bytes();
     let Some(wr) = top_number(alloc, design, now, wr_name(alloc, label)?, depth)? else {
         return Ok(None);
@@ -60,7 +74,10 @@ pub fn is_done(
     design: &Circuit,
     now: &Moment,
     depth: u32,
-) -> Result<Option<bool>, AllocError> {
+) -> Result<Option<bool>, AllocError>
+    ensures known { IfOk result (λ o. is_some o ≡ is_some (number_at design.now now.now depth [] done)) }
+    ensures value { IfOk result (λ o. IfSome o (λ b. InRuns design.now now.now (λ env nets. IsTrue b ↔ IsDone (λ n. nets n []) now.now.cycle))) }
+{
     match top_number(alloc, design, now, b"done".to_vec(alloc)?, depth)? {
         Some(n) => Ok(Some(now.cycle > 0 && n == 1)),
         None => Ok(None),

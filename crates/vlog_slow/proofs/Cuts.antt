@@ -1,7 +1,5 @@
 -- Numbers cut to fewer bits.
-use Rattle.std.specs.Prelude.{◌⊎◌}
-use Rattle.std.proofs.lemmas.Bool.{cases_lt}
-use Rattle.std.proofs.Common.{◌≡◌, ℕ, zero, suc, inl, inr, ◌+◌, ◌-◌, ◌*◌, ◌/◌, ◌%◌, ◌^◌, ◌<◌, ◌≤◌, refl, sym, ap, ◌∙◌, arith}
+use Rattle.std.proofs.Common.{◌≡◌, ℕ, zero, suc, ◌+◌, ◌-◌, ◌*◌, ◌/◌, ◌%◌, ◌^◌, ◌<◌, ◌≤◌, refl, sym, ap, ◌∙◌, arith}
 use Rattle.std.proofs.Math.Nat.{mod-eq_of_lt, div-eq_of_lt, mul-mod_left, div-zero, mod-zero, add-mod_right}
 use Rattle.std.proofs.lemmas.Nat.{pow-add}
 use Rattle.std.proofs.Math.Pow.{mod-mod-pow, pow_pos, pow_mono}
@@ -44,14 +42,6 @@ left_of_none a b e = sym (ap (λ k. a % k) e ∙ mod-zero a)
 pub all_in : (n w : ℕ) → n < 2 ^ 128 → 128 ≤ w → n ≡ n % 2 ^ w
 all_in n w h k = let m : 2 ^ 128 ≤ 2 ^ w = pow_mono k in let low : n < 2 ^ w = omega arith in sym (mod-eq_of_lt low)
 
-least : (n p : ℕ) → 0 < n → p ≤ n * p
+pub least : (n p : ℕ) → 0 < n → p ≤ n * p
 least zero p h = absurd (omega arith)
 least (suc n) p h = grind arith
-
--- a number that isn't 0 leaves room for fewer than 128 bits
-few_of : (n b v : ℕ) → 0 < n → n * 2 ^ b + v < 2 ^ 128 → (b < 128) ⊎ (128 ≤ b) → b < 128
-few_of n b v p h (inl low) = low
-few_of n b v p h (inr high) = let m : 2 ^ 128 ≤ 2 ^ b = pow_mono high in let l : 2 ^ b ≤ n * 2 ^ b = least n (2 ^ b) p in absurd (omega arith)
-
-pub few_bits : (n b v : ℕ) → 0 < n → n * 2 ^ b + v < 2 ^ 128 → b < 128
-few_bits n b v p h = few_of n b v p h (cases_lt b 128)

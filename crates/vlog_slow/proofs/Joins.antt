@@ -1,9 +1,11 @@
 -- Concatenations and copies as they grow.
-use Rattle.std.proofs.Common.{◌≡◌, ℕ, zero, suc, ◌+◌, ◌-◌, ◌*◌, ◌^◌, ◌<◌, ◌≤◌, List, [], ◌∷◌, length, get_or, drop, refl, sym, ap, subst, ◌∙◌, add-one, arith}
+use Rattle.std.proofs.Common.{◌≡◌, ℕ, zero, suc, ◌+◌, ◌-◌, ◌*◌, ◌^◌, ◌<◌, ◌≤◌, List, [], ◌∷◌, None, length, get_or, drop, refl, sym, ap, subst, ◌∙◌, add-one, arith}
 use Rattle.std.proofs.Math.Pow.{pow_pos}
 use Rattle.vlog_tree.specs.declared.tree.Atom.{Atom}
 use Rattle.vlog_tree.specs.Cycle.{Cycle, Sizes, atom_value, atom_width, joined, copies}
 use Rattle.vlog_tree.proofs.Walks.{opened}
+use Rattle.vlog_slow.specs.Numbers.{fitting}
+use Rattle.vlog_slow.proofs.Fits.{grown}
 
 times_least : (n p : ℕ) → 0 < p → n ≤ n * p
 times_least n zero h = absurd (omega arith)
@@ -24,13 +26,14 @@ copies_grow w a i (suc d) =
 pub copy_more : (w a i n : ℕ) → n ≡ copies w a i → n * 2 ^ w + a ≡ copies w a (i + 1)
 copy_more w a i n e = ap (λ k. k * 2 ^ w + a) e ∙ ap (λ k. copies w a k) (sym (let z : i + 1 ≡ suc i = omega arith in z))
 
-pub copy_room : (w a i k n : ℕ) → n ≡ copies w a i → i < k → copies w a k < 2 ^ 128 → n * 2 ^ w + a < 2 ^ 128
-copy_room w a i k n e low fits =
+-- where some copies do not fit, more do not
+pub copies_past : (w a i k n : ℕ) → n ≡ copies w a i → i < k → None ≡ fitting (n * 2 ^ w + a) → None ≡ fitting (copies w a k)
+copies_past w a i k n e low h =
     let d : (k - (i + 1)) + (i + 1) ≡ k = omega arith in
     let g : copies w a (i + 1) ≤ copies w a ((k - (i + 1)) + (i + 1)) = copies_grow w a (i + 1) (k - (i + 1)) in
     let s : copies w a ((k - (i + 1)) + (i + 1)) ≡ copies w a k = ap (λ j. copies w a j) d in
     let m : n * 2 ^ w + a ≡ copies w a (i + 1) = copy_more w a i n e in
-    omega arith
+    grown (n * 2 ^ w + a) (copies w a k) h (omega arith)
 
 module _ (s : Sizes) (c : Cycle) where
   joined_least : (atoms : List Atom) (n : ℕ) → n ≤ joined s c n atoms
@@ -46,8 +49,8 @@ module _ (s : Sizes) (c : Cycle) where
         ap (λ k. joined s c k (drop (i + 1) atoms)) (e ∙ ap (λ k. n * 2 ^ k + v) width ∙ ap (λ k. n * 2 ^ atom_width s x + k) value)
         ∙ sym (ap (λ l. joined s c n l) (opened atoms i x low is)) ∙ so_far
 
-    pub join_room : joined s c 0 atoms < 2 ^ 128 → n * 2 ^ b + v < 2 ^ 128
-    join_room fits =
+    pub join_past : None ≡ fitting (n * 2 ^ b + v) → None ≡ fitting (joined s c 0 atoms)
+    join_past h =
         let l : n * 2 ^ b + v ≤ joined s c (n * 2 ^ b + v) (drop (i + 1) atoms) = joined_least (drop (i + 1) atoms) (n * 2 ^ b + v) in
         let e : joined s c (n * 2 ^ b + v) (drop (i + 1) atoms) ≡ joined s c 0 atoms = join_more (n * 2 ^ b + v) refl in
-        omega arith
+        grown (n * 2 ^ b + v) (joined s c 0 atoms) h (omega arith)

@@ -53,13 +53,17 @@ fn bits_of_atom(nets: &[NetNumber], atom: &Atom) -> u64
 }
 
 /// A number with some bits put below it.
+#[tactic(auto, using(crate::proofs::Fits::none_below, crate::proofs::Fits::no_room, crate::proofs::Fits::no_product, crate::proofs::Fits::with_low))]
 fn put_below(n: u128, bits: u64, low: u128) -> Option<u128>
     ensures { result ≡ fitting (n * 2 ^ bits + low) }
 {
     if n == 0 {
         Some(low)
     } else if bits < 128 {
-        n.checked_mul(1 << bits)?.checked_add(low)
+        match n.checked_mul(1 << bits) {
+            Some(high) => high.checked_add(low),
+            None => None,
+        }
     } else {
         None
     }
@@ -95,6 +99,7 @@ fn invert(bits: u32, a: u128) -> u128
 }
 
 /// The number that a driver gives a target of some bits, where it fits 128 bits.
+#[tactic(auto, using(crate::proofs::Fits::fits))]
 pub fn value_of(
     nets: &[NetNumber],
     memories: &[MemoryCells],

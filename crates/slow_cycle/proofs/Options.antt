@@ -1,0 +1,16 @@
+-- Options that are there.
+use Rattle.std.proofs.Common.{◌≡◌, ℕ, Bool, true, false, cond, ◌&&◌, Option, Some, None, refl}
+use Rattle.std.specs.Option.{option_map}
+use Rattle.vlog_tree.specs.Cycle.{and_then}
+
+pub and_then_some : {A B : Type 0} (o : Option A) (f : A → Option B) (y : B) → and_then o f ≡ Some y → (x : A) × (o ≡ Some x) × (f x ≡ Some y)
+and_then_some None f y h = cc
+and_then_some (Some x) f y h = (x, refl, h)
+
+pub map_some : {A B : Type 0} (f : A → B) (o : Option A) (y : B) → option_map f o ≡ Some y → (x : A) × (o ≡ Some x) × (f x ≡ y)
+map_some f None y h = cc
+map_some f (Some x) y h = (x, refl, cc)
+
+pub cond_some : {A : Type 0} (b : Bool) (x y : A) → cond b (Some x) None ≡ Some y → (b ≡ true) × (x ≡ y)
+cond_some true x y h = (refl, cc)
+cond_some false x y h = cc
