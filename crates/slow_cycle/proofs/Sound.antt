@@ -30,7 +30,7 @@ use Rattle.vlog_slow.proofs.Fits.{is_fit}
 use Rattle.slow_cycle.specs.declared.moment.Held.{Held}
 use Rattle.slow_cycle.specs.declared.moment.OutsideMemory.{OutsideMemory}
 use Rattle.slow_cycle.specs.declared.moment.Moment.{Moment}
-use Rattle.slow_cycle.specs.Sources.{RuleTree, SourceTree, same_path, held_at, assigned, link_out, port_or, output_of, link_in, joined_to, net_read, are_read, has_cells, given_number, same_number, can_drive, driver_source, at_label, rdata_source, ack_source, scalar_source, input_source, outer_source, output_source, line_source, register_source, source_of}
+use Rattle.slow_cycle.specs.Sources.{RuleTree, SourceTree, same_path, held_at, assigned, link_out, port_or, output_of, link_in, joined_to, net_read, are_read, has_cells, given_number, same_number, can_drive, driver_source, at_label, memory_of, rdata_source, ack_source, scalar_source, input_source, outer_source, output_source, line_source, register_source, source_of}
 use Rattle.slow_cycle.specs.Numbers.{first_number, by_rule, all_numbers, net_within}
 use Rattle.slow_cycle.specs.Moments.{RegisterIs, MemoryIs, HeldIs, OutsideIs, IsAt}
 use Rattle.slow_cycle.proofs.Options.{and_then_some, map_some, cond_some}
@@ -71,6 +71,15 @@ memory_step n ns x k false e f s = let t = f s in (inr t.0, t.1)
 pub memory_found : (ns : List MemoryCells) (x : Name) (k : MemoryCells) → first_memory ns x ≡ Some k → Has ns k × (k.name ≡ x)
 memory_found [] x k s = cc
 memory_found (n ∷ ns) x k s = memory_step n ns x k (bytes_eq n.name x) refl (memory_found ns x k) s
+
+outside_step : (o : OutsideMemory) (os : List OutsideMemory) (x : Name) (k : OutsideMemory) (b : Bool) → bytes_eq o.name x ≡ b → (memory_of os x ≡ Some k → Has os k × (k.name ≡ x))
+    → cond b (Some o) (memory_of os x) ≡ Some k → Has (o ∷ os) k × (k.name ≡ x)
+outside_step o os x k true e f s = let same : o ≡ k = cc in (inl same, ap (λ (z : OutsideMemory). z.name) (sym same) ∙ (bytes_decides o.name x).0 e)
+outside_step o os x k false e f s = let t = f s in (inr t.0, t.1)
+
+pub outside_found : (os : List OutsideMemory) (x : Name) (k : OutsideMemory) → memory_of os x ≡ Some k → Has os k × (k.name ≡ x)
+outside_found [] x k s = cc
+outside_found (o ∷ os) x k s = outside_step o os x k (bytes_eq o.name x) refl (outside_found os x k) s
 
 driver_step : (y x : Name) (e v : Value) (items : List Item) (b : Bool) → bytes_eq y x ≡ b → (assigned items x ≡ Some v → Has items (Assign x v)) → cond b (Some e) (assigned items x) ≡ Some v
     → Has {N = Item} (Assign y e ∷ items) (Assign x v)
@@ -136,7 +145,7 @@ module _ (c : Cycle) where
   read_step ds r k ns z false e i w (inr h) = h
 
   -- the nets that were read have their numbers and widths
-  read_found : (ds : List Declaration) (names : List Name) (ns : List NetNumber) → AllTwo IsRead (map (net_read ds) names) ns → (z : Name) → Has names z → (net_in ns z ≡ c.net z) × (bits_in ns z ≡ bits_of ds z)
+  pub read_found : (ds : List Declaration) (names : List Name) (ns : List NetNumber) → AllTwo IsRead (map (net_read ds) names) ns → (z : Name) → Has names z → (net_in ns z ≡ c.net z) × (bits_in ns z ≡ bits_of ds z)
   read_found ds [] ns a z h = absurd h
   read_found ds (y ∷ names) [] a z h = absurd a
   read_found ds (y ∷ names) (k ∷ ns) a z (inl e) = read_step ds (net_read ds y) k ns z (bytes_eq k.name z) refl a.0 refl (inl e)

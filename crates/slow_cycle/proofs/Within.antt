@@ -24,21 +24,18 @@ use Rattle.vlog_slow.specs.Numbers.{first_net}
 use Rattle.slow_cycle.specs.declared.moment.Held.{Held}
 use Rattle.slow_cycle.specs.declared.moment.OutsideMemory.{OutsideMemory}
 use Rattle.slow_cycle.specs.declared.moment.Moment.{Moment}
-use Rattle.slow_cycle.specs.Sources.{RuleTree, SourceTree, held_at, assigned, output_of, joined_to, net_read, given_number, same_number, can_drive, driver_source, at_label, rdata_source, ack_source, scalar_source, input_source, outer_source, output_source, line_source, register_source, source_of}
+use Rattle.slow_cycle.specs.Sources.{RuleTree, SourceTree, held_at, assigned, output_of, joined_to, net_read, given_number, same_number, can_drive, driver_source, at_label, rdata_source, ack_source, scalar_source, memory_of, input_source, outer_source, output_source, line_source, register_source, source_of}
 use Rattle.slow_cycle.specs.Numbers.{by_rule, all_numbers, net_within}
 use Rattle.slow_cycle.specs.Moments.{RegisterIs, MemoryIs, HeldIs, OutsideIs, IsAt}
 use Rattle.slow_cycle.proofs.Options.{and_then_some, map_some, cond_some}
-use Rattle.slow_cycle.proofs.Sound.{held_found, net_found, driver_found, label_found, answers_found, numbers_read, IsOutput, output_found, joined_found, Gives, given_gives, same_gives, cells_give, driver_gives}
+use Rattle.slow_cycle.proofs.Sound.{held_found, net_found, outside_found, driver_found, label_found, answers_found, numbers_read, IsOutput, output_found, joined_found, Gives, given_gives, same_gives, cells_give, driver_gives}
 
 later : (n : ℕ) → (suc n == 0) ≡ false
 later n = grind (arith, nat_tests)
 
 module _ (ms : List ModuleTree) (top : ModuleTree) (env : Environment) (nets : ℕ → Path → Cycle) (now : Moment) (r : RunsIn ms top env nets) (at : IsAt ms top env nets now) where
-  abbrev scalars : List Port
-  scalars = (shape_of top).scalars
-
-  abbrev memories : List Port
-  memories = (shape_of top).memories
+  abbrev labels : List Port
+  labels = (shape_of top).memories
 
   abbrev n : ℕ
   n = now.cycle
@@ -50,41 +47,46 @@ module _ (ms : List ModuleTree) (top : ModuleTree) (env : Environment) (nets : �
   reset_is zero = r.stands.reset
   reset_is (suc k) = r.stands.runs k ∙ ap (λ b. cond b 1 0) (sym (later k))
 
-  scalar_is : (x l : Name) (v : ℕ) → scalar_of x ≡ Some l → at_label scalars now.scalars.items l ≡ Some v → (nets n []).net x ≡ v
-  scalar_is x l v e h =
+  scalar_is : (x l : Name) (w : NetNumber) → scalar_of x ≡ Some l → first_net now.scalars.items l ≡ Some w → (nets n []).net x ≡ w.number
+  scalar_is x l w e h =
+      let q = net_found now.scalars.items l w h in
+      let v : at_label (shape_of top).scalars env.scalars w.name ≡ Some w.number = all_at (λ (v : NetNumber). at_label (shape_of top).scalars env.scalars v.name ≡ Some v.number) now.scalars.items w at.scalars q.0 in
       ap (λ z. (nets n []).net z) (scalar_label x l e).0
-      ∙ label_found (λ y w. (nets n []).net (scalar y) ≡ w) scalars env.scalars (r.stands.scalars n) l v (ap (λ vs. at_label scalars vs l) (sym at.scalars) ∙ h)
+      ∙ label_found (λ y k. (nets n []).net (scalar y) ≡ k) (shape_of top).scalars env.scalars (r.stands.scalars n) l w.number (ap (λ z. at_label (shape_of top).scalars env.scalars z) (sym q.1) ∙ v)
 
-  answers : (l : Name) (o : OutsideMemory) (q : OutsideIs env (λ k. nets k []) n memories l o) → Answers (λ k. nets k []) l q.first q.ready
-  answers l o q = answers_found (λ k. nets k []) memories env.memories env.ready r.stands.memories l q.first q.ready q.first_is q.ready_is
+  answers : (l : Name) (o : OutsideMemory) (q : OutsideIs env (λ k. nets k []) n labels o) → Answers (λ k. nets k []) o.name q.first q.ready
+  answers l o q = answers_found (λ k. nets k []) labels env.memories env.ready r.stands.memories o.name q.first q.ready q.first_is q.ready_is
 
-  ack_is : (x l : Name) (o : OutsideMemory) → ack_of x ≡ Some l → at_label memories now.outside.items l ≡ Some o → (nets n []).net x ≡ ready_at o.ready.items n
+  ack_is : (x l : Name) (o : OutsideMemory) → ack_of x ≡ Some l → memory_of now.outside.items l ≡ Some o → (nets n []).net x ≡ ready_at o.ready.items n
   ack_is x l o e h =
-      let q = at.outside l o h in
-      ap (λ z. (nets n []).net z) (ack_label x l e).0 ∙ (answers l o q).ack n ∙ ap (λ b. ready_at b n) (sym q.bits)
+      let f = outside_found now.outside.items l o h in
+      let q = all_at (OutsideIs env (λ k. nets k []) n labels) now.outside.items o at.outside f.0 in
+      ap (λ z. (nets n []).net z) (ack_label x l e).0 ∙ ap (λ z. (nets n []).net (m_ack z)) (sym f.1) ∙ (answers l o q).ack n ∙ ap (λ b. ready_at b n) (sym q.bits)
 
-  rdata_is : (x l : Name) (o : OutsideMemory) → rdata_of x ≡ Some l → at_label memories now.outside.items l ≡ Some o → (nets n []).net x ≡ unwrap_or (slice_get o.cells.items ((nets n []).net (m_addr l))) 0
+  rdata_is : (x l : Name) (o : OutsideMemory) → rdata_of x ≡ Some l → memory_of now.outside.items l ≡ Some o → (nets n []).net x ≡ unwrap_or (slice_get o.cells.items ((nets n []).net (m_addr l))) 0
   rdata_is x l o e h =
-      let q = at.outside l o h in
-      ap (λ z. (nets n []).net z) (rdata_label x l e).0 ∙ (answers l o q).rdata n ∙ ap (λ c. unwrap_or (slice_get c ((nets n []).net (m_addr l))) 0) (sym q.cells)
+      let f = outside_found now.outside.items l o h in
+      let q = all_at (OutsideIs env (λ k. nets k []) n labels) now.outside.items o at.outside f.0 in
+      ap (λ z. (nets n []).net z) (rdata_label x l e).0 ∙ ap (λ z. (nets n []).net (m_rdata z)) (sym f.1) ∙ (answers l o q).rdata n
+      ∙ ap (λ c. unwrap_or (slice_get c ((nets n []).net (m_addr o.name))) 0) (sym q.cells) ∙ ap (λ z. unwrap_or (slice_get o.cells.items ((nets n []).net (m_addr z))) 0) f.1
 
-  rdata_gives : (x : Name) (o : Option Name) → rdata_of x ≡ o → (s : SourceTree) → rdata_source memories now.outside.items o ≡ Some s → GivesNow [] x s
+  rdata_gives : (x : Name) (o : Option Name) → rdata_of x ≡ o → (s : SourceTree) → rdata_source now.outside.items o ≡ Some s → GivesNow [] x s
   rdata_gives x None e s h = cc
   rdata_gives x (Some l) e s h =
-      let t = map_some (λ (o : OutsideMemory). record { path = []; reads = record { name = m_addr l; bits = 0; number = 0 } ∷ []; rule = RuleTree.cells o.cells.items }) (at_label memories now.outside.items l) s h in
+      let t = map_some (λ (o : OutsideMemory). record { path = []; reads = record { name = m_addr l; bits = 0; number = 0 } ∷ []; rule = RuleTree.cells o.cells.items }) (memory_of now.outside.items l) s h in
       subst (λ z. GivesNow [] x z) t.2 (cells_give (nets n) [] x (m_addr l) t.0.cells.items (rdata_is x l t.0 e t.1))
 
-  ack_gives : (x : Name) (o : Option Name) → ack_of x ≡ o → (others : Option SourceTree) → ((s : SourceTree) → others ≡ Some s → GivesNow [] x s) → (s : SourceTree) → ack_source n memories now.outside.items o others ≡ Some s → GivesNow [] x s
+  ack_gives : (x : Name) (o : Option Name) → ack_of x ≡ o → (others : Option SourceTree) → ((s : SourceTree) → others ≡ Some s → GivesNow [] x s) → (s : SourceTree) → ack_source n now.outside.items o others ≡ Some s → GivesNow [] x s
   ack_gives x None e others f s h = f s h
   ack_gives x (Some l) e others f s h =
-      let t = map_some (λ (o : OutsideMemory). given_number (ready_at o.ready.items n)) (at_label memories now.outside.items l) s h in
+      let t = map_some (λ (o : OutsideMemory). given_number (ready_at o.ready.items n)) (memory_of now.outside.items l) s h in
       subst (λ z. GivesNow [] x z) t.2 (given_gives (nets n) [] x (ready_at t.0.ready.items n) (ack_is x l t.0 e t.1))
 
-  scalar_gives : (x : Name) (o : Option Name) → scalar_of x ≡ o → (others : Option SourceTree) → ((s : SourceTree) → others ≡ Some s → GivesNow [] x s) → (s : SourceTree) → scalar_source scalars now.scalars.items o others ≡ Some s → GivesNow [] x s
+  scalar_gives : (x : Name) (o : Option Name) → scalar_of x ≡ o → (others : Option SourceTree) → ((s : SourceTree) → others ≡ Some s → GivesNow [] x s) → (s : SourceTree) → scalar_source now.scalars.items o others ≡ Some s → GivesNow [] x s
   scalar_gives x None e others f s h = f s h
   scalar_gives x (Some l) e others f s h =
-      let t = map_some given_number (at_label scalars now.scalars.items l) s h in
-      subst (λ z. GivesNow [] x z) t.2 (given_gives (nets n) [] x t.0 (scalar_is x l t.0 e t.1))
+      let t = map_some (λ (v : NetNumber). given_number v.number) (first_net now.scalars.items l) s h in
+      subst (λ z. GivesNow [] x z) t.2 (given_gives (nets n) [] x t.0.number (scalar_is x l t.0 e t.1))
 
   reset_gives : (x : Name) (b : Bool) → bytes_eq x rst ≡ b → (others : Option SourceTree) → ((s : SourceTree) → others ≡ Some s → GivesNow [] x s) → (s : SourceTree) → cond b (Some (given_number (cond (n == 0) 1 0))) others ≡ Some s → GivesNow [] x s
   reset_gives x true e others f s h =
@@ -92,11 +94,11 @@ module _ (ms : List ModuleTree) (top : ModuleTree) (env : Environment) (nets : �
       subst (λ z. GivesNow [] x z) t (given_gives (nets n) [] x (cond (n == 0) 1 0) (ap (λ z. (nets n []).net z) ((bytes_decides x rst).0 e) ∙ reset_is n))
   reset_gives x false e others f s h = f s h
 
-  input_gives : (x : Name) (s : SourceTree) → input_source scalars memories now x ≡ Some s → GivesNow [] x s
+  input_gives : (x : Name) (s : SourceTree) → input_source now x ≡ Some s → GivesNow [] x s
   input_gives x s h =
-      reset_gives x (bytes_eq x rst) refl (scalar_source scalars now.scalars.items (scalar_of x) (ack_source n memories now.outside.items (ack_of x) (rdata_source memories now.outside.items (rdata_of x))))
-      (scalar_gives x (scalar_of x) refl (ack_source n memories now.outside.items (ack_of x) (rdata_source memories now.outside.items (rdata_of x)))
-      (ack_gives x (ack_of x) refl (rdata_source memories now.outside.items (rdata_of x)) (rdata_gives x (rdata_of x) refl))) s h
+      reset_gives x (bytes_eq x rst) refl (scalar_source now.scalars.items (scalar_of x) (ack_source n now.outside.items (ack_of x) (rdata_source now.outside.items (rdata_of x))))
+      (scalar_gives x (scalar_of x) refl (ack_source n now.outside.items (ack_of x) (rdata_source now.outside.items (rdata_of x)))
+      (ack_gives x (ack_of x) refl (rdata_source now.outside.items (rdata_of x)) (rdata_gives x (rdata_of x) refl))) s h
 
   -- a net that is joined to a port has its number
   joined_is : (path : Path) (m : ModuleTree) → module_at ms top path ≡ Some m → (z : Name) (p : Name × Name) → IsOutput m.items z p → (nets n (p.0 ∷ path)).net p.1 ≡ (nets n path).net z
@@ -105,7 +107,7 @@ module _ (ms : List ModuleTree) (top : ModuleTree) (env : Environment) (nets : �
       let l : (nets n (p.0 ∷ path)).net q.link.port ≡ (nets n path).net q.link.net = all_at (λ (l : Link). (nets n (p.0 ∷ path)).net l.port ≡ (nets n path).net l.net) q.links q.link links q.linked in
       sym (ap (λ y. (nets n (p.0 ∷ path)).net y) q.port) ∙ l ∙ ap (λ y. (nets n path).net y) q.net
 
-  outer_gives : (path : Path) (x : Name) (s : SourceTree) → outer_source ms top scalars memories now path x ≡ Some s → GivesNow path x s
+  outer_gives : (path : Path) (x : Name) (s : SourceTree) → outer_source ms top now path x ≡ Some s → GivesNow path x s
   outer_gives [] x s h = input_gives x s h
   outer_gives (i ∷ path) x s h =
       let t = and_then_some (module_at ms top path) (λ m. option_map (same_number path) (joined_to m.items i x)) s h in
@@ -144,24 +146,24 @@ module _ (ms : List ModuleTree) (top : ModuleTree) (env : Environment) (nets : �
         let is : (nets n path).net w.name ≡ w.number = (all_at (RegisterIs m.items (nets n path)) h.nets.items w registers_are q.0).1 in
         subst (λ z. GivesNow path x z) t (given_gives (nets n) path x w.number (ap (λ y. (nets n path).net y) (sym q.1) ∙ is))
 
-    module_gives : (x : Name) (s : SourceTree) → register_source (first_net h.nets.items x) (line_source (declared m) path h.memories.items x (assigned m.items x) (output_source path (output_of ms m.items x) (outer_source ms top scalars memories now path x))) ≡ Some s → GivesNow path x s
+    module_gives : (x : Name) (s : SourceTree) → register_source (first_net h.nets.items x) (line_source (declared m) path h.memories.items x (assigned m.items x) (output_source path (output_of ms m.items x) (outer_source ms top now path x))) ≡ Some s → GivesNow path x s
     module_gives x s k =
-        register_gives x (first_net h.nets.items x) refl (line_source (declared m) path h.memories.items x (assigned m.items x) (output_source path (output_of ms m.items x) (outer_source ms top scalars memories now path x)))
-        (line_gives x (assigned m.items x) refl (output_source path (output_of ms m.items x) (outer_source ms top scalars memories now path x))
-        (output_gives path m at_m x (output_of ms m.items x) refl (outer_source ms top scalars memories now path x) (outer_gives path x))) s k
+        register_gives x (first_net h.nets.items x) refl (line_source (declared m) path h.memories.items x (assigned m.items x) (output_source path (output_of ms m.items x) (outer_source ms top now path x)))
+        (line_gives x (assigned m.items x) refl (output_source path (output_of ms m.items x) (outer_source ms top now path x))
+        (output_gives path m at_m x (output_of ms m.items x) refl (outer_source ms top now path x) (outer_gives path x))) s k
 
-  source_gives : (path : Path) (x : Name) (s : SourceTree) → source_of ms top scalars memories now path x ≡ Some s → GivesNow path x s
+  source_gives : (path : Path) (x : Name) (s : SourceTree) → source_of ms top now path x ≡ Some s → GivesNow path x s
   source_gives path x s e =
-      let rest = λ (h : Held) (m : ModuleTree). register_source (first_net h.nets.items x) (line_source (declared m) path h.memories.items x (assigned m.items x) (output_source path (output_of ms m.items x) (outer_source ms top scalars memories now path x))) in
+      let rest = λ (h : Held) (m : ModuleTree). register_source (first_net h.nets.items x) (line_source (declared m) path h.memories.items x (assigned m.items x) (output_source path (output_of ms m.items x) (outer_source ms top now path x))) in
       let t = and_then_some (held_at now.held.items path) (λ h. and_then (module_at ms top path) (λ m. rest h m)) s e in
       let u = and_then_some (module_at ms top path) (λ m. rest t.0 m) s t.2 in
       let q = held_found now.held.items path t.0 t.1 in
       module_gives path t.0 q.1 (all_at (HeldIs ms top (nets n)) now.held.items t.0 at.held q.0) u.0 u.1 x s u.2
 
   -- the number that is found is the one of the run
-  pub number_is : (d : ℕ) (path : Path) (x : Name) (v : ℕ) → net_within ms top scalars memories now d path x ≡ Some v → (nets n path).net x ≡ v
+  pub number_is : (d : ℕ) (path : Path) (x : Name) (v : ℕ) → net_within ms top now d path x ≡ Some v → (nets n path).net x ≡ v
   number_is zero path x v h = cc
   number_is (suc d) path x v h =
-      let t = and_then_some (source_of ms top scalars memories now path x) (λ s. and_then (all_numbers (net_within ms top scalars memories now d s.path) s.reads) (by_rule s.rule)) v h in
-      let u = and_then_some (all_numbers (net_within ms top scalars memories now d t.0.path) t.0.reads) (by_rule t.0.rule) v t.2 in
-      source_gives path x t.0 t.1 u.0 v (numbers_read (nets n t.0.path) (net_within ms top scalars memories now d t.0.path) (λ y w k. number_is d t.0.path y w k) t.0.reads u.0 u.1) u.2
+      let t = and_then_some (source_of ms top now path x) (λ s. and_then (all_numbers (net_within ms top now d s.path) s.reads) (by_rule s.rule)) v h in
+      let u = and_then_some (all_numbers (net_within ms top now d t.0.path) t.0.reads) (by_rule t.0.rule) v t.2 in
+      source_gives path x t.0 t.1 u.0 v (numbers_read (nets n t.0.path) (net_within ms top now d t.0.path) (λ y w k. number_is d t.0.path y w k) t.0.reads u.0 u.1) u.2

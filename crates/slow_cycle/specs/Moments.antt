@@ -32,24 +32,20 @@ pub record HeldIs (ms : List ModuleTree) (top : ModuleTree) (nets : Path → Cyc
   pub memories : AllByRecursion (MemoryIs tree.items (nets h.path.items)) h.memories.items
 
 -- a memory around the design has the cells of this cycle, and the ready bits of the environment
-pub record OutsideIs (env : Environment) (run : ℕ → Cycle) (n : ℕ) (labels : List Port) (x : Name) (o : OutsideMemory) : Type 0 where
+pub record OutsideIs (env : Environment) (run : ℕ → Cycle) (n : ℕ) (labels : List Port) (o : OutsideMemory) : Type 0 where
   pub first : List ℕ
   pub ready : List Bool
-  pub first_is : at_label labels env.memories x ≡ Some first
-  pub ready_is : at_label labels env.ready x ≡ Some ready
-  pub cells : o.cells.items ≡ cells_at run x first n
+  pub first_is : at_label labels env.memories o.name ≡ Some first
+  pub ready_is : at_label labels env.ready o.name ≡ Some ready
+  pub cells : o.cells.items ≡ cells_at run o.name first n
   pub bits : o.ready.items ≡ ready
 
 -- a run in an environment is at this moment: all that stands in it is what the run has in its cycle
 pub record IsAt (ms : List ModuleTree) (top : ModuleTree) (env : Environment) (nets : ℕ → Path → Cycle) (now : Moment) : Type 0 where
   pub held : AllByRecursion (HeldIs ms top (nets now.cycle)) now.held.items
-  pub scalars : now.scalars.items ≡ env.scalars
-  pub outside : (x : Name) (o : OutsideMemory) → at_label (shape_of top).memories now.outside.items x ≡ Some o → OutsideIs env (λ n. nets n []) now.cycle (shape_of top).memories x o
-
--- the shape is that of the top
-abbrev pub HasShape : Circuit → Type 0
-HasShape c = (c.shape.now.scalars.items ≡ (shape_of c.top.now).scalars) × (c.shape.now.memories.items ≡ (shape_of c.top.now).memories)
+  pub scalars : AllByRecursion (λ (v : NetNumber). at_label (shape_of top).scalars env.scalars v.name ≡ Some v.number) now.scalars.items
+  pub outside : AllByRecursion (OutsideIs env (λ n. nets n []) now.cycle (shape_of top).memories) now.outside.items
 
 -- what holds in each run, in any environment, that is at this moment
 abbrev pub InRuns : Circuit → Moment → (Environment → (ℕ → Path → Cycle) → Type 0) → Type 0
-InRuns c now P = (env : Environment) (nets : ℕ → Path → Cycle) → HasShape c → RunsIn c.modules.now c.top.now env nets → IsAt c.modules.now c.top.now env nets now → P env nets
+InRuns c now P = (env : Environment) (nets : ℕ → Path → Cycle) → RunsIn c.modules.now c.top.now env nets → IsAt c.modules.now c.top.now env nets now → P env nets

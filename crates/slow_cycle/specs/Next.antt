@@ -1,7 +1,6 @@
 -- What registers and memories hold in the next cycle.
-use Rattle.std.specs.Prelude.{◌≡◌, ℕ, ◌+◌, ◌<◌, ◌^◌, Bool, ◌&&◌, List, [], ◌∷◌, ◌++◌, is_some, nat_lt, nat_le, length, get_or, slice_set, bytes_eq, if◌then◌else◌, map}
+use Rattle.std.specs.Prelude.{◌≡◌, ℕ, ◌+◌, ◌<◌, ◌^◌, Bool, ◌&&◌, List, [], ◌∷◌, ◌++◌, is_some, nat_lt, ◌==◌, length, get_or, slice_set, bytes_eq, if◌then◌else◌, map}
 use Rattle.std.specs.List.{flat_map, list_all, AllByRecursion}
-use Rattle.tapa_base.specs.declared.shape.Port.{Port}
 use Rattle.vlog_tree.specs.Form.{ModuleTree}
 use Rattle.vlog_tree.specs.Table.{declared}
 use Rattle.vlog_tree.specs.Grounded.{Has}
@@ -11,11 +10,13 @@ use Rattle.vlog_tree.specs.declared.tree.Step.TheVariants.{If, Else, End, Nonblo
 use Rattle.vlog_tree.specs.declared.tree.Item.{Item}
 use Rattle.vlog_tree.specs.declared.tree.Item.TheVariants.{Wire, Reg, Memory, Assign, Always, Instance}
 use Rattle.vlog_tree.specs.Cycle.{Name, Cycle, Sizes, and_then, module_at, atom_value, put, store, run_steps}
+use Rattle.vlog_tree.specs.Environment.{set_cell}
 use Rattle.vlog_tree.specs.Loops.{atom_nets}
 use Rattle.vlog_slow.specs.declared.numbers.NetNumber.{NetNumber}
 use Rattle.vlog_slow.specs.declared.numbers.MemoryCells.{MemoryCells}
 use Rattle.vlog_slow.specs.Numbers.{net_in}
 use Rattle.slow_cycle.specs.declared.moment.Held.{Held}
+use Rattle.slow_cycle.specs.declared.moment.OutsideMemory.{OutsideMemory}
 use Rattle.slow_cycle.specs.declared.moment.Circuit.{Circuit}
 use Rattle.slow_cycle.specs.declared.moment.Moment.{Moment}
 use Rattle.slow_cycle.specs.Sources.{net_read}
@@ -67,6 +68,9 @@ put_net x v r = record { name = r.name; bits = r.bits; number = if bytes_eq r.na
 abbrev pub IsStored : Name → ℕ → ℕ → MemoryCells → MemoryCells → Type 0
 IsStored m a v k j = (j.name ≡ k.name) × (j.cells.items ≡ (if bytes_eq k.name m && nat_lt a (length k.cells.items) then slice_set k.cells.items a v else k.cells.items))
 
+abbrev pub IsCopy : MemoryCells → MemoryCells → Type 0
+IsCopy k j = (j.name ≡ k.name) × (j.cells.items ≡ k.cells.items)
+
 -- the numbers that were read are those of a cycle
 abbrev pub ReadsAre : List NetNumber → Cycle → List Name → Type 0
 ReadsAre nets old names = (z : Name) → Has names z → old.net z ≡ net_in nets z
@@ -98,10 +102,17 @@ abbrev pub held_known : Circuit → Moment → ℕ → Held → Bool
 held_known c now d h = is_some (and_then (module_at c.modules.now c.top.now h.path.items) (λ m. all_numbers (number_at c now d h.path.items) (reads_of m)))
 
 -- what a memory around the design is asked for has numbers
-abbrev pub outside_known : Circuit → Moment → ℕ → Port → Bool
+abbrev pub outside_known : Circuit → Moment → ℕ → OutsideMemory → Bool
 outside_known c now d l = is_some (number_at c now d [] (m_ack l.name)) && is_some (number_at c now d [] (m_we l.name)) && is_some (number_at c now d [] (m_addr l.name)) && is_some (number_at c now d [] (m_wdata l.name))
+
+-- what a memory around the design has after the store of a cycle
+abbrev pub stored_cells : Cycle → Name → List ℕ → List ℕ
+stored_cells c x cells = if (c.net (m_ack x) == 1) && (c.net (m_we x) == 1) then set_cell cells (c.net (m_addr x)) (c.net (m_wdata x)) else cells
+
+abbrev pub IsAfterStore : Cycle → OutsideMemory → OutsideMemory → Type 0
+IsAfterStore c o j = (j.name ≡ o.name) × (j.ready.items ≡ o.ready.items) × (j.cells.items ≡ stored_cells c o.name o.cells.items)
 
 -- what the next cycle needs: there is a next number of a cycle, and all that is read has a number
 abbrev pub next_known : Circuit → Moment → ℕ → Bool
 next_known c now d =
-    nat_lt (now.cycle + 1) (2 ^ 64) && list_all (held_known c now d) now.held.items && nat_le (length c.shape.now.memories.items) (length now.outside.items) && list_all (outside_known c now d) c.shape.now.memories.items
+    nat_lt (now.cycle + 1) (2 ^ 64) && list_all (held_known c now d) now.held.items && list_all (outside_known c now d) now.outside.items

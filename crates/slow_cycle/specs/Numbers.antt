@@ -1,7 +1,6 @@
 -- The number of a net, by as many steps as a depth allows.
 use Rattle.std.specs.Prelude.{ℕ, zero, suc, List, [], ◌∷◌, Option, Some, None, unwrap_or, slice_get}
 use Rattle.std.specs.Option.{option_map}
-use Rattle.tapa_base.specs.declared.shape.Port.{Port}
 use Rattle.vlog_tree.specs.Form.{ModuleTree}
 use Rattle.vlog_tree.specs.Cycle.{Name, Path, and_then, driven}
 use Rattle.vlog_slow.specs.declared.numbers.NetNumber.{NetNumber}
@@ -26,10 +25,10 @@ abbrev pub all_numbers : (Name → Option ℕ) → List NetNumber → Option (Li
 all_numbers number [] = Some []
 all_numbers number (r ∷ rs) = and_then (number r.name) (λ n. and_then (all_numbers number rs) (λ ns. Some (record { name = r.name; bits = r.bits; number = n } ∷ ns)))
 
-abbrev pub net_within : List ModuleTree → ModuleTree → List Port → List Port → Moment → ℕ → Path → Name → Option ℕ
-net_within ms top scalars memories now zero path x = None
-net_within ms top scalars memories now (suc d) path x =
-    and_then (source_of ms top scalars memories now path x) (λ s. and_then (all_numbers (net_within ms top scalars memories now d s.path) s.reads) (by_rule s.rule))
+abbrev pub net_within : List ModuleTree → ModuleTree → Moment → ℕ → Path → Name → Option ℕ
+net_within ms top now zero path x = None
+net_within ms top now (suc d) path x =
+    and_then (source_of ms top now path x) (λ s. and_then (all_numbers (net_within ms top now d s.path) s.reads) (by_rule s.rule))
 
 abbrev pub number_at : Circuit → Moment → ℕ → Path → Name → Option ℕ
-number_at c now d path x = net_within c.modules.now c.top.now c.shape.now.scalars.items c.shape.now.memories.items now d path x
+number_at c now d path x = net_within c.modules.now c.top.now now d path x

@@ -142,28 +142,33 @@ at_label [] vs x = None
 at_label (l ∷ ls) [] x = None
 at_label (l ∷ ls) (v ∷ vs) x = if bytes_eq l.name x then Some v else at_label ls vs x
 
-abbrev pub rdata_source : List Port → List OutsideMemory → Option Name → Option SourceTree
-rdata_source ls os None = None
-rdata_source ls os (Some x) = option_map (λ (o : OutsideMemory). record { path = []; reads = record { name = m_addr x; bits = 0; number = 0 } ∷ []; rule = cells o.cells.items }) (at_label ls os x)
+-- the first memory of a label
+abbrev pub memory_of : List OutsideMemory → Name → Option OutsideMemory
+memory_of [] x = None
+memory_of (o ∷ os) x = if bytes_eq o.name x then Some o else memory_of os x
 
-abbrev pub ack_source : ℕ → List Port → List OutsideMemory → Option Name → Option SourceTree → Option SourceTree
-ack_source n ls os None others = others
-ack_source n ls os (Some x) others = option_map (λ (o : OutsideMemory). given_number (ready_at o.ready.items n)) (at_label ls os x)
+abbrev pub rdata_source : List OutsideMemory → Option Name → Option SourceTree
+rdata_source os None = None
+rdata_source os (Some x) = option_map (λ (o : OutsideMemory). record { path = []; reads = record { name = m_addr x; bits = 0; number = 0 } ∷ []; rule = cells o.cells.items }) (memory_of os x)
 
-abbrev pub scalar_source : List Port → List ℕ → Option Name → Option SourceTree → Option SourceTree
-scalar_source ls vs None others = others
-scalar_source ls vs (Some x) others = option_map given_number (at_label ls vs x)
+abbrev pub ack_source : ℕ → List OutsideMemory → Option Name → Option SourceTree → Option SourceTree
+ack_source n os None others = others
+ack_source n os (Some x) others = option_map (λ (o : OutsideMemory). given_number (ready_at o.ready.items n)) (memory_of os x)
+
+abbrev pub scalar_source : List NetNumber → Option Name → Option SourceTree → Option SourceTree
+scalar_source vs None others = others
+scalar_source vs (Some x) others = option_map (λ (v : NetNumber). given_number v.number) (first_net vs x)
 
 -- what stands around the design gives an input of the top
-abbrev pub input_source : List Port → List Port → Moment → Name → Option SourceTree
-input_source scalars memories now x =
+abbrev pub input_source : Moment → Name → Option SourceTree
+input_source now x =
     if bytes_eq x rst then Some (given_number (if now.cycle == 0 then 1 else 0))
-    else scalar_source scalars now.scalars.items (scalar_of x) (ack_source now.cycle memories now.outside.items (ack_of x) (rdata_source memories now.outside.items (rdata_of x)))
+    else scalar_source now.scalars.items (scalar_of x) (ack_source now.cycle now.outside.items (ack_of x) (rdata_source now.outside.items (rdata_of x)))
 
 -- an input of an instance is joined to a net around it
-abbrev pub outer_source : List ModuleTree → ModuleTree → List Port → List Port → Moment → Path → Name → Option SourceTree
-outer_source ms top scalars memories now [] x = input_source scalars memories now x
-outer_source ms top scalars memories now (i ∷ path) x = and_then (module_at ms top path) (λ m. option_map (same_number path) (joined_to m.items i x))
+abbrev pub outer_source : List ModuleTree → ModuleTree → Moment → Path → Name → Option SourceTree
+outer_source ms top now [] x = input_source now x
+outer_source ms top now (i ∷ path) x = and_then (module_at ms top path) (λ m. option_map (same_number path) (joined_to m.items i x))
 
 abbrev pub output_source : Path → Option (Name × Name) → Option SourceTree → Option SourceTree
 output_source path None others = others
@@ -178,12 +183,12 @@ register_source None others = others
 register_source (Some r) others = Some (given_number r.number)
 
 -- A net is a register, or it has the number of its driver, of an output of an instance, or of what it is joined to outside.
-abbrev pub source_of : List ModuleTree → ModuleTree → List Port → List Port → Moment → Path → Name → Option SourceTree
-source_of ms top scalars memories now path x =
+abbrev pub source_of : List ModuleTree → ModuleTree → Moment → Path → Name → Option SourceTree
+source_of ms top now path x =
     and_then (held_at now.held.items path) (λ h. and_then (module_at ms top path) (λ m.
         register_source (first_net h.nets.items x)
         (line_source (declared m) path h.memories.items x (assigned m.items x)
-        (output_source path (output_of ms m.items x) (outer_source ms top scalars memories now path x)))))
+        (output_source path (output_of ms m.items x) (outer_source ms top now path x)))))
 
 -- a driver's target has at most 128 bits
 abbrev pub RuleFits : RuleTree → Type 0

@@ -4,12 +4,15 @@ ghost use Rattle.std.specs.Prelude.{◌≡◌, ◌==◌, IfOk, if◌then◌else�
 ghost use Rattle.std.specs.Option.{option_map, option_copied};
 ghost use Rattle.vlog_tree.specs.Environment.{ready_at as ready_at_lem};
 ghost use Rattle.vlog_tree.specs.Labels.{rst, scalar_of as scalar_lem, ack_of as ack_lem, rdata_of as rdata_lem};
-ghost use Rattle.slow_cycle.specs.Sources.{source_tree, at_label, rdata_source, ack_source, scalar_source, input_source as input_source_lem};
+ghost use Rattle.vlog_slow.specs.declared.numbers.NetNumber.{NetNumber as NetNumberTree};
+ghost use Rattle.vlog_slow.specs.Numbers.{first_net};
+ghost use Rattle.slow_cycle.specs.Sources.{source_tree, memory_of as memory_of_lem, rdata_source, ack_source, scalar_source, input_source as input_source_lem};
 
 use crate::moment::{Moment, OutsideMemory};
 use crate::sources::{Rule, Source, given, one_read};
 use std::alloc::{AllocError, Global};
-use tapa_base::{Port, Shape, Text};
+use tapa_base::Text;
+use vlog_slow::NetNumber;
 use vlog_tree::{ack_of, addr_name, rdata_of, scalar_of};
 
 #[tactic(auto, unfolding(vlog_tree::specs::Labels::rst))]
@@ -38,34 +41,24 @@ fn ready_at(ready: &[bool], cycle: u64) -> u128
     }
 }
 
-fn scalar_at(labels: &[Port], values: &[u128], label: &[u8]) -> Option<u128>
-    ensures { result ≡ at_label labels.now values.now label.now }
+fn scalar_at(scalars: &[NetNumber], label: &[u8]) -> Option<u128>
+    ensures { result ≡ option_map (λ (v : NetNumberTree). v.number) (first_net scalars.now label.now) }
 {
-    for i in 0..labels.len() {
-        if i >= values.len() {
-            return None;
-        }
-        if labels[i].name.bytes() == label {
-            return Some(values[i]);
+    for v in scalars {
+        if v.name.bytes() == label {
+            return Some(v.number);
         }
     }
     None
 }
 
 /// The memory of a label.
-pub(crate) fn memory_at<'a>(
-    labels: &[Port],
-    memories: &'a [OutsideMemory],
-    label: &[u8],
-) -> Option<&'a OutsideMemory>
-    ensures { option_copied result ≡ at_label labels.now memories.now label.now }
+fn memory_of<'a>(memories: &'a [OutsideMemory], label: &[u8]) -> Option<&'a OutsideMemory>
+    ensures { option_copied result ≡ memory_of_lem memories.now label.now }
 {
-    for i in 0..labels.len() {
-        if i >= memories.len() {
-            return None;
-        }
-        if labels[i].name.bytes() == label {
-            return Some(&memories[i]);
+    for m in memories {
+        if m.name.bytes() == label {
+            return Some(m);
         }
     }
     None
@@ -73,16 +66,15 @@ pub(crate) fn memory_at<'a>(
 
 fn rdata<'a>(
     alloc: Global,
-    shape: &Shape,
     now: &'a Moment,
     x: &Text,
 ) -> Result<Option<Source<'a>>, AllocError>
-    ensures { IfOk result (λ o. option_map source_tree o ≡ rdata_source shape.now.memories.items now.now.outside.items (rdata_lem x.now)) }
+    ensures { IfOk result (λ o. option_map source_tree o ≡ rdata_source now.now.outside.items (rdata_lem x.now)) }
 {
     let Some(label) = rdata_of(x) else {
         return Ok(None);
     };
-    match memory_at(&shape.memories, &now.outside, label) {
+    match memory_of(&now.outside, label) {
         Some(m) => {
             let address = Text::new(addr_name(alloc, label)?);
             let reads = one_read(alloc, address)?;
@@ -98,16 +90,15 @@ fn rdata<'a>(
 
 fn ack<'a>(
     alloc: Global,
-    shape: &Shape,
     now: &'a Moment,
     x: &Text,
 ) -> Result<Option<Source<'a>>, AllocError>
-    ensures { IfOk result (λ o. option_map source_tree o ≡ ack_source now.now.cycle shape.now.memories.items now.now.outside.items (ack_lem x.now) (rdata_source shape.now.memories.items now.now.outside.items (rdata_lem x.now))) }
+    ensures { IfOk result (λ o. option_map source_tree o ≡ ack_source now.now.cycle now.now.outside.items (ack_lem x.now) (rdata_source now.now.outside.items (rdata_lem x.now))) }
 {
     let Some(label) = ack_of(x) else {
-        return rdata(alloc, shape, now, x);
+        return rdata(alloc, now, x);
     };
-    match memory_at(&shape.memories, &now.outside, label) {
+    match memory_of(&now.outside, label) {
         Some(m) => Ok(Some(given(alloc, ready_at(&m.ready, now.cycle)))),
         None => Ok(None),
     }
@@ -115,16 +106,15 @@ fn ack<'a>(
 
 fn scalar<'a>(
     alloc: Global,
-    shape: &Shape,
     now: &'a Moment,
     x: &Text,
 ) -> Result<Option<Source<'a>>, AllocError>
-    ensures { IfOk result (λ o. option_map source_tree o ≡ scalar_source shape.now.scalars.items now.now.scalars.items (scalar_lem x.now) (ack_source now.now.cycle shape.now.memories.items now.now.outside.items (ack_lem x.now) (rdata_source shape.now.memories.items now.now.outside.items (rdata_lem x.now)))) }
+    ensures { IfOk result (λ o. option_map source_tree o ≡ scalar_source now.now.scalars.items (scalar_lem x.now) (ack_source now.now.cycle now.now.outside.items (ack_lem x.now) (rdata_source now.now.outside.items (rdata_lem x.now)))) }
 {
     let Some(label) = scalar_of(x) else {
-        return ack(alloc, shape, now, x);
+        return ack(alloc, now, x);
     };
-    match scalar_at(&shape.scalars, &now.scalars, label) {
+    match scalar_at(&now.scalars, label) {
         Some(v) => Ok(Some(given(alloc, v))),
         None => Ok(None),
     }
@@ -133,15 +123,14 @@ fn scalar<'a>(
 /// What stands around the design gives an input of the top.
 pub(crate) fn input_source<'a>(
     alloc: Global,
-    shape: &Shape,
     now: &'a Moment,
     x: &Text,
 ) -> Result<Option<Source<'a>>, AllocError>
-    ensures { IfOk result (λ o. option_map source_tree o ≡ input_source_lem shape.now.scalars.items shape.now.memories.items now.now x.now) }
+    ensures { IfOk result (λ o. option_map source_tree o ≡ input_source_lem now.now x.now) }
 {
     if is_reset(x) {
         Ok(Some(given(alloc, reset_at(now.cycle))))
     } else {
-        scalar(alloc, shape, now, x)
+        scalar(alloc, now, x)
     }
 }

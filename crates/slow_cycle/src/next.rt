@@ -1,9 +1,10 @@
 // What a design holds in the next cycle.
 
-ghost use Rattle.std.specs.Prelude.{◌≡◌, ◌+◌, IfOk, IfSome, is_some};
+ghost use Rattle.std.specs.Prelude.{◌≡◌, ◌+◌, suc, [], IfOk, IfSome, is_some};
+ghost use Rattle.std.specs.List.{list_all, AllByRecursion};
 ghost use Rattle.vlog_tree.specs.Environment.{AllTwo};
-ghost use Rattle.slow_cycle.specs.Moments.{InRuns, IsAt};
-ghost use Rattle.slow_cycle.specs.Next.{next_known, IsAlike};
+ghost use Rattle.slow_cycle.specs.Moments.{InRuns, HeldIs, IsAt};
+ghost use Rattle.slow_cycle.specs.Next.{held_known, outside_known, next_known, stored_cells, IsAfterStore, IsCopy, IsAlike};
 
 use crate::blocks::{block_reads, run_items};
 use crate::moment::{Circuit, Held, Moment, OutsideMemory};
@@ -11,7 +12,6 @@ use crate::numbers::all_numbers;
 use crate::places::{copy_path, module_at};
 use crate::streams::top_number;
 use std::alloc::{AllocError, Global};
-use tapa_base::Port;
 use vlog_rules::{Scope, copy_text};
 use vlog_slow::{MemoryCells, NetNumber};
 use vlog_tree::{ack_name, addr_name, wdata_name, we_name};
@@ -31,17 +31,29 @@ fn copy_nets(alloc: Global, nets: &[NetNumber]) -> Result<Vec<NetNumber>, AllocE
     Ok(out)
 }
 
-fn copy_memories(alloc: Global, memories: &[MemoryCells]) -> Result<Vec<MemoryCells>, AllocError> {
+fn copy_memory(alloc: Global, m: &MemoryCells) -> Result<MemoryCells, AllocError>
+    ensures { IfOk result (λ k. IsCopy m.now k) }
+{
+    let name = copy_text(alloc, &m.name)?;
+    let cells = m.cells.as_slice().to_vec(alloc)?;
+    Ok(MemoryCells { name, cells })
+}
+
+fn copy_memories(alloc: Global, memories: &[MemoryCells]) -> Result<Vec<MemoryCells>, AllocError>
+    ensures { IfOk result (λ v. AllTwo IsCopy memories.now v.items) }
+{
     let mut out = Vec::new(alloc);
     for m in memories {
-        let name = copy_text(alloc, &m.name)?;
-        let cells = m.cells.as_slice().to_vec(alloc)?;
-        out.push(MemoryCells { name, cells })?;
+        out.push(copy_memory(alloc, m)?)?;
     }
     Ok(out)
 }
 
-fn copy_held(alloc: Global, h: &Held) -> Result<Held, AllocError> {
+fn copy_held(alloc: Global, h: &Held) -> Result<Held, AllocError>
+    ensures path { IfOk result (λ k. k.path.items ≡ h.now.path.items) }
+    ensures nets { IfOk result (λ k. k.nets.items ≡ h.now.nets.items) }
+    ensures memories { IfOk result (λ k. AllTwo IsCopy h.now.memories.items k.memories.items) }
+{
     let path = copy_path(alloc, &h.path)?;
     let nets = copy_nets(alloc, &h.nets)?;
     let memories = copy_memories(alloc, &h.memories)?;
@@ -58,7 +70,11 @@ fn held_after(
     now: &Moment,
     h: &Held,
     depth: u32,
-) -> Result<Option<Held>, AllocError> {
+) -> Result<Option<Held>, AllocError>
+    ensures known { IfOk result (λ o. is_some o ≡ held_known design.now now.now depth h.now) }
+    ensures alike { IfOk result (λ o. IfSome o (λ k. IsAlike h.now k)) }
+    ensures value { IfOk result (λ o. IfSome o (λ k. InRuns design.now now.now (λ env nets. HeldIs design.now.modules.now design.now.top.now (nets now.now.cycle) h.now → HeldIs design.now.modules.now design.now.top.now (nets (suc now.now.cycle)) k))) }
+{
     let Some(m) = module_at(design.modules, design.top, &h.path) else {
         return Ok(None);
     };
@@ -79,26 +95,32 @@ fn all_held_after(
     design: &Circuit,
     now: &Moment,
     depth: u32,
-) -> Result<Option<Vec<Held>>, AllocError> {
+) -> Result<Option<Vec<Held>>, AllocError>
+    ensures known { IfOk result (λ o. is_some o ≡ list_all (held_known design.now now.now depth) now.now.held.items) }
+    ensures alike { IfOk result (λ o. IfSome o (λ v. AllTwo IsAlike now.now.held.items v.items)) }
+    ensures value { IfOk result (λ o. IfSome o (λ v. InRuns design.now now.now (λ env nets. AllByRecursion (HeldIs design.now.modules.now design.now.top.now (nets (suc now.now.cycle))) v.items))) }
+{
     let mut out = Vec::new(alloc);
     for h in &now.held {
-        let Some(after) = held_after(alloc, design, now, h, depth)? else {
-            return Ok(None);
-        };
-        out.push(after)?;
+        match held_after(alloc, design, now, h, depth)? {
+            Some(after) => out.push(after)?,
+            None => return Ok(None),
+        }
     }
     Ok(Some(out))
 }
 
-/// The cells of a memory around the design, where those of this cycle are stored to.
-fn outside_after(
+fn top_cells(
     alloc: Global,
     design: &Circuit,
     now: &Moment,
-    label: &[u8],
     m: &OutsideMemory,
     depth: u32,
-) -> Result<Option<OutsideMemory>, AllocError> {
+) -> Result<Option<Vec<u128>>, AllocError>
+    ensures known { IfOk result (λ o. is_some o ≡ outside_known design.now now.now depth m.now) }
+    ensures value { IfOk result (λ o. IfSome o (λ v. InRuns design.now now.now (λ env nets. v.items ≡ stored_cells (nets now.now.cycle []) m.now.name m.now.cells.items))) }
+{
+    let label = m.name.bytes();
     let Some(ack) = top_number(alloc, design, now, ack_name(alloc, label)?, depth)? else {
         return Ok(None);
     };
@@ -112,30 +134,48 @@ fn outside_after(
         return Ok(None);
     };
     let mut cells = m.cells.as_slice().to_vec(alloc)?;
-    let ready = m.ready.as_slice().to_vec(alloc)?;
     if ack == 1 && we == 1 && addr < cells.len() as u128 {
         cells[addr as usize] = wdata;
     }
-    Ok(Some(OutsideMemory { cells, ready }))
+    Ok(Some(cells))
+}
+
+/// A memory around the design after the store of this cycle.
+fn outside_after(
+    alloc: Global,
+    design: &Circuit,
+    now: &Moment,
+    m: &OutsideMemory,
+    depth: u32,
+) -> Result<Option<OutsideMemory>, AllocError>
+    ensures known { IfOk result (λ o. is_some o ≡ outside_known design.now now.now depth m.now) }
+    ensures value { IfOk result (λ o. IfSome o (λ j. InRuns design.now now.now (λ env nets. IsAfterStore (nets now.now.cycle []) m.now j))) }
+{
+    match top_cells(alloc, design, now, m, depth)? {
+        Some(cells) => {
+            let name = copy_text(alloc, &m.name)?;
+            let ready = m.ready.as_slice().to_vec(alloc)?;
+            Ok(Some(OutsideMemory { name, cells, ready }))
+        }
+        None => Ok(None),
+    }
 }
 
 fn all_outside_after(
     alloc: Global,
     design: &Circuit,
     now: &Moment,
-    labels: &[Port],
     depth: u32,
-) -> Result<Option<Vec<OutsideMemory>>, AllocError> {
+) -> Result<Option<Vec<OutsideMemory>>, AllocError>
+    ensures known { IfOk result (λ o. is_some o ≡ list_all (outside_known design.now now.now depth) now.now.outside.items) }
+    ensures value { IfOk result (λ o. IfSome o (λ v. InRuns design.now now.now (λ env nets. AllTwo (IsAfterStore (nets now.now.cycle [])) now.now.outside.items v.items))) }
+{
     let mut out = Vec::new(alloc);
-    for i in 0..labels.len() {
-        if i >= now.outside.len() {
-            return Ok(None);
+    for m in &now.outside {
+        match outside_after(alloc, design, now, m, depth)? {
+            Some(after) => out.push(after)?,
+            None => return Ok(None),
         }
-        let label = labels[i].name.bytes();
-        let Some(after) = outside_after(alloc, design, now, label, &now.outside[i], depth)? else {
-            return Ok(None);
-        };
-        out.push(after)?;
     }
     Ok(Some(out))
 }
@@ -152,19 +192,18 @@ pub fn next(
     ensures alike { IfOk result (λ o. IfSome o (λ after. AllTwo IsAlike now.now.held.items after.held.items)) }
     ensures value { IfOk result (λ o. IfSome o (λ after. InRuns design.now now.now (λ env nets. IsAt design.now.modules.now design.now.top.now env nets after))) }
 {
-    let Some(cycle) = now.cycle.checked_add(1) else {
+    if now.cycle == u64::MAX {
         return Ok(None);
-    };
+    }
     let Some(held) = all_held_after(alloc, design, now, depth)? else {
         return Ok(None);
     };
-    let labels = &design.shape.memories;
-    let Some(outside) = all_outside_after(alloc, design, now, labels, depth)? else {
+    let Some(outside) = all_outside_after(alloc, design, now, depth)? else {
         return Ok(None);
     };
-    let scalars = now.scalars.as_slice().to_vec(alloc)?;
+    let scalars = copy_nets(alloc, &now.scalars)?;
     Ok(Some(Moment {
-        cycle,
+        cycle: now.cycle + 1,
         held,
         scalars,
         outside,

@@ -100,10 +100,10 @@ fn outer<'a>(
     path: &[Text],
     x: &Text,
 ) -> Result<Option<Source<'a>>, AllocError>
-    ensures { IfOk result (λ o. option_map source_tree o ≡ outer_source design.now.modules.now design.now.top.now design.now.shape.now.scalars.items design.now.shape.now.memories.items now.now path.now x.now) }
+    ensures { IfOk result (λ o. option_map source_tree o ≡ outer_source design.now.modules.now design.now.top.now now.now path.now x.now) }
 {
     if path.is_empty() {
-        return input_source(alloc, design.shape, now, x);
+        return input_source(alloc, now, x);
     }
     let Some(m) = module_at(design.modules, design.top, &path[1..]) else {
         return Ok(None);
@@ -126,7 +126,7 @@ fn output<'a>(
     path: &[Text],
     x: &Text,
 ) -> Result<Option<Source<'a>>, AllocError>
-    ensures { IfOk result (λ o. option_map source_tree o ≡ output_source path.now (output_of_lem design.now.modules.now m.now.items x.now) (outer_source design.now.modules.now design.now.top.now design.now.shape.now.scalars.items design.now.shape.now.memories.items now.now path.now x.now)) }
+    ensures { IfOk result (λ o. option_map source_tree o ≡ output_source path.now (output_of_lem design.now.modules.now m.now.items x.now) (outer_source design.now.modules.now design.now.top.now now.now path.now x.now)) }
 {
     match output_of(alloc, design.modules, m.items(), x)? {
         Some((i, p)) => {
@@ -147,7 +147,7 @@ fn line<'a>(
     path: &[Text],
     x: &Text,
 ) -> Result<Option<Source<'a>>, AllocError>
-    ensures { IfOk result (λ o. option_map source_tree o ≡ line_source (declared m.now) path.now h.now.memories.items x.now (assigned_lem m.now.items x.now) (output_source path.now (output_of_lem design.now.modules.now m.now.items x.now) (outer_source design.now.modules.now design.now.top.now design.now.shape.now.scalars.items design.now.shape.now.memories.items now.now path.now x.now))) }
+    ensures { IfOk result (λ o. option_map source_tree o ≡ line_source (declared m.now) path.now h.now.memories.items x.now (assigned_lem m.now.items x.now) (output_source path.now (output_of_lem design.now.modules.now m.now.items x.now) (outer_source design.now.modules.now design.now.top.now now.now path.now x.now))) }
 {
     match assigned(m.items(), x) {
         Some(e) => driver(alloc, m, path, &h.memories, x, e),
@@ -164,7 +164,7 @@ pub(crate) fn source_of<'a>(
     path: &[Text],
     x: &Text,
 ) -> Result<Option<Source<'a>>, AllocError>
-    ensures { IfOk result (λ o. option_map source_tree o ≡ source_of_lem design.now.modules.now design.now.top.now design.now.shape.now.scalars.items design.now.shape.now.memories.items now.now path.now x.now) }
+    ensures { IfOk result (λ o. option_map source_tree o ≡ source_of_lem design.now.modules.now design.now.top.now now.now path.now x.now) }
 {
     let Some(h) = held_at(&now.held, path) else {
         return Ok(None);

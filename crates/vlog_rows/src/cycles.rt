@@ -281,6 +281,22 @@ fn accepted(alloc: Global) -> Result<vlog_design::Design, AllocError> {
     }
 }
 
+fn nets_of(
+    alloc: Global,
+    table: &[(u32, &'static str, u128)],
+) -> Result<Vec<NetNumber>, AllocError> {
+    let mut nets = Vec::new(alloc);
+    for (bits, name, number) in table {
+        let name = text(alloc, name)?;
+        nets.push(NetNumber {
+            name,
+            bits: *bits,
+            number: *number,
+        })?;
+    }
+    Ok(nets)
+}
+
 fn held(
     alloc: Global,
     instance: &str,
@@ -290,15 +306,7 @@ fn held(
     if instance != "" {
         path.push(text(alloc, instance)?)?;
     }
-    let mut nets = Vec::new(alloc);
-    for (bits, name, number) in registers {
-        let name = text(alloc, name)?;
-        nets.push(NetNumber {
-            name,
-            bits: *bits,
-            number: *number,
-        })?;
-    }
+    let nets = nets_of(alloc, registers)?;
     Ok(Held {
         path,
         nets,
@@ -324,11 +332,12 @@ fn power_up(alloc: Global, a: u128) -> Result<Moment, AllocError> {
     ]
     .to_vec(alloc)?;
     let mut outside = Vec::new(alloc);
-    outside.push(OutsideMemory { cells, ready })?;
+    let name = text(alloc, "M")?;
+    outside.push(OutsideMemory { name, cells, ready })?;
     Ok(Moment {
         cycle: 0,
         held: all,
-        scalars: [4, a].to_vec(alloc)?,
+        scalars: nets_of(alloc, &[(8, "n", 4), (8, "a", a)])?,
         outside,
     })
 }
@@ -380,11 +389,9 @@ fn rows_hold(alloc: Global, design: &Circuit, now: &Moment) -> Result<bool, Allo
 // The numbers that the stream carries, up to a cycle in which the design is done or a row fails.
 fn run(alloc: Global, a: u128, rows: bool) -> Result<(Vec<u128>, Moment), Fail> {
     let design_of = accepted(alloc)?;
-    let shape = design_of.shape(alloc)?;
     let all = Circuit {
         modules: design_of.modules(),
         top: design_of.top(),
-        shape: &shape,
     };
     let label = text(alloc, "X")?;
     let mut tokens = Vec::new(alloc);
@@ -439,11 +446,9 @@ fn a_store_past_the_end_is_dropped(rt: HostRuntime) -> Result<(), Fail> {
 fn a_depth_may_be_too_small(rt: HostRuntime) -> Result<(), Fail> {
     let alloc = rt.alloc();
     let design_of = accepted(alloc)?;
-    let shape = design_of.shape(alloc)?;
     let all = Circuit {
         modules: design_of.modules(),
         top: design_of.top(),
-        shape: &shape,
     };
     let now = power_up(alloc, 1)?;
     let name = text(alloc, "rst")?;

@@ -2,7 +2,7 @@
 use Rattle.std.proofs.lemmas.Bool.Decides.{nat_tests}
 use Rattle.std.proofs.lemmas.Bool.{cases_lt}
 use Rattle.std.proofs.Math.Pow.{pow_mono}
-use Rattle.std.proofs.Common.{◌≡◌, ℕ, zero, suc, ◌+◌, ◌*◌, ◌^◌, ◌<◌, ◌≤◌, Bool, true, false, cond, Option, Some, None, refl, sym, ap, ◌∙◌, arith}
+use Rattle.std.proofs.Common.{◌≡◌, ℕ, zero, suc, ◌+◌, ◌*◌, ◌^◌, ◌<◌, ◌≤◌, Bool, true, false, cond, Option, Some, None, inl, inr, refl, sym, ap, ◌∙◌, arith}
 use Rattle.std.specs.Prelude.{nat_lt, if◌then◌else◌}
 use Rattle.std.specs.Option.{SomeIff}
 use Rattle.vlog_slow.specs.Numbers.{fitting}
@@ -57,4 +57,7 @@ pub with_low : (o : Option ℕ) (n p low high : ℕ) → high ≡ n * p → Some
 with_low o n p low high e h = if_fits o (high + low) h ∙ ap (λ k. fitting (k + low)) e
 
 pub none_below : (n b low : ℕ) → n ≡ 0 → low < 2 ^ 128 → Some low ≡ fitting (n * 2 ^ b + low)
-none_below n b low e h = fits low h ∙ ap (λ k. fitting k) (let s : low ≡ n * 2 ^ b + low = ap (λ k. k * 2 ^ b + low) (sym e) in s)
+none_below n b low e h = let s : 0 * 2 ^ b + low ≡ n * 2 ^ b + low = ap (λ k. k * 2 ^ b + low) (sym e) in let z : low ≡ 0 * 2 ^ b + low = grind arith in fits low h ∙ ap (λ k. fitting k) (z ∙ s)
+
+pub refit : (n r : ℕ) → Some r ≡ fitting n → Some r ≡ fitting r
+refit n r h = h ∙ ap (λ k. fitting k) (sym (is_fit n r h))

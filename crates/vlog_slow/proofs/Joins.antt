@@ -3,7 +3,7 @@ use Rattle.std.proofs.Common.{◌≡◌, ℕ, zero, suc, ◌+◌, ◌-◌, ◌*�
 use Rattle.std.proofs.Math.Pow.{pow_pos}
 use Rattle.vlog_tree.specs.declared.tree.Atom.{Atom}
 use Rattle.vlog_tree.specs.Cycle.{Cycle, Sizes, atom_value, atom_width, joined, copies}
-use Rattle.vlog_tree.proofs.Walks.{opened}
+use Rattle.vlog_tree.proofs.Walks.{opened, over}
 use Rattle.vlog_slow.specs.Numbers.{fitting}
 use Rattle.vlog_slow.proofs.Fits.{grown}
 
@@ -54,3 +54,6 @@ module _ (s : Sizes) (c : Cycle) where
         let l : n * 2 ^ b + v ≤ joined s c (n * 2 ^ b + v) (drop (i + 1) atoms) = joined_least (drop (i + 1) atoms) (n * 2 ^ b + v) in
         let e : joined s c (n * 2 ^ b + v) (drop (i + 1) atoms) ≡ joined s c 0 atoms = join_more (n * 2 ^ b + v) refl in
         grown (n * 2 ^ b + v) (joined s c 0 atoms) h (omega arith)
+
+  pub join_end : (atoms : List Atom) (i n : ℕ) → length atoms ≤ i → joined s c n (drop i atoms) ≡ joined s c 0 atoms → n ≡ joined s c 0 atoms
+  join_end atoms i n h e = ap (λ l. joined s c n l) (sym (over atoms i h)) ∙ e

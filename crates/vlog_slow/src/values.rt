@@ -75,7 +75,10 @@ fn join(nets: &[NetNumber], atoms: &[Atom]) -> Option<u128>
 {
     let mut n = 0;
     for a in atoms {
-        n = put_below(n, bits_of_atom(nets, a), value_of_atom(nets, a))?;
+        match put_below(n, bits_of_atom(nets, a), value_of_atom(nets, a)) {
+            Some(more) => n = more,
+            None => return None,
+        }
     }
     Some(n)
 }
@@ -86,7 +89,10 @@ fn repeat(times: u32, bits: u64, a: u128) -> Option<u128>
 {
     let mut n = 0;
     for _i in 0..times {
-        n = put_below(n, bits, a)?;
+        match put_below(n, bits, a) {
+            Some(more) => n = more,
+            None => return None,
+        }
     }
     Some(n)
 }
