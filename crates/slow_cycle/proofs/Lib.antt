@@ -1,4 +1,5 @@
 pub mod Options
+pub mod Paths
 pub mod Sound
 pub mod Within
 pub mod Leaves

@@ -1,7 +1,9 @@
 -- Options that are there.
-use Rattle.std.proofs.Common.{◌≡◌, ℕ, Bool, true, false, cond, ◌&&◌, Option, Some, None, refl}
+use Rattle.std.proofs.Common.{◌≡◌, ℕ, Bool, true, false, cond, ◌&&◌, Option, Some, None, inl, inr, refl}
+use Rattle.std.specs.Prelude.{◌⊎◌}
 use Rattle.std.specs.Option.{option_map}
 use Rattle.vlog_tree.specs.Cycle.{and_then}
+use Rattle.slow_cycle.specs.Sources.{or_else}
 
 pub and_then_some : {A B : Type 0} (o : Option A) (f : A → Option B) (y : B) → and_then o f ≡ Some y → (x : A) × (o ≡ Some x) × (f x ≡ Some y)
 and_then_some None f y h = cc
@@ -14,3 +16,7 @@ map_some f (Some x) y h = (x, refl, cc)
 pub cond_some : {A : Type 0} (b : Bool) (x y : A) → cond b (Some x) None ≡ Some y → (b ≡ true) × (x ≡ y)
 cond_some true x y h = (refl, cc)
 cond_some false x y h = cc
+
+pub either_some : {A : Type 0} (a b : Option A) (y : A) → or_else a b ≡ Some y → (a ≡ Some y) ⊎ (b ≡ Some y)
+either_some None b y h = inr h
+either_some (Some x) b y h = inl h

@@ -30,10 +30,10 @@ use Rattle.vlog_slow.proofs.Fits.{is_fit}
 use Rattle.slow_cycle.specs.declared.moment.Held.{Held}
 use Rattle.slow_cycle.specs.declared.moment.OutsideMemory.{OutsideMemory}
 use Rattle.slow_cycle.specs.declared.moment.Moment.{Moment}
-use Rattle.slow_cycle.specs.Sources.{RuleTree, SourceTree, same_path, held_at, assigned, link_out, port_or, output_of, link_in, joined_to, net_read, are_read, has_cells, given_number, same_number, can_drive, driver_source, at_label, memory_of, rdata_source, ack_source, scalar_source, input_source, outer_source, output_source, line_source, register_source, source_of}
+use Rattle.slow_cycle.specs.Sources.{RuleTree, SourceTree, same_path, held_at, assigned_in, assigned, link_out, output_in, output_of, link_in, joined_in, joined_to, net_read, are_read, has_cells, given_number, same_number, can_drive, driver_source, at_label, memory_of, rdata_source, ack_source, scalar_source, input_source, outer_source, output_source, line_source, register_source, source_of}
 use Rattle.slow_cycle.specs.Numbers.{first_number, by_rule, all_numbers, net_within}
 use Rattle.slow_cycle.specs.Moments.{RegisterIs, MemoryIs, HeldIs, OutsideIs, IsAt}
-use Rattle.slow_cycle.proofs.Options.{and_then_some, map_some, cond_some}
+use Rattle.slow_cycle.proofs.Options.{and_then_some, map_some, cond_some, either_some}
 
 -- what is found in a list is in it, under its name
 pub path_same : (p q : Path) → same_path p q ≡ true → p ≡ q
@@ -81,19 +81,17 @@ pub outside_found : (os : List OutsideMemory) (x : Name) (k : OutsideMemory) →
 outside_found [] x k s = cc
 outside_found (o ∷ os) x k s = outside_step o os x k (bytes_eq o.name x) refl (outside_found os x k) s
 
-driver_step : (y x : Name) (e v : Value) (items : List Item) (b : Bool) → bytes_eq y x ≡ b → (assigned items x ≡ Some v → Has items (Assign x v)) → cond b (Some e) (assigned items x) ≡ Some v
-    → Has {N = Item} (Assign y e ∷ items) (Assign x v)
-driver_step y x e v items true s f h = let a : y ≡ x = (bytes_decides y x).0 s in let b : e ≡ v = cc in inl (cc (a, b))
-driver_step y x e v items false s f h = inr (f h)
+assigned_has : (it : Item) (x : Name) (v : Value) → assigned_in it x ≡ Some v → it ≡ Assign x v
+assigned_has (Assign y e) x v h = let t = cond_some (bytes_eq y x) e v h in let a : y ≡ x = (bytes_decides y x).0 t.0 in let b : e ≡ v = t.1 in cc
+assigned_has (Wire w y) x v h = cc
+assigned_has (Reg w y) x v h = cc
+assigned_has (Memory w y n) x v h = cc
+assigned_has (Always b) x v h = cc
+assigned_has (Instance m i links) x v h = cc
 
 pub driver_found : (items : List Item) (x : Name) (v : Value) → assigned items x ≡ Some v → Has items (Assign x v)
 driver_found [] x v h = cc
-driver_found (Assign y e ∷ items) x v h = driver_step y x e v items (bytes_eq y x) refl (driver_found items x v) h
-driver_found (Wire w y ∷ items) x v h = inr (driver_found items x v h)
-driver_found (Reg w y ∷ items) x v h = inr (driver_found items x v h)
-driver_found (Memory w y n ∷ items) x v h = inr (driver_found items x v h)
-driver_found (Always b ∷ items) x v h = inr (driver_found items x v h)
-driver_found (Instance m i links ∷ items) x v h = inr (driver_found items x v h)
+driver_found (it ∷ items) x v h = elim (either_some (assigned_in it x) (assigned items x) v h) [ inl a ↦ inl (assigned_has it x v a) | inr b ↦ inr (driver_found items x v b) ]
 
 module _ {A : Type 0} where
   label_step : (R : Name → A → Type 0) (l : Port) (v : A) (x : Name) (w : A) (o : Option A) (b : Bool) → bytes_eq l.name x ≡ b → R l.name v → (o ≡ Some w → R x w) → cond b (Some v) o ≡ Some w → R x w
@@ -183,23 +181,20 @@ out_found ports (l ∷ ls) x p h = link_step l ls x p (no (sort_is_input (sort_o
 output_more : (it : Item) (items : List Item) (x : Name) (p : Name × Name) → IsOutput items x p → IsOutput (it ∷ items) x p
 output_more it items x p q = record { module_name = q.module_name; links = q.links; has = inr q.has; link = q.link; linked = q.linked; net = q.net; port = q.port }
 
-output_step : (k i : Name) (links : List Link) (items : List Item) (x : Name) (p : Name × Name) (o : Option Name) (others : Option (Name × Name)) → ((y : Name) → o ≡ Some y → IsLink links x y) → (others ≡ Some p → IsOutput items x p)
-    → port_or i o others ≡ Some p → IsOutput (Instance k i links ∷ items) x p
-output_step k i links items x p None others f g h = output_more (Instance k i links) items x p (g h)
-output_step k i links items x p (Some y) others f g h =
-    let q = f y refl in
-    let e : (i, y) ≡ p = cc in
-    subst (λ z. IsOutput (Instance k i links ∷ items) x z) e (record { module_name = k; links = links; has = inl refl; link = q.link; linked = q.linked; net = q.net; port = q.port })
+output_has : (ms : List ModuleTree) (it : Item) (items : List Item) (x : Name) (p : Name × Name) → output_in ms it x ≡ Some p → IsOutput (it ∷ items) x p
+output_has ms (Instance k i links) items x p h =
+    let t = map_some (λ (y : Name). (i, y)) (link_out (map port_declared (ports_of ms k)) links x) p h in
+    let q = out_found (map port_declared (ports_of ms k)) links x t.0 t.1 in
+    subst (λ z. IsOutput (Instance k i links ∷ items) x z) t.2 (record { module_name = k; links = links; has = inl refl; link = q.link; linked = q.linked; net = q.net; port = q.port })
+output_has ms (Assign y e) items x p h = cc
+output_has ms (Wire w y) items x p h = cc
+output_has ms (Reg w y) items x p h = cc
+output_has ms (Memory w y n) items x p h = cc
+output_has ms (Always b) items x p h = cc
 
 pub output_found : (ms : List ModuleTree) (items : List Item) (x : Name) (p : Name × Name) → output_of ms items x ≡ Some p → IsOutput items x p
 output_found ms [] x p h = cc
-output_found ms (Instance k i links ∷ items) x p h =
-    output_step k i links items x p (link_out (map port_declared (ports_of ms k)) links x) (output_of ms items x) (λ y e. out_found (map port_declared (ports_of ms k)) links x y e) (output_found ms items x p) h
-output_found ms (Assign y e ∷ items) x p h = output_more (Assign y e) items x p (output_found ms items x p h)
-output_found ms (Wire w y ∷ items) x p h = output_more (Wire w y) items x p (output_found ms items x p h)
-output_found ms (Reg w y ∷ items) x p h = output_more (Reg w y) items x p (output_found ms items x p h)
-output_found ms (Memory w y n ∷ items) x p h = output_more (Memory w y n) items x p (output_found ms items x p h)
-output_found ms (Always b ∷ items) x p h = output_more (Always b) items x p (output_found ms items x p h)
+output_found ms (it ∷ items) x p h = elim (either_some (output_in ms it x) (output_of ms items x) p h) [ inl a ↦ output_has ms it items x p a | inr b ↦ output_more it items x p (output_found ms items x p b) ]
 
 in_step : (l : Link) (ls : List Link) (x z : Name) (b : Bool) → bytes_eq l.port x ≡ b → (o : Option Name) → (o ≡ Some z → IsLink ls z x) → cond b (Some l.net) o ≡ Some z → IsLink (l ∷ ls) z x
 in_step l ls x z true e o f h = record { link = l; linked = inl refl; net = cc; port = (bytes_decides l.port x).0 e }
@@ -209,23 +204,25 @@ in_found : (ls : List Link) (x z : Name) → link_in ls x ≡ Some z → IsLink 
 in_found [] x z h = cc
 in_found (l ∷ ls) x z h = in_step l ls x z (bytes_eq l.port x) refl (link_in ls x) (in_found ls x z) h
 
-joined_step : (k j i : Name) (links : List Link) (items : List Item) (x z : Name) (b : Bool) → bytes_eq j i ≡ b → (o others : Option Name) → (o ≡ Some z → IsLink links z x) → (others ≡ Some z → IsOutput items z (i, x))
-    → cond b o others ≡ Some z → IsOutput (Instance k j links ∷ items) z (i, x)
-joined_step k j i links items x z true e o others f g h =
+joined_step : (k j i : Name) (links : List Link) (items : List Item) (x z : Name) (b : Bool) → bytes_eq j i ≡ b → (o : Option Name) → (o ≡ Some z → IsLink links z x) → cond b o None ≡ Some z → IsOutput (Instance k j links ∷ items) z (i, x)
+joined_step k j i links items x z true e o f h =
     let q = f h in
     let n : j ≡ i = (bytes_decides j i).0 e in
     record { module_name = k; links = links; has = inl (ap (λ y. Instance k y links) n); link = q.link; linked = q.linked; net = q.net; port = q.port }
-joined_step k j i links items x z false e o others f g h = output_more (Instance k j links) items z (i, x) (g h)
+joined_step k j i links items x z false e o f h = cc
+
+joined_has : (it : Item) (items : List Item) (i x z : Name) → joined_in it i x ≡ Some z → IsOutput (it ∷ items) z (i, x)
+joined_has (Instance k j links) items i x z h = joined_step k j i links items x z (bytes_eq j i) refl (link_in links x) (in_found links x z) h
+joined_has (Assign y e) items i x z h = cc
+joined_has (Wire w y) items i x z h = cc
+joined_has (Reg w y) items i x z h = cc
+joined_has (Memory w y n) items i x z h = cc
+joined_has (Always b) items i x z h = cc
 
 -- a link of an instance of this name
 pub joined_found : (items : List Item) (i x z : Name) → joined_to items i x ≡ Some z → IsOutput items z (i, x)
 joined_found [] i x z h = cc
-joined_found (Instance k j links ∷ items) i x z h = joined_step k j i links items x z (bytes_eq j i) refl (link_in links x) (joined_to items i x) (in_found links x z) (joined_found items i x z) h
-joined_found (Assign y e ∷ items) i x z h = output_more (Assign y e) items z (i, x) (joined_found items i x z h)
-joined_found (Wire w y ∷ items) i x z h = output_more (Wire w y) items z (i, x) (joined_found items i x z h)
-joined_found (Reg w y ∷ items) i x z h = output_more (Reg w y) items z (i, x) (joined_found items i x z h)
-joined_found (Memory w y n ∷ items) i x z h = output_more (Memory w y n) items z (i, x) (joined_found items i x z h)
-joined_found (Always b ∷ items) i x z h = output_more (Always b) items z (i, x) (joined_found items i x z h)
+joined_found (it ∷ items) i x z h = elim (either_some (joined_in it i x) (joined_to items i x) z h) [ inl a ↦ joined_has it items i x z a | inr b ↦ output_more it items z (i, x) (joined_found items i x z b) ]
 
 module _ (nets : Path → Cycle) (path : Path) (x : Name) where
   -- a source gives a net its number in a run

@@ -36,34 +36,40 @@ abbrev pub held_at : List Held → Path → Option Held
 held_at [] path = None
 held_at (h ∷ hs) path = if same_path h.path.items path then Some h else held_at hs path
 
+abbrev pub or_else : {A : Type 0} → Option A → Option A → Option A
+or_else None others = others
+or_else (Some x) others = Some x
+
+abbrev pub assigned_in : Item → Name → Option Value
+assigned_in (Assign y e) x = if bytes_eq y x then Some e else None
+assigned_in (Wire w y) x = None
+assigned_in (Reg w y) x = None
+assigned_in (Memory w y n) x = None
+assigned_in (Always b) x = None
+assigned_in (Instance m i links) x = None
+
 -- the driver of the first assignment to a net
 abbrev pub assigned : List Item → Name → Option Value
 assigned [] x = None
-assigned (Assign y e ∷ items) x = if bytes_eq y x then Some e else assigned items x
-assigned (Wire w y ∷ items) x = assigned items x
-assigned (Reg w y ∷ items) x = assigned items x
-assigned (Memory w y n ∷ items) x = assigned items x
-assigned (Always b ∷ items) x = assigned items x
-assigned (Instance m i links ∷ items) x = assigned items x
+assigned (it ∷ items) x = or_else (assigned_in it x) (assigned items x)
 
 -- the first port, no input, that is joined to a net
 abbrev pub link_out : List Declaration → List Link → Name → Option Name
 link_out ports [] x = None
 link_out ports (l ∷ ls) x = if bytes_eq l.net x && no (sort_is_input (sort_of ports l.port)) then Some l.port else link_out ports ls x
 
-abbrev pub port_or : Name → Option Name → Option (Name × Name) → Option (Name × Name)
-port_or i None others = others
-port_or i (Some p) others = Some (i, p)
+abbrev pub output_in : List ModuleTree → Item → Name → Option (Name × Name)
+output_in ms (Instance m i links) x = option_map (λ p. (i, p)) (link_out (map port_declared (ports_of ms m)) links x)
+output_in ms (Assign y e) x = None
+output_in ms (Wire w y) x = None
+output_in ms (Reg w y) x = None
+output_in ms (Memory w y n) x = None
+output_in ms (Always b) x = None
 
 -- the first instance, and its port, that drives a net
 abbrev pub output_of : List ModuleTree → List Item → Name → Option (Name × Name)
 output_of ms [] x = None
-output_of ms (Instance m i links ∷ items) x = port_or i (link_out (map port_declared (ports_of ms m)) links x) (output_of ms items x)
-output_of ms (Assign y e ∷ items) x = output_of ms items x
-output_of ms (Wire w y ∷ items) x = output_of ms items x
-output_of ms (Reg w y ∷ items) x = output_of ms items x
-output_of ms (Memory w y n ∷ items) x = output_of ms items x
-output_of ms (Always b ∷ items) x = output_of ms items x
+output_of ms (it ∷ items) x = or_else (output_in ms it x) (output_of ms items x)
 
 abbrev pub pair_of : Bor Name × Bor Name → Name × Name
 pair_of p = (p.0.now, p.1.now)
@@ -73,14 +79,18 @@ abbrev pub link_in : List Link → Name → Option Name
 link_in [] x = None
 link_in (l ∷ ls) x = if bytes_eq l.port x then Some l.net else link_in ls x
 
+abbrev pub joined_in : Item → Name → Name → Option Name
+joined_in (Instance m j links) i x = if bytes_eq j i then link_in links x else None
+joined_in (Assign y e) i x = None
+joined_in (Wire w y) i x = None
+joined_in (Reg w y) i x = None
+joined_in (Memory w y n) i x = None
+joined_in (Always b) i x = None
+
+-- the net that a port of an instance is joined to
 abbrev pub joined_to : List Item → Name → Name → Option Name
 joined_to [] i x = None
-joined_to (Instance m j links ∷ items) i x = if bytes_eq j i then link_in links x else joined_to items i x
-joined_to (Assign y e ∷ items) i x = joined_to items i x
-joined_to (Wire w y ∷ items) i x = joined_to items i x
-joined_to (Reg w y ∷ items) i x = joined_to items i x
-joined_to (Memory w y n ∷ items) i x = joined_to items i x
-joined_to (Always b ∷ items) i x = joined_to items i x
+joined_to (it ∷ items) i x = or_else (joined_in it i x) (joined_to items i x)
 
 -- a net to be read, with its width; its number is not known yet
 abbrev pub net_read : List Declaration → Name → NetNumber

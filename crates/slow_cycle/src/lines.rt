@@ -5,7 +5,7 @@ ghost use Rattle.std.specs.Option.{option_copied, option_map};
 ghost use Rattle.std.specs.List.{flat_map};
 ghost use Rattle.vlog_tree.specs.Table.{port_declared, ports_of as ports_of_lem};
 ghost use Rattle.vlog_tree.specs.Loops.{atom_nets, value_nets};
-ghost use Rattle.slow_cycle.specs.Sources.{assigned as assigned_lem, link_out as link_out_lem, output_of as output_of_lem, pair_of, link_in as link_in_lem, joined_to as joined_to_lem, net_read, are_read as are_read_lem, has_cells as has_cells_lem};
+ghost use Rattle.slow_cycle.specs.Sources.{assigned_in as assigned_in_lem, output_in as output_in_lem, joined_in as joined_in_lem, assigned as assigned_lem, link_out as link_out_lem, output_of as output_of_lem, pair_of, link_in as link_in_lem, joined_to as joined_to_lem, net_read, are_read as are_read_lem, has_cells as has_cells_lem};
 
 use std::alloc::{AllocError, Global};
 use tapa_base::Text;
@@ -13,15 +13,32 @@ use vlog_rules::{Scope, copy_text, is_input, is_read};
 use vlog_slow::{MemoryCells, NetNumber, find_memory};
 use vlog_tree::{Atom, Item, Link, Module, Value};
 
+fn assigned_in<'a>(item: &'a Item, x: &Text) -> Option<&'a Value>
+    ensures { option_copied result ≡ assigned_in_lem item.now x.now }
+{
+    match item {
+        Item::Assign(y, e) => {
+            if y.bytes() == x.bytes() {
+                Some(e)
+            } else {
+                None
+            }
+        }
+        Item::Wire(_, _) => None,
+        Item::Reg(_, _) => None,
+        Item::Memory(_, _, _) => None,
+        Item::Always(_) => None,
+        Item::Instance(_, _, _) => None,
+    }
+}
+
 /// The driver of the first assignment to a net.
 pub(crate) fn assigned<'a>(items: &'a [Item], x: &Text) -> Option<&'a Value>
     ensures { option_copied result ≡ assigned_lem items.now x.now }
 {
     for item in items {
-        if let Item::Assign(y, e) = item {
-            if y.bytes() == x.bytes() {
-                return Some(e);
-            }
+        if let Some(e) = assigned_in(item, x) {
+            return Some(e);
         }
     }
     None
@@ -50,6 +67,30 @@ fn ports_of(alloc: Global, modules: &[Module], name: &Text) -> Result<Scope, All
     Scope::of_ports(alloc, &[])
 }
 
+fn output_in<'a>(
+    alloc: Global,
+    modules: &[Module],
+    item: &'a Item,
+    x: &Text,
+) -> Result<Option<(&'a Text, &'a Text)>, AllocError>
+    ensures { IfOk result (λ o. option_map pair_of o ≡ output_in_lem modules.now item.now x.now) }
+{
+    match item {
+        Item::Instance(m, i, links) => {
+            let ports = ports_of(alloc, modules, m)?;
+            match link_out(&ports, links.links(), x) {
+                Some(p) => Ok(Some((i, p))),
+                None => Ok(None),
+            }
+        }
+        Item::Assign(_, _) => Ok(None),
+        Item::Wire(_, _) => Ok(None),
+        Item::Reg(_, _) => Ok(None),
+        Item::Memory(_, _, _) => Ok(None),
+        Item::Always(_) => Ok(None),
+    }
+}
+
 /// The first instance, and its port, that drives a net.
 pub(crate) fn output_of<'a>(
     alloc: Global,
@@ -60,11 +101,8 @@ pub(crate) fn output_of<'a>(
     ensures { IfOk result (λ o. option_map pair_of o ≡ output_of_lem modules.now items.now x.now) }
 {
     for item in items {
-        if let Item::Instance(m, i, links) = item {
-            let ports = ports_of(alloc, modules, m)?;
-            if let Some(p) = link_out(&ports, links.links(), x) {
-                return Ok(Some((i, p)));
-            }
+        if let Some(p) = output_in(alloc, modules, item, x)? {
+            return Ok(Some(p));
         }
     }
     Ok(None)
@@ -81,15 +119,32 @@ fn link_in<'a>(links: &'a [Link], x: &Text) -> Option<&'a Text>
     None
 }
 
-/// The net that a port of the first instance of a name is joined to.
+fn joined_in<'a>(item: &'a Item, instance: &Text, x: &Text) -> Option<&'a Text>
+    ensures { option_copied result ≡ joined_in_lem item.now instance.now x.now }
+{
+    match item {
+        Item::Instance(_, i, links) => {
+            if i.bytes() == instance.bytes() {
+                link_in(links.links(), x)
+            } else {
+                None
+            }
+        }
+        Item::Assign(_, _) => None,
+        Item::Wire(_, _) => None,
+        Item::Reg(_, _) => None,
+        Item::Memory(_, _, _) => None,
+        Item::Always(_) => None,
+    }
+}
+
+/// The net that a port of an instance is joined to.
 pub(crate) fn joined_to<'a>(items: &'a [Item], instance: &Text, x: &Text) -> Option<&'a Text>
     ensures { option_copied result ≡ joined_to_lem items.now instance.now x.now }
 {
     for item in items {
-        if let Item::Instance(_, i, links) = item {
-            if i.bytes() == instance.bytes() {
-                return link_in(links.links(), x);
-            }
+        if let Some(net) = joined_in(item, instance, x) {
+            return Some(net);
         }
     }
     None

@@ -1,6 +1,6 @@
 // Instances by the way to them.
 
-ghost use Rattle.std.specs.Prelude.{◌≡◌, ◌∷◌, ◌++◌, IfOk, OnOk};
+ghost use Rattle.std.specs.Prelude.{◌≡◌, ◌∷◌, ◌++◌, [], IfOk, OnOk};
 ghost use Rattle.std.specs.Option.{option_copied};
 ghost use Rattle.vlog_tree.specs.Cycle.{module_named as module_named_lem, child_of as child_of_lem, module_at as module_at_lem};
 ghost use Rattle.slow_cycle.specs.Sources.{same_path as same_path_lem, held_at as held_at_lem};
@@ -22,14 +22,32 @@ fn module_named<'a>(modules: &'a [Module], name: &Text) -> Option<&'a Module>
     None
 }
 
+fn child_in<'a>(item: &'a Item, name: &Text) -> Option<&'a Text>
+    ensures { option_copied result ≡ child_of_lem (item.now ∷ []) name.now }
+{
+    match item {
+        Item::Instance(m, i, _) => {
+            if i.bytes() == name.bytes() {
+                Some(m)
+            } else {
+                None
+            }
+        }
+        Item::Assign(_, _) => None,
+        Item::Wire(_, _) => None,
+        Item::Reg(_, _) => None,
+        Item::Memory(_, _, _) => None,
+        Item::Always(_) => None,
+    }
+}
+
+#[tactic(auto, using(crate::proofs::Paths::child_first))]
 fn child_of<'a>(items: &'a [Item], name: &Text) -> Option<&'a Text>
     ensures { option_copied result ≡ child_of_lem items.now name.now }
 {
     for item in items {
-        if let Item::Instance(m, i, _) = item {
-            if i.bytes() == name.bytes() {
-                return Some(m);
-            }
+        if let Some(m) = child_in(item, name) {
+            return Some(m);
         }
     }
     None
@@ -46,9 +64,13 @@ pub(crate) fn module_at<'a>(
     if path.is_empty() {
         return Some(top);
     }
-    let outer = module_at(modules, top, &path[1..])?;
-    let name = child_of(outer.items(), &path[0])?;
-    module_named(modules, name)
+    let Some(outer) = module_at(modules, top, &path[1..]) else {
+        return None;
+    };
+    match child_of(outer.items(), &path[0]) {
+        Some(name) => module_named(modules, name),
+        None => None,
+    }
 }
 
 fn same_path(a: &[Text], b: &[Text]) -> bool
