@@ -4,3 +4,4 @@ pub mod Sound
 pub mod Within
 pub mod Leaves
 pub mod Later
+pub mod Gathered

@@ -3,16 +3,17 @@
 #![tactic(auto)]
 
 mod blocks;
+mod following;
 mod inputs;
 mod lines;
 mod moment;
-mod next;
+
 mod numbers;
 mod places;
 mod sources;
 mod streams;
 
 pub use moment::{Circuit, Held, Moment, OutsideMemory};
-pub use next::next;
+pub use following::next;
 pub use numbers::net_number;
 pub use streams::{carries, is_done};

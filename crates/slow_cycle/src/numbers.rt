@@ -66,7 +66,7 @@ pub(crate) fn all_numbers(
 {
     let mut nets = Vec::new(alloc);
     for r in reads {
-        let Some(number) = net_number(alloc, design, now, path, &r.name, depth)? else {
+        let Some(number) = net_number(alloc, &*design, &*now, &*path, &r.name, depth)? else {
             return Ok(None);
         };
         let name = copy_text(alloc, &r.name)?;
@@ -95,10 +95,10 @@ pub fn net_number(
     if depth == 0 {
         return Ok(None);
     }
-    let Some(source) = source_of(alloc, design, now, path, name)? else {
+    let Some(source) = source_of(alloc, &*design, &*now, &*path, &*name)? else {
         return Ok(None);
     };
-    match all_numbers(alloc, design, now, &source.path, &source.reads, depth - 1)? {
+    match all_numbers(alloc, &*design, &*now, &source.path, &source.reads, depth - 1)? {
         Some(nets) => Ok(by_rule(&source.rule, &nets)),
         None => Ok(None),
     }

@@ -13,7 +13,7 @@ pub loop-a-preserved : goal.loop-a-preserved
 loop-a-preserved c = (
   refit _ _ c.in-Some.ensures,
   λ memories. join_more (sizes_of c.args.nets.now memories) (cycle_of c.args.nets.now memories) c.args.atoms.now c.loop-a.a-index c.loop-a.n c.bits_of_atom.result c.value_of_atom.result c.a-item.result c.loop-a-test.true c.a-item.is
-      (c.bits_of_atom.ensures memories) (c.value_of_atom.ensures memories) (c.loop-a.invariant.1 memories) c.in-Some.field-0 (is_fit _ _ c.in-Some.ensures),
+      (c.bits_of_atom.ensures memories) (c.value_of_atom.ensures memories) (c.loop-a.invariant.1 memories) c.in-Some.more (is_fit _ _ c.in-Some.ensures),
 )
 
 pub returns : goal.returns
