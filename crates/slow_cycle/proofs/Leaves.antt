@@ -1,8 +1,9 @@
 -- What a write leaves is what the definition leaves.
 use Rattle.std.proofs.lemmas.Bool.{ltb-true}
 use Rattle.std.proofs.lemmas.Bool.Decides.{nat_tests}
-use Rattle.std.proofs.Common.{◌≡◌, ℕ, suc, ◌<◌, ◌≢◌, Bool, true, false, cond, ◌&&◌, List, [], ◌∷◌, ◌++◌, length, get_or, drop, take, map, set, get_or-set_other, get_or-set_same, refl, sym, ap, subst, ◌∙◌, arith}
+use Rattle.std.proofs.Common.{◌≡◌, ℕ, suc, ◌<◌, ◌≢◌, Bool, true, false, cond, ◌&&◌, List, [], ◌∷◌, ◌++◌, length, get_or, drop, take, map, set, get_or-set_other, get_or-set_same, ◌+◌, add-one, refl, sym, ap, subst, ◌∙◌, arith}
 use Rattle.std.proofs.Math.ListN.{length-set}
+use Rattle.std.proofs.Math.Seq.{take-suc}
 use Rattle.std.specs.Prelude.{◌==◌, bytes_eq, nat_lt, if◌then◌else◌}
 use Rattle.std.specs.List.{AllByRecursion, list_all}
 use Rattle.std.specs.Cmp.Lexicographic.{bytes_decides}
@@ -70,7 +71,7 @@ module _ (s : Sizes) (m : Name) (a v : ℕ) (c : Cycle) where
   shapes_store (k ∷ ks) [] i = absurd i
   shapes_store (k ∷ ks) (j ∷ js) i =
       let e : memory_shape j ≡ memory_shape k =
-          ap (λ z. (z, length j.cells.items)) i.0 ∙ ap (λ z. (k.name, length z)) i.1 ∙ ap (λ n. (k.name, n)) (same_length (bytes_eq k.name m && nat_lt a (length k.cells.items)) k.cells.items) in
+          ap (λ z. (z, length j.cells.items)) i.0.0 ∙ ap (λ z. (k.name, length z)) i.0.1 ∙ ap (λ n. (k.name, n)) (same_length (bytes_eq k.name m && nat_lt a (length k.cells.items)) k.cells.items) in
       ap (λ z. z ∷ map memory_shape js) e ∙ ap (λ z. memory_shape k ∷ z) (shapes_store ks js i.1)
 
 -- lists that fit each other, each with one more
@@ -79,3 +80,8 @@ two_more R [] [] x y a r = (r, tt)
 two_more R [] (z ∷ ys) x y a r = absurd a
 two_more R (z ∷ xs) [] x y a r = absurd a
 two_more R (z ∷ xs) (w ∷ ys) x y a r = (a.0, two_more R xs ys x y a.1 r)
+
+pub taken_more : {A B : Type 0} (R : A → B → Type 0) (xs : List A) (i : ℕ) (x : A) (ys zs : List B) (y : B) → i < length xs → x ≡ get_or xs i x → AllTwo R (take i xs) ys → R x y → zs ≡ ys ++ y ∷ [] → AllTwo R (take (i + 1) xs) zs
+taken_more R xs i x ys zs y low is a r e =
+    let t : take (i + 1) xs ≡ take i xs ++ x ∷ [] = ap (λ k. take k xs) (add-one i) ∙ take-suc xs i x low ∙ ap (λ z. take i xs ++ z ∷ []) (sym is) in
+    subst (λ l. AllTwo R (take (i + 1) xs) l) (sym e) (subst (λ l. AllTwo R l (ys ++ y ∷ [])) (sym t) (two_more R (take i xs) ys x y a r))

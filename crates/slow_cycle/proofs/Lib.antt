@@ -1,7 +1,9 @@
 pub mod Options
 pub mod Paths
+pub mod Ascii
+pub mod Gathered
 pub mod Sound
 pub mod Within
+pub mod Carried
 pub mod Leaves
 pub mod Later
-pub mod Gathered

@@ -1,6 +1,7 @@
 -- Modules at the end of paths.
-use Rattle.std.proofs.Common.{◌≡◌, ℕ, Bool, true, false, ◌+◌, ◌<◌, List, [], ◌∷◌, Option, Some, None, length, get_or, drop, cond, refl, sym, ap, ◌∙◌}
-use Rattle.std.specs.Prelude.{bytes_eq, if◌then◌else◌}
+use Rattle.std.proofs.Common.{◌≡◌, ℕ, Bool, true, false, ◌+◌, ◌<◌, List, [], ◌∷◌, Option, Some, None, length, get_or, drop, cond, refl, sym, ap, ◌∙◌, arith}
+use Rattle.std.proofs.lemmas.Bool.Decides.{nat_tests}
+use Rattle.std.specs.Prelude.{◌==◌, bytes_eq, if◌then◌else◌}
 use Rattle.vlog_tree.specs.declared.tree.Item.{Item}
 use Rattle.vlog_tree.specs.declared.tree.Item.TheVariants.{Wire, Reg, Memory, Assign, Always, Instance}
 use Rattle.vlog_tree.specs.Form.{ModuleTree}
@@ -28,3 +29,8 @@ path_opened path x h e = opened path 0 x h e
 pub module_inside : (ms : List ModuleTree) (top : ModuleTree) (path : Path) (x : Name) → 0 < length path → x ≡ get_or path 0 x
     → module_at ms top path ≡ and_then (module_at ms top (drop 1 path)) (λ m. and_then (child_of m.items x) (module_named ms))
 module_inside ms top path x h e = ap (module_at ms top) (path_opened path x h e)
+
+pub empty_same : (a b : Path) → length a ≡ 0 → (length b == 0) ≡ same_path a b
+empty_same [] [] h = refl
+empty_same [] (y ∷ ys) h = grind (arith, nat_tests)
+empty_same (x ∷ xs) b h = absurd (omega arith)

@@ -33,7 +33,8 @@ use Rattle.slow_cycle.specs.declared.moment.Moment.{Moment}
 use Rattle.slow_cycle.specs.Sources.{RuleTree, SourceTree, same_path, held_at, assigned_in, assigned, link_out, output_in, output_of, link_in, joined_in, joined_to, net_read, are_read, has_cells, given_number, same_number, can_drive, driver_source, at_label, memory_of, rdata_source, ack_source, scalar_source, input_source, outer_source, output_source, line_source, register_source, source_of}
 use Rattle.slow_cycle.specs.Numbers.{first_number, by_rule, all_numbers, net_within}
 use Rattle.slow_cycle.specs.Moments.{RegisterIs, MemoryIs, HeldIs, OutsideIs, IsAt}
-use Rattle.slow_cycle.proofs.Options.{and_then_some, map_some, cond_some, either_some}
+use Rattle.slow_cycle.proofs.Gathered.{numbered}
+use Rattle.slow_cycle.proofs.Options.{and_then_some, map_some, cond_some, either_some, checked}
 
 -- what is found in a list is in it, under its name
 pub path_same : (p q : Path) → same_path p q ≡ true → p ≡ q
@@ -128,9 +129,9 @@ module _ (c : Cycle) where
   numbers_read number f [] [] h = tt
   numbers_read number f [] (k ∷ ks) h = cc
   numbers_read number f (r ∷ reads) ns h =
-      let t = and_then_some (number r.name) (λ n. and_then (all_numbers number reads) (λ ks. Some {T = List NetNumber} (record { name = r.name; bits = r.bits; number = n } ∷ ks))) ns h in
-      let u = and_then_some (all_numbers number reads) (λ ks. Some {T = List NetNumber} (record { name = r.name; bits = r.bits; number = t.0 } ∷ ks)) ns t.2 in
-      let e : record { name = r.name; bits = r.bits; number = t.0 } ∷ u.0 ≡ ns = cc (u.2) in
+      let t = and_then_some (number r.name) (λ n. and_then (all_numbers number reads) (λ ks. Some (numbered r n ∷ ks))) ns h in
+      let u = and_then_some (all_numbers number reads) (λ ks. Some (numbered r t.0 ∷ ks)) ns t.2 in
+      let e : numbered r t.0 ∷ u.0 ≡ ns = cc (u.2) in
       subst (λ z. AllTwo IsRead (r ∷ reads) z) e ((refl, refl, f r.name t.0 t.1), numbers_read number f reads u.0 u.1)
 
   read_step : (ds : List Declaration) (r k : NetNumber) (ns : List NetNumber) (z : Name) (b : Bool) → bytes_eq k.name z ≡ b → IsRead r k → r.bits ≡ bits_of ds r.name
@@ -277,15 +278,14 @@ module _ (nets : Path → Cycle) (path : Path) (x : Name) (m : ModuleTree) (s : 
   pub driver_gives : (e : Value) → Has m.items (Assign x e) → can_drive (declared m) memories x e ≡ true
       → Gives nets path x (record { path = path; reads = map (net_read (declared m)) (value_nets e); rule = RuleTree.driver (bits_of (declared m) x) e memories })
   driver_gives e h can ns v a is =
-      let one = both_true (sort_is_read (sort_of (declared m) x) && nat_le (bits_of (declared m) x) 128 && are_read (declared m) (map (net_read (declared m)) (value_nets e))) (has_cells memories e) can in
-      let two = both_true (sort_is_read (sort_of (declared m) x) && nat_le (bits_of (declared m) x) 128) (are_read (declared m) (map (net_read (declared m)) (value_nets e))) one.0 in
-      let three = both_true (sort_is_read (sort_of (declared m) x)) (nat_le (bits_of (declared m) x) 128) two.0 in
+      let one = both_true (sort_is_read (sort_of (declared m) x) && are_read (declared m) (map (net_read (declared m)) (value_nets e))) (has_cells memories e) can in
+      let two = both_true (sort_is_read (sort_of (declared m) x)) (are_read (declared m) (map (net_read (declared m)) (value_nets e))) one.0 in
       let line : (nets path).net x ≡ driven s (s.width x) (nets path) e = all_at (Holds s (nets path)) m.items (Assign x e) lines h in
-      let width : s.width x ≡ bits_of (declared m) x = width_held m s (nets path) ports lines x sort_is_read refl refl three.0 in
+      let width : s.width x ≡ bits_of (declared m) x = width_held m s (nets path) ports lines x sort_is_read refl refl two.0 in
       let found : (z : Name) → Has (value_nets e) z → (net_in ns z ≡ (nets path).net z) × (bits_in ns z ≡ bits_of (declared m) z) = read_found (nets path) (declared m) (value_nets e) ns a in
       let same : driven s (s.width x) (nets path) e ≡ driven (sizes_of ns memories) (bits_of (declared m) x) (cycle_of ns memories) e =
           driven_same (nets path) (cycle_of ns memories) s (sizes_of ns memories) (s.width x) (bits_of (declared m) x) e width
           (λ z k. sym (found z k).0)
           (λ z k. width_held m s (nets path) ports lines z sort_is_read refl refl (names_read (declared m) (value_nets e) two.1 z k) ∙ sym (found z k).1)
           (reads_alike m.items s (nets path) lines memories held ns e one.1) in
-      line ∙ same ∙ sym (is_fit (driven (sizes_of ns memories) (bits_of (declared m) x) (cycle_of ns memories) e) v (sym is))
+      line ∙ same ∙ sym (is_fit (driven (sizes_of ns memories) (bits_of (declared m) x) (cycle_of ns memories) e) v (sym (checked (nat_le (bits_of (declared m) x) 128) (fitting (driven (sizes_of ns memories) (bits_of (declared m) x) (cycle_of ns memories) e)) v is)))

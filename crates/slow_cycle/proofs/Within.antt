@@ -1,8 +1,8 @@
 -- What is found at a moment is what each run has that is at this moment.
-use Rattle.std.proofs.Common.{◌≡◌, ℕ, zero, suc, Bool, true, false, cond, List, [], ◌∷◌, Option, Some, None, refl, sym, ap, subst, ◌∙◌, arith}
+use Rattle.std.proofs.Common.{◌≡◌, ℕ, zero, suc, ◌-◌, Bool, true, false, cond, List, [], ◌∷◌, Option, Some, None, refl, sym, ap, subst, ◌∙◌, arith}
 use Rattle.std.specs.Prelude.{◌==◌, bytes_eq, unwrap_or, slice_get, map}
 use Rattle.std.specs.List.{AllByRecursion}
-use Rattle.std.specs.Option.{option_map}
+use Rattle.std.specs.Option.{option_map, IfSome}
 use Rattle.std.specs.Cmp.Lexicographic.{bytes_decides}
 use Rattle.std.proofs.lemmas.Bool.Decides.{nat_tests}
 use Rattle.tapa_base.specs.declared.shape.Port.{Port}
@@ -25,8 +25,9 @@ use Rattle.slow_cycle.specs.declared.moment.Held.{Held}
 use Rattle.slow_cycle.specs.declared.moment.OutsideMemory.{OutsideMemory}
 use Rattle.slow_cycle.specs.declared.moment.Moment.{Moment}
 use Rattle.slow_cycle.specs.Sources.{RuleTree, SourceTree, held_at, assigned, output_of, joined_to, net_read, given_number, same_number, can_drive, driver_source, at_label, rdata_source, ack_source, scalar_source, memory_of, input_source, outer_source, output_source, line_source, register_source, source_of}
-use Rattle.slow_cycle.specs.Numbers.{by_rule, all_numbers, net_within}
-use Rattle.slow_cycle.specs.Moments.{RegisterIs, MemoryIs, HeldIs, OutsideIs, IsAt}
+use Rattle.slow_cycle.specs.Numbers.{by_rule, all_numbers, net_within, number_at}
+use Rattle.slow_cycle.specs.declared.moment.Circuit.{Circuit}
+use Rattle.slow_cycle.specs.Moments.{RegisterIs, MemoryIs, HeldIs, OutsideIs, IsAt, InRuns}
 use Rattle.slow_cycle.proofs.Options.{and_then_some, map_some, cond_some}
 use Rattle.slow_cycle.proofs.Sound.{held_found, net_found, outside_found, driver_found, label_found, answers_found, numbers_read, IsOutput, output_found, joined_found, Gives, given_gives, same_gives, cells_give, driver_gives}
 
@@ -167,3 +168,30 @@ module _ (ms : List ModuleTree) (top : ModuleTree) (env : Environment) (nets : �
       let t = and_then_some (source_of ms top now path x) (λ s. and_then (all_numbers (net_within ms top now d s.path) s.reads) (by_rule s.rule)) v h in
       let u = and_then_some (all_numbers (net_within ms top now d t.0.path) t.0.reads) (by_rule t.0.rule) v t.2 in
       source_gives path x t.0 t.1 u.0 v (numbers_read (nets n t.0.path) (net_within ms top now d t.0.path) (λ y w k. number_is d t.0.path y w k) t.0.reads u.0 u.1) u.2
+
+pub runs_number : (c : Circuit) (now : Moment) (d : ℕ) (path : Path) (x : Name) (o : Option ℕ) → o ≡ number_at c now d path x → IfSome o (λ v. InRuns c now (λ env nets. (nets now.cycle path).net x ≡ v))
+runs_number c now d path x None e = tt
+runs_number c now d path x (Some v) e = λ env nets r a. number_is c.modules.now c.top.now env nets now r a d path x v (sym e)
+
+module _ (c : Circuit) (now : Moment) (d : ℕ) (path : Path) (x : Name) (some : d ≡ 0 → ⊥) where
+  rest_of : ℕ → SourceTree → Option ℕ
+  rest_of k s = and_then (all_numbers (number_at c now k s.path) s.reads) (by_rule s.rule)
+
+  at_step : (k : ℕ) → d ≡ suc k → number_at c now d path x ≡ and_then (source_of c.modules.now c.top.now now path x) (rest_of k)
+  unfolding rest_of
+  at_step k e = ap (λ j. number_at c now j path x) e
+
+  one_less : d ≡ suc (d - 1)
+  one_less = omega arith
+
+  pub number_unknown : None ≡ source_of c.modules.now c.top.now now path x → None ≡ number_at c now d path x
+  number_unknown h = ap (λ o. and_then o (rest_of (d - 1))) h ∙ sym (at_step (d - 1) one_less)
+
+  module _ (s : SourceTree) (is : Some s ≡ source_of c.modules.now c.top.now now path x) where
+    pub number_unread : None ≡ all_numbers (number_at c now (d - 1) s.path) s.reads → None ≡ number_at c now d path x
+    unfolding rest_of
+    number_unread h = ap (λ o. and_then o (by_rule s.rule)) h ∙ ap (λ o. and_then o (rest_of (d - 1))) is ∙ sym (at_step (d - 1) one_less)
+
+    pub number_found : (ns : List NetNumber) (o : Option ℕ) → Some ns ≡ all_numbers (number_at c now (d - 1) s.path) s.reads → o ≡ by_rule s.rule ns → o ≡ number_at c now d path x
+    unfolding rest_of
+    number_found ns o h e = e ∙ ap (λ o. and_then o (by_rule s.rule)) h ∙ ap (λ o. and_then o (rest_of (d - 1))) is ∙ sym (at_step (d - 1) one_less)

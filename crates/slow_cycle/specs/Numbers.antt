@@ -1,5 +1,5 @@
 -- The number of a net, by as many steps as a depth allows.
-use Rattle.std.specs.Prelude.{ℕ, zero, suc, List, [], ◌∷◌, Option, Some, None, unwrap_or, slice_get}
+use Rattle.std.specs.Prelude.{ℕ, zero, suc, List, [], ◌∷◌, Option, Some, None, unwrap_or, slice_get, nat_le, if◌then◌else◌}
 use Rattle.std.specs.Option.{option_map}
 use Rattle.vlog_tree.specs.Form.{ModuleTree}
 use Rattle.vlog_tree.specs.Cycle.{Name, Path, and_then, driven}
@@ -13,11 +13,11 @@ abbrev pub first_number : List NetNumber → Option ℕ
 first_number [] = None
 first_number (n ∷ ns) = Some n.number
 
--- what a rule makes of the numbers that it reads
+-- what a rule makes of the numbers that it reads; a driver's target has at most 128 bits
 abbrev pub by_rule : RuleTree → List NetNumber → Option ℕ
 by_rule (RuleTree.given n) nets = Some n
 by_rule RuleTree.same nets = first_number nets
-by_rule (RuleTree.driver w e memories) nets = fitting (driven (sizes_of nets memories) w (cycle_of nets memories) e)
+by_rule (RuleTree.driver w e memories) nets = if nat_le w 128 then fitting (driven (sizes_of nets memories) w (cycle_of nets memories) e) else None
 by_rule (RuleTree.cells c) nets = option_map (λ a. unwrap_or (slice_get c a) 0) (first_number nets)
 
 -- the nets with their numbers, where each has one

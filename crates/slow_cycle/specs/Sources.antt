@@ -1,5 +1,6 @@
 -- What gives a net its number in a cycle.
-use Rattle.std.specs.Prelude.{◌≤◌, ℕ, Bool, true, false, ◌&&◌, ◌==◌, List, [], ◌∷◌, Option, Some, None, nat_le, bytes_eq, is_some, unwrap_or, slice_get, if◌then◌else◌, map, Bor}
+use Rattle.std.specs.Prelude.{ℕ, Bool, true, false, ◌&&◌, ◌==◌, List, [], ◌∷◌, Option, Some, None, bytes_eq, is_some, unwrap_or, slice_get, if◌then◌else◌, map}
+use Rattle.std.specs.Borrow.{Bor}
 use Rattle.std.specs.List.{list_all}
 use Rattle.std.specs.Option.{option_map, option_copied}
 use Rattle.tapa_base.specs.declared.shape.Port.{Port}
@@ -138,9 +139,9 @@ given_number n = record { path = []; reads = []; rule = given n }
 abbrev pub same_number : Path → Name → SourceTree
 same_number path x = record { path = path; reads = record { name = x; bits = 0; number = 0 } ∷ []; rule = same }
 
--- a driver's value, where each name in it stands for what has a width, and the target has at most 128 bits
+-- a driver's value, where each name in it stands for what has a width
 abbrev pub can_drive : List Declaration → List MemoryCells → Name → Value → Bool
-can_drive ds memories x e = sort_is_read (sort_of ds x) && nat_le (bits_of ds x) 128 && are_read ds (map (net_read ds) (value_nets e)) && has_cells memories e
+can_drive ds memories x e = sort_is_read (sort_of ds x) && are_read ds (map (net_read ds) (value_nets e)) && has_cells memories e
 
 abbrev pub driver_source : List Declaration → Path → List MemoryCells → Name → Value → Option SourceTree
 driver_source ds path memories x e =
@@ -199,10 +200,3 @@ source_of ms top now path x =
         register_source (first_net h.nets.items x)
         (line_source (declared m) path h.memories.items x (assigned m.items x)
         (output_source path (output_of ms m.items x) (outer_source ms top now path x)))))
-
--- a driver's target has at most 128 bits
-abbrev pub RuleFits : RuleTree → Type 0
-RuleFits (driver w e memories) = w ≤ 128
-RuleFits (given n) = Unit {0}
-RuleFits same = Unit {0}
-RuleFits (cells c) = Unit {0}

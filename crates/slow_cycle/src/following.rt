@@ -110,6 +110,7 @@ fn all_held_after(
     Ok(Some(out))
 }
 
+#[tactic(auto, using(crate::proofs::Ascii::ack_ascii, crate::proofs::Ascii::we_ascii, crate::proofs::Ascii::addr_ascii, crate::proofs::Ascii::wdata_ascii))]
 fn top_cells(
     alloc: Global,
     design: &Circuit,
@@ -180,6 +181,7 @@ fn all_outside_after(
     Ok(Some(out))
 }
 
+#[tactic(auto, using(crate::proofs::Later::at_next))]
 /// The next cycle, where each net that is read for it has its number by at most some steps.
 pub fn next(
     alloc: Global,

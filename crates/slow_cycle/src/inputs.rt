@@ -64,6 +64,7 @@ fn memory_of<'a>(memories: &'a [OutsideMemory], label: &[u8]) -> Option<&'a Outs
     None
 }
 
+#[tactic(auto, using(crate::proofs::Ascii::addr_ascii))]
 fn rdata<'a>(
     alloc: Global,
     now: &'a Moment,

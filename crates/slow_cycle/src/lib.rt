@@ -7,7 +7,6 @@ mod following;
 mod inputs;
 mod lines;
 mod moment;
-
 mod numbers;
 mod places;
 mod sources;

@@ -1,7 +1,7 @@
 // The number of a net.
 
 ghost use Rattle.std.specs.Prelude.{◌≡◌, IfOk, IfSome, unwrap_or, slice_get, Vec};
-ghost use Rattle.slow_cycle.specs.Sources.{rule_tree, RuleFits};
+ghost use Rattle.slow_cycle.specs.Sources.{rule_tree};
 ghost use Rattle.slow_cycle.specs.Moments.{InRuns};
 ghost use Rattle.slow_cycle.specs.Numbers.{first_number, by_rule as by_rule_lem, all_numbers as all_numbers_lem, number_at};
 ghost use Rattle.std.specs.Option.{option_map};
@@ -38,13 +38,18 @@ fn cell(cells: &[u128], at: u128) -> u128
 
 // What a rule makes of the numbers that it reads.
 fn by_rule(rule: &Rule, nets: &[NetNumber]) -> Option<u128>
-    requires { RuleFits (rule_tree rule.now) }
     ensures { result ≡ by_rule_lem (rule_tree rule.now) nets.now }
 {
     match rule {
         Rule::Number(n) => Some(*n),
         Rule::Same => first_of(nets),
-        Rule::Driver(bits, value, memories) => value_of(nets, memories, *bits, value),
+        Rule::Driver(bits, value, memories) => {
+            if *bits <= 128 {
+                value_of(nets, memories, *bits, value)
+            } else {
+                None
+            }
+        }
         Rule::Cells(cells) => match first_of(nets) {
             Some(at) => Some(cell(cells, at)),
             None => None,
@@ -79,6 +84,7 @@ pub(crate) fn all_numbers(
     Ok(Some(nets))
 }
 
+#[tactic(auto, using(crate::proofs::Within::runs_number, crate::proofs::Within::number_found, crate::proofs::Within::number_unread, crate::proofs::Within::number_unknown))]
 /// The number of a net in a cycle, by at most some steps from net to net, and `None` where these are too few.
 #[cycle(net_number)]
 pub fn net_number(

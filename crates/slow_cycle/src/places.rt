@@ -73,11 +73,15 @@ pub(crate) fn module_at<'a>(
     }
 }
 
+#[tactic(auto, using(crate::proofs::Paths::empty_same))]
 fn same_path(a: &[Text], b: &[Text]) -> bool
     ensures { result ≡ same_path_lem a.now b.now }
 {
-    if a.is_empty() || b.is_empty() {
-        return a.is_empty() && b.is_empty();
+    if a.is_empty() {
+        return b.is_empty();
+    }
+    if b.is_empty() {
+        return false;
     }
     a[0].bytes() == b[0].bytes() && same_path(&a[1..], &b[1..])
 }

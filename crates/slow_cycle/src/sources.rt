@@ -81,7 +81,7 @@ fn driver<'a>(
     let scope = Scope::of_module(alloc, m)?;
     let (sort, bits) = scope.find(x);
     let reads = value_reads(alloc, &scope, value)?;
-    if is_read(sort) && bits <= 128 && are_read(&scope, &reads) && has_cells(memories, value) {
+    if is_read(sort) && are_read(&scope, &reads) && has_cells(memories, value) {
         let path = copy_path(alloc, path)?;
         Ok(Some(Source {
             path,

@@ -40,6 +40,7 @@ fn din_name(alloc: Global, label: &[u8]) -> Result<Vec<u8>, AllocError>
 }
 
 /// What a stream carries in this cycle: the number on its `din` where `wr` and `rdy` are 1, and nothing in cycle 0.
+#[tactic(auto, using(crate::proofs::Ascii::wr_ascii, crate::proofs::Ascii::rdy_ascii, crate::proofs::Ascii::din_ascii))]
 pub fn carries(
     alloc: Global,
     design: &Circuit,
@@ -69,6 +70,7 @@ pub fn carries(
 }
 
 /// Whether the design is done in this cycle.
+#[tactic(auto, unfolding(vlog_tree::specs::Labels::done), using(crate::proofs::Ascii::done_ascii))]
 pub fn is_done(
     alloc: Global,
     design: &Circuit,
