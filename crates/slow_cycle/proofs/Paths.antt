@@ -34,3 +34,8 @@ pub empty_same : (a b : Path) → length a ≡ 0 → (length b == 0) ≡ same_pa
 empty_same [] [] h = refl
 empty_same [] (y ∷ ys) h = grind (arith, nat_tests)
 empty_same (x ∷ xs) b h = absurd (omega arith)
+
+pub none_same : (a b : Path) → (length a ≡ 0 → ⊥) → length b ≡ 0 → false ≡ same_path a b
+none_same [] b h e = absurd (h refl)
+none_same (x ∷ xs) [] h e = refl
+none_same (x ∷ xs) (y ∷ ys) h e = absurd (omega arith)

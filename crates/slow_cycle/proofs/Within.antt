@@ -195,3 +195,6 @@ module _ (c : Circuit) (now : Moment) (d : ℕ) (path : Path) (x : Name) (some :
     pub number_found : (ns : List NetNumber) (o : Option ℕ) → Some ns ≡ all_numbers (number_at c now (d - 1) s.path) s.reads → o ≡ by_rule s.rule ns → o ≡ number_at c now d path x
     unfolding rest_of
     number_found ns o h e = e ∙ ap (λ o. and_then o (by_rule s.rule)) h ∙ ap (λ o. and_then o (rest_of (d - 1))) is ∙ sym (at_step (d - 1) one_less)
+
+pub number_zero : (c : Circuit) (now : Moment) (d : ℕ) (path : Path) (x : Name) → d ≡ 0 → None ≡ number_at c now d path x
+number_zero c now d path x e = ap (λ j. number_at c now j path x) (sym e)

@@ -84,7 +84,7 @@ pub(crate) fn all_numbers(
     Ok(Some(nets))
 }
 
-#[tactic(auto, using(crate::proofs::Within::runs_number, crate::proofs::Within::number_found, crate::proofs::Within::number_unread, crate::proofs::Within::number_unknown))]
+#[tactic(auto, using(crate::proofs::Within::runs_number, crate::proofs::Within::number_found, crate::proofs::Within::number_unread, crate::proofs::Within::number_unknown, crate::proofs::Within::number_zero))]
 /// The number of a net in a cycle, by at most some steps from net to net, and `None` where these are too few.
 #[cycle(net_number)]
 pub fn net_number(

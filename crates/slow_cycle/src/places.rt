@@ -73,7 +73,7 @@ pub(crate) fn module_at<'a>(
     }
 }
 
-#[tactic(auto, using(crate::proofs::Paths::empty_same))]
+#[tactic(auto, using(crate::proofs::Paths::empty_same, crate::proofs::Paths::none_same))]
 fn same_path(a: &[Text], b: &[Text]) -> bool
     ensures { result ≡ same_path_lem a.now b.now }
 {
