@@ -1,11 +1,11 @@
 -- What a write leaves is what the definition leaves.
 use Rattle.std.proofs.lemmas.Bool.{ltb-true}
 use Rattle.std.proofs.lemmas.Bool.Decides.{nat_tests}
-use Rattle.std.proofs.Common.{◌≡◌, ℕ, suc, ◌<◌, ◌≢◌, Bool, true, false, cond, ◌&&◌, List, [], ◌∷◌, ◌++◌, length, get_or, drop, take, map, set, get_or-set_other, get_or-set_same, ◌+◌, add-one, refl, sym, ap, subst, ◌∙◌, arith}
+use Rattle.std.proofs.Common.{◌≡◌, ℕ, ◌<◌, ◌≢◌, Bool, true, false, cond, ◌&&◌, List, [], ◌∷◌, ◌++◌, length, get_or, take, map, set, get_or-set_other, get_or-set_same, ◌+◌, add-one, refl, sym, ap, subst, ◌∙◌, arith}
 use Rattle.std.proofs.Math.ListN.{length-set}
 use Rattle.std.proofs.Math.Seq.{take-suc}
-use Rattle.std.specs.Prelude.{◌==◌, bytes_eq, nat_lt, if◌then◌else◌}
-use Rattle.std.specs.List.{AllByRecursion, list_all}
+use Rattle.std.specs.Prelude.{◌==◌, bytes_eq, nat_lt}
+use Rattle.std.specs.List.{AllByRecursion}
 use Rattle.std.specs.Cmp.Lexicographic.{bytes_decides}
 use Rattle.vlog_tree.specs.Cycle.{Name, Cycle, Sizes, put, store}
 use Rattle.vlog_tree.specs.Environment.{AllTwo}
@@ -71,7 +71,7 @@ module _ (s : Sizes) (m : Name) (a v : ℕ) (c : Cycle) where
   shapes_store (k ∷ ks) [] i = absurd i
   shapes_store (k ∷ ks) (j ∷ js) i =
       let e : memory_shape j ≡ memory_shape k =
-          ap (λ z. (z, length j.cells.items)) i.0.0 ∙ ap (λ z. (k.name, length z)) i.0.1 ∙ ap (λ n. (k.name, n)) (same_length (bytes_eq k.name m && nat_lt a (length k.cells.items)) k.cells.items) in
+      ap (λ z. (z, length j.cells.items)) i.0.0 ∙ ap (λ z. (k.name, length z)) i.0.1 ∙ ap (λ n. (k.name, n)) (same_length (bytes_eq k.name m && nat_lt a (length k.cells.items)) k.cells.items) in
       ap (λ z. z ∷ map memory_shape js) e ∙ ap (λ z. memory_shape k ∷ z) (shapes_store ks js i.1)
 
 -- lists that fit each other, each with one more

@@ -6,4 +6,5 @@ pub mod Sound
 pub mod Within
 pub mod Carried
 pub mod Leaves
+pub mod Turns
 pub mod Later

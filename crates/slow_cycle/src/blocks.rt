@@ -151,7 +151,7 @@ fn are_on(on: &[bool]) -> bool
 // is closed that is not open.
 #[tactic(auto, using(vlog_tree::proofs::Nesting::reverse_push))]
 fn turn(nets: &[NetNumber], on: &mut Vec<bool>, step: &Step) -> Result<bool, AllocError>
-    ensures { (s : Sizes) (old : Cycle) (rest : List StepTree) (next : Cycle) → ReadsAre nets.now old (step_nets step.now) → IfOk result (λ fits. run_steps_lem s old (reverse on.old.items) (step.now ∷ rest) next ≡ (if fits then run_steps_lem s old (reverse on.new.items) rest (step_next s old (reverse on.old.items) step.now next) else next)) }
+    ensures { (s : Sizes) (old : Cycle) (rest : List StepTree) (next : Cycle) → ReadsAre nets.now old (step_nets step.now) → IfOk result (λ fits. run_steps_lem s old (reverse on.old.items) (step.now ∷ rest) next ≡ (if fits then run_steps_lem s old (reverse on.new.items) rest (step_next s old (reverse on.old.items) step.now next) else step_next s old (reverse on.old.items) step.now next)) }
 {
     match step {
         Step::If(c) => {
@@ -172,12 +172,7 @@ fn turn(nets: &[NetNumber], on: &mut Vec<bool>, step: &Step) -> Result<bool, All
 }
 
 // The write of a step that runs.
-fn write(
-    alloc: Global,
-    nets: &[NetNumber],
-    step: &Step,
-    after: &mut Held,
-) -> Result<(), AllocError>
+fn write(alloc: Global, nets: &[NetNumber], step: &Step, after: &mut Held) -> Result<(), AllocError>
     ensures value { OnOk result ((s : Sizes) (old : Cycle) (next : Cycle) → ReadsAre nets.now old (step_nets step.now) → Fits s after.old → Shows after.old next → Shows after.new (step_next s old [] step.now next)) }
     ensures alike { OnOk result (IsAlike after.old after.new) }
 {
