@@ -15,6 +15,16 @@ pub(crate) enum Part {
     Number(u32, u128),
 }
 
+/// A step of a block.
+#[derive(Clone, Copy)]
+pub(crate) enum Do {
+    If(&'static str),
+    Else,
+    End,
+    Set(&'static str, Part),
+    Store(&'static str, &'static str, Part),
+}
+
 /// A line of a module. `Op` has the net `e` on its left, `Join` has two parts, `Set` and `Test` are blocks of one step.
 #[derive(Clone, Copy)]
 pub(crate) enum Line {
@@ -23,11 +33,15 @@ pub(crate) enum Line {
     Memory(u32, &'static str, u32),
     Plain(&'static str, Part),
     Op(&'static str, BinaryOp, Part),
+    Two(&'static str, &'static str, BinaryOp, Part),
+    Not(&'static str, &'static str),
+    Choose(&'static str, &'static str, &'static str, &'static str),
     Copies(&'static str, u32, Part),
     Join(&'static str, Part, Part),
     Cell(&'static str, &'static str, &'static str),
     Set(&'static str, Part),
     Test(&'static str),
+    Block(&'static [Do]),
     Child(&'static str, &'static str, &'static [(&'static str, &'static str)]),
 }
 
@@ -69,10 +83,28 @@ fn plain(alloc: Global, name: &str, part: Part) -> Result<Item, AllocError> {
     assign(alloc, name, Value::Plain(a))
 }
 
-fn binary(alloc: Global, name: &str, op: BinaryOp, part: Part) -> Result<Item, AllocError> {
-    let a = net(alloc, "e")?;
+fn binary(
+    alloc: Global,
+    name: &str,
+    left: &str,
+    op: BinaryOp,
+    part: Part,
+) -> Result<Item, AllocError> {
+    let a = net(alloc, left)?;
     let b = atom(alloc, part)?;
     assign(alloc, name, Value::Binary(a, op, b))
+}
+
+fn invert(alloc: Global, name: &str, of: &str) -> Result<Item, AllocError> {
+    let a = net(alloc, of)?;
+    assign(alloc, name, Value::Invert(a))
+}
+
+fn choose(alloc: Global, name: &str, test: &str, yes: &str, no: &str) -> Result<Item, AllocError> {
+    let c = net(alloc, test)?;
+    let a = net(alloc, yes)?;
+    let b = net(alloc, no)?;
+    assign(alloc, name, Value::Choose(c, a, b))
 }
 
 fn copies(alloc: Global, name: &str, times: u32, part: Part) -> Result<Item, AllocError> {
@@ -104,6 +136,37 @@ fn test(alloc: Global, name: &str) -> Result<Item, AllocError> {
     let mut steps = Vec::new(alloc);
     steps.push(Step::If(text(alloc, name)?))?;
     steps.push(Step::End)?;
+    Ok(Item::Always(Block::of(steps)))
+}
+
+fn store(alloc: Global, memory: &str, place: &str, part: Part) -> Result<Step, AllocError> {
+    let m = text(alloc, memory)?;
+    let x = text(alloc, place)?;
+    let a = atom(alloc, part)?;
+    Ok(Step::MemoryAssign(m, x, a))
+}
+
+fn put(alloc: Global, name: &str, part: Part) -> Result<Step, AllocError> {
+    let x = text(alloc, name)?;
+    let a = atom(alloc, part)?;
+    Ok(Step::NonblockingAssign(x, a))
+}
+
+fn step(alloc: Global, one: Do) -> Result<Step, AllocError> {
+    match one {
+        Do::If(c) => Ok(Step::If(text(alloc, c)?)),
+        Do::Else => Ok(Step::Else),
+        Do::End => Ok(Step::End),
+        Do::Set(x, part) => put(alloc, x, part),
+        Do::Store(m, x, part) => store(alloc, m, x, part),
+    }
+}
+
+fn block(alloc: Global, all: &[Do]) -> Result<Item, AllocError> {
+    let mut steps = Vec::new(alloc);
+    for one in all {
+        steps.push(step(alloc, *one)?)?;
+    }
     Ok(Item::Always(Block::of(steps)))
 }
 
@@ -140,12 +203,16 @@ fn item(alloc: Global, line: Line) -> Result<Item, AllocError> {
         Line::Reg(bits, x) => reg(alloc, bits, x),
         Line::Memory(bits, x, cells) => memory(alloc, bits, x, cells),
         Line::Plain(x, a) => plain(alloc, x, a),
-        Line::Op(x, op, b) => binary(alloc, x, op, b),
+        Line::Op(x, op, b) => binary(alloc, x, "e", op, b),
+        Line::Two(x, a, op, b) => binary(alloc, x, a, op, b),
+        Line::Not(x, a) => invert(alloc, x, a),
+        Line::Choose(x, c, a, b) => choose(alloc, x, c, a, b),
         Line::Copies(x, times, a) => copies(alloc, x, times, a),
         Line::Join(x, a, b) => join(alloc, x, a, b),
         Line::Cell(x, m, y) => cell(alloc, x, m, y),
         Line::Set(x, a) => set(alloc, x, a),
         Line::Test(x) => test(alloc, x),
+        Line::Block(steps) => block(alloc, steps),
         Line::Child(m, i, pairs) => child(alloc, m, i, pairs),
     }
 }

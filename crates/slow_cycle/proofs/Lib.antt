@@ -1,0 +1,10 @@
+pub mod Options
+pub mod Paths
+pub mod Ascii
+pub mod Gathered
+pub mod Sound
+pub mod Within
+pub mod Carried
+pub mod Leaves
+pub mod Turns
+pub mod Later

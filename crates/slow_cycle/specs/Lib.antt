@@ -1,0 +1,4 @@
+pub mod Sources
+pub mod Numbers
+pub mod Next
+pub mod Moments
