@@ -7,3 +7,5 @@ pub mod Within
 pub mod Carried
 pub mod Leaves
 pub mod Later
+pub mod Copied
+pub mod Listed
