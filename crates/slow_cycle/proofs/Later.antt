@@ -1,5 +1,5 @@
 -- What an instance holds in the next cycle of a run.
-use Rattle.std.proofs.Common.{◌≡◌, ℕ, suc, ◌<◌, Bool, true, false, cond, List, [], ◌∷◌, Option, Some, None, length, get_or, map, ◌+◌, add-one, refl, sym, ap, subst, ◌∙◌}
+use Rattle.std.proofs.Common.{◌≡◌, ℕ, suc, ◌<◌, List, [], ◌∷◌, Option, Some, length, map, ◌+◌, add-one, sym, ap, subst, ◌∙◌}
 use Rattle.std.specs.List.{AllByRecursion, flat_map}
 use Rattle.vlog_tree.specs.declared.tree.Item.{Item}
 use Rattle.vlog_tree.specs.declared.tree.Item.TheVariants.{Reg, Memory}
@@ -16,7 +16,7 @@ use Rattle.slow_cycle.specs.declared.moment.Circuit.{Circuit}
 use Rattle.slow_cycle.specs.declared.moment.OutsideMemory.{OutsideMemory}
 use Rattle.slow_cycle.specs.declared.moment.Held.{Held}
 use Rattle.slow_cycle.specs.declared.moment.Moment.{Moment}
-use Rattle.slow_cycle.specs.Sources.{net_read, at_label}
+use Rattle.slow_cycle.specs.Sources.{at_label}
 use Rattle.slow_cycle.specs.Numbers.{all_numbers, net_within}
 use Rattle.slow_cycle.specs.Moments.{RegisterIs, MemoryIs, HeldIs, OutsideIs, IsAt, InRuns}
 use Rattle.slow_cycle.specs.Next.{stored_cells, IsAfterStore, item_nets, reads_of, ReadsAre, Fits, ShowsNet, ShowsCells, Shows, IsAlike, net_shape, memory_shape}
@@ -79,7 +79,7 @@ module _ (ms : List ModuleTree) (top : ModuleTree) (env : Environment) (nets : �
       let s = follows.sizes in
       let after = run_items s c m.items c in
       let read : ReadsAre ns c (flat_map item_nets m.items) =
-          (λ z q. sym (read_found c (declared m) (flat_map item_nets m.items) ns (numbers_read c (found depth path) (λ y v f. number_is ms top env nets now r at depth path y v f) (reads_of m) ns e) z q).0) in
+      (λ z q. sym (read_found c (declared m) (flat_map item_nets m.items) ns (numbers_read c (found depth path) (λ y v f. number_is ms top env nets now r at depth path y v f) (reads_of m) ns e) z q).0) in
       let shown : Shows k after = leaves s c c read (sizes_fit m.items c d after s (follows.lines now.cycle) h.memories.items memories) (shows_registers m.items c d after h.nets.items registers, shows_memories m.items c d after h.memories.items memories) in
       let takes = follows.registers now.cycle in
       let takes_net : (w : ℕ) (x : Name) → Has m.items (Reg w x) → d.net x ≡ after.net x = (λ w x q. all_at (Takes s m.items c d) m.items (Reg w x) takes q) in

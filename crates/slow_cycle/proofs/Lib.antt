@@ -8,3 +8,5 @@ pub mod Carried
 pub mod Leaves
 pub mod Turns
 pub mod Later
+pub mod Copied
+pub mod Listed

@@ -181,7 +181,6 @@ fn all_outside_after(
     Ok(Some(out))
 }
 
-#[tactic(auto, using(crate::proofs::Later::at_next))]
 /// The next cycle, where each net that is read for it has its number by at most some steps.
 pub fn next(
     alloc: Global,

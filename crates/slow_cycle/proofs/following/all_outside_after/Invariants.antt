@@ -8,5 +8,5 @@ use Rattle.slow_cycle.proofs.following.all_outside_after.Given as goal
 abbrev pub invariant-loop-m : goal.invariant-loop-m
 invariant-loop-m l = record {
   known : list_all (outside_known l.design l.now l.depth) l.now.outside.items ≡ list_all (outside_known l.design l.now l.depth) (drop l.m-index l.now.outside.items);
-  value : InRuns l.design l.now (λ env nets. AllTwo (IsAfterStore (nets l.now.cycle [])) (take l.m-index l.now.outside.items) l.out.items)
+  value : InRuns l.design l.now (λ env nets. AllTwo (IsAfterStore (nets l.now.cycle [])) (take l.m-index l.now.outside.items) l.out.items);
 }
