@@ -284,8 +284,8 @@ module _ (nets : Path → Cycle) (path : Path) (x : Name) (m : ModuleTree) (s : 
       let width : s.width x ≡ bits_of (declared m) x = width_held m s (nets path) ports lines x sort_is_read refl refl two.0 in
       let found : (z : Name) → Has (value_nets e) z → (net_in ns z ≡ (nets path).net z) × (bits_in ns z ≡ bits_of (declared m) z) = read_found (nets path) (declared m) (value_nets e) ns a in
       let same : driven s (s.width x) (nets path) e ≡ driven (sizes_of ns memories) (bits_of (declared m) x) (cycle_of ns memories) e =
-          driven_same (nets path) (cycle_of ns memories) s (sizes_of ns memories) (s.width x) (bits_of (declared m) x) e width
-          (λ z k. sym (found z k).0)
-          (λ z k. width_held m s (nets path) ports lines z sort_is_read refl refl (names_read (declared m) (value_nets e) two.1 z k) ∙ sym (found z k).1)
-          (reads_alike m.items s (nets path) lines memories held ns e one.1) in
+      driven_same (nets path) (cycle_of ns memories) s (sizes_of ns memories) (s.width x) (bits_of (declared m) x) e width
+      (λ z k. sym (found z k).0)
+      (λ z k. width_held m s (nets path) ports lines z sort_is_read refl refl (names_read (declared m) (value_nets e) two.1 z k) ∙ sym (found z k).1)
+      (reads_alike m.items s (nets path) lines memories held ns e one.1) in
       line ∙ same ∙ sym (is_fit (driven (sizes_of ns memories) (bits_of (declared m) x) (cycle_of ns memories) e) v (sym (checked (nat_le (bits_of (declared m) x) 128) (fitting (driven (sizes_of ns memories) (bits_of (declared m) x) (cycle_of ns memories) e)) v is)))

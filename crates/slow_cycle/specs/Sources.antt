@@ -197,6 +197,6 @@ register_source (Some r) others = Some (given_number r.number)
 abbrev pub source_of : List ModuleTree → ModuleTree → Moment → Path → Name → Option SourceTree
 source_of ms top now path x =
     and_then (held_at now.held.items path) (λ h. and_then (module_at ms top path) (λ m.
-        register_source (first_net h.nets.items x)
-        (line_source (declared m) path h.memories.items x (assigned m.items x)
-        (output_source path (output_of ms m.items x) (outer_source ms top now path x)))))
+    register_source (first_net h.nets.items x)
+    (line_source (declared m) path h.memories.items x (assigned m.items x)
+    (output_source path (output_of ms m.items x) (outer_source ms top now path x)))))

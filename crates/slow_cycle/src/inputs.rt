@@ -65,11 +65,7 @@ fn memory_of<'a>(memories: &'a [OutsideMemory], label: &[u8]) -> Option<&'a Outs
 }
 
 #[tactic(auto, using(crate::proofs::Ascii::addr_ascii))]
-fn rdata<'a>(
-    alloc: Global,
-    now: &'a Moment,
-    x: &Text,
-) -> Result<Option<Source<'a>>, AllocError>
+fn rdata<'a>(alloc: Global, now: &'a Moment, x: &Text) -> Result<Option<Source<'a>>, AllocError>
     ensures { IfOk result (λ o. option_map source_tree o ≡ rdata_source now.now.outside.items (rdata_lem x.now)) }
 {
     let Some(label) = rdata_of(x) else {
@@ -89,11 +85,7 @@ fn rdata<'a>(
     }
 }
 
-fn ack<'a>(
-    alloc: Global,
-    now: &'a Moment,
-    x: &Text,
-) -> Result<Option<Source<'a>>, AllocError>
+fn ack<'a>(alloc: Global, now: &'a Moment, x: &Text) -> Result<Option<Source<'a>>, AllocError>
     ensures { IfOk result (λ o. option_map source_tree o ≡ ack_source now.now.cycle now.now.outside.items (ack_lem x.now) (rdata_source now.now.outside.items (rdata_lem x.now))) }
 {
     let Some(label) = ack_of(x) else {
@@ -105,11 +97,7 @@ fn ack<'a>(
     }
 }
 
-fn scalar<'a>(
-    alloc: Global,
-    now: &'a Moment,
-    x: &Text,
-) -> Result<Option<Source<'a>>, AllocError>
+fn scalar<'a>(alloc: Global, now: &'a Moment, x: &Text) -> Result<Option<Source<'a>>, AllocError>
     ensures { IfOk result (λ o. option_map source_tree o ≡ scalar_source now.now.scalars.items (scalar_lem x.now) (ack_source now.now.cycle now.now.outside.items (ack_lem x.now) (rdata_source now.now.outside.items (rdata_lem x.now)))) }
 {
     let Some(label) = scalar_of(x) else {

@@ -12,7 +12,7 @@ mod places;
 mod sources;
 mod streams;
 
-pub use moment::{Circuit, Held, Moment, OutsideMemory};
 pub use following::next;
+pub use moment::{Circuit, Held, Moment, OutsideMemory};
 pub use numbers::net_number;
 pub use streams::{carries, is_done};

@@ -104,7 +104,14 @@ pub fn net_number(
     let Some(source) = source_of(alloc, &*design, &*now, &*path, &*name)? else {
         return Ok(None);
     };
-    match all_numbers(alloc, &*design, &*now, &source.path, &source.reads, depth - 1)? {
+    match all_numbers(
+        alloc,
+        &*design,
+        &*now,
+        &source.path,
+        &source.reads,
+        depth - 1,
+    )? {
         Some(nets) => Ok(by_rule(&source.rule, &nets)),
         None => Ok(None),
     }

@@ -319,7 +319,11 @@ fn power_up(alloc: Global, a: u128) -> Result<Moment, AllocError> {
     let mut all = Vec::new(alloc);
     all.push(held(alloc, "", &[])?)?;
     all.push(held(alloc, "reader", &[(8, "i", 7)])?)?;
-    let mut fifo = held(alloc, "fifo", &[(1, "head", 1), (1, "tail", 0), (2, "count", 3)])?;
+    let mut fifo = held(
+        alloc,
+        "fifo",
+        &[(1, "head", 1), (1, "tail", 0), (2, "count", 3)],
+    )?;
     let name = text(alloc, "q")?;
     let cells = [300, 301].to_vec(alloc)?;
     fifo.memories.push(MemoryCells { name, cells })?;
@@ -352,7 +356,11 @@ const ROWS: &[Row] = &[
     ("", "m_M_addr", [7, 0, 1, 1, 2, 3, 3, 4, 4, 4, 1, 1, 4]),
     ("", "m_M_rdata", [0, 5, 7, 7, 200, 9, 9, 1, 1, 1, 7, 7, 1]),
     ("", "m_M_we", [0, 0, 0, 0, 0, 0, 0, 0, 0, 0, 1, 1, 0]),
-    ("", "m_M_wdata", [99, 0, 0, 0, 5, 5, 12, 12, 212, 212, 221, 221, 221]),
+    (
+        "",
+        "m_M_wdata",
+        [99, 0, 0, 0, 5, 5, 12, 12, 212, 212, 221, 221, 221],
+    ),
     ("", "s_X_din", [0, 5, 7, 7, 200, 9, 9, 1, 1, 1, 7, 7, 1]),
     ("", "s_X_wr", [0, 1, 0, 1, 1, 1, 1, 0, 0, 0, 0, 0, 0]),
     ("", "s_X_rdy", [0, 1, 1, 1, 1, 0, 1, 0, 1, 1, 1, 1, 1]),
@@ -362,12 +370,20 @@ const ROWS: &[Row] = &[
     ("reader", "fire", [0, 1, 0, 1, 1, 0, 1, 0, 0, 0, 0, 0, 0]),
     ("fifo", "count", [3, 0, 1, 1, 1, 2, 1, 2, 1, 1, 0, 0, 0]),
     ("fifo", "head", [1, 0, 0, 0, 1, 1, 0, 0, 1, 1, 0, 0, 0]),
-    ("fifo", "dout", [301, 300, 5, 5, 7, 7, 200, 200, 9, 9, 200, 200, 200]),
+    (
+        "fifo",
+        "dout",
+        [301, 300, 5, 5, 7, 7, 200, 200, 9, 9, 200, 200, 200],
+    ),
     ("fifo", "wr", [0, 1, 0, 1, 1, 1, 1, 0, 0, 0, 0, 0, 0]),
     ("adder", "take", [0, 1, 0, 1, 0, 1, 0, 1, 0, 1, 0, 0, 0]),
     ("adder", "slow", [1, 0, 1, 0, 1, 0, 1, 0, 1, 0, 1, 0, 1]),
     ("adder", "k", [1, 0, 0, 0, 1, 1, 2, 2, 3, 3, 4, 4, 4]),
-    ("adder", "sum", [99, 0, 0, 0, 5, 5, 12, 12, 212, 212, 221, 221, 221]),
+    (
+        "adder",
+        "sum",
+        [99, 0, 0, 0, 5, 5, 12, 12, 212, 212, 221, 221, 221],
+    ),
 ];
 
 // Whether each row has its number.
@@ -414,12 +430,7 @@ fn run(alloc: Global, a: u128, rows: bool) -> Result<(Vec<u128>, Moment), Fail> 
     Ok((tokens, now))
 }
 
-fn ends(
-    rt: &impl Abort,
-    tokens: &[u128],
-    now: &Moment,
-    cells: &[u128],
-) {
+fn ends(rt: &impl Abort, tokens: &[u128], now: &Moment, cells: &[u128]) {
     assert_eq!(rt; now.cycle, 12);
     assert_eq!(rt; tokens, [5, 7, 200, 9].as_slice());
     assert_eq!(rt; now.outside.len(), 1);
