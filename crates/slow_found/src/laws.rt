@@ -1,0 +1,21 @@
+// A law on the numbers that are computed for a design's cycle.
+
+ghost use Rattle.std.specs.Prelude.{◌≡◌, ℕ, List, Some, false, slice_get, IsTrue};
+ghost use Rattle.vlog_tree.specs.Form.{ModuleTree};
+ghost use Rattle.vlog_tree.specs.Refused.{IsDesign};
+ghost use Rattle.vlog_tree.specs.Table.{Name, is_clk, declared, sort_of, sort_is_read};
+ghost use Rattle.vlog_tree.specs.Cycle.{Cycle, Path, module_at};
+ghost use Rattle.vlog_tree.specs.Environment.{Environment, FitsShape, RunsIn, shape_of};
+ghost use Rattle.slow_cycle.specs.declared.moment.Moment.{Moment};
+ghost use Rattle.slow_cycle.specs.Numbers.{net_within};
+ghost use Rattle.slow_cycle.specs.Moments.{IsAt};
+ghost use Rattle.slow_found.specs.Whole.{IsWhole};
+
+/// In a design, at a moment that leaves out nothing of what is held and of what stands around it, enough steps give each
+/// net its number: the one that it has in every run at that moment. The clock's is left out, since no line reads it.
+pub fn law_each_net_is_found()
+    ensures { (ms : List ModuleTree) (top : ℕ) (m : ModuleTree) (env : Environment) (nets : ℕ → Path → Cycle) (now : Moment)
+        → IsDesign ms top → slice_get ms top ≡ Some m → FitsShape env (shape_of m) → RunsIn ms m env nets → IsAt ms m env nets now → IsWhole ms m now
+        → (path : Path) (k : ModuleTree) (x : Name) → module_at ms m path ≡ Some k → IsTrue (sort_is_read (sort_of (declared k) x)) → is_clk x ≡ false
+        → (d : ℕ) × (net_within ms m now d path x ≡ Some ((nets now.cycle path).net x)) }
+{}
