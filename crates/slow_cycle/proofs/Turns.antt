@@ -14,7 +14,7 @@ use Rattle.vlog_tree.specs.Environment.{AllTwo}
 use Rattle.vlog_tree.specs.Loops.{atom_nets}
 use Rattle.vlog_tree.specs.Cycle.{Name, Cycle, Sizes, atom_value, put, store, run_steps, run_items}
 use Rattle.vlog_tree.proofs.Walks.{opened, over}
-use Rattle.vlog_feedback.proofs.Lists.{has_flat, has_index}
+use Rattle.vlog_feedback.proofs.Lists.{has_flat, has_got, got_index}
 use Rattle.vlog_runs.proofs.Values.{atom_same}
 use Rattle.vlog_slow.specs.declared.numbers.NetNumber.{NetNumber}
 use Rattle.vlog_slow.specs.declared.numbers.MemoryCells.{MemoryCells}
@@ -46,7 +46,7 @@ alike_twice h k l a b = record { path = b.path ∙ a.path; nets = b.nets ∙ a.n
 
 -- what a list reads has the numbers of a cycle, and so what one of it reads
 pub reads_one : {A : Type 0} (nets : List NetNumber) (old : Cycle) (f : A → List Name) (xs : List A) (i : ℕ) (x : A) → i < length xs → x ≡ get_or xs i x → ReadsAre nets old (flat_map f xs) → ReadsAre nets old (f x)
-reads_one nets old f xs i x low is reads = λ z h. reads z (has_flat f xs x z (has_index xs i x low is) h)
+reads_one nets old f xs i x low is reads = λ z h. reads z (has_flat f xs x z (has_got xs i x (got_index xs i x low is)) h)
 
 one_more : (b t : Bool) → ((b && true) && t) ≡ (b && t)
 one_more true t = refl
