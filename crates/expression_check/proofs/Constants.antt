@@ -19,12 +19,12 @@ use Rattle.expression_check.specs.declared.constant.Constant.{Constant}
 use Rattle.expression_check.specs.Constants.{made, prefixed, binary, chosen}
 use Rattle.expression_check.specs.Expressions.{as_kind, operated, constant_faults, divides, divisor_faults, is_constant_name, prefix_kind, prefix_value, binary_kind, binary_value, arm_kind, constant_value, constant_of, is_constant, kind_of, value_of}
 use Rattle.expression_check.specs.Kinds.{same_kind}
-use Rattle.expression_check.specs.declared.fault.Broken.{Broken}
-use Rattle.expression_check.specs.declared.sort.Sort.{Sort}
-use Rattle.expression_check.specs.declared.sort.Sort.TheVariants as sort
-use Rattle.expression_check.specs.Faults.{wrong_sort}
-use Rattle.expression_check.specs.Scopes.{Scope, sort_of}
-use Rattle.expression_check.specs.Scopes as scope
+use Rattle.scope_check.specs.declared.fault.Broken.{Broken}
+use Rattle.scope_check.specs.declared.sort.Sort.{Sort}
+use Rattle.scope_check.specs.declared.sort.Sort.TheVariants as sort
+use Rattle.scope_check.specs.Faults.{wrong_sort}
+use Rattle.scope_check.specs.Scopes.{Scope, sort_of}
+use Rattle.scope_check.specs.Scopes as scope
 
 if_value : (b : Bool) (j k : Kind) (e : FlatExpression) → constant_value (if b then literal j (constant_value e) else convert j k (literal j (constant_value e))) ≡ constant_value (if b then e else convert j k e)
 if_value true j k e = refl

@@ -1,5 +1,3 @@
 pub mod Constants
-pub mod Order
 pub mod Rows
-pub mod Scopes
 pub mod Values

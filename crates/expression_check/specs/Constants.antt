@@ -7,10 +7,10 @@ use Rattle.tapa_syntax.specs.declared.tree.PrefixOperator.{PrefixOperator}
 use Rattle.tapa_syntax.specs.declared.tree.BinaryOperator.{BinaryOperator}
 use Rattle.tapa_syntax.specs.Trees.{ExpressionTree}
 use Rattle.tapa_syntax.specs.Flat.{FlatExpression, literal, choice}
-use Rattle.expression_check.specs.declared.sort.Sort.{Sort}
-use Rattle.expression_check.specs.declared.sort.Sort.TheVariants as sort
+use Rattle.scope_check.specs.declared.sort.Sort.{Sort}
+use Rattle.scope_check.specs.declared.sort.Sort.TheVariants as sort
 use Rattle.expression_check.specs.declared.constant.Constant.{Constant}
-use Rattle.expression_check.specs.Scopes.{Scope}
+use Rattle.scope_check.specs.Scopes.{Scope}
 use Rattle.expression_check.specs.Expressions.{kind_of, value_of, as_kind, prefix_kind, binary_kind, arm_kind, prefix_value, binary_value, constant_value}
 
 abbrev pub IsWithin : Constant → Type 0

@@ -3,9 +3,9 @@ use Rattle.std.specs.Prelude.{ℕ, ◌%◌, List, [], ◌++◌, not, ◌&&◌, n
 use Rattle.tapa_base.specs.Kinds.{number, values_of}
 use Rattle.tapa_syntax.specs.Trees as tree
 use Rattle.tapa_syntax.specs.Trees.{CountForm, CountTree}
-use Rattle.expression_check.specs.Scopes.{Scope, sort_of, is_constant, kind_of_sort}
-use Rattle.expression_check.specs.declared.fault.Broken.{Broken}
-use Rattle.expression_check.specs.Faults.{where_so, over, name_faults}
+use Rattle.scope_check.specs.Scopes.{Scope, sort_of, is_constant, kind_of_sort}
+use Rattle.scope_check.specs.declared.fault.Broken.{Broken}
+use Rattle.scope_check.specs.Faults.{where_so, over, name_faults}
 use Rattle.expression_check.specs.Expressions.{kind_of, value_of, named_value, constant_value, constant_faults}
 
 abbrev pub form_faults : Scope → CountForm → List Broken

@@ -16,16 +16,16 @@ use Rattle.tapa_syntax.specs.declared.tree.BinaryOperator.TheVariants.{Value, Lo
 use Rattle.tapa_syntax.specs.Trees as tree
 use Rattle.tapa_syntax.specs.Trees.{ExpressionTree, Expressions}
 use Rattle.tapa_syntax.specs.Flat.{FlatExpression, flat_expression, literal, variable, cell, read, peek, is_end, load, convert, apply, flip, negation, conjunction, disjunction, choice}
-use Rattle.expression_check.specs.declared.fault.CheckCode.TheVariants.{C3, C6, C8, C9}
-use Rattle.expression_check.specs.declared.sort.Sort.{Sort}
-use Rattle.expression_check.specs.declared.sort.Sort.TheVariants as sort
-use Rattle.expression_check.specs.Scopes.{Scope, sort_of, kind_of_sort, number_of, is_scalar, is_memory, has_cells, is_stream}
-use Rattle.expression_check.specs.Scopes as scope
-use Rattle.expression_check.specs.declared.fault.Broken.{Broken}
+use Rattle.scope_check.specs.declared.fault.CheckCode.TheVariants.{C3, C6, C8, C9}
+use Rattle.scope_check.specs.declared.sort.Sort.{Sort}
+use Rattle.scope_check.specs.declared.sort.Sort.TheVariants as sort
+use Rattle.scope_check.specs.Scopes.{Scope, sort_of, kind_of_sort, number_of, is_scalar, is_memory, has_cells, is_stream}
+use Rattle.scope_check.specs.Scopes as scope
+use Rattle.scope_check.specs.declared.fault.Broken.{Broken}
 use Rattle.expression_check.specs.declared.typed.Typed.{Typed}
 use Rattle.expression_check.specs.declared.constant.Constant.{Constant}
 use Rattle.expression_check.specs.Kinds.{same_kind}
-use Rattle.expression_check.specs.Faults.{fault, where_so, wrong_sort, name_faults}
+use Rattle.scope_check.specs.Faults.{fault, where_so, wrong_sort, name_faults}
 
 -- ---- methods of streams (TAPA: istream and ostream)
 

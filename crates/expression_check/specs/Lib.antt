@@ -1,9 +1,5 @@
 pub mod Kinds
-pub mod Scopes
-pub mod Faults
-pub mod Answers
 pub mod Expressions
 pub mod Counts
-pub mod Roles
 pub mod Constants
 pub mod Methods

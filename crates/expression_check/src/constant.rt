@@ -5,18 +5,16 @@ ghost use Rattle.tapa_base.specs.Operators.{bit};
 ghost use Rattle.tapa_syntax.specs.declared.tree.BinaryOperator.TheVariants.{LogicalAnd, LogicalOr};
 ghost use Rattle.tapa_syntax.specs.Trees as tree;
 ghost use Rattle.tapa_syntax.specs.Typed as flat;
-ghost use Rattle.expression_check.specs.Answers.{Answers};
+ghost use Rattle.scope_check.specs.Answers.{Answers};
 ghost use Rattle.expression_check.specs.Constants as spec;
 ghost use Rattle.expression_check.specs.Constants.{IsWithin};
 ghost use Rattle.expression_check.specs.Expressions as meaning;
 ghost use Rattle.expression_check.specs.Expressions.{constant_value};
-ghost use Rattle.expression_check.specs.Scopes.{IsSound, sort_of};
+ghost use Rattle.scope_check.specs.Scopes.{IsSound, sort_of};
 
-use crate::fault::{CheckCode, CheckFault, refused};
 use crate::kinds::{arm_kind, greatest, low_bits, operated_kind, right_kind, same_kind};
-use crate::scope::Scope;
-use crate::sort::Sort;
 use crate::typed::{binary_kind, prefix_kind};
+use scope_check::{CheckCode, CheckFault, Scope, Sort, refused};
 use tapa_base::{Kind, Op, Place, Text, apply, convert};
 use tapa_syntax::{BinaryOperator, Expression, PrefixOperator};
 

@@ -1,19 +1,16 @@
 ghost use Rattle.std.specs.Prelude.{◌∷◌, ◌++◌, ◌<◌, [], IfOk, Some};
 ghost use Rattle.tapa_base.specs.Kinds.{values_of};
 ghost use Rattle.tapa_syntax.specs.Trees as tree;
-ghost use Rattle.expression_check.specs.Answers.{Answers};
+ghost use Rattle.scope_check.specs.Answers.{Answers};
 ghost use Rattle.expression_check.specs.Constants.{IsWithin, known_of, of_sort};
 ghost use Rattle.expression_check.specs.Expressions as meaning;
-ghost use Rattle.expression_check.specs.Faults.{doubled, name_faults};
-ghost use Rattle.expression_check.specs.Roles.{fits};
-ghost use Rattle.expression_check.specs.Scopes.{is_constant, sort_of};
+ghost use Rattle.scope_check.specs.Faults.{doubled, name_faults};
+ghost use Rattle.scope_check.specs.Roles.{fits};
+ghost use Rattle.scope_check.specs.Scopes.{is_constant, sort_of};
 
 use crate::constant::{Constant, check_divisor, converted, evaluated, of_sort};
 use crate::expression::divides;
-use crate::fault::CheckFault;
-use crate::names::FileNames;
-use crate::role::Role;
-use crate::scope::Scope;
+use scope_check::{CheckFault, FileNames, Role, Scope};
 use std::alloc::Global;
 use tapa_base::Kind;
 use tapa_syntax::{Expression, Name};

@@ -1,15 +1,13 @@
 ghost use Rattle.std.specs.Prelude.{◌≡◌, ◌≤◌, ◌∷◌, [], IfOk};
 ghost use Rattle.tapa_base.specs.Kinds.{number};
 ghost use Rattle.tapa_syntax.specs.Trees as tree;
-ghost use Rattle.expression_check.specs.Answers.{Answers};
+ghost use Rattle.scope_check.specs.Answers.{Answers};
 ghost use Rattle.expression_check.specs.Constants.{IsWithin};
 ghost use Rattle.expression_check.specs.Counts as counts;
 
 use crate::constant::{Constant, literal};
 use crate::constant_use::{known, known_name};
-use crate::fault::{CheckFault, over};
-use crate::names::FileNames;
-use crate::scope::Scope;
+use scope_check::{CheckFault, FileNames, Scope, over};
 use std::alloc::Global;
 use tapa_syntax::{Count, CountValue};
 

@@ -2,20 +2,17 @@ ghost use Rattle.std.specs.Prelude.{◌≡◌, ◌++◌, ◌%◌, ◌&&◌, Some
 ghost use Rattle.tapa_base.specs.Kinds.{values_of};
 ghost use Rattle.tapa_syntax.specs.Flat.{flat_expression, literal};
 ghost use Rattle.tapa_syntax.specs.Trees as tree;
-ghost use Rattle.expression_check.specs.Answers.{Answers};
+ghost use Rattle.scope_check.specs.Answers.{Answers};
 ghost use Rattle.expression_check.specs.Expressions as meaning;
-ghost use Rattle.expression_check.specs.Scopes.{sort_of, has_cells, is_memory};
-ghost use Rattle.expression_check.specs.declared.fault.CheckCode.TheVariants.{C8};
-ghost use Rattle.expression_check.specs.Faults as faults;
+ghost use Rattle.scope_check.specs.Scopes.{sort_of, has_cells, is_memory};
+ghost use Rattle.scope_check.specs.declared.fault.CheckCode.TheVariants.{C8};
+ghost use Rattle.scope_check.specs.Faults as faults;
 ghost use Rattle.expression_check.specs.Methods as methods;
 
 use crate::constant::{check_divisor, literal};
-use crate::fault::{CheckCode, CheckFault, refused};
 use crate::method::{StreamCall, StreamMethod, check_call, gives_value, method_of};
-use crate::role::Role;
-use crate::scope::Scope;
-use crate::sort::Sort;
 use crate::typed::{Typed, as_kind, binary, cast, chosen, element, named_value, prefixed};
+use scope_check::{CheckCode, CheckFault, Role, Scope, Sort, refused};
 use std::alloc::Global;
 use tapa_base::{Kind, Op};
 use tapa_syntax::{BinaryOperator, Expr, Expression, Name};

@@ -1,13 +1,11 @@
 ghost use Rattle.std.specs.Prelude.{◌≡◌, [], Some, bytes_eq, map};
 ghost use Rattle.tapa_syntax.specs.Trees as tree;
-ghost use Rattle.expression_check.specs.Answers.{Answers};
+ghost use Rattle.scope_check.specs.Answers.{Answers};
 ghost use Rattle.expression_check.specs.Expressions as meaning;
 ghost use Rattle.expression_check.specs.Methods as methods;
-ghost use Rattle.expression_check.specs.Scopes.{sort_of, kind_of_sort, number_of};
+ghost use Rattle.scope_check.specs.Scopes.{sort_of, kind_of_sort, number_of};
 
-use crate::fault::{CheckCode, CheckFault, refused};
-use crate::scope::Scope;
-use crate::sort::Sort;
+use scope_check::{CheckCode, CheckFault, Scope, Sort, refused};
 use tapa_base::{Kind, Text};
 use tapa_syntax::{Expression, Name};
 

@@ -4,13 +4,12 @@ ghost use Rattle.tapa_base.specs.declared.op.Op.TheVariants as op;
 ghost use Rattle.tapa_syntax.specs.declared.tree.BinaryOperator.TheVariants.{LogicalAnd, LogicalOr};
 ghost use Rattle.tapa_syntax.specs.Flat as flat;
 ghost use Rattle.tapa_syntax.specs.Flat.{flat_expression};
-ghost use Rattle.expression_check.specs.Answers.{Answers};
+ghost use Rattle.scope_check.specs.Answers.{Answers};
 ghost use Rattle.expression_check.specs.Expressions as meaning;
-ghost use Rattle.expression_check.specs.Scopes.{kind_of_sort, number_of};
+ghost use Rattle.scope_check.specs.Scopes.{kind_of_sort, number_of};
 
-use crate::fault::CheckFault;
 use crate::kinds::{arm_kind, is_comparison, operated_kind, promoted, right_kind, same_kind};
-use crate::sort::Sort;
+use scope_check::{CheckFault, Sort};
 use std::alloc::Global;
 use tapa_base::{Kind, Op};
 use tapa_syntax::{BinaryOperator, Expr, PrefixOperator};

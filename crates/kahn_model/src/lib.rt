@@ -6,7 +6,5 @@ mod cells;
 pub mod laws;
 pub mod rounds;
 pub mod slow;
-mod start;
-#[cfg(test)]
-mod tests;
+pub mod start;
 pub mod tick;

@@ -26,7 +26,8 @@ fn convert_through(from: Kind, kinds: &[Kind], v: u64) -> Result<u64, Fault>
     Ok(value)
 }
 
-fn scalar_kind(program: &Program, x: u32) -> Kind
+/// The kind of a scalar of the top task by its number; where it has none, the kind of 64 bits without sign.
+pub fn scalar_kind(program: &Program, x: u32) -> Kind
     ensures { result ≡ slice_index_or (map (λ (c : Scalar). c.kind) program.now.scalars.items) x U64 }
 {
     match program.scalars.get(x as usize) {
@@ -104,8 +105,9 @@ fn copy_of(alloc: Global, memories: &[Vec<u64>], m: u32) -> Result<Vec<u64>, All
     }
 }
 
-// The memories, which hold their first cells.
-fn first_cells(
+/// The first cells of the memories that an instance is bound to by their numbers, in order: copies of those of the
+/// top task.
+pub fn first_cells(
     alloc: Global,
     memories: &[Vec<u64>],
     bound: &[u32],

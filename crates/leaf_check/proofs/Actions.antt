@@ -19,11 +19,11 @@ use Rattle.tapa_syntax.specs.Trees as tree
 use Rattle.tapa_syntax.specs.Trees.{ExpressionTree, PlaceTree, ActionTree}
 use Rattle.tapa_syntax.specs.Flat as flat
 use Rattle.tapa_syntax.specs.Flat.{FlatExpression, literal, variable, FlatStatement, FlatLeaf}
-use Rattle.expression_check.specs.declared.fault.CheckCode.TheVariants.{C3}
-use Rattle.expression_check.specs.declared.sort.Sort.{Sort}
-use Rattle.expression_check.specs.declared.sort.Sort.TheVariants as sort
-use Rattle.expression_check.specs.Faults.{wrong_sort, name_faults, where_so, fault}
-use Rattle.expression_check.specs.Scopes.{Scope, sort_of, kind_of_sort, number_of, is_free_variable, has_free_cells, is_output, is_input}
+use Rattle.scope_check.specs.declared.fault.CheckCode.TheVariants.{C3}
+use Rattle.scope_check.specs.declared.sort.Sort.{Sort}
+use Rattle.scope_check.specs.declared.sort.Sort.TheVariants as sort
+use Rattle.scope_check.specs.Faults.{wrong_sort, name_faults, where_so, fault}
+use Rattle.scope_check.specs.Scopes.{Scope, sort_of, kind_of_sort, number_of, is_free_variable, has_free_cells, is_output, is_input}
 use Rattle.expression_check.specs.Expressions.{Method, reads, peeks, tests_end, writes, opens, closes, method_of, call_faults, kind_of, value_of, wanted, binary_kind, operated, operated_kind, faults_of, divisor_faults}
 use Rattle.leaf_check.specs.Statements.{Target, in_variable, in_cell, in_word, element_target, target_of, set_target, change_target, read_target, assigned, kind_of_target, step_op, stepped, is_increment, is_bool, place_kind, target_faults, index_faults, changed_faults, place_faults, assignment_divides, given_faults, called, action_faults, action_code}
 use Rattle.leaf_check.proofs.Flats.{IsEnd, IsArrayOf, IsValue, MayDivideBy, IsStep, IsCode, IsStraight, AreStraight, clears}
@@ -73,7 +73,7 @@ change_good W S (in_cell j n i) o k e (a, h, x) g d = record {
   clear = refl;
 }
 change_good W S (in_word j n i) o k e (h, x) g d = record {
-  step = (x, cast_value W S k (right_kind o (operated_kind o j k)) e g, cast_divides W S o j k e g d);
+  step = ((j, h), x, cast_value W S k (right_kind o (operated_kind o j k)) e g, cast_divides W S o j k e g d);
   straight = tt;
   clear = refl;
 }
@@ -81,7 +81,7 @@ change_good W S (in_word j n i) o k e (h, x) g d = record {
 read_good : (W : FlatLeaf) (S : List ℕ) (s : ℕ) (j : Kind) (t : Target) → IsEnd W false s j → IsTarget W S t → IsAct W S (read_target s t)
 read_good W S s j (in_variable k n) e h = record { step = (j, e, (k, h)); straight = tt; clear = refl }
 read_good W S s j (in_cell k n i) e (a, h, x) = record { step = (j, e, a, x); straight = tt; clear = refl }
-read_good W S s j (in_word k n i) e (h, x) = record { step = (j, e, x); straight = tt; clear = refl }
+read_good W S s j (in_word k n i) e (h, x) = record { step = (j, e, (k, h), x); straight = tt; clear = refl }
 
 one_fits : (k : Kind) → 1 < values_of (promoted k)
 one_fits kind.Bool = lit< tt

@@ -7,9 +7,9 @@ use Rattle.tapa_syntax.specs.Flat as flat
 use Rattle.tapa_syntax.specs.Flat.{FlatExpression, FlatStatement, in_row}
 use Rattle.leaf_check.specs.Views.{HeadPart, Part}
 use Rattle.leaf_check.proofs.Pushed.{parts}
-use Rattle.expression_check.specs.declared.fault.Broken.{Broken}
-use Rattle.expression_check.specs.declared.sort.Sort.{Sort}
-use Rattle.expression_check.specs.Scopes.{Block, Scope, declaring}
+use Rattle.scope_check.specs.declared.fault.Broken.{Broken}
+use Rattle.scope_check.specs.declared.sort.Sort.{Sort}
+use Rattle.scope_check.specs.Scopes.{Block, Scope, declaring}
 use Rattle.leaf_check.specs.Statements.{Frame, head_faults, statement_faults, start_code, test_of, next_code, code_of, opened, closed, after_declarator, after_declarators, after_start, in_head, after, after_all}
 
 -- the innermost block of a frame lies within these

@@ -17,6 +17,7 @@ use Rattle.tapa_syntax.specs.declared.program.Stmt.{Stmt, Row_of-Stmt, end_of-St
 use Rattle.tapa_syntax.specs.declared.program.Stmt.TheVariants.{Set, SetCell, SetCellBy, Store, StoreBy, ReadVar, ReadCell, ReadStore, Write, Open, Close, Discard, Clear, If', Loop', Break, Continue}
 use Rattle.tapa_syntax.specs.LeafKinds.{Kinds, writes_of}
 use Rattle.tapa_syntax.specs.StreamUse.{UsesExpr, UsesStmt, UsesBlock, UsesBody}
+use Rattle.tapa_syntax.specs.MemoryUse.{LoadsWithin, AsksStmt, AsksBlock, AsksBody}
 use Rattle.tapa_syntax.specs.ArrayUse.{In, FitsExpr, FitsStmt, FitsBlock, FitsBody, cleared_by, IsNoJump}
 use Rattle.tapa_syntax.specs.Typed.{result_kind, right_kind, by_zero, constant, IsConstant, MayDivide, HasKind, IsTyped, AreTyped, IsTypedBody}
 use Rattle.tapa_syntax.specs.Flat.{FlatExpression, literal, variable, cell, read, peek, is_end, load, convert, apply, flip, negation, conjunction, disjunction, choice, FlatStatement, set, set_cell, set_cell_by, store, store_by, read_variable, read_cell, read_store, write, take_end, put_end, discard, clear, branch, loop, break, continue, FlatStatements, no_statement, statement_then, flat_expression, flat_statement, flat_row, FlatLeaf}
@@ -39,6 +40,10 @@ IsEnd W b s k = slice_get W.streams s ≡ Some (record { kind = k; writes = b })
 -- an array with cells of a kind
 abbrev pub IsArrayOf : FlatLeaf → ℕ → Kind → Type 0
 IsArrayOf W a k = option_map (λ (r : Array). r.kind) (slice_get W.arrays a) ≡ Some k
+
+-- a memory of some kind
+abbrev pub IsMemory : FlatLeaf → ℕ → Type 0
+IsMemory W m = (k : Kind) × (slice_get W.memories m ≡ Some k)
 
 -- ---- constants
 
@@ -163,6 +168,22 @@ value_fits W S (And' p l q r) k (h, a, b) = (value_fits W S l kind.Bool a, value
 value_fits W S (Or' p l q r) k (h, a, b) = (value_fits W S l kind.Bool a, value_fits W S r kind.Bool b)
 value_fits W S (Choose' p e q a r b) k (x, y, z) = (value_fits W S e kind.Bool x, value_fits W S a k y, value_fits W S b k z)
 
+value_asks : (W : FlatLeaf) (S : List ℕ) (e : Expr) (k : Kind) → IsValue W S (flat_expression e) k → LoadsWithin (length W.memories) e
+value_asks W S (Lit j n) k g = tt
+value_asks W S (Var x) k g = tt
+value_asks W S (Cell' a p i) k (x, y, g) = value_asks W S i kind.U64 g
+value_asks W S (Read s) k g = tt
+value_asks W S (Peek s) k g = tt
+value_asks W S (Eot s) k g = tt
+value_asks W S (Load' m p i) k (x, g) = (slice_get_within W.memories m k x, value_asks W S i kind.U64 g)
+value_asks W S (Conv' from to p e) k (h, g) = value_asks W S e from g
+value_asks W S (Apply' o j p l q r) k (h, a, b, d) = (value_asks W S l j a, value_asks W S r (right_kind o j) b)
+value_asks W S (Flip' j p e) k (h, g) = value_asks W S e j g
+value_asks W S (Not' p e) k (h, g) = value_asks W S e kind.Bool g
+value_asks W S (And' p l q r) k (h, a, b) = (value_asks W S l kind.Bool a, value_asks W S r kind.Bool b)
+value_asks W S (Or' p l q r) k (h, a, b) = (value_asks W S l kind.Bool a, value_asks W S r kind.Bool b)
+value_asks W S (Choose' p e q a r b) k (x, y, z) = (value_asks W S e kind.Bool x, value_asks W S a k y, value_asks W S b k z)
+
 pub value_kind : (W : FlatLeaf) (S : List ℕ) (e : Expr) (k : Kind) → IsValue W S (flat_expression e) k → HasKind (kinds_in W) e k
 value_kind W S (Lit j n) k g = g
 value_kind W S (Var x) k g = kind_at W.vars x k g
@@ -196,10 +217,10 @@ abbrev mutual
   IsStep W S (set_cell a i e) = In a S × IsValue W S i kind.U64 × Given W S e (IsArrayOf W a)
   IsStep W S (set_cell_by a i o k e) = In a S × IsValue W S i kind.U64 × IsValue W S e (right_kind o k) × MayDivideBy o e
   IsStep W S (store m i e) = IsValue W S i kind.U64 × Given W S e (λ k. slice_get W.memories m ≡ Some k)
-  IsStep W S (store_by m i o k e) = IsValue W S i kind.U64 × IsValue W S e (right_kind o k) × MayDivideBy o e
+  IsStep W S (store_by m i o k e) = IsMemory W m × IsValue W S i kind.U64 × IsValue W S e (right_kind o k) × MayDivideBy o e
   IsStep W S (read_variable s x) = (j : Kind) × IsEnd W false s j × ((k : Kind) × (slice_get W.vars x ≡ Some k))
   IsStep W S (read_cell s a i) = (j : Kind) × IsEnd W false s j × In a S × IsValue W S i kind.U64
-  IsStep W S (read_store s m i) = (j : Kind) × IsEnd W false s j × IsValue W S i kind.U64
+  IsStep W S (read_store s m i) = (j : Kind) × IsEnd W false s j × IsMemory W m × IsValue W S i kind.U64
   IsStep W S (write s e) = Given W S e (IsEnd W true s)
   IsStep W S (take_end s) = (k : Kind) × IsEnd W false s k
   IsStep W S (put_end s) = (k : Kind) × IsEnd W true s k
@@ -258,10 +279,10 @@ mutual
   step_uses W S (SetCell a i e) (n, v, (k, h, g)) = (value_uses W S i kind.U64 v, value_uses W S e k g)
   step_uses W S (SetCellBy a i o k e) (n, v, g, d) = (value_uses W S i kind.U64 v, value_uses W S e (right_kind o k) g)
   step_uses W S (Store m i e) (v, (k, h, g)) = (value_uses W S i kind.U64 v, value_uses W S e k g)
-  step_uses W S (StoreBy m i o k e) (v, g, d) = (value_uses W S i kind.U64 v, value_uses W S e (right_kind o k) g)
+  step_uses W S (StoreBy m i o k e) (x, v, g, d) = (value_uses W S i kind.U64 v, value_uses W S e (right_kind o k) g)
   step_uses W S (ReadVar s x) (j, r, h) = is_used W false s j r
   step_uses W S (ReadCell s a i) (j, r, n, v) = (is_used W false s j r, value_uses W S i kind.U64 v)
-  step_uses W S (ReadStore s m i) (j, r, v) = (is_used W false s j r, value_uses W S i kind.U64 v)
+  step_uses W S (ReadStore s m i) (j, r, x, v) = (is_used W false s j r, value_uses W S i kind.U64 v)
   step_uses W S (Write s e) (k, h, g) = (is_used W true s k h, value_uses W S e k g)
   step_uses W S (Open s) (k, h) = is_used W false s k h
   step_uses W S (Close s) (k, h) = is_used W true s k h
@@ -282,10 +303,10 @@ mutual
   step_fits W S (SetCell a i e) (n, v, (k, h, g)) = (n, value_fits W S i kind.U64 v, value_fits W S e k g)
   step_fits W S (SetCellBy a i o k e) (n, v, g, d) = (n, value_fits W S i kind.U64 v, value_fits W S e (right_kind o k) g)
   step_fits W S (Store m i e) (v, (k, h, g)) = (value_fits W S i kind.U64 v, value_fits W S e k g)
-  step_fits W S (StoreBy m i o k e) (v, g, d) = (value_fits W S i kind.U64 v, value_fits W S e (right_kind o k) g)
+  step_fits W S (StoreBy m i o k e) (x, v, g, d) = (value_fits W S i kind.U64 v, value_fits W S e (right_kind o k) g)
   step_fits W S (ReadVar s x) (j, r, (k, h)) = slice_get_within W.vars x k h
   step_fits W S (ReadCell s a i) (j, r, n, v) = (n, value_fits W S i kind.U64 v)
-  step_fits W S (ReadStore s m i) (j, r, v) = value_fits W S i kind.U64 v
+  step_fits W S (ReadStore s m i) (j, r, x, v) = value_fits W S i kind.U64 v
   step_fits W S (Write s e) (k, h, g) = value_fits W S e k g
   step_fits W S (Open s) g = tt
   step_fits W S (Close s) g = tt
@@ -301,16 +322,43 @@ mutual
   steps_fit W S m (more_of-Stmt s rest) (a, g) =
       (step_fits W S s a, subst (λ T. FitsBlock (length W.vars) (length W.arrays) T rest) (same_clears s S) (steps_fit W (clears (flat_statement s) S) _ rest g))
 
+in_memory : (W : FlatLeaf) (m : ℕ) → IsMemory W m → m < length W.memories
+in_memory W m (k, h) = slice_get_within W.memories m k h
+
+mutual
+  step_asks : (W : FlatLeaf) (S : List ℕ) (s : Stmt) → IsStep W S (flat_statement s) → AsksStmt (length W.memories) s
+  step_asks W S (Set x e) (k, h, g) = value_asks W S e k g
+  step_asks W S (SetCell a i e) (n, v, (k, h, g)) = (value_asks W S i kind.U64 v, value_asks W S e k g)
+  step_asks W S (SetCellBy a i o k e) (n, v, g, d) = (value_asks W S i kind.U64 v, value_asks W S e (right_kind o k) g)
+  step_asks W S (Store m i e) (v, (k, h, g)) = (slice_get_within W.memories m k h, value_asks W S i kind.U64 v, value_asks W S e k g)
+  step_asks W S (StoreBy m i o k e) (x, v, g, d) = (in_memory W m x, value_asks W S i kind.U64 v, value_asks W S e (right_kind o k) g)
+  step_asks W S (ReadVar s x) g = tt
+  step_asks W S (ReadCell s a i) (j, r, n, v) = value_asks W S i kind.U64 v
+  step_asks W S (ReadStore s m i) (j, r, x, v) = (in_memory W m x, value_asks W S i kind.U64 v)
+  step_asks W S (Write s e) (k, h, g) = value_asks W S e k g
+  step_asks W S (Open s) g = tt
+  step_asks W S (Close s) g = tt
+  step_asks W S (Discard e) (k, g) = value_asks W S e k g
+  step_asks W S (Clear a) g = tt
+  step_asks W S (If' e p left q right) (t, l, r) = (value_asks W S e kind.Bool t, steps_ask W S _ left l, steps_ask W S _ right r)
+  step_asks W S (Loop' e p body q step) (t, l, r) = (value_asks W S e kind.Bool t, steps_ask W S _ body l, steps_ask W S _ step r)
+  step_asks W S Break g = tt
+  step_asks W S Continue g = tt
+
+  steps_ask : (W : FlatLeaf) (S : List ℕ) (m : _) (row : Row_of-Stmt m) → AreSteps W S (flat_row row) → AsksBlock (length W.memories) row
+  steps_ask W S m end_of-Stmt g = tt
+  steps_ask W S m (more_of-Stmt s rest) (a, g) = (step_asks W S s a, steps_ask W (clears (flat_statement s) S) _ rest g)
+
 mutual
   step_typed : (W : FlatLeaf) (S : List ℕ) (s : Stmt) → IsStep W S (flat_statement s) → IsTyped (kinds_in W) s
   step_typed W S (Set x e) (k, h, g) = subst (HasKind (kinds_in W) e) (sym (kind_at W.vars x k h)) (value_kind W S e k g)
   step_typed W S (SetCell a i e) (n, v, (k, h, g)) = (value_kind W S i kind.U64 v, subst (HasKind (kinds_in W) e) (sym (array_kind W a k h)) (value_kind W S e k g))
   step_typed W S (SetCellBy a i o k e) (n, v, g, d) = (value_kind W S i kind.U64 v, value_kind W S e (right_kind o k) g, may_divide o e d)
   step_typed W S (Store m i e) (v, (k, h, g)) = (value_kind W S i kind.U64 v, subst (HasKind (kinds_in W) e) (sym (kind_at W.memories m k h)) (value_kind W S e k g))
-  step_typed W S (StoreBy m i o k e) (v, g, d) = (value_kind W S i kind.U64 v, value_kind W S e (right_kind o k) g, may_divide o e d)
+  step_typed W S (StoreBy m i o k e) (x, v, g, d) = (value_kind W S i kind.U64 v, value_kind W S e (right_kind o k) g, may_divide o e d)
   step_typed W S (ReadVar s x) g = tt
   step_typed W S (ReadCell s a i) (j, r, n, v) = value_kind W S i kind.U64 v
-  step_typed W S (ReadStore s m i) (j, r, v) = value_kind W S i kind.U64 v
+  step_typed W S (ReadStore s m i) (j, r, x, v) = value_kind W S i kind.U64 v
   step_typed W S (Write s e) (k, h, g) = subst (HasKind (kinds_in W) e) (sym (is_kind W true s k h)) (value_kind W S e k g)
   step_typed W S (Open s) g = tt
   step_typed W S (Close s) g = tt
@@ -335,6 +383,10 @@ pub code_fits : (W : FlatLeaf) (S : List ℕ) (ss : List Stmt) → AreStraight (
 code_fits W S [] j g = tt
 code_fits W S (s ∷ ss) (i, j) (a, g) =
     (no_jump s i, step_fits W S s a, subst (λ T. FitsBody (length W.vars) (length W.arrays) T ss) (same_clears s S) (code_fits W (clears (flat_statement s) S) ss j g))
+
+pub code_asks : (W : FlatLeaf) (S : List ℕ) (ss : List Stmt) → IsCode W S (map flat_statement ss) → AsksBody (length W.memories) ss
+code_asks W S [] g = tt
+code_asks W S (s ∷ ss) (a, g) = (step_asks W S s a, code_asks W (clears (flat_statement s) S) ss g)
 
 pub code_typed : (W : FlatLeaf) (S : List ℕ) (ss : List Stmt) → IsCode W S (map flat_statement ss) → IsTypedBody (kinds_in W) ss
 code_typed W S [] g = tt

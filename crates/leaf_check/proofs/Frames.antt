@@ -5,9 +5,9 @@ use Rattle.std.proofs.lemmas.Option.{none-some, same_Some}
 use Rattle.tapa_syntax.specs.declared.program.Array.{Array}
 use Rattle.tapa_syntax.specs.ArrayUse.{In}
 use Rattle.tapa_syntax.specs.Flat.{FlatStatement, set, set_cell, set_cell_by, store, store_by, read_variable, read_cell, read_store, write, take_end, put_end, discard, clear, branch, loop, break, continue, in_row, FlatLeaf}
-use Rattle.expression_check.specs.declared.sort.Sort.{Sort}
-use Rattle.expression_check.specs.declared.sort.Sort.TheVariants as sort
-use Rattle.expression_check.specs.Scopes.{Block, Scope, declaring}
+use Rattle.scope_check.specs.declared.sort.Sort.{Sort}
+use Rattle.scope_check.specs.declared.sort.Sort.TheVariants as sort
+use Rattle.scope_check.specs.Scopes.{Block, Scope, declaring}
 use Rattle.leaf_check.specs.Statements.{Frame, opened, closed}
 use Rattle.leaf_check.proofs.Flats.{IsStep, AreSteps, IsCode, IsStraight, AreStraight, clears}
 use Rattle.leaf_check.proofs.Meanings.{IsKnown, KnownBlock, KnownScope}

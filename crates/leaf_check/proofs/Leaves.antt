@@ -12,13 +12,13 @@ use Rattle.tapa_syntax.specs.declared.tree.Parameter.TheVariants.{InputStream, O
 use Rattle.tapa_syntax.specs.Trees.{Statements, TaskTree}
 use Rattle.tapa_syntax.specs.Flat.{FlatLeaf, flat_leaf}
 use Rattle.tapa_syntax.specs.WellFormed.{IsLeaf, AreDistinct}
-use Rattle.expression_check.specs.declared.sort.Sort.{Sort}
-use Rattle.expression_check.specs.declared.sort.Sort.TheVariants as sort
-use Rattle.expression_check.specs.Scopes.{Block}
+use Rattle.scope_check.specs.declared.sort.Sort.{Sort}
+use Rattle.scope_check.specs.declared.sort.Sort.TheVariants as sort
+use Rattle.scope_check.specs.Scopes.{Block}
 use Rattle.leaf_check.specs.Laws.{IsGlobal, AreGlobal, LegalLeavesAreWellFormed}
 use Rattle.leaf_check.specs.Statements.{variable_faults, statements_faults, codes_of}
 use Rattle.leaf_check.specs.Leaves.{Head, with_stream, with_memory, with_scalar, after_parameter, parameter_faults, after_parameters, parameters_faults, task_begins, size_faults, leaf_faults, leaf_of}
-use Rattle.leaf_check.proofs.Flats.{IsCode, AreStraight, code_uses, code_fits, code_typed}
+use Rattle.leaf_check.proofs.Flats.{IsCode, AreStraight, code_uses, code_fits, code_asks, code_typed}
 use Rattle.leaf_check.proofs.Meanings.{left_empty, right_empty, IsKnown, KnownBlock, KnownScope}
 use Rattle.leaf_check.proofs.Frames.{Within, within_more, last_at, Each, each_at, Grows, Reaches, Few, HasFewCells, scope_declared}
 use Rattle.leaf_check.proofs.Parts.{variable_few, variable_grows, variable_scope, statements_runs}
@@ -203,6 +203,7 @@ well_leaf l w =
       cells = λ a r h. each_at HasFewCells l.arrays.items a r w.cells h;
       uses = code_uses W [] l.code.items w.code;
       fits = code_fits W [] l.code.items w.straight w.code;
+      asks = code_asks W [] l.code.items w.code;
       typed = code_typed W [] l.code.items w.code;
     }
 

@@ -18,12 +18,12 @@ use Rattle.tapa_syntax.specs.ArrayUse.{In}
 use Rattle.tapa_syntax.specs.Trees as tree
 use Rattle.tapa_syntax.specs.Trees.{ExpressionTree}
 use Rattle.tapa_syntax.specs.Flat.{FlatExpression, FlatLeaf}
-use Rattle.expression_check.specs.declared.fault.Broken.{Broken}
-use Rattle.expression_check.specs.declared.sort.Sort.{Sort}
-use Rattle.expression_check.specs.declared.sort.Sort.TheVariants as sort
-use Rattle.expression_check.specs.Faults.{wrong_sort, where_so, fault}
-use Rattle.expression_check.specs.declared.fault.CheckCode.TheVariants.{C8, C9}
-use Rattle.expression_check.specs.Scopes.{Block, Scope, in_block, first_of, sort_of, kind_of_sort, number_of, is_scalar, is_memory, has_cells}
+use Rattle.scope_check.specs.declared.fault.Broken.{Broken}
+use Rattle.scope_check.specs.declared.sort.Sort.{Sort}
+use Rattle.scope_check.specs.declared.sort.Sort.TheVariants as sort
+use Rattle.scope_check.specs.Faults.{wrong_sort, where_so, fault}
+use Rattle.scope_check.specs.declared.fault.CheckCode.TheVariants.{C8, C9}
+use Rattle.scope_check.specs.Scopes.{Block, Scope, in_block, first_of, sort_of, kind_of_sort, number_of, is_scalar, is_memory, has_cells}
 use Rattle.expression_check.specs.Expressions.{Method, reads, peeks, tests_end, writes, opens, closes, method_of, listed, call_faults, no_value, call_kind, prefix_kind, binary_kind, arm_kind, kind_of, as_kind, named_value, cell_value, called_value, operated, binary_value, prefix_value, value_of, is_constant_name, is_constant, constant_value, divides, divisor_faults, is_logical, faults_of}
 use Rattle.expression_check.proofs.Values.{bit_fits}
 use Rattle.leaf_check.proofs.Flats.{IsEnd, IsArrayOf, IsValue, IsFlatConstant, MayDivideBy}

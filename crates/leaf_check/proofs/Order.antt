@@ -4,10 +4,10 @@ use Rattle.std.specs.List.{flat_map}
 use Rattle.std.specs.Prelude.{Err}
 use Rattle.tapa_syntax.specs.declared.tree.Statement.{Statement}
 use Rattle.tapa_syntax.specs.Trees as tree
-use Rattle.expression_check.specs.declared.fault.Broken.{Broken}
-use Rattle.expression_check.specs.declared.fault.CheckFault.{CheckFault}
-use Rattle.expression_check.specs.declared.fault.CheckFault.TheVariants.{At, OutOfMemory}
-use Rattle.expression_check.specs.Answers.{Answers, IsFirst}
+use Rattle.scope_check.specs.declared.fault.Broken.{Broken}
+use Rattle.scope_check.specs.declared.fault.CheckFault.{CheckFault}
+use Rattle.scope_check.specs.declared.fault.CheckFault.TheVariants.{At, OutOfMemory}
+use Rattle.scope_check.specs.Answers.{Answers, IsFirst}
 use Rattle.leaf_check.specs.Statements.{Frame, statement_faults, statements_faults, after}
 
 -- what a check that answers an error says, whatever the part means

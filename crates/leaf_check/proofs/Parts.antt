@@ -13,10 +13,10 @@ use Rattle.tapa_syntax.specs.Trees as tree
 use Rattle.tapa_syntax.specs.Trees.{ExpressionTree, ActionTree, DeclaratorTree, DeclarationTree, StartTree, HeadTree, StatementTree, Statements, CountTree}
 use Rattle.tapa_syntax.specs.Flat as flat
 use Rattle.tapa_syntax.specs.Flat.{FlatExpression, literal, FlatStatement, set, clear, branch, loop, in_row, FlatLeaf}
-use Rattle.expression_check.specs.declared.fault.Broken.{Broken}
-use Rattle.expression_check.specs.declared.sort.Sort.TheVariants as sort
-use Rattle.expression_check.specs.Faults.{name_faults, where_so, over, doubled}
-use Rattle.expression_check.specs.Scopes.{Scope, sort_of, kind_of_sort, number_of, is_input}
+use Rattle.scope_check.specs.declared.fault.Broken.{Broken}
+use Rattle.scope_check.specs.declared.sort.Sort.TheVariants as sort
+use Rattle.scope_check.specs.Faults.{name_faults, where_so, over, doubled}
+use Rattle.scope_check.specs.Scopes.{Scope, sort_of, kind_of_sort, number_of, is_input}
 use Rattle.expression_check.specs.Expressions.{kind_of, value_of, wanted, faults_of}
 use Rattle.expression_check.specs.Counts.{count_of, count_faults, form_faults, most_of_count}
 use Rattle.leaf_check.specs.Statements.{Frame, opened, closed, variable_faults, with_variable, with_array, array_faults, declarator_faults, after_declarator, declarator_code, after_declarators, declarators_faults, declarators_code, after_declaration, declaration_faults, declaration_code, action_faults, action_code, after_start, start_faults, start_code, test_faults, test_of, next_faults, next_code, in_head, after, after_all, jump_faults, statement_faults, statements_faults, code_of, codes_of}

@@ -5,9 +5,9 @@ use Rattle.tapa_syntax.specs.declared.program.Leaf.{Leaf}
 use Rattle.tapa_syntax.specs.Trees.{Statements, TaskTree}
 use Rattle.tapa_syntax.specs.Flat.{flat_leaf}
 use Rattle.tapa_syntax.specs.WellFormed.{IsLeaf}
-use Rattle.expression_check.specs.declared.sort.Sort.{Sort}
-use Rattle.expression_check.specs.declared.sort.Sort.TheVariants.{Constant, Task}
-use Rattle.expression_check.specs.Scopes.{Block}
+use Rattle.scope_check.specs.declared.sort.Sort.{Sort}
+use Rattle.scope_check.specs.declared.sort.Sort.TheVariants.{Constant, Task}
+use Rattle.scope_check.specs.Scopes.{Block}
 use Rattle.leaf_check.specs.Leaves.{leaf_faults, leaf_of}
 
 -- what a file declares: constants, each with a value of its kind, and tasks

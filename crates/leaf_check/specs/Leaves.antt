@@ -8,10 +8,10 @@ use Rattle.tapa_syntax.specs.declared.tree.Parameter.TheVariants.{InputStream, O
 use Rattle.tapa_base.specs.declared.text.Place.{Place}
 use Rattle.tapa_syntax.specs.Trees.{Statements, TaskTree}
 use Rattle.tapa_syntax.specs.Flat.{FlatExpression, FlatStatement, FlatStatements, literal, variable, cell, read, peek, is_end, load, convert, apply, flip, negation, conjunction, disjunction, choice, set, set_cell, set_cell_by, store, store_by, read_variable, read_cell, read_store, write, take_end, put_end, discard, clear, branch, loop, break, continue, no_statement, statement_then, FlatLeaf}
-use Rattle.expression_check.specs.declared.sort.Sort.TheVariants as sort
-use Rattle.expression_check.specs.Scopes.{Block}
-use Rattle.expression_check.specs.declared.fault.Broken.{Broken}
-use Rattle.expression_check.specs.Faults.{over, where_so, doubled}
+use Rattle.scope_check.specs.declared.sort.Sort.TheVariants as sort
+use Rattle.scope_check.specs.Scopes.{Block}
+use Rattle.scope_check.specs.declared.fault.Broken.{Broken}
+use Rattle.scope_check.specs.Faults.{over, where_so, doubled}
 use Rattle.leaf_check.specs.Statements.{Frame, variable_faults, with_name, with_variable, statements_faults, codes_of, after_all}
 
 -- ---- parameters, which are in one block with the body (ISO C++ [basic.scope.param])

@@ -20,12 +20,12 @@ use Rattle.tapa_syntax.specs.Trees.{ExpressionTree, PlaceTree, ActionTree, Decla
 use Rattle.tapa_syntax.specs.Typed.{right_kind}
 use Rattle.tapa_syntax.specs.Flat as flat
 use Rattle.tapa_syntax.specs.Flat.{FlatExpression, FlatStatement, FlatStatements, literal, variable, set, set_cell, set_cell_by, store, store_by, read_variable, read_cell, read_store, take_end, put_end, discard, clear, branch, loop, in_row}
-use Rattle.expression_check.specs.declared.fault.CheckCode.TheVariants.{C3}
-use Rattle.expression_check.specs.declared.sort.Sort.{Sort}
-use Rattle.expression_check.specs.declared.sort.Sort.TheVariants as sort
-use Rattle.expression_check.specs.Scopes.{Scope, sort_of, declaring, kind_of_sort, number_of, is_free_variable, has_free_cells, is_output, is_input}
-use Rattle.expression_check.specs.declared.fault.Broken.{Broken}
-use Rattle.expression_check.specs.Faults.{fault, over, where_so, name_faults, doubled}
+use Rattle.scope_check.specs.declared.fault.CheckCode.TheVariants.{C3}
+use Rattle.scope_check.specs.declared.sort.Sort.{Sort}
+use Rattle.scope_check.specs.declared.sort.Sort.TheVariants as sort
+use Rattle.scope_check.specs.Scopes.{Scope, sort_of, declaring, kind_of_sort, number_of, is_free_variable, has_free_cells, is_output, is_input}
+use Rattle.scope_check.specs.declared.fault.Broken.{Broken}
+use Rattle.scope_check.specs.Faults.{fault, over, where_so, name_faults, doubled}
 use Rattle.expression_check.specs.Expressions.{Method, peeks, tests_end, writes, opens, closes, method_of, call_faults, kind_of, value_of, wanted, as_kind, binary_kind, operated, operated_kind, faults_of, divides, divisor_faults}
 use Rattle.expression_check.specs.Counts.{count_of, count_faults}
 

@@ -2,9 +2,9 @@
 use Rattle.std.specs.Prelude.{ℕ, ◌^◌, ◌-◌, min, List, ◌++◌, map, Result}
 use Rattle.tapa_syntax.specs.declared.program.Stmt.{Stmt}
 use Rattle.tapa_syntax.specs.Flat.{FlatExpression, FlatStatement, flat_expression, flat_statement}
-use Rattle.expression_check.specs.declared.fault.Broken.{Broken}
-use Rattle.expression_check.specs.declared.fault.CheckFault.{CheckFault}
-use Rattle.expression_check.specs.Answers.{Answers}
+use Rattle.scope_check.specs.declared.fault.Broken.{Broken}
+use Rattle.scope_check.specs.declared.fault.CheckFault.{CheckFault}
+use Rattle.scope_check.specs.Answers.{Answers}
 use Rattle.leaf_check.specs.declared.target.Target.{Target}
 use Rattle.leaf_check.specs.declared.target.Target.TheVariants.{Variable, Cell, Word}
 use Rattle.leaf_check.specs.Statements as task

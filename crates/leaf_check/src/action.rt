@@ -3,8 +3,8 @@ ghost use Rattle.std.specs.List.{flat_map};
 ghost use Rattle.tapa_syntax.specs.Flat as flat;
 ghost use Rattle.tapa_syntax.specs.Flat.{flat_statement};
 ghost use Rattle.tapa_syntax.specs.Trees as tree;
-ghost use Rattle.expression_check.specs.declared.fault.Broken.{Broken};
-ghost use Rattle.expression_check.specs.Answers.{Answers};
+ghost use Rattle.scope_check.specs.declared.fault.Broken.{Broken};
+ghost use Rattle.scope_check.specs.Answers.{Answers};
 ghost use Rattle.expression_check.specs.Expressions.{faults_of, wanted, kind_of, value_of, divisor_faults};
 ghost use Rattle.leaf_check.specs.Statements as task;
 ghost use Rattle.leaf_check.specs.Views.{Appends};
@@ -12,9 +12,9 @@ ghost use Rattle.leaf_check.specs.Views.{Appends};
 use crate::call::called;
 use crate::target::{assigned, check_target, read_into, stepped};
 use expression_check::{
-    CheckFault, Role, Scope, check_divisor, check_expression, check_wanted, method_of, sort_kind,
-    sort_number,
+    check_divisor, check_expression, check_wanted, method_of, sort_kind, sort_number,
 };
+use scope_check::{CheckFault, Role, Scope};
 use std::alloc::Global;
 use tapa_base::{Kind, Op, Place};
 use tapa_syntax::{Action, AssignmentOperator, Expression, PlaceExpression, StepOperator, Stmt};

@@ -1,12 +1,13 @@
 ghost use Rattle.std.specs.Prelude.{◌≡◌, ◌++◌, ◌∷◌, [], map};
 ghost use Rattle.tapa_syntax.specs.Flat.{flat_statement};
-ghost use Rattle.expression_check.specs.Answers.{Answers};
+ghost use Rattle.scope_check.specs.Answers.{Answers};
 ghost use Rattle.expression_check.specs.Expressions.{call_faults};
 ghost use Rattle.expression_check.specs.Methods.{method_view};
-ghost use Rattle.expression_check.specs.Scopes.{kind_of_sort, number_of, sort_of};
+ghost use Rattle.scope_check.specs.Scopes.{kind_of_sort, number_of, sort_of};
 ghost use Rattle.leaf_check.specs.Statements as task;
 
-use expression_check::{CheckFault, Scope, StreamMethod, check_call, check_wanted};
+use expression_check::{StreamMethod, check_call, check_wanted};
+use scope_check::{CheckFault, Scope};
 use std::alloc::Global;
 use tapa_syntax::{Expr, Name, Stmt};
 

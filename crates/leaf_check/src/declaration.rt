@@ -6,7 +6,8 @@ ghost use Rattle.leaf_check.specs.Statements as task;
 ghost use Rattle.leaf_check.specs.Views.{Adds};
 
 use crate::frame::Frame;
-use expression_check::{CheckFault, check_wanted, count_in};
+use expression_check::{check_wanted, count_in};
+use scope_check::CheckFault;
 use tapa_base::Kind;
 use tapa_syntax::{Count, Declaration, Declarator, Expr, Name, Stmt};
 

@@ -1,11 +1,11 @@
 ghost use Rattle.std.specs.Prelude.{◌≡◌, ◌<◌, ◌≤◌, ◌+◌, ◌∷◌, ◌++◌, [], IfOk, length};
-ghost use Rattle.expression_check.specs.Answers.{Answers};
-ghost use Rattle.expression_check.specs.Faults.{doubled};
-ghost use Rattle.expression_check.specs.Scopes.{Block, Scope as Blocks, IsSound, declaring};
+ghost use Rattle.scope_check.specs.Answers.{Answers};
+ghost use Rattle.scope_check.specs.Faults.{doubled};
+ghost use Rattle.scope_check.specs.Scopes.{Block, Scope as Blocks, IsSound, declaring};
 ghost use Rattle.leaf_check.specs.Statements as task;
 ghost use Rattle.leaf_check.specs.Views.{Numbered};
 
-use expression_check::{CheckFault, FileNames, Scope, Sort, over};
+use scope_check::{CheckFault, FileNames, Scope, Sort, over};
 use std::alloc::Global;
 use std::marker::Model;
 use tapa_base::{Kind, Place, Text};

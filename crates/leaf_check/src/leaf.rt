@@ -1,8 +1,8 @@
 ghost use Rattle.std.specs.Prelude.{◌≡◌, [], map};
 ghost use Rattle.tapa_syntax.specs.Flat.{flat_leaf, flat_statement};
 ghost use Rattle.tapa_syntax.specs.Trees as tree;
-ghost use Rattle.expression_check.specs.Answers.{Answers};
-ghost use Rattle.expression_check.specs.Faults.{doubled};
+ghost use Rattle.scope_check.specs.Answers.{Answers};
+ghost use Rattle.scope_check.specs.Faults.{doubled};
 ghost use Rattle.leaf_check.specs.Leaves as leaf;
 ghost use Rattle.leaf_check.specs.Statements as task;
 ghost use Rattle.leaf_check.specs.Heads.{head_of};
@@ -10,7 +10,7 @@ ghost use Rattle.leaf_check.specs.Heads.{head_of};
 use crate::frame::Frame;
 use crate::places::places_of;
 use crate::statement::statements as check_statements;
-use expression_check::{CheckFault, FileNames, Sort, copied, over};
+use scope_check::{CheckFault, FileNames, Sort, copied, number_of, over};
 use std::alloc::Global;
 use tapa_base::{Kind, Place, Text};
 use tapa_syntax::{End, Leaf, Name, Parameter, Statement, Stmt, TaskDeclaration};
@@ -26,17 +26,6 @@ struct Head<'a> {
     streams: Vec<End>,
     memories: Vec<Kind>,
     scalars: Vec<u32>,
-}
-
-/// A position of 32 bits. A task whose parameters are held in memory has no larger one.
-fn position(count: usize) -> Result<u32, CheckFault>
-    ensures { Answers (λ n. n) result [] count }
-{
-    if count <= u32::MAX as usize {
-        Ok(count as u32)
-    } else {
-        Err(CheckFault::OutOfMemory)
-    }
 }
 
 impl<'a> Head<'a> {
@@ -55,7 +44,7 @@ impl<'a> Head<'a> {
         ensures { Answers (λ x. head_of self.new) result (doubled self.old.frame.scope name.now) (leaf.with_stream writes kind name.now (head_of self.old)) }
     {
         self.frame.scope().check_new(name)?;
-        let number = position(self.streams.len())?;
+        let number = number_of(self.streams.len())?;
         let sort = Sort::Stream {
             writes,
             kind,
@@ -70,7 +59,7 @@ impl<'a> Head<'a> {
         ensures { Answers (λ x. head_of self.new) result (doubled self.old.frame.scope name.now) (leaf.with_memory free kind name.now (head_of self.old)) }
     {
         self.frame.scope().check_new(name)?;
-        let number = position(self.memories.len())?;
+        let number = number_of(self.memories.len())?;
         let sort = Sort::Memory { free, kind, number };
         self.frame.declare(&name.text, sort)?;
         self.memories.push(kind)?;

@@ -11,8 +11,5 @@ mod places;
 mod statement;
 mod target;
 
-pub use expression_check::{
-    Broken, CheckCode, CheckFault, FileNames, Sort, check_constant, check_count,
-};
 pub use laws::law_legal_leaves_are_well_formed;
 pub use leaf::check_leaf;

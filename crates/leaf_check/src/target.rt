@@ -1,18 +1,19 @@
 ghost use Rattle.std.specs.Prelude.{◌≡◌, ◌++◌, ◌&&◌, [], Some};
 ghost use Rattle.tapa_syntax.specs.Flat.{flat_expression, flat_statement};
 ghost use Rattle.tapa_syntax.specs.Trees as tree;
-ghost use Rattle.expression_check.specs.Answers.{Answers};
-ghost use Rattle.expression_check.specs.declared.fault.CheckCode.TheVariants.{C3};
-ghost use Rattle.expression_check.specs.Faults as faults;
-ghost use Rattle.expression_check.specs.Roles.{fits};
-ghost use Rattle.expression_check.specs.Scopes.{kind_of_sort, sort_of};
+ghost use Rattle.scope_check.specs.Answers.{Answers};
+ghost use Rattle.scope_check.specs.declared.fault.CheckCode.TheVariants.{C3};
+ghost use Rattle.scope_check.specs.Faults as faults;
+ghost use Rattle.scope_check.specs.Roles.{fits};
+ghost use Rattle.scope_check.specs.Scopes.{kind_of_sort, sort_of};
 ghost use Rattle.leaf_check.specs.Statements as task;
 ghost use Rattle.leaf_check.specs.Views.{flat_target};
 
 use expression_check::{
-    CheckCode, CheckFault, Role, Scope, Sort, Typed, as_kind, binary_kind, check_wanted, operated,
-    operated_kind, promoted, refused, right_kind, sort_kind, sort_number,
+    Typed, as_kind, binary_kind, check_wanted, operated, operated_kind, promoted, right_kind,
+    sort_kind, sort_number,
 };
+use scope_check::{CheckCode, CheckFault, Role, Scope, Sort, refused};
 use std::alloc::Global;
 use tapa_base::{Kind, Op};
 use tapa_syntax::{

@@ -14,6 +14,7 @@ use Rattle.tapa_syntax.specs.declared.program.Program.{Program}
 use Rattle.tapa_syntax.specs.declared.program.Stream.{Stream}
 use Rattle.tapa_syntax.specs.LeafKinds.{Kinds, kinds_of, writes_of}
 use Rattle.tapa_syntax.specs.StreamUse.{UsesBody}
+use Rattle.tapa_syntax.specs.MemoryUse.{AsksBody}
 use Rattle.tapa_syntax.specs.ArrayUse.{FitsBody}
 use Rattle.tapa_syntax.specs.Typed.{IsTypedBody}
 use Rattle.tapa_syntax.specs.WellFormed.{IsLeaf, IsEndOf, IsStreamAt, IsInstance, IsJoined, IsStream, IsWellFormed}
@@ -62,6 +63,12 @@ fits c n S (Send p (Datum v) ∷ rest) = (tt, tt, fits c n S rest)
 fits c n S (Send p Eot ∷ rest) = (tt, tt, fits c n S rest)
 fits c n S (Receive p ∷ rest) = (tt, tt, fits c n S rest)
 
+asks : (n : ℕ) (steps : List Step) → AsksBody n (map statement steps)
+asks n [] = tt
+asks n (Send p (Datum v) ∷ rest) = (tt, asks n rest)
+asks n (Send p Eot ∷ rest) = (tt, asks n rest)
+asks n (Receive p ∷ rest) = (tt, asks n rest)
+
 typed : (K : Kinds) (ends : List End) → ((p : ℕ) → slice_get ends p ≡ Some writing → K.streams p ≡ U64) → (steps : List Step) → AllSuit ends steps → IsTypedBody K (map statement steps)
 typed K ends k [] h = tt
 typed K ends k (Send p (Datum v) ∷ rest) h = (subst (λ z. (U64 ≡ z) × (v < values_of z)) (sym (k p h.0.0)) (refl, h.0.1), typed K ends k rest h.1)
@@ -76,6 +83,7 @@ straight_leaf leaf ends steps s h = record {
   cells = λ a r e. absurd (none_there leaf.arrays.items a r s.arrays e);
   uses = subst (UsesBody (writes_of leaf.streams.items)) (sym s.code) (subst (λ e. UsesBody (writes_of e) (map statement steps)) (sym s.streams) (uses ends steps h));
   fits = subst (FitsBody (length leaf.vars.items) (length leaf.arrays.items) []) (sym s.code) (fits (length leaf.vars.items) (length leaf.arrays.items) [] steps);
+  asks = subst (AsksBody (length leaf.memories.items)) (sym s.code) (asks (length leaf.memories.items) steps);
   typed = subst (IsTypedBody (kinds_of leaf)) (sym s.code)
       (typed (kinds_of leaf) ends
       (λ p e. ap (λ es. unwrap_or (option_map (λ (e : End). e.kind) (slice_get es p)) U64) s.streams ∙ ap (λ o. unwrap_or (option_map (λ (e : End). e.kind) o) U64) e) steps h);

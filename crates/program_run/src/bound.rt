@@ -1,11 +1,10 @@
-// The values and cells that an instance's parameters are bound to.
-ghost use Rattle.std.specs.Prelude.{ℕ, List, ◌≡◌, ◌<◌, [], map, IfOk, slice_index, slice_index_or};
-ghost use Rattle.tapa_base.specs.declared.kind.Kind.TheVariants.{U64};
+// The values that an instance's scalar parameters are bound to.
+ghost use Rattle.std.specs.Prelude.{ℕ, List, ◌≡◌, ◌<◌, map, IfOk, slice_index};
 ghost use Rattle.tapa_base.specs.Kinds.{values_of as count_of_values};
-ghost use Rattle.kahn_model.specs.Slow.{rows_of};
 ghost use Rattle.kahn_model.specs.Start.{through, bound_value};
 ghost use Rattle.program_run.specs.Started.{kinds_in, ScalarsFit};
 
+use kahn_model::start::scalar_kind;
 use std::alloc::{AllocError, Global};
 use tapa_base::{Kind, convert};
 use tapa_syntax::{Bound, Instance, Program};
@@ -22,15 +21,6 @@ fn convert_through(from: Kind, kinds: &[Kind], v: u64) -> u64
         last = *kind;
     }
     value
-}
-
-fn scalar_kind(program: &Program, x: u32) -> Kind
-    ensures { result ≡ slice_index_or (kinds_in program.now) x U64 }
-{
-    match program.scalars.get(x as usize) {
-        Some(scalar) => scalar.kind,
-        None => Kind::U64,
-    }
 }
 
 fn value_at(values: &[u64], p: u32) -> u64
@@ -74,29 +64,4 @@ pub(crate) fn bound_values(
         values.push(value_of_bound(program, scalars, bound))?;
     }
     Ok(values)
-}
-
-// A copy of the first cells of a memory.
-fn copy_of(alloc: Global, memories: &[Vec<u64>], m: u32) -> Result<Vec<u64>, AllocError>
-    ensures { IfOk result (λ v. v.items ≡ slice_index_or (rows_of memories.now) m []) }
-{
-    match memories.get(m as usize) {
-        Some(cells) => cells.to_vec(alloc),
-        None => Ok(Vec::new(alloc)),
-    }
-}
-
-/// The first cells of the memories that an instance's parameters are bound to.
-pub(crate) fn bound_cells(
-    alloc: Global,
-    memories: &[Vec<u64>],
-    instance: &Instance,
-) -> Result<Vec<Vec<u64>>, AllocError>
-    ensures { IfOk result (λ v. rows_of v.items ≡ map (λ m. slice_index_or (rows_of memories.now) m []) instance.now.memories.items) }
-{
-    let mut rows = Vec::new(alloc);
-    for m in &instance.memories {
-        rows.push(copy_of(alloc, memories, *m)?)?;
-    }
-    Ok(rows)
 }

@@ -6,8 +6,9 @@ ghost use Rattle.net_core.specs.Bounded.{instance_job, scalars_of, memories_of};
 ghost use Rattle.coro_machine.specs.Coro.{IsCoroOf};
 ghost use Rattle.program_run.specs.Started.{AreLowered, AreStarted};
 
-use crate::bound::{bound_cells, bound_values};
+use crate::bound::bound_values;
 use coro_machine::Coro;
+use kahn_model::start::first_cells;
 use net_core::Input;
 use std::alloc::Global;
 use std::sync::Arc;
@@ -50,7 +51,7 @@ fn start_one(
     let instance = &program.instances[i];
     let machine = machines[instance.body as usize].clone()?;
     let scalars = bound_values(alloc, program, &input.scalars, instance)?;
-    let memories = bound_cells(alloc, &input.memories, instance)?;
+    let memories = first_cells(alloc, &input.memories, &instance.memories)?;
     let coroutine = Coro::new(alloc, machine, &scalars, memories)?;
     Ok(coroutine)
 }

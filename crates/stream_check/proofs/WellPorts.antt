@@ -11,9 +11,9 @@ use Rattle.tapa_syntax.specs.declared.tree.Parameter.{Parameter}
 use Rattle.tapa_syntax.specs.declared.tree.Parameter.TheVariants as parameter
 use Rattle.tapa_syntax.specs.Trees.{Statements, TaskTree}
 use Rattle.tapa_syntax.specs.Flat.{FlatLeaf}
-use Rattle.expression_check.specs.declared.sort.Sort.{Sort}
-use Rattle.expression_check.specs.declared.sort.Sort.TheVariants as sort
-use Rattle.expression_check.specs.Scopes.{Block, Scope, in_block, first_of, sort_of, declaring, IsSound}
+use Rattle.scope_check.specs.declared.sort.Sort.{Sort}
+use Rattle.scope_check.specs.declared.sort.Sort.TheVariants as sort
+use Rattle.scope_check.specs.Scopes.{Block, Scope, in_block, first_of, sort_of, declaring, IsSound}
 use Rattle.leaf_check.specs.Laws.{IsGlobal, AreGlobal}
 use Rattle.leaf_check.specs.Leaves as leaf
 use Rattle.leaf_check.specs.Leaves.{Head, leaf_of, leaf_faults}

@@ -21,7 +21,7 @@ use Rattle.tapa_syntax.specs.Trees.{ItemTree, TaskTree}
 use Rattle.tapa_syntax.specs.Flat.{FlatBound, FlatInstance, FlatLeaf, FlatProgram, flat_bound, flat_instance, flat_leaf, flat_program}
 use Rattle.tapa_syntax.specs.WellFormed as well
 use Rattle.tapa_syntax.specs.WellFormed.{IsBoundTo, IsEndOf, IsInstance, IsJoined, IsMemoryAt, IsStreamAt, IsWellFormed}
-use Rattle.expression_check.specs.declared.fault.CheckCode.TheVariants.{C3}
+use Rattle.scope_check.specs.declared.fault.CheckCode.TheVariants.{C3}
 use Rattle.leaf_check.proofs.Leaves.{leaf_well}
 use Rattle.upper_check.specs.declared.task.Channel.{Channel}
 use Rattle.upper_check.specs.Items.{no_items, items_faults, tasks_of}

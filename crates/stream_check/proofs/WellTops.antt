@@ -13,10 +13,10 @@ use Rattle.tapa_syntax.specs.declared.program.Stream.{Stream}
 use Rattle.tapa_syntax.specs.declared.tree.Parameter.{Parameter}
 use Rattle.tapa_syntax.specs.declared.tree.Parameter.TheVariants as parameter
 use Rattle.tapa_syntax.specs.Flat.{FlatBound, top_scalar, FlatInstance}
-use Rattle.expression_check.specs.declared.fault.Broken.{Broken}
-use Rattle.expression_check.specs.declared.fault.CheckCode.{CheckCode}
-use Rattle.expression_check.specs.declared.fault.CheckCode.TheVariants.{C3, C4, C5, C7, C11}
-use Rattle.expression_check.specs.Faults.{fault, over, where_so}
+use Rattle.scope_check.specs.declared.fault.Broken.{Broken}
+use Rattle.scope_check.specs.declared.fault.CheckCode.{CheckCode}
+use Rattle.scope_check.specs.declared.fault.CheckCode.TheVariants.{C3, C4, C5, C7, C11}
+use Rattle.scope_check.specs.Faults.{fault, over, where_so}
 use Rattle.upper_check.specs.declared.task.Channel.{Channel}
 use Rattle.upper_check.specs.Tasks.{Task}
 use Rattle.stream_check.specs.Parts.{Part, own, instance, too_deep, streams_in, instances_in}

@@ -20,13 +20,13 @@ use Rattle.tapa_syntax.specs.Trees.{ExpressionTree}
 use Rattle.expression_check.specs.Expressions.{as_kind, operated, operated_kind, is_comparison, prefix_kind, prefix_value, binary_kind, binary_value, arm_kind, constant_value, constant_faults, is_constant, is_constant_name, kind_of, value_of, wanted, cell_value, named_value, called_value, Method, divides, divisor_faults}
 use Rattle.expression_check.specs.Expressions as meaning
 use Rattle.expression_check.specs.Kinds.{rank, same_kind}
-use Rattle.expression_check.specs.declared.fault.Broken.{Broken}
+use Rattle.scope_check.specs.declared.fault.Broken.{Broken}
 use Rattle.tapa_base.specs.declared.text.Place.{Place}
-use Rattle.expression_check.specs.declared.sort.Sort.{Sort}
-use Rattle.expression_check.specs.declared.sort.Sort.TheVariants as sort
-use Rattle.expression_check.specs.Faults.{wrong_sort}
-use Rattle.expression_check.specs.Scopes.{Scope, sort_of, kind_of_sort, IsSound}
-use Rattle.expression_check.specs.Scopes as scope
+use Rattle.scope_check.specs.declared.sort.Sort.{Sort}
+use Rattle.scope_check.specs.declared.sort.Sort.TheVariants as sort
+use Rattle.scope_check.specs.Faults.{wrong_sort}
+use Rattle.scope_check.specs.Scopes.{Scope, sort_of, kind_of_sort, IsSound}
+use Rattle.scope_check.specs.Scopes as scope
 use Rattle.expression_check.proofs.Values.{converted_fits, applied_fits, bit_fits}
 use Rattle.stream_check.proofs.WellLists.{both, no_faults}
 

@@ -4,9 +4,9 @@ use Rattle.std.specs.Prelude.{Err, Result, slice_get}
 use Rattle.tapa_syntax.specs.declared.program.Program.{Program}
 use Rattle.tapa_syntax.specs.Flat.{FlatProgram, flat_program}
 use Rattle.tapa_syntax.specs.Trees.{ItemTree}
-use Rattle.expression_check.specs.Answers.{Answers}
-use Rattle.expression_check.specs.declared.fault.Broken.{Broken}
-use Rattle.expression_check.specs.declared.fault.CheckFault.{CheckFault}
+use Rattle.scope_check.specs.Answers.{Answers}
+use Rattle.scope_check.specs.declared.fault.Broken.{Broken}
+use Rattle.scope_check.specs.declared.fault.CheckFault.{CheckFault}
 use Rattle.upper_check.specs.Tasks.{Task, task_place}
 use Rattle.upper_check.specs.Items.{no_items, items_faults, tasks_of}
 use Rattle.stream_check.specs.Parts.{Part, streams_in, instances_in}

@@ -2,9 +2,9 @@
 use denote.Ref.{Bor}
 use Rattle.std.specs.Prelude.{ℕ, zero, suc, List, [], ◌∷◌, ◌++◌, map, length, Option, Some, None, Result}
 use Rattle.tapa_syntax.specs.Flat.{FlatInstance, flat_instance}
-use Rattle.expression_check.specs.declared.fault.Broken.{Broken}
-use Rattle.expression_check.specs.declared.fault.CheckFault.{CheckFault}
-use Rattle.expression_check.specs.Answers.{Answers}
+use Rattle.scope_check.specs.declared.fault.Broken.{Broken}
+use Rattle.scope_check.specs.declared.fault.CheckFault.{CheckFault}
+use Rattle.scope_check.specs.Answers.{Answers}
 use Rattle.tapa_base.specs.declared.text.Place.{Place}
 use Rattle.upper_check.specs.declared.task.Body.{Body}
 use Rattle.upper_check.specs.declared.task.Channel.{Channel}

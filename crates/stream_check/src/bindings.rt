@@ -1,11 +1,10 @@
 ghost use Rattle.std.specs.Prelude.{◌≡◌, ◌++◌, [], length, map, slice_get};
 ghost use Rattle.tapa_syntax.specs.Flat.{flat_instance};
-ghost use Rattle.expression_check.specs.Answers.{Answers};
+ghost use Rattle.scope_check.specs.Answers.{Answers};
 ghost use Rattle.upper_check.specs.Views.{task_view};
 ghost use Rattle.stream_check.specs.Programs as program;
 
-use crate::instance::number_of;
-use expression_check::{CheckCode, CheckFault, copied, refused};
+use scope_check::{CheckCode, CheckFault, copied, number_of, refused};
 use std::alloc::Global;
 use tapa_base::Place;
 use tapa_syntax::{End, Instance, Memory, Parameter, Stream};

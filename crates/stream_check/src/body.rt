@@ -1,11 +1,10 @@
 ghost use Rattle.std.specs.Prelude.{◌≡◌, ◌++◌, [], map};
 ghost use Rattle.tapa_syntax.specs.Flat.{flat_instance, flat_leaf};
-ghost use Rattle.expression_check.specs.Answers.{Answers};
+ghost use Rattle.scope_check.specs.Answers.{Answers};
 ghost use Rattle.upper_check.specs.Views.{body_view, task_view};
 ghost use Rattle.stream_check.specs.Programs as program;
 
-use crate::instance::{next, number_of};
-use expression_check::CheckFault;
+use scope_check::{CheckFault, next_number, number_of};
 use std::alloc::Global;
 use tapa_syntax::{Instance, Leaf};
 use upper_check::{Body, Task};
@@ -74,7 +73,7 @@ pub(crate) fn bodies(
         if is_among(number, numbers) {
             add_leaf(task.body, &mut leaves)?;
         }
-        number = next(number)?;
+        number = next_number(number)?;
     }
     Ok(leaves)
 }

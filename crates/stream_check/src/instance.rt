@@ -1,12 +1,13 @@
 ghost use Rattle.std.specs.Prelude.{◌≡◌, ◌+◌, [], map, slice_get, slice_index};
 ghost use Rattle.std.specs.Str.{IsAscii};
 ghost use Rattle.tapa_syntax.specs.Flat.{flat_bound, flat_instance};
-ghost use Rattle.expression_check.specs.Answers.{Answers};
+ghost use Rattle.scope_check.specs.Answers.{Answers};
 ghost use Rattle.upper_check.specs.Views.{invocation_view, task_view};
 ghost use Rattle.stream_check.specs.Parts as parts;
 
 use crate::label::{below, instance_name};
-use expression_check::{CheckFault, low_bits, same_kind};
+use expression_check::{low_bits, same_kind};
+use scope_check::{CheckFault, number_of};
 use std::alloc::Global;
 use tapa_base::{Kind, convert};
 use tapa_syntax::{Bound, Instance};
@@ -117,28 +118,6 @@ fn name_at<'t>(tasks: &'t [Task], number: usize) -> &'t [u8]
     match tasks.get(number) {
         Some(task) => task.declared.name.text.bytes(),
         None => &[],
-    }
-}
-
-/// A number in 32 bits. What is held in memory has no larger one.
-pub(crate) fn number_of(number: usize) -> Result<u32, CheckFault>
-    ensures { Answers (λ n. n) result [] number }
-{
-    if number <= u32::MAX as usize {
-        Ok(number as u32)
-    } else {
-        Err(CheckFault::OutOfMemory)
-    }
-}
-
-/// The next number. What is held in memory has no number past 32 bits.
-pub(crate) fn next(number: u32) -> Result<u32, CheckFault>
-    ensures { Answers (λ n. n) result [] (number + 1) }
-{
-    if number == u32::MAX {
-        Err(CheckFault::OutOfMemory)
-    } else {
-        Ok(number + 1)
     }
 }
 

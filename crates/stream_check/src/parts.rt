@@ -4,9 +4,9 @@ ghost use Rattle.upper_check.specs.Views.{invocation_view, task_view};
 ghost use Rattle.stream_check.specs.Parts as spec;
 ghost use Rattle.stream_check.specs.Views.{AddsParts, body_found, upper_parts};
 
-use crate::instance::{invoked, number_of};
+use crate::instance::invoked;
 use crate::label::below;
-use expression_check::{CheckFault, over};
+use scope_check::{CheckFault, number_of, over};
 use std::alloc::Global;
 use tapa_base::{Place, Text};
 use tapa_syntax::Instance;

@@ -1,13 +1,12 @@
 ghost use Rattle.std.specs.Prelude.{◌≡◌, ◌++◌, [], length, map};
 ghost use Rattle.std.specs.List.{list_any};
 ghost use Rattle.tapa_syntax.specs.Flat.{flat_bound, flat_instance};
-ghost use Rattle.expression_check.specs.Answers.{Answers};
+ghost use Rattle.scope_check.specs.Answers.{Answers};
 ghost use Rattle.upper_check.specs.Tasks as table;
 ghost use Rattle.upper_check.specs.Views.{body_view, task_view};
 ghost use Rattle.stream_check.specs.Programs as program;
 
-use crate::instance::number_of;
-use expression_check::{CheckCode, CheckFault, copied, refused};
+use scope_check::{CheckCode, CheckFault, copied, number_of, refused};
 use std::alloc::Global;
 use tapa_base::{Place, Text};
 use tapa_syntax::{Bound, Instance, Parameter, Scalar};

@@ -25,10 +25,10 @@ use Rattle.tapa_drive.specs.Refusal.{Reason, BadWords, Unread, Unwritten, Longer
 use Rattle.tapa_drive.specs.Source.{StopsAt, HasTree, HasNoTree, IsProgramOf, IsRefusedSource}
 use Rattle.tapa_drive.specs.declared.source.SourceCode.TheVariants.{Rule}
 use Rattle.tapa_syntax.specs.Flat.{flat_program}
-use Rattle.expression_check.specs.Answers as check
-use Rattle.expression_check.specs.declared.fault.Broken.{Broken}
-use Rattle.expression_check.specs.declared.fault.CheckFault.{CheckFault}
-use Rattle.expression_check.specs.declared.fault.CheckFault.TheVariants as check_fault
+use Rattle.scope_check.specs.Answers as check
+use Rattle.scope_check.specs.declared.fault.Broken.{Broken}
+use Rattle.scope_check.specs.declared.fault.CheckFault.{CheckFault}
+use Rattle.scope_check.specs.declared.fault.CheckFault.TheVariants as check_fault
 use Rattle.stream_check.specs.Programs.{program_faults, program_of}
 use Rattle.program_run.specs.declared.run.RunEnd.TheVariants as run_end
 use Rattle.tapa_drive.specs.declared.top.Ended.TheVariants as ended
@@ -51,13 +51,13 @@ has_tree text lexemes seen file are same found =
 no_memory : (place : Place) (code : ParseCode) → At code place ≡ OutOfMemory → ⊥
 no_memory place code e = cc
 
-pub has_no_tree : (text : List ℕ) (lexemes seen : List Lexeme) (place : Place) (code : ParseCode) → HasLexemes text lexemes → seen ≡ lexemes → Reads (Err (At code place)) (reading.file most_operators (reading.below most_levels) (symbols_of text seen))
+pub has_no_tree : (text : List ℕ) (lexemes seen : List Lexeme) (place : Place) (code : ParseCode) → HasLexemes text lexemes → seen ≡ lexemes → Reads text (Err (At code place)) (reading.file most_operators (reading.below most_levels) (symbols_of text seen))
     → ((items : List ItemTree) → IsTreeOf (symbols_of text seen) items → IsWithinLimits items → Answers (Err (At code place)) items) → HasNoTree text place code
 has_no_tree text lexemes seen place code are same reads only = record {
   lexemes = lexemes;
   are = are;
   none = λ items tree within. no_memory place code (only items (subst (λ (l : List Lexeme). IsTreeOf (symbols_of text l) items) (sym same) tree) within);
-  stops = subst (λ (l : List Lexeme). StopsAt (symbols_of text l) place code) same reads;
+  stops = subst (λ (l : List Lexeme). StopsAt text (symbols_of text l) place code) same reads;
 }
 
 -- what the check of a file answers

@@ -105,3 +105,16 @@ module _ (p q : Program) (same : flat_program p ≡ flat_program q) where
       let ms = same_memory_ports h.shape shape h.is_shape is in
       let none : faults shape d.file ≡ [] = sym (same_faults h.shape shape xs ms d.file) ∙ ap (faults h.shape) (one_json text d.file h.file d.is_json h.is_json) ∙ h.faultless in
       no_first (faults shape d.file) fault none d.first
+
+  -- data have one first fault
+  pub one_fault : (text : List ℕ) (fault other : DataFault) → HasDataFault p text fault → HasDataFault q text other → fault ≡ other
+  one_fault text NotJson NotJson h k = refl
+  one_fault text NotJson (Faulty g) h (shape, is, d) = absurd (h d.file d.is_json)
+  one_fault text (Faulty f) NotJson (shape, is, d) k = absurd (k d.file d.is_json)
+  one_fault text (Faulty f) (Faulty g) (s, is, d) (t, also, e) =
+      let xs = same_scalar_ports s t is also in
+      let ms = same_memory_ports s t is also in
+      let faults_are : faults s d.file ≡ faults t e.file = ap (faults s) (one_json text d.file e.file d.is_json e.is_json) ∙ same_faults s t xs ms e.file in
+      let both : Some f ≡ Some g = sym d.first ∙ ap first faults_are ∙ e.first in
+      let one : f ≡ g = cc in
+      ap Faulty one

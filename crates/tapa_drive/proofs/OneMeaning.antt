@@ -11,8 +11,10 @@ use Rattle.program_run.specs.Run.{Values}
 use Rattle.program_run.proofs.OneWay.{runs_alike, one_way, some_way}
 use Rattle.tapa_drive.specs.Answer.{IsAsked}
 use Rattle.tapa_drive.specs.Decided.{SourceMeaning, Ran, Misgiven, Overlong, Nothing, Given, Bytes, TooMany, Means}
+use Rattle.tapa_drive.specs.Inputs.{HasDataFault}
+use Rattle.tapa_drive.specs.Refusal.{DataFault}
 use Rattle.tapa_drive.specs.Source.{IsProgramOf}
-use Rattle.tapa_drive.proofs.Given.{one_input, not_misgiven}
+use Rattle.tapa_drive.proofs.Given.{one_input, one_fault, not_misgiven}
 use Rattle.tapa_drive.proofs.Sourced.{one_tree}
 
 module _ (text top : List ℕ) where
@@ -26,6 +28,9 @@ module _ (text top : List ℕ) where
 
   pub asked_once : (bytes : List ℕ) (p q : Program) (v w : Values) → IsAsked text top bytes p v → IsAsked text top bytes q w → v ≡ w
   asked_once bytes p q v w h g = one_input p q (one_program p q h.means g.means) bytes v w h.gives g.gives
+
+  pub faulty_once : (bytes : List ℕ) (p q : Program) (fault other : DataFault) → IsProgramOf text top p → IsProgramOf text top q → HasDataFault p bytes fault → HasDataFault q bytes other → fault ≡ other
+  faulty_once bytes p q fault other h g = one_fault p q (one_program p q h g) bytes fault other
 
   -- the runs of two programs of a source on their values are one
   one_run : (bytes : List ℕ) (limit : ℕ) (p q : Program) (v w : Values) (how other : RunMeaning) → IsAsked text top bytes p v → IsAsked text top bytes q w → Runs p v limit how → Runs q w limit other → how ≡ other

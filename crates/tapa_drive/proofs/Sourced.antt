@@ -13,8 +13,8 @@ use Rattle.tapa_lex.proofs.Whole.{one_list, not_both}
 use Rattle.expression_parse.specs.declared.fault.ParseCode.{ParseCode}
 use Rattle.expression_parse.specs.declared.fault.ParseCode.TheVariants as parse
 use Rattle.tapa_parse.proofs.CompleteFiles.{one_tree as tree_is_one}
-use Rattle.expression_check.specs.Answers.{IsFirst}
-use Rattle.expression_check.specs.declared.fault.Broken.{Broken}
+use Rattle.scope_check.specs.Answers.{IsFirst}
+use Rattle.scope_check.specs.declared.fault.Broken.{Broken}
 use Rattle.stream_check.specs.Programs.{program_faults, program_of}
 use Rattle.tapa_drive.specs.declared.source.SourceCode.{SourceCode}
 use Rattle.tapa_drive.specs.declared.source.SourceCode.TheVariants.{L1, L2, L3, L4, P1, P2, Rule}
@@ -31,7 +31,7 @@ one_tree text file other a b =
     let same = one_list text a.lexemes b.lexemes a.are b.are in
     tree_is_one (symbols_of text b.lexemes) (file_of file) (file_of other) (subst (λ (l : List Lexeme). IsTreeOf (symbols_of text l) (file_of file)) same a.spelled) b.spelled
 
-no_tree : (text : List ℕ) (place : Place) (code : ParseCode) (file : File) → HasNoTree text place code → HasTree text file → ⊥
+pub no_tree : (text : List ℕ) (place : Place) (code : ParseCode) (file : File) → HasNoTree text place code → HasTree text file → ⊥
 no_tree text place code file a b =
     let same = one_list text b.lexemes a.lexemes b.are a.are in
     a.none (file_of file) (subst (λ (l : List Lexeme). IsTreeOf (symbols_of text l) (file_of file)) same b.spelled) b.within

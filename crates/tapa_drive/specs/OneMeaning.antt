@@ -7,6 +7,8 @@ use Rattle.program_run.specs.Laws.{RunMeaning}
 use Rattle.program_run.specs.Run.{Values}
 use Rattle.tapa_drive.specs.Answer.{IsAsked}
 use Rattle.tapa_drive.specs.Decided.{SourceMeaning, Ran, Nothing, Given, Bytes, Means}
+use Rattle.tapa_drive.specs.Inputs.{HasDataFault}
+use Rattle.tapa_drive.specs.Refusal.{DataFault}
 use Rattle.tapa_drive.specs.Source.{IsProgramOf, IsRefusedSource}
 use Rattle.tapa_drive.specs.declared.source.SourceCode.{SourceCode}
 
@@ -17,6 +19,11 @@ SourcesHaveOneProgram = (text top : List ℕ) (p q : Program) → IsProgramOf te
 -- data give the programs of a source the same values
 abbrev pub SourcesHaveOneInput : Type 0
 SourcesHaveOneInput = (text top bytes : List ℕ) (p q : Program) (v w : Values) → IsAsked text top bytes p v → IsAsked text top bytes q w → v ≡ w
+
+-- and have one fault for them, if they have any
+abbrev pub SourcesHaveOneDataFault : Type 0
+SourcesHaveOneDataFault =
+    (text top bytes : List ℕ) (p q : Program) (fault other : DataFault) → IsProgramOf text top p → IsProgramOf text top q → HasDataFault p bytes fault → HasDataFault q bytes other → fault ≡ other
 
 -- with data and under a limit on ticks a source has at most one meaning
 abbrev pub SourcesMeanOneThing : Type 0
@@ -31,3 +38,8 @@ SourcesMeanSomething =
 abbrev pub RefusedSourcesMeanNothing : Type 0
 RefusedSourcesMeanNothing =
     (text top : List ℕ) (given : Given) (limit : ℕ) (place : Place) (code : SourceCode) → IsRefusedSource text top place code → Means text top given limit Nothing
+
+-- and it is refused at one place, by one rule
+abbrev pub SourcesHaveOneRefusal : Type 0
+SourcesHaveOneRefusal =
+    (text top : List ℕ) (place there : Place) (code other : SourceCode) → IsRefusedSource text top place code → IsRefusedSource text top there other → (place ≡ there) × (code ≡ other)

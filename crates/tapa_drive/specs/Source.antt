@@ -14,10 +14,10 @@ use Rattle.tapa_lex.specs.declared.fault.LexCode.TheVariants as lex
 use Rattle.tapa_lex.specs.Refusals.{IsRefused}
 use Rattle.expression_parse.specs.declared.fault.ParseCode.{ParseCode}
 use Rattle.expression_parse.specs.declared.fault.ParseCode.TheVariants as parse
-use Rattle.tapa_parse.specs.Answers.{IsRefusedAt}
+use Rattle.tapa_parse.specs.Answers.{stopped_at}
 use Rattle.tapa_parse.specs.Reading as reading
-use Rattle.expression_check.specs.Answers.{IsFirst}
-use Rattle.expression_check.specs.declared.fault.Broken.{Broken}
+use Rattle.scope_check.specs.Answers.{IsFirst}
+use Rattle.scope_check.specs.declared.fault.Broken.{Broken}
 use Rattle.stream_check.specs.Programs.{program_faults, program_of}
 use Rattle.tapa_drive.specs.declared.source.SourceCode.{SourceCode}
 use Rattle.tapa_drive.specs.declared.source.SourceCode.TheVariants.{L1, L2, L3, L4, P1, P2, Rule}
@@ -36,16 +36,16 @@ pub record IsProgramOf (text top : List ℕ) (program : Program) : Type 0 where
   pub legal : program_faults (file_of file) top ≡ []
   pub means : flat_program program ≡ program_of (file_of file) top
 
--- reading the symbols from left to right stops at this place, with this code
-abbrev pub StopsAt : List Symbol → Place → ParseCode → Type 0
-StopsAt symbols place code = (left : List Symbol) × IsRefusedAt place left × (reading.file most_operators (reading.below most_levels) symbols ≡ Err (code, left))
+-- reading the symbols of a text from left to right stops at this place, with this code
+abbrev pub StopsAt : List ℕ → List Symbol → Place → ParseCode → Type 0
+StopsAt text symbols place code = (left : List Symbol) × (place ≡ stopped_at text left) × (reading.file most_operators (reading.below most_levels) symbols ≡ Err (code, left))
 
 -- the grammar has no file for the lexemes of the text, within the limits, and reading them stops so
 pub record HasNoTree (text : List ℕ) (place : Place) (code : ParseCode) : Type 0 where
   pub lexemes : List Lexeme
   pub are : HasLexemes text lexemes
   pub none : (items : List ItemTree) → IsTreeOf (symbols_of text lexemes) items → IsWithinLimits items → ⊥
-  pub stops : StopsAt (symbols_of text lexemes) place code
+  pub stops : StopsAt text (symbols_of text lexemes) place code
 
 -- the text has a tree, and this is the first rule that it breaks with this top task
 pub record BreaksFirst (text top : List ℕ) (broken : Broken) : Type 0 where

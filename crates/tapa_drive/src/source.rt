@@ -1,7 +1,7 @@
 ghost use Rattle.std.specs.Prelude.{◌≡◌, IfOk, string_bytes};
 ghost use Rattle.tapa_drive.specs.Refusal.{code_text, rule_text};
 
-use expression_check::CheckCode;
+use scope_check::CheckCode;
 use std::alloc::Global;
 use tapa_base::OutOfMemory;
 

@@ -17,6 +17,7 @@ use Rattle.expression_parse.specs.Readers.{next, first_place, same, sees}
 use Rattle.expression_parse.specs.Reading.{Readers, attribute, attributes, below_room, below}
 use Rattle.expression_parse.specs.Readers.{is_left}
 use Rattle.tapa_parse.specs.Reading.{constant_word, body, task_behind, constant_behind, item, file}
+use Rattle.tapa_syntax.specs.Characters.{Bytes}
 use Rattle.expression_parse.proofs.Parts.{Symbols, done, ok_is, then_is, if_true, if_false, next_is, seen_is, dropped, expect_is, name_is}
 use Rattle.expression_parse.proofs.Lists.{IsPart, ReadsAll, repeat_complete}
 use Rattle.expression_parse.proofs.CompleteTypes.{type_complete, type_longer, takes_longer, sees_other}
@@ -159,7 +160,7 @@ one_tree symbols a b h k =
     ap (λ (x : List ItemTree × Symbols). x.0) (ok_is (a, []) (b, []) (sym first ∙ second))
 
 -- what is read is what the symbols have
-pub answered : (result : Result File ParseFault) (i : Symbols) → Reads result (file most_operators (below most_levels) i) → (trees : List ItemTree) → IsTreeOf i trees → IsWithinLimits trees → Answers result trees
-answered (Ok found) i (left, is) trees h k = ap (λ (x : List ItemTree × Symbols). x.0) (ok_is (file_of found, left) (trees, []) (sym is ∙ file_complete most_operators most_levels i trees h k.levels k.longest (omega arith)))
-answered (Err OutOfMemory) i is trees h k = refl
-answered (Err (At code place)) i (left, at, is) trees h k = absurd (let read = file_complete most_operators most_levels i trees h k.levels k.longest (omega arith) in cc)
+pub answered : (text : Bytes) (result : Result File ParseFault) (i : Symbols) → Reads text result (file most_operators (below most_levels) i) → (trees : List ItemTree) → IsTreeOf i trees → IsWithinLimits trees → Answers result trees
+answered text (Ok found) i (left, is) trees h k = ap (λ (x : List ItemTree × Symbols). x.0) (ok_is (file_of found, left) (trees, []) (sym is ∙ file_complete most_operators most_levels i trees h k.levels k.longest (omega arith)))
+answered text (Err OutOfMemory) i is trees h k = refl
+answered text (Err (At code place)) i (left, at, is) trees h k = absurd (let read = file_complete most_operators most_levels i trees h k.levels k.longest (omega arith) in cc)

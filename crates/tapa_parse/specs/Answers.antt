@@ -2,22 +2,23 @@
 use Rattle.std.specs.Prelude.{◌≡◌, List, [], ◌∷◌, Result, Ok, Err}
 use Rattle.tapa_base.specs.declared.text.Place.{Place}
 use Rattle.tapa_syntax.specs.declared.tree.File.{File}
+use Rattle.tapa_syntax.specs.Characters.{Bytes, place_of}
 use Rattle.tapa_syntax.specs.Symbols.{Symbol}
 use Rattle.tapa_syntax.specs.Trees.{ItemTree, file_of}
 use Rattle.tapa_parse.specs.declared.fault.ParseFault.{ParseFault}
 use Rattle.tapa_parse.specs.declared.fault.ParseFault.TheVariants.{At, OutOfMemory}
 use Rattle.expression_parse.specs.Readers.{Outcome}
 
--- the place of the first symbol that is left
-abbrev pub IsRefusedAt : Place → List Symbol → Type 0
-IsRefusedAt place [] = Unit {0}
-IsRefusedAt place (x ∷ rest) = place ≡ x.place
+-- the place of the first symbol that is left of a text, and behind its last byte where none is
+abbrev pub stopped_at : Bytes → List Symbol → Place
+stopped_at text [] = place_of text
+stopped_at text (x ∷ rest) = x.place
 
 -- the answer is what reading gives, unless memory ran out
-abbrev pub Reads : Result File ParseFault → Outcome (List ItemTree) → Type 0
-Reads (Ok file) outcome = (left : List Symbol) × (outcome ≡ Ok (file_of file, left))
-Reads (Err OutOfMemory) outcome = Unit {0}
-Reads (Err (At code place)) outcome = (left : List Symbol) × IsRefusedAt place left × (outcome ≡ Err (code, left))
+abbrev pub Reads : Bytes → Result File ParseFault → Outcome (List ItemTree) → Type 0
+Reads text (Ok file) outcome = (left : List Symbol) × (outcome ≡ Ok (file_of file, left))
+Reads text (Err OutOfMemory) outcome = Unit {0}
+Reads text (Err (At code place)) outcome = (left : List Symbol) × (place ≡ stopped_at text left) × (outcome ≡ Err (code, left))
 
 -- a file with this tree, unless memory ran out
 abbrev pub Answers : Result File ParseFault → List ItemTree → Type 0

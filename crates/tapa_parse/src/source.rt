@@ -1,11 +1,12 @@
 //! The tree of a source.
 
 ghost use Rattle.std.specs.Prelude.{◌≡◌, ◌<◌, ◌-◌, ◌^◌, List, length, IfOk};
+ghost use Rattle.tapa_syntax.specs.Characters.{place_of};
 ghost use Rattle.tapa_syntax.specs.Symbols.{symbols_of};
 ghost use Rattle.tapa_syntax.specs.Trees.{ItemTree, file_of};
 ghost use Rattle.tapa_syntax.specs.Grammar.{IsTreeOf};
 ghost use Rattle.tapa_syntax.specs.Limits.{most_levels, most_operators, IsWithinLimits};
-ghost use Rattle.tapa_parse.specs.Answers.{Reads, IsRefusedAt, Answers};
+ghost use Rattle.tapa_parse.specs.Answers.{Reads, stopped_at, Answers};
 ghost use Rattle.tapa_parse.specs.Reading as spec;
 
 use crate::fault::ParseFault;
@@ -21,6 +22,7 @@ const MOST_LEVELS: u32 = 64;
 /// The place behind the last byte.
 fn end_place(text: &[u8]) -> Place
     requires { length text.now < 2 ^ 32 - 1 }
+    ensures { result ≡ place_of text.now }
 {
     let mut line = 1;
     let mut col = 1;
@@ -37,7 +39,7 @@ fn end_place(text: &[u8]) -> Place
 
 fn refused_place(parser: &Parser, text: &[u8]) -> Place
     requires { length text.now < 2 ^ 32 - 1 }
-    ensures { IsRefusedAt result parser.now }
+    ensures { result ≡ stopped_at text.now parser.now }
 {
     if parser.is_left() {
         parser.place()
@@ -46,14 +48,14 @@ fn refused_place(parser: &Parser, text: &[u8]) -> Place
     }
 }
 
-/// The tree of the lexemes of a text, or the first lexeme that is refused. Which of the two codes is told where no
-/// lexeme is left, and that the place behind the last byte is told then, is shown by tests.
+/// The tree of the lexemes of a text, or the first lexeme that is refused, with its place: behind the last byte where no
+/// lexeme is left.
 #[tactic(auto, using(crate::proofs::SoundTasks::found_sound))]
 pub fn parse(alloc: Global, lexemes: &[Lexeme], text: &[u8]) -> Result<File, ParseFault>
     requires { length text.now < 2 ^ 32 - 1 }
     ensures found { IfOk result (λ file. IsTreeOf (symbols_of text.now lexemes.now) (file_of file) × IsWithinLimits (file_of file)) }
     ensures only { (items : List ItemTree) → IsTreeOf (symbols_of text.now lexemes.now) items → IsWithinLimits items → Answers result items }
-    ensures reads { Reads result (spec.file most_operators (spec.below most_levels) (symbols_of text.now lexemes.now)) }
+    ensures reads { Reads text.now result (spec.file most_operators (spec.below most_levels) (symbols_of text.now lexemes.now)) }
 {
     let mut parser = Parser::new(alloc, text, lexemes);
     match file(&mut parser, MOST_LEVELS) {

@@ -7,6 +7,7 @@ pub mod Lexemes
 pub mod Limits
 pub mod Literals
 pub mod Spans
+pub mod MemoryUse
 pub mod StreamUse
 pub mod Symbols
 pub mod Trees

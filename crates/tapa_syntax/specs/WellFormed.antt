@@ -17,6 +17,7 @@ use Rattle.tapa_syntax.specs.declared.program.Stream.{Stream}
 use Rattle.tapa_syntax.specs.LeafKinds.{kinds_of, writes_of}
 use Rattle.tapa_syntax.specs.StreamUse.{UsesBody}
 use Rattle.tapa_syntax.specs.ArrayUse.{FitsBody}
+use Rattle.tapa_syntax.specs.MemoryUse.{AsksBody}
 use Rattle.tapa_syntax.specs.Typed.{IsTypedBody}
 
 -- no number stands twice in a list
@@ -32,6 +33,7 @@ pub record IsLeaf (leaf : Leaf) : Type 0 where
   pub cells : (a : ℕ) (r : Array) → slice_get leaf.arrays.items a ≡ Some r → (1 ≤ r.cells) × (r.cells ≤ 4096)
   pub uses : UsesBody (writes_of leaf.streams.items) leaf.code.items
   pub fits : FitsBody (length leaf.vars.items) (length leaf.arrays.items) [] leaf.code.items
+  pub asks : AsksBody (length leaf.memories.items) leaf.code.items
   pub typed : IsTypedBody (kinds_of leaf) leaf.code.items
 
 -- which end of a stream an instance is

@@ -3,11 +3,11 @@ use Rattle.std.specs.Prelude.{ℕ, List, [], ◌∷◌, ◌++◌}
 use Rattle.tapa_base.specs.declared.kind.Kind.{Kind}
 use Rattle.tapa_syntax.specs.Trees as tree
 use Rattle.tapa_syntax.specs.Trees.{ExpressionTree, BodyTree, TaskTree, ItemTree}
-use Rattle.expression_check.specs.declared.fault.Broken.{Broken}
-use Rattle.expression_check.specs.declared.sort.Sort.TheVariants as sort
-use Rattle.expression_check.specs.Scopes.{Block}
+use Rattle.scope_check.specs.declared.fault.Broken.{Broken}
+use Rattle.scope_check.specs.declared.sort.Sort.TheVariants as sort
+use Rattle.scope_check.specs.Scopes.{Block}
 use Rattle.expression_check.specs.Expressions.{wanted, constant_value, constant_faults}
-use Rattle.expression_check.specs.Faults.{doubled}
+use Rattle.scope_check.specs.Faults.{doubled}
 use Rattle.leaf_check.specs.Leaves.{leaf_faults, leaf_of}
 use Rattle.upper_check.specs.Tasks.{Body, leaf_body, Task}
 use Rattle.upper_check.specs.Uppers.{upper_faults, upper_of}

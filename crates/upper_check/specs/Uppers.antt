@@ -9,13 +9,13 @@ use Rattle.tapa_syntax.specs.declared.tree.Parameter.TheVariants as parameter
 use Rattle.tapa_syntax.specs.Trees as tree
 use Rattle.tapa_syntax.specs.Trees.{ExpressionTree, CountTree, StreamTree, ArgumentTree, InvocationTree, TaskTree}
 use Rattle.tapa_syntax.specs.Flat.{literal}
-use Rattle.expression_check.specs.declared.fault.Broken.{Broken}
-use Rattle.expression_check.specs.declared.fault.CheckCode.TheVariants.{C1, C3, C10}
-use Rattle.expression_check.specs.declared.sort.Sort.{Sort}
-use Rattle.expression_check.specs.declared.sort.Sort.TheVariants as sort
+use Rattle.scope_check.specs.declared.fault.Broken.{Broken}
+use Rattle.scope_check.specs.declared.fault.CheckCode.TheVariants.{C1, C3, C10}
+use Rattle.scope_check.specs.declared.sort.Sort.{Sort}
+use Rattle.scope_check.specs.declared.sort.Sort.TheVariants as sort
 use Rattle.expression_check.specs.Kinds.{same_kind}
-use Rattle.expression_check.specs.Scopes.{Block, Scope, sort_of, declaring}
-use Rattle.expression_check.specs.Faults.{fault, where_so, wrong_sort, doubled}
+use Rattle.scope_check.specs.Scopes.{Block, Scope, sort_of, declaring}
+use Rattle.scope_check.specs.Faults.{fault, where_so, wrong_sort, doubled}
 use Rattle.expression_check.specs.Expressions.{is_constant, constant_faults, constant_value, as_kind, wanted}
 use Rattle.expression_check.specs.Counts.{count_of, count_faults}
 use Rattle.upper_check.specs.declared.task.Channel.{Channel}

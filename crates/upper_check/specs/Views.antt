@@ -2,7 +2,7 @@
 use Rattle.std.specs.Prelude.{List, map}
 use Rattle.tapa_syntax.specs.Trees.{task_of}
 use Rattle.tapa_syntax.specs.Flat.{flat_leaf}
-use Rattle.expression_check.specs.Scopes.{Block}
+use Rattle.scope_check.specs.Scopes.{Block}
 use Rattle.upper_check.specs.declared.task.Body.{Body}
 use Rattle.upper_check.specs.declared.task.Body.TheVariants.{Leaf, Upper}
 use Rattle.upper_check.specs.declared.task.Invoked.{Invoked}

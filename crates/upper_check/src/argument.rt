@@ -1,14 +1,13 @@
 ghost use Rattle.std.specs.Prelude.{◌≡◌, Some, map};
 ghost use Rattle.tapa_syntax.specs.Trees as tree;
-ghost use Rattle.expression_check.specs.Answers.{Answers};
-ghost use Rattle.expression_check.specs.Faults.{wrong_sort};
-ghost use Rattle.expression_check.specs.Scopes.{IsSound, sort_of};
+ghost use Rattle.scope_check.specs.Answers.{Answers};
+ghost use Rattle.scope_check.specs.Faults.{wrong_sort};
+ghost use Rattle.scope_check.specs.Scopes.{IsSound, sort_of};
 ghost use Rattle.upper_check.specs.Uppers as upper;
 
 use crate::task::Link;
-use expression_check::{
-    CheckCode, CheckFault, Constant, Scope, Sort, converted, evaluated, known, refused, same_kind,
-};
+use expression_check::{Constant, converted, evaluated, known, same_kind};
+use scope_check::{CheckCode, CheckFault, Scope, Sort, refused};
 use std::alloc::Global;
 use tapa_base::{Kind, Place};
 use tapa_syntax::{Expression, InvocationArgument, Name, Parameter};

@@ -1,12 +1,13 @@
 ghost use Rattle.std.specs.Prelude.{◌≡◌, ◌<◌, [], length, map};
 ghost use Rattle.tapa_syntax.specs.Trees as tree;
-ghost use Rattle.expression_check.specs.Answers.{Answers};
-ghost use Rattle.expression_check.specs.Faults.{doubled};
+ghost use Rattle.scope_check.specs.Answers.{Answers};
+ghost use Rattle.scope_check.specs.Faults.{doubled};
 ghost use Rattle.upper_check.specs.Signatures.{channels_of};
 ghost use Rattle.upper_check.specs.Uppers as upper;
 
 use crate::task::Channel;
-use expression_check::{CheckFault, Scope, Sort, copied, count_in};
+use expression_check::count_in;
+use scope_check::{CheckFault, Scope, Sort, copied, number_of};
 use std::alloc::Global;
 use tapa_base::Kind;
 use tapa_syntax::{Count, Name, StreamDeclaration};
@@ -19,17 +20,6 @@ const USUAL_DEPTH: u32 = 2;
 pub(crate) struct Channels<'a> {
     pub scope: Scope<'a>,
     pub streams: Vec<Channel>,
-}
-
-/// The number of the next one. What is held in memory has no number past 32 bits.
-fn number_of(count: usize) -> Result<u32, CheckFault>
-    ensures { Answers (λ n. n) result [] count }
-{
-    if count <= u32::MAX as usize {
-        Ok(count as u32)
-    } else {
-        Err(CheckFault::OutOfMemory)
-    }
 }
 
 fn depth_of(scope: &Scope, depth: &Option<Count>) -> Result<u32, CheckFault>

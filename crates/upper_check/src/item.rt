@@ -1,13 +1,14 @@
 ghost use Rattle.std.specs.Prelude.{◌≡◌, map};
 ghost use Rattle.tapa_syntax.specs.Trees as tree;
-ghost use Rattle.expression_check.specs.Answers.{Answers};
+ghost use Rattle.scope_check.specs.Answers.{Answers};
 ghost use Rattle.upper_check.specs.Items as items;
 ghost use Rattle.upper_check.specs.Views.{body_view, items_view, task_view};
 
 use crate::invocation::check_upper;
 use crate::task::{Body, Task};
-use expression_check::{CheckFault, FileNames, Scope, Sort, check_constant};
+use expression_check::check_constant;
 use leaf_check::check_leaf;
+use scope_check::{CheckFault, FileNames, Scope, Sort};
 use std::alloc::Global;
 use tapa_syntax::{FileItem, TaskBody, TaskDeclaration};
 

@@ -1,11 +1,11 @@
 ghost use Rattle.std.specs.Prelude.{◌≡◌, ◌<◌, ◌+◌, [], IfOk, length};
-ghost use Rattle.expression_check.specs.Answers.{Answers};
-ghost use Rattle.expression_check.specs.Faults.{doubled};
-ghost use Rattle.expression_check.specs.Scopes.{IsSound, declaring};
+ghost use Rattle.scope_check.specs.Answers.{Answers};
+ghost use Rattle.scope_check.specs.Faults.{doubled};
+ghost use Rattle.scope_check.specs.Scopes.{IsSound, declaring};
 ghost use Rattle.upper_check.specs.Signatures.{signature_of};
 ghost use Rattle.upper_check.specs.Uppers as upper;
 
-use expression_check::{CheckFault, FileNames, Scope, Sort};
+use scope_check::{CheckFault, FileNames, Scope, Sort, next_number};
 use std::alloc::Global;
 use tapa_base::Kind;
 use tapa_syntax::{Name, Parameter};
@@ -17,17 +17,6 @@ pub(crate) struct Signature<'a> {
     streams: u32,
     memories: u32,
     scalars: u32,
-}
-
-/// The next number. What is held in memory has no number past 32 bits.
-pub(crate) fn next(number: u32) -> Result<u32, CheckFault>
-    ensures { Answers (λ n. n) result [] (number + 1) }
-{
-    if number == u32::MAX {
-        Err(CheckFault::OutOfMemory)
-    } else {
-        Ok(number + 1)
-    }
 }
 
 /// One declaration more in a block of a task.
@@ -74,7 +63,7 @@ impl<'a> Signature<'a> {
             number,
         };
         declare(alloc, &mut self.scope, name, sort)?;
-        self.streams = next(number)?;
+        self.streams = next_number(number)?;
         Ok(())
     }
 
@@ -96,7 +85,7 @@ impl<'a> Signature<'a> {
             name,
             Sort::Memory { free, kind, number },
         )?;
-        self.memories = next(number)?;
+        self.memories = next_number(number)?;
         Ok(())
     }
 
@@ -118,7 +107,7 @@ impl<'a> Signature<'a> {
             name,
             Sort::Variable { free, kind, number },
         )?;
-        self.scalars = next(number)?;
+        self.scalars = next_number(number)?;
         Ok(())
     }
 

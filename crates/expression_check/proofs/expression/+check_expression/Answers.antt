@@ -1,9 +1,9 @@
 use Rattle.std.proofs.Common.{map, ap, ◌∙◌, sym, subst}
 use Rattle.tapa_syntax.specs.Trees as tree
 use Rattle.tapa_syntax.specs.Trees.{ExpressionTree}
-use Rattle.expression_check.specs.Answers.{Answers}
+use Rattle.scope_check.specs.Answers.{Answers}
 use Rattle.expression_check.specs.Expressions.{typed, operand, operand_faults, faults_of, meaning_of, method_of}
-use Rattle.expression_check.specs.Scopes.{sort_of}
+use Rattle.scope_check.specs.Scopes.{sort_of}
 use Rattle.expression_check.proofs.Rows.{expression-Call, listed-expressions}
 use Rattle.expression_check.proofs.expression.+check_expression.Goals as goal
 

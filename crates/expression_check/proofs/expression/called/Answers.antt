@@ -1,11 +1,11 @@
 use Rattle.std.proofs.Common.{◌++◌}
 use Rattle.std.proofs.lemmas.Result.{err_from_is_err_and}
-use Rattle.expression_check.specs.declared.fault.CheckCode.TheVariants.{C8}
+use Rattle.scope_check.specs.declared.fault.CheckCode.TheVariants.{C8}
 use Rattle.expression_check.specs.Expressions.{typed, operand, call_faults, no_value}
-use Rattle.expression_check.specs.Faults.{fault, where_so}
+use Rattle.scope_check.specs.Faults.{fault, where_so}
 use Rattle.expression_check.specs.Methods.{method_view, call_view}
-use Rattle.expression_check.specs.Scopes.{sort_of}
-use Rattle.expression_check.proofs.Order.{fails}
+use Rattle.scope_check.specs.Scopes.{sort_of}
+use Rattle.scope_check.proofs.Order.{fails}
 use Rattle.expression_check.proofs.expression.called.Goals as goal
 
 pub returns-in_err-call : goal.returns-in_err-call

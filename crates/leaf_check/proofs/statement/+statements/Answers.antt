@@ -1,4 +1,4 @@
-use Rattle.expression_check.specs.declared.fault.Broken.{Broken}
+use Rattle.scope_check.specs.declared.fault.Broken.{Broken}
 use Rattle.std.proofs.Common.{◌≡◌, List, ◌<◌, ◌++◌, [], true, false, length, map, ap, ◌∙◌, sym, subst}
 use Rattle.std.proofs.lemmas.Result.{err_from_is_err_and}
 use Rattle.tapa_syntax.specs.Flat as flat

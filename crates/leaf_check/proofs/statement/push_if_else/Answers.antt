@@ -1,6 +1,6 @@
 use Rattle.std.proofs.Common.{map, subst}
 use Rattle.tapa_syntax.specs.Flat.{flat_statement}
-use Rattle.expression_check.specs.Answers.{Answers}
+use Rattle.scope_check.specs.Answers.{Answers}
 use Rattle.leaf_check.specs.Views.{Part}
 use Rattle.leaf_check.proofs.Pushed.{if_else-pushed}
 use Rattle.leaf_check.proofs.statement.push_if_else.Goals as goal

@@ -3,7 +3,7 @@ use Rattle.std.specs.Prelude.{Err}
 use Rattle.std.proofs.lemmas.Result.{err_from_is_err_and}
 use Rattle.tapa_syntax.specs.declared.tree.FileItem.{FileItem}
 use Rattle.tapa_syntax.specs.Trees.{item_of}
-use Rattle.expression_check.specs.Answers.{Answers}
+use Rattle.scope_check.specs.Answers.{Answers}
 use Rattle.upper_check.specs.Items.{no_items, items_faults, tasks_of}
 use Rattle.upper_check.specs.Tasks.{task_place}
 use Rattle.upper_check.specs.Views.{task_view}

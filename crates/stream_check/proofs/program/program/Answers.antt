@@ -1,7 +1,7 @@
 use Rattle.std.proofs.Common.{◌≡◌, List, [], Some, map, sym, ap, subst, ◌∙◌}
 use Rattle.std.specs.Prelude.{Err, slice_get}
 use Rattle.std.proofs.lemmas.Result.{err_from_is_err_and}
-use Rattle.expression_check.specs.Answers.{Answers}
+use Rattle.scope_check.specs.Answers.{Answers}
 use Rattle.upper_check.specs.declared.task.Task.{Task}
 use Rattle.upper_check.specs.Views.{task_view}
 use Rattle.stream_check.specs.Programs.{limit_faults, top_parts}

@@ -14,7 +14,7 @@ use Rattle.tapa_drive.proofs.program.read_tree.Goals as goal
 
 pub returns-in-Err-At-parse-clause-refused : goal.returns-in-Err-At-parse-clause-refused
 returns-in-Err-At-parse-clause-refused c = λ top.
-    let reads = subst (λ (f : ParseFault). Reads (Err f) (file most_operators (below most_levels) (symbols_of c.args.text.now c.deref.result.now))) c.in-Err-At-parse.field-0-is c.in-Err-At-parse.ensures.reads in
+    let reads = subst (λ (f : ParseFault). Reads c.args.text.now (Err f) (file most_operators (below most_levels) (symbols_of c.args.text.now c.deref.result.now))) c.in-Err-At-parse.field-0-is c.in-Err-At-parse.ensures.reads in
     let only = λ (items : List ItemTree) (tree : IsTreeOf (symbols_of c.args.text.now c.deref.result.now) items) (within : IsWithinLimits items). subst (λ (f : ParseFault). Answers (Err f) items) c.in-Err-At-parse.field-0-is (c.in-Err-At-parse.ensures.only items tree within) in
     let none = has_no_tree c.args.text.now c.in-Ok.lexemes.items c.deref.result.now c.in-Err-At-parse.place c.in-Err-At-parse.code c.in-Ok.ensures.found c.deref.ensures.value reads only in
     let refused = refused_by_parser c.args.text.now top c.in-Err-At-parse.place c.in-Err-At-parse.code none in

@@ -1,5 +1,7 @@
-use Rattle.std.proofs.Common.{◌≤◌, ◌+◌}
+use Rattle.std.proofs.Common.{◌≡◌, ◌≤◌, ◌+◌, take}
+use Rattle.tapa_base.specs.declared.text.Place.{Place}
+use Rattle.tapa_syntax.specs.Characters.{place_of}
 use Rattle.tapa_parse.proofs.source.end_place.Given as goal
 
 abbrev pub invariant-loop-turn : goal.invariant-loop-turn
-invariant-loop-turn l = (l.line ≤ l.turn + 1) × (l.col ≤ l.turn + 1)
+invariant-loop-turn l = (let p : Place = record { line = l.line; col = l.col } in p ≡ place_of (take l.turn l.text)) × (l.line ≤ l.turn + 1) × (l.col ≤ l.turn + 1)

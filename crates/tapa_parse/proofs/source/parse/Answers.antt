@@ -5,7 +5,7 @@ use Rattle.tapa_parse.proofs.CompleteFiles.{answered}
 use Rattle.tapa_parse.proofs.source.parse.Goals as goal
 
 pub returns-in-Ok-clause-only : goal.returns-in-Ok-clause-only
-returns-in-Ok-clause-only c = answered (Ok c.in-Ok.file) (symbols_of c.args.text.now c.args.lexemes.now) (search rules)
+returns-in-Ok-clause-only c = answered c.args.text.now (Ok c.in-Ok.file) (symbols_of c.args.text.now c.args.lexemes.now) (search rules)
 
 pub returns-in-Err-Refused-clause-only : goal.returns-in-Err-Refused-clause-only
-returns-in-Err-Refused-clause-only c = answered (Err (At c.in-Err-Refused.code c.refused_place.result)) (symbols_of c.args.text.now c.args.lexemes.now) (search rules)
+returns-in-Err-Refused-clause-only c = answered c.args.text.now (Err (At c.in-Err-Refused.code c.refused_place.result)) (symbols_of c.args.text.now c.args.lexemes.now) (search rules)

@@ -1,0 +1,443 @@
+use kahn_model::rounds::streams;
+use kahn_model::slow::{Fault, Variables, trace};
+use kahn_model::tick::{Action, Mark, Tick};
+use std::alloc::{AllocError, Global};
+use std::test::Fail;
+use tapa_base::{Kind, Op, Text, Token};
+use tapa_syntax::{Array, End, Expr, Instance, Leaf, Program, Stmt, Stream};
+
+fn apply(alloc: Global, op: Op, left: Expr, right: Expr) -> Result<Expr, AllocError> {
+    Ok(Expr::Apply {
+        op,
+        kind: Kind::U64,
+        left: Box::new(alloc, left)?,
+        right: Box::new(alloc, right)?,
+    })
+}
+
+fn number(n: u64) -> Expr {
+    Expr::Lit(Kind::U64, n)
+}
+
+fn plus(alloc: Global, left: Expr, n: u64) -> Result<Expr, AllocError> {
+    apply(alloc, Op::Add, left, number(n))
+}
+
+// A leaf that writes its first streams and reads the others, with three variables, and an array and a memory of bytes.
+fn leaf(alloc: Global, writes: usize, reads: usize, code: Vec<Stmt>) -> Result<Leaf, AllocError> {
+    let kind = Kind::U64;
+    let mut ends = vec![in alloc; End { kind, writes: true }; writes]?;
+    for _end in 0..reads {
+        ends.push(End {
+            kind,
+            writes: false,
+        })?;
+    }
+    Ok(Leaf {
+        name: Text::new(Vec::new(alloc)),
+        scalars: Vec::new(alloc),
+        streams: ends,
+        memories: vec![in alloc; Kind::U8; 1]?,
+        vars: vec![in alloc; kind; 3]?,
+        arrays: vec![in alloc; Array {
+            kind: Kind::I8,
+            cells: 2
+        }; 1]?,
+        code,
+    })
+}
+
+fn instance(alloc: Global, body: u32, streams: Vec<u32>) -> Instance {
+    Instance {
+        label: Text::new(Vec::new(alloc)),
+        body,
+        scalars: Vec::new(alloc),
+        streams,
+        memories: Vec::new(alloc),
+    }
+}
+
+fn stream(alloc: Global, producer: u32, consumer: u32) -> Stream {
+    Stream {
+        label: Text::new(Vec::new(alloc)),
+        kind: Kind::U64,
+        depth: 1,
+        producer,
+        consumer,
+    }
+}
+
+fn program(
+    alloc: Global,
+    bodies: Vec<Leaf>,
+    instances: Vec<Instance>,
+    streams: Vec<Stream>,
+) -> Program {
+    Program {
+        top: Text::new(Vec::new(alloc)),
+        scalars: Vec::new(alloc),
+        memories: Vec::new(alloc),
+        bodies,
+        instances,
+        streams,
+    }
+}
+
+fn variables(alloc: Global) -> Result<Variables, AllocError> {
+    let mut arrays = Vec::new(alloc);
+    arrays.push(vec![in alloc; 0; 2]?)?;
+    let mut cells = Vec::new(alloc);
+    cells.push(vec![in alloc; 0; 2]?)?;
+    Ok(Variables {
+        vars: vec![in alloc; 0; 3]?,
+        arrays,
+        cells,
+    })
+}
+
+fn data(alloc: Global, numbers: &[u64]) -> Result<Vec<Token>, AllocError> {
+    let mut tokens = Vec::new(alloc);
+    for n in numbers {
+        tokens.push(Token::Datum(*n))?;
+    }
+    Ok(tokens)
+}
+
+fn row(lists: &[Vec<Token>], s: usize) -> &[Token] {
+    match lists.get(s) {
+        Some(list) => list,
+        None => &[],
+    }
+}
+
+// `for (x = 0; x < 3; ++x) statement`.
+fn three_times(alloc: Global, statement: Stmt) -> Result<Vec<Stmt>, AllocError> {
+    let step = Vec::from_array(alloc, [Stmt::Set(0, plus(alloc, Expr::Var(0), 1)?)])?;
+    let test = apply(alloc, Op::Lt, Expr::Var(0), number(3))?;
+    let body = Vec::from_array(alloc, [statement])?;
+    Ok(Vec::from_array(
+        alloc,
+        [Stmt::Set(0, number(0)), Stmt::Loop { test, body, step }],
+    )?)
+}
+
+// Three tasks in a row: the first writes 5, 6, 7, the second adds 1, the third reads.
+fn path(alloc: Global) -> Result<Program, AllocError> {
+    let first = three_times(alloc, Stmt::Write(0, plus(alloc, Expr::Var(0), 5)?))?;
+    let second = three_times(alloc, Stmt::Write(0, plus(alloc, Expr::Read(1), 1)?))?;
+    let third = three_times(alloc, Stmt::Set(1, Expr::Read(0)))?;
+    let bodies = Vec::from_array(
+        alloc,
+        [
+            leaf(alloc, 1, 0, first)?,
+            leaf(alloc, 1, 1, second)?,
+            leaf(alloc, 0, 1, third)?,
+        ],
+    )?;
+    let instances = Vec::from_array(
+        alloc,
+        [
+            instance(alloc, 0, vec![in alloc; 0; 1]?),
+            instance(alloc, 1, Vec::from_array(alloc, [1, 0])?),
+            instance(alloc, 2, vec![in alloc; 1; 1]?),
+        ],
+    )?;
+    let streams = Vec::from_array(alloc, [stream(alloc, 0, 1), stream(alloc, 1, 2)])?;
+    Ok(program(alloc, bodies, instances, streams))
+}
+
+// The number of ticks of an instance of the path program on lists of so many tokens, and its mark.
+fn ticks_of(alloc: Global, i: usize, n: u64, tokens: usize) -> Result<(usize, Mark), Fault> {
+    let path = path(alloc)?;
+    let q = vec![in alloc; Token::Datum(5); tokens]?;
+    let r = vec![in alloc; Token::Datum(6); tokens]?;
+    let lists = vectors(alloc, q, r)?;
+    match (path.bodies.get(i), path.instances.get(i)) {
+        (Some(leaf), Some(instance)) => {
+            let (ticks, mark) = trace(
+                alloc,
+                leaf,
+                &instance.streams,
+                variables(alloc)?,
+                n,
+                &lists,
+            )?;
+            Ok((ticks.len(), mark))
+        }
+        _ => Ok((0, Mark::Turns)),
+    }
+}
+
+fn vectors(alloc: Global, q: Vec<Token>, r: Vec<Token>) -> Result<Vec<Vec<Token>>, AllocError> {
+    Ok(Vec::from_array(alloc, [q, r])?)
+}
+
+#[test]
+fn ticks_of_the_path_program(rt: HostRuntime) -> Result<(), Fail> {
+    let alloc = rt.alloc();
+    // Set; then for each of three turns Test, the statement's ticks and Set; a last Test; End.
+    for (i, n, tokens, ticks, mark) in [
+        (0, 1002, 0, 12, Mark::Ended),
+        (1, 1002, 3, 15, Mark::Ended),
+        (2, 1002, 3, 15, Mark::Ended),
+        (0, 3, 0, 10, Mark::Turns),
+        (1, 1002, 1, 6, Mark::Needs(0)),
+        (2, 1002, 2, 10, Mark::Needs(1)),
+    ] {
+        assert_eq!(rt;
+            ticks_of(alloc, i, n, tokens)?,
+            (ticks, mark),
+            "at {i} {tokens}"
+        );
+    }
+    Ok(())
+}
+
+#[test]
+fn rounds_of_the_path_program(rt: HostRuntime) -> Result<(), Fail> {
+    let alloc = rt.alloc();
+    let path = path(alloc)?;
+    for (n, q, r) in [
+        (0, 0, 0),
+        (1, 1, 0),
+        (2, 2, 1),
+        (3, 3, 2),
+        (4, 3, 3),
+        (9, 3, 3),
+    ] {
+        let lists = streams(alloc, &path, &[], &[], n)?;
+        assert_eq!(rt;
+            (row(&lists, 0).len(), row(&lists, 1).len()),
+            (q, r),
+            "round {n}"
+        );
+    }
+    let lists = streams(alloc, &path, &[], &[], 43)?;
+    assert_eq!(rt; row(&lists, 0), data(alloc, &[5, 6, 7])?.as_slice());
+    assert_eq!(rt; row(&lists, 1), data(alloc, &[6, 7, 8])?.as_slice());
+    Ok(())
+}
+
+// Two streams from one task to another, read in the other order.
+fn crossing(alloc: Global) -> Result<Program, AllocError> {
+    let writer = Vec::from_array(
+        alloc,
+        [
+            Stmt::Write(0, number(1)),
+            Stmt::Write(0, number(2)),
+            Stmt::Write(1, number(3)),
+        ],
+    )?;
+    let reader = Vec::from_array(
+        alloc,
+        [
+            Stmt::Discard(Expr::Read(1)),
+            Stmt::Discard(Expr::Read(0)),
+            Stmt::Discard(Expr::Read(0)),
+        ],
+    )?;
+    two_tasks(
+        alloc,
+        leaf(alloc, 2, 0, writer)?,
+        leaf(alloc, 0, 2, reader)?,
+        stream(alloc, 0, 1),
+    )
+}
+
+// A task that writes 5 and waits for an answer, and one that answers by 1 more.
+fn feedback(alloc: Global) -> Result<Program, AllocError> {
+    let asks = Vec::from_array(
+        alloc,
+        [Stmt::Write(0, number(5)), Stmt::Discard(Expr::Read(1))],
+    )?;
+    let answers = Vec::from_array(alloc, [Stmt::Write(1, plus(alloc, Expr::Read(0), 1)?)])?;
+    two_tasks(
+        alloc,
+        leaf(alloc, 1, 1, asks)?,
+        leaf(alloc, 1, 1, answers)?,
+        stream(alloc, 1, 0),
+    )
+}
+
+fn two_tasks(
+    alloc: Global,
+    first: Leaf,
+    second: Leaf,
+    other: Stream,
+) -> Result<Program, AllocError> {
+    let numbers = Vec::from_array(alloc, [0, 1])?;
+    let again = Vec::from_array(alloc, [0, 1])?;
+    let bodies = Vec::from_array(alloc, [first, second])?;
+    let instances = Vec::from_array(
+        alloc,
+        [instance(alloc, 0, numbers), instance(alloc, 1, again)],
+    )?;
+    let streams = Vec::from_array(alloc, [stream(alloc, 0, 1), other])?;
+    Ok(program(alloc, bodies, instances, streams))
+}
+
+#[test]
+fn streams_have_no_schedule(rt: HostRuntime) -> Result<(), Fail> {
+    let alloc = rt.alloc();
+    let lists = streams(alloc, &crossing(alloc)?, &[], &[], 9)?;
+    assert_eq!(rt; row(&lists, 0), data(alloc, &[1, 2])?.as_slice());
+    assert_eq!(rt; row(&lists, 1), data(alloc, &[3])?.as_slice());
+    let program = feedback(alloc)?;
+    for (n, y) in [(1, 0), (2, 1), (7, 1)] {
+        let lists = streams(alloc, &program, &[], &[], n)?;
+        assert_eq!(rt; row(&lists, 0), data(alloc, &[5])?.as_slice());
+        assert_eq!(rt; row(&lists, 1).len(), y, "round {n}");
+    }
+    Ok(())
+}
+
+// The token that a leaf writes for an expression.
+fn written(alloc: Global, e: Expr) -> Result<Option<u64>, Fault> {
+    let code = one(alloc, Stmt::Write(0, e))?;
+    let body = leaf(alloc, 1, 0, code)?;
+    let (ticks, _mark) = trace(alloc, &body, &[0], variables(alloc)?, 1, &[])?;
+    Ok(match ticks.first() {
+        Some(Tick::Did(Action::Put(0, Token::Datum(v)))) => Some(*v),
+        _ => None,
+    })
+}
+
+fn one(alloc: Global, statement: Stmt) -> Result<Vec<Stmt>, AllocError> {
+    Ok(Vec::from_array(alloc, [statement])?)
+}
+
+#[test]
+fn expressions_have_their_values(rt: HostRuntime) -> Result<(), Fail> {
+    let alloc = rt.alloc();
+    for (from, to, v, want) in [
+        (Kind::I8, Kind::I32, 200, 4_294_967_240),
+        (Kind::U8, Kind::I32, 200, 200),
+        (Kind::I32, Kind::U8, 511, 255),
+        (Kind::U64, Kind::Bool, 256, 1),
+    ] {
+        let value = Box::new(alloc, Expr::Lit(from, v))?;
+        let got = written(alloc, Expr::Conv { from, to, value })?;
+        assert_eq!(rt; got, Some(want), "from {v}");
+    }
+    for (a, b, and, or, chosen) in [
+        (0, 0, 0, 0, 7),
+        (0, 1, 0, 1, 7),
+        (1, 0, 0, 1, 9),
+        (1, 1, 1, 1, 9),
+    ] {
+        let both = Expr::And(Box::new(alloc, number(a))?, Box::new(alloc, number(b))?);
+        assert_eq!(rt; written(alloc, both)?, Some(and), "{a} && {b}");
+        let either = Expr::Or(Box::new(alloc, number(a))?, Box::new(alloc, number(b))?);
+        assert_eq!(rt; written(alloc, either)?, Some(or), "{a} || {b}");
+        let choice = Expr::Choose(
+            Box::new(alloc, number(a))?,
+            Box::new(alloc, number(9))?,
+            Box::new(alloc, number(7))?,
+        );
+        assert_eq!(rt; written(alloc, choice)?, Some(chosen), "{a} ? 9 : 7");
+        let not = Expr::Not(Box::new(alloc, number(a))?);
+        assert_eq!(rt; written(alloc, not)?, Some(1 - a), "!{a}");
+    }
+    let flip = Expr::Flip(Kind::U8, Box::new(alloc, number(5))?);
+    assert_eq!(rt; written(alloc, flip)?, Some(250));
+    let wide = Expr::Conv {
+        from: Kind::U8,
+        to: Kind::U64,
+        value: Box::new(alloc, number(256))?,
+    };
+    assert!(rt; matches!(written(alloc, wide), Err(Fault::NotOfItsKind)));
+    Ok(())
+}
+
+// An array that is cleared, set and changed, and a memory that is changed and read.
+fn cells(alloc: Global) -> Result<Vec<Stmt>, AllocError> {
+    let kind = Kind::I32;
+    Ok(Vec::from_array(
+        alloc,
+        [
+            Stmt::Clear(0),
+            Stmt::SetCell {
+                array: 0,
+                index: number(1),
+                value: Expr::Lit(Kind::I8, 200),
+            },
+            Stmt::SetCellBy {
+                array: 0,
+                index: number(1),
+                op: Op::Add,
+                kind,
+                value: Expr::Lit(kind, 100),
+            },
+            Stmt::Write(0, Expr::Cell(0, Box::new(alloc, number(1))?)),
+            Stmt::StoreBy {
+                memory: 0,
+                index: number(0),
+                op: Op::Sub,
+                kind,
+                value: Expr::Lit(kind, 1),
+            },
+            Stmt::Write(0, Expr::Load(0, Box::new(alloc, number(0))?)),
+        ],
+    )?)
+}
+
+#[test]
+fn arrays_and_memories_hold_their_cells(rt: HostRuntime) -> Result<(), Fail> {
+    let alloc = rt.alloc();
+    let body = leaf(alloc, 1, 0, cells(alloc)?)?;
+    let (ticks, mark) = trace(alloc, &body, &[0], variables(alloc)?, 1, &[])?;
+    let local = Tick::Did(Action::Local);
+    // The cell is 200, which is -56, and 100 more, 44; the cell of the memory is 1 less than 0 modulo 256.
+    let want = [
+        local,
+        local,
+        local,
+        local,
+        Tick::Did(Action::Put(0, Token::Datum(44))),
+        Tick::Did(Action::Load(0, 0)),
+        Tick::Did(Action::Store(0, 0, 255)),
+        Tick::Did(Action::Load(0, 0)),
+        Tick::Did(Action::Put(0, Token::Datum(255))),
+        Tick::End,
+    ];
+    assert_eq!(rt; ticks.as_slice(), want.as_slice());
+    assert_eq!(rt; mark, Mark::Ended);
+    Ok(())
+}
+
+// `while (!q.eot(nullptr)) x += q.read(); q.open(); r << x;`
+fn sum(alloc: Global) -> Result<Vec<Stmt>, AllocError> {
+    let eot = Box::new(alloc, Expr::Eot(1))?;
+    let add = Stmt::Set(0, apply(alloc, Op::Add, Expr::Var(0), Expr::Read(1))?);
+    let body = Vec::from_array(alloc, [add])?;
+    let step = Vec::new(alloc);
+    let test = Expr::Not(eot);
+    Ok(Vec::from_array(
+        alloc,
+        [
+            Stmt::Loop { test, body, step },
+            Stmt::Open(1),
+            Stmt::Write(0, Expr::Var(0)),
+        ],
+    )?)
+}
+
+#[test]
+fn a_transaction_ends_with_its_token(rt: HostRuntime) -> Result<(), Fail> {
+    let alloc = rt.alloc();
+    let body = leaf(alloc, 1, 1, sum(alloc)?)?;
+    let mut q = data(alloc, &[8, 9])?;
+    q.push(Token::Eot)?;
+    q.push(Token::Datum(4))?;
+    let lists = vectors(alloc, q, Vec::new(alloc))?;
+    let (ticks, mark) = trace(alloc, &body, &[1, 0], variables(alloc)?, 9, &lists)?;
+    assert_eq!(rt; mark, Mark::Ended);
+    // Eot, Test, Read and Set twice; Eot and Test; Open; Write; End.
+    assert_eq!(rt; ticks.len(), 13);
+    assert!(rt; ticks.contains(&Tick::Take(0, Token::Eot)));
+    assert!(rt; ticks.contains(&Tick::Did(Action::Put(1, Token::Datum(17)))));
+    let bad = leaf(alloc, 0, 1, one(alloc, Stmt::Open(0))?)?;
+    let (ticks, mark) = trace(alloc, &bad, &[0], variables(alloc)?, 9, &lists)?;
+    assert_eq!(rt; (ticks.len(), mark), (0, Mark::Bad(0)));
+    Ok(())
+}

@@ -1,0 +1,4 @@
+pub mod Scopes
+pub mod Faults
+pub mod Answers
+pub mod Roles

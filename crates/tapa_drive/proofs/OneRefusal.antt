@@ -1,0 +1,83 @@
+-- A refused source is refused at one place, by one rule.
+use Rattle.std.proofs.Common.{◌≡◌, ◌⊎◌, ℕ, List, [], ◌∷◌, Result, Err, refl, sym, ◌∙◌, ap, subst, inl, inr}
+use Rattle.tapa_base.specs.declared.text.Place.{Place}
+use Rattle.tapa_syntax.specs.declared.lexeme.Lexeme.{Lexeme}
+use Rattle.tapa_syntax.specs.Symbols.{Symbol, symbols_of}
+use Rattle.tapa_syntax.specs.Trees.{ItemTree, file_of}
+use Rattle.tapa_lex.specs.declared.fault.LexCode.{LexCode}
+use Rattle.tapa_lex.specs.declared.fault.LexCode.TheVariants as lex
+use Rattle.tapa_lex.specs.Refusals.{IsRefused}
+use Rattle.tapa_lex.proofs.Whole.{one_list, not_both, one_refusal as one_lexical_refusal}
+use Rattle.expression_parse.specs.declared.fault.ParseCode.{ParseCode}
+use Rattle.expression_parse.specs.declared.fault.ParseCode.TheVariants as parse
+use Rattle.expression_parse.specs.Readers.{Outcome}
+use Rattle.tapa_parse.specs.Answers.{stopped_at}
+use Rattle.scope_check.specs.Answers.{IsFirst}
+use Rattle.scope_check.specs.declared.fault.Broken.{Broken}
+use Rattle.stream_check.specs.Programs.{program_faults}
+use Rattle.tapa_drive.specs.declared.source.SourceCode.{SourceCode}
+use Rattle.tapa_drive.specs.declared.source.SourceCode.TheVariants.{L1, L2, L3, L4, P1, P2, Rule}
+use Rattle.tapa_drive.specs.Codes.{lex_code, parse_code}
+use Rattle.tapa_drive.specs.OneMeaning.{SourcesHaveOneRefusal}
+use Rattle.tapa_drive.specs.Source.{StopsAt, HasNoTree, BreaksFirst, IsRefusedSource}
+use Rattle.tapa_drive.proofs.Sourced.{one_tree, no_tree}
+
+abbrev ByLexer : List ℕ → Place → SourceCode → Type 0
+ByLexer text place code = (c : LexCode) × IsRefused text c place × (code ≡ lex_code c)
+
+abbrev ByParser : List ℕ → Place → SourceCode → Type 0
+ByParser text place code = (c : ParseCode) × HasNoTree text place c × (code ≡ parse_code c)
+
+abbrev ByRule : List ℕ → List ℕ → Place → SourceCode → Type 0
+ByRule text top place code = (b : Broken) × BreaksFirst text top b × (place ≡ b.place) × (code ≡ Rule b.code b.limit)
+
+abbrev Refusal : List ℕ → List ℕ → Place → SourceCode → Type 0
+Refusal text top place code = ByLexer text place code ⊎ (ByParser text place code ⊎ ByRule text top place code)
+
+refusal : (text top : List ℕ) (place : Place) (code : SourceCode) → IsRefusedSource text top place code → Refusal text top place code
+refusal text top place L1 h = inl (lex.L1, h, refl)
+refusal text top place L2 h = inl (lex.L2, h, refl)
+refusal text top place L3 h = inl (lex.L3, h, refl)
+refusal text top place L4 h = inl (lex.L4, h, refl)
+refusal text top place P1 h = inr (inl (parse.P1, h, refl))
+refusal text top place P2 h = inr (inl (parse.P2, h, refl))
+refusal text top place (Rule code limit) h = inr (inr (record { code = code; place = place; limit = limit }, h, refl, refl))
+
+-- a reading stops once
+stops_once : (text : List ℕ) (outcome : Outcome (List ItemTree)) (c d : ParseCode) (left right : List Symbol) → outcome ≡ Err (c, left) → outcome ≡ Err (d, right) → (stopped_at text left ≡ stopped_at text right) × (parse_code c ≡ parse_code d)
+stops_once text outcome c d left right h k =
+    let same_code : c ≡ d = cc in
+    let same_left : left ≡ right = cc in
+    (ap (stopped_at text) same_left, ap parse_code same_code)
+
+first_once : (faults : List Broken) (a b : Broken) → IsFirst faults a → IsFirst faults b → a ≡ b
+first_once [] a b h k = absurd h
+first_once (x ∷ rest) a b h k = sym h ∙ k
+
+module _ (text top : List ℕ) (place there : Place) (code other : SourceCode) where
+  by_one_parser : ByParser text place code → ByParser text there other → (place ≡ there) × (code ≡ other)
+  by_one_parser (c, h, e) (d, k, f) =
+      let seen = subst (λ (l : List Lexeme). StopsAt text (symbols_of text l) there d) (one_list text k.lexemes h.lexemes k.are h.are) k.stops in
+      let once = stops_once text _ c d h.stops.0 seen.0 h.stops.1.1 seen.1.1 in
+      (h.stops.1.0 ∙ once.0 ∙ sym seen.1.0, e ∙ once.1 ∙ sym f)
+
+  by_one_rule : ByRule text top place code → ByRule text top there other → (place ≡ there) × (code ≡ other)
+  by_one_rule (a, h, p, e) (b, k, q, f) =
+      let same = first_once (program_faults (file_of k.file) top) a b (subst (λ (items : List ItemTree). IsFirst (program_faults items top) a) (one_tree text h.file k.file h.tree k.tree) h.first) k.first in
+      (p ∙ ap (λ (x : Broken). x.place) same ∙ sym q, e ∙ ap (λ (x : Broken). Rule x.code x.limit) same ∙ sym f)
+
+  one_way : Refusal text top place code → Refusal text top there other → (place ≡ there) × (code ≡ other)
+  one_way (inl (c, h, e)) (inl (d, k, f)) =
+      let same = one_lexical_refusal text c d place there h k in
+      (same.1, e ∙ ap lex_code same.0 ∙ sym f)
+  one_way (inl (c, h, e)) (inr (inl (d, k, f))) = absurd (not_both text k.lexemes c place k.are h)
+  one_way (inl (c, h, e)) (inr (inr (b, k, f))) = absurd (not_both text k.tree.lexemes c place k.tree.are h)
+  one_way (inr (inl (c, h, e))) (inl (d, k, f)) = absurd (not_both text h.lexemes d there h.are k)
+  one_way (inr (inr (b, h, e))) (inl (d, k, f)) = absurd (not_both text h.tree.lexemes d there h.tree.are k)
+  one_way (inr (inl p)) (inr (inl q)) = by_one_parser p q
+  one_way (inr (inl (c, h, e))) (inr (inr (b, k, f))) = absurd (no_tree text place c k.file h k.tree)
+  one_way (inr (inr (b, h, e))) (inr (inl (d, k, f))) = absurd (no_tree text there d h.file k h.tree)
+  one_way (inr (inr p)) (inr (inr q)) = by_one_rule p q
+
+pub one_refusal : SourcesHaveOneRefusal
+one_refusal text top place there code other h k = one_way text top place there code other (refusal text top place code h) (refusal text top there other k)
