@@ -1,7 +1,6 @@
 -- What a stream carries, one cycle further.
-use Rattle.std.proofs.Common.{◌≡◌, ℕ, suc, Bool, true, false, cond, ◌&&◌, List, [], ◌∷◌, ◌++◌, Option, Some, None, refl, sym, ap, subst, ◌∙◌, append-nil}
+use Rattle.std.proofs.Common.{◌≡◌, ℕ, suc, false, cond, ◌&&◌, [], ◌∷◌, ◌++◌, sym, ap, ◌∙◌, append-nil}
 use Rattle.std.specs.Prelude.{◌==◌}
-use Rattle.std.specs.Option.{option_to_list}
 use Rattle.vlog_tree.specs.Cycle.{Name, Cycle}
 use Rattle.vlog_tree.specs.Environment.{carried}
 use Rattle.vlog_tree.specs.Labels.{s_din, s_wr, s_rdy}

@@ -1,7 +1,7 @@
 -- Modules at the end of paths.
-use Rattle.std.proofs.Common.{◌≡◌, ℕ, Bool, true, false, ◌+◌, ◌<◌, List, [], ◌∷◌, Option, Some, None, length, get_or, drop, cond, refl, sym, ap, ◌∙◌, arith}
+use Rattle.std.proofs.Common.{◌≡◌, Bool, true, false, ◌<◌, List, [], ◌∷◌, Option, Some, None, length, get_or, drop, cond, refl, ap, arith}
 use Rattle.std.proofs.lemmas.Bool.Decides.{nat_tests}
-use Rattle.std.specs.Prelude.{◌==◌, bytes_eq, if◌then◌else◌}
+use Rattle.std.specs.Prelude.{◌==◌, bytes_eq}
 use Rattle.vlog_tree.specs.declared.tree.Item.{Item}
 use Rattle.vlog_tree.specs.declared.tree.Item.TheVariants.{Wire, Reg, Memory, Assign, Always, Instance}
 use Rattle.vlog_tree.specs.Form.{ModuleTree}

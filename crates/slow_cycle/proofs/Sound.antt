@@ -1,9 +1,9 @@
 -- A number that is found is the one that each run has.
 use Rattle.std.proofs.lemmas.Bool.{ltb-true}
-use Rattle.std.proofs.Common.{◌≡◌, ℕ, zero, suc, ◌<◌, ◌≤◌, ◌^◌, Bool, true, false, cond, ◌&&◌, List, [], ◌∷◌, ◌++◌, Option, Some, None, length, get_or, map, inl, inr, refl, sym, ap, subst, ◌∙◌, arith}
-use Rattle.std.specs.Prelude.{◌⊎◌, ◌==◌, bytes_eq, nat_lt, nat_le, is_some, unwrap_or, slice_get, if◌then◌else◌}
-use Rattle.std.specs.List.{AllByRecursion, list_all}
-use Rattle.std.specs.Option.{option_map, option_map_or}
+use Rattle.std.proofs.Common.{◌≡◌, ℕ, ◌<◌, Bool, true, false, cond, ◌&&◌, List, [], ◌∷◌, Option, Some, None, length, get_or, map, inl, inr, refl, sym, ap, subst, ◌∙◌}
+use Rattle.std.specs.Prelude.{◌⊎◌, bytes_eq, nat_lt, nat_le, is_some, unwrap_or, slice_get}
+use Rattle.std.specs.List.{AllByRecursion}
+use Rattle.std.specs.Option.{option_map_or}
 use Rattle.std.specs.Cmp.Lexicographic.{bytes_decides}
 use Rattle.tapa_base.specs.declared.shape.Port.{Port}
 use Rattle.vlog_tree.specs.declared.tree.Value.{Value}
@@ -15,24 +15,21 @@ use Rattle.vlog_tree.specs.declared.table.Declaration.{Declaration}
 use Rattle.vlog_tree.specs.Form.{ModuleTree}
 use Rattle.vlog_tree.specs.Grounded.{Has}
 use Rattle.vlog_tree.specs.Table.{Name, no, declared, port_declared, ports_of, sort_of, bits_of, sort_is_input, sort_is_read}
-use Rattle.vlog_tree.specs.Cycle.{Cycle, Path, Sizes, and_then, module_at, Holds, PortHolds, Linked, Follows, Runs, driven, read_cell}
-use Rattle.vlog_tree.specs.Environment.{Environment, RunsIn, Stands, shape_of, ready_at, cells_at, AllTwo, AllAnswer, Answers}
-use Rattle.vlog_tree.specs.Labels.{rst, scalar, m_ack, m_rdata, m_addr, scalar_of, ack_of, rdata_of}
+use Rattle.vlog_tree.specs.Cycle.{Cycle, Path, Sizes, and_then, Holds, PortHolds, driven}
+use Rattle.vlog_tree.specs.Environment.{AllTwo, AllAnswer, Answers}
 use Rattle.vlog_tree.specs.Loops.{value_nets}
 use Rattle.vlog_runs.proofs.Sound.{both_true, true_not_false}
 use Rattle.vlog_runs.proofs.Sizes.{all_at, width_held}
 use Rattle.vlog_runs.proofs.Values.{ReadsAlike, driven_same}
-use Rattle.vlog_runs.proofs.Labelled.{scalar_label, ack_label, rdata_label}
 use Rattle.vlog_slow.specs.declared.numbers.NetNumber.{NetNumber}
 use Rattle.vlog_slow.specs.declared.numbers.MemoryCells.{MemoryCells}
-use Rattle.vlog_slow.specs.Numbers.{first_net, first_memory, net_in, bits_in, cells_in, cycle_of, sizes_of, fitting}
+use Rattle.vlog_slow.specs.Numbers.{first_net, first_memory, net_in, bits_in, cycle_of, sizes_of, fitting}
 use Rattle.vlog_slow.proofs.Fits.{is_fit}
 use Rattle.slow_cycle.specs.declared.moment.Held.{Held}
 use Rattle.slow_cycle.specs.declared.moment.OutsideMemory.{OutsideMemory}
-use Rattle.slow_cycle.specs.declared.moment.Moment.{Moment}
-use Rattle.slow_cycle.specs.Sources.{RuleTree, SourceTree, same_path, held_at, assigned_in, assigned, link_out, output_in, output_of, link_in, joined_in, joined_to, net_read, are_read, has_cells, given_number, same_number, can_drive, driver_source, at_label, memory_of, rdata_source, ack_source, scalar_source, input_source, outer_source, output_source, line_source, register_source, source_of}
-use Rattle.slow_cycle.specs.Numbers.{first_number, by_rule, all_numbers, net_within}
-use Rattle.slow_cycle.specs.Moments.{RegisterIs, MemoryIs, HeldIs, OutsideIs, IsAt}
+use Rattle.slow_cycle.specs.Sources.{RuleTree, SourceTree, same_path, held_at, assigned_in, assigned, link_out, output_in, output_of, link_in, joined_in, joined_to, net_read, are_read, has_cells, given_number, same_number, can_drive, at_label, memory_of}
+use Rattle.slow_cycle.specs.Numbers.{by_rule, all_numbers}
+use Rattle.slow_cycle.specs.Moments.{MemoryIs}
 use Rattle.slow_cycle.proofs.Gathered.{numbered}
 use Rattle.slow_cycle.proofs.Options.{and_then_some, map_some, cond_some, either_some, checked}
 
@@ -264,7 +261,7 @@ module _ (items : List Item) (s : Sizes) (c : Cycle) (lines : AllByRecursion (Ho
   found_alike m None h f a = cc
   found_alike m (Some k) h f a = let t = f k refl in alike_at m k t.0 t.1 a
 
-  reads_alike : (ns : List NetNumber) (e : Value) → has_cells memories e ≡ true → ReadsAlike c (cycle_of ns memories) s (sizes_of ns memories) e
+  pub reads_alike : (ns : List NetNumber) (e : Value) → has_cells memories e ≡ true → ReadsAlike c (cycle_of ns memories) s (sizes_of ns memories) e
   reads_alike ns (Cell m x) h = λ a. found_alike m (first_memory memories m) h (memory_found memories m) a
   reads_alike ns (Plain a) h = tt
   reads_alike ns (Invert a) h = tt

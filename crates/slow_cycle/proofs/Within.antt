@@ -8,13 +8,11 @@ use Rattle.std.proofs.lemmas.Bool.Decides.{nat_tests}
 use Rattle.tapa_base.specs.declared.shape.Port.{Port}
 use Rattle.vlog_tree.specs.declared.tree.Value.{Value}
 use Rattle.vlog_tree.specs.declared.tree.Link.{Link}
-use Rattle.vlog_tree.specs.declared.tree.Item.{Item}
 use Rattle.vlog_tree.specs.declared.tree.Item.TheVariants.{Instance}
 use Rattle.vlog_tree.specs.Form.{ModuleTree}
-use Rattle.vlog_tree.specs.Grounded.{Has}
 use Rattle.vlog_tree.specs.Table.{Name, declared, bits_of}
 use Rattle.vlog_tree.specs.Cycle.{Cycle, Path, and_then, module_at, Linked}
-use Rattle.vlog_tree.specs.Environment.{Environment, RunsIn, shape_of, ready_at, cells_at, Answers}
+use Rattle.vlog_tree.specs.Environment.{Environment, RunsIn, shape_of, ready_at, Answers}
 use Rattle.vlog_tree.specs.Labels.{rst, scalar, m_ack, m_rdata, m_addr, scalar_of, ack_of, rdata_of}
 use Rattle.vlog_tree.specs.Loops.{value_nets}
 use Rattle.vlog_runs.proofs.Sizes.{all_at}
@@ -24,7 +22,7 @@ use Rattle.vlog_slow.specs.Numbers.{first_net}
 use Rattle.slow_cycle.specs.declared.moment.Held.{Held}
 use Rattle.slow_cycle.specs.declared.moment.OutsideMemory.{OutsideMemory}
 use Rattle.slow_cycle.specs.declared.moment.Moment.{Moment}
-use Rattle.slow_cycle.specs.Sources.{RuleTree, SourceTree, held_at, assigned, output_of, joined_to, net_read, given_number, same_number, can_drive, driver_source, at_label, rdata_source, ack_source, scalar_source, memory_of, input_source, outer_source, output_source, line_source, register_source, source_of}
+use Rattle.slow_cycle.specs.Sources.{RuleTree, SourceTree, held_at, assigned, output_of, joined_to, net_read, given_number, same_number, can_drive, at_label, rdata_source, ack_source, scalar_source, memory_of, input_source, outer_source, output_source, line_source, register_source, source_of}
 use Rattle.slow_cycle.specs.Numbers.{by_rule, all_numbers, net_within, number_at}
 use Rattle.slow_cycle.specs.declared.moment.Circuit.{Circuit}
 use Rattle.slow_cycle.specs.Moments.{RegisterIs, MemoryIs, HeldIs, OutsideIs, IsAt, InRuns}

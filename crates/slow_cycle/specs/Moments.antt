@@ -1,12 +1,12 @@
 -- What it is for a run to be at a moment.
-use Rattle.std.specs.Prelude.{◌≡◌, ℕ, ◌<◌, Bool, List, Option, Some, length, get_or, []}
+use Rattle.std.specs.Prelude.{◌≡◌, ℕ, ◌<◌, Bool, List, Some, length, get_or, []}
 use Rattle.std.specs.List.{AllByRecursion}
 use Rattle.tapa_base.specs.declared.shape.Port.{Port}
 use Rattle.vlog_tree.specs.declared.tree.Item.{Item}
 use Rattle.vlog_tree.specs.declared.tree.Item.TheVariants.{Reg, Memory}
 use Rattle.vlog_tree.specs.Form.{ModuleTree}
 use Rattle.vlog_tree.specs.Grounded.{Has}
-use Rattle.vlog_tree.specs.Cycle.{Name, Cycle, Path, module_at}
+use Rattle.vlog_tree.specs.Cycle.{Cycle, Path, module_at}
 use Rattle.vlog_tree.specs.Environment.{Environment, RunsIn, shape_of, cells_at}
 use Rattle.vlog_slow.specs.declared.numbers.NetNumber.{NetNumber}
 use Rattle.vlog_slow.specs.declared.numbers.MemoryCells.{MemoryCells}

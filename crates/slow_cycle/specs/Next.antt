@@ -1,5 +1,5 @@
 -- What registers and memories hold in the next cycle.
-use Rattle.std.specs.Prelude.{◌≡◌, ℕ, ◌+◌, ◌<◌, ◌^◌, Bool, ◌&&◌, List, [], ◌∷◌, ◌++◌, is_some, nat_lt, ◌==◌, length, get_or, slice_set, bytes_eq, if◌then◌else◌, map}
+use Rattle.std.specs.Prelude.{◌≡◌, ℕ, ◌+◌, ◌<◌, ◌^◌, Bool, ◌&&◌, List, [], ◌∷◌, is_some, nat_lt, ◌==◌, length, get_or, slice_set, bytes_eq, if◌then◌else◌, map}
 use Rattle.std.specs.List.{flat_map, list_all, AllByRecursion}
 use Rattle.vlog_tree.specs.Form.{ModuleTree}
 use Rattle.vlog_tree.specs.Table.{declared}
@@ -10,7 +10,7 @@ use Rattle.vlog_tree.specs.declared.tree.Step.TheVariants.{If, Else, End, Nonblo
 use Rattle.vlog_tree.specs.declared.tree.Item.{Item}
 use Rattle.vlog_tree.specs.declared.tree.Item.TheVariants.{Wire, Reg, Memory, Assign, Always, Instance}
 use Rattle.vlog_tree.specs.Cycle.{Name, Cycle, Sizes, and_then, module_at, atom_value, put, store, run_steps}
-use Rattle.vlog_tree.specs.Environment.{set_cell}
+use Rattle.vlog_tree.specs.Environment.{AllTwo, set_cell}
 use Rattle.vlog_tree.specs.Loops.{atom_nets}
 use Rattle.vlog_slow.specs.declared.numbers.NetNumber.{NetNumber}
 use Rattle.vlog_slow.specs.declared.numbers.MemoryCells.{MemoryCells}
@@ -59,6 +59,18 @@ pub record IsAlike (h k : Held) : Type 0 where
   pub path : k.path.items ≡ h.path.items
   pub nets : map net_shape k.nets.items ≡ map net_shape h.nets.items
   pub memories : map memory_shape k.memories.items ≡ map memory_shape h.memories.items
+
+-- a memory around the design, whatever its cells hold
+pub record IsSameMemory (o j : OutsideMemory) : Type 0 where
+  pub name : j.name ≡ o.name
+  pub ready : j.ready.items ≡ o.ready.items
+  pub cells : length j.cells.items ≡ length o.cells.items
+
+-- a later moment has all that this one has, whatever the numbers
+pub record IsKept (now after : Moment) : Type 0 where
+  pub held : AllTwo IsAlike now.held.items after.held.items
+  pub scalars : after.scalars.items ≡ now.scalars.items
+  pub outside : AllTwo IsSameMemory now.outside.items after.outside.items
 
 -- a register with a number that was put, where it has the name
 abbrev pub put_net : Name → ℕ → NetNumber → NetNumber

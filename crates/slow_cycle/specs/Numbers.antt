@@ -7,7 +7,7 @@ use Rattle.vlog_slow.specs.declared.numbers.NetNumber.{NetNumber}
 use Rattle.vlog_slow.specs.Numbers.{cycle_of, sizes_of, fitting}
 use Rattle.slow_cycle.specs.declared.moment.Circuit.{Circuit}
 use Rattle.slow_cycle.specs.declared.moment.Moment.{Moment}
-use Rattle.slow_cycle.specs.Sources.{RuleTree, SourceTree, source_of}
+use Rattle.slow_cycle.specs.Sources.{RuleTree, source_of}
 
 abbrev pub first_number : List NetNumber → Option ℕ
 first_number [] = None

@@ -1,10 +1,10 @@
 // What a design holds in the next cycle.
 
-ghost use Rattle.std.specs.Prelude.{◌≡◌, ◌+◌, suc, [], IfOk, IfSome, is_some};
+ghost use Rattle.std.specs.Prelude.{◌≡◌, ◌+◌, suc, [], length, IfOk, IfSome, is_some};
 ghost use Rattle.std.specs.List.{list_all, AllByRecursion};
 ghost use Rattle.vlog_tree.specs.Environment.{AllTwo};
 ghost use Rattle.slow_cycle.specs.Moments.{InRuns, HeldIs, IsAt};
-ghost use Rattle.slow_cycle.specs.Next.{held_known, outside_known, next_known, stored_cells, IsAfterStore, IsCopy, IsAlike};
+ghost use Rattle.slow_cycle.specs.Next.{held_known, outside_known, next_known, stored_cells, IsAfterStore, IsCopy, IsAlike, IsSameMemory, IsKept};
 
 use crate::blocks::{block_reads, run_items};
 use crate::moment::{Circuit, Held, Moment, OutsideMemory};
@@ -119,6 +119,7 @@ fn top_cells(
     depth: u32,
 ) -> Result<Option<Vec<u128>>, AllocError>
     ensures known { IfOk result (λ o. is_some o ≡ outside_known design.now now.now depth m.now) }
+    ensures size { IfOk result (λ o. IfSome o (λ v. length v.items ≡ length m.now.cells.items)) }
     ensures value { IfOk result (λ o. IfSome o (λ v. InRuns design.now now.now (λ env nets. v.items ≡ stored_cells (nets now.now.cycle []) m.now.name m.now.cells.items))) }
 {
     let label = m.name.bytes();
@@ -150,6 +151,7 @@ fn outside_after(
     depth: u32,
 ) -> Result<Option<OutsideMemory>, AllocError>
     ensures known { IfOk result (λ o. is_some o ≡ outside_known design.now now.now depth m.now) }
+    ensures same { IfOk result (λ o. IfSome o (λ j. IsSameMemory m.now j)) }
     ensures value { IfOk result (λ o. IfSome o (λ j. InRuns design.now now.now (λ env nets. IsAfterStore (nets now.now.cycle []) m.now j))) }
 {
     match top_cells(alloc, design, now, m, depth)? {
@@ -169,6 +171,7 @@ fn all_outside_after(
     depth: u32,
 ) -> Result<Option<Vec<OutsideMemory>>, AllocError>
     ensures known { IfOk result (λ o. is_some o ≡ list_all (outside_known design.now now.now depth) now.now.outside.items) }
+    ensures same { IfOk result (λ o. IfSome o (λ v. AllTwo IsSameMemory now.now.outside.items v.items)) }
     ensures value { IfOk result (λ o. IfSome o (λ v. InRuns design.now now.now (λ env nets. AllTwo (IsAfterStore (nets now.now.cycle [])) now.now.outside.items v.items))) }
 {
     let mut out = Vec::new(alloc);
@@ -190,7 +193,7 @@ pub fn next(
 ) -> Result<Option<Moment>, AllocError>
     ensures known { IfOk result (λ o. is_some o ≡ next_known design.now now.now depth) }
     ensures cycle { IfOk result (λ o. IfSome o (λ after. after.cycle ≡ now.now.cycle + 1)) }
-    ensures alike { IfOk result (λ o. IfSome o (λ after. AllTwo IsAlike now.now.held.items after.held.items)) }
+    ensures kept { IfOk result (λ o. IfSome o (λ after. IsKept now.now after)) }
     ensures value { IfOk result (λ o. IfSome o (λ after. InRuns design.now now.now (λ env nets. IsAt design.now.modules.now design.now.top.now env nets after))) }
 {
     if now.cycle == u64::MAX {

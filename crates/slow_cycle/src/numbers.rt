@@ -84,8 +84,12 @@ pub(crate) fn all_numbers(
     Ok(Some(nets))
 }
 
+/// The number of a net in a cycle, by at most some steps from net to net.
+///
+/// `None` where the net or one that it rests on has no number: the steps are too few; nothing drives it, as the clock; its
+/// instance is none of the design, or the moment leaves that out, or the scalar or memory that it is read from; its driver
+/// reads what is no net; or its driver's value is not below 2^128, or is to have more than 128 bits.
 #[tactic(auto, using(crate::proofs::Within::runs_number, crate::proofs::Within::number_found, crate::proofs::Within::number_unread, crate::proofs::Within::number_unknown, crate::proofs::Within::number_zero))]
-/// The number of a net in a cycle, by at most some steps from net to net, and `None` where these are too few.
 #[cycle(net_number)]
 pub fn net_number(
     alloc: Global,

@@ -33,9 +33,12 @@ module _ (ms : List ModuleTree) (top : ModuleTree) (now : Moment) where
       ∙ ap (λ o. and_then o (by_rule t.0.rule)) (numbers_kept (net_within ms top now d t.0.path) (net_within ms top now (suc d) t.0.path) (λ y w k. one_deeper d t.0.path y w k) t.0.reads u.0 u.1)
       ∙ u.2
 
-  deeper : (j d e : ℕ) → e ≡ d + j → (path : Path) (x : Name) (v : ℕ) → net_within ms top now d path x ≡ Some v → net_within ms top now e path x ≡ Some v
+  pub deeper : (j d e : ℕ) → e ≡ d + j → (path : Path) (x : Name) (v : ℕ) → net_within ms top now d path x ≡ Some v → net_within ms top now e path x ≡ Some v
   deeper zero d e is path x v h = let same : e ≡ d = omega arith in subst (λ k. net_within ms top now k path x ≡ Some v) (sym same) h
   deeper (suc j) d e is path x v h = deeper j (suc d) e (omega arith) path x v (one_deeper d path x v h)
+
+  pub all_deeper : (j d e : ℕ) → e ≡ d + j → (path : Path) (reads ns : List NetNumber) → all_numbers (net_within ms top now d path) reads ≡ Some ns → all_numbers (net_within ms top now e path) reads ≡ Some ns
+  all_deeper j d e is path reads ns h = numbers_kept (net_within ms top now d path) (net_within ms top now e path) (λ x v k. deeper j d e is path x v k) reads ns h
 
   -- enough steps give the net its number
   abbrev pub IsFound : FlatNet → Type 0
@@ -50,7 +53,7 @@ module _ (ms : List ModuleTree) (top : ModuleTree) (now : Moment) where
         d,
         numbered r a.1 ∷ b.1,
         ap (λ o. and_then o (λ n. and_then (all_numbers (net_within ms top now d path) reads) (λ ns. Some (numbered r n ∷ ns)))) (deeper b.0 a.0 d refl path r.name a.1 a.2)
-            ∙ ap (λ o. and_then o (λ ns. Some (numbered r a.1 ∷ ns))) (numbers_kept (net_within ms top now b.0 path) (net_within ms top now d path) (λ y w k. deeper a.0 b.0 d (omega arith) path y w k) reads b.1 b.2),
+            ∙ ap (λ o. and_then o (λ ns. Some (numbered r a.1 ∷ ns))) (all_deeper a.0 b.0 d (omega arith) path reads b.1 b.2),
       )
 
   -- enough steps give what a source gives

@@ -1,7 +1,7 @@
 -- In a design, at a moment that leaves out nothing, each net has its number from a source all of whose nets have theirs.
 use Rattle.std.proofs.Common.{◌≡◌, ℕ, ◌<◌, ◌≤◌, ◌^◌, true, false, cond, List, [], ◌∷◌, Option, Some, None, inl, inr, refl, sym, ap, subst, ◌∙◌, map, arith}
 use Rattle.std.specs.Prelude.{nat_le, is_some, slice_get}
-use Rattle.std.specs.List.{AllByRecursion, flat_map}
+use Rattle.std.specs.List.{AllByRecursion}
 use Rattle.std.specs.Option.{option_map}
 use Rattle.std.proofs.Math.Pow.{pow_mono}
 use Rattle.std.proofs.lemmas.Bool.Decides.{nat_tests}
@@ -20,8 +20,7 @@ use Rattle.vlog_tree.specs.Environment.{Environment, FitsShape, RunsIn, shape_of
 use Rattle.vlog_tree.specs.V2.{all_linked}
 use Rattle.vlog_tree.specs.Labels.{address_of}
 use Rattle.vlog_tree.specs.Loops.{value_nets, item_instances}
-use Rattle.vlog_tree.specs.Flattened.{FlatNet, parts, line_parts, lines_of, memory_parts}
-use Rattle.vlog_loops.proofs.Numbered.{has_right}
+use Rattle.vlog_tree.specs.Flattened.{FlatNet, parts}
 use Rattle.vlog_feedback.proofs.Lists.{has_flat, of_flat, has_map, of_map}
 use Rattle.vlog_runs.proofs.Sound.{true_not_false, assign_reads, assign_cell, link_port, link_net, link_clock, is_known_module, output_is}
 use Rattle.vlog_runs.proofs.Sizes.{all_at, memory_item, register_item}
@@ -29,7 +28,8 @@ use Rattle.vlog_runs.proofs.Alone.{child_is, instance_single, module_there, modu
 use Rattle.vlog_runs.proofs.Alike.{memory_is}
 use Rattle.vlog_runs.proofs.Settled.{outside, module_in, child_at, top_tree, IsTopTree, design_settles}
 use Rattle.vlog_runs.proofs.Drivers.{Source, value, output, sources, line_sources, source_cases, value_line, output_line, IsDrivenBy, has_source}
-use Rattle.vlog_runs.proofs.Cycles.{port_stands, port_sort_declared, outside_has}
+use Rattle.vlog_runs.proofs.Parts.{part_line, part_outside, part_answer, driver_part, output_part}
+use Rattle.vlog_runs.proofs.Cycles.{port_stands, port_sort_declared, outside_has, linked_once}
 use Rattle.vlog_runs.proofs.Solved.{Around, module_around, child_item}
 use Rattle.vlog_runs.proofs.TopPorts.{input_port, clock_joined, asked_declared}
 use Rattle.vlog_widths.proofs.Ruled.{net_width}
@@ -46,8 +46,7 @@ use Rattle.slow_cycle.proofs.Sound.{held_found, driver_found, joined_found, IsOu
 use Rattle.slow_cycle.proofs.Within.{number_is}
 use Rattle.slow_found.specs.Whole.{HoldsAll, IsWhole}
 use Rattle.slow_found.proofs.Deeper.{IsFound, IsGiven, all_found, found_by, number_answered, same_answered}
-use Rattle.slow_found.proofs.Searched.{assigned_there, output_there, output_found, joined_there, linked_once}
-use Rattle.slow_found.proofs.Nets.{driver_part, output_part}
+use Rattle.slow_found.proofs.Searched.{assigned_there, output_there, output_found, joined_there}
 use Rattle.slow_found.proofs.Outside.{input_given}
 use Rattle.slow_found.proofs.Driven.{drives, driver_number}
 
@@ -103,7 +102,7 @@ module _ (ms : List ModuleTree) (place : ℕ) (root : ModuleTree) (d : IsDesign 
         subst (λ ps. sort_is_input (sort_of (map port_declared ps) q.link.port) ≡ true) (sym ports) (subst (λ y. sort_is_input (sort_of (map port_declared m.ports) y) ≡ true) (sym q.port) (ap sort_is_input input)) in
         let part : Has (outside ms root (i ∷ path, x)) (path, q.link.net) = subst (λ y. Has (outside ms root (i ∷ path, y)) (path, q.link.net)) q.port (outside_has ms root path a.tree a.at q.module_name i q.links q.has q.link q.linked given) in
         subst (λ y. IsFound ms root now (path, y)) q.net
-        (below (path, q.link.net) (has_right (flat_map (line_parts ms (i ∷ path) x) (lines_of (module_at ms root (i ∷ path)))) (outside ms root (i ∷ path, x)) (path, q.link.net) part) a.tree a.at
+        (below (path, q.link.net) (part_outside ms root (i ∷ path) x (path, q.link.net) part) a.tree a.at
         (link_net ms d.sound.names a.tree in_around q.module_name i q.links q.has q.link q.linked) (link_clock ms d.sound.names a.tree in_around q.module_name i q.links q.has q.link q.linked given (ap is_clk q.port ∙ no_clock)))
 
     joined_given : (o : Option Name) → joined_to a.tree.items i x ≡ o → IsGiven ms root now (outer_source ms root now (i ∷ path) x)
@@ -123,7 +122,7 @@ module _ (ms : List ModuleTree) (place : ℕ) (root : ModuleTree) (d : IsDesign 
       let t = of_map (λ (y : Name). ([], y)) (address_of x) b h in
       let q = asked_declared ms d.outside root tree.has tree.is_top x input t.0 t.1 in
       subst (λ (b : FlatNet). IsFound ms root now b) t.2
-      (below ([], t.0) (has_right (flat_map (line_parts ms [] x) root.items) (memory_parts true x) ([], t.0) (has_map (λ (y : Name). ([], y)) (address_of x) t.0 t.1)) root refl q.0 q.1))
+      (below ([], t.0) (part_answer ms root [] x ([], t.0) (has_map (λ (y : Name). ([], y)) (address_of x) t.0 t.1)) root refl q.0 q.1))
   outer_given (i ∷ path) m at x sort no_clock below = let a = module_around ms root i path m at in joined_given i path m at x sort no_clock below a (joined_to a.tree.items i x) refl
 
   module _ (path : Path) (m : ModuleTree) (at : module_at ms root path ≡ Some m) (h : Held) (at_held : held_at now.held.items path ≡ Some h) (all : HoldsAll m h) where
@@ -159,7 +158,7 @@ module _ (ms : List ModuleTree) (place : ℕ) (root : ModuleTree) (d : IsDesign 
           let source : SourceTree = record { path = path; reads = names; rule = rule } in
           let found = all_found ms root now path names (λ q k.
           let t = of_map (net_read (declared m)) (value_nets e) q k in
-          subst (λ (w : NetNumber). IsFound ms root now (path, w.name)) t.2 (below (path, t.0) (driver_part ms root path m at x e has t.0 t.1) m at (reads t.0 t.1).0 (reads t.0 t.1).1)) in
+          subst (λ (w : NetNumber). IsFound ms root now (path, w.name)) t.2 (below (path, t.0) (part_line ms root path x m at (path, t.0) (driver_part ms m path x e has t.0 t.1)) m at (reads t.0 t.1).0 (reads t.0 t.1).1)) in
           let v : ℕ = driven (sizes_of found.1 h.memories.items) (bits_of (declared m) x) (cycle_of found.1 h.memories.items) e in
           let follows = r.runs.each path m at in
           let same : (nets n path).net x ≡ v =
@@ -180,7 +179,7 @@ module _ (ms : List ModuleTree) (place : ℕ) (root : ModuleTree) (d : IsDesign 
           let child = child_at ms root d.sound.names m here path at q.kn p.0 t.0 (has_flat item_instances m.items (Instance q.kn p.0 q.links) (q.kn, p.0) q.has (inl refl)) t.1 in
           let is_read = subst (λ y. sort_is_read (sort_of (declared t.0) y) ≡ true) q.port (ap sort_is_read (port_sort_declared t.0 q.link.port Output refl sort)) in
           let clock = sym (ap is_clk q.port) ∙ clock_joined ms d.outside m here q.kn p.0 q.links q.has q.link q.linked (ap is_clk q.net ∙ no_clock) in
-          (same_number (p.0 ∷ path) p.1, refl, same_answered ms root now (p.0 ∷ path) p.1 (below (p.0 ∷ path, p.1) (output_part ms root path m at x p.0 p.1 q) t.0 child is_read clock))
+          (same_number (p.0 ∷ path) p.1, refl, same_answered ms root now (p.0 ∷ path) p.1 (below (p.0 ∷ path, p.1) (part_line ms root path x m at (p.0 ∷ path, p.1) (output_part ms m path x p.0 p.1 q)) t.0 child is_read clock))
 
       undriven : assigned m.items x ≡ None → output_of ms m.items x ≡ None → sort_is_driven (sort_of (declared m) x) ≡ true → (sort_of (declared m) x ≡ Input → ⊥) → ⊥
       undriven none_assigned none_out driven no_input = elim (source_cases (sources ms m.items) x) [

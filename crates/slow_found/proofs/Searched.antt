@@ -12,7 +12,6 @@ use Rattle.vlog_tree.specs.declared.table.Declaration.{Declaration}
 use Rattle.vlog_tree.specs.Form.{ModuleTree}
 use Rattle.vlog_tree.specs.Grounded.{Has}
 use Rattle.vlog_tree.specs.Table.{Name, no, port_declared, ports_of, sort_of, sort_is_input}
-use Rattle.vlog_tree.specs.V2.{all_linked}
 use Rattle.vlog_tree.specs.V4.{one_if}
 use Rattle.vlog_runs.proofs.Sound.{both_true, no_is, true_not_false}
 use Rattle.vlog_runs.proofs.Alone.{same_name, count_cons}
@@ -129,10 +128,3 @@ pub joined_there : (items : List Item) (kn i : Name) (links : List Link) → Has
 joined_there items kn i links has x one =
     line_there (λ its. joined_to its i x) (λ it. joined_in it i x) (λ a more. refl) items (Instance kn i links) has
     (λ h. not_one (count_by (λ (l : Link). bytes_eq l.port x) links) (unlinked links x (sym (ap (λ b. cond b (link_in links x) None) (same_name i)) ∙ h)) one)
-
--- each port of an instance has one link
-pub linked_once : (ports : List Declaration) (links : List Link) → all_linked ports links ≡ true → (d : Declaration) → Has ports d → (count_by (λ (l : Link). bytes_eq l.port d.name) links == 1) ≡ true
-linked_once [] links e d h = absurd h
-linked_once (p ∷ ports) links e d (inl s) =
-    subst (λ (q : Declaration). (count_by (λ (l : Link). bytes_eq l.port q.name) links == 1) ≡ true) s (both_true (count_by (λ (l : Link). bytes_eq l.port p.name) links == 1) (all_linked ports links) e).0
-linked_once (p ∷ ports) links e d (inr h) = linked_once ports links (both_true (count_by (λ (l : Link). bytes_eq l.port p.name) links == 1) (all_linked ports links) e).1 d h

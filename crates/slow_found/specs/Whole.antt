@@ -8,6 +8,7 @@ use Rattle.vlog_tree.specs.Cycle.{Name, Path, module_at}
 use Rattle.vlog_tree.specs.Environment.{shape_of}
 use Rattle.vlog_slow.specs.Numbers.{first_net, first_memory}
 use Rattle.slow_cycle.specs.declared.moment.Held.{Held}
+use Rattle.slow_cycle.specs.declared.moment.OutsideMemory.{OutsideMemory}
 use Rattle.slow_cycle.specs.declared.moment.Moment.{Moment}
 use Rattle.slow_cycle.specs.Sources.{held_at, memory_of}
 
@@ -21,3 +22,8 @@ pub record IsWhole (ms : List ModuleTree) (top : ModuleTree) (now : Moment) : Ty
   pub held : (path : Path) (m : ModuleTree) → module_at ms top path ≡ Some m → (h : Held) × (held_at now.held.items path ≡ Some h) × HoldsAll m h
   pub scalars : (l : Port) → Has (shape_of top).scalars l → IsTrue (is_some (first_net now.scalars.items l.name))
   pub outside : (l : Port) → Has (shape_of top).memories l → IsTrue (is_some (memory_of now.outside.items l.name))
+
+-- a moment has nothing but parts of the design: each path leads to a module, and each memory around it is one of the top's
+pub record HasNoMore (ms : List ModuleTree) (top : ModuleTree) (now : Moment) : Type 0 where
+  pub held : (h : Held) → Has now.held.items h → IsTrue (is_some (module_at ms top h.path.items))
+  pub outside : (o : OutsideMemory) → Has now.outside.items o → (l : Port) × Has (shape_of top).memories l × (l.name ≡ o.name)

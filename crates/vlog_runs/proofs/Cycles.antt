@@ -47,9 +47,11 @@ first_is v (n ∷ ns) b h f = ap v (f n (inl refl))
 count_below : (n : ℕ) → (n == 1) ≡ true → n < 2
 count_below n e = grind (arith, nat_tests)
 
-linked_once : (ports : List Declaration) (links : List Link) → all_linked ports links ≡ true → (d : Declaration) → Has ports d → count_by (λ (l : Link). bytes_eq l.port d.name) links < 2
+-- each port of an instance has one link
+pub linked_once : (ports : List Declaration) (links : List Link) → all_linked ports links ≡ true → (d : Declaration) → Has ports d → (count_by (λ (l : Link). bytes_eq l.port d.name) links == 1) ≡ true
 linked_once [] links e d h = absurd h
-linked_once (p ∷ ports) links e d (inl s) = count_below _ (subst (λ (q : Declaration). (count_by (λ (l : Link). bytes_eq l.port q.name) links == 1) ≡ true) s (both_true _ (all_linked ports links) e).0)
+linked_once (p ∷ ports) links e d (inl s) =
+    subst (λ (q : Declaration). (count_by (λ (l : Link). bytes_eq l.port q.name) links == 1) ≡ true) s (both_true (count_by (λ (l : Link). bytes_eq l.port p.name) links == 1) (all_linked ports links) e).0
 linked_once (p ∷ ports) links e d (inr h) = linked_once ports links (both_true (count_by (λ (l : Link). bytes_eq l.port p.name) links == 1) (all_linked ports links) e).1 d h
 
 module _ (ms : List ModuleTree) (names : first_violation (v2_uses ms) ≡ None) (m : ModuleTree) (in_ms : Has ms m) where
@@ -74,7 +76,7 @@ module _ (ms : List ModuleTree) (names : first_violation (v2_uses ms) ≡ None) 
   one_link kn i links has l k h g e r =
       let f = found_name (map port_declared (ports_of ms kn)) l.port sort_is_read refl r in
       let d = find_name (map port_declared (ports_of ms kn)) l.port in
-      let low : count_by (λ (q : Link). bytes_eq q.port d.name) links < 2 = linked_once (map port_declared (ports_of ms kn)) links (instance_single ms names m in_ms kn i links has).1 d f.0 in
+      let low : count_by (λ (q : Link). bytes_eq q.port d.name) links < 2 = count_below _ (linked_once (map port_declared (ports_of ms kn)) links (instance_single ms names m in_ms kn i links has).1 d f.0) in
       alone (λ (q : Link). bytes_eq q.port d.name) links l k h g ((bytes_decides l.port d.name).1 (sym f.1)) ((bytes_decides k.port d.name).1 (sym e ∙ sym f.1)) low
 
 module _ (ms : List ModuleTree) (root : ModuleTree) (path : Path) (m : ModuleTree) (at : module_at ms root path ≡ Some m) (kn i : Name) (links : List Link) (has : Has m.items (Instance kn i links)) (l : Link) (h : Has links l) where

@@ -1,25 +1,21 @@
 -- The equation of each net of a design in one cycle, and what it reads.
-use Rattle.std.proofs.Common.{◌≡◌, ℕ, Bool, true, false, ◌&&◌, List, [], ◌∷◌, Option, Some, None, inl, inr, refl, sym, ap, subst, map}
-use Rattle.std.specs.Prelude.{bytes_eq, if◌then◌else◌}
+use Rattle.std.proofs.Common.{◌≡◌, ℕ, true, List, [], ◌∷◌, Option, Some, None, inl, inr, refl, sym, ap, subst}
 use Rattle.std.specs.List.{flat_map}
 use Rattle.vlog_tree.specs.declared.tree.Value.{Value}
 use Rattle.vlog_tree.specs.declared.tree.Value.TheVariants.{Plain, Invert, Binary, Choose, Concat, Repeat, Cell}
-use Rattle.vlog_tree.specs.declared.tree.Link.{Link}
-use Rattle.vlog_tree.specs.declared.tree.Item.TheVariants.{Assign, Instance}
+use Rattle.vlog_tree.specs.declared.tree.Item.TheVariants.{Assign}
 use Rattle.vlog_tree.specs.declared.table.Sort.{Sort}
 use Rattle.vlog_tree.specs.declared.table.Sort.TheVariants.{Unknown, Input, Output, WireNet, Register, MemoryArray, ChildInstance}
 use Rattle.vlog_tree.specs.Form.{ModuleTree}
 use Rattle.vlog_tree.specs.Grounded.{Has}
 use Rattle.vlog_tree.specs.Cycle.{Cycle, Path, driven, module_at}
-use Rattle.vlog_tree.specs.Table.{Name, no, declared, port_declared, sort_of, bits_of, sort_is_input, ports_of}
-use Rattle.vlog_tree.specs.Loops.{value_nets}
-use Rattle.vlog_tree.specs.Flattened.{FlatNet, parts, line_parts, lines_of, memory_parts}
-use Rattle.vlog_loops.proofs.Numbered.{has_left, has_right}
-use Rattle.vlog_feedback.proofs.Lists.{has_flat, of_flat, has_map}
-use Rattle.vlog_runs.proofs.Alone.{same_name}
+use Rattle.vlog_tree.specs.Table.{Name, declared, sort_of, bits_of}
+use Rattle.vlog_tree.specs.Flattened.{FlatNet, parts, line_parts}
+use Rattle.vlog_feedback.proofs.Lists.{of_flat}
 use Rattle.vlog_runs.proofs.Settled.{outside, answers}
 use Rattle.vlog_runs.proofs.Sizes.{sizes_of}
 use Rattle.vlog_runs.proofs.Values.{driven_same, ReadsAlike}
+use Rattle.vlog_runs.proofs.Parts.{part_line, part_outside, part_answer, driver_part, output_part}
 use Rattle.vlog_runs.proofs.Drivers.{Source, value, output, sources, line_sources, source_of, source_cases, value_line, output_line, IsDrivenBy}
 
 -- the numbers of a module's nets at a path, with the cells of its memories
@@ -83,22 +79,6 @@ module _ (ms : List ModuleTree) (root : ModuleTree) (held : Path → Cycle) (giv
   undriven_same MemoryArray n v w f = refl
   undriven_same ChildInstance n v w f = refl
 
-  abbrev by_name : Bool → List FlatNet → List FlatNet
-  by_name b l = if b then l else []
-
-  driver_part : (m : ModuleTree) (path : Path) (x : Name) (e : Value) → Has m.items (Assign x e) → (z : Name) → Has (value_nets e) z → Has (flat_map (line_parts ms path x) m.items) (path, z)
-  driver_part m path x e has z h =
-      has_flat (line_parts ms path x) m.items (Assign x e) (path, z) has
-      (subst (λ b. Has (by_name b (map (λ y. (path, y)) (value_nets e))) (path, z)) (sym (same_name x)) (has_map (λ y. (path, y)) (value_nets e) z h))
-
-  link_part : (m : ModuleTree) (path : Path) (kn i : Name) (links : List Link) → Has m.items (Instance kn i links) → (l : Link) → Has links l → sort_is_input (sort_of (map port_declared (ports_of ms kn)) l.port) ≡ false
-      → Has (flat_map (line_parts ms path l.net) m.items) (i ∷ path, l.port)
-  link_part m path kn i links has l h e =
-      has_flat (line_parts ms path l.net) m.items (Instance kn i links) (i ∷ path, l.port) has
-      (has_flat (λ (k : Link). if bytes_eq k.net l.net && no (sort_is_input (sort_of (map port_declared (ports_of ms kn)) k.port)) then (i ∷ path, k.port) ∷ [] else []) links l (i ∷ path, l.port) h
-      (subst (λ b. Has (by_name (b && no (sort_is_input (sort_of (map port_declared (ports_of ms kn)) l.port))) ((i ∷ path, l.port) ∷ [])) (i ∷ path, l.port)) (sym (same_name l.net))
-      (subst (λ b. Has (by_name (no b) ((i ∷ path, l.port) ∷ [])) (i ∷ path, l.port)) (sym e) (inl refl))))
-
   module _ (m : ModuleTree) (path : Path) (x : Name) (v w : FlatNet → ℕ) (a : Agrees m path x v w) where
     reads_alike : (e : Value) → ReadsAlike (nets_at held v path) (nets_at held w path) (sizes_of m) (sizes_of m) e
     reads_alike (Cell k y) = λ n. refl
@@ -113,11 +93,11 @@ module _ (ms : List ModuleTree) (root : ModuleTree) (held : Path → Cycle) (giv
     source_same (value e) h =
         let t = of_flat (line_sources ms) m.items (x, value e) h in
         let has : Has m.items (Assign x e) = subst (λ z. Has m.items z) (value_line ms t.0 x e t.2) t.1 in
-        driven_same (nets_at held v path) (nets_at held w path) (sizes_of m) (sizes_of m) (bits_of (declared m) x) (bits_of (declared m) x) e refl (λ z k. a.lines (path, z) (driver_part m path x e has z k)) (λ z k. refl) (reads_alike e)
+        driven_same (nets_at held v path) (nets_at held w path) (sizes_of m) (sizes_of m) (bits_of (declared m) x) (bits_of (declared m) x) e refl (λ z k. a.lines (path, z) (driver_part ms m path x e has z k)) (λ z k. refl) (reads_alike e)
     source_same (output i p) h =
         let t = of_flat (line_sources ms) m.items (x, output i p) h in
         let d : IsDrivenBy ms m.items x i p = output_line ms m.items t.0 t.1 x i p t.2 in
-        a.lines (i ∷ path, p) (subst (λ z. Has (flat_map (line_parts ms path z) m.items) (i ∷ path, p)) d.net (subst (λ z. Has (flat_map (line_parts ms path d.link.net) m.items) (i ∷ path, z)) d.port (link_part m path d.kn i d.links d.has d.link d.linked d.output)))
+        a.lines (i ∷ path, p) (output_part ms m path x i p d)
 
     pub module_same : module_equation m (path, x) v ≡ module_equation m (path, x) w
     module_same = elim (source_cases (sources ms m.items) x) [
@@ -126,17 +106,10 @@ module _ (ms : List ModuleTree) (root : ModuleTree) (held : Path → Cycle) (giv
     ]
 
   parts_agree : (path : Path) (x : Name) (m : ModuleTree) → module_at ms root path ≡ Some m → (v w : FlatNet → ℕ) → ((b : FlatNet) → Has (parts ms root true (path, x)) b → v b ≡ w b) → Agrees m path x v w
-  parts_agree [] x m at v w f =
-      let same : root ≡ m = cc at in
-      record {
-        lines = λ b h. f b (has_left (flat_map (line_parts ms [] x) root.items) (memory_parts true x) b (subst (λ (k : ModuleTree). Has (flat_map (line_parts ms [] x) k.items) b) (sym same) h));
-        around = λ e b h. absurd h;
-        asked = λ e b h. f b (has_right (flat_map (line_parts ms [] x) root.items) (memory_parts true x) b h);
-      }
-  parts_agree (i ∷ path) x m at v w f = record {
-    lines = λ b h. f b (has_left (flat_map (line_parts ms (i ∷ path) x) (lines_of (module_at ms root (i ∷ path)))) (outside ms root (i ∷ path, x)) b (subst (λ o. Has (flat_map (line_parts ms (i ∷ path) x) (lines_of o)) b) (sym at) h));
-    around = λ e b h. f b (has_right (flat_map (line_parts ms (i ∷ path) x) (lines_of (module_at ms root (i ∷ path)))) (outside ms root (i ∷ path, x)) b h);
-    asked = λ e b h. absurd h;
+  parts_agree path x m at v w f = record {
+    lines = λ b h. f b (part_line ms root path x m at b h);
+    around = λ e b h. f b (part_outside ms root path x b h);
+    asked = λ e b h. f b (part_answer ms root path x b h);
   }
 
   equation_at : (o : Option ModuleTree) (path : Path) (x : Name) → module_at ms root path ≡ o → (v w : FlatNet → ℕ) → ((b : FlatNet) → Has (parts ms root true (path, x)) b → v b ≡ w b) → equation_in o (path, x) v ≡ equation_in o (path, x) w

@@ -7,6 +7,7 @@ pub mod Settled
 pub mod Sizes
 pub mod Values
 pub mod Drivers
+pub mod Parts
 pub mod Equations
 pub mod Cycles
 pub mod Run

@@ -1,7 +1,7 @@
 -- Two runs from one power-up with the same inputs are the same.
 use Rattle.std.proofs.Common.{◌≡◌, ℕ, Bool, true, false, cond, ◌&&◌, List, [], ◌∷◌, Some, None, inl, inr, refl, sym, ap, subst, ◌∙◌, map}
 use Rattle.std.specs.Prelude.{bytes_eq, if◌then◌else◌}
-use Rattle.std.specs.List.{AllByRecursion, flat_map}
+use Rattle.std.specs.List.{AllByRecursion}
 use Rattle.std.specs.Cmp.Lexicographic.{bytes_decides}
 use Rattle.vlog_tree.specs.declared.tree.Value.{Value}
 use Rattle.vlog_tree.specs.declared.tree.Link.{Link}
@@ -17,14 +17,14 @@ use Rattle.vlog_tree.specs.V4.{v4_uses}
 use Rattle.vlog_tree.specs.V6.{v6_uses, is_top}
 use Rattle.vlog_tree.specs.Labels.{address_of}
 use Rattle.vlog_tree.specs.Loops.{value_nets, item_instances}
-use Rattle.vlog_tree.specs.Flattened.{FlatNet, parts, line_parts, lines_of, memory_parts}
-use Rattle.vlog_loops.proofs.Numbered.{has_left, has_right}
+use Rattle.vlog_tree.specs.Flattened.{FlatNet, parts, line_parts}
 use Rattle.vlog_feedback.proofs.Lists.{has_flat, of_flat, of_map}
 use Rattle.vlog_runs.specs.OneRun.{SameHeld}
 use Rattle.vlog_runs.proofs.Sound.{assign_reads, link_port, link_net, link_clock, output_is, is_known_module}
 use Rattle.vlog_runs.proofs.Alone.{module_there, module_is, IsNamed}
 use Rattle.vlog_runs.proofs.Settled.{outside, answers, joined, child_at, module_in}
 use Rattle.vlog_runs.proofs.Sizes.{all_from}
+use Rattle.vlog_runs.proofs.Parts.{part_line, part_outside, part_answer}
 use Rattle.vlog_runs.proofs.Equations.{module_same, input_value}
 use Rattle.vlog_runs.proofs.Cycles.{port_sort_declared}
 use Rattle.vlog_runs.proofs.Run.{asked_at}
@@ -37,21 +37,6 @@ pub record IsNet (ms : List ModuleTree) (root : ModuleTree) (n : FlatNet) : Type
   pub at : module_at ms root n.0 ≡ Some tree
   pub read : sort_is_read (sort_of (declared tree) n.1) ≡ true
   pub no_clock : is_clk n.1 ≡ false
-
-part_line : (ms : List ModuleTree) (root : ModuleTree) (path : Path) (x : Name) (m : ModuleTree) → module_at ms root path ≡ Some m → (b : FlatNet) → Has (flat_map (line_parts ms path x) m.items) b → Has (parts ms root true (path, x)) b
-part_line ms root [] x m at b h =
-    let same : root ≡ m = cc at in
-    has_left (flat_map (line_parts ms [] x) root.items) (memory_parts true x) b (subst (λ (k : ModuleTree). Has (flat_map (line_parts ms [] x) k.items) b) (sym same) h)
-part_line ms root (i ∷ path) x m at b h =
-    has_left (flat_map (line_parts ms (i ∷ path) x) (lines_of (module_at ms root (i ∷ path)))) (outside ms root (i ∷ path, x)) b (subst (λ o. Has (flat_map (line_parts ms (i ∷ path) x) (lines_of o)) b) (sym at) h)
-
-part_outside : (ms : List ModuleTree) (root : ModuleTree) (path : Path) (x : Name) (b : FlatNet) → Has (outside ms root (path, x)) b → Has (parts ms root true (path, x)) b
-part_outside ms root [] x b h = absurd h
-part_outside ms root (i ∷ path) x b h = has_right (flat_map (line_parts ms (i ∷ path) x) (lines_of (module_at ms root (i ∷ path)))) (outside ms root (i ∷ path, x)) b h
-
-part_answer : (ms : List ModuleTree) (root : ModuleTree) (path : Path) (x : Name) (b : FlatNet) → Has (answers (path, x)) b → Has (parts ms root true (path, x)) b
-part_answer ms root [] x b h = has_right (flat_map (line_parts ms [] x) root.items) (memory_parts true x) b h
-part_answer ms root (i ∷ path) x b h = absurd h
 
 module _ (ms : List ModuleTree) (root : ModuleTree) (names : first_violation (v2_uses ms) ≡ None) (drivers : first_violation (v4_uses ms) ≡ None) (tops : first_violation (v6_uses ms) ≡ None)
     (in_root : Has ms root) (top_is : is_top ms root.name ≡ true) where

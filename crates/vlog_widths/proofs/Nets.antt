@@ -1,6 +1,5 @@
 -- In a cycle each net fits its width, where registers, cells and the top's inputs do.
-use Rattle.std.proofs.Common.{◌≡◌, ℕ, ◌^◌, ◌<◌, Bool, true, false, ◌&&◌, List, [], ◌∷◌, Some, None, inl, inr, refl, sym, ap, subst, ◌∙◌, map}
-use Rattle.std.specs.Prelude.{bytes_eq, if◌then◌else◌}
+use Rattle.std.proofs.Common.{◌≡◌, ℕ, ◌^◌, ◌<◌, true, false, List, [], ◌∷◌, Some, None, inl, inr, refl, sym, ap, subst, ◌∙◌, map}
 use Rattle.std.specs.List.{flat_map}
 use Rattle.std.proofs.Math.Pow.{pow_pos}
 use Rattle.vlog_tree.specs.declared.tree.Value.{Value}
@@ -14,21 +13,21 @@ use Rattle.vlog_tree.specs.declared.table.Sort.TheVariants.{Unknown, Input, Outp
 use Rattle.vlog_tree.specs.Form.{ModuleTree}
 use Rattle.vlog_tree.specs.Grounded.{Has, IsGrounded, grounded}
 use Rattle.vlog_tree.specs.Cycle.{Cycle, Path, PowersUp, driven, module_at}
-use Rattle.vlog_tree.specs.Table.{Name, no, is_clk, declared, port_declared, items_declared, sort_of, bits_of, sort_is_read, sort_is_input, ports_of, first_violation}
+use Rattle.vlog_tree.specs.Table.{Name, is_clk, declared, port_declared, items_declared, sort_of, bits_of, sort_is_read, sort_is_input, ports_of, first_violation}
 use Rattle.vlog_tree.specs.V2.{v2_uses}
 use Rattle.vlog_tree.specs.V3.{v3_uses}
 use Rattle.vlog_tree.specs.V4.{v4_uses}
 use Rattle.vlog_tree.specs.V6.{v6_uses}
-use Rattle.vlog_tree.specs.Loops.{value_nets, item_instances}
-use Rattle.vlog_tree.specs.Flattened.{FlatNet, parts, line_parts, lines_of, memory_parts}
-use Rattle.vlog_loops.proofs.Numbered.{has_left, has_right}
-use Rattle.vlog_feedback.proofs.Lists.{has_flat, of_flat, has_map}
+use Rattle.vlog_tree.specs.Loops.{item_instances}
+use Rattle.vlog_tree.specs.Flattened.{FlatNet, parts, line_parts}
+use Rattle.vlog_feedback.proofs.Lists.{has_flat, of_flat}
 use Rattle.vlog_runs.specs.OneRun.{SameHeld, FitsPowerUp}
 use Rattle.vlog_runs.proofs.Sound.{assign_reads, assign_cell, link_port, link_net, link_clock, output_is, is_known_module, input_is}
-use Rattle.vlog_runs.proofs.Alone.{same_name, child_is, module_there, module_is, IsNamed}
+use Rattle.vlog_runs.proofs.Alone.{child_is, module_there, module_is, IsNamed}
 use Rattle.vlog_runs.proofs.Settled.{outside, Joined, joined, child_at, module_in}
 use Rattle.vlog_runs.proofs.Sizes.{sizes_of, cells_of, all_at, all_from, memory_item, memory_cells, register_item}
 use Rattle.vlog_runs.proofs.Drivers.{Source, value, output, sources, line_sources, source_cases, value_line, output_line, IsDrivenBy}
+use Rattle.vlog_runs.proofs.Parts.{part_line, part_outside, driver_part, link_part}
 use Rattle.vlog_runs.proofs.Equations.{first_number, input_value, undriven_value, source_value}
 use Rattle.vlog_runs.proofs.Cycles.{port_stands, port_sort_declared}
 use Rattle.vlog_runs.proofs.Alike.{memory_is}
@@ -42,30 +41,6 @@ use Rattle.vlog_widths.proofs.Steps.{memory_bits, register_bits}
 first_below : (v : FlatNet → ℕ) (ns : List FlatNet) (w : ℕ) → ((b : FlatNet) → Has ns b → v b < 2 ^ w) → first_number v ns < 2 ^ w
 first_below v [] w f = pow_pos w
 first_below v (n ∷ ns) w f = f n (inl refl)
-
-line_part : (ms : List ModuleTree) (root : ModuleTree) (path : Path) (x : Name) (m : ModuleTree) → module_at ms root path ≡ Some m → (b : FlatNet) → Has (flat_map (line_parts ms path x) m.items) b → Has (parts ms root true (path, x)) b
-line_part ms root [] x m at b h =
-    let same : root ≡ m = cc at in
-    has_left (flat_map (line_parts ms [] x) root.items) (memory_parts true x) b (subst (λ (k : ModuleTree). Has (flat_map (line_parts ms [] x) k.items) b) (sym same) h)
-line_part ms root (i ∷ path) x m at b h =
-    has_left (flat_map (line_parts ms (i ∷ path) x) (lines_of (module_at ms root (i ∷ path)))) (outside ms root (i ∷ path, x)) b (subst (λ o. Has (flat_map (line_parts ms (i ∷ path) x) (lines_of o)) b) (sym at) h)
-
--- what may be taken or left by a test
-abbrev by_test : Bool → List FlatNet → List FlatNet
-by_test b l = if b then l else []
-
-driver_part : (ms : List ModuleTree) (m : ModuleTree) (path : Path) (x : Name) (e : Value) → Has m.items (Assign x e) → (z : Name) → Has (value_nets e) z → Has (flat_map (line_parts ms path x) m.items) (path, z)
-driver_part ms m path x e has z h =
-    has_flat (line_parts ms path x) m.items (Assign x e) (path, z) has
-    (subst (λ b. Has (by_test b (map (λ y. (path, y)) (value_nets e))) (path, z)) (sym (same_name x)) (has_map (λ y. (path, y)) (value_nets e) z h))
-
-link_part : (ms : List ModuleTree) (m : ModuleTree) (path : Path) (kn i : Name) (links : List Link) → Has m.items (Instance kn i links) → (l : Link) → Has links l → sort_is_input (sort_of (map port_declared (ports_of ms kn)) l.port) ≡ false
-    → Has (flat_map (line_parts ms path l.net) m.items) (i ∷ path, l.port)
-link_part ms m path kn i links has l h e =
-    has_flat (line_parts ms path l.net) m.items (Instance kn i links) (i ∷ path, l.port) has
-    (has_flat (λ (k : Link). if bytes_eq k.net l.net && no (sort_is_input (sort_of (map port_declared (ports_of ms kn)) k.port)) then (i ∷ path, k.port) ∷ [] else []) links l (i ∷ path, l.port) h
-    (subst (λ b. Has (by_test (b && no (sort_is_input (sort_of (map port_declared (ports_of ms kn)) l.port))) ((i ∷ path, l.port) ∷ [])) (i ∷ path, l.port)) (sym (same_name l.net))
-    (subst (λ b. Has (by_test (no b) ((i ∷ path, l.port) ∷ [])) (i ∷ path, l.port)) (sym e) (inl refl))))
 
 -- a port has the width that its module's names give it
 port_bits : (m : ModuleTree) (x : Name) → sort_is_read (sort_of (map port_declared m.ports) x) ≡ true → bits_of (declared m) x ≡ bits_of (map port_declared m.ports) x
@@ -120,7 +95,7 @@ module _ (ms : List ModuleTree) (root : ModuleTree) (names : first_violation (v2
       driver_fits : (e : Value) → Has m.items (Assign x e) → driven (sizes_of m) (bits_of (declared m) x) (c path) e < 2 ^ bits_of (declared m) x
       driver_fits e has =
           value_below (declared m) (cells_of m.items) (c path) (bits_of (declared m) x) e (assign_width ms widths m here x e has)
-          (λ z h. let r = assign_reads ms names m here x e has z h in below (path, z) (line_part ms root path x m at (path, z) (driver_part ms m path x e has z h)) m at r.0 r.1)
+          (λ z h. let r = assign_reads ms names m here x e has z h in below (path, z) (part_line ms root path x m at (path, z) (driver_part ms m path x e has z h)) m at r.0 r.1)
           (cells_below x e has)
 
       output_fits : (kn i : Name) (links : List Link) → Has m.items (Instance kn i links) → (l : Link) → Has links l → l.net ≡ x → sort_is_input (sort_of (map port_declared (ports_of ms kn)) l.port) ≡ false → numbers c (i ∷ path, l.port) < 2 ^ bits_of (declared m) x
@@ -128,7 +103,7 @@ module _ (ms : List ModuleTree) (root : ModuleTree) (names : first_violation (v2
           let t = module_there ms kn (is_known_module ms names m here kn i links has) in
           let n : IsNamed ms kn t.0 = module_is ms kn t.0 t.1 in
           let sort : sort_of (map port_declared t.0.ports) l.port ≡ Output = subst (λ ps. sort_of (map port_declared ps) l.port ≡ Output) n.ports (output_is (ports_of ms kn) l.port (link_port ms names m here kn i links has l h) e) in
-          let part : Has (parts ms root true (path, x)) (i ∷ path, l.port) = line_part ms root path x m at (i ∷ path, l.port) (subst (λ z. Has (flat_map (line_parts ms path z) m.items) (i ∷ path, l.port)) net (link_part ms m path kn i links has l h e)) in
+          let part : Has (parts ms root true (path, x)) (i ∷ path, l.port) = part_line ms root path x m at (i ∷ path, l.port) (subst (λ z. Has (flat_map (line_parts ms path z) m.items) (i ∷ path, l.port)) net (link_part ms m path kn i links has l h e)) in
           let low : numbers c (i ∷ path, l.port) < 2 ^ bits_of (declared t.0) l.port =
           below (i ∷ path, l.port) part t.0 (child_at ms root names m here path at kn i t.0 (has_flat item_instances m.items (Instance kn i links) (kn, i) has (inl refl)) t.1)
           (ap sort_is_read (port_sort_declared t.0 l.port Output refl sort)) (clock_joined ms tops m here kn i links has l h (ap is_clk net ∙ no_clock)) in
@@ -167,7 +142,7 @@ module _ (ms : List ModuleTree) (root : ModuleTree) (names : first_violation (v2
   input_fits (i ∷ path) m at x s n f =
       let a = module_around ms root i path m at in
       first_below (numbers c) (outside ms root (i ∷ path, x)) (bits_of (declared m) x)
-      (λ b h. outer_fits i path m x n a b (joined ms root a.tree path a.at i x b h) (f b (has_right (flat_map (line_parts ms (i ∷ path) x) (lines_of (module_at ms root (i ∷ path)))) (outside ms root (i ∷ path, x)) b h)))
+      (λ b h. outer_fits i path m x n a b (joined ms root a.tree path a.at i x b h) (f b (part_outside ms root (i ∷ path) x b h)))
 
   input_is_given : (path : Path) (m : ModuleTree) → module_at ms root path ≡ Some m → (x : Name) → sort_of (declared m) x ≡ Input → (c path).net x ≡ input_value ms root c give (numbers c) (path, x)
   input_is_given [] m at x s = refl

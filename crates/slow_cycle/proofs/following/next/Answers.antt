@@ -6,9 +6,18 @@ use Rattle.vlog_tree.specs.Environment.{AllTwo}
 use Rattle.slow_cycle.specs.declared.moment.Held.{Held}
 use Rattle.slow_cycle.specs.declared.moment.OutsideMemory.{OutsideMemory}
 use Rattle.slow_cycle.specs.Moments.{HeldIs, InRuns}
-use Rattle.slow_cycle.specs.Next.{IsAfterStore}
+use Rattle.slow_cycle.specs.Next.{IsAfterStore, IsAlike, IsSameMemory}
 use Rattle.slow_cycle.proofs.Later.{at_next}
 use Rattle.slow_cycle.proofs.following.next.Goals as goal
+
+pub returns-clause-kept : goal.returns-clause-kept
+returns-clause-kept c =
+    let now = c.args.now.now in
+    record {
+      held = subst (λ (o : Option (Vec Held Global)). IfSome o (λ v. AllTwo IsAlike now.held.items v.items)) c.in-Some.is c.in_ok-held.ensures.alike;
+      scalars = c.in_ok-scalars.ensures ∙ c.deref.ensures.value;
+      outside = subst (λ (o : Option (Vec OutsideMemory Global)). IfSome o (λ v. AllTwo IsSameMemory now.outside.items v.items)) c.in-Some-2.is c.in_ok-outside.ensures.same;
+    }
 
 pub returns-clause-value : goal.returns-clause-value
 returns-clause-value c =

@@ -1,11 +1,11 @@
-use Rattle.std.proofs.Common.{◌≡◌, ◌-◌, Some, None, refl, sym, ap, ◌∙◌, arith}
+use Rattle.std.proofs.Common.{◌≡◌, ◌-◌, Some, None, sym, ap, ◌∙◌, arith}
 use Rattle.std.specs.Prelude.{Vec}
 use Rattle.std.specs.declared.alloc.Global.{Global}
 use Rattle.vlog_slow.specs.declared.numbers.NetNumber.{NetNumber}
 use Rattle.std.specs.Option.{option_map}
-use Rattle.slow_cycle.specs.Sources.{source_tree, rule_tree}
+use Rattle.slow_cycle.specs.Sources.{source_tree}
 use Rattle.slow_cycle.specs.Numbers.{all_numbers, by_rule, number_at}
-use Rattle.slow_cycle.proofs.Within.{number_found, number_zero, number_unread, runs_number}
+use Rattle.slow_cycle.proofs.Within.{number_found, number_unread, runs_number}
 use Rattle.slow_cycle.proofs.numbers.+net_number.Goals as goal
 
 pub net_number-returns-in-Some-2-clause-within : goal.net_number-returns-in-Some-2-clause-within
