@@ -25,7 +25,7 @@ returns c =
     let original = c.index-machines-instance.result in
     let at_machine = slice_get_read c.args.machines.now (length c.args.machines.now) x.body original refl (omega (arith, inside, c.requires.as_many)) c.index-machines-instance.is in
     let lowered : IsLowered h.0 (arc_value c.in_ok-machine.machine) = subst (λ (m : Fsm). IsLowered h.0 m) (sym c.in_ok-machine.ensures.cases) (c.requires.lowered x.body h.0 original inside h.1.body at_machine is_leaf) in
-    let values = c.deref-3.ensures.value ∙ c.in_ok-scalars.ensures ∙ ap (λ (l : List ℕ). map (bound_value (kinds_in program) l) x.scalars.items) c.deref.ensures.value in
-    let rows = c.in_ok-memories.ensures ∙ ap (λ (l : List (Vec ℕ Global)). map (λ m. slice_index_or (rows_of l) m []) x.memories.items) c.deref-2.ensures.value in
-    started c.in_ok-coroutine.coroutine h.0 (arc_value c.in_ok-machine.machine) c.deref-3.result.now _ (rows_of c.in_ok-memories.memories.items) _ (instance_job program input c.args.i)
+    let values = c.deref-4.ensures.value ∙ c.in_ok-scalars.ensures ∙ ap (λ (l : List ℕ). map (bound_value (kinds_in program) l) x.scalars.items) c.deref.ensures.value in
+    let rows = c.in_ok-memories.ensures ∙ ap (λ (l : List (Vec ℕ Global)). map (λ m. slice_index_or (rows_of l) m []) c.deref-3.result.now) c.deref-2.ensures.value ∙ ap (map (λ m. slice_index_or (rows_of input.memories.items) m [])) c.deref-3.ensures.value in
+    started c.in_ok-coroutine.coroutine h.0 (arc_value c.in_ok-machine.machine) c.deref-4.result.now _ (rows_of c.in_ok-memories.memories.items) _ (instance_job program input c.args.i)
     is_leaf lowered values rows (leaf_fits program input c.requires.fits c.args.i x h.0 h.1) (job_is program input c.requires.fits c.args.i x h.0 at h.1) c.in_ok-coroutine.ensures
