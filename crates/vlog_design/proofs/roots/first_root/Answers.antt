@@ -1,4 +1,4 @@
-use Rattle.std.proofs.Common.{◌≡◌, ◌∙◌, ◌+◌, ℕ, List, ◌∷◌, sym, ap, cond, drop, true, Some}
+use Rattle.std.proofs.Common.{◌≡◌, ◌∙◌, ◌+◌, ◌∷◌, sym, ap, cond, drop, true, Some}
 use Rattle.std.specs.Prelude.{◌==◌}
 use Rattle.vlog_tree.specs.NameTable.{times_in}
 use Rattle.vlog_tree.specs.V6.{roots_among, first_name}

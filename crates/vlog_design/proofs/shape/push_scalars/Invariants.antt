@@ -1,8 +1,8 @@
 use Rattle.std.proofs.Common.{◌≡◌, ◌++◌, drop}
 use Rattle.std.specs.List.{flat_map}
 use Rattle.vlog_tree.specs.declared.tree.PortDecl.{PortDecl}
-use Rattle.vlog_tree.specs.Environment.{scalar_label, memory_label}
-use Rattle.vlog_tree.specs.Labels.{scalar_of, ack_of}
+use Rattle.vlog_tree.specs.Environment.{scalar_label}
+use Rattle.vlog_tree.specs.Labels.{scalar_of}
 use Rattle.vlog_design.proofs.shape.push_scalars.Given as goal
 
 abbrev pub invariant-loop-port : goal.invariant-loop-port

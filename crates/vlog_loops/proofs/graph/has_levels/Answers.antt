@@ -1,4 +1,4 @@
-use Rattle.std.proofs.Common.{◌≡◌, ◌∙◌, ◌<◌, ℕ, List, sym, ap, subst, get_or, length, true, false, Global}
+use Rattle.std.proofs.Common.{◌<◌, ℕ, List, subst, get_or, length, Global}
 use Rattle.std.specs.Prelude.{Vec}
 use Rattle.vlog_tree.specs.NameTable.{value_in}
 use Rattle.vlog_loops.specs.Graphs.{targets_of, Steps}

@@ -1,4 +1,4 @@
-use Rattle.std.proofs.Common.{◌≡◌, ◌∷◌, [], ◌<◌, ℕ, List, ap, subst, sym, get_or, take, inl, inr, arith, rules}
+use Rattle.std.proofs.Common.{◌∷◌, [], ◌<◌, ℕ, List, subst, get_or, take, inl, inr, rules}
 use Rattle.std.specs.Prelude.{◌⊎◌}
 use Rattle.std.proofs.lemmas.List.{take_more}
 use Rattle.vlog_tree.specs.Grounded.{Has}

@@ -1,4 +1,4 @@
-use Rattle.std.proofs.Common.{◌≡◌, ◌∙◌, ◌++◌, ◌∷◌, [], ℕ, List, sym, ap, subst, inl, refl}
+use Rattle.std.proofs.Common.{◌∷◌, [], sym, subst, inl, refl}
 use Rattle.std.specs.Prelude.{slice_set}
 use Rattle.std.proofs.Common.{true}
 use Rattle.vlog_tree.specs.Grounded.{Has}

@@ -1,9 +1,8 @@
-use Rattle.std.proofs.Common.{◌≡◌, ◌∙◌, ◌++◌, ◌∷◌, ◌+◌, ◌<◌, [], ℕ, List, sym, ap, subst, inl, inr, refl, get_or, length, take, append_assoc}
+use Rattle.std.proofs.Common.{◌≡◌, ◌∙◌, ◌++◌, ◌∷◌, ◌<◌, [], ℕ, List, sym, ap, subst, inl, inr, get_or, length, take, append_assoc}
 use Rattle.std.specs.Prelude.{◌⊎◌}
 use Rattle.std.proofs.lemmas.List.{take_more}
 use Rattle.vlog_tree.specs.Grounded.{Has}
-use Rattle.vlog_loops.specs.Graphs.{IsMarked}
-use Rattle.vlog_loops.proofs.Numbered.{has_left, has_right, has_split}
+use Rattle.vlog_loops.proofs.Numbered.{has_left, has_split}
 use Rattle.vlog_loops.proofs.Reached.{at_has}
 use Rattle.vlog_loops.proofs.reach.mark_all.Goals as goal
 

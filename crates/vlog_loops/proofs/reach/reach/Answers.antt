@@ -1,7 +1,7 @@
-use Rattle.std.proofs.Common.{◌≡◌, ◌∙◌, ◌++◌, ◌+◌, ◌<◌, ◌≤◌, [], ℕ, List, sym, ap, subst, get_or, length, arith, rules, true, false}
+use Rattle.std.proofs.Common.{◌≡◌, ◌∙◌, ◌++◌, ◌<◌, ◌≤◌, sym, ap, subst, get_or, length, arith, rules}
 use Rattle.std.proofs.lemmas.List.{get_or_default}
 use Rattle.vlog_tree.specs.Grounded.{Has}
-use Rattle.vlog_tree.specs.Loops.{Chain, one}
+use Rattle.vlog_tree.specs.Loops.{one}
 use Rattle.vlog_loops.specs.Graphs.{IsMarked, Steps, targets_of}
 use Rattle.vlog_loops.proofs.Reached.{complete, sound_on, closed_on}
 use Rattle.vlog_loops.proofs.Numbered.{has_left}

@@ -1,4 +1,4 @@
-use Rattle.std.proofs.Common.{◌≡◌, ◌∙◌, ap, List, ℕ}
+use Rattle.std.proofs.Common.{◌∙◌, ap, List}
 use Rattle.std.specs.Prelude.{bytes_eq, count_by, ◌==◌}
 use Rattle.std.specs.List.{list_all}
 use Rattle.vlog_tree.specs.declared.table.Declaration.{Declaration}

@@ -1,7 +1,7 @@
-use Rattle.std.proofs.Common.{◌≡◌, ◌∙◌, sym, ap}
+use Rattle.std.proofs.Common.{◌∙◌, sym, ap}
 use Rattle.std.specs.Option.{option_copied}
 use Rattle.vlog_tree.specs.V2.{module_uses}
-use Rattle.vlog_tree.proofs.Walks.{goes_on, found, none_left}
+use Rattle.vlog_tree.proofs.Walks.{goes_on, found}
 use Rattle.vlog_rules.proofs.names.first_unknown.Goals as goal
 
 pub returns-in-Some : goal.returns-in-Some

@@ -1,6 +1,5 @@
-use Rattle.std.proofs.Common.{◌≡◌, ◌++◌, drop, map}
-use Rattle.vlog_tree.specs.Table.{items_declared, port_declared}
-use Rattle.vlog_tree.specs.Table.{module_declared}
+use Rattle.std.proofs.Common.{◌≡◌, ◌++◌, drop}
+use Rattle.vlog_tree.specs.Table.{items_declared}
 use Rattle.vlog_rules.proofs.scope.add_items.Given as goal
 
 abbrev pub invariant-loop-item : goal.invariant-loop-item

@@ -1,5 +1,4 @@
 use Rattle.std.proofs.Common.{◌≡◌, ◌++◌, drop, map}
-use Rattle.vlog_tree.specs.Table.{items_declared, port_declared}
 use Rattle.vlog_tree.specs.Table.{module_declared}
 use Rattle.vlog_rules.proofs.scope.add_modules.Given as goal
 

@@ -1,6 +1,5 @@
 use Rattle.std.proofs.Common.{◌≡◌, ◌++◌, drop, map}
-use Rattle.vlog_tree.specs.Table.{items_declared, port_declared}
-use Rattle.vlog_tree.specs.Table.{module_declared}
+use Rattle.vlog_tree.specs.Table.{port_declared}
 use Rattle.vlog_rules.proofs.scope.add_ports.Given as goal
 
 abbrev pub invariant-loop-port : goal.invariant-loop-port

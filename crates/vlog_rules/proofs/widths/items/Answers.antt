@@ -1,4 +1,4 @@
-use Rattle.std.proofs.Common.{◌≡◌, ◌∙◌, sym, ap}
+use Rattle.std.proofs.Common.{◌∙◌, sym, ap}
 use Rattle.std.specs.Option.{option_copied}
 use Rattle.vlog_tree.specs.V3.{item_widths}
 use Rattle.vlog_tree.proofs.Walks.{goes_on, found}

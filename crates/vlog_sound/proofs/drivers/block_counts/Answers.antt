@@ -1,4 +1,4 @@
-use Rattle.std.proofs.Common.{◌≡◌, ◌∙◌, ap, take, min}
+use Rattle.std.proofs.Common.{◌∙◌, ap, take, min}
 use Rattle.std.specs.Prelude.{count_by}
 use Rattle.vlog_tree.specs.V4.{is_block_of}
 use Rattle.vlog_rules.proofs.Counts.{count_more}

@@ -1,4 +1,4 @@
-use Rattle.std.proofs.Common.{◌≡◌, ◌+◌, ℕ, List, take}
+use Rattle.std.proofs.Common.{take}
 use Rattle.std.specs.Prelude.{count_by}
 use Rattle.vlog_tree.specs.NameTable.{CountsTo}
 use Rattle.vlog_tree.specs.V4.{is_block_of}

@@ -1,9 +1,9 @@
-use Rattle.std.proofs.Common.{◌≡◌, ◌∙◌, ℕ, Option, List, ap, map}
+use Rattle.std.proofs.Common.{◌∙◌, Option, List, ap, map}
 use Rattle.std.specs.Prelude.{count_by}
 use Rattle.vlog_tree.specs.declared.tree.Item.{Item}
 use Rattle.vlog_tree.specs.declared.table.Declaration.{Declaration}
 use Rattle.vlog_tree.specs.Form.{ModuleTree}
-use Rattle.vlog_tree.specs.Table.{Name, first_violation, declared}
+use Rattle.vlog_tree.specs.Table.{Name, first_violation}
 use Rattle.vlog_tree.specs.V4.{drives, is_block_of, breaks_driving, driving_use, module_drives}
 use Rattle.vlog_sound.proofs.drivers.module_names.Goals as goal
 

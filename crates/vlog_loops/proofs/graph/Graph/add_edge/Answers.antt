@@ -1,4 +1,4 @@
-use Rattle.std.proofs.Common.{◌≡◌, ◌∙◌, ◌<◌, ◌++◌, ◌∷◌, [], ℕ, List, sym, ap, subst, length, arith}
+use Rattle.std.proofs.Common.{◌<◌, ◌++◌, ◌∷◌, [], sym, subst, length, arith}
 use Rattle.vlog_tree.specs.NameTable.{value_in}
 use Rattle.vlog_loops.specs.Graphs.{IsNumbered, IsGraphOf, targets_of}
 use Rattle.vlog_loops.proofs.Numbered.{numbered_edge}

@@ -1,4 +1,4 @@
-use Rattle.std.proofs.Common.{◌≡◌, ◌∙◌, ◌+◌, ℕ, List, sym, ap, subst, rules, length, cond, Some, None}
+use Rattle.std.proofs.Common.{◌≡◌, ◌∙◌, ◌+◌, sym, ap, subst, rules, length, cond, Some, None}
 use Rattle.std.specs.Prelude.{bytes_eq}
 use Rattle.vlog_tree.specs.NameTable.{value_in}
 use Rattle.vlog_loops.specs.Graphs.{IsNumbered, targets_of}

@@ -1,4 +1,4 @@
-use Rattle.std.proofs.Common.{◌≡◌, ◌∙◌, sym, ap, List, map, refl}
+use Rattle.std.proofs.Common.{◌∙◌, ap, List, map, refl}
 use Rattle.std.specs.Prelude.{is_some}
 use Rattle.vlog_tree.specs.declared.table.Declaration.{Declaration}
 use Rattle.vlog_tree.specs.Table.{declaration_name}

@@ -1,4 +1,4 @@
-use Rattle.std.proofs.Common.{◌≡◌, ◌∙◌, sym, ap, subst, get_or, length, ◌<◌, List, map}
+use Rattle.std.proofs.Common.{◌∙◌, sym, ap, subst, get_or, length, ◌<◌, List, map}
 use Rattle.vlog_tree.specs.declared.table.Declaration.{Declaration}
 use Rattle.vlog_tree.specs.Table.{port_declared, declaration_name}
 use Rattle.vlog_tree.specs.NameTable.{places_from}

@@ -1,4 +1,4 @@
-use Rattle.std.proofs.Common.{◌≡◌, ◌∙◌, sym, ap}
+use Rattle.std.proofs.Common.{◌∙◌, sym, ap}
 use Rattle.std.specs.Prelude.{nat_le}
 use Rattle.vlog_rules.proofs.Found.{found, missing}
 use Rattle.vlog_rules.proofs.scope.Scope.is_doubled.Goals as goal

@@ -1,6 +1,5 @@
-use Rattle.std.proofs.Common.{◌≡◌, ◌∙◌, sym, ap, subst, get_or, length, ◌<◌, List}
+use Rattle.std.proofs.Common.{◌∙◌, sym, ap, subst, get_or, length, ◌<◌, List}
 use Rattle.vlog_tree.specs.declared.table.Declaration.{Declaration}
-use Rattle.vlog_tree.specs.Table.{find_name}
 use Rattle.vlog_rules.proofs.Found.{within, is_there, missing}
 use Rattle.vlog_rules.proofs.scope.Scope.sort.Goals as goal
 
