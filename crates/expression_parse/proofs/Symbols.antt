@@ -1,5 +1,5 @@
 -- The symbols of lexemes, one by one.
-use Rattle.std.proofs.Common.{◌≡◌, ◌<◌, ℕ, zero, suc, List, [], ◌∷◌, map, drop, length, get_or, refl, sym, ap, arith, rules}
+use Rattle.std.proofs.Common.{◌≡◌, ◌<◌, ℕ, zero, suc, List, [], ◌∷◌, drop, length, get_or, sym, ap, arith}
 use Rattle.tapa_syntax.specs.declared.lexeme.Lexeme.{Lexeme}
 use Rattle.tapa_syntax.specs.Symbols.{symbol_of, symbols_of}
 use Rattle.expression_parse.specs.Readers.{next}

@@ -11,7 +11,7 @@ use Rattle.tapa_base.specs.declared.kind.Kind.TheVariants as kind
 use Rattle.tapa_syntax.specs.Symbols.{Symbol}
 use Rattle.tapa_syntax.specs.Grammar.{is_name}
 use Rattle.expression_parse.specs.declared.fault.ParseCode.{ParseCode}
-use Rattle.expression_parse.specs.declared.fault.ParseCode.TheVariants.{P1, P2}
+use Rattle.expression_parse.specs.declared.fault.ParseCode.TheVariants.{P1}
 use Rattle.expression_parse.specs.declared.fault.Fault.{Fault}
 use Rattle.expression_parse.specs.declared.fault.Fault.TheVariants.{OutOfMemory, Refused}
 

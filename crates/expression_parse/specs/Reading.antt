@@ -1,6 +1,6 @@
 -- Reading from left to right, with one symbol of look-ahead and three before a cast: what may stand inside a level of
 -- nesting, from a type to a statement.
-use Rattle.std.specs.Prelude.{◌≡◌, ℕ, zero, suc, Bool, true, false, not, ◌||◌, ◌&&◌, if◌then◌else◌, ◌==◌, List, [], ◌∷◌, ◌++◌, length, drop, Option, Some, None, is_some, Result, Ok, Err}
+use Rattle.std.specs.Prelude.{ℕ, zero, suc, Bool, true, false, not, ◌||◌, ◌&&◌, if◌then◌else◌, ◌==◌, List, [], ◌∷◌, ◌++◌, length, drop, Option, Some, None, is_some, Ok, Err}
 use Rattle.tapa_base.specs.declared.kind.Kind.{Kind}
 use Rattle.tapa_base.specs.declared.kind.Kind.TheVariants as kind
 use Rattle.tapa_base.specs.declared.text.Place.{Place}
@@ -13,14 +13,12 @@ use Rattle.tapa_syntax.specs.declared.tree.StepOperator.{StepOperator}
 use Rattle.tapa_syntax.specs.declared.tree.AssignmentOperator.{AssignmentOperator}
 use Rattle.tapa_syntax.specs.declared.tree.AttributeArgument.{AttributeArgument}
 use Rattle.tapa_syntax.specs.declared.tree.AttributeArgument.TheVariants as argument_form
-use Rattle.tapa_syntax.specs.declared.tree.Parameter.{Parameter}
-use Rattle.tapa_syntax.specs.declared.tree.Parameter.TheVariants as parameter_form
 use Rattle.tapa_syntax.specs.Symbols.{Symbol}
-use Rattle.tapa_syntax.specs.Trees.{ExpressionTree, literal, boolean, variable, element, call, nullptr, construct, static_cast, cast, parenthesized, prefix, binary, conditional, expressions, PlaceTree, variable_place, element_place, ActionTree, call_action, write, read, assign, postfix, prefix_step, CountForm, literal_count, name_count, parenthesized_count, CountTree, DeclaratorTree, plain, initialized, array, DeclarationTree, AttributeTree, StartTree, no_start, declare_start, act_start, HeadTree, StatementTree, attributed, empty, block, declare, act, if_only, if_else, while, for, while_not_eot, break, continue, statements, StreamTree, ArgumentTree, InvocationTree, BodyTree, leaf, upper, TaskTree, ItemTree, constant, task}
+use Rattle.tapa_syntax.specs.Trees.{ExpressionTree, literal, boolean, variable, element, call, nullptr, construct, static_cast, cast, parenthesized, prefix, binary, conditional, expressions, PlaceTree, variable_place, element_place, ActionTree, call_action, write, read, assign, postfix, prefix_step, CountForm, literal_count, name_count, parenthesized_count, CountTree, DeclaratorTree, plain, initialized, array, DeclarationTree, AttributeTree, StartTree, no_start, declare_start, act_start, HeadTree, StatementTree, attributed, empty, block, declare, act, if_only, if_else, while, for, while_not_eot, break, continue, statements}
 use Rattle.tapa_syntax.specs.Grammar.{is_name, sized_kind, word_kind, prefix_operator_of, binary_operator_of, step_operator_of, assignment_operator_of, binds_at, sum_level, or_level}
 use Rattle.tapa_syntax.specs.Limits.{most_operators}
 use Rattle.expression_parse.specs.declared.fault.ParseCode.TheVariants.{P1, P2}
-use Rattle.expression_parse.specs.Readers.{Outcome, Reader, and_then, ◌>>=◌, ◌>>◌, pure, refuse, next, first_place, sees, skip, here, expect, past, eat, known, name, plain_name, literal_value, repeat_behind, repeat, separated, separated_until}
+use Rattle.expression_parse.specs.Readers.{Reader, ◌>>=◌, ◌>>◌, pure, refuse, next, sees, skip, here, expect, eat, known, name, plain_name, literal_value, repeat, separated, separated_until}
 
 -- ---- types
 

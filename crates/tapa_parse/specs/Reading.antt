@@ -1,5 +1,5 @@
 -- Reading from left to right, with one symbol of look-ahead and three before a stream of a task: tasks and files.
-use Rattle.std.specs.Prelude.{ℕ, Bool, true, false, ◌||◌, if◌then◌else◌, List, [], ◌∷◌, drop, Option, Some, None, Ok, Err}
+use Rattle.std.specs.Prelude.{ℕ, ◌||◌, if◌then◌else◌, List, [], ◌∷◌, drop, Option, Some, None, Ok, Err}
 use Rattle.tapa_base.specs.declared.kind.Kind.{Kind}
 use Rattle.tapa_syntax.specs.declared.mark.Mark.{Mark}
 use Rattle.tapa_syntax.specs.declared.mark.Mark.TheVariants as mark

@@ -1,5 +1,5 @@
 -- The kinds of what a leaf names.
-use Rattle.std.specs.Prelude.{ℕ, List, length, Bool, Option, Some, None, slice_get, slice_index_or, option_map, unwrap_or}
+use Rattle.std.specs.Prelude.{ℕ, List, Bool, Option, slice_get, slice_index_or, option_map, unwrap_or}
 use Rattle.tapa_base.specs.declared.kind.Kind.{Kind}
 use Rattle.tapa_base.specs.declared.kind.Kind.TheVariants.{U64}
 use Rattle.tapa_syntax.specs.declared.program.End.{End}

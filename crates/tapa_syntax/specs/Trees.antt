@@ -1,6 +1,5 @@
 -- Trees without where they lie in memory.
-use Rattle.std.specs.Prelude.{ℕ, Bool, List, [], ◌∷◌, map, Option, Some, None, Vec}
-use Rattle.std.specs.Global.{Global}
+use Rattle.std.specs.Prelude.{ℕ, Bool, List, [], ◌∷◌, map, Option, Some, None}
 use Rattle.tapa_base.specs.declared.kind.Kind.{Kind}
 use Rattle.tapa_base.specs.declared.text.Place.{Place}
 use Rattle.tapa_syntax.specs.declared.tree.Name.{Name}

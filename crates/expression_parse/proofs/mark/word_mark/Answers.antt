@@ -1,4 +1,4 @@
-use Rattle.std.proofs.Common.{◌≡◌, ap, ◌∙◌}
+use Rattle.std.proofs.Common.{ap, ◌∙◌}
 use Rattle.tapa_syntax.specs.Symbols as symbols
 use Rattle.tapa_syntax.specs.Symbols.{word_mark}
 use Rattle.expression_parse.proofs.mark.word_mark.Goals as goal

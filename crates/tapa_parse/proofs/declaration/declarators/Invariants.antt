@@ -1,4 +1,4 @@
-use Rattle.std.proofs.Common.{◌≡◌, ◌-◌, ◌+◌, ◌*◌, map, drop, not}
+use Rattle.std.proofs.Common.{◌≡◌, ◌-◌, map}
 use Rattle.tapa_syntax.specs.Limits.{most_operators}
 use Rattle.tapa_syntax.specs.Trees as view
 use Rattle.tapa_syntax.specs.declared.mark.Mark.TheVariants as mark

@@ -1,4 +1,4 @@
-use Rattle.std.proofs.Common.{◌≡◌, ℕ, ◌+◌, ◌<◌, Bool, true, false, [], ◌∷◌, ◌++◌, length, take, get_or, sym, ap, ◌∙◌, nat_eq, eq-eqb, ne_eqb, arith}
+use Rattle.std.proofs.Common.{◌≡◌, ℕ, ◌+◌, ◌<◌, true, false, length, take, get_or, sym, ap, ◌∙◌, nat_eq, eq-eqb, ne_eqb, arith}
 use Rattle.std.proofs.lemmas.List.{take_more}
 use Rattle.tapa_base.specs.declared.text.Place.{Place}
 use Rattle.tapa_syntax.specs.Characters.{Bytes, place_of}

@@ -1,9 +1,9 @@
-use Rattle.std.proofs.Common.{◌≡◌, map, drop, not, rules, arith}
+use Rattle.std.proofs.Common.{map, not, rules, arith}
 use Rattle.std.proofs.lemmas.Grind.{common_steps}
 use Rattle.tapa_syntax.specs.Limits.{most_operators}
 use Rattle.tapa_syntax.specs.Trees as view
 use Rattle.tapa_syntax.specs.declared.mark.Mark.TheVariants as mark
-use Rattle.expression_parse.specs.Readers.{◌>>◌, sees, skip, repeat_from}
+use Rattle.expression_parse.specs.Readers.{sees, repeat_from}
 use Rattle.expression_parse.specs.Reading as spec
 use Rattle.expression_parse.specs.Reading.{braces}
 use Rattle.expression_parse.proofs.Turns.{one_more}

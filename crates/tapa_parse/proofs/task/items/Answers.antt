@@ -1,9 +1,8 @@
-use Rattle.std.proofs.Common.{◌≡◌, map, drop, not, rules, arith}
+use Rattle.std.proofs.Common.{map, rules, arith}
 use Rattle.std.proofs.lemmas.Grind.{common_steps}
 use Rattle.tapa_syntax.specs.Limits.{most_operators}
 use Rattle.tapa_syntax.specs.Trees as view
-use Rattle.tapa_syntax.specs.declared.mark.Mark.TheVariants as mark
-use Rattle.expression_parse.specs.Readers.{is_left, ◌>>◌, sees, skip, repeat_from}
+use Rattle.expression_parse.specs.Readers.{is_left, repeat_from}
 use Rattle.tapa_parse.specs.Reading as spec
 use Rattle.expression_parse.proofs.Turns.{one_more}
 use Rattle.expression_parse.proofs.Rows.{map-push}

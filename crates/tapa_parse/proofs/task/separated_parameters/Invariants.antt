@@ -1,6 +1,4 @@
-use Rattle.std.proofs.Common.{◌≡◌, ◌-◌, ◌+◌, ◌*◌, map, drop, not}
-use Rattle.tapa_syntax.specs.Limits.{most_operators}
-use Rattle.tapa_syntax.specs.Trees as view
+use Rattle.std.proofs.Common.{◌≡◌, ◌-◌}
 use Rattle.tapa_syntax.specs.declared.mark.Mark.TheVariants as mark
 use Rattle.expression_parse.specs.Readers.{◌>>◌, sees, skip, separated, repeat_from}
 use Rattle.tapa_parse.specs.Reading as spec
