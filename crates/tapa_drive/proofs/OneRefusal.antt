@@ -1,5 +1,5 @@
 -- A refused source is refused at one place, by one rule.
-use Rattle.std.proofs.Common.{◌≡◌, ◌⊎◌, ℕ, List, [], ◌∷◌, Result, Err, refl, sym, ◌∙◌, ap, subst, inl, inr}
+use Rattle.std.proofs.Common.{◌≡◌, ◌⊎◌, ℕ, List, [], ◌∷◌, Ok, Err, refl, sym, ◌∙◌, ap, subst, inl, inr}
 use Rattle.tapa_base.specs.declared.text.Place.{Place}
 use Rattle.tapa_syntax.specs.declared.lexeme.Lexeme.{Lexeme}
 use Rattle.tapa_syntax.specs.Symbols.{Symbol, symbols_of}
@@ -43,12 +43,18 @@ refusal text top place P1 h = inr (inl (parse.P1, h, refl))
 refusal text top place P2 h = inr (inl (parse.P2, h, refl))
 refusal text top place (Rule code limit) h = inr (inr (record { code = code; place = place; limit = limit }, h, refl, refl))
 
+-- where a reading stops, and with which code
+abbrev left_of : Outcome (List ItemTree) → List Symbol
+left_of (Ok read) = []
+left_of (Err stop) = stop.1
+
+abbrev code_of : Outcome (List ItemTree) → SourceCode
+code_of (Ok read) = P1
+code_of (Err stop) = parse_code stop.0
+
 -- a reading stops once
 stops_once : (text : List ℕ) (outcome : Outcome (List ItemTree)) (c d : ParseCode) (left right : List Symbol) → outcome ≡ Err (c, left) → outcome ≡ Err (d, right) → (stopped_at text left ≡ stopped_at text right) × (parse_code c ≡ parse_code d)
-stops_once text outcome c d left right h k =
-    let same_code : c ≡ d = cc in
-    let same_left : left ≡ right = cc in
-    (ap (stopped_at text) same_left, ap parse_code same_code)
+stops_once text outcome c d left right h k = (ap (λ (o : Outcome (List ItemTree)). stopped_at text (left_of o)) (sym h ∙ k), ap code_of (sym h ∙ k))
 
 first_once : (faults : List Broken) (a b : Broken) → IsFirst faults a → IsFirst faults b → a ≡ b
 first_once [] a b h k = absurd h
