@@ -1,12 +1,12 @@
 -- The first fault of a file, by the first of its parts.
-use Rattle.std.proofs.Common.{◌≡◌, ℕ, List, [], ◌∷◌, ◌++◌, map, filter, Bool, true, false, not, cond, nat_lt, Option, Some, None, option_map, codes, refl, sym, ap, ap₂, ◌∙◌}
+use Rattle.std.proofs.Common.{◌≡◌, ℕ, List, [], ◌∷◌, ◌++◌, map, filter, true, false, not, nat_lt, Option, Some, None, option_map, codes, refl, ap, ◌∙◌}
 use Rattle.std.specs.List.{list_any}
 use Rattle.serde_json.specs.Data.{Data as Json}
 use Rattle.serde_json.specs.Find.{get_member}
 use Rattle.tapa_base.specs.declared.shape.Port.{Port}
 use Rattle.tapa_base.specs.declared.shape.Shape.{Shape}
 use Rattle.run_data.specs.Answer.{IsFirstFault}
-use Rattle.run_data.specs.Data.{IsJson, is_object, is_absent_or, is_shaped, has_right_bits, group_in, group_key, group_keys, ports_of, members_at, keys_of, key_of, key_in, is_name_of, is_among, cells_in, most_cells_of_one, passing_from, misshapen_in, misshapen, misfits_in, misfits, oversized, Fault, Misshapen, Misfit, Oversized, faults}
+use Rattle.run_data.specs.Data.{IsJson, is_object, is_absent_or, is_shaped, has_right_bits, group_in, group_key, group_keys, ports_of, members_at, keys_of, key_of, key_in, is_name_of, is_among, cells_in, most_cells_of_one, passing_from, misshapen_in, misshapen, misfits_in, misfits, oversized, Misshapen, Misfit, Oversized, faults}
 use Rattle.run_data.specs.Seen.{first}
 use Rattle.run_data.specs.declared.group.Group.{Group}
 use Rattle.run_data.specs.declared.group.Group.TheVariants.{Scalars, Memories, Waits}

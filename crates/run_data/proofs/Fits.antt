@@ -1,15 +1,15 @@
 -- The data of a file fit the shape.
-use Rattle.std.proofs.Common.{◌≡◌, ℕ, zero, suc, ◌+◌, ◌^◌, ◌<◌, List, [], ◌∷◌, map, length, get_or, Option, Some, None, option_map, option_and_then, unwrap_or, slice_get, slice_index, slice_index_or, All, refl, sym, ap, ◌∙◌, subst, arith}
+use Rattle.std.proofs.Common.{◌≡◌, ℕ, zero, suc, ◌^◌, ◌<◌, List, [], ◌∷◌, map, length, get_or, Option, Some, None, option_and_then, unwrap_or, slice_get, All, refl, sym, ap, ◌∙◌, arith}
 use Rattle.std.proofs.lemmas.Nat.{pow_pos}
 use Rattle.std.proofs.lemmas.Option.{option_and_then_some}
 use Rattle.serde_json.specs.Data.{Data as Json}
 use Rattle.serde_json.specs.Find.{as_number, as_integer}
 use Rattle.tapa_base.specs.declared.shape.Port.{Port}
 use Rattle.tapa_base.specs.declared.shape.Shape.{Shape}
-use Rattle.run_data.specs.Answer.{IsDataOf, FitsShape}
+use Rattle.run_data.specs.Answer.{FitsShape}
 use Rattle.run_data.specs.Data.{bits_of_whole, bits_of, bits_or_zero, items_at, value_in, scalars_of, memories_of, waits_of}
 use Rattle.run_data.specs.declared.data.Data.{Data}
-use Rattle.run_data.specs.declared.group.Group.TheVariants.{Scalars, Memories, Waits}
+use Rattle.run_data.specs.declared.group.Group.TheVariants.{Scalars, Memories}
 use Rattle.run_data.proofs.Lists.{length_map}
 use Rattle.run_data.proofs.Numbers.{whole_below}
 

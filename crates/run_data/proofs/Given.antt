@@ -1,5 +1,5 @@
 -- The values of a file, where its groups and the inputs of the shape are known.
-use Rattle.std.proofs.Common.{◌≡◌, List, map, Option, option_and_then, unwrap_or, refl}
+use Rattle.std.proofs.Common.{◌≡◌, List, map, Option, option_and_then, unwrap_or}
 use Rattle.serde_json.specs.Data.{Data as Json}
 use Rattle.serde_json.specs.Find.{get_member}
 use Rattle.tapa_base.specs.declared.shape.Port.{Port}

@@ -1,5 +1,5 @@
 -- The first of a list, and a loop that has passed the first i elements of one.
-use Rattle.std.proofs.Common.{◌≡◌, ℕ, suc, ◌+◌, ◌<◌, ◌≤◌, List, [], ◌∷◌, ◌++◌, map, length, get_or, take, drop, filter, Bool, true, false, cond, not, Option, Some, None, option_map, refl, sym, ap, ◌∙◌, arith, add-one, drop-cons}
+use Rattle.std.proofs.Common.{◌≡◌, ℕ, suc, ◌+◌, ◌<◌, ◌≤◌, List, [], ◌∷◌, ◌++◌, map, length, get_or, take, drop, filter, Bool, true, false, Option, Some, None, option_map, refl, ap, ◌∙◌, add-one, drop-cons}
 use Rattle.std.proofs.lemmas.List.{take_more, drop_all}
 use Rattle.std.specs.List.{list_all, list_any}
 use Rattle.run_data.specs.Seen.{first}

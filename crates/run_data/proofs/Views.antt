@@ -1,5 +1,5 @@
 -- Values of the code beside the JSON values that they stand for.
-use Rattle.std.proofs.Common.{◌≡◌, ℕ, suc, List, [], ◌∷◌, map, filter, Bool, true, Option, Some, None, option_map, unwrap_or, String, Global, string_bytes, Bor, refl, sym, ap, ◌∙◌}
+use Rattle.std.proofs.Common.{◌≡◌, ℕ, List, [], ◌∷◌, map, filter, Bool, true, Option, Some, None, String, Global, string_bytes, Bor, refl, ap}
 use Rattle.std.specs.Map.{keys_of as entry_keys}
 use Rattle.serde_json.specs.Data.{Data as Json, null, boolean, number, string, array, object}
 use Rattle.serde_json.specs.Find.{get, get_member, as_array, as_object}

@@ -3,7 +3,7 @@
 -- value, its numbers and an object's members, each key once and in the order of its bytes, are those of `serde_json`.
 use Rattle.std.specs.Prelude.{◌≡◌, ℕ, ◌+◌, ◌-◌, ◌^◌, ◌==◌, ℤ, pos, negsuc, List, [], ◌∷◌, ◌++◌, map, filter, length, codes, Bool, true, false, not, ◌&&◌, nat_lt, if◌then◌else◌, Option, Some, None, is_some, option_map, option_and_then, unwrap_or, bytes_eq, IsUtf8}
 use Rattle.std.specs.List.{list_all, list_any}
-use Rattle.serde_json.specs.Data.{Num, Data as Json, Items, no_items, item, Members, no_members, member}
+use Rattle.serde_json.specs.Data.{Data as Json, Items, no_items, item, Members, no_members, member}
 use Rattle.serde_json.specs.Find.{get, get_member, as_number, as_array, as_object, as_integer}
 use Rattle.serde_json.specs.Read.{read}
 use Rattle.tapa_base.specs.Kinds.{residue}

@@ -1,4 +1,4 @@
-use Rattle.std.proofs.Common.{◌≡◌, List, ℕ, filter, not, Bool, true, Option, Some, None, option_map, sym, ap, ◌∙◌, arith}
+use Rattle.std.proofs.Common.{◌≡◌, List, ℕ, not, true, Some, option_map, sym, ap, ◌∙◌, arith}
 use Rattle.serde_json.specs.Find.{get_member}
 use Rattle.serde_json.specs.View.{view}
 use Rattle.tapa_base.specs.declared.shape.Port.{Port}

@@ -1,4 +1,4 @@
-use Rattle.std.proofs.Common.{◌≡◌, Bool, true, false, Some, None, is_some, sym, ap, ◌∙◌}
+use Rattle.std.proofs.Common.{◌≡◌, true, false, Some, is_some, sym, ap, ◌∙◌}
 use Rattle.serde_json.specs.View.{view}
 use Rattle.run_data.specs.Data.{is_object}
 use Rattle.run_data.proofs.Faults.{misshapen_file, first-misshapen}

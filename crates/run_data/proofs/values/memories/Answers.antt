@@ -1,9 +1,9 @@
-use Rattle.std.proofs.Common.{map, option_and_then, unwrap_or, ap, ◌∙◌, arith}
+use Rattle.std.proofs.Common.{map, ap, ◌∙◌, arith}
 use Rattle.std.proofs.lemmas.List.{take_all}
 use Rattle.serde_json.specs.Find.{get_member}
 use Rattle.serde_json.specs.View.{view}
 use Rattle.tapa_base.specs.declared.shape.Port.{Port}
-use Rattle.run_data.specs.Data.{bits_of, bits_or_zero, is_ready, items_at, members_at}
+use Rattle.run_data.specs.Data.{bits_or_zero, items_at, members_at}
 use Rattle.run_data.specs.Seen.{seen}
 use Rattle.run_data.proofs.Given.{memories_by}
 use Rattle.run_data.proofs.values.memories.Goals as goal

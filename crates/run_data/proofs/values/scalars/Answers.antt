@@ -3,7 +3,7 @@ use Rattle.std.proofs.lemmas.List.{take_all}
 use Rattle.serde_json.specs.Find.{get_member}
 use Rattle.serde_json.specs.View.{view}
 use Rattle.tapa_base.specs.declared.shape.Port.{Port}
-use Rattle.run_data.specs.Data.{bits_of, bits_or_zero, is_ready, items_at, members_at}
+use Rattle.run_data.specs.Data.{bits_of, members_at}
 use Rattle.run_data.specs.Seen.{seen}
 use Rattle.run_data.proofs.Given.{scalars_by}
 use Rattle.run_data.proofs.values.scalars.Goals as goal
