@@ -1,11 +1,11 @@
 -- The parts of an instance by what its task is.
-use Rattle.std.proofs.Common.{◌≡◌, ◌<◌, ◌-◌, ℕ, zero, suc, List, [], ◌∷◌, Some, None, refl, sym, ap, ◌∙◌, arith}
+use Rattle.std.proofs.Common.{◌≡◌, ◌<◌, ◌-◌, ℕ, zero, suc, List, [], ◌∷◌, Some, None, refl, ap, arith}
 use Rattle.std.specs.Prelude.{slice_get}
 use Rattle.tapa_base.specs.declared.text.Place.{Place}
 use Rattle.tapa_syntax.specs.Flat.{FlatInstance, FlatLeaf}
 use Rattle.upper_check.specs.declared.task.Channel.{Channel}
 use Rattle.upper_check.specs.Tasks.{Invocation, Task, leaf_body, upper_body}
-use Rattle.stream_check.specs.Parts.{Part, instance, too_deep, own_parts, followed, chain_parts, body_of, body_parts, deepest_parts, parts_of}
+use Rattle.stream_check.specs.Parts.{instance, too_deep, own_parts, followed, chain_parts, body_of, body_parts, deepest_parts, parts_of}
 use Rattle.stream_check.specs.Views.{upper_parts}
 
 pub of_none : (levels : ℕ) (tasks : List Task) (at : Place) (x : FlatInstance) (n : ℕ) → body_of (slice_get tasks x.body) ≡ None → parts_of levels tasks at x n ≡ []

@@ -1,6 +1,6 @@
 -- The first of the faults of several parts, where they are told one after the other.
 use Rattle.std.proofs.Common.{◌≡◌, ◌<◌, ◌+◌, ℕ, List, [], ◌∷◌, ◌++◌, length, get_or, drop, sym, subst, ◌∙◌, ap, drop-cons, suc, arith}
-use Rattle.std.specs.Prelude.{Result, Err}
+use Rattle.std.specs.Prelude.{Err}
 use Rattle.scope_check.specs.declared.fault.Broken.{Broken}
 use Rattle.scope_check.specs.declared.fault.CheckFault.{CheckFault}
 use Rattle.scope_check.specs.declared.fault.CheckFault.TheVariants.{At, OutOfMemory}

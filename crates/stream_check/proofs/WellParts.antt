@@ -1,10 +1,10 @@
 -- Each instance that a task is made of is bound to streams, memories and scalars of the kinds of its leaf's ports.
-use Rattle.std.proofs.Common.{◌≡◌, ◌<◌, ◌≤◌, ◌+◌, ◌%◌, ℕ, zero, suc, List, [], ◌∷◌, ◌++◌, length, map, Bool, true, false, Some, None, refl, sym, ap, subst, ◌∙◌, arith}
+use Rattle.std.proofs.Common.{◌≡◌, ◌<◌, ◌+◌, ◌%◌, ℕ, zero, suc, List, [], ◌∷◌, ◌++◌, length, map, Bool, true, false, Some, None, refl, sym, ap, subst, ◌∙◌}
 use Rattle.std.specs.Prelude.{Option, slice_get, slice_index, if◌then◌else◌}
 use Rattle.std.proofs.lemmas.Option.{get_or_from_slice_get}
 use Rattle.tapa_base.specs.declared.kind.Kind.{Kind}
 use Rattle.tapa_base.specs.declared.text.Place.{Place}
-use Rattle.tapa_base.specs.Kinds.{converted, values_of}
+use Rattle.tapa_base.specs.Kinds.{values_of}
 use Rattle.tapa_syntax.specs.declared.program.End.{End}
 use Rattle.tapa_syntax.specs.declared.tree.Parameter.{Parameter}
 use Rattle.tapa_syntax.specs.declared.tree.Parameter.TheVariants as parameter
@@ -18,10 +18,10 @@ use Rattle.upper_check.specs.declared.task.Link.TheVariants.{OwnStream, StreamPa
 use Rattle.upper_check.specs.Tasks.{Invocation, Body, leaf_body, upper_body, Task}
 use Rattle.stream_check.specs.Parts as part
 use Rattle.stream_check.specs.Parts.{Part, own, instance, too_deep, streams_in, instances_in, below, instance_name, name_of, passed, bound_or_zero, bind, bind_all, unbound, invoked, labelled, own_parts, Expands, followed, chain_parts, body_of, body_parts, deepest_parts, parts_of}
-use Rattle.stream_check.proofs.WellLists.{nothing, the_same, Each, each_append, each_get, get_map, Contains, contains_left, contains_right, Pairs, pairs_left, pairs_push, length_map}
+use Rattle.stream_check.proofs.WellLists.{Each, each_append, each_get, get_map, Contains, contains_left, contains_right, Pairs, pairs_left, pairs_push}
 use Rattle.stream_check.proofs.WellValues.{kinds_same}
 use Rattle.stream_check.proofs.WellPorts.{Ports, no_ports, end_of, with_stream, with_memory, with_scalar, with_port, with_ports, ports_of}
-use Rattle.stream_check.proofs.WellUppers.{HasDepth, StreamLink, MemoryLink, ScalarLink, LinkFits, InvocationFits, UpperFits}
+use Rattle.stream_check.proofs.WellUppers.{HasDepth, StreamLink, MemoryLink, ScalarLink, LinkFits, InvocationFits}
 use Rattle.stream_check.proofs.WellTasks.{BodyFits, TaskFits}
 
 -- what is there to be bound

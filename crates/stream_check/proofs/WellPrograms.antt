@@ -1,6 +1,6 @@
 -- The program of a legal file is well formed.
-use Rattle.std.proofs.Common.{◌≡◌, ◌<◌, ◌≤◌, ◌+◌, ℕ, zero, suc, List, [], ◌∷◌, ◌++◌, length, map, Bool, true, false, not, ◌&&◌, ◌||◌, Some, None, refl, sym, ap, subst, ◌∙◌, arith}
-use Rattle.std.specs.Prelude.{Option, option_map, slice_get, slice_index_or, ◌==◌}
+use Rattle.std.proofs.Common.{◌≡◌, ◌≤◌, ◌+◌, ℕ, suc, List, [], ◌∷◌, ◌++◌, length, map, Bool, true, false, not, ◌&&◌, ◌||◌, Some, None, refl, sym, ap, subst, ◌∙◌, arith}
+use Rattle.std.specs.Prelude.{Option, option_map, slice_get, ◌==◌}
 use Rattle.std.specs.List.{list_any}
 use Rattle.std.proofs.lemmas.Bool.{eqb-true}
 use Rattle.std.proofs.lemmas.Option.{get_or_from_slice_get}
@@ -18,22 +18,22 @@ use Rattle.tapa_syntax.specs.declared.program.Stream.{Stream}
 use Rattle.tapa_syntax.specs.declared.tree.Parameter.{Parameter}
 use Rattle.tapa_syntax.specs.LeafKinds.{writes_of}
 use Rattle.tapa_syntax.specs.Trees.{ItemTree, TaskTree}
-use Rattle.tapa_syntax.specs.Flat.{FlatBound, FlatInstance, FlatLeaf, FlatProgram, flat_bound, flat_instance, flat_leaf, flat_program}
+use Rattle.tapa_syntax.specs.Flat.{FlatInstance, FlatLeaf, FlatProgram, flat_bound, flat_instance, flat_leaf, flat_program}
 use Rattle.tapa_syntax.specs.WellFormed as well
 use Rattle.tapa_syntax.specs.WellFormed.{IsBoundTo, IsEndOf, IsInstance, IsJoined, IsMemoryAt, IsStreamAt, IsWellFormed}
 use Rattle.scope_check.specs.declared.fault.CheckCode.TheVariants.{C3}
 use Rattle.leaf_check.proofs.Leaves.{leaf_well}
 use Rattle.upper_check.specs.declared.task.Channel.{Channel}
 use Rattle.upper_check.specs.Items.{no_items, items_faults, tasks_of}
-use Rattle.upper_check.specs.Tasks.{Body, leaf_body, Task, task_place, parameters_of}
-use Rattle.stream_check.specs.Parts.{Part, streams_in, instances_in}
-use Rattle.stream_check.specs.Programs.{is_stream_parameter, is_upper, top_faults, top_instance, all_levels, top_parts, parts_faults, top_task_faults, top_program, limit_faults, ends_in, ends_of, instances_at, instances_with, is_one, the_one, stream_of, streams_faults, streams_of, memories_faults, memories_of, scalars_of, is_used, body_numbers, bodies_of, place_among, with_body, bindings_faults, whole_faults, program_faults, program_made, program_of}
-use Rattle.stream_check.proofs.WellLists.{nothing, the_same, both, not_so, no_faults, holds, Each, each_get, get_map, get_unmap, length_map, Contains, Pairs, pairs_length, pairs_get, pairs_right}
+use Rattle.upper_check.specs.Tasks.{leaf_body, Task, task_place}
+use Rattle.stream_check.specs.Parts.{streams_in, instances_in}
+use Rattle.stream_check.specs.Programs.{is_stream_parameter, is_upper, top_faults, top_instance, all_levels, top_parts, parts_faults, top_task_faults, top_program, limit_faults, ends_in, ends_of, instances_at, instances_with, is_one, the_one, stream_of, streams_faults, streams_of, memories_faults, memories_of, scalars_of, is_used, body_numbers, bodies_of, with_body, bindings_faults, whole_faults, program_faults, program_made, program_of}
+use Rattle.stream_check.proofs.WellLists.{the_same, both, not_so, no_faults, holds, Each, each_get, get_map, get_unmap, length_map, Pairs, pairs_length, pairs_get, pairs_right}
 use Rattle.stream_check.proofs.WellSpots.{TheSpot, ends_at, the_end, end_there, there_end, memory_at, the_owner, memory_there}
 use Rattle.stream_check.proofs.WellPorts.{Ports, ports_of, LeafFits}
 use Rattle.stream_check.proofs.WellUppers.{HasDepth}
 use Rattle.stream_check.proofs.WellTasks.{BodyFits, TaskFits, tasks_fit}
-use Rattle.stream_check.proofs.WellParts.{Known, IsStream, IsMemory, IsScalar, Fits, InstanceIs, parts_fit, parts_depths}
+use Rattle.stream_check.proofs.WellParts.{Known, IsStream, IsMemory, IsScalar, InstanceIs, parts_fit, parts_depths}
 use Rattle.stream_check.proofs.WellBodies.{is_used_by, body_there, IsLegal, bodies_legal}
 use Rattle.stream_check.proofs.WellTops.{memories_are, scalars_are, top_fits, limits, streams_one, streams_from, memories_one}
 

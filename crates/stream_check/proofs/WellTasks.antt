@@ -1,13 +1,12 @@
 -- The tasks of a file without faults.
-use Rattle.std.proofs.Common.{◌≡◌, ◌<◌, ◌+◌, ◌⊎◌, inl, inr, ℕ, zero, suc, List, [], ◌∷◌, ◌++◌, length, Bool, true, false, ◌||◌, Some, None, refl, sym, ap, subst, ◌∙◌, arith}
-use Rattle.std.specs.Prelude.{slice_get, bytes_eq}
+use Rattle.std.proofs.Common.{◌≡◌, inl, ℕ, List, [], ◌∷◌, ◌++◌, Bool, true, false, ◌||◌, refl}
+use Rattle.std.specs.Prelude.{bytes_eq}
 use Rattle.std.specs.List.{list_any}
 use Rattle.std.proofs.lemmas.Slice.Eq.{bytes_eq-Decides}
 use Rattle.tapa_syntax.specs.Trees as tree
 use Rattle.tapa_syntax.specs.Trees.{BodyTree, TaskTree, ItemTree}
 use Rattle.scope_check.specs.declared.sort.Sort.{Sort}
 use Rattle.scope_check.specs.declared.sort.Sort.TheVariants as sort
-use Rattle.scope_check.specs.Scopes.{Block, Scope}
 use Rattle.expression_check.specs.Expressions.{constant_value, wanted}
 use Rattle.scope_check.specs.Faults.{doubled}
 use Rattle.upper_check.specs.Tasks.{Invocation, Body, leaf_body, upper_body, Task}

@@ -1,12 +1,11 @@
 -- The top task: its memories and scalars are bound to themselves; and the limits and the rules of the whole program.
-use Rattle.std.proofs.Common.{◌≡◌, ◌<◌, ◌≤◌, ◌+◌, ℕ, zero, suc, List, [], ◌∷◌, ◌++◌, length, map, Bool, true, false, not, ◌&&◌, ◌||◌, Some, None, refl, sym, ap, subst, ◌∙◌, arith, length-append}
-use Rattle.std.specs.Prelude.{Option, slice_get, nat_le}
-use Rattle.std.specs.List.{list_any, flat_map}
+use Rattle.std.proofs.Common.{◌≡◌, ◌<◌, ◌≤◌, ◌+◌, ℕ, zero, suc, List, [], ◌∷◌, ◌++◌, length, map, Bool, true, false, Some, None, refl, sym, ap, subst, ◌∙◌, arith, length-append}
+use Rattle.std.specs.Prelude.{slice_get, nat_le}
+use Rattle.std.specs.List.{list_any}
 use Rattle.std.proofs.lemmas.Bool.{leb-false}
 use Rattle.std.proofs.lemmas.List.{append-nil}
 use Rattle.tapa_base.specs.declared.kind.Kind.{Kind}
 use Rattle.tapa_base.specs.declared.text.Place.{Place}
-use Rattle.tapa_syntax.specs.declared.program.End.{End}
 use Rattle.tapa_syntax.specs.declared.program.Memory.{Memory}
 use Rattle.tapa_syntax.specs.declared.program.Scalar.{Scalar}
 use Rattle.tapa_syntax.specs.declared.program.Stream.{Stream}
@@ -15,14 +14,14 @@ use Rattle.tapa_syntax.specs.declared.tree.Parameter.TheVariants as parameter
 use Rattle.tapa_syntax.specs.Flat.{FlatBound, top_scalar, FlatInstance}
 use Rattle.scope_check.specs.declared.fault.Broken.{Broken}
 use Rattle.scope_check.specs.declared.fault.CheckCode.{CheckCode}
-use Rattle.scope_check.specs.declared.fault.CheckCode.TheVariants.{C3, C4, C5, C7, C11}
-use Rattle.scope_check.specs.Faults.{fault, over, where_so}
+use Rattle.scope_check.specs.declared.fault.CheckCode.TheVariants.{C4, C5, C7, C11}
+use Rattle.scope_check.specs.Faults.{over, where_so}
 use Rattle.upper_check.specs.declared.task.Channel.{Channel}
 use Rattle.upper_check.specs.Tasks.{Task}
 use Rattle.stream_check.specs.Parts.{Part, own, instance, too_deep, streams_in, instances_in}
-use Rattle.stream_check.specs.Programs.{is_stream_parameter, top_scalar_at, top_scalars, top_memory_at, top_memories, top_instance, limit_faults, instances_at, instances_with, is_one, the_one, one_faults, stream_faults, stream_of, streams_faults, streams_of, memory_faults, memory_of, memories_faults, memories_of, scalar_of, scalars_of}
-use Rattle.stream_check.proofs.WellLists.{nothing, the_same, no_faults, holds, holds_not, get_left, get_last, Pairs, pairs_push}
-use Rattle.stream_check.proofs.WellPorts.{Ports, no_ports, end_of, with_stream, with_memory, with_scalar, with_port, with_ports, ports_of}
+use Rattle.stream_check.specs.Programs.{is_stream_parameter, top_scalars, top_memories, top_instance, limit_faults, instances_at, instances_with, is_one, the_one, one_faults, stream_faults, stream_of, streams_faults, streams_of, memories_faults, memories_of, scalars_of}
+use Rattle.stream_check.proofs.WellLists.{nothing, the_same, no_faults, holds, get_left, get_last, Pairs, pairs_push}
+use Rattle.stream_check.proofs.WellPorts.{Ports, no_ports, with_stream, with_memory, with_scalar, with_ports, ports_of}
 use Rattle.stream_check.proofs.WellParts.{Known, IsStream, IsMemory, IsScalar, Fits}
 
 -- ---- the ports of the top task

@@ -1,5 +1,5 @@
 -- An upper-level task without faults: each argument fits its parameter, and each stream has a depth.
-use Rattle.std.proofs.Common.{◌≡◌, ◌<◌, ◌≤◌, ◌+◌, ◌⊎◌, inl, inr, ℕ, zero, suc, List, [], ◌∷◌, ◌++◌, length, Bool, true, false, not, ◌&&◌, ◌||◌, Some, None, refl, sym, ap, subst, ◌∙◌, arith, length-append}
+use Rattle.std.proofs.Common.{◌≡◌, ◌<◌, ◌≤◌, ◌+◌, inl, inr, ℕ, suc, List, [], ◌∷◌, ◌++◌, length, Bool, true, false, not, ◌&&◌, ◌||◌, Some, None, refl, sym, ap, subst, ◌∙◌, arith, length-append}
 use Rattle.std.specs.Prelude.{Option, slice_get, bytes_eq, ◌==◌, nat_le, if◌then◌else◌}
 use Rattle.std.specs.List.{list_any}
 use Rattle.std.proofs.lemmas.Bool.{eqb-true, leb-true}
@@ -16,21 +16,21 @@ use Rattle.tapa_syntax.specs.Trees.{ExpressionTree, CountTree, StreamTree, Argum
 use Rattle.scope_check.specs.declared.fault.Broken.{Broken}
 use Rattle.scope_check.specs.declared.sort.Sort.{Sort}
 use Rattle.scope_check.specs.declared.sort.Sort.TheVariants as sort
-use Rattle.scope_check.specs.Scopes.{Block, Scope, sort_of, declaring}
+use Rattle.scope_check.specs.Scopes.{Block, Scope, sort_of}
 use Rattle.scope_check.specs.declared.fault.CheckCode.{CheckCode}
 use Rattle.scope_check.specs.declared.fault.CheckCode.TheVariants.{C3, C10, C11}
-use Rattle.scope_check.specs.Faults.{fault, over, where_so, wrong_sort, doubled}
-use Rattle.expression_check.specs.Expressions.{is_constant, constant_faults, constant_value, as_kind, wanted}
-use Rattle.expression_check.specs.Counts.{count_of, count_faults, form_faults, most_of_count}
+use Rattle.scope_check.specs.Faults.{fault, over, where_so, wrong_sort}
+use Rattle.expression_check.specs.Expressions.{is_constant, constant_faults}
+use Rattle.expression_check.specs.Counts.{count_of, form_faults, most_of_count}
 use Rattle.expression_check.specs.Kinds.{same_kind}
 use Rattle.tapa_syntax.specs.Flat.{literal}
 use Rattle.upper_check.specs.declared.task.Channel.{Channel}
 use Rattle.upper_check.specs.declared.task.Link.{Link}
 use Rattle.upper_check.specs.declared.task.Link.TheVariants.{OwnStream, StreamParameter, MemoryParameter, ScalarParameter, Constant}
-use Rattle.upper_check.specs.Tasks.{Invocation, Body, leaf_body, upper_body, Task, task_place, parameters_of}
+use Rattle.upper_check.specs.Tasks.{Invocation, Task, task_place, parameters_of}
 use Rattle.upper_check.specs.Uppers as upper
 use Rattle.upper_check.specs.Uppers.{Signature, Channels, parameter_kind, is_bound_to, is_task}
-use Rattle.stream_check.proofs.WellLists.{nothing, the_same, both, not_so, no_faults, holds, holds_not, Each, each_append, each_more, get_left, get_last, Pairs, pairs_push, pairs_more}
+use Rattle.stream_check.proofs.WellLists.{both, no_faults, holds, holds_not, Each, each_append, get_left, get_last, Pairs}
 use Rattle.stream_check.proofs.WellValues.{kinds_same, as_kind_fits, wanted_fits, constant_so}
 use Rattle.stream_check.proofs.WellPorts.{Ports, no_ports, end_of, with_stream, with_memory, with_scalar, with_port, with_ports, ports_of, IsNamed, Means, DeclareAll, found, declare, declare_all_more, scope_sound, means_more}
 

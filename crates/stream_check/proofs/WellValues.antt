@@ -1,5 +1,5 @@
 -- The value of a constant expression is one of its kind.
-use Rattle.std.proofs.Common.{◌≡◌, ◌<◌, ◌≤◌, ◌+◌, ◌-◌, ◌*◌, ◌%◌, ◌^◌, ℕ, zero, suc, List, [], ◌∷◌, ◌++◌, get_or, Bool, true, false, not, ◌&&◌, Some, None, refl, sym, ap, subst, ◌∙◌, arith}
+use Rattle.std.proofs.Common.{◌≡◌, ◌<◌, ◌-◌, ◌*◌, ◌%◌, ℕ, zero, suc, List, [], ◌∷◌, ◌++◌, get_or, Bool, true, false, ◌&&◌, Some, None, refl, sym, ap, subst, ◌∙◌, arith}
 use Rattle.std.specs.Prelude.{Option, ◌==◌, if◌then◌else◌}
 use Rattle.std.proofs.lemmas.Bool.{eqb-true}
 use Rattle.std.proofs.lemmas.Nat.{pow_pos}
@@ -7,20 +7,19 @@ use Rattle.tapa_base.specs.declared.kind.Kind.{Kind}
 use Rattle.tapa_base.specs.declared.kind.Kind.TheVariants as kind
 use Rattle.tapa_base.specs.declared.op.Op.{Op}
 use Rattle.tapa_base.specs.declared.op.Op.TheVariants as op
-use Rattle.tapa_base.specs.Kinds.{bits_of, values_of, converted, promoted, joined}
-use Rattle.tapa_base.specs.Operators.{applied, bit}
+use Rattle.tapa_base.specs.Kinds.{bits_of, values_of, promoted, joined}
+use Rattle.tapa_base.specs.Operators.{applied}
 use Rattle.tapa_syntax.specs.Typed.{result_kind, right_kind}
 use Rattle.tapa_syntax.specs.declared.tree.PrefixOperator.{PrefixOperator}
 use Rattle.tapa_syntax.specs.declared.tree.PrefixOperator.TheVariants as prefix
 use Rattle.tapa_syntax.specs.declared.tree.BinaryOperator.{BinaryOperator}
 use Rattle.tapa_syntax.specs.declared.tree.BinaryOperator.TheVariants.{Value, LogicalAnd, LogicalOr}
-use Rattle.tapa_syntax.specs.Flat.{FlatExpression, literal, convert, choice}
+use Rattle.tapa_syntax.specs.Flat.{FlatExpression, convert}
 use Rattle.tapa_syntax.specs.Trees as tree
 use Rattle.tapa_syntax.specs.Trees.{ExpressionTree}
 use Rattle.expression_check.specs.Expressions.{as_kind, operated, operated_kind, is_comparison, prefix_kind, prefix_value, binary_kind, binary_value, arm_kind, constant_value, constant_faults, is_constant, is_constant_name, kind_of, value_of, wanted, cell_value, named_value, called_value, Method, divides, divisor_faults}
 use Rattle.expression_check.specs.Expressions as meaning
 use Rattle.expression_check.specs.Kinds.{rank, same_kind}
-use Rattle.scope_check.specs.declared.fault.Broken.{Broken}
 use Rattle.tapa_base.specs.declared.text.Place.{Place}
 use Rattle.scope_check.specs.declared.sort.Sort.{Sort}
 use Rattle.scope_check.specs.declared.sort.Sort.TheVariants as sort
@@ -28,7 +27,7 @@ use Rattle.scope_check.specs.Faults.{wrong_sort}
 use Rattle.scope_check.specs.Scopes.{Scope, sort_of, kind_of_sort, IsSound}
 use Rattle.scope_check.specs.Scopes as scope
 use Rattle.expression_check.proofs.Values.{converted_fits, applied_fits, bit_fits}
-use Rattle.stream_check.proofs.WellLists.{both, no_faults}
+use Rattle.stream_check.proofs.WellLists.{no_faults}
 
 abbrev kind_at : ℕ → Kind
 kind_at n = get_or (kind.Bool ∷ kind.I8 ∷ kind.U8 ∷ kind.I16 ∷ kind.U16 ∷ kind.I32 ∷ kind.U32 ∷ kind.I64 ∷ kind.U64 ∷ []) n kind.U64

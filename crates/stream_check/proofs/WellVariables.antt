@@ -1,5 +1,5 @@
 -- The variables of a task's frame stay where they are.
-use Rattle.std.proofs.Common.{◌≡◌, ℕ, List, [], ◌∷◌, ◌++◌, not, Some, refl}
+use Rattle.std.proofs.Common.{◌≡◌, ℕ, List, [], ◌∷◌, not, Some}
 use Rattle.std.specs.Prelude.{slice_get}
 use Rattle.tapa_base.specs.declared.kind.Kind.{Kind}
 use Rattle.tapa_syntax.specs.Trees as tree

@@ -9,8 +9,8 @@ use Rattle.scope_check.specs.declared.fault.Broken.{Broken}
 use Rattle.scope_check.specs.declared.fault.CheckFault.{CheckFault}
 use Rattle.upper_check.specs.Tasks.{Task, task_place}
 use Rattle.upper_check.specs.Items.{no_items, items_faults, tasks_of}
-use Rattle.stream_check.specs.Parts.{Part, streams_in, instances_in}
-use Rattle.stream_check.specs.Programs.{top_parts, top_faults, limit_faults, bindings_faults, program_made, program_with, parts_faults, top_task_faults, top_program, whole_faults, whole_program, all_levels, program_faults, program_of}
+use Rattle.stream_check.specs.Parts.{streams_in, instances_in}
+use Rattle.stream_check.specs.Programs.{top_parts, top_faults, limit_faults, bindings_faults, program_made, parts_faults, top_task_faults, top_program, whole_faults, whole_program, all_levels, program_faults, program_of}
 use Rattle.stream_check.specs.Views.{Flat, flat_parts}
 use Rattle.stream_check.proofs.Order.{refuses}
 

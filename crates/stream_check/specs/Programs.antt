@@ -1,5 +1,5 @@
 -- The flat program of a legal file and the name of its top task, and the rules that speak of the whole program.
-use Rattle.std.specs.Prelude.{ℕ, suc, ◌+◌, List, [], ◌∷◌, ◌++◌, length, map, Bool, true, false, not, ◌&&◌, ◌==◌, Option, Some, None, nat_le, bytes_eq, slice_get, if◌then◌else◌}
+use Rattle.std.specs.Prelude.{ℕ, ◌+◌, List, [], ◌∷◌, ◌++◌, length, map, Bool, true, false, not, ◌&&◌, ◌==◌, Option, Some, None, nat_le, slice_get, if◌then◌else◌}
 use Rattle.std.specs.List.{flat_map, list_any}
 use Rattle.tapa_base.specs.declared.text.Place.{Place}
 use Rattle.tapa_syntax.specs.declared.program.End.{End}
@@ -15,9 +15,9 @@ use Rattle.scope_check.specs.declared.fault.CheckCode.{CheckCode}
 use Rattle.scope_check.specs.declared.fault.CheckCode.TheVariants.{C1, C3, C4, C5, C7}
 use Rattle.scope_check.specs.Faults.{fault, over, where_so}
 use Rattle.upper_check.specs.declared.task.Channel.{Channel}
-use Rattle.upper_check.specs.Tasks.{Body, leaf_body, upper_body, Task, task_place, parameters_of}
+use Rattle.upper_check.specs.Tasks.{Body, leaf_body, upper_body, Task, task_place}
 use Rattle.upper_check.specs.Items.{no_items, items_faults, tasks_of}
-use Rattle.stream_check.specs.Parts.{Part, own, instance, too_deep, streams_in, instances_in, name_of, parts_of}
+use Rattle.stream_check.specs.Parts.{Part, own, instance, too_deep, streams_in, instances_in, parts_of}
 
 -- ---- the top task
 

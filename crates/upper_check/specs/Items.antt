@@ -1,6 +1,5 @@
 -- The rules of the items of a file, in order: each sees the names that those before it declare.
-use Rattle.std.specs.Prelude.{ℕ, List, [], ◌∷◌, ◌++◌}
-use Rattle.tapa_base.specs.declared.kind.Kind.{Kind}
+use Rattle.std.specs.Prelude.{List, [], ◌∷◌, ◌++◌}
 use Rattle.tapa_syntax.specs.Trees as tree
 use Rattle.tapa_syntax.specs.Trees.{ExpressionTree, BodyTree, TaskTree, ItemTree}
 use Rattle.scope_check.specs.declared.fault.Broken.{Broken}

@@ -10,7 +10,7 @@ use Rattle.tapa_syntax.specs.Trees as tree
 use Rattle.tapa_syntax.specs.Trees.{ExpressionTree, CountTree, StreamTree, ArgumentTree, InvocationTree, TaskTree}
 use Rattle.tapa_syntax.specs.Flat.{literal}
 use Rattle.scope_check.specs.declared.fault.Broken.{Broken}
-use Rattle.scope_check.specs.declared.fault.CheckCode.TheVariants.{C1, C3, C10}
+use Rattle.scope_check.specs.declared.fault.CheckCode.TheVariants.{C3, C10}
 use Rattle.scope_check.specs.declared.sort.Sort.{Sort}
 use Rattle.scope_check.specs.declared.sort.Sort.TheVariants as sort
 use Rattle.expression_check.specs.Kinds.{same_kind}
