@@ -1,24 +1,14 @@
 -- The job of an instance of a program.
-use Rattle.std.proofs.Common.{◌≡◌, ◌⊎◌, ℕ, zero, suc, ◌+◌, ◌<◌, List, [], ◌∷◌, ◌++◌, inl, inr, length, map, replicate, get_or, Option, Some, None, refl, sym, ◌∙◌, ap, subst, arith}
+use Rattle.std.proofs.Common.{◌≡◌, ◌⊎◌, ℕ, zero, suc, ◌+◌, ◌<◌, List, [], ◌∷◌, ◌++◌, inl, inr, length, map, Option, Some, None, refl, sym, ◌∙◌, ap, subst, arith}
 use Rattle.std.specs.Prelude.{slice_get, slice_index_or}
-use Rattle.std.proofs.lemmas.Option.{slice_get-get_or}
-use Rattle.tapa_base.specs.declared.kind.Kind.{Kind}
-use Rattle.tapa_base.specs.declared.kind.Kind.TheVariants.{U64}
-use Rattle.tapa_syntax.specs.declared.program.Array.{Array}
 use Rattle.tapa_syntax.specs.LeafKinds.{kinds_of}
-use Rattle.tapa_syntax.specs.declared.program.Bound.{Bound}
-use Rattle.tapa_syntax.specs.declared.program.Bound.TheVariants.{Number, Top}
 use Rattle.tapa_syntax.specs.declared.program.Instance.{Instance}
 use Rattle.tapa_syntax.specs.declared.program.Leaf.{Leaf}
-use Rattle.tapa_syntax.specs.declared.program.Memory.{Memory}
 use Rattle.tapa_syntax.specs.declared.program.Program.{Program}
-use Rattle.tapa_syntax.specs.declared.program.Scalar.{Scalar}
-use Rattle.tapa_syntax.specs.WellFormed.{IsLeaf, IsWellFormed, IsInstance, IsBoundTo}
+use Rattle.tapa_syntax.specs.WellFormed.{IsLeaf, IsInstance}
 use Rattle.kahn_model.specs.Fits.{FitsInput}
-use Rattle.kahn_model.specs.Start.{bound_value, instance_state, leaf_state, with_values}
+use Rattle.kahn_model.specs.Start.{bound_value, instance_state, leaf_state}
 use Rattle.kahn_model.specs.Trace.{State, job_of}
-use Rattle.kahn_model.proofs.WellFormed.{get_there}
-use Rattle.kahn_model.proofs.Fits.{IsFitState}
 use Rattle.kahn_model.proofs.FitsNetwork.{first_fits}
 use Rattle.net_core.specs.declared.input.Input.{Input}
 use Rattle.net_core.specs.Bindings.{ends_at, ends_in_leaf, leaf_in}
@@ -30,7 +20,7 @@ use Rattle.std.specs.declared.sync.Arc.{Arc}
 use Rattle.task_fsm.specs.declared.machine.Fsm.{Fsm}
 use Rattle.task_fsm.specs.Lowered.{IsLowered}
 use Rattle.coro_machine.specs.declared.coro.Coro.{Coro}
-use Rattle.coro_machine.specs.Coro.{job_with, FitsLeaf, start_of, IsCoroOf}
+use Rattle.coro_machine.specs.Coro.{job_with, FitsLeaf, IsCoroOf}
 use Rattle.program_run.specs.Started.{kinds_in, ScalarsFit, AreLowered, AreStarted}
 
 abbrev job_in_leaf : Program → List ℕ → List (List ℕ) → Instance → Option Leaf → Job

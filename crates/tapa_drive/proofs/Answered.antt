@@ -1,5 +1,5 @@
 -- From what reading and running a source give to what the call answers.
-use Rattle.std.proofs.Common.{◌≡◌, ◌≢◌, ◌⊎◌, ◌≤◌, ℕ, List, Option, Some, None, Ok, Err, Bool, true, false, refl, sym, ◌∙◌, ap, subst, inl, inr, ⊎_elim, arith}
+use Rattle.std.proofs.Common.{◌≡◌, ◌≢◌, ◌⊎◌, ◌≤◌, ℕ, List, Option, Some, Ok, Err, Bool, true, false, refl, sym, subst, inl, inr, ⊎_elim, arith}
 use Rattle.tapa_base.specs.declared.text.Place.{Place}
 use Rattle.tapa_base.specs.Outside.{Files, Rose}
 use Rattle.tapa_syntax.specs.declared.lexeme.Lexeme.{Lexeme}

@@ -1,5 +1,5 @@
 -- Where nothing outside fails, the answer tells what the source means with its data, or want of memory.
-use Rattle.std.proofs.Common.{◌≡◌, ◌≢◌, ◌⊎◌, ◌≤◌, ◌<◌, ℕ, List, length, Option, Some, None, refl, sym, ◌∙◌, ap, subst, inl, inr, ⊎_elim, arith}
+use Rattle.std.proofs.Common.{◌≡◌, ◌≢◌, ◌⊎◌, ◌≤◌, ◌<◌, ℕ, List, length, Option, Some, None, refl, sym, ◌∙◌, subst, inl, inr, ⊎_elim, arith}
 use Rattle.std.specs.Io.KnownBytes.{Appends}
 use Rattle.tapa_base.specs.Outside.{Files, file_bytes, Rose}
 use Rattle.tapa_base.specs.Take.{IsLongerThan}
@@ -7,7 +7,7 @@ use Rattle.command_words.specs.Words.{Run, command_of}
 use Rattle.program_run.specs.Laws.{Ends, Stops, Exceeds}
 use Rattle.tapa_drive.specs.Answer.{OfRun, OfTexts, HasProgram, HasBadData, HasRun, HasStopped, HasRunPast, IsReached, IsTooLong, IsRun, HasCause, Leaves}
 use Rattle.tapa_drive.specs.Decided.{SourceMeaning, Ran, Misgiven, Overlong, Nothing, Given, Bytes, TooMany, IsGiven, Means, Tells, IsStill, Expects, IsLengthy}
-use Rattle.tapa_drive.specs.Files.{OfSource, OfData, source_limit, data_limit, no_data, shown_name}
+use Rattle.tapa_drive.specs.Files.{OfSource, OfData, source_limit, data_limit, shown_name}
 use Rattle.tapa_drive.specs.Refusal.{Reason, BadWords, Unread, Unwritten, Longer, Unfit, UnfitData, Endless, Blocked, NoMemory, message_of}
 use Rattle.tapa_drive.specs.Source.{IsRefusedSource}
 use Rattle.tapa_drive.specs.Status.{status_of}

@@ -10,7 +10,6 @@ use Rattle.tapa_syntax.specs.declared.program.Program.{Program}
 use Rattle.tapa_syntax.specs.declared.program.Scalar.{Scalar}
 use Rattle.tapa_syntax.specs.Flat.{FlatProgram, flat_program}
 use Rattle.run_data.specs.Data.{IsJson, Fault, faults, scalars_of, memories_of, misshapen, misshapen_in, misfits, misfits_in, oversized}
-use Rattle.run_data.specs.Answer.{IsFirstFault}
 use Rattle.run_data.specs.Seen.{first}
 use Rattle.program_run.specs.Run.{Values}
 use Rattle.tapa_drive.specs.Inputs.{port_of, IsShapeOf, GivesValues, HasDataFault}

@@ -64,8 +64,8 @@ module _ (text top : List ℕ) (place there : Place) (code other : SourceCode) w
   by_one_parser : ByParser text place code → ByParser text there other → (place ≡ there) × (code ≡ other)
   by_one_parser (c, h, e) (d, k, f) =
       let seen = subst (λ (l : List Lexeme). StopsAt text (symbols_of text l) there d) (one_list text k.lexemes h.lexemes k.are h.are) k.stops in
-      let once = stops_once text _ c d h.stops.0 seen.0 h.stops.1.1 seen.1.1 in
-      (h.stops.1.0 ∙ once.0 ∙ sym seen.1.0, e ∙ once.1 ∙ sym f)
+      let once = stops_once text _ c d h.stops.0 seen.0 h.stops.2 seen.2 in
+      (h.stops.1 ∙ once.0 ∙ sym seen.1, e ∙ once.1 ∙ sym f)
 
   by_one_rule : ByRule text top place code → ByRule text top there other → (place ≡ there) × (code ≡ other)
   by_one_rule (a, h, p, e) (b, k, q, f) =
@@ -77,12 +77,12 @@ module _ (text top : List ℕ) (place there : Place) (code other : SourceCode) w
       let same = one_lexical_refusal text c d place there h k in
       (same.1, e ∙ ap lex_code same.0 ∙ sym f)
   one_way (inl (c, h, e)) (inr (inl (d, k, f))) = absurd (not_both text k.lexemes c place k.are h)
-  one_way (inl (c, h, e)) (inr (inr (b, k, f))) = absurd (not_both text k.tree.lexemes c place k.tree.are h)
+  one_way (inl (c, h, e)) (inr (inr (b, k, q, f))) = absurd (not_both text k.tree.lexemes c place k.tree.are h)
   one_way (inr (inl (c, h, e))) (inl (d, k, f)) = absurd (not_both text h.lexemes d there h.are k)
-  one_way (inr (inr (b, h, e))) (inl (d, k, f)) = absurd (not_both text h.tree.lexemes d there h.tree.are k)
+  one_way (inr (inr (b, h, p, e))) (inl (d, k, f)) = absurd (not_both text h.tree.lexemes d there h.tree.are k)
   one_way (inr (inl p)) (inr (inl q)) = by_one_parser p q
-  one_way (inr (inl (c, h, e))) (inr (inr (b, k, f))) = absurd (no_tree text place c k.file h k.tree)
-  one_way (inr (inr (b, h, e))) (inr (inl (d, k, f))) = absurd (no_tree text there d h.file k h.tree)
+  one_way (inr (inl (c, h, e))) (inr (inr (b, k, q, f))) = absurd (no_tree text place c k.file h k.tree)
+  one_way (inr (inr (b, h, p, e))) (inr (inl (d, k, f))) = absurd (no_tree text there d h.file k h.tree)
   one_way (inr (inr p)) (inr (inr q)) = by_one_rule p q
 
 pub one_refusal : SourcesHaveOneRefusal

@@ -1,12 +1,12 @@
 -- The shape of a program, and the inputs that fit it.
-use Rattle.std.proofs.Common.{◌≡◌, ◌≤◌, ◌<◌, ◌^◌, ℕ, zero, suc, List, [], ◌∷◌, length, map, Option, Some, None, refl, sym, ap, subst, ◌∙◌, arith}
-use Rattle.std.specs.Prelude.{All, slice_get, slice_index, slice_index_or, option_map, Vec}
+use Rattle.std.proofs.Common.{◌≡◌, ◌≤◌, ℕ, zero, suc, List, [], ◌∷◌, length, map, Some, refl, sym, ap, subst, ◌∙◌, arith}
+use Rattle.std.specs.Prelude.{All, slice_get, option_map, Vec}
 use Rattle.std.specs.declared.alloc.Global.{Global}
 use Rattle.std.proofs.lemmas.Option.{slice_get-map}
 use Rattle.std.proofs.lemmas.List.{length-map}
 use Rattle.tapa_base.specs.declared.kind.Kind.{Kind}
 use Rattle.tapa_base.specs.declared.kind.Kind.TheVariants as kind
-use Rattle.tapa_base.specs.Kinds.{bits_of, values_of}
+use Rattle.tapa_base.specs.Kinds.{bits_of}
 use Rattle.tapa_base.specs.declared.shape.Port.{Port}
 use Rattle.tapa_base.specs.declared.shape.Shape.{Shape}
 use Rattle.tapa_syntax.specs.declared.program.Memory.{Memory}
@@ -17,7 +17,6 @@ use Rattle.run_data.specs.Answer.{FitsShape, IsDataOf, IsCause}
 use Rattle.run_data.specs.declared.data.Data.{Data}
 use Rattle.run_data.specs.declared.data.DataFault.{DataFault}
 use Rattle.run_data.specs.declared.data.DataFault.TheVariants.{J1, J2, J3, J4, OutOfMemory}
-use Rattle.program_run.specs.Run.{Values}
 use Rattle.tapa_drive.specs.Inputs.{port_of, IsShapeOf, GivesValues, IsUnfitBy}
 use Rattle.tapa_drive.specs.Meaning.{data_reason}
 

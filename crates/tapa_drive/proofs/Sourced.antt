@@ -1,5 +1,5 @@
 -- A refused source means no program, and what holds of the bytes that were taken holds of the files.
-use Rattle.std.proofs.Common.{◌≡◌, ◌≤◌, ℕ, List, [], length, Option, Some, None, refl, sym, ◌∙◌, ap, subst, inl, inr}
+use Rattle.std.proofs.Common.{◌≡◌, ◌≤◌, ℕ, List, [], length, Option, Some, None, subst}
 use Rattle.tapa_base.specs.declared.text.Place.{Place}
 use Rattle.tapa_syntax.specs.declared.lexeme.Lexeme.{Lexeme}
 use Rattle.tapa_syntax.specs.declared.tree.File.{File}
@@ -15,15 +15,15 @@ use Rattle.expression_parse.specs.declared.fault.ParseCode.TheVariants as parse
 use Rattle.tapa_parse.proofs.CompleteFiles.{one_tree as tree_is_one}
 use Rattle.scope_check.specs.Answers.{IsFirst}
 use Rattle.scope_check.specs.declared.fault.Broken.{Broken}
-use Rattle.stream_check.specs.Programs.{program_faults, program_of}
+use Rattle.stream_check.specs.Programs.{program_faults}
 use Rattle.tapa_drive.specs.declared.source.SourceCode.{SourceCode}
 use Rattle.tapa_drive.specs.declared.source.SourceCode.TheVariants.{L1, L2, L3, L4, P1, P2, Rule}
 use Rattle.tapa_base.specs.Outside.{Files, file_bytes}
 use Rattle.tapa_base.specs.Take.{IsFileOf}
 use Rattle.tapa_drive.specs.Answer.{OfTexts}
 use Rattle.tapa_drive.specs.Codes.{lex_code, parse_code}
-use Rattle.tapa_drive.specs.Files.{OfFile, OfSource, OfData, source_limit, data_limit, no_data}
-use Rattle.tapa_drive.specs.Source.{HasTree, HasNoTree, IsProgramOf, IsRefusedSource, MeansNothing}
+use Rattle.tapa_drive.specs.Files.{OfFile, OfSource, OfData, data_limit, no_data}
+use Rattle.tapa_drive.specs.Source.{HasTree, HasNoTree, IsRefusedSource, MeansNothing}
 
 -- a text has one tree
 pub one_tree : (text : List ℕ) (file other : File) → HasTree text file → HasTree text other → file_of file ≡ file_of other

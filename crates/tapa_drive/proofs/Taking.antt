@@ -1,5 +1,5 @@
 -- Why a source has no program, and why a program has no values, by why a file was not taken.
-use Rattle.std.proofs.Common.{◌≡◌, ◌≤◌, ℕ, List, length, Option, Some, None, refl, ap}
+use Rattle.std.proofs.Common.{◌≤◌, ℕ, List, length, Option, Some, None, ap}
 use Rattle.tapa_base.specs.Outside.{Files}
 use Rattle.tapa_base.specs.Take.{IsFileOf}
 use Rattle.tapa_syntax.specs.declared.program.Program.{Program}

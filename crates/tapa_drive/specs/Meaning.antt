@@ -1,5 +1,5 @@
 -- What values of the code stand for.
-use Rattle.std.specs.Prelude.{ℕ, List, Option, option_map}
+use Rattle.std.specs.Prelude.{ℕ, List}
 use Rattle.run_data.specs.Data.{Misshapen, Misfit, Oversized}
 use Rattle.run_data.specs.declared.data.DataFault.{DataFault as FaultOfData}
 use Rattle.run_data.specs.declared.data.DataFault.TheVariants.{J1, J2, J3, J4, OutOfMemory as NoRoom}

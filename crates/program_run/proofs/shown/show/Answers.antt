@@ -13,7 +13,7 @@ use Rattle.net_core.specs.declared.net_state.NetState.{NetState}
 use Rattle.net_core.specs.State as state
 use Rattle.run_data.specs.Report.{last_line}
 use Rattle.run_data.specs.declared.lines.Last.{Last}
-use Rattle.program_run.specs.Run.{values_of, network, stream_lines, memory_lines, lines_at}
+use Rattle.program_run.specs.Run.{values_of, stream_lines, memory_lines, lines_at}
 use Rattle.program_run.proofs.Lines.{on_err, map_on_err}
 use Rattle.program_run.proofs.Running.{network_is}
 use Rattle.program_run.proofs.shown.show.Goals as goal

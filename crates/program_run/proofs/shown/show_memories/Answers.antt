@@ -1,4 +1,4 @@
-use Rattle.std.proofs.Common.{◌≡◌, ◌<◌, ◌++◌, ℕ, List, length, take, drop, suc, get_or, ◌∙◌, ap, add-one, arith}
+use Rattle.std.proofs.Common.{◌≡◌, ◌<◌, ℕ, List, length, take, drop, suc, get_or, ◌∙◌, ap, add-one, arith}
 use Rattle.tapa_base.proofs.Known.{part_so_far, part_of_next, appends_both}
 use Rattle.tapa_syntax.specs.declared.program.Memory.{Memory}
 use Rattle.kahn_model.specs.Cells.{cells_at}

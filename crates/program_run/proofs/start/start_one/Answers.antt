@@ -1,4 +1,4 @@
-use Rattle.std.proofs.Common.{List, ◌<◌, ◌≡◌, Some, length, map, refl, sym, ap, subst, ◌∙◌, ℕ, arith}
+use Rattle.std.proofs.Common.{List, length, map, refl, sym, ap, subst, ◌∙◌, ℕ, arith}
 use Rattle.std.specs.Prelude.{[], Vec, slice_index_or}
 use Rattle.std.specs.declared.alloc.Global.{Global}
 use Rattle.std.specs.Arc.{arc_value}

@@ -1,4 +1,4 @@
-use Rattle.std.proofs.Common.{◌≡◌, ◌≤◌, ℕ, List, length, Ok, Err, sym, subst}
+use Rattle.std.proofs.Common.{◌≤◌, ℕ, List, length, Ok, Err, sym, subst}
 use Rattle.std.specs.Prelude.{Result, IfErr, option_map}
 use Rattle.tapa_base.specs.Take.{IsFileOf}
 use Rattle.net_core.specs.declared.input.Input.{Input}

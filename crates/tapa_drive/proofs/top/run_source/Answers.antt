@@ -1,4 +1,4 @@
-use Rattle.std.proofs.Common.{◌≡◌, ℕ, List, Option, subst}
+use Rattle.std.proofs.Common.{Option, subst}
 use Rattle.std.specs.Prelude.{option_map}
 use Rattle.tapa_base.specs.Outside.{Files}
 use Rattle.program_run.specs.declared.run.RunEnd.{RunEnd}
