@@ -1,14 +1,12 @@
 -- The names that a file declares for its tasks, their parameters and their streams.
-use Rattle.std.specs.Prelude.{◌≡◌, ℕ, List, map, Some, slice_get, Unit}
+use Rattle.std.specs.Prelude.{List}
 use Rattle.std.specs.List.{AllByRecursion}
 use Rattle.tapa_syntax.specs.declared.tree.Name.{Name}
 use Rattle.tapa_syntax.specs.declared.tree.Parameter.{Parameter}
 use Rattle.tapa_syntax.specs.declared.tree.Parameter.TheVariants as parameter
 use Rattle.tapa_syntax.specs.Characters.{Bytes}
 use Rattle.tapa_syntax.specs.Trees.{BodyTree, leaf, upper, StreamTree, TaskTree, ItemTree, constant, task}
-use Rattle.upper_check.specs.declared.task.Channel.{Channel}
-use Rattle.upper_check.specs.Tasks.{Invocation, Task, upper_body}
-use Rattle.program_labels.specs.Labels.{IsPlainName, AreApart}
+use Rattle.program_labels.specs.Labels.{IsPlainName}
 
 abbrev pub parameter_name : Parameter → Bytes
 parameter_name (parameter.InputStream kind x) = x.text
@@ -32,12 +30,3 @@ IsNamedItem (task t) = IsNamedTask t
 -- the names of a file's tasks, of their parameters and of their streams are names
 abbrev pub AreNamed : List ItemTree → Type 0
 AreNamed items = AllByRecursion IsNamedItem items
-
--- what holds of the tasks of a legal file whose names are names
-pub record HasOwnNames (tasks : List Task) : Type 0 where
-  pub names : AllByRecursion (λ (t : Task). IsPlainName t.declared.name.text) tasks
-  pub apart : AreApart (map (λ (t : Task). t.declared.name.text) tasks)
-  pub parameters : (n : ℕ) (t : Task) → slice_get tasks n ≡ Some t → AllByRecursion IsPlainName (map parameter_name t.declared.parameters)
-  pub parameters_apart : (n : ℕ) (t : Task) → slice_get tasks n ≡ Some t → AreApart (map parameter_name t.declared.parameters)
-  pub streams : (n : ℕ) (t : Task) (channels : List Channel) (invocations : List Invocation) → slice_get tasks n ≡ Some t → t.body ≡ upper_body channels invocations → AllByRecursion IsPlainName (map (λ (c : Channel). c.name) channels)
-  pub streams_apart : (n : ℕ) (t : Task) (channels : List Channel) (invocations : List Invocation) → slice_get tasks n ≡ Some t → t.body ≡ upper_body channels invocations → AreApart (map (λ (c : Channel). c.name) channels)
