@@ -1,1 +1,6 @@
+pub mod Apart
 pub mod Declared
+pub mod Dollars
+pub mod Labelled
+pub mod Names
+pub mod Parts
