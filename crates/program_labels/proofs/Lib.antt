@@ -2,6 +2,8 @@ pub mod Apart
 pub mod Declared
 pub mod Dollars
 pub mod Invoked
+pub mod Kept
 pub mod Labelled
 pub mod Names
 pub mod Parts
+pub mod Spelled

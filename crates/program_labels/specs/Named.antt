@@ -11,8 +11,8 @@ use Rattle.program_labels.specs.Labels.{IsPlainName}
 abbrev pub parameter_name : Parameter → Bytes
 parameter_name (parameter.InputStream kind x) = x.text
 parameter_name (parameter.OutputStream kind x) = x.text
-parameter_name (parameter.Memory fixed kind x) = x.text
-parameter_name (parameter.Scalar fixed kind x) = x.text
+parameter_name (parameter.Memory is_const kind x) = x.text
+parameter_name (parameter.Scalar is_const kind x) = x.text
 
 abbrev pub NamesStreams : BodyTree → Type 0
 NamesStreams (leaf ss) = Unit {0}
