@@ -1,5 +1,5 @@
 -- In a legal file each upper-level task invokes something, and what it invokes are tasks of the file.
-use Rattle.std.proofs.Common.{◌≡◌, ◌≤◌, ℕ, List, [], ◌∷◌, ◌++◌, length, Some, subst, arith}
+use Rattle.std.proofs.Common.{◌≡◌, ◌≤◌, List, [], ◌∷◌, length, Some, subst, arith}
 use Rattle.std.specs.Prelude.{slice_get}
 use Rattle.std.specs.List.{AllByRecursion}
 use Rattle.tapa_syntax.specs.Grammar.{IsBody, IsItem, IsTreeOf}

@@ -1,5 +1,5 @@
 -- The leaves and the parameters of a program have names of tasks and of the top task's parameters.
-use Rattle.std.proofs.Common.{◌≡◌, ◌+◌, ℕ, List, [], ◌∷◌, ◌++◌, length, map, Bool, true, false, refl, sym, ap, subst, ◌∙◌}
+use Rattle.std.proofs.Common.{◌≡◌, ◌+◌, ℕ, List, [], ◌∷◌, ◌++◌, map, Bool, true, false, refl, sym, subst}
 use Rattle.std.specs.Prelude.{if◌then◌else◌}
 use Rattle.std.specs.List.{AllByRecursion}
 use Rattle.tapa_syntax.specs.declared.program.Memory.{Memory}
@@ -9,9 +9,9 @@ use Rattle.tapa_syntax.specs.declared.tree.Parameter.TheVariants as parameter
 use Rattle.tapa_syntax.specs.Characters.{Bytes}
 use Rattle.tapa_syntax.specs.Flat.{FlatInstance, FlatLeaf}
 use Rattle.upper_check.specs.Tasks.{Body, leaf_body, upper_body, Task}
-use Rattle.stream_check.specs.Programs.{memories_of, memory_of, scalars_of, leaf_in, is_among, bodies_of}
+use Rattle.stream_check.specs.Programs.{memories_of, scalars_of, leaf_in, is_among, bodies_of}
 use Rattle.program_labels.specs.Named.{parameter_name}
-use Rattle.program_labels.proofs.Apart.{all_more, all_both, Avoids, Distinct, distinct_append}
+use Rattle.program_labels.proofs.Apart.{all_both, Avoids, Distinct, distinct_append}
 
 -- ---- parameters
 

@@ -1,16 +1,15 @@
 -- The labels of the parts of a legal program tell them apart.
-use Rattle.std.proofs.Common.{◌≡◌, ◌≤◌, ◌+◌, ℕ, List, [], ◌∷◌, ◌++◌, length, map, Bool, true, false, not, ◌&&◌, Option, Some, None, refl, sym, ap, subst, ◌∙◌, arith}
+use Rattle.std.proofs.Common.{◌≡◌, ◌+◌, ℕ, List, [], ◌∷◌, ◌++◌, map, true, not, ◌&&◌, Option, Some, None, refl, sym, ap, subst, arith}
 use Rattle.std.specs.Prelude.{nat_le, slice_get}
 use Rattle.std.specs.List.{list_any, AllByRecursion}
 use Rattle.tapa_syntax.specs.declared.program.Stream.{Stream}
-use Rattle.tapa_syntax.specs.Characters.{Bytes}
-use Rattle.tapa_syntax.specs.Flat.{FlatInstance, FlatProgram}
+use Rattle.tapa_syntax.specs.Flat.{FlatInstance}
 use Rattle.scope_check.specs.declared.fault.CheckCode.TheVariants.{C3}
 use Rattle.scope_check.specs.Faults.{over, where_so}
 use Rattle.upper_check.specs.declared.task.Channel.{Channel}
 use Rattle.upper_check.specs.Tasks.{Invocation, Body, leaf_body, upper_body, Task}
 use Rattle.stream_check.specs.Parts.{Part, own, instance, too_deep, streams_in, instances_in}
-use Rattle.stream_check.specs.Programs.{is_stream_parameter, is_upper, top_faults, top_instance, top_parts, limit_faults, bindings_faults, parts_faults, body_numbers, with_body, stream_of, streams_of, program_made, top_task_faults, whole_faults, top_program, whole_program}
+use Rattle.stream_check.specs.Programs.{is_stream_parameter, is_upper, top_faults, top_instance, top_parts, limit_faults, bindings_faults, parts_faults, body_numbers, with_body, streams_of, program_made, top_task_faults, whole_faults, top_program, whole_program}
 use Rattle.stream_check.proofs.WellLists.{both, holds, no_faults}
 use Rattle.stream_check.proofs.WellTops.{limits}
 use Rattle.program_labels.specs.Labels.{IsPlainName, IsLabel, HasOwnLabels}
@@ -18,7 +17,7 @@ use Rattle.program_labels.specs.Named.{parameter_name}
 use Rattle.program_labels.specs.Owned.{HasOwnNames}
 use Rattle.program_labels.proofs.Apart.{all_append, all_from, Distinct, distinct, apart}
 use Rattle.program_labels.proofs.Names.{scalar_names, memory_names, scalars_all, memories_all, parameters_distinct, task_names, NamesLeaf, leaf_names_of, leaves_all, leaves_distinct}
-use Rattle.program_labels.proofs.Labelled.{AreInvoked, IsBelow, IsFlat, stream_names, instance_names, AreTold, top_good}
+use Rattle.program_labels.proofs.Labelled.{AreInvoked, IsBelow, IsFlat, AreTold, top_good}
 
 -- ---- what the limits say
 
