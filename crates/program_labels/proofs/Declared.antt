@@ -29,6 +29,7 @@ use Rattle.stream_check.proofs.WellLists.{nothing, the_same, no_faults, holds_no
 use Rattle.program_labels.specs.Labels.{IsPlainName, AreApart}
 use Rattle.program_labels.specs.Named.{parameter_name, NamesStreams, IsNamedTask, IsNamedItem, AreNamed}
 use Rattle.program_labels.specs.Owned.{HasOwnNames}
+use Rattle.program_labels.proofs.Apart.{all_at}
 
 -- ---- lists
 
@@ -42,11 +43,6 @@ pushed {A} (z ∷ xs) y x (suc n) h = elim (pushed xs y x n h) [ inl e ↦ inl e
 all_push : {A : Type 0} (P : A → Type 0) (xs : List A) (y : A) → AllByRecursion P xs → P y → AllByRecursion P (xs ++ y ∷ [])
 all_push P [] y a p = (p, tt)
 all_push P (x ∷ xs) y (q, a) p = (q, all_push P xs y a p)
-
-all_get : {A : Type 0} (P : A → Type 0) (xs : List A) (n : ℕ) (x : A) → AllByRecursion P xs → slice_get xs n ≡ Some x → P x
-all_get P [] n x a h = absurd (nothing x h)
-all_get P (y ∷ xs) zero x (p, a) h = subst P (the_same y x h) p
-all_get P (y ∷ xs) (suc n) x (p, a) h = all_get P xs n x a h
 
 all_unmap : {A B : Type 0} (P : B → Type 0) (f : A → B) (xs : List A) → AllByRecursion P (map f xs) → AllByRecursion (λ (x : A). P (f x)) xs
 all_unmap P f [] a = tt
@@ -273,7 +269,7 @@ item_steps f (x ∷ xs) (n, a) e g =
 pub legal_names : (items : List ItemTree) → items_faults no_items items ≡ [] → AreNamed items → HasOwnNames (tasks_of items)
 legal_names items e a =
     let g = item_steps no_items items a e (record { names = none_declared ([] ∷ []) tt; tasks = tt }) in
-    let parts : (n : ℕ) (t : Task) → slice_get (tasks_of items) n ≡ Some t → HasOwnParts t = λ n t h. all_get HasOwnParts (tasks_of items) n t g.tasks h in
+    let parts : (n : ℕ) (t : Task) → slice_get (tasks_of items) n ≡ Some t → HasOwnParts t = λ n t h. all_at HasOwnParts (tasks_of items) n t g.tasks h in
     record {
       names = all_unmap IsPlainName (λ (t : Task). t.declared.name.text) (tasks_of items) g.names.plain;
       apart = g.names.apart;
