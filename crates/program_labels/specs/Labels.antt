@@ -1,0 +1,44 @@
+-- The labels of a program's parts: made of the names of the source, and no two parts of one sort have the same.
+use Rattle.std.specs.Prelude.{◌≡◌, ◌==◌, ◌||◌, ℕ, List, map, ◌++◌, Some, slice_get, IsTrue}
+use Rattle.std.specs.List.{list_all, AllByRecursion}
+use Rattle.tapa_syntax.specs.declared.program.Memory.{Memory}
+use Rattle.tapa_syntax.specs.declared.program.Scalar.{Scalar}
+use Rattle.tapa_syntax.specs.declared.program.Stream.{Stream}
+use Rattle.tapa_syntax.specs.Characters.{Bytes, begins, is_letter, is_word_byte}
+use Rattle.tapa_syntax.specs.Flat.{FlatInstance, FlatLeaf, FlatProgram}
+
+-- a name of a source (ISO C++ [lex.name]): a letter or `_`, and then letters, digits and `_`
+pub record IsPlainName (x : Bytes) : Type 0 where
+  pub first : IsTrue (begins is_letter x)
+  pub all : IsTrue (list_all is_word_byte x)
+
+-- a label: a letter or `_`, and then letters, digits, `_` and `$`
+pub record IsLabel (x : Bytes) : Type 0 where
+  pub first : IsTrue (begins is_letter x)
+  pub all : IsTrue (list_all (λ b. is_word_byte b || b == 36) x)
+
+-- nothing stands twice in a list
+abbrev pub AreApart : List Bytes → Type 0
+AreApart xs = (p q : ℕ) (x : Bytes) → slice_get xs p ≡ Some x → slice_get xs q ≡ Some x → p ≡ q
+
+abbrev pub instance_labels : FlatProgram → List Bytes
+instance_labels program = map (λ (x : FlatInstance). x.label) program.instances
+
+abbrev pub stream_labels : FlatProgram → List Bytes
+stream_labels program = map (λ (s : Stream). s.label) program.streams
+
+abbrev pub parameter_names : FlatProgram → List Bytes
+parameter_names program = map (λ (c : Scalar). c.name) program.scalars ++ map (λ (m : Memory). m.name) program.memories
+
+abbrev pub leaf_names : FlatProgram → List Bytes
+leaf_names program = map (λ (l : FlatLeaf). l.name) program.bodies
+
+pub record HasOwnLabels (program : FlatProgram) : Type 0 where
+  pub instances : AreApart (instance_labels program)
+  pub streams : AreApart (stream_labels program)
+  pub parameters : AreApart (parameter_names program)
+  pub leaves : AreApart (leaf_names program)
+  pub instances_written : AllByRecursion IsLabel (instance_labels program)
+  pub streams_written : AllByRecursion IsLabel (stream_labels program)
+  pub parameters_written : AllByRecursion IsPlainName (parameter_names program)
+  pub leaves_written : AllByRecursion IsPlainName (leaf_names program)

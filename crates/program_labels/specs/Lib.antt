@@ -1,0 +1,3 @@
+pub mod Labels
+pub mod Named
+pub mod Owned
