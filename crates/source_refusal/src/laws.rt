@@ -1,6 +1,6 @@
 // A law on what a source is with the name of its top task.
 
-ghost use Rattle.std.specs.Prelude.{◌⊎◌, ℕ, List, ⊥};
+ghost use Rattle.std.specs.Prelude.{◌⊎◌, ℕ, List};
 ghost use Rattle.source_refusal.specs.Told.{IsLegal, IsRefusedSomehow};
 
 /// Every text, with every name of a top task, is a legal source or is refused by one of the rules, and no text is both: the
