@@ -1,0 +1,50 @@
+-- What a source is, with the name of its top task: legal, or refused by the lexer, by the grammar and its limits, or by a rule.
+use Rattle.std.specs.Prelude.{◌≡◌, ◌⊎◌, ℕ, List, [], Err}
+use Rattle.tapa_base.specs.declared.text.Place.{Place}
+use Rattle.tapa_syntax.specs.declared.lexeme.Lexeme.{Lexeme}
+use Rattle.tapa_syntax.specs.Grammar.{IsTreeOf}
+use Rattle.tapa_syntax.specs.Lexemes.{HasLexemes}
+use Rattle.tapa_syntax.specs.Limits.{most_levels, most_operators, IsWithinLimits}
+use Rattle.tapa_syntax.specs.Symbols.{Symbol, symbols_of}
+use Rattle.tapa_syntax.specs.Trees.{ItemTree}
+use Rattle.tapa_lex.specs.declared.fault.LexCode.{LexCode}
+use Rattle.tapa_lex.specs.Refusals.{IsRefused}
+use Rattle.expression_parse.specs.declared.fault.ParseCode.{ParseCode}
+use Rattle.tapa_parse.specs.Answers.{stopped_at}
+use Rattle.tapa_parse.specs.Reading as reading
+use Rattle.scope_check.specs.Answers.{IsFirst}
+use Rattle.scope_check.specs.declared.fault.Broken.{Broken}
+use Rattle.stream_check.specs.Programs.{program_faults}
+
+-- the text has lexemes, and the grammar has this file for them, within the limits
+pub record HasFile (text : List ℕ) (items : List ItemTree) : Type 0 where
+  pub lexemes : List Lexeme
+  pub are : HasLexemes text lexemes
+  pub spelled : IsTreeOf (symbols_of text lexemes) items
+  pub within : IsWithinLimits items
+
+-- the text has a file that breaks no rule with this top task
+pub record IsLegal (text top : List ℕ) : Type 0 where
+  pub items : List ItemTree
+  pub file : HasFile text items
+  pub legal : program_faults items top ≡ []
+
+-- the text has lexemes, and reading them from left to right stops at this place, with this code
+pub record IsUnread (text : List ℕ) (code : ParseCode) (place : Place) : Type 0 where
+  pub lexemes : List Lexeme
+  pub are : HasLexemes text lexemes
+  pub left : List Symbol
+  pub at : place ≡ stopped_at text left
+  pub stops : reading.file most_operators (reading.below most_levels) (symbols_of text lexemes) ≡ Err (code, left)
+
+-- the text has a file, and this is the first rule that it breaks with this top task
+pub record BreaksRule (text top : List ℕ) (broken : Broken) : Type 0 where
+  pub items : List ItemTree
+  pub file : HasFile text items
+  pub first : IsFirst (program_faults items top) broken
+
+abbrev pub IsRefusedSomehow : List ℕ → List ℕ → Type 0
+IsRefusedSomehow text top =
+    ((code : LexCode) × (place : Place) × IsRefused text code place)
+    ⊎ (((code : ParseCode) × (place : Place) × IsUnread text code place)
+    ⊎ ((broken : Broken) × BreaksRule text top broken))
