@@ -5,6 +5,7 @@
 mod cells;
 pub mod laws;
 pub mod rounds;
+mod simple_statements;
 pub mod slow;
 pub mod start;
 pub mod tick;

@@ -11,8 +11,12 @@ ghost use Rattle.kahn_model.specs.Trace.{expr, stmt, statements, job_of, at_stre
 ghost use Rattle.tapa_syntax.specs.LeafKinds.{kinds_of};
 
 use crate::cells::{
-    apply_values, array_kind, both, cell_of, changed, chosen, convert_value, either, flipped,
-    memory_kind, negated, number_at, set_cell_of, stream_kind, value_at, var_kind,
+    apply_values, both, cell_of, chosen, convert_value, either, flipped, negated, number_at,
+    set_cell_of, value_at,
+};
+use crate::simple_statements::{
+    run_discard, run_open, run_read_cell, run_read_store, run_read_var, run_set, run_set_cell,
+    run_set_cell_by, run_store, run_store_by, run_write,
 };
 use crate::tick::{Action, Mark, StreamOperation, Tick};
 use std::alloc::{AllocError, Global};
@@ -115,7 +119,7 @@ fn ask(
 }
 
 // One operation on the stream at a position.
-fn ask_at(
+pub(crate) fn ask_at(
     lists: &[Vec<Token>],
     streams: &[u32],
     run: &mut Run,
@@ -145,7 +149,7 @@ impl From<AllocError> for Fault {
 }
 
 // One more tick.
-fn note(run: &mut Run, tick: Tick) -> Result<(), AllocError>
+pub(crate) fn note(run: &mut Run, tick: Tick) -> Result<(), AllocError>
     ensures ticks { IfOk result (λ u. run.new.ticks.items ≡ run.old.ticks.items ++ tick ∷ []) }
     ensures state { run.new.state ≡ run.old.state }
     ensures heads { run.new.heads ≡ run.old.heads }
@@ -155,7 +159,7 @@ fn note(run: &mut Run, tick: Tick) -> Result<(), AllocError>
 }
 
 // A tick that loads a cell, and its value.
-fn load_cell(run: &mut Run, m: u32, i: u64) -> Result<u64, AllocError>
+pub(crate) fn load_cell(run: &mut Run, m: u32, i: u64) -> Result<u64, AllocError>
     ensures ticks { IfOk result (λ v. run.new.ticks.items ≡ run.old.ticks.items ++ Did (Load m i) ∷ []) }
     ensures value { IfOk result (λ v. v ≡ cell (state_of run.old.state).cells m i) }
     ensures state { run.new.state ≡ run.old.state }
@@ -166,7 +170,12 @@ fn load_cell(run: &mut Run, m: u32, i: u64) -> Result<u64, AllocError>
 }
 
 // The value of an expression.
-fn run_expr(lists: &[Vec<Token>], streams: &[u32], run: &mut Run, e: &Expr) -> Result<Value, Fault>
+pub(crate) fn run_expr(
+    lists: &[Vec<Token>],
+    streams: &[u32],
+    run: &mut Run,
+    e: &Expr,
+) -> Result<Value, Fault>
     requires { length run.old.heads.items ≡ length lists.now }
     ensures heads { IfOk result (λ v. length run.new.heads.items ≡ length lists.now) }
     ensures state { IfOk result (λ v. run.new.state ≡ run.old.state) }
@@ -276,7 +285,7 @@ fn set_array(run: &mut Run, a: u32, i: u64, v: u64)
 }
 
 // A tick that stores a value in a cell of a memory.
-fn store_tick(run: &mut Run, m: u32, i: u64, v: u64) -> Result<(), AllocError>
+pub(crate) fn store_tick(run: &mut Run, m: u32, i: u64, v: u64) -> Result<(), AllocError>
     ensures ticks { IfOk result (λ u. run.new.ticks.items ≡ run.old.ticks.items ++ Did (Store m i v) ∷ []) }
     ensures state { IfOk result (λ u. state_of run.new.state ≡ store_cell (state_of run.old.state) m i v) }
     ensures heads { run.new.heads ≡ run.old.heads }
@@ -287,7 +296,7 @@ fn store_tick(run: &mut Run, m: u32, i: u64, v: u64) -> Result<(), AllocError>
 }
 
 // A variable gets a value, in one tick.
-fn set_var_tick(run: &mut Run, x: u32, v: u64) -> Result<(), AllocError>
+pub(crate) fn set_var_tick(run: &mut Run, x: u32, v: u64) -> Result<(), AllocError>
     ensures ticks { IfOk result (λ u. run.new.ticks.items ≡ run.old.ticks.items ++ Did Local ∷ []) }
     ensures state { IfOk result (λ u. state_of run.new.state ≡ set_var (state_of run.old.state) x v) }
     ensures heads { run.new.heads ≡ run.old.heads }
@@ -297,7 +306,7 @@ fn set_var_tick(run: &mut Run, x: u32, v: u64) -> Result<(), AllocError>
     Ok(())
 }
 
-fn set_cell_tick(run: &mut Run, a: u32, i: u64, v: u64) -> Result<(), AllocError>
+pub(crate) fn set_cell_tick(run: &mut Run, a: u32, i: u64, v: u64) -> Result<(), AllocError>
     ensures ticks { IfOk result (λ u. run.new.ticks.items ≡ run.old.ticks.items ++ Did Local ∷ []) }
     ensures state { IfOk result (λ u. state_of run.new.state ≡ set_cell (state_of run.old.state) a i v) }
     ensures heads { run.new.heads ≡ run.old.heads }
@@ -368,7 +377,7 @@ pub enum Pair {
 }
 
 // The values of two expressions, one after the other.
-fn run_pair(
+pub(crate) fn run_pair(
     lists: &[Vec<Token>],
     streams: &[u32],
     run: &mut Run,
@@ -390,7 +399,7 @@ fn run_pair(
 }
 
 // The value of an index, and then that of the token that is read from a stream.
-fn run_read(
+pub(crate) fn run_read(
     lists: &[Vec<Token>],
     streams: &[u32],
     run: &mut Run,
@@ -426,117 +435,44 @@ fn run_stmt(
     ensures flow { IfOk result (λ f. GivesFlow (numbers streams.now) f (point lists.now run.old) (stmt (kinds_of leaf.now) n s.now (state_of run.old.state)) (point lists.now run.new)) }
 {
     match s {
-        Stmt::Set(x, e) => match run_expr(lists, streams, run, e)? {
-            Value::Stopped(m) => Ok(Flow::Stopped(m)),
-            Value::Given(v) => {
-                set_var_tick(run, *x, v)?;
-                Ok(Flow::Next)
-            }
-        },
+        Stmt::Set(x, e) => run_set(lists, streams, run, *x, e),
         Stmt::SetCell {
             array,
             index,
             value,
-        } => match run_pair(lists, streams, run, value, index)? {
-            Pair::Stopped(m) => Ok(Flow::Stopped(m)),
-            Pair::Given(v, i) => {
-                set_cell_tick(run, *array, i, v)?;
-                Ok(Flow::Next)
-            }
-        },
+        } => run_set_cell(lists, streams, run, *array, index, value),
         Stmt::SetCellBy {
             array,
             index,
             op,
             kind,
             value,
-        } => match run_pair(lists, streams, run, value, index)? {
-            Pair::Stopped(m) => Ok(Flow::Stopped(m)),
-            Pair::Given(v, i) => {
-                let old = cell_of(&run.state.arrays, *array, i);
-                let new = changed(array_kind(leaf, *array), *kind, *op, old, v)?;
-                set_cell_tick(run, *array, i, new)?;
-                Ok(Flow::Next)
-            }
-        },
+        } => run_set_cell_by(lists, leaf, streams, run, *array, index, *op, *kind, value),
         Stmt::Store {
             memory,
             index,
             value,
-        } => match run_pair(lists, streams, run, value, index)? {
-            Pair::Stopped(m) => Ok(Flow::Stopped(m)),
-            Pair::Given(v, i) => {
-                store_tick(run, *memory, i, v)?;
-                Ok(Flow::Next)
-            }
-        },
+        } => run_store(lists, streams, run, *memory, index, value),
         Stmt::StoreBy {
             memory,
             index,
             op,
             kind,
             value,
-        } => match run_pair(lists, streams, run, value, index)? {
-            Pair::Stopped(m) => Ok(Flow::Stopped(m)),
-            Pair::Given(v, i) => {
-                let old = load_cell(run, *memory, i)?;
-                let new = changed(memory_kind(leaf, *memory), *kind, *op, old, v)?;
-                store_tick(run, *memory, i, new)?;
-                Ok(Flow::Next)
-            }
-        },
-        Stmt::ReadVar { stream, var } => match ask_at(
-            lists,
-            streams,
-            run,
-            *stream,
-            StreamOperation::Read,
-        )? {
-            Value::Stopped(m) => Ok(Flow::Stopped(m)),
-            Value::Given(v) => {
-                let v = convert_value(stream_kind(leaf, *stream), var_kind(leaf, *var), v)?;
-                set_var_tick(run, *var, v)?;
-                Ok(Flow::Next)
-            }
-        },
+        } => run_store_by(lists, leaf, streams, run, *memory, index, *op, *kind, value),
+        Stmt::ReadVar { stream, var } => run_read_var(lists, leaf, streams, run, *stream, *var),
         Stmt::ReadCell {
             stream,
             array,
             index,
-        } => match run_read(lists, streams, run, index, *stream)? {
-            Pair::Stopped(m) => Ok(Flow::Stopped(m)),
-            Pair::Given(i, v) => {
-                let v = convert_value(stream_kind(leaf, *stream), array_kind(leaf, *array), v)?;
-                set_cell_tick(run, *array, i, v)?;
-                Ok(Flow::Next)
-            }
-        },
+        } => run_read_cell(lists, leaf, streams, run, *stream, *array, index),
         Stmt::ReadStore {
             stream,
             memory,
             index,
-        } => match run_read(lists, streams, run, index, *stream)? {
-            Pair::Stopped(m) => Ok(Flow::Stopped(m)),
-            Pair::Given(i, v) => {
-                let v = convert_value(stream_kind(leaf, *stream), memory_kind(leaf, *memory), v)?;
-                store_tick(run, *memory, i, v)?;
-                Ok(Flow::Next)
-            }
-        },
-        Stmt::Write(p, e) => match run_expr(lists, streams, run, e)? {
-            Value::Stopped(m) => Ok(Flow::Stopped(m)),
-            Value::Given(v) => {
-                note(
-                    run,
-                    Tick::Did(Action::Put(number_at(streams, *p), Token::Datum(v))),
-                )?;
-                Ok(Flow::Next)
-            }
-        },
-        Stmt::Open(p) => match ask_at(lists, streams, run, *p, StreamOperation::Open)? {
-            Value::Stopped(m) => Ok(Flow::Stopped(m)),
-            Value::Given(_) => Ok(Flow::Next),
-        },
+        } => run_read_store(lists, leaf, streams, run, *stream, *memory, index),
+        Stmt::Write(p, e) => run_write(lists, streams, run, *p, e),
+        Stmt::Open(p) => run_open(lists, streams, run, *p),
         Stmt::Close(p) => {
             note(
                 run,
@@ -544,10 +480,7 @@ fn run_stmt(
             )?;
             Ok(Flow::Next)
         }
-        Stmt::Discard(e) => match run_expr(lists, streams, run, e)? {
-            Value::Stopped(m) => Ok(Flow::Stopped(m)),
-            Value::Given(_) => Ok(Flow::Next),
-        },
+        Stmt::Discard(e) => run_discard(lists, streams, run, e),
         Stmt::Clear(a) => {
             clear(run, *a)?;
             Ok(Flow::Next)

@@ -12,70 +12,6 @@ use Rattle.kahn_model.proofs.SlowFlows.{turn_begins, turn_stops, turn_out, turn_
 use Rattle.kahn_model.proofs.SlowStatements.{set_cell_goes, set_cell_stops, set_cell_by_goes, set_cell_by_stops, store_goes, store_stops, store_by_goes, store_by_stops, read_var_goes, read_var_stops, read_cell_goes, read_cell_stops, read_store_goes, read_store_stops, open_goes, open_stops, clear_goes}
 use Rattle.kahn_model.proofs.slow.+statements.Goals as goal
 
-pub run_stmt-returns-in-Stopped-2-clause-flow : goal.run_stmt-returns-in-Stopped-2-clause-flow
-run_stmt-returns-in-Stopped-2-clause-flow t c =
-    set_cell_stops (numbers c.args.streams.now) (kinds_of c.args.leaf.now) c.args.n c.args.s.now c.in-SetCell.array c.in-SetCell.index c.in-SetCell.value (point c.args.lists.now c.args.run.now) (point c.args.lists.now c.run_pair.new.run) c.in_ok-m-in-SetCell.field-0 c.in-Stopped-2.m c.in-SetCell.is c.in-Stopped-2.is c.in_ok-m-in-SetCell.ensures.value
-
-pub run_stmt-returns-in_ok-set_cell_tick-in-Given-2-clause-flow : goal.run_stmt-returns-in_ok-set_cell_tick-in-Given-2-clause-flow
-run_stmt-returns-in_ok-set_cell_tick-in-Given-2-clause-flow t c =
-    set_cell_goes (numbers c.args.streams.now) (kinds_of c.args.leaf.now) c.args.n c.args.s.now c.in-SetCell.array c.in-SetCell.index c.in-SetCell.value (point c.args.lists.now c.args.run.now) (point c.args.lists.now c.run_pair.new.run) (point c.args.lists.now c.set_cell_tick.new.run) c.in_ok-m-in-SetCell.field-0 c.in-Given-2.v c.in-Given-2.i c.in-SetCell.is c.in-Given-2.is c.in_ok-m-in-SetCell.ensures.value (ap state_of c.in_ok-m-in-SetCell.ensures.state) c.in_ok-set_cell_tick-in-Given-2.ensures.ticks (ap (λ (v : Vec ℕ Global). feed c.args.lists.now v.items) c.in_ok-set_cell_tick-in-Given-2.ensures.heads) c.in_ok-set_cell_tick-in-Given-2.ensures.state
-
-pub run_stmt-returns-in-Stopped-3-clause-flow : goal.run_stmt-returns-in-Stopped-3-clause-flow
-run_stmt-returns-in-Stopped-3-clause-flow t c =
-    set_cell_by_stops (numbers c.args.streams.now) (kinds_of c.args.leaf.now) c.args.n c.args.s.now c.in-SetCellBy.array c.in-SetCellBy.index c.in-SetCellBy.op c.in-SetCellBy.kind c.in-SetCellBy.value (point c.args.lists.now c.args.run.now) (point c.args.lists.now c.run_pair-in-SetCellBy.new.run) c.in_ok-m-in-SetCellBy.field-0 c.in-Stopped-3.m c.in-SetCellBy.is c.in-Stopped-3.is c.in_ok-m-in-SetCellBy.ensures.value
-
-pub run_stmt-returns-in_ok-set_cell_tick-in-Given-3-clause-flow : goal.run_stmt-returns-in_ok-set_cell_tick-in-Given-3-clause-flow
-run_stmt-returns-in_ok-set_cell_tick-in-Given-3-clause-flow t c =
-    set_cell_by_goes (numbers c.args.streams.now) (kinds_of c.args.leaf.now) c.args.n c.args.s.now c.in-SetCellBy.array c.in-SetCellBy.index c.in-SetCellBy.op c.in-SetCellBy.kind c.in-SetCellBy.value (point c.args.lists.now c.args.run.now) (point c.args.lists.now c.run_pair-in-SetCellBy.new.run) (point c.args.lists.now c.set_cell_tick-in-Given-3.new.run) c.in_ok-m-in-SetCellBy.field-0 c.in-Given-3.v c.in-Given-3.i c.array_kind.result c.cell_of-old.result c.in_ok-new-in-Given-3.new c.in-SetCellBy.is c.in-Given-3.is c.in_ok-m-in-SetCellBy.ensures.value (ap state_of c.in_ok-m-in-SetCellBy.ensures.state) c.array_kind.ensures (c.cell_of-old.ensures ∙ ap (λ (x : List (Vec ℕ Global)). cell (rows_of x) c.in-SetCellBy.array c.in-Given-3.i) c.deref.ensures.value) c.in_ok-new-in-Given-3.ensures c.in_ok-set_cell_tick-in-Given-3.ensures.ticks (ap (λ (v : Vec ℕ Global). feed c.args.lists.now v.items) c.in_ok-set_cell_tick-in-Given-3.ensures.heads) c.in_ok-set_cell_tick-in-Given-3.ensures.state
-
-pub run_stmt-returns-in-Stopped-4-clause-flow : goal.run_stmt-returns-in-Stopped-4-clause-flow
-run_stmt-returns-in-Stopped-4-clause-flow t c =
-    store_stops (numbers c.args.streams.now) (kinds_of c.args.leaf.now) c.args.n c.args.s.now c.in-Store.memory c.in-Store.index c.in-Store.value (point c.args.lists.now c.args.run.now) (point c.args.lists.now c.run_pair-in-Store.new.run) c.in_ok-m-in-Store.field-0 c.in-Stopped-4.m c.in-Store.is c.in-Stopped-4.is c.in_ok-m-in-Store.ensures.value
-
-pub run_stmt-returns-in_ok-store_tick-in-Given-4-clause-flow : goal.run_stmt-returns-in_ok-store_tick-in-Given-4-clause-flow
-run_stmt-returns-in_ok-store_tick-in-Given-4-clause-flow t c =
-    store_goes (numbers c.args.streams.now) (kinds_of c.args.leaf.now) c.args.n c.args.s.now c.in-Store.memory c.in-Store.index c.in-Store.value (point c.args.lists.now c.args.run.now) (point c.args.lists.now c.run_pair-in-Store.new.run) (point c.args.lists.now c.store_tick.new.run) c.in_ok-m-in-Store.field-0 c.in-Given-4.v c.in-Given-4.i c.in-Store.is c.in-Given-4.is c.in_ok-m-in-Store.ensures.value (ap state_of c.in_ok-m-in-Store.ensures.state) c.in_ok-store_tick-in-Given-4.ensures.ticks (ap (λ (v : Vec ℕ Global). feed c.args.lists.now v.items) c.in_ok-store_tick-in-Given-4.ensures.heads) c.in_ok-store_tick-in-Given-4.ensures.state
-
-pub run_stmt-returns-in-Stopped-5-clause-flow : goal.run_stmt-returns-in-Stopped-5-clause-flow
-run_stmt-returns-in-Stopped-5-clause-flow t c =
-    store_by_stops (numbers c.args.streams.now) (kinds_of c.args.leaf.now) c.args.n c.args.s.now c.in-StoreBy.memory c.in-StoreBy.index c.in-StoreBy.op c.in-StoreBy.kind c.in-StoreBy.value (point c.args.lists.now c.args.run.now) (point c.args.lists.now c.run_pair-in-StoreBy.new.run) c.in_ok-m-in-StoreBy.field-0 c.in-Stopped-5.m c.in-StoreBy.is c.in-Stopped-5.is c.in_ok-m-in-StoreBy.ensures.value
-
-pub run_stmt-returns-in_ok-store_tick-in-Given-5-clause-flow : goal.run_stmt-returns-in_ok-store_tick-in-Given-5-clause-flow
-run_stmt-returns-in_ok-store_tick-in-Given-5-clause-flow t c =
-    store_by_goes (numbers c.args.streams.now) (kinds_of c.args.leaf.now) c.args.n c.args.s.now c.in-StoreBy.memory c.in-StoreBy.index c.in-StoreBy.op c.in-StoreBy.kind c.in-StoreBy.value (point c.args.lists.now c.args.run.now) (point c.args.lists.now c.run_pair-in-StoreBy.new.run) (point c.args.lists.now c.load_cell.new.run) (point c.args.lists.now c.store_tick-in-Given-5.new.run) c.in_ok-m-in-StoreBy.field-0 c.in-Given-5.v c.in-Given-5.i c.memory_kind.result c.in_ok-old-in-Given-5.old c.in_ok-new-in-Given-5.new c.in-StoreBy.is c.in-Given-5.is c.in_ok-m-in-StoreBy.ensures.value (ap state_of c.in_ok-m-in-StoreBy.ensures.state) c.memory_kind.ensures c.in_ok-old-in-Given-5.ensures.value c.in_ok-new-in-Given-5.ensures c.in_ok-old-in-Given-5.ensures.ticks (ap (λ (v : Vec ℕ Global). feed c.args.lists.now v.items) c.in_ok-old-in-Given-5.ensures.heads) (ap state_of c.in_ok-old-in-Given-5.ensures.state) c.in_ok-store_tick-in-Given-5.ensures.ticks (ap (λ (v : Vec ℕ Global). feed c.args.lists.now v.items) c.in_ok-store_tick-in-Given-5.ensures.heads) c.in_ok-store_tick-in-Given-5.ensures.state
-
-pub run_stmt-returns-in-Stopped-6-clause-flow : goal.run_stmt-returns-in-Stopped-6-clause-flow
-run_stmt-returns-in-Stopped-6-clause-flow t c =
-    read_var_stops (numbers c.args.streams.now) (kinds_of c.args.leaf.now) c.args.n c.args.s.now c.in-ReadVar.stream c.in-ReadVar.var (point c.args.lists.now c.args.run.now) (point c.args.lists.now c.ask_at.new.run) c.in_ok-m-in-ReadVar.field-0 c.in-Stopped-6.m c.in-ReadVar.is c.in-Stopped-6.is c.in_ok-m-in-ReadVar.ensures.value
-
-pub run_stmt-returns-in_ok-set_var_tick-in-Given-6-clause-flow : goal.run_stmt-returns-in_ok-set_var_tick-in-Given-6-clause-flow
-run_stmt-returns-in_ok-set_var_tick-in-Given-6-clause-flow t c =
-    read_var_goes (numbers c.args.streams.now) (kinds_of c.args.leaf.now) c.args.n c.args.s.now c.in-ReadVar.stream c.in-ReadVar.var (point c.args.lists.now c.args.run.now) (point c.args.lists.now c.ask_at.new.run) (point c.args.lists.now c.set_var_tick-in-Given-6.new.run) c.in_ok-m-in-ReadVar.field-0 c.in-Given-6.v c.stream_kind.result c.var_kind.result c.in_ok-v-in-Given-6.v c.in-ReadVar.is c.in-Given-6.is c.in_ok-m-in-ReadVar.ensures.value (ap state_of c.in_ok-m-in-ReadVar.ensures.state) c.stream_kind.ensures c.var_kind.ensures c.in_ok-v-in-Given-6.ensures c.in_ok-set_var_tick-in-Given-6.ensures.ticks (ap (λ (v : Vec ℕ Global). feed c.args.lists.now v.items) c.in_ok-set_var_tick-in-Given-6.ensures.heads) c.in_ok-set_var_tick-in-Given-6.ensures.state
-
-pub run_stmt-returns-in-Stopped-7-clause-flow : goal.run_stmt-returns-in-Stopped-7-clause-flow
-run_stmt-returns-in-Stopped-7-clause-flow t c =
-    read_cell_stops (numbers c.args.streams.now) (kinds_of c.args.leaf.now) c.args.n c.args.s.now c.in-ReadCell.stream c.in-ReadCell.array c.in-ReadCell.index (point c.args.lists.now c.args.run.now) (point c.args.lists.now c.run_read.new.run) c.in_ok-m-in-ReadCell.field-0 c.in-Stopped-7.m c.in-ReadCell.is c.in-Stopped-7.is c.in_ok-m-in-ReadCell.ensures.value
-
-pub run_stmt-returns-in_ok-set_cell_tick-in-Given-7-clause-flow : goal.run_stmt-returns-in_ok-set_cell_tick-in-Given-7-clause-flow
-run_stmt-returns-in_ok-set_cell_tick-in-Given-7-clause-flow t c =
-    read_cell_goes (numbers c.args.streams.now) (kinds_of c.args.leaf.now) c.args.n c.args.s.now c.in-ReadCell.stream c.in-ReadCell.array c.in-ReadCell.index (point c.args.lists.now c.args.run.now) (point c.args.lists.now c.run_read.new.run) (point c.args.lists.now c.set_cell_tick-in-Given-7.new.run) c.in_ok-m-in-ReadCell.field-0 c.in-Given-7.i c.in-Given-7.v c.stream_kind-in-Given-7.result c.array_kind-in-Given-7.result c.in_ok-v-in-Given-7.v c.in-ReadCell.is c.in-Given-7.is c.in_ok-m-in-ReadCell.ensures.value (ap state_of c.in_ok-m-in-ReadCell.ensures.state) c.stream_kind-in-Given-7.ensures c.array_kind-in-Given-7.ensures c.in_ok-v-in-Given-7.ensures c.in_ok-set_cell_tick-in-Given-7.ensures.ticks (ap (λ (v : Vec ℕ Global). feed c.args.lists.now v.items) c.in_ok-set_cell_tick-in-Given-7.ensures.heads) c.in_ok-set_cell_tick-in-Given-7.ensures.state
-
-pub run_stmt-returns-in-Stopped-8-clause-flow : goal.run_stmt-returns-in-Stopped-8-clause-flow
-run_stmt-returns-in-Stopped-8-clause-flow t c =
-    read_store_stops (numbers c.args.streams.now) (kinds_of c.args.leaf.now) c.args.n c.args.s.now c.in-ReadStore.stream c.in-ReadStore.memory c.in-ReadStore.index (point c.args.lists.now c.args.run.now) (point c.args.lists.now c.run_read-in-ReadStore.new.run) c.in_ok-m-in-ReadStore.field-0 c.in-Stopped-8.m c.in-ReadStore.is c.in-Stopped-8.is c.in_ok-m-in-ReadStore.ensures.value
-
-pub run_stmt-returns-in_ok-store_tick-in-Given-8-clause-flow : goal.run_stmt-returns-in_ok-store_tick-in-Given-8-clause-flow
-run_stmt-returns-in_ok-store_tick-in-Given-8-clause-flow t c =
-    read_store_goes (numbers c.args.streams.now) (kinds_of c.args.leaf.now) c.args.n c.args.s.now c.in-ReadStore.stream c.in-ReadStore.memory c.in-ReadStore.index (point c.args.lists.now c.args.run.now) (point c.args.lists.now c.run_read-in-ReadStore.new.run) (point c.args.lists.now c.store_tick-in-Given-8.new.run) c.in_ok-m-in-ReadStore.field-0 c.in-Given-8.i c.in-Given-8.v c.stream_kind-in-Given-8.result c.memory_kind-in-Given-8.result c.in_ok-v-in-Given-8.v c.in-ReadStore.is c.in-Given-8.is c.in_ok-m-in-ReadStore.ensures.value (ap state_of c.in_ok-m-in-ReadStore.ensures.state) c.stream_kind-in-Given-8.ensures c.memory_kind-in-Given-8.ensures c.in_ok-v-in-Given-8.ensures c.in_ok-store_tick-in-Given-8.ensures.ticks (ap (λ (v : Vec ℕ Global). feed c.args.lists.now v.items) c.in_ok-store_tick-in-Given-8.ensures.heads) c.in_ok-store_tick-in-Given-8.ensures.state
-
-pub run_stmt-returns-in-Stopped-10-clause-flow : goal.run_stmt-returns-in-Stopped-10-clause-flow
-run_stmt-returns-in-Stopped-10-clause-flow t c =
-    open_stops (numbers c.args.streams.now) (kinds_of c.args.leaf.now) c.args.n c.args.s.now c.in-Open.p (point c.args.lists.now c.args.run.now) (point c.args.lists.now c.ask_at-in-Open.new.run) c.in_ok-m-in-Open.field-0 c.in-Stopped-10.m c.in-Open.is c.in-Stopped-10.is c.in_ok-m-in-Open.ensures.value
-
-pub run_stmt-returns-in-Given-10-clause-flow : goal.run_stmt-returns-in-Given-10-clause-flow
-run_stmt-returns-in-Given-10-clause-flow t c =
-    open_goes (numbers c.args.streams.now) (kinds_of c.args.leaf.now) c.args.n c.args.s.now c.in-Open.p (point c.args.lists.now c.args.run.now) (point c.args.lists.now c.ask_at-in-Open.new.run) c.in_ok-m-in-Open.field-0 _ c.in-Open.is c.in-Given-10.is c.in_ok-m-in-Open.ensures.value (ap state_of c.in_ok-m-in-Open.ensures.state)
-
 pub run_stmt-returns-in_ok-clear-in-Clear-clause-flow : goal.run_stmt-returns-in_ok-clear-in-Clear-clause-flow
 run_stmt-returns-in_ok-clear-in-Clear-clause-flow t c =
     clear_goes (numbers c.args.streams.now) (kinds_of c.args.leaf.now) c.args.n c.args.s.now c.in-Clear.a (point c.args.lists.now c.args.run.now) (point c.args.lists.now c.clear.new.run) c.in-Clear.is c.in_ok-clear-in-Clear.ensures.ticks (ap (λ (v : Vec ℕ Global). feed c.args.lists.now v.items) c.in_ok-clear-in-Clear.ensures.heads) c.in_ok-clear-in-Clear.ensures.state
@@ -83,20 +19,20 @@ run_stmt-returns-in_ok-clear-in-Clear-clause-flow t c =
 pub run_stmt-returns-then-v-eq0-clause-flow : goal.run_stmt-returns-then-v-eq0-clause-flow
 run_stmt-returns-then-v-eq0-clause-flow t c =
     IfOk-weaker c.run_block.result
-    (λ x. GivesFlow (numbers c.args.streams.now) x (point c.args.lists.now c.note-in-Given-12.new.run) (statements (kinds_of c.args.leaf.now) c.args.n c.deref-then-v-eq0.result.now (state_of c.note-in-Given-12.new.run.state)) (point c.args.lists.now c.run_block.new.run))
+    (λ x. GivesFlow (numbers c.args.streams.now) x (point c.args.lists.now c.note-in-Given.new.run) (statements (kinds_of c.args.leaf.now) c.args.n c.deref.result.now (state_of c.note-in-Given.new.run.state)) (point c.args.lists.now c.run_block.new.run))
     (λ x. GivesFlow (numbers c.args.streams.now) x (point c.args.lists.now c.args.run.now) (stmt (kinds_of c.args.leaf.now) c.args.n c.args.s.now (state_of c.args.run.now.state)) (point c.args.lists.now c.run_block.new.run))
-    (λ x h. flow_after (numbers c.args.streams.now) x (point c.args.lists.now c.args.run.now) (point c.args.lists.now c.note-in-Given-12.new.run) (point c.args.lists.now c.run_block.new.run) (stmt (kinds_of c.args.leaf.now) c.args.n c.args.s.now (state_of c.args.run.now.state)) (statements (kinds_of c.args.leaf.now) c.args.n c.deref-then-v-eq0.result.now (state_of c.note-in-Given-12.new.run.state))
-    (if_begins (numbers c.args.streams.now) (kinds_of c.args.leaf.now) c.args.n c.args.s.now c.in-If.e c.in-If.left c.in-If.right c.deref-then-v-eq0.result.now (point c.args.lists.now c.args.run.now) (point c.args.lists.now c.run_expr-in-If.new.run) (point c.args.lists.now c.note-in-Given-12.new.run) c.in_ok-m-in-If.field-0 c.in-Given-12.v c.in-If.is c.in-Given-12.is c.in_ok-m-in-If.ensures.value c.in_ok-note-in-Given-12.ensures.ticks (ap (λ (v : Vec ℕ Global). feed c.args.lists.now v.items) c.in_ok-note-in-Given-12.ensures.heads) (ap state_of (sym (c.in_ok-note-in-Given-12.ensures.state ∙ c.in_ok-m-in-If.ensures.state))) (code_at_zero c.in-Given-12.v c.in-If.right.items c.in-If.left.items c.if-v-eq0.true ∙ sym c.deref-then-v-eq0.ensures.value))
+    (λ x h. flow_after (numbers c.args.streams.now) x (point c.args.lists.now c.args.run.now) (point c.args.lists.now c.note-in-Given.new.run) (point c.args.lists.now c.run_block.new.run) (stmt (kinds_of c.args.leaf.now) c.args.n c.args.s.now (state_of c.args.run.now.state)) (statements (kinds_of c.args.leaf.now) c.args.n c.deref.result.now (state_of c.note-in-Given.new.run.state))
+    (if_begins (numbers c.args.streams.now) (kinds_of c.args.leaf.now) c.args.n c.args.s.now c.in-If.e c.in-If.left c.in-If.right c.deref.result.now (point c.args.lists.now c.args.run.now) (point c.args.lists.now c.run_expr.new.run) (point c.args.lists.now c.note-in-Given.new.run) c.in_ok-m-in-If.field-0 c.in-Given.v c.in-If.is c.in-Given.is c.in_ok-m-in-If.ensures.value c.in_ok-note-in-Given.ensures.ticks (ap (λ (v : Vec ℕ Global). feed c.args.lists.now v.items) c.in_ok-note-in-Given.ensures.heads) (ap state_of (sym (c.in_ok-note-in-Given.ensures.state ∙ c.in_ok-m-in-If.ensures.state))) (code_at_zero c.in-Given.v c.in-If.right.items c.in-If.left.items c.if-v-eq0.true ∙ sym c.deref.ensures.value))
     h)
     c.run_block.ensures.flow
 
 pub run_stmt-returns-else-v-eq0-clause-flow : goal.run_stmt-returns-else-v-eq0-clause-flow
 run_stmt-returns-else-v-eq0-clause-flow t c =
     IfOk-weaker c.run_block-else-v-eq0.result
-    (λ x. GivesFlow (numbers c.args.streams.now) x (point c.args.lists.now c.note-in-Given-12.new.run) (statements (kinds_of c.args.leaf.now) c.args.n c.deref-else-v-eq0.result.now (state_of c.note-in-Given-12.new.run.state)) (point c.args.lists.now c.run_block-else-v-eq0.new.run))
+    (λ x. GivesFlow (numbers c.args.streams.now) x (point c.args.lists.now c.note-in-Given.new.run) (statements (kinds_of c.args.leaf.now) c.args.n c.deref-else-v-eq0.result.now (state_of c.note-in-Given.new.run.state)) (point c.args.lists.now c.run_block-else-v-eq0.new.run))
     (λ x. GivesFlow (numbers c.args.streams.now) x (point c.args.lists.now c.args.run.now) (stmt (kinds_of c.args.leaf.now) c.args.n c.args.s.now (state_of c.args.run.now.state)) (point c.args.lists.now c.run_block-else-v-eq0.new.run))
-    (λ x h. flow_after (numbers c.args.streams.now) x (point c.args.lists.now c.args.run.now) (point c.args.lists.now c.note-in-Given-12.new.run) (point c.args.lists.now c.run_block-else-v-eq0.new.run) (stmt (kinds_of c.args.leaf.now) c.args.n c.args.s.now (state_of c.args.run.now.state)) (statements (kinds_of c.args.leaf.now) c.args.n c.deref-else-v-eq0.result.now (state_of c.note-in-Given-12.new.run.state))
-    (if_begins (numbers c.args.streams.now) (kinds_of c.args.leaf.now) c.args.n c.args.s.now c.in-If.e c.in-If.left c.in-If.right c.deref-else-v-eq0.result.now (point c.args.lists.now c.args.run.now) (point c.args.lists.now c.run_expr-in-If.new.run) (point c.args.lists.now c.note-in-Given-12.new.run) c.in_ok-m-in-If.field-0 c.in-Given-12.v c.in-If.is c.in-Given-12.is c.in_ok-m-in-If.ensures.value c.in_ok-note-in-Given-12.ensures.ticks (ap (λ (v : Vec ℕ Global). feed c.args.lists.now v.items) c.in_ok-note-in-Given-12.ensures.heads) (ap state_of (sym (c.in_ok-note-in-Given-12.ensures.state ∙ c.in_ok-m-in-If.ensures.state))) (code_not_zero c.in-Given-12.v c.in-If.right.items c.in-If.left.items c.if-v-eq0.false ∙ sym c.deref-else-v-eq0.ensures.value))
+    (λ x h. flow_after (numbers c.args.streams.now) x (point c.args.lists.now c.args.run.now) (point c.args.lists.now c.note-in-Given.new.run) (point c.args.lists.now c.run_block-else-v-eq0.new.run) (stmt (kinds_of c.args.leaf.now) c.args.n c.args.s.now (state_of c.args.run.now.state)) (statements (kinds_of c.args.leaf.now) c.args.n c.deref-else-v-eq0.result.now (state_of c.note-in-Given.new.run.state))
+    (if_begins (numbers c.args.streams.now) (kinds_of c.args.leaf.now) c.args.n c.args.s.now c.in-If.e c.in-If.left c.in-If.right c.deref-else-v-eq0.result.now (point c.args.lists.now c.args.run.now) (point c.args.lists.now c.run_expr.new.run) (point c.args.lists.now c.note-in-Given.new.run) c.in_ok-m-in-If.field-0 c.in-Given.v c.in-If.is c.in-Given.is c.in_ok-m-in-If.ensures.value c.in_ok-note-in-Given.ensures.ticks (ap (λ (v : Vec ℕ Global). feed c.args.lists.now v.items) c.in_ok-note-in-Given.ensures.heads) (ap state_of (sym (c.in_ok-note-in-Given.ensures.state ∙ c.in_ok-m-in-If.ensures.state))) (code_not_zero c.in-Given.v c.in-If.right.items c.in-If.left.items c.if-v-eq0.false ∙ sym c.deref-else-v-eq0.ensures.value))
     h)
     c.run_block-else-v-eq0.ensures.flow
 
