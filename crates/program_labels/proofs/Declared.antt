@@ -11,20 +11,20 @@ use Rattle.tapa_syntax.specs.declared.tree.Parameter.TheVariants as parameter
 use Rattle.tapa_syntax.specs.Characters.{Bytes}
 use Rattle.tapa_syntax.specs.Trees as tree
 use Rattle.tapa_syntax.specs.Trees.{StreamTree, BodyTree, TaskTree, ItemTree}
-use Rattle.scope_check.specs.declared.fault.CheckCode.TheVariants.{C2}
-use Rattle.scope_check.specs.declared.sort.Sort.{Sort}
-use Rattle.scope_check.specs.declared.sort.Sort.TheVariants as sort
-use Rattle.scope_check.specs.Scopes.{Block, Scope, in_block, sort_here, declaring}
-use Rattle.scope_check.specs.Faults.{is_there, doubled}
-use Rattle.expression_check.specs.Expressions.{wanted, constant_value}
-use Rattle.leaf_check.specs.Statements.{statements_faults, codes_of}
-use Rattle.leaf_check.specs.Leaves as leaf
-use Rattle.leaf_check.specs.Leaves.{Head}
-use Rattle.upper_check.specs.declared.task.Channel.{Channel}
-use Rattle.upper_check.specs.Tasks.{Body, leaf_body, upper_body, Task}
-use Rattle.upper_check.specs.Uppers as upper
-use Rattle.upper_check.specs.Uppers.{Signature, Channels}
-use Rattle.upper_check.specs.Items.{Items, no_items, with_task, body_of, body_faults, after_task, after_item, item_faults, after_items, items_faults, tasks_of}
+use Rattle.check_scope.specs.declared.fault.CheckCode.TheVariants.{C2}
+use Rattle.check_scope.specs.declared.sort.Sort.{Sort}
+use Rattle.check_scope.specs.declared.sort.Sort.TheVariants as sort
+use Rattle.check_scope.specs.Scopes.{Block, Scope, in_block, sort_here, declaring}
+use Rattle.check_scope.specs.Faults.{is_there, doubled}
+use Rattle.check_expression.specs.Expressions.{wanted, constant_value}
+use Rattle.check_leaf.specs.Statements.{statements_faults, codes_of}
+use Rattle.check_leaf.specs.Leaves as leaf
+use Rattle.check_leaf.specs.Leaves.{Head}
+use Rattle.check_upper.specs.declared.task.Channel.{Channel}
+use Rattle.check_upper.specs.Tasks.{Body, leaf_body, upper_body, Task}
+use Rattle.check_upper.specs.Uppers as upper
+use Rattle.check_upper.specs.Uppers.{Signature, Channels}
+use Rattle.check_upper.specs.Items.{Items, no_items, with_task, body_of, body_faults, after_task, after_item, item_faults, after_items, items_faults, tasks_of}
 use Rattle.stream_check.proofs.WellLists.{nothing, the_same, no_faults, holds_not}
 use Rattle.program_labels.specs.Labels.{IsPlainName, AreApart}
 use Rattle.program_labels.specs.Named.{parameter_name, NamesStreams, IsNamedTask, IsNamedItem, AreNamed}

@@ -7,12 +7,12 @@ use Rattle.tapa_syntax.specs.Spans.{Each}
 use Rattle.tapa_syntax.specs.Symbols.{Symbol}
 use Rattle.tapa_syntax.specs.Trees as tree
 use Rattle.tapa_syntax.specs.Trees.{BodyTree, InvocationTree, TaskTree, ItemTree}
-use Rattle.scope_check.specs.Scopes.{Block, Scope}
-use Rattle.upper_check.specs.declared.task.Channel.{Channel}
-use Rattle.upper_check.specs.Items as items
-use Rattle.upper_check.specs.Items.{Items, no_items, with_task, after_item, after_items, items_faults, tasks_of}
-use Rattle.upper_check.specs.Tasks.{Invocation, Body, leaf_body, upper_body, Task}
-use Rattle.upper_check.specs.Uppers.{invocations_of, after_streams, streams_begin}
+use Rattle.check_scope.specs.Scopes.{Block, Scope}
+use Rattle.check_upper.specs.declared.task.Channel.{Channel}
+use Rattle.check_upper.specs.Items as items
+use Rattle.check_upper.specs.Items.{Items, no_items, with_task, after_item, after_items, items_faults, tasks_of}
+use Rattle.check_upper.specs.Tasks.{Invocation, Body, leaf_body, upper_body, Task}
+use Rattle.check_upper.specs.Uppers.{invocations_of, after_streams, streams_begin}
 use Rattle.stream_check.proofs.WellLists as lists
 use Rattle.stream_check.proofs.WellLists.{each_get}
 use Rattle.stream_check.proofs.WellPorts.{Ports, ports_of}

@@ -6,10 +6,10 @@ use Rattle.std.proofs.lemmas.List.{append-nil}
 use Rattle.tapa_base.specs.declared.text.Place.{Place}
 use Rattle.tapa_syntax.specs.Characters.{Bytes}
 use Rattle.tapa_syntax.specs.Flat.{FlatInstance}
-use Rattle.upper_check.specs.declared.task.Channel.{Channel}
-use Rattle.upper_check.specs.declared.task.Link.{Link}
-use Rattle.upper_check.specs.declared.task.Link.TheVariants.{OwnStream, StreamParameter, MemoryParameter, ScalarParameter, Constant}
-use Rattle.upper_check.specs.Tasks.{Invocation, Body, leaf_body, upper_body, Task}
+use Rattle.check_upper.specs.declared.task.Channel.{Channel}
+use Rattle.check_upper.specs.declared.task.Link.{Link}
+use Rattle.check_upper.specs.declared.task.Link.TheVariants.{OwnStream, StreamParameter, MemoryParameter, ScalarParameter, Constant}
+use Rattle.check_upper.specs.Tasks.{Invocation, Body, leaf_body, upper_body, Task}
 use Rattle.stream_check.specs.Parts.{Part, own, instance, too_deep, streams_in, instances_in, below, instance_name, name_of, bind, bind_all, unbound, invoked, own_parts, Expands, chain_parts, body_of, body_parts, deepest_parts, parts_of}
 use Rattle.program_labels.specs.Labels.{IsPlainName, IsLabel}
 use Rattle.program_labels.specs.Owned.{HasOwnNames}

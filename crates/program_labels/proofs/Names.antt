@@ -8,7 +8,7 @@ use Rattle.tapa_syntax.specs.declared.tree.Parameter.{Parameter}
 use Rattle.tapa_syntax.specs.declared.tree.Parameter.TheVariants as parameter
 use Rattle.tapa_syntax.specs.Characters.{Bytes}
 use Rattle.tapa_syntax.specs.Flat.{FlatInstance, FlatLeaf}
-use Rattle.upper_check.specs.Tasks.{Body, leaf_body, upper_body, Task}
+use Rattle.check_upper.specs.Tasks.{Body, leaf_body, upper_body, Task}
 use Rattle.stream_check.specs.Programs.{memories_of, scalars_of, leaf_in, is_among, bodies_of}
 use Rattle.program_labels.specs.Named.{parameter_name}
 use Rattle.program_labels.proofs.Apart.{all_both, Avoids, Distinct, distinct_append}

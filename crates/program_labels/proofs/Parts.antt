@@ -4,10 +4,10 @@ use Rattle.std.specs.Prelude.{nat_le, slice_get}
 use Rattle.std.specs.List.{list_any, AllByRecursion}
 use Rattle.tapa_syntax.specs.declared.program.Stream.{Stream}
 use Rattle.tapa_syntax.specs.Flat.{FlatInstance}
-use Rattle.scope_check.specs.declared.fault.CheckCode.TheVariants.{C3}
-use Rattle.scope_check.specs.Faults.{over, where_so}
-use Rattle.upper_check.specs.declared.task.Channel.{Channel}
-use Rattle.upper_check.specs.Tasks.{Invocation, Body, leaf_body, upper_body, Task}
+use Rattle.check_scope.specs.declared.fault.CheckCode.TheVariants.{C3}
+use Rattle.check_scope.specs.Faults.{over, where_so}
+use Rattle.check_upper.specs.declared.task.Channel.{Channel}
+use Rattle.check_upper.specs.Tasks.{Invocation, Body, leaf_body, upper_body, Task}
 use Rattle.stream_check.specs.Parts.{Part, own, instance, too_deep, streams_in, instances_in}
 use Rattle.stream_check.specs.Programs.{is_stream_parameter, is_upper, top_faults, top_instance, top_parts, limit_faults, bindings_faults, parts_faults, body_numbers, with_body, streams_of, program_made, top_task_faults, whole_faults, top_program, whole_program}
 use Rattle.stream_check.proofs.WellLists.{both, holds, no_faults}

@@ -2,8 +2,8 @@
 use Rattle.std.specs.Prelude.{◌≡◌, ℕ, List, map, Some, slice_get}
 use Rattle.std.specs.List.{AllByRecursion}
 use Rattle.tapa_syntax.specs.Flat.{FlatLeaf}
-use Rattle.upper_check.specs.declared.task.Channel.{Channel}
-use Rattle.upper_check.specs.Tasks.{Invocation, Task, leaf_body, upper_body}
+use Rattle.check_upper.specs.declared.task.Channel.{Channel}
+use Rattle.check_upper.specs.Tasks.{Invocation, Task, leaf_body, upper_body}
 use Rattle.program_labels.specs.Labels.{IsPlainName, AreApart}
 use Rattle.program_labels.specs.Named.{parameter_name}
 

@@ -10,14 +10,14 @@ use Rattle.tapa_syntax.specs.Trees.{ItemTree}
 use Rattle.tapa_lex.specs.declared.fault.LexCode.{LexCode}
 use Rattle.tapa_lex.specs.Refusals.{IsRefused}
 use Rattle.tapa_lex.proofs.Whole.{one_list, not_both}
-use Rattle.expression_parse.specs.declared.fault.ParseCode.{ParseCode}
-use Rattle.expression_parse.specs.Readers.{Outcome}
+use Rattle.tapa_parse_expression.specs.declared.fault.ParseCode.{ParseCode}
+use Rattle.tapa_parse_expression.specs.Readers.{Outcome}
 use Rattle.tapa_parse.specs.Answers.{stopped_at}
 use Rattle.tapa_parse.specs.Reading as reading
 use Rattle.tapa_parse.proofs.CompleteFiles.{file_complete, one_tree}
 use Rattle.tapa_parse.proofs.SoundTasks.{found_sound}
-use Rattle.scope_check.specs.Answers.{IsFirst}
-use Rattle.scope_check.specs.declared.fault.Broken.{Broken}
+use Rattle.check_scope.specs.Answers.{IsFirst}
+use Rattle.check_scope.specs.declared.fault.Broken.{Broken}
 use Rattle.stream_check.specs.Programs.{program_faults}
 use Rattle.source_refusal.specs.Told.{HasFile, IsLegal, IsUnread, BreaksRule, IsRefusedSomehow}
 use Rattle.source_refusal.proofs.Read.{lexemes_or_refusal}

@@ -9,11 +9,11 @@ use Rattle.tapa_syntax.specs.Symbols.{Symbol, symbols_of}
 use Rattle.tapa_syntax.specs.Trees.{ItemTree}
 use Rattle.tapa_lex.specs.declared.fault.LexCode.{LexCode}
 use Rattle.tapa_lex.specs.Refusals.{IsRefused}
-use Rattle.expression_parse.specs.declared.fault.ParseCode.{ParseCode}
+use Rattle.tapa_parse_expression.specs.declared.fault.ParseCode.{ParseCode}
 use Rattle.tapa_parse.specs.Answers.{stopped_at}
 use Rattle.tapa_parse.specs.Reading as reading
-use Rattle.scope_check.specs.Answers.{IsFirst}
-use Rattle.scope_check.specs.declared.fault.Broken.{Broken}
+use Rattle.check_scope.specs.Answers.{IsFirst}
+use Rattle.check_scope.specs.declared.fault.Broken.{Broken}
 use Rattle.stream_check.specs.Programs.{program_faults}
 
 -- the text has lexemes, and the grammar has this file for them, within the limits

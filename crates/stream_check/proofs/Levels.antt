@@ -3,8 +3,8 @@ use Rattle.std.proofs.Common.{◌≡◌, ◌<◌, ◌-◌, ℕ, zero, suc, List,
 use Rattle.std.specs.Prelude.{slice_get}
 use Rattle.tapa_base.specs.declared.text.Place.{Place}
 use Rattle.tapa_syntax.specs.Flat.{FlatInstance, FlatLeaf}
-use Rattle.upper_check.specs.declared.task.Channel.{Channel}
-use Rattle.upper_check.specs.Tasks.{Invocation, Task, leaf_body, upper_body}
+use Rattle.check_upper.specs.declared.task.Channel.{Channel}
+use Rattle.check_upper.specs.Tasks.{Invocation, Task, leaf_body, upper_body}
 use Rattle.stream_check.specs.Parts.{instance, too_deep, own_parts, followed, chain_parts, body_of, body_parts, deepest_parts, parts_of}
 use Rattle.stream_check.specs.Views.{upper_parts}
 

@@ -1,10 +1,10 @@
 -- Parts that are added in turn.
 use Rattle.std.proofs.Common.{◌≡◌, ◌+◌, ℕ, suc, List, [], ◌∷◌, ◌++◌, length, refl, sym, ap, subst, ◌∙◌, append_assoc, length-append, arith}
 use Rattle.std.specs.Prelude.{Err, Result, nat_le}
-use Rattle.scope_check.specs.Answers.{Answers}
-use Rattle.scope_check.specs.declared.fault.Broken.{Broken}
-use Rattle.scope_check.specs.declared.fault.CheckFault.{CheckFault}
-use Rattle.scope_check.specs.Faults.{over, where_so}
+use Rattle.check_scope.specs.Answers.{Answers}
+use Rattle.check_scope.specs.declared.fault.Broken.{Broken}
+use Rattle.check_scope.specs.declared.fault.CheckFault.{CheckFault}
+use Rattle.check_scope.specs.Faults.{over, where_so}
 use Rattle.stream_check.specs.Parts.{Part, own, instance, too_deep, streams_in, instances_in, followed}
 use Rattle.stream_check.specs.Programs.{limit_faults, most_levels}
 use Rattle.stream_check.specs.Views.{Flat, flat_faults, with_parts}

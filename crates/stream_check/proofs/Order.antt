@@ -1,10 +1,10 @@
 -- The first of the faults of several parts, where they are told one after the other.
 use Rattle.std.proofs.Common.{◌≡◌, ◌<◌, ◌+◌, ℕ, List, [], ◌∷◌, ◌++◌, length, get_or, drop, sym, subst, ◌∙◌, ap, drop-cons, suc, arith}
 use Rattle.std.specs.Prelude.{Err}
-use Rattle.scope_check.specs.declared.fault.Broken.{Broken}
-use Rattle.scope_check.specs.declared.fault.CheckFault.{CheckFault}
-use Rattle.scope_check.specs.declared.fault.CheckFault.TheVariants.{At, OutOfMemory}
-use Rattle.scope_check.specs.Answers.{Answers}
+use Rattle.check_scope.specs.declared.fault.Broken.{Broken}
+use Rattle.check_scope.specs.declared.fault.CheckFault.{CheckFault}
+use Rattle.check_scope.specs.declared.fault.CheckFault.TheVariants.{At, OutOfMemory}
+use Rattle.check_scope.specs.Answers.{Answers}
 
 fails : {A B C D : Type 0} (view : A → B) (other : C → D) (e : CheckFault) (fs gs : List Broken) (m : B) (n : D) → Answers view (Err e) fs m → Answers other (Err e) (fs ++ gs) n
 fails view other (At b) (f ∷ fs) gs m n h = h

@@ -3,7 +3,7 @@ use Rattle.std.proofs.Common.{◌≡◌, ◌<◌, ◌+◌, ℕ, zero, suc, List,
 use Rattle.std.specs.Prelude.{slice_get, ◌==◌, if◌then◌else◌}
 use Rattle.std.proofs.lemmas.Bool.{eqb-true, eq-eqb}
 use Rattle.tapa_syntax.specs.Flat.{FlatInstance, FlatLeaf}
-use Rattle.upper_check.specs.Tasks.{Body, leaf_body, upper_body, Task}
+use Rattle.check_upper.specs.Tasks.{Body, leaf_body, upper_body, Task}
 use Rattle.stream_check.specs.Programs.{is_used, body_numbers, leaf_in, is_among, bodies_of, place_among}
 use Rattle.stream_check.proofs.WellLists.{nothing, the_same, Each, each_append}
 use Rattle.stream_check.proofs.WellPorts.{Ports, ports_of, LeafFits}

@@ -1,8 +1,8 @@
 -- Lists, place by place.
 use Rattle.std.proofs.Common.{◌≡◌, ◌+◌, ℕ, zero, suc, List, [], ◌∷◌, ◌++◌, length, map, Bool, true, false, not, ◌&&◌, Some, None, refl, ap, subst, arith}
 use Rattle.std.specs.Prelude.{slice_get}
-use Rattle.scope_check.specs.declared.fault.Broken.{Broken}
-use Rattle.scope_check.specs.Faults.{where_so}
+use Rattle.check_scope.specs.declared.fault.Broken.{Broken}
+use Rattle.check_scope.specs.Faults.{where_so}
 
 pub nothing : {A : Type 0} (x : A) → None ≡ Some x → ⊥
 nothing x h = cc

@@ -10,12 +10,12 @@ use Rattle.tapa_syntax.specs.declared.tree.Parameter.{Parameter}
 use Rattle.tapa_syntax.specs.declared.tree.Parameter.TheVariants as parameter
 use Rattle.tapa_syntax.specs.Flat.{FlatBound, number, top_scalar, FlatInstance, FlatLeaf}
 use Rattle.tapa_syntax.specs.WellFormed.{last_kind}
-use Rattle.expression_check.specs.Kinds.{same_kind}
-use Rattle.expression_check.proofs.Values.{converted_fits}
-use Rattle.upper_check.specs.declared.task.Channel.{Channel}
-use Rattle.upper_check.specs.declared.task.Link.{Link}
-use Rattle.upper_check.specs.declared.task.Link.TheVariants.{OwnStream, StreamParameter, MemoryParameter, ScalarParameter, Constant}
-use Rattle.upper_check.specs.Tasks.{Invocation, Body, leaf_body, upper_body, Task}
+use Rattle.check_expression.specs.Kinds.{same_kind}
+use Rattle.check_expression.proofs.Values.{converted_fits}
+use Rattle.check_upper.specs.declared.task.Channel.{Channel}
+use Rattle.check_upper.specs.declared.task.Link.{Link}
+use Rattle.check_upper.specs.declared.task.Link.TheVariants.{OwnStream, StreamParameter, MemoryParameter, ScalarParameter, Constant}
+use Rattle.check_upper.specs.Tasks.{Invocation, Body, leaf_body, upper_body, Task}
 use Rattle.stream_check.specs.Parts as part
 use Rattle.stream_check.specs.Parts.{Part, own, instance, too_deep, streams_in, instances_in, below, instance_name, name_of, passed, bound_or_zero, bind, bind_all, unbound, invoked, labelled, own_parts, Expands, followed, chain_parts, body_of, body_parts, deepest_parts, parts_of}
 use Rattle.stream_check.proofs.WellLists.{Each, each_append, each_get, get_map, Contains, contains_left, contains_right, Pairs, pairs_left, pairs_push}

@@ -10,14 +10,14 @@ use Rattle.tapa_syntax.specs.declared.tree.Parameter.{Parameter}
 use Rattle.tapa_syntax.specs.declared.tree.Parameter.TheVariants as parameter
 use Rattle.tapa_syntax.specs.Trees.{Statements, TaskTree}
 use Rattle.tapa_syntax.specs.Flat.{FlatLeaf}
-use Rattle.scope_check.specs.declared.sort.Sort.{Sort}
-use Rattle.scope_check.specs.declared.sort.Sort.TheVariants as sort
-use Rattle.scope_check.specs.Scopes.{Block, Scope, in_block, first_of, sort_of, declaring, IsSound}
-use Rattle.leaf_check.specs.Laws.{IsGlobal, AreGlobal}
-use Rattle.leaf_check.specs.Leaves as leaf
-use Rattle.leaf_check.specs.Leaves.{Head, leaf_of, leaf_faults}
-use Rattle.upper_check.specs.declared.task.Channel.{Channel}
-use Rattle.upper_check.specs.Tasks.{Task}
+use Rattle.check_scope.specs.declared.sort.Sort.{Sort}
+use Rattle.check_scope.specs.declared.sort.Sort.TheVariants as sort
+use Rattle.check_scope.specs.Scopes.{Block, Scope, in_block, first_of, sort_of, declaring, IsSound}
+use Rattle.check_leaf.specs.Laws.{IsGlobal, AreGlobal}
+use Rattle.check_leaf.specs.Leaves as leaf
+use Rattle.check_leaf.specs.Leaves.{Head, leaf_of, leaf_faults}
+use Rattle.check_upper.specs.declared.task.Channel.{Channel}
+use Rattle.check_upper.specs.Tasks.{Task}
 use Rattle.stream_check.proofs.WellLists.{nothing, the_same, Each, each_append, each_more, get_left, get_last, Pairs, pairs_push, pairs_more}
 use Rattle.stream_check.proofs.WellValues.{Sound}
 use Rattle.stream_check.proofs.WellVariables.{HasVariable, after_statements}

@@ -21,11 +21,11 @@ use Rattle.tapa_syntax.specs.Trees.{ItemTree, TaskTree}
 use Rattle.tapa_syntax.specs.Flat.{FlatInstance, FlatLeaf, FlatProgram, flat_bound, flat_instance, flat_leaf, flat_program}
 use Rattle.tapa_syntax.specs.WellFormed as well
 use Rattle.tapa_syntax.specs.WellFormed.{IsBoundTo, IsEndOf, IsInstance, IsJoined, IsMemoryAt, IsStreamAt, IsWellFormed}
-use Rattle.scope_check.specs.declared.fault.CheckCode.TheVariants.{C3}
-use Rattle.leaf_check.proofs.Leaves.{leaf_well}
-use Rattle.upper_check.specs.declared.task.Channel.{Channel}
-use Rattle.upper_check.specs.Items.{no_items, items_faults, tasks_of}
-use Rattle.upper_check.specs.Tasks.{leaf_body, Task, task_place}
+use Rattle.check_scope.specs.declared.fault.CheckCode.TheVariants.{C3}
+use Rattle.check_leaf.proofs.Leaves.{leaf_well}
+use Rattle.check_upper.specs.declared.task.Channel.{Channel}
+use Rattle.check_upper.specs.Items.{no_items, items_faults, tasks_of}
+use Rattle.check_upper.specs.Tasks.{leaf_body, Task, task_place}
 use Rattle.stream_check.specs.Parts.{streams_in, instances_in}
 use Rattle.stream_check.specs.Programs.{is_stream_parameter, is_upper, top_faults, top_instance, all_levels, top_parts, parts_faults, top_task_faults, top_program, limit_faults, ends_in, ends_of, instances_at, instances_with, is_one, the_one, stream_of, streams_faults, streams_of, memories_faults, memories_of, scalars_of, is_used, body_numbers, bodies_of, with_body, bindings_faults, whole_faults, program_faults, program_made, program_of}
 use Rattle.stream_check.proofs.WellLists.{the_same, both, not_so, no_faults, holds, Each, each_get, get_map, get_unmap, length_map, Pairs, pairs_length, pairs_get, pairs_right}

@@ -5,13 +5,13 @@ use Rattle.std.specs.List.{list_any}
 use Rattle.std.proofs.lemmas.Slice.Eq.{bytes_eq-Decides}
 use Rattle.tapa_syntax.specs.Trees as tree
 use Rattle.tapa_syntax.specs.Trees.{BodyTree, TaskTree, ItemTree}
-use Rattle.scope_check.specs.declared.sort.Sort.{Sort}
-use Rattle.scope_check.specs.declared.sort.Sort.TheVariants as sort
-use Rattle.expression_check.specs.Expressions.{constant_value, wanted}
-use Rattle.scope_check.specs.Faults.{doubled}
-use Rattle.upper_check.specs.Tasks.{Invocation, Body, leaf_body, upper_body, Task}
-use Rattle.upper_check.specs.declared.task.Channel.{Channel}
-use Rattle.upper_check.specs.Items.{Items, no_items, with_task, body_of, body_faults, after_task, after_item, item_faults, after_items, items_faults, tasks_of}
+use Rattle.check_scope.specs.declared.sort.Sort.{Sort}
+use Rattle.check_scope.specs.declared.sort.Sort.TheVariants as sort
+use Rattle.check_expression.specs.Expressions.{constant_value, wanted}
+use Rattle.check_scope.specs.Faults.{doubled}
+use Rattle.check_upper.specs.Tasks.{Invocation, Body, leaf_body, upper_body, Task}
+use Rattle.check_upper.specs.declared.task.Channel.{Channel}
+use Rattle.check_upper.specs.Items.{Items, no_items, with_task, body_of, body_faults, after_task, after_item, item_faults, after_items, items_faults, tasks_of}
 use Rattle.stream_check.proofs.WellLists.{no_faults, Each, each_append, each_more, get_left}
 use Rattle.stream_check.proofs.WellValues.{wanted_fits}
 use Rattle.stream_check.proofs.WellPorts.{Ports, no_ports, ports_of, LeafFits, leaf_fits, IsNamed, Means, MeansInFile, Declares, declares_more, in_task, scope_sound, file_global}

@@ -12,12 +12,12 @@ use Rattle.tapa_syntax.specs.declared.program.Stream.{Stream}
 use Rattle.tapa_syntax.specs.declared.tree.Parameter.{Parameter}
 use Rattle.tapa_syntax.specs.declared.tree.Parameter.TheVariants as parameter
 use Rattle.tapa_syntax.specs.Flat.{FlatBound, top_scalar, FlatInstance}
-use Rattle.scope_check.specs.declared.fault.Broken.{Broken}
-use Rattle.scope_check.specs.declared.fault.CheckCode.{CheckCode}
-use Rattle.scope_check.specs.declared.fault.CheckCode.TheVariants.{C4, C5, C7, C11}
-use Rattle.scope_check.specs.Faults.{over, where_so}
-use Rattle.upper_check.specs.declared.task.Channel.{Channel}
-use Rattle.upper_check.specs.Tasks.{Task}
+use Rattle.check_scope.specs.declared.fault.Broken.{Broken}
+use Rattle.check_scope.specs.declared.fault.CheckCode.{CheckCode}
+use Rattle.check_scope.specs.declared.fault.CheckCode.TheVariants.{C4, C5, C7, C11}
+use Rattle.check_scope.specs.Faults.{over, where_so}
+use Rattle.check_upper.specs.declared.task.Channel.{Channel}
+use Rattle.check_upper.specs.Tasks.{Task}
 use Rattle.stream_check.specs.Parts.{Part, own, instance, too_deep, streams_in, instances_in}
 use Rattle.stream_check.specs.Programs.{is_stream_parameter, top_scalars, top_memories, top_instance, limit_faults, instances_at, instances_with, is_one, the_one, one_faults, stream_faults, stream_of, streams_faults, streams_of, memories_faults, memories_of, scalars_of}
 use Rattle.stream_check.proofs.WellLists.{nothing, the_same, no_faults, holds, get_left, get_last, Pairs, pairs_push}

@@ -13,23 +13,23 @@ use Rattle.tapa_syntax.specs.declared.tree.Parameter.{Parameter}
 use Rattle.tapa_syntax.specs.declared.tree.Parameter.TheVariants as parameter
 use Rattle.tapa_syntax.specs.Trees as tree
 use Rattle.tapa_syntax.specs.Trees.{ExpressionTree, CountTree, StreamTree, ArgumentTree, InvocationTree, TaskTree}
-use Rattle.scope_check.specs.declared.fault.Broken.{Broken}
-use Rattle.scope_check.specs.declared.sort.Sort.{Sort}
-use Rattle.scope_check.specs.declared.sort.Sort.TheVariants as sort
-use Rattle.scope_check.specs.Scopes.{Block, Scope, sort_of}
-use Rattle.scope_check.specs.declared.fault.CheckCode.{CheckCode}
-use Rattle.scope_check.specs.declared.fault.CheckCode.TheVariants.{C3, C10, C11}
-use Rattle.scope_check.specs.Faults.{fault, over, where_so, wrong_sort}
-use Rattle.expression_check.specs.Expressions.{is_constant, constant_faults}
-use Rattle.expression_check.specs.Counts.{count_of, form_faults, most_of_count}
-use Rattle.expression_check.specs.Kinds.{same_kind}
+use Rattle.check_scope.specs.declared.fault.Broken.{Broken}
+use Rattle.check_scope.specs.declared.sort.Sort.{Sort}
+use Rattle.check_scope.specs.declared.sort.Sort.TheVariants as sort
+use Rattle.check_scope.specs.Scopes.{Block, Scope, sort_of}
+use Rattle.check_scope.specs.declared.fault.CheckCode.{CheckCode}
+use Rattle.check_scope.specs.declared.fault.CheckCode.TheVariants.{C3, C10, C11}
+use Rattle.check_scope.specs.Faults.{fault, over, where_so, wrong_sort}
+use Rattle.check_expression.specs.Expressions.{is_constant, constant_faults}
+use Rattle.check_expression.specs.Counts.{count_of, form_faults, most_of_count}
+use Rattle.check_expression.specs.Kinds.{same_kind}
 use Rattle.tapa_syntax.specs.Flat.{literal}
-use Rattle.upper_check.specs.declared.task.Channel.{Channel}
-use Rattle.upper_check.specs.declared.task.Link.{Link}
-use Rattle.upper_check.specs.declared.task.Link.TheVariants.{OwnStream, StreamParameter, MemoryParameter, ScalarParameter, Constant}
-use Rattle.upper_check.specs.Tasks.{Invocation, Task, task_place, parameters_of}
-use Rattle.upper_check.specs.Uppers as upper
-use Rattle.upper_check.specs.Uppers.{Signature, Channels, parameter_kind, is_bound_to, is_task}
+use Rattle.check_upper.specs.declared.task.Channel.{Channel}
+use Rattle.check_upper.specs.declared.task.Link.{Link}
+use Rattle.check_upper.specs.declared.task.Link.TheVariants.{OwnStream, StreamParameter, MemoryParameter, ScalarParameter, Constant}
+use Rattle.check_upper.specs.Tasks.{Invocation, Task, task_place, parameters_of}
+use Rattle.check_upper.specs.Uppers as upper
+use Rattle.check_upper.specs.Uppers.{Signature, Channels, parameter_kind, is_bound_to, is_task}
 use Rattle.stream_check.proofs.WellLists.{both, no_faults, holds, holds_not, Each, each_append, get_left, get_last, Pairs}
 use Rattle.stream_check.proofs.WellValues.{kinds_same, as_kind_fits, wanted_fits, constant_so}
 use Rattle.stream_check.proofs.WellPorts.{Ports, no_ports, end_of, with_stream, with_memory, with_scalar, with_port, with_ports, ports_of, IsNamed, Means, DeclareAll, found, declare, declare_all_more, scope_sound, means_more}

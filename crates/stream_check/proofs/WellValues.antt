@@ -17,16 +17,16 @@ use Rattle.tapa_syntax.specs.declared.tree.BinaryOperator.TheVariants.{Value, Lo
 use Rattle.tapa_syntax.specs.Flat.{FlatExpression, convert}
 use Rattle.tapa_syntax.specs.Trees as tree
 use Rattle.tapa_syntax.specs.Trees.{ExpressionTree}
-use Rattle.expression_check.specs.Expressions.{as_kind, operated, operated_kind, is_comparison, prefix_kind, prefix_value, binary_kind, binary_value, arm_kind, constant_value, constant_faults, is_constant, is_constant_name, kind_of, value_of, wanted, cell_value, named_value, called_value, Method, divides, divisor_faults}
-use Rattle.expression_check.specs.Expressions as meaning
-use Rattle.expression_check.specs.Kinds.{rank, same_kind}
+use Rattle.check_expression.specs.Expressions.{as_kind, operated, operated_kind, is_comparison, prefix_kind, prefix_value, binary_kind, binary_value, arm_kind, constant_value, constant_faults, is_constant, is_constant_name, kind_of, value_of, wanted, cell_value, named_value, called_value, Method, divides, divisor_faults}
+use Rattle.check_expression.specs.Expressions as meaning
+use Rattle.check_expression.specs.Kinds.{rank, same_kind}
 use Rattle.tapa_base.specs.declared.text.Place.{Place}
-use Rattle.scope_check.specs.declared.sort.Sort.{Sort}
-use Rattle.scope_check.specs.declared.sort.Sort.TheVariants as sort
-use Rattle.scope_check.specs.Faults.{wrong_sort}
-use Rattle.scope_check.specs.Scopes.{Scope, sort_of, kind_of_sort, IsSound}
-use Rattle.scope_check.specs.Scopes as scope
-use Rattle.expression_check.proofs.Values.{converted_fits, applied_fits, bit_fits}
+use Rattle.check_scope.specs.declared.sort.Sort.{Sort}
+use Rattle.check_scope.specs.declared.sort.Sort.TheVariants as sort
+use Rattle.check_scope.specs.Faults.{wrong_sort}
+use Rattle.check_scope.specs.Scopes.{Scope, sort_of, kind_of_sort, IsSound}
+use Rattle.check_scope.specs.Scopes as scope
+use Rattle.check_expression.proofs.Values.{converted_fits, applied_fits, bit_fits}
 use Rattle.stream_check.proofs.WellLists.{no_faults}
 
 abbrev kind_at : ℕ → Kind

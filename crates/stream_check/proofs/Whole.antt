@@ -4,11 +4,11 @@ use Rattle.std.specs.Prelude.{Err, Result, slice_get}
 use Rattle.tapa_syntax.specs.declared.program.Program.{Program}
 use Rattle.tapa_syntax.specs.Flat.{FlatProgram, flat_program}
 use Rattle.tapa_syntax.specs.Trees.{ItemTree}
-use Rattle.scope_check.specs.Answers.{Answers}
-use Rattle.scope_check.specs.declared.fault.Broken.{Broken}
-use Rattle.scope_check.specs.declared.fault.CheckFault.{CheckFault}
-use Rattle.upper_check.specs.Tasks.{Task, task_place}
-use Rattle.upper_check.specs.Items.{no_items, items_faults, tasks_of}
+use Rattle.check_scope.specs.Answers.{Answers}
+use Rattle.check_scope.specs.declared.fault.Broken.{Broken}
+use Rattle.check_scope.specs.declared.fault.CheckFault.{CheckFault}
+use Rattle.check_upper.specs.Tasks.{Task, task_place}
+use Rattle.check_upper.specs.Items.{no_items, items_faults, tasks_of}
 use Rattle.stream_check.specs.Parts.{streams_in, instances_in}
 use Rattle.stream_check.specs.Programs.{top_parts, top_faults, limit_faults, bindings_faults, program_made, parts_faults, top_task_faults, top_program, whole_faults, whole_program, all_levels, program_faults, program_of}
 use Rattle.stream_check.specs.Views.{Flat, flat_parts}

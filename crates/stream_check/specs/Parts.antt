@@ -5,11 +5,11 @@ use Rattle.tapa_base.specs.declared.kind.Kind.{Kind}
 use Rattle.tapa_base.specs.declared.text.Place.{Place}
 use Rattle.tapa_base.specs.Kinds.{converted, values_of}
 use Rattle.tapa_syntax.specs.Flat.{FlatBound, number, top_scalar, FlatInstance}
-use Rattle.expression_check.specs.Kinds.{same_kind}
-use Rattle.upper_check.specs.declared.task.Channel.{Channel}
-use Rattle.upper_check.specs.declared.task.Link.{Link}
-use Rattle.upper_check.specs.declared.task.Link.TheVariants.{OwnStream, StreamParameter, MemoryParameter, ScalarParameter, Constant}
-use Rattle.upper_check.specs.Tasks.{Invocation, Body, leaf_body, upper_body, Task}
+use Rattle.check_expression.specs.Kinds.{same_kind}
+use Rattle.check_upper.specs.declared.task.Channel.{Channel}
+use Rattle.check_upper.specs.declared.task.Link.{Link}
+use Rattle.check_upper.specs.declared.task.Link.TheVariants.{OwnStream, StreamParameter, MemoryParameter, ScalarParameter, Constant}
+use Rattle.check_upper.specs.Tasks.{Invocation, Body, leaf_body, upper_body, Task}
 
 -- a part of a task, in the order in which they are numbered
 pub data Part : Type 0 where

@@ -10,13 +10,13 @@ use Rattle.tapa_syntax.specs.declared.tree.Parameter.{Parameter}
 use Rattle.tapa_syntax.specs.declared.tree.Parameter.TheVariants as parameter
 use Rattle.tapa_syntax.specs.Trees.{TaskTree, ItemTree}
 use Rattle.tapa_syntax.specs.Flat.{FlatBound, top_scalar, FlatInstance, FlatLeaf, FlatProgram}
-use Rattle.scope_check.specs.declared.fault.Broken.{Broken}
-use Rattle.scope_check.specs.declared.fault.CheckCode.{CheckCode}
-use Rattle.scope_check.specs.declared.fault.CheckCode.TheVariants.{C1, C3, C4, C5, C7}
-use Rattle.scope_check.specs.Faults.{fault, over, where_so}
-use Rattle.upper_check.specs.declared.task.Channel.{Channel}
-use Rattle.upper_check.specs.Tasks.{Body, leaf_body, upper_body, Task, task_place}
-use Rattle.upper_check.specs.Items.{no_items, items_faults, tasks_of}
+use Rattle.check_scope.specs.declared.fault.Broken.{Broken}
+use Rattle.check_scope.specs.declared.fault.CheckCode.{CheckCode}
+use Rattle.check_scope.specs.declared.fault.CheckCode.TheVariants.{C1, C3, C4, C5, C7}
+use Rattle.check_scope.specs.Faults.{fault, over, where_so}
+use Rattle.check_upper.specs.declared.task.Channel.{Channel}
+use Rattle.check_upper.specs.Tasks.{Body, leaf_body, upper_body, Task, task_place}
+use Rattle.check_upper.specs.Items.{no_items, items_faults, tasks_of}
 use Rattle.stream_check.specs.Parts.{Part, own, instance, too_deep, streams_in, instances_in, parts_of}
 
 -- ---- the top task

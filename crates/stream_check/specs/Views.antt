@@ -2,16 +2,16 @@
 use denote.Ref.{Bor}
 use Rattle.std.specs.Prelude.{ℕ, zero, suc, List, [], ◌∷◌, ◌++◌, map, length, Option, Some, None, Result}
 use Rattle.tapa_syntax.specs.Flat.{FlatInstance, flat_instance}
-use Rattle.scope_check.specs.declared.fault.Broken.{Broken}
-use Rattle.scope_check.specs.declared.fault.CheckFault.{CheckFault}
-use Rattle.scope_check.specs.Answers.{Answers}
+use Rattle.check_scope.specs.declared.fault.Broken.{Broken}
+use Rattle.check_scope.specs.declared.fault.CheckFault.{CheckFault}
+use Rattle.check_scope.specs.Answers.{Answers}
 use Rattle.tapa_base.specs.declared.text.Place.{Place}
-use Rattle.upper_check.specs.declared.task.Body.{Body}
-use Rattle.upper_check.specs.declared.task.Channel.{Channel}
-use Rattle.upper_check.specs.declared.task.Task as table
-use Rattle.upper_check.specs.Tasks as task
-use Rattle.upper_check.specs.Tasks.{Invocation, Task}
-use Rattle.upper_check.specs.Views.{body_view, task_view}
+use Rattle.check_upper.specs.declared.task.Body.{Body}
+use Rattle.check_upper.specs.declared.task.Channel.{Channel}
+use Rattle.check_upper.specs.declared.task.Task as table
+use Rattle.check_upper.specs.Tasks as task
+use Rattle.check_upper.specs.Tasks.{Invocation, Task}
+use Rattle.check_upper.specs.Views.{body_view, task_view}
 use Rattle.stream_check.specs.declared.parts.Parts.{Parts}
 use Rattle.stream_check.specs.Parts.{Part, too_deep, streams_in, instances_in, own_parts, followed, chain_parts, parts_of}
 use Rattle.stream_check.specs.Programs.{limit_faults}

@@ -1,14 +1,14 @@
 ghost use Rattle.std.specs.Prelude.{◌≡◌, ◌++◌, [], length, map, slice_get};
 ghost use Rattle.tapa_syntax.specs.Flat.{flat_instance};
-ghost use Rattle.scope_check.specs.Answers.{Answers};
-ghost use Rattle.upper_check.specs.Views.{task_view};
+ghost use Rattle.check_scope.specs.Answers.{Answers};
+ghost use Rattle.check_upper.specs.Views.{task_view};
 ghost use Rattle.stream_check.specs.Programs as program;
 
-use scope_check::{CheckCode, CheckFault, copied, number_of, refused};
+use check_scope::{CheckCode, CheckFault, copied, number_of, refused};
 use std::alloc::Global;
 use tapa_base::Place;
 use tapa_syntax::{End, Instance, Memory, Parameter, Stream};
-use upper_check::{Body, Channel, Task};
+use check_upper::{Body, Channel, Task};
 
 /// The stream parameters of the leaf of a number.
 fn ends_at<'t>(tasks: &'t [Task], number: u32) -> &'t [End]

@@ -1,13 +1,13 @@
 ghost use Rattle.std.specs.Prelude.{◌≡◌, ◌++◌, [], map};
 ghost use Rattle.tapa_syntax.specs.Flat.{flat_instance, flat_leaf};
-ghost use Rattle.scope_check.specs.Answers.{Answers};
-ghost use Rattle.upper_check.specs.Views.{body_view, task_view};
+ghost use Rattle.check_scope.specs.Answers.{Answers};
+ghost use Rattle.check_upper.specs.Views.{body_view, task_view};
 ghost use Rattle.stream_check.specs.Programs as program;
 
-use scope_check::{CheckFault, next_number, number_of};
+use check_scope::{CheckFault, next_number, number_of};
 use std::alloc::Global;
 use tapa_syntax::{Instance, Leaf};
-use upper_check::{Body, Task};
+use check_upper::{Body, Task};
 
 fn is_used(instances: &[Instance], number: u32) -> bool
     ensures { result ≡ program.is_used (map flat_instance instances.now) number }

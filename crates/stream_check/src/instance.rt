@@ -1,17 +1,17 @@
 ghost use Rattle.std.specs.Prelude.{◌≡◌, ◌+◌, [], map, slice_get, slice_index};
 ghost use Rattle.std.specs.Str.{IsAscii};
 ghost use Rattle.tapa_syntax.specs.Flat.{flat_bound, flat_instance};
-ghost use Rattle.scope_check.specs.Answers.{Answers};
-ghost use Rattle.upper_check.specs.Views.{invocation_view, task_view};
+ghost use Rattle.check_scope.specs.Answers.{Answers};
+ghost use Rattle.check_upper.specs.Views.{invocation_view, task_view};
 ghost use Rattle.stream_check.specs.Parts as parts;
 
 use crate::label::{below, instance_name};
-use expression_check::{low_bits, same_kind};
-use scope_check::{CheckFault, number_of};
+use check_expression::{low_bits, same_kind};
+use check_scope::{CheckFault, number_of};
 use std::alloc::Global;
 use tapa_base::{Kind, convert};
 use tapa_syntax::{Bound, Instance};
-use upper_check::{Invoked, Link, Task};
+use check_upper::{Invoked, Link, Task};
 
 /// A value that is bound, converted from the first kind to the second.
 fn passed(alloc: Global, from: Kind, to: Kind, bound: &Bound) -> Result<Bound, CheckFault>

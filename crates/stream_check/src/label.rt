@@ -1,10 +1,10 @@
 ghost use Rattle.std.specs.Prelude.{◌≡◌, []};
 ghost use Rattle.std.specs.Str.{IsAscii};
-ghost use Rattle.scope_check.specs.Answers.{Answers};
+ghost use Rattle.check_scope.specs.Answers.{Answers};
 ghost use Rattle.stream_check.specs.Parts as parts;
 
 use itoa::Buffer;
-use scope_check::{CheckFault, copied};
+use check_scope::{CheckFault, copied};
 use std::alloc::Global;
 use tapa_base::Text;
 

@@ -12,4 +12,4 @@ mod top;
 
 pub use laws::law_legal_programs_are_well_formed;
 pub use program::check;
-pub use scope_check::{Broken, CheckCode, CheckFault};
+pub use check_scope::{Broken, CheckCode, CheckFault};

@@ -1,16 +1,16 @@
 ghost use Rattle.std.specs.Prelude.{◌≡◌, ◌∷◌, [], length, map, slice_get};
 ghost use Rattle.tapa_syntax.specs.Flat.{flat_instance};
-ghost use Rattle.upper_check.specs.Views.{invocation_view, task_view};
+ghost use Rattle.check_upper.specs.Views.{invocation_view, task_view};
 ghost use Rattle.stream_check.specs.Parts as spec;
 ghost use Rattle.stream_check.specs.Views.{AddsParts, body_found, upper_parts};
 
 use crate::instance::invoked;
 use crate::label::below;
-use scope_check::{CheckFault, number_of, over};
+use check_scope::{CheckFault, number_of, over};
 use std::alloc::Global;
 use tapa_base::{Place, Text};
 use tapa_syntax::Instance;
-use upper_check::{Body, Channel, Invoked, Task};
+use check_upper::{Body, Channel, Invoked, Task};
 
 /// The most streams of a program.
 const MOST_STREAMS: u32 = 1024;

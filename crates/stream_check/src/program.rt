@@ -3,8 +3,8 @@ ghost use Rattle.tapa_syntax.specs.Flat.{flat_instance, flat_program};
 ghost use Rattle.tapa_syntax.specs.WellFormed.{IsWellFormed};
 ghost use Rattle.tapa_syntax.specs.Trees as tree;
 ghost use Rattle.tapa_syntax.specs.Trees.{file_of};
-ghost use Rattle.scope_check.specs.Answers.{Answers};
-ghost use Rattle.upper_check.specs.Views.{task_view};
+ghost use Rattle.check_scope.specs.Answers.{Answers};
+ghost use Rattle.check_upper.specs.Views.{task_view};
 ghost use Rattle.stream_check.specs.Programs as spec;
 ghost use Rattle.stream_check.specs.Views.{flat_of, flat_parts, task_found};
 
@@ -12,10 +12,10 @@ use crate::bindings::{memories, streams};
 use crate::body::{bodies, body_numbers, instances_with_bodies};
 use crate::parts::{MOST_LEVELS, Parts, expand};
 use crate::top::{FIRST_PLACE, check_top, place_of, scalars, top_instance};
-use scope_check::{CheckCode, CheckFault, copied, refused};
+use check_scope::{CheckCode, CheckFault, copied, refused};
 use std::alloc::Global;
 use tapa_syntax::{File, Program, TaskDeclaration};
-use upper_check::{Task, check_items};
+use check_upper::{Task, check_items};
 
 /// The streams and leaf instances of a top task.
 fn parts_of(

@@ -1,16 +1,16 @@
 ghost use Rattle.std.specs.Prelude.{◌≡◌, ◌++◌, [], length, map};
 ghost use Rattle.std.specs.List.{list_any};
 ghost use Rattle.tapa_syntax.specs.Flat.{flat_bound, flat_instance};
-ghost use Rattle.scope_check.specs.Answers.{Answers};
-ghost use Rattle.upper_check.specs.Tasks as table;
-ghost use Rattle.upper_check.specs.Views.{body_view, task_view};
+ghost use Rattle.check_scope.specs.Answers.{Answers};
+ghost use Rattle.check_upper.specs.Tasks as table;
+ghost use Rattle.check_upper.specs.Views.{body_view, task_view};
 ghost use Rattle.stream_check.specs.Programs as program;
 
-use scope_check::{CheckCode, CheckFault, copied, number_of, refused};
+use check_scope::{CheckCode, CheckFault, copied, number_of, refused};
 use std::alloc::Global;
 use tapa_base::{Place, Text};
 use tapa_syntax::{Bound, Instance, Parameter, Scalar};
-use upper_check::{Body, Task};
+use check_upper::{Body, Task};
 
 /// Where a top task that is not there is told.
 pub(crate) const FIRST_PLACE: Place = Place { line: 1, col: 1 };

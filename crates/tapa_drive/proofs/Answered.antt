@@ -10,27 +10,27 @@ use Rattle.tapa_syntax.specs.Grammar.{IsTreeOf}
 use Rattle.tapa_syntax.specs.Limits.{most_levels, most_operators, IsWithinLimits}
 use Rattle.tapa_syntax.specs.Symbols.{symbols_of}
 use Rattle.tapa_syntax.specs.Trees.{ItemTree, file_of}
-use Rattle.expression_parse.specs.declared.fault.ParseCode.{ParseCode}
+use Rattle.tapa_parse_expression.specs.declared.fault.ParseCode.{ParseCode}
 use Rattle.tapa_parse.specs.declared.fault.ParseFault.TheVariants.{At, OutOfMemory}
 use Rattle.tapa_parse.specs.Answers.{Reads, Answers}
 use Rattle.tapa_parse.specs.Reading as reading
-use Rattle.command_words.specs.Words.{Run, command_of}
-use Rattle.program_run.specs.Run.{Values}
+use Rattle.tapa_words.specs.Words.{Run, command_of}
+use Rattle.run_program.specs.Run.{Values}
 use Rattle.tapa_drive.specs.Answer.{OfRun, OfTexts, IsAsked, HasProgram, HasBadData, HasRun, HasStopped, HasRunPast, HasCause, HasPartOf, Leaves}
 use Rattle.tapa_drive.specs.Files.{OfSource, OfData, source_limit}
 use Rattle.tapa_drive.specs.Inputs.{GivesValues, HasDataFault}
-use Rattle.program_run.specs.Ending.{EndsSo, HasPart}
+use Rattle.run_program.specs.Ending.{EndsSo, HasPart}
 use Rattle.tapa_drive.specs.Found.{IsNotFound, IsNotGiven, EndsFor}
 use Rattle.tapa_drive.specs.Refusal.{Reason, BadWords, Unread, Unwritten, Longer, Unfit, UnfitData, Endless, Blocked, NoMemory, DataFault}
 use Rattle.tapa_drive.specs.Source.{StopsAt, HasTree, HasNoTree, IsProgramOf, IsRefusedSource}
 use Rattle.tapa_drive.specs.declared.source.SourceCode.TheVariants.{Rule}
 use Rattle.tapa_syntax.specs.Flat.{flat_program}
-use Rattle.scope_check.specs.Answers as check
-use Rattle.scope_check.specs.declared.fault.Broken.{Broken}
-use Rattle.scope_check.specs.declared.fault.CheckFault.{CheckFault}
-use Rattle.scope_check.specs.declared.fault.CheckFault.TheVariants as check_fault
+use Rattle.check_scope.specs.Answers as check
+use Rattle.check_scope.specs.declared.fault.Broken.{Broken}
+use Rattle.check_scope.specs.declared.fault.CheckFault.{CheckFault}
+use Rattle.check_scope.specs.declared.fault.CheckFault.TheVariants as check_fault
 use Rattle.stream_check.specs.Programs.{program_faults, program_of}
-use Rattle.program_run.specs.declared.run.RunEnd.TheVariants as run_end
+use Rattle.run_program.specs.declared.run.RunEnd.TheVariants as run_end
 use Rattle.tapa_drive.specs.declared.top.Ended.TheVariants as ended
 use Rattle.tapa_drive.proofs.Sourced.{of_file_also, of_both}
 use Rattle.std.specs.Prelude.{Vec, Result, min, ◌+◌, ◌-◌, ◌^◌}

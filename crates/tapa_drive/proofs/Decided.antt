@@ -3,8 +3,8 @@ use Rattle.std.proofs.Common.{◌≡◌, ◌≢◌, ◌⊎◌, ◌≤◌, ◌<�
 use Rattle.std.specs.Io.KnownBytes.{Appends}
 use Rattle.tapa_base.specs.Outside.{Files, file_bytes, Rose}
 use Rattle.tapa_base.specs.Take.{IsLongerThan}
-use Rattle.command_words.specs.Words.{Run, command_of}
-use Rattle.program_run.specs.Laws.{Ends, Stops, Exceeds}
+use Rattle.tapa_words.specs.Words.{Run, command_of}
+use Rattle.run_program.specs.Laws.{Ends, Stops, Exceeds}
 use Rattle.tapa_drive.specs.Answer.{OfRun, OfTexts, HasProgram, HasBadData, HasRun, HasStopped, HasRunPast, IsReached, IsTooLong, IsRun, HasCause, Leaves}
 use Rattle.tapa_drive.specs.Decided.{SourceMeaning, Ran, Misgiven, Overlong, Nothing, Given, Bytes, TooMany, IsGiven, Means, Tells, IsStill, Expects, IsLengthy}
 use Rattle.tapa_drive.specs.Files.{OfSource, OfData, source_limit, data_limit, shown_name}

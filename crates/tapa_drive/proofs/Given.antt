@@ -11,7 +11,7 @@ use Rattle.tapa_syntax.specs.declared.program.Scalar.{Scalar}
 use Rattle.tapa_syntax.specs.Flat.{FlatProgram, flat_program}
 use Rattle.run_data.specs.Data.{IsJson, Fault, faults, scalars_of, memories_of, misshapen, misshapen_in, misfits, misfits_in, oversized}
 use Rattle.run_data.specs.Seen.{first}
-use Rattle.program_run.specs.Run.{Values}
+use Rattle.run_program.specs.Run.{Values}
 use Rattle.tapa_drive.specs.Inputs.{port_of, IsShapeOf, GivesValues, HasDataFault}
 use Rattle.tapa_drive.specs.Refusal.{DataFault, NotJson, Faulty}
 

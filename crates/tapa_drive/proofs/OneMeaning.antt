@@ -6,9 +6,9 @@ use Rattle.tapa_syntax.specs.Trees.{ItemTree, file_of}
 use Rattle.tapa_syntax.specs.WellFormed.{IsWellFormed}
 use Rattle.stream_check.specs.Programs.{program_of}
 use Rattle.stream_check.proofs.WellPrograms.{legal_program_well}
-use Rattle.program_run.specs.Laws.{RunMeaning, Runs}
-use Rattle.program_run.specs.Run.{Values}
-use Rattle.program_run.proofs.OneWay.{runs_alike, one_way, some_way}
+use Rattle.run_program.specs.Laws.{RunMeaning, Runs}
+use Rattle.run_program.specs.Run.{Values}
+use Rattle.run_program.proofs.OneWay.{runs_alike, one_way, some_way}
 use Rattle.tapa_drive.specs.Answer.{IsAsked}
 use Rattle.tapa_drive.specs.Decided.{SourceMeaning, Ran, Misgiven, Overlong, Nothing, Given, Bytes, TooMany, Means}
 use Rattle.tapa_drive.specs.Inputs.{HasDataFault}

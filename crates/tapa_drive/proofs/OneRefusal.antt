@@ -8,12 +8,12 @@ use Rattle.tapa_lex.specs.declared.fault.LexCode.{LexCode}
 use Rattle.tapa_lex.specs.declared.fault.LexCode.TheVariants as lex
 use Rattle.tapa_lex.specs.Refusals.{IsRefused}
 use Rattle.tapa_lex.proofs.Whole.{one_list, not_both, one_refusal as one_lexical_refusal}
-use Rattle.expression_parse.specs.declared.fault.ParseCode.{ParseCode}
-use Rattle.expression_parse.specs.declared.fault.ParseCode.TheVariants as parse
-use Rattle.expression_parse.specs.Readers.{Outcome}
+use Rattle.tapa_parse_expression.specs.declared.fault.ParseCode.{ParseCode}
+use Rattle.tapa_parse_expression.specs.declared.fault.ParseCode.TheVariants as parse
+use Rattle.tapa_parse_expression.specs.Readers.{Outcome}
 use Rattle.tapa_parse.specs.Answers.{stopped_at}
-use Rattle.scope_check.specs.Answers.{IsFirst}
-use Rattle.scope_check.specs.declared.fault.Broken.{Broken}
+use Rattle.check_scope.specs.Answers.{IsFirst}
+use Rattle.check_scope.specs.declared.fault.Broken.{Broken}
 use Rattle.stream_check.specs.Programs.{program_faults}
 use Rattle.tapa_drive.specs.declared.source.SourceCode.{SourceCode}
 use Rattle.tapa_drive.specs.declared.source.SourceCode.TheVariants.{L1, L2, L3, L4, P1, P2, Rule}

@@ -4,9 +4,9 @@ use Rattle.std.specs.Io.KnownBytes.{Appends}
 use Rattle.tapa_base.specs.Outside.{Files, Rose, AppendsPart}
 use Rattle.tapa_base.specs.Take.{IsLongerThan}
 use Rattle.tapa_syntax.specs.declared.program.Program.{Program}
-use Rattle.command_words.specs.Words.{Run, command_of}
-use Rattle.program_run.specs.Ending.{IsReportOf}
-use Rattle.program_run.specs.Run.{Values, RunsToEnd, StopsShort, RunsPast}
+use Rattle.tapa_words.specs.Words.{Run, command_of}
+use Rattle.run_program.specs.Ending.{IsReportOf}
+use Rattle.run_program.specs.Run.{Values, RunsToEnd, StopsShort, RunsPast}
 use Rattle.tapa_drive.specs.Files.{OfSource, OfData, source_limit, data_limit, shown_name}
 use Rattle.tapa_drive.specs.Inputs.{GivesValues, HasDataFault}
 use Rattle.tapa_drive.specs.Refusal.{Reason, BadWords, Unread, Unwritten, Longer, Unfit, UnfitData, Endless, Blocked, NoMemory, DataFault}

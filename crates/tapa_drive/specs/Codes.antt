@@ -1,8 +1,8 @@
 -- The codes of the lexer and the parser among those of a source.
 use Rattle.tapa_lex.specs.declared.fault.LexCode.{LexCode}
 use Rattle.tapa_lex.specs.declared.fault.LexCode.TheVariants as lex
-use Rattle.expression_parse.specs.declared.fault.ParseCode.{ParseCode}
-use Rattle.expression_parse.specs.declared.fault.ParseCode.TheVariants as parse
+use Rattle.tapa_parse_expression.specs.declared.fault.ParseCode.{ParseCode}
+use Rattle.tapa_parse_expression.specs.declared.fault.ParseCode.TheVariants as parse
 use Rattle.tapa_drive.specs.declared.source.SourceCode.{SourceCode}
 use Rattle.tapa_drive.specs.declared.source.SourceCode.TheVariants.{L1, L2, L3, L4, P1, P2}
 

@@ -3,8 +3,8 @@ use Rattle.std.specs.Prelude.{◌≡◌, ◌<◌, ◌≤◌, ℕ, List, length, 
 use Rattle.std.specs.Io.KnownBytes.{Appends}
 use Rattle.tapa_base.specs.Outside.{Files, file_bytes, Rose}
 use Rattle.tapa_syntax.specs.declared.program.Program.{Program}
-use Rattle.program_run.specs.Laws.{RunMeaning, Ends, Stops, Exceeds, Runs}
-use Rattle.program_run.specs.Run.{Values}
+use Rattle.run_program.specs.Laws.{RunMeaning, Ends, Stops, Exceeds, Runs}
+use Rattle.run_program.specs.Run.{Values}
 use Rattle.tapa_drive.specs.Answer.{IsAsked}
 use Rattle.tapa_drive.specs.Files.{source_limit, data_limit, no_data}
 use Rattle.tapa_drive.specs.Inputs.{HasDataFault}

@@ -3,7 +3,7 @@ use Rattle.std.specs.Prelude.{◌≡◌, ℕ, List, Option, Some, ⊤}
 use Rattle.tapa_base.specs.Outside.{Files, Rose}
 use Rattle.tapa_base.specs.Take.{IsLongerThan}
 use Rattle.tapa_syntax.specs.declared.program.Program.{Program}
-use Rattle.program_run.specs.Ending.{joined}
+use Rattle.run_program.specs.Ending.{joined}
 use Rattle.tapa_drive.specs.Answer.{OfRun, OfTexts, HasStopped, IsRun}
 use Rattle.tapa_drive.specs.Files.{OfSource, OfData, source_limit, data_limit, shown_name}
 use Rattle.tapa_drive.specs.Inputs.{HasDataFault}

@@ -10,7 +10,7 @@ use Rattle.tapa_syntax.specs.declared.program.Program.{Program}
 use Rattle.tapa_syntax.specs.declared.program.Scalar.{Scalar}
 use Rattle.run_data.specs.Answer.{IsFirstFault}
 use Rattle.run_data.specs.Data.{IsJson, faults, scalars_of, memories_of}
-use Rattle.program_run.specs.Run.{Values}
+use Rattle.run_program.specs.Run.{Values}
 use Rattle.tapa_drive.specs.Refusal.{Reason, UnfitData, NoMemory, DataFault, NotJson, Faulty}
 
 abbrev pub port_of : List ℕ → Kind → Port

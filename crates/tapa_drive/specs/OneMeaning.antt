@@ -3,8 +3,8 @@ use Rattle.std.specs.Prelude.{◌≡◌, ℕ, List}
 use Rattle.tapa_base.specs.declared.text.Place.{Place}
 use Rattle.tapa_syntax.specs.declared.program.Program.{Program}
 use Rattle.tapa_syntax.specs.Flat.{flat_program}
-use Rattle.program_run.specs.Laws.{RunMeaning}
-use Rattle.program_run.specs.Run.{Values}
+use Rattle.run_program.specs.Laws.{RunMeaning}
+use Rattle.run_program.specs.Run.{Values}
 use Rattle.tapa_drive.specs.Answer.{IsAsked}
 use Rattle.tapa_drive.specs.Decided.{SourceMeaning, Ran, Nothing, Given, Bytes, Means}
 use Rattle.tapa_drive.specs.Inputs.{HasDataFault}

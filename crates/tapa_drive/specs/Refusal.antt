@@ -1,8 +1,8 @@
 -- Why a command was not carried out to its end, and what is told of it.
 use Rattle.std.specs.Prelude.{ℕ, List, [], ◌++◌, Option, Some, None, codes, decimal}
 use Rattle.tapa_base.specs.declared.text.Place.{Place}
-use Rattle.scope_check.specs.declared.fault.CheckCode.{CheckCode}
-use Rattle.scope_check.specs.declared.fault.CheckCode.TheVariants.{C1, C2, C3, C4, C5, C6, C7, C8, C9, C10, C11}
+use Rattle.check_scope.specs.declared.fault.CheckCode.{CheckCode}
+use Rattle.check_scope.specs.declared.fault.CheckCode.TheVariants.{C1, C2, C3, C4, C5, C6, C7, C8, C9, C10, C11}
 use Rattle.tapa_drive.specs.declared.source.SourceCode.{SourceCode}
 use Rattle.tapa_drive.specs.declared.source.SourceCode.TheVariants.{L1, L2, L3, L4, P1, P2, Rule}
 use Rattle.run_data.specs.Data.{Fault, Misshapen, Misfit, Oversized}

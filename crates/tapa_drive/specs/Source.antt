@@ -12,12 +12,12 @@ use Rattle.tapa_syntax.specs.Symbols.{Symbol, symbols_of}
 use Rattle.tapa_syntax.specs.Trees.{ItemTree, file_of}
 use Rattle.tapa_lex.specs.declared.fault.LexCode.TheVariants as lex
 use Rattle.tapa_lex.specs.Refusals.{IsRefused}
-use Rattle.expression_parse.specs.declared.fault.ParseCode.{ParseCode}
-use Rattle.expression_parse.specs.declared.fault.ParseCode.TheVariants as parse
+use Rattle.tapa_parse_expression.specs.declared.fault.ParseCode.{ParseCode}
+use Rattle.tapa_parse_expression.specs.declared.fault.ParseCode.TheVariants as parse
 use Rattle.tapa_parse.specs.Answers.{stopped_at}
 use Rattle.tapa_parse.specs.Reading as reading
-use Rattle.scope_check.specs.Answers.{IsFirst}
-use Rattle.scope_check.specs.declared.fault.Broken.{Broken}
+use Rattle.check_scope.specs.Answers.{IsFirst}
+use Rattle.check_scope.specs.declared.fault.Broken.{Broken}
 use Rattle.stream_check.specs.Programs.{program_faults, program_of}
 use Rattle.tapa_drive.specs.declared.source.SourceCode.{SourceCode}
 use Rattle.tapa_drive.specs.declared.source.SourceCode.TheVariants.{L1, L2, L3, L4, P1, P2, Rule}

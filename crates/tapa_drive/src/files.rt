@@ -5,7 +5,7 @@ ghost use Rattle.tapa_base.specs.Take.{IsFileOf};
 ghost use Rattle.tapa_syntax.specs.WellFormed.{IsWellFormed};
 ghost use Rattle.kahn_model.specs.Fits.{FitsInput};
 ghost use Rattle.net_core.specs.Bounded.{scalars_of, memories_of};
-ghost use Rattle.program_run.specs.Run.{values_of};
+ghost use Rattle.run_program.specs.Run.{values_of};
 ghost use Rattle.tapa_drive.specs.Files.{OfSource, OfData, IsUntaken};
 ghost use Rattle.tapa_drive.specs.Found.{IsNotFound, IsNotGiven};
 ghost use Rattle.tapa_drive.specs.Inputs.{GivesValues};

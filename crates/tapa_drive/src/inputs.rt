@@ -4,7 +4,7 @@ ghost use Rattle.tapa_syntax.specs.declared.program.Memory.{Memory};
 ghost use Rattle.tapa_syntax.specs.declared.program.Scalar.{Scalar};
 ghost use Rattle.kahn_model.specs.Fits.{FitsInput};
 ghost use Rattle.net_core.specs.Bounded.{scalars_of, memories_of};
-ghost use Rattle.program_run.specs.Run.{values_of};
+ghost use Rattle.run_program.specs.Run.{values_of};
 ghost use Rattle.tapa_drive.specs.Inputs.{port_of, IsShapeOf, GivesValues, IsUnfitBy};
 ghost use Rattle.tapa_drive.specs.Meaning.{reason};
 

@@ -6,7 +6,7 @@ ghost use Rattle.tapa_drive.specs.Codes.{lex_code, parse_code};
 ghost use Rattle.tapa_drive.specs.Source.{HasTree, IsProgramOf};
 
 use crate::source::SourceCode;
-use scope_check::CheckFault;
+use check_scope::CheckFault;
 use std::alloc::Global;
 use stream_check::check;
 use tapa_base::Place;

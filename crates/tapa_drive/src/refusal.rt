@@ -1,7 +1,7 @@
 ghost use Rattle.std.specs.Prelude.{◌≡◌, ◌≤◌, ◌⊎◌, ◌++◌, codes, IfOk, OnOk, OnErr};
 ghost use Rattle.std.specs.Io.KnownBytes.{Appends};
 ghost use Rattle.tapa_base.specs.Outside.{AppendsPart, Rose};
-ghost use Rattle.program_run.specs.Ending.{joined};
+ghost use Rattle.run_program.specs.Ending.{joined};
 ghost use Rattle.tapa_drive.specs.Meaning.{reason, data_reason};
 ghost use Rattle.tapa_drive.specs.Told.{IsToldAs};
 ghost use Rattle.tapa_drive.specs.Refusal.{NoMemory, Blocked, message_of};

@@ -1,7 +1,7 @@
 ghost use Rattle.std.specs.Prelude.{◌≡◌, IfOk, string_bytes};
 ghost use Rattle.tapa_drive.specs.Refusal.{code_text, rule_text};
 
-use scope_check::CheckCode;
+use check_scope::CheckCode;
 use std::alloc::Global;
 use tapa_base::OutOfMemory;
 

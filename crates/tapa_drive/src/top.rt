@@ -1,6 +1,6 @@
 ghost use Rattle.std.specs.Prelude.{◌≡◌, ◌≢◌, ◌⊎◌, ◌≤◌, ℕ, List, Option, Some, None, IfOk, IfErr, option_map};
 ghost use Rattle.tapa_base.specs.Outside.{Rose};
-ghost use Rattle.command_words.specs.Words.{texts, command_of, most_limit, Run};
+ghost use Rattle.tapa_words.specs.Words.{texts, command_of, most_limit, Run};
 ghost use Rattle.tapa_drive.specs.Meaning.{reason};
 ghost use Rattle.tapa_drive.specs.Refusal.{Reason};
 ghost use Rattle.tapa_drive.specs.Answer.{IsRun, HasCause, Leaves};
@@ -11,8 +11,8 @@ ghost use Rattle.tapa_drive.specs.Decided.{SourceMeaning, Expects, IsLengthy, Is
 use crate::files::{read_source, read_values};
 use crate::refusal::{Refusal, tell, tell_stopped};
 use crate::status::Status;
-use command_words::{Command, WordsFault, read_words};
-use program_run::{RunEnd, run_program};
+use tapa_words::{Command, WordsFault, read_words};
+use run_program::{RunEnd, run_program};
 use std::alloc::Global;
 use tapa_base::{PrintFault, Shelf, Sink};
 

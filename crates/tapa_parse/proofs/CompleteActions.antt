@@ -12,15 +12,15 @@ use Rattle.tapa_syntax.specs.Spans.{◌⨾◌, Nothing, When, EachOfSome, Separa
 use Rattle.tapa_syntax.specs.Trees.{ExpressionTree, PlaceTree, variable_place, element_place, ActionTree, call_action, write, read, assign, postfix, prefix_step, CountForm, literal_count, name_count, parenthesized_count, DeclaratorTree, plain, initialized, array, DeclarationTree, StatementTree}
 use Rattle.tapa_syntax.specs.Grammar.{Part, Takes, MeansAt, IsName, IsType, IsExpression, is_name, step_operator_of, assignment_operator_of, sum_level, expression_level, argument_level, IsPlace, IsAction, IsCountForm, IsDeclarator, IsDeclaration, IsStatement, IsClosed}
 use Rattle.tapa_syntax.specs.Limits.{most, nesting, operators, place_nesting, place_operators, action_nesting, action_operators, declarator_nesting, declarator_operators, declaration_nesting, declaration_operators, statement_nesting, statement_operators}
-use Rattle.expression_parse.specs.Readers.{and_then, ◌>>◌, skip, next, same, sees, past}
-use Rattle.expression_parse.specs.Reading.{Readers, enter, open_level, argument, level, unary_with, expression_with, whole, place_from, place_with, call_arguments, assigned_by, assigned, acted_by, acted, stepped, action_with, declarator_by, declarator, declaration_with}
-use Rattle.expression_parse.specs.Reading as spec
-use Rattle.expression_parse.proofs.Parts.{Symbols, done, then_is, if_true, if_false, differ_by, next_is, seen_is, dropped, expect_is, past_is, past_none, name_is, plain_is}
-use Rattle.expression_parse.proofs.Lists.{IsPart, ReadsAll, ReadsEach, repeat_some_complete, separated_complete, separated_until_complete}
-use Rattle.expression_parse.proofs.CompleteTypes.{extends_type, type_complete, takes_longer, sees_other}
-use Rattle.expression_parse.proofs.CompleteLevels.{stops, stop_ends, ends_at, Ends, shift_ends_sum, ends_tighter, CompletesAt, AreComplete, MayDo, MayBeComplete, entered, opened, expression_longer, level_complete}
-use Rattle.expression_parse.proofs.Begins.{begins_type, one_begins, name_begins}
-use Rattle.expression_parse.proofs.CompleteExpressions.{argument_complete, argument_begins, in_parentheses_complete, in_brackets_complete, unary_complete, expression_complete, counted_complete, whole_complete}
+use Rattle.tapa_parse_expression.specs.Readers.{and_then, ◌>>◌, skip, next, same, sees, past}
+use Rattle.tapa_parse_expression.specs.Reading.{Readers, enter, open_level, argument, level, unary_with, expression_with, whole, place_from, place_with, call_arguments, assigned_by, assigned, acted_by, acted, stepped, action_with, declarator_by, declarator, declaration_with}
+use Rattle.tapa_parse_expression.specs.Reading as spec
+use Rattle.tapa_parse_expression.proofs.Parts.{Symbols, done, then_is, if_true, if_false, differ_by, next_is, seen_is, dropped, expect_is, past_is, past_none, name_is, plain_is}
+use Rattle.tapa_parse_expression.proofs.Lists.{IsPart, ReadsAll, ReadsEach, repeat_some_complete, separated_complete, separated_until_complete}
+use Rattle.tapa_parse_expression.proofs.CompleteTypes.{extends_type, type_complete, takes_longer, sees_other}
+use Rattle.tapa_parse_expression.proofs.CompleteLevels.{stops, stop_ends, ends_at, Ends, shift_ends_sum, ends_tighter, CompletesAt, AreComplete, MayDo, MayBeComplete, entered, opened, expression_longer, level_complete}
+use Rattle.tapa_parse_expression.proofs.Begins.{begins_type, one_begins, name_begins}
+use Rattle.tapa_parse_expression.proofs.CompleteExpressions.{argument_complete, argument_begins, in_parentheses_complete, in_brackets_complete, unary_complete, expression_complete, counted_complete, whole_complete}
 
 -- ---- what may stand behind
 

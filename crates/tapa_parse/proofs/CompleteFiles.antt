@@ -13,15 +13,15 @@ use Rattle.tapa_syntax.specs.Limits.{most, if_there, attribute_nesting, body_nes
 use Rattle.tapa_parse.specs.declared.fault.ParseFault.{ParseFault}
 use Rattle.tapa_parse.specs.declared.fault.ParseFault.TheVariants.{At, OutOfMemory}
 use Rattle.tapa_parse.specs.Answers.{Reads, Answers}
-use Rattle.expression_parse.specs.Readers.{next, first_place, same, sees}
-use Rattle.expression_parse.specs.Reading.{Readers, attribute, attributes, below_room, below}
-use Rattle.expression_parse.specs.Readers.{is_left}
+use Rattle.tapa_parse_expression.specs.Readers.{next, first_place, same, sees}
+use Rattle.tapa_parse_expression.specs.Reading.{Readers, attribute, attributes, below_room, below}
+use Rattle.tapa_parse_expression.specs.Readers.{is_left}
 use Rattle.tapa_parse.specs.Reading.{constant_word, body, task_behind, constant_behind, item, file}
 use Rattle.tapa_syntax.specs.Characters.{Bytes}
-use Rattle.expression_parse.proofs.Parts.{Symbols, done, ok_is, then_is, if_true, if_false, next_is, seen_is, dropped, expect_is, name_is}
-use Rattle.expression_parse.proofs.Lists.{IsPart, ReadsAll, repeat_complete}
-use Rattle.expression_parse.proofs.CompleteTypes.{type_complete, type_longer, takes_longer, sees_other}
-use Rattle.expression_parse.proofs.CompleteLevels.{stops, expression_longer}
+use Rattle.tapa_parse_expression.proofs.Parts.{Symbols, done, ok_is, then_is, if_true, if_false, next_is, seen_is, dropped, expect_is, name_is}
+use Rattle.tapa_parse_expression.proofs.Lists.{IsPart, ReadsAll, repeat_complete}
+use Rattle.tapa_parse_expression.proofs.CompleteTypes.{type_complete, type_longer, takes_longer, sees_other}
+use Rattle.tapa_parse_expression.proofs.CompleteLevels.{stops, expression_longer}
 use Rattle.tapa_parse.proofs.CompleteActions.{MayComplete, name_behind, name_longer, whole_expression_complete}
 use Rattle.tapa_parse.proofs.CompleteLengths.{each_longer, some_longer, listed_longer, attribute_longer, statements_longer}
 use Rattle.tapa_parse.proofs.CompleteStatements.{list_of, of_list, most_is, statement_other, attributes_read, statements_complete, below_is_complete}

@@ -7,9 +7,9 @@ use Rattle.tapa_syntax.specs.declared.tree.AttributeArgument.TheVariants as argu
 use Rattle.tapa_syntax.specs.Spans.{◌⨾◌, Maybe, When, Each, EachOfSome, Separated, SeparatedOrNone}
 use Rattle.tapa_syntax.specs.Trees.{ActionTree, call_action, write, read, assign, postfix, prefix_step, DeclarationTree, AttributeTree, StartTree, no_start, declare_start, act_start, HeadTree, StatementTree, attributed, empty, block, declare, act, if_only, if_else, while, for, while_not_eot, break, continue, Statements, no_statement, statement_then}
 use Rattle.tapa_syntax.specs.Grammar.{Part, Takes, IsExpression, sum_level, expression_level, argument_level, IsPlace, IsAction, IsDeclarator, IsDeclaration, IsAttributeArgument, AreAttributeArguments, IsAttribute, IsStart, IsHead, IsStatement, AreStatements}
-use Rattle.expression_parse.proofs.Parts.{Symbols}
-use Rattle.expression_parse.proofs.CompleteTypes.{takes_longer, type_longer}
-use Rattle.expression_parse.proofs.CompleteLevels.{expression_longer}
+use Rattle.tapa_parse_expression.proofs.Parts.{Symbols}
+use Rattle.tapa_parse_expression.proofs.CompleteTypes.{takes_longer, type_longer}
+use Rattle.tapa_parse_expression.proofs.CompleteLevels.{expression_longer}
 use Rattle.tapa_parse.proofs.CompleteActions.{name_longer, place_longer, declarator_longer}
 
 -- each of these parts has a symbol

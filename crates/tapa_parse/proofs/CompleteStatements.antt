@@ -12,15 +12,15 @@ use Rattle.tapa_syntax.specs.Spans.{◌⨾◌, Maybe, When, Each, EachOfSome, Se
 use Rattle.tapa_syntax.specs.Trees.{ExpressionTree, ActionTree, call_action, write, read, assign, postfix, prefix_step, PlaceTree, variable_place, element_place, DeclarationTree, AttributeTree, StartTree, no_start, declare_start, act_start, HeadTree, StatementTree, attributed, empty, block, declare, act, if_only, if_else, while, for, while_not_eot, break, continue, Statements, no_statement, statement_then, statements}
 use Rattle.tapa_syntax.specs.Grammar.{Takes, TakesAt, IsName, IsExpression, is_name, step_operator_of, expression_level, IsPlace, IsAction, IsDeclaration, IsAttributeArgument, AreAttributeArguments, IsAttribute, IsBare, IsStart, IsHead, IsStatement, AreStatements}
 use Rattle.tapa_syntax.specs.Limits.{most, if_there, nesting, operators, action_nesting, action_operators, attribute_nesting, start_nesting, start_operators, head_nesting, head_operators, statement_nesting, statement_operators, statements_nesting, statements_operators}
-use Rattle.expression_parse.specs.Readers.{and_then, pure, next, same, sees, name}
-use Rattle.expression_parse.specs.Reading.{Readers, whole, begins_action, begins_statement, attribute_argument_by, attribute_argument, listed_arguments, attribute_arguments, attribute, action_with, declaration_with, start, loop_test, step, jump, statement_with, statements_with, simple, braces, otherwise, choice, repetition, counting_loop, transaction_loop, bare_by, bare, inside_with, readers, below_room}
-use Rattle.expression_parse.specs.Reading as spec
-use Rattle.expression_parse.proofs.Parts.{Symbols, done, then_is, if_true, if_false, differ_by, is_seen, next_is, seen_is, dropped, expect_is, name_is, plain_is, literal_is}
-use Rattle.expression_parse.proofs.Lists.{IsPart, ReadsAll, repeat_complete, repeat_some_complete, separated_until_complete}
-use Rattle.expression_parse.proofs.CompleteTypes.{sees_other}
-use Rattle.expression_parse.proofs.CompleteLevels.{stops, stop_ends, entered, opened}
-use Rattle.expression_parse.proofs.Begins.{begins_type, name_begins, expression_begins, begins_otherwise}
-use Rattle.expression_parse.proofs.CompleteExpressions.{whole_complete, unary_complete, expression_complete}
+use Rattle.tapa_parse_expression.specs.Readers.{and_then, pure, next, same, sees, name}
+use Rattle.tapa_parse_expression.specs.Reading.{Readers, whole, begins_action, begins_statement, attribute_argument_by, attribute_argument, listed_arguments, attribute_arguments, attribute, action_with, declaration_with, start, loop_test, step, jump, statement_with, statements_with, simple, braces, otherwise, choice, repetition, counting_loop, transaction_loop, bare_by, bare, inside_with, readers, below_room}
+use Rattle.tapa_parse_expression.specs.Reading as spec
+use Rattle.tapa_parse_expression.proofs.Parts.{Symbols, done, then_is, if_true, if_false, differ_by, is_seen, next_is, seen_is, dropped, expect_is, name_is, plain_is, literal_is}
+use Rattle.tapa_parse_expression.proofs.Lists.{IsPart, ReadsAll, repeat_complete, repeat_some_complete, separated_until_complete}
+use Rattle.tapa_parse_expression.proofs.CompleteTypes.{sees_other}
+use Rattle.tapa_parse_expression.proofs.CompleteLevels.{stops, stop_ends, entered, opened}
+use Rattle.tapa_parse_expression.proofs.Begins.{begins_type, name_begins, expression_begins, begins_otherwise}
+use Rattle.tapa_parse_expression.proofs.CompleteExpressions.{whole_complete, unary_complete, expression_complete}
 use Rattle.tapa_parse.proofs.CompleteActions.{NoElse, Complete, MayComplete, may_be, type_begins, condition_complete, place_complete, action_complete, declaration_complete}
 use Rattle.tapa_parse.proofs.CompleteLengths.{attribute_argument_longer, attribute_longer, statement_longer}
 

@@ -11,15 +11,15 @@ use Rattle.tapa_syntax.specs.Spans.{◌⨾◌, Maybe, When, EachOfSome, Separate
 use Rattle.tapa_syntax.specs.Trees.{ExpressionTree, CountTree, StreamTree, ArgumentTree, InvocationTree}
 use Rattle.tapa_syntax.specs.Grammar.{Takes, IsName, IsType, expression_level, IsCount, IsParameter, MayBeLabelled, IsStream, IsArgument, IsMode, IsInvocation}
 use Rattle.tapa_syntax.specs.Limits.{most, if_there, nesting, operators, form_nesting, form_operators, stream_nesting, stream_operators, invocation_nesting, invocation_operators}
-use Rattle.expression_parse.specs.Readers.{◌>>◌, skip, next, same, sees}
-use Rattle.expression_parse.specs.Reading.{Readers}
+use Rattle.tapa_parse_expression.specs.Readers.{◌>>◌, skip, next, same, sees}
+use Rattle.tapa_parse_expression.specs.Reading.{Readers}
 use Rattle.tapa_parse.specs.Reading.{stream_kind, port, scalar, parameter, parameters, stream_name, mode, invocation_argument, depth, stream, invocation, chained, invocations, streams}
-use Rattle.expression_parse.proofs.Parts.{Symbols, done, then_is, if_true, if_false, next_is, seen_is, dropped, expect_is, name_is, plain_is}
-use Rattle.expression_parse.proofs.Lists.{IsPart, AreParts, ReadsAll, repeat_complete, repeat_one_complete, separated_complete, separated_until_complete}
-use Rattle.expression_parse.proofs.CompleteTypes.{extends_type, type_complete, type_longer, takes_longer, sees_other}
-use Rattle.expression_parse.proofs.CompleteLevels.{Ends, ends_at, opened, expression_longer}
-use Rattle.expression_parse.proofs.Begins.{begins_type}
-use Rattle.expression_parse.proofs.CompleteExpressions.{counted_complete, whole_complete, stands}
+use Rattle.tapa_parse_expression.proofs.Parts.{Symbols, done, then_is, if_true, if_false, next_is, seen_is, dropped, expect_is, name_is, plain_is}
+use Rattle.tapa_parse_expression.proofs.Lists.{IsPart, AreParts, ReadsAll, repeat_complete, repeat_one_complete, separated_complete, separated_until_complete}
+use Rattle.tapa_parse_expression.proofs.CompleteTypes.{extends_type, type_complete, type_longer, takes_longer, sees_other}
+use Rattle.tapa_parse_expression.proofs.CompleteLevels.{Ends, ends_at, opened, expression_longer}
+use Rattle.tapa_parse_expression.proofs.Begins.{begins_type}
+use Rattle.tapa_parse_expression.proofs.CompleteExpressions.{counted_complete, whole_complete, stands}
 use Rattle.tapa_parse.proofs.CompleteActions.{Complete, MayComplete, may_be, name_behind, type_other, const_is, name_longer, form_longer}
 use Rattle.tapa_parse.proofs.CompleteLengths.{each_longer, separated_longer, maybe_longer, when_longer, behind_longer}
 use Rattle.tapa_parse.proofs.CompleteStatements.{most_is}

@@ -11,15 +11,15 @@ use Rattle.tapa_syntax.specs.Spans.{◌⨾◌, SeparatedOrNone}
 use Rattle.tapa_syntax.specs.Trees.{ExpressionTree, PlaceTree, variable_place, element_place, ActionTree, call_action, write, read, assign, postfix, prefix_step, DeclaratorTree, plain, initialized, array}
 use Rattle.tapa_syntax.specs.Grammar.{Part, Takes, IsName, IsExpression, is_name, step_operator_of, assignment_operator_of, sum_level, expression_level, argument_level, IsPlace, IsAction, IsCount, IsDeclarator, IsDeclaration, IsAttributeArgument, AreAttributeArguments, IsAttribute}
 use Rattle.tapa_syntax.specs.Limits.{most, nesting, operators, place_nesting, place_operators, action_nesting, action_operators, form_nesting, form_operators, declarator_nesting, declarator_operators, declaration_nesting, declaration_operators, attribute_nesting, if_there}
-use Rattle.expression_parse.specs.declared.fault.ParseCode.TheVariants.{P1}
-use Rattle.expression_parse.specs.Readers.{and_then, ◌>>◌, skip, known, next, first_place, sees, past, separated_until}
-use Rattle.expression_parse.specs.Reading as spec
-use Rattle.expression_parse.specs.Reading.{Readers, argument, level, unary_with, expression_with, whole, place_from, place_with, call_arguments, assigned_by, assigned, acted_by, acted, stepped, action_with, counted, declarator_by, declarator, declaration_with, attribute_argument_by, attribute_argument, listed_arguments, attribute_arguments, attribute, attributes}
-use Rattle.expression_parse.proofs.Parts.{Symbols, Yields, yields_pure, yields_none, yields_then, yields_if, weaker, expect_yields, means, is_seen, is_end, name_yields, plain_yields, literal_yields}
-use Rattle.expression_parse.proofs.Lists.{IsPart, AreParts, AreSome, AreListed, repeat_sound, repeat_some_sound, behind_sound, separated_sound, separated_until_sound}
-use Rattle.expression_parse.proofs.CompleteTypes.{takes_longer}
-use Rattle.expression_parse.proofs.SoundTypes.{type_sound, takes_it}
-use Rattle.expression_parse.proofs.SoundExpressions.{MayBe, MayBeSound, enters, open_sound, argument_sound, in_parentheses_sound, in_brackets_sound, unary_sound, level_sound, expression_sound, counted_sound}
+use Rattle.tapa_parse_expression.specs.declared.fault.ParseCode.TheVariants.{P1}
+use Rattle.tapa_parse_expression.specs.Readers.{and_then, ◌>>◌, skip, known, next, first_place, sees, past, separated_until}
+use Rattle.tapa_parse_expression.specs.Reading as spec
+use Rattle.tapa_parse_expression.specs.Reading.{Readers, argument, level, unary_with, expression_with, whole, place_from, place_with, call_arguments, assigned_by, assigned, acted_by, acted, stepped, action_with, counted, declarator_by, declarator, declaration_with, attribute_argument_by, attribute_argument, listed_arguments, attribute_arguments, attribute, attributes}
+use Rattle.tapa_parse_expression.proofs.Parts.{Symbols, Yields, yields_pure, yields_none, yields_then, yields_if, weaker, expect_yields, means, is_seen, is_end, name_yields, plain_yields, literal_yields}
+use Rattle.tapa_parse_expression.proofs.Lists.{IsPart, AreParts, AreSome, AreListed, repeat_sound, repeat_some_sound, behind_sound, separated_sound, separated_until_sound}
+use Rattle.tapa_parse_expression.proofs.CompleteTypes.{takes_longer}
+use Rattle.tapa_parse_expression.proofs.SoundTypes.{type_sound, takes_it}
+use Rattle.tapa_parse_expression.proofs.SoundExpressions.{MayBe, MayBeSound, enters, open_sound, argument_sound, in_parentheses_sound, in_brackets_sound, unary_sound, level_sound, expression_sound, counted_sound}
 use Rattle.tapa_parse.proofs.SoundLevels.{Reads, Sound, no_number, expressions_below, whole_reads, eaten}
 
 -- there is a symbol where a mark comes next

@@ -6,11 +6,11 @@ use Rattle.tapa_syntax.specs.Spans.{When, ◌⨾◌}
 use Rattle.tapa_syntax.specs.Trees.{ExpressionTree, StatementTree}
 use Rattle.tapa_syntax.specs.Grammar.{Part, Takes, IsExpression, IsPlace, IsAction, IsDeclaration, IsStatement, IsClosed}
 use Rattle.tapa_syntax.specs.Limits.{nesting, operators, place_nesting, place_operators, action_nesting, action_operators, declaration_nesting, declaration_operators, statement_nesting, statement_operators}
-use Rattle.expression_parse.specs.Readers.{Reader, sees, past}
-use Rattle.expression_parse.specs.Reading.{Counting, Readers, whole}
-use Rattle.expression_parse.proofs.Parts.{Symbols, Yields, weaker, takes, is_end}
-use Rattle.expression_parse.proofs.Lists.{IsPart}
-use Rattle.expression_parse.proofs.SoundExpressions.{AreSound, MayBe, MayBeSound, ReadsAt, whole_sound}
+use Rattle.tapa_parse_expression.specs.Readers.{Reader, sees, past}
+use Rattle.tapa_parse_expression.specs.Reading.{Counting, Readers, whole}
+use Rattle.tapa_parse_expression.proofs.Parts.{Symbols, Yields, weaker, takes, is_end}
+use Rattle.tapa_parse_expression.proofs.Lists.{IsPart}
+use Rattle.tapa_parse_expression.proofs.SoundExpressions.{AreSound, MayBe, MayBeSound, ReadsAt, whole_sound}
 
 -- what the reader gives is spelled so, and passes no limit
 abbrev pub Reads : {A : Type 0} → (A → Part) → (A → ℕ) → (A → ℕ) → ℕ → ℕ → Reader A → Type 0

@@ -6,13 +6,13 @@ use Rattle.tapa_syntax.specs.Spans.{◌⨾◌, Maybe}
 use Rattle.tapa_syntax.specs.Trees.{ExpressionTree, ActionTree, StartTree, no_start, declare_start, act_start, HeadTree, StatementTree, attributed, empty, block, declare, act, if_only, if_else, while, for, while_not_eot, break, continue, statements}
 use Rattle.tapa_syntax.specs.Grammar.{Part, Takes, TakesAt, IsExpression, expression_level, IsAction, IsClosed, IsBare, IsStart, IsHead, IsStatement, AreStatements}
 use Rattle.tapa_syntax.specs.Limits.{if_there, nesting, operators, action_nesting, action_operators, start_nesting, start_operators, head_nesting, head_operators, statement_nesting, statement_operators, statements_nesting, statements_operators}
-use Rattle.expression_parse.specs.declared.fault.ParseCode.TheVariants.{P1}
-use Rattle.expression_parse.specs.Readers.{next, first_place, sees}
-use Rattle.expression_parse.specs.Reading.{Readers, begins_action, begins_statement, start, loop_test, step, head, jump, statement_with, statements_with, simple, braces, otherwise, choice, repetition, counting_loop, transaction_loop, bare_by, bare, inside_with, readers, below_room}
-use Rattle.expression_parse.proofs.Parts.{Symbols, Yields, yields_pure, yields_none, yields_then, yields_if, weaker, takes, expect_yields, sees_is, is_seen, is_end, name_yields}
-use Rattle.expression_parse.proofs.Lists.{IsPart, AreParts, repeat_sound}
-use Rattle.expression_parse.proofs.SoundTypes.{takes_it}
-use Rattle.expression_parse.proofs.SoundExpressions.{MayBe, enters, open_sound, takes_at, unary_sound, expression_sound}
+use Rattle.tapa_parse_expression.specs.declared.fault.ParseCode.TheVariants.{P1}
+use Rattle.tapa_parse_expression.specs.Readers.{next, first_place, sees}
+use Rattle.tapa_parse_expression.specs.Reading.{Readers, begins_action, begins_statement, start, loop_test, step, head, jump, statement_with, statements_with, simple, braces, otherwise, choice, repetition, counting_loop, transaction_loop, bare_by, bare, inside_with, readers, below_room}
+use Rattle.tapa_parse_expression.proofs.Parts.{Symbols, Yields, yields_pure, yields_none, yields_then, yields_if, weaker, takes, expect_yields, sees_is, is_seen, is_end, name_yields}
+use Rattle.tapa_parse_expression.proofs.Lists.{IsPart, AreParts, repeat_sound}
+use Rattle.tapa_parse_expression.proofs.SoundTypes.{takes_it}
+use Rattle.tapa_parse_expression.proofs.SoundExpressions.{MayBe, enters, open_sound, takes_at, unary_sound, expression_sound}
 use Rattle.tapa_parse.proofs.SoundLevels.{Reads, Sound, TakesNoElse, IsWhole, expressions_below, whole_reads, and_behind}
 use Rattle.tapa_parse.proofs.SoundActions.{IsCondition, condition_reads, place_reads, action_reads, declaration_reads, some_attributes_sound}
 

@@ -7,7 +7,7 @@ use Rattle.tapa_syntax.specs.Symbols.{Symbol}
 use Rattle.tapa_syntax.specs.Trees.{ItemTree, file_of}
 use Rattle.tapa_parse.specs.declared.fault.ParseFault.{ParseFault}
 use Rattle.tapa_parse.specs.declared.fault.ParseFault.TheVariants.{At, OutOfMemory}
-use Rattle.expression_parse.specs.Readers.{Outcome}
+use Rattle.tapa_parse_expression.specs.Readers.{Outcome}
 
 -- the place of the first symbol that is left of a text, and behind its last byte where none is
 abbrev pub stopped_at : Bytes → List Symbol → Place

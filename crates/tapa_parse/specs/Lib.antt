@@ -1,3 +1,3 @@
-pub use Rattle.expression_parse.specs.Readers
+pub use Rattle.tapa_parse_expression.specs.Readers
 pub mod Reading
 pub mod Answers

@@ -4,11 +4,11 @@ ghost use Rattle.std.specs.Prelude.{◌≡◌, map};
 ghost use Rattle.tapa_syntax.specs.Limits.{most_operators};
 ghost use Rattle.tapa_syntax.specs.Trees as view;
 ghost use Rattle.tapa_syntax.specs.declared.mark.Mark.TheVariants as mark;
-ghost use Rattle.expression_parse.specs.Readers.{Gives, separated_until, separated};
-ghost use Rattle.expression_parse.specs.Reading as spec;
+ghost use Rattle.tapa_parse_expression.specs.Readers.{Gives, separated_until, separated};
+ghost use Rattle.tapa_parse_expression.specs.Reading as spec;
 
 use crate::mark::{assignment_operator, step_operator};
-use expression_parse::{Fault, ParseCode, Parser, is_name};
+use tapa_parse_expression::{Fault, ParseCode, Parser, is_name};
 use std::alloc::Global;
 use tapa_syntax::{Action, Expression, Mark, Name, PlaceExpression, StepOperator};
 
@@ -48,7 +48,7 @@ fn index(parser: &mut Parser, room: u32) -> Result<Expression, Fault>
     parser.in_brackets(room, &mut operators)
 }
 
-#[tactic(auto, unfolding(expression_parse::specs::Reading::place_from))]
+#[tactic(auto, unfolding(tapa_parse_expression::specs::Reading::place_from))]
 fn place_from(parser: &mut Parser, name: Name, room: u32) -> Result<PlaceExpression, Fault>
     ensures { Gives view.place_expression_of result parser.new (spec.place_from most_operators (spec.below room) name parser.old) }
 {
@@ -60,7 +60,7 @@ fn place_from(parser: &mut Parser, name: Name, room: u32) -> Result<PlaceExpress
     }
 }
 
-#[tactic(auto, unfolding(expression_parse::specs::Reading::place_with))]
+#[tactic(auto, unfolding(tapa_parse_expression::specs::Reading::place_with))]
 fn place_expression(parser: &mut Parser, room: u32) -> Result<PlaceExpression, Fault>
     ensures { Gives view.place_expression_of result parser.new ((spec.at room).place parser.old) }
 {
@@ -76,7 +76,7 @@ fn whole_argument(parser: &mut Parser, room: u32) -> Result<Expression, Fault>
 }
 
 // At least one.
-#[tactic(auto, unfolding(expression_parse::specs::Readers::separated, expression_parse::specs::Readers::repeat_behind, expression_parse::specs::Readers::repeat_from))]
+#[tactic(auto, unfolding(tapa_parse_expression::specs::Readers::separated, tapa_parse_expression::specs::Readers::repeat_behind, tapa_parse_expression::specs::Readers::repeat_from))]
 fn separated_arguments(parser: &mut Parser, room: u32) -> Result<Vec<Expression>, Fault>
     ensures { Gives (λ es. map view.expression es.items) result parser.new (separated mark.Comma (spec.whole (spec.argument (spec.at room)) most_operators) parser.old) }
 {
@@ -92,7 +92,7 @@ fn separated_arguments(parser: &mut Parser, room: u32) -> Result<Vec<Expression>
     Ok(found)
 }
 
-#[tactic(auto, unfolding(expression_parse::specs::Readers::separated_until))]
+#[tactic(auto, unfolding(tapa_parse_expression::specs::Readers::separated_until))]
 fn listed_call_arguments(parser: &mut Parser, room: u32) -> Result<Vec<Expression>, Fault>
     ensures { Gives (λ es. map view.expression es.items) result parser.new (separated_until mark.RightParen mark.Comma (spec.whole (spec.argument (spec.at room)) most_operators) parser.old) }
 {
@@ -103,7 +103,7 @@ fn listed_call_arguments(parser: &mut Parser, room: u32) -> Result<Vec<Expressio
     }
 }
 
-#[tactic(auto, unfolding(expression_parse::specs::Reading::call_arguments))]
+#[tactic(auto, unfolding(tapa_parse_expression::specs::Reading::call_arguments))]
 fn call_arguments(parser: &mut Parser, room: u32) -> Result<Vec<Expression>, Fault>
     ensures { Gives (λ es. map view.expression es.items) result parser.new (spec.call_arguments most_operators (spec.below room) parser.old) }
 {
@@ -113,7 +113,7 @@ fn call_arguments(parser: &mut Parser, room: u32) -> Result<Vec<Expression>, Fau
     Ok(found)
 }
 
-#[tactic(auto, unfolding(expression_parse::specs::Readers::repeat_behind, expression_parse::specs::Readers::repeat_from))]
+#[tactic(auto, unfolding(tapa_parse_expression::specs::Readers::repeat_behind, tapa_parse_expression::specs::Readers::repeat_from))]
 fn written(parser: &mut Parser, room: u32) -> Result<Vec<Expression>, Fault>
     ensures { Gives (λ es. map view.expression es.items) result parser.new (spec.written most_operators (spec.below room) parser.old) }
 {
@@ -128,7 +128,7 @@ fn written(parser: &mut Parser, room: u32) -> Result<Vec<Expression>, Fault>
     Ok(found)
 }
 
-#[tactic(auto, unfolding(expression_parse::specs::Readers::repeat_behind, expression_parse::specs::Readers::repeat_from))]
+#[tactic(auto, unfolding(tapa_parse_expression::specs::Readers::repeat_behind, tapa_parse_expression::specs::Readers::repeat_from))]
 fn targets(parser: &mut Parser, room: u32) -> Result<Vec<PlaceExpression>, Fault>
     ensures { Gives (λ ps. map view.place_expression_of ps.items) result parser.new (spec.targets most_operators (spec.below room) parser.old) }
 {
@@ -144,7 +144,7 @@ fn targets(parser: &mut Parser, room: u32) -> Result<Vec<PlaceExpression>, Fault
 }
 
 // What follows a place.
-#[tactic(auto, unfolding(expression_parse::specs::Reading::assigned))]
+#[tactic(auto, unfolding(tapa_parse_expression::specs::Reading::assigned))]
 fn assigned(parser: &mut Parser, target: PlaceExpression, room: u32) -> Result<Action, Fault>
     ensures { Gives view.action_of result parser.new (spec.assigned most_operators (spec.below room) (view.place_expression_of target) parser.old) }
 {
@@ -172,7 +172,7 @@ fn assigned(parser: &mut Parser, target: PlaceExpression, room: u32) -> Result<A
 }
 
 // What follows the name with which an action begins.
-#[tactic(auto, unfolding(expression_parse::specs::Reading::acted))]
+#[tactic(auto, unfolding(tapa_parse_expression::specs::Reading::acted))]
 fn acted(parser: &mut Parser, name: Name, room: u32) -> Result<Action, Fault>
     ensures { Gives view.action_of result parser.new (spec.acted most_operators (spec.below room) name parser.old) }
 {
@@ -202,7 +202,7 @@ fn acted(parser: &mut Parser, name: Name, room: u32) -> Result<Action, Fault>
     }
 }
 
-#[tactic(auto, unfolding(expression_parse::specs::Reading::stepped))]
+#[tactic(auto, unfolding(tapa_parse_expression::specs::Reading::stepped))]
 fn stepped(parser: &mut Parser, step: StepOperator, room: u32) -> Result<Action, Fault>
     ensures { Gives view.action_of result parser.new (spec.stepped most_operators (spec.below room) step parser.old) }
 {
@@ -217,7 +217,7 @@ fn stepped(parser: &mut Parser, step: StepOperator, room: u32) -> Result<Action,
     })
 }
 
-#[tactic(auto, unfolding(expression_parse::specs::Reading::action_with))]
+#[tactic(auto, unfolding(tapa_parse_expression::specs::Reading::action_with))]
 pub(crate) fn action(parser: &mut Parser, room: u32) -> Result<Action, Fault>
     ensures { Gives view.action_of result parser.new ((spec.at room).action parser.old) }
 {

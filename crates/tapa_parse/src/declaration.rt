@@ -4,11 +4,11 @@ ghost use Rattle.std.specs.Prelude.{◌≡◌, map, Some};
 ghost use Rattle.tapa_syntax.specs.Limits.{most_operators};
 ghost use Rattle.tapa_syntax.specs.Trees as view;
 ghost use Rattle.tapa_syntax.specs.declared.mark.Mark.TheVariants as mark;
-ghost use Rattle.expression_parse.specs.Readers.{Gives, separated_until, separated};
-ghost use Rattle.expression_parse.specs.Reading as spec;
+ghost use Rattle.tapa_parse_expression.specs.Readers.{Gives, separated_until, separated};
+ghost use Rattle.tapa_parse_expression.specs.Reading as spec;
 
 use crate::action::{condition, whole_expression};
-use expression_parse::{Fault, Parser};
+use tapa_parse_expression::{Fault, Parser};
 use std::alloc::Global;
 use tapa_syntax::{
     Attribute, AttributeArgument, AttributeArguments, Count, CountValue, Declaration, Declarator,
@@ -35,7 +35,7 @@ fn count_value(parser: &mut Parser, room: u32) -> Result<CountValue, Fault>
 }
 
 /// A depth or a number of cells.
-#[tactic(auto, unfolding(expression_parse::specs::Reading::counted))]
+#[tactic(auto, unfolding(tapa_parse_expression::specs::Reading::counted))]
 pub(crate) fn count(parser: &mut Parser, room: u32) -> Result<Count, Fault>
     ensures { Gives view.count_of result parser.new (spec.counted most_operators (spec.below room) parser.old) }
 {
@@ -44,7 +44,7 @@ pub(crate) fn count(parser: &mut Parser, room: u32) -> Result<Count, Fault>
     Ok(Count { place, value })
 }
 
-#[tactic(auto, unfolding(expression_parse::specs::Reading::declarator))]
+#[tactic(auto, unfolding(tapa_parse_expression::specs::Reading::declarator))]
 fn declarator(parser: &mut Parser, room: u32) -> Result<Declarator, Fault>
     ensures { Gives view.declarator_of result parser.new (spec.declarator most_operators (spec.below room) parser.old) }
 {
@@ -65,7 +65,7 @@ fn declarator(parser: &mut Parser, room: u32) -> Result<Declarator, Fault>
     }
 }
 
-#[tactic(auto, unfolding(expression_parse::specs::Readers::separated, expression_parse::specs::Readers::repeat_behind, expression_parse::specs::Readers::repeat_from))]
+#[tactic(auto, unfolding(tapa_parse_expression::specs::Readers::separated, tapa_parse_expression::specs::Readers::repeat_behind, tapa_parse_expression::specs::Readers::repeat_from))]
 fn declarators(parser: &mut Parser, room: u32) -> Result<Vec<Declarator>, Fault>
     ensures { Gives (λ ds. map view.declarator_of ds.items) result parser.new (separated mark.Comma (spec.declarator most_operators (spec.below room)) parser.old) }
 {
@@ -81,7 +81,7 @@ fn declarators(parser: &mut Parser, room: u32) -> Result<Vec<Declarator>, Fault>
     Ok(found)
 }
 
-#[tactic(auto, unfolding(expression_parse::specs::Reading::declaration_with))]
+#[tactic(auto, unfolding(tapa_parse_expression::specs::Reading::declaration_with))]
 pub(crate) fn declaration(parser: &mut Parser, room: u32) -> Result<Declaration, Fault>
     ensures { Gives view.declaration_of result parser.new ((spec.at room).declaration parser.old) }
 {
@@ -95,7 +95,7 @@ pub(crate) fn declaration(parser: &mut Parser, room: u32) -> Result<Declaration,
     })
 }
 
-#[tactic(auto, unfolding(expression_parse::specs::Reading::attribute_argument))]
+#[tactic(auto, unfolding(tapa_parse_expression::specs::Reading::attribute_argument))]
 fn attribute_argument(parser: &mut Parser) -> Result<AttributeArgument, Fault>
     ensures { Gives (λ x. x) result parser.new (spec.attribute_argument parser.old) }
 {
@@ -115,7 +115,7 @@ fn attribute_argument(parser: &mut Parser) -> Result<AttributeArgument, Fault>
     }
 }
 
-#[tactic(auto, unfolding(expression_parse::specs::Readers::separated, expression_parse::specs::Readers::repeat_behind, expression_parse::specs::Readers::repeat_from))]
+#[tactic(auto, unfolding(tapa_parse_expression::specs::Readers::separated, tapa_parse_expression::specs::Readers::repeat_behind, tapa_parse_expression::specs::Readers::repeat_from))]
 fn separated_attribute_arguments(parser: &mut Parser) -> Result<Vec<AttributeArgument>, Fault>
     ensures { Gives (λ xs. xs.items) result parser.new (separated mark.Comma spec.attribute_argument parser.old) }
 {
@@ -131,7 +131,7 @@ fn separated_attribute_arguments(parser: &mut Parser) -> Result<Vec<AttributeArg
     Ok(found)
 }
 
-#[tactic(auto, unfolding(expression_parse::specs::Readers::separated_until))]
+#[tactic(auto, unfolding(tapa_parse_expression::specs::Readers::separated_until))]
 fn any_attribute_arguments(parser: &mut Parser) -> Result<Vec<AttributeArgument>, Fault>
     ensures { Gives (λ xs. xs.items) result parser.new (separated_until mark.RightParen mark.Comma spec.attribute_argument parser.old) }
 {
@@ -142,7 +142,7 @@ fn any_attribute_arguments(parser: &mut Parser) -> Result<Vec<AttributeArgument>
     }
 }
 
-#[tactic(auto, unfolding(expression_parse::specs::Reading::listed_arguments))]
+#[tactic(auto, unfolding(tapa_parse_expression::specs::Reading::listed_arguments))]
 fn listed_arguments(parser: &mut Parser, room: u32) -> Result<Vec<AttributeArgument>, Fault>
     ensures { Gives (λ xs. xs.items) result parser.new (spec.listed_arguments (spec.below room) parser.old) }
 {
@@ -152,7 +152,7 @@ fn listed_arguments(parser: &mut Parser, room: u32) -> Result<Vec<AttributeArgum
     Ok(found)
 }
 
-#[tactic(auto, unfolding(expression_parse::specs::Reading::attribute_arguments))]
+#[tactic(auto, unfolding(tapa_parse_expression::specs::Reading::attribute_arguments))]
 fn attribute_arguments(parser: &mut Parser, room: u32) -> Result<AttributeArguments, Fault>
     ensures { Gives view.attribute_arguments_of result parser.new (spec.attribute_arguments (spec.below room) parser.old) }
 {
@@ -164,7 +164,7 @@ fn attribute_arguments(parser: &mut Parser, room: u32) -> Result<AttributeArgume
     }
 }
 
-#[tactic(auto, unfolding(expression_parse::specs::Reading::attribute))]
+#[tactic(auto, unfolding(tapa_parse_expression::specs::Reading::attribute))]
 fn attribute(parser: &mut Parser, room: u32) -> Result<Attribute, Fault>
     ensures { Gives view.attribute_of result parser.new (spec.attribute (spec.below room) parser.old) }
 {
@@ -179,7 +179,7 @@ fn attribute(parser: &mut Parser, room: u32) -> Result<Attribute, Fault>
     Ok(Attribute { name, arguments })
 }
 
-#[tactic(auto, unfolding(expression_parse::specs::Readers::repeat_behind, expression_parse::specs::Readers::repeat_from))]
+#[tactic(auto, unfolding(tapa_parse_expression::specs::Readers::repeat_behind, tapa_parse_expression::specs::Readers::repeat_from))]
 pub(crate) fn attributes(parser: &mut Parser, room: u32) -> Result<Vec<Attribute>, Fault>
     ensures { Gives (λ xs. map view.attribute_of xs.items) result parser.new (spec.attributes (spec.below room) parser.old) }
 {

@@ -1,6 +1,6 @@
 //! Why a source has no tree.
 
-use expression_parse::ParseCode;
+use tapa_parse_expression::ParseCode;
 use tapa_base::Place;
 
 /// Why a source was not read: the rule and the first lexeme that was refused, or the place behind the last byte; or memory

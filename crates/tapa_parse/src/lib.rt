@@ -10,7 +10,7 @@ mod source;
 mod statement;
 mod task;
 
-pub use expression_parse::ParseCode;
+pub use tapa_parse_expression::ParseCode;
 pub use fault::ParseFault;
 pub use laws::one_tree;
 pub use source::parse;

@@ -2,9 +2,9 @@
 
 ghost use Rattle.std.specs.Prelude.{◌≡◌};
 ghost use Rattle.tapa_syntax.specs.Grammar as grammar;
-ghost use Rattle.expression_parse.specs.Reading as spec;
+ghost use Rattle.tapa_parse_expression.specs.Reading as spec;
 
-use expression_parse::{is_name, one_kind};
+use tapa_parse_expression::{is_name, one_kind};
 use tapa_base::Op;
 use tapa_syntax::{AssignmentOperator, Mark, StepOperator};
 

@@ -5,13 +5,13 @@ ghost use Rattle.tapa_syntax.specs.Symbols.{Symbol};
 ghost use Rattle.tapa_syntax.specs.Limits.{most_operators};
 ghost use Rattle.tapa_syntax.specs.Trees as view;
 ghost use Rattle.tapa_syntax.specs.Trees.{StatementTree};
-ghost use Rattle.expression_parse.specs.Readers.{Gives, Outcome, and_then, pure};
-ghost use Rattle.expression_parse.specs.Reading as spec;
+ghost use Rattle.tapa_parse_expression.specs.Readers.{Gives, Outcome, and_then, pure};
+ghost use Rattle.tapa_parse_expression.specs.Reading as spec;
 
 use crate::action::{action, condition, whole_expression};
 use crate::declaration::{attributes, declaration};
 use crate::mark::{begins_action, begins_statement};
-use expression_parse::{Fault, ParseCode, Parser};
+use tapa_parse_expression::{Fault, ParseCode, Parser};
 use std::alloc::Global;
 use tapa_base::Place;
 use tapa_syntax::{Action, Expression, ForHead, ForStart, Mark, Statement};
@@ -62,7 +62,7 @@ fn while_statement(
 }
 
 // An action or a declaration, and a semicolon.
-#[tactic(auto, unfolding(expression_parse::specs::Reading::simple))]
+#[tactic(auto, unfolding(tapa_parse_expression::specs::Reading::simple))]
 fn simple(parser: &mut Parser, room: u32) -> Result<Statement, Fault>
     ensures { Gives view.statement result parser.new (spec.simple most_operators (spec.below room) parser.old) }
 {
@@ -76,7 +76,7 @@ fn simple(parser: &mut Parser, room: u32) -> Result<Statement, Fault>
     Ok(Statement::Declare(declaration))
 }
 
-#[tactic(auto, unfolding(expression_parse::specs::Reading::jump))]
+#[tactic(auto, unfolding(tapa_parse_expression::specs::Reading::jump))]
 fn jump(parser: &mut Parser) -> Result<Place, Fault>
     ensures { Gives (λ x. x) result parser.new (spec.jump parser.old) }
 {
@@ -86,7 +86,7 @@ fn jump(parser: &mut Parser) -> Result<Place, Fault>
     Ok(place)
 }
 
-#[tactic(auto, unfolding(expression_parse::specs::Reading::start))]
+#[tactic(auto, unfolding(tapa_parse_expression::specs::Reading::start))]
 fn start(parser: &mut Parser, room: u32) -> Result<ForStart, Fault>
     ensures { Gives view.start_of result parser.new (spec.start (spec.at room) parser.old) }
 {
@@ -101,7 +101,7 @@ fn start(parser: &mut Parser, room: u32) -> Result<ForStart, Fault>
     Ok(ForStart::Declare(declaration))
 }
 
-#[tactic(auto, unfolding(expression_parse::specs::Reading::loop_test))]
+#[tactic(auto, unfolding(tapa_parse_expression::specs::Reading::loop_test))]
 fn test(parser: &mut Parser, room: u32) -> Result<Option<Expression>, Fault>
     ensures { Gives (view.option_of view.expression) result parser.new (spec.loop_test most_operators (spec.at room) parser.old) }
 {
@@ -112,7 +112,7 @@ fn test(parser: &mut Parser, room: u32) -> Result<Option<Expression>, Fault>
     Ok(Some(e))
 }
 
-#[tactic(auto, unfolding(expression_parse::specs::Reading::step))]
+#[tactic(auto, unfolding(tapa_parse_expression::specs::Reading::step))]
 fn step(parser: &mut Parser, room: u32) -> Result<Option<Action>, Fault>
     ensures { Gives (view.option_of view.action_of) result parser.new (spec.step (spec.at room) parser.old) }
 {
@@ -123,7 +123,7 @@ fn step(parser: &mut Parser, room: u32) -> Result<Option<Action>, Fault>
     Ok(Some(action))
 }
 
-#[tactic(auto, unfolding(expression_parse::specs::Reading::head))]
+#[tactic(auto, unfolding(tapa_parse_expression::specs::Reading::head))]
 fn head(parser: &mut Parser, room: u32) -> Result<Box<ForHead>, Fault>
     ensures { Gives (λ head. view.head_of head.value) result parser.new (spec.head most_operators (spec.below room) parser.old) }
 {
@@ -138,7 +138,7 @@ fn head(parser: &mut Parser, room: u32) -> Result<Box<ForHead>, Fault>
 }
 
 #[cycle(statement)]
-#[tactic(auto, unfolding(expression_parse::specs::Reading::statement_with))]
+#[tactic(auto, unfolding(tapa_parse_expression::specs::Reading::statement_with))]
 fn statement(parser: &mut Parser, room: u32) -> Result<Statement, Fault>
     ensures { Gives view.statement result parser.new (spec.statement_with most_operators (spec.below room) parser.old) }
 {
@@ -151,7 +151,7 @@ fn statement(parser: &mut Parser, room: u32) -> Result<Statement, Fault>
 
 /// Statements up to a closing brace.
 #[cycle(statement)]
-#[tactic(auto, unfolding(expression_parse::specs::Readers::repeat_behind, expression_parse::specs::Readers::repeat_from))]
+#[tactic(auto, unfolding(tapa_parse_expression::specs::Readers::repeat_behind, tapa_parse_expression::specs::Readers::repeat_from))]
 pub(crate) fn statements(parser: &mut Parser, room: u32) -> Result<Vec<Statement>, Fault>
     ensures { Gives (λ ss. map view.statement ss.items) result parser.new (spec.statements_with most_operators (spec.below room) parser.old) }
 {
@@ -166,7 +166,7 @@ pub(crate) fn statements(parser: &mut Parser, room: u32) -> Result<Vec<Statement
 }
 
 #[cycle(statement)]
-#[tactic(auto, unfolding(expression_parse::specs::Reading::braces))]
+#[tactic(auto, unfolding(tapa_parse_expression::specs::Reading::braces))]
 fn braces(parser: &mut Parser, room: u32) -> Result<Statement, Fault>
     ensures { Gives view.statement result parser.new (spec.braces most_operators (spec.below room) parser.old) }
 {
@@ -178,7 +178,7 @@ fn braces(parser: &mut Parser, room: u32) -> Result<Statement, Fault>
 
 // What may follow the first side of an `if`: an `else` belongs to the nearest one.
 #[cycle(statement)]
-#[tactic(auto, unfolding(expression_parse::specs::Reading::otherwise))]
+#[tactic(auto, unfolding(tapa_parse_expression::specs::Reading::otherwise))]
 fn otherwise(
     parser: &mut Parser,
     test: Expression,
@@ -196,7 +196,7 @@ fn otherwise(
 }
 
 #[cycle(statement)]
-#[tactic(auto, unfolding(expression_parse::specs::Reading::choice))]
+#[tactic(auto, unfolding(tapa_parse_expression::specs::Reading::choice))]
 fn choice(parser: &mut Parser, room: u32) -> Result<Statement, Fault>
     ensures { Gives view.statement result parser.new (spec.choice most_operators (spec.below room) parser.old) }
 {
@@ -207,7 +207,7 @@ fn choice(parser: &mut Parser, room: u32) -> Result<Statement, Fault>
 }
 
 #[cycle(statement)]
-#[tactic(auto, unfolding(expression_parse::specs::Reading::repetition))]
+#[tactic(auto, unfolding(tapa_parse_expression::specs::Reading::repetition))]
 fn repetition(parser: &mut Parser, room: u32) -> Result<Statement, Fault>
     ensures { Gives view.statement result parser.new (spec.repetition most_operators (spec.below room) parser.old) }
 {
@@ -218,7 +218,7 @@ fn repetition(parser: &mut Parser, room: u32) -> Result<Statement, Fault>
 }
 
 #[cycle(statement)]
-#[tactic(auto, unfolding(expression_parse::specs::Reading::counting_loop))]
+#[tactic(auto, unfolding(tapa_parse_expression::specs::Reading::counting_loop))]
 fn counting_loop(parser: &mut Parser, room: u32) -> Result<Statement, Fault>
     ensures { Gives view.statement result parser.new (spec.counting_loop most_operators (spec.below room) parser.old) }
 {
@@ -229,7 +229,7 @@ fn counting_loop(parser: &mut Parser, room: u32) -> Result<Statement, Fault>
 }
 
 #[cycle(statement)]
-#[tactic(auto, unfolding(expression_parse::specs::Reading::transaction_loop))]
+#[tactic(auto, unfolding(tapa_parse_expression::specs::Reading::transaction_loop))]
 fn transaction_loop(parser: &mut Parser, room: u32) -> Result<Statement, Fault>
     ensures { Gives view.statement result parser.new (spec.transaction_loop most_operators (spec.below room) parser.old) }
 {
@@ -243,7 +243,7 @@ fn transaction_loop(parser: &mut Parser, room: u32) -> Result<Statement, Fault>
 
 // A statement without attributes, whose level is open.
 #[cycle(statement)]
-#[tactic(auto, unfolding(expression_parse::specs::Reading::bare))]
+#[tactic(auto, unfolding(tapa_parse_expression::specs::Reading::bare))]
 fn bare(parser: &mut Parser, room: u32) -> Result<Statement, Fault>
     ensures { Gives view.statement result parser.new (spec.bare most_operators (spec.below room) parser.old) }
 {
@@ -271,7 +271,7 @@ fn bare(parser: &mut Parser, room: u32) -> Result<Statement, Fault>
 
 // A statement whose level is open.
 #[cycle(statement)]
-#[tactic(auto, unfolding(expression_parse::specs::Reading::inside_with))]
+#[tactic(auto, unfolding(tapa_parse_expression::specs::Reading::inside_with))]
 fn inside(parser: &mut Parser, room: u32) -> Result<Statement, Fault>
     ensures { Gives view.statement result parser.new ((spec.at room).inside parser.old) }
 {

@@ -4,13 +4,13 @@ ghost use Rattle.std.specs.Prelude.{◌≡◌, map};
 ghost use Rattle.tapa_syntax.specs.Limits.{most_operators};
 ghost use Rattle.tapa_syntax.specs.Trees as view;
 ghost use Rattle.tapa_syntax.specs.declared.mark.Mark.TheVariants as mark;
-ghost use Rattle.expression_parse.specs.Readers.{Gives, separated_until, separated};
+ghost use Rattle.tapa_parse_expression.specs.Readers.{Gives, separated_until, separated};
 ghost use Rattle.tapa_parse.specs.Reading as spec;
 
 use crate::action::whole_expression;
 use crate::declaration::{attributes, count};
 use crate::statement::statements;
-use expression_parse::{Fault, ParseCode, Parser};
+use tapa_parse_expression::{Fault, ParseCode, Parser};
 use std::alloc::Global;
 use tapa_base::Kind;
 use tapa_syntax::{
@@ -89,7 +89,7 @@ fn parameter(parser: &mut Parser) -> Result<Parameter, Fault>
     port(parser)
 }
 
-#[tactic(auto, unfolding(expression_parse::specs::Readers::separated, expression_parse::specs::Readers::repeat_behind, expression_parse::specs::Readers::repeat_from))]
+#[tactic(auto, unfolding(tapa_parse_expression::specs::Readers::separated, tapa_parse_expression::specs::Readers::repeat_behind, tapa_parse_expression::specs::Readers::repeat_from))]
 fn separated_parameters(parser: &mut Parser) -> Result<Vec<Parameter>, Fault>
     ensures { Gives (λ xs. xs.items) result parser.new (separated mark.Comma spec.parameter parser.old) }
 {
@@ -105,7 +105,7 @@ fn separated_parameters(parser: &mut Parser) -> Result<Vec<Parameter>, Fault>
     Ok(found)
 }
 
-#[tactic(auto, unfolding(expression_parse::specs::Readers::separated_until))]
+#[tactic(auto, unfolding(tapa_parse_expression::specs::Readers::separated_until))]
 fn any_parameters(parser: &mut Parser) -> Result<Vec<Parameter>, Fault>
     ensures { Gives (λ xs. xs.items) result parser.new (separated_until mark.RightParen mark.Comma spec.parameter parser.old) }
 {
@@ -141,7 +141,7 @@ fn stream_name(parser: &mut Parser) -> Result<Name, Fault>
     Ok(name)
 }
 
-#[tactic(auto, unfolding(expression_parse::specs::Readers::separated, expression_parse::specs::Readers::repeat_behind, expression_parse::specs::Readers::repeat_from))]
+#[tactic(auto, unfolding(tapa_parse_expression::specs::Readers::separated, tapa_parse_expression::specs::Readers::repeat_behind, tapa_parse_expression::specs::Readers::repeat_from))]
 fn stream_names(parser: &mut Parser) -> Result<Vec<Name>, Fault>
     ensures { Gives (λ xs. xs.items) result parser.new (separated mark.Comma spec.stream_name parser.old) }
 {
@@ -185,7 +185,7 @@ fn stream(parser: &mut Parser, room: u32) -> Result<StreamDeclaration, Fault>
     Ok(StreamDeclaration { kind, depth, names })
 }
 
-#[tactic(auto, unfolding(expression_parse::specs::Readers::repeat_behind, expression_parse::specs::Readers::repeat_from))]
+#[tactic(auto, unfolding(tapa_parse_expression::specs::Readers::repeat_behind, tapa_parse_expression::specs::Readers::repeat_from))]
 fn streams(parser: &mut Parser, room: u32) -> Result<Vec<StreamDeclaration>, Fault>
     ensures { Gives (λ xs. map view.stream_of xs.items) result parser.new (spec.streams most_operators (spec.below room) parser.old) }
 {
@@ -223,7 +223,7 @@ fn invocation_argument(parser: &mut Parser, room: u32) -> Result<InvocationArgum
     Ok(InvocationArgument { place, value })
 }
 
-#[tactic(auto, unfolding(expression_parse::specs::Readers::repeat_behind, expression_parse::specs::Readers::repeat_from))]
+#[tactic(auto, unfolding(tapa_parse_expression::specs::Readers::repeat_behind, tapa_parse_expression::specs::Readers::repeat_from))]
 fn invocation_arguments(parser: &mut Parser, room: u32) -> Result<Vec<InvocationArgument>, Fault>
     ensures { Gives (λ xs. map view.argument_of xs.items) result parser.new (spec.invocation_arguments most_operators (spec.at room) parser.old) }
 {
@@ -257,7 +257,7 @@ fn invocation(parser: &mut Parser, room: u32) -> Result<Invocation, Fault>
 }
 
 // At least one.
-#[tactic(auto, unfolding(crate::specs::Reading::chained, expression_parse::specs::Readers::repeat_behind, expression_parse::specs::Readers::repeat_from))]
+#[tactic(auto, unfolding(crate::specs::Reading::chained, tapa_parse_expression::specs::Readers::repeat_behind, tapa_parse_expression::specs::Readers::repeat_from))]
 fn chained(parser: &mut Parser, room: u32) -> Result<Vec<Invocation>, Fault>
     ensures { Gives (λ xs. map view.invocation_of xs.items) result parser.new (spec.chained most_operators (spec.below room) parser.old) }
 {
@@ -372,7 +372,7 @@ fn item(parser: &mut Parser, room: u32) -> Result<FileItem, Fault>
     Ok(FileItem::Task(task))
 }
 
-#[tactic(auto, unfolding(expression_parse::specs::Readers::repeat_behind, expression_parse::specs::Readers::repeat_from))]
+#[tactic(auto, unfolding(tapa_parse_expression::specs::Readers::repeat_behind, tapa_parse_expression::specs::Readers::repeat_from))]
 fn items(parser: &mut Parser, room: u32) -> Result<Vec<FileItem>, Fault>
     ensures { Gives (λ xs. map view.item_of xs.items) result parser.new (spec.items most_operators (spec.below room) parser.old) }
 {

@@ -14,7 +14,7 @@ use Rattle.vlog_tree.specs.Table.{Name, NameUse, no, clk, first_violation, port_
 use Rattle.vlog_tree.specs.Labels.{rst, done}
 use Rattle.vlog_tree.specs.V6.{module_children, contained_names, roots, first_name, is_top, has_port, top_ports, clock_links, is_whole_top, module_tops, v6_uses}
 use Rattle.vlog_tree.specs.Loops.{one, more, Reaches, own_containment, containment, own_places, IsLoopless}
-use Rattle.vlog_feedback.proofs.Lists.{has_flat, of_flat, has_map}
+use Rattle.vlog_comb_loops.proofs.Lists.{has_flat, of_flat, has_map}
 
 none_more : (n : ℕ) → 0 + n ≡ n
 none_more n = omega arith

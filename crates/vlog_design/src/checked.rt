@@ -16,9 +16,9 @@ use crate::shape::{top_shape, top_streams};
 use std::alloc::{AllocError, Global};
 use std::marker::Model;
 use tapa_base::{Port, Shape, Text};
-use vlog_feedback::first_on_loop;
+use vlog_comb_loops::first_on_loop;
 use vlog_rules::{Library, copy_text};
-use vlog_sound::Sound;
+use vlog_drivers::Sound;
 use vlog_tree::{Module, VFault};
 
 /// Modules that break none of the rules on names, widths, drivers, loops and the top, and the top's place among them.

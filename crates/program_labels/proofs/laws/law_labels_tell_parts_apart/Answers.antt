@@ -1,8 +1,8 @@
 use Rattle.tapa_syntax.specs.Symbols.{symbols_of}
 use Rattle.stream_check.specs.Programs.{all_levels, whole_faults}
 use Rattle.stream_check.proofs.WellLists.{no_faults}
-use Rattle.upper_check.specs.Items.{no_items, items_faults, tasks_of}
-use Rattle.upper_check.specs.Tasks.{task_place}
+use Rattle.check_upper.specs.Items.{no_items, items_faults, tasks_of}
+use Rattle.check_upper.specs.Tasks.{task_place}
 use Rattle.program_labels.proofs.Declared.{legal_names}
 use Rattle.program_labels.proofs.Invoked.{legal_tasks_invoke}
 use Rattle.program_labels.proofs.Parts.{tasks_labelled}

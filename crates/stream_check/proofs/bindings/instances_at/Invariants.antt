@@ -1,6 +1,6 @@
 use Rattle.std.proofs.Common.{◌≡◌, ◌++◌, map, drop}
 use Rattle.tapa_syntax.specs.Flat.{flat_instance}
-use Rattle.upper_check.specs.Views.{task_view}
+use Rattle.check_upper.specs.Views.{task_view}
 use Rattle.stream_check.specs.Programs as program
 use Rattle.stream_check.proofs.bindings.instances_at.Given as goal
 

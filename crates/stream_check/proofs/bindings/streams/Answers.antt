@@ -1,7 +1,7 @@
 use Rattle.std.proofs.Common.{◌≡◌, ◌+◌, ◌++◌, drop, map, sym, ap, ◌∙◌}
 use Rattle.std.proofs.lemmas.Result.{err_from_is_err_and}
 use Rattle.tapa_syntax.specs.Flat.{flat_instance}
-use Rattle.upper_check.specs.Views.{task_view}
+use Rattle.check_upper.specs.Views.{task_view}
 use Rattle.stream_check.specs.Programs as program
 use Rattle.stream_check.proofs.Order.{begins, refuses}
 use Rattle.stream_check.proofs.bindings.streams.Goals as goal

@@ -1,7 +1,7 @@
 use Rattle.std.proofs.Common.{◌≡◌, ◌++◌, map}
 use Rattle.std.specs.Vec.Iter.{into_iter_items}
 use Rattle.tapa_syntax.specs.Flat.{flat_leaf}
-use Rattle.upper_check.specs.Views.{task_view}
+use Rattle.check_upper.specs.Views.{task_view}
 use Rattle.stream_check.specs.Programs as program
 use Rattle.stream_check.proofs.body.bodies.Given as goal
 

@@ -1,8 +1,8 @@
 use Rattle.std.proofs.Common.{◌≡◌, ◌<◌, ◌+◌, ◌-◌, ℕ, List, drop, map, length, sym, ap, ◌∙◌, arith}
 use Rattle.std.proofs.lemmas.Result.{err_from_is_err_and}
 use Rattle.tapa_syntax.specs.Flat.{FlatInstance, flat_instance}
-use Rattle.upper_check.specs.declared.task.Invoked.{Invoked}
-use Rattle.upper_check.specs.Views.{invocation_view, task_view}
+use Rattle.check_upper.specs.declared.task.Invoked.{Invoked}
+use Rattle.check_upper.specs.Views.{invocation_view, task_view}
 use Rattle.stream_check.specs.Parts as spec
 use Rattle.stream_check.specs.Parts.{Part}
 use Rattle.stream_check.specs.Views.{flat_of, flat_faults, with_parts}

@@ -1,6 +1,6 @@
 use Rattle.std.proofs.Common.{◌≡◌, ◌+◌, ◌*◌, length, map, drop}
 use Rattle.tapa_syntax.specs.Flat.{flat_instance}
-use Rattle.upper_check.specs.Views.{invocation_view, task_view}
+use Rattle.check_upper.specs.Views.{invocation_view, task_view}
 use Rattle.stream_check.specs.Parts as spec
 use Rattle.stream_check.specs.Views.{flat_of, flat_faults, with_parts}
 use Rattle.stream_check.proofs.parts.+hierarchy.Given as goal

@@ -4,8 +4,8 @@ use Rattle.tapa_syntax.specs.declared.program.Program.{Program}
 use Rattle.tapa_syntax.specs.Flat.{flat_program}
 use Rattle.tapa_syntax.specs.Trees.{ItemTree, file_of}
 use Rattle.tapa_syntax.specs.WellFormed.{IsWellFormed}
-use Rattle.scope_check.specs.Answers.{Answers}
-use Rattle.scope_check.specs.declared.fault.CheckFault.{CheckFault}
+use Rattle.check_scope.specs.Answers.{Answers}
+use Rattle.check_scope.specs.declared.fault.CheckFault.{CheckFault}
 use Rattle.stream_check.specs.Programs.{program_faults, program_of}
 use Rattle.stream_check.proofs.WellPrograms.{legal_program_well}
 use Rattle.stream_check.proofs.program.check.Goals as goal

@@ -3,10 +3,10 @@ use Rattle.std.specs.Prelude.{Err}
 use Rattle.std.proofs.lemmas.Result.{err_from_is_err_and}
 use Rattle.tapa_syntax.specs.declared.tree.FileItem.{FileItem}
 use Rattle.tapa_syntax.specs.Trees.{item_of}
-use Rattle.scope_check.specs.Answers.{Answers}
-use Rattle.upper_check.specs.Items.{no_items, items_faults, tasks_of}
-use Rattle.upper_check.specs.Tasks.{task_place}
-use Rattle.upper_check.specs.Views.{task_view}
+use Rattle.check_scope.specs.Answers.{Answers}
+use Rattle.check_upper.specs.Items.{no_items, items_faults, tasks_of}
+use Rattle.check_upper.specs.Tasks.{task_place}
+use Rattle.check_upper.specs.Views.{task_view}
 use Rattle.stream_check.proofs.Whole.{file_goes, file_stops}
 use Rattle.stream_check.proofs.program.checked.Goals as goal
 

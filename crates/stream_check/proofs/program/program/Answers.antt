@@ -1,9 +1,9 @@
 use Rattle.std.proofs.Common.{◌≡◌, List, [], Some, map, sym, ap, subst, ◌∙◌}
 use Rattle.std.specs.Prelude.{Err, slice_get}
 use Rattle.std.proofs.lemmas.Result.{err_from_is_err_and}
-use Rattle.scope_check.specs.Answers.{Answers}
-use Rattle.upper_check.specs.declared.task.Task.{Task}
-use Rattle.upper_check.specs.Views.{task_view}
+use Rattle.check_scope.specs.Answers.{Answers}
+use Rattle.check_upper.specs.declared.task.Task.{Task}
+use Rattle.check_upper.specs.Views.{task_view}
 use Rattle.stream_check.specs.Programs.{limit_faults, top_parts}
 use Rattle.stream_check.specs.Views.{flat_of, flat_parts}
 use Rattle.stream_check.proofs.Whole.{whole_goes, whole_stops}

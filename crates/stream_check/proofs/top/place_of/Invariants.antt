@@ -1,6 +1,6 @@
 use Rattle.std.proofs.Common.{◌≡◌, map, drop}
-use Rattle.upper_check.specs.Tasks.{task_place}
-use Rattle.upper_check.specs.Views.{task_view}
+use Rattle.check_upper.specs.Tasks.{task_place}
+use Rattle.check_upper.specs.Views.{task_view}
 use Rattle.stream_check.proofs.top.place_of.Given as goal
 
 abbrev pub invariant-loop-place : goal.invariant-loop-place

@@ -1,5 +1,5 @@
 use Rattle.std.proofs.Common.{Err, subst}
-use Rattle.scope_check.specs.declared.fault.CheckFault.{CheckFault}
+use Rattle.check_scope.specs.declared.fault.CheckFault.{CheckFault}
 use Rattle.tapa_drive.proofs.Answered.{Checks, program_of_tree, breaks_first}
 use Rattle.tapa_drive.proofs.program.read_program.Goals as goal
 

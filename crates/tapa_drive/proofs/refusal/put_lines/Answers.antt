@@ -1,8 +1,8 @@
 use Rattle.std.proofs.Common.{◌≡◌, ℕ, Vec, get_or, ◌∙◌, ap}
 use Rattle.std.specs.declared.alloc.Global.{Global}
 use Rattle.tapa_base.proofs.Known.{part_of_next}
-use Rattle.program_run.specs.Ending.{joined}
-use Rattle.program_run.proofs.Lines.{on_err, lines_next}
+use Rattle.run_program.specs.Ending.{joined}
+use Rattle.run_program.proofs.Lines.{on_err, lines_next}
 use Rattle.tapa_drive.proofs.refusal.put_lines.Goals as goal
 
 pub returns-in_err-put_all-clause-part : goal.returns-in_err-put_all-clause-part

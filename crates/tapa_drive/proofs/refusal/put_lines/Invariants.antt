@@ -1,6 +1,6 @@
 use Rattle.std.proofs.Common.{◌≤◌, take}
 use Rattle.std.specs.Io.KnownBytes.{Appends}
-use Rattle.program_run.specs.Ending.{joined}
+use Rattle.run_program.specs.Ending.{joined}
 use Rattle.tapa_drive.proofs.refusal.put_lines.Given as goal
 
 abbrev pub invariant-loop-line : goal.invariant-loop-line

@@ -1,5 +1,5 @@
 use Rattle.std.proofs.Common.{inl, inr}
-use Rattle.command_words.specs.Words.{texts}
+use Rattle.tapa_words.specs.Words.{texts}
 use Rattle.tapa_drive.specs.Meaning.{reason}
 use Rattle.tapa_drive.specs.Refusal.{NoMemory}
 use Rattle.tapa_drive.proofs.Answered.{left_part}

@@ -1,9 +1,9 @@
 use Rattle.std.proofs.Common.{Option, subst}
 use Rattle.std.specs.Prelude.{option_map}
 use Rattle.tapa_base.specs.Outside.{Files}
-use Rattle.program_run.specs.declared.run.RunEnd.{RunEnd}
-use Rattle.program_run.specs.Ending.{EndsSo}
-use Rattle.program_run.specs.Run.{values_of}
+use Rattle.run_program.specs.declared.run.RunEnd.{RunEnd}
+use Rattle.run_program.specs.Ending.{EndsSo}
+use Rattle.run_program.specs.Run.{values_of}
 use Rattle.tapa_drive.specs.Files.{OfData}
 use Rattle.tapa_drive.specs.Found.{IsNotGiven}
 use Rattle.tapa_drive.specs.Inputs.{GivesValues}

@@ -1,5 +1,5 @@
 use Rattle.std.proofs.Common.{ap}
-use Rattle.command_words.specs.Words.{texts}
+use Rattle.tapa_words.specs.Words.{texts}
 use Rattle.tapa_drive.proofs.Decided.{decided, lengthy, usage}
 use Rattle.tapa_drive.proofs.top.tapa.Goals as goal
 

@@ -1,8 +1,8 @@
 use Rattle.std.proofs.Common.{◌≡◌, ◌-◌, map}
 use Rattle.tapa_syntax.specs.Trees as view
 use Rattle.tapa_syntax.specs.declared.mark.Mark.TheVariants as mark
-use Rattle.expression_parse.specs.Readers.{sees, repeat_from}
-use Rattle.expression_parse.specs.Reading as spec
+use Rattle.tapa_parse_expression.specs.Readers.{sees, repeat_from}
+use Rattle.tapa_parse_expression.specs.Reading as spec
 use Rattle.tapa_parse.proofs.declaration.attributes.Given as goal
 
 abbrev pub invariant-loop-turn : goal.invariant-loop-turn

@@ -1,7 +1,7 @@
 use Rattle.std.proofs.Common.{◌≡◌, ◌-◌}
 use Rattle.tapa_syntax.specs.declared.mark.Mark.TheVariants as mark
-use Rattle.expression_parse.specs.Readers.{◌>>◌, sees, skip, separated, repeat_from}
-use Rattle.expression_parse.specs.Reading as spec
+use Rattle.tapa_parse_expression.specs.Readers.{◌>>◌, sees, skip, separated, repeat_from}
+use Rattle.tapa_parse_expression.specs.Reading as spec
 use Rattle.tapa_parse.proofs.declaration.separated_attribute_arguments.Given as goal
 
 abbrev pub invariant-loop-turn : goal.invariant-loop-turn

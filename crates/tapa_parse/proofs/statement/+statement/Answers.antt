@@ -3,11 +3,11 @@ use Rattle.std.proofs.lemmas.Grind.{common_steps}
 use Rattle.tapa_syntax.specs.Limits.{most_operators}
 use Rattle.tapa_syntax.specs.Trees as view
 use Rattle.tapa_syntax.specs.declared.mark.Mark.TheVariants as mark
-use Rattle.expression_parse.specs.Readers.{sees, repeat_from}
-use Rattle.expression_parse.specs.Reading as spec
-use Rattle.expression_parse.specs.Reading.{braces}
-use Rattle.expression_parse.proofs.Turns.{one_more}
-use Rattle.expression_parse.proofs.Rows.{map-push}
+use Rattle.tapa_parse_expression.specs.Readers.{sees, repeat_from}
+use Rattle.tapa_parse_expression.specs.Reading as spec
+use Rattle.tapa_parse_expression.specs.Reading.{braces}
+use Rattle.tapa_parse_expression.proofs.Turns.{one_more}
+use Rattle.tapa_parse_expression.proofs.Rows.{map-push}
 use Rattle.tapa_parse.proofs.Rows.{statement-Block}
 use Rattle.tapa_parse.proofs.statement.+statement.Goals as goal
 

@@ -2,8 +2,8 @@ use Rattle.std.proofs.Common.{◌≡◌, ◌-◌, ◌+◌, ◌*◌, map, not}
 use Rattle.tapa_syntax.specs.Limits.{most_operators}
 use Rattle.tapa_syntax.specs.Trees as view
 use Rattle.tapa_syntax.specs.declared.mark.Mark.TheVariants as mark
-use Rattle.expression_parse.specs.Readers.{sees, repeat_from}
-use Rattle.expression_parse.specs.Reading as spec
+use Rattle.tapa_parse_expression.specs.Readers.{sees, repeat_from}
+use Rattle.tapa_parse_expression.specs.Reading as spec
 use Rattle.tapa_parse.proofs.statement.+statement.Given as goal
 
 abbrev pub decreases-bare : goal.decreases-bare

@@ -1,7 +1,7 @@
 use Rattle.std.proofs.Common.{◌≡◌, ◌-◌, map}
 use Rattle.tapa_syntax.specs.Limits.{most_operators}
 use Rattle.tapa_syntax.specs.Trees as view
-use Rattle.expression_parse.specs.Readers.{is_left, repeat_from}
+use Rattle.tapa_parse_expression.specs.Readers.{is_left, repeat_from}
 use Rattle.tapa_parse.specs.Reading as spec
 use Rattle.tapa_parse.proofs.task.items.Given as goal
 

@@ -1,9 +1,9 @@
 use Rattle.std.proofs.Common.{rules, arith}
 use Rattle.std.proofs.lemmas.Grind.{common_steps}
 use Rattle.tapa_syntax.specs.declared.mark.Mark.TheVariants as mark
-use Rattle.expression_parse.specs.Readers.{◌>>◌, sees, skip, repeat_from}
+use Rattle.tapa_parse_expression.specs.Readers.{◌>>◌, sees, skip, repeat_from}
 use Rattle.tapa_parse.specs.Reading as spec
-use Rattle.expression_parse.proofs.Turns.{one_more}
+use Rattle.tapa_parse_expression.proofs.Turns.{one_more}
 use Rattle.tapa_parse.proofs.task.separated_parameters.Goals as goal
 
 pub loop-turn-preserved : goal.loop-turn-preserved

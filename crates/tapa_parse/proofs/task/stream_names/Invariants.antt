@@ -1,6 +1,6 @@
 use Rattle.std.proofs.Common.{◌≡◌, ◌-◌}
 use Rattle.tapa_syntax.specs.declared.mark.Mark.TheVariants as mark
-use Rattle.expression_parse.specs.Readers.{◌>>◌, sees, skip, separated, repeat_from}
+use Rattle.tapa_parse_expression.specs.Readers.{◌>>◌, sees, skip, separated, repeat_from}
 use Rattle.tapa_parse.specs.Reading as spec
 use Rattle.tapa_parse.proofs.task.stream_names.Given as goal
 

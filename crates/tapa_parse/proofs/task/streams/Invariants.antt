@@ -2,7 +2,7 @@ use Rattle.std.proofs.Common.{◌≡◌, ◌-◌, map, drop}
 use Rattle.tapa_syntax.specs.Limits.{most_operators}
 use Rattle.tapa_syntax.specs.Trees as view
 use Rattle.tapa_syntax.specs.declared.mark.Mark.TheVariants as mark
-use Rattle.expression_parse.specs.Readers.{sees, repeat_from}
+use Rattle.tapa_parse_expression.specs.Readers.{sees, repeat_from}
 use Rattle.tapa_parse.specs.Reading as spec
 use Rattle.tapa_parse.proofs.task.streams.Given as goal
 

@@ -3,8 +3,8 @@ use Rattle.std.specs.Option.{option_copied}
 use Rattle.vlog_tree.specs.Table.{Name}
 use Rattle.vlog_tree.specs.V6.{is_top}
 use Rattle.vlog_tree.specs.Loops.{LiesOnLoop, text_places, TellsLoop}
-use Rattle.vlog_feedback.specs.Search.{IsSearched}
-use Rattle.vlog_feedback.specs.Summaries.{is_named}
+use Rattle.vlog_comb_loops.specs.Search.{IsSearched}
+use Rattle.vlog_comb_loops.specs.Summaries.{is_named}
 use Rattle.vlog_design.proofs.checked.check_loops.Goals as goal
 
 pub returns-in-Some-clause-refused : goal.returns-in-Some-clause-refused

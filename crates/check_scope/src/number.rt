@@ -1,0 +1,26 @@
+ghost use Rattle.std.specs.Prelude.{◌+◌, []};
+ghost use Rattle.check_scope.specs.Answers.{Answers};
+
+use crate::fault::CheckFault;
+
+/// A number of 32 bits. What is held in memory has none past that.
+pub fn number_of(count: usize) -> Result<u32, CheckFault>
+    ensures { Answers (λ n. n) result [] count }
+{
+    if count <= u32::MAX as usize {
+        Ok(count as u32)
+    } else {
+        Err(CheckFault::OutOfMemory)
+    }
+}
+
+/// The next number. What is held in memory has none past 32 bits.
+pub fn next_number(number: u32) -> Result<u32, CheckFault>
+    ensures { Answers (λ n. n) result [] (number + 1) }
+{
+    if number == u32::MAX {
+        Err(CheckFault::OutOfMemory)
+    } else {
+        Ok(number + 1)
+    }
+}

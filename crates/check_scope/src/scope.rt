@@ -1,0 +1,153 @@
+ghost use Rattle.std.specs.Prelude.{◌≡◌, ◌<◌, ◌≤◌, ◌+◌, ◌∷◌, ◌++◌, [], IfSome, IfOk, Some, length};
+ghost use Rattle.check_scope.specs.Answers.{Answers};
+ghost use Rattle.check_scope.specs.Faults as faults;
+ghost use Rattle.check_scope.specs.Roles.{fits};
+ghost use Rattle.check_scope.specs.Scopes as scope;
+ghost use Rattle.check_scope.specs.Scopes.{Block, IsSound, Scope as Blocks};
+
+use crate::fault::{CheckCode, CheckFault, refused};
+use crate::names::Names;
+use crate::role::Role;
+use crate::sort::Sort;
+use std::alloc::Global;
+use std::marker::Model;
+use tapa_base::Text;
+use tapa_syntax::Name;
+
+/// The names in scope: the file's, and those of the blocks that are open, the innermost last (ISO C++
+/// [basic.scope.block]).
+#[derive(Drop)]
+pub struct Scope<'a> {
+    file: &'a Names,
+    blocks: Vec<Names>,
+}
+
+impl<'a> Model for Scope<'a> {
+    ghost use Rattle.std.specs.Prelude.{◌∷◌};
+    ghost use Rattle.check_scope.specs.Scopes.{Scope};
+
+    ghost Value = { Scope };
+
+    ghost view = { λ s. s.file.now ∷ s.blocks.items };
+}
+
+impl<'a> Scope<'a> {
+    /// The scope of a file.
+    pub fn new(alloc: Global, file: &'a Names) -> Self
+        ensures { result ≡ file.now ∷ [] }
+    {
+        Scope {
+            file,
+            blocks: Vec::new(alloc),
+        }
+    }
+
+    /// A block begins.
+    pub fn enter(&mut self, alloc: Global) -> Result<(), CheckFault>
+        ensures count { length self.old ≤ length self.new }
+        ensures value { Answers (λ x. self.new) result [] (self.old ++ [] ∷ []) }
+    {
+        self.blocks.push(Names::new(alloc))?;
+        Ok(())
+    }
+
+    /// The innermost block ends.
+    pub fn leave(&mut self)
+        ensures count { length self.old ≤ length self.new + 1 }
+        ensures value { (E : Blocks) (b : Block) → 0 < length E → self.old ≡ E ++ b ∷ [] → self.new ≡ E }
+    {
+        let Some(_innermost) = self.blocks.pop() else {
+            return;
+        };
+    }
+
+    /// What the innermost block declares a name as.
+    fn sort_here(&self, name: &Text) -> Option<Sort>
+        ensures { result ≡ scope.sort_here name.now self.now }
+    {
+        sort_in_last(self.file, &self.blocks, name)
+    }
+
+    /// What a name means.
+    pub fn sort(&self, name: &Text) -> Option<Sort>
+        ensures value { result ≡ scope.sort_of name.now self.now }
+        ensures sound { IfSome result IsSound }
+    {
+        match innermost(&self.blocks, name) {
+            Some(sort) => Some(sort),
+            None => self.file.get(name),
+        }
+    }
+
+    /// What a name that has a role is declared as.
+    pub fn named(&self, role: Role, name: &Name) -> Result<Sort, CheckFault>
+        ensures value { Answers (λ sort. Some sort) result (faults.name_faults self.now (fits role) name.now) (scope.sort_of name.now.text self.now) }
+        ensures sound { IfOk result IsSound }
+    {
+        match self.sort(&name.text) {
+            Some(sort) if role.fits(sort) => Ok(sort),
+            Some(_) => Err(refused(CheckCode::C3, name.place)),
+            None => Err(refused(CheckCode::C1, name.place)),
+        }
+    }
+
+    /// A name that the innermost block does not declare yet.
+    pub fn check_new(&self, name: &Name) -> Result<(), CheckFault>
+        ensures { Answers (λ x. x) result (faults.doubled self.now name.now) tt }
+    {
+        match self.sort_here(&name.text) {
+            Some(_) => Err(refused(CheckCode::C2, name.place)),
+            None => Ok(()),
+        }
+    }
+
+    /// One declaration more in the innermost block.
+    pub fn declare(&mut self, alloc: Global, name: &Text, sort: Sort) -> Result<(), CheckFault>
+        requires some { 1 < length self.old }
+        requires sound { IsSound sort }
+        ensures count { length self.new ≡ length self.old }
+        ensures value { Answers (λ x. self.new) result [] (scope.declaring name.now sort self.old) }
+    {
+        declare_in_last(alloc, &mut self.blocks, name, sort)
+    }
+}
+
+fn declare_in_last(
+    alloc: Global,
+    blocks: &mut [Names],
+    name: &Text,
+    sort: Sort,
+) -> Result<(), CheckFault>
+    requires some { 0 < length blocks.old }
+    requires sound { IsSound sort }
+    ensures count { length blocks.new ≡ length blocks.old }
+    ensures value { Answers (λ x. blocks.new) result [] (scope.declaring name.now sort blocks.old) }
+{
+    let last = blocks.len() - 1;
+    let block = &mut blocks[last];
+    block.declare(alloc, name, sort)?;
+    Ok(())
+}
+
+fn innermost(blocks: &[Names], name: &Text) -> Option<Sort>
+    ensures value { result ≡ scope.sort_of name.now blocks.now }
+    ensures sound { IfSome result IsSound }
+{
+    let mut found = None;
+    for block in blocks {
+        if let Some(sort) = block.get(name) {
+            found = Some(sort);
+        }
+    }
+    found
+}
+
+fn sort_in_last(file: &Names, blocks: &[Names], name: &Text) -> Option<Sort>
+    ensures { result ≡ scope.sort_here name.now (file.now ∷ blocks.now) }
+{
+    if blocks.is_empty() {
+        file.get(name)
+    } else {
+        blocks[blocks.len() - 1].get(name)
+    }
+}

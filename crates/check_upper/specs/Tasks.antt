@@ -1,0 +1,34 @@
+-- What the tasks of a legal file mean: the leaf of a leaf task; the streams and the invocations of an upper-level task,
+-- with what each name in them stands for.
+use Rattle.std.specs.Prelude.{ℕ, ◌+◌, List, [], ◌∷◌, Option, Some, None, bytes_eq, if◌then◌else◌}
+use Rattle.tapa_base.specs.declared.text.Place.{Place}
+use Rattle.tapa_syntax.specs.declared.tree.Parameter.{Parameter}
+use Rattle.tapa_syntax.specs.Trees.{TaskTree}
+use Rattle.tapa_syntax.specs.Flat.{FlatLeaf}
+use Rattle.check_upper.specs.declared.task.Channel.{Channel}
+use Rattle.check_upper.specs.declared.task.Link.{Link}
+
+pub record Invocation : Type 0 where
+  -- where the task is named
+  pub place : Place
+  -- its number among the tasks of the file
+  pub task : ℕ
+  -- what the arguments are, in the order of its parameters
+  pub links : List Link
+
+pub data Body : Type 0 where
+  leaf_body : FlatLeaf → Body
+  upper_body : List Channel → List Invocation → Body
+
+pub record Task : Type 0 where
+  pub declared : TaskTree
+  pub body : Body
+
+-- the number of the first task of this name, and of no task where there is none
+abbrev pub task_place : ℕ → List ℕ → List Task → ℕ
+task_place n x [] = n
+task_place n x (t ∷ rest) = if bytes_eq t.declared.name.text x then n else task_place (n + 1) x rest
+
+abbrev pub parameters_of : Option Task → List Parameter
+parameters_of None = []
+parameters_of (Some t) = t.declared.parameters

@@ -1,0 +1,151 @@
+ghost use Rattle.std.specs.Prelude.{◌≡◌, bytes_eq, map, slice_get};
+ghost use Rattle.tapa_syntax.specs.Trees as tree;
+ghost use Rattle.check_scope.specs.Answers.{Answers};
+ghost use Rattle.check_scope.specs.Faults.{wrong_sort};
+ghost use Rattle.check_scope.specs.Scopes.{sort_of};
+ghost use Rattle.check_upper.specs.Tasks as spec;
+ghost use Rattle.check_upper.specs.Uppers as upper;
+ghost use Rattle.check_upper.specs.Views.{body_view, invocation_view, task_view};
+
+use crate::argument::arguments;
+use crate::channel::Channels;
+use crate::parameter::scope_of;
+use crate::task::{Body, Invoked, Link, Task};
+use check_scope::{CheckCode, CheckFault, FileNames, Scope, Sort, refused};
+use std::alloc::Global;
+use tapa_base::Text;
+use tapa_syntax::{Invocation, Name, Parameter, StreamDeclaration, TaskDeclaration};
+
+/// The one mode of an invocation is `tapa::join`.
+fn check_mode(mode: &Option<Name>) -> Result<(), CheckFault>
+    ensures { Answers (λ x. x) result (upper.mode_faults mode.now) tt }
+{
+    let Some(mode) = mode else {
+        return Ok(());
+    };
+    if mode.text.bytes() == b"join".as_slice() {
+        Ok(())
+    } else {
+        Err(refused(CheckCode::C3, mode.place))
+    }
+}
+
+fn check_is_task(scope: &Scope, name: &Name) -> Result<(), CheckFault>
+    ensures { Answers (λ x. x) result (wrong_sort upper.is_task name.now.place (sort_of name.now.text scope.now)) tt }
+{
+    match scope.sort(&name.text) {
+        Some(Sort::Task) => Ok(()),
+        Some(_) => Err(refused(CheckCode::C3, name.place)),
+        None => Err(refused(CheckCode::C1, name.place)),
+    }
+}
+
+/// The number of the task of a name, and of no task where there is none.
+fn place_among(tasks: &[Task], name: &Text) -> usize
+    ensures { result ≡ spec.task_place 0 name.now (map task_view tasks.now) }
+{
+    for (place, task) in tasks.iter().enumerate() {
+        if task.declared.name.text.bytes() == name.bytes() {
+            return place;
+        }
+    }
+    tasks.len()
+}
+
+fn parameters_at<'t>(tasks: &'t [Task], place: usize) -> &'t [Parameter]
+    ensures { result.now ≡ spec.parameters_of (slice_get (map task_view tasks.now) place) }
+{
+    match tasks.get(place) {
+        Some(task) => &task.declared.parameters,
+        None => &[],
+    }
+}
+
+/// As many arguments as parameters, each fit for its parameter, and not of the task itself.
+fn links_of(
+    alloc: Global,
+    scope: &Scope,
+    parameters: &[Parameter],
+    is_self: bool,
+    invocation: &Invocation,
+) -> Result<Vec<Link>, CheckFault>
+    ensures { Answers (λ links. links.items) result (upper.callee_faults scope.now parameters.now is_self (tree.invocation_of invocation.now)) (upper.links_of scope.now parameters.now (map tree.argument_of invocation.now.arguments.items)) }
+{
+    let place = invocation.task.place;
+    if parameters.len() != invocation.arguments.len() {
+        return Err(refused(CheckCode::C3, place));
+    }
+    if is_self {
+        return Err(refused(CheckCode::C10, place));
+    }
+    arguments(alloc, scope, parameters, &invocation.arguments)
+}
+
+fn invocation(
+    alloc: Global,
+    scope: &Scope,
+    tasks: &[Task],
+    own: &TaskDeclaration,
+    invocation: &Invocation,
+) -> Result<Invoked, CheckFault>
+    ensures { Answers invocation_view result (upper.invocation_faults scope.now (map task_view tasks.now) (tree.task_of own.now) (tree.invocation_of invocation.now)) (upper.invocation_of scope.now (map task_view tasks.now) (tree.task_of own.now) (tree.invocation_of invocation.now)) }
+{
+    check_mode(&invocation.mode)?;
+    check_is_task(scope, &invocation.task)?;
+    let name = &invocation.task.text;
+    let task = place_among(tasks, name);
+    let is_self = name.bytes() == own.name.text.bytes();
+    let parameters = if is_self {
+        own.parameters.as_slice()
+    } else {
+        parameters_at(tasks, task)
+    };
+    Ok(Invoked {
+        place: invocation.task.place,
+        task,
+        links: links_of(alloc, scope, parameters, is_self, invocation)?,
+    })
+}
+
+fn invocations(
+    alloc: Global,
+    scope: &Scope,
+    tasks: &[Task],
+    own: &TaskDeclaration,
+    invoked: &[Invocation],
+) -> Result<Vec<Invoked>, CheckFault>
+    ensures { Answers (λ made. map invocation_view made.items) result (upper.invocations_faults scope.now (map task_view tasks.now) (tree.task_of own.now) (map tree.invocation_of invoked.now)) (upper.invocations_of scope.now (map task_view tasks.now) (tree.task_of own.now) (map tree.invocation_of invoked.now)) }
+{
+    let mut made = Vec::new(alloc);
+    for one in invoked {
+        made.push(invocation(alloc, scope, tasks, own, one)?)?;
+    }
+    Ok(made)
+}
+
+/// An upper-level task, of a file that has declared these names, itself among them, and has these tasks before it.
+pub(crate) fn check_upper(
+    alloc: Global,
+    file: &FileNames,
+    tasks: &[Task],
+    own: &TaskDeclaration,
+    streams: &[StreamDeclaration],
+    invoked: &[Invocation],
+) -> Result<Body, CheckFault>
+    ensures { Answers body_view result
+        (upper.upper_faults file.now (map task_view tasks.now) (tree.task_of own.now) (map tree.stream_of streams.now) (map tree.invocation_of invoked.now))
+        (upper.upper_of file.now (map task_view tasks.now) (tree.task_of own.now) (map tree.stream_of streams.now) (map tree.invocation_of invoked.now)) }
+{
+    let scope = scope_of(alloc, file, &own.parameters)?;
+    let mut channels = Channels {
+        scope,
+        streams: Vec::new(alloc),
+    };
+    channels.streams(alloc, streams)?;
+    let invocations = invocations(alloc, &channels.scope, tasks, own, invoked)?;
+    let Channels { streams, .. } = channels;
+    Ok(Body::Upper {
+        channels: streams,
+        invocations,
+    })
+}

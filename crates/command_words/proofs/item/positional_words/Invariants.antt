@@ -1,7 +1,0 @@
-use Rattle.std.proofs.Common.{◌≡◌, ◌++◌, map, drop}
-use Rattle.command_words.specs.Words.{positionals}
-use Rattle.command_words.specs.Meaning.{item}
-use Rattle.command_words.proofs.item.positional_words.Given as goal
-
-abbrev pub invariant-loop-given : goal.invariant-loop-given
-invariant-loop-given l = positionals (map item l.items) ≡ map (λ word. word.now) l.words.items ++ positionals (map item (drop l.given-index l.items))

@@ -1,7 +1,0 @@
-// The laws of leaf tasks.
-ghost use Rattle.leaf_check.specs.Laws.{LegalLeavesAreWellFormed};
-
-/// Every leaf that is legal is well formed.
-pub fn law_legal_leaves_are_well_formed()
-    ensures { LegalLeavesAreWellFormed }
-{}

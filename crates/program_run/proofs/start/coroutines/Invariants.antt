@@ -1,6 +1,0 @@
-use Rattle.std.proofs.Common.{◌≡◌, length}
-use Rattle.program_run.specs.Started.{AreStarted}
-use Rattle.program_run.proofs.start.coroutines.Given as goal
-
-abbrev pub invariant-loop-i : goal.invariant-loop-i
-invariant-loop-i l = (length l.all.items ≡ l.i) × AreStarted l.program l.input l.i l.all.items

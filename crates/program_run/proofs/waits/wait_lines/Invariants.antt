@@ -1,8 +1,0 @@
-use Rattle.std.proofs.Common.{take}
-use Rattle.net_core.specs.State.{network, count}
-use Rattle.program_run.specs.Ending.{joined}
-use Rattle.program_run.specs.Run.{AreWaitLines}
-use Rattle.program_run.proofs.waits.wait_lines.Given as goal
-
-abbrev pub invariant-loop-i : goal.invariant-loop-i
-invariant-loop-i g l = AreWaitLines (network l.net) (count l.net) l.program.streams.items 0 (take l.i l.program.instances.items) (joined l.lines.items)

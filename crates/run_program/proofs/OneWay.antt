@@ -1,0 +1,270 @@
+-- Programs that are one as plain data run alike, and a program runs in one way.
+use Rattle.std.proofs.Common.{◌≡◌, ◌⊎◌, ◌<◌, ◌≤◌, ◌+◌, ℕ, suc, List, [], ◌∷◌, ◌++◌, length, map, inl, inr, refl, sym, ap, subst, ◌∙◌, ⊎_elim, arith}
+use Rattle.std.specs.Prelude.{Option, Some, None, option_map, slice_get, slice_index_or}
+use Rattle.std.proofs.Math.Path.{fun_ext}
+use Rattle.std.proofs.lemmas.Option.{slice_get-map}
+use Rattle.tapa_syntax.specs.declared.program.Instance.{Instance}
+use Rattle.tapa_syntax.specs.declared.program.Memory.{Memory}
+use Rattle.tapa_syntax.specs.declared.program.Program.{Program}
+use Rattle.tapa_syntax.specs.declared.program.Stream.{Stream}
+use Rattle.tapa_syntax.specs.Flat.{FlatInstance, FlatProgram, flat_instance, flat_program}
+use Rattle.tapa_syntax.specs.WellFormed.{IsWellFormed}
+use Rattle.kahn_model.specs.Network.{Network, IsNetwork}
+use Rattle.kahn_model.specs.Cells.{cells_at, memory_at, owner_of, after_stores}
+use Rattle.kahn_model.specs.Counts.{total, ticks_made, written, HasEnded, IsReachable, IsEnding, IsKahnStream}
+use Rattle.kahn_model.specs.Ending.{EndsWithin, StopsWithin, GoesPast}
+use Rattle.kahn_model.specs.Outcome.{IsDone, IsStopped}
+use Rattle.kahn_model.specs.Standing.{Standing, over, to_read, to_write, at_bad, StandsSo}
+use Rattle.kahn_model.proofs.Count.{one_end}
+use Rattle.kahn_model.proofs.Ending.{has_ended, three_ways}
+use Rattle.kahn_model.proofs.Ends.{Waits, waits}
+use Rattle.kahn_model.proofs.OneMeaning.{one_meaning}
+use Rattle.kahn_model.proofs.Standing.{stand_one_way}
+use Rattle.kahn_model.proofs.WellFormed.{program_network}
+use Rattle.run_data.specs.Report.{last_line}
+use Rattle.run_data.specs.declared.lines.Last.{Last}
+use Rattle.run_data.specs.declared.lines.Last.TheVariants.{Done, Stopped}
+use Rattle.run_program.specs.Laws.{RunMeaning, Ends, Stops, Exceeds, Runs}
+use Rattle.run_program.specs.Run.{Values, network, ticks_of, stream_lines, memory_lines, lines_at, report_of, label_of, read_line, write_line, bad_line, IsWaitLine, AreWaitLines, RunsToEnd, StopsShort, RunsPast}
+use Rattle.run_program.proofs.Running.{size_of, runs_to_end, stops_short}
+
+-- ---- the same lines of waiting instances, whose labels alone are shown
+
+first_same : {A : Type 0} (x y : A) (xs ys : List A) → (x ∷ xs) ≡ (y ∷ ys) → x ≡ y
+first_same x y xs ys e = cc
+
+rest_same : {A : Type 0} (x y : A) (xs ys : List A) → (x ∷ xs) ≡ (y ∷ ys) → xs ≡ ys
+rest_same x y xs ys e = cc
+
+not_nil : {A : Type 0} (y : A) (ys : List A) → [] ≡ (y ∷ ys) → ⊥
+not_nil y ys e = cc
+
+module _ (net : Network) (k : ℕ → ℕ) (streams : List Stream) where
+  relabelled : (i : ℕ) (xs ys : List Instance) (text : List ℕ) → map flat_instance xs ≡ map flat_instance ys → AreWaitLines net k streams i xs text → AreWaitLines net k streams i ys text
+  relabelled i [] [] text e h = h
+  relabelled i [] (y ∷ ys) text e h = absurd (not_nil (flat_instance y) (map flat_instance ys) e)
+  relabelled i (x ∷ xs) [] text e h = absurd (not_nil (flat_instance x) (map flat_instance xs) (sym e))
+  relabelled i (x ∷ xs) (y ∷ ys) text e h =
+      let label : x.label ≡ y.label = ap (λ (f : FlatInstance). f.label) (first_same (flat_instance x) (flat_instance y) (map flat_instance xs) (map flat_instance ys) e) in
+      let rest = rest_same (flat_instance x) (flat_instance y) (map flat_instance xs) (map flat_instance ys) e in
+      elim h [
+        | inl w ↦ inl (w.0, relabelled (suc i) xs ys text rest w.1)
+        | inr w ↦ inr (w.0, w.1, w.2, subst (λ (l : List ℕ). IsWaitLine net k streams i l w.0) label w.3, relabelled (suc i) xs ys w.1 rest w.4)
+      ]
+
+-- ---- the same cells of memories
+
+memory_alike : (x y : Option Instance) (m : ℕ) → option_map flat_instance x ≡ option_map flat_instance y → (q : ℕ) → memory_at x q ≡ memory_at y q
+memory_alike None None m e q = refl
+memory_alike None (Some y) m e q = absurd cc
+memory_alike (Some x) None m e q = absurd cc
+memory_alike (Some x) (Some y) m e q = let same : flat_instance x ≡ flat_instance y = cc in ap (λ (f : FlatInstance). slice_get f.memories q) same
+
+abbrev cells_by : Program → Values → (ℕ → ℕ) → ℕ → ℕ → Network → List ℕ
+cells_by p values k m owner net = after_stores (memory_at (slice_get p.instances.items owner)) m (slice_index_or values.memories m []) (ticks_made net k owner)
+
+one_cells : (p q : Program) → flat_program p ≡ flat_program q → (values : Values) (k : ℕ → ℕ) → cells_at p values.scalars values.memories k ≡ cells_at q values.scalars values.memories k
+one_cells p q same values k =
+    let ms = ap (λ (f : FlatProgram). f.memories) same in
+    let is = ap (λ (f : FlatProgram). f.instances) same in
+    let nets = one_meaning p q same values.scalars values.memories in
+    let bound : (i : ℕ) → memory_at (slice_get p.instances.items i) ≡ memory_at (slice_get q.instances.items i) =
+    λ i. fun_ext (memory_alike _ _ 0 (sym (slice_get-map flat_instance p.instances.items i) ∙ ap (λ (l : List FlatInstance). slice_get l i) is ∙ slice_get-map flat_instance q.instances.items i)) in
+    fun_ext (λ m.
+    ap (λ (l : List Memory). cells_by p values k m (owner_of (slice_get l m)) (network p values)) ms
+    ∙ ap (λ (net : Network). cells_by p values k m (owner_of (slice_get q.memories.items m)) net) nets
+    ∙ ap (λ (b : ℕ → Option ℕ). after_stores b m (slice_index_or values.memories m []) (ticks_made (network q values) k (owner_of (slice_get q.memories.items m)))) (bound (owner_of (slice_get q.memories.items m))))
+
+module _ (p q : Program) (same : flat_program p ≡ flat_program q) (values : Values) where
+  networks : network p values ≡ network q values
+  networks = one_meaning p q same values.scalars values.memories
+
+  same_streams : p.streams.items ≡ q.streams.items
+  same_streams = ap (λ (f : FlatProgram). f.streams) same
+
+  memories : p.memories.items ≡ q.memories.items
+  memories = ap (λ (f : FlatProgram). f.memories) same
+
+  instances : map flat_instance p.instances.items ≡ map flat_instance q.instances.items
+  instances = ap (λ (f : FlatProgram). f.instances) same
+
+  cells : (k : ℕ → ℕ) → cells_at p values.scalars values.memories k ≡ cells_at q values.scalars values.memories k
+  cells k = one_cells p q same values k
+
+  lines : (k : ℕ → ℕ) → lines_at p values k ≡ lines_at q values k
+  lines k =
+      ap (λ (net : Network). stream_lines (written net k) 0 p.streams.items ++ memory_lines (cells_at p values.scalars values.memories k) 0 p.memories.items) networks
+      ∙ ap (λ (ss : List Stream). stream_lines (written (network q values) k) 0 ss ++ memory_lines (cells_at p values.scalars values.memories k) 0 p.memories.items) same_streams
+      ∙ ap (λ (c : ℕ → List ℕ). stream_lines (written (network q values) k) 0 q.streams.items ++ memory_lines c 0 p.memories.items) (cells k)
+      ∙ ap (λ (ms : List Memory). stream_lines (written (network q values) k) 0 q.streams.items ++ memory_lines (cells_at q values.scalars values.memories k) 0 ms) memories
+
+  reports : (k : ℕ → ℕ) (last : ℕ → Last) → report_of p values k (last (ticks_of p values k)) ≡ report_of q values k (last (ticks_of q values k))
+  reports k last =
+      ap (λ (l : List ℕ). l ++ last_line (last (ticks_of p values k))) (lines k)
+      ∙ ap (λ (net : Network). lines_at q values k ++ last_line (last (total net.size k))) networks
+
+  pub runs_alike : (limit : ℕ) (m : RunMeaning) → Runs p values limit m → Runs q values limit m
+  runs_alike limit (Ends report) h = record {
+    count = h.count;
+    done = subst (λ (net : Network). IsDone net h.count) networks h.done;
+    within = subst (λ (net : Network). total net.size h.count ≤ limit) networks h.within;
+    whole = λ s l.
+        subst (λ (net : Network). IsKahnStream net s (written net h.count s)) networks
+        (h.whole s (subst (λ (ss : List Stream). s < length ss) (sym same_streams) l));
+    shown = h.shown ∙ reports h.count Done;
+  }
+  runs_alike limit (Stops report lines) h = record {
+    count = h.count;
+    stopped = subst (λ (net : Network). IsStopped net h.count) networks h.stopped;
+    within = subst (λ (net : Network). total net.size h.count ≤ limit) networks h.within;
+    shown = h.shown ∙ reports h.count Stopped;
+    waits = relabelled (network q values) h.count q.streams.items 0 p.instances.items q.instances.items lines instances
+        (subst (λ (ss : List Stream). AreWaitLines (network q values) h.count ss 0 p.instances.items lines) same_streams
+        (subst (λ (net : Network). AreWaitLines net h.count p.streams.items 0 p.instances.items lines) networks h.waits));
+  }
+  runs_alike limit Exceeds h = subst (λ (net : Network). (k : ℕ → ℕ) → IsEnding net k → limit < total net.size k) networks h
+
+-- ---- the lines of waiting instances are one text
+
+-- the line that tells how an instance stands
+abbrev line_at : List Stream → List ℕ → Standing → List ℕ
+line_at streams label over = []
+line_at streams label (to_read s) = read_line label (label_of streams s)
+line_at streams label (to_write s) = write_line label (label_of streams s)
+line_at streams label (at_bad s) = bad_line label (label_of streams s)
+
+record WaitsAt (net : Network) (k : ℕ → ℕ) (streams : List Stream) (i : ℕ) (label line : List ℕ) : Type 0 where
+  standing : Standing
+  so : StandsSo net k i standing
+  goes_on : over ≡ standing → ⊥
+  told : line ≡ line_at streams label standing
+
+over_reads : (s : ℕ) → over ≡ to_read s → ⊥
+over_reads s e = cc
+
+over_writes : (s : ℕ) → over ≡ to_write s → ⊥
+over_writes s e = cc
+
+over_bad : (s : ℕ) → over ≡ at_bad s → ⊥
+over_bad s e = cc
+
+waits_at : (net : Network) (k : ℕ → ℕ) (streams : List Stream) (i : ℕ) (label line : List ℕ) → IsWaitLine net k streams i label line → WaitsAt net k streams i label line
+waits_at net k streams i label line (s, h) = elim h [
+  | inl r ↦ record { standing = to_read s; so = r.0; goes_on = over_reads s; told = r.1 }
+  | inr (inl w) ↦ record { standing = to_write s; so = w.0; goes_on = over_writes s; told = w.1 }
+  | inr (inr b) ↦ record { standing = at_bad s; so = b.0; goes_on = over_bad s; told = b.1 }
+]
+
+module _ (net : Network) (ok : IsNetwork net) (k : ℕ → ℕ) (reach : IsReachable net k) (streams : List Stream) where
+  one_line : (i : ℕ) → i < net.size → (label line other : List ℕ) → IsWaitLine net k streams i label line → IsWaitLine net k streams i label other → line ≡ other
+  one_line i inside label line other h g =
+      let a = waits_at net k streams i label line h in
+      let b = waits_at net k streams i label other g in
+      a.told ∙ ap (line_at streams label) (stand_one_way net ok k reach i inside a.standing b.standing a.so b.so) ∙ sym b.told
+
+  not_over : (i : ℕ) → i < net.size → (label line : List ℕ) → HasEnded net k i → IsWaitLine net k streams i label line → ⊥
+  not_over i inside label line e h =
+      let a = waits_at net k streams i label line h in
+      a.goes_on (stand_one_way net ok k reach i inside over a.standing e a.so)
+
+  pub one_text : (i : ℕ) (xs : List Instance) → i + length xs ≤ net.size → (t u : List ℕ) → AreWaitLines net k streams i xs t → AreWaitLines net k streams i xs u → t ≡ u
+  one_text i [] few t u h g = h ∙ sym g
+  one_text i (x ∷ xs) few t u h g =
+      let inside : i < net.size = omega arith in
+      let later : suc i + length xs ≤ net.size = omega arith in
+      ⊎_elim
+      (λ (a : HasEnded net k i × AreWaitLines net k streams (suc i) xs t).
+      ⊎_elim
+      (λ (b : HasEnded net k i × AreWaitLines net k streams (suc i) xs u). one_text (suc i) xs later t u a.1 b.1)
+      (λ (b : (line : List ℕ) × (more : List ℕ) × (u ≡ line ++ more) × IsWaitLine net k streams i x.label line × AreWaitLines net k streams (suc i) xs more). absurd (not_over i inside x.label b.0 a.0 b.3))
+      g)
+      (λ (a : (line : List ℕ) × (more : List ℕ) × (t ≡ line ++ more) × IsWaitLine net k streams i x.label line × AreWaitLines net k streams (suc i) xs more).
+      ⊎_elim
+      (λ (b : HasEnded net k i × AreWaitLines net k streams (suc i) xs u). absurd (not_over i inside x.label a.0 b.0 a.3))
+      (λ (b : (line : List ℕ) × (more : List ℕ) × (u ≡ line ++ more) × IsWaitLine net k streams i x.label line × AreWaitLines net k streams (suc i) xs more).
+      a.2
+      ∙ ap (λ (l : List ℕ). l ++ a.1) (one_line i inside x.label a.0 b.0 a.3 b.3)
+      ∙ ap (λ (m : List ℕ). b.0 ++ m) (one_text (suc i) xs later a.1 b.1 a.4 b.4)
+      ∙ sym b.2)
+      g)
+      h
+
+-- ---- where no step is allowed there are such lines
+
+module _ (net : Network) (ok : IsNetwork net) (k : ℕ → ℕ) (ending : IsEnding net k) (streams : List Stream) where
+  line_of : (i : ℕ) (label : List ℕ) → Waits net k i → (line : List ℕ) × IsWaitLine net k streams i label line
+  line_of i label w = elim w [
+    | inl a ↦ (write_line label (label_of streams a.0), (a.0, inr (inl (a.1, refl))))
+    | inr (inl a) ↦ (read_line label (label_of streams a.0), (a.0, inl (a.1, refl)))
+    | inr (inr a) ↦ (bad_line label (label_of streams a.0), (a.0, inr (inr (a.1, refl))))
+  ]
+
+  pub some_text : (i : ℕ) (xs : List Instance) → i + length xs ≤ net.size → (t : List ℕ) × AreWaitLines net k streams i xs t
+  some_text i [] few = ([], refl)
+  some_text i (x ∷ xs) few =
+      let later = some_text (suc i) xs (omega arith) in
+      ⊎_elim
+      (λ (e : HasEnded net k i). (later.0, inl (e, later.1)))
+      (λ (d : HasEnded net k i → ⊥). let l = line_of i x.label (waits net ok k ending i (omega arith) d) in (l.0 ++ later.0, inr (l.0, later.0, refl, l.1, later.1)))
+      (has_ended net k i)
+
+-- ---- a program runs in one way
+
+module _ (p : Program) (w : IsWellFormed p) (values : Values) (limit : ℕ) where
+  net_ok : IsNetwork (network p values)
+  net_ok = program_network p w values.scalars values.memories
+
+  one_count : (k m : ℕ → ℕ) → IsEnding (network p values) k → IsEnding (network p values) m → k ≡ m
+  one_count k m a b = fun_ext (one_end (network p values) net_ok k m a b)
+
+  all_inside : 0 + length p.instances.items ≤ (network p values).size
+  all_inside = omega (arith, size_of p values)
+
+  one_report : (report other : List ℕ) → RunsToEnd p values limit report → RunsToEnd p values limit other → report ≡ other
+  one_report report other a b =
+      a.shown ∙ ap (λ (k : ℕ → ℕ). report_of p values k (Done (ticks_of p values k))) (one_count a.count b.count a.done.ending b.done.ending) ∙ sym b.shown
+
+  one_stop : (report other lines rows : List ℕ) → StopsShort p values limit report lines → StopsShort p values limit other rows → (report ≡ other) × (lines ≡ rows)
+  one_stop report other lines rows a b =
+      let same = one_count a.count b.count a.stopped.ending b.stopped.ending in (
+        a.shown ∙ ap (λ (k : ℕ → ℕ). report_of p values k (Stopped (ticks_of p values k))) same ∙ sym b.shown,
+        one_text (network p values) net_ok b.count b.stopped.ending.reachable p.streams.items 0 p.instances.items all_inside lines rows
+            (subst (λ (k : ℕ → ℕ). AreWaitLines (network p values) k p.streams.items 0 p.instances.items lines) same a.waits) b.waits,
+      )
+
+  ends_stops : (report other lines : List ℕ) → RunsToEnd p values limit report → StopsShort p values limit other lines → ⊥
+  ends_stops report other lines ends stops =
+      let same = one_count ends.count stops.count ends.done.ending stops.stopped.ending in
+      stops.stopped.goes_on (subst (λ (k : ℕ → ℕ). HasEnded (network p values) k stops.stopped.instance) same (ends.done.ended stops.stopped.instance stops.stopped.inside))
+
+  past_ends : (report : List ℕ) → RunsPast p values limit → RunsToEnd p values limit report → ⊥
+  past_ends report past ends = let a = past ends.count ends.done.ending in let b = ends.within in omega arith
+
+  past_stops : (report lines : List ℕ) → RunsPast p values limit → StopsShort p values limit report lines → ⊥
+  past_stops report lines past stops = let a = past stops.count stops.stopped.ending in let b = stops.within in omega arith
+
+  pub one_way : (m n : RunMeaning) → Runs p values limit m → Runs p values limit n → m ≡ n
+  one_way (Ends report) (Ends other) a b = ap Ends (one_report report other a b)
+  one_way (Ends report) (Stops other lines) a b = absurd (ends_stops report other lines a b)
+  one_way (Ends report) Exceeds a b = absurd (past_ends report b a)
+  one_way (Stops report lines) (Ends other) a b = absurd (ends_stops other report lines b a)
+  one_way (Stops report lines) (Stops other rows) a b =
+      let both = one_stop report other lines rows a b in
+      ap (λ (r : List ℕ). Stops r lines) both.0 ∙ ap (Stops other) both.1
+  one_way (Stops report lines) Exceeds a b = absurd (past_stops report lines b a)
+  one_way Exceeds (Ends other) a b = absurd (past_ends other a b)
+  one_way Exceeds (Stops other rows) a b = absurd (past_stops other rows a b)
+  one_way Exceeds Exceeds a b = refl
+
+  pub some_way : (m : RunMeaning) × Runs p values limit m
+  some_way =
+      ⊎_elim
+      (λ (e : EndsWithin (network p values) limit). (Ends _, runs_to_end p values w (network p values) refl e.0 (ticks_of p values e.0) limit refl e.2 e.1))
+      (λ (o : StopsWithin (network p values) limit ⊎ GoesPast (network p values) limit).
+      ⊎_elim
+      (λ (s : StopsWithin (network p values) limit).
+      let t = some_text (network p values) net_ok s.0 s.1.ending p.streams.items 0 p.instances.items all_inside in
+      (Stops _ t.0, stops_short p values w (network p values) refl s.0 (ticks_of p values s.0) limit refl s.2 s.1 t.0 t.1))
+      (λ (g : GoesPast (network p values) limit). (Exceeds, g))
+      o)
+      (three_ways (network p values) net_ok limit)

@@ -1,0 +1,29 @@
+-- Programs run in one way, wherever they lie in memory.
+use Rattle.std.specs.Prelude.{◌≡◌, ℕ, List}
+use Rattle.tapa_syntax.specs.declared.program.Program.{Program}
+use Rattle.tapa_syntax.specs.Flat.{flat_program}
+use Rattle.tapa_syntax.specs.WellFormed.{IsWellFormed}
+use Rattle.run_program.specs.Run.{Values, RunsToEnd, StopsShort, RunsPast}
+
+-- how a run goes: it ends with this report; it stops with this report, where these lines tell what its instances wait for;
+-- or it makes more ticks than it may, or never ends
+pub data RunMeaning : Type 0 where
+  Ends : (report : List ℕ) → RunMeaning
+  Stops : (report lines : List ℕ) → RunMeaning
+  Exceeds : RunMeaning
+
+abbrev pub Runs : Program → Values → ℕ → RunMeaning → Type 0
+Runs program values limit (Ends report) = RunsToEnd program values limit report
+Runs program values limit (Stops report lines) = StopsShort program values limit report lines
+Runs program values limit Exceeds = RunsPast program values limit
+
+-- of two programs that are one as plain data, one runs as the other does
+abbrev pub ProgramsRunAlike : Type 0
+ProgramsRunAlike = (p q : Program) → flat_program p ≡ flat_program q → (values : Values) (limit : ℕ) (m : RunMeaning) → Runs p values limit m → Runs q values limit m
+
+-- a well-formed program runs in some way on all values, and in one way alone
+abbrev pub ProgramsRunSomehow : Type 0
+ProgramsRunSomehow = (program : Program) → IsWellFormed program → (values : Values) (limit : ℕ) → (m : RunMeaning) × Runs program values limit m
+
+abbrev pub ProgramsRunOneWay : Type 0
+ProgramsRunOneWay = (program : Program) → IsWellFormed program → (values : Values) (limit : ℕ) (m n : RunMeaning) → Runs program values limit m → Runs program values limit n → m ≡ n

@@ -1,0 +1,60 @@
+// The cells of a memory after the ticks that its instance has made.
+ghost use Rattle.std.specs.Prelude.{ℕ, ◌≡◌, ◌<◌, ◌≤◌, List, [], length, slice_get, slice_index_or, Some, IfOk, MatchOption};
+ghost use Rattle.kahn_model.specs.Cells.{cells_at};
+ghost use Rattle.net_core.specs.Bounded.{scalars_of, memories_of};
+ghost use Rattle.net_core.specs.State.{count};
+ghost use Rattle.run_program.specs.Run.{IsNotBound};
+
+use coro_machine::Coro;
+use net_core::{Input, Net};
+use tapa_base::OutOfMemory;
+use tapa_syntax::Program;
+
+// The position at which a memory is bound. More positions than 32 bits number are answered as want of memory.
+fn position_of(bound: &[u32], m: usize) -> Result<Option<u32>, OutOfMemory>
+    ensures { IfOk result (λ found. MatchOption found (IsNotBound bound.now m) (λ p. slice_get bound.now p ≡ Some m)) }
+{
+    for p in 0..bound.len() {
+        if bound[p] as usize == m {
+            let Ok(position) = u32::try_from(p) else {
+                return Err(OutOfMemory);
+            };
+            return Ok(Some(position));
+        }
+    }
+    Ok(None)
+}
+
+// The first cells of a memory.
+fn first_cells(input: &Input, m: usize) -> &[u64]
+    ensures { result.now ≡ slice_index_or (memories_of input.now) m [] }
+{
+    match input.memories.get(m) {
+        Some(cells) => cells.as_slice(),
+        None => &[],
+    }
+}
+
+/// The cells of memory `m` of a program: the first ones, after the stores of the instance that it is bound to.
+pub fn last_cells<'a>(
+    program: &Program,
+    input: &'a Input,
+    net: &'a Net<Coro>,
+    m: usize,
+) -> Result<&'a [u64], OutOfMemory>
+    requires program { program.now ≡ net.now.program }
+    requires input { input.now ≡ net.now.input }
+    requires few { length program.now.instances.items ≤ 512 }
+    requires memory { m < length program.now.memories.items }
+    ensures { IfOk result (λ cells. cells.now ≡ cells_at program.now (scalars_of input.now) (memories_of input.now) (count net.now) m) }
+{
+    net.valid();
+    let owner = program.memories[m].owner;
+    let Some(instance) = program.instances.get(owner as usize) else {
+        return Ok(first_cells(input, m));
+    };
+    match position_of(&instance.memories, m)? {
+        None => Ok(first_cells(input, m)),
+        Some(position) => Ok(net.body(owner).memory(position)),
+    }
+}

@@ -1,0 +1,106 @@
+// A run of a flat program on an input on one thread, and its report.
+ghost use Rattle.std.specs.Prelude.{◌≤◌, IfOk, OnErr, IsErrOf};
+ghost use Rattle.std.specs.Arc.{arc_value};
+ghost use Rattle.tapa_base.specs.Outside.{Rose};
+ghost use Rattle.tapa_syntax.specs.WellFormed.{IsWellFormed};
+ghost use Rattle.kahn_model.specs.Fits.{FitsInput};
+ghost use Rattle.run_program.specs.Ending.{EndsSo, HasPart};
+ghost use Rattle.net_core.specs.Bounded.{scalars_of, memories_of};
+ghost use Rattle.run_program.specs.Fresh.{IsFresh};
+ghost use Rattle.run_program.specs.Run.{values_of};
+
+use crate::shown::show;
+use crate::start::coroutines;
+use crate::waits::wait_lines;
+use coro_machine::Coro;
+use net_core::{Input, Net, Outcome, settle};
+use run_data::Last;
+use std::alloc::Global;
+use std::sync::Arc;
+use tapa_base::{OutOfMemory, PrintFault, Sink};
+use tapa_syntax::Program;
+
+/// How a run ended.
+#[derive(Drop)]
+pub enum RunEnd {
+    /// Every instance has ended, and the report is written.
+    Done,
+    /// Nothing may step; the report is written, and each line tells what an instance waits for.
+    Stopped { lines: Vec<Vec<u8>> },
+    /// The run makes more ticks than its limit, or never ends; nothing is written.
+    Limit,
+}
+
+// The program's network before its first tick.
+fn network(
+    alloc: Global,
+    program: &Arc<Program>,
+    input: &Arc<Input>,
+) -> Result<Net<Coro>, OutOfMemory>
+    requires well_formed { IsWellFormed (arc_value program.now) }
+    requires fits { FitsInput (arc_value program.now) (scalars_of (arc_value input.now)) (memories_of (arc_value input.now)) }
+    ensures { IfOk result (λ net. IsFresh (arc_value program.now) (arc_value input.now) net) }
+{
+    let bodies = coroutines(alloc, program, input)?;
+    Net::new(alloc, program.clone()?, input.clone()?, bodies)
+}
+
+// Drives the network, and writes its report.
+fn drive<O: Sink>(
+    alloc: Global,
+    program: &Program,
+    input: &Input,
+    net: &mut Net<Coro>,
+    limit: u64,
+    out: &mut O,
+) -> Result<RunEnd, PrintFault>
+    requires fresh { IsFresh program.now input.now net.old }
+    requires limit { limit ≤ 1000000000000 }
+    ensures end { IfOk result (λ end. EndsSo program.now (values_of input.now) limit (O.contents out.old) (O.contents out.new) end) }
+    ensures part { OnErr result (HasPart program.now (values_of input.now) limit (O.contents out.old) (O.contents out.new)) }
+    ensures later { O.faults out.old ≤ O.faults out.new }
+    ensures fault { IsErrOf result PrintFault.WriteFault → Rose (O.faults out.old) (O.faults out.new) }
+{
+    match settle(alloc, net, limit)? {
+        Outcome::Done { ticks } => {
+            show(alloc, program, input, net, Last::Done(ticks), out)?;
+            Ok(RunEnd::Done)
+        }
+        Outcome::Stopped { ticks } => {
+            let lines = wait_lines(alloc, program, net)?;
+            show(alloc, program, input, net, Last::Stopped(ticks), out)?;
+            Ok(RunEnd::Stopped { lines })
+        }
+        Outcome::Limit => Ok(RunEnd::Limit),
+    }
+}
+
+/// Runs a program on an input on one thread at its declared depths, for at most `limit` ticks, and writes the report: what
+/// each stream carried, the last cells of each memory, and the ticks of all instances. After an error the output holds
+/// what it held and a front part of the report.
+pub fn run_program<O: Sink>(
+    alloc: Global,
+    program: Program,
+    input: Input,
+    limit: u64,
+    out: &mut O,
+) -> Result<RunEnd, PrintFault>
+    requires well_formed { IsWellFormed program }
+    requires fits { FitsInput program (scalars_of input) (memories_of input) }
+    requires limit { limit ≤ 1000000000000 }
+    ensures end { IfOk result (λ end. EndsSo program (values_of input) limit (O.contents out.old) (O.contents out.new) end) }
+    ensures part { OnErr result (HasPart program (values_of input) limit (O.contents out.old) (O.contents out.new)) }
+    ensures later { O.faults out.old ≤ O.faults out.new }
+    ensures fault { IsErrOf result PrintFault.WriteFault → Rose (O.faults out.old) (O.faults out.new) }
+{
+    let program = match Arc::new(alloc, program) {
+        Ok(program) => program,
+        Err(_) => return Err(PrintFault::OutOfMemory),
+    };
+    let input = match Arc::new(alloc, input) {
+        Ok(input) => input,
+        Err(_) => return Err(PrintFault::OutOfMemory),
+    };
+    let mut net = network(alloc, &program, &input)?;
+    drive(alloc, &program, &input, &mut net, limit, out)
+}

@@ -1,7 +1,0 @@
-use Rattle.std.proofs.Common.{take}
-use Rattle.vlog_tree.specs.Environment.{AllTwo}
-use Rattle.slow_cycle.specs.Next.{IsCopy}
-use Rattle.slow_cycle.proofs.following.copy_memories.Given as goal
-
-abbrev pub invariant-loop-m : goal.invariant-loop-m
-invariant-loop-m l = AllTwo IsCopy (take l.m-index l.memories) l.out.items

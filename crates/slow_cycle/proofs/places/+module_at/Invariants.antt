@@ -1,5 +1,0 @@
-use Rattle.std.proofs.Common.{length}
-use Rattle.slow_cycle.proofs.places.+module_at.Given as goal
-
-abbrev pub decreases-module_at : goal.decreases-module_at
-decreases-module_at l = length l.path.now

@@ -1,5 +1,0 @@
-use Rattle.std.proofs.Common.{◌≡◌, ◌++◌, drop}
-use Rattle.slow_cycle.proofs.places.add_path.Given as goal
-
-abbrev pub invariant-loop-x : goal.invariant-loop-x
-invariant-loop-x l = l.out.items ++ (drop l.x-index l.path) ≡ l.fn.out.items ++ l.path

@@ -1,0 +1,157 @@
+-- What a reader gives, part by part.
+use Rattle.std.proofs.Common.{◌≡◌, ℕ, Bool, true, false, cond, List, [], ◌∷◌, drop, Option, Some, None, Ok, Err, refl, ap, subst, ◌∙◌, rules}
+use denote.Enum.Bare.{same_true, true_same}
+use Rattle.tapa_base.specs.declared.kind.Kind.{Kind}
+use Rattle.tapa_syntax.specs.contracts.mark.Mark.{the_type}
+use Rattle.tapa_syntax.specs.declared.mark.Mark.{Mark}
+use Rattle.tapa_syntax.specs.declared.mark.Mark.TheVariants as mark
+use Rattle.tapa_syntax.specs.declared.tree.Name.{Name}
+use Rattle.tapa_syntax.specs.Symbols.{Symbol}
+use Rattle.tapa_syntax.specs.Grammar.{Takes, Means, MeansAt, IsName, IsPlainName, IsLiteral, named, is_name}
+use Rattle.tapa_parse_expression.specs.declared.fault.ParseCode.{ParseCode}
+use Rattle.tapa_parse_expression.specs.declared.fault.ParseCode.TheVariants.{P1}
+use Rattle.tapa_parse_expression.specs.Readers.{Outcome, Reader, and_then, next, first_place, same, sees, expect, past, name, plain_by, plain_name, literal_value}
+
+abbrev pub Symbols : Type 0
+Symbols = List Symbol
+
+-- ---- what holds of each value that is given, and of what is left behind it
+
+pub record Yields {A : Type 0} (Q : A → Symbols → Type 0) (o : Outcome A) : Type 0 where
+  pub on : (a : A) (r : Symbols) → o ≡ Ok (a, r) → Q a r
+
+abbrev pub done : {A : Type 0} → A × Symbols → Outcome A
+done x = Ok x
+
+abbrev pub failed : {A : Type 0} → ParseCode × Symbols → Outcome A
+failed x = Err x
+
+pub ok_is : {A : Type 0} (x y : A × Symbols) → done x ≡ done y → x ≡ y
+ok_is x y e = cc
+
+pub bind_ok : {A B : Type 0} (o : Outcome A) (f : A → Reader B) (y : B × Symbols) → and_then o f ≡ Ok y → (x : A × Symbols) × (o ≡ Ok x) × (f x.0 x.1 ≡ Ok y)
+bind_ok (Ok x) f y e = (x, refl, e)
+bind_ok (Err d) f y e = absurd cc
+
+pub yields_pure : {A : Type 0} (Q : A → Symbols → Type 0) (a : A) (r : Symbols) → Q a r → Yields Q (done (a, r))
+yields_pure {A} Q a r h = record { on = λ b j e. subst (λ (x : A × Symbols). Q x.0 x.1) (ok_is (a, r) (b, j) e) h }
+
+pub yields_none : {A : Type 0} (Q : A → Symbols → Type 0) (x : ParseCode × Symbols) → Yields Q (failed x)
+yields_none {A} Q x = record { on = λ b j e. absurd (never b j e) }
+  where
+    never : (b : A) (j : Symbols) → failed x ≡ done (b, j) → ⊥
+    never b j e = cc
+
+pub yields_then : {A B : Type 0} {P : A → Symbols → Type 0} {Q : B → Symbols → Type 0} {o : Outcome A} {f : A → Reader B} → Yields P o → ((a : A) (j : Symbols) → P a j → Yields Q (f a j)) → Yields Q (and_then o f)
+yields_then {A} {B} {P} {Q} {o} {f} h k = record { on = λ b r e. let s = bind_ok o f (b, r) e in (k s.0.0 s.0.1 (h.on s.0.0 s.0.1 s.1)).on b r s.2 }
+
+pub yields_if : {A : Type 0} {Q : A → Symbols → Type 0} {p q : Outcome A} (test : Bool) → (test ≡ true → Yields Q p) → (test ≡ false → Yields Q q) → Yields Q (cond test p q)
+yields_if true h k = h refl
+yields_if false h k = k refl
+
+pub weaker : {A : Type 0} {P Q : A → Symbols → Type 0} {o : Outcome A} → Yields P o → ((a : A) (r : Symbols) → P a r → Q a r) → Yields Q o
+weaker h k = record { on = λ a r e. k a r (h.on a r e) }
+
+-- ---- single symbols
+
+-- no symbol has this mark
+abbrev pub is_end : Mark → Bool
+is_end mark.End = true
+is_end _ = false
+
+pub sees_is : (m : Mark) (i : Symbols) → sees m i ≡ true → next i ≡ m
+unfolding sees same
+sees_is m i e = same_true the_type (search rules) _ _ e
+
+pub is_seen : (m : Mark) (i : Symbols) → next i ≡ m → sees m i ≡ true
+unfolding sees same
+is_seen m i e = true_same the_type _ _ e
+
+pub takes : (m : Mark) (i : Symbols) → is_end m ≡ false → sees m i ≡ true → Takes m i (drop 1 i)
+takes m [] real e = absurd (let is = sees_is m [] e in let f : true ≡ false = ap is_end is ∙ real in cc)
+takes m (x ∷ i) real e = (x, sees_is m (x ∷ i) e, refl)
+
+pub expect_yields : (m : Mark) (i : Symbols) → is_end m ≡ false → Yields (λ _ j. Takes m i j) (expect m i)
+unfolding expect
+expect_yields m i real = yields_if (sees m i) (λ e. yields_pure (λ _ j. Takes m i j) tt (drop 1 i) (takes m i real e)) (λ e. yields_none (λ _ j. Takes m i j) (P1, i))
+
+pub means : {A : Type 0} (table : Mark → Option A) (i : Symbols) (a : A) → table mark.End ≡ None → table (next i) ≡ Some a → MeansAt table a (first_place i) i (drop 1 i)
+means table [] a real e = absurd cc
+means table (x ∷ i) a real e = (x, (e, refl), refl)
+
+pub means_it : {A : Type 0} (table : Mark → Option A) (i : Symbols) (a : A) → table mark.End ≡ None → table (next i) ≡ Some a → Means table a i (drop 1 i)
+means_it table [] a real e = absurd cc
+means_it table (x ∷ i) a real e = (x, e, refl)
+
+pub name_yields : (i : Symbols) → Yields (λ x j. IsName x i j) (name i)
+unfolding name
+name_yields [] = yields_none (λ x j. IsName x [] j) (P1, [])
+name_yields (x ∷ i) = yields_if (is_name x.mark) (λ e. yields_pure (λ y j. IsName y (x ∷ i) j) (named x) i (x, (e, refl), refl)) (λ e. yields_none (λ y j. IsName y (x ∷ i) j) (P1, x ∷ i))
+
+pub plain_yields : (i : Symbols) → Yields (λ x j. IsPlainName x i j) (plain_name i)
+unfolding plain_name
+plain_yields [] = yields_none (λ x j. IsPlainName x [] j) (P1, [])
+plain_yields (x ∷ i) = pick x.mark refl
+  where
+    pick : (m : Mark) → x.mark ≡ m → Yields (λ y j. IsPlainName y (x ∷ i) j) (plain_by m (x ∷ i))
+    pick mark.Name e = yields_pure (λ y j. IsPlainName y (x ∷ i) j) (named x) i (x, (e, refl), refl)
+    pick _ e = yields_none (λ y j. IsPlainName y (x ∷ i) j) (P1, x ∷ i)
+
+pub literal_yields : (i : Symbols) → Yields (λ v j. IsLiteral v.0 v.1 i j) (literal_value i)
+unfolding literal_value
+literal_yields [] = yields_if (sees mark.Literal []) (λ e. absurd (let is = sees_is mark.Literal [] e in cc)) (λ e. yields_none (λ v j. IsLiteral v.0 v.1 [] j) (P1, []))
+literal_yields (x ∷ i) =
+    yields_if (sees mark.Literal (x ∷ i)) (λ e. yields_pure (λ v j. IsLiteral v.0 v.1 (x ∷ i) j) x.literal i (x, (sees_is mark.Literal (x ∷ i) e, refl), refl)) (λ e. yields_none (λ v j. IsLiteral v.0 v.1 (x ∷ i) j) (P1, x ∷ i))
+
+-- ---- what is given exactly
+
+pub then_is : {A B : Type 0} {o : Outcome A} {y : Outcome B} (f : A → Reader B) (a : A) (j : Symbols) → o ≡ Ok (a, j) → f a j ≡ y → and_then o f ≡ y
+then_is f a j e h = ap (λ o. and_then o f) e ∙ h
+
+pub if_true : {A : Type 0} {test : Bool} {p y : A} (q : A) → test ≡ true → p ≡ y → cond test p q ≡ y
+if_true {A} {p = p} q e h = ap (λ b. cond {A = A} b p q) e ∙ h
+
+pub if_false : {A : Type 0} {test : Bool} {q y : A} (p : A) → test ≡ false → q ≡ y → cond test p q ≡ y
+if_false {A} {q = q} p e h = ap (λ b. cond {A = A} b p q) e ∙ h
+
+-- marks of which something else holds are not the same
+pub differ_by : {A : Type 0} (f : Mark → A) (m n : Mark) → (f m ≡ f n → ⊥) → same m n ≡ false
+unfolding same
+differ_by f m n h = pick (same m n) refl
+  where
+    pick : (b : Bool) → same m n ≡ b → same m n ≡ false
+    pick false e = e
+    pick true e = absurd (h (ap f (same_true the_type (search rules) _ _ e)))
+
+pub next_is : (m : Mark) (i j : Symbols) → Takes m i j → next i ≡ m
+next_is m i j (x, e, is) = ap next is ∙ e
+
+pub seen_is : (m : Mark) (i j : Symbols) → Takes m i j → sees m i ≡ true
+seen_is m i j h = is_seen m i (next_is m i j h)
+
+pub dropped : (m : Mark) (i j : Symbols) → Takes m i j → drop 1 i ≡ j
+dropped m i j (x, e, is) = ap (drop 1) is
+
+pub expect_is : (m : Mark) (i j : Symbols) → Takes m i j → expect m i ≡ Ok (tt, j)
+unfolding expect
+expect_is m i j h = if_true _ (seen_is m i j h) (ap (λ (k : Symbols). done (tt, k)) (dropped m i j h))
+
+pub past_is : (m : Mark) (i j : Symbols) → Takes m i j → past m i ≡ j
+unfolding past
+past_is m i j h = if_true _ (seen_is m i j h) (dropped m i j h)
+
+pub past_none : (m : Mark) (i : Symbols) → sees m i ≡ false → past m i ≡ i
+unfolding past
+past_none m i e = if_false _ e refl
+
+pub name_is : (x : Name) (i j : Symbols) → IsName x i j → name i ≡ Ok (x, j)
+unfolding name
+name_is x i j (s, e, is) = rw is (if_true _ e.0 (ap (λ (y : Name). done (y, j)) e.1))
+
+pub plain_is : (x : Name) (i j : Symbols) → IsPlainName x i j → plain_name i ≡ Ok (x, j)
+unfolding plain_name
+plain_is x i j (s, e, is) = rw (is, e.0) (ap (λ (y : Name). done (y, j)) e.1)
+
+pub literal_is : (k : Kind) (v : ℕ) (i j : Symbols) → IsLiteral k v i j → literal_value i ≡ Ok ((k, v), j)
+unfolding literal_value
+literal_is k v i j (s, e, is) = rw is (if_true _ (is_seen mark.Literal (s ∷ j) e.0) (ap (λ (y : Kind × ℕ). done (y, j)) e.1))

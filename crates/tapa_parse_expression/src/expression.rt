@@ -1,0 +1,337 @@
+//! Expressions.
+
+ghost use Rattle.std.specs.Prelude.{◌≡◌, List, map};
+ghost use Rattle.tapa_syntax.specs.Symbols.{Symbol};
+ghost use Rattle.tapa_syntax.specs.Grammar as grammar;
+ghost use Rattle.tapa_syntax.specs.Trees as view;
+ghost use Rattle.tapa_parse_expression.specs.Readers.{Gives};
+ghost use Rattle.tapa_parse_expression.specs.Reading as spec;
+
+use crate::fault::{Fault, ParseCode};
+use crate::mark::{binary_operator, binds_at, is_name, prefix_operator};
+use crate::parser::Parser;
+use std::alloc::Global;
+use tapa_syntax::{BinaryOperator, Expression, Mark, Name, PrefixOperator};
+
+const OR_LEVEL: u8 = 10;
+
+/// One more operator.
+#[tactic(auto, unfolding(crate::specs::Reading::count))]
+fn count(operators: u32) -> Result<u32, Fault>
+    ensures { (i : List Symbol) → Gives (λ x. x) result i (spec.count operators i) }
+{
+    if operators == 0 {
+        return Err(Fault::Refused(ParseCode::P2));
+    }
+    Ok(operators - 1)
+}
+
+impl<'a> Parser<'a> {
+    // The operator of this level that comes next.
+    #[tactic(auto, unfolding(crate::specs::Reading::operator_of))]
+    fn operator(&self, level: u8) -> Option<BinaryOperator>
+        ensures { result ≡ spec.operator_of level self.now }
+    {
+        match binary_operator(self.next()) {
+            Some(operator) if binds_at(operator) == level => Some(operator),
+            _ => None,
+        }
+    }
+
+    /// An expression in parentheses, which are a level; `room` more levels may be opened.
+    #[cycle(expression)]
+    #[tactic(auto, unfolding(crate::specs::Reading::in_parentheses))]
+    pub fn in_parentheses(&mut self, room: u32, operators: &mut u32) -> Result<Expression, Fault>
+        ensures { Gives (λ e. (view.expression e, operators.new)) result self.new (spec.in_parentheses (spec.below room) operators.old self.old) }
+    {
+        let room = self.open(Mark::LeftParen, room)?;
+        let e = self.expression(room, operators)?;
+        self.expect(Mark::RightParen)?;
+        Ok(e)
+    }
+
+    /// An expression in brackets, which are a level.
+    #[cycle(expression)]
+    #[tactic(auto, unfolding(crate::specs::Reading::in_brackets))]
+    pub fn in_brackets(&mut self, room: u32, operators: &mut u32) -> Result<Expression, Fault>
+        ensures { Gives (λ e. (view.expression e, operators.new)) result self.new (spec.in_brackets (spec.below room) operators.old self.old) }
+    {
+        let room = self.open(Mark::LeftBracket, room)?;
+        let e = self.expression(room, operators)?;
+        self.expect(Mark::RightBracket)?;
+        Ok(e)
+    }
+
+    /// What a method may be called with: an expression or `nullptr`.
+    #[cycle(expression)]
+    #[tactic(auto, unfolding(crate::specs::Reading::argument))]
+    pub fn argument(&mut self, room: u32, operators: &mut u32) -> Result<Expression, Fault>
+        ensures { Gives (λ e. (view.expression e, operators.new)) result self.new (spec.argument (spec.at room) operators.old self.old) }
+    {
+        if self.sees(Mark::Nullptr) {
+            self.skip();
+            return Ok(Expression::Nullptr);
+        }
+        self.expression(room, operators)
+    }
+
+    // At least one.
+    #[cycle(expression)]
+    #[tactic(auto, unfolding(crate::specs::Reading::some_arguments, crate::specs::Reading::more_arguments))]
+    fn some_arguments(&mut self, room: u32, operators: &mut u32) -> Result<Vec<Expression>, Fault>
+        ensures { Gives (λ es. (map view.expression es.items, operators.new)) result self.new (spec.some_arguments (spec.at room) operators.old self.old) }
+    {
+        let mut found = Vec::new(self.alloc());
+        found.push(self.argument(room, operators)?)?;
+        for _turn in 0..self.left() {
+            if !self.sees(Mark::Comma) {
+                return Ok(found);
+            }
+            self.skip();
+            found.push(self.argument(room, operators)?)?;
+        }
+        Ok(found)
+    }
+
+    #[cycle(expression)]
+    #[tactic(auto, unfolding(crate::specs::Reading::any_arguments))]
+    fn any_arguments(&mut self, room: u32, operators: &mut u32) -> Result<Vec<Expression>, Fault>
+        ensures { Gives (λ es. (map view.expression es.items, operators.new)) result self.new (spec.any_arguments (spec.at room) operators.old self.old) }
+    {
+        if self.sees(Mark::RightParen) {
+            Ok(Vec::new(self.alloc()))
+        } else {
+            self.some_arguments(room, operators)
+        }
+    }
+
+    #[cycle(expression)]
+    #[tactic(auto, unfolding(crate::specs::Reading::arguments))]
+    fn arguments(&mut self, room: u32, operators: &mut u32) -> Result<Vec<Expression>, Fault>
+        ensures { Gives (λ es. (map view.expression es.items, operators.new)) result self.new (spec.arguments (spec.below room) operators.old self.old) }
+    {
+        let room = self.open(Mark::LeftParen, room)?;
+        let found = self.any_arguments(room, operators)?;
+        self.expect(Mark::RightParen)?;
+        Ok(found)
+    }
+
+    // What begins with a name.
+    #[cycle(expression)]
+    #[tactic(auto, unfolding(crate::specs::Reading::named))]
+    fn named(&mut self, room: u32, operators: &mut u32) -> Result<Expression, Fault>
+        ensures { Gives (λ e. (view.expression e, operators.new)) result self.new (spec.named (spec.below room) operators.old self.old) }
+    {
+        let name = self.name()?;
+        match self.next() {
+            Mark::Dot => {
+                self.skip();
+                let method = self.plain_name()?;
+                let arguments = self.arguments(room, operators)?;
+                Ok(Expression::Call {
+                    stream: name,
+                    method,
+                    arguments,
+                })
+            }
+            Mark::LeftBracket => {
+                let index = self.in_brackets(room, operators)?;
+                Ok(Expression::Element(name, Box::new(self.alloc(), index)?))
+            }
+            _ => Ok(Expression::Variable(name)),
+        }
+    }
+
+    #[cycle(expression)]
+    #[tactic(auto, unfolding(crate::specs::Reading::constructed))]
+    fn constructed(&mut self, room: u32, operators: &mut u32) -> Result<Expression, Fault>
+        ensures { Gives (λ e. (view.expression e, operators.new)) result self.new (spec.constructed (spec.below room) operators.old self.old) }
+    {
+        let kind = self.one()?;
+        let e = self.in_parentheses(room, operators)?;
+        Ok(Expression::Construct(kind, Box::new(self.alloc(), e)?))
+    }
+
+    #[cycle(expression)]
+    #[tactic(auto, unfolding(crate::specs::Reading::statically_cast))]
+    fn statically_cast(&mut self, room: u32, operators: &mut u32) -> Result<Expression, Fault>
+        ensures { Gives (λ e. (view.expression e, operators.new)) result self.new (spec.statically_cast (spec.below room) operators.old self.old) }
+    {
+        self.skip();
+        self.expect(Mark::Less)?;
+        let kind = self.kind()?;
+        self.expect(Mark::Greater)?;
+        let e = self.in_parentheses(room, operators)?;
+        Ok(Expression::StaticCast(kind, Box::new(self.alloc(), e)?))
+    }
+
+    #[cycle(expression)]
+    #[tactic(auto, unfolding(crate::specs::Reading::primary))]
+    fn primary(&mut self, room: u32, operators: &mut u32) -> Result<Expression, Fault>
+        ensures { Gives (λ e. (view.expression e, operators.new)) result self.new (spec.primary (spec.below room) operators.old self.old) }
+    {
+        if is_name(self.next()) {
+            return self.named(room, operators);
+        }
+        match self.next() {
+            Mark::Literal => {
+                let (kind, value) = self.literal()?;
+                Ok(Expression::Literal(kind, value))
+            }
+            Mark::True => {
+                self.skip();
+                Ok(Expression::Boolean(true))
+            }
+            Mark::False => {
+                self.skip();
+                Ok(Expression::Boolean(false))
+            }
+            Mark::StaticCast => self.statically_cast(room, operators),
+            _ => self.constructed(room, operators),
+        }
+    }
+
+    #[cycle(expression)]
+    #[tactic(auto, unfolding(crate::specs::Reading::parenthesis))]
+    fn parenthesis(&mut self, room: u32, operators: &mut u32) -> Result<Expression, Fault>
+        ensures { Gives (λ e. (view.expression e, operators.new)) result self.new (spec.parenthesis (spec.below room) operators.old self.old) }
+    {
+        let e = self.in_parentheses(room, operators)?;
+        Ok(Expression::Parenthesized(Box::new(self.alloc(), e)?))
+    }
+
+    // The parenthesis of a cast is open over its operand.
+    #[cycle(expression)]
+    #[tactic(auto, unfolding(crate::specs::Reading::converted))]
+    fn converted(&mut self, room: u32, operators: &mut u32) -> Result<Expression, Fault>
+        ensures { Gives (λ e. (view.expression e, operators.new)) result self.new (spec.converted (spec.below room) operators.old self.old) }
+    {
+        let room = self.open(Mark::LeftParen, room)?;
+        let kind = self.kind()?;
+        self.expect(Mark::RightParen)?;
+        let e = self.unary(room, operators)?;
+        Ok(Expression::Cast(kind, Box::new(self.alloc(), e)?))
+    }
+
+    #[cycle(expression)]
+    #[tactic(auto, unfolding(crate::specs::Reading::prefixed))]
+    fn prefixed(
+        &mut self,
+        operator: PrefixOperator,
+        room: u32,
+        operators: &mut u32,
+    ) -> Result<Expression, Fault>
+        ensures { Gives (λ e. (view.expression e, operators.new)) result self.new (spec.prefixed (spec.below room) operator operators.old self.old) }
+    {
+        *operators = count(*operators)?;
+        let room = self.enter(room)?;
+        let place = self.place();
+        self.skip();
+        let e = self.unary(room, operators)?;
+        Ok(Expression::Prefix(operator, place, Box::new(self.alloc(), e)?))
+    }
+
+    #[cycle(expression)]
+    #[tactic(auto, unfolding(crate::specs::Reading::unary_with))]
+    fn unary(&mut self, room: u32, operators: &mut u32) -> Result<Expression, Fault>
+        ensures { Gives (λ e. (view.expression e, operators.new)) result self.new ((spec.at room).unary operators.old self.old) }
+    {
+        if let Some(operator) = prefix_operator(self.next()) {
+            return self.prefixed(operator, room, operators);
+        }
+        if !self.sees(Mark::LeftParen) {
+            return self.primary(room, operators);
+        }
+        if self.begins_cast() {
+            self.converted(room, operators)
+        } else {
+            self.parenthesis(room, operators)
+        }
+    }
+
+    /// An expression whose operators, outside of parentheses and brackets, bind at levels below this one, from 0 for products to
+    /// 9 for `||`.
+    #[cycle(expression)]
+    #[tactic(auto, unfolding(crate::specs::Reading::level))]
+    pub fn level(&mut self, level: u8, room: u32, operators: &mut u32) -> Result<Expression, Fault>
+        ensures { Gives (λ e. (view.expression e, operators.new)) result self.new (spec.level ((spec.at room).unary) level operators.old self.old) }
+    {
+        if level == 0 {
+            return self.unary(room, operators);
+        }
+        let left = self.level(level - 1, room, operators)?;
+        self.chain(level - 1, room, left, operators)
+    }
+
+    // The operators of one level, with what stands between them.
+    #[cycle(expression)]
+    #[tactic(auto, unfolding(crate::specs::Reading::chain, crate::specs::Reading::chain_of))]
+    fn chain(
+        &mut self,
+        level: u8,
+        room: u32,
+        left: Expression,
+        operators: &mut u32,
+    ) -> Result<Expression, Fault>
+        ensures { Gives (λ e. (view.expression e, operators.new)) result self.new (spec.chain_of (spec.level ((spec.at room).unary) level) level (view.expression left) operators.old self.old) }
+    {
+        let mut left = left;
+        for _turn in 0..self.left() {
+            let Some(operator) = self.operator(level) else {
+                return Ok(left);
+            };
+            *operators = count(*operators)?;
+            let place = self.place();
+            self.skip();
+            let right = self.level(level, room, operators)?;
+            left = Expression::Binary(
+                operator,
+                place,
+                Box::new(self.alloc(), left)?,
+                Box::new(self.alloc(), right)?,
+            );
+        }
+        Ok(left)
+    }
+
+    #[cycle(expression)]
+    #[tactic(auto, unfolding(crate::specs::Reading::arms))]
+    fn arms(
+        &mut self,
+        room: u32,
+        test: Expression,
+        operators: &mut u32,
+    ) -> Result<Expression, Fault>
+        ensures { Gives (λ e. (view.expression e, operators.new)) result self.new (spec.arms (spec.below room) (view.expression test) operators.old self.old) }
+    {
+        *operators = count(*operators)?;
+        let room = self.enter(room)?;
+        let place = self.place();
+        self.skip();
+        let first = self.expression(room, operators)?;
+        self.expect(Mark::Colon)?;
+        let second = self.expression(room, operators)?;
+        Ok(Expression::Conditional(
+            place,
+            Box::new(self.alloc(), test)?,
+            Box::new(self.alloc(), first)?,
+            Box::new(self.alloc(), second)?,
+        ))
+    }
+
+    /// An expression. `room` says how many levels of nesting may be opened, `operators` how many operators are left to the
+    /// expression that it is part of. One more level or operator is refused with P2, and a lexeme that goes on with no
+    /// expression with P1.
+    #[cycle(expression)]
+    #[tactic(auto, unfolding(crate::specs::Reading::expression_with))]
+    pub fn expression(&mut self, room: u32, operators: &mut u32) -> Result<Expression, Fault>
+        ensures { Gives (λ e. (view.expression e, operators.new)) result self.new ((spec.at room).expression operators.old self.old) }
+    {
+        let test = self.level(OR_LEVEL, room, operators)?;
+        if self.sees(Mark::Question) {
+            self.arms(room, test, operators)
+        } else {
+            Ok(test)
+        }
+    }
+}

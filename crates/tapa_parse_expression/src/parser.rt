@@ -1,0 +1,274 @@
+//! What every rule of the parser is made of.
+
+ghost use Rattle.std.specs.Prelude.{◌≡◌, ◌<◌, length, drop, IfOk, true};
+ghost use Rattle.std.specs.Str.{IsAscii};
+ghost use Rattle.tapa_syntax.specs.Grammar.{is_name};
+ghost use Rattle.tapa_syntax.specs.Symbols.{symbols_of};
+ghost use Rattle.tapa_parse_expression.specs.Readers as spec;
+ghost use Rattle.tapa_parse_expression.specs.Readers.{Gives};
+ghost use Rattle.tapa_parse_expression.specs.Reading as reading;
+
+use crate::fault::{Fault, ParseCode};
+use crate::mark::{is_name, mark_of, text_of};
+use std::alloc::Global;
+use std::marker::Model;
+use tapa_base::{Kind, Place, Text};
+use tapa_syntax::{LexKind, Lexeme, Mark, Name};
+
+/// A parser stands before the lexemes that are left; where it refused, before the refused one. Its value is their symbols.
+/// What is left after want of memory is not told.
+#[derive(Drop)]
+pub struct Parser<'a> {
+    alloc: Global,
+    source: &'a [u8],
+    rest: &'a [Lexeme],
+}
+
+impl<'a> Model for Parser<'a> {
+    ghost use Rattle.std.specs.Prelude.{List};
+    ghost use Rattle.tapa_syntax.specs.Symbols.{Symbol, symbols_of};
+
+    ghost Value = { List Symbol };
+
+    ghost view = { λ p. symbols_of p.source.now p.rest.now };
+}
+
+#[tactic(auto, unfolding(crate::specs::Readers::same))]
+fn same(a: Mark, b: Mark) -> bool
+    ensures { result ≡ spec.same a b }
+{
+    a == b
+}
+
+impl<'a> Parser<'a> {
+    /// A parser before all the lexemes of a source.
+    pub fn new(alloc: Global, source: &'a [u8], lexemes: &'a [Lexeme]) -> Self
+        ensures { result ≡ symbols_of source.now lexemes.now }
+    {
+        Parser {
+            alloc,
+            source,
+            rest: lexemes,
+        }
+    }
+
+    /// Where the parts of trees are made.
+    pub fn alloc(&self) -> Global {
+        self.alloc
+    }
+
+    /// What the next lexeme is; `Mark::End` where none is left.
+    pub fn next(&self) -> Mark
+        ensures { result ≡ spec.next self.now }
+    {
+        match self.rest {
+            [first, ..] => mark_of(self.source, first),
+            [] => Mark::End,
+        }
+    }
+
+    /// Where the next lexeme stands; 0:0 where none is left.
+    #[tactic(auto, unfolding(tapa_syntax::specs::Symbols::symbol_of))]
+    pub fn place(&self) -> Place
+        ensures { result ≡ spec.first_place self.now }
+    {
+        match self.rest {
+            [first, ..] => first.place,
+            [] => Place { line: 0, col: 0 },
+        }
+    }
+
+    /// How many lexemes are left.
+    pub fn left(&self) -> usize
+        ensures { result ≡ length self.now }
+    {
+        self.rest.len()
+    }
+
+    /// Whether a lexeme is left.
+    pub fn is_left(&self) -> bool
+        ensures { result ≡ spec.is_left self.now }
+    {
+        match self.rest {
+            [_, ..] => true,
+            [] => false,
+        }
+    }
+
+    /// No lexeme is left; one that is left is refused with P1.
+    pub fn ended(&self) -> Result<(), Fault>
+        ensures { Gives (λ x. x) result self.now (spec.ended self.now) }
+    {
+        match self.rest {
+            [_, ..] => Err(Fault::Refused(ParseCode::P1)),
+            [] => Ok(()),
+        }
+    }
+
+    /// Whether the next lexeme has this mark.
+    #[tactic(auto, unfolding(crate::specs::Readers::sees))]
+    pub fn sees(&self, mark: Mark) -> bool
+        ensures { result ≡ spec.sees mark self.now }
+    {
+        same(self.next(), mark)
+    }
+
+    /// What the lexeme behind so many others is.
+    pub fn next_behind(&self, others: usize) -> Mark
+        ensures { result ≡ spec.next (drop others self.now) }
+    {
+        match self.rest.get(others) {
+            Some(lexeme) => mark_of(self.source, lexeme),
+            None => Mark::End,
+        }
+    }
+
+    /// Whether the lexeme behind so many others has this mark.
+    #[tactic(auto, unfolding(crate::specs::Readers::sees))]
+    pub fn sees_behind(&self, others: usize, mark: Mark) -> bool
+        ensures { result ≡ spec.sees mark (drop others self.now) }
+    {
+        same(self.next_behind(others), mark)
+    }
+
+    /// Passes the next lexeme, if one is left.
+    pub fn skip(&mut self)
+        ensures { self.new ≡ drop 1 self.old }
+    {
+        if let [_, rest @ ..] = self.rest {
+            self.rest = rest;
+        }
+    }
+
+    /// Passes the next lexeme, if it has this mark, and tells whether it did.
+    #[tactic(auto, unfolding(crate::specs::Readers::past))]
+    pub fn eat(&mut self, mark: Mark) -> bool
+        ensures found { result ≡ spec.sees mark self.old }
+        ensures left { self.new ≡ spec.past mark self.old }
+    {
+        let found = self.sees(mark);
+        if found {
+            self.skip();
+        }
+        found
+    }
+
+    /// Passes the next lexeme, which must have this mark: any other is refused with P1.
+    #[tactic(auto, unfolding(crate::specs::Readers::expect))]
+    pub fn expect(&mut self, mark: Mark) -> Result<(), Fault>
+        ensures { Gives (λ x. x) result self.new (spec.expect mark self.old) }
+    {
+        if self.sees(mark) {
+            self.skip();
+            Ok(())
+        } else {
+            Err(Fault::Refused(ParseCode::P1))
+        }
+    }
+
+    /// The next lexeme opens a level: how many more may be opened then. It is refused with P2 where none may.
+    #[tactic(auto, unfolding(crate::specs::Reading::below_room))]
+    pub fn enter(&self, room: u32) -> Result<u32, Fault>
+        ensures gives { Gives reading.at result self.now (reading.enter (reading.below room) self.now) }
+        ensures less { IfOk result (λ r. r < room) }
+    {
+        if room == 0 {
+            return Err(Fault::Refused(ParseCode::P2));
+        }
+        Ok(room - 1)
+    }
+
+    /// Passes a lexeme with this mark, which opens a level: how many more may be opened then. Any other is refused with P1, and
+    /// this one with P2 where no level may be opened.
+    #[tactic(auto, unfolding(crate::specs::Reading::open_level))]
+    pub fn open(&mut self, mark: Mark, room: u32) -> Result<u32, Fault>
+        ensures gives { Gives reading.at result self.new (reading.open_level mark (reading.below room) self.old) }
+        ensures less { IfOk result (λ r. r < room) }
+    {
+        if !self.sees(mark) {
+            return Err(Fault::Refused(ParseCode::P1));
+        }
+        let below = self.enter(room)?;
+        self.skip();
+        Ok(below)
+    }
+
+    /// The bytes of the next lexeme.
+    #[tactic(auto, unfolding(tapa_syntax::specs::Symbols::symbol_of))]
+    fn bytes(&self) -> &[u8]
+        ensures text { result.now ≡ spec.first_text self.now }
+        ensures ascii { is_name (spec.next self.now) ≡ true → IsAscii result.now }
+    {
+        match self.rest {
+            [first, ..] => text_of(self.source, first),
+            [] => &[],
+        }
+    }
+
+    fn text(&self) -> Result<Text, Fault>
+        requires { is_name (spec.next self.now) ≡ true }
+        ensures { Gives (λ x. x) result self.now (Ok (spec.first_text self.now, self.now)) }
+    {
+        let bytes = self.bytes();
+        let copy = bytes.to_vec(self.alloc)?;
+        Ok(Text::new(copy))
+    }
+
+    fn take_name(&mut self) -> Result<Name, Fault>
+        requires { is_name (spec.next self.old) ≡ true }
+        ensures { Gives (λ x. x) result self.new (Ok (spec.name_here self.old, drop 1 self.old)) }
+    {
+        let place = self.place();
+        let text = self.text()?;
+        self.skip();
+        Ok(Name { text, place })
+    }
+
+    /// Passes a name, and gives its text and place; any other lexeme is refused with P1.
+    #[tactic(auto, unfolding(crate::specs::Readers::name))]
+    pub fn name(&mut self) -> Result<Name, Fault>
+        ensures { Gives (λ x. x) result self.new (spec.name self.old) }
+    {
+        if !is_name(self.next()) {
+            return Err(Fault::Refused(ParseCode::P1));
+        }
+        self.take_name()
+    }
+
+    /// The same behind `tapa::` and a dot, where the words of streams, memories and tasks are no names.
+    #[tactic(auto, unfolding(crate::specs::Readers::plain_name))]
+    pub fn plain_name(&mut self) -> Result<Name, Fault>
+        ensures { Gives (λ x. x) result self.new (spec.plain_name self.old) }
+    {
+        match self.next() {
+            Mark::Name => self.take_name(),
+            _ => Err(Fault::Refused(ParseCode::P1)),
+        }
+    }
+
+    #[tactic(auto, unfolding(tapa_syntax::specs::Symbols::symbol_of))]
+    fn literal_here(&self) -> (Kind, u64)
+        ensures { result ≡ spec.first_literal self.now }
+    {
+        match self.rest {
+            [first, ..] => match first.kind {
+                LexKind::Literal { kind, value } => (kind, value),
+                _ => (Kind::Bool, 0),
+            },
+            [] => (Kind::Bool, 0),
+        }
+    }
+
+    /// Passes a literal, and gives its kind and value; any other lexeme is refused with P1.
+    #[tactic(auto, unfolding(crate::specs::Readers::literal_value))]
+    pub fn literal(&mut self) -> Result<(Kind, u64), Fault>
+        ensures { Gives (λ x. x) result self.new (spec.literal_value self.old) }
+    {
+        if !self.sees(Mark::Literal) {
+            return Err(Fault::Refused(ParseCode::P1));
+        }
+        let literal = self.literal_here();
+        self.skip();
+        Ok(literal)
+    }
+}

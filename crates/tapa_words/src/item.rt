@@ -1,0 +1,212 @@
+ghost use Rattle.std.specs.Prelude.{◌≡◌, map, Some, option_map};
+ghost use Rattle.std.specs.List.{list_any};
+ghost use Rattle.tapa_words.specs.Words.{texts, is_option, step_of, option_step, form_of, name_in, value_in, items_of, is_named, is_same_option, is_each_once, positionals, value_of};
+ghost use Rattle.tapa_words.specs.Meaning.{item, next, step, Says};
+
+use crate::command::WordsFault;
+use crate::verb::{Form, Verb};
+use std::alloc::Global;
+
+// What the words behind the command's name are.
+#[derive(Clone, Copy, Debug)]
+pub(crate) enum Item<'a> {
+    Positional(&'a str),
+    /// An option, and its value.
+    Valued(&'a str, &'a str),
+    Plain(&'a str),
+}
+
+// What the next word may be.
+#[derive(Clone, Copy, Debug)]
+enum Next<'a> {
+    AnyWord,
+    /// The value of this option.
+    ValueOf(&'a str),
+    OnlyPositionals,
+}
+
+// What a word says.
+#[derive(Clone, Copy, Debug)]
+enum Step<'a> {
+    Gives(Item<'a>, Next<'a>),
+    Moves(Next<'a>),
+    Breaks,
+}
+
+// Whether a word is an option.
+fn is_an_option(word: &str) -> bool
+    ensures { result ≡ is_option word.now }
+{
+    let bytes = word.as_bytes();
+    bytes.len() > 1 && bytes[0] == b'-'
+}
+
+// What stands before the first `=`, and behind it.
+fn cut(word: &str) -> (&str, Option<&str>)
+    ensures name { result.0.now ≡ name_in word.now }
+    ensures value { option_map (λ text. text.now) result.1 ≡ value_in word.now }
+{
+    match word.split_once('=') {
+        Some((name, value)) => (name, Some(value)),
+        None => (word, None),
+    }
+}
+
+// An option of this form, and this name and value in its word.
+fn by_form<'a>(form: Option<Form>, name: &'a str, value: Option<&'a str>) -> Step<'a>
+    ensures { step result ≡ option_step form name.now (option_map (λ text. text.now) value.entry) }
+{
+    match (form, value) {
+        (Some(Form::WithValue), None) => Step::Moves(Next::ValueOf(name)),
+        (Some(Form::WithValue), Some(value)) => {
+            if value.is_empty() {
+                Step::Breaks
+            } else {
+                Step::Gives(Item::Valued(name, value), Next::AnyWord)
+            }
+        }
+        (Some(Form::Alone), None) => Step::Gives(Item::Plain(name), Next::AnyWord),
+        (Some(Form::Alone), Some(_)) => Step::Breaks,
+        (None, _) => Step::Breaks,
+    }
+}
+
+// An option before `--`.
+fn read_option(verb: Verb, word: &str) -> Step<'_>
+    ensures { step result ≡ option_step (form_of verb (name_in word.now)) (name_in word.now) (value_in word.now) }
+{
+    let (name, value) = cut(word);
+    by_form(verb.form(name), name, value)
+}
+
+// A word, by what it may be.
+fn read_word<'a>(verb: Verb, expected: Next<'a>, word: &'a str) -> Step<'a>
+    ensures { step result ≡ step_of verb (next expected.entry) word.now }
+{
+    match expected {
+        Next::AnyWord => {
+            if word == "--" {
+                Step::Moves(Next::OnlyPositionals)
+            } else if is_an_option(word) {
+                read_option(verb, word)
+            } else {
+                Step::Gives(Item::Positional(word), Next::AnyWord)
+            }
+        }
+        Next::ValueOf(name) => {
+            if is_an_option(word) {
+                Step::Breaks
+            } else {
+                Step::Gives(Item::Valued(name, word), Next::AnyWord)
+            }
+        }
+        Next::OnlyPositionals => Step::Gives(Item::Positional(word), Next::OnlyPositionals),
+    }
+}
+
+/// The items of the words behind the command's name.
+pub(crate) fn read_items<'a>(
+    alloc: Global,
+    verb: Verb,
+    words: &'a [String],
+) -> Result<Vec<Item<'a>>, WordsFault>
+    ensures { Says (λ items. map item items.items) result (items_of verb (texts words.now)) }
+{
+    let mut items = Vec::new(alloc);
+    let mut expected = Next::AnyWord;
+    for word in words {
+        match read_word(verb, expected, word.as_str()) {
+            Step::Gives(given, later) => {
+                if items.push(given).is_err() {
+                    return Err(WordsFault::OutOfMemory);
+                }
+                expected = later;
+            }
+            Step::Moves(later) => expected = later,
+            Step::Breaks => return Err(WordsFault::Usage),
+        }
+    }
+    match expected {
+        Next::ValueOf(_) => Err(WordsFault::Usage),
+        _ => Ok(items),
+    }
+}
+
+/// The positionals among the items.
+pub(crate) fn positional_words<'a>(
+    alloc: Global,
+    items: &[Item<'a>],
+) -> Result<Vec<&'a str>, WordsFault>
+    ensures { Says (λ words. map (λ word. word.now) words.items) result (Some (positionals (map item items.now))) }
+{
+    let mut words = Vec::new(alloc);
+    for given in items {
+        if let Item::Positional(word) = *given {
+            if words.push(word).is_err() {
+                return Err(WordsFault::OutOfMemory);
+            }
+        }
+    }
+    Ok(words)
+}
+
+impl<'a> Item<'a> {
+    // Whether it is the option of this name.
+    fn is_called(self, name: &str) -> bool
+        ensures { result ≡ is_named name.now (item self.entry) }
+    {
+        match self {
+            Item::Positional(_) => false,
+            Item::Valued(other, _) => other == name,
+            Item::Plain(other) => other == name,
+        }
+    }
+
+    // Whether both are one option.
+    fn is_option_of(self, other: Item) -> bool
+        ensures { result ≡ is_same_option (item self.entry) (item other.entry) }
+    {
+        match self {
+            Item::Positional(_) => false,
+            Item::Valued(name, _) => other.is_called(name),
+            Item::Plain(name) => other.is_called(name),
+        }
+    }
+
+    fn is_among(self, items: &[Item]) -> bool
+        ensures { result ≡ list_any (is_same_option (item self.entry)) (map item items.now) }
+    {
+        for other in items {
+            if self.is_option_of(*other) {
+                return true;
+            }
+        }
+        false
+    }
+}
+
+/// Whether each option is given at most once.
+pub(crate) fn are_each_once(items: &[Item]) -> bool
+    ensures { result ≡ is_each_once (map item items.now) }
+{
+    for (index, given) in items.iter().enumerate() {
+        if given.is_among(&items[index + 1..]) {
+            return false;
+        }
+    }
+    true
+}
+
+/// The value of the option of a name.
+pub(crate) fn value<'a>(name: &str, items: &[Item<'a>]) -> Option<&'a str>
+    ensures { option_map (λ text. text.now) result ≡ value_of name.now (map item items.now) }
+{
+    for given in items {
+        if let Item::Valued(other, text) = *given {
+            if other == name {
+                return Some(text);
+            }
+        }
+    }
+    None
+}

@@ -1,0 +1,122 @@
+-- Questions as they are asked, and what their answers say.
+use Rattle.std.proofs.Common.{◌≡◌, ℕ, zero, suc, ◌+◌, ◌<◌, ◌≤◌, Bool, true, false, cond, List, [], ◌∷◌, ◌++◌, length, Option, Some, None, inl, inr, refl, sym, subst, ◌∙◌, arith}
+use Rattle.std.specs.Prelude.{bytes_eq, slice_get, ◌⊎◌, ◌≢◌, ◌↔◌, Vec}
+use Rattle.std.specs.Option.{option_map_or}
+use Rattle.std.specs.Cmp.Lexicographic.{bytes_decides}
+use Rattle.std.proofs.lemmas.Bool.{cases_eq}
+use Rattle.vlog_tree.specs.declared.tree.Item.{Item}
+use Rattle.vlog_tree.specs.Grounded.{Has}
+use Rattle.vlog_tree.specs.Form.{ModuleTree}
+use Rattle.vlog_tree.specs.Table.{Name}
+use Rattle.vlog_tree.specs.Loops.{Edges, Reaches, port_of, item_instances}
+use Rattle.vlog_graph.specs.Graphs.{targets_of}
+use Rattle.vlog_graph.proofs.Numbered.{has_left, has_right, targets_push}
+use Rattle.vlog_comb_loops.specs.declared.suspects.Suspect.{Suspect}
+use Rattle.vlog_comb_loops.specs.declared.suspects.Loops.{Loops}
+use Rattle.vlog_comb_loops.specs.declared.questions.Questions.{Questions}
+use Rattle.vlog_comb_loops.specs.Questions.{Question, asked_of, Keeps, Asks}
+use Rattle.vlog_comb_loops.specs.Search.{LoopsIn, LoopsAt, LoopsBy, IsSuspect, IsEvidence}
+use Rattle.vlog_comb_loops.proofs.Lists.{has_flat, of_flat, has_got, got_has}
+
+module _ {X A : Type 0} where
+  abbrev pub list_of : List (Vec X A) → Option ℕ → List X
+  list_of lists o = option_map_or (λ n. targets_of lists n) o []
+
+  pub nothing_past : (xs : List (Vec X A)) (i : ℕ) → length xs ≤ i → targets_of xs i ≡ []
+  nothing_past [] i h = refl
+  nothing_past (x ∷ xs) zero h = absurd (omega arith)
+  nothing_past (x ∷ xs) (suc i) h = nothing_past xs i (omega arith)
+
+  -- one more element of one list
+  module _ (old new : List (Vec X A)) (n : ℕ) (x : X) (at : targets_of new n ≡ targets_of old n ++ x ∷ []) (others : (i : ℕ) → i ≢ n → targets_of new i ≡ targets_of old i) where
+    kept_at : (i : ℕ) (y : X) → (i ≡ n) ⊎ (i ≢ n) → Has (targets_of old i) y → Has (targets_of new i) y
+    kept_at i y (inl e) h =
+        subst (λ j. Has (targets_of old j) y → Has (targets_of new j) y) (sym e) (λ (k : Has (targets_of old n) y). subst (λ l. Has l y) (sym at) (has_left (targets_of old n) (x ∷ []) y k)) h
+    kept_at i y (inr ne) h = subst (λ l. Has l y) (sym (others i ne)) h
+
+    pub pushed_kept : (o : Option ℕ) (y : X) → Has (list_of old o) y → Has (list_of new o) y
+    pushed_kept None y h = h
+    pushed_kept (Some i) y h = kept_at i y (cases_eq i n) h
+
+    pub pushed_there : (o : Option ℕ) → o ≡ Some n → Has (list_of new o) x
+    pushed_there o e =
+        subst (λ p. Has (list_of new p) x) (sym e) (subst (λ l. Has l x) (sym at) (has_right (targets_of old n) (x ∷ []) x (inl refl)))
+
+  -- a list is begun for a name that has none
+  pushed_same : (lists : List (Vec X A)) (v : Vec X A) → v.items ≡ [] → (o : Option ℕ) → list_of (lists ++ v ∷ []) o ≡ list_of lists o
+  pushed_same lists v e None = refl
+  pushed_same lists v e (Some i) = targets_push lists v e i
+
+  pub begun_same : (lists : List (Vec X A)) (v : Vec X A) → v.items ≡ [] → (number : Name → Option ℕ) (name : Name) → list_of lists (number name) ≡ [] → (x : Name) (b : Bool) → bytes_eq name x ≡ b
+      → list_of (lists ++ v ∷ []) (cond b (Some (length lists)) (number x)) ≡ list_of lists (number x)
+  begun_same lists v e number name none x true h =
+      pushed_same lists v e (Some (length lists)) ∙ nothing_past lists (length lists) (omega arith) ∙ sym (subst (λ y. list_of lists (number y) ≡ []) ((bytes_decides name x).0 h) none)
+  begun_same lists v e number name none x false h = pushed_same lists v e (number x)
+
+-- one more line, and one more suspect
+pub lines_more : (old new : Questions) (at : ℕ) (items : List Item) (line : ℕ) (x : Item) → Keeps old new → slice_get items line ≡ Some x
+    → ((m i : Name) → Has (item_instances x) (m, i) → Has (asked_of new m) (at, Some line))
+    → ((j : ℕ) (item : Item) (m i : Name) → j < line → slice_get items j ≡ Some item → Has (item_instances item) (m, i) → Has (asked_of old m) (at, Some j))
+    → (j : ℕ) (item : Item) (m i : Name) → j < line + 1 → slice_get items j ≡ Some item → Has (item_instances item) (m, i) → Has (asked_of new m) (at, Some j)
+lines_more old new at items line x kept is here before j item m i low e h =
+    elim (cases_eq j line) [
+      | inl same ↦ (let this : x ≡ item = cc (is, e, same) in
+          subst (λ n. Has (asked_of new m) (at, Some n)) (sym same) (here m i (subst (λ t. Has (item_instances t) (m, i)) (sym this) h)))
+      | inr other ↦ kept m (at, Some j) (before j item m i (omega (arith, other)) e h)
+    ]
+
+pub asks_kept : (old new : Questions) (at : ℕ) (k : ModuleTree) → Keeps old new → Asks old at k → Asks new at k
+asks_kept old new at k kept a = record {
+  own = kept k.name (at, None) a.own;
+  lines = λ j item m i e h. kept m (at, Some j) (a.lines j item m i e h);
+}
+
+pub suspects_more : (old new : Questions) (ms : List ModuleTree) (suspects : List Suspect) (at : ℕ) (x : Suspect) → Keeps old new → slice_get suspects at ≡ Some x
+    → ((k : ModuleTree) → slice_get ms x.place ≡ Some k → Asks new at k)
+    → ((a : ℕ) (s : Suspect) (k : ModuleTree) → a < at → slice_get suspects a ≡ Some s → slice_get ms s.place ≡ Some k → Asks old a k)
+    → (a : ℕ) (s : Suspect) (k : ModuleTree) → a < at + 1 → slice_get suspects a ≡ Some s → slice_get ms s.place ≡ Some k → Asks new a k
+suspects_more old new ms suspects at x kept is here before a s k low e f =
+    elim (cases_eq a at) [
+      | inl same ↦ (let this : x ≡ s = cc (is, e, same) in
+          subst (λ n. Asks new n k) (sym same) (here k (subst (λ (t : Suspect). slice_get ms t.place ≡ Some k) (sym this) f)))
+      | inr other ↦ asks_kept old new a k kept (before a s k (omega (arith, other)) e f)
+    ]
+
+pub got_low : {B : Type 0} (xs : List B) (i : ℕ) (x : B) → slice_get xs i ≡ Some x → i < length xs
+got_low [] i x e = cc
+got_low (y ∷ ys) zero x e = omega arith
+got_low (y ∷ ys) (suc i) x e = let low : i < length ys = got_low ys i x e in omega arith
+
+-- what loops by a line loops in the module
+pub at_in : (edges : Edges) (k : ModuleTree) (line : Option ℕ) (m x : Name) → LoopsAt edges k line m x → LoopsIn edges k m x
+at_in edges k None m x h = inl h
+at_in edges k (Some j) m x h = inr (h.2.0, has_flat item_instances k.items h.0 (m, h.2.0) (has_got k.items j h.0 h.1) h.2.1, h.2.2)
+
+-- what a line that is there loops, and one that is not
+pub line_loops : (edges : Edges) (k : ModuleTree) (line : Option ℕ) (j : ℕ) (m x : Name) (item : Item) (b : Bool) → line ≡ Some j → slice_get k.items j ≡ Some item
+    → ((b ≡ true) ↔ ((i : Name) × Has (item_instances item) (m, i) × Reaches edges (port_of i x) (port_of i x))) → (b ≡ true) ↔ LoopsAt edges k line m x
+line_loops edges k line j m x item b e at f =
+    subst (λ o. (b ≡ true) ↔ LoopsAt edges k o m x) (sym e) (
+      λ yes. (item, at, f.0 yes),
+      λ (h : LoopsAt edges k (Some j) m x).
+          let same : h.0 ≡ item = cc (h.1, at) in
+          f.1 (subst (λ (t : Item). (i : Name) × Has (item_instances t) (m, i) × Reaches edges (port_of i x) (port_of i x)) same h.2),
+    )
+
+pub no_line : (edges : Edges) (k : ModuleTree) (line : Option ℕ) (j : ℕ) (m x : Name) → line ≡ Some j → slice_get k.items j ≡ None → LoopsAt edges k line m x → ⊥
+no_line edges k line j m x e none h = let t : LoopsAt edges k (Some j) m x = subst (λ o. LoopsAt edges k o m x) e h in cc (t.1, none)
+
+-- where each question that is asked is answered by no, no suspect has a loop
+module _ (ms : List ModuleTree) (is_top : Name → Bool) (m x : Name) (loops : Loops) (ev : IsEvidence ms is_top loops)
+    (none : (e : Question) → Has (asked_of loops.questions m) e → LoopsBy ms is_top loops.suspects.items m x e → ⊥) where
+  pub no_suspect : (s : Suspect) → Has loops.suspects.items s → (v : IsSuspect ms is_top s) → LoopsIn v.edges v.tree m x → ⊥
+  no_suspect s has v (inl h) =
+      let g = got_has loops.suspects.items s has in
+      let a : Asks loops.questions g.0 v.tree = ev.questions g.0 s v.tree g.2 v.at in
+      none (g.0, None) (subst (λ n. Has (asked_of loops.questions n) (g.0, None)) h.0 a.own) (s, g.2, (v, h))
+  no_suspect s has v (inr h) =
+      let g = got_has loops.suspects.items s has in
+      let a : Asks loops.questions g.0 v.tree = ev.questions g.0 s v.tree g.2 v.at in
+      let t = of_flat item_instances v.tree.items (m, h.0) h.1 in
+      let l = got_has v.tree.items t.0 t.1 in
+      none (g.0, Some l.0) (a.lines l.0 t.0 m h.0 l.2 t.2) (s, g.2, (v, (t.0, l.2, (h.0, t.2, h.2))))

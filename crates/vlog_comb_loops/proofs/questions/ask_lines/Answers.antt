@@ -1,0 +1,20 @@
+use Rattle.std.proofs.Common.{◌<◌, length, arith}
+use Rattle.vlog_comb_loops.proofs.Lists.{got_index}
+use Rattle.vlog_comb_loops.proofs.Asking.{lines_more, got_low}
+use Rattle.vlog_comb_loops.proofs.questions.ask_lines.Goals as goal
+
+pub loop-line-preserved : goal.loop-line-preserved
+loop-line-preserved c =
+    let x = c.index-items-line.result in
+    record {
+      there =
+          lines_more c.loop-line.questions c.ask_line.new.questions c.args.at c.args.items.now c.loop-line.line x c.in_ok-ask_line.ensures.kept
+          (got_index c.args.items.now c.loop-line.line x c.loop-line-test.true c.index-items-line.is) c.in_ok-ask_line.ensures.there c.loop-line.invariant.there;
+      kept = λ m e h. c.in_ok-ask_line.ensures.kept m e (c.loop-line.invariant.kept m e h);
+    }
+
+pub returns-clause-there : goal.returns-clause-there
+returns-clause-there c = λ j item m i e h.
+    let low : j < length c.args.items.now = got_low c.args.items.now j item e in
+    let over = c.loop-line-test.false in
+    c.loop-line.invariant.there j item m i (omega (arith, over)) e h

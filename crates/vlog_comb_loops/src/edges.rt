@@ -1,0 +1,286 @@
+// The graph of a module: what each of its nets, and each port of its instances, rests on within a cycle.
+
+ghost use Rattle.std.specs.Prelude.{◌≡◌, ◌++◌, ◌∷◌, [], map, IfOk, OnOk};
+ghost use Rattle.std.specs.List.{flat_map};
+ghost use Rattle.std.specs.Option.{option_copied};
+ghost use Rattle.vlog_tree.specs.Table.{declared};
+ghost use Rattle.vlog_tree.specs.Loops.{atom_nets, value_nets, port_of, link_edge, line_edges, answer_edges, memory_edges, item_instances};
+ghost use Rattle.vlog_graph.specs.Graphs.{IsGraphOf};
+ghost use Rattle.vlog_comb_loops.specs.Growth.{Adds};
+ghost use Rattle.vlog_comb_loops.specs.Summaries.{is_named, sum_named, port_pair, through_edges, module_edges};
+
+use crate::sums::{Sum, pairs_at};
+use std::alloc::{AllocError, Global};
+use tapa_base::Text;
+use vlog_graph::Graph;
+use vlog_rules::{Library, Scope, is_input};
+use vlog_tree::{Atom, Declaration, Item, Link, Module, Value, addr_name, rdata_of};
+
+#[tactic(auto, unfolding(vlog_tree::specs::Loops::port_of))]
+pub(crate) fn port_name(alloc: Global, instance: &Text, port: &Text) -> Result<Vec<u8>, AllocError>
+    ensures { IfOk result (λ v. v.items ≡ port_of instance.now port.now) }
+{
+    let mut name = instance.bytes().to_vec(alloc)?;
+    name.push(b'.')?;
+    name.extend_from_slice(port.bytes())?;
+    Ok(name)
+}
+
+pub(crate) fn add(alloc: Global, g: &mut Graph, from: &[u8], to: &[u8]) -> Result<(), AllocError>
+    ensures { OnOk result (Adds g.old g.new ((from.now, to.now) ∷ [])) }
+{
+    g.add_edge(alloc, from, to)?;
+    Ok(())
+}
+
+fn add_atom(alloc: Global, g: &mut Graph, x: &Text, atom: &Atom) -> Result<(), AllocError>
+    ensures { OnOk result (Adds g.old g.new (map (λ y. (x.now, y)) (atom_nets atom.now))) }
+{
+    match atom {
+        Atom::Net(y) => add(alloc, g, x.bytes(), y.bytes()),
+        Atom::Part(y, _, _) => add(alloc, g, x.bytes(), y.bytes()),
+        Atom::Literal(_, _) => Ok(()),
+    }
+}
+
+fn add_two(alloc: Global, g: &mut Graph, x: &Text, a: &Atom, b: &Atom) -> Result<(), AllocError>
+    ensures { OnOk result (Adds g.old g.new (map (λ y. (x.now, y)) (atom_nets a.now ++ atom_nets b.now))) }
+{
+    add_atom(alloc, g, x, a)?;
+    add_atom(alloc, g, x, b)?;
+    Ok(())
+}
+
+fn add_three(
+    alloc: Global,
+    g: &mut Graph,
+    x: &Text,
+    a: &Atom,
+    b: &Atom,
+    c: &Atom,
+) -> Result<(), AllocError>
+    ensures { OnOk result (Adds g.old g.new (map (λ y. (x.now, y)) (atom_nets a.now ++ (atom_nets b.now ++ atom_nets c.now)))) }
+{
+    add_atom(alloc, g, x, a)?;
+    add_two(alloc, g, x, b, c)?;
+    Ok(())
+}
+
+fn add_atoms(alloc: Global, g: &mut Graph, x: &Text, atoms: &[Atom]) -> Result<(), AllocError>
+    ensures { OnOk result (Adds g.old g.new (map (λ y. (x.now, y)) (flat_map atom_nets atoms.now))) }
+{
+    for a in atoms {
+        add_atom(alloc, g, x, a)?;
+    }
+    Ok(())
+}
+
+// A driven net rests on the nets of its driver.
+fn add_value(alloc: Global, g: &mut Graph, x: &Text, value: &Value) -> Result<(), AllocError>
+    ensures { OnOk result (Adds g.old g.new (map (λ y. (x.now, y)) (value_nets value.now))) }
+{
+    match value {
+        Value::Plain(a) => add_atom(alloc, g, x, a),
+        Value::Invert(a) => add_atom(alloc, g, x, a),
+        Value::Binary(a, _, b) => add_two(alloc, g, x, a, b),
+        Value::Choose(c, a, b) => add_three(alloc, g, x, c, a, b),
+        Value::Concat(atoms) => add_atoms(alloc, g, x, atoms.atoms()),
+        Value::Repeat(_, a) => add_atom(alloc, g, x, a),
+        Value::Cell(_, y) => add(alloc, g, x.bytes(), y.bytes()),
+    }
+}
+
+// An instance's input rests on its net, and a net on the instance's output.
+#[tactic(auto, unfolding(vlog_tree::specs::Loops::link_edge))]
+fn add_link(
+    alloc: Global,
+    g: &mut Graph,
+    ports: &Scope,
+    instance: &Text,
+    link: &Link,
+) -> Result<(), AllocError>
+    ensures { OnOk result (Adds g.old g.new (link_edge ports.now instance.now link.now ∷ [])) }
+{
+    let port = port_name(alloc, instance, &link.port)?;
+    if is_input(ports.sort(link.port.bytes())) {
+        add(alloc, g, &port, link.net.bytes())
+    } else {
+        add(alloc, g, link.net.bytes(), &port)
+    }
+}
+
+fn add_links(
+    alloc: Global,
+    g: &mut Graph,
+    ports: &Scope,
+    instance: &Text,
+    links: &[Link],
+) -> Result<(), AllocError>
+    ensures { OnOk result (Adds g.old g.new (map (link_edge ports.now instance.now) links.now)) }
+{
+    for l in links {
+        add_link(alloc, g, ports, instance, l)?;
+    }
+    Ok(())
+}
+
+fn add_line(alloc: Global, g: &mut Graph, library: &Library, item: &Item) -> Result<(), AllocError>
+    ensures { OnOk result (Adds g.old g.new (line_edges library.now item.now)) }
+{
+    match item {
+        Item::Assign(x, e) => add_value(alloc, g, x, e),
+        Item::Instance(m, i, joins) => {
+            add_links(alloc, g, library.ports_named(m), i, joins.links())
+        }
+        Item::Wire(_, _) => Ok(()),
+        Item::Reg(_, _) => Ok(()),
+        Item::Memory(_, _, _) => Ok(()),
+        Item::Always(_) => Ok(()),
+    }
+}
+
+fn add_lines(
+    alloc: Global,
+    g: &mut Graph,
+    library: &Library,
+    items: &[Item],
+) -> Result<(), AllocError>
+    ensures { OnOk result (Adds g.old g.new (flat_map (line_edges library.now) items.now)) }
+{
+    for item in items {
+        add_line(alloc, g, library, item)?;
+    }
+    Ok(())
+}
+
+// What a memory gives rests on the place that it is asked for.
+fn add_answer(alloc: Global, g: &mut Graph, d: &Declaration) -> Result<(), AllocError>
+    ensures { OnOk result (Adds g.old g.new (answer_edges d.now)) }
+{
+    match rdata_of(&d.name) {
+        Some(label) => {
+            let address = addr_name(alloc, label)?;
+            add(alloc, g, d.name.bytes(), &address)
+        }
+        None => Ok(()),
+    }
+}
+
+fn add_answers(alloc: Global, g: &mut Graph, names: &[Declaration]) -> Result<(), AllocError>
+    ensures { OnOk result (Adds g.old g.new (flat_map answer_edges names.now)) }
+{
+    for d in names {
+        add_answer(alloc, g, d)?;
+    }
+    Ok(())
+}
+
+fn add_memories(alloc: Global, g: &mut Graph, top: bool, m: &Module) -> Result<(), AllocError>
+    ensures { OnOk result (Adds g.old g.new (memory_edges top (declared m.now))) }
+{
+    if top {
+        let scope = Scope::of_module(alloc, m)?;
+        add_answers(alloc, g, scope.declarations())
+    } else {
+        Ok(())
+    }
+}
+
+fn add_pair(
+    alloc: Global,
+    g: &mut Graph,
+    instance: &Text,
+    pair: &(Text, Text),
+) -> Result<(), AllocError>
+    ensures { OnOk result (Adds g.old g.new (port_pair instance.now pair.now ∷ [])) }
+{
+    let from = port_name(alloc, instance, &pair.0)?;
+    let to = port_name(alloc, instance, &pair.1)?;
+    add(alloc, g, &from, &to)
+}
+
+fn add_pairs(
+    alloc: Global,
+    g: &mut Graph,
+    instance: &Text,
+    pairs: &[(Text, Text)],
+) -> Result<(), AllocError>
+    ensures { OnOk result (Adds g.old g.new (map (port_pair instance.now) pairs.now)) }
+{
+    for pair in pairs {
+        add_pair(alloc, g, instance, pair)?;
+    }
+    Ok(())
+}
+
+// The pairs of the first module of this name.
+fn pairs_named<'a>(library: &Library, sums: &'a [Sum], name: &Text) -> &'a [(Text, Text)]
+    ensures { result.now ≡ sum_named library.now sums.now name.now }
+{
+    match library.names().place(name) {
+        Some((place, _)) => pairs_at(sums, place),
+        None => &[],
+    }
+}
+
+// An instance's outputs rest on those inputs on which they rest inside.
+fn add_through(
+    alloc: Global,
+    g: &mut Graph,
+    library: &Library,
+    sums: &[Sum],
+    item: &Item,
+) -> Result<(), AllocError>
+    ensures { OnOk result (Adds g.old g.new (flat_map (through_edges library.now sums.now) (item_instances item.now))) }
+{
+    match item {
+        Item::Instance(m, i, _) => add_pairs(alloc, g, i, pairs_named(library, sums, m)),
+        Item::Wire(_, _) => Ok(()),
+        Item::Reg(_, _) => Ok(()),
+        Item::Memory(_, _, _) => Ok(()),
+        Item::Assign(_, _) => Ok(()),
+        Item::Always(_) => Ok(()),
+    }
+}
+
+fn add_all_through(
+    alloc: Global,
+    g: &mut Graph,
+    library: &Library,
+    sums: &[Sum],
+    items: &[Item],
+) -> Result<(), AllocError>
+    ensures { OnOk result (Adds g.old g.new (flat_map (through_edges library.now sums.now) (flat_map item_instances items.now))) }
+{
+    for item in items {
+        add_through(alloc, g, library, sums, item)?;
+    }
+    Ok(())
+}
+
+/// Whether a module is the top, by its name and that of the first root.
+fn is_top(root: Option<&Text>, name: &Text) -> bool
+    ensures { result ≡ is_named (option_copied root.entry) name.now }
+{
+    match root {
+        Some(r) => r.bytes() == name.bytes(),
+        None => false,
+    }
+}
+
+/// The graph of a module, with what its instances do by their sums.
+pub(crate) fn graph_of(
+    alloc: Global,
+    library: &Library,
+    root: Option<&Text>,
+    sums: &[Sum],
+    m: &Module,
+) -> Result<Graph, AllocError>
+    ensures { IfOk result (λ g. IsGraphOf (module_edges library.now (is_named (option_copied root.entry)) sums.now m.now) g) }
+{
+    let mut g = Graph::new(alloc);
+    add_lines(alloc, &mut g, library, m.items())?;
+    add_memories(alloc, &mut g, is_top(root, m.name()), m)?;
+    add_all_through(alloc, &mut g, library, sums, m.items())?;
+    Ok(g)
+}

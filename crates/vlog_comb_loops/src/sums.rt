@@ -1,0 +1,276 @@
+// Of each module which of its outputs rest on which of its inputs.
+
+ghost use Rattle.std.specs.Prelude.{◌≡◌, ◌<◌, ◌↔◌, [], ℕ, List, true, map, length, slice_get, get_or, Some, IfOk, OnOk};
+ghost use Rattle.std.specs.Option.{option_copied};
+ghost use Rattle.vlog_tree.specs.declared.table.Sort.TheVariants.{Input, Output};
+ghost use Rattle.vlog_tree.specs.Form.{ModuleTree};
+ghost use Rattle.vlog_tree.specs.Table.{sort_of, port_declared};
+ghost use Rattle.vlog_tree.specs.Loops.{Edges, Reaches};
+ghost use Rattle.vlog_graph.specs.Graphs.{IsGraphOf, mark_of};
+ghost use Rattle.vlog_comb_loops.specs.Growth.{Gathers};
+ghost use Rattle.vlog_comb_loops.specs.Summaries.{is_named, module_edges, IsPair, IsSumOf, IsSoundSum, IsClosedSum, AreSums, AreRight};
+
+use crate::edges::graph_of;
+use std::alloc::{AllocError, Global};
+use std::marker::Model;
+use tapa_base::Text;
+use vlog_graph::{Graph, is_marked, reach_from};
+use vlog_rules::{Library, Scope, copy_text};
+use vlog_tree::{Module, Sort};
+
+/// Pairs of an output and an input on which it rests.
+#[derive(Drop)]
+pub struct Sum {
+    pairs: Vec<(Text, Text)>,
+}
+
+impl Model for Sum {
+    ghost use Rattle.vlog_tree.specs.Loops.{Edges};
+
+    ghost Value = { Edges };
+
+    ghost view = { λ s. s.pairs.items };
+}
+
+impl Sum {
+    fn empty(alloc: Global) -> Sum
+        ensures { result ≡ [] }
+    {
+        Sum {
+            pairs: Vec::new(alloc),
+        }
+    }
+
+    fn pairs(&self) -> &[(Text, Text)]
+        ensures { result.now ≡ self.now }
+    {
+        &self.pairs
+    }
+}
+
+/// The pairs at a place, and none past the end.
+pub(crate) fn pairs_at(sums: &[Sum], place: usize) -> &[(Text, Text)]
+    ensures { result.now ≡ get_or sums.now place [] }
+{
+    match sums.get(place) {
+        Some(sum) => sum.pairs(),
+        None => &[],
+    }
+}
+
+fn is_output(ports: &Scope, name: &Text) -> bool
+    ensures { (result ≡ true) ↔ (sort_of ports.now name.now ≡ Output) }
+{
+    matches!(ports.sort(name.bytes()), Sort::Output)
+}
+
+fn is_input(ports: &Scope, name: &Text) -> bool
+    ensures { (result ≡ true) ↔ (sort_of ports.now name.now ≡ Input) }
+{
+    matches!(ports.sort(name.bytes()), Sort::Input)
+}
+
+// Puts a pair where the second is an input that is marked.
+fn add_input(
+    alloc: Global,
+    pairs: &mut Vec<(Text, Text)>,
+    graph: &Graph,
+    marks: &[bool],
+    ports: &Scope,
+    x: &Text,
+    y: &Text,
+) -> Result<(), AllocError>
+    requires { sort_of ports.now x.now ≡ Output }
+    ensures { OnOk result ((edges : Edges) → ((z : List ℕ) → (mark_of graph.now marks.now z ≡ true) ↔ Reaches edges x.now z)
+        → Gathers (IsPair edges ports.now) (λ a b. (a ≡ x.now) × (b ≡ y.now)) pairs.old.items pairs.new.items) }
+{
+    if is_input(ports, y) {
+        if is_marked(graph, marks, y.bytes()) {
+            let from = copy_text(alloc, x)?;
+            let to = copy_text(alloc, y)?;
+            pairs.push((from, to))?;
+        }
+    }
+    Ok(())
+}
+
+fn add_inputs(
+    alloc: Global,
+    pairs: &mut Vec<(Text, Text)>,
+    graph: &Graph,
+    marks: &[bool],
+    ports: &Scope,
+    x: &Text,
+) -> Result<(), AllocError>
+    requires { sort_of ports.now x.now ≡ Output }
+    ensures { OnOk result ((edges : Edges) → ((z : List ℕ) → (mark_of graph.now marks.now z ≡ true) ↔ Reaches edges x.now z)
+        → Gathers (IsPair edges ports.now) (λ a b. a ≡ x.now) pairs.old.items pairs.new.items) }
+{
+    for d in ports.declarations() {
+        add_input(alloc, pairs, graph, marks, ports, x, &d.name)?;
+    }
+    Ok(())
+}
+
+// Puts the pairs of a name, where it is an output.
+fn add_output(
+    alloc: Global,
+    pairs: &mut Vec<(Text, Text)>,
+    graph: &Graph,
+    ports: &Scope,
+    x: &Text,
+) -> Result<(), AllocError>
+    requires { (edges : Edges) × IsGraphOf edges graph.now }
+    ensures { OnOk result ((edges : Edges) → IsGraphOf edges graph.now
+        → Gathers (IsPair edges ports.now) (λ a b. a ≡ x.now) pairs.old.items pairs.new.items) }
+{
+    if is_output(ports, x) {
+        let marks = reach_from(alloc, graph, x.bytes())?;
+        add_inputs(alloc, pairs, graph, &marks, ports, x)?;
+    }
+    Ok(())
+}
+
+fn sum_by(alloc: Global, graph: &Graph, ports: &Scope) -> Result<Sum, AllocError>
+    requires { (edges : Edges) × IsGraphOf edges graph.now }
+    ensures { (edges : Edges) → IsGraphOf edges graph.now → IfOk result (λ s. IsSumOf edges ports.now s) }
+{
+    let mut pairs = Vec::new(alloc);
+    for d in ports.declarations() {
+        add_output(alloc, &mut pairs, graph, ports, &d.name)?;
+    }
+    Ok(Sum { pairs })
+}
+
+// The sum of a module by the sums of its instances' modules.
+fn sum_of(
+    alloc: Global,
+    library: &Library,
+    root: Option<&Text>,
+    sums: &[Sum],
+    m: &Module,
+) -> Result<Sum, AllocError>
+    ensures { IfOk result (λ s. IsSumOf (module_edges library.now (is_named (option_copied root.entry)) sums.now m.now) (map port_declared m.now.ports) s) }
+{
+    let graph = graph_of(alloc, library, root, sums, m)?;
+    let ports = Scope::of_ports(alloc, m.ports())?;
+    let sum = sum_by(alloc, &graph, &ports)?;
+    Ok(sum)
+}
+
+fn is_same_pair(a: &(Text, Text), b: &(Text, Text)) -> bool
+    ensures { result ≡ true → a.now ≡ b.now }
+{
+    a.0.bytes() == b.0.bytes() && a.1.bytes() == b.1.bytes()
+}
+
+fn is_same(a: &[(Text, Text)], b: &[(Text, Text)]) -> bool
+    ensures { result ≡ true → a.now ≡ b.now }
+{
+    if a.len() != b.len() {
+        return false;
+    }
+    for at in 0..a.len() {
+        if !is_same_pair(&a[at], &b[at]) {
+            return false;
+        }
+    }
+    true
+}
+
+// Makes the sum of a module once more, and says whether it stays as it is.
+fn renew(
+    alloc: Global,
+    library: &Library,
+    root: Option<&Text>,
+    sums: &mut Vec<Sum>,
+    at: usize,
+) -> Result<bool, AllocError>
+    requires module { at < length library.now }
+    requires sum { at < length sums.old.items }
+    ensures len { length sums.new.items ≡ length sums.old.items }
+    ensures sound { OnOk result (AreSums (IsSoundSum library.now (is_named (option_copied root.entry))) library.now sums.old.items → AreSums (IsSoundSum library.now (is_named (option_copied root.entry))) library.now sums.new.items) }
+    ensures same { IfOk result (λ b. b ≡ true → sums.new.items ≡ sums.old.items) }
+    ensures closed { IfOk result (λ b. b ≡ true → (m : ModuleTree) → slice_get library.now at ≡ Some m
+        → IsClosedSum library.now (is_named (option_copied root.entry)) sums.old.items m (get_or sums.old.items at [])) }
+{
+    let m = &library.modules()[at];
+    let sum = sum_of(alloc, library, root, sums, m)?;
+    if is_same(sums[at].pairs(), sum.pairs()) {
+        return Ok(true);
+    }
+    sums[at] = sum;
+    Ok(false)
+}
+
+// Makes all sums once more, and says whether they stay as they are.
+fn renew_all(
+    alloc: Global,
+    library: &Library,
+    root: Option<&Text>,
+    sums: &mut Vec<Sum>,
+) -> Result<bool, AllocError>
+    requires { AreSums (IsSoundSum library.now (is_named (option_copied root))) library.now sums.old.items }
+    ensures sound { OnOk result (AreSums (IsSoundSum library.now (is_named (option_copied root.entry))) library.now sums.new.items) }
+    ensures closed { IfOk result (λ b. b ≡ true → AreSums (IsClosedSum library.now (is_named (option_copied root.entry)) sums.new.items) library.now sums.new.items) }
+{
+    let mut steady = true;
+    for at in 0..library.modules().len() {
+        if !renew(alloc, library, root, sums, at)? {
+            steady = false;
+        }
+    }
+    Ok(steady)
+}
+
+fn empty_sums(alloc: Global, count: usize) -> Result<Vec<Sum>, AllocError>
+    ensures len { IfOk result (λ v. length v.items ≡ count) }
+    ensures empty { IfOk result (λ v. (at : ℕ) → get_or v.items at [] ≡ []) }
+{
+    let mut sums = Vec::new(alloc);
+    for made in 0..count {
+        sums.push(Sum::empty(alloc))?;
+    }
+    Ok(sums)
+}
+
+// Makes the sums once in an order. Where each module comes after those that it contains, no sum changes later.
+fn renew_in_order(
+    alloc: Global,
+    library: &Library,
+    root: Option<&Text>,
+    sums: &mut Vec<Sum>,
+    order: &[(usize, usize)],
+) -> Result<(), AllocError>
+    requires { AreSums (IsSoundSum library.now (is_named (option_copied root))) library.now sums.old.items }
+    ensures { OnOk result (AreSums (IsSoundSum library.now (is_named (option_copied root.entry))) library.now sums.new.items) }
+{
+    for entry in order {
+        let place = entry.1;
+        if place < library.modules().len() {
+            renew(alloc, library, root, sums, place)?;
+        }
+    }
+    Ok(())
+}
+
+/// The sums of all modules, by passes over them until none changes, the first of them in an order that is given.
+pub(crate) fn sums_of(
+    alloc: Global,
+    library: &Library,
+    root: Option<&Text>,
+    order: &[(usize, usize)],
+) -> Result<Vec<Sum>, AllocError>
+    ensures { IfOk result (λ sums. AreRight library.now (is_named (option_copied root.entry)) sums.items) }
+{
+    let mut sums = empty_sums(alloc, library.modules().len())?;
+    renew_in_order(alloc, library, root, &mut sums, order)?;
+    let mut passes = Vec::new(alloc);
+    for pass in 0..usize::MAX {
+        if renew_all(alloc, library, root, &mut sums)? {
+            return Ok(sums);
+        }
+        passes.push(pass)?;
+    }
+    Ok(sums)
+}

@@ -1,0 +1,59 @@
+-- What is among the parts of a net.
+use Rattle.std.proofs.Common.{◌≡◌, Bool, true, false, ◌&&◌, List, [], ◌∷◌, Some, inl, refl, sym, subst, map}
+use Rattle.std.specs.Prelude.{bytes_eq, if◌then◌else◌}
+use Rattle.std.specs.List.{flat_map}
+use Rattle.vlog_tree.specs.declared.tree.Value.{Value}
+use Rattle.vlog_tree.specs.declared.tree.Link.{Link}
+use Rattle.vlog_tree.specs.declared.tree.Item.TheVariants.{Assign, Instance}
+use Rattle.vlog_tree.specs.Form.{ModuleTree}
+use Rattle.vlog_tree.specs.Grounded.{Has}
+use Rattle.vlog_tree.specs.Cycle.{Path, module_at}
+use Rattle.vlog_tree.specs.Table.{Name, no, port_declared, sort_of, sort_is_input, ports_of}
+use Rattle.vlog_tree.specs.Loops.{value_nets}
+use Rattle.vlog_tree.specs.Flattened.{FlatNet, parts, line_parts, lines_of, memory_parts}
+use Rattle.vlog_graph.proofs.Numbered.{has_left, has_right}
+use Rattle.vlog_comb_loops.proofs.Lists.{has_flat, has_map}
+use Rattle.vlog_law_runs.proofs.Alone.{same_name}
+use Rattle.vlog_law_runs.proofs.Settled.{outside, answers}
+use Rattle.vlog_law_runs.proofs.Drivers.{IsDrivenBy}
+
+-- what the lines of a net's module say of it
+pub part_line : (ms : List ModuleTree) (root : ModuleTree) (path : Path) (x : Name) (m : ModuleTree) → module_at ms root path ≡ Some m → (b : FlatNet) → Has (flat_map (line_parts ms path x) m.items) b → Has (parts ms root true (path, x)) b
+part_line ms root [] x m at b h =
+    let same : root ≡ m = cc at in
+    has_left (flat_map (line_parts ms [] x) root.items) (memory_parts true x) b (subst (λ (k : ModuleTree). Has (flat_map (line_parts ms [] x) k.items) b) (sym same) h)
+part_line ms root (i ∷ path) x m at b h =
+    has_left (flat_map (line_parts ms (i ∷ path) x) (lines_of (module_at ms root (i ∷ path)))) (outside ms root (i ∷ path, x)) b (subst (λ o. Has (flat_map (line_parts ms (i ∷ path) x) (lines_of o)) b) (sym at) h)
+
+-- what a port is joined to around its instance
+pub part_outside : (ms : List ModuleTree) (root : ModuleTree) (path : Path) (x : Name) (b : FlatNet) → Has (outside ms root (path, x)) b → Has (parts ms root true (path, x)) b
+part_outside ms root [] x b h = absurd h
+part_outside ms root (i ∷ path) x b h = has_right (flat_map (line_parts ms (i ∷ path) x) (lines_of (module_at ms root (i ∷ path)))) (outside ms root (i ∷ path, x)) b h
+
+-- where an input of the top reads a memory
+pub part_answer : (ms : List ModuleTree) (root : ModuleTree) (path : Path) (x : Name) (b : FlatNet) → Has (answers (path, x)) b → Has (parts ms root true (path, x)) b
+part_answer ms root [] x b h = has_right (flat_map (line_parts ms [] x) root.items) (memory_parts true x) b h
+part_answer ms root (i ∷ path) x b h = absurd h
+
+-- what may be taken or left by a test
+abbrev by_test : Bool → List FlatNet → List FlatNet
+by_test b l = if b then l else []
+
+module _ (ms : List ModuleTree) (m : ModuleTree) (path : Path) where
+  -- what a driver reads
+  pub driver_part : (x : Name) (e : Value) → Has m.items (Assign x e) → (z : Name) → Has (value_nets e) z → Has (flat_map (line_parts ms path x) m.items) (path, z)
+  driver_part x e has z h =
+      has_flat (line_parts ms path x) m.items (Assign x e) (path, z) has
+      (subst (λ b. Has (by_test b (map (λ y. (path, y)) (value_nets e))) (path, z)) (sym (same_name x)) (has_map (λ y. (path, y)) (value_nets e) z h))
+
+  pub link_part : (kn i : Name) (links : List Link) → Has m.items (Instance kn i links) → (l : Link) → Has links l → sort_is_input (sort_of (map port_declared (ports_of ms kn)) l.port) ≡ false → Has (flat_map (line_parts ms path l.net) m.items) (i ∷ path, l.port)
+  link_part kn i links has l h e =
+      has_flat (line_parts ms path l.net) m.items (Instance kn i links) (i ∷ path, l.port) has
+      (has_flat (λ (k : Link). if bytes_eq k.net l.net && no (sort_is_input (sort_of (map port_declared (ports_of ms kn)) k.port)) then (i ∷ path, k.port) ∷ [] else []) links l (i ∷ path, l.port) h
+      (subst (λ b. Has (by_test (b && no (sort_is_input (sort_of (map port_declared (ports_of ms kn)) l.port))) ((i ∷ path, l.port) ∷ [])) (i ∷ path, l.port)) (sym (same_name l.net))
+      (subst (λ b. Has (by_test (no b) ((i ∷ path, l.port) ∷ [])) (i ∷ path, l.port)) (sym e) (inl refl))))
+
+  -- the port that drives a net
+  pub output_part : (x i p : Name) → IsDrivenBy ms m.items x i p → Has (flat_map (line_parts ms path x) m.items) (i ∷ path, p)
+  output_part x i p d =
+      subst (λ z. Has (flat_map (line_parts ms path z) m.items) (i ∷ path, p)) d.net (subst (λ z. Has (flat_map (line_parts ms path d.link.net) m.items) (i ∷ path, z)) d.port (link_part d.kn i d.links d.has d.link d.linked d.output))

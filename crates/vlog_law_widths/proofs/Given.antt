@@ -1,0 +1,185 @@
+-- What an environment gives the top fits, and so do the cells that its memories are left with.
+use Rattle.std.proofs.Common.{◌≡◌, ℕ, zero, suc, ◌^◌, ◌<◌, Bool, true, false, cond, ◌&&◌, ◌||◌, List, [], ◌∷◌, Option, Some, None, length, inl, inr, refl, sym, ap, subst, ◌∙◌, map, arith}
+use Rattle.std.specs.Prelude.{◌==◌, bytes_eq, nat_lt, slice_get, slice_set, unwrap_or}
+use Rattle.std.specs.List.{AllByRecursion}
+use Rattle.std.specs.Option.{option_map_or}
+use Rattle.std.specs.Cmp.Lexicographic.{bytes_decides}
+use Rattle.std.proofs.Math.Pow.{pow_pos}
+use Rattle.tapa_base.specs.declared.shape.Port.{Port}
+use Rattle.vlog_tree.specs.declared.tree.PortDecl.{PortDecl}
+use Rattle.vlog_tree.specs.declared.table.Declaration.{Declaration}
+use Rattle.vlog_tree.specs.declared.table.Sort.TheVariants.{Input, Output}
+use Rattle.vlog_tree.specs.Form.{ModuleTree}
+use Rattle.vlog_tree.specs.Grounded.{Has}
+use Rattle.vlog_tree.specs.Table.{Name, no, clk, is_clk, declared, port_declared, items_declared, sort_of, bits_of, sort_is_read, first_violation}
+use Rattle.vlog_tree.specs.Labels.{rst, done, scalar, m_ack, m_rdata, m_addr, m_wdata, m_we, scalar_of, ack_of, rdata_of}
+use Rattle.vlog_tree.specs.V2.{v2_uses}
+use Rattle.vlog_tree.specs.V6.{v6_uses, fixed_fits, ack_fits, has_all_five, is_in, is_out, is_top}
+use Rattle.vlog_tree.specs.Cycle.{Cycle}
+use Rattle.vlog_tree.specs.Environment.{Environment, FitsShape, AllTwo, shape_of, scalar_label, memory_label, Answers, AllAnswer, Stands, ready_at, set_cell, cells_at}
+use Rattle.vlog_comb_loops.proofs.Lists.{has_flat, of_flat}
+use Rattle.vlog_law_runs.proofs.Sound.{both_true}
+use Rattle.vlog_law_runs.proofs.Cycles.{port_stands}
+use Rattle.vlog_law_runs.proofs.TopPorts.{input_port, five_of}
+use Rattle.vlog_law_runs.proofs.Ports.{PortFits, fits, named_port, ack_input, rdata_input, input_has_label}
+use Rattle.vlog_law_runs.proofs.Labelled.{scalar_label as label_of_scalar, ack_label, rdata_label, ack_of_label}
+use Rattle.vlog_law_runs.proofs.Lookups.{map_two}
+use Rattle.vlog_law_widths.specs.Widths.{NumbersFit, CellsFit, OutsideFits}
+use Rattle.vlog_law_widths.proofs.Bits.{same_of}
+use Rattle.vlog_law_widths.proofs.Agreeing.{port_bits, data_agree}
+
+abbrev AllBelow : ℕ → List ℕ → Type 0
+AllBelow w vs = AllByRecursion (λ v. v < 2 ^ w) vs
+
+got_below : (w : ℕ) (vs : List ℕ) (i : ℕ) → AllBelow w vs → unwrap_or (slice_get vs i) 0 < 2 ^ w
+got_below w [] i a = pow_pos w
+got_below w (v ∷ vs) zero a = a.0
+got_below w (v ∷ vs) (suc i) a = got_below w vs i a.1
+
+put_below : (w : ℕ) (vs : List ℕ) (i v : ℕ) → AllBelow w vs → v < 2 ^ w → AllBelow w (slice_set vs i v)
+put_below w [] i v a h = tt
+put_below w (u ∷ vs) zero v a h = (h, a.1)
+put_below w (u ∷ vs) (suc i) v a h = (a.0, put_below w vs i v a.1 h)
+
+either_below : (w : ℕ) (b : Bool) (us vs : List ℕ) → AllBelow w us → AllBelow w vs → AllBelow w (cond b us vs)
+either_below w true us vs f g = f
+either_below w false us vs f g = g
+
+ready_below : (bits : List Bool) (n : ℕ) → ready_at bits n < 2 ^ 1
+ready_below bits zero = omega arith
+ready_below bits (suc n) = one_of (unwrap_or (slice_get bits n) true) where
+  one_of : (b : Bool) → cond b 1 0 < 2 ^ 1
+  one_of true = omega arith
+  one_of false = omega arith
+
+two_at : (R S : Port → ℕ → Type 0) (ls : List Port) (vs : List ℕ) → AllTwo R ls vs → AllTwo S ls vs → (l : Port) → Has ls l → (v : ℕ) × R l v × S l v
+two_at R S [] vs f g l h = absurd h
+two_at R S (k ∷ ls) [] f g l h = absurd f
+two_at R S (k ∷ ls) (v ∷ vs) f g l (inl e) = subst (λ (z : Port). (v : ℕ) × R z v × S z v) e (v, f.0, g.0)
+two_at R S (k ∷ ls) (v ∷ vs) f g l (inr h) = two_at R S ls vs f.1 g.1 l h
+
+answer_at : (run : ℕ → Cycle) (S : Port → List ℕ → Type 0) (ls : List Port) (cs : List (List ℕ)) (rs : List (List Bool)) → AllAnswer run ls cs rs → AllTwo S ls cs → (l : Port) → Has ls l → (c : List ℕ) × (r : List Bool) × Answers run l.name c r × S l c
+answer_at run S [] cs rs f g l h = absurd h
+answer_at run S (k ∷ ls) [] rs f g l h = absurd g
+answer_at run S (k ∷ ls) (c ∷ cs) [] f g l h = absurd f
+answer_at run S (k ∷ ls) (c ∷ cs) (r ∷ rs) f g l (inl e) = subst (λ (z : Port). (c : List ℕ) × (r : List Bool) × Answers run z.name c r × S z c) e (c, r, f.0, g.0)
+answer_at run S (k ∷ ls) (c ∷ cs) (r ∷ rs) f g l (inr h) = answer_at run S ls cs rs f.1 g.1 l h
+
+module _ (ports : List Declaration) (before : List PortDecl) (p : PortDecl) (f : PortFits ports before p) where
+  ack_bits : (l : Name) → ack_of p.name ≡ Some l → p.bits ≡ 1
+  unfolding ack_fits
+  ack_bits l e = of_fits f.ack where
+    of_fits : ack_fits ports p ≡ true → p.bits ≡ 1
+    of_fits h =
+        let r = both_true (is_in p 1) (has_all_five ports l) (subst (λ (o : Option Name). option_map_or (λ x. is_in p 1 && has_all_five ports x) o true ≡ true) e h) in
+        same_of p.bits 1 (both_true p.input (p.bits == 1) r.0).1
+
+  reset_bits : bytes_eq p.name rst ≡ true → p.bits ≡ 1
+  unfolding fixed_fits
+  reset_bits e = of_fits f.fixed where
+    of_test : (a b i : Bool) → b ≡ true → (no (a || b) || i) ≡ true → i ≡ true
+    of_test true true i e h = h
+    of_test false true i e h = h
+    of_test a false i e h = cc
+
+    of_fits : fixed_fits p ≡ true → p.bits ≡ 1
+    of_fits h =
+        let r = both_true (no (is_clk p.name || bytes_eq p.name rst) || is_in p 1) (no (bytes_eq p.name done) || is_out p 1) h in
+        same_of p.bits 1 (both_true p.input (p.bits == 1) (of_test (is_clk p.name) (bytes_eq p.name rst) (is_in p 1) e r.0)).1
+
+wdata_clock : (l : Name) → is_clk (m_wdata l) ≡ false
+unfolding m_wdata clk
+wdata_clock l = refl
+
+module _ (ms : List ModuleTree) (names : first_violation (v2_uses ms) ≡ None) (tops : first_violation (v6_uses ms) ≡ None) (m : ModuleTree) (in_ms : Has ms m) (top : is_top ms m.name ≡ true)
+    (env : Environment) (env_fits : FitsShape env (shape_of m)) (run : ℕ → Cycle) (s : Stands m env run) where
+  abbrev ports : List Declaration
+  ports = map port_declared m.ports
+
+  -- a memory's label, by its ack
+  abbrev memory : Name → Port
+  memory l = record { name = l; bits = bits_of (declared m) (m_rdata l) }
+
+  memory_there : (p : PortDecl) → Has m.ports p → (l : Name) → ack_of p.name ≡ Some l → Has (shape_of m).memories (memory l)
+  memory_there p h l e = has_flat (λ (p : PortDecl). memory_label (declared m) (ack_of p.name)) m.ports p (memory l) h (subst (λ o. Has (memory_label (declared m) o) (memory l)) (sym e) (inl refl))
+
+  memory_port : (l : Port) → Has (shape_of m).memories l → (p : PortDecl) × Has m.ports p × (ack_of p.name ≡ Some l.name) × (l ≡ memory l.name)
+  memory_port l h = let t = of_flat (λ (p : PortDecl). memory_label (declared m) (ack_of p.name)) m.ports l h in let r = of_label (ack_of t.0.name) t.2 in (t.0, t.1, r.0, r.1) where
+    of_label : (o : Option Name) → Has (memory_label (declared m) o) l → (o ≡ Some l.name) × (l ≡ memory l.name)
+    of_label None h = absurd h
+    of_label (Some x) (inl e) = let same : x ≡ l.name = ap (λ (k : Port). k.name) e in (ap (λ z. Some z) same, sym e ∙ ap memory same)
+    of_label (Some x) (inr h) = absurd h
+
+  module _ (n : ℕ) (p : PortDecl) (h : Has m.ports p) where
+    scalar_below : (l : Name) → scalar_of p.name ≡ Some l → (run n).net p.name < 2 ^ p.bits
+    scalar_below l e =
+        let k : Port = record { name = l; bits = p.bits } in
+        let there : Has (shape_of m).scalars k = has_flat (λ (p : PortDecl). scalar_label p (scalar_of p.name)) m.ports p k h (subst (λ o. Has (scalar_label p o) k) (sym e) (inl refl)) in
+        let t = two_at (λ (l : Port) v. (run n).net (scalar l.name) ≡ v) (λ (l : Port) v. v < 2 ^ l.bits) (shape_of m).scalars env.scalars (s.scalars n) env_fits.scalars k there in
+        subst (λ z. (run n).net z < 2 ^ p.bits) (sym (label_of_scalar p.name l e).0) (subst (λ v. v < 2 ^ p.bits) (sym t.1) t.2)
+
+    ack_below : (l : Name) → ack_of p.name ≡ Some l → (run n).net p.name < 2 ^ p.bits
+    ack_below l e =
+        let f = fits ms names tops m in_ms top p h in
+        let t = answer_at run (λ (l : Port) cells. AllByRecursion (λ v. v < 2 ^ l.bits) cells) (shape_of m).memories env.memories env.ready s.memories env_fits.memories (memory l) (memory_there p h l e) in
+        let is : (run n).net p.name ≡ ready_at t.1 n = ap (λ z. (run n).net z) (ack_label p.name l e).0 ∙ t.2.ack n in
+        subst (λ v. v < 2 ^ p.bits) (sym is) (subst (λ w. ready_at t.1 n < 2 ^ w) (sym (ack_bits ports f.0 p f.1 l e)) (ready_below t.1 n))
+
+    rdata_below : OutsideFits m env run n → (l : Name) → rdata_of p.name ≡ Some l → (run n).net p.name < 2 ^ p.bits
+    rdata_below cells l e =
+        let f = fits ms names tops m in_ms top p h in
+        let a = rdata_label p.name l e in
+        let five = (rdata_input ports f.0 p f.1 l e).1 in
+        let q = named_port ms names tops m in_ms top (m_ack l) (five_of ms tops m in_ms l five).0 in
+        let t = answer_at run (CellsFit run n) (shape_of m).memories env.memories env.ready s.memories cells (memory l) (memory_there q.0 q.1 l (ap ack_of q.2 ∙ ack_of_label l a.1)) in
+        let low : unwrap_or (slice_get (cells_at run l t.0 n) ((run n).net (m_addr l))) 0 < 2 ^ bits_of (declared m) (m_rdata l) = got_below (bits_of (declared m) (m_rdata l)) (cells_at run l t.0 n) ((run n).net (m_addr l)) t.3 in
+        let is : (run n).net p.name ≡ unwrap_or (slice_get (cells_at run l t.0 n) ((run n).net (m_addr l))) 0 = ap (λ z. (run n).net z) a.0 ∙ t.2.rdata n in
+        let bits : bits_of (declared m) (m_rdata l) ≡ p.bits = ap (λ z. bits_of (declared m) z) (sym a.0) ∙ sym (port_bits ms names tops m in_ms top p h) in
+        subst (λ v. v < 2 ^ p.bits) (sym is) (subst (λ w. unwrap_or (slice_get (cells_at run l t.0 n) ((run n).net (m_addr l))) 0 < 2 ^ w) bits low)
+
+    reset_below : bytes_eq p.name rst ≡ true → (run n).net p.name < 2 ^ p.bits
+    reset_below e =
+        let f = fits ms names tops m in_ms top p h in
+        subst (λ z. (run n).net z < 2 ^ p.bits) (sym ((bytes_decides p.name rst).0 e)) (subst (λ w. (run n).net rst < 2 ^ w) (sym (reset_bits ports f.0 p f.1 e)) (by_cycle n)) where
+          by_cycle : (n : ℕ) → (run n).net rst < 2 ^ 1
+          by_cycle zero = subst (λ v. v < 2 ^ 1) (sym s.reset) (omega arith)
+          by_cycle (suc n) = subst (λ v. v < 2 ^ 1) (sym (s.runs n)) (omega arith)
+
+    port_below : OutsideFits m env run n → p.input ≡ true → is_clk p.name ≡ false → (b : Bool) (so ao ro : Option Name) → bytes_eq p.name rst ≡ b → scalar_of p.name ≡ so → ack_of p.name ≡ ao → rdata_of p.name ≡ ro → (run n).net p.name < 2 ^ p.bits
+    port_below cells i c true so ao ro r es ea er = reset_below r
+    port_below cells i c false (Some l) ao ro r es ea er = scalar_below l es
+    port_below cells i c false None (Some l) ro r es ea er = ack_below l ea
+    port_below cells i c false None None (Some l) r es ea er = rdata_below cells l er
+    port_below cells i c false None None None r es ea er = let f = fits ms names tops m in_ms top p h in absurd (input_has_label ports f.0 p f.1 i c r es ea er)
+
+  -- the top's inputs fit
+  pub input_below : (n : ℕ) → OutsideFits m env run n → (x : Name) → sort_of (declared m) x ≡ Input → is_clk x ≡ false → (run n).net x < 2 ^ bits_of (declared m) x
+  input_below n cells x e c =
+      let p = input_port m x e in
+      let low : (run n).net p.0.name < 2 ^ p.0.bits =
+      port_below n p.0 p.1 cells (is_input p.0.input (ap (λ (d : Declaration). d.sort) p.3 ∙ e)) (ap is_clk p.2 ∙ c) (bytes_eq p.0.name rst) (scalar_of p.0.name) (ack_of p.0.name) (rdata_of p.0.name) refl refl refl refl in
+      subst (λ z. (run n).net z < 2 ^ bits_of (declared m) z) p.2 (subst (λ w. (run n).net p.0.name < 2 ^ w) (port_bits ms names tops m in_ms top p.0 p.1) low) where
+        is_input : (b : Bool) → cond b Input Output ≡ Input → b ≡ true
+        is_input true h = refl
+        is_input false h = cc
+
+  wdata_below : (n : ℕ) → NumbersFit m (run n) → (l : Name) → 0 < length l → has_all_five ports l ≡ true → (run n).net (m_wdata l) < 2 ^ bits_of (declared m) (m_rdata l)
+  wdata_below n f l some five =
+      let port = (five_of ms tops m in_ms l five).2 in
+      let read : sort_is_read (sort_of (declared m) (m_wdata l)) ≡ true = ap (λ (d : Declaration). sort_is_read d.sort) (port_stands ports (items_declared m.items) (m_wdata l) port) ∙ port in
+      subst (λ w. (run n).net (m_wdata l) < 2 ^ w) (data_agree ms names tops m in_ms top l some five) (f.nets (m_wdata l) read (wdata_clock l))
+
+  stored_below : (n : ℕ) → NumbersFit m (run n) → (l : Port) (first : List ℕ) → Has (shape_of m).memories l → CellsFit run n l first → CellsFit run (suc n) l first
+  stored_below n f l first h a =
+      let q = memory_port l h in
+      let g = fits ms names tops m in_ms top q.0 q.1 in
+      let five = (ack_input ports g.0 q.0 g.1 l.name q.2).1 in
+      let low : (run n).net (m_wdata l.name) < 2 ^ l.bits = subst (λ (k : Port). (run n).net (m_wdata l.name) < 2 ^ k.bits) (sym q.3) (wdata_below n f l.name (ack_label q.0.name l.name q.2).1 five) in
+      either_below l.bits (((run n).net (m_ack l.name) == 1) && ((run n).net (m_we l.name) == 1)) (set_cell (cells_at run l.name first n) ((run n).net (m_addr l.name)) ((run n).net (m_wdata l.name))) (cells_at run l.name first n)
+      (either_below l.bits (nat_lt ((run n).net (m_addr l.name)) (length (cells_at run l.name first n))) (slice_set (cells_at run l.name first n) ((run n).net (m_addr l.name)) ((run n).net (m_wdata l.name))) (cells_at run l.name first n)
+      (put_below l.bits (cells_at run l.name first n) ((run n).net (m_addr l.name)) ((run n).net (m_wdata l.name)) a low) a)
+      a
+
+  -- the cells outside fit in the next cycle
+  pub outside_next : (n : ℕ) → NumbersFit m (run n) → OutsideFits m env run n → OutsideFits m env run (suc n)
+  outside_next n f cells = map_two (CellsFit run n) (CellsFit run (suc n)) (shape_of m).memories env.memories cells (λ l first h a. stored_below n f l first h a)

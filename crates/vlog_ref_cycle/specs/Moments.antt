@@ -1,0 +1,51 @@
+-- What it is for a run to be at a moment.
+use Rattle.std.specs.Prelude.{◌≡◌, ℕ, ◌<◌, Bool, List, Some, length, get_or, []}
+use Rattle.std.specs.List.{AllByRecursion}
+use Rattle.tapa_base.specs.declared.shape.Port.{Port}
+use Rattle.vlog_tree.specs.declared.tree.Item.{Item}
+use Rattle.vlog_tree.specs.declared.tree.Item.TheVariants.{Reg, Memory}
+use Rattle.vlog_tree.specs.Form.{ModuleTree}
+use Rattle.vlog_tree.specs.Grounded.{Has}
+use Rattle.vlog_tree.specs.Cycle.{Cycle, Path, module_at}
+use Rattle.vlog_tree.specs.Environment.{Environment, RunsIn, shape_of, cells_at}
+use Rattle.vlog_ref_driver.specs.declared.numbers.NetNumber.{NetNumber}
+use Rattle.vlog_ref_driver.specs.declared.numbers.MemoryCells.{MemoryCells}
+use Rattle.vlog_ref_cycle.specs.declared.moment.Circuit.{Circuit}
+use Rattle.vlog_ref_cycle.specs.declared.moment.Held.{Held}
+use Rattle.vlog_ref_cycle.specs.declared.moment.OutsideMemory.{OutsideMemory}
+use Rattle.vlog_ref_cycle.specs.declared.moment.Moment.{Moment}
+use Rattle.vlog_ref_cycle.specs.Sources.{at_label}
+
+-- a register of a module, with the number that it has
+abbrev pub RegisterIs : List Item → Cycle → NetNumber → Type 0
+RegisterIs items c r = Has items (Reg r.bits r.name) × (c.net r.name ≡ r.number)
+
+-- a memory of a module, with all its cells
+abbrev pub MemoryIs : List Item → Cycle → MemoryCells → Type 0
+MemoryIs items c k = ((w : ℕ) × Has items (Memory w k.name (length k.cells.items))) × ((a : ℕ) → a < length k.cells.items → c.cell k.name a ≡ get_or k.cells.items a 0)
+
+-- an instance holds in a cycle what its registers and memories have in the run
+pub record HeldIs (ms : List ModuleTree) (top : ModuleTree) (nets : Path → Cycle) (h : Held) : Type 0 where
+  pub tree : ModuleTree
+  pub at : module_at ms top h.path.items ≡ Some tree
+  pub registers : AllByRecursion (RegisterIs tree.items (nets h.path.items)) h.nets.items
+  pub memories : AllByRecursion (MemoryIs tree.items (nets h.path.items)) h.memories.items
+
+-- a memory around the design has the cells of this cycle, and the ready bits of the environment
+pub record OutsideIs (env : Environment) (run : ℕ → Cycle) (n : ℕ) (labels : List Port) (o : OutsideMemory) : Type 0 where
+  pub first : List ℕ
+  pub ready : List Bool
+  pub first_is : at_label labels env.memories o.name ≡ Some first
+  pub ready_is : at_label labels env.ready o.name ≡ Some ready
+  pub cells : o.cells.items ≡ cells_at run o.name first n
+  pub bits : o.ready.items ≡ ready
+
+-- a run in an environment is at this moment: all that stands in it is what the run has in its cycle
+pub record IsAt (ms : List ModuleTree) (top : ModuleTree) (env : Environment) (nets : ℕ → Path → Cycle) (now : Moment) : Type 0 where
+  pub held : AllByRecursion (HeldIs ms top (nets now.cycle)) now.held.items
+  pub scalars : AllByRecursion (λ (v : NetNumber). at_label (shape_of top).scalars env.scalars v.name ≡ Some v.number) now.scalars.items
+  pub outside : AllByRecursion (OutsideIs env (λ n. nets n []) now.cycle (shape_of top).memories) now.outside.items
+
+-- what holds in each run, in any environment, that is at this moment
+abbrev pub InRuns : Circuit → Moment → (Environment → (ℕ → Path → Cycle) → Type 0) → Type 0
+InRuns c now P = (env : Environment) (nets : ℕ → Path → Cycle) → RunsIn c.modules.now c.top.now env nets → IsAt c.modules.now c.top.now env nets now → P env nets

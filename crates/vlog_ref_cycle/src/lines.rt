@@ -1,0 +1,255 @@
+// The lines of a module that give a net its number.
+
+ghost use Rattle.std.specs.Prelude.{◌≡◌, ◌∷◌, ◌++◌, [], map, OnOk, IfOk};
+ghost use Rattle.std.specs.Option.{option_copied, option_map};
+ghost use Rattle.std.specs.List.{flat_map};
+ghost use Rattle.vlog_tree.specs.Table.{port_declared, ports_of as ports_of_lem};
+ghost use Rattle.vlog_tree.specs.Loops.{atom_nets, value_nets};
+ghost use Rattle.vlog_ref_cycle.specs.Sources.{assigned_in as assigned_in_lem, output_in as output_in_lem, joined_in as joined_in_lem, assigned as assigned_lem, link_out as link_out_lem, output_of as output_of_lem, pair_of, link_in as link_in_lem, joined_to as joined_to_lem, net_read, are_read as are_read_lem, has_cells as has_cells_lem};
+
+use std::alloc::{AllocError, Global};
+use tapa_base::Text;
+use vlog_rules::{Scope, copy_text, is_input, is_read};
+use vlog_ref_driver::{MemoryCells, NetNumber, find_memory};
+use vlog_tree::{Atom, Item, Link, Module, Value};
+
+fn assigned_in<'a>(item: &'a Item, x: &Text) -> Option<&'a Value>
+    ensures { option_copied result ≡ assigned_in_lem item.now x.now }
+{
+    match item {
+        Item::Assign(y, e) => {
+            if y.bytes() == x.bytes() {
+                Some(e)
+            } else {
+                None
+            }
+        }
+        Item::Wire(_, _) => None,
+        Item::Reg(_, _) => None,
+        Item::Memory(_, _, _) => None,
+        Item::Always(_) => None,
+        Item::Instance(_, _, _) => None,
+    }
+}
+
+/// The driver of the first assignment to a net.
+pub(crate) fn assigned<'a>(items: &'a [Item], x: &Text) -> Option<&'a Value>
+    ensures { option_copied result ≡ assigned_lem items.now x.now }
+{
+    for item in items {
+        if let Some(e) = assigned_in(item, x) {
+            return Some(e);
+        }
+    }
+    None
+}
+
+// The first port, no input, that is joined to a net.
+fn link_out<'a>(ports: &Scope, links: &'a [Link], x: &Text) -> Option<&'a Text>
+    ensures { option_copied result ≡ link_out_lem ports.now links.now x.now }
+{
+    for l in links {
+        if l.net.bytes() == x.bytes() && !is_input(ports.sort(l.port.bytes())) {
+            return Some(&l.port);
+        }
+    }
+    None
+}
+
+fn ports_of(alloc: Global, modules: &[Module], name: &Text) -> Result<Scope, AllocError>
+    ensures { IfOk result (λ s. s ≡ map port_declared (ports_of_lem modules.now name.now)) }
+{
+    for m in modules {
+        if m.name().bytes() == name.bytes() {
+            return Scope::of_ports(alloc, m.ports());
+        }
+    }
+    Scope::of_ports(alloc, &[])
+}
+
+fn output_in<'a>(
+    alloc: Global,
+    modules: &[Module],
+    item: &'a Item,
+    x: &Text,
+) -> Result<Option<(&'a Text, &'a Text)>, AllocError>
+    ensures { IfOk result (λ o. option_map pair_of o ≡ output_in_lem modules.now item.now x.now) }
+{
+    match item {
+        Item::Instance(m, i, links) => {
+            let ports = ports_of(alloc, modules, m)?;
+            match link_out(&ports, links.links(), x) {
+                Some(p) => Ok(Some((i, p))),
+                None => Ok(None),
+            }
+        }
+        Item::Assign(_, _) => Ok(None),
+        Item::Wire(_, _) => Ok(None),
+        Item::Reg(_, _) => Ok(None),
+        Item::Memory(_, _, _) => Ok(None),
+        Item::Always(_) => Ok(None),
+    }
+}
+
+/// The first instance, and its port, that drives a net.
+pub(crate) fn output_of<'a>(
+    alloc: Global,
+    modules: &[Module],
+    items: &'a [Item],
+    x: &Text,
+) -> Result<Option<(&'a Text, &'a Text)>, AllocError>
+    ensures { IfOk result (λ o. option_map pair_of o ≡ output_of_lem modules.now items.now x.now) }
+{
+    for item in items {
+        if let Some(p) = output_in(alloc, modules, item, x)? {
+            return Ok(Some(p));
+        }
+    }
+    Ok(None)
+}
+
+fn link_in<'a>(links: &'a [Link], x: &Text) -> Option<&'a Text>
+    ensures { option_copied result ≡ link_in_lem links.now x.now }
+{
+    for l in links {
+        if l.port.bytes() == x.bytes() {
+            return Some(&l.net);
+        }
+    }
+    None
+}
+
+fn joined_in<'a>(item: &'a Item, instance: &Text, x: &Text) -> Option<&'a Text>
+    ensures { option_copied result ≡ joined_in_lem item.now instance.now x.now }
+{
+    match item {
+        Item::Instance(_, i, links) => {
+            if i.bytes() == instance.bytes() {
+                link_in(links.links(), x)
+            } else {
+                None
+            }
+        }
+        Item::Assign(_, _) => None,
+        Item::Wire(_, _) => None,
+        Item::Reg(_, _) => None,
+        Item::Memory(_, _, _) => None,
+        Item::Always(_) => None,
+    }
+}
+
+/// The net that a port of an instance is joined to.
+pub(crate) fn joined_to<'a>(items: &'a [Item], instance: &Text, x: &Text) -> Option<&'a Text>
+    ensures { option_copied result ≡ joined_to_lem items.now instance.now x.now }
+{
+    for item in items {
+        if let Some(net) = joined_in(item, instance, x) {
+            return Some(net);
+        }
+    }
+    None
+}
+
+/// One more net to be read, with its width; its number is not known yet.
+pub(crate) fn add_net(
+    alloc: Global,
+    scope: &Scope,
+    out: &mut Vec<NetNumber>,
+    x: &Text,
+) -> Result<(), AllocError>
+    ensures { OnOk result (out.new.items ≡ out.old.items ++ net_read scope.now x.now ∷ []) }
+{
+    let bits = scope.bits(x.bytes());
+    let name = copy_text(alloc, x)?;
+    out.push(NetNumber {
+        name,
+        bits,
+        number: 0,
+    })?;
+    Ok(())
+}
+
+/// The nets of an atom to be read.
+pub(crate) fn add_atom(
+    alloc: Global,
+    scope: &Scope,
+    out: &mut Vec<NetNumber>,
+    atom: &Atom,
+) -> Result<(), AllocError>
+    ensures { OnOk result (out.new.items ≡ out.old.items ++ map (net_read scope.now) (atom_nets atom.now)) }
+{
+    match atom {
+        Atom::Net(x) => add_net(alloc, scope, out, x),
+        Atom::Part(x, _, _) => add_net(alloc, scope, out, x),
+        Atom::Literal(_, _) => Ok(()),
+    }
+}
+
+fn add_atoms(
+    alloc: Global,
+    scope: &Scope,
+    out: &mut Vec<NetNumber>,
+    atoms: &[Atom],
+) -> Result<(), AllocError>
+    ensures { OnOk result (out.new.items ≡ out.old.items ++ map (net_read scope.now) (flat_map atom_nets atoms.now)) }
+{
+    for a in atoms {
+        add_atom(alloc, scope, out, a)?;
+    }
+    Ok(())
+}
+
+/// The nets of a driver to be read.
+pub(crate) fn value_reads(
+    alloc: Global,
+    scope: &Scope,
+    value: &Value,
+) -> Result<Vec<NetNumber>, AllocError>
+    ensures { IfOk result (λ v. v.items ≡ map (net_read scope.now) (value_nets value.now)) }
+{
+    let mut out = Vec::new(alloc);
+    match value {
+        Value::Plain(a) => add_atom(alloc, scope, &mut out, a)?,
+        Value::Invert(a) => add_atom(alloc, scope, &mut out, a)?,
+        Value::Binary(a, _, b) => {
+            add_atom(alloc, scope, &mut out, a)?;
+            add_atom(alloc, scope, &mut out, b)?;
+        }
+        Value::Choose(c, a, b) => {
+            add_atom(alloc, scope, &mut out, c)?;
+            add_atom(alloc, scope, &mut out, a)?;
+            add_atom(alloc, scope, &mut out, b)?;
+        }
+        Value::Concat(atoms) => add_atoms(alloc, scope, &mut out, atoms.atoms())?,
+        Value::Repeat(_, a) => add_atom(alloc, scope, &mut out, a)?,
+        Value::Cell(_, x) => add_net(alloc, scope, &mut out, x)?,
+    }
+    Ok(out)
+}
+
+/// Whether each is a net that a module can read.
+pub(crate) fn are_read(scope: &Scope, nets: &[NetNumber]) -> bool
+    ensures { result ≡ are_read_lem scope.now nets.now }
+{
+    for n in nets {
+        if !is_read(scope.sort(n.name.bytes())) {
+            return false;
+        }
+    }
+    true
+}
+
+/// Whether the memory that a driver reads is there.
+pub(crate) fn has_cells(memories: &[MemoryCells], value: &Value) -> bool
+    ensures { result ≡ has_cells_lem memories.now value.now }
+{
+    match value {
+        Value::Cell(m, _) => find_memory(memories, m).is_some(),
+        Value::Plain(_) => true,
+        Value::Invert(_) => true,
+        Value::Binary(_, _, _) => true,
+        Value::Choose(_, _, _) => true,
+        Value::Concat(_) => true,
+        Value::Repeat(_, _) => true,
+    }
+}

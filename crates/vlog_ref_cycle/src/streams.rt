@@ -1,0 +1,87 @@
+// What a stream carries in a cycle, and whether the design is done.
+
+ghost use Rattle.std.specs.Prelude.{◌≡◌, ◌++◌, ◌↔◌, ◌&&◌, ℕ, suc, [], None, IfOk, IfSome, IsTrue, is_some};
+ghost use Rattle.std.specs.Option.{option_to_list};
+ghost use Rattle.std.specs.Str.{IsAscii};
+ghost use Rattle.vlog_tree.specs.Labels.{s_din, s_wr, s_rdy, done};
+ghost use Rattle.vlog_tree.specs.Environment.{carried, IsDone};
+ghost use Rattle.vlog_ref_cycle.specs.Moments.{InRuns};
+ghost use Rattle.vlog_ref_cycle.specs.Numbers.{number_at};
+
+use crate::moment::{Circuit, Moment};
+use crate::numbers::net_number;
+use std::alloc::{AllocError, Global};
+use tapa_base::Text;
+use vlog_tree::{rdy_name, wr_name};
+
+/// The number of a net of the top.
+pub(crate) fn top_number(
+    alloc: Global,
+    design: &Circuit,
+    now: &Moment,
+    name: Vec<u8>,
+    depth: u32,
+) -> Result<Option<u128>, AllocError>
+    requires { IsAscii name.items }
+    ensures within { IfOk result (λ o. o ≡ number_at design.now now.now depth [] name.items) }
+    ensures value { IfOk result (λ o. IfSome o (λ v. InRuns design.now now.now (λ env nets. (nets now.now.cycle []).net name.items ≡ v))) }
+{
+    net_number(alloc, design, now, &[], &Text::new(name), depth)
+}
+
+#[tactic(auto, unfolding(vlog_tree::specs::Labels::s_din))]
+fn din_name(alloc: Global, label: &[u8]) -> Result<Vec<u8>, AllocError>
+    ensures { IfOk result (λ v. v.items ≡ s_din label.now) }
+{
+    let mut name = b"s_".to_vec(alloc)?;
+    name.extend_from_slice(label)?;
+    name.extend_from_slice(b"_din")?;
+    Ok(name)
+}
+
+/// What a stream carries in this cycle: the number on its `din` where `wr` and `rdy` are 1, and nothing in cycle 0.
+#[tactic(auto, using(crate::proofs::Ascii::wr_ascii, crate::proofs::Ascii::rdy_ascii, crate::proofs::Ascii::din_ascii))]
+pub fn carries(
+    alloc: Global,
+    design: &Circuit,
+    now: &Moment,
+    label: &Text,
+    depth: u32,
+) -> Result<Option<Option<u128>>, AllocError>
+    ensures known { IfOk result (λ o. is_some o ≡ (is_some (number_at design.now now.now depth [] (s_wr label.now)) && is_some (number_at design.now now.now depth [] (s_rdy label.now)) && is_some (number_at design.now now.now depth [] (s_din label.now)))) }
+    ensures first { IfOk result (λ o. IfSome o (λ t. now.now.cycle ≡ 0 → t ≡ None)) }
+    ensures value { IfOk result (λ o. IfSome o (λ t. InRuns design.now now.now (λ env nets. (k : ℕ) → now.now.cycle ≡ suc k → carried (λ n. nets n []) label.now (suc k) ≡ carried (λ n. nets n []) label.now k ++ option_to_list t))) }
+{
+    let label = label.bytes();
+    let Some(wr) = top_number(alloc, design, now, wr_name(alloc, label)?, depth)? else {
+        return Ok(None);
+    };
+    let Some(rdy) = top_number(alloc, design, now, rdy_name(alloc, label)?, depth)? else {
+        return Ok(None);
+    };
+    let Some(din) = top_number(alloc, design, now, din_name(alloc, label)?, depth)? else {
+        return Ok(None);
+    };
+    if now.cycle > 0 && wr == 1 && rdy == 1 {
+        Ok(Some(Some(din)))
+    } else {
+        Ok(Some(None))
+    }
+}
+
+/// Whether the design is done in this cycle.
+#[tactic(auto, unfolding(vlog_tree::specs::Labels::done), using(crate::proofs::Ascii::done_ascii))]
+pub fn is_done(
+    alloc: Global,
+    design: &Circuit,
+    now: &Moment,
+    depth: u32,
+) -> Result<Option<bool>, AllocError>
+    ensures known { IfOk result (λ o. is_some o ≡ is_some (number_at design.now now.now depth [] done)) }
+    ensures value { IfOk result (λ o. IfSome o (λ b. InRuns design.now now.now (λ env nets. IsTrue b ↔ IsDone (λ n. nets n []) now.now.cycle))) }
+{
+    match top_number(alloc, design, now, b"done".to_vec(alloc)?, depth)? {
+        Some(n) => Ok(Some(now.cycle > 0 && n == 1)),
+        None => Ok(None),
+    }
+}
