@@ -20,10 +20,10 @@ use Rattle.check_expression.specs.Constants.{made, prefixed, binary, chosen}
 use Rattle.check_expression.specs.Expressions.{as_kind, operated, constant_faults, divides, divisor_faults, is_constant_name, prefix_kind, prefix_value, binary_kind, binary_value, arm_kind, constant_value, constant_of, is_constant, kind_of, value_of}
 use Rattle.check_expression.specs.Kinds.{same_kind}
 use Rattle.check_scope.specs.declared.fault.Broken.{Broken}
-use Rattle.check_scope.specs.declared.sort.Sort.{Sort}
-use Rattle.check_scope.specs.declared.sort.Sort.TheVariants as sort
-use Rattle.check_scope.specs.Faults.{wrong_sort}
-use Rattle.check_scope.specs.Scopes.{Scope, sort_of}
+use Rattle.check_scope.specs.declared.entity.Entity.{Entity}
+use Rattle.check_scope.specs.declared.entity.Entity.TheVariants as entity
+use Rattle.check_scope.specs.Faults.{wrong_entity}
+use Rattle.check_scope.specs.Scopes.{Scope, entity_of}
 use Rattle.check_scope.specs.Scopes as scope
 
 if_value : (b : Bool) (j k : Kind) (e : FlatExpression) → constant_value (if b then literal j (constant_value e) else convert j k (literal j (constant_value e))) ≡ constant_value (if b then e else convert j k e)
@@ -95,17 +95,17 @@ right_empty : (xs ys : List Broken) → xs ++ ys ≡ [] → ys ≡ []
 right_empty [] ys h = h
 right_empty (x ∷ xs) ys h = absurd (cc)
 
-name_constant : (p : Place) (o : Option Sort) → wrong_sort scope.is_constant p o ≡ [] → is_constant_name o ≡ true
+name_constant : (p : Place) (o : Option Entity) → wrong_entity scope.is_constant p o ≡ [] → is_constant_name o ≡ true
 name_constant p None h = absurd (cc)
-name_constant p (Some (sort.Constant k n)) h = refl
-name_constant p (Some (sort.Variable f k n)) h = absurd (cc)
-name_constant p (Some (sort.Array f k n)) h = absurd (cc)
-name_constant p (Some (sort.Memory f k n)) h = absurd (cc)
-name_constant p (Some (sort.Stream f k n)) h = absurd (cc)
-name_constant p (Some (sort.Channel k n)) h = absurd (cc)
-name_constant p (Some sort.Task) h = absurd (cc)
+name_constant p (Some (entity.Constant k n)) h = refl
+name_constant p (Some (entity.Variable f k n)) h = absurd (cc)
+name_constant p (Some (entity.Array f k n)) h = absurd (cc)
+name_constant p (Some (entity.Memory f k n)) h = absurd (cc)
+name_constant p (Some (entity.Stream f k n)) h = absurd (cc)
+name_constant p (Some (entity.Channel k n)) h = absurd (cc)
+name_constant p (Some entity.Task) h = absurd (cc)
 
-no_name : (p : Place) (o : Option Sort) → wrong_sort (λ s. false) p o ≡ [] → ⊥
+no_name : (p : Place) (o : Option Entity) → wrong_entity (λ s. false) p o ≡ [] → ⊥
 no_name p None h = cc
 no_name p (Some s) h = cc
 
@@ -116,9 +116,9 @@ and_true false q h k = absurd (cc)
 all_constant : (E : Scope) (e : ExpressionTree) → constant_faults E e ≡ [] → is_constant E e ≡ true
 all_constant E (tree.literal k n) h = refl
 all_constant E (tree.boolean b) h = refl
-all_constant E (tree.variable x) h = name_constant x.place (sort_of x.text E) h
-all_constant E (tree.element x e) h = absurd (no_name x.place (sort_of x.text E) h)
-all_constant E (tree.call s m es) h = absurd (no_name s.place (sort_of s.text E) h)
+all_constant E (tree.variable x) h = name_constant x.place (entity_of x.text E) h
+all_constant E (tree.element x e) h = absurd (no_name x.place (entity_of x.text E) h)
+all_constant E (tree.call s m es) h = absurd (no_name s.place (entity_of s.text E) h)
 all_constant E tree.nullptr h = refl
 all_constant E (tree.construct k e) h = all_constant E e h
 all_constant E (tree.static_cast k e) h = all_constant E e h

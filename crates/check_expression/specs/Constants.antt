@@ -7,8 +7,8 @@ use Rattle.tapa_syntax.specs.declared.tree.PrefixOperator.{PrefixOperator}
 use Rattle.tapa_syntax.specs.declared.tree.BinaryOperator.{BinaryOperator}
 use Rattle.tapa_syntax.specs.Trees.{ExpressionTree}
 use Rattle.tapa_syntax.specs.Flat.{FlatExpression, literal, choice}
-use Rattle.check_scope.specs.declared.sort.Sort.{Sort}
-use Rattle.check_scope.specs.declared.sort.Sort.TheVariants as sort
+use Rattle.check_scope.specs.declared.entity.Entity.{Entity}
+use Rattle.check_scope.specs.declared.entity.Entity.TheVariants as entity
 use Rattle.check_expression.specs.declared.constant.Constant.{Constant}
 use Rattle.check_scope.specs.Scopes.{Scope}
 use Rattle.check_expression.specs.Expressions.{kind_of, value_of, as_kind, prefix_kind, binary_kind, arm_kind, prefix_value, binary_value, constant_value}
@@ -38,9 +38,9 @@ chosen t a b =
     (choice (as_kind t.kind Bool (literal_of t)) (as_kind a.kind (arm_kind a.kind b.kind) (literal_of a)) (as_kind b.kind (arm_kind a.kind b.kind) (literal_of b)))
 
 -- the constant that a name is
-abbrev pub of_sort : Option Sort → Option Constant
-of_sort (Some (sort.Constant k n)) = Some (record { kind = k; value = n })
-of_sort sort = None
+abbrev pub of_entity : Option Entity → Option Constant
+of_entity (Some (entity.Constant k n)) = Some (record { kind = k; value = n })
+of_entity entity = None
 
 -- the value of a constant expression, and its kind
 abbrev pub known_of : Scope → ExpressionTree → Constant

@@ -3,7 +3,7 @@ use Rattle.std.specs.Prelude.{ℕ, ◌%◌, List, [], ◌++◌, not, ◌&&◌, n
 use Rattle.tapa_base.specs.Kinds.{number, values_of}
 use Rattle.tapa_syntax.specs.Trees as tree
 use Rattle.tapa_syntax.specs.Trees.{CountForm, CountTree}
-use Rattle.check_scope.specs.Scopes.{Scope, sort_of, is_constant, kind_of_sort}
+use Rattle.check_scope.specs.Scopes.{Scope, entity_of, is_constant, kind_of_entity}
 use Rattle.check_scope.specs.declared.fault.Broken.{Broken}
 use Rattle.check_scope.specs.Faults.{where_so, over, name_faults}
 use Rattle.check_expression.specs.Expressions.{kind_of, value_of, named_value, constant_value, constant_faults}
@@ -20,7 +20,7 @@ natural (negsuc n) = 0
 
 abbrev pub form_number : Scope → CountForm → ℤ
 form_number E (tree.literal_count k n) = number k (n % values_of k)
-form_number E (tree.name_count x) = number (kind_of_sort (sort_of x.text E)) (constant_value (named_value (sort_of x.text E)))
+form_number E (tree.name_count x) = number (kind_of_entity (entity_of x.text E)) (constant_value (named_value (entity_of x.text E)))
 form_number E (tree.parenthesized_count e) = number (kind_of E e) (constant_value (value_of E e))
 
 -- the number that a count gives, and 0 where it is below 1

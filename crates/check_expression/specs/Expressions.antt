@@ -17,15 +17,15 @@ use Rattle.tapa_syntax.specs.Trees as tree
 use Rattle.tapa_syntax.specs.Trees.{ExpressionTree, Expressions}
 use Rattle.tapa_syntax.specs.Flat.{FlatExpression, flat_expression, literal, variable, cell, read, peek, is_end, load, convert, apply, flip, negation, conjunction, disjunction, choice}
 use Rattle.check_scope.specs.declared.fault.CheckCode.TheVariants.{C3, C6, C8, C9}
-use Rattle.check_scope.specs.declared.sort.Sort.{Sort}
-use Rattle.check_scope.specs.declared.sort.Sort.TheVariants as sort
-use Rattle.check_scope.specs.Scopes.{Scope, sort_of, kind_of_sort, number_of, is_scalar, is_memory, has_cells, is_stream}
+use Rattle.check_scope.specs.declared.entity.Entity.{Entity}
+use Rattle.check_scope.specs.declared.entity.Entity.TheVariants as entity
+use Rattle.check_scope.specs.Scopes.{Scope, entity_of, kind_of_entity, number_of, is_scalar, is_memory, has_cells, is_stream}
 use Rattle.check_scope.specs.Scopes as scope
 use Rattle.check_scope.specs.declared.fault.Broken.{Broken}
 use Rattle.check_expression.specs.declared.typed.Typed.{Typed}
 use Rattle.check_expression.specs.declared.constant.Constant.{Constant}
 use Rattle.check_expression.specs.Kinds.{same_kind}
-use Rattle.check_scope.specs.Faults.{fault, where_so, wrong_sort, name_faults}
+use Rattle.check_scope.specs.Faults.{fault, where_so, wrong_entity, name_faults}
 
 -- ---- methods of streams (TAPA: istream and ostream)
 
@@ -84,9 +84,9 @@ method_faults is_written None s m = fault C6 m.place
 method_faults is_written (Some method) s m = wrong_direction is_written method s
 
 -- C1, C3: a method is called on a stream
-abbrev pub call_faults : Option Sort → Option Method → Name → Name → List Broken
-call_faults (Some (sort.Stream is_written k n)) method s m = method_faults is_written method s m
-call_faults sort method s m = wrong_sort is_stream s.place sort
+abbrev pub call_faults : Option Entity → Option Method → Name → Name → List Broken
+call_faults (Some (entity.Stream is_written k n)) method s m = method_faults is_written method s m
+call_faults entity method s m = wrong_entity is_stream s.place entity
 
 -- C3: write, open and close give no value
 abbrev pub no_value : Option Method → Name → List Broken
@@ -130,9 +130,9 @@ arm_kind j k = if same_kind j k then j else joined j k
 abbrev pub kind_of : Scope → ExpressionTree → Kind
 kind_of E (tree.literal k n) = k
 kind_of E (tree.boolean b) = kind.Bool
-kind_of E (tree.variable x) = kind_of_sort (sort_of x.text E)
-kind_of E (tree.element x e) = kind_of_sort (sort_of x.text E)
-kind_of E (tree.call s m es) = call_kind (kind_of_sort (sort_of s.text E)) (method_of m.text (listed es))
+kind_of E (tree.variable x) = kind_of_entity (entity_of x.text E)
+kind_of E (tree.element x e) = kind_of_entity (entity_of x.text E)
+kind_of E (tree.call s m es) = call_kind (kind_of_entity (entity_of s.text E)) (method_of m.text (listed es))
 kind_of E tree.nullptr = kind.U64
 kind_of E (tree.construct k e) = k
 kind_of E (tree.static_cast k e) = k
@@ -148,13 +148,13 @@ kind_of E (tree.conditional at c a b) = arm_kind (kind_of E a) (kind_of E b)
 abbrev pub as_kind : Kind → Kind → FlatExpression → FlatExpression
 as_kind from to e = if same_kind from to then e else convert from to e
 
-abbrev pub named_value : Option Sort → FlatExpression
-named_value (Some (sort.Constant k n)) = literal k n
-named_value sort = variable (number_of sort)
+abbrev pub named_value : Option Entity → FlatExpression
+named_value (Some (entity.Constant k n)) = literal k n
+named_value entity = variable (number_of entity)
 
-abbrev pub cell_value : Option Sort → FlatExpression → FlatExpression
-cell_value (Some (sort.Memory free k n)) i = load n i
-cell_value sort i = cell (number_of sort) i
+abbrev pub cell_value : Option Entity → FlatExpression → FlatExpression
+cell_value (Some (entity.Memory free k n)) i = load n i
+cell_value entity i = cell (number_of entity) i
 
 abbrev pub called_value : ℕ → Option Method → FlatExpression
 called_value n (Some peeks) = peek n
@@ -183,9 +183,9 @@ prefix_value prefix.Not k e = negation (as_kind k kind.Bool e)
 abbrev pub value_of : Scope → ExpressionTree → FlatExpression
 value_of E (tree.literal k n) = literal k (n % values_of k)
 value_of E (tree.boolean b) = literal kind.Bool (bit b)
-value_of E (tree.variable x) = named_value (sort_of x.text E)
-value_of E (tree.element x e) = cell_value (sort_of x.text E) (as_kind (kind_of E e) kind.U64 (value_of E e))
-value_of E (tree.call s m es) = called_value (number_of (sort_of s.text E)) (method_of m.text (listed es))
+value_of E (tree.variable x) = named_value (entity_of x.text E)
+value_of E (tree.element x e) = cell_value (entity_of x.text E) (as_kind (kind_of E e) kind.U64 (value_of E e))
+value_of E (tree.call s m es) = called_value (number_of (entity_of s.text E)) (method_of m.text (listed es))
 value_of E tree.nullptr = literal kind.U64 0
 value_of E (tree.construct k e) = as_kind (kind_of E e) k (value_of E e)
 value_of E (tree.static_cast k e) = as_kind (kind_of E e) k (value_of E e)
@@ -213,21 +213,21 @@ abbrev pub typed : Typed → Meaning
 typed t = record { value = flat_expression t.value; kind = t.kind }
 
 -- a call of a stream's method as an operand
-abbrev pub operand : Option Sort → Option Method → Meaning
-operand sort method = record { value = called_value (number_of sort) method; kind = call_kind (kind_of_sort sort) method }
+abbrev pub operand : Option Entity → Option Method → Meaning
+operand entity method = record { value = called_value (number_of entity) method; kind = call_kind (kind_of_entity entity) method }
 
 -- ---- constant expressions: literals, constants of the file, operators and casts (nullptr is a literal too, [lex.nullptr],
 -- and stands only as an argument of a method)
 
 -- a name in it is that of a constant
-abbrev pub is_constant_name : Option Sort → Bool
-is_constant_name (Some (sort.Constant k n)) = true
-is_constant_name sort = false
+abbrev pub is_constant_name : Option Entity → Bool
+is_constant_name (Some (entity.Constant k n)) = true
+is_constant_name entity = false
 
 abbrev pub is_constant : Scope → ExpressionTree → Bool
 is_constant E (tree.literal k n) = true
 is_constant E (tree.boolean b) = true
-is_constant E (tree.variable x) = is_constant_name (sort_of x.text E)
+is_constant E (tree.variable x) = is_constant_name (entity_of x.text E)
 is_constant E (tree.element x e) = false
 is_constant E (tree.call s m es) = false
 is_constant E tree.nullptr = true
@@ -274,8 +274,8 @@ is_logical LogicalAnd = true
 is_logical LogicalOr = true
 
 -- the faults of a call as an operand
-abbrev pub operand_faults : Option Sort → Bool → Option Method → Name → Name → List Broken
-operand_faults sort c method s m = call_faults sort method s m ++ no_value method m ++ where_so c (fault C8 m.place)
+abbrev pub operand_faults : Option Entity → Bool → Option Method → Name → Name → List Broken
+operand_faults entity c method s m = call_faults entity method s m ++ no_value method m ++ where_so c (fault C8 m.place)
 
 -- The faults of an expression in the order of the text. In a conditional place, which is the right operand of && or ||
 -- or an arm of ?:, no operation on a stream or memory stands (C8): C++ would make it only where the operand is evaluated.
@@ -283,8 +283,8 @@ abbrev pub faults_of : Scope → Bool → ExpressionTree → List Broken
 faults_of E c (tree.literal k n) = []
 faults_of E c (tree.boolean b) = []
 faults_of E c (tree.variable x) = name_faults E is_scalar x
-faults_of E c (tree.element x e) = name_faults E has_cells x ++ where_so (c && is_memory (sort_of x.text E)) (fault C8 x.place) ++ faults_of E c e
-faults_of E c (tree.call s m es) = operand_faults (sort_of s.text E) c (method_of m.text (listed es)) s m
+faults_of E c (tree.element x e) = name_faults E has_cells x ++ where_so (c && is_memory (entity_of x.text E)) (fault C8 x.place) ++ faults_of E c e
+faults_of E c (tree.call s m es) = operand_faults (entity_of s.text E) c (method_of m.text (listed es)) s m
 faults_of E c tree.nullptr = []
 faults_of E c (tree.construct k e) = faults_of E c e
 faults_of E c (tree.static_cast k e) = faults_of E c e

@@ -10,11 +10,11 @@ ghost use Rattle.check_expression.specs.Constants as spec;
 ghost use Rattle.check_expression.specs.Constants.{IsWithin};
 ghost use Rattle.check_expression.specs.Expressions as meaning;
 ghost use Rattle.check_expression.specs.Expressions.{constant_value};
-ghost use Rattle.check_scope.specs.Scopes.{IsSound, sort_of};
+ghost use Rattle.check_scope.specs.Scopes.{IsSound, entity_of};
 
 use crate::kinds::{arm_kind, greatest, low_bits, operated_kind, right_kind, same_kind};
 use crate::typed::{binary_kind, prefix_kind};
-use check_scope::{CheckCode, CheckFault, Scope, Sort, refused};
+use check_scope::{CheckCode, CheckFault, Entity, Scope, refused};
 use tapa_base::{Kind, Op, Place, Text, apply, convert};
 use tapa_syntax::{BinaryOperator, Expression, PrefixOperator};
 
@@ -141,23 +141,23 @@ fn chosen(test: Constant, first: Constant, second: Constant) -> Constant
 }
 
 /// The constant that a name is.
-pub(crate) fn of_sort(sort: Sort) -> Option<Constant>
-    requires { IsSound sort }
-    ensures value { result ≡ spec.of_sort (Some sort) }
+pub(crate) fn of_entity(entity: Entity) -> Option<Constant>
+    requires { IsSound entity }
+    ensures value { result ≡ spec.of_entity (Some entity) }
     ensures within { IfSome result IsWithin }
 {
-    match sort {
-        Sort::Constant { kind, value } => Some(Constant { kind, value }),
+    match entity {
+        Entity::Constant { kind, value } => Some(Constant { kind, value }),
         _ => None,
     }
 }
 
 fn named(scope: &Scope, name: &Text) -> Option<Constant>
-    ensures value { result ≡ spec.of_sort (sort_of name.now scope.now) }
+    ensures value { result ≡ spec.of_entity (entity_of name.now scope.now) }
     ensures within { IfSome result IsWithin }
 {
-    match scope.sort(name) {
-        Some(sort) => of_sort(sort),
+    match scope.entity(name) {
+        Some(entity) => of_entity(entity),
         None => None,
     }
 }

@@ -2,13 +2,13 @@ ghost use Rattle.std.specs.Prelude.{◌∷◌, ◌++◌, ◌<◌, [], IfOk, Some
 ghost use Rattle.tapa_base.specs.Kinds.{values_of};
 ghost use Rattle.tapa_syntax.specs.Trees as tree;
 ghost use Rattle.check_scope.specs.Answers.{Answers};
-ghost use Rattle.check_expression.specs.Constants.{IsWithin, known_of, of_sort};
+ghost use Rattle.check_expression.specs.Constants.{IsWithin, known_of, of_entity};
 ghost use Rattle.check_expression.specs.Expressions as meaning;
 ghost use Rattle.check_scope.specs.Faults.{doubled, name_faults};
 ghost use Rattle.check_scope.specs.Roles.{fits};
-ghost use Rattle.check_scope.specs.Scopes.{is_constant, sort_of};
+ghost use Rattle.check_scope.specs.Scopes.{is_constant, entity_of};
 
-use crate::constant::{Constant, check_divisor, converted, evaluated, of_sort};
+use crate::constant::{Constant, check_divisor, converted, evaluated, of_entity};
 use crate::expression::divides;
 use check_scope::{CheckFault, FileNames, Role, Scope};
 use std::alloc::Global;
@@ -65,11 +65,11 @@ pub fn known(scope: &Scope, value: &Expression) -> Result<Constant, CheckFault>
 
 /// The constant that a name is.
 pub(crate) fn known_name(scope: &Scope, name: &Name) -> Result<Constant, CheckFault>
-    ensures value { Answers (λ c. Some c) result (name_faults scope.now is_constant name.now) (of_sort (sort_of name.now.text scope.now)) }
+    ensures value { Answers (λ c. Some c) result (name_faults scope.now is_constant name.now) (of_entity (entity_of name.now.text scope.now)) }
     ensures within { IfOk result IsWithin }
 {
-    let sort = scope.named(Role::Constant, name)?;
-    let Some(constant) = of_sort(sort) else {
+    let entity = scope.named(Role::Constant, name)?;
+    let Some(constant) = of_entity(entity) else {
         unreachable!();
     };
     Ok(constant)

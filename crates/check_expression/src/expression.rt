@@ -4,7 +4,7 @@ ghost use Rattle.tapa_syntax.specs.Flat.{flat_expression, literal};
 ghost use Rattle.tapa_syntax.specs.Trees as tree;
 ghost use Rattle.check_scope.specs.Answers.{Answers};
 ghost use Rattle.check_expression.specs.Expressions as meaning;
-ghost use Rattle.check_scope.specs.Scopes.{sort_of, has_cells, is_memory};
+ghost use Rattle.check_scope.specs.Scopes.{entity_of, has_cells, is_memory};
 ghost use Rattle.check_scope.specs.declared.fault.CheckCode.TheVariants.{C8};
 ghost use Rattle.check_scope.specs.Faults as faults;
 ghost use Rattle.check_expression.specs.Methods as methods;
@@ -12,7 +12,7 @@ ghost use Rattle.check_expression.specs.Methods as methods;
 use crate::constant::{check_divisor, literal};
 use crate::method::{StreamCall, StreamMethod, check_call, gives_value, method_of};
 use crate::typed::{Typed, as_kind, binary, cast, chosen, element, named_value, prefixed};
-use check_scope::{CheckCode, CheckFault, Role, Scope, Sort, refused};
+use check_scope::{CheckCode, CheckFault, Entity, Role, Scope, refused};
 use std::alloc::Global;
 use tapa_base::{Kind, Op};
 use tapa_syntax::{BinaryOperator, Expr, Expression, Name};
@@ -48,15 +48,15 @@ fn literal_value(kind: Kind, number: u64) -> Typed
 }
 
 /// A name of something that has cells. In a conditional place it is no memory.
-fn cells(scope: &Scope, conditional: bool, name: &Name) -> Result<Sort, CheckFault>
-    ensures { Answers (λ sort. Some sort) result
-        (faults.name_faults scope.now has_cells name.now ++ faults.where_so (conditional && is_memory (sort_of name.now.text scope.now)) (faults.fault C8 name.now.place))
-        (sort_of name.now.text scope.now) }
+fn cells(scope: &Scope, conditional: bool, name: &Name) -> Result<Entity, CheckFault>
+    ensures { Answers (λ entity. Some entity) result
+        (faults.name_faults scope.now has_cells name.now ++ faults.where_so (conditional && is_memory (entity_of name.now.text scope.now)) (faults.fault C8 name.now.place))
+        (entity_of name.now.text scope.now) }
 {
-    let sort = scope.named(Role::Cells, name)?;
-    match sort {
-        Sort::Memory { .. } if conditional => Err(refused(CheckCode::C8, name.place)),
-        _ => Ok(sort),
+    let entity = scope.named(Role::Cells, name)?;
+    match entity {
+        Entity::Memory { .. } if conditional => Err(refused(CheckCode::C8, name.place)),
+        _ => Ok(entity),
     }
 }
 
@@ -92,8 +92,8 @@ fn called<'a>(
     method: Option<StreamMethod<'a>>,
 ) -> Result<Typed, CheckFault>
     ensures { Answers meaning.typed result
-        (meaning.operand_faults (sort_of stream.now.text scope.now) conditional (methods.method_view method.entry) stream.now name.now)
-        (meaning.operand (sort_of stream.now.text scope.now) (methods.method_view method.entry)) }
+        (meaning.operand_faults (entity_of stream.now.text scope.now) conditional (methods.method_view method.entry) stream.now name.now)
+        (meaning.operand (entity_of stream.now.text scope.now) (methods.method_view method.entry)) }
 {
     let call = check_call(scope, stream, name, method)?;
     if !gives_value(call.method) {
@@ -119,10 +119,10 @@ pub fn check_expression(
         Expression::Boolean(value) => Ok(literal_value(Kind::Bool, u64::from(*value))),
         Expression::Variable(name) => Ok(named_value(scope.named(Role::Scalar, name)?)),
         Expression::Element(name, index) => {
-            let sort = cells(scope, conditional, name)?;
+            let entity = cells(scope, conditional, name)?;
             element(
                 alloc,
-                sort,
+                entity,
                 check_expression(alloc, scope, conditional, index)?,
             )
         }

@@ -16,4 +16,4 @@ pub use count::{MOST_OF_COUNT, check_count, count_in};
 pub use expression::{check_expression, check_wanted};
 pub use kinds::{low_bits, operated_kind, promoted, right_kind, same_kind};
 pub use method::{StreamCall, StreamMethod, check_call, method_of};
-pub use typed::{Typed, as_kind, binary_kind, operated, sort_kind, sort_number};
+pub use typed::{Typed, as_kind, binary_kind, entity_kind, entity_number, operated};

@@ -3,9 +3,9 @@ ghost use Rattle.tapa_syntax.specs.Trees as tree;
 ghost use Rattle.check_scope.specs.Answers.{Answers};
 ghost use Rattle.check_expression.specs.Expressions as meaning;
 ghost use Rattle.check_expression.specs.Methods as methods;
-ghost use Rattle.check_scope.specs.Scopes.{sort_of, kind_of_sort, number_of};
+ghost use Rattle.check_scope.specs.Scopes.{entity_of, kind_of_entity, number_of};
 
-use check_scope::{CheckCode, CheckFault, Scope, Sort, refused};
+use check_scope::{CheckCode, CheckFault, Entity, Scope, refused};
 use tapa_base::{Kind, Text};
 use tapa_syntax::{Expression, Name};
 
@@ -133,12 +133,12 @@ pub fn check_call<'a>(
     method: Option<StreamMethod<'a>>,
 ) -> Result<StreamCall<'a>, CheckFault>
     ensures { Answers methods.call_view result
-        (meaning.call_faults (sort_of stream.now.text scope.now) (methods.method_view method.entry) stream.now name.now)
-        (methods.method_view method.entry, kind_of_sort (sort_of stream.now.text scope.now), number_of (sort_of stream.now.text scope.now)) }
+        (meaning.call_faults (entity_of stream.now.text scope.now) (methods.method_view method.entry) stream.now name.now)
+        (methods.method_view method.entry, kind_of_entity (entity_of stream.now.text scope.now), number_of (entity_of stream.now.text scope.now)) }
 {
-    match scope.sort(&stream.text) {
+    match scope.entity(&stream.text) {
         Some(
-            Sort::Stream {
+            Entity::Stream {
                 writes,
                 kind,
                 number,

@@ -6,10 +6,10 @@ ghost use Rattle.tapa_syntax.specs.Flat as flat;
 ghost use Rattle.tapa_syntax.specs.Flat.{flat_expression};
 ghost use Rattle.check_scope.specs.Answers.{Answers};
 ghost use Rattle.check_expression.specs.Expressions as meaning;
-ghost use Rattle.check_scope.specs.Scopes.{kind_of_sort, number_of};
+ghost use Rattle.check_scope.specs.Scopes.{kind_of_entity, number_of};
 
 use crate::kinds::{arm_kind, is_comparison, operated_kind, promoted, right_kind, same_kind};
-use check_scope::{CheckFault, Sort};
+use check_scope::{CheckFault, Entity};
 use std::alloc::Global;
 use tapa_base::{Kind, Op};
 use tapa_syntax::{BinaryOperator, Expr, PrefixOperator};
@@ -177,65 +177,65 @@ pub(crate) fn chosen(
     Ok(Typed { value, kind })
 }
 
-/// The kind of a value of a sort, or of its cells or data.
-pub fn sort_kind(sort: Sort) -> Kind
-    ensures { result ≡ kind_of_sort (Some sort) }
+/// The kind of a value of an entity, or of its cells or data.
+pub fn entity_kind(entity: Entity) -> Kind
+    ensures { result ≡ kind_of_entity (Some entity) }
 {
-    match sort {
-        Sort::Constant { kind, .. } => kind,
-        Sort::Variable { kind, .. } => kind,
-        Sort::Array { kind, .. } => kind,
-        Sort::Memory { kind, .. } => kind,
-        Sort::Stream { kind, .. } => kind,
-        Sort::Channel { kind, .. } => kind,
-        Sort::Task => Kind::U64,
+    match entity {
+        Entity::Constant { kind, .. } => kind,
+        Entity::Variable { kind, .. } => kind,
+        Entity::Array { kind, .. } => kind,
+        Entity::Memory { kind, .. } => kind,
+        Entity::Stream { kind, .. } => kind,
+        Entity::Channel { kind, .. } => kind,
+        Entity::Task => Kind::U64,
     }
 }
 
-/// The number or position of a sort.
-pub fn sort_number(sort: Sort) -> u32
-    ensures { result ≡ number_of (Some sort) }
+/// The number or position of an entity.
+pub fn entity_number(entity: Entity) -> u32
+    ensures { result ≡ number_of (Some entity) }
 {
-    match sort {
-        Sort::Variable { number, .. } => number,
-        Sort::Array { number, .. } => number,
-        Sort::Memory { number, .. } => number,
-        Sort::Stream { number, .. } => number,
-        Sort::Channel { number, .. } => number,
-        Sort::Constant { .. } => 0,
-        Sort::Task => 0,
+    match entity {
+        Entity::Variable { number, .. } => number,
+        Entity::Array { number, .. } => number,
+        Entity::Memory { number, .. } => number,
+        Entity::Stream { number, .. } => number,
+        Entity::Channel { number, .. } => number,
+        Entity::Constant { .. } => 0,
+        Entity::Task => 0,
     }
 }
 
 /// The value of a name.
-pub(crate) fn named_value(sort: Sort) -> Typed
-    ensures { meaning.typed result ≡ record { value = meaning.named_value (Some sort); kind = kind_of_sort (Some sort) } }
+pub(crate) fn named_value(entity: Entity) -> Typed
+    ensures { meaning.typed result ≡ record { value = meaning.named_value (Some entity); kind = kind_of_entity (Some entity) } }
 {
-    let value = match sort {
-        Sort::Constant { kind, value } => Expr::Lit(kind, value),
-        _ => Expr::Var(sort_number(sort)),
+    let value = match entity {
+        Entity::Constant { kind, value } => Expr::Lit(kind, value),
+        _ => Expr::Var(entity_number(entity)),
     };
     Typed {
         value,
-        kind: sort_kind(sort),
+        kind: entity_kind(entity),
     }
 }
 
 /// A cell of an array, or a word of a memory.
-pub(crate) fn element(alloc: Global, sort: Sort, index: Typed) -> Result<Typed, CheckFault>
+pub(crate) fn element(alloc: Global, entity: Entity, index: Typed) -> Result<Typed, CheckFault>
     ensures { Answers meaning.typed result [] (record {
-      value = meaning.cell_value (Some sort) (meaning.as_kind index.kind kind.U64 (flat_expression index.value));
-      kind = kind_of_sort (Some sort);
+      value = meaning.cell_value (Some entity) (meaning.as_kind index.kind kind.U64 (flat_expression index.value));
+      kind = kind_of_entity (Some entity);
     }) }
 {
     let index = as_kind(alloc, index, Kind::U64)?;
     let index = Box::new(alloc, index)?;
-    let value = match sort {
-        Sort::Memory { number, .. } => Expr::Load(number, index),
-        _ => Expr::Cell(sort_number(sort), index),
+    let value = match entity {
+        Entity::Memory { number, .. } => Expr::Load(number, index),
+        _ => Expr::Cell(entity_number(entity), index),
     };
     Ok(Typed {
         value,
-        kind: sort_kind(sort),
+        kind: entity_kind(entity),
     })
 }

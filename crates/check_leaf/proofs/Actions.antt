@@ -20,10 +20,10 @@ use Rattle.tapa_syntax.specs.Trees.{ExpressionTree, PlaceTree, ActionTree}
 use Rattle.tapa_syntax.specs.Flat as flat
 use Rattle.tapa_syntax.specs.Flat.{FlatExpression, literal, variable, FlatStatement, FlatLeaf}
 use Rattle.check_scope.specs.declared.fault.CheckCode.TheVariants.{C3}
-use Rattle.check_scope.specs.declared.sort.Sort.{Sort}
-use Rattle.check_scope.specs.declared.sort.Sort.TheVariants as sort
-use Rattle.check_scope.specs.Faults.{wrong_sort, name_faults, where_so, fault}
-use Rattle.check_scope.specs.Scopes.{Scope, sort_of, kind_of_sort, number_of, is_free_variable, has_free_cells, is_output, is_input}
+use Rattle.check_scope.specs.declared.entity.Entity.{Entity}
+use Rattle.check_scope.specs.declared.entity.Entity.TheVariants as entity
+use Rattle.check_scope.specs.Faults.{wrong_entity, name_faults, where_so, fault}
+use Rattle.check_scope.specs.Scopes.{Scope, entity_of, kind_of_entity, number_of, is_free_variable, has_free_cells, is_output, is_input}
 use Rattle.check_expression.specs.Expressions.{Method, reads, peeks, tests_end, writes, opens, closes, method_of, call_faults, kind_of, value_of, wanted, binary_kind, operated, operated_kind, faults_of, divisor_faults}
 use Rattle.check_leaf.specs.Statements.{Target, in_variable, in_cell, in_word, element_target, target_of, set_target, change_target, read_target, assigned, kind_of_target, step_op, stepped, is_increment, is_bool, place_kind, target_faults, index_faults, changed_faults, place_faults, assignment_divides, given_faults, called, action_faults, action_code}
 use Rattle.check_leaf.proofs.Flats.{IsEnd, IsArrayOf, IsValue, MayDivideBy, IsStep, IsCode, IsStraight, AreStraight, clears}
@@ -109,64 +109,64 @@ assign_good W S E t (Compound o) at e h g d = change_good W S t o (kind_of E e) 
 
 -- ---- places that are assigned
 
-free_variable : (W : FlatLeaf) (S : List ℕ) (p : Place) (o : Option Sort) → IfSome o (IsKnown W S) → wrong_sort is_free_variable p o ≡ [] → slice_get W.vars (number_of o) ≡ Some (kind_of_sort o)
-free_variable W S p (Some (sort.Variable f j n)) k h = k
+free_variable : (W : FlatLeaf) (S : List ℕ) (p : Place) (o : Option Entity) → IfSome o (IsKnown W S) → wrong_entity is_free_variable p o ≡ [] → slice_get W.vars (number_of o) ≡ Some (kind_of_entity o)
+free_variable W S p (Some (entity.Variable f j n)) k h = k
 free_variable W S p None k h = absurd (cc)
-free_variable W S p (Some (sort.Constant j n)) k h = absurd (cc)
-free_variable W S p (Some (sort.Array f j n)) k h = absurd (cc)
-free_variable W S p (Some (sort.Memory f j n)) k h = absurd (cc)
-free_variable W S p (Some (sort.Stream f j n)) k h = absurd (cc)
-free_variable W S p (Some (sort.Channel j n)) k h = absurd (cc)
-free_variable W S p (Some sort.Task) k h = absurd (cc)
+free_variable W S p (Some (entity.Constant j n)) k h = absurd (cc)
+free_variable W S p (Some (entity.Array f j n)) k h = absurd (cc)
+free_variable W S p (Some (entity.Memory f j n)) k h = absurd (cc)
+free_variable W S p (Some (entity.Stream f j n)) k h = absurd (cc)
+free_variable W S p (Some (entity.Channel j n)) k h = absurd (cc)
+free_variable W S p (Some entity.Task) k h = absurd (cc)
 
-free_cells : (W : FlatLeaf) (S : List ℕ) (p : Place) (o : Option Sort) (i : FlatExpression) → IfSome o (IsKnown W S) → wrong_sort has_free_cells p o ≡ [] → IsValue W S i kind.U64 → IsTarget W S (element_target o i)
-free_cells W S p (Some (sort.Array f j n)) i k h g = (k.0, k.1, g)
-free_cells W S p (Some (sort.Memory f j n)) i k h g = (k, g)
+free_cells : (W : FlatLeaf) (S : List ℕ) (p : Place) (o : Option Entity) (i : FlatExpression) → IfSome o (IsKnown W S) → wrong_entity has_free_cells p o ≡ [] → IsValue W S i kind.U64 → IsTarget W S (element_target o i)
+free_cells W S p (Some (entity.Array f j n)) i k h g = (k.0, k.1, g)
+free_cells W S p (Some (entity.Memory f j n)) i k h g = (k, g)
 free_cells W S p None i k h g = absurd (cc)
-free_cells W S p (Some (sort.Constant j n)) i k h g = absurd (cc)
-free_cells W S p (Some (sort.Variable f j n)) i k h g = absurd (cc)
-free_cells W S p (Some (sort.Stream f j n)) i k h g = absurd (cc)
-free_cells W S p (Some (sort.Channel j n)) i k h g = absurd (cc)
-free_cells W S p (Some sort.Task) i k h g = absurd (cc)
+free_cells W S p (Some (entity.Constant j n)) i k h g = absurd (cc)
+free_cells W S p (Some (entity.Variable f j n)) i k h g = absurd (cc)
+free_cells W S p (Some (entity.Stream f j n)) i k h g = absurd (cc)
+free_cells W S p (Some (entity.Channel j n)) i k h g = absurd (cc)
+free_cells W S p (Some entity.Task) i k h g = absurd (cc)
 
 pub target_good : (W : FlatLeaf) (S : List ℕ) (E : Scope) → KnownScope W S E → (b : Bool) (p : PlaceTree) → changed_faults E b p ≡ [] → IsTarget W S (target_of E p)
 target_good W S E i b (tree.variable_place x) h =
     let p = tree.variable_place x in
     let q = where_so (b && is_bool (place_kind E p)) (fault C3 x.place) in
-    free_variable W S x.place (sort_of x.text E) (known_at W S x.text E i) (left_empty (target_faults E p) q (left_empty (target_faults E p ++ q) (index_faults E p) h))
+    free_variable W S x.place (entity_of x.text E) (known_at W S x.text E i) (left_empty (target_faults E p) q (left_empty (target_faults E p ++ q) (index_faults E p) h))
 target_good W S E i b (tree.element_place x e) h =
     let p = tree.element_place x e in
     let q = where_so (b && is_bool (place_kind E p)) (fault C3 x.place) in
-    free_cells W S x.place (sort_of x.text E) (wanted E kind.U64 e) (known_at W S x.text E i)
+    free_cells W S x.place (entity_of x.text E) (wanted E kind.U64 e) (known_at W S x.text E i)
     (left_empty (target_faults E p) q (left_empty (target_faults E p ++ q) (index_faults E p) h))
     (cast_value W S (kind_of E e) kind.U64 (value_of E e) (meaning_good W S E i false e (right_empty (target_faults E p ++ q) (index_faults E p) h)))
 
 -- ---- streams
 
-an_input : (W : FlatLeaf) (S : List ℕ) (p : Place) (o : Option Sort) → IfSome o (IsKnown W S) → wrong_sort is_input p o ≡ [] → IsEnd W false (number_of o) (kind_of_sort o)
-an_input W S p (Some (sort.Stream false j n)) k h = k
-an_input W S p (Some (sort.Stream true j n)) k h = absurd (cc)
+an_input : (W : FlatLeaf) (S : List ℕ) (p : Place) (o : Option Entity) → IfSome o (IsKnown W S) → wrong_entity is_input p o ≡ [] → IsEnd W false (number_of o) (kind_of_entity o)
+an_input W S p (Some (entity.Stream false j n)) k h = k
+an_input W S p (Some (entity.Stream true j n)) k h = absurd (cc)
 an_input W S p None k h = absurd (cc)
-an_input W S p (Some (sort.Constant j n)) k h = absurd (cc)
-an_input W S p (Some (sort.Variable f j n)) k h = absurd (cc)
-an_input W S p (Some (sort.Array f j n)) k h = absurd (cc)
-an_input W S p (Some (sort.Memory f j n)) k h = absurd (cc)
-an_input W S p (Some (sort.Channel j n)) k h = absurd (cc)
-an_input W S p (Some sort.Task) k h = absurd (cc)
+an_input W S p (Some (entity.Constant j n)) k h = absurd (cc)
+an_input W S p (Some (entity.Variable f j n)) k h = absurd (cc)
+an_input W S p (Some (entity.Array f j n)) k h = absurd (cc)
+an_input W S p (Some (entity.Memory f j n)) k h = absurd (cc)
+an_input W S p (Some (entity.Channel j n)) k h = absurd (cc)
+an_input W S p (Some entity.Task) k h = absurd (cc)
 
-pub input_good : (W : FlatLeaf) (S : List ℕ) (E : Scope) → KnownScope W S E → (x : Name) → name_faults E is_input x ≡ [] → IsEnd W false (number_of (sort_of x.text E)) (kind_of_sort (sort_of x.text E))
-input_good W S E i x h = an_input W S x.place (sort_of x.text E) (known_at W S x.text E i) h
+pub input_good : (W : FlatLeaf) (S : List ℕ) (E : Scope) → KnownScope W S E → (x : Name) → name_faults E is_input x ≡ [] → IsEnd W false (number_of (entity_of x.text E)) (kind_of_entity (entity_of x.text E))
+input_good W S E i x h = an_input W S x.place (entity_of x.text E) (known_at W S x.text E i) h
 
-an_output : (W : FlatLeaf) (S : List ℕ) (p : Place) (o : Option Sort) → IfSome o (IsKnown W S) → wrong_sort is_output p o ≡ [] → IsEnd W true (number_of o) (kind_of_sort o)
-an_output W S p (Some (sort.Stream true j n)) k h = k
-an_output W S p (Some (sort.Stream false j n)) k h = absurd (cc)
+an_output : (W : FlatLeaf) (S : List ℕ) (p : Place) (o : Option Entity) → IfSome o (IsKnown W S) → wrong_entity is_output p o ≡ [] → IsEnd W true (number_of o) (kind_of_entity o)
+an_output W S p (Some (entity.Stream true j n)) k h = k
+an_output W S p (Some (entity.Stream false j n)) k h = absurd (cc)
 an_output W S p None k h = absurd (cc)
-an_output W S p (Some (sort.Constant j n)) k h = absurd (cc)
-an_output W S p (Some (sort.Variable f j n)) k h = absurd (cc)
-an_output W S p (Some (sort.Array f j n)) k h = absurd (cc)
-an_output W S p (Some (sort.Memory f j n)) k h = absurd (cc)
-an_output W S p (Some (sort.Channel j n)) k h = absurd (cc)
-an_output W S p (Some sort.Task) k h = absurd (cc)
+an_output W S p (Some (entity.Constant j n)) k h = absurd (cc)
+an_output W S p (Some (entity.Variable f j n)) k h = absurd (cc)
+an_output W S p (Some (entity.Array f j n)) k h = absurd (cc)
+an_output W S p (Some (entity.Memory f j n)) k h = absurd (cc)
+an_output W S p (Some (entity.Channel j n)) k h = absurd (cc)
+an_output W S p (Some entity.Task) k h = absurd (cc)
 
 written : (W : FlatLeaf) (S : List ℕ) (E : Scope) → KnownScope W S E → (s : ℕ) (k : Kind) → IsEnd W true s k → (es : List ExpressionTree) → flat_map (faults_of E false) es ≡ [] → AreActs W S (map (λ e. flat.write s (wanted E k e)) es)
 written W S E i s k h [] g = tt
@@ -180,44 +180,44 @@ read_places W S E i s k h (p ∷ ps) g =
     let t = target_good W S E i false p (left_empty (place_faults E p) (flat_map (place_faults E) ps) g) in
     (read_good W S s k (target_of E p) h t, read_places W S E i s k h ps (right_empty (place_faults E p) (flat_map (place_faults E) ps) g))
 
-call_good : (W : FlatLeaf) (S : List ℕ) (E : Scope) → KnownScope W S E → (o : Option Sort) (m : Option Method) (s at : Name) → IfSome o (IsKnown W S) → call_faults o m s at ≡ [] → given_faults E m ≡ [] → IsAct W S (called E (kind_of_sort o) (number_of o) m)
-call_good W S E i (Some (sort.Stream false j n)) (Some reads) s at k h g = record { step = (j, k); straight = tt; clear = refl }
-call_good W S E i (Some (sort.Stream false j n)) (Some peeks) s at k h g = record { step = (j, k); straight = tt; clear = refl }
-call_good W S E i (Some (sort.Stream false j n)) (Some tests_end) s at k h g = record { step = (kind.Bool, (j, k, refl)); straight = tt; clear = refl }
-call_good W S E i (Some (sort.Stream false j n)) (Some opens) s at k h g = record { step = (j, k); straight = tt; clear = refl }
-call_good W S E i (Some (sort.Stream false j n)) (Some (writes e)) s at k h g = absurd (cc)
-call_good W S E i (Some (sort.Stream false j n)) (Some closes) s at k h g = absurd (cc)
-call_good W S E i (Some (sort.Stream true j n)) (Some (writes e)) s at k h g =
+call_good : (W : FlatLeaf) (S : List ℕ) (E : Scope) → KnownScope W S E → (o : Option Entity) (m : Option Method) (s at : Name) → IfSome o (IsKnown W S) → call_faults o m s at ≡ [] → given_faults E m ≡ [] → IsAct W S (called E (kind_of_entity o) (number_of o) m)
+call_good W S E i (Some (entity.Stream false j n)) (Some reads) s at k h g = record { step = (j, k); straight = tt; clear = refl }
+call_good W S E i (Some (entity.Stream false j n)) (Some peeks) s at k h g = record { step = (j, k); straight = tt; clear = refl }
+call_good W S E i (Some (entity.Stream false j n)) (Some tests_end) s at k h g = record { step = (kind.Bool, (j, k, refl)); straight = tt; clear = refl }
+call_good W S E i (Some (entity.Stream false j n)) (Some opens) s at k h g = record { step = (j, k); straight = tt; clear = refl }
+call_good W S E i (Some (entity.Stream false j n)) (Some (writes e)) s at k h g = absurd (cc)
+call_good W S E i (Some (entity.Stream false j n)) (Some closes) s at k h g = absurd (cc)
+call_good W S E i (Some (entity.Stream true j n)) (Some (writes e)) s at k h g =
     record { step = (j, k, cast_value W S (kind_of E e) j (value_of E e) (meaning_good W S E i false e g)); straight = tt; clear = refl }
-call_good W S E i (Some (sort.Stream true j n)) (Some closes) s at k h g = record { step = (j, k); straight = tt; clear = refl }
-call_good W S E i (Some (sort.Stream true j n)) (Some reads) s at k h g = absurd (cc)
-call_good W S E i (Some (sort.Stream true j n)) (Some peeks) s at k h g = absurd (cc)
-call_good W S E i (Some (sort.Stream true j n)) (Some tests_end) s at k h g = absurd (cc)
-call_good W S E i (Some (sort.Stream true j n)) (Some opens) s at k h g = absurd (cc)
-call_good W S E i (Some (sort.Stream b j n)) None s at k h g = absurd (cc)
+call_good W S E i (Some (entity.Stream true j n)) (Some closes) s at k h g = record { step = (j, k); straight = tt; clear = refl }
+call_good W S E i (Some (entity.Stream true j n)) (Some reads) s at k h g = absurd (cc)
+call_good W S E i (Some (entity.Stream true j n)) (Some peeks) s at k h g = absurd (cc)
+call_good W S E i (Some (entity.Stream true j n)) (Some tests_end) s at k h g = absurd (cc)
+call_good W S E i (Some (entity.Stream true j n)) (Some opens) s at k h g = absurd (cc)
+call_good W S E i (Some (entity.Stream b j n)) None s at k h g = absurd (cc)
 call_good W S E i None m s at k h g = absurd (cc)
-call_good W S E i (Some (sort.Constant j n)) m s at k h g = absurd (cc)
-call_good W S E i (Some (sort.Variable f j n)) m s at k h g = absurd (cc)
-call_good W S E i (Some (sort.Array f j n)) m s at k h g = absurd (cc)
-call_good W S E i (Some (sort.Memory f j n)) m s at k h g = absurd (cc)
-call_good W S E i (Some (sort.Channel j n)) m s at k h g = absurd (cc)
-call_good W S E i (Some sort.Task) m s at k h g = absurd (cc)
+call_good W S E i (Some (entity.Constant j n)) m s at k h g = absurd (cc)
+call_good W S E i (Some (entity.Variable f j n)) m s at k h g = absurd (cc)
+call_good W S E i (Some (entity.Array f j n)) m s at k h g = absurd (cc)
+call_good W S E i (Some (entity.Memory f j n)) m s at k h g = absurd (cc)
+call_good W S E i (Some (entity.Channel j n)) m s at k h g = absurd (cc)
+call_good W S E i (Some entity.Task) m s at k h g = absurd (cc)
 
 -- ---- actions
 
 pub action_good : (W : FlatLeaf) (S : List ℕ) (E : Scope) → KnownScope W S E → (a : ActionTree) → action_faults E a ≡ [] → AreActs W S (action_code E a)
 action_good W S E i (tree.call_action s m es) h =
-    let o = sort_of s.text E in
+    let o = entity_of s.text E in
     let method = method_of m.text es in
     (call_good W S E i o method s m (known_at W S s.text E i) (left_empty (call_faults o method s m) (given_faults E method) h) (right_empty (call_faults o method s m) (given_faults E method) h), tt)
 action_good W S E i (tree.write s es) h =
-    let o = sort_of s.text E in
+    let o = entity_of s.text E in
     let values = flat_map (faults_of E false) es in
-    written W S E i (number_of o) (kind_of_sort o) (an_output W S s.place o (known_at W S s.text E i) (left_empty (name_faults E is_output s) values h)) es (right_empty (name_faults E is_output s) values h)
+    written W S E i (number_of o) (kind_of_entity o) (an_output W S s.place o (known_at W S s.text E i) (left_empty (name_faults E is_output s) values h)) es (right_empty (name_faults E is_output s) values h)
 action_good W S E i (tree.read s ps) h =
-    let o = sort_of s.text E in
+    let o = entity_of s.text E in
     let targets = flat_map (place_faults E) ps in
-    read_places W S E i (number_of o) (kind_of_sort o) (input_good W S E i s (left_empty (name_faults E is_input s) targets h)) ps (right_empty (name_faults E is_input s) targets h)
+    read_places W S E i (number_of o) (kind_of_entity o) (input_good W S E i s (left_empty (name_faults E is_input s) targets h)) ps (right_empty (name_faults E is_input s) targets h)
 action_good W S E i (tree.assign p o at e) h =
     let d = divisor_faults E (assignment_divides o) at e in
     let q = left_empty (place_faults E p ++ d) (faults_of E false e) h in

@@ -5,8 +5,8 @@ use Rattle.std.proofs.lemmas.Option.{none-some, same_Some}
 use Rattle.tapa_syntax.specs.declared.program.Array.{Array}
 use Rattle.tapa_syntax.specs.ArrayUse.{In}
 use Rattle.tapa_syntax.specs.Flat.{FlatStatement, set, set_cell, set_cell_by, store, store_by, read_variable, read_cell, read_store, write, take_end, put_end, discard, clear, branch, loop, break, continue, in_row, FlatLeaf}
-use Rattle.check_scope.specs.declared.sort.Sort.{Sort}
-use Rattle.check_scope.specs.declared.sort.Sort.TheVariants as sort
+use Rattle.check_scope.specs.declared.entity.Entity.{Entity}
+use Rattle.check_scope.specs.declared.entity.Entity.TheVariants as entity
 use Rattle.check_scope.specs.Scopes.{Block, Scope, declaring}
 use Rattle.check_leaf.specs.Statements.{Frame, opened, closed}
 use Rattle.check_leaf.proofs.Flats.{IsStep, AreSteps, IsCode, IsStraight, AreStraight, clears}
@@ -73,14 +73,14 @@ reaches_on f g W a b = record { vars = λ n x e. b.vars n x (a.vars n x e); arra
 abbrev pub Covers : List ℕ → List ℕ → Type 0
 Covers T S = (a : ℕ) → In a S → In a T
 
-known_more : (W : FlatLeaf) (S T : List ℕ) → Covers T S → (s : Sort) → IsKnown W S s → IsKnown W T s
-known_more W S T c (sort.Array free k n) (h, e) = (c n h, e)
-known_more W S T c (sort.Constant k n) h = h
-known_more W S T c (sort.Variable free k n) h = h
-known_more W S T c (sort.Memory free k n) h = h
-known_more W S T c (sort.Stream b k n) h = h
-known_more W S T c (sort.Channel k n) h = h
-known_more W S T c sort.Task h = h
+known_more : (W : FlatLeaf) (S T : List ℕ) → Covers T S → (s : Entity) → IsKnown W S s → IsKnown W T s
+known_more W S T c (entity.Array free k n) (h, e) = (c n h, e)
+known_more W S T c (entity.Constant k n) h = h
+known_more W S T c (entity.Variable free k n) h = h
+known_more W S T c (entity.Memory free k n) h = h
+known_more W S T c (entity.Stream b k n) h = h
+known_more W S T c (entity.Channel k n) h = h
+known_more W S T c entity.Task h = h
 
 block_more : (W : FlatLeaf) (S T : List ℕ) → Covers T S → (b : Block) → KnownBlock W S b → KnownBlock W T b
 block_more W S T c [] h = tt
@@ -90,11 +90,11 @@ pub scope_more : (W : FlatLeaf) (S T : List ℕ) → Covers T S → (E : Scope) 
 scope_more W S T c [] h = tt
 scope_more W S T c (b ∷ rest) (p, h) = (block_more W S T c b p, scope_more W S T c rest h)
 
-block_declared : (W : FlatLeaf) (S : List ℕ) (x : List ℕ) (s : Sort) (b : Block) → KnownBlock W S b → IsKnown W S s → KnownBlock W S (b ++ (x, s) ∷ [])
+block_declared : (W : FlatLeaf) (S : List ℕ) (x : List ℕ) (s : Entity) (b : Block) → KnownBlock W S b → IsKnown W S s → KnownBlock W S (b ++ (x, s) ∷ [])
 block_declared W S x s [] h k = (k, tt)
 block_declared W S x s (d ∷ rest) (p, h) k = (p, block_declared W S x s rest h k)
 
-pub scope_declared : (W : FlatLeaf) (S : List ℕ) (x : List ℕ) (s : Sort) (E : Scope) → KnownScope W S E → IsKnown W S s → KnownScope W S (declaring x s E)
+pub scope_declared : (W : FlatLeaf) (S : List ℕ) (x : List ℕ) (s : Entity) (E : Scope) → KnownScope W S E → IsKnown W S s → KnownScope W S (declaring x s E)
 scope_declared W S x s [] h k = tt
 scope_declared W S x s (b ∷ []) (p, h) k = (block_declared W S x s b p k, tt)
 scope_declared W S x s (b ∷ c ∷ rest) (p, h) k = (p, scope_declared W S x s (c ∷ rest) h k)

@@ -12,8 +12,8 @@ use Rattle.tapa_syntax.specs.declared.tree.Parameter.TheVariants.{InputStream, O
 use Rattle.tapa_syntax.specs.Trees.{Statements, TaskTree}
 use Rattle.tapa_syntax.specs.Flat.{FlatLeaf, flat_leaf}
 use Rattle.tapa_syntax.specs.WellFormed.{IsLeaf, AreDistinct}
-use Rattle.check_scope.specs.declared.sort.Sort.{Sort}
-use Rattle.check_scope.specs.declared.sort.Sort.TheVariants as sort
+use Rattle.check_scope.specs.declared.entity.Entity.{Entity}
+use Rattle.check_scope.specs.declared.entity.Entity.TheVariants as entity
 use Rattle.check_scope.specs.Scopes.{Block}
 use Rattle.check_leaf.specs.Laws.{IsGlobal, AreGlobal, LegalLeavesAreWellFormed}
 use Rattle.check_leaf.specs.Statements.{variable_faults, statements_faults, codes_of}
@@ -111,7 +111,7 @@ takes_stream b k x h =
       grows = record { frame = record { vars = λ n x e. e; arrays = λ n x e. e }; streams = within_more h.streams (e ∷ []); memories = λ n x e. e };
       few = λ p. record { vars = p.vars; cells = p.cells };
       scalars = λ p. p;
-      scope = λ W r i. scope_declared W [] x.text (sort.Stream b k (length h.streams)) h.frame.scope i (r.streams (length h.streams) e (last_at h.streams e));
+      scope = λ W r i. scope_declared W [] x.text (entity.Stream b k (length h.streams)) h.frame.scope i (r.streams (length h.streams) e (last_at h.streams e));
     }
 
 takes_memory : (b : Bool) (k : Kind) (x : Name) (h : Head) → Takes h (with_memory b k x h)
@@ -119,7 +119,7 @@ takes_memory b k x h = record {
   grows = record { frame = record { vars = λ n x e. e; arrays = λ n x e. e }; streams = λ n x e. e; memories = within_more h.memories (k ∷ []) };
   few = λ p. record { vars = p.vars; cells = p.cells };
   scalars = λ p. p;
-  scope = λ W r i. scope_declared W [] x.text (sort.Memory b k (length h.memories)) h.frame.scope i (r.memories (length h.memories) k (last_at h.memories k));
+  scope = λ W r i. scope_declared W [] x.text (entity.Memory b k (length h.memories)) h.frame.scope i (r.memories (length h.memories) k (last_at h.memories k));
 }
 
 takes_scalar : (b : Bool) (k : Kind) (x : Name) (h : Head) → variable_faults h.frame x ≡ [] → Takes h (with_scalar b k x h)
@@ -146,9 +146,9 @@ parameters_take h (p ∷ ps) e =
 
 -- ---- leaves
 
-global_known : (W : FlatLeaf) (s : Sort) → IsGlobal s → IsKnown W [] s
-global_known W (sort.Constant k n) h = h
-global_known W sort.Task h = tt
+global_known : (W : FlatLeaf) (s : Entity) → IsGlobal s → IsKnown W [] s
+global_known W (entity.Constant k n) h = h
+global_known W entity.Task h = tt
 global_known W _ h = absurd h
 
 globals_known : (W : FlatLeaf) (file : Block) → AreGlobal file → KnownBlock W [] file

@@ -19,11 +19,11 @@ use Rattle.tapa_syntax.specs.Trees as tree
 use Rattle.tapa_syntax.specs.Trees.{ExpressionTree}
 use Rattle.tapa_syntax.specs.Flat.{FlatExpression, FlatLeaf}
 use Rattle.check_scope.specs.declared.fault.Broken.{Broken}
-use Rattle.check_scope.specs.declared.sort.Sort.{Sort}
-use Rattle.check_scope.specs.declared.sort.Sort.TheVariants as sort
-use Rattle.check_scope.specs.Faults.{wrong_sort, where_so, fault}
+use Rattle.check_scope.specs.declared.entity.Entity.{Entity}
+use Rattle.check_scope.specs.declared.entity.Entity.TheVariants as entity
+use Rattle.check_scope.specs.Faults.{wrong_entity, where_so, fault}
 use Rattle.check_scope.specs.declared.fault.CheckCode.TheVariants.{C8, C9}
-use Rattle.check_scope.specs.Scopes.{Block, Scope, in_block, first_of, sort_of, kind_of_sort, number_of, is_scalar, is_memory, has_cells}
+use Rattle.check_scope.specs.Scopes.{Block, Scope, in_block, first_of, entity_of, kind_of_entity, number_of, is_scalar, is_memory, has_cells}
 use Rattle.check_expression.specs.Expressions.{Method, reads, peeks, tests_end, writes, opens, closes, method_of, listed, call_faults, no_value, call_kind, prefix_kind, binary_kind, arm_kind, kind_of, as_kind, named_value, cell_value, called_value, operated, binary_value, prefix_value, value_of, is_constant_name, is_constant, constant_value, divides, divisor_faults, is_logical, faults_of}
 use Rattle.check_expression.proofs.Values.{bit_fits}
 use Rattle.check_leaf.proofs.Flats.{IsEnd, IsArrayOf, IsValue, IsFlatConstant, MayDivideBy}
@@ -48,15 +48,15 @@ not_one x xs h = cc
 
 -- ---- what names stand for
 
--- a sort that the leaf has, where these arrays are cleared
-abbrev pub IsKnown : FlatLeaf → List ℕ → Sort → Type 0
-IsKnown W S (sort.Constant k n) = n < values_of k
-IsKnown W S (sort.Variable free k n) = slice_get W.vars n ≡ Some k
-IsKnown W S (sort.Array free k n) = In n S × IsArrayOf W n k
-IsKnown W S (sort.Memory free k n) = slice_get W.memories n ≡ Some k
-IsKnown W S (sort.Stream b k n) = IsEnd W b n k
-IsKnown W S (sort.Channel k n) = Unit {0}
-IsKnown W S sort.Task = Unit {0}
+-- an entity that the leaf has, where these arrays are cleared
+abbrev pub IsKnown : FlatLeaf → List ℕ → Entity → Type 0
+IsKnown W S (entity.Constant k n) = n < values_of k
+IsKnown W S (entity.Variable free k n) = slice_get W.vars n ≡ Some k
+IsKnown W S (entity.Array free k n) = In n S × IsArrayOf W n k
+IsKnown W S (entity.Memory free k n) = slice_get W.memories n ≡ Some k
+IsKnown W S (entity.Stream b k n) = IsEnd W b n k
+IsKnown W S (entity.Channel k n) = Unit {0}
+IsKnown W S entity.Task = Unit {0}
 
 abbrev pub KnownBlock : FlatLeaf → List ℕ → Block → Type 0
 KnownBlock W S [] = Unit {0}
@@ -66,7 +66,7 @@ abbrev pub KnownScope : FlatLeaf → List ℕ → Scope → Type 0
 KnownScope W S [] = Unit {0}
 KnownScope W S (b ∷ rest) = KnownBlock W S b × KnownScope W S rest
 
-chosen : (b : Bool) (W : FlatLeaf) (S : List ℕ) (s : Sort) (o : Option Sort) → IsKnown W S s → IfSome o (IsKnown W S) → IfSome (if b then Some s else o) (IsKnown W S)
+chosen : (b : Bool) (W : FlatLeaf) (S : List ℕ) (s : Entity) (o : Option Entity) → IsKnown W S s → IfSome o (IsKnown W S) → IfSome (if b then Some s else o) (IsKnown W S)
 chosen true W S s o h k = h
 chosen false W S s o h k = k
 
@@ -74,54 +74,54 @@ block_at : (W : FlatLeaf) (S : List ℕ) (x : List ℕ) (b : Block) → KnownBlo
 block_at W S x [] h = tt
 block_at W S x (d ∷ rest) (h, k) = chosen _ W S d.1 (in_block x rest) h (block_at W S x rest k)
 
-first_at : (W : FlatLeaf) (S : List ℕ) (a b : Option Sort) → IfSome a (IsKnown W S) → IfSome b (IsKnown W S) → IfSome (first_of a b) (IsKnown W S)
+first_at : (W : FlatLeaf) (S : List ℕ) (a b : Option Entity) → IfSome a (IsKnown W S) → IfSome b (IsKnown W S) → IfSome (first_of a b) (IsKnown W S)
 first_at W S (Some s) b h k = h
 first_at W S None b h k = k
 
-pub known_at : (W : FlatLeaf) (S : List ℕ) (x : List ℕ) (E : Scope) → KnownScope W S E → IfSome (sort_of x E) (IsKnown W S)
+pub known_at : (W : FlatLeaf) (S : List ℕ) (x : List ℕ) (E : Scope) → KnownScope W S E → IfSome (entity_of x E) (IsKnown W S)
 known_at W S x [] h = tt
-known_at W S x (b ∷ rest) (h, k) = first_at W S (sort_of x rest) (in_block x b) (known_at W S x rest k) (block_at W S x b h)
+known_at W S x (b ∷ rest) (h, k) = first_at W S (entity_of x rest) (in_block x b) (known_at W S x rest k) (block_at W S x b h)
 
 -- ---- names as operands
 
-named_good : (W : FlatLeaf) (S : List ℕ) (p : Place) (o : Option Sort) → IfSome o (IsKnown W S) → wrong_sort is_scalar p o ≡ [] → IsValue W S (named_value o) (kind_of_sort o)
+named_good : (W : FlatLeaf) (S : List ℕ) (p : Place) (o : Option Entity) → IfSome o (IsKnown W S) → wrong_entity is_scalar p o ≡ [] → IsValue W S (named_value o) (kind_of_entity o)
 named_good W S p None k h = absurd (cc)
-named_good W S p (Some (sort.Constant j n)) k h = (refl, k)
-named_good W S p (Some (sort.Variable f j n)) k h = k
-named_good W S p (Some (sort.Array f j n)) k h = absurd (cc)
-named_good W S p (Some (sort.Memory f j n)) k h = absurd (cc)
-named_good W S p (Some (sort.Stream f j n)) k h = absurd (cc)
-named_good W S p (Some (sort.Channel j n)) k h = absurd (cc)
-named_good W S p (Some sort.Task) k h = absurd (cc)
+named_good W S p (Some (entity.Constant j n)) k h = (refl, k)
+named_good W S p (Some (entity.Variable f j n)) k h = k
+named_good W S p (Some (entity.Array f j n)) k h = absurd (cc)
+named_good W S p (Some (entity.Memory f j n)) k h = absurd (cc)
+named_good W S p (Some (entity.Stream f j n)) k h = absurd (cc)
+named_good W S p (Some (entity.Channel j n)) k h = absurd (cc)
+named_good W S p (Some entity.Task) k h = absurd (cc)
 
-element_good : (W : FlatLeaf) (S : List ℕ) (p : Place) (o : Option Sort) (i : FlatExpression) → IfSome o (IsKnown W S) → wrong_sort has_cells p o ≡ [] → IsValue W S i kind.U64 → IsValue W S (cell_value o i) (kind_of_sort o)
+element_good : (W : FlatLeaf) (S : List ℕ) (p : Place) (o : Option Entity) (i : FlatExpression) → IfSome o (IsKnown W S) → wrong_entity has_cells p o ≡ [] → IsValue W S i kind.U64 → IsValue W S (cell_value o i) (kind_of_entity o)
 element_good W S p None i k h g = absurd (cc)
-element_good W S p (Some (sort.Constant j n)) i k h g = absurd (cc)
-element_good W S p (Some (sort.Variable f j n)) i k h g = absurd (cc)
-element_good W S p (Some (sort.Array f j n)) i k h g = (k.0, k.1, g)
-element_good W S p (Some (sort.Memory f j n)) i k h g = (k, g)
-element_good W S p (Some (sort.Stream f j n)) i k h g = absurd (cc)
-element_good W S p (Some (sort.Channel j n)) i k h g = absurd (cc)
-element_good W S p (Some sort.Task) i k h g = absurd (cc)
+element_good W S p (Some (entity.Constant j n)) i k h g = absurd (cc)
+element_good W S p (Some (entity.Variable f j n)) i k h g = absurd (cc)
+element_good W S p (Some (entity.Array f j n)) i k h g = (k.0, k.1, g)
+element_good W S p (Some (entity.Memory f j n)) i k h g = (k, g)
+element_good W S p (Some (entity.Stream f j n)) i k h g = absurd (cc)
+element_good W S p (Some (entity.Channel j n)) i k h g = absurd (cc)
+element_good W S p (Some entity.Task) i k h g = absurd (cc)
 
-called_good : (W : FlatLeaf) (S : List ℕ) (o : Option Sort) (m : Option Method) (s at : Name) → IfSome o (IsKnown W S) → call_faults o m s at ≡ [] → no_value m at ≡ [] → IsValue W S (called_value (number_of o) m) (call_kind (kind_of_sort o) m)
-called_good W S (Some (sort.Stream b j n)) None s at k h g = absurd (cc)
-called_good W S (Some (sort.Stream false j n)) (Some reads) s at k h g = k
-called_good W S (Some (sort.Stream false j n)) (Some peeks) s at k h g = k
-called_good W S (Some (sort.Stream false j n)) (Some tests_end) s at k h g = (j, k, refl)
-called_good W S (Some (sort.Stream true j n)) (Some reads) s at k h g = absurd (cc)
-called_good W S (Some (sort.Stream true j n)) (Some peeks) s at k h g = absurd (cc)
-called_good W S (Some (sort.Stream true j n)) (Some tests_end) s at k h g = absurd (cc)
-called_good W S (Some (sort.Stream b j n)) (Some (writes e)) s at k h g = absurd (cc)
-called_good W S (Some (sort.Stream b j n)) (Some opens) s at k h g = absurd (cc)
-called_good W S (Some (sort.Stream b j n)) (Some closes) s at k h g = absurd (cc)
+called_good : (W : FlatLeaf) (S : List ℕ) (o : Option Entity) (m : Option Method) (s at : Name) → IfSome o (IsKnown W S) → call_faults o m s at ≡ [] → no_value m at ≡ [] → IsValue W S (called_value (number_of o) m) (call_kind (kind_of_entity o) m)
+called_good W S (Some (entity.Stream b j n)) None s at k h g = absurd (cc)
+called_good W S (Some (entity.Stream false j n)) (Some reads) s at k h g = k
+called_good W S (Some (entity.Stream false j n)) (Some peeks) s at k h g = k
+called_good W S (Some (entity.Stream false j n)) (Some tests_end) s at k h g = (j, k, refl)
+called_good W S (Some (entity.Stream true j n)) (Some reads) s at k h g = absurd (cc)
+called_good W S (Some (entity.Stream true j n)) (Some peeks) s at k h g = absurd (cc)
+called_good W S (Some (entity.Stream true j n)) (Some tests_end) s at k h g = absurd (cc)
+called_good W S (Some (entity.Stream b j n)) (Some (writes e)) s at k h g = absurd (cc)
+called_good W S (Some (entity.Stream b j n)) (Some opens) s at k h g = absurd (cc)
+called_good W S (Some (entity.Stream b j n)) (Some closes) s at k h g = absurd (cc)
 called_good W S None m s at k h g = absurd (cc)
-called_good W S (Some (sort.Constant j n)) m s at k h g = absurd (cc)
-called_good W S (Some (sort.Variable f j n)) m s at k h g = absurd (cc)
-called_good W S (Some (sort.Array f j n)) m s at k h g = absurd (cc)
-called_good W S (Some (sort.Memory f j n)) m s at k h g = absurd (cc)
-called_good W S (Some (sort.Channel j n)) m s at k h g = absurd (cc)
-called_good W S (Some sort.Task) m s at k h g = absurd (cc)
+called_good W S (Some (entity.Constant j n)) m s at k h g = absurd (cc)
+called_good W S (Some (entity.Variable f j n)) m s at k h g = absurd (cc)
+called_good W S (Some (entity.Array f j n)) m s at k h g = absurd (cc)
+called_good W S (Some (entity.Memory f j n)) m s at k h g = absurd (cc)
+called_good W S (Some (entity.Channel j n)) m s at k h g = absurd (cc)
+called_good W S (Some entity.Task) m s at k h g = absurd (cc)
 
 -- ---- constants
 
@@ -129,15 +129,15 @@ pub both_true : (a b : Bool) → (a && b) ≡ true → (a ≡ true) × (b ≡ tr
 both_true true b h = (refl, h)
 both_true false b h = absurd (cc)
 
-named_constant : (o : Option Sort) → is_constant_name o ≡ true → IsFlatConstant (named_value o)
-named_constant (Some (sort.Constant k n)) h = tt
+named_constant : (o : Option Entity) → is_constant_name o ≡ true → IsFlatConstant (named_value o)
+named_constant (Some (entity.Constant k n)) h = tt
 named_constant None h = absurd (cc)
-named_constant (Some (sort.Variable f k n)) h = absurd (cc)
-named_constant (Some (sort.Array f k n)) h = absurd (cc)
-named_constant (Some (sort.Memory f k n)) h = absurd (cc)
-named_constant (Some (sort.Stream f k n)) h = absurd (cc)
-named_constant (Some (sort.Channel k n)) h = absurd (cc)
-named_constant (Some sort.Task) h = absurd (cc)
+named_constant (Some (entity.Variable f k n)) h = absurd (cc)
+named_constant (Some (entity.Array f k n)) h = absurd (cc)
+named_constant (Some (entity.Memory f k n)) h = absurd (cc)
+named_constant (Some (entity.Stream f k n)) h = absurd (cc)
+named_constant (Some (entity.Channel k n)) h = absurd (cc)
+named_constant (Some entity.Task) h = absurd (cc)
 
 prefix_constant : (o : PrefixOperator) (k : Kind) (e : FlatExpression) → IsFlatConstant e → IsFlatConstant (prefix_value o k e)
 prefix_constant prefix.Negate k e c = (tt, cast_constant k (promoted k) e c)
@@ -158,7 +158,7 @@ binary_constant LogicalOr j k a b x y = (cast_constant j kind.Bool a x, cast_con
 pub meaning_constant : (E : Scope) (e : ExpressionTree) → is_constant E e ≡ true → IsFlatConstant (value_of E e)
 meaning_constant E (tree.literal k n) h = tt
 meaning_constant E (tree.boolean b) h = tt
-meaning_constant E (tree.variable x) h = named_constant (sort_of x.text E) h
+meaning_constant E (tree.variable x) h = named_constant (entity_of x.text E) h
 meaning_constant E (tree.element x e) h = absurd (cc)
 meaning_constant E (tree.call s m es) h = absurd (cc)
 meaning_constant E tree.nullptr h = tt
@@ -210,15 +210,15 @@ prefix_good W S prefix.Not k e g = (refl, cast_value W S k kind.Bool e g)
 pub meaning_good : (W : FlatLeaf) (S : List ℕ) (E : Scope) → KnownScope W S E → (c : Bool) (e : ExpressionTree) → faults_of E c e ≡ [] → IsValue W S (value_of E e) (kind_of E e)
 meaning_good W S E i c (tree.literal k n) h = (refl, mod_below n (values_of k) (pow_pos (bits_of k)))
 meaning_good W S E i c (tree.boolean b) h = (refl, bit_fits b)
-meaning_good W S E i c (tree.variable x) h = named_good W S x.place (sort_of x.text E) (known_at W S x.text E i) h
+meaning_good W S E i c (tree.variable x) h = named_good W S x.place (entity_of x.text E) (known_at W S x.text E i) h
 meaning_good W S E i c (tree.element x e) h =
-    let named = wrong_sort has_cells x.place (sort_of x.text E) in
-    let place = where_so (c && is_memory (sort_of x.text E)) (fault C8 x.place) in
+    let named = wrong_entity has_cells x.place (entity_of x.text E) in
+    let place = where_so (c && is_memory (entity_of x.text E)) (fault C8 x.place) in
     let p = left_empty (named ++ place) (faults_of E c e) h in
-    element_good W S x.place (sort_of x.text E) (as_kind (kind_of E e) kind.U64 (value_of E e)) (known_at W S x.text E i) (left_empty named place p)
+    element_good W S x.place (entity_of x.text E) (as_kind (kind_of E e) kind.U64 (value_of E e)) (known_at W S x.text E i) (left_empty named place p)
     (cast_value W S (kind_of E e) kind.U64 (value_of E e) (meaning_good W S E i c e (right_empty (named ++ place) (faults_of E c e) h)))
 meaning_good W S E i c (tree.call s m es) h =
-    let o = sort_of s.text E in
+    let o = entity_of s.text E in
     let method = method_of m.text (listed es) in
     let place = where_so c (fault C8 m.place) in
     let p = left_empty (call_faults o method s m ++ no_value method m) place h in

@@ -14,9 +14,9 @@ use Rattle.tapa_syntax.specs.Trees.{ExpressionTree, ActionTree, DeclaratorTree, 
 use Rattle.tapa_syntax.specs.Flat as flat
 use Rattle.tapa_syntax.specs.Flat.{FlatExpression, literal, FlatStatement, set, clear, branch, loop, in_row, FlatLeaf}
 use Rattle.check_scope.specs.declared.fault.Broken.{Broken}
-use Rattle.check_scope.specs.declared.sort.Sort.TheVariants as sort
+use Rattle.check_scope.specs.declared.entity.Entity.TheVariants as entity
 use Rattle.check_scope.specs.Faults.{name_faults, where_so, over, doubled}
-use Rattle.check_scope.specs.Scopes.{Scope, sort_of, kind_of_sort, number_of, is_input}
+use Rattle.check_scope.specs.Scopes.{Scope, entity_of, kind_of_entity, number_of, is_input}
 use Rattle.check_expression.specs.Expressions.{kind_of, value_of, wanted, faults_of}
 use Rattle.check_expression.specs.Counts.{count_of, count_faults, form_faults, most_of_count}
 use Rattle.check_leaf.specs.Statements.{Frame, opened, closed, variable_faults, with_variable, with_array, array_faults, declarator_faults, after_declarator, declarator_code, after_declarators, declarators_faults, declarators_code, after_declaration, declaration_faults, declaration_code, action_faults, action_code, after_start, start_faults, start_code, test_faults, test_of, next_faults, next_code, in_head, after, after_all, jump_faults, statement_faults, statements_faults, code_of, codes_of}
@@ -44,7 +44,7 @@ pub variable_grows : (free : Bool) (k : Kind) (f : Frame) (x : Name) → Grows f
 variable_grows free k f x = record { vars = within_more f.vars (k ∷ []); arrays = λ n x h. h }
 
 pub variable_scope : (free : Bool) (k : Kind) (f : Frame) (x : Name) (W : FlatLeaf) (S : List ℕ) → Within (with_variable free k x f).vars W.vars → KnownScope W S f.scope → KnownScope W S (with_variable free k x f).scope
-variable_scope free k f x W S r i = scope_declared W S x.text (sort.Variable free k (length f.vars)) f.scope i (r (length f.vars) k (last_at f.vars k))
+variable_scope free k f x W S r i = scope_declared W S x.text (entity.Variable free k (length f.vars)) f.scope i (r (length f.vars) k (last_at f.vars k))
 
 -- a variable that is set where it is declared
 set_runs : (l free : Bool) (k : Kind) (f : Frame) (x : Name) (e : FlatExpression) → variable_faults f x ≡ [] → ((W : FlatLeaf) (S : List ℕ) → KnownScope W S f.scope → IsValue W S e k) → Runs l f (with_variable free k x f) (set (length f.vars) e ∷ [])
@@ -71,7 +71,7 @@ clear_runs l free k f x cells h =
           record {
             code = ((r, at), tt);
             straight = λ e. (tt, tt);
-            scope = scope_declared W (n ∷ S) x.text (sort.Array free k n) f.scope (scope_more W S (n ∷ S) (λ a p. inr p) f.scope i) (inl refl, ap (option_map (λ (r : Array). r.kind)) at);
+            scope = scope_declared W (n ∷ S) x.text (entity.Array free k n) f.scope (scope_more W S (n ∷ S) (λ a p. inr p) f.scope i) (inl refl, ap (option_map (λ (r : Array). r.kind)) at);
           };
     }
 
@@ -223,8 +223,8 @@ mutual
   statement_runs l f (tree.while_not_eot stream s) h =
       let p = name_faults f.scope is_input stream in
       let q = statement_faults true (opened f) s in
-      loop_runs l f (after (opened f) s) (flat.negation (flat.is_end (number_of (sort_of stream.text f.scope)))) (code_of (opened f) s) [] (statement_runs true (opened f) s (right_empty p q h))
-      (λ W S i. (refl, (kind_of_sort (sort_of stream.text f.scope), input_good W S f.scope i stream (left_empty p q h), refl))) (λ W S i. tt)
+      loop_runs l f (after (opened f) s) (flat.negation (flat.is_end (number_of (entity_of stream.text f.scope)))) (code_of (opened f) s) [] (statement_runs true (opened f) s (right_empty p q h))
+      (λ W S i. (refl, (kind_of_entity (entity_of stream.text f.scope), input_good W S f.scope i stream (left_empty p q h), refl))) (λ W S i. tt)
   statement_runs l f (tree.break at) h = jump_runs l f at flat.break h (λ W S. (tt, tt)) (λ S. refl)
   statement_runs l f (tree.continue at) h = jump_runs l f at flat.continue h (λ W S. (tt, tt)) (λ S. refl)
 

@@ -5,13 +5,13 @@ use Rattle.tapa_syntax.specs.declared.program.Leaf.{Leaf}
 use Rattle.tapa_syntax.specs.Trees.{Statements, TaskTree}
 use Rattle.tapa_syntax.specs.Flat.{flat_leaf}
 use Rattle.tapa_syntax.specs.WellFormed.{IsLeaf}
-use Rattle.check_scope.specs.declared.sort.Sort.{Sort}
-use Rattle.check_scope.specs.declared.sort.Sort.TheVariants.{Constant, Task}
+use Rattle.check_scope.specs.declared.entity.Entity.{Entity}
+use Rattle.check_scope.specs.declared.entity.Entity.TheVariants.{Constant, Task}
 use Rattle.check_scope.specs.Scopes.{Block}
 use Rattle.check_leaf.specs.Leaves.{leaf_faults, leaf_of}
 
 -- what a file declares: constants, each with a value of its kind, and tasks
-abbrev pub IsGlobal : Sort → Type 0
+abbrev pub IsGlobal : Entity → Type 0
 IsGlobal (Constant k n) = n < values_of k
 IsGlobal Task = Unit {0}
 IsGlobal _ = ⊥

@@ -8,7 +8,7 @@ use Rattle.tapa_syntax.specs.declared.tree.Parameter.TheVariants.{InputStream, O
 use Rattle.tapa_base.specs.declared.text.Place.{Place}
 use Rattle.tapa_syntax.specs.Trees.{Statements, TaskTree}
 use Rattle.tapa_syntax.specs.Flat.{FlatExpression, FlatStatement, FlatStatements, literal, variable, cell, read, peek, is_end, load, convert, apply, flip, negation, conjunction, disjunction, choice, set, set_cell, set_cell_by, store, store_by, read_variable, read_cell, read_store, write, take_end, put_end, discard, clear, branch, loop, break, continue, no_statement, statement_then, FlatLeaf}
-use Rattle.check_scope.specs.declared.sort.Sort.TheVariants as sort
+use Rattle.check_scope.specs.declared.entity.Entity.TheVariants as entity
 use Rattle.check_scope.specs.Scopes.{Block}
 use Rattle.check_scope.specs.declared.fault.Broken.{Broken}
 use Rattle.check_scope.specs.Faults.{over, where_so, doubled}
@@ -25,11 +25,11 @@ pub record Head : Type 0 where
 
 abbrev pub with_stream : Bool → Kind → Name → Head → Head
 with_stream writes k x h =
-    record { frame = with_name x.text (sort.Stream writes k (length h.streams)) h.frame; streams = h.streams ++ record { kind = k; writes = writes } ∷ []; memories = h.memories; scalars = h.scalars }
+    record { frame = with_name x.text (entity.Stream writes k (length h.streams)) h.frame; streams = h.streams ++ record { kind = k; writes = writes } ∷ []; memories = h.memories; scalars = h.scalars }
 
 abbrev pub with_memory : Bool → Kind → Name → Head → Head
 with_memory free k x h =
-    record { frame = with_name x.text (sort.Memory free k (length h.memories)) h.frame; streams = h.streams; memories = h.memories ++ k ∷ []; scalars = h.scalars }
+    record { frame = with_name x.text (entity.Memory free k (length h.memories)) h.frame; streams = h.streams; memories = h.memories ++ k ∷ []; scalars = h.scalars }
 
 abbrev pub with_scalar : Bool → Kind → Name → Head → Head
 with_scalar free k x h =

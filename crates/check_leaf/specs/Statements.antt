@@ -21,9 +21,9 @@ use Rattle.tapa_syntax.specs.Typed.{right_kind}
 use Rattle.tapa_syntax.specs.Flat as flat
 use Rattle.tapa_syntax.specs.Flat.{FlatExpression, FlatStatement, FlatStatements, literal, variable, set, set_cell, set_cell_by, store, store_by, read_variable, read_cell, read_store, take_end, put_end, discard, clear, branch, loop, in_row}
 use Rattle.check_scope.specs.declared.fault.CheckCode.TheVariants.{C3}
-use Rattle.check_scope.specs.declared.sort.Sort.{Sort}
-use Rattle.check_scope.specs.declared.sort.Sort.TheVariants as sort
-use Rattle.check_scope.specs.Scopes.{Scope, sort_of, declaring, kind_of_sort, number_of, is_free_variable, has_free_cells, is_output, is_input}
+use Rattle.check_scope.specs.declared.entity.Entity.{Entity}
+use Rattle.check_scope.specs.declared.entity.Entity.TheVariants as entity
+use Rattle.check_scope.specs.Scopes.{Scope, entity_of, declaring, kind_of_entity, number_of, is_free_variable, has_free_cells, is_output, is_input}
 use Rattle.check_scope.specs.declared.fault.Broken.{Broken}
 use Rattle.check_scope.specs.Faults.{fault, over, where_so, name_faults, doubled}
 use Rattle.check_expression.specs.Expressions.{Method, peeks, tests_end, writes, opens, closes, method_of, call_faults, kind_of, value_of, wanted, as_kind, binary_kind, operated, operated_kind, faults_of, divides, divisor_faults}
@@ -51,15 +51,15 @@ abbrev pub variable_faults : Frame → Name → List Broken
 variable_faults f x = doubled f.scope x ++ where_so (nat_le 1024 (length f.vars)) (over 1024 x.place)
 
 -- one declaration more
-abbrev pub with_name : List ℕ → Sort → Frame → Frame
+abbrev pub with_name : List ℕ → Entity → Frame → Frame
 with_name x s f = record { scope = declaring x s f.scope; vars = f.vars; arrays = f.arrays }
 
 abbrev pub with_variable : Bool → Kind → Name → Frame → Frame
-with_variable free k x f = record { scope = declaring x.text (sort.Variable free k (length f.vars)) f.scope; vars = f.vars ++ k ∷ []; arrays = f.arrays }
+with_variable free k x f = record { scope = declaring x.text (entity.Variable free k (length f.vars)) f.scope; vars = f.vars ++ k ∷ []; arrays = f.arrays }
 
 abbrev pub with_array : Bool → Kind → Name → ℕ → Frame → Frame
 with_array free k x cells f =
-    record { scope = declaring x.text (sort.Array free k (length f.arrays)) f.scope; vars = f.vars; arrays = f.arrays ++ record { kind = k; cells = cells } ∷ [] }
+    record { scope = declaring x.text (entity.Array free k (length f.arrays)) f.scope; vars = f.vars; arrays = f.arrays ++ record { kind = k; cells = cells } ∷ [] }
 
 -- the cells of all arrays
 abbrev pub all_cells : List Array → ℕ
@@ -115,7 +115,7 @@ place_name (tree.variable_place x) = x
 place_name (tree.element_place x e) = x
 
 abbrev pub place_kind : Scope → PlaceTree → Kind
-place_kind E p = kind_of_sort (sort_of (place_name p).text E)
+place_kind E p = kind_of_entity (entity_of (place_name p).text E)
 
 -- C3: what is assigned is a variable, a cell or a stored word, and not const
 abbrev pub target_faults : Scope → PlaceTree → List Broken
@@ -152,13 +152,13 @@ pub data Target : Type 0 where
   in_cell : Kind → ℕ → FlatExpression → Target
   in_word : Kind → ℕ → FlatExpression → Target
 
-abbrev pub element_target : Option Sort → FlatExpression → Target
-element_target (Some (sort.Memory free k n)) i = in_word k n i
-element_target sort i = in_cell (kind_of_sort sort) (number_of sort) i
+abbrev pub element_target : Option Entity → FlatExpression → Target
+element_target (Some (entity.Memory free k n)) i = in_word k n i
+element_target entity i = in_cell (kind_of_entity entity) (number_of entity) i
 
 abbrev pub target_of : Scope → PlaceTree → Target
-target_of E (tree.variable_place x) = in_variable (kind_of_sort (sort_of x.text E)) (number_of (sort_of x.text E))
-target_of E (tree.element_place x i) = element_target (sort_of x.text E) (wanted E kind.U64 i)
+target_of E (tree.variable_place x) = in_variable (kind_of_entity (entity_of x.text E)) (number_of (entity_of x.text E))
+target_of E (tree.element_place x i) = element_target (entity_of x.text E) (wanted E kind.U64 i)
 
 abbrev pub set_target : Target → Kind → FlatExpression → FlatStatement
 set_target (in_variable j n) k e = set n (as_kind k j e)
@@ -213,7 +213,7 @@ called E k s (Some closes) = put_end s
 called E k s method = discard (flat.read s)
 
 abbrev pub action_faults : Scope → ActionTree → List Broken
-action_faults E (tree.call_action s m es) = call_faults (sort_of s.text E) (method_of m.text es) s m ++ given_faults E (method_of m.text es)
+action_faults E (tree.call_action s m es) = call_faults (entity_of s.text E) (method_of m.text es) s m ++ given_faults E (method_of m.text es)
 action_faults E (tree.write s es) = name_faults E is_output s ++ flat_map (faults_of E false) es
 action_faults E (tree.read s places) = name_faults E is_input s ++ flat_map (place_faults E) places
 action_faults E (tree.assign p o at e) = place_faults E p ++ divisor_faults E (assignment_divides o) at e ++ faults_of E false e
@@ -221,9 +221,9 @@ action_faults E (tree.postfix p step at) = step_faults E step p
 action_faults E (tree.prefix_step step at p) = step_faults E step p
 
 abbrev pub action_code : Scope → ActionTree → List FlatStatement
-action_code E (tree.call_action s m es) = called E (kind_of_sort (sort_of s.text E)) (number_of (sort_of s.text E)) (method_of m.text es) ∷ []
-action_code E (tree.write s es) = map (λ e. flat.write (number_of (sort_of s.text E)) (wanted E (kind_of_sort (sort_of s.text E)) e)) es
-action_code E (tree.read s places) = map (λ p. read_target (number_of (sort_of s.text E)) (target_of E p)) places
+action_code E (tree.call_action s m es) = called E (kind_of_entity (entity_of s.text E)) (number_of (entity_of s.text E)) (method_of m.text es) ∷ []
+action_code E (tree.write s es) = map (λ e. flat.write (number_of (entity_of s.text E)) (wanted E (kind_of_entity (entity_of s.text E)) e)) es
+action_code E (tree.read s places) = map (λ p. read_target (number_of (entity_of s.text E)) (target_of E p)) places
 action_code E (tree.assign p o at e) = assigned (target_of E p) o (kind_of E e) (value_of E e) ∷ []
 action_code E (tree.postfix p step at) = stepped (target_of E p) step ∷ []
 action_code E (tree.prefix_step step at p) = stepped (target_of E p) step ∷ []
@@ -324,7 +324,7 @@ abbrev mutual
   code_of f (tree.for head s) =
       start_code (opened f) head.start
       ++ loop (test_of (in_head f head).scope head.test) (in_row (code_of (opened (in_head f head)) s)) (in_row (next_code (in_head f head).scope head.step)) ∷ []
-  code_of f (tree.while_not_eot stream s) = loop (flat.negation (flat.is_end (number_of (sort_of stream.text f.scope)))) (in_row (code_of (opened f) s)) (in_row []) ∷ []
+  code_of f (tree.while_not_eot stream s) = loop (flat.negation (flat.is_end (number_of (entity_of stream.text f.scope)))) (in_row (code_of (opened f) s)) (in_row []) ∷ []
   code_of f (tree.break at) = flat.break ∷ []
   code_of f (tree.continue at) = flat.continue ∷ []
 

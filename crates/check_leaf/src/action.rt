@@ -12,7 +12,7 @@ ghost use Rattle.check_leaf.specs.Views.{Appends};
 use crate::call::called;
 use crate::target::{assigned, check_target, read_into, stepped};
 use check_expression::{
-    check_divisor, check_expression, check_wanted, method_of, sort_kind, sort_number,
+    check_divisor, check_expression, check_wanted, entity_kind, entity_number, method_of,
 };
 use check_scope::{CheckFault, Role, Scope};
 use std::alloc::Global;
@@ -126,19 +126,19 @@ pub(crate) fn action(
             push(called(alloc, scope, stream, method, known), code)
         }
         Action::Write(stream, values) => {
-            let sort = scope.named(Role::Output, stream)?;
+            let entity = scope.named(Role::Output, stream)?;
             written(
                 alloc,
                 scope,
-                sort_kind(sort),
-                sort_number(sort),
+                entity_kind(entity),
+                entity_number(entity),
                 values,
                 code,
             )
         }
         Action::Read(stream, places) => {
-            let sort = scope.named(Role::Input, stream)?;
-            read(alloc, scope, sort_number(sort), places, code)
+            let entity = scope.named(Role::Input, stream)?;
+            read(alloc, scope, entity_number(entity), places, code)
         }
         Action::Assign {
             target,

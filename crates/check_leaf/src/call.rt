@@ -3,7 +3,7 @@ ghost use Rattle.tapa_syntax.specs.Flat.{flat_statement};
 ghost use Rattle.check_scope.specs.Answers.{Answers};
 ghost use Rattle.check_expression.specs.Expressions.{call_faults};
 ghost use Rattle.check_expression.specs.Methods.{method_view};
-ghost use Rattle.check_scope.specs.Scopes.{kind_of_sort, number_of, sort_of};
+ghost use Rattle.check_scope.specs.Scopes.{kind_of_entity, number_of, entity_of};
 ghost use Rattle.check_leaf.specs.Statements as task;
 
 use check_expression::{StreamMethod, check_call, check_wanted};
@@ -20,8 +20,8 @@ pub(crate) fn called<'a>(
     method: Option<StreamMethod<'a>>,
 ) -> Result<Stmt, CheckFault>
     ensures { Answers flat_statement result
-        (call_faults (sort_of stream.now.text scope.now) (method_view method.entry) stream.now name.now ++ task.given_faults scope.now (method_view method.entry))
-        (task.called scope.now (kind_of_sort (sort_of stream.now.text scope.now)) (number_of (sort_of stream.now.text scope.now)) (method_view method.entry)) }
+        (call_faults (entity_of stream.now.text scope.now) (method_view method.entry) stream.now name.now ++ task.given_faults scope.now (method_view method.entry))
+        (task.called scope.now (kind_of_entity (entity_of stream.now.text scope.now)) (number_of (entity_of stream.now.text scope.now)) (method_view method.entry)) }
 {
     let call = check_call(scope, stream, name, method)?;
     match call.method {

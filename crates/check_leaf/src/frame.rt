@@ -5,7 +5,7 @@ ghost use Rattle.check_scope.specs.Scopes.{Block, Scope as Blocks, IsSound, decl
 ghost use Rattle.check_leaf.specs.Statements as task;
 ghost use Rattle.check_leaf.specs.Views.{Numbered};
 
-use check_scope::{CheckFault, FileNames, Scope, Sort, over};
+use check_scope::{CheckFault, Entity, FileNames, Scope, over};
 use std::alloc::Global;
 use std::marker::Model;
 use tapa_base::{Kind, Place, Text};
@@ -92,11 +92,11 @@ impl<'a> Frame<'a> {
     }
 
     /// One declaration more, which is no variable and no array.
-    pub(crate) fn declare(&mut self, name: &Text, sort: Sort) -> Result<(), CheckFault>
-        requires { IsSound sort }
-        ensures { Answers (λ x. self.new) result [] (task.with_name name.now sort self.old) }
+    pub(crate) fn declare(&mut self, name: &Text, entity: Entity) -> Result<(), CheckFault>
+        requires { IsSound entity }
+        ensures { Answers (λ x. self.new) result [] (task.with_name name.now entity self.old) }
     {
-        self.scope.declare(self.alloc, name, sort)
+        self.scope.declare(self.alloc, name, entity)
     }
 
     /// A name that may be declared as a variable.
@@ -122,8 +122,8 @@ impl<'a> Frame<'a> {
         ensures { Answers {B = Numbered} (λ n. (n, self.new)) result [] (length self.old.vars, task.with_variable free kind name.now self.old) }
     {
         let number = self.vars.len() as u32;
-        let sort = Sort::Variable { free, kind, number };
-        self.scope.declare(self.alloc, &name.text, sort)?;
+        let entity = Entity::Variable { free, kind, number };
+        self.scope.declare(self.alloc, &name.text, entity)?;
         self.vars.push(kind)?;
         Ok(number)
     }
@@ -153,8 +153,8 @@ impl<'a> Frame<'a> {
         ensures { Answers {B = Numbered} (λ n. (n, self.new)) result [] (length self.old.arrays, task.with_array free kind name.now cells self.old) }
     {
         let number = self.arrays.len() as u32;
-        let sort = Sort::Array { free, kind, number };
-        self.scope.declare(self.alloc, &name.text, sort)?;
+        let entity = Entity::Array { free, kind, number };
+        self.scope.declare(self.alloc, &name.text, entity)?;
         self.arrays.push(Array { kind, cells })?;
         self.cells += cells;
         Ok(number)

@@ -10,7 +10,7 @@ ghost use Rattle.check_leaf.specs.Heads.{head_of};
 use crate::frame::Frame;
 use crate::places::places_of;
 use crate::statement::statements as check_statements;
-use check_scope::{CheckFault, FileNames, Sort, copied, number_of, over};
+use check_scope::{CheckFault, Entity, FileNames, copied, number_of, over};
 use std::alloc::Global;
 use tapa_base::{Kind, Place, Text};
 use tapa_syntax::{End, Leaf, Name, Parameter, Statement, Stmt, TaskDeclaration};
@@ -45,12 +45,12 @@ impl<'a> Head<'a> {
     {
         self.frame.scope().check_new(name)?;
         let number = number_of(self.streams.len())?;
-        let sort = Sort::Stream {
+        let entity = Entity::Stream {
             writes,
             kind,
             number,
         };
-        self.frame.declare(&name.text, sort)?;
+        self.frame.declare(&name.text, entity)?;
         self.streams.push(End { kind, writes })?;
         Ok(())
     }
@@ -60,8 +60,8 @@ impl<'a> Head<'a> {
     {
         self.frame.scope().check_new(name)?;
         let number = number_of(self.memories.len())?;
-        let sort = Sort::Memory { free, kind, number };
-        self.frame.declare(&name.text, sort)?;
+        let entity = Entity::Memory { free, kind, number };
+        self.frame.declare(&name.text, entity)?;
         self.memories.push(kind)?;
         Ok(())
     }

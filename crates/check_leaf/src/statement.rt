@@ -7,7 +7,7 @@ ghost use Rattle.check_scope.specs.declared.fault.Broken.{Broken};
 ghost use Rattle.check_scope.specs.Answers.{Answers};
 ghost use Rattle.check_expression.specs.Expressions.{faults_of, wanted};
 ghost use Rattle.check_scope.specs.Faults.{name_faults};
-ghost use Rattle.check_scope.specs.Scopes.{is_input, number_of, sort_of};
+ghost use Rattle.check_scope.specs.Scopes.{is_input, number_of, entity_of};
 ghost use Rattle.check_leaf.specs.Statements as task;
 ghost use Rattle.check_leaf.specs.Statements.{Frame as FrameValue};
 ghost use Rattle.check_leaf.specs.Views.{Adds, Appends, HeadPart, Part};
@@ -15,7 +15,7 @@ ghost use Rattle.check_leaf.specs.Views.{Adds, Appends, HeadPart, Part};
 use crate::action::action;
 use crate::declaration::declaration;
 use crate::frame::Frame;
-use check_expression::{check_wanted, sort_number};
+use check_expression::{check_wanted, entity_number};
 use check_scope::{CheckCode, CheckFault, Role, refused};
 use std::alloc::Global;
 use tapa_base::{Kind, Place};
@@ -30,10 +30,10 @@ fn test(frame: &Frame, value: &Expression) -> Result<Expr, CheckFault>
 
 /// That a stream is not at its end of transaction (TAPA: `TAPA_WHILE_NOT_EOT`).
 fn not_at_end(frame: &Frame, stream: &Name) -> Result<Expr, CheckFault>
-    ensures { Answers flat_expression result (name_faults frame.now.scope is_input stream.now) (flat.negation (flat.is_end (number_of (sort_of stream.now.text frame.now.scope)))) }
+    ensures { Answers flat_expression result (name_faults frame.now.scope is_input stream.now) (flat.negation (flat.is_end (number_of (entity_of stream.now.text frame.now.scope)))) }
 {
-    let sort = frame.scope().named(Role::Input, stream)?;
-    let end = Expr::Eot(sort_number(sort));
+    let entity = frame.scope().named(Role::Input, stream)?;
+    let end = Expr::Eot(entity_number(entity));
     Ok(Expr::Not(Box::new(frame.alloc(), end)?))
 }
 

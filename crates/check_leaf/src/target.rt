@@ -5,15 +5,15 @@ ghost use Rattle.check_scope.specs.Answers.{Answers};
 ghost use Rattle.check_scope.specs.declared.fault.CheckCode.TheVariants.{C3};
 ghost use Rattle.check_scope.specs.Faults as faults;
 ghost use Rattle.check_scope.specs.Roles.{fits};
-ghost use Rattle.check_scope.specs.Scopes.{kind_of_sort, sort_of};
+ghost use Rattle.check_scope.specs.Scopes.{kind_of_entity, entity_of};
 ghost use Rattle.check_leaf.specs.Statements as task;
 ghost use Rattle.check_leaf.specs.Views.{flat_target};
 
 use check_expression::{
-    Typed, as_kind, binary_kind, check_wanted, operated, operated_kind, promoted, right_kind,
-    sort_kind, sort_number,
+    Typed, as_kind, binary_kind, check_wanted, entity_kind, entity_number, operated, operated_kind,
+    promoted, right_kind,
 };
-use check_scope::{CheckCode, CheckFault, Role, Scope, Sort, refused};
+use check_scope::{CheckCode, CheckFault, Entity, Role, Scope, refused};
 use std::alloc::Global;
 use tapa_base::{Kind, Op};
 use tapa_syntax::{
@@ -30,21 +30,21 @@ pub(crate) enum Target {
 
 /// What a name that is assigned is declared as. It may be assigned, and what is incremented is no `bool` (ISO C++
 /// [expr.pre.incr]).
-fn assigned_sort(
+fn assigned_entity(
     scope: &Scope,
     role: Role,
     increment: bool,
     name: &Name,
-) -> Result<Sort, CheckFault>
-    ensures { Answers (λ sort. Some sort) result
-        (faults.name_faults scope.now (fits role) name.now ++ faults.where_so (increment && task.is_bool (kind_of_sort (sort_of name.now.text scope.now))) (faults.fault C3 name.now.place))
-        (sort_of name.now.text scope.now) }
+) -> Result<Entity, CheckFault>
+    ensures { Answers (λ entity. Some entity) result
+        (faults.name_faults scope.now (fits role) name.now ++ faults.where_so (increment && task.is_bool (kind_of_entity (entity_of name.now.text scope.now))) (faults.fault C3 name.now.place))
+        (entity_of name.now.text scope.now) }
 {
-    let sort = scope.named(role, name)?;
-    if increment && is_bool(sort_kind(sort)) {
+    let entity = scope.named(role, name)?;
+    if increment && is_bool(entity_kind(entity)) {
         return Err(refused(CheckCode::C3, name.place));
     }
-    Ok(sort)
+    Ok(entity)
 }
 
 fn is_bool(kind: Kind) -> bool
@@ -53,12 +53,12 @@ fn is_bool(kind: Kind) -> bool
     matches!(kind, Kind::Bool)
 }
 
-fn element(sort: Sort, index: Expr) -> Target
-    ensures { flat_target result ≡ task.element_target (Some sort) (flat_expression index) }
+fn element(entity: Entity, index: Expr) -> Target
+    ensures { flat_target result ≡ task.element_target (Some entity) (flat_expression index) }
 {
-    match sort {
-        Sort::Memory { kind, number, .. } => Target::Word(kind, number, index),
-        _ => Target::Cell(sort_kind(sort), sort_number(sort), index),
+    match entity {
+        Entity::Memory { kind, number, .. } => Target::Word(kind, number, index),
+        _ => Target::Cell(entity_kind(entity), entity_number(entity), index),
     }
 }
 
@@ -73,13 +73,13 @@ pub(crate) fn check_target(
 {
     match place {
         PlaceExpression::Variable(name) => {
-            let sort = assigned_sort(scope, Role::FreeVariable, increment, name)?;
-            Ok(Target::Variable(sort_kind(sort), sort_number(sort)))
+            let entity = assigned_entity(scope, Role::FreeVariable, increment, name)?;
+            Ok(Target::Variable(entity_kind(entity), entity_number(entity)))
         }
         PlaceExpression::Element(name, index) => {
-            let sort = assigned_sort(scope, Role::FreeCells, increment, name)?;
+            let entity = assigned_entity(scope, Role::FreeCells, increment, name)?;
             let index = check_wanted(alloc, scope, Kind::U64, index)?;
-            Ok(element(sort, index))
+            Ok(element(entity, index))
         }
     }
 }

@@ -2,10 +2,10 @@
 use Rattle.std.proofs.Common.{◌≡◌, ℕ, zero, suc, ◌-◌, ◌+◌, ◌<◌, List, [], ◌∷◌, ◌++◌, length, get_or, slice_set, Bool, true, false, Some, None, refl, sym, ap, ◌∙◌, arith}
 use Rattle.std.specs.Prelude.{Option, IfSome, bytes_eq, ◌==◌, if◌then◌else◌}
 use Rattle.std.proofs.lemmas.Bool.{eqb-false}
-use Rattle.check_scope.specs.declared.sort.Sort.{Sort}
-use Rattle.check_scope.specs.Scopes.{Block, Scope, in_block, first_of, sort_here, declaring, IsSound, AreSound}
+use Rattle.check_scope.specs.declared.entity.Entity.{Entity}
+use Rattle.check_scope.specs.Scopes.{Block, Scope, in_block, first_of, entity_here, declaring, IsSound, AreSound}
 
-choice_sound : (b : Bool) (s : Sort) (o : Option Sort) → IsSound s → IfSome o IsSound → IfSome (if b then Some s else o) IsSound
+choice_sound : (b : Bool) (s : Entity) (o : Option Entity) → IsSound s → IfSome o IsSound → IfSome (if b then Some s else o) IsSound
 choice_sound true s o h k = h
 choice_sound false s o h k = k
 
@@ -14,35 +14,35 @@ pub sound_in : (x : List ℕ) (b : Block) → AreSound b → IfSome (in_block x 
 sound_in x [] h = tt
 sound_in x (d ∷ rest) h = choice_sound (bytes_eq d.0 x) d.1 (in_block x rest) h.0 (sound_in x rest h.1)
 
-pub sound_more : (b : Block) (x : List ℕ) (s : Sort) → AreSound b → IsSound s → AreSound (b ++ (x, s) ∷ [])
+pub sound_more : (b : Block) (x : List ℕ) (s : Entity) → AreSound b → IsSound s → AreSound (b ++ (x, s) ∷ [])
 sound_more [] x s h k = (k, tt)
 sound_more (d ∷ rest) x s h k = (h.0, sound_more rest x s h.1 k)
 
-pub first_first : (a b c : Option Sort) → first_of (first_of a b) c ≡ first_of a (first_of b c)
+pub first_first : (a b c : Option Entity) → first_of (first_of a b) c ≡ first_of a (first_of b c)
 first_first None b c = refl
 first_first (Some s) b c = refl
 
-pub first_none : (o : Option Sort) → first_of o None ≡ o
+pub first_none : (o : Option Entity) → first_of o None ≡ o
 first_none None = refl
 first_none (Some s) = refl
 
-pub declaring-last : (x : List ℕ) (s : Sort) (E : Scope) (b : Block) → declaring x s (E ++ b ∷ []) ≡ E ++ (b ++ (x, s) ∷ []) ∷ []
+pub declaring-last : (x : List ℕ) (s : Entity) (E : Scope) (b : Block) → declaring x s (E ++ b ∷ []) ≡ E ++ (b ++ (x, s) ∷ []) ∷ []
 declaring-last x s [] b = refl
 declaring-last x s (a ∷ []) b = refl
 declaring-last x s (a ∷ c ∷ rest) b = ap (λ E. a ∷ E) (declaring-last x s (c ∷ rest) b)
 
-pub declaring-set : (x : List ℕ) (s : Sort) (E : Scope) (n : ℕ) (b : Block) → n + 1 ≡ length E → b ≡ get_or E n b → declaring x s E ≡ slice_set E n (b ++ (x, s) ∷ [])
+pub declaring-set : (x : List ℕ) (s : Entity) (E : Scope) (n : ℕ) (b : Block) → n + 1 ≡ length E → b ≡ get_or E n b → declaring x s E ≡ slice_set E n (b ++ (x, s) ∷ [])
 declaring-set x s [] n b h k = absurd (omega arith)
 declaring-set x s (c ∷ []) zero b h k = ap (λ e. (e ++ (x, s) ∷ []) ∷ []) (sym k)
 declaring-set x s (c ∷ []) (suc n) b h k = absurd (omega arith)
 declaring-set x s (c ∷ d ∷ rest) zero b h k = absurd (omega arith)
 declaring-set x s (c ∷ d ∷ rest) (suc n) b h k = ap (λ E. c ∷ E) (declaring-set x s (d ∷ rest) n b (omega arith) k)
 
-pub declaring-below : (x : List ℕ) (s : Sort) (a : Block) (E : Scope) → 0 < length E → declaring x s (a ∷ E) ≡ a ∷ declaring x s E
+pub declaring-below : (x : List ℕ) (s : Entity) (a : Block) (E : Scope) → 0 < length E → declaring x s (a ∷ E) ≡ a ∷ declaring x s E
 declaring-below x s a [] h = absurd (omega arith)
 declaring-below x s a (c ∷ rest) h = refl
 
-pub here-last : (x : List ℕ) (a : Block) (E : Scope) (b : Block) (n : ℕ) → n + 1 ≡ length E → b ≡ get_or E n b → sort_here x (a ∷ E) ≡ in_block x b
+pub here-last : (x : List ℕ) (a : Block) (E : Scope) (b : Block) (n : ℕ) → n + 1 ≡ length E → b ≡ get_or E n b → entity_here x (a ∷ E) ≡ in_block x b
 here-last x a [] b n h k = absurd (omega arith)
 here-last x a (c ∷ []) b n h k =
     let z : n ≡ 0 = omega arith in

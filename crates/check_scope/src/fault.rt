@@ -12,7 +12,7 @@ pub enum CheckCode {
     C1,
     /// A name is declared twice in one block.
     C2,
-    /// A name of the wrong sort, or a wrong kind.
+    /// A name of the wrong entity, or a wrong kind.
     C3,
     /// A stream without exactly one producing instance.
     C4,

@@ -2,8 +2,8 @@ ghost use Rattle.std.specs.Prelude.{◌≡◌, ◌++◌, ◌∷◌, [], IfSome, 
 ghost use Rattle.check_scope.specs.Answers.{Answers};
 ghost use Rattle.check_scope.specs.Scopes.{IsSound, in_block};
 
+use crate::entity::Entity;
 use crate::fault::CheckFault;
-use crate::sort::Sort;
 use std::alloc::Global;
 use std::marker::Model;
 use tapa_base::Text;
@@ -12,7 +12,7 @@ use tapa_base::Text;
 #[derive(Drop)]
 struct Declared {
     name: Text,
-    sort: Sort,
+    entity: Entity,
 }
 
 /// What a block declares, in order.
@@ -30,9 +30,9 @@ impl Model for Names {
 
     ghost Value = { Block };
 
-    ghost view = { λ names. map (λ d. (d.name, d.sort)) names.declared.items };
+    ghost view = { λ names. map (λ d. (d.name, d.entity)) names.declared.items };
 
-    ghost invariant = { λ names. AreSound (map (λ d. (d.name, d.sort)) names.declared.items) };
+    ghost invariant = { λ names. AreSound (map (λ d. (d.name, d.entity)) names.declared.items) };
 }
 
 impl Names {
@@ -45,7 +45,7 @@ impl Names {
     }
 
     /// What a name is declared as.
-    pub fn get(&self, name: &Text) -> Option<Sort>
+    pub fn get(&self, name: &Text) -> Option<Entity>
         ensures value { result ≡ in_block name.now self.now }
         ensures sound { IfSome result IsSound }
     {
@@ -53,22 +53,22 @@ impl Names {
     }
 
     /// One declaration more.
-    pub fn declare(&mut self, alloc: Global, name: &Text, sort: Sort) -> Result<(), CheckFault>
-        requires { IsSound sort }
-        ensures { Answers (λ x. self.new) result [] (self.old ++ (name.now, sort) ∷ []) }
+    pub fn declare(&mut self, alloc: Global, name: &Text, entity: Entity) -> Result<(), CheckFault>
+        requires { IsSound entity }
+        ensures { Answers (λ x. self.new) result [] (self.old ++ (name.now, entity) ∷ []) }
     {
         let name = copied(alloc, name)?;
-        self.declared.push(Declared { name, sort })?;
+        self.declared.push(Declared { name, entity })?;
         Ok(())
     }
 }
 
-fn found(declared: &[Declared], name: &Text) -> Option<Sort>
-    ensures { result ≡ in_block name.now (map (λ d. (d.name, d.sort)) declared.now) }
+fn found(declared: &[Declared], name: &Text) -> Option<Entity>
+    ensures { result ≡ in_block name.now (map (λ d. (d.name, d.entity)) declared.now) }
 {
     for one in declared {
         if one.name.bytes() == name.bytes() {
-            return Some(one.sort);
+            return Some(one.entity);
         }
     }
     None

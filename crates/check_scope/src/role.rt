@@ -1,7 +1,7 @@
 ghost use Rattle.std.specs.Prelude.{◌≡◌};
 ghost use Rattle.check_scope.specs.Roles as role;
 
-use crate::sort::Sort;
+use crate::entity::Entity;
 
 /// What a name that is used must be declared as.
 #[derive(Clone, Copy, PartialEq, Eq, Debug)]
@@ -24,20 +24,20 @@ pub enum Role {
 }
 
 impl Role {
-    pub(crate) fn fits(self, sort: Sort) -> bool
-        ensures { result ≡ role.fits self sort }
+    pub(crate) fn fits(self, entity: Entity) -> bool
+        ensures { result ≡ role.fits self entity }
     {
         match self {
-            Role::Scalar => matches!(sort, Sort::Constant { .. } | Sort::Variable { .. }),
-            Role::Cells => matches!(sort, Sort::Array { .. } | Sort::Memory { .. }),
-            Role::Constant => matches!(sort, Sort::Constant { .. }),
-            Role::FreeVariable => matches!(sort, Sort::Variable { free: true, .. }),
+            Role::Scalar => matches!(entity, Entity::Constant { .. } | Entity::Variable { .. }),
+            Role::Cells => matches!(entity, Entity::Array { .. } | Entity::Memory { .. }),
+            Role::Constant => matches!(entity, Entity::Constant { .. }),
+            Role::FreeVariable => matches!(entity, Entity::Variable { free: true, .. }),
             Role::FreeCells => matches!(
-                sort,
-                Sort::Array { free: true, .. } | Sort::Memory { free: true, .. }
+                entity,
+                Entity::Array { free: true, .. } | Entity::Memory { free: true, .. }
             ),
-            Role::Input => matches!(sort, Sort::Stream { writes: false, .. }),
-            Role::Output => matches!(sort, Sort::Stream { writes: true, .. }),
+            Role::Input => matches!(entity, Entity::Stream { writes: false, .. }),
+            Role::Output => matches!(entity, Entity::Stream { writes: true, .. }),
             Role::Nothing => false,
         }
     }

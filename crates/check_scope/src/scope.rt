@@ -5,10 +5,10 @@ ghost use Rattle.check_scope.specs.Roles.{fits};
 ghost use Rattle.check_scope.specs.Scopes as scope;
 ghost use Rattle.check_scope.specs.Scopes.{Block, IsSound, Scope as Blocks};
 
+use crate::entity::Entity;
 use crate::fault::{CheckCode, CheckFault, refused};
 use crate::names::Names;
 use crate::role::Role;
-use crate::sort::Sort;
 use std::alloc::Global;
 use std::marker::Model;
 use tapa_base::Text;
@@ -62,30 +62,30 @@ impl<'a> Scope<'a> {
     }
 
     /// What the innermost block declares a name as.
-    fn sort_here(&self, name: &Text) -> Option<Sort>
-        ensures { result ≡ scope.sort_here name.now self.now }
+    fn entity_here(&self, name: &Text) -> Option<Entity>
+        ensures { result ≡ scope.entity_here name.now self.now }
     {
-        sort_in_last(self.file, &self.blocks, name)
+        entity_in_last(self.file, &self.blocks, name)
     }
 
     /// What a name means.
-    pub fn sort(&self, name: &Text) -> Option<Sort>
-        ensures value { result ≡ scope.sort_of name.now self.now }
+    pub fn entity(&self, name: &Text) -> Option<Entity>
+        ensures value { result ≡ scope.entity_of name.now self.now }
         ensures sound { IfSome result IsSound }
     {
         match innermost(&self.blocks, name) {
-            Some(sort) => Some(sort),
+            Some(entity) => Some(entity),
             None => self.file.get(name),
         }
     }
 
     /// What a name that has a role is declared as.
-    pub fn named(&self, role: Role, name: &Name) -> Result<Sort, CheckFault>
-        ensures value { Answers (λ sort. Some sort) result (faults.name_faults self.now (fits role) name.now) (scope.sort_of name.now.text self.now) }
+    pub fn named(&self, role: Role, name: &Name) -> Result<Entity, CheckFault>
+        ensures value { Answers (λ entity. Some entity) result (faults.name_faults self.now (fits role) name.now) (scope.entity_of name.now.text self.now) }
         ensures sound { IfOk result IsSound }
     {
-        match self.sort(&name.text) {
-            Some(sort) if role.fits(sort) => Ok(sort),
+        match self.entity(&name.text) {
+            Some(entity) if role.fits(entity) => Ok(entity),
             Some(_) => Err(refused(CheckCode::C3, name.place)),
             None => Err(refused(CheckCode::C1, name.place)),
         }
@@ -95,20 +95,20 @@ impl<'a> Scope<'a> {
     pub fn check_new(&self, name: &Name) -> Result<(), CheckFault>
         ensures { Answers (λ x. x) result (faults.doubled self.now name.now) tt }
     {
-        match self.sort_here(&name.text) {
+        match self.entity_here(&name.text) {
             Some(_) => Err(refused(CheckCode::C2, name.place)),
             None => Ok(()),
         }
     }
 
     /// One declaration more in the innermost block.
-    pub fn declare(&mut self, alloc: Global, name: &Text, sort: Sort) -> Result<(), CheckFault>
+    pub fn declare(&mut self, alloc: Global, name: &Text, entity: Entity) -> Result<(), CheckFault>
         requires some { 1 < length self.old }
-        requires sound { IsSound sort }
+        requires sound { IsSound entity }
         ensures count { length self.new ≡ length self.old }
-        ensures value { Answers (λ x. self.new) result [] (scope.declaring name.now sort self.old) }
+        ensures value { Answers (λ x. self.new) result [] (scope.declaring name.now entity self.old) }
     {
-        declare_in_last(alloc, &mut self.blocks, name, sort)
+        declare_in_last(alloc, &mut self.blocks, name, entity)
     }
 }
 
@@ -116,34 +116,34 @@ fn declare_in_last(
     alloc: Global,
     blocks: &mut [Names],
     name: &Text,
-    sort: Sort,
+    entity: Entity,
 ) -> Result<(), CheckFault>
     requires some { 0 < length blocks.old }
-    requires sound { IsSound sort }
+    requires sound { IsSound entity }
     ensures count { length blocks.new ≡ length blocks.old }
-    ensures value { Answers (λ x. blocks.new) result [] (scope.declaring name.now sort blocks.old) }
+    ensures value { Answers (λ x. blocks.new) result [] (scope.declaring name.now entity blocks.old) }
 {
     let last = blocks.len() - 1;
     let block = &mut blocks[last];
-    block.declare(alloc, name, sort)?;
+    block.declare(alloc, name, entity)?;
     Ok(())
 }
 
-fn innermost(blocks: &[Names], name: &Text) -> Option<Sort>
-    ensures value { result ≡ scope.sort_of name.now blocks.now }
+fn innermost(blocks: &[Names], name: &Text) -> Option<Entity>
+    ensures value { result ≡ scope.entity_of name.now blocks.now }
     ensures sound { IfSome result IsSound }
 {
     let mut found = None;
     for block in blocks {
-        if let Some(sort) = block.get(name) {
-            found = Some(sort);
+        if let Some(entity) = block.get(name) {
+            found = Some(entity);
         }
     }
     found
 }
 
-fn sort_in_last(file: &Names, blocks: &[Names], name: &Text) -> Option<Sort>
-    ensures { result ≡ scope.sort_here name.now (file.now ∷ blocks.now) }
+fn entity_in_last(file: &Names, blocks: &[Names], name: &Text) -> Option<Entity>
+    ensures { result ≡ scope.entity_here name.now (file.now ∷ blocks.now) }
 {
     if blocks.is_empty() {
         file.get(name)

@@ -3,7 +3,7 @@ use Rattle.std.specs.Prelude.{List, [], ◌∷◌, ◌++◌}
 use Rattle.tapa_syntax.specs.Trees as tree
 use Rattle.tapa_syntax.specs.Trees.{ExpressionTree, BodyTree, TaskTree, ItemTree}
 use Rattle.check_scope.specs.declared.fault.Broken.{Broken}
-use Rattle.check_scope.specs.declared.sort.Sort.TheVariants as sort
+use Rattle.check_scope.specs.declared.entity.Entity.TheVariants as entity
 use Rattle.check_scope.specs.Scopes.{Block}
 use Rattle.check_expression.specs.Expressions.{wanted, constant_value, constant_faults}
 use Rattle.check_scope.specs.Faults.{doubled}
@@ -17,7 +17,7 @@ pub record Items : Type 0 where
   pub tasks : List Task
 
 abbrev pub with_task : Block → TaskTree → Block
-with_task block t = block ++ (t.name.text, sort.Task) ∷ []
+with_task block t = block ++ (t.name.text, entity.Task) ∷ []
 
 abbrev pub body_of : Block → List Task → TaskTree → BodyTree → Body
 body_of block tasks t (tree.leaf ss) = leaf_body (leaf_of block t ss)
@@ -35,7 +35,7 @@ abbrev pub task_faults : Items → TaskTree → List Broken
 task_faults f t = doubled (f.block ∷ []) t.name ++ body_faults (with_task f.block t) f.tasks t t.body
 
 abbrev pub after_item : Items → ItemTree → Items
-after_item f (tree.constant attributes k x e) = record { block = f.block ++ (x.text, sort.Constant k (constant_value (wanted (f.block ∷ []) k e))) ∷ []; tasks = f.tasks }
+after_item f (tree.constant attributes k x e) = record { block = f.block ++ (x.text, entity.Constant k (constant_value (wanted (f.block ∷ []) k e))) ∷ []; tasks = f.tasks }
 after_item f (tree.task t) = after_task f t
 
 abbrev pub item_faults : Items → ItemTree → List Broken

@@ -6,7 +6,7 @@ use Rattle.tapa_syntax.specs.declared.tree.Parameter.{Parameter}
 use Rattle.tapa_syntax.specs.Trees.{TaskTree}
 use Rattle.tapa_syntax.specs.Flat.{FlatLeaf}
 use Rattle.check_upper.specs.declared.task.Channel.{Channel}
-use Rattle.check_upper.specs.declared.task.Link.{Link}
+use Rattle.check_upper.specs.declared.task.Binding.{Binding}
 
 pub record Invocation : Type 0 where
   -- where the task is named
@@ -14,7 +14,7 @@ pub record Invocation : Type 0 where
   -- its number among the tasks of the file
   pub task : ℕ
   -- what the arguments are, in the order of its parameters
-  pub links : List Link
+  pub bindings : List Binding
 
 pub data Body : Type 0 where
   leaf_body : FlatLeaf → Body

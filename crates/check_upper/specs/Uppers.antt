@@ -11,16 +11,16 @@ use Rattle.tapa_syntax.specs.Trees.{ExpressionTree, CountTree, StreamTree, Argum
 use Rattle.tapa_syntax.specs.Flat.{literal}
 use Rattle.check_scope.specs.declared.fault.Broken.{Broken}
 use Rattle.check_scope.specs.declared.fault.CheckCode.TheVariants.{C3, C10}
-use Rattle.check_scope.specs.declared.sort.Sort.{Sort}
-use Rattle.check_scope.specs.declared.sort.Sort.TheVariants as sort
+use Rattle.check_scope.specs.declared.entity.Entity.{Entity}
+use Rattle.check_scope.specs.declared.entity.Entity.TheVariants as entity
 use Rattle.check_expression.specs.Kinds.{same_kind}
-use Rattle.check_scope.specs.Scopes.{Block, Scope, sort_of, declaring}
-use Rattle.check_scope.specs.Faults.{fault, where_so, wrong_sort, doubled}
+use Rattle.check_scope.specs.Scopes.{Block, Scope, entity_of, declaring}
+use Rattle.check_scope.specs.Faults.{fault, where_so, wrong_entity, doubled}
 use Rattle.check_expression.specs.Expressions.{is_constant, constant_faults, constant_value, as_kind, wanted}
 use Rattle.check_expression.specs.Counts.{count_of, count_faults}
 use Rattle.check_upper.specs.declared.task.Channel.{Channel}
-use Rattle.check_upper.specs.declared.task.Link.{Link}
-use Rattle.check_upper.specs.declared.task.Link.TheVariants.{OwnStream, StreamParameter, MemoryParameter, ScalarParameter, Constant}
+use Rattle.check_upper.specs.declared.task.Binding.{Binding}
+use Rattle.check_upper.specs.declared.task.Binding.TheVariants.{OwnStream, StreamParameter, MemoryParameter, ScalarParameter, Constant}
 use Rattle.check_upper.specs.Tasks.{Invocation, Body, upper_body, Task, task_place, parameters_of}
 
 -- ---- parameters and streams, which are in one block
@@ -45,13 +45,13 @@ pub record Signature : Type 0 where
   pub scalars : ℕ
 
 abbrev pub with_stream : Bool → Kind → Name → Signature → Signature
-with_stream writes k x h = record { scope = declaring x.text (sort.Stream writes k h.streams) h.scope; streams = h.streams + 1; memories = h.memories; scalars = h.scalars }
+with_stream writes k x h = record { scope = declaring x.text (entity.Stream writes k h.streams) h.scope; streams = h.streams + 1; memories = h.memories; scalars = h.scalars }
 
 abbrev pub with_memory : Bool → Kind → Name → Signature → Signature
-with_memory free k x h = record { scope = declaring x.text (sort.Memory free k h.memories) h.scope; streams = h.streams; memories = h.memories + 1; scalars = h.scalars }
+with_memory free k x h = record { scope = declaring x.text (entity.Memory free k h.memories) h.scope; streams = h.streams; memories = h.memories + 1; scalars = h.scalars }
 
 abbrev pub with_scalar : Bool → Kind → Name → Signature → Signature
-with_scalar free k x h = record { scope = declaring x.text (sort.Variable free k h.scalars) h.scope; streams = h.streams; memories = h.memories; scalars = h.scalars + 1 }
+with_scalar free k x h = record { scope = declaring x.text (entity.Variable free k h.scalars) h.scope; streams = h.streams; memories = h.memories; scalars = h.scalars + 1 }
 
 abbrev pub after_parameter : Signature → Parameter → Signature
 after_parameter h (parameter.InputStream k x) = with_stream false k x h
@@ -78,7 +78,7 @@ pub record Channels : Type 0 where
 
 abbrev pub with_channel : Kind → ℕ → Channels → Name → Channels
 with_channel k depth c x = record {
-  scope = declaring x.text (sort.Channel k (length c.streams)) c.scope;
+  scope = declaring x.text (entity.Channel k (length c.streams)) c.scope;
   streams = c.streams ++ record { name = x.text; place = x.place; kind = k; depth = depth } ∷ [];
 }
 
@@ -117,22 +117,22 @@ streams_faults c (s ∷ rest) = stream_faults c s ++ streams_faults (after_strea
 
 -- what a name means may be bound to a parameter: a stream of its kind and direction, a memory of its kind that may be
 -- stored to where the parameter may, or a scalar
-abbrev pub is_bound_to_stream : Bool → Kind → Sort → Bool
-is_bound_to_stream writes k (sort.Channel j n) = same_kind j k
-is_bound_to_stream writes k (sort.Stream true j n) = writes && same_kind j k
-is_bound_to_stream writes k (sort.Stream false j n) = not writes && same_kind j k
+abbrev pub is_bound_to_stream : Bool → Kind → Entity → Bool
+is_bound_to_stream writes k (entity.Channel j n) = same_kind j k
+is_bound_to_stream writes k (entity.Stream true j n) = writes && same_kind j k
+is_bound_to_stream writes k (entity.Stream false j n) = not writes && same_kind j k
 is_bound_to_stream writes k s = false
 
-abbrev pub is_bound_to_memory : Bool → Kind → Sort → Bool
-is_bound_to_memory constant k (sort.Memory free j n) = same_kind j k && (constant || free)
+abbrev pub is_bound_to_memory : Bool → Kind → Entity → Bool
+is_bound_to_memory constant k (entity.Memory free j n) = same_kind j k && (constant || free)
 is_bound_to_memory constant k s = false
 
-abbrev pub is_bound_to_scalar : Sort → Bool
-is_bound_to_scalar (sort.Variable free j n) = true
-is_bound_to_scalar (sort.Constant j n) = true
+abbrev pub is_bound_to_scalar : Entity → Bool
+is_bound_to_scalar (entity.Variable free j n) = true
+is_bound_to_scalar (entity.Constant j n) = true
 is_bound_to_scalar s = false
 
-abbrev pub is_bound_to : Parameter → Sort → Bool
+abbrev pub is_bound_to : Parameter → Entity → Bool
 is_bound_to (parameter.InputStream k x) = is_bound_to_stream false k
 is_bound_to (parameter.OutputStream k x) = is_bound_to_stream true k
 is_bound_to (parameter.Memory constant k x) = is_bound_to_memory constant k
@@ -147,34 +147,34 @@ abbrev pub constant_argument_faults : Scope → Parameter → Place → Expressi
 constant_argument_faults E p at e = where_so (is_constant E e && not (is_scalar_parameter p)) (fault C3 at) ++ constant_faults E e
 
 abbrev pub argument_faults : Scope → Parameter → Place → ExpressionTree → List Broken
-argument_faults E p at (tree.variable x) = wrong_sort (is_bound_to p) x.place (sort_of x.text E)
+argument_faults E p at (tree.variable x) = wrong_entity (is_bound_to p) x.place (entity_of x.text E)
 argument_faults E p at e = constant_argument_faults E p at e
 
 -- what a name is for a parameter of this kind
-abbrev pub named_link : Kind → Option Sort → Link
-named_link k (Some (sort.Channel j n)) = OwnStream n
-named_link k (Some (sort.Stream writes j n)) = StreamParameter n
-named_link k (Some (sort.Memory free j n)) = MemoryParameter n
-named_link k (Some (sort.Variable free j n)) = ScalarParameter n j k
-named_link k (Some (sort.Constant j n)) = Constant (constant_value (as_kind j k (literal j n)))
-named_link k s = Constant 0
+abbrev pub named_binding : Kind → Option Entity → Binding
+named_binding k (Some (entity.Channel j n)) = OwnStream n
+named_binding k (Some (entity.Stream writes j n)) = StreamParameter n
+named_binding k (Some (entity.Memory free j n)) = MemoryParameter n
+named_binding k (Some (entity.Variable free j n)) = ScalarParameter n j k
+named_binding k (Some (entity.Constant j n)) = Constant (constant_value (as_kind j k (literal j n)))
+named_binding k s = Constant 0
 
-abbrev pub constant_link : Scope → Kind → ExpressionTree → Link
-constant_link E k e = Constant (constant_value (wanted E k e))
+abbrev pub constant_binding : Scope → Kind → ExpressionTree → Binding
+constant_binding E k e = Constant (constant_value (wanted E k e))
 
-abbrev pub link_of : Scope → Kind → ExpressionTree → Link
-link_of E k (tree.variable x) = named_link k (sort_of x.text E)
-link_of E k e = constant_link E k e
+abbrev pub binding_of : Scope → Kind → ExpressionTree → Binding
+binding_of E k (tree.variable x) = named_binding k (entity_of x.text E)
+binding_of E k e = constant_binding E k e
 
 abbrev pub arguments_faults : Scope → List Parameter → List ArgumentTree → List Broken
 arguments_faults E [] arguments = []
 arguments_faults E (p ∷ rest) [] = []
 arguments_faults E (p ∷ rest) (a ∷ arguments) = argument_faults E p a.place a.value ++ arguments_faults E rest arguments
 
-abbrev pub links_of : Scope → List Parameter → List ArgumentTree → List Link
-links_of E [] arguments = []
-links_of E (p ∷ rest) [] = []
-links_of E (p ∷ rest) (a ∷ arguments) = link_of E (parameter_kind p) a.value ∷ links_of E rest arguments
+abbrev pub bindings_of : Scope → List Parameter → List ArgumentTree → List Binding
+bindings_of E [] arguments = []
+bindings_of E (p ∷ rest) [] = []
+bindings_of E (p ∷ rest) (a ∷ arguments) = binding_of E (parameter_kind p) a.value ∷ bindings_of E rest arguments
 
 -- ---- invocations
 
@@ -183,8 +183,8 @@ abbrev pub mode_faults : Option Name → List Broken
 mode_faults None = []
 mode_faults (Some mode) = where_so (not (bytes_eq mode.text (codes "join"))) (fault C3 mode.place)
 
-abbrev pub is_task : Sort → Bool
-is_task sort.Task = true
+abbrev pub is_task : Entity → Bool
+is_task entity.Task = true
 is_task s = false
 
 -- the parameters of the task of this name: the invoking task itself, or one before it
@@ -199,13 +199,13 @@ callee_faults E parameters is_self i =
 abbrev pub invocation_faults : Scope → List Task → TaskTree → InvocationTree → List Broken
 invocation_faults E tasks self i =
     mode_faults i.mode
-    ++ (wrong_sort is_task i.task.place (sort_of i.task.text E) ++ callee_faults E (invoked_parameters tasks self i.task.text) (bytes_eq i.task.text self.name.text) i)
+    ++ (wrong_entity is_task i.task.place (entity_of i.task.text E) ++ callee_faults E (invoked_parameters tasks self i.task.text) (bytes_eq i.task.text self.name.text) i)
 
 abbrev pub invocation_of : Scope → List Task → TaskTree → InvocationTree → Invocation
 invocation_of E tasks self i = record {
   place = i.task.place;
   task = task_place 0 i.task.text tasks;
-  links = links_of E (invoked_parameters tasks self i.task.text) i.arguments;
+  bindings = bindings_of E (invoked_parameters tasks self i.task.text) i.arguments;
 }
 
 abbrev pub invocations_faults : Scope → List Task → TaskTree → List InvocationTree → List Broken

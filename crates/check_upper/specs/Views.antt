@@ -11,7 +11,7 @@ use Rattle.check_upper.specs.Tasks as task
 use Rattle.check_upper.specs.Items.{Items}
 
 abbrev pub invocation_view : Invoked → task.Invocation
-invocation_view i = record { place = i.place; task = i.task; links = i.links.items }
+invocation_view i = record { place = i.place; task = i.task; bindings = i.bindings.items }
 
 abbrev pub body_view : Body → task.Body
 body_view (Leaf l) = task.leaf_body (flat_leaf l)

@@ -1,13 +1,13 @@
 ghost use Rattle.std.specs.Prelude.{◌≡◌, Some, map};
 ghost use Rattle.tapa_syntax.specs.Trees as tree;
 ghost use Rattle.check_scope.specs.Answers.{Answers};
-ghost use Rattle.check_scope.specs.Faults.{wrong_sort};
-ghost use Rattle.check_scope.specs.Scopes.{IsSound, sort_of};
+ghost use Rattle.check_scope.specs.Faults.{wrong_entity};
+ghost use Rattle.check_scope.specs.Scopes.{IsSound, entity_of};
 ghost use Rattle.check_upper.specs.Uppers as upper;
 
-use crate::task::Link;
+use crate::task::Binding;
 use check_expression::{Constant, converted, evaluated, known, same_kind};
-use check_scope::{CheckCode, CheckFault, Scope, Sort, refused};
+use check_scope::{CheckCode, CheckFault, Entity, Scope, refused};
 use std::alloc::Global;
 use tapa_base::{Kind, Place};
 use tapa_syntax::{Expression, InvocationArgument, Name, Parameter};
@@ -29,17 +29,17 @@ fn is_scalar(parameter: &Parameter) -> bool
     matches!(parameter, Parameter::Scalar { .. })
 }
 
-fn is_bound_to_stream(writes: bool, kind: Kind, sort: Sort) -> bool
-    ensures { result ≡ upper.is_bound_to_stream writes kind sort }
+fn is_bound_to_stream(writes: bool, kind: Kind, entity: Entity) -> bool
+    ensures { result ≡ upper.is_bound_to_stream writes kind entity }
 {
-    match sort {
-        Sort::Channel { kind: given, .. } => same_kind(given, kind),
-        Sort::Stream {
+    match entity {
+        Entity::Channel { kind: given, .. } => same_kind(given, kind),
+        Entity::Stream {
             writes: true,
             kind: given,
             ..
         } => writes && same_kind(given, kind),
-        Sort::Stream {
+        Entity::Stream {
             writes: false,
             kind: given,
             ..
@@ -48,11 +48,11 @@ fn is_bound_to_stream(writes: bool, kind: Kind, sort: Sort) -> bool
     }
 }
 
-fn is_bound_to_memory(constant: bool, kind: Kind, sort: Sort) -> bool
-    ensures { result ≡ upper.is_bound_to_memory constant kind sort }
+fn is_bound_to_memory(constant: bool, kind: Kind, entity: Entity) -> bool
+    ensures { result ≡ upper.is_bound_to_memory constant kind entity }
 {
-    match sort {
-        Sort::Memory {
+    match entity {
+        Entity::Memory {
             free,
             kind: given,
             ..
@@ -61,48 +61,54 @@ fn is_bound_to_memory(constant: bool, kind: Kind, sort: Sort) -> bool
     }
 }
 
-/// Whether a name of this sort may be bound to the parameter.
-fn is_bound_to(parameter: &Parameter, sort: Sort) -> bool
-    ensures { result ≡ upper.is_bound_to parameter.now sort }
+/// Whether a name of this entity may be bound to the parameter.
+fn is_bound_to(parameter: &Parameter, entity: Entity) -> bool
+    ensures { result ≡ upper.is_bound_to parameter.now entity }
 {
     match parameter {
-        Parameter::InputStream(kind, _) => is_bound_to_stream(false, *kind, sort),
-        Parameter::OutputStream(kind, _) => is_bound_to_stream(true, *kind, sort),
-        Parameter::Memory { constant, kind, .. } => is_bound_to_memory(*constant, *kind, sort),
-        Parameter::Scalar { .. } => matches!(sort, Sort::Variable { .. } | Sort::Constant { .. }),
+        Parameter::InputStream(kind, _) => is_bound_to_stream(false, *kind, entity),
+        Parameter::OutputStream(kind, _) => is_bound_to_stream(true, *kind, entity),
+        Parameter::Memory { constant, kind, .. } => is_bound_to_memory(*constant, *kind, entity),
+        Parameter::Scalar { .. } => matches!(
+            entity,
+            Entity::Variable { .. } | Entity::Constant { .. }
+        ),
     }
 }
 
-/// What a name of this sort is for a parameter of this kind.
-fn named_link(kind: Kind, sort: Sort) -> Link
-    requires { IsSound sort }
-    ensures { result ≡ upper.named_link kind (Some sort) }
+/// What a name of this entity is for a parameter of this kind.
+fn named_binding(kind: Kind, entity: Entity) -> Binding
+    requires { IsSound entity }
+    ensures { result ≡ upper.named_binding kind (Some entity) }
 {
-    match sort {
-        Sort::Channel { number, .. } => Link::OwnStream(number),
-        Sort::Stream { number, .. } => Link::StreamParameter(number),
-        Sort::Memory { number, .. } => Link::MemoryParameter(number),
-        Sort::Variable {
+    match entity {
+        Entity::Channel { number, .. } => Binding::OwnStream(number),
+        Entity::Stream { number, .. } => Binding::StreamParameter(number),
+        Entity::Memory { number, .. } => Binding::MemoryParameter(number),
+        Entity::Variable {
             kind: from,
             number,
             ..
-        } => Link::ScalarParameter {
+        } => Binding::ScalarParameter {
             number,
             from,
             to: kind,
         },
-        Sort::Constant { kind: from, value } => {
-            Link::Constant(converted(Constant { kind: from, value }, kind))
+        Entity::Constant { kind: from, value } => {
+            Binding::Constant(converted(Constant { kind: from, value }, kind))
         }
-        _ => Link::Constant(0),
+        _ => Binding::Constant(0),
     }
 }
 
-fn name_argument(scope: &Scope, parameter: &Parameter, name: &Name) -> Result<Link, CheckFault>
-    ensures { Answers (λ link. link) result (wrong_sort (upper.is_bound_to parameter.now) name.now.place (sort_of name.now.text scope.now)) (upper.named_link (upper.parameter_kind parameter.now) (sort_of name.now.text scope.now)) }
+fn name_argument(scope: &Scope, parameter: &Parameter, name: &Name) -> Result<Binding, CheckFault>
+    ensures { Answers (λ binding. binding) result (wrong_entity (upper.is_bound_to parameter.now) name.now.place (entity_of name.now.text scope.now)) (upper.named_binding (upper.parameter_kind parameter.now) (entity_of name.now.text scope.now)) }
 {
-    match scope.sort(&name.text) {
-        Some(sort) if is_bound_to(parameter, sort) => Ok(named_link(kind_of(parameter), sort)),
+    match scope.entity(&name.text) {
+        Some(entity) if is_bound_to(parameter, entity) => Ok(named_binding(
+            kind_of(parameter),
+            entity,
+        )),
         Some(_) => Err(refused(CheckCode::C3, name.place)),
         None => Err(refused(CheckCode::C1, name.place)),
     }
@@ -114,22 +120,22 @@ fn constant_argument(
     parameter: &Parameter,
     place: Place,
     value: &Expression,
-) -> Result<Link, CheckFault>
-    ensures { Answers (λ link. link) result (upper.constant_argument_faults scope.now parameter.now place (tree.expression value.now)) (upper.constant_link scope.now (upper.parameter_kind parameter.now) (tree.expression value.now)) }
+) -> Result<Binding, CheckFault>
+    ensures { Answers (λ binding. binding) result (upper.constant_argument_faults scope.now parameter.now place (tree.expression value.now)) (upper.constant_binding scope.now (upper.parameter_kind parameter.now) (tree.expression value.now)) }
 {
     if !is_scalar(parameter) && evaluated(scope, value).is_some() {
         return Err(refused(CheckCode::C3, place));
     }
     let constant = known(scope, value)?;
-    Ok(Link::Constant(converted(constant, kind_of(parameter))))
+    Ok(Binding::Constant(converted(constant, kind_of(parameter))))
 }
 
 fn argument(
     scope: &Scope,
     parameter: &Parameter,
     argument: &InvocationArgument,
-) -> Result<Link, CheckFault>
-    ensures { Answers (λ link. link) result (upper.argument_faults scope.now parameter.now argument.now.place (tree.expression argument.now.value)) (upper.link_of scope.now (upper.parameter_kind parameter.now) (tree.expression argument.now.value)) }
+) -> Result<Binding, CheckFault>
+    ensures { Answers (λ binding. binding) result (upper.argument_faults scope.now parameter.now argument.now.place (tree.expression argument.now.value)) (upper.binding_of scope.now (upper.parameter_kind parameter.now) (tree.expression argument.now.value)) }
 {
     match &argument.value {
         Expression::Variable(name) => name_argument(scope, parameter, name),
@@ -143,16 +149,16 @@ pub(crate) fn arguments(
     scope: &Scope,
     parameters: &[Parameter],
     arguments: &[InvocationArgument],
-) -> Result<Vec<Link>, CheckFault>
-    ensures { Answers (λ links. links.items) result (upper.arguments_faults scope.now parameters.now (map tree.argument_of arguments.now)) (upper.links_of scope.now parameters.now (map tree.argument_of arguments.now)) }
+) -> Result<Vec<Binding>, CheckFault>
+    ensures { Answers (λ bindings. bindings.items) result (upper.arguments_faults scope.now parameters.now (map tree.argument_of arguments.now)) (upper.bindings_of scope.now parameters.now (map tree.argument_of arguments.now)) }
 {
-    let mut links = Vec::new(alloc);
+    let mut bindings = Vec::new(alloc);
     for (position, parameter) in parameters.iter().enumerate() {
         if position >= arguments.len() {
-            return Ok(links);
+            return Ok(bindings);
         }
-        let link = argument(scope, parameter, &arguments[position])?;
-        links.push(link)?;
+        let binding = argument(scope, parameter, &arguments[position])?;
+        bindings.push(binding)?;
     }
-    Ok(links)
+    Ok(bindings)
 }

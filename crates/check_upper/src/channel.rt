@@ -7,7 +7,7 @@ ghost use Rattle.check_upper.specs.Uppers as upper;
 
 use crate::task::Channel;
 use check_expression::count_in;
-use check_scope::{CheckFault, Scope, Sort, copied, number_of};
+use check_scope::{CheckFault, Entity, Scope, copied, number_of};
 use std::alloc::Global;
 use tapa_base::Kind;
 use tapa_syntax::{Count, Name, StreamDeclaration};
@@ -46,7 +46,7 @@ impl<'a> Channels<'a> {
         self.scope.check_new(name)?;
         let number = number_of(self.streams.len())?;
         self.scope
-            .declare(alloc, &name.text, Sort::Channel { kind, number })?;
+            .declare(alloc, &name.text, Entity::Channel { kind, number })?;
         self.streams.push(Channel {
             name: copied(alloc, &name.text)?,
             place: name.place,

@@ -1,8 +1,8 @@
 ghost use Rattle.std.specs.Prelude.{◌≡◌, bytes_eq, map, slice_get};
 ghost use Rattle.tapa_syntax.specs.Trees as tree;
 ghost use Rattle.check_scope.specs.Answers.{Answers};
-ghost use Rattle.check_scope.specs.Faults.{wrong_sort};
-ghost use Rattle.check_scope.specs.Scopes.{sort_of};
+ghost use Rattle.check_scope.specs.Faults.{wrong_entity};
+ghost use Rattle.check_scope.specs.Scopes.{entity_of};
 ghost use Rattle.check_upper.specs.Tasks as spec;
 ghost use Rattle.check_upper.specs.Uppers as upper;
 ghost use Rattle.check_upper.specs.Views.{body_view, invocation_view, task_view};
@@ -10,8 +10,8 @@ ghost use Rattle.check_upper.specs.Views.{body_view, invocation_view, task_view}
 use crate::argument::arguments;
 use crate::channel::Channels;
 use crate::parameter::scope_of;
-use crate::task::{Body, Invoked, Link, Task};
-use check_scope::{CheckCode, CheckFault, FileNames, Scope, Sort, refused};
+use crate::task::{Binding, Body, Invoked, Task};
+use check_scope::{CheckCode, CheckFault, Entity, FileNames, Scope, refused};
 use std::alloc::Global;
 use tapa_base::Text;
 use tapa_syntax::{Invocation, Name, Parameter, StreamDeclaration, TaskDeclaration};
@@ -31,10 +31,10 @@ fn check_mode(mode: &Option<Name>) -> Result<(), CheckFault>
 }
 
 fn check_is_task(scope: &Scope, name: &Name) -> Result<(), CheckFault>
-    ensures { Answers (λ x. x) result (wrong_sort upper.is_task name.now.place (sort_of name.now.text scope.now)) tt }
+    ensures { Answers (λ x. x) result (wrong_entity upper.is_task name.now.place (entity_of name.now.text scope.now)) tt }
 {
-    match scope.sort(&name.text) {
-        Some(Sort::Task) => Ok(()),
+    match scope.entity(&name.text) {
+        Some(Entity::Task) => Ok(()),
         Some(_) => Err(refused(CheckCode::C3, name.place)),
         None => Err(refused(CheckCode::C1, name.place)),
     }
@@ -62,14 +62,14 @@ fn parameters_at<'t>(tasks: &'t [Task], place: usize) -> &'t [Parameter]
 }
 
 /// As many arguments as parameters, each fit for its parameter, and not of the task itself.
-fn links_of(
+fn bindings_of(
     alloc: Global,
     scope: &Scope,
     parameters: &[Parameter],
     is_self: bool,
     invocation: &Invocation,
-) -> Result<Vec<Link>, CheckFault>
-    ensures { Answers (λ links. links.items) result (upper.callee_faults scope.now parameters.now is_self (tree.invocation_of invocation.now)) (upper.links_of scope.now parameters.now (map tree.argument_of invocation.now.arguments.items)) }
+) -> Result<Vec<Binding>, CheckFault>
+    ensures { Answers (λ bindings. bindings.items) result (upper.callee_faults scope.now parameters.now is_self (tree.invocation_of invocation.now)) (upper.bindings_of scope.now parameters.now (map tree.argument_of invocation.now.arguments.items)) }
 {
     let place = invocation.task.place;
     if parameters.len() != invocation.arguments.len() {
@@ -103,7 +103,7 @@ fn invocation(
     Ok(Invoked {
         place: invocation.task.place,
         task,
-        links: links_of(alloc, scope, parameters, is_self, invocation)?,
+        bindings: bindings_of(alloc, scope, parameters, is_self, invocation)?,
     })
 }
 

@@ -8,7 +8,7 @@ use crate::invocation::check_upper;
 use crate::task::{Body, Task};
 use check_expression::check_constant;
 use check_leaf::check_leaf;
-use check_scope::{CheckFault, FileNames, Scope, Sort};
+use check_scope::{CheckFault, Entity, FileNames, Scope};
 use std::alloc::Global;
 use tapa_syntax::{FileItem, TaskBody, TaskDeclaration};
 
@@ -41,7 +41,7 @@ fn check_task<'a>(
     ensures { Answers (λ x. items_view file.new tasks.new.items) result (items.task_faults (items_view file.old tasks.old.items) (tree.task_of task.now)) (items.after_task (items_view file.old tasks.old.items) (tree.task_of task.now)) }
 {
     Scope::new(alloc, file).check_new(&task.name)?;
-    file.declare(alloc, &task.name.text, Sort::Task)?;
+    file.declare(alloc, &task.name.text, Entity::Task)?;
     let body = check_body(alloc, file, tasks, task)?;
     tasks.push(Task {
         declared: task,
@@ -66,7 +66,7 @@ fn check_item<'a>(
             ..
         } => {
             let value = check_constant(alloc, file, *kind, name, value)?;
-            file.declare(alloc, &name.text, Sort::Constant { kind: *kind, value })
+            file.declare(alloc, &name.text, Entity::Constant { kind: *kind, value })
         }
         FileItem::Task(task) => check_task(alloc, file, tasks, task),
     }

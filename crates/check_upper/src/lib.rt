@@ -9,4 +9,4 @@ mod parameter;
 mod task;
 
 pub use item::check_items;
-pub use task::{Body, Channel, Invoked, Link, Task};
+pub use task::{Binding, Body, Channel, Invoked, Task};

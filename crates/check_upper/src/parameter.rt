@@ -5,7 +5,7 @@ ghost use Rattle.check_scope.specs.Scopes.{IsSound, declaring};
 ghost use Rattle.check_upper.specs.Signatures.{signature_of};
 ghost use Rattle.check_upper.specs.Uppers as upper;
 
-use check_scope::{CheckFault, FileNames, Scope, Sort, next_number};
+use check_scope::{CheckFault, Entity, FileNames, Scope, next_number};
 use std::alloc::Global;
 use tapa_base::Kind;
 use tapa_syntax::{Name, Parameter};
@@ -20,14 +20,14 @@ pub(crate) struct Signature<'a> {
 }
 
 /// One declaration more in a block of a task.
-fn declare(alloc: Global, scope: &mut Scope, name: &Name, sort: Sort) -> Result<(), CheckFault>
+fn declare(alloc: Global, scope: &mut Scope, name: &Name, entity: Entity) -> Result<(), CheckFault>
     requires some { 1 < length scope.old }
-    requires sound { IsSound sort }
+    requires sound { IsSound entity }
     ensures count { length scope.new ≡ length scope.old }
-    ensures value { Answers (λ x. scope.new) result (doubled scope.old name.now) (declaring name.now.text sort scope.old) }
+    ensures value { Answers (λ x. scope.new) result (doubled scope.old name.now) (declaring name.now.text entity scope.old) }
 {
     scope.check_new(name)?;
-    scope.declare(alloc, &name.text, sort)
+    scope.declare(alloc, &name.text, entity)
 }
 
 impl<'a> Signature<'a> {
@@ -57,12 +57,12 @@ impl<'a> Signature<'a> {
         ensures value { Answers (λ x. signature_of self.new) result (doubled self.old.scope name.now) (upper.with_stream writes kind name.now (signature_of self.old)) }
     {
         let number = self.streams;
-        let sort = Sort::Stream {
+        let entity = Entity::Stream {
             writes,
             kind,
             number,
         };
-        declare(alloc, &mut self.scope, name, sort)?;
+        declare(alloc, &mut self.scope, name, entity)?;
         self.streams = next_number(number)?;
         Ok(())
     }
@@ -83,7 +83,7 @@ impl<'a> Signature<'a> {
             alloc,
             &mut self.scope,
             name,
-            Sort::Memory { free, kind, number },
+            Entity::Memory { free, kind, number },
         )?;
         self.memories = next_number(number)?;
         Ok(())
@@ -105,7 +105,7 @@ impl<'a> Signature<'a> {
             alloc,
             &mut self.scope,
             name,
-            Sort::Variable { free, kind, number },
+            Entity::Variable { free, kind, number },
         )?;
         self.scalars = next_number(number)?;
         Ok(())

@@ -3,7 +3,7 @@ use tapa_syntax::{Leaf, TaskDeclaration};
 
 /// What an argument of an invocation is, for the parameter that it is bound to.
 #[derive(Clone, Copy, PartialEq, Eq, Debug)]
-pub enum Link {
+pub enum Binding {
     /// A stream of the invoking task's own, by its number among them.
     OwnStream(u32),
     /// A stream parameter of the invoking task, by its position.
@@ -30,7 +30,7 @@ pub struct Channel {
 pub struct Invoked {
     pub place: Place,
     pub task: usize,
-    pub links: Vec<Link>,
+    pub bindings: Vec<Binding>,
 }
 
 #[derive(Drop)]

@@ -6,7 +6,7 @@ use Rattle.std.proofs.lemmas.Bool.{cases_lt, cases_eq}
 use Rattle.std.proofs.lemmas.List.{take_all}
 use Rattle.std.proofs.lemmas.Option.{slice_get-get_or}
 use Rattle.tapa_base.specs.declared.token.Token.{Token}
-use Rattle.kahn_model.specs.Behavior.{Local, Put, Load, Store, Tick, Did, Take, See, End, Mark, Ended, Needs, Bad, Turns, Offer, NoToken, WrongToken, Answer, first_offer, tick_of, lists_after, on_offer, Behavior, Finished, OutOfTurns, Act, Await, ticks, mark}
+use Rattle.kahn_model.specs.Behavior.{Local, Put, Load, Store, Tick, Did, Take, See, End, TraceEnd, Ended, Needs, Bad, Turns, Offer, NoToken, WrongToken, Answer, first_offer, tick_of, lists_after, on_offer, Behavior, Finished, OutOfTurns, Act, Await, ticks, trace_end}
 use Rattle.kahn_model.specs.Network.{Network, IsNetwork, round}
 use Rattle.kahn_model.specs.Counts.{total, round_of, ticks_made, written, taken, next, HasToken, HasRoom, IsAllowed, with_tick_of, after, AreAllowed, zeros, IsReachable, IsFounded, IsEnding, HasEnded}
 use Rattle.kahn_model.specs.Outcome.{WaitsToWrite, WaitsToRead, HasBadToken, IsCapped, IsGreatest}
@@ -16,8 +16,8 @@ use Rattle.kahn_model.proofs.Count.{IsBelow, step_stays, bump_below, bump_same, 
 use Rattle.kahn_model.proofs.Reach.{reach_founded, full, total_has}
 use Rattle.kahn_model.proofs.Local.{here, here_all, here_prefix, here_is_fed}
 
--- a job whose mark is Ended has made End
-ended_found : (o : Offer) (a b : Mark) (m : Token → ℕ → Mark) (f : Token → ℕ → List Tick) → (Ended ≡ a → ⊥) → (Ended ≡ b → ⊥) → ((t : Token) (v : ℕ) → m t v ≡ Ended → (j : ℕ) × (slice_get (f t v) j ≡ Some End)) → on_offer o a b m ≡ Ended → (j : ℕ) × (slice_get (on_offer o [] [] f) j ≡ Some End)
+-- a job whose end is Ended has made End
+ended_found : (o : Offer) (a b : TraceEnd) (m : Token → ℕ → TraceEnd) (f : Token → ℕ → List Tick) → (Ended ≡ a → ⊥) → (Ended ≡ b → ⊥) → ((t : Token) (v : ℕ) → m t v ≡ Ended → (j : ℕ) × (slice_get (f t v) j ≡ Some End)) → on_offer o a b m ≡ Ended → (j : ℕ) × (slice_get (on_offer o [] [] f) j ≡ Some End)
 ended_found NoToken a b m f da db h e = absurd (da (sym e))
 ended_found WrongToken a b m f da db h e = absurd (db (sym e))
 ended_found (Answer t v) a b m f da db h e = h t v e
@@ -25,7 +25,7 @@ ended_found (Answer t v) a b m f da db h e = h t v e
 ended_more : (x : Tick) (ts : List Tick) → ((j : ℕ) × (slice_get ts j ≡ Some End)) → (j : ℕ) × (slice_get (x ∷ ts) j ≡ Some End)
 ended_more x ts (j, e) = (suc j, e)
 
-pub has_end : (a : Behavior) (xs : ℕ → List Token) → mark a xs ≡ Ended → (j : ℕ) × (slice_get (ticks a xs) j ≡ Some End)
+pub has_end : (a : Behavior) (xs : ℕ → List Token) → trace_end a xs ≡ Ended → (j : ℕ) × (slice_get (ticks a xs) j ≡ Some End)
 has_end Finished xs e = (0, refl)
 has_end OutOfTurns xs e = absurd (cc)
 has_end (Act a rest) xs e = ended_more (Did a) (ticks rest xs) (has_end rest xs e)
@@ -57,7 +57,7 @@ here_made net ok k r i e =
     let same : take (k i) ts ≡ take (k i) us = prefix_whole _ _ p (omega (arith, Rattle.std.proofs.lemmas.List.length-take (k i) us)) in
     sym same ∙ all
 
-stands : (net : Network) → IsNetwork net → (k : ℕ → ℕ) → IsFounded net k → (i : ℕ) → i < net.size → (HasEnded net k i → ⊥) → length (here net k i) ≡ k i → (m : Mark) → mark (net.job i (round_of net k)) (written net k) ≡ m → IsLate m (here net k i) (here net k i) (written net k) (round_of net k) → Waits net k i
+stands : (net : Network) → IsNetwork net → (k : ℕ → ℕ) → IsFounded net k → (i : ℕ) → i < net.size → (HasEnded net k i → ⊥) → length (here net k i) ≡ k i → (m : TraceEnd) → trace_end (net.job i (round_of net k)) (written net k) ≡ m → IsLate m (here net k i) (here net k i) (written net k) (round_of net k) → Waits net k i
 stands net ok k r i l d e Ended em late_m =
     let h = has_end (net.job i (round_of net k)) (written net k) em in
     absurd (d (h.0, subst (λ ts. slice_get ts h.0 ≡ Some End) (sym (here_made net ok k r i e)) h.1))
@@ -77,7 +77,7 @@ waits net ok k en i l d =
     no_room net k i _ l f.0 f.1 (en.over i))
     (λ (m : length ts ≤ k i).
     let job = net.job i (round_of net k) in
-    stands net ok k r i l d (omega arith) (mark job (written net k)) refl
+    stands net ok k r i l d (omega arith) (trace_end job (written net k)) refl
     (late job job (written net k) (written net k) (round_of net k) (ok.grows i (round_of net k) (round_of net k) (omega arith)) (λ s. prefix_refl (written net k s)) (ok.lasts i (round_of net k))))
     (cases_lt (k i) (length ts))
 

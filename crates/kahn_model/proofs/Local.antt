@@ -8,7 +8,7 @@ use Rattle.std.proofs.lemmas.List.{length-take-le, take_all}
 use Rattle.std.proofs.lemmas.Option.{slice_get_within}
 use Rattle.tapa_base.specs.declared.token.Token.{Token}
 use Rattle.kahn_model.specs.Prefix.{IsPrefixOf}
-use Rattle.kahn_model.specs.Behavior.{Tick, Did, Take, See, End, Mark, Ended, Needs, Bad, Turns, StreamOperation, Read, Peek, TestEot, Open, Offer, NoToken, WrongToken, Answer, judge_token, first_offer, tick_of, lists_after, on_offer, Behavior, Finished, OutOfTurns, Act, Await, ticks, mark}
+use Rattle.kahn_model.specs.Behavior.{Tick, Did, Take, See, End, TraceEnd, Ended, Needs, Bad, Turns, StreamOperation, Read, Peek, TestEot, Open, Offer, NoToken, WrongToken, Answer, judge_token, first_offer, tick_of, lists_after, on_offer, Behavior, Finished, OutOfTurns, Act, Await, ticks, trace_end}
 use Rattle.kahn_model.specs.Network.{Network, IsNetwork, put_on, take_from, stream, round}
 use Rattle.kahn_model.specs.Counts.{total, round_of, ticks_made, written, taken, next, HasToken, IsSupplied, with_tick_of, after, AreSupplied, zeros, IsFounded}
 use Rattle.kahn_model.proofs.Order.{prefix_trans, prefix_flat_map, prefix_take, take_prefix, prefix_length, prefix_get, prefix_get_back, prefix_whole}
@@ -65,12 +65,12 @@ no_more_tick net ok k h i s (See r t) own e needs w l =
     no_more net ok k h i s (subst (λ x. net.consumer x ≡ i) w own) e needs (subst (λ x. length (taken net k x) < length (written net k x)) w l)
 no_more_tick net ok k h i s End own e needs w l = absurd w
 
-here_mark : (net : Network) → IsNetwork net → (k : ℕ → ℕ) → IsFull net k → (i : ℕ) (us : List Tick) (t : Tick) → k i ≤ total net.size k → OwnTick net.producer net.consumer i t → k i ≡ length (here net k i) → slice_get us (k i) ≡ Some t → HasToken net k t → (m : Mark) → IsLate m (here net k i) us (written net k) (round_of net k) → ⊥
-here_mark net ok k h i us t small own e at tok Ended l = past_end _ us (k i) t e l at
-here_mark net ok k h i us t small own e at tok (Bad s) l = past_end _ us (k i) t e l at
-here_mark net ok k h i us t small own e at tok (Needs s) (needs, w) =
+here_trace_end : (net : Network) → IsNetwork net → (k : ℕ → ℕ) → IsFull net k → (i : ℕ) (us : List Tick) (t : Tick) → k i ≤ total net.size k → OwnTick net.producer net.consumer i t → k i ≡ length (here net k i) → slice_get us (k i) ≡ Some t → HasToken net k t → (m : TraceEnd) → IsLate m (here net k i) us (written net k) (round_of net k) → ⊥
+here_trace_end net ok k h i us t small own e at tok Ended l = past_end _ us (k i) t e l at
+here_trace_end net ok k h i us t small own e at tok (Bad s) l = past_end _ us (k i) t e l at
+here_trace_end net ok k h i us t small own e at tok (Needs s) (needs, w) =
     no_more_tick net ok k h i s t own e needs (w t (subst (λ x. slice_get us x ≡ Some t) e at)) tok
-here_mark net ok k h i us t small own e at tok Turns l = omega arith
+here_trace_end net ok k h i us t small own e at tok Turns l = omega arith
 
 -- a step whose token is there is found on what is written so far
 here_next : (net : Network) → IsNetwork net → (k : ℕ → ℕ) → IsFull net k → IsHere net k → (i : ℕ) (f : IsSupplied net k i) → slice_get (here net k i) (k i) ≡ Some f.tick
@@ -82,7 +82,7 @@ here_next net ok k h here_all i f =
     let small = total_has net.size i k f.inside in
     ⊎_elim
     (λ (l : k i < length ts). prefix_get_back ts us (k i) f.tick (here_prefix net ok k h i) l f.is_next)
-    (λ (l : length ts ≤ k i). absurd (here_mark net ok k h i us f.tick small (own_round net ok (suc q) i (k i) f.tick f.is_next) (omega arith) f.is_next f.token (mark (net.job i (suc q)) (written net k)) (late _ _ (written net k) (stream net q) (suc q) (ok.grows i (suc q) (suc q) (omega arith)) (written_in net ok k h) (ok.lasts i (suc q)))))
+    (λ (l : length ts ≤ k i). absurd (here_trace_end net ok k h i us f.tick small (own_round net ok (suc q) i (k i) f.tick f.is_next) (omega arith) f.is_next f.token (trace_end (net.job i (suc q)) (written net k)) (late _ _ (written net k) (stream net q) (suc q) (ok.grows i (suc q) (suc q) (omega arith)) (written_in net ok k h) (ok.lasts i (suc q)))))
     (cases_lt (k i) (length ts))
 
 here_grows : (net : Network) → IsNetwork net → (k m : ℕ → ℕ) → IsBelow k m → total net.size k ≤ total net.size m → (i : ℕ) → length (here net k i) ≤ length (here net m i)

@@ -6,7 +6,7 @@ use Rattle.std.proofs.lemmas.Bool.{cases_lt, cases_eq}
 use Rattle.std.proofs.lemmas.List.{length-take-le, take_all}
 use Rattle.std.proofs.lemmas.Option.{slice_get_within}
 use Rattle.kahn_model.specs.Prefix.{IsPrefixOf}
-use Rattle.kahn_model.specs.Behavior.{Tick, Did, Take, See, End, Mark, Ended, Needs, Bad, Turns, mark}
+use Rattle.kahn_model.specs.Behavior.{Tick, Did, Take, See, End, TraceEnd, Ended, Needs, Bad, Turns, trace_end}
 use Rattle.kahn_model.specs.Network.{Network, IsNetwork, put_on, take_from, stream, round}
 use Rattle.kahn_model.specs.Counts.{total, round_of, ticks_made, written, taken, next, HasToken, IsSupplied, with_tick_of, after, AreAllowed, AreSupplied, zeros, IsReachable, IsFounded, IsKahnPrefix, IsKahnStream, HasEnded}
 use Rattle.kahn_model.proofs.Order.{prefix_flat_map, prefix_take, take_prefix, prefix_length, prefix_get, prefix_get_back, prefix_whole}
@@ -130,12 +130,12 @@ past_end ts us k t e same at =
     let m = ap length same in
     omega arith
 
-by_mark : (net : Network) → IsNetwork net → (k : ℕ → ℕ) → IsFull net k → (i : ℕ) (us : List Tick) (t : Tick) → k i ≤ total net.size k → OwnTick net.producer net.consumer i t → k i ≡ length (round net (round_of net k) i) → slice_get us (k i) ≡ Some t → HasToken net k t → (m : Mark) → IsLate m (round net (round_of net k) i) us (stream net (total net.size k)) (round_of net k) → ⊥
-by_mark net ok k h i us t small own e at tok Ended l = past_end _ us (k i) t e l at
-by_mark net ok k h i us t small own e at tok (Bad s) l = past_end _ us (k i) t e l at
-by_mark net ok k h i us t small own e at tok (Needs s) (needs, w) =
+by_trace_end : (net : Network) → IsNetwork net → (k : ℕ → ℕ) → IsFull net k → (i : ℕ) (us : List Tick) (t : Tick) → k i ≤ total net.size k → OwnTick net.producer net.consumer i t → k i ≡ length (round net (round_of net k) i) → slice_get us (k i) ≡ Some t → HasToken net k t → (m : TraceEnd) → IsLate m (round net (round_of net k) i) us (stream net (total net.size k)) (round_of net k) → ⊥
+by_trace_end net ok k h i us t small own e at tok Ended l = past_end _ us (k i) t e l at
+by_trace_end net ok k h i us t small own e at tok (Bad s) l = past_end _ us (k i) t e l at
+by_trace_end net ok k h i us t small own e at tok (Needs s) (needs, w) =
     no_wait_tick net ok k h i s t own e needs (w t (subst (λ x. slice_get us x ≡ Some t) e at)) tok
-by_mark net ok k h i us t small own e at tok Turns l = omega arith
+by_trace_end net ok k h i us t small own e at tok Turns l = omega arith
 
 pub next_in_time : (net : Network) → IsNetwork net → (k : ℕ → ℕ) → IsFounded net k → (n i : ℕ) (t : Tick) → i < net.size → slice_get (round net n i) (k i) ≡ Some t → HasToken net k t → next net k i ≡ Some t
 next_in_time net ok k r n i t inside at tok =
@@ -149,5 +149,5 @@ next_in_time net ok k r n i t inside at tok =
     let hi = h i in
     ⊎_elim
     (λ (l : k i < length ts). prefix_get_back ts us (k i) t (round_le net ok (suc q) (suc (q + n)) (omega arith) i) l at')
-    (λ (l : length ts ≤ k i). absurd (by_mark net ok k h i us t small (own_round net ok n i (k i) t at) (omega arith) at' tok (mark (net.job i (suc q)) (stream net q)) (late _ _ (stream net q) (stream net (q + n)) (suc q) (ok.grows i (suc q) (suc (q + n)) (omega arith)) (stream_le net ok q (q + n) (omega arith)) (ok.lasts i (suc q)))))
+    (λ (l : length ts ≤ k i). absurd (by_trace_end net ok k h i us t small (own_round net ok n i (k i) t at) (omega arith) at' tok (trace_end (net.job i (suc q)) (stream net q)) (late _ _ (stream net q) (stream net (q + n)) (suc q) (ok.grows i (suc q) (suc (q + n)) (omega arith)) (stream_le net ok q (q + n) (omega arith)) (ok.lasts i (suc q)))))
     (cases_lt (k i) (length ts))

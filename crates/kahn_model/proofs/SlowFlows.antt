@@ -15,7 +15,7 @@ use Rattle.kahn_model.specs.declared.slow.Flow.{Flow}
 use Rattle.kahn_model.specs.declared.slow.Flow.TheVariants.{Next, Out, Again, Stopped as StoppedFlow}
 use Rattle.kahn_model.specs.declared.slow.Turn.{Turn}
 use Rattle.kahn_model.specs.declared.slow.Turn.TheVariants.{On, Over, Stopped as StoppedTurn}
-use Rattle.kahn_model.specs.Behavior.{Action, Local, Tick, Did, End, Mark, Ended, Turns, StreamOperation, Behavior, Finished, OutOfTurns, Act, Await, ticks, mark}
+use Rattle.kahn_model.specs.Behavior.{Action, Local, Tick, Did, End, TraceEnd, Ended, Turns, StreamOperation, Behavior, Finished, OutOfTurns, Act, Await, ticks, trace_end}
 use Rattle.kahn_model.specs.Trace.{State, at_zero, expr, locals, stmt, block, statements, job_of, act_at, at_streams}
 use Rattle.tapa_syntax.specs.LeafKinds.{Kinds}
 use Rattle.kahn_model.specs.Slow.{row_at, feed, whole, Point, GoesOn, Stops, GivesAnswer, GivesValue, GivesPair, GivesFlow, GivesTurn, inside, turn_of, loop_of, turn_left}
@@ -24,24 +24,24 @@ use Rattle.kahn_model.specs.Slow.{row_at, feed, whole, Point, GoesOn, Stops, Giv
 abbrev pub Goes : (ℕ → ℕ) → Point → Behavior → Point → Behavior → Type 0
 Goes f P a Q b = GoesOn P.ticks (at_streams f a) P.ins Q.ticks (at_streams f b) Q.ins
 
-abbrev pub Ends : (ℕ → ℕ) → Point → Behavior → Point → Mark → Type 0
+abbrev pub Ends : (ℕ → ℕ) → Point → Behavior → Point → TraceEnd → Type 0
 Ends f P a Q m = Stops P.ticks (at_streams f a) P.ins Q.ticks m
 
 pub trans : (f : ℕ → ℕ) (P M Q : Point) (a b c : Behavior) → Goes f P a M b → Goes f M b Q c → Goes f P a Q c
-trans f P M Q a b c p q = record { ticks_are = p.ticks_are ∙ q.ticks_are; mark_is = p.mark_is ∙ q.mark_is }
+trans f P M Q a b c p q = record { ticks_are = p.ticks_are ∙ q.ticks_are; trace_end_is = p.trace_end_is ∙ q.trace_end_is }
 
-pub ends : (f : ℕ → ℕ) (P M Q : Point) (a b : Behavior) (m : Mark) → Goes f P a M b → Ends f M b Q m → Ends f P a Q m
-ends f P M Q a b m p q = record { ticks_are = p.ticks_are ∙ q.ticks_are; mark_is = p.mark_is ∙ q.mark_is }
+pub ends : (f : ℕ → ℕ) (P M Q : Point) (a b : Behavior) (m : TraceEnd) → Goes f P a M b → Ends f M b Q m → Ends f P a Q m
+ends f P M Q a b m p q = record { ticks_are = p.ticks_are ∙ q.ticks_are; trace_end_is = p.trace_end_is ∙ q.trace_end_is }
 
 pub same : (f : ℕ → ℕ) (P : Point) (a b : Behavior) → a ≡ b → Goes f P a P b
-same f P a b e = record { ticks_are = ap (λ t. P.ticks ++ ticks (at_streams f t) P.ins) e; mark_is = ap (λ t. mark (at_streams f t) P.ins) e }
+same f P a b e = record { ticks_are = ap (λ t. P.ticks ++ ticks (at_streams f t) P.ins) e; trace_end_is = ap (λ t. trace_end (at_streams f t) P.ins) e }
 
 pub tick : (f : ℕ → ℕ) (P Q : Point) (a : Action) (t : Behavior) → Q.ticks ≡ P.ticks ++ Did (act_at f a) ∷ [] → Q.ins ≡ P.ins → Goes f P (Act a t) Q t
 tick f P Q a t e ei =
     let T = at_streams f t in
     record {
       ticks_are = sym (append_assoc P.ticks (Did (act_at f a) ∷ []) (ticks T P.ins)) ∙ ap (λ x. x ++ ticks T P.ins) (sym e) ∙ ap (λ o. Q.ticks ++ ticks T o) (sym ei);
-      mark_is = ap (mark T) (sym ei);
+      trace_end_is = ap (trace_end T) (sym ei);
     }
 
 -- so many ticks
@@ -49,16 +49,16 @@ many : (f : ℕ → ℕ) (n : ℕ) (t : Behavior) (ins : ℕ → List Token) →
 many f zero t ins = refl
 many f (suc n) t ins = ap (λ x. Did Local ∷ x) (many f n t ins)
 
-many_mark : (f : ℕ → ℕ) (n : ℕ) (t : Behavior) (ins : ℕ → List Token) → mark (at_streams f (locals n t)) ins ≡ mark (at_streams f t) ins
-many_mark f zero t ins = refl
-many_mark f (suc n) t ins = many_mark f n t ins
+many_trace_end : (f : ℕ → ℕ) (n : ℕ) (t : Behavior) (ins : ℕ → List Token) → trace_end (at_streams f (locals n t)) ins ≡ trace_end (at_streams f t) ins
+many_trace_end f zero t ins = refl
+many_trace_end f (suc n) t ins = many_trace_end f n t ins
 
 pub tick_times : (f : ℕ → ℕ) (P Q : Point) (n : ℕ) (t : Behavior) → Q.ticks ≡ P.ticks ++ replicate n (Did Local) → Q.ins ≡ P.ins → Goes f P (locals n t) Q t
 tick_times f P Q n t e ei =
     let T = at_streams f t in
     record {
       ticks_are = ap (λ x. P.ticks ++ x) (many f n t P.ins) ∙ sym (append_assoc P.ticks (replicate n (Did Local)) (ticks T P.ins)) ∙ ap (λ x. x ++ ticks T P.ins) (sym e) ∙ ap (λ o. Q.ticks ++ ticks T o) (sym ei);
-      mark_is = many_mark f n t P.ins ∙ ap (mark T) (sym ei);
+      trace_end_is = many_trace_end f n t P.ins ∙ ap (trace_end T) (sym ei);
     }
 
 -- an operation at the position of its stream
@@ -167,7 +167,7 @@ turn_begins f K n s e body step code code2 P M Q x v is ex given et ei es eb ec 
 pub turn_out : (f : ℕ → ℕ) (K : Kinds) (n : ℕ) (body step : List Stmt) (a : (State → Behavior) → (State → Behavior) → Behavior) (P M Q : Point) → ((go next : State → Behavior) → Goes f P (a go next) M (inside_items K n body step M.state go next)) → GivesFlow f Out M (statements K n body M.state) Q → GivesTurn f Over P a Q
 turn_out f K n body step a P M Q p q = λ go next. trans f P M Q _ _ _ (p go next) (q _ go _)
 
-pub turn_stops : (f : ℕ → ℕ) (K : Kinds) (n : ℕ) (body step : List Stmt) (a : (State → Behavior) → (State → Behavior) → Behavior) (m : Mark) (P M Q : Point) → ((go next : State → Behavior) → Goes f P (a go next) M (inside_items K n body step M.state go next)) → GivesFlow f (StoppedFlow m) M (statements K n body M.state) Q → GivesTurn f (StoppedTurn m) P a Q
+pub turn_stops : (f : ℕ → ℕ) (K : Kinds) (n : ℕ) (body step : List Stmt) (a : (State → Behavior) → (State → Behavior) → Behavior) (m : TraceEnd) (P M Q : Point) → ((go next : State → Behavior) → Goes f P (a go next) M (inside_items K n body step M.state go next)) → GivesFlow f (StoppedFlow m) M (statements K n body M.state) Q → GivesTurn f (StoppedTurn m) P a Q
 turn_stops f K n body step a m P M Q p q = λ go next. ends f P M Q _ _ m (p go next) (q _ go _)
 
 -- a turn whose body is left for the step
@@ -218,7 +218,7 @@ loop_goes f K n m k s P e go out again = same f P _ _ (ap (λ x. loop_of K n x s
 pub loop_ends : (f : ℕ → ℕ) (K : Kinds) (n m : ℕ) (s : Stmt) (P : Point) → m ≡ 0 → (go out again : State → Behavior) → Ends f P (loop_of K n m s P.state go out again) P Turns
 loop_ends f K n m s P e go out again =
     let c = ap (λ x. loop_of K n x s P.state go out again) e ∙ loop_cut K n s P.state go out again in
-    record { ticks_are = ap (λ t. P.ticks ++ ticks (at_streams f t) P.ins) c ∙ append-nil P.ticks; mark_is = ap (λ t. mark (at_streams f t) P.ins) c }
+    record { ticks_are = ap (λ t. P.ticks ++ ticks (at_streams f t) P.ins) c ∙ append-nil P.ticks; trace_end_is = ap (λ t. trace_end (at_streams f t) P.ins) c }
 
 pub loop_on : (f : ℕ → ℕ) (K : Kinds) (n m k : ℕ) (A : Behavior) (s : Stmt) (P M Q : Point) (go out again : State → Behavior) → Goes f P A M (loop_of K n m s M.state go out again) → m ≡ suc k → GivesTurn f On M (turn_of K n s M.state) Q → Goes f P A Q (loop_of K n k s Q.state go out again)
 loop_on f K n m k A s P M Q go out again p e q =
@@ -228,7 +228,7 @@ pub loop_over : (f : ℕ → ℕ) (K : Kinds) (n m k : ℕ) (A : Behavior) (s : 
 loop_over f K n m k A s P M Q go out again p e q =
     trans f P M Q A _ _ p (trans f M M Q _ _ _ (loop_goes f K n m k s M e go out again) (q go (λ σ'. loop_of K n k s σ' go out again)))
 
-pub loop_stops : (f : ℕ → ℕ) (K : Kinds) (n m k : ℕ) (A : Behavior) (s : Stmt) (x : Mark) (P M Q : Point) (go out again : State → Behavior) → Goes f P A M (loop_of K n m s M.state go out again) → m ≡ suc k → GivesTurn f (StoppedTurn x) M (turn_of K n s M.state) Q → Ends f P A Q x
+pub loop_stops : (f : ℕ → ℕ) (K : Kinds) (n m k : ℕ) (A : Behavior) (s : Stmt) (x : TraceEnd) (P M Q : Point) (go out again : State → Behavior) → Goes f P A M (loop_of K n m s M.state go out again) → m ≡ suc k → GivesTurn f (StoppedTurn x) M (turn_of K n s M.state) Q → Ends f P A Q x
 loop_stops f K n m k A s x P M Q go out again p e q =
     ends f P M Q A _ x p (ends f M M Q _ _ x (loop_goes f K n m k s M e go out again) (q go (λ σ'. loop_of K n k s σ' go out again)))
 
@@ -241,7 +241,7 @@ pair_tick f P M Q A B a k x v w act t ea ex given ek et ei eb =
     (trans f M M Q _ (Act act t) _ (same f M _ _ ek)
     (trans f M Q Q (Act act t) t _ (tick f M Q act t et ei) (same f Q t B eb))))
 
-pub pair_stops : (f : ℕ → ℕ) (P M : Point) (A : Behavior) (a : (ℕ → ℕ → Behavior) → Behavior) (k : ℕ → ℕ → Behavior) (x : Pair) (m : Mark) → A ≡ a k → x ≡ StoppedPair m → GivesPair f x P a M → Ends f P A M m
+pub pair_stops : (f : ℕ → ℕ) (P M : Point) (A : Behavior) (a : (ℕ → ℕ → Behavior) → Behavior) (k : ℕ → ℕ → Behavior) (x : Pair) (m : TraceEnd) → A ≡ a k → x ≡ StoppedPair m → GivesPair f x P a M → Ends f P A M m
 pair_stops f P M A a k x m ea ex given = ends f P P M _ _ m (same f P A (a k) ea) (subst (λ y. GivesPair f y P a M) ex given k)
 
 pub value_tick : (f : ℕ → ℕ) (P M Q : Point) (A B : Behavior) (a : (ℕ → Behavior) → Behavior) (k : ℕ → Behavior) (x : Value) (v : ℕ) (act : Action) (t : Behavior) → A ≡ a k → x ≡ Given v → GivesValue f x P a M → k v ≡ Act act t → Q.ticks ≡ M.ticks ++ Did (act_at f act) ∷ [] → Q.ins ≡ M.ins → t ≡ B → Goes f P A Q B
@@ -252,7 +252,7 @@ value_tick f P M Q A B a k x v act t ea ex given ek et ei eb =
     (trans f M M Q _ (Act act t) _ (same f M _ _ ek)
     (trans f M Q Q (Act act t) t _ (tick f M Q act t et ei) (same f Q t B eb))))
 
-pub value_stops : (f : ℕ → ℕ) (P M : Point) (A : Behavior) (a : (ℕ → Behavior) → Behavior) (k : ℕ → Behavior) (x : Value) (m : Mark) → A ≡ a k → x ≡ Stopped m → GivesValue f x P a M → Ends f P A M m
+pub value_stops : (f : ℕ → ℕ) (P M : Point) (A : Behavior) (a : (ℕ → Behavior) → Behavior) (k : ℕ → Behavior) (x : Value) (m : TraceEnd) → A ≡ a k → x ≡ Stopped m → GivesValue f x P a M → Ends f P A M m
 value_stops f P M A a k x m ea ex given = ends f P P M _ _ m (same f P A (a k) ea) (subst (λ y. GivesValue f y P a M) ex given k)
 
 pub value_goes : (f : ℕ → ℕ) (P M : Point) (A B : Behavior) (a : (ℕ → Behavior) → Behavior) (k : ℕ → Behavior) (x : Value) (v : ℕ) → A ≡ a k → x ≡ Given v → GivesValue f x P a M → k v ≡ B → Goes f P A M B
@@ -269,26 +269,26 @@ feed_whole lists n = fun_ext (λ s. ap (λ k. drop k (row_at (slice_get lists s)
     none_taken (suc n) zero = refl
     none_taken (suc n) (suc s) = none_taken n s
 
-pub trace_stops : (f : ℕ → ℕ) (K : Kinds) (n : ℕ) (code : List Stmt) (P Q : Point) (whole_ins : ℕ → List Token) (x : Flow) (m : Mark) → P.ticks ≡ [] → P.ins ≡ whole_ins → x ≡ StoppedFlow m → GivesFlow f x P (statements K n code P.state) Q → (Q.ticks ≡ ticks (at_streams f (job_of K code P.state n)) whole_ins) × (m ≡ mark (at_streams f (job_of K code P.state n)) whole_ins)
+pub trace_stops : (f : ℕ → ℕ) (K : Kinds) (n : ℕ) (code : List Stmt) (P Q : Point) (whole_ins : ℕ → List Token) (x : Flow) (m : TraceEnd) → P.ticks ≡ [] → P.ins ≡ whole_ins → x ≡ StoppedFlow m → GivesFlow f x P (statements K n code P.state) Q → (Q.ticks ≡ ticks (at_streams f (job_of K code P.state n)) whole_ins) × (m ≡ trace_end (at_streams f (job_of K code P.state n)) whole_ins)
 trace_stops f K n code P Q whole_ins x m eb ei ef h =
     let p : Ends f P (job_of K code P.state n) Q m = flow_at f x (StoppedFlow m) P Q (statements K n code P.state) ef h (λ q. Finished) (λ q. Finished) (λ q. Finished) in
     let t = at_streams f (job_of K code P.state n) in (
       sym p.ticks_are ∙ ap (λ b. b ++ ticks t P.ins) eb ∙ ap (ticks t) ei,
-      sym p.mark_is ∙ ap (mark t) ei,
+      sym p.trace_end_is ∙ ap (trace_end t) ei,
     )
 
-pub trace_ends : (f : ℕ → ℕ) (K : Kinds) (n : ℕ) (code : List Stmt) (P Q : Point) (late : List Tick) (whole_ins : ℕ → List Token) (x : Flow) → P.ticks ≡ [] → P.ins ≡ whole_ins → ((m : Mark) → x ≡ StoppedFlow m → ⊥) → late ≡ Q.ticks ++ End ∷ [] → GivesFlow f x P (statements K n code P.state) Q → (late ≡ ticks (at_streams f (job_of K code P.state n)) whole_ins) × (Ended ≡ mark (at_streams f (job_of K code P.state n)) whole_ins)
+pub trace_ends : (f : ℕ → ℕ) (K : Kinds) (n : ℕ) (code : List Stmt) (P Q : Point) (late : List Tick) (whole_ins : ℕ → List Token) (x : Flow) → P.ticks ≡ [] → P.ins ≡ whole_ins → ((m : TraceEnd) → x ≡ StoppedFlow m → ⊥) → late ≡ Q.ticks ++ End ∷ [] → GivesFlow f x P (statements K n code P.state) Q → (late ≡ ticks (at_streams f (job_of K code P.state n)) whole_ins) × (Ended ≡ trace_end (at_streams f (job_of K code P.state n)) whole_ins)
 trace_ends f K n code P Q late whole_ins x eb ei d el h =
     let t = at_streams f (job_of K code P.state n) in
     let p = go x d h in (
       el ∙ sym p.0 ∙ ap (λ b. b ++ ticks t P.ins) eb ∙ ap (ticks t) ei,
-      sym p.1 ∙ ap (mark t) ei,
+      sym p.1 ∙ ap (trace_end t) ei,
     )
   where
-    finish : Goes f P (job_of K code P.state n) Q Finished → (P.ticks ++ ticks (at_streams f (job_of K code P.state n)) P.ins ≡ Q.ticks ++ End ∷ []) × (mark (at_streams f (job_of K code P.state n)) P.ins ≡ Ended)
-    finish p = (p.ticks_are, p.mark_is)
+    finish : Goes f P (job_of K code P.state n) Q Finished → (P.ticks ++ ticks (at_streams f (job_of K code P.state n)) P.ins ≡ Q.ticks ++ End ∷ []) × (trace_end (at_streams f (job_of K code P.state n)) P.ins ≡ Ended)
+    finish p = (p.ticks_are, p.trace_end_is)
 
-    go : (x : Flow) → ((m : Mark) → x ≡ StoppedFlow m → ⊥) → GivesFlow f x P (statements K n code P.state) Q → (P.ticks ++ ticks (at_streams f (job_of K code P.state n)) P.ins ≡ Q.ticks ++ End ∷ []) × (mark (at_streams f (job_of K code P.state n)) P.ins ≡ Ended)
+    go : (x : Flow) → ((m : TraceEnd) → x ≡ StoppedFlow m → ⊥) → GivesFlow f x P (statements K n code P.state) Q → (P.ticks ++ ticks (at_streams f (job_of K code P.state n)) P.ins ≡ Q.ticks ++ End ∷ []) × (trace_end (at_streams f (job_of K code P.state n)) P.ins ≡ Ended)
     go Next d h = finish (h (λ q. Finished) (λ q. Finished) (λ q. Finished))
     go Out d h = finish (h (λ q. Finished) (λ q. Finished) (λ q. Finished))
     go Again d h = finish (h (λ q. Finished) (λ q. Finished) (λ q. Finished))

@@ -8,7 +8,7 @@ use Rattle.std.proofs.lemmas.Bool.Decides.{nat_tests}
 use Rattle.std.proofs.lemmas.List.{append-nil, drop_all, drop_more, drop-drop, get_or-set_same, get_or-set_other, get_or_default}
 use Rattle.std.proofs.lemmas.Option.{slice_get_past, slice_get-get_or}
 use Rattle.tapa_base.specs.declared.token.Token.{Token}
-use Rattle.kahn_model.specs.Behavior.{Tick, Needs, Bad, StreamOperation, Behavior, Await, NoToken, WrongToken, Answer, judge_token, first_offer, takes, tick_of, lists_after, on_offer, ticks, mark}
+use Rattle.kahn_model.specs.Behavior.{Tick, Needs, Bad, StreamOperation, Behavior, Await, NoToken, WrongToken, Answer, judge_token, first_offer, takes, tick_of, lists_after, on_offer, ticks, trace_end}
 use Rattle.kahn_model.specs.Slow.{row_at, feed, GoesOn, Stops}
 
 found_none : (how : StreamOperation) (l : List Token) → l ≡ [] → first_offer how l ≡ NoToken
@@ -22,7 +22,7 @@ ask_none how s ins before e go =
     let f = found_none how (ins s) e in
     record {
       ticks_are = ap (λ o. before ++ on_offer o [] [] (λ t v. tick_of how s t ∷ ticks (go v) (lists_after how s ins))) f ∙ append-nil before;
-      mark_is = ap (λ o. on_offer o (Needs s) (Bad s) (λ t v. mark (go v) (lists_after how s ins))) f;
+      trace_end_is = ap (λ o. on_offer o (Needs s) (Bad s) (λ t v. trace_end (go v) (lists_after how s ins))) f;
     }
 
 pub ask_wrong : (how : StreamOperation) (s : ℕ) (ins : ℕ → List Token) (before : List Tick) (t : Token) (rest : List Token) → ins s ≡ t ∷ rest → judge_token how t ≡ WrongToken → (go : ℕ → Behavior) → Stops before (Await s how go) ins before (Bad s)
@@ -30,7 +30,7 @@ ask_wrong how s ins before t rest e j go =
     let f = found_some how (ins s) rest t e ∙ j in
     record {
       ticks_are = ap (λ o. before ++ on_offer o [] [] (λ t v. tick_of how s t ∷ ticks (go v) (lists_after how s ins))) f ∙ append-nil before;
-      mark_is = ap (λ o. on_offer o (Needs s) (Bad s) (λ t v. mark (go v) (lists_after how s ins))) f;
+      trace_end_is = ap (λ o. on_offer o (Needs s) (Bad s) (λ t v. trace_end (go v) (lists_after how s ins))) f;
     }
 
 pub ask_got : (how : StreamOperation) (s : ℕ) (ins outs : ℕ → List Token) (before after : List Tick) (x : Tick) (t : Token) (v : ℕ) (rest : List Token) → ins s ≡ t ∷ rest → judge_token how t ≡ Answer t v → x ≡ tick_of how s t → after ≡ before ++ x ∷ [] → outs ≡ lists_after how s ins → (go : ℕ → Behavior) → GoesOn before (Await s how go) ins after (go v) outs
@@ -43,7 +43,7 @@ ask_got how s ins outs before after x t v rest e j ex ea eo go =
           ∙ sym (append_assoc before (tick_of how s t ∷ []) (ticks (go v) outs))
           ∙ ap (λ y. before ++ y ∷ [] ++ ticks (go v) outs) (sym ex)
           ∙ ap (λ y. y ++ ticks (go v) outs) (sym ea);
-      mark_is = ap (λ o. on_offer o (Needs s) (Bad s) (λ t v. mark (go v) (lists_after how s ins))) f ∙ ap (mark (go v)) (sym eo);
+      trace_end_is = ap (λ o. on_offer o (Needs s) (Bad s) (λ t v. trace_end (go v) (lists_after how s ins))) f ∙ ap (trace_end (go v)) (sym eo);
     }
 
 -- what is left of a list

@@ -4,7 +4,7 @@ use Rattle.std.specs.Prelude.{slice_get}
 use Rattle.std.proofs.lemmas.List.{length-take-le}
 use Rattle.std.proofs.lemmas.Option.{slice_get_within}
 use Rattle.tapa_base.specs.declared.token.Token.{Token}
-use Rattle.kahn_model.specs.Behavior.{Put, Tick, Did, End, Mark, Ended, Needs, Bad, StreamOperation, Behavior, Finished, OutOfTurns, Act, Await, Offer, NoToken, WrongToken, Answer, first_offer, tick_of, lists_after, on_offer, ticks, mark}
+use Rattle.kahn_model.specs.Behavior.{Put, Tick, Did, End, TraceEnd, Ended, Needs, Bad, StreamOperation, Behavior, Finished, OutOfTurns, Act, Await, Offer, NoToken, WrongToken, Answer, first_offer, tick_of, lists_after, on_offer, ticks, trace_end}
 use Rattle.kahn_model.specs.Network.{Network, IsNetwork, stream, round}
 use Rattle.kahn_model.specs.Counts.{total, round_of, written, HasEnded, IsReachable, IsFounded}
 use Rattle.kahn_model.specs.Outcome.{StandsAt, WaitsToWrite}
@@ -15,21 +15,21 @@ use Rattle.kahn_model.proofs.Local.{fed_is_here}
 use Rattle.kahn_model.proofs.Reach.{reach_founded}
 use Rattle.kahn_model.proofs.Ends.{here_made}
 
-mark_found : (how : StreamOperation) (s : ℕ) (o : Offer) (a b : Mark) (m : Token → ℕ → Mark) (f : Token → ℕ → List Tick) → ((t : Token) (v j : ℕ) → slice_get (f t v) j ≡ Some End → m t v ≡ Ended) → (j : ℕ) → slice_get (on_offer o [] [] (λ t v. tick_of how s t ∷ f t v)) j ≡ Some End → on_offer o a b m ≡ Ended
-mark_found how s NoToken a b m f h j e = absurd (cc)
-mark_found how s WrongToken a b m f h j e = absurd (cc)
-mark_found how s (Answer t v) a b m f h zero e = absurd (no_end how s t (cc))
-mark_found how s (Answer t v) a b m f h (suc j) e = h t v j e
+trace_end_found : (how : StreamOperation) (s : ℕ) (o : Offer) (a b : TraceEnd) (m : Token → ℕ → TraceEnd) (f : Token → ℕ → List Tick) → ((t : Token) (v j : ℕ) → slice_get (f t v) j ≡ Some End → m t v ≡ Ended) → (j : ℕ) → slice_get (on_offer o [] [] (λ t v. tick_of how s t ∷ f t v)) j ≡ Some End → on_offer o a b m ≡ Ended
+trace_end_found how s NoToken a b m f h j e = absurd (cc)
+trace_end_found how s WrongToken a b m f h j e = absurd (cc)
+trace_end_found how s (Answer t v) a b m f h zero e = absurd (no_end how s t (cc))
+trace_end_found how s (Answer t v) a b m f h (suc j) e = h t v j e
 
--- where the end is made, the mark says so
-mark_ended : (a : Behavior) (xs : ℕ → List Token) (j : ℕ) → slice_get (ticks a xs) j ≡ Some End → mark a xs ≡ Ended
-mark_ended Finished xs j e = refl
-mark_ended OutOfTurns xs j e = absurd (cc)
-mark_ended (Act a rest) xs zero e = absurd (cc)
-mark_ended (Act a rest) xs (suc j) e = mark_ended rest xs j e
-mark_ended (Await s how rest) xs j e =
-    mark_found how s (first_offer how (xs s)) (Needs s) (Bad s) (λ t v. mark (rest v) (lists_after how s xs)) (λ t v. ticks (rest v) (lists_after how s xs))
-    (λ t v i h. mark_ended (rest v) (lists_after how s xs) i h) j e
+-- where the end is made, the end says so
+trace_end_ended : (a : Behavior) (xs : ℕ → List Token) (j : ℕ) → slice_get (ticks a xs) j ≡ Some End → trace_end a xs ≡ Ended
+trace_end_ended Finished xs j e = refl
+trace_end_ended OutOfTurns xs j e = absurd (cc)
+trace_end_ended (Act a rest) xs zero e = absurd (cc)
+trace_end_ended (Act a rest) xs (suc j) e = trace_end_ended rest xs j e
+trace_end_ended (Await s how rest) xs j e =
+    trace_end_found how s (first_offer how (xs s)) (Needs s) (Bad s) (λ t v. trace_end (rest v) (lists_after how s xs)) (λ t v. ticks (rest v) (lists_after how s xs))
+    (λ t v i h. trace_end_ended (rest v) (lists_after how s xs) i h) j e
 
 module _ (net : Network) (ok : IsNetwork net) (k : ℕ → ℕ) (r : IsFounded net k) (i : ℕ) (inside : i < net.size) where
   -- after its end it makes no tick
@@ -42,12 +42,12 @@ module _ (net : Network) (ok : IsNetwork net) (k : ℕ → ℕ) (r : IsFounded n
       let there = slice_get_within us (k i) (Did (Put s t)) w in
       omega arith
 
-  over_stands : (m : Mark) → (Ended ≡ m → ⊥) → HasEnded net k i → StandsAt net k i m → ⊥
+  over_stands : (m : TraceEnd) → (Ended ≡ m → ⊥) → HasEnded net k i → StandsAt net k i m → ⊥
   over_stands m other (j, e) h =
       let here : slice_get (ticks (net.job i (round_of net k)) (written net k)) j ≡ Some End = subst (λ (ts : List Tick). slice_get ts j ≡ Some End) (here_made net ok k r i h.all) e in
-      other (sym (mark_ended (net.job i (round_of net k)) (written net k) j here) ∙ h.at)
+      other (sym (trace_end_ended (net.job i (round_of net k)) (written net k) j here) ∙ h.at)
 
-  writes_stands : (s : ℕ) (m : Mark) → WaitsToWrite net k i s → StandsAt net k i m → ⊥
+  writes_stands : (s : ℕ) (m : TraceEnd) → WaitsToWrite net k i s → StandsAt net k i m → ⊥
   writes_stands s m (t, w) h =
       let here = fed_is_here net ok k r i (record { inside = inside; tick = Did (Put s t); is_next = w; token = tt }) in
       let l = slice_get_within (ticks (net.job i (round_of net k)) (written net k)) (k i) (Did (Put s t)) here in

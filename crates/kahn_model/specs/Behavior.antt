@@ -6,8 +6,8 @@ pub use Rattle.kahn_model.specs.declared.tick.Action.{Action}
 pub use Rattle.kahn_model.specs.declared.tick.Action.TheVariants.{Local, Put, Load, Store}
 pub use Rattle.kahn_model.specs.declared.tick.Tick.{Tick}
 pub use Rattle.kahn_model.specs.declared.tick.Tick.TheVariants.{Did, Take, See, End}
-pub use Rattle.kahn_model.specs.declared.tick.Mark.{Mark}
-pub use Rattle.kahn_model.specs.declared.tick.Mark.TheVariants.{Ended, Needs, Bad, Turns}
+pub use Rattle.kahn_model.specs.declared.tick.TraceEnd.{TraceEnd}
+pub use Rattle.kahn_model.specs.declared.tick.TraceEnd.TheVariants.{Ended, Needs, Bad, Turns}
 pub use Rattle.kahn_model.specs.declared.tick.StreamOperation.{StreamOperation}
 pub use Rattle.kahn_model.specs.declared.tick.StreamOperation.TheVariants.{Read, Peek, TestEot, Open}
 use Rattle.tapa_base.specs.declared.token.Token.{Token}
@@ -70,13 +70,13 @@ ticks (Act a rest) ins = Did a ∷ ticks rest ins
 ticks (Await s how rest) ins =
     on_offer (first_offer how (ins s)) [] [] (λ t v. tick_of how s t ∷ ticks (rest v) (lists_after how s ins))
 
--- and its mark
-abbrev pub mark : Behavior → (ℕ → List Token) → Mark
-mark Finished ins = Ended
-mark OutOfTurns ins = Turns
-mark (Act a rest) ins = mark rest ins
-mark (Await s how rest) ins =
-    on_offer (first_offer how (ins s)) (Needs s) (Bad s) (λ t v. mark (rest v) (lists_after how s ins))
+-- and its end
+abbrev pub trace_end : Behavior → (ℕ → List Token) → TraceEnd
+trace_end Finished ins = Ended
+trace_end OutOfTurns ins = Turns
+trace_end (Act a rest) ins = trace_end rest ins
+trace_end (Await s how rest) ins =
+    on_offer (first_offer how (ins s)) (Needs s) (Bad s) (λ t v. trace_end (rest v) (lists_after how s ins))
 
 -- the second tree is the first, where the first is not out of turns
 abbrev pub Extends : Behavior → Behavior → Type 0

@@ -1,7 +1,7 @@
 -- How a network ends at its declared depths (TAPA: a stream holds no more tokens than its depth).
 use Rattle.std.specs.Prelude.{◌≡◌, ℕ, ◌<◌, ◌≤◌, length, Some}
 use Rattle.tapa_base.specs.declared.token.Token.{Token}
-use Rattle.kahn_model.specs.Behavior.{Did, Put, Mark, Needs, Bad, ticks, mark}
+use Rattle.kahn_model.specs.Behavior.{Did, Put, TraceEnd, Needs, Bad, ticks, trace_end}
 use Rattle.kahn_model.specs.Network.{Network}
 use Rattle.kahn_model.specs.Counts.{round_of, written, next, IsReachable, IsEnding, HasEnded}
 
@@ -21,10 +21,10 @@ pub record IsStopped (net : Network) (k : ℕ → ℕ) : Type 0 where
 abbrev pub WaitsToWrite : Network → (ℕ → ℕ) → ℕ → ℕ → Type 0
 WaitsToWrite net k i s = (t : Token) × (next net k i ≡ Some (Did (Put s t)))
 
--- its run on the tokens that are written stops here with this mark
-pub record StandsAt (net : Network) (k : ℕ → ℕ) (i : ℕ) (m : Mark) : Type 0 where
+-- its run on the tokens that are written stops here with this end
+pub record StandsAt (net : Network) (k : ℕ → ℕ) (i : ℕ) (m : TraceEnd) : Type 0 where
   pub all : length (ticks (net.job i (round_of net k)) (written net k)) ≡ k i
-  pub at : mark (net.job i (round_of net k)) (written net k) ≡ m
+  pub at : trace_end (net.job i (round_of net k)) (written net k) ≡ m
 
 abbrev pub WaitsToRead : Network → (ℕ → ℕ) → ℕ → ℕ → Type 0
 WaitsToRead net k i s = StandsAt net k i (Needs s)

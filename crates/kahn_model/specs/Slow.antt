@@ -15,7 +15,7 @@ use Rattle.kahn_model.specs.declared.slow.Turn.TheVariants.{On, Over, Stopped as
 use Rattle.tapa_syntax.specs.declared.program.Stmt.{Stmt, Row_of-Stmt}
 use Rattle.tapa_syntax.specs.declared.program.Stmt.TheVariants.{Loop'}
 use Rattle.tapa_syntax.specs.LeafKinds.{Kinds}
-use Rattle.kahn_model.specs.Behavior.{Tick, Mark, StreamOperation, Behavior, OutOfTurns, Act, Await, Local, ticks, mark}
+use Rattle.kahn_model.specs.Behavior.{Tick, TraceEnd, StreamOperation, Behavior, OutOfTurns, Act, Await, Local, ticks, trace_end}
 use Rattle.kahn_model.specs.Trace.{State, at_zero, expr, turns, block, at_streams}
 
 abbrev pub row_at : Option (Vec Token Global) → List Token
@@ -48,12 +48,12 @@ point lists run = record { ticks = run.ticks.items; ins = feed lists run.heads.i
 -- from the ticks `before` the behavior a goes on to b, with the ticks `after`
 pub record GoesOn (before : List Tick) (a : Behavior) (ins : ℕ → List Token) (after : List Tick) (b : Behavior) (outs : ℕ → List Token) : Type 0 where
   pub ticks_are : before ++ ticks a ins ≡ after ++ ticks b outs
-  pub mark_is : mark a ins ≡ mark b outs
+  pub trace_end_is : trace_end a ins ≡ trace_end b outs
 
--- the behavior a ends at a mark, with the ticks `after`
-pub record Stops (before : List Tick) (a : Behavior) (ins : ℕ → List Token) (after : List Tick) (m : Mark) : Type 0 where
+-- the behavior a ends at a end, with the ticks `after`
+pub record Stops (before : List Tick) (a : Behavior) (ins : ℕ → List Token) (after : List Tick) (m : TraceEnd) : Type 0 where
   pub ticks_are : before ++ ticks a ins ≡ after
-  pub mark_is : mark a ins ≡ m
+  pub trace_end_is : trace_end a ins ≡ m
 
 -- an operation on stream s: whatever goes on with its value
 abbrev pub GivesAnswer : Value → Point → ℕ → StreamOperation → Point → Type 0

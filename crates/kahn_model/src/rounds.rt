@@ -44,7 +44,7 @@ fn instance_ticks(
             None => Ok(end_alone(alloc)?),
             Some(leaf) => {
                 let state = first_variables(alloc, program, scalars, memories, instance, leaf)?;
-                let (ticks, _mark) = trace(alloc, leaf, &instance.streams, state, n, lists)?;
+                let (ticks, _trace_end) = trace(alloc, leaf, &instance.streams, state, n, lists)?;
                 Ok(ticks)
             }
         },

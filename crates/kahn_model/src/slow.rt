@@ -5,7 +5,7 @@ ghost use Rattle.kahn_model.specs.declared.tick.StreamOperation.{StreamOperation
 ghost use Rattle.kahn_model.specs.declared.tick.StreamOperation.TheVariants.{Read as ByRead};
 ghost use Rattle.kahn_model.specs.declared.tick.Tick.TheVariants.{Did};
 ghost use Rattle.kahn_model.specs.declared.tick.Action.TheVariants.{Local, Load, Store};
-ghost use Rattle.kahn_model.specs.Behavior.{Await, WrongToken, Answer as GotToken, judge_token, takes, tick_of, ticks, mark};
+ghost use Rattle.kahn_model.specs.Behavior.{Await, WrongToken, Answer as GotToken, judge_token, takes, tick_of, ticks, trace_end};
 ghost use Rattle.kahn_model.specs.Slow.{point, numbers, state_of, rows_of, GivesAnswer, GivesValue, GivesPair, GivesFlow, GivesTurn, turn_of, loop_of, turn_left, whole};
 ghost use Rattle.kahn_model.specs.Trace.{expr, stmt, statements, job_of, at_streams, set_var, set_cell, store_cell, cell, cells_of, cleared};
 ghost use Rattle.tapa_syntax.specs.LeafKinds.{kinds_of};
@@ -18,7 +18,7 @@ use crate::simple_statements::{
     run_discard, run_open, run_read_cell, run_read_store, run_read_var, run_set, run_set_cell,
     run_set_cell_by, run_store, run_store_by, run_write,
 };
-use crate::tick::{Action, Mark, StreamOperation, Tick};
+use crate::tick::{Action, StreamOperation, Tick, TraceEnd};
 use std::alloc::{AllocError, Global};
 use tapa_base::Token;
 use tapa_syntax::{Expr, Leaf, Stmt};
@@ -39,11 +39,11 @@ pub struct Run {
     pub ticks: Vec<Tick>,
 }
 
-/// An expression's value, or the mark at which the run ends.
+/// An expression's value, or the end at which the run ends.
 #[derive(Clone, Copy, PartialEq, Eq, Debug)]
 pub enum Value {
     Given(u64),
-    Stopped(Mark),
+    Stopped(TraceEnd),
 }
 
 // The value that an operation gives for a token, and none for a bad one.
@@ -98,16 +98,16 @@ fn ask(
 {
     let i = s as usize;
     if i >= lists.len() {
-        return Ok(Value::Stopped(Mark::Needs(s)));
+        return Ok(Value::Stopped(TraceEnd::Needs(s)));
     }
     let list = &lists[i];
     let at = run.heads[i];
     if at >= list.len() {
-        return Ok(Value::Stopped(Mark::Needs(s)));
+        return Ok(Value::Stopped(TraceEnd::Needs(s)));
     }
     let token = list[at];
     match value_of(how, token) {
-        None => Ok(Value::Stopped(Mark::Bad(s))),
+        None => Ok(Value::Stopped(TraceEnd::Bad(s))),
         Some(v) => {
             run.ticks.push(tick_for(how, s, token))?;
             if is_take(how) {
@@ -192,7 +192,7 @@ pub(crate) fn run_expr(
         Expr::Peek(p) => Ok(ask_at(lists, streams, run, *p, StreamOperation::Peek)?),
         Expr::Eot(p) => Ok(ask_at(lists, streams, run, *p, StreamOperation::TestEot)?),
         Expr::Load(m, index) => match run_expr(lists, streams, run, index)? {
-            Value::Stopped(mark) => Ok(Value::Stopped(mark)),
+            Value::Stopped(trace_end) => Ok(Value::Stopped(trace_end)),
             Value::Given(i) => Ok(Value::Given(load_cell(run, *m, i)?)),
         },
         Expr::Conv { from, to, value } => match run_expr(lists, streams, run, value)? {
@@ -246,21 +246,21 @@ pub(crate) fn run_expr(
     }
 }
 
-/// How a statement is left: to the next one, by a break, by a continue, or at the mark at which the run ends.
+/// How a statement is left: to the next one, by a break, by a continue, or at the end at which the run ends.
 #[derive(Clone, Copy, PartialEq, Eq, Debug)]
 pub enum Flow {
     Next,
     Out,
     Again,
-    Stopped(Mark),
+    Stopped(TraceEnd),
 }
 
-/// How a turn of a loop is left: for the next test, for what follows the loop, or at a mark.
+/// How a turn of a loop is left: for the next test, for what follows the loop, or at a end.
 #[derive(Clone, Copy, PartialEq, Eq, Debug)]
 pub enum Turn {
     On,
     Over,
-    Stopped(Mark),
+    Stopped(TraceEnd),
 }
 
 // A variable gets a value.
@@ -369,11 +369,11 @@ fn clear(run: &mut Run, a: u32) -> Result<(), AllocError>
     Ok(())
 }
 
-/// Two values, or the mark at which the run ends.
+/// Two values, or the end at which the run ends.
 #[derive(Clone, Copy, PartialEq, Eq, Debug)]
 pub enum Pair {
     Given(u64, u64),
-    Stopped(Mark),
+    Stopped(TraceEnd),
 }
 
 // The values of two expressions, one after the other.
@@ -555,7 +555,7 @@ fn run_turn(
                 }
             }
         },
-        _ => Ok(Turn::Stopped(Mark::Turns)),
+        _ => Ok(Turn::Stopped(TraceEnd::Turns)),
     }
 }
 
@@ -592,7 +592,7 @@ fn run_loop(
             Turn::Stopped(m) => return Ok(Flow::Stopped(m)),
         }
     }
-    Ok(Flow::Stopped(Mark::Turns))
+    Ok(Flow::Stopped(TraceEnd::Turns))
 }
 
 // A list of zeros.
@@ -602,7 +602,7 @@ fn none_taken(alloc: Global, n: usize) -> Result<Vec<usize>, AllocError>
     Ok(vec![in alloc; 0; n]?)
 }
 
-/// The trace of an instance of a leaf: its ticks and its mark on whole lists, one for each stream of the program, where
+/// The trace of an instance of a leaf: its ticks and its end on whole lists, one for each stream of the program, where
 /// each run of a loop makes at most n tests. `streams` has the numbers of the streams at the leaf's positions.
 pub fn trace(
     alloc: Global,
@@ -611,9 +611,9 @@ pub fn trace(
     state: Variables,
     n: u64,
     lists: &[Vec<Token>],
-) -> Result<(Vec<Tick>, Mark), Fault>
+) -> Result<(Vec<Tick>, TraceEnd), Fault>
     ensures ticks { IfOk result (λ r. r.0.items ≡ ticks (at_streams (numbers streams.now) (job_of (kinds_of leaf.now) leaf.now.code.items (state_of state) n)) (whole lists.now)) }
-    ensures mark { IfOk result (λ r. r.1 ≡ mark (at_streams (numbers streams.now) (job_of (kinds_of leaf.now) leaf.now.code.items (state_of state) n)) (whole lists.now)) }
+    ensures trace_end { IfOk result (λ r. r.1 ≡ trace_end (at_streams (numbers streams.now) (job_of (kinds_of leaf.now) leaf.now.code.items (state_of state) n)) (whole lists.now)) }
 {
     let mut run = Run {
         state,
@@ -624,7 +624,7 @@ pub fn trace(
         Flow::Stopped(m) => Ok((run.ticks, m)),
         _ => {
             note(&mut run, Tick::End)?;
-            Ok((run.ticks, Mark::Ended))
+            Ok((run.ticks, TraceEnd::Ended))
         }
     }
 }

@@ -24,7 +24,7 @@ pub enum Tick {
 /// Why the ticks end: the task has ended, a list is used up, the next token is none that the operation may have, or a
 /// loop has made its tests.
 #[derive(Clone, Copy, PartialEq, Eq, Debug)]
-pub enum Mark {
+pub enum TraceEnd {
     Ended,
     Needs(u32),
     Bad(u32),

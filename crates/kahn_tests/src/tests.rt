@@ -1,6 +1,6 @@
 use kahn_model::rounds::streams;
 use kahn_model::slow::{Fault, Variables, trace};
-use kahn_model::tick::{Action, Mark, Tick};
+use kahn_model::tick::{Action, Tick, TraceEnd};
 use std::alloc::{AllocError, Global};
 use std::test::Fail;
 use tapa_base::{Kind, Op, Text, Token};
@@ -146,15 +146,15 @@ fn path(alloc: Global) -> Result<Program, AllocError> {
     Ok(program(alloc, bodies, instances, streams))
 }
 
-// The number of ticks of an instance of the path program on lists of so many tokens, and its mark.
-fn ticks_of(alloc: Global, i: usize, n: u64, tokens: usize) -> Result<(usize, Mark), Fault> {
+// The number of ticks of an instance of the path program on lists of so many tokens, and its end.
+fn ticks_of(alloc: Global, i: usize, n: u64, tokens: usize) -> Result<(usize, TraceEnd), Fault> {
     let path = path(alloc)?;
     let q = vec![in alloc; Token::Datum(5); tokens]?;
     let r = vec![in alloc; Token::Datum(6); tokens]?;
     let lists = vectors(alloc, q, r)?;
     match (path.bodies.get(i), path.instances.get(i)) {
         (Some(leaf), Some(instance)) => {
-            let (ticks, mark) = trace(
+            let (ticks, trace_end) = trace(
                 alloc,
                 leaf,
                 &instance.streams,
@@ -162,9 +162,9 @@ fn ticks_of(alloc: Global, i: usize, n: u64, tokens: usize) -> Result<(usize, Ma
                 n,
                 &lists,
             )?;
-            Ok((ticks.len(), mark))
+            Ok((ticks.len(), trace_end))
         }
-        _ => Ok((0, Mark::Turns)),
+        _ => Ok((0, TraceEnd::Turns)),
     }
 }
 
@@ -176,17 +176,17 @@ fn vectors(alloc: Global, q: Vec<Token>, r: Vec<Token>) -> Result<Vec<Vec<Token>
 fn ticks_of_the_path_program(rt: HostRuntime) -> Result<(), Fail> {
     let alloc = rt.alloc();
     // Set; then for each of three turns Test, the statement's ticks and Set; a last Test; End.
-    for (i, n, tokens, ticks, mark) in [
-        (0, 1002, 0, 12, Mark::Ended),
-        (1, 1002, 3, 15, Mark::Ended),
-        (2, 1002, 3, 15, Mark::Ended),
-        (0, 3, 0, 10, Mark::Turns),
-        (1, 1002, 1, 6, Mark::Needs(0)),
-        (2, 1002, 2, 10, Mark::Needs(1)),
+    for (i, n, tokens, ticks, trace_end) in [
+        (0, 1002, 0, 12, TraceEnd::Ended),
+        (1, 1002, 3, 15, TraceEnd::Ended),
+        (2, 1002, 3, 15, TraceEnd::Ended),
+        (0, 3, 0, 10, TraceEnd::Turns),
+        (1, 1002, 1, 6, TraceEnd::Needs(0)),
+        (2, 1002, 2, 10, TraceEnd::Needs(1)),
     ] {
         assert_eq!(rt;
             ticks_of(alloc, i, n, tokens)?,
-            (ticks, mark),
+            (ticks, trace_end),
             "at {i} {tokens}"
         );
     }
@@ -295,7 +295,7 @@ fn streams_have_no_schedule(rt: HostRuntime) -> Result<(), Fail> {
 fn written(alloc: Global, e: Expr) -> Result<Option<u64>, Fault> {
     let code = one(alloc, Stmt::Write(0, e))?;
     let body = leaf(alloc, 1, 0, code)?;
-    let (ticks, _mark) = trace(alloc, &body, &[0], variables(alloc)?, 1, &[])?;
+    let (ticks, _trace_end) = trace(alloc, &body, &[0], variables(alloc)?, 1, &[])?;
     Ok(match ticks.first() {
         Some(Tick::Did(Action::Put(0, Token::Datum(v)))) => Some(*v),
         _ => None,
@@ -385,7 +385,7 @@ fn cells(alloc: Global) -> Result<Vec<Stmt>, AllocError> {
 fn arrays_and_memories_hold_their_cells(rt: HostRuntime) -> Result<(), Fail> {
     let alloc = rt.alloc();
     let body = leaf(alloc, 1, 0, cells(alloc)?)?;
-    let (ticks, mark) = trace(alloc, &body, &[0], variables(alloc)?, 1, &[])?;
+    let (ticks, trace_end) = trace(alloc, &body, &[0], variables(alloc)?, 1, &[])?;
     let local = Tick::Did(Action::Local);
     // The cell is 200, which is -56, and 100 more, 44; the cell of the memory is 1 less than 0 modulo 256.
     let want = [
@@ -401,7 +401,7 @@ fn arrays_and_memories_hold_their_cells(rt: HostRuntime) -> Result<(), Fail> {
         Tick::End,
     ];
     assert_eq!(rt; ticks.as_slice(), want.as_slice());
-    assert_eq!(rt; mark, Mark::Ended);
+    assert_eq!(rt; trace_end, TraceEnd::Ended);
     Ok(())
 }
 
@@ -430,14 +430,14 @@ fn a_transaction_ends_with_its_token(rt: HostRuntime) -> Result<(), Fail> {
     q.push(Token::Eot)?;
     q.push(Token::Datum(4))?;
     let lists = vectors(alloc, q, Vec::new(alloc))?;
-    let (ticks, mark) = trace(alloc, &body, &[1, 0], variables(alloc)?, 9, &lists)?;
-    assert_eq!(rt; mark, Mark::Ended);
+    let (ticks, trace_end) = trace(alloc, &body, &[1, 0], variables(alloc)?, 9, &lists)?;
+    assert_eq!(rt; trace_end, TraceEnd::Ended);
     // Eot, Test, Read and Set twice; Eot and Test; Open; Write; End.
     assert_eq!(rt; ticks.len(), 13);
     assert!(rt; ticks.contains(&Tick::Take(0, Token::Eot)));
     assert!(rt; ticks.contains(&Tick::Did(Action::Put(1, Token::Datum(17)))));
     let bad = leaf(alloc, 0, 1, one(alloc, Stmt::Open(0))?)?;
-    let (ticks, mark) = trace(alloc, &bad, &[0], variables(alloc)?, 9, &lists)?;
-    assert_eq!(rt; (ticks.len(), mark), (0, Mark::Bad(0)));
+    let (ticks, trace_end) = trace(alloc, &bad, &[0], variables(alloc)?, 9, &lists)?;
+    assert_eq!(rt; (ticks.len(), trace_end), (0, TraceEnd::Bad(0)));
     Ok(())
 }

@@ -5,11 +5,11 @@ use Rattle.tapa_base.specs.declared.token.Token.{Token}
 use Rattle.kahn_model.specs.declared.tick.Action.TheVariants.{Put}
 use Rattle.kahn_model.specs.declared.tick.Tick.{Tick}
 use Rattle.kahn_model.specs.declared.tick.Tick.TheVariants.{Did, End}
-use Rattle.kahn_model.specs.declared.tick.Mark.{Mark}
+use Rattle.kahn_model.specs.declared.tick.TraceEnd.{TraceEnd}
 use Rattle.kahn_model.specs.declared.tick.StreamOperation.{StreamOperation}
 use Rattle.kahn_model.specs.declared.tick.StreamOperation.TheVariants.{Read, Peek, TestEot, Open}
-use Rattle.kahn_model.specs.Behavior.{Behavior, Finished, OutOfTurns, Act, Await, Offer, NoToken, WrongToken, Answer, first_offer, tick_of, lists_after, on_offer, ticks, mark}
-use Rattle.kahn_model.specs.declared.tick.Mark.TheVariants.{Ended, Needs, Bad, Turns}
+use Rattle.kahn_model.specs.Behavior.{Behavior, Finished, OutOfTurns, Act, Await, Offer, NoToken, WrongToken, Answer, first_offer, tick_of, lists_after, on_offer, ticks, trace_end}
+use Rattle.kahn_model.specs.declared.tick.TraceEnd.TheVariants.{Ended, Needs, Bad, Turns}
 use Rattle.kahn_model.specs.Network.{Network, IsNetwork, stream, round}
 use Rattle.kahn_model.specs.Counts.{total, round_of, ticks_made, next, written, HasRoom, IsAllowed, with_tick_of, zeros, IsReachable, IsFounded, IsEnding, HasEnded}
 use Rattle.kahn_model.proofs.Count.{IsBelow, total_bump, total_grows, below_end}
@@ -67,14 +67,14 @@ is_limit net ok k i r a m e =
     omega arith
 
 -- an instance that stops elsewhere has not ended
-end_marks_found : (o : Offer) (a b : Mark) (g : Token → ℕ → List Tick) (m : Token → ℕ → Mark) → ((t : Token) (v j : ℕ) → slice_get (g t v) j ≡ Some End → m t v ≡ Ended) → (j : ℕ) → slice_get (on_offer o [] [] g) j ≡ Some End → on_offer o a b m ≡ Ended
-end_marks_found NoToken a b g m h j e = cc
-end_marks_found WrongToken a b g m h j e = cc
-end_marks_found (Answer t v) a b g m h j e = h t v j e
+end_trace_ends_found : (o : Offer) (a b : TraceEnd) (g : Token → ℕ → List Tick) (m : Token → ℕ → TraceEnd) → ((t : Token) (v j : ℕ) → slice_get (g t v) j ≡ Some End → m t v ≡ Ended) → (j : ℕ) → slice_get (on_offer o [] [] g) j ≡ Some End → on_offer o a b m ≡ Ended
+end_trace_ends_found NoToken a b g m h j e = cc
+end_trace_ends_found WrongToken a b g m h j e = cc
+end_trace_ends_found (Answer t v) a b g m h j e = h t v j e
 
-end_marks_cons : (x : Tick) (ts : List Tick) (m : Mark) → (x ≡ End → ⊥) → ((j : ℕ) → slice_get ts j ≡ Some End → m ≡ Ended) → (j : ℕ) → slice_get (x ∷ ts) j ≡ Some End → m ≡ Ended
-end_marks_cons x ts m d h zero e = absurd (d (cc))
-end_marks_cons x ts m d h (suc j) e = h j e
+end_trace_ends_cons : (x : Tick) (ts : List Tick) (m : TraceEnd) → (x ≡ End → ⊥) → ((j : ℕ) → slice_get ts j ≡ Some End → m ≡ Ended) → (j : ℕ) → slice_get (x ∷ ts) j ≡ Some End → m ≡ Ended
+end_trace_ends_cons x ts m d h zero e = absurd (d (cc))
+end_trace_ends_cons x ts m d h (suc j) e = h j e
 
 no_end : (how : StreamOperation) (s : ℕ) (t : Token) → tick_of how s t ≡ End → ⊥
 no_end Read s t e = cc
@@ -82,20 +82,20 @@ no_end Peek s t e = cc
 no_end TestEot s t e = cc
 no_end Open s t e = cc
 
-end_marks : (a : Behavior) (xs : ℕ → List Token) (j : ℕ) → slice_get (ticks a xs) j ≡ Some End → mark a xs ≡ Ended
-end_marks Finished xs j e = refl
-end_marks OutOfTurns xs j e = cc
-end_marks (Act a rest) xs j e = end_marks_cons (Did a) (ticks rest xs) (mark rest xs) (λ q. cc) (end_marks rest xs) j e
-end_marks (Await s how rest) xs j e =
-    end_marks_found (first_offer how (xs s)) (Needs s) (Bad s) _ _ (λ t v. end_marks_cons (tick_of how s t) _ _ (no_end how s t) (end_marks (rest v) (lists_after how s xs))) j e
+end_trace_ends : (a : Behavior) (xs : ℕ → List Token) (j : ℕ) → slice_get (ticks a xs) j ≡ Some End → trace_end a xs ≡ Ended
+end_trace_ends Finished xs j e = refl
+end_trace_ends OutOfTurns xs j e = cc
+end_trace_ends (Act a rest) xs j e = end_trace_ends_cons (Did a) (ticks rest xs) (trace_end rest xs) (λ q. cc) (end_trace_ends rest xs) j e
+end_trace_ends (Await s how rest) xs j e =
+    end_trace_ends_found (first_offer how (xs s)) (Needs s) (Bad s) _ _ (λ t v. end_trace_ends_cons (tick_of how s t) _ _ (no_end how s t) (end_trace_ends (rest v) (lists_after how s xs))) j e
 
 module _ (net : Network) (ok : IsNetwork net) (k : ℕ → ℕ) (r : IsFounded net k) (i : ℕ) (inside : i < net.size) where
-  not_ended_at : (m : Mark) → (m ≡ Turns → ⊥) → (m ≡ Ended → ⊥) → StopsIn net k i m → HasEnded net k i → ⊥
+  not_ended_at : (m : TraceEnd) → (m ≡ Turns → ⊥) → (m ≡ Ended → ⊥) → StopsIn net k i m → HasEnded net k i → ⊥
   not_ended_at m t d st (j, e) =
       let s = stops_here net ok k r i inside m t st in
       let same : ticks_made net k i ≡ here net k i = made_is net ok k r i inside (here net k i) refl s.all in
       let at = subst (λ ts. slice_get ts j ≡ Some End) same e in
-      d (sym s.at ∙ end_marks (net.job i (round_of net k)) (written net k) j at)
+      d (sym s.at ∙ end_trace_ends (net.job i (round_of net k)) (written net k) j at)
 
   not_ended_full : (s : ℕ) → IsFullFor net k i s → HasEnded net k i → ⊥
   not_ended_full s h (j, e) =

@@ -8,15 +8,15 @@ use Rattle.tapa_base.specs.declared.token.Token.TheVariants.{Datum, Eot}
 use Rattle.kahn_model.specs.declared.tick.Action.TheVariants.{Local, Put, Load, Store}
 use Rattle.kahn_model.specs.declared.tick.Tick.{Tick}
 use Rattle.kahn_model.specs.declared.tick.Tick.TheVariants.{Did, Take, See, End}
-use Rattle.kahn_model.specs.declared.tick.Mark.{Mark}
-use Rattle.kahn_model.specs.declared.tick.Mark.TheVariants.{Needs, Bad}
+use Rattle.kahn_model.specs.declared.tick.TraceEnd.{TraceEnd}
+use Rattle.kahn_model.specs.declared.tick.TraceEnd.TheVariants.{Needs, Bad}
 use Rattle.kahn_model.specs.declared.tick.StreamOperation.{StreamOperation}
 use Rattle.kahn_model.specs.declared.tick.StreamOperation.TheVariants.{Read, Peek, TestEot, Open}
 use Rattle.kahn_model.specs.Prefix.{IsPrefixOf}
-use Rattle.kahn_model.specs.Behavior.{Behavior, Finished, OutOfTurns, Act, Await, Offer, NoToken, WrongToken, Answer, judge_token, first_offer, takes, tick_of, lists_after, on_offer, ticks, mark}
+use Rattle.kahn_model.specs.Behavior.{Behavior, Finished, OutOfTurns, Act, Await, Offer, NoToken, WrongToken, Answer, judge_token, first_offer, takes, tick_of, lists_after, on_offer, ticks, trace_end}
 use Rattle.kahn_model.specs.Network.{Owns, put_on, take_from}
 use Rattle.kahn_model.specs.Trace.{act_at, at_streams}
-use Rattle.net_core.specs.Placement.{tick_at, mark_at, AsksAt, IsAt, TickAt, AreAt}
+use Rattle.net_core.specs.Placement.{tick_at, trace_end_at, AsksAt, IsAt, TickAt, AreAt}
 
 same_test : (a b c d : ℕ) → (a ≡ b → c ≡ d) → (c ≡ d → a ≡ b) → (a == b) ≡ (c == d)
 same_test a b c d h k =
@@ -30,10 +30,10 @@ found_ticks F NoToken g h e = refl
 found_ticks F WrongToken g h e = refl
 found_ticks F (Answer t v) g h e = e t v
 
-found_mark : (F : Mark → Mark) (o : Offer) (a b : Mark) (g h : Token → ℕ → Mark) → ((t : Token) (v : ℕ) → g t v ≡ F (h t v)) → on_offer o (F a) (F b) g ≡ F (on_offer o a b h)
-found_mark F NoToken a b g h e = refl
-found_mark F WrongToken a b g h e = refl
-found_mark F (Answer t v) a b g h e = e t v
+found_trace_end : (F : TraceEnd → TraceEnd) (o : Offer) (a b : TraceEnd) (g h : Token → ℕ → TraceEnd) → ((t : Token) (v : ℕ) → g t v ≡ F (h t v)) → on_offer o (F a) (F b) g ≡ F (on_offer o a b h)
+found_trace_end F NoToken a b g h e = refl
+found_trace_end F WrongToken a b g h e = refl
+found_trace_end F (Answer t v) a b g h e = e t v
 
 pub tick_placed : (f : ℕ → ℕ) (how : StreamOperation) (p : ℕ) (t : Token) → tick_of how (f p) t ≡ tick_at f (tick_of how p t)
 tick_placed f Read p t = refl
@@ -57,14 +57,14 @@ placed_ticks D f inj (Await p how rest) xs ys (dp, d) h =
     (λ t v. ap (λ x. x ∷ ticks (at_streams f (rest v)) (lists_after how (f p) xs)) (tick_placed f how p t)
     ∙ ap (λ l. tick_at f (tick_of how p t) ∷ l) (placed_ticks D f inj (rest v) (lists_after how (f p) xs) (lists_after how p ys) (d v) (lists_placed D f inj how p dp xs ys h)))
 
-pub placed_mark : (D : ℕ → Type 0) (f : ℕ → ℕ) (inj : (p q : ℕ) → D p → D q → f p ≡ f q → p ≡ q) (a : Behavior) (xs ys : ℕ → List Token) → AsksAt D a → ((q : ℕ) → D q → ys q ≡ xs (f q)) → mark (at_streams f a) xs ≡ mark_at f (mark a ys)
-placed_mark D f inj Finished xs ys d h = refl
-placed_mark D f inj OutOfTurns xs ys d h = refl
-placed_mark D f inj (Act a rest) xs ys d h = placed_mark D f inj rest xs ys d h
-placed_mark D f inj (Await p how rest) xs ys (dp, d) h =
-    ap (λ l. on_offer (first_offer how l) (Needs (f p)) (Bad (f p)) (λ t v. mark (at_streams f (rest v)) (lists_after how (f p) xs))) (sym (h p dp))
-    ∙ found_mark (mark_at f) (first_offer how (ys p)) (Needs p) (Bad p) _ (λ t v. mark (rest v) (lists_after how p ys))
-    (λ t v. placed_mark D f inj (rest v) (lists_after how (f p) xs) (lists_after how p ys) (d v) (lists_placed D f inj how p dp xs ys h))
+pub placed_trace_end : (D : ℕ → Type 0) (f : ℕ → ℕ) (inj : (p q : ℕ) → D p → D q → f p ≡ f q → p ≡ q) (a : Behavior) (xs ys : ℕ → List Token) → AsksAt D a → ((q : ℕ) → D q → ys q ≡ xs (f q)) → trace_end (at_streams f a) xs ≡ trace_end_at f (trace_end a ys)
+placed_trace_end D f inj Finished xs ys d h = refl
+placed_trace_end D f inj OutOfTurns xs ys d h = refl
+placed_trace_end D f inj (Act a rest) xs ys d h = placed_trace_end D f inj rest xs ys d h
+placed_trace_end D f inj (Await p how rest) xs ys (dp, d) h =
+    ap (λ l. on_offer (first_offer how l) (Needs (f p)) (Bad (f p)) (λ t v. trace_end (at_streams f (rest v)) (lists_after how (f p) xs))) (sym (h p dp))
+    ∙ found_trace_end (trace_end_at f) (first_offer how (ys p)) (Needs p) (Bad p) _ (λ t v. trace_end (rest v) (lists_after how p ys))
+    (λ t v. placed_trace_end D f inj (rest v) (lists_after how (f p) xs) (lists_after how p ys) (d v) (lists_placed D f inj how p dp xs ys h))
 
 -- a job looks at its own lists alone
 found_same : {A : Type 0} (o : Offer) (a b : A) (g h : Token → ℕ → A) → ((t : Token) (v : ℕ) → g t v ≡ h t v) → on_offer o a b g ≡ on_offer o a b h
@@ -84,14 +84,14 @@ asks_ticks D (Await s how rest) xs ys (o, os) h =
     ∙ found_same (first_offer how (ys s)) [] [] _ (λ t v. tick_of how s t ∷ ticks (rest v) (lists_after how s ys))
     (λ t v. ap (λ l. tick_of how s t ∷ l) (asks_ticks D (rest v) (lists_after how s xs) (lists_after how s ys) (os v) (lists_same D how s xs ys h)))
 
-pub asks_mark : (D : ℕ → Type 0) (a : Behavior) (xs ys : ℕ → List Token) → AsksAt D a → ((s : ℕ) → D s → xs s ≡ ys s) → mark a xs ≡ mark a ys
-asks_mark D Finished xs ys o h = refl
-asks_mark D OutOfTurns xs ys o h = refl
-asks_mark D (Act a rest) xs ys o h = asks_mark D rest xs ys o h
-asks_mark D (Await s how rest) xs ys (o, os) h =
-    ap (λ l. on_offer (first_offer how l) (Needs s) (Bad s) (λ t v. mark (rest v) (lists_after how s xs))) (h s o)
-    ∙ found_same (first_offer how (ys s)) (Needs s) (Bad s) _ (λ t v. mark (rest v) (lists_after how s ys))
-    (λ t v. asks_mark D (rest v) (lists_after how s xs) (lists_after how s ys) (os v) (lists_same D how s xs ys h))
+pub asks_trace_end : (D : ℕ → Type 0) (a : Behavior) (xs ys : ℕ → List Token) → AsksAt D a → ((s : ℕ) → D s → xs s ≡ ys s) → trace_end a xs ≡ trace_end a ys
+asks_trace_end D Finished xs ys o h = refl
+asks_trace_end D OutOfTurns xs ys o h = refl
+asks_trace_end D (Act a rest) xs ys o h = asks_trace_end D rest xs ys o h
+asks_trace_end D (Await s how rest) xs ys (o, os) h =
+    ap (λ l. on_offer (first_offer how l) (Needs s) (Bad s) (λ t v. trace_end (rest v) (lists_after how s xs))) (h s o)
+    ∙ found_same (first_offer how (ys s)) (Needs s) (Bad s) _ (λ t v. trace_end (rest v) (lists_after how s ys))
+    (λ t v. asks_trace_end D (rest v) (lists_after how s xs) (lists_after how s ys) (os v) (lists_same D how s xs ys h))
 
 owns_asks : (p c : ℕ → ℕ) (i : ℕ) (a : Behavior) → Owns p c i a → AsksAt (λ s. c s ≡ i) a
 owns_asks p c i Finished o = tt
@@ -102,8 +102,8 @@ owns_asks p c i (Await s how rest) (o, os) = (o, λ v. owns_asks p c i (rest v) 
 pub ticks_own : (p c : ℕ → ℕ) (i : ℕ) (a : Behavior) (xs ys : ℕ → List Token) → Owns p c i a → ((s : ℕ) → c s ≡ i → xs s ≡ ys s) → ticks a xs ≡ ticks a ys
 ticks_own p c i a xs ys o h = asks_ticks (λ s. c s ≡ i) a xs ys (owns_asks p c i a o) h
 
-pub mark_own : (p c : ℕ → ℕ) (i : ℕ) (a : Behavior) (xs ys : ℕ → List Token) → Owns p c i a → ((s : ℕ) → c s ≡ i → xs s ≡ ys s) → mark a xs ≡ mark a ys
-mark_own p c i a xs ys o h = asks_mark (λ s. c s ≡ i) a xs ys (owns_asks p c i a o) h
+pub trace_end_own : (p c : ℕ → ℕ) (i : ℕ) (a : Behavior) (xs ys : ℕ → List Token) → Owns p c i a → ((s : ℕ) → c s ≡ i → xs s ≡ ys s) → trace_end a xs ≡ trace_end a ys
+trace_end_own p c i a xs ys o h = asks_trace_end (λ s. c s ≡ i) a xs ys (owns_asks p c i a o) h
 
 -- what a job takes begins its lists
 first_is : (how : StreamOperation) (x t : Token) (v : ℕ) → judge_token how x ≡ Answer t v → x ≡ t

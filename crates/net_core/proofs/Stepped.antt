@@ -9,10 +9,10 @@ use Rattle.tapa_base.specs.declared.token.Token.{Token}
 use Rattle.kahn_model.specs.declared.tick.Action.TheVariants.{Local, Put, Load, Store}
 use Rattle.kahn_model.specs.declared.tick.Tick.{Tick}
 use Rattle.kahn_model.specs.declared.tick.Tick.TheVariants.{Did, Take, See, End}
-use Rattle.kahn_model.specs.declared.tick.Mark.{Mark}
-use Rattle.kahn_model.specs.declared.tick.Mark.TheVariants.{Ended, Needs, Bad}
+use Rattle.kahn_model.specs.declared.tick.TraceEnd.{TraceEnd}
+use Rattle.kahn_model.specs.declared.tick.TraceEnd.TheVariants.{Ended, Needs, Bad}
 use Rattle.kahn_model.specs.Prefix.{IsPrefixOf}
-use Rattle.kahn_model.specs.Behavior.{Behavior, Finished, OutOfTurns, Act, Await, ticks, mark, Extends}
+use Rattle.kahn_model.specs.Behavior.{Behavior, Finished, OutOfTurns, Act, Await, ticks, trace_end, Extends}
 use Rattle.kahn_model.specs.Network.{Network, IsNetwork, put_on, take_from, round}
 use Rattle.kahn_model.specs.Counts.{round_of, ticks_made, written, taken, IsAllowed, IsReachable, IsFounded}
 use Rattle.kahn_model.proofs.Order.{prefix_refl, prefix_trans, prefix_flat_map, prefix_take, take_prefix, prefix_length, prefix_get, prefix_whole}
@@ -26,8 +26,8 @@ use Rattle.net_core.specs.declared.body.Pause.TheVariants.{Ended as HasEnded, Wa
 use Rattle.net_core.specs.Ports.{waiting, room_at}
 use Rattle.net_core.specs.Resume.{lists_at, Agrees, HasRoomAt, StopsAt, GoesOnBy, PausesBy, Resumed}
 use Rattle.net_core.specs.Waits.{StopsIn, IsFullFor, HoldsPause}
-use Rattle.net_core.specs.Placement.{tick_at, mark_at, TickAt, AreAt, IsPlaced, IsStanding, PortsAre}
-use Rattle.net_core.proofs.Placed.{placed_ticks, placed_mark, asks_ticks, asks_mark, takes_begin, ticks_at, at_asks, are_prefix, takes_same, puts_same, put_found, take_found, map_prefix, map_get, at_get}
+use Rattle.net_core.specs.Placement.{tick_at, trace_end_at, TickAt, AreAt, IsPlaced, IsStanding, PortsAre}
+use Rattle.net_core.proofs.Placed.{placed_ticks, placed_trace_end, asks_ticks, asks_trace_end, takes_begin, ticks_at, at_asks, are_prefix, takes_same, puts_same, put_found, take_found, map_prefix, map_get, at_get}
 use Rattle.net_core.proofs.Chunk.{plus, plus_same, plus_other, HasRoomFor, Chunk, chunk, written_after, is_step}
 use Rattle.net_core.proofs.Stuck.{stays_stopped}
 
@@ -140,8 +140,8 @@ module _ (net : Network) (ok : IsNetwork net) (k : ℕ → ℕ) (r : IsReachable
   placed : (n : ℕ) (xs : ℕ → List Token) (ys : ℕ → List Token) → ((p : ℕ) → R p → ys p ≡ xs (f p)) → ticks (net.job i n) xs ≡ map (tick_at f) (ticks (job n) ys)
   placed n xs ys h = ap (λ t. ticks t xs) (plug.placed n) ∙ placed_ticks R f plug.reads_one (job n) xs ys (at_asks R W (job n) (plug.at n)) h
 
-  placed_at : (n : ℕ) (xs : ℕ → List Token) (ys : ℕ → List Token) → ((p : ℕ) → R p → ys p ≡ xs (f p)) → mark (net.job i n) xs ≡ mark_at f (mark (job n) ys)
-  placed_at n xs ys h = ap (λ t. mark t xs) (plug.placed n) ∙ placed_mark R f plug.reads_one (job n) xs ys (at_asks R W (job n) (plug.at n)) h
+  placed_at : (n : ℕ) (xs : ℕ → List Token) (ys : ℕ → List Token) → ((p : ℕ) → R p → ys p ≡ xs (f p)) → trace_end (net.job i n) xs ≡ trace_end_at f (trace_end (job n) ys)
+  placed_at n xs ys h = ap (λ t. trace_end t xs) (plug.placed n) ∙ placed_trace_end R f plug.reads_one (job n) xs ys (at_asks R W (job n) (plug.at n)) h
 
   ticks_are_at : AreAt R W st.ticks
   ticks_are_at = are_prefix R W st.ticks _ st.runs (ticks_at R W (job st.tests) ours (plug.at st.tests))
@@ -176,8 +176,8 @@ module _ (net : Network) (ok : IsNetwork net) (k : ℕ → ℕ) (r : IsReachable
     runs_same : (n : ℕ) → ticks (job n) (lists_at st.ticks ports) ≡ ticks (job n) (λ p. written net k (f p))
     runs_same n = asks_ticks R (job n) (lists_at st.ticks ports) (λ p. written net k (f p)) (at_asks R W (job n) (plug.at n)) lists_are
 
-    marks_same : (n : ℕ) → mark (job n) (lists_at st.ticks ports) ≡ mark (job n) (λ p. written net k (f p))
-    marks_same n = asks_mark R (job n) (lists_at st.ticks ports) (λ p. written net k (f p)) (at_asks R W (job n) (plug.at n)) lists_are
+    trace_ends_same : (n : ℕ) → trace_end (job n) (lists_at st.ticks ports) ≡ trace_end (job n) (λ p. written net k (f p))
+    trace_ends_same n = asks_trace_end R (job n) (lists_at st.ticks ports) (λ p. written net k (f p)) (at_asks R W (job n) (plug.at n)) lists_are
 
     pub agrees : Agrees job st.ticks ports
     agrees = (st.tests, subst (IsPrefixOf st.ticks) (sym (runs_same st.tests)) st.runs)
@@ -298,7 +298,7 @@ module _ (net : Network) (ok : IsNetwork net) (k : ℕ → ℕ) (r : IsReachable
       at_next : (t : Tick) → GoesOnBy job (length st.ticks + length h.made) (lists_at st.ticks ports) t → TickAt R W t
       at_next t g = at_get R W _ _ t (ticks_at R W (job g.tests) (lists_at st.ticks ports) (plug.at g.tests)) g.next
 
-      stops_is : (m : Mark) → ((p : ℕ) → R p → written net later (f p) ≡ written net k (f p)) → StopsAt job (length st.ticks + length h.made) (lists_at st.ticks ports) m → StopsIn net later i (mark_at f m)
+      stops_is : (m : TraceEnd) → ((p : ℕ) → R p → written net later (f p) ≡ written net k (f p)) → StopsAt job (length st.ticks + length h.made) (lists_at st.ticks ports) m → StopsIn net later i (trace_end_at f m)
       stops_is m w s =
           let n = s.tests in
           let e = placed n (written net later) (λ p. written net k (f p)) (λ p d. sym (w p d)) in
@@ -307,7 +307,7 @@ module _ (net : Network) (ok : IsNetwork net) (k : ℕ → ℕ) (r : IsReachable
           record {
             tests = n;
             all = ap length e ∙ l ∙ ap length (sym (runs_same n)) ∙ s.all ∙ now_count;
-            at = e' ∙ ap (mark_at f) (sym (marks_same n) ∙ s.at);
+            at = e' ∙ ap (trace_end_at f) (sym (trace_ends_same n) ∙ s.at);
           }
 
       full_is : (p : ℕ) → ((p : ℕ) → W p → taken net later (f p) ≡ taken net k (f p)) → (t : Token) → GoesOnBy job (length st.ticks + length h.made) (lists_at st.ticks ports) (Did (Put p t)) → room_at after p ≡ 0 → IsFullFor net later i (f p)

@@ -7,9 +7,9 @@ use Rattle.std.proofs.lemmas.Option.{slice_get_within}
 use Rattle.tapa_base.specs.declared.token.Token.{Token}
 use Rattle.kahn_model.specs.declared.tick.Tick.{Tick}
 use Rattle.kahn_model.specs.declared.tick.Tick.TheVariants.{Did, End}
-use Rattle.kahn_model.specs.declared.tick.Mark.{Mark}
-use Rattle.kahn_model.specs.declared.tick.Mark.TheVariants.{Ended, Needs, Bad, Turns}
-use Rattle.kahn_model.specs.Behavior.{Behavior, Finished, OutOfTurns, Act, Await, Offer, NoToken, WrongToken, Answer, first_offer, lists_after, on_offer, ticks, mark, Extends, Lasts}
+use Rattle.kahn_model.specs.declared.tick.TraceEnd.{TraceEnd}
+use Rattle.kahn_model.specs.declared.tick.TraceEnd.TheVariants.{Ended, Needs, Bad, Turns}
+use Rattle.kahn_model.specs.Behavior.{Behavior, Finished, OutOfTurns, Act, Await, Offer, NoToken, WrongToken, Answer, first_offer, lists_after, on_offer, ticks, trace_end, Extends, Lasts}
 use Rattle.kahn_model.specs.Network.{Network, IsNetwork, round}
 use Rattle.kahn_model.specs.Counts.{round_of, ticks_made, written, IsSupplied, IsFounded, HasEnded}
 use Rattle.kahn_model.specs.Outcome.{StandsAt}
@@ -20,35 +20,35 @@ use Rattle.kahn_model.proofs.Reach.{full, total_has}
 use Rattle.kahn_model.proofs.Local.{here, here_prefix, fed_is_here}
 use Rattle.kahn_model.proofs.Ends.{has_end}
 use Rattle.net_core.specs.Waits.{StopsIn}
-use Rattle.net_core.proofs.Placed.{ticks_own, mark_own}
+use Rattle.net_core.proofs.Placed.{ticks_own, trace_end_own}
 
 -- a job that stops does the same however many tests its loops may make
-settled_found : (o : Offer) (a b : Mark) (f : Token → ℕ → List Tick) (g : Token → ℕ → List Tick) (m : Token → ℕ → Mark) (n : Token → ℕ → Mark) → ((t : Token) (v : ℕ) → (m t v ≡ Turns → ⊥) → (g t v ≡ f t v) × (n t v ≡ m t v)) → (on_offer o a b m ≡ Turns → ⊥) → (on_offer o [] [] g ≡ on_offer o [] [] f) × (on_offer o a b n ≡ on_offer o a b m)
+settled_found : (o : Offer) (a b : TraceEnd) (f : Token → ℕ → List Tick) (g : Token → ℕ → List Tick) (m : Token → ℕ → TraceEnd) (n : Token → ℕ → TraceEnd) → ((t : Token) (v : ℕ) → (m t v ≡ Turns → ⊥) → (g t v ≡ f t v) × (n t v ≡ m t v)) → (on_offer o a b m ≡ Turns → ⊥) → (on_offer o [] [] g ≡ on_offer o [] [] f) × (on_offer o a b n ≡ on_offer o a b m)
 settled_found NoToken a b f g m n h d = (refl, refl)
 settled_found WrongToken a b f g m n h d = (refl, refl)
 settled_found (Answer t v) a b f g m n h d = h t v d
 
-pub settled : (a b : Behavior) (xs : ℕ → List Token) → Extends a b → (mark a xs ≡ Turns → ⊥) → (ticks b xs ≡ ticks a xs) × (mark b xs ≡ mark a xs)
-settled Finished b xs e d = (ap (λ t. ticks t xs) e, ap (λ t. mark t xs) e)
+pub settled : (a b : Behavior) (xs : ℕ → List Token) → Extends a b → (trace_end a xs ≡ Turns → ⊥) → (ticks b xs ≡ ticks a xs) × (trace_end b xs ≡ trace_end a xs)
+settled Finished b xs e d = (ap (λ t. ticks t xs) e, ap (λ t. trace_end t xs) e)
 settled OutOfTurns b xs e d = absurd (d refl)
 settled (Act a rest) b xs (rest', e, h) d =
-    let s = settled rest rest' xs h d in (ap (λ t. ticks t xs) e ∙ ap (λ l. Did a ∷ l) s.0, ap (λ t. mark t xs) e ∙ s.1)
+    let s = settled rest rest' xs h d in (ap (λ t. ticks t xs) e ∙ ap (λ l. Did a ∷ l) s.0, ap (λ t. trace_end t xs) e ∙ s.1)
 settled (Await s how rest) b xs (rest', e, h) d =
     let p = settled_found (first_offer how (xs s)) (Needs s) (Bad s) _ _ _ _
     (λ t v d'. let q = settled (rest v) (rest' v) (lists_after how s xs) (h v) d' in
     (ap (λ l. Rattle.kahn_model.specs.Behavior.tick_of how s t ∷ l) q.0, q.1)) d in (
       ap (λ t. ticks t xs) e ∙ p.0,
-      ap (λ t. mark t xs) e ∙ p.1,
+      ap (λ t. trace_end t xs) e ∙ p.1,
     )
 
 -- a job that is cut has made as many ticks as its loops may make tests
-cut_late : (net : Network) → IsNetwork net → (n i : ℕ) (xs : ℕ → List Token) → mark (net.job i n) xs ≡ Turns → n ≤ length (ticks (net.job i n) xs)
+cut_late : (net : Network) → IsNetwork net → (n i : ℕ) (xs : ℕ → List Token) → trace_end (net.job i n) xs ≡ Turns → n ≤ length (ticks (net.job i n) xs)
 cut_late net ok n i xs e =
     subst (λ m. IsLate m (ticks (net.job i n) xs) (ticks (net.job i n) xs) xs n) e
     (late (net.job i n) (net.job i n) xs xs n (ok.grows i n n (omega arith)) (λ s. prefix_refl (xs s)) (ok.lasts i n))
 
 -- where it stopped, by any number of tests that is more than its ticks
-pub stops_any : (net : Network) → IsNetwork net → (n m i : ℕ) (xs : ℕ → List Token) → (mark (net.job i n) xs ≡ Turns → ⊥) → length (ticks (net.job i n) xs) < m → (ticks (net.job i m) xs ≡ ticks (net.job i n) xs) × (mark (net.job i m) xs ≡ mark (net.job i n) xs)
+pub stops_any : (net : Network) → IsNetwork net → (n m i : ℕ) (xs : ℕ → List Token) → (trace_end (net.job i n) xs ≡ Turns → ⊥) → length (ticks (net.job i n) xs) < m → (ticks (net.job i m) xs ≡ ticks (net.job i n) xs) × (trace_end (net.job i m) xs ≡ trace_end (net.job i n) xs)
 stops_any net ok n m i xs d l =
     ⊎_elim
     (λ (h : n < m). settled (net.job i n) (net.job i m) xs (ok.grows i n m (omega arith)) d)
@@ -59,7 +59,7 @@ stops_any net ok n m i xs d l =
     (cases_lt n m)
 
 module _ (net : Network) (ok : IsNetwork net) (k : ℕ → ℕ) (r : IsFounded net k) (i : ℕ) (inside : i < net.size) where
-  pub stops_here : (m : Mark) → (m ≡ Turns → ⊥) → StopsIn net k i m → StandsAt net k i m
+  pub stops_here : (m : TraceEnd) → (m ≡ Turns → ⊥) → StopsIn net k i m → StandsAt net k i m
   stops_here m d st =
       let xs = written net k in
       let t = total_has net.size i k inside in
@@ -67,7 +67,7 @@ module _ (net : Network) (ok : IsNetwork net) (k : ℕ → ℕ) (r : IsFounded n
       let s = stops_any net ok st.tests (round_of net k) i xs (λ e. d (sym st.at ∙ e)) l in
       record { all = ap length s.0 ∙ st.all; at = s.1 ∙ st.at }
 
-  pub not_fed : (m : Mark) → (m ≡ Turns → ⊥) → StopsIn net k i m → IsSupplied net k i → ⊥
+  pub not_fed : (m : TraceEnd) → (m ≡ Turns → ⊥) → StopsIn net k i m → IsSupplied net k i → ⊥
   not_fed m d st f =
       let s = stops_here m d st in
       let e = s.all in
@@ -95,9 +95,9 @@ module _ (net : Network) (ok : IsNetwork net) (k : ℕ → ℕ) (r : IsFounded n
       (h.0, subst (λ ts. slice_get ts h.0 ≡ Some End) (sym (made_is (here net k i) refl s.all)) h.1)
 
   -- what a pause says holds until a stream of the instance changes
-  pub stays_stopped : (l : ℕ → ℕ) (m : Mark) → l i ≡ k i → ((s : ℕ) → net.consumer s ≡ i → written net l s ≡ written net k s) → StopsIn net k i m → StopsIn net l i m
+  pub stays_stopped : (l : ℕ → ℕ) (m : TraceEnd) → l i ≡ k i → ((s : ℕ) → net.consumer s ≡ i → written net l s ≡ written net k s) → StopsIn net k i m → StopsIn net l i m
   stays_stopped l m e w st = record {
     tests = st.tests;
     all = ap length (ticks_own net.producer net.consumer i (net.job i st.tests) (written net l) (written net k) (ok.owns i st.tests) w) ∙ st.all ∙ sym e;
-    at = mark_own net.producer net.consumer i (net.job i st.tests) (written net l) (written net k) (ok.owns i st.tests) w ∙ st.at;
+    at = trace_end_own net.producer net.consumer i (net.job i st.tests) (written net l) (written net k) (ok.owns i st.tests) w ∙ st.at;
   }

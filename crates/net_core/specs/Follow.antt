@@ -4,11 +4,11 @@ use Rattle.tapa_base.specs.declared.token.Token.{Token}
 use Rattle.kahn_model.specs.declared.tick.Tick.{Tick}
 use Rattle.kahn_model.specs.declared.tick.Tick.TheVariants.{Did}
 use Rattle.kahn_model.specs.declared.tick.Action.TheVariants.{Put}
-use Rattle.kahn_model.specs.declared.tick.Mark.{Mark}
-use Rattle.kahn_model.specs.declared.tick.Mark.TheVariants.{Ended}
+use Rattle.kahn_model.specs.declared.tick.TraceEnd.{TraceEnd}
+use Rattle.kahn_model.specs.declared.tick.TraceEnd.TheVariants.{Ended}
 use Rattle.kahn_model.specs.declared.tick.StreamOperation.{StreamOperation}
 use Rattle.kahn_model.specs.Prefix.{IsPrefixOf}
-use Rattle.kahn_model.specs.Behavior.{Behavior, Finished, OutOfTurns, Act, Await, WrongToken, Answer, judge_token, ticks, mark}
+use Rattle.kahn_model.specs.Behavior.{Behavior, Finished, OutOfTurns, Act, Await, WrongToken, Answer, judge_token, ticks, trace_end}
 use Rattle.kahn_model.specs.Network.{take_from}
 use Rattle.net_core.specs.declared.ports.Ports.{Ports}
 use Rattle.net_core.specs.declared.body.Pause.{Pause}
@@ -25,9 +25,9 @@ abbrev pub ticks_left : Rest → (ℕ → List Token) → List Tick
 ticks_left Over ins = []
 ticks_left (Still a) ins = ticks a ins
 
-abbrev pub mark_left : Rest → (ℕ → List Token) → Mark
-mark_left Over ins = Ended
-mark_left (Still a) ins = mark a ins
+abbrev pub trace_end_left : Rest → (ℕ → List Token) → TraceEnd
+trace_end_left Over ins = Ended
+trace_end_left (Still a) ins = trace_end a ins
 
 -- the lists without what the ticks took
 abbrev pub left : List Tick → (ℕ → List Token) → ℕ → List Token
@@ -36,7 +36,7 @@ left ts ins p = drop (length (flat_map (take_from p) ts)) (ins p)
 -- wherever the job makes these ticks, the rest is what it makes then
 abbrev pub Follows : (ℕ → Behavior) → List Tick → (ℕ → Rest) → Type 0
 Follows job ts rest =
-    (n : ℕ) (ins : ℕ → List Token) → IsPrefixOf ts (ticks (job n) ins) → (ticks (job n) ins ≡ ts ++ ticks_left (rest n) (left ts ins)) × (mark (job n) ins ≡ mark_left (rest n) (left ts ins))
+    (n : ℕ) (ins : ℕ → List Token) → IsPrefixOf ts (ticks (job n) ins) → (ticks (job n) ins ≡ ts ++ ticks_left (rest n) (left ts ins)) × (trace_end (job n) ins ≡ trace_end_left (rest n) (left ts ins))
 
 -- a call that has made these ticks so far
 pub record Going (job : ℕ → Behavior) (ts : List Tick) (before : Ports) (made : List Tick) (after : Ports) (rest : ℕ → Rest) : Type 0 where

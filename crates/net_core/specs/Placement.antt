@@ -4,8 +4,8 @@ use Rattle.kahn_model.specs.declared.tick.Action.{Action}
 use Rattle.kahn_model.specs.declared.tick.Action.TheVariants.{Local, Put, Load, Store}
 use Rattle.kahn_model.specs.declared.tick.Tick.{Tick}
 use Rattle.kahn_model.specs.declared.tick.Tick.TheVariants.{Did, Take, See, End}
-use Rattle.kahn_model.specs.declared.tick.Mark.{Mark}
-use Rattle.kahn_model.specs.declared.tick.Mark.TheVariants.{Ended, Needs, Bad, Turns}
+use Rattle.kahn_model.specs.declared.tick.TraceEnd.{TraceEnd}
+use Rattle.kahn_model.specs.declared.tick.TraceEnd.TheVariants.{Ended, Needs, Bad, Turns}
 use Rattle.kahn_model.specs.Prefix.{IsPrefixOf}
 use Rattle.kahn_model.specs.Behavior.{Behavior, Finished, OutOfTurns, Act, Await, ticks}
 use Rattle.kahn_model.specs.Network.{Network}
@@ -20,11 +20,11 @@ tick_at f (Take s t) = Take (f s) t
 tick_at f (See s t) = See (f s) t
 tick_at f End = End
 
-abbrev pub mark_at : (ℕ → ℕ) → Mark → Mark
-mark_at f Ended = Ended
-mark_at f (Needs s) = Needs (f s)
-mark_at f (Bad s) = Bad (f s)
-mark_at f Turns = Turns
+abbrev pub trace_end_at : (ℕ → ℕ) → TraceEnd → TraceEnd
+trace_end_at f Ended = Ended
+trace_end_at f (Needs s) = Needs (f s)
+trace_end_at f (Bad s) = Bad (f s)
+trace_end_at f Turns = Turns
 
 -- a job asks at these ports alone
 abbrev pub AsksAt : (ℕ → Type 0) → Behavior → Type 0

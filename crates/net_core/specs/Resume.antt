@@ -4,9 +4,9 @@ use Rattle.tapa_base.specs.declared.token.Token.{Token}
 use Rattle.kahn_model.specs.declared.tick.Action.TheVariants.{Put}
 use Rattle.kahn_model.specs.declared.tick.Tick.{Tick}
 use Rattle.kahn_model.specs.declared.tick.Tick.TheVariants.{Did}
-use Rattle.kahn_model.specs.declared.tick.Mark.{Mark}
-use Rattle.kahn_model.specs.declared.tick.Mark.TheVariants.{Ended, Needs, Bad}
-use Rattle.kahn_model.specs.Behavior.{Behavior, ticks, mark}
+use Rattle.kahn_model.specs.declared.tick.TraceEnd.{TraceEnd}
+use Rattle.kahn_model.specs.declared.tick.TraceEnd.TheVariants.{Ended, Needs, Bad}
+use Rattle.kahn_model.specs.Behavior.{Behavior, ticks, trace_end}
 use Rattle.kahn_model.specs.Network.{take_from}
 use Rattle.kahn_model.specs.Prefix.{IsPrefixOf}
 use Rattle.net_core.specs.declared.ports.Ports.{Ports}
@@ -37,11 +37,11 @@ abbrev pub HasRoomAt : Ports → Tick → Type 0
 HasRoomAt ports (Did (Put p t)) = 0 < room_at ports p
 HasRoomAt ports _ = Unit {0}
 
--- the job has no more ticks on these lists, and this mark
-pub record StopsAt (job : ℕ → Behavior) (made : ℕ) (ins : ℕ → List Token) (m : Mark) : Type 0 where
+-- the job has no more ticks on these lists, and this end
+pub record StopsAt (job : ℕ → Behavior) (made : ℕ) (ins : ℕ → List Token) (m : TraceEnd) : Type 0 where
   pub tests : ℕ
   pub all : length (ticks (job tests) ins) ≡ made
-  pub at : mark (job tests) ins ≡ m
+  pub at : trace_end (job tests) ins ≡ m
 
 -- it has this tick next
 pub record GoesOnBy (job : ℕ → Behavior) (made : ℕ) (ins : ℕ → List Token) (t : Tick) : Type 0 where

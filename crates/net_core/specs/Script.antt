@@ -14,7 +14,7 @@ use Rattle.net_core.specs.declared.script.Script.{Script}
 use Rattle.kahn_model.specs.Fits.{IsTokenOf}
 use Rattle.net_core.specs.Kinds.{kind_in}
 use Rattle.net_core.specs.Job.{Job}
-use Rattle.net_core.specs.Follow.{Rest, Over, Still, ticks_left, mark_left, left, Follows}
+use Rattle.net_core.specs.Follow.{Rest, Over, Still, ticks_left, trace_end_left, left, Follows}
 use Rattle.net_core.specs.Ports.{waiting, Moved}
 
 abbrev pub script : List Step → Behavior
@@ -45,7 +45,7 @@ pub record IsAt (s : Script) (job : Job) (ts : List Tick) : Type 0 where
 pub record GoesTo (rest : Rest) (before : Ports) (next : Rest) (after : Ports) : Type 0 where
   pub tick : Tick
   pub step :
-      (ins : ℕ → List Token) → IsPrefixOf (tick ∷ []) (ticks_left rest ins) → (ticks_left rest ins ≡ tick ∷ ticks_left next (left (tick ∷ []) ins)) × (mark_left rest ins ≡ mark_left next (left (tick ∷ []) ins))
+      (ins : ℕ → List Token) → IsPrefixOf (tick ∷ []) (ticks_left rest ins) → (ticks_left rest ins ≡ tick ∷ ticks_left next (left (tick ∷ []) ins)) × (trace_end_left rest ins ≡ trace_end_left next (left (tick ∷ []) ins))
   pub more : List Tick
   pub head : ticks_left rest (λ p. waiting before p) ≡ tick ∷ more
   pub moved : Moved before (tick ∷ []) after

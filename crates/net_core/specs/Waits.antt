@@ -3,20 +3,20 @@ use Rattle.std.specs.Prelude.{◌≡◌, ℕ, ◌-◌, ◌≤◌, length, Some, 
 use Rattle.tapa_base.specs.declared.token.Token.{Token}
 use Rattle.kahn_model.specs.declared.tick.Action.TheVariants.{Put}
 use Rattle.kahn_model.specs.declared.tick.Tick.TheVariants.{Did}
-use Rattle.kahn_model.specs.declared.tick.Mark.{Mark}
-use Rattle.kahn_model.specs.declared.tick.Mark.TheVariants.{Ended, Needs, Bad}
-use Rattle.kahn_model.specs.Behavior.{ticks, mark}
+use Rattle.kahn_model.specs.declared.tick.TraceEnd.{TraceEnd}
+use Rattle.kahn_model.specs.declared.tick.TraceEnd.TheVariants.{Ended, Needs, Bad}
+use Rattle.kahn_model.specs.Behavior.{ticks, trace_end}
 use Rattle.kahn_model.specs.Network.{Network}
 use Rattle.kahn_model.specs.Counts.{written, taken, IsAllowed, HasEnded as Ends}
 use Rattle.kahn_model.specs.Outcome.{WaitsToRead, WaitsToWrite, HasBadToken}
 use Rattle.net_core.specs.declared.body.Pause.{Pause}
 use Rattle.net_core.specs.declared.body.Pause.TheVariants.{Ended as HasEnded, WantsRead, WantsWrite, BadToken, Fuel}
 
--- the run of instance i on what is written stops where the count is, with this mark
-pub record StopsIn (net : Network) (k : ℕ → ℕ) (i : ℕ) (m : Mark) : Type 0 where
+-- the run of instance i on what is written stops where the count is, with this end
+pub record StopsIn (net : Network) (k : ℕ → ℕ) (i : ℕ) (m : TraceEnd) : Type 0 where
   pub tests : ℕ
   pub all : length (ticks (net.job i tests) (written net k)) ≡ k i
-  pub at : mark (net.job i tests) (written net k) ≡ m
+  pub at : trace_end (net.job i tests) (written net k) ≡ m
 
 -- its next tick is a put on a stream that is full
 pub record IsFullFor (net : Network) (k : ℕ → ℕ) (i : ℕ) (s : ℕ) : Type 0 where

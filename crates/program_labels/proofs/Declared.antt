@@ -12,9 +12,9 @@ use Rattle.tapa_syntax.specs.Characters.{Bytes}
 use Rattle.tapa_syntax.specs.Trees as tree
 use Rattle.tapa_syntax.specs.Trees.{StreamTree, BodyTree, TaskTree, ItemTree}
 use Rattle.check_scope.specs.declared.fault.CheckCode.TheVariants.{C2}
-use Rattle.check_scope.specs.declared.sort.Sort.{Sort}
-use Rattle.check_scope.specs.declared.sort.Sort.TheVariants as sort
-use Rattle.check_scope.specs.Scopes.{Block, Scope, in_block, sort_here, declaring}
+use Rattle.check_scope.specs.declared.entity.Entity.{Entity}
+use Rattle.check_scope.specs.declared.entity.Entity.TheVariants as entity
+use Rattle.check_scope.specs.Scopes.{Block, Scope, in_block, entity_here, declaring}
 use Rattle.check_scope.specs.Faults.{is_there, doubled}
 use Rattle.check_expression.specs.Expressions.{wanted, constant_value}
 use Rattle.check_leaf.specs.Statements.{statements_faults, codes_of}
@@ -57,46 +57,46 @@ IsOpen (b ∷ E) = Unit {0}
 
 -- the innermost block declares a name
 abbrev IsHere : Bytes → Scope → Type 0
-IsHere x E = is_there (sort_here x E) ≡ true
+IsHere x E = is_there (entity_here x E) ≡ true
 
-not_here : (E : Scope) (x : Name) → doubled E x ≡ [] → is_there (sort_here x.text E) ≡ false
-not_here E x h = holds_not (is_there (sort_here x.text E)) (record { code = C2; place = x.place; limit = None }) h
+not_here : (E : Scope) (x : Name) → doubled E x ≡ [] → is_there (entity_here x.text E) ≡ false
+not_here E x h = holds_not (is_there (entity_here x.text E)) (record { code = C2; place = x.place; limit = None }) h
 
-there_first : (b : Bool) (s : Sort) (o : Option Sort) → b ≡ true → is_there (if b then Some s else o) ≡ true
+there_first : (b : Bool) (s : Entity) (o : Option Entity) → b ≡ true → is_there (if b then Some s else o) ≡ true
 there_first true s o h = refl
 there_first false s o h = absurd (cc)
 
-there_second : (b : Bool) (s : Sort) (o : Option Sort) → is_there o ≡ true → is_there (if b then Some s else o) ≡ true
+there_second : (b : Bool) (s : Entity) (o : Option Entity) → is_there o ≡ true → is_there (if b then Some s else o) ≡ true
 there_second true s o h = refl
 there_second false s o h = h
 
-there_still : (b : Bool) (s : Sort) (o p : Option Sort) → (is_there o ≡ true → is_there p ≡ true) → is_there (if b then Some s else o) ≡ true → is_there (if b then Some s else p) ≡ true
+there_still : (b : Bool) (s : Entity) (o p : Option Entity) → (is_there o ≡ true → is_there p ≡ true) → is_there (if b then Some s else o) ≡ true → is_there (if b then Some s else p) ≡ true
 there_still true s o p f h = refl
 there_still false s o p f h = f h
 
-in_more : (x y : Bytes) (s : Sort) (b : Block) → is_there (in_block x b) ≡ true → is_there (in_block x (b ++ (y, s) ∷ [])) ≡ true
+in_more : (x y : Bytes) (s : Entity) (b : Block) → is_there (in_block x b) ≡ true → is_there (in_block x (b ++ (y, s) ∷ [])) ≡ true
 in_more x y s [] h = absurd (cc)
 in_more x y s (d ∷ rest) h = there_still (bytes_eq d.0 x) d.1 (in_block x rest) (in_block x (rest ++ (y, s) ∷ [])) (in_more x y s rest) h
 
-in_last : (x : Bytes) (s : Sort) (b : Block) → is_there (in_block x (b ++ (x, s) ∷ [])) ≡ true
+in_last : (x : Bytes) (s : Entity) (b : Block) → is_there (in_block x (b ++ (x, s) ∷ [])) ≡ true
 in_last x s [] = there_first (bytes_eq x x) s None ((bytes_eq-Decides x x).1 refl)
 in_last x s (d ∷ rest) = there_second (bytes_eq d.0 x) d.1 (in_block x (rest ++ (x, s) ∷ [])) (in_last x s rest)
 
-still_open : (y : Bytes) (s : Sort) (E : Scope) → IsOpen E → IsOpen (declaring y s E)
+still_open : (y : Bytes) (s : Entity) (E : Scope) → IsOpen E → IsOpen (declaring y s E)
 still_open y s [] o = o
 still_open y s (b ∷ []) o = tt
 still_open y s (b ∷ c ∷ E) o = tt
 
-deeper : (x : Bytes) (b : Block) (E : Scope) → IsOpen E → sort_here x E ≡ sort_here x (b ∷ E)
+deeper : (x : Bytes) (b : Block) (E : Scope) → IsOpen E → entity_here x E ≡ entity_here x (b ∷ E)
 deeper x b [] o = absurd o
 deeper x b (c ∷ E) o = refl
 
-here_more : (x y : Bytes) (s : Sort) (E : Scope) → IsHere x E → IsHere x (declaring y s E)
+here_more : (x y : Bytes) (s : Entity) (E : Scope) → IsHere x E → IsHere x (declaring y s E)
 here_more x y s [] h = h
 here_more x y s (b ∷ []) h = in_more x y s b h
 here_more x y s (b ∷ c ∷ E) h = subst (λ o. is_there o ≡ true) (deeper x b (declaring y s (c ∷ E)) (still_open y s (c ∷ E) tt)) (here_more x y s (c ∷ E) h)
 
-here_last : (x : Bytes) (s : Sort) (E : Scope) → IsOpen E → IsHere x (declaring x s E)
+here_last : (x : Bytes) (s : Entity) (E : Scope) → IsOpen E → IsHere x (declaring x s E)
 here_last x s [] o = absurd o
 here_last x s (b ∷ []) o = in_last x s b
 here_last x s (b ∷ c ∷ E) o = subst (λ o. is_there o ≡ true) (deeper x b (declaring x s (c ∷ E)) (still_open x s (c ∷ E) tt)) (here_last x s (c ∷ E) tt)
@@ -117,7 +117,7 @@ none_declared E o = record {
 }
 
 -- a name of something else is declared
-declare_other : (xs : List Bytes) (E : Scope) (y : Bytes) (s : Sort) → Declared xs E → Declared xs (declaring y s E)
+declare_other : (xs : List Bytes) (E : Scope) (y : Bytes) (s : Entity) → Declared xs E → Declared xs (declaring y s E)
 declare_other xs E y s d = record {
   begun = still_open y s E d.begun;
   plain = d.plain;
@@ -125,10 +125,10 @@ declare_other xs E y s d = record {
   here = λ n x h. here_more x y s E (d.here n x h);
 }
 
-clash : (x y : Bytes) (E : Scope) → IsHere x E → y ≡ x → is_there (sort_here y E) ≡ false → ⊥
+clash : (x y : Bytes) (E : Scope) → IsHere x E → y ≡ x → is_there (entity_here y E) ≡ false → ⊥
 clash x y E h e k = let t : IsHere y E = subst (λ z. IsHere z E) (sym e) h in cc
 
-declare_one : (xs : List Bytes) (E : Scope) (y : Bytes) (s : Sort) → IsPlainName y → is_there (sort_here y E) ≡ false → Declared xs E → Declared (xs ++ y ∷ []) (declaring y s E)
+declare_one : (xs : List Bytes) (E : Scope) (y : Bytes) (s : Entity) → IsPlainName y → is_there (entity_here y E) ≡ false → Declared xs E → Declared (xs ++ y ∷ []) (declaring y s E)
 declare_one xs E y s k f d = record {
   begun = still_open y s E d.begun;
   plain = all_push IsPlainName xs y d.plain k;
@@ -153,10 +153,10 @@ all_named (p ∷ ps) (n, a) = (n, all_named ps a)
 
 -- of an upper-level task
 upper_parameter : (xs : List Bytes) (h : Signature) (p : Parameter) → IsPlainName (parameter_name p) → doubled h.scope (upper.parameter_name p) ≡ [] → Declared xs h.scope → Declared (xs ++ parameter_name p ∷ []) (upper.after_parameter h p).scope
-upper_parameter xs h (parameter.InputStream k x) n e d = declare_one xs h.scope x.text (sort.Stream false k h.streams) n (not_here h.scope x e) d
-upper_parameter xs h (parameter.OutputStream k x) n e d = declare_one xs h.scope x.text (sort.Stream true k h.streams) n (not_here h.scope x e) d
-upper_parameter xs h (parameter.Memory constant k x) n e d = declare_one xs h.scope x.text (sort.Memory (not constant) k h.memories) n (not_here h.scope x e) d
-upper_parameter xs h (parameter.Scalar constant k x) n e d = declare_one xs h.scope x.text (sort.Variable (not constant) k h.scalars) n (not_here h.scope x e) d
+upper_parameter xs h (parameter.InputStream k x) n e d = declare_one xs h.scope x.text (entity.Stream false k h.streams) n (not_here h.scope x e) d
+upper_parameter xs h (parameter.OutputStream k x) n e d = declare_one xs h.scope x.text (entity.Stream true k h.streams) n (not_here h.scope x e) d
+upper_parameter xs h (parameter.Memory constant k x) n e d = declare_one xs h.scope x.text (entity.Memory (not constant) k h.memories) n (not_here h.scope x e) d
+upper_parameter xs h (parameter.Scalar constant k x) n e d = declare_one xs h.scope x.text (entity.Variable (not constant) k h.scalars) n (not_here h.scope x e) d
 
 upper_parameters : (xs : List Bytes) (h : Signature) (ps : List Parameter) → AreNamedParameters ps → upper.parameters_faults h ps ≡ [] → Declared xs h.scope → Declared (xs ++ map parameter_name ps) (upper.after_parameters h ps).scope
 upper_parameters xs h [] a e d = subst (λ ys. Declared ys h.scope) (sym (append-nil xs)) d
@@ -167,10 +167,10 @@ upper_parameters xs h (p ∷ ps) (n, a) e d =
 
 -- of a leaf
 leaf_parameter : (xs : List Bytes) (h : Head) (p : Parameter) → IsPlainName (parameter_name p) → leaf.parameter_faults h p ≡ [] → Declared xs h.frame.scope → Declared (xs ++ parameter_name p ∷ []) (leaf.after_parameter h p).frame.scope
-leaf_parameter xs h (parameter.InputStream k x) n e d = declare_one xs h.frame.scope x.text (sort.Stream false k (length h.streams)) n (not_here h.frame.scope x e) d
-leaf_parameter xs h (parameter.OutputStream k x) n e d = declare_one xs h.frame.scope x.text (sort.Stream true k (length h.streams)) n (not_here h.frame.scope x e) d
-leaf_parameter xs h (parameter.Memory constant k x) n e d = declare_one xs h.frame.scope x.text (sort.Memory (not constant) k (length h.memories)) n (not_here h.frame.scope x e) d
-leaf_parameter xs h (parameter.Scalar constant k x) n e d = declare_one xs h.frame.scope x.text (sort.Variable (not constant) k (length h.frame.vars)) n (not_here h.frame.scope x (no_faults (doubled h.frame.scope x) _ e).0) d
+leaf_parameter xs h (parameter.InputStream k x) n e d = declare_one xs h.frame.scope x.text (entity.Stream false k (length h.streams)) n (not_here h.frame.scope x e) d
+leaf_parameter xs h (parameter.OutputStream k x) n e d = declare_one xs h.frame.scope x.text (entity.Stream true k (length h.streams)) n (not_here h.frame.scope x e) d
+leaf_parameter xs h (parameter.Memory constant k x) n e d = declare_one xs h.frame.scope x.text (entity.Memory (not constant) k (length h.memories)) n (not_here h.frame.scope x e) d
+leaf_parameter xs h (parameter.Scalar constant k x) n e d = declare_one xs h.frame.scope x.text (entity.Variable (not constant) k (length h.frame.vars)) n (not_here h.frame.scope x (no_faults (doubled h.frame.scope x) _ e).0) d
 
 leaf_parameters : (xs : List Bytes) (h : Head) (ps : List Parameter) → AreNamedParameters ps → leaf.parameters_faults h ps ≡ [] → Declared xs h.frame.scope → Declared (xs ++ map parameter_name ps) (leaf.after_parameters h ps).frame.scope
 leaf_parameters xs h [] a e d = subst (λ ys. Declared ys h.frame.scope) (sym (append-nil xs)) d
@@ -191,7 +191,7 @@ stream_step : (k : Kind) (depth : ℕ) (c : Channels) (x : Name) → IsPlainName
 stream_step k depth c x n e d =
     let new : Channel = record { name = x.text; place = x.place; kind = k; depth = depth } in
     subst (λ ys. Declared ys (upper.with_channel k depth c x).scope) (sym (map-append (λ (c : Channel). c.name) c.streams (new ∷ [])))
-    (declare_one (channel_names c.streams) c.scope x.text (sort.Channel k (length c.streams)) n (not_here c.scope x e) d)
+    (declare_one (channel_names c.streams) c.scope x.text (entity.Channel k (length c.streams)) n (not_here c.scope x e) d)
 
 stream_steps : (k : Kind) (depth : ℕ) (c : Channels) (xs : List Name) → AllByRecursion (λ (x : Name). IsPlainName x.text) xs → upper.channels_faults k depth c xs ≡ [] → AreDeclared c → AreDeclared (upper.with_channels k depth c xs)
 stream_steps k depth c [] a e d = d
@@ -248,13 +248,13 @@ task_step f t n e g =
     let new : Task = record { declared = t; body = body_of (with_task f.block t) f.tasks t t.body } in
     record {
       names = subst (λ ys. Declared ys (with_task f.block t ∷ [])) (sym (map-append (λ (t : Task). t.declared.name.text) f.tasks (new ∷ [])))
-          (declare_one (task_names f.tasks) (f.block ∷ []) t.name.text sort.Task n.name (not_here (f.block ∷ []) t.name h.0) g.names);
+          (declare_one (task_names f.tasks) (f.block ∷ []) t.name.text entity.Task n.name (not_here (f.block ∷ []) t.name h.0) g.names);
       tasks = all_push HasOwnParts f.tasks new g.tasks (task_parts (with_task f.block t) f.tasks t t.body n.parameters n.streams h.1);
     }
 
 item_step : (f : Items) (x : ItemTree) → IsNamedItem x → item_faults f x ≡ [] → ItemsOwn f → ItemsOwn (after_item f x)
 item_step f (tree.constant attributes k x e) n h g = record {
-  names = declare_other (task_names f.tasks) (f.block ∷ []) x.text (sort.Constant k (constant_value (wanted (f.block ∷ []) k e))) g.names;
+  names = declare_other (task_names f.tasks) (f.block ∷ []) x.text (entity.Constant k (constant_value (wanted (f.block ∷ []) k e))) g.names;
   tasks = g.tasks;
 }
 item_step f (tree.task t) n h g = task_step f t n h g

@@ -3,7 +3,7 @@ use Rattle.std.proofs.Common.{◌≡◌, inl, inr, ℕ, Bool, true, false, List,
 use Rattle.std.specs.List.{AllByRecursion}
 use Rattle.tapa_base.specs.declared.kind.Kind.{Kind}
 use Rattle.tapa_base.specs.declared.kind.Kind.TheVariants as kind
-use Rattle.tapa_syntax.specs.declared.mark.Mark.{Mark}
+use Rattle.tapa_syntax.specs.declared.terminal.Terminal.{Terminal}
 use Rattle.tapa_syntax.specs.declared.tree.Name.{Name}
 use Rattle.tapa_syntax.specs.declared.tree.AttributeArgument.{AttributeArgument}
 use Rattle.tapa_syntax.specs.declared.tree.AttributeArgument.TheVariants as attribute_argument
@@ -17,7 +17,7 @@ use Rattle.program_labels.specs.Labels.{IsPlainName}
 
 -- a symbol that may be a name is spelled as one
 pub record IsSpelled (x : Symbol) : Type 0 where
-  pub plain : is_name x.mark ≡ true → IsPlainName x.text
+  pub plain : is_name x.terminal ≡ true → IsPlainName x.text
 
 abbrev pub AreSpelled : List Symbol → Type 0
 AreSpelled symbols = AllByRecursion IsSpelled symbols
@@ -48,7 +48,7 @@ pub ◌either◌ : {P Q : Part} → Keeps P → Keeps Q → Keeps (P ∣ Q)
 pub given : {C : Type 0} {P : Part} → Keeps P → Keeps (Given C P)
 given {C} {P} p = record { kept = λ i j h spelled. p.kept i j h.1 spelled }
 
-pub may : {m : Mark} → Keeps (May m)
+pub may : {m : Terminal} → Keeps (May m)
 may {m} = symbol either nothing
 
 pub maybe : {A : Type 0} {P : A → Part} → ((x : A) → Keeps (P x)) → (o : Option A) → Keeps (Maybe P o)

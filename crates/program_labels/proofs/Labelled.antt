@@ -7,8 +7,8 @@ use Rattle.tapa_base.specs.declared.text.Place.{Place}
 use Rattle.tapa_syntax.specs.Characters.{Bytes}
 use Rattle.tapa_syntax.specs.Flat.{FlatInstance}
 use Rattle.check_upper.specs.declared.task.Channel.{Channel}
-use Rattle.check_upper.specs.declared.task.Link.{Link}
-use Rattle.check_upper.specs.declared.task.Link.TheVariants.{OwnStream, StreamParameter, MemoryParameter, ScalarParameter, Constant}
+use Rattle.check_upper.specs.declared.task.Binding.{Binding}
+use Rattle.check_upper.specs.declared.task.Binding.TheVariants.{OwnStream, StreamParameter, MemoryParameter, ScalarParameter, Constant}
 use Rattle.check_upper.specs.Tasks.{Invocation, Body, leaf_body, upper_body, Task}
 use Rattle.stream_check.specs.Parts.{Part, own, instance, too_deep, streams_in, instances_in, below, instance_name, name_of, bind, bind_all, unbound, invoked, own_parts, Expands, chain_parts, body_of, body_parts, deepest_parts, parts_of}
 use Rattle.program_labels.specs.Labels.{IsPlainName, IsLabel}
@@ -182,25 +182,25 @@ own_told label cs s named d =
 
 -- ---- what is invoked
 
-bind_label : (x : FlatInstance) (first : ℕ) (y : FlatInstance) (l : Link) → (bind x first y l).label ≡ y.label
+bind_label : (x : FlatInstance) (first : ℕ) (y : FlatInstance) (l : Binding) → (bind x first y l).label ≡ y.label
 bind_label x first y (OwnStream n) = refl
 bind_label x first y (StreamParameter n) = refl
 bind_label x first y (MemoryParameter n) = refl
 bind_label x first y (ScalarParameter n from to) = refl
 bind_label x first y (Constant n) = refl
 
-bind_labels : (x : FlatInstance) (first : ℕ) (y : FlatInstance) (ls : List Link) → (bind_all x first y ls).label ≡ y.label
+bind_labels : (x : FlatInstance) (first : ℕ) (y : FlatInstance) (ls : List Binding) → (bind_all x first y ls).label ≡ y.label
 bind_labels x first y [] = refl
 bind_labels x first y (l ∷ ls) = bind_labels x first (bind x first y l) ls ∙ bind_label x first y l
 
-bind_body : (x : FlatInstance) (first : ℕ) (y : FlatInstance) (l : Link) → (bind x first y l).body ≡ y.body
+bind_body : (x : FlatInstance) (first : ℕ) (y : FlatInstance) (l : Binding) → (bind x first y l).body ≡ y.body
 bind_body x first y (OwnStream n) = refl
 bind_body x first y (StreamParameter n) = refl
 bind_body x first y (MemoryParameter n) = refl
 bind_body x first y (ScalarParameter n from to) = refl
 bind_body x first y (Constant n) = refl
 
-bind_bodies : (x : FlatInstance) (first : ℕ) (y : FlatInstance) (ls : List Link) → (bind_all x first y ls).body ≡ y.body
+bind_bodies : (x : FlatInstance) (first : ℕ) (y : FlatInstance) (ls : List Binding) → (bind_all x first y ls).body ≡ y.body
 bind_bodies x first y [] = refl
 bind_bodies x first y (l ∷ ls) = bind_bodies x first (bind x first y l) ls ∙ bind_body x first y l
 
@@ -234,8 +234,8 @@ module _ (tasks : List Task) (h : HasOwnNames tasks) (invoked_so : AreInvoked ta
       let name = t.declared.name.text in
       let z = below x.label (instance_name t.declared.name.text k) in
       let count : length (instances_in (here ++ more)) ≡ length (instances_in here) + length (instances_in more) = count_joined here more in
-      let there : slice_get tasks (invoked tasks x first k i).body ≡ Some t = ap (slice_get tasks) (bind_bodies x first (unbound (below x.label (instance_name (name_of (slice_get tasks i.task)) k)) i.task) i.links) ∙ known.0.1 in
-      let label : (invoked tasks x first k i).label ≡ z = bind_labels x first (unbound (below x.label (instance_name (name_of (slice_get tasks i.task)) k)) i.task) i.links ∙ ap (λ o. below x.label (instance_name (name_of o) k)) known.0.1 in
+      let there : slice_get tasks (invoked tasks x first k i).body ≡ Some t = ap (slice_get tasks) (bind_bodies x first (unbound (below x.label (instance_name (name_of (slice_get tasks i.task)) k)) i.task) i.bindings) ∙ known.0.1 in
+      let label : (invoked tasks x first k i).label ≡ z = bind_labels x first (unbound (below x.label (instance_name (name_of (slice_get tasks i.task)) k)) i.task) i.bindings ∙ ap (λ o. below x.label (instance_name (name_of o) k)) known.0.1 in
       let plain : IsPlainName name = task_plain i.task t known.0.1 in
       let free : IsFree name = name_free name plain in
       let small : k < 2 ^ 64 = omega arith in

@@ -7,8 +7,8 @@ use Rattle.std.specs.Str.{bytes_eq}
 use Rattle.tapa_syntax.specs.declared.lexeme.LexKind.{LexKind}
 use Rattle.tapa_syntax.specs.declared.lexeme.LexKind.TheVariants as lex_kind
 use Rattle.tapa_syntax.specs.declared.lexeme.Lexeme.{Lexeme}
-use Rattle.tapa_syntax.specs.declared.mark.Mark.{Mark}
-use Rattle.tapa_syntax.specs.declared.mark.Mark.TheVariants as mark
+use Rattle.tapa_syntax.specs.declared.terminal.Terminal.{Terminal}
+use Rattle.tapa_syntax.specs.declared.terminal.Terminal.TheVariants as terminal
 use Rattle.tapa_syntax.specs.declared.tree.Name.{Name}
 use Rattle.tapa_syntax.specs.declared.tree.Parameter.{Parameter}
 use Rattle.tapa_syntax.specs.declared.tree.Parameter.TheVariants as parameter
@@ -16,7 +16,7 @@ use Rattle.tapa_syntax.specs.Characters.{Bytes}
 use Rattle.tapa_syntax.specs.Grammar.{Part, is_name, IsName, IsParameter, IsStream, IsBody, IsTask, IsItem, IsTreeOf}
 use Rattle.tapa_syntax.specs.Lexemes.{IsLexeme, IsSliceOf, HasLexemes}
 use Rattle.tapa_syntax.specs.Spans.{◌⨾◌, Each, Separated, SeparatedOrNone}
-use Rattle.tapa_syntax.specs.Symbols.{Symbol, signs, look_up, sign_mark, mark_of, text_of, symbol_of, symbols_of}
+use Rattle.tapa_syntax.specs.Symbols.{Symbol, signs, look_up, sign_terminal, terminal_of, text_of, symbol_of, symbols_of}
 use Rattle.tapa_syntax.specs.Trees.{StreamTree, BodyTree, leaf, upper, TaskTree, ItemTree, constant, task}
 use Rattle.tapa_lex.proofs.Whole.{are_slices}
 use Rattle.program_labels.specs.Labels.{IsPlainName}
@@ -30,30 +30,30 @@ both true b e = (refl, e)
 both false b e = absurd cc
 
 -- a table without names gives none
-table_no_name : (otherwise : Mark) (table : List (List ℕ × Mark)) (text : List ℕ) → is_name otherwise ≡ false → list_all (λ (entry : List ℕ × Mark). not (is_name entry.1)) table ≡ true → is_name (look_up otherwise table text) ≡ false
+table_no_name : (otherwise : Terminal) (table : List (List ℕ × Terminal)) (text : List ℕ) → is_name otherwise ≡ false → list_all (λ (entry : List ℕ × Terminal). not (is_name entry.1)) table ≡ true → is_name (look_up otherwise table text) ≡ false
 table_no_name otherwise [] text e h = e
 table_no_name otherwise (entry ∷ table) text e h =
-    let parts = both (not (is_name entry.1)) (list_all (λ (x : List ℕ × Mark). not (is_name x.1)) table) h in
+    let parts = both (not (is_name entry.1)) (list_all (λ (x : List ℕ × Terminal). not (is_name x.1)) table) h in
     by_entry (bytes_eq entry.0 text) entry.1 parts.0 (table_no_name otherwise table text e parts.1)
   where
     no : (b : Bool) → not b ≡ true → b ≡ false
     no true f = absurd cc
     no false f = refl
 
-    by_entry : (b : Bool) (m : Mark) → not (is_name m) ≡ true → is_name (look_up otherwise table text) ≡ false → is_name (if b then m else look_up otherwise table text) ≡ false
+    by_entry : (b : Bool) (m : Terminal) → not (is_name m) ≡ true → is_name (look_up otherwise table text) ≡ false → is_name (if b then m else look_up otherwise table text) ≡ false
     by_entry true m f g = no (is_name m) f
     by_entry false m f g = g
 
-sign_no_name : (text : List ℕ) → is_name (sign_mark text) ≡ false
-unfolding sign_mark
-sign_no_name text = table_no_name mark.Reserved signs text refl refl
+sign_no_name : (text : List ℕ) → is_name (sign_terminal text) ≡ false
+unfolding sign_terminal
+sign_no_name text = table_no_name terminal.Reserved signs text refl refl
 
--- a lexeme whose mark is a name is a word
-word_plain : (k : LexKind) (ascii : Bool) (bytes rest : Bytes) → IsLexeme k bytes rest → is_name (if ascii then mark_of k bytes else mark.Reserved) ≡ true → IsPlainName bytes
+-- a lexeme whose terminal is a name is a word
+word_plain : (k : LexKind) (ascii : Bool) (bytes rest : Bytes) → IsLexeme k bytes rest → is_name (if ascii then terminal_of k bytes else terminal.Reserved) ≡ true → IsPlainName bytes
 word_plain lex_kind.Word true bytes rest h e = record { first = h.begun; all = h.word }
 word_plain (lex_kind.Literal kind value) true bytes rest h e = absurd cc
 word_plain lex_kind.Str true bytes rest h e = absurd cc
-word_plain lex_kind.Punct true bytes rest h e = let f : is_name (sign_mark bytes) ≡ false = sign_no_name bytes in absurd cc
+word_plain lex_kind.Punct true bytes rest h e = let f : is_name (sign_terminal bytes) ≡ false = sign_no_name bytes in absurd cc
 word_plain k false bytes rest h e = absurd cc
 
 text_is : (source : List ℕ) (l : Lexeme) → IsSliceOf source l → text_of source l ≡ slice_range source l.from l.to

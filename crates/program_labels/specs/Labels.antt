@@ -1,4 +1,4 @@
--- The labels of a program's parts: made of the names of the source, and no two parts of one sort have the same.
+-- The labels of a program's parts: made of the names of the source, and no two parts of one entity have the same.
 use Rattle.std.specs.Prelude.{◌≡◌, ◌==◌, ◌||◌, ℕ, List, map, ◌++◌, Some, slice_get, IsTrue}
 use Rattle.std.specs.List.{list_all, AllByRecursion}
 use Rattle.tapa_syntax.specs.declared.program.Memory.{Memory}

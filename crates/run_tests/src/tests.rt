@@ -7,8 +7,8 @@ use crate::programs::{
 };
 use kahn_model::rounds::streams;
 use kahn_model::slow::{Variables, trace};
-use run_program::{RunEnd, run_program};
 use run_data::{Last, report_last, report_stream};
+use run_program::{RunEnd, run_program};
 use std::alloc::{AllocError, Global};
 use std::test::Fail;
 use tapa_base::{MemSink, Token};
@@ -51,7 +51,7 @@ fn ticks_in_all(alloc: Global, program: &Program, lists: &[Vec<Token>]) -> Resul
     for instance in &program.instances {
         if let Some(leaf) = program.bodies.get(instance.body as usize) {
             let state = first_state(alloc, leaf, instance)?;
-            let (ticks, _mark) = trace(alloc, leaf, &instance.streams, state, ROUNDS, lists)?;
+            let (ticks, _trace_end) = trace(alloc, leaf, &instance.streams, state, ROUNDS, lists)?;
             total = total.saturating_add(ticks.len() as u64);
         }
     }

@@ -13,15 +13,15 @@ use Rattle.tapa_syntax.specs.WellFormed.{last_kind}
 use Rattle.check_expression.specs.Kinds.{same_kind}
 use Rattle.check_expression.proofs.Values.{converted_fits}
 use Rattle.check_upper.specs.declared.task.Channel.{Channel}
-use Rattle.check_upper.specs.declared.task.Link.{Link}
-use Rattle.check_upper.specs.declared.task.Link.TheVariants.{OwnStream, StreamParameter, MemoryParameter, ScalarParameter, Constant}
+use Rattle.check_upper.specs.declared.task.Binding.{Binding}
+use Rattle.check_upper.specs.declared.task.Binding.TheVariants.{OwnStream, StreamParameter, MemoryParameter, ScalarParameter, Constant}
 use Rattle.check_upper.specs.Tasks.{Invocation, Body, leaf_body, upper_body, Task}
 use Rattle.stream_check.specs.Parts as part
 use Rattle.stream_check.specs.Parts.{Part, own, instance, too_deep, streams_in, instances_in, below, instance_name, name_of, passed, bound_or_zero, bind, bind_all, unbound, invoked, labelled, own_parts, Expands, followed, chain_parts, body_of, body_parts, deepest_parts, parts_of}
 use Rattle.stream_check.proofs.WellLists.{Each, each_append, each_get, get_map, Contains, contains_left, contains_right, Pairs, pairs_left, pairs_push}
 use Rattle.stream_check.proofs.WellValues.{kinds_same}
 use Rattle.stream_check.proofs.WellPorts.{Ports, no_ports, end_of, with_stream, with_memory, with_scalar, with_port, with_ports, ports_of}
-use Rattle.stream_check.proofs.WellUppers.{HasDepth, StreamLink, MemoryLink, ScalarLink, LinkFits, InvocationFits}
+use Rattle.stream_check.proofs.WellUppers.{HasDepth, StreamBinding, MemoryBinding, ScalarBinding, BindingFits, InvocationFits}
 use Rattle.stream_check.proofs.WellTasks.{BodyFits, TaskFits}
 
 -- what is there to be bound
@@ -73,7 +73,7 @@ passed_fits w from to (number n) h = converted_fits from to (n % values_of from)
 passed_fits w from to (top_scalar x kinds) h = passed_by w from to x kinds (same_kind from to) refl h
 
 module _ (w : Known) (x : FlatInstance) (first : ℕ) (q : Ports) (c : List Channel) (fx : Fits w x q) (stand : StandAt w first c) where
-  bind_stream : (y : FlatInstance) (r : Ports) (writes : Bool) (k : Kind) (l : Link) → Fits w y r → StreamLink q c k l → Fits w (bind x first y l) (with_stream writes k r)
+  bind_stream : (y : FlatInstance) (r : Ports) (writes : Bool) (k : Kind) (l : Binding) → Fits w y r → StreamBinding q c k l → Fits w (bind x first y l) (with_stream writes k r)
   bind_stream y r writes k (OwnStream n) f (d, a, b) = let s = stand n d a in push_stream w y r (first + n) writes k f (s.0, s.1, s.2 ∙ b)
   bind_stream y r writes k (StreamParameter n) f (e, a, b) =
       let p = pairs_left (IsStream w) x.streams q.streams n e fx.streams a in
@@ -83,7 +83,7 @@ module _ (w : Known) (x : FlatInstance) (first : ℕ) (q : Ports) (c : List Chan
   bind_stream y r writes k (ScalarParameter n from to) f h = absurd h
   bind_stream y r writes k (Constant n) f h = absurd h
 
-  bind_memory : (y : FlatInstance) (r : Ports) (k : Kind) (l : Link) → Fits w y r → MemoryLink q k l → Fits w (bind x first y l) (with_memory k r)
+  bind_memory : (y : FlatInstance) (r : Ports) (k : Kind) (l : Binding) → Fits w y r → MemoryBinding q k l → Fits w (bind x first y l) (with_memory k r)
   bind_memory y r k (MemoryParameter n) f h =
       let p = pairs_left (IsMemory w) x.memories q.memories n k fx.memories h in
       let i : slice_index x.memories n ≡ p.0 = get_or_from_slice_get x.memories n p.0 0 p.1 in
@@ -93,7 +93,7 @@ module _ (w : Known) (x : FlatInstance) (first : ℕ) (q : Ports) (c : List Chan
   bind_memory y r k (ScalarParameter n from to) f h = absurd h
   bind_memory y r k (Constant n) f h = absurd h
 
-  bind_scalar : (y : FlatInstance) (r : Ports) (k : Kind) (l : Link) → Fits w y r → ScalarLink q k l → Fits w (bind x first y l) (with_scalar k r)
+  bind_scalar : (y : FlatInstance) (r : Ports) (k : Kind) (l : Binding) → Fits w y r → ScalarBinding q k l → Fits w (bind x first y l) (with_scalar k r)
   bind_scalar y r k (ScalarParameter n from to) f (a, e) =
       let p = pairs_left (IsScalar w) x.scalars q.scalars n from fx.scalars a in
       let b : bound_or_zero (slice_get x.scalars n) ≡ p.0 = ap bound_or_zero p.1 in
@@ -104,26 +104,26 @@ module _ (w : Known) (x : FlatInstance) (first : ℕ) (q : Ports) (c : List Chan
   bind_scalar y r k (StreamParameter n) f h = absurd h
   bind_scalar y r k (MemoryParameter n) f h = absurd h
 
-  bind_one : (y : FlatInstance) (r : Ports) (p : Parameter) (l : Link) → Fits w y r → LinkFits q c p l → Fits w (bind x first y l) (with_port r p)
+  bind_one : (y : FlatInstance) (r : Ports) (p : Parameter) (l : Binding) → Fits w y r → BindingFits q c p l → Fits w (bind x first y l) (with_port r p)
   bind_one y r (parameter.InputStream k z) l f h = bind_stream y r false k l f h
   bind_one y r (parameter.OutputStream k z) l f h = bind_stream y r true k l f h
   bind_one y r (parameter.Memory constant k z) l f h = bind_memory y r k l f h
   bind_one y r (parameter.Scalar constant k z) l f h = bind_scalar y r k l f h
 
-  bind_each : (y : FlatInstance) (r : Ports) (ps : List Parameter) (ls : List Link) → Fits w y r → Pairs (LinkFits q c) ps ls → Fits w (bind_all x first y ls) (with_ports r ps)
+  bind_each : (y : FlatInstance) (r : Ports) (ps : List Parameter) (ls : List Binding) → Fits w y r → Pairs (BindingFits q c) ps ls → Fits w (bind_all x first y ls) (with_ports r ps)
   bind_each y r [] [] f h = f
   bind_each y r [] (l ∷ ls) f h = absurd h
   bind_each y r (p ∷ ps) [] f h = absurd h
   bind_each y r (p ∷ ps) (l ∷ ls) f (h, hs) = bind_each (bind x first y l) (with_port r p) ps ls (bind_one y r p l f h) hs
 
-bind_body : (x : FlatInstance) (first : ℕ) (y : FlatInstance) (l : Link) → (bind x first y l).body ≡ y.body
+bind_body : (x : FlatInstance) (first : ℕ) (y : FlatInstance) (l : Binding) → (bind x first y l).body ≡ y.body
 bind_body x first y (OwnStream n) = refl
 bind_body x first y (StreamParameter n) = refl
 bind_body x first y (MemoryParameter n) = refl
 bind_body x first y (ScalarParameter n from to) = refl
 bind_body x first y (Constant n) = refl
 
-bind_bodies : (x : FlatInstance) (first : ℕ) (y : FlatInstance) (ls : List Link) → (bind_all x first y ls).body ≡ y.body
+bind_bodies : (x : FlatInstance) (first : ℕ) (y : FlatInstance) (ls : List Binding) → (bind_all x first y ls).body ≡ y.body
 bind_bodies x first y [] = refl
 bind_bodies x first y (l ∷ ls) = bind_bodies x first (bind x first y l) ls ∙ bind_body x first y l
 
@@ -179,8 +179,8 @@ module _ (w : Known) (tasks : List Task) where
       let more = chain_parts expand tasks x first (k + 1) (n + length (streams_in (expand i.place (invoked tasks x first k i) n))) is in
       let label = below x.label (instance_name (name_of (slice_get tasks i.task)) k) in
       let r' = subst (Contains w.streams n) (streams_append here more) r in
-      let there : slice_get tasks y.body ≡ Some h.task = ap (slice_get tasks) (bind_bodies x first (unbound label i.task) i.links) ∙ h.there in
-      let fy = bind_each w x first q c fx stand (unbound label i.task) no_ports h.task.declared.parameters i.links (unbound_fits label i.task) h.links in
+      let there : slice_get tasks y.body ≡ Some h.task = ap (slice_get tasks) (bind_bodies x first (unbound label i.task) i.bindings) ∙ h.there in
+      let fy = bind_each w x first q c fx stand (unbound label i.task) no_ports h.task.declared.parameters i.bindings (unbound_fits label i.task) h.bindings in
       each_joined (InstanceIs w tasks) here more
       (fit i.place y n h.task there fy (contains_left w.streams n (streams_in here) (streams_in more) r'))
       (chain_fits expand fit x first q c fx stand (k + 1) m is hs (contains_right w.streams n (streams_in here) (streams_in more) r'))

@@ -10,9 +10,9 @@ use Rattle.tapa_syntax.specs.declared.tree.Parameter.{Parameter}
 use Rattle.tapa_syntax.specs.declared.tree.Parameter.TheVariants as parameter
 use Rattle.tapa_syntax.specs.Trees.{Statements, TaskTree}
 use Rattle.tapa_syntax.specs.Flat.{FlatLeaf}
-use Rattle.check_scope.specs.declared.sort.Sort.{Sort}
-use Rattle.check_scope.specs.declared.sort.Sort.TheVariants as sort
-use Rattle.check_scope.specs.Scopes.{Block, Scope, in_block, first_of, sort_of, declaring, IsSound}
+use Rattle.check_scope.specs.declared.entity.Entity.{Entity}
+use Rattle.check_scope.specs.declared.entity.Entity.TheVariants as entity
+use Rattle.check_scope.specs.Scopes.{Block, Scope, in_block, first_of, entity_of, declaring, IsSound}
 use Rattle.check_leaf.specs.Laws.{IsGlobal, AreGlobal}
 use Rattle.check_leaf.specs.Leaves as leaf
 use Rattle.check_leaf.specs.Leaves.{Head, leaf_of, leaf_faults}
@@ -113,97 +113,97 @@ abbrev pub IsNamed : List Task → List ℕ → Type 0
 IsNamed tasks x = list_any (λ (t : Task). bytes_eq t.declared.name.text x) tasks ≡ true
 
 -- what a name means in an upper-level task of this name with these ports and streams
-abbrev pub Means : List Task → List ℕ → Ports → List Channel → List ℕ → Sort → Type 0
-Means tasks self q c x (sort.Constant k n) = n < values_of k
-Means tasks self q c x (sort.Variable free k n) = slice_get q.scalars n ≡ Some k
-Means tasks self q c x (sort.Array free k n) = Unit {0}
-Means tasks self q c x (sort.Memory free k n) = slice_get q.memories n ≡ Some k
-Means tasks self q c x (sort.Stream writes k n) = slice_get q.streams n ≡ Some (end_of writes k)
-Means tasks self q c x (sort.Channel k n) = (d : Channel) × (slice_get c n ≡ Some d) × (d.kind ≡ k)
-Means tasks self q c x sort.Task = (x ≡ self) ⊎ IsNamed tasks x
+abbrev pub Means : List Task → List ℕ → Ports → List Channel → List ℕ → Entity → Type 0
+Means tasks self q c x (entity.Constant k n) = n < values_of k
+Means tasks self q c x (entity.Variable free k n) = slice_get q.scalars n ≡ Some k
+Means tasks self q c x (entity.Array free k n) = Unit {0}
+Means tasks self q c x (entity.Memory free k n) = slice_get q.memories n ≡ Some k
+Means tasks self q c x (entity.Stream writes k n) = slice_get q.streams n ≡ Some (end_of writes k)
+Means tasks self q c x (entity.Channel k n) = (d : Channel) × (slice_get c n ≡ Some d) × (d.kind ≡ k)
+Means tasks self q c x entity.Task = (x ≡ self) ⊎ IsNamed tasks x
 
 -- what a name means in a file with these tasks
-abbrev pub MeansInFile : List Task → List ℕ → Sort → Type 0
-MeansInFile tasks x (sort.Constant k n) = n < values_of k
-MeansInFile tasks x sort.Task = IsNamed tasks x
+abbrev pub MeansInFile : List Task → List ℕ → Entity → Type 0
+MeansInFile tasks x (entity.Constant k n) = n < values_of k
+MeansInFile tasks x entity.Task = IsNamed tasks x
 MeansInFile tasks x s = ⊥
 
-abbrev pub Declares : (List ℕ → Sort → Type 0) → Block → Type 0
-Declares M block = Each (λ (d : List ℕ × Sort). M d.0 d.1) block
+abbrev pub Declares : (List ℕ → Entity → Type 0) → Block → Type 0
+Declares M block = Each (λ (d : List ℕ × Entity). M d.0 d.1) block
 
-abbrev pub DeclareAll : (List ℕ → Sort → Type 0) → Scope → Type 0
+abbrev pub DeclareAll : (List ℕ → Entity → Type 0) → Scope → Type 0
 DeclareAll M E = Each (Declares M) E
 
-declared_by : (M : List ℕ → Sort → Type 0) (x y : List ℕ) (s r : Sort) (o : Option Sort) (b : Bool) → bytes_eq y x ≡ b → M y r → (o ≡ Some s → M x s) → (if b then Some r else o) ≡ Some s → M x s
+declared_by : (M : List ℕ → Entity → Type 0) (x y : List ℕ) (s r : Entity) (o : Option Entity) (b : Bool) → bytes_eq y x ≡ b → M y r → (o ≡ Some s → M x s) → (if b then Some r else o) ≡ Some s → M x s
 declared_by M x y s r o true e m k h = subst (λ z. M z s) ((bytes_eq-Decides y x).0 e) (subst (M y) (the_same r s h) m)
 declared_by M x y s r o false e m k h = k h
 
-declared : (M : List ℕ → Sort → Type 0) (x : List ℕ) (b : Block) → Declares M b → (s : Sort) → in_block x b ≡ Some s → M x s
+declared : (M : List ℕ → Entity → Type 0) (x : List ℕ) (b : Block) → Declares M b → (s : Entity) → in_block x b ≡ Some s → M x s
 declared M x [] a s h = absurd (nothing s h)
 declared M x (d ∷ rest) (m, a) s h = declared_by M x d.0 s d.1 (in_block x rest) (bytes_eq d.0 x) refl m (declared M x rest a s) h
 
-either : (M : List ℕ → Sort → Type 0) (x : List ℕ) (s : Sort) (o p : Option Sort) → (o ≡ Some s → M x s) → (p ≡ Some s → M x s) → first_of o p ≡ Some s → M x s
+either : (M : List ℕ → Entity → Type 0) (x : List ℕ) (s : Entity) (o p : Option Entity) → (o ≡ Some s → M x s) → (p ≡ Some s → M x s) → first_of o p ≡ Some s → M x s
 either M x s (Some r) p a b h = a h
 either M x s None p a b h = b h
 
-pub found : (M : List ℕ → Sort → Type 0) (x : List ℕ) (E : Scope) → DeclareAll M E → (s : Sort) → sort_of x E ≡ Some s → M x s
+pub found : (M : List ℕ → Entity → Type 0) (x : List ℕ) (E : Scope) → DeclareAll M E → (s : Entity) → entity_of x E ≡ Some s → M x s
 found M x [] a s h = absurd (nothing s h)
-found M x (b ∷ E) (m, a) s h = either M x s (sort_of x E) (in_block x b) (found M x E a s) (declared M x b m s) h
+found M x (b ∷ E) (m, a) s h = either M x s (entity_of x E) (in_block x b) (found M x E a s) (declared M x b m s) h
 
-pub declare : (M : List ℕ → Sort → Type 0) (x : List ℕ) (s : Sort) (E : Scope) → DeclareAll M E → M x s → DeclareAll M (declaring x s E)
+pub declare : (M : List ℕ → Entity → Type 0) (x : List ℕ) (s : Entity) (E : Scope) → DeclareAll M E → M x s → DeclareAll M (declaring x s E)
 declare M x s [] a m = tt
-declare M x s (b ∷ []) (d, a) m = (each_append (λ (d : List ℕ × Sort). M d.0 d.1) b ((x, s) ∷ []) d (m, tt), tt)
+declare M x s (b ∷ []) (d, a) m = (each_append (λ (d : List ℕ × Entity). M d.0 d.1) b ((x, s) ∷ []) d (m, tt), tt)
 declare M x s (b ∷ c ∷ E) (d, a) m = (d, declare M x s (c ∷ E) a m)
 
-pub declares_more : (M N : List ℕ → Sort → Type 0) → ((x : List ℕ) (s : Sort) → M x s → N x s) → (b : Block) → Declares M b → Declares N b
-declares_more M N f b a = each_more (λ (d : List ℕ × Sort). M d.0 d.1) (λ (d : List ℕ × Sort). N d.0 d.1) (λ d m. f d.0 d.1 m) b a
+pub declares_more : (M N : List ℕ → Entity → Type 0) → ((x : List ℕ) (s : Entity) → M x s → N x s) → (b : Block) → Declares M b → Declares N b
+declares_more M N f b a = each_more (λ (d : List ℕ × Entity). M d.0 d.1) (λ (d : List ℕ × Entity). N d.0 d.1) (λ d m. f d.0 d.1 m) b a
 
-pub declare_all_more : (M N : List ℕ → Sort → Type 0) → ((x : List ℕ) (s : Sort) → M x s → N x s) → (E : Scope) → DeclareAll M E → DeclareAll N E
+pub declare_all_more : (M N : List ℕ → Entity → Type 0) → ((x : List ℕ) (s : Entity) → M x s → N x s) → (E : Scope) → DeclareAll M E → DeclareAll N E
 declare_all_more M N f E a = each_more (Declares M) (Declares N) (declares_more M N f) E a
 
-is_sound : (tasks : List Task) (self : List ℕ) (q : Ports) (c : List Channel) (x : List ℕ) (s : Sort) → Means tasks self q c x s → IsSound s
-is_sound tasks self q c x (sort.Constant k n) m = m
-is_sound tasks self q c x (sort.Variable free k n) m = tt
-is_sound tasks self q c x (sort.Array free k n) m = tt
-is_sound tasks self q c x (sort.Memory free k n) m = tt
-is_sound tasks self q c x (sort.Stream writes k n) m = tt
-is_sound tasks self q c x (sort.Channel k n) m = tt
-is_sound tasks self q c x sort.Task m = tt
+is_sound : (tasks : List Task) (self : List ℕ) (q : Ports) (c : List Channel) (x : List ℕ) (s : Entity) → Means tasks self q c x s → IsSound s
+is_sound tasks self q c x (entity.Constant k n) m = m
+is_sound tasks self q c x (entity.Variable free k n) m = tt
+is_sound tasks self q c x (entity.Array free k n) m = tt
+is_sound tasks self q c x (entity.Memory free k n) m = tt
+is_sound tasks self q c x (entity.Stream writes k n) m = tt
+is_sound tasks self q c x (entity.Channel k n) m = tt
+is_sound tasks self q c x entity.Task m = tt
 
 pub scope_sound : (tasks : List Task) (self : List ℕ) (q : Ports) (c : List Channel) (E : Scope) → DeclareAll (Means tasks self q c) E → Sound E
 scope_sound tasks self q c E a x s h = is_sound tasks self q c x s (found (Means tasks self q c) x E a s h)
 
-pub in_task : (tasks : List Task) (self : List ℕ) (q : Ports) (c : List Channel) (x : List ℕ) (s : Sort) → MeansInFile tasks x s → Means tasks self q c x s
-in_task tasks self q c x (sort.Constant k n) m = m
-in_task tasks self q c x (sort.Variable free k n) m = absurd m
-in_task tasks self q c x (sort.Array free k n) m = absurd m
-in_task tasks self q c x (sort.Memory free k n) m = absurd m
-in_task tasks self q c x (sort.Stream writes k n) m = absurd m
-in_task tasks self q c x (sort.Channel k n) m = absurd m
-in_task tasks self q c x sort.Task m = inr m
+pub in_task : (tasks : List Task) (self : List ℕ) (q : Ports) (c : List Channel) (x : List ℕ) (s : Entity) → MeansInFile tasks x s → Means tasks self q c x s
+in_task tasks self q c x (entity.Constant k n) m = m
+in_task tasks self q c x (entity.Variable free k n) m = absurd m
+in_task tasks self q c x (entity.Array free k n) m = absurd m
+in_task tasks self q c x (entity.Memory free k n) m = absurd m
+in_task tasks self q c x (entity.Stream writes k n) m = absurd m
+in_task tasks self q c x (entity.Channel k n) m = absurd m
+in_task tasks self q c x entity.Task m = inr m
 
-global : (tasks : List Task) (x : List ℕ) (s : Sort) → MeansInFile tasks x s → IsGlobal s
-global tasks x (sort.Constant k n) m = m
-global tasks x (sort.Variable free k n) m = m
-global tasks x (sort.Array free k n) m = m
-global tasks x (sort.Memory free k n) m = m
-global tasks x (sort.Stream writes k n) m = m
-global tasks x (sort.Channel k n) m = m
-global tasks x sort.Task m = tt
+global : (tasks : List Task) (x : List ℕ) (s : Entity) → MeansInFile tasks x s → IsGlobal s
+global tasks x (entity.Constant k n) m = m
+global tasks x (entity.Variable free k n) m = m
+global tasks x (entity.Array free k n) m = m
+global tasks x (entity.Memory free k n) m = m
+global tasks x (entity.Stream writes k n) m = m
+global tasks x (entity.Channel k n) m = m
+global tasks x entity.Task m = tt
 
 -- a file that has declared a block, and then a task
-pub file_global : (tasks : List Task) (b : Block) (x : List ℕ) → Declares (MeansInFile tasks) b → AreGlobal (b ++ (x, sort.Task) ∷ [])
+pub file_global : (tasks : List Task) (b : Block) (x : List ℕ) → Declares (MeansInFile tasks) b → AreGlobal (b ++ (x, entity.Task) ∷ [])
 file_global tasks [] x a = (tt, tt)
 file_global tasks (d ∷ rest) x (m, a) = (global tasks d.0 d.1 m, file_global tasks rest x a)
 
 -- ---- parameters keep what names mean
 
 -- more ports and streams
-pub means_more : (tasks : List Task) (self : List ℕ) (q r : Ports) (c d : List Channel) → ((n : ℕ) (e : End) → slice_get q.streams n ≡ Some e → slice_get r.streams n ≡ Some e) → ((n : ℕ) (k : Kind) → slice_get q.memories n ≡ Some k → slice_get r.memories n ≡ Some k) → ((n : ℕ) (k : Kind) → slice_get q.scalars n ≡ Some k → slice_get r.scalars n ≡ Some k) → ((n : ℕ) (x : Channel) → slice_get c n ≡ Some x → slice_get d n ≡ Some x) → (x : List ℕ) (s : Sort) → Means tasks self q c x s → Means tasks self r d x s
-means_more tasks self q r c d f g h i x (sort.Constant k n) m = m
-means_more tasks self q r c d f g h i x (sort.Variable free k n) m = h n k m
-means_more tasks self q r c d f g h i x (sort.Array free k n) m = tt
-means_more tasks self q r c d f g h i x (sort.Memory free k n) m = g n k m
-means_more tasks self q r c d f g h i x (sort.Stream writes k n) m = f n (end_of writes k) m
-means_more tasks self q r c d f g h i x (sort.Channel k n) m = (m.0, i n m.0 m.1, m.2)
-means_more tasks self q r c d f g h i x sort.Task m = m
+pub means_more : (tasks : List Task) (self : List ℕ) (q r : Ports) (c d : List Channel) → ((n : ℕ) (e : End) → slice_get q.streams n ≡ Some e → slice_get r.streams n ≡ Some e) → ((n : ℕ) (k : Kind) → slice_get q.memories n ≡ Some k → slice_get r.memories n ≡ Some k) → ((n : ℕ) (k : Kind) → slice_get q.scalars n ≡ Some k → slice_get r.scalars n ≡ Some k) → ((n : ℕ) (x : Channel) → slice_get c n ≡ Some x → slice_get d n ≡ Some x) → (x : List ℕ) (s : Entity) → Means tasks self q c x s → Means tasks self r d x s
+means_more tasks self q r c d f g h i x (entity.Constant k n) m = m
+means_more tasks self q r c d f g h i x (entity.Variable free k n) m = h n k m
+means_more tasks self q r c d f g h i x (entity.Array free k n) m = tt
+means_more tasks self q r c d f g h i x (entity.Memory free k n) m = g n k m
+means_more tasks self q r c d f g h i x (entity.Stream writes k n) m = f n (end_of writes k) m
+means_more tasks self q r c d f g h i x (entity.Channel k n) m = (m.0, i n m.0 m.1, m.2)
+means_more tasks self q r c d f g h i x entity.Task m = m

@@ -5,8 +5,8 @@ use Rattle.std.specs.List.{list_any}
 use Rattle.std.proofs.lemmas.Slice.Eq.{bytes_eq-Decides}
 use Rattle.tapa_syntax.specs.Trees as tree
 use Rattle.tapa_syntax.specs.Trees.{BodyTree, TaskTree, ItemTree}
-use Rattle.check_scope.specs.declared.sort.Sort.{Sort}
-use Rattle.check_scope.specs.declared.sort.Sort.TheVariants as sort
+use Rattle.check_scope.specs.declared.entity.Entity.{Entity}
+use Rattle.check_scope.specs.declared.entity.Entity.TheVariants as entity
 use Rattle.check_expression.specs.Expressions.{constant_value, wanted}
 use Rattle.check_scope.specs.Faults.{doubled}
 use Rattle.check_upper.specs.Tasks.{Invocation, Body, leaf_body, upper_body, Task}
@@ -27,7 +27,7 @@ TaskFits tasks t = BodyFits tasks (ports_of t.declared.parameters) t.body
 -- ---- more tasks
 
 invocation_more : (tasks more : List Task) (q : Ports) (c : List Channel) (i : Invocation) → InvocationFits tasks q c i → InvocationFits (tasks ++ more) q c i
-invocation_more tasks more q c i f = record { task = f.task; there = get_left tasks more i.task f.task f.there; links = f.links }
+invocation_more tasks more q c i f = record { task = f.task; there = get_left tasks more i.task f.task f.there; bindings = f.bindings }
 
 body_more : (tasks more : List Task) (q : Ports) (b : Body) → BodyFits tasks q b → BodyFits (tasks ++ more) q b
 body_more tasks more q (leaf_body l) f = f
@@ -58,14 +58,14 @@ named_last : (tasks : List Task) (t : Task) → IsNamed (tasks ++ t ∷ []) t.de
 named_last [] t = true_first (bytes_eq t.declared.name.text t.declared.name.text) false ((bytes_eq-Decides t.declared.name.text t.declared.name.text).1 refl)
 named_last (u ∷ tasks) t = true_second (bytes_eq u.declared.name.text t.declared.name.text) _ (named_last tasks t)
 
-in_file_more : (tasks more : List Task) (x : List ℕ) (s : Sort) → MeansInFile tasks x s → MeansInFile (tasks ++ more) x s
-in_file_more tasks more x (sort.Constant k n) m = m
-in_file_more tasks more x (sort.Variable free k n) m = m
-in_file_more tasks more x (sort.Array free k n) m = m
-in_file_more tasks more x (sort.Memory free k n) m = m
-in_file_more tasks more x (sort.Stream writes k n) m = m
-in_file_more tasks more x (sort.Channel k n) m = m
-in_file_more tasks more x sort.Task m = named_more tasks more x m
+in_file_more : (tasks more : List Task) (x : List ℕ) (s : Entity) → MeansInFile tasks x s → MeansInFile (tasks ++ more) x s
+in_file_more tasks more x (entity.Constant k n) m = m
+in_file_more tasks more x (entity.Variable free k n) m = m
+in_file_more tasks more x (entity.Array free k n) m = m
+in_file_more tasks more x (entity.Memory free k n) m = m
+in_file_more tasks more x (entity.Stream writes k n) m = m
+in_file_more tasks more x (entity.Channel k n) m = m
+in_file_more tasks more x entity.Task m = named_more tasks more x m
 
 -- ---- items
 
@@ -75,7 +75,7 @@ pub record ItemsFit (f : Items) : Type 0 where
 
 -- the names of a file in a task of it
 names_in : (f : Items) (t : TaskTree) → ItemsFit f → Declares (Means f.tasks t.name.text no_ports []) (with_task f.block t)
-names_in f t g = each_append (λ (d : List ℕ × Sort). Means f.tasks t.name.text no_ports [] d.0 d.1) f.block ((t.name.text, sort.Task) ∷ [])
+names_in f t g = each_append (λ (d : List ℕ × Entity). Means f.tasks t.name.text no_ports [] d.0 d.1) f.block ((t.name.text, entity.Task) ∷ [])
     (declares_more (MeansInFile f.tasks) (Means f.tasks t.name.text no_ports []) (in_task f.tasks t.name.text no_ports []) f.block g.names)
     (inl refl, tt)
 
@@ -88,7 +88,7 @@ task_step f t g h =
     let p = no_faults (doubled (f.block ∷ []) t.name) (body_faults (with_task f.block t) f.tasks t t.body) h in
     let new : Task = record { declared = t; body = body_of (with_task f.block t) f.tasks t t.body } in
     record {
-      names = each_append (λ (d : List ℕ × Sort). MeansInFile (f.tasks ++ new ∷ []) d.0 d.1) f.block ((t.name.text, sort.Task) ∷ [])
+      names = each_append (λ (d : List ℕ × Entity). MeansInFile (f.tasks ++ new ∷ []) d.0 d.1) f.block ((t.name.text, entity.Task) ∷ [])
           (declares_more (MeansInFile f.tasks) (MeansInFile (f.tasks ++ new ∷ [])) (in_file_more f.tasks (new ∷ [])) f.block g.names)
           (named_last f.tasks new, tt);
       tasks = each_append (TaskFits (f.tasks ++ new ∷ [])) f.tasks (new ∷ [])
@@ -101,7 +101,7 @@ file_sound f g = declares_more (MeansInFile f.tasks) (Means f.tasks [] no_ports 
 
 item_step : (f : Items) (x : ItemTree) → ItemsFit f → item_faults f x ≡ [] → ItemsFit (after_item f x)
 item_step f (tree.constant attributes k x e) g h = record {
-  names = each_append (λ (d : List ℕ × Sort). MeansInFile f.tasks d.0 d.1) f.block ((x.text, sort.Constant k (constant_value (wanted (f.block ∷ []) k e))) ∷ [])
+  names = each_append (λ (d : List ℕ × Entity). MeansInFile f.tasks d.0 d.1) f.block ((x.text, entity.Constant k (constant_value (wanted (f.block ∷ []) k e))) ∷ [])
       g.names (wanted_fits (f.block ∷ []) (scope_sound f.tasks [] no_ports [] (f.block ∷ []) (file_sound f g, tt)) k e, tt);
   tasks = g.tasks;
 }

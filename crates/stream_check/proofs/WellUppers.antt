@@ -14,19 +14,19 @@ use Rattle.tapa_syntax.specs.declared.tree.Parameter.TheVariants as parameter
 use Rattle.tapa_syntax.specs.Trees as tree
 use Rattle.tapa_syntax.specs.Trees.{ExpressionTree, CountTree, StreamTree, ArgumentTree, InvocationTree, TaskTree}
 use Rattle.check_scope.specs.declared.fault.Broken.{Broken}
-use Rattle.check_scope.specs.declared.sort.Sort.{Sort}
-use Rattle.check_scope.specs.declared.sort.Sort.TheVariants as sort
-use Rattle.check_scope.specs.Scopes.{Block, Scope, sort_of}
+use Rattle.check_scope.specs.declared.entity.Entity.{Entity}
+use Rattle.check_scope.specs.declared.entity.Entity.TheVariants as entity
+use Rattle.check_scope.specs.Scopes.{Block, Scope, entity_of}
 use Rattle.check_scope.specs.declared.fault.CheckCode.{CheckCode}
 use Rattle.check_scope.specs.declared.fault.CheckCode.TheVariants.{C3, C10, C11}
-use Rattle.check_scope.specs.Faults.{fault, over, where_so, wrong_sort}
+use Rattle.check_scope.specs.Faults.{fault, over, where_so, wrong_entity}
 use Rattle.check_expression.specs.Expressions.{is_constant, constant_faults}
 use Rattle.check_expression.specs.Counts.{count_of, form_faults, most_of_count}
 use Rattle.check_expression.specs.Kinds.{same_kind}
 use Rattle.tapa_syntax.specs.Flat.{literal}
 use Rattle.check_upper.specs.declared.task.Channel.{Channel}
-use Rattle.check_upper.specs.declared.task.Link.{Link}
-use Rattle.check_upper.specs.declared.task.Link.TheVariants.{OwnStream, StreamParameter, MemoryParameter, ScalarParameter, Constant}
+use Rattle.check_upper.specs.declared.task.Binding.{Binding}
+use Rattle.check_upper.specs.declared.task.Binding.TheVariants.{OwnStream, StreamParameter, MemoryParameter, ScalarParameter, Constant}
 use Rattle.check_upper.specs.Tasks.{Invocation, Task, task_place, parameters_of}
 use Rattle.check_upper.specs.Uppers as upper
 use Rattle.check_upper.specs.Uppers.{Signature, Channels, parameter_kind, is_bound_to, is_task}
@@ -50,7 +50,7 @@ one_more xs x n e = let l = length-append xs (x ∷ []) in omega arith
 
 stream_step : (tasks : List Task) (self : List ℕ) (h : Signature) (q : Ports) (w : Bool) (k : Kind) (x : Name) → SignatureFits tasks self h q → SignatureFits tasks self (upper.with_stream w k x h) (with_stream w k q)
 stream_step tasks self h q w k x f = record {
-  names = declare (Means tasks self (with_stream w k q) []) x.text (sort.Stream w k h.streams) h.scope
+  names = declare (Means tasks self (with_stream w k q) []) x.text (entity.Stream w k h.streams) h.scope
       (declare_all_more (Means tasks self q []) (Means tasks self (with_stream w k q) []) (means_more tasks self q (with_stream w k q) [] [] (λ n e a. get_left q.streams (end_of w k ∷ []) n e a) (λ n j a. a) (λ n j a. a) (λ n c a. a)) h.scope f.names)
       (get_last q.streams (end_of w k) h.streams f.streams);
   streams = one_more q.streams (end_of w k) h.streams f.streams;
@@ -60,7 +60,7 @@ stream_step tasks self h q w k x f = record {
 
 memory_step : (tasks : List Task) (self : List ℕ) (h : Signature) (q : Ports) (w : Bool) (k : Kind) (x : Name) → SignatureFits tasks self h q → SignatureFits tasks self (upper.with_memory w k x h) (with_memory k q)
 memory_step tasks self h q w k x f = record {
-  names = declare (Means tasks self (with_memory k q) []) x.text (sort.Memory w k h.memories) h.scope
+  names = declare (Means tasks self (with_memory k q) []) x.text (entity.Memory w k h.memories) h.scope
       (declare_all_more (Means tasks self q []) (Means tasks self (with_memory k q) []) (means_more tasks self q (with_memory k q) [] [] (λ n e a. a) (λ n j a. get_left q.memories (k ∷ []) n j a) (λ n j a. a) (λ n c a. a)) h.scope f.names)
       (get_last q.memories k h.memories f.memories);
   streams = f.streams;
@@ -70,7 +70,7 @@ memory_step tasks self h q w k x f = record {
 
 scalar_step : (tasks : List Task) (self : List ℕ) (h : Signature) (q : Ports) (w : Bool) (k : Kind) (x : Name) → SignatureFits tasks self h q → SignatureFits tasks self (upper.with_scalar w k x h) (with_scalar k q)
 scalar_step tasks self h q w k x f = record {
-  names = declare (Means tasks self (with_scalar k q) []) x.text (sort.Variable w k h.scalars) h.scope
+  names = declare (Means tasks self (with_scalar k q) []) x.text (entity.Variable w k h.scalars) h.scope
       (declare_all_more (Means tasks self q []) (Means tasks self (with_scalar k q) []) (means_more tasks self q (with_scalar k q) [] [] (λ n e a. a) (λ n j a. a) (λ n j a. get_left q.scalars (k ∷ []) n j a) (λ n c a. a)) h.scope f.names)
       (get_last q.scalars k h.scalars f.scalars);
   streams = f.streams;
@@ -104,7 +104,7 @@ channel_step : (tasks : List Task) (self : List ℕ) (q : Ports) (k : Kind) (dep
 channel_step tasks self q k depth c x d f =
     let new : Channel = record { name = x.text; place = x.place; kind = k; depth = depth } in
     record {
-      names = declare (Means tasks self q (upper.with_channel k depth c x).streams) x.text (sort.Channel k (length c.streams)) c.scope
+      names = declare (Means tasks self q (upper.with_channel k depth c x).streams) x.text (entity.Channel k (length c.streams)) c.scope
           (declare_all_more (Means tasks self q c.streams) (Means tasks self q (upper.with_channel k depth c x).streams) (means_more tasks self q q c.streams (upper.with_channel k depth c x).streams (λ n e a. a) (λ n j a. a) (λ n j a. a) (λ n y a. get_left c.streams (new ∷ []) n y a)) c.scope f.names)
           (new, get_last c.streams new (length c.streams) refl, refl);
       depths = each_append HasDepth c.streams (new ∷ []) f.depths (d, tt);
@@ -130,90 +130,90 @@ streams_steps tasks self q c (s ∷ ss) h f =
 
 -- ---- arguments
 
-abbrev pub StreamLink : Ports → List Channel → Kind → Link → Type 0
-StreamLink q c k (OwnStream n) = (d : Channel) × (slice_get c n ≡ Some d) × (d.kind ≡ k)
-StreamLink q c k (StreamParameter n) = (e : End) × (slice_get q.streams n ≡ Some e) × (e.kind ≡ k)
-StreamLink q c k (MemoryParameter n) = ⊥
-StreamLink q c k (ScalarParameter n from to) = ⊥
-StreamLink q c k (Constant n) = ⊥
+abbrev pub StreamBinding : Ports → List Channel → Kind → Binding → Type 0
+StreamBinding q c k (OwnStream n) = (d : Channel) × (slice_get c n ≡ Some d) × (d.kind ≡ k)
+StreamBinding q c k (StreamParameter n) = (e : End) × (slice_get q.streams n ≡ Some e) × (e.kind ≡ k)
+StreamBinding q c k (MemoryParameter n) = ⊥
+StreamBinding q c k (ScalarParameter n from to) = ⊥
+StreamBinding q c k (Constant n) = ⊥
 
-abbrev pub MemoryLink : Ports → Kind → Link → Type 0
-MemoryLink q k (MemoryParameter n) = slice_get q.memories n ≡ Some k
-MemoryLink q k (OwnStream n) = ⊥
-MemoryLink q k (StreamParameter n) = ⊥
-MemoryLink q k (ScalarParameter n from to) = ⊥
-MemoryLink q k (Constant n) = ⊥
+abbrev pub MemoryBinding : Ports → Kind → Binding → Type 0
+MemoryBinding q k (MemoryParameter n) = slice_get q.memories n ≡ Some k
+MemoryBinding q k (OwnStream n) = ⊥
+MemoryBinding q k (StreamParameter n) = ⊥
+MemoryBinding q k (ScalarParameter n from to) = ⊥
+MemoryBinding q k (Constant n) = ⊥
 
-abbrev pub ScalarLink : Ports → Kind → Link → Type 0
-ScalarLink q k (ScalarParameter n from to) = (slice_get q.scalars n ≡ Some from) × (to ≡ k)
-ScalarLink q k (Constant n) = n < values_of k
-ScalarLink q k (OwnStream n) = ⊥
-ScalarLink q k (StreamParameter n) = ⊥
-ScalarLink q k (MemoryParameter n) = ⊥
+abbrev pub ScalarBinding : Ports → Kind → Binding → Type 0
+ScalarBinding q k (ScalarParameter n from to) = (slice_get q.scalars n ≡ Some from) × (to ≡ k)
+ScalarBinding q k (Constant n) = n < values_of k
+ScalarBinding q k (OwnStream n) = ⊥
+ScalarBinding q k (StreamParameter n) = ⊥
+ScalarBinding q k (MemoryParameter n) = ⊥
 
 -- what is bound to a parameter fits it
-abbrev pub LinkFits : Ports → List Channel → Parameter → Link → Type 0
-LinkFits q c (parameter.InputStream k x) l = StreamLink q c k l
-LinkFits q c (parameter.OutputStream k x) l = StreamLink q c k l
-LinkFits q c (parameter.Memory constant k x) l = MemoryLink q k l
-LinkFits q c (parameter.Scalar constant k x) l = ScalarLink q k l
+abbrev pub BindingFits : Ports → List Channel → Parameter → Binding → Type 0
+BindingFits q c (parameter.InputStream k x) l = StreamBinding q c k l
+BindingFits q c (parameter.OutputStream k x) l = StreamBinding q c k l
+BindingFits q c (parameter.Memory constant k x) l = MemoryBinding q k l
+BindingFits q c (parameter.Scalar constant k x) l = ScalarBinding q k l
 
 module _ (tasks : List Task) (self : List ℕ) (q : Ports) (c : List Channel) (y : List ℕ) where
-  stream_bound : (w : Bool) (k : Kind) (s : Sort) → Means tasks self q c y s → upper.is_bound_to_stream w k s ≡ true → StreamLink q c k (upper.named_link k (Some s))
-  stream_bound w k (sort.Channel j n) m h = (m.0, m.1, m.2 ∙ kinds_same j k h)
-  stream_bound w k (sort.Stream true j n) m h = (end_of true j, m, kinds_same j k (both w (same_kind j k) h).1)
-  stream_bound w k (sort.Stream false j n) m h = (end_of false j, m, kinds_same j k (both (not w) (same_kind j k) h).1)
-  stream_bound w k (sort.Constant j n) m h = absurd (cc)
-  stream_bound w k (sort.Variable free j n) m h = absurd (cc)
-  stream_bound w k (sort.Array free j n) m h = absurd (cc)
-  stream_bound w k (sort.Memory free j n) m h = absurd (cc)
-  stream_bound w k sort.Task m h = absurd (cc)
+  stream_bound : (w : Bool) (k : Kind) (s : Entity) → Means tasks self q c y s → upper.is_bound_to_stream w k s ≡ true → StreamBinding q c k (upper.named_binding k (Some s))
+  stream_bound w k (entity.Channel j n) m h = (m.0, m.1, m.2 ∙ kinds_same j k h)
+  stream_bound w k (entity.Stream true j n) m h = (end_of true j, m, kinds_same j k (both w (same_kind j k) h).1)
+  stream_bound w k (entity.Stream false j n) m h = (end_of false j, m, kinds_same j k (both (not w) (same_kind j k) h).1)
+  stream_bound w k (entity.Constant j n) m h = absurd (cc)
+  stream_bound w k (entity.Variable free j n) m h = absurd (cc)
+  stream_bound w k (entity.Array free j n) m h = absurd (cc)
+  stream_bound w k (entity.Memory free j n) m h = absurd (cc)
+  stream_bound w k entity.Task m h = absurd (cc)
 
-  memory_bound : (constant : Bool) (k : Kind) (s : Sort) → Means tasks self q c y s → upper.is_bound_to_memory constant k s ≡ true → MemoryLink q k (upper.named_link k (Some s))
-  memory_bound constant k (sort.Memory free j n) m h = m ∙ ap Some (kinds_same j k (both (same_kind j k) _ h).0)
-  memory_bound constant k (sort.Channel j n) m h = absurd (cc)
-  memory_bound constant k (sort.Stream writes j n) m h = absurd (cc)
-  memory_bound constant k (sort.Constant j n) m h = absurd (cc)
-  memory_bound constant k (sort.Variable free j n) m h = absurd (cc)
-  memory_bound constant k (sort.Array free j n) m h = absurd (cc)
-  memory_bound constant k sort.Task m h = absurd (cc)
+  memory_bound : (constant : Bool) (k : Kind) (s : Entity) → Means tasks self q c y s → upper.is_bound_to_memory constant k s ≡ true → MemoryBinding q k (upper.named_binding k (Some s))
+  memory_bound constant k (entity.Memory free j n) m h = m ∙ ap Some (kinds_same j k (both (same_kind j k) _ h).0)
+  memory_bound constant k (entity.Channel j n) m h = absurd (cc)
+  memory_bound constant k (entity.Stream writes j n) m h = absurd (cc)
+  memory_bound constant k (entity.Constant j n) m h = absurd (cc)
+  memory_bound constant k (entity.Variable free j n) m h = absurd (cc)
+  memory_bound constant k (entity.Array free j n) m h = absurd (cc)
+  memory_bound constant k entity.Task m h = absurd (cc)
 
-  scalar_bound : (k : Kind) (s : Sort) → Means tasks self q c y s → upper.is_bound_to_scalar s ≡ true → ScalarLink q k (upper.named_link k (Some s))
-  scalar_bound k (sort.Variable free j n) m h = (m, refl)
-  scalar_bound k (sort.Constant j n) m h = as_kind_fits j k (literal j n) m
-  scalar_bound k (sort.Memory free j n) m h = absurd (cc)
-  scalar_bound k (sort.Channel j n) m h = absurd (cc)
-  scalar_bound k (sort.Stream writes j n) m h = absurd (cc)
-  scalar_bound k (sort.Array free j n) m h = absurd (cc)
-  scalar_bound k sort.Task m h = absurd (cc)
+  scalar_bound : (k : Kind) (s : Entity) → Means tasks self q c y s → upper.is_bound_to_scalar s ≡ true → ScalarBinding q k (upper.named_binding k (Some s))
+  scalar_bound k (entity.Variable free j n) m h = (m, refl)
+  scalar_bound k (entity.Constant j n) m h = as_kind_fits j k (literal j n) m
+  scalar_bound k (entity.Memory free j n) m h = absurd (cc)
+  scalar_bound k (entity.Channel j n) m h = absurd (cc)
+  scalar_bound k (entity.Stream writes j n) m h = absurd (cc)
+  scalar_bound k (entity.Array free j n) m h = absurd (cc)
+  scalar_bound k entity.Task m h = absurd (cc)
 
-  bound : (p : Parameter) (s : Sort) → Means tasks self q c y s → is_bound_to p s ≡ true → LinkFits q c p (upper.named_link (parameter_kind p) (Some s))
+  bound : (p : Parameter) (s : Entity) → Means tasks self q c y s → is_bound_to p s ≡ true → BindingFits q c p (upper.named_binding (parameter_kind p) (Some s))
   bound (parameter.InputStream k x) s m h = stream_bound false k s m h
   bound (parameter.OutputStream k x) s m h = stream_bound true k s m h
   bound (parameter.Memory constant k x) s m h = memory_bound constant k s m h
   bound (parameter.Scalar constant k x) s m h = scalar_bound k s m h
 
-pub right_sort : (fits : Sort → Bool) (place : Place) (o : Option Sort) → wrong_sort fits place o ≡ [] → (s : Sort) × (o ≡ Some s) × (fits s ≡ true)
-right_sort fits place None h = absurd (cc)
-right_sort fits place (Some s) h = (s, refl, holds (fits s) (the_broken C3 place None) h)
+pub right_entity : (fits : Entity → Bool) (place : Place) (o : Option Entity) → wrong_entity fits place o ≡ [] → (s : Entity) × (o ≡ Some s) × (fits s ≡ true)
+right_entity fits place None h = absurd (cc)
+right_entity fits place (Some s) h = (s, refl, holds (fits s) (the_broken C3 place None) h)
 
 module _ (tasks : List Task) (self : List ℕ) (q : Ports) (c : List Channel) (E : Scope) (names : DeclareAll (Means tasks self q c) E) where
-  named : (p : Parameter) (x : Name) → wrong_sort (is_bound_to p) x.place (sort_of x.text E) ≡ [] → LinkFits q c p (upper.named_link (parameter_kind p) (sort_of x.text E))
+  named : (p : Parameter) (x : Name) → wrong_entity (is_bound_to p) x.place (entity_of x.text E) ≡ [] → BindingFits q c p (upper.named_binding (parameter_kind p) (entity_of x.text E))
   named p x h =
-      let r = right_sort (is_bound_to p) x.place (sort_of x.text E) h in
-      subst (λ o. LinkFits q c p (upper.named_link (parameter_kind p) o)) (sym r.1) (bound tasks self q c x.text p r.0 (found (Means tasks self q c) x.text E names r.0 r.1) r.2)
+      let r = right_entity (is_bound_to p) x.place (entity_of x.text E) h in
+      subst (λ o. BindingFits q c p (upper.named_binding (parameter_kind p) o)) (sym r.1) (bound tasks self q c x.text p r.0 (found (Means tasks self q c) x.text E names r.0 r.1) r.2)
 
   refused : (b : Bool) (x : Broken) → b ≡ true → where_so (b && true) (x ∷ []) ≡ [] → ⊥
   refused true x e h = cc
   refused false x e h = cc
 
-  constant_argument : (p : Parameter) (at : Place) (e : ExpressionTree) → upper.constant_argument_faults E p at e ≡ [] → LinkFits q c p (upper.constant_link E (parameter_kind p) e)
+  constant_argument : (p : Parameter) (at : Place) (e : ExpressionTree) → upper.constant_argument_faults E p at e ≡ [] → BindingFits q c p (upper.constant_binding E (parameter_kind p) e)
   constant_argument (parameter.Scalar constant k x) at e h = wanted_fits E (scope_sound tasks self q c E names) k e
   constant_argument (parameter.InputStream k x) at e h = let f = no_faults (where_so (is_constant E e && true) (fault C3 at)) (constant_faults E e) h in absurd (refused (is_constant E e) (the_broken C3 at None) (constant_so E e f.1) f.0)
   constant_argument (parameter.OutputStream k x) at e h = let f = no_faults (where_so (is_constant E e && true) (fault C3 at)) (constant_faults E e) h in absurd (refused (is_constant E e) (the_broken C3 at None) (constant_so E e f.1) f.0)
   constant_argument (parameter.Memory constant k x) at e h = let f = no_faults (where_so (is_constant E e && true) (fault C3 at)) (constant_faults E e) h in absurd (refused (is_constant E e) (the_broken C3 at None) (constant_so E e f.1) f.0)
 
-  argument : (p : Parameter) (at : Place) (e : ExpressionTree) → upper.argument_faults E p at e ≡ [] → LinkFits q c p (upper.link_of E (parameter_kind p) e)
+  argument : (p : Parameter) (at : Place) (e : ExpressionTree) → upper.argument_faults E p at e ≡ [] → BindingFits q c p (upper.binding_of E (parameter_kind p) e)
   argument p at (tree.variable x) h = named p x h
   argument p at (tree.literal k n) h = constant_argument p at (tree.literal k n) h
   argument p at (tree.boolean b) h = constant_argument p at (tree.boolean b) h
@@ -228,7 +228,7 @@ module _ (tasks : List Task) (self : List ℕ) (q : Ports) (c : List Channel) (E
   argument p at (tree.binary o a x y) h = constant_argument p at (tree.binary o a x y) h
   argument p at (tree.conditional a x y z) h = constant_argument p at (tree.conditional a x y z) h
 
-  arguments : (ps : List Parameter) (bs : List ArgumentTree) → length ps ≡ length bs → upper.arguments_faults E ps bs ≡ [] → Pairs (LinkFits q c) ps (upper.links_of E ps bs)
+  arguments : (ps : List Parameter) (bs : List ArgumentTree) → length ps ≡ length bs → upper.arguments_faults E ps bs ≡ [] → Pairs (BindingFits q c) ps (upper.bindings_of E ps bs)
   arguments [] [] l h = tt
   arguments [] (b ∷ bs) l h = absurd (omega arith)
   arguments (p ∷ ps) [] l h = absurd (omega arith)
@@ -257,23 +257,23 @@ place n (t ∷ rest) x h = place_by n t rest x (bytes_eq t.declared.name.text x)
 pub record InvocationFits (tasks : List Task) (q : Ports) (c : List Channel) (i : Invocation) : Type 0 where
   pub task : Task
   pub there : slice_get tasks i.task ≡ Some task
-  pub links : Pairs (LinkFits q c) task.declared.parameters i.links
+  pub bindings : Pairs (BindingFits q c) task.declared.parameters i.bindings
 
-task_named : (tasks : List Task) (self x : List ℕ) (q : Ports) (c : List Channel) (s : Sort) → Means tasks self q c x s → is_task s ≡ true → bytes_eq x self ≡ false → IsNamed tasks x
-task_named tasks self x q c sort.Task (inl e) h k = absurd (let t = (bytes_eq-Decides x self).1 e in cc)
-task_named tasks self x q c sort.Task (inr m) h k = m
-task_named tasks self x q c (sort.Constant j n) m h k = absurd (cc)
-task_named tasks self x q c (sort.Variable free j n) m h k = absurd (cc)
-task_named tasks self x q c (sort.Array free j n) m h k = absurd (cc)
-task_named tasks self x q c (sort.Memory free j n) m h k = absurd (cc)
-task_named tasks self x q c (sort.Stream writes j n) m h k = absurd (cc)
-task_named tasks self x q c (sort.Channel j n) m h k = absurd (cc)
+task_named : (tasks : List Task) (self x : List ℕ) (q : Ports) (c : List Channel) (s : Entity) → Means tasks self q c x s → is_task s ≡ true → bytes_eq x self ≡ false → IsNamed tasks x
+task_named tasks self x q c entity.Task (inl e) h k = absurd (let t = (bytes_eq-Decides x self).1 e in cc)
+task_named tasks self x q c entity.Task (inr m) h k = m
+task_named tasks self x q c (entity.Constant j n) m h k = absurd (cc)
+task_named tasks self x q c (entity.Variable free j n) m h k = absurd (cc)
+task_named tasks self x q c (entity.Array free j n) m h k = absurd (cc)
+task_named tasks self x q c (entity.Memory free j n) m h k = absurd (cc)
+task_named tasks self x q c (entity.Stream writes j n) m h k = absurd (cc)
+task_named tasks self x q c (entity.Channel j n) m h k = absurd (cc)
 
-invoked_fits : (tasks : List Task) (self : TaskTree) (q : Ports) (c : List Channel) (E : Scope) → DeclareAll (Means tasks self.name.text q c) E → (i : InvocationTree) (ps : List Parameter) → upper.invoked_parameters tasks self i.task.text ≡ ps → wrong_sort is_task i.task.place (sort_of i.task.text E) ≡ [] → upper.callee_faults E ps (bytes_eq i.task.text self.name.text) i ≡ [] → InvocationFits tasks q c (upper.invocation_of E tasks self i)
+invoked_fits : (tasks : List Task) (self : TaskTree) (q : Ports) (c : List Channel) (E : Scope) → DeclareAll (Means tasks self.name.text q c) E → (i : InvocationTree) (ps : List Parameter) → upper.invoked_parameters tasks self i.task.text ≡ ps → wrong_entity is_task i.task.place (entity_of i.task.text E) ≡ [] → upper.callee_faults E ps (bytes_eq i.task.text self.name.text) i ≡ [] → InvocationFits tasks q c (upper.invocation_of E tasks self i)
 invoked_fits tasks self q c E names i ps same a h =
     let d = no_faults (where_so (not (length ps == length i.arguments)) (fault C3 i.task.place)) (where_so (bytes_eq i.task.text self.name.text) (fault C10 i.task.place) ++ upper.arguments_faults E ps i.arguments) h in
     let e = no_faults (where_so (bytes_eq i.task.text self.name.text) (fault C10 i.task.place)) (upper.arguments_faults E ps i.arguments) d.1 in
-    let r = right_sort is_task i.task.place (sort_of i.task.text E) a in
+    let r = right_entity is_task i.task.place (entity_of i.task.text E) a in
     let other = holds_not (bytes_eq i.task.text self.name.text) (the_broken C10 i.task.place None) e.0 in
     let n = task_named tasks self.name.text i.task.text q c r.0 (found (Means tasks self.name.text q c) i.task.text E names r.0 r.1) r.2 other in
     let p = place 0 tasks i.task.text n in
@@ -281,20 +281,20 @@ invoked_fits tasks self q c E names i ps same a h =
     let there : slice_get tasks (task_place 0 i.task.text tasks) ≡ Some p.task = subst (λ m. slice_get tasks m ≡ Some p.task) z p.there in
     let theirs : upper.invoked_parameters tasks self i.task.text ≡ p.task.declared.parameters = ap (λ b. if b then self.parameters else parameters_of (slice_get tasks (task_place 0 i.task.text tasks))) other ∙ ap parameters_of there in
     let count = eqb-true (length ps) (length i.arguments) (holds (length ps == length i.arguments) (the_broken C3 i.task.place None) d.0) in
-    let links = arguments tasks self.name.text q c E names ps i.arguments count e.1 in
+    let bindings = arguments tasks self.name.text q c E names ps i.arguments count e.1 in
     record {
       task = p.task;
       there = there;
-      links = subst (λ qs. Pairs (LinkFits q c) qs (upper.links_of E (upper.invoked_parameters tasks self i.task.text) i.arguments)) theirs
-          (subst (λ qs. Pairs (LinkFits q c) qs (upper.links_of E qs i.arguments)) (sym same) links);
+      bindings = subst (λ qs. Pairs (BindingFits q c) qs (upper.bindings_of E (upper.invoked_parameters tasks self i.task.text) i.arguments)) theirs
+          (subst (λ qs. Pairs (BindingFits q c) qs (upper.bindings_of E qs i.arguments)) (sym same) bindings);
     }
 
 invocation_fits : (tasks : List Task) (self : TaskTree) (q : Ports) (c : List Channel) (E : Scope) → DeclareAll (Means tasks self.name.text q c) E → (i : InvocationTree) → upper.invocation_faults E tasks self i ≡ [] → InvocationFits tasks q c (upper.invocation_of E tasks self i)
 invocation_fits tasks self q c E names i h =
     let ps = upper.invoked_parameters tasks self i.task.text in
     let is_self = bytes_eq i.task.text self.name.text in
-    let a = no_faults (upper.mode_faults i.mode) (wrong_sort is_task i.task.place (sort_of i.task.text E) ++ upper.callee_faults E (upper.invoked_parameters tasks self i.task.text) (bytes_eq i.task.text self.name.text) i) h in
-    let b = no_faults (wrong_sort is_task i.task.place (sort_of i.task.text E)) (upper.callee_faults E (upper.invoked_parameters tasks self i.task.text) (bytes_eq i.task.text self.name.text) i) a.1 in
+    let a = no_faults (upper.mode_faults i.mode) (wrong_entity is_task i.task.place (entity_of i.task.text E) ++ upper.callee_faults E (upper.invoked_parameters tasks self i.task.text) (bytes_eq i.task.text self.name.text) i) h in
+    let b = no_faults (wrong_entity is_task i.task.place (entity_of i.task.text E)) (upper.callee_faults E (upper.invoked_parameters tasks self i.task.text) (bytes_eq i.task.text self.name.text) i) a.1 in
     invoked_fits tasks self q c E names i (upper.invoked_parameters tasks self i.task.text) refl b.0 b.1
 
 invocations_fit : (tasks : List Task) (self : TaskTree) (q : Ports) (c : List Channel) (E : Scope) → DeclareAll (Means tasks self.name.text q c) E → (is : List InvocationTree) → upper.invocations_faults E tasks self is ≡ [] → Each (InvocationFits tasks q c) (upper.invocations_of E tasks self is)

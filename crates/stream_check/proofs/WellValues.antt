@@ -21,10 +21,10 @@ use Rattle.check_expression.specs.Expressions.{as_kind, operated, operated_kind,
 use Rattle.check_expression.specs.Expressions as meaning
 use Rattle.check_expression.specs.Kinds.{rank, same_kind}
 use Rattle.tapa_base.specs.declared.text.Place.{Place}
-use Rattle.check_scope.specs.declared.sort.Sort.{Sort}
-use Rattle.check_scope.specs.declared.sort.Sort.TheVariants as sort
-use Rattle.check_scope.specs.Faults.{wrong_sort}
-use Rattle.check_scope.specs.Scopes.{Scope, sort_of, kind_of_sort, IsSound}
+use Rattle.check_scope.specs.declared.entity.Entity.{Entity}
+use Rattle.check_scope.specs.declared.entity.Entity.TheVariants as entity
+use Rattle.check_scope.specs.Faults.{wrong_entity}
+use Rattle.check_scope.specs.Scopes.{Scope, entity_of, kind_of_entity, IsSound}
 use Rattle.check_scope.specs.Scopes as scope
 use Rattle.check_expression.proofs.Values.{converted_fits, applied_fits, bit_fits}
 use Rattle.stream_check.proofs.WellLists.{no_faults}
@@ -58,26 +58,26 @@ as_kind_fits j k e l = as_kind_by j k e (same_kind j k) refl l
 
 -- the names in scope are sound
 abbrev pub Sound : Scope → Type 0
-Sound E = (x : List ℕ) (s : Sort) → sort_of x E ≡ Some s → IsSound s
+Sound E = (x : List ℕ) (s : Entity) → entity_of x E ≡ Some s → IsSound s
 
-named_fits : (o : Option Sort) → ((s : Sort) → o ≡ Some s → IsSound s) → constant_value (named_value o) < values_of (kind_of_sort o)
-named_fits (Some (sort.Constant k n)) h = h (sort.Constant k n) refl
-named_fits (Some (sort.Variable free k n)) h = some_values k
-named_fits (Some (sort.Array free k n)) h = some_values k
-named_fits (Some (sort.Memory free k n)) h = some_values k
-named_fits (Some (sort.Stream writes k n)) h = some_values k
-named_fits (Some (sort.Channel k n)) h = some_values k
-named_fits (Some sort.Task) h = some_values kind.U64
+named_fits : (o : Option Entity) → ((s : Entity) → o ≡ Some s → IsSound s) → constant_value (named_value o) < values_of (kind_of_entity o)
+named_fits (Some (entity.Constant k n)) h = h (entity.Constant k n) refl
+named_fits (Some (entity.Variable free k n)) h = some_values k
+named_fits (Some (entity.Array free k n)) h = some_values k
+named_fits (Some (entity.Memory free k n)) h = some_values k
+named_fits (Some (entity.Stream writes k n)) h = some_values k
+named_fits (Some (entity.Channel k n)) h = some_values k
+named_fits (Some entity.Task) h = some_values kind.U64
 named_fits None h = some_values kind.U64
 
-cell_is : (o : Option Sort) (e : FlatExpression) → constant_value (cell_value o e) ≡ 0
-cell_is (Some (sort.Constant k n)) e = refl
-cell_is (Some (sort.Variable free k n)) e = refl
-cell_is (Some (sort.Array free k n)) e = refl
-cell_is (Some (sort.Memory free k n)) e = refl
-cell_is (Some (sort.Stream writes k n)) e = refl
-cell_is (Some (sort.Channel k n)) e = refl
-cell_is (Some sort.Task) e = refl
+cell_is : (o : Option Entity) (e : FlatExpression) → constant_value (cell_value o e) ≡ 0
+cell_is (Some (entity.Constant k n)) e = refl
+cell_is (Some (entity.Variable free k n)) e = refl
+cell_is (Some (entity.Array free k n)) e = refl
+cell_is (Some (entity.Memory free k n)) e = refl
+cell_is (Some (entity.Stream writes k n)) e = refl
+cell_is (Some (entity.Channel k n)) e = refl
+cell_is (Some entity.Task) e = refl
 cell_is None e = refl
 
 zero_below : (k : Kind) (n : ℕ) → n ≡ 0 → n < values_of k
@@ -145,9 +145,9 @@ remainder_fits n k = let h = some_values k in omega arith
 pub value_fits : (E : Scope) → Sound E → (e : ExpressionTree) → constant_value (value_of E e) < values_of (kind_of E e)
 value_fits E s (tree.literal k n) = remainder_fits n k
 value_fits E s (tree.boolean b) = bit_fits b
-value_fits E s (tree.variable x) = named_fits (sort_of x.text E) (s x.text)
-value_fits E s (tree.element x e) = zero_below (kind_of E (tree.element x e)) (constant_value (value_of E (tree.element x e))) (cell_is (sort_of x.text E) (as_kind (kind_of E e) kind.U64 (value_of E e)))
-value_fits E s (tree.call x m es) = zero_below (kind_of E (tree.call x m es)) (constant_value (value_of E (tree.call x m es))) (called_is (scope.number_of (sort_of x.text E)) _)
+value_fits E s (tree.variable x) = named_fits (entity_of x.text E) (s x.text)
+value_fits E s (tree.element x e) = zero_below (kind_of E (tree.element x e)) (constant_value (value_of E (tree.element x e))) (cell_is (entity_of x.text E) (as_kind (kind_of E e) kind.U64 (value_of E e)))
+value_fits E s (tree.call x m es) = zero_below (kind_of E (tree.call x m es)) (constant_value (value_of E (tree.call x m es))) (called_is (scope.number_of (entity_of x.text E)) _)
 value_fits E s tree.nullptr = some_values kind.U64
 value_fits E s (tree.construct k e) = as_kind_fits (kind_of E e) k (value_of E e) (value_fits E s e)
 value_fits E s (tree.static_cast k e) = as_kind_fits (kind_of E e) k (value_of E e) (value_fits E s e)
@@ -169,17 +169,17 @@ wanted_fits E s k e = as_kind_fits (kind_of E e) k (value_of E e) (value_fits E 
 
 -- ---- what has no fault as a constant is one
 
-named_constant : (place : Place) (o : Option Sort) → wrong_sort scope.is_constant place o ≡ [] → is_constant_name o ≡ true
+named_constant : (place : Place) (o : Option Entity) → wrong_entity scope.is_constant place o ≡ [] → is_constant_name o ≡ true
 named_constant place None h = absurd (cc)
-named_constant place (Some (sort.Constant k n)) h = refl
-named_constant place (Some (sort.Variable free k n)) h = absurd (cc)
-named_constant place (Some (sort.Array free k n)) h = absurd (cc)
-named_constant place (Some (sort.Memory free k n)) h = absurd (cc)
-named_constant place (Some (sort.Stream writes k n)) h = absurd (cc)
-named_constant place (Some (sort.Channel k n)) h = absurd (cc)
-named_constant place (Some sort.Task) h = absurd (cc)
+named_constant place (Some (entity.Constant k n)) h = refl
+named_constant place (Some (entity.Variable free k n)) h = absurd (cc)
+named_constant place (Some (entity.Array free k n)) h = absurd (cc)
+named_constant place (Some (entity.Memory free k n)) h = absurd (cc)
+named_constant place (Some (entity.Stream writes k n)) h = absurd (cc)
+named_constant place (Some (entity.Channel k n)) h = absurd (cc)
+named_constant place (Some entity.Task) h = absurd (cc)
 
-none_fits : (place : Place) (o : Option Sort) → wrong_sort (λ s. false) place o ≡ [] → ⊥
+none_fits : (place : Place) (o : Option Entity) → wrong_entity (λ s. false) place o ≡ [] → ⊥
 none_fits place None h = cc
 none_fits place (Some s) h = cc
 
@@ -189,9 +189,9 @@ and_so a b e h = rw e h
 pub constant_so : (E : Scope) (e : ExpressionTree) → constant_faults E e ≡ [] → is_constant E e ≡ true
 constant_so E (tree.literal k n) h = refl
 constant_so E (tree.boolean b) h = refl
-constant_so E (tree.variable x) h = named_constant x.place (sort_of x.text E) h
-constant_so E (tree.element x e) h = absurd (none_fits x.place (sort_of x.text E) h)
-constant_so E (tree.call x m es) h = absurd (none_fits x.place (sort_of x.text E) h)
+constant_so E (tree.variable x) h = named_constant x.place (entity_of x.text E) h
+constant_so E (tree.element x e) h = absurd (none_fits x.place (entity_of x.text E) h)
+constant_so E (tree.call x m es) h = absurd (none_fits x.place (entity_of x.text E) h)
 constant_so E tree.nullptr h = refl
 constant_so E (tree.construct k e) h = constant_so E e h
 constant_so E (tree.static_cast k e) h = constant_so E e h

@@ -7,8 +7,8 @@ use Rattle.tapa_base.specs.Kinds.{converted, values_of}
 use Rattle.tapa_syntax.specs.Flat.{FlatBound, number, top_scalar, FlatInstance}
 use Rattle.check_expression.specs.Kinds.{same_kind}
 use Rattle.check_upper.specs.declared.task.Channel.{Channel}
-use Rattle.check_upper.specs.declared.task.Link.{Link}
-use Rattle.check_upper.specs.declared.task.Link.TheVariants.{OwnStream, StreamParameter, MemoryParameter, ScalarParameter, Constant}
+use Rattle.check_upper.specs.declared.task.Binding.{Binding}
+use Rattle.check_upper.specs.declared.task.Binding.TheVariants.{OwnStream, StreamParameter, MemoryParameter, ScalarParameter, Constant}
 use Rattle.check_upper.specs.Tasks.{Invocation, Body, leaf_body, upper_body, Task}
 
 -- a part of a task, in the order in which they are numbered
@@ -68,23 +68,23 @@ abbrev pub with_scalar : FlatBound → FlatInstance → FlatInstance
 with_scalar b y = record { label = y.label; body = y.body; scalars = y.scalars ++ b ∷ []; streams = y.streams; memories = y.memories }
 
 -- one argument more of an instance, which the task of instance x invokes; x's own streams are numbered from the first on
-abbrev pub bind : FlatInstance → ℕ → FlatInstance → Link → FlatInstance
+abbrev pub bind : FlatInstance → ℕ → FlatInstance → Binding → FlatInstance
 bind x first y (OwnStream n) = with_stream (first + n) y
 bind x first y (StreamParameter n) = with_stream (slice_index x.streams n) y
 bind x first y (MemoryParameter n) = with_memory (slice_index x.memories n) y
 bind x first y (ScalarParameter n from to) = with_scalar (passed from to (bound_or_zero (slice_get x.scalars n))) y
 bind x first y (Constant n) = with_scalar (number n) y
 
-abbrev pub bind_all : FlatInstance → ℕ → FlatInstance → List Link → FlatInstance
+abbrev pub bind_all : FlatInstance → ℕ → FlatInstance → List Binding → FlatInstance
 bind_all x first y [] = y
-bind_all x first y (l ∷ links) = bind_all x first (bind x first y l) links
+bind_all x first y (l ∷ bindings) = bind_all x first (bind x first y l) bindings
 
 abbrev pub unbound : List ℕ → ℕ → FlatInstance
 unbound label task = record { label = label; body = task; scalars = []; streams = []; memories = [] }
 
 -- the instance of the invocation at position k of the task of instance x
 abbrev pub invoked : List Task → FlatInstance → ℕ → ℕ → Invocation → FlatInstance
-invoked tasks x first k i = bind_all x first (unbound (below x.label (instance_name (name_of (slice_get tasks i.task)) k)) i.task) i.links
+invoked tasks x first k i = bind_all x first (unbound (below x.label (instance_name (name_of (slice_get tasks i.task)) k)) i.task) i.bindings
 
 -- ---- parts
 

@@ -5,10 +5,10 @@ ghost use Rattle.check_upper.specs.Views.{task_view};
 ghost use Rattle.stream_check.specs.Programs as program;
 
 use check_scope::{CheckCode, CheckFault, copied, number_of, refused};
+use check_upper::{Body, Channel, Task};
 use std::alloc::Global;
 use tapa_base::Place;
 use tapa_syntax::{End, Instance, Memory, Parameter, Stream};
-use check_upper::{Body, Channel, Task};
 
 /// The stream parameters of the leaf of a number.
 fn ends_at<'t>(tasks: &'t [Task], number: u32) -> &'t [End]

@@ -5,9 +5,9 @@ ghost use Rattle.check_upper.specs.Views.{body_view, task_view};
 ghost use Rattle.stream_check.specs.Programs as program;
 
 use check_scope::{CheckFault, next_number, number_of};
+use check_upper::{Body, Task};
 use std::alloc::Global;
 use tapa_syntax::{Instance, Leaf};
-use check_upper::{Body, Task};
 
 fn is_used(instances: &[Instance], number: u32) -> bool
     ensures { result ≡ program.is_used (map flat_instance instances.now) number }

@@ -8,10 +8,10 @@ ghost use Rattle.stream_check.specs.Parts as parts;
 use crate::label::{below, instance_name};
 use check_expression::{low_bits, same_kind};
 use check_scope::{CheckFault, number_of};
+use check_upper::{Binding, Invoked, Task};
 use std::alloc::Global;
 use tapa_base::{Kind, convert};
 use tapa_syntax::{Bound, Instance};
-use check_upper::{Invoked, Link, Task};
 
 /// A value that is bound, converted from the first kind to the second.
 fn passed(alloc: Global, from: Kind, to: Kind, bound: &Bound) -> Result<Bound, CheckFault>
@@ -74,24 +74,24 @@ fn bind(
     alloc: Global,
     outer: &Instance,
     first: u32,
-    link: Link,
+    binding: Binding,
     made: &mut Instance,
 ) -> Result<(), CheckFault>
-    ensures { Answers (λ x. flat_instance made.new) result [] (parts.bind (flat_instance outer.now) first (flat_instance made.old) link) }
+    ensures { Answers (λ x. flat_instance made.new) result [] (parts.bind (flat_instance outer.now) first (flat_instance made.old) binding) }
 {
-    match link {
-        Link::OwnStream(number) => made.streams.push(own_stream(first, number)?)?,
-        Link::StreamParameter(position) => {
+    match binding {
+        Binding::OwnStream(number) => made.streams.push(own_stream(first, number)?)?,
+        Binding::StreamParameter(position) => {
             made.streams.push(number_at(&outer.streams, position))?;
         }
-        Link::MemoryParameter(position) => {
+        Binding::MemoryParameter(position) => {
             made.memories.push(number_at(&outer.memories, position))?;
         }
-        Link::ScalarParameter { number, from, to } => {
+        Binding::ScalarParameter { number, from, to } => {
             made.scalars
                 .push(scalar_at(alloc, from, to, &outer.scalars, number)?)?;
         }
-        Link::Constant(value) => made.scalars.push(Bound::Number(value))?,
+        Binding::Constant(value) => made.scalars.push(Bound::Number(value))?,
     }
     Ok(())
 }
@@ -100,13 +100,13 @@ fn bind_all(
     alloc: Global,
     outer: &Instance,
     first: u32,
-    links: &[Link],
+    bindings: &[Binding],
     made: &mut Instance,
 ) -> Result<(), CheckFault>
-    ensures { Answers (λ x. flat_instance made.new) result [] (parts.bind_all (flat_instance outer.now) first (flat_instance made.old) links.now) }
+    ensures { Answers (λ x. flat_instance made.new) result [] (parts.bind_all (flat_instance outer.now) first (flat_instance made.old) bindings.now) }
 {
-    for link in links {
-        bind(alloc, outer, first, *link, made)?;
+    for binding in bindings {
+        bind(alloc, outer, first, *binding, made)?;
     }
     Ok(())
 }
@@ -140,6 +140,6 @@ pub(crate) fn invoked(
         streams: Vec::new(alloc),
         memories: Vec::new(alloc),
     };
-    bind_all(alloc, outer, first, &invocation.links, &mut made)?;
+    bind_all(alloc, outer, first, &invocation.bindings, &mut made)?;
     Ok(made)
 }

@@ -3,8 +3,8 @@ ghost use Rattle.std.specs.Str.{IsAscii};
 ghost use Rattle.check_scope.specs.Answers.{Answers};
 ghost use Rattle.stream_check.specs.Parts as parts;
 
-use itoa::Buffer;
 use check_scope::{CheckFault, copied};
+use itoa::Buffer;
 use std::alloc::Global;
 use tapa_base::Text;
 

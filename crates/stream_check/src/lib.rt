@@ -10,6 +10,6 @@ mod parts;
 mod program;
 mod top;
 
+pub use check_scope::{Broken, CheckCode, CheckFault};
 pub use laws::law_legal_programs_are_well_formed;
 pub use program::check;
-pub use check_scope::{Broken, CheckCode, CheckFault};

@@ -7,10 +7,10 @@ ghost use Rattle.stream_check.specs.Views.{AddsParts, body_found, upper_parts};
 use crate::instance::invoked;
 use crate::label::below;
 use check_scope::{CheckFault, number_of, over};
+use check_upper::{Body, Channel, Invoked, Task};
 use std::alloc::Global;
 use tapa_base::{Place, Text};
 use tapa_syntax::Instance;
-use check_upper::{Body, Channel, Invoked, Task};
 
 /// The most streams of a program.
 const MOST_STREAMS: u32 = 1024;

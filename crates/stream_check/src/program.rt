@@ -13,9 +13,9 @@ use crate::body::{bodies, body_numbers, instances_with_bodies};
 use crate::parts::{MOST_LEVELS, Parts, expand};
 use crate::top::{FIRST_PLACE, check_top, place_of, scalars, top_instance};
 use check_scope::{CheckCode, CheckFault, copied, refused};
+use check_upper::{Task, check_items};
 use std::alloc::Global;
 use tapa_syntax::{File, Program, TaskDeclaration};
-use check_upper::{Task, check_items};
 
 /// The streams and leaf instances of a top task.
 fn parts_of(

@@ -7,10 +7,10 @@ ghost use Rattle.check_upper.specs.Views.{body_view, task_view};
 ghost use Rattle.stream_check.specs.Programs as program;
 
 use check_scope::{CheckCode, CheckFault, copied, number_of, refused};
+use check_upper::{Body, Task};
 use std::alloc::Global;
 use tapa_base::{Place, Text};
 use tapa_syntax::{Bound, Instance, Parameter, Scalar};
-use check_upper::{Body, Task};
 
 /// Where a top task that is not there is told.
 pub(crate) const FIRST_PLACE: Place = Place { line: 1, col: 1 };

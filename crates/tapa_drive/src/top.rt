@@ -11,10 +11,10 @@ ghost use Rattle.tapa_drive.specs.Decided.{SourceMeaning, Expects, IsLengthy, Is
 use crate::files::{read_source, read_values};
 use crate::refusal::{Refusal, tell, tell_stopped};
 use crate::status::Status;
-use tapa_words::{Command, WordsFault, read_words};
 use run_program::{RunEnd, run_program};
 use std::alloc::Global;
 use tapa_base::{PrintFault, Shelf, Sink};
+use tapa_words::{Command, WordsFault, read_words};
 
 /// How a command ended that no step refused.
 #[derive(Drop)]

@@ -2,8 +2,8 @@
 use Rattle.std.proofs.Common.{◌≡◌, ℕ, suc, max, ◌<◌, ◌≤◌, inl, inr, true, false, List, [], ◌∷◌, length, drop, Option, Some, None, Result, Ok, Err, refl, sym, ap, ◌∙◌, arith}
 use Rattle.std.specs.Prelude.{◌||◌}
 use Rattle.tapa_base.specs.declared.text.Place.{Place}
-use Rattle.tapa_syntax.specs.declared.mark.Mark.{Mark}
-use Rattle.tapa_syntax.specs.declared.mark.Mark.TheVariants as mark
+use Rattle.tapa_syntax.specs.declared.terminal.Terminal.{Terminal}
+use Rattle.tapa_syntax.specs.declared.terminal.Terminal.TheVariants as terminal
 use Rattle.tapa_syntax.specs.declared.tree.AttributeArgument.{AttributeArgument}
 use Rattle.tapa_syntax.specs.declared.tree.File.{File}
 use Rattle.tapa_syntax.specs.Spans.{◌∣◌, Each}
@@ -14,7 +14,7 @@ use Rattle.tapa_parse.specs.declared.fault.ParseFault.{ParseFault}
 use Rattle.tapa_parse.specs.declared.fault.ParseFault.TheVariants.{At, OutOfMemory}
 use Rattle.tapa_parse.specs.Answers.{Reads, Answers}
 use Rattle.tapa_parse_expression.specs.Readers.{next, first_place, same, sees}
-use Rattle.tapa_parse_expression.specs.Reading.{Readers, attribute, attributes, below_room, below}
+use Rattle.tapa_parse_expression.specs.Reading.{Readers, attribute, attributes, below_levels, below}
 use Rattle.tapa_parse_expression.specs.Readers.{is_left}
 use Rattle.tapa_parse.specs.Reading.{constant_word, body, task_behind, constant_behind, item, file}
 use Rattle.tapa_syntax.specs.Characters.{Bytes}
@@ -32,17 +32,17 @@ use Rattle.tapa_parse.proofs.CompleteTasks.{third, parameter_longer, stream_long
 body_longer : (b : BodyTree) (i r : Symbols) → IsBody b i r → length r ≤ length i
 body_longer (leaf ss) i r all = statements_longer ss i r all
 body_longer (upper streams invocations) i r (j, declared, (a, tapa, (b, scope, (c, word, (d, begin, (e, close, (f, all, end))))))) =
-    omega (arith, each_longer IsStream stream_longer streams i j declared, takes_longer mark.Tapa j a tapa, takes_longer mark.Scope a b scope, takes_longer mark.Task b c word, takes_longer mark.LeftParen c d begin, takes_longer mark.RightParen d e close, some_longer IsInvocation invocation_longer invocations e f all, takes_longer mark.Semicolon f r end)
+    omega (arith, each_longer IsStream stream_longer streams i j declared, takes_longer terminal.Tapa j a tapa, takes_longer terminal.Scope a b scope, takes_longer terminal.Task b c word, takes_longer terminal.LeftParen c d begin, takes_longer terminal.RightParen d e close, some_longer IsInvocation invocation_longer invocations e f all, takes_longer terminal.Semicolon f r end)
 
-constant_word_longer : (i r : Symbols) → (Takes mark.Const ∣ Takes mark.Constexpr) i r → length r < length i
-constant_word_longer i r (inl t) = takes_longer mark.Const i r t
-constant_word_longer i r (inr t) = takes_longer mark.Constexpr i r t
+constant_word_longer : (i r : Symbols) → (Takes terminal.Const ∣ Takes terminal.Constexpr) i r → length r < length i
+constant_word_longer i r (inl t) = takes_longer terminal.Const i r t
+constant_word_longer i r (inr t) = takes_longer terminal.Constexpr i r t
 
 item_longer : (x : ItemTree) (i r : Symbols) → IsItem x i r → length r < length i
 item_longer (constant found k x e) i r (j, all, (a, word, (b, type, (c, named, (d, sign, (f, value, end)))))) =
-    omega (arith, each_longer IsAttribute attribute_longer found i j all, constant_word_longer j a word, type_longer k a b type, name_longer x b c named, takes_longer mark.Assign c d sign, expression_longer expression_level e d f value, takes_longer mark.Semicolon f r end)
+    omega (arith, each_longer IsAttribute attribute_longer found i j all, constant_word_longer j a word, type_longer k a b type, name_longer x b c named, takes_longer terminal.Assign c d sign, expression_longer expression_level e d f value, takes_longer terminal.Semicolon f r end)
 item_longer (task t) i r (j, all, (a, void, (b, named, (c, begin, (d, parameters, (e, close, (f, brace, (g, inside, (x, h, is))))))))) =
-    omega (arith, each_longer IsAttribute attribute_longer t.attributes i j all, takes_longer mark.Void j a void, name_longer t.name a b named, takes_longer mark.LeftParen b c begin, listed_longer mark.Comma IsParameter parameter_longer t.parameters c d parameters, takes_longer mark.RightParen d e close, takes_longer mark.LeftBrace e f brace, body_longer t.body f g inside, ap length is)
+    omega (arith, each_longer IsAttribute attribute_longer t.attributes i j all, takes_longer terminal.Void j a void, name_longer t.name a b named, takes_longer terminal.LeftParen b c begin, listed_longer terminal.Comma IsParameter parameter_longer t.parameters c d parameters, takes_longer terminal.RightParen d e close, takes_longer terminal.LeftBrace e f brace, body_longer t.body f g inside, ap length is)
 
 some_left : (i r : Symbols) → length r < length i → is_left i ≡ true
 some_left [] r h = absurd (omega arith)
@@ -50,14 +50,14 @@ some_left (x ∷ i) r h = refl
 
 -- ---- bodies and items
 
-statements_no_stream : (ss : Statements) (i r : Symbols) → AreStatements ss i r → next r ≡ mark.RightBrace → sees mark.Tapa i ≡ false
+statements_no_stream : (ss : Statements) (i r : Symbols) → AreStatements ss i r → next r ≡ terminal.RightBrace → sees terminal.Tapa i ≡ false
 unfolding sees same
 statements_no_stream no_statement i r is ends = rw (is, ends) refl
-statements_no_stream (statement_then s ss) i r (j, first, rest) ends = statement_other mark.Tapa s i j first refl
+statements_no_stream (statement_then s ss) i r (j, first, rest) ends = statement_other terminal.Tapa s i j first refl
 
-streams_begin : (streams : List StreamTree) (i j r : Symbols) → Each IsStream streams i j → Takes mark.Tapa j r → sees mark.Tapa i ≡ true
-streams_begin [] i j r is tapa = rw is (seen_is mark.Tapa j r tapa)
-streams_begin (s ∷ streams) i j r (a, (b, first, rest), more) tapa = seen_is mark.Tapa i b first
+streams_begin : (streams : List StreamTree) (i j r : Symbols) → Each IsStream streams i j → Takes terminal.Tapa j r → sees terminal.Tapa i ≡ true
+streams_begin [] i j r is tapa = rw is (seen_is terminal.Tapa j r tapa)
+streams_begin (s ∷ streams) i j r (a, (b, first, rest), more) tapa = seen_is terminal.Tapa i b first
 
 arguments_flat : (a : Option (List AttributeArgument)) → if_there (λ (x : List AttributeArgument). 1) a ≤ 1
 arguments_flat None = omega arith
@@ -66,75 +66,75 @@ arguments_flat (Some xs) = omega arith
 attribute_flat : (a : AttributeTree) → attribute_nesting a ≤ 1
 attribute_flat a = arguments_flat a.arguments
 
-stands_at : (m : Mark) (at : Place) (i r : Symbols) → TakesAt m at i r → first_place i ≡ at
+stands_at : (m : Terminal) (at : Place) (i r : Symbols) → TakesAt m at i r → first_place i ≡ at
 stands_at m at i r (x, h, is) = rw is h.1
 
 abbrev task_tree : TaskTree → Place → TaskTree
 task_tree t at = record { attributes = t.attributes; name = t.name; parameters = t.parameters; body = t.body; end = at }
 
-constant_word_complete : (i r : Symbols) → (Takes mark.Const ∣ Takes mark.Constexpr) i r → constant_word i ≡ Ok (tt, r)
+constant_word_complete : (i r : Symbols) → (Takes terminal.Const ∣ Takes terminal.Constexpr) i r → constant_word i ≡ Ok (tt, r)
 unfolding constant_word same
 constant_word_complete i r (inl t) =
-    let seen : (sees mark.Const i || sees mark.Constexpr i) ≡ true = rw (seen_is mark.Const i r t) refl in
-    if_true _ seen (ap (λ (j : Symbols). done (tt, j)) (dropped mark.Const i r t))
+    let seen : (sees terminal.Const i || sees terminal.Constexpr i) ≡ true = rw (seen_is terminal.Const i r t) refl in
+    if_true _ seen (ap (λ (j : Symbols). done (tt, j)) (dropped terminal.Const i r t))
 constant_word_complete i r (inr t) =
-    let seen : (sees mark.Const i || sees mark.Constexpr i) ≡ true = rw (sees_other mark.Constexpr mark.Const i r t refl) (seen_is mark.Constexpr i r t) in
-    if_true _ seen (ap (λ (j : Symbols). done (tt, j)) (dropped mark.Constexpr i r t))
+    let seen : (sees terminal.Const i || sees terminal.Constexpr i) ≡ true = rw (sees_other terminal.Constexpr terminal.Const i r t refl) (seen_is terminal.Constexpr i r t) in
+    if_true _ seen (ap (λ (j : Symbols). done (tt, j)) (dropped terminal.Constexpr i r t))
 
 -- no attribute and no task begins with it
-constant_word_other : (m : Mark) (i r : Symbols) → (Takes mark.Const ∣ Takes mark.Constexpr) i r → same mark.Const m ≡ false → same mark.Constexpr m ≡ false → sees m i ≡ false
-constant_word_other m i r (inl t) e f = sees_other mark.Const m i r t e
-constant_word_other m i r (inr t) e f = sees_other mark.Constexpr m i r t f
+constant_word_other : (m : Terminal) (i r : Symbols) → (Takes terminal.Const ∣ Takes terminal.Constexpr) i r → same terminal.Const m ≡ false → same terminal.Constexpr m ≡ false → sees m i ≡ false
+constant_word_other m i r (inl t) e f = sees_other terminal.Const m i r t e
+constant_word_other m i r (inr t) e f = sees_other terminal.Constexpr m i r t f
 
-module _ (limit room : ℕ) (inner : Option Readers) (h : MayComplete limit room inner) (one : 1 ≤ room) where
-  body_complete : (b : BodyTree) (i r : Symbols) → IsPart IsBody body_nesting body_operators room limit b i r → next r ≡ mark.RightBrace → body limit inner i ≡ Ok (b, r)
+module _ (limit levels : ℕ) (inner : Option Readers) (h : MayComplete limit levels inner) (one : 1 ≤ levels) where
+  body_complete : (b : BodyTree) (i r : Symbols) → IsPart IsBody body_nesting body_operators levels limit b i r → next r ≡ terminal.RightBrace → body limit inner i ≡ Ok (b, r)
   unfolding body same
   body_complete (leaf ss) i r k ends =
       if_false _ (statements_no_stream ss i r k.spelled ends)
-      (then_is _ (list_of ss) r (statements_complete limit room inner h ss i r (record { spelled = k.spelled; nests = k.nests; within = k.within }) ends) (ap (λ xs. done (leaf xs, r)) (of_list ss)))
+      (then_is _ (list_of ss) r (statements_complete limit levels inner h ss i r (record { spelled = k.spelled; nests = k.nests; within = k.within }) ends) (ap (λ xs. done (leaf xs, r)) (of_list ss)))
   body_complete (upper streams invocations) i r k ends =
       let (j, declared, (a, tapa, (b, scope, (c, word, rest)))) = k.spelled in
-      let stop : sees mark.Stream (drop 2 j) ≡ false = rw (third j a b tapa scope) (sees_other mark.Task mark.Stream b c word refl) in
+      let stop : sees terminal.Stream (drop 2 j) ≡ false = rw (third j a b tapa scope) (sees_other terminal.Task terminal.Stream b c word refl) in
       if_true _ (streams_begin streams i j a declared tapa)
-      (then_is _ streams j (streams_complete limit room inner h streams i j (record { spelled = declared; nests = omega (arith, k.nests); within = omega (arith, k.within) }) stop)
-      (then_is _ invocations r (invocations_complete limit room inner h invocations j r (a, tapa, (b, scope, (c, word, rest))) (omega (arith, k.nests)) (omega (arith, k.within))) refl))
+      (then_is _ streams j (streams_complete limit levels inner h streams i j (record { spelled = declared; nests = omega (arith, k.nests); within = omega (arith, k.within) }) stop)
+      (then_is _ invocations r (invocations_complete limit levels inner h invocations j r (a, tapa, (b, scope, (c, word, rest))) (omega (arith, k.nests)) (omega (arith, k.within))) refl))
 
-  attributes_complete : (found : List AttributeTree) (i r : Symbols) → Each IsAttribute found i r → sees mark.LeftBracket r ≡ false → attributes inner i ≡ Ok (found, r)
+  attributes_complete : (found : List AttributeTree) (i r : Symbols) → Each IsAttribute found i r → sees terminal.LeftBracket r ≡ false → attributes inner i ≡ Ok (found, r)
   attributes_complete found i r all stop =
-      repeat_complete IsAttribute attribute_nesting (λ a. 0) room 0 (sees mark.LeftBracket) (attribute inner) (λ r. Unit {0}) (attributes_read limit room inner h) found i r
+      repeat_complete IsAttribute attribute_nesting (λ a. 0) levels 0 (sees terminal.LeftBracket) (attribute inner) (λ r. Unit {0}) (attributes_read limit levels inner h) found i r
       (record { spelled = all; nests = omega (arith, most_is attribute_nesting 1 attribute_flat found); within = most_is (λ a. 0) 0 (λ a. omega arith) found }) stop tt
 
-  task_complete : (t : TaskTree) (i r : Symbols) → IsPart IsItem item_nesting item_operators room limit (task t) i r → item limit inner i ≡ Ok (task t, r)
+  task_complete : (t : TaskTree) (i r : Symbols) → IsPart IsItem item_nesting item_operators levels limit (task t) i r → item limit inner i ≡ Ok (task t, r)
   unfolding item task_behind same
   task_complete t i r k =
       let (j, all, (a, void, (b, named, (c, begin, (d, parameters, (e, close, (f, brace, (g, inside, end)))))))) = k.spelled in
-      let end_brace : Takes mark.RightBrace g r = (end.0, end.1.0, end.2) in
-      then_is _ t.attributes j (attributes_complete t.attributes i j all (sees_other mark.Void mark.LeftBracket j a void refl))
-      (if_true _ (seen_is mark.Void j a void)
+      let end_brace : Takes terminal.RightBrace g r = (end.0, end.1.0, end.2) in
+      then_is _ t.attributes j (attributes_complete t.attributes i j all (sees_other terminal.Void terminal.LeftBracket j a void refl))
+      (if_true _ (seen_is terminal.Void j a void)
       (then_is _ t r
-      (then_is _ tt a (expect_is mark.Void j a void)
+      (then_is _ tt a (expect_is terminal.Void j a void)
       (then_is _ t.name b (name_is t.name a b named)
       (then_is _ t.parameters e (parameters_complete t.parameters b c d e begin parameters close)
-      (then_is _ tt f (expect_is mark.LeftBrace e f brace)
-      (then_is _ t.body g (body_complete t.body f g (record { spelled = inside; nests = omega (arith, k.nests); within = k.within }) (next_is mark.RightBrace g r end_brace))
-      (then_is _ tt r (expect_is mark.RightBrace g r end_brace) (ap (λ p. done (task_tree t p, r)) (stands_at mark.RightBrace t.end g r end))))))))
+      (then_is _ tt f (expect_is terminal.LeftBrace e f brace)
+      (then_is _ t.body g (body_complete t.body f g (record { spelled = inside; nests = omega (arith, k.nests); within = k.within }) (next_is terminal.RightBrace g r end_brace))
+      (then_is _ tt r (expect_is terminal.RightBrace g r end_brace) (ap (λ p. done (task_tree t p, r)) (stands_at terminal.RightBrace t.end g r end))))))))
       refl))
 
-  item_complete : (x : ItemTree) (i r : Symbols) → IsPart IsItem item_nesting item_operators room limit x i r → item limit inner i ≡ Ok (x, r)
+  item_complete : (x : ItemTree) (i r : Symbols) → IsPart IsItem item_nesting item_operators levels limit x i r → item limit inner i ≡ Ok (x, r)
   unfolding item constant_behind same
   item_complete (constant found kind x e) i r k =
       let (j, all, (a, word, (b, type, (c, named, (d, sign, (f, value, end)))))) = k.spelled in
-      then_is _ found j (attributes_complete found i j all (constant_word_other mark.LeftBracket j a word refl refl))
-      (if_false _ (constant_word_other mark.Void j a word refl refl)
+      then_is _ found j (attributes_complete found i j all (constant_word_other terminal.LeftBracket j a word refl refl))
+      (if_false _ (constant_word_other terminal.Void j a word refl refl)
       (then_is _ tt a (constant_word_complete j a word)
       (then_is _ kind b (type_complete kind a b type (name_behind x b c named))
       (then_is _ x c (name_is x b c named)
-      (then_is _ tt d (expect_is mark.Assign c d sign)
-      (then_is _ e f (whole_expression_complete limit room inner h e d f (record { spelled = value; nests = k.nests; within = k.within }) (ap stops (next_is mark.Semicolon f r end)))
-      (then_is _ tt r (expect_is mark.Semicolon f r end) refl)))))))
+      (then_is _ tt d (expect_is terminal.Assign c d sign)
+      (then_is _ e f (whole_expression_complete limit levels inner h e d f (record { spelled = value; nests = k.nests; within = k.within }) (ap stops (next_is terminal.Semicolon f r end)))
+      (then_is _ tt r (expect_is terminal.Semicolon f r end) refl)))))))
   item_complete (task t) i r k = task_complete t i r k
 
-  items_read : ReadsAll IsItem item_nesting item_operators room limit is_left (item limit inner) (λ r. Unit {0})
+  items_read : ReadsAll IsItem item_nesting item_operators levels limit is_left (item limit inner) (λ r. Unit {0})
   items_read = record {
     reads = λ x i r k free. item_complete x i r k;
     begins = λ x i r k. (some_left i r (item_longer x i r k), tt);
@@ -143,20 +143,20 @@ module _ (limit room : ℕ) (inner : Option Readers) (h : MayComplete limit room
 
 -- ---- files
 
-pub file_complete : (limit room : ℕ) (i : Symbols) (trees : List ItemTree) → IsTreeOf i trees → most item_nesting trees ≤ room → most item_operators trees ≤ limit → 1 ≤ room → file limit (below_room limit room) i ≡ Ok (trees, [])
+pub file_complete : (limit levels : ℕ) (i : Symbols) (trees : List ItemTree) → IsTreeOf i trees → most item_nesting trees ≤ levels → most item_operators trees ≤ limit → 1 ≤ levels → file limit (below_levels limit levels) i ≡ Ok (trees, [])
 unfolding file
-file_complete limit room i trees h deep few one =
+file_complete limit levels i trees h deep few one =
     then_is _ trees []
-    (repeat_complete IsItem item_nesting item_operators room limit is_left (item limit (below_room limit room)) (λ r. Unit {0}) (items_read limit room (below_room limit room) (below_is_complete limit room) one) trees i []
+    (repeat_complete IsItem item_nesting item_operators levels limit is_left (item limit (below_levels limit levels)) (λ r. Unit {0}) (items_read limit levels (below_levels limit levels) (below_is_complete limit levels) one) trees i []
     (record { spelled = h; nests = deep; within = few }) refl tt) refl
 
--- the room that both trees need tells them apart, if they differ
+-- the levels that both trees need tells them apart, if they differ
 pub one_tree : HaveOneTree
 one_tree symbols a b h k =
-    let room = suc (max (most item_nesting a) (most item_nesting b)) in
+    let levels = suc (max (most item_nesting a) (most item_nesting b)) in
     let limit = max (most item_operators a) (most item_operators b) in
-    let first = file_complete limit room symbols a h (omega arith) (omega arith) (omega arith) in
-    let second = file_complete limit room symbols b k (omega arith) (omega arith) (omega arith) in
+    let first = file_complete limit levels symbols a h (omega arith) (omega arith) (omega arith) in
+    let second = file_complete limit levels symbols b k (omega arith) (omega arith) (omega arith) in
     ap (λ (x : List ItemTree × Symbols). x.0) (ok_is (a, []) (b, []) (sym first ∙ second))
 
 -- what is read is what the symbols have

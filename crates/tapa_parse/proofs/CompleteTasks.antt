@@ -2,8 +2,8 @@
 use Rattle.std.proofs.Common.{◌≡◌, ℕ, ◌<◌, ◌≤◌, inl, inr, Bool, true, false, List, [], ◌∷◌, length, drop, Option, Some, None, Ok, refl, ap, ◌∙◌, arith}
 use Rattle.tapa_base.specs.declared.kind.Kind.{Kind}
 use Rattle.tapa_base.specs.declared.text.Place.{Place}
-use Rattle.tapa_syntax.specs.declared.mark.Mark.{Mark}
-use Rattle.tapa_syntax.specs.declared.mark.Mark.TheVariants as mark
+use Rattle.tapa_syntax.specs.declared.terminal.Terminal.{Terminal}
+use Rattle.tapa_syntax.specs.declared.terminal.Terminal.TheVariants as terminal
 use Rattle.tapa_syntax.specs.declared.tree.Name.{Name}
 use Rattle.tapa_syntax.specs.declared.tree.Parameter.{Parameter}
 use Rattle.tapa_syntax.specs.declared.tree.Parameter.TheVariants as parameter_form
@@ -26,217 +26,217 @@ use Rattle.tapa_parse.proofs.CompleteStatements.{most_is}
 
 -- ---- parameters
 
-stream_kind_complete : (m : Mark) (k : Kind) (i j l o p q : Symbols) → Takes m i j → Takes mark.Less j l → IsType k l o → Takes mark.Greater o p → Takes mark.Ampersand p q → stream_kind i ≡ Ok (k, q)
+stream_kind_complete : (m : Terminal) (k : Kind) (i j l o p q : Symbols) → Takes m i j → Takes terminal.Less j l → IsType k l o → Takes terminal.Greater o p → Takes terminal.Ampersand p q → stream_kind i ≡ Ok (k, q)
 unfolding stream_kind
 stream_kind_complete m k i j l o p q word less type greater ampersand =
     rw (dropped m i j word)
-    (then_is _ tt l (expect_is mark.Less j l less)
-    (then_is _ k o (type_complete k l o type (rw (next_is mark.Greater o p greater) refl))
-    (then_is _ tt p (expect_is mark.Greater o p greater)
-    (then_is _ tt q (expect_is mark.Ampersand p q ampersand) refl))))
+    (then_is _ tt l (expect_is terminal.Less j l less)
+    (then_is _ k o (type_complete k l o type (rw (next_is terminal.Greater o p greater) refl))
+    (then_is _ tt p (expect_is terminal.Greater o p greater)
+    (then_is _ tt q (expect_is terminal.Ampersand p q ampersand) refl))))
 
-scalar_other : (b : Bool) (k : Kind) (m : Mark) (i j r : Symbols) → When b (Takes mark.Const) i j → IsType k j r → same mark.Const m ≡ false → begins_type m ≡ false → sees m i ≡ false
-scalar_other true k m i j r word type e f = sees_other mark.Const m i j word e
+scalar_other : (b : Bool) (k : Kind) (m : Terminal) (i j r : Symbols) → When b (Takes terminal.Const) i j → IsType k j r → same terminal.Const m ≡ false → begins_type m ≡ false → sees m i ≡ false
+scalar_other true k m i j r word type e f = sees_other terminal.Const m i j word e
 scalar_other false k m i j r word type e f = rw word (type_other k m j r type f)
 
 parameter_complete : (x : Parameter) (i r : Symbols) → IsParameter x i r → parameter i ≡ Ok (x, r)
 unfolding parameter port scalar same
 parameter_complete (parameter_form.InputStream k x) i r (a, tapa, (b, scope, (c, word, (d, less, (e, type, (f, greater, (g, ampersand, named))))))) =
-    if_true _ (seen_is mark.Tapa i a tapa)
-    (rw (dropped mark.Tapa i a tapa)
-    (then_is _ tt b (expect_is mark.Scope a b scope)
-    (rw (next_is mark.Istream b c word)
-    (then_is _ k g (stream_kind_complete mark.Istream k b c d e f g word less type greater ampersand) (then_is _ x r (name_is x g r named) refl)))))
+    if_true _ (seen_is terminal.Tapa i a tapa)
+    (rw (dropped terminal.Tapa i a tapa)
+    (then_is _ tt b (expect_is terminal.Scope a b scope)
+    (rw (next_is terminal.Istream b c word)
+    (then_is _ k g (stream_kind_complete terminal.Istream k b c d e f g word less type greater ampersand) (then_is _ x r (name_is x g r named) refl)))))
 parameter_complete (parameter_form.OutputStream k x) i r (a, tapa, (b, scope, (c, word, (d, less, (e, type, (f, greater, (g, ampersand, named))))))) =
-    if_true _ (seen_is mark.Tapa i a tapa)
-    (rw (dropped mark.Tapa i a tapa)
-    (then_is _ tt b (expect_is mark.Scope a b scope)
-    (rw (next_is mark.Ostream b c word)
-    (then_is _ k g (stream_kind_complete mark.Ostream k b c d e f g word less type greater ampersand) (then_is _ x r (name_is x g r named) refl)))))
+    if_true _ (seen_is terminal.Tapa i a tapa)
+    (rw (dropped terminal.Tapa i a tapa)
+    (then_is _ tt b (expect_is terminal.Scope a b scope)
+    (rw (next_is terminal.Ostream b c word)
+    (then_is _ k g (stream_kind_complete terminal.Ostream k b c d e f g word less type greater ampersand) (then_is _ x r (name_is x g r named) refl)))))
 parameter_complete (parameter_form.Memory is_const k x) i r (a, tapa, (b, scope, (c, word, (d, less, (e, constant, (f, type, (g, greater, named))))))) =
-    let w = const_is is_const d e constant (type_other k mark.Const e f type refl) in
-    if_true _ (seen_is mark.Tapa i a tapa)
-    (rw (dropped mark.Tapa i a tapa)
-    (then_is _ tt b (expect_is mark.Scope a b scope)
-    (rw (next_is mark.Mmap b c word, dropped mark.Mmap b c word)
-    (then_is _ tt d (expect_is mark.Less c d less)
+    let w = const_is is_const d e constant (type_other k terminal.Const e f type refl) in
+    if_true _ (seen_is terminal.Tapa i a tapa)
+    (rw (dropped terminal.Tapa i a tapa)
+    (then_is _ tt b (expect_is terminal.Scope a b scope)
+    (rw (next_is terminal.Mmap b c word, dropped terminal.Mmap b c word)
+    (then_is _ tt d (expect_is terminal.Less c d less)
     (rw (w.0, w.1)
-    (then_is _ k f (type_complete k e f type (rw (next_is mark.Greater f g greater) refl))
-    (then_is _ tt g (expect_is mark.Greater f g greater) (then_is _ x r (name_is x g r named) refl))))))))
+    (then_is _ k f (type_complete k e f type (rw (next_is terminal.Greater f g greater) refl))
+    (then_is _ tt g (expect_is terminal.Greater f g greater) (then_is _ x r (name_is x g r named) refl))))))))
 parameter_complete (parameter_form.Scalar is_const k x) i r (a, constant, (b, type, named)) =
-    let w = const_is is_const i a constant (type_other k mark.Const a b type refl) in
-    if_false _ (scalar_other is_const k mark.Tapa i a b constant type refl refl)
+    let w = const_is is_const i a constant (type_other k terminal.Const a b type refl) in
+    if_false _ (scalar_other is_const k terminal.Tapa i a b constant type refl refl)
     (rw (w.0, w.1) (then_is _ k b (type_complete k a b type (name_behind x b r named)) (then_is _ x r (name_is x b r named) refl)))
 
-parameter_no_end : (x : Parameter) (i r : Symbols) → IsParameter x i r → sees mark.RightParen i ≡ false
+parameter_no_end : (x : Parameter) (i r : Symbols) → IsParameter x i r → sees terminal.RightParen i ≡ false
 unfolding same
-parameter_no_end (parameter_form.InputStream k x) i r (a, tapa, rest) = sees_other mark.Tapa mark.RightParen i a tapa refl
-parameter_no_end (parameter_form.OutputStream k x) i r (a, tapa, rest) = sees_other mark.Tapa mark.RightParen i a tapa refl
-parameter_no_end (parameter_form.Memory is_const k x) i r (a, tapa, rest) = sees_other mark.Tapa mark.RightParen i a tapa refl
-parameter_no_end (parameter_form.Scalar is_const k x) i r (a, constant, (b, type, named)) = scalar_other is_const k mark.RightParen i a b constant type refl refl
+parameter_no_end (parameter_form.InputStream k x) i r (a, tapa, rest) = sees_other terminal.Tapa terminal.RightParen i a tapa refl
+parameter_no_end (parameter_form.OutputStream k x) i r (a, tapa, rest) = sees_other terminal.Tapa terminal.RightParen i a tapa refl
+parameter_no_end (parameter_form.Memory is_const k x) i r (a, tapa, rest) = sees_other terminal.Tapa terminal.RightParen i a tapa refl
+parameter_no_end (parameter_form.Scalar is_const k x) i r (a, constant, (b, type, named)) = scalar_other is_const k terminal.RightParen i a b constant type refl refl
 
 pub parameter_longer : (x : Parameter) (i r : Symbols) → IsParameter x i r → length r < length i
 parameter_longer (parameter_form.InputStream k x) i r (a, tapa, (b, scope, (c, word, (d, less, (e, type, (f, greater, (g, ampersand, named))))))) =
-    omega (arith, takes_longer mark.Tapa i a tapa, takes_longer mark.Scope a b scope, takes_longer mark.Istream b c word, takes_longer mark.Less c d less, type_longer k d e type, takes_longer mark.Greater e f greater, takes_longer mark.Ampersand f g ampersand, name_longer x g r named)
+    omega (arith, takes_longer terminal.Tapa i a tapa, takes_longer terminal.Scope a b scope, takes_longer terminal.Istream b c word, takes_longer terminal.Less c d less, type_longer k d e type, takes_longer terminal.Greater e f greater, takes_longer terminal.Ampersand f g ampersand, name_longer x g r named)
 parameter_longer (parameter_form.OutputStream k x) i r (a, tapa, (b, scope, (c, word, (d, less, (e, type, (f, greater, (g, ampersand, named))))))) =
-    omega (arith, takes_longer mark.Tapa i a tapa, takes_longer mark.Scope a b scope, takes_longer mark.Ostream b c word, takes_longer mark.Less c d less, type_longer k d e type, takes_longer mark.Greater e f greater, takes_longer mark.Ampersand f g ampersand, name_longer x g r named)
+    omega (arith, takes_longer terminal.Tapa i a tapa, takes_longer terminal.Scope a b scope, takes_longer terminal.Ostream b c word, takes_longer terminal.Less c d less, type_longer k d e type, takes_longer terminal.Greater e f greater, takes_longer terminal.Ampersand f g ampersand, name_longer x g r named)
 parameter_longer (parameter_form.Memory is_const k x) i r (a, tapa, (b, scope, (c, word, (d, less, (e, constant, (f, type, (g, greater, named))))))) =
-    omega (arith, takes_longer mark.Tapa i a tapa, takes_longer mark.Scope a b scope, takes_longer mark.Mmap b c word, takes_longer mark.Less c d less, when_longer is_const mark.Const d e constant, type_longer k e f type, takes_longer mark.Greater f g greater, name_longer x g r named)
-parameter_longer (parameter_form.Scalar is_const k x) i r (a, constant, (b, type, named)) = omega (arith, when_longer is_const mark.Const i a constant, type_longer k a b type, name_longer x b r named)
+    omega (arith, takes_longer terminal.Tapa i a tapa, takes_longer terminal.Scope a b scope, takes_longer terminal.Mmap b c word, takes_longer terminal.Less c d less, when_longer is_const terminal.Const d e constant, type_longer k e f type, takes_longer terminal.Greater f g greater, name_longer x g r named)
+parameter_longer (parameter_form.Scalar is_const k x) i r (a, constant, (b, type, named)) = omega (arith, when_longer is_const terminal.Const i a constant, type_longer k a b type, name_longer x b r named)
 
-pub parameters_complete : (xs : List Parameter) (i j k r : Symbols) → Takes mark.LeftParen i j → SeparatedOrNone (Takes mark.Comma) IsParameter xs j k → Takes mark.RightParen k r → parameters i ≡ Ok (xs, r)
+pub parameters_complete : (xs : List Parameter) (i j k r : Symbols) → Takes terminal.LeftParen i j → SeparatedOrNone (Takes terminal.Comma) IsParameter xs j k → Takes terminal.RightParen k r → parameters i ≡ Ok (xs, r)
 unfolding parameters same
 parameters_complete xs i j k r begin all close =
-    then_is _ tt j (expect_is mark.LeftParen i j begin)
+    then_is _ tt j (expect_is terminal.LeftParen i j begin)
     (then_is _ xs k
-    (separated_until_complete mark.Comma IsParameter (λ x. 0) (λ x. 0) 0 0 parameter (λ r. Unit {0}) (record { reads = λ x i r k free. parameter_complete x i r k.spelled; longer = parameter_longer })
-    (λ i j comma. tt) mark.RightParen parameter_no_end xs j k (record { spelled = all; nests = most_is (λ x. 0) 0 (λ x. omega arith) xs; within = most_is (λ x. 0) 0 (λ x. omega arith) xs })
-    (seen_is mark.RightParen k r close) (sees_other mark.RightParen mark.Comma k r close refl) tt)
-    (then_is _ tt r (expect_is mark.RightParen k r close) refl))
+    (separated_until_complete terminal.Comma IsParameter (λ x. 0) (λ x. 0) 0 0 parameter (λ r. Unit {0}) (record { reads = λ x i r k free. parameter_complete x i r k.spelled; longer = parameter_longer })
+    (λ i j comma. tt) terminal.RightParen parameter_no_end xs j k (record { spelled = all; nests = most_is (λ x. 0) 0 (λ x. omega arith) xs; within = most_is (λ x. 0) 0 (λ x. omega arith) xs })
+    (seen_is terminal.RightParen k r close) (sees_other terminal.RightParen terminal.Comma k r close refl) tt)
+    (then_is _ tt r (expect_is terminal.RightParen k r close) refl))
 
 -- ---- streams
 
-stream_name_complete : (x : Name) (i r : Symbols) → (IsName x ⨾ MayBeLabelled) i r → sees mark.LeftParen r ≡ false → stream_name i ≡ Ok (x, r)
+stream_name_complete : (x : Name) (i r : Symbols) → (IsName x ⨾ MayBeLabelled) i r → sees terminal.LeftParen r ≡ false → stream_name i ≡ Ok (x, r)
 unfolding stream_name
 stream_name_complete x i r (j, named, inl (k, begin, (l, string, close))) free =
     then_is _ x j (name_is x i j named)
-    (if_true _ (seen_is mark.LeftParen j k begin)
-    (rw (dropped mark.LeftParen j k begin) (then_is _ tt r (then_is _ tt l (expect_is mark.Str k l string) (expect_is mark.RightParen l r close)) refl)))
+    (if_true _ (seen_is terminal.LeftParen j k begin)
+    (rw (dropped terminal.LeftParen j k begin) (then_is _ tt r (then_is _ tt l (expect_is terminal.Str k l string) (expect_is terminal.RightParen l r close)) refl)))
 stream_name_complete x i r (j, named, inr is) free =
-    then_is _ x j (name_is x i j named) (if_false _ (ap (sees mark.LeftParen) is ∙ free) (ap (λ (l : Symbols). done (x, l)) is))
+    then_is _ x j (name_is x i j named) (if_false _ (ap (sees terminal.LeftParen) is ∙ free) (ap (λ (l : Symbols). done (x, l)) is))
 
 stream_name_longer : (x : Name) (i r : Symbols) → (IsName x ⨾ MayBeLabelled) i r → length r < length i
-stream_name_longer x i r (j, named, inl (k, begin, (l, string, close))) = omega (arith, name_longer x i j named, takes_longer mark.LeftParen j k begin, takes_longer mark.Str k l string, takes_longer mark.RightParen l r close)
+stream_name_longer x i r (j, named, inl (k, begin, (l, string, close))) = omega (arith, name_longer x i j named, takes_longer terminal.LeftParen j k begin, takes_longer terminal.Str k l string, takes_longer terminal.RightParen l r close)
 stream_name_longer x i r (j, named, inr is) = omega (arith, name_longer x i j named, ap length is)
 
-depth_begins : (c : Option CountTree) (i j r : Symbols) → Maybe (λ count. Takes mark.Comma ⨾ IsCount count) c i j → Takes mark.Greater j r → extends_type (next i) ≡ false
-depth_begins None i j r is greater = rw (is, next_is mark.Greater j r greater) refl
-depth_begins (Some count) i j r (k, comma, is) greater = rw (next_is mark.Comma i k comma) refl
+depth_begins : (c : Option CountTree) (i j r : Symbols) → Maybe (λ count. Takes terminal.Comma ⨾ IsCount count) c i j → Takes terminal.Greater j r → extends_type (next i) ≡ false
+depth_begins None i j r is greater = rw (is, next_is terminal.Greater j r greater) refl
+depth_begins (Some count) i j r (k, comma, is) greater = rw (next_is terminal.Comma i k comma) refl
 
 count_longer : (count : CountTree) (i r : Symbols) → IsCount count i r → length r < length i
 count_longer count i r h = form_longer count.form i r h.1
 
 pub stream_longer : (s : StreamTree) (i r : Symbols) → IsStream s i r → length r < length i
 stream_longer s i r (a, tapa, (b, scope, (c, word, (d, less, (e, type, (f, count, (g, greater, (l, names, end)))))))) =
-    omega (arith, takes_longer mark.Tapa i a tapa, takes_longer mark.Scope a b scope, takes_longer mark.Stream b c word, takes_longer mark.Less c d less, type_longer s.kind d e type, maybe_longer (λ count. Takes mark.Comma ⨾ IsCount count) (behind_longer mark.Comma IsCount count_longer) s.depth e f count, takes_longer mark.Greater f g greater, separated_longer mark.Comma (λ x. IsName x ⨾ MayBeLabelled) stream_name_longer s.names g l names, takes_longer mark.Semicolon l r end)
+    omega (arith, takes_longer terminal.Tapa i a tapa, takes_longer terminal.Scope a b scope, takes_longer terminal.Stream b c word, takes_longer terminal.Less c d less, type_longer s.kind d e type, maybe_longer (λ count. Takes terminal.Comma ⨾ IsCount count) (behind_longer terminal.Comma IsCount count_longer) s.depth e f count, takes_longer terminal.Greater f g greater, separated_longer terminal.Comma (λ x. IsName x ⨾ MayBeLabelled) stream_name_longer s.names g l names, takes_longer terminal.Semicolon l r end)
 
 -- the third symbol
-pub third : (i j k : Symbols) → Takes mark.Tapa i j → Takes mark.Scope j k → drop 2 i ≡ k
+pub third : (i j k : Symbols) → Takes terminal.Tapa i j → Takes terminal.Scope j k → drop 2 i ≡ k
 third i j k (x, e, is) (y, f, rest) = rw (is, rest) refl
 
 -- ---- invocations
 
-mode_complete : (m : Option Name) (i r : Symbols) → Maybe IsMode m i r → sees mark.Less r ≡ false → mode i ≡ Ok (m, r)
+mode_complete : (m : Option Name) (i r : Symbols) → Maybe IsMode m i r → sees terminal.Less r ≡ false → mode i ≡ Ok (m, r)
 unfolding mode
-mode_complete None i r is free = if_false _ (ap (sees mark.Less) is ∙ free) (ap (λ (j : Symbols). done (None, j)) is)
+mode_complete None i r is free = if_false _ (ap (sees terminal.Less) is ∙ free) (ap (λ (j : Symbols). done (None, j)) is)
 mode_complete (Some x) i r (a, less, (b, tapa, (c, scope, (d, named, greater)))) free =
-    if_true _ (seen_is mark.Less i a less)
-    (rw (dropped mark.Less i a less)
-    (then_is _ tt b (expect_is mark.Tapa a b tapa)
-    (then_is _ tt c (expect_is mark.Scope b c scope)
+    if_true _ (seen_is terminal.Less i a less)
+    (rw (dropped terminal.Less i a less)
+    (then_is _ tt b (expect_is terminal.Tapa a b tapa)
+    (then_is _ tt c (expect_is terminal.Scope b c scope)
     (then_is _ x d (plain_is x c d named)
-    (then_is _ tt r (expect_is mark.Greater d r greater) refl)))))
+    (then_is _ tt r (expect_is terminal.Greater d r greater) refl)))))
 
 mode_longer : (m : Name) (i r : Symbols) → IsMode m i r → length r < length i
 mode_longer x i r (a, less, (b, tapa, (c, scope, (d, (s, h, is), greater)))) =
-    omega (arith, takes_longer mark.Less i a less, takes_longer mark.Tapa a b tapa, takes_longer mark.Scope b c scope, ap length is, takes_longer mark.Greater d r greater)
+    omega (arith, takes_longer terminal.Less i a less, takes_longer terminal.Tapa a b tapa, takes_longer terminal.Scope b c scope, ap length is, takes_longer terminal.Greater d r greater)
 
 abbrev argument_tree : Place → ExpressionTree → ArgumentTree
 argument_tree at e = record { place = at; value = e }
 
-argument_complete : (limit room : ℕ) (R : Readers) → Complete limit room R → (a : ArgumentTree) (i r : Symbols) → IsArgument a i r → nesting a.value ≤ room → operators a.value ≤ limit → Ends expression_level (next r) → invocation_argument limit R i ≡ Ok (a, r)
+argument_complete : (limit levels : ℕ) (R : Readers) → Complete limit levels R → (a : ArgumentTree) (i r : Symbols) → IsArgument a i r → nesting a.value ≤ levels → operators a.value ≤ limit → Ends expression_level (next r) → invocation_argument limit R i ≡ Ok (a, r)
 unfolding invocation_argument
-argument_complete limit room R h a i r is deep few ends =
-    then_is _ a.value r (whole_complete expression_level room limit R.expression h.expressions.expression i a.value r (record { spelled = is.1; nests = deep; within = few }) ends)
+argument_complete limit levels R h a i r is deep few ends =
+    then_is _ a.value r (whole_complete expression_level levels limit R.expression h.expressions.expression i a.value r (record { spelled = is.1; nests = deep; within = few }) ends)
     (ap (λ p. done (argument_tree p a.value, r)) (stands i a.place is.0))
 
 argument_longer : (a : ArgumentTree) (i r : Symbols) → IsArgument a i r → length r < length i
 argument_longer a i r h = expression_longer expression_level a.value i r h.1
 
-arguments_read : (limit room : ℕ) (R : Readers) → Complete limit room R → ReadsAll (λ a. Takes mark.Comma ⨾ IsArgument a) (λ a. nesting a.value) (λ a. operators a.value) room limit (sees mark.Comma) (skip >> invocation_argument limit R) (λ r. Ends expression_level (next r))
-arguments_read limit room R h = record {
-  reads = λ a i r k ends. ap (invocation_argument limit R) (dropped mark.Comma i k.spelled.0 k.spelled.1) ∙ argument_complete limit room R h a k.spelled.0 r k.spelled.2 k.nests k.within ends;
-  begins = λ a i r k. (seen_is mark.Comma i k.0 k.1, ends_at expression_level mark.Comma i k.0 k.1 refl);
-  longer = behind_longer mark.Comma IsArgument argument_longer;
+arguments_read : (limit levels : ℕ) (R : Readers) → Complete limit levels R → ReadsAll (λ a. Takes terminal.Comma ⨾ IsArgument a) (λ a. nesting a.value) (λ a. operators a.value) levels limit (sees terminal.Comma) (skip >> invocation_argument limit R) (λ r. Ends expression_level (next r))
+arguments_read limit levels R h = record {
+  reads = λ a i r k ends. ap (invocation_argument limit R) (dropped terminal.Comma i k.spelled.0 k.spelled.1) ∙ argument_complete limit levels R h a k.spelled.0 r k.spelled.2 k.nests k.within ends;
+  begins = λ a i r k. (seen_is terminal.Comma i k.0 k.1, ends_at expression_level terminal.Comma i k.0 k.1 refl);
+  longer = behind_longer terminal.Comma IsArgument argument_longer;
 }
 
 pub invocation_longer : (x : InvocationTree) (i r : Symbols) → IsInvocation x i r → length r < length i
 invocation_longer x i r (a, dot, (b, word, (c, mode, (d, begin, (e, named, (f, all, close)))))) =
-    omega (arith, takes_longer mark.Dot i a dot, takes_longer mark.Invoke a b word, maybe_longer IsMode mode_longer x.mode b c mode, takes_longer mark.LeftParen c d begin, name_longer x.task d e named, each_longer (λ a. Takes mark.Comma ⨾ IsArgument a) (behind_longer mark.Comma IsArgument argument_longer) x.arguments e f all, takes_longer mark.RightParen f r close)
+    omega (arith, takes_longer terminal.Dot i a dot, takes_longer terminal.Invoke a b word, maybe_longer IsMode mode_longer x.mode b c mode, takes_longer terminal.LeftParen c d begin, name_longer x.task d e named, each_longer (λ a. Takes terminal.Comma ⨾ IsArgument a) (behind_longer terminal.Comma IsArgument argument_longer) x.arguments e f all, takes_longer terminal.RightParen f r close)
 
-module _ (limit room : ℕ) (inner : Option Readers) (h : MayComplete limit room inner) where
-  depth_complete : (c : Option CountTree) (i r : Symbols) → Maybe (λ count. Takes mark.Comma ⨾ IsCount count) c i r → if_there (λ count. form_nesting count.form) c ≤ room → if_there (λ count. form_operators count.form) c ≤ limit → sees mark.Comma r ≡ false → depth limit inner i ≡ Ok (c, r)
+module _ (limit levels : ℕ) (inner : Option Readers) (h : MayComplete limit levels inner) where
+  depth_complete : (c : Option CountTree) (i r : Symbols) → Maybe (λ count. Takes terminal.Comma ⨾ IsCount count) c i r → if_there (λ count. form_nesting count.form) c ≤ levels → if_there (λ count. form_operators count.form) c ≤ limit → sees terminal.Comma r ≡ false → depth limit inner i ≡ Ok (c, r)
   unfolding depth
-  depth_complete None i r is deep few free = if_false _ (ap (sees mark.Comma) is ∙ free) (ap (λ (j : Symbols). done (None, j)) is)
+  depth_complete None i r is deep few free = if_false _ (ap (sees terminal.Comma) is ∙ free) (ap (λ (j : Symbols). done (None, j)) is)
   depth_complete (Some count) i r (j, comma, is) deep few free =
-      if_true _ (seen_is mark.Comma i j comma)
-      (rw (dropped mark.Comma i j comma)
-      (then_is _ count r (counted_complete room inner (may_be limit room inner h) limit j count r (record { spelled = is; nests = deep; within = few })) refl))
+      if_true _ (seen_is terminal.Comma i j comma)
+      (rw (dropped terminal.Comma i j comma)
+      (then_is _ count r (counted_complete levels inner (may_be limit levels inner h) limit j count r (record { spelled = is; nests = deep; within = few })) refl))
 
-  stream_complete : (s : StreamTree) (i r : Symbols) → IsPart IsStream stream_nesting stream_operators room limit s i r → stream limit inner i ≡ Ok (s, r)
+  stream_complete : (s : StreamTree) (i r : Symbols) → IsPart IsStream stream_nesting stream_operators levels limit s i r → stream limit inner i ≡ Ok (s, r)
   unfolding stream same
   stream_complete s i r k =
       let (a, tapa, (b, scope, (c, word, (d, less, (e, type, (f, count, (g, greater, (l, names, end)))))))) = k.spelled in
-      then_is _ tt a (expect_is mark.Tapa i a tapa)
-      (then_is _ tt b (expect_is mark.Scope a b scope)
-      (then_is _ tt c (expect_is mark.Stream b c word)
-      (then_is _ tt d (expect_is mark.Less c d less)
+      then_is _ tt a (expect_is terminal.Tapa i a tapa)
+      (then_is _ tt b (expect_is terminal.Scope a b scope)
+      (then_is _ tt c (expect_is terminal.Stream b c word)
+      (then_is _ tt d (expect_is terminal.Less c d less)
       (then_is _ s.kind e (type_complete s.kind d e type (depth_begins s.depth e f g count greater))
-      (then_is _ s.depth f (depth_complete s.depth e f count k.nests k.within (sees_other mark.Greater mark.Comma f g greater refl))
-      (then_is _ tt g (expect_is mark.Greater f g greater)
+      (then_is _ s.depth f (depth_complete s.depth e f count k.nests k.within (sees_other terminal.Greater terminal.Comma f g greater refl))
+      (then_is _ tt g (expect_is terminal.Greater f g greater)
       (then_is _ s.names l
-      (separated_complete mark.Comma (λ x. IsName x ⨾ MayBeLabelled) (λ x. 0) (λ x. 0) 0 0 stream_name (λ r. sees mark.LeftParen r ≡ false)
-      (record { reads = λ x i r k free. stream_name_complete x i r k.spelled free; longer = stream_name_longer }) (λ i j comma. sees_other mark.Comma mark.LeftParen i j comma refl) s.names g l
-      (record { spelled = names; nests = most_is (λ x. 0) 0 (λ x. omega arith) s.names; within = most_is (λ x. 0) 0 (λ x. omega arith) s.names }) (sees_other mark.Semicolon mark.Comma l r end refl) (sees_other mark.Semicolon mark.LeftParen l r end refl))
-      (then_is _ tt r (expect_is mark.Semicolon l r end) refl))))))))
+      (separated_complete terminal.Comma (λ x. IsName x ⨾ MayBeLabelled) (λ x. 0) (λ x. 0) 0 0 stream_name (λ r. sees terminal.LeftParen r ≡ false)
+      (record { reads = λ x i r k free. stream_name_complete x i r k.spelled free; longer = stream_name_longer }) (λ i j comma. sees_other terminal.Comma terminal.LeftParen i j comma refl) s.names g l
+      (record { spelled = names; nests = most_is (λ x. 0) 0 (λ x. omega arith) s.names; within = most_is (λ x. 0) 0 (λ x. omega arith) s.names }) (sees_other terminal.Semicolon terminal.Comma l r end refl) (sees_other terminal.Semicolon terminal.LeftParen l r end refl))
+      (then_is _ tt r (expect_is terminal.Semicolon l r end) refl))))))))
 
-  streams_read : ReadsAll IsStream stream_nesting stream_operators room limit (λ i. sees mark.Stream (drop 2 i)) (stream limit inner) (λ r. Unit {0})
+  streams_read : ReadsAll IsStream stream_nesting stream_operators levels limit (λ i. sees terminal.Stream (drop 2 i)) (stream limit inner) (λ r. Unit {0})
   streams_read = record {
     reads = λ s i r k free. stream_complete s i r k;
-    begins = λ s i r k. (rw (third i k.0 k.2.0 k.1 k.2.1) (seen_is mark.Stream k.2.0 k.2.2.0 k.2.2.1), tt);
+    begins = λ s i r k. (rw (third i k.0 k.2.0 k.1 k.2.1) (seen_is terminal.Stream k.2.0 k.2.2.0 k.2.2.1), tt);
     longer = stream_longer;
   }
 
-  pub streams_complete : (xs : List StreamTree) (i r : Symbols) → AreParts IsStream stream_nesting stream_operators room limit xs i r → sees mark.Stream (drop 2 r) ≡ false → streams limit inner i ≡ Ok (xs, r)
-  streams_complete xs i r k stop = repeat_complete IsStream stream_nesting stream_operators room limit (λ i. sees mark.Stream (drop 2 i)) (stream limit inner) (λ r. Unit {0}) streams_read xs i r k stop tt
+  pub streams_complete : (xs : List StreamTree) (i r : Symbols) → AreParts IsStream stream_nesting stream_operators levels limit xs i r → sees terminal.Stream (drop 2 r) ≡ false → streams limit inner i ≡ Ok (xs, r)
+  streams_complete xs i r k stop = repeat_complete IsStream stream_nesting stream_operators levels limit (λ i. sees terminal.Stream (drop 2 i)) (stream limit inner) (λ r. Unit {0}) streams_read xs i r k stop tt
 
-  invocation_complete : (x : InvocationTree) (i r : Symbols) → IsPart IsInvocation invocation_nesting invocation_operators room limit x i r → invocation limit inner i ≡ Ok (x, r)
+  invocation_complete : (x : InvocationTree) (i r : Symbols) → IsPart IsInvocation invocation_nesting invocation_operators levels limit x i r → invocation limit inner i ≡ Ok (x, r)
   unfolding invocation same
   invocation_complete x i r k =
       let (a, dot, (b, word, (c, mode, (d, begin, (e, named, (f, all, close)))))) = k.spelled in
-      let o = opened (Complete limit) room (most (λ a. nesting a.value) x.arguments) inner mark.LeftParen c d h k.nests begin in
-      then_is _ tt a (expect_is mark.Dot i a dot)
-      (then_is _ tt b (expect_is mark.Invoke a b word)
-      (then_is _ x.mode c (mode_complete x.mode b c mode (sees_other mark.LeftParen mark.Less c d begin refl))
+      let o = opened (Complete limit) levels (most (λ a. nesting a.value) x.arguments) inner terminal.LeftParen c d h k.nests begin in
+      then_is _ tt a (expect_is terminal.Dot i a dot)
+      (then_is _ tt b (expect_is terminal.Invoke a b word)
+      (then_is _ x.mode c (mode_complete x.mode b c mode (sees_other terminal.LeftParen terminal.Less c d begin refl))
       (then_is _ o.readers d o.is
       (then_is _ x.task e (name_is x.task d e named)
       (then_is _ x.arguments f
-      (repeat_complete (λ a. Takes mark.Comma ⨾ IsArgument a) (λ a. nesting a.value) (λ a. operators a.value) o.less limit (sees mark.Comma) (skip >> invocation_argument limit o.readers) (λ r. Ends expression_level (next r)) (arguments_read limit o.less o.readers o.complete) x.arguments e f
-      (record { spelled = all; nests = o.deep; within = k.within }) (sees_other mark.RightParen mark.Comma f r close refl) (ends_at expression_level mark.RightParen f r close refl))
-      (then_is _ tt r (expect_is mark.RightParen f r close) refl))))))
+      (repeat_complete (λ a. Takes terminal.Comma ⨾ IsArgument a) (λ a. nesting a.value) (λ a. operators a.value) o.less limit (sees terminal.Comma) (skip >> invocation_argument limit o.readers) (λ r. Ends expression_level (next r)) (arguments_read limit o.less o.readers o.complete) x.arguments e f
+      (record { spelled = all; nests = o.deep; within = k.within }) (sees_other terminal.RightParen terminal.Comma f r close refl) (ends_at expression_level terminal.RightParen f r close refl))
+      (then_is _ tt r (expect_is terminal.RightParen f r close) refl))))))
 
-  invocations_read : ReadsAll IsInvocation invocation_nesting invocation_operators room limit (sees mark.Dot) (invocation limit inner) (λ r. Unit {0})
+  invocations_read : ReadsAll IsInvocation invocation_nesting invocation_operators levels limit (sees terminal.Dot) (invocation limit inner) (λ r. Unit {0})
   invocations_read = record {
     reads = λ x i r k free. invocation_complete x i r k;
-    begins = λ x i r k. (seen_is mark.Dot i k.0 k.1, tt);
+    begins = λ x i r k. (seen_is terminal.Dot i k.0 k.1, tt);
     longer = invocation_longer;
   }
 
-  chained_complete : (xs : List InvocationTree) (i r : Symbols) → EachOfSome IsInvocation xs i r → most invocation_nesting xs ≤ room → most invocation_operators xs ≤ limit → sees mark.Dot r ≡ false → chained limit inner i ≡ Ok (xs, r)
+  chained_complete : (xs : List InvocationTree) (i r : Symbols) → EachOfSome IsInvocation xs i r → most invocation_nesting xs ≤ levels → most invocation_operators xs ≤ limit → sees terminal.Dot r ≡ false → chained limit inner i ≡ Ok (xs, r)
   unfolding chained
   chained_complete [] i r all deep few stop = absurd all
   chained_complete (x ∷ xs) i r (j, first, rest) deep few stop =
       then_is _ x j (invocation_complete x i j (record { spelled = first; nests = omega arith; within = omega arith }))
-      (repeat_one_complete IsInvocation invocation_nesting invocation_operators room limit (sees mark.Dot) (invocation limit inner) (λ r. Unit {0}) invocations_read x xs j r (record { spelled = rest; nests = omega arith; within = omega arith }) stop tt)
+      (repeat_one_complete IsInvocation invocation_nesting invocation_operators levels limit (sees terminal.Dot) (invocation limit inner) (λ r. Unit {0}) invocations_read x xs j r (record { spelled = rest; nests = omega arith; within = omega arith }) stop tt)
 
-  pub invocations_complete : (xs : List InvocationTree) (i r : Symbols) → (Takes mark.Tapa ⨾ Takes mark.Scope ⨾ Takes mark.Task ⨾ Takes mark.LeftParen ⨾ Takes mark.RightParen ⨾ EachOfSome IsInvocation xs ⨾ Takes mark.Semicolon) i r
-      → most invocation_nesting xs ≤ room → most invocation_operators xs ≤ limit → invocations limit inner i ≡ Ok (xs, r)
+  pub invocations_complete : (xs : List InvocationTree) (i r : Symbols) → (Takes terminal.Tapa ⨾ Takes terminal.Scope ⨾ Takes terminal.Task ⨾ Takes terminal.LeftParen ⨾ Takes terminal.RightParen ⨾ EachOfSome IsInvocation xs ⨾ Takes terminal.Semicolon) i r
+      → most invocation_nesting xs ≤ levels → most invocation_operators xs ≤ limit → invocations limit inner i ≡ Ok (xs, r)
   unfolding invocations same
   invocations_complete xs i r (a, tapa, (b, scope, (c, word, (d, begin, (e, close, (f, all, end)))))) deep few =
-      then_is _ tt a (expect_is mark.Tapa i a tapa)
-      (then_is _ tt b (expect_is mark.Scope a b scope)
-      (then_is _ tt c (expect_is mark.Task b c word)
-      (then_is _ tt d (expect_is mark.LeftParen c d begin)
-      (then_is _ tt e (expect_is mark.RightParen d e close)
-      (then_is _ xs f (chained_complete xs e f all deep few (sees_other mark.Semicolon mark.Dot f r end refl))
-      (then_is _ tt r (expect_is mark.Semicolon f r end) refl))))))
+      then_is _ tt a (expect_is terminal.Tapa i a tapa)
+      (then_is _ tt b (expect_is terminal.Scope a b scope)
+      (then_is _ tt c (expect_is terminal.Task b c word)
+      (then_is _ tt d (expect_is terminal.LeftParen c d begin)
+      (then_is _ tt e (expect_is terminal.RightParen d e close)
+      (then_is _ xs f (chained_complete xs e f all deep few (sees_other terminal.Semicolon terminal.Dot f r end refl))
+      (then_is _ tt r (expect_is terminal.Semicolon f r end) refl))))))

@@ -1,7 +1,7 @@
 -- What is read at one level is spelled so, and passes no limit: what is to be known of the readers below.
 use Rattle.std.proofs.Common.{◌≡◌, ◌⊎◌, ℕ, zero, suc, Bool, true, false, cond, drop, Option, Some, None, refl}
-use Rattle.tapa_syntax.specs.declared.mark.Mark.{Mark}
-use Rattle.tapa_syntax.specs.declared.mark.Mark.TheVariants as mark
+use Rattle.tapa_syntax.specs.declared.terminal.Terminal.{Terminal}
+use Rattle.tapa_syntax.specs.declared.terminal.Terminal.TheVariants as terminal
 use Rattle.tapa_syntax.specs.Spans.{When, ◌⨾◌}
 use Rattle.tapa_syntax.specs.Trees.{ExpressionTree, StatementTree}
 use Rattle.tapa_syntax.specs.Grammar.{Part, Takes, IsExpression, IsPlace, IsAction, IsDeclaration, IsStatement, IsClosed}
@@ -14,7 +14,7 @@ use Rattle.tapa_parse_expression.proofs.SoundExpressions.{AreSound, MayBe, MayBe
 
 -- what the reader gives is spelled so, and passes no limit
 abbrev pub Reads : {A : Type 0} → (A → Part) → (A → ℕ) → (A → ℕ) → ℕ → ℕ → Reader A → Type 0
-Reads P f g room limit p = (i : Symbols) → Yields (λ x r. IsPart P f g room limit x i r) (p i)
+Reads P f g levels limit p = (i : Symbols) → Yields (λ x r. IsPart P f g levels limit x i r) (p i)
 
 -- a part that has no levels and no operators of its own
 abbrev pub no_number : {A : Type 0} → A → ℕ
@@ -22,30 +22,30 @@ no_number x = 0
 
 -- no else stands behind the statement where an if is open at its end
 abbrev pub TakesNoElse : StatementTree → Symbols → Type 0
-TakesNoElse s r = IsClosed s ⊎ (sees mark.Else r ≡ false)
+TakesNoElse s r = IsClosed s ⊎ (sees terminal.Else r ≡ false)
 
 abbrev pub IsWhole : StatementTree → Part
 IsWhole s i r = IsStatement s i r × TakesNoElse s r
 
-pub record Sound (limit room : ℕ) (R : Readers) : Type 0 where
-  pub expressions : AreSound room R
-  pub place : Reads IsPlace place_nesting place_operators room limit R.place
-  pub action : Reads IsAction action_nesting action_operators room limit R.action
-  pub declaration : Reads IsDeclaration declaration_nesting declaration_operators room limit R.declaration
+pub record Sound (limit levels : ℕ) (R : Readers) : Type 0 where
+  pub expressions : AreSound levels R
+  pub place : Reads IsPlace place_nesting place_operators levels limit R.place
+  pub action : Reads IsAction action_nesting action_operators levels limit R.action
+  pub declaration : Reads IsDeclaration declaration_nesting declaration_operators levels limit R.declaration
   -- a statement is a level itself
-  pub inside : Reads IsWhole statement_nesting statement_operators (suc room) limit R.inside
+  pub inside : Reads IsWhole statement_nesting statement_operators (suc levels) limit R.inside
 
-pub expressions_below : (limit room : ℕ) (inner : Option Readers) → MayBe (Sound limit) room inner → MayBeSound room inner
-expressions_below limit room None h = tt
+pub expressions_below : (limit levels : ℕ) (inner : Option Readers) → MayBe (Sound limit) levels inner → MayBeSound levels inner
+expressions_below limit levels None h = tt
 expressions_below limit zero (Some R) h = absurd h
-expressions_below limit (suc room) (Some R) h = h.expressions
+expressions_below limit (suc levels) (Some R) h = h.expressions
 
 -- an expression with a count of its own
-pub whole_reads : (limit room level : ℕ) (p : Counting ExpressionTree) → ReadsAt level room p → Reads (IsExpression level) nesting operators room limit (whole p limit)
-whole_reads limit room level p h i = weaker (whole_sound level room limit p h i) (λ e r k. record { spelled = k.spelled; nests = k.nests; within = k.within })
+pub whole_reads : (limit levels level : ℕ) (p : Counting ExpressionTree) → ReadsAt level levels p → Reads (IsExpression level) nesting operators levels limit (whole p limit)
+whole_reads limit levels level p h i = weaker (whole_sound level levels limit p h i) (λ e r k. record { spelled = k.spelled; nests = k.nests; within = k.within })
 
--- a mark that was taken, if it was there
-pub eaten : (m : Mark) (i : Symbols) → is_end m ≡ false → When (sees m i) (Takes m) i (past m i)
+-- a terminal that was taken, if it was there
+pub eaten : (m : Terminal) (i : Symbols) → is_end m ≡ false → When (sees m i) (Takes m) i (past m i)
 unfolding past
 eaten m i real = pick (sees m i) refl
   where

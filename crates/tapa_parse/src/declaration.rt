@@ -3,28 +3,28 @@
 ghost use Rattle.std.specs.Prelude.{◌≡◌, map, Some};
 ghost use Rattle.tapa_syntax.specs.Limits.{most_operators};
 ghost use Rattle.tapa_syntax.specs.Trees as view;
-ghost use Rattle.tapa_syntax.specs.declared.mark.Mark.TheVariants as mark;
+ghost use Rattle.tapa_syntax.specs.declared.terminal.Terminal.TheVariants as terminal;
 ghost use Rattle.tapa_parse_expression.specs.Readers.{Gives, separated_until, separated};
 ghost use Rattle.tapa_parse_expression.specs.Reading as spec;
 
 use crate::action::{condition, whole_expression};
-use tapa_parse_expression::{Fault, Parser};
 use std::alloc::Global;
+use tapa_parse_expression::{Fault, Parser};
 use tapa_syntax::{
     Attribute, AttributeArgument, AttributeArguments, Count, CountValue, Declaration, Declarator,
-    Mark,
+    Terminal,
 };
 
-fn count_value(parser: &mut Parser, room: u32) -> Result<CountValue, Fault>
-    ensures { Gives view.count_form_of result parser.new (spec.form most_operators (spec.below room) parser.old) }
+fn count_value(parser: &mut Parser, levels: u32) -> Result<CountValue, Fault>
+    ensures { Gives view.count_form_of result parser.new (spec.form most_operators (spec.below levels) parser.old) }
 {
     match parser.next() {
-        Mark::Literal => {
+        Terminal::Literal => {
             let (kind, value) = parser.literal()?;
             Ok(CountValue::Literal(kind, value))
         }
-        Mark::LeftParen => {
-            let e = condition(parser, room)?;
+        Terminal::LeftParen => {
+            let e = condition(parser, levels)?;
             Ok(CountValue::Parenthesized(e))
         }
         _ => {
@@ -36,29 +36,29 @@ fn count_value(parser: &mut Parser, room: u32) -> Result<CountValue, Fault>
 
 /// A depth or a number of cells.
 #[tactic(auto, unfolding(tapa_parse_expression::specs::Reading::counted))]
-pub(crate) fn count(parser: &mut Parser, room: u32) -> Result<Count, Fault>
-    ensures { Gives view.count_of result parser.new (spec.counted most_operators (spec.below room) parser.old) }
+pub(crate) fn count(parser: &mut Parser, levels: u32) -> Result<Count, Fault>
+    ensures { Gives view.count_of result parser.new (spec.counted most_operators (spec.below levels) parser.old) }
 {
     let place = parser.place();
-    let value = count_value(parser, room)?;
+    let value = count_value(parser, levels)?;
     Ok(Count { place, value })
 }
 
 #[tactic(auto, unfolding(tapa_parse_expression::specs::Reading::declarator))]
-fn declarator(parser: &mut Parser, room: u32) -> Result<Declarator, Fault>
-    ensures { Gives view.declarator_of result parser.new (spec.declarator most_operators (spec.below room) parser.old) }
+fn declarator(parser: &mut Parser, levels: u32) -> Result<Declarator, Fault>
+    ensures { Gives view.declarator_of result parser.new (spec.declarator most_operators (spec.below levels) parser.old) }
 {
     let name = parser.name()?;
     match parser.next() {
-        Mark::Assign => {
+        Terminal::Assign => {
             parser.skip();
-            let value = whole_expression(parser, room)?;
+            let value = whole_expression(parser, levels)?;
             Ok(Declarator::Initialized(name, value))
         }
-        Mark::LeftBracket => {
+        Terminal::LeftBracket => {
             parser.skip();
-            let cells = count(parser, room)?;
-            parser.expect(Mark::RightBracket)?;
+            let cells = count(parser, levels)?;
+            parser.expect(Terminal::RightBracket)?;
             Ok(Declarator::Array(name, cells))
         }
         _ => Ok(Declarator::Plain(name)),
@@ -66,28 +66,28 @@ fn declarator(parser: &mut Parser, room: u32) -> Result<Declarator, Fault>
 }
 
 #[tactic(auto, unfolding(tapa_parse_expression::specs::Readers::separated, tapa_parse_expression::specs::Readers::repeat_behind, tapa_parse_expression::specs::Readers::repeat_from))]
-fn declarators(parser: &mut Parser, room: u32) -> Result<Vec<Declarator>, Fault>
-    ensures { Gives (λ ds. map view.declarator_of ds.items) result parser.new (separated mark.Comma (spec.declarator most_operators (spec.below room)) parser.old) }
+fn declarators(parser: &mut Parser, levels: u32) -> Result<Vec<Declarator>, Fault>
+    ensures { Gives (λ ds. map view.declarator_of ds.items) result parser.new (separated terminal.Comma (spec.declarator most_operators (spec.below levels)) parser.old) }
 {
     let mut found = Vec::new(parser.alloc());
-    found.push(declarator(parser, room)?)?;
+    found.push(declarator(parser, levels)?)?;
     for _turn in 0..parser.left() {
-        if !parser.sees(Mark::Comma) {
+        if !parser.sees(Terminal::Comma) {
             return Ok(found);
         }
         parser.skip();
-        found.push(declarator(parser, room)?)?;
+        found.push(declarator(parser, levels)?)?;
     }
     Ok(found)
 }
 
 #[tactic(auto, unfolding(tapa_parse_expression::specs::Reading::declaration_with))]
-pub(crate) fn declaration(parser: &mut Parser, room: u32) -> Result<Declaration, Fault>
-    ensures { Gives view.declaration_of result parser.new ((spec.at room).declaration parser.old) }
+pub(crate) fn declaration(parser: &mut Parser, levels: u32) -> Result<Declaration, Fault>
+    ensures { Gives view.declaration_of result parser.new ((spec.at levels).declaration parser.old) }
 {
-    let constant = parser.eat(Mark::Const);
+    let constant = parser.eat(Terminal::Const);
     let kind = parser.kind()?;
-    let names = declarators(parser, room)?;
+    let names = declarators(parser, levels)?;
     Ok(Declaration {
         constant,
         kind,
@@ -100,11 +100,11 @@ fn attribute_argument(parser: &mut Parser) -> Result<AttributeArgument, Fault>
     ensures { Gives (λ x. x) result parser.new (spec.attribute_argument parser.old) }
 {
     match parser.next() {
-        Mark::Literal => {
+        Terminal::Literal => {
             let (kind, value) = parser.literal()?;
             Ok(AttributeArgument::Literal(kind, value))
         }
-        Mark::Str => {
+        Terminal::Str => {
             parser.skip();
             Ok(AttributeArgument::Str)
         }
@@ -117,12 +117,12 @@ fn attribute_argument(parser: &mut Parser) -> Result<AttributeArgument, Fault>
 
 #[tactic(auto, unfolding(tapa_parse_expression::specs::Readers::separated, tapa_parse_expression::specs::Readers::repeat_behind, tapa_parse_expression::specs::Readers::repeat_from))]
 fn separated_attribute_arguments(parser: &mut Parser) -> Result<Vec<AttributeArgument>, Fault>
-    ensures { Gives (λ xs. xs.items) result parser.new (separated mark.Comma spec.attribute_argument parser.old) }
+    ensures { Gives (λ xs. xs.items) result parser.new (separated terminal.Comma spec.attribute_argument parser.old) }
 {
     let mut found = Vec::new(parser.alloc());
     found.push(attribute_argument(parser)?)?;
     for _turn in 0..parser.left() {
-        if !parser.sees(Mark::Comma) {
+        if !parser.sees(Terminal::Comma) {
             return Ok(found);
         }
         parser.skip();
@@ -133,9 +133,9 @@ fn separated_attribute_arguments(parser: &mut Parser) -> Result<Vec<AttributeArg
 
 #[tactic(auto, unfolding(tapa_parse_expression::specs::Readers::separated_until))]
 fn any_attribute_arguments(parser: &mut Parser) -> Result<Vec<AttributeArgument>, Fault>
-    ensures { Gives (λ xs. xs.items) result parser.new (separated_until mark.RightParen mark.Comma spec.attribute_argument parser.old) }
+    ensures { Gives (λ xs. xs.items) result parser.new (separated_until terminal.RightParen terminal.Comma spec.attribute_argument parser.old) }
 {
-    if parser.sees(Mark::RightParen) {
+    if parser.sees(Terminal::RightParen) {
         Ok(Vec::new(parser.alloc()))
     } else {
         separated_attribute_arguments(parser)
@@ -143,21 +143,21 @@ fn any_attribute_arguments(parser: &mut Parser) -> Result<Vec<AttributeArgument>
 }
 
 #[tactic(auto, unfolding(tapa_parse_expression::specs::Reading::listed_arguments))]
-fn listed_arguments(parser: &mut Parser, room: u32) -> Result<Vec<AttributeArgument>, Fault>
-    ensures { Gives (λ xs. xs.items) result parser.new (spec.listed_arguments (spec.below room) parser.old) }
+fn listed_arguments(parser: &mut Parser, levels: u32) -> Result<Vec<AttributeArgument>, Fault>
+    ensures { Gives (λ xs. xs.items) result parser.new (spec.listed_arguments (spec.below levels) parser.old) }
 {
-    parser.open(Mark::LeftParen, room)?;
+    parser.open(Terminal::LeftParen, levels)?;
     let found = any_attribute_arguments(parser)?;
-    parser.expect(Mark::RightParen)?;
+    parser.expect(Terminal::RightParen)?;
     Ok(found)
 }
 
 #[tactic(auto, unfolding(tapa_parse_expression::specs::Reading::attribute_arguments))]
-fn attribute_arguments(parser: &mut Parser, room: u32) -> Result<AttributeArguments, Fault>
-    ensures { Gives view.attribute_arguments_of result parser.new (spec.attribute_arguments (spec.below room) parser.old) }
+fn attribute_arguments(parser: &mut Parser, levels: u32) -> Result<AttributeArguments, Fault>
+    ensures { Gives view.attribute_arguments_of result parser.new (spec.attribute_arguments (spec.below levels) parser.old) }
 {
-    if parser.sees(Mark::LeftParen) {
-        let listed = listed_arguments(parser, room)?;
+    if parser.sees(Terminal::LeftParen) {
+        let listed = listed_arguments(parser, levels)?;
         Ok(AttributeArguments::Listed(listed))
     } else {
         Ok(AttributeArguments::Absent)
@@ -165,30 +165,30 @@ fn attribute_arguments(parser: &mut Parser, room: u32) -> Result<AttributeArgume
 }
 
 #[tactic(auto, unfolding(tapa_parse_expression::specs::Reading::attribute))]
-fn attribute(parser: &mut Parser, room: u32) -> Result<Attribute, Fault>
-    ensures { Gives view.attribute_of result parser.new (spec.attribute (spec.below room) parser.old) }
+fn attribute(parser: &mut Parser, levels: u32) -> Result<Attribute, Fault>
+    ensures { Gives view.attribute_of result parser.new (spec.attribute (spec.below levels) parser.old) }
 {
-    parser.expect(Mark::LeftBracket)?;
-    parser.expect(Mark::LeftBracket)?;
-    parser.expect(Mark::Tapa)?;
-    parser.expect(Mark::Scope)?;
+    parser.expect(Terminal::LeftBracket)?;
+    parser.expect(Terminal::LeftBracket)?;
+    parser.expect(Terminal::Tapa)?;
+    parser.expect(Terminal::Scope)?;
     let name = parser.plain_name()?;
-    let arguments = attribute_arguments(parser, room)?;
-    parser.expect(Mark::RightBracket)?;
-    parser.expect(Mark::RightBracket)?;
+    let arguments = attribute_arguments(parser, levels)?;
+    parser.expect(Terminal::RightBracket)?;
+    parser.expect(Terminal::RightBracket)?;
     Ok(Attribute { name, arguments })
 }
 
 #[tactic(auto, unfolding(tapa_parse_expression::specs::Readers::repeat_behind, tapa_parse_expression::specs::Readers::repeat_from))]
-pub(crate) fn attributes(parser: &mut Parser, room: u32) -> Result<Vec<Attribute>, Fault>
-    ensures { Gives (λ xs. map view.attribute_of xs.items) result parser.new (spec.attributes (spec.below room) parser.old) }
+pub(crate) fn attributes(parser: &mut Parser, levels: u32) -> Result<Vec<Attribute>, Fault>
+    ensures { Gives (λ xs. map view.attribute_of xs.items) result parser.new (spec.attributes (spec.below levels) parser.old) }
 {
     let mut found = Vec::new(parser.alloc());
     for _turn in 0..parser.left() {
-        if !parser.sees(Mark::LeftBracket) {
+        if !parser.sees(Terminal::LeftBracket) {
             return Ok(found);
         }
-        found.push(attribute(parser, room)?)?;
+        found.push(attribute(parser, levels)?)?;
     }
     Ok(found)
 }

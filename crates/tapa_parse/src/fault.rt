@@ -1,7 +1,7 @@
 //! Why a source has no tree.
 
-use tapa_parse_expression::ParseCode;
 use tapa_base::Place;
+use tapa_parse_expression::ParseCode;
 
 /// Why a source was not read: the rule and the first lexeme that was refused, or the place behind the last byte; or memory
 /// ran out.

@@ -5,12 +5,12 @@ mod action;
 mod declaration;
 mod fault;
 mod laws;
-mod mark;
 mod source;
 mod statement;
 mod task;
+mod terminal;
 
-pub use tapa_parse_expression::ParseCode;
 pub use fault::ParseFault;
 pub use laws::one_tree;
 pub use source::parse;
+pub use tapa_parse_expression::ParseCode;

@@ -11,9 +11,9 @@ ghost use Rattle.tapa_parse.specs.Reading as spec;
 
 use crate::fault::ParseFault;
 use crate::task::file;
-use tapa_parse_expression::{Fault, Parser};
 use std::alloc::Global;
 use tapa_base::Place;
+use tapa_parse_expression::{Fault, Parser};
 use tapa_syntax::{File, Lexeme};
 
 /// Most levels of nesting.

@@ -10,11 +10,11 @@ ghost use Rattle.tapa_parse_expression.specs.Reading as spec;
 
 use crate::action::{action, condition, whole_expression};
 use crate::declaration::{attributes, declaration};
-use crate::mark::{begins_action, begins_statement};
-use tapa_parse_expression::{Fault, ParseCode, Parser};
+use crate::terminal::{begins_action, begins_statement};
 use std::alloc::Global;
 use tapa_base::Place;
-use tapa_syntax::{Action, Expression, ForHead, ForStart, Mark, Statement};
+use tapa_parse_expression::{Fault, ParseCode, Parser};
+use tapa_syntax::{Action, Expression, ForHead, ForStart, Statement, Terminal};
 
 // A loop of a head and a body, where the body was read.
 fn for_statement(
@@ -63,16 +63,16 @@ fn while_statement(
 
 // An action or a declaration, and a semicolon.
 #[tactic(auto, unfolding(tapa_parse_expression::specs::Reading::simple))]
-fn simple(parser: &mut Parser, room: u32) -> Result<Statement, Fault>
-    ensures { Gives view.statement result parser.new (spec.simple most_operators (spec.below room) parser.old) }
+fn simple(parser: &mut Parser, levels: u32) -> Result<Statement, Fault>
+    ensures { Gives view.statement result parser.new (spec.simple most_operators (spec.below levels) parser.old) }
 {
     if begins_action(parser.next()) {
-        let action = action(parser, room)?;
-        parser.expect(Mark::Semicolon)?;
+        let action = action(parser, levels)?;
+        parser.expect(Terminal::Semicolon)?;
         return Ok(Statement::Act(action));
     }
-    let declaration = declaration(parser, room)?;
-    parser.expect(Mark::Semicolon)?;
+    let declaration = declaration(parser, levels)?;
+    parser.expect(Terminal::Semicolon)?;
     Ok(Statement::Declare(declaration))
 }
 
@@ -82,97 +82,97 @@ fn jump(parser: &mut Parser) -> Result<Place, Fault>
 {
     let place = parser.place();
     parser.skip();
-    parser.expect(Mark::Semicolon)?;
+    parser.expect(Terminal::Semicolon)?;
     Ok(place)
 }
 
 #[tactic(auto, unfolding(tapa_parse_expression::specs::Reading::start))]
-fn start(parser: &mut Parser, room: u32) -> Result<ForStart, Fault>
-    ensures { Gives view.start_of result parser.new (spec.start (spec.at room) parser.old) }
+fn start(parser: &mut Parser, levels: u32) -> Result<ForStart, Fault>
+    ensures { Gives view.start_of result parser.new (spec.start (spec.at levels) parser.old) }
 {
-    if parser.sees(Mark::Semicolon) {
+    if parser.sees(Terminal::Semicolon) {
         return Ok(ForStart::Nothing);
     }
     if begins_action(parser.next()) {
-        let action = action(parser, room)?;
+        let action = action(parser, levels)?;
         return Ok(ForStart::Act(action));
     }
-    let declaration = declaration(parser, room)?;
+    let declaration = declaration(parser, levels)?;
     Ok(ForStart::Declare(declaration))
 }
 
 #[tactic(auto, unfolding(tapa_parse_expression::specs::Reading::loop_test))]
-fn test(parser: &mut Parser, room: u32) -> Result<Option<Expression>, Fault>
-    ensures { Gives (view.option_of view.expression) result parser.new (spec.loop_test most_operators (spec.at room) parser.old) }
+fn test(parser: &mut Parser, levels: u32) -> Result<Option<Expression>, Fault>
+    ensures { Gives (view.option_of view.expression) result parser.new (spec.loop_test most_operators (spec.at levels) parser.old) }
 {
-    if parser.sees(Mark::Semicolon) {
+    if parser.sees(Terminal::Semicolon) {
         return Ok(None);
     }
-    let e = whole_expression(parser, room)?;
+    let e = whole_expression(parser, levels)?;
     Ok(Some(e))
 }
 
 #[tactic(auto, unfolding(tapa_parse_expression::specs::Reading::step))]
-fn step(parser: &mut Parser, room: u32) -> Result<Option<Action>, Fault>
-    ensures { Gives (view.option_of view.action_of) result parser.new (spec.step (spec.at room) parser.old) }
+fn step(parser: &mut Parser, levels: u32) -> Result<Option<Action>, Fault>
+    ensures { Gives (view.option_of view.action_of) result parser.new (spec.step (spec.at levels) parser.old) }
 {
-    if parser.sees(Mark::RightParen) {
+    if parser.sees(Terminal::RightParen) {
         return Ok(None);
     }
-    let action = action(parser, room)?;
+    let action = action(parser, levels)?;
     Ok(Some(action))
 }
 
 #[tactic(auto, unfolding(tapa_parse_expression::specs::Reading::head))]
-fn head(parser: &mut Parser, room: u32) -> Result<Box<ForHead>, Fault>
-    ensures { Gives (λ head. view.head_of head.value) result parser.new (spec.head most_operators (spec.below room) parser.old) }
+fn head(parser: &mut Parser, levels: u32) -> Result<Box<ForHead>, Fault>
+    ensures { Gives (λ head. view.head_of head.value) result parser.new (spec.head most_operators (spec.below levels) parser.old) }
 {
-    let room = parser.open(Mark::LeftParen, room)?;
-    let start = start(parser, room)?;
-    parser.expect(Mark::Semicolon)?;
-    let test = test(parser, room)?;
-    parser.expect(Mark::Semicolon)?;
-    let step = step(parser, room)?;
-    parser.expect(Mark::RightParen)?;
+    let levels = parser.open(Terminal::LeftParen, levels)?;
+    let start = start(parser, levels)?;
+    parser.expect(Terminal::Semicolon)?;
+    let test = test(parser, levels)?;
+    parser.expect(Terminal::Semicolon)?;
+    let step = step(parser, levels)?;
+    parser.expect(Terminal::RightParen)?;
     Ok(Box::new(parser.alloc(), ForHead { start, test, step })?)
 }
 
 #[cycle(statement)]
 #[tactic(auto, unfolding(tapa_parse_expression::specs::Reading::statement_with))]
-fn statement(parser: &mut Parser, room: u32) -> Result<Statement, Fault>
-    ensures { Gives view.statement result parser.new (spec.statement_with most_operators (spec.below room) parser.old) }
+fn statement(parser: &mut Parser, levels: u32) -> Result<Statement, Fault>
+    ensures { Gives view.statement result parser.new (spec.statement_with most_operators (spec.below levels) parser.old) }
 {
     if !begins_statement(parser.next()) {
         return Err(Fault::Refused(ParseCode::P1));
     }
-    let room = parser.enter(room)?;
-    inside(parser, room)
+    let levels = parser.enter(levels)?;
+    inside(parser, levels)
 }
 
 /// Statements up to a closing brace.
 #[cycle(statement)]
 #[tactic(auto, unfolding(tapa_parse_expression::specs::Readers::repeat_behind, tapa_parse_expression::specs::Readers::repeat_from))]
-pub(crate) fn statements(parser: &mut Parser, room: u32) -> Result<Vec<Statement>, Fault>
-    ensures { Gives (λ ss. map view.statement ss.items) result parser.new (spec.statements_with most_operators (spec.below room) parser.old) }
+pub(crate) fn statements(parser: &mut Parser, levels: u32) -> Result<Vec<Statement>, Fault>
+    ensures { Gives (λ ss. map view.statement ss.items) result parser.new (spec.statements_with most_operators (spec.below levels) parser.old) }
 {
     let mut found = Vec::new(parser.alloc());
     for _turn in 0..parser.left() {
-        if parser.sees(Mark::RightBrace) {
+        if parser.sees(Terminal::RightBrace) {
             return Ok(found);
         }
-        found.push(statement(parser, room)?)?;
+        found.push(statement(parser, levels)?)?;
     }
     Ok(found)
 }
 
 #[cycle(statement)]
 #[tactic(auto, unfolding(tapa_parse_expression::specs::Reading::braces))]
-fn braces(parser: &mut Parser, room: u32) -> Result<Statement, Fault>
-    ensures { Gives view.statement result parser.new (spec.braces most_operators (spec.below room) parser.old) }
+fn braces(parser: &mut Parser, levels: u32) -> Result<Statement, Fault>
+    ensures { Gives view.statement result parser.new (spec.braces most_operators (spec.below levels) parser.old) }
 {
     parser.skip();
-    let inner = statements(parser, room)?;
-    parser.expect(Mark::RightBrace)?;
+    let inner = statements(parser, levels)?;
+    parser.expect(Terminal::RightBrace)?;
     Ok(Statement::Block(inner))
 }
 
@@ -183,102 +183,102 @@ fn otherwise(
     parser: &mut Parser,
     test: Expression,
     first: Statement,
-    room: u32,
+    levels: u32,
 ) -> Result<Statement, Fault>
-    ensures { Gives view.statement result parser.new (spec.otherwise most_operators (spec.below room) (view.expression test) (view.statement first) parser.old) }
+    ensures { Gives view.statement result parser.new (spec.otherwise most_operators (spec.below levels) (view.expression test) (view.statement first) parser.old) }
 {
-    if !parser.sees(Mark::Else) {
+    if !parser.sees(Terminal::Else) {
         return if_statement(parser.alloc(), test, first);
     }
     parser.skip();
-    let second = statement(parser, room);
+    let second = statement(parser, levels);
     if_else_statement(parser.alloc(), test, first, second)
 }
 
 #[cycle(statement)]
 #[tactic(auto, unfolding(tapa_parse_expression::specs::Reading::choice))]
-fn choice(parser: &mut Parser, room: u32) -> Result<Statement, Fault>
-    ensures { Gives view.statement result parser.new (spec.choice most_operators (spec.below room) parser.old) }
+fn choice(parser: &mut Parser, levels: u32) -> Result<Statement, Fault>
+    ensures { Gives view.statement result parser.new (spec.choice most_operators (spec.below levels) parser.old) }
 {
     parser.skip();
-    let test = condition(parser, room)?;
-    let first = statement(parser, room)?;
-    otherwise(parser, test, first, room)
+    let test = condition(parser, levels)?;
+    let first = statement(parser, levels)?;
+    otherwise(parser, test, first, levels)
 }
 
 #[cycle(statement)]
 #[tactic(auto, unfolding(tapa_parse_expression::specs::Reading::repetition))]
-fn repetition(parser: &mut Parser, room: u32) -> Result<Statement, Fault>
-    ensures { Gives view.statement result parser.new (spec.repetition most_operators (spec.below room) parser.old) }
+fn repetition(parser: &mut Parser, levels: u32) -> Result<Statement, Fault>
+    ensures { Gives view.statement result parser.new (spec.repetition most_operators (spec.below levels) parser.old) }
 {
     parser.skip();
-    let test = condition(parser, room)?;
-    let body = statement(parser, room);
+    let test = condition(parser, levels)?;
+    let body = statement(parser, levels);
     while_statement(parser.alloc(), test, body)
 }
 
 #[cycle(statement)]
 #[tactic(auto, unfolding(tapa_parse_expression::specs::Reading::counting_loop))]
-fn counting_loop(parser: &mut Parser, room: u32) -> Result<Statement, Fault>
-    ensures { Gives view.statement result parser.new (spec.counting_loop most_operators (spec.below room) parser.old) }
+fn counting_loop(parser: &mut Parser, levels: u32) -> Result<Statement, Fault>
+    ensures { Gives view.statement result parser.new (spec.counting_loop most_operators (spec.below levels) parser.old) }
 {
     parser.skip();
-    let head = head(parser, room)?;
-    let body = statement(parser, room);
+    let head = head(parser, levels)?;
+    let body = statement(parser, levels);
     for_statement(parser.alloc(), head, body)
 }
 
 #[cycle(statement)]
 #[tactic(auto, unfolding(tapa_parse_expression::specs::Reading::transaction_loop))]
-fn transaction_loop(parser: &mut Parser, room: u32) -> Result<Statement, Fault>
-    ensures { Gives view.statement result parser.new (spec.transaction_loop most_operators (spec.below room) parser.old) }
+fn transaction_loop(parser: &mut Parser, levels: u32) -> Result<Statement, Fault>
+    ensures { Gives view.statement result parser.new (spec.transaction_loop most_operators (spec.below levels) parser.old) }
 {
     parser.skip();
-    parser.open(Mark::LeftParen, room)?;
+    parser.open(Terminal::LeftParen, levels)?;
     let stream = parser.name()?;
-    parser.expect(Mark::RightParen)?;
-    let body = statement(parser, room)?;
+    parser.expect(Terminal::RightParen)?;
+    let body = statement(parser, levels)?;
     Ok(Statement::WhileNotEot(stream, Box::new(parser.alloc(), body)?))
 }
 
 // A statement without attributes, whose level is open.
 #[cycle(statement)]
 #[tactic(auto, unfolding(tapa_parse_expression::specs::Reading::bare))]
-fn bare(parser: &mut Parser, room: u32) -> Result<Statement, Fault>
-    ensures { Gives view.statement result parser.new (spec.bare most_operators (spec.below room) parser.old) }
+fn bare(parser: &mut Parser, levels: u32) -> Result<Statement, Fault>
+    ensures { Gives view.statement result parser.new (spec.bare most_operators (spec.below levels) parser.old) }
 {
     match parser.next() {
-        Mark::Semicolon => {
+        Terminal::Semicolon => {
             parser.skip();
             Ok(Statement::Empty)
         }
-        Mark::LeftBrace => braces(parser, room),
-        Mark::If => choice(parser, room),
-        Mark::While => repetition(parser, room),
-        Mark::For => counting_loop(parser, room),
-        Mark::WhileNotEot => transaction_loop(parser, room),
-        Mark::Break => {
+        Terminal::LeftBrace => braces(parser, levels),
+        Terminal::If => choice(parser, levels),
+        Terminal::While => repetition(parser, levels),
+        Terminal::For => counting_loop(parser, levels),
+        Terminal::WhileNotEot => transaction_loop(parser, levels),
+        Terminal::Break => {
             let place = jump(parser)?;
             Ok(Statement::Break(place))
         }
-        Mark::Continue => {
+        Terminal::Continue => {
             let place = jump(parser)?;
             Ok(Statement::Continue(place))
         }
-        _ => simple(parser, room),
+        _ => simple(parser, levels),
     }
 }
 
 // A statement whose level is open.
 #[cycle(statement)]
 #[tactic(auto, unfolding(tapa_parse_expression::specs::Reading::inside_with))]
-fn inside(parser: &mut Parser, room: u32) -> Result<Statement, Fault>
-    ensures { Gives view.statement result parser.new ((spec.at room).inside parser.old) }
+fn inside(parser: &mut Parser, levels: u32) -> Result<Statement, Fault>
+    ensures { Gives view.statement result parser.new ((spec.at levels).inside parser.old) }
 {
-    if !parser.sees(Mark::LeftBracket) {
-        return bare(parser, room);
+    if !parser.sees(Terminal::LeftBracket) {
+        return bare(parser, levels);
     }
-    let attributes = attributes(parser, room)?;
-    let bare = bare(parser, room)?;
+    let attributes = attributes(parser, levels)?;
+    let bare = bare(parser, levels)?;
     Ok(Statement::Attributed(attributes, Box::new(parser.alloc(), bare)?))
 }

@@ -3,19 +3,19 @@
 ghost use Rattle.std.specs.Prelude.{◌≡◌, map};
 ghost use Rattle.tapa_syntax.specs.Limits.{most_operators};
 ghost use Rattle.tapa_syntax.specs.Trees as view;
-ghost use Rattle.tapa_syntax.specs.declared.mark.Mark.TheVariants as mark;
+ghost use Rattle.tapa_syntax.specs.declared.terminal.Terminal.TheVariants as terminal;
 ghost use Rattle.tapa_parse_expression.specs.Readers.{Gives, separated_until, separated};
 ghost use Rattle.tapa_parse.specs.Reading as spec;
 
 use crate::action::whole_expression;
 use crate::declaration::{attributes, count};
 use crate::statement::statements;
-use tapa_parse_expression::{Fault, ParseCode, Parser};
 use std::alloc::Global;
 use tapa_base::Kind;
+use tapa_parse_expression::{Fault, ParseCode, Parser};
 use tapa_syntax::{
-    Attribute, Count, File, FileItem, Invocation, InvocationArgument, Mark, Name, Parameter,
-    StreamDeclaration, TaskBody, TaskDeclaration,
+    Attribute, Count, File, FileItem, Invocation, InvocationArgument, Name, Parameter,
+    StreamDeclaration, TaskBody, TaskDeclaration, Terminal,
 };
 
 #[tactic(auto, unfolding(crate::specs::Reading::stream_kind))]
@@ -23,10 +23,10 @@ fn stream_kind(parser: &mut Parser) -> Result<Kind, Fault>
     ensures { Gives (λ x. x) result parser.new (spec.stream_kind parser.old) }
 {
     parser.skip();
-    parser.expect(Mark::Less)?;
+    parser.expect(Terminal::Less)?;
     let kind = parser.kind()?;
-    parser.expect(Mark::Greater)?;
-    parser.expect(Mark::Ampersand)?;
+    parser.expect(Terminal::Greater)?;
+    parser.expect(Terminal::Ampersand)?;
     Ok(kind)
 }
 
@@ -36,22 +36,22 @@ fn port(parser: &mut Parser) -> Result<Parameter, Fault>
     ensures { Gives (λ x. x) result parser.new (spec.port parser.old) }
 {
     match parser.next() {
-        Mark::Istream => {
+        Terminal::Istream => {
             let kind = stream_kind(parser)?;
             let name = parser.name()?;
             Ok(Parameter::InputStream(kind, name))
         }
-        Mark::Ostream => {
+        Terminal::Ostream => {
             let kind = stream_kind(parser)?;
             let name = parser.name()?;
             Ok(Parameter::OutputStream(kind, name))
         }
-        Mark::Mmap => {
+        Terminal::Mmap => {
             parser.skip();
-            parser.expect(Mark::Less)?;
-            let constant = parser.eat(Mark::Const);
+            parser.expect(Terminal::Less)?;
+            let constant = parser.eat(Terminal::Const);
             let kind = parser.kind()?;
-            parser.expect(Mark::Greater)?;
+            parser.expect(Terminal::Greater)?;
             let name = parser.name()?;
             Ok(Parameter::Memory {
                 constant,
@@ -67,7 +67,7 @@ fn port(parser: &mut Parser) -> Result<Parameter, Fault>
 fn scalar(parser: &mut Parser) -> Result<Parameter, Fault>
     ensures { Gives (λ x. x) result parser.new (spec.scalar parser.old) }
 {
-    let constant = parser.eat(Mark::Const);
+    let constant = parser.eat(Terminal::Const);
     let kind = parser.kind()?;
     let name = parser.name()?;
     Ok(Parameter::Scalar {
@@ -81,22 +81,22 @@ fn scalar(parser: &mut Parser) -> Result<Parameter, Fault>
 fn parameter(parser: &mut Parser) -> Result<Parameter, Fault>
     ensures { Gives (λ x. x) result parser.new (spec.parameter parser.old) }
 {
-    if !parser.sees(Mark::Tapa) {
+    if !parser.sees(Terminal::Tapa) {
         return scalar(parser);
     }
     parser.skip();
-    parser.expect(Mark::Scope)?;
+    parser.expect(Terminal::Scope)?;
     port(parser)
 }
 
 #[tactic(auto, unfolding(tapa_parse_expression::specs::Readers::separated, tapa_parse_expression::specs::Readers::repeat_behind, tapa_parse_expression::specs::Readers::repeat_from))]
 fn separated_parameters(parser: &mut Parser) -> Result<Vec<Parameter>, Fault>
-    ensures { Gives (λ xs. xs.items) result parser.new (separated mark.Comma spec.parameter parser.old) }
+    ensures { Gives (λ xs. xs.items) result parser.new (separated terminal.Comma spec.parameter parser.old) }
 {
     let mut found = Vec::new(parser.alloc());
     found.push(parameter(parser)?)?;
     for _turn in 0..parser.left() {
-        if !parser.sees(Mark::Comma) {
+        if !parser.sees(Terminal::Comma) {
             return Ok(found);
         }
         parser.skip();
@@ -107,9 +107,9 @@ fn separated_parameters(parser: &mut Parser) -> Result<Vec<Parameter>, Fault>
 
 #[tactic(auto, unfolding(tapa_parse_expression::specs::Readers::separated_until))]
 fn any_parameters(parser: &mut Parser) -> Result<Vec<Parameter>, Fault>
-    ensures { Gives (λ xs. xs.items) result parser.new (separated_until mark.RightParen mark.Comma spec.parameter parser.old) }
+    ensures { Gives (λ xs. xs.items) result parser.new (separated_until terminal.RightParen terminal.Comma spec.parameter parser.old) }
 {
-    if parser.sees(Mark::RightParen) {
+    if parser.sees(Terminal::RightParen) {
         Ok(Vec::new(parser.alloc()))
     } else {
         separated_parameters(parser)
@@ -120,9 +120,9 @@ fn any_parameters(parser: &mut Parser) -> Result<Vec<Parameter>, Fault>
 fn parameters(parser: &mut Parser) -> Result<Vec<Parameter>, Fault>
     ensures { Gives (λ xs. xs.items) result parser.new (spec.parameters parser.old) }
 {
-    parser.expect(Mark::LeftParen)?;
+    parser.expect(Terminal::LeftParen)?;
     let found = any_parameters(parser)?;
-    parser.expect(Mark::RightParen)?;
+    parser.expect(Terminal::RightParen)?;
     Ok(found)
 }
 
@@ -132,23 +132,23 @@ fn stream_name(parser: &mut Parser) -> Result<Name, Fault>
     ensures { Gives (λ x. x) result parser.new (spec.stream_name parser.old) }
 {
     let name = parser.name()?;
-    if !parser.sees(Mark::LeftParen) {
+    if !parser.sees(Terminal::LeftParen) {
         return Ok(name);
     }
     parser.skip();
-    parser.expect(Mark::Str)?;
-    parser.expect(Mark::RightParen)?;
+    parser.expect(Terminal::Str)?;
+    parser.expect(Terminal::RightParen)?;
     Ok(name)
 }
 
 #[tactic(auto, unfolding(tapa_parse_expression::specs::Readers::separated, tapa_parse_expression::specs::Readers::repeat_behind, tapa_parse_expression::specs::Readers::repeat_from))]
 fn stream_names(parser: &mut Parser) -> Result<Vec<Name>, Fault>
-    ensures { Gives (λ xs. xs.items) result parser.new (separated mark.Comma spec.stream_name parser.old) }
+    ensures { Gives (λ xs. xs.items) result parser.new (separated terminal.Comma spec.stream_name parser.old) }
 {
     let mut found = Vec::new(parser.alloc());
     found.push(stream_name(parser)?)?;
     for _turn in 0..parser.left() {
-        if !parser.sees(Mark::Comma) {
+        if !parser.sees(Terminal::Comma) {
             return Ok(found);
         }
         parser.skip();
@@ -158,43 +158,43 @@ fn stream_names(parser: &mut Parser) -> Result<Vec<Name>, Fault>
 }
 
 #[tactic(auto, unfolding(crate::specs::Reading::depth))]
-fn depth(parser: &mut Parser, room: u32) -> Result<Option<Count>, Fault>
-    ensures { Gives (view.option_of view.count_of) result parser.new (spec.depth most_operators (spec.below room) parser.old) }
+fn depth(parser: &mut Parser, levels: u32) -> Result<Option<Count>, Fault>
+    ensures { Gives (view.option_of view.count_of) result parser.new (spec.depth most_operators (spec.below levels) parser.old) }
 {
-    if !parser.sees(Mark::Comma) {
+    if !parser.sees(Terminal::Comma) {
         return Ok(None);
     }
     parser.skip();
-    let count = count(parser, room)?;
+    let count = count(parser, levels)?;
     Ok(Some(count))
 }
 
 #[tactic(auto, unfolding(crate::specs::Reading::stream))]
-fn stream(parser: &mut Parser, room: u32) -> Result<StreamDeclaration, Fault>
-    ensures { Gives view.stream_of result parser.new (spec.stream most_operators (spec.below room) parser.old) }
+fn stream(parser: &mut Parser, levels: u32) -> Result<StreamDeclaration, Fault>
+    ensures { Gives view.stream_of result parser.new (spec.stream most_operators (spec.below levels) parser.old) }
 {
-    parser.expect(Mark::Tapa)?;
-    parser.expect(Mark::Scope)?;
-    parser.expect(Mark::Stream)?;
-    parser.expect(Mark::Less)?;
+    parser.expect(Terminal::Tapa)?;
+    parser.expect(Terminal::Scope)?;
+    parser.expect(Terminal::Stream)?;
+    parser.expect(Terminal::Less)?;
     let kind = parser.kind()?;
-    let depth = depth(parser, room)?;
-    parser.expect(Mark::Greater)?;
+    let depth = depth(parser, levels)?;
+    parser.expect(Terminal::Greater)?;
     let names = stream_names(parser)?;
-    parser.expect(Mark::Semicolon)?;
+    parser.expect(Terminal::Semicolon)?;
     Ok(StreamDeclaration { kind, depth, names })
 }
 
 #[tactic(auto, unfolding(tapa_parse_expression::specs::Readers::repeat_behind, tapa_parse_expression::specs::Readers::repeat_from))]
-fn streams(parser: &mut Parser, room: u32) -> Result<Vec<StreamDeclaration>, Fault>
-    ensures { Gives (λ xs. map view.stream_of xs.items) result parser.new (spec.streams most_operators (spec.below room) parser.old) }
+fn streams(parser: &mut Parser, levels: u32) -> Result<Vec<StreamDeclaration>, Fault>
+    ensures { Gives (λ xs. map view.stream_of xs.items) result parser.new (spec.streams most_operators (spec.below levels) parser.old) }
 {
     let mut found = Vec::new(parser.alloc());
     for _turn in 0..parser.left() {
-        if !parser.sees_behind(2, Mark::Stream) {
+        if !parser.sees_behind(2, Terminal::Stream) {
             return Ok(found);
         }
-        found.push(stream(parser, room)?)?;
+        found.push(stream(parser, levels)?)?;
     }
     Ok(found)
 }
@@ -203,52 +203,52 @@ fn streams(parser: &mut Parser, room: u32) -> Result<Vec<StreamDeclaration>, Fau
 fn mode(parser: &mut Parser) -> Result<Option<Name>, Fault>
     ensures { Gives (λ x. x) result parser.new (spec.mode parser.old) }
 {
-    if !parser.sees(Mark::Less) {
+    if !parser.sees(Terminal::Less) {
         return Ok(None);
     }
     parser.skip();
-    parser.expect(Mark::Tapa)?;
-    parser.expect(Mark::Scope)?;
+    parser.expect(Terminal::Tapa)?;
+    parser.expect(Terminal::Scope)?;
     let mode = parser.plain_name()?;
-    parser.expect(Mark::Greater)?;
+    parser.expect(Terminal::Greater)?;
     Ok(Some(mode))
 }
 
 #[tactic(auto, unfolding(crate::specs::Reading::invocation_argument))]
-fn invocation_argument(parser: &mut Parser, room: u32) -> Result<InvocationArgument, Fault>
-    ensures { Gives view.argument_of result parser.new (spec.invocation_argument most_operators (spec.at room) parser.old) }
+fn invocation_argument(parser: &mut Parser, levels: u32) -> Result<InvocationArgument, Fault>
+    ensures { Gives view.argument_of result parser.new (spec.invocation_argument most_operators (spec.at levels) parser.old) }
 {
     let place = parser.place();
-    let value = whole_expression(parser, room)?;
+    let value = whole_expression(parser, levels)?;
     Ok(InvocationArgument { place, value })
 }
 
 #[tactic(auto, unfolding(tapa_parse_expression::specs::Readers::repeat_behind, tapa_parse_expression::specs::Readers::repeat_from))]
-fn invocation_arguments(parser: &mut Parser, room: u32) -> Result<Vec<InvocationArgument>, Fault>
-    ensures { Gives (λ xs. map view.argument_of xs.items) result parser.new (spec.invocation_arguments most_operators (spec.at room) parser.old) }
+fn invocation_arguments(parser: &mut Parser, levels: u32) -> Result<Vec<InvocationArgument>, Fault>
+    ensures { Gives (λ xs. map view.argument_of xs.items) result parser.new (spec.invocation_arguments most_operators (spec.at levels) parser.old) }
 {
     let mut found = Vec::new(parser.alloc());
     for _turn in 0..parser.left() {
-        if !parser.sees(Mark::Comma) {
+        if !parser.sees(Terminal::Comma) {
             return Ok(found);
         }
         parser.skip();
-        found.push(invocation_argument(parser, room)?)?;
+        found.push(invocation_argument(parser, levels)?)?;
     }
     Ok(found)
 }
 
 #[tactic(auto, unfolding(crate::specs::Reading::invocation))]
-fn invocation(parser: &mut Parser, room: u32) -> Result<Invocation, Fault>
-    ensures { Gives view.invocation_of result parser.new (spec.invocation most_operators (spec.below room) parser.old) }
+fn invocation(parser: &mut Parser, levels: u32) -> Result<Invocation, Fault>
+    ensures { Gives view.invocation_of result parser.new (spec.invocation most_operators (spec.below levels) parser.old) }
 {
-    parser.expect(Mark::Dot)?;
-    parser.expect(Mark::Invoke)?;
+    parser.expect(Terminal::Dot)?;
+    parser.expect(Terminal::Invoke)?;
     let mode = mode(parser)?;
-    let room = parser.open(Mark::LeftParen, room)?;
+    let levels = parser.open(Terminal::LeftParen, levels)?;
     let task = parser.name()?;
-    let arguments = invocation_arguments(parser, room)?;
-    parser.expect(Mark::RightParen)?;
+    let arguments = invocation_arguments(parser, levels)?;
+    parser.expect(Terminal::RightParen)?;
     Ok(Invocation {
         mode,
         task,
@@ -258,44 +258,44 @@ fn invocation(parser: &mut Parser, room: u32) -> Result<Invocation, Fault>
 
 // At least one.
 #[tactic(auto, unfolding(crate::specs::Reading::chained, tapa_parse_expression::specs::Readers::repeat_behind, tapa_parse_expression::specs::Readers::repeat_from))]
-fn chained(parser: &mut Parser, room: u32) -> Result<Vec<Invocation>, Fault>
-    ensures { Gives (λ xs. map view.invocation_of xs.items) result parser.new (spec.chained most_operators (spec.below room) parser.old) }
+fn chained(parser: &mut Parser, levels: u32) -> Result<Vec<Invocation>, Fault>
+    ensures { Gives (λ xs. map view.invocation_of xs.items) result parser.new (spec.chained most_operators (spec.below levels) parser.old) }
 {
     let mut found = Vec::new(parser.alloc());
-    found.push(invocation(parser, room)?)?;
+    found.push(invocation(parser, levels)?)?;
     for _turn in 0..parser.left() {
-        if !parser.sees(Mark::Dot) {
+        if !parser.sees(Terminal::Dot) {
             return Ok(found);
         }
-        found.push(invocation(parser, room)?)?;
+        found.push(invocation(parser, levels)?)?;
     }
     Ok(found)
 }
 
 #[tactic(auto, unfolding(crate::specs::Reading::invocations))]
-fn invocations(parser: &mut Parser, room: u32) -> Result<Vec<Invocation>, Fault>
-    ensures { Gives (λ xs. map view.invocation_of xs.items) result parser.new (spec.invocations most_operators (spec.below room) parser.old) }
+fn invocations(parser: &mut Parser, levels: u32) -> Result<Vec<Invocation>, Fault>
+    ensures { Gives (λ xs. map view.invocation_of xs.items) result parser.new (spec.invocations most_operators (spec.below levels) parser.old) }
 {
-    parser.expect(Mark::Tapa)?;
-    parser.expect(Mark::Scope)?;
-    parser.expect(Mark::Task)?;
-    parser.expect(Mark::LeftParen)?;
-    parser.expect(Mark::RightParen)?;
-    let found = chained(parser, room)?;
-    parser.expect(Mark::Semicolon)?;
+    parser.expect(Terminal::Tapa)?;
+    parser.expect(Terminal::Scope)?;
+    parser.expect(Terminal::Task)?;
+    parser.expect(Terminal::LeftParen)?;
+    parser.expect(Terminal::RightParen)?;
+    let found = chained(parser, levels)?;
+    parser.expect(Terminal::Semicolon)?;
     Ok(found)
 }
 
 #[tactic(auto, unfolding(crate::specs::Reading::body))]
-fn body(parser: &mut Parser, room: u32) -> Result<TaskBody, Fault>
-    ensures { Gives view.body_of result parser.new (spec.body most_operators (spec.below room) parser.old) }
+fn body(parser: &mut Parser, levels: u32) -> Result<TaskBody, Fault>
+    ensures { Gives view.body_of result parser.new (spec.body most_operators (spec.below levels) parser.old) }
 {
-    if !parser.sees(Mark::Tapa) {
-        let statements = statements(parser, room)?;
+    if !parser.sees(Terminal::Tapa) {
+        let statements = statements(parser, levels)?;
         return Ok(TaskBody::Leaf(statements));
     }
-    let streams = streams(parser, room)?;
-    let invocations = invocations(parser, room)?;
+    let streams = streams(parser, levels)?;
+    let invocations = invocations(parser, levels)?;
     Ok(TaskBody::Upper {
         streams,
         invocations,
@@ -306,17 +306,17 @@ fn body(parser: &mut Parser, room: u32) -> Result<TaskBody, Fault>
 fn task_behind(
     parser: &mut Parser,
     attributes: Vec<Attribute>,
-    room: u32,
+    levels: u32,
 ) -> Result<TaskDeclaration, Fault>
-    ensures { Gives view.task_of result parser.new (spec.task_behind most_operators (spec.below room) (map view.attribute_of attributes.items) parser.old) }
+    ensures { Gives view.task_of result parser.new (spec.task_behind most_operators (spec.below levels) (map view.attribute_of attributes.items) parser.old) }
 {
-    parser.expect(Mark::Void)?;
+    parser.expect(Terminal::Void)?;
     let name = parser.name()?;
     let parameters = parameters(parser)?;
-    parser.expect(Mark::LeftBrace)?;
-    let body = body(parser, room)?;
+    parser.expect(Terminal::LeftBrace)?;
+    let body = body(parser, levels)?;
     let end = parser.place();
-    parser.expect(Mark::RightBrace)?;
+    parser.expect(Terminal::RightBrace)?;
     Ok(TaskDeclaration {
         attributes,
         name,
@@ -330,7 +330,7 @@ fn task_behind(
 fn constant_word(parser: &mut Parser) -> Result<(), Fault>
     ensures { Gives (λ x. x) result parser.new (spec.constant_word parser.old) }
 {
-    if parser.sees(Mark::Const) || parser.sees(Mark::Constexpr) {
+    if parser.sees(Terminal::Const) || parser.sees(Terminal::Constexpr) {
         parser.skip();
         Ok(())
     } else {
@@ -342,16 +342,16 @@ fn constant_word(parser: &mut Parser) -> Result<(), Fault>
 fn constant_behind(
     parser: &mut Parser,
     attributes: Vec<Attribute>,
-    room: u32,
+    levels: u32,
 ) -> Result<FileItem, Fault>
-    ensures { Gives view.item_of result parser.new (spec.constant_behind most_operators (spec.below room) (map view.attribute_of attributes.items) parser.old) }
+    ensures { Gives view.item_of result parser.new (spec.constant_behind most_operators (spec.below levels) (map view.attribute_of attributes.items) parser.old) }
 {
     constant_word(parser)?;
     let kind = parser.kind()?;
     let name = parser.name()?;
-    parser.expect(Mark::Assign)?;
-    let value = whole_expression(parser, room)?;
-    parser.expect(Mark::Semicolon)?;
+    parser.expect(Terminal::Assign)?;
+    let value = whole_expression(parser, levels)?;
+    parser.expect(Terminal::Semicolon)?;
     Ok(FileItem::Constant {
         attributes,
         kind,
@@ -361,36 +361,36 @@ fn constant_behind(
 }
 
 #[tactic(auto, unfolding(crate::specs::Reading::item))]
-fn item(parser: &mut Parser, room: u32) -> Result<FileItem, Fault>
-    ensures { Gives view.item_of result parser.new (spec.item most_operators (spec.below room) parser.old) }
+fn item(parser: &mut Parser, levels: u32) -> Result<FileItem, Fault>
+    ensures { Gives view.item_of result parser.new (spec.item most_operators (spec.below levels) parser.old) }
 {
-    let attributes = attributes(parser, room)?;
-    if !parser.sees(Mark::Void) {
-        return constant_behind(parser, attributes, room);
+    let attributes = attributes(parser, levels)?;
+    if !parser.sees(Terminal::Void) {
+        return constant_behind(parser, attributes, levels);
     }
-    let task = task_behind(parser, attributes, room)?;
+    let task = task_behind(parser, attributes, levels)?;
     Ok(FileItem::Task(task))
 }
 
 #[tactic(auto, unfolding(tapa_parse_expression::specs::Readers::repeat_behind, tapa_parse_expression::specs::Readers::repeat_from))]
-fn items(parser: &mut Parser, room: u32) -> Result<Vec<FileItem>, Fault>
-    ensures { Gives (λ xs. map view.item_of xs.items) result parser.new (spec.items most_operators (spec.below room) parser.old) }
+fn items(parser: &mut Parser, levels: u32) -> Result<Vec<FileItem>, Fault>
+    ensures { Gives (λ xs. map view.item_of xs.items) result parser.new (spec.items most_operators (spec.below levels) parser.old) }
 {
     let mut found = Vec::new(parser.alloc());
     for _turn in 0..parser.left() {
         if !parser.is_left() {
             return Ok(found);
         }
-        found.push(item(parser, room)?)?;
+        found.push(item(parser, levels)?)?;
     }
     Ok(found)
 }
 
 #[tactic(auto, unfolding(crate::specs::Reading::file))]
-pub(crate) fn file(parser: &mut Parser, room: u32) -> Result<File, Fault>
-    ensures { Gives view.file_of result parser.new (spec.file most_operators (spec.below room) parser.old) }
+pub(crate) fn file(parser: &mut Parser, levels: u32) -> Result<File, Fault>
+    ensures { Gives view.file_of result parser.new (spec.file most_operators (spec.below levels) parser.old) }
 {
-    let items = items(parser, room)?;
+    let items = items(parser, levels)?;
     parser.ended()?;
     Ok(File { items })
 }

@@ -3,8 +3,8 @@ use Rattle.std.proofs.Common.{◌≡◌, ℕ, zero, suc, ◌+◌, ◌<◌, ◌�
 use Rattle.std.proofs.lemmas.Bool.{eqb-true, eq-eqb, cases_lt}
 use Rattle.tapa_base.specs.declared.op.Op.TheVariants as op
 use Rattle.tapa_base.specs.declared.text.Place.{Place}
-use Rattle.tapa_syntax.specs.declared.mark.Mark.{Mark}
-use Rattle.tapa_syntax.specs.declared.mark.Mark.TheVariants as mark
+use Rattle.tapa_syntax.specs.declared.terminal.Terminal.{Terminal}
+use Rattle.tapa_syntax.specs.declared.terminal.Terminal.TheVariants as terminal
 use Rattle.tapa_syntax.specs.declared.tree.BinaryOperator.{BinaryOperator}
 use Rattle.tapa_syntax.specs.declared.tree.BinaryOperator.TheVariants.{LogicalOr, LogicalAnd, Value}
 use Rattle.tapa_syntax.specs.Symbols.{Symbol}
@@ -22,36 +22,36 @@ use Rattle.tapa_parse_expression.proofs.CompleteTypes.{one_longer, type_longer, 
 -- ---- what may stand behind an expression
 
 -- a name goes on with these
-abbrev pub extends_name : Mark → Bool
-extends_name mark.Dot = true
-extends_name mark.LeftBracket = true
+abbrev pub extends_name : Terminal → Bool
+extends_name terminal.Dot = true
+extends_name terminal.LeftBracket = true
 extends_name _ = false
 
--- an expression of this level does not go on with this mark
-pub record Ends (level : ℕ) (m : Mark) : Type 0 where
+-- an expression of this level does not go on with this terminal
+pub record Ends (level : ℕ) (m : Terminal) : Type 0 where
   pub name : extends_name m ≡ false
   pub operator : (l : ℕ) → l < level → at_level l (binary_operator_of m) ≡ None
-  pub question : expression_level ≤ level → same m mark.Question ≡ false
+  pub question : expression_level ≤ level → same m terminal.Question ≡ false
 
--- marks that end each expression
-abbrev pub stops : Mark → Bool
-stops mark.RightParen = true
-stops mark.RightBracket = true
-stops mark.Comma = true
-stops mark.Semicolon = true
-stops mark.Colon = true
+-- terminals that end each expression
+abbrev pub stops : Terminal → Bool
+stops terminal.RightParen = true
+stops terminal.RightBracket = true
+stops terminal.Comma = true
+stops terminal.Semicolon = true
+stops terminal.Colon = true
 stops _ = false
 
-pub stop_ends : (level : ℕ) (m : Mark) → stops m ≡ true → Ends level m
+pub stop_ends : (level : ℕ) (m : Terminal) → stops m ≡ true → Ends level m
 unfolding same
-stop_ends level mark.RightParen h = record { name = refl; operator = λ l lt. refl; question = λ le. refl }
-stop_ends level mark.RightBracket h = record { name = refl; operator = λ l lt. refl; question = λ le. refl }
-stop_ends level mark.Comma h = record { name = refl; operator = λ l lt. refl; question = λ le. refl }
-stop_ends level mark.Semicolon h = record { name = refl; operator = λ l lt. refl; question = λ le. refl }
-stop_ends level mark.Colon h = record { name = refl; operator = λ l lt. refl; question = λ le. refl }
+stop_ends level terminal.RightParen h = record { name = refl; operator = λ l lt. refl; question = λ le. refl }
+stop_ends level terminal.RightBracket h = record { name = refl; operator = λ l lt. refl; question = λ le. refl }
+stop_ends level terminal.Comma h = record { name = refl; operator = λ l lt. refl; question = λ le. refl }
+stop_ends level terminal.Semicolon h = record { name = refl; operator = λ l lt. refl; question = λ le. refl }
+stop_ends level terminal.Colon h = record { name = refl; operator = λ l lt. refl; question = λ le. refl }
 stop_ends level _ h = absurd cc
 
-pub ends_at : (level : ℕ) (m : Mark) (i j : Symbols) → Takes m i j → stops m ≡ true → Ends level (next i)
+pub ends_at : (level : ℕ) (m : Terminal) (i j : Symbols) → Takes m i j → stops m ≡ true → Ends level (next i)
 ends_at level m i j h e = rw (next_is m i j h) (stop_ends level m e)
 
 pub binds_small : (o : BinaryOperator) → binds_at o ≤ 9
@@ -74,13 +74,13 @@ binds_small (Value op.Or) = omega arith
 binds_small LogicalAnd = omega arith
 binds_small LogicalOr = omega arith
 
-operator_no_name : (m : Mark) (o : BinaryOperator) → binary_operator_of m ≡ Some o → extends_name m ≡ false
-operator_no_name mark.Dot o e = absurd cc
-operator_no_name mark.LeftBracket o e = absurd cc
+operator_no_name : (m : Terminal) (o : BinaryOperator) → binary_operator_of m ≡ Some o → extends_name m ≡ false
+operator_no_name terminal.Dot o e = absurd cc
+operator_no_name terminal.LeftBracket o e = absurd cc
 operator_no_name _ o e = refl
 
 -- an operator ends what binds tighter
-pub operator_ends : (level : ℕ) (m : Mark) (o : BinaryOperator) → binary_operator_of m ≡ Some o → level ≤ binds_at o → Ends level m
+pub operator_ends : (level : ℕ) (m : Terminal) (o : BinaryOperator) → binary_operator_of m ≡ Some o → level ≤ binds_at o → Ends level m
 operator_ends level m o e le = record { name = operator_no_name m o e; operator = λ l lt. rw e (pick l lt (eqb (binds_at o) l) refl); question = λ big. absurd (omega (arith, binds_small o)) }
   where
     pick : (l : ℕ) → l < level → (b : Bool) → eqb (binds_at o) l ≡ b → cond {A = Option BinaryOperator} b (Some o) None ≡ None
@@ -88,32 +88,32 @@ operator_ends level m o e le = record { name = operator_no_name m o e; operator 
     pick l lt false is = refl
 
 -- and `<<` ends a sum
-pub shift_ends_sum : Ends sum_level mark.ShiftLeft
-shift_ends_sum = operator_ends sum_level mark.ShiftLeft (Value op.Shl) refl (omega arith)
+pub shift_ends_sum : Ends sum_level terminal.ShiftLeft
+shift_ends_sum = operator_ends sum_level terminal.ShiftLeft (Value op.Shl) refl (omega arith)
 
-pub question_ends : Ends or_level mark.Question
+pub question_ends : Ends or_level terminal.Question
 question_ends = record { name = refl; operator = λ l lt. refl; question = λ le. absurd (omega arith) }
 
-pub ends_tighter : (l : ℕ) (m : Mark) → Ends (suc l) m → Ends l m
+pub ends_tighter : (l : ℕ) (m : Terminal) → Ends (suc l) m → Ends l m
 ends_tighter l m h = record { name = h.name; operator = λ k lt. h.operator k (omega arith); question = λ le. h.question (omega arith) }
 
-ends_unary : (l : ℕ) (m : Mark) → Ends l m → Ends 0 m
+ends_unary : (l : ℕ) (m : Terminal) → Ends l m → Ends 0 m
 ends_unary l m h = record { name = h.name; operator = λ k lt. absurd (omega arith); question = λ le. absurd (omega arith) }
 
 -- ---- what readers are to do
 
-pub record CompletesAt (level room : ℕ) (p : Counting ExpressionTree) : Type 0 where
-  pub on : (n : ℕ) (i : Symbols) (e : ExpressionTree) (left : ℕ) (r : Symbols) → IsRead level room n i e left r → Ends level (next r) → p n i ≡ Ok ((e, left), r)
+pub record CompletesAt (level levels : ℕ) (p : Counting ExpressionTree) : Type 0 where
+  pub on : (n : ℕ) (i : Symbols) (e : ExpressionTree) (left : ℕ) (r : Symbols) → IsRead level levels n i e left r → Ends level (next r) → p n i ≡ Ok ((e, left), r)
 
-pub record AreComplete (room : ℕ) (R : Readers) : Type 0 where
-  pub unary : CompletesAt 0 room R.unary
-  pub expression : CompletesAt expression_level room R.expression
+pub record AreComplete (levels : ℕ) (R : Readers) : Type 0 where
+  pub unary : CompletesAt 0 levels R.unary
+  pub expression : CompletesAt expression_level levels R.expression
 
 -- the readers of the level below do what they are to, if there is one more level
 abbrev pub MayDo : (ℕ → Readers → Type 0) → ℕ → Option Readers → Type 0
 MayDo Does zero inner = Unit {0}
-MayDo Does (suc room) None = ⊥
-MayDo Does (suc room) (Some R) = Does room R
+MayDo Does (suc levels) None = ⊥
+MayDo Does (suc levels) (Some R) = Does levels R
 
 abbrev pub MayBeComplete : ℕ → Option Readers → Type 0
 MayBeComplete = MayDo AreComplete
@@ -126,15 +126,15 @@ pub record IsOpened (Does : ℕ → Readers → Type 0) (d : ℕ) (o : Outcome R
   pub complete : Does less readers
   pub is : o ≡ Ok (readers, j)
 
-pub entered : (Does : ℕ → Readers → Type 0) (room d : ℕ) (inner : Option Readers) (i : Symbols) → MayDo Does room inner → suc d ≤ room → IsOpened Does d (enter inner i) i
+pub entered : (Does : ℕ → Readers → Type 0) (levels d : ℕ) (inner : Option Readers) (i : Symbols) → MayDo Does levels inner → suc d ≤ levels → IsOpened Does d (enter inner i) i
 entered Does zero d inner i h le = absurd (omega arith)
-entered Does (suc room) d None i h le = absurd h
-entered Does (suc room) d (Some R) i h le = record { readers = R; less = room; deep = omega arith; complete = h; is = refl }
+entered Does (suc levels) d None i h le = absurd h
+entered Does (suc levels) d (Some R) i h le = record { readers = R; less = levels; deep = omega arith; complete = h; is = refl }
 
-pub opened : (Does : ℕ → Readers → Type 0) (room d : ℕ) (inner : Option Readers) (m : Mark) (i j : Symbols) → MayDo Does room inner → suc d ≤ room → Takes m i j → IsOpened Does d (open_level m inner i) j
+pub opened : (Does : ℕ → Readers → Type 0) (levels d : ℕ) (inner : Option Readers) (m : Terminal) (i j : Symbols) → MayDo Does levels inner → suc d ≤ levels → Takes m i j → IsOpened Does d (open_level m inner i) j
 unfolding open_level
-opened Does room d inner m i j h le t =
-    let e = entered Does room d inner i h le in
+opened Does levels d inner m i j h le t =
+    let e = entered Does levels d inner i h le in
     record { readers = e.readers; less = e.less; deep = e.deep; complete = e.complete; is = if_true _ (seen_is m i j t) (then_is _ e.readers i e.is (ap (λ (k : Symbols). done (e.readers, k)) (dropped m i j t))) }
 
 pub count_is : (n m : ℕ) (i : Symbols) → n ≡ suc m → count n i ≡ Ok (m, i)
@@ -149,25 +149,25 @@ is_longer i r (x, h, is) = omega (arith, ap length is)
 mutual
   pub expression_longer : (n : ℕ) (e : ExpressionTree) (i r : Symbols) → IsExpression n e i r → length r < length i
   expression_longer n (literal k v) i r (x, h, is) = omega (arith, ap length is)
-  expression_longer n (boolean true) i r h = takes_longer mark.True i r h
-  expression_longer n (boolean false) i r h = takes_longer mark.False i r h
+  expression_longer n (boolean true) i r h = takes_longer terminal.True i r h
+  expression_longer n (boolean false) i r h = takes_longer terminal.False i r h
   expression_longer n (variable x) i r (s, h, is) = omega (arith, ap length is)
   expression_longer n (element x e) i r (j, (s, h, is), (k, begin, (l, inside, close))) =
-      omega (arith, ap length is, takes_longer mark.LeftBracket j k begin, expression_longer expression_level e k l inside, takes_longer mark.RightBracket l r close)
+      omega (arith, ap length is, takes_longer terminal.LeftBracket j k begin, expression_longer expression_level e k l inside, takes_longer terminal.RightBracket l r close)
   expression_longer n (call stream method es) i r (j, (s, h, is), (k, dot, (l, (t, m, plain), (o, begin, (p, inside, close))))) =
-      omega (arith, ap length is, takes_longer mark.Dot j k dot, ap length plain, takes_longer mark.LeftParen l o begin, arguments_longer es o p inside, takes_longer mark.RightParen p r close)
-  expression_longer n nullptr i r h = takes_longer mark.Nullptr i r h.1
+      omega (arith, ap length is, takes_longer terminal.Dot j k dot, ap length plain, takes_longer terminal.LeftParen l o begin, arguments_longer es o p inside, takes_longer terminal.RightParen p r close)
+  expression_longer n nullptr i r h = takes_longer terminal.Nullptr i r h.1
   expression_longer n (construct k e) i r (j, is, (l, begin, (o, inside, close))) =
-      omega (arith, one_longer k i j is, takes_longer mark.LeftParen j l begin, expression_longer expression_level e l o inside, takes_longer mark.RightParen o r close)
+      omega (arith, one_longer k i j is, takes_longer terminal.LeftParen j l begin, expression_longer expression_level e l o inside, takes_longer terminal.RightParen o r close)
   expression_longer n (static_cast k e) i r (a, word, (b, less, (c, type, (d, greater, (f, begin, (g, inside, close)))))) =
-      omega (arith, takes_longer mark.StaticCast i a word, takes_longer mark.Less a b less, type_longer k b c type, takes_longer mark.Greater c d greater, takes_longer mark.LeftParen d f begin, expression_longer expression_level e f g inside, takes_longer mark.RightParen g r close)
+      omega (arith, takes_longer terminal.StaticCast i a word, takes_longer terminal.Less a b less, type_longer k b c type, takes_longer terminal.Greater c d greater, takes_longer terminal.LeftParen d f begin, expression_longer expression_level e f g inside, takes_longer terminal.RightParen g r close)
   expression_longer n (cast k e) i r (a, begin, (b, type, (c, close, inside))) =
-      omega (arith, takes_longer mark.LeftParen i a begin, type_longer k a b type, takes_longer mark.RightParen b c close, expression_longer 0 e c r inside)
-  expression_longer n (parenthesized e) i r (a, begin, (b, inside, close)) = omega (arith, takes_longer mark.LeftParen i a begin, expression_longer expression_level e a b inside, takes_longer mark.RightParen b r close)
+      omega (arith, takes_longer terminal.LeftParen i a begin, type_longer k a b type, takes_longer terminal.RightParen b c close, expression_longer 0 e c r inside)
+  expression_longer n (parenthesized e) i r (a, begin, (b, inside, close)) = omega (arith, takes_longer terminal.LeftParen i a begin, expression_longer expression_level e a b inside, takes_longer terminal.RightParen b r close)
   expression_longer n (prefix o at e) i r (a, (x, h, is), inside) = omega (arith, ap length is, expression_longer 0 e a r inside)
   expression_longer n (binary o at a b) i r (le, (j, first, (k, (x, h, is), second))) = omega (arith, expression_longer (suc (binds_at o)) a i j first, ap length is, expression_longer (binds_at o) b k r second)
   expression_longer n (conditional at c a b) i r (le, (j, test, (k, (x, h, is), (l, first, (o, colon, second))))) =
-      omega (arith, expression_longer or_level c i j test, ap length is, expression_longer expression_level a k l first, takes_longer mark.Colon l o colon, expression_longer expression_level b o r second)
+      omega (arith, expression_longer or_level c i j test, ap length is, expression_longer expression_level a k l first, takes_longer terminal.Colon l o colon, expression_longer expression_level b o r second)
 
   arguments_longer : (es : Expressions) (i r : Symbols) → AreArguments es i r → length r ≤ length i
   arguments_longer no_expression i r is = omega (arith, ap length is)
@@ -175,7 +175,7 @@ mutual
 
   more_longer : (es : Expressions) (i r : Symbols) → AreMoreArguments es i r → length r ≤ length i
   more_longer no_expression i r is = omega (arith, ap length is)
-  more_longer (one_expression e es) i r (j, comma, (k, first, rest)) = omega (arith, takes_longer mark.Comma i j comma, expression_longer argument_level e j k first, more_longer es k r rest)
+  more_longer (one_expression e es) i r (j, comma, (k, first, rest)) = omega (arith, takes_longer terminal.Comma i j comma, expression_longer argument_level e j k first, more_longer es k r rest)
 
 -- ---- levels
 
@@ -197,7 +197,7 @@ record GoesOn (l : ℕ) (u : Counting ExpressionTree) (n : ℕ) (i : Symbols) (e
   enough : length r ≤ turns
   reads : level u (suc l) n i ≡ chain (level u l) l turns e left r
 
-module _ (u : Counting ExpressionTree) (room : ℕ) where
+module _ (u : Counting ExpressionTree) (levels : ℕ) where
   starts : (l n : ℕ) (i : Symbols) (e : ExpressionTree) (left : ℕ) (r : Symbols) → level u l n i ≡ Ok ((e, left), r) → GoesOn l u n i e left r
   unfolding level chain_of
   starts l n i e left r h = record { turns = length r; enough = omega arith; reads = then_is _ (e, left) r h refl }
@@ -213,7 +213,7 @@ module _ (u : Counting ExpressionTree) (room : ℕ) where
       pick zero le so_far = absurd (omega (arith, longer))
       pick (suc turns) le so_far = record { turns = turns; enough = omega (arith, longer, less); reads = so_far ∙ chain_goes (level u l) l turns o at a b (suc m) m left j k r sign binds refl reads }
 
-  spine : (l : ℕ) → suc l ≤ or_level → CompletesAt l room (level u l) → (e : ExpressionTree) (n : ℕ) (i : Symbols) (left : ℕ) (r : Symbols) → IsRead (suc l) room n i e left r → Ends l (next r) → GoesOn l u n i e left r
+  spine : (l : ℕ) → suc l ≤ or_level → CompletesAt l levels (level u l) → (e : ExpressionTree) (n : ℕ) (i : Symbols) (left : ℕ) (r : Symbols) → IsRead (suc l) levels n i e left r → Ends l (next r) → GoesOn l u n i e left r
   spine l le h (binary o at a b) n i left r k ends =
       elim (cases_lt (binds_at o) l) [
         | inl lt ↦ starts l n i (binary o at a b) left r (h.on n i (binary o at a b) left r (record { spelled = (omega arith, k.spelled.1); nests = k.nests; counted = k.counted }) ends)
@@ -230,7 +230,7 @@ module _ (u : Counting ExpressionTree) (room : ℕ) where
       ]
     where
       behind : (j k : Symbols) (o : BinaryOperator) (at : Place) → MeansAt binary_operator_of o at j k → l ≤ binds_at o → Ends l (next j)
-      behind j k o at (x, h, is) ge = rw is (operator_ends l x.mark o h.0 ge)
+      behind j k o at (x, h, is) ge = rw is (operator_ends l x.terminal o h.0 ge)
   spine l le h nullptr n i left r k ends = absurd (omega (arith, k.spelled.0))
   spine l le h (conditional at c a b) n i left r k ends = absurd (omega (arith, k.spelled.0))
   spine l le h (literal v w) n i left r k ends = starts l n i (literal v w) left r (h.on n i (literal v w) left r (record { spelled = k.spelled; nests = k.nests; counted = k.counted }) ends)
@@ -249,7 +249,7 @@ module _ (u : Counting ExpressionTree) (room : ℕ) where
   unfolding operator_of
   stops_at l r ends = ends.operator l (omega arith)
 
-  pub level_complete : CompletesAt 0 room u → (l : ℕ) → l ≤ or_level → CompletesAt l room (level u l)
+  pub level_complete : CompletesAt 0 levels u → (l : ℕ) → l ≤ or_level → CompletesAt l levels (level u l)
   unfolding level
   level_complete h zero le = h
   level_complete h (suc l) le = record {

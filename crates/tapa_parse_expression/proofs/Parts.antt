@@ -2,9 +2,9 @@
 use Rattle.std.proofs.Common.{◌≡◌, ℕ, Bool, true, false, cond, List, [], ◌∷◌, drop, Option, Some, None, Ok, Err, refl, ap, subst, ◌∙◌, rules}
 use denote.Enum.Bare.{same_true, true_same}
 use Rattle.tapa_base.specs.declared.kind.Kind.{Kind}
-use Rattle.tapa_syntax.specs.contracts.mark.Mark.{the_type}
-use Rattle.tapa_syntax.specs.declared.mark.Mark.{Mark}
-use Rattle.tapa_syntax.specs.declared.mark.Mark.TheVariants as mark
+use Rattle.tapa_syntax.specs.contracts.terminal.Terminal.{the_type}
+use Rattle.tapa_syntax.specs.declared.terminal.Terminal.{Terminal}
+use Rattle.tapa_syntax.specs.declared.terminal.Terminal.TheVariants as terminal
 use Rattle.tapa_syntax.specs.declared.tree.Name.{Name}
 use Rattle.tapa_syntax.specs.Symbols.{Symbol}
 use Rattle.tapa_syntax.specs.Grammar.{Takes, Means, MeansAt, IsName, IsPlainName, IsLiteral, named, is_name}
@@ -54,54 +54,54 @@ weaker h k = record { on = λ a r e. k a r (h.on a r e) }
 
 -- ---- single symbols
 
--- no symbol has this mark
-abbrev pub is_end : Mark → Bool
-is_end mark.End = true
+-- no symbol has this terminal
+abbrev pub is_end : Terminal → Bool
+is_end terminal.End = true
 is_end _ = false
 
-pub sees_is : (m : Mark) (i : Symbols) → sees m i ≡ true → next i ≡ m
+pub sees_is : (m : Terminal) (i : Symbols) → sees m i ≡ true → next i ≡ m
 unfolding sees same
 sees_is m i e = same_true the_type (search rules) _ _ e
 
-pub is_seen : (m : Mark) (i : Symbols) → next i ≡ m → sees m i ≡ true
+pub is_seen : (m : Terminal) (i : Symbols) → next i ≡ m → sees m i ≡ true
 unfolding sees same
 is_seen m i e = true_same the_type _ _ e
 
-pub takes : (m : Mark) (i : Symbols) → is_end m ≡ false → sees m i ≡ true → Takes m i (drop 1 i)
+pub takes : (m : Terminal) (i : Symbols) → is_end m ≡ false → sees m i ≡ true → Takes m i (drop 1 i)
 takes m [] real e = absurd (let is = sees_is m [] e in let f : true ≡ false = ap is_end is ∙ real in cc)
 takes m (x ∷ i) real e = (x, sees_is m (x ∷ i) e, refl)
 
-pub expect_yields : (m : Mark) (i : Symbols) → is_end m ≡ false → Yields (λ _ j. Takes m i j) (expect m i)
+pub expect_yields : (m : Terminal) (i : Symbols) → is_end m ≡ false → Yields (λ _ j. Takes m i j) (expect m i)
 unfolding expect
 expect_yields m i real = yields_if (sees m i) (λ e. yields_pure (λ _ j. Takes m i j) tt (drop 1 i) (takes m i real e)) (λ e. yields_none (λ _ j. Takes m i j) (P1, i))
 
-pub means : {A : Type 0} (table : Mark → Option A) (i : Symbols) (a : A) → table mark.End ≡ None → table (next i) ≡ Some a → MeansAt table a (first_place i) i (drop 1 i)
+pub means : {A : Type 0} (table : Terminal → Option A) (i : Symbols) (a : A) → table terminal.End ≡ None → table (next i) ≡ Some a → MeansAt table a (first_place i) i (drop 1 i)
 means table [] a real e = absurd cc
 means table (x ∷ i) a real e = (x, (e, refl), refl)
 
-pub means_it : {A : Type 0} (table : Mark → Option A) (i : Symbols) (a : A) → table mark.End ≡ None → table (next i) ≡ Some a → Means table a i (drop 1 i)
+pub means_it : {A : Type 0} (table : Terminal → Option A) (i : Symbols) (a : A) → table terminal.End ≡ None → table (next i) ≡ Some a → Means table a i (drop 1 i)
 means_it table [] a real e = absurd cc
 means_it table (x ∷ i) a real e = (x, e, refl)
 
 pub name_yields : (i : Symbols) → Yields (λ x j. IsName x i j) (name i)
 unfolding name
 name_yields [] = yields_none (λ x j. IsName x [] j) (P1, [])
-name_yields (x ∷ i) = yields_if (is_name x.mark) (λ e. yields_pure (λ y j. IsName y (x ∷ i) j) (named x) i (x, (e, refl), refl)) (λ e. yields_none (λ y j. IsName y (x ∷ i) j) (P1, x ∷ i))
+name_yields (x ∷ i) = yields_if (is_name x.terminal) (λ e. yields_pure (λ y j. IsName y (x ∷ i) j) (named x) i (x, (e, refl), refl)) (λ e. yields_none (λ y j. IsName y (x ∷ i) j) (P1, x ∷ i))
 
 pub plain_yields : (i : Symbols) → Yields (λ x j. IsPlainName x i j) (plain_name i)
 unfolding plain_name
 plain_yields [] = yields_none (λ x j. IsPlainName x [] j) (P1, [])
-plain_yields (x ∷ i) = pick x.mark refl
+plain_yields (x ∷ i) = pick x.terminal refl
   where
-    pick : (m : Mark) → x.mark ≡ m → Yields (λ y j. IsPlainName y (x ∷ i) j) (plain_by m (x ∷ i))
-    pick mark.Name e = yields_pure (λ y j. IsPlainName y (x ∷ i) j) (named x) i (x, (e, refl), refl)
+    pick : (m : Terminal) → x.terminal ≡ m → Yields (λ y j. IsPlainName y (x ∷ i) j) (plain_by m (x ∷ i))
+    pick terminal.Name e = yields_pure (λ y j. IsPlainName y (x ∷ i) j) (named x) i (x, (e, refl), refl)
     pick _ e = yields_none (λ y j. IsPlainName y (x ∷ i) j) (P1, x ∷ i)
 
 pub literal_yields : (i : Symbols) → Yields (λ v j. IsLiteral v.0 v.1 i j) (literal_value i)
 unfolding literal_value
-literal_yields [] = yields_if (sees mark.Literal []) (λ e. absurd (let is = sees_is mark.Literal [] e in cc)) (λ e. yields_none (λ v j. IsLiteral v.0 v.1 [] j) (P1, []))
+literal_yields [] = yields_if (sees terminal.Literal []) (λ e. absurd (let is = sees_is terminal.Literal [] e in cc)) (λ e. yields_none (λ v j. IsLiteral v.0 v.1 [] j) (P1, []))
 literal_yields (x ∷ i) =
-    yields_if (sees mark.Literal (x ∷ i)) (λ e. yields_pure (λ v j. IsLiteral v.0 v.1 (x ∷ i) j) x.literal i (x, (sees_is mark.Literal (x ∷ i) e, refl), refl)) (λ e. yields_none (λ v j. IsLiteral v.0 v.1 (x ∷ i) j) (P1, x ∷ i))
+    yields_if (sees terminal.Literal (x ∷ i)) (λ e. yields_pure (λ v j. IsLiteral v.0 v.1 (x ∷ i) j) x.literal i (x, (sees_is terminal.Literal (x ∷ i) e, refl), refl)) (λ e. yields_none (λ v j. IsLiteral v.0 v.1 (x ∷ i) j) (P1, x ∷ i))
 
 -- ---- what is given exactly
 
@@ -114,8 +114,8 @@ if_true {A} {p = p} q e h = ap (λ b. cond {A = A} b p q) e ∙ h
 pub if_false : {A : Type 0} {test : Bool} {q y : A} (p : A) → test ≡ false → q ≡ y → cond test p q ≡ y
 if_false {A} {q = q} p e h = ap (λ b. cond {A = A} b p q) e ∙ h
 
--- marks of which something else holds are not the same
-pub differ_by : {A : Type 0} (f : Mark → A) (m n : Mark) → (f m ≡ f n → ⊥) → same m n ≡ false
+-- terminals of which something else holds are not the same
+pub differ_by : {A : Type 0} (f : Terminal → A) (m n : Terminal) → (f m ≡ f n → ⊥) → same m n ≡ false
 unfolding same
 differ_by f m n h = pick (same m n) refl
   where
@@ -123,24 +123,24 @@ differ_by f m n h = pick (same m n) refl
     pick false e = e
     pick true e = absurd (h (ap f (same_true the_type (search rules) _ _ e)))
 
-pub next_is : (m : Mark) (i j : Symbols) → Takes m i j → next i ≡ m
+pub next_is : (m : Terminal) (i j : Symbols) → Takes m i j → next i ≡ m
 next_is m i j (x, e, is) = ap next is ∙ e
 
-pub seen_is : (m : Mark) (i j : Symbols) → Takes m i j → sees m i ≡ true
+pub seen_is : (m : Terminal) (i j : Symbols) → Takes m i j → sees m i ≡ true
 seen_is m i j h = is_seen m i (next_is m i j h)
 
-pub dropped : (m : Mark) (i j : Symbols) → Takes m i j → drop 1 i ≡ j
+pub dropped : (m : Terminal) (i j : Symbols) → Takes m i j → drop 1 i ≡ j
 dropped m i j (x, e, is) = ap (drop 1) is
 
-pub expect_is : (m : Mark) (i j : Symbols) → Takes m i j → expect m i ≡ Ok (tt, j)
+pub expect_is : (m : Terminal) (i j : Symbols) → Takes m i j → expect m i ≡ Ok (tt, j)
 unfolding expect
 expect_is m i j h = if_true _ (seen_is m i j h) (ap (λ (k : Symbols). done (tt, k)) (dropped m i j h))
 
-pub past_is : (m : Mark) (i j : Symbols) → Takes m i j → past m i ≡ j
+pub past_is : (m : Terminal) (i j : Symbols) → Takes m i j → past m i ≡ j
 unfolding past
 past_is m i j h = if_true _ (seen_is m i j h) (dropped m i j h)
 
-pub past_none : (m : Mark) (i : Symbols) → sees m i ≡ false → past m i ≡ i
+pub past_none : (m : Terminal) (i : Symbols) → sees m i ≡ false → past m i ≡ i
 unfolding past
 past_none m i e = if_false _ e refl
 
@@ -154,4 +154,4 @@ plain_is x i j (s, e, is) = rw (is, e.0) (ap (λ (y : Name). done (y, j)) e.1)
 
 pub literal_is : (k : Kind) (v : ℕ) (i j : Symbols) → IsLiteral k v i j → literal_value i ≡ Ok ((k, v), j)
 unfolding literal_value
-literal_is k v i j (s, e, is) = rw is (if_true _ (is_seen mark.Literal (s ∷ j) e.0) (ap (λ (y : Kind × ℕ). done (y, j)) e.1))
+literal_is k v i j (s, e, is) = rw is (if_true _ (is_seen terminal.Literal (s ∷ j) e.0) (ap (λ (y : Kind × ℕ). done (y, j)) e.1))

@@ -2,9 +2,9 @@
 use Rattle.std.specs.Prelude.{◌≡◌, ℕ, zero, suc, Bool, true, false, if◌then◌else◌, List, [], ◌∷◌, ◌++◌, length, drop, Option, Some, None, Result, Ok, Err}
 use denote.Enum.Bare.{sameb}
 use Rattle.tapa_base.specs.declared.text.Place.{Place}
-use Rattle.tapa_syntax.specs.contracts.mark.Mark.{the_type}
-use Rattle.tapa_syntax.specs.declared.mark.Mark.{Mark}
-use Rattle.tapa_syntax.specs.declared.mark.Mark.TheVariants as mark
+use Rattle.tapa_syntax.specs.contracts.terminal.Terminal.{the_type}
+use Rattle.tapa_syntax.specs.declared.terminal.Terminal.{Terminal}
+use Rattle.tapa_syntax.specs.declared.terminal.Terminal.TheVariants as terminal
 use Rattle.tapa_syntax.specs.declared.tree.Name.{Name}
 use Rattle.tapa_base.specs.declared.kind.Kind.{Kind}
 use Rattle.tapa_base.specs.declared.kind.Kind.TheVariants as kind
@@ -50,9 +50,9 @@ Gives view (Err e) left outcome = Fails e left outcome
 
 -- ---- single symbols
 
-abbrev pub next : List Symbol → Mark
-next [] = mark.End
-next (x ∷ rest) = x.mark
+abbrev pub next : List Symbol → Terminal
+next [] = terminal.End
+next (x ∷ rest) = x.terminal
 
 abbrev pub no_place : Place
 no_place = record { line = 0; col = 0 }
@@ -69,10 +69,10 @@ abbrev pub first_literal : List Symbol → Kind × ℕ
 first_literal [] = (kind.Bool, 0)
 first_literal (x ∷ rest) = x.literal
 
-unfoldable pub same : Mark → Mark → Bool
+unfoldable pub same : Terminal → Terminal → Bool
 same = sameb the_type
 
-unfoldable pub sees : Mark → List Symbol → Bool
+unfoldable pub sees : Terminal → List Symbol → Bool
 sees m i = same (next i) m
 
 abbrev pub skip : Reader (Unit {0})
@@ -81,14 +81,14 @@ skip i = Ok (tt, drop 1 i)
 abbrev pub here : Reader Place
 here i = Ok (first_place i, i)
 
-unfoldable pub expect : Mark → Reader (Unit {0})
+unfoldable pub expect : Terminal → Reader (Unit {0})
 expect m i = if sees m i then Ok (tt, drop 1 i) else Err (P1, i)
 
-unfoldable pub past : Mark → List Symbol → List Symbol
+unfoldable pub past : Terminal → List Symbol → List Symbol
 past m i = if sees m i then drop 1 i else i
 
--- takes the mark, if it comes next
-abbrev pub eat : Mark → Reader Bool
+-- takes the terminal, if it comes next
+abbrev pub eat : Terminal → Reader Bool
 eat m i = Ok (sees m i, past m i)
 
 -- what the next symbol means, if it means something
@@ -102,8 +102,8 @@ name_here i = record { text = first_text i; place = first_place i }
 unfoldable pub name : Reader Name
 name i = if is_name (next i) then Ok (name_here i, drop 1 i) else Err (P1, i)
 
-abbrev pub plain_by : Mark → Reader Name
-plain_by mark.Name i = Ok (name_here i, drop 1 i)
+abbrev pub plain_by : Terminal → Reader Name
+plain_by terminal.Name i = Ok (name_here i, drop 1 i)
 plain_by _ i = Err (P1, i)
 
 -- a name behind `tapa ::` or a dot
@@ -111,7 +111,7 @@ unfoldable pub plain_name : Reader Name
 plain_name i = plain_by (next i) i
 
 unfoldable pub literal_value : Reader (Kind × ℕ)
-literal_value i = if sees mark.Literal i then Ok (first_literal i, drop 1 i) else Err (P1, i)
+literal_value i = if sees terminal.Literal i then Ok (first_literal i, drop 1 i) else Err (P1, i)
 
 -- whether a symbol is left, and that none is
 abbrev pub is_left : List Symbol → Bool
@@ -135,12 +135,12 @@ repeat_behind goes item found = λ i. repeat_from goes item (length i) found i
 abbrev pub repeat : {A : Type 0} → (List Symbol → Bool) → Reader A → Reader (List A)
 repeat goes item = repeat_behind goes item []
 
--- one or more, each but the first behind this mark
-unfoldable pub separated : {A : Type 0} → Mark → Reader A → Reader (List A)
+-- one or more, each but the first behind this terminal
+unfoldable pub separated : {A : Type 0} → Terminal → Reader A → Reader (List A)
 separated between item = do
   x ← item
   repeat_behind (sees between) (skip >> item) (x ∷ [])
 
--- the same, or none where this mark comes
-unfoldable pub separated_until : {A : Type 0} → Mark → Mark → Reader A → Reader (List A)
+-- the same, or none where this terminal comes
+unfoldable pub separated_until : {A : Type 0} → Terminal → Terminal → Reader A → Reader (List A)
 separated_until end between item = λ i. if sees end i then Ok ([], i) else separated between item i

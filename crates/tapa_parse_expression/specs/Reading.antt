@@ -4,8 +4,8 @@ use Rattle.std.specs.Prelude.{ℕ, zero, suc, Bool, true, false, not, ◌||◌, 
 use Rattle.tapa_base.specs.declared.kind.Kind.{Kind}
 use Rattle.tapa_base.specs.declared.kind.Kind.TheVariants as kind
 use Rattle.tapa_base.specs.declared.text.Place.{Place}
-use Rattle.tapa_syntax.specs.declared.mark.Mark.{Mark}
-use Rattle.tapa_syntax.specs.declared.mark.Mark.TheVariants as mark
+use Rattle.tapa_syntax.specs.declared.terminal.Terminal.{Terminal}
+use Rattle.tapa_syntax.specs.declared.terminal.Terminal.TheVariants as terminal
 use Rattle.tapa_syntax.specs.declared.tree.Name.{Name}
 use Rattle.tapa_syntax.specs.declared.tree.PrefixOperator.{PrefixOperator}
 use Rattle.tapa_syntax.specs.declared.tree.BinaryOperator.{BinaryOperator}
@@ -30,24 +30,24 @@ or_else None b = b
 or_else (Some a) b = Some a
 
 -- a type of one word
-abbrev pub one_kind : Mark → Option Kind
+abbrev pub one_kind : Terminal → Option Kind
 one_kind m = or_else (word_kind m) (sized_kind m)
 
 unfoldable pub one : Reader Kind
-one i = if sees mark.Std i then (skip >> expect mark.Scope >> sized) i else (known (one_kind (next i)) >>= (λ k. skip >> pure k)) i
+one i = if sees terminal.Std i then (skip >> expect terminal.Scope >> sized) i else (known (one_kind (next i)) >>= (λ k. skip >> pure k)) i
 
-abbrev pub unsigned_by : Mark → Reader Kind
-unsigned_by mark.Short = skip >> eat mark.Int >> pure kind.U16
-unsigned_by mark.Long = skip >> eat mark.Long >> eat mark.Int >> pure kind.U64
-unsigned_by _ = eat mark.Int >> pure kind.U32
+abbrev pub unsigned_by : Terminal → Reader Kind
+unsigned_by terminal.Short = skip >> eat terminal.Int >> pure kind.U16
+unsigned_by terminal.Long = skip >> eat terminal.Long >> eat terminal.Int >> pure kind.U64
+unsigned_by _ = eat terminal.Int >> pure kind.U32
 
 unfoldable pub unsigned : Reader Kind
 unsigned i = unsigned_by (next i) i
 
-abbrev pub type_by : Mark → Reader Kind
-type_by mark.Unsigned = skip >> unsigned
-type_by mark.Short = skip >> eat mark.Int >> pure kind.I16
-type_by mark.Long = skip >> eat mark.Long >> eat mark.Int >> pure kind.I64
+abbrev pub type_by : Terminal → Reader Kind
+type_by terminal.Unsigned = skip >> unsigned
+type_by terminal.Short = skip >> eat terminal.Int >> pure kind.I16
+type_by terminal.Long = skip >> eat terminal.Long >> eat terminal.Int >> pure kind.I64
 type_by _ = one
 
 unfoldable pub type_name : Reader Kind
@@ -56,7 +56,7 @@ type_name i = type_by (next i) i
 -- A parenthesis with the words of a type behind it, unless it is a type of one word with a parenthesis behind that.
 unfoldable pub begins_cast : List Symbol → Bool
 begins_cast i =
-    if sees mark.Std (drop 1 i) then not (sees mark.LeftParen (drop 4 i)) else is_some (one_kind (next (drop 1 i))) && not (sees mark.LeftParen (drop 2 i))
+    if sees terminal.Std (drop 1 i) then not (sees terminal.LeftParen (drop 4 i)) else is_some (one_kind (next (drop 1 i))) && not (sees terminal.LeftParen (drop 2 i))
 
 -- ---- levels of nesting
 
@@ -79,8 +79,8 @@ abbrev pub enter : Option Readers → Reader Readers
 enter None = refuse P2
 enter (Some below) = pure below
 
--- this mark opens a level
-unfoldable pub open_level : Mark → Option Readers → Reader Readers
+-- this terminal opens a level
+unfoldable pub open_level : Terminal → Option Readers → Reader Readers
 open_level m inner i = if sees m i then (do below ← enter inner; skip; pure below) i else Err (P1, i)
 
 -- one more operator
@@ -121,11 +121,11 @@ level unary (suc l) = λ n. level unary l n >>= (λ a. chain_of (level unary l) 
 
 -- what a method is called with, read by the readers below its parenthesis
 unfoldable pub argument : Readers → Counting ExpressionTree
-argument below n = λ i. if sees mark.Nullptr i then Ok ((nullptr, n), drop 1 i) else below.expression n i
+argument below n = λ i. if sees terminal.Nullptr i then Ok ((nullptr, n), drop 1 i) else below.expression n i
 
 unfoldable pub more_arguments : Readers → ℕ → List ExpressionTree → Counting (List ExpressionTree)
 more_arguments below zero found n = pure (found, n)
-more_arguments below (suc turns) found n = λ i. if sees mark.Comma i then (skip >> argument below n >>= (λ e. more_arguments below turns (found ++ e.0 ∷ []) e.1)) i else Ok ((found, n), i)
+more_arguments below (suc turns) found n = λ i. if sees terminal.Comma i then (skip >> argument below n >>= (λ e. more_arguments below turns (found ++ e.0 ∷ []) e.1)) i else Ok ((found, n), i)
 
 unfoldable pub some_arguments : Readers → Counting (List ExpressionTree)
 some_arguments below n = do
@@ -133,38 +133,38 @@ some_arguments below n = do
   (λ i. more_arguments below (length i) (e.0 ∷ []) e.1 i)
 
 unfoldable pub any_arguments : Readers → Counting (List ExpressionTree)
-any_arguments below n = λ i. if sees mark.RightParen i then Ok (([], n), i) else some_arguments below n i
+any_arguments below n = λ i. if sees terminal.RightParen i then Ok (([], n), i) else some_arguments below n i
 
 -- inner has the readers one level below, if one more level may be opened
 module _ (inner : Option Readers) where
   unfoldable pub in_parentheses : Counting ExpressionTree
   in_parentheses n = do
-    below ← open_level mark.LeftParen inner
+    below ← open_level terminal.LeftParen inner
     e ← below.expression n
-    expect mark.RightParen
+    expect terminal.RightParen
     pure e
 
   unfoldable pub in_brackets : Counting ExpressionTree
   in_brackets n = do
-    below ← open_level mark.LeftBracket inner
+    below ← open_level terminal.LeftBracket inner
     e ← below.expression n
-    expect mark.RightBracket
+    expect terminal.RightBracket
     pure e
 
   unfoldable pub arguments : Counting (List ExpressionTree)
   arguments n = do
-    below ← open_level mark.LeftParen inner
+    below ← open_level terminal.LeftParen inner
     es ← any_arguments below n
-    expect mark.RightParen
+    expect terminal.RightParen
     pure es
 
-  abbrev pub named_by : Mark → Name → Counting ExpressionTree
-  named_by mark.Dot stream n = do
+  abbrev pub named_by : Terminal → Name → Counting ExpressionTree
+  named_by terminal.Dot stream n = do
     skip
     method ← plain_name
     es ← arguments n
     pure (call stream method (expressions es.0), es.1)
-  named_by mark.LeftBracket x n = do
+  named_by terminal.LeftBracket x n = do
     e ← in_brackets n
     pure (element x e.0, e.1)
   named_by _ x n = pure (variable x, n)
@@ -184,19 +184,19 @@ module _ (inner : Option Readers) where
   unfoldable pub statically_cast : Counting ExpressionTree
   statically_cast n = do
     skip
-    expect mark.Less
+    expect terminal.Less
     k ← type_name
-    expect mark.Greater
+    expect terminal.Greater
     e ← in_parentheses n
     pure (static_cast k e.0, e.1)
 
-  abbrev pub primary_by : Mark → Counting ExpressionTree
-  primary_by mark.Literal n = do
+  abbrev pub primary_by : Terminal → Counting ExpressionTree
+  primary_by terminal.Literal n = do
     v ← literal_value
     pure (literal v.0 v.1, n)
-  primary_by mark.True n = skip >> pure (boolean true, n)
-  primary_by mark.False n = skip >> pure (boolean false, n)
-  primary_by mark.StaticCast n = statically_cast n
+  primary_by terminal.True n = skip >> pure (boolean true, n)
+  primary_by terminal.False n = skip >> pure (boolean false, n)
+  primary_by terminal.StaticCast n = statically_cast n
   primary_by _ n = constructed n
 
   unfoldable pub primary : Counting ExpressionTree
@@ -209,9 +209,9 @@ module _ (inner : Option Readers) where
 
   unfoldable pub converted : Counting ExpressionTree
   converted n = do
-    below ← open_level mark.LeftParen inner
+    below ← open_level terminal.LeftParen inner
     k ← type_name
-    expect mark.RightParen
+    expect terminal.RightParen
     e ← below.unary n
     pure (cast k e.0, e.1)
 
@@ -226,7 +226,7 @@ module _ (inner : Option Readers) where
 
   abbrev pub unary_by : Option PrefixOperator → Counting ExpressionTree
   unary_by (Some o) n = prefixed o n
-  unary_by None n = λ i. if sees mark.LeftParen i then (if begins_cast i then converted n i else parenthesis n i) else primary n i
+  unary_by None n = λ i. if sees terminal.LeftParen i then (if begins_cast i then converted n i else parenthesis n i) else primary n i
 
   unfoldable pub unary_with : Counting ExpressionTree
   unary_with n = λ i. unary_by (prefix_operator_of (next i)) n i
@@ -238,14 +238,14 @@ module _ (inner : Option Readers) where
     at ← here
     skip
     a ← below.expression n
-    expect mark.Colon
+    expect terminal.Colon
     b ← below.expression a.1
     pure (conditional at c a.0 b.0, b.1)
 
   unfoldable pub expression_with : Counting ExpressionTree
   expression_with n = do
     c ← level unary_with or_level n
-    (λ i. if sees mark.Question i then arms c.0 c.1 i else Ok (c, i))
+    (λ i. if sees terminal.Question i then arms c.0 c.1 i else Ok (c, i))
 
 -- ---- actions and declarations; limit is how many operators an expression may have that is part of no other
 
@@ -267,23 +267,23 @@ module _ (limit : ℕ) (inner : Option Readers) where
   index = whole (in_brackets inner) limit
 
   unfoldable pub place_from : Name → Reader PlaceTree
-  place_from x = λ i. if sees mark.LeftBracket i then (index >>= (λ e. pure (element_place x e))) i else Ok (variable_place x, i)
+  place_from x = λ i. if sees terminal.LeftBracket i then (index >>= (λ e. pure (element_place x e))) i else Ok (variable_place x, i)
 
   unfoldable pub place_with : Reader PlaceTree
   place_with = name >>= place_from
 
   unfoldable pub call_arguments : Reader (List ExpressionTree)
   call_arguments = do
-    below ← open_level mark.LeftParen inner
-    es ← separated_until mark.RightParen mark.Comma (whole (argument below) limit)
-    expect mark.RightParen
+    below ← open_level terminal.LeftParen inner
+    es ← separated_until terminal.RightParen terminal.Comma (whole (argument below) limit)
+    expect terminal.RightParen
     pure es
 
   abbrev pub written : Reader (List ExpressionTree)
-  written = repeat (sees mark.ShiftLeft) (skip >> sum)
+  written = repeat (sees terminal.ShiftLeft) (skip >> sum)
 
   abbrev pub targets : Reader (List PlaceTree)
-  targets = repeat (sees mark.ShiftRight) (skip >> place_with)
+  targets = repeat (sees terminal.ShiftRight) (skip >> place_with)
 
   abbrev pub assigned_by : Option StepOperator → Option AssignmentOperator → PlaceTree → Reader ActionTree
   assigned_by (Some step) o target = do
@@ -300,16 +300,16 @@ module _ (limit : ℕ) (inner : Option Readers) where
   unfoldable pub assigned : PlaceTree → Reader ActionTree
   assigned target = λ i. assigned_by (step_operator_of (next i)) (assignment_operator_of (next i)) target i
 
-  abbrev pub acted_by : Mark → Name → Reader ActionTree
-  acted_by mark.Dot stream = do
+  abbrev pub acted_by : Terminal → Name → Reader ActionTree
+  acted_by terminal.Dot stream = do
     skip
     method ← plain_name
     es ← call_arguments
     pure (call_action stream method es)
-  acted_by mark.ShiftLeft stream = do
+  acted_by terminal.ShiftLeft stream = do
     es ← written
     pure (write stream es)
-  acted_by mark.ShiftRight stream = do
+  acted_by terminal.ShiftRight stream = do
     places ← targets
     pure (read stream places)
   acted_by _ x = place_from x >>= assigned
@@ -329,11 +329,11 @@ module _ (limit : ℕ) (inner : Option Readers) where
   unfoldable pub action_with : Reader ActionTree
   action_with = λ i. if is_name (next i) then (name >>= acted) i else (known (step_operator_of (next i)) >>= stepped) i
 
-  abbrev pub form_by : Mark → Reader CountForm
-  form_by mark.Literal = do
+  abbrev pub form_by : Terminal → Reader CountForm
+  form_by terminal.Literal = do
     v ← literal_value
     pure (literal_count v.0 v.1)
-  form_by mark.LeftParen = do
+  form_by terminal.LeftParen = do
     e ← condition
     pure (parenthesized_count e)
   form_by _ = do
@@ -350,15 +350,15 @@ module _ (limit : ℕ) (inner : Option Readers) where
     form ← form
     pure (record { place = at; form = form })
 
-  abbrev pub declarator_by : Mark → Name → Reader DeclaratorTree
-  declarator_by mark.Assign x = do
+  abbrev pub declarator_by : Terminal → Name → Reader DeclaratorTree
+  declarator_by terminal.Assign x = do
     skip
     e ← whole_expression
     pure (initialized x e)
-  declarator_by mark.LeftBracket x = do
+  declarator_by terminal.LeftBracket x = do
     skip
     count ← counted
-    expect mark.RightBracket
+    expect terminal.RightBracket
     pure (array x count)
   declarator_by _ x = pure (plain x)
 
@@ -369,18 +369,18 @@ module _ (limit : ℕ) (inner : Option Readers) where
 
   unfoldable pub declaration_with : Reader DeclarationTree
   declaration_with = do
-    is_const ← eat mark.Const
+    is_const ← eat terminal.Const
     k ← type_name
-    names ← separated mark.Comma declarator
+    names ← separated terminal.Comma declarator
     pure (record { constant = is_const; kind = k; names = names })
 
 -- ---- attributes
 
-abbrev pub attribute_argument_by : Mark → Reader AttributeArgument
-attribute_argument_by mark.Literal = do
+abbrev pub attribute_argument_by : Terminal → Reader AttributeArgument
+attribute_argument_by terminal.Literal = do
   v ← literal_value
   pure (argument_form.Literal v.0 v.1)
-attribute_argument_by mark.Str = skip >> pure argument_form.Str
+attribute_argument_by terminal.Str = skip >> pure argument_form.Str
 attribute_argument_by _ = do
   x ← name
   pure (argument_form.Name x)
@@ -391,66 +391,66 @@ attribute_argument = λ i. attribute_argument_by (next i) i
 module _ (inner : Option Readers) where
   unfoldable pub listed_arguments : Reader (List AttributeArgument)
   listed_arguments = do
-    below ← open_level mark.LeftParen inner
-    arguments ← separated_until mark.RightParen mark.Comma attribute_argument
-    expect mark.RightParen
+    below ← open_level terminal.LeftParen inner
+    arguments ← separated_until terminal.RightParen terminal.Comma attribute_argument
+    expect terminal.RightParen
     pure arguments
 
   unfoldable pub attribute_arguments : Reader (Option (List AttributeArgument))
-  attribute_arguments = λ i. if sees mark.LeftParen i then (listed_arguments >>= (λ a. pure (Some a))) i else Ok (None, i)
+  attribute_arguments = λ i. if sees terminal.LeftParen i then (listed_arguments >>= (λ a. pure (Some a))) i else Ok (None, i)
 
   unfoldable pub attribute : Reader AttributeTree
   attribute = do
-    expect mark.LeftBracket
-    expect mark.LeftBracket
-    expect mark.Tapa
-    expect mark.Scope
+    expect terminal.LeftBracket
+    expect terminal.LeftBracket
+    expect terminal.Tapa
+    expect terminal.Scope
     x ← plain_name
     arguments ← attribute_arguments
-    expect mark.RightBracket
-    expect mark.RightBracket
+    expect terminal.RightBracket
+    expect terminal.RightBracket
     pure (record { name = x; arguments = arguments })
 
   abbrev pub attributes : Reader (List AttributeTree)
-  attributes = repeat (sees mark.LeftBracket) attribute
+  attributes = repeat (sees terminal.LeftBracket) attribute
 
 -- ---- statements
 
-abbrev pub begins_action : Mark → Bool
+abbrev pub begins_action : Terminal → Bool
 begins_action m = is_name m || is_some (step_operator_of m)
 
-abbrev pub begins_other : Mark → Bool
-begins_other mark.LeftBracket = true
-begins_other mark.Semicolon = true
-begins_other mark.LeftBrace = true
-begins_other mark.If = true
-begins_other mark.While = true
-begins_other mark.For = true
-begins_other mark.WhileNotEot = true
-begins_other mark.Break = true
-begins_other mark.Continue = true
-begins_other mark.Const = true
-begins_other mark.Std = true
+abbrev pub begins_other : Terminal → Bool
+begins_other terminal.LeftBracket = true
+begins_other terminal.Semicolon = true
+begins_other terminal.LeftBrace = true
+begins_other terminal.If = true
+begins_other terminal.While = true
+begins_other terminal.For = true
+begins_other terminal.WhileNotEot = true
+begins_other terminal.Break = true
+begins_other terminal.Continue = true
+begins_other terminal.Const = true
+begins_other terminal.Std = true
 begins_other _ = false
 
-abbrev pub begins_statement : Mark → Bool
+abbrev pub begins_statement : Terminal → Bool
 begins_statement m = begins_other m || begins_action m || is_some (one_kind m)
 
 unfoldable pub start : Readers → Reader StartTree
-start below = λ i. if sees mark.Semicolon i then Ok (no_start, i) else (if begins_action (next i) then (do a ← below.action; pure (act_start a)) i else (do d ← below.declaration; pure (declare_start d)) i)
+start below = λ i. if sees terminal.Semicolon i then Ok (no_start, i) else (if begins_action (next i) then (do a ← below.action; pure (act_start a)) i else (do d ← below.declaration; pure (declare_start d)) i)
 
 unfoldable pub loop_test : ℕ → Readers → Reader (Option ExpressionTree)
-loop_test limit below = λ i. if sees mark.Semicolon i then Ok (None, i) else (do e ← whole below.expression limit; pure (Some e)) i
+loop_test limit below = λ i. if sees terminal.Semicolon i then Ok (None, i) else (do e ← whole below.expression limit; pure (Some e)) i
 
 unfoldable pub step : Readers → Reader (Option ActionTree)
-step below = λ i. if sees mark.RightParen i then Ok (None, i) else (do a ← below.action; pure (Some a)) i
+step below = λ i. if sees terminal.RightParen i then Ok (None, i) else (do a ← below.action; pure (Some a)) i
 
 -- a keyword and its semicolon
 unfoldable pub jump : Reader Place
 jump = do
   at ← here
   skip
-  expect mark.Semicolon
+  expect terminal.Semicolon
   pure at
 
 module _ (limit : ℕ) (inner : Option Readers) where
@@ -458,21 +458,21 @@ module _ (limit : ℕ) (inner : Option Readers) where
   statement_with = λ i. if begins_statement (next i) then (enter inner >>= (λ below. below.inside)) i else Err (P1, i)
 
   abbrev pub statements_with : Reader (List StatementTree)
-  statements_with = repeat (λ i. not (sees mark.RightBrace i)) statement_with
+  statements_with = repeat (λ i. not (sees terminal.RightBrace i)) statement_with
 
   unfoldable pub simple : Reader StatementTree
-  simple = λ i. if begins_action (next i) then (do a ← action_with limit inner; expect mark.Semicolon; pure (act a)) i else (do d ← declaration_with limit inner; expect mark.Semicolon; pure (declare d)) i
+  simple = λ i. if begins_action (next i) then (do a ← action_with limit inner; expect terminal.Semicolon; pure (act a)) i else (do d ← declaration_with limit inner; expect terminal.Semicolon; pure (declare d)) i
 
   unfoldable pub braces : Reader StatementTree
   braces = do
     skip
     ss ← statements_with
-    expect mark.RightBrace
+    expect terminal.RightBrace
     pure (block (statements ss))
 
   -- what may follow the first side of an if
   unfoldable pub otherwise : ExpressionTree → StatementTree → Reader StatementTree
-  otherwise c s = λ i. if sees mark.Else i then (do skip; t ← statement_with; pure (if_else c s t)) i else Ok (if_only c s, i)
+  otherwise c s = λ i. if sees terminal.Else i then (do skip; t ← statement_with; pure (if_else c s t)) i else Ok (if_only c s, i)
 
   unfoldable pub choice : Reader StatementTree
   choice = do
@@ -490,13 +490,13 @@ module _ (limit : ℕ) (inner : Option Readers) where
 
   unfoldable pub head : Reader HeadTree
   head = do
-    below ← open_level mark.LeftParen inner
+    below ← open_level terminal.LeftParen inner
     start ← start below
-    expect mark.Semicolon
+    expect terminal.Semicolon
     test ← loop_test limit below
-    expect mark.Semicolon
+    expect terminal.Semicolon
     step ← step below
-    expect mark.RightParen
+    expect terminal.RightParen
     pure (record { start = start; test = test; step = step })
 
   unfoldable pub counting_loop : Reader StatementTree
@@ -509,21 +509,21 @@ module _ (limit : ℕ) (inner : Option Readers) where
   unfoldable pub transaction_loop : Reader StatementTree
   transaction_loop = do
     skip
-    below ← open_level mark.LeftParen inner
+    below ← open_level terminal.LeftParen inner
     stream ← name
-    expect mark.RightParen
+    expect terminal.RightParen
     s ← statement_with
     pure (while_not_eot stream s)
 
-  abbrev pub bare_by : Mark → Reader StatementTree
-  bare_by mark.Semicolon = skip >> pure empty
-  bare_by mark.LeftBrace = braces
-  bare_by mark.If = choice
-  bare_by mark.While = repetition
-  bare_by mark.For = counting_loop
-  bare_by mark.WhileNotEot = transaction_loop
-  bare_by mark.Break = jump >>= (λ at. pure (break at))
-  bare_by mark.Continue = jump >>= (λ at. pure (continue at))
+  abbrev pub bare_by : Terminal → Reader StatementTree
+  bare_by terminal.Semicolon = skip >> pure empty
+  bare_by terminal.LeftBrace = braces
+  bare_by terminal.If = choice
+  bare_by terminal.While = repetition
+  bare_by terminal.For = counting_loop
+  bare_by terminal.WhileNotEot = transaction_loop
+  bare_by terminal.Break = jump >>= (λ at. pure (break at))
+  bare_by terminal.Continue = jump >>= (λ at. pure (continue at))
   bare_by _ = simple
 
   -- a statement without attributes
@@ -531,7 +531,7 @@ module _ (limit : ℕ) (inner : Option Readers) where
   bare = λ i. bare_by (next i) i
 
   unfoldable pub inside_with : Reader StatementTree
-  inside_with = λ i. if sees mark.LeftBracket i then (do found ← attributes inner; s ← bare; pure (attributed found s)) i else bare i
+  inside_with = λ i. if sees terminal.LeftBracket i then (do found ← attributes inner; s ← bare; pure (attributed found s)) i else bare i
 
 -- ---- all levels
 
@@ -546,13 +546,13 @@ readers limit inner = record {
 }
 
 -- the readers one level below, where so many levels may be opened
-unfoldable pub below_room : ℕ → ℕ → Option Readers
-below_room limit zero = None
-below_room limit (suc room) = Some (readers limit (below_room limit room))
+unfoldable pub below_levels : ℕ → ℕ → Option Readers
+below_levels limit zero = None
+below_levels limit (suc levels) = Some (readers limit (below_levels limit levels))
 
 -- within the limits
 abbrev pub below : ℕ → Option Readers
-below room = below_room most_operators room
+below levels = below_levels most_operators levels
 
 abbrev pub at : ℕ → Readers
-at room = readers most_operators (below room)
+at levels = readers most_operators (below levels)

@@ -8,10 +8,10 @@ ghost use Rattle.tapa_parse_expression.specs.Readers.{Gives};
 ghost use Rattle.tapa_parse_expression.specs.Reading as spec;
 
 use crate::fault::{Fault, ParseCode};
-use crate::mark::{binary_operator, binds_at, is_name, prefix_operator};
 use crate::parser::Parser;
+use crate::terminal::{binary_operator, binds_at, is_name, prefix_operator};
 use std::alloc::Global;
-use tapa_syntax::{BinaryOperator, Expression, Mark, Name, PrefixOperator};
+use tapa_syntax::{BinaryOperator, Expression, Name, PrefixOperator, Terminal};
 
 const OR_LEVEL: u8 = 10;
 
@@ -38,104 +38,104 @@ impl<'a> Parser<'a> {
         }
     }
 
-    /// An expression in parentheses, which are a level; `room` more levels may be opened.
+    /// An expression in parentheses, which are a level; `levels` more levels may be opened.
     #[cycle(expression)]
     #[tactic(auto, unfolding(crate::specs::Reading::in_parentheses))]
-    pub fn in_parentheses(&mut self, room: u32, operators: &mut u32) -> Result<Expression, Fault>
-        ensures { Gives (λ e. (view.expression e, operators.new)) result self.new (spec.in_parentheses (spec.below room) operators.old self.old) }
+    pub fn in_parentheses(&mut self, levels: u32, operators: &mut u32) -> Result<Expression, Fault>
+        ensures { Gives (λ e. (view.expression e, operators.new)) result self.new (spec.in_parentheses (spec.below levels) operators.old self.old) }
     {
-        let room = self.open(Mark::LeftParen, room)?;
-        let e = self.expression(room, operators)?;
-        self.expect(Mark::RightParen)?;
+        let levels = self.open(Terminal::LeftParen, levels)?;
+        let e = self.expression(levels, operators)?;
+        self.expect(Terminal::RightParen)?;
         Ok(e)
     }
 
     /// An expression in brackets, which are a level.
     #[cycle(expression)]
     #[tactic(auto, unfolding(crate::specs::Reading::in_brackets))]
-    pub fn in_brackets(&mut self, room: u32, operators: &mut u32) -> Result<Expression, Fault>
-        ensures { Gives (λ e. (view.expression e, operators.new)) result self.new (spec.in_brackets (spec.below room) operators.old self.old) }
+    pub fn in_brackets(&mut self, levels: u32, operators: &mut u32) -> Result<Expression, Fault>
+        ensures { Gives (λ e. (view.expression e, operators.new)) result self.new (spec.in_brackets (spec.below levels) operators.old self.old) }
     {
-        let room = self.open(Mark::LeftBracket, room)?;
-        let e = self.expression(room, operators)?;
-        self.expect(Mark::RightBracket)?;
+        let levels = self.open(Terminal::LeftBracket, levels)?;
+        let e = self.expression(levels, operators)?;
+        self.expect(Terminal::RightBracket)?;
         Ok(e)
     }
 
     /// What a method may be called with: an expression or `nullptr`.
     #[cycle(expression)]
     #[tactic(auto, unfolding(crate::specs::Reading::argument))]
-    pub fn argument(&mut self, room: u32, operators: &mut u32) -> Result<Expression, Fault>
-        ensures { Gives (λ e. (view.expression e, operators.new)) result self.new (spec.argument (spec.at room) operators.old self.old) }
+    pub fn argument(&mut self, levels: u32, operators: &mut u32) -> Result<Expression, Fault>
+        ensures { Gives (λ e. (view.expression e, operators.new)) result self.new (spec.argument (spec.at levels) operators.old self.old) }
     {
-        if self.sees(Mark::Nullptr) {
+        if self.sees(Terminal::Nullptr) {
             self.skip();
             return Ok(Expression::Nullptr);
         }
-        self.expression(room, operators)
+        self.expression(levels, operators)
     }
 
     // At least one.
     #[cycle(expression)]
     #[tactic(auto, unfolding(crate::specs::Reading::some_arguments, crate::specs::Reading::more_arguments))]
-    fn some_arguments(&mut self, room: u32, operators: &mut u32) -> Result<Vec<Expression>, Fault>
-        ensures { Gives (λ es. (map view.expression es.items, operators.new)) result self.new (spec.some_arguments (spec.at room) operators.old self.old) }
+    fn some_arguments(&mut self, levels: u32, operators: &mut u32) -> Result<Vec<Expression>, Fault>
+        ensures { Gives (λ es. (map view.expression es.items, operators.new)) result self.new (spec.some_arguments (spec.at levels) operators.old self.old) }
     {
         let mut found = Vec::new(self.alloc());
-        found.push(self.argument(room, operators)?)?;
+        found.push(self.argument(levels, operators)?)?;
         for _turn in 0..self.left() {
-            if !self.sees(Mark::Comma) {
+            if !self.sees(Terminal::Comma) {
                 return Ok(found);
             }
             self.skip();
-            found.push(self.argument(room, operators)?)?;
+            found.push(self.argument(levels, operators)?)?;
         }
         Ok(found)
     }
 
     #[cycle(expression)]
     #[tactic(auto, unfolding(crate::specs::Reading::any_arguments))]
-    fn any_arguments(&mut self, room: u32, operators: &mut u32) -> Result<Vec<Expression>, Fault>
-        ensures { Gives (λ es. (map view.expression es.items, operators.new)) result self.new (spec.any_arguments (spec.at room) operators.old self.old) }
+    fn any_arguments(&mut self, levels: u32, operators: &mut u32) -> Result<Vec<Expression>, Fault>
+        ensures { Gives (λ es. (map view.expression es.items, operators.new)) result self.new (spec.any_arguments (spec.at levels) operators.old self.old) }
     {
-        if self.sees(Mark::RightParen) {
+        if self.sees(Terminal::RightParen) {
             Ok(Vec::new(self.alloc()))
         } else {
-            self.some_arguments(room, operators)
+            self.some_arguments(levels, operators)
         }
     }
 
     #[cycle(expression)]
     #[tactic(auto, unfolding(crate::specs::Reading::arguments))]
-    fn arguments(&mut self, room: u32, operators: &mut u32) -> Result<Vec<Expression>, Fault>
-        ensures { Gives (λ es. (map view.expression es.items, operators.new)) result self.new (spec.arguments (spec.below room) operators.old self.old) }
+    fn arguments(&mut self, levels: u32, operators: &mut u32) -> Result<Vec<Expression>, Fault>
+        ensures { Gives (λ es. (map view.expression es.items, operators.new)) result self.new (spec.arguments (spec.below levels) operators.old self.old) }
     {
-        let room = self.open(Mark::LeftParen, room)?;
-        let found = self.any_arguments(room, operators)?;
-        self.expect(Mark::RightParen)?;
+        let levels = self.open(Terminal::LeftParen, levels)?;
+        let found = self.any_arguments(levels, operators)?;
+        self.expect(Terminal::RightParen)?;
         Ok(found)
     }
 
     // What begins with a name.
     #[cycle(expression)]
     #[tactic(auto, unfolding(crate::specs::Reading::named))]
-    fn named(&mut self, room: u32, operators: &mut u32) -> Result<Expression, Fault>
-        ensures { Gives (λ e. (view.expression e, operators.new)) result self.new (spec.named (spec.below room) operators.old self.old) }
+    fn named(&mut self, levels: u32, operators: &mut u32) -> Result<Expression, Fault>
+        ensures { Gives (λ e. (view.expression e, operators.new)) result self.new (spec.named (spec.below levels) operators.old self.old) }
     {
         let name = self.name()?;
         match self.next() {
-            Mark::Dot => {
+            Terminal::Dot => {
                 self.skip();
                 let method = self.plain_name()?;
-                let arguments = self.arguments(room, operators)?;
+                let arguments = self.arguments(levels, operators)?;
                 Ok(Expression::Call {
                     stream: name,
                     method,
                     arguments,
                 })
             }
-            Mark::LeftBracket => {
-                let index = self.in_brackets(room, operators)?;
+            Terminal::LeftBracket => {
+                let index = self.in_brackets(levels, operators)?;
                 Ok(Expression::Element(name, Box::new(self.alloc(), index)?))
             }
             _ => Ok(Expression::Variable(name)),
@@ -144,72 +144,72 @@ impl<'a> Parser<'a> {
 
     #[cycle(expression)]
     #[tactic(auto, unfolding(crate::specs::Reading::constructed))]
-    fn constructed(&mut self, room: u32, operators: &mut u32) -> Result<Expression, Fault>
-        ensures { Gives (λ e. (view.expression e, operators.new)) result self.new (spec.constructed (spec.below room) operators.old self.old) }
+    fn constructed(&mut self, levels: u32, operators: &mut u32) -> Result<Expression, Fault>
+        ensures { Gives (λ e. (view.expression e, operators.new)) result self.new (spec.constructed (spec.below levels) operators.old self.old) }
     {
         let kind = self.one()?;
-        let e = self.in_parentheses(room, operators)?;
+        let e = self.in_parentheses(levels, operators)?;
         Ok(Expression::Construct(kind, Box::new(self.alloc(), e)?))
     }
 
     #[cycle(expression)]
     #[tactic(auto, unfolding(crate::specs::Reading::statically_cast))]
-    fn statically_cast(&mut self, room: u32, operators: &mut u32) -> Result<Expression, Fault>
-        ensures { Gives (λ e. (view.expression e, operators.new)) result self.new (spec.statically_cast (spec.below room) operators.old self.old) }
+    fn statically_cast(&mut self, levels: u32, operators: &mut u32) -> Result<Expression, Fault>
+        ensures { Gives (λ e. (view.expression e, operators.new)) result self.new (spec.statically_cast (spec.below levels) operators.old self.old) }
     {
         self.skip();
-        self.expect(Mark::Less)?;
+        self.expect(Terminal::Less)?;
         let kind = self.kind()?;
-        self.expect(Mark::Greater)?;
-        let e = self.in_parentheses(room, operators)?;
+        self.expect(Terminal::Greater)?;
+        let e = self.in_parentheses(levels, operators)?;
         Ok(Expression::StaticCast(kind, Box::new(self.alloc(), e)?))
     }
 
     #[cycle(expression)]
     #[tactic(auto, unfolding(crate::specs::Reading::primary))]
-    fn primary(&mut self, room: u32, operators: &mut u32) -> Result<Expression, Fault>
-        ensures { Gives (λ e. (view.expression e, operators.new)) result self.new (spec.primary (spec.below room) operators.old self.old) }
+    fn primary(&mut self, levels: u32, operators: &mut u32) -> Result<Expression, Fault>
+        ensures { Gives (λ e. (view.expression e, operators.new)) result self.new (spec.primary (spec.below levels) operators.old self.old) }
     {
         if is_name(self.next()) {
-            return self.named(room, operators);
+            return self.named(levels, operators);
         }
         match self.next() {
-            Mark::Literal => {
+            Terminal::Literal => {
                 let (kind, value) = self.literal()?;
                 Ok(Expression::Literal(kind, value))
             }
-            Mark::True => {
+            Terminal::True => {
                 self.skip();
                 Ok(Expression::Boolean(true))
             }
-            Mark::False => {
+            Terminal::False => {
                 self.skip();
                 Ok(Expression::Boolean(false))
             }
-            Mark::StaticCast => self.statically_cast(room, operators),
-            _ => self.constructed(room, operators),
+            Terminal::StaticCast => self.statically_cast(levels, operators),
+            _ => self.constructed(levels, operators),
         }
     }
 
     #[cycle(expression)]
     #[tactic(auto, unfolding(crate::specs::Reading::parenthesis))]
-    fn parenthesis(&mut self, room: u32, operators: &mut u32) -> Result<Expression, Fault>
-        ensures { Gives (λ e. (view.expression e, operators.new)) result self.new (spec.parenthesis (spec.below room) operators.old self.old) }
+    fn parenthesis(&mut self, levels: u32, operators: &mut u32) -> Result<Expression, Fault>
+        ensures { Gives (λ e. (view.expression e, operators.new)) result self.new (spec.parenthesis (spec.below levels) operators.old self.old) }
     {
-        let e = self.in_parentheses(room, operators)?;
+        let e = self.in_parentheses(levels, operators)?;
         Ok(Expression::Parenthesized(Box::new(self.alloc(), e)?))
     }
 
     // The parenthesis of a cast is open over its operand.
     #[cycle(expression)]
     #[tactic(auto, unfolding(crate::specs::Reading::converted))]
-    fn converted(&mut self, room: u32, operators: &mut u32) -> Result<Expression, Fault>
-        ensures { Gives (λ e. (view.expression e, operators.new)) result self.new (spec.converted (spec.below room) operators.old self.old) }
+    fn converted(&mut self, levels: u32, operators: &mut u32) -> Result<Expression, Fault>
+        ensures { Gives (λ e. (view.expression e, operators.new)) result self.new (spec.converted (spec.below levels) operators.old self.old) }
     {
-        let room = self.open(Mark::LeftParen, room)?;
+        let levels = self.open(Terminal::LeftParen, levels)?;
         let kind = self.kind()?;
-        self.expect(Mark::RightParen)?;
-        let e = self.unary(room, operators)?;
+        self.expect(Terminal::RightParen)?;
+        let e = self.unary(levels, operators)?;
         Ok(Expression::Cast(kind, Box::new(self.alloc(), e)?))
     }
 
@@ -218,34 +218,34 @@ impl<'a> Parser<'a> {
     fn prefixed(
         &mut self,
         operator: PrefixOperator,
-        room: u32,
+        levels: u32,
         operators: &mut u32,
     ) -> Result<Expression, Fault>
-        ensures { Gives (λ e. (view.expression e, operators.new)) result self.new (spec.prefixed (spec.below room) operator operators.old self.old) }
+        ensures { Gives (λ e. (view.expression e, operators.new)) result self.new (spec.prefixed (spec.below levels) operator operators.old self.old) }
     {
         *operators = count(*operators)?;
-        let room = self.enter(room)?;
+        let levels = self.enter(levels)?;
         let place = self.place();
         self.skip();
-        let e = self.unary(room, operators)?;
+        let e = self.unary(levels, operators)?;
         Ok(Expression::Prefix(operator, place, Box::new(self.alloc(), e)?))
     }
 
     #[cycle(expression)]
     #[tactic(auto, unfolding(crate::specs::Reading::unary_with))]
-    fn unary(&mut self, room: u32, operators: &mut u32) -> Result<Expression, Fault>
-        ensures { Gives (λ e. (view.expression e, operators.new)) result self.new ((spec.at room).unary operators.old self.old) }
+    fn unary(&mut self, levels: u32, operators: &mut u32) -> Result<Expression, Fault>
+        ensures { Gives (λ e. (view.expression e, operators.new)) result self.new ((spec.at levels).unary operators.old self.old) }
     {
         if let Some(operator) = prefix_operator(self.next()) {
-            return self.prefixed(operator, room, operators);
+            return self.prefixed(operator, levels, operators);
         }
-        if !self.sees(Mark::LeftParen) {
-            return self.primary(room, operators);
+        if !self.sees(Terminal::LeftParen) {
+            return self.primary(levels, operators);
         }
         if self.begins_cast() {
-            self.converted(room, operators)
+            self.converted(levels, operators)
         } else {
-            self.parenthesis(room, operators)
+            self.parenthesis(levels, operators)
         }
     }
 
@@ -253,14 +253,19 @@ impl<'a> Parser<'a> {
     /// 9 for `||`.
     #[cycle(expression)]
     #[tactic(auto, unfolding(crate::specs::Reading::level))]
-    pub fn level(&mut self, level: u8, room: u32, operators: &mut u32) -> Result<Expression, Fault>
-        ensures { Gives (λ e. (view.expression e, operators.new)) result self.new (spec.level ((spec.at room).unary) level operators.old self.old) }
+    pub fn level(
+        &mut self,
+        level: u8,
+        levels: u32,
+        operators: &mut u32,
+    ) -> Result<Expression, Fault>
+        ensures { Gives (λ e. (view.expression e, operators.new)) result self.new (spec.level ((spec.at levels).unary) level operators.old self.old) }
     {
         if level == 0 {
-            return self.unary(room, operators);
+            return self.unary(levels, operators);
         }
-        let left = self.level(level - 1, room, operators)?;
-        self.chain(level - 1, room, left, operators)
+        let left = self.level(level - 1, levels, operators)?;
+        self.chain(level - 1, levels, left, operators)
     }
 
     // The operators of one level, with what stands between them.
@@ -269,11 +274,11 @@ impl<'a> Parser<'a> {
     fn chain(
         &mut self,
         level: u8,
-        room: u32,
+        levels: u32,
         left: Expression,
         operators: &mut u32,
     ) -> Result<Expression, Fault>
-        ensures { Gives (λ e. (view.expression e, operators.new)) result self.new (spec.chain_of (spec.level ((spec.at room).unary) level) level (view.expression left) operators.old self.old) }
+        ensures { Gives (λ e. (view.expression e, operators.new)) result self.new (spec.chain_of (spec.level ((spec.at levels).unary) level) level (view.expression left) operators.old self.old) }
     {
         let mut left = left;
         for _turn in 0..self.left() {
@@ -283,7 +288,7 @@ impl<'a> Parser<'a> {
             *operators = count(*operators)?;
             let place = self.place();
             self.skip();
-            let right = self.level(level, room, operators)?;
+            let right = self.level(level, levels, operators)?;
             left = Expression::Binary(
                 operator,
                 place,
@@ -298,19 +303,19 @@ impl<'a> Parser<'a> {
     #[tactic(auto, unfolding(crate::specs::Reading::arms))]
     fn arms(
         &mut self,
-        room: u32,
+        levels: u32,
         test: Expression,
         operators: &mut u32,
     ) -> Result<Expression, Fault>
-        ensures { Gives (λ e. (view.expression e, operators.new)) result self.new (spec.arms (spec.below room) (view.expression test) operators.old self.old) }
+        ensures { Gives (λ e. (view.expression e, operators.new)) result self.new (spec.arms (spec.below levels) (view.expression test) operators.old self.old) }
     {
         *operators = count(*operators)?;
-        let room = self.enter(room)?;
+        let levels = self.enter(levels)?;
         let place = self.place();
         self.skip();
-        let first = self.expression(room, operators)?;
-        self.expect(Mark::Colon)?;
-        let second = self.expression(room, operators)?;
+        let first = self.expression(levels, operators)?;
+        self.expect(Terminal::Colon)?;
+        let second = self.expression(levels, operators)?;
         Ok(Expression::Conditional(
             place,
             Box::new(self.alloc(), test)?,
@@ -319,17 +324,17 @@ impl<'a> Parser<'a> {
         ))
     }
 
-    /// An expression. `room` says how many levels of nesting may be opened, `operators` how many operators are left to the
+    /// An expression. `levels` says how many levels of nesting may be opened, `operators` how many operators are left to the
     /// expression that it is part of. One more level or operator is refused with P2, and a lexeme that goes on with no
     /// expression with P1.
     #[cycle(expression)]
     #[tactic(auto, unfolding(crate::specs::Reading::expression_with))]
-    pub fn expression(&mut self, room: u32, operators: &mut u32) -> Result<Expression, Fault>
-        ensures { Gives (λ e. (view.expression e, operators.new)) result self.new ((spec.at room).expression operators.old self.old) }
+    pub fn expression(&mut self, levels: u32, operators: &mut u32) -> Result<Expression, Fault>
+        ensures { Gives (λ e. (view.expression e, operators.new)) result self.new ((spec.at levels).expression operators.old self.old) }
     {
-        let test = self.level(OR_LEVEL, room, operators)?;
-        if self.sees(Mark::Question) {
-            self.arms(room, test, operators)
+        let test = self.level(OR_LEVEL, levels, operators)?;
+        if self.sees(Terminal::Question) {
+            self.arms(levels, test, operators)
         } else {
             Ok(test)
         }

@@ -3,10 +3,10 @@
 
 mod expression;
 mod fault;
-mod mark;
 mod parser;
+mod terminal;
 mod types;
 
 pub use fault::{Fault, ParseCode};
-pub use mark::{is_name, one_kind};
 pub use parser::Parser;
+pub use terminal::{is_name, one_kind};

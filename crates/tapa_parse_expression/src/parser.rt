@@ -9,11 +9,11 @@ ghost use Rattle.tapa_parse_expression.specs.Readers.{Gives};
 ghost use Rattle.tapa_parse_expression.specs.Reading as reading;
 
 use crate::fault::{Fault, ParseCode};
-use crate::mark::{is_name, mark_of, text_of};
+use crate::terminal::{is_name, terminal_of, text_of};
 use std::alloc::Global;
 use std::marker::Model;
 use tapa_base::{Kind, Place, Text};
-use tapa_syntax::{LexKind, Lexeme, Mark, Name};
+use tapa_syntax::{LexKind, Lexeme, Name, Terminal};
 
 /// A parser stands before the lexemes that are left; where it refused, before the refused one. Its value is their symbols.
 /// What is left after want of memory is not told.
@@ -34,7 +34,7 @@ impl<'a> Model for Parser<'a> {
 }
 
 #[tactic(auto, unfolding(crate::specs::Readers::same))]
-fn same(a: Mark, b: Mark) -> bool
+fn same(a: Terminal, b: Terminal) -> bool
     ensures { result ≡ spec.same a b }
 {
     a == b
@@ -57,13 +57,13 @@ impl<'a> Parser<'a> {
         self.alloc
     }
 
-    /// What the next lexeme is; `Mark::End` where none is left.
-    pub fn next(&self) -> Mark
+    /// What the next lexeme is; `Terminal::End` where none is left.
+    pub fn next(&self) -> Terminal
         ensures { result ≡ spec.next self.now }
     {
         match self.rest {
-            [first, ..] => mark_of(self.source, first),
-            [] => Mark::End,
+            [first, ..] => terminal_of(self.source, first),
+            [] => Terminal::End,
         }
     }
 
@@ -105,30 +105,30 @@ impl<'a> Parser<'a> {
         }
     }
 
-    /// Whether the next lexeme has this mark.
+    /// Whether the next lexeme has this terminal.
     #[tactic(auto, unfolding(crate::specs::Readers::sees))]
-    pub fn sees(&self, mark: Mark) -> bool
-        ensures { result ≡ spec.sees mark self.now }
+    pub fn sees(&self, terminal: Terminal) -> bool
+        ensures { result ≡ spec.sees terminal self.now }
     {
-        same(self.next(), mark)
+        same(self.next(), terminal)
     }
 
     /// What the lexeme behind so many others is.
-    pub fn next_behind(&self, others: usize) -> Mark
+    pub fn next_behind(&self, others: usize) -> Terminal
         ensures { result ≡ spec.next (drop others self.now) }
     {
         match self.rest.get(others) {
-            Some(lexeme) => mark_of(self.source, lexeme),
-            None => Mark::End,
+            Some(lexeme) => terminal_of(self.source, lexeme),
+            None => Terminal::End,
         }
     }
 
-    /// Whether the lexeme behind so many others has this mark.
+    /// Whether the lexeme behind so many others has this terminal.
     #[tactic(auto, unfolding(crate::specs::Readers::sees))]
-    pub fn sees_behind(&self, others: usize, mark: Mark) -> bool
-        ensures { result ≡ spec.sees mark (drop others self.now) }
+    pub fn sees_behind(&self, others: usize, terminal: Terminal) -> bool
+        ensures { result ≡ spec.sees terminal (drop others self.now) }
     {
-        same(self.next_behind(others), mark)
+        same(self.next_behind(others), terminal)
     }
 
     /// Passes the next lexeme, if one is left.
@@ -140,25 +140,25 @@ impl<'a> Parser<'a> {
         }
     }
 
-    /// Passes the next lexeme, if it has this mark, and tells whether it did.
+    /// Passes the next lexeme, if it has this terminal, and tells whether it did.
     #[tactic(auto, unfolding(crate::specs::Readers::past))]
-    pub fn eat(&mut self, mark: Mark) -> bool
-        ensures found { result ≡ spec.sees mark self.old }
-        ensures left { self.new ≡ spec.past mark self.old }
+    pub fn eat(&mut self, terminal: Terminal) -> bool
+        ensures found { result ≡ spec.sees terminal self.old }
+        ensures left { self.new ≡ spec.past terminal self.old }
     {
-        let found = self.sees(mark);
+        let found = self.sees(terminal);
         if found {
             self.skip();
         }
         found
     }
 
-    /// Passes the next lexeme, which must have this mark: any other is refused with P1.
+    /// Passes the next lexeme, which must have this terminal: any other is refused with P1.
     #[tactic(auto, unfolding(crate::specs::Readers::expect))]
-    pub fn expect(&mut self, mark: Mark) -> Result<(), Fault>
-        ensures { Gives (λ x. x) result self.new (spec.expect mark self.old) }
+    pub fn expect(&mut self, terminal: Terminal) -> Result<(), Fault>
+        ensures { Gives (λ x. x) result self.new (spec.expect terminal self.old) }
     {
-        if self.sees(mark) {
+        if self.sees(terminal) {
             self.skip();
             Ok(())
         } else {
@@ -167,28 +167,28 @@ impl<'a> Parser<'a> {
     }
 
     /// The next lexeme opens a level: how many more may be opened then. It is refused with P2 where none may.
-    #[tactic(auto, unfolding(crate::specs::Reading::below_room))]
-    pub fn enter(&self, room: u32) -> Result<u32, Fault>
-        ensures gives { Gives reading.at result self.now (reading.enter (reading.below room) self.now) }
-        ensures less { IfOk result (λ r. r < room) }
+    #[tactic(auto, unfolding(crate::specs::Reading::below_levels))]
+    pub fn enter(&self, levels: u32) -> Result<u32, Fault>
+        ensures gives { Gives reading.at result self.now (reading.enter (reading.below levels) self.now) }
+        ensures less { IfOk result (λ r. r < levels) }
     {
-        if room == 0 {
+        if levels == 0 {
             return Err(Fault::Refused(ParseCode::P2));
         }
-        Ok(room - 1)
+        Ok(levels - 1)
     }
 
-    /// Passes a lexeme with this mark, which opens a level: how many more may be opened then. Any other is refused with P1, and
+    /// Passes a lexeme with this terminal, which opens a level: how many more may be opened then. Any other is refused with P1, and
     /// this one with P2 where no level may be opened.
     #[tactic(auto, unfolding(crate::specs::Reading::open_level))]
-    pub fn open(&mut self, mark: Mark, room: u32) -> Result<u32, Fault>
-        ensures gives { Gives reading.at result self.new (reading.open_level mark (reading.below room) self.old) }
-        ensures less { IfOk result (λ r. r < room) }
+    pub fn open(&mut self, terminal: Terminal, levels: u32) -> Result<u32, Fault>
+        ensures gives { Gives reading.at result self.new (reading.open_level terminal (reading.below levels) self.old) }
+        ensures less { IfOk result (λ r. r < levels) }
     {
-        if !self.sees(mark) {
+        if !self.sees(terminal) {
             return Err(Fault::Refused(ParseCode::P1));
         }
-        let below = self.enter(room)?;
+        let below = self.enter(levels)?;
         self.skip();
         Ok(below)
     }
@@ -241,7 +241,7 @@ impl<'a> Parser<'a> {
         ensures { Gives (λ x. x) result self.new (spec.plain_name self.old) }
     {
         match self.next() {
-            Mark::Name => self.take_name(),
+            Terminal::Name => self.take_name(),
             _ => Err(Fault::Refused(ParseCode::P1)),
         }
     }
@@ -264,7 +264,7 @@ impl<'a> Parser<'a> {
     pub fn literal(&mut self) -> Result<(Kind, u64), Fault>
         ensures { Gives (λ x. x) result self.new (spec.literal_value self.old) }
     {
-        if !self.sees(Mark::Literal) {
+        if !self.sees(Terminal::Literal) {
             return Err(Fault::Refused(ParseCode::P1));
         }
         let literal = self.literal_here();

@@ -5,10 +5,10 @@ ghost use Rattle.tapa_parse_expression.specs.Readers.{Gives};
 ghost use Rattle.tapa_parse_expression.specs.Reading as spec;
 
 use crate::fault::{Fault, ParseCode};
-use crate::mark::{one_kind, sized_kind};
 use crate::parser::Parser;
+use crate::terminal::{one_kind, sized_kind};
 use tapa_base::Kind;
-use tapa_syntax::Mark;
+use tapa_syntax::Terminal;
 
 impl<'a> Parser<'a> {
     #[tactic(auto, unfolding(crate::specs::Reading::sized))]
@@ -29,9 +29,9 @@ impl<'a> Parser<'a> {
     pub(crate) fn one(&mut self) -> Result<Kind, Fault>
         ensures { Gives (λ x. x) result self.new (spec.one self.old) }
     {
-        if self.sees(Mark::Std) {
+        if self.sees(Terminal::Std) {
             self.skip();
-            self.expect(Mark::Scope)?;
+            self.expect(Terminal::Scope)?;
             return self.sized();
         }
         match one_kind(self.next()) {
@@ -49,19 +49,19 @@ impl<'a> Parser<'a> {
         ensures { Gives (λ x. x) result self.new (spec.unsigned self.old) }
     {
         match self.next() {
-            Mark::Short => {
+            Terminal::Short => {
                 self.skip();
-                self.eat(Mark::Int);
+                self.eat(Terminal::Int);
                 Ok(Kind::U16)
             }
-            Mark::Long => {
+            Terminal::Long => {
                 self.skip();
-                self.eat(Mark::Long);
-                self.eat(Mark::Int);
+                self.eat(Terminal::Long);
+                self.eat(Terminal::Int);
                 Ok(Kind::U64)
             }
             _ => {
-                self.eat(Mark::Int);
+                self.eat(Terminal::Int);
                 Ok(Kind::U32)
             }
         }
@@ -73,19 +73,19 @@ impl<'a> Parser<'a> {
         ensures { Gives (λ x. x) result self.new (spec.type_name self.old) }
     {
         match self.next() {
-            Mark::Unsigned => {
+            Terminal::Unsigned => {
                 self.skip();
                 self.unsigned()
             }
-            Mark::Short => {
+            Terminal::Short => {
                 self.skip();
-                self.eat(Mark::Int);
+                self.eat(Terminal::Int);
                 Ok(Kind::I16)
             }
-            Mark::Long => {
+            Terminal::Long => {
                 self.skip();
-                self.eat(Mark::Long);
-                self.eat(Mark::Int);
+                self.eat(Terminal::Long);
+                self.eat(Terminal::Int);
                 Ok(Kind::I64)
             }
             _ => self.one(),
@@ -97,9 +97,9 @@ impl<'a> Parser<'a> {
     pub(crate) fn begins_cast(&self) -> bool
         ensures { result ≡ spec.begins_cast self.now }
     {
-        if self.sees_behind(1, Mark::Std) {
-            return !self.sees_behind(4, Mark::LeftParen);
+        if self.sees_behind(1, Terminal::Std) {
+            return !self.sees_behind(4, Terminal::LeftParen);
         }
-        one_kind(self.next_behind(1)).is_some() && !self.sees_behind(2, Mark::LeftParen)
+        one_kind(self.next_behind(1)).is_some() && !self.sees_behind(2, Terminal::LeftParen)
     }
 }

@@ -2,13 +2,13 @@
 #![tactic(auto)]
 
 mod lexeme;
-mod mark;
 mod program;
+mod terminal;
 mod tree;
 
 pub use lexeme::{LexKind, Lexeme};
-pub use mark::Mark;
 pub use program::{Array, Bound, End, Expr, Instance, Leaf, Memory, Program, Scalar, Stmt, Stream};
+pub use terminal::Terminal;
 pub use tree::{
     Action, AssignmentOperator, Attribute, AttributeArgument, AttributeArguments, BinaryOperator,
     Count, CountValue, Declaration, Declarator, Expression, File, FileItem, ForHead, ForStart,

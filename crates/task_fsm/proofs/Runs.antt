@@ -6,11 +6,11 @@ use Rattle.tapa_base.specs.declared.token.Token.{Token}
 use Rattle.kahn_model.specs.declared.tick.Action.{Action}
 use Rattle.kahn_model.specs.declared.tick.Tick.{Tick}
 use Rattle.kahn_model.specs.declared.tick.Tick.TheVariants.{Did, End}
-use Rattle.kahn_model.specs.declared.tick.Mark.{Mark}
-use Rattle.kahn_model.specs.declared.tick.Mark.TheVariants.{Ended, Needs, Bad, Turns}
+use Rattle.kahn_model.specs.declared.tick.TraceEnd.{TraceEnd}
+use Rattle.kahn_model.specs.declared.tick.TraceEnd.TheVariants.{Ended, Needs, Bad, Turns}
 use Rattle.kahn_model.specs.declared.tick.StreamOperation.{StreamOperation}
 use Rattle.kahn_model.specs.declared.tick.StreamOperation.TheVariants.{Read, Peek, TestEot, Open}
-use Rattle.kahn_model.specs.Behavior.{Behavior, Finished, OutOfTurns, Act, Await, Offer, NoToken, WrongToken, Answer, ticks, mark, tick_of, first_offer, on_offer, lists_after}
+use Rattle.kahn_model.specs.Behavior.{Behavior, Finished, OutOfTurns, Act, Await, Offer, NoToken, WrongToken, Answer, ticks, trace_end, tick_of, first_offer, on_offer, lists_after}
 use Rattle.kahn_model.specs.Trace.{State, cell}
 use Rattle.task_fsm.specs.Follows.{Follows, left_after}
 use Rattle.task_fsm.specs.Machine.{StateForm, SetAt, CellAt, TestAt, ReadAt, WriteAt, PeekAt, EotAt, OpenAt, CloseAt, LoadAt, StoreAt, ClearAt, EndAt, TrapAt}
@@ -44,19 +44,19 @@ run_ask P pc τ S ins p s how pc' into f at is keeps found m =
     ∙ ap (λ X. on_offer (first_offer how (ins s)) (stays pc τ) (stays (trap_of P) τ) (λ t v. visiting pc (tick_of how s t) S (run P m pc' (put_into τ into v) X (lists_after how s ins)))) keeps
     ∙ ap (λ x. on_offer x (stays pc τ) (stays (trap_of P) τ) (λ t v. visiting pc (tick_of how s t) S (run P m pc' (put_into τ into v) S (lists_after how s ins)))) found
 
-ends_more : (P : List StateForm) (m : Mark) (f : ℕ → Run) (pc : ℕ) (t : Tick) (S : List ℕ) → EndsBy P m f → EndsBy P m (λ k. visiting pc t S (f k))
+ends_more : (P : List StateForm) (m : TraceEnd) (f : ℕ → Run) (pc : ℕ) (t : Tick) (S : List ℕ) → EndsBy P m f → EndsBy P m (λ k. visiting pc t S (f k))
 ends_more P Ended f pc t S h = h
 ends_more P (Needs s) f pc t S h = h
 ends_more P (Bad s) f pc t S h = h
 ends_more P Turns f pc t S h = h
 
 -- one visit before
-one_more : (P : List StateForm) (job rest : Behavior) (ins outs : ℕ → List Token) (f : ℕ → Run) (pc : ℕ) (t : Tick) (S : List ℕ) → UsesOnlyAt S (slice_get P pc) → ticks job ins ≡ t ∷ ticks rest outs → mark job ins ≡ mark rest outs → RunsAs P rest outs f → RunsAs P job ins (λ k. visiting pc t S (f k))
+one_more : (P : List StateForm) (job rest : Behavior) (ins outs : ℕ → List Token) (f : ℕ → Run) (pc : ℕ) (t : Tick) (S : List ℕ) → UsesOnlyAt S (slice_get P pc) → ticks job ins ≡ t ∷ ticks rest outs → trace_end job ins ≡ trace_end rest outs → RunsAs P rest outs f → RunsAs P job ins (λ k. visiting pc t S (f k))
 one_more P job rest ins outs f pc t S uses et em r = record {
   first = ap (λ l. t ∷ l) r.first ∙ sym et;
   more = λ k d. ap (λ l. record { place = pc; tick = t; cleared = S } ∷ l) (r.more k (λ e. d (em ∙ e)));
   clean = (uses, r.clean);
-  finish = subst (λ m. EndsBy P m (λ k. visiting pc t S (f k))) (sym em) (ends_more P (mark rest outs) f pc t S r.finish);
+  finish = subst (λ m. EndsBy P m (λ k. visiting pc t S (f k))) (sym em) (ends_more P (trace_end rest outs) f pc t S r.finish);
 }
 
 uses_at : (P : List StateForm) (pc : ℕ) (S : List ℕ) (p : StateForm) → slice_get P pc ≡ Some p → UsesOnly S p → UsesOnlyAt S (slice_get P pc)
@@ -71,7 +71,7 @@ Runs P job pc τ S ins = RunsAs P job ins (λ k. run P (and_more (ticks job ins)
 ask_runs : (P : List StateForm) (S : List ℕ) (s : ℕ) (how : StreamOperation) (rest : ℕ → Behavior) (pc : ℕ) (τ : State) (ins : ℕ → List Token) (p : StateForm) (pc' : ℕ) (into : Option ℕ) (f : Offer) → slice_get P pc ≡ Some p → step p pc τ ≡ Awaits s how pc' into → cleared_after p τ S ≡ S → UsesOnly S p → first_offer how (ins s) ≡ f → ((v : ℕ) → Runs P (rest v) pc' (put_into τ into v) S (lists_after how s ins)) → Runs P (Await s how rest) pc τ S ins
 ask_runs P S s how rest pc τ ins p pc' into NoToken at is keeps uses found on =
     let et : ticks (Await s how rest) ins ≡ [] = ap (λ x. on_offer x [] [] (λ t v. tick_of how s t ∷ ticks (rest v) (lists_after how s ins))) found in
-    let em : mark (Await s how rest) ins ≡ Needs s = ap (λ x. on_offer x (Needs s) (Bad s) (λ t v. mark (rest v) (lists_after how s ins))) found in
+    let em : trace_end (Await s how rest) ins ≡ Needs s = ap (λ x. on_offer x (Needs s) (Bad s) (λ t v. trace_end (rest v) (lists_after how s ins))) found in
     let by : (k : ℕ) → run P k pc τ S ins ≡ stays pc τ =
     λ k. elim k as (λ k. run P k pc τ S ins ≡ stays pc τ) [ zero ↦ refl | suc m ↦ run_ask P pc τ S ins p s how pc' into NoToken at is keeps found m ] in
     let base : RunsAs P (Await s how rest) ins (λ k. stays pc τ) = record {
@@ -84,7 +84,7 @@ ask_runs P S s how rest pc τ ins p pc' into NoToken at is keeps uses found on =
     (subst (λ (f : ℕ → Run). RunsAs P (Await s how rest) ins f) (sym (fun_ext by)) base)
 ask_runs P S s how rest pc τ ins p pc' into WrongToken at is keeps uses found on =
     let et : ticks (Await s how rest) ins ≡ [] = ap (λ x. on_offer x [] [] (λ t v. tick_of how s t ∷ ticks (rest v) (lists_after how s ins))) found in
-    let em : mark (Await s how rest) ins ≡ Bad s = ap (λ x. on_offer x (Needs s) (Bad s) (λ t v. mark (rest v) (lists_after how s ins))) found in
+    let em : trace_end (Await s how rest) ins ≡ Bad s = ap (λ x. on_offer x (Needs s) (Bad s) (λ t v. trace_end (rest v) (lists_after how s ins))) found in
     let by : (k : ℕ) → run P (suc k) pc τ S ins ≡ stays (trap_of P) τ = λ k. run_ask P pc τ S ins p s how pc' into WrongToken at is keeps found k in
     let none : (k : ℕ) → (run P k pc τ S ins).visits ≡ [] =
     λ k. elim k as (λ k. (run P k pc τ S ins).visits ≡ []) [ zero ↦ refl | suc m ↦ ap (λ (r : Run). r.visits) (by m) ] in
@@ -98,7 +98,7 @@ ask_runs P S s how rest pc τ ins p pc' into WrongToken at is keeps uses found o
 ask_runs P S s how rest pc τ ins p pc' into (Answer t v) at is keeps uses found on =
     let outs = lists_after how s ins in
     let et : ticks (Await s how rest) ins ≡ tick_of how s t ∷ ticks (rest v) outs = ap (λ x. on_offer x [] [] (λ t v. tick_of how s t ∷ ticks (rest v) outs)) found in
-    let em : mark (Await s how rest) ins ≡ mark (rest v) outs = ap (λ x. on_offer x (Needs s) (Bad s) (λ t v. mark (rest v) outs)) found in
+    let em : trace_end (Await s how rest) ins ≡ trace_end (rest v) outs = ap (λ x. on_offer x (Needs s) (Bad s) (λ t v. trace_end (rest v) outs)) found in
     let by : (k : ℕ) → run P (suc (and_more (ticks (rest v) outs) k)) pc τ S ins ≡ visiting pc (tick_of how s t) S (run P (and_more (ticks (rest v) outs) k) pc' (put_into τ into v) S outs) =
     λ k. run_ask P pc τ S ins p s how pc' into (Answer t v) at is keeps found (and_more (ticks (rest v) outs) k) in
     let base = one_more P (Await s how rest) (rest v) ins outs (λ k. run P (and_more (ticks (rest v) outs) k) pc' (put_into τ into v) S outs) pc (tick_of how s t) S (uses_at P pc S p at uses) et em (on v) in

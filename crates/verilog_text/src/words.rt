@@ -3,12 +3,12 @@
 ghost use Rattle.std.specs.Prelude.{◌≡◌, ◌-◌, fold, map, OnOk, ◌∷◌, []};
 ghost use Rattle.std.specs.List.{flat_map};
 ghost use Rattle.std.specs.Fmt.{decimal};
-ghost use Rattle.vlog_tree.specs.Spelling.{lay_word, range_words, port_words, atom_words, op_word, more_words, with_commas, value_words, step_words, link_words, item_words, module_words};
+ghost use Rattle.vlog_tree.specs.Spelling.{lay_word, range_words, port_words, atom_words, op_word, more_words, with_commas, value_words, step_words, connection_words, item_words, module_words};
 
 use crate::page::Page;
 use std::alloc::{AllocError, Global};
 use tapa_base::Text;
-use vlog_tree::{Atom, BinaryOp, Item, Link, Module, PortDecl, Step, Value};
+use vlog_tree::{Atom, BinaryOp, Connection, Item, Module, PortDecl, Step, Value};
 
 fn number(page: &mut Page, alloc: Global, n: u32) -> Result<(), AllocError>
     ensures { OnOk result (page.new ≡ lay_word page.old (decimal n)) }
@@ -222,34 +222,34 @@ fn steps(page: &mut Page, alloc: Global, steps: &[Step]) -> Result<(), AllocErro
     Ok(())
 }
 
-fn link(page: &mut Page, link: &Link) -> Result<(), AllocError>
-    ensures { OnOk result (page.new ≡ fold lay_word page.old (link_words link.now)) }
+fn connection(page: &mut Page, connection: &Connection) -> Result<(), AllocError>
+    ensures { OnOk result (page.new ≡ fold lay_word page.old (connection_words connection.now)) }
 {
     page.word(b".")?;
-    page.word(link.port.bytes())?;
+    page.word(connection.port.bytes())?;
     page.word(b"(")?;
-    page.word(link.net.bytes())?;
+    page.word(connection.net.bytes())?;
     page.word(b")")
 }
 
-fn more_links(page: &mut Page, links: &[Link]) -> Result<(), AllocError>
-    ensures { OnOk result (page.new ≡ fold lay_word page.old (more_words (map link_words links.now))) }
+fn more_connections(page: &mut Page, connections: &[Connection]) -> Result<(), AllocError>
+    ensures { OnOk result (page.new ≡ fold lay_word page.old (more_words (map connection_words connections.now))) }
 {
-    for l in links {
+    for l in connections {
         page.word(b",")?;
-        link(page, l)?;
+        connection(page, l)?;
     }
     Ok(())
 }
 
-fn all_links(page: &mut Page, links: &[Link]) -> Result<(), AllocError>
-    ensures { OnOk result (page.new ≡ fold lay_word page.old (with_commas (map link_words links.now))) }
+fn all_connections(page: &mut Page, connections: &[Connection]) -> Result<(), AllocError>
+    ensures { OnOk result (page.new ≡ fold lay_word page.old (with_commas (map connection_words connections.now))) }
 {
-    match links {
+    match connections {
         [] => Ok(()),
         [first, rest @ ..] => {
-            link(page, first)?;
-            more_links(page, rest)
+            connection(page, first)?;
+            more_connections(page, rest)
         }
     }
 }
@@ -344,13 +344,18 @@ fn always(page: &mut Page, alloc: Global, block: &[Step]) -> Result<(), AllocErr
     page.word(b"end")
 }
 
-fn instance(page: &mut Page, m: &Text, i: &Text, links: &[Link]) -> Result<(), AllocError>
-    ensures { OnOk result (page.new ≡ fold lay_word page.old (item_words (Item.Instance m.now i.now links.now))) }
+fn instance(
+    page: &mut Page,
+    m: &Text,
+    i: &Text,
+    connections: &[Connection],
+) -> Result<(), AllocError>
+    ensures { OnOk result (page.new ≡ fold lay_word page.old (item_words (Item.Instance m.now i.now connections.now))) }
 {
     page.word(m.bytes())?;
     page.word(i.bytes())?;
     page.word(b"(")?;
-    all_links(page, links)?;
+    all_connections(page, connections)?;
     page.word(b")")?;
     page.word(b";")
 }
@@ -364,7 +369,7 @@ fn item(page: &mut Page, alloc: Global, item: &Item) -> Result<(), AllocError>
         Item::Memory(bits, x, cells) => memory(page, alloc, *bits, x, *cells),
         Item::Assign(x, e) => assign(page, alloc, x, e),
         Item::Always(b) => always(page, alloc, b.steps()),
-        Item::Instance(m, i, links) => instance(page, m, i, links.links()),
+        Item::Instance(m, i, connections) => instance(page, m, i, connections.connections()),
     }
 }
 

@@ -5,10 +5,10 @@ use Rattle.std.specs.List.{flat_map}
 use Rattle.std.proofs.lemmas.List.{take_more}
 use Rattle.std.specs.Cmp.Lexicographic.{bytes_decides}
 use Rattle.vlog_tree.specs.declared.table.Declaration.{Declaration}
-use Rattle.vlog_tree.specs.declared.table.Sort.{Sort}
-use Rattle.vlog_tree.specs.declared.table.Sort.TheVariants.{Unknown}
+use Rattle.vlog_tree.specs.declared.table.NetKind.{NetKind}
+use Rattle.vlog_tree.specs.declared.table.NetKind.TheVariants.{Unknown}
 use Rattle.vlog_tree.specs.Grounded.{Has}
-use Rattle.vlog_tree.specs.Table.{Name, sort_of, find_name, declaration_name}
+use Rattle.vlog_tree.specs.Table.{Name, net_kind_of, find_name, declaration_name}
 use Rattle.vlog_graph.proofs.Numbered.{has_left, has_right, has_split}
 
 pub has_flat : {A B : Type 0} (f : A → List B) (xs : List A) (x : A) (y : B) → Has xs x → Has (f x) y → Has (flat_map f xs) y
@@ -46,12 +46,12 @@ taken_split xs i x y h e has =
     elim (has_split (take i xs) (x ∷ []) y (subst (λ l. Has l y) (take_more xs i x h ∙ ap (λ z. take i xs ++ z ∷ []) (sym e)) has)) [ inl l ↦ inl l | inr r ↦ (elim r [ inl s ↦ inr s | inr n ↦ absurd n ]) ]
 
 -- a name that stands for something is declared
-known_of : (d : Declaration) (ds : List Declaration) (x : Name) (s : Sort) (b : Bool) → bytes_eq d.name x ≡ b → (sort_of ds x ≡ s → Has (map declaration_name ds) x)
-    → (cond b d (find_name ds x)).sort ≡ s → Has (map declaration_name (d ∷ ds)) x
+known_of : (d : Declaration) (ds : List Declaration) (x : Name) (s : NetKind) (b : Bool) → bytes_eq d.name x ≡ b → (net_kind_of ds x ≡ s → Has (map declaration_name ds) x)
+    → (cond b d (find_name ds x)).net_kind ≡ s → Has (map declaration_name (d ∷ ds)) x
 known_of d ds x s true e ih h = inl ((bytes_decides d.name x).0 e)
 known_of d ds x s false e ih h = inr (ih h)
 
-pub known : (ds : List Declaration) (x : Name) (s : Sort) → (Unknown ≡ s → ⊥) → sort_of ds x ≡ s → Has (map declaration_name ds) x
+pub known : (ds : List Declaration) (x : Name) (s : NetKind) → (Unknown ≡ s → ⊥) → net_kind_of ds x ≡ s → Has (map declaration_name ds) x
 known [] x s n h = absurd (n h)
 known (d ∷ ds) x s n h = known_of d ds x s _ refl (known ds x s n) h
 

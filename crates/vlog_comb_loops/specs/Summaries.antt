@@ -3,10 +3,10 @@ use Rattle.std.specs.Prelude.{◌≡◌, ◌↔◌, ℕ, List, [], ◌∷◌, �
 use Rattle.std.specs.List.{flat_map}
 use Rattle.std.specs.Option.{option_map_or}
 use Rattle.vlog_tree.specs.declared.table.Declaration.{Declaration}
-use Rattle.vlog_tree.specs.declared.table.Sort.TheVariants.{Input, Output}
+use Rattle.vlog_tree.specs.declared.table.NetKind.TheVariants.{Input, Output}
 use Rattle.vlog_tree.specs.Grounded.{Has}
 use Rattle.vlog_tree.specs.Form.{ModuleTree}
-use Rattle.vlog_tree.specs.Table.{Name, port_declared, sort_of}
+use Rattle.vlog_tree.specs.Table.{Name, port_declared, net_kind_of}
 use Rattle.vlog_tree.specs.Loops.{Edges, Reaches, Rests, port_of, direct_edges, instances}
 
 -- whether a module is the top, by the name of the first that no other contains
@@ -32,7 +32,7 @@ module_edges ms is_top sums m = direct_edges ms is_top m ++ flat_map (through_ed
 
 -- an output that reaches an input
 abbrev pub IsPair : Edges → List Declaration → Name → Name → Type 0
-IsPair edges ports x y = (sort_of ports x ≡ Output) × (sort_of ports y ≡ Input) × Reaches edges x y
+IsPair edges ports x y = (net_kind_of ports x ≡ Output) × (net_kind_of ports y ≡ Input) × Reaches edges x y
 
 -- just these pairs
 abbrev pub IsSumOf : Edges → List Declaration → Edges → Type 0
@@ -42,7 +42,7 @@ IsSumOf edges ports sum = (x y : Name) → Has sum (x, y) ↔ IsPair edges ports
 abbrev pub IsSoundSum : List ModuleTree → (Name → Bool) → ModuleTree → Edges → Type 0
 IsSoundSum ms is_top m sum =
     (x y : Name) → Has sum (x, y)
-    → (sort_of (map port_declared m.ports) x ≡ Output) × (sort_of (map port_declared m.ports) y ≡ Input) × Rests ms is_top m x y
+    → (net_kind_of (map port_declared m.ports) x ≡ Output) × (net_kind_of (map port_declared m.ports) y ≡ Input) × Rests ms is_top m x y
 
 -- a sum has each pair that the module's edges give
 abbrev pub IsClosedSum : List ModuleTree → (Name → Bool) → List Edges → ModuleTree → Edges → Type 0

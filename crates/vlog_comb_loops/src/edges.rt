@@ -4,7 +4,7 @@ ghost use Rattle.std.specs.Prelude.{◌≡◌, ◌++◌, ◌∷◌, [], map, IfO
 ghost use Rattle.std.specs.List.{flat_map};
 ghost use Rattle.std.specs.Option.{option_copied};
 ghost use Rattle.vlog_tree.specs.Table.{declared};
-ghost use Rattle.vlog_tree.specs.Loops.{atom_nets, value_nets, port_of, link_edge, line_edges, answer_edges, memory_edges, item_instances};
+ghost use Rattle.vlog_tree.specs.Loops.{atom_nets, value_nets, port_of, connection_edge, line_edges, answer_edges, memory_edges, item_instances};
 ghost use Rattle.vlog_graph.specs.Graphs.{IsGraphOf};
 ghost use Rattle.vlog_comb_loops.specs.Growth.{Adds};
 ghost use Rattle.vlog_comb_loops.specs.Summaries.{is_named, sum_named, port_pair, through_edges, module_edges};
@@ -14,7 +14,7 @@ use std::alloc::{AllocError, Global};
 use tapa_base::Text;
 use vlog_graph::Graph;
 use vlog_rules::{Library, Scope, is_input};
-use vlog_tree::{Atom, Declaration, Item, Link, Module, Value, addr_name, rdata_of};
+use vlog_tree::{Atom, Connection, Declaration, Item, Module, Value, addr_name, rdata_of};
 
 #[tactic(auto, unfolding(vlog_tree::specs::Loops::port_of))]
 pub(crate) fn port_name(alloc: Global, instance: &Text, port: &Text) -> Result<Vec<u8>, AllocError>
@@ -91,35 +91,35 @@ fn add_value(alloc: Global, g: &mut Graph, x: &Text, value: &Value) -> Result<()
 }
 
 // An instance's input rests on its net, and a net on the instance's output.
-#[tactic(auto, unfolding(vlog_tree::specs::Loops::link_edge))]
-fn add_link(
+#[tactic(auto, unfolding(vlog_tree::specs::Loops::connection_edge))]
+fn add_connection(
     alloc: Global,
     g: &mut Graph,
     ports: &Scope,
     instance: &Text,
-    link: &Link,
+    connection: &Connection,
 ) -> Result<(), AllocError>
-    ensures { OnOk result (Adds g.old g.new (link_edge ports.now instance.now link.now ∷ [])) }
+    ensures { OnOk result (Adds g.old g.new (connection_edge ports.now instance.now connection.now ∷ [])) }
 {
-    let port = port_name(alloc, instance, &link.port)?;
-    if is_input(ports.sort(link.port.bytes())) {
-        add(alloc, g, &port, link.net.bytes())
+    let port = port_name(alloc, instance, &connection.port)?;
+    if is_input(ports.net_kind(connection.port.bytes())) {
+        add(alloc, g, &port, connection.net.bytes())
     } else {
-        add(alloc, g, link.net.bytes(), &port)
+        add(alloc, g, connection.net.bytes(), &port)
     }
 }
 
-fn add_links(
+fn add_connections(
     alloc: Global,
     g: &mut Graph,
     ports: &Scope,
     instance: &Text,
-    links: &[Link],
+    connections: &[Connection],
 ) -> Result<(), AllocError>
-    ensures { OnOk result (Adds g.old g.new (map (link_edge ports.now instance.now) links.now)) }
+    ensures { OnOk result (Adds g.old g.new (map (connection_edge ports.now instance.now) connections.now)) }
 {
-    for l in links {
-        add_link(alloc, g, ports, instance, l)?;
+    for l in connections {
+        add_connection(alloc, g, ports, instance, l)?;
     }
     Ok(())
 }
@@ -130,7 +130,7 @@ fn add_line(alloc: Global, g: &mut Graph, library: &Library, item: &Item) -> Res
     match item {
         Item::Assign(x, e) => add_value(alloc, g, x, e),
         Item::Instance(m, i, joins) => {
-            add_links(alloc, g, library.ports_named(m), i, joins.links())
+            add_connections(alloc, g, library.ports_named(m), i, joins.connections())
         }
         Item::Wire(_, _) => Ok(()),
         Item::Reg(_, _) => Ok(()),

@@ -2,9 +2,9 @@
 
 ghost use Rattle.std.specs.Prelude.{◌≡◌, ◌<◌, ◌↔◌, [], ℕ, List, true, map, length, slice_get, get_or, Some, IfOk, OnOk};
 ghost use Rattle.std.specs.Option.{option_copied};
-ghost use Rattle.vlog_tree.specs.declared.table.Sort.TheVariants.{Input, Output};
+ghost use Rattle.vlog_tree.specs.declared.table.NetKind.TheVariants.{Input, Output};
 ghost use Rattle.vlog_tree.specs.Form.{ModuleTree};
-ghost use Rattle.vlog_tree.specs.Table.{sort_of, port_declared};
+ghost use Rattle.vlog_tree.specs.Table.{net_kind_of, port_declared};
 ghost use Rattle.vlog_tree.specs.Loops.{Edges, Reaches};
 ghost use Rattle.vlog_graph.specs.Graphs.{IsGraphOf, mark_of};
 ghost use Rattle.vlog_comb_loops.specs.Growth.{Gathers};
@@ -16,7 +16,7 @@ use std::marker::Model;
 use tapa_base::Text;
 use vlog_graph::{Graph, is_marked, reach_from};
 use vlog_rules::{Library, Scope, copy_text};
-use vlog_tree::{Module, Sort};
+use vlog_tree::{Module, NetKind};
 
 /// Pairs of an output and an input on which it rests.
 #[derive(Drop)]
@@ -59,15 +59,15 @@ pub(crate) fn pairs_at(sums: &[Sum], place: usize) -> &[(Text, Text)]
 }
 
 fn is_output(ports: &Scope, name: &Text) -> bool
-    ensures { (result ≡ true) ↔ (sort_of ports.now name.now ≡ Output) }
+    ensures { (result ≡ true) ↔ (net_kind_of ports.now name.now ≡ Output) }
 {
-    matches!(ports.sort(name.bytes()), Sort::Output)
+    matches!(ports.net_kind(name.bytes()), NetKind::Output)
 }
 
 fn is_input(ports: &Scope, name: &Text) -> bool
-    ensures { (result ≡ true) ↔ (sort_of ports.now name.now ≡ Input) }
+    ensures { (result ≡ true) ↔ (net_kind_of ports.now name.now ≡ Input) }
 {
-    matches!(ports.sort(name.bytes()), Sort::Input)
+    matches!(ports.net_kind(name.bytes()), NetKind::Input)
 }
 
 // Puts a pair where the second is an input that is marked.
@@ -80,7 +80,7 @@ fn add_input(
     x: &Text,
     y: &Text,
 ) -> Result<(), AllocError>
-    requires { sort_of ports.now x.now ≡ Output }
+    requires { net_kind_of ports.now x.now ≡ Output }
     ensures { OnOk result ((edges : Edges) → ((z : List ℕ) → (mark_of graph.now marks.now z ≡ true) ↔ Reaches edges x.now z)
         → Gathers (IsPair edges ports.now) (λ a b. (a ≡ x.now) × (b ≡ y.now)) pairs.old.items pairs.new.items) }
 {
@@ -102,7 +102,7 @@ fn add_inputs(
     ports: &Scope,
     x: &Text,
 ) -> Result<(), AllocError>
-    requires { sort_of ports.now x.now ≡ Output }
+    requires { net_kind_of ports.now x.now ≡ Output }
     ensures { OnOk result ((edges : Edges) → ((z : List ℕ) → (mark_of graph.now marks.now z ≡ true) ↔ Reaches edges x.now z)
         → Gathers (IsPair edges ports.now) (λ a b. a ≡ x.now) pairs.old.items pairs.new.items) }
 {

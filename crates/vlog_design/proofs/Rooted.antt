@@ -12,7 +12,7 @@ use Rattle.vlog_tree.specs.Form.{ModuleTree}
 use Rattle.vlog_tree.specs.NameTable.{times_in}
 use Rattle.vlog_tree.specs.Table.{Name, NameUse, no, clk, first_violation, port_declared}
 use Rattle.vlog_tree.specs.Labels.{rst, done}
-use Rattle.vlog_tree.specs.V6.{module_children, contained_names, roots, first_name, is_top, has_port, top_ports, clock_links, is_whole_top, module_tops, v6_uses}
+use Rattle.vlog_tree.specs.V6.{module_children, contained_names, roots, first_name, is_top, has_port, top_ports, clock_connections, is_whole_top, module_tops, v6_uses}
 use Rattle.vlog_tree.specs.Loops.{one, more, Reaches, own_containment, containment, own_places, IsLoopless}
 use Rattle.vlog_comb_loops.proofs.Lists.{has_flat, of_flat, has_map}
 
@@ -152,7 +152,7 @@ whole_top : (ms : List ModuleTree) (m : ModuleTree) → first_violation (module_
 unfolding module_tops is_whole_top
 whole_top ms m e t =
     let ports = map port_declared m.ports in
-    let others = cond (is_top ms m.name) (top_ports ports [] m.ports) [] ++ flat_map clock_links m.items in
+    let others = cond (is_top ms m.name) (top_ports ports [] m.ports) [] ++ flat_map clock_connections m.items in
     let wrong = is_top ms m.name && no (is_whole_top ms ports) in
     let whole = then_whole (is_top ms m.name) (is_whole_top ms ports) (not_wrong wrong m.name others e) t in
     first_of_four (length (roots ms) == 1) (has_port ports clk) (has_port ports rst) (has_port ports done) whole

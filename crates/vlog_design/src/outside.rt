@@ -6,27 +6,30 @@ ghost use Rattle.std.specs.List.{flat_map};
 ghost use Rattle.vlog_tree.specs.Form.{ModuleTree};
 ghost use Rattle.vlog_tree.specs.NameTable.{CountsTo, times_in};
 ghost use Rattle.vlog_tree.specs.Table.{first_violation, port_declared};
-ghost use Rattle.vlog_tree.specs.V6.{contained_names, roots, first_name, is_top as is_top_lem, is_whole_top as is_whole_top_lem, top_ports, clock_link as clock_link_lem, clock_links as clock_links_lem, module_tops, v6_uses};
+ghost use Rattle.vlog_tree.specs.V6.{contained_names, roots, first_name, is_top as is_top_lem, is_whole_top as is_whole_top_lem, top_ports, clock_connection as clock_connection_lem, clock_connections as clock_connections_lem, module_tops, v6_uses};
 
 use crate::roots::{contained_counts, count_roots, first_root};
 use crate::top::{first_misfit_port, has_port};
 use std::alloc::{AllocError, Global};
 use tapa_base::Text;
 use vlog_rules::{Library, Scope, is_clock, named_if};
-use vlog_tree::{Item, Link, Module, PortDecl};
+use vlog_tree::{Connection, Item, Module, PortDecl};
 
-#[tactic(auto, unfolding(vlog_tree::specs::V6::clock_link))]
-fn clock_link(link: &Link) -> Option<&Text>
-    ensures { option_copied result ≡ first_violation (clock_link_lem link.now ∷ []) }
+#[tactic(auto, unfolding(vlog_tree::specs::V6::clock_connection))]
+fn clock_connection(connection: &Connection) -> Option<&Text>
+    ensures { option_copied result ≡ first_violation (clock_connection_lem connection.now ∷ []) }
 {
-    named_if(&link.port, is_clock(&link.port) && !is_clock(&link.net))
+    named_if(
+        &connection.port,
+        is_clock(&connection.port) && !is_clock(&connection.net),
+    )
 }
 
-fn links(links: &[Link]) -> Option<&Text>
-    ensures { option_copied result ≡ first_violation (map clock_link_lem links.now) }
+fn connections(connections: &[Connection]) -> Option<&Text>
+    ensures { option_copied result ≡ first_violation (map clock_connection_lem connections.now) }
 {
-    for l in links {
-        if let Some(x) = clock_link(l) {
+    for l in connections {
+        if let Some(x) = clock_connection(l) {
             return Some(x);
         }
     }
@@ -34,10 +37,10 @@ fn links(links: &[Link]) -> Option<&Text>
 }
 
 fn item(item: &Item) -> Option<&Text>
-    ensures { option_copied result ≡ first_violation (clock_links_lem item.now) }
+    ensures { option_copied result ≡ first_violation (clock_connections_lem item.now) }
 {
     match item {
-        Item::Instance(_, _, joins) => links(joins.links()),
+        Item::Instance(_, _, joins) => connections(joins.connections()),
         Item::Wire(_, _) => None,
         Item::Reg(_, _) => None,
         Item::Memory(_, _, _) => None,
@@ -47,7 +50,7 @@ fn item(item: &Item) -> Option<&Text>
 }
 
 fn items(items: &[Item]) -> Option<&Text>
-    ensures { option_copied result ≡ first_violation (flat_map clock_links_lem items.now) }
+    ensures { option_copied result ≡ first_violation (flat_map clock_connections_lem items.now) }
 {
     for i in items {
         if let Some(x) = item(i) {
@@ -99,7 +102,7 @@ fn ports_and_items<'a>(
     scope: &Scope,
     m: &'a Module,
 ) -> Result<Option<&'a Text>, AllocError>
-    ensures { IfOk result (λ o. option_copied o ≡ first_violation ((if top then top_ports scope.now [] m.now.ports else []) ++ flat_map clock_links_lem m.now.items)) }
+    ensures { IfOk result (λ o. option_copied o ≡ first_violation ((if top then top_ports scope.now [] m.now.ports else []) ++ flat_map clock_connections_lem m.now.items)) }
 {
     if let Some(x) = ports(alloc, top, scope, m.ports())? {
         return Ok(Some(x));
@@ -127,7 +130,7 @@ fn module_names<'a>(
     ports_and_items(alloc, top, &scope, m)
 }
 
-/// The first name in the text at which the top module, its ports or the link of a clock break the rule.
+/// The first name in the text at which the top module, its ports or the connection of a clock break the rule.
 pub fn first_misplaced(alloc: Global, library: &Library) -> Result<Option<&Text>, AllocError>
     ensures { IfOk result (λ o. option_copied o ≡ first_violation (v6_uses library.now)) }
 {

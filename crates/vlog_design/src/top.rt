@@ -34,7 +34,7 @@ fn is_done(name: &Text) -> bool
 pub(crate) fn has_port(ports: &Scope, name: &[u8]) -> bool
     ensures { result ≡ has_port_lem ports.now name.now }
 {
-    is_read(ports.sort(name))
+    is_read(ports.net_kind(name))
 }
 
 // Whether the five ports of a memory are there.

@@ -5,39 +5,41 @@ ghost use Rattle.std.specs.Option.{option_copied, option_map_or};
 ghost use Rattle.std.specs.List.{flat_map, list_any};
 ghost use Rattle.vlog_tree.specs.NameTable.{count_in, CountsTo, times_in};
 ghost use Rattle.vlog_tree.specs.Table.{first_violation, port_declared, declared, ports_of};
-ghost use Rattle.vlog_tree.specs.V4.{link_driven, line_driven, drives, one_if, step_assigns, is_block_of, breaks_driving as breaks_driving_lem, module_drives, v4_uses};
+ghost use Rattle.vlog_tree.specs.V4.{connection_driven, line_driven, drives, one_if, step_assigns, is_block_of, breaks_driving as breaks_driving_lem, module_drives, v4_uses};
 
 use std::alloc::{AllocError, Global};
 use tapa_base::Text;
 use vlog_rules::{Library, Scope, is_input, named_if};
-use vlog_tree::{Declaration, Item, Link, Module, NameCounts, Sort, Step, count_of, count_one};
+use vlog_tree::{
+    Connection, Declaration, Item, Module, NameCounts, NetKind, Step, count_of, count_one,
+};
 
-#[tactic(auto, using(vlog_rules::proofs::Counts::one_name_more, vlog_rules::proofs::Counts::no_name_more), unfolding(vlog_tree::specs::V4::link_driven))]
-fn count_link(
+#[tactic(auto, using(vlog_rules::proofs::Counts::one_name_more, vlog_rules::proofs::Counts::no_name_more), unfolding(vlog_tree::specs::V4::connection_driven))]
+fn count_connection(
     alloc: Global,
     counts: &mut NameCounts,
     ports: &Scope,
-    link: &Link,
+    connection: &Connection,
 ) -> Result<(), AllocError>
-    ensures { OnOk result ((names : List (List ℕ)) → CountsTo counts.old (times_in names) → CountsTo counts.new (times_in (names ++ link_driven ports.now link.now))) }
+    ensures { OnOk result ((names : List (List ℕ)) → CountsTo counts.old (times_in names) → CountsTo counts.new (times_in (names ++ connection_driven ports.now connection.now))) }
 {
-    if is_input(ports.find(&link.port).0) {
+    if is_input(ports.find(&connection.port).0) {
         Ok(())
     } else {
-        count_one(alloc, counts, link.net.bytes())
+        count_one(alloc, counts, connection.net.bytes())
     }
 }
 
-fn count_links(
+fn count_connections(
     alloc: Global,
     counts: &mut NameCounts,
     ports: &Scope,
-    links: &[Link],
+    connections: &[Connection],
 ) -> Result<(), AllocError>
-    ensures { OnOk result ((names : List (List ℕ)) → CountsTo counts.old (times_in names) → CountsTo counts.new (times_in (names ++ flat_map (link_driven ports.now) links.now))) }
+    ensures { OnOk result ((names : List (List ℕ)) → CountsTo counts.old (times_in names) → CountsTo counts.new (times_in (names ++ flat_map (connection_driven ports.now) connections.now))) }
 {
-    for l in links {
-        count_link(alloc, counts, ports, l)?;
+    for l in connections {
+        count_connection(alloc, counts, ports, l)?;
     }
     Ok(())
 }
@@ -53,8 +55,13 @@ fn count_line(
 {
     match item {
         Item::Assign(x, _) => count_one(alloc, counts, x.bytes()),
-        Item::Instance(m, _, links) => {
-            count_links(alloc, counts, library.ports_named(m), links.links())
+        Item::Instance(m, _, connections) => {
+            count_connections(
+                alloc,
+                counts,
+                library.ports_named(m),
+                connections.connections(),
+            )
         }
         Item::Wire(_, _) => Ok(()),
         Item::Reg(_, _) => Ok(()),
@@ -156,26 +163,26 @@ fn block_counts(alloc: Global, items: &[Item]) -> Result<NameCounts, AllocError>
 }
 
 #[tactic(auto, using(vlog_rules::proofs::Counts::none, vlog_rules::proofs::Counts::once, vlog_rules::proofs::Counts::twice))]
-fn breaks_driving(drives: usize, blocks: usize, sort: Sort) -> bool
-    ensures { (n k : ℕ) → drives ≡ min n 2 → blocks ≡ min k 2 → result ≡ breaks_driving_lem n k sort }
+fn breaks_driving(drives: usize, blocks: usize, net_kind: NetKind) -> bool
+    ensures { (n k : ℕ) → drives ≡ min n 2 → blocks ≡ min k 2 → result ≡ breaks_driving_lem n k net_kind }
 {
-    match sort {
-        Sort::Input => drives != 0,
-        Sort::Output => drives != 1,
-        Sort::WireNet => drives != 1,
-        Sort::Register => blocks >= 2,
-        Sort::MemoryArray => blocks >= 2,
-        Sort::ChildInstance => false,
-        Sort::Unknown => false,
+    match net_kind {
+        NetKind::Input => drives != 0,
+        NetKind::Output => drives != 1,
+        NetKind::WireNet => drives != 1,
+        NetKind::Register => blocks >= 2,
+        NetKind::MemoryArray => blocks >= 2,
+        NetKind::ChildInstance => false,
+        NetKind::Unknown => false,
     }
 }
 
 fn declaration<'a>(d: &'a Declaration, drives: &NameCounts, blocks: &NameCounts) -> Option<&'a Text>
-    ensures { (f g : List ℕ → ℕ) → CountsTo drives.now f → CountsTo blocks.now g → option_copied result ≡ first_violation ((d.now.name, breaks_driving_lem (f d.now.name) (g d.now.name) d.now.sort) ∷ []) }
+    ensures { (f g : List ℕ → ℕ) → CountsTo drives.now f → CountsTo blocks.now g → option_copied result ≡ first_violation ((d.now.name, breaks_driving_lem (f d.now.name) (g d.now.name) d.now.net_kind) ∷ []) }
 {
     let driven = count_of(drives, d.name.bytes());
     let assigned = count_of(blocks, d.name.bytes());
-    named_if(&d.name, breaks_driving(driven, assigned, d.sort))
+    named_if(&d.name, breaks_driving(driven, assigned, d.net_kind))
 }
 
 fn declarations<'a>(
@@ -183,7 +190,7 @@ fn declarations<'a>(
     drives: &NameCounts,
     blocks: &NameCounts,
 ) -> Option<&'a Text>
-    ensures { (f g : List ℕ → ℕ) → CountsTo drives.now f → CountsTo blocks.now g → option_copied result ≡ first_violation (map (λ d. (d.name, breaks_driving_lem (f d.name) (g d.name) d.sort)) declarations.now) }
+    ensures { (f g : List ℕ → ℕ) → CountsTo drives.now f → CountsTo blocks.now g → option_copied result ≡ first_violation (map (λ d. (d.name, breaks_driving_lem (f d.name) (g d.name) d.net_kind)) declarations.now) }
 {
     for d in declarations {
         if let Some(x) = declaration(d, drives, blocks) {

@@ -1,7 +1,7 @@
 -- Items and modules: no words spell two, so no text has two trees.
 use Rattle.std.proofs.Common.{◌≡◌, ℕ, ◌==◌, Bool, true, false, if◌then◌else◌, List, [], ◌∷◌, codes, bytes_eq, refl, sym, ap, subst, ◌∙◌, arith}
 use Rattle.std.specs.Bool.{⊤}
-use Rattle.vlog_tree.specs.declared.tree.Link.{Link}
+use Rattle.vlog_tree.specs.declared.tree.Connection.{Connection}
 use Rattle.vlog_tree.specs.declared.tree.Item.{Item}
 use Rattle.vlog_tree.specs.declared.tree.Item.TheVariants.{Wire, Reg, Memory, Assign, Always, Instance}
 use Rattle.vlog_tree.specs.declared.tree.PortDecl.{PortDecl}
@@ -10,24 +10,24 @@ use Rattle.vlog_tree.specs.Names.{IsName}
 use Rattle.vlog_tree.specs.Spelling.{Word}
 use Rattle.vlog_grammar.specs.Spans.{◌⨾◌, Each, Separated}
 use Rattle.vlog_grammar.specs.Lexemes.{Bytes}
-use Rattle.vlog_grammar.specs.Grammar.{SpellsName, SpellsLastOf, SpellsRange, SpellsValue, SpellsBlock, SpellsLink, SpellsItem, SpellsPort, SpellsModule, SpellsDesign, HasTree}
+use Rattle.vlog_grammar.specs.Grammar.{SpellsName, SpellsLastOf, SpellsRange, SpellsValue, SpellsBlock, SpellsConnection, SpellsItem, SpellsPort, SpellsModule, SpellsDesign, HasTree}
 use Rattle.vlog_grammar.proofs.Cuts.{one_list}
 use Rattle.vlog_grammar.proofs.OneAtom.{first, apart, names_no_keyword, same_first, same_rest, one_name, one_last, one_range}
 use Rattle.vlog_grammar.proofs.OneValue.{one_separated, unequal, one_value}
 use Rattle.vlog_grammar.proofs.OneBlock.{keywords, named_no, moved_name, differ, one_block}
 
--- ---- links and ports
+-- ---- connections and ports
 
-same_link : (l m : Link) → l.port ≡ m.port → l.net ≡ m.net → l ≡ m
-same_link l m p q = λ i. record { port = p i; net = q i }
+same_connection : (l m : Connection) → l.port ≡ m.port → l.net ≡ m.net → l ≡ m
+same_connection l m p q = λ i. record { port = p i; net = q i }
 
-one_link : (l m : Link) (i j k : List Word) → ⊤ → ⊤ → SpellsLink l i j → SpellsLink m i k → (l ≡ m) × (j ≡ k)
-one_link l m i j k _ _ (t, e, (u, p, (v, f, (w, q, g)))) (t1, e1, (u1, p1, (v1, f1, (w1, q1, g1)))) =
+one_connection : (l m : Connection) (i j k : List Word) → ⊤ → ⊤ → SpellsConnection l i j → SpellsConnection m i k → (l ≡ m) × (j ≡ k)
+one_connection l m i j k _ _ (t, e, (u, p, (v, f, (w, q, g)))) (t1, e1, (u1, p1, (v1, f1, (w1, q1, g1)))) =
     let et = same_rest (codes ".") (codes ".") i t t1 e e1 in
     let a = one_name l.port m.port t u u1 p (moved_name m.port t t1 u1 et p1) in
     let ev = same_rest (codes "(") (codes "(") u v v1 f (a.1 ∙ f1) in
     let b = one_name l.net m.net v w w1 q (moved_name m.net v v1 w1 ev q1) in
-    (same_link l m a.0 b.0, same_rest (codes ")") (codes ")") w j k g (b.1 ∙ g1))
+    (same_connection l m a.0 b.0, same_rest (codes ")") (codes ")") w j k g (b.1 ∙ g1))
 
 paren_no_comma : codes ")" ≡ codes "," → ⊥
 paren_no_comma e = apart (λ b. b == 41) (codes ")") (codes ",") refl refl e
@@ -62,7 +62,7 @@ shape (Reg bits x) = 1
 shape (Memory bits x cells) = 1
 shape (Assign x value) = 2
 shape (Always steps) = 3
-shape (Instance m x links) = 4
+shape (Instance m x connections) = 4
 
 named_shape : (x : List ℕ) → IsName x → shape_by x ≡ 4
 unfolding shape_by
@@ -81,7 +81,7 @@ item_shape (Reg bits x) i j (t, e, h) = ap (λ l. shape_by (first l)) e
 item_shape (Memory bits x cells) i j (t, e, h) = ap (λ l. shape_by (first l)) e
 item_shape (Assign x value) i j (t, e, h) = ap (λ l. shape_by (first l)) e
 item_shape (Always steps) i j (t, e, h) = ap (λ l. shape_by (first l)) e
-item_shape (Instance m x links) i j (t, (n, e), h) = ap (λ l. shape_by (first l)) e ∙ named_shape m n
+item_shape (Instance m x connections) i j (t, (n, e), h) = ap (λ l. shape_by (first l)) e ∙ named_shape m n
 
 -- a range and a name behind the same word
 declared : (w : Word) (a b : ℕ) (x y : List ℕ) (i t u v t1 u1 v1 : List Word) → i ≡ w ∷ t → SpellsRange a t u → SpellsName x u v → i ≡ w ∷ t1 → SpellsRange b t1 u1 → SpellsName y u1 v1 → (a ≡ b) × (x ≡ y) × (v ≡ v1)
@@ -128,9 +128,9 @@ by_shape (Instance m x ls) (Instance n y ms) i j k (t, p, (u, q, (v, f, (w, r, (
     let l = one_name m n i t t1 p p1 in
     let o = one_name x y t u u1 q (moved_name y t t1 u1 l.1 q1) in
     let ev = same_rest (codes "(") (codes "(") u v v1 f (o.1 ∙ f1) in
-    let a = subst (Separated (codes ",") SpellsLink ls v) g r in
-    let b = subst (λ (c : List Word). Separated (codes ",") SpellsLink ms c (codes ")" ∷ z1)) (sym ev) (subst (Separated (codes ",") SpellsLink ms v1) g1 r1) in
-    let d = one_separated SpellsLink (λ _. ⊤) one_link (codes ")") (λ _. tt) (λ _. tt) paren_no_comma ls ms v z z1 a b in
+    let a = subst (Separated (codes ",") SpellsConnection ls v) g r in
+    let b = subst (λ (c : List Word). Separated (codes ",") SpellsConnection ms c (codes ")" ∷ z1)) (sym ev) (subst (Separated (codes ",") SpellsConnection ms v1) g1 r1) in
+    let d = one_separated SpellsConnection (λ _. ⊤) one_connection (codes ")") (λ _. tt) (λ _. tt) paren_no_comma ls ms v z z1 a b in
     let em = l.0 in let ex = o.0 in let els = d.0 in (cc, same_rest (codes ";") (codes ";") z j k h (d.1 ∙ h1))
 by_shape x y i j k h g s = absurd (omega (arith, s))
 
@@ -144,7 +144,7 @@ item_no_end (Reg bits x) i j k (t, e, h) f = differ (λ b. b == 114) (codes "reg
 item_no_end (Memory bits x cells) i j k (t, e, h) f = differ (λ b. b == 114) (codes "reg") (codes "endmodule") i t k refl refl e f
 item_no_end (Assign x value) i j k (t, e, h) f = differ (λ b. b == 97) (codes "assign") (codes "endmodule") i t k refl refl e f
 item_no_end (Always steps) i j k (t, e, h) f = differ (λ b. b == 97) (codes "always") (codes "endmodule") i t k refl refl e f
-item_no_end (Instance m x links) i j k (t, n, h) f = named_no m (codes "endmodule") i t k keywords.no_endmodule n f
+item_no_end (Instance m x connections) i j k (t, n, h) f = named_no m (codes "endmodule") i t k keywords.no_endmodule n f
 
 one_items : (xs ys : List Item) (i j k : List Word) → Each SpellsItem xs i (codes "endmodule" ∷ j) → Each SpellsItem ys i (codes "endmodule" ∷ k) → (xs ≡ ys) × (j ≡ k)
 one_items [] [] i j k e f = (refl, same_rest (codes "endmodule") (codes "endmodule") i j k e f)

@@ -12,17 +12,17 @@ use Rattle.vlog_tree.specs.declared.tree.Value.{Value}
 use Rattle.vlog_tree.specs.declared.tree.Value.TheVariants.{Plain, Invert, Binary, Choose, Concat, Repeat, Cell}
 use Rattle.vlog_tree.specs.declared.tree.Step.{Step}
 use Rattle.vlog_tree.specs.declared.tree.Step.TheVariants.{If, Else, End}
-use Rattle.vlog_tree.specs.declared.tree.Link.{Link}
+use Rattle.vlog_tree.specs.declared.tree.Connection.{Connection}
 use Rattle.vlog_tree.specs.declared.tree.Item.{Item}
 use Rattle.vlog_tree.specs.declared.tree.Item.TheVariants.{Wire, Reg, Memory, Assign, Always, Instance}
 use Rattle.vlog_tree.specs.declared.tree.PortDecl.{PortDecl}
 use Rattle.vlog_tree.specs.Names.{IsName, has_name_form, starts_name, goes_on}
-use Rattle.vlog_tree.specs.Form.{ModuleTree, nested, is_atom, is_value, is_step, is_link, is_item, is_port, IsModule}
-use Rattle.vlog_tree.specs.Spelling.{Word, range_words, port_words, atom_words, op_word, more_words, with_commas, value_words, step_words, link_words, item_words, module_words, blank_page, spelling}
+use Rattle.vlog_tree.specs.Form.{ModuleTree, nested, is_atom, is_value, is_step, is_connection, is_item, is_port, IsModule}
+use Rattle.vlog_tree.specs.Spelling.{Word, range_words, port_words, atom_words, op_word, more_words, with_commas, value_words, step_words, connection_words, item_words, module_words, blank_page, spelling}
 use Rattle.vlog_grammar.specs.Spans.{Part, ◌⨾◌, ◌∣◌, Takes, TakesSome, Each, Separated, SeparatedTwo}
 use Rattle.vlog_grammar.specs.Numerals.{IsNumber, IsLiteral}
 use Rattle.vlog_grammar.specs.Lexemes.{signs, is_sign, is_sign_or_mark}
-use Rattle.vlog_grammar.specs.Grammar.{SpellsName, SpellsNumber, SpellsLastOf, SpellsRange, SpellsAtom, SpellsOperator, SpellsValue, Steps, no_step, if_only, if_else, assign, store, flat, SpellsCondition, SpellsSteps, SpellsBlock, SpellsLink, SpellsItem, SpellsPort, SpellsModule, SpellsDesign, HasTree}
+use Rattle.vlog_grammar.specs.Grammar.{SpellsName, SpellsNumber, SpellsLastOf, SpellsRange, SpellsAtom, SpellsOperator, SpellsValue, Steps, no_step, if_only, if_else, assign, store, flat, SpellsCondition, SpellsSteps, SpellsBlock, SpellsConnection, SpellsItem, SpellsPort, SpellsModule, SpellsDesign, HasTree}
 use Rattle.vlog_grammar.specs.Numbers.{atom_numbers, value_numbers, step_numbers, item_numbers, HasWrittenNumbers}
 use Rattle.vlog_grammar.proofs.Alone.{both, StandsAlone, name_form_alone, name_alone, number_alone, is_fixed_sign, sign_alone, decimal_number, decimal_alone, written, written_literal, written_alone}
 use Rattle.vlog_grammar.proofs.Laid.{page_words}
@@ -222,9 +222,9 @@ block b nests_well h = at (nests b nests_well)
 
 -- ---- items and modules
 
-link : (l : Link) → is_link l ≡ true → Small [] → Spelled (SpellsLink l) (link_words l)
+connection : (l : Connection) → is_connection l ≡ true → Small [] → Spelled (SpellsConnection l) (connection_words l)
 unfolding is_fixed_sign is_sign signs is_sign_or_mark
-link l h small = let k = both _ _ h in sign (codes ".") refl then name l.port k.0 then sign (codes "(") refl then name l.net k.1 then sign (codes ")") refl
+connection l h small = let k = both _ _ h in sign (codes ".") refl then name l.port k.0 then sign (codes "(") refl then name l.net k.1 then sign (codes ")") refl
 
 no_numbers : {A : Type 0} (xs : List A) → Small (flat_map (λ x. []) xs)
 no_numbers [] = tt
@@ -242,9 +242,9 @@ item (Assign x e) h small = let k = both _ _ h in keyword (codes "assign") refl 
 item (Always b) h small =
     let k = both _ _ h in
     keyword (codes "always") refl then sign (codes "@") refl then sign (codes "(") refl then keyword (codes "posedge") refl then keyword (codes "clk") refl then sign (codes ")") refl then block b k.0 (k.1, small)
-item (Instance m x links) h small =
+item (Instance m x connections) h small =
     let k = both _ _ h in let l = both _ _ k.0 in let n = both _ _ l.0 in
-    name m n.0 then name x n.1 then sign (codes "(") refl then separated is_link (λ l. []) SpellsLink link_words link links (at_least 1 (length links) l.1) k.1 (no_numbers links)
+    name m n.0 then name x n.1 then sign (codes "(") refl then separated is_connection (λ l. []) SpellsConnection connection_words connection connections (at_least 1 (length connections) l.1) k.1 (no_numbers connections)
     then sign (codes ")") refl then sign (codes ";") refl
 
 direction : (input : Bool) → Spelled (Takes (if input then codes "input" else codes "output")) ((if input then codes "input" else codes "output") ∷ [])

@@ -9,7 +9,7 @@ use Rattle.vlog_tree.specs.declared.tree.Value.{Value}
 use Rattle.vlog_tree.specs.declared.tree.Value.TheVariants.{Plain, Invert, Binary, Choose, Concat, Repeat, Cell}
 use Rattle.vlog_tree.specs.declared.tree.Step.{Step}
 use Rattle.vlog_tree.specs.declared.tree.Step.TheVariants.{If, Else, End, NonblockingAssign, MemoryAssign}
-use Rattle.vlog_tree.specs.declared.tree.Link.{Link}
+use Rattle.vlog_tree.specs.declared.tree.Connection.{Connection}
 use Rattle.vlog_tree.specs.declared.tree.Item.{Item}
 use Rattle.vlog_tree.specs.declared.tree.Item.TheVariants.{Wire, Reg, Memory, Assign, Always, Instance}
 use Rattle.vlog_tree.specs.declared.tree.PortDecl.{PortDecl}
@@ -111,8 +111,8 @@ SpellsBlock steps i j = (s : Steps) × (flat s ≡ steps) × (Takes (codes "begi
 -- ---- items (clauses 4, 6, 9 and 12)
 
 -- a port joined by its name (12.3.6)
-abbrev pub SpellsLink : Link → Part
-SpellsLink l = Takes (codes ".") ⨾ SpellsName l.port ⨾ Takes (codes "(") ⨾ SpellsName l.net ⨾ Takes (codes ")")
+abbrev pub SpellsConnection : Connection → Part
+SpellsConnection l = Takes (codes ".") ⨾ SpellsName l.port ⨾ Takes (codes "(") ⨾ SpellsName l.net ⨾ Takes (codes ")")
 
 -- nets (4.2), regs and memories (4.2.2, 4.9), continuous assignments (6.1), clocked blocks (9.9.2) and instances (12.1.2)
 abbrev pub SpellsItem : Item → Part
@@ -122,7 +122,7 @@ SpellsItem (Memory bits x cells) =
     Takes (codes "reg") ⨾ SpellsRange bits ⨾ SpellsName x ⨾ Takes (codes "[") ⨾ Takes (codes "0") ⨾ Takes (codes ":") ⨾ SpellsLastOf cells ⨾ Takes (codes "]") ⨾ Takes (codes ";")
 SpellsItem (Assign x value) = Takes (codes "assign") ⨾ SpellsName x ⨾ Takes (codes "=") ⨾ SpellsValue value ⨾ Takes (codes ";")
 SpellsItem (Always steps) = Takes (codes "always") ⨾ Takes (codes "@") ⨾ Takes (codes "(") ⨾ Takes (codes "posedge") ⨾ Takes (codes "clk") ⨾ Takes (codes ")") ⨾ SpellsBlock steps
-SpellsItem (Instance m x links) = SpellsName m ⨾ SpellsName x ⨾ Takes (codes "(") ⨾ Separated (codes ",") SpellsLink links ⨾ Takes (codes ")") ⨾ Takes (codes ";")
+SpellsItem (Instance m x connections) = SpellsName m ⨾ SpellsName x ⨾ Takes (codes "(") ⨾ Separated (codes ",") SpellsConnection connections ⨾ Takes (codes ")") ⨾ Takes (codes ";")
 
 -- ---- modules (clause 12)
 

@@ -38,7 +38,7 @@ item_numbers (Reg bits x) = bits ∷ []
 item_numbers (Memory bits x cells) = bits ∷ cells ∷ []
 item_numbers (Assign x value) = value_numbers value
 item_numbers (Always steps) = flat_map step_numbers steps
-item_numbers (Instance m x links) = []
+item_numbers (Instance m x connections) = []
 
 abbrev pub module_numbers : ModuleTree → List ℕ
 module_numbers m = flat_map (λ p. p.bits ∷ []) m.ports ++ flat_map item_numbers m.items

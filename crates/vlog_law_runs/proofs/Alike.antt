@@ -7,12 +7,12 @@ use Rattle.vlog_tree.specs.declared.tree.Step.{Step}
 use Rattle.vlog_tree.specs.declared.tree.Step.TheVariants.{If, Else, End, NonblockingAssign, MemoryAssign}
 use Rattle.vlog_tree.specs.declared.tree.Item.{Item}
 use Rattle.vlog_tree.specs.declared.tree.Item.TheVariants.{Wire, Reg, Memory, Assign, Always, Instance}
-use Rattle.vlog_tree.specs.declared.table.Sort.{Sort}
-use Rattle.vlog_tree.specs.declared.table.Sort.TheVariants.{Unknown, Input, Output, WireNet, Register, MemoryArray, ChildInstance}
+use Rattle.vlog_tree.specs.declared.table.NetKind.{NetKind}
+use Rattle.vlog_tree.specs.declared.table.NetKind.TheVariants.{Unknown, Input, Output, WireNet, Register, MemoryArray, ChildInstance}
 use Rattle.vlog_tree.specs.Form.{ModuleTree}
 use Rattle.vlog_tree.specs.Grounded.{Has}
 use Rattle.vlog_tree.specs.Cycle.{Cycle, Sizes, atom_value, put, store, run_steps, run_items}
-use Rattle.vlog_tree.specs.Table.{Name, NameUse, no, declared, sort_of, sort_is_read, sort_is_memory, is_clk, first_violation}
+use Rattle.vlog_tree.specs.Table.{Name, NameUse, no, declared, net_kind_of, net_kind_is_read, net_kind_is_memory, is_clk, first_violation}
 use Rattle.vlog_tree.specs.V2.{v2_uses, item_uses, step_uses, atom_uses, read_use, memory_use}
 use Rattle.vlog_comb_loops.proofs.Lists.{has_flat}
 use Rattle.vlog_law_runs.proofs.Sound.{item_right, atom_read, both_false, not_no}
@@ -20,10 +20,10 @@ use Rattle.vlog_law_runs.proofs.Values.{atom_same}
 
 -- the same numbers at the nets that can be read, and at the cells that are there
 pub record Alike (m : ModuleTree) (s : Sizes) (c d : Cycle) : Type 0 where
-  pub nets : (x : Name) → sort_is_read (sort_of (declared m) x) ≡ true → is_clk x ≡ false → c.net x ≡ d.net x
-  pub cells : (x : Name) → sort_of (declared m) x ≡ MemoryArray → (a : ℕ) → a < s.cells x → c.cell x a ≡ d.cell x a
+  pub nets : (x : Name) → net_kind_is_read (net_kind_of (declared m) x) ≡ true → is_clk x ≡ false → c.net x ≡ d.net x
+  pub cells : (x : Name) → net_kind_of (declared m) x ≡ MemoryArray → (a : ℕ) → a < s.cells x → c.cell x a ≡ d.cell x a
 
-pub memory_is : (s : Sort) → sort_is_memory s ≡ true → s ≡ MemoryArray
+pub memory_is : (s : NetKind) → net_kind_is_memory s ≡ true → s ≡ MemoryArray
 memory_is Unknown h = cc
 memory_is Input h = cc
 memory_is Output h = cc
@@ -36,14 +36,14 @@ both_ways : (b : Bool) (n k p q : ℕ) → n ≡ k → p ≡ q → cond b n p �
 both_ways true n k p q e f = e
 both_ways false n k p q e f = f
 
-module _ (m : ModuleTree) (s t : Sizes) (same_cells : (x : Name) → sort_of (declared m) x ≡ MemoryArray → s.cells x ≡ t.cells x) where
+module _ (m : ModuleTree) (s t : Sizes) (same_cells : (x : Name) → net_kind_of (declared m) x ≡ MemoryArray → s.cells x ≡ t.cells x) where
   put_alike : (c d : Cycle) (x : Name) (n k : ℕ) → n ≡ k → Alike m s c d → Alike m s (put x n c) (put x k d)
   put_alike c d x n k e a = record { nets = λ y r f. both_ways (bytes_eq y x) n k (c.net y) (d.net y) e (a.nets y r f); cells = a.cells }
 
   abbrev hits : Name → Name → ℕ → ℕ → ℕ → Bool
   hits y x e a n = bytes_eq y x && (e == a) && nat_lt a n
 
-  store_alike : (c d : Cycle) (x : Name) (a b n k : ℕ) → sort_of (declared m) x ≡ MemoryArray → a ≡ b → n ≡ k → Alike m s c d → Alike m s (store s x a n c) (store t x b k d)
+  store_alike : (c d : Cycle) (x : Name) (a b n k : ℕ) → net_kind_of (declared m) x ≡ MemoryArray → a ≡ b → n ≡ k → Alike m s c d → Alike m s (store s x a n c) (store t x b k d)
   store_alike c d x a b n k memory same e al = record {
     nets = al.nets;
     cells = λ y r i low.
@@ -56,12 +56,12 @@ module _ (m : ModuleTree) (s t : Sizes) (same_cells : (x : Name) → sort_of (de
   either_alike true c d c' d' h k = h
   either_alike false c d c' d' h k = k
 
-  module _ (old old' : Cycle) (alike : (x : Name) → sort_is_read (sort_of (declared m) x) ≡ true → is_clk x ≡ false → old.net x ≡ old'.net x) where
+  module _ (old old' : Cycle) (alike : (x : Name) → net_kind_is_read (net_kind_of (declared m) x) ≡ true → is_clk x ≡ false → old.net x ≡ old'.net x) where
     abbrev IsRight : List NameUse → Type 0
     IsRight us = (u : NameUse) → Has us u → u.1 ≡ false
 
     read_same : (x : Name) → (read_use (declared m) x).1 ≡ false → old.net x ≡ old'.net x
-    read_same x h = let p = both_false (no (sort_is_read (sort_of (declared m) x))) (is_clk x) h in alike x (not_no _ p.0) p.1
+    read_same x h = let p = both_false (no (net_kind_is_read (net_kind_of (declared m) x))) (is_clk x) h in alike x (not_no _ p.0) p.1
 
     atom_alike : (a : Atom) → IsRight (atom_uses (declared m) a) → atom_value old a ≡ atom_value old' a
     atom_alike a f = atom_same old old' a (λ z h. read_same z (f (read_use (declared m) z) (atom_read (declared m) a z h)))
@@ -103,7 +103,7 @@ module _ (m : ModuleTree) (s t : Sizes) (same_cells : (x : Name) → sort_of (de
       lines_alike (Reg w x ∷ items) f c d a = lines_alike items (λ it h. f it (inr h)) c d a
       lines_alike (Memory w x n ∷ items) f c d a = lines_alike items (λ it h. f it (inr h)) c d a
       lines_alike (Assign x e ∷ items) f c d a = lines_alike items (λ it h. f it (inr h)) c d a
-      lines_alike (Instance k i links ∷ items) f c d a = lines_alike items (λ it h. f it (inr h)) c d a
+      lines_alike (Instance k i connections ∷ items) f c d a = lines_alike items (λ it h. f it (inr h)) c d a
 
       pub items_alike : Alike m s old old' → Alike m s (run_items s old m.items old) (run_items t old' m.items old')
       items_alike a = lines_alike m.items (λ it h. h) old old' a

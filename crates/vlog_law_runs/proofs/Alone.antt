@@ -5,7 +5,7 @@ use Rattle.std.specs.List.{flat_map}
 use Rattle.std.specs.Cmp.Lexicographic.{bytes_decides}
 use Rattle.std.proofs.lemmas.List.Sums.{sum_by-append, sum_by-cons}
 use Rattle.std.proofs.lemmas.Bool.Decides.{nat_tests}
-use Rattle.vlog_tree.specs.declared.tree.Link.{Link}
+use Rattle.vlog_tree.specs.declared.tree.Connection.{Connection}
 use Rattle.vlog_tree.specs.declared.tree.Item.{Item}
 use Rattle.vlog_tree.specs.declared.tree.Item.TheVariants.{Wire, Reg, Memory, Assign, Always, Instance}
 use Rattle.vlog_tree.specs.declared.table.Declaration.{Declaration}
@@ -14,13 +14,13 @@ use Rattle.vlog_tree.specs.Grounded.{Has}
 use Rattle.vlog_tree.specs.Cycle.{module_named, child_of}
 use Rattle.vlog_tree.specs.Table.{find_name, Name, no, is_clk, declared, port_declared, items_declared, ports_of, is_module, is_doubled_name, first_violation}
 use Rattle.vlog_tree.specs.V4.{one_if}
-use Rattle.vlog_tree.specs.V2.{v2_uses, item_uses, instance_uses, inner_use, all_linked}
+use Rattle.vlog_tree.specs.V2.{v2_uses, item_uses, instance_uses, inner_use, all_connected}
 use Rattle.vlog_tree.specs.Loops.{item_instances}
 use Rattle.vlog_comb_loops.proofs.Lists.{of_flat, of_map}
 use Rattle.vlog_graph.proofs.Numbered.{has_left, has_right, has_split}
 use Rattle.vlog_tree.proofs.Walks.{items_declared-cons}
 use Rattle.vlog_tree.specs.declared.tree.PortDecl.{PortDecl}
-use Rattle.vlog_tree.specs.declared.table.Sort.TheVariants.{WireNet, Register, MemoryArray, ChildInstance}
+use Rattle.vlog_tree.specs.declared.table.NetKind.TheVariants.{WireNet, Register, MemoryArray, ChildInstance}
 use Rattle.vlog_law_runs.proofs.Sound.{item_right, port_right, both_false, true_not_false, not_no}
 
 pub same_name : (x : Name) → bytes_eq x x ≡ true
@@ -67,7 +67,7 @@ below_two n h = grind (arith, nat_tests)
 
 -- whether a line declares a name
 abbrev pub declares : Name → Item → Bool
-declares x (Instance m i links) = bytes_eq i x
+declares x (Instance m i connections) = bytes_eq i x
 declares x (Wire w y) = bytes_eq y x
 declares x (Reg w y) = bytes_eq y x
 declares x (Memory w y n) = bytes_eq y x
@@ -97,34 +97,34 @@ module _ (x : Name) where
 
   lines_few : (items : List Item) → count_by (declares x) items ≤ count_by has_name (items_declared items)
   lines_few [] = omega arith
-  lines_few (Instance m i links ∷ items) = few_more (declares x) has_name (Instance m i links) items (record { name = i; sort = ChildInstance; bits = 0 }) (items_declared items) (λ e. e) (lines_few items)
-  lines_few (Wire w y ∷ items) = few_more (declares x) has_name (Wire w y) items (record { name = y; sort = WireNet; bits = w }) (items_declared items) (λ e. e) (lines_few items)
-  lines_few (Reg w y ∷ items) = few_more (declares x) has_name (Reg w y) items (record { name = y; sort = Register; bits = w }) (items_declared items) (λ e. e) (lines_few items)
-  lines_few (Memory w y n ∷ items) = few_more (declares x) has_name (Memory w y n) items (record { name = y; sort = MemoryArray; bits = w }) (items_declared items) (λ e. e) (lines_few items)
+  lines_few (Instance m i connections ∷ items) = few_more (declares x) has_name (Instance m i connections) items (record { name = i; net_kind = ChildInstance; bits = 0 }) (items_declared items) (λ e. e) (lines_few items)
+  lines_few (Wire w y ∷ items) = few_more (declares x) has_name (Wire w y) items (record { name = y; net_kind = WireNet; bits = w }) (items_declared items) (λ e. e) (lines_few items)
+  lines_few (Reg w y ∷ items) = few_more (declares x) has_name (Reg w y) items (record { name = y; net_kind = Register; bits = w }) (items_declared items) (λ e. e) (lines_few items)
+  lines_few (Memory w y n ∷ items) = few_more (declares x) has_name (Memory w y n) items (record { name = y; net_kind = MemoryArray; bits = w }) (items_declared items) (λ e. e) (lines_few items)
   lines_few (Assign y e ∷ items) = few_same (declares x) has_name (Assign y e) items (items_declared items) refl (lines_few items)
   lines_few (Always b ∷ items) = few_same (declares x) has_name (Always b) items (items_declared items) refl (lines_few items)
 
-child_first : (items : List Item) (kn j i : Name) (m : Name) (links : List Link) (b : Bool) → bytes_eq j i ≡ b → ((n : Name) × (ls : List Link) × Has items (Instance n i ls) × (child_of items i ≡ Some n))
-    → (n : Name) × (ls : List Link) × Has {N = Item} (Instance m j links ∷ items) (Instance n i ls) × (cond b (Some m) (child_of items i) ≡ Some n)
-child_first items kn j i m links true e r = (m, links, inl (ap (λ z. Instance m z links) ((bytes_decides j i).0 e)), refl)
-child_first items kn j i m links false e r = (r.0, r.1, inr r.2, r.3)
+child_first : (items : List Item) (kn j i : Name) (m : Name) (connections : List Connection) (b : Bool) → bytes_eq j i ≡ b → ((n : Name) × (ls : List Connection) × Has items (Instance n i ls) × (child_of items i ≡ Some n))
+    → (n : Name) × (ls : List Connection) × Has {N = Item} (Instance m j connections ∷ items) (Instance n i ls) × (cond b (Some m) (child_of items i) ≡ Some n)
+child_first items kn j i m connections true e r = (m, connections, inl (ap (λ z. Instance m z connections) ((bytes_decides j i).0 e)), refl)
+child_first items kn j i m connections false e r = (r.0, r.1, inr r.2, r.3)
 
-child_found : (items : List Item) (kn i : Name) (links : List Link) → Has items (Instance kn i links) → (n : Name) × (ls : List Link) × Has items (Instance n i ls) × (child_of items i ≡ Some n)
-child_found [] kn i links h = absurd h
-child_found (Instance m j ls ∷ items) kn i links (inl e) =
+child_found : (items : List Item) (kn i : Name) (connections : List Connection) → Has items (Instance kn i connections) → (n : Name) × (ls : List Connection) × Has items (Instance n i ls) × (child_of items i ≡ Some n)
+child_found [] kn i connections h = absurd h
+child_found (Instance m j ls ∷ items) kn i connections (inl e) =
     let same : i ≡ j = cc e in
     (m, ls, inl (ap (λ z. Instance m z ls) (sym same)), ap (λ b. cond b (Some m) (child_of items i)) ((bytes_decides j i).1 (sym same)))
-child_found (Instance m j ls ∷ items) kn i links (inr h) = child_first items kn j i m ls (bytes_eq j i) refl (child_found items kn i links h)
-child_found (Wire w y ∷ items) kn i links (inl e) = cc
-child_found (Wire w y ∷ items) kn i links (inr h) = let r = child_found items kn i links h in (r.0, r.1, inr r.2, r.3)
-child_found (Reg w y ∷ items) kn i links (inl e) = cc
-child_found (Reg w y ∷ items) kn i links (inr h) = let r = child_found items kn i links h in (r.0, r.1, inr r.2, r.3)
-child_found (Memory w y n ∷ items) kn i links (inl e) = cc
-child_found (Memory w y n ∷ items) kn i links (inr h) = let r = child_found items kn i links h in (r.0, r.1, inr r.2, r.3)
-child_found (Assign y v ∷ items) kn i links (inl e) = cc
-child_found (Assign y v ∷ items) kn i links (inr h) = let r = child_found items kn i links h in (r.0, r.1, inr r.2, r.3)
-child_found (Always b ∷ items) kn i links (inl e) = cc
-child_found (Always b ∷ items) kn i links (inr h) = let r = child_found items kn i links h in (r.0, r.1, inr r.2, r.3)
+child_found (Instance m j ls ∷ items) kn i connections (inr h) = child_first items kn j i m ls (bytes_eq j i) refl (child_found items kn i connections h)
+child_found (Wire w y ∷ items) kn i connections (inl e) = cc
+child_found (Wire w y ∷ items) kn i connections (inr h) = let r = child_found items kn i connections h in (r.0, r.1, inr r.2, r.3)
+child_found (Reg w y ∷ items) kn i connections (inl e) = cc
+child_found (Reg w y ∷ items) kn i connections (inr h) = let r = child_found items kn i connections h in (r.0, r.1, inr r.2, r.3)
+child_found (Memory w y n ∷ items) kn i connections (inl e) = cc
+child_found (Memory w y n ∷ items) kn i connections (inr h) = let r = child_found items kn i connections h in (r.0, r.1, inr r.2, r.3)
+child_found (Assign y v ∷ items) kn i connections (inl e) = cc
+child_found (Assign y v ∷ items) kn i connections (inr h) = let r = child_found items kn i connections h in (r.0, r.1, inr r.2, r.3)
+child_found (Always b ∷ items) kn i connections (inl e) = cc
+child_found (Always b ∷ items) kn i connections (inr h) = let r = child_found items kn i connections h in (r.0, r.1, inr r.2, r.3)
 
 pub of_items : (items : List Item) (d : Declaration) → Has (items_declared items) d → (it : Item) × Has items it × Has (items_declared (it ∷ [])) d
 of_items [] d h = absurd h
@@ -158,15 +158,15 @@ module _ (ms : List ModuleTree) (names : first_violation (v2_uses ms) ≡ None) 
       let few : count_by (declares x) m.items ≤ count_by (λ (d : Declaration). bytes_eq d.name x) (items_declared m.items) = lines_few x m.items in
       omega arith
 
-  pub instance_single : (kn i : Name) (links : List Link) → Has m.items (Instance kn i links) → (is_doubled_name (declared m) i ≡ false) × (all_linked (map port_declared (ports_of ms kn)) links ≡ true)
+  pub instance_single : (kn i : Name) (connections : List Connection) → Has m.items (Instance kn i connections) → (is_doubled_name (declared m) i ≡ false) × (all_connected (map port_declared (ports_of ms kn)) connections ≡ true)
   unfolding item_uses instance_uses
-  instance_single kn i links has =
-      let u = item_right ms names m in_ms (Instance kn i links) has (i, is_doubled_name (declared m) i || is_clk i || no (all_linked (map port_declared (ports_of ms kn)) links)) (inr (inl refl)) in
-      let v = both_false (is_doubled_name (declared m) i || is_clk i) (no (all_linked (map port_declared (ports_of ms kn)) links)) u in
+  instance_single kn i connections has =
+      let u = item_right ms names m in_ms (Instance kn i connections) has (i, is_doubled_name (declared m) i || is_clk i || no (all_connected (map port_declared (ports_of ms kn)) connections)) (inr (inl refl)) in
+      let v = both_false (is_doubled_name (declared m) i || is_clk i) (no (all_connected (map port_declared (ports_of ms kn)) connections)) u in
       ((both_false (is_doubled_name (declared m) i) (is_clk i) v.0).0, not_no _ v.1)
 
-  few_instances : (kn i : Name) (links : List Link) → Has m.items (Instance kn i links) → count_by (declares i) m.items < 2
-  few_instances kn i links has = few_lines i (instance_single kn i links has).0
+  few_instances : (kn i : Name) (connections : List Connection) → Has m.items (Instance kn i connections) → count_by (declares i) m.items < 2
+  few_instances kn i connections has = few_lines i (instance_single kn i connections has).0
 
   wire_single : (w : ℕ) (x : Name) → Has m.items (Wire w x) → is_doubled_name (declared m) x ≡ false
   unfolding item_uses
@@ -200,8 +200,8 @@ module _ (ms : List ModuleTree) (names : first_violation (v2_uses ms) ≡ None) 
   line_single (Reg w x) has d (inr h) = absurd h
   line_single (Memory w x n) has d (inl e) = subst (λ (d : Declaration). is_doubled_name (declared m) d.name ≡ false) e (memory_single w x n has)
   line_single (Memory w x n) has d (inr h) = absurd h
-  line_single (Instance kn i links) has d (inl e) = subst (λ (d : Declaration). is_doubled_name (declared m) d.name ≡ false) e (instance_single kn i links has).0
-  line_single (Instance kn i links) has d (inr h) = absurd h
+  line_single (Instance kn i connections) has d (inl e) = subst (λ (d : Declaration). is_doubled_name (declared m) d.name ≡ false) e (instance_single kn i connections has).0
+  line_single (Instance kn i connections) has d (inr h) = absurd h
   line_single (Assign x e) has d h = absurd h
   line_single (Always b) has d h = absurd h
 
@@ -219,21 +219,21 @@ module _ (ms : List ModuleTree) (names : first_violation (v2_uses ms) ≡ None) 
       alone (λ (k : Declaration). bytes_eq k.name d.name) (declared m) (find_name (declared m) d.name) d f.0 h f.1 (same_name d.name) (below_two _ (declared_once d h))
 
   -- a module has one instance of a name
-  pub one_instance : (kn kn' i : Name) (links links' : List Link) → Has m.items (Instance kn i links) → Has m.items (Instance kn' i links') → (kn ≡ kn') × (links ≡ links')
-  one_instance kn kn' i links links' h k =
-      let e : Instance kn i links ≡ Instance kn' i links' = alone (declares i) m.items (Instance kn i links) (Instance kn' i links') h k (same_name i) (same_name i) (few_instances kn i links h) in
+  pub one_instance : (kn kn' i : Name) (connections links' : List Connection) → Has m.items (Instance kn i connections) → Has m.items (Instance kn' i links') → (kn ≡ kn') × (connections ≡ links')
+  one_instance kn kn' i connections links' h k =
+      let e : Instance kn i connections ≡ Instance kn' i links' = alone (declares i) m.items (Instance kn i connections) (Instance kn' i links') h k (same_name i) (same_name i) (few_instances kn i connections h) in
       (cc e, cc e)
 
-  pub child_is : (kn i : Name) (links : List Link) → Has m.items (Instance kn i links) → child_of m.items i ≡ Some kn
-  child_is kn i links has =
-      let r = child_found m.items kn i links has in
-      r.3 ∙ ap (λ n. Some n) (one_instance r.0 kn i r.1 links r.2 has).0
+  pub child_is : (kn i : Name) (connections : List Connection) → Has m.items (Instance kn i connections) → child_of m.items i ≡ Some kn
+  child_is kn i connections has =
+      let r = child_found m.items kn i connections has in
+      r.3 ∙ ap (λ n. Some n) (one_instance r.0 kn i r.1 connections r.2 has).0
 
-pub instance_item : (items : List Item) (kn i : Name) → Has (flat_map item_instances items) (kn, i) → (links : List Link) × Has items (Instance kn i links)
+pub instance_item : (items : List Item) (kn i : Name) → Has (flat_map item_instances items) (kn, i) → (connections : List Connection) × Has items (Instance kn i connections)
 instance_item items kn i h = let t = of_flat item_instances items (kn, i) h in instance_of t.0 t.1 t.2 where
-  instance_of : (it : Item) → Has items it → Has (item_instances it) (kn, i) → (links : List Link) × Has items (Instance kn i links)
-  instance_of (Instance m j links) has (inl e) = (links, subst (λ (q : Name × Name). Has items (Instance q.0 q.1 links)) e has)
-  instance_of (Instance m j links) has (inr k) = absurd k
+  instance_of : (it : Item) → Has items it → Has (item_instances it) (kn, i) → (connections : List Connection) × Has items (Instance kn i connections)
+  instance_of (Instance m j connections) has (inl e) = (connections, subst (λ (q : Name × Name). Has items (Instance q.0 q.1 connections)) e has)
+  instance_of (Instance m j connections) has (inr k) = absurd k
   instance_of (Wire w y) has k = absurd k
   instance_of (Reg w y) has k = absurd k
   instance_of (Memory w y n) has k = absurd k

@@ -5,17 +5,17 @@ use Rattle.std.specs.List.{flat_map}
 use Rattle.std.specs.Cmp.Lexicographic.{bytes_decides}
 use Rattle.std.proofs.lemmas.Bool.Decides.{nat_tests}
 use Rattle.vlog_tree.specs.declared.tree.Value.{Value}
-use Rattle.vlog_tree.specs.declared.tree.Link.{Link}
+use Rattle.vlog_tree.specs.declared.tree.Connection.{Connection}
 use Rattle.vlog_tree.specs.declared.tree.Item.{Item}
 use Rattle.vlog_tree.specs.declared.tree.Item.TheVariants.{Wire, Reg, Memory, Assign, Always, Instance}
 use Rattle.vlog_tree.specs.declared.table.Declaration.{Declaration}
-use Rattle.vlog_tree.specs.declared.table.Sort.{Sort}
-use Rattle.vlog_tree.specs.declared.table.Sort.TheVariants.{Unknown, Input, Output, WireNet, Register, MemoryArray, ChildInstance}
+use Rattle.vlog_tree.specs.declared.table.NetKind.{NetKind}
+use Rattle.vlog_tree.specs.declared.table.NetKind.TheVariants.{Unknown, Input, Output, WireNet, Register, MemoryArray, ChildInstance}
 use Rattle.vlog_tree.specs.Form.{ModuleTree}
 use Rattle.vlog_tree.specs.Grounded.{Has}
 use Rattle.vlog_tree.specs.NameTable.{times_in}
-use Rattle.vlog_tree.specs.Table.{Name, no, declared, port_declared, find_name, sort_of, sort_is_driven, sort_is_input, ports_of, first_violation}
-use Rattle.vlog_tree.specs.V4.{one_if, link_driven, line_driven, drives, is_block_of, breaks_driving, driving_use, module_drives, v4_uses}
+use Rattle.vlog_tree.specs.Table.{Name, no, declared, port_declared, find_name, net_kind_of, net_kind_is_driven, net_kind_is_input, ports_of, first_violation}
+use Rattle.vlog_tree.specs.V4.{one_if, connection_driven, line_driven, drives, is_block_of, breaks_driving, driving_use, module_drives, v4_uses}
 use Rattle.vlog_comb_loops.proofs.Lists.{has_flat, of_flat, has_map}
 use Rattle.vlog_law_runs.proofs.Sound.{right}
 use Rattle.vlog_law_runs.proofs.Alone.{count_cons, counted, alone, same_name}
@@ -26,12 +26,12 @@ pub data Source : Type 0 where
   value : Value → Source
   output : Name → Name → Source
 
-abbrev pub link_source : List Declaration → Name → Link → List (Name × Source)
-link_source ports i l = if sort_is_input (sort_of ports l.port) then [] else (l.net, output i l.port) ∷ []
+abbrev pub connection_source : List Declaration → Name → Connection → List (Name × Source)
+connection_source ports i l = if net_kind_is_input (net_kind_of ports l.port) then [] else (l.net, output i l.port) ∷ []
 
 abbrev pub line_sources : List ModuleTree → Item → List (Name × Source)
 line_sources ms (Assign x e) = (x, value e) ∷ []
-line_sources ms (Instance m i links) = flat_map (link_source (map port_declared (ports_of ms m)) i) links
+line_sources ms (Instance m i connections) = flat_map (connection_source (map port_declared (ports_of ms m)) i) connections
 line_sources ms (Wire w y) = []
 line_sources ms (Reg w y) = []
 line_sources ms (Memory w y n) = []
@@ -109,16 +109,16 @@ map_flat f g k e (x ∷ xs) = map_both f (g x) (flat_map g xs) ∙ ap (λ l. l +
 abbrev source_name : Name × Source → Name
 source_name s = s.0
 
-link_names : (ports : List Declaration) (i : Name) (l : Link) → map source_name (link_source ports i l) ≡ link_driven ports l
-unfolding link_driven
-link_names ports i l = by_test (sort_is_input (sort_of ports l.port)) where
+connection_names : (ports : List Declaration) (i : Name) (l : Connection) → map source_name (connection_source ports i l) ≡ connection_driven ports l
+unfolding connection_driven
+connection_names ports i l = by_test (net_kind_is_input (net_kind_of ports l.port)) where
   by_test : (b : Bool) → ◌≡◌ {A = List Name} (map source_name (cond b [] ((l.net, output i l.port) ∷ []))) (cond b [] (l.net ∷ []))
   by_test true = refl
   by_test false = refl
 
 line_names : (ms : List ModuleTree) (it : Item) → map source_name (line_sources ms it) ≡ line_driven ms it
 line_names ms (Assign x e) = refl
-line_names ms (Instance m i links) = map_flat source_name (link_source (map port_declared (ports_of ms m)) i) (link_driven (map port_declared (ports_of ms m))) (link_names (map port_declared (ports_of ms m)) i) links
+line_names ms (Instance m i connections) = map_flat source_name (connection_source (map port_declared (ports_of ms m)) i) (connection_driven (map port_declared (ports_of ms m))) (connection_names (map port_declared (ports_of ms m)) i) connections
 line_names ms (Wire w y) = refl
 line_names ms (Reg w y) = refl
 line_names ms (Memory w y n) = refl
@@ -135,8 +135,8 @@ value_line ms (Assign y f) x e (inl p) = by_parts (ap (λ (q : Name × Source). 
   by_parts : y ≡ x → value f ≡ value e → Assign y f ≡ Assign x e
   by_parts a b = cc
 value_line ms (Assign y f) x e (inr h) = absurd h
-value_line ms (Instance m i links) x e h = let t = of_flat (link_source (map port_declared (ports_of ms m)) i) links (x, value e) h in by_test t.0 (sort_is_input (sort_of (map port_declared (ports_of ms m)) t.0.port)) t.2 where
-  by_test : (l : Link) (b : Bool) → Has {N = Name × Source} (cond b [] ((l.net, output i l.port) ∷ [])) (x, value e) → Instance m i links ≡ Assign x e
+value_line ms (Instance m i connections) x e h = let t = of_flat (connection_source (map port_declared (ports_of ms m)) i) connections (x, value e) h in by_test t.0 (net_kind_is_input (net_kind_of (map port_declared (ports_of ms m)) t.0.port)) t.2 where
+  by_test : (l : Connection) (b : Bool) → Has {N = Name × Source} (cond b [] ((l.net, output i l.port) ∷ [])) (x, value e) → Instance m i connections ≡ Assign x e
   by_test l true h = absurd h
   by_test l false (inl p) = let q : output i l.port ≡ value e = ap (λ (q : Name × Source). q.1) p in cc
   by_test l false (inr h) = absurd h
@@ -145,41 +145,41 @@ value_line ms (Reg w y) x e h = absurd h
 value_line ms (Memory w y n) x e h = absurd h
 value_line ms (Always b) x e h = absurd h
 
--- the link of a port that drives a net
+-- the connection of a port that drives a net
 pub record IsDrivenBy (ms : List ModuleTree) (items : List Item) (x i p : Name) : Type 0 where
   pub kn : Name
-  pub links : List Link
-  pub has : Has items (Instance kn i links)
-  pub link : Link
-  pub linked : Has links link
-  pub net : link.net ≡ x
-  pub port : link.port ≡ p
-  pub output : sort_is_input (sort_of (map port_declared (ports_of ms kn)) link.port) ≡ false
+  pub connections : List Connection
+  pub has : Has items (Instance kn i connections)
+  pub connection : Connection
+  pub connected : Has connections connection
+  pub net : connection.net ≡ x
+  pub port : connection.port ≡ p
+  pub output : net_kind_is_input (net_kind_of (map port_declared (ports_of ms kn)) connection.port) ≡ false
 
-output_link : (ms : List ModuleTree) (items : List Item) (kn j : Name) (links : List Link) → Has items (Instance kn j links) → (x i p : Name) (l : Link) → Has links l → (b : Bool) → sort_is_input (sort_of (map port_declared (ports_of ms kn)) l.port) ≡ b
+output_connection : (ms : List ModuleTree) (items : List Item) (kn j : Name) (connections : List Connection) → Has items (Instance kn j connections) → (x i p : Name) (l : Connection) → Has connections l → (b : Bool) → net_kind_is_input (net_kind_of (map port_declared (ports_of ms kn)) l.port) ≡ b
     → Has {N = Name × Source} (cond b [] ((l.net, output j l.port) ∷ [])) (x, output i p) → IsDrivenBy ms items x i p
-output_link ms items kn j links has x i p l h true e k = absurd k
-output_link ms items kn j links has x i p l h false e (inl q) =
+output_connection ms items kn j connections has x i p l h true e k = absurd k
+output_connection ms items kn j connections has x i p l h false e (inl q) =
     let s : output j l.port ≡ output i p = ap (λ (q : Name × Source). q.1) q in
     let same : j ≡ i = cc s in
     record {
       kn = kn;
-      links = links;
-      has = subst (λ z. Has items (Instance kn z links)) same has;
-      link = l;
-      linked = h;
+      connections = connections;
+      has = subst (λ z. Has items (Instance kn z connections)) same has;
+      connection = l;
+      connected = h;
       net = ap (λ (q : Name × Source). q.0) q;
       port = cc s;
       output = e;
     }
-output_link ms items kn j links has x i p l h false e (inr k) = absurd k
+output_connection ms items kn j connections has x i p l h false e (inr k) = absurd k
 
 pub output_line : (ms : List ModuleTree) (items : List Item) (it : Item) → Has items it → (x i p : Name) → Has (line_sources ms it) (x, output i p) → IsDrivenBy ms items x i p
 output_line ms items (Assign y f) has x i p (inl q) = let s : value f ≡ output i p = ap (λ (q : Name × Source). q.1) q in cc
 output_line ms items (Assign y f) has x i p (inr h) = absurd h
-output_line ms items (Instance kn j links) has x i p h =
-    let t = of_flat (link_source (map port_declared (ports_of ms kn)) j) links (x, output i p) h in
-    output_link ms items kn j links has x i p t.0 t.1 _ refl t.2
+output_line ms items (Instance kn j connections) has x i p h =
+    let t = of_flat (connection_source (map port_declared (ports_of ms kn)) j) connections (x, output i p) h in
+    output_connection ms items kn j connections has x i p t.0 t.1 _ refl t.2
 output_line ms items (Wire w y) has x i p h = absurd h
 output_line ms items (Reg w y) has x i p h = absurd h
 output_line ms items (Memory w y n) has x i p h = absurd h
@@ -188,11 +188,11 @@ output_line ms items (Always b) has x i p h = absurd h
 pub assign_source : (ms : List ModuleTree) (items : List Item) (x : Name) (e : Value) → Has items (Assign x e) → Has (sources ms items) (x, value e)
 assign_source ms items x e has = has_flat (line_sources ms) items (Assign x e) (x, value e) has (inl refl)
 
-pub link_has_source : (ms : List ModuleTree) (items : List Item) (kn i : Name) (links : List Link) → Has items (Instance kn i links) → (l : Link) → Has links l → sort_is_input (sort_of (map port_declared (ports_of ms kn)) l.port) ≡ false
+pub connection_has_source : (ms : List ModuleTree) (items : List Item) (kn i : Name) (connections : List Connection) → Has items (Instance kn i connections) → (l : Connection) → Has connections l → net_kind_is_input (net_kind_of (map port_declared (ports_of ms kn)) l.port) ≡ false
     → Has (sources ms items) (l.net, output i l.port)
-link_has_source ms items kn i links has l h e =
-    has_flat (line_sources ms) items (Instance kn i links) (l.net, output i l.port) has
-    (has_flat (link_source (map port_declared (ports_of ms kn)) i) links l (l.net, output i l.port) h
+connection_has_source ms items kn i connections has l h e =
+    has_flat (line_sources ms) items (Instance kn i connections) (l.net, output i l.port) has
+    (has_flat (connection_source (map port_declared (ports_of ms kn)) i) connections l (l.net, output i l.port) h
     (subst (λ b. Has {N = Name × Source} (cond b [] ((l.net, output i l.port) ∷ [])) (l.net, output i l.port)) (sym e) (inl refl)))
 
 zero_of : (n : ℕ) → no (n == 0) ≡ false → n ≡ 0
@@ -201,51 +201,51 @@ zero_of n h = grind (arith, nat_tests)
 one_of : (n : ℕ) → no (n == 1) ≡ false → n ≡ 1
 one_of n h = grind (arith, nat_tests)
 
-few_by_sort : (n k : ℕ) (s : Sort) → sort_is_driven s ≡ true → breaks_driving n k s ≡ false → n < 2
-few_by_sort n k Input h e = let z : n ≡ 0 = zero_of n e in omega arith
-few_by_sort n k Output h e = let z : n ≡ 1 = one_of n e in omega arith
-few_by_sort n k WireNet h e = let z : n ≡ 1 = one_of n e in omega arith
-few_by_sort n k Unknown h e = cc
-few_by_sort n k Register h e = cc
-few_by_sort n k MemoryArray h e = cc
-few_by_sort n k ChildInstance h e = cc
+few_by_net_kind : (n k : ℕ) (s : NetKind) → net_kind_is_driven s ≡ true → breaks_driving n k s ≡ false → n < 2
+few_by_net_kind n k Input h e = let z : n ≡ 0 = zero_of n e in omega arith
+few_by_net_kind n k Output h e = let z : n ≡ 1 = one_of n e in omega arith
+few_by_net_kind n k WireNet h e = let z : n ≡ 1 = one_of n e in omega arith
+few_by_net_kind n k Unknown h e = cc
+few_by_net_kind n k Register h e = cc
+few_by_net_kind n k MemoryArray h e = cc
+few_by_net_kind n k ChildInstance h e = cc
 
 module _ (ms : List ModuleTree) (drivers : first_violation (v4_uses ms) ≡ None) (m : ModuleTree) (in_ms : Has ms m) where
-  driving_right : (d : Declaration) → Has (declared m) d → breaks_driving (drives ms m.items d.name) (count_by (is_block_of d.name) m.items) d.sort ≡ false
+  driving_right : (d : Declaration) → Has (declared m) d → breaks_driving (drives ms m.items d.name) (count_by (is_block_of d.name) m.items) d.net_kind ≡ false
   unfolding module_drives driving_use
   driving_right d h = right (v4_uses ms) drivers (driving_use ms m.items d) (has_flat (module_drives ms) ms m _ in_ms (has_map (driving_use ms m.items) (declared m) d h))
 
-  driving_of : (x : Name) (test : Sort → Bool) → test Unknown ≡ false → test (sort_of (declared m) x) ≡ true → (k : ℕ) × (breaks_driving (drives ms m.items x) k (sort_of (declared m) x) ≡ false)
+  driving_of : (x : Name) (test : NetKind → Bool) → test Unknown ≡ false → test (net_kind_of (declared m) x) ≡ true → (k : ℕ) × (breaks_driving (drives ms m.items x) k (net_kind_of (declared m) x) ≡ false)
   driving_of x test none h =
       let f = found_name (declared m) x test none h in
       let d = find_name (declared m) x in
-      (count_by (is_block_of d.name) m.items, subst (λ z. breaks_driving (drives ms m.items z) (count_by (is_block_of d.name) m.items) d.sort ≡ false) f.1 (driving_right d f.0))
+      (count_by (is_block_of d.name) m.items, subst (λ z. breaks_driving (drives ms m.items z) (count_by (is_block_of d.name) m.items) d.net_kind ≡ false) f.1 (driving_right d f.0))
 
   -- a net has one source at most
-  pub few_sources : (x : Name) → sort_is_driven (sort_of (declared m) x) ≡ true → count_by (names_it x) (sources ms m.items) < 2
-  few_sources x h = let b = driving_of x sort_is_driven refl h in let c : count_by (names_it x) (sources ms m.items) ≡ drives ms m.items x = source_count ms m.items x in
-      let l : drives ms m.items x < 2 = few_by_sort (drives ms m.items x) b.0 (sort_of (declared m) x) h b.1 in omega arith
+  pub few_sources : (x : Name) → net_kind_is_driven (net_kind_of (declared m) x) ≡ true → count_by (names_it x) (sources ms m.items) < 2
+  few_sources x h = let b = driving_of x net_kind_is_driven refl h in let c : count_by (names_it x) (sources ms m.items) ≡ drives ms m.items x = source_count ms m.items x in
+      let l : drives ms m.items x < 2 = few_by_net_kind (drives ms m.items x) b.0 (net_kind_of (declared m) x) h b.1 in omega arith
 
-  pub input_undriven : (x : Name) → sort_of (declared m) x ≡ Input → source_of (sources ms m.items) x ≡ None
+  pub input_undriven : (x : Name) → net_kind_of (declared m) x ≡ Input → source_of (sources ms m.items) x ≡ None
   input_undriven x e =
-      let b = driving_of x sort_is_input refl (ap sort_is_input e) in
+      let b = driving_of x net_kind_is_input refl (ap net_kind_is_input e) in
       let z : drives ms m.items x ≡ 0 = zero_of (drives ms m.items x) (subst (λ s. breaks_driving (drives ms m.items x) b.0 s ≡ false) e b.1) in
       source_none (sources ms m.items) x (source_count ms m.items x ∙ z)
 
-  once_by_sort : (n k : ℕ) (s : Sort) → sort_is_driven s ≡ true → (s ≡ Input → ⊥) → breaks_driving n k s ≡ false → n ≡ 1
-  once_by_sort n k Input h f e = absurd (f refl)
-  once_by_sort n k Output h f e = one_of n e
-  once_by_sort n k WireNet h f e = one_of n e
-  once_by_sort n k Unknown h f e = cc
-  once_by_sort n k Register h f e = cc
-  once_by_sort n k MemoryArray h f e = cc
-  once_by_sort n k ChildInstance h f e = cc
+  once_by_net_kind : (n k : ℕ) (s : NetKind) → net_kind_is_driven s ≡ true → (s ≡ Input → ⊥) → breaks_driving n k s ≡ false → n ≡ 1
+  once_by_net_kind n k Input h f e = absurd (f refl)
+  once_by_net_kind n k Output h f e = one_of n e
+  once_by_net_kind n k WireNet h f e = one_of n e
+  once_by_net_kind n k Unknown h f e = cc
+  once_by_net_kind n k Register h f e = cc
+  once_by_net_kind n k MemoryArray h f e = cc
+  once_by_net_kind n k ChildInstance h f e = cc
 
   -- a net that lines drive has a source
-  pub has_source : (x : Name) → sort_is_driven (sort_of (declared m) x) ≡ true → (sort_of (declared m) x ≡ Input → ⊥) → source_of (sources ms m.items) x ≡ None → ⊥
+  pub has_source : (x : Name) → net_kind_is_driven (net_kind_of (declared m) x) ≡ true → (net_kind_of (declared m) x ≡ Input → ⊥) → source_of (sources ms m.items) x ≡ None → ⊥
   has_source x h f e =
-      let b = driving_of x sort_is_driven refl h in
+      let b = driving_of x net_kind_is_driven refl h in
       let c : count_by (names_it x) (sources ms m.items) ≡ drives ms m.items x = source_count ms m.items x in
-      let one : drives ms m.items x ≡ 1 = once_by_sort (drives ms m.items x) b.0 (sort_of (declared m) x) h f b.1 in
+      let one : drives ms m.items x ≡ 1 = once_by_net_kind (drives ms m.items x) b.0 (net_kind_of (declared m) x) h f b.1 in
       let none : count_by (names_it x) (sources ms m.items) ≡ 0 = none_counted (sources ms m.items) x e in
       omega arith

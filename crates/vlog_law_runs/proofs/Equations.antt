@@ -4,12 +4,12 @@ use Rattle.std.specs.List.{flat_map}
 use Rattle.vlog_tree.specs.declared.tree.Value.{Value}
 use Rattle.vlog_tree.specs.declared.tree.Value.TheVariants.{Plain, Invert, Binary, Choose, Concat, Repeat, Cell}
 use Rattle.vlog_tree.specs.declared.tree.Item.TheVariants.{Assign}
-use Rattle.vlog_tree.specs.declared.table.Sort.{Sort}
-use Rattle.vlog_tree.specs.declared.table.Sort.TheVariants.{Unknown, Input, Output, WireNet, Register, MemoryArray, ChildInstance}
+use Rattle.vlog_tree.specs.declared.table.NetKind.{NetKind}
+use Rattle.vlog_tree.specs.declared.table.NetKind.TheVariants.{Unknown, Input, Output, WireNet, Register, MemoryArray, ChildInstance}
 use Rattle.vlog_tree.specs.Form.{ModuleTree}
 use Rattle.vlog_tree.specs.Grounded.{Has}
 use Rattle.vlog_tree.specs.Cycle.{Cycle, Path, driven, module_at}
-use Rattle.vlog_tree.specs.Table.{Name, declared, sort_of, bits_of}
+use Rattle.vlog_tree.specs.Table.{Name, declared, net_kind_of, bits_of}
 use Rattle.vlog_tree.specs.Flattened.{FlatNet, parts, line_parts}
 use Rattle.vlog_comb_loops.proofs.Lists.{of_flat}
 use Rattle.vlog_law_runs.proofs.Settled.{outside, answers}
@@ -32,7 +32,7 @@ module _ (ms : List ModuleTree) (root : ModuleTree) (held : Path → Cycle) (giv
   input_value v ([], x) = give x (first_number v (answers ([], x)))
   input_value v (i ∷ path, x) = first_number v (outside ms root (i ∷ path, x))
 
-  abbrev pub undriven_value : Sort → (FlatNet → ℕ) → FlatNet → ℕ
+  abbrev pub undriven_value : NetKind → (FlatNet → ℕ) → FlatNet → ℕ
   undriven_value Input v n = input_value v n
   undriven_value Register v n = (held n.0).net n.1
   undriven_value Output v n = 0
@@ -44,7 +44,7 @@ module _ (ms : List ModuleTree) (root : ModuleTree) (held : Path → Cycle) (giv
   abbrev pub source_value : ModuleTree → (FlatNet → ℕ) → FlatNet → Option Source → ℕ
   source_value m v n (Some (value e)) = driven (sizes_of m) (bits_of (declared m) n.1) (nets_at held v n.0) e
   source_value m v n (Some (output i p)) = v (i ∷ n.0, p)
-  source_value m v n None = undriven_value (sort_of (declared m) n.1) v n
+  source_value m v n None = undriven_value (net_kind_of (declared m) n.1) v n
 
   abbrev pub module_equation : ModuleTree → FlatNet → (FlatNet → ℕ) → ℕ
   module_equation m n v = source_value m v n (source_of (sources ms m.items) n.1)
@@ -59,8 +59,8 @@ module _ (ms : List ModuleTree) (root : ModuleTree) (held : Path → Cycle) (giv
   -- two lists of numbers agree on what a net's equation reads
   pub record Agrees (m : ModuleTree) (path : Path) (x : Name) (v w : FlatNet → ℕ) : Type 0 where
     pub lines : (b : FlatNet) → Has (flat_map (line_parts ms path x) m.items) b → v b ≡ w b
-    pub around : sort_of (declared m) x ≡ Input → (b : FlatNet) → Has (outside ms root (path, x)) b → v b ≡ w b
-    pub asked : sort_of (declared m) x ≡ Input → (b : FlatNet) → Has (answers (path, x)) b → v b ≡ w b
+    pub around : net_kind_of (declared m) x ≡ Input → (b : FlatNet) → Has (outside ms root (path, x)) b → v b ≡ w b
+    pub asked : net_kind_of (declared m) x ≡ Input → (b : FlatNet) → Has (answers (path, x)) b → v b ≡ w b
 
   first_same : (v w : FlatNet → ℕ) (ns : List FlatNet) → ((b : FlatNet) → Has ns b → v b ≡ w b) → first_number v ns ≡ first_number w ns
   first_same v w [] f = refl
@@ -70,7 +70,7 @@ module _ (ms : List ModuleTree) (root : ModuleTree) (held : Path → Cycle) (giv
   input_same [] x v w f g = ap (λ n. give x n) (first_same v w (answers ([], x)) g)
   input_same (i ∷ path) x v w f g = first_same v w (outside ms root (i ∷ path, x)) f
 
-  undriven_same : (s : Sort) (n : FlatNet) (v w : FlatNet → ℕ) → (s ≡ Input → input_value v n ≡ input_value w n) → undriven_value s v n ≡ undriven_value s w n
+  undriven_same : (s : NetKind) (n : FlatNet) (v w : FlatNet → ℕ) → (s ≡ Input → input_value v n ≡ input_value w n) → undriven_value s v n ≡ undriven_value s w n
   undriven_same Input n v w f = f refl
   undriven_same Register n v w f = refl
   undriven_same Output n v w f = refl
@@ -101,7 +101,7 @@ module _ (ms : List ModuleTree) (root : ModuleTree) (held : Path → Cycle) (giv
 
     pub module_same : module_equation m (path, x) v ≡ module_equation m (path, x) w
     module_same = elim (source_cases (sources ms m.items) x) [
-      | inl none ↦ subst (λ o. source_value m v (path, x) o ≡ source_value m w (path, x) o) (sym none) (undriven_same (sort_of (declared m) x) (path, x) v w (λ e. input_same path x v w (a.around e) (a.asked e)))
+      | inl none ↦ subst (λ o. source_value m v (path, x) o ≡ source_value m w (path, x) o) (sym none) (undriven_same (net_kind_of (declared m) x) (path, x) v w (λ e. input_same path x v w (a.around e) (a.asked e)))
       | inr r ↦ subst (λ o. source_value m v (path, x) o ≡ source_value m w (path, x) o) (sym r.2) (source_same r.0 r.1)
     ]
 

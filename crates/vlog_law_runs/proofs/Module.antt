@@ -1,22 +1,22 @@
 -- What a module's wires rest on comes to an end.
 use Rattle.std.proofs.Common.{◌≡◌, Bool, true, false, cond, List, ◌++◌, Some, None, inl, inr, refl, sym, ap, subst, map}
 use Rattle.std.specs.List.{flat_map}
-use Rattle.vlog_tree.specs.declared.tree.Link.{Link}
+use Rattle.vlog_tree.specs.declared.tree.Connection.{Connection}
 use Rattle.vlog_tree.specs.declared.tree.Item.{Item}
 use Rattle.vlog_tree.specs.declared.tree.Item.TheVariants.{Wire, Reg, Memory, Assign, Always, Instance}
 use Rattle.vlog_tree.specs.declared.table.Declaration.{Declaration}
 use Rattle.vlog_tree.specs.Form.{ModuleTree}
 use Rattle.vlog_tree.specs.Grounded.{Has}
-use Rattle.vlog_tree.specs.Table.{Name, declared, port_declared, items_declared, declaration_name, sort_of, sort_is_read, sort_is_driven, sort_is_input, ports_of, first_violation}
+use Rattle.vlog_tree.specs.Table.{Name, declared, port_declared, items_declared, declaration_name, net_kind_of, net_kind_is_read, net_kind_is_driven, net_kind_is_input, ports_of, first_violation}
 use Rattle.vlog_tree.specs.V2.{v2_uses}
 use Rattle.vlog_tree.specs.V6.{module_children, item_children}
 use Rattle.vlog_tree.specs.Labels.{address_of}
-use Rattle.vlog_tree.specs.Loops.{port_of, link_edge, line_edges, direct_edges, memory_edges, answer_edges, instances, item_instances, value_nets, Rests, directly, through, after, containment, own_containment, Reaches, one, more, TextPlace, own_places, text_places, IsLoopless}
+use Rattle.vlog_tree.specs.Loops.{port_of, connection_edge, line_edges, direct_edges, memory_edges, answer_edges, instances, item_instances, value_nets, Rests, directly, through, after, containment, own_containment, Reaches, one, more, TextPlace, own_places, text_places, IsLoopless}
 use Rattle.vlog_graph.proofs.Numbered.{has_left, has_right, has_split}
 use Rattle.vlog_graph.proofs.Reached.{chains}
 use Rattle.vlog_comb_loops.proofs.Lists.{has_flat, of_flat, has_map, of_map}
 use Rattle.vlog_law_runs.proofs.Ending.{Ends, all_end}
-use Rattle.vlog_law_runs.proofs.Sound.{declared_by, assign_driven, link_port, link_driven, is_known_module}
+use Rattle.vlog_law_runs.proofs.Sound.{declared_by, assign_driven, connection_port, connection_driven, is_known_module}
 use Rattle.vlog_law_runs.proofs.Alone.{instance_item, module_there, module_is, IsNamed}
 
 pub name_declared : (m : ModuleTree) (x : Name) → Has (map declaration_name (map port_declared m.ports)) x → Has (map declaration_name (declared m)) x
@@ -45,22 +45,22 @@ module _ (ms : List ModuleTree) where
     port_wire : (m : ModuleTree) (kn i x : Name) → Has (instances m) (kn, i) → Has (port_names kn) x → Has (wires m) (port_of i x)
     port_wire m kn i x inst h = has_right (map declaration_name (declared m)) (flat_map wires_of_instance (instances m)) (port_of i x) (has_flat wires_of_instance (instances m) (kn, i) (port_of i x) inst (has_map (port_of i) (port_names kn) x h))
 
-    link_start : (m : ModuleTree) → Has ms m → (kn i : Name) (links : List Link) → Has m.items (Instance kn i links) → (l : Link) → Has links l → (b : Bool) → sort_is_input (sort_of (map port_declared (ports_of ms kn)) l.port) ≡ b
+    connection_start : (m : ModuleTree) → Has ms m → (kn i : Name) (connections : List Connection) → Has m.items (Instance kn i connections) → (l : Connection) → Has connections l → (b : Bool) → net_kind_is_input (net_kind_of (map port_declared (ports_of ms kn)) l.port) ≡ b
         → (x y : Name) → ◌≡◌ {A = Name × Name} (cond b (port_of i l.port, l.net) (l.net, port_of i l.port)) (x, y) → Has (wires m) x
-    link_start m in_ms kn i links has l h true e x y same =
+    connection_start m in_ms kn i connections has l h true e x y same =
         subst (λ (q : Name × Name). Has (wires m) q.0) same
-        (port_wire m kn i l.port (has_flat item_instances m.items (Instance kn i links) (kn, i) has (inl refl)) (declared_by sort_is_read _ l.port refl (link_port ms names m in_ms kn i links has l h)))
-    link_start m in_ms kn i links has l h false e x y same =
-        subst (λ (q : Name × Name). Has (wires m) q.0) same (declared_wire m l.net (declared_by sort_is_driven _ l.net refl (link_driven ms names m in_ms kn i links has l h e)))
+        (port_wire m kn i l.port (has_flat item_instances m.items (Instance kn i connections) (kn, i) has (inl refl)) (declared_by net_kind_is_read _ l.port refl (connection_port ms names m in_ms kn i connections has l h)))
+    connection_start m in_ms kn i connections has l h false e x y same =
+        subst (λ (q : Name × Name). Has (wires m) q.0) same (declared_wire m l.net (declared_by net_kind_is_driven _ l.net refl (connection_driven ms names m in_ms kn i connections has l h e)))
 
     line_start : (m : ModuleTree) → Has ms m → (it : Item) → Has m.items it → (x y : Name) → Has (line_edges ms it) (x, y) → Has (wires m) x
-    unfolding link_edge
+    unfolding connection_edge
     line_start m in_ms (Assign z e) has x y h =
         let t = of_map (λ y. (z, y)) (value_nets e) (x, y) h in
-        subst (λ (q : Name × Name). Has (wires m) q.0) t.2 (declared_wire m z (declared_by sort_is_driven _ z refl (assign_driven ms names m in_ms z e has)))
-    line_start m in_ms (Instance kn i links) has x y h =
-        let t = of_map (link_edge (map port_declared (ports_of ms kn)) i) links (x, y) h in
-        link_start m in_ms kn i links has t.0 t.1 _ refl x y t.2
+        subst (λ (q : Name × Name). Has (wires m) q.0) t.2 (declared_wire m z (declared_by net_kind_is_driven _ z refl (assign_driven ms names m in_ms z e has)))
+    line_start m in_ms (Instance kn i connections) has x y h =
+        let t = of_map (connection_edge (map port_declared (ports_of ms kn)) i) connections (x, y) h in
+        connection_start m in_ms kn i connections has t.0 t.1 _ refl x y t.2
     line_start m in_ms (Wire w z) has x y h = absurd h
     line_start m in_ms (Reg w z) has x y h = absurd h
     line_start m in_ms (Memory w z n) has x y h = absurd h
@@ -83,7 +83,7 @@ module _ (ms : List ModuleTree) where
     rest_start : (m : ModuleTree) → Has ms m → (x y : Name) → Rests ms is_top m x y → Has (wires m) x
     rest_start m in_ms x y (directly h) = direct_start m in_ms x y h
     rest_start m in_ms a b (through k kn i x y inst named sx sy r ea eb) =
-        let d : Has (map declaration_name (map port_declared k.ports)) x = declared_by sort_is_read (map port_declared k.ports) x refl (ap sort_is_read sx) in
+        let d : Has (map declaration_name (map port_declared k.ports)) x = declared_by net_kind_is_read (map port_declared k.ports) x refl (ap net_kind_is_read sx) in
         subst (λ z. Has (wires m) z) (sym ea) (port_wire m kn i x inst (subst (λ ps. Has (map declaration_name (map port_declared ps)) x) (sym (module_is ms kn k named).ports) d))
     rest_start m in_ms x z (after y r s) = rest_start m in_ms x y r
 

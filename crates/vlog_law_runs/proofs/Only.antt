@@ -4,14 +4,14 @@ use Rattle.std.specs.Prelude.{bytes_eq, if◌then◌else◌}
 use Rattle.std.specs.List.{AllByRecursion}
 use Rattle.std.specs.Cmp.Lexicographic.{bytes_decides}
 use Rattle.vlog_tree.specs.declared.tree.Value.{Value}
-use Rattle.vlog_tree.specs.declared.tree.Link.{Link}
+use Rattle.vlog_tree.specs.declared.tree.Connection.{Connection}
 use Rattle.vlog_tree.specs.declared.tree.Item.{Item}
 use Rattle.vlog_tree.specs.declared.tree.Item.TheVariants.{Wire, Reg, Memory, Assign, Always, Instance}
-use Rattle.vlog_tree.specs.declared.table.Sort.TheVariants.{Input, Output}
+use Rattle.vlog_tree.specs.declared.table.NetKind.TheVariants.{Input, Output}
 use Rattle.vlog_tree.specs.Form.{ModuleTree}
 use Rattle.vlog_tree.specs.Grounded.{Has, IsGrounded, grounded}
 use Rattle.vlog_tree.specs.Cycle.{Cycle, Path, module_at}
-use Rattle.vlog_tree.specs.Table.{Name, no, declared, port_declared, sort_of, sort_is_read, sort_is_input, is_clk, ports_of, first_violation}
+use Rattle.vlog_tree.specs.Table.{Name, no, declared, port_declared, net_kind_of, net_kind_is_read, net_kind_is_input, is_clk, ports_of, first_violation}
 use Rattle.vlog_tree.specs.V2.{v2_uses}
 use Rattle.vlog_tree.specs.V4.{v4_uses}
 use Rattle.vlog_tree.specs.V6.{v6_uses, is_top}
@@ -20,13 +20,13 @@ use Rattle.vlog_tree.specs.Loops.{value_nets, item_instances}
 use Rattle.vlog_tree.specs.Flattened.{FlatNet, parts, line_parts}
 use Rattle.vlog_comb_loops.proofs.Lists.{has_flat, of_flat, of_map}
 use Rattle.vlog_law_runs.specs.OneRun.{SameHeld}
-use Rattle.vlog_law_runs.proofs.Sound.{assign_reads, link_port, link_net, link_clock, output_is, is_known_module}
+use Rattle.vlog_law_runs.proofs.Sound.{assign_reads, connection_port, connection_net, connection_clock, output_is, is_known_module}
 use Rattle.vlog_law_runs.proofs.Alone.{module_there, module_is, IsNamed}
 use Rattle.vlog_law_runs.proofs.Settled.{outside, answers, joined, child_at, module_in}
 use Rattle.vlog_law_runs.proofs.Sizes.{all_from}
 use Rattle.vlog_law_runs.proofs.Parts.{part_line, part_outside, part_answer}
 use Rattle.vlog_law_runs.proofs.Equations.{module_same, input_value}
-use Rattle.vlog_law_runs.proofs.Cycles.{port_sort_declared}
+use Rattle.vlog_law_runs.proofs.Cycles.{port_net_kind_declared}
 use Rattle.vlog_law_runs.proofs.Run.{asked_at}
 use Rattle.vlog_law_runs.proofs.TopPorts.{clock_joined, asked_declared}
 use Rattle.vlog_law_runs.proofs.Solved.{numbers, Allowed, module_around, net_solves, inner_input}
@@ -35,7 +35,7 @@ use Rattle.vlog_law_runs.proofs.Solved.{numbers, Allowed, module_around, net_sol
 pub record IsNet (ms : List ModuleTree) (root : ModuleTree) (n : FlatNet) : Type 0 where
   pub tree : ModuleTree
   pub at : module_at ms root n.0 ≡ Some tree
-  pub read : sort_is_read (sort_of (declared tree) n.1) ≡ true
+  pub read : net_kind_is_read (net_kind_of (declared tree) n.1) ≡ true
   pub no_clock : is_clk n.1 ≡ false
 
 module _ (ms : List ModuleTree) (root : ModuleTree) (names : first_violation (v2_uses ms) ≡ None) (drivers : first_violation (v4_uses ms) ≡ None) (tops : first_violation (v6_uses ms) ≡ None)
@@ -44,24 +44,24 @@ module _ (ms : List ModuleTree) (root : ModuleTree) (names : first_violation (v2
     inside : Has ms m
     inside = module_in ms root in_root path m at
 
-    output_net : (kn i : Name) (links : List Link) → Has m.items (Instance kn i links) → (l : Link) → Has links l → l.net ≡ x → sort_is_input (sort_of (map port_declared (ports_of ms kn)) l.port) ≡ false → IsNet ms root (i ∷ path, l.port)
-    output_net kn i links has l h net e =
-        let t = module_there ms kn (is_known_module ms names m inside kn i links has) in
+    output_net : (kn i : Name) (connections : List Connection) → Has m.items (Instance kn i connections) → (l : Connection) → Has connections l → l.net ≡ x → net_kind_is_input (net_kind_of (map port_declared (ports_of ms kn)) l.port) ≡ false → IsNet ms root (i ∷ path, l.port)
+    output_net kn i connections has l h net e =
+        let t = module_there ms kn (is_known_module ms names m inside kn i connections has) in
         let n : IsNamed ms kn t.0 = module_is ms kn t.0 t.1 in
-        let sort : sort_of (map port_declared t.0.ports) l.port ≡ Output = subst (λ ps. sort_of (map port_declared ps) l.port ≡ Output) n.ports (output_is (ports_of ms kn) l.port (link_port ms names m inside kn i links has l h) e) in
+        let net_kind : net_kind_of (map port_declared t.0.ports) l.port ≡ Output = subst (λ ps. net_kind_of (map port_declared ps) l.port ≡ Output) n.ports (output_is (ports_of ms kn) l.port (connection_port ms names m inside kn i connections has l h) e) in
         record {
           tree = t.0;
-          at = child_at ms root names m inside path at kn i t.0 (has_flat item_instances m.items (Instance kn i links) (kn, i) has (inl refl)) t.1;
-          read = ap sort_is_read (port_sort_declared t.0 l.port Output refl sort);
-          no_clock = clock_joined ms tops m inside kn i links has l h (ap is_clk net ∙ no_clock);
+          at = child_at ms root names m inside path at kn i t.0 (has_flat item_instances m.items (Instance kn i connections) (kn, i) has (inl refl)) t.1;
+          read = ap net_kind_is_read (port_net_kind_declared t.0 l.port Output refl net_kind);
+          no_clock = clock_joined ms tops m inside kn i connections has l h (ap is_clk net ∙ no_clock);
         }
 
-    link_net_of : (kn i : Name) (links : List Link) → Has m.items (Instance kn i links) → (l : Link) → Has links l → (p q : Bool) → bytes_eq l.net x ≡ p → sort_is_input (sort_of (map port_declared (ports_of ms kn)) l.port) ≡ q → (b : FlatNet)
+    connection_net_of : (kn i : Name) (connections : List Connection) → Has m.items (Instance kn i connections) → (l : Connection) → Has connections l → (p q : Bool) → bytes_eq l.net x ≡ p → net_kind_is_input (net_kind_of (map port_declared (ports_of ms kn)) l.port) ≡ q → (b : FlatNet)
         → Has (cond (p && no q) ((i ∷ path, l.port) ∷ []) []) b → IsNet ms root b
-    link_net_of kn i links has l h true false e f b (inl g) = subst (IsNet ms root) g (output_net kn i links has l h ((bytes_decides l.net x).0 e) f)
-    link_net_of kn i links has l h true false e f b (inr g) = absurd g
-    link_net_of kn i links has l h true true e f b g = absurd g
-    link_net_of kn i links has l h false q e f b g = absurd g
+    connection_net_of kn i connections has l h true false e f b (inl g) = subst (IsNet ms root) g (output_net kn i connections has l h ((bytes_decides l.net x).0 e) f)
+    connection_net_of kn i connections has l h true false e f b (inr g) = absurd g
+    connection_net_of kn i connections has l h true true e f b g = absurd g
+    connection_net_of kn i connections has l h false q e f b g = absurd g
 
     driver_net : (z : Name) (e : Value) → Has m.items (Assign z e) → (p : Bool) → (b : FlatNet) → Has {N = FlatNet} (cond p (map (λ y. (path, y)) (value_nets e)) []) b → IsNet ms root b
     driver_net z e has true b h =
@@ -72,9 +72,9 @@ module _ (ms : List ModuleTree) (root : ModuleTree) (names : first_violation (v2
 
     line_net : (it : Item) → Has m.items it → (b : FlatNet) → Has (line_parts ms path x it) b → IsNet ms root b
     line_net (Assign z e) has b h = driver_net z e has (bytes_eq z x) b h
-    line_net (Instance kn i links) has b h =
-        let t = of_flat (λ (l : Link). if bytes_eq l.net x && no (sort_is_input (sort_of (map port_declared (ports_of ms kn)) l.port)) then (i ∷ path, l.port) ∷ [] else []) links b h in
-        link_net_of kn i links has t.0 t.1 _ _ refl refl b t.2
+    line_net (Instance kn i connections) has b h =
+        let t = of_flat (λ (l : Connection). if bytes_eq l.net x && no (net_kind_is_input (net_kind_of (map port_declared (ports_of ms kn)) l.port)) then (i ∷ path, l.port) ∷ [] else []) connections b h in
+        connection_net_of kn i connections has t.0 t.1 _ _ refl refl b t.2
     line_net (Wire w z) has b h = absurd h
     line_net (Reg w z) has b h = absurd h
     line_net (Memory w z n) has b h = absurd h
@@ -86,37 +86,37 @@ module _ (ms : List ModuleTree) (root : ModuleTree) (names : first_violation (v2
       let a = module_around ms root i path m at in
       let j = joined ms root a.tree path a.at i x b h in
       let in_around = module_in ms root in_root path a.tree a.at in
-      let input : sort_is_input (sort_of (map port_declared (ports_of ms j.kn)) j.link.port) ≡ true = subst (λ z. sort_is_input (sort_of (map port_declared (ports_of ms j.kn)) z) ≡ true) (sym j.port) j.input in
+      let input : net_kind_is_input (net_kind_of (map port_declared (ports_of ms j.kn)) j.connection.port) ≡ true = subst (λ z. net_kind_is_input (net_kind_of (map port_declared (ports_of ms j.kn)) z) ≡ true) (sym j.port) j.input in
       subst (IsNet ms root) j.is
       (record {
         tree = a.tree;
         at = a.at;
-        read = link_net ms names a.tree in_around j.kn i j.links j.has j.link j.linked;
-        no_clock = link_clock ms names a.tree in_around j.kn i j.links j.has j.link j.linked input (ap is_clk j.port ∙ n);
+        read = connection_net ms names a.tree in_around j.kn i j.connections j.has j.connection j.connected;
+        no_clock = connection_clock ms names a.tree in_around j.kn i j.connections j.has j.connection j.connected input (ap is_clk j.port ∙ n);
       })
 
-  answer_declared : (path : Path) (m : ModuleTree) → module_at ms root path ≡ Some m → (x : Name) → sort_of (declared m) x ≡ Input → (b : FlatNet) → Has (answers (path, x)) b → IsNet ms root b
+  answer_declared : (path : Path) (m : ModuleTree) → module_at ms root path ≡ Some m → (x : Name) → net_kind_of (declared m) x ≡ Input → (b : FlatNet) → Has (answers (path, x)) b → IsNet ms root b
   answer_declared [] m at x s b h =
       let same : root ≡ m = cc at in
       let t = of_map (λ (y : Name). ([], y)) (address_of x) b h in
-      let r = asked_declared ms tops root in_root top_is x (subst (λ k. sort_of (declared k) x ≡ Input) (sym same) s) t.0 t.1 in
+      let r = asked_declared ms tops root in_root top_is x (subst (λ k. net_kind_of (declared k) x ≡ Input) (sym same) s) t.0 t.1 in
       subst (IsNet ms root) t.2 (record { tree = root; at = refl; read = r.0; no_clock = r.1 })
   answer_declared (i ∷ path) m at x s b h = absurd h
 
   -- two cycles with the same held numbers and the same inputs
   module _ (c d : Path → Cycle) (ac : Allowed ms root c) (ad : Allowed ms root d) (same_held : (path : Path) (m : ModuleTree) → module_at ms root path ≡ Some m → AllByRecursion (SameHeld (d path) (c path)) m.items)
-      (give : Name → ℕ → ℕ) (inputs_c : (x : Name) → sort_of (declared root) x ≡ Input → is_clk x ≡ false → (c []).net x ≡ give x (asked_at c x)) (inputs_d : (x : Name) → sort_of (declared root) x ≡ Input → is_clk x ≡ false → (d []).net x ≡ give x (asked_at d x)) where
+      (give : Name → ℕ → ℕ) (inputs_c : (x : Name) → net_kind_of (declared root) x ≡ Input → is_clk x ≡ false → (c []).net x ≡ give x (asked_at c x)) (inputs_d : (x : Name) → net_kind_of (declared root) x ≡ Input → is_clk x ≡ false → (d []).net x ≡ give x (asked_at d x)) where
     held_itself : (path : Path) (it : Item) → SameHeld (c path) (c path) it
     held_itself path (Reg w x) = refl
     held_itself path (Memory w x n) = λ a low. refl
     held_itself path (Wire w x) = tt
     held_itself path (Assign x e) = tt
     held_itself path (Always b) = tt
-    held_itself path (Instance k i links) = tt
+    held_itself path (Instance k i connections) = tt
 
-    input_of : (e : Path → Cycle) → Allowed ms root e → ((x : Name) → sort_of (declared root) x ≡ Input → is_clk x ≡ false → (e []).net x ≡ give x (asked_at e x))
-        → (path : Path) (m : ModuleTree) → module_at ms root path ≡ Some m → (x : Name) → is_clk x ≡ false → sort_of (declared m) x ≡ Input → (e path).net x ≡ input_value ms root c give (numbers e) (path, x)
-    input_of e ae f [] m at x n s = let same : root ≡ m = cc at in f x (subst (λ k. sort_of (declared k) x ≡ Input) (sym same) s) n
+    input_of : (e : Path → Cycle) → Allowed ms root e → ((x : Name) → net_kind_of (declared root) x ≡ Input → is_clk x ≡ false → (e []).net x ≡ give x (asked_at e x))
+        → (path : Path) (m : ModuleTree) → module_at ms root path ≡ Some m → (x : Name) → is_clk x ≡ false → net_kind_of (declared m) x ≡ Input → (e path).net x ≡ input_value ms root c give (numbers e) (path, x)
+    input_of e ae f [] m at x n s = let same : root ≡ m = cc at in f x (subst (λ k. net_kind_of (declared k) x ≡ Input) (sym same) s) n
     input_of e ae f (i ∷ path) m at x n s = inner_input ms root names drivers in_root e ae i path m at x s
 
     pub nets_agree : (n : FlatNet) → IsGrounded (parts ms root true) n → IsNet ms root n → numbers c n ≡ numbers d n

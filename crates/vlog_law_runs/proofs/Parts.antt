@@ -3,12 +3,12 @@ use Rattle.std.proofs.Common.{◌≡◌, Bool, true, false, ◌&&◌, List, [], 
 use Rattle.std.specs.Prelude.{bytes_eq, if◌then◌else◌}
 use Rattle.std.specs.List.{flat_map}
 use Rattle.vlog_tree.specs.declared.tree.Value.{Value}
-use Rattle.vlog_tree.specs.declared.tree.Link.{Link}
+use Rattle.vlog_tree.specs.declared.tree.Connection.{Connection}
 use Rattle.vlog_tree.specs.declared.tree.Item.TheVariants.{Assign, Instance}
 use Rattle.vlog_tree.specs.Form.{ModuleTree}
 use Rattle.vlog_tree.specs.Grounded.{Has}
 use Rattle.vlog_tree.specs.Cycle.{Path, module_at}
-use Rattle.vlog_tree.specs.Table.{Name, no, port_declared, sort_of, sort_is_input, ports_of}
+use Rattle.vlog_tree.specs.Table.{Name, no, port_declared, net_kind_of, net_kind_is_input, ports_of}
 use Rattle.vlog_tree.specs.Loops.{value_nets}
 use Rattle.vlog_tree.specs.Flattened.{FlatNet, parts, line_parts, lines_of, memory_parts}
 use Rattle.vlog_graph.proofs.Numbered.{has_left, has_right}
@@ -46,14 +46,14 @@ module _ (ms : List ModuleTree) (m : ModuleTree) (path : Path) where
       has_flat (line_parts ms path x) m.items (Assign x e) (path, z) has
       (subst (λ b. Has (by_test b (map (λ y. (path, y)) (value_nets e))) (path, z)) (sym (same_name x)) (has_map (λ y. (path, y)) (value_nets e) z h))
 
-  pub link_part : (kn i : Name) (links : List Link) → Has m.items (Instance kn i links) → (l : Link) → Has links l → sort_is_input (sort_of (map port_declared (ports_of ms kn)) l.port) ≡ false → Has (flat_map (line_parts ms path l.net) m.items) (i ∷ path, l.port)
-  link_part kn i links has l h e =
-      has_flat (line_parts ms path l.net) m.items (Instance kn i links) (i ∷ path, l.port) has
-      (has_flat (λ (k : Link). if bytes_eq k.net l.net && no (sort_is_input (sort_of (map port_declared (ports_of ms kn)) k.port)) then (i ∷ path, k.port) ∷ [] else []) links l (i ∷ path, l.port) h
-      (subst (λ b. Has (by_test (b && no (sort_is_input (sort_of (map port_declared (ports_of ms kn)) l.port))) ((i ∷ path, l.port) ∷ [])) (i ∷ path, l.port)) (sym (same_name l.net))
+  pub connection_part : (kn i : Name) (connections : List Connection) → Has m.items (Instance kn i connections) → (l : Connection) → Has connections l → net_kind_is_input (net_kind_of (map port_declared (ports_of ms kn)) l.port) ≡ false → Has (flat_map (line_parts ms path l.net) m.items) (i ∷ path, l.port)
+  connection_part kn i connections has l h e =
+      has_flat (line_parts ms path l.net) m.items (Instance kn i connections) (i ∷ path, l.port) has
+      (has_flat (λ (k : Connection). if bytes_eq k.net l.net && no (net_kind_is_input (net_kind_of (map port_declared (ports_of ms kn)) k.port)) then (i ∷ path, k.port) ∷ [] else []) connections l (i ∷ path, l.port) h
+      (subst (λ b. Has (by_test (b && no (net_kind_is_input (net_kind_of (map port_declared (ports_of ms kn)) l.port))) ((i ∷ path, l.port) ∷ [])) (i ∷ path, l.port)) (sym (same_name l.net))
       (subst (λ b. Has (by_test (no b) ((i ∷ path, l.port) ∷ [])) (i ∷ path, l.port)) (sym e) (inl refl))))
 
   -- the port that drives a net
   pub output_part : (x i p : Name) → IsDrivenBy ms m.items x i p → Has (flat_map (line_parts ms path x) m.items) (i ∷ path, p)
   output_part x i p d =
-      subst (λ z. Has (flat_map (line_parts ms path z) m.items) (i ∷ path, p)) d.net (subst (λ z. Has (flat_map (line_parts ms path d.link.net) m.items) (i ∷ path, z)) d.port (link_part d.kn i d.links d.has d.link d.linked d.output))
+      subst (λ z. Has (flat_map (line_parts ms path z) m.items) (i ∷ path, p)) d.net (subst (λ z. Has (flat_map (line_parts ms path d.connection.net) m.items) (i ∷ path, z)) d.port (connection_part d.kn i d.connections d.has d.connection d.connected d.output))

@@ -5,16 +5,16 @@ use Rattle.std.specs.Option.{option_map_or}
 use Rattle.std.specs.Cmp.Lexicographic.{bytes_decides}
 use Rattle.vlog_tree.specs.declared.tree.PortDecl.{PortDecl}
 use Rattle.vlog_tree.specs.declared.table.Declaration.{Declaration}
-use Rattle.vlog_tree.specs.declared.table.Sort.TheVariants.{Input, Output}
+use Rattle.vlog_tree.specs.declared.table.NetKind.TheVariants.{Input, Output}
 use Rattle.vlog_tree.specs.Form.{ModuleTree}
 use Rattle.vlog_tree.specs.Grounded.{Has}
-use Rattle.vlog_tree.specs.Table.{Name, no, is_clk, declared, port_declared, declaration_name, sort_of, sort_is_read, first_violation}
+use Rattle.vlog_tree.specs.Table.{Name, no, is_clk, declared, port_declared, declaration_name, net_kind_of, net_kind_is_read, first_violation}
 use Rattle.vlog_tree.specs.Labels.{rst, done, scalar_of, ack_of, rdata_of, addr_of, wdata_of, we_of, m_rdata, m_wdata}
 use Rattle.vlog_tree.specs.V2.{v2_uses}
 use Rattle.vlog_tree.specs.V6.{v6_uses, module_tops, port_fits, is_expected, is_memory_port, fixed_fits, scalar_fits, ack_fits, rdata_fits, addr_fits, wdata_fits, we_fits, has_all_five, has_port, is_in, is_out, agrees, is_top, is_whole_top}
 use Rattle.vlog_comb_loops.proofs.Lists.{of_map}
 use Rattle.vlog_law_runs.proofs.Sound.{both_true, not_no, no_is, true_not_false, declared_by}
-use Rattle.vlog_law_runs.proofs.Sizes.{declared_sort, has_port as port_in}
+use Rattle.vlog_law_runs.proofs.Sizes.{declared_net_kind, has_port as port_in}
 use Rattle.vlog_law_runs.proofs.TopPorts.{port_right, use_right}
 
 pub record PortFits (ports : List Declaration) (before : List PortDecl) (p : PortDecl) : Type 0 where
@@ -137,12 +137,12 @@ module _ (ms : List ModuleTree) (names : first_violation (v2_uses ms) ≡ None) 
 
   pub named_port : (x : Name) → has_port ports x ≡ true → (p : PortDecl) × Has m.ports p × (p.name ≡ x)
   named_port x h =
-      let t = of_map declaration_name ports x (declared_by sort_is_read ports x refl h) in
+      let t = of_map declaration_name ports x (declared_by net_kind_is_read ports x refl h) in
       let q = of_map port_declared m.ports t.0 t.1 in
       (q.0, q.1, ap (λ (d : Declaration). d.name) q.2 ∙ t.2)
 
-  pub input_sort : (p : PortDecl) → Has m.ports p → p.input ≡ true → sort_of (declared m) p.name ≡ Input
-  input_sort p h e = declared_sort m ms names in_ms (port_declared p) (port_in m ms names in_ms p h) ∙ ap (λ b. cond b Input Output) e
+  pub input_net_kind : (p : PortDecl) → Has m.ports p → p.input ≡ true → net_kind_of (declared m) p.name ≡ Input
+  input_net_kind p h e = declared_net_kind m ms names in_ms (port_declared p) (port_in m ms names in_ms p h) ∙ ap (λ b. cond b Input Output) e
 
   pub has_reset : has_port ports rst ≡ true
   unfolding module_tops is_whole_top

@@ -3,20 +3,20 @@ use Rattle.std.proofs.Common.{◌≡◌, ℕ, zero, suc, ◌<◌, ◌^◌, true,
 use Rattle.std.specs.List.{AllByRecursion}
 use Rattle.vlog_tree.specs.declared.tree.Item.{Item}
 use Rattle.vlog_tree.specs.declared.tree.Item.TheVariants.{Wire, Reg, Memory, Assign, Always, Instance}
-use Rattle.vlog_tree.specs.declared.table.Sort.TheVariants.{Input, Register}
+use Rattle.vlog_tree.specs.declared.table.NetKind.TheVariants.{Input, Register}
 use Rattle.vlog_tree.specs.Form.{ModuleTree}
 use Rattle.vlog_tree.specs.Grounded.{Has, IsGrounded}
 use Rattle.vlog_tree.specs.Cycle.{Cycle, Path, module_at, run_items, PowersUp, Takes, Follows, Runs}
-use Rattle.vlog_tree.specs.Table.{Name, declared, sort_of, first_violation}
+use Rattle.vlog_tree.specs.Table.{Name, declared, net_kind_of, first_violation}
 use Rattle.vlog_tree.specs.V2.{v2_uses}
 use Rattle.vlog_tree.specs.V4.{v4_uses}
 use Rattle.vlog_tree.specs.Flattened.{FlatNet, parts}
 use Rattle.vlog_tree.proofs.Grounds.{values, values_solve}
 use Rattle.vlog_law_runs.specs.OneRun.{SameHeld, FitsPowerUp, BeginsWith}
 use Rattle.vlog_law_runs.proofs.Settled.{answers, module_in}
-use Rattle.vlog_law_runs.proofs.Sizes.{sizes_of, all_from, all_at, declared_sort, has_line, ports_hold}
+use Rattle.vlog_law_runs.proofs.Sizes.{sizes_of, all_from, all_at, declared_net_kind, has_line, ports_hold}
 use Rattle.vlog_law_runs.proofs.Equations.{nets_at, first_number, equation, equation_reads}
-use Rattle.vlog_law_runs.proofs.Cycles.{held_number, input_number, lines_hold, lines_linked}
+use Rattle.vlog_law_runs.proofs.Cycles.{held_number, input_number, lines_hold, lines_connected}
 
 -- what is around the top: how it begins, what it makes of the top's nets in a cycle, and what it gives an input
 pub record World (W : Type 0) : Type 0 where
@@ -67,11 +67,11 @@ module _ (ms : List ModuleTree) (root : ModuleTree) (names : first_violation (v2
     here : Has ms m
     here = module_in ms root in_root path m at
 
-    register_sort : (w : ℕ) (x : Name) → Has m.items (Reg w x) → sort_of (declared m) x ≡ Register
-    register_sort w x has = declared_sort m ms names here _ (has_line m ms names here (Reg w x) has (record { name = x; sort = Register; bits = w }) (inl refl))
+    register_net_kind : (w : ℕ) (x : Name) → Has m.items (Reg w x) → net_kind_of (declared m) x ≡ Register
+    register_net_kind w x has = declared_net_kind m ms names here _ (has_line m ms names here (Reg w x) has (record { name = x; net_kind = Register; bits = w }) (inl refl))
 
     register_number : (n w : ℕ) (x : Name) → Has m.items (Reg w x) → (run n path).net x ≡ ((state n).held path).net x
-    register_number n w x has = held_number ms root names drivers in_root (state n).held (around.give (state n).world) (number (state n)) (number_solves (state n)) path m at x (register_sort w x has)
+    register_number n w x has = held_number ms root names drivers in_root (state n).held (around.give (state n).world) (number (state n)) (number_solves (state n)) path m at x (register_net_kind w x has)
 
     takes : (n : ℕ) (it : Item) → Has m.items it → Takes (sizes_of m) m.items (run n path) (run (suc n) path) it
     takes n (Reg w x) has = register_number (suc n) w x has ∙ ap (λ o. (next_held o (run n path)).net x) at
@@ -79,7 +79,7 @@ module _ (ms : List ModuleTree) (root : ModuleTree) (names : first_violation (v2
     takes n (Wire w x) has = tt
     takes n (Assign x e) has = tt
     takes n (Always b) has = tt
-    takes n (Instance k i links) has = tt
+    takes n (Instance k i connections) has = tt
 
     powers_up : AllByRecursion (PowersUp (contents path)) m.items → (it : Item) → Has m.items it → PowersUp (run 0 path) it
     powers_up fits (Reg w x) has = let f : (contents path).net x < 2 ^ w = all_at (PowersUp (contents path)) m.items (Reg w x) fits has in subst (λ n. n < 2 ^ w) (sym (register_number 0 w x has)) f
@@ -87,7 +87,7 @@ module _ (ms : List ModuleTree) (root : ModuleTree) (names : first_violation (v2
     powers_up fits (Wire w x) has = tt
     powers_up fits (Assign x e) has = tt
     powers_up fits (Always b) has = tt
-    powers_up fits (Instance k i links) has = tt
+    powers_up fits (Instance k i connections) has = tt
 
     begins_line : (it : Item) → Has m.items it → SameHeld (run 0 path) (contents path) it
     begins_line (Reg w x) has = register_number 0 w x has
@@ -95,7 +95,7 @@ module _ (ms : List ModuleTree) (root : ModuleTree) (names : first_violation (v2
     begins_line (Wire w x) has = tt
     begins_line (Assign x e) has = tt
     begins_line (Always b) has = tt
-    begins_line (Instance k i links) has = tt
+    begins_line (Instance k i connections) has = tt
 
     follows : AllByRecursion (PowersUp (contents path)) m.items → Follows m (λ n. run n path)
     follows fits = record {
@@ -109,13 +109,13 @@ module _ (ms : List ModuleTree) (root : ModuleTree) (names : first_violation (v2
   pub runs : FitsPowerUp ms root contents → Runs ms root run
   runs fits = record {
     each = λ path m at. follows path m at (fits path m at);
-    links = λ n path m at. lines_linked ms root names drivers in_root (state n).held (around.give (state n).world) (number (state n)) (number_solves (state n)) path m at;
+    connections = λ n path m at. lines_connected ms root names drivers in_root (state n).held (around.give (state n).world) (number (state n)) (number_solves (state n)) path m at;
   }
 
   pub begins : BeginsWith ms root contents run
   begins path m at = all_from (SameHeld (run 0 path) (contents path)) m.items (begins_line path m at)
 
-  pub inputs : (n : ℕ) (x : Name) → sort_of (declared root) x ≡ Input → (run n []).net x ≡ around.give (worlds W around run n) x (asked_at (run n) x)
+  pub inputs : (n : ℕ) (x : Name) → net_kind_of (declared root) x ≡ Input → (run n []).net x ≡ around.give (worlds W around run n) x (asked_at (run n) x)
   inputs n x e =
       input_number ms root names drivers in_root (state n).held (around.give (state n).world) (number (state n)) (number_solves (state n)) [] root refl x e
       ∙ ap (λ w. around.give w x (asked_at (run n) x)) (world_is n)

@@ -3,11 +3,11 @@ use Rattle.std.proofs.Common.{◌≡◌, ℕ, zero, suc, ◌<◌, true, false, L
 use Rattle.std.specs.List.{AllByRecursion}
 use Rattle.vlog_tree.specs.declared.tree.Item.{Item}
 use Rattle.vlog_tree.specs.declared.tree.Item.TheVariants.{Wire, Reg, Memory, Assign, Always, Instance}
-use Rattle.vlog_tree.specs.declared.table.Sort.TheVariants.{Input, Register, MemoryArray}
+use Rattle.vlog_tree.specs.declared.table.NetKind.TheVariants.{Input, Register, MemoryArray}
 use Rattle.vlog_tree.specs.Form.{ModuleTree}
 use Rattle.vlog_tree.specs.Grounded.{Has, IsGrounded}
 use Rattle.vlog_tree.specs.Cycle.{Cycle, Path, Holds, Takes, run_items, Runs, module_at}
-use Rattle.vlog_tree.specs.Table.{Name, declared, sort_of, sort_is_read, is_clk, first_violation}
+use Rattle.vlog_tree.specs.Table.{Name, declared, net_kind_of, net_kind_is_read, is_clk, first_violation}
 use Rattle.vlog_tree.specs.V2.{v2_uses}
 use Rattle.vlog_tree.specs.V4.{v4_uses}
 use Rattle.vlog_tree.specs.V6.{v6_uses, is_top}
@@ -15,7 +15,7 @@ use Rattle.vlog_tree.specs.Flattened.{FlatNet, parts}
 use Rattle.vlog_law_runs.specs.OneRun.{SameHeld, BeginsWith, IsSameRun}
 use Rattle.vlog_law_runs.proofs.Alone.{register_clock}
 use Rattle.vlog_law_runs.proofs.Settled.{module_in}
-use Rattle.vlog_law_runs.proofs.Sizes.{all_at, all_from, memory_item, declared_sort, has_line}
+use Rattle.vlog_law_runs.proofs.Sizes.{all_at, all_from, memory_item, declared_net_kind, has_line}
 use Rattle.vlog_law_runs.proofs.Run.{World, worlds, asked_at}
 use Rattle.vlog_law_runs.proofs.Alike.{Alike, items_alike}
 use Rattle.vlog_law_runs.proofs.Solved.{Allowed}
@@ -24,11 +24,11 @@ use Rattle.vlog_law_runs.proofs.Only.{nets_agree}
 -- a run whose inputs come from what is around the top; the clock's number is left open
 pub record IsRunIn (ms : List ModuleTree) (root : ModuleTree) (W : Type 0) (around : World W) (nets : ℕ → Path → Cycle) : Type 0 where
   pub runs : Runs ms root nets
-  pub inputs : (n : ℕ) (x : Name) → sort_of (declared root) x ≡ Input → is_clk x ≡ false → (nets n []).net x ≡ around.give (worlds W around nets n) x (asked_at (nets n) x)
+  pub inputs : (n : ℕ) (x : Name) → net_kind_of (declared root) x ≡ Input → is_clk x ≡ false → (nets n []).net x ≡ around.give (worlds W around nets n) x (asked_at (nets n) x)
 
 -- what the top's declared nets are decides what is around it in the next cycle
 abbrev pub IsDecided : ModuleTree → (W : Type 0) → World W → Type 0
-IsDecided root W around = (w : W) (c d : Cycle) → ((x : Name) → sort_is_read (sort_of (declared root) x) ≡ true → is_clk x ≡ false → c.net x ≡ d.net x) → around.next w c ≡ around.next w d
+IsDecided root W around = (w : W) (c d : Cycle) → ((x : Name) → net_kind_is_read (net_kind_of (declared root) x) ≡ true → is_clk x ≡ false → c.net x ≡ d.net x) → around.next w c ≡ around.next w d
 
 module _ (ms : List ModuleTree) (root : ModuleTree) (names : first_violation (v2_uses ms) ≡ None) (drivers : first_violation (v4_uses ms) ≡ None) (tops : first_violation (v6_uses ms) ≡ None)
     (in_root : Has ms root) (top_is : is_top ms root.name ≡ true) (settled : (n : FlatNet) → IsGrounded (parts ms root true) n) (W : Type 0) (around : World W) (decided : IsDecided root W around)
@@ -36,14 +36,14 @@ module _ (ms : List ModuleTree) (root : ModuleTree) (names : first_violation (v2
   allowed : (nets : ℕ → Path → Cycle) → Runs ms root nets → (n : ℕ) → Allowed ms root (nets n)
   allowed nets r n = record {
     each = λ path m at. record { sizes = (r.each path m at).sizes; ports = (r.each path m at).ports; lines = (r.each path m at).lines n };
-    links = r.links n;
+    connections = r.connections n;
   }
 
   abbrev HeldSame : ℕ → Type 0
   HeldSame n = (path : Path) (m : ModuleTree) → module_at ms root path ≡ Some m → AllByRecursion (SameHeld (b n path) (a n path)) m.items
 
   module _ (n : ℕ) (world : worlds W around a n ≡ worlds W around b n) (held : HeldSame n) where
-    net_same : (path : Path) (m : ModuleTree) → module_at ms root path ≡ Some m → (x : Name) → sort_is_read (sort_of (declared m) x) ≡ true → is_clk x ≡ false → (a n path).net x ≡ (b n path).net x
+    net_same : (path : Path) (m : ModuleTree) → module_at ms root path ≡ Some m → (x : Name) → net_kind_is_read (net_kind_of (declared m) x) ≡ true → is_clk x ≡ false → (a n path).net x ≡ (b n path).net x
     net_same path m at x r c =
         nets_agree ms root names drivers tops in_root top_is (a n) (b n) (allowed a ra.runs n) (allowed b rb.runs n) held (around.give (worlds W around a n)) (ra.inputs n)
         (λ x s c. rb.inputs n x s c ∙ ap (λ w. around.give w x (asked_at (b n) x)) (sym world)) (path, x) (settled (path, x)) (record { tree = m; at = at; read = r; no_clock = c })
@@ -74,19 +74,19 @@ module _ (ms : List ModuleTree) (root : ModuleTree) (names : first_violation (v2
 
       held_next : (it : Item) → Has m.items it → SameHeld (b (suc n) path) (a (suc n) path) it
       held_next (Reg w x) has =
-          let sort : sort_of (declared m) x ≡ Register = declared_sort m ms names here _ (has_line m ms names here (Reg w x) has (record { name = x; sort = Register; bits = w }) (inl refl)) in
+          let net_kind : net_kind_of (declared m) x ≡ Register = declared_net_kind m ms names here _ (has_line m ms names here (Reg w x) has (record { name = x; net_kind = Register; bits = w }) (inl refl)) in
           all_at (Takes (rb.runs.each path m at).sizes m.items (b n path) (b (suc n) path)) m.items (Reg w x) ((rb.runs.each path m at).registers n) has
-          ∙ sym (left_alike.nets x (ap sort_is_read sort) (register_clock ms names m here w x has))
+          ∙ sym (left_alike.nets x (ap net_kind_is_read net_kind) (register_clock ms names m here w x has))
           ∙ sym (all_at (Takes (ra.runs.each path m at).sizes m.items (a n path) (a (suc n) path)) m.items (Reg w x) ((ra.runs.each path m at).registers n) has)
       held_next (Memory w x k) has = λ i low.
-          let sort : sort_of (declared m) x ≡ MemoryArray = declared_sort m ms names here _ (has_line m ms names here (Memory w x k) has (record { name = x; sort = MemoryArray; bits = w }) (inl refl)) in
+          let net_kind : net_kind_of (declared m) x ≡ MemoryArray = declared_net_kind m ms names here _ (has_line m ms names here (Memory w x k) has (record { name = x; net_kind = MemoryArray; bits = w }) (inl refl)) in
           all_at (Takes (rb.runs.each path m at).sizes m.items (b n path) (b (suc n) path)) m.items (Memory w x k) ((rb.runs.each path m at).registers n) has i low
-          ∙ sym (left_alike.cells x sort i (subst (λ k. i < k) (sym (cells_declared a ra.runs w x k has)) low))
+          ∙ sym (left_alike.cells x net_kind i (subst (λ k. i < k) (sym (cells_declared a ra.runs w x k has)) low))
           ∙ sym (all_at (Takes (ra.runs.each path m at).sizes m.items (a n path) (a (suc n) path)) m.items (Memory w x k) ((ra.runs.each path m at).registers n) has i low)
       held_next (Wire w x) has = tt
       held_next (Assign x e) has = tt
       held_next (Always s) has = tt
-      held_next (Instance k i links) has = tt
+      held_next (Instance k i connections) has = tt
 
     all_held_next : HeldSame (suc n)
     all_held_next path m at = all_from (SameHeld (b (suc n) path) (a (suc n) path)) m.items (held_next path m at)
@@ -100,7 +100,7 @@ module _ (ms : List ModuleTree) (root : ModuleTree) (names : first_violation (v2
         by_line (Wire w x) p q = tt
         by_line (Assign x e) p q = tt
         by_line (Always s) p q = tt
-        by_line (Instance k i links) p q = tt
+        by_line (Instance k i connections) p q = tt
 
   module _ (start : HeldSame 0) where
     all_same : (n : ℕ) → (worlds W around a n ≡ worlds W around b n) × HeldSame n

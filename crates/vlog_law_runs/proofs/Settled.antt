@@ -4,25 +4,25 @@ use Rattle.std.specs.Prelude.{bytes_eq, ◌⊎◌, slice_get, if◌then◌else�
 use Rattle.std.specs.List.{flat_map}
 use Rattle.std.specs.Cmp.Lexicographic.{bytes_decides}
 use Rattle.vlog_tree.specs.declared.tree.Value.{Value}
-use Rattle.vlog_tree.specs.declared.tree.Link.{Link}
+use Rattle.vlog_tree.specs.declared.tree.Connection.{Connection}
 use Rattle.vlog_tree.specs.declared.tree.Item.{Item}
 use Rattle.vlog_tree.specs.declared.tree.Item.TheVariants.{Wire, Reg, Memory, Assign, Always, Instance}
-use Rattle.vlog_tree.specs.declared.table.Sort.TheVariants.{Input, Output}
+use Rattle.vlog_tree.specs.declared.table.NetKind.TheVariants.{Input, Output}
 use Rattle.vlog_tree.specs.Form.{ModuleTree}
 use Rattle.vlog_tree.specs.Grounded.{Has, IsGrounded, grounded}
 use Rattle.vlog_tree.specs.Cycle.{Path, module_named, module_at, child_of, and_then}
-use Rattle.vlog_tree.specs.Table.{Name, no, declared, port_declared, declaration_name, sort_of, sort_is_read, sort_is_input, ports_of, first_violation}
+use Rattle.vlog_tree.specs.Table.{Name, no, declared, port_declared, declaration_name, net_kind_of, net_kind_is_read, net_kind_is_input, ports_of, first_violation}
 use Rattle.vlog_tree.specs.V2.{v2_uses}
 use Rattle.std.specs.Option.{option_map_or}
 use Rattle.vlog_tree.specs.V6.{is_top, first_name}
 use Rattle.vlog_tree.specs.Labels.{address_of}
-use Rattle.vlog_tree.specs.Loops.{port_of, link_edge, line_edges, memory_edges, answer_edges, instances, item_instances, value_nets, Rests, directly, through, after, containment, Reaches, one, IsLoopless}
+use Rattle.vlog_tree.specs.Loops.{port_of, connection_edge, line_edges, memory_edges, answer_edges, instances, item_instances, value_nets, Rests, directly, through, after, containment, Reaches, one, IsLoopless}
 use Rattle.vlog_tree.specs.Flattened.{FlatNet, parts, line_parts, outer_parts, lines_of, memory_parts}
 use Rattle.vlog_tree.specs.Refused.{IsDesign}
 use Rattle.vlog_graph.proofs.Numbered.{has_left, has_right, has_split}
 use Rattle.vlog_comb_loops.proofs.Lists.{has_flat, of_flat, has_map, of_map, has_got}
 use Rattle.vlog_law_runs.proofs.Ending.{Ends, ends}
-use Rattle.vlog_law_runs.proofs.Sound.{declared_by, assign_reads, link_port, link_net, is_known_module, output_is, input_is}
+use Rattle.vlog_law_runs.proofs.Sound.{declared_by, assign_reads, connection_port, connection_net, is_known_module, output_is, input_is}
 use Rattle.vlog_law_runs.proofs.Alone.{instance_item, one_instance, child_is, module_there, module_is, IsNamed, same_name}
 use Rattle.vlog_law_runs.proofs.Addresses.{address_asks_nothing}
 use Rattle.vlog_law_runs.proofs.Module.{wires_end, modules_end, contains, name_declared}
@@ -59,17 +59,17 @@ no_answers : (path : Path) (x a : Name) → Has (address_of x) a → answers (pa
 no_answers [] x a h = ap (λ (l : List Name). map (λ y. ([], y)) l) (address_asks_nothing x a h)
 no_answers (i ∷ path) x a h = refl
 
-outer_link : (path : Path) (l : Link) (p : Bool) (b : FlatNet) → Has {N = FlatNet} (cond p ((path, l.net) ∷ []) []) b → (z : Name) × (◌≡◌ {A = FlatNet} (path, z) b)
-outer_link path l true b (inl e) = (l.net, e)
-outer_link path l true b (inr h) = absurd h
-outer_link path l false b h = absurd h
+outer_connection : (path : Path) (l : Connection) (p : Bool) (b : FlatNet) → Has {N = FlatNet} (cond p ((path, l.net) ∷ []) []) b → (z : Name) × (◌≡◌ {A = FlatNet} (path, z) b)
+outer_connection path l true b (inl e) = (l.net, e)
+outer_connection path l true b (inr h) = absurd h
+outer_connection path l false b h = absurd h
 
-outer_item : (path : Path) (p : Bool) (f : Link → Bool) (links : List Link) (b : FlatNet) → Has {N = FlatNet} (cond p (flat_map (λ (l : Link). if f l then (path, l.net) ∷ [] else []) links) []) b → (z : Name) × (◌≡◌ {A = FlatNet} (path, z) b)
-outer_item path true f links b h = let t = of_flat (λ (l : Link). if f l then (path, l.net) ∷ [] else []) links b h in outer_link path t.0 (f t.0) b t.2
-outer_item path false f links b h = absurd h
+outer_item : (path : Path) (p : Bool) (f : Connection → Bool) (connections : List Connection) (b : FlatNet) → Has {N = FlatNet} (cond p (flat_map (λ (l : Connection). if f l then (path, l.net) ∷ [] else []) connections) []) b → (z : Name) × (◌≡◌ {A = FlatNet} (path, z) b)
+outer_item path true f connections b h = let t = of_flat (λ (l : Connection). if f l then (path, l.net) ∷ [] else []) connections b h in outer_connection path t.0 (f t.0) b t.2
+outer_item path false f connections b h = absurd h
 
 outer_line : (ms : List ModuleTree) (path : Path) (i y : Name) (it : Item) (b : FlatNet) → Has (outer_parts ms path i y it) b → (z : Name) × (◌≡◌ {A = FlatNet} (path, z) b)
-outer_line ms path i y (Instance kn j links) b h = outer_item path (bytes_eq j i) (λ (l : Link). bytes_eq l.port y && sort_is_input (sort_of (map port_declared (ports_of ms kn)) l.port)) links b h
+outer_line ms path i y (Instance kn j connections) b h = outer_item path (bytes_eq j i) (λ (l : Connection). bytes_eq l.port y && net_kind_is_input (net_kind_of (map port_declared (ports_of ms kn)) l.port)) connections b h
 outer_line ms path i y (Wire w z) b h = absurd h
 outer_line ms path i y (Reg w z) b h = absurd h
 outer_line ms path i y (Memory w z n) b h = absurd h
@@ -84,33 +84,33 @@ module _ (ms : List ModuleTree) (root m : ModuleTree) (path : Path) where
   -- what an input of an instance comes from outside by
   pub record Joined (i y : Name) (b : FlatNet) : Type 0 where
     pub kn : Name
-    pub links : List Link
-    pub has : Has m.items (Instance kn i links)
-    pub link : Link
-    pub linked : Has links link
-    pub port : link.port ≡ y
-    pub input : sort_is_input (sort_of (map port_declared (ports_of ms kn)) y) ≡ true
-    pub is : (path, link.net) ≡ b
+    pub connections : List Connection
+    pub has : Has m.items (Instance kn i connections)
+    pub connection : Connection
+    pub connected : Has connections connection
+    pub port : connection.port ≡ y
+    pub input : net_kind_is_input (net_kind_of (map port_declared (ports_of ms kn)) y) ≡ true
+    pub is : (path, connection.net) ≡ b
 
-  joined_links : (kn i y : Name) (links : List Link) → Has m.items (Instance kn i links) → (l : Link) → Has links l → (p q : Bool) → bytes_eq l.port y ≡ p → sort_is_input (sort_of (map port_declared (ports_of ms kn)) l.port) ≡ q → (b : FlatNet)
+  joined_connections : (kn i y : Name) (connections : List Connection) → Has m.items (Instance kn i connections) → (l : Connection) → Has connections l → (p q : Bool) → bytes_eq l.port y ≡ p → net_kind_is_input (net_kind_of (map port_declared (ports_of ms kn)) l.port) ≡ q → (b : FlatNet)
       → Has (cond (p && q) ((path, l.net) ∷ []) []) b → Joined i y b
-  joined_links kn i y links has l h true true e f b (inl g) =
+  joined_connections kn i y connections has l h true true e f b (inl g) =
       let same : l.port ≡ y = (bytes_decides l.port y).0 e in
-      record { kn = kn; links = links; has = has; link = l; linked = h; port = same; input = subst (λ z. sort_is_input (sort_of (map port_declared (ports_of ms kn)) z) ≡ true) same f; is = g }
-  joined_links kn i y links has l h true true e f b (inr g) = absurd g
-  joined_links kn i y links has l h true false e f b g = absurd g
-  joined_links kn i y links has l h false q e f b g = absurd g
+      record { kn = kn; connections = connections; has = has; connection = l; connected = h; port = same; input = subst (λ z. net_kind_is_input (net_kind_of (map port_declared (ports_of ms kn)) z) ≡ true) same f; is = g }
+  joined_connections kn i y connections has l h true true e f b (inr g) = absurd g
+  joined_connections kn i y connections has l h true false e f b g = absurd g
+  joined_connections kn i y connections has l h false q e f b g = absurd g
 
-  joined_item : (kn j i y : Name) (links : List Link) → Has m.items (Instance kn j links) → (p : Bool) → bytes_eq j i ≡ p → (b : FlatNet)
-      → Has (cond p (flat_map (λ (l : Link). if bytes_eq l.port y && sort_is_input (sort_of (map port_declared (ports_of ms kn)) l.port) then (path, l.net) ∷ [] else []) links) []) b → Joined i y b
-  joined_item kn j i y links has true e b h =
-      let t = of_flat (λ (l : Link). if bytes_eq l.port y && sort_is_input (sort_of (map port_declared (ports_of ms kn)) l.port) then (path, l.net) ∷ [] else []) links b h in
+  joined_item : (kn j i y : Name) (connections : List Connection) → Has m.items (Instance kn j connections) → (p : Bool) → bytes_eq j i ≡ p → (b : FlatNet)
+      → Has (cond p (flat_map (λ (l : Connection). if bytes_eq l.port y && net_kind_is_input (net_kind_of (map port_declared (ports_of ms kn)) l.port) then (path, l.net) ∷ [] else []) connections) []) b → Joined i y b
+  joined_item kn j i y connections has true e b h =
+      let t = of_flat (λ (l : Connection). if bytes_eq l.port y && net_kind_is_input (net_kind_of (map port_declared (ports_of ms kn)) l.port) then (path, l.net) ∷ [] else []) connections b h in
       let same : j ≡ i = (bytes_decides j i).0 e in
-      joined_links kn i y links (subst (λ z. Has m.items (Instance kn z links)) same has) t.0 t.1 _ _ refl refl b t.2
-  joined_item kn j i y links has false e b h = absurd h
+      joined_connections kn i y connections (subst (λ z. Has m.items (Instance kn z connections)) same has) t.0 t.1 _ _ refl refl b t.2
+  joined_item kn j i y connections has false e b h = absurd h
 
   joined_line : (it : Item) → Has m.items it → (i y : Name) (b : FlatNet) → Has (outer_parts ms path i y it) b → Joined i y b
-  joined_line (Instance kn j links) has i y b h = joined_item kn j i y links has (bytes_eq j i) refl b h
+  joined_line (Instance kn j connections) has i y b h = joined_item kn j i y connections has (bytes_eq j i) refl b h
   joined_line (Wire w z) has i y b h = absurd h
   joined_line (Reg w z) has i y b h = absurd h
   joined_line (Memory w z n) has i y b h = absurd h
@@ -148,17 +148,17 @@ module _ (ms : List ModuleTree) (root : ModuleTree) (is_top : Name → Bool) whe
     line_rests : (it : Item) (x y : Name) → Has m.items it → Has (line_edges ms it) (x, y) → Rests ms is_top m x y
     line_rests it x y has h = directly (has_left (flat_map (line_edges ms) m.items) (memory_edges (is_top m.name) (declared m)) (x, y) (has_flat (line_edges ms) m.items it (x, y) has h))
 
-    input_edge : (kn i : Name) (links : List Link) → Has m.items (Instance kn i links) → (l : Link) → Has links l → sort_is_input (sort_of (map port_declared (ports_of ms kn)) l.port) ≡ true → Rests ms is_top m (port_of i l.port) l.net
-    unfolding link_edge
-    input_edge kn i links has l h e =
-        let f = has_map (link_edge (map port_declared (ports_of ms kn)) i) links l h in
-        line_rests (Instance kn i links) (port_of i l.port) l.net has (subst (λ b. Has {N = Name × Name} (map (link_edge (map port_declared (ports_of ms kn)) i) links) (cond b (port_of i l.port, l.net) (l.net, port_of i l.port))) e f)
+    input_edge : (kn i : Name) (connections : List Connection) → Has m.items (Instance kn i connections) → (l : Connection) → Has connections l → net_kind_is_input (net_kind_of (map port_declared (ports_of ms kn)) l.port) ≡ true → Rests ms is_top m (port_of i l.port) l.net
+    unfolding connection_edge
+    input_edge kn i connections has l h e =
+        let f = has_map (connection_edge (map port_declared (ports_of ms kn)) i) connections l h in
+        line_rests (Instance kn i connections) (port_of i l.port) l.net has (subst (λ b. Has {N = Name × Name} (map (connection_edge (map port_declared (ports_of ms kn)) i) connections) (cond b (port_of i l.port, l.net) (l.net, port_of i l.port))) e f)
 
-    output_edge : (kn i : Name) (links : List Link) → Has m.items (Instance kn i links) → (l : Link) → Has links l → sort_is_input (sort_of (map port_declared (ports_of ms kn)) l.port) ≡ false → Rests ms is_top m l.net (port_of i l.port)
-    unfolding link_edge
-    output_edge kn i links has l h e =
-        let f = has_map (link_edge (map port_declared (ports_of ms kn)) i) links l h in
-        line_rests (Instance kn i links) l.net (port_of i l.port) has (subst (λ b. Has {N = Name × Name} (map (link_edge (map port_declared (ports_of ms kn)) i) links) (cond b (port_of i l.port, l.net) (l.net, port_of i l.port))) e f)
+    output_edge : (kn i : Name) (connections : List Connection) → Has m.items (Instance kn i connections) → (l : Connection) → Has connections l → net_kind_is_input (net_kind_of (map port_declared (ports_of ms kn)) l.port) ≡ false → Rests ms is_top m l.net (port_of i l.port)
+    unfolding connection_edge
+    output_edge kn i connections has l h e =
+        let f = has_map (connection_edge (map port_declared (ports_of ms kn)) i) connections l h in
+        line_rests (Instance kn i connections) l.net (port_of i l.port) has (subst (λ b. Has {N = Name × Name} (map (connection_edge (map port_declared (ports_of ms kn)) i) connections) (cond b (port_of i l.port, l.net) (l.net, port_of i l.port))) e f)
 
     module _ (x : Name) (out : OutsideSettles m path x) (deeper : (z : Name) → Rests ms is_top m x z → IsKnown m path z → OutsideSettles m path z → Settles (path, z)) where
       further : (z : Name) → Rests ms is_top m x z → OutsideSettles m path z
@@ -168,54 +168,54 @@ module _ (ms : List ModuleTree) (root : ModuleTree) (is_top : Name → Bool) whe
       next z r k = deeper z r k (further z r)
 
       -- an output of an instance settles where the module's other nets do
-      child_below : (kn i p : Name) (links : List Link) → Has m.items (Instance kn i links) → (k : ModuleTree) → module_named ms kn ≡ Some k → sort_of (map port_declared k.ports) p ≡ Output → Rests ms is_top m x (port_of i p)
+      child_below : (kn i p : Name) (connections : List Connection) → Has m.items (Instance kn i connections) → (k : ModuleTree) → module_named ms kn ≡ Some k → net_kind_of (map port_declared k.ports) p ≡ Output → Rests ms is_top m x (port_of i p)
           → (y : Name) (b : FlatNet) → Joined ms root m path i y b → Below k p y → Settles b
-      child_below kn i p links has k named sp r y b j below =
-          let u = one_instance ms names m in_ms j.kn kn i j.links links j.has has in
+      child_below kn i p connections has k named sp r y b j below =
+          let u = one_instance ms names m in_ms j.kn kn i j.connections connections j.has has in
           let n : IsNamed ms kn k = module_is ms kn k named in
-          let sy : sort_of (map port_declared k.ports) y ≡ Input = subst (λ ps. sort_of (map port_declared ps) y ≡ Input) n.ports (subst (λ z. sort_of (map port_declared (ports_of ms z)) y ≡ Input) u.0 (input_is _ j.input)) in
-          let inst : Has (instances m) (kn, i) = has_flat item_instances m.items (Instance kn i links) (kn, i) has (inl refl) in
+          let sy : net_kind_of (map port_declared k.ports) y ≡ Input = subst (λ ps. net_kind_of (map port_declared ps) y ≡ Input) n.ports (subst (λ z. net_kind_of (map port_declared (ports_of ms z)) y ≡ Input) u.0 (input_is _ j.input)) in
+          let inst : Has (instances m) (kn, i) = has_flat item_instances m.items (Instance kn i connections) (kn, i) has (inl refl) in
           let inner : Rests ms is_top k p y = elim below [
-            | inl e ↦ (let clash : Output ≡ Input = sym sp ∙ ap (λ z. sort_of (map port_declared k.ports) z) e ∙ sy in cc)
+            | inl e ↦ (let clash : Output ≡ Input = sym sp ∙ ap (λ z. net_kind_of (map port_declared k.ports) z) e ∙ sy in cc)
             | inr s ↦ s
           ] in
           let across : Rests ms is_top m (port_of i p) (port_of i y) = through k kn i p y inst named sp sy inner refl refl in
-          let input : sort_is_input (sort_of (map port_declared (ports_of ms j.kn)) j.link.port) ≡ true = subst (λ z. sort_is_input (sort_of (map port_declared (ports_of ms j.kn)) z) ≡ true) (sym j.port) j.input in
-          let up : Rests ms is_top m (port_of i y) j.link.net = subst (λ z. Rests ms is_top m (port_of i z) j.link.net) j.port (input_edge j.kn i j.links j.has j.link j.linked input) in
-          let whole : Rests ms is_top m x j.link.net = after (port_of i p) r (after (port_of i y) across up) in
-          subst Settles j.is (next j.link.net whole (inl (declared_by sort_is_read (declared m) j.link.net refl (link_net ms names m in_ms j.kn i j.links j.has j.link j.linked))))
+          let input : net_kind_is_input (net_kind_of (map port_declared (ports_of ms j.kn)) j.connection.port) ≡ true = subst (λ z. net_kind_is_input (net_kind_of (map port_declared (ports_of ms j.kn)) z) ≡ true) (sym j.port) j.input in
+          let up : Rests ms is_top m (port_of i y) j.connection.net = subst (λ z. Rests ms is_top m (port_of i z) j.connection.net) j.port (input_edge j.kn i j.connections j.has j.connection j.connected input) in
+          let whole : Rests ms is_top m x j.connection.net = after (port_of i p) r (after (port_of i y) across up) in
+          subst Settles j.is (next j.connection.net whole (inl (declared_by net_kind_is_read (declared m) j.connection.net refl (connection_net ms names m in_ms j.kn i j.connections j.has j.connection j.connected))))
 
-      child_net : (kn i : Name) (links : List Link) → Has m.items (Instance kn i links) → (l : Link) → Has links l → l.net ≡ x → sort_is_input (sort_of (map port_declared (ports_of ms kn)) l.port) ≡ false → Settles (i ∷ path, l.port)
-      child_net kn i links has l h net e =
-          let t = module_there ms kn (is_known_module ms names m in_ms kn i links has) in
+      child_net : (kn i : Name) (connections : List Connection) → Has m.items (Instance kn i connections) → (l : Connection) → Has connections l → l.net ≡ x → net_kind_is_input (net_kind_of (map port_declared (ports_of ms kn)) l.port) ≡ false → Settles (i ∷ path, l.port)
+      child_net kn i connections has l h net e =
+          let t = module_there ms kn (is_known_module ms names m in_ms kn i connections has) in
           let n : IsNamed ms kn t.0 = module_is ms kn t.0 t.1 in
-          let read = link_port ms names m in_ms kn i links has l h in
-          let sp : sort_of (map port_declared t.0.ports) l.port ≡ Output = subst (λ ps. sort_of (map port_declared ps) l.port ≡ Output) n.ports (output_is (ports_of ms kn) l.port read e) in
-          let inst : Has (instances m) (kn, i) = has_flat item_instances m.items (Instance kn i links) (kn, i) has (inl refl) in
-          let r : Rests ms is_top m x (port_of i l.port) = subst (λ z. Rests ms is_top m z (port_of i l.port)) net (output_edge kn i links has l h e) in
-          children kn i t.0 inst t.1 l.port (inl (name_declared t.0 l.port (declared_by sort_is_read (map port_declared t.0.ports) l.port refl (ap sort_is_read sp))))
-          (λ y below b g. child_below kn i l.port links has t.0 t.1 sp r y b (joined ms root m path at i y b g) below)
+          let read = connection_port ms names m in_ms kn i connections has l h in
+          let sp : net_kind_of (map port_declared t.0.ports) l.port ≡ Output = subst (λ ps. net_kind_of (map port_declared ps) l.port ≡ Output) n.ports (output_is (ports_of ms kn) l.port read e) in
+          let inst : Has (instances m) (kn, i) = has_flat item_instances m.items (Instance kn i connections) (kn, i) has (inl refl) in
+          let r : Rests ms is_top m x (port_of i l.port) = subst (λ z. Rests ms is_top m z (port_of i l.port)) net (output_edge kn i connections has l h e) in
+          children kn i t.0 inst t.1 l.port (inl (name_declared t.0 l.port (declared_by net_kind_is_read (map port_declared t.0.ports) l.port refl (ap net_kind_is_read sp))))
+          (λ y below b g. child_below kn i l.port connections has t.0 t.1 sp r y b (joined ms root m path at i y b g) below)
 
-      child_link : (kn i : Name) (links : List Link) → Has m.items (Instance kn i links) → (l : Link) → Has links l → (p q : Bool) → bytes_eq l.net x ≡ p → sort_is_input (sort_of (map port_declared (ports_of ms kn)) l.port) ≡ q → (b : FlatNet)
+      child_connection : (kn i : Name) (connections : List Connection) → Has m.items (Instance kn i connections) → (l : Connection) → Has connections l → (p q : Bool) → bytes_eq l.net x ≡ p → net_kind_is_input (net_kind_of (map port_declared (ports_of ms kn)) l.port) ≡ q → (b : FlatNet)
           → Has (cond (p && no q) ((i ∷ path, l.port) ∷ []) []) b → Settles b
-      child_link kn i links has l h true false e f b (inl g) = subst Settles g (child_net kn i links has l h ((bytes_decides l.net x).0 e) f)
-      child_link kn i links has l h true false e f b (inr g) = absurd g
-      child_link kn i links has l h true true e f b g = absurd g
-      child_link kn i links has l h false q e f b g = absurd g
+      child_connection kn i connections has l h true false e f b (inl g) = subst Settles g (child_net kn i connections has l h ((bytes_decides l.net x).0 e) f)
+      child_connection kn i connections has l h true false e f b (inr g) = absurd g
+      child_connection kn i connections has l h true true e f b g = absurd g
+      child_connection kn i connections has l h false q e f b g = absurd g
 
       driver_net : (z : Name) (e : Value) → Has m.items (Assign z e) → (p : Bool) → bytes_eq z x ≡ p → (b : FlatNet) → Has {N = FlatNet} (cond p (map (λ y. (path, y)) (value_nets e)) []) b → Settles b
       driver_net z e has true s b h =
           let t = of_map (λ y. (path, y)) (value_nets e) b h in
           let same : z ≡ x = (bytes_decides z x).0 s in
           let r : Rests ms is_top m x t.0 = subst (λ w. Rests ms is_top m w t.0) same (line_rests (Assign z e) z t.0 has (has_map (λ y. (z, y)) (value_nets e) t.0 t.1)) in
-          subst Settles t.2 (next t.0 r (inl (declared_by sort_is_read (declared m) t.0 refl (assign_reads ms names m in_ms z e has t.0 t.1).0)))
+          subst Settles t.2 (next t.0 r (inl (declared_by net_kind_is_read (declared m) t.0 refl (assign_reads ms names m in_ms z e has t.0 t.1).0)))
       driver_net z e has false s b h = absurd h
 
       line_settles : (it : Item) → Has m.items it → (b : FlatNet) → Has (line_parts ms path x it) b → Settles b
       line_settles (Assign z e) has b h = driver_net z e has (bytes_eq z x) refl b h
-      line_settles (Instance kn i links) has b h =
-          let t = of_flat (λ (l : Link). if bytes_eq l.net x && no (sort_is_input (sort_of (map port_declared (ports_of ms kn)) l.port)) then (i ∷ path, l.port) ∷ [] else []) links b h in
-          child_link kn i links has t.0 t.1 _ _ refl refl b t.2
+      line_settles (Instance kn i connections) has b h =
+          let t = of_flat (λ (l : Connection). if bytes_eq l.net x && no (net_kind_is_input (net_kind_of (map port_declared (ports_of ms kn)) l.port)) then (i ∷ path, l.port) ∷ [] else []) connections b h in
+          child_connection kn i connections has t.0 t.1 _ _ refl refl b t.2
       line_settles (Wire w z) has b h = absurd h
       line_settles (Reg w z) has b h = absurd h
       line_settles (Memory w z n) has b h = absurd h

@@ -6,17 +6,17 @@ use Rattle.std.specs.Cmp.Lexicographic.{bytes_decides}
 use Rattle.std.proofs.lemmas.Bool.Decides.{nat_tests}
 use Rattle.vlog_tree.specs.declared.tree.Value.{Value}
 use Rattle.vlog_tree.specs.declared.tree.Value.TheVariants.{Plain, Invert, Binary, Choose, Concat, Repeat, Cell}
-use Rattle.vlog_tree.specs.declared.tree.Link.{Link}
+use Rattle.vlog_tree.specs.declared.tree.Connection.{Connection}
 use Rattle.vlog_tree.specs.declared.tree.Item.{Item}
 use Rattle.vlog_tree.specs.declared.tree.Item.TheVariants.{Wire, Reg, Memory, Assign, Always, Instance}
 use Rattle.vlog_tree.specs.declared.table.Declaration.{Declaration}
-use Rattle.vlog_tree.specs.declared.table.Sort.{Sort}
-use Rattle.vlog_tree.specs.declared.table.Sort.TheVariants.{Unknown, Input, Output, WireNet, Register, MemoryArray, ChildInstance}
+use Rattle.vlog_tree.specs.declared.table.NetKind.{NetKind}
+use Rattle.vlog_tree.specs.declared.table.NetKind.TheVariants.{Unknown, Input, Output, WireNet, Register, MemoryArray, ChildInstance}
 use Rattle.vlog_tree.specs.Form.{ModuleTree}
 use Rattle.vlog_tree.specs.Grounded.{Has}
-use Rattle.vlog_tree.specs.Cycle.{Cycle, Path, Sizes, Holds, PortHolds, Linked, driven, read_cell, module_at, module_named, child_of, and_then}
-use Rattle.vlog_tree.specs.Table.{declaration_name, Name, declared, port_declared, items_declared, find_name, sort_of, bits_of, sort_is_read, sort_is_driven, sort_is_input, ports_of, first_violation}
-use Rattle.vlog_tree.specs.V2.{v2_uses, all_linked}
+use Rattle.vlog_tree.specs.Cycle.{Cycle, Path, Sizes, Holds, PortHolds, Connected, driven, read_cell, module_at, module_named, child_of, and_then}
+use Rattle.vlog_tree.specs.Table.{declaration_name, Name, declared, port_declared, items_declared, find_name, net_kind_of, bits_of, net_kind_is_read, net_kind_is_driven, net_kind_is_input, ports_of, first_violation}
+use Rattle.vlog_tree.specs.V2.{v2_uses, all_connected}
 use Rattle.vlog_tree.specs.declared.tree.PortDecl.{PortDecl}
 use Rattle.vlog_tree.specs.V4.{v4_uses, one_if}
 use Rattle.vlog_tree.specs.Flattened.{FlatNet}
@@ -54,22 +54,22 @@ some_counted p (x ∷ xs) h = some_step p x xs (p x) refl (subst (λ n. 1 ≤ n)
 count_one : (n : ℕ) → (n == 1) ≡ true → 1 ≤ n
 count_one n e = grind (arith, nat_tests)
 
-link_for : (ports : List Declaration) (links : List Link) → all_linked ports links ≡ true → (d : Declaration) → Has ports d → (l : Link) × Has links l × (bytes_eq l.port d.name ≡ true)
-link_for [] links e d h = absurd h
-link_for (p ∷ ports) links e d (inl s) =
-    subst (λ (q : Declaration). (l : Link) × Has links l × (bytes_eq l.port q.name ≡ true)) s
-    (some_counted (λ (l : Link). bytes_eq l.port p.name) links (count_one _ (both_true _ (all_linked ports links) e).0))
-link_for (p ∷ ports) links e d (inr h) = link_for ports links (both_true (count_by (λ (l : Link). bytes_eq l.port p.name) links == 1) (all_linked ports links) e).1 d h
+connection_for : (ports : List Declaration) (connections : List Connection) → all_connected ports connections ≡ true → (d : Declaration) → Has ports d → (l : Connection) × Has connections l × (bytes_eq l.port d.name ≡ true)
+connection_for [] connections e d h = absurd h
+connection_for (p ∷ ports) connections e d (inl s) =
+    subst (λ (q : Declaration). (l : Connection) × Has connections l × (bytes_eq l.port q.name ≡ true)) s
+    (some_counted (λ (l : Connection). bytes_eq l.port p.name) connections (count_one _ (both_true _ (all_connected ports connections) e).0))
+connection_for (p ∷ ports) connections e d (inr h) = connection_for ports connections (both_true (count_by (λ (l : Connection). bytes_eq l.port p.name) connections == 1) (all_connected ports connections) e).1 d h
 
-child_step : (items : List Item) (k j i kn : Name) (links : List Link) (b : Bool) → bytes_eq j i ≡ b → (child_of items i ≡ Some kn → (ls : List Link) × Has items (Instance kn i ls)) → cond b (Some k) (child_of items i) ≡ Some kn
-    → (ls : List Link) × Has {N = Item} (Instance k j links ∷ items) (Instance kn i ls)
-child_step items k j i kn links true e f h = let same : k ≡ kn = cc h in (links, inl (ap (λ z. Instance z j links) same ∙ ap (λ z. Instance kn z links) ((bytes_decides j i).0 e)))
-child_step items k j i kn links false e f h = let r = f h in (r.0, inr r.1)
+child_step : (items : List Item) (k j i kn : Name) (connections : List Connection) (b : Bool) → bytes_eq j i ≡ b → (child_of items i ≡ Some kn → (ls : List Connection) × Has items (Instance kn i ls)) → cond b (Some k) (child_of items i) ≡ Some kn
+    → (ls : List Connection) × Has {N = Item} (Instance k j connections ∷ items) (Instance kn i ls)
+child_step items k j i kn connections true e f h = let same : k ≡ kn = cc h in (connections, inl (ap (λ z. Instance z j connections) same ∙ ap (λ z. Instance kn z connections) ((bytes_decides j i).0 e)))
+child_step items k j i kn connections false e f h = let r = f h in (r.0, inr r.1)
 
 -- the line of an instance
-pub child_item : (items : List Item) (i kn : Name) → child_of items i ≡ Some kn → (links : List Link) × Has items (Instance kn i links)
+pub child_item : (items : List Item) (i kn : Name) → child_of items i ≡ Some kn → (connections : List Connection) × Has items (Instance kn i connections)
 child_item [] i kn h = cc
-child_item (Instance k j links ∷ items) i kn h = child_step items k j i kn links (bytes_eq j i) refl (child_item items i kn) h
+child_item (Instance k j connections ∷ items) i kn h = child_step items k j i kn connections (bytes_eq j i) refl (child_item items i kn) h
 child_item (Wire w x ∷ items) i kn h = let r = child_item items i kn h in (r.0, inr r.1)
 child_item (Reg w x ∷ items) i kn h = let r = child_item items i kn h in (r.0, inr r.1)
 child_item (Memory w x n ∷ items) i kn h = let r = child_item items i kn h in (r.0, inr r.1)
@@ -99,13 +99,13 @@ first_at : (v : FlatNet → ℕ) (ns : List FlatNet) (b : FlatNet) (r : ℕ) →
 first_at v [] b r h f = absurd h
 first_at v (n ∷ ns) b r h f = f n (inl refl)
 
-port_is_read : (ps : List PortDecl) (x : Name) → Has (map declaration_name (map port_declared ps)) x → sort_is_read (sort_of (map port_declared ps) x) ≡ true
+port_is_read : (ps : List PortDecl) (x : Name) → Has (map declaration_name (map port_declared ps)) x → net_kind_is_read (net_kind_of (map port_declared ps) x) ≡ true
 port_is_read ps x h =
     let t = of_map declaration_name (map port_declared ps) x h in
     let f = find_there (map port_declared ps) t.0 t.1 in
     let q = of_map port_declared ps (find_name (map port_declared ps) t.0.name) f.0 in
-    subst (λ z. sort_is_read (sort_of (map port_declared ps) z) ≡ true) t.2 (ap (λ (d : Declaration). sort_is_read d.sort) (sym q.2) ∙ is_read q.0.input) where
-      is_read : (i : Bool) → sort_is_read (cond i Input Output) ≡ true
+    subst (λ z. net_kind_is_read (net_kind_of (map port_declared ps) z) ≡ true) t.2 (ap (λ (d : Declaration). net_kind_is_read d.net_kind) (sym q.2) ∙ is_read q.0.input) where
+      is_read : (i : Bool) → net_kind_is_read (cond i Input Output) ≡ true
       is_read true = refl
       is_read false = refl
 
@@ -115,16 +115,16 @@ pub record Lawful (m : ModuleTree) (c : Cycle) : Type 0 where
   pub ports : AllByRecursion (PortHolds sizes) m.ports
   pub lines : AllByRecursion (Holds sizes c) m.items
 
--- the numbers of one cycle that the lines and links of all modules allow
+-- the numbers of one cycle that the lines and connections of all modules allow
 pub record Allowed (ms : List ModuleTree) (root : ModuleTree) (c : Path → Cycle) : Type 0 where
   pub each : (path : Path) (m : ModuleTree) → module_at ms root path ≡ Some m → Lawful m (c path)
-  pub links : (path : Path) (m : ModuleTree) → module_at ms root path ≡ Some m → AllByRecursion (Linked c path) m.items
+  pub connections : (path : Path) (m : ModuleTree) → module_at ms root path ≡ Some m → AllByRecursion (Connected c path) m.items
 
 module _ (ms : List ModuleTree) (root : ModuleTree) (names : first_violation (v2_uses ms) ≡ None) (drivers : first_violation (v4_uses ms) ≡ None) (in_root : Has ms root)
     (c : Path → Cycle) (allowed : Allowed ms root c) where
-  link_allowed : (path : Path) (m : ModuleTree) → module_at ms root path ≡ Some m → (kn i : Name) (links : List Link) → Has m.items (Instance kn i links) → (l : Link) → Has links l → numbers c (i ∷ path, l.port) ≡ numbers c (path, l.net)
-  link_allowed path m at kn i links has l h =
-      all_at (λ (l : Link). (c (i ∷ path)).net l.port ≡ (c path).net l.net) links l (all_at (Linked c path) m.items (Instance kn i links) (allowed.links path m at) has) h
+  connection_allowed : (path : Path) (m : ModuleTree) → module_at ms root path ≡ Some m → (kn i : Name) (connections : List Connection) → Has m.items (Instance kn i connections) → (l : Connection) → Has connections l → numbers c (i ∷ path, l.port) ≡ numbers c (path, l.net)
+  connection_allowed path m at kn i connections has l h =
+      all_at (λ (l : Connection). (c (i ∷ path)).net l.port ≡ (c path).net l.net) connections l (all_at (Connected c path) m.items (Instance kn i connections) (allowed.connections path m at) has) h
 
   module _ (path : Path) (m : ModuleTree) (at : module_at ms root path ≡ Some m) where
     here : Has ms m
@@ -134,7 +134,7 @@ module _ (ms : List ModuleTree) (root : ModuleTree) (names : first_violation (v2
     cells_allowed w k n has = (all_at (Holds (allowed.each path m at).sizes (c path)) m.items (Memory w k n) (allowed.each path m at).lines has).1
 
     module _ (held : Path → Cycle) (agrees : AllByRecursion (SameHeld (c path) (held path)) m.items) where
-      cell_reads : (k : Name) → sort_of (declared m) k ≡ MemoryArray → (a : ℕ) → read_cell (allowed.each path m at).sizes (c path) k a ≡ read_cell (sizes_of m) (nets_at held (numbers c) path) k a
+      cell_reads : (k : Name) → net_kind_of (declared m) k ≡ MemoryArray → (a : ℕ) → read_cell (allowed.each path m at).sizes (c path) k a ≡ read_cell (sizes_of m) (nets_at held (numbers c) path) k a
       cell_reads k s a =
           let t = memory_item m k s in
           ap (λ n. cond (nat_lt a n) ((c path).cell k a) 0) (cells_allowed t.0 k t.1 t.2)
@@ -154,9 +154,9 @@ module _ (ms : List ModuleTree) (root : ModuleTree) (names : first_violation (v2
       assign_solves x e has =
           all_at (Holds (allowed.each path m at).sizes (c path)) m.items (Assign x e) (allowed.each path m at).lines has
           ∙ driven_same (c path) (nets_at held (numbers c) path) (allowed.each path m at).sizes (sizes_of m) ((allowed.each path m at).sizes.width x) (bits_of (declared m) x) e
-          (width_held m (allowed.each path m at).sizes (c path) (allowed.each path m at).ports (allowed.each path m at).lines x sort_is_driven refl refl (assign_driven ms names m here x e has))
+          (width_held m (allowed.each path m at).sizes (c path) (allowed.each path m at).ports (allowed.each path m at).lines x net_kind_is_driven refl refl (assign_driven ms names m here x e has))
           (λ z h. refl)
-          (λ z h. width_held m (allowed.each path m at).sizes (c path) (allowed.each path m at).ports (allowed.each path m at).lines z sort_is_read refl refl (assign_reads ms names m here x e has z h).0)
+          (λ z h. width_held m (allowed.each path m at).sizes (c path) (allowed.each path m at).ports (allowed.each path m at).lines z net_kind_is_read refl refl (assign_reads ms names m here x e has z h).0)
           (reads_alike x e has)
 
       source_solves : (give : Name → ℕ → ℕ) (x : Name) (s : Source) → Has (sources ms m.items) (x, s) → (c path).net x ≡ source_value ms root held give m (numbers c) (path, x) (Some s)
@@ -164,33 +164,33 @@ module _ (ms : List ModuleTree) (root : ModuleTree) (names : first_violation (v2
       source_solves give x (output i p) h =
           let t = of_flat (line_sources ms) m.items (x, output i p) h in
           let d : IsDrivenBy ms m.items x i p = output_line ms m.items t.0 t.1 x i p t.2 in
-          subst (λ z. (c path).net z ≡ numbers c (i ∷ path, p)) d.net (subst (λ z. (c path).net d.link.net ≡ numbers c (i ∷ path, z)) d.port (sym (link_allowed path m at d.kn i d.links d.has d.link d.linked)))
+          subst (λ z. (c path).net z ≡ numbers c (i ∷ path, p)) d.net (subst (λ z. (c path).net d.connection.net ≡ numbers c (i ∷ path, z)) d.port (sym (connection_allowed path m at d.kn i d.connections d.has d.connection d.connected)))
 
-      register_solves : (x : Name) → sort_of (declared m) x ≡ Register → (c path).net x ≡ (held path).net x
+      register_solves : (x : Name) → net_kind_of (declared m) x ≡ Register → (c path).net x ≡ (held path).net x
       register_solves x s = let t = register_item m x s in all_at (SameHeld (c path) (held path)) m.items (Reg t.0 x) agrees t.1
 
-      undriven_solves : (give : Name → ℕ → ℕ) (x : Name) → source_of (sources ms m.items) x ≡ None → (sort_of (declared m) x ≡ Input → (c path).net x ≡ input_value ms root held give (numbers c) (path, x))
-          → (s : Sort) → sort_of (declared m) x ≡ s → sort_is_read s ≡ true → (c path).net x ≡ undriven_value ms root held give s (numbers c) (path, x)
+      undriven_solves : (give : Name → ℕ → ℕ) (x : Name) → source_of (sources ms m.items) x ≡ None → (net_kind_of (declared m) x ≡ Input → (c path).net x ≡ input_value ms root held give (numbers c) (path, x))
+          → (s : NetKind) → net_kind_of (declared m) x ≡ s → net_kind_is_read s ≡ true → (c path).net x ≡ undriven_value ms root held give s (numbers c) (path, x)
       undriven_solves give x none f Input e r = f e
       undriven_solves give x none f Register e r = register_solves x e
-      undriven_solves give x none f Output e r = absurd (has_source ms drivers m here x (ap sort_is_driven e) (λ i. cc (sym e ∙ i)) none)
-      undriven_solves give x none f WireNet e r = absurd (has_source ms drivers m here x (ap sort_is_driven e) (λ i. cc (sym e ∙ i)) none)
+      undriven_solves give x none f Output e r = absurd (has_source ms drivers m here x (ap net_kind_is_driven e) (λ i. cc (sym e ∙ i)) none)
+      undriven_solves give x none f WireNet e r = absurd (has_source ms drivers m here x (ap net_kind_is_driven e) (λ i. cc (sym e ∙ i)) none)
       undriven_solves give x none f Unknown e r = cc
       undriven_solves give x none f MemoryArray e r = cc
       undriven_solves give x none f ChildInstance e r = cc
 
-      pub net_solves : (give : Name → ℕ → ℕ) (x : Name) → sort_is_read (sort_of (declared m) x) ≡ true → (sort_of (declared m) x ≡ Input → (c path).net x ≡ input_value ms root held give (numbers c) (path, x))
+      pub net_solves : (give : Name → ℕ → ℕ) (x : Name) → net_kind_is_read (net_kind_of (declared m) x) ≡ true → (net_kind_of (declared m) x ≡ Input → (c path).net x ≡ input_value ms root held give (numbers c) (path, x))
           → (c path).net x ≡ module_equation ms root held give m (path, x) (numbers c)
       net_solves give x r f = elim (source_cases (sources ms m.items) x) [
-        | inl none ↦ undriven_solves give x none f (sort_of (declared m) x) refl r ∙ ap (λ o. source_value ms root held give m (numbers c) (path, x) o) (sym none)
+        | inl none ↦ undriven_solves give x none f (net_kind_of (declared m) x) refl r ∙ ap (λ o. source_value ms root held give m (numbers c) (path, x) o) (sym none)
         | inr t ↦ source_solves give x t.0 t.1 ∙ ap (λ o. source_value ms root held give m (numbers c) (path, x) o) (sym t.2)
       ]
 
   from_outside : (i : Name) (path : Path) (k : ModuleTree) → module_at ms root path ≡ Some k → (x : Name) (b : FlatNet) → Joined ms root k path i x b → numbers c b ≡ (c (i ∷ path)).net x
-  from_outside i path k at x b j = subst (λ n. numbers c n ≡ (c (i ∷ path)).net x) j.is (sym (link_allowed path k at j.kn i j.links j.has j.link j.linked) ∙ ap (λ z. (c (i ∷ path)).net z) j.port)
+  from_outside i path k at x b j = subst (λ n. numbers c n ≡ (c (i ∷ path)).net x) j.is (sym (connection_allowed path k at j.kn i j.connections j.has j.connection j.connected) ∙ ap (λ z. (c (i ∷ path)).net z) j.port)
 
   -- an input of an instance has the number of the net around
-  pub inner_input : (i : Name) (path : Path) (m : ModuleTree) → module_at ms root (i ∷ path) ≡ Some m → (x : Name) → sort_of (declared m) x ≡ Input → (c (i ∷ path)).net x ≡ first_number (numbers c) (outside ms root (i ∷ path, x))
+  pub inner_input : (i : Name) (path : Path) (m : ModuleTree) → module_at ms root (i ∷ path) ≡ Some m → (x : Name) → net_kind_of (declared m) x ≡ Input → (c (i ∷ path)).net x ≡ first_number (numbers c) (outside ms root (i ∷ path, x))
   inner_input i path m at x s =
       let a = module_around ms root i path m at in
       let in_around = module_in ms root in_root path a.tree a.at in
@@ -199,11 +199,11 @@ module _ (ms : List ModuleTree) (root : ModuleTree) (names : first_violation (v2
       let p = input_port m x s in
       let has : Has (map port_declared m.ports) (port_declared p.0) = has_map port_declared m.ports p.0 p.1 in
       let there = find_there (map port_declared m.ports) (port_declared p.0) has in
-      let read : sort_is_read (sort_of (map port_declared m.ports) x) ≡ true = port_is_read m.ports x (subst (λ z. Has (map declaration_name (map port_declared m.ports)) z) p.2 (has_map declaration_name (map port_declared m.ports) (port_declared p.0) has)) in
-      let input : sort_of (map port_declared m.ports) x ≡ Input = sym (ap (λ (d : Declaration). d.sort) (port_stands (map port_declared m.ports) (items_declared m.items) x read)) ∙ s in
-      let l = link_for (map port_declared m.ports) t.0 (subst (λ ps. all_linked (map port_declared ps) t.0 ≡ true) n.ports (instance_single ms names a.tree in_around a.kn i t.0 t.1).1) (port_declared p.0) has in
+      let read : net_kind_is_read (net_kind_of (map port_declared m.ports) x) ≡ true = port_is_read m.ports x (subst (λ z. Has (map declaration_name (map port_declared m.ports)) z) p.2 (has_map declaration_name (map port_declared m.ports) (port_declared p.0) has)) in
+      let input : net_kind_of (map port_declared m.ports) x ≡ Input = sym (ap (λ (d : Declaration). d.net_kind) (port_stands (map port_declared m.ports) (items_declared m.items) x read)) ∙ s in
+      let l = connection_for (map port_declared m.ports) t.0 (subst (λ ps. all_connected (map port_declared ps) t.0 ≡ true) n.ports (instance_single ms names a.tree in_around a.kn i t.0 t.1).1) (port_declared p.0) has in
       let port : l.0.port ≡ x = (bytes_decides l.0.port p.0.name).0 l.2 ∙ p.2 in
-      let given : sort_is_input (sort_of (map port_declared (ports_of ms a.kn)) l.0.port) ≡ true =
-      subst (λ ps. sort_is_input (sort_of (map port_declared ps) l.0.port) ≡ true) (sym n.ports) (subst (λ z. sort_is_input (sort_of (map port_declared m.ports) z) ≡ true) (sym port) (ap sort_is_input input)) in
+      let given : net_kind_is_input (net_kind_of (map port_declared (ports_of ms a.kn)) l.0.port) ≡ true =
+      subst (λ ps. net_kind_is_input (net_kind_of (map port_declared ps) l.0.port) ≡ true) (sym n.ports) (subst (λ z. net_kind_is_input (net_kind_of (map port_declared m.ports) z) ≡ true) (sym port) (ap net_kind_is_input input)) in
       let out : Has (outside ms root (i ∷ path, x)) (path, l.0.net) = subst (λ z. Has (outside ms root (i ∷ path, z)) (path, l.0.net)) port (outside_has ms root path a.tree a.at a.kn i t.0 t.1 l.0 l.1 given) in
       sym (first_at (numbers c) (outside ms root (i ∷ path, x)) (path, l.0.net) ((c (i ∷ path)).net x) out (λ b h. from_outside i path a.tree a.at x b (joined ms root a.tree path a.at i x b h)))

@@ -10,11 +10,11 @@ use Rattle.std.proofs.lemmas.List.Sums.{sum_by-append}
 use Rattle.tapa_base.specs.declared.shape.Port.{Port}
 use Rattle.vlog_tree.specs.declared.tree.PortDecl.{PortDecl}
 use Rattle.vlog_tree.specs.declared.table.Declaration.{Declaration}
-use Rattle.vlog_tree.specs.declared.table.Sort.TheVariants.{Input, Output}
+use Rattle.vlog_tree.specs.declared.table.NetKind.TheVariants.{Input, Output}
 use Rattle.vlog_tree.specs.Form.{ModuleTree}
 use Rattle.vlog_tree.specs.Grounded.{Has, IsGrounded}
 use Rattle.vlog_tree.specs.Cycle.{Cycle, Path}
-use Rattle.vlog_tree.specs.Table.{Name, bits_of, clk, is_clk, declared, port_declared, items_declared, sort_of, sort_is_read, first_violation}
+use Rattle.vlog_tree.specs.Table.{Name, bits_of, clk, is_clk, declared, port_declared, items_declared, net_kind_of, net_kind_is_read, first_violation}
 use Rattle.vlog_tree.specs.Labels.{rst, scalar, m_ack, m_rdata, m_addr, m_wdata, m_we, scalar_of, ack_of, rdata_of, read_of}
 use Rattle.vlog_tree.specs.V2.{v2_uses}
 use Rattle.vlog_tree.specs.V4.{one_if}
@@ -30,7 +30,7 @@ use Rattle.vlog_law_runs.proofs.Drivers.{count_map}
 use Rattle.vlog_law_runs.proofs.Equations.{first_number}
 use Rattle.vlog_law_runs.proofs.Cycles.{port_stands}
 use Rattle.vlog_law_runs.proofs.TopPorts.{five_of, five_rdata, memory_clock, input_port}
-use Rattle.vlog_law_runs.proofs.Ports.{fits, named_port, input_sort, has_reset, scalar_input, ack_input, rdata_input, reset_input, input_has_label}
+use Rattle.vlog_law_runs.proofs.Ports.{fits, named_port, input_net_kind, has_reset, scalar_input, ack_input, rdata_input, reset_input, input_has_label}
 use Rattle.vlog_law_runs.proofs.Labelled.{ack_is_no_scalar, rdata_is_no_scalar, rdata_is_no_ack, scalar_is_no_reset, ack_is_no_reset, rdata_is_no_reset, scalar_label as label_of_scalar, ack_label, rdata_label, ack_of_label, rdata_of_label}
 use Rattle.vlog_law_runs.proofs.Lookups.{lookup, AreDistinct, each_found, found_at, map_two, answers_at, answers_from, ArePortsDistinct, ports_distinct, labels_distinct}
 use Rattle.vlog_law_runs.proofs.Settled.{design_settles, top_tree, IsTopTree}
@@ -107,10 +107,10 @@ module _ (ms : List ModuleTree) (m : ModuleTree) (names : first_violation (v2_us
       ap (λ b. cond b (stored (nets n []) l ((worlds Outside around nets n).cells l)) ((worlds Outside around nets n).cells l)) e
       ∙ ap (λ cells. stored (nets n []) l cells) (cells_are nets l e n)
 
-  port_net : (c d : Cycle) → ((x : Name) → sort_is_read (sort_of (declared m) x) ≡ true → is_clk x ≡ false → c.net x ≡ d.net x) → (x : Name) → has_port ports x ≡ true → is_clk x ≡ false → c.net x ≡ d.net x
-  port_net c d f x h n = f x (ap (λ (k : Declaration). sort_is_read k.sort) (port_stands ports (items_declared m.items) x h) ∙ h) n
+  port_net : (c d : Cycle) → ((x : Name) → net_kind_is_read (net_kind_of (declared m) x) ≡ true → is_clk x ≡ false → c.net x ≡ d.net x) → (x : Name) → has_port ports x ≡ true → is_clk x ≡ false → c.net x ≡ d.net x
+  port_net c d f x h n = f x (ap (λ (k : Declaration). net_kind_is_read k.net_kind) (port_stands ports (items_declared m.items) x h) ∙ h) n
 
-  cells_decided : (w : Outside) (c d : Cycle) → ((x : Name) → sort_is_read (sort_of (declared m) x) ≡ true → is_clk x ≡ false → c.net x ≡ d.net x) → (l : Name) (b : Bool) → has_all_five ports l ≡ b
+  cells_decided : (w : Outside) (c d : Cycle) → ((x : Name) → net_kind_is_read (net_kind_of (declared m) x) ≡ true → is_clk x ≡ false → c.net x ≡ d.net x) → (l : Name) (b : Bool) → has_all_five ports l ≡ b
       → cond b (stored c l (w.cells l)) (w.cells l) ≡ cond b (stored d l (w.cells l)) (w.cells l)
   cells_decided w c d f l true e =
       let five = five_of ms tops m in_ms l e in
@@ -206,9 +206,9 @@ module _ (ms : List ModuleTree) (m : ModuleTree) (names : first_violation (v2_us
     world n = worlds Outside around nets n
 
     -- a run whose inputs are given stands in the environment
-    module _ (env_fits : FitsShape env (shape_of m)) (given : (n : ℕ) (x : Name) → sort_of (declared m) x ≡ Input → (nets n []).net x ≡ give_input (world n) x (asked_at (nets n) x)) where
+    module _ (env_fits : FitsShape env (shape_of m)) (given : (n : ℕ) (x : Name) → net_kind_of (declared m) x ≡ Input → (nets n []).net x ≡ give_input (world n) x (asked_at (nets n) x)) where
       port_given : (n : ℕ) (p : PortDecl) → Has m.ports p → p.input ≡ true → (x : Name) → p.name ≡ x → (nets n []).net x ≡ give_input (world n) x (asked_at (nets n) x)
-      port_given n p h i x e = given n x (subst (λ z. sort_of (declared m) z ≡ Input) e (input_sort ms names tops m in_ms top p h i))
+      port_given n p h i x e = given n x (subst (λ z. net_kind_of (declared m) z ≡ Input) e (input_net_kind ms names tops m in_ms top p h i))
 
       reset_given : (n : ℕ) → (nets n []).net rst ≡ cond (n == 0) 1 0
       reset_given n =
@@ -282,11 +282,11 @@ module _ (ms : List ModuleTree) (m : ModuleTree) (names : first_violation (v2_us
       by_reset n p h i nc true e = ap (λ z. (nets n []).net z) ((bytes_decides p.name rst).0 e) ∙ reset_is n ∙ ap (λ k. cond (k == 0) 1 0) (sym (cycle_is nets n))
       by_reset n p h i nc false e = label_is n p h i nc e (scalar_of p.name) (ack_of p.name) (rdata_of p.name) refl refl refl
 
-      pub inputs_stand : (n : ℕ) (x : Name) → sort_of (declared m) x ≡ Input → is_clk x ≡ false → (nets n []).net x ≡ give_input (world n) x (asked_at (nets n) x)
+      pub inputs_stand : (n : ℕ) (x : Name) → net_kind_of (declared m) x ≡ Input → is_clk x ≡ false → (nets n []).net x ≡ give_input (world n) x (asked_at (nets n) x)
       inputs_stand n x e nc =
           let p = input_port m x e in
           subst (λ z. (nets n []).net z ≡ give_input (world n) z (asked_at (nets n) z)) p.2
-          (by_reset n p.0 p.1 (is_input p.0.input (ap (λ (d : Declaration). d.sort) p.3 ∙ e)) (ap is_clk p.2 ∙ nc) (bytes_eq p.0.name rst) refl) where
+          (by_reset n p.0 p.1 (is_input p.0.input (ap (λ (d : Declaration). d.net_kind) p.3 ∙ e)) (ap is_clk p.2 ∙ nc) (bytes_eq p.0.name rst) refl) where
             is_input : (b : Bool) → cond b Input Output ≡ Input → b ≡ true
             is_input true h = refl
             is_input false h = cc

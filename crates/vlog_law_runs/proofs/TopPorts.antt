@@ -3,17 +3,17 @@ use Rattle.std.proofs.Common.{◌≡◌, Bool, true, false, cond, ◌&&◌, List
 use Rattle.std.specs.Prelude.{nat_le}
 use Rattle.std.specs.List.{flat_map}
 use Rattle.std.specs.Option.{option_map_or}
-use Rattle.vlog_tree.specs.declared.tree.Link.{Link}
+use Rattle.vlog_tree.specs.declared.tree.Connection.{Connection}
 use Rattle.vlog_tree.specs.declared.tree.Item.{Item}
 use Rattle.vlog_tree.specs.declared.tree.Item.TheVariants.{Wire, Reg, Memory, Assign, Always, Instance}
 use Rattle.vlog_tree.specs.declared.tree.PortDecl.{PortDecl}
 use Rattle.vlog_tree.specs.declared.table.Declaration.{Declaration}
-use Rattle.vlog_tree.specs.declared.table.Sort.TheVariants.{Input}
+use Rattle.vlog_tree.specs.declared.table.NetKind.TheVariants.{Input}
 use Rattle.vlog_tree.specs.Form.{ModuleTree}
 use Rattle.vlog_tree.specs.Grounded.{Has}
-use Rattle.vlog_tree.specs.Table.{Name, NameUse, no, clk, is_clk, declared, port_declared, items_declared, find_name, sort_of, sort_is_read, first_violation}
+use Rattle.vlog_tree.specs.Table.{Name, NameUse, no, clk, is_clk, declared, port_declared, items_declared, find_name, net_kind_of, net_kind_is_read, first_violation}
 use Rattle.vlog_tree.specs.Labels.{rdata_of, m_addr, m_ack, m_we, m_wdata, m_rdata, read_of, address_of}
-use Rattle.vlog_tree.specs.V6.{v6_uses, module_tops, top_ports, clock_links, clock_link, port_fits, rdata_fits, addr_fits, wdata_fits, we_fits, has_all_five, has_port, is_top, agrees}
+use Rattle.vlog_tree.specs.V6.{v6_uses, module_tops, top_ports, clock_connections, clock_connection, port_fits, rdata_fits, addr_fits, wdata_fits, we_fits, has_all_five, has_port, is_top, agrees}
 use Rattle.vlog_graph.proofs.Numbered.{has_left, has_right, has_split}
 use Rattle.vlog_comb_loops.proofs.Lists.{has_flat, has_map, of_map}
 use Rattle.vlog_law_runs.proofs.Sound.{right, both_true, not_no}
@@ -25,22 +25,22 @@ pub memory_clock : (x : Name) → is_clk (m_addr x) ≡ false
 unfolding m_addr clk
 memory_clock x = refl
 
-line_no_input : (it : Item) (d : Declaration) → Has (items_declared (it ∷ [])) d → d.sort ≡ Input → ⊥
+line_no_input : (it : Item) (d : Declaration) → Has (items_declared (it ∷ [])) d → d.net_kind ≡ Input → ⊥
 line_no_input (Wire w x) d (inl e) s = cc
 line_no_input (Wire w x) d (inr h) s = absurd h
 line_no_input (Reg w x) d (inl e) s = cc
 line_no_input (Reg w x) d (inr h) s = absurd h
 line_no_input (Memory w x n) d (inl e) s = cc
 line_no_input (Memory w x n) d (inr h) s = absurd h
-line_no_input (Instance k i links) d (inl e) s = cc
-line_no_input (Instance k i links) d (inr h) s = absurd h
+line_no_input (Instance k i connections) d (inl e) s = cc
+line_no_input (Instance k i connections) d (inr h) s = absurd h
 line_no_input (Assign x e) d h s = absurd h
 line_no_input (Always b) d h s = absurd h
 
 -- what is declared as an input is a port
-pub input_port : (m : ModuleTree) (x : Name) → sort_of (declared m) x ≡ Input → (p : PortDecl) × Has m.ports p × (p.name ≡ x) × (port_declared p ≡ find_name (declared m) x)
+pub input_port : (m : ModuleTree) (x : Name) → net_kind_of (declared m) x ≡ Input → (p : PortDecl) × Has m.ports p × (p.name ≡ x) × (port_declared p ≡ find_name (declared m) x)
 input_port m x s =
-    let f = found_name (declared m) x sort_is_read refl (ap sort_is_read s) in
+    let f = found_name (declared m) x net_kind_is_read refl (ap net_kind_is_read s) in
     let d = find_name (declared m) x in
     elim (has_split (map port_declared m.ports) (items_declared m.items) d f.0) [
       | inl l ↦ (let t = of_map port_declared m.ports d l in (t.0, t.1, ap (λ (d : Declaration). d.name) t.2 ∙ f.1, t.2))
@@ -60,11 +60,11 @@ module _ (ms : List ModuleTree) (tops : first_violation (v6_uses ms) ≡ None) (
   use_right u h = right (v6_uses ms) tops u (has_flat (module_tops ms) ms m u in_ms h)
 
   -- a clock goes to clocks alone
-  pub clock_joined : (kn i : Name) (links : List Link) → Has m.items (Instance kn i links) → (l : Link) → Has links l → is_clk l.net ≡ false → is_clk l.port ≡ false
-  unfolding module_tops clock_link
-  clock_joined kn i links has l h e =
+  pub clock_joined : (kn i : Name) (connections : List Connection) → Has m.items (Instance kn i connections) → (l : Connection) → Has connections l → is_clk l.net ≡ false → is_clk l.port ≡ false
+  unfolding module_tops clock_connection
+  clock_joined kn i connections has l h e =
       no_clock (is_clk l.port) (is_clk l.net) e
-      (use_right (clock_link l) (inr (has_right _ (flat_map clock_links m.items) (clock_link l) (has_flat clock_links m.items (Instance kn i links) (clock_link l) has (has_map clock_link links l h))))) where
+      (use_right (clock_connection l) (inr (has_right _ (flat_map clock_connections m.items) (clock_connection l) (has_flat clock_connections m.items (Instance kn i connections) (clock_connection l) has (has_map clock_connection connections l h))))) where
         no_clock : (p n : Bool) → n ≡ false → (p && no n) ≡ false → p ≡ false
         no_clock false n e h = refl
         no_clock true true e h = cc
@@ -75,7 +75,7 @@ module _ (ms : List ModuleTree) (tops : first_violation (v6_uses ms) ≡ None) (
 
   pub port_right : is_top ms m.name ≡ true → (p : PortDecl) → Has m.ports p → (b : List PortDecl) × (port_fits ports b p ≡ true)
   unfolding module_tops
-  port_right top p h = fits_of ports m.ports [] (λ u k. use_right u (inr (has_left _ (flat_map clock_links m.items) u (subst (λ b. Has (cond b (top_ports ports [] m.ports) []) u) (sym top) k)))) p h
+  port_right top p h = fits_of ports m.ports [] (λ u k. use_right u (inr (has_left _ (flat_map clock_connections m.items) u (subst (λ b. Has (cond b (top_ports ports [] m.ports) []) u) (sym top) k)))) p h
 
   -- the five ports of a memory that the top reads
   pub all_five : is_top ms m.name ≡ true → (p : PortDecl) → Has m.ports p → (x : Name) → rdata_of p.name ≡ Some x → has_all_five ports x ≡ true
@@ -106,16 +106,16 @@ module _ (ms : List ModuleTree) (tops : first_violation (v6_uses ms) ≡ None) (
       let a = both_true _ (has_port ports (m_addr x)) w.0 in
       (both_true (has_port ports (m_ack x)) (has_port ports (m_rdata x)) a.0).1
 
-  asked_read : is_top ms m.name ≡ true → (p : PortDecl) → Has m.ports p → (a : Name) (o : Option Name) → rdata_of p.name ≡ o → Has (read_of o) a → (sort_is_read (sort_of (declared m) a) ≡ true) × (is_clk a ≡ false)
+  asked_read : is_top ms m.name ≡ true → (p : PortDecl) → Has m.ports p → (a : Name) (o : Option Name) → rdata_of p.name ≡ o → Has (read_of o) a → (net_kind_is_read (net_kind_of (declared m) a) ≡ true) × (is_clk a ≡ false)
   asked_read top p h a None e k = absurd k
   asked_read top p h a (Some x) e (inl g) =
       let f = (five_of x (all_five top p h x e)).1 in
-      subst (λ z. (sort_is_read (sort_of (declared m) z) ≡ true) × (is_clk z ≡ false)) g
-      (ap (λ (d : Declaration). sort_is_read d.sort) (port_stands ports (items_declared m.items) (m_addr x) f) ∙ f, memory_clock x)
+      subst (λ z. (net_kind_is_read (net_kind_of (declared m) z) ≡ true) × (is_clk z ≡ false)) g
+      (ap (λ (d : Declaration). net_kind_is_read d.net_kind) (port_stands ports (items_declared m.items) (m_addr x) f) ∙ f, memory_clock x)
   asked_read top p h a (Some x) e (inr g) = absurd g
 
   -- where an input of the top reads a memory, the module declares the net at which it asks
-  pub asked_declared : is_top ms m.name ≡ true → (x : Name) → sort_of (declared m) x ≡ Input → (a : Name) → Has (address_of x) a → (sort_is_read (sort_of (declared m) a) ≡ true) × (is_clk a ≡ false)
+  pub asked_declared : is_top ms m.name ≡ true → (x : Name) → net_kind_of (declared m) x ≡ Input → (a : Name) → Has (address_of x) a → (net_kind_is_read (net_kind_of (declared m) a) ≡ true) × (is_clk a ≡ false)
   asked_declared top x s a h =
       let p = input_port m x s in
       asked_read top p.0 p.1 a (rdata_of p.0.name) refl (subst (λ z. Has (address_of z) a) (sym p.2) h)

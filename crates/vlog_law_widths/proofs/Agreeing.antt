@@ -11,7 +11,7 @@ use Rattle.vlog_tree.specs.Grounded.{Has}
 use Rattle.vlog_tree.specs.Table.{Name, NameUse, no, declared, port_declared, bits_of, first_violation}
 use Rattle.vlog_tree.specs.Labels.{m_rdata, m_wdata, rdata_of, wdata_of}
 use Rattle.vlog_tree.specs.V2.{v2_uses}
-use Rattle.vlog_tree.specs.V6.{v6_uses, module_tops, top_ports, clock_links, port_fits, rdata_fits, wdata_fits, has_all_five, bits_before, agrees, is_top}
+use Rattle.vlog_tree.specs.V6.{v6_uses, module_tops, top_ports, clock_connections, port_fits, rdata_fits, wdata_fits, has_all_five, bits_before, agrees, is_top}
 use Rattle.vlog_graph.proofs.Numbered.{has_left}
 use Rattle.vlog_law_runs.proofs.Sound.{both_true, not_no}
 use Rattle.vlog_law_runs.proofs.Alone.{same_name}
@@ -74,7 +74,7 @@ module _ (ms : List ModuleTree) (names : first_violation (v2_uses ms) ≡ None) 
 
   ports_right : (u : NameUse) → Has (top_ports ports [] m.ports) u → u.1 ≡ false
   unfolding module_tops
-  ports_right u k = use_right ms tops m in_ms u (inr (has_left _ (flat_map clock_links m.items) u (subst (λ b. Has (cond b (top_ports ports [] m.ports) []) u) (sym top) k)))
+  ports_right u k = use_right ms tops m in_ms u (inr (has_left _ (flat_map clock_connections m.items) u (subst (λ b. Has (cond b (top_ports ports [] m.ports) []) u) (sym top) k)))
 
   pub data_agree : (l : Name) → 0 < length l → has_all_five ports l ≡ true → bits_of (declared m) (m_wdata l) ≡ bits_of (declared m) (m_rdata l)
   data_agree l some five =

@@ -3,18 +3,18 @@ use Rattle.std.proofs.Common.{◌≡◌, ℕ, zero, suc, ◌^◌, ◌<◌, true,
 use Rattle.std.specs.Prelude.{slice_get}
 use Rattle.vlog_tree.specs.declared.tree.Item.{Item}
 use Rattle.vlog_tree.specs.declared.tree.Item.TheVariants.{Wire, Reg, Memory, Assign, Always, Instance}
-use Rattle.vlog_tree.specs.declared.table.Sort.TheVariants.{Register}
+use Rattle.vlog_tree.specs.declared.table.NetKind.TheVariants.{Register}
 use Rattle.vlog_tree.specs.Form.{ModuleTree}
 use Rattle.vlog_tree.specs.Grounded.{Has}
 use Rattle.vlog_tree.specs.Cycle.{Cycle, Path, Holds, PowersUp, Takes, driven, run_items, module_at}
-use Rattle.vlog_tree.specs.Table.{declared, sort_of, bits_of, sort_is_read, sort_is_driven}
+use Rattle.vlog_tree.specs.Table.{declared, net_kind_of, bits_of, net_kind_is_read, net_kind_is_driven}
 use Rattle.vlog_tree.specs.Environment.{Environment, FitsShape, shape_of, RunsIn}
 use Rattle.vlog_tree.specs.Refused.{IsDesign}
 use Rattle.vlog_law_runs.specs.OneRun.{FitsPowerUp}
 use Rattle.vlog_law_runs.proofs.Sound.{assign_driven, assign_reads, driven_is_read}
 use Rattle.vlog_law_runs.proofs.Alone.{register_clock}
 use Rattle.vlog_law_runs.proofs.Settled.{design_settles, top_tree, IsTopTree, module_in}
-use Rattle.vlog_law_runs.proofs.Sizes.{all_at, all_from, declared_sort, has_line, width_held}
+use Rattle.vlog_law_runs.proofs.Sizes.{all_at, all_from, declared_net_kind, has_line, width_held}
 use Rattle.vlog_law_runs.proofs.Solved.{Allowed}
 use Rattle.vlog_law_widths.specs.Widths.{NumbersFit, OutsideFits, RunFits, DriversFit}
 use Rattle.vlog_law_widths.proofs.Bits.{value_operates}
@@ -33,7 +33,7 @@ module _ (ms : List ModuleTree) (place : ℕ) (root : ModuleTree) (d : IsDesign 
   allowed : (n : ℕ) → Allowed ms root (nets n)
   allowed n = record {
     each = λ path m at. record { sizes = (r.runs.each path m at).sizes; ports = (r.runs.each path m at).ports; lines = (r.runs.each path m at).lines n };
-    links = r.runs.links n;
+    connections = r.runs.connections n;
   }
 
   abbrev AllFit : ℕ → Type 0
@@ -53,14 +53,14 @@ module _ (ms : List ModuleTree) (place : ℕ) (root : ModuleTree) (d : IsDesign 
 
     held_next : (it : Item) → Has m.items it → Takes (r.runs.each path m at).sizes m.items (nets n path) (nets (suc n) path) it → PowersUp (nets (suc n) path) it
     held_next (Reg w x) has t =
-        let sort : sort_of (declared m) x ≡ Register = declared_sort m ms d.sound.names here _ (has_line m ms d.sound.names here (Reg w x) has (record { name = x; sort = Register; bits = w }) (inl refl)) in
-        let low = left_fits.nets x (ap sort_is_read sort) (register_clock ms d.sound.names m here w x has) in
+        let net_kind : net_kind_of (declared m) x ≡ Register = declared_net_kind m ms d.sound.names here _ (has_line m ms d.sound.names here (Reg w x) has (record { name = x; net_kind = Register; bits = w }) (inl refl)) in
+        let low = left_fits.nets x (ap net_kind_is_read net_kind) (register_clock ms d.sound.names m here w x has) in
         subst (λ v. v < 2 ^ w) (sym t) (subst (λ k. (run_items (r.runs.each path m at).sizes (nets n path) m.items (nets n path)).net x < 2 ^ k) (register_bits ms d.sound.names m here w x has) low)
     held_next (Memory w x k) has t = λ a low. subst (λ v. v < 2 ^ w) (sym (t a low)) (left_fits.cells w x k has a low)
     held_next (Wire w x) has t = tt
     held_next (Assign x e) has t = tt
     held_next (Always b) has t = tt
-    held_next (Instance k i links) has t = tt
+    held_next (Instance k i connections) has t = tt
 
   all_held_next : (n : ℕ) → AllFit n → FitsPowerUp ms root (nets (suc n))
   all_held_next n fit path m at =
@@ -82,8 +82,8 @@ module _ (ms : List ModuleTree) (place : ℕ) (root : ModuleTree) (d : IsDesign 
       let here : Has ms m = module_in ms root tree.has path m at in
       let fit : NumbersFit m (nets n path) = nets_fit n (each_cycle n).0 (each_cycle n).1 path m at in
       let drives = assign_driven ms d.sound.names m here x e has in
-      let read : sort_is_read (sort_of (declared m) x) ≡ true = driven_is_read _ drives in
-      let width : s.width x ≡ bits_of (declared m) x = width_held m s (nets n path) ports lines x sort_is_driven refl refl drives in
+      let read : net_kind_is_read (net_kind_of (declared m) x) ≡ true = driven_is_read _ drives in
+      let width : s.width x ≡ bits_of (declared m) x = width_held m s (nets n path) ports lines x net_kind_is_driven refl refl drives in
       let is : (nets n path).net x ≡ driven s (s.width x) (nets n path) e = all_at (Holds s (nets n path)) m.items (Assign x e) lines has in
       record {
         bits = net_width ms d.sound.widths m here x read;

@@ -8,10 +8,10 @@ use Rattle.std.proofs.Math.Pow.{pow_pos}
 use Rattle.tapa_base.specs.declared.shape.Port.{Port}
 use Rattle.vlog_tree.specs.declared.tree.PortDecl.{PortDecl}
 use Rattle.vlog_tree.specs.declared.table.Declaration.{Declaration}
-use Rattle.vlog_tree.specs.declared.table.Sort.TheVariants.{Input, Output}
+use Rattle.vlog_tree.specs.declared.table.NetKind.TheVariants.{Input, Output}
 use Rattle.vlog_tree.specs.Form.{ModuleTree}
 use Rattle.vlog_tree.specs.Grounded.{Has}
-use Rattle.vlog_tree.specs.Table.{Name, no, clk, is_clk, declared, port_declared, items_declared, sort_of, bits_of, sort_is_read, first_violation}
+use Rattle.vlog_tree.specs.Table.{Name, no, clk, is_clk, declared, port_declared, items_declared, net_kind_of, bits_of, net_kind_is_read, first_violation}
 use Rattle.vlog_tree.specs.Labels.{rst, done, scalar, m_ack, m_rdata, m_addr, m_wdata, m_we, scalar_of, ack_of, rdata_of}
 use Rattle.vlog_tree.specs.V2.{v2_uses}
 use Rattle.vlog_tree.specs.V6.{v6_uses, fixed_fits, ack_fits, has_all_five, is_in, is_out, is_top}
@@ -153,11 +153,11 @@ module _ (ms : List ModuleTree) (names : first_violation (v2_uses ms) ≡ None) 
     port_below cells i c false None None None r es ea er = let f = fits ms names tops m in_ms top p h in absurd (input_has_label ports f.0 p f.1 i c r es ea er)
 
   -- the top's inputs fit
-  pub input_below : (n : ℕ) → OutsideFits m env run n → (x : Name) → sort_of (declared m) x ≡ Input → is_clk x ≡ false → (run n).net x < 2 ^ bits_of (declared m) x
+  pub input_below : (n : ℕ) → OutsideFits m env run n → (x : Name) → net_kind_of (declared m) x ≡ Input → is_clk x ≡ false → (run n).net x < 2 ^ bits_of (declared m) x
   input_below n cells x e c =
       let p = input_port m x e in
       let low : (run n).net p.0.name < 2 ^ p.0.bits =
-      port_below n p.0 p.1 cells (is_input p.0.input (ap (λ (d : Declaration). d.sort) p.3 ∙ e)) (ap is_clk p.2 ∙ c) (bytes_eq p.0.name rst) (scalar_of p.0.name) (ack_of p.0.name) (rdata_of p.0.name) refl refl refl refl in
+      port_below n p.0 p.1 cells (is_input p.0.input (ap (λ (d : Declaration). d.net_kind) p.3 ∙ e)) (ap is_clk p.2 ∙ c) (bytes_eq p.0.name rst) (scalar_of p.0.name) (ack_of p.0.name) (rdata_of p.0.name) refl refl refl refl in
       subst (λ z. (run n).net z < 2 ^ bits_of (declared m) z) p.2 (subst (λ w. (run n).net p.0.name < 2 ^ w) (port_bits ms names tops m in_ms top p.0 p.1) low) where
         is_input : (b : Bool) → cond b Input Output ≡ Input → b ≡ true
         is_input true h = refl
@@ -166,7 +166,7 @@ module _ (ms : List ModuleTree) (names : first_violation (v2_uses ms) ≡ None) 
   wdata_below : (n : ℕ) → NumbersFit m (run n) → (l : Name) → 0 < length l → has_all_five ports l ≡ true → (run n).net (m_wdata l) < 2 ^ bits_of (declared m) (m_rdata l)
   wdata_below n f l some five =
       let port = (five_of ms tops m in_ms l five).2 in
-      let read : sort_is_read (sort_of (declared m) (m_wdata l)) ≡ true = ap (λ (d : Declaration). sort_is_read d.sort) (port_stands ports (items_declared m.items) (m_wdata l) port) ∙ port in
+      let read : net_kind_is_read (net_kind_of (declared m) (m_wdata l)) ≡ true = ap (λ (d : Declaration). net_kind_is_read d.net_kind) (port_stands ports (items_declared m.items) (m_wdata l) port) ∙ port in
       subst (λ w. (run n).net (m_wdata l) < 2 ^ w) (data_agree ms names tops m in_ms top l some five) (f.nets (m_wdata l) read (wdata_clock l))
 
   stored_below : (n : ℕ) → NumbersFit m (run n) → (l : Port) (first : List ℕ) → Has (shape_of m).memories l → CellsFit run n l first → CellsFit run (suc n) l first

@@ -6,17 +6,17 @@ use Rattle.std.proofs.lemmas.Bool.Decides.{nat_tests}
 use Rattle.vlog_tree.specs.declared.tree.Value.{Value}
 use Rattle.vlog_tree.specs.declared.tree.Step.{Step}
 use Rattle.vlog_tree.specs.declared.tree.Step.TheVariants.{If, Else, End, NonblockingAssign, MemoryAssign}
-use Rattle.vlog_tree.specs.declared.tree.Link.{Link}
+use Rattle.vlog_tree.specs.declared.tree.Connection.{Connection}
 use Rattle.vlog_tree.specs.declared.tree.Item.{Item}
 use Rattle.vlog_tree.specs.declared.tree.Item.TheVariants.{Wire, Reg, Memory, Assign, Always, Instance}
 use Rattle.vlog_tree.specs.declared.tree.PortDecl.{PortDecl}
 use Rattle.vlog_tree.specs.declared.table.Declaration.{Declaration}
-use Rattle.vlog_tree.specs.declared.table.Sort.TheVariants.{ChildInstance}
+use Rattle.vlog_tree.specs.declared.table.NetKind.TheVariants.{ChildInstance}
 use Rattle.vlog_tree.specs.Form.{ModuleTree}
 use Rattle.vlog_tree.specs.Grounded.{Has}
-use Rattle.vlog_tree.specs.Table.{Name, NameUse, no, is_clk, declared, port_declared, items_declared, find_name, sort_of, bits_of, sort_is_read, sort_is_driven, ports_of, first_violation}
+use Rattle.vlog_tree.specs.Table.{Name, NameUse, no, is_clk, declared, port_declared, items_declared, find_name, net_kind_of, bits_of, net_kind_is_read, net_kind_is_driven, ports_of, first_violation}
 use Rattle.vlog_tree.specs.V2.{v2_uses, item_uses, step_uses, read_use, driven_use}
-use Rattle.vlog_tree.specs.V3.{v3_uses, module_widths, item_widths, port_widths, link_widths, step_widths, is_width, has_bits, value_fits}
+use Rattle.vlog_tree.specs.V3.{v3_uses, module_widths, item_widths, port_widths, connection_widths, step_widths, is_width, has_bits, value_fits}
 use Rattle.vlog_tree.specs.Loops.{atom_nets}
 use Rattle.vlog_graph.proofs.Numbered.{has_left, has_right, has_split}
 use Rattle.vlog_comb_loops.proofs.Lists.{has_flat, of_map}
@@ -34,7 +34,7 @@ in_range w h = let p = both_true (nat_le 1 w) (nat_le w 128) h in (at_least 1 w 
 
 -- a net that can be read, with its number's rule
 abbrev pub IsRead : List Declaration → Name → Type 0
-IsRead ds z = (sort_is_read (sort_of ds z) ≡ true) × (is_clk z ≡ false)
+IsRead ds z = (net_kind_is_read (net_kind_of ds z) ≡ true) × (is_clk z ≡ false)
 
 -- what a step writes has the width of what it writes to, and the nets that it takes the number from can be read
 abbrev pub StepFits : List Declaration → Step → Type 0
@@ -44,23 +44,23 @@ StepFits ds (If c) = Unit {0}
 StepFits ds Else = Unit {0}
 StepFits ds End = Unit {0}
 
-line_net : (it : Item) (d : Declaration) → Has (items_declared (it ∷ [])) d → (d.sort ≡ ChildInstance → ⊥) → (ms : List ModuleTree) (ds : List Declaration) → ((u : NameUse) → Has (item_widths ms ds it) u → u.1 ≡ false) → IsInRange d.bits
+line_net : (it : Item) (d : Declaration) → Has (items_declared (it ∷ [])) d → (d.net_kind ≡ ChildInstance → ⊥) → (ms : List ModuleTree) (ds : List Declaration) → ((u : NameUse) → Has (item_widths ms ds it) u → u.1 ≡ false) → IsInRange d.bits
 unfolding item_widths
 line_net (Wire w x) d (inl e) n ms ds f = subst (λ (k : Declaration). IsInRange k.bits) e (in_range w (not_no _ (f (x, no (is_width w)) (inl refl))))
 line_net (Reg w x) d (inl e) n ms ds f = subst (λ (k : Declaration). IsInRange k.bits) e (in_range w (not_no _ (f (x, no (is_width w)) (inl refl))))
 line_net (Memory w x k) d (inl e) n ms ds f = subst (λ (k : Declaration). IsInRange k.bits) e (in_range w (both_true (is_width w) (nat_le k 1048576) (not_no _ (f (x, no (is_width w && nat_le k 1048576)) (inl refl)))).0)
-line_net (Instance kn i links) d (inl e) n ms ds f = absurd (n (ap (λ (k : Declaration). k.sort) (sym e)))
+line_net (Instance kn i connections) d (inl e) n ms ds f = absurd (n (ap (λ (k : Declaration). k.net_kind) (sym e)))
 line_net (Wire w x) d (inr h) n ms ds f = absurd h
 line_net (Reg w x) d (inr h) n ms ds f = absurd h
 line_net (Memory w x k) d (inr h) n ms ds f = absurd h
-line_net (Instance kn i links) d (inr h) n ms ds f = absurd h
+line_net (Instance kn i connections) d (inr h) n ms ds f = absurd h
 line_net (Assign x e) d h n ms ds f = absurd h
 line_net (Always b) d h n ms ds f = absurd h
 
 -- no line drives the clock
 pub assign_clock : (ms : List ModuleTree) (names : first_violation (v2_uses ms) ≡ None) (m : ModuleTree) (in_ms : Has ms m) (x : Name) (e : Value) → Has m.items (Assign x e) → is_clk x ≡ false
 unfolding item_uses
-assign_clock ms names m in_ms x e has = (both_false (no (sort_is_driven (sort_of (declared m) x))) (is_clk x) (item_right ms names m in_ms (Assign x e) has (driven_use (declared m) x) (inl refl))).1
+assign_clock ms names m in_ms x e has = (both_false (no (net_kind_is_driven (net_kind_of (declared m) x))) (is_clk x) (item_right ms names m in_ms (Assign x e) has (driven_use (declared m) x) (inl refl))).1
 
 module _ (ms : List ModuleTree) (widths : first_violation (v3_uses ms) ≡ None) (m : ModuleTree) (in_ms : Has ms m) where
   width_right : (it : Item) → Has m.items it → (u : NameUse) → Has (item_widths ms (declared m) it) u → u.1 ≡ false
@@ -82,20 +82,20 @@ module _ (ms : List ModuleTree) (widths : first_violation (v3_uses ms) ≡ None)
   unfolding item_widths
   assign_width x e has = not_no _ (width_right (Assign x e) has (x, no (value_fits (declared m) (bits_of (declared m) x) e)) (inl refl))
 
-  pub link_width : (kn i : Name) (links : List Link) → Has m.items (Instance kn i links) → (l : Link) → Has links l → bits_of (map port_declared (ports_of ms kn)) l.port ≡ bits_of (declared m) l.net
-  unfolding item_widths link_widths
-  link_width kn i links has l h =
+  pub connection_width : (kn i : Name) (connections : List Connection) → Has m.items (Instance kn i connections) → (l : Connection) → Has connections l → bits_of (map port_declared (ports_of ms kn)) l.port ≡ bits_of (declared m) l.net
+  unfolding item_widths connection_widths
+  connection_width kn i connections has l h =
       let ports = map port_declared (ports_of ms kn) in
       let u : NameUse = (l.port, no (bits_of ports l.port == bits_of (declared m) l.net)) in
-      same_of (bits_of ports l.port) (bits_of (declared m) l.net) (not_no _ (width_right (Instance kn i links) has u (has_flat (link_widths ports (declared m)) links l u h (inl refl))))
+      same_of (bits_of ports l.port) (bits_of (declared m) l.net) (not_no _ (width_right (Instance kn i connections) has u (has_flat (connection_widths ports (declared m)) connections l u h (inl refl))))
 
-  pub net_width : (x : Name) → sort_is_read (sort_of (declared m) x) ≡ true → IsInRange (bits_of (declared m) x)
+  pub net_width : (x : Name) → net_kind_is_read (net_kind_of (declared m) x) ≡ true → IsInRange (bits_of (declared m) x)
   net_width x h =
-      let f = found_name (declared m) x sort_is_read refl h in
+      let f = found_name (declared m) x net_kind_is_read refl h in
       let d = find_name (declared m) x in
       elim (has_split (map port_declared m.ports) (items_declared m.items) d f.0) [
         | inl l ↦ (let t = of_map port_declared m.ports d l in subst (λ (k : Declaration). IsInRange k.bits) t.2 (in_range t.0.bits (port_width t.0 t.1)))
-        | inr r ↦ (let t = of_items m.items d r in line_net t.0 d t.2 (λ e. true_not_false (sym h ∙ ap sort_is_read e)) ms (declared m) (width_right t.0 t.1))
+        | inr r ↦ (let t = of_items m.items d r in line_net t.0 d t.2 (λ e. true_not_false (sym h ∙ ap net_kind_is_read e)) ms (declared m) (width_right t.0 t.1))
       ]
 
   memory_width : (w : ℕ) (y : Name) (k : ℕ) → Has m.items (Memory w y k) → IsInRange w × (k ≤ 1048576)
@@ -116,8 +116,8 @@ module _ (ms : List ModuleTree) (widths : first_violation (v3_uses ms) ≡ None)
     unfolding item_uses
     step_right st h u k = item_right ms names m in_ms (Always b) has u (inr (has_flat (step_uses (declared m)) b st u h k))
 
-    use_read : (z : Name) → (no (sort_is_read (sort_of (declared m) z)) || is_clk z) ≡ false → IsRead (declared m) z
-    use_read z h = let p = both_false (no (sort_is_read (sort_of (declared m) z))) (is_clk z) h in (not_no _ p.0, p.1)
+    use_read : (z : Name) → (no (net_kind_is_read (net_kind_of (declared m) z)) || is_clk z) ≡ false → IsRead (declared m) z
+    use_read z h = let p = both_false (no (net_kind_is_read (net_kind_of (declared m) z))) (is_clk z) h in (not_no _ p.0, p.1)
 
     pub step_fits : (st : Step) → Has b st → StepFits (declared m) st
     step_fits (NonblockingAssign x a) h = (

@@ -7,7 +7,7 @@ use Rattle.vlog_tree.specs.declared.tree.Step.{Step}
 use Rattle.vlog_tree.specs.declared.tree.Step.TheVariants.{If, Else, End, NonblockingAssign, MemoryAssign}
 use Rattle.vlog_tree.specs.declared.tree.Item.{Item}
 use Rattle.vlog_tree.specs.declared.tree.Item.TheVariants.{Wire, Reg, Memory, Assign, Always, Instance}
-use Rattle.vlog_tree.specs.declared.table.Sort.TheVariants.{Register, MemoryArray}
+use Rattle.vlog_tree.specs.declared.table.NetKind.TheVariants.{Register, MemoryArray}
 use Rattle.vlog_tree.specs.Form.{ModuleTree}
 use Rattle.vlog_tree.specs.Grounded.{Has}
 use Rattle.vlog_tree.specs.Table.{Name, declared, bits_of, first_violation}
@@ -21,10 +21,10 @@ use Rattle.vlog_law_widths.proofs.Ruled.{StepFits}
 module _ (ms : List ModuleTree) (names : first_violation (v2_uses ms) ≡ None) (m : ModuleTree) (in_ms : Has ms m) where
   -- a memory's line declares its cells' width
   pub memory_bits : (w : ℕ) (y : Name) (k : ℕ) → Has m.items (Memory w y k) → bits_of (declared m) y ≡ w
-  memory_bits w y k has = declared_bits m ms names in_ms _ (has_line m ms names in_ms (Memory w y k) has (record { name = y; sort = MemoryArray; bits = w }) (inl refl))
+  memory_bits w y k has = declared_bits m ms names in_ms _ (has_line m ms names in_ms (Memory w y k) has (record { name = y; net_kind = MemoryArray; bits = w }) (inl refl))
 
   pub register_bits : (w : ℕ) (x : Name) → Has m.items (Reg w x) → bits_of (declared m) x ≡ w
-  register_bits w x has = declared_bits m ms names in_ms _ (has_line m ms names in_ms (Reg w x) has (record { name = x; sort = Register; bits = w }) (inl refl))
+  register_bits w x has = declared_bits m ms names in_ms _ (has_line m ms names in_ms (Reg w x) has (record { name = x; net_kind = Register; bits = w }) (inl refl))
 
   either_fits : (b : Bool) (p q : Cycle) → NumbersFit m p → NumbersFit m q → NumbersFit m (cond b p q)
   either_fits true p q f g = f
@@ -73,4 +73,4 @@ module _ (ms : List ModuleTree) (names : first_violation (v2_uses ms) ≡ None) 
     items_fit (Reg w x ∷ items) f next g = items_fit items (λ b h. f b (inr h)) next g
     items_fit (Memory w x n ∷ items) f next g = items_fit items (λ b h. f b (inr h)) next g
     items_fit (Assign x e ∷ items) f next g = items_fit items (λ b h. f b (inr h)) next g
-    items_fit (Instance kn i links ∷ items) f next g = items_fit items (λ b h. f b (inr h)) next g
+    items_fit (Instance kn i connections ∷ items) f next g = items_fit items (λ b h. f b (inr h)) next g

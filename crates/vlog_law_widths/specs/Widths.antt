@@ -9,7 +9,7 @@ use Rattle.vlog_tree.specs.declared.tree.Value.TheVariants.{Plain, Invert, Binar
 use Rattle.vlog_tree.specs.declared.tree.Item.TheVariants.{Memory, Assign}
 use Rattle.vlog_tree.specs.Form.{ModuleTree}
 use Rattle.vlog_tree.specs.Grounded.{Has}
-use Rattle.vlog_tree.specs.Table.{Name, is_clk, declared, sort_of, bits_of, sort_is_read}
+use Rattle.vlog_tree.specs.Table.{Name, is_clk, declared, net_kind_of, bits_of, net_kind_is_read}
 use Rattle.vlog_tree.specs.Cycle.{Cycle, Sizes, Path, Holds, PortHolds, atom_value, driven, module_at}
 use Rattle.vlog_tree.specs.Environment.{Environment, AllTwo, shape_of, cells_at}
 
@@ -19,13 +19,13 @@ IsInRange w = (1 ≤ w) × (w ≤ 128)
 
 -- the widths that a module declares are in range, and so is how many cells each of its memories has
 pub record WidthsInRange (m : ModuleTree) : Type 0 where
-  pub nets : (x : Name) → IsTrue (sort_is_read (sort_of (declared m) x)) → IsInRange (bits_of (declared m) x)
+  pub nets : (x : Name) → IsTrue (net_kind_is_read (net_kind_of (declared m) x)) → IsInRange (bits_of (declared m) x)
   pub cells : (w : ℕ) (y : Name) (k : ℕ) → Has m.items (Memory w y k) → IsInRange w × (k ≤ 1048576)
 
 -- The numbers of a module's nets and cells in a cycle fit the widths that it declares. The clock's number is left open,
 -- since no line reads it.
 pub record NumbersFit (m : ModuleTree) (c : Cycle) : Type 0 where
-  pub nets : (x : Name) → IsTrue (sort_is_read (sort_of (declared m) x)) → is_clk x ≡ false → c.net x < 2 ^ bits_of (declared m) x
+  pub nets : (x : Name) → IsTrue (net_kind_is_read (net_kind_of (declared m) x)) → is_clk x ≡ false → c.net x < 2 ^ bits_of (declared m) x
   pub cells : (w : ℕ) (y : Name) (k : ℕ) → Has m.items (Memory w y k) → (a : ℕ) → a < k → c.cell y a < 2 ^ w
 
 -- the cells of a memory outside, from these first ones, fit its width in this cycle

@@ -15,7 +15,7 @@ choice false x o = refl
 
 -- the child of the first line, or else of the others
 pub child_first : (it : Item) (items : List Item) (x : Name) → child_of (it ∷ items) x ≡ or_else (child_of (it ∷ []) x) (child_of items x)
-child_first (Instance m i links) items x = choice (bytes_eq i x) m (child_of items x)
+child_first (Instance m i connections) items x = choice (bytes_eq i x) m (child_of items x)
 child_first (Wire w y) items x = refl
 child_first (Reg w y) items x = refl
 child_first (Memory w y n) items x = refl

@@ -8,13 +8,13 @@ use Rattle.std.specs.Cmp.Lexicographic.{bytes_decides}
 use Rattle.tapa_base.specs.declared.shape.Port.{Port}
 use Rattle.vlog_tree.specs.declared.tree.Value.{Value}
 use Rattle.vlog_tree.specs.declared.tree.Value.TheVariants.{Plain, Invert, Binary, Choose, Concat, Repeat, Cell}
-use Rattle.vlog_tree.specs.declared.tree.Link.{Link}
+use Rattle.vlog_tree.specs.declared.tree.Connection.{Connection}
 use Rattle.vlog_tree.specs.declared.tree.Item.{Item}
 use Rattle.vlog_tree.specs.declared.tree.Item.TheVariants.{Wire, Reg, Memory, Assign, Always, Instance}
 use Rattle.vlog_tree.specs.declared.table.Declaration.{Declaration}
 use Rattle.vlog_tree.specs.Form.{ModuleTree}
 use Rattle.vlog_tree.specs.Grounded.{Has}
-use Rattle.vlog_tree.specs.Table.{Name, no, declared, port_declared, ports_of, sort_of, bits_of, sort_is_input, sort_is_read}
+use Rattle.vlog_tree.specs.Table.{Name, no, declared, port_declared, ports_of, net_kind_of, bits_of, net_kind_is_input, net_kind_is_read}
 use Rattle.vlog_tree.specs.Cycle.{Cycle, Path, Sizes, and_then, Holds, PortHolds, driven}
 use Rattle.vlog_tree.specs.Environment.{AllTwo, AllAnswer, Answers}
 use Rattle.vlog_tree.specs.Loops.{value_nets}
@@ -27,7 +27,7 @@ use Rattle.vlog_ref_driver.specs.Numbers.{first_net, first_memory, net_in, bits_
 use Rattle.vlog_ref_driver.proofs.Fits.{is_fit}
 use Rattle.vlog_ref_cycle.specs.declared.moment.Held.{Held}
 use Rattle.vlog_ref_cycle.specs.declared.moment.OutsideMemory.{OutsideMemory}
-use Rattle.vlog_ref_cycle.specs.Sources.{RuleTree, SourceTree, same_path, held_at, assigned_in, assigned, link_out, output_in, output_of, link_in, joined_in, joined_to, net_read, are_read, has_cells, given_number, same_number, can_drive, at_label, memory_of}
+use Rattle.vlog_ref_cycle.specs.Sources.{RuleTree, SourceTree, same_path, held_at, assigned_in, assigned, connection_out, output_in, output_of, connection_in, joined_in, joined_to, net_read, are_read, has_cells, given_number, same_number, can_drive, at_label, memory_of}
 use Rattle.vlog_ref_cycle.specs.Numbers.{by_rule, all_numbers}
 use Rattle.vlog_ref_cycle.specs.Moments.{MemoryIs}
 use Rattle.vlog_ref_cycle.proofs.Gathered.{numbered}
@@ -85,7 +85,7 @@ assigned_has (Wire w y) x v h = cc
 assigned_has (Reg w y) x v h = cc
 assigned_has (Memory w y n) x v h = cc
 assigned_has (Always b) x v h = cc
-assigned_has (Instance m i links) x v h = cc
+assigned_has (Instance m i connections) x v h = cc
 
 pub driver_found : (items : List Item) (x : Name) (v : Value) → assigned items x ≡ Some v → Has items (Assign x v)
 driver_found [] x v h = cc
@@ -147,43 +147,43 @@ module _ (c : Cycle) where
   read_found ds (y ∷ names) (k ∷ ns) a z (inl e) = read_step ds (net_read ds y) k ns z (bytes_eq k.name z) refl a.0 refl (inl e)
   read_found ds (y ∷ names) (k ∷ ns) a z (inr h) = read_step ds (net_read ds y) k ns z (bytes_eq k.name z) refl a.0 refl (inr (read_found ds names ns a.1 z h))
 
-names_read : (ds : List Declaration) (names : List Name) → are_read ds (map (net_read ds) names) ≡ true → (z : Name) → Has names z → sort_is_read (sort_of ds z) ≡ true
+names_read : (ds : List Declaration) (names : List Name) → are_read ds (map (net_read ds) names) ≡ true → (z : Name) → Has names z → net_kind_is_read (net_kind_of ds z) ≡ true
 names_read ds [] h z k = absurd k
-names_read ds (y ∷ names) h z (inl e) = ap (λ x. sort_is_read (sort_of ds x)) (sym e) ∙ (both_true (sort_is_read (sort_of ds y)) (are_read ds (map (net_read ds) names)) h).0
-names_read ds (y ∷ names) h z (inr k) = names_read ds names (both_true (sort_is_read (sort_of ds y)) (are_read ds (map (net_read ds) names)) h).1 z k
+names_read ds (y ∷ names) h z (inl e) = ap (λ x. net_kind_is_read (net_kind_of ds x)) (sym e) ∙ (both_true (net_kind_is_read (net_kind_of ds y)) (are_read ds (map (net_read ds) names)) h).0
+names_read ds (y ∷ names) h z (inr k) = names_read ds names (both_true (net_kind_is_read (net_kind_of ds y)) (are_read ds (map (net_read ds) names)) h).1 z k
 
 -- the lines that give a net its number
 pub record IsOutput (items : List Item) (x : Name) (p : Name × Name) : Type 0 where
   pub module_name : Name
-  pub links : List Link
-  pub has : Has items (Instance module_name p.0 links)
-  pub link : Link
-  pub linked : Has links link
-  pub net : link.net ≡ x
-  pub port : link.port ≡ p.1
+  pub connections : List Connection
+  pub has : Has items (Instance module_name p.0 connections)
+  pub connection : Connection
+  pub connected : Has connections connection
+  pub net : connection.net ≡ x
+  pub port : connection.port ≡ p.1
 
-pub record IsLink (links : List Link) (x p : Name) : Type 0 where
-  pub link : Link
-  pub linked : Has links link
-  pub net : link.net ≡ x
-  pub port : link.port ≡ p
+pub record IsConnection (connections : List Connection) (x p : Name) : Type 0 where
+  pub connection : Connection
+  pub connected : Has connections connection
+  pub net : connection.net ≡ x
+  pub port : connection.port ≡ p
 
-link_step : (l : Link) (ls : List Link) (x p : Name) (t : Bool) (b : Bool) → (bytes_eq l.net x && t) ≡ b → (o : Option Name) → (o ≡ Some p → IsLink ls x p) → cond b (Some l.port) o ≡ Some p → IsLink (l ∷ ls) x p
-link_step l ls x p t true e o f h = let q = both_true (bytes_eq l.net x) t e in record { link = l; linked = inl refl; net = (bytes_decides l.net x).0 q.0; port = cc }
-link_step l ls x p t false e o f h = let q = f h in record { link = q.link; linked = inr q.linked; net = q.net; port = q.port }
+connection_step : (l : Connection) (ls : List Connection) (x p : Name) (t : Bool) (b : Bool) → (bytes_eq l.net x && t) ≡ b → (o : Option Name) → (o ≡ Some p → IsConnection ls x p) → cond b (Some l.port) o ≡ Some p → IsConnection (l ∷ ls) x p
+connection_step l ls x p t true e o f h = let q = both_true (bytes_eq l.net x) t e in record { connection = l; connected = inl refl; net = (bytes_decides l.net x).0 q.0; port = cc }
+connection_step l ls x p t false e o f h = let q = f h in record { connection = q.connection; connected = inr q.connected; net = q.net; port = q.port }
 
-out_found : (ports : List Declaration) (ls : List Link) (x p : Name) → link_out ports ls x ≡ Some p → IsLink ls x p
+out_found : (ports : List Declaration) (ls : List Connection) (x p : Name) → connection_out ports ls x ≡ Some p → IsConnection ls x p
 out_found ports [] x p h = cc
-out_found ports (l ∷ ls) x p h = link_step l ls x p (no (sort_is_input (sort_of ports l.port))) (bytes_eq l.net x && no (sort_is_input (sort_of ports l.port))) refl (link_out ports ls x) (out_found ports ls x p) h
+out_found ports (l ∷ ls) x p h = connection_step l ls x p (no (net_kind_is_input (net_kind_of ports l.port))) (bytes_eq l.net x && no (net_kind_is_input (net_kind_of ports l.port))) refl (connection_out ports ls x) (out_found ports ls x p) h
 
 output_more : (it : Item) (items : List Item) (x : Name) (p : Name × Name) → IsOutput items x p → IsOutput (it ∷ items) x p
-output_more it items x p q = record { module_name = q.module_name; links = q.links; has = inr q.has; link = q.link; linked = q.linked; net = q.net; port = q.port }
+output_more it items x p q = record { module_name = q.module_name; connections = q.connections; has = inr q.has; connection = q.connection; connected = q.connected; net = q.net; port = q.port }
 
 output_has : (ms : List ModuleTree) (it : Item) (items : List Item) (x : Name) (p : Name × Name) → output_in ms it x ≡ Some p → IsOutput (it ∷ items) x p
-output_has ms (Instance k i links) items x p h =
-    let t = map_some (λ (y : Name). (i, y)) (link_out (map port_declared (ports_of ms k)) links x) p h in
-    let q = out_found (map port_declared (ports_of ms k)) links x t.0 t.1 in
-    subst (λ z. IsOutput (Instance k i links ∷ items) x z) t.2 (record { module_name = k; links = links; has = inl refl; link = q.link; linked = q.linked; net = q.net; port = q.port })
+output_has ms (Instance k i connections) items x p h =
+    let t = map_some (λ (y : Name). (i, y)) (connection_out (map port_declared (ports_of ms k)) connections x) p h in
+    let q = out_found (map port_declared (ports_of ms k)) connections x t.0 t.1 in
+    subst (λ z. IsOutput (Instance k i connections ∷ items) x z) t.2 (record { module_name = k; connections = connections; has = inl refl; connection = q.connection; connected = q.connected; net = q.net; port = q.port })
 output_has ms (Assign y e) items x p h = cc
 output_has ms (Wire w y) items x p h = cc
 output_has ms (Reg w y) items x p h = cc
@@ -194,30 +194,30 @@ pub output_found : (ms : List ModuleTree) (items : List Item) (x : Name) (p : Na
 output_found ms [] x p h = cc
 output_found ms (it ∷ items) x p h = elim (either_some (output_in ms it x) (output_of ms items x) p h) [ inl a ↦ output_has ms it items x p a | inr b ↦ output_more it items x p (output_found ms items x p b) ]
 
-in_step : (l : Link) (ls : List Link) (x z : Name) (b : Bool) → bytes_eq l.port x ≡ b → (o : Option Name) → (o ≡ Some z → IsLink ls z x) → cond b (Some l.net) o ≡ Some z → IsLink (l ∷ ls) z x
-in_step l ls x z true e o f h = record { link = l; linked = inl refl; net = cc; port = (bytes_decides l.port x).0 e }
-in_step l ls x z false e o f h = let q = f h in record { link = q.link; linked = inr q.linked; net = q.net; port = q.port }
+in_step : (l : Connection) (ls : List Connection) (x z : Name) (b : Bool) → bytes_eq l.port x ≡ b → (o : Option Name) → (o ≡ Some z → IsConnection ls z x) → cond b (Some l.net) o ≡ Some z → IsConnection (l ∷ ls) z x
+in_step l ls x z true e o f h = record { connection = l; connected = inl refl; net = cc; port = (bytes_decides l.port x).0 e }
+in_step l ls x z false e o f h = let q = f h in record { connection = q.connection; connected = inr q.connected; net = q.net; port = q.port }
 
-in_found : (ls : List Link) (x z : Name) → link_in ls x ≡ Some z → IsLink ls z x
+in_found : (ls : List Connection) (x z : Name) → connection_in ls x ≡ Some z → IsConnection ls z x
 in_found [] x z h = cc
-in_found (l ∷ ls) x z h = in_step l ls x z (bytes_eq l.port x) refl (link_in ls x) (in_found ls x z) h
+in_found (l ∷ ls) x z h = in_step l ls x z (bytes_eq l.port x) refl (connection_in ls x) (in_found ls x z) h
 
-joined_step : (k j i : Name) (links : List Link) (items : List Item) (x z : Name) (b : Bool) → bytes_eq j i ≡ b → (o : Option Name) → (o ≡ Some z → IsLink links z x) → cond b o None ≡ Some z → IsOutput (Instance k j links ∷ items) z (i, x)
-joined_step k j i links items x z true e o f h =
+joined_step : (k j i : Name) (connections : List Connection) (items : List Item) (x z : Name) (b : Bool) → bytes_eq j i ≡ b → (o : Option Name) → (o ≡ Some z → IsConnection connections z x) → cond b o None ≡ Some z → IsOutput (Instance k j connections ∷ items) z (i, x)
+joined_step k j i connections items x z true e o f h =
     let q = f h in
     let n : j ≡ i = (bytes_decides j i).0 e in
-    record { module_name = k; links = links; has = inl (ap (λ y. Instance k y links) n); link = q.link; linked = q.linked; net = q.net; port = q.port }
-joined_step k j i links items x z false e o f h = cc
+    record { module_name = k; connections = connections; has = inl (ap (λ y. Instance k y connections) n); connection = q.connection; connected = q.connected; net = q.net; port = q.port }
+joined_step k j i connections items x z false e o f h = cc
 
 joined_has : (it : Item) (items : List Item) (i x z : Name) → joined_in it i x ≡ Some z → IsOutput (it ∷ items) z (i, x)
-joined_has (Instance k j links) items i x z h = joined_step k j i links items x z (bytes_eq j i) refl (link_in links x) (in_found links x z) h
+joined_has (Instance k j connections) items i x z h = joined_step k j i connections items x z (bytes_eq j i) refl (connection_in connections x) (in_found connections x z) h
 joined_has (Assign y e) items i x z h = cc
 joined_has (Wire w y) items i x z h = cc
 joined_has (Reg w y) items i x z h = cc
 joined_has (Memory w y n) items i x z h = cc
 joined_has (Always b) items i x z h = cc
 
--- a link of an instance of this name
+-- a connection of an instance of this name
 pub joined_found : (items : List Item) (i x z : Name) → joined_to items i x ≡ Some z → IsOutput items z (i, x)
 joined_found [] i x z h = cc
 joined_found (it ∷ items) i x z h = elim (either_some (joined_in it i x) (joined_to items i x) z h) [ inl a ↦ joined_has it items i x z a | inr b ↦ output_more it items z (i, x) (joined_found items i x z b) ]
@@ -275,14 +275,14 @@ module _ (nets : Path → Cycle) (path : Path) (x : Name) (m : ModuleTree) (s : 
   pub driver_gives : (e : Value) → Has m.items (Assign x e) → can_drive (declared m) memories x e ≡ true
       → Gives nets path x (record { path = path; reads = map (net_read (declared m)) (value_nets e); rule = RuleTree.driver (bits_of (declared m) x) e memories })
   driver_gives e h can ns v a is =
-      let one = both_true (sort_is_read (sort_of (declared m) x) && are_read (declared m) (map (net_read (declared m)) (value_nets e))) (has_cells memories e) can in
-      let two = both_true (sort_is_read (sort_of (declared m) x)) (are_read (declared m) (map (net_read (declared m)) (value_nets e))) one.0 in
+      let one = both_true (net_kind_is_read (net_kind_of (declared m) x) && are_read (declared m) (map (net_read (declared m)) (value_nets e))) (has_cells memories e) can in
+      let two = both_true (net_kind_is_read (net_kind_of (declared m) x)) (are_read (declared m) (map (net_read (declared m)) (value_nets e))) one.0 in
       let line : (nets path).net x ≡ driven s (s.width x) (nets path) e = all_at (Holds s (nets path)) m.items (Assign x e) lines h in
-      let width : s.width x ≡ bits_of (declared m) x = width_held m s (nets path) ports lines x sort_is_read refl refl two.0 in
+      let width : s.width x ≡ bits_of (declared m) x = width_held m s (nets path) ports lines x net_kind_is_read refl refl two.0 in
       let found : (z : Name) → Has (value_nets e) z → (net_in ns z ≡ (nets path).net z) × (bits_in ns z ≡ bits_of (declared m) z) = read_found (nets path) (declared m) (value_nets e) ns a in
       let same : driven s (s.width x) (nets path) e ≡ driven (sizes_of ns memories) (bits_of (declared m) x) (cycle_of ns memories) e =
       driven_same (nets path) (cycle_of ns memories) s (sizes_of ns memories) (s.width x) (bits_of (declared m) x) e width
       (λ z k. sym (found z k).0)
-      (λ z k. width_held m s (nets path) ports lines z sort_is_read refl refl (names_read (declared m) (value_nets e) two.1 z k) ∙ sym (found z k).1)
+      (λ z k. width_held m s (nets path) ports lines z net_kind_is_read refl refl (names_read (declared m) (value_nets e) two.1 z k) ∙ sym (found z k).1)
       (reads_alike m.items s (nets path) lines memories held ns e one.1) in
       line ∙ same ∙ sym (is_fit (driven (sizes_of ns memories) (bits_of (declared m) x) (cycle_of ns memories) e) v (sym (checked (nat_le (bits_of (declared m) x) 128) (fitting (driven (sizes_of ns memories) (bits_of (declared m) x) (cycle_of ns memories) e)) v is)))

@@ -120,7 +120,7 @@ one_item s old now (Wire w x) items = refl
 one_item s old now (Reg w x) items = refl
 one_item s old now (Memory w m n) items = refl
 one_item s old now (Assign x e) items = refl
-one_item s old now (Instance m i links) items = refl
+one_item s old now (Instance m i connections) items = refl
 
 -- the items from here on run on what the items before them left
 module _ (s : Sizes) (old next now : Cycle) (items : List Item) (i : ℕ) (e : run_items s old items next ≡ run_items s old (drop i items) now) where

@@ -7,11 +7,11 @@ use Rattle.std.specs.Cmp.Lexicographic.{bytes_decides}
 use Rattle.std.proofs.lemmas.Bool.Decides.{nat_tests}
 use Rattle.tapa_base.specs.declared.shape.Port.{Port}
 use Rattle.vlog_tree.specs.declared.tree.Value.{Value}
-use Rattle.vlog_tree.specs.declared.tree.Link.{Link}
+use Rattle.vlog_tree.specs.declared.tree.Connection.{Connection}
 use Rattle.vlog_tree.specs.declared.tree.Item.TheVariants.{Instance}
 use Rattle.vlog_tree.specs.Form.{ModuleTree}
 use Rattle.vlog_tree.specs.Table.{Name, declared, bits_of}
-use Rattle.vlog_tree.specs.Cycle.{Cycle, Path, and_then, module_at, Linked}
+use Rattle.vlog_tree.specs.Cycle.{Cycle, Path, and_then, module_at, Connected}
 use Rattle.vlog_tree.specs.Environment.{Environment, RunsIn, shape_of, ready_at, Answers}
 use Rattle.vlog_tree.specs.Labels.{rst, scalar, m_ack, m_rdata, m_addr, scalar_of, ack_of, rdata_of}
 use Rattle.vlog_tree.specs.Loops.{value_nets}
@@ -102,8 +102,8 @@ module _ (ms : List ModuleTree) (top : ModuleTree) (env : Environment) (nets : �
   -- a net that is joined to a port has its number
   joined_is : (path : Path) (m : ModuleTree) → module_at ms top path ≡ Some m → (z : Name) (p : Name × Name) → IsOutput m.items z p → (nets n (p.0 ∷ path)).net p.1 ≡ (nets n path).net z
   joined_is path m e z p q =
-      let links : AllByRecursion (λ (l : Link). (nets n (p.0 ∷ path)).net l.port ≡ (nets n path).net l.net) q.links = all_at (Linked (nets n) path) m.items (Instance q.module_name p.0 q.links) (r.runs.links n path m e) q.has in
-      let l : (nets n (p.0 ∷ path)).net q.link.port ≡ (nets n path).net q.link.net = all_at (λ (l : Link). (nets n (p.0 ∷ path)).net l.port ≡ (nets n path).net l.net) q.links q.link links q.linked in
+      let connections : AllByRecursion (λ (l : Connection). (nets n (p.0 ∷ path)).net l.port ≡ (nets n path).net l.net) q.connections = all_at (Connected (nets n) path) m.items (Instance q.module_name p.0 q.connections) (r.runs.connections n path m e) q.has in
+      let l : (nets n (p.0 ∷ path)).net q.connection.port ≡ (nets n path).net q.connection.net = all_at (λ (l : Connection). (nets n (p.0 ∷ path)).net l.port ≡ (nets n path).net l.net) q.connections q.connection connections q.connected in
       sym (ap (λ y. (nets n (p.0 ∷ path)).net y) q.port) ∙ l ∙ ap (λ y. (nets n path).net y) q.net
 
   outer_gives : (path : Path) (x : Name) (s : SourceTree) → outer_source ms top now path x ≡ Some s → GivesNow path x s

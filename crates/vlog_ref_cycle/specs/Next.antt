@@ -36,7 +36,7 @@ item_nets (Wire w x) = []
 item_nets (Reg w x) = []
 item_nets (Memory w m n) = []
 item_nets (Assign x e) = []
-item_nets (Instance m i links) = []
+item_nets (Instance m i connections) = []
 
 -- registers and memories have the numbers of a cycle
 abbrev pub ShowsNet : Cycle → NetNumber → Type 0

@@ -6,12 +6,12 @@ use Rattle.std.specs.Option.{option_map}
 use Rattle.tapa_base.specs.declared.shape.Port.{Port}
 use Rattle.vlog_tree.specs.declared.tree.Value.{Value}
 use Rattle.vlog_tree.specs.declared.tree.Value.TheVariants.{Plain, Invert, Binary, Choose, Concat, Repeat, Cell}
-use Rattle.vlog_tree.specs.declared.tree.Link.{Link}
+use Rattle.vlog_tree.specs.declared.tree.Connection.{Connection}
 use Rattle.vlog_tree.specs.declared.tree.Item.{Item}
 use Rattle.vlog_tree.specs.declared.tree.Item.TheVariants.{Wire, Reg, Memory, Assign, Always, Instance}
 use Rattle.vlog_tree.specs.declared.table.Declaration.{Declaration}
 use Rattle.vlog_tree.specs.Form.{ModuleTree}
-use Rattle.vlog_tree.specs.Table.{Name, no, declared, port_declared, ports_of, sort_of, bits_of, sort_is_input, sort_is_read}
+use Rattle.vlog_tree.specs.Table.{Name, no, declared, port_declared, ports_of, net_kind_of, bits_of, net_kind_is_input, net_kind_is_read}
 use Rattle.vlog_tree.specs.Cycle.{Path, and_then, module_at}
 use Rattle.vlog_tree.specs.Environment.{ready_at}
 use Rattle.vlog_tree.specs.Labels.{rst, scalar_of, ack_of, rdata_of, m_addr}
@@ -47,7 +47,7 @@ assigned_in (Wire w y) x = None
 assigned_in (Reg w y) x = None
 assigned_in (Memory w y n) x = None
 assigned_in (Always b) x = None
-assigned_in (Instance m i links) x = None
+assigned_in (Instance m i connections) x = None
 
 -- the driver of the first assignment to a net
 abbrev pub assigned : List Item → Name → Option Value
@@ -55,12 +55,12 @@ assigned [] x = None
 assigned (it ∷ items) x = or_else (assigned_in it x) (assigned items x)
 
 -- the first port, no input, that is joined to a net
-abbrev pub link_out : List Declaration → List Link → Name → Option Name
-link_out ports [] x = None
-link_out ports (l ∷ ls) x = if bytes_eq l.net x && no (sort_is_input (sort_of ports l.port)) then Some l.port else link_out ports ls x
+abbrev pub connection_out : List Declaration → List Connection → Name → Option Name
+connection_out ports [] x = None
+connection_out ports (l ∷ ls) x = if bytes_eq l.net x && no (net_kind_is_input (net_kind_of ports l.port)) then Some l.port else connection_out ports ls x
 
 abbrev pub output_in : List ModuleTree → Item → Name → Option (Name × Name)
-output_in ms (Instance m i links) x = option_map (λ p. (i, p)) (link_out (map port_declared (ports_of ms m)) links x)
+output_in ms (Instance m i connections) x = option_map (λ p. (i, p)) (connection_out (map port_declared (ports_of ms m)) connections x)
 output_in ms (Assign y e) x = None
 output_in ms (Wire w y) x = None
 output_in ms (Reg w y) x = None
@@ -76,12 +76,12 @@ abbrev pub pair_of : Bor Name × Bor Name → Name × Name
 pair_of p = (p.0.now, p.1.now)
 
 -- the net that a port is joined to
-abbrev pub link_in : List Link → Name → Option Name
-link_in [] x = None
-link_in (l ∷ ls) x = if bytes_eq l.port x then Some l.net else link_in ls x
+abbrev pub connection_in : List Connection → Name → Option Name
+connection_in [] x = None
+connection_in (l ∷ ls) x = if bytes_eq l.port x then Some l.net else connection_in ls x
 
 abbrev pub joined_in : Item → Name → Name → Option Name
-joined_in (Instance m j links) i x = if bytes_eq j i then link_in links x else None
+joined_in (Instance m j connections) i x = if bytes_eq j i then connection_in connections x else None
 joined_in (Assign y e) i x = None
 joined_in (Wire w y) i x = None
 joined_in (Reg w y) i x = None
@@ -98,7 +98,7 @@ abbrev pub net_read : List Declaration → Name → NetNumber
 net_read ds x = record { name = x; bits = bits_of ds x; number = 0 }
 
 abbrev pub are_read : List Declaration → List NetNumber → Bool
-are_read ds nets = list_all (λ (n : NetNumber). sort_is_read (sort_of ds n.name)) nets
+are_read ds nets = list_all (λ (n : NetNumber). net_kind_is_read (net_kind_of ds n.name)) nets
 
 -- the memory that a driver reads is there
 abbrev pub has_cells : List MemoryCells → Value → Bool
@@ -141,7 +141,7 @@ same_number path x = record { path = path; reads = record { name = x; bits = 0; 
 
 -- a driver's value, where each name in it stands for what has a width
 abbrev pub can_drive : List Declaration → List MemoryCells → Name → Value → Bool
-can_drive ds memories x e = sort_is_read (sort_of ds x) && are_read ds (map (net_read ds) (value_nets e)) && has_cells memories e
+can_drive ds memories x e = net_kind_is_read (net_kind_of ds x) && are_read ds (map (net_read ds) (value_nets e)) && has_cells memories e
 
 abbrev pub driver_source : List Declaration → Path → List MemoryCells → Name → Value → Option SourceTree
 driver_source ds path memories x e =

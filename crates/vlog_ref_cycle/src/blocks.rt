@@ -12,8 +12,8 @@ use crate::lines::{add_atom, add_net};
 use crate::moment::Held;
 use std::alloc::{AllocError, Global};
 use tapa_base::Text;
-use vlog_rules::{Scope, copy_text};
 use vlog_ref_driver::{MemoryCells, NetNumber, number_in, value_of_atom};
+use vlog_rules::{Scope, copy_text};
 use vlog_tree::{Item, Step};
 
 fn add_step(

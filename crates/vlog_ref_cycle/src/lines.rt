@@ -5,13 +5,13 @@ ghost use Rattle.std.specs.Option.{option_copied, option_map};
 ghost use Rattle.std.specs.List.{flat_map};
 ghost use Rattle.vlog_tree.specs.Table.{port_declared, ports_of as ports_of_lem};
 ghost use Rattle.vlog_tree.specs.Loops.{atom_nets, value_nets};
-ghost use Rattle.vlog_ref_cycle.specs.Sources.{assigned_in as assigned_in_lem, output_in as output_in_lem, joined_in as joined_in_lem, assigned as assigned_lem, link_out as link_out_lem, output_of as output_of_lem, pair_of, link_in as link_in_lem, joined_to as joined_to_lem, net_read, are_read as are_read_lem, has_cells as has_cells_lem};
+ghost use Rattle.vlog_ref_cycle.specs.Sources.{assigned_in as assigned_in_lem, output_in as output_in_lem, joined_in as joined_in_lem, assigned as assigned_lem, connection_out as connection_out_lem, output_of as output_of_lem, pair_of, connection_in as connection_in_lem, joined_to as joined_to_lem, net_read, are_read as are_read_lem, has_cells as has_cells_lem};
 
 use std::alloc::{AllocError, Global};
 use tapa_base::Text;
-use vlog_rules::{Scope, copy_text, is_input, is_read};
 use vlog_ref_driver::{MemoryCells, NetNumber, find_memory};
-use vlog_tree::{Atom, Item, Link, Module, Value};
+use vlog_rules::{Scope, copy_text, is_input, is_read};
+use vlog_tree::{Atom, Connection, Item, Module, Value};
 
 fn assigned_in<'a>(item: &'a Item, x: &Text) -> Option<&'a Value>
     ensures { option_copied result ≡ assigned_in_lem item.now x.now }
@@ -45,11 +45,11 @@ pub(crate) fn assigned<'a>(items: &'a [Item], x: &Text) -> Option<&'a Value>
 }
 
 // The first port, no input, that is joined to a net.
-fn link_out<'a>(ports: &Scope, links: &'a [Link], x: &Text) -> Option<&'a Text>
-    ensures { option_copied result ≡ link_out_lem ports.now links.now x.now }
+fn connection_out<'a>(ports: &Scope, connections: &'a [Connection], x: &Text) -> Option<&'a Text>
+    ensures { option_copied result ≡ connection_out_lem ports.now connections.now x.now }
 {
-    for l in links {
-        if l.net.bytes() == x.bytes() && !is_input(ports.sort(l.port.bytes())) {
+    for l in connections {
+        if l.net.bytes() == x.bytes() && !is_input(ports.net_kind(l.port.bytes())) {
             return Some(&l.port);
         }
     }
@@ -76,9 +76,9 @@ fn output_in<'a>(
     ensures { IfOk result (λ o. option_map pair_of o ≡ output_in_lem modules.now item.now x.now) }
 {
     match item {
-        Item::Instance(m, i, links) => {
+        Item::Instance(m, i, connections) => {
             let ports = ports_of(alloc, modules, m)?;
-            match link_out(&ports, links.links(), x) {
+            match connection_out(&ports, connections.connections(), x) {
                 Some(p) => Ok(Some((i, p))),
                 None => Ok(None),
             }
@@ -108,10 +108,10 @@ pub(crate) fn output_of<'a>(
     Ok(None)
 }
 
-fn link_in<'a>(links: &'a [Link], x: &Text) -> Option<&'a Text>
-    ensures { option_copied result ≡ link_in_lem links.now x.now }
+fn connection_in<'a>(connections: &'a [Connection], x: &Text) -> Option<&'a Text>
+    ensures { option_copied result ≡ connection_in_lem connections.now x.now }
 {
-    for l in links {
+    for l in connections {
         if l.port.bytes() == x.bytes() {
             return Some(&l.net);
         }
@@ -123,9 +123,9 @@ fn joined_in<'a>(item: &'a Item, instance: &Text, x: &Text) -> Option<&'a Text>
     ensures { option_copied result ≡ joined_in_lem item.now instance.now x.now }
 {
     match item {
-        Item::Instance(_, i, links) => {
+        Item::Instance(_, i, connections) => {
             if i.bytes() == instance.bytes() {
-                link_in(links.links(), x)
+                connection_in(connections.connections(), x)
             } else {
                 None
             }
@@ -232,7 +232,7 @@ pub(crate) fn are_read(scope: &Scope, nets: &[NetNumber]) -> bool
     ensures { result ≡ are_read_lem scope.now nets.now }
 {
     for n in nets {
-        if !is_read(scope.sort(n.name.bytes())) {
+        if !is_read(scope.net_kind(n.name.bytes())) {
             return false;
         }
     }

@@ -12,8 +12,8 @@ use crate::moment::{Circuit, Moment};
 use crate::sources::{Rule, source_of};
 use std::alloc::{AllocError, Global};
 use tapa_base::Text;
-use vlog_rules::copy_text;
 use vlog_ref_driver::{NetNumber, value_of};
+use vlog_rules::copy_text;
 
 fn first_of(nets: &[NetNumber]) -> Option<u128>
     ensures { result ≡ first_number nets.now }

@@ -11,8 +11,8 @@ use crate::moment::{Circuit, Held, Moment};
 use crate::places::{copy_path, held_at, module_at, path_inside};
 use std::alloc::{AllocError, Global};
 use tapa_base::Text;
-use vlog_rules::{Scope, copy_text, is_read};
 use vlog_ref_driver::{MemoryCells, NetNumber, find_net};
+use vlog_rules::{Scope, copy_text, is_read};
 use vlog_tree::{Module, Value};
 
 /// How a number comes from those of some nets.
@@ -79,9 +79,9 @@ fn driver<'a>(
     ensures { IfOk result (λ o. option_map source_tree o ≡ driver_source (declared m.now) path.now memories.now x.now value.now) }
 {
     let scope = Scope::of_module(alloc, m)?;
-    let (sort, bits) = scope.find(x);
+    let (net_kind, bits) = scope.find(x);
     let reads = value_reads(alloc, &scope, value)?;
-    if is_read(sort) && are_read(&scope, &reads) && has_cells(memories, value) {
+    if is_read(net_kind) && are_read(&scope, &reads) && has_cells(memories, value) {
         let path = copy_path(alloc, path)?;
         Ok(Some(Source {
             path,

@@ -5,7 +5,7 @@ use Rattle.vlog_tree.specs.declared.tree.PortDecl.{PortDecl}
 use Rattle.vlog_tree.specs.declared.table.Declaration.{Declaration}
 use Rattle.vlog_tree.specs.Form.{ModuleTree}
 use Rattle.vlog_tree.specs.Grounded.{Has}
-use Rattle.vlog_tree.specs.Table.{Name, clk, is_clk, declared, port_declared, items_declared, sort_of, sort_is_read, first_violation}
+use Rattle.vlog_tree.specs.Table.{Name, clk, is_clk, declared, port_declared, items_declared, net_kind_of, net_kind_is_read, first_violation}
 use Rattle.vlog_tree.specs.Environment.{shape_of, memory_label}
 use Rattle.vlog_tree.specs.Labels.{ack_of, m_ack, m_we, m_addr, m_wdata}
 use Rattle.vlog_tree.specs.V2.{v2_uses}
@@ -33,10 +33,10 @@ module _ (ms : List ModuleTree) (names : first_violation (v2_uses ms) ≡ None) 
 
   -- a net that is read as any other
   abbrev pub IsReadNet : Name → Type 0
-  IsReadNet x = (sort_is_read (sort_of (declared m) x) ≡ true) × (is_clk x ≡ false)
+  IsReadNet x = (net_kind_is_read (net_kind_of (declared m) x) ≡ true) × (is_clk x ≡ false)
 
-  port_read : (x : Name) → has_port ports x ≡ true → sort_is_read (sort_of (declared m) x) ≡ true
-  port_read x h = ap (λ (d : Declaration). sort_is_read d.sort) (port_stands ports (items_declared m.items) x h) ∙ h
+  port_read : (x : Name) → has_port ports x ≡ true → net_kind_is_read (net_kind_of (declared m) x) ≡ true
+  port_read x h = ap (λ (d : Declaration). net_kind_is_read d.net_kind) (port_stands ports (items_declared m.items) x h) ∙ h
 
   by_ack : (l : Port) (p : PortDecl) → Has m.ports p → (o : Option Name) → ack_of p.name ≡ o → Has (memory_label (declared m) o) l → has_all_five ports l.name ≡ true
   by_ack l p h None e k = absurd k

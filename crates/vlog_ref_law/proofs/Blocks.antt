@@ -8,7 +8,7 @@ use Rattle.vlog_tree.specs.declared.tree.Item.TheVariants.{Wire, Reg, Memory, As
 use Rattle.vlog_tree.specs.declared.table.Declaration.{Declaration}
 use Rattle.vlog_tree.specs.Form.{ModuleTree}
 use Rattle.vlog_tree.specs.Grounded.{Has}
-use Rattle.vlog_tree.specs.Table.{Name, no, is_clk, declared, sort_of, sort_is_read, first_violation}
+use Rattle.vlog_tree.specs.Table.{Name, no, is_clk, declared, net_kind_of, net_kind_is_read, first_violation}
 use Rattle.vlog_tree.specs.V2.{v2_uses, item_uses, step_uses, read_use}
 use Rattle.vlog_comb_loops.proofs.Lists.{has_flat, of_flat}
 use Rattle.vlog_law_runs.proofs.Sound.{both_false, not_no, atom_read, item_right}
@@ -25,18 +25,18 @@ step_read ds (MemoryAssign k x a) z (inl e) = inr (inl (ap (read_use ds) e))
 step_read ds (MemoryAssign k x a) z (inr h) = inr (inr (atom_read ds a z h))
 
 module _ (ms : List ModuleTree) (names : first_violation (v2_uses ms) ≡ None) (m : ModuleTree) (in_ms : Has ms m) where
-  item_reads : (it : Item) → Has m.items it → (z : Name) → Has (item_nets it) z → (sort_is_read (sort_of (declared m) z) ≡ true) × (is_clk z ≡ false)
+  item_reads : (it : Item) → Has m.items it → (z : Name) → Has (item_nets it) z → (net_kind_is_read (net_kind_of (declared m) z) ≡ true) × (is_clk z ≡ false)
   unfolding item_uses
   item_reads (Always b) has z h =
       let t = of_flat step_nets b z h in
       let u = has_flat (step_uses (declared m)) b t.0 (read_use (declared m) z) t.1 (step_read (declared m) t.0 z t.2) in
-      let p = both_false (no (sort_is_read (sort_of (declared m) z))) (is_clk z) (item_right ms names m in_ms (Always b) has (read_use (declared m) z) (inr u)) in
+      let p = both_false (no (net_kind_is_read (net_kind_of (declared m) z))) (is_clk z) (item_right ms names m in_ms (Always b) has (read_use (declared m) z) (inr u)) in
       (not_no _ p.0, p.1)
   item_reads (Wire w x) has z h = absurd h
   item_reads (Reg w x) has z h = absurd h
   item_reads (Memory w x n) has z h = absurd h
   item_reads (Assign x e) has z h = absurd h
-  item_reads (Instance kn i links) has z h = absurd h
+  item_reads (Instance kn i connections) has z h = absurd h
 
-  pub block_reads : (z : Name) → Has (flat_map item_nets m.items) z → (sort_is_read (sort_of (declared m) z) ≡ true) × (is_clk z ≡ false)
+  pub block_reads : (z : Name) → Has (flat_map item_nets m.items) z → (net_kind_is_read (net_kind_of (declared m) z) ≡ true) × (is_clk z ≡ false)
   block_reads z h = let t = of_flat item_nets m.items z h in item_reads t.0 t.1 z t.2

@@ -6,7 +6,7 @@ use Rattle.std.proofs.lemmas.Bool.Decides.{nat_tests}
 use Rattle.vlog_tree.specs.Form.{ModuleTree}
 use Rattle.vlog_tree.specs.Grounded.{Has}
 use Rattle.vlog_tree.specs.Refused.{IsDesign}
-use Rattle.vlog_tree.specs.Table.{Name, is_clk, declared, sort_of, sort_is_read}
+use Rattle.vlog_tree.specs.Table.{Name, is_clk, declared, net_kind_of, net_kind_is_read}
 use Rattle.vlog_tree.specs.Cycle.{Cycle, Path, and_then, module_at}
 use Rattle.vlog_tree.specs.Environment.{Environment, FitsShape, RunsIn, shape_of}
 use Rattle.vlog_tree.specs.Labels.{m_ack, m_we, m_addr, m_wdata}
@@ -63,7 +63,7 @@ module _ (c : Circuit) (place : ℕ) (d : IsDesign c.modules.now place) (at_plac
   tree : IsTopTree ms root
   tree = top_tree ms place d root at_place
 
-  found : (path : Path) (m : ModuleTree) → module_at ms root path ≡ Some m → (x : Name) → (sort_is_read (sort_of (declared m) x) ≡ true) × (is_clk x ≡ false) → IsFound ms root now (path, x)
+  found : (path : Path) (m : ModuleTree) → module_at ms root path ≡ Some m → (x : Name) → (net_kind_is_read (net_kind_of (declared m) x) ≡ true) × (is_clk x ≡ false) → IsFound ms root now (path, x)
   found path m at x q = let f = each_found ms place root d at_place env env_fits nets r now is whole path m x at q.0 q.1 in (f.0, (nets now.cycle path).net x, f.1)
 
   held_from : (h : Held) → Has now.held.items h → FromSome (λ e. held_known c now e h)
@@ -80,7 +80,7 @@ module _ (c : Circuit) (place : ℕ) (d : IsDesign c.modules.now place) (at_plac
             ∙ ap (λ o. is_some o) (all_deeper ms root now (e - reads.0) reads.0 e (more_steps reads.0 e low) path (reads_of m) reads.1 reads.2),
       )
 
-  top_from : (x : Name) → (sort_is_read (sort_of (declared root) x) ≡ true) × (is_clk x ≡ false) → FromSome (λ e. is_some (number_at c now e [] x))
+  top_from : (x : Name) → (net_kind_is_read (net_kind_of (declared root) x) ≡ true) × (is_clk x ≡ false) → FromSome (λ e. is_some (number_at c now e [] x))
   top_from x q = let f = found [] root refl x q in (f.0, λ e low. ap (λ o. is_some o) (deeper ms root now (e - f.0) f.0 e (more_steps f.0 e low) [] x f.1 f.2))
 
   outside_from : (o : OutsideMemory) → Has now.outside.items o → FromSome (λ e. outside_known c now e o)

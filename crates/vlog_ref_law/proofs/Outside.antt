@@ -5,10 +5,10 @@ use Rattle.std.specs.Option.{option_map}
 use Rattle.tapa_base.specs.declared.shape.Port.{Port}
 use Rattle.vlog_tree.specs.declared.tree.PortDecl.{PortDecl}
 use Rattle.vlog_tree.specs.declared.table.Declaration.{Declaration}
-use Rattle.vlog_tree.specs.declared.table.Sort.TheVariants.{Input, Output}
+use Rattle.vlog_tree.specs.declared.table.NetKind.TheVariants.{Input, Output}
 use Rattle.vlog_tree.specs.Form.{ModuleTree}
 use Rattle.vlog_tree.specs.Grounded.{Has}
-use Rattle.vlog_tree.specs.Table.{Name, is_clk, declared, port_declared, sort_of, bits_of, first_violation}
+use Rattle.vlog_tree.specs.Table.{Name, is_clk, declared, port_declared, net_kind_of, bits_of, first_violation}
 use Rattle.vlog_tree.specs.Labels.{rst, m_ack, m_rdata, m_addr, scalar_of, ack_of, rdata_of, read_of}
 use Rattle.vlog_tree.specs.V2.{v2_uses}
 use Rattle.vlog_tree.specs.V6.{v6_uses, is_top}
@@ -82,10 +82,10 @@ module _ (ms : List ModuleTree) (names : first_violation (v2_uses ms) ≡ None) 
     port_given i c false None None None r es ea er = let f = fits ms names tops m in_ms top p h in absurd (input_has_label ports f.0 p f.1 i c r es ea er)
 
   -- an input of the top has a source, where the place that it asks for is found
-  pub input_given : (x : Name) → sort_of (declared m) x ≡ Input → is_clk x ≡ false → ((b : FlatNet) → Has (memory_parts true x) b → IsFound ms m now b) → IsGiven ms m now (input_source now x)
+  pub input_given : (x : Name) → net_kind_of (declared m) x ≡ Input → is_clk x ≡ false → ((b : FlatNet) → Has (memory_parts true x) b → IsFound ms m now b) → IsGiven ms m now (input_source now x)
   input_given x e c f =
       let p = input_port m x e in
       let asked : (l : Name) → rdata_of p.0.name ≡ Some l → IsFound ms m now ([], m_addr l) = λ l r.
       f ([], m_addr l) (subst (λ z. Has (memory_parts true z) ([], m_addr l)) p.2 (subst (λ o. Has {N = FlatNet} (map (λ (y : Name). ([], y)) (read_of o)) ([], m_addr l)) (sym r) (inl refl))) in
       subst (λ z. IsGiven ms m now (input_source now z)) p.2
-      (port_given p.0 p.1 asked (is_input p.0.input (ap (λ (d : Declaration). d.sort) p.3 ∙ e)) (ap is_clk p.2 ∙ c) (bytes_eq p.0.name rst) (scalar_of p.0.name) (ack_of p.0.name) (rdata_of p.0.name) refl refl refl refl)
+      (port_given p.0 p.1 asked (is_input p.0.input (ap (λ (d : Declaration). d.net_kind) p.3 ∙ e)) (ap is_clk p.2 ∙ c) (bytes_eq p.0.name rst) (scalar_of p.0.name) (ack_of p.0.name) (rdata_of p.0.name) refl refl refl refl)

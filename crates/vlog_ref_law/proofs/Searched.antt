@@ -5,18 +5,18 @@ use Rattle.std.proofs.lemmas.Bool.Decides.{nat_tests}
 use Rattle.std.specs.Option.{option_map}
 use Rattle.std.specs.Cmp.Lexicographic.{bytes_decides}
 use Rattle.vlog_tree.specs.declared.tree.Value.{Value}
-use Rattle.vlog_tree.specs.declared.tree.Link.{Link}
+use Rattle.vlog_tree.specs.declared.tree.Connection.{Connection}
 use Rattle.vlog_tree.specs.declared.tree.Item.{Item}
 use Rattle.vlog_tree.specs.declared.tree.Item.TheVariants.{Wire, Reg, Memory, Assign, Always, Instance}
 use Rattle.vlog_tree.specs.declared.table.Declaration.{Declaration}
 use Rattle.vlog_tree.specs.Form.{ModuleTree}
 use Rattle.vlog_tree.specs.Grounded.{Has}
-use Rattle.vlog_tree.specs.Table.{Name, no, port_declared, ports_of, sort_of, sort_is_input}
+use Rattle.vlog_tree.specs.Table.{Name, no, port_declared, ports_of, net_kind_of, net_kind_is_input}
 use Rattle.vlog_tree.specs.V4.{one_if}
 use Rattle.vlog_law_runs.proofs.Sound.{both_true, no_is, true_not_false}
 use Rattle.vlog_law_runs.proofs.Alone.{same_name, count_cons}
 use Rattle.vlog_law_runs.proofs.Drivers.{IsDrivenBy}
-use Rattle.vlog_ref_cycle.specs.Sources.{or_else, assigned_in, assigned, link_out, output_in, output_of, link_in, joined_in, joined_to}
+use Rattle.vlog_ref_cycle.specs.Sources.{or_else, assigned_in, assigned, connection_out, output_in, output_of, connection_in, joined_in, joined_to}
 use Rattle.vlog_ref_cycle.proofs.Options.{map_some, either_some}
 
 pub some_of : {A : Type 0} (o : Option A) → is_some o ≡ true → (x : A) × (o ≡ Some x)
@@ -72,36 +72,36 @@ assigned_there items x e has =
     line_there (λ its. assigned its x) (λ it. assigned_in it x) (λ a more. refl) items (Assign x e) has
     (λ h. some_not_none e (sym (ap (λ b. cond b (Some e) None) (same_name x)) ∙ h))
 
-abbrev drives_it : List Declaration → Name → Link → Bool
-drives_it ports x l = bytes_eq l.net x && no (sort_is_input (sort_of ports l.port))
+abbrev drives_it : List Declaration → Name → Connection → Bool
+drives_it ports x l = bytes_eq l.net x && no (net_kind_is_input (net_kind_of ports l.port))
 
-drives : (ports : List Declaration) (l : Link) → sort_is_input (sort_of ports l.port) ≡ false → drives_it ports l.net l ≡ true
-drives ports l e = ap (λ b. b && no (sort_is_input (sort_of ports l.port))) (same_name l.net) ∙ ap (λ b. no b) e
+drives : (ports : List Declaration) (l : Connection) → net_kind_is_input (net_kind_of ports l.port) ≡ false → drives_it ports l.net l ≡ true
+drives ports l e = ap (λ b. b && no (net_kind_is_input (net_kind_of ports l.port))) (same_name l.net) ∙ ap (λ b. no b) e
 
 pub output_there : (ms : List ModuleTree) (items : List Item) (x i p : Name) → IsDrivenBy ms items x i p → output_of ms items x ≡ None → ⊥
 output_there ms items x i p d =
     let ports = map port_declared (ports_of ms d.kn) in
-    line_there (λ its. output_of ms its x) (λ it. output_in ms it x) (λ a more. refl) items (Instance d.kn i d.links) d.has
+    line_there (λ its. output_of ms its x) (λ it. output_in ms it x) (λ a more. refl) items (Instance d.kn i d.connections) d.has
     (λ h.
-    first_there (λ ls. link_out ports ls x) (drives_it ports x) (λ (l : Link). l.port) (λ a more. refl) d.links d.link d.linked
-    (subst (λ z. drives_it ports z d.link ≡ true) d.net (drives ports d.link d.output)) (map_none (λ (q : Name). (i, q)) (link_out ports d.links x) h))
+    first_there (λ ls. connection_out ports ls x) (drives_it ports x) (λ (l : Connection). l.port) (λ a more. refl) d.connections d.connection d.connected
+    (subst (λ z. drives_it ports z d.connection ≡ true) d.net (drives ports d.connection d.output)) (map_none (λ (q : Name). (i, q)) (connection_out ports d.connections x) h))
 
 output_item : (ms : List ModuleTree) (items : List Item) (x : Name) (p : Name × Name) (it : Item) → Has items it → output_in ms it x ≡ Some p → IsDrivenBy ms items x p.0 p.1
-output_item ms items x p (Instance kn i links) has h =
+output_item ms items x p (Instance kn i connections) has h =
     let ports = map port_declared (ports_of ms kn) in
-    let t = map_some (λ (q : Name). (i, q)) (link_out ports links x) p h in
-    let f = first_found (λ ls. link_out ports ls x) (drives_it ports x) (λ (l : Link). l.port) (λ a more. refl) refl links t.0 t.1 in
-    let b = both_true (bytes_eq f.0.net x) (no (sort_is_input (sort_of ports f.0.port))) f.2 in
+    let t = map_some (λ (q : Name). (i, q)) (connection_out ports connections x) p h in
+    let f = first_found (λ ls. connection_out ports ls x) (drives_it ports x) (λ (l : Connection). l.port) (λ a more. refl) refl connections t.0 t.1 in
+    let b = both_true (bytes_eq f.0.net x) (no (net_kind_is_input (net_kind_of ports f.0.port))) f.2 in
     subst (λ z. IsDrivenBy ms items x z.0 z.1) t.2
     (record {
       kn = kn;
-      links = links;
+      connections = connections;
       has = has;
-      link = f.0;
-      linked = f.1;
+      connection = f.0;
+      connected = f.1;
       net = (bytes_decides f.0.net x).0 b.0;
       port = f.3;
-      output = no_is (sort_is_input (sort_of ports f.0.port)) b.1;
+      output = no_is (net_kind_is_input (net_kind_of ports f.0.port)) b.1;
     })
 output_item ms items x p (Wire w y) has h = cc
 output_item ms items x p (Reg w y) has h = cc
@@ -112,19 +112,19 @@ output_item ms items x p (Always b) has h = cc
 pub output_found : (ms : List ModuleTree) (items : List Item) (x : Name) (p : Name × Name) → output_of ms items x ≡ Some p → IsDrivenBy ms items x p.0 p.1
 output_found ms items x p h = let t = line_found (λ its. output_of ms its x) (λ it. output_in ms it x) (λ a more. refl) refl items p h in output_item ms items x p t.0 t.1 t.2
 
-unlinked : (links : List Link) (x : Name) → link_in links x ≡ None → count_by (λ (l : Link). bytes_eq l.port x) links ≡ 0
-unlinked [] x h = refl
-unlinked (l ∷ links) x h =
-    let t = passed_over (bytes_eq l.port x) l.net (link_in links x) h in
-    let c : count_by (λ (l : Link). bytes_eq l.port x) (l ∷ links) ≡ 0 + count_by (λ (l : Link). bytes_eq l.port x) links =
-    count_cons (λ (l : Link). bytes_eq l.port x) l links ∙ ap (λ b. one_if b + count_by (λ (l : Link). bytes_eq l.port x) links) t.0 in
-    let none : count_by (λ (l : Link). bytes_eq l.port x) links ≡ 0 = unlinked links x t.1 in
+unconnected : (connections : List Connection) (x : Name) → connection_in connections x ≡ None → count_by (λ (l : Connection). bytes_eq l.port x) connections ≡ 0
+unconnected [] x h = refl
+unconnected (l ∷ connections) x h =
+    let t = passed_over (bytes_eq l.port x) l.net (connection_in connections x) h in
+    let c : count_by (λ (l : Connection). bytes_eq l.port x) (l ∷ connections) ≡ 0 + count_by (λ (l : Connection). bytes_eq l.port x) connections =
+    count_cons (λ (l : Connection). bytes_eq l.port x) l connections ∙ ap (λ b. one_if b + count_by (λ (l : Connection). bytes_eq l.port x) connections) t.0 in
+    let none : count_by (λ (l : Connection). bytes_eq l.port x) connections ≡ 0 = unconnected connections x t.1 in
     omega arith
 
 not_one : (n : ℕ) → n ≡ 0 → (n == 1) ≡ true → ⊥
 not_one n e h = grind (arith, nat_tests)
 
-pub joined_there : (items : List Item) (kn i : Name) (links : List Link) → Has items (Instance kn i links) → (x : Name) → (count_by (λ (l : Link). bytes_eq l.port x) links == 1) ≡ true → joined_to items i x ≡ None → ⊥
-joined_there items kn i links has x one =
-    line_there (λ its. joined_to its i x) (λ it. joined_in it i x) (λ a more. refl) items (Instance kn i links) has
-    (λ h. not_one (count_by (λ (l : Link). bytes_eq l.port x) links) (unlinked links x (sym (ap (λ b. cond b (link_in links x) None) (same_name i)) ∙ h)) one)
+pub joined_there : (items : List Item) (kn i : Name) (connections : List Connection) → Has items (Instance kn i connections) → (x : Name) → (count_by (λ (l : Connection). bytes_eq l.port x) connections == 1) ≡ true → joined_to items i x ≡ None → ⊥
+joined_there items kn i connections has x one =
+    line_there (λ its. joined_to its i x) (λ it. joined_in it i x) (λ a more. refl) items (Instance kn i connections) has
+    (λ h. not_one (count_by (λ (l : Connection). bytes_eq l.port x) connections) (unconnected connections x (sym (ap (λ b. cond b (connection_in connections x) None) (same_name i)) ∙ h)) one)

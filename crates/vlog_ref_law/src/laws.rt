@@ -3,7 +3,7 @@
 ghost use Rattle.std.specs.Prelude.{◌≡◌, ℕ, ◌+◌, ◌<◌, ◌≤◌, ◌^◌, List, Some, false, slice_get, IsTrue};
 ghost use Rattle.vlog_tree.specs.Form.{ModuleTree};
 ghost use Rattle.vlog_tree.specs.Refused.{IsDesign};
-ghost use Rattle.vlog_tree.specs.Table.{Name, is_clk, declared, sort_of, sort_is_read};
+ghost use Rattle.vlog_tree.specs.Table.{Name, is_clk, declared, net_kind_of, net_kind_is_read};
 ghost use Rattle.vlog_tree.specs.Cycle.{Cycle, Path, module_at};
 ghost use Rattle.vlog_tree.specs.Environment.{Environment, FitsShape, RunsIn, shape_of};
 ghost use Rattle.vlog_ref_cycle.specs.declared.moment.Circuit.{Circuit};
@@ -18,7 +18,7 @@ ghost use Rattle.vlog_ref_law.specs.Whole.{IsWhole, HasNoMore};
 pub fn law_each_net_is_found()
     ensures { (ms : List ModuleTree) (top : ℕ) (m : ModuleTree) (env : Environment) (nets : ℕ → Path → Cycle) (now : Moment)
         → IsDesign ms top → slice_get ms top ≡ Some m → FitsShape env (shape_of m) → RunsIn ms m env nets → IsAt ms m env nets now → IsWhole ms m now
-        → (path : Path) (k : ModuleTree) (x : Name) → module_at ms m path ≡ Some k → IsTrue (sort_is_read (sort_of (declared k) x)) → is_clk x ≡ false
+        → (path : Path) (k : ModuleTree) (x : Name) → module_at ms m path ≡ Some k → IsTrue (net_kind_is_read (net_kind_of (declared k) x)) → is_clk x ≡ false
         → (d : ℕ) × (net_within ms m now d path x ≡ Some ((nets now.cycle path).net x)) }
 {}
 

@@ -1,4 +1,4 @@
-//! Tables of the names of modules, and the first name that is unknown, doubled or of the wrong sort, or whose widths differ.
+//! Tables of the names of modules, and the first name that is unknown, doubled or of the wrong net kind, or whose widths differ.
 #![tactic(auto)]
 
 mod library;

@@ -1,36 +1,39 @@
-// The first name that is unknown, doubled or of the wrong sort.
+// The first name that is unknown, doubled or of the wrong net kind.
 #![tactic(auto, using(vlog_tree::proofs::Walks::passes, vlog_tree::proofs::Walks::tells))]
 
 ghost use Rattle.std.specs.Prelude.{◌≡◌, ◌∷◌, ◌++◌, [], ℕ, List, bytes_eq, map, min, count_by, IfOk, ◌==◌};
 ghost use Rattle.vlog_tree.specs.NameTable.{count_in};
 ghost use Rattle.std.specs.Option.{option_copied};
 ghost use Rattle.std.specs.List.{flat_map, list_all};
-ghost use Rattle.vlog_tree.specs.Table.{first_violation, is_clk, sort_is_read, sort_is_driven, sort_is_input, port_declared, declared, sort_of, ports_of};
-ghost use Rattle.vlog_tree.specs.V2.{read_use, driven_use, register_use, memory_use, clock_use, atom_uses, value_uses, step_uses, inner_use, port_uses, instance_uses, all_linked as all_are_linked, joined_use, link_uses, item_uses, module_uses, v2_uses};
+ghost use Rattle.vlog_tree.specs.Table.{first_violation, is_clk, net_kind_is_read, net_kind_is_driven, net_kind_is_input, port_declared, declared, net_kind_of, ports_of};
+ghost use Rattle.vlog_tree.specs.V2.{read_use, driven_use, register_use, memory_use, clock_use, atom_uses, value_uses, step_uses, inner_use, port_uses, instance_uses, all_connected as all_are_connected, joined_use, connection_uses, item_uses, module_uses, v2_uses};
 
 use crate::library::Library;
 use crate::scope::Scope;
 use std::alloc::{AllocError, Global};
 use tapa_base::Text;
 use vlog_tree::{
-    Atom, Declaration, Item, Link, Module, NameCounts, PortDecl, Sort, Step, Value, count_of,
-    count_one,
+    Atom, Connection, Declaration, Item, Module, NameCounts, NetKind, PortDecl, Step, Value,
+    count_of, count_one,
 };
 
-/// Whether the number of a name of this sort can be read.
-pub fn is_read(sort: Sort) -> bool
-    ensures { result ≡ sort_is_read sort }
+/// Whether the number of a name of this net kind can be read.
+pub fn is_read(net_kind: NetKind) -> bool
+    ensures { result ≡ net_kind_is_read net_kind }
 {
     matches!(
-        sort,
-        Sort::Input | Sort::Output | Sort::WireNet | Sort::Register
+        net_kind,
+        NetKind::Input | NetKind::Output | NetKind::WireNet | NetKind::Register
     )
 }
 
-fn is_driven(sort: Sort) -> bool
-    ensures { result ≡ sort_is_driven sort }
+fn is_driven(net_kind: NetKind) -> bool
+    ensures { result ≡ net_kind_is_driven net_kind }
 {
-    matches!(sort, Sort::Input | Sort::Output | Sort::WireNet)
+    matches!(
+        net_kind,
+        NetKind::Input | NetKind::Output | NetKind::WireNet
+    )
 }
 
 #[tactic(auto, using(vlog_tree::proofs::Walks::passes, vlog_tree::proofs::Walks::tells), unfolding(vlog_tree::specs::Table::clk))]
@@ -50,15 +53,15 @@ pub fn named_if<'a>(name: &'a Text, wrong: bool) -> Option<&'a Text>
 fn read<'a>(scope: &Scope, name: &'a Text) -> Option<&'a Text>
     ensures { option_copied result ≡ first_violation (read_use scope.now name.now ∷ []) }
 {
-    let (sort, _) = scope.find(name);
-    named_if(name, !is_read(sort) || is_clock(name))
+    let (net_kind, _) = scope.find(name);
+    named_if(name, !is_read(net_kind) || is_clock(name))
 }
 
 fn driven<'a>(scope: &Scope, name: &'a Text) -> Option<&'a Text>
     ensures { option_copied result ≡ first_violation (driven_use scope.now name.now ∷ []) }
 {
-    let (sort, _) = scope.find(name);
-    named_if(name, !is_driven(sort) || is_clock(name))
+    let (net_kind, _) = scope.find(name);
+    named_if(name, !is_driven(net_kind) || is_clock(name))
 }
 
 fn atom<'a>(scope: &Scope, atom: &'a Atom) -> Option<&'a Text>
@@ -74,15 +77,15 @@ fn atom<'a>(scope: &Scope, atom: &'a Atom) -> Option<&'a Text>
 fn memory<'a>(scope: &Scope, name: &'a Text) -> Option<&'a Text>
     ensures { option_copied result ≡ first_violation (memory_use scope.now name.now ∷ []) }
 {
-    let (sort, _) = scope.find(name);
-    named_if(name, !matches!(sort, Sort::MemoryArray))
+    let (net_kind, _) = scope.find(name);
+    named_if(name, !matches!(net_kind, NetKind::MemoryArray))
 }
 
 fn register<'a>(scope: &Scope, name: &'a Text) -> Option<&'a Text>
     ensures { option_copied result ≡ first_violation (register_use scope.now name.now ∷ []) }
 {
-    let (sort, _) = scope.find(name);
-    named_if(name, !matches!(sort, Sort::Register))
+    let (net_kind, _) = scope.find(name);
+    named_if(name, !matches!(net_kind, NetKind::Register))
 }
 
 fn two_atoms<'a>(scope: &Scope, a: &'a Atom, b: &'a Atom) -> Option<&'a Text>
@@ -162,11 +165,11 @@ fn steps<'a>(scope: &Scope, steps: &'a [Step]) -> Option<&'a Text>
     None
 }
 
-/// Whether a name of this sort is an input port.
-pub fn is_input(sort: Sort) -> bool
-    ensures { result ≡ sort_is_input sort }
+/// Whether a name of this net kind is an input port.
+pub fn is_input(net_kind: NetKind) -> bool
+    ensures { result ≡ net_kind_is_input net_kind }
 {
-    matches!(sort, Sort::Input)
+    matches!(net_kind, NetKind::Input)
 }
 
 // The clock, where it is no input port.
@@ -174,8 +177,8 @@ fn clock<'a>(library: &'a Library, scope: &Scope) -> Option<&'a Text>
     ensures { option_copied result ≡ first_violation (clock_use scope.now ∷ []) }
 {
     let clk = library.clk();
-    let (sort, _) = scope.find(clk);
-    named_if(clk, !is_input(sort))
+    let (net_kind, _) = scope.find(clk);
+    named_if(clk, !is_input(net_kind))
 }
 
 fn inner<'a>(scope: &Scope, name: &'a Text) -> Option<&'a Text>
@@ -202,12 +205,12 @@ fn ports<'a>(scope: &Scope, ports: &'a [PortDecl]) -> Option<&'a Text>
     None
 }
 
-// How often each port is linked, where twice and more are one.
-fn link_counts(alloc: Global, links: &[Link]) -> Result<NameCounts, AllocError>
-    ensures { IfOk result (λ counts. (x : List ℕ) → count_in counts x ≡ min (count_by (λ l. bytes_eq l.port x) links.now) 2) }
+// How often each port is connected, where twice and more are one.
+fn connection_counts(alloc: Global, connections: &[Connection]) -> Result<NameCounts, AllocError>
+    ensures { IfOk result (λ counts. (x : List ℕ) → count_in counts x ≡ min (count_by (λ l. bytes_eq l.port x) connections.now) 2) }
 {
     let mut counts = NameCounts::new(alloc);
-    for l in links {
+    for l in connections {
         count_one(alloc, &mut counts, l.port.bytes())?;
     }
     Ok(counts)
@@ -227,10 +230,14 @@ fn all_counted_once(declarations: &[Declaration], counts: &NameCounts) -> bool
         .all(|d| is_counted_once(&d.name, counts))
 }
 
-fn all_linked(alloc: Global, ports: &Scope, links: &[Link]) -> Result<bool, AllocError>
-    ensures { IfOk result (λ b. b ≡ all_are_linked ports.now links.now) }
+fn all_connected(
+    alloc: Global,
+    ports: &Scope,
+    connections: &[Connection],
+) -> Result<bool, AllocError>
+    ensures { IfOk result (λ b. b ≡ all_are_connected ports.now connections.now) }
 {
-    let counts = link_counts(alloc, links)?;
+    let counts = connection_counts(alloc, connections)?;
     Ok(all_counted_once(ports.declarations(), &counts))
 }
 
@@ -238,69 +245,74 @@ fn joined<'a>(
     library: &'a Library,
     ports: &Scope,
     scope: &Scope,
-    link: &'a Link,
+    connection: &'a Connection,
 ) -> Option<&'a Text>
-    ensures { option_copied result ≡ first_violation (joined_use ports.now scope.now link.now ∷ []) }
+    ensures { option_copied result ≡ first_violation (joined_use ports.now scope.now connection.now ∷ []) }
 {
-    if is_clock(&link.port) && is_clock(&link.net) {
+    if is_clock(&connection.port) && is_clock(&connection.net) {
         return clock(library, scope);
     }
-    let (sort, _) = ports.find(&link.port);
-    if is_input(sort) {
-        read(scope, &link.net)
+    let (net_kind, _) = ports.find(&connection.port);
+    if is_input(net_kind) {
+        read(scope, &connection.net)
     } else {
-        driven(scope, &link.net)
+        driven(scope, &connection.net)
     }
 }
 
-#[tactic(auto, using(vlog_tree::proofs::Walks::passes, vlog_tree::proofs::Walks::tells), unfolding(vlog_tree::specs::V2::link_uses))]
-fn link<'a>(library: &'a Library, ports: &Scope, scope: &Scope, link: &'a Link) -> Option<&'a Text>
-    ensures { option_copied result ≡ first_violation (link_uses ports.now scope.now link.now) }
-{
-    let (sort, _) = ports.find(&link.port);
-    if let Some(x) = named_if(&link.port, !is_read(sort)) {
-        return Some(x);
-    }
-    joined(library, ports, scope, link)
-}
-
-fn links<'a>(
+#[tactic(auto, using(vlog_tree::proofs::Walks::passes, vlog_tree::proofs::Walks::tells), unfolding(vlog_tree::specs::V2::connection_uses))]
+fn connection<'a>(
     library: &'a Library,
     ports: &Scope,
     scope: &Scope,
-    links: &'a [Link],
+    connection: &'a Connection,
 ) -> Option<&'a Text>
-    ensures { option_copied result ≡ first_violation (flat_map (link_uses ports.now scope.now) links.now) }
+    ensures { option_copied result ≡ first_violation (connection_uses ports.now scope.now connection.now) }
 {
-    for l in links {
-        if let Some(x) = link(library, ports, scope, l) {
+    let (net_kind, _) = ports.find(&connection.port);
+    if let Some(x) = named_if(&connection.port, !is_read(net_kind)) {
+        return Some(x);
+    }
+    joined(library, ports, scope, connection)
+}
+
+fn connections<'a>(
+    library: &'a Library,
+    ports: &Scope,
+    scope: &Scope,
+    connections: &'a [Connection],
+) -> Option<&'a Text>
+    ensures { option_copied result ≡ first_violation (flat_map (connection_uses ports.now scope.now) connections.now) }
+{
+    for l in connections {
+        if let Some(x) = connection(library, ports, scope, l) {
             return Some(x);
         }
     }
     None
 }
 
-// The module's name where it is unknown, then the instance's, then those of the links.
+// The module's name where it is unknown, then the instance's, then those of the connections.
 #[tactic(auto, using(vlog_tree::proofs::Walks::passes, vlog_tree::proofs::Walks::tells), unfolding(vlog_tree::specs::V2::instance_uses))]
 fn instance_names<'a>(
     library: &'a Library,
     scope: &Scope,
     m: &'a Text,
     i: &'a Text,
-    joins: &'a [Link],
-    linked: bool,
+    joins: &'a [Connection],
+    connected: bool,
 ) -> Option<&'a Text>
-    requires { linked ≡ all_are_linked (map port_declared (ports_of library.now m.now)) joins.now }
+    requires { connected ≡ all_are_connected (map port_declared (ports_of library.now m.now)) joins.now }
     ensures { option_copied result ≡ first_violation (instance_uses library.now scope.now m.now i.now joins.now) }
 {
     let child = library.ports_named(m);
     if let Some(name) = named_if(m, !library.is_module(m)) {
         return Some(name);
     }
-    if let Some(name) = named_if(i, scope.is_doubled(i) || is_clock(i) || !linked) {
+    if let Some(name) = named_if(i, scope.is_doubled(i) || is_clock(i) || !connected) {
         return Some(name);
     }
-    links(library, child, scope, joins)
+    connections(library, child, scope, joins)
 }
 
 fn instance<'a>(
@@ -309,12 +321,12 @@ fn instance<'a>(
     scope: &Scope,
     m: &'a Text,
     i: &'a Text,
-    joins: &'a [Link],
+    joins: &'a [Connection],
 ) -> Result<Option<&'a Text>, AllocError>
     ensures { IfOk result (λ o. option_copied o ≡ first_violation (instance_uses library.now scope.now m.now i.now joins.now)) }
 {
-    let linked = all_linked(alloc, library.ports_named(m), joins)?;
-    Ok(instance_names(library, scope, m, i, joins, linked))
+    let connected = all_connected(alloc, library.ports_named(m), joins)?;
+    Ok(instance_names(library, scope, m, i, joins, connected))
 }
 
 fn assign<'a>(scope: &Scope, x: &'a Text, e: &'a Value) -> Option<&'a Text>
@@ -350,7 +362,7 @@ fn item<'a>(
         Item::Memory(_, x, _) => Ok(inner(scope, x)),
         Item::Assign(x, e) => Ok(assign(scope, x, e)),
         Item::Always(b) => Ok(always(library, scope, b.steps())),
-        Item::Instance(m, i, joins) => instance(alloc, library, scope, m, i, joins.links()),
+        Item::Instance(m, i, joins) => instance(alloc, library, scope, m, i, joins.connections()),
     }
 }
 
@@ -391,7 +403,7 @@ fn module_names<'a>(
     items(alloc, library, scope, m.items())
 }
 
-/// The first name in the text that is unknown, doubled or of the wrong sort.
+/// The first name in the text that is unknown, doubled or of the wrong net kind.
 pub fn first_unknown<'a>(
     alloc: Global,
     library: &'a Library,

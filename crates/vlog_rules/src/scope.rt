@@ -2,13 +2,13 @@
 
 ghost use Rattle.std.specs.Prelude.{◌≡◌, ◌<◌, ◌++◌, ◌∷◌, [], ℕ, List, map, IfOk, OnOk, length, get_or};
 ghost use Rattle.vlog_tree.specs.NameTable.{place_in, places_from};
-ghost use Rattle.vlog_tree.specs.Table.{declared, items_declared, port_declared, sort_of, bits_of, is_doubled_name};
+ghost use Rattle.vlog_tree.specs.Table.{declared, items_declared, port_declared, net_kind_of, bits_of, is_doubled_name};
 ghost use Rattle.vlog_tree.specs.Table.{module_declared, declaration_name};
 
 use std::alloc::{AllocError, Global};
 use std::marker::Model;
 use tapa_base::Text;
-use vlog_tree::{Declaration, Item, Module, NameTable, PortDecl, Sort, add_before, find_name};
+use vlog_tree::{Declaration, Item, Module, NameTable, NetKind, PortDecl, add_before, find_name};
 
 /// Declarations in the order of the text.
 #[derive(Drop)]
@@ -41,13 +41,17 @@ fn add(
     alloc: Global,
     declarations: &mut Vec<Declaration>,
     name: &Text,
-    sort: Sort,
+    net_kind: NetKind,
     bits: u32,
 ) -> Result<(), AllocError>
-    ensures { OnOk result (declarations.new.items ≡ declarations.old.items ++ record { name = name.now; sort = sort; bits = bits } ∷ []) }
+    ensures { OnOk result (declarations.new.items ≡ declarations.old.items ++ record { name = name.now; net_kind = net_kind; bits = bits } ∷ []) }
 {
     let name = copy_text(alloc, name)?;
-    declarations.push(Declaration { name, sort, bits })?;
+    declarations.push(Declaration {
+        name,
+        net_kind,
+        bits,
+    })?;
     Ok(())
 }
 
@@ -59,10 +63,10 @@ fn add_item(
     ensures { OnOk result (declarations.new.items ≡ declarations.old.items ++ items_declared (item.now ∷ [])) }
 {
     match item {
-        Item::Wire(bits, name) => add(alloc, declarations, name, Sort::WireNet, *bits),
-        Item::Reg(bits, name) => add(alloc, declarations, name, Sort::Register, *bits),
-        Item::Memory(bits, name, _) => add(alloc, declarations, name, Sort::MemoryArray, *bits),
-        Item::Instance(_, name, _) => add(alloc, declarations, name, Sort::ChildInstance, 0),
+        Item::Wire(bits, name) => add(alloc, declarations, name, NetKind::WireNet, *bits),
+        Item::Reg(bits, name) => add(alloc, declarations, name, NetKind::Register, *bits),
+        Item::Memory(bits, name, _) => add(alloc, declarations, name, NetKind::MemoryArray, *bits),
+        Item::Instance(_, name, _) => add(alloc, declarations, name, NetKind::ChildInstance, 0),
         Item::Assign(_, _) | Item::Always(_) => Ok(()),
     }
 }
@@ -74,12 +78,12 @@ fn add_port(
 ) -> Result<(), AllocError>
     ensures { OnOk result (declarations.new.items ≡ declarations.old.items ++ port_declared port.now ∷ []) }
 {
-    let sort = if port.input {
-        Sort::Input
+    let net_kind = if port.input {
+        NetKind::Input
     } else {
-        Sort::Output
+        NetKind::Output
     };
-    add(alloc, declarations, &port.name, sort, port.bits)
+    add(alloc, declarations, &port.name, net_kind, port.bits)
 }
 
 fn add_ports(
@@ -116,7 +120,7 @@ fn add_modules(
     ensures { OnOk result (declarations.new.items ≡ declarations.old.items ++ map module_declared modules.now) }
 {
     for m in modules {
-        add(alloc, declarations, m.name(), Sort::Unknown, 0)?;
+        add(alloc, declarations, m.name(), NetKind::Unknown, 0)?;
     }
     Ok(())
 }
@@ -199,13 +203,13 @@ impl Scope {
     }
 
     /// What bytes stand for as a name.
-    pub fn sort(&self, name: &[u8]) -> Sort
-        ensures { result ≡ sort_of self.now name.now }
+    pub fn net_kind(&self, name: &[u8]) -> NetKind
+        ensures { result ≡ net_kind_of self.now name.now }
     {
         let declarations = self.declarations();
         match self.place_of(name) {
-            Some((place, _)) => declaration_at(declarations, place).sort,
-            None => Sort::Unknown,
+            Some((place, _)) => declaration_at(declarations, place).net_kind,
+            None => NetKind::Unknown,
         }
     }
 
@@ -222,17 +226,17 @@ impl Scope {
 
     /// What a name stands for, and its bits.
 
-    pub fn find(&self, name: &Text) -> (Sort, u32)
-        ensures sort { result.0 ≡ sort_of self.now name.now }
+    pub fn find(&self, name: &Text) -> (NetKind, u32)
+        ensures net_kind { result.0 ≡ net_kind_of self.now name.now }
         ensures bits { result.1 ≡ bits_of self.now name.now }
     {
         let declarations = self.declarations();
         match self.place(name) {
             Some((place, _)) => {
                 let found = declaration_at(declarations, place);
-                (found.sort, found.bits)
+                (found.net_kind, found.bits)
             }
-            None => (Sort::Unknown, 0),
+            None => (NetKind::Unknown, 0),
         }
     }
 

@@ -5,13 +5,13 @@ ghost use Rattle.std.specs.Prelude.{◌≡◌, ◌≤◌, ◌^◌, ◌∷◌, �
 ghost use Rattle.std.specs.Option.{option_copied};
 ghost use Rattle.std.specs.List.{flat_map, list_all};
 ghost use Rattle.vlog_tree.specs.Table.{first_violation, declared};
-ghost use Rattle.vlog_tree.specs.V3.{is_width as is_width_lem, atom_bits as bits_of_atom, atom_fits as fits_atom, has_bits as has_bits_lem, is_divisor as is_divisor_lem, op_fits as fits_op, value_fits as fits_value, step_widths, link_widths, item_widths, port_widths, module_widths, v3_uses};
+ghost use Rattle.vlog_tree.specs.V3.{is_width as is_width_lem, atom_bits as bits_of_atom, atom_fits as fits_atom, has_bits as has_bits_lem, is_divisor as is_divisor_lem, op_fits as fits_op, value_fits as fits_value, step_widths, connection_widths, item_widths, port_widths, module_widths, v3_uses};
 
 use crate::library::Library;
 use crate::names::named_if;
 use crate::scope::Scope;
 use tapa_base::Text;
-use vlog_tree::{Atom, BinaryOp, Item, Link, Module, PortDecl, Step, Value};
+use vlog_tree::{Atom, BinaryOp, Connection, Item, Module, PortDecl, Step, Value};
 
 fn is_width(bits: u32) -> bool
     ensures { result ≡ is_width_lem bits }
@@ -159,19 +159,19 @@ fn steps<'a>(scope: &Scope, steps: &'a [Step]) -> Option<&'a Text>
     None
 }
 
-#[tactic(auto, unfolding(vlog_tree::specs::V3::link_widths))]
-fn link<'a>(ports: &Scope, scope: &Scope, link: &'a Link) -> Option<&'a Text>
-    ensures { option_copied result ≡ first_violation (link_widths ports.now scope.now link.now) }
+#[tactic(auto, unfolding(vlog_tree::specs::V3::connection_widths))]
+fn connection<'a>(ports: &Scope, scope: &Scope, connection: &'a Connection) -> Option<&'a Text>
+    ensures { option_copied result ≡ first_violation (connection_widths ports.now scope.now connection.now) }
 {
-    let same = ports.find(&link.port).1 == scope.find(&link.net).1;
-    named_if(&link.port, !same)
+    let same = ports.find(&connection.port).1 == scope.find(&connection.net).1;
+    named_if(&connection.port, !same)
 }
 
-fn links<'a>(ports: &Scope, scope: &Scope, links: &'a [Link]) -> Option<&'a Text>
-    ensures { option_copied result ≡ first_violation (flat_map (link_widths ports.now scope.now) links.now) }
+fn connections<'a>(ports: &Scope, scope: &Scope, connections: &'a [Connection]) -> Option<&'a Text>
+    ensures { option_copied result ≡ first_violation (flat_map (connection_widths ports.now scope.now) connections.now) }
 {
-    for l in links {
-        if let Some(x) = link(ports, scope, l) {
+    for l in connections {
+        if let Some(x) = connection(ports, scope, l) {
             return Some(x);
         }
     }
@@ -206,7 +206,11 @@ fn item<'a>(library: &Library, scope: &Scope, item: &'a Item) -> Option<&'a Text
         Item::Memory(bits, x, cells) => named_if(x, !(is_width(*bits) && *cells <= 1_048_576)),
         Item::Assign(x, e) => named_if(x, !value_fits(scope, scope.find(x).1 as u64, e)),
         Item::Always(b) => steps(scope, b.steps()),
-        Item::Instance(m, _, joins) => links(library.ports_named(m), scope, joins.links()),
+        Item::Instance(m, _, joins) => connections(
+            library.ports_named(m),
+            scope,
+            joins.connections(),
+        ),
     }
 }
 

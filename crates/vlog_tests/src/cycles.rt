@@ -19,10 +19,10 @@
 //   cycle 12: done.
 
 use crate::trees::{Do, Line, Part, Port, add_module, design, text};
-use vlog_ref_cycle::{Circuit, Held, Moment, OutsideMemory, carries, is_done, net_number, next};
 use std::alloc::{AllocError, Global};
 use std::process::Abort;
 use std::test::Fail;
+use vlog_ref_cycle::{Circuit, Held, Moment, OutsideMemory, carries, is_done, net_number, next};
 use vlog_ref_driver::{MemoryCells, NetNumber};
 use vlog_tree::{BinaryOp, Module};
 

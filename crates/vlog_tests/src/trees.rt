@@ -4,7 +4,8 @@ use std::alloc::{AllocError, Global};
 use tapa_base::Text;
 use vlog_design::Design;
 use vlog_tree::{
-    Atom, Atoms, BinaryOp, Block, Item, Link, Links, Module, PortDecl, Step, VFault, Value,
+    Atom, Atoms, BinaryOp, Block, Connection, Connections, Item, Module, PortDecl, Step, VFault,
+    Value,
 };
 
 /// A net, its bits from a high one to a low one, or a number of some bits.
@@ -176,13 +177,17 @@ fn child(
     name: &str,
     pairs: &[(&'static str, &'static str)],
 ) -> Result<Item, AllocError> {
-    let mut links = Vec::new(alloc);
+    let mut connections = Vec::new(alloc);
     for (port, to) in pairs {
         let port = text(alloc, port)?;
         let net = text(alloc, to)?;
-        links.push(Link { port, net })?;
+        connections.push(Connection { port, net })?;
     }
-    Ok(Item::Instance(text(alloc, of)?, text(alloc, name)?, Links::of(links)))
+    Ok(Item::Instance(
+        text(alloc, of)?,
+        text(alloc, name)?,
+        Connections::of(connections),
+    ))
 }
 
 fn wire(alloc: Global, bits: u32, name: &str) -> Result<Item, AllocError> {

@@ -58,7 +58,7 @@ items_declared-cons (Reg w x) xs = refl
 items_declared-cons (Memory w x n) xs = refl
 items_declared-cons (Assign x e) xs = refl
 items_declared-cons (Always b) xs = refl
-items_declared-cons (Instance m i links) xs = refl
+items_declared-cons (Instance m i connections) xs = refl
 
 -- a list that grows by what the front of another gives
 pub grows : {A B : Type 0} (f : List A → List B) (xs : List A) (i : ℕ) (x : A) (old new piece all : List B)

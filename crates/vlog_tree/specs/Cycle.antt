@@ -86,7 +86,7 @@ Holds s c (Reg w x) = s.width x ≡ w
 Holds s c (Memory w m n) = (s.width m ≡ w) × (s.cells m ≡ n)
 Holds s c (Assign x e) = c.net x ≡ driven s (s.width x) c e
 Holds s c (Always b) = Unit {0}
-Holds s c (Instance m i links) = Unit {0}
+Holds s c (Instance m i connections) = Unit {0}
 
 abbrev pub PortHolds : Sizes → PortDecl → Type 0
 PortHolds s p = s.width p.name ≡ p.bits
@@ -119,7 +119,7 @@ run_items s old (Wire w x ∷ items) next = run_items s old items next
 run_items s old (Reg w x ∷ items) next = run_items s old items next
 run_items s old (Memory w m n ∷ items) next = run_items s old items next
 run_items s old (Assign x e ∷ items) next = run_items s old items next
-run_items s old (Instance m i links ∷ items) next = run_items s old items next
+run_items s old (Instance m i connections ∷ items) next = run_items s old items next
 
 -- a register or a memory goes from its numbers in old to those in new
 abbrev pub Takes : Sizes → List Item → Cycle → Cycle → Item → Type 0
@@ -128,7 +128,7 @@ Takes s all old new (Memory w m n) = (a : ℕ) → a < n → new.cell m a ≡ (r
 Takes s all old new (Wire w x) = Unit {0}
 Takes s all old new (Assign x e) = Unit {0}
 Takes s all old new (Always b) = Unit {0}
-Takes s all old new (Instance m i links) = Unit {0}
+Takes s all old new (Instance m i connections) = Unit {0}
 
 -- in cycle 0 registers and memories hold any numbers that fit
 abbrev pub PowersUp : Cycle → Item → Type 0
@@ -137,7 +137,7 @@ PowersUp c (Memory w m n) = (a : ℕ) → a < n → c.cell m a < 2 ^ w
 PowersUp c (Wire w x) = Unit {0}
 PowersUp c (Assign x e) = Unit {0}
 PowersUp c (Always b) = Unit {0}
-PowersUp c (Instance m i links) = Unit {0}
+PowersUp c (Instance m i connections) = Unit {0}
 
 -- these are the numbers of a module in the cycles 0, 1, 2 and so on, as far as its own lines say
 pub record Follows (m : ModuleTree) (run : ℕ → Cycle) : Type 0 where
@@ -162,7 +162,7 @@ and_then (Some x) f = f x
 -- the name of the module whose instance has this name
 abbrev pub child_of : List Item → Name → Option Name
 child_of [] x = None
-child_of (Instance m i links ∷ items) x = if bytes_eq i x then Some m else child_of items x
+child_of (Instance m i connections ∷ items) x = if bytes_eq i x then Some m else child_of items x
 child_of (Wire w y ∷ items) x = child_of items x
 child_of (Reg w y ∷ items) x = child_of items x
 child_of (Memory w y n ∷ items) x = child_of items x
@@ -175,15 +175,15 @@ module_at ms top [] = Some top
 module_at ms top (x ∷ path) = and_then (module_at ms top path) (λ m. and_then (child_of m.items x) (module_named ms))
 
 -- a port of an instance has the number of the net that it is joined to
-abbrev pub Linked : (Path → Cycle) → Path → Item → Type 0
-Linked nets path (Instance m i links) = AllByRecursion (λ l. (nets (i ∷ path)).net l.port ≡ (nets path).net l.net) links
-Linked nets path (Wire w x) = Unit {0}
-Linked nets path (Reg w x) = Unit {0}
-Linked nets path (Memory w x n) = Unit {0}
-Linked nets path (Assign x e) = Unit {0}
-Linked nets path (Always b) = Unit {0}
+abbrev pub Connected : (Path → Cycle) → Path → Item → Type 0
+Connected nets path (Instance m i connections) = AllByRecursion (λ l. (nets (i ∷ path)).net l.port ≡ (nets path).net l.net) connections
+Connected nets path (Wire w x) = Unit {0}
+Connected nets path (Reg w x) = Unit {0}
+Connected nets path (Memory w x n) = Unit {0}
+Connected nets path (Assign x e) = Unit {0}
+Connected nets path (Always b) = Unit {0}
 
 -- the numbers of a whole design in the cycles 0, 1, 2 and so on; a flattened net is a path and a name
 pub record Runs (ms : List ModuleTree) (top : ModuleTree) (nets : ℕ → Path → Cycle) : Type 0 where
   pub each : (path : Path) (m : ModuleTree) → module_at ms top path ≡ Some m → Follows m (λ n. nets n path)
-  pub links : (n : ℕ) (path : Path) (m : ModuleTree) → module_at ms top path ≡ Some m → AllByRecursion (Linked (nets n) path) m.items
+  pub connections : (n : ℕ) (path : Path) (m : ModuleTree) → module_at ms top path ≡ Some m → AllByRecursion (Connected (nets n) path) m.items

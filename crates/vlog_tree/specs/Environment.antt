@@ -36,7 +36,7 @@ is_wire_of x (Reg w y) = false
 is_wire_of x (Memory w y n) = false
 is_wire_of x (Assign y e) = false
 is_wire_of x (Always b) = false
-is_wire_of x (Instance m i links) = false
+is_wire_of x (Instance m i connections) = false
 
 unfoldable pub is_stream : List Item → ℕ → Name → Name → Bool
 is_stream items w wr rdy = nat_le 2 w && nat_le w 65 && list_any (is_wire_of wr) items && list_any (is_wire_of rdy) items
@@ -51,7 +51,7 @@ item_stream items (Reg w y) = []
 item_stream items (Memory w y n) = []
 item_stream items (Assign y e) = []
 item_stream items (Always b) = []
-item_stream items (Instance m i links) = []
+item_stream items (Instance m i connections) = []
 
 -- the streams in the order of their din
 abbrev pub streams_of : ModuleTree → List Port

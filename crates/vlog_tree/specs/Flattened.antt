@@ -1,12 +1,12 @@
 -- What each net of a flattened design has its number from in the same cycle.
 use Rattle.std.specs.Prelude.{Bool, true, false, ◌&&◌, List, [], ◌∷◌, ◌++◌, Option, Some, None, if◌then◌else◌, bytes_eq, map}
 use Rattle.std.specs.List.{flat_map}
-use Rattle.vlog_tree.specs.declared.tree.Link.{Link}
+use Rattle.vlog_tree.specs.declared.tree.Connection.{Connection}
 use Rattle.vlog_tree.specs.declared.tree.Item.{Item}
 use Rattle.vlog_tree.specs.declared.tree.Item.TheVariants.{Wire, Reg, Memory, Assign, Always, Instance}
 use Rattle.vlog_tree.specs.Form.{ModuleTree}
 use Rattle.vlog_tree.specs.Cycle.{Path, module_at}
-use Rattle.vlog_tree.specs.Table.{Name, no, port_declared, sort_of, sort_is_input, ports_of}
+use Rattle.vlog_tree.specs.Table.{Name, no, port_declared, net_kind_of, net_kind_is_input, ports_of}
 use Rattle.vlog_tree.specs.Labels.{address_of}
 use Rattle.vlog_tree.specs.Loops.{value_nets}
 
@@ -17,8 +17,8 @@ FlatNet = Path × Name
 -- what a net has its number from by one line of its module: a driver's nets, or an output of an instance
 abbrev pub line_parts : List ModuleTree → Path → Name → Item → List FlatNet
 line_parts ms path x (Assign y e) = if bytes_eq y x then map (λ z. (path, z)) (value_nets e) else []
-line_parts ms path x (Instance m i links) =
-    flat_map (λ (l : Link). if bytes_eq l.net x && no (sort_is_input (sort_of (map port_declared (ports_of ms m)) l.port)) then (i ∷ path, l.port) ∷ [] else []) links
+line_parts ms path x (Instance m i connections) =
+    flat_map (λ (l : Connection). if bytes_eq l.net x && no (net_kind_is_input (net_kind_of (map port_declared (ports_of ms m)) l.port)) then (i ∷ path, l.port) ∷ [] else []) connections
 line_parts ms path x (Wire w y) = []
 line_parts ms path x (Reg w y) = []
 line_parts ms path x (Memory w y n) = []
@@ -26,8 +26,8 @@ line_parts ms path x (Always b) = []
 
 -- what an input of an instance has its number from
 abbrev pub outer_parts : List ModuleTree → Path → Name → Name → Item → List FlatNet
-outer_parts ms path i x (Instance m j links) =
-    if bytes_eq j i then flat_map (λ (l : Link). if bytes_eq l.port x && sort_is_input (sort_of (map port_declared (ports_of ms m)) l.port) then (path, l.net) ∷ [] else []) links else []
+outer_parts ms path i x (Instance m j connections) =
+    if bytes_eq j i then flat_map (λ (l : Connection). if bytes_eq l.port x && net_kind_is_input (net_kind_of (map port_declared (ports_of ms m)) l.port) then (path, l.net) ∷ [] else []) connections else []
 outer_parts ms path i x (Assign y e) = []
 outer_parts ms path i x (Wire w y) = []
 outer_parts ms path i x (Reg w y) = []

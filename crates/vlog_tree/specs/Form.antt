@@ -8,7 +8,7 @@ use Rattle.vlog_tree.specs.declared.tree.Value.{Value}
 use Rattle.vlog_tree.specs.declared.tree.Value.TheVariants.{Plain, Invert, Binary, Choose, Concat, Repeat, Cell}
 use Rattle.vlog_tree.specs.declared.tree.Step.{Step}
 use Rattle.vlog_tree.specs.declared.tree.Step.TheVariants.{If, Else, End, NonblockingAssign, MemoryAssign}
-use Rattle.vlog_tree.specs.declared.tree.Link.{Link}
+use Rattle.vlog_tree.specs.declared.tree.Connection.{Connection}
 use Rattle.vlog_tree.specs.declared.tree.Item.{Item}
 use Rattle.vlog_tree.specs.declared.tree.Item.TheVariants.{Wire, Reg, Memory, Assign, Always, Instance}
 use Rattle.vlog_tree.specs.declared.tree.PortDecl.{PortDecl}
@@ -54,8 +54,8 @@ is_step End = true
 is_step (NonblockingAssign x a) = is_name x && is_atom a
 is_step (MemoryAssign m x a) = is_name m && is_name x && is_atom a
 
-abbrev pub is_link : Link → Bool
-is_link l = is_name l.port && is_name l.net
+abbrev pub is_connection : Connection → Bool
+is_connection l = is_name l.port && is_name l.net
 
 -- no width and no memory is empty: a range is written by its highest number
 abbrev pub is_item : Item → Bool
@@ -64,7 +64,7 @@ is_item (Reg w x) = nat_le 1 w && is_name x
 is_item (Memory w x n) = nat_le 1 w && is_name x && nat_le 1 n
 is_item (Assign x e) = is_name x && is_value e
 is_item (Always b) = nested [] b && list_all is_step b
-is_item (Instance m i links) = is_name m && is_name i && nat_le 1 (length links) && list_all is_link links
+is_item (Instance m i connections) = is_name m && is_name i && nat_le 1 (length connections) && list_all is_connection connections
 
 abbrev pub is_port : PortDecl → Bool
 is_port p = nat_le 1 p.bits && is_name p.name

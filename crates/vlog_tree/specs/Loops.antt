@@ -5,14 +5,14 @@ use Rattle.vlog_tree.specs.declared.tree.Atom.{Atom}
 use Rattle.vlog_tree.specs.declared.tree.Atom.TheVariants.{Net, Part, Literal}
 use Rattle.vlog_tree.specs.declared.tree.Value.{Value}
 use Rattle.vlog_tree.specs.declared.tree.Value.TheVariants.{Plain, Invert, Binary, Choose, Concat, Repeat, Cell}
-use Rattle.vlog_tree.specs.declared.tree.Link.{Link}
+use Rattle.vlog_tree.specs.declared.tree.Connection.{Connection}
 use Rattle.vlog_tree.specs.declared.tree.Item.{Item}
 use Rattle.vlog_tree.specs.declared.tree.Item.TheVariants.{Wire, Reg, Memory, Assign, Always, Instance}
 use Rattle.vlog_tree.specs.declared.table.Declaration.{Declaration}
-use Rattle.vlog_tree.specs.declared.table.Sort.TheVariants.{Input, Output}
+use Rattle.vlog_tree.specs.declared.table.NetKind.TheVariants.{Input, Output}
 use Rattle.vlog_tree.specs.Form.{ModuleTree}
 use Rattle.vlog_tree.specs.Cycle.{module_named}
-use Rattle.vlog_tree.specs.Table.{Name, declared, port_declared, sort_of, sort_is_input, ports_of}
+use Rattle.vlog_tree.specs.Table.{Name, declared, port_declared, net_kind_of, net_kind_is_input, ports_of}
 use Rattle.vlog_tree.specs.Grounded.{Has}
 use Rattle.vlog_tree.specs.Labels.{address_of}
 use Rattle.vlog_tree.specs.V6.{module_children}
@@ -41,13 +41,13 @@ abbrev pub Edges : Type 0
 Edges = List (Name × Name)
 
 -- in the same cycle an instance's input has the number of its net, and a net that of the instance's output
-unfoldable pub link_edge : List Declaration → Name → Link → Name × Name
-link_edge ports i l = if sort_is_input (sort_of ports l.port) then (port_of i l.port, l.net) else (l.net, port_of i l.port)
+unfoldable pub connection_edge : List Declaration → Name → Connection → Name × Name
+connection_edge ports i l = if net_kind_is_input (net_kind_of ports l.port) then (port_of i l.port, l.net) else (l.net, port_of i l.port)
 
 -- a driven net rests on the nets of its driver; an assigned register rests on nothing of its own cycle
 abbrev pub line_edges : List ModuleTree → Item → Edges
 line_edges ms (Assign x e) = map (λ y. (x, y)) (value_nets e)
-line_edges ms (Instance m i links) = map (link_edge (map port_declared (ports_of ms m)) i) links
+line_edges ms (Instance m i connections) = map (connection_edge (map port_declared (ports_of ms m)) i) connections
 line_edges ms (Wire w x) = []
 line_edges ms (Reg w x) = []
 line_edges ms (Memory w x n) = []
@@ -67,7 +67,7 @@ direct_edges ms is_top m = flat_map (line_edges ms) m.items ++ memory_edges (is_
 
 -- an instance's module and the instance's name
 abbrev pub item_instances : Item → List (Name × Name)
-item_instances (Instance m i links) = (m, i) ∷ []
+item_instances (Instance m i connections) = (m, i) ∷ []
 item_instances (Wire w x) = []
 item_instances (Reg w x) = []
 item_instances (Memory w x n) = []
@@ -82,7 +82,7 @@ instances m = flat_map item_instances m.items
 pub data Rests (ms : List ModuleTree) (is_top : Name → Bool) : ModuleTree → Name → Name → Type 0 where
   directly : {m : ModuleTree} {x y : Name} → Has (direct_edges ms is_top m) (x, y) → Rests ms is_top m x y
   through : {m : ModuleTree} {a b : Name} (k : ModuleTree) (kn i x y : Name) → Has (instances m) (kn, i) → module_named ms kn ≡ Some k
-      → sort_of (map port_declared k.ports) x ≡ Output → sort_of (map port_declared k.ports) y ≡ Input → Rests ms is_top k x y
+      → net_kind_of (map port_declared k.ports) x ≡ Output → net_kind_of (map port_declared k.ports) y ≡ Input → Rests ms is_top k x y
       → a ≡ port_of i x → b ≡ port_of i y → Rests ms is_top m a b
   after : {m : ModuleTree} {x z : Name} (y : Name) → Rests ms is_top m x y → Rests ms is_top m y z → Rests ms is_top m x z
 

@@ -10,7 +10,7 @@ use Rattle.vlog_tree.specs.declared.tree.Value.{Value}
 use Rattle.vlog_tree.specs.declared.tree.Value.TheVariants.{Plain, Invert, Binary, Choose, Concat, Repeat, Cell}
 use Rattle.vlog_tree.specs.declared.tree.Step.{Step}
 use Rattle.vlog_tree.specs.declared.tree.Step.TheVariants.{If, Else, End, NonblockingAssign, MemoryAssign}
-use Rattle.vlog_tree.specs.declared.tree.Link.{Link}
+use Rattle.vlog_tree.specs.declared.tree.Connection.{Connection}
 use Rattle.vlog_tree.specs.declared.tree.Item.{Item}
 use Rattle.vlog_tree.specs.declared.tree.Item.TheVariants.{Wire, Reg, Memory, Assign, Always, Instance}
 use Rattle.vlog_tree.specs.declared.tree.PortDecl.{PortDecl}
@@ -71,8 +71,8 @@ step_words End = codes "end" ∷ []
 step_words (NonblockingAssign x a) = x ∷ codes "<=" ∷ (atom_words a ++ codes ";" ∷ [])
 step_words (MemoryAssign m x a) = m ∷ codes "[" ∷ x ∷ codes "]" ∷ codes "<=" ∷ (atom_words a ++ codes ";" ∷ [])
 
-abbrev pub link_words : Link → List Word
-link_words l = codes "." ∷ l.port ∷ codes "(" ∷ l.net ∷ codes ")" ∷ []
+abbrev pub connection_words : Connection → List Word
+connection_words l = codes "." ∷ l.port ∷ codes "(" ∷ l.net ∷ codes ")" ∷ []
 
 abbrev pub item_words : Item → List Word
 item_words (Wire w x) = codes "wire" ∷ (range_words w ++ x ∷ codes ";" ∷ [])
@@ -81,7 +81,7 @@ item_words (Memory w x n) = codes "reg" ∷ (range_words w ++ x ∷ codes "[" �
 item_words (Assign x e) = codes "assign" ∷ x ∷ codes "=" ∷ (value_words e ++ codes ";" ∷ [])
 item_words (Always b) =
     codes "always" ∷ codes "@" ∷ codes "(" ∷ codes "posedge" ∷ codes "clk" ∷ codes ")" ∷ codes "begin" ∷ (flat_map step_words b ++ codes "end" ∷ [])
-item_words (Instance m i links) = m ∷ i ∷ codes "(" ∷ (with_commas (map link_words links) ++ codes ")" ∷ codes ";" ∷ [])
+item_words (Instance m i connections) = m ∷ i ∷ codes "(" ∷ (with_commas (map connection_words connections) ++ codes ")" ∷ codes ";" ∷ [])
 
 abbrev pub module_words : ModuleTree → List Word
 module_words m =

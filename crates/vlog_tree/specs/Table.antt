@@ -3,8 +3,8 @@ use Rattle.std.specs.Prelude.{ℕ, Bool, true, false, ◌||◌, List, [], ◌∷
 use Rattle.vlog_tree.specs.declared.tree.Item.{Item}
 use Rattle.vlog_tree.specs.declared.tree.Item.TheVariants.{Wire, Reg, Memory, Assign, Always, Instance}
 use Rattle.vlog_tree.specs.declared.tree.PortDecl.{PortDecl}
-use Rattle.vlog_tree.specs.declared.table.Sort.{Sort}
-use Rattle.vlog_tree.specs.declared.table.Sort.TheVariants.{Unknown, Input, Output, WireNet, Register, MemoryArray, ChildInstance}
+use Rattle.vlog_tree.specs.declared.table.NetKind.{NetKind}
+use Rattle.vlog_tree.specs.declared.table.NetKind.TheVariants.{Unknown, Input, Output, WireNet, Register, MemoryArray, ChildInstance}
 use Rattle.vlog_tree.specs.declared.table.Declaration.{Declaration}
 use Rattle.vlog_tree.specs.Form.{ModuleTree}
 
@@ -21,14 +21,14 @@ abbrev pub is_clk : Name → Bool
 is_clk x = bytes_eq x clk
 
 abbrev pub port_declared : PortDecl → Declaration
-port_declared p = record { name = p.name; sort = if p.input then Input else Output; bits = p.bits }
+port_declared p = record { name = p.name; net_kind = if p.input then Input else Output; bits = p.bits }
 
 abbrev pub items_declared : List Item → List Declaration
 items_declared [] = []
-items_declared (Wire w x ∷ items) = record { name = x; sort = WireNet; bits = w } ∷ items_declared items
-items_declared (Reg w x ∷ items) = record { name = x; sort = Register; bits = w } ∷ items_declared items
-items_declared (Memory w x n ∷ items) = record { name = x; sort = MemoryArray; bits = w } ∷ items_declared items
-items_declared (Instance m i links ∷ items) = record { name = i; sort = ChildInstance; bits = 0 } ∷ items_declared items
+items_declared (Wire w x ∷ items) = record { name = x; net_kind = WireNet; bits = w } ∷ items_declared items
+items_declared (Reg w x ∷ items) = record { name = x; net_kind = Register; bits = w } ∷ items_declared items
+items_declared (Memory w x n ∷ items) = record { name = x; net_kind = MemoryArray; bits = w } ∷ items_declared items
+items_declared (Instance m i connections ∷ items) = record { name = i; net_kind = ChildInstance; bits = 0 } ∷ items_declared items
 items_declared (Assign x e ∷ items) = items_declared items
 items_declared (Always b ∷ items) = items_declared items
 
@@ -41,18 +41,18 @@ declaration_name d = d.name
 
 -- a module's name, as a declaration among those of the other modules
 abbrev pub module_declared : ModuleTree → Declaration
-module_declared m = record { name = m.name; sort = Unknown; bits = 0 }
+module_declared m = record { name = m.name; net_kind = Unknown; bits = 0 }
 
 abbrev pub unknown : Declaration
-unknown = record { name = []; sort = Unknown; bits = 0 }
+unknown = record { name = []; net_kind = Unknown; bits = 0 }
 
 -- the first that has this name
 abbrev pub find_name : List Declaration → Name → Declaration
 find_name [] x = unknown
 find_name (d ∷ ds) x = if bytes_eq d.name x then d else find_name ds x
 
-abbrev pub sort_of : List Declaration → Name → Sort
-sort_of ds x = (find_name ds x).sort
+abbrev pub net_kind_of : List Declaration → Name → NetKind
+net_kind_of ds x = (find_name ds x).net_kind
 
 abbrev pub bits_of : List Declaration → Name → ℕ
 bits_of ds x = (find_name ds x).bits
@@ -60,52 +60,52 @@ bits_of ds x = (find_name ds x).bits
 abbrev pub is_doubled_name : List Declaration → Name → Bool
 is_doubled_name ds x = nat_le 2 (count_by (λ d. bytes_eq d.name x) ds)
 
--- the sorts whose number can be read
-abbrev pub sort_is_read : Sort → Bool
-sort_is_read Unknown = false
-sort_is_read Input = true
-sort_is_read Output = true
-sort_is_read WireNet = true
-sort_is_read Register = true
-sort_is_read MemoryArray = false
-sort_is_read ChildInstance = false
+-- the net kinds whose number can be read
+abbrev pub net_kind_is_read : NetKind → Bool
+net_kind_is_read Unknown = false
+net_kind_is_read Input = true
+net_kind_is_read Output = true
+net_kind_is_read WireNet = true
+net_kind_is_read Register = true
+net_kind_is_read MemoryArray = false
+net_kind_is_read ChildInstance = false
 
--- the sorts that an assign or an instance may name as driven; an input among them is refused by the rule on drivers
-abbrev pub sort_is_driven : Sort → Bool
-sort_is_driven Unknown = false
-sort_is_driven Input = true
-sort_is_driven Output = true
-sort_is_driven WireNet = true
-sort_is_driven Register = false
-sort_is_driven MemoryArray = false
-sort_is_driven ChildInstance = false
+-- the net kinds that an assign or an instance may name as driven; an input among them is refused by the rule on drivers
+abbrev pub net_kind_is_driven : NetKind → Bool
+net_kind_is_driven Unknown = false
+net_kind_is_driven Input = true
+net_kind_is_driven Output = true
+net_kind_is_driven WireNet = true
+net_kind_is_driven Register = false
+net_kind_is_driven MemoryArray = false
+net_kind_is_driven ChildInstance = false
 
-abbrev pub sort_is_register : Sort → Bool
-sort_is_register Unknown = false
-sort_is_register Input = false
-sort_is_register Output = false
-sort_is_register WireNet = false
-sort_is_register Register = true
-sort_is_register MemoryArray = false
-sort_is_register ChildInstance = false
+abbrev pub net_kind_is_register : NetKind → Bool
+net_kind_is_register Unknown = false
+net_kind_is_register Input = false
+net_kind_is_register Output = false
+net_kind_is_register WireNet = false
+net_kind_is_register Register = true
+net_kind_is_register MemoryArray = false
+net_kind_is_register ChildInstance = false
 
-abbrev pub sort_is_memory : Sort → Bool
-sort_is_memory Unknown = false
-sort_is_memory Input = false
-sort_is_memory Output = false
-sort_is_memory WireNet = false
-sort_is_memory Register = false
-sort_is_memory MemoryArray = true
-sort_is_memory ChildInstance = false
+abbrev pub net_kind_is_memory : NetKind → Bool
+net_kind_is_memory Unknown = false
+net_kind_is_memory Input = false
+net_kind_is_memory Output = false
+net_kind_is_memory WireNet = false
+net_kind_is_memory Register = false
+net_kind_is_memory MemoryArray = true
+net_kind_is_memory ChildInstance = false
 
-abbrev pub sort_is_input : Sort → Bool
-sort_is_input Unknown = false
-sort_is_input Input = true
-sort_is_input Output = false
-sort_is_input WireNet = false
-sort_is_input Register = false
-sort_is_input MemoryArray = false
-sort_is_input ChildInstance = false
+abbrev pub net_kind_is_input : NetKind → Bool
+net_kind_is_input Unknown = false
+net_kind_is_input Input = true
+net_kind_is_input Output = false
+net_kind_is_input WireNet = false
+net_kind_is_input Register = false
+net_kind_is_input MemoryArray = false
+net_kind_is_input ChildInstance = false
 
 -- the ports of the first module of this name
 abbrev pub ports_of : List ModuleTree → Name → List PortDecl

@@ -1,4 +1,4 @@
--- Names that are unknown, doubled or of the wrong sort.
+-- Names that are unknown, doubled or of the wrong net kind.
 use Rattle.std.specs.Prelude.{Bool, ◌&&◌, ◌||◌, List, [], ◌∷◌, ◌++◌, ◌==◌, if◌then◌else◌, bytes_eq, map, count_by}
 use Rattle.std.specs.List.{list_all, flat_map}
 use Rattle.vlog_tree.specs.declared.tree.Atom.{Atom}
@@ -7,30 +7,30 @@ use Rattle.vlog_tree.specs.declared.tree.Value.{Value}
 use Rattle.vlog_tree.specs.declared.tree.Value.TheVariants.{Plain, Invert, Binary, Choose, Concat, Repeat, Cell}
 use Rattle.vlog_tree.specs.declared.tree.Step.{Step}
 use Rattle.vlog_tree.specs.declared.tree.Step.TheVariants.{If, Else, End, NonblockingAssign, MemoryAssign}
-use Rattle.vlog_tree.specs.declared.tree.Link.{Link}
+use Rattle.vlog_tree.specs.declared.tree.Connection.{Connection}
 use Rattle.vlog_tree.specs.declared.tree.Item.{Item}
 use Rattle.vlog_tree.specs.declared.tree.Item.TheVariants.{Wire, Reg, Memory, Assign, Always, Instance}
 use Rattle.vlog_tree.specs.declared.tree.PortDecl.{PortDecl}
 use Rattle.vlog_tree.specs.declared.table.Declaration.{Declaration}
 use Rattle.vlog_tree.specs.Form.{ModuleTree}
-use Rattle.vlog_tree.specs.Table.{Name, NameUse, no, clk, is_clk, declared, port_declared, module_declared, sort_of, is_doubled_name, sort_is_read, sort_is_driven, sort_is_register, sort_is_memory, sort_is_input, ports_of, is_module}
+use Rattle.vlog_tree.specs.Table.{Name, NameUse, no, clk, is_clk, declared, port_declared, module_declared, net_kind_of, is_doubled_name, net_kind_is_read, net_kind_is_driven, net_kind_is_register, net_kind_is_memory, net_kind_is_input, ports_of, is_module}
 
 -- a net whose number is read; the clock's is never
 abbrev pub read_use : List Declaration → Name → NameUse
-read_use ds x = (x, no (sort_is_read (sort_of ds x)) || is_clk x)
+read_use ds x = (x, no (net_kind_is_read (net_kind_of ds x)) || is_clk x)
 
 abbrev pub driven_use : List Declaration → Name → NameUse
-driven_use ds x = (x, no (sort_is_driven (sort_of ds x)) || is_clk x)
+driven_use ds x = (x, no (net_kind_is_driven (net_kind_of ds x)) || is_clk x)
 
 abbrev pub register_use : List Declaration → Name → NameUse
-register_use ds x = (x, no (sort_is_register (sort_of ds x)))
+register_use ds x = (x, no (net_kind_is_register (net_kind_of ds x)))
 
 abbrev pub memory_use : List Declaration → Name → NameUse
-memory_use ds x = (x, no (sort_is_memory (sort_of ds x)))
+memory_use ds x = (x, no (net_kind_is_memory (net_kind_of ds x)))
 
 -- the clock is an input port
 abbrev pub clock_use : List Declaration → NameUse
-clock_use ds = (clk, no (sort_is_input (sort_of ds clk)))
+clock_use ds = (clk, no (net_kind_is_input (net_kind_of ds clk)))
 
 abbrev pub atom_uses : List Declaration → Atom → List NameUse
 atom_uses ds (Net x) = read_use ds x ∷ []
@@ -60,24 +60,24 @@ inner_use ds x = (x, is_doubled_name ds x || is_clk x)
 unfoldable pub port_uses : List Declaration → PortDecl → List NameUse
 port_uses ds p = (p.name, is_doubled_name ds p.name) ∷ []
 
--- each port of the instance's module has one link
-abbrev pub all_linked : List Declaration → List Link → Bool
-all_linked ports links = list_all (λ (p : Declaration). count_by (λ (l : Link). bytes_eq l.port p.name) links == 1) ports
+-- each port of the instance's module has one connection
+abbrev pub all_connected : List Declaration → List Connection → Bool
+all_connected ports connections = list_all (λ (p : Declaration). count_by (λ (l : Connection). bytes_eq l.port p.name) connections == 1) ports
 
--- the net of a link: the clock goes to a clock alone
-abbrev pub joined_use : List Declaration → List Declaration → Link → NameUse
+-- the net of a connection: the clock goes to a clock alone
+abbrev pub joined_use : List Declaration → List Declaration → Connection → NameUse
 joined_use ports ds l =
     if is_clk l.port && is_clk l.net then clock_use ds
-    else if sort_is_input (sort_of ports l.port) then read_use ds l.net
+    else if net_kind_is_input (net_kind_of ports l.port) then read_use ds l.net
     else driven_use ds l.net
 
-unfoldable pub link_uses : List Declaration → List Declaration → Link → List NameUse
-link_uses ports ds l = (l.port, no (sort_is_read (sort_of ports l.port))) ∷ joined_use ports ds l ∷ []
+unfoldable pub connection_uses : List Declaration → List Declaration → Connection → List NameUse
+connection_uses ports ds l = (l.port, no (net_kind_is_read (net_kind_of ports l.port))) ∷ joined_use ports ds l ∷ []
 
-unfoldable pub instance_uses : List ModuleTree → List Declaration → Name → Name → List Link → List NameUse
-instance_uses ms ds m i links =
+unfoldable pub instance_uses : List ModuleTree → List Declaration → Name → Name → List Connection → List NameUse
+instance_uses ms ds m i connections =
     let ports = map port_declared (ports_of ms m) in
-    (m, no (is_module ms m)) ∷ (i, is_doubled_name ds i || is_clk i || no (all_linked ports links)) ∷ flat_map (link_uses ports ds) links
+    (m, no (is_module ms m)) ∷ (i, is_doubled_name ds i || is_clk i || no (all_connected ports connections)) ∷ flat_map (connection_uses ports ds) connections
 
 unfoldable pub item_uses : List ModuleTree → List Declaration → Item → List NameUse
 item_uses ms ds (Wire w x) = inner_use ds x ∷ []
@@ -85,7 +85,7 @@ item_uses ms ds (Reg w x) = inner_use ds x ∷ []
 item_uses ms ds (Memory w x n) = inner_use ds x ∷ []
 item_uses ms ds (Assign x e) = driven_use ds x ∷ value_uses ds e
 item_uses ms ds (Always b) = clock_use ds ∷ flat_map (step_uses ds) b
-item_uses ms ds (Instance m i links) = instance_uses ms ds m i links
+item_uses ms ds (Instance m i connections) = instance_uses ms ds m i connections
 
 unfoldable pub module_uses : List ModuleTree → ModuleTree → List NameUse
 module_uses ms m =

@@ -9,7 +9,7 @@ use Rattle.vlog_tree.specs.declared.tree.Value.{Value}
 use Rattle.vlog_tree.specs.declared.tree.Value.TheVariants.{Plain, Invert, Binary, Choose, Concat, Repeat, Cell}
 use Rattle.vlog_tree.specs.declared.tree.Step.{Step}
 use Rattle.vlog_tree.specs.declared.tree.Step.TheVariants.{If, Else, End, NonblockingAssign, MemoryAssign}
-use Rattle.vlog_tree.specs.declared.tree.Link.{Link}
+use Rattle.vlog_tree.specs.declared.tree.Connection.{Connection}
 use Rattle.vlog_tree.specs.declared.tree.Item.{Item}
 use Rattle.vlog_tree.specs.declared.tree.Item.TheVariants.{Wire, Reg, Memory, Assign, Always, Instance}
 use Rattle.vlog_tree.specs.declared.tree.PortDecl.{PortDecl}
@@ -71,8 +71,8 @@ step_widths ds End = []
 step_widths ds (NonblockingAssign x a) = (x, no (has_bits ds (bits_of ds x) a)) ∷ []
 step_widths ds (MemoryAssign m x a) = (m, no (has_bits ds (bits_of ds m) a)) ∷ []
 
-unfoldable pub link_widths : List Declaration → List Declaration → Link → List NameUse
-link_widths ports ds l = (l.port, no (bits_of ports l.port == bits_of ds l.net)) ∷ []
+unfoldable pub connection_widths : List Declaration → List Declaration → Connection → List NameUse
+connection_widths ports ds l = (l.port, no (bits_of ports l.port == bits_of ds l.net)) ∷ []
 
 unfoldable pub item_widths : List ModuleTree → List Declaration → Item → List NameUse
 item_widths ms ds (Wire w x) = (x, no (is_width w)) ∷ []
@@ -80,7 +80,7 @@ item_widths ms ds (Reg w x) = (x, no (is_width w)) ∷ []
 item_widths ms ds (Memory w x n) = (x, no (is_width w && nat_le n 1048576)) ∷ []
 item_widths ms ds (Assign x e) = (x, no (value_fits ds (bits_of ds x) e)) ∷ []
 item_widths ms ds (Always b) = flat_map (step_widths ds) b
-item_widths ms ds (Instance m i links) = flat_map (link_widths (map port_declared (ports_of ms m)) ds) links
+item_widths ms ds (Instance m i connections) = flat_map (connection_widths (map port_declared (ports_of ms m)) ds) connections
 
 unfoldable pub port_widths : PortDecl → List NameUse
 port_widths p = (p.name, no (is_width p.bits)) ∷ []
@@ -88,6 +88,6 @@ port_widths p = (p.name, no (is_width p.bits)) ∷ []
 unfoldable pub module_widths : List ModuleTree → ModuleTree → List NameUse
 module_widths ms m = flat_map port_widths m.ports ++ flat_map (item_widths ms (declared m)) m.items
 
--- each port, step, link and other line by its first name
+-- each port, step, connection and other line by its first name
 abbrev pub v3_uses : List ModuleTree → List NameUse
 v3_uses ms = flat_map (module_widths ms) ms

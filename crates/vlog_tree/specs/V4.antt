@@ -3,24 +3,24 @@ use Rattle.std.specs.Prelude.{ℕ, Bool, false, List, [], ◌∷◌, nat_le, ◌
 use Rattle.std.specs.List.{list_any, flat_map}
 use Rattle.vlog_tree.specs.declared.tree.Step.{Step}
 use Rattle.vlog_tree.specs.declared.tree.Step.TheVariants.{If, Else, End, NonblockingAssign, MemoryAssign}
-use Rattle.vlog_tree.specs.declared.tree.Link.{Link}
+use Rattle.vlog_tree.specs.declared.tree.Connection.{Connection}
 use Rattle.vlog_tree.specs.declared.tree.Item.{Item}
 use Rattle.vlog_tree.specs.declared.tree.Item.TheVariants.{Wire, Reg, Memory, Assign, Always, Instance}
 use Rattle.vlog_tree.specs.declared.table.Declaration.{Declaration}
-use Rattle.vlog_tree.specs.declared.table.Sort.{Sort}
-use Rattle.vlog_tree.specs.declared.table.Sort.TheVariants.{Unknown, Input, Output, WireNet, Register, MemoryArray, ChildInstance}
+use Rattle.vlog_tree.specs.declared.table.NetKind.{NetKind}
+use Rattle.vlog_tree.specs.declared.table.NetKind.TheVariants.{Unknown, Input, Output, WireNet, Register, MemoryArray, ChildInstance}
 use Rattle.vlog_tree.specs.Form.{ModuleTree}
 use Rattle.vlog_tree.specs.NameTable.{times_in}
-use Rattle.vlog_tree.specs.Table.{Name, NameUse, no, declared, port_declared, sort_of, sort_is_input, ports_of}
+use Rattle.vlog_tree.specs.Table.{Name, NameUse, no, declared, port_declared, net_kind_of, net_kind_is_input, ports_of}
 
--- a link to an output drives its net
-unfoldable pub link_driven : List Declaration → Link → List Name
-link_driven ports l = if sort_is_input (sort_of ports l.port) then [] else l.net ∷ []
+-- a connection to an output drives its net
+unfoldable pub connection_driven : List Declaration → Connection → List Name
+connection_driven ports l = if net_kind_is_input (net_kind_of ports l.port) then [] else l.net ∷ []
 
 -- the nets that a line drives: by an assign, or by the outputs of an instance
 abbrev pub line_driven : List ModuleTree → Item → List Name
 line_driven ms (Assign y e) = y ∷ []
-line_driven ms (Instance m i links) = flat_map (link_driven (map port_declared (ports_of ms m))) links
+line_driven ms (Instance m i connections) = flat_map (connection_driven (map port_declared (ports_of ms m))) connections
 line_driven ms (Wire w y) = []
 line_driven ms (Reg w y) = []
 line_driven ms (Memory w y n) = []
@@ -46,10 +46,10 @@ is_block_of x (Wire w y) = false
 is_block_of x (Reg w y) = false
 is_block_of x (Memory w y n) = false
 is_block_of x (Assign y e) = false
-is_block_of x (Instance m i links) = false
+is_block_of x (Instance m i connections) = false
 
 -- by how often a name is driven, and in how many blocks it is assigned
-abbrev pub breaks_driving : ℕ → ℕ → Sort → Bool
+abbrev pub breaks_driving : ℕ → ℕ → NetKind → Bool
 breaks_driving driven blocks Input = no (driven == 0)
 breaks_driving driven blocks Output = no (driven == 1)
 breaks_driving driven blocks WireNet = no (driven == 1)
@@ -59,7 +59,7 @@ breaks_driving driven blocks ChildInstance = false
 breaks_driving driven blocks Unknown = false
 
 unfoldable pub driving_use : List ModuleTree → List Item → Declaration → NameUse
-driving_use ms items d = (d.name, breaks_driving (drives ms items d.name) (count_by (is_block_of d.name) items) d.sort)
+driving_use ms items d = (d.name, breaks_driving (drives ms items d.name) (count_by (is_block_of d.name) items) d.net_kind)
 
 unfoldable pub module_drives : List ModuleTree → ModuleTree → List NameUse
 module_drives ms m = map (driving_use ms m.items) (declared m)

@@ -2,19 +2,19 @@
 use Rattle.std.specs.Prelude.{ℕ, Bool, true, false, ◌&&◌, ◌||◌, List, [], ◌∷◌, ◌++◌, Option, Some, None, nat_le, ◌==◌, if◌then◌else◌, bytes_eq, map, filter, length, is_some}
 use Rattle.std.specs.List.{flat_map}
 use Rattle.std.specs.Option.{option_map_or}
-use Rattle.vlog_tree.specs.declared.tree.Link.{Link}
+use Rattle.vlog_tree.specs.declared.tree.Connection.{Connection}
 use Rattle.vlog_tree.specs.declared.tree.Item.{Item}
 use Rattle.vlog_tree.specs.declared.tree.Item.TheVariants.{Wire, Reg, Memory, Assign, Always, Instance}
 use Rattle.vlog_tree.specs.declared.tree.PortDecl.{PortDecl}
 use Rattle.vlog_tree.specs.declared.table.Declaration.{Declaration}
 use Rattle.vlog_tree.specs.Form.{ModuleTree}
 use Rattle.vlog_tree.specs.NameTable.{times_in}
-use Rattle.vlog_tree.specs.Table.{Name, NameUse, no, clk, is_clk, port_declared, sort_of, sort_is_read}
+use Rattle.vlog_tree.specs.Table.{Name, NameUse, no, clk, is_clk, port_declared, net_kind_of, net_kind_is_read}
 use Rattle.vlog_tree.specs.Labels.{rst, done, scalar_of, ack_of, rdata_of, addr_of, wdata_of, we_of, m_ack, m_rdata, m_addr, m_wdata, m_we}
 
 -- the modules that a line contains
 abbrev pub item_children : Item → List Name
-item_children (Instance m i links) = m ∷ []
+item_children (Instance m i connections) = m ∷ []
 item_children (Wire w y) = []
 item_children (Reg w y) = []
 item_children (Memory w y n) = []
@@ -43,7 +43,7 @@ abbrev pub is_top : List ModuleTree → Name → Bool
 is_top ms x = option_map_or (λ y. bytes_eq y x) (first_name (roots ms)) false
 
 abbrev pub has_port : List Declaration → Name → Bool
-has_port ports x = sort_is_read (sort_of ports x)
+has_port ports x = net_kind_is_read (net_kind_of ports x)
 
 unfoldable pub has_all_five : List Declaration → Name → Bool
 has_all_five ports x = has_port ports (m_ack x) && has_port ports (m_rdata x) && has_port ports (m_addr x) && has_port ports (m_wdata x) && has_port ports (m_we x)
@@ -101,17 +101,17 @@ abbrev pub top_ports : List Declaration → List PortDecl → List PortDecl → 
 top_ports ports before [] = []
 top_ports ports before (p ∷ ps) = (p.name, no (port_fits ports before p)) ∷ top_ports ports (p ∷ before) ps
 
--- a link of a clock has a clock at its other end
-unfoldable pub clock_link : Link → NameUse
-clock_link l = (l.port, is_clk l.port && no (is_clk l.net))
+-- a connection of a clock has a clock at its other end
+unfoldable pub clock_connection : Connection → NameUse
+clock_connection l = (l.port, is_clk l.port && no (is_clk l.net))
 
-abbrev pub clock_links : Item → List NameUse
-clock_links (Instance m i links) = map clock_link links
-clock_links (Wire w y) = []
-clock_links (Reg w y) = []
-clock_links (Memory w y n) = []
-clock_links (Assign y e) = []
-clock_links (Always b) = []
+abbrev pub clock_connections : Item → List NameUse
+clock_connections (Instance m i connections) = map clock_connection connections
+clock_connections (Wire w y) = []
+clock_connections (Reg w y) = []
+clock_connections (Memory w y n) = []
+clock_connections (Assign y e) = []
+clock_connections (Always b) = []
 
 -- whether a top module is the only one and has the three ports that each design has
 unfoldable pub is_whole_top : List ModuleTree → List Declaration → Bool
@@ -121,7 +121,7 @@ unfoldable pub module_tops : List ModuleTree → ModuleTree → List NameUse
 module_tops ms m =
     let top = is_top ms m.name in
     let ports = map port_declared m.ports in
-    (m.name, top && no (is_whole_top ms ports)) ∷ ((if top then top_ports ports [] m.ports else []) ++ flat_map clock_links m.items)
+    (m.name, top && no (is_whole_top ms ports)) ∷ ((if top then top_ports ports [] m.ports else []) ++ flat_map clock_connections m.items)
 
 abbrev pub v6_uses : List ModuleTree → List NameUse
 v6_uses ms = flat_map (module_tops ms) ms

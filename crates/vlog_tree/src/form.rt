@@ -3,10 +3,10 @@
 ghost use Rattle.std.specs.Prelude.{◌≡◌, List, [], ◌∷◌, IfOk, reverse, false, if◌then◌else◌};
 ghost use Rattle.std.specs.List.{list_all};
 ghost use Rattle.vlog_tree.specs.declared.tree.Step.{Step as StepTree};
-ghost use Rattle.vlog_tree.specs.Form.{is_atom as is_atom_lem, is_value as is_value_lem, is_step as is_step_lem, is_link as is_link_lem, is_item as is_item_lem, is_port as is_port_lem, is_module as is_module_lem, nested as nested_lem};
+ghost use Rattle.vlog_tree.specs.Form.{is_atom as is_atom_lem, is_value as is_value_lem, is_step as is_step_lem, is_connection as is_connection_lem, is_item as is_item_lem, is_port as is_port_lem, is_module as is_module_lem, nested as nested_lem};
 
 use crate::names::is_name;
-use crate::tree::{Atom, Item, Link, PortDecl, Step, Value};
+use crate::tree::{Atom, Connection, Item, PortDecl, Step, Value};
 use std::alloc::{AllocError, Global};
 use tapa_base::Text;
 
@@ -58,16 +58,16 @@ fn are_steps(steps: &[Step]) -> bool
     steps.iter().all(|s| is_step(s))
 }
 
-fn is_link(link: &Link) -> bool
-    ensures { result ≡ is_link_lem link.now }
+fn is_connection(connection: &Connection) -> bool
+    ensures { result ≡ is_connection_lem connection.now }
 {
-    is_name(link.port.bytes()) && is_name(link.net.bytes())
+    is_name(connection.port.bytes()) && is_name(connection.net.bytes())
 }
 
-fn are_links(links: &[Link]) -> bool
-    ensures { result ≡ list_all is_link_lem links.now }
+fn are_connections(connections: &[Connection]) -> bool
+    ensures { result ≡ list_all is_connection_lem connections.now }
 {
-    links.iter().all(|l| is_link(l))
+    connections.iter().all(|l| is_connection(l))
 }
 
 // One step more: whether it is nested in the parts that are open, of each of which the list says whether it is an `Else`.
@@ -118,8 +118,8 @@ fn is_item(alloc: Global, item: &Item) -> Result<bool, AllocError>
         Item::Instance(m, i, joins) => Ok(
             is_name(m.bytes())
                 && is_name(i.bytes())
-                && 1 <= joins.links().len()
-                && are_links(joins.links()),
+                && 1 <= joins.connections().len()
+                && are_connections(joins.connections()),
         ),
     }
 }

@@ -24,5 +24,7 @@ pub use name_table::{
     set_bits,
 };
 pub use names::is_name;
-pub use table::{Declaration, Sort};
-pub use tree::{Atom, Atoms, BinaryOp, Block, Item, Link, Links, PortDecl, Step, Value};
+pub use table::{Declaration, NetKind};
+pub use tree::{
+    Atom, Atoms, BinaryOp, Block, Connection, Connections, Item, PortDecl, Step, Value,
+};

@@ -4,7 +4,7 @@ use tapa_base::Text;
 
 /// What a name stands for.
 #[derive(Clone, Copy, PartialEq, Eq, Debug)]
-pub enum Sort {
+pub enum NetKind {
     Unknown,
     Input,
     Output,
@@ -18,6 +18,6 @@ pub enum Sort {
 #[derive(Drop)]
 pub struct Declaration {
     pub name: Text,
-    pub sort: Sort,
+    pub net_kind: NetKind,
     pub bits: u32,
 }

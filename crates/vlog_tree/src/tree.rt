@@ -84,24 +84,24 @@ impl Model for Block {
 
 /// A port of an instance, and the net that it is joined to.
 #[derive(Drop)]
-pub struct Link {
+pub struct Connection {
     pub port: Text,
     pub net: Text,
 }
 
-/// The links of an instance.
+/// The connections of an instance.
 #[derive(Drop)]
-pub struct Links {
-    links: Vec<Link>,
+pub struct Connections {
+    connections: Vec<Connection>,
 }
 
-impl Model for Links {
+impl Model for Connections {
     ghost use Rattle.std.specs.Prelude.{List};
-    ghost use Rattle.vlog_tree.specs.declared.tree.Link.{Link};
+    ghost use Rattle.vlog_tree.specs.declared.tree.Connection.{Connection};
 
-    ghost Value = { List Link };
+    ghost Value = { List Connection };
 
-    ghost view = { λ a. a.links.items };
+    ghost view = { λ a. a.connections.items };
 }
 
 /// One line of a module. A width is the number of bits, and a memory has a number of cells.
@@ -112,7 +112,7 @@ pub enum Item {
     Memory(u32, Text, u32),
     Assign(Text, Value),
     Always(Block),
-    Instance(Text, Text, Links),
+    Instance(Text, Text, Connections),
 }
 
 /// A port: whether it is an input, its width and its name.
@@ -153,16 +153,16 @@ impl Block {
     }
 }
 
-impl Links {
-    pub fn of(links: Vec<Link>) -> Links
-        ensures { result ≡ links.items }
+impl Connections {
+    pub fn of(connections: Vec<Connection>) -> Connections
+        ensures { result ≡ connections.items }
     {
-        Links { links }
+        Connections { connections }
     }
 
-    pub fn links(&self) -> &[Link]
+    pub fn connections(&self) -> &[Connection]
         ensures { result.now ≡ self.now }
     {
-        &self.links
+        &self.connections
     }
 }

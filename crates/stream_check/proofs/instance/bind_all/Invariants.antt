@@ -3,5 +3,5 @@ use Rattle.tapa_syntax.specs.Flat.{flat_instance}
 use Rattle.stream_check.specs.Parts as parts
 use Rattle.stream_check.proofs.instance.bind_all.Given as goal
 
-abbrev pub invariant-loop-link : goal.invariant-loop-link
-invariant-loop-link l = parts.bind_all (flat_instance l.outer) l.first (flat_instance l.initial.made) l.links ≡ parts.bind_all (flat_instance l.outer) l.first (flat_instance l.made) (drop l.link-index l.links)
+abbrev pub invariant-loop-binding : goal.invariant-loop-binding
+invariant-loop-binding l = parts.bind_all (flat_instance l.outer) l.first (flat_instance l.initial.made) l.bindings ≡ parts.bind_all (flat_instance l.outer) l.first (flat_instance l.made) (drop l.binding-index l.bindings)

@@ -1,9 +1,9 @@
 use Rattle.std.proofs.Common.{◌≡◌, ◌-◌, map}
 use Rattle.tapa_syntax.specs.Trees as view
-use Rattle.tapa_syntax.specs.declared.mark.Mark.TheVariants as mark
+use Rattle.tapa_syntax.specs.declared.terminal.Terminal.TheVariants as terminal
 use Rattle.tapa_parse_expression.specs.Readers.{sees, repeat_from}
 use Rattle.tapa_parse_expression.specs.Reading as spec
 use Rattle.tapa_parse.proofs.declaration.attributes.Given as goal
 
 abbrev pub invariant-loop-turn : goal.invariant-loop-turn
-invariant-loop-turn l = spec.attributes (spec.below l.room) l.fn.parser ≡ repeat_from (sees mark.LeftBracket) (spec.attribute (spec.below l.room)) (l._turn-end - l._turn) (map view.attribute_of l.found.items) l.parser
+invariant-loop-turn l = spec.attributes (spec.below l.levels) l.fn.parser ≡ repeat_from (sees terminal.LeftBracket) (spec.attribute (spec.below l.levels)) (l._turn-end - l._turn) (map view.attribute_of l.found.items) l.parser

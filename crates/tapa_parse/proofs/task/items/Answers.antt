@@ -11,6 +11,6 @@ use Rattle.tapa_parse.proofs.task.items.Goals as goal
 pub loop-turn-preserved : goal.loop-turn-preserved
 unfolding repeat_from
 loop-turn-preserved c =
-    let e = one_more (λ n. repeat_from is_left (spec.item most_operators (spec.below c.args.room)) n (map view.item_of c.loop-turn.found.items) c.loop-turn.parser) _ c.loop-turn._turn c.loop-turn-test.true c.loop-turn.invariant in
+    let e = one_more (λ n. repeat_from is_left (spec.item most_operators (spec.below c.args.levels)) n (map view.item_of c.loop-turn.found.items) c.loop-turn.parser) _ c.loop-turn._turn c.loop-turn-test.true c.loop-turn.invariant in
     let p = map-push view.item_of c.loop-turn.found.items in
     first_of (search rules, grind (arith, common_steps))

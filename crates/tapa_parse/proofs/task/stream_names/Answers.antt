@@ -1,6 +1,6 @@
 use Rattle.std.proofs.Common.{rules, arith}
 use Rattle.std.proofs.lemmas.Grind.{common_steps}
-use Rattle.tapa_syntax.specs.declared.mark.Mark.TheVariants as mark
+use Rattle.tapa_syntax.specs.declared.terminal.Terminal.TheVariants as terminal
 use Rattle.tapa_parse_expression.specs.Readers.{◌>>◌, sees, skip, repeat_from}
 use Rattle.tapa_parse.specs.Reading as spec
 use Rattle.tapa_parse_expression.proofs.Turns.{one_more}
@@ -9,5 +9,5 @@ use Rattle.tapa_parse.proofs.task.stream_names.Goals as goal
 pub loop-turn-preserved : goal.loop-turn-preserved
 unfolding repeat_from
 loop-turn-preserved c =
-    let e = one_more (λ n. repeat_from (sees mark.Comma) (skip >> spec.stream_name) n c.loop-turn.found.items c.loop-turn.parser) _ c.loop-turn._turn c.loop-turn-test.true c.loop-turn.invariant in
+    let e = one_more (λ n. repeat_from (sees terminal.Comma) (skip >> spec.stream_name) n c.loop-turn.found.items c.loop-turn.parser) _ c.loop-turn._turn c.loop-turn-test.true c.loop-turn.invariant in
     first_of (search rules, grind (arith, common_steps))

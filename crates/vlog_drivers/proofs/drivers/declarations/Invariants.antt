@@ -6,7 +6,7 @@ use Rattle.vlog_tree.specs.V4.{breaks_driving}
 use Rattle.vlog_drivers.proofs.drivers.declarations.Given as goal
 
 abbrev uses : (List ℕ → ℕ) → (List ℕ → ℕ) → Declaration → NameUse
-uses f g d = (d.name, breaks_driving (f d.name) (g d.name) d.sort)
+uses f g d = (d.name, breaks_driving (f d.name) (g d.name) d.net_kind)
 
 abbrev pub invariant-loop-d : goal.invariant-loop-d
 invariant-loop-d l =

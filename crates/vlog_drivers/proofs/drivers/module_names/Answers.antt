@@ -8,7 +8,7 @@ use Rattle.vlog_tree.specs.V4.{drives, is_block_of, breaks_driving, driving_use,
 use Rattle.vlog_drivers.proofs.drivers.module_names.Goals as goal
 
 abbrev told : List ModuleTree → List Item → List Item → List Declaration → Option Name
-told ms items more ds = first_violation (map (λ (d : Declaration). (d.name, breaks_driving (drives ms items d.name) (count_by (is_block_of d.name) more) d.sort)) ds)
+told ms items more ds = first_violation (map (λ (d : Declaration). (d.name, breaks_driving (drives ms items d.name) (count_by (is_block_of d.name) more) d.net_kind)) ds)
 
 pub returns : goal.returns
 unfolding module_drives driving_use

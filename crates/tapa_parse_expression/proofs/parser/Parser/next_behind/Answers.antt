@@ -9,4 +9,4 @@ returns-in-Some c =
     let found = c.in-Some.ensures.lookup in
     let inside = c.self.inside in
     let same : next (drop c.args.others (symbols_of inside.source.now inside.rest.now)) ≡ next (drop c.args.others c.args.self.now) = ap (λ i. next (drop c.args.others i)) (search rules) in
-    c.mark_of.ensures ∙ sym (next-drop inside.source.now inside.rest.now c.args.others c.in-Some.lexeme.now found.3.0 found.1) ∙ same
+    c.terminal_of.ensures ∙ sym (next-drop inside.source.now inside.rest.now c.args.others c.in-Some.lexeme.now found.3.0 found.1) ∙ same

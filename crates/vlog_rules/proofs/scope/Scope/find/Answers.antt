@@ -13,14 +13,14 @@ there c =
     is_there c.args.self.now c.args.name.now c.in-Some.place _ c.declaration_at-found.result.now (sym c.place.ensures ∙ c.in-Some.is)
     (c.declaration_at-found.ensures ∙ ap (λ (ds : List Declaration). get_or ds c.in-Some.place c.declaration_at-found.result.now) c.declarations-declarations.ensures)
 
-pub returns-in-Some-clause-sort : goal.returns-in-Some-clause-sort
-returns-in-Some-clause-sort c = ap (λ (d : Declaration). d.sort) (there c)
+pub returns-in-Some-clause-net_kind : goal.returns-in-Some-clause-net_kind
+returns-in-Some-clause-net_kind c = ap (λ (d : Declaration). d.net_kind) (there c)
 
 pub returns-in-Some-clause-bits : goal.returns-in-Some-clause-bits
 returns-in-Some-clause-bits c = ap (λ (d : Declaration). d.bits) (there c)
 
-pub returns-in-None-clause-sort : goal.returns-in-None-clause-sort
-returns-in-None-clause-sort c = let m = missing 0 c.args.self.now c.args.name.now (sym c.place.ensures ∙ c.in-None.is) in ap (λ (d : Declaration). d.sort) (sym m.here)
+pub returns-in-None-clause-net_kind : goal.returns-in-None-clause-net_kind
+returns-in-None-clause-net_kind c = let m = missing 0 c.args.self.now c.args.name.now (sym c.place.ensures ∙ c.in-None.is) in ap (λ (d : Declaration). d.net_kind) (sym m.here)
 
 pub returns-in-None-clause-bits : goal.returns-in-None-clause-bits
 returns-in-None-clause-bits c = let m = missing 0 c.args.self.now c.args.name.now (sym c.place.ensures ∙ c.in-None.is) in ap (λ (d : Declaration). d.bits) (sym m.here)

@@ -1,8 +1,0 @@
-use Rattle.std.proofs.Common.{ap, ◌∙◌}
-use Rattle.tapa_syntax.specs.Symbols as symbols
-use Rattle.tapa_syntax.specs.Symbols.{word_mark}
-use Rattle.tapa_parse_expression.proofs.mark.word_mark.Goals as goal
-
-pub returns : goal.returns
-unfolding word_mark
-returns c = c.look_up-2.ensures ∙ ap (λ m. symbols.look_up m symbols.words c.args.text.now) c.look_up.ensures

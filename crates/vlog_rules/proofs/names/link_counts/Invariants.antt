@@ -1,8 +1,0 @@
-use Rattle.std.proofs.Common.{◌≡◌, ℕ, List, min, take}
-use Rattle.std.specs.Prelude.{bytes_eq, count_by}
-use Rattle.vlog_tree.specs.declared.tree.Link.{Link}
-use Rattle.vlog_tree.specs.NameTable.{count_in}
-use Rattle.vlog_rules.proofs.names.link_counts.Given as goal
-
-abbrev pub invariant-loop-l : goal.invariant-loop-l
-invariant-loop-l l = (x : List ℕ) → count_in l.counts x ≡ min (count_by (λ (k : Link). bytes_eq k.port x) (take l.l-index l.links)) 2
