@@ -15,7 +15,7 @@ use Rattle.tapa_syntax.specs.Typed.{result_kind, right_kind}
 use Rattle.tapa_syntax.specs.Flat.{FlatExpression, literal, convert, apply, flip, negation, conjunction, disjunction, choice, FlatLeaf}
 use Rattle.check_expression.specs.Kinds.{rank, same_kind}
 use Rattle.check_expression.specs.Expressions.{operated_kind, as_kind, constant_value}
-use Rattle.check_expression.proofs.Values.{converted_fits, applied_fits}
+use Rattle.tapa_syntax.proofs.Values.{converted_fits, applied_fits}
 use Rattle.check_leaf.proofs.Flats.{IsValue, IsFlatConstant, MayDivideBy}
 
 -- ---- kinds

@@ -25,7 +25,7 @@ use Rattle.check_scope.specs.Faults.{wrong_entity, where_so, fault}
 use Rattle.check_scope.specs.declared.fault.CheckCode.TheVariants.{C8, C9}
 use Rattle.check_scope.specs.Scopes.{Block, Scope, in_block, first_of, entity_of, kind_of_entity, number_of, is_scalar, is_memory, has_cells}
 use Rattle.check_expression.specs.Expressions.{Method, reads, peeks, tests_end, writes, opens, closes, method_of, listed, call_faults, no_value, call_kind, prefix_kind, binary_kind, arm_kind, kind_of, as_kind, named_value, cell_value, called_value, operated, binary_value, prefix_value, value_of, is_constant_name, is_constant, constant_value, divides, divisor_faults, is_logical, faults_of}
-use Rattle.check_expression.proofs.Values.{bit_fits}
+use Rattle.tapa_syntax.proofs.Values.{bit_fits}
 use Rattle.check_leaf.proofs.Flats.{IsEnd, IsArrayOf, IsValue, IsFlatConstant, MayDivideBy}
 use Rattle.check_leaf.proofs.Conversions.{cast_value, cast_constant, cast_divides}
 

@@ -17,7 +17,7 @@ use Rattle.tapa_syntax.specs.Typed.{HasKind, IsTyped, AreTyped, IsTypedBody, rig
 use Rattle.kahn_model.specs.Behavior.{Action, Local, Load, Store, Read as ByRead, Peek as ByPeek, TestEot, Open as ByOpen, Behavior, Finished, Act, Await, Answer, judge_token}
 use Rattle.kahn_model.specs.Trace.{State, cell, with_cell, set_var, set_cell, store_cell, cells_of, cleared, at_zero, expr, locals, turns, stmt, block, statements, job_of}
 use Rattle.kahn_model.specs.Fits.{IsTokenOf, ActionFits, KeepsKinds}
-use Rattle.kahn_model.proofs.Values.{converted_fits, applied_fits}
+use Rattle.tapa_syntax.proofs.Values.{converted_fits, applied_fits}
 
 -- every variable and every cell has a value of its kind
 pub record IsFitState (K : Kinds) (σ : State) : Type 0 where

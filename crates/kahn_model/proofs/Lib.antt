@@ -13,7 +13,6 @@ pub mod SlowFlows
 pub mod SlowStatements
 pub mod Local
 pub mod Ends
-pub mod Values
 pub mod Fits
 pub mod FitsNetwork
 pub mod FitsCells

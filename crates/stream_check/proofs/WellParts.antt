@@ -11,7 +11,7 @@ use Rattle.tapa_syntax.specs.declared.tree.Parameter.TheVariants as parameter
 use Rattle.tapa_syntax.specs.Flat.{FlatBound, number, top_scalar, FlatInstance, FlatLeaf}
 use Rattle.tapa_syntax.specs.WellFormed.{last_kind}
 use Rattle.check_expression.specs.Kinds.{same_kind}
-use Rattle.check_expression.proofs.Values.{converted_fits}
+use Rattle.tapa_syntax.proofs.Values.{converted_fits}
 use Rattle.check_upper.specs.declared.task.Channel.{Channel}
 use Rattle.check_upper.specs.declared.task.Binding.{Binding}
 use Rattle.check_upper.specs.declared.task.Binding.TheVariants.{OwnStream, StreamParameter, MemoryParameter, ScalarParameter, Constant}

@@ -26,7 +26,7 @@ use Rattle.check_scope.specs.declared.entity.Entity.TheVariants as entity
 use Rattle.check_scope.specs.Faults.{wrong_entity}
 use Rattle.check_scope.specs.Scopes.{Scope, entity_of, kind_of_entity, IsSound}
 use Rattle.check_scope.specs.Scopes as scope
-use Rattle.check_expression.proofs.Values.{converted_fits, applied_fits, bit_fits}
+use Rattle.tapa_syntax.proofs.Values.{converted_fits, applied_fits, bit_fits}
 use Rattle.stream_check.proofs.WellLists.{no_faults}
 
 abbrev kind_at : ℕ → Kind

@@ -5,6 +5,7 @@
 mod fault;
 mod kind;
 mod memory;
+mod numbers;
 mod op;
 mod put;
 mod shape;
@@ -17,8 +18,9 @@ mod text;
 mod token;
 
 pub use fault::{OutOfMemory, PrintFault, ShelfFault, TakeFault, WriteFailed, WriteFault};
-pub use kind::{Kind, convert};
+pub use kind::{Kind, convert, low_bits};
 pub use memory::{MemShelf, MemSink};
+pub use numbers::{number_at, position_of, value_at};
 pub use op::{Op, apply, can_apply};
 pub use put::put_all;
 pub use shape::{Port, Shape};

@@ -1,7 +1,7 @@
 use Rattle.std.proofs.Common.{◌<◌, sym, subst}
 use Rattle.tapa_base.specs.Kinds.{values_of}
 use Rattle.tapa_syntax.specs.Typed.{result_kind}
-use Rattle.check_expression.proofs.Values.{applied_fits}
+use Rattle.tapa_syntax.proofs.Values.{applied_fits}
 use Rattle.check_expression.proofs.constant.applied.Goals as goal
 
 pub returns-in_default-clause-within : goal.returns-in_default-clause-within

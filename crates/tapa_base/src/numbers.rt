@@ -1,0 +1,30 @@
+// Numbers that stand in lists.
+ghost use Rattle.std.specs.Prelude.{◌≡◌, ◌<◌, ◌≢◌, ℕ, Some, MatchOption, slice_get, slice_index, length};
+
+/// The number at a position, and 0 past the end.
+pub fn number_at(numbers: &[u32], position: u32) -> u32
+    ensures { result ≡ slice_index numbers.now position }
+{
+    match numbers.get(position as usize) {
+        Some(number) => *number,
+        None => 0,
+    }
+}
+
+/// The value at a position, and 0 past the end.
+pub fn value_at(values: &[u64], position: u32) -> u64
+    ensures { result ≡ slice_index values.now position }
+{
+    match values.get(position as usize) {
+        Some(value) => *value,
+        None => 0,
+    }
+}
+
+/// The first position at which a number stands.
+pub fn position_of(numbers: &[u32], number: u32) -> Option<usize>
+    ensures { MatchOption result ((i : ℕ) → slice_get numbers.now i ≢ Some number)
+        (λ p. (slice_get numbers.now p ≡ Some number) × ((i : ℕ) → i < p → slice_get numbers.now i ≢ Some number)) }
+{
+    numbers.iter().position(|other| *other == number)
+}
