@@ -13,7 +13,7 @@ use Rattle.tapa_syntax.specs.declared.program.Expr.TheVariants.{Lit, Var, Cell',
 use Rattle.tapa_syntax.specs.declared.program.Stmt.{Stmt, Row_of-Stmt, end_of-Stmt, more_of-Stmt}
 use Rattle.tapa_syntax.specs.declared.program.Stmt.TheVariants.{Set, SetCell, SetCellBy, Store as StoreCell, StoreBy, ReadVar, ReadCell, ReadStore, Write, Open as OpenIt, Close, Discard, Clear, If', Loop', Break, Continue}
 use Rattle.tapa_syntax.specs.LeafKinds.{Kinds}
-use Rattle.tapa_syntax.specs.Typed.{HasKind, IsTyped, AreTyped, IsTypedBody, right_kind, result_kind}
+use Rattle.tapa_syntax.specs.Typed.{HasKind, IsTyped, AreTyped, IsTypedCode, right_kind, result_kind}
 use Rattle.kahn_model.specs.Behavior.{Action, Local, Load, Store, Read as ByRead, Peek as ByPeek, TestEot, Open as ByOpen, Behavior, Finished, Act, Await, Answer, judge_token}
 use Rattle.kahn_model.specs.Trace.{State, cell, with_cell, set_var, set_cell, store_cell, cells_of, cleared, at_zero, expr, locals, turns, stmt, block, statements, job_of}
 use Rattle.kahn_model.specs.Fits.{IsTokenOf, ActionFits, KeepsKinds}
@@ -192,9 +192,9 @@ mutual
 fit_end : (K : Kinds) → AreFit K (λ σ. Finished)
 fit_end K σ g = record { keeps = tt }
 
-fit_statements : (K : Kinds) (n : ℕ) (code : List Stmt) → IsTypedBody K code → (f fo fa : State → Behavior) → AreFit K f → AreFit K fo → AreFit K fa → AreFit K (λ σ. statements K n code σ f fo fa)
+fit_statements : (K : Kinds) (n : ℕ) (code : List Stmt) → IsTypedCode K code → (f fo fa : State → Behavior) → AreFit K f → AreFit K fo → AreFit K fa → AreFit K (λ σ. statements K n code σ f fo fa)
 fit_statements K n [] t f fo fa h ho ha σ g = h σ g
 fit_statements K n (s ∷ rest) t f fo fa h ho ha σ g = fit_stmt K n s t.0 _ fo fa (fit_statements K n rest t.1 f fo fa h ho ha) ho ha σ g
 
-pub job_keeps_kinds : (K : Kinds) (code : List Stmt) → IsTypedBody K code → (σ : State) → IsFitState K σ → (n : ℕ) → KeepsKinds K.streams K.memories (job_of K code σ n)
+pub job_keeps_kinds : (K : Kinds) (code : List Stmt) → IsTypedCode K code → (σ : State) → IsFitState K σ → (n : ℕ) → KeepsKinds K.streams K.memories (job_of K code σ n)
 job_keeps_kinds K code t σ g n = (fit_statements K n code t _ _ _ (fit_end K) (fit_end K) (fit_end K) σ g).keeps

@@ -51,6 +51,7 @@ fn instance(alloc: Global, body: u32, streams: Vec<u32>) -> Instance {
     Instance {
         label: Text::new(Vec::new(alloc)),
         body,
+        detached: false,
         scalars: Vec::new(alloc),
         streams,
         memories: Vec::new(alloc),

@@ -13,10 +13,10 @@ use Rattle.tapa_syntax.specs.declared.program.Leaf.{Leaf}
 use Rattle.tapa_syntax.specs.declared.program.Program.{Program}
 use Rattle.tapa_syntax.specs.declared.program.Stream.{Stream}
 use Rattle.tapa_syntax.specs.LeafKinds.{Kinds, kinds_of, writes_of}
-use Rattle.tapa_syntax.specs.StreamUse.{UsesBody}
-use Rattle.tapa_syntax.specs.MemoryUse.{AsksBody}
-use Rattle.tapa_syntax.specs.ArrayUse.{FitsBody}
-use Rattle.tapa_syntax.specs.Typed.{IsTypedBody}
+use Rattle.tapa_syntax.specs.StreamUse.{UsesCode}
+use Rattle.tapa_syntax.specs.MemoryUse.{AsksCode}
+use Rattle.tapa_syntax.specs.ArrayUse.{FitsCode}
+use Rattle.tapa_syntax.specs.Typed.{IsTypedCode}
 use Rattle.tapa_syntax.specs.WellFormed.{IsLeaf, IsEndOf, IsStreamAt, IsInstance, IsJoined, IsStream, IsWellFormed}
 use Rattle.kahn_model.specs.declared.tick.Action.TheVariants.{Put}
 use Rattle.kahn_model.specs.declared.tick.StreamOperation.TheVariants.{Read}
@@ -51,25 +51,25 @@ straight_job K n (Send p Eot ∷ rest) σ = ap (Act (Put p Eot)) (straight_job K
 straight_job K n (Receive p ∷ rest) σ = ap (λ b. Await p Read (λ v. b)) (straight_job K n rest σ)
 
 -- straight code is a leaf's
-uses : (ends : List End) (steps : List Step) → AllSuit ends steps → UsesBody (writes_of ends) (map statement steps)
+uses : (ends : List End) (steps : List Step) → AllSuit ends steps → UsesCode (writes_of ends) (map statement steps)
 uses ends [] h = tt
 uses ends (Send p (Datum v) ∷ rest) h = ((ap (option_map (λ (e : End). e.writes)) h.0.0, tt), uses ends rest h.1)
 uses ends (Send p Eot ∷ rest) h = (ap (option_map (λ (e : End). e.writes)) h.0.0, uses ends rest h.1)
 uses ends (Receive p ∷ rest) h = (ap (option_map (λ (e : End). e.writes)) h.0, uses ends rest h.1)
 
-fits : (c n : ℕ) (S : List ℕ) (steps : List Step) → FitsBody c n S (map statement steps)
+fits : (c n : ℕ) (S : List ℕ) (steps : List Step) → FitsCode c n S (map statement steps)
 fits c n S [] = tt
 fits c n S (Send p (Datum v) ∷ rest) = (tt, tt, fits c n S rest)
 fits c n S (Send p Eot ∷ rest) = (tt, tt, fits c n S rest)
 fits c n S (Receive p ∷ rest) = (tt, tt, fits c n S rest)
 
-asks : (n : ℕ) (steps : List Step) → AsksBody n (map statement steps)
+asks : (n : ℕ) (steps : List Step) → AsksCode n (map statement steps)
 asks n [] = tt
 asks n (Send p (Datum v) ∷ rest) = (tt, asks n rest)
 asks n (Send p Eot ∷ rest) = (tt, asks n rest)
 asks n (Receive p ∷ rest) = (tt, asks n rest)
 
-typed : (K : Kinds) (ends : List End) → ((p : ℕ) → slice_get ends p ≡ Some writing → K.streams p ≡ U64) → (steps : List Step) → AllSuit ends steps → IsTypedBody K (map statement steps)
+typed : (K : Kinds) (ends : List End) → ((p : ℕ) → slice_get ends p ≡ Some writing → K.streams p ≡ U64) → (steps : List Step) → AllSuit ends steps → IsTypedCode K (map statement steps)
 typed K ends k [] h = tt
 typed K ends k (Send p (Datum v) ∷ rest) h = (subst (λ z. (U64 ≡ z) × (v < values_of z)) (sym (k p h.0.0)) (refl, h.0.1), typed K ends k rest h.1)
 typed K ends k (Send p Eot ∷ rest) h = (tt, typed K ends k rest h.1)
@@ -81,10 +81,10 @@ straight_leaf leaf ends steps s h = record {
   scalars_in = λ p x e. absurd (none_there leaf.scalars.items p x s.scalars e);
   scalars_distinct = λ p q x e f. absurd (none_there leaf.scalars.items p x s.scalars e);
   cells = λ a r e. absurd (none_there leaf.arrays.items a r s.arrays e);
-  uses = subst (UsesBody (writes_of leaf.streams.items)) (sym s.code) (subst (λ e. UsesBody (writes_of e) (map statement steps)) (sym s.streams) (uses ends steps h));
-  fits = subst (FitsBody (length leaf.vars.items) (length leaf.arrays.items) []) (sym s.code) (fits (length leaf.vars.items) (length leaf.arrays.items) [] steps);
-  asks = subst (AsksBody (length leaf.memories.items)) (sym s.code) (asks (length leaf.memories.items) steps);
-  typed = subst (IsTypedBody (kinds_of leaf)) (sym s.code)
+  uses = subst (UsesCode (writes_of leaf.streams.items)) (sym s.code) (subst (λ e. UsesCode (writes_of e) (map statement steps)) (sym s.streams) (uses ends steps h));
+  fits = subst (FitsCode (length leaf.vars.items) (length leaf.arrays.items) []) (sym s.code) (fits (length leaf.vars.items) (length leaf.arrays.items) [] steps);
+  asks = subst (AsksCode (length leaf.memories.items)) (sym s.code) (asks (length leaf.memories.items) steps);
+  typed = subst (IsTypedCode (kinds_of leaf)) (sym s.code)
       (typed (kinds_of leaf) ends
       (λ p e. ap (λ es. unwrap_or (option_map (λ (e : End). e.kind) (slice_get es p)) U64) s.streams ∙ ap (λ o. unwrap_or (option_map (λ (e : End). e.kind) o) U64) e) steps h);
 }
@@ -251,6 +251,7 @@ module _ (program : Program) (a b : List Step) (d0 d1 d2 : ℕ) (w : IsBench pro
       leaves = λ n leaf e. leaves_ok n leaf (ap (λ l. slice_get l n) (sym w.bodies) ∙ e);
       instances = λ i x e. instances_ok i x (ap (λ l. slice_get l i) (sym w.instances) ∙ e);
       streams = λ s r e. streams_ok s r (ap (λ l. slice_get l s) (sym w.streams) ∙ e);
+      memories = λ m r e. absurd (none_there program.memories.items m r w.memories e);
     }
 
     behavior_is : (i : ℕ) (input : Input) (leaf : Leaf) (ends : List End) (steps : List Step) → leaf_at program i ≡ Some leaf → IsStraight leaf ends steps → (n : ℕ) → (instance_job program input i).behavior n ≡ script steps

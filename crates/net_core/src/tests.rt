@@ -45,6 +45,7 @@ mod tests {
         Instance {
             label: Text::new(Vec::new(alloc)),
             body,
+            detached: false,
             scalars: Vec::new(alloc),
             streams,
             memories: Vec::new(alloc),

@@ -10,6 +10,7 @@ pub mod Spans
 pub mod MemoryUse
 pub mod StreamUse
 pub mod Symbols
+pub mod TickPlaces
 pub mod Trees
 pub mod Typed
 pub mod WellFormed

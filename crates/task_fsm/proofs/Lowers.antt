@@ -14,7 +14,8 @@ use Rattle.task_fsm.specs.declared.machine.Fsm.{Fsm}
 use Rattle.task_fsm.specs.Machine.{forms_of, TrapAt}
 use Rattle.task_fsm.specs.Run.{trap_of, cells_after}
 use Rattle.task_fsm.specs.MachineKinds.{with_registers, machine_kinds, AreTypedStates}
-use Rattle.task_fsm.specs.Code.{Emitted, size_of_list, last_code, leaf_code}
+use Rattle.task_fsm.specs.Code.{Emitted, last_code, leaf_code}
+use Rattle.tapa_syntax.specs.TickPlaces.{size_of_list}
 use Rattle.task_fsm.specs.Lowered.{IsLowered, with_temporaries}
 use Rattle.task_fsm.proofs.Grows.{IsFront, no_more}
 use Rattle.task_fsm.proofs.Body.{grows_list, trap_leaf, front_leaf, follows_at, machine_at}

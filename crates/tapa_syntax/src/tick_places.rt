@@ -1,13 +1,13 @@
-ghost use Rattle.std.specs.Prelude.{ℕ, ◌≡◌, ◌+◌, map};
-ghost use Rattle.tapa_syntax.specs.Flat.{flat_expression, flat_statement, in_row};
-ghost use Rattle.check_leaf.specs.Leaves as leaf;
-ghost use Rattle.check_leaf.specs.Views.{capped};
+//! How many tick places code has.
+ghost use Rattle.std.specs.Prelude.{◌≡◌, ◌+◌, ℕ};
+ghost use Rattle.tapa_syntax.specs.TickPlaces as ticks;
+ghost use Rattle.tapa_syntax.specs.TickPlaces.{capped};
 
-use tapa_syntax::{Expr, Stmt};
+use crate::program::{Expr, Stmt};
 
 /// The operations of an expression on streams and memories, at most the greatest number.
-fn operations(value: &Expr) -> u64
-    ensures { result ≡ capped (leaf.operations (flat_expression value.now)) }
+pub fn operations(value: &Expr) -> u64
+    ensures { result ≡ capped (ticks.operation_count value.now) }
 {
     match value {
         Expr::Lit(_, _) => 0,
@@ -29,8 +29,9 @@ fn operations(value: &Expr) -> u64
     }
 }
 
+/// Two expressions' operations, and so many places more.
 fn two(first: &Expr, second: &Expr, more: u64) -> u64
-    ensures { result ≡ capped (leaf.operations (flat_expression first.now) + leaf.operations (flat_expression second.now) + more) }
+    ensures { result ≡ capped (more + ticks.operation_count second.now + ticks.operation_count first.now) }
 {
     operations(first)
         .saturating_add(operations(second))
@@ -39,7 +40,7 @@ fn two(first: &Expr, second: &Expr, more: u64) -> u64
 
 /// A test, and two parts of so many places.
 fn with_test(test: &Expr, first: u64, second: u64) -> u64
-    ensures { (m n : ℕ) → first ≡ capped m → second ≡ capped n → result ≡ capped (leaf.operations (flat_expression test.now) + 1 + m + n) }
+    ensures { (m n : ℕ) → first ≡ capped m → second ≡ capped n → result ≡ capped (n + m + (1 + ticks.operation_count test.now)) }
 {
     operations(test)
         .saturating_add(1)
@@ -50,7 +51,7 @@ fn with_test(test: &Expr, first: u64, second: u64) -> u64
 /// The tick places of a statement, at most the greatest number.
 #[cycle(places)]
 fn places(statement: &Stmt) -> u64
-    ensures { result ≡ capped (leaf.places (flat_statement statement.now)) }
+    ensures { result ≡ capped (ticks.size_of statement.now) }
 {
     match statement {
         Stmt::Set(_, value) => operations(value).saturating_add(1),
@@ -73,20 +74,14 @@ fn places(statement: &Stmt) -> u64
     }
 }
 
+/// The tick places of statements, at most the greatest number. A leaf has one more, its end.
 #[cycle(places)]
-fn places_in(code: &[Stmt]) -> u64
-    ensures { result ≡ capped (leaf.places_in (in_row (map flat_statement code.now))) }
+pub fn places_in(code: &[Stmt]) -> u64
+    ensures { result ≡ capped (ticks.size_of_list code.now) }
 {
     let mut sum: u64 = 0;
     for statement in code {
         sum = sum.saturating_add(places(statement));
     }
     sum
-}
-
-/// The tick places of a leaf's code, its end among them, at most the greatest number.
-pub(crate) fn places_of(code: &[Stmt]) -> u64
-    ensures { result ≡ capped (leaf.places_of (map flat_statement code.now)) }
-{
-    places_in(code).saturating_add(1)
 }
