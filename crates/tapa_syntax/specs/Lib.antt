@@ -6,7 +6,6 @@ pub mod LeafKinds
 pub mod Lexemes
 pub mod Limits
 pub mod Literals
-pub mod Spans
 pub mod MemoryUse
 pub mod StreamUse
 pub mod Symbols
