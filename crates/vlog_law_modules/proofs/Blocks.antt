@@ -1,6 +1,6 @@
 -- What steps, blocks and lines leave of one name.
 use Rattle.std.proofs.Common.{◌≡◌, ℕ, ◌+◌, ◌≤◌, Bool, true, false, cond, eqb, ltb, ◌&&◌, List, [], ◌∷◌, None, inl, inr, refl, sym, ap, subst, ◌∙◌, arith}
-use Rattle.std.specs.Prelude.{◌⊎◌, bytes_eq, count_by, nat_le}
+use Rattle.std.specs.Prelude.{◌⊎◌, bytes_eq, count_by, nat_le, not}
 use Rattle.std.specs.List.{list_any, list_all}
 use Rattle.std.specs.Cmp.Lexicographic.{bytes_decides}
 use Rattle.std.proofs.lemmas.Bool.Decides.{nat_tests}
@@ -14,10 +14,11 @@ use Rattle.vlog_tree.specs.declared.table.NetKind.TheVariants.{Register, MemoryA
 use Rattle.vlog_tree.specs.Form.{ModuleTree}
 use Rattle.vlog_tree.specs.Grounded.{Has}
 use Rattle.vlog_tree.specs.Cycle.{Cycle, Sizes, run_steps, run_items, put, store, atom_value}
-use Rattle.vlog_tree.specs.Table.{Name, declared, first_violation}
-use Rattle.vlog_tree.specs.V4.{step_assigns, is_block_of, module_drives, driving_use, breaks_driving, drives, one_if}
+use Rattle.vlog_tree.specs.Table.{Name, declared, first_violation, one_if}
+use Rattle.vlog_tree.specs.V4.{step_assigns, is_block_of, module_drives, driving_use, breaks_driving, drives}
 use Rattle.vlog_law_modules.specs.Blocks.{IsSameAt}
-use Rattle.vlog_law_modules.proofs.Lists.{count_cons, one_if_true, none_counted, counted, both_false, right, has_map}
+use Rattle.vlog_tree.proofs.Lists.{has_map}
+use Rattle.vlog_law_modules.proofs.Lists.{count_cons, one_if_true, none_counted, counted, both_false, right}
 
 all_on : List Bool → Bool
 all_on on = list_all (λ b. b) on
@@ -53,7 +54,7 @@ module _ (s : Sizes) (old : Cycle) (x : Name) where
   steps_alike [] on c d h = h
   steps_alike (If t ∷ steps) on c d h = steps_alike steps (eqb (old.net t) 1 ∷ on) c d h
   steps_alike (Else ∷ steps) [] c d h = h
-  steps_alike (Else ∷ steps) (b ∷ on) c d h = steps_alike steps (cond b false true ∷ on) c d h
+  steps_alike (Else ∷ steps) (b ∷ on) c d h = steps_alike steps (not b ∷ on) c d h
   steps_alike (End ∷ steps) [] c d h = h
   steps_alike (End ∷ steps) (b ∷ on) c d h = steps_alike steps on c d h
   steps_alike (NonblockingAssign y a ∷ steps) on c d h =
@@ -65,7 +66,7 @@ module _ (s : Sizes) (old : Cycle) (x : Name) where
   steps_leave [] on c h = same x c
   steps_leave (If t ∷ steps) on c h = steps_leave steps (eqb (old.net t) 1 ∷ on) c h
   steps_leave (Else ∷ steps) [] c h = same x c
-  steps_leave (Else ∷ steps) (b ∷ on) c h = steps_leave steps (cond b false true ∷ on) c h
+  steps_leave (Else ∷ steps) (b ∷ on) c h = steps_leave steps (not b ∷ on) c h
   steps_leave (End ∷ steps) [] c h = same x c
   steps_leave (End ∷ steps) (b ∷ on) c h = steps_leave steps on c h
   steps_leave (NonblockingAssign y a ∷ steps) on c h =

@@ -7,8 +7,7 @@ use Rattle.std.proofs.lemmas.Bool.Decides.{nat_tests}
 use Rattle.std.proofs.lemmas.List.{take-append-drop, append-nil, reverse-append}
 use Rattle.std.proofs.Math.Seq.{take-append_seam, drop-append_seam}
 use Rattle.vlog_tree.specs.Names.{IsName, has_name_form, is_among, is_keyword, always_to_default, defparam_to_event, for_to_input, instance_to_not, notif0_to_real, realtime_to_strong0, strong1_to_unsigned, use_to_xor}
-use Rattle.vlog_tree.specs.Table.{Name}
-use Rattle.vlog_tree.specs.V4.{one_if}
+use Rattle.vlog_tree.specs.Table.{Name, one_if}
 use Rattle.vlog_tree.specs.Labels.{label_in, scalar, m_ack, m_rdata, m_addr, m_wdata, m_we, s_din, scalar_of, ack_of, rdata_of, addr_of, wdata_of, we_of, din_of}
 use Rattle.vlog_law_modules.specs.Labelled.{IsLabelOf, AreLabels}
 use Rattle.vlog_law_modules.proofs.Lists.{both_true, count_cons}

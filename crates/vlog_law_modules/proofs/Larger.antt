@@ -1,6 +1,6 @@
 -- Modules among more modules.
 use Rattle.std.proofs.Common.{◌≡◌, Bool, true, false, cond, ◌||◌, List, [], ◌∷◌, ◌++◌, Some, None, inl, inr, refl, sym, ap, subst, ◌∙◌, map}
-use Rattle.std.specs.Prelude.{bytes_eq, count_by}
+use Rattle.std.specs.Prelude.{bytes_eq, count_by, not, is_some}
 use Rattle.std.specs.List.{flat_map}
 use Rattle.vlog_tree.specs.declared.tree.Connection.{Connection}
 use Rattle.vlog_tree.specs.declared.tree.Item.{Item}
@@ -8,8 +8,7 @@ use Rattle.vlog_tree.specs.declared.tree.Item.TheVariants.{Wire, Reg, Memory, As
 use Rattle.vlog_tree.specs.declared.table.Declaration.{Declaration}
 use Rattle.vlog_tree.specs.Form.{ModuleTree}
 use Rattle.vlog_tree.specs.Grounded.{Has}
-use Rattle.vlog_tree.specs.Cycle.{module_named}
-use Rattle.vlog_tree.specs.Table.{Name, NameUse, no, is_clk, declared, port_declared, module_declared, is_doubled_name, is_module, ports_of, first_violation}
+use Rattle.vlog_tree.specs.Table.{Name, NameUse, is_clk, declared, port_declared, module_named, module_declared, is_doubled_name, is_module_name, ports_in, ports_of, first_violation}
 use Rattle.vlog_tree.specs.V2.{all_connected, module_uses, item_uses, instance_uses, connection_uses, port_uses}
 use Rattle.vlog_tree.specs.V3.{module_widths, port_widths, item_widths, connection_widths}
 use Rattle.vlog_tree.specs.V4.{is_block_of, module_drives, line_driven, connection_driven, driving_use, breaks_driving}
@@ -17,7 +16,8 @@ use Rattle.vlog_tree.specs.NameTable.{times_in}
 use Rattle.vlog_tree.specs.Refused.{IsSound}
 use Rattle.vlog_tree.specs.Loops.{Edges, Rests, directly, through, after, direct_edges, line_edges, connection_edge, memory_edges, instances, item_instances}
 use Rattle.vlog_law_modules.specs.Larger.{IsWithin, AreApart, HaveInstancesOf, IsRightBeside}
-use Rattle.vlog_law_modules.proofs.Lists.{has_flat, of_flat, has_right, flat_same, right, all_right, right_behind}
+use Rattle.vlog_tree.proofs.Lists.{has_flat, of_flat, has_right}
+use Rattle.vlog_law_modules.proofs.Lists.{flat_same, right, all_right, right_behind}
 
 front_of : (ms ns : List ModuleTree) (m : ModuleTree) (x : Name) (k : ModuleTree) (b : Bool) → (module_named ms x ≡ Some k → module_named (ms ++ ns) x ≡ Some k)
     → cond b (Some m) (module_named ms x) ≡ Some k → cond b (Some m) (module_named (ms ++ ns) x) ≡ Some k
@@ -28,31 +28,25 @@ pub front_within : (ms ns : List ModuleTree) → IsWithin ms (ms ++ ns)
 front_within [] ns x k h = cc
 front_within (m ∷ ms) ns x k h = front_of ms ns m x k (bytes_eq m.name x) (front_within ms ns x k) h
 
-named_known : (ms : List ModuleTree) (m : ModuleTree) (x : Name) (k : ModuleTree) (b : Bool) → (module_named ms x ≡ Some k → (is_module ms x ≡ true) × (ports_of ms x ≡ k.ports))
-    → cond b (Some m) (module_named ms x) ≡ Some k → ((b || is_module ms x) ≡ true) × (cond b m.ports (ports_of ms x) ≡ k.ports)
-named_known ms m x k true f h = let is : m ≡ k = cc h in (refl, ap (λ (t : ModuleTree). t.ports) is)
-named_known ms m x k false f h = f h
-
 -- what a name that finds a module has by it
-pub known_by : (ms : List ModuleTree) (x : Name) (k : ModuleTree) → module_named ms x ≡ Some k → (is_module ms x ≡ true) × (ports_of ms x ≡ k.ports)
-known_by [] x k h = cc
-known_by (m ∷ ms) x k h = named_known ms m x k (bytes_eq m.name x) (known_by ms x k) h
+pub known_by : (ms : List ModuleTree) (x : Name) (k : ModuleTree) → module_named ms x ≡ Some k → (is_module_name ms x ≡ true) × (ports_of ms x ≡ k.ports)
+known_by ms x k h = (ap (λ o. is_some o) h, ap ports_in h)
 
-found_of : (ms : List ModuleTree) (m : ModuleTree) (x : Name) (b : Bool) → (is_module ms x ≡ true → (k : ModuleTree) × Has ms k × (module_named ms x ≡ Some k)) → (b || is_module ms x) ≡ true
+found_of : (ms : List ModuleTree) (m : ModuleTree) (x : Name) (b : Bool) → (is_some (module_named ms x) ≡ true → (k : ModuleTree) × Has ms k × (module_named ms x ≡ Some k)) → is_some (cond b (Some m) (module_named ms x)) ≡ true
     → (k : ModuleTree) × Has {N = ModuleTree} (m ∷ ms) k × (cond b (Some m) (module_named ms x) ≡ Some k)
 found_of ms m x true f h = (m, inl refl, refl)
 found_of ms m x false f h = let r = f h in (r.0, inr r.1, r.2)
 
-pub found : (ms : List ModuleTree) (x : Name) → is_module ms x ≡ true → (k : ModuleTree) × Has ms k × (module_named ms x ≡ Some k)
+pub found : (ms : List ModuleTree) (x : Name) → is_module_name ms x ≡ true → (k : ModuleTree) × Has ms k × (module_named ms x ≡ Some k)
 found [] x h = cc
 found (m ∷ ms) x h = found_of ms m x (bytes_eq m.name x) (found ms x) h
 
-behind_of : (ms ns : List ModuleTree) (m : ModuleTree) (x : Name) (k : ModuleTree) (b : Bool) → (is_module ms x ≡ false → module_named (ms ++ ns) x ≡ Some k) → (b || is_module ms x) ≡ false
+behind_of : (ms ns : List ModuleTree) (m : ModuleTree) (x : Name) (k : ModuleTree) (b : Bool) → (is_some (module_named ms x) ≡ false → module_named (ms ++ ns) x ≡ Some k) → is_some (cond b (Some m) (module_named ms x)) ≡ false
     → cond b (Some m) (module_named (ms ++ ns) x) ≡ Some k
 behind_of ms ns m x k true f h = cc
 behind_of ms ns m x k false f h = f h
 
-named_behind : (ms ns : List ModuleTree) (x : Name) (k : ModuleTree) → is_module ms x ≡ false → module_named ns x ≡ Some k → module_named (ms ++ ns) x ≡ Some k
+named_behind : (ms ns : List ModuleTree) (x : Name) (k : ModuleTree) → is_module_name ms x ≡ false → module_named ns x ≡ Some k → module_named (ms ++ ns) x ≡ Some k
 named_behind [] ns x k f h = h
 named_behind (m ∷ ms) ns x k f h = behind_of ms ns m x k (bytes_eq m.name x) (λ e. named_behind ms ns x k e h) f
 
@@ -67,18 +61,18 @@ unfolding module_uses item_uses instance_uses
 right_has_instances ms m r kn i h =
     let t = of_flat item_instances m.items (kn, i) h in
     at t.0 t.1 t.2 where
-      not_no : (b : Bool) → no b ≡ false → b ≡ true
+      not_no : (b : Bool) → not b ≡ false → b ≡ true
       not_no true e = refl
       not_no false e = cc
 
-      at : (it : Item) → Has m.items it → Has (item_instances it) (kn, i) → is_module ms kn ≡ true
+      at : (it : Item) → Has m.items it → Has (item_instances it) (kn, i) → is_module_name ms kn ≡ true
       at (Instance k j ls) has (inl e) =
           let same : k ≡ kn = ap (λ (p : Name × Name). p.0) e in
-          subst (λ y. is_module ms y ≡ true) same
-          (not_no (is_module ms k)
-          (right (module_uses ms m) r.names (k, no (is_module ms k))
-          (inr (has_right (flat_map (port_uses (declared m)) m.ports) (flat_map (item_uses ms (declared m)) m.items) (k, no (is_module ms k))
-          (has_flat (item_uses ms (declared m)) m.items (Instance k j ls) (k, no (is_module ms k)) has (inl refl))))))
+          subst (λ y. is_module_name ms y ≡ true) same
+          (not_no (is_module_name ms k)
+          (right (module_uses ms m) r.names (k, not (is_module_name ms k))
+          (inr (has_right (flat_map (port_uses (declared m)) m.ports) (flat_map (item_uses ms (declared m)) m.items) (k, not (is_module_name ms k))
+          (has_flat (item_uses ms (declared m)) m.items (Instance k j ls) (k, not (is_module_name ms k)) has (inl refl))))))
       at (Instance k j ls) has (inr e) = absurd e
       at (Wire w y) has e = absurd e
       at (Reg w y) has e = absurd e
@@ -87,7 +81,7 @@ right_has_instances ms m r kn i h =
       at (Always b) has e = absurd e
 
 module _ (ms all : List ModuleTree) (within : IsWithin ms all) where
-  pub known_too : (x : Name) → is_module ms x ≡ true → (is_module all x ≡ true) × (ports_of ms x ≡ ports_of all x)
+  pub known_too : (x : Name) → is_module_name ms x ≡ true → (is_module_name all x ≡ true) × (ports_of ms x ≡ ports_of all x)
   known_too x h =
       let r = found ms x h in
       let one = known_by ms x r.0 r.2 in
@@ -101,17 +95,17 @@ module _ (ms all : List ModuleTree) (within : IsWithin ms all) where
     ports_same : (kn i : Name) (ls : List Connection) → Has m.items (Instance kn i ls) → map port_declared (ports_of ms kn) ≡ map port_declared (ports_of all kn)
     ports_same kn i ls has = ap (map port_declared) (known_too kn (have kn i (instance_there m kn i ls has))).1
 
-    known_same : (kn i : Name) (ls : List Connection) → Has m.items (Instance kn i ls) → is_module ms kn ≡ is_module all kn
+    known_same : (kn i : Name) (ls : List Connection) → Has m.items (Instance kn i ls) → is_module_name ms kn ≡ is_module_name all kn
     known_same kn i ls has = let h = have kn i (instance_there m kn i ls has) in h ∙ sym (known_too kn h).0
 
     abbrev uses_of : Name → Name → List Connection → Bool → List Declaration → List NameUse
-    uses_of kn i ls known ports = (kn, no known) ∷ (i, is_doubled_name ds i || is_clk i || no (all_connected ports ls)) ∷ flat_map (connection_uses ports ds) ls
+    uses_of kn i ls known ports = (kn, not known) ∷ (i, is_doubled_name ds i || is_clk i || not (all_connected ports ls)) ∷ flat_map (connection_uses ports ds) ls
 
     uses_same : (it : Item) → Has m.items it → item_uses ms ds it ≡ item_uses all ds it
     unfolding item_uses instance_uses
     uses_same (Instance kn i ls) has =
         ap (λ b. uses_of kn i ls b (map port_declared (ports_of ms kn))) (known_same kn i ls has)
-        ∙ ap (λ p. uses_of kn i ls (is_module all kn) p) (ports_same kn i ls has)
+        ∙ ap (λ p. uses_of kn i ls (is_module_name all kn) p) (ports_same kn i ls has)
     uses_same (Wire w y) has = refl
     uses_same (Reg w y) has = refl
     uses_same (Memory w y n) has = refl
@@ -156,8 +150,8 @@ module _ (ms all : List ModuleTree) (within : IsWithin ms all) where
 
     pub direct_same : (t u : Name → Bool) → t m.name ≡ u m.name → direct_edges ms t m ≡ direct_edges all u m
     direct_same t u e =
-        ap (λ (l : Edges). l ++ memory_edges (t m.name) (declared m)) (flat_same (line_edges ms) (line_edges all) m.items edges_same)
-        ∙ ap (λ b. flat_map (line_edges all) m.items ++ memory_edges b (declared m)) e
+        ap (λ (l : Edges). l ++ memory_edges (t m.name) (map port_declared m.ports)) (flat_same (line_edges ms) (line_edges all) m.items edges_same)
+        ∙ ap (λ b. flat_map (line_edges all) m.items ++ memory_edges b (map port_declared m.ports)) e
 
 pub stays_right : (ms all : List ModuleTree) (m : ModuleTree) → IsWithin ms all → IsRightBeside ms m → is_doubled_name (map module_declared all) m.name ≡ false → IsRightBeside all m
 unfolding module_uses
@@ -205,7 +199,7 @@ module _ (ms all : List ModuleTree) (t u : Name → Bool) (within : IsWithin ms 
   rests_more (through {m = m} {a = a} {b = b} k kn i x y inst named out into inside ea eb) has = through k kn i x y inst (within kn k named) out into (rests_more inside (named_has ms kn k named)) ea eb
   rests_more (after {m = m} {x = x} {z = z} y r s) has = after y (rests_more r has) (rests_more s has)
 
-  named_back : (kn : Name) (k : ModuleTree) → is_module ms kn ≡ true → module_named all kn ≡ Some k → module_named ms kn ≡ Some k
+  named_back : (kn : Name) (k : ModuleTree) → is_module_name ms kn ≡ true → module_named all kn ≡ Some k → module_named ms kn ≡ Some k
   named_back kn k known h = let r = found ms kn known in r.2 ∙ sym (within kn r.0 r.2) ∙ h
 
   pub rests_fewer : {m : ModuleTree} {x y : Name} → Rests all u m x y → Has ms m → Rests ms t m x y

@@ -1,44 +1,10 @@
 -- What lists have, and what is counted.
-use Rattle.std.proofs.Common.{◌≡◌, ◌+◌, ◌≤◌, Bool, true, false, cond, ◌&&◌, ◌||◌, List, [], ◌∷◌, ◌++◌, None, Some, Option, inl, inr, refl, sym, ap, subst, ◌∙◌, arith, map}
-use Rattle.std.specs.Prelude.{◌⊎◌, count_by}
+use Rattle.std.proofs.Common.{◌≡◌, ◌+◌, ◌≤◌, Bool, true, false, cond, ◌&&◌, ◌||◌, List, [], ◌∷◌, ◌++◌, None, Some, Option, inl, inr, refl, sym, ap, subst, ◌∙◌, arith}
+use Rattle.std.specs.Prelude.{count_by}
 use Rattle.std.specs.List.{flat_map, AllByRecursion}
 use Rattle.std.proofs.lemmas.List.Sums.{sum_by-cons}
 use Rattle.vlog_tree.specs.Grounded.{Has}
-use Rattle.vlog_tree.specs.V4.{one_if}
-use Rattle.vlog_tree.specs.Table.{Name, NameUse, first_violation}
-
-pub has_left : {N : Type 0} (xs ys : List N) (b : N) → Has xs b → Has (xs ++ ys) b
-has_left [] ys b h = absurd h
-has_left (x ∷ xs) ys b (inl e) = inl e
-has_left (x ∷ xs) ys b (inr h) = inr (has_left xs ys b h)
-
-pub has_right : {N : Type 0} (xs ys : List N) (b : N) → Has ys b → Has (xs ++ ys) b
-has_right [] ys b h = h
-has_right (x ∷ xs) ys b h = inr (has_right xs ys b h)
-
-pub has_split : {N : Type 0} (xs ys : List N) (b : N) → Has (xs ++ ys) b → Has xs b ⊎ Has ys b
-has_split [] ys b h = inr h
-has_split (x ∷ xs) ys b (inl e) = inl (inl e)
-has_split (x ∷ xs) ys b (inr h) = elim (has_split xs ys b h) [ inl l ↦ inl (inr l) | inr r ↦ inr r ]
-
-pub has_flat : {A B : Type 0} (f : A → List B) (xs : List A) (x : A) (y : B) → Has xs x → Has (f x) y → Has (flat_map f xs) y
-has_flat f [] x y h k = absurd h
-has_flat f (z ∷ zs) x y (inl e) k = has_left (f z) (flat_map f zs) y (subst (λ w. Has (f w) y) (sym e) k)
-has_flat f (z ∷ zs) x y (inr h) k = has_right (f z) (flat_map f zs) y (has_flat f zs x y h k)
-
-pub of_flat : {A B : Type 0} (f : A → List B) (xs : List A) (y : B) → Has (flat_map f xs) y → (x : A) × Has xs x × Has (f x) y
-of_flat f [] y h = absurd h
-of_flat f (z ∷ zs) y h = elim (has_split (f z) (flat_map f zs) y h) [ inl l ↦ (z, inl refl, l) | inr r ↦ (let t = of_flat f zs y r in (t.0, inr t.1, t.2)) ]
-
-pub has_map : {A B : Type 0} (f : A → B) (xs : List A) (x : A) → Has xs x → Has (map f xs) (f x)
-has_map f [] x h = absurd h
-has_map f (z ∷ zs) x (inl e) = inl (ap f e)
-has_map f (z ∷ zs) x (inr h) = inr (has_map f zs x h)
-
-pub of_map : {A B : Type 0} (f : A → B) (xs : List A) (y : B) → Has (map f xs) y → (x : A) × Has xs x × (f x ≡ y)
-of_map f [] y h = absurd h
-of_map f (z ∷ zs) y (inl e) = (z, inl refl, e)
-of_map f (z ∷ zs) y (inr h) = let t = of_map f zs y h in (t.0, inr t.1, t.2)
+use Rattle.vlog_tree.specs.Table.{Name, NameUse, first_violation, one_if}
 
 -- what gives the same at each element gives the same
 pub flat_same : {A B : Type 0} (f g : A → List B) (xs : List A) → ((x : A) → Has xs x → f x ≡ g x) → flat_map f xs ≡ flat_map g xs

@@ -6,7 +6,7 @@ use Rattle.vlog_tree.specs.Table.{Name}
 use Rattle.vlog_tree.specs.V6.{module_children}
 use Rattle.vlog_tree.specs.Loops.{Rests, directly, through, after, LiesOnLoop, TextPlace, Chain, one, more, containment, own_containment, port_of}
 use Rattle.vlog_law_modules.specs.Ranks.{FallsBy, HaveRanks}
-use Rattle.vlog_law_modules.proofs.Lists.{of_flat, of_map}
+use Rattle.vlog_tree.proofs.Lists.{of_flat, of_map}
 
 module _ (ms : List ModuleTree) (is_top : Name → Bool) where
   pub lower : {m : ModuleTree} {x y : Name} → Rests ms is_top m x y → (rank : Name → ℕ) → FallsBy ms is_top m rank → rank y < rank x

@@ -2,8 +2,7 @@
 use Rattle.std.specs.Prelude.{◌≡◌, ◌↔◌, Bool, true, false, List, ◌++◌, Some, None, map}
 use Rattle.vlog_tree.specs.Form.{ModuleTree}
 use Rattle.vlog_tree.specs.Grounded.{Has}
-use Rattle.vlog_tree.specs.Cycle.{module_named}
-use Rattle.vlog_tree.specs.Table.{Name, module_declared, is_doubled_name, is_module, first_violation}
+use Rattle.vlog_tree.specs.Table.{Name, module_named, module_declared, is_doubled_name, is_module_name, first_violation}
 use Rattle.vlog_tree.specs.V2.{module_uses}
 use Rattle.vlog_tree.specs.V3.{module_widths}
 use Rattle.vlog_tree.specs.V4.{module_drives}
@@ -16,11 +15,11 @@ IsWithin ms all = (x : Name) (k : ModuleTree) → module_named ms x ≡ Some k �
 
 -- no name finds a module in both
 abbrev pub AreApart : List ModuleTree → List ModuleTree → Type 0
-AreApart ms ns = (x : Name) → is_module ns x ≡ true → is_module ms x ≡ false
+AreApart ms ns = (x : Name) → is_module_name ns x ≡ true → is_module_name ms x ≡ false
 
 -- these modules have the module of each instance of this one
 abbrev pub HaveInstancesOf : List ModuleTree → ModuleTree → Type 0
-HaveInstancesOf ms m = (kn i : Name) → Has (instances m) (kn, i) → is_module ms kn ≡ true
+HaveInstancesOf ms m = (kn i : Name) → Has (instances m) (kn, i) → is_module_name ms kn ≡ true
 
 -- names, widths and drivers of one module are right beside these
 pub record IsRightBeside (ms : List ModuleTree) (m : ModuleTree) : Type 0 where
