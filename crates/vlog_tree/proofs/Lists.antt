@@ -1,4 +1,4 @@
--- What lists have.
+-- What lists have, and chains one after another.
 use Rattle.std.proofs.Common.{◌≡◌, ℕ, zero, suc, ◌+◌, ◌<◌, Bool, true, false, cond, List, [], ◌∷◌, ◌++◌, length, get_or, take, Some, inl, inr, refl, sym, ap, subst, ◌∙◌, arith, map}
 use Rattle.std.specs.Prelude.{bytes_eq, slice_get, ◌⊎◌}
 use Rattle.std.specs.List.{flat_map}
@@ -9,7 +9,21 @@ use Rattle.vlog_tree.specs.declared.table.NetKind.{NetKind}
 use Rattle.vlog_tree.specs.declared.table.NetKind.TheVariants.{Unknown}
 use Rattle.vlog_tree.specs.Grounded.{Has}
 use Rattle.vlog_tree.specs.Table.{Name, net_kind_of, find_name, declaration_name}
-use Rattle.vlog_graph.proofs.Numbered.{has_left, has_right, has_split}
+use Rattle.vlog_tree.specs.Loops.{Chain, one, more}
+
+pub has_left : {N : Type 0} (xs ys : List N) (b : N) → Has xs b → Has (xs ++ ys) b
+has_left [] ys b h = absurd h
+has_left (x ∷ xs) ys b (inl e) = inl e
+has_left (x ∷ xs) ys b (inr h) = inr (has_left xs ys b h)
+
+pub has_right : {N : Type 0} (xs ys : List N) (b : N) → Has ys b → Has (xs ++ ys) b
+has_right [] ys b h = h
+has_right (x ∷ xs) ys b h = inr (has_right xs ys b h)
+
+pub has_split : {N : Type 0} (xs ys : List N) (b : N) → Has (xs ++ ys) b → Has xs b ⊎ Has ys b
+has_split [] ys b h = inr h
+has_split (x ∷ xs) ys b (inl e) = inl (inl e)
+has_split (x ∷ xs) ys b (inr h) = elim (has_split xs ys b h) [ inl l ↦ inl (inr l) | inr r ↦ inr r ]
 
 pub has_flat : {A B : Type 0} (f : A → List B) (xs : List A) (x : A) (y : B) → Has xs x → Has (f x) y → Has (flat_map f xs) y
 has_flat f [] x y h k = absurd h
@@ -68,3 +82,7 @@ taken_mapped f xs i x y h e has =
       | inl l ↦ inl (subst (λ z. Has (map f (take i xs)) z) t.2 (has_map f (take i xs) t.0 l))
       | inr same ↦ inr (ap f same ∙ t.2)
     ]
+
+pub chains : {N : Type 0} (R : N → N → Type 0) (a b c : N) → Chain R a b → Chain R b c → Chain R a c
+chains R a b c (one h) s = more b h s
+chains R a b c (more d h r) s = more d h (chains R d b c r s)
