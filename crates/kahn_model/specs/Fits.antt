@@ -56,9 +56,13 @@ leaf_of program (Some x) = slice_get program.bodies.items x.body
 abbrev pub memory_kind : Program → ℕ → ℕ → Kind
 memory_kind program i p = kind_in_leaf (leaf_of program (slice_get program.instances.items i)) p
 
+-- the values of the top task's scalars have their kinds
+abbrev pub ScalarsFit : Program → List ℕ → Type 0
+ScalarsFit program scalars = (x : ℕ) (c : Scalar) → slice_get program.scalars.items x ≡ Some c → slice_index scalars x < values_of c.kind
+
 -- an input: one value for each scalar of the top task, and the first cells of each of its memories, of any length
 pub record FitsInput (program : Program) (scalars : List ℕ) (memories : List (List ℕ)) : Type 0 where
   pub as_many_scalars : length scalars ≡ length program.scalars.items
   pub as_many_memories : length memories ≡ length program.memories.items
-  pub scalars_fit : (x : ℕ) (c : Scalar) → slice_get program.scalars.items x ≡ Some c → slice_index scalars x < values_of c.kind
+  pub scalars_fit : ScalarsFit program scalars
   pub cells_fit : (m : ℕ) (c : Memory) → slice_get program.memories.items m ≡ Some c → All (λ v. v < values_of c.kind) (slice_index_or memories m [])

@@ -6,8 +6,9 @@ use Rattle.tapa_base.specs.declared.kind.Kind.TheVariants.{U64}
 use Rattle.tapa_base.specs.Kinds.{values_of}
 use Rattle.tapa_syntax.specs.declared.program.Program.{Program}
 use Rattle.tapa_syntax.specs.declared.program.Scalar.{Scalar}
-use Rattle.run_program.specs.Started.{kinds_in, ScalarsFit}
-use Rattle.run_program.proofs.bound.value_of_bound.Goals as goal
+use Rattle.kahn_model.specs.Fits.{ScalarsFit}
+use Rattle.kahn_model.specs.Start.{kinds_in}
+use Rattle.kahn_model.proofs.start.value_of_bound.Goals as goal
 
 -- the value of a scalar has its kind, and where there is no such scalar every number of 64 bits fits
 fits_kind : (program : Program) (scalars : List ℕ) → ScalarsFit program scalars → (x v : ℕ) → v ≡ slice_index scalars x → v < 2 ^ 64 → (o : Option Scalar) → slice_get program.scalars.items x ≡ o → v < values_of (unwrap_or (option_map (λ (c : Scalar). c.kind) o) U64)

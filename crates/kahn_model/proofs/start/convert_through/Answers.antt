@@ -5,7 +5,7 @@ use Rattle.tapa_base.specs.declared.kind.Kind.TheVariants.{Bool}
 use Rattle.tapa_base.specs.Kinds.{converted, values_of}
 use Rattle.kahn_model.specs.Start.{through}
 use Rattle.tapa_syntax.proofs.Values.{converted_fits}
-use Rattle.run_program.proofs.bound.convert_through.Goals as goal
+use Rattle.kahn_model.proofs.start.convert_through.Goals as goal
 
 one_more : (kinds : List Kind) (i : ℕ) (d last : Kind) (value next : ℕ) → i < length kinds → next ≡ converted last (get_or kinds i d) value → through (get_or kinds i d) (drop (i + 1) kinds) next ≡ through last (drop i kinds) value
 one_more kinds i d last value next inside is =
