@@ -6,7 +6,7 @@ use Rattle.tapa_words.specs.declared.command.Command.TheVariants.{Run}
 use Rattle.tapa_words.specs.declared.command.WordsFault.{WordsFault}
 use Rattle.tapa_words.specs.declared.command.WordsFault.TheVariants.{Usage, OutOfMemory}
 use Rattle.tapa_words.specs.declared.item.Item.{Item}
-use Rattle.tapa_words.specs.declared.item.Item.TheVariants.{Positional, Valued, Plain}
+use Rattle.tapa_words.specs.declared.item.Item.TheVariants.{Positional, Valued}
 use Rattle.tapa_words.specs.declared.item.Next.{Next}
 use Rattle.tapa_words.specs.declared.item.Next.TheVariants.{AnyWord, ValueOf, OnlyPositionals}
 use Rattle.tapa_words.specs.declared.item.Step.{Step}
@@ -21,7 +21,6 @@ limit_in (Run source top input limit) = limit
 abbrev pub item : Item → words.Item
 item (Positional word) = words.Positional word.now
 item (Valued name value) = words.Valued name.now value.now
-item (Plain name) = words.Plain name.now
 
 abbrev pub next : Next → words.Next
 next AnyWord = words.AnyWord
@@ -34,7 +33,7 @@ step (Moves later) = words.Moves (next later)
 step Breaks = words.Breaks
 
 -- an answer stands for what the words say, and they are refused where they say nothing; want of memory tells nothing of them
-abbrev pub Says : {A B : Type 0} → (A → B) → Result A WordsFault → Option B → Type 0
-Says view (Ok x) said = said ≡ Some (view x)
-Says view (Err Usage) said = said ≡ None
-Says view (Err OutOfMemory) said = Unit {0}
+abbrev pub Answers : {A B : Type 0} → (A → B) → Result A WordsFault → Option B → Type 0
+Answers view (Ok x) said = said ≡ Some (view x)
+Answers view (Err Usage) said = said ≡ None
+Answers view (Err OutOfMemory) said = Unit {0}

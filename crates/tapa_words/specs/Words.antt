@@ -6,8 +6,6 @@ use Rattle.std.specs.Str.Parse.{digits_value}
 use Rattle.std.specs.declared.alloc.Global.{Global}
 use Rattle.tapa_words.specs.declared.verb.Verb.{Verb}
 use Rattle.tapa_words.specs.declared.verb.Verb.TheVariants.{Running}
-use Rattle.tapa_words.specs.declared.verb.Form.{Form}
-use Rattle.tapa_words.specs.declared.verb.Form.TheVariants.{WithValue, Alone}
 
 abbrev pub Word : Type 0
 Word = List ℕ
@@ -25,9 +23,9 @@ texts words = map string_bytes words
 abbrev pub verb_of : Word → Option Verb
 verb_of word = if bytes_eq word (codes "run") then Some Running else None
 
--- the options of each command, and whether they have a value
-abbrev pub form_of : Verb → Word → Option Form
-form_of Running name = if bytes_eq name (codes "--steps") then Some WithValue else None
+-- the command has an option of this name; each option has a value
+abbrev pub has_option : Verb → Word → Bool
+has_option Running name = bytes_eq name (codes "--steps")
 
 -- a word of more than one byte that begins with `-`; `--` is of this form too
 abbrev pub is_option : Word → Bool
@@ -53,7 +51,6 @@ value_in (b ∷ rest) = if b == 61 then Some rest else value_in rest
 pub data Item : Type 0 where
   Positional : (word : Word) → Item
   Valued : (name value : Word) → Item
-  Plain : (name : Word) → Item
 
 -- what the next word may be
 pub data Next : Type 0 where
@@ -72,24 +69,21 @@ pub data Step : Type 0 where
   -- nothing, since it breaks a rule
   Breaks : Step
 
--- an option by its form, its name, and what stands behind its `=`
-abbrev pub option_step : Option Form → Word → Option Word → Step
--- with a value: `--name V`, or `--name=V` with V not empty
-option_step (Some WithValue) name None = Moves (ValueOf name)
-option_step (Some WithValue) name (Some []) = Breaks
-option_step (Some WithValue) name (Some (b ∷ value)) = Gives (Valued name (b ∷ value)) AnyWord
--- without a value: `--name`
-option_step (Some Alone) name None = Gives (Plain name) AnyWord
-option_step (Some Alone) name (Some value) = Breaks
+-- an option by its name, which the command has or has not, and what stands behind its `=`
+abbrev pub option_step : Bool → Word → Option Word → Step
 -- an option is one of its command's options, spelled whole
-option_step None name value = Breaks
+option_step false name value = Breaks
+-- `--name V`, or `--name=V` with V not empty
+option_step true name None = Moves (ValueOf name)
+option_step true name (Some []) = Breaks
+option_step true name (Some (b ∷ value)) = Gives (Valued name (b ∷ value)) AnyWord
 
 -- a word by what it may be
 abbrev pub step_of : Verb → Next → Word → Step
--- `--` is dropped; before it a word is an option by its form, and every other word is a positional
+-- `--` is dropped; before it a word that looks like an option is one, and every other word is a positional
 step_of verb AnyWord word =
     if is_end_of_options word then Moves OnlyPositionals
-    else if is_option word then option_step (form_of verb (name_in word)) (name_in word) (value_in word)
+    else if is_option word then option_step (has_option verb (name_in word)) (name_in word) (value_in word)
     else Gives (Positional word) AnyWord
 -- a value that is the next word is no option and not `--`
 step_of verb (ValueOf name) word = if is_option word then Breaks else Gives (Valued name word) AnyWord
@@ -122,30 +116,22 @@ abbrev pub positionals : List Item → List Word
 positionals [] = []
 positionals (Positional word ∷ items) = word ∷ positionals items
 positionals (Valued name value ∷ items) = positionals items
-positionals (Plain name ∷ items) = positionals items
 
 -- the item is the option of this name
 abbrev pub is_named : Word → Item → Bool
 is_named name (Positional word) = false
 is_named name (Valued other value) = bytes_eq other name
-is_named name (Plain other) = bytes_eq other name
-
--- both items are one option
-abbrev pub is_same_option : Item → Item → Bool
-is_same_option (Positional word) item = false
-is_same_option (Valued name value) item = is_named name item
-is_same_option (Plain name) item = is_named name item
 
 -- each option is given at most once
 abbrev pub is_each_once : List Item → Bool
 is_each_once [] = true
-is_each_once (item ∷ items) = not (list_any (is_same_option item) items) && is_each_once items
+is_each_once (Positional word ∷ items) = is_each_once items
+is_each_once (Valued name value ∷ items) = not (list_any (is_named name) items) && is_each_once items
 
 -- the value of the option of a name, where it is given
 abbrev pub value_or : Word → Item → Option Word → Option Word
 value_or name (Positional word) rest = rest
 value_or name (Valued other value) rest = if bytes_eq other name then Some value else rest
-value_or name (Plain other) rest = rest
 
 abbrev pub value_of : Word → List Item → Option Word
 value_of name [] = None

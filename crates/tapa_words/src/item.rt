@@ -1,10 +1,10 @@
 ghost use Rattle.std.specs.Prelude.{◌≡◌, map, Some, option_map};
 ghost use Rattle.std.specs.List.{list_any};
-ghost use Rattle.tapa_words.specs.Words.{texts, is_option, step_of, option_step, form_of, name_in, value_in, items_of, is_named, is_same_option, is_each_once, positionals, value_of};
-ghost use Rattle.tapa_words.specs.Meaning.{item, next, step, Says};
+ghost use Rattle.tapa_words.specs.Words.{texts, is_option, step_of, option_step, has_option, name_in, value_in, items_of, is_named, is_each_once, positionals, value_of};
+ghost use Rattle.tapa_words.specs.Meaning.{item, next, step, Answers};
 
 use crate::command::WordsFault;
-use crate::verb::{Form, Verb};
+use crate::verb::Verb;
 use std::alloc::Global;
 
 // What the words behind the command's name are.
@@ -13,7 +13,6 @@ pub(crate) enum Item<'a> {
     Positional(&'a str),
     /// An option, and its value.
     Valued(&'a str, &'a str),
-    Plain(&'a str),
 }
 
 // What the next word may be.
@@ -52,31 +51,31 @@ fn cut(word: &str) -> (&str, Option<&str>)
     }
 }
 
-// An option of this form, and this name and value in its word.
-fn by_form<'a>(form: Option<Form>, name: &'a str, value: Option<&'a str>) -> Step<'a>
-    ensures { step result ≡ option_step form name.now (option_map (λ text. text.now) value.entry) }
+// An option of this name, which the command has or has not, and its value in its word.
+fn take_option<'a>(has: bool, name: &'a str, value: Option<&'a str>) -> Step<'a>
+    ensures { step result ≡ option_step has name.now (option_map (λ text. text.now) value.entry) }
 {
-    match (form, value) {
-        (Some(Form::WithValue), None) => Step::Moves(Next::ValueOf(name)),
-        (Some(Form::WithValue), Some(value)) => {
+    if !has {
+        return Step::Breaks;
+    }
+    match value {
+        None => Step::Moves(Next::ValueOf(name)),
+        Some(value) => {
             if value.is_empty() {
                 Step::Breaks
             } else {
                 Step::Gives(Item::Valued(name, value), Next::AnyWord)
             }
         }
-        (Some(Form::Alone), None) => Step::Gives(Item::Plain(name), Next::AnyWord),
-        (Some(Form::Alone), Some(_)) => Step::Breaks,
-        (None, _) => Step::Breaks,
     }
 }
 
 // An option before `--`.
 fn read_option(verb: Verb, word: &str) -> Step<'_>
-    ensures { step result ≡ option_step (form_of verb (name_in word.now)) (name_in word.now) (value_in word.now) }
+    ensures { step result ≡ option_step (has_option verb (name_in word.now)) (name_in word.now) (value_in word.now) }
 {
     let (name, value) = cut(word);
-    by_form(verb.form(name), name, value)
+    take_option(verb.has(name), name, value)
 }
 
 // A word, by what it may be.
@@ -110,7 +109,7 @@ pub(crate) fn read_items<'a>(
     verb: Verb,
     words: &'a [String],
 ) -> Result<Vec<Item<'a>>, WordsFault>
-    ensures { Says (λ items. map item items.items) result (items_of verb (texts words.now)) }
+    ensures { Answers (λ items. map item items.items) result (items_of verb (texts words.now)) }
 {
     let mut items = Vec::new(alloc);
     let mut expected = Next::AnyWord;
@@ -137,7 +136,7 @@ pub(crate) fn positional_words<'a>(
     alloc: Global,
     items: &[Item<'a>],
 ) -> Result<Vec<&'a str>, WordsFault>
-    ensures { Says (λ words. map (λ word. word.now) words.items) result (Some (positionals (map item items.now))) }
+    ensures { Answers (λ words. map (λ word. word.now) words.items) result (Some (positionals (map item items.now))) }
 {
     let mut words = Vec::new(alloc);
     for given in items {
@@ -158,40 +157,31 @@ impl<'a> Item<'a> {
         match self {
             Item::Positional(_) => false,
             Item::Valued(other, _) => other == name,
-            Item::Plain(other) => other == name,
         }
-    }
-
-    // Whether both are one option.
-    fn is_option_of(self, other: Item) -> bool
-        ensures { result ≡ is_same_option (item self.entry) (item other.entry) }
-    {
-        match self {
-            Item::Positional(_) => false,
-            Item::Valued(name, _) => other.is_called(name),
-            Item::Plain(name) => other.is_called(name),
-        }
-    }
-
-    fn is_among(self, items: &[Item]) -> bool
-        ensures { result ≡ list_any (is_same_option (item self.entry)) (map item items.now) }
-    {
-        for other in items {
-            if self.is_option_of(*other) {
-                return true;
-            }
-        }
-        false
     }
 }
 
-/// Whether each option is given at most once.
+// Whether the option of a name is among the items.
+fn is_given(name: &str, items: &[Item]) -> bool
+    ensures { result ≡ list_any (is_named name.now) (map item items.now) }
+{
+    for given in items {
+        if given.is_called(name) {
+            return true;
+        }
+    }
+    false
+}
+
+/// Whether each option is given at most once. Only options are compared, and a command has few, so the work is linear.
 pub(crate) fn are_each_once(items: &[Item]) -> bool
     ensures { result ≡ is_each_once (map item items.now) }
 {
     for (index, given) in items.iter().enumerate() {
-        if given.is_among(&items[index + 1..]) {
-            return false;
+        if let Item::Valued(name, _) = *given {
+            if is_given(name, &items[index + 1..]) {
+                return false;
+            }
         }
     }
     true

@@ -1,6 +1,6 @@
 ghost use Rattle.std.specs.Prelude.{◌≤◌, IfOk};
 ghost use Rattle.tapa_words.specs.Words.{texts, command_of, most_limit};
-ghost use Rattle.tapa_words.specs.Meaning.{command, limit_in, Says};
+ghost use Rattle.tapa_words.specs.Meaning.{command, limit_in, Answers};
 
 use crate::command::{Command, WordsFault};
 use crate::item::{are_each_once, read_items};
@@ -10,7 +10,7 @@ use std::alloc::Global;
 
 /// Reads the words of a command, without the program's name.
 pub fn read_words<'a>(alloc: Global, words: &'a [String]) -> Result<Command<'a>, WordsFault>
-    ensures asked { Says command result (command_of (texts words.now)) }
+    ensures asked { Answers command result (command_of (texts words.now)) }
     ensures limit { IfOk result (λ asked. limit_in asked ≤ most_limit) }
 {
     let (verb, rest) = match words {

@@ -1,7 +1,7 @@
 ghost use Rattle.std.specs.Prelude.{◌≤◌, map, IfOk};
 ghost use Rattle.tapa_words.specs.Words.{command_by, most_limit};
 ghost use Rattle.tapa_words.specs.declared.verb.Verb.TheVariants.{Running};
-ghost use Rattle.tapa_words.specs.Meaning.{command, item, limit_in, Says};
+ghost use Rattle.tapa_words.specs.Meaning.{command, item, limit_in, Answers};
 
 use crate::command::{Command, WordsFault};
 use crate::item::{Item, positional_words, value};
@@ -14,7 +14,7 @@ const MOST_LIMIT: u64 = 1_000_000_000_000;
 
 /// `run SRC TOP [DATA] [--steps N]`, by its items.
 pub(crate) fn read_run<'a>(alloc: Global, items: &[Item<'a>]) -> Result<Command<'a>, WordsFault>
-    ensures asked { Says command result (command_by Running (map item items.now)) }
+    ensures asked { Answers command result (command_by Running (map item items.now)) }
     ensures limit { IfOk result (λ asked. limit_in asked ≤ most_limit) }
 {
     let words = positional_words(alloc, items)?;

@@ -1,17 +1,10 @@
 ghost use Rattle.std.specs.Prelude.{◌≡◌};
-ghost use Rattle.tapa_words.specs.Words.{verb_of, form_of};
+ghost use Rattle.tapa_words.specs.Words.{verb_of, has_option};
 
 // The commands.
 #[derive(Clone, Copy, Debug)]
 pub(crate) enum Verb {
     Running,
-}
-
-// Whether an option has a value.
-#[derive(Clone, Copy, Debug)]
-pub(crate) enum Form {
-    WithValue,
-    Alone,
 }
 
 impl Verb {
@@ -26,18 +19,12 @@ impl Verb {
         }
     }
 
-    /// The form of the command's option of this name.
-    pub(crate) fn form(self, name: &str) -> Option<Form>
-        ensures { result ≡ form_of self name.now }
+    /// Whether the command has an option of this name. Each option has a value.
+    pub(crate) fn has(self, name: &str) -> bool
+        ensures { result ≡ has_option self name.now }
     {
         match self {
-            Verb::Running => {
-                if name == "--steps" {
-                    Some(Form::WithValue)
-                } else {
-                    None
-                }
-            }
+            Verb::Running => name == "--steps",
         }
     }
 }
