@@ -9,7 +9,7 @@ tests/README.md says how cases are written.
 """
 import sys
 
-from runner import crates, documents, endings, inputs, sessions, sources, tools
+from runner import crates, documents, endings, examples, inputs, sessions, sources, tools
 from runner.trial import Trial
 
 
@@ -18,6 +18,7 @@ GROUPS = [
     ("data", inputs.try_all),
     ("runs", sessions.try_all),
     ("endings", endings.try_all),
+    ("examples", examples.try_all),
     ("documents", documents.try_all),
     ("tools", tools.try_all),
     ("crates", crates.try_all),
