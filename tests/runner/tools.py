@@ -1,6 +1,7 @@
 """The tools beside the compiler: what they print for messages and logs of which it is known."""
 import json
 import os
+import pty
 import re
 import shutil
 import subprocess
@@ -94,7 +95,45 @@ def try_editors(trial):
     trial.check_equal("Vim goes to the place", text, "r.cpp 2 3\n")
 
 
+def with_terminal(words, folder):
+    """A command whose standard error is a terminal: its status, its output, and what the terminal got."""
+    ours, theirs = pty.openpty()
+    ran = subprocess.Popen(words, cwd=folder, stdin=subprocess.DEVNULL, stdout=subprocess.PIPE, stderr=theirs)
+    os.close(theirs)
+    out, shown = ran.stdout.read(), b""
+    while True:
+        try:
+            piece = os.read(ours, 4096)
+        except OSError:
+            break
+        if not piece:
+            break
+        shown += piece
+    os.close(ours)
+    return ran.wait(), out.decode(), shown.decode().replace("\r\n", "\n")
+
+
+def try_script(trial):
+    """`./tapa` explains on a terminal alone, and keeps statuses, output and bare messages."""
+    folder = os.path.join(trial.folder.name, "repository")
+    os.makedirs(f"{folder}/crates/tapa_cli/out")
+    for name in ("tapa", "crates.txt", "tools/explain.py", "docs/REFUSALS.md", "examples/refused/conditional_read.cpp", "examples/bad_token.cpp"):
+        os.makedirs(os.path.dirname(f"{folder}/{name}"), exist_ok=True)
+        shutil.copy(os.path.join(ROOT, name), f"{folder}/{name}")
+    shutil.copyfile(trial.program, f"{folder}/crates/tapa_cli/out/tapa_cli")
+    os.chmod(f"{folder}/crates/tapa_cli/out/tapa_cli", 0o755)
+    words = ["./tapa", "run", "examples/refused/conditional_read.cpp", "Skip"]
+    trial.check_equal("./tapa on a terminal", with_terminal(words, folder), (1, "", EXPLAINED))
+    ran = subprocess.run(words, cwd=folder, stdin=subprocess.DEVNULL, capture_output=True, check=False)
+    bare = (1, b"", EXPLAINED.split("\n")[0].encode() + b"\n")
+    trial.check_equal("./tapa without a terminal", (ran.returncode, ran.stdout, ran.stderr), bare)
+    told = "tapa: Consumer$1 bad token on numbers\n      = docs/REFUSALS.md, Deadlock\n"
+    wanted = (8, read("examples/bad_token.out"), told)
+    trial.check_equal("./tapa with a report", with_terminal(["./tapa", "run", "examples/bad_token.cpp", "BadToken"], folder), wanted)
+
+
 def try_all(trial):
     try_explain(trial)
+    try_script(trial)
     try_gate_seconds(trial)
     try_editors(trial)
