@@ -1,7 +1,7 @@
 // Modules, with tables of their names.
 
 ghost use Rattle.std.specs.Prelude.{◌≡◌, ◌++◌, ◌∷◌, ◌<◌, [], map, IfOk, OnOk, length, get_or};
-ghost use Rattle.vlog_tree.specs.Table.{clk as clk_name, declared, port_declared, module_declared, ports_of, is_module as is_module_name, is_doubled_name, names_of, all_ports};
+ghost use Rattle.vlog_tree.specs.Table.{clk as clk_name, declared, port_declared, module_declared, ports_of, is_module_name, is_doubled_name, names_of, all_ports};
 
 use crate::scope::Scope;
 use std::alloc::{AllocError, Global};
