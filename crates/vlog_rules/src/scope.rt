@@ -3,6 +3,7 @@
 ghost use Rattle.std.specs.Prelude.{◌≡◌, ◌<◌, ◌++◌, ◌∷◌, [], ℕ, List, map, IfOk, OnOk, length, get_or};
 ghost use Rattle.vlog_rules.specs.NameTable.{place_in, places_from};
 ghost use Rattle.vlog_tree.specs.Table.{declared, items_declared, port_declared, net_kind_of, bits_of, cells_of, is_doubled_name};
+ghost use Rattle.vlog_tree.specs.Form.{IsModule};
 ghost use Rattle.vlog_tree.specs.Table.{module_declared, declaration_name};
 
 use crate::name_table::{NameTable, add_before, find_name};
@@ -176,7 +177,8 @@ impl Scope {
 
     /// All names of a module.
     pub fn of_module(alloc: Global, m: &Module) -> Result<Scope, AllocError>
-        ensures { IfOk result (λ scope. scope ≡ declared m.now) }
+        ensures value { IfOk result (λ scope. scope ≡ declared m.now) }
+        ensures form { OnOk result (IsModule m.now) }
     {
         let mut declarations = Vec::new(alloc);
         add_ports(alloc, &mut declarations, m.ports())?;

@@ -8,7 +8,7 @@ use crate::library::Library;
 use crate::names::first_unknown;
 use crate::scope::copy_text;
 use crate::widths::first_misfit;
-use std::alloc::Global;
+use std::alloc::{AllocError, Global};
 use std::marker::Model;
 use vlog_tree::{Module, VFault};
 
@@ -55,6 +55,15 @@ impl Sound {
     {
         let library = Library::of(alloc, modules)?;
         check(alloc, &library)?;
+        Ok(Sound { library })
+    }
+
+    /// Modules of which it is known that their names, widths and drivers are right.
+    pub fn of_known(alloc: Global, modules: Vec<Module>) -> Result<Sound, AllocError>
+        requires { IsSound modules.items }
+        ensures { IfOk result (λ s. s ≡ modules.items) }
+    {
+        let library = Library::of(alloc, modules)?;
         Ok(Sound { library })
     }
 
