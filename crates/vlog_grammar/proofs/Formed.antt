@@ -1,5 +1,5 @@
 -- What has words is formed as its definition asks: the tree of a text is a list of modules.
-use Rattle.std.proofs.Common.{◌≡◌, ℕ, ◌+◌, ◌≤◌, inl, inr, Bool, true, false, ◌&&◌, List, [], ◌∷◌, length, codes, refl, sym, ap, ◌∙◌, arith}
+use Rattle.std.proofs.Common.{◌≡◌, ℕ, ◌≤◌, inl, inr, Bool, true, false, ◌&&◌, List, [], ◌∷◌, length, codes, refl, arith}
 use Rattle.std.specs.Prelude.{nat_le}
 use Rattle.std.specs.List.{list_all, AllByRecursion}
 use Rattle.std.proofs.lemmas.Bool.Decides.{nat_tests}
@@ -13,11 +13,11 @@ use Rattle.vlog_tree.specs.declared.tree.Connection.{Connection}
 use Rattle.vlog_tree.specs.declared.tree.Item.{Item}
 use Rattle.vlog_tree.specs.declared.tree.Item.TheVariants.{Wire, Reg, Memory, Assign, Always, Instance}
 use Rattle.vlog_tree.specs.declared.tree.PortDecl.{PortDecl}
-use Rattle.vlog_tree.specs.Form.{ModuleTree, IsModule, is_atom, is_value, is_step, is_connection, is_item, is_port, is_module, nested}
+use Rattle.vlog_tree.specs.Form.{ModuleTree, IsModule, is_atom, is_value, is_step, is_connection, is_item, is_port, nested}
 use Rattle.vlog_tree.specs.Spelling.{Word}
 use Rattle.vlog_grammar.specs.Spans.{Part, ◌⨾◌, Takes, Each, Separated, SeparatedTwo}
 use Rattle.vlog_grammar.specs.Lexemes.{Bytes}
-use Rattle.vlog_grammar.specs.Grammar.{SpellsAtom, SpellsValue, SpellsRange, SpellsConnection, SpellsItem, SpellsPort, SpellsModule, SpellsDesign, HasTree}
+use Rattle.vlog_grammar.specs.Grammar.{SpellsAtom, SpellsValue, SpellsRange, SpellsConnection, SpellsItem, SpellsPort, SpellsModule, HasTree}
 use Rattle.vlog_grammar.specs.Flat.{SpellsStep}
 use Rattle.vlog_grammar.proofs.Flattened.{flat_block}
 

@@ -4,6 +4,8 @@ use Rattle.std.specs.Bool.{⊤}
 use Rattle.vlog_tree.specs.declared.tree.Connection.{Connection}
 use Rattle.vlog_tree.specs.declared.tree.Item.{Item}
 use Rattle.vlog_tree.specs.declared.tree.Item.TheVariants.{Wire, Reg, Memory, Assign, Always, Instance}
+use Rattle.vlog_tree.specs.declared.tree.Direction.{Direction}
+use Rattle.vlog_tree.specs.declared.tree.Direction.TheVariants.{Input, Output}
 use Rattle.vlog_tree.specs.declared.tree.PortDecl.{PortDecl}
 use Rattle.vlog_tree.specs.Form.{ModuleTree, is_input}
 use Rattle.vlog_tree.specs.Names.{IsName}
@@ -33,7 +35,12 @@ paren_no_comma : codes ")" ≡ codes "," → ⊥
 paren_no_comma e = apart (λ b. b == 41) (codes ")") (codes ",") refl refl e
 
 same_port : (p q : PortDecl) → is_input p.direction ≡ is_input q.direction → p.width ≡ q.width → p.name ≡ q.name → p ≡ q
-same_port p q a b c = λ i. record { input = a i; bits = b i; name = c i }
+same_port p q a b c = λ i. record { direction = same_way p.direction q.direction a i; width = b i; name = c i } where
+  same_way : (a b : Direction) → is_input a ≡ is_input b → a ≡ b
+  same_way Input Input e = refl
+  same_way Output Output e = refl
+  same_way Input Output e = cc
+  same_way Output Input e = cc
 
 one_direction : (a b : Bool) → (if a then codes "input" else codes "output") ≡ (if b then codes "input" else codes "output") → a ≡ b
 one_direction true true e = refl
