@@ -5,7 +5,8 @@ use Rattle.vlog_tree.specs.declared.tree.Step.{Step}
 use Rattle.vlog_tree.specs.declared.tree.Step.TheVariants.{Else, End}
 use Rattle.vlog_tree.specs.Form.{nested}
 use Rattle.vlog_tree.specs.Spelling.{Word}
-use Rattle.vlog_grammar.specs.Spans.{Part, Each}
+use Rattle.tapa_base.specs.Spans.{Each}
+use Rattle.vlog_grammar.specs.Spans.{Part}
 use Rattle.vlog_grammar.specs.Grammar.{Steps, no_step, if_only, if_else, assign, store, flat, SpellsSteps, SpellsBlock}
 use Rattle.vlog_grammar.specs.Flat.{SpellsStep, SpellsFlatBlock}
 use Rattle.vlog_grammar.proofs.Nests.{nests}

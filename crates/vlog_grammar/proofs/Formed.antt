@@ -1,5 +1,5 @@
 -- What has words is formed as its definition asks: the tree of a text is a list of modules.
-use Rattle.std.proofs.Common.{◌≡◌, ℕ, ◌+◌, ◌≤◌, inl, inr, Bool, true, false, ◌&&◌, List, [], ◌∷◌, length, codes, refl, sym, ap, ◌∙◌, arith}
+use Rattle.std.proofs.Common.{◌≡◌, ℕ, ◌≤◌, inl, inr, Bool, true, false, ◌&&◌, List, [], ◌∷◌, length, codes, refl, arith}
 use Rattle.std.specs.Prelude.{nat_le}
 use Rattle.std.specs.List.{list_all, AllByRecursion}
 use Rattle.std.proofs.lemmas.Bool.Decides.{nat_tests}
@@ -13,11 +13,12 @@ use Rattle.vlog_tree.specs.declared.tree.Connection.{Connection}
 use Rattle.vlog_tree.specs.declared.tree.Item.{Item}
 use Rattle.vlog_tree.specs.declared.tree.Item.TheVariants.{Wire, Reg, Memory, Assign, Always, Instance}
 use Rattle.vlog_tree.specs.declared.tree.PortDecl.{PortDecl}
-use Rattle.vlog_tree.specs.Form.{ModuleTree, IsModule, is_atom, is_value, is_step, is_connection, is_item, is_port, is_module, nested}
+use Rattle.vlog_tree.specs.Form.{ModuleTree, IsModule, is_atom, is_value, is_step, is_connection, is_item, is_port, nested}
 use Rattle.vlog_tree.specs.Spelling.{Word}
-use Rattle.vlog_grammar.specs.Spans.{Part, ◌⨾◌, Takes, Each, Separated, SeparatedTwo}
+use Rattle.tapa_base.specs.Spans.{◌⨾◌, Each, Separated}
+use Rattle.vlog_grammar.specs.Spans.{Part, Takes, SeparatedTwo}
 use Rattle.vlog_grammar.specs.Lexemes.{Bytes}
-use Rattle.vlog_grammar.specs.Grammar.{SpellsAtom, SpellsValue, SpellsRange, SpellsConnection, SpellsItem, SpellsPort, SpellsModule, SpellsDesign, HasTree}
+use Rattle.vlog_grammar.specs.Grammar.{SpellsAtom, SpellsValue, SpellsRange, SpellsConnection, SpellsItem, SpellsPort, SpellsModule, HasTree}
 use Rattle.vlog_grammar.specs.Flat.{SpellsStep}
 use Rattle.vlog_grammar.proofs.Flattened.{flat_block}
 
@@ -43,11 +44,11 @@ module _ {A : Type 0} (P : A → Part) (good : A → Bool) (formed : (x : A) (i 
   behind_formed w [] i j e = refl
   behind_formed w (x ∷ xs) i j (t, (u, e, p), m) = both (good x) (list_all good xs) (formed x u t p) (behind_formed w xs t j m)
 
-  separated_formed : (w : Word) (xs : List A) (i j : List Word) → Separated w P xs i j → (nat_le 1 (length xs) ≡ true) × (list_all good xs ≡ true)
+  separated_formed : (w : Word) (xs : List A) (i j : List Word) → Separated (Takes w) P xs i j → (nat_le 1 (length xs) ≡ true) × (list_all good xs ≡ true)
   separated_formed w [] i j h = absurd h
   separated_formed w (x ∷ xs) i j (t, p, m) = (of_le 1 (length (x ∷ xs)) (omega arith), both (good x) (list_all good xs) (formed x i t p) (behind_formed w xs t j m))
 
-  two_formed : (w : Word) (xs : List A) (i j : List Word) → SeparatedTwo w P xs i j → (nat_le 2 (length xs) ≡ true) × (list_all good xs ≡ true)
+  two_formed : (w : Word) (xs : List A) (i j : List Word) → SeparatedTwo (Takes w) P xs i j → (nat_le 2 (length xs) ≡ true) × (list_all good xs ≡ true)
   two_formed w [] i j h = absurd h
   two_formed w (x ∷ []) i j h = absurd h
   two_formed w (x ∷ y ∷ zs) i j h = (of_le 2 (length (x ∷ y ∷ zs)) (omega arith), (separated_formed w (x ∷ y ∷ zs) i j h).1)

@@ -8,3 +8,5 @@ pub mod OneAtom
 pub mod OneValue
 pub mod OneBlock
 pub mod OneTree
+pub mod Formed
+pub mod Written

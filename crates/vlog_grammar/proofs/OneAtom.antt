@@ -6,7 +6,8 @@ use Rattle.vlog_tree.specs.declared.tree.Atom.{Atom}
 use Rattle.vlog_tree.specs.declared.tree.Atom.TheVariants.{Net, Part as PartSelect, Literal}
 use Rattle.vlog_tree.specs.Names.{IsName, is_name, has_name_form, starts_name}
 use Rattle.vlog_tree.specs.Spelling.{Word}
-use Rattle.vlog_grammar.specs.Spans.{◌⨾◌, Takes}
+use Rattle.tapa_base.specs.Spans.{◌⨾◌}
+use Rattle.vlog_grammar.specs.Spans.{Takes}
 use Rattle.vlog_grammar.specs.Numerals.{base_of, Sized, sized_word, IsSized, IsNumber, IsLiteral}
 use Rattle.vlog_grammar.specs.Lexemes.{Bytes, begins, is_digit_of}
 use Rattle.vlog_grammar.specs.Grammar.{SpellsName, SpellsNumber, SpellsLastOf, SpellsRange, SpellsAtom}

@@ -4,11 +4,14 @@ use Rattle.std.specs.Bool.{⊤}
 use Rattle.vlog_tree.specs.declared.tree.Connection.{Connection}
 use Rattle.vlog_tree.specs.declared.tree.Item.{Item}
 use Rattle.vlog_tree.specs.declared.tree.Item.TheVariants.{Wire, Reg, Memory, Assign, Always, Instance}
+use Rattle.vlog_tree.specs.declared.tree.Direction.{Direction}
+use Rattle.vlog_tree.specs.declared.tree.Direction.TheVariants.{Input, Output}
 use Rattle.vlog_tree.specs.declared.tree.PortDecl.{PortDecl}
 use Rattle.vlog_tree.specs.Form.{ModuleTree, is_input}
 use Rattle.vlog_tree.specs.Names.{IsName}
 use Rattle.vlog_tree.specs.Spelling.{Word}
-use Rattle.vlog_grammar.specs.Spans.{◌⨾◌, Each, Separated}
+use Rattle.tapa_base.specs.Spans.{◌⨾◌, Each, Separated}
+use Rattle.vlog_grammar.specs.Spans.{Takes}
 use Rattle.vlog_grammar.specs.Lexemes.{Bytes}
 use Rattle.vlog_grammar.specs.Grammar.{SpellsName, SpellsLastOf, SpellsRange, SpellsValue, SpellsBlock, SpellsConnection, SpellsItem, SpellsPort, SpellsModule, SpellsDesign, HasTree}
 use Rattle.vlog_grammar.proofs.Cuts.{one_list}
@@ -33,7 +36,12 @@ paren_no_comma : codes ")" ≡ codes "," → ⊥
 paren_no_comma e = apart (λ b. b == 41) (codes ")") (codes ",") refl refl e
 
 same_port : (p q : PortDecl) → is_input p.direction ≡ is_input q.direction → p.width ≡ q.width → p.name ≡ q.name → p ≡ q
-same_port p q a b c = λ i. record { input = a i; bits = b i; name = c i }
+same_port p q a b c = λ i. record { direction = same_way p.direction q.direction a i; width = b i; name = c i } where
+  same_way : (a b : Direction) → is_input a ≡ is_input b → a ≡ b
+  same_way Input Input e = refl
+  same_way Output Output e = refl
+  same_way Input Output e = cc
+  same_way Output Input e = cc
 
 one_direction : (a b : Bool) → (if a then codes "input" else codes "output") ≡ (if b then codes "input" else codes "output") → a ≡ b
 one_direction true true e = refl
@@ -128,8 +136,8 @@ by_shape (Instance m x ls) (Instance n y ms) i j k (t, p, (u, q, (v, f, (w, r, (
     let l = one_name m n i t t1 p p1 in
     let o = one_name x y t u u1 q (moved_name y t t1 u1 l.1 q1) in
     let ev = same_rest (codes "(") (codes "(") u v v1 f (o.1 ∙ f1) in
-    let a = subst (Separated (codes ",") SpellsConnection ls v) g r in
-    let b = subst (λ (c : List Word). Separated (codes ",") SpellsConnection ms c (codes ")" ∷ z1)) (sym ev) (subst (Separated (codes ",") SpellsConnection ms v1) g1 r1) in
+    let a = subst (Separated (Takes (codes ",")) SpellsConnection ls v) g r in
+    let b = subst (λ (c : List Word). Separated (Takes (codes ",")) SpellsConnection ms c (codes ")" ∷ z1)) (sym ev) (subst (Separated (Takes (codes ",")) SpellsConnection ms v1) g1 r1) in
     let d = one_separated SpellsConnection (λ _. ⊤) one_connection (codes ")") (λ _. tt) (λ _. tt) paren_no_comma ls ms v z z1 a b in
     let em = l.0 in let ex = o.0 in let els = d.0 in (cc, same_rest (codes ";") (codes ";") z j k h (d.1 ∙ h1))
 by_shape x y i j k h g s = absurd (omega (arith, s))
@@ -165,8 +173,8 @@ one_module m n i j k (t, e, (u, p, (v, f, (w, q, (z, g, (l, h, (o, r, end)))))))
     let et = same_rest (codes "module") (codes "module") i t t1 e e1 in
     let a = one_name m.name n.name t u u1 p (moved_name n.name t t1 u1 et p1) in
     let ev = same_rest (codes "(") (codes "(") u v v1 f (a.1 ∙ f1) in
-    let ports = subst (Separated (codes ",") SpellsPort m.ports v) g q in
-    let others = subst (λ (c : List Word). Separated (codes ",") SpellsPort n.ports c (codes ")" ∷ z1)) (sym ev) (subst (Separated (codes ",") SpellsPort n.ports v1) g1 q1) in
+    let ports = subst (Separated (Takes (codes ",")) SpellsPort m.ports v) g q in
+    let others = subst (λ (c : List Word). Separated (Takes (codes ",")) SpellsPort n.ports c (codes ")" ∷ z1)) (sym ev) (subst (Separated (Takes (codes ",")) SpellsPort n.ports v1) g1 q1) in
     let b = one_separated SpellsPort (λ _. ⊤) one_port (codes ")") (λ _. tt) (λ _. tt) paren_no_comma m.ports n.ports v z z1 ports others in
     let el = same_rest (codes ";") (codes ";") z l l1 h (b.1 ∙ h1) in
     let items = subst (λ (c : List Word). Each SpellsItem n.items c (codes "endmodule" ∷ k)) (sym el) (subst (Each SpellsItem n.items l1) end1 r1) in

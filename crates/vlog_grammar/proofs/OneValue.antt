@@ -9,7 +9,8 @@ use Rattle.vlog_tree.specs.declared.tree.Value.{Value}
 use Rattle.vlog_tree.specs.declared.tree.Value.TheVariants.{Plain, Invert, Binary, Choose, Concat, Repeat, Cell}
 use Rattle.vlog_tree.specs.Names.{IsName, is_name, starts_name}
 use Rattle.vlog_tree.specs.Spelling.{Word}
-use Rattle.vlog_grammar.specs.Spans.{Part, ◌⨾◌, Takes, Each, Separated, SeparatedTwo}
+use Rattle.tapa_base.specs.Spans.{◌⨾◌, Each, Separated}
+use Rattle.vlog_grammar.specs.Spans.{Part, Takes, SeparatedTwo}
 use Rattle.vlog_grammar.specs.Lexemes.{begins, is_digit_of}
 use Rattle.vlog_grammar.specs.Grammar.{SpellsName, SpellsNumber, SpellsAtom, SpellsOperator, SpellsValue}
 use Rattle.vlog_grammar.proofs.OneAtom.{first, apart, names_no_sign, digit_begins_no_name, number_begins, literal_begins, same_first, same_rest, one_name, one_number, EndsAtom, one_atom}
@@ -36,7 +37,7 @@ module _ {A : Type 0} (P : A → Part) (Ends : List Word → Type 0) (agree : (x
       let s3 = one_more xs ys l j k m (subst (λ (z : List Word). Each Next ys z (close ∷ k)) (sym s2.1) m1) in
       let ex = s2.0 in let exs = s3.0 in (cc, s3.1)
 
-  pub one_separated : (xs ys : List A) (i j k : List Word) → Separated (codes ",") P xs i (close ∷ j) → Separated (codes ",") P ys i (close ∷ k) → (xs ≡ ys) × (j ≡ k)
+  pub one_separated : (xs ys : List A) (i j k : List Word) → Separated (Takes (codes ",")) P xs i (close ∷ j) → Separated (Takes (codes ",")) P ys i (close ∷ k) → (xs ≡ ys) × (j ≡ k)
   one_separated [] ys i j k h g = absurd h
   one_separated (x ∷ xs) [] i j k h g = absurd g
   one_separated (x ∷ xs) (y ∷ ys) i j k (l, p, m) (l1, p1, m1) =
@@ -44,7 +45,7 @@ module _ {A : Type 0} (P : A → Part) (Ends : List Word → Type 0) (agree : (x
       let s3 = one_more xs ys l j k m (subst (λ (z : List Word). Each Next ys z (close ∷ k)) (sym s2.1) m1) in
       let ex = s2.0 in let exs = s3.0 in (cc, s3.1)
 
-two_is : {A : Type 0} (P : A → Part) (xs : List A) (i j : List Word) → SeparatedTwo (codes ",") P xs i j → Separated (codes ",") P xs i j
+two_is : {A : Type 0} (P : A → Part) (xs : List A) (i j : List Word) → SeparatedTwo (Takes (codes ",")) P xs i j → Separated (Takes (codes ",")) P xs i j
 two_is P [] i j h = absurd h
 two_is P (x ∷ []) i j h = absurd h
 two_is P (x ∷ y ∷ zs) i j h = h
@@ -177,7 +178,7 @@ semicolon_ends j e = apart (λ b. b == 59) (codes ";") (codes "[") refl refl e
 sign_ends : (w : Word) (i j : List Word) → begins (λ b. b == 91) w ≡ false → i ≡ w ∷ j → EndsAtom i
 sign_ends w i j h e f = apart (λ b. b == 91) (codes "[") w refl h (sym f ∙ ap first e)
 
-concat_shape : (atoms : List Atom) (i j : List Word) → SeparatedTwo (codes ",") SpellsAtom atoms i j → shape_of (codes "{" ∷ i) ≡ 2
+concat_shape : (atoms : List Atom) (i j : List Word) → SeparatedTwo (Takes (codes ",")) SpellsAtom atoms i j → shape_of (codes "{" ∷ i) ≡ 2
 unfolding shape_of shape_by
 concat_shape [] i j h = absurd h
 concat_shape (a ∷ []) i j h = absurd h
@@ -248,8 +249,8 @@ by_shape (Repeat n a) (Repeat m b) i j k (t, e, (u, p, (v, f, (w, q, (x, c, d)))
     let en = l.0 in let ea = o.0 in (cc, ap (drop 1) ej)
 by_shape (Concat xs) (Concat ys) i j k (t, e, (u, p, f)) (t1, e1, (u1, p1, f1)) s =
     let et = same_rest (codes "{") (codes "{") i t t1 e e1 in
-    let h = subst (λ (z : List Word). Separated (codes ",") SpellsAtom xs t z) f (two_is SpellsAtom xs t u p) in
-    let g = subst (λ (z : List Word). Separated (codes ",") SpellsAtom ys z (codes "}" ∷ codes ";" ∷ k)) (sym et) (subst (λ (z : List Word). Separated (codes ",") SpellsAtom ys t1 z) f1 (two_is SpellsAtom ys t1 u1 p1)) in
+    let h = subst (λ (z : List Word). Separated (Takes (codes ",")) SpellsAtom xs t z) f (two_is SpellsAtom xs t u p) in
+    let g = subst (λ (z : List Word). Separated (Takes (codes ",")) SpellsAtom ys z (codes "}" ∷ codes ";" ∷ k)) (sym et) (subst (λ (z : List Word). Separated (Takes (codes ",")) SpellsAtom ys t1 z) f1 (two_is SpellsAtom ys t1 u1 p1)) in
     let n = one_separated SpellsAtom EndsAtom one_atom (codes "}") (λ r. sign_ends (codes ",") (codes "," ∷ r) r refl refl) (λ r. sign_ends (codes "}") (codes "}" ∷ r) r refl refl) brace_no_comma xs ys t (codes ";" ∷ j) (codes ";" ∷ k) h g in
     (ap Concat n.0, ap (drop 1) n.1)
 by_shape (Cell m x) (Cell n y) i j k (t, p, (u, f, (v, q, g))) (t1, p1, (u1, f1, (v1, q1, g1))) s =

@@ -19,7 +19,8 @@ use Rattle.vlog_tree.specs.declared.tree.PortDecl.{PortDecl}
 use Rattle.vlog_tree.specs.Names.{IsName, has_name_form, starts_name, goes_on}
 use Rattle.vlog_tree.specs.Form.{ModuleTree, nested, is_atom, is_value, is_step, is_connection, is_item, is_port, IsModule, is_input}
 use Rattle.vlog_tree.specs.Spelling.{Word, range_words, port_words, atom_words, op_word, more_words, with_commas, value_words, step_words, connection_words, item_words, module_words, blank_page, spelling}
-use Rattle.vlog_grammar.specs.Spans.{Part, ◌⨾◌, ◌∣◌, Takes, TakesSome, Each, Separated, SeparatedTwo}
+use Rattle.tapa_base.specs.Spans.{◌⨾◌, ◌∣◌, Is, Each, Separated}
+use Rattle.vlog_grammar.specs.Spans.{Part, Takes, SeparatedTwo}
 use Rattle.vlog_grammar.specs.Numerals.{IsNumber, IsLiteral}
 use Rattle.vlog_grammar.specs.Lexemes.{signs, is_sign, is_sign_or_mark}
 use Rattle.vlog_grammar.specs.Grammar.{SpellsName, SpellsNumber, SpellsLastOf, SpellsRange, SpellsAtom, SpellsOperator, SpellsValue, Steps, no_step, if_only, if_else, assign, store, flat, SpellsCondition, SpellsSteps, SpellsBlock, SpellsConnection, SpellsItem, SpellsPort, SpellsModule, SpellsDesign, HasTree}
@@ -50,7 +51,7 @@ second_list P (x ∷ xs) ys h = second_list P xs ys h.1
 takes : {w : Word} → StandsAlone w → Spelled (Takes w) (w ∷ [])
 takes h = record { alone = (h, tt); spells = λ j. refl }
 
-takes_some : (P : Word → Type 0) (w : Word) → StandsAlone w → P w → Spelled (TakesSome P) (w ∷ [])
+takes_some : (P : Word → Type 0) (w : Word) → StandsAlone w → P w → Spelled (Is P) (w ∷ [])
 takes_some P w h p = record { alone = (h, tt); spells = λ j. (w, p, refl) }
 
 infixr 9 ◌then◌
@@ -135,12 +136,12 @@ module _ {A : Type 0} (test : A → Bool) (numbers : A → List ℕ) (P : A → 
       let k = both (test x) (list_all test xs) h in
       (sign (codes ",") refl then each x k.0 (first_list _ (numbers x) (flat_map numbers xs) small)) then more xs k.1 (second_list _ (numbers x) (flat_map numbers xs) small)
 
-  separated : (xs : List A) → 1 ≤ length xs → list_all test xs ≡ true → Small (flat_map numbers xs) → Spelled (Separated (codes ",") P xs) (with_commas (map words xs))
+  separated : (xs : List A) → 1 ≤ length xs → list_all test xs ≡ true → Small (flat_map numbers xs) → Spelled (Separated (Takes (codes ",")) P xs) (with_commas (map words xs))
   separated [] some h small = absurd (omega arith)
   separated (x ∷ xs) some h small =
       let k = both (test x) (list_all test xs) h in each x k.0 (first_list _ (numbers x) (flat_map numbers xs) small) then more xs k.1 (second_list _ (numbers x) (flat_map numbers xs) small)
 
-  separated_two : (xs : List A) → 2 ≤ length xs → list_all test xs ≡ true → Small (flat_map numbers xs) → Spelled (SeparatedTwo (codes ",") P xs) (with_commas (map words xs))
+  separated_two : (xs : List A) → 2 ≤ length xs → list_all test xs ≡ true → Small (flat_map numbers xs) → Spelled (SeparatedTwo (Takes (codes ",")) P xs) (with_commas (map words xs))
   separated_two [] some h small = absurd (omega arith)
   separated_two (x ∷ []) some h small = absurd (omega arith)
   separated_two (x ∷ y ∷ zs) some h small = separated (x ∷ y ∷ zs) (omega arith) h small

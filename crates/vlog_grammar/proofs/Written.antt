@@ -1,5 +1,5 @@
 -- In a design all numbers are small enough to be written, by the rule on widths.
-use Rattle.std.proofs.Common.{◌≡◌, ℕ, zero, suc, ◌+◌, ◌-◌, ◌*◌, ◌^◌, ◌<◌, ◌≤◌, inl, inr, Bool, true, false, cond, eqb, ◌&&◌, List, [], ◌∷◌, ◌++◌, Option, Some, None, length, refl, sym, ap, subst, ◌∙◌, arith, map}
+use Rattle.std.proofs.Common.{◌≡◌, ℕ, zero, suc, ◌*◌, ◌^◌, ◌<◌, ◌≤◌, inl, inr, Bool, true, false, cond, eqb, ◌&&◌, List, [], ◌∷◌, ◌++◌, Option, Some, None, length, refl, sym, ap, subst, ◌∙◌, arith, map}
 use Rattle.std.specs.Prelude.{nat_le, nat_lt, slice_get, not}
 use Rattle.std.specs.List.{list_all, flat_map, sum, AllByRecursion}
 use Rattle.std.proofs.lemmas.Bool.Decides.{nat_tests}
@@ -215,8 +215,8 @@ module _ (ms : List ModuleTree) (widths : first_violation (v3_uses ms) ≡ None)
   number_small n h = elim (has_split (flat_map (λ (p : PortDecl). p.width ∷ []) m.ports) (flat_map item_numbers m.items) n h) [
     | inl l ↦ (let t = of_flat (λ (p : PortDecl). p.width ∷ []) m.ports n l in only_one t.0.width n (port_small t.0 t.1) t.2)
     | inr r ↦ (let t = of_flat item_numbers m.items n r in
-      item_small (declared m) ms t.0
-      (λ u k. in_module u (has_right (flat_map port_widths m.ports) (flat_map (item_widths ms (declared m)) m.items) u (has_flat (item_widths ms (declared m)) m.items t.0 u t.1 k))) n t.2)
+        item_small (declared m) ms t.0
+        (λ u k. in_module u (has_right (flat_map port_widths m.ports) (flat_map (item_widths ms (declared m)) m.items) u (has_flat (item_widths ms (declared m)) m.items t.0 u t.1 k))) n t.2)
   ]
 
   module_written : HasWrittenNumbers m

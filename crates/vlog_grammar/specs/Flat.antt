@@ -3,7 +3,8 @@ use Rattle.std.specs.Prelude.{◌≡◌, true, List, [], codes}
 use Rattle.vlog_tree.specs.declared.tree.Step.{Step}
 use Rattle.vlog_tree.specs.declared.tree.Step.TheVariants.{If, Else, End, NonblockingAssign, MemoryAssign}
 use Rattle.vlog_tree.specs.Form.{nested}
-use Rattle.vlog_grammar.specs.Spans.{Part, ◌⨾◌, Takes, Each}
+use Rattle.tapa_base.specs.Spans.{◌⨾◌, Each}
+use Rattle.vlog_grammar.specs.Spans.{Part, Takes}
 use Rattle.vlog_grammar.specs.Grammar.{SpellsName, SpellsAtom, SpellsCondition}
 
 -- a step without what stands in it: an else and an end close what is open

@@ -16,7 +16,8 @@ use Rattle.vlog_tree.specs.declared.tree.PortDecl.{PortDecl}
 use Rattle.vlog_tree.specs.Form.{ModuleTree, is_input}
 use Rattle.vlog_tree.specs.Names.{IsName}
 use Rattle.vlog_tree.specs.Spelling.{Word}
-use Rattle.vlog_grammar.specs.Spans.{Part, ◌⨾◌, ◌∣◌, Nothing, Takes, TakesSome, Each, EachOfSome, Separated, SeparatedTwo}
+use Rattle.tapa_base.specs.Spans.{◌⨾◌, ◌∣◌, Nothing, Is, Each, EachOfSome, Separated, Given}
+use Rattle.vlog_grammar.specs.Spans.{Part, Takes, SeparatedTwo}
 use Rattle.vlog_grammar.specs.Numerals.{IsNumber, IsLiteral}
 use Rattle.vlog_grammar.specs.Lexemes.{Bytes, HasWords}
 
@@ -28,7 +29,7 @@ SpellsName x i j = IsName x × Takes x i j
 
 -- a number, as the bounds of a range have (3.5.1)
 abbrev pub SpellsNumber : ℕ → Part
-SpellsNumber n = TakesSome (IsNumber n)
+SpellsNumber n = Is (IsNumber n)
 
 -- the last of n places, which are counted from 0: it has the number n - 1, and there is no last of none
 abbrev pub SpellsLastOf : ℕ → Part
@@ -36,7 +37,7 @@ SpellsLastOf n i j = (last : ℕ) × (n ≡ last + 1) × SpellsNumber last i j
 
 -- the range of a vector (4.3), which is left out or not at one bit
 abbrev pub SpellsRange : ℕ → Part
-SpellsRange bits = Nothing (bits ≡ 1) ∣ Takes (codes "[") ⨾ SpellsLastOf bits ⨾ Takes (codes ":") ⨾ Takes (codes "0") ⨾ Takes (codes "]")
+SpellsRange bits = Given (bits ≡ 1) Nothing ∣ Takes (codes "[") ⨾ SpellsLastOf bits ⨾ Takes (codes ":") ⨾ Takes (codes "0") ⨾ Takes (codes "]")
 
 -- ---- atoms and values (clause 5)
 
@@ -44,7 +45,7 @@ SpellsRange bits = Nothing (bits ≡ 1) ∣ Takes (codes "[") ⨾ SpellsLastOf b
 abbrev pub SpellsAtom : Atom → Part
 SpellsAtom (Net x) = SpellsName x
 SpellsAtom (PartSelect x high low) = SpellsName x ⨾ Takes (codes "[") ⨾ SpellsNumber high ⨾ Takes (codes ":") ⨾ SpellsNumber low ⨾ Takes (codes "]")
-SpellsAtom (Literal width value) = TakesSome (IsLiteral width value)
+SpellsAtom (Literal width value) = Is (IsLiteral width value)
 
 -- the operators on two atoms (5.1)
 abbrev pub SpellsOperator : BinaryOp → Part
@@ -68,7 +69,7 @@ SpellsValue (Plain a) = SpellsAtom a
 SpellsValue (Invert a) = Takes (codes "~") ⨾ SpellsAtom a
 SpellsValue (Binary a op b) = SpellsAtom a ⨾ SpellsOperator op ⨾ SpellsAtom b
 SpellsValue (Choose c a b) = SpellsAtom c ⨾ Takes (codes "?") ⨾ SpellsAtom a ⨾ Takes (codes ":") ⨾ SpellsAtom b
-SpellsValue (Concat atoms) = Takes (codes "{") ⨾ SeparatedTwo (codes ",") SpellsAtom atoms ⨾ Takes (codes "}")
+SpellsValue (Concat atoms) = Takes (codes "{") ⨾ SeparatedTwo (Takes (codes ",")) SpellsAtom atoms ⨾ Takes (codes "}")
 SpellsValue (Repeat n a) = Takes (codes "{") ⨾ SpellsNumber n ⨾ Takes (codes "{") ⨾ SpellsAtom a ⨾ Takes (codes "}") ⨾ Takes (codes "}")
 SpellsValue (Cell memory x) = SpellsName memory ⨾ Takes (codes "[") ⨾ SpellsName x ⨾ Takes (codes "]")
 
@@ -122,7 +123,7 @@ SpellsItem (Memory bits x cells) =
     Takes (codes "reg") ⨾ SpellsRange bits ⨾ SpellsName x ⨾ Takes (codes "[") ⨾ Takes (codes "0") ⨾ Takes (codes ":") ⨾ SpellsLastOf cells ⨾ Takes (codes "]") ⨾ Takes (codes ";")
 SpellsItem (Assign x value) = Takes (codes "assign") ⨾ SpellsName x ⨾ Takes (codes "=") ⨾ SpellsValue value ⨾ Takes (codes ";")
 SpellsItem (Always steps) = Takes (codes "always") ⨾ Takes (codes "@") ⨾ Takes (codes "(") ⨾ Takes (codes "posedge") ⨾ Takes (codes "clk") ⨾ Takes (codes ")") ⨾ SpellsBlock steps
-SpellsItem (Instance m x connections) = SpellsName m ⨾ SpellsName x ⨾ Takes (codes "(") ⨾ Separated (codes ",") SpellsConnection connections ⨾ Takes (codes ")") ⨾ Takes (codes ";")
+SpellsItem (Instance m x connections) = SpellsName m ⨾ SpellsName x ⨾ Takes (codes "(") ⨾ Separated (Takes (codes ",")) SpellsConnection connections ⨾ Takes (codes ")") ⨾ Takes (codes ";")
 
 -- ---- modules (clause 12)
 
@@ -133,7 +134,7 @@ SpellsPort p = Takes (if is_input p.direction then codes "input" else codes "out
 -- a module (12.1)
 abbrev pub SpellsModule : ModuleTree → Part
 SpellsModule m =
-    Takes (codes "module") ⨾ SpellsName m.name ⨾ Takes (codes "(") ⨾ Separated (codes ",") SpellsPort m.ports ⨾ Takes (codes ")") ⨾ Takes (codes ";")
+    Takes (codes "module") ⨾ SpellsName m.name ⨾ Takes (codes "(") ⨾ Separated (Takes (codes ",")) SpellsPort m.ports ⨾ Takes (codes ")") ⨾ Takes (codes ";")
     ⨾ Each SpellsItem m.items ⨾ Takes (codes "endmodule")
 
 -- a design is one module or more, up to the last word

@@ -6,6 +6,7 @@ ghost use Rattle.vlog_tree.specs.declared.tree.Step.{Step as StepTree};
 ghost use Rattle.vlog_tree.specs.declared.tree.Item.TheVariants.{Wire};
 ghost use Rattle.vlog_tree.specs.Names.{IsName};
 ghost use Rattle.vlog_tree.specs.Form.{ModuleTree, IsModule};
+ghost use Rattle.vlog_tree.specs.Refused.{IsDesign};
 ghost use Rattle.vlog_tree.specs.Spelling.{Word, spelling};
 ghost use Rattle.vlog_grammar.specs.Numerals.{IsLiteral};
 ghost use Rattle.vlog_grammar.specs.Lexemes.{IsGap, HasWords};
@@ -13,9 +14,19 @@ ghost use Rattle.vlog_grammar.specs.Grammar.{SpellsBlock, SpellsItem, HasTree};
 ghost use Rattle.vlog_grammar.specs.Flat.{SpellsFlatBlock};
 ghost use Rattle.vlog_grammar.specs.Numbers.{HasWrittenNumbers};
 
-/// The spelling of a design has its tree.
+/// The spelling of modules has their tree, where each number of theirs is one that is written.
 pub fn law_spelling_has_tree()
     ensures { (ms : List ModuleTree) → AllByRecursion IsModule ms → AllByRecursion HasWrittenNumbers ms → 1 ≤ length ms → HasTree (spelling ms) ms }
+{}
+
+/// The spelling of a design has its tree.
+pub fn law_design_is_its_text()
+    ensures { (ms : List ModuleTree) (top : ℕ) → IsDesign ms top → AllByRecursion IsModule ms → HasTree (spelling ms) ms }
+{}
+
+/// The tree of a text has the form of modules.
+pub fn law_tree_has_form()
+    ensures { (text : List ℕ) (ms : List ModuleTree) → HasTree text ms → AllByRecursion IsModule ms }
 {}
 
 /// A text has at most one list of words.

@@ -1,6 +1,6 @@
 -- What is counted once is alone.
 use Rattle.std.proofs.Common.{◌≡◌, ℕ, ◌+◌, ◌<◌, ◌≤◌, Bool, true, false, cond, ◌||◌, List, [], ◌∷◌, Some, None, inl, inr, refl, sym, ap, subst, ◌∙◌, arith, map}
-use Rattle.std.specs.Prelude.{◌⊎◌, bytes_eq, count_by, nat_le, not}
+use Rattle.std.specs.Prelude.{◌⊎◌, bytes_eq, count_by, nat_le, not, is_some}
 use Rattle.std.specs.List.{flat_map}
 use Rattle.std.specs.Cmp.Lexicographic.{bytes_decides}
 use Rattle.std.proofs.lemmas.List.Sums.{sum_by-append, sum_by-cons}
@@ -12,7 +12,7 @@ use Rattle.vlog_tree.specs.declared.table.Declaration.{Declaration}
 use Rattle.vlog_tree.specs.Form.{ModuleTree}
 use Rattle.vlog_tree.specs.Grounded.{Has}
 use Rattle.vlog_tree.specs.Cycle.{child_of}
-use Rattle.vlog_tree.specs.Table.{find_name, Name, is_clk, declared, port_declared, items_declared, ports_of, is_module_name, is_doubled_name, first_violation, module_named, one_if}
+use Rattle.vlog_tree.specs.Table.{find_name, Name, is_clk, declared, port_declared, items_declared, ports_of, ports_in, is_module_name, is_doubled_name, first_violation, module_named, one_if}
 use Rattle.vlog_tree.specs.V2.{v2_uses, item_uses, instance_uses, inner_use, all_connected}
 use Rattle.vlog_tree.specs.Loops.{item_instances}
 use Rattle.vlog_tree.proofs.Lists.{of_flat, of_map, has_left, has_right, has_split}
@@ -238,7 +238,7 @@ instance_item items kn i h = let t = of_flat item_instances items (kn, i) h in i
   instance_of (Assign y e) has k = absurd k
   instance_of (Always b) has k = absurd k
 
-named_here : (ms : List ModuleTree) (m : ModuleTree) (x : Name) (b : Bool) → ((is_module_name ms x ≡ true) → (k : ModuleTree) × (module_named ms x ≡ Some k)) → (b || is_module_name ms x) ≡ true → (k : ModuleTree) × (cond b (Some m) (module_named ms x) ≡ Some k)
+named_here : (ms : List ModuleTree) (m : ModuleTree) (x : Name) (b : Bool) → (is_some (module_named ms x) ≡ true → (k : ModuleTree) × (module_named ms x ≡ Some k)) → is_some (cond b (Some m) (module_named ms x)) ≡ true → (k : ModuleTree) × (cond b (Some m) (module_named ms x) ≡ Some k)
 named_here ms m x true f h = (m, refl)
 named_here ms m x false f h = f h
 
@@ -251,11 +251,10 @@ pub record IsNamed (ms : List ModuleTree) (x : Name) (k : ModuleTree) : Type 0 w
   pub has : Has ms k
   pub ports : ports_of ms x ≡ k.ports
 
-is_named_here : (ms : List ModuleTree) (m : ModuleTree) (x : Name) (k : ModuleTree) (b : Bool) → bytes_eq m.name x ≡ b → (module_named ms x ≡ Some k → IsNamed ms x k) → cond b (Some m) (module_named ms x) ≡ Some k
-    → (k.name ≡ x) × Has {N = ModuleTree} (m ∷ ms) k × (cond b m.ports (ports_of ms x) ≡ k.ports)
-is_named_here ms m x k true e f h = let same : m ≡ k = cc h in (ap (λ (t : ModuleTree). t.name) (sym same) ∙ (bytes_decides m.name x).0 e, inl same, ap (λ (t : ModuleTree). t.ports) same)
-is_named_here ms m x k false e f h = let r = f h in (r.name, inr r.has, r.ports)
+is_named_here : (ms : List ModuleTree) (m : ModuleTree) (x : Name) (k : ModuleTree) (b : Bool) → bytes_eq m.name x ≡ b → (module_named ms x ≡ Some k → IsNamed ms x k) → cond b (Some m) (module_named ms x) ≡ Some k → (k.name ≡ x) × Has {N = ModuleTree} (m ∷ ms) k
+is_named_here ms m x k true e f h = let same : m ≡ k = cc h in (ap (λ (t : ModuleTree). t.name) (sym same) ∙ (bytes_decides m.name x).0 e, inl same)
+is_named_here ms m x k false e f h = let r = f h in (r.name, inr r.has)
 
 pub module_is : (ms : List ModuleTree) (x : Name) (k : ModuleTree) → module_named ms x ≡ Some k → IsNamed ms x k
 module_is [] x k h = cc
-module_is (m ∷ ms) x k h = let r = is_named_here ms m x k (bytes_eq m.name x) refl (module_is ms x k) h in record { name = r.0; has = r.1; ports = r.2 }
+module_is (m ∷ ms) x k h = let r = is_named_here ms m x k (bytes_eq m.name x) refl (module_is ms x k) h in record { name = r.0; has = r.1; ports = ap ports_in h }

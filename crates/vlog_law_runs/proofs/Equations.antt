@@ -29,7 +29,7 @@ first_number v (n ∷ ns) = v n
 -- held has what registers and memories hold, and give says what an input of the top has where a memory is asked for a cell
 module _ (ms : List ModuleTree) (root : ModuleTree) (held : Path → Cycle) (give : Name → ℕ → ℕ) where
   abbrev pub input_value : (FlatNet → ℕ) → FlatNet → ℕ
-  input_value v ([], x) = give x (first_number v (answers ([], x)))
+  input_value v ([], x) = give x (first_number v (answers root ([], x)))
   input_value v (i ∷ path, x) = first_number v (outside ms root (i ∷ path, x))
 
   abbrev pub undriven_value : NetKind → (FlatNet → ℕ) → FlatNet → ℕ
@@ -60,14 +60,14 @@ module _ (ms : List ModuleTree) (root : ModuleTree) (held : Path → Cycle) (giv
   pub record Agrees (m : ModuleTree) (path : Path) (x : Name) (v w : FlatNet → ℕ) : Type 0 where
     pub lines : (b : FlatNet) → Has (flat_map (line_parts ms path x) m.items) b → v b ≡ w b
     pub around : net_kind_of (declared m) x ≡ Input → (b : FlatNet) → Has (outside ms root (path, x)) b → v b ≡ w b
-    pub asked : net_kind_of (declared m) x ≡ Input → (b : FlatNet) → Has (answers (path, x)) b → v b ≡ w b
+    pub asked : net_kind_of (declared m) x ≡ Input → (b : FlatNet) → Has (answers root (path, x)) b → v b ≡ w b
 
   first_same : (v w : FlatNet → ℕ) (ns : List FlatNet) → ((b : FlatNet) → Has ns b → v b ≡ w b) → first_number v ns ≡ first_number w ns
   first_same v w [] f = refl
   first_same v w (n ∷ ns) f = f n (inl refl)
 
-  input_same : (path : Path) (x : Name) (v w : FlatNet → ℕ) → ((b : FlatNet) → Has (outside ms root (path, x)) b → v b ≡ w b) → ((b : FlatNet) → Has (answers (path, x)) b → v b ≡ w b) → input_value v (path, x) ≡ input_value w (path, x)
-  input_same [] x v w f g = ap (λ n. give x n) (first_same v w (answers ([], x)) g)
+  input_same : (path : Path) (x : Name) (v w : FlatNet → ℕ) → ((b : FlatNet) → Has (outside ms root (path, x)) b → v b ≡ w b) → ((b : FlatNet) → Has (answers root (path, x)) b → v b ≡ w b) → input_value v (path, x) ≡ input_value w (path, x)
+  input_same [] x v w f g = ap (λ n. give x n) (first_same v w (answers root ([], x)) g)
   input_same (i ∷ path) x v w f g = first_same v w (outside ms root (i ∷ path, x)) f
 
   undriven_same : (s : NetKind) (n : FlatNet) (v w : FlatNet → ℕ) → (s ≡ Input → input_value v n ≡ input_value w n) → undriven_value s v n ≡ undriven_value s w n

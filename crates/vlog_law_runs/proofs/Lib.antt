@@ -21,3 +21,4 @@ pub mod Labelled
 pub mod Lookups
 pub mod Ports
 pub mod Surround
+pub mod Filled

@@ -10,8 +10,7 @@ use Rattle.vlog_tree.specs.Grounded.{Has}
 use Rattle.vlog_tree.specs.Table.{Name, declared, port_declared, items_declared, declaration_name, net_kind_of, net_kind_is_read, net_kind_is_driven, net_kind_is_input, ports_of, first_violation}
 use Rattle.vlog_tree.specs.V2.{v2_uses}
 use Rattle.vlog_tree.specs.V6.{module_children, item_children}
-use Rattle.vlog_tree.specs.Labels.{address_of}
-use Rattle.vlog_tree.specs.Loops.{port_of, connection_edge, line_edges, direct_edges, memory_edges, answer_edges, instances, item_instances, value_nets, Rests, directly, through, after, containment, own_containment, Reaches, one, more, TextPlace, own_places, text_places, IsLoopless}
+use Rattle.vlog_tree.specs.Loops.{port_of, connection_edge, line_edges, direct_edges, memory_edges, answer_edges, asked_port, instances, item_instances, value_nets, Rests, directly, through, after, containment, own_containment, Reaches, one, more, TextPlace, own_places, text_places, IsLoopless}
 use Rattle.vlog_tree.proofs.Lists.{has_flat, of_flat, has_map, of_map, has_left, has_right, has_split, chains}
 use Rattle.vlog_law_runs.proofs.Ending.{Ends, all_end}
 use Rattle.vlog_law_runs.proofs.Sound.{declared_by, assign_driven, connection_port, connection_driven, is_known_module}
@@ -64,11 +63,12 @@ module _ (ms : List ModuleTree) where
     line_start m in_ms (Memory w z n) has x y h = absurd h
     line_start m in_ms (Always b) has x y h = absurd h
 
-    memory_start : (m : ModuleTree) (b : Bool) (x y : Name) → Has (memory_edges b (declared m)) (x, y) → Has (wires m) x
+    memory_start : (m : ModuleTree) (b : Bool) (x y : Name) → Has (memory_edges b (map port_declared m.ports)) (x, y) → Has (wires m) x
     memory_start m true x y h =
-        let t = of_flat answer_edges (declared m) (x, y) h in
-        let q = of_map (λ y. (t.0.name, y)) (address_of t.0.name) (x, y) t.2 in
-        subst (λ (q : Name × Name). Has (wires m) q.0) q.2 (declared_wire m t.0.name (has_map declaration_name (declared m) t.0 t.1))
+        let ports = map port_declared m.ports in
+        let t = of_flat (answer_edges ports) ports (x, y) h in
+        let q = of_map (λ y. (t.0.name, y)) (asked_port ports t.0.name) (x, y) t.2 in
+        subst (λ (q : Name × Name). Has (wires m) q.0) q.2 (declared_wire m t.0.name (name_declared m t.0.name (has_map declaration_name ports t.0 t.1)))
     memory_start m false x y h = absurd h
 
     direct_start : (m : ModuleTree) → Has ms m → (x y : Name) → Has (direct_edges ms is_top m) (x, y) → Has (wires m) x

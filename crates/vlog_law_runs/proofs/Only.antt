@@ -15,14 +15,13 @@ use Rattle.vlog_tree.specs.Table.{Name, declared, port_declared, net_kind_of, ne
 use Rattle.vlog_tree.specs.V2.{v2_uses}
 use Rattle.vlog_tree.specs.V4.{v4_uses}
 use Rattle.vlog_tree.specs.V6.{v6_uses, is_top}
-use Rattle.vlog_tree.specs.Labels.{address_of}
-use Rattle.vlog_tree.specs.Loops.{value_nets, item_instances}
+use Rattle.vlog_tree.specs.Loops.{asked_port, value_nets, item_instances}
 use Rattle.vlog_tree.specs.Flattened.{FlatNet, parts, line_parts}
 use Rattle.vlog_tree.proofs.Lists.{has_flat, of_flat, of_map}
 use Rattle.vlog_law_runs.specs.OneRun.{SameHeld}
 use Rattle.vlog_law_runs.proofs.Sound.{assign_reads, connection_port, connection_net, connection_clock, output_is, is_known_module}
 use Rattle.vlog_law_runs.proofs.Alone.{module_there, module_is, IsNamed}
-use Rattle.vlog_law_runs.proofs.Settled.{outside, answers, joined, child_at, module_in}
+use Rattle.vlog_law_runs.proofs.Settled.{outside, answers, asked_address, joined, child_at, module_in}
 use Rattle.vlog_law_runs.proofs.Sizes.{all_from}
 use Rattle.vlog_law_runs.proofs.Parts.{part_line, part_outside, part_answer}
 use Rattle.vlog_law_runs.proofs.Equations.{module_same, input_value}
@@ -95,17 +94,17 @@ module _ (ms : List ModuleTree) (root : ModuleTree) (names : first_violation (v2
         no_clock = connection_clock ms names a.tree in_around j.kn i j.connections j.has j.connection j.connected input (ap is_clk j.port ∙ n);
       })
 
-  answer_declared : (path : Path) (m : ModuleTree) → module_at ms root path ≡ Some m → (x : Name) → net_kind_of (declared m) x ≡ Input → (b : FlatNet) → Has (answers (path, x)) b → IsNet ms root b
+  answer_declared : (path : Path) (m : ModuleTree) → module_at ms root path ≡ Some m → (x : Name) → net_kind_of (declared m) x ≡ Input → (b : FlatNet) → Has (answers root (path, x)) b → IsNet ms root b
   answer_declared [] m at x s b h =
       let same : root ≡ m = cc at in
-      let t = of_map (λ (y : Name). ([], y)) (address_of x) b h in
-      let r = asked_declared ms tops root in_root top_is x (subst (λ k. net_kind_of (declared k) x ≡ Input) (sym same) s) t.0 t.1 in
+      let t = of_map (λ (y : Name). ([], y)) (asked_port (map port_declared root.ports) x) b h in
+      let r = asked_declared ms tops root in_root top_is x (subst (λ k. net_kind_of (declared k) x ≡ Input) (sym same) s) t.0 (asked_address (map port_declared root.ports) x t.0 t.1) in
       subst (IsNet ms root) t.2 (record { tree = root; at = refl; read = r.0; no_clock = r.1 })
   answer_declared (i ∷ path) m at x s b h = absurd h
 
   -- two cycles with the same held numbers and the same inputs
   module _ (c d : Path → Cycle) (ac : Allowed ms root c) (ad : Allowed ms root d) (same_held : (path : Path) (m : ModuleTree) → module_at ms root path ≡ Some m → AllByRecursion (SameHeld (d path) (c path)) m.items)
-      (give : Name → ℕ → ℕ) (inputs_c : (x : Name) → net_kind_of (declared root) x ≡ Input → is_clk x ≡ false → (c []).net x ≡ give x (asked_at c x)) (inputs_d : (x : Name) → net_kind_of (declared root) x ≡ Input → is_clk x ≡ false → (d []).net x ≡ give x (asked_at d x)) where
+      (give : Name → ℕ → ℕ) (inputs_c : (x : Name) → net_kind_of (declared root) x ≡ Input → is_clk x ≡ false → (c []).net x ≡ give x (asked_at root c x)) (inputs_d : (x : Name) → net_kind_of (declared root) x ≡ Input → is_clk x ≡ false → (d []).net x ≡ give x (asked_at root d x)) where
     held_itself : (path : Path) (it : Item) → SameHeld (c path) (c path) it
     held_itself path (Reg w x) = refl
     held_itself path (Memory w x n) = λ a low. refl
@@ -114,7 +113,7 @@ module _ (ms : List ModuleTree) (root : ModuleTree) (names : first_violation (v2
     held_itself path (Always b) = tt
     held_itself path (Instance k i connections) = tt
 
-    input_of : (e : Path → Cycle) → Allowed ms root e → ((x : Name) → net_kind_of (declared root) x ≡ Input → is_clk x ≡ false → (e []).net x ≡ give x (asked_at e x))
+    input_of : (e : Path → Cycle) → Allowed ms root e → ((x : Name) → net_kind_of (declared root) x ≡ Input → is_clk x ≡ false → (e []).net x ≡ give x (asked_at root e x))
         → (path : Path) (m : ModuleTree) → module_at ms root path ≡ Some m → (x : Name) → is_clk x ≡ false → net_kind_of (declared m) x ≡ Input → (e path).net x ≡ input_value ms root c give (numbers e) (path, x)
     input_of e ae f [] m at x n s = let same : root ≡ m = cc at in f x (subst (λ k. net_kind_of (declared k) x ≡ Input) (sym same) s) n
     input_of e ae f (i ∷ path) m at x n s = inner_input ms root names drivers in_root e ae i path m at x s

@@ -20,7 +20,7 @@ use Rattle.vlog_law_runs.proofs.Drivers.{IsDrivenBy}
 pub part_line : (ms : List ModuleTree) (root : ModuleTree) (path : Path) (x : Name) (m : ModuleTree) → module_at ms root path ≡ Some m → (b : FlatNet) → Has (flat_map (line_parts ms path x) m.items) b → Has (parts ms root true (path, x)) b
 part_line ms root [] x m at b h =
     let same : root ≡ m = cc at in
-    has_left (flat_map (line_parts ms [] x) root.items) (memory_parts true x) b (subst (λ (k : ModuleTree). Has (flat_map (line_parts ms [] x) k.items) b) (sym same) h)
+    has_left (flat_map (line_parts ms [] x) root.items) (memory_parts true (map port_declared root.ports) x) b (subst (λ (k : ModuleTree). Has (flat_map (line_parts ms [] x) k.items) b) (sym same) h)
 part_line ms root (i ∷ path) x m at b h =
     has_left (flat_map (line_parts ms (i ∷ path) x) (lines_of (module_at ms root (i ∷ path)))) (outside ms root (i ∷ path, x)) b (subst (λ o. Has (flat_map (line_parts ms (i ∷ path) x) (lines_of o)) b) (sym at) h)
 
@@ -30,8 +30,8 @@ part_outside ms root [] x b h = absurd h
 part_outside ms root (i ∷ path) x b h = has_right (flat_map (line_parts ms (i ∷ path) x) (lines_of (module_at ms root (i ∷ path)))) (outside ms root (i ∷ path, x)) b h
 
 -- where an input of the top reads a memory
-pub part_answer : (ms : List ModuleTree) (root : ModuleTree) (path : Path) (x : Name) (b : FlatNet) → Has (answers (path, x)) b → Has (parts ms root true (path, x)) b
-part_answer ms root [] x b h = has_right (flat_map (line_parts ms [] x) root.items) (memory_parts true x) b h
+pub part_answer : (ms : List ModuleTree) (root : ModuleTree) (path : Path) (x : Name) (b : FlatNet) → Has (answers root (path, x)) b → Has (parts ms root true (path, x)) b
+part_answer ms root [] x b h = has_right (flat_map (line_parts ms [] x) root.items) (memory_parts true (map port_declared root.ports) x) b h
 part_answer ms root (i ∷ path) x b h = absurd h
 
 -- what may be taken or left by a test

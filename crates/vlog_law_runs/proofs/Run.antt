@@ -29,8 +29,8 @@ worlds W around nets zero = around.first
 worlds W around nets (suc n) = around.next (worlds W around nets n) (nets n [])
 
 -- the number of the net at which a memory is asked for a cell
-abbrev pub asked_at : (Path → Cycle) → Name → ℕ
-asked_at nets x = first_number (λ k. (nets k.0).net k.1) (answers ([], x))
+abbrev pub asked_at : ModuleTree → (Path → Cycle) → Name → ℕ
+asked_at root nets x = first_number (λ k. (nets k.0).net k.1) (answers root ([], x))
 
 pub record State (W : Type 0) : Type 0 where
   pub world : W
@@ -115,7 +115,7 @@ module _ (ms : List ModuleTree) (root : ModuleTree) (names : first_violation (v2
   pub begins : BeginsWith ms root contents run
   begins path m at = all_from (SameHeld (run 0 path) (contents path)) m.items (begins_line path m at)
 
-  pub inputs : (n : ℕ) (x : Name) → net_kind_of (declared root) x ≡ Input → (run n []).net x ≡ around.give (worlds W around run n) x (asked_at (run n) x)
+  pub inputs : (n : ℕ) (x : Name) → net_kind_of (declared root) x ≡ Input → (run n []).net x ≡ around.give (worlds W around run n) x (asked_at root (run n) x)
   inputs n x e =
       input_number ms root names drivers in_root (state n).held (around.give (state n).world) (number (state n)) (number_solves (state n)) [] root refl x e
-      ∙ ap (λ w. around.give w x (asked_at (run n) x)) (world_is n)
+      ∙ ap (λ w. around.give w x (asked_at root (run n) x)) (world_is n)

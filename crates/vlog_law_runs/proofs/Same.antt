@@ -24,7 +24,7 @@ use Rattle.vlog_law_runs.proofs.Only.{nets_agree}
 -- a run whose inputs come from what is around the top; the clock's number is left open
 pub record IsRunIn (ms : List ModuleTree) (root : ModuleTree) (W : Type 0) (around : World W) (nets : ℕ → Path → Cycle) : Type 0 where
   pub runs : Runs ms root nets
-  pub inputs : (n : ℕ) (x : Name) → net_kind_of (declared root) x ≡ Input → is_clk x ≡ false → (nets n []).net x ≡ around.give (worlds W around nets n) x (asked_at (nets n) x)
+  pub inputs : (n : ℕ) (x : Name) → net_kind_of (declared root) x ≡ Input → is_clk x ≡ false → (nets n []).net x ≡ around.give (worlds W around nets n) x (asked_at root (nets n) x)
 
 -- what the top's declared nets are decides what is around it in the next cycle
 abbrev pub IsDecided : ModuleTree → (W : Type 0) → World W → Type 0
@@ -46,7 +46,7 @@ module _ (ms : List ModuleTree) (root : ModuleTree) (names : first_violation (v2
     net_same : (path : Path) (m : ModuleTree) → module_at ms root path ≡ Some m → (x : Name) → net_kind_is_read (net_kind_of (declared m) x) ≡ true → is_clk x ≡ false → (a n path).net x ≡ (b n path).net x
     net_same path m at x r c =
         nets_agree ms root names drivers tops in_root top_is (a n) (b n) (allowed a ra.runs n) (allowed b rb.runs n) held (around.give (worlds W around a n)) (ra.inputs n)
-        (λ x s c. rb.inputs n x s c ∙ ap (λ w. around.give w x (asked_at (b n) x)) (sym world)) (path, x) (settled (path, x)) (record { tree = m; at = at; read = r; no_clock = c })
+        (λ x s c. rb.inputs n x s c ∙ ap (λ w. around.give w x (asked_at root (b n) x)) (sym world)) (path, x) (settled (path, x)) (record { tree = m; at = at; read = r; no_clock = c })
 
     world_next : worlds W around a (suc n) ≡ worlds W around b (suc n)
     world_next = decided (worlds W around a n) (a n []) (b n []) (net_same [] root refl) ∙ ap (λ w. around.next w (b n [])) world

@@ -1,12 +1,13 @@
 -- Each net of a design's flattened tree rests on others in finitely many steps.
 use Rattle.std.proofs.Common.{◌≡◌, ℕ, Bool, true, false, cond, ◌&&◌, List, [], ◌∷◌, Option, Some, None, inl, inr, refl, sym, ap, subst, ◌∙◌, map}
 use Rattle.std.specs.Prelude.{bytes_eq, ◌⊎◌, slice_get, if◌then◌else◌, not}
-use Rattle.std.specs.List.{flat_map}
+use Rattle.std.specs.List.{flat_map, filter}
 use Rattle.std.specs.Cmp.Lexicographic.{bytes_decides}
 use Rattle.vlog_tree.specs.declared.tree.Value.{Value}
 use Rattle.vlog_tree.specs.declared.tree.Connection.{Connection}
 use Rattle.vlog_tree.specs.declared.tree.Item.{Item}
 use Rattle.vlog_tree.specs.declared.tree.Item.TheVariants.{Wire, Reg, Memory, Assign, Always, Instance}
+use Rattle.vlog_tree.specs.declared.table.Declaration.{Declaration}
 use Rattle.vlog_tree.specs.declared.table.NetKind.TheVariants.{Input, Output}
 use Rattle.vlog_tree.specs.Form.{ModuleTree}
 use Rattle.vlog_tree.specs.Grounded.{Has, IsGrounded, grounded}
@@ -14,9 +15,9 @@ use Rattle.vlog_tree.specs.Cycle.{Path, module_at, child_of, and_then}
 use Rattle.vlog_tree.specs.Table.{Name, declared, port_declared, declaration_name, net_kind_of, net_kind_is_read, net_kind_is_input, ports_of, first_violation, module_named}
 use Rattle.vlog_tree.specs.V2.{v2_uses}
 use Rattle.std.specs.Option.{option_map_or}
-use Rattle.vlog_tree.specs.V6.{is_top, first_name}
+use Rattle.vlog_tree.specs.V6.{is_top, first_name, has_port}
 use Rattle.vlog_tree.specs.Labels.{address_of}
-use Rattle.vlog_tree.specs.Loops.{port_of, connection_edge, line_edges, memory_edges, answer_edges, instances, item_instances, value_nets, Rests, directly, through, after, containment, Reaches, one, IsLoopless}
+use Rattle.vlog_tree.specs.Loops.{port_of, connection_edge, line_edges, memory_edges, answer_edges, asked_port, instances, item_instances, value_nets, Rests, directly, through, after, containment, Reaches, one, IsLoopless}
 use Rattle.vlog_tree.specs.Flattened.{FlatNet, parts, line_parts, outer_parts, lines_of, memory_parts}
 use Rattle.vlog_tree.specs.Refused.{IsDesign}
 use Rattle.vlog_tree.proofs.Lists.{has_flat, of_flat, has_map, of_map, has_got, has_left, has_right, has_split}
@@ -31,15 +32,15 @@ abbrev pub outside : List ModuleTree → ModuleTree → FlatNet → List FlatNet
 outside ms root ([], x) = []
 outside ms root (i ∷ path, x) = flat_map (outer_parts ms path i x) (lines_of (module_at ms root path))
 
-abbrev pub answers : FlatNet → List FlatNet
-answers ([], x) = memory_parts true x
-answers (i ∷ path, x) = []
+abbrev pub answers : ModuleTree → FlatNet → List FlatNet
+answers root ([], x) = memory_parts true (map port_declared root.ports) x
+answers root (i ∷ path, x) = []
 
 pub parts_split : (ms : List ModuleTree) (root : ModuleTree) (path : Path) (x : Name) (m : ModuleTree) → module_at ms root path ≡ Some m → (b : FlatNet) → Has (parts ms root true (path, x)) b
-    → Has (flat_map (line_parts ms path x) m.items) b ⊎ Has (answers (path, x)) b ⊎ Has (outside ms root (path, x)) b
+    → Has (flat_map (line_parts ms path x) m.items) b ⊎ Has (answers root (path, x)) b ⊎ Has (outside ms root (path, x)) b
 parts_split ms root [] x m at b h =
     let same : root ≡ m = cc at in
-    elim (has_split (flat_map (line_parts ms [] x) root.items) (memory_parts true x) b h) [
+    elim (has_split (flat_map (line_parts ms [] x) root.items) (memory_parts true (map port_declared root.ports) x) b h) [
       | inl l ↦ inl (subst (λ (k : ModuleTree). Has (flat_map (line_parts ms [] x) k.items) b) same l)
       | inr r ↦ inr (inl r)
     ]
@@ -50,13 +51,39 @@ parts_split ms root (i ∷ path) x m at b h =
     ]
 
 -- a memory answers in the top alone, and asks there
-answer_net : (path : Path) (x : Name) (b : FlatNet) → Has (answers (path, x)) b → (a : Name) × (◌≡◌ {A = FlatNet} (path, a) b) × Has (address_of x) a × (path ≡ [])
-answer_net [] x b h = let t = of_map (λ (y : Name). ([], y)) (address_of x) b h in (t.0, t.2, t.1, refl)
-answer_net (i ∷ path) x b h = absurd h
+answer_net : (root : ModuleTree) (path : Path) (x : Name) (b : FlatNet) → Has (answers root (path, x)) b → (a : Name) × (◌≡◌ {A = FlatNet} (path, a) b) × Has (asked_port (map port_declared root.ports) x) a × (path ≡ [])
+answer_net root [] x b h = let t = of_map (λ (y : Name). ([], y)) (asked_port (map port_declared root.ports) x) b h in (t.0, t.2, t.1, refl)
+answer_net root (i ∷ path) x b h = absurd h
 
-no_answers : (path : Path) (x a : Name) → Has (address_of x) a → answers (path, a) ≡ []
-no_answers [] x a h = ap (λ (l : List Name). map (λ y. ([], y)) l) (address_asks_nothing x a h)
-no_answers (i ∷ path) x a h = refl
+filtered : (test : Name → Bool) (z : Name) (zs : List Name) (b : Bool) (a : Name) → Has (cond b (z ∷ filter test zs) (filter test zs)) a → (Has (filter test zs) a → Has zs a) → Has (z ∷ zs) a
+filtered test z zs true a (inl e) f = inl e
+filtered test z zs true a (inr h) f = inr (f h)
+filtered test z zs false a h f = inr (f h)
+
+of_filter : (test : Name → Bool) (zs : List Name) (a : Name) → Has (filter test zs) a → Has zs a
+of_filter test [] a h = h
+of_filter test (z ∷ zs) a h = filtered test z zs (test z) a h (of_filter test zs a)
+
+either_address : (b : Bool) (some all : List Name) (a : Name) → (Has some a → Has all a) → Has (cond b some []) a → (b ≡ true) × Has all a
+either_address true some all a f h = (refl, f h)
+either_address false some all a f h = absurd h
+
+asked_input : (ports : List Declaration) (x a : Name) → Has (asked_port ports x) a → (net_kind_is_input (net_kind_of ports x) ≡ true) × Has (address_of x) a
+asked_input ports x a h = either_address (net_kind_is_input (net_kind_of ports x)) (filter (has_port ports) (address_of x)) (address_of x) a (of_filter (has_port ports) (address_of x) a) h
+
+pub asked_address : (ports : List Declaration) (x a : Name) → Has (asked_port ports x) a → Has (address_of x) a
+asked_address ports x a h = (asked_input ports x a h).1
+
+nothing_either : (b : Bool) → cond {A = List Name} b [] [] ≡ []
+nothing_either true = refl
+nothing_either false = refl
+
+no_answers : (root : ModuleTree) (path : Path) (x a : Name) → Has (asked_port (map port_declared root.ports) x) a → answers root (path, a) ≡ []
+no_answers root [] x a h =
+    let ports = map port_declared root.ports in
+    let input = net_kind_is_input (net_kind_of ports a) in
+    ap (λ (l : List Name). map (λ (y : Name). ([], y)) (cond input (filter (has_port ports) l) [])) (address_asks_nothing x a (asked_address ports x a h)) ∙ ap (λ (l : List Name). map (λ (y : Name). ([], y)) l) (nothing_either input)
+no_answers root (i ∷ path) x a h = refl
 
 outer_connection : (path : Path) (l : Connection) (p : Bool) (b : FlatNet) → Has {N = FlatNet} (cond p ((path, l.net) ∷ []) []) b → (z : Name) × (◌≡◌ {A = FlatNet} (path, z) b)
 outer_connection path l true b (inl e) = (l.net, e)
@@ -135,7 +162,7 @@ module _ (ms : List ModuleTree) (root : ModuleTree) (is_top : Name → Bool) whe
 
   -- a net that the module declares, or that no memory answers
   abbrev IsKnown : ModuleTree → Path → Name → Type 0
-  IsKnown m path x = Has (map declaration_name (declared m)) x ⊎ (answers (path, x) ≡ [])
+  IsKnown m path x = Has (map declaration_name (declared m)) x ⊎ (answers root (path, x) ≡ [])
 
   abbrev ModuleSettles : ModuleTree → Path → Type 0
   ModuleSettles m path = (x : Name) → IsKnown m path x → OutsideSettles m path x → Settles (path, x)
@@ -145,7 +172,7 @@ module _ (ms : List ModuleTree) (root : ModuleTree) (is_top : Name → Bool) whe
 
   module _ (names : first_violation (v2_uses ms) ≡ None) (m : ModuleTree) (in_ms : Has ms m) (path : Path) (at : module_at ms root path ≡ Some m) (children : ChildrenSettle m path) where
     line_rests : (it : Item) (x y : Name) → Has m.items it → Has (line_edges ms it) (x, y) → Rests ms is_top m x y
-    line_rests it x y has h = directly (has_left (flat_map (line_edges ms) m.items) (memory_edges (is_top m.name) (declared m)) (x, y) (has_flat (line_edges ms) m.items it (x, y) has h))
+    line_rests it x y has h = directly (has_left (flat_map (line_edges ms) m.items) (memory_edges (is_top m.name) (map port_declared m.ports)) (x, y) (has_flat (line_edges ms) m.items it (x, y) has h))
 
     input_edge : (kn i : Name) (connections : List Connection) → Has m.items (Instance kn i connections) → (l : Connection) → Has connections l → net_kind_is_input (net_kind_of (map port_declared (ports_of ms kn)) l.port) ≡ true → Rests ms is_top m (port_of i l.port) l.net
     unfolding connection_edge
@@ -221,17 +248,23 @@ module _ (ms : List ModuleTree) (root : ModuleTree) (is_top : Name → Bool) whe
       line_settles (Always s) has b h = absurd h
 
     module _ (tops : path ≡ [] → is_top m.name ≡ true) where
-      memory_edge : (b : Bool) → b ≡ true → (x a : Name) → Has (map declaration_name (declared m)) x → Has (address_of x) a → Has (memory_edges b (declared m)) (x, a)
-      memory_edge true e x a h asks =
-          let t = of_map declaration_name (declared m) x h in
-          has_flat answer_edges (declared m) t.0 (x, a) t.1 (subst (λ z. Has {N = Name × Name} (map (λ y. (z, y)) (address_of z)) (x, a)) (sym t.2) (has_map (λ y. (x, y)) (address_of x) a asks))
-      memory_edge false e x a h asks = cc
+      abbrev own_ports : List Declaration
+      own_ports = map port_declared m.ports
 
-      answered : (x a : Name) → Has (map declaration_name (declared m)) x → Has (address_of x) a → path ≡ [] → Rests ms is_top m x a
-      answered x a h asks e = directly (has_right (flat_map (line_edges ms) m.items) (memory_edges (is_top m.name) (declared m)) (x, a) (memory_edge (is_top m.name) (tops e) x a h asks))
+      memory_edge : (b : Bool) → b ≡ true → (x a : Name) → Has (asked_port own_ports x) a → Has (memory_edges b own_ports) (x, a)
+      memory_edge true e x a asks =
+          let t = of_map declaration_name own_ports x (declared_by net_kind_is_input own_ports x refl (asked_input own_ports x a asks).0) in
+          has_flat (answer_edges own_ports) own_ports t.0 (x, a) t.1 (subst (λ z. Has {N = Name × Name} (map (λ y. (z, y)) (asked_port own_ports z)) (x, a)) (sym t.2) (has_map (λ y. (x, y)) (asked_port own_ports x) a asks))
+      memory_edge false e x a asks = cc
 
-      known_answers : (x : Name) → IsKnown m path x → (b : FlatNet) → Has (answers (path, x)) b → ((z : Name) → Rests ms is_top m x z → IsKnown m path z → Settles (path, z)) → Settles b
-      known_answers x (inl h) b g f = let t = answer_net path x b g in subst Settles t.1 (f t.0 (answered x t.0 h t.2 t.3) (inr (no_answers path x t.0 t.2)))
+      root_is : path ≡ [] → root ≡ m
+      root_is e = let top : Some root ≡ Some m = ap (λ p. module_at ms root p) (sym e) ∙ at in cc
+
+      answered : (x a : Name) → Has (asked_port (map port_declared root.ports) x) a → path ≡ [] → Rests ms is_top m x a
+      answered x a asks e = directly (has_right (flat_map (line_edges ms) m.items) (memory_edges (is_top m.name) (map port_declared m.ports)) (x, a) (memory_edge (is_top m.name) (tops e) x a (subst (λ (k : ModuleTree). Has (asked_port (map port_declared k.ports) x) a) (root_is e) asks)))
+
+      known_answers : (x : Name) → IsKnown m path x → (b : FlatNet) → Has (answers root (path, x)) b → ((z : Name) → Rests ms is_top m x z → IsKnown m path z → Settles (path, z)) → Settles b
+      known_answers x (inl h) b g f = let t = answer_net root path x b g in subst Settles t.1 (f t.0 (answered x t.0 t.2 t.3) (inr (no_answers root path x t.0 t.2)))
       known_answers x (inr none) b g f = absurd (subst (λ l. Has l b) none g)
 
       pub module_settles : (x : Name) → Ends (Rests ms is_top m) x → IsKnown m path x → OutsideSettles m path x → Settles (path, x)
@@ -296,7 +329,7 @@ module _ (ms : List ModuleTree) (root : ModuleTree) (names : first_violation (v2
             each_module kn (modules_end ms (is_top ms) names loopless kn) k h.name h.has (i ∷ []) (child_at ms root names root in_root [] refl kn i k inst named))
             x (nothing_outside x) (λ z r k o. root_module z k o) t.0 t.1 b t.2)
         | inr r ↦ (elim r [
-          | inl g ↦ (let t = answer_net [] x b g in subst (λ n. IsGrounded (parts ms root true) n) t.1 (root_module t.0 (inr (no_answers [] x t.0 t.2)) (nothing_outside t.0)))
+          | inl g ↦ (let t = answer_net root [] x b g in subst (λ n. IsGrounded (parts ms root true) n) t.1 (root_module t.0 (inr (no_answers root [] x t.0 t.2)) (nothing_outside t.0)))
           | inr o ↦ absurd o
         ])
       ])

@@ -9,7 +9,7 @@ use Rattle.vlog_tree.specs.declared.tree.PortDecl.{PortDecl}
 use Rattle.vlog_tree.specs.declared.table.Declaration.{Declaration}
 use Rattle.vlog_tree.specs.declared.table.NetKind.{NetKind}
 use Rattle.vlog_tree.specs.declared.table.NetKind.TheVariants.{Unknown, Input, Output, Register, MemoryArray, ChildInstance}
-use Rattle.vlog_tree.specs.Form.{ModuleTree}
+use Rattle.vlog_tree.specs.Form.{ModuleTree, is_input}
 use Rattle.vlog_tree.specs.Grounded.{Has}
 use Rattle.vlog_tree.specs.Cycle.{Cycle, Sizes, Holds, PortHolds}
 use Rattle.vlog_tree.specs.Table.{Name, declared, port_declared, items_declared, declaration_name, find_name, net_kind_of, bits_of, net_kind_is_memory, net_kind_is_register, first_violation}
@@ -122,7 +122,7 @@ module _ (m : ModuleTree) where
       let f = found_name (declared m) x net_kind_is_memory refl (ap net_kind_is_memory s) in
       let d = find_name (declared m) x in
       elim (has_split (map port_declared m.ports) (items_declared m.items) d f.0) [
-        | inl l ↦ (let t = of_map port_declared m.ports d l in absurd (port_is_no_memory t.0.input (ap (λ (d : Declaration). d.net_kind) t.2 ∙ s)))
+        | inl l ↦ (let t = of_map port_declared m.ports d l in absurd (port_is_no_memory (is_input t.0.direction) (ap (λ (d : Declaration). d.net_kind) t.2 ∙ s)))
         | inr r ↦ (let t = of_items m.items d r in let q = memory_line t.0 d t.2 s in (d.bits, q.0, subst (λ z. Has m.items (Memory d.bits z q.0)) f.1 (subst (λ z. Has m.items z) q.1 t.1)))
       ]
 
@@ -131,7 +131,7 @@ module _ (m : ModuleTree) where
       let f = found_name (declared m) x net_kind_is_register refl (ap net_kind_is_register s) in
       let d = find_name (declared m) x in
       elim (has_split (map port_declared m.ports) (items_declared m.items) d f.0) [
-        | inl l ↦ (let t = of_map port_declared m.ports d l in absurd (port_is_no_register t.0.input (ap (λ (d : Declaration). d.net_kind) t.2 ∙ s)))
+        | inl l ↦ (let t = of_map port_declared m.ports d l in absurd (port_is_no_register (is_input t.0.direction) (ap (λ (d : Declaration). d.net_kind) t.2 ∙ s)))
         | inr r ↦ (let t = of_items m.items d r in (d.bits, subst (λ z. Has m.items (Reg d.bits z)) f.1 (subst (λ z. Has m.items z) (register_line t.0 d t.2 s) t.1)))
       ]
 

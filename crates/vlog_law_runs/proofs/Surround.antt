@@ -1,7 +1,7 @@
 -- A design has one run from each power-up in each environment.
-use Rattle.std.proofs.Common.{◌≡◌, ℕ, zero, suc, ◌^◌, arith, ◌<◌, Bool, true, false, cond, ◌&&◌, List, [], ◌∷◌, Option, Some, None, length, inl, inr, refl, sym, ap, subst, ◌∙◌, map}
+use Rattle.std.proofs.Common.{◌≡◌, ℕ, zero, suc, arith, ◌<◌, Bool, true, false, cond, ◌&&◌, List, [], ◌∷◌, Option, Some, None, length, get_or, inl, inr, refl, sym, ap, subst, ◌∙◌, map}
 use Rattle.std.specs.Prelude.{◌⊎◌, ◌==◌, bytes_eq, if◌then◌else◌, slice_get, unwrap_or, count_by}
-use Rattle.std.specs.List.{AllByRecursion}
+use Rattle.std.specs.List.{filter}
 use Rattle.std.specs.Option.{option_map_or}
 use Rattle.std.specs.Cmp.Lexicographic.{bytes_decides}
 use Rattle.std.proofs.Math.Path.{fun_ext}
@@ -14,14 +14,14 @@ use Rattle.vlog_tree.specs.declared.table.NetKind.TheVariants.{Input, Output}
 use Rattle.vlog_tree.specs.Form.{ModuleTree, is_input}
 use Rattle.vlog_tree.specs.Grounded.{Has, IsGrounded}
 use Rattle.vlog_tree.specs.Cycle.{Cycle, Path}
-use Rattle.vlog_tree.specs.Table.{Name, bits_of, clk, is_clk, declared, port_declared, items_declared, net_kind_of, net_kind_is_read, first_violation, one_if}
+use Rattle.vlog_tree.specs.Table.{Name, bits_of, clk, is_clk, declared, port_declared, items_declared, net_kind_of, net_kind_is_read, net_kind_is_input, first_violation, one_if}
 use Rattle.vlog_tree.specs.Labels.{rst, scalar, m_ack, m_rdata, m_addr, m_wdata, m_we, scalar_of, ack_of, rdata_of, read_of}
 use Rattle.vlog_tree.specs.V2.{v2_uses}
 use Rattle.vlog_tree.specs.V6.{v6_uses, is_top, has_all_five, has_port}
-use Rattle.vlog_tree.specs.Environment.{Environment, FitsShape, shape_of, scalar_label, memory_label, Answers, ready_at, set_cell, cells_at, Stands}
+use Rattle.vlog_tree.specs.Environment.{Environment, shape_of, scalar_label, memory_label, Answers, ready_at, set_cell, cells_at, Stands}
 use Rattle.vlog_tree.specs.Flattened.{FlatNet, parts}
 use Rattle.vlog_tree.specs.Refused.{IsDesign}
-use Rattle.vlog_tree.proofs.Lists.{has_flat, of_flat, has_map, has_left}
+use Rattle.vlog_tree.proofs.Lists.{has_flat, of_flat, has_map, has_left, has_got}
 use Rattle.vlog_law_runs.specs.OneRun.{FitsPowerUp, IsRunFrom, IsOnly}
 use Rattle.vlog_law_runs.proofs.Alone.{same_name, declared_once, below_two}
 use Rattle.vlog_law_runs.proofs.Drivers.{count_map}
@@ -30,7 +30,7 @@ use Rattle.vlog_law_runs.proofs.Cycles.{port_stands}
 use Rattle.vlog_law_runs.proofs.TopPorts.{five_of, five_rdata, memory_clock, input_port}
 use Rattle.vlog_law_runs.proofs.Ports.{fits, named_port, input_net_kind, has_reset, scalar_input, ack_input, rdata_input, reset_input, input_has_label}
 use Rattle.vlog_law_runs.proofs.Labelled.{ack_is_no_scalar, rdata_is_no_scalar, rdata_is_no_ack, scalar_is_no_reset, ack_is_no_reset, rdata_is_no_reset, scalar_label as label_of_scalar, ack_label, rdata_label, ack_of_label, rdata_of_label}
-use Rattle.vlog_law_runs.proofs.Lookups.{lookup, AreDistinct, each_found, found_at, map_two, answers_at, answers_from, ArePortsDistinct, ports_distinct, labels_distinct}
+use Rattle.vlog_law_runs.proofs.Lookups.{place, lookup, AreDistinct, place_got, got_place, ArePortsDistinct, ports_distinct, labels_distinct}
 use Rattle.vlog_law_runs.proofs.Settled.{design_settles, top_tree, IsTopTree}
 use Rattle.vlog_law_runs.proofs.Run.{World, worlds, asked_at, run, runs, begins, inputs}
 use Rattle.vlog_law_runs.proofs.Same.{IsRunIn, IsDecided, same_from}
@@ -196,30 +196,37 @@ module _ (ms : List ModuleTree) (m : ModuleTree) (names : first_violation (v2_us
       ∙ ap (λ o. option_map_or (λ l. ready_at (lookup [] memories env.ready l) w.cycle) o (option_map_or (λ l. unwrap_or (slice_get (w.cells l) asked) 0) (rdata_of (m_rdata l)) 0)) (rdata_is_no_ack l)
       ∙ ap (λ o. option_map_or (λ l. unwrap_or (slice_get (w.cells l) asked) 0) o 0) (rdata_of_label l some)
 
-  asked_is : (nets : Path → Cycle) (l : Name) → 0 < length l → asked_at nets (m_rdata l) ≡ (nets []).net (m_addr l)
-  asked_is nets l some = ap (λ o. first_number (λ k. (nets k.0).net k.1) (map (λ (y : Name). ([], y)) (read_of o))) (rdata_of_label l some)
+  asked_is : (nets : Path → Cycle) (l : Name) → 0 < length l → net_kind_of (declared m) (m_rdata l) ≡ Input → has_all_five ports l ≡ true → asked_at m nets (m_rdata l) ≡ (nets []).net (m_addr l)
+  asked_is nets l some input five =
+      let there = port_stands ports (items_declared m.items) (m_rdata l) (five_rdata ms tops m in_ms l five) in
+      let in_port : net_kind_is_input (net_kind_of ports (m_rdata l)) ≡ true = ap (λ (d : Declaration). net_kind_is_input d.net_kind) (sym there) ∙ ap net_kind_is_input input in
+      ap (λ b. number_of nets (cond b (filter (has_port ports) (read_of (rdata_of (m_rdata l)))) [])) in_port
+      ∙ ap (λ o. number_of nets (filter (has_port ports) (read_of o))) (rdata_of_label l some)
+      ∙ ap (λ b. number_of nets (cond b (m_addr l ∷ []) [])) (five_of ms tops m in_ms l five).1 where
+        number_of : (Path → Cycle) → List Name → ℕ
+        number_of nets names = first_number (λ k. (nets k.0).net k.1) (map (λ (y : Name). ([], y)) names)
 
   module _ (nets : ℕ → Path → Cycle) where
     abbrev world : ℕ → Outside
     world n = worlds Outside around nets n
 
     -- a run whose inputs are given stands in the environment
-    module _ (env_fits : FitsShape env (shape_of m)) (given : (n : ℕ) (x : Name) → net_kind_of (declared m) x ≡ Input → (nets n []).net x ≡ give_input (world n) x (asked_at (nets n) x)) where
-      port_given : (n : ℕ) (p : PortDecl) → Has m.ports p → is_input p.direction ≡ true → (x : Name) → p.name ≡ x → (nets n []).net x ≡ give_input (world n) x (asked_at (nets n) x)
+    module _ (given : (n : ℕ) (x : Name) → net_kind_of (declared m) x ≡ Input → (nets n []).net x ≡ give_input (world n) x (asked_at m (nets n) x)) where
+      port_given : (n : ℕ) (p : PortDecl) → Has m.ports p → is_input p.direction ≡ true → (x : Name) → p.name ≡ x → (nets n []).net x ≡ give_input (world n) x (asked_at m (nets n) x)
       port_given n p h i x e = given n x (subst (λ z. net_kind_of (declared m) z ≡ Input) e (input_net_kind ms names tops m in_ms top p h i))
 
       reset_given : (n : ℕ) → (nets n []).net rst ≡ cond (n == 0) 1 0
       reset_given n =
           let q = named_port ms names tops m in_ms top rst (has_reset ms names tops m in_ms top) in
           let f = fits ms names tops m in_ms top q.0 q.1 in
-          port_given n q.0 q.1 (reset_input ports f.0 q.0 f.1 q.2) rst q.2 ∙ give_reset (world n) (asked_at (nets n) rst) ∙ ap (λ k. cond (k == 0) 1 0) (cycle_is nets n)
+          port_given n q.0 q.1 (reset_input ports f.0 q.0 f.1 q.2) rst q.2 ∙ give_reset (world n) (asked_at m (nets n) rst) ∙ ap (λ k. cond (k == 0) 1 0) (cycle_is nets n)
 
       scalar_given : (n : ℕ) (l : Port) → Has scalars l → (nets n []).net (scalar l.name) ≡ lookup 0 scalars env.scalars l.name
       scalar_given n l h =
           let q = scalar_port l h in
           let f = fits ms names tops m in_ms top q.0 q.1 in
           let r = label_of_scalar q.0.name l.name q.2 in
-          port_given n q.0 q.1 (scalar_input ports f.0 q.0 f.1 l.name q.2) (scalar l.name) r.0 ∙ give_scalar (world n) l.name (asked_at (nets n) (scalar l.name)) r.1
+          port_given n q.0 q.1 (scalar_input ports f.0 q.0 f.1 l.name q.2) (scalar l.name) r.0 ∙ give_scalar (world n) l.name (asked_at m (nets n) (scalar l.name)) r.1
 
       memory_given : (l : Port) → Has memories l → (c : List ℕ) (r : List Bool) → lookup [] memories env.memories l.name ≡ c → lookup [] memories env.ready l.name ≡ r → Answers (run_of nets) l.name c r
       memory_given l h c r ec er =
@@ -231,10 +238,10 @@ module _ (ms : List ModuleTree) (m : ModuleTree) (names : first_violation (v2_us
           let g = fits ms names tops m in_ms top d.0 d.1 in
           let j = rdata_input ports g.0 d.0 g.1 l.name (ap rdata_of d.2 ∙ rdata_of_label l.name a.1) in
           record {
-            ack = λ n. port_given n q.0 q.1 i.0 (m_ack l.name) a.0 ∙ give_ack (world n) l.name (asked_at (nets n) (m_ack l.name)) a.1 ∙ ap (λ b. ready_at b (world n).cycle) er ∙ ap (λ k. ready_at r k) (cycle_is nets n);
+            ack = λ n. port_given n q.0 q.1 i.0 (m_ack l.name) a.0 ∙ give_ack (world n) l.name (asked_at m (nets n) (m_ack l.name)) a.1 ∙ ap (λ b. ready_at b (world n).cycle) er ∙ ap (λ k. ready_at r k) (cycle_is nets n);
             rdata = λ n.
-                port_given n d.0 d.1 j.0 (m_rdata l.name) d.2 ∙ give_rdata (world n) l.name (asked_at (nets n) (m_rdata l.name)) a.1
-                ∙ ap (λ k. unwrap_or (slice_get ((world n).cells l.name) k) 0) (asked_is (nets n) l.name a.1)
+                port_given n d.0 d.1 j.0 (m_rdata l.name) d.2 ∙ give_rdata (world n) l.name (asked_at m (nets n) (m_rdata l.name)) a.1
+                ∙ ap (λ k. unwrap_or (slice_get ((world n).cells l.name) k) 0) (asked_is (nets n) l.name a.1 (subst (λ z. net_kind_of (declared m) z ≡ Input) d.2 (input_net_kind ms names tops m in_ms top d.0 d.1 j.0)) i.1)
                 ∙ ap (λ cells. unwrap_or (slice_get cells ((nets n []).net (m_addr l.name))) 0) (cells_are nets l.name i.1 n)
                 ∙ ap (λ first. unwrap_or (slice_get (cells_at (run_of nets) l.name first n) ((nets n []).net (m_addr l.name))) 0) ec;
           }
@@ -243,53 +250,62 @@ module _ (ms : List ModuleTree) (m : ModuleTree) (names : first_violation (v2_us
       stands = record {
         reset = reset_given 0;
         runs = λ n. reset_given (suc n) ∙ later_reset n;
-        scalars = λ n. map_two (λ (l : Port) v. lookup 0 scalars env.scalars l.name ≡ v) (λ (l : Port) v. (nets n []).net (scalar l.name) ≡ v) scalars env.scalars
-            (each_found 0 (λ (l : Port) v. v < 2 ^ l.bits) scalars env.scalars env_fits.scalars scalars_distinct) (λ l v h e. scalar_given n l h ∙ e);
-        memories = answers_from (run_of nets) (λ (l : Port) cells. AllByRecursion (λ n. n < 2 ^ l.bits) cells) memories env.memories env.ready env_fits.memories env_fits.ready memories_distinct memory_given;
+        scalars = λ n i l e. scalar_given n l (has_got scalars i l e) ∙ ap (λ j. get_or env.scalars j 0) (place_got scalars scalars_distinct i l e);
+        memories = λ i l e.
+            let there = place_got memories memories_distinct i l e in
+            memory_given l (has_got memories i l e) (get_or env.memories i []) (get_or env.ready i []) (ap (λ j. get_or env.memories j []) there) (ap (λ j. get_or env.ready j []) there);
       }
 
     -- a run that stands in the environment has the inputs that are given
     module _ (s : Stands m env (run_of nets)) where
+      scalar_at : (n : ℕ) (x : Name) (k : Port) → Has scalars k → k.name ≡ x → (nets n []).net (scalar x) ≡ lookup 0 scalars env.scalars x
+      scalar_at n x k h e = let g = got_place scalars x k h e in ap (λ z. (nets n []).net (scalar z)) (sym g.2) ∙ s.scalars n (place scalars x) g.0 g.1
+
+      answers_at : (x : Name) (k : Port) → Has memories k → k.name ≡ x → Answers (run_of nets) x (lookup [] memories env.memories x) (lookup [] memories env.ready x)
+      answers_at x k h e =
+          let g = got_place memories x k h e in
+          subst (λ z. Answers (run_of nets) z (lookup [] memories env.memories x) (lookup [] memories env.ready x)) g.2 (s.memories (place memories x) g.0 g.1)
+
       reset_is : (n : ℕ) → (nets n []).net rst ≡ cond (n == 0) 1 0
       reset_is zero = s.reset
       reset_is (suc n) = s.runs n ∙ sym (later_reset n)
 
       label_is : (n : ℕ) (p : PortDecl) → Has m.ports p → is_input p.direction ≡ true → is_clk p.name ≡ false → bytes_eq p.name rst ≡ false → (so ao ro : Option Name) → scalar_of p.name ≡ so → ack_of p.name ≡ ao → rdata_of p.name ≡ ro
-          → (nets n []).net p.name ≡ option_map_or (λ l. lookup 0 scalars env.scalars l) so (option_map_or (λ l. ready_at (lookup [] memories env.ready l) (world n).cycle) ao (option_map_or (λ l. unwrap_or (slice_get ((world n).cells l) (asked_at (nets n) p.name)) 0) ro 0))
+          → (nets n []).net p.name ≡ option_map_or (λ l. lookup 0 scalars env.scalars l) so (option_map_or (λ l. ready_at (lookup [] memories env.ready l) (world n).cycle) ao (option_map_or (λ l. unwrap_or (slice_get ((world n).cells l) (asked_at m (nets n) p.name)) 0) ro 0))
       label_is n p h i nc nr (Some l) ao ro es ea er =
           let t = scalar_there p h l es in
           let r = label_of_scalar p.name l es in
-          ap (λ z. (nets n []).net z) r.0 ∙ found_at 0 (λ x v. (nets n []).net (scalar x) ≡ v) scalars env.scalars (s.scalars n) l t.0 t.1 t.2
+          ap (λ z. (nets n []).net z) r.0 ∙ scalar_at n l t.0 t.1 t.2
       label_is n p h i nc nr None (Some l) ro es ea er =
           let t = memory_there p h l ea in
           let a = ack_label p.name l ea in
-          ap (λ z. (nets n []).net z) a.0 ∙ (answers_at (run_of nets) memories env.memories env.ready s.memories l t.0 t.1 t.2).ack n ∙ ap (λ k. ready_at (lookup [] memories env.ready l) k) (sym (cycle_is nets n))
+          ap (λ z. (nets n []).net z) a.0 ∙ (answers_at l t.0 t.1 t.2).ack n ∙ ap (λ k. ready_at (lookup [] memories env.ready l) k) (sym (cycle_is nets n))
       label_is n p h i nc nr None None (Some l) es ea er =
           let f = fits ms names tops m in_ms top p h in
           let j = rdata_input ports f.0 p f.1 l er in
           let a = rdata_label p.name l er in
           let q = named_port ms names tops m in_ms top (m_ack l) (five_of ms tops m in_ms l j.1).0 in
           let t = memory_there q.0 q.1 l (ap ack_of q.2 ∙ ack_of_label l a.1) in
-          ap (λ z. (nets n []).net z) a.0 ∙ (answers_at (run_of nets) memories env.memories env.ready s.memories l t.0 t.1 t.2).rdata n
+          ap (λ z. (nets n []).net z) a.0 ∙ (answers_at l t.0 t.1 t.2).rdata n
           ∙ ap (λ cells. unwrap_or (slice_get cells ((nets n []).net (m_addr l))) 0) (sym (cells_are nets l j.1 n))
-          ∙ ap (λ k. unwrap_or (slice_get ((world n).cells l) k) 0) (sym (ap (λ z. asked_at (nets n) z) a.0 ∙ asked_is (nets n) l a.1))
+          ∙ ap (λ k. unwrap_or (slice_get ((world n).cells l) k) 0) (sym (ap (λ z. asked_at m (nets n) z) a.0 ∙ asked_is (nets n) l a.1 (subst (λ z. net_kind_of (declared m) z ≡ Input) a.0 (input_net_kind ms names tops m in_ms top p h i)) j.1))
       label_is n p h i nc nr None None None es ea er = let f = fits ms names tops m in_ms top p h in absurd (input_has_label ports f.0 p f.1 i nc nr es ea er)
 
       by_reset : (n : ℕ) (p : PortDecl) → Has m.ports p → is_input p.direction ≡ true → is_clk p.name ≡ false → (b : Bool) → bytes_eq p.name rst ≡ b
-          → (nets n []).net p.name ≡ cond b (cond ((world n).cycle == 0) 1 0) (give_label (world n) p.name (asked_at (nets n) p.name))
+          → (nets n []).net p.name ≡ cond b (cond ((world n).cycle == 0) 1 0) (give_label (world n) p.name (asked_at m (nets n) p.name))
       by_reset n p h i nc true e = ap (λ z. (nets n []).net z) ((bytes_decides p.name rst).0 e) ∙ reset_is n ∙ ap (λ k. cond (k == 0) 1 0) (sym (cycle_is nets n))
       by_reset n p h i nc false e = label_is n p h i nc e (scalar_of p.name) (ack_of p.name) (rdata_of p.name) refl refl refl
 
-      pub inputs_stand : (n : ℕ) (x : Name) → net_kind_of (declared m) x ≡ Input → is_clk x ≡ false → (nets n []).net x ≡ give_input (world n) x (asked_at (nets n) x)
+      pub inputs_stand : (n : ℕ) (x : Name) → net_kind_of (declared m) x ≡ Input → is_clk x ≡ false → (nets n []).net x ≡ give_input (world n) x (asked_at m (nets n) x)
       inputs_stand n x e nc =
           let p = input_port m x e in
-          subst (λ z. (nets n []).net z ≡ give_input (world n) z (asked_at (nets n) z)) p.2
+          subst (λ z. (nets n []).net z ≡ give_input (world n) z (asked_at m (nets n) z)) p.2
           (by_reset n p.0 p.1 (of_input (is_input p.0.direction) (ap (λ (d : Declaration). d.net_kind) p.3 ∙ e)) (ap is_clk p.2 ∙ nc) (bytes_eq p.0.name rst) refl) where
             of_input : (b : Bool) → cond b Input Output ≡ Input → b ≡ true
             of_input true h = refl
             of_input false h = cc
 
-module _ (ms : List ModuleTree) (place : ℕ) (m : ModuleTree) (d : IsDesign ms place) (at : slice_get ms place ≡ Some m) (env : Environment) (contents : Path → Cycle) (env_fits : FitsShape env (shape_of m)) (fits_power_up : FitsPowerUp ms m contents) where
+module _ (ms : List ModuleTree) (place : ℕ) (m : ModuleTree) (d : IsDesign ms place) (at : slice_get ms place ≡ Some m) (env : Environment) (contents : Path → Cycle) (fits_power_up : FitsPowerUp ms m contents) where
   settled : (n : FlatNet) → IsGrounded (parts ms m true) n
   settled = design_settles ms place d m at
 
@@ -307,7 +323,7 @@ module _ (ms : List ModuleTree) (place : ℕ) (m : ModuleTree) (d : IsDesign ms 
   is_run = record {
     runs_in = record {
       runs = runs ms m d.sound.names d.sound.drivers tree.has settled Outside outside_world contents fits_power_up;
-      stands = stands ms m d.sound.names d.outside tree.has tree.is_top env the_run env_fits (inputs ms m d.sound.names d.sound.drivers tree.has settled Outside outside_world contents);
+      stands = stands ms m d.sound.names d.outside tree.has tree.is_top env the_run (inputs ms m d.sound.names d.sound.drivers tree.has settled Outside outside_world contents);
     };
     begins = begins ms m d.sound.names d.sound.drivers tree.has settled Outside outside_world contents;
   }

@@ -7,8 +7,9 @@ ghost use Rattle.vlog_tree.specs.Flattened.{FlatNet, parts};
 ghost use Rattle.vlog_tree.specs.Refused.{IsDesign};
 ghost use Rattle.vlog_tree.specs.Table.{Name};
 ghost use Rattle.vlog_tree.specs.Cycle.{Cycle, Path};
+ghost use Rattle.vlog_law_runs.specs.Filled.{FillFits, FilledIsFilled};
 ghost use Rattle.vlog_law_runs.specs.OneRun.{FitsPowerUp, IsRunOf, IsRunFrom, IsOnly};
-ghost use Rattle.vlog_tree.specs.Environment.{Environment, FitsShape, shape_of};
+ghost use Rattle.vlog_tree.specs.Environment.{Environment};
 
 /// In a design each net of the flattened tree rests on others in finitely many steps, where what a memory of the top
 /// gives rests on the address that it is asked for.
@@ -23,9 +24,14 @@ pub fn law_one_run_of_inputs()
         → IsDesign ms top → slice_get ms top ≡ Some m → FitsPowerUp ms m contents → IsOnly ms m (IsRunOf ms m inputs contents) }
 {}
 
-/// A design has exactly one run from each contents that registers and memories can have at power-up, in each environment
-/// that gives its top a value for each scalar, and for each memory its first cells and its ready bits.
+/// A design has exactly one run from each contents that registers and memories can have at power-up, in each environment.
 pub fn law_one_run_in_environment()
     ensures { (ms : List ModuleTree) (top : ℕ) (m : ModuleTree) (env : Environment) (contents : Path → Cycle)
-        → IsDesign ms top → slice_get ms top ≡ Some m → FitsShape env (shape_of m) → FitsPowerUp ms m contents → IsOnly ms m (IsRunFrom ms m env contents) }
+        → IsDesign ms top → slice_get ms top ≡ Some m → FitsPowerUp ms m contents → IsOnly ms m (IsRunFrom ms m env contents) }
+{}
+
+/// One number, cut to the width of each register and each cell, is contents that power-up may leave.
+pub fn law_fill()
+    ensures fits { FillFits }
+    ensures filled { FilledIsFilled }
 {}

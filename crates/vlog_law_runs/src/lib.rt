@@ -3,4 +3,6 @@
 
 mod laws;
 
-pub use laws::{law_design_is_grounded, law_one_run_in_environment, law_one_run_of_inputs};
+pub use laws::{
+    law_design_is_grounded, law_fill, law_one_run_in_environment, law_one_run_of_inputs,
+};

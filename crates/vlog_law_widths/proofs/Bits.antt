@@ -17,7 +17,7 @@ use Rattle.vlog_tree.specs.declared.table.Declaration.{Declaration}
 use Rattle.vlog_tree.specs.Grounded.{Has}
 use Rattle.vlog_tree.specs.Table.{one_if, Name, bits_of}
 use Rattle.vlog_tree.specs.Cycle.{Cycle, Sizes, atom_value, atom_width, op_value, joined, copies, read_cell, driven}
-use Rattle.vlog_tree.specs.V3.{is_width, atom_bits, atom_fits, has_bits, is_divisor, op_fits, value_fits}
+use Rattle.vlog_tree.specs.V3.{memory_fits, net_fits, is_width, atom_bits, atom_fits, has_bits, is_divisor, op_fits, value_fits}
 use Rattle.vlog_tree.specs.Loops.{atom_nets, value_nets}
 use Rattle.vlog_tree.proofs.Lists.{has_left, has_right}
 use Rattle.vlog_law_runs.proofs.Sound.{both_true}
@@ -112,7 +112,7 @@ module _ (ds : List Declaration) (cells : Name → ℕ) (c : Cycle) where
     op_below ShiftLeft h = cut_below (va * 2 ^ vb) w
     op_below ShiftRight h = let p = sized_below w a (both_true (has_bits ds w a) (atom_fits ds b) h).0 fa in let l : va / 2 ^ vb ≤ va = div-le_self va (2 ^ vb) in omega arith
     op_below Equals h = one_below (va == vb) w (test_width h)
-    op_below Differs h = one_below (cond (va == vb) false true) w (test_width h)
+    op_below Differs h = one_below (not (va == vb)) w (test_width h)
     op_below Less h = one_below (nat_lt va vb) w (test_width h)
 
     divisor_is : (d : Atom) → is_divisor d ≡ true → 0 < atom_value c d
@@ -171,7 +171,7 @@ module _ (ds : List Declaration) (cells : Name → ℕ) (c : Cycle) where
       let v : atom_value c a < 2 ^ atom_width sizes a = subst (λ k. atom_value c a < 2 ^ k) (sym (width_is a)) (atom_below a p.0 f) in
       subst (λ k. copies (atom_width sizes a) (atom_value c a) n < 2 ^ k) (ap (λ k. n * k) (width_is a) ∙ same_of (n * atom_bits ds a) w p.1) (copies_below (atom_width sizes a) (atom_value c a) n v)
   value_below w (Cell m x) h f g =
-      subst (λ k. read_cell sizes c m (c.net x) < 2 ^ k) (same_of (bits_of ds m) w h) (cell_below (nat_lt (c.net x) (cells m)) (c.cell m (c.net x)) (c.net x) (cells m) (bits_of ds m) refl (λ low. g (c.net x) low))
+      subst (λ k. read_cell sizes c m (c.net x) < 2 ^ k) (same_of (bits_of ds m) w (both_true (memory_fits ds m && net_fits ds x) (bits_of ds m == w) h).1) (cell_below (nat_lt (c.net x) (cells m)) (c.cell m (c.net x)) (c.net x) (cells m) (bits_of ds m) refl (λ low. g (c.net x) low))
 
   pub value_operates : (w : ℕ) (e : Value) → value_fits ds w e ≡ true → ((z : Name) → Has (value_nets e) z → IsBelow z) → Operates w c e
   value_operates w (Binary a op b) h f = op_takes w a b (λ z k. f z (has_left (atom_nets a) (atom_nets b) z k)) (λ z k. f z (has_right (atom_nets a) (atom_nets b) z k)) op h

@@ -1,5 +1,5 @@
 -- In each run of a design every number fits.
-use Rattle.std.proofs.Common.{◌≡◌, ℕ, zero, suc, ◌^◌, ◌<◌, true, List, [], Some, inl, refl, sym, ap, subst, ◌∙◌}
+use Rattle.std.proofs.Common.{◌≡◌, ℕ, zero, suc, ◌^◌, ◌<◌, true, List, [], get_or, Some, inl, refl, sym, ap, subst, ◌∙◌}
 use Rattle.std.specs.Prelude.{slice_get}
 use Rattle.vlog_tree.specs.declared.tree.Item.{Item}
 use Rattle.vlog_tree.specs.declared.tree.Item.TheVariants.{Wire, Reg, Memory, Assign, Always, Instance}
@@ -21,7 +21,7 @@ use Rattle.vlog_law_widths.proofs.Bits.{value_operates}
 use Rattle.vlog_law_widths.proofs.Ruled.{assign_width, assign_clock, net_width, step_fits}
 use Rattle.vlog_law_widths.proofs.Steps.{register_bits, items_fit}
 use Rattle.vlog_law_widths.proofs.Nets.{cycle_fits}
-use Rattle.vlog_law_widths.proofs.Given.{input_below, outside_next}
+use Rattle.vlog_law_widths.proofs.Given.{input_below, outside_next, mapped_got, listed}
 
 module _ (ms : List ModuleTree) (place : ℕ) (root : ModuleTree) (d : IsDesign ms place) (at_place : slice_get ms place ≡ Some root) (env : Environment) (env_fits : FitsShape env (shape_of root)) (nets : ℕ → Path → Cycle) (r : RunsIn ms root env nets) where
   tree : IsTopTree ms root
@@ -68,7 +68,7 @@ module _ (ms : List ModuleTree) (place : ℕ) (root : ModuleTree) (d : IsDesign 
       all_from (PowersUp (nets (suc n) path)) m.items (λ it has. held_next n fit path m at it has (all_at (Takes s m.items (nets n path) (nets (suc n) path)) m.items it ((r.runs.each path m at).registers n) has))
 
   each_cycle : (n : ℕ) → FitsPowerUp ms root (nets n) × OutsideFits root env run n
-  each_cycle zero = ((λ path m at. (r.runs.each path m at).power_up), env_fits.memories)
+  each_cycle zero = ((λ path m at. (r.runs.each path m at).power_up), λ i l got. listed (λ v. v < 2 ^ l.bits) (get_or env.memories i []) (env_fits.numbers.cells_fit i l.bits (mapped_got (shape_of root).memories i l got)))
   each_cycle (suc n) =
       let p = each_cycle n in
       let fit : AllFit n = nets_fit n p.0 p.1 in

@@ -1,29 +1,29 @@
 -- What an environment gives the top fits, and so do the cells that its memories are left with.
-use Rattle.std.proofs.Common.{◌≡◌, ℕ, zero, suc, ◌^◌, ◌<◌, Bool, true, false, cond, ◌&&◌, ◌||◌, List, [], ◌∷◌, Option, Some, None, length, inl, inr, refl, sym, ap, subst, ◌∙◌, map, arith}
+use Rattle.std.proofs.Common.{◌≡◌, ℕ, zero, suc, ◌^◌, ◌<◌, Bool, true, false, cond, ◌&&◌, ◌||◌, List, [], ◌∷◌, Option, Some, None, length, get_or, All, inl, inr, refl, sym, ap, subst, ◌∙◌, map, arith}
 use Rattle.std.specs.Prelude.{◌==◌, bytes_eq, nat_lt, slice_get, slice_set, unwrap_or, not}
 use Rattle.std.specs.List.{AllByRecursion}
 use Rattle.std.specs.Option.{option_map_or}
 use Rattle.std.specs.Cmp.Lexicographic.{bytes_decides}
 use Rattle.std.proofs.Math.Pow.{pow_pos}
+use Rattle.std.proofs.lemmas.List.Elements.{All-head, All-tail}
 use Rattle.tapa_base.specs.declared.shape.Port.{Port}
 use Rattle.vlog_tree.specs.declared.tree.PortDecl.{PortDecl}
 use Rattle.vlog_tree.specs.declared.table.Declaration.{Declaration}
 use Rattle.vlog_tree.specs.declared.table.NetKind.TheVariants.{Input, Output}
 use Rattle.vlog_tree.specs.Form.{ModuleTree, is_input}
-use Rattle.vlog_tree.specs.Grounded.{Has, AllTwo}
+use Rattle.vlog_tree.specs.Grounded.{Has}
 use Rattle.vlog_tree.specs.Table.{Name, clk, is_clk, declared, port_declared, items_declared, net_kind_of, bits_of, net_kind_is_read, first_violation}
-use Rattle.vlog_tree.specs.Labels.{rst, done, scalar, m_ack, m_rdata, m_addr, m_wdata, m_we, scalar_of, ack_of, rdata_of}
+use Rattle.vlog_tree.specs.Labels.{rst, done, m_ack, m_rdata, m_addr, m_wdata, m_we, scalar_of, ack_of, rdata_of}
 use Rattle.vlog_tree.specs.V2.{v2_uses}
 use Rattle.vlog_tree.specs.V6.{v6_uses, fixed_fits, ack_fits, has_all_five, is_in, is_out, is_top}
 use Rattle.vlog_tree.specs.Cycle.{Cycle}
-use Rattle.vlog_tree.specs.Environment.{Environment, FitsShape, shape_of, scalar_label, memory_label, Answers, AllAnswer, Stands, ready_at, set_cell, cells_at}
-use Rattle.vlog_tree.proofs.Lists.{has_flat, of_flat}
+use Rattle.vlog_tree.specs.Environment.{Environment, FitsShape, widths, shape_of, scalar_label, memory_label, Stands, ready_at, set_cell, cells_at}
+use Rattle.vlog_tree.proofs.Lists.{has_flat, of_flat, got_has, has_got}
 use Rattle.vlog_law_runs.proofs.Sound.{both_true}
 use Rattle.vlog_law_runs.proofs.Cycles.{port_stands}
 use Rattle.vlog_law_runs.proofs.TopPorts.{input_port, five_of}
 use Rattle.vlog_law_runs.proofs.Ports.{PortFits, fits, named_port, ack_input, rdata_input, input_has_label}
 use Rattle.vlog_law_runs.proofs.Labelled.{scalar_label as label_of_scalar, ack_label, rdata_label, ack_of_label}
-use Rattle.vlog_law_runs.proofs.Lookups.{map_two}
 use Rattle.vlog_law_widths.specs.Widths.{NumbersFit, CellsFit, OutsideFits}
 use Rattle.vlog_law_widths.proofs.Bits.{same_of}
 use Rattle.vlog_law_widths.proofs.Agreeing.{port_bits, data_agree}
@@ -52,18 +52,14 @@ ready_below bits (suc n) = one_of (unwrap_or (slice_get bits n) true) where
   one_of true = omega arith
   one_of false = omega arith
 
-two_at : (R S : Port → ℕ → Type 0) (ls : List Port) (vs : List ℕ) → AllTwo R ls vs → AllTwo S ls vs → (l : Port) → Has ls l → (v : ℕ) × R l v × S l v
-two_at R S [] vs f g l h = absurd h
-two_at R S (k ∷ ls) [] f g l h = absurd f
-two_at R S (k ∷ ls) (v ∷ vs) f g l (inl e) = subst (λ (z : Port). (v : ℕ) × R z v × S z v) e (v, f.0, g.0)
-two_at R S (k ∷ ls) (v ∷ vs) f g l (inr h) = two_at R S ls vs f.1 g.1 l h
+pub mapped_got : (ls : List Port) (i : ℕ) (l : Port) → slice_get ls i ≡ Some l → slice_get (widths ls) i ≡ Some l.bits
+mapped_got [] i l e = cc
+mapped_got (k ∷ ls) zero l e = let same : k ≡ l = cc in ap (λ (z : Port). Some z.bits) same
+mapped_got (k ∷ ls) (suc i) l e = mapped_got ls i l e
 
-answer_at : (run : ℕ → Cycle) (S : Port → List ℕ → Type 0) (ls : List Port) (cs : List (List ℕ)) (rs : List (List Bool)) → AllAnswer run ls cs rs → AllTwo S ls cs → (l : Port) → Has ls l → (c : List ℕ) × (r : List Bool) × Answers run l.name c r × S l c
-answer_at run S [] cs rs f g l h = absurd h
-answer_at run S (k ∷ ls) [] rs f g l h = absurd g
-answer_at run S (k ∷ ls) (c ∷ cs) [] f g l h = absurd f
-answer_at run S (k ∷ ls) (c ∷ cs) (r ∷ rs) f g l (inl e) = subst (λ (z : Port). (c : List ℕ) × (r : List Bool) × Answers run z.name c r × S z c) e (c, r, f.0, g.0)
-answer_at run S (k ∷ ls) (c ∷ cs) (r ∷ rs) f g l (inr h) = answer_at run S ls cs rs f.1 g.1 l h
+pub listed : (P : ℕ → Type 0) (xs : List ℕ) → All P xs → AllByRecursion P xs
+listed P [] a = tt
+listed P (x ∷ xs) a = (All-head P x xs a, listed P xs (All-tail P x xs a))
 
 module _ (ports : List Declaration) (before : List PortDecl) (p : PortDecl) (f : PortFits ports before p) where
   ack_bits : (l : Name) → ack_of p.name ≡ Some l → p.width ≡ 1
@@ -115,15 +111,17 @@ module _ (ms : List ModuleTree) (names : first_violation (v2_uses ms) ≡ None) 
     scalar_below l e =
         let k : Port = record { name = l; bits = p.width } in
         let there : Has (shape_of m).scalars k = has_flat (λ (p : PortDecl). scalar_label p (scalar_of p.name)) m.ports p k h (subst (λ o. Has (scalar_label p o) k) (sym e) (inl refl)) in
-        let t = two_at (λ (l : Port) v. (run n).net (scalar l.name) ≡ v) (λ (l : Port) v. v < 2 ^ l.bits) (shape_of m).scalars env.scalars (s.scalars n) env_fits.scalars k there in
-        subst (λ z. (run n).net z < 2 ^ p.width) (sym (label_of_scalar p.name l e).0) (subst (λ v. v < 2 ^ p.width) (sym t.1) t.2)
+        let g = got_has (shape_of m).scalars k there in
+        let low : get_or env.scalars g.0 0 < 2 ^ p.width = env_fits.numbers.scalars_fit g.0 p.width (mapped_got (shape_of m).scalars g.0 k g.2) in
+        subst (λ z. (run n).net z < 2 ^ p.width) (sym (label_of_scalar p.name l e).0) (subst (λ v. v < 2 ^ p.width) (sym (s.scalars n g.0 k g.2)) low)
 
     ack_below : (l : Name) → ack_of p.name ≡ Some l → (run n).net p.name < 2 ^ p.width
     ack_below l e =
         let f = fits ms names tops m in_ms top p h in
-        let t = answer_at run (λ (l : Port) cells. AllByRecursion (λ v. v < 2 ^ l.bits) cells) (shape_of m).memories env.memories env.ready s.memories env_fits.memories (memory l) (memory_there p h l e) in
-        let is : (run n).net p.name ≡ ready_at t.1 n = ap (λ z. (run n).net z) (ack_label p.name l e).0 ∙ t.2.ack n in
-        subst (λ v. v < 2 ^ p.width) (sym is) (subst (λ w. ready_at t.1 n < 2 ^ w) (sym (ack_bits ports f.0 p f.1 l e)) (ready_below t.1 n))
+        let g = got_has (shape_of m).memories (memory l) (memory_there p h l e) in
+        let ready = get_or env.ready g.0 [] in
+        let is : (run n).net p.name ≡ ready_at ready n = ap (λ z. (run n).net z) (ack_label p.name l e).0 ∙ (s.memories g.0 (memory l) g.2).ack n in
+        subst (λ v. v < 2 ^ p.width) (sym is) (subst (λ w. ready_at ready n < 2 ^ w) (sym (ack_bits ports f.0 p f.1 l e)) (ready_below ready n))
 
     rdata_below : OutsideFits m env run n → (l : Name) → rdata_of p.name ≡ Some l → (run n).net p.name < 2 ^ p.width
     rdata_below cells l e =
@@ -131,11 +129,12 @@ module _ (ms : List ModuleTree) (names : first_violation (v2_uses ms) ≡ None) 
         let a = rdata_label p.name l e in
         let five = (rdata_input ports f.0 p f.1 l e).1 in
         let q = named_port ms names tops m in_ms top (m_ack l) (five_of ms tops m in_ms l five).0 in
-        let t = answer_at run (CellsFit run n) (shape_of m).memories env.memories env.ready s.memories cells (memory l) (memory_there q.0 q.1 l (ap ack_of q.2 ∙ ack_of_label l a.1)) in
-        let low : unwrap_or (slice_get (cells_at run l t.0 n) ((run n).net (m_addr l))) 0 < 2 ^ bits_of (declared m) (m_rdata l) = got_below (bits_of (declared m) (m_rdata l)) (cells_at run l t.0 n) ((run n).net (m_addr l)) t.3 in
-        let is : (run n).net p.name ≡ unwrap_or (slice_get (cells_at run l t.0 n) ((run n).net (m_addr l))) 0 = ap (λ z. (run n).net z) a.0 ∙ t.2.rdata n in
+        let g = got_has (shape_of m).memories (memory l) (memory_there q.0 q.1 l (ap ack_of q.2 ∙ ack_of_label l a.1)) in
+        let held = cells_at run l (get_or env.memories g.0 []) n in
+        let low : unwrap_or (slice_get held ((run n).net (m_addr l))) 0 < 2 ^ bits_of (declared m) (m_rdata l) = got_below (bits_of (declared m) (m_rdata l)) held ((run n).net (m_addr l)) (cells g.0 (memory l) g.2) in
+        let is : (run n).net p.name ≡ unwrap_or (slice_get held ((run n).net (m_addr l))) 0 = ap (λ z. (run n).net z) a.0 ∙ (s.memories g.0 (memory l) g.2).rdata n in
         let bits : bits_of (declared m) (m_rdata l) ≡ p.width = ap (λ z. bits_of (declared m) z) (sym a.0) ∙ sym (port_bits ms names tops m in_ms top p h) in
-        subst (λ v. v < 2 ^ p.width) (sym is) (subst (λ w. unwrap_or (slice_get (cells_at run l t.0 n) ((run n).net (m_addr l))) 0 < 2 ^ w) bits low)
+        subst (λ v. v < 2 ^ p.width) (sym is) (subst (λ w. unwrap_or (slice_get held ((run n).net (m_addr l))) 0 < 2 ^ w) bits low)
 
     reset_below : bytes_eq p.name rst ≡ true → (run n).net p.name < 2 ^ p.width
     reset_below e =
@@ -182,4 +181,4 @@ module _ (ms : List ModuleTree) (names : first_violation (v2_uses ms) ≡ None) 
 
   -- the cells outside fit in the next cycle
   pub outside_next : (n : ℕ) → NumbersFit m (run n) → OutsideFits m env run n → OutsideFits m env run (suc n)
-  outside_next n f cells = map_two (CellsFit run n) (CellsFit run (suc n)) (shape_of m).memories env.memories cells (λ l first h a. stored_below n f l first h a)
+  outside_next n f cells = λ i l got. stored_below n f l (get_or env.memories i []) (has_got (shape_of m).memories i l got) (cells i l got)

@@ -5,3 +5,4 @@ pub mod Nets
 pub mod Agreeing
 pub mod Given
 pub mod Fitting
+pub mod OneModule

@@ -16,7 +16,7 @@ use Rattle.vlog_tree.specs.Form.{ModuleTree}
 use Rattle.vlog_tree.specs.Grounded.{Has}
 use Rattle.vlog_tree.specs.Table.{Name, NameUse, is_clk, declared, port_declared, items_declared, find_name, net_kind_of, bits_of, net_kind_is_read, net_kind_is_driven, ports_of, first_violation}
 use Rattle.vlog_tree.specs.V2.{v2_uses, item_uses, step_uses, read_use, driven_use}
-use Rattle.vlog_tree.specs.V3.{v3_uses, module_widths, item_widths, port_widths, connection_widths, step_widths, is_width, has_bits, value_fits}
+use Rattle.vlog_tree.specs.V3.{v3_uses, module_widths, item_widths, port_widths, connection_widths, step_widths, is_width, is_cell_count, net_fits, memory_fits, has_bits, value_fits}
 use Rattle.vlog_tree.specs.Loops.{atom_nets}
 use Rattle.vlog_tree.proofs.Lists.{has_flat, of_map, has_left, has_right, has_split}
 use Rattle.vlog_law_runs.proofs.Sound.{right, both_false, both_true, not_no, true_not_false, item_right, atom_read}
@@ -47,7 +47,7 @@ line_net : (it : Item) (d : Declaration) → Has (items_declared (it ∷ [])) d 
 unfolding item_widths
 line_net (Wire w x) d (inl e) n ms ds f = subst (λ (k : Declaration). IsInRange k.bits) e (in_range w (not_no _ (f (x, not (is_width w)) (inl refl))))
 line_net (Reg w x) d (inl e) n ms ds f = subst (λ (k : Declaration). IsInRange k.bits) e (in_range w (not_no _ (f (x, not (is_width w)) (inl refl))))
-line_net (Memory w x k) d (inl e) n ms ds f = subst (λ (k : Declaration). IsInRange k.bits) e (in_range w (both_true (is_width w) (nat_le k 1048576) (not_no _ (f (x, not (is_width w && nat_le k 1048576)) (inl refl)))).0)
+line_net (Memory w x k) d (inl e) n ms ds f = subst (λ (k : Declaration). IsInRange k.bits) e (in_range w (both_true (is_width w) (is_cell_count k) (not_no _ (f (x, not (is_width w && is_cell_count k)) (inl refl)))).0)
 line_net (Instance kn i connections) d (inl e) n ms ds f = absurd (n (ap (λ (k : Declaration). k.net_kind) (sym e)))
 line_net (Wire w x) d (inr h) n ms ds f = absurd h
 line_net (Reg w x) d (inr h) n ms ds f = absurd h
@@ -79,14 +79,16 @@ module _ (ms : List ModuleTree) (widths : first_violation (v3_uses ms) ≡ None)
 
   pub assign_width : (x : Name) (e : Value) → Has m.items (Assign x e) → value_fits (declared m) (bits_of (declared m) x) e ≡ true
   unfolding item_widths
-  assign_width x e has = not_no _ (width_right (Assign x e) has (x, not (value_fits (declared m) (bits_of (declared m) x) e)) (inl refl))
+  assign_width x e has =
+      (both_true (net_fits (declared m) x) (value_fits (declared m) (bits_of (declared m) x) e)
+      (not_no _ (width_right (Assign x e) has (x, not (net_fits (declared m) x && value_fits (declared m) (bits_of (declared m) x) e)) (inl refl)))).1
 
   pub connection_width : (kn i : Name) (connections : List Connection) → Has m.items (Instance kn i connections) → (l : Connection) → Has connections l → bits_of (map port_declared (ports_of ms kn)) l.port ≡ bits_of (declared m) l.net
   unfolding item_widths connection_widths
   connection_width kn i connections has l h =
       let ports = map port_declared (ports_of ms kn) in
-      let u : NameUse = (l.port, not (bits_of ports l.port == bits_of (declared m) l.net)) in
-      same_of (bits_of ports l.port) (bits_of (declared m) l.net) (not_no _ (width_right (Instance kn i connections) has u (has_flat (connection_widths ports (declared m)) connections l u h (inl refl))))
+      let u : NameUse = (l.port, not (net_fits (declared m) l.net && (bits_of ports l.port == bits_of (declared m) l.net))) in
+      same_of (bits_of ports l.port) (bits_of (declared m) l.net) (both_true (net_fits (declared m) l.net) (bits_of ports l.port == bits_of (declared m) l.net) (not_no _ (width_right (Instance kn i connections) has u (has_flat (connection_widths ports (declared m)) connections l u h (inl refl))))).1
 
   pub net_width : (x : Name) → net_kind_is_read (net_kind_of (declared m) x) ≡ true → IsInRange (bits_of (declared m) x)
   net_width x h =
@@ -100,8 +102,8 @@ module _ (ms : List ModuleTree) (widths : first_violation (v3_uses ms) ≡ None)
   memory_width : (w : ℕ) (y : Name) (k : ℕ) → Has m.items (Memory w y k) → IsInRange w × (k ≤ 1048576)
   unfolding item_widths
   memory_width w y k has =
-      let p = both_true (is_width w) (nat_le k 1048576) (not_no _ (width_right (Memory w y k) has (y, not (is_width w && nat_le k 1048576)) (inl refl))) in
-      (in_range w p.0, at_least k 1048576 p.1)
+      let p = both_true (is_width w) (is_cell_count k) (not_no _ (width_right (Memory w y k) has (y, not (is_width w && is_cell_count k)) (inl refl))) in
+      (in_range w p.0, at_least k 1048576 (both_true (nat_le 1 k) (nat_le k 1048576) p.1).1)
 
   pub widths_in_range : WidthsInRange m
   widths_in_range = record { nets = net_width; cells = memory_width }
@@ -120,11 +122,13 @@ module _ (ms : List ModuleTree) (widths : first_violation (v3_uses ms) ≡ None)
 
     pub step_fits : (st : Step) → Has b st → StepFits (declared m) st
     step_fits (NonblockingAssign x a) h = (
-      not_no _ (step_width (NonblockingAssign x a) h (x, not (has_bits (declared m) (bits_of (declared m) x) a)) (inl refl)),
+      (both_true (net_fits (declared m) x) (has_bits (declared m) (bits_of (declared m) x) a)
+          (not_no _ (step_width (NonblockingAssign x a) h (x, not (net_fits (declared m) x && has_bits (declared m) (bits_of (declared m) x) a)) (inl refl)))).1,
       λ z k. use_read z (step_right (NonblockingAssign x a) h (read_use (declared m) z) (inr (atom_read (declared m) a z k))),
     )
     step_fits (MemoryAssign y x a) h = (
-      not_no _ (step_width (MemoryAssign y x a) h (y, not (has_bits (declared m) (bits_of (declared m) y) a)) (inl refl)),
+      (both_true (memory_fits (declared m) y && net_fits (declared m) x) (has_bits (declared m) (bits_of (declared m) y) a)
+          (not_no _ (step_width (MemoryAssign y x a) h (y, not (memory_fits (declared m) y && net_fits (declared m) x && has_bits (declared m) (bits_of (declared m) y) a)) (inl refl)))).1,
       λ z k. use_read z (step_right (MemoryAssign y x a) h (read_use (declared m) z) (inr (inr (atom_read (declared m) a z k)))),
     )
     step_fits (If c) h = tt

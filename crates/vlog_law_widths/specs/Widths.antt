@@ -1,16 +1,20 @@
 -- That the numbers of a run fit the widths that its modules declare, and that its operators take their operands.
-use Rattle.std.specs.Prelude.{◌≡◌, ℕ, ◌^◌, ◌<◌, ◌≤◌, List, [], Some, false, IsTrue}
+use Rattle.std.specs.Prelude.{◌≡◌, ℕ, Bool, map, ◌^◌, ◌<◌, ◌≤◌, List, [], Some, false, IsTrue, slice_get, slice_index_or}
 use Rattle.std.specs.List.{AllByRecursion}
 use Rattle.tapa_base.specs.declared.shape.Port.{Port}
 use Rattle.vlog_tree.specs.declared.tree.BinaryOp.{BinaryOp}
 use Rattle.vlog_tree.specs.declared.tree.BinaryOp.TheVariants.{Plus, Minus, Times, Divide, Remainder, And, Or, Xor, ShiftLeft, ShiftRight, Equals, Differs, Less}
 use Rattle.vlog_tree.specs.declared.tree.Value.{Value}
 use Rattle.vlog_tree.specs.declared.tree.Value.TheVariants.{Plain, Invert, Binary, Choose, Concat, Repeat, Cell}
-use Rattle.vlog_tree.specs.declared.tree.Item.TheVariants.{Memory, Assign}
+use Rattle.vlog_tree.specs.declared.tree.Item.TheVariants.{Memory, Assign, Instance}
+use Rattle.vlog_tree.specs.declared.tree.Connection.{Connection}
+use Rattle.vlog_tree.specs.declared.table.NetKind.TheVariants.{Input}
 use Rattle.vlog_tree.specs.Form.{ModuleTree}
-use Rattle.vlog_tree.specs.Grounded.{Has, AllTwo}
-use Rattle.vlog_tree.specs.Table.{Name, is_clk, declared, net_kind_of, bits_of, net_kind_is_read}
-use Rattle.vlog_tree.specs.Cycle.{Cycle, Sizes, Path, Holds, PortHolds, atom_value, driven, module_at}
+use Rattle.vlog_tree.specs.Grounded.{Has}
+use Rattle.vlog_tree.specs.Table.{Name, is_clk, declared, port_declared, ports_of, net_kind_of, bits_of, net_kind_is_read, net_kind_is_input}
+use Rattle.vlog_tree.specs.Cycle.{Cycle, Sizes, Path, Holds, PortHolds, atom_value, driven, module_at, Follows}
+use Rattle.vlog_tree.specs.Refused.{IsSound}
+use Rattle.vlog_tree.specs.Loops.{IsLoopless}
 use Rattle.vlog_tree.specs.Environment.{Environment, shape_of, cells_at}
 
 -- what a line may declare as a width
@@ -34,7 +38,7 @@ CellsFit run n l first = AllByRecursion (λ v. v < 2 ^ l.bits) (cells_at run l.n
 
 -- the cells of all memories outside the top fit in this cycle
 abbrev pub OutsideFits : ModuleTree → Environment → (ℕ → Cycle) → ℕ → Type 0
-OutsideFits top env run n = AllTwo (CellsFit run n) (shape_of top).memories env.memories
+OutsideFits top env run n = (i : ℕ) (l : Port) → slice_get (shape_of top).memories i ≡ Some l → CellsFit run n l (slice_index_or env.memories i [])
 
 -- in each cycle the numbers of all modules fit, and the cells of the memories outside
 pub record RunFits (ms : List ModuleTree) (top : ModuleTree) (env : Environment) (nets : ℕ → Path → Cycle) : Type 0 where
@@ -76,3 +80,15 @@ pub record DriverFits (s : Sizes) (w : ℕ) (c : Cycle) (e : Value) : Type 0 whe
 -- each driver of a module fits in this cycle, by sizes that its ports and lines allow
 abbrev pub DriversFit : ModuleTree → Cycle → Type 0
 DriversFit m c = (s : Sizes) → AllByRecursion (PortHolds s) m.ports → AllByRecursion (Holds s c) m.items → (x : Name) (e : Value) → Has m.items (Assign x e) → DriverFits s (bits_of (declared m) x) c e
+
+-- what a module is given in a cycle fits: its own inputs, and the nets that outputs of its instances drive
+pub record GivenFits (ms : List ModuleTree) (m : ModuleTree) (c : Cycle) : Type 0 where
+  pub inputs : (x : Name) → net_kind_of (declared m) x ≡ Input → is_clk x ≡ false → c.net x < 2 ^ bits_of (declared m) x
+  pub outputs : (kn i : Name) (connections : List Connection) → Has m.items (Instance kn i connections) → (l : Connection) → Has connections l
+      → net_kind_is_input (net_kind_of (map port_declared (ports_of ms kn)) l.port) ≡ false → c.net l.net < 2 ^ bits_of (declared m) l.net
+
+-- a run of one module, where what it is given fits in every cycle: then all its numbers do
+abbrev pub OneModuleFits : Type 0
+OneModuleFits =
+    (ms : List ModuleTree) (is_top : Name → Bool) → IsSound ms → IsLoopless ms is_top → (m : ModuleTree) → Has ms m → (run : ℕ → Cycle) → Follows m run
+    → ((n : ℕ) → GivenFits ms m (run n)) → (n : ℕ) → NumbersFit m (run n)

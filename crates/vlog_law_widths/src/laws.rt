@@ -6,7 +6,7 @@ ghost use Rattle.vlog_tree.specs.Grounded.{Has};
 ghost use Rattle.vlog_tree.specs.Refused.{IsDesign, IsSound};
 ghost use Rattle.vlog_tree.specs.Cycle.{Cycle, Path, module_at};
 ghost use Rattle.vlog_tree.specs.Environment.{Environment, FitsShape, RunsIn, shape_of};
-ghost use Rattle.vlog_law_widths.specs.Widths.{WidthsInRange, RunFits, DriversFit};
+ghost use Rattle.vlog_law_widths.specs.Widths.{WidthsInRange, RunFits, DriversFit, OneModuleFits};
 
 /// Each net that can be read has from 1 to 128 bits, and so has each cell of a memory, where names, widths and drivers are
 /// right.
@@ -27,4 +27,10 @@ pub fn law_operators_apply()
     ensures { (ms : List ModuleTree) (top : ℕ) (m : ModuleTree) (env : Environment) (nets : ℕ → Path → Cycle)
         → IsDesign ms top → slice_get ms top ≡ Some m → FitsShape env (shape_of m) → RunsIn ms m env nets
         → (n : ℕ) (path : Path) (k : ModuleTree) → module_at ms m path ≡ Some k → DriversFit k (nets n path) }
+{}
+
+/// In each run of one module that is right beside others, without a design around it, each number fits its width if what
+/// the module is given does: its inputs, and what its instances give it.
+pub fn law_one_module_fits()
+    ensures { OneModuleFits }
 {}

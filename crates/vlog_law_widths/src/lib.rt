@@ -3,4 +3,4 @@
 
 mod laws;
 
-pub use laws::{law_numbers_fit, law_operators_apply, law_widths_in_range};
+pub use laws::{law_numbers_fit, law_one_module_fits, law_operators_apply, law_widths_in_range};
