@@ -103,7 +103,7 @@ name_constant p (Some (entity.Array f k n)) h = absurd (cc)
 name_constant p (Some (entity.Memory f k n)) h = absurd (cc)
 name_constant p (Some (entity.Stream f k n)) h = absurd (cc)
 name_constant p (Some (entity.Channel k n)) h = absurd (cc)
-name_constant p (Some entity.Task) h = absurd (cc)
+name_constant p (Some (entity.Task task_number)) h = absurd (cc)
 
 no_name : (p : Place) (o : Option Entity) → wrong_entity (λ s. false) p o ≡ [] → ⊥
 no_name p None h = cc

@@ -10,7 +10,7 @@ ghost use Rattle.check_scope.specs.Scopes.{is_constant, entity_of};
 
 use crate::constant::{Constant, check_divisor, converted, evaluated, of_entity};
 use crate::expression::divides;
-use check_scope::{CheckFault, FileNames, Role, Scope};
+use check_scope::{CheckFault, Names, Role, Scope};
 use std::alloc::Global;
 use tapa_base::Kind;
 use tapa_syntax::{Expression, Name};
@@ -78,7 +78,7 @@ pub(crate) fn known_name(scope: &Scope, name: &Name) -> Result<Constant, CheckFa
 /// A constant of a file: its name is new, and its value is converted to its kind.
 pub fn check_constant(
     alloc: Global,
-    file: &FileNames,
+    file: &Names,
     kind: Kind,
     name: &Name,
     value: &Expression,

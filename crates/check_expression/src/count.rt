@@ -1,4 +1,4 @@
-ghost use Rattle.std.specs.Prelude.{◌≡◌, ◌≤◌, ◌∷◌, [], IfOk};
+ghost use Rattle.std.specs.Prelude.{◌≡◌, ◌≤◌, IfOk};
 ghost use Rattle.tapa_base.specs.Kinds.{number};
 ghost use Rattle.tapa_syntax.specs.Trees as tree;
 ghost use Rattle.check_scope.specs.Answers.{Answers};
@@ -7,12 +7,11 @@ ghost use Rattle.check_expression.specs.Counts as counts;
 
 use crate::constant::{Constant, literal};
 use crate::constant_use::{known, known_name};
-use check_scope::{CheckFault, FileNames, Scope, over};
-use std::alloc::Global;
+use check_scope::{CheckFault, Scope, over};
 use tapa_syntax::{Count, CountValue};
 
 /// The greatest depth of a stream, and the most cells of an array.
-pub const MOST_OF_COUNT: u32 = 4096;
+const MOST_OF_COUNT: u32 = 4096;
 
 fn form(scope: &Scope, value: &CountValue) -> Result<Constant, CheckFault>
     ensures value { Answers (λ c. number c.kind c.value) result (counts.form_faults scope.now (tree.count_form_of value.now)) (counts.form_number scope.now (tree.count_form_of value.now)) }
@@ -49,13 +48,4 @@ pub fn count_in(scope: &Scope, count: &Count) -> Result<u32, CheckFault>
     } else {
         Err(over(MOST_OF_COUNT, count.place))
     }
-}
-
-/// The depth of a stream of a task that stands behind a file's declarations.
-pub fn check_count(alloc: Global, file: &FileNames, count: &Count) -> Result<u32, CheckFault>
-    ensures value { Answers (λ n. n) result (counts.count_faults (file.now ∷ []) (tree.count_of count.now)) (counts.count_of (file.now ∷ []) (tree.count_of count.now)) }
-    ensures within { IfOk result (λ n. (1 ≤ n) × (n ≤ 4096)) }
-{
-    let scope = Scope::new(alloc, file);
-    count_in(&scope, count)
 }

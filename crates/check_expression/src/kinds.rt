@@ -1,21 +1,10 @@
 ghost use Rattle.std.specs.Prelude.{◌≡◌, ◌+◌, ◌%◌, ◌<◌};
-ghost use Rattle.tapa_base.specs.Kinds as base;
 ghost use Rattle.tapa_base.specs.Kinds.{values_of};
 ghost use Rattle.tapa_syntax.specs.Typed as flat;
 ghost use Rattle.check_expression.specs.Kinds as spec;
 ghost use Rattle.check_expression.specs.Expressions as meaning;
 
 use tapa_base::{Kind, Op};
-
-/// The kind that a value is promoted to (ISO C++ [conv.prom]).
-pub fn promoted(kind: Kind) -> Kind
-    ensures { result ≡ base.promoted kind }
-{
-    match kind {
-        Kind::U32 | Kind::I64 | Kind::U64 => kind,
-        _ => Kind::I32,
-    }
-}
 
 fn rank(kind: Kind) -> u8
     ensures { result ≡ spec.rank kind }
@@ -45,7 +34,7 @@ pub fn operated_kind(op: Op, left: Kind, right: Kind) -> Kind
     ensures { result ≡ meaning.operated_kind op left right }
 {
     match op {
-        Op::Shl | Op::Shr => promoted(left),
+        Op::Shl | Op::Shr => left.promoted(),
         _ => left.join(right),
     }
 }

@@ -8,7 +8,7 @@ ghost use Rattle.check_scope.specs.Answers.{Answers};
 ghost use Rattle.check_expression.specs.Expressions as meaning;
 ghost use Rattle.check_scope.specs.Scopes.{kind_of_entity, number_of};
 
-use crate::kinds::{arm_kind, is_comparison, operated_kind, promoted, right_kind, same_kind};
+use crate::kinds::{arm_kind, is_comparison, operated_kind, right_kind, same_kind};
 use check_scope::{CheckFault, Entity};
 use std::alloc::Global;
 use tapa_base::{Kind, Op};
@@ -125,7 +125,7 @@ pub(crate) fn prefix_kind(operator: PrefixOperator, kind: Kind) -> Kind
 {
     match operator {
         PrefixOperator::Not => Kind::Bool,
-        _ => promoted(kind),
+        _ => kind.promoted(),
     }
 }
 
@@ -188,7 +188,7 @@ pub fn entity_kind(entity: Entity) -> Kind
         Entity::Memory { kind, .. } => kind,
         Entity::Stream { kind, .. } => kind,
         Entity::Channel { kind, .. } => kind,
-        Entity::Task => Kind::U64,
+        Entity::Task { .. } => Kind::U64,
     }
 }
 
@@ -203,7 +203,7 @@ pub fn entity_number(entity: Entity) -> u32
         Entity::Stream { number, .. } => number,
         Entity::Channel { number, .. } => number,
         Entity::Constant { .. } => 0,
-        Entity::Task => 0,
+        Entity::Task { number } => number,
     }
 }
 

@@ -117,7 +117,7 @@ free_variable W S p (Some (entity.Array f j n)) k h = absurd (cc)
 free_variable W S p (Some (entity.Memory f j n)) k h = absurd (cc)
 free_variable W S p (Some (entity.Stream f j n)) k h = absurd (cc)
 free_variable W S p (Some (entity.Channel j n)) k h = absurd (cc)
-free_variable W S p (Some entity.Task) k h = absurd (cc)
+free_variable W S p (Some (entity.Task task_number)) k h = absurd (cc)
 
 free_cells : (W : FlatLeaf) (S : List ℕ) (p : Place) (o : Option Entity) (i : FlatExpression) → IfSome o (IsKnown W S) → wrong_entity has_free_cells p o ≡ [] → IsValue W S i kind.U64 → IsTarget W S (element_target o i)
 free_cells W S p (Some (entity.Array f j n)) i k h g = (k.0, k.1, g)
@@ -127,7 +127,7 @@ free_cells W S p (Some (entity.Constant j n)) i k h g = absurd (cc)
 free_cells W S p (Some (entity.Variable f j n)) i k h g = absurd (cc)
 free_cells W S p (Some (entity.Stream f j n)) i k h g = absurd (cc)
 free_cells W S p (Some (entity.Channel j n)) i k h g = absurd (cc)
-free_cells W S p (Some entity.Task) i k h g = absurd (cc)
+free_cells W S p (Some (entity.Task task_number)) i k h g = absurd (cc)
 
 pub target_good : (W : FlatLeaf) (S : List ℕ) (E : Scope) → KnownScope W S E → (b : Bool) (p : PlaceTree) → changed_faults E b p ≡ [] → IsTarget W S (target_of E p)
 target_good W S E i b (tree.variable_place x) h =
@@ -152,7 +152,7 @@ an_input W S p (Some (entity.Variable f j n)) k h = absurd (cc)
 an_input W S p (Some (entity.Array f j n)) k h = absurd (cc)
 an_input W S p (Some (entity.Memory f j n)) k h = absurd (cc)
 an_input W S p (Some (entity.Channel j n)) k h = absurd (cc)
-an_input W S p (Some entity.Task) k h = absurd (cc)
+an_input W S p (Some (entity.Task task_number)) k h = absurd (cc)
 
 pub input_good : (W : FlatLeaf) (S : List ℕ) (E : Scope) → KnownScope W S E → (x : Name) → name_faults E is_input x ≡ [] → IsEnd W false (number_of (entity_of x.text E)) (kind_of_entity (entity_of x.text E))
 input_good W S E i x h = an_input W S x.place (entity_of x.text E) (known_at W S x.text E i) h
@@ -166,7 +166,7 @@ an_output W S p (Some (entity.Variable f j n)) k h = absurd (cc)
 an_output W S p (Some (entity.Array f j n)) k h = absurd (cc)
 an_output W S p (Some (entity.Memory f j n)) k h = absurd (cc)
 an_output W S p (Some (entity.Channel j n)) k h = absurd (cc)
-an_output W S p (Some entity.Task) k h = absurd (cc)
+an_output W S p (Some (entity.Task task_number)) k h = absurd (cc)
 
 written : (W : FlatLeaf) (S : List ℕ) (E : Scope) → KnownScope W S E → (s : ℕ) (k : Kind) → IsEnd W true s k → (es : List ExpressionTree) → flat_map (faults_of E false) es ≡ [] → AreActs W S (map (λ e. flat.write s (wanted E k e)) es)
 written W S E i s k h [] g = tt
@@ -201,7 +201,7 @@ call_good W S E i (Some (entity.Variable f j n)) m s at k h g = absurd (cc)
 call_good W S E i (Some (entity.Array f j n)) m s at k h g = absurd (cc)
 call_good W S E i (Some (entity.Memory f j n)) m s at k h g = absurd (cc)
 call_good W S E i (Some (entity.Channel j n)) m s at k h g = absurd (cc)
-call_good W S E i (Some entity.Task) m s at k h g = absurd (cc)
+call_good W S E i (Some (entity.Task task_number)) m s at k h g = absurd (cc)
 
 -- ---- actions
 

@@ -80,7 +80,7 @@ known_more W S T c (entity.Variable free k n) h = h
 known_more W S T c (entity.Memory free k n) h = h
 known_more W S T c (entity.Stream b k n) h = h
 known_more W S T c (entity.Channel k n) h = h
-known_more W S T c entity.Task h = h
+known_more W S T c (entity.Task task_number) h = h
 
 block_more : (W : FlatLeaf) (S T : List ℕ) → Covers T S → (b : Block) → KnownBlock W S b → KnownBlock W T b
 block_more W S T c [] h = tt

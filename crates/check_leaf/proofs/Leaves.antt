@@ -148,7 +148,7 @@ parameters_take h (p ∷ ps) e =
 
 global_known : (W : FlatLeaf) (s : Entity) → IsGlobal s → IsKnown W [] s
 global_known W (entity.Constant k n) h = h
-global_known W entity.Task h = tt
+global_known W (entity.Task task_number) h = tt
 global_known W _ h = absurd h
 
 globals_known : (W : FlatLeaf) (file : Block) → AreGlobal file → KnownBlock W [] file

@@ -56,7 +56,7 @@ IsKnown W S (entity.Array free k n) = In n S × IsArrayOf W n k
 IsKnown W S (entity.Memory free k n) = slice_get W.memories n ≡ Some k
 IsKnown W S (entity.Stream b k n) = IsEnd W b n k
 IsKnown W S (entity.Channel k n) = Unit {0}
-IsKnown W S entity.Task = Unit {0}
+IsKnown W S (entity.Task task_number) = Unit {0}
 
 abbrev pub KnownBlock : FlatLeaf → List ℕ → Block → Type 0
 KnownBlock W S [] = Unit {0}
@@ -92,7 +92,7 @@ named_good W S p (Some (entity.Array f j n)) k h = absurd (cc)
 named_good W S p (Some (entity.Memory f j n)) k h = absurd (cc)
 named_good W S p (Some (entity.Stream f j n)) k h = absurd (cc)
 named_good W S p (Some (entity.Channel j n)) k h = absurd (cc)
-named_good W S p (Some entity.Task) k h = absurd (cc)
+named_good W S p (Some (entity.Task task_number)) k h = absurd (cc)
 
 element_good : (W : FlatLeaf) (S : List ℕ) (p : Place) (o : Option Entity) (i : FlatExpression) → IfSome o (IsKnown W S) → wrong_entity has_cells p o ≡ [] → IsValue W S i kind.U64 → IsValue W S (cell_value o i) (kind_of_entity o)
 element_good W S p None i k h g = absurd (cc)
@@ -102,7 +102,7 @@ element_good W S p (Some (entity.Array f j n)) i k h g = (k.0, k.1, g)
 element_good W S p (Some (entity.Memory f j n)) i k h g = (k, g)
 element_good W S p (Some (entity.Stream f j n)) i k h g = absurd (cc)
 element_good W S p (Some (entity.Channel j n)) i k h g = absurd (cc)
-element_good W S p (Some entity.Task) i k h g = absurd (cc)
+element_good W S p (Some (entity.Task task_number)) i k h g = absurd (cc)
 
 called_good : (W : FlatLeaf) (S : List ℕ) (o : Option Entity) (m : Option Method) (s at : Name) → IfSome o (IsKnown W S) → call_faults o m s at ≡ [] → no_value m at ≡ [] → IsValue W S (called_value (number_of o) m) (call_kind (kind_of_entity o) m)
 called_good W S (Some (entity.Stream b j n)) None s at k h g = absurd (cc)
@@ -121,7 +121,7 @@ called_good W S (Some (entity.Variable f j n)) m s at k h g = absurd (cc)
 called_good W S (Some (entity.Array f j n)) m s at k h g = absurd (cc)
 called_good W S (Some (entity.Memory f j n)) m s at k h g = absurd (cc)
 called_good W S (Some (entity.Channel j n)) m s at k h g = absurd (cc)
-called_good W S (Some entity.Task) m s at k h g = absurd (cc)
+called_good W S (Some (entity.Task task_number)) m s at k h g = absurd (cc)
 
 -- ---- constants
 
@@ -137,7 +137,7 @@ named_constant (Some (entity.Array f k n)) h = absurd (cc)
 named_constant (Some (entity.Memory f k n)) h = absurd (cc)
 named_constant (Some (entity.Stream f k n)) h = absurd (cc)
 named_constant (Some (entity.Channel k n)) h = absurd (cc)
-named_constant (Some entity.Task) h = absurd (cc)
+named_constant (Some (entity.Task task_number)) h = absurd (cc)
 
 prefix_constant : (o : PrefixOperator) (k : Kind) (e : FlatExpression) → IsFlatConstant e → IsFlatConstant (prefix_value o k e)
 prefix_constant prefix.Negate k e c = (tt, cast_constant k (promoted k) e c)

@@ -2,6 +2,7 @@ ghost use Rattle.std.specs.Prelude.{◌≡◌, ◌<◌, ◌∷◌, ◌++◌, [],
 ghost use Rattle.tapa_syntax.specs.Flat as flat;
 ghost use Rattle.tapa_syntax.specs.Flat.{flat_expression};
 ghost use Rattle.tapa_syntax.specs.Trees as tree;
+ghost use Rattle.check_scope.specs.Faults.{doubled};
 ghost use Rattle.check_leaf.specs.Statements as task;
 ghost use Rattle.check_leaf.specs.Views.{Adds};
 
@@ -20,7 +21,8 @@ fn variable(
     value: Expr,
     code: &mut Vec<Stmt>,
 ) -> Result<(), CheckFault>
-    requires { length frame.old.vars < 1024 }
+    requires new { doubled frame.old.scope name.now ≡ [] }
+    requires room { length frame.old.vars < 1024 }
     ensures { Adds result frame.new code.old.items code.new.items [] (task.with_variable free kind name.now frame.old) (flat.set (length frame.old.vars) (flat_expression value) ∷ []) }
 {
     let number = frame.add_variable(free, kind, name)?;

@@ -5,10 +5,10 @@ ghost use Rattle.check_scope.specs.Scopes.{Block, Scope as Blocks, IsSound, decl
 ghost use Rattle.check_leaf.specs.Statements as task;
 ghost use Rattle.check_leaf.specs.Views.{Numbered};
 
-use check_scope::{CheckFault, Entity, FileNames, Scope, over};
+use check_scope::{CheckFault, Entity, Names, Scope, over};
 use std::alloc::Global;
 use std::marker::Model;
-use tapa_base::{Kind, Place, Text};
+use tapa_base::{Kind, Place};
 use tapa_syntax::{Array, Name};
 
 /// The most variables of a task.
@@ -41,7 +41,7 @@ impl<'a> Model for Frame<'a> {
 
 impl<'a> Frame<'a> {
     /// A task of a file begins.
-    pub(crate) fn new(alloc: Global, file: &'a FileNames) -> Result<Self, CheckFault>
+    pub(crate) fn new(alloc: Global, file: &'a Names) -> Result<Self, CheckFault>
         ensures { Answers (λ f. f) result [] (record { scope = file.now ∷ [] ∷ []; vars = []; arrays = [] }) }
     {
         let mut scope = Scope::new(alloc, file);
@@ -91,10 +91,10 @@ impl<'a> Frame<'a> {
         self.scope.leave();
     }
 
-    /// One declaration more, which is no variable and no array.
-    pub(crate) fn declare(&mut self, name: &Text, entity: Entity) -> Result<(), CheckFault>
+    /// One declaration more, which is no variable and no array, of a name that the block does not declare yet.
+    pub(crate) fn declare(&mut self, name: &Name, entity: Entity) -> Result<(), CheckFault>
         requires { IsSound entity }
-        ensures { Answers (λ x. self.new) result [] (task.with_name name.now entity self.old) }
+        ensures { Answers (λ x. self.new) result (doubled self.old.scope name.now) (task.with_name name.now.text entity self.old) }
     {
         self.scope.declare(self.alloc, name, entity)
     }
@@ -102,6 +102,7 @@ impl<'a> Frame<'a> {
     /// A name that may be declared as a variable.
     pub(crate) fn check_variable(&self, name: &Name) -> Result<(), CheckFault>
         ensures value { Answers (λ x. x) result (task.variable_faults self.now name.now) tt }
+        ensures new { IfOk result (λ x. doubled self.now.scope name.now ≡ []) }
         ensures room { IfOk result (λ x. length self.now.vars < 1024) }
     {
         self.scope.check_new(name)?;
@@ -118,12 +119,13 @@ impl<'a> Frame<'a> {
         kind: Kind,
         name: &Name,
     ) -> Result<u32, CheckFault>
-        requires { length self.old.vars < 1024 }
+        requires new { doubled self.old.scope name.now ≡ [] }
+        requires room { length self.old.vars < 1024 }
         ensures { Answers {B = Numbered} (λ n. (n, self.new)) result [] (length self.old.vars, task.with_variable free kind name.now self.old) }
     {
         let number = self.vars.len() as u32;
         let entity = Entity::Variable { free, kind, number };
-        self.scope.declare(self.alloc, &name.text, entity)?;
+        self.scope.declare(self.alloc, name, entity)?;
         self.vars.push(kind)?;
         Ok(number)
     }
@@ -148,13 +150,14 @@ impl<'a> Frame<'a> {
         name: &Name,
         cells: u32,
     ) -> Result<u32, CheckFault>
+        requires new { doubled self.old.scope name.now ≡ [] }
         requires cells { 1 ≤ cells }
         requires room { task.all_cells self.old.arrays + cells ≤ 65536 }
         ensures { Answers {B = Numbered} (λ n. (n, self.new)) result [] (length self.old.arrays, task.with_array free kind name.now cells self.old) }
     {
         let number = self.arrays.len() as u32;
         let entity = Entity::Array { free, kind, number };
-        self.scope.declare(self.alloc, &name.text, entity)?;
+        self.scope.declare(self.alloc, name, entity)?;
         self.arrays.push(Array { kind, cells })?;
         self.cells += cells;
         Ok(number)

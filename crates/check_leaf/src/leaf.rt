@@ -9,7 +9,7 @@ ghost use Rattle.check_leaf.specs.Heads.{head_of};
 
 use crate::frame::Frame;
 use crate::statement::statements as check_statements;
-use check_scope::{CheckFault, Entity, FileNames, copied, number_of, over};
+use check_scope::{CheckFault, Entity, Names, copied, number_of, over};
 use std::alloc::Global;
 use tapa_base::{Kind, Place, Text};
 use tapa_syntax::{
@@ -30,7 +30,7 @@ struct Head<'a> {
 }
 
 impl<'a> Head<'a> {
-    fn new(alloc: Global, file: &'a FileNames) -> Result<Self, CheckFault>
+    fn new(alloc: Global, file: &'a Names) -> Result<Self, CheckFault>
         ensures { Answers head_of result [] (leaf.task_begins file.now) }
     {
         Ok(Head {
@@ -44,14 +44,13 @@ impl<'a> Head<'a> {
     fn stream(&mut self, writes: bool, kind: Kind, name: &Name) -> Result<(), CheckFault>
         ensures { Answers (λ x. head_of self.new) result (doubled self.old.frame.scope name.now) (leaf.with_stream writes kind name.now (head_of self.old)) }
     {
-        self.frame.scope().check_new(name)?;
         let number = number_of(self.streams.len())?;
         let entity = Entity::Stream {
             writes,
             kind,
             number,
         };
-        self.frame.declare(&name.text, entity)?;
+        self.frame.declare(name, entity)?;
         self.streams.push(End { kind, writes })?;
         Ok(())
     }
@@ -59,10 +58,9 @@ impl<'a> Head<'a> {
     fn memory(&mut self, free: bool, kind: Kind, name: &Name) -> Result<(), CheckFault>
         ensures { Answers (λ x. head_of self.new) result (doubled self.old.frame.scope name.now) (leaf.with_memory free kind name.now (head_of self.old)) }
     {
-        self.frame.scope().check_new(name)?;
         let number = number_of(self.memories.len())?;
         let entity = Entity::Memory { free, kind, number };
-        self.frame.declare(&name.text, entity)?;
+        self.frame.declare(name, entity)?;
         self.memories.push(kind)?;
         Ok(())
     }
@@ -140,7 +138,7 @@ fn made(name: Text, head: Head, code: Vec<Stmt>) -> Leaf
 /// A leaf task of a file that has declared these names, and its statements.
 pub fn check_leaf(
     alloc: Global,
-    file: &FileNames,
+    file: &Names,
     task: &TaskDeclaration,
     statements: &[Statement],
 ) -> Result<Leaf, CheckFault>

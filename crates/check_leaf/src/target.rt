@@ -11,7 +11,7 @@ ghost use Rattle.check_leaf.specs.Views.{flat_target};
 
 use check_expression::{
     Typed, as_kind, binary_kind, check_wanted, entity_kind, entity_number, operated, operated_kind,
-    promoted, right_kind,
+    right_kind,
 };
 use check_scope::{CheckCode, CheckFault, Entity, Role, Scope, refused};
 use std::alloc::Global;
@@ -183,7 +183,7 @@ fn target_kind(target: &Target) -> Kind
 pub(crate) fn stepped(alloc: Global, target: Target, step: StepOperator) -> Result<Stmt, CheckFault>
     ensures { Answers flat_statement result [] (task.stepped (flat_target target) step) }
 {
-    let kind = promoted(target_kind(&target));
+    let kind = target_kind(&target).promoted();
     let one = Typed {
         value: Expr::Lit(kind, 1),
         kind,

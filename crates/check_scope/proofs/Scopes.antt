@@ -42,17 +42,19 @@ pub declaring-below : (x : List ℕ) (s : Entity) (a : Block) (E : Scope) → 0 
 declaring-below x s a [] h = absurd (omega arith)
 declaring-below x s a (c ∷ rest) h = refl
 
-pub here-last : (x : List ℕ) (a : Block) (E : Scope) (b : Block) (n : ℕ) → n + 1 ≡ length E → b ≡ get_or E n b → entity_here x (a ∷ E) ≡ in_block x b
-here-last x a [] b n h k = absurd (omega arith)
-here-last x a (c ∷ []) b n h k =
+-- what the last block declares, where it is the one at n
+pub here_in_last : (x : List ℕ) (E : Scope) (b : Block) (n : ℕ) → n + 1 ≡ length E → b ≡ get_or E n b → entity_here x E ≡ in_block x b
+here_in_last x [] b n h k = absurd (omega arith)
+here_in_last x (c ∷ []) b n h k =
     let z : n ≡ 0 = omega arith in
     ap (in_block x) (sym (k ∙ ap (λ m. get_or (c ∷ []) m b) z))
-here-last x a (c ∷ d ∷ rest) b n h k =
+here_in_last x (c ∷ d ∷ rest) b n h k =
     let z : n ≡ suc (n - 1) = omega arith in
-    here-last x c (d ∷ rest) b (n - 1) (omega arith) (k ∙ ap (λ m. get_or (c ∷ d ∷ rest) m b) z)
+    here_in_last x (d ∷ rest) b (n - 1) (omega arith) (k ∙ ap (λ m. get_or (c ∷ d ∷ rest) m b) z)
 
-pub not_empty : (n : ℕ) (b : Bool) → b ≡ (n == 0) → b ≡ false → n - 1 + 1 ≡ n
-not_empty n b h k = let l = eqb-false n 0 (sym h ∙ k) in omega arith
+pub here_below : (x : List ℕ) (a : Block) (E : Scope) → 0 < length E → entity_here x (a ∷ E) ≡ entity_here x E
+here_below x a [] h = absurd (omega arith)
+here_below x a (c ∷ rest) h = refl
 
 pub same-front : (xs E : Scope) (x b : Block) → xs ++ x ∷ [] ≡ E ++ b ∷ [] → xs ≡ E
 same-front [] [] x b h = refl

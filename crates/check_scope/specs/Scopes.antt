@@ -1,5 +1,6 @@
 -- The names that are in scope at a place of a source (ISO C++ [basic.scope.block], [basic.lookup.unqual]).
-use Rattle.std.specs.Prelude.{ℕ, ◌<◌, List, [], ◌∷◌, ◌++◌, Bool, true, false, Option, Some, None, bytes_eq, if◌then◌else◌}
+use Rattle.std.specs.Prelude.{ℕ, ◌<◌, List, [], ◌∷◌, ◌++◌, Bool, true, false, Option, Some, None, bytes_eq, map, Vec, if◌then◌else◌}
+use Rattle.std.specs.declared.alloc.Global.{Global}
 use Rattle.tapa_base.specs.declared.kind.Kind.{Kind}
 use Rattle.tapa_base.specs.declared.kind.Kind.TheVariants.{U64}
 use Rattle.tapa_base.specs.Kinds.{values_of}
@@ -9,6 +10,10 @@ use Rattle.check_scope.specs.declared.entity.Entity.TheVariants.{Constant, Varia
 -- the declarations of a block, in order
 abbrev pub Block : Type 0
 Block = List (List ℕ × Entity)
+
+-- the declarations of a table
+abbrev pub declared_in : List (Vec ℕ Global × Entity) → Block
+declared_in entries = map (λ e. (e.0.items, e.1)) entries
 
 abbrev pub in_block : List ℕ → Block → Option Entity
 in_block x [] = None
@@ -49,7 +54,7 @@ kind_of_entity (Some (Array free k n)) = k
 kind_of_entity (Some (Memory free k n)) = k
 kind_of_entity (Some (Stream writes k n)) = k
 kind_of_entity (Some (Channel k n)) = k
-kind_of_entity (Some Task) = U64
+kind_of_entity (Some (Task n)) = U64
 kind_of_entity None = U64
 
 -- its number or position
@@ -59,6 +64,7 @@ number_of (Some (Array free k n)) = n
 number_of (Some (Memory free k n)) = n
 number_of (Some (Stream writes k n)) = n
 number_of (Some (Channel k n)) = n
+number_of (Some (Task n)) = n
 number_of _ = 0
 
 -- it has a value

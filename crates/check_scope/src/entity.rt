@@ -37,5 +37,8 @@ pub enum Entity {
         kind: Kind,
         number: u32,
     },
-    Task,
+    /// A task, with its number among the file's.
+    Task {
+        number: u32,
+    },
 }

@@ -10,7 +10,7 @@ mod scope;
 
 pub use entity::Entity;
 pub use fault::{Broken, CheckCode, CheckFault, over, refused};
-pub use names::{FileNames, Names, copied};
+pub use names::{Names, copied};
 pub use number::{next_number, number_of};
 pub use role::Role;
 pub use scope::Scope;

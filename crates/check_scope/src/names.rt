@@ -1,38 +1,31 @@
-ghost use Rattle.std.specs.Prelude.{◌≡◌, ◌++◌, ◌∷◌, [], IfSome, map};
+//! What a block declares.
+ghost use Rattle.std.specs.Prelude.{◌≡◌, ◌++◌, ◌∷◌, [], IfSome};
 ghost use Rattle.check_scope.specs.Answers.{Answers};
+ghost use Rattle.check_scope.specs.Faults.{doubled};
 ghost use Rattle.check_scope.specs.Scopes.{IsSound, in_block};
 
 use crate::entity::Entity;
-use crate::fault::CheckFault;
+use crate::fault::{CheckCode, CheckFault, refused};
+use indexmap::IndexMap;
 use std::alloc::Global;
 use std::marker::Model;
 use tapa_base::Text;
+use tapa_syntax::Name;
 
-/// A name, and what it is declared as.
-#[derive(Drop)]
-struct Declared {
-    name: Text,
-    entity: Entity,
-}
-
-/// What a block declares, in order.
+/// What a block or a file declares, in order.
 #[derive(Drop)]
 pub struct Names {
-    declared: Vec<Declared>,
+    declared: IndexMap<Vec<u8>, Entity>,
 }
 
-/// What a file declares, in order.
-pub type FileNames = Names;
-
 impl Model for Names {
-    ghost use Rattle.std.specs.Prelude.{map};
-    ghost use Rattle.check_scope.specs.Scopes.{Block, AreSound};
+    ghost use Rattle.check_scope.specs.Scopes.{Block, AreSound, declared_in};
 
     ghost Value = { Block };
 
-    ghost view = { λ names. map (λ d. (d.name, d.entity)) names.declared.items };
+    ghost view = { λ names. declared_in names.declared.entries };
 
-    ghost invariant = { λ names. AreSound (map (λ d. (d.name, d.entity)) names.declared.items) };
+    ghost invariant = { λ names. AreSound (declared_in names.declared.entries) };
 }
 
 impl Names {
@@ -40,7 +33,7 @@ impl Names {
         ensures { result ≡ [] }
     {
         Names {
-            declared: Vec::new(alloc),
+            declared: IndexMap::new(alloc),
         }
     }
 
@@ -49,37 +42,26 @@ impl Names {
         ensures value { result ≡ in_block name.now self.now }
         ensures sound { IfSome result IsSound }
     {
-        found(&self.declared, name)
+        self.declared.get(name.bytes()).copied()
     }
 
-    /// One declaration more.
-    pub fn declare(&mut self, alloc: Global, name: &Text, entity: Entity) -> Result<(), CheckFault>
+    /// One declaration more, of a name that is not declared yet.
+    pub fn declare(&mut self, alloc: Global, name: &Name, entity: Entity) -> Result<(), CheckFault>
         requires { IsSound entity }
-        ensures { Answers (λ x. self.new) result [] (self.old ++ (name.now, entity) ∷ []) }
+        ensures { Answers (λ x. self.new) result (doubled (self.old ∷ []) name.now) (self.old ++ (name.now.text, entity) ∷ []) }
     {
-        let name = copied(alloc, name)?;
-        self.declared.push(Declared { name, entity })?;
+        if self.get(&name.text).is_some() {
+            return Err(refused(CheckCode::C2, name.place));
+        }
+        let key = name.text.bytes().to_vec(alloc)?;
+        self.declared.insert(key, entity)?;
         Ok(())
     }
-}
-
-fn found(declared: &[Declared], name: &Text) -> Option<Entity>
-    ensures { result ≡ in_block name.now (map (λ d. (d.name, d.entity)) declared.now) }
-{
-    for one in declared {
-        if one.name.bytes() == name.bytes() {
-            return Some(one.entity);
-        }
-    }
-    None
 }
 
 /// A copy of a name.
 pub fn copied(alloc: Global, name: &Text) -> Result<Text, CheckFault>
     ensures { Answers (λ text. text) result [] name.now }
 {
-    let bytes = name.bytes();
-    let mut copy = Vec::new(alloc);
-    copy.extend_from_slice(bytes)?;
-    Ok(Text::new(copy))
+    Ok(name.copy(alloc)?)
 }

@@ -101,12 +101,13 @@ impl<'a> Scope<'a> {
         }
     }
 
-    /// One declaration more in the innermost block.
-    pub fn declare(&mut self, alloc: Global, name: &Text, entity: Entity) -> Result<(), CheckFault>
+    /// One declaration more in the innermost block, of a name that it does not declare yet.
+    #[tactic(auto, using(crate::proofs::Scopes::here_below))]
+    pub fn declare(&mut self, alloc: Global, name: &Name, entity: Entity) -> Result<(), CheckFault>
         requires some { 1 < length self.old }
         requires sound { IsSound entity }
         ensures count { length self.new ≡ length self.old }
-        ensures value { Answers (λ x. self.new) result [] (scope.declaring name.now entity self.old) }
+        ensures value { Answers (λ x. self.new) result (faults.doubled self.old name.now) (scope.declaring name.now.text entity self.old) }
     {
         declare_in_last(alloc, &mut self.blocks, name, entity)
     }
@@ -115,39 +116,39 @@ impl<'a> Scope<'a> {
 fn declare_in_last(
     alloc: Global,
     blocks: &mut [Names],
-    name: &Text,
+    name: &Name,
     entity: Entity,
 ) -> Result<(), CheckFault>
     requires some { 0 < length blocks.old }
     requires sound { IsSound entity }
     ensures count { length blocks.new ≡ length blocks.old }
-    ensures value { Answers (λ x. blocks.new) result [] (scope.declaring name.now entity blocks.old) }
+    ensures value { Answers (λ x. blocks.new) result (faults.doubled blocks.old name.now) (scope.declaring name.now.text entity blocks.old) }
 {
     let last = blocks.len() - 1;
     let block = &mut blocks[last];
-    block.declare(alloc, name, entity)?;
-    Ok(())
+    block.declare(alloc, name, entity)
 }
 
+/// What a name means in blocks, the innermost last.
 fn innermost(blocks: &[Names], name: &Text) -> Option<Entity>
     ensures value { result ≡ scope.entity_of name.now blocks.now }
     ensures sound { IfSome result IsSound }
 {
-    let mut found = None;
-    for block in blocks {
-        if let Some(entity) = block.get(name) {
-            found = Some(entity);
-        }
+    match blocks {
+        [block, inner @ ..] => match innermost(inner, name) {
+            Some(entity) => Some(entity),
+            None => block.get(name),
+        },
+        [] => None,
     }
-    found
 }
 
-fn entity_in_last(file: &Names, blocks: &[Names], name: &Text) -> Option<Entity>
-    ensures { result ≡ scope.entity_here name.now (file.now ∷ blocks.now) }
+/// What the innermost block declares a name as, where these are inside the outer one.
+fn entity_in_last(outer: &Names, inner: &[Names], name: &Text) -> Option<Entity>
+    ensures { result ≡ scope.entity_here name.now (outer.now ∷ inner.now) }
 {
-    if blocks.is_empty() {
-        file.get(name)
-    } else {
-        blocks[blocks.len() - 1].get(name)
+    match inner {
+        [next, deeper @ ..] => entity_in_last(next, deeper, name),
+        [] => outer.get(name),
     }
 }

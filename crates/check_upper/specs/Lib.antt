@@ -1,5 +1,4 @@
 pub mod Tasks
 pub mod Uppers
-pub mod Items
 pub mod Views
 pub mod Signatures

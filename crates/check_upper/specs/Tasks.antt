@@ -25,9 +25,9 @@ pub record Task : Type 0 where
   pub body : Body
 
 -- the number of the first task of this name, and of no task where there is none
-abbrev pub task_place : ℕ → List ℕ → List Task → ℕ
-task_place n x [] = n
-task_place n x (t ∷ rest) = if bytes_eq t.declared.name.text x then n else task_place (n + 1) x rest
+abbrev pub task_position : ℕ → List ℕ → List Task → ℕ
+task_position n x [] = n
+task_position n x (t ∷ rest) = if bytes_eq t.declared.name.text x then n else task_position (n + 1) x rest
 
 abbrev pub parameters_of : Option Task → List Parameter
 parameters_of None = []

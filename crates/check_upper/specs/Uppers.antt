@@ -14,14 +14,14 @@ use Rattle.check_scope.specs.declared.fault.CheckCode.TheVariants.{C3, C10}
 use Rattle.check_scope.specs.declared.entity.Entity.{Entity}
 use Rattle.check_scope.specs.declared.entity.Entity.TheVariants as entity
 use Rattle.check_expression.specs.Kinds.{same_kind}
-use Rattle.check_scope.specs.Scopes.{Block, Scope, entity_of, declaring}
+use Rattle.check_scope.specs.Scopes.{Block, Scope, entity_of, number_of, declaring}
 use Rattle.check_scope.specs.Faults.{fault, where_so, wrong_entity, doubled}
 use Rattle.check_expression.specs.Expressions.{is_constant, constant_faults, constant_value, as_kind, wanted}
 use Rattle.check_expression.specs.Counts.{count_of, count_faults}
 use Rattle.check_upper.specs.declared.task.Channel.{Channel}
 use Rattle.check_upper.specs.declared.task.Binding.{Binding}
 use Rattle.check_upper.specs.declared.task.Binding.TheVariants.{OwnStream, StreamParameter, MemoryParameter, ScalarParameter, Constant}
-use Rattle.check_upper.specs.Tasks.{Invocation, Body, upper_body, Task, task_place, parameters_of}
+use Rattle.check_upper.specs.Tasks.{Invocation, Body, upper_body, Task, parameters_of}
 
 -- ---- parameters and streams, which are in one block
 
@@ -184,12 +184,16 @@ mode_faults None = []
 mode_faults (Some mode) = where_so (not (bytes_eq mode.text (codes "join"))) (fault C3 mode.place)
 
 abbrev pub is_task : Entity → Bool
-is_task entity.Task = true
+is_task (entity.Task n) = true
 is_task s = false
 
+-- the number of the task that a name means
+abbrev pub invoked_task : Scope → List ℕ → ℕ
+invoked_task E x = number_of (entity_of x E)
+
 -- the parameters of the task of this name: the invoking task itself, or one before it
-abbrev pub invoked_parameters : List Task → TaskTree → List ℕ → List Parameter
-invoked_parameters tasks self x = if bytes_eq x self.name.text then self.parameters else parameters_of (slice_get tasks (task_place 0 x tasks))
+abbrev pub invoked_parameters : Scope → List Task → TaskTree → List ℕ → List Parameter
+invoked_parameters E tasks self x = if bytes_eq x self.name.text then self.parameters else parameters_of (slice_get tasks (invoked_task E x))
 
 -- C3: a task is invoked with as many arguments as it has parameters; C10: and not by itself
 abbrev pub callee_faults : Scope → List Parameter → Bool → InvocationTree → List Broken
@@ -199,13 +203,13 @@ callee_faults E parameters is_self i =
 abbrev pub invocation_faults : Scope → List Task → TaskTree → InvocationTree → List Broken
 invocation_faults E tasks self i =
     mode_faults i.mode
-    ++ (wrong_entity is_task i.task.place (entity_of i.task.text E) ++ callee_faults E (invoked_parameters tasks self i.task.text) (bytes_eq i.task.text self.name.text) i)
+    ++ (wrong_entity is_task i.task.place (entity_of i.task.text E) ++ callee_faults E (invoked_parameters E tasks self i.task.text) (bytes_eq i.task.text self.name.text) i)
 
 abbrev pub invocation_of : Scope → List Task → TaskTree → InvocationTree → Invocation
 invocation_of E tasks self i = record {
   place = i.task.place;
-  task = task_place 0 i.task.text tasks;
-  bindings = bindings_of E (invoked_parameters tasks self i.task.text) i.arguments;
+  task = invoked_task E i.task.text;
+  bindings = bindings_of E (invoked_parameters E tasks self i.task.text) i.arguments;
 }
 
 abbrev pub invocations_faults : Scope → List Task → TaskTree → List InvocationTree → List Broken

@@ -1,14 +1,12 @@
 -- What tasks stand for.
-use Rattle.std.specs.Prelude.{List, map}
+use Rattle.std.specs.Prelude.{map}
 use Rattle.tapa_syntax.specs.Trees.{task_of}
 use Rattle.tapa_syntax.specs.Flat.{flat_leaf}
-use Rattle.check_scope.specs.Scopes.{Block}
 use Rattle.check_upper.specs.declared.task.Body.{Body}
 use Rattle.check_upper.specs.declared.task.Body.TheVariants.{Leaf, Upper}
 use Rattle.check_upper.specs.declared.task.Invoked.{Invoked}
 use Rattle.check_upper.specs.declared.task.Task.{Task}
 use Rattle.check_upper.specs.Tasks as task
-use Rattle.check_upper.specs.Items.{Items}
 
 abbrev pub invocation_view : Invoked → task.Invocation
 invocation_view i = record { place = i.place; task = i.task; bindings = i.bindings.items }
@@ -19,6 +17,3 @@ body_view (Upper channels invocations) = task.upper_body channels.items (map inv
 
 abbrev pub task_view : Task → task.Task
 task_view t = record { declared = task_of t.declared.now; body = body_view t.body }
-
-abbrev pub items_view : Block → List Task → Items
-items_view block tasks = record { block = block; tasks = map task_view tasks }

@@ -43,10 +43,9 @@ impl<'a> Channels<'a> {
         ensures count { length self.new.scope ≡ length self.old.scope }
         ensures value { Answers (λ x. channels_of self.new) result (doubled self.old.scope name.now) (upper.with_channel kind depth (channels_of self.old) name.now) }
     {
-        self.scope.check_new(name)?;
         let number = number_of(self.streams.len())?;
         self.scope
-            .declare(alloc, &name.text, Entity::Channel { kind, number })?;
+            .declare(alloc, name, Entity::Channel { kind, number })?;
         self.streams.push(Channel {
             name: copied(alloc, &name.text)?,
             place: name.place,

@@ -1,4 +1,4 @@
-ghost use Rattle.std.specs.Prelude.{◌≡◌, bytes_eq, map, slice_get};
+ghost use Rattle.std.specs.Prelude.{◌≡◌, map, slice_get};
 ghost use Rattle.tapa_syntax.specs.Trees as tree;
 ghost use Rattle.check_scope.specs.Answers.{Answers};
 ghost use Rattle.check_scope.specs.Faults.{wrong_entity};
@@ -11,9 +11,8 @@ use crate::argument::arguments;
 use crate::channel::Channels;
 use crate::parameter::scope_of;
 use crate::task::{Binding, Body, Invoked, Task};
-use check_scope::{CheckCode, CheckFault, Entity, FileNames, Scope, refused};
+use check_scope::{CheckCode, CheckFault, Entity, Names, Scope, refused};
 use std::alloc::Global;
-use tapa_base::Text;
 use tapa_syntax::{Invocation, Name, Parameter, StreamDeclaration, TaskDeclaration};
 
 /// The one mode of an invocation is `tapa::join`.
@@ -30,32 +29,21 @@ fn check_mode(mode: &Option<Name>) -> Result<(), CheckFault>
     }
 }
 
-fn check_is_task(scope: &Scope, name: &Name) -> Result<(), CheckFault>
-    ensures { Answers (λ x. x) result (wrong_entity upper.is_task name.now.place (entity_of name.now.text scope.now)) tt }
+/// The number of the task that a name means.
+fn task_number(scope: &Scope, name: &Name) -> Result<u32, CheckFault>
+    ensures { Answers (λ n. n) result (wrong_entity upper.is_task name.now.place (entity_of name.now.text scope.now)) (upper.invoked_task scope.now name.now.text) }
 {
     match scope.entity(&name.text) {
-        Some(Entity::Task) => Ok(()),
+        Some(Entity::Task { number }) => Ok(number),
         Some(_) => Err(refused(CheckCode::C3, name.place)),
         None => Err(refused(CheckCode::C1, name.place)),
     }
 }
 
-/// The number of the task of a name, and of no task where there is none.
-fn place_among(tasks: &[Task], name: &Text) -> usize
-    ensures { result ≡ spec.task_place 0 name.now (map task_view tasks.now) }
+fn parameters_at<'t>(tasks: &'t [Task], number: usize) -> &'t [Parameter]
+    ensures { result.now ≡ spec.parameters_of (slice_get (map task_view tasks.now) number) }
 {
-    for (place, task) in tasks.iter().enumerate() {
-        if task.declared.name.text.bytes() == name.bytes() {
-            return place;
-        }
-    }
-    tasks.len()
-}
-
-fn parameters_at<'t>(tasks: &'t [Task], place: usize) -> &'t [Parameter]
-    ensures { result.now ≡ spec.parameters_of (slice_get (map task_view tasks.now) place) }
-{
-    match tasks.get(place) {
+    match tasks.get(number) {
         Some(task) => &task.declared.parameters,
         None => &[],
     }
@@ -91,10 +79,8 @@ fn invocation(
     ensures { Answers invocation_view result (upper.invocation_faults scope.now (map task_view tasks.now) (tree.task_of own.now) (tree.invocation_of invocation.now)) (upper.invocation_of scope.now (map task_view tasks.now) (tree.task_of own.now) (tree.invocation_of invocation.now)) }
 {
     check_mode(&invocation.mode)?;
-    check_is_task(scope, &invocation.task)?;
-    let name = &invocation.task.text;
-    let task = place_among(tasks, name);
-    let is_self = name.bytes() == own.name.text.bytes();
+    let task = task_number(scope, &invocation.task)? as usize;
+    let is_self = invocation.task.text.bytes() == own.name.text.bytes();
     let parameters = if is_self {
         own.parameters.as_slice()
     } else {
@@ -124,9 +110,9 @@ fn invocations(
 }
 
 /// An upper-level task, of a file that has declared these names, itself among them, and has these tasks before it.
-pub(crate) fn check_upper(
+pub fn check_upper(
     alloc: Global,
-    file: &FileNames,
+    file: &Names,
     tasks: &[Task],
     own: &TaskDeclaration,
     streams: &[StreamDeclaration],

@@ -1,11 +1,10 @@
 ghost use Rattle.std.specs.Prelude.{◌≡◌, ◌<◌, ◌+◌, [], IfOk, length};
 ghost use Rattle.check_scope.specs.Answers.{Answers};
 ghost use Rattle.check_scope.specs.Faults.{doubled};
-ghost use Rattle.check_scope.specs.Scopes.{IsSound, declaring};
 ghost use Rattle.check_upper.specs.Signatures.{signature_of};
 ghost use Rattle.check_upper.specs.Uppers as upper;
 
-use check_scope::{CheckFault, Entity, FileNames, Scope, next_number};
+use check_scope::{CheckFault, Entity, Names, Scope, next_number};
 use std::alloc::Global;
 use tapa_base::Kind;
 use tapa_syntax::{Name, Parameter};
@@ -19,19 +18,8 @@ pub(crate) struct Signature<'a> {
     scalars: u32,
 }
 
-/// One declaration more in a block of a task.
-fn declare(alloc: Global, scope: &mut Scope, name: &Name, entity: Entity) -> Result<(), CheckFault>
-    requires some { 1 < length scope.old }
-    requires sound { IsSound entity }
-    ensures count { length scope.new ≡ length scope.old }
-    ensures value { Answers (λ x. scope.new) result (doubled scope.old name.now) (declaring name.now.text entity scope.old) }
-{
-    scope.check_new(name)?;
-    scope.declare(alloc, &name.text, entity)
-}
-
 impl<'a> Signature<'a> {
-    fn new(alloc: Global, file: &'a FileNames) -> Result<Self, CheckFault>
+    fn new(alloc: Global, file: &'a Names) -> Result<Self, CheckFault>
         ensures some { IfOk result (λ h. 1 < length h.scope) }
         ensures value { Answers signature_of result [] (upper.task_begins file.now) }
     {
@@ -62,7 +50,7 @@ impl<'a> Signature<'a> {
             kind,
             number,
         };
-        declare(alloc, &mut self.scope, name, entity)?;
+        self.scope.declare(alloc, name, entity)?;
         self.streams = next_number(number)?;
         Ok(())
     }
@@ -79,12 +67,8 @@ impl<'a> Signature<'a> {
         ensures value { Answers (λ x. signature_of self.new) result (doubled self.old.scope name.now) (upper.with_memory free kind name.now (signature_of self.old)) }
     {
         let number = self.memories;
-        declare(
-            alloc,
-            &mut self.scope,
-            name,
-            Entity::Memory { free, kind, number },
-        )?;
+        let entity = Entity::Memory { free, kind, number };
+        self.scope.declare(alloc, name, entity)?;
         self.memories = next_number(number)?;
         Ok(())
     }
@@ -101,12 +85,8 @@ impl<'a> Signature<'a> {
         ensures value { Answers (λ x. signature_of self.new) result (doubled self.old.scope name.now) (upper.with_scalar free kind name.now (signature_of self.old)) }
     {
         let number = self.scalars;
-        declare(
-            alloc,
-            &mut self.scope,
-            name,
-            Entity::Variable { free, kind, number },
-        )?;
+        let entity = Entity::Variable { free, kind, number };
+        self.scope.declare(alloc, name, entity)?;
         self.scalars = next_number(number)?;
         Ok(())
     }
@@ -136,7 +116,7 @@ impl<'a> Signature<'a> {
 /// The names in scope behind a task's parameters.
 pub(crate) fn scope_of<'a>(
     alloc: Global,
-    file: &'a FileNames,
+    file: &'a Names,
     parameters: &[Parameter],
 ) -> Result<Scope<'a>, CheckFault>
     ensures some { IfOk result (λ scope. 1 < length scope) }

@@ -1,4 +1,4 @@
-pub mod Order
+pub mod Bound
 pub mod Limits
 pub mod Levels
 pub mod Whole

@@ -8,7 +8,7 @@ use Rattle.check_scope.specs.Faults.{over, where_so}
 use Rattle.stream_check.specs.Parts.{Part, own, instance, too_deep, streams_in, instances_in, followed}
 use Rattle.stream_check.specs.Programs.{limit_faults, most_levels}
 use Rattle.stream_check.specs.Views.{Flat, flat_faults, with_parts}
-use Rattle.stream_check.proofs.Order.{refuses}
+use Rattle.check_scope.proofs.Order.{refuses}
 
 streams_both : (p q : List Part) → streams_in (p ++ q) ≡ streams_in p ++ streams_in q
 streams_both [] q = refl

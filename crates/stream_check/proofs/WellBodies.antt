@@ -4,7 +4,7 @@ use Rattle.std.specs.Prelude.{slice_get, ◌==◌, if◌then◌else◌}
 use Rattle.std.proofs.lemmas.Bool.{eqb-true, eq-eqb}
 use Rattle.tapa_syntax.specs.Flat.{FlatInstance, FlatLeaf}
 use Rattle.check_upper.specs.Tasks.{Body, leaf_body, upper_body, Task}
-use Rattle.stream_check.specs.Programs.{is_used, body_numbers, leaf_in, is_among, bodies_of, place_among}
+use Rattle.stream_check.specs.Programs.{is_used, body_numbers, leaf_in, is_among, bodies_of, position_among}
 use Rattle.stream_check.proofs.WellLists.{nothing, the_same, Each, each_append}
 use Rattle.stream_check.proofs.WellPorts.{Ports, ports_of, LeafFits}
 use Rattle.stream_check.proofs.WellTasks.{BodyFits, TaskFits}
@@ -61,7 +61,7 @@ module _ (xs : List FlatInstance) where
 
   pub record BodyAt (p n k : ℕ) (numbers : List ℕ) (ts : List Task) (l : FlatLeaf) : Type 0 where
     pub at : ℕ
-    pub is : place_among p k (body_numbers xs n ts) ≡ p + at
+    pub is : position_among p k (body_numbers xs n ts) ≡ p + at
     pub there : slice_get (bodies_of numbers n ts) at ≡ Some l
 
   after_one : (n : ℕ) → n + 1 + 0 ≡ n + 1
@@ -79,21 +79,21 @@ module _ (xs : List FlatInstance) where
   here_by : (p n : ℕ) (numbers : List ℕ) (u : Task) (ts : List Task) (l : FlatLeaf) → u.body ≡ leaf_body l → is_used xs n ≡ true → is_among n numbers ≡ true → BodyAt p n n numbers (u ∷ ts) l
   here_by p n numbers u ts l e used a = record {
     at = 0;
-    is = ap (λ b. place_among p n ((if b then n ∷ [] else []) ++ body_numbers xs (n + 1) ts)) used ∙ ap (λ b. if b then p else place_among (p + 1) n (body_numbers xs (n + 1) ts)) (same_number n) ∙ omega arith;
+    is = ap (λ b. position_among p n ((if b then n ∷ [] else []) ++ body_numbers xs (n + 1) ts)) used ∙ ap (λ b. if b then p else position_among (p + 1) n (body_numbers xs (n + 1) ts)) (same_number n) ∙ omega arith;
     there = ap (λ b. slice_get ((if b then leaf_in u.body else []) ++ bodies_of numbers (n + 1) ts) 0) a ∙ ap (λ b. slice_get (leaf_in b ++ bodies_of numbers (n + 1) ts) 0) e;
   }
 
   later_used : (p n k : ℕ) (numbers : List ℕ) (u : Task) (ts : List Task) (l m : FlatLeaf) → n < k → u.body ≡ leaf_body m → is_used xs n ≡ true → is_among n numbers ≡ true → BodyAt (p + 1) (n + 1) k numbers ts l → BodyAt p n k numbers (u ∷ ts) l
   later_used p n k numbers u ts l m less e used a r = record {
     at = suc r.at;
-    is = ap (λ b. place_among p k ((if b then n ∷ [] else []) ++ body_numbers xs (n + 1) ts)) used ∙ ap (λ b. if b then p else place_among (p + 1) k (body_numbers xs (n + 1) ts)) (differ n k (λ e. omega arith)) ∙ r.is ∙ omega arith;
+    is = ap (λ b. position_among p k ((if b then n ∷ [] else []) ++ body_numbers xs (n + 1) ts)) used ∙ ap (λ b. if b then p else position_among (p + 1) k (body_numbers xs (n + 1) ts)) (differ n k (λ e. omega arith)) ∙ r.is ∙ omega arith;
     there = ap (λ b. slice_get ((if b then leaf_in u.body else []) ++ bodies_of numbers (n + 1) ts) (suc r.at)) a ∙ ap (λ b. slice_get (leaf_in b ++ bodies_of numbers (n + 1) ts) (suc r.at)) e ∙ r.there;
   }
 
   later_unused : (p n k : ℕ) (numbers : List ℕ) (u : Task) (ts : List Task) (l : FlatLeaf) → is_used xs n ≡ false → is_among n numbers ≡ false → BodyAt p (n + 1) k numbers ts l → BodyAt p n k numbers (u ∷ ts) l
   later_unused p n k numbers u ts l used a r = record {
     at = r.at;
-    is = ap (λ b. place_among p k ((if b then n ∷ [] else []) ++ body_numbers xs (n + 1) ts)) used ∙ r.is;
+    is = ap (λ b. position_among p k ((if b then n ∷ [] else []) ++ body_numbers xs (n + 1) ts)) used ∙ r.is;
     there = ap (λ b. slice_get ((if b then leaf_in u.body else []) ++ bodies_of numbers (n + 1) ts) r.at) a ∙ r.there;
   }
 
@@ -124,11 +124,11 @@ module _ (xs : List FlatInstance) where
   from_zero : (k : ℕ) → 0 + k ≡ k
   from_zero k = omega arith
 
-  pub body_there : (tasks : List Task) (k : ℕ) (t : Task) (l : FlatLeaf) → ((i : ℕ) (u : Task) → slice_get tasks i ≡ Some u → is_used xs i ≡ true → (m : FlatLeaf) × (u.body ≡ leaf_body m)) → slice_get tasks k ≡ Some t → t.body ≡ leaf_body l → is_used xs k ≡ true → slice_get (bodies_of (body_numbers xs 0 tasks) 0 tasks) (place_among 0 k (body_numbers xs 0 tasks)) ≡ Some l
+  pub body_there : (tasks : List Task) (k : ℕ) (t : Task) (l : FlatLeaf) → ((i : ℕ) (u : Task) → slice_get tasks i ≡ Some u → is_used xs i ≡ true → (m : FlatLeaf) × (u.body ≡ leaf_body m)) → slice_get tasks k ≡ Some t → t.body ≡ leaf_body l → is_used xs k ≡ true → slice_get (bodies_of (body_numbers xs 0 tasks) 0 tasks) (position_among 0 k (body_numbers xs 0 tasks)) ≡ Some l
   body_there tasks k t l leaves h e used =
       let z = from_zero k in
       let r = body_at 0 0 k (body_numbers xs 0 tasks) tasks t l (λ i u a. among 0 i tasks u a) (λ i u a b. leaves i u a (subst (λ j. is_used xs j ≡ true) (from_zero i) b)) h e (subst (λ j. is_used xs j ≡ true) (sym z) used) in
-      let place : place_among 0 k (body_numbers xs 0 tasks) ≡ r.at = subst (λ j. place_among 0 j (body_numbers xs 0 tasks) ≡ r.at) z (r.is ∙ from_zero r.at) in
+      let place : position_among 0 k (body_numbers xs 0 tasks) ≡ r.at = subst (λ j. position_among 0 j (body_numbers xs 0 tasks) ≡ r.at) z (r.is ∙ from_zero r.at) in
       subst (λ j. slice_get (bodies_of (body_numbers xs 0 tasks) 0 tasks) j ≡ Some l) (sym place) r.there
 
 -- ---- each body is the leaf of a legal task

@@ -123,7 +123,7 @@ bind_body x first y (MemoryParameter n) = refl
 bind_body x first y (ScalarParameter n from to) = refl
 bind_body x first y (Constant n) = refl
 
-bind_bodies : (x : FlatInstance) (first : ℕ) (y : FlatInstance) (ls : List Binding) → (bind_all x first y ls).body ≡ y.body
+pub bind_bodies : (x : FlatInstance) (first : ℕ) (y : FlatInstance) (ls : List Binding) → (bind_all x first y ls).body ≡ y.body
 bind_bodies x first y [] = refl
 bind_bodies x first y (l ∷ ls) = bind_bodies x first (bind x first y l) ls ∙ bind_body x first y l
 

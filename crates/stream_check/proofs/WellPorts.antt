@@ -108,9 +108,9 @@ leaf_fits file t ss sound h =
 
 -- ---- what names mean
 
--- some task before has this name
-abbrev pub IsNamed : List Task → List ℕ → Type 0
-IsNamed tasks x = list_any (λ (t : Task). bytes_eq t.declared.name.text x) tasks ≡ true
+-- some task before has this number
+abbrev pub IsTask : List Task → ℕ → Type 0
+IsTask tasks n = (t : Task) × (slice_get tasks n ≡ Some t)
 
 -- what a name means in an upper-level task of this name with these ports and streams
 abbrev pub Means : List Task → List ℕ → Ports → List Channel → List ℕ → Entity → Type 0
@@ -120,12 +120,12 @@ Means tasks self q c x (entity.Array free k n) = Unit {0}
 Means tasks self q c x (entity.Memory free k n) = slice_get q.memories n ≡ Some k
 Means tasks self q c x (entity.Stream writes k n) = slice_get q.streams n ≡ Some (end_of writes k)
 Means tasks self q c x (entity.Channel k n) = (d : Channel) × (slice_get c n ≡ Some d) × (d.kind ≡ k)
-Means tasks self q c x entity.Task = (x ≡ self) ⊎ IsNamed tasks x
+Means tasks self q c x (entity.Task n) = (x ≡ self) ⊎ IsTask tasks n
 
 -- what a name means in a file with these tasks
 abbrev pub MeansInFile : List Task → List ℕ → Entity → Type 0
 MeansInFile tasks x (entity.Constant k n) = n < values_of k
-MeansInFile tasks x entity.Task = IsNamed tasks x
+MeansInFile tasks x (entity.Task n) = IsTask tasks n
 MeansInFile tasks x s = ⊥
 
 abbrev pub Declares : (List ℕ → Entity → Type 0) → Block → Type 0
@@ -168,7 +168,7 @@ is_sound tasks self q c x (entity.Array free k n) m = tt
 is_sound tasks self q c x (entity.Memory free k n) m = tt
 is_sound tasks self q c x (entity.Stream writes k n) m = tt
 is_sound tasks self q c x (entity.Channel k n) m = tt
-is_sound tasks self q c x entity.Task m = tt
+is_sound tasks self q c x (entity.Task task_number) m = tt
 
 pub scope_sound : (tasks : List Task) (self : List ℕ) (q : Ports) (c : List Channel) (E : Scope) → DeclareAll (Means tasks self q c) E → Sound E
 scope_sound tasks self q c E a x s h = is_sound tasks self q c x s (found (Means tasks self q c) x E a s h)
@@ -180,7 +180,7 @@ in_task tasks self q c x (entity.Array free k n) m = absurd m
 in_task tasks self q c x (entity.Memory free k n) m = absurd m
 in_task tasks self q c x (entity.Stream writes k n) m = absurd m
 in_task tasks self q c x (entity.Channel k n) m = absurd m
-in_task tasks self q c x entity.Task m = inr m
+in_task tasks self q c x (entity.Task task_number) m = inr m
 
 global : (tasks : List Task) (x : List ℕ) (s : Entity) → MeansInFile tasks x s → IsGlobal s
 global tasks x (entity.Constant k n) m = m
@@ -189,12 +189,12 @@ global tasks x (entity.Array free k n) m = m
 global tasks x (entity.Memory free k n) m = m
 global tasks x (entity.Stream writes k n) m = m
 global tasks x (entity.Channel k n) m = m
-global tasks x entity.Task m = tt
+global tasks x (entity.Task task_number) m = tt
 
 -- a file that has declared a block, and then a task
-pub file_global : (tasks : List Task) (b : Block) (x : List ℕ) → Declares (MeansInFile tasks) b → AreGlobal (b ++ (x, entity.Task) ∷ [])
-file_global tasks [] x a = (tt, tt)
-file_global tasks (d ∷ rest) x (m, a) = (global tasks d.0 d.1 m, file_global tasks rest x a)
+pub file_global : (tasks : List Task) (b : Block) (x : List ℕ) (n : ℕ) → Declares (MeansInFile tasks) b → AreGlobal (b ++ (x, entity.Task n) ∷ [])
+file_global tasks [] x n a = (tt, tt)
+file_global tasks (d ∷ rest) x n (m, a) = (global tasks d.0 d.1 m, file_global tasks rest x n a)
 
 -- ---- parameters keep what names mean
 
@@ -206,4 +206,4 @@ means_more tasks self q r c d f g h i x (entity.Array free k n) m = tt
 means_more tasks self q r c d f g h i x (entity.Memory free k n) m = g n k m
 means_more tasks self q r c d f g h i x (entity.Stream writes k n) m = f n (end_of writes k) m
 means_more tasks self q r c d f g h i x (entity.Channel k n) m = (m.0, i n m.0 m.1, m.2)
-means_more tasks self q r c d f g h i x entity.Task m = m
+means_more tasks self q r c d f g h i x (entity.Task task_number) m = m

@@ -24,12 +24,12 @@ use Rattle.tapa_syntax.specs.WellFormed.{IsBoundTo, IsEndOf, IsInstance, IsJoine
 use Rattle.check_scope.specs.declared.fault.CheckCode.TheVariants.{C3}
 use Rattle.check_leaf.proofs.Leaves.{leaf_well}
 use Rattle.check_upper.specs.declared.task.Channel.{Channel}
-use Rattle.check_upper.specs.Items.{no_items, items_faults, tasks_of}
-use Rattle.check_upper.specs.Tasks.{leaf_body, Task, task_place}
+use Rattle.stream_check.specs.Items.{no_items, items_faults, tasks_of}
+use Rattle.check_upper.specs.Tasks.{leaf_body, Task, task_position}
 use Rattle.stream_check.specs.Parts.{streams_in, instances_in}
 use Rattle.stream_check.specs.Programs.{is_stream_parameter, is_upper, top_faults, top_instance, all_levels, top_parts, parts_faults, top_task_faults, top_program, limit_faults, ends_in, ends_of, instances_at, instances_with, is_one, the_one, stream_of, streams_faults, streams_of, memories_faults, memories_of, scalars_of, is_used, body_numbers, bodies_of, with_body, bindings_faults, whole_faults, program_faults, program_made, program_of}
 use Rattle.stream_check.proofs.WellLists.{the_same, both, not_so, no_faults, holds, Each, each_get, get_map, get_unmap, length_map, Pairs, pairs_length, pairs_get, pairs_right}
-use Rattle.stream_check.proofs.WellSpots.{TheSpot, ends_at, the_end, end_there, there_end, memory_at, the_owner, memory_there}
+use Rattle.stream_check.proofs.WellSpots.{TheSpot, ends_at, the_end, end_there, there_end, memory_at, the_owner, memory_there, there_memory}
 use Rattle.stream_check.proofs.WellPorts.{Ports, ports_of, LeafFits}
 use Rattle.stream_check.proofs.WellUppers.{HasDepth}
 use Rattle.stream_check.proofs.WellTasks.{BodyFits, TaskFits, tasks_fit}
@@ -276,6 +276,18 @@ module _ (tasks : List Task) (top : TaskTree) (is : List FlatInstance) (cs : Lis
   streams_length k [] = refl
   streams_length k (d ∷ ds) = ap suc (streams_length (k + 1) ds)
 
+  memory_well : (m : ℕ) (r : Memory) → slice_get p.memories.items m ≡ Some r → well.IsOwned p m r
+  memory_well m r h =
+      let o = subst (λ n. (r.owner ≡ the_one (instances_with n 0 is)) × (is_one (instances_with n 0 is) ≡ true)) (zero_left m) (memories_one is 0 ps f.memories m r (subst (λ rs. slice_get rs m ≡ Some r) memories_same h)) in
+      let t = the_owner m is o.1 in
+      let u = get_unmap flat_instance p.instances.items (the_one (instances_with m 0 is)) (with_body numbers t.instance) (subst (λ xs. slice_get xs (the_one (instances_with m 0 is)) ≡ Some (with_body numbers t.instance)) (sym instances_same) (get_map (with_body numbers) is (the_one (instances_with m 0 is)) t.instance t.there)) in
+      record {
+        instance = u.0;
+        is = subst (λ n. slice_get p.instances.items n ≡ Some u.0) (sym o.0) u.1;
+        position = t.position;
+        bound = subst (λ ns. slice_get ns t.position ≡ Some m) (sym (ap (λ (z : FlatInstance). z.memories) u.2)) (there_memory m t.instance.memories t.position t.bound);
+      }
+
   program_well : IsWellFormed p
   program_well = record {
     few_instances = subst (λ n. n ≤ 512) (sym (sym (length_map flat_instance p.instances.items) ∙ ap length instances_same ∙ length_map (with_body numbers) is)) f.few_instances;
@@ -285,6 +297,7 @@ module _ (tasks : List Task) (top : TaskTree) (is : List FlatInstance) (cs : Lis
         leaf_well g.1.file g.1.sound g.1.task g.1.code leaf g.1.legal g.1.is;
     instances = instance_well;
     streams = stream_well;
+    memories = memory_well;
   }
 
 -- ---- the facts of a legal file
@@ -322,6 +335,6 @@ whole_program_well levels n tasks (Some t) program there fine h same =
 
 pub legal_program_well : (items : List ItemTree) (top : List ℕ) (program : Program) → program_faults items top ≡ [] → flat_program program ≡ program_of items top → IsWellFormed program
 legal_program_well items top program h same =
-    let n = task_place 0 top (tasks_of items) in
-    let a = no_faults (items_faults no_items items) (whole_faults all_levels (tasks_of items) (task_place 0 top (tasks_of items))) h in
+    let n = task_position 0 top (tasks_of items) in
+    let a = no_faults (items_faults no_items items) (whole_faults all_levels (tasks_of items) (task_position 0 top (tasks_of items))) h in
     whole_program_well all_levels n (tasks_of items) (slice_get (tasks_of items) n) program refl (tasks_fit items a.0) a.1 same

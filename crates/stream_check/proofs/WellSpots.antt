@@ -236,3 +236,8 @@ pub memory_there : (m : ℕ) (ns : List ℕ) (p : ℕ) → slice_get ns p ≡ So
 memory_there m [] p h = absurd (nothing m h)
 memory_there m (n ∷ rest) zero h = ap Some (eq-eqb n m (the_same n m h))
 memory_there m (n ∷ rest) (suc p) h = memory_there m rest p h
+
+pub there_memory : (m : ℕ) (ns : List ℕ) (p : ℕ) → slice_get (are_memory m ns) p ≡ Some true → slice_get ns p ≡ Some m
+there_memory m [] p h = absurd (nothing true h)
+there_memory m (n ∷ rest) zero h = ap Some (eqb-true n m (the_same (n == m) true h))
+there_memory m (n ∷ rest) (suc p) h = there_memory m rest p h

@@ -1,8 +1,5 @@
 -- The tasks of a file without faults.
-use Rattle.std.proofs.Common.{◌≡◌, inl, ℕ, List, [], ◌∷◌, ◌++◌, Bool, true, false, ◌||◌, refl}
-use Rattle.std.specs.Prelude.{bytes_eq}
-use Rattle.std.specs.List.{list_any}
-use Rattle.std.proofs.lemmas.Slice.Eq.{bytes_eq-Decides}
+use Rattle.std.proofs.Common.{◌≡◌, inl, ℕ, List, [], ◌∷◌, ◌++◌, length, refl}
 use Rattle.tapa_syntax.specs.Trees as tree
 use Rattle.tapa_syntax.specs.Trees.{BodyTree, TaskTree, ItemTree}
 use Rattle.check_scope.specs.declared.entity.Entity.{Entity}
@@ -11,10 +8,10 @@ use Rattle.check_expression.specs.Expressions.{constant_value, wanted}
 use Rattle.check_scope.specs.Faults.{doubled}
 use Rattle.check_upper.specs.Tasks.{Invocation, Body, leaf_body, upper_body, Task}
 use Rattle.check_upper.specs.declared.task.Channel.{Channel}
-use Rattle.check_upper.specs.Items.{Items, no_items, with_task, body_of, body_faults, after_task, after_item, item_faults, after_items, items_faults, tasks_of}
-use Rattle.stream_check.proofs.WellLists.{no_faults, Each, each_append, each_more, get_left}
+use Rattle.stream_check.specs.Items.{Items, no_items, with_task, body_of, body_faults, after_task, after_item, item_faults, after_items, items_faults, tasks_of}
+use Rattle.stream_check.proofs.WellLists.{no_faults, Each, each_append, each_more, get_left, get_last}
 use Rattle.stream_check.proofs.WellValues.{wanted_fits}
-use Rattle.stream_check.proofs.WellPorts.{Ports, no_ports, ports_of, LeafFits, leaf_fits, IsNamed, Means, MeansInFile, Declares, declares_more, in_task, scope_sound, file_global}
+use Rattle.stream_check.proofs.WellPorts.{Ports, no_ports, ports_of, LeafFits, leaf_fits, IsTask, Means, MeansInFile, Declares, declares_more, in_task, scope_sound, file_global}
 use Rattle.stream_check.proofs.WellUppers.{InvocationFits, UpperFits, upper_fits}
 
 abbrev pub BodyFits : List Task → Ports → Body → Type 0
@@ -39,24 +36,8 @@ body_more tasks more q (upper_body channels invocations) f = record {
 task_more : (tasks more : List Task) (t : Task) → TaskFits tasks t → TaskFits (tasks ++ more) t
 task_more tasks more t f = body_more tasks more (ports_of t.declared.parameters) t.body f
 
-named_left : (tasks more : List Task) (x : List ℕ) (b : Bool) → b || list_any (λ (t : Task). bytes_eq t.declared.name.text x) tasks ≡ true → (list_any (λ (t : Task). bytes_eq t.declared.name.text x) tasks ≡ true → list_any (λ (t : Task). bytes_eq t.declared.name.text x) (tasks ++ more) ≡ true) → b || list_any (λ (t : Task). bytes_eq t.declared.name.text x) (tasks ++ more) ≡ true
-named_left tasks more x true h f = refl
-named_left tasks more x false h f = f h
-
-named_more : (tasks more : List Task) (x : List ℕ) → IsNamed tasks x → IsNamed (tasks ++ more) x
-named_more [] more x h = absurd (cc)
-named_more (t ∷ tasks) more x h = named_left tasks more x (bytes_eq t.declared.name.text x) h (named_more tasks more x)
-
-true_first : (a b : Bool) → a ≡ true → a || b ≡ true
-true_first a b h = rw h
-
-true_second : (a b : Bool) → b ≡ true → a || b ≡ true
-true_second true b h = refl
-true_second false b h = h
-
-named_last : (tasks : List Task) (t : Task) → IsNamed (tasks ++ t ∷ []) t.declared.name.text
-named_last [] t = true_first (bytes_eq t.declared.name.text t.declared.name.text) false ((bytes_eq-Decides t.declared.name.text t.declared.name.text).1 refl)
-named_last (u ∷ tasks) t = true_second (bytes_eq u.declared.name.text t.declared.name.text) _ (named_last tasks t)
+task_at_more : (tasks more : List Task) (n : ℕ) → IsTask tasks n → IsTask (tasks ++ more) n
+task_at_more tasks more n (t, e) = (t, get_left tasks more n t e)
 
 in_file_more : (tasks more : List Task) (x : List ℕ) (s : Entity) → MeansInFile tasks x s → MeansInFile (tasks ++ more) x s
 in_file_more tasks more x (entity.Constant k n) m = m
@@ -65,7 +46,7 @@ in_file_more tasks more x (entity.Array free k n) m = m
 in_file_more tasks more x (entity.Memory free k n) m = m
 in_file_more tasks more x (entity.Stream writes k n) m = m
 in_file_more tasks more x (entity.Channel k n) m = m
-in_file_more tasks more x entity.Task m = named_more tasks more x m
+in_file_more tasks more x (entity.Task task_number) m = task_at_more tasks more task_number m
 
 -- ---- items
 
@@ -74,23 +55,23 @@ pub record ItemsFit (f : Items) : Type 0 where
   pub tasks : Each (TaskFits f.tasks) f.tasks
 
 -- the names of a file in a task of it
-names_in : (f : Items) (t : TaskTree) → ItemsFit f → Declares (Means f.tasks t.name.text no_ports []) (with_task f.block t)
-names_in f t g = each_append (λ (d : List ℕ × Entity). Means f.tasks t.name.text no_ports [] d.0 d.1) f.block ((t.name.text, entity.Task) ∷ [])
+names_in : (f : Items) (t : TaskTree) → ItemsFit f → Declares (Means f.tasks t.name.text no_ports []) (with_task f t)
+names_in f t g = each_append (λ (d : List ℕ × Entity). Means f.tasks t.name.text no_ports [] d.0 d.1) f.block ((t.name.text, entity.Task (length f.tasks)) ∷ [])
     (declares_more (MeansInFile f.tasks) (Means f.tasks t.name.text no_ports []) (in_task f.tasks t.name.text no_ports []) f.block g.names)
     (inl refl, tt)
 
-body_fits : (f : Items) (t : TaskTree) (b : BodyTree) → ItemsFit f → body_faults (with_task f.block t) f.tasks t b ≡ [] → BodyFits f.tasks (ports_of t.parameters) (body_of (with_task f.block t) f.tasks t b)
-body_fits f t (tree.leaf ss) g h = leaf_fits (with_task f.block t) t ss (file_global f.tasks f.block t.name.text g.names) h
-body_fits f t (tree.upper streams invocations) g h = upper_fits (with_task f.block t) f.tasks t streams invocations (names_in f t g, (tt, tt)) h
+body_fits : (f : Items) (t : TaskTree) (b : BodyTree) → ItemsFit f → body_faults (with_task f t) f.tasks t b ≡ [] → BodyFits f.tasks (ports_of t.parameters) (body_of (with_task f t) f.tasks t b)
+body_fits f t (tree.leaf ss) g h = leaf_fits (with_task f t) t ss (file_global f.tasks f.block t.name.text (length f.tasks) g.names) h
+body_fits f t (tree.upper streams invocations) g h = upper_fits (with_task f t) f.tasks t streams invocations (names_in f t g, (tt, tt)) h
 
 task_step : (f : Items) (t : TaskTree) → ItemsFit f → item_faults f (tree.task t) ≡ [] → ItemsFit (after_task f t)
 task_step f t g h =
-    let p = no_faults (doubled (f.block ∷ []) t.name) (body_faults (with_task f.block t) f.tasks t t.body) h in
-    let new : Task = record { declared = t; body = body_of (with_task f.block t) f.tasks t t.body } in
+    let p = no_faults (doubled (f.block ∷ []) t.name) (body_faults (with_task f t) f.tasks t t.body) h in
+    let new : Task = record { declared = t; body = body_of (with_task f t) f.tasks t t.body } in
     record {
-      names = each_append (λ (d : List ℕ × Entity). MeansInFile (f.tasks ++ new ∷ []) d.0 d.1) f.block ((t.name.text, entity.Task) ∷ [])
+      names = each_append (λ (d : List ℕ × Entity). MeansInFile (f.tasks ++ new ∷ []) d.0 d.1) f.block ((t.name.text, entity.Task (length f.tasks)) ∷ [])
           (declares_more (MeansInFile f.tasks) (MeansInFile (f.tasks ++ new ∷ [])) (in_file_more f.tasks (new ∷ [])) f.block g.names)
-          (named_last f.tasks new, tt);
+          ((new, get_last f.tasks new (length f.tasks) refl), tt);
       tasks = each_append (TaskFits (f.tasks ++ new ∷ [])) f.tasks (new ∷ [])
           (each_more (TaskFits f.tasks) (TaskFits (f.tasks ++ new ∷ [])) (task_more f.tasks (new ∷ [])) f.tasks g.tasks)
           (task_more f.tasks (new ∷ []) new (body_fits f t t.body g p.1), tt);

@@ -16,7 +16,7 @@ use Rattle.tapa_syntax.specs.Trees.{ExpressionTree, CountTree, StreamTree, Argum
 use Rattle.check_scope.specs.declared.fault.Broken.{Broken}
 use Rattle.check_scope.specs.declared.entity.Entity.{Entity}
 use Rattle.check_scope.specs.declared.entity.Entity.TheVariants as entity
-use Rattle.check_scope.specs.Scopes.{Block, Scope, entity_of}
+use Rattle.check_scope.specs.Scopes.{Block, Scope, entity_of, number_of}
 use Rattle.check_scope.specs.declared.fault.CheckCode.{CheckCode}
 use Rattle.check_scope.specs.declared.fault.CheckCode.TheVariants.{C3, C10, C11}
 use Rattle.check_scope.specs.Faults.{fault, over, where_so, wrong_entity}
@@ -27,12 +27,12 @@ use Rattle.tapa_syntax.specs.Flat.{literal}
 use Rattle.check_upper.specs.declared.task.Channel.{Channel}
 use Rattle.check_upper.specs.declared.task.Binding.{Binding}
 use Rattle.check_upper.specs.declared.task.Binding.TheVariants.{OwnStream, StreamParameter, MemoryParameter, ScalarParameter, Constant}
-use Rattle.check_upper.specs.Tasks.{Invocation, Task, task_place, parameters_of}
+use Rattle.check_upper.specs.Tasks.{Invocation, Task, parameters_of}
 use Rattle.check_upper.specs.Uppers as upper
 use Rattle.check_upper.specs.Uppers.{Signature, Channels, parameter_kind, is_bound_to, is_task}
 use Rattle.stream_check.proofs.WellLists.{both, no_faults, holds, holds_not, Each, each_append, get_left, get_last, Pairs}
 use Rattle.stream_check.proofs.WellValues.{kinds_same, as_kind_fits, wanted_fits, constant_so}
-use Rattle.stream_check.proofs.WellPorts.{Ports, no_ports, end_of, with_stream, with_memory, with_scalar, with_port, with_ports, ports_of, IsNamed, Means, DeclareAll, found, declare, declare_all_more, scope_sound, means_more}
+use Rattle.stream_check.proofs.WellPorts.{Ports, no_ports, end_of, with_stream, with_memory, with_scalar, with_port, with_ports, ports_of, IsTask, Means, DeclareAll, found, declare, declare_all_more, scope_sound, means_more}
 
 abbrev the_broken : CheckCode → Place → Option ℕ → Broken
 the_broken code place limit = record { code = code; place = place; limit = limit }
@@ -167,7 +167,7 @@ module _ (tasks : List Task) (self : List ℕ) (q : Ports) (c : List Channel) (y
   stream_bound w k (entity.Variable free j n) m h = absurd (cc)
   stream_bound w k (entity.Array free j n) m h = absurd (cc)
   stream_bound w k (entity.Memory free j n) m h = absurd (cc)
-  stream_bound w k entity.Task m h = absurd (cc)
+  stream_bound w k (entity.Task task_number) m h = absurd (cc)
 
   memory_bound : (constant : Bool) (k : Kind) (s : Entity) → Means tasks self q c y s → upper.is_bound_to_memory constant k s ≡ true → MemoryBinding q k (upper.named_binding k (Some s))
   memory_bound constant k (entity.Memory free j n) m h = m ∙ ap Some (kinds_same j k (both (same_kind j k) _ h).0)
@@ -176,7 +176,7 @@ module _ (tasks : List Task) (self : List ℕ) (q : Ports) (c : List Channel) (y
   memory_bound constant k (entity.Constant j n) m h = absurd (cc)
   memory_bound constant k (entity.Variable free j n) m h = absurd (cc)
   memory_bound constant k (entity.Array free j n) m h = absurd (cc)
-  memory_bound constant k entity.Task m h = absurd (cc)
+  memory_bound constant k (entity.Task task_number) m h = absurd (cc)
 
   scalar_bound : (k : Kind) (s : Entity) → Means tasks self q c y s → upper.is_bound_to_scalar s ≡ true → ScalarBinding q k (upper.named_binding k (Some s))
   scalar_bound k (entity.Variable free j n) m h = (m, refl)
@@ -185,7 +185,7 @@ module _ (tasks : List Task) (self : List ℕ) (q : Ports) (c : List Channel) (y
   scalar_bound k (entity.Channel j n) m h = absurd (cc)
   scalar_bound k (entity.Stream writes j n) m h = absurd (cc)
   scalar_bound k (entity.Array free j n) m h = absurd (cc)
-  scalar_bound k entity.Task m h = absurd (cc)
+  scalar_bound k (entity.Task task_number) m h = absurd (cc)
 
   bound : (p : Parameter) (s : Entity) → Means tasks self q c y s → is_bound_to p s ≡ true → BindingFits q c p (upper.named_binding (parameter_kind p) (Some s))
   bound (parameter.InputStream k x) s m h = stream_bound false k s m h
@@ -238,30 +238,14 @@ module _ (tasks : List Task) (self : List ℕ) (q : Ports) (c : List Channel) (E
 
 -- ---- invocations
 
-pub record Placed (n : ℕ) (tasks : List Task) (x : List ℕ) : Type 0 where
-  pub at : ℕ
-  pub is : task_place n x tasks ≡ n + at
-  pub task : Task
-  pub there : slice_get tasks at ≡ Some task
-
-place_by : (n : ℕ) (t : Task) (rest : List Task) (x : List ℕ) (b : Bool) → bytes_eq t.declared.name.text x ≡ b → (list_any (λ (u : Task). bytes_eq u.declared.name.text x) rest ≡ true → Placed (n + 1) rest x) → list_any (λ (u : Task). bytes_eq u.declared.name.text x) (t ∷ rest) ≡ true → Placed n (t ∷ rest) x
-place_by n t rest x true e f h = record { at = 0; is = ap (λ b. if b then n else task_place (n + 1) x rest) e ∙ omega arith; task = t; there = refl }
-place_by n t rest x false e f h =
-    let r = f (sym (ap (λ b. b || list_any (λ (u : Task). bytes_eq u.declared.name.text x) rest) e) ∙ h) in
-    record { at = suc r.at; is = ap (λ b. if b then n else task_place (n + 1) x rest) e ∙ r.is ∙ omega arith; task = r.task; there = r.there }
-
-place : (n : ℕ) (tasks : List Task) (x : List ℕ) → IsNamed tasks x → Placed n tasks x
-place n [] x h = absurd (cc)
-place n (t ∷ rest) x h = place_by n t rest x (bytes_eq t.declared.name.text x) refl (place (n + 1) rest x) h
-
 pub record InvocationFits (tasks : List Task) (q : Ports) (c : List Channel) (i : Invocation) : Type 0 where
   pub task : Task
   pub there : slice_get tasks i.task ≡ Some task
   pub bindings : Pairs (BindingFits q c) task.declared.parameters i.bindings
 
-task_named : (tasks : List Task) (self x : List ℕ) (q : Ports) (c : List Channel) (s : Entity) → Means tasks self q c x s → is_task s ≡ true → bytes_eq x self ≡ false → IsNamed tasks x
-task_named tasks self x q c entity.Task (inl e) h k = absurd (let t = (bytes_eq-Decides x self).1 e in cc)
-task_named tasks self x q c entity.Task (inr m) h k = m
+task_named : (tasks : List Task) (self x : List ℕ) (q : Ports) (c : List Channel) (s : Entity) → Means tasks self q c x s → is_task s ≡ true → bytes_eq x self ≡ false → IsTask tasks (number_of (Some s))
+task_named tasks self x q c (entity.Task task_number) (inl e) h k = absurd (let t = (bytes_eq-Decides x self).1 e in cc)
+task_named tasks self x q c (entity.Task task_number) (inr m) h k = m
 task_named tasks self x q c (entity.Constant j n) m h k = absurd (cc)
 task_named tasks self x q c (entity.Variable free j n) m h k = absurd (cc)
 task_named tasks self x q c (entity.Array free j n) m h k = absurd (cc)
@@ -269,33 +253,31 @@ task_named tasks self x q c (entity.Memory free j n) m h k = absurd (cc)
 task_named tasks self x q c (entity.Stream writes j n) m h k = absurd (cc)
 task_named tasks self x q c (entity.Channel j n) m h k = absurd (cc)
 
-invoked_fits : (tasks : List Task) (self : TaskTree) (q : Ports) (c : List Channel) (E : Scope) → DeclareAll (Means tasks self.name.text q c) E → (i : InvocationTree) (ps : List Parameter) → upper.invoked_parameters tasks self i.task.text ≡ ps → wrong_entity is_task i.task.place (entity_of i.task.text E) ≡ [] → upper.callee_faults E ps (bytes_eq i.task.text self.name.text) i ≡ [] → InvocationFits tasks q c (upper.invocation_of E tasks self i)
+invoked_fits : (tasks : List Task) (self : TaskTree) (q : Ports) (c : List Channel) (E : Scope) → DeclareAll (Means tasks self.name.text q c) E → (i : InvocationTree) (ps : List Parameter) → upper.invoked_parameters E tasks self i.task.text ≡ ps → wrong_entity is_task i.task.place (entity_of i.task.text E) ≡ [] → upper.callee_faults E ps (bytes_eq i.task.text self.name.text) i ≡ [] → InvocationFits tasks q c (upper.invocation_of E tasks self i)
 invoked_fits tasks self q c E names i ps same a h =
     let d = no_faults (where_so (not (length ps == length i.arguments)) (fault C3 i.task.place)) (where_so (bytes_eq i.task.text self.name.text) (fault C10 i.task.place) ++ upper.arguments_faults E ps i.arguments) h in
     let e = no_faults (where_so (bytes_eq i.task.text self.name.text) (fault C10 i.task.place)) (upper.arguments_faults E ps i.arguments) d.1 in
     let r = right_entity is_task i.task.place (entity_of i.task.text E) a in
     let other = holds_not (bytes_eq i.task.text self.name.text) (the_broken C10 i.task.place None) e.0 in
     let n = task_named tasks self.name.text i.task.text q c r.0 (found (Means tasks self.name.text q c) i.task.text E names r.0 r.1) r.2 other in
-    let p = place 0 tasks i.task.text n in
-    let z : p.at ≡ task_place 0 i.task.text tasks = (let y = p.is in omega arith) in
-    let there : slice_get tasks (task_place 0 i.task.text tasks) ≡ Some p.task = subst (λ m. slice_get tasks m ≡ Some p.task) z p.there in
-    let theirs : upper.invoked_parameters tasks self i.task.text ≡ p.task.declared.parameters = ap (λ b. if b then self.parameters else parameters_of (slice_get tasks (task_place 0 i.task.text tasks))) other ∙ ap parameters_of there in
+    let there : slice_get tasks (upper.invoked_task E i.task.text) ≡ Some n.0 = subst (λ o. slice_get tasks (number_of o) ≡ Some n.0) (sym r.1) n.1 in
+    let theirs : upper.invoked_parameters E tasks self i.task.text ≡ n.0.declared.parameters = ap (λ b. if b then self.parameters else parameters_of (slice_get tasks (upper.invoked_task E i.task.text))) other ∙ ap parameters_of there in
     let count = eqb-true (length ps) (length i.arguments) (holds (length ps == length i.arguments) (the_broken C3 i.task.place None) d.0) in
     let bindings = arguments tasks self.name.text q c E names ps i.arguments count e.1 in
     record {
-      task = p.task;
+      task = n.0;
       there = there;
-      bindings = subst (λ qs. Pairs (BindingFits q c) qs (upper.bindings_of E (upper.invoked_parameters tasks self i.task.text) i.arguments)) theirs
+      bindings = subst (λ qs. Pairs (BindingFits q c) qs (upper.bindings_of E (upper.invoked_parameters E tasks self i.task.text) i.arguments)) theirs
           (subst (λ qs. Pairs (BindingFits q c) qs (upper.bindings_of E qs i.arguments)) (sym same) bindings);
     }
 
 invocation_fits : (tasks : List Task) (self : TaskTree) (q : Ports) (c : List Channel) (E : Scope) → DeclareAll (Means tasks self.name.text q c) E → (i : InvocationTree) → upper.invocation_faults E tasks self i ≡ [] → InvocationFits tasks q c (upper.invocation_of E tasks self i)
 invocation_fits tasks self q c E names i h =
-    let ps = upper.invoked_parameters tasks self i.task.text in
+    let ps = upper.invoked_parameters E tasks self i.task.text in
     let is_self = bytes_eq i.task.text self.name.text in
-    let a = no_faults (upper.mode_faults i.mode) (wrong_entity is_task i.task.place (entity_of i.task.text E) ++ upper.callee_faults E (upper.invoked_parameters tasks self i.task.text) (bytes_eq i.task.text self.name.text) i) h in
-    let b = no_faults (wrong_entity is_task i.task.place (entity_of i.task.text E)) (upper.callee_faults E (upper.invoked_parameters tasks self i.task.text) (bytes_eq i.task.text self.name.text) i) a.1 in
-    invoked_fits tasks self q c E names i (upper.invoked_parameters tasks self i.task.text) refl b.0 b.1
+    let a = no_faults (upper.mode_faults i.mode) (wrong_entity is_task i.task.place (entity_of i.task.text E) ++ upper.callee_faults E (upper.invoked_parameters E tasks self i.task.text) (bytes_eq i.task.text self.name.text) i) h in
+    let b = no_faults (wrong_entity is_task i.task.place (entity_of i.task.text E)) (upper.callee_faults E (upper.invoked_parameters E tasks self i.task.text) (bytes_eq i.task.text self.name.text) i) a.1 in
+    invoked_fits tasks self q c E names i (upper.invoked_parameters E tasks self i.task.text) refl b.0 b.1
 
 invocations_fit : (tasks : List Task) (self : TaskTree) (q : Ports) (c : List Channel) (E : Scope) → DeclareAll (Means tasks self.name.text q c) E → (is : List InvocationTree) → upper.invocations_faults E tasks self is ≡ [] → Each (InvocationFits tasks q c) (upper.invocations_of E tasks self is)
 invocations_fit tasks self q c E names [] h = tt

@@ -67,7 +67,7 @@ named_fits (Some (entity.Array free k n)) h = some_values k
 named_fits (Some (entity.Memory free k n)) h = some_values k
 named_fits (Some (entity.Stream writes k n)) h = some_values k
 named_fits (Some (entity.Channel k n)) h = some_values k
-named_fits (Some entity.Task) h = some_values kind.U64
+named_fits (Some (entity.Task task_number)) h = some_values kind.U64
 named_fits None h = some_values kind.U64
 
 cell_is : (o : Option Entity) (e : FlatExpression) → constant_value (cell_value o e) ≡ 0
@@ -77,7 +77,7 @@ cell_is (Some (entity.Array free k n)) e = refl
 cell_is (Some (entity.Memory free k n)) e = refl
 cell_is (Some (entity.Stream writes k n)) e = refl
 cell_is (Some (entity.Channel k n)) e = refl
-cell_is (Some entity.Task) e = refl
+cell_is (Some (entity.Task task_number)) e = refl
 cell_is None e = refl
 
 zero_below : (k : Kind) (n : ℕ) → n ≡ 0 → n < values_of k
@@ -177,7 +177,7 @@ named_constant place (Some (entity.Array free k n)) h = absurd (cc)
 named_constant place (Some (entity.Memory free k n)) h = absurd (cc)
 named_constant place (Some (entity.Stream writes k n)) h = absurd (cc)
 named_constant place (Some (entity.Channel k n)) h = absurd (cc)
-named_constant place (Some entity.Task) h = absurd (cc)
+named_constant place (Some (entity.Task task_number)) h = absurd (cc)
 
 none_fits : (place : Place) (o : Option Entity) → wrong_entity (λ s. false) place o ≡ [] → ⊥
 none_fits place None h = cc

@@ -1,4 +1,6 @@
+pub mod Items
 pub mod Parts
 pub mod Programs
+pub mod Users
 pub mod Views
 pub mod Laws

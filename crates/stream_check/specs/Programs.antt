@@ -15,8 +15,8 @@ use Rattle.check_scope.specs.declared.fault.CheckCode.{CheckCode}
 use Rattle.check_scope.specs.declared.fault.CheckCode.TheVariants.{C1, C3, C4, C5, C7}
 use Rattle.check_scope.specs.Faults.{fault, over, where_so}
 use Rattle.check_upper.specs.declared.task.Channel.{Channel}
-use Rattle.check_upper.specs.Tasks.{Body, leaf_body, upper_body, Task, task_place}
-use Rattle.check_upper.specs.Items.{no_items, items_faults, tasks_of}
+use Rattle.check_upper.specs.Tasks.{Body, leaf_body, upper_body, Task, task_position}
+use Rattle.stream_check.specs.Items.{no_items, items_faults, tasks_of}
 use Rattle.stream_check.specs.Parts.{Part, own, instance, too_deep, streams_in, instances_in, parts_of}
 
 -- ---- the top task
@@ -204,13 +204,13 @@ abbrev pub bodies_of : List ℕ → ℕ → List Task → List FlatLeaf
 bodies_of numbers n [] = []
 bodies_of numbers n (t ∷ rest) = (if is_among n numbers then leaf_in t.body else []) ++ bodies_of numbers (n + 1) rest
 
-abbrev pub place_among : ℕ → ℕ → List ℕ → ℕ
-place_among p n [] = p
-place_among p n (m ∷ rest) = if m == n then p else place_among (p + 1) n rest
+abbrev pub position_among : ℕ → ℕ → List ℕ → ℕ
+position_among p n [] = p
+position_among p n (m ∷ rest) = if m == n then p else position_among (p + 1) n rest
 
 -- an instance with the number of its leaf among the bodies
 abbrev pub with_body : List ℕ → FlatInstance → FlatInstance
-with_body numbers x = record { label = x.label; body = place_among 0 x.body numbers; detached = x.detached; scalars = x.scalars; streams = x.streams; memories = x.memories }
+with_body numbers x = record { label = x.label; body = position_among 0 x.body numbers; detached = x.detached; scalars = x.scalars; streams = x.streams; memories = x.memories }
 
 -- ---- programs
 
@@ -254,8 +254,8 @@ whole_program levels tasks n = top_program levels tasks n (slice_get tasks n)
 
 -- every fault of a file with a top task of this name: those of the items first
 abbrev pub program_faults : List ItemTree → List ℕ → List Broken
-program_faults items top = items_faults no_items items ++ whole_faults all_levels (tasks_of items) (task_place 0 top (tasks_of items))
+program_faults items top = items_faults no_items items ++ whole_faults all_levels (tasks_of items) (task_position 0 top (tasks_of items))
 
 -- the flat program of a legal file
 abbrev pub program_of : List ItemTree → List ℕ → FlatProgram
-program_of items top = whole_program all_levels (tasks_of items) (task_place 0 top (tasks_of items))
+program_of items top = whole_program all_levels (tasks_of items) (task_position 0 top (tasks_of items))

@@ -5,6 +5,7 @@ use Rattle.tapa_syntax.specs.Flat.{FlatInstance, flat_instance}
 use Rattle.check_scope.specs.declared.fault.Broken.{Broken}
 use Rattle.check_scope.specs.declared.fault.CheckFault.{CheckFault}
 use Rattle.check_scope.specs.Answers.{Answers}
+use Rattle.check_scope.specs.Scopes.{Block}
 use Rattle.tapa_base.specs.declared.text.Place.{Place}
 use Rattle.check_upper.specs.declared.task.Body.{Body}
 use Rattle.check_upper.specs.declared.task.Channel.{Channel}
@@ -15,6 +16,7 @@ use Rattle.check_upper.specs.Views.{body_view, task_view}
 use Rattle.stream_check.specs.declared.parts.Parts.{Parts}
 use Rattle.stream_check.specs.Parts.{Part, too_deep, streams_in, instances_in, own_parts, followed, chain_parts, parts_of}
 use Rattle.stream_check.specs.Programs.{limit_faults}
+use Rattle.stream_check.specs.Items.{Items}
 
 abbrev pub body_found : Option (Bor Body) → Option task.Body
 body_found None = None
@@ -23,6 +25,9 @@ body_found (Some b) = Some (body_view b.now)
 abbrev pub task_found : Option (Bor table.Task) → Option Task
 task_found None = None
 task_found (Some t) = Some (task_view t.now)
+
+abbrev pub items_view : Block → List table.Task → Items
+items_view block tasks = record { block = block; tasks = map task_view tasks }
 
 -- the streams and the leaf instances
 pub record Flat : Type 0 where

@@ -1,13 +1,18 @@
-ghost use Rattle.std.specs.Prelude.{◌≡◌, ◌++◌, [], length, map, slice_get};
-ghost use Rattle.tapa_syntax.specs.Flat.{flat_instance};
+//! Which instance each stream and each memory is bound to, found in one pass over the instances.
+ghost use Rattle.std.specs.Prelude.{◌≡◌, ◌<◌, ◌+◌, ◌++◌, [], ℕ, IfOk, length, map, get_or, slice_get, if◌then◌else◌, ◌==◌, List, true, false};
+ghost use Rattle.tapa_syntax.specs.Flat.{FlatInstance, flat_instance};
 ghost use Rattle.check_scope.specs.Answers.{Answers};
+ghost use Rattle.check_upper.specs.Tasks as table;
 ghost use Rattle.check_upper.specs.Views.{task_view};
 ghost use Rattle.stream_check.specs.Programs as program;
+ghost use Rattle.stream_check.specs.Users.{users_of, with_user, with_users};
+ghost use Rattle.stream_check.specs.declared.users.Users.{Users as Among};
+ghost use Rattle.stream_check.specs.declared.users.Users.TheVariants.{Nobody};
 
-use check_scope::{CheckCode, CheckFault, copied, number_of, refused};
+use crate::users::{Users, add_user};
+use check_scope::{CheckCode, CheckFault, copied, number_of};
 use check_upper::{Body, Channel, Task};
 use std::alloc::Global;
-use tapa_base::Place;
 use tapa_syntax::{End, Instance, Memory, Parameter, Stream};
 
 /// The stream parameters of the leaf of a number.
@@ -23,119 +28,99 @@ fn ends_at<'t>(tasks: &'t [Task], number: u32) -> &'t [End]
     }
 }
 
-fn is_end(stream: u32, writes: bool, bound: u32, end: End) -> bool
-    ensures { result ≡ program.is_end stream writes bound end }
+/// So many streams or memories, to which nothing is bound yet.
+fn nobody(alloc: Global, count: usize) -> Result<Vec<Users>, CheckFault>
+    ensures count { Answers (λ users. length users.items) result [] count }
+    ensures each { IfOk result (λ users. (s : ℕ) (d : Among) → s < count → get_or users.items s d ≡ Nobody) }
 {
-    if writes {
-        bound == stream && end.writes
-    } else {
-        bound == stream && !end.writes
-    }
+    Ok(vec![in alloc; Users::Nobody; count]?)
 }
 
-/// Adds an instance once for each of its parameters of this direction that is bound to the stream.
-fn add_ends(
+/// Adds an instance to the stream of one of its parameters, at the side that the parameter names.
+fn add_port(
     instance: u32,
     stream: u32,
-    writes: bool,
-    streams: &[u32],
-    ends: &[End],
-    found: &mut Vec<u32>,
-) -> Result<(), CheckFault>
-    ensures { Answers (λ x. found.new.items) result [] (found.old.items ++ program.bound_ends instance stream writes streams.now ends.now) }
+    end: End,
+    writers: &mut [Users],
+    readers: &mut [Users],
+)
+    ensures written { (s : ℕ) (d : Among) → s < length writers.old → get_or writers.new s d ≡ (if end.writes then (if stream == s then with_user (get_or writers.old s d) instance else get_or writers.old s d) else get_or writers.old s d) }
+    ensures read { (s : ℕ) (d : Among) → s < length readers.old → get_or readers.new s d ≡ (if end.writes then get_or readers.old s d else (if stream == s then with_user (get_or readers.old s d) instance else get_or readers.old s d)) }
 {
-    for (position, bound) in streams.iter().enumerate() {
-        if position >= ends.len() {
-            return Ok(());
-        }
-        if is_end(stream, writes, *bound, ends[position]) {
-            found.push(instance)?;
-        }
+    if end.writes {
+        add_user(writers, stream, instance);
+    } else {
+        add_user(readers, stream, instance);
     }
-    Ok(())
 }
 
-/// The instances that write a stream, or those that read it.
-fn instances_at(
+/// Adds an instance once for each of its parameters that is bound to a stream.
+fn add_ports(
+    instance: u32,
+    streams: &[u32],
+    ends: &[End],
+    writers: &mut [Users],
+    readers: &mut [Users],
+)
+    ensures written { (s : ℕ) (d : Among) → s < length writers.old → get_or writers.new s d ≡ with_users (get_or writers.old s d) (program.bound_ends instance s true streams.now ends.now) }
+    ensures read { (s : ℕ) (d : Among) → s < length readers.old → get_or readers.new s d ≡ with_users (get_or readers.old s d) (program.bound_ends instance s false streams.now ends.now) }
+{
+    for (position, stream) in streams.iter().enumerate() {
+        if position >= ends.len() {
+            return;
+        }
+        add_port(instance, *stream, ends[position], writers, readers);
+    }
+}
+
+/// Which instances write each stream of a program, and which read it.
+#[derive(Drop)]
+struct StreamUsers {
+    writers: Vec<Users>,
+    readers: Vec<Users>,
+}
+
+/// The instances that write and read each of so many streams.
+fn stream_users(
     alloc: Global,
     tasks: &[Task],
     instances: &[Instance],
-    stream: u32,
-    writes: bool,
-) -> Result<Vec<u32>, CheckFault>
-    ensures { Answers (λ found. found.items) result [] (program.instances_at (map task_view tasks.now) stream writes 0 (map flat_instance instances.now)) }
+    count: usize,
+) -> Result<StreamUsers, CheckFault>
+    ensures written { Answers (λ users. length users.writers.items) result [] count }
+    ensures read { Answers (λ users. length users.readers.items) result [] count }
+    ensures users { IfOk result (λ users. (s : ℕ) (d : Among) → s < count
+        → (get_or users.writers.items s d ≡ users_of (program.instances_at (map task_view tasks.now) s true 0 (map flat_instance instances.now)))
+        × (get_or users.readers.items s d ≡ users_of (program.instances_at (map task_view tasks.now) s false 0 (map flat_instance instances.now)))) }
 {
-    let mut found = Vec::new(alloc);
+    let mut writers = nobody(alloc, count)?;
+    let mut readers = nobody(alloc, count)?;
     for (number, instance) in instances.iter().enumerate() {
-        let ends = ends_at(tasks, instance.body);
-        add_ends(
+        add_ports(
             number_of(number)?,
-            stream,
-            writes,
             &instance.streams,
-            ends,
-            &mut found,
-        )?;
+            ends_at(tasks, instance.body),
+            &mut writers,
+            &mut readers,
+        );
     }
-    Ok(found)
-}
-
-/// Adds an instance once for each of its parameters that is bound to the memory.
-fn add_memories(
-    instance: u32,
-    memory: u32,
-    memories: &[u32],
-    found: &mut Vec<u32>,
-) -> Result<(), CheckFault>
-    ensures { Answers (λ x. found.new.items) result [] (found.old.items ++ program.bound_memories instance memory memories.now) }
-{
-    for bound in memories {
-        if *bound == memory {
-            found.push(instance)?;
-        }
-    }
-    Ok(())
-}
-
-/// The instances that a memory of the top task is bound to.
-fn instances_with(
-    alloc: Global,
-    instances: &[Instance],
-    memory: u32,
-) -> Result<Vec<u32>, CheckFault>
-    ensures { Answers (λ found. found.items) result [] (program.instances_with memory 0 (map flat_instance instances.now)) }
-{
-    let mut found = Vec::new(alloc);
-    for (number, instance) in instances.iter().enumerate() {
-        add_memories(number_of(number)?, memory, &instance.memories, &mut found)?;
-    }
-    Ok(found)
-}
-
-/// The one instance that something is bound to.
-fn the_one(code: CheckCode, place: Place, found: &[u32]) -> Result<u32, CheckFault>
-    ensures { Answers (λ n. n) result (program.one_faults code place found.now) (program.the_one found.now) }
-{
-    match found {
-        [one] => Ok(*one),
-        _ => Err(refused(code, place)),
-    }
+    Ok(StreamUsers { writers, readers })
 }
 
 /// A stream with its one producer and its one consumer.
 fn stream(
     alloc: Global,
-    tasks: &[Task],
-    instances: &[Instance],
-    number: u32,
+    writers: Users,
+    readers: Users,
     channel: &Channel,
 ) -> Result<Stream, CheckFault>
-    ensures { Answers (λ s. s) result (program.stream_faults (map task_view tasks.now) (map flat_instance instances.now) number channel.now) (program.stream_of (map task_view tasks.now) (map flat_instance instances.now) number channel.now) }
+    ensures { (tasks : List table.Task) (instances : List FlatInstance) (number : ℕ)
+        → writers ≡ users_of (program.instances_at tasks number true 0 instances)
+        → readers ≡ users_of (program.instances_at tasks number false 0 instances)
+        → Answers (λ s. s) result (program.stream_faults tasks instances number channel.now) (program.stream_of tasks instances number channel.now) }
 {
-    let producers = instances_at(alloc, tasks, instances, number, true)?;
-    let producer = the_one(CheckCode::C4, channel.place, &producers)?;
-    let consumers = instances_at(alloc, tasks, instances, number, false)?;
-    let consumer = the_one(CheckCode::C5, channel.place, &consumers)?;
+    let producer = writers.only(CheckCode::C4, channel.place)?;
+    let consumer = readers.only(CheckCode::C5, channel.place)?;
     Ok(Stream {
         label: copied(alloc, &channel.name)?,
         kind: channel.kind,
@@ -154,21 +139,51 @@ pub(crate) fn streams(
 ) -> Result<Vec<Stream>, CheckFault>
     ensures { Answers (λ made. made.items) result (program.streams_faults (map task_view tasks.now) (map flat_instance instances.now) 0 channels.now) (program.streams_of (map task_view tasks.now) (map flat_instance instances.now) 0 channels.now) }
 {
+    let users = stream_users(alloc, tasks, instances, channels.len())?;
     let mut made = Vec::new(alloc);
     for (number, channel) in channels.iter().enumerate() {
-        made.push(stream(alloc, tasks, instances, number_of(number)?, channel)?)?;
+        let writers = users.writers[number];
+        let readers = users.readers[number];
+        made.push(stream(alloc, writers, readers, channel)?)?;
     }
     Ok(made)
 }
 
-/// A memory of the top task with its one instance, where the parameter is one; and the number of memories with it.
-fn memory(
+/// Adds an instance once for each of its parameters that is bound to a memory.
+fn add_memories(instance: u32, memories: &[u32], owners: &mut [Users])
+    ensures { (m : ℕ) (d : Among) → m < length owners.old → get_or owners.new m d ≡ with_users (get_or owners.old m d) (program.bound_memories instance m memories.now) }
+{
+    for memory in memories {
+        add_user(owners, *memory, instance);
+    }
+}
+
+/// The instances that each of so many memories of the top task is bound to.
+fn memory_owners(
     alloc: Global,
     instances: &[Instance],
+    count: usize,
+) -> Result<Vec<Users>, CheckFault>
+    ensures count { Answers (λ owners. length owners.items) result [] count }
+    ensures owned { IfOk result (λ owners. (m : ℕ) (d : Among) → m < count → get_or owners.items m d ≡ users_of (program.instances_with m 0 (map flat_instance instances.now))) }
+{
+    let mut owners = nobody(alloc, count)?;
+    for (number, instance) in instances.iter().enumerate() {
+        add_memories(number_of(number)?, &instance.memories, &mut owners);
+    }
+    Ok(owners)
+}
+
+/// The one owner of the next memory of the top task, where the parameter is one.
+fn memory(
+    alloc: Global,
+    owners: Users,
     parameter: &Parameter,
     memories: &mut Vec<Memory>,
 ) -> Result<(), CheckFault>
-    ensures { Answers (λ x. memories.new.items) result (program.memory_faults (map flat_instance instances.now) (length memories.old.items) parameter.now) (memories.old.items ++ program.memory_of (map flat_instance instances.now) (length memories.old.items) parameter.now) }
+    ensures { (instances : List FlatInstance)
+        → owners ≡ users_of (program.instances_with (length memories.old.items) 0 instances)
+        → Answers (λ x. memories.new.items) result (program.memory_faults instances (length memories.old.items) parameter.now) (memories.old.items ++ program.memory_of instances (length memories.old.items) parameter.now) }
 {
     let Parameter::Memory {
         constant,
@@ -178,9 +193,7 @@ fn memory(
     else {
         return Ok(());
     };
-    let number = number_of(memories.len())?;
-    let found = instances_with(alloc, instances, number)?;
-    let owner = the_one(CheckCode::C7, name.place, &found)?;
+    let owner = owners.only(CheckCode::C7, name.place)?;
     memories.push(Memory {
         name: copied(alloc, &name.text)?,
         kind: *kind,
@@ -198,9 +211,11 @@ pub(crate) fn memories(
 ) -> Result<Vec<Memory>, CheckFault>
     ensures { Answers (λ made. made.items) result (program.memories_faults (map flat_instance instances.now) 0 parameters.now) (program.memories_of (map flat_instance instances.now) 0 parameters.now) }
 {
-    let mut made = Vec::new(alloc);
+    let owners = memory_owners(alloc, instances, parameters.len())?;
+    let mut made: Vec<Memory> = Vec::new(alloc);
     for parameter in parameters {
-        memory(alloc, instances, parameter, &mut made)?;
+        let next = owners[made.len()];
+        memory(alloc, next, parameter, &mut made)?;
     }
     Ok(made)
 }

@@ -78,8 +78,8 @@ pub(crate) fn bodies(
     Ok(leaves)
 }
 
-fn place_among(number: u32, numbers: &[u32]) -> usize
-    ensures { result ≡ program.place_among 0 number numbers.now }
+fn position_among(number: u32, numbers: &[u32]) -> usize
+    ensures { result ≡ program.position_among 0 number numbers.now }
 {
     for (place, one) in numbers.iter().enumerate() {
         if *one == number {
@@ -109,7 +109,7 @@ pub(crate) fn instances_with_bodies(
         } = instance;
         made.push(Instance {
             label,
-            body: number_of(place_among(body, numbers))?,
+            body: number_of(position_among(body, numbers))?,
             detached,
             scalars,
             streams,

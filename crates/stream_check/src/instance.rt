@@ -1,4 +1,4 @@
-ghost use Rattle.std.specs.Prelude.{◌≡◌, ◌+◌, [], map, slice_get, slice_index};
+ghost use Rattle.std.specs.Prelude.{◌≡◌, ◌+◌, [], map, slice_get};
 ghost use Rattle.std.specs.Str.{IsAscii};
 ghost use Rattle.tapa_syntax.specs.Flat.{flat_bound, flat_instance};
 ghost use Rattle.check_scope.specs.Answers.{Answers};
@@ -10,7 +10,7 @@ use check_expression::{low_bits, same_kind};
 use check_scope::{CheckFault, number_of};
 use check_upper::{Binding, Invoked, Task};
 use std::alloc::Global;
-use tapa_base::{Kind, convert};
+use tapa_base::{Kind, convert, number_at};
 use tapa_syntax::{Bound, Instance};
 
 /// A value that is bound, converted from the first kind to the second.
@@ -45,16 +45,6 @@ fn scalar_at(
     match scalars.get(number as usize) {
         Some(bound) => passed(alloc, from, to, bound),
         None => passed(alloc, from, to, &Bound::Number(0)),
-    }
-}
-
-/// The stream or memory at a position.
-fn number_at(numbers: &[u32], position: u32) -> u32
-    ensures { result ≡ slice_index numbers.now position }
-{
-    match numbers.get(position as usize) {
-        Some(number) => *number,
-        None => 0,
     }
 }
 

@@ -4,11 +4,13 @@
 mod bindings;
 mod body;
 mod instance;
+mod item;
 mod label;
 mod laws;
 mod parts;
 mod program;
 mod top;
+mod users;
 
 pub use check_scope::{Broken, CheckCode, CheckFault};
 pub use laws::law_legal_programs_are_well_formed;

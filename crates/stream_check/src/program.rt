@@ -10,10 +10,11 @@ ghost use Rattle.stream_check.specs.Views.{flat_of, flat_parts, task_found};
 
 use crate::bindings::{memories, streams};
 use crate::body::{bodies, body_numbers, instances_with_bodies};
+use crate::item::check_items;
 use crate::parts::{MOST_LEVELS, Parts, expand};
-use crate::top::{FIRST_PLACE, check_top, place_of, scalars, top_instance};
+use crate::top::{FIRST_PLACE, check_top, task_position, scalars, top_instance};
 use check_scope::{CheckCode, CheckFault, copied, refused};
-use check_upper::{Task, check_items};
+use check_upper::Task;
 use std::alloc::Global;
 use tapa_syntax::{File, Program, TaskDeclaration};
 
@@ -100,7 +101,7 @@ fn checked(alloc: Global, file: &File, top: &str) -> Result<Program, CheckFault>
     ensures { Answers flat_program result (spec.program_faults (file_of file.now) top.now) (spec.program_of (file_of file.now) top.now) }
 {
     let tasks = check_items(alloc, &file.items)?;
-    let number = place_of(&tasks, top);
+    let number = task_position(&tasks, top);
     program(alloc, tasks, all_levels(), number)
 }
 

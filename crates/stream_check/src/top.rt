@@ -16,8 +16,8 @@ use tapa_syntax::{Bound, Instance, Parameter, Scalar};
 pub(crate) const FIRST_PLACE: Place = Place { line: 1, col: 1 };
 
 /// The number of the task of a name, and of no task where there is none.
-pub(crate) fn place_of(tasks: &[Task], name: &str) -> usize
-    ensures { result ≡ table.task_place 0 name.now (map task_view tasks.now) }
+pub(crate) fn task_position(tasks: &[Task], name: &str) -> usize
+    ensures { result ≡ table.task_position 0 name.now (map task_view tasks.now) }
 {
     for (place, task) in tasks.iter().enumerate() {
         if task.declared.name.text.bytes() == name.as_bytes() {

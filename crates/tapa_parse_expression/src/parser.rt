@@ -15,22 +15,27 @@ use std::marker::Model;
 use tapa_base::{Kind, Place, Text};
 use tapa_syntax::{LexKind, Lexeme, Name, Terminal};
 
-/// A parser stands before the lexemes that are left; where it refused, before the refused one. Its value is their symbols.
-/// What is left after want of memory is not told.
+/// A parser is before the lexemes that are left; where it refused, before the refused one. Its value is their symbols.
+/// What is left after want of memory is not said. What the next lexeme is to the grammar is found once, when it comes.
 #[derive(Drop)]
 pub struct Parser<'a> {
     alloc: Global,
     source: &'a [u8],
     rest: &'a [Lexeme],
+    next: Terminal,
 }
 
 impl<'a> Model for Parser<'a> {
     ghost use Rattle.std.specs.Prelude.{List};
+    ghost use Rattle.std.specs.Prelude.{◌≡◌};
     ghost use Rattle.tapa_syntax.specs.Symbols.{Symbol, symbols_of};
+    ghost use Rattle.tapa_parse_expression.specs.Readers as spec;
 
     ghost Value = { List Symbol };
 
     ghost view = { λ p. symbols_of p.source.now p.rest.now };
+
+    ghost invariant = { λ p. p.next ≡ spec.next (symbols_of p.source.now p.rest.now) };
 }
 
 #[tactic(auto, unfolding(crate::specs::Readers::same))]
@@ -38,6 +43,16 @@ fn same(a: Terminal, b: Terminal) -> bool
     ensures { result ≡ spec.same a b }
 {
     a == b
+}
+
+/// What the first of some lexemes is; `Terminal::End` where there is none.
+fn first_terminal(source: &[u8], lexemes: &[Lexeme]) -> Terminal
+    ensures { result ≡ spec.next (symbols_of source.now lexemes.now) }
+{
+    match lexemes {
+        [first, ..] => terminal_of(source, first),
+        [] => Terminal::End,
+    }
 }
 
 impl<'a> Parser<'a> {
@@ -49,6 +64,7 @@ impl<'a> Parser<'a> {
             alloc,
             source,
             rest: lexemes,
+            next: first_terminal(source, lexemes),
         }
     }
 
@@ -61,13 +77,10 @@ impl<'a> Parser<'a> {
     pub fn next(&self) -> Terminal
         ensures { result ≡ spec.next self.now }
     {
-        match self.rest {
-            [first, ..] => terminal_of(self.source, first),
-            [] => Terminal::End,
-        }
+        self.next
     }
 
-    /// Where the next lexeme stands; 0:0 where none is left.
+    /// Where the next lexeme is; 0:0 where none is left.
     #[tactic(auto, unfolding(tapa_syntax::specs::Symbols::symbol_of))]
     pub fn place(&self) -> Place
         ensures { result ≡ spec.first_place self.now }
@@ -137,6 +150,7 @@ impl<'a> Parser<'a> {
     {
         if let [_, rest @ ..] = self.rest {
             self.rest = rest;
+            self.next = first_terminal(self.source, rest);
         }
     }
 

@@ -1,6 +1,11 @@
-use Rattle.std.proofs.Common.{◌≡◌, ◌++◌, drop}
-use Rattle.stream_check.specs.Programs as program
+use Rattle.std.proofs.Common.{◌≡◌, ◌<◌, ℕ, length, drop, get_or}
+use Rattle.stream_check.specs.declared.users.Users.{Users}
+use Rattle.stream_check.specs.Programs.{bound_memories}
+use Rattle.stream_check.specs.Users.{with_users}
 use Rattle.stream_check.proofs.bindings.add_memories.Given as goal
 
-abbrev pub invariant-loop-bound : goal.invariant-loop-bound
-invariant-loop-bound l = l.initial.found.items ++ program.bound_memories l.instance l.memory l.memories ≡ l.found.items ++ program.bound_memories l.instance l.memory (drop l.bound-index l.memories)
+abbrev pub invariant-loop-memory : goal.invariant-loop-memory
+invariant-loop-memory l = record {
+  count : length l.owners ≡ length l.initial.owners;
+  owned : (m : ℕ) (d : Users) → m < length l.initial.owners → with_users (get_or l.owners m d) (bound_memories l.instance m (drop l.memory-index l.memories)) ≡ with_users (get_or l.initial.owners m d) (bound_memories l.instance m l.memories);
+}

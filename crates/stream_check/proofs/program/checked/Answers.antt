@@ -4,8 +4,8 @@ use Rattle.std.proofs.lemmas.Result.{err_from_is_err_and}
 use Rattle.tapa_syntax.specs.declared.tree.FileItem.{FileItem}
 use Rattle.tapa_syntax.specs.Trees.{item_of}
 use Rattle.check_scope.specs.Answers.{Answers}
-use Rattle.check_upper.specs.Items.{no_items, items_faults, tasks_of}
-use Rattle.check_upper.specs.Tasks.{task_place}
+use Rattle.stream_check.specs.Items.{no_items, items_faults, tasks_of}
+use Rattle.check_upper.specs.Tasks.{task_position}
 use Rattle.check_upper.specs.Views.{task_view}
 use Rattle.stream_check.proofs.Whole.{file_goes, file_stops}
 use Rattle.stream_check.proofs.program.checked.Goals as goal
@@ -23,5 +23,5 @@ returns c =
     let tasks = map task_view c.in_ok-tasks.tasks.items in
     let clean = subst (λ (xs : List FileItem). items_faults no_items (map item_of xs) ≡ []) c.deref.ensures.value c.in_ok-tasks.ensures.0 in
     let same = subst (λ (xs : List FileItem). tasks ≡ tasks_of (map item_of xs)) c.deref.ensures.value c.in_ok-tasks.ensures.1 in
-    let place : c.place_of-number.result ≡ task_place 0 c.args.top.now tasks = c.place_of-number.ensures ∙ ap (λ ts. task_place 0 c.args.top.now (map task_view ts)) c.deref-2.ensures.value in
-    file_goes items c.args.top.now c.all_levels.result tasks c.place_of-number.result c.program.result clean same c.all_levels.ensures place c.program.ensures
+    let place : c.task_position-number.result ≡ task_position 0 c.args.top.now tasks = c.task_position-number.ensures ∙ ap (λ ts. task_position 0 c.args.top.now (map task_view ts)) c.deref-2.ensures.value in
+    file_goes items c.args.top.now c.all_levels.result tasks c.task_position-number.result c.program.result clean same c.all_levels.ensures place c.program.ensures

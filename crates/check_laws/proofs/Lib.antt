@@ -1,0 +1,11 @@
+pub mod Apart
+pub mod Declared
+pub mod Dollars
+pub mod Invoked
+pub mod Kept
+pub mod Labelled
+pub mod LegalOrRefused
+pub mod Names
+pub mod Parts
+pub mod Read
+pub mod Spelled

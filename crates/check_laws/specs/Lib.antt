@@ -1,0 +1,4 @@
+pub mod Labels
+pub mod Named
+pub mod Owned
+pub mod Told

@@ -1,9 +1,0 @@
-pub mod Apart
-pub mod Declared
-pub mod Dollars
-pub mod Invoked
-pub mod Kept
-pub mod Labelled
-pub mod Names
-pub mod Parts
-pub mod Spelled

@@ -1,3 +1,0 @@
-pub mod Labels
-pub mod Named
-pub mod Owned

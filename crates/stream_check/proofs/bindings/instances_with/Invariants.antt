@@ -1,7 +1,0 @@
-use Rattle.std.proofs.Common.{◌≡◌, ◌++◌, map, drop}
-use Rattle.tapa_syntax.specs.Flat.{flat_instance}
-use Rattle.stream_check.specs.Programs as program
-use Rattle.stream_check.proofs.bindings.instances_with.Given as goal
-
-abbrev pub invariant-loop-number : goal.invariant-loop-number
-invariant-loop-number l = program.instances_with l.memory 0 (map flat_instance l.instances) ≡ l.found.items ++ program.instances_with l.memory l.number (map flat_instance (drop l.number l.instances))

@@ -1,6 +1,0 @@
-use Rattle.std.proofs.Common.{◌≡◌, drop}
-use Rattle.stream_check.specs.Programs as program
-use Rattle.stream_check.proofs.body.place_among.Given as goal
-
-abbrev pub invariant-loop-place : goal.invariant-loop-place
-invariant-loop-place l = program.place_among 0 l.number l.numbers ≡ program.place_among l.place l.number (drop l.place l.numbers)
