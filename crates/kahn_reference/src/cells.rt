@@ -1,6 +1,6 @@
 // Values of kinds and rows of cells, as the trace uses them.
 
-ghost use Rattle.std.specs.Prelude.{◌≡◌, ◌-◌, ◌*◌, ◌^◌, ◌<◌, IsTrue, IfOk, slice_index};
+ghost use Rattle.std.specs.Prelude.{◌≡◌, ◌-◌, ◌*◌, ◌^◌, ◌<◌, IsTrue, IfOk};
 ghost use Rattle.kahn_model.specs.Rows.{rows_of};
 ghost use Rattle.kahn_model.specs.Trace.{at_zero, cell, with_cell};
 ghost use Rattle.tapa_base.specs.Kinds.{bits_of, values_of, converted};
@@ -8,26 +8,6 @@ ghost use Rattle.tapa_base.specs.Operators.{CanApply, applied};
 
 use crate::slow::Fault;
 use tapa_base::{Kind, Op, apply, can_apply, convert};
-
-// The number at a position, and 0 past the end.
-pub(crate) fn number_at(numbers: &[u32], p: u32) -> u32
-    ensures { result ≡ slice_index numbers.now p }
-{
-    match numbers.get(p as usize) {
-        Some(n) => *n,
-        None => 0,
-    }
-}
-
-// The value at a position, and 0 past the end.
-pub(crate) fn value_at(values: &[u64], p: u32) -> u64
-    ensures { result ≡ slice_index values.now p }
-{
-    match values.get(p as usize) {
-        Some(n) => *n,
-        None => 0,
-    }
-}
 
 // What an operator gives.
 pub(crate) fn apply_values(op: Op, kind: Kind, a: u64, b: u64) -> Result<u64, Fault>

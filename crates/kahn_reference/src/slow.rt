@@ -12,8 +12,7 @@ ghost use Rattle.kahn_model.specs.Trace.{expr, stmt, statements, job_of, at_stre
 ghost use Rattle.tapa_syntax.specs.LeafKinds.{kinds_of};
 
 use crate::cells::{
-    apply_values, both, cell_of, chosen, convert_value, either, flipped, negated, number_at,
-    set_cell_of, value_at,
+    apply_values, both, cell_of, chosen, convert_value, either, flipped, negated, set_cell_of,
 };
 use crate::simple_statements::{
     run_discard, run_open, run_read_cell, run_read_store, run_read_var, run_set, run_set_cell,
@@ -21,7 +20,7 @@ use crate::simple_statements::{
 };
 use kahn_model::tick::{Action, StreamOperation, Tick, TraceEnd};
 use std::alloc::{AllocError, Global};
-use tapa_base::Token;
+use tapa_base::{Token, number_at, value_at};
 use tapa_syntax::{Expr, Leaf, Stmt};
 
 /// What an instance holds: its variables, its arrays, and the cells of its memories.
