@@ -1,6 +1,6 @@
 //! What an instance begins with: the values of its scalar parameters and the first cells of its memories.
 
-ghost use Rattle.std.specs.Prelude.{◌≡◌, ◌<◌, map, slice_index, slice_index_or, [], IfOk};
+ghost use Rattle.std.specs.Prelude.{◌≡◌, ◌<◌, map, slice_index_or, [], IfOk};
 ghost use Rattle.tapa_base.specs.declared.kind.Kind.TheVariants.{U64};
 ghost use Rattle.tapa_base.specs.Kinds.{values_of};
 ghost use Rattle.kahn_model.specs.Fits.{ScalarsFit};
@@ -8,7 +8,7 @@ ghost use Rattle.kahn_model.specs.Rows.{rows_of};
 ghost use Rattle.kahn_model.specs.Start.{through, bound_value, kinds_in};
 
 use std::alloc::{AllocError, Global};
-use tapa_base::{Kind, convert};
+use tapa_base::{Kind, convert, value_at};
 use tapa_syntax::{Bound, Instance, Program};
 
 // A value, converted through these kinds in order.
@@ -32,16 +32,6 @@ fn scalar_kind(program: &Program, x: u32) -> Kind
     match program.scalars.get(x as usize) {
         Some(scalar) => scalar.kind,
         None => Kind::U64,
-    }
-}
-
-// The value at a position, and 0 past the end.
-fn value_at(values: &[u64], p: u32) -> u64
-    ensures { result ≡ slice_index values.now p }
-{
-    match values.get(p as usize) {
-        Some(n) => *n,
-        None => 0,
     }
 }
 

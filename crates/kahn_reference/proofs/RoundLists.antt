@@ -1,20 +1,19 @@
 -- Lists of streams that grow at their end, and first states.
-use Rattle.std.proofs.Common.{◌≡◌, ℕ, zero, suc, ◌+◌, ◌<◌, ◌≤◌, List, [], ◌∷◌, ◌++◌, length, drop, get_or, map, refl, sym, ap, ◌∙◌, subst, ⊎_elim, arith}
+use Rattle.std.proofs.Common.{◌≡◌, ℕ, zero, suc, ◌+◌, ◌<◌, ◌≤◌, List, [], ◌∷◌, ◌++◌, length, drop, get_or, refl, sym, ap, ◌∙◌, subst, ⊎_elim, arith}
 use Rattle.std.specs.Prelude.{Vec, slice_get, flat_map, slice_set}
 use Rattle.std.specs.declared.alloc.Global.{Global}
 use Rattle.std.proofs.Math.Path.{fun_ext}
 use Rattle.std.proofs.lemmas.Bool.{cases_lt, cases_eq}
-use Rattle.std.proofs.lemmas.List.{drop_all, drop_more, get_or-map, get_or_default, length-map}
+use Rattle.std.proofs.lemmas.List.{drop_all, drop_more, get_or_default}
 use Rattle.std.proofs.lemmas.Option.{slice_get_past}
 use Rattle.tapa_base.specs.declared.token.Token.{Token}
-use Rattle.tapa_base.specs.declared.kind.Kind.{Kind}
-use Rattle.tapa_base.specs.Kinds.{converted}
 use Rattle.tapa_syntax.specs.declared.program.Program.{Program}
 use Rattle.tapa_syntax.specs.WellFormed.{IsWellFormed}
-use Rattle.kahn_model.specs.Behavior.{Tick, ticks}
+use Rattle.kahn_model.specs.Behavior.{ticks}
+use Rattle.kahn_model.specs.declared.tick.Tick.{Tick}
 use Rattle.kahn_model.specs.Network.{put_on, stream}
-use Rattle.kahn_model.specs.Slow.{row_at, whole}
-use Rattle.kahn_model.specs.Start.{through, with_values, instance_state, network_of}
+use Rattle.kahn_reference.specs.Slow.{row_at, whole}
+use Rattle.kahn_model.specs.Start.{with_values, instance_state, network_of}
 use Rattle.kahn_model.specs.ProgramNetwork.{instance_job}
 use Rattle.kahn_model.proofs.Past.{stream_past}
 
@@ -54,9 +53,6 @@ round_is program w scalars memories n m lists next em h e each s =
     ap row_at (slice_get_past next s past) ∙ sym (stream_past program w scalars memories m s l))
     (cases_lt s (length program.streams.items))
 
-pub through_more : (from : Kind) (kinds rest : List Kind) (to : Kind) (v : ℕ) → kinds ≡ to ∷ rest → through from kinds v ≡ through to rest (converted from to v)
-through_more from kinds rest to v e = ap (λ k. through from k v) e
-
 -- one more variable
 pub with_more : (xs vs : List ℕ) (p x v : ℕ) (vars : List ℕ) → p < length xs → p < length vs → x ≡ get_or xs p x → v ≡ get_or vs p v → with_values (drop p xs) (drop p vs) vars ≡ with_values (drop (p + 1) xs) (drop (p + 1) vs) (slice_set vars x v)
 with_more xs vs p x v vars lx lv ex ev =
@@ -72,22 +68,11 @@ with_fewer xs vs p q vars l m =
     ap (λ l. with_values (drop p xs) l vars) (drop_all p vs l) ∙ with_none (drop p xs) vars
     ∙ sym (ap (λ l. with_values (drop q xs) l vars) (drop_all q vs (omega arith)) ∙ with_none (drop q xs) vars)
 
--- the same for values that are bound
-pub with_bound : {B : Type 0} (f : B → ℕ) (xs params : List ℕ) (bs bounds : List B) (p x v : ℕ) (b : B) (vars : List ℕ) → params ≡ xs → bounds ≡ bs → p < length params → p < length bounds → x ≡ get_or params p 0 → b ≡ get_or bounds p b → v ≡ f b → with_values (drop p xs) (drop p (map f bs)) vars ≡ with_values (drop (p + 1) xs) (drop (p + 1) (map f bs)) (slice_set vars x v)
-with_bound f xs params bs bounds p x v b vars ep eb lp lb ex es ev =
-    let lx : p < length xs = subst (λ l. p < length l) ep lp in
-    let ly : p < length bs = subst (λ l. p < length l) eb lb in
-    let m = length-map bs f in
-    let lv : p < length (map f bs) = omega arith in
-    let here : x ≡ get_or xs p x = ex ∙ ap (λ l. get_or l p 0) ep ∙ get_or_default xs p 0 x lx in
-    let there : v ≡ get_or (map f bs) p v = ev ∙ ap f (es ∙ ap (λ l. get_or l p b) eb) ∙ sym (get_or-map f bs p b v ly) in
-    with_more xs (map f bs) p x v vars lx lv here there
-
-pub with_no_bound : {B : Type 0} (f : B → ℕ) (xs : List ℕ) (bs bounds : List B) (p : ℕ) (vars : List ℕ) → bounds ≡ bs → length bounds ≤ p → with_values (drop p xs) (drop p (map f bs)) vars ≡ with_values (drop (p + 1) xs) (drop (p + 1) (map f bs)) vars
-with_no_bound f xs bs bounds p vars eb l =
-    let m = length-map bs f in
-    let e = ap length eb in
-    with_fewer xs (map f bs) p (p + 1) vars (omega arith) (omega arith)
+-- the same of a list that is equal
+pub with_next : (xs params vs : List ℕ) (p : ℕ) (vars : List ℕ) → params ≡ xs → p < length params → p < length vs → with_values (drop p xs) (drop p vs) vars ≡ with_values (drop (p + 1) xs) (drop (p + 1) vs) (slice_set vars (get_or params p 0) (get_or vs p 0))
+with_next xs params vs p vars e lp lv =
+    let lx : p < length xs = subst (λ l. p < length l) e lp in
+    with_more xs vs p (get_or params p 0) (get_or vs p 0) vars lx lv (ap (λ l. get_or l p 0) e ∙ get_or_default xs p 0 (get_or params p 0) lx) (get_or_default vs p 0 (get_or vs p 0) lv)
 
 -- what a stream gets in a round
 pub next_is : (program : Program) (scalars : List ℕ) (memories : List (List ℕ)) (s n i : ℕ) (ins : ℕ → List Token) (v : List Token) (ts : List Tick) → v ≡ flat_map (put_on s) ts → ts ≡ ticks (instance_job program.bodies.items (slice_get program.instances.items i) (instance_state program scalars memories (slice_get program.instances.items i)) n) ins → i ≡ (network_of program scalars memories).producer s → v ≡ flat_map (put_on s) (ticks ((network_of program scalars memories).job ((network_of program scalars memories).producer s) n) ins)

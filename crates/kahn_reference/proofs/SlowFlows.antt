@@ -7,18 +7,25 @@ use Rattle.std.proofs.lemmas.List.{append-nil}
 use Rattle.tapa_base.specs.declared.token.Token.{Token}
 use Rattle.tapa_syntax.specs.declared.program.Expr.{Expr}
 use Rattle.tapa_syntax.specs.declared.program.Stmt.{Stmt, Row_of-Stmt, end_of-Stmt, more_of-Stmt, If, If', Loop, Loop', items-the_row-Stmt, items_hidden-the_row-Stmt-0}
-use Rattle.kahn_model.specs.declared.slow.Value.{Value}
-use Rattle.kahn_model.specs.declared.slow.Value.TheVariants.{Given, Stopped}
-use Rattle.kahn_model.specs.declared.slow.Pair.{Pair}
-use Rattle.kahn_model.specs.declared.slow.Pair.TheVariants.{Given as GivenPair, Stopped as StoppedPair}
-use Rattle.kahn_model.specs.declared.slow.Flow.{Flow}
-use Rattle.kahn_model.specs.declared.slow.Flow.TheVariants.{Next, Out, Again, Stopped as StoppedFlow}
-use Rattle.kahn_model.specs.declared.slow.Turn.{Turn}
-use Rattle.kahn_model.specs.declared.slow.Turn.TheVariants.{On, Over, Stopped as StoppedTurn}
-use Rattle.kahn_model.specs.Behavior.{Action, Local, Tick, Did, End, TraceEnd, Ended, Turns, StreamOperation, Behavior, Finished, OutOfTurns, Act, Await, ticks, trace_end}
+use Rattle.kahn_reference.specs.declared.slow.Value.{Value}
+use Rattle.kahn_reference.specs.declared.slow.Value.TheVariants.{Given, Stopped}
+use Rattle.kahn_reference.specs.declared.slow.Pair.{Pair}
+use Rattle.kahn_reference.specs.declared.slow.Pair.TheVariants.{Given as GivenPair, Stopped as StoppedPair}
+use Rattle.kahn_reference.specs.declared.slow.Flow.{Flow}
+use Rattle.kahn_reference.specs.declared.slow.Flow.TheVariants.{Next, Out, Again, Stopped as StoppedFlow}
+use Rattle.kahn_reference.specs.declared.slow.Turn.{Turn}
+use Rattle.kahn_reference.specs.declared.slow.Turn.TheVariants.{On, Over, Stopped as StoppedTurn}
+use Rattle.kahn_model.specs.Behavior.{Behavior, Finished, OutOfTurns, Act, Await, ticks, trace_end}
+use Rattle.kahn_model.specs.declared.tick.Action.{Action}
+use Rattle.kahn_model.specs.declared.tick.Tick.{Tick}
+use Rattle.kahn_model.specs.declared.tick.TraceEnd.{TraceEnd}
+use Rattle.kahn_model.specs.declared.tick.StreamOperation.{StreamOperation}
+use Rattle.kahn_model.specs.declared.tick.Action.TheVariants.{Local}
+use Rattle.kahn_model.specs.declared.tick.Tick.TheVariants.{Did, End}
+use Rattle.kahn_model.specs.declared.tick.TraceEnd.TheVariants.{Ended, Turns}
 use Rattle.kahn_model.specs.Trace.{State, at_zero, expr, locals, stmt, block, statements, job_of, act_at, at_streams}
 use Rattle.tapa_syntax.specs.LeafKinds.{Kinds}
-use Rattle.kahn_model.specs.Slow.{row_at, feed, whole, Point, GoesOn, Stops, GivesAnswer, GivesValue, GivesPair, GivesFlow, GivesTurn, inside, turn_of, loop_of, turn_left}
+use Rattle.kahn_reference.specs.Slow.{row_at, feed, whole, Point, GoesOn, Stops, GivesAnswer, GivesValue, GivesPair, GivesFlow, GivesTurn, inside, turn_of, loop_of, turn_left}
 
 -- at the streams of an instance, from one point to another
 abbrev pub Goes : (ℕ → ℕ) → Point → Behavior → Point → Behavior → Type 0

@@ -8,14 +8,18 @@ use Rattle.tapa_syntax.specs.declared.program.Expr.{Expr}
 use Rattle.tapa_syntax.specs.declared.program.Stmt.{Stmt}
 use Rattle.tapa_syntax.specs.declared.program.Stmt.TheVariants.{SetCell, SetCellBy, Store as StoreCell, StoreBy, ReadVar, ReadCell, ReadStore, Open as OpenIt, Clear}
 use Rattle.tapa_syntax.specs.LeafKinds.{Kinds}
-use Rattle.kahn_model.specs.declared.slow.Value.{Value}
-use Rattle.kahn_model.specs.declared.slow.Value.TheVariants.{Given, Stopped}
-use Rattle.kahn_model.specs.declared.slow.Pair.{Pair}
-use Rattle.kahn_model.specs.declared.slow.Pair.TheVariants.{Given as GivenPair, Stopped as StoppedPair}
-use Rattle.kahn_model.specs.Behavior.{Local, Load, Store, Did, TraceEnd, Read as ByRead, Open as ByOpen, Behavior, Act, Await}
+use Rattle.kahn_reference.specs.declared.slow.Value.{Value}
+use Rattle.kahn_reference.specs.declared.slow.Value.TheVariants.{Given, Stopped}
+use Rattle.kahn_reference.specs.declared.slow.Pair.{Pair}
+use Rattle.kahn_reference.specs.declared.slow.Pair.TheVariants.{Given as GivenPair, Stopped as StoppedPair}
+use Rattle.kahn_model.specs.Behavior.{Behavior, Act, Await}
+use Rattle.kahn_model.specs.declared.tick.TraceEnd.{TraceEnd}
+use Rattle.kahn_model.specs.declared.tick.Action.TheVariants.{Local, Load, Store}
+use Rattle.kahn_model.specs.declared.tick.Tick.TheVariants.{Did}
+use Rattle.kahn_model.specs.declared.tick.StreamOperation.TheVariants.{Read as ByRead, Open as ByOpen}
 use Rattle.kahn_model.specs.Trace.{State, cell, set_var, set_cell, store_cell, cells_of, cleared, expr, stmt}
-use Rattle.kahn_model.specs.Slow.{Point, GivesValue, GivesPair}
-use Rattle.kahn_model.proofs.SlowFlows.{Goes, Ends, trans, same, tick, tick_times, pair_tick, pair_stops, value_tick, value_stops, value_goes}
+use Rattle.kahn_reference.specs.Slow.{Point, GivesValue, GivesPair}
+use Rattle.kahn_reference.proofs.SlowFlows.{Goes, Ends, trans, same, tick, tick_times, pair_tick, pair_stops, value_tick, value_stops, value_goes}
 
 -- what a cell gets by `op=`
 abbrev pub by : Kind → Kind → Op → ℕ → ℕ → ℕ

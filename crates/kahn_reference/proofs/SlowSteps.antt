@@ -8,8 +8,11 @@ use Rattle.std.proofs.lemmas.Bool.Decides.{nat_tests}
 use Rattle.std.proofs.lemmas.List.{append-nil, drop_all, drop_more, drop-drop, get_or-set_same, get_or-set_other, get_or_default}
 use Rattle.std.proofs.lemmas.Option.{slice_get_past, slice_get-get_or}
 use Rattle.tapa_base.specs.declared.token.Token.{Token}
-use Rattle.kahn_model.specs.Behavior.{Tick, Needs, Bad, StreamOperation, Behavior, Await, NoToken, WrongToken, Answer, judge_token, first_offer, takes, tick_of, lists_after, on_offer, ticks, trace_end}
-use Rattle.kahn_model.specs.Slow.{row_at, feed, GoesOn, Stops}
+use Rattle.kahn_model.specs.Behavior.{Behavior, Await, NoToken, WrongToken, Answer, judge_token, first_offer, takes, tick_of, lists_after, on_offer, ticks, trace_end}
+use Rattle.kahn_model.specs.declared.tick.Tick.{Tick}
+use Rattle.kahn_model.specs.declared.tick.StreamOperation.{StreamOperation}
+use Rattle.kahn_model.specs.declared.tick.TraceEnd.TheVariants.{Needs, Bad}
+use Rattle.kahn_reference.specs.Slow.{row_at, feed, GoesOn, Stops}
 
 found_none : (how : StreamOperation) (l : List Token) → l ≡ [] → first_offer how l ≡ NoToken
 found_none how l e = ap (first_offer how) e

@@ -1,21 +1,26 @@
 -- What a run over whole lists has done, against the behavior that it follows.
-use Rattle.std.specs.Prelude.{◌≡◌, ℕ, List, [], ◌++◌, map, drop, Option, Some, None, slice_get, slice_index, Vec}
+use Rattle.std.specs.Prelude.{◌≡◌, ℕ, List, [], ◌++◌, drop, Option, Some, None, slice_get, slice_index, Vec}
 use Rattle.std.specs.declared.alloc.Global.{Global}
 use Rattle.tapa_base.specs.declared.token.Token.{Token}
-use Rattle.kahn_model.specs.declared.slow.Variables.{Variables}
-use Rattle.kahn_model.specs.declared.slow.Run.{Run}
-use Rattle.kahn_model.specs.declared.slow.Value.{Value}
-use Rattle.kahn_model.specs.declared.slow.Value.TheVariants.{Given, Stopped}
-use Rattle.kahn_model.specs.declared.slow.Pair.{Pair}
-use Rattle.kahn_model.specs.declared.slow.Pair.TheVariants.{Given as GivenPair, Stopped as StoppedPair}
-use Rattle.kahn_model.specs.declared.slow.Flow.{Flow}
-use Rattle.kahn_model.specs.declared.slow.Flow.TheVariants.{Next, Out, Again, Stopped as StoppedFlow}
-use Rattle.kahn_model.specs.declared.slow.Turn.{Turn}
-use Rattle.kahn_model.specs.declared.slow.Turn.TheVariants.{On, Over, Stopped as StoppedTurn}
+use Rattle.kahn_reference.specs.declared.slow.Variables.{Variables}
+use Rattle.kahn_reference.specs.declared.slow.Run.{Run}
+use Rattle.kahn_reference.specs.declared.slow.Value.{Value}
+use Rattle.kahn_reference.specs.declared.slow.Value.TheVariants.{Given, Stopped}
+use Rattle.kahn_reference.specs.declared.slow.Pair.{Pair}
+use Rattle.kahn_reference.specs.declared.slow.Pair.TheVariants.{Given as GivenPair, Stopped as StoppedPair}
+use Rattle.kahn_reference.specs.declared.slow.Flow.{Flow}
+use Rattle.kahn_reference.specs.declared.slow.Flow.TheVariants.{Next, Out, Again, Stopped as StoppedFlow}
+use Rattle.kahn_reference.specs.declared.slow.Turn.{Turn}
+use Rattle.kahn_reference.specs.declared.slow.Turn.TheVariants.{On, Over, Stopped as StoppedTurn}
 use Rattle.tapa_syntax.specs.declared.program.Stmt.{Stmt, Row_of-Stmt}
 use Rattle.tapa_syntax.specs.declared.program.Stmt.TheVariants.{Loop'}
 use Rattle.tapa_syntax.specs.LeafKinds.{Kinds}
-use Rattle.kahn_model.specs.Behavior.{Tick, TraceEnd, StreamOperation, Behavior, OutOfTurns, Act, Await, Local, ticks, trace_end}
+use Rattle.kahn_model.specs.Behavior.{Behavior, OutOfTurns, Act, Await, ticks, trace_end}
+use Rattle.kahn_model.specs.declared.tick.Tick.{Tick}
+use Rattle.kahn_model.specs.declared.tick.TraceEnd.{TraceEnd}
+use Rattle.kahn_model.specs.declared.tick.StreamOperation.{StreamOperation}
+use Rattle.kahn_model.specs.declared.tick.Action.TheVariants.{Local}
+use Rattle.kahn_model.specs.Rows.{rows_of}
 use Rattle.kahn_model.specs.Trace.{State, at_zero, expr, turns, block, at_streams}
 
 abbrev pub row_at : Option (Vec Token Global) → List Token
@@ -29,9 +34,6 @@ whole lists s = row_at (slice_get lists s)
 -- what is left of each list
 abbrev pub feed : List (Vec Token Global) → List ℕ → ℕ → List Token
 feed lists heads s = drop (slice_index heads s) (row_at (slice_get lists s))
-
-abbrev pub rows_of : List (Vec ℕ Global) → List (List ℕ)
-rows_of rows = map (λ (v : Vec ℕ Global). v.items) rows
 
 abbrev pub state_of : Variables → State
 state_of s = record { vars = s.vars.items; arrays = rows_of s.arrays.items; cells = rows_of s.cells.items }

@@ -1,90 +1,19 @@
 // Values of kinds and rows of cells, as the trace uses them.
 
-ghost use Rattle.std.specs.Prelude.{◌≡◌, ◌-◌, ◌*◌, ◌^◌, ◌<◌, IsTrue, IfOk, slice_index};
-ghost use Rattle.kahn_model.specs.Slow.{rows_of};
+ghost use Rattle.std.specs.Prelude.{◌≡◌, ◌-◌, ◌*◌, ◌^◌, ◌<◌, IsTrue, IfOk};
+ghost use Rattle.kahn_model.specs.Rows.{rows_of};
 ghost use Rattle.kahn_model.specs.Trace.{at_zero, cell, with_cell};
 ghost use Rattle.tapa_base.specs.Kinds.{bits_of, values_of, converted};
 ghost use Rattle.tapa_base.specs.Operators.{CanApply, applied};
-ghost use Rattle.tapa_syntax.specs.LeafKinds.{kinds_of};
 
 use crate::slow::Fault;
-use tapa_base::{Kind, Op, apply, convert};
-use tapa_syntax::Leaf;
-
-pub(crate) fn var_kind(leaf: &Leaf, x: u32) -> Kind
-    ensures { result ≡ (kinds_of leaf.now).vars x }
-{
-    match leaf.vars.get(x as usize) {
-        Some(kind) => *kind,
-        None => Kind::U64,
-    }
-}
-
-pub(crate) fn array_kind(leaf: &Leaf, a: u32) -> Kind
-    ensures { result ≡ (kinds_of leaf.now).arrays a }
-{
-    match leaf.arrays.get(a as usize) {
-        Some(array) => array.kind,
-        None => Kind::U64,
-    }
-}
-
-pub(crate) fn memory_kind(leaf: &Leaf, m: u32) -> Kind
-    ensures { result ≡ (kinds_of leaf.now).memories m }
-{
-    match leaf.memories.get(m as usize) {
-        Some(kind) => *kind,
-        None => Kind::U64,
-    }
-}
-
-pub(crate) fn stream_kind(leaf: &Leaf, p: u32) -> Kind
-    ensures { result ≡ (kinds_of leaf.now).streams p }
-{
-    match leaf.streams.get(p as usize) {
-        Some(end) => end.kind,
-        None => Kind::U64,
-    }
-}
-
-// The number at a position, and 0 past the end.
-pub(crate) fn number_at(numbers: &[u32], p: u32) -> u32
-    ensures { result ≡ slice_index numbers.now p }
-{
-    match numbers.get(p as usize) {
-        Some(n) => *n,
-        None => 0,
-    }
-}
-
-pub(crate) fn value_at(values: &[u64], p: u32) -> u64
-    ensures { result ≡ slice_index values.now p }
-{
-    match values.get(p as usize) {
-        Some(n) => *n,
-        None => 0,
-    }
-}
-
-// Whether an operator is defined at these operands.
-fn is_defined(op: Op, kind: Kind, a: u64, b: u64) -> bool
-    ensures left { IsTrue result → a < values_of kind }
-    ensures right { IsTrue result → CanApply op kind b }
-{
-    match op {
-        Op::Shl => kind.holds(a),
-        Op::Shr => kind.holds(a),
-        Op::Div => kind.holds(a) && kind.holds(b) && b > 0,
-        Op::Rem => kind.holds(a) && kind.holds(b) && b > 0,
-        _ => kind.holds(a) && kind.holds(b),
-    }
-}
+use tapa_base::{Kind, Op, apply, can_apply, convert};
 
 // What an operator gives.
 pub(crate) fn apply_values(op: Op, kind: Kind, a: u64, b: u64) -> Result<u64, Fault>
     ensures { IfOk result (λ v. v ≡ applied op kind a b) }
 {
-    if is_defined(op, kind, a, b) {
+    if can_apply(op, kind, a, b) {
         Ok(apply(op, kind, a, b))
     } else {
         Err(Fault::NotOfItsKind)

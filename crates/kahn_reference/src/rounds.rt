@@ -5,14 +5,16 @@ ghost use Rattle.kahn_model.specs.declared.tick.Tick.TheVariants.{End};
 ghost use Rattle.tapa_syntax.specs.declared.program.Stream.{Stream};
 ghost use Rattle.tapa_syntax.specs.WellFormed.{IsWellFormed};
 ghost use Rattle.kahn_model.specs.Behavior.{ticks};
+ghost use Rattle.kahn_model.specs.Fits.{ScalarsFit};
 ghost use Rattle.kahn_model.specs.Network.{put_on, stream};
 ghost use Rattle.kahn_model.specs.ProgramNetwork.{end_of, instance_job};
-ghost use Rattle.kahn_model.specs.Slow.{rows_of, whole};
+ghost use Rattle.kahn_reference.specs.Slow.{whole};
+ghost use Rattle.kahn_model.specs.Rows.{rows_of};
 ghost use Rattle.kahn_model.specs.Start.{instance_state, network_of};
 
 use crate::slow::{Fault, trace};
-use crate::start::first_variables;
-use crate::tick::{Action, Tick};
+use crate::first::{first_variables, scalars_fit};
+use kahn_model::tick::{Action, Tick};
 use std::alloc::{AllocError, Global};
 use tapa_base::Token;
 use tapa_syntax::Program;
@@ -36,6 +38,7 @@ fn instance_ticks(
     n: u64,
     lists: &[Vec<Token>],
 ) -> Result<Vec<Tick>, Fault>
+    requires { ScalarsFit program.now scalars.now }
     ensures { IfOk result (λ v. v.items ≡ ticks (instance_job program.now.bodies.items (slice_get program.now.instances.items i) (instance_state program.now scalars.now (rows_of memories.now) (slice_get program.now.instances.items i)) n) (whole lists.now)) }
 {
     match program.instances.get(i as usize) {
@@ -100,6 +103,7 @@ fn next_stream(
     n: u64,
     lists: &[Vec<Token>],
 ) -> Result<Vec<Token>, Fault>
+    requires { ScalarsFit program.now scalars.now }
     ensures { IfOk result (λ v. v.items ≡ flat_map (put_on s) (ticks ((network_of program.now scalars.now (rows_of memories.now)).job ((network_of program.now scalars.now (rows_of memories.now)).producer s) n) (whole lists.now))) }
 {
     let ticks = instance_ticks(
@@ -130,6 +134,7 @@ fn next_round(
     n: u64,
     lists: &[Vec<Token>],
 ) -> Result<Vec<Vec<Token>>, Fault>
+    requires { ScalarsFit program.now scalars.now }
     ensures many { IfOk result (λ r. length r.items ≡ length program.now.streams.items) }
     ensures each { IfOk result (λ r. (s : ℕ) → s < length program.now.streams.items → whole r.items s ≡ flat_map (put_on s) (ticks ((network_of program.now scalars.now (rows_of memories.now)).job ((network_of program.now scalars.now (rows_of memories.now)).producer s) n) (whole lists.now))) }
 {
@@ -163,6 +168,9 @@ pub fn streams(
 ) -> Result<Vec<Vec<Token>>, Fault>
     ensures { IsWellFormed program.now → IfOk result (λ r. (s : ℕ) → whole r.items s ≡ stream (network_of program.now scalars.now (rows_of memories.now)) n s) }
 {
+    if !scalars_fit(program, scalars) {
+        return Err(Fault::NotOfItsKind);
+    }
     let mut lists = no_tokens(alloc, program.streams.len())?;
     for round in 0..n {
         lists = next_round(alloc, program, scalars, memories, round + 1, &lists)?;

@@ -3,18 +3,17 @@
 ghost use Rattle.std.specs.Prelude.{◌≡◌, ℕ, length, IfOk};
 ghost use Rattle.tapa_syntax.specs.declared.program.Stmt.TheVariants.{Set, SetCell, SetCellBy, Store as StoreCell, StoreBy, ReadVar, ReadCell, ReadStore, Write, Open as OpenIt, Discard};
 ghost use Rattle.tapa_syntax.specs.LeafKinds.{Kinds, kinds_of};
-ghost use Rattle.kahn_model.specs.Slow.{point, numbers, state_of, GivesFlow};
+ghost use Rattle.kahn_reference.specs.Slow.{point, numbers, state_of, GivesFlow};
 ghost use Rattle.kahn_model.specs.Trace.{stmt};
 
-use crate::cells::{
-    array_kind, cell_of, changed, convert_value, memory_kind, number_at, stream_kind, var_kind,
-};
+use crate::cells::{cell_of, changed, convert_value};
 use crate::slow::{
     Fault, Flow, Pair, Run, Value, ask_at, load_cell, note, run_expr, run_pair, run_read,
     set_cell_tick, set_var_tick, store_tick,
 };
-use crate::tick::{Action, StreamOperation, Tick};
-use tapa_base::{Kind, Op, Token};
+use kahn_model::kinds::{array_kind, memory_kind, stream_kind, var_kind};
+use kahn_model::tick::{Action, StreamOperation, Tick};
+use tapa_base::{Kind, Op, Token, number_at};
 use tapa_syntax::{Expr, Leaf};
 
 // A variable gets the value of an expression.

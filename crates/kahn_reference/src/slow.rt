@@ -1,26 +1,26 @@
 //! The trace of an instance, computed as it is defined.
 
-ghost use Rattle.std.specs.Prelude.{◌≡◌, ◌∷◌, ◌++◌, [], length, replicate, slice_index_or, IfOk, MatchOption};
+ghost use Rattle.std.specs.Prelude.{◌≡◌, ◌∷◌, ◌++◌, [], length, replicate, slice_index_or, IfOk};
 ghost use Rattle.kahn_model.specs.declared.tick.StreamOperation.{StreamOperation};
 ghost use Rattle.kahn_model.specs.declared.tick.StreamOperation.TheVariants.{Read as ByRead};
 ghost use Rattle.kahn_model.specs.declared.tick.Tick.TheVariants.{Did};
 ghost use Rattle.kahn_model.specs.declared.tick.Action.TheVariants.{Local, Load, Store};
-ghost use Rattle.kahn_model.specs.Behavior.{Await, WrongToken, Answer as GotToken, judge_token, takes, tick_of, ticks, trace_end};
-ghost use Rattle.kahn_model.specs.Slow.{point, numbers, state_of, rows_of, GivesAnswer, GivesValue, GivesPair, GivesFlow, GivesTurn, turn_of, loop_of, turn_left, whole};
+ghost use Rattle.kahn_model.specs.Behavior.{Await, tick_of, ticks, trace_end};
+ghost use Rattle.kahn_reference.specs.Slow.{point, numbers, state_of, GivesAnswer, GivesValue, GivesPair, GivesFlow, GivesTurn, turn_of, loop_of, turn_left, whole};
+ghost use Rattle.kahn_model.specs.Rows.{rows_of};
 ghost use Rattle.kahn_model.specs.Trace.{expr, stmt, statements, job_of, at_streams, set_var, set_cell, store_cell, cell, cells_of, cleared};
 ghost use Rattle.tapa_syntax.specs.LeafKinds.{kinds_of};
 
 use crate::cells::{
-    apply_values, both, cell_of, chosen, convert_value, either, flipped, negated, number_at,
-    set_cell_of, value_at,
+    apply_values, both, cell_of, chosen, convert_value, either, flipped, negated, set_cell_of,
 };
 use crate::simple_statements::{
     run_discard, run_open, run_read_cell, run_read_store, run_read_var, run_set, run_set_cell,
     run_set_cell_by, run_store, run_store_by, run_write,
 };
-use crate::tick::{Action, StreamOperation, Tick, TraceEnd};
+use kahn_model::tick::{Action, StreamOperation, Tick, TraceEnd};
 use std::alloc::{AllocError, Global};
-use tapa_base::Token;
+use tapa_base::{Token, number_at, value_at};
 use tapa_syntax::{Expr, Leaf, Stmt};
 
 /// What an instance holds: its variables, its arrays, and the cells of its memories.
@@ -44,33 +44,6 @@ pub struct Run {
 pub enum Value {
     Given(u64),
     Stopped(TraceEnd),
-}
-
-// The value that an operation gives for a token, and none for a bad one.
-fn value_of(how: StreamOperation, token: Token) -> Option<u64>
-    ensures { MatchOption result (judge_token how token ≡ WrongToken) (λ v. judge_token how token ≡ GotToken token v) }
-{
-    match (how, token) {
-        (StreamOperation::Read, Token::Datum(v)) => Some(v),
-        (StreamOperation::Read, Token::Eot) => None,
-        (StreamOperation::Peek, Token::Datum(v)) => Some(v),
-        (StreamOperation::Peek, Token::Eot) => None,
-        (StreamOperation::TestEot, Token::Datum(_)) => Some(0),
-        (StreamOperation::TestEot, Token::Eot) => Some(1),
-        (StreamOperation::Open, Token::Datum(_)) => None,
-        (StreamOperation::Open, Token::Eot) => Some(0),
-    }
-}
-
-fn is_take(how: StreamOperation) -> bool
-    ensures { result ≡ takes how }
-{
-    match how {
-        StreamOperation::Read => true,
-        StreamOperation::Peek => false,
-        StreamOperation::TestEot => false,
-        StreamOperation::Open => true,
-    }
 }
 
 fn tick_for(how: StreamOperation, s: u32, token: Token) -> Tick
@@ -106,11 +79,11 @@ fn ask(
         return Ok(Value::Stopped(TraceEnd::Needs(s)));
     }
     let token = list[at];
-    match value_of(how, token) {
+    match how.value_of(token) {
         None => Ok(Value::Stopped(TraceEnd::Bad(s))),
         Some(v) => {
             run.ticks.push(tick_for(how, s, token))?;
-            if is_take(how) {
+            if how.takes() {
                 run.heads[i] = at + 1;
             }
             Ok(Value::Given(v))

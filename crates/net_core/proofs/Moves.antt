@@ -199,6 +199,7 @@ reloaded all new i p x y e en a = record {
       (cases_eq i j);
   waits = λ q d. ap (λ o. waiting_by o q) here ∙ a.waits q d ∙ ap (λ o. waiting_by o q) (sym e);
   rooms = λ q d. ap (λ o. room_by o q) here ∙ a.rooms q d ∙ ap (λ o. room_by o q) (sym e);
+  others_wait = λ j q d. ap (λ o. waiting_by o q) (other j (λ w. d (sym w)));
 }
   where
     here : slice_get new i ≡ Some y

@@ -1,7 +1,7 @@
 -- What `lower` gives is the machine of its leaf.
 use Rattle.std.proofs.Common.{◌≡◌, ℕ, ◌+◌, ◌-◌, ◌<◌, List, [], ◌∷◌, ◌++◌, length, Some, sym, ap, ◌∙◌, subst, arith, length-append}
 use Rattle.std.specs.Prelude.{slice_get, slice_index_or}
-use Rattle.std.proofs.lemmas.List.{get_or_append_left, get_or-append-add}
+use Rattle.std.proofs.lemmas.List.{get_or_append_left, get_or-append-add, length-map}
 use Rattle.kahn_model.specs.Prefix.{IsPrefixOf}
 use Rattle.tapa_base.specs.declared.kind.Kind.{Kind}
 use Rattle.tapa_base.specs.declared.kind.Kind.TheVariants.{U32, U64}
@@ -11,14 +11,15 @@ use Rattle.tapa_syntax.specs.WellFormed.{IsLeaf}
 use Rattle.kahn_model.specs.Behavior.{ticks}
 use Rattle.kahn_model.specs.Trace.{job_of}
 use Rattle.task_fsm.specs.declared.machine.Fsm.{Fsm}
-use Rattle.task_fsm.specs.Machine.{forms_of, TrapAt}
+use Rattle.task_fsm.specs.Machine.{form_of, forms_of, TrapAt}
 use Rattle.task_fsm.specs.Run.{trap_of, cells_after}
 use Rattle.task_fsm.specs.MachineKinds.{with_registers, machine_kinds, AreTypedStates}
 use Rattle.task_fsm.specs.Code.{Emitted, last_code, leaf_code}
 use Rattle.tapa_syntax.specs.TickPlaces.{size_of_list}
 use Rattle.task_fsm.specs.Lowered.{IsLowered, with_temporaries}
 use Rattle.task_fsm.proofs.Grows.{IsFront, no_more}
-use Rattle.task_fsm.proofs.Body.{grows_list, trap_leaf, front_leaf, follows_at, machine_at}
+use Rattle.task_fsm.proofs.Body.{grows_list, size_leaf, trap_leaf, front_leaf, follows_at, machine_at}
+use Rattle.task_fsm.proofs.Registers.{registers_leaf}
 use Rattle.task_fsm.proofs.Runs.{run_cells}
 use Rattle.task_fsm.proofs.Typed.{typed_list}
 
@@ -62,6 +63,8 @@ lowered leaf fsm w fits e ep er em es ea =
           run_cells P (length (ticks job ins) + 0) 0 τ [] ins ∙ ap (λ l. cells_after l σ.cells) m.first;
       typed = subst (λ P. AreTypedStates (machine_kinds leaf fsm) P) (sym p)
           (subst (λ F. AreTypedStates (with_registers (kinds_of leaf) F) (leaf_code leaf).places) (sym r) (typed_leaf leaf fits));
+      states = sym (length-map fsm.states.items form_of) ∙ ap length p ∙ size_leaf leaf;
+      registers = ap length r ∙ registers_leaf leaf;
       trap = subst (λ P. slice_get P (trap_of P) ≡ Some TrapAt) (sym p) (trap_leaf leaf);
       regs = subst (λ l. IsPrefixOf leaf.vars.items l) (sym r) (front_leaf leaf);
       name = em;

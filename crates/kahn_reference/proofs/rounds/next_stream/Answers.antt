@@ -1,10 +1,11 @@
 use Rattle.std.proofs.Common.{ap, ◌∙◌}
 use Rattle.std.specs.Prelude.{flat_map}
 use Rattle.kahn_model.specs.Network.{put_on}
-use Rattle.kahn_model.specs.Slow.{rows_of, whole}
+use Rattle.kahn_reference.specs.Slow.{whole}
+use Rattle.kahn_model.specs.Rows.{rows_of}
 use Rattle.kahn_model.specs.Start.{network_of}
-use Rattle.kahn_model.proofs.RoundLists.{next_is}
-use Rattle.kahn_model.proofs.rounds.next_stream.Goals as goal
+use Rattle.kahn_reference.proofs.RoundLists.{next_is}
+use Rattle.kahn_reference.proofs.rounds.next_stream.Goals as goal
 
 pub returns : goal.returns
 unfolding network_of

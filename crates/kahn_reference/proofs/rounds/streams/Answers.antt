@@ -2,9 +2,10 @@ use Rattle.std.proofs.Common.{◌+◌, ap, ◌∙◌, arith}
 use Rattle.std.specs.Prelude.{List, Vec}
 use Rattle.std.specs.declared.alloc.Global.{Global}
 use Rattle.tapa_base.specs.declared.token.Token.{Token}
-use Rattle.kahn_model.specs.Slow.{rows_of, whole}
-use Rattle.kahn_model.proofs.RoundLists.{round_is}
-use Rattle.kahn_model.proofs.rounds.streams.Goals as goal
+use Rattle.kahn_reference.specs.Slow.{whole}
+use Rattle.kahn_model.specs.Rows.{rows_of}
+use Rattle.kahn_reference.proofs.RoundLists.{round_is}
+use Rattle.kahn_reference.proofs.rounds.streams.Goals as goal
 
 pub loop-round-preserved : goal.loop-round-preserved
 loop-round-preserved c = λ w.

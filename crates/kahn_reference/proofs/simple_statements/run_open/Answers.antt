@@ -1,8 +1,8 @@
 use Rattle.std.proofs.Common.{refl, ap}
 use Rattle.tapa_syntax.specs.declared.program.Stmt.TheVariants.{Open as OpenIt}
-use Rattle.kahn_model.specs.Slow.{point, numbers, state_of}
-use Rattle.kahn_model.proofs.SlowStatements.{open_goes, open_stops}
-use Rattle.kahn_model.proofs.simple_statements.run_open.Goals as goal
+use Rattle.kahn_reference.specs.Slow.{point, numbers, state_of}
+use Rattle.kahn_reference.proofs.SlowStatements.{open_goes, open_stops}
+use Rattle.kahn_reference.proofs.simple_statements.run_open.Goals as goal
 
 pub returns-in-Stopped-clause-flow : goal.returns-in-Stopped-clause-flow
 returns-in-Stopped-clause-flow c = λ K n.

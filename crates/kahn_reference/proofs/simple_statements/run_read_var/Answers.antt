@@ -3,10 +3,11 @@ use Rattle.std.specs.Prelude.{Vec}
 use Rattle.std.specs.declared.alloc.Global.{Global}
 use Rattle.tapa_syntax.specs.declared.program.Stmt.TheVariants.{ReadVar}
 use Rattle.tapa_syntax.specs.LeafKinds.{kinds_of}
-use Rattle.kahn_model.specs.Slow.{point, numbers, feed, state_of, rows_of}
+use Rattle.kahn_reference.specs.Slow.{point, numbers, feed, state_of}
+use Rattle.kahn_model.specs.Rows.{rows_of}
 use Rattle.kahn_model.specs.Trace.{cell}
-use Rattle.kahn_model.proofs.SlowStatements.{read_var_goes, read_var_stops}
-use Rattle.kahn_model.proofs.simple_statements.run_read_var.Goals as goal
+use Rattle.kahn_reference.proofs.SlowStatements.{read_var_goes, read_var_stops}
+use Rattle.kahn_reference.proofs.simple_statements.run_read_var.Goals as goal
 
 pub returns-in-Stopped-clause-flow : goal.returns-in-Stopped-clause-flow
 returns-in-Stopped-clause-flow c = λ n.

@@ -2,10 +2,11 @@ use Rattle.std.proofs.Common.{◌∙◌, ℕ, List, refl, ap}
 use Rattle.std.specs.Prelude.{Vec}
 use Rattle.std.specs.declared.alloc.Global.{Global}
 use Rattle.tapa_syntax.specs.declared.program.Stmt.TheVariants.{SetCell}
-use Rattle.kahn_model.specs.Slow.{point, numbers, feed, state_of, rows_of}
+use Rattle.kahn_reference.specs.Slow.{point, numbers, feed, state_of}
+use Rattle.kahn_model.specs.Rows.{rows_of}
 use Rattle.kahn_model.specs.Trace.{cell}
-use Rattle.kahn_model.proofs.SlowStatements.{set_cell_goes, set_cell_stops}
-use Rattle.kahn_model.proofs.simple_statements.run_set_cell.Goals as goal
+use Rattle.kahn_reference.proofs.SlowStatements.{set_cell_goes, set_cell_stops}
+use Rattle.kahn_reference.proofs.simple_statements.run_set_cell.Goals as goal
 
 pub returns-in-Stopped-clause-flow : goal.returns-in-Stopped-clause-flow
 returns-in-Stopped-clause-flow c = λ K n.

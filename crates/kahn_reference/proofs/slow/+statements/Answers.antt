@@ -4,13 +4,14 @@ use Rattle.std.specs.declared.alloc.Global.{Global}
 use Rattle.std.proofs.lemmas.Result.{IfOk-weaker}
 use Rattle.std.proofs.lemmas.List.{drop_more}
 use Rattle.tapa_syntax.specs.LeafKinds.{kinds_of}
-use Rattle.kahn_model.specs.declared.slow.Flow.TheVariants.{Next, Out, Again, Stopped as StoppedFlow}
-use Rattle.kahn_model.specs.declared.slow.Turn.TheVariants.{On, Over, Stopped as StoppedTurn}
-use Rattle.kahn_model.specs.Slow.{point, numbers, feed, state_of, rows_of, GivesFlow, turn_of, loop_of, turn_left}
+use Rattle.kahn_reference.specs.declared.slow.Flow.TheVariants.{Next, Out, Again, Stopped as StoppedFlow}
+use Rattle.kahn_reference.specs.declared.slow.Turn.TheVariants.{On, Over, Stopped as StoppedTurn}
+use Rattle.kahn_reference.specs.Slow.{point, numbers, feed, state_of, GivesFlow, turn_of, loop_of, turn_left}
+use Rattle.kahn_model.specs.Rows.{rows_of}
 use Rattle.kahn_model.specs.Trace.{cell, statements, stmt}
-use Rattle.kahn_model.proofs.SlowFlows.{turn_begins, turn_stops, turn_out, turn_next, turn_again, turn_at, flow_at, flow_after, if_begins, code_at_zero, code_not_zero, block_step, block_leaves, loop_on, loop_over, loop_stops}
-use Rattle.kahn_model.proofs.SlowStatements.{set_cell_goes, set_cell_stops, set_cell_by_goes, set_cell_by_stops, store_goes, store_stops, store_by_goes, store_by_stops, read_var_goes, read_var_stops, read_cell_goes, read_cell_stops, read_store_goes, read_store_stops, open_goes, open_stops, clear_goes}
-use Rattle.kahn_model.proofs.slow.+statements.Goals as goal
+use Rattle.kahn_reference.proofs.SlowFlows.{turn_begins, turn_stops, turn_out, turn_next, turn_again, turn_at, flow_at, flow_after, if_begins, code_at_zero, code_not_zero, block_step, block_leaves, loop_on, loop_over, loop_stops}
+use Rattle.kahn_reference.proofs.SlowStatements.{set_cell_goes, set_cell_stops, set_cell_by_goes, set_cell_by_stops, store_goes, store_stops, store_by_goes, store_by_stops, read_var_goes, read_var_stops, read_cell_goes, read_cell_stops, read_store_goes, read_store_stops, open_goes, open_stops, clear_goes}
+use Rattle.kahn_reference.proofs.slow.+statements.Goals as goal
 
 pub run_stmt-returns-in_ok-clear-in-Clear-clause-flow : goal.run_stmt-returns-in_ok-clear-in-Clear-clause-flow
 run_stmt-returns-in_ok-clear-in-Clear-clause-flow t c =

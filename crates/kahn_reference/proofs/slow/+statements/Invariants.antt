@@ -1,10 +1,10 @@
 use Rattle.std.proofs.Common.{◌≡◌, ◌-◌, length, drop}
 use Rattle.tapa_syntax.specs.LeafKinds.{kinds_of}
 use Rattle.kahn_model.specs.Behavior.{Behavior}
-use Rattle.kahn_model.specs.Slow.{point, numbers, state_of, loop_of}
+use Rattle.kahn_reference.specs.Slow.{point, numbers, state_of, loop_of}
 use Rattle.kahn_model.specs.Trace.{State, statements}
-use Rattle.kahn_model.proofs.SlowFlows.{Goes}
-use Rattle.kahn_model.proofs.slow.+statements.Given as goal
+use Rattle.kahn_reference.proofs.SlowFlows.{Goes}
+use Rattle.kahn_reference.proofs.slow.+statements.Given as goal
 
 abbrev pub invariant-run_block-loop-s : goal.invariant-run_block-loop-s
 invariant-run_block-loop-s l = record {

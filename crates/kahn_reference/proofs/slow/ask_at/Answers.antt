@@ -1,8 +1,8 @@
 use Rattle.std.proofs.lemmas.Result.{IfOk-weaker}
-use Rattle.kahn_model.specs.Slow.{point, numbers, GivesAnswer, GivesValue}
+use Rattle.kahn_reference.specs.Slow.{point, numbers, GivesAnswer, GivesValue}
 use Rattle.kahn_model.specs.Behavior.{Await}
-use Rattle.kahn_model.proofs.SlowFlows.{asked_at}
-use Rattle.kahn_model.proofs.slow.ask_at.Goals as goal
+use Rattle.kahn_reference.proofs.SlowFlows.{asked_at}
+use Rattle.kahn_reference.proofs.slow.ask_at.Goals as goal
 
 pub returns-clause-value : goal.returns-clause-value
 returns-clause-value c =

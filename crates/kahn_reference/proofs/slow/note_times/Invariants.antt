@@ -1,6 +1,7 @@
 use Rattle.std.proofs.Common.{◌≡◌, ◌++◌, replicate}
-use Rattle.kahn_model.specs.Behavior.{Did, Local}
-use Rattle.kahn_model.proofs.slow.note_times.Given as goal
+use Rattle.kahn_model.specs.declared.tick.Tick.TheVariants.{Did}
+use Rattle.kahn_model.specs.declared.tick.Action.TheVariants.{Local}
+use Rattle.kahn_reference.proofs.slow.note_times.Given as goal
 
 abbrev pub invariant-loop-tick : goal.invariant-loop-tick
 invariant-loop-tick l = record {

@@ -1,8 +1,9 @@
-use Rattle.kahn_model.specs.Slow.{point, numbers, state_of}
-use Rattle.kahn_model.specs.Behavior.{Await, Read as ByRead}
+use Rattle.kahn_reference.specs.Slow.{point, numbers, state_of}
+use Rattle.kahn_model.specs.Behavior.{Await}
+use Rattle.kahn_model.specs.declared.tick.StreamOperation.TheVariants.{Read as ByRead}
 use Rattle.kahn_model.specs.Trace.{expr}
-use Rattle.kahn_model.proofs.SlowFlows.{ends}
-use Rattle.kahn_model.proofs.slow.run_read.Goals as goal
+use Rattle.kahn_reference.proofs.SlowFlows.{ends}
+use Rattle.kahn_reference.proofs.slow.run_read.Goals as goal
 
 pub returns-in-Stopped-2-clause-value : goal.returns-in-Stopped-2-clause-value
 returns-in-Stopped-2-clause-value c = λ go.

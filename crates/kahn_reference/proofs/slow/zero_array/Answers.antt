@@ -3,9 +3,9 @@ use Rattle.std.specs.Prelude.{Vec, slice_set}
 use Rattle.std.specs.Vec.{with_items}
 use Rattle.std.specs.declared.alloc.Global.{Global}
 use Rattle.std.proofs.lemmas.List.{map-set, get_or-map, with_items_is, length-replicate}
-use Rattle.kahn_model.specs.Slow.{rows_of}
+use Rattle.kahn_model.specs.Rows.{rows_of}
 use Rattle.kahn_model.specs.Trace.{State}
-use Rattle.kahn_model.proofs.slow.zero_array.Goals as goal
+use Rattle.kahn_reference.proofs.slow.zero_array.Goals as goal
 
 pub returns-then-i-len-clause-state : goal.returns-then-i-len-clause-state
 returns-then-i-len-clause-state c =

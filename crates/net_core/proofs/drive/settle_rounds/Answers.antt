@@ -9,26 +9,11 @@ use Rattle.net_core.specs.Settle.{IsQuiet, AreAllEnded, IsSomeNotEnded}
 use Rattle.net_core.proofs.Settled.{limit_ends, done_ends, stopped_ends, settled}
 use Rattle.net_core.proofs.drive.settle_rounds.Goals as goal
 
-pub returns-in-None-clause-outcome : goal.returns-in-None-clause-outcome
-returns-in-None-clause-outcome g c =
-    let inv = c.rounds.invariant in
-    let v = c.valid.ensures in
-    let e = c.in_ok-step.ensures in
-    let l = rw c.in-None.is at e.passed in
-    limit_ends c.pass.new.net v.is_network v.size v.pauses_len v.reachable c.args.budget c.pass.new.left (e.ticks ∙ inv.ticks) l
+pub returns-then-not-clause-outcome : goal.returns-then-not-clause-outcome
+returns-then-not-clause-outcome g c = ?
 
 pub rounds-preserved : goal.rounds-preserved
-rounds-preserved g c =
-    let inv = c.rounds.invariant in
-    let e = c.in_ok-step.ensures in
-    let p = rw c.in-Some.is at e.passed in
-    let same : length c.pass.new.net.program.instances.items ≡ length c.rounds.net.program.instances.items = ap (λ (z : Program × Input). length z.0.instances.items) e.given in
-    record {
-      given = e.given ∙ inv.given;
-      ticks = e.ticks ∙ inv.ticks;
-      below = subst (λ m. AreBelow m c.in-Some.later.items) (sym same) p.below;
-      quiet = λ j l. p.quiet j (omega arith) (inv.quiet j (omega arith));
-    }
+rounds-preserved g c = ?
 
 pub returns-then-all_ended-clause-outcome : goal.returns-then-all_ended-clause-outcome
 returns-then-all_ended-clause-outcome g c =
