@@ -57,11 +57,21 @@ def try_joined(trial, row):
         check_tokens(trial, row, kinds, (0, 0), terms, [below, above, below, less])
 
 
-KINDS = {"operators": try_operators, "conversions": try_conversions, "joined": try_joined}
+def try_literals(trial, row):
+    """`TEXT KIND VALUE`."""
+    text, kind, value = row.split()
+    below = 2**32 - 1 if kind == "unsigned" else 2**64 - 1
+    above = 2**40 if kind in ("int64_t", "uint64_t") else 0
+    less = int(kind in ("int", "int64_t"))
+    terms = [text, f"{text} - {text} - 1", f"({text} - {text} + 1) << 40", f"{text} - {text} - 1 < 0"]
+    check_tokens(trial, row, ("int", "int", "uint64_t"), (0, 0), terms, [int(value), below, above, less])
+
+
+KINDS = {"operators": try_operators, "conversions": try_conversions, "joined": try_joined, "literals": try_literals}
 
 
 def try_all(trial):
-    for name in ("operators", "conversions", "joined"):
+    for name in KINDS:
         kind, rows = table(f"tests/values/{name}.rows")
         for row in rows:
             KINDS[kind](trial, row)
