@@ -9,7 +9,7 @@ tests/README.md says how cases are written.
 """
 import sys
 
-from runner import crates, documents, endings, examples, inputs, sessions, sources, tools
+from runner import crates, documents, endings, examples, inputs, sessions, sources, tools, values, words
 from runner.trial import Trial
 
 
@@ -17,6 +17,8 @@ GROUPS = [
     ("sources", sources.try_all),
     ("data", inputs.try_all),
     ("runs", sessions.try_all),
+    ("values", values.try_all),
+    ("words", words.try_all),
     ("endings", endings.try_all),
     ("examples", examples.try_all),
     ("documents", documents.try_all),
@@ -26,12 +28,12 @@ GROUPS = [
 ]
 
 
-def main(words):
-    only = words[2] if len(words) == 3 and words[1] == "--only" else ""
-    if len(words) != (3 if only else 1):
+def main(given):
+    only = given[2] if len(given) == 3 and given[1] == "--only" else ""
+    if len(given) != (3 if only else 1):
         print(__doc__.strip(), file=sys.stderr)
         return 2
-    trial = Trial(words[0], is_whole=not only)
+    trial = Trial(given[0], is_whole=not only)
     for name, group in GROUPS:
         if only in name:
             trial.begin(name)

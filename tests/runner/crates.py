@@ -1,9 +1,73 @@
-"""To come."""
+"""That documents and tests speak of what is there: crates, rooms, and the names of definitions and laws."""
+import os
+import re
+import sys
+
+from runner.trial import ROOT, TESTS, read
+
+sys.path.insert(0, TESTS)
+import crates as listed  # noqa: E402
+
+# Pages whose words between ` and ` are names of the code.
+OF_NAMES = ("docs/PROMISES.md", "docs/READING.md")
+
+# The longest line of a crate in README.md.
+WIDTH = 160
+
+
+def texts_of_crates():
+    """All sources and definitions of the crates, as one text."""
+    parts = []
+    for folder, below, files in os.walk(os.path.join(ROOT, "crates")):
+        below[:] = [it for it in below if it not in ("out", "must-fail")]
+        for name in files:
+            if name.endswith((".rt", ".antt")):
+                with open(os.path.join(folder, name), encoding="utf-8") as file:
+                    parts.append(file.read())
+    return "\n".join(parts)
+
+
+def try_lists(trial):
+    """docs/ARCHITECTURE.md has each crate with its own first sentence, and README.md one short line for each."""
+    trial.check_equal("docs/ARCHITECTURE.md has the list of tests/crates.py", listed.listed(read("docs/ARCHITECTURE.md")), listed.text())
+    names = [name for _, crates in listed.rooms() for name in crates]
+    lines = {match[1]: match[0] for match in re.finditer(r"^- `(\w+)`: .*$", read("README.md"), re.M)}
+    trial.check_equal("README.md has a line for each crate, in the order of crates.txt", list(lines), names)
+    for name, line in lines.items():
+        trial.check(f"README.md: the line of {name} has at most {WIDTH} characters", len(line) <= WIDTH, f"   {len(line)}")
+
+
+def try_names(trial):
+    """Each name of a definition or a function that a page gives in `code` stands in a crate."""
+    text = texts_of_crates()
+    known = set(re.findall(r"\w+", text)) | {name for _, crates in listed.rooms() for name in crates}
+    for page in OF_NAMES:
+        for name in sorted(set(re.findall(r"`([A-Za-z_][\w.]*)`", read(page)))):
+            trial.check(f"{page}: `{name}` is in the crates", set(name.split(".")) <= known)
+    for page in ["README.md", *(f"docs/{name}" for name in sorted(os.listdir(os.path.join(ROOT, "docs"))))]:
+        for law in sorted(set(re.findall(r"\blaw_\w+", read(page)))):
+            trial.check(f"{page}: {law} is in the crates", f"fn {law}(" in text or f"fn {law}<" in text)
+
+
+def try_clauses(trial):
+    """The clauses that docs/READING.md explains are those of the code."""
+    code = read("crates/tapa_base/src/take.rt").partition("pub fn take_file")[2]
+    shown = re.findall(r"^    ((?:requires|ensures) .*)$", read("docs/READING.md"), re.M)
+    trial.check("docs/READING.md shows clauses", shown)
+    trial.check_equal("docs/READING.md shows the clauses of take_file", shown, re.findall(r"^    ((?:requires|ensures) .*)$", code.partition("\n{")[0], re.M))
+
+
+def try_links(trial):
+    """Each page of the repository that a page names is there."""
+    pages = ["README.md", "CONTRIBUTING.md", "examples/README.md", "tests/README.md", "tools/README.md"]
+    pages += [f"docs/{name}" for name in sorted(os.listdir(os.path.join(ROOT, "docs")))]
+    for page in pages:
+        for path in sorted(set(re.findall(r"\b(?:docs|examples|tests|tools|crates)/[\w./]*\w", read(page)))):
+            trial.check(f"{page}: {path} is there", "/out/" in path or os.path.exists(os.path.join(ROOT, path)))
 
 
 def try_all(trial):
-    pass
-
-
-def try_messages(trial):
-    pass
+    try_lists(trial)
+    try_names(trial)
+    try_clauses(trial)
+    try_links(trial)

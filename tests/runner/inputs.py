@@ -1,18 +1,11 @@
 """Data files: the tables in tests/data."""
 import os
-import re
 
-from runner.sources import parts, table
+from runner.sources import bytes_of, parts, table
 from runner.trial import TESTS, read
 
 # Of a program that has two memories and passes on two scalars.
 ECHO = "stream q: {}\nmemory a:{}\nmemory b:{}\ndone 6\n"
-
-
-def bytes_of(text):
-    r"""The bytes of a row's text, in which `\xHH` stands for a byte."""
-    parts_of = re.split(r"\\x([0-9a-f]{2})", text)
-    return b"".join(bytes([int(part, 16)]) if at % 2 else part.encode() for at, part in enumerate(parts_of))
 
 
 def run_on(trial, source, given):

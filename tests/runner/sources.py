@@ -21,6 +21,12 @@ def parts(row):
     return found[1].strip(), re.findall(r"`([^`]*)`", found[2])
 
 
+def bytes_of(text):
+    r"""The bytes of a row's text, in which `\xHH` stands for a byte."""
+    parts_of = re.split(r"\\x([0-9a-f]{2})", text)
+    return b"".join(bytes([int(part, 16)]) if at % 2 else part.encode() for at, part in enumerate(parts_of))
+
+
 def table(path):
     """The kind of a table, which its first line names that is no comment, and its rows."""
     lines = [line for line in read(path).splitlines() if line and not line.startswith("# ")]
@@ -40,6 +46,12 @@ def try_whole(trial, row):
     words, (source,) = parts(row)
     top, wanted = words.split(" ", 1)
     trial.check_equal(source, trial.told(source, top), wanted)
+
+
+def try_bytes(trial, row):
+    r"""`TOLD `source``, with `\xHH` for a byte."""
+    wanted, (source,) = parts(row)
+    trial.check_equal(source, trial.told(bytes_of(source)), wanted)
 
 
 def repeated(before, part, count, after):
@@ -86,7 +98,7 @@ def try_prefixes(trial, row):
             trial.check(f"{name} before byte {end}", told.startswith(OF_TEXT) and not told.startswith("P2"), f"   {told}")
 
 
-KINDS = {"whole": try_whole, "repeated": try_repeated, "grammar": try_grammar, "grown": try_grown, "prefixes": try_prefixes}
+KINDS = {"whole": try_whole, "bytes": try_bytes, "repeated": try_repeated, "grammar": try_grammar, "grown": try_grown, "prefixes": try_prefixes}
 
 
 def try_all(trial):

@@ -8,7 +8,7 @@ ROOT = os.path.dirname(os.path.dirname(os.path.dirname(os.path.abspath(__file__)
 TESTS = os.path.join(ROOT, "tests")
 
 # The most seconds of one command.
-SECONDS = 120
+SECONDS = 300
 
 
 def read(path):

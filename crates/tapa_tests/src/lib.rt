@@ -1,4 +1,4 @@
-//! The worked examples, run on the top call with files and sinks in memory.
+//! Tests of the top call with files and sinks in memory that fail: a file that cannot be read, and a report that is cut.
 #![tactic(auto)]
 
 #[cfg(test)]
