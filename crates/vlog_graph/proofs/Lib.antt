@@ -1,2 +1,5 @@
-pub mod Numbered
+pub mod Numbers
 pub mod Reached
+pub mod Rows
+pub mod Visits
+pub mod Marking

@@ -1,42 +1,45 @@
--- Graphs of numbers, and what names and edges they stand for.
-use Rattle.std.specs.Prelude.{◌≡◌, ◌↔◌, ℕ, ◌<◌, ◌≤◌, List, [], Bool, true, false, Option, Some, length, slice_get, get_or, Vec}
+-- Graphs of numbers.
+use Rattle.std.specs.Prelude.{◌≡◌, ◌↔◌, ℕ, ◌<◌, ◌≤◌, List, [], ◌∷◌, Bool, true, false, length, slice_get, get_or, take, Vec}
 use Rattle.std.specs.Option.{option_map_or}
 use Rattle.vlog_tree.specs.Grounded.{Has}
-use Rattle.vlog_tree.specs.Table.{Name}
-use Rattle.vlog_tree.specs.Loops.{Edges}
-use Rattle.vlog_rules.specs.NameTable.{value_in}
-use Rattle.vlog_graph.specs.declared.graph.Graph.{Graph}
+use Rattle.vlog_tree.specs.Loops.{Chain}
 
--- the list at a number, as of the numbers that the number rests on
+-- of each node its targets, the nodes that it rests on; the nodes are the numbers below the length
+abbrev pub Adjacency : Type 0
+Adjacency = List (List ℕ)
+
+-- rows of numbers without where they lie in memory
+abbrev pub rows_of : {A : Type 0} → List (Vec ℕ A) → Adjacency
+rows_of [] = []
+rows_of (v ∷ vs) = v.items ∷ rows_of vs
+
+-- the row at a number
 abbrev pub targets_of : {X A : Type 0} → List (Vec X A) → ℕ → List X
-targets_of targets j = option_map_or (λ v. v.items) (slice_get targets j) []
+targets_of rows j = option_map_or (λ v. v.items) (slice_get rows j) []
 
--- the numbers stand for names, one for each, and the targets for the edges
-pub record IsNumbered (edges : Edges) (number : Name → Option ℕ) (next : ℕ → List ℕ) (n : ℕ) : Type 0 where
-  pub below : (a : Name) (j : ℕ) → number a ≡ Some j → j < n
-  pub distinct : (a b : Name) (j : ℕ) → number a ≡ Some j → number b ≡ Some j → a ≡ b
-  pub there : (a b : Name) → Has edges (a, b) → (j : ℕ) × (k : ℕ) × (number a ≡ Some j) × (number b ≡ Some k) × Has (next j) k
-  pub only : (j k : ℕ) → Has (next j) k → (a : Name) × (b : Name) × (number a ≡ Some j) × (number b ≡ Some k) × Has edges (a, b)
+-- from a node to one of its targets
+abbrev pub Steps : Adjacency → ℕ → ℕ → Type 0
+Steps g j k = Has (get_or g j []) k
 
-abbrev pub IsGraphOf : Edges → Graph → Type 0
-IsGraphOf edges g = IsNumbered edges (value_in g.numbers) (targets_of g.targets.items) (length g.targets.items)
+-- each target is a node
+abbrev pub AreNodes : Adjacency → Type 0
+AreNodes g = (j k : ℕ) → Steps g j k → k < length g
 
--- each name keeps its number
-abbrev pub IsExtended : (Name → Option ℕ) → (Name → Option ℕ) → Type 0
-IsExtended old new = (a : Name) (j : ℕ) → old a ≡ Some j → new a ≡ Some j
+-- from one of some nodes a node is reached by one or more steps
+abbrev pub IsReached : Adjacency → List ℕ → ℕ → Type 0
+IsReached g sources k = (j : ℕ) × Has sources j × Chain (Steps g) j k
 
--- a mark stands at just the numbers that are noted
-abbrev pub IsMarked : List Bool → List ℕ → Type 0
-IsMarked marks found = (m : ℕ) → (get_or marks m false ≡ true) ↔ Has found m
+-- nodes, none twice, each after all its targets
+pub record ArePartsFirst (g : Adjacency) (order : List ℕ) : Type 0 where
+  pub low : (i : ℕ) → i < length order → get_or order i 0 < length g
+  pub once : (i : ℕ) → i < length order → Has (take i order) (get_or order i 0) → ⊥
+  pub first : (i k : ℕ) → i < length order → Steps g (get_or order i 0) k → Has (take i order) k
 
--- from a number to one of its targets
-abbrev pub Steps : {A : Type 0} → List (Vec ℕ A) → ℕ → ℕ → Type 0
-Steps targets j k = Has (targets_of targets j) k
+-- all nodes, each once and after all its targets
+pub record IsOrder (g : Adjacency) (order : List ℕ) : Type 0 where
+  pub parts : ArePartsFirst g order
+  pub all : (j : ℕ) → j < length g → Has order j
 
 -- along no step is the second level above the first
-abbrev pub NeverRise : {A : Type 0} → List (Vec ℕ A) → List ℕ → Type 0
-NeverRise targets levels = (j k : ℕ) → Steps targets j k → get_or levels k 0 ≤ get_or levels j 0
-
--- whether the number of a name is marked
-abbrev pub mark_of : Graph → List Bool → Name → Bool
-mark_of g marks x = option_map_or (λ k. get_or marks k false) (value_in g.numbers x) false
+abbrev pub NeverRise : Adjacency → List ℕ → Type 0
+NeverRise g levels = (j k : ℕ) → Steps g j k → get_or levels k 0 ≤ get_or levels j 0

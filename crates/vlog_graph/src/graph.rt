@@ -1,128 +1,101 @@
-// A graph of names.
+// Graphs of numbers.
 
-ghost use Rattle.std.specs.Prelude.{◌≡◌, ◌≢◌, ◌<◌, ◌++◌, ◌∷◌, [], ℕ, List, Some, length, bytes_eq, ◌↔◌, true, false, get_or, if◌then◌else◌, IfOk, OnOk};
-ghost use Rattle.vlog_tree.specs.Loops.{Edges, Reaches};
-ghost use Rattle.vlog_rules.specs.NameTable.{value_in};
-ghost use Rattle.vlog_graph.specs.Graphs.{IsGraphOf, IsExtended, targets_of, mark_of};
+ghost use Rattle.std.specs.Prelude.{◌≡◌, ◌≢◌, ◌<◌, ◌++◌, ◌∷◌, [], ℕ, List, length, get_or, ◌↔◌, IfOk, OnOk};
+ghost use Rattle.vlog_tree.specs.Grounded.{Has};
+ghost use Rattle.vlog_graph.specs.Graphs.{Steps, AreNodes, targets_of};
 
-use crate::levels::{levels_fall, levels_of};
-use crate::reach::reach;
 use std::alloc::{AllocError, Global};
-use std::collections::HashMap;
+use std::marker::Model;
 
-/// Names with their numbers, and for each number those of the names that it rests on.
+/// A graph of the numbers below a count. Each node has its targets, the nodes that it rests on.
 #[derive(Drop)]
 pub struct Graph {
-    pub numbers: HashMap<Vec<u8>, usize>,
-    pub targets: Vec<Vec<usize>>,
+    rows: Vec<Vec<usize>>,
 }
 
-fn push_target(targets: &mut Vec<Vec<usize>>, from: usize, to: usize) -> Result<(), AllocError>
-    requires { from < length targets.old.items }
-    ensures len { length targets.new.items ≡ length targets.old.items }
-    ensures at { OnOk result (targets_of targets.new.items from ≡ targets_of targets.old.items from ++ to ∷ []) }
-    ensures others { (i : ℕ) → i ≢ from → targets_of targets.new.items i ≡ targets_of targets.old.items i }
+impl Model for Graph {
+    ghost use Rattle.vlog_graph.specs.Graphs.{Adjacency, AreNodes, rows_of};
+
+    ghost Value = { Adjacency };
+
+    ghost view = { λ g. rows_of g.rows.items };
+
+    ghost invariant = { λ g. AreNodes (rows_of g.rows.items) };
+}
+
+fn push_target(rows: &mut Vec<Vec<usize>>, from: usize, to: usize) -> Result<(), AllocError>
+    requires { from < length rows.old.items }
+    ensures len { length rows.new.items ≡ length rows.old.items }
+    ensures at { OnOk result (targets_of rows.new.items from ≡ targets_of rows.old.items from ++ to ∷ []) }
+    ensures others { (i : ℕ) → i ≢ from → targets_of rows.new.items i ≡ targets_of rows.old.items i }
 {
-    targets[from].push(to)?;
+    rows[from].push(to)?;
     Ok(())
 }
 
-/// Gives a name a number.
-pub fn insert_number(
+fn empty_rows(alloc: Global, count: usize) -> Result<Vec<Vec<usize>>, AllocError>
+    ensures len { IfOk result (λ rows. length rows.items ≡ count) }
+    ensures empty { IfOk result (λ rows. (j : ℕ) → targets_of rows.items j ≡ []) }
+{
+    let mut rows = Vec::new(alloc);
+    for _ in 0..count {
+        rows.push(Vec::new(alloc))?;
+    }
+    Ok(rows)
+}
+
+fn rows_with(
     alloc: Global,
-    numbers: &mut HashMap<Vec<u8>, usize>,
-    name: &[u8],
-    number: usize,
-) -> Result<(), AllocError>
-    ensures { OnOk result ((x : List ℕ) → value_in numbers.new x ≡ (if bytes_eq name.now x then Some number else value_in numbers.old x)) }
+    count: usize,
+    edges: &[(usize, usize)],
+) -> Result<Vec<Vec<usize>>, AllocError>
+    requires { (j k : ℕ) → Has edges.now (j, k) → (j < count) × (k < count) }
+    ensures len { IfOk result (λ rows. length rows.items ≡ count) }
+    ensures edges { IfOk result (λ rows. (j k : ℕ) → Has (targets_of rows.items j) k ↔ Has edges.now (j, k)) }
 {
-    let key = name.to_vec(alloc)?;
-    numbers.insert(key, number)?;
-    Ok(())
+    let mut rows = empty_rows(alloc, count)?;
+    for edge in edges {
+        push_target(&mut rows, edge.0, edge.1)?;
+    }
+    Ok(rows)
+}
+
+fn row_at(rows: &[Vec<usize>], node: usize) -> &[usize]
+    ensures { result.now ≡ targets_of rows.now node }
+{
+    match rows.get(node) {
+        Some(row) => row,
+        None => &[],
+    }
 }
 
 impl Graph {
-    pub fn new(alloc: Global) -> Graph
-        ensures { IsGraphOf [] result }
+    /// The graph of so many nodes with these edges, each from a node to a node that it rests on.
+    pub fn of(
+        alloc: Global,
+        count: usize,
+        edges: &[(usize, usize)],
+    ) -> Result<Graph, AllocError>
+        requires { (j k : ℕ) → Has edges.now (j, k) → (j < count) × (k < count) }
+        ensures len { IfOk result (λ g. length g ≡ count) }
+        ensures edges { IfOk result (λ g. (j k : ℕ) → Steps g j k ↔ Has edges.now (j, k)) }
     {
-        Graph {
-            numbers: HashMap::new(alloc),
-            targets: Vec::new(alloc),
-        }
+        let rows = rows_with(alloc, count, edges)?;
+        Ok(Graph { rows })
     }
 
-    /// The number of a name.
-    pub fn number(&self, name: &[u8]) -> Option<usize>
-        ensures { result ≡ value_in self.now.numbers name.now }
+    /// The number of nodes.
+    pub fn len(&self) -> usize
+        ensures len { result ≡ length self.now }
+        ensures nodes { AreNodes self.now }
     {
-        self.numbers.get(name).copied()
+        self.rows.len()
     }
 
-    // The number of a name, which gets one where it has none.
-    fn number_for(&mut self, alloc: Global, name: &[u8]) -> Result<usize, AllocError>
-        ensures number { IfOk result (λ j. value_in self.new.numbers name.now ≡ Some j) }
-        ensures extended { OnOk result (IsExtended (value_in self.old.numbers) (value_in self.new.numbers)) }
-        ensures graph { OnOk result ((edges : Edges) → IsGraphOf edges self.old → IsGraphOf edges self.new) }
+    /// The targets of a node, and none of a number that is no node.
+    pub fn targets(&self, node: usize) -> &[usize]
+        ensures { result.now ≡ get_or self.now node [] }
     {
-        if let Some(number) = self.number(name) {
-            return Ok(number);
-        }
-        let number = self.targets.len();
-        self.targets.push(Vec::new(alloc))?;
-        insert_number(alloc, &mut self.numbers, name, number)?;
-        Ok(number)
+        row_at(&self.rows, node)
     }
-
-    /// One more edge: the first name rests on the second.
-    pub fn add_edge(&mut self, alloc: Global, from: &[u8], to: &[u8]) -> Result<(), AllocError>
-        ensures { OnOk result ((edges : Edges) → IsGraphOf edges self.old → IsGraphOf (edges ++ (from.now, to.now) ∷ []) self.new) }
-    {
-        let a = self.number_for(alloc, from)?;
-        let b = self.number_for(alloc, to)?;
-        if a < self.targets.len() {
-            push_target(&mut self.targets, a, b)?;
-        }
-        Ok(())
-    }
-}
-
-/// Whether a name is marked by its number.
-pub fn is_marked(graph: &Graph, marks: &[bool], name: &[u8]) -> bool
-    ensures { result ≡ mark_of graph.now marks.now name.now }
-{
-    match graph.number(name) {
-        Some(number) => mark_at(marks, number),
-        None => false,
-    }
-}
-
-fn mark_at(marks: &[bool], number: usize) -> bool
-    ensures { result ≡ get_or marks.now number false }
-{
-    match marks.get(number) {
-        Some(marked) => *marked,
-        None => false,
-    }
-}
-
-/// Marks the names that a name reaches by one or more edges.
-pub fn reach_from(alloc: Global, graph: &Graph, name: &[u8]) -> Result<Vec<bool>, AllocError>
-    requires { (edges : Edges) × IsGraphOf edges graph.now }
-    ensures { (edges : Edges) → IsGraphOf edges graph.now → IfOk result (λ marks. (y : List ℕ) → (mark_of graph.now marks.items y ≡ true) ↔ Reaches edges name.now y) }
-{
-    match graph.number(name) {
-        Some(number) => {
-            let marks = reach(alloc, &graph.targets, number)?;
-            Ok(marks)
-        }
-        None => Ok(Vec::new(alloc)),
-    }
-}
-
-/// Whether levels were found that show that no name reaches itself.
-pub fn has_levels(alloc: Global, graph: &Graph) -> Result<bool, AllocError>
-    ensures { (edges : Edges) → IsGraphOf edges graph.now → IfOk result (λ b. b ≡ true → (x : List ℕ) → Reaches edges x x → ⊥) }
-{
-    let levels = levels_of(alloc, &graph.targets)?;
-    Ok(levels_fall(&graph.targets, &levels))
 }

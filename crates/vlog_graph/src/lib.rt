@@ -1,10 +1,14 @@
-//! Graphs of names: what a name reaches, and levels that show that no name reaches itself.
+//! Graphs of numbers: an order in which each node comes after those that it rests on, what nodes reach, and whether a node
+//! reaches itself.
 #![tactic(auto)]
 
+mod components;
+mod cycles;
 mod graph;
-mod leveled;
-mod levels;
+mod order;
 mod reach;
 
-pub use graph::{Graph, has_levels, insert_number, is_marked, reach_from};
-pub use leveled::LeveledGraph;
+pub use cycles::LeveledGraph;
+pub use graph::Graph;
+pub use order::{Order, law_order_has_no_cycle, order_of};
+pub use reach::{Searches, reach_from};

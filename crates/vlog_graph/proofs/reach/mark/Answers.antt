@@ -1,16 +1,20 @@
-use Rattle.std.proofs.Common.{◌∷◌, [], sym, subst, inl, refl}
-use Rattle.std.specs.Prelude.{slice_set}
-use Rattle.std.proofs.Common.{true}
+use Rattle.std.proofs.Common.{rules, arith, ◌≡◌, ◌<◌, ◌≤◌, ◌+◌, ◌-◌, ◌++◌, ◌∷◌, [], ℕ, zero, suc, List, length, get_or, take, drop, true, false, slice_set, inl, inr, refl, sym, ap, subst, ◌∙◌}
 use Rattle.vlog_tree.specs.Grounded.{Has}
-use Rattle.vlog_graph.specs.Graphs.{IsMarked}
+use Rattle.vlog_tree.specs.Loops.{Chain}
+use Rattle.vlog_graph.specs.Graphs.{Steps, IsReached}
+use Rattle.vlog_graph.specs.Marks.{IsMarked, Grows, unset}
 use Rattle.vlog_tree.proofs.Lists.{has_right}
-use Rattle.vlog_graph.proofs.Reached.{marked_more}
+use Rattle.vlog_graph.proofs.Marking.{grows_one}
 use Rattle.vlog_graph.proofs.reach.mark.Goals as goal
 
-pub returns-in_ok-push-clause-marked : goal.returns-in_ok-push-clause-marked
-returns-in_ok-push-clause-marked c = λ m.
-    subst (λ found. IsMarked (slice_set c.args.marks.now.items c.args.number true) found) (sym c.in_ok-push.ensures.items) (marked_more c.args.marks.now.items c.args.found.now.items c.args.number m c.requires)
+pub returns-in_ok-push-clause-grows : goal.returns-in_ok-push-clause-grows
+returns-in_ok-push-clause-grows c =
+    let marks = c.args.marks.now.items in
+    let found = c.args.found.now.items in
+    let n = c.args.number in
+    let free : get_or marks n false ≡ false = search rules in
+    subst (λ l. Grows marks (slice_set marks n true) found l (λ m. m ≡ n)) (sym c.in_ok-push.ensures.items) (grows_one marks found n c.requires.marked c.requires.low free)
 
 pub returns-in_ok-push-clause-there : goal.returns-in_ok-push-clause-there
-returns-in_ok-push-clause-there c = λ m.
-    subst (λ found. Has found c.args.number) (sym c.in_ok-push.ensures.items) (has_right c.args.found.now.items (c.args.number ∷ []) c.args.number (inl refl))
+returns-in_ok-push-clause-there c =
+    subst (λ l. Has l c.args.number) (sym c.in_ok-push.ensures.items) (has_right c.args.found.now.items (c.args.number ∷ []) c.args.number (inl refl))
