@@ -6,7 +6,7 @@ use Rattle.tapa_syntax.specs.Flat as flat
 use Rattle.tapa_syntax.specs.Flat.{FlatStatement, flat_expression, flat_statement, in_row}
 use Rattle.check_leaf.specs.Statements.{Frame}
 use Rattle.check_leaf.specs.Views.{Part}
-use Rattle.check_leaf.proofs.Rows.{flat-If, flat-Loop}
+use Rattle.tapa_syntax.proofs.Rows.{flat-If, flat-Loop}
 
 pub map-push : {A B : Type 0} (f : A → B) (xs : List A) (x : A) → map f (xs ++ x ∷ []) ≡ map f xs ++ f x ∷ []
 map-push f [] x = refl

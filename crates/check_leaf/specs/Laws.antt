@@ -13,7 +13,7 @@ use Rattle.check_leaf.specs.Leaves.{leaf_faults, leaf_of}
 -- what a file declares: constants, each with a value of its kind, and tasks
 abbrev pub IsGlobal : Entity → Type 0
 IsGlobal (Constant k n) = n < values_of k
-IsGlobal Task = Unit {0}
+IsGlobal (Task n) = Unit {0}
 IsGlobal _ = ⊥
 
 abbrev pub AreGlobal : Block → Type 0

@@ -29,8 +29,8 @@ pub(crate) fn body_numbers(
     ensures { Answers (λ numbers. numbers.items) result [] (program.body_numbers (map flat_instance instances.now) 0 (map task_view tasks.now)) }
 {
     let mut numbers = Vec::new(alloc);
-    for (place, _) in tasks.iter().enumerate() {
-        let number = number_of(place)?;
+    for (position, _) in tasks.iter().enumerate() {
+        let number = number_of(position)?;
         if is_used(instances, number) {
             numbers.push(number)?;
         }
@@ -81,9 +81,9 @@ pub(crate) fn bodies(
 fn position_among(number: u32, numbers: &[u32]) -> usize
     ensures { result ≡ program.position_among 0 number numbers.now }
 {
-    for (place, one) in numbers.iter().enumerate() {
+    for (position, one) in numbers.iter().enumerate() {
         if *one == number {
-            return place;
+            return position;
         }
     }
     numbers.len()

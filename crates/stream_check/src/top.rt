@@ -19,9 +19,9 @@ pub(crate) const FIRST_PLACE: Place = Place { line: 1, col: 1 };
 pub(crate) fn task_position(tasks: &[Task], name: &str) -> usize
     ensures { result ≡ table.task_position 0 name.now (map task_view tasks.now) }
 {
-    for (place, task) in tasks.iter().enumerate() {
+    for (position, task) in tasks.iter().enumerate() {
         if task.declared.name.text.bytes() == name.as_bytes() {
-            return place;
+            return position;
         }
     }
     tasks.len()
