@@ -51,7 +51,7 @@ tokens_pushed true k ts us t e h g = tokens_push k ts us t e h g
 tokens_pushed false k ts us t e h g = subst (AreTokensOf k) (sym e) h
 
 pub tokens_append : (k : Kind) (ts us : List Token) → AreTokensOf k ts → AreTokensOf k us → AreTokensOf k (ts ++ us)
-tokens_append k [] us h g = g
+tokens_append k [] us h g n v e = g n v e
 tokens_append k (t ∷ ts) us h g zero v e = h zero v e
 tokens_append k (t ∷ ts) us h g (suc n) v e = tokens_append k ts us (λ m. h (suc m)) g n v e
 

@@ -1,7 +1,6 @@
 use Rattle.std.proofs.Common.{◌≡◌, ℕ, ◌<◌, ◌⊎◌, inr, length, true, refl, sym, ap, subst, ⊎_elim, ◌∙◌, arith}
 use Rattle.std.specs.Prelude.{Vec}
 use Rattle.std.specs.declared.alloc.Global.{Global}
-use Rattle.std.proofs.lemmas.List.{length-replicate}
 use Rattle.std.proofs.lemmas.Bool.Decides.{nat_tests}
 use Rattle.std.proofs.lemmas.Option.{slice_get_within}
 use Rattle.tapa_syntax.specs.declared.program.Program.{Program}
@@ -21,7 +20,7 @@ rounds-init g c =
     let program = ap (λ (z : NetState). length z.program.instances.items) c.net.view_is in
     let l1 = c.len.ensures in
     let l2 = c.len-2.ensures in
-    let many : length c.in_ok-listed.listed.items ≡ c.len-2.result = ap length c.in_ok-listed.ensures.items ∙ length-replicate c.len-2.result true in
+    let many : length c.in_ok-listed.listed.items ≡ c.len-2.result = let e = c.in_ok-listed.ensures.len in let o = c.in_ok-listed.listed.ok.0 in omega arith in
     let here : c.len.result ≡ length c.args.net.now.program.instances.items = omega arith in
     record {
       given = refl;
