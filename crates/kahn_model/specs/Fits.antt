@@ -12,6 +12,8 @@ use Rattle.tapa_syntax.specs.declared.program.Memory.{Memory}
 use Rattle.tapa_syntax.specs.declared.program.Program.{Program}
 use Rattle.tapa_syntax.specs.declared.program.Scalar.{Scalar}
 use Rattle.tapa_syntax.specs.declared.program.Stream.{Stream}
+use Rattle.tapa_syntax.specs.LeafKinds.{Kinds}
+use Rattle.kahn_model.specs.Trace.{State, cell}
 use Rattle.kahn_model.specs.Behavior.{Action, Local, Put, Load, Store, Tick, Did, Take, See, End, Behavior, Finished, OutOfTurns, Act, Await, Answer, judge_token}
 
 -- an end of a transaction, or the bits of a value of the kind
@@ -39,6 +41,12 @@ TickFits streams memories (Did a) = ActionFits streams memories a
 TickFits streams memories (Take s t) = IsTokenOf (streams s) t
 TickFits streams memories (See s t) = IsTokenOf (streams s) t
 TickFits streams memories End = Unit {0}
+
+-- every variable and every cell has a value of its kind
+pub record IsFitState (K : Kinds) (σ : State) : Type 0 where
+  pub vars : (x : ℕ) → slice_index σ.vars x < values_of (K.vars x)
+  pub arrays : (a i : ℕ) → cell σ.arrays a i < values_of (K.arrays a)
+  pub cells : (m i : ℕ) → cell σ.cells m i < values_of (K.memories m)
 
 -- the kind of a stream of a program
 abbrev pub stream_kind : Program → ℕ → Kind

@@ -1,6 +1,6 @@
 // Values of kinds and rows of cells, as the trace uses them.
 
-ghost use Rattle.std.specs.Prelude.{◌≡◌, ◌-◌, ◌*◌, ◌^◌, ◌<◌, IsTrue, IfOk};
+ghost use Rattle.std.specs.Prelude.{◌≡◌, ◌-◌, ◌*◌, ◌^◌, ◌<◌, IfOk, OnErr};
 ghost use Rattle.kahn_model.specs.Rows.{rows_of};
 ghost use Rattle.kahn_model.specs.Trace.{at_zero, cell, with_cell};
 ghost use Rattle.tapa_base.specs.Kinds.{bits_of, values_of, converted};
@@ -11,7 +11,8 @@ use tapa_base::{Kind, Op, apply, can_apply, convert};
 
 // What an operator gives.
 pub(crate) fn apply_values(op: Op, kind: Kind, a: u64, b: u64) -> Result<u64, Fault>
-    ensures { IfOk result (λ v. v ≡ applied op kind a b) }
+    ensures ok { IfOk result (λ v. v ≡ applied op kind a b) }
+    ensures err { OnErr result (a < values_of kind → CanApply op kind b → ⊥) }
 {
     if can_apply(op, kind, a, b) {
         Ok(apply(op, kind, a, b))
@@ -21,7 +22,8 @@ pub(crate) fn apply_values(op: Op, kind: Kind, a: u64, b: u64) -> Result<u64, Fa
 }
 
 pub(crate) fn convert_value(from: Kind, to: Kind, v: u64) -> Result<u64, Fault>
-    ensures { IfOk result (λ w. w ≡ converted from to v) }
+    ensures ok { IfOk result (λ w. w ≡ converted from to v) }
+    ensures err { OnErr result (v < values_of from → ⊥) }
 {
     if from.holds(v) {
         Ok(convert(from, to, v))
@@ -59,7 +61,8 @@ pub(crate) fn negated(v: u64) -> u64
 }
 
 pub(crate) fn both(a: u64, b: u64) -> Result<u64, Fault>
-    ensures { IfOk result (λ v. v ≡ a * b) }
+    ensures ok { IfOk result (λ v. v ≡ a * b) }
+    ensures err { OnErr result (a < 2 → b < 2 → ⊥) }
 {
     match a.checked_mul(b) {
         Some(v) => Ok(v),

@@ -7,9 +7,9 @@ use Rattle.net_core.specs.declared.ports.Ports.{Ports}
 use Rattle.tapa_base.specs.declared.token.Token.{Token}
 use Rattle.kahn_model.specs.Fits.{stream_kind}
 use Rattle.net_core.specs.Kinds.{kind_in}
-use Rattle.net_core.specs.Ports.{carried, kind_at, ends_by, carried_by, IsReloaded, ends_in, carried_of, waiting_of, room_of}
+use Rattle.net_core.specs.Ports.{carried, kind_at, port_count, ends_by, carried_by, IsReloaded, ends_in, carried_of, waiting_of, room_of}
 use Rattle.net_core.specs.Bindings.{IsConnected, IsWriter, arity, ends_at, arity_in, stream_at, stream_in, Reads, Writes, producer_of, consumer_of, depth_of}
-use Rattle.net_core.proofs.Moves.{has_item, get_set_other}
+use Rattle.net_core.proofs.Moves.{has_item, get_set_other, port_count_is}
 use Rattle.net_core.specs.Load.{IsIn, AreBelow, AreListed, AreKept, AreLoaded, IsLoaded, AreWoken, list_at, queue_at}
 
 pub in_streams : (program : Program) → IsConnected program → (i p : ℕ) → i < length program.instances.items → p < arity program i → stream_at program i p < length program.streams.items
@@ -44,6 +44,17 @@ pub same_kind : (program : Program) → IsConnected program → (all : List Port
 same_kind program connected all writers i p s j q x y ends inside d es ej lj qw w ex ey =
     let w' : IsWriter program s j q = subst (λ z. IsWriter program s z q) (sym ej) (subst (IsWriter program s (producer_of program s)) qw w) in
     kind_of_end program connected j q all y w'.0.0 ey (ends j lj) ∙ ap (stream_kind program) (w'.1 ∙ es) ∙ sym (kind_of_end program connected i p all x d.0 ex (ends i inside))
+
+-- the port is there
+pub port_in : (program : Program) → IsConnected program → (all : List Ports) → ((i : ℕ) → i < length program.instances.items → ends_in all i ≡ ends_at program i) → (i p : ℕ) → i < length program.instances.items → p < arity program i → (x : Ports) → slice_get all i ≡ Some x → p < port_count x
+port_in program connected all ends i p inside l x ex =
+    let it = has_item program.instances.items i inside in
+    let b = connected.built i it.0 it.1 in
+    let l' : p < length it.0.streams.items = subst (λ o. p < arity_in o) it.1 l in
+    let e = ap length (ap ends_by (sym ex) ∙ ends i inside) in
+    let n = port_count_is x in
+    let m = b.as_many in
+    omega arith
 
 pub read_or_write : (program : Program) (i p : ℕ) → Reads program i p → Writes program i p → ⊥
 read_or_write program i p r w = let a = r.1 in let b = w.1 in cc

@@ -36,6 +36,17 @@ drop_again n l =
     (λ (h : length l ≤ n). drop_all n l h ∙ sym (drop_all (length l - length (drop n l)) l (omega arith)))
     (cases_lt n (length l))
 
+-- a list that was lifted out and extended
+pub waits_extended : {A : Type 0} (b : Bool) (T us list W C : List A) (h from : ℕ) → us ≡ (if b then T ++ drop from list else T) → h ≤ length T → drop h T ≡ W → list ≡ C → drop h us ≡ (if b then W ++ drop from C else W)
+waits_extended true T us list W C h from e l w c = ap (drop h) e ∙ drop-append-le h T (drop from list) l ∙ ap (λ x. x ++ drop from list) w ∙ ap (λ x. W ++ drop from x) c
+waits_extended false T us list W C h from e l w c = ap (drop h) e ∙ w
+
+-- a queue with all that its stream got since
+pub offered_whole : {A : Type 0} (t o o' from : ℕ) (W W' L C : List A) → W' ≡ W ++ drop from C → W ≡ drop t (take o L) → from ≡ o → C ≡ L → t ≤ o → o ≤ length L → o' ≡ length L → W' ≡ drop t (take o' L)
+offered_whole t o o' from W W' L C e w f c l m n =
+    e ∙ ap (λ x. x ++ drop from C) w ∙ ap (λ k. drop t (take o L) ++ drop k C) f ∙ ap (λ x. drop t (take o L) ++ drop o x) c
+    ∙ queue_more t o L l m ∙ ap (drop t) (sym (take_all o' L (omega arith)))
+
 -- the same for lists that are equal
 pub queued_lists : (program : Program) → IsConnected program → (all : List Ports) (f g : ℕ → List Token) (o t : List ℕ) → ((s : ℕ) → s < length program.streams.items → f s ≡ g s) → AreQueued program all f o t → AreQueued program all g o t
 queued_lists program connected all f g o t e q = record {

@@ -96,12 +96,29 @@ module _ {B : Type 0} (Stands : B → Job → List Tick → Type 0) (program : P
   loaded_list ports' offered' kept s l = kept.carries (producer_of program s) (slice_index writers s) ∙ list_is s l
 
   pub loaded_net : (ports' : List Ports) (offered' : List ℕ) → AreKept ports offered ports' offered' → HasPorts program ports' writers offered' taken_list → IsNetAt Stands program input bodies ports' writers offered' taken_list fed counts pauses
-  loaded_net ports' offered' kept ready = record n {
+  loaded_net ports' offered' kept ready = record {
+    connected = n.connected;
+    network = n.network;
+    well_formed = n.well_formed;
+    fits = n.fits;
+    reachable = n.reachable;
+    bodies_len = n.bodies_len;
     ports_len = ready.ports_len;
+    counts_len = n.counts_len;
+    pauses_len = n.pauses_len;
+    writers_len = n.writers_len;
     offered_len = ready.offered_len;
+    taken_len = n.taken_len;
+    queued = queued_lists program connected ports' (list_at program ports' writers) (written net (count_of counts)) offered' taken_list (loaded_list ports' offered' kept) ready.queued;
+    fed_len = n.fed_len;
+    fed = n.fed;
+    paused = n.paused;
+    unresumed = n.unresumed;
+    standing = n.standing;
     ends = ready.ends;
     carries = λ j p l d. kept.carries j p ∙ n.carries j p l d;
-    queued = queued_lists program connected ports' (list_at program ports' writers) (written net (count_of counts)) offered' taken_list (loaded_list ports' offered' kept) ready.queued;
+    took = n.took;
+    writer_is = n.writer_is;
   }
 
   module _ (i : ℕ) (inside : i < length program.instances.items) (ports' : List Ports) (offered' : List ℕ) (kept : AreKept ports offered ports' offered') (ready : HasPorts program ports' writers offered' taken_list) (loaded : AreLoaded program (arity program i) i ports writers taken_list ports' offered') (x : Ports) (ex : slice_get ports' i ≡ Some x) where
@@ -288,8 +305,8 @@ module _ {B : Type 0} (Stands : B → Job → List Tick → Type 0) (program : P
               (decide_fuel pause)
             where
               by_fed : (v : Bool) → TellsFedBySelf program i v → (pause ≡ Fuel → ⊥) → (IsFedBySelf program i → ⊥) → HoldsPause net (count_of c') i f pause
-              by_fed true tells u no = absurd (no tells)
-              by_fed false tells u no = own_holds u (λ p d. written_stays (f p) (λ q w e. tells q p w d e)) (λ p d. taken_stays (f p) (λ q r e. tells p q d r (sym e)))
+              by_fed true tells u unfed = absurd (unfed tells)
+              by_fed false tells u unfed = own_holds u (λ p d. written_stays (f p) (λ q w e. tells q p w d e)) (λ p d. taken_stays (f p) (λ q r e. tells p q d r (sym e)))
 
           held_own : HasHeld net (count_of c') i f told
           held_own =

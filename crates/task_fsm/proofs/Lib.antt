@@ -5,6 +5,7 @@ pub mod Runs
 pub mod Body
 pub mod Typed
 pub mod Registers
+pub mod Ranged
 pub mod Lowers
 pub mod Steps
 pub mod Lists

@@ -6,7 +6,7 @@ use Rattle.kahn_model.specs.Prefix.{IsPrefixOf}
 use Rattle.tapa_base.specs.declared.kind.Kind.{Kind}
 use Rattle.tapa_base.specs.declared.kind.Kind.TheVariants.{U32, U64}
 use Rattle.tapa_syntax.specs.declared.program.Leaf.{Leaf}
-use Rattle.tapa_syntax.specs.LeafKinds.{kinds_of}
+use Rattle.tapa_syntax.specs.LeafKinds.{kinds_of, writes_of}
 use Rattle.tapa_syntax.specs.WellFormed.{IsLeaf}
 use Rattle.kahn_model.specs.Behavior.{ticks}
 use Rattle.kahn_model.specs.Trace.{job_of}
@@ -19,6 +19,8 @@ use Rattle.tapa_syntax.specs.TickPlaces.{size_of_list}
 use Rattle.task_fsm.specs.Lowered.{IsLowered, with_temporaries}
 use Rattle.task_fsm.proofs.Grows.{IsFront, no_more}
 use Rattle.task_fsm.proofs.Body.{grows_list, size_leaf, trap_leaf, front_leaf, follows_at, machine_at}
+use Rattle.task_fsm.specs.Ranges.{Ranges, ranges_of, AreInRange}
+use Rattle.task_fsm.proofs.Ranged.{ranged_leaf}
 use Rattle.task_fsm.proofs.Registers.{registers_leaf}
 use Rattle.task_fsm.proofs.Runs.{run_cells}
 use Rattle.task_fsm.proofs.Typed.{typed_list}
@@ -48,6 +50,14 @@ typed_leaf leaf is =
     typed_list (kinds_of leaf) W.regs (length leaf.vars.items) (λ x l. var_kept leaf.vars.items W.regs x g.front l) (z + 2) (length leaf.vars.items) (length leaf.arrays.items) [] leaf.code.items z z (last_code (z + 2) leaf)
     (counter_kept leaf.vars.items W.regs g.front) is.typed is.fits (no_more W.regs) (tt, (tt, tt))
 
+in_ranges : (leaf : Leaf) (fsm : Fsm) → IsLeaf leaf → forms_of fsm.states.items ≡ (leaf_code leaf).places → fsm.regs.items ≡ (leaf_code leaf).regs → AreInRange (ranges_of leaf fsm) (forms_of fsm.states.items)
+in_ranges leaf fsm fits p r =
+    let states : length fsm.states.items ≡ length (leaf_code leaf).places = sym (length-map fsm.states.items form_of) ∙ ap length p in
+    let with : ℕ → ℕ → Ranges = λ regs states. record { registers = regs; arrays = length leaf.arrays.items; memories = length leaf.memories.items; states = states; writes = writes_of leaf.streams.items } in
+    subst (λ P. AreInRange (ranges_of leaf fsm) P) (sym p)
+    (subst (λ n. AreInRange (with n (length fsm.states.items - 1)) (leaf_code leaf).places) (sym (ap length r))
+    (subst (λ n. AreInRange (with (length (leaf_code leaf).regs) (n - 1)) (leaf_code leaf).places) (sym states) (ranged_leaf leaf fits)))
+
 pub lowered : (leaf : Leaf) (fsm : Fsm) (w : Emitted) → IsLeaf leaf → w ≡ leaf_code leaf → forms_of fsm.states.items ≡ w.places → fsm.regs.items ≡ w.regs → fsm.name ≡ leaf.name → fsm.scalars.items ≡ leaf.scalars.items → fsm.arrays.items ≡ leaf.arrays.items → IsLowered leaf fsm
 lowered leaf fsm w fits e ep er em es ea =
     let p : forms_of fsm.states.items ≡ (leaf_code leaf).places = ep ∙ ap (λ (x : Emitted). x.places) e in
@@ -65,6 +75,7 @@ lowered leaf fsm w fits e ep er em es ea =
           (subst (λ F. AreTypedStates (with_registers (kinds_of leaf) F) (leaf_code leaf).places) (sym r) (typed_leaf leaf fits));
       states = sym (length-map fsm.states.items form_of) ∙ ap length p ∙ size_leaf leaf;
       registers = ap length r ∙ registers_leaf leaf;
+      in_range = in_ranges leaf fsm fits p r;
       trap = subst (λ P. slice_get P (trap_of P) ≡ Some TrapAt) (sym p) (trap_leaf leaf);
       regs = subst (λ l. IsPrefixOf leaf.vars.items l) (sym r) (front_leaf leaf);
       name = em;

@@ -18,7 +18,7 @@ use Rattle.tapa_syntax.specs.Typed.{HasKind, MayDivide, IsConstant, by_zero, con
 use Rattle.kahn_model.specs.Trace.{State, at_zero}
 use Rattle.task_fsm.specs.Machine.{Expression, Reg, CellOf, Converted, StateForm, SetAt, CellAt, TestAt, ReadAt, WriteAt, LoadAt, StoreAt}
 use Rattle.task_fsm.specs.Run.{value}
-use Rattle.task_fsm.specs.MachineKinds.{with_registers, IsDivisor, GivesKind, IsOfKind, IsTypedState, AreTypedStates}
+use Rattle.task_fsm.specs.MachineKinds.{with_registers, IsFixed, IsDivisor, GivesKind, IsOfKind, IsTypedState, AreTypedStates}
 use Rattle.task_fsm.specs.Code.{Emitted, emit, emit_held, going_to, residual, operations, discarded, old_with, test_code, stmt_code, block_code, list_code}
 use Rattle.tapa_syntax.specs.TickPlaces.{operation_count, size_of_block}
 use Rattle.task_fsm.proofs.Grows.{IsFront, front_trans, grows_ops, grows_test, grows_stmt, grows_block, regs_ops}
@@ -67,8 +67,24 @@ constant_value (Or' p l q r) t σ h = two (λ v w. 1 - (1 - v) * (1 - w)) _ _ _ 
 constant_value (Choose' p e q a r b) t σ h =
     chosen _ _ _ _ _ _ (constant_value e (t + (operation_count b + operation_count a)) σ h.0) (constant_value a (t + operation_count b) σ h.1) (constant_value b t σ h.2)
 
-never_zero : (e : Expr) (t : ℕ) → IsConstant e × (0 < constant e) → (σ : State) → 0 < value (residual e t) σ
-never_zero e t h σ = subst (λ v. 0 < v) (sym (constant_value e t σ h.0)) h.1
+fixed : (e : Expr) (t : ℕ) → IsConstant e → IsFixed (residual e t)
+fixed (Lit k n) t h = tt
+fixed (Var x) t h = absurd h
+fixed (Cell' a p e) t h = absurd h
+fixed (Read s) t h = absurd h
+fixed (Peek s) t h = absurd h
+fixed (Eot s) t h = absurd h
+fixed (Load' m p e) t h = absurd h
+fixed (Conv' source target p e) t h = fixed e t h
+fixed (Apply' o k p l q r) t h = (fixed l (t + operation_count r) h.0, fixed r t h.1)
+fixed (Flip' k p e) t h = fixed e t h
+fixed (Not' p e) t h = fixed e t h
+fixed (And' p l q r) t h = (fixed l (t + operation_count r) h.0, fixed r t h.1)
+fixed (Or' p l q r) t h = (fixed l (t + operation_count r) h.0, fixed r t h.1)
+fixed (Choose' p e q a r b) t h = (fixed e (t + (operation_count b + operation_count a)) h.0, fixed a (t + operation_count b) h.1, fixed b t h.2)
+
+never_zero : (e : Expr) (t : ℕ) → IsConstant e × (0 < constant e) → IsFixed (residual e t) × ((σ : State) → 0 < value (residual e t) σ)
+never_zero e t h = (fixed e t h.0, λ σ. subst (λ v. 0 < v) (sym (constant_value e t σ h.0)) h.1)
 
 divides : (o : Op) (e : Expr) (t : ℕ) → MayDivide o e → IsDivisor o (residual e t)
 divides op.Add e t h = tt

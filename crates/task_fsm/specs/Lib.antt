@@ -4,5 +4,6 @@ pub mod MachineKinds
 pub mod Follows
 pub mod Code
 pub mod Temporaries
+pub mod Ranges
 pub mod Lowered
 pub mod Draft

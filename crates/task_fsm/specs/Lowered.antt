@@ -9,6 +9,7 @@ use Rattle.tapa_syntax.specs.LeafKinds.{kinds_of}
 use Rattle.task_fsm.specs.declared.machine.Fsm.{Fsm}
 use Rattle.task_fsm.specs.Machine.{TrapAt, forms_of}
 use Rattle.tapa_syntax.specs.TickPlaces.{size_of_list}
+use Rattle.task_fsm.specs.Ranges.{ranges_of, AreInRange}
 use Rattle.task_fsm.specs.Temporaries.{temporaries_of}
 use Rattle.task_fsm.specs.Run.{trap_of, run, cells_after, IsMachineOf}
 use Rattle.task_fsm.specs.Follows.{Follows}
@@ -39,6 +40,8 @@ pub record IsLowered (leaf : Leaf) (fsm : Fsm) : Type 0 where
   -- a state for each tick place, the end and the trap, and a register for each variable and temporary
   pub states : length fsm.states.items ≡ size_of_list leaf.code.items + 2
   pub registers : length fsm.regs.items ≡ length leaf.vars.items + temporaries_of leaf.code.items
+  -- each state names what is there, and leads to no trap
+  pub in_range : AreInRange (ranges_of leaf fsm) (forms_of fsm.states.items)
   pub trap : slice_get (forms_of fsm.states.items) (trap_of (forms_of fsm.states.items)) ≡ Some TrapAt
   pub regs : IsPrefixOf leaf.vars.items fsm.regs.items
   pub name : fsm.name ≡ leaf.name

@@ -1,6 +1,5 @@
-use Rattle.std.proofs.Common.{◌∙◌, sym, subst, refl, true, ap, arith}
+use Rattle.std.proofs.Common.{◌∙◌, Some, sym, subst, refl, ap}
 use Rattle.std.proofs.lemmas.Option.{slice_get_read}
-use Rattle.std.specs.Prelude.{slice_get, Some}
 use Rattle.net_core.specs.Load.{IsIn, AreBelow}
 use Rattle.net_core.proofs.Loaded.{in_more, in_last, below_push, listed_push}
 use Rattle.net_core.proofs.load.enlist.Goals as goal
@@ -19,4 +18,4 @@ returns-in_ok-push-clause-there c = subst (IsIn c.args.j) (sym c.in_ok-push.ensu
 
 pub returns-else-not-index-clause-there : goal.returns-else-not-index-clause-there
 returns-else-not-index-clause-there c =
-    c.requires.listed c.args.j (slice_get_read c.args.listed.now.items _ c.args.j true refl c.requires.inside ?)
+    c.requires.listed c.args.j (slice_get_read c.args.listed.now.items _ c.args.j c.index.result.now refl c.requires.inside c.index.ensures ∙ ap Some c.if-not-index.false)
