@@ -1,12 +1,13 @@
 -- The data of a file fit the shape.
-use Rattle.std.proofs.Common.{◌≡◌, ℕ, zero, suc, ◌^◌, ◌<◌, List, [], ◌∷◌, map, length, get_or, Option, Some, None, option_and_then, unwrap_or, slice_get, All, refl, sym, ap, ◌∙◌, arith}
+use Rattle.std.proofs.Common.{◌≡◌, ℕ, zero, suc, ◌^◌, ◌<◌, List, [], ◌∷◌, map, length, get_or, Option, Some, None, option_and_then, unwrap_or, slice_get, All, refl, sym, ap, subst, ◌∙◌, arith}
 use Rattle.std.proofs.lemmas.Nat.{pow_pos}
 use Rattle.std.proofs.lemmas.Option.{option_and_then_some}
 use Rattle.serde_json.specs.Data.{Data as Json}
 use Rattle.serde_json.specs.Find.{as_number, as_integer}
 use Rattle.tapa_base.specs.declared.shape.Port.{Port}
 use Rattle.tapa_base.specs.declared.shape.Shape.{Shape}
-use Rattle.run_data.specs.Answer.{FitsShape}
+use Rattle.tapa_base.specs.Fits.{Fits}
+use Rattle.run_data.specs.Answer.{bits_of_ports}
 use Rattle.run_data.specs.Data.{bits_of_whole, bits_of, bits_or_zero, items_at, value_in, scalars_of, memories_of, waits_of}
 use Rattle.run_data.specs.declared.data.Data.{Data}
 use Rattle.run_data.specs.declared.group.Group.TheVariants.{Scalars, Memories}
@@ -39,12 +40,27 @@ list_at_place f [] i x e = cc
 list_at_place f (y ∷ xs) zero x e = let is : y ≡ x = cc in ap f is
 list_at_place f (y ∷ xs) (suc i) x e = list_at_place f xs i x e
 
-pub fits : (shape : Shape) (file : Json) (given : Data) → given.scalars.items ≡ scalars_of shape file → map (λ cells. cells.items) given.memories.items ≡ memories_of shape file → map (λ ready. ready.items) given.waits.items ≡ waits_of shape file → FitsShape shape given
-unfolding scalars_of memories_of waits_of
-fits shape file given scalars memories waits = record {
-  as_many_scalars = ap length scalars ∙ length_map _ shape.scalars.items;
-  as_many_memories = sym (length_map (λ cells. cells.items) given.memories.items) ∙ ap length memories ∙ length_map _ shape.memories.items;
-  as_many_waits = sym (length_map (λ ready. ready.items) given.waits.items) ∙ ap length waits ∙ length_map _ shape.memories.items;
-  scalars_fit = λ i port is. rw (scalars, at_place (λ p. unwrap_or (option_and_then (bits_of p.bits) (value_in Scalars file p.name)) 0) shape.scalars.items i port is) (scalar_below port (value_in Scalars file port.name));
-  cells_fit = λ m port is. rw (memories, list_at_place (λ p. map (bits_or_zero p.bits) (items_at (value_in Memories file p.name))) shape.memories.items m port is) (cells_below port.bits (items_at (value_in Memories file port.name)));
+-- a width stands where its port does
+port_at : (ports : List Port) (i bits : ℕ) → slice_get (bits_of_ports ports) i ≡ Some bits → (port : Port) × (slice_get ports i ≡ Some port) × (port.bits ≡ bits)
+port_at [] i bits e = cc
+port_at (port ∷ ports) zero bits e = (port, refl, cc)
+port_at (port ∷ ports) (suc i) bits e = port_at ports i bits e
+
+pub fits : (shape : Shape) (file : Json) (given : Data) → given.scalars.items ≡ scalars_of shape file → map (λ cells. cells.items) given.memories.items ≡ memories_of shape file → Fits (bits_of_ports shape.scalars.items) (bits_of_ports shape.memories.items) given.scalars.items (map (λ cells. cells.items) given.memories.items)
+unfolding scalars_of memories_of
+fits shape file given scalars memories = record {
+  as_many_scalars = ap length scalars ∙ length_map _ shape.scalars.items ∙ sym (length_map (λ (port : Port). port.bits) shape.scalars.items);
+  as_many_memories = ap length memories ∙ length_map _ shape.memories.items ∙ sym (length_map (λ (port : Port). port.bits) shape.memories.items);
+  scalars_fit = λ i bits is.
+      let (port, at, same) = port_at shape.scalars.items i bits is in
+      subst (λ n. get_or given.scalars.items i 0 < 2 ^ n) same
+      (rw (scalars, at_place (λ p. unwrap_or (option_and_then (bits_of p.bits) (value_in Scalars file p.name)) 0) shape.scalars.items i port at) (scalar_below port (value_in Scalars file port.name)));
+  cells_fit = λ m bits is.
+      let (port, at, same) = port_at shape.memories.items m bits is in
+      subst (λ n. All (λ cell. cell < 2 ^ n) (get_or (map (λ cells. cells.items) given.memories.items) m [])) same
+      (rw (memories, list_at_place (λ p. map (bits_or_zero p.bits) (items_at (value_in Memories file p.name))) shape.memories.items m port at) (cells_below port.bits (items_at (value_in Memories file port.name))));
 }
+
+pub as_many_waits : (shape : Shape) (file : Json) (given : Data) → map (λ ready. ready.items) given.waits.items ≡ waits_of shape file → length given.waits.items ≡ length shape.memories.items
+unfolding waits_of
+as_many_waits shape file given waits = sym (length_map (λ ready. ready.items) given.waits.items) ∙ ap length waits ∙ length_map _ shape.memories.items

@@ -1,5 +1,5 @@
 -- What the answers of `read_data` say.
-use Rattle.std.specs.Prelude.{◌≡◌, ℕ, ◌^◌, ◌<◌, List, [], map, length, Some, slice_get, slice_index, slice_index_or, All, ⊤}
+use Rattle.std.specs.Prelude.{◌≡◌, ℕ, List, [], map, Some, ⊤}
 use Rattle.serde_json.specs.Data.{Data as Json}
 use Rattle.tapa_base.specs.declared.shape.Port.{Port}
 use Rattle.tapa_base.specs.declared.shape.Shape.{Shape}
@@ -32,10 +32,6 @@ IsCause text shape (J3 key) = IsFirstFault text shape (Misfit key.items)
 IsCause text shape (J4 key) = IsFirstFault text shape (Oversized key.items)
 IsCause text shape OutOfMemory = ⊤
 
--- one value for each scalar, and cells and ready bits for each memory, all of their bits
-pub record FitsShape (shape : Shape) (given : Data) : Type 0 where
-  pub as_many_scalars : length given.scalars.items ≡ length shape.scalars.items
-  pub as_many_memories : length given.memories.items ≡ length shape.memories.items
-  pub as_many_waits : length given.waits.items ≡ length shape.memories.items
-  pub scalars_fit : (i : ℕ) (port : Port) → slice_get shape.scalars.items i ≡ Some port → slice_index given.scalars.items i < 2 ^ port.bits
-  pub cells_fit : (m : ℕ) (port : Port) → slice_get shape.memories.items m ≡ Some port → All (λ cell. cell < 2 ^ port.bits) (slice_index_or (map (λ cells. cells.items) given.memories.items) m [])
+-- how many bits each input has
+abbrev pub bits_of_ports : List Port → List ℕ
+bits_of_ports ports = map (λ (port : Port). port.bits) ports

@@ -1,8 +1,9 @@
-ghost use Rattle.std.specs.Prelude.{◌≤◌, All, IfOk, IfErr};
+ghost use Rattle.std.specs.Prelude.{◌≡◌, ◌≤◌, All, map, length, IfOk, IfErr};
 ghost use Rattle.serde_json.specs.View.{view};
 ghost use Rattle.tapa_base.specs.declared.shape.Shape.{Shape};
+ghost use Rattle.tapa_base.specs.Fits.{Fits};
 ghost use Rattle.run_data.specs.Data.{IsJson};
-ghost use Rattle.run_data.specs.Answer.{IsDataOf, IsCause, FitsShape};
+ghost use Rattle.run_data.specs.Answer.{IsDataOf, IsCause, bits_of_ports};
 
 use crate::misfit::find_misfit;
 use crate::misshapen::find_misshapen;
@@ -53,7 +54,8 @@ pub fn read_data(alloc: Global, text: &[u8], shape: &Shape) -> Result<Data, Data
     requires scalars { All (λ port. port.bits ≤ 64) shape.now.scalars.items }
     requires memories { All (λ port. port.bits ≤ 64) shape.now.memories.items }
     ensures value { IfOk result (λ given. IsDataOf text.now shape.now given) }
-    ensures fits { IfOk result (λ given. FitsShape shape.now given) }
+    ensures fits { IfOk result (λ given. Fits (bits_of_ports shape.now.scalars.items) (bits_of_ports shape.now.memories.items) given.scalars.items (map (λ cells. cells.items) given.memories.items)) }
+    ensures waits { IfOk result (λ given. length given.waits.items ≡ length shape.now.memories.items) }
     ensures cause { IfErr result (λ fault. IsCause text.now shape.now fault) }
 {
     let file = read_json(alloc, text)?;

@@ -15,16 +15,24 @@ pub(crate) fn group_in<'v>(group: Group, file: &'v Value) -> Option<&'v Value>
     file.get(group.key())
 }
 
+// A name as text.
+pub(crate) fn text_of(name: &[u8]) -> &str
+    requires { IsAscii name.now }
+    ensures { result.now ≡ name.now }
+{
+    match std::str::from_utf8(name) {
+        Ok(text) => text,
+        Err(_) => "",
+    }
+}
+
 // What a group has at a name.
 pub(crate) fn member<'v>(found: Option<&'v Value>, name: &[u8]) -> Option<&'v Value>
     requires { IsAscii name.now }
     ensures { seen result ≡ get_member name.now (members_at (seen found.entry)) }
 {
-    let Ok(name) = std::str::from_utf8(name) else {
-        return None;
-    };
     match found {
-        Some(value) => value.get(name),
+        Some(value) => value.get(text_of(name)),
         None => None,
     }
 }

@@ -1,15 +1,16 @@
-ghost use Rattle.std.specs.Prelude.{◌≡◌, filter, not, option_map, IfOk};
+ghost use Rattle.std.specs.Prelude.{◌≡◌, ℕ, List, filter, not, option_map, IfOk};
 ghost use Rattle.std.specs.List.{list_all, list_any};
 ghost use Rattle.std.specs.Option.{option_copied};
 ghost use Rattle.serde_json.specs.Find.{get_member};
 ghost use Rattle.serde_json.specs.View.{view, members_view};
 ghost use Rattle.run_data.specs.Data.{is_object, is_number, is_absent_or, is_list_of_numbers, is_shaped, is_among, is_name_of, members_at, keys_of, group_keys, misshapen_in, misshapen};
-ghost use Rattle.run_data.specs.Seen.{seen, first};
+ghost use Rattle.run_data.specs.Seen.{seen, first, has_name};
 
-use crate::find::{group_in, member};
+use crate::find::{group_in, member, text_of};
 use crate::group::Group;
 use serde_json::{Map, Value};
 use std::alloc::{AllocError, Global};
+use std::collections::HashMap;
 use tapa_base::{Port, Shape};
 
 fn are_numbers(values: &[Value]) -> bool
@@ -56,40 +57,44 @@ fn find_misshapen_port<'s>(
     None
 }
 
-fn is_name_among(ports: &[Port], name: &[u8]) -> bool
-    ensures { result ≡ list_any (is_name_of name.now) ports.now }
+// The names of inputs, among which a key is found without a walk over all of them.
+fn names_of(alloc: Global, ports: &[Port]) -> Result<HashMap<String, ()>, AllocError>
+    ensures { IfOk result (λ names. (name : List ℕ) → has_name names name ≡ list_any (is_name_of name) ports.now) }
 {
+    let mut names = HashMap::new(alloc);
     for port in ports {
-        if name == port.name.bytes() {
-            return true;
-        }
+        let name = String::from_str(alloc, text_of(port.name.bytes()))?;
+        names.insert(name, ())?;
     }
-    false
+    Ok(names)
 }
 
-// The first key of an object that is no input's.
-fn find_unknown_key<'v>(ports: &[Port], members: &'v Map<String, Value>) -> Option<&'v [u8]>
+// The first key of an object that is none of these names.
+fn find_unknown_key<'v>(
+    names: &HashMap<String, ()>,
+    members: &'v Map<String, Value>,
+) -> Option<&'v [u8]>
     ensures { option_map (λ key. key.now) result
-        ≡ first (filter (λ name. not (list_any (is_name_of name) ports.now)) (keys_of (members_view members.now.entries))) }
+        ≡ first (filter (λ name. not (has_name names.now name)) (keys_of (members_view members.now.entries))) }
 {
     for key in members.keys() {
-        if !is_name_among(ports, key.as_bytes()) {
+        if !names.contains_key(key.as_str()) {
             return Some(key.as_bytes());
         }
     }
     None
 }
 
-// The first key of a group that is no input's.
-fn find_unknown<'v>(ports: &[Port], found: Option<&'v Value>) -> Option<&'v [u8]>
+// The first key of a group that is none of these names.
+fn find_unknown<'v>(names: &HashMap<String, ()>, found: Option<&'v Value>) -> Option<&'v [u8]>
     ensures { option_map (λ key. key.now) result
-        ≡ first (filter (λ name. not (list_any (is_name_of name) ports.now)) (keys_of (members_at (seen found.entry)))) }
+        ≡ first (filter (λ name. not (has_name names.now name)) (keys_of (members_at (seen found.entry)))) }
 {
     let Some(value) = found else {
         return None;
     };
     match value.as_object() {
-        Some(members) => find_unknown_key(ports, members),
+        Some(members) => find_unknown_key(names, members),
         None => None,
     }
 }
@@ -121,7 +126,8 @@ fn find_misshapen_in(
     if let Some(port) = find_misshapen_port(group, ports, found) {
         return Ok(Some(group.key_of(alloc, port.name.bytes())?));
     }
-    match find_unknown(ports, found) {
+    let names = names_of(alloc, ports)?;
+    match find_unknown(&names, found) {
         Some(name) => Ok(Some(group.key_of(alloc, name)?)),
         None => Ok(None),
     }

@@ -1,7 +1,7 @@
 use Rattle.std.proofs.lemmas.Result.{err_from_is_err_and}
 use Rattle.serde_json.specs.View.{view}
 use Rattle.run_data.proofs.Faults.{tells_misshapen, tells_misfit, tells_oversized, without_faults}
-use Rattle.run_data.proofs.Fits.{fits}
+use Rattle.run_data.proofs.Fits.{fits, as_many_waits}
 use Rattle.run_data.proofs.data.read_data.Goals as goal
 
 pub returns-in_err-file-clause-cause : goal.returns-in_err-file-clause-cause
@@ -42,4 +42,7 @@ returns-clause-value c =
     }
 
 pub returns-clause-fits : goal.returns-clause-fits
-returns-clause-fits c = fits c.args.shape.now (view c.in_ok-file.file) c.in_ok-data.data c.in_ok-data.ensures.scalars c.in_ok-data.ensures.memories c.in_ok-data.ensures.waits
+returns-clause-fits c = fits c.args.shape.now (view c.in_ok-file.file) c.in_ok-data.data c.in_ok-data.ensures.scalars c.in_ok-data.ensures.memories
+
+pub returns-clause-waits : goal.returns-clause-waits
+returns-clause-waits c = as_many_waits c.args.shape.now (view c.in_ok-file.file) c.in_ok-data.data c.in_ok-data.ensures.waits

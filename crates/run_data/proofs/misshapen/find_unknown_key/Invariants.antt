@@ -1,13 +1,11 @@
 use Rattle.std.proofs.Common.{◌≡◌, filter, not, map, string_bytes}
-use Rattle.std.specs.List.{list_any}
 use Rattle.std.specs.Map.{keys_of as entry_keys}
-use Rattle.run_data.specs.Data.{is_name_of}
-use Rattle.run_data.specs.Seen.{first}
+use Rattle.run_data.specs.Seen.{first, has_name}
 use Rattle.run_data.proofs.misshapen.find_unknown_key.Given as goal
 
 abbrev pub invariant-loop-key : goal.invariant-loop-key
 invariant-loop-key l =
     (goal.iterator-loop-key).can_next l.key-iterator ×
     (goal.iterator-loop-key).is_finite l.key-iterator ×
-    (first (filter (λ name. not (list_any (is_name_of name) l.ports)) (map string_bytes (entry_keys l.members.entries)))
-    ≡ first (filter (λ name. not (list_any (is_name_of name) l.ports)) (map string_bytes l.key-iterator)))
+    (first (filter (λ name. not (has_name l.names name)) (map string_bytes (entry_keys l.members.entries)))
+    ≡ first (filter (λ name. not (has_name l.names name)) (map string_bytes l.key-iterator)))
