@@ -55,9 +55,9 @@ def memories():
     return source, '{"memories":{' + ",".join(f'"{it}":[{cells}]' for it in names) + "}}"
 
 
-def uses():
+def uses(constants=7_900):
     """Constants, and constants whose values name them again and again."""
-    head = "const int a=1;" + "".join(f"const int {name(number)}=1;" for number in range(7_900))
+    head = "const int a=1;" + "".join(f"const int {name(number)}=1;" for number in range(constants))
     return filled(head, lambda number: f"const int z{number}=a" + "+a" * 999 + ";", TOP)
 
 
