@@ -134,6 +134,8 @@ def try_little_memory(trial):
         is_whole = is_told(said, 0, "", report)
         has_begun = has_begun or is_short or is_whole
         short += is_short
+        if is_short:
+            trial.keep(said)
         if has_begun:
             trial.check(f"with {megabytes} MB", is_short or is_whole, f"   {said}")
     trial.check("one of the limits is too little", short)

@@ -76,7 +76,8 @@ class Trial:
         return path
 
     def run(self, words, folder=None, stdout=subprocess.PIPE, stderr=subprocess.PIPE, before=None):
-        """Runs the program with these words, in the trial's own folder if no other is given."""
+        """Runs the program with these words, in the trial's own folder if no other is given; `before` is called in its process, which may then
+        not come to begin, so that what it writes does not count as told."""
         try:
             ran = subprocess.run(
                 [self.program, *words],
@@ -91,8 +92,13 @@ class Trial:
         except subprocess.TimeoutExpired:
             return Said("none: it had not ended", b"", b"")
         said = Said(ran.returncode, ran.stdout or b"", ran.stderr or b"")
-        self.lines.update(said.err.decode("utf-8", "replace").splitlines())
+        if before is None:
+            self.keep(said)
         return said
+
+    def keep(self, said):
+        """Keeps the lines of standard error, each of which is to stand in docs/COMMAND.md."""
+        self.lines.update(said.err.decode("utf-8", "replace").splitlines())
 
     def told(self, source, top="T", steps="100000"):
         """What is told of a source: `CODE LINE:COL`, with the limit for C11, or `accepted`."""
