@@ -33,8 +33,7 @@ module _ (text : List ℕ) (at : ℕ) (before : Has (take at text) 10 → ⊥) w
   ended_line byte h e lf =
       let len : length (take (at + 1) text) ≡ at + 1 = length-take-le (at + 1) text (omega arith) in
       let last : length (take (at + 1) text) - 1 ≡ at = omega (arith, len) in
-      let next : at + 1 ≡ suc at = omega arith in
-      (
+      let next : at + 1 ≡ suc at = omega arith in (
         λ f. before (front_taken at text 10 (subst (λ k. Has (take at (take k text)) 10) next (subst (λ k. Has (take k (take (at + 1) text)) 10) last f))),
         (take at text, subst (λ z. take (at + 1) text ≡ take at text ++ z ∷ []) lf (taken byte h e)),
       )
