@@ -78,12 +78,13 @@ fn place_of_top(alloc: Global, library: &Library) -> Result<usize, VFault>
     ensures refused { IfErr result (λ e. Refuses library.now e) }
     ensures design { IfOk result (λ top. IsDesign library.now top) }
 {
-    let counts = contained_counts(alloc, library.modules())?;
-    let root = first_root(&counts, library.modules());
+    let modules = library.modules();
+    let counts = contained_counts(alloc, modules)?;
+    let root = first_root(&counts, modules);
     check_loops(alloc, library, root)?;
-    let roots_count = count_roots(&counts, library.modules());
+    let roots_count = count_roots(&counts, modules);
     check_outside(alloc, library, root, roots_count)?;
-    Ok(root_place(&counts, library.modules()))
+    Ok(root_place(&counts, modules))
 }
 
 impl Design {

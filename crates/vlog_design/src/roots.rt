@@ -10,8 +10,8 @@ ghost use Rattle.vlog_tree.specs.V6.{item_children, module_children, contained_n
 
 use std::alloc::{AllocError, Global};
 use tapa_base::Text;
-use vlog_tree::{Item, Module};
 use vlog_rules::{NameCounts, count_of, count_one};
+use vlog_tree::{Item, Module};
 
 #[tactic(auto, using(vlog_rules::proofs::Counts::one_name_more, vlog_rules::proofs::Counts::no_name_more))]
 fn count_child(alloc: Global, counts: &mut NameCounts, item: &Item) -> Result<(), AllocError>

@@ -11,8 +11,11 @@ ghost use Rattle.vlog_tree.specs.V6.{has_port as has_port_lem, has_all_five as h
 
 use std::alloc::{AllocError, Global};
 use tapa_base::Text;
-use vlog_rules::{Scope, is_clock, is_read, named_if, NameBits, bits_of_name, set_bits};
-use vlog_tree::{PortDecl, ack_name, ack_of, addr_name, addr_of, rdata_name, rdata_of, scalar_of, wdata_name, wdata_of, we_name, we_of};
+use vlog_rules::{NameBits, Scope, bits_of_name, is_clock, is_read, named_if, set_bits};
+use vlog_tree::{
+    PortDecl, ack_name, ack_of, addr_name, addr_of, rdata_name, rdata_of, scalar_of, wdata_name,
+    wdata_of, we_name, we_of,
+};
 
 #[tactic(auto, unfolding(vlog_tree::specs::Labels::rst))]
 fn is_reset(name: &Text) -> bool
