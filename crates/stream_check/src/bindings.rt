@@ -7,9 +7,8 @@ ghost use Rattle.check_upper.specs.Views.{task_view};
 ghost use Rattle.stream_check.specs.Programs as program;
 ghost use Rattle.stream_check.specs.Users.{users_of, with_user, with_users};
 ghost use Rattle.stream_check.specs.declared.users.Users.{Users as Among};
-ghost use Rattle.stream_check.specs.declared.users.Users.TheVariants.{Nobody};
 
-use crate::users::{Users, add_user};
+use crate::users::{UserTable, Users};
 use check_scope::{CheckCode, CheckFault, copied, number_of};
 use check_upper::{Body, Channel, Task};
 use std::alloc::Global;
@@ -28,56 +27,42 @@ fn ends_at<'t>(tasks: &'t [Task], number: u32) -> &'t [End]
     }
 }
 
-/// So many streams or memories, to which nothing is bound yet.
-fn nobody(alloc: Global, count: usize) -> Result<Vec<Users>, CheckFault>
-    ensures count { Answers (λ users. length users.items) result [] count }
-    ensures each { IfOk result (λ users. (s : ℕ) (d : Among) → s < count → get_or users.items s d ≡ Nobody) }
-{
-    Ok(vec![in alloc; Users::Nobody; count]?)
-}
-
-/// Adds an instance to the stream of one of its parameters, at the side that the parameter names.
-fn add_port(
-    instance: u32,
-    stream: u32,
-    end: End,
-    writers: &mut [Users],
-    readers: &mut [Users],
-)
-    ensures written { (s : ℕ) (d : Among) → s < length writers.old → get_or writers.new s d ≡ (if end.writes then (if stream == s then with_user (get_or writers.old s d) instance else get_or writers.old s d) else get_or writers.old s d) }
-    ensures read { (s : ℕ) (d : Among) → s < length readers.old → get_or readers.new s d ≡ (if end.writes then get_or readers.old s d else (if stream == s then with_user (get_or readers.old s d) instance else get_or readers.old s d)) }
-{
-    if end.writes {
-        add_user(writers, stream, instance);
-    } else {
-        add_user(readers, stream, instance);
-    }
-}
-
-/// Adds an instance once for each of its parameters that is bound to a stream.
-fn add_ports(
-    instance: u32,
-    streams: &[u32],
-    ends: &[End],
-    writers: &mut [Users],
-    readers: &mut [Users],
-)
-    ensures written { (s : ℕ) (d : Among) → s < length writers.old → get_or writers.new s d ≡ with_users (get_or writers.old s d) (program.bound_ends instance s true streams.now ends.now) }
-    ensures read { (s : ℕ) (d : Among) → s < length readers.old → get_or readers.new s d ≡ with_users (get_or readers.old s d) (program.bound_ends instance s false streams.now ends.now) }
-{
-    for (position, stream) in streams.iter().enumerate() {
-        if position >= ends.len() {
-            return;
-        }
-        add_port(instance, *stream, ends[position], writers, readers);
-    }
-}
-
-/// Which instances write each stream of a program, and which read it.
+/// The instances that write each stream of a program, and those that read it.
 #[derive(Drop)]
 struct StreamUsers {
-    writers: Vec<Users>,
-    readers: Vec<Users>,
+    writers: UserTable,
+    readers: UserTable,
+}
+
+impl StreamUsers {
+    /// Adds an instance to the stream of one of its parameters, at the side that the parameter names.
+    fn add_port(&mut self, instance: u32, stream: u32, end: End)
+        ensures writers { length self.new.writers.rows.items ≡ length self.old.writers.rows.items }
+        ensures readers { length self.new.readers.rows.items ≡ length self.old.readers.rows.items }
+        ensures written { (s : ℕ) (d : Among) → s < length self.old.writers.rows.items → get_or self.new.writers.rows.items s d ≡ (if end.writes then (if stream == s then with_user (get_or self.old.writers.rows.items s d) instance else get_or self.old.writers.rows.items s d) else get_or self.old.writers.rows.items s d) }
+        ensures read { (s : ℕ) (d : Among) → s < length self.old.readers.rows.items → get_or self.new.readers.rows.items s d ≡ (if end.writes then get_or self.old.readers.rows.items s d else (if stream == s then with_user (get_or self.old.readers.rows.items s d) instance else get_or self.old.readers.rows.items s d)) }
+    {
+        if end.writes {
+            self.writers.add(stream, instance);
+        } else {
+            self.readers.add(stream, instance);
+        }
+    }
+
+    /// Adds an instance once for each of its parameters that is bound to a stream.
+    fn add_ports(&mut self, instance: u32, streams: &[u32], ends: &[End])
+        ensures writers { length self.new.writers.rows.items ≡ length self.old.writers.rows.items }
+        ensures readers { length self.new.readers.rows.items ≡ length self.old.readers.rows.items }
+        ensures written { (s : ℕ) (d : Among) → s < length self.old.writers.rows.items → get_or self.new.writers.rows.items s d ≡ with_users (get_or self.old.writers.rows.items s d) (program.bound_ends instance s true streams.now ends.now) }
+        ensures read { (s : ℕ) (d : Among) → s < length self.old.readers.rows.items → get_or self.new.readers.rows.items s d ≡ with_users (get_or self.old.readers.rows.items s d) (program.bound_ends instance s false streams.now ends.now) }
+    {
+        for (position, stream) in streams.iter().enumerate() {
+            if position >= ends.len() {
+                return;
+            }
+            self.add_port(instance, *stream, ends[position]);
+        }
+    }
 }
 
 /// The instances that write and read each of so many streams.
@@ -87,24 +72,21 @@ fn stream_users(
     instances: &[Instance],
     count: usize,
 ) -> Result<StreamUsers, CheckFault>
-    ensures written { Answers (λ users. length users.writers.items) result [] count }
-    ensures read { Answers (λ users. length users.readers.items) result [] count }
+    ensures written { Answers (λ users. length users.writers.rows.items) result [] count }
+    ensures read { Answers (λ users. length users.readers.rows.items) result [] count }
     ensures users { IfOk result (λ users. (s : ℕ) (d : Among) → s < count
-        → (get_or users.writers.items s d ≡ users_of (program.instances_at (map task_view tasks.now) s true 0 (map flat_instance instances.now)))
-        × (get_or users.readers.items s d ≡ users_of (program.instances_at (map task_view tasks.now) s false 0 (map flat_instance instances.now)))) }
+        → (get_or users.writers.rows.items s d ≡ users_of (program.instances_at (map task_view tasks.now) s true 0 (map flat_instance instances.now)))
+        × (get_or users.readers.rows.items s d ≡ users_of (program.instances_at (map task_view tasks.now) s false 0 (map flat_instance instances.now)))) }
 {
-    let mut writers = nobody(alloc, count)?;
-    let mut readers = nobody(alloc, count)?;
+    let mut users = StreamUsers {
+        writers: UserTable::new(alloc, count)?,
+        readers: UserTable::new(alloc, count)?,
+    };
     for (number, instance) in instances.iter().enumerate() {
-        add_ports(
-            number_of(number)?,
-            &instance.streams,
-            ends_at(tasks, instance.body),
-            &mut writers,
-            &mut readers,
-        );
+        let ends = ends_at(tasks, instance.body);
+        users.add_ports(number_of(number)?, &instance.streams, ends);
     }
-    Ok(StreamUsers { writers, readers })
+    Ok(users)
 }
 
 /// A stream with its one producer and its one consumer.
@@ -142,19 +124,20 @@ pub(crate) fn streams(
     let users = stream_users(alloc, tasks, instances, channels.len())?;
     let mut made = Vec::new(alloc);
     for (number, channel) in channels.iter().enumerate() {
-        let writers = users.writers[number];
-        let readers = users.readers[number];
+        let writers = users.writers.at(number);
+        let readers = users.readers.at(number);
         made.push(stream(alloc, writers, readers, channel)?)?;
     }
     Ok(made)
 }
 
 /// Adds an instance once for each of its parameters that is bound to a memory.
-fn add_memories(instance: u32, memories: &[u32], owners: &mut [Users])
-    ensures { (m : ℕ) (d : Among) → m < length owners.old → get_or owners.new m d ≡ with_users (get_or owners.old m d) (program.bound_memories instance m memories.now) }
+fn add_memories(instance: u32, memories: &[u32], owners: &mut UserTable)
+    ensures count { length owners.new.rows.items ≡ length owners.old.rows.items }
+    ensures owned { (m : ℕ) (d : Among) → m < length owners.old.rows.items → get_or owners.new.rows.items m d ≡ with_users (get_or owners.old.rows.items m d) (program.bound_memories instance m memories.now) }
 {
     for memory in memories {
-        add_user(owners, *memory, instance);
+        owners.add(*memory, instance);
     }
 }
 
@@ -163,11 +146,11 @@ fn memory_owners(
     alloc: Global,
     instances: &[Instance],
     count: usize,
-) -> Result<Vec<Users>, CheckFault>
-    ensures count { Answers (λ owners. length owners.items) result [] count }
-    ensures owned { IfOk result (λ owners. (m : ℕ) (d : Among) → m < count → get_or owners.items m d ≡ users_of (program.instances_with m 0 (map flat_instance instances.now))) }
+) -> Result<UserTable, CheckFault>
+    ensures count { Answers (λ owners. length owners.rows.items) result [] count }
+    ensures owned { IfOk result (λ owners. (m : ℕ) (d : Among) → m < count → get_or owners.rows.items m d ≡ users_of (program.instances_with m 0 (map flat_instance instances.now))) }
 {
-    let mut owners = nobody(alloc, count)?;
+    let mut owners = UserTable::new(alloc, count)?;
     for (number, instance) in instances.iter().enumerate() {
         add_memories(number_of(number)?, &instance.memories, &mut owners);
     }
@@ -214,7 +197,7 @@ pub(crate) fn memories(
     let owners = memory_owners(alloc, instances, parameters.len())?;
     let mut made: Vec<Memory> = Vec::new(alloc);
     for parameter in parameters {
-        let next = owners[made.len()];
+        let next = owners.at(made.len());
         memory(alloc, next, parameter, &mut made)?;
     }
     Ok(made)

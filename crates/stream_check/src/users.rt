@@ -1,11 +1,13 @@
 //! Which instance something is bound to, where it may be one alone.
-ghost use Rattle.std.specs.Prelude.{◌≡◌, ◌<◌, ℕ, List, length, get_or, if◌then◌else◌, ◌==◌};
+ghost use Rattle.std.specs.Prelude.{◌≡◌, ◌<◌, ℕ, List, [], IfOk, length, get_or, if◌then◌else◌, ◌==◌};
 ghost use Rattle.check_scope.specs.Answers.{Answers};
 ghost use Rattle.stream_check.specs.Programs as program;
 ghost use Rattle.stream_check.specs.Users.{users_of, with_user};
 ghost use Rattle.stream_check.specs.declared.users.Users.{Users as Among};
+ghost use Rattle.stream_check.specs.declared.users.Users.TheVariants.{Nobody};
 
 use check_scope::{CheckCode, CheckFault, refused};
+use std::alloc::Global;
 use tapa_base::Place;
 
 /// The instances that something is bound to, as far as the rules ask.
@@ -40,13 +42,41 @@ impl Users {
     }
 }
 
-/// Adds an instance at a number, where there is one of it.
-pub(crate) fn add_user(users: &mut [Users], number: u32, instance: u32)
-    ensures count { length users.new ≡ length users.old }
-    ensures each { (s : ℕ) (d : Among) → s < length users.old → get_or users.new s d ≡ (if number == s then with_user (get_or users.old s d) instance else get_or users.old s d) }
-{
-    let at = number as usize;
-    if at < users.len() {
-        users[at] = users[at].with(instance);
+/// The instances that each of a row of streams or memories is bound to.
+#[derive(Drop)]
+pub(crate) struct UserTable {
+    rows: Vec<Users>,
+}
+
+impl UserTable {
+    /// So many streams or memories, to which nothing is bound yet.
+    pub(crate) fn new(alloc: Global, count: usize) -> Result<Self, CheckFault>
+        ensures count { Answers (λ table. length table.rows.items) result [] count }
+        ensures each { IfOk result (λ table. (s : ℕ) (d : Among) → s < count → get_or table.rows.items s d ≡ Nobody) }
+    {
+        Ok(UserTable {
+            rows: vec![in alloc; Users::Nobody; count]?,
+        })
+    }
+
+    /// Adds an instance at a number, where there is a row of it.
+    pub(crate) fn add(&mut self, number: u32, instance: u32)
+        ensures count { length self.new.rows.items ≡ length self.old.rows.items }
+        ensures each { (s : ℕ) (d : Among) → s < length self.old.rows.items → get_or self.new.rows.items s d ≡ (if number == s then with_user (get_or self.old.rows.items s d) instance else get_or self.old.rows.items s d) }
+    {
+        let at = number as usize;
+        if at < self.rows.len() {
+            self.rows[at] = self.rows[at].with(instance);
+        }
+    }
+
+    /// The instances at a number.
+    pub(crate) fn at(&self, number: usize) -> Users
+        ensures { (d : Among) → number < length self.now.rows.items → result ≡ get_or self.now.rows.items number d }
+    {
+        match self.rows.get(number) {
+            Some(users) => *users,
+            None => Users::Nobody,
+        }
     }
 }

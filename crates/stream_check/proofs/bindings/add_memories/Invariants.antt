@@ -6,6 +6,6 @@ use Rattle.stream_check.proofs.bindings.add_memories.Given as goal
 
 abbrev pub invariant-loop-memory : goal.invariant-loop-memory
 invariant-loop-memory l = record {
-  count : length l.owners ≡ length l.initial.owners;
-  owned : (m : ℕ) (d : Users) → m < length l.initial.owners → with_users (get_or l.owners m d) (bound_memories l.instance m (drop l.memory-index l.memories)) ≡ with_users (get_or l.initial.owners m d) (bound_memories l.instance m l.memories);
+  count : length l.owners.rows.items ≡ length l.initial.owners.rows.items;
+  owned : (m : ℕ) (d : Users) → m < length l.initial.owners.rows.items → with_users (get_or l.owners.rows.items m d) (bound_memories l.instance m (drop l.memory-index l.memories)) ≡ with_users (get_or l.initial.owners.rows.items m d) (bound_memories l.instance m l.memories);
 }

@@ -7,6 +7,6 @@ use Rattle.stream_check.proofs.bindings.memory_owners.Given as goal
 
 abbrev pub invariant-loop-number : goal.invariant-loop-number
 invariant-loop-number l = record {
-  count : length l.owners.items ≡ l.count;
-  owned : (m : ℕ) (d : Users) → m < l.count → with_users (get_or l.owners.items m d) (instances_with m l.number (map flat_instance (drop l.number l.instances))) ≡ users_of (instances_with m 0 (map flat_instance l.instances));
+  count : length l.owners.rows.items ≡ l.count;
+  owned : (m : ℕ) (d : Users) → m < l.count → with_users (get_or l.owners.rows.items m d) (instances_with m l.number (map flat_instance (drop l.number l.instances))) ≡ users_of (instances_with m 0 (map flat_instance l.instances));
 }
