@@ -1,3 +1,4 @@
+// tapa run examples/fork_join.cpp ForkJoin
 // A fork and a join: one task deals numbers to two workers, and one adds up what both give, pair by pair. The join reads
 // first the left, then the right stream, so the result is the same however fast each worker is.
 #include <tapa.h>
@@ -10,11 +11,7 @@ void Fork(tapa::ostream<uint64_t>& left, tapa::ostream<uint64_t>& right) {
 }
 
 void Twice(tapa::istream<uint64_t>& in, tapa::ostream<uint64_t>& out) {
-  for (uint64_t i = 0; i < 6; ++i) {
-    uint64_t x = in.read();
-    uint64_t y = x;
-    out << x + y;
-  }
+  for (uint64_t i = 0; i < 6; ++i) { out << 2 * in.read(); }
 }
 
 void Join(tapa::istream<uint64_t>& left, tapa::istream<uint64_t>& right, tapa::ostream<uint64_t>& sums) {

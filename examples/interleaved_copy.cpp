@@ -1,3 +1,4 @@
+// tapa run examples/interleaved_copy.cpp Copy examples/interleaved_copy.json
 // A copy that deals the cells of one memory to two lanes in turn and gathers them again, as designs do that spread a load
 // over several memory channels. Look at the streams `even` and `odd`: each carries every second cell, and the gatherer
 // takes them in the order in which they were dealt, so the copy is exact whatever the lanes' speeds are.

@@ -1,3 +1,4 @@
+// tapa run examples/merge_tree.cpp MergeTree examples/merge_tree.json
 // A merge tree: four sorted lists become one. Look at `Merge`, which peeks at both inputs and takes the smaller one, and
 // which knows that a list is over by the end of its transaction (`eot`); and at `Half`, a task of two levels that is
 // invoked twice, so that its streams and tasks appear twice in the report, each under its own label.

@@ -1,3 +1,4 @@
+// tapa run examples/pipeline.cpp Pipeline
 // A pipeline of three tasks: one makes numbers, one adds, one takes them. Each stage runs as soon as a token is there,
 // so all three work at once; the streams between them hold two tokens each, and what they carry doesn't depend on who
 // runs when.
@@ -12,7 +13,7 @@ void AddOne(tapa::istream<uint64_t>& numbers, tapa::ostream<uint64_t>& sums) {
 }
 
 void Sink(tapa::istream<uint64_t>& sums) {
-  for (uint64_t i = 0; i < 8; ++i) { uint64_t last = sums.read(); }
+  for (uint64_t i = 0; i < 8; ++i) { sums.read(); }
 }
 
 void Pipeline() {

@@ -1,3 +1,4 @@
+// tapa run examples/run_length.cpp RunLength examples/run_length.json
 // A run-length coder and decoder. Each run of equal cells is one transaction on `runs`: the value, how often it stands,
 // and the end of the transaction; a transaction without tokens ends the text. Look at TAPA_WHILE_NOT_EOT and `open` in the
 // decoder, and at the tokens `eot` in the report's line of the stream.

@@ -1,3 +1,4 @@
+// tapa run examples/stencil.cpp Stencil1D examples/stencil.json
 // A one-dimensional stencil: each output is the weighted sum of three neighbours. Look at the array `line`, a line buffer
 // that keeps the last three inputs so that every cell is loaded once; at the first two turns, which fill it and write
 // nothing; and at the file's constants, with which the window's size is spelled once.

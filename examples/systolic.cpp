@@ -1,3 +1,4 @@
+// tapa run examples/systolic.cpp Product examples/systolic.json
 // The product of two 2 by 2 matrices on a systolic array: four cells, each of which multiplies what comes from the left
 // and from above, adds it up, and passes both on. Look at `Cell`: one task, invoked four times, and the flat program's
 // instances are named by it (`Cell$2` to `Cell$5`); and at the drains, which take what leaves the array at its edges.

@@ -1,3 +1,4 @@
+// tapa run examples/too_shallow.cpp TooShallow
 // A network that stops at its declared depths: the producer wants to write two numbers on `data` before it says on
 // `ready` that they are there, and the consumer waits for that word first. With depth 2 for `data` it would end; with
 // depth 1 both wait for ever, and `tapa run` says who waits for what.

@@ -1,3 +1,4 @@
+// tapa run examples/vector_add.cpp VecAdd examples/vector_add.json
 // Vector addition, the first program of every TAPA user: two tasks load a vector each, one adds, one stores. Look at how
 // `n` is a scalar that each task gets by value, how `a` and `b` are memories that are only read (`const`), and how the
 // three streams decouple the loads from the store. With n = 0 every task ends at once, and the memories stay.

@@ -16,10 +16,10 @@ use Rattle.tapa_syntax.specs.declared.program.Expr.TheVariants.{Lit, Var, Cell',
 use Rattle.tapa_syntax.specs.declared.program.Stmt.{Stmt, Row_of-Stmt, end_of-Stmt, more_of-Stmt}
 use Rattle.tapa_syntax.specs.declared.program.Stmt.TheVariants.{Set, SetCell, SetCellBy, Store, StoreBy, ReadVar, ReadCell, ReadStore, Write, Open, Close, Discard, Clear, If', Loop', Break, Continue}
 use Rattle.tapa_syntax.specs.LeafKinds.{Kinds, writes_of}
-use Rattle.tapa_syntax.specs.StreamUse.{UsesExpr, UsesStmt, UsesBlock, UsesBody}
-use Rattle.tapa_syntax.specs.MemoryUse.{LoadsWithin, AsksStmt, AsksBlock, AsksBody}
-use Rattle.tapa_syntax.specs.ArrayUse.{In, FitsExpr, FitsStmt, FitsBlock, FitsBody, cleared_by, IsNoJump}
-use Rattle.tapa_syntax.specs.Typed.{result_kind, right_kind, by_zero, constant, IsConstant, MayDivide, HasKind, IsTyped, AreTyped, IsTypedBody}
+use Rattle.tapa_syntax.specs.StreamUse.{UsesExpr, UsesStmt, UsesBlock, UsesCode}
+use Rattle.tapa_syntax.specs.MemoryUse.{LoadsWithin, AsksStmt, AsksBlock, AsksCode}
+use Rattle.tapa_syntax.specs.ArrayUse.{In, FitsExpr, FitsStmt, FitsBlock, FitsCode, cleared_by, IsNoJump}
+use Rattle.tapa_syntax.specs.Typed.{result_kind, right_kind, by_zero, constant, IsConstant, MayDivide, HasKind, IsTyped, AreTyped, IsTypedCode}
 use Rattle.tapa_syntax.specs.Flat.{FlatExpression, literal, variable, cell, read, peek, is_end, load, convert, apply, flip, negation, conjunction, disjunction, choice, FlatStatement, set, set_cell, set_cell_by, store, store_by, read_variable, read_cell, read_store, write, take_end, put_end, discard, clear, branch, loop, break, continue, FlatStatements, no_statement, statement_then, flat_expression, flat_statement, flat_row, FlatLeaf}
 use Rattle.check_expression.specs.Expressions.{constant_value}
 
@@ -375,19 +375,19 @@ mutual
 
 -- ---- code
 
-pub code_uses : (W : FlatLeaf) (S : List ℕ) (ss : List Stmt) → IsCode W S (map flat_statement ss) → UsesBody (writes_of W.streams) ss
+pub code_uses : (W : FlatLeaf) (S : List ℕ) (ss : List Stmt) → IsCode W S (map flat_statement ss) → UsesCode (writes_of W.streams) ss
 code_uses W S [] g = tt
 code_uses W S (s ∷ ss) (a, g) = (step_uses W S s a, code_uses W (clears (flat_statement s) S) ss g)
 
-pub code_fits : (W : FlatLeaf) (S : List ℕ) (ss : List Stmt) → AreStraight (map flat_statement ss) → IsCode W S (map flat_statement ss) → FitsBody (length W.vars) (length W.arrays) S ss
+pub code_fits : (W : FlatLeaf) (S : List ℕ) (ss : List Stmt) → AreStraight (map flat_statement ss) → IsCode W S (map flat_statement ss) → FitsCode (length W.vars) (length W.arrays) S ss
 code_fits W S [] j g = tt
 code_fits W S (s ∷ ss) (i, j) (a, g) =
-    (no_jump s i, step_fits W S s a, subst (λ T. FitsBody (length W.vars) (length W.arrays) T ss) (same_clears s S) (code_fits W (clears (flat_statement s) S) ss j g))
+    (no_jump s i, step_fits W S s a, subst (λ T. FitsCode (length W.vars) (length W.arrays) T ss) (same_clears s S) (code_fits W (clears (flat_statement s) S) ss j g))
 
-pub code_asks : (W : FlatLeaf) (S : List ℕ) (ss : List Stmt) → IsCode W S (map flat_statement ss) → AsksBody (length W.memories) ss
+pub code_asks : (W : FlatLeaf) (S : List ℕ) (ss : List Stmt) → IsCode W S (map flat_statement ss) → AsksCode (length W.memories) ss
 code_asks W S [] g = tt
 code_asks W S (s ∷ ss) (a, g) = (step_asks W S s a, code_asks W (clears (flat_statement s) S) ss g)
 
-pub code_typed : (W : FlatLeaf) (S : List ℕ) (ss : List Stmt) → IsCode W S (map flat_statement ss) → IsTypedBody (kinds_in W) ss
+pub code_typed : (W : FlatLeaf) (S : List ℕ) (ss : List Stmt) → IsCode W S (map flat_statement ss) → IsTypedCode (kinds_in W) ss
 code_typed W S [] g = tt
 code_typed W S (s ∷ ss) (a, g) = (step_typed W S s a, code_typed W (clears (flat_statement s) S) ss g)

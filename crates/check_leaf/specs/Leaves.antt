@@ -7,7 +7,8 @@ use Rattle.tapa_syntax.specs.declared.tree.Parameter.{Parameter}
 use Rattle.tapa_syntax.specs.declared.tree.Parameter.TheVariants.{InputStream, OutputStream, Memory, Scalar}
 use Rattle.tapa_base.specs.declared.text.Place.{Place}
 use Rattle.tapa_syntax.specs.Trees.{Statements, TaskTree}
-use Rattle.tapa_syntax.specs.Flat.{FlatExpression, FlatStatement, FlatStatements, literal, variable, cell, read, peek, is_end, load, convert, apply, flip, negation, conjunction, disjunction, choice, set, set_cell, set_cell_by, store, store_by, read_variable, read_cell, read_store, write, take_end, put_end, discard, clear, branch, loop, break, continue, no_statement, statement_then, FlatLeaf}
+use Rattle.tapa_syntax.specs.Flat.{FlatStatement, FlatLeaf}
+use Rattle.tapa_syntax.specs.TickPlaces.{places_of}
 use Rattle.check_scope.specs.declared.entity.Entity.TheVariants as entity
 use Rattle.check_scope.specs.Scopes.{Block}
 use Rattle.check_scope.specs.declared.fault.Broken.{Broken}
@@ -58,52 +59,6 @@ parameters_faults h (p ∷ rest) = parameter_faults h p ++ parameters_faults (af
 -- a task of a file that has declared these names
 abbrev pub task_begins : Block → Head
 task_begins file = record { frame = record { scope = file ∷ [] ∷ []; vars = []; arrays = [] }; streams = []; memories = []; scalars = [] }
-
--- ---- tick places: what a tick of the task is made at
-
-abbrev pub operations : FlatExpression → ℕ
-operations (literal k n) = 0
-operations (variable x) = 0
-operations (cell a i) = operations i
-operations (read s) = 1
-operations (peek s) = 1
-operations (is_end s) = 1
-operations (load m i) = operations i + 1
-operations (convert from to e) = operations e
-operations (apply o k a b) = operations a + operations b
-operations (flip k e) = operations e
-operations (negation e) = operations e
-operations (conjunction a b) = operations a + operations b
-operations (disjunction a b) = operations a + operations b
-operations (choice c a b) = operations c + operations a + operations b
-
-abbrev mutual
-  pub places : FlatStatement → ℕ
-  places (set x e) = operations e + 1
-  places (set_cell a i e) = operations e + operations i + 1
-  places (set_cell_by a i o k e) = operations e + operations i + 1
-  places (store m i e) = operations e + operations i + 1
-  places (store_by m i o k e) = operations e + operations i + 2
-  places (read_variable s x) = 2
-  places (read_cell s a i) = operations i + 2
-  places (read_store s m i) = operations i + 2
-  places (write s e) = operations e + 1
-  places (take_end s) = 1
-  places (put_end s) = 1
-  places (discard e) = operations e
-  places (clear a) = 1
-  places (branch e left right) = operations e + 1 + places_in left + places_in right
-  places (loop e body step) = operations e + 1 + places_in body + places_in step
-  places break = 0
-  places continue = 0
-
-  pub places_in : FlatStatements → ℕ
-  places_in no_statement = 0
-  places_in (statement_then s rest) = places s + places_in rest
-
-abbrev pub places_of : List FlatStatement → ℕ
-places_of [] = 1
-places_of (s ∷ rest) = places s + places_of rest
 
 -- C11: a task has at most 4,096 tick places, its end among them
 abbrev pub size_faults : List FlatStatement → Place → List Broken

@@ -34,7 +34,3 @@ Adds result f before after faults g code = Answers {B = Part} (λ x. (f, map fla
 -- the same where the frame is the one before
 abbrev pub Appends : Result (Unit {0}) CheckFault → List Stmt → List Stmt → List Broken → List FlatStatement → Type 0
 Appends result before after faults code = Answers (λ x. map flat_statement after) result faults (map flat_statement before ++ code)
-
--- the number, or the greatest of 64 bits where it is more
-abbrev pub capped : ℕ → ℕ
-capped n = min n (2 ^ 64 - 1)

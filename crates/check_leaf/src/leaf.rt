@@ -8,14 +8,15 @@ ghost use Rattle.check_leaf.specs.Statements as task;
 ghost use Rattle.check_leaf.specs.Heads.{head_of};
 
 use crate::frame::Frame;
-use crate::places::places_of;
 use crate::statement::statements as check_statements;
 use check_scope::{CheckFault, Entity, FileNames, copied, number_of, over};
 use std::alloc::Global;
 use tapa_base::{Kind, Place, Text};
-use tapa_syntax::{End, Leaf, Name, Parameter, Statement, Stmt, TaskDeclaration};
+use tapa_syntax::{
+    End, Leaf, Name, Parameter, Statement, Stmt, TaskDeclaration, places_in,
+};
 
-/// The most tick places of a task.
+/// The most tick places of a task, its end among them.
 const MOST_PLACES: u32 = 4096;
 
 /// What the parameters so far are: the frame, the streams and the memories in order, and the variables that hold the
@@ -108,7 +109,7 @@ impl<'a> Head<'a> {
 fn check_size(code: &[Stmt], end: Place) -> Result<(), CheckFault>
     ensures { Answers (λ x. x) result (leaf.size_faults (map flat_statement code.now) end) tt }
 {
-    if places_of(code) > u64::from(MOST_PLACES) {
+    if places_in(code) >= u64::from(MOST_PLACES) {
         return Err(over(MOST_PLACES, end));
     }
     Ok(())

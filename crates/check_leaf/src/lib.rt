@@ -7,7 +7,6 @@ mod declaration;
 mod frame;
 mod laws;
 mod leaf;
-mod places;
 mod statement;
 mod target;
 

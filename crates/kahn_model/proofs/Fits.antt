@@ -13,17 +13,11 @@ use Rattle.tapa_syntax.specs.declared.program.Expr.TheVariants.{Lit, Var, Cell',
 use Rattle.tapa_syntax.specs.declared.program.Stmt.{Stmt, Row_of-Stmt, end_of-Stmt, more_of-Stmt}
 use Rattle.tapa_syntax.specs.declared.program.Stmt.TheVariants.{Set, SetCell, SetCellBy, Store as StoreCell, StoreBy, ReadVar, ReadCell, ReadStore, Write, Open as OpenIt, Close, Discard, Clear, If', Loop', Break, Continue}
 use Rattle.tapa_syntax.specs.LeafKinds.{Kinds}
-use Rattle.tapa_syntax.specs.Typed.{HasKind, IsTyped, AreTyped, IsTypedBody, right_kind, result_kind}
+use Rattle.tapa_syntax.specs.Typed.{HasKind, IsTyped, AreTyped, IsTypedCode, right_kind, result_kind}
 use Rattle.kahn_model.specs.Behavior.{Action, Local, Load, Store, Read as ByRead, Peek as ByPeek, TestEot, Open as ByOpen, Behavior, Finished, Act, Await, Answer, judge_token}
 use Rattle.kahn_model.specs.Trace.{State, cell, with_cell, set_var, set_cell, store_cell, cells_of, cleared, at_zero, expr, locals, turns, stmt, block, statements, job_of}
-use Rattle.kahn_model.specs.Fits.{IsTokenOf, ActionFits, KeepsKinds}
+use Rattle.kahn_model.specs.Fits.{IsTokenOf, ActionFits, KeepsKinds, IsFitState}
 use Rattle.tapa_syntax.proofs.Values.{converted_fits, applied_fits}
-
--- every variable and every cell has a value of its kind
-pub record IsFitState (K : Kinds) (σ : State) : Type 0 where
-  pub vars : (x : ℕ) → slice_index σ.vars x < values_of (K.vars x)
-  pub arrays : (a i : ℕ) → cell σ.arrays a i < values_of (K.arrays a)
-  pub cells : (m i : ℕ) → cell σ.cells m i < values_of (K.memories m)
 
 pub set_below : (xs : List ℕ) (x v : ℕ) (k : ℕ → ℕ) → ((y : ℕ) → get_or xs y 0 < k y) → v < k x → (y : ℕ) → get_or (slice_set xs x v) y 0 < k y
 set_below [] x v k h l y = h y
@@ -47,16 +41,16 @@ zeros_below zero j m h = h
 zeros_below (suc n) zero m h = h
 zeros_below (suc n) (suc j) m h = zeros_below n j m h
 
-fit_var : (K : Kinds) (σ : State) (x v : ℕ) → IsFitState K σ → v < values_of (K.vars x) → IsFitState K (set_var σ x v)
+pub fit_var : (K : Kinds) (σ : State) (x v : ℕ) → IsFitState K σ → v < values_of (K.vars x) → IsFitState K (set_var σ x v)
 fit_var K σ x v h l = record { vars = set_below σ.vars x v (λ y. values_of (K.vars y)) h.vars l; arrays = h.arrays; cells = h.cells }
 
-fit_cell : (K : Kinds) (σ : State) (a i v : ℕ) → IsFitState K σ → v < values_of (K.arrays a) → IsFitState K (set_cell σ a i v)
+pub fit_cell : (K : Kinds) (σ : State) (a i v : ℕ) → IsFitState K σ → v < values_of (K.arrays a) → IsFitState K (set_cell σ a i v)
 fit_cell K σ a i v h l = record { vars = h.vars; arrays = cell_below σ.arrays a i v (λ y. values_of (K.arrays y)) h.arrays l; cells = h.cells }
 
-fit_store : (K : Kinds) (σ : State) (m i v : ℕ) → IsFitState K σ → v < values_of (K.memories m) → IsFitState K (store_cell σ m i v)
+pub fit_store : (K : Kinds) (σ : State) (m i v : ℕ) → IsFitState K σ → v < values_of (K.memories m) → IsFitState K (store_cell σ m i v)
 fit_store K σ m i v h l = record { vars = h.vars; arrays = h.arrays; cells = cell_below σ.cells m i v (λ y. values_of (K.memories y)) h.cells l }
 
-fit_cleared : (K : Kinds) (σ : State) (a : ℕ) → IsFitState K σ → IsFitState K (cleared σ a)
+pub fit_cleared : (K : Kinds) (σ : State) (a : ℕ) → IsFitState K σ → IsFitState K (cleared σ a)
 fit_cleared K σ a h = record {
   vars = h.vars;
   arrays = row_below σ.arrays a (replicate (cells_of σ a) 0) (λ y. values_of (K.arrays y)) h.arrays (λ j. zeros_below (cells_of σ a) j _ (pow_pos (bits_of (K.arrays a))));
@@ -70,15 +64,15 @@ record Fit (K : Kinds) (t : Behavior) : Type 0 where
 fit_act : (K : Kinds) (a : Action) (t : Behavior) → ActionFits K.streams K.memories a → Fit K t → Fit K (Act a t)
 fit_act K a t h g = record { keeps = (h, g.keeps) }
 
-read_value : (k : Kind) (t : Token) (v : ℕ) → IsTokenOf k t → judge_token ByRead t ≡ Answer t v → v < values_of k
+pub read_value : (k : Kind) (t : Token) (v : ℕ) → IsTokenOf k t → judge_token ByRead t ≡ Answer t v → v < values_of k
 read_value k (Datum d) v h e = let same : d ≡ v = cc in subst (λ x. x < values_of k) same h
 read_value k EotToken v h e = absurd (cc)
 
-peek_value : (k : Kind) (t : Token) (v : ℕ) → IsTokenOf k t → judge_token ByPeek t ≡ Answer t v → v < values_of k
+pub peek_value : (k : Kind) (t : Token) (v : ℕ) → IsTokenOf k t → judge_token ByPeek t ≡ Answer t v → v < values_of k
 peek_value k (Datum d) v h e = let same : d ≡ v = cc in subst (λ x. x < values_of k) same h
 peek_value k EotToken v h e = absurd (cc)
 
-eot_value : (t : Token) (v : ℕ) → judge_token TestEot t ≡ Answer t v → v < values_of kind.Bool
+pub eot_value : (t : Token) (v : ℕ) → judge_token TestEot t ≡ Answer t v → v < values_of kind.Bool
 eot_value (Datum d) v e = let same : 0 ≡ v = cc in omega arith
 eot_value EotToken v e = let same : 1 ≡ v = cc in omega arith
 
@@ -103,21 +97,21 @@ fit_locals K zero t h = h
 fit_locals K (suc n) t h = fit_act K Local _ tt (fit_locals K n t h)
 
 -- values
-of_kind : (j k : Kind) (v : ℕ) → j ≡ k → v < values_of j → v < values_of k
+pub of_kind : (j k : Kind) (v : ℕ) → j ≡ k → v < values_of j → v < values_of k
 of_kind j k v e h = subst (λ c. v < values_of c) e h
 
-flip_below : (k v : ℕ) → 2 ^ k - 1 - v < 2 ^ k
+pub flip_below : (k v : ℕ) → 2 ^ k - 1 - v < 2 ^ k
 flip_below k v = let h = pow_pos k in omega arith
 
-not_below : (v : ℕ) → 1 - v < 2
+pub not_below : (v : ℕ) → 1 - v < 2
 not_below v = omega arith
 
-both_below : (a b : ℕ) → a < 2 → b < 2 → a * b < 2
+pub both_below : (a b : ℕ) → a < 2 → b < 2 → a * b < 2
 both_below zero b p q = omega arith
 both_below (suc zero) b p q = omega arith
 both_below (suc (suc a)) b p q = absurd (omega arith)
 
-choice_below : (k : Kind) (v a b : ℕ) → a < values_of k → b < values_of k → at_zero v b a < values_of k
+pub choice_below : (k : Kind) (v a b : ℕ) → a < values_of k → b < values_of k → at_zero v b a < values_of k
 choice_below k zero a b p q = q
 choice_below k (suc v) a b p q = p
 
@@ -192,9 +186,9 @@ mutual
 fit_end : (K : Kinds) → AreFit K (λ σ. Finished)
 fit_end K σ g = record { keeps = tt }
 
-fit_statements : (K : Kinds) (n : ℕ) (code : List Stmt) → IsTypedBody K code → (f fo fa : State → Behavior) → AreFit K f → AreFit K fo → AreFit K fa → AreFit K (λ σ. statements K n code σ f fo fa)
+fit_statements : (K : Kinds) (n : ℕ) (code : List Stmt) → IsTypedCode K code → (f fo fa : State → Behavior) → AreFit K f → AreFit K fo → AreFit K fa → AreFit K (λ σ. statements K n code σ f fo fa)
 fit_statements K n [] t f fo fa h ho ha σ g = h σ g
 fit_statements K n (s ∷ rest) t f fo fa h ho ha σ g = fit_stmt K n s t.0 _ fo fa (fit_statements K n rest t.1 f fo fa h ho ha) ho ha σ g
 
-pub job_keeps_kinds : (K : Kinds) (code : List Stmt) → IsTypedBody K code → (σ : State) → IsFitState K σ → (n : ℕ) → KeepsKinds K.streams K.memories (job_of K code σ n)
+pub job_keeps_kinds : (K : Kinds) (code : List Stmt) → IsTypedCode K code → (σ : State) → IsFitState K σ → (n : ℕ) → KeepsKinds K.streams K.memories (job_of K code σ n)
 job_keeps_kinds K code t σ g n = (fit_statements K n code t _ _ _ (fit_end K) (fit_end K) (fit_end K) σ g).keeps

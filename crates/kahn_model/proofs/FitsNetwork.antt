@@ -28,7 +28,8 @@ use Rattle.kahn_model.specs.ProgramNetwork.{stream_at, leaf_job, instance_job}
 use Rattle.kahn_model.specs.Start.{through, bound_value, with_values, leaf_state, instance_state, network_of}
 use Rattle.kahn_model.specs.Fits.{IsTokenOf, ActionFits, KeepsKinds, TickFits, stream_kind, kind_in_leaf, leaf_of, memory_kind, FitsInput}
 use Rattle.tapa_syntax.proofs.Values.{converted_fits}
-use Rattle.kahn_model.proofs.Fits.{IsFitState, set_below, zeros_below, job_keeps_kinds}
+use Rattle.kahn_model.specs.Fits.{IsFitState}
+use Rattle.kahn_model.proofs.Fits.{set_below, zeros_below, job_keeps_kinds}
 use Rattle.kahn_model.proofs.Wired.{Keeps, KeepsAct, body_keeps}
 use Rattle.kahn_model.proofs.WellFormed.{get_there, stream_kind_at}
 

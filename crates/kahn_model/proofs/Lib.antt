@@ -8,16 +8,12 @@ pub mod Wired
 pub mod WellFormed
 pub mod Clocked
 pub mod Bound
-pub mod SlowSteps
-pub mod SlowFlows
-pub mod SlowStatements
 pub mod Local
 pub mod Ends
 pub mod Fits
 pub mod FitsNetwork
 pub mod FitsCells
 pub mod Past
-pub mod RoundLists
 pub mod OneMeaning
 pub mod Standing
 pub mod Ending

@@ -13,7 +13,7 @@ use Rattle.kahn_model.specs.Trace.{State, cells_of, at_zero, expr, locals, turns
 use Rattle.tapa_syntax.specs.LeafKinds.{Kinds}
 use Rattle.kahn_model.specs.ProgramNetwork.{stream_at, leaf_job, instance_job, network_with, IsBound, IsWired}
 use Rattle.tapa_syntax.specs.LeafKinds.{writes_of, kinds_of}
-use Rattle.tapa_syntax.specs.StreamUse.{UsesExpr, UsesStmt, UsesBlock, UsesBody}
+use Rattle.tapa_syntax.specs.StreamUse.{UsesExpr, UsesStmt, UsesBlock, UsesCode}
 use Rattle.kahn_model.specs.Network.{IsNetwork, OwnAct, Owns}
 use Rattle.kahn_model.proofs.Statements.{job_extends, job_lasts}
 
@@ -101,11 +101,11 @@ mutual
 finished : (w : ℕ → Option Bool) → AreKept w (λ σ. Finished)
 finished w σ = record { kept = tt }
 
-kept_statements : (w : ℕ → Option Bool) (K : Kinds) (n : ℕ) (code : List Stmt) → UsesBody w code → (f fo fa : State → Behavior) → AreKept w f → AreKept w fo → AreKept w fa → (σ : State) → Kept w (statements K n code σ f fo fa)
+kept_statements : (w : ℕ → Option Bool) (K : Kinds) (n : ℕ) (code : List Stmt) → UsesCode w code → (f fo fa : State → Behavior) → AreKept w f → AreKept w fo → AreKept w fa → (σ : State) → Kept w (statements K n code σ f fo fa)
 kept_statements w K n [] u f fo fa h ho ha σ = h σ
 kept_statements w K n (s ∷ rest) (us, ur) f fo fa h ho ha σ = kept_stmt w K n s us _ fo fa (kept_statements w K n rest ur f fo fa h ho ha) ho ha σ
 
-pub body_keeps : (leaf : Leaf) → UsesBody (writes_of leaf.streams.items) leaf.code.items → (σ : State) (n : ℕ) → Keeps (writes_of leaf.streams.items) (job_of (kinds_of leaf) leaf.code.items σ n)
+pub body_keeps : (leaf : Leaf) → UsesCode (writes_of leaf.streams.items) leaf.code.items → (σ : State) (n : ℕ) → Keeps (writes_of leaf.streams.items) (job_of (kinds_of leaf) leaf.code.items σ n)
 body_keeps leaf u σ n =
     (kept_statements (writes_of leaf.streams.items) (kinds_of leaf) n leaf.code.items u _ _ _ (finished _) (finished _) (finished _) σ).kept
 

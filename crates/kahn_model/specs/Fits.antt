@@ -12,6 +12,8 @@ use Rattle.tapa_syntax.specs.declared.program.Memory.{Memory}
 use Rattle.tapa_syntax.specs.declared.program.Program.{Program}
 use Rattle.tapa_syntax.specs.declared.program.Scalar.{Scalar}
 use Rattle.tapa_syntax.specs.declared.program.Stream.{Stream}
+use Rattle.tapa_syntax.specs.LeafKinds.{Kinds}
+use Rattle.kahn_model.specs.Trace.{State, cell}
 use Rattle.kahn_model.specs.Behavior.{Action, Local, Put, Load, Store, Tick, Did, Take, See, End, Behavior, Finished, OutOfTurns, Act, Await, Answer, judge_token}
 
 -- an end of a transaction, or the bits of a value of the kind
@@ -40,6 +42,12 @@ TickFits streams memories (Take s t) = IsTokenOf (streams s) t
 TickFits streams memories (See s t) = IsTokenOf (streams s) t
 TickFits streams memories End = Unit {0}
 
+-- every variable and every cell has a value of its kind
+pub record IsFitState (K : Kinds) (σ : State) : Type 0 where
+  pub vars : (x : ℕ) → slice_index σ.vars x < values_of (K.vars x)
+  pub arrays : (a i : ℕ) → cell σ.arrays a i < values_of (K.arrays a)
+  pub cells : (m i : ℕ) → cell σ.cells m i < values_of (K.memories m)
+
 -- the kind of a stream of a program
 abbrev pub stream_kind : Program → ℕ → Kind
 stream_kind program s = unwrap_or (option_map (λ (r : Stream). r.kind) (slice_get program.streams.items s)) U64
@@ -56,9 +64,13 @@ leaf_of program (Some x) = slice_get program.bodies.items x.body
 abbrev pub memory_kind : Program → ℕ → ℕ → Kind
 memory_kind program i p = kind_in_leaf (leaf_of program (slice_get program.instances.items i)) p
 
+-- the values of the top task's scalars have their kinds
+abbrev pub ScalarsFit : Program → List ℕ → Type 0
+ScalarsFit program scalars = (x : ℕ) (c : Scalar) → slice_get program.scalars.items x ≡ Some c → slice_index scalars x < values_of c.kind
+
 -- an input: one value for each scalar of the top task, and the first cells of each of its memories, of any length
 pub record FitsInput (program : Program) (scalars : List ℕ) (memories : List (List ℕ)) : Type 0 where
   pub as_many_scalars : length scalars ≡ length program.scalars.items
   pub as_many_memories : length memories ≡ length program.memories.items
-  pub scalars_fit : (x : ℕ) (c : Scalar) → slice_get program.scalars.items x ≡ Some c → slice_index scalars x < values_of c.kind
+  pub scalars_fit : ScalarsFit program scalars
   pub cells_fit : (m : ℕ) (c : Memory) → slice_get program.memories.items m ≡ Some c → All (λ v. v < values_of c.kind) (slice_index_or memories m [])

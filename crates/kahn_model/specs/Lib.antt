@@ -5,7 +5,7 @@ pub mod Counts
 pub mod Trace
 pub mod ProgramNetwork
 pub mod Timed
-pub mod Slow
+pub mod Rows
 pub mod Outcome
 pub mod Start
 pub mod Fits

@@ -7,7 +7,7 @@ use Rattle.tapa_syntax.specs.declared.program.Program.{Program}
 use Rattle.kahn_model.specs.Behavior.{Behavior, Finished}
 use Rattle.kahn_model.specs.Trace.{State, job_of, at_streams}
 use Rattle.tapa_syntax.specs.LeafKinds.{kinds_of, writes_of}
-use Rattle.tapa_syntax.specs.StreamUse.{UsesBody}
+use Rattle.tapa_syntax.specs.StreamUse.{UsesCode}
 use Rattle.kahn_model.specs.Network.{Network}
 
 -- the stream that position p of an instance is bound to
@@ -39,7 +39,7 @@ network_with program first = record {
 
 -- an instance reads and writes its streams as they are declared, and is the one that does
 pub record IsBound (producer consumer : ℕ → ℕ) (i : ℕ) (instance : Instance) (leaf : Leaf) : Type 0 where
-  pub uses : UsesBody (writes_of leaf.streams.items) leaf.code.items
+  pub uses : UsesCode (writes_of leaf.streams.items) leaf.code.items
   pub writer : (p : ℕ) → writes_of leaf.streams.items p ≡ Some true → producer (stream_at instance p) ≡ i
   pub reader : (p : ℕ) → writes_of leaf.streams.items p ≡ Some false → consumer (stream_at instance p) ≡ i
 

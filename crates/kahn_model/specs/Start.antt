@@ -30,6 +30,10 @@ with_values [] values vars = vars
 with_values (x ∷ xs) [] vars = vars
 with_values (x ∷ xs) (v ∷ values) vars = with_values xs values (slice_set vars x v)
 
+-- the kinds of the scalars of a program
+abbrev pub kinds_in : Program → List Kind
+kinds_in program = map (λ (c : Scalar). c.kind) program.scalars.items
+
 abbrev pub empty_state : State
 empty_state = record { vars = []; arrays = []; cells = [] }
 
@@ -45,7 +49,7 @@ leaf_state kinds scalars memories instance (Some leaf) = record {
 abbrev pub instance_state : Program → List ℕ → List (List ℕ) → Option Instance → State
 instance_state program scalars memories None = empty_state
 instance_state program scalars memories (Some instance) =
-    leaf_state (map (λ (c : Scalar). c.kind) program.scalars.items) scalars memories instance (slice_get program.bodies.items instance.body)
+    leaf_state (kinds_in program) scalars memories instance (slice_get program.bodies.items instance.body)
 
 -- the first state of instance i, given the values of the top task's scalars and the first cells of its memories
 abbrev pub first_state : Program → List ℕ → List (List ℕ) → ℕ → State

@@ -1,11 +1,8 @@
-//! Streams of a network of tasks, by Kahn's rounds and by counts of ticks: the definitions, their laws, and a plain slow
-//! run of the definitions.
+//! Streams of a network of tasks, by Kahn's rounds and by counts of ticks: the definitions and their laws. A slow run of
+//! the definitions is the crate kahn_reference.
 #![tactic(auto)]
 
-mod cells;
+pub mod kinds;
 pub mod laws;
-pub mod rounds;
-mod simple_statements;
-pub mod slow;
 pub mod start;
 pub mod tick;

@@ -1,10 +1,12 @@
-use kahn_model::rounds::streams;
-use kahn_model::slow::{Fault, Variables, trace};
+use kahn_reference::rounds::streams;
+use kahn_reference::slow::{Fault, Variables, trace};
 use kahn_model::tick::{Action, Tick, TraceEnd};
 use std::alloc::{AllocError, Global};
 use std::test::Fail;
 use tapa_base::{Kind, Op, Text, Token};
-use tapa_syntax::{Array, End, Expr, Instance, Leaf, Program, Stmt, Stream};
+use tapa_syntax::{
+    Array, Bound, End, Expr, Instance, Leaf, Memory, Program, Scalar, Stmt, Stream,
+};
 
 fn apply(alloc: Global, op: Op, left: Expr, right: Expr) -> Result<Expr, AllocError> {
     Ok(Expr::Apply {
@@ -51,6 +53,7 @@ fn instance(alloc: Global, body: u32, streams: Vec<u32>) -> Instance {
     Instance {
         label: Text::new(Vec::new(alloc)),
         body,
+        detached: false,
         scalars: Vec::new(alloc),
         streams,
         memories: Vec::new(alloc),
@@ -218,79 +221,6 @@ fn rounds_of_the_path_program(rt: HostRuntime) -> Result<(), Fail> {
     Ok(())
 }
 
-// Two streams from one task to another, read in the other order.
-fn crossing(alloc: Global) -> Result<Program, AllocError> {
-    let writer = Vec::from_array(
-        alloc,
-        [
-            Stmt::Write(0, number(1)),
-            Stmt::Write(0, number(2)),
-            Stmt::Write(1, number(3)),
-        ],
-    )?;
-    let reader = Vec::from_array(
-        alloc,
-        [
-            Stmt::Discard(Expr::Read(1)),
-            Stmt::Discard(Expr::Read(0)),
-            Stmt::Discard(Expr::Read(0)),
-        ],
-    )?;
-    two_tasks(
-        alloc,
-        leaf(alloc, 2, 0, writer)?,
-        leaf(alloc, 0, 2, reader)?,
-        stream(alloc, 0, 1),
-    )
-}
-
-// A task that writes 5 and waits for an answer, and one that answers by 1 more.
-fn feedback(alloc: Global) -> Result<Program, AllocError> {
-    let asks = Vec::from_array(
-        alloc,
-        [Stmt::Write(0, number(5)), Stmt::Discard(Expr::Read(1))],
-    )?;
-    let answers = Vec::from_array(alloc, [Stmt::Write(1, plus(alloc, Expr::Read(0), 1)?)])?;
-    two_tasks(
-        alloc,
-        leaf(alloc, 1, 1, asks)?,
-        leaf(alloc, 1, 1, answers)?,
-        stream(alloc, 1, 0),
-    )
-}
-
-fn two_tasks(
-    alloc: Global,
-    first: Leaf,
-    second: Leaf,
-    other: Stream,
-) -> Result<Program, AllocError> {
-    let numbers = Vec::from_array(alloc, [0, 1])?;
-    let again = Vec::from_array(alloc, [0, 1])?;
-    let bodies = Vec::from_array(alloc, [first, second])?;
-    let instances = Vec::from_array(
-        alloc,
-        [instance(alloc, 0, numbers), instance(alloc, 1, again)],
-    )?;
-    let streams = Vec::from_array(alloc, [stream(alloc, 0, 1), other])?;
-    Ok(program(alloc, bodies, instances, streams))
-}
-
-#[test]
-fn streams_have_no_schedule(rt: HostRuntime) -> Result<(), Fail> {
-    let alloc = rt.alloc();
-    let lists = streams(alloc, &crossing(alloc)?, &[], &[], 9)?;
-    assert_eq!(rt; row(&lists, 0), data(alloc, &[1, 2])?.as_slice());
-    assert_eq!(rt; row(&lists, 1), data(alloc, &[3])?.as_slice());
-    let program = feedback(alloc)?;
-    for (n, y) in [(1, 0), (2, 1), (7, 1)] {
-        let lists = streams(alloc, &program, &[], &[], n)?;
-        assert_eq!(rt; row(&lists, 0), data(alloc, &[5])?.as_slice());
-        assert_eq!(rt; row(&lists, 1).len(), y, "round {n}");
-    }
-    Ok(())
-}
-
 // The token that a leaf writes for an expression.
 fn written(alloc: Global, e: Expr) -> Result<Option<u64>, Fault> {
     let code = one(alloc, Stmt::Write(0, e))?;
@@ -349,7 +279,7 @@ fn expressions_have_their_values(rt: HostRuntime) -> Result<(), Fail> {
     Ok(())
 }
 
-// An array that is cleared, set and changed, and a memory that is changed and read.
+// `a` is cleared, set and changed; `m[0] -= 1; q >> m[1]; r << a[1]; r << m[0]; r << m[1]; r << x;`
 fn cells(alloc: Global) -> Result<Vec<Stmt>, AllocError> {
     let kind = Kind::I32;
     Ok(Vec::from_array(
@@ -368,7 +298,6 @@ fn cells(alloc: Global) -> Result<Vec<Stmt>, AllocError> {
                 kind,
                 value: Expr::Lit(kind, 100),
             },
-            Stmt::Write(0, Expr::Cell(0, Box::new(alloc, number(1))?)),
             Stmt::StoreBy {
                 memory: 0,
                 index: number(0),
@@ -376,32 +305,57 @@ fn cells(alloc: Global) -> Result<Vec<Stmt>, AllocError> {
                 kind,
                 value: Expr::Lit(kind, 1),
             },
+            Stmt::ReadStore {
+                stream: 1,
+                memory: 0,
+                index: number(1),
+            },
+            Stmt::Write(0, Expr::Cell(0, Box::new(alloc, number(1))?)),
             Stmt::Write(0, Expr::Load(0, Box::new(alloc, number(0))?)),
+            Stmt::Write(0, Expr::Load(0, Box::new(alloc, number(1))?)),
+            Stmt::Write(0, Expr::Var(0)),
         ],
     )?)
 }
 
+// A task that writes 511, and one that has the memory and the scalar of the top task, which is narrowed on its way down.
+fn with_data(alloc: Global) -> Result<Program, AllocError> {
+    let first = leaf(alloc, 1, 0, one(alloc, Stmt::Write(0, number(511)))?)?;
+    let mut second = leaf(alloc, 1, 1, cells(alloc)?)?;
+    second.scalars.push(0)?;
+    let bodies = Vec::from_array(alloc, [first, second])?;
+    let mut owner = instance(alloc, 1, Vec::from_array(alloc, [1, 0])?);
+    owner.memories.push(0)?;
+    let kinds = Vec::from_array(alloc, [Kind::U8, Kind::I32, Kind::U64])?;
+    owner.scalars.push(Bound::Top { scalar: 0, kinds })?;
+    let instances = Vec::from_array(alloc, [instance(alloc, 0, vec![in alloc; 0; 1]?), owner])?;
+    let streams = Vec::from_array(alloc, [stream(alloc, 0, 1), stream(alloc, 1, 0)])?;
+    let mut program = program(alloc, bodies, instances, streams);
+    program.scalars.push(Scalar {
+        name: Text::new(Vec::new(alloc)),
+        kind: Kind::I16,
+    })?;
+    program.memories.push(Memory {
+        name: Text::new(Vec::new(alloc)),
+        kind: Kind::U8,
+        constant: false,
+        owner: 1,
+    })?;
+    Ok(program)
+}
+
 #[test]
-fn arrays_and_memories_hold_their_cells(rt: HostRuntime) -> Result<(), Fail> {
+fn data_reach_the_streams(rt: HostRuntime) -> Result<(), Fail> {
     let alloc = rt.alloc();
-    let body = leaf(alloc, 1, 0, cells(alloc)?)?;
-    let (ticks, trace_end) = trace(alloc, &body, &[0], variables(alloc)?, 1, &[])?;
-    let local = Tick::Did(Action::Local);
-    // The cell is 200, which is -56, and 100 more, 44; the cell of the memory is 1 less than 0 modulo 256.
-    let want = [
-        local,
-        local,
-        local,
-        local,
-        Tick::Did(Action::Put(0, Token::Datum(44))),
-        Tick::Did(Action::Load(0, 0)),
-        Tick::Did(Action::Store(0, 0, 255)),
-        Tick::Did(Action::Load(0, 0)),
-        Tick::Did(Action::Put(0, Token::Datum(255))),
-        Tick::End,
-    ];
-    assert_eq!(rt; ticks.as_slice(), want.as_slice());
-    assert_eq!(rt; trace_end, TraceEnd::Ended);
+    let program = with_data(alloc)?;
+    let mut memories = Vec::new(alloc);
+    memories.push(Vec::from_array(alloc, [0, 7])?)?;
+    // The cell of the array is 200, which is -56, and 100 more, 44; that of the memory is 1 less than 0 modulo 256; 511
+    // and 65,530 are cut to 8 bits.
+    let lists = streams(alloc, &program, &[65_530], &memories, 9)?;
+    let want = data(alloc, &[44, 255, 255, 250])?;
+    assert_eq!(rt; row(&lists, 1), want.as_slice());
+    assert!(rt; matches!(streams(alloc, &program, &[65_536], &memories, 9), Err(Fault::NotOfItsKind)));
     Ok(())
 }
 

@@ -80,6 +80,7 @@ pub record Chunk (net : Network) (k : ℕ → ℕ) (i : ℕ) (ts : List Tick) (l
   pub reachable : IsReachable net later
   pub own : ticks_made net later i ≡ ticks_made net k i ++ ts
   pub other : (j : ℕ) → (j ≡ i → ⊥) → ticks_made net later j ≡ ticks_made net k j
+  pub first : 0 < length ts → IsAllowed net k i
 
 room_of : (net : Network) → IsNetwork net → (k : ℕ → ℕ) (i : ℕ) (t : Tick) (ts : List Tick) → OwnTick net.producer net.consumer i t → HasRoomFor net k i (t ∷ ts) → HasRoom net k t
 room_of net ok k i (Did (Put s u)) ts own h =
@@ -117,7 +118,7 @@ written_after net k m i s ts e h =
 
 pub chunk : (net : Network) → IsNetwork net → (n i : ℕ) → i < net.size → (ts : List Tick) (k : ℕ → ℕ) → IsReachable net k → IsPrefixOf (ticks_made net k i ++ ts) (ticks (net.job i n) (written net k)) → HasRoomFor net k i ts → Chunk net k i ts (plus i (length ts) k)
 chunk net ok n i inside [] k r p room =
-    subst (Chunk net k i []) (plus_none i k) (record { reachable = r; own = sym (append-nil (ticks_made net k i)); other = λ j d. refl })
+    subst (Chunk net k i []) (plus_none i k) (record { reachable = r; own = sym (append-nil (ticks_made net k i)); other = λ j d. refl; first = λ l. absurd (omega arith) })
 chunk net ok n i inside (t ∷ ts) k r p room =
     let f = reach_founded net k r in
     let len = all_made net ok k f i in
@@ -145,4 +146,4 @@ chunk net ok n i inside (t ∷ ts) k r p room =
     let h = room s e (omega arith) in
     omega arith) in
     subst (Chunk net k i (t ∷ ts)) (plus_more i (length ts) k)
-    (record { reachable = c.reachable; own = c.own ∙ whole; other = λ j d. c.other j d ∙ made_other net ok k i j f f' d })
+    (record { reachable = c.reachable; own = c.own ∙ whole; other = λ j d. c.other j d ∙ made_other net ok k i j f f' d; first = λ l. step.0 })

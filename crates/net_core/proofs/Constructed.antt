@@ -1,5 +1,5 @@
 -- New tables.
-use Rattle.std.proofs.Common.{◌≡◌, ℕ, zero, suc, ◌+◌, ◌<◌, List, [], ◌∷◌, ◌++◌, length, map, take, Option, Some, None, refl, sym, ap, ◌∙◌, subst, arith}
+use Rattle.std.proofs.Common.{◌≡◌, ℕ, zero, suc, ◌+◌, ◌<◌, List, [], ◌∷◌, ◌++◌, length, map, take, drop, Bool, Option, Some, None, refl, sym, ap, ◌∙◌, subst, arith}
 use Rattle.std.specs.Prelude.{slice_get}
 use Rattle.std.specs.Prelude.{replicate, slice_index}
 use Rattle.std.proofs.lemmas.List.{map-append}
@@ -14,10 +14,10 @@ use Rattle.net_core.specs.declared.ports.Ports.{Ports}
 use Rattle.net_core.specs.declared.body.Pause.{Pause}
 use Rattle.net_core.specs.declared.input.Input.{Input}
 use Rattle.net_core.specs.Job.{Job}
-use Rattle.net_core.specs.Ports.{ends_in, carried_of}
+use Rattle.net_core.specs.Ports.{ends_in, carried_of, waiting_of}
 use Rattle.tapa_syntax.specs.WellFormed.{IsWellFormed}
 use Rattle.kahn_model.specs.Fits.{FitsInput}
-use Rattle.net_core.specs.Bindings.{IsConnected, ends_at, stream_at, producer_of, IsWriter}
+use Rattle.net_core.specs.Bindings.{IsConnected, ends_at, stream_at, producer_of, IsWriter, TellsFedBySelf}
 use Rattle.net_core.specs.Bounded.{scalars_of, memories_of, network_on, instance_job, IsNetworkOf, count_of, IsNetAt}
 
 -- what holds at each index of a list and of one more element
@@ -67,8 +67,8 @@ writer_push program xs zs y e h g s l = subst (λ v. IsWriter program s (produce
     go (x ∷ xs) P h g zero l = h zero (omega arith)
     go (x ∷ xs) P h g (suc s) l = go xs (λ n. P (suc n)) (λ n k. h (suc n) (omega arith)) g s (omega arith)
 
-pub first_net : {B : Type 0} (Stands : B → Job → List Tick → Type 0) (program : Program) (input : Input) → IsConnected program → IsNetworkOf program input → IsWellFormed program → FitsInput program (scalars_of input) (memories_of input) → (bodies : List B) (ports : List Ports) (writers offered taken_list counts : List ℕ) (pauses : List (Option Pause)) → length bodies ≡ length program.instances.items → length ports ≡ length program.instances.items → length counts ≡ length program.instances.items → length pauses ≡ length program.instances.items → length writers ≡ length program.streams.items → length offered ≡ length program.streams.items → length taken_list ≡ length program.streams.items → ((i : ℕ) (b : B) → slice_get bodies i ≡ Some b → Stands b (instance_job program input i) []) → ((i : ℕ) → i < length program.instances.items → ends_in ports i ≡ ends_at program i) → ((i p : ℕ) → carried_of ports i p ≡ []) → ((s : ℕ) → s < length program.streams.items → IsWriter program s (producer_of program s) (slice_index writers s)) → ((s : ℕ) → slice_index taken_list s ≡ 0) → zeros ≡ count_of counts → IsNetAt Stands program input bodies ports writers offered taken_list counts pauses
-first_net Stands program input connected network well fits bodies ports writers offered taken_list counts pauses lb lp lc lu lw lo lt first ends none wr tz z = record {
+pub first_net : {B : Type 0} (Stands : B → Job → List Tick → Type 0) (program : Program) (input : Input) → IsConnected program → IsNetworkOf program input → IsWellFormed program → FitsInput program (scalars_of input) (memories_of input) → (bodies : List B) (ports : List Ports) (writers offered taken_list : List ℕ) (fed : List Bool) (counts : List ℕ) (pauses : List (Option Pause)) → length bodies ≡ length program.instances.items → length ports ≡ length program.instances.items → length counts ≡ length program.instances.items → length pauses ≡ length program.instances.items → length writers ≡ length program.streams.items → length offered ≡ length program.streams.items → length taken_list ≡ length program.streams.items → ((i : ℕ) (b : B) → slice_get bodies i ≡ Some b → Stands b (instance_job program input i) []) → ((i : ℕ) → i < length program.instances.items → ends_in ports i ≡ ends_at program i) → ((i p : ℕ) → carried_of ports i p ≡ []) → ((s : ℕ) → s < length program.streams.items → IsWriter program s (producer_of program s) (slice_index writers s)) → ((s : ℕ) → slice_index taken_list s ≡ 0) → ((s : ℕ) → slice_index offered s ≡ 0) → ((i p : ℕ) → waiting_of ports i p ≡ []) → length fed ≡ length program.instances.items → ((i : ℕ) (b : Bool) → slice_get fed i ≡ Some b → TellsFedBySelf program i b) → ((i : ℕ) (x : Pause) → slice_get pauses i ≡ Some (Some x) → ⊥) → zeros ≡ count_of counts → IsNetAt Stands program input bodies ports writers offered taken_list fed counts pauses
+first_net Stands program input connected network well fits bodies ports writers offered taken_list fed counts pauses lb lp lc lu lw lo lt first ends none wr tz oz wz lf ft unpaused z = record {
   connected = connected;
   network = network;
   well_formed = well;
@@ -87,4 +87,26 @@ first_net Stands program input connected network well fits bodies ports writers 
   carries = λ i p l d. none i p ∙ ap (λ m. written (network_on program input) m (stream_at program i p)) z;
   took = λ s l. tz s ∙ ap (λ m. length (taken (network_on program input) m s)) z;
   writer_is = wr;
+  queued = record {
+    waits = λ i p l d. wz i p ∙ sym (ap (λ n. drop n (take (slice_index offered (stream_at program i p)) (written (network_on program input) (count_of counts) (stream_at program i p)))) (tz (stream_at program i p)) ∙ ap (λ n. take n (written (network_on program input) (count_of counts) (stream_at program i p))) (oz (stream_at program i p)));
+    offered_within = λ s l. let e = oz s in omega arith;
+    taken_within = λ s l. let e = tz s in omega arith;
+  };
+  fed_len = lf;
+  fed = ft;
+  paused = λ i x e. absurd (unpaused i x e);
 }
+
+pub not_some : (n i : ℕ) (x : Pause) → slice_get (no_pauses n) i ≡ Some (Some x) → ⊥
+not_some zero i x e = cc
+not_some (suc n) zero x e = cc
+not_some (suc n) (suc i) x e = not_some n i x e
+
+pub fed_push : (program : Program) (xs zs : List Bool) (y : Bool) → zs ≡ xs ++ y ∷ [] → ((i : ℕ) (b : Bool) → i < length xs → slice_get xs i ≡ Some b → TellsFedBySelf program i b) → TellsFedBySelf program (length xs) y → (i : ℕ) (b : Bool) → i < length zs → slice_get zs i ≡ Some b → TellsFedBySelf program i b
+fed_push program xs zs y e h g i b l at = go xs (TellsFedBySelf program) h g i b (subst (λ v. slice_get v i ≡ Some b) e at)
+  where
+    go : (xs : List Bool) (P : ℕ → Bool → Type 0) → ((i : ℕ) (b : Bool) → i < length xs → slice_get xs i ≡ Some b → P i b) → P (length xs) y → (i : ℕ) (b : Bool) → slice_get (xs ++ y ∷ []) i ≡ Some b → P i b
+    go [] P h g zero b at = let q : y ≡ b = cc in subst (P 0) q g
+    go [] P h g (suc i) b at = cc
+    go (x ∷ xs) P h g zero b at = h zero b (omega arith) at
+    go (x ∷ xs) P h g (suc i) b at = go xs (λ n. P (suc n)) (λ n c k. h (suc n) c (omega arith)) g i b at

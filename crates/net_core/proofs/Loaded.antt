@@ -1,15 +1,35 @@
 -- Filled ports.
-use Rattle.std.proofs.Common.{◌≡◌, ℕ, zero, suc, ◌+◌, ◌-◌, ◌<◌, ◌≤◌, List, [], ◌∷◌, ◌++◌, length, drop, Some, refl, sym, ap, ◌∙◌, subst, ⊎_elim, arith}
-use Rattle.std.specs.Prelude.{slice_get, slice_index}
-use Rattle.std.proofs.lemmas.Bool.{cases_lt}
+use Rattle.std.proofs.Common.{◌≡◌, ℕ, zero, suc, ◌+◌, ◌-◌, ◌<◌, ◌≤◌, List, [], ◌∷◌, ◌++◌, length, drop, Bool, true, Some, refl, sym, ap, ◌∙◌, subst, ⊎_elim, arith}
+use Rattle.std.specs.Prelude.{slice_get, slice_index, slice_set}
+use Rattle.std.proofs.lemmas.Bool.{cases_lt, cases_eq}
 use Rattle.tapa_syntax.specs.declared.program.Program.{Program}
 use Rattle.net_core.specs.declared.ports.Ports.{Ports}
 use Rattle.tapa_base.specs.declared.token.Token.{Token}
 use Rattle.kahn_model.specs.Fits.{stream_kind}
 use Rattle.net_core.specs.Kinds.{kind_in}
-use Rattle.net_core.specs.Ports.{carried, kind_at, ends_by, carried_by, IsReloaded, ends_in, carried_of, waiting_of, room_of}
-use Rattle.net_core.specs.Bindings.{IsConnected, IsWriter, arity, ends_at, stream_at, Reads, Writes, producer_of, consumer_of, depth_of}
-use Rattle.net_core.specs.Load.{IsIn, AreBelow, HasPorts, AreKept, AreLoaded, IsLoaded, AreWoken, list_at, queue_at}
+use Rattle.net_core.specs.Ports.{carried, kind_at, port_count, ends_by, carried_by, IsReloaded, ends_in, carried_of, waiting_of, room_of}
+use Rattle.net_core.specs.Bindings.{IsConnected, IsWriter, arity, ends_at, arity_in, stream_at, stream_in, Reads, Writes, producer_of, consumer_of, depth_of}
+use Rattle.net_core.proofs.Moves.{has_item, get_set_other, port_count_is}
+use Rattle.net_core.specs.Load.{IsIn, AreBelow, AreListed, AreKept, AreLoaded, IsLoaded, AreWoken, list_at, queue_at}
+
+pub in_streams : (program : Program) → IsConnected program → (i p : ℕ) → i < length program.instances.items → p < arity program i → stream_at program i p < length program.streams.items
+in_streams program connected i p inside l =
+    let x = has_item program.instances.items i inside in
+    let b = connected.built i x.0 x.1 in
+    let l' : p < length x.0.streams.items = subst (λ o. p < arity_in o) x.1 l in
+    subst (λ o. stream_in o p < length program.streams.items) (sym x.1) (b.streams p l')
+
+pub producer_in : (program : Program) → IsConnected program → (s : ℕ) → s < length program.streams.items → producer_of program s < length program.instances.items
+producer_in program connected s l =
+    let r = has_item program.streams.items s l in
+    let k = connected.linked s r.0 r.1 in
+    subst (λ n. n < length program.instances.items) (sym k.producer) k.producer_in
+
+pub consumer_in : (program : Program) → IsConnected program → (s : ℕ) → s < length program.streams.items → consumer_of program s < length program.instances.items
+consumer_in program connected s l =
+    let r = has_item program.streams.items s l in
+    let k = connected.linked s r.0 r.1 in
+    subst (λ n. n < length program.instances.items) (sym k.consumer) k.consumer_in
 
 -- what a reading port is loaded from
 pub list_read : (program : Program) (all : List Ports) (writers : List ℕ) (s s' j q : ℕ) (x : Ports) (list : List Token) → s ≡ s' → j ≡ producer_of program s → slice_index writers s ≡ q → slice_get all j ≡ Some x → list ≡ carried x q → list ≡ list_at program all writers s'
@@ -25,6 +45,17 @@ same_kind program connected all writers i p s j q x y ends inside d es ej lj qw 
     let w' : IsWriter program s j q = subst (λ z. IsWriter program s z q) (sym ej) (subst (IsWriter program s (producer_of program s)) qw w) in
     kind_of_end program connected j q all y w'.0.0 ey (ends j lj) ∙ ap (stream_kind program) (w'.1 ∙ es) ∙ sym (kind_of_end program connected i p all x d.0 ex (ends i inside))
 
+-- the port is there
+pub port_in : (program : Program) → IsConnected program → (all : List Ports) → ((i : ℕ) → i < length program.instances.items → ends_in all i ≡ ends_at program i) → (i p : ℕ) → i < length program.instances.items → p < arity program i → (x : Ports) → slice_get all i ≡ Some x → p < port_count x
+port_in program connected all ends i p inside l x ex =
+    let it = has_item program.instances.items i inside in
+    let b = connected.built i it.0 it.1 in
+    let l' : p < length it.0.streams.items = subst (λ o. p < arity_in o) it.1 l in
+    let e = ap length (ap ends_by (sym ex) ∙ ends i inside) in
+    let n = port_count_is x in
+    let m = b.as_many in
+    omega arith
+
 pub read_or_write : (program : Program) (i p : ℕ) → Reads program i p → Writes program i p → ⊥
 read_or_write program i p r w = let a = r.1 in let b = w.1 in cc
 
@@ -37,17 +68,6 @@ kept_more a b c o o' o'' i p h r e = record {
   ends = λ j. r.ends j ∙ h.ends j;
   carries = λ j q. r.carries j q ∙ h.carries j q;
   offered_len = e ∙ h.offered_len;
-}
-
-pub has_ports : (program : Program) (a b : List Ports) (w o o' t : List ℕ) → HasPorts program a w o t → AreKept a o b o' → HasPorts program b w o' t
-has_ports program a b w o o' t h k = record {
-  ports_len = k.len ∙ h.ports_len;
-  writers_len = h.writers_len;
-  offered_len = k.offered_len ∙ h.offered_len;
-  taken_len = h.taken_len;
-  ends = λ i l. k.ends i ∙ h.ends i l;
-  writer_is = h.writer_is;
-  enough = λ s l. let e = ap length (k.carries (producer_of program s) (slice_index w s)) in let x = h.enough s l in omega arith;
 }
 
 pub loaded_none : (program : Program) (i : ℕ) (a b : List Ports) (w t o : List ℕ) → AreLoaded program 0 i a w t b o
@@ -112,21 +132,27 @@ below_push m [] y h l (suc n) x e = cc
 below_push m (z ∷ xs) y h l zero x e = h zero x e
 below_push m (z ∷ xs) y h l (suc n) x e = below_push m xs y (λ n' x' e'. h (suc n') x' e') l n x e
 
-pub woken_more : (program : Program) (i p : ℕ) (xs ys : List ℕ) → AreWoken program i p xs → AreWoken program i p (xs ++ ys)
-woken_more program i p xs ys w = record { reader = λ d. in_more xs ys _ (w.reader d); writer = λ d. in_more xs ys _ (w.writer d) }
-
-pub woken_push : (program : Program) (i p : ℕ) (xs zs : List ℕ) (y : ℕ) → zs ≡ xs ++ y ∷ [] → ((q : ℕ) → q < p → AreWoken program i q xs) → (Writes program i p → y ≡ consumer_of program (stream_at program i p)) → (Reads program i p → y ≡ producer_of program (stream_at program i p)) → (q : ℕ) → q < p + 1 → AreWoken program i q zs
-woken_push program i p xs zs y ez h w r q l =
-    subst (AreWoken program i q) (sym ez)
-    (⊎_elim
-    (λ (e : q < p). woken_more program i q xs (y ∷ []) (h q e))
+-- one more port's other end is on the list
+pub woken_more : (program : Program) (i p : ℕ) (xs zs : List ℕ) (y : ℕ) → ((x : ℕ) → IsIn x xs → IsIn x zs) → IsIn y zs → ((q : ℕ) → q < p → AreWoken program i q xs) → (Writes program i p → y ≡ consumer_of program (stream_at program i p)) → (Reads program i p → y ≡ producer_of program (stream_at program i p)) → (q : ℕ) → q < p + 1 → AreWoken program i q zs
+woken_more program i p xs zs y kept there h w r q l =
+    ⊎_elim
+    (λ (e : q < p). record { reader = λ d. kept _ ((h q e).reader d); writer = λ d. kept _ ((h q e).writer d) })
     (λ (e : p ≤ q). let same : p ≡ q = omega arith in
-    subst (λ x. AreWoken program i x (xs ++ y ∷ [])) same
+    subst (λ x. AreWoken program i x zs) same
     (record {
-      reader = λ d. subst (λ z. IsIn z (xs ++ y ∷ [])) (w d) (in_last xs y);
-      writer = λ d. subst (λ z. IsIn z (xs ++ y ∷ [])) (r d) (in_last xs y);
+      reader = λ d. subst (λ z. IsIn z zs) (w d) there;
+      writer = λ d. subst (λ z. IsIn z zs) (r d) there;
     }))
-    (cases_lt q p))
+    (cases_lt q p)
+
+-- an instance is listed
+pub listed_push : (listed listed' : List Bool) (xs zs : List ℕ) (j : ℕ) → AreListed listed xs → listed' ≡ slice_set listed j true → zs ≡ xs ++ j ∷ [] → AreListed listed' zs
+listed_push listed listed' xs zs j h el ez x e =
+    subst (IsIn x) (sym ez)
+    (⊎_elim
+    (λ (s : j ≡ x). subst (λ z. IsIn z (xs ++ j ∷ [])) s (in_last xs j))
+    (λ (d : j ≡ x → ⊥). in_more xs (j ∷ []) x (h x (sym (get_set_other listed j x true d) ∙ ap (λ l. slice_get l x) (sym el) ∙ e)))
+    (cases_eq j x))
 
 pub all_push : (i : ℕ) (xs : List ℕ) → ((j : ℕ) → j < i → IsIn j xs) → (j : ℕ) → j < i + 1 → IsIn j (xs ++ i ∷ [])
 all_push i xs h j l =

@@ -3,7 +3,7 @@ use Rattle.std.proofs.Common.{◌≡◌, ℕ, zero, suc, ◌+◌, ◌<◌, List,
 use Rattle.std.specs.Prelude.{slice_get, slice_set, flat_map, true, false, ◌==◌, if◌then◌else◌}
 use Rattle.std.proofs.lemmas.Bool.{cases_eq}
 use Rattle.std.proofs.lemmas.Bool.Decides.{nat_tests}
-use Rattle.std.proofs.lemmas.List.{append-nil, length-set}
+use Rattle.std.proofs.lemmas.List.{append-nil, length-map, length-set}
 use Rattle.std.proofs.lemmas.Option.{slice_get_within}
 use Rattle.std.proofs.lemmas.Grind.{common_steps, flat_map-append}
 use Rattle.tapa_base.specs.declared.token.Token.{Token}
@@ -13,7 +13,7 @@ use Rattle.kahn_model.specs.declared.tick.Action.TheVariants.{Put}
 use Rattle.kahn_model.specs.Network.{put_on, take_from}
 use Rattle.net_core.specs.declared.port.Port.{Port}
 use Rattle.net_core.specs.declared.ports.Ports.{Ports}
-use Rattle.net_core.specs.Ports.{waiting_in, carried_in, room_in, waiting, carried, room_at, Moved, Adjusted, ends_by, carried_by, waiting_by, room_by, ends_in, carried_of, IsReloaded}
+use Rattle.net_core.specs.Ports.{waiting_in, carried_in, room_in, waiting, carried, room_at, port_count, ends_of, Moved, Adjusted, ends_by, carried_by, waiting_by, room_by, ends_in, carried_of, IsReloaded}
 
 pub drop_sum : {A : Type 0} (m n q : ℕ) (xs : List A) → q ≡ m + n → drop n (drop m xs) ≡ drop q xs
 drop_sum zero n q xs e = ap (λ k. drop k xs) (omega arith)
@@ -199,6 +199,7 @@ reloaded all new i p x y e en a = record {
       (cases_eq i j);
   waits = λ q d. ap (λ o. waiting_by o q) here ∙ a.waits q d ∙ ap (λ o. waiting_by o q) (sym e);
   rooms = λ q d. ap (λ o. room_by o q) here ∙ a.rooms q d ∙ ap (λ o. room_by o q) (sym e);
+  others_wait = λ j q d. ap (λ o. waiting_by o q) (other j (λ w. d (sym w)));
 }
   where
     here : slice_get new i ≡ Some y
@@ -206,3 +207,20 @@ reloaded all new i p x y e en a = record {
 
     other : (j : ℕ) → (i ≡ j → ⊥) → slice_get new j ≡ slice_get all j
     other j d = ap (λ l. slice_get l j) en ∙ get_set_other all i j y d
+
+pub reloaded_none : (a : List Ports) (i p : ℕ) → IsReloaded a i p a
+reloaded_none a i p = record { len = refl; ends = λ j. refl; carries = λ j q. refl; waits = λ q d. refl; rooms = λ q d. refl; others_wait = λ j q d. refl }
+
+pub reloaded_twice : (a b c : List Ports) (i p : ℕ) → IsReloaded a i p b → IsReloaded b i p c → IsReloaded a i p c
+reloaded_twice a b c i p r s = record {
+  len = s.len ∙ r.len;
+  ends = λ j. s.ends j ∙ r.ends j;
+  carries = λ j q. s.carries j q ∙ r.carries j q;
+  waits = λ q d. s.waits q d ∙ r.waits q d;
+  rooms = λ q d. s.rooms q d ∙ r.rooms q d;
+  others_wait = λ j q d. s.others_wait j q d ∙ r.others_wait j q d;
+}
+
+-- as many ports as streams
+pub port_count_is : (x : Ports) → port_count x ≡ length (ends_of x)
+port_count_is x = sym (length-map x.ports.items (λ (p : Port). p.end))

@@ -10,7 +10,7 @@ use Rattle.net_core.specs.declared.body.Pause.{Pause}
 use Rattle.net_core.specs.declared.body.Pause.TheVariants.{Fuel}
 use Rattle.net_core.specs.declared.input.Input.{Input}
 use Rattle.net_core.specs.declared.net_state.NetState.{NetState}
-use Rattle.net_core.specs.Bindings.{IsConnected, stream_at, Reads, Writes, producer_of, consumer_of}
+use Rattle.net_core.specs.Bindings.{IsConnected, IsFedBySelf, stream_at, Reads, Writes, producer_of, consumer_of}
 use Rattle.net_core.specs.Bounded.{network_on}
 use Rattle.net_core.specs.Waits.{HoldsPause}
 use Rattle.net_core.specs.Load.{IsIn, AreWoken}
@@ -42,11 +42,11 @@ module _ (old new : NetState) (i fuel : ℕ) (pause : Pause) (made : ℕ) (c : H
   pub counted : count new ≡ plus i made (count old)
   counted = fun_ext c.counts
 
-  own_pause : slice_get new.pauses i ≡ Some (Some pause)
-  own_pause = ap (λ l. slice_get l i) c.pauses ∙ get_set_same old.pauses i (Some pause) (omega arith)
+  own_pause : c.told ≡ pause → slice_get new.pauses i ≡ Some (Some pause)
+  own_pause e = ap (λ l. slice_get l i) c.pauses ∙ get_set_same old.pauses i (Some c.told) (omega arith) ∙ ap (λ x. Some (Some x)) e
 
   other_pause : (j : ℕ) → (j ≡ i → ⊥) → slice_get new.pauses j ≡ slice_get old.pauses j
-  other_pause j d = ap (λ l. slice_get l j) c.pauses ∙ get_set_other old.pauses i j (Some pause) (λ e. d (sym e))
+  other_pause j d = ap (λ l. slice_get l j) c.pauses ∙ get_set_other old.pauses i j (Some c.told) (λ e. d (sym e))
 
   none_made : made ≡ 0 → count new ≡ count old
   none_made e = fun_ext (λ j. c.counts j ∙ grind (arith, nat_tests))
@@ -77,8 +77,8 @@ module _ (old new : NetState) (i fuel : ℕ) (pause : Pause) (made : ℕ) (c : H
     now_holds : (j : ℕ) (x : Pause) → HoldsPause (network old) (count new) j (stream_at old.program j) x → HoldsPause (network new) (count new) j (stream_at new.program j) x
     now_holds j x h = subst (λ (g : Program × Input). HoldsPause (network_on g.0 g.1) (count new) j (stream_at g.0 j) x) (sym c.given) h
 
-    quiet_own : ((p : ℕ) → Reads P i p → written (network old) (count new) (stream_at P i p) ≡ written (network old) (count old) (stream_at P i p)) → ((p : ℕ) → Writes P i p → taken (network old) (count new) (stream_at P i p) ≡ taken (network old) (count old) (stream_at P i p)) → IsQuiet new i
-    quiet_own w t = record { pause = pause; last = own_pause; stopped = stopped; holds = now_holds i pause (c.own stopped w t) }
+    quiet_own : c.told ≡ pause → ((p : ℕ) → Reads P i p → written (network old) (count new) (stream_at P i p) ≡ written (network old) (count old) (stream_at P i p)) → ((p : ℕ) → Writes P i p → taken (network old) (count new) (stream_at P i p) ≡ taken (network old) (count old) (stream_at P i p)) → IsQuiet new i
+    quiet_own e w t = record { pause = pause; last = own_pause e; stopped = stopped; holds = now_holds i pause (c.own stopped w t) }
 
     quiet_other : (j : ℕ) → (j ≡ i → ⊥) → j < length P.instances.items → ((s : ℕ) → consumer_of P s ≡ j → written (network old) (count new) s ≡ written (network old) (count old) s) → ((s : ℕ) → producer_of P s ≡ j → taken (network old) (count new) s ≡ taken (network old) (count old) s) → IsQuiet old j → IsQuiet new j
     quiet_other j d l w t q = record { pause = q.pause; last = other_pause j d ∙ q.last; stopped = q.stopped; holds = now_holds j q.pause (c.others j q.pause d l w t q.stopped q.holds) }
@@ -86,7 +86,7 @@ module _ (old new : NetState) (i fuel : ℕ) (pause : Pause) (made : ℕ) (c : H
     pub quiet_none : made ≡ 0 → (later : List ℕ) (j : ℕ) → j < length P.instances.items → (j ≡ i) ⊎ (IsQuiet old j ⊎ IsIn j later) → IsQuiet new j ⊎ IsIn j later
     quiet_none e later j l h =
         ⊎_elim
-        (λ (q : j ≡ i). inl (subst (IsQuiet new) (sym q) (quiet_own (λ p d. ap (λ m. written (network old) m (stream_at P i p)) same) (λ p d. ap (λ m. taken (network old) m (stream_at P i p)) same))))
+        (λ (q : j ≡ i). inl (subst (IsQuiet new) (sym q) (quiet_own told_none (λ p d. ap (λ m. written (network old) m (stream_at P i p)) same) (λ p d. ap (λ m. taken (network old) m (stream_at P i p)) same))))
         (λ (d : j ≡ i → ⊥).
         ⊎_elim
         (λ (q : j ≡ i). absurd (d q))
@@ -101,6 +101,9 @@ module _ (old new : NetState) (i fuel : ℕ) (pause : Pause) (made : ℕ) (c : H
         same : count new ≡ count old
         same = none_made e
 
+        told_none : c.told ≡ pause
+        told_none = ⊎_elim (λ (q : c.told ≡ pause). q) (λ (q : IsFedBySelf P i × (0 < made) × (c.told ≡ Fuel)). let z = q.1 in absurd (omega arith)) c.is_told.cases
+
     pub quiet_woken : (later later' : List ℕ) → ((x : ℕ) → IsIn x later → IsIn x later') → ((p : ℕ) → AreWoken P i p later') → (j : ℕ) → j < length P.instances.items → (j ≡ i) ⊎ (IsQuiet old j ⊎ IsIn j later) → IsQuiet new j ⊎ IsIn j later'
     quiet_woken later later' kept woken j l h =
         ⊎_elim
@@ -111,6 +114,11 @@ module _ (old new : NetState) (i fuel : ℕ) (pause : Pause) (made : ℕ) (c : H
         let no' : IsIn i later' → ⊥ = subst (λ z. IsIn z later' → ⊥) q no in
         inl (subst (IsQuiet new) (sym q)
         (quiet_own
+        (⊎_elim (λ (q : c.told ≡ pause). q)
+        (λ (o : IsFedBySelf P i × (0 < made) × (c.told ≡ Fuel)).
+        let d = o.0.writes in
+        absurd (no' (subst (λ z. IsIn z later') (ap (consumer_of P) o.0.same ∙ connected.reader i o.0.reads_at o.0.reads) ((woken o.0.writes_at).reader d))))
+        c.is_told.cases)
         (λ p d. c.written_else (stream_at P i p) (λ r w e. no' (subst (λ z. IsIn z later') (ap (producer_of P) (sym e) ∙ connected.writer i r w) ((woken p).writer d))))
         (λ p d. c.taken_else (stream_at P i p) (λ r w e. no' (subst (λ z. IsIn z later') (ap (consumer_of P) (sym e) ∙ connected.reader i r w) ((woken p).reader d)))))))
         (λ (d : j ≡ i → ⊥).

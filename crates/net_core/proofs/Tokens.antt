@@ -49,3 +49,13 @@ front_token ports s q t e g =
 pub tokens_pushed : (b : Bool) (k : Kind) (ts us : List Token) (t : Token) → us ≡ (if b then ts ++ t ∷ [] else ts) → AreTokensOf k ts → IsTokenOf k t → AreTokensOf k us
 tokens_pushed true k ts us t e h g = tokens_push k ts us t e h g
 tokens_pushed false k ts us t e h g = subst (AreTokensOf k) (sym e) h
+
+pub tokens_append : (k : Kind) (ts us : List Token) → AreTokensOf k ts → AreTokensOf k us → AreTokensOf k (ts ++ us)
+tokens_append k [] us h g n v e = g n v e
+tokens_append k (t ∷ ts) us h g zero v e = h zero v e
+tokens_append k (t ∷ ts) us h g (suc n) v e = tokens_append k ts us (λ m. h (suc m)) g n v e
+
+-- the tokens of a list from an index on join others, where memory allows
+pub tokens_extended : (b : Bool) (k : Kind) (ts us list : List Token) (m : ℕ) → us ≡ (if b then ts ++ drop m list else ts) → AreTokensOf k ts → AreTokensOf k list → AreTokensOf k us
+tokens_extended true k ts us list m e h g = subst (AreTokensOf k) (sym e) (tokens_append k ts (drop m list) h (tokens_drop k m list g))
+tokens_extended false k ts us list m e h g = subst (AreTokensOf k) (sym e) h

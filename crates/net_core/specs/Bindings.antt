@@ -1,5 +1,5 @@
 -- How the instances of a program are bound to its streams.
-use Rattle.std.specs.Prelude.{◌≡◌, ℕ, ◌<◌, List, [], length, true, false, Option, Some, None, slice_get, slice_index}
+use Rattle.std.specs.Prelude.{◌≡◌, ℕ, ◌<◌, List, [], length, Bool, true, false, Option, Some, None, slice_get, slice_index}
 use Rattle.tapa_syntax.specs.declared.program.End.{End}
 use Rattle.tapa_syntax.specs.declared.program.Leaf.{Leaf}
 use Rattle.tapa_syntax.specs.declared.program.Instance.{Instance}
@@ -78,6 +78,19 @@ IsWriter program s i p = Writes program i p × (stream_at program i p ≡ s)
 
 abbrev pub IsReader : Program → ℕ → ℕ → ℕ → Type 0
 IsReader program s i p = Reads program i p × (stream_at program i p ≡ s)
+
+-- an instance reads a stream that it writes
+pub record IsFedBySelf (program : Program) (i : ℕ) : Type 0 where
+  pub writes_at : ℕ
+  pub reads_at : ℕ
+  pub writes : Writes program i writes_at
+  pub reads : Reads program i reads_at
+  pub same : stream_at program i writes_at ≡ stream_at program i reads_at
+
+-- the two answers to whether it does
+abbrev pub TellsFedBySelf : Program → ℕ → Bool → Type 0
+TellsFedBySelf program i true = IsFedBySelf program i
+TellsFedBySelf program i false = (p q : ℕ) → Writes program i p → Reads program i q → stream_at program i p ≡ stream_at program i q → ⊥
 
 -- positions and streams are bound one to one
 pub record IsConnected (program : Program) : Type 0 where

@@ -1,5 +1,5 @@
 -- The bounded network of a program on an input, and what it means that a net stands at a count of it.
-use Rattle.std.specs.Prelude.{◌≡◌, ℕ, ◌<◌, List, length, map, Option, Some, None, Vec, slice_get, slice_index}
+use Rattle.std.specs.Prelude.{◌≡◌, ℕ, ◌<◌, List, length, map, Bool, Option, Some, None, Vec, slice_get, slice_index}
 use Rattle.std.specs.declared.alloc.Global.{Global}
 use Rattle.kahn_model.specs.declared.tick.Tick.{Tick}
 use Rattle.tapa_syntax.specs.declared.program.Leaf.{Leaf}
@@ -17,8 +17,10 @@ use Rattle.net_core.specs.declared.ports.Ports.{Ports}
 use Rattle.net_core.specs.declared.body.Pause.{Pause}
 use Rattle.net_core.specs.Job.{Job}
 use Rattle.net_core.specs.Ports.{carried_of, ends_in}
+use Rattle.net_core.specs.Load.{AreQueued}
+use Rattle.net_core.specs.Waits.{HasHeld}
 use Rattle.net_core.specs.Placement.{IsPlaced, IsStanding}
-use Rattle.net_core.specs.Bindings.{leaf_at, ends_at, stream_at, Reads, Writes, producer_of, consumer_of, depth_of, IsConnected, IsWriter}
+use Rattle.net_core.specs.Bindings.{leaf_at, ends_at, stream_at, Reads, Writes, producer_of, consumer_of, depth_of, IsConnected, IsWriter, TellsFedBySelf}
 
 -- the values of the top task's scalars, and the first cells of its memories
 abbrev pub scalars_of : Input → List ℕ
@@ -63,7 +65,7 @@ IsBodyAt Stands program input counts i =
     IsStanding (Stands (instance_job program input i)) (network_on program input) (count_of counts) i (instance_job program input i).behavior (stream_at program i)
 
 -- a net stands at its count
-pub record IsNetAt {B : Type 0} (Stands : B → Job → List Tick → Type 0) (program : Program) (input : Input) (bodies : List B) (ports : List Ports) (writers offered taken_list counts : List ℕ) (pauses : List (Option Pause)) : Type 0 where
+pub record IsNetAt {B : Type 0} (Stands : B → Job → List Tick → Type 0) (program : Program) (input : Input) (bodies : List B) (ports : List Ports) (writers offered taken_list : List ℕ) (fed_by_self : List Bool) (counts : List ℕ) (pauses : List (Option Pause)) : Type 0 where
   pub connected : IsConnected program
   pub network : IsNetworkOf program input
   pub well_formed : IsWellFormed program
@@ -76,6 +78,11 @@ pub record IsNetAt {B : Type 0} (Stands : B → Job → List Tick → Type 0) (p
   pub writers_len : length writers ≡ length program.streams.items
   pub offered_len : length offered ≡ length program.streams.items
   pub taken_len : length taken_list ≡ length program.streams.items
+  pub queued : AreQueued program ports (written (network_on program input) (count_of counts)) offered taken_list
+  pub fed_len : length fed_by_self ≡ length program.instances.items
+  pub fed : (i : ℕ) (b : Bool) → slice_get fed_by_self i ≡ Some b → TellsFedBySelf program i b
+  -- what an instance answered last held once
+  pub paused : (i : ℕ) (x : Pause) → slice_get pauses i ≡ Some (Some x) → HasHeld (network_on program input) (count_of counts) i (stream_at program i) x
   -- no tick was made before the first resume
   pub unresumed : (i : ℕ) → slice_get pauses i ≡ Some None → count_of counts i ≡ 0
   pub standing : (i : ℕ) (b : B) → slice_get bodies i ≡ Some b → IsBodyAt (Stands b) program input counts i

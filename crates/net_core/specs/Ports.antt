@@ -94,3 +94,4 @@ pub record IsReloaded (before : List Ports) (i p : ℕ) (after : List Ports) : T
   pub carries : (j q : ℕ) → carried_of after j q ≡ carried_of before j q
   pub waits : (q : ℕ) → (q ≡ p → ⊥) → waiting_of after i q ≡ waiting_of before i q
   pub rooms : (q : ℕ) → (q ≡ p → ⊥) → room_of after i q ≡ room_of before i q
+  pub others_wait : (j q : ℕ) → (j ≡ i → ⊥) → waiting_of after j q ≡ waiting_of before j q

@@ -1,5 +1,5 @@
 -- What contracts say of a net, and what resuming one of its instances does.
-use Rattle.std.specs.Prelude.{◌≡◌, ℕ, ◌+◌, ◌<◌, ◌≤◌, ◌==◌, if◌then◌else◌, length, Some, None, slice_get, slice_set}
+use Rattle.std.specs.Prelude.{◌≡◌, ℕ, ◌+◌, ◌<◌, ◌≤◌, ◌⊎◌, ◌==◌, if◌then◌else◌, length, Some, None, slice_get, slice_set}
 use Rattle.tapa_syntax.specs.declared.program.Program.{Program}
 use Rattle.kahn_model.specs.Network.{Network, IsNetwork}
 use Rattle.kahn_model.specs.Counts.{written, taken, total, IsAllowed, IsReachable}
@@ -9,9 +9,9 @@ use Rattle.net_core.specs.declared.input.Input.{Input}
 use Rattle.net_core.specs.declared.net_state.NetState.{NetState}
 use Rattle.tapa_syntax.specs.WellFormed.{IsWellFormed}
 use Rattle.kahn_model.specs.Fits.{FitsInput}
-use Rattle.net_core.specs.Bindings.{IsConnected, stream_at, Reads, Writes, producer_of, consumer_of}
+use Rattle.net_core.specs.Bindings.{IsConnected, IsFedBySelf, stream_at, Reads, Writes, producer_of, consumer_of}
 use Rattle.net_core.specs.Bounded.{scalars_of, memories_of, network_on, count_of}
-use Rattle.net_core.specs.Waits.{HoldsPause}
+use Rattle.net_core.specs.Waits.{HoldsPause, HasHeld}
 
 -- the network of a net's program on its input
 abbrev pub network : NetState → Network
@@ -39,6 +39,7 @@ pub record IsValid (net : NetState) : Type 0 where
   pub reachable : IsReachable (network net) (count net)
   pub counts_len : length net.counts ≡ length net.program.instances.items
   pub unresumed : (i : ℕ) → slice_get net.pauses i ≡ Some None → count net i ≡ 0
+  pub paused : (i : ℕ) (x : Pause) → slice_get net.pauses i ≡ Some (Some x) → HasHeld (network net) (count net) i (stream_at net.program i) x
   pub pauses_len : length net.pauses ≡ length net.program.instances.items
 
 -- no instance was resumed
@@ -46,13 +47,21 @@ pub record IsNew (net : NetState) : Type 0 where
   pub none_made : (i : ℕ) → count net i ≡ 0
   pub none_resumed : (i : ℕ) → i < length net.program.instances.items → slice_get net.pauses i ≡ Some None
 
+-- what is kept of the answer of a call that made so many ticks: the answer, or that it may go on, where its ticks may
+-- have changed what it waits for
+pub record IsToldFor (program : Program) (i made : ℕ) (pause told : Pause) : Type 0 where
+  pub cases : (told ≡ pause) ⊎ (IsFedBySelf program i × (0 < made) × (told ≡ Fuel))
+  pub fed : IsFedBySelf program i → 0 < made → told ≡ Fuel
+
 -- what a call with this fuel did to a net
 pub record HasResumed (old new : NetState) (i fuel : ℕ) (pause : Pause) (made : ℕ) : Type 0 where
   pub given : given new ≡ given old
   pub counts : (j : ℕ) → count new j ≡ (if j == i then count old j + made else count old j)
   pub within : made ≤ fuel
   pub fuel_spent : pause ≡ Fuel → (made ≡ fuel) × IsAllowed (network old) (count new) i
-  pub pauses : new.pauses ≡ slice_set old.pauses i (Some pause)
+  pub told : Pause
+  pub is_told : IsToldFor old.program i made pause told
+  pub pauses : new.pauses ≡ slice_set old.pauses i (Some told)
   pub written_else : (s : ℕ) → ((p : ℕ) → Writes old.program i p → stream_at old.program i p ≡ s → ⊥) → written (network old) (count new) s ≡ written (network old) (count old) s
   pub taken_else : (s : ℕ) → ((p : ℕ) → Reads old.program i p → stream_at old.program i p ≡ s → ⊥) → taken (network old) (count new) s ≡ taken (network old) (count old) s
   pub own :

@@ -7,7 +7,7 @@ use Rattle.kahn_model.specs.declared.tick.TraceEnd.{TraceEnd}
 use Rattle.kahn_model.specs.declared.tick.TraceEnd.TheVariants.{Ended, Needs, Bad}
 use Rattle.kahn_model.specs.Behavior.{ticks, trace_end}
 use Rattle.kahn_model.specs.Network.{Network}
-use Rattle.kahn_model.specs.Counts.{written, taken, IsAllowed, HasEnded as Ends}
+use Rattle.kahn_model.specs.Counts.{written, taken, IsAllowed, IsReachable, HasEnded as Ends}
 use Rattle.kahn_model.specs.Outcome.{WaitsToRead, WaitsToWrite, HasBadToken}
 use Rattle.net_core.specs.declared.body.Pause.{Pause}
 use Rattle.net_core.specs.declared.body.Pause.TheVariants.{Ended as HasEnded, WantsRead, WantsWrite, BadToken, Fuel}
@@ -32,6 +32,22 @@ HoldsPause net k i f (WantsRead p) = StopsIn net k i (Needs (f p))
 HoldsPause net k i f (BadToken p) = StopsIn net k i (Bad (f p))
 HoldsPause net k i f (WantsWrite p) = IsFullFor net k i (f p)
 HoldsPause net k i f Fuel = IsAllowed net k i
+
+-- after these an instance makes no more ticks
+abbrev pub IsLast : Pause → Type 0
+IsLast HasEnded = Unit {0}
+IsLast (WantsRead p) = ⊥
+IsLast (BadToken p) = Unit {0}
+IsLast (WantsWrite p) = ⊥
+IsLast Fuel = ⊥
+
+-- a pause of instance i held at some reachable count that is at most k; an end and a bad token hold for good
+pub record HasHeld (net : Network) (k : ℕ → ℕ) (i : ℕ) (f : ℕ → ℕ) (x : Pause) : Type 0 where
+  pub count : ℕ → ℕ
+  pub reachable : IsReachable net count
+  pub below : (j : ℕ) → count j ≤ k j
+  pub held : HoldsPause net count i f x
+  pub for_good : IsLast x → HoldsPause net k i f x
 
 -- a pause tells what its instance waits for
 abbrev pub IsToldBy : Network → (ℕ → ℕ) → ℕ → (ℕ → ℕ) → Pause → Type 0

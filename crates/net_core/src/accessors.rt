@@ -1,6 +1,8 @@
-ghost use Rattle.std.specs.Prelude.{◌≡◌, ◌<◌, length, slice_get, Some};
+ghost use Rattle.std.specs.Prelude.{◌≡◌, ◌<◌, length, slice_get, Some, MatchOption};
 ghost use Rattle.kahn_model.specs.Counts.{written};
 ghost use Rattle.net_core.specs.Bounded.{IsBodyAt};
+ghost use Rattle.net_core.specs.Bindings.{stream_at};
+ghost use Rattle.net_core.specs.Waits.{HasHeld};
 ghost use Rattle.net_core.specs.State.{network, count, IsValid};
 
 use crate::bindings::producer;
@@ -25,10 +27,13 @@ impl<B: Body> Net<B> {
         self.ports[j].carried(self.writers[stream as usize])
     }
 
-    /// What the last resume of an instance answered, and `None` before its first.
+    /// What the last resume of an instance answered, and `None` before its first: an answer that held at some count on the
+    /// way here, and that holds now where it is an end or a bad token. An instance that reads what it writes, and made ticks
+    /// in that resume, is told as one that may go on.
     pub fn pause(&self, instance: u32) -> Option<Pause>
         requires { instance < length self.now.program.instances.items }
-        ensures { slice_get self.now.pauses instance ≡ Some result }
+        ensures last { slice_get self.now.pauses instance ≡ Some result }
+        ensures held { MatchOption result (count self.now instance ≡ 0) (HasHeld (network self.now) (count self.now) instance (stream_at self.now.program instance)) }
     {
         self.pauses[instance as usize]
     }

@@ -1,14 +1,14 @@
 // A new net.
-ghost use Rattle.std.specs.Prelude.{ℕ, ◌≡◌, ◌<◌, [], length, replicate, slice_index, slice_get, Some, None, IfOk};
+ghost use Rattle.std.specs.Prelude.{Bool, ℕ, ◌≡◌, ◌<◌, [], length, replicate, slice_index, slice_get, Some, None, IfOk};
 ghost use Rattle.std.specs.Arc.{arc_value};
 ghost use Rattle.tapa_syntax.specs.WellFormed.{IsWellFormed};
-ghost use Rattle.net_core.specs.Ports.{ends_of, ends_in, carried, carried_of};
-ghost use Rattle.net_core.specs.Bindings.{IsConnected, ends_at, producer_of, IsWriter};
+ghost use Rattle.net_core.specs.Ports.{ends_of, ends_in, carried, carried_of, waiting, waiting_of};
+ghost use Rattle.net_core.specs.Bindings.{IsConnected, ends_at, producer_of, IsWriter, TellsFedBySelf};
 ghost use Rattle.kahn_model.specs.Fits.{FitsInput};
 ghost use Rattle.net_core.specs.Bounded.{scalars_of, memories_of, instance_job};
 ghost use Rattle.net_core.specs.State.{IsNew};
 
-use crate::bindings::{arity, ends, producer, stream_at, writes_at};
+use crate::bindings::{arity, consumer, ends, producer, stream_at, writes_at};
 use crate::body::{Body, Pause};
 use crate::input::Input;
 use crate::net::Net;
@@ -23,6 +23,7 @@ use tapa_syntax::{End, Program};
 fn empty_ports(alloc: Global, ends: &[End]) -> Result<Ports, OutOfMemory>
     ensures ends { IfOk result (λ x. ends_of x ≡ ends.now) }
     ensures carried { IfOk result (λ x. (p : ℕ) → carried x p ≡ []) }
+    ensures waiting { IfOk result (λ x. (p : ℕ) → waiting x p ≡ []) }
 {
     let mut ports = Vec::new(alloc);
     for end in ends {
@@ -43,6 +44,7 @@ fn all_ports(alloc: Global, program: &Program) -> Result<Vec<Ports>, OutOfMemory
     ensures len { IfOk result (λ v. length v.items ≡ length program.now.instances.items) }
     ensures ends { IfOk result (λ v. (i : ℕ) → i < length program.now.instances.items → ends_in v.items i ≡ ends_at program.now i) }
     ensures carried { IfOk result (λ v. (i p : ℕ) → carried_of v.items i p ≡ []) }
+    ensures waiting { IfOk result (λ v. (i p : ℕ) → waiting_of v.items i p ≡ []) }
 {
     let mut all = Vec::new(alloc);
     for i in 0..program.instances.len() {
@@ -99,6 +101,35 @@ fn no_pauses(alloc: Global, n: usize) -> Result<Vec<Option<Pause>>, OutOfMemory>
     Ok(vec![in alloc; None; n]?)
 }
 
+// Whether an instance reads a stream that it writes.
+fn is_fed_by_self(program: &Program, i: usize) -> bool
+    requires connected { IsConnected program.now }
+    requires instance { i < length program.now.instances.items }
+    ensures { TellsFedBySelf program.now i result }
+{
+    for p in 0..arity(program, i) {
+        if writes_at(program, i, p) {
+            if consumer(program, stream_at(program, i, p)) == i {
+                return true;
+            }
+        }
+    }
+    false
+}
+
+// Which instances read a stream that they write.
+fn fed_by_self(alloc: Global, program: &Program) -> Result<Vec<bool>, OutOfMemory>
+    requires { IsConnected program.now }
+    ensures len { IfOk result (λ v. length v.items ≡ length program.now.instances.items) }
+    ensures each { IfOk result (λ v. (i : ℕ) (b : Bool) → i < length v.items → slice_get v.items i ≡ Some b → TellsFedBySelf program.now i b) }
+{
+    let mut all = Vec::new(alloc);
+    for i in 0..program.instances.len() {
+        all.push(is_fed_by_self(program, i))?;
+    }
+    Ok(all)
+}
+
 impl<B: Body + Drop> Net<B> {
     /// A net in which no instance has made a tick. Body i is to stand for the job of instance i before its first tick.
     pub fn new(
@@ -119,6 +150,7 @@ impl<B: Body + Drop> Net<B> {
         let writers = writers(alloc, &program)?;
         let offered = none_taken(alloc, program.streams.len())?;
         let taken = none_taken(alloc, program.streams.len())?;
+        let fed_by_self = fed_by_self(alloc, &program)?;
         let counts = none_made(alloc, program.instances.len())?;
         let pauses = no_pauses(alloc, program.instances.len())?;
         Ok(Net {
@@ -129,6 +161,7 @@ impl<B: Body + Drop> Net<B> {
             writers,
             offered,
             taken,
+            fed_by_self,
             counts,
             pauses,
         })

@@ -1,10 +1,10 @@
 // The ports of an instance, loaded from the streams before a call and read after it.
 
-ghost use Rattle.std.specs.Prelude.{ℕ, ◌≡◌, ◌<◌, ◌≤◌, ◌-◌, length, drop, slice_index, IfOk};
-ghost use Rattle.net_core.specs.Kinds.{AreTokensOf};
-ghost use Rattle.net_core.specs.Ports.{IsReloaded, ends_in, carried_of, waiting_of, room_of};
+ghost use Rattle.std.specs.Prelude.{ℕ, ◌≡◌, ◌<◌, ◌≤◌, ◌-◌, ◌++◌, length, drop, slice_get, slice_index, Some, IfOk, is_ok, if◌then◌else◌};
+ghost use Rattle.net_core.specs.declared.ports.Ports.{Ports};
+ghost use Rattle.net_core.specs.Ports.{IsReloaded, ends_in, carried_of, waiting_of, room_of, port_count, kind_at};
 ghost use Rattle.net_core.specs.Bindings.{IsConnected, arity, ends_at, stream_at, Reads, Writes, producer_of, consumer_of, depth_of};
-ghost use Rattle.net_core.specs.Load.{IsIn, AreBelow, AreKept, AreLoaded, IsLoaded, AreWoken, HasPorts, queue_at};
+ghost use Rattle.net_core.specs.Load.{IsIn, AreBelow, AreListed, AreKept, AreLoaded, IsLoaded, IsOffered, AreWoken, HasPorts, list_at};
 
 use crate::bindings::{arity, consumer, depth, producer, stream_at, writes_at};
 use crate::ports::Ports;
@@ -12,12 +12,38 @@ use std::alloc::Global;
 use tapa_base::{OutOfMemory, Token};
 use tapa_syntax::Program;
 
-// The tokens from an index on.
-fn copied(alloc: Global, list: &[Token], from: usize) -> Result<Vec<Token>, OutOfMemory>
+// The tokens of a list from an index on join another list.
+fn extended(tokens: &mut Vec<Token>, list: &[Token], from: usize) -> Result<(), OutOfMemory>
     requires { from ≤ length list.now }
-    ensures { IfOk result (λ v. v.items ≡ drop from list.now) }
+    ensures items { tokens.new.items ≡ (if is_ok result then tokens.old.items ++ drop from list.now else tokens.old.items) }
 {
-    Ok(Vec::from_slice(alloc, &list[from..])?)
+    tokens.extend_from_slice(&list[from..])?;
+    Ok(())
+}
+
+// Offers the tokens that a stream got since its reader's port was last loaded.
+fn offer_more(
+    alloc: Global,
+    all: &mut Vec<Ports>,
+    i: usize,
+    p: usize,
+    j: usize,
+    q: usize,
+    from: usize,
+) -> Result<(), OutOfMemory>
+    requires reader { i < length all.old.items }
+    requires port { (x : Ports) → slice_get all.old.items i ≡ Some x → p < port_count x }
+    requires writer { j < length all.old.items }
+    requires other_port { (x : Ports) → slice_get all.old.items j ≡ Some x → q < port_count x }
+    requires from { from ≤ length (carried_of all.old.items j q) }
+    requires kind { (x y : Ports) → slice_get all.old.items i ≡ Some x → slice_get all.old.items j ≡ Some y → kind_at y q ≡ kind_at x p }
+    ensures reloaded { IsReloaded all.old.items i p all.new.items }
+    ensures waits { waiting_of all.new.items i p ≡ (if is_ok result then waiting_of all.old.items i p ++ drop from (carried_of all.old.items j q) else waiting_of all.old.items i p) }
+{
+    let (mut tokens, head) = all[i].lift(p, Vec::new(alloc));
+    let grown = extended(&mut tokens, all[j].carried(q), from);
+    all[i].offer(p, tokens, head);
+    grown
 }
 
 // Loads a port that reads.
@@ -37,18 +63,19 @@ fn load_reader(
     requires reads { Reads program.now i p }
     ensures reloaded { IsReloaded all.old.items i p all.new.items }
     ensures offered_len { length offered.new.items ≡ length offered.old.items }
-    ensures waits { IfOk result (λ _. waiting_of all.new.items i p ≡ queue_at program.now all.old.items writers.now.items taken.now.items (stream_at program.now i p)) }
-    ensures offered { IfOk result (λ _. slice_index offered.new.items (stream_at program.now i p) ≡ length (carried_of all.old.items (producer_of program.now (stream_at program.now i p)) (slice_index writers.now.items (stream_at program.now i p)))) }
+    ensures offers { IsOffered program.now i p all.old.items writers.now.items taken.now.items offered.old.items all.new.items offered.new.items }
+    ensures whole { IfOk result (λ _. slice_index offered.new.items (stream_at program.now i p) ≡ length (list_at program.now all.old.items writers.now.items (stream_at program.now i p))) }
     ensures others { (s : ℕ) → (s ≡ stream_at program.now i p → ⊥) → slice_index offered.new.items s ≡ slice_index offered.old.items s }
 {
     let s = stream_at(program, i, p);
     let j = producer(program, s);
     let q = writers[s];
-    let list = all[j].carried(q);
-    let total = list.len();
-    let tokens = copied(alloc, list, taken[s])?;
-    offered[s] = total;
-    all[i].offer(p, tokens);
+    let total = all[j].carried(q).len();
+    let from = offered[s];
+    if from < total {
+        offer_more(alloc, all, i, p, j, q, from)?;
+        offered[s] = total;
+    }
     Ok(())
 }
 
@@ -92,7 +119,7 @@ fn load_port(
     requires instance { i < length program.now.instances.items }
     requires position { p < arity program.now i }
     ensures reloaded { IsReloaded all.old.items i p all.new.items }
-    ensures offered_len { length offered.new.items ≡ length offered.old.items }
+    ensures ports { HasPorts program.now all.new.items writers.now.items offered.new.items taken.now.items }
     ensures loaded { IfOk result (λ _. IsLoaded program.now i p all.old.items writers.now.items taken.now.items offered.old.items all.new.items offered.new.items) }
 {
     if writes_at(program, i, p) {
@@ -116,6 +143,7 @@ pub fn load_ports(
     requires ports { HasPorts program.now all.old.items writers.now.items offered.old.items taken.now.items }
     requires instance { i < length program.now.instances.items }
     ensures kept { AreKept all.old.items offered.old.items all.new.items offered.new.items }
+    ensures ports { HasPorts program.now all.new.items writers.now.items offered.new.items taken.now.items }
     ensures loaded { IfOk result (λ _. AreLoaded program.now (arity program.now i) i all.old.items writers.now.items taken.now.items all.new.items offered.new.items) }
 {
     for p in 0..arity(program, i) {
@@ -193,18 +221,43 @@ fn other_end(program: &Program, i: usize, p: usize) -> usize
     }
 }
 
-// Puts the other ends of an instance's streams on a list.
-pub fn wake(program: &Program, later: &mut Vec<usize>, i: usize) -> Result<(), OutOfMemory>
+// Puts an instance on a list, where it is not there.
+fn enlist(later: &mut Vec<usize>, listed: &mut Vec<bool>, j: usize) -> Result<(), OutOfMemory>
+    requires inside { j < length listed.old.items }
+    requires listed { AreListed listed.old.items later.old.items }
+    ensures listed { AreListed listed.new.items later.new.items }
+    ensures listed_len { length listed.new.items ≡ length listed.old.items }
+    ensures kept { (x : ℕ) → IsIn x later.old.items → IsIn x later.new.items }
+    ensures below { (m : ℕ) → AreBelow m later.old.items → j < m → AreBelow m later.new.items }
+    ensures there { IfOk result (λ _. IsIn j later.new.items) }
+{
+    if !listed[j] {
+        later.push(j)?;
+        listed[j] = true;
+    }
+    Ok(())
+}
+
+// Puts the other ends of an instance's streams on a list, each once.
+pub fn wake(
+    program: &Program,
+    later: &mut Vec<usize>,
+    listed: &mut Vec<bool>,
+    i: usize,
+) -> Result<(), OutOfMemory>
     requires connected { IsConnected program.now }
     requires instance { i < length program.now.instances.items }
     requires below { AreBelow (length program.now.instances.items) later.old.items }
+    requires listed_len { length listed.old.items ≡ length program.now.instances.items }
+    requires listed { AreListed listed.old.items later.old.items }
     ensures below { AreBelow (length program.now.instances.items) later.new.items }
+    ensures listed_len { length listed.new.items ≡ length listed.old.items }
+    ensures listed { AreListed listed.new.items later.new.items }
     ensures kept { (x : ℕ) → IsIn x later.old.items → IsIn x later.new.items }
     ensures woken { IfOk result (λ _. (p : ℕ) → AreWoken program.now i p later.new.items) }
 {
     for p in 0..arity(program, i) {
-        let other = other_end(program, i, p);
-        later.push(other)?;
+        enlist(later, listed, other_end(program, i, p))?;
     }
     Ok(())
 }

@@ -18,6 +18,8 @@ pub struct Net<B: Body> {
     pub(crate) offered: Vec<usize>,
     /// For each stream how many tokens were taken.
     pub(crate) taken: Vec<usize>,
+    /// For each instance whether it reads a stream that it writes.
+    pub(crate) fed_by_self: Vec<bool>,
     pub(crate) counts: Vec<u64>,
     pub(crate) pauses: Vec<Option<Pause>>,
 }
@@ -36,5 +38,5 @@ impl<B: Body> Model for Net<B> {
 
     ghost view = { λ n. record { program = arc_value n.program; input = arc_value n.input; counts = n.counts.items; pauses = n.pauses.items } };
 
-    ghost invariant = { λ n. IsNetAt B.stands (arc_value n.program) (arc_value n.input) n.bodies.items n.ports.items n.writers.items n.offered.items n.taken.items n.counts.items n.pauses.items };
+    ghost invariant = { λ n. IsNetAt B.stands (arc_value n.program) (arc_value n.input) n.bodies.items n.ports.items n.writers.items n.offered.items n.taken.items n.fed_by_self.items n.counts.items n.pauses.items };
 }

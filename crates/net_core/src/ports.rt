@@ -1,4 +1,4 @@
-ghost use Rattle.std.specs.Prelude.{◌≡◌, ◌<◌, ◌↔◌, [], ◌∷◌, length, slice_get, MatchOption, IsTrue, IfOk, MatchBool};
+ghost use Rattle.std.specs.Prelude.{◌≡◌, ◌<◌, ◌≤◌, ◌↔◌, [], ◌∷◌, length, drop, slice_get, MatchOption, IsTrue, IfOk, MatchBool};
 ghost use Rattle.kahn_model.specs.declared.tick.Tick.TheVariants.{Did, Take};
 ghost use Rattle.kahn_model.specs.declared.tick.Action.TheVariants.{Put};
 ghost use Rattle.kahn_model.specs.Fits.{IsTokenOf};
@@ -6,7 +6,20 @@ ghost use Rattle.net_core.specs.Kinds.{AreTokensOf};
 ghost use Rattle.net_core.specs.Ports.{waiting, carried, room_at, port_count, kind_at, Moved, Adjusted};
 
 use crate::port::Port;
+use std::mem;
 use tapa_base::{OutOfMemory, Token};
+
+// A list without its first tokens.
+fn without_front(tokens: Vec<Token>, count: usize) -> Vec<Token>
+    requires { count ≤ length tokens.items }
+    ensures { result.items ≡ drop count tokens.items }
+{
+    let mut rest = tokens;
+    let left = rest.len() - count;
+    rest.rotate_left(count);
+    rest.truncate(left);
+    rest
+}
 
 /// The ports of an instance, by the positions of its streams. Each datum in them is a value of the kind of its stream.
 #[derive(Drop)]
@@ -85,16 +98,39 @@ impl Ports {
         self.ports[s].carried.as_slice()
     }
 
-    /// Lets these tokens wait at a port.
-    pub(crate) fn offer(&mut self, s: usize, tokens: Vec<Token>)
+    /// Moves the list of a port's tokens out, with the place of the next of them, and leaves an empty list there. A front
+    /// part that was taken is let go once it is half of the list or more.
+    pub(crate) fn lift(&mut self, s: usize, empty: Vec<Token>) -> (Vec<Token>, usize)
         requires port { s < port_count self.old }
+        requires empty { empty.items ≡ [] }
+        ensures adjusted { Adjusted self.old s self.new }
+        ensures tokens { drop result.1 result.0.items ≡ waiting self.old s }
+        ensures within { result.1 ≤ length result.0.items }
+        ensures kind { AreTokensOf (kind_at self.old s) result.0.items }
+    {
+        let port = &mut self.ports[s];
+        let head = port.head;
+        port.head = 0;
+        let tokens = mem::replace(&mut port.tokens, empty);
+        if head < tokens.len() - head {
+            (tokens, head)
+        } else {
+            (without_front(tokens, head), 0)
+        }
+    }
+
+    /// Lets these tokens wait at a port, from a place of the list on.
+    pub(crate) fn offer(&mut self, s: usize, tokens: Vec<Token>, head: usize)
+        requires port { s < port_count self.old }
+        requires within { head ≤ length tokens.items }
         requires kind { AreTokensOf (kind_at self.old s) tokens.items }
         ensures adjusted { Adjusted self.old s self.new }
-        ensures waits { waiting self.new s ≡ tokens.items }
+        ensures waits { waiting self.new s ≡ drop head tokens.items }
     {
         let port = &mut self.ports[s];
         port.head = 0;
         port.tokens = tokens;
+        port.head = head;
     }
 
     /// Makes room for tokens at a port.

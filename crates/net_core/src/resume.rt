@@ -1,6 +1,7 @@
 // A call of one body.
-ghost use Rattle.std.specs.Prelude.{◌≡◌, ◌<◌, ◌+◌, ◌^◌, List, length, IfOk, OnErr};
+ghost use Rattle.std.specs.Prelude.{◌≡◌, ◌<◌, ◌+◌, ◌^◌, ◌&&◌, List, length, IfOk, OnErr, nat_lt, if◌then◌else◌};
 ghost use Rattle.kahn_model.specs.declared.tick.Tick.{Tick};
+ghost use Rattle.net_core.specs.declared.body.Pause.TheVariants.{Fuel};
 ghost use Rattle.net_core.specs.Job.{Job};
 ghost use Rattle.net_core.specs.Resume.{CanResume, Agrees, Resumed};
 ghost use Rattle.net_core.specs.Ports.{ends_of};
@@ -22,6 +23,17 @@ fn resume_body<B: Body>(body: &mut B, ports: &mut Ports, fuel: u64) -> (Pause, u
     let pause = body.resume(ports, fuel);
     let made = body.ticks() - before;
     (pause, made)
+}
+
+// What is kept of an answer. An instance that made ticks and reads what it writes may go on, whatever it answered.
+fn told(fed_by_self: bool, made: u64, pause: Pause) -> Pause
+    ensures { result ≡ (if fed_by_self && nat_lt 0 made then Fuel else pause) }
+{
+    if fed_by_self && made > 0 {
+        Pause::Fuel
+    } else {
+        pause
+    }
 }
 
 /// Resumes one instance with its ports, and gives its answer and the ticks that it made.
@@ -48,6 +60,6 @@ pub fn resume_instance<B: Body>(
     let (pause, made) = resume_body(&mut net.bodies[i], &mut net.ports[i], fuel);
     count_taken(&net.program, &net.ports, &net.offered, &mut net.taken, i);
     net.counts[i] += made;
-    net.pauses[i] = Some(pause);
+    net.pauses[i] = Some(told(net.fed_by_self[i], made, pause));
     Ok((pause, made))
 }

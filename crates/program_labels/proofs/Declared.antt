@@ -8,7 +8,7 @@ use Rattle.tapa_base.specs.declared.kind.Kind.{Kind}
 use Rattle.tapa_syntax.specs.declared.tree.Name.{Name}
 use Rattle.tapa_syntax.specs.declared.tree.Parameter.{Parameter}
 use Rattle.tapa_syntax.specs.declared.tree.Parameter.TheVariants as parameter
-use Rattle.tapa_syntax.specs.Characters.{Bytes}
+use Rattle.tapa_base.specs.Gaps.{Bytes}
 use Rattle.tapa_syntax.specs.Trees as tree
 use Rattle.tapa_syntax.specs.Trees.{StreamTree, BodyTree, TaskTree, ItemTree}
 use Rattle.check_scope.specs.declared.fault.CheckCode.TheVariants.{C2}

@@ -6,7 +6,8 @@ use Rattle.std.specs.Str.Parse.{AllDigits}
 use Rattle.std.proofs.lemmas.Fmt.{decimal_injective, decimal_is_IsNumeral}
 use Rattle.std.proofs.lemmas.List.{append-nil}
 use Rattle.std.proofs.lemmas.Str.Parse.{digit_from_value}
-use Rattle.tapa_syntax.specs.Characters.{Bytes, begins, is_letter, is_digit, is_word_byte}
+use Rattle.tapa_base.specs.Gaps.{Bytes, begins}
+use Rattle.tapa_syntax.specs.Characters.{is_letter, is_digit, is_word_byte}
 use Rattle.stream_check.proofs.WellLists.{both}
 use Rattle.stream_check.specs.Parts.{below, instance_name}
 use Rattle.program_labels.specs.Labels.{IsPlainName, IsLabel}

@@ -3,7 +3,7 @@ use Rattle.std.proofs.Common.{◌≡◌, ◌≤◌, List, [], ◌∷◌, length,
 use Rattle.std.specs.Prelude.{slice_get}
 use Rattle.std.specs.List.{AllByRecursion}
 use Rattle.tapa_syntax.specs.Grammar.{IsBody, IsItem, IsTreeOf}
-use Rattle.tapa_syntax.specs.Spans.{Each}
+use Rattle.tapa_base.specs.Spans.{Each}
 use Rattle.tapa_syntax.specs.Symbols.{Symbol}
 use Rattle.tapa_syntax.specs.Trees as tree
 use Rattle.tapa_syntax.specs.Trees.{BodyTree, InvocationTree, TaskTree, ItemTree}

@@ -10,7 +10,7 @@ use Rattle.tapa_syntax.specs.declared.tree.AttributeArgument.TheVariants as attr
 use Rattle.tapa_syntax.specs.declared.tree.Parameter.{Parameter}
 use Rattle.tapa_syntax.specs.declared.tree.Parameter.TheVariants as parameter
 use Rattle.tapa_syntax.specs.Grammar.{Part, May, MayBeLabelled, is_name, IsOne, AreWords, IsType, IsExpression, AreArguments, AreMoreArguments, argument_level, expression_level, sum_level, IsPlace, IsAction, IsCountForm, IsCount, IsDeclarator, IsDeclaration, IsAttributeArgument, AreAttributeArguments, IsAttribute, IsStart, IsHead, IsStatement, AreStatements, IsParameter, IsStream, IsArgument, IsMode, IsInvocation, IsBody, IsTask, IsItem}
-use Rattle.tapa_syntax.specs.Spans.{◌⨾◌, Nothing, Never, ◌∣◌, Is, Given, Maybe, When, Each, EachOfSome, Separated, SeparatedOrNone}
+use Rattle.tapa_base.specs.Spans.{◌⨾◌, Nothing, Never, ◌∣◌, Is, Given, Maybe, When, Each, EachOfSome, Separated, SeparatedOrNone}
 use Rattle.tapa_syntax.specs.Symbols.{Symbol}
 use Rattle.tapa_syntax.specs.Trees.{ExpressionTree, literal, boolean, variable, element, call, nullptr, construct, static_cast, cast, parenthesized, prefix, binary, conditional, Expressions, none, one, PlaceTree, variable_place, element_place, ActionTree, call_action, write, read, assign, postfix, prefix_step, CountForm, literal_count, name_count, parenthesized_count, CountTree, DeclaratorTree, plain, initialized, array, DeclarationTree, AttributeTree, StartTree, no_start, declare_start, act_start, HeadTree, StatementTree, attributed, empty, block, declare, act, if_only, if_else, while, for, while_not_eot, break, continue, Statements, no_statement, statement_then, StreamTree, ArgumentTree, InvocationTree, BodyTree, leaf, upper, TaskTree, ItemTree, constant, task}
 use Rattle.program_labels.specs.Labels.{IsPlainName}

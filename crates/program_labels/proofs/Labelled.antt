@@ -4,7 +4,7 @@ use Rattle.std.specs.Prelude.{slice_get}
 use Rattle.std.specs.List.{AllByRecursion}
 use Rattle.std.proofs.lemmas.List.{append-nil}
 use Rattle.tapa_base.specs.declared.text.Place.{Place}
-use Rattle.tapa_syntax.specs.Characters.{Bytes}
+use Rattle.tapa_base.specs.Gaps.{Bytes}
 use Rattle.tapa_syntax.specs.Flat.{FlatInstance}
 use Rattle.check_upper.specs.declared.task.Channel.{Channel}
 use Rattle.check_upper.specs.declared.task.Binding.{Binding}

@@ -6,7 +6,7 @@ use Rattle.tapa_syntax.specs.declared.program.Memory.{Memory}
 use Rattle.tapa_syntax.specs.declared.program.Scalar.{Scalar}
 use Rattle.tapa_syntax.specs.declared.tree.Parameter.{Parameter}
 use Rattle.tapa_syntax.specs.declared.tree.Parameter.TheVariants as parameter
-use Rattle.tapa_syntax.specs.Characters.{Bytes}
+use Rattle.tapa_base.specs.Gaps.{Bytes}
 use Rattle.tapa_syntax.specs.Flat.{FlatInstance, FlatLeaf}
 use Rattle.check_upper.specs.Tasks.{Body, leaf_body, upper_body, Task}
 use Rattle.stream_check.specs.Programs.{memories_of, scalars_of, leaf_in, is_among, bodies_of}

@@ -12,10 +12,10 @@ use Rattle.tapa_syntax.specs.declared.terminal.Terminal.TheVariants as terminal
 use Rattle.tapa_syntax.specs.declared.tree.Name.{Name}
 use Rattle.tapa_syntax.specs.declared.tree.Parameter.{Parameter}
 use Rattle.tapa_syntax.specs.declared.tree.Parameter.TheVariants as parameter
-use Rattle.tapa_syntax.specs.Characters.{Bytes}
+use Rattle.tapa_base.specs.Gaps.{Bytes}
 use Rattle.tapa_syntax.specs.Grammar.{Part, is_name, IsName, IsParameter, IsStream, IsBody, IsTask, IsItem, IsTreeOf}
 use Rattle.tapa_syntax.specs.Lexemes.{IsLexeme, IsSliceOf, HasLexemes}
-use Rattle.tapa_syntax.specs.Spans.{◌⨾◌, Each, Separated, SeparatedOrNone}
+use Rattle.tapa_base.specs.Spans.{◌⨾◌, Each, Separated, SeparatedOrNone}
 use Rattle.tapa_syntax.specs.Symbols.{Symbol, signs, look_up, sign_terminal, terminal_of, text_of, symbol_of, symbols_of}
 use Rattle.tapa_syntax.specs.Trees.{StreamTree, BodyTree, leaf, upper, TaskTree, ItemTree, constant, task}
 use Rattle.tapa_lex.proofs.Whole.{are_slices}

@@ -4,7 +4,8 @@ use Rattle.std.specs.List.{list_all, AllByRecursion}
 use Rattle.tapa_syntax.specs.declared.program.Memory.{Memory}
 use Rattle.tapa_syntax.specs.declared.program.Scalar.{Scalar}
 use Rattle.tapa_syntax.specs.declared.program.Stream.{Stream}
-use Rattle.tapa_syntax.specs.Characters.{Bytes, begins, is_letter, is_word_byte}
+use Rattle.tapa_base.specs.Gaps.{Bytes, begins}
+use Rattle.tapa_syntax.specs.Characters.{is_letter, is_word_byte}
 use Rattle.tapa_syntax.specs.Flat.{FlatInstance, FlatLeaf, FlatProgram}
 
 -- a name of a source (ISO C++ [lex.name]): a letter or `_`, and then letters, digits and `_`

@@ -4,7 +4,7 @@ use Rattle.std.specs.List.{AllByRecursion}
 use Rattle.tapa_syntax.specs.declared.tree.Name.{Name}
 use Rattle.tapa_syntax.specs.declared.tree.Parameter.{Parameter}
 use Rattle.tapa_syntax.specs.declared.tree.Parameter.TheVariants as parameter
-use Rattle.tapa_syntax.specs.Characters.{Bytes}
+use Rattle.tapa_base.specs.Gaps.{Bytes}
 use Rattle.tapa_syntax.specs.Trees.{BodyTree, leaf, upper, StreamTree, TaskTree, ItemTree, constant, task}
 use Rattle.program_labels.specs.Labels.{IsPlainName}
 

@@ -21,7 +21,9 @@ use Rattle.task_fsm.specs.declared.machine.Fsm.{Fsm}
 use Rattle.task_fsm.specs.Lowered.{IsLowered}
 use Rattle.coro_machine.specs.declared.coro.Coro.{Coro}
 use Rattle.coro_machine.specs.Coro.{job_with, FitsLeaf, IsCoroOf}
-use Rattle.run_program.specs.Started.{kinds_in, ScalarsFit, AreLowered, AreStarted}
+use Rattle.kahn_model.specs.Fits.{ScalarsFit}
+use Rattle.kahn_model.specs.Start.{kinds_in}
+use Rattle.run_program.specs.Started.{AreLowered, AreStarted}
 
 abbrev job_in_leaf : Program → List ℕ → List (List ℕ) → Instance → Option Leaf → Job
 job_in_leaf program scalars memories x o = record {

@@ -1,13 +1,10 @@
 -- The machines of a program's leaves, and its instances before their first ticks.
-use Rattle.std.specs.Prelude.{◌≡◌, ℕ, ◌<◌, List, [], map, Some, slice_get, slice_index}
+use Rattle.std.specs.Prelude.{◌≡◌, ℕ, ◌<◌, List, [], Some, slice_get}
 use Rattle.std.specs.Arc.{arc_value}
 use Rattle.std.specs.declared.alloc.Global.{Global}
 use Rattle.std.specs.declared.sync.Arc.{Arc}
-use Rattle.tapa_base.specs.declared.kind.Kind.{Kind}
-use Rattle.tapa_base.specs.Kinds.{values_of}
 use Rattle.tapa_syntax.specs.declared.program.Leaf.{Leaf}
 use Rattle.tapa_syntax.specs.declared.program.Program.{Program}
-use Rattle.tapa_syntax.specs.declared.program.Scalar.{Scalar}
 use Rattle.tapa_syntax.specs.WellFormed.{IsLeaf}
 use Rattle.task_fsm.specs.declared.machine.Fsm.{Fsm}
 use Rattle.task_fsm.specs.Lowered.{IsLowered}
@@ -15,14 +12,6 @@ use Rattle.net_core.specs.declared.input.Input.{Input}
 use Rattle.net_core.specs.Bounded.{instance_job}
 use Rattle.coro_machine.specs.declared.coro.Coro.{Coro}
 use Rattle.coro_machine.specs.Coro.{IsCoroOf}
-
--- the kinds of the scalars of a program
-abbrev pub kinds_in : Program → List Kind
-kinds_in program = map (λ (c : Scalar). c.kind) program.scalars.items
-
--- the values of the scalars have their kinds
-abbrev pub ScalarsFit : Program → List ℕ → Type 0
-ScalarsFit program scalars = (x : ℕ) (c : Scalar) → slice_get program.scalars.items x ≡ Some c → slice_index scalars x < values_of c.kind
 
 -- each of the first m is the machine of its leaf
 abbrev pub AreLowered : Program → ℕ → List (Arc Fsm Global) → Type 0

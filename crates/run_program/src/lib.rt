@@ -1,7 +1,6 @@
 //! The run of a flat program on an input: its instances as coroutines, its report, and what a stopped one waits for.
 #![tactic(auto)]
 
-mod bound;
 mod cells;
 pub mod laws;
 mod run;

@@ -6,9 +6,8 @@ ghost use Rattle.net_core.specs.Bounded.{instance_job, scalars_of, memories_of};
 ghost use Rattle.coro_machine.specs.Coro.{IsCoroOf};
 ghost use Rattle.run_program.specs.Started.{AreLowered, AreStarted};
 
-use crate::bound::bound_values;
 use coro_machine::Coro;
-use kahn_model::start::first_cells;
+use kahn_model::start::{bound_values, first_cells};
 use net_core::Input;
 use std::alloc::Global;
 use std::sync::Arc;

@@ -5,8 +5,8 @@ use crate::programs::{
     BAD_TOKEN, CROSSING_ENDS, CROSSING_STOPS, FEEDBACK, GIVEN_NUMBERS, LEVELS, LOOKS_FOR_EOT, MIX,
     NESTED_TRANSACTIONS, NO_TRANSACTION, PATH, PEEKS, RING, SELF_LOOP, STARVED, TRANSACTIONS,
 };
-use kahn_model::rounds::streams;
-use kahn_model::slow::{Variables, trace};
+use kahn_reference::rounds::streams;
+use kahn_reference::slow::{Variables, trace};
 use run_data::{Last, report_last, report_stream};
 use run_program::{RunEnd, run_program};
 use std::alloc::{AllocError, Global};

@@ -4,7 +4,8 @@ use Rattle.std.proofs.lemmas.List.{length-drop, take-append-drop, append-nil}
 use Rattle.tapa_base.specs.declared.text.Place.{Place}
 use Rattle.tapa_syntax.specs.declared.lexeme.LexKind.{LexKind}
 use Rattle.tapa_syntax.specs.declared.lexeme.Lexeme.{Lexeme}
-use Rattle.tapa_syntax.specs.Characters.{Bytes, opens_line, place_of}
+use Rattle.tapa_base.specs.Gaps.{Bytes}
+use Rattle.tapa_syntax.specs.Characters.{opens_line, place_of}
 use Rattle.tapa_syntax.specs.Lexemes.{Piece, Stands, StandInTurn, text_of, lexemes_of, HasLexemes, NothingStands}
 use Rattle.tapa_lex.specs.Reading.{Cut, cut}
 use Rattle.tapa_lex.specs.Refusals.{IsRefused, code_at}

@@ -1,6 +1,6 @@
 -- What a legal file's top task is made of: leaf instances and streams, where each upper-level instance is replaced by
 -- what its own task is made of (TAPA: a task hierarchy).
-use Rattle.std.specs.Prelude.{ℕ, zero, suc, ◌+◌, ◌%◌, List, [], ◌∷◌, ◌++◌, length, Option, Some, None, decimal, slice_index, slice_get, if◌then◌else◌}
+use Rattle.std.specs.Prelude.{false, ℕ, zero, suc, ◌+◌, ◌%◌, List, [], ◌∷◌, ◌++◌, length, Option, Some, None, decimal, slice_index, slice_get, if◌then◌else◌}
 use Rattle.tapa_base.specs.declared.kind.Kind.{Kind}
 use Rattle.tapa_base.specs.declared.text.Place.{Place}
 use Rattle.tapa_base.specs.Kinds.{converted, values_of}
@@ -59,13 +59,13 @@ bound_or_zero None = number 0
 bound_or_zero (Some b) = b
 
 abbrev pub with_stream : ℕ → FlatInstance → FlatInstance
-with_stream s y = record { label = y.label; body = y.body; scalars = y.scalars; streams = y.streams ++ s ∷ []; memories = y.memories }
+with_stream s y = record { label = y.label; body = y.body; detached = y.detached; scalars = y.scalars; streams = y.streams ++ s ∷ []; memories = y.memories }
 
 abbrev pub with_memory : ℕ → FlatInstance → FlatInstance
-with_memory m y = record { label = y.label; body = y.body; scalars = y.scalars; streams = y.streams; memories = y.memories ++ m ∷ [] }
+with_memory m y = record { label = y.label; body = y.body; detached = y.detached; scalars = y.scalars; streams = y.streams; memories = y.memories ++ m ∷ [] }
 
 abbrev pub with_scalar : FlatBound → FlatInstance → FlatInstance
-with_scalar b y = record { label = y.label; body = y.body; scalars = y.scalars ++ b ∷ []; streams = y.streams; memories = y.memories }
+with_scalar b y = record { label = y.label; body = y.body; detached = y.detached; scalars = y.scalars ++ b ∷ []; streams = y.streams; memories = y.memories }
 
 -- one argument more of an instance, which the task of instance x invokes; x's own streams are numbered from the first on
 abbrev pub bind : FlatInstance → ℕ → FlatInstance → Binding → FlatInstance
@@ -80,7 +80,7 @@ bind_all x first y [] = y
 bind_all x first y (l ∷ bindings) = bind_all x first (bind x first y l) bindings
 
 abbrev pub unbound : List ℕ → ℕ → FlatInstance
-unbound label task = record { label = label; body = task; scalars = []; streams = []; memories = [] }
+unbound label task = record { label = label; body = task; detached = false; scalars = []; streams = []; memories = [] }
 
 -- the instance of the invocation at position k of the task of instance x
 abbrev pub invoked : List Task → FlatInstance → ℕ → ℕ → Invocation → FlatInstance

@@ -63,7 +63,7 @@ top_memories n [] = []
 top_memories n (p ∷ rest) = top_memory_at n p ++ top_memories (n + length (top_memory_at n p)) rest
 
 abbrev pub top_instance : ℕ → List Parameter → FlatInstance
-top_instance top parameters = record { label = []; body = top; scalars = top_scalars 0 parameters; streams = []; memories = top_memories 0 parameters }
+top_instance top parameters = record { label = []; body = top; detached = false; scalars = top_scalars 0 parameters; streams = []; memories = top_memories 0 parameters }
 
 -- upper-level tasks nest at most 8 deep, the top being the first
 abbrev pub most_levels : ℕ
@@ -210,7 +210,7 @@ place_among p n (m ∷ rest) = if m == n then p else place_among (p + 1) n rest
 
 -- an instance with the number of its leaf among the bodies
 abbrev pub with_body : List ℕ → FlatInstance → FlatInstance
-with_body numbers x = record { label = x.label; body = place_among 0 x.body numbers; scalars = x.scalars; streams = x.streams; memories = x.memories }
+with_body numbers x = record { label = x.label; body = place_among 0 x.body numbers; detached = x.detached; scalars = x.scalars; streams = x.streams; memories = x.memories }
 
 -- ---- programs
 

@@ -102,6 +102,7 @@ pub(crate) fn instances_with_bodies(
         let Instance {
             label,
             body,
+            detached,
             scalars,
             streams,
             memories,
@@ -109,6 +110,7 @@ pub(crate) fn instances_with_bodies(
         made.push(Instance {
             label,
             body: number_of(place_among(body, numbers))?,
+            detached,
             scalars,
             streams,
             memories,

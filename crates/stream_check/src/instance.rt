@@ -136,6 +136,7 @@ pub(crate) fn invoked(
     let mut made = Instance {
         label: below(alloc, &outer.label, &name)?,
         body: number_of(invocation.task)?,
+        detached: false,
         scalars: Vec::new(alloc),
         streams: Vec::new(alloc),
         memories: Vec::new(alloc),

@@ -129,6 +129,7 @@ pub(crate) fn top_instance(
     Ok(Instance {
         label: Text::new(Vec::new(alloc)),
         body: number_of(number)?,
+        detached: false,
         scalars: top_scalars(alloc, parameters)?,
         streams: Vec::new(alloc),
         memories: top_memories(alloc, parameters)?,

@@ -3,7 +3,8 @@ use Rattle.std.proofs.Common.{⊎_elim, inl, inr, ◌⊎◌, ◌≡◌, ℕ, Boo
 use Rattle.std.specs.List.{list_all}
 use Rattle.std.proofs.lemmas.Bool.{and_parts, or_cases}
 use Rattle.std.proofs.lemmas.Bool.Decides.{nat_tests}
-use Rattle.tapa_syntax.specs.Characters.{is_blank, is_in_line, is_digit, is_letter, is_word_byte, is_among}
+use Rattle.tapa_base.specs.Gaps.{is_blank, is_in_line}
+use Rattle.tapa_syntax.specs.Characters.{is_digit, is_letter, is_word_byte, is_among}
 use Rattle.tapa_syntax.specs.Lexemes.{is_inner_blank}
 use Rattle.tapa_lex.specs.Reading.{is_single, is_pair, is_triple, singles, doubled, before_equals, shifts}
 

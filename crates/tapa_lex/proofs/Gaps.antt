@@ -6,8 +6,9 @@ use Rattle.std.proofs.lemmas.Bool.{or_cases, and_parts, false≢true}
 use Rattle.std.proofs.lemmas.List.{take_at, drop_at, get_or_at, take_more}
 use Rattle.std.specs.Str.{bytes_eq}
 use Rattle.std.proofs.lemmas.Slice.Eq.{bytes_eq-Decides}
-use Rattle.tapa_syntax.specs.Characters.{Bytes, is_in_line, is_word_byte, is_plain, begins, run, opens_line}
-use Rattle.tapa_syntax.specs.Lexemes.{EndsLine, IsLineComment, has_close, IsBlockComment, is_inner_blank, IsSkippedLine, IsWord, IsString}
+use Rattle.tapa_base.specs.Gaps.{Bytes, is_in_line, begins, EndsLine, IsLineComment, has_close, IsBlockComment}
+use Rattle.tapa_syntax.specs.Characters.{is_word_byte, is_plain, run, opens_line}
+use Rattle.tapa_syntax.specs.Lexemes.{is_inner_blank, IsSkippedLine, IsWord, IsString}
 use Rattle.tapa_lex.specs.Reading.{closing, first_word, is_known}
 use Rattle.tapa_lex.proofs.Runs.{split, run_passes, run_stops, run_some, run_is, begins_take, begins_taken, begins_append, run_split, take_both}
 use Rattle.tapa_lex.proofs.Bytes.{word_in_line, inner_in_line, ends_word}

@@ -4,7 +4,8 @@ use Rattle.std.proofs.lemmas.Bool.{and_parts, false≢true, eqb-false}
 use Rattle.tapa_base.specs.declared.kind.Kind.{Kind}
 use Rattle.tapa_syntax.specs.declared.lexeme.LexKind.{LexKind}
 use Rattle.tapa_syntax.specs.declared.lexeme.LexKind.TheVariants as kind
-use Rattle.tapa_syntax.specs.Characters.{Bytes, is_blank, is_in_line, is_digit, is_letter, is_word_byte, is_plain, run, opens_line}
+use Rattle.tapa_base.specs.Gaps.{Bytes, is_blank, is_in_line}
+use Rattle.tapa_syntax.specs.Characters.{is_digit, is_letter, is_word_byte, is_plain, run, opens_line}
 use Rattle.tapa_syntax.specs.Literals.{literal_of}
 use Rattle.tapa_syntax.specs.Lexemes.{Stands}
 use Rattle.tapa_lex.specs.Reading.{Cut, closing, first_word, is_known, cut_literal, cut_string, cut_line, cut_comment, cut_sign, cut_mark, cut_quoted, cut_word, cut}

@@ -3,7 +3,8 @@ use Rattle.std.proofs.Common.{◌≡◌, ℕ, ◌+◌, ◌<◌, Bool, true, fals
 use Rattle.std.specs.List.{list_all}
 use Rattle.std.proofs.lemmas.List.{length-append, take_more}
 use Rattle.std.proofs.lemmas.List.Folds.{list_all-append}
-use Rattle.tapa_syntax.specs.Characters.{Bytes, is_blank, last_line}
+use Rattle.tapa_base.specs.Gaps.{Bytes, is_blank}
+use Rattle.tapa_syntax.specs.Characters.{last_line}
 use Rattle.tapa_syntax.proofs.Places.{line_after_feed, line_after_byte, place_after_feed, place_after_byte}
 use Rattle.tapa_lex.specs.declared.cursor.Cursor.{Cursor}
 use Rattle.tapa_lex.specs.Standing.{IsBehind}

@@ -2,7 +2,8 @@
 use Rattle.std.proofs.Common.{◌≡◌, ℕ, zero, suc, ◌+◌, ◌<◌, ◌≤◌, Bool, true, false, cond, [], ◌∷◌, ◌++◌, length, take, drop, refl, ap, ◌∙◌, arith, add-one}
 use Rattle.std.specs.List.{list_all}
 use Rattle.std.proofs.lemmas.Bool.{and_parts}
-use Rattle.tapa_syntax.specs.Characters.{Bytes, begins, run}
+use Rattle.tapa_base.specs.Gaps.{Bytes, begins}
+use Rattle.tapa_syntax.specs.Characters.{run}
 
 -- a choice, whichever it is
 pub split : {X Y : Type 0} (t : Bool) (x y w : X) → cond t x y ≡ w → (t ≡ true → x ≡ w → Y) → (t ≡ false → y ≡ w → Y) → Y

@@ -5,7 +5,8 @@ use Rattle.std.proofs.lemmas.Slice.Eq.{bytes_eq-Decides}
 use Rattle.std.proofs.Common.{⊎_elim, not, eqb-true, ◌≡◌, ℕ, ◌<◌, ◌≤◌, Bool, true, false, cond, ◌&&◌, ◌||◌, List, [], ◌∷◌, ◌++◌, length, take, drop, get_or, refl, sym, ap, subst, ◌∙◌, arith, nat_eq}
 use Rattle.std.proofs.lemmas.Bool.{or_cases, and_parts, and_right, false≢true, cases_Bool}
 use Rattle.std.proofs.lemmas.List.{take-append-drop, length-take-le}
-use Rattle.tapa_syntax.specs.Characters.{Bytes, is_among}
+use Rattle.tapa_base.specs.Gaps.{Bytes}
+use Rattle.tapa_syntax.specs.Characters.{is_among}
 use Rattle.tapa_syntax.specs.Lexemes.{is_sign, is_comment_mark, signs, IsPunctuation}
 use Rattle.tapa_lex.specs.Reading.{sign_length, is_single, is_pair, is_triple, singles, doubled, before_equals, shifts}
 use Rattle.tapa_lex.proofs.Runs.{split}

@@ -6,7 +6,8 @@ use Rattle.std.proofs.Math.Nat.{mul-le-mul_left}
 use Rattle.tapa_base.specs.declared.kind.Kind.{Kind}
 use Rattle.tapa_base.specs.declared.kind.Kind.TheVariants.{Bool as BoolKind, I8, U8, I16, U16, I32, U32, I64, U64}
 use Rattle.tapa_base.specs.Kinds.{values_of}
-use Rattle.tapa_syntax.specs.Characters.{Bytes, run}
+use Rattle.tapa_base.specs.Gaps.{Bytes}
+use Rattle.tapa_syntax.specs.Characters.{run}
 use Rattle.tapa_syntax.specs.Literals.{worth, is_digit_of, value_behind, holds, first_that_holds, kinds_for, with_kind, with_suffix, Suffix, literal_of, base_of, behind_mark, suffix_of}
 
 -- no digit makes a value less

@@ -4,7 +4,8 @@ use Rattle.std.specs.Str.{bytes_eq}
 use Rattle.tapa_base.specs.declared.kind.Kind.{Kind}
 use Rattle.tapa_syntax.specs.declared.lexeme.LexKind.{LexKind}
 use Rattle.tapa_syntax.specs.declared.lexeme.LexKind.TheVariants as kind
-use Rattle.tapa_syntax.specs.Characters.{Bytes, is_blank, is_in_line, is_digit, is_letter, is_word_byte, is_plain, is_among, run}
+use Rattle.tapa_base.specs.Gaps.{Bytes, is_blank, is_in_line}
+use Rattle.tapa_syntax.specs.Characters.{is_digit, is_letter, is_word_byte, is_plain, is_among, run}
 use Rattle.tapa_syntax.specs.Literals.{is_digit_of, literal_of}
 use Rattle.tapa_syntax.specs.Lexemes.{is_inner_blank}
 use Rattle.tapa_lex.specs.declared.class.Class.{Class}

@@ -3,7 +3,8 @@ use Rattle.std.specs.Prelude.{◌≡◌, ◌<◌, ⊤, Bool, ◌&&◌, ◌⊎◌
 use Rattle.std.specs.Global.{Global}
 use Rattle.tapa_base.specs.declared.text.Place.{Place}
 use Rattle.tapa_syntax.specs.declared.lexeme.Lexeme.{Lexeme}
-use Rattle.tapa_syntax.specs.Characters.{Bytes, is_digit, opens_line, place_of}
+use Rattle.tapa_base.specs.Gaps.{Bytes}
+use Rattle.tapa_syntax.specs.Characters.{is_digit, opens_line, place_of}
 use Rattle.tapa_syntax.specs.Lexemes.{Piece, StandInTurn, text_of, NothingStands, HasLexemes}
 use Rattle.tapa_lex.specs.declared.fault.LexCode.{LexCode}
 use Rattle.tapa_lex.specs.declared.fault.LexCode.TheVariants.{L1, L2, L3, L4}

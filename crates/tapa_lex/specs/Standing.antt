@@ -1,6 +1,7 @@
 -- What the lexer knows of the text behind it.
 use Rattle.std.specs.Prelude.{◌≡◌, List, [], ◌∷◌, length, Option, Some, None}
-use Rattle.tapa_syntax.specs.Characters.{Bytes, opens_line, place_of}
+use Rattle.tapa_base.specs.Gaps.{Bytes}
+use Rattle.tapa_syntax.specs.Characters.{opens_line, place_of}
 use Rattle.tapa_lex.specs.declared.cursor.Cursor.{Cursor}
 use Rattle.tapa_syntax.specs.declared.lexeme.LexKind.{LexKind}
 use Rattle.tapa_syntax.specs.declared.lexeme.Lexeme.{Lexeme}

@@ -1,6 +1,7 @@
 //! Classes of bytes, and runs of them.
 
 ghost use Rattle.std.specs.Prelude.{◌≡◌, ◌≤◌, length, slice_index};
+ghost use Rattle.tapa_base.specs.Gaps as gaps;
 ghost use Rattle.tapa_syntax.specs.Characters as characters;
 ghost use Rattle.tapa_syntax.specs.Literals as literals;
 ghost use Rattle.tapa_lex.specs.Reading.{is_in};
@@ -35,7 +36,7 @@ impl Class {
 }
 
 pub fn is_blank(b: u8) -> bool
-    ensures { result ≡ characters.is_blank b }
+    ensures { result ≡ gaps.is_blank b }
 {
     b == b' ' || b == b'\t' || b == b'\r' || b == b'\n'
 }

@@ -1,7 +1,7 @@
 //! Where the lexer stands in a text.
 
 ghost use Rattle.std.specs.Prelude.{◌≡◌, ◌+◌, ◌<◌, ◌≤◌, ◌^◌, ◌++◌, ◌&&◌, [], ◌∷◌, length};
-ghost use Rattle.tapa_syntax.specs.Characters.{Bytes};
+ghost use Rattle.tapa_base.specs.Gaps.{Bytes};
 ghost use Rattle.tapa_lex.specs.Standing.{IsBehind};
 
 use crate::class::is_blank;

@@ -6,7 +6,7 @@ use Rattle.tapa_syntax.specs.declared.terminal.Terminal.{Terminal}
 use Rattle.tapa_syntax.specs.declared.terminal.Terminal.TheVariants as terminal
 use Rattle.tapa_syntax.specs.declared.tree.AttributeArgument.{AttributeArgument}
 use Rattle.tapa_syntax.specs.declared.tree.File.{File}
-use Rattle.tapa_syntax.specs.Spans.{◌∣◌, Each}
+use Rattle.tapa_base.specs.Spans.{◌∣◌, Each}
 use Rattle.tapa_syntax.specs.Trees.{AttributeTree, Statements, no_statement, statement_then, StreamTree, BodyTree, leaf, upper, TaskTree, ItemTree, constant, task, file_of}
 use Rattle.tapa_syntax.specs.Grammar.{Takes, TakesAt, AreStatements, IsAttribute, IsParameter, IsStream, IsInvocation, IsBody, IsItem, IsTreeOf, HaveOneTree, expression_level}
 use Rattle.tapa_syntax.specs.Limits.{most, if_there, attribute_nesting, body_nesting, body_operators, item_nesting, item_operators, most_levels, most_operators, IsWithinLimits}
@@ -17,7 +17,7 @@ use Rattle.tapa_parse_expression.specs.Readers.{next, first_place, same, sees}
 use Rattle.tapa_parse_expression.specs.Reading.{Readers, attribute, attributes, below_levels, below}
 use Rattle.tapa_parse_expression.specs.Readers.{is_left}
 use Rattle.tapa_parse.specs.Reading.{constant_word, body, task_behind, constant_behind, item, file}
-use Rattle.tapa_syntax.specs.Characters.{Bytes}
+use Rattle.tapa_base.specs.Gaps.{Bytes}
 use Rattle.tapa_parse_expression.proofs.Parts.{Symbols, done, ok_is, then_is, if_true, if_false, next_is, seen_is, dropped, expect_is, name_is}
 use Rattle.tapa_parse_expression.proofs.Lists.{IsPart, ReadsAll, repeat_complete}
 use Rattle.tapa_parse_expression.proofs.CompleteTypes.{type_complete, type_longer, takes_longer, sees_other}

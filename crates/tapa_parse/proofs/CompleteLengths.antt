@@ -4,7 +4,7 @@ use Rattle.tapa_syntax.specs.declared.terminal.Terminal.{Terminal}
 use Rattle.tapa_syntax.specs.declared.terminal.Terminal.TheVariants as terminal
 use Rattle.tapa_syntax.specs.declared.tree.AttributeArgument.{AttributeArgument}
 use Rattle.tapa_syntax.specs.declared.tree.AttributeArgument.TheVariants as argument_form
-use Rattle.tapa_syntax.specs.Spans.{◌⨾◌, Maybe, When, Each, EachOfSome, Separated, SeparatedOrNone}
+use Rattle.tapa_base.specs.Spans.{◌⨾◌, Maybe, When, Each, EachOfSome, Separated, SeparatedOrNone}
 use Rattle.tapa_syntax.specs.Trees.{ActionTree, call_action, write, read, assign, postfix, prefix_step, DeclarationTree, AttributeTree, StartTree, no_start, declare_start, act_start, HeadTree, StatementTree, attributed, empty, block, declare, act, if_only, if_else, while, for, while_not_eot, break, continue, Statements, no_statement, statement_then}
 use Rattle.tapa_syntax.specs.Grammar.{Part, Takes, IsExpression, sum_level, expression_level, argument_level, IsPlace, IsAction, IsDeclarator, IsDeclaration, IsAttributeArgument, AreAttributeArguments, IsAttribute, IsStart, IsHead, IsStatement, AreStatements}
 use Rattle.tapa_parse_expression.proofs.Parts.{Symbols}

@@ -8,7 +8,7 @@ use Rattle.tapa_syntax.specs.declared.tree.Name.{Name}
 use Rattle.tapa_syntax.specs.declared.tree.StepOperator.{StepOperator}
 use Rattle.tapa_syntax.specs.declared.tree.AttributeArgument.{AttributeArgument}
 use Rattle.tapa_syntax.specs.declared.tree.AttributeArgument.TheVariants as argument_form
-use Rattle.tapa_syntax.specs.Spans.{◌⨾◌, Maybe, When, Each, EachOfSome, SeparatedOrNone}
+use Rattle.tapa_base.specs.Spans.{◌⨾◌, Maybe, When, Each, EachOfSome, SeparatedOrNone}
 use Rattle.tapa_syntax.specs.Trees.{ExpressionTree, ActionTree, call_action, write, read, assign, postfix, prefix_step, PlaceTree, variable_place, element_place, DeclarationTree, AttributeTree, StartTree, no_start, declare_start, act_start, HeadTree, StatementTree, attributed, empty, block, declare, act, if_only, if_else, while, for, while_not_eot, break, continue, Statements, no_statement, statement_then, statements}
 use Rattle.tapa_syntax.specs.Grammar.{Takes, TakesAt, IsName, IsExpression, is_name, step_operator_of, expression_level, IsPlace, IsAction, IsDeclaration, IsAttributeArgument, AreAttributeArguments, IsAttribute, IsBare, IsStart, IsHead, IsStatement, AreStatements}
 use Rattle.tapa_syntax.specs.Limits.{most, if_there, nesting, operators, action_nesting, action_operators, attribute_nesting, start_nesting, start_operators, head_nesting, head_operators, statement_nesting, statement_operators, statements_nesting, statements_operators}

@@ -7,7 +7,7 @@ use Rattle.tapa_syntax.specs.declared.terminal.Terminal.TheVariants as terminal
 use Rattle.tapa_syntax.specs.declared.tree.Name.{Name}
 use Rattle.tapa_syntax.specs.declared.tree.Parameter.{Parameter}
 use Rattle.tapa_syntax.specs.declared.tree.Parameter.TheVariants as parameter_form
-use Rattle.tapa_syntax.specs.Spans.{◌⨾◌, Maybe, When, EachOfSome, SeparatedOrNone}
+use Rattle.tapa_base.specs.Spans.{◌⨾◌, Maybe, When, EachOfSome, SeparatedOrNone}
 use Rattle.tapa_syntax.specs.Trees.{ExpressionTree, CountTree, StreamTree, ArgumentTree, InvocationTree}
 use Rattle.tapa_syntax.specs.Grammar.{Takes, IsName, IsType, expression_level, IsCount, IsParameter, MayBeLabelled, IsStream, IsArgument, IsMode, IsInvocation}
 use Rattle.tapa_syntax.specs.Limits.{most, if_there, nesting, operators, form_nesting, form_operators, stream_nesting, stream_operators, invocation_nesting, invocation_operators}

@@ -7,7 +7,7 @@ use Rattle.tapa_syntax.specs.declared.tree.StepOperator.{StepOperator}
 use Rattle.tapa_syntax.specs.declared.tree.AssignmentOperator.{AssignmentOperator}
 use Rattle.tapa_syntax.specs.declared.tree.AttributeArgument.{AttributeArgument}
 use Rattle.tapa_syntax.specs.declared.tree.AttributeArgument.TheVariants as argument_form
-use Rattle.tapa_syntax.specs.Spans.{◌⨾◌, SeparatedOrNone}
+use Rattle.tapa_base.specs.Spans.{◌⨾◌, SeparatedOrNone}
 use Rattle.tapa_syntax.specs.Trees.{ExpressionTree, PlaceTree, variable_place, element_place, ActionTree, call_action, write, read, assign, postfix, prefix_step, DeclaratorTree, plain, initialized, array}
 use Rattle.tapa_syntax.specs.Grammar.{Part, Takes, IsName, IsExpression, is_name, step_operator_of, assignment_operator_of, sum_level, expression_level, argument_level, IsPlace, IsAction, IsCount, IsDeclarator, IsDeclaration, IsAttributeArgument, AreAttributeArguments, IsAttribute}
 use Rattle.tapa_syntax.specs.Limits.{most, nesting, operators, place_nesting, place_operators, action_nesting, action_operators, form_nesting, form_operators, declarator_nesting, declarator_operators, declaration_nesting, declaration_operators, attribute_nesting, if_there}

@@ -2,7 +2,7 @@
 use Rattle.std.proofs.Common.{◌≡◌, ◌⊎◌, ℕ, zero, suc, Bool, true, false, cond, drop, Option, Some, None, refl}
 use Rattle.tapa_syntax.specs.declared.terminal.Terminal.{Terminal}
 use Rattle.tapa_syntax.specs.declared.terminal.Terminal.TheVariants as terminal
-use Rattle.tapa_syntax.specs.Spans.{When, ◌⨾◌}
+use Rattle.tapa_base.specs.Spans.{When, ◌⨾◌}
 use Rattle.tapa_syntax.specs.Trees.{ExpressionTree, StatementTree}
 use Rattle.tapa_syntax.specs.Grammar.{Part, Takes, IsExpression, IsPlace, IsAction, IsDeclaration, IsStatement, IsClosed}
 use Rattle.tapa_syntax.specs.Limits.{nesting, operators, place_nesting, place_operators, action_nesting, action_operators, declaration_nesting, declaration_operators, statement_nesting, statement_operators}

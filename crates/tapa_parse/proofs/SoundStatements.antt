@@ -2,7 +2,7 @@
 use Rattle.std.proofs.Common.{◌≡◌, inl, inr, ℕ, zero, suc, true, false, not, List, [], ◌∷◌, drop, Option, Some, None, refl, sym, ◌∙◌, arith}
 use Rattle.tapa_syntax.specs.declared.terminal.Terminal.{Terminal}
 use Rattle.tapa_syntax.specs.declared.terminal.Terminal.TheVariants as terminal
-use Rattle.tapa_syntax.specs.Spans.{◌⨾◌, Maybe}
+use Rattle.tapa_base.specs.Spans.{◌⨾◌, Maybe}
 use Rattle.tapa_syntax.specs.Trees.{ExpressionTree, ActionTree, StartTree, no_start, declare_start, act_start, HeadTree, StatementTree, attributed, empty, block, declare, act, if_only, if_else, while, for, while_not_eot, break, continue, statements}
 use Rattle.tapa_syntax.specs.Grammar.{Part, Takes, TakesAt, IsExpression, expression_level, IsAction, IsClosed, IsBare, IsStart, IsHead, IsStatement, AreStatements}
 use Rattle.tapa_syntax.specs.Limits.{if_there, nesting, operators, action_nesting, action_operators, start_nesting, start_operators, head_nesting, head_operators, statement_nesting, statement_operators, statements_nesting, statements_operators}

@@ -6,7 +6,7 @@ use Rattle.tapa_syntax.specs.declared.terminal.Terminal.TheVariants as terminal
 use Rattle.tapa_syntax.specs.declared.tree.Name.{Name}
 use Rattle.tapa_syntax.specs.declared.tree.Parameter.{Parameter}
 use Rattle.tapa_syntax.specs.declared.tree.Parameter.TheVariants as parameter_form
-use Rattle.tapa_syntax.specs.Spans.{◌⨾◌, ◌∣◌, Maybe, Each, EachOfSome, SeparatedOrNone}
+use Rattle.tapa_base.specs.Spans.{◌⨾◌, ◌∣◌, Maybe, Each, EachOfSome, SeparatedOrNone}
 use Rattle.tapa_syntax.specs.Trees.{ExpressionTree, CountTree, AttributeTree, ArgumentTree, InvocationTree, BodyTree, leaf, upper, ItemTree, constant, task, statements}
 use Rattle.tapa_syntax.specs.Grammar.{Part, Takes, TakesAt, IsName, IsExpression, expression_level, IsType, IsCount, StandsAt, IsAttribute, IsParameter, MayBeLabelled, IsStream, IsArgument, IsMode, IsInvocation, IsBody, IsItem, IsTreeOf}
 use Rattle.tapa_syntax.specs.Limits.{most, if_there, nesting, operators, form_nesting, form_operators, stream_nesting, stream_operators, invocation_nesting, invocation_operators, body_nesting, body_operators, item_nesting, item_operators, most_levels, most_operators, IsWithinLimits}

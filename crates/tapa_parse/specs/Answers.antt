@@ -2,7 +2,8 @@
 use Rattle.std.specs.Prelude.{◌≡◌, List, [], ◌∷◌, Result, Ok, Err}
 use Rattle.tapa_base.specs.declared.text.Place.{Place}
 use Rattle.tapa_syntax.specs.declared.tree.File.{File}
-use Rattle.tapa_syntax.specs.Characters.{Bytes, place_of}
+use Rattle.tapa_base.specs.Gaps.{Bytes}
+use Rattle.tapa_syntax.specs.Characters.{place_of}
 use Rattle.tapa_syntax.specs.Symbols.{Symbol}
 use Rattle.tapa_syntax.specs.Trees.{ItemTree, file_of}
 use Rattle.tapa_parse.specs.declared.fault.ParseFault.{ParseFault}

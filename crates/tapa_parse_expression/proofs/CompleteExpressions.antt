@@ -9,7 +9,7 @@ use Rattle.tapa_syntax.specs.declared.tree.PrefixOperator.{PrefixOperator}
 use Rattle.tapa_syntax.specs.Trees.{ExpressionTree, literal, boolean, variable, element, call, nullptr, construct, static_cast, cast, parenthesized, prefix, binary, conditional, Expressions, expressions, CountForm, literal_count, name_count, parenthesized_count, CountTree}
 use Rattle.tapa_syntax.specs.Trees.{none as no_expression, one as one_expression}
 use Rattle.tapa_syntax.specs.Limits.{nesting, nestings, operators, operators_in, form_nesting, form_operators}
-use Rattle.tapa_syntax.specs.Spans.{◌⨾◌}
+use Rattle.tapa_base.specs.Spans.{◌⨾◌}
 use Rattle.tapa_syntax.specs.Grammar.{Takes, StandsAt, IsExpression, AreArguments, AreMoreArguments, IsCountForm, IsCount, is_name, prefix_operator_of, or_level, expression_level, argument_level}
 use Rattle.tapa_parse_expression.specs.Readers.{and_then, next, first_place, same, sees, name, pure}
 use Rattle.tapa_parse_expression.specs.Reading.{Counting, Readers, level, argument, more_arguments, some_arguments, any_arguments, in_parentheses, in_brackets, arguments, named_by, named, constructed, statically_cast, primary_by, primary, parenthesis, converted, prefixed, unary_with, arms, expression_with, whole, form_by, counted, below_levels}

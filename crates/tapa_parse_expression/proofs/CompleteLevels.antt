@@ -11,7 +11,7 @@ use Rattle.tapa_syntax.specs.Symbols.{Symbol}
 use Rattle.tapa_syntax.specs.Trees.{ExpressionTree, literal, boolean, variable, element, call, nullptr, construct, static_cast, cast, parenthesized, prefix, binary, conditional, Expressions}
 use Rattle.tapa_syntax.specs.Trees.{none as no_expression, one as one_expression}
 use Rattle.tapa_syntax.specs.Limits.{operators}
-use Rattle.tapa_syntax.specs.Spans.{Is}
+use Rattle.tapa_base.specs.Spans.{Is}
 use Rattle.tapa_syntax.specs.Grammar.{Takes, MeansAt, IsExpression, AreArguments, AreMoreArguments, binary_operator_of, binds_at, sum_level, or_level, expression_level, argument_level}
 use Rattle.tapa_parse_expression.specs.Readers.{Outcome, next, same}
 use Rattle.tapa_parse_expression.specs.Reading.{Counting, Readers, enter, open_level, count, at_level, operator_of, chain, chain_of, level}

@@ -1,7 +1,7 @@
 -- Lists of parts: what is read is spelled so, and what is spelled so is read.
 use Rattle.std.proofs.Common.{◌≡◌, ℕ, zero, suc, ◌<◌, ◌≤◌, Bool, true, false, List, [], ◌∷◌, ◌++◌, length, drop, Ok, refl, sym, ap, subst, ◌∙◌, arith, append_assoc}
 use Rattle.tapa_syntax.specs.declared.terminal.Terminal.{Terminal}
-use Rattle.tapa_syntax.specs.Spans.{◌⨾◌, Each, EachOfSome, Separated, SeparatedOrNone}
+use Rattle.tapa_base.specs.Spans.{◌⨾◌, Each, EachOfSome, Separated, SeparatedOrNone}
 use Rattle.tapa_syntax.specs.Grammar.{Part, Takes}
 use Rattle.tapa_syntax.specs.Limits.{most}
 use Rattle.tapa_parse_expression.specs.Readers.{Reader, skip, sees, repeat_from, repeat_behind, repeat, separated, separated_until, ◌>>◌}

@@ -10,7 +10,7 @@ use Rattle.tapa_syntax.specs.declared.tree.BinaryOperator.{BinaryOperator}
 use Rattle.tapa_syntax.specs.Symbols.{Symbol}
 use Rattle.tapa_syntax.specs.Trees.{ExpressionTree, literal, boolean, variable, element, call, nullptr, construct, static_cast, cast, parenthesized, prefix, binary, conditional, expressions, CountForm, literal_count, name_count, parenthesized_count, CountTree}
 use Rattle.tapa_syntax.specs.Limits.{nesting, nestings, operators, operators_in, form_nesting, form_operators}
-use Rattle.tapa_syntax.specs.Spans.{◌⨾◌}
+use Rattle.tapa_base.specs.Spans.{◌⨾◌}
 use Rattle.tapa_syntax.specs.Grammar.{Takes, TakesAt, IsName, StandsAt, IsExpression, AreArguments, AreMoreArguments, IsCountForm, IsCount, is_name, prefix_operator_of, binary_operator_of, binds_at, or_level, expression_level, argument_level}
 use Rattle.tapa_parse_expression.specs.declared.fault.ParseCode.TheVariants.{P1, P2}
 use Rattle.tapa_parse_expression.specs.Readers.{Reader, and_then, next, first_place, sees}

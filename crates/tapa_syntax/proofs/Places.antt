@@ -4,7 +4,8 @@ use Rattle.std.specs.Prelude.{count_by}
 use Rattle.std.proofs.lemmas.List.{length-append}
 use Rattle.std.proofs.lemmas.List.Sums.{sum_by-append, count_by-le-length}
 use Rattle.tapa_base.specs.declared.text.Place.{Place}
-use Rattle.tapa_syntax.specs.Characters.{Bytes, line_behind, last_line, place_of}
+use Rattle.tapa_base.specs.Gaps.{Bytes}
+use Rattle.tapa_syntax.specs.Characters.{line_behind, last_line, place_of}
 
 pub line_behind_append : (line a z : Bytes) → line_behind line (a ++ z) ≡ line_behind (line_behind line a) z
 line_behind_append line [] z = refl

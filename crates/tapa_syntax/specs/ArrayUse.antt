@@ -63,6 +63,6 @@ IsNoJump Break = ⊥
 IsNoJump Continue = ⊥
 IsNoJump _ = Unit {0}
 
-abbrev pub FitsBody : ℕ → ℕ → List ℕ → List Stmt → Type 0
-FitsBody c n S [] = Unit {0}
-FitsBody c n S (s ∷ rest) = IsNoJump s × FitsStmt c n S s × FitsBody c n (cleared_by s S) rest
+abbrev pub FitsCode : ℕ → ℕ → List ℕ → List Stmt → Type 0
+FitsCode c n S [] = Unit {0}
+FitsCode c n S (s ∷ rest) = IsNoJump s × FitsStmt c n S s × FitsCode c n (cleared_by s S) rest

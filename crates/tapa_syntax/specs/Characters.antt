@@ -1,18 +1,8 @@
 -- The bytes of a source: their classes, and the lines and columns where they stand (ISO C++ [lex.charset], [lex.name]).
-use Rattle.std.specs.Prelude.{ℕ, ◌+◌, Bool, false, not, ◌&&◌, ◌||◌, if◌then◌else◌, ◌==◌, nat_le, List, [], ◌∷◌, ◌++◌, length, count_by}
+use Rattle.std.specs.Prelude.{ℕ, ◌+◌, Bool, not, ◌&&◌, ◌||◌, if◌then◌else◌, ◌==◌, nat_le, List, [], ◌∷◌, ◌++◌, length, count_by}
 use Rattle.std.specs.List.{list_any, list_all}
 use Rattle.tapa_base.specs.declared.text.Place.{Place}
-
-abbrev pub Bytes : Type 0
-Bytes = List ℕ
-
--- space, tab, carriage return, line feed
-abbrev pub is_blank : ℕ → Bool
-is_blank b = b == 32 || b == 9 || b == 13 || b == 10
-
--- anything but the line feed, which ends a line
-abbrev pub is_in_line : ℕ → Bool
-is_in_line b = not (b == 10)
+use Rattle.tapa_base.specs.Gaps.{Bytes, is_blank}
 
 abbrev pub is_digit : ℕ → Bool
 is_digit b = nat_le 48 b && nat_le b 57
@@ -32,11 +22,6 @@ is_plain b = nat_le 32 b && nat_le b 126 && not (b == 34) && not (b == 92)
 -- a byte is one of these
 abbrev pub is_among : List ℕ → ℕ → Bool
 is_among set b = list_any (λ c. c == b) set
-
--- the first byte is of a class; there is none in no bytes
-abbrev pub begins : (ℕ → Bool) → Bytes → Bool
-begins class [] = false
-begins class (b ∷ z) = class b
 
 -- how many bytes of a class stand in front
 abbrev pub run : (ℕ → Bool) → Bytes → ℕ

@@ -1,5 +1,5 @@
 -- The flat program as plain data: numbers, names and lists, without where they lie in memory.
-use Rattle.std.specs.Prelude.{ℕ, List, [], ◌∷◌, map}
+use Rattle.std.specs.Prelude.{ℕ, Bool, List, [], ◌∷◌, map}
 use Rattle.tapa_base.specs.declared.kind.Kind.{Kind}
 use Rattle.tapa_base.specs.declared.op.Op.{Op}
 use Rattle.tapa_syntax.specs.declared.program.Array.{Array}
@@ -140,6 +140,7 @@ flat_bound (bound.Top x kinds) = top_scalar x kinds.items
 pub record FlatInstance : Type 0 where
   pub label : List ℕ
   pub body : ℕ
+  pub detached : Bool
   pub scalars : List FlatBound
   pub streams : List ℕ
   pub memories : List ℕ
@@ -148,6 +149,7 @@ abbrev pub flat_instance : Instance → FlatInstance
 flat_instance i = record {
   label = i.label;
   body = i.body;
+  detached = i.detached;
   scalars = map flat_bound i.scalars.items;
   streams = i.streams.items;
   memories = i.memories.items;

@@ -8,30 +8,11 @@ use Rattle.tapa_base.specs.Kinds.{values_of}
 use Rattle.tapa_syntax.specs.declared.lexeme.LexKind.{LexKind}
 use Rattle.tapa_syntax.specs.declared.lexeme.LexKind.TheVariants.{Word, Literal, Str, Punct}
 use Rattle.tapa_syntax.specs.declared.lexeme.Lexeme.{Lexeme}
-use Rattle.tapa_syntax.specs.Characters.{Bytes, is_blank, is_in_line, is_digit, is_letter, is_word_byte, is_plain, begins, opens_line, place_of}
+use Rattle.tapa_base.specs.Gaps.{Bytes, is_blank, is_in_line, begins, EndsLine, IsBlank, IsLineComment, IsBlockComment}
+use Rattle.tapa_syntax.specs.Characters.{is_digit, is_letter, is_word_byte, is_plain, opens_line, place_of}
 use Rattle.tapa_syntax.specs.Literals.{literal_of}
 
 -- ---- gaps: blanks, comments and skipped lines
-
-abbrev pub IsBlank : Bytes → Type 0
-IsBlank bytes = (b : ℕ) × (bytes ≡ b ∷ []) × (is_blank b ≡ true)
-
--- a line ends here: nothing follows, or a line feed
-abbrev pub EndsLine : Bytes → Type 0
-EndsLine rest = begins is_in_line rest ≡ false
-
--- `//` to the line's end
-abbrev pub IsLineComment : Bytes → Bytes → Type 0
-IsLineComment bytes rest = (body : Bytes) × (bytes ≡ 47 ∷ 47 ∷ body) × (list_all is_in_line body ≡ true) × EndsLine rest
-
--- `*/` stands somewhere in these bytes
-unfoldable pub has_close : Bytes → Bool
-has_close [] = false
-has_close (b ∷ z) = (b == 42 && slice_index z 0 == 47) || has_close z
-
--- `/*` to the first `*/`
-abbrev pub IsBlockComment : Bytes → Type 0
-IsBlockComment bytes = (body : Bytes) × (bytes ≡ 47 ∷ 42 ∷ body ++ 42 ∷ 47 ∷ []) × (has_close (body ++ 42 ∷ []) ≡ false)
 
 abbrev pub is_inner_blank : ℕ → Bool
 is_inner_blank b = is_blank b && is_in_line b

@@ -6,10 +6,10 @@ pub mod LeafKinds
 pub mod Lexemes
 pub mod Limits
 pub mod Literals
-pub mod Spans
 pub mod MemoryUse
 pub mod StreamUse
 pub mod Symbols
+pub mod TickPlaces
 pub mod Trees
 pub mod Typed
 pub mod WellFormed

@@ -3,7 +3,8 @@ use Rattle.std.specs.Prelude.{ℕ, ◌+◌, ◌-◌, ◌*◌, ◌^◌, Bool, tru
 use Rattle.tapa_base.specs.declared.kind.Kind.{Kind}
 use Rattle.tapa_base.specs.declared.kind.Kind.TheVariants.{I32, U32, I64, U64}
 use Rattle.tapa_base.specs.Kinds.{bits_of, is_signed}
-use Rattle.tapa_syntax.specs.Characters.{Bytes, is_digit, run}
+use Rattle.tapa_base.specs.Gaps.{Bytes}
+use Rattle.tapa_syntax.specs.Characters.{is_digit, run}
 
 -- what a digit is worth, in any base up to 16; 16 for a byte that is none
 abbrev pub worth : ℕ → ℕ

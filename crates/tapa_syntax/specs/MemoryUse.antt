@@ -47,6 +47,6 @@ abbrev mutual
   AsksBlock n (more_of-Stmt s rest) = AsksStmt n s × AsksBlock n rest
 
 -- each memory that a leaf's code loads from or stores to is among the first n
-abbrev pub AsksBody : ℕ → List Stmt → Type 0
-AsksBody n [] = Unit {0}
-AsksBody n (s ∷ rest) = AsksStmt n s × AsksBody n rest
+abbrev pub AsksCode : ℕ → List Stmt → Type 0
+AsksCode n [] = Unit {0}
+AsksCode n (s ∷ rest) = AsksStmt n s × AsksCode n rest

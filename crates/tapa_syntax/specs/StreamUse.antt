@@ -46,6 +46,6 @@ abbrev mutual
   UsesBlock w end_of-Stmt = Unit {0}
   UsesBlock w (more_of-Stmt s rest) = UsesStmt w s × UsesBlock w rest
 
-abbrev pub UsesBody : (ℕ → Option Bool) → List Stmt → Type 0
-UsesBody w [] = Unit {0}
-UsesBody w (s ∷ rest) = UsesStmt w s × UsesBody w rest
+abbrev pub UsesCode : (ℕ → Option Bool) → List Stmt → Type 0
+UsesCode w [] = Unit {0}
+UsesCode w (s ∷ rest) = UsesStmt w s × UsesCode w rest

@@ -108,6 +108,6 @@ abbrev mutual
   AreTyped K end_of-Stmt = Unit {0}
   AreTyped K (more_of-Stmt s rest) = IsTyped K s × AreTyped K rest
 
-abbrev pub IsTypedBody : Kinds → List Stmt → Type 0
-IsTypedBody K [] = Unit {0}
-IsTypedBody K (s ∷ rest) = IsTyped K s × IsTypedBody K rest
+abbrev pub IsTypedCode : Kinds → List Stmt → Type 0
+IsTypedCode K [] = Unit {0}
+IsTypedCode K (s ∷ rest) = IsTyped K s × IsTypedCode K rest

@@ -1,5 +1,6 @@
--- What holds of the flat program of every legal source: each name is bound, each stream has its two ends, each memory
--- its one instance, and each value its kind.
+-- What holds of the flat program of every legal source: each name is bound, each stream has its two ends and each memory
+-- its one instance, each value has its kind, and there are at most so many instances, streams, variables and cells of an
+-- array. It says nothing of the sum of a leaf's cells, of its tick places, or of where a `break` stands in an `if`.
 use Rattle.std.specs.Prelude.{◌≡◌, ℕ, ◌<◌, ◌≤◌, List, [], ◌∷◌, length, map, Bool, true, false, Some, slice_get, slice_index_or}
 use Rattle.tapa_base.specs.declared.kind.Kind.{Kind}
 use Rattle.tapa_base.specs.declared.kind.Kind.TheVariants.{U64}
@@ -15,10 +16,10 @@ use Rattle.tapa_syntax.specs.declared.program.Program.{Program}
 use Rattle.tapa_syntax.specs.declared.program.Scalar.{Scalar}
 use Rattle.tapa_syntax.specs.declared.program.Stream.{Stream}
 use Rattle.tapa_syntax.specs.LeafKinds.{kinds_of, writes_of}
-use Rattle.tapa_syntax.specs.StreamUse.{UsesBody}
-use Rattle.tapa_syntax.specs.ArrayUse.{FitsBody}
-use Rattle.tapa_syntax.specs.MemoryUse.{AsksBody}
-use Rattle.tapa_syntax.specs.Typed.{IsTypedBody}
+use Rattle.tapa_syntax.specs.StreamUse.{UsesCode}
+use Rattle.tapa_syntax.specs.ArrayUse.{FitsCode}
+use Rattle.tapa_syntax.specs.MemoryUse.{AsksCode}
+use Rattle.tapa_syntax.specs.Typed.{IsTypedCode}
 
 -- no number stands twice in a list
 abbrev pub AreDistinct : List ℕ → Type 0
@@ -31,10 +32,10 @@ pub record IsLeaf (leaf : Leaf) : Type 0 where
   pub scalars_in : (p x : ℕ) → slice_get leaf.scalars.items p ≡ Some x → x < length leaf.vars.items
   pub scalars_distinct : AreDistinct leaf.scalars.items
   pub cells : (a : ℕ) (r : Array) → slice_get leaf.arrays.items a ≡ Some r → (1 ≤ r.cells) × (r.cells ≤ 4096)
-  pub uses : UsesBody (writes_of leaf.streams.items) leaf.code.items
-  pub fits : FitsBody (length leaf.vars.items) (length leaf.arrays.items) [] leaf.code.items
-  pub asks : AsksBody (length leaf.memories.items) leaf.code.items
-  pub typed : IsTypedBody (kinds_of leaf) leaf.code.items
+  pub uses : UsesCode (writes_of leaf.streams.items) leaf.code.items
+  pub fits : FitsCode (length leaf.vars.items) (length leaf.arrays.items) [] leaf.code.items
+  pub asks : AsksCode (length leaf.memories.items) leaf.code.items
+  pub typed : IsTypedCode (kinds_of leaf) leaf.code.items
 
 -- which end of a stream an instance is
 abbrev pub IsEndOf : ℕ → Bool → Stream → Type 0
@@ -95,9 +96,17 @@ pub record IsStream (program : Program) (s : ℕ) (r : Stream) : Type 0 where
   pub written : IsJoined program r.producer s true
   pub read : IsJoined program r.consumer s false
 
+-- memory m is bound at its owner; IsInstance says that it is so at no other instance, and at the owner once
+pub record IsOwned (program : Program) (m : ℕ) (r : Memory) : Type 0 where
+  pub instance : Instance
+  pub is : slice_get program.instances.items r.owner ≡ Some instance
+  pub position : ℕ
+  pub bound : slice_get instance.memories.items position ≡ Some m
+
 pub record IsWellFormed (program : Program) : Type 0 where
   pub few_instances : length program.instances.items ≤ 512
   pub few_streams : length program.streams.items ≤ 1024
   pub leaves : (b : ℕ) (leaf : Leaf) → slice_get program.bodies.items b ≡ Some leaf → IsLeaf leaf
   pub instances : (i : ℕ) (x : Instance) → slice_get program.instances.items i ≡ Some x → (leaf : Leaf) × IsInstance program i x leaf
   pub streams : (s : ℕ) (r : Stream) → slice_get program.streams.items s ≡ Some r → IsStream program s r
+  pub memories : (m : ℕ) (r : Memory) → slice_get program.memories.items m ≡ Some r → IsOwned program m r

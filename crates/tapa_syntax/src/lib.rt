@@ -4,11 +4,13 @@
 mod lexeme;
 mod program;
 mod terminal;
+mod tick_places;
 mod tree;
 
 pub use lexeme::{LexKind, Lexeme};
 pub use program::{Array, Bound, End, Expr, Instance, Leaf, Memory, Program, Scalar, Stmt, Stream};
 pub use terminal::Terminal;
+pub use tick_places::{operations, places_in};
 pub use tree::{
     Action, AssignmentOperator, Attribute, AttributeArgument, AttributeArguments, BinaryOperator,
     Count, CountValue, Declaration, Declarator, Expression, File, FileItem, ForHead, ForStart,

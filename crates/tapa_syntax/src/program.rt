@@ -41,12 +41,14 @@ pub struct Stream {
     pub consumer: u32,
 }
 
-/// A leaf instance: the number of its body, what its scalar parameters are bound to, and the numbers of the streams and
+/// A leaf instance: the number of its leaf among the bodies, what its scalar parameters are bound to, and the numbers of the streams and
 /// memories that its parameters of that sort are bound to, in order.
 #[derive(Drop)]
 pub struct Instance {
     pub label: Text,
     pub body: u32,
+    /// Not waited for: some invocation on the way from the top is `tapa::detach`.
+    pub detached: bool,
     pub scalars: Vec<Bound>,
     pub streams: Vec<u32>,
     pub memories: Vec<u32>,

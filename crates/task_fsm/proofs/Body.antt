@@ -18,8 +18,9 @@ use Rattle.task_fsm.specs.Follows.{Follows}
 use Rattle.task_fsm.specs.Machine.{forms_of, StateForm, SetAt, CellAt, ReadAt, WriteAt, PeekAt, EotAt, OpenAt, CloseAt, LoadAt, StoreAt, ClearAt, EndAt, TrapAt, Converted, CellOf, Reg}
 use Rattle.task_fsm.specs.Run.{trap_of, IsMachineOf}
 use Rattle.tapa_syntax.specs.WellFormed.{IsLeaf}
-use Rattle.tapa_syntax.specs.ArrayUse.{IsNoJump, FitsBody, cleared_by}
-use Rattle.task_fsm.specs.Code.{Emitted, emit, going_to, operation_count, residual, discarded, size_of, size_of_block, old_with, stmt_code, block_code, list_code, size_of_list, last_code, leaf_code}
+use Rattle.tapa_syntax.specs.ArrayUse.{IsNoJump, FitsCode, cleared_by}
+use Rattle.task_fsm.specs.Code.{Emitted, emit, going_to, residual, discarded, old_with, stmt_code, block_code, list_code, last_code, leaf_code}
+use Rattle.tapa_syntax.specs.TickPlaces.{operation_count, size_of, size_of_block, size_of_list}
 use Rattle.task_fsm.specs.Lowered.{IsStart, with_temporaries}
 use Rattle.task_fsm.proofs.Grows.{front_trans, IsTail, tail_trans, Grows, grows_trans, grows_none, grows_stmt, IsFirst, first_put, first_hold, first_ops, first_test, stands}
 use Rattle.task_fsm.proofs.Simulates.{Holds}
@@ -80,13 +81,13 @@ first_stmt K N c (Loop' e p body q step) out again B j h =
 first_stmt K N c Break out again B j h = absurd j
 first_stmt K N c Continue out again B j h = absurd j
 
-first_list : (K : Kinds) (N c v n : ℕ) (S : List ℕ) (l : List Stmt) (out again : ℕ) (B : Emitted) → FitsBody v n S l → IsFirst N B → IsFirst N (list_code K N c l out again B)
+first_list : (K : Kinds) (N c v n : ℕ) (S : List ℕ) (l : List Stmt) (out again : ℕ) (B : Emitted) → FitsCode v n S l → IsFirst N B → IsFirst N (list_code K N c l out again B)
 first_list K N c v n S [] out again B f h = h
 first_list K N c v n S (s ∷ rest) out again B f h =
     first_stmt K N c s out again (list_code K N c rest out again B) f.0 (first_list K N c v n (cleared_by s S) rest out again B f.2 h)
 
 module _ (K : Kinds) (P : List StateForm) (c size n : ℕ) where
-  f_list : (fuel : ℕ) (l : List Stmt) (S : List ℕ) (out again : ℕ) (B : Emitted) → IsTail (list_code K (length P) c l out again B).places P → length (list_code K (length P) c l out again B).regs ≤ size → c < length B.regs → FitsBody c n S l → (go o a : State → Behavior) → Goes K P c size n S B.entry go → Goes K P c size n S out o → Goes K P c size n S again a → Goes K P c size n S (list_code K (length P) c l out again B).entry (λ σ. statements K fuel l σ go o a)
+  f_list : (fuel : ℕ) (l : List Stmt) (S : List ℕ) (out again : ℕ) (B : Emitted) → IsTail (list_code K (length P) c l out again B).places P → length (list_code K (length P) c l out again B).regs ≤ size → c < length B.regs → FitsCode c n S l → (go o a : State → Behavior) → Goes K P c size n S B.entry go → Goes K P c size n S out o → Goes K P c size n S again a → Goes K P c size n S (list_code K (length P) c l out again B).entry (λ σ. statements K fuel l σ go o a)
   f_list fuel [] S out again B tail room lt f go o a hg ho ha σ τ T sub h = hg σ τ T sub h
   f_list fuel (s ∷ rest) S out again B tail room lt f go o a hg ho ha σ τ T sub h =
       let N = length P in

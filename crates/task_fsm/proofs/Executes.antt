@@ -22,7 +22,8 @@ use Rattle.task_fsm.specs.Machine.{Expression, Reg, CellOf, Converted, StateForm
 use Rattle.task_fsm.specs.Run.{value, Performs, is_last, clear_step, also_if_last, step, ReadsOnly}
 use Rattle.tapa_syntax.specs.ArrayUse.{In}
 use Rattle.tapa_syntax.specs.ArrayUse.{FitsExpr, FitsStmt, FitsBlock, cleared_by}
-use Rattle.task_fsm.specs.Code.{Emitted, emit, emit_held, going_to, operation_count, residual, operations, discarded, size_of_block, old_with, test_code, stmt_code, block_code}
+use Rattle.task_fsm.specs.Code.{Emitted, emit, emit_held, going_to, residual, operations, discarded, old_with, test_code, stmt_code, block_code}
+use Rattle.tapa_syntax.specs.TickPlaces.{operation_count, size_of_block}
 use Rattle.task_fsm.proofs.Grows.{IsTail, tail_trans, grows_hold, grows_ops, grows_test, grows_stmt, grows_block, regs_ops, first_test, stands}
 use Rattle.task_fsm.proofs.Simulates.{two, Sub, Apart, apart_set, Holds, holds_apart, no_trap, no_trap_ops, uses_left, value_stays, follows_two, follows_ask, computes}
 

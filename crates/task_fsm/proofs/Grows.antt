@@ -12,7 +12,8 @@ use Rattle.tapa_syntax.specs.declared.program.Stmt.{Stmt, Row_of-Stmt, end_of-St
 use Rattle.tapa_syntax.specs.declared.program.Stmt.TheVariants.{Set, SetCell, SetCellBy, Store, StoreBy, ReadVar, ReadCell, ReadStore, Write, Open, Close, Discard, Clear, If', Loop', Break, Continue}
 use Rattle.tapa_syntax.specs.LeafKinds.{Kinds}
 use Rattle.task_fsm.specs.Machine.{StateForm, SetAt, CellAt, TestAt, ReadAt, WriteAt, PeekAt, EotAt, OpenAt, CloseAt, LoadAt, StoreAt, ClearAt, Converted, Reg, CellOf}
-use Rattle.task_fsm.specs.Code.{Emitted, emit, emit_held, going_to, operation_count, residual, operations, discarded, size_of, size_of_block, old_with, test_code, stmt_code, block_code}
+use Rattle.task_fsm.specs.Code.{Emitted, emit, emit_held, going_to, residual, operations, discarded, old_with, test_code, stmt_code, block_code}
+use Rattle.tapa_syntax.specs.TickPlaces.{operation_count, size_of, size_of_block}
 
 -- the second list ends with the first
 pub record IsTail (xs ys : List StateForm) : Type 0 where

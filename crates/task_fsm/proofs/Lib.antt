@@ -4,6 +4,8 @@ pub mod Executes
 pub mod Runs
 pub mod Body
 pub mod Typed
+pub mod Registers
+pub mod Ranged
 pub mod Lowers
 pub mod Steps
 pub mod Lists

@@ -10,7 +10,8 @@ use Rattle.tapa_syntax.specs.declared.program.Expr.{Expr}
 use Rattle.tapa_syntax.specs.declared.program.Stmt.{Stmt, Row_of-Stmt, end_of-Stmt, more_of-Stmt, If, Loop, items-the_row-Stmt, items_hidden-the_row-Stmt-0}
 use Rattle.tapa_syntax.specs.declared.program.Stmt.TheVariants.{If', Loop'}
 use Rattle.tapa_syntax.specs.LeafKinds.{Kinds}
-use Rattle.task_fsm.specs.Code.{Emitted, going_to, operation_count, size_of, size_of_block, size_of_list, test_code, stmt_code, block_code, list_code}
+use Rattle.task_fsm.specs.Code.{Emitted, going_to, test_code, stmt_code, block_code, list_code}
+use Rattle.tapa_syntax.specs.TickPlaces.{operation_count, size_of, size_of_block, size_of_list}
 
 pub block_is : (K : Kinds) (N c : ℕ) (l : _) (row : Row_of-Stmt l) (out again : ℕ) (B : Emitted) → block_code K N c row out again B ≡ list_code K N c (items-the_row-Stmt l row) out again B
 block_is K N c l end_of-Stmt out again B = refl

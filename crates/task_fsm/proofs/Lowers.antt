@@ -1,23 +1,27 @@
 -- What `lower` gives is the machine of its leaf.
 use Rattle.std.proofs.Common.{◌≡◌, ℕ, ◌+◌, ◌-◌, ◌<◌, List, [], ◌∷◌, ◌++◌, length, Some, sym, ap, ◌∙◌, subst, arith, length-append}
 use Rattle.std.specs.Prelude.{slice_get, slice_index_or}
-use Rattle.std.proofs.lemmas.List.{get_or_append_left, get_or-append-add}
+use Rattle.std.proofs.lemmas.List.{get_or_append_left, get_or-append-add, length-map}
 use Rattle.kahn_model.specs.Prefix.{IsPrefixOf}
 use Rattle.tapa_base.specs.declared.kind.Kind.{Kind}
 use Rattle.tapa_base.specs.declared.kind.Kind.TheVariants.{U32, U64}
 use Rattle.tapa_syntax.specs.declared.program.Leaf.{Leaf}
-use Rattle.tapa_syntax.specs.LeafKinds.{kinds_of}
+use Rattle.tapa_syntax.specs.LeafKinds.{kinds_of, writes_of}
 use Rattle.tapa_syntax.specs.WellFormed.{IsLeaf}
 use Rattle.kahn_model.specs.Behavior.{ticks}
 use Rattle.kahn_model.specs.Trace.{job_of}
 use Rattle.task_fsm.specs.declared.machine.Fsm.{Fsm}
-use Rattle.task_fsm.specs.Machine.{forms_of, TrapAt}
+use Rattle.task_fsm.specs.Machine.{form_of, forms_of, TrapAt}
 use Rattle.task_fsm.specs.Run.{trap_of, cells_after}
 use Rattle.task_fsm.specs.MachineKinds.{with_registers, machine_kinds, AreTypedStates}
-use Rattle.task_fsm.specs.Code.{Emitted, size_of_list, last_code, leaf_code}
+use Rattle.task_fsm.specs.Code.{Emitted, last_code, leaf_code}
+use Rattle.tapa_syntax.specs.TickPlaces.{size_of_list}
 use Rattle.task_fsm.specs.Lowered.{IsLowered, with_temporaries}
 use Rattle.task_fsm.proofs.Grows.{IsFront, no_more}
-use Rattle.task_fsm.proofs.Body.{grows_list, trap_leaf, front_leaf, follows_at, machine_at}
+use Rattle.task_fsm.proofs.Body.{grows_list, size_leaf, trap_leaf, front_leaf, follows_at, machine_at}
+use Rattle.task_fsm.specs.Ranges.{Ranges, ranges_of, AreInRange}
+use Rattle.task_fsm.proofs.Ranged.{ranged_leaf}
+use Rattle.task_fsm.proofs.Registers.{registers_leaf}
 use Rattle.task_fsm.proofs.Runs.{run_cells}
 use Rattle.task_fsm.proofs.Typed.{typed_list}
 
@@ -46,6 +50,14 @@ typed_leaf leaf is =
     typed_list (kinds_of leaf) W.regs (length leaf.vars.items) (λ x l. var_kept leaf.vars.items W.regs x g.front l) (z + 2) (length leaf.vars.items) (length leaf.arrays.items) [] leaf.code.items z z (last_code (z + 2) leaf)
     (counter_kept leaf.vars.items W.regs g.front) is.typed is.fits (no_more W.regs) (tt, (tt, tt))
 
+in_ranges : (leaf : Leaf) (fsm : Fsm) → IsLeaf leaf → forms_of fsm.states.items ≡ (leaf_code leaf).places → fsm.regs.items ≡ (leaf_code leaf).regs → AreInRange (ranges_of leaf fsm) (forms_of fsm.states.items)
+in_ranges leaf fsm fits p r =
+    let states : length fsm.states.items ≡ length (leaf_code leaf).places = sym (length-map fsm.states.items form_of) ∙ ap length p in
+    let with : ℕ → ℕ → Ranges = λ regs states. record { registers = regs; arrays = length leaf.arrays.items; memories = length leaf.memories.items; states = states; writes = writes_of leaf.streams.items } in
+    subst (λ P. AreInRange (ranges_of leaf fsm) P) (sym p)
+    (subst (λ n. AreInRange (with n (length fsm.states.items - 1)) (leaf_code leaf).places) (sym (ap length r))
+    (subst (λ n. AreInRange (with (length (leaf_code leaf).regs) (n - 1)) (leaf_code leaf).places) (sym states) (ranged_leaf leaf fits)))
+
 pub lowered : (leaf : Leaf) (fsm : Fsm) (w : Emitted) → IsLeaf leaf → w ≡ leaf_code leaf → forms_of fsm.states.items ≡ w.places → fsm.regs.items ≡ w.regs → fsm.name ≡ leaf.name → fsm.scalars.items ≡ leaf.scalars.items → fsm.arrays.items ≡ leaf.arrays.items → IsLowered leaf fsm
 lowered leaf fsm w fits e ep er em es ea =
     let p : forms_of fsm.states.items ≡ (leaf_code leaf).places = ep ∙ ap (λ (x : Emitted). x.places) e in
@@ -61,6 +73,9 @@ lowered leaf fsm w fits e ep er em es ea =
           run_cells P (length (ticks job ins) + 0) 0 τ [] ins ∙ ap (λ l. cells_after l σ.cells) m.first;
       typed = subst (λ P. AreTypedStates (machine_kinds leaf fsm) P) (sym p)
           (subst (λ F. AreTypedStates (with_registers (kinds_of leaf) F) (leaf_code leaf).places) (sym r) (typed_leaf leaf fits));
+      states = sym (length-map fsm.states.items form_of) ∙ ap length p ∙ size_leaf leaf;
+      registers = ap length r ∙ registers_leaf leaf;
+      in_range = in_ranges leaf fsm fits p r;
       trap = subst (λ P. slice_get P (trap_of P) ≡ Some TrapAt) (sym p) (trap_leaf leaf);
       regs = subst (λ l. IsPrefixOf leaf.vars.items l) (sym r) (front_leaf leaf);
       name = em;

@@ -17,7 +17,8 @@ use Rattle.task_fsm.specs.Run.{value, Performs, Awaits, step, cleared_after, Rea
 use Rattle.tapa_syntax.specs.ArrayUse.{In}
 use Rattle.task_fsm.specs.Follows.{Follows}
 use Rattle.tapa_syntax.specs.ArrayUse.{FitsExpr}
-use Rattle.task_fsm.specs.Code.{Emitted, emit_held, operation_count, residual, operations}
+use Rattle.task_fsm.specs.Code.{Emitted, emit_held, residual, operations}
+use Rattle.tapa_syntax.specs.TickPlaces.{operation_count}
 use Rattle.task_fsm.proofs.Grows.{IsTail, tail_trans, grows_hold, grows_ops, regs_ops, stands}
 
 abbrev IsNoTrap : StateForm → Type 0

@@ -13,13 +13,14 @@ use Rattle.tapa_syntax.specs.declared.program.Expr.TheVariants.{Lit, Var, Cell',
 use Rattle.tapa_syntax.specs.declared.program.Stmt.{Stmt, Row_of-Stmt, end_of-Stmt, more_of-Stmt}
 use Rattle.tapa_syntax.specs.declared.program.Stmt.TheVariants.{Set, SetCell, SetCellBy, Store, StoreBy, ReadVar, ReadCell, ReadStore, Write, Open, Close, Discard, Clear, If', Loop', Break, Continue}
 use Rattle.tapa_syntax.specs.LeafKinds.{Kinds}
-use Rattle.tapa_syntax.specs.ArrayUse.{FitsExpr, FitsStmt, FitsBlock, FitsBody, cleared_by}
-use Rattle.tapa_syntax.specs.Typed.{HasKind, MayDivide, IsConstant, by_zero, constant, IsTyped, AreTyped, IsTypedBody, right_kind, result_kind}
+use Rattle.tapa_syntax.specs.ArrayUse.{FitsExpr, FitsStmt, FitsBlock, FitsCode, cleared_by}
+use Rattle.tapa_syntax.specs.Typed.{HasKind, MayDivide, IsConstant, by_zero, constant, IsTyped, AreTyped, IsTypedCode, right_kind, result_kind}
 use Rattle.kahn_model.specs.Trace.{State, at_zero}
 use Rattle.task_fsm.specs.Machine.{Expression, Reg, CellOf, Converted, StateForm, SetAt, CellAt, TestAt, ReadAt, WriteAt, LoadAt, StoreAt}
 use Rattle.task_fsm.specs.Run.{value}
-use Rattle.task_fsm.specs.MachineKinds.{with_registers, IsDivisor, GivesKind, IsOfKind, IsTypedState, AreTypedStates}
-use Rattle.task_fsm.specs.Code.{Emitted, emit, emit_held, going_to, operation_count, residual, operations, discarded, size_of_block, old_with, test_code, stmt_code, block_code, list_code}
+use Rattle.task_fsm.specs.MachineKinds.{with_registers, IsFixed, IsDivisor, GivesKind, IsOfKind, IsTypedState, AreTypedStates}
+use Rattle.task_fsm.specs.Code.{Emitted, emit, emit_held, going_to, residual, operations, discarded, old_with, test_code, stmt_code, block_code, list_code}
+use Rattle.tapa_syntax.specs.TickPlaces.{operation_count, size_of_block}
 use Rattle.task_fsm.proofs.Grows.{IsFront, front_trans, grows_ops, grows_test, grows_stmt, grows_block, regs_ops}
 use Rattle.task_fsm.proofs.Simulates.{two}
 
@@ -66,8 +67,24 @@ constant_value (Or' p l q r) t σ h = two (λ v w. 1 - (1 - v) * (1 - w)) _ _ _ 
 constant_value (Choose' p e q a r b) t σ h =
     chosen _ _ _ _ _ _ (constant_value e (t + (operation_count b + operation_count a)) σ h.0) (constant_value a (t + operation_count b) σ h.1) (constant_value b t σ h.2)
 
-never_zero : (e : Expr) (t : ℕ) → IsConstant e × (0 < constant e) → (σ : State) → 0 < value (residual e t) σ
-never_zero e t h σ = subst (λ v. 0 < v) (sym (constant_value e t σ h.0)) h.1
+fixed : (e : Expr) (t : ℕ) → IsConstant e → IsFixed (residual e t)
+fixed (Lit k n) t h = tt
+fixed (Var x) t h = absurd h
+fixed (Cell' a p e) t h = absurd h
+fixed (Read s) t h = absurd h
+fixed (Peek s) t h = absurd h
+fixed (Eot s) t h = absurd h
+fixed (Load' m p e) t h = absurd h
+fixed (Conv' source target p e) t h = fixed e t h
+fixed (Apply' o k p l q r) t h = (fixed l (t + operation_count r) h.0, fixed r t h.1)
+fixed (Flip' k p e) t h = fixed e t h
+fixed (Not' p e) t h = fixed e t h
+fixed (And' p l q r) t h = (fixed l (t + operation_count r) h.0, fixed r t h.1)
+fixed (Or' p l q r) t h = (fixed l (t + operation_count r) h.0, fixed r t h.1)
+fixed (Choose' p e q a r b) t h = (fixed e (t + (operation_count b + operation_count a)) h.0, fixed a (t + operation_count b) h.1, fixed b t h.2)
+
+never_zero : (e : Expr) (t : ℕ) → IsConstant e × (0 < constant e) → IsFixed (residual e t) × ((σ : State) → 0 < value (residual e t) σ)
+never_zero e t h = (fixed e t h.0, λ σ. subst (λ v. 0 < v) (sym (constant_value e t σ h.0)) h.1)
 
 divides : (o : Op) (e : Expr) (t : ℕ) → MayDivide o e → IsDivisor o (residual e t)
 divides op.Add e t h = tt
@@ -350,7 +367,7 @@ module _ (K : Kinds) (F : List Kind) (c : ℕ) (vars : (x : ℕ) → x < c → s
         let g = grows_stmt K N count s out again C in
         typed_stmt N count n S s out again C u h.0 f.0 r (typed_block N count n (cleared_by s S) rest out again B u h.1 f.1 (front_trans C.regs (stmt_code K N count s out again C).regs F g.front r) t)
 
-  pub typed_list : (N count n : ℕ) (S : List ℕ) (l : List Stmt) (out again : ℕ) (B : Emitted) → slice_index_or F count kind.U64 ≡ kind.U32 → IsTypedBody K l → FitsBody c n S l → IsFront (list_code K N count l out again B).regs F → Typed B → Typed (list_code K N count l out again B)
+  pub typed_list : (N count n : ℕ) (S : List ℕ) (l : List Stmt) (out again : ℕ) (B : Emitted) → slice_index_or F count kind.U64 ≡ kind.U32 → IsTypedCode K l → FitsCode c n S l → IsFront (list_code K N count l out again B).regs F → Typed B → Typed (list_code K N count l out again B)
   typed_list N count n S [] out again B u h f r t = t
   typed_list N count n S (s ∷ rest) out again B u h f r t =
       let C = list_code K N count rest out again B in

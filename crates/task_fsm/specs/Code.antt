@@ -9,24 +9,8 @@ use Rattle.tapa_syntax.specs.declared.program.Stmt.{Stmt, Row_of-Stmt, end_of-St
 use Rattle.tapa_syntax.specs.declared.program.Stmt.TheVariants.{Set, SetCell, SetCellBy, Store, StoreBy, ReadVar, ReadCell, ReadStore, Write, Open, Close, Discard, Clear, If', Loop', Break, Continue}
 use Rattle.tapa_syntax.specs.declared.program.Leaf.{Leaf}
 use Rattle.tapa_syntax.specs.LeafKinds.{Kinds, kinds_of}
+use Rattle.tapa_syntax.specs.TickPlaces.{operation_count, size_of_block, size_of_list}
 use Rattle.task_fsm.specs.Machine.{Expression, Number, Reg, CellOf, Converted, Applied, Flipped, Inverse, Both, Either, Chosen, StateForm, SetAt, CellAt, TestAt, ReadAt, WriteAt, PeekAt, EotAt, OpenAt, CloseAt, LoadAt, StoreAt, ClearAt, EndAt, TrapAt}
-
--- how many operations an expression has
-abbrev pub operation_count : Expr → ℕ
-operation_count (Lit kind n) = 0
-operation_count (Var x) = 0
-operation_count (Cell' a p e) = operation_count e
-operation_count (Read s) = 1
-operation_count (Peek s) = 1
-operation_count (Eot s) = 1
-operation_count (Load' m p e) = 1 + operation_count e
-operation_count (Conv' source target p e) = operation_count e
-operation_count (Apply' op kind p l q r) = operation_count r + operation_count l
-operation_count (Flip' kind p e) = operation_count e
-operation_count (Not' p e) = operation_count e
-operation_count (And' p l q r) = operation_count r + operation_count l
-operation_count (Or' p l q r) = operation_count r + operation_count l
-operation_count (Choose' p e q a r b) = operation_count b + operation_count a + operation_count e
 
 -- what is left of an expression whose operations have their values in the registers from t on, the last operation first
 abbrev pub residual : Expr → ℕ → Expression
@@ -91,31 +75,6 @@ discarded K N (Eot s) B = emit N (λ next. EotAt s None next) B
 discarded K N (Load' m p e) B = operations K N e (emit N (λ next. LoadAt m (residual e (length B.regs)) None next) B)
 discarded K N e B = operations K N e B
 
--- how many places a statement has
-abbrev mutual
-  pub size_of : Stmt → ℕ
-  size_of (Set x e) = 1 + operation_count e
-  size_of (SetCell a i e) = 1 + operation_count i + operation_count e
-  size_of (SetCellBy a i op kind e) = 1 + operation_count i + operation_count e
-  size_of (Store m i e) = 1 + operation_count i + operation_count e
-  size_of (StoreBy m i op kind e) = 2 + operation_count i + operation_count e
-  size_of (ReadVar s x) = 2
-  size_of (ReadCell s a i) = 2 + operation_count i
-  size_of (ReadStore s m i) = 2 + operation_count i
-  size_of (Write s e) = 1 + operation_count e
-  size_of (Open s) = 1
-  size_of (Close s) = 1
-  size_of (Discard e) = operation_count e
-  size_of (Clear a) = 1
-  size_of (If' e p left q right) = size_of_block right + size_of_block left + (1 + operation_count e)
-  size_of (Loop' e p body q step) = size_of_block step + size_of_block body + (1 + operation_count e)
-  size_of Break = 0
-  size_of Continue = 0
-
-  pub size_of_block : {m : _} → Row_of-Stmt m → ℕ
-  size_of_block end_of-Stmt = 0
-  size_of_block (more_of-Stmt s rest) = size_of_block rest + size_of s
-
 -- the old value of a cell of kind k, by an operator in another kind
 abbrev pub old_with : Op → Kind → Kind → Expression → Expression → Expression
 old_with op kind k old new = Converted kind k (Applied op kind (Converted k kind old) new)
@@ -171,10 +130,6 @@ plain_code K N s B = stmt_code K N 0 s 0 0 B
 abbrev pub list_code : Kinds → ℕ → ℕ → List Stmt → ℕ → ℕ → Emitted → Emitted
 list_code K N c [] out again B = B
 list_code K N c (s ∷ rest) out again B = stmt_code K N c s out again (list_code K N c rest out again B)
-
-abbrev pub size_of_list : List Stmt → ℕ
-size_of_list [] = 0
-size_of_list (s ∷ rest) = size_of_list rest + size_of s
 
 -- a body: its statements, the end and the trap
 abbrev pub last_code : ℕ → Leaf → Emitted

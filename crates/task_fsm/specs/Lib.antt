@@ -3,5 +3,7 @@ pub mod Run
 pub mod MachineKinds
 pub mod Follows
 pub mod Code
+pub mod Temporaries
+pub mod Ranges
 pub mod Lowered
 pub mod Draft

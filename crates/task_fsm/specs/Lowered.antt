@@ -8,6 +8,9 @@ use Rattle.kahn_model.specs.Trace.{State, job_of, cells_of}
 use Rattle.tapa_syntax.specs.LeafKinds.{kinds_of}
 use Rattle.task_fsm.specs.declared.machine.Fsm.{Fsm}
 use Rattle.task_fsm.specs.Machine.{TrapAt, forms_of}
+use Rattle.tapa_syntax.specs.TickPlaces.{size_of_list}
+use Rattle.task_fsm.specs.Ranges.{ranges_of, AreInRange}
+use Rattle.task_fsm.specs.Temporaries.{temporaries_of}
 use Rattle.task_fsm.specs.Run.{trap_of, run, cells_after, IsMachineOf}
 use Rattle.task_fsm.specs.Follows.{Follows}
 use Rattle.task_fsm.specs.MachineKinds.{machine_kinds, AreTypedStates}
@@ -34,6 +37,11 @@ pub record IsLowered (leaf : Leaf) (fsm : Fsm) : Type 0 where
       (σ : State) → IsStart leaf σ → (n : ℕ) (ins : ℕ → List Token) → (run (forms_of fsm.states.items) (length (ticks (job_of (kinds_of leaf) leaf.code.items σ n) ins) + 0) 0 (with_temporaries (length fsm.regs.items - length leaf.vars.items) σ) [] ins).holds.cells ≡ cells_after (ticks (job_of (kinds_of leaf) leaf.code.items σ n) ins) σ.cells
   -- each expression has its kind
   pub typed : AreTypedStates (machine_kinds leaf fsm) (forms_of fsm.states.items)
+  -- a state for each tick place, the end and the trap, and a register for each variable and temporary
+  pub states : length fsm.states.items ≡ size_of_list leaf.code.items + 2
+  pub registers : length fsm.regs.items ≡ length leaf.vars.items + temporaries_of leaf.code.items
+  -- each state names what is there, and leads to no trap
+  pub in_range : AreInRange (ranges_of leaf fsm) (forms_of fsm.states.items)
   pub trap : slice_get (forms_of fsm.states.items) (trap_of (forms_of fsm.states.items)) ≡ Some TrapAt
   pub regs : IsPrefixOf leaf.vars.items fsm.regs.items
   pub name : fsm.name ≡ leaf.name

@@ -24,10 +24,24 @@ with_registers K regs = record K { vars = λ r. slice_index_or regs r U64 }
 abbrev pub machine_kinds : Leaf → Fsm → Kinds
 machine_kinds leaf fsm = with_registers (kinds_of leaf) fsm.regs.items
 
--- a divisor is 0 in no state
+-- an expression of numbers alone, which has one value in all states
+abbrev pub IsFixed : Expression → Type 0
+IsFixed (Number kind n) = Unit {0}
+IsFixed (Reg x) = ⊥
+IsFixed (CellOf a i) = ⊥
+IsFixed (Converted source target e) = IsFixed e
+IsFixed (Applied o j l r) = IsFixed l × IsFixed r
+IsFixed (Flipped j e) = IsFixed e
+IsFixed (Inverse e) = IsFixed e
+IsFixed (Both l r) = IsFixed l × IsFixed r
+IsFixed (Either l r) = IsFixed l × IsFixed r
+IsFixed (Chosen e a b) = IsFixed e × IsFixed a × IsFixed b
+IsFixed Operation = ⊥
+
+-- a divisor is a constant that is not 0
 abbrev pub IsDivisor : Op → Expression → Type 0
-IsDivisor Div e = (σ : State) → 0 < value e σ
-IsDivisor Rem e = (σ : State) → 0 < value e σ
+IsDivisor Div e = IsFixed e × ((σ : State) → 0 < value e σ)
+IsDivisor Rem e = IsFixed e × ((σ : State) → 0 < value e σ)
 IsDivisor o e = Unit {0}
 
 -- an operator in kind j gives values of kind k: 0 and 1, as comparisons give, are values of every kind

@@ -15,14 +15,6 @@ use std::alloc::{AllocError, Global};
 use tapa_base::{Kind, OutOfMemory, Text};
 use tapa_syntax::{Array, Leaf, Program};
 
-// A copy of a text.
-fn copied_text(alloc: Global, text: &Text) -> Result<Text, AllocError>
-    ensures { IfOk result (λ t. t ≡ text.now) }
-{
-    let bytes: Vec<u8> = text.bytes().iter().copied().collect(alloc)?;
-    Ok(Text::new(bytes))
-}
-
 fn copied_kinds(alloc: Global, kinds: &[Kind]) -> Result<Vec<Kind>, AllocError>
     ensures { IfOk result (λ v. v.items ≡ kinds.now) }
 {
@@ -89,7 +81,7 @@ fn lower_leaf(alloc: Global, leaf: &Leaf) -> Result<Fsm, AllocError>
     )?;
     let scalars = copied_numbers(alloc, &leaf.scalars)?;
     let arrays = copied_arrays(alloc, &leaf.arrays)?;
-    let name = copied_text(alloc, &leaf.name)?;
+    let name = leaf.name.copy(alloc)?;
     Ok(finished(draft, name, scalars, arrays))
 }
 

@@ -5,10 +5,11 @@ ghost use Rattle.tapa_syntax.specs.LeafKinds.{kinds_of};
 ghost use Rattle.task_fsm.specs.Code.{operations, discarded, test_code};
 ghost use Rattle.task_fsm.specs.Draft.{emitted};
 
-use crate::draft::{Draft, memory_kind, stream_kind, write_held, write_state};
+use crate::draft::{Draft, write_held, write_state};
 use crate::machine::State;
 use crate::residual::rest;
 use crate::size::{plus, small};
+use kahn_model::kinds::{memory_kind, stream_kind};
 use std::alloc::{AllocError, Global};
 use tapa_base::Kind;
 use tapa_syntax::{Expr, Leaf};

@@ -6,13 +6,12 @@ ghost use Rattle.tapa_syntax.specs.LeafKinds.{kinds_of};
 ghost use Rattle.task_fsm.specs.Code.{plain_code};
 ghost use Rattle.task_fsm.specs.Draft.{emitted};
 
-use crate::draft::{
-    Draft, array_kind, memory_kind, stream_kind, var_kind, write_held, write_state,
-};
+use crate::draft::{Draft, write_held, write_state};
 use crate::machine::State;
 use crate::operations::write_ops;
 use crate::residual::{converted, joined, rest};
 use crate::size::{count_of, plus, small};
+use kahn_model::kinds::{array_kind, memory_kind, stream_kind, var_kind};
 use std::alloc::{AllocError, Global};
 use tapa_base::{Kind, Op};
 use tapa_syntax::{Expr, Leaf};

@@ -34,7 +34,7 @@ fn atom(page: &mut Page, alloc: Global, atom: &Atom) -> Result<(), AllocError>
 {
     match atom {
         Atom::Net(x) => page.word(x.bytes()),
-        Atom::Part(x, high, low) => {
+        Atom::Part { net: x, high, low } => {
             page.word(x.bytes())?;
             page.word(b"[")?;
             number(page, alloc, *high)?;
@@ -42,7 +42,10 @@ fn atom(page: &mut Page, alloc: Global, atom: &Atom) -> Result<(), AllocError>
             number(page, alloc, *low)?;
             page.word(b"]")
         }
-        Atom::Literal(bits, n) => literal(page, alloc, *bits, *n),
+        Atom::Literal {
+            width: bits,
+            value: n,
+        } => literal(page, alloc, *bits, *n),
     }
 }
 
@@ -153,11 +156,22 @@ fn value(page: &mut Page, alloc: Global, value: &Value) -> Result<(), AllocError
             page.word(b"~")?;
             atom(page, alloc, a)
         }
-        Value::Binary(a, op, b) => binary(page, alloc, a, *op, b),
-        Value::Choose(c, a, b) => choice(page, alloc, c, a, b),
+        Value::Binary {
+            left: a,
+            op,
+            right: b,
+        } => binary(page, alloc, a, *op, b),
+        Value::Choose {
+            condition: c,
+            yes: a,
+            no: b,
+        } => choice(page, alloc, c, a, b),
         Value::Concat(atoms) => concat(page, alloc, atoms.atoms()),
-        Value::Repeat(n, a) => copies(page, alloc, *n, a),
-        Value::Cell(m, x) => {
+        Value::Repeat { count: n, atom: a } => copies(page, alloc, *n, a),
+        Value::Cell {
+            memory: m,
+            index: x,
+        } => {
             page.word(m.bytes())?;
             page.word(b"[")?;
             page.word(x.bytes())?;
@@ -208,8 +222,15 @@ fn step(page: &mut Page, alloc: Global, step: &Step) -> Result<(), AllocError>
             page.word(b"begin")
         }
         Step::End => page.word(b"end"),
-        Step::NonblockingAssign(x, a) => put(page, alloc, x, a),
-        Step::MemoryAssign(m, x, a) => store(page, alloc, m, x, a),
+        Step::NonblockingAssign {
+            register: x,
+            value: a,
+        } => put(page, alloc, x, a),
+        Step::MemoryAssign {
+            memory: m,
+            index: x,
+            value: a,
+        } => store(page, alloc, m, x, a),
     }
 }
 
@@ -257,12 +278,12 @@ fn all_connections(page: &mut Page, connections: &[Connection]) -> Result<(), Al
 fn port(page: &mut Page, alloc: Global, port: &PortDecl) -> Result<(), AllocError>
     ensures { OnOk result (page.new ≡ fold lay_word page.old (port_words port.now)) }
 {
-    if port.input {
+    if port.is_input() {
         page.word(b"input")?;
     } else {
         page.word(b"output")?;
     }
-    range(page, alloc, port.bits)?;
+    range(page, alloc, port.width)?;
     page.word(port.name.bytes())
 }
 
@@ -364,12 +385,26 @@ fn item(page: &mut Page, alloc: Global, item: &Item) -> Result<(), AllocError>
     ensures { OnOk result (page.new ≡ fold lay_word page.old (item_words item.now)) }
 {
     match item {
-        Item::Wire(bits, x) => wire(page, alloc, *bits, x),
-        Item::Reg(bits, x) => register(page, alloc, *bits, x),
-        Item::Memory(bits, x, cells) => memory(page, alloc, *bits, x, *cells),
-        Item::Assign(x, e) => assign(page, alloc, x, e),
+        Item::Wire {
+            width: bits,
+            name: x,
+        } => wire(page, alloc, *bits, x),
+        Item::Reg {
+            width: bits,
+            name: x,
+        } => register(page, alloc, *bits, x),
+        Item::Memory {
+            width: bits,
+            name: x,
+            cells,
+        } => memory(page, alloc, *bits, x, *cells),
+        Item::Assign { net: x, value: e } => assign(page, alloc, x, e),
         Item::Always(b) => always(page, alloc, b.steps()),
-        Item::Instance(m, i, connections) => instance(page, m, i, connections.connections()),
+        Item::Instance {
+            module: m,
+            name: i,
+            connections,
+        } => instance(page, m, i, connections.connections()),
     }
 }
 

@@ -10,13 +10,13 @@ use Rattle.vlog_tree.specs.Form.{ModuleTree}
 use Rattle.vlog_tree.specs.Table.{Name}
 use Rattle.vlog_tree.specs.Loops.{Edges, Reaches, port_of, item_instances}
 use Rattle.vlog_graph.specs.Graphs.{targets_of}
-use Rattle.vlog_graph.proofs.Numbered.{has_left, has_right, targets_push}
+use Rattle.vlog_graph.proofs.Numbered.{targets_push}
 use Rattle.vlog_comb_loops.specs.declared.suspects.Suspect.{Suspect}
 use Rattle.vlog_comb_loops.specs.declared.suspects.Loops.{Loops}
 use Rattle.vlog_comb_loops.specs.declared.questions.Questions.{Questions}
 use Rattle.vlog_comb_loops.specs.Questions.{Question, asked_of, Keeps, Asks}
 use Rattle.vlog_comb_loops.specs.Search.{LoopsIn, LoopsAt, LoopsBy, IsSuspect, IsEvidence}
-use Rattle.vlog_comb_loops.proofs.Lists.{has_flat, of_flat, has_got, got_has}
+use Rattle.vlog_tree.proofs.Lists.{has_flat, of_flat, has_got, got_has, has_left, has_right}
 
 module _ {X A : Type 0} where
   abbrev pub list_of : List (Vec X A) → Option ℕ → List X

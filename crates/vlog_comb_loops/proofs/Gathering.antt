@@ -7,10 +7,9 @@ use Rattle.vlog_tree.specs.declared.table.NetKind.TheVariants.{Unknown, Input, O
 use Rattle.vlog_tree.specs.Grounded.{Has}
 use Rattle.vlog_tree.specs.Table.{Name, declaration_name}
 use Rattle.vlog_tree.specs.Loops.{Edges}
-use Rattle.vlog_graph.proofs.Numbered.{has_left, has_right, has_split}
 use Rattle.vlog_comb_loops.specs.Growth.{Gathers}
 use Rattle.vlog_comb_loops.specs.Summaries.{IsPair, IsSumOf}
-use Rattle.vlog_comb_loops.proofs.Lists.{taken_mapped, known}
+use Rattle.vlog_tree.proofs.Lists.{taken_mapped, known, has_left, has_right, has_split}
 
 module _ (P : Name → Name → Type 0) where
   pub gathers_nothing : (Q : Name → Name → Type 0) (s : Edges) → ((x y : Name) → P x y → Q x y → ⊥) → Gathers P Q s s

@@ -1,5 +1,4 @@
 pub mod Growing
-pub mod Lists
 pub mod Resting
 pub mod Gathering
 pub mod Searching

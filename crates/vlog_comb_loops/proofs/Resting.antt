@@ -7,15 +7,12 @@ use Rattle.std.proofs.lemmas.List.{get_or-set_other, length-set}
 use Rattle.std.proofs.lemmas.Grind.{get_or-set_at}
 use Rattle.vlog_tree.specs.Grounded.{Has}
 use Rattle.vlog_tree.specs.Form.{ModuleTree}
-use Rattle.vlog_tree.specs.Cycle.{module_named}
 use Rattle.vlog_tree.specs.NameTable.{places_from}
-use Rattle.vlog_tree.specs.Table.{Name, port_declared, declaration_name, module_declared}
+use Rattle.vlog_tree.specs.Table.{Name, port_declared, declaration_name, module_declared, module_named}
 use Rattle.vlog_tree.specs.Loops.{Edges, Reaches, one, more, Rests, directly, through, after, port_of, direct_edges, instances}
 use Rattle.vlog_comb_loops.specs.Summaries.{sum_named, port_pair, through_edges, module_edges, IsSumOf, IsSoundSum, IsClosedSum, AreSums, AreRight}
 use Rattle.vlog_rules.proofs.Found.{module_found}
-use Rattle.vlog_graph.proofs.Numbered.{has_left, has_right, has_split}
-use Rattle.vlog_graph.proofs.Reached.{chains}
-use Rattle.vlog_comb_loops.proofs.Lists.{has_flat, of_flat, has_map, of_map}
+use Rattle.vlog_tree.proofs.Lists.{has_flat, of_flat, has_map, of_map, has_left, has_right, has_split, chains}
 
 -- the sum of a module that a name finds
 named_of : (P : ModuleTree → Edges → Type 0) (m : ModuleTree) (ms : List ModuleTree) (s : Edges) (sums : List Edges) (x : Name) (k : ModuleTree) (b : Bool)

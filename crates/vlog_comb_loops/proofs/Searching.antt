@@ -11,9 +11,8 @@ use Rattle.vlog_comb_loops.specs.declared.suspects.Loops.{Loops}
 use Rattle.vlog_comb_loops.specs.Search.{IsSearched, LoopsIn, IsSuspect, IsEvidence, IsJudged}
 use Rattle.vlog_comb_loops.specs.Summaries.{module_edges, AreRight}
 use Rattle.vlog_graph.specs.Graphs.{IsGraphOf}
-use Rattle.vlog_graph.proofs.Numbered.{has_left, has_right, has_split}
 use Rattle.vlog_comb_loops.proofs.Resting.{rests_is_reaches}
-use Rattle.vlog_comb_loops.proofs.Lists.{has_got, got_has}
+use Rattle.vlog_tree.proofs.Lists.{has_got, got_has, has_left, has_right, has_split}
 
 module _ (P : TextPlace → Type 0) where
   pub hits : (s : TextPlace) (xs : List TextPlace) → P s → IsSearched P (s ∷ xs) (Some (place_name s))

@@ -38,8 +38,8 @@ fn add_atom(alloc: Global, g: &mut Graph, x: &Text, atom: &Atom) -> Result<(), A
 {
     match atom {
         Atom::Net(y) => add(alloc, g, x.bytes(), y.bytes()),
-        Atom::Part(y, _, _) => add(alloc, g, x.bytes(), y.bytes()),
-        Atom::Literal(_, _) => Ok(()),
+        Atom::Part { net: y, .. } => add(alloc, g, x.bytes(), y.bytes()),
+        Atom::Literal { .. } => Ok(()),
     }
 }
 
@@ -82,11 +82,19 @@ fn add_value(alloc: Global, g: &mut Graph, x: &Text, value: &Value) -> Result<()
     match value {
         Value::Plain(a) => add_atom(alloc, g, x, a),
         Value::Invert(a) => add_atom(alloc, g, x, a),
-        Value::Binary(a, _, b) => add_two(alloc, g, x, a, b),
-        Value::Choose(c, a, b) => add_three(alloc, g, x, c, a, b),
+        Value::Binary {
+            left: a,
+            right: b,
+            ..
+        } => add_two(alloc, g, x, a, b),
+        Value::Choose {
+            condition: c,
+            yes: a,
+            no: b,
+        } => add_three(alloc, g, x, c, a, b),
         Value::Concat(atoms) => add_atoms(alloc, g, x, atoms.atoms()),
-        Value::Repeat(_, a) => add_atom(alloc, g, x, a),
-        Value::Cell(_, y) => add(alloc, g, x.bytes(), y.bytes()),
+        Value::Repeat { atom: a, .. } => add_atom(alloc, g, x, a),
+        Value::Cell { index: y, .. } => add(alloc, g, x.bytes(), y.bytes()),
     }
 }
 
@@ -128,13 +136,15 @@ fn add_line(alloc: Global, g: &mut Graph, library: &Library, item: &Item) -> Res
     ensures { OnOk result (Adds g.old g.new (line_edges library.now item.now)) }
 {
     match item {
-        Item::Assign(x, e) => add_value(alloc, g, x, e),
-        Item::Instance(m, i, joins) => {
-            add_connections(alloc, g, library.ports_named(m), i, joins.connections())
-        }
-        Item::Wire(_, _) => Ok(()),
-        Item::Reg(_, _) => Ok(()),
-        Item::Memory(_, _, _) => Ok(()),
+        Item::Assign { net: x, value: e } => add_value(alloc, g, x, e),
+        Item::Instance {
+            module: m,
+            name: i,
+            connections: joins,
+        } => { add_connections(alloc, g, library.ports_named(m), i, joins.connections()) }
+        Item::Wire { .. } => Ok(()),
+        Item::Reg { .. } => Ok(()),
+        Item::Memory { .. } => Ok(()),
         Item::Always(_) => Ok(()),
     }
 }
@@ -234,11 +244,15 @@ fn add_through(
     ensures { OnOk result (Adds g.old g.new (flat_map (through_edges library.now sums.now) (item_instances item.now))) }
 {
     match item {
-        Item::Instance(m, i, _) => add_pairs(alloc, g, i, pairs_named(library, sums, m)),
-        Item::Wire(_, _) => Ok(()),
-        Item::Reg(_, _) => Ok(()),
-        Item::Memory(_, _, _) => Ok(()),
-        Item::Assign(_, _) => Ok(()),
+        Item::Instance {
+            module: m,
+            name: i,
+            ..
+        } => add_pairs(alloc, g, i, pairs_named(library, sums, m)),
+        Item::Wire { .. } => Ok(()),
+        Item::Reg { .. } => Ok(()),
+        Item::Memory { .. } => Ok(()),
+        Item::Assign { .. } => Ok(()),
         Item::Always(_) => Ok(()),
     }
 }

@@ -122,11 +122,11 @@ fn ask_line(
     ensures kept { OnOk result (Keeps questions.old questions.new) }
 {
     match item {
-        Item::Instance(m, _, _) => questions.ask(alloc, m, (at, Some(line))),
-        Item::Wire(_, _) => Ok(()),
-        Item::Reg(_, _) => Ok(()),
-        Item::Memory(_, _, _) => Ok(()),
-        Item::Assign(_, _) => Ok(()),
+        Item::Instance { module: m, .. } => questions.ask(alloc, m, (at, Some(line))),
+        Item::Wire { .. } => Ok(()),
+        Item::Reg { .. } => Ok(()),
+        Item::Memory { .. } => Ok(()),
+        Item::Assign { .. } => Ok(()),
         Item::Always(_) => Ok(()),
     }
 }

@@ -28,11 +28,11 @@ fn add_child(alloc: Global, g: &mut Graph, m: &Text, item: &Item) -> Result<(), 
     ensures { OnOk result (Adds g.old g.new (map (λ k. (m.now, k)) (item_children item.now))) }
 {
     match item {
-        Item::Instance(k, _, _) => add(alloc, g, m.bytes(), k.bytes()),
-        Item::Wire(_, _) => Ok(()),
-        Item::Reg(_, _) => Ok(()),
-        Item::Memory(_, _, _) => Ok(()),
-        Item::Assign(_, _) => Ok(()),
+        Item::Instance { module: k, .. } => add(alloc, g, m.bytes(), k.bytes()),
+        Item::Wire { .. } => Ok(()),
+        Item::Reg { .. } => Ok(()),
+        Item::Memory { .. } => Ok(()),
+        Item::Assign { .. } => Ok(()),
         Item::Always(_) => Ok(()),
     }
 }

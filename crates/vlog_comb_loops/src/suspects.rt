@@ -44,7 +44,11 @@ fn port_returns(
         → IfOk result (λ b. (b ≡ true) ↔ ((i : List ℕ) × Has (item_instances item.now) (owner.now, i) × Reaches edges (port_of i port.now) (port_of i port.now))) }
 {
     match item {
-        Item::Instance(m, i, _) => {
+        Item::Instance {
+            module: m,
+            name: i,
+            ..
+        } => {
             if m.bytes() == owner.bytes() {
                 let name = port_name(alloc, i, port)?;
                 graph.returns(alloc, &name)
@@ -52,10 +56,10 @@ fn port_returns(
                 Ok(false)
             }
         }
-        Item::Wire(_, _) => Ok(false),
-        Item::Reg(_, _) => Ok(false),
-        Item::Memory(_, _, _) => Ok(false),
-        Item::Assign(_, _) => Ok(false),
+        Item::Wire { .. } => Ok(false),
+        Item::Reg { .. } => Ok(false),
+        Item::Memory { .. } => Ok(false),
+        Item::Assign { .. } => Ok(false),
         Item::Always(_) => Ok(false),
     }
 }

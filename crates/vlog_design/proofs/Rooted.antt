@@ -1,6 +1,6 @@
 -- Modules of which none contains itself have one that no other contains.
 use Rattle.std.proofs.Common.{◌≡◌, ℕ, zero, suc, ◌+◌, ◌≤◌, Bool, true, false, cond, List, [], ◌∷◌, ◌++◌, length, map, Some, None, inl, inr, refl, sym, ap, subst, ◌∙◌, arith}
-use Rattle.std.specs.Prelude.{◌⊎◌, ◌==◌, ◌&&◌, bytes_eq, filter, slice_get}
+use Rattle.std.specs.Prelude.{◌⊎◌, ◌==◌, ◌&&◌, bytes_eq, filter, slice_get, not}
 use Rattle.std.specs.List.{flat_map}
 use Rattle.std.specs.Option.{option_map_or}
 use Rattle.std.specs.Cmp.Lexicographic.{bytes_decides}
@@ -10,11 +10,11 @@ use Rattle.std.proofs.lemmas.List.Sums.{sum_by-cons}
 use Rattle.vlog_tree.specs.Grounded.{Has}
 use Rattle.vlog_tree.specs.Form.{ModuleTree}
 use Rattle.vlog_tree.specs.NameTable.{times_in}
-use Rattle.vlog_tree.specs.Table.{Name, NameUse, no, clk, first_violation, port_declared}
+use Rattle.vlog_tree.specs.Table.{Name, NameUse, clk, first_violation, port_declared}
 use Rattle.vlog_tree.specs.Labels.{rst, done}
 use Rattle.vlog_tree.specs.V6.{module_children, contained_names, roots, first_name, is_top, has_port, top_ports, clock_connections, is_whole_top, module_tops, v6_uses}
 use Rattle.vlog_tree.specs.Loops.{one, more, Reaches, own_containment, containment, own_places, IsLoopless}
-use Rattle.vlog_comb_loops.proofs.Lists.{has_flat, of_flat, has_map}
+use Rattle.vlog_tree.proofs.Lists.{has_flat, of_flat, has_map}
 
 none_more : (n : ℕ) → 0 + n ≡ n
 none_more n = omega arith
@@ -127,7 +127,7 @@ not_wrong : (b : Bool) (x : Name) (us : List NameUse) → first_violation ((x, b
 not_wrong true x us e = cc
 not_wrong false x us e = refl
 
-then_whole : (top whole : Bool) → (top && no whole) ≡ false → top ≡ true → whole ≡ true
+then_whole : (top whole : Bool) → (top && not whole) ≡ false → top ≡ true → whole ≡ true
 then_whole true true e t = refl
 then_whole true false e t = cc
 then_whole false whole e t = cc
@@ -153,7 +153,7 @@ unfolding module_tops is_whole_top
 whole_top ms m e t =
     let ports = map port_declared m.ports in
     let others = cond (is_top ms m.name) (top_ports ports [] m.ports) [] ++ flat_map clock_connections m.items in
-    let wrong = is_top ms m.name && no (is_whole_top ms ports) in
+    let wrong = is_top ms m.name && not (is_whole_top ms ports) in
     let whole = then_whole (is_top ms m.name) (is_whole_top ms ports) (not_wrong wrong m.name others e) t in
     first_of_four (length (roots ms) == 1) (has_port ports clk) (has_port ports rst) (has_port ports done) whole
 

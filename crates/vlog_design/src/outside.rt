@@ -40,11 +40,14 @@ fn item(item: &Item) -> Option<&Text>
     ensures { option_copied result ≡ first_violation (clock_connections_lem item.now) }
 {
     match item {
-        Item::Instance(_, _, joins) => connections(joins.connections()),
-        Item::Wire(_, _) => None,
-        Item::Reg(_, _) => None,
-        Item::Memory(_, _, _) => None,
-        Item::Assign(_, _) => None,
+        Item::Instance {
+            connections: joins,
+            ..
+        } => connections(joins.connections()),
+        Item::Wire { .. } => None,
+        Item::Reg { .. } => None,
+        Item::Memory { .. } => None,
+        Item::Assign { .. } => None,
         Item::Always(_) => None,
     }
 }

@@ -16,11 +16,11 @@ fn count_child(alloc: Global, counts: &mut NameCounts, item: &Item) -> Result<()
     ensures { OnOk result ((names : List (List ℕ)) → CountsTo counts.old (times_in names) → CountsTo counts.new (times_in (names ++ item_children item.now))) }
 {
     match item {
-        Item::Instance(m, _, _) => count_one(alloc, counts, m.bytes()),
-        Item::Wire(_, _) => Ok(()),
-        Item::Reg(_, _) => Ok(()),
-        Item::Memory(_, _, _) => Ok(()),
-        Item::Assign(_, _) => Ok(()),
+        Item::Instance { module: m, .. } => count_one(alloc, counts, m.bytes()),
+        Item::Wire { .. } => Ok(()),
+        Item::Reg { .. } => Ok(()),
+        Item::Memory { .. } => Ok(()),
+        Item::Assign { .. } => Ok(()),
         Item::Always(_) => Ok(()),
     }
 }

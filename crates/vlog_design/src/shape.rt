@@ -25,7 +25,7 @@ fn push_scalar(alloc: Global, out: &mut Vec<Port>, port: &PortDecl) -> Result<()
     ensures { OnOk result (out.new.items ≡ out.old.items ++ scalar_label port.now (scalar_lem port.now.name)) }
 {
     match scalar_of(&port.name) {
-        Some(label) => push(alloc, out, label, port.bits),
+        Some(label) => push(alloc, out, label, port.width),
         None => Ok(()),
     }
 }
@@ -87,12 +87,15 @@ fn is_bit(name: &[u8], item: &Item) -> bool
     ensures { result ≡ is_wire_of name.now item.now }
 {
     match item {
-        Item::Wire(bits, x) => x.bytes() == name && *bits == 1,
-        Item::Reg(_, _) => false,
-        Item::Memory(_, _, _) => false,
-        Item::Assign(_, _) => false,
+        Item::Wire {
+            width: bits,
+            name: x,
+        } => x.bytes() == name && *bits == 1,
+        Item::Reg { .. } => false,
+        Item::Memory { .. } => false,
+        Item::Assign { .. } => false,
         Item::Always(_) => false,
-        Item::Instance(_, _, _) => false,
+        Item::Instance { .. } => false,
     }
 }
 
@@ -141,12 +144,15 @@ fn push_item(
     ensures { OnOk result (out.new.items ≡ out.old.items ++ item_stream items.now item.now) }
 {
     match item {
-        Item::Wire(bits, x) => push_stream(alloc, out, items, *bits, x),
-        Item::Reg(_, _) => Ok(()),
-        Item::Memory(_, _, _) => Ok(()),
-        Item::Assign(_, _) => Ok(()),
+        Item::Wire {
+            width: bits,
+            name: x,
+        } => push_stream(alloc, out, items, *bits, x),
+        Item::Reg { .. } => Ok(()),
+        Item::Memory { .. } => Ok(()),
+        Item::Assign { .. } => Ok(()),
         Item::Always(_) => Ok(()),
-        Item::Instance(_, _, _) => Ok(()),
+        Item::Instance { .. } => Ok(()),
     }
 }
 

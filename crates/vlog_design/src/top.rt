@@ -69,13 +69,13 @@ fn agrees(before: &NameBits, name: &[u8], bits: u32) -> bool
 fn is_in(port: &PortDecl, bits: u32) -> bool
     ensures { result ≡ is_in_lem port.now bits }
 {
-    port.input && port.bits == bits
+    port.is_input() && port.width == bits
 }
 
 fn is_out(port: &PortDecl, bits: u32) -> bool
     ensures { result ≡ is_out_lem port.now bits }
 {
-    !port.input && port.bits == bits
+    !port.is_input() && port.width == bits
 }
 
 #[tactic(auto, unfolding(vlog_tree::specs::V6::is_memory_port))]
@@ -111,7 +111,7 @@ fn fixed_fits(port: &PortDecl) -> bool
 fn scalar_fits(port: &PortDecl) -> bool
     ensures { result ≡ scalar_fits_lem port.now }
 {
-    scalar_of(&port.name).is_none() || (port.input && port.bits <= 64)
+    scalar_of(&port.name).is_none() || (port.is_input() && port.width <= 64)
 }
 
 #[tactic(auto, unfolding(vlog_tree::specs::V6::ack_fits))]
@@ -157,7 +157,7 @@ fn rdata_fits(
         Some(x) => {
             let other = wdata_name(alloc, x)?;
             let five = has_all_five(alloc, ports, x)?;
-            Ok(port.input && port.bits <= 64 && five && agrees(before, &other, port.bits))
+            Ok(port.is_input() && port.width <= 64 && five && agrees(before, &other, port.width))
         }
         None => Ok(true),
     }
@@ -176,7 +176,7 @@ fn wdata_fits(
         Some(x) => {
             let other = rdata_name(alloc, x)?;
             let five = has_all_five(alloc, ports, x)?;
-            Ok(!port.input && port.bits <= 64 && five && agrees(before, &other, port.bits))
+            Ok(!port.is_input() && port.width <= 64 && five && agrees(before, &other, port.width))
         }
         None => Ok(true),
     }
@@ -213,7 +213,7 @@ pub(crate) fn first_misfit_port<'a>(
         if !port_fits(alloc, scope, &before, p)? {
             return Ok(Some(&p.name));
         }
-        set_bits(alloc, &mut before, p.name.bytes(), p.bits)?;
+        set_bits(alloc, &mut before, p.name.bytes(), p.width)?;
     }
     Ok(None)
 }

@@ -4,8 +4,8 @@ ghost use Rattle.std.specs.Prelude.{◌≡◌, ◌∷◌, ◌++◌, ◌+◌, ◌
 ghost use Rattle.std.specs.Option.{option_copied, option_map_or};
 ghost use Rattle.std.specs.List.{flat_map, list_any};
 ghost use Rattle.vlog_tree.specs.NameTable.{count_in, CountsTo, times_in};
-ghost use Rattle.vlog_tree.specs.Table.{first_violation, port_declared, declared, ports_of};
-ghost use Rattle.vlog_tree.specs.V4.{connection_driven, line_driven, drives, one_if, step_assigns, is_block_of, breaks_driving as breaks_driving_lem, module_drives, v4_uses};
+ghost use Rattle.vlog_tree.specs.Table.{first_violation, port_declared, declared, ports_of, one_if};
+ghost use Rattle.vlog_tree.specs.V4.{connection_driven, line_driven, drives, step_assigns, is_block_of, breaks_driving as breaks_driving_lem, module_drives, v4_uses};
 
 use std::alloc::{AllocError, Global};
 use tapa_base::Text;
@@ -54,8 +54,12 @@ fn count_line(
     ensures { OnOk result ((names : List (List ℕ)) → CountsTo counts.old (times_in names) → CountsTo counts.new (times_in (names ++ line_driven library.now item.now))) }
 {
     match item {
-        Item::Assign(x, _) => count_one(alloc, counts, x.bytes()),
-        Item::Instance(m, _, connections) => {
+        Item::Assign { net: x, .. } => count_one(alloc, counts, x.bytes()),
+        Item::Instance {
+            module: m,
+            connections,
+            ..
+        } => {
             count_connections(
                 alloc,
                 counts,
@@ -63,9 +67,9 @@ fn count_line(
                 connections.connections(),
             )
         }
-        Item::Wire(_, _) => Ok(()),
-        Item::Reg(_, _) => Ok(()),
-        Item::Memory(_, _, _) => Ok(()),
+        Item::Wire { .. } => Ok(()),
+        Item::Reg { .. } => Ok(()),
+        Item::Memory { .. } => Ok(()),
         Item::Always(_) => Ok(()),
     }
 }
@@ -86,8 +90,8 @@ fn target(step: &Step) -> Option<&Text>
     ensures { (x : List ℕ) → step_assigns x step.now ≡ option_map_or (λ y. bytes_eq y x) (option_copied result) false }
 {
     match step {
-        Step::NonblockingAssign(x, _) => Some(x),
-        Step::MemoryAssign(m, _, _) => Some(m),
+        Step::NonblockingAssign { register: x, .. } => Some(x),
+        Step::MemoryAssign { memory: m, .. } => Some(m),
         Step::If(_) => None,
         Step::Else => None,
         Step::End => None,
@@ -143,11 +147,11 @@ fn count_blocks_of(alloc: Global, blocks: &mut NameCounts, item: &Item) -> Resul
 {
     match item {
         Item::Always(b) => count_block(alloc, blocks, b.steps()),
-        Item::Wire(_, _) => Ok(()),
-        Item::Reg(_, _) => Ok(()),
-        Item::Memory(_, _, _) => Ok(()),
-        Item::Assign(_, _) => Ok(()),
-        Item::Instance(_, _, _) => Ok(()),
+        Item::Wire { .. } => Ok(()),
+        Item::Reg { .. } => Ok(()),
+        Item::Memory { .. } => Ok(()),
+        Item::Assign { .. } => Ok(()),
+        Item::Instance { .. } => Ok(()),
     }
 }
 

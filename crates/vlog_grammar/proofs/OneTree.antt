@@ -5,7 +5,7 @@ use Rattle.vlog_tree.specs.declared.tree.Connection.{Connection}
 use Rattle.vlog_tree.specs.declared.tree.Item.{Item}
 use Rattle.vlog_tree.specs.declared.tree.Item.TheVariants.{Wire, Reg, Memory, Assign, Always, Instance}
 use Rattle.vlog_tree.specs.declared.tree.PortDecl.{PortDecl}
-use Rattle.vlog_tree.specs.Form.{ModuleTree}
+use Rattle.vlog_tree.specs.Form.{ModuleTree, is_input}
 use Rattle.vlog_tree.specs.Names.{IsName}
 use Rattle.vlog_tree.specs.Spelling.{Word}
 use Rattle.vlog_grammar.specs.Spans.{◌⨾◌, Each, Separated}
@@ -32,7 +32,7 @@ one_connection l m i j k _ _ (t, e, (u, p, (v, f, (w, q, g)))) (t1, e1, (u1, p1,
 paren_no_comma : codes ")" ≡ codes "," → ⊥
 paren_no_comma e = apart (λ b. b == 41) (codes ")") (codes ",") refl refl e
 
-same_port : (p q : PortDecl) → p.input ≡ q.input → p.bits ≡ q.bits → p.name ≡ q.name → p ≡ q
+same_port : (p q : PortDecl) → is_input p.direction ≡ is_input q.direction → p.width ≡ q.width → p.name ≡ q.name → p ≡ q
 same_port p q a b c = λ i. record { input = a i; bits = b i; name = c i }
 
 one_direction : (a b : Bool) → (if a then codes "input" else codes "output") ≡ (if b then codes "input" else codes "output") → a ≡ b
@@ -43,9 +43,9 @@ one_direction false true e = absurd (apart (λ b. b == 105) (codes "input") (cod
 
 one_port : (p q : PortDecl) (i j k : List Word) → ⊤ → ⊤ → SpellsPort p i j → SpellsPort q i k → (p ≡ q) × (j ≡ k)
 one_port p q i j k _ _ (t, e, h) (t1, e1, g) =
-    let et = same_rest (if p.input then codes "input" else codes "output") (if q.input then codes "input" else codes "output") i t t1 e e1 in
-    let s = one_range p.bits q.bits p.name q.name t j k h (subst (λ (z : List Word). (SpellsRange q.bits ⨾ SpellsName q.name) z k) (sym et) g) in
-    (same_port p q (one_direction p.input q.input (same_first (if p.input then codes "input" else codes "output") (if q.input then codes "input" else codes "output") i t t1 e e1)) s.0 s.1, s.2)
+    let et = same_rest (if is_input p.direction then codes "input" else codes "output") (if is_input q.direction then codes "input" else codes "output") i t t1 e e1 in
+    let s = one_range p.width q.width p.name q.name t j k h (subst (λ (z : List Word). (SpellsRange q.width ⨾ SpellsName q.name) z k) (sym et) g) in
+    (same_port p q (one_direction (is_input p.direction) (is_input q.direction) (same_first (if is_input p.direction then codes "input" else codes "output") (if is_input q.direction then codes "input" else codes "output") i t t1 e e1)) s.0 s.1, s.2)
 
 -- ---- items, by the word that each begins with
 

@@ -13,6 +13,7 @@ use Rattle.vlog_grammar.specs.Spans.{Part, ◌⨾◌, Takes, Each, Separated, Se
 use Rattle.vlog_grammar.specs.Lexemes.{begins, is_digit_of}
 use Rattle.vlog_grammar.specs.Grammar.{SpellsName, SpellsNumber, SpellsAtom, SpellsOperator, SpellsValue}
 use Rattle.vlog_grammar.proofs.OneAtom.{first, apart, names_no_sign, digit_begins_no_name, number_begins, literal_begins, same_first, same_rest, one_name, one_number, EndsAtom, one_atom}
+use Rattle.std.specs.Prelude.{not}
 
 -- ---- lists
 

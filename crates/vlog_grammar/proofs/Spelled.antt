@@ -17,7 +17,7 @@ use Rattle.vlog_tree.specs.declared.tree.Item.{Item}
 use Rattle.vlog_tree.specs.declared.tree.Item.TheVariants.{Wire, Reg, Memory, Assign, Always, Instance}
 use Rattle.vlog_tree.specs.declared.tree.PortDecl.{PortDecl}
 use Rattle.vlog_tree.specs.Names.{IsName, has_name_form, starts_name, goes_on}
-use Rattle.vlog_tree.specs.Form.{ModuleTree, nested, is_atom, is_value, is_step, is_connection, is_item, is_port, IsModule}
+use Rattle.vlog_tree.specs.Form.{ModuleTree, nested, is_atom, is_value, is_step, is_connection, is_item, is_port, IsModule, is_input}
 use Rattle.vlog_tree.specs.Spelling.{Word, range_words, port_words, atom_words, op_word, more_words, with_commas, value_words, step_words, connection_words, item_words, module_words, blank_page, spelling}
 use Rattle.vlog_grammar.specs.Spans.{Part, ◌⨾◌, ◌∣◌, Takes, TakesSome, Each, Separated, SeparatedTwo}
 use Rattle.vlog_grammar.specs.Numerals.{IsNumber, IsLiteral}
@@ -252,15 +252,15 @@ unfolding starts_name goes_on
 direction true = keyword (codes "input") refl
 direction false = keyword (codes "output") refl
 
-port : (p : PortDecl) → is_port p ≡ true → Small (p.bits ∷ []) → Spelled (SpellsPort p) (port_words p)
-port p h small = let k = both _ _ h in direction p.input then range p.bits (at_least 1 p.bits k.0) small.0 then name p.name k.1
+port : (p : PortDecl) → is_port p ≡ true → Small (p.width ∷ []) → Spelled (SpellsPort p) (port_words p)
+port p h small = let k = both _ _ h in direction (is_input p.direction) then range p.width (at_least 1 p.width k.0) small.0 then name p.name k.1
 
 whole : (m : ModuleTree) → IsModule m → HasWrittenNumbers m → Spelled (SpellsModule m) (module_words m)
 unfolding is_fixed_sign is_sign signs is_sign_or_mark starts_name goes_on IsModule
 whole m h small =
-    let k = both _ _ h in let l = both _ _ k.0 in let n = both _ _ l.0 in let ports = flat_map (λ p. p.bits ∷ []) m.ports in let items = flat_map item_numbers m.items in
+    let k = both _ _ h in let l = both _ _ k.0 in let n = both _ _ l.0 in let ports = flat_map (λ p. p.width ∷ []) m.ports in let items = flat_map item_numbers m.items in
     keyword (codes "module") refl then name m.name n.0 then sign (codes "(") refl
-    then separated is_port (λ p. p.bits ∷ []) SpellsPort port_words port m.ports (at_least 1 (length m.ports) n.1) l.1 (first_list _ ports items small)
+    then separated is_port (λ p. p.width ∷ []) SpellsPort port_words port m.ports (at_least 1 (length m.ports) n.1) l.1 (first_list _ ports items small)
     then sign (codes ")") refl then sign (codes ";") refl then listed is_item item_numbers SpellsItem item_words item m.items k.1 (second_list _ ports items small) then keyword (codes "endmodule") refl
 
 wholes : (ms : List ModuleTree) → AllByRecursion IsModule ms → AllByRecursion HasWrittenNumbers ms → Spelled (Each SpellsModule ms) (flat_map module_words ms)

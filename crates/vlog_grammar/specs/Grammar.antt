@@ -13,7 +13,7 @@ use Rattle.vlog_tree.specs.declared.tree.Connection.{Connection}
 use Rattle.vlog_tree.specs.declared.tree.Item.{Item}
 use Rattle.vlog_tree.specs.declared.tree.Item.TheVariants.{Wire, Reg, Memory, Assign, Always, Instance}
 use Rattle.vlog_tree.specs.declared.tree.PortDecl.{PortDecl}
-use Rattle.vlog_tree.specs.Form.{ModuleTree}
+use Rattle.vlog_tree.specs.Form.{ModuleTree, is_input}
 use Rattle.vlog_tree.specs.Names.{IsName}
 use Rattle.vlog_tree.specs.Spelling.{Word}
 use Rattle.vlog_grammar.specs.Spans.{Part, ◌⨾◌, ◌∣◌, Nothing, Takes, TakesSome, Each, EachOfSome, Separated, SeparatedTwo}
@@ -128,7 +128,7 @@ SpellsItem (Instance m x connections) = SpellsName m ⨾ SpellsName x ⨾ Takes 
 
 -- a port, declared where it is listed (12.3.4)
 abbrev pub SpellsPort : PortDecl → Part
-SpellsPort p = Takes (if p.input then codes "input" else codes "output") ⨾ SpellsRange p.bits ⨾ SpellsName p.name
+SpellsPort p = Takes (if is_input p.direction then codes "input" else codes "output") ⨾ SpellsRange p.width ⨾ SpellsName p.name
 
 -- a module (12.1)
 abbrev pub SpellsModule : ModuleTree → Part

@@ -41,7 +41,7 @@ item_numbers (Always steps) = flat_map step_numbers steps
 item_numbers (Instance m x connections) = []
 
 abbrev pub module_numbers : ModuleTree → List ℕ
-module_numbers m = flat_map (λ p. p.bits ∷ []) m.ports ++ flat_map item_numbers m.items
+module_numbers m = flat_map (λ p. p.width ∷ []) m.ports ++ flat_map item_numbers m.items
 
 -- Each number of the tree is one that `decimal` writes with all its digits. The types of a tree hold numbers below 2 ^ 128.
 abbrev pub HasWrittenNumbers : ModuleTree → Type 0

@@ -9,20 +9,6 @@ use Rattle.vlog_tree.specs.Table.{Name}
 use Rattle.vlog_tree.specs.Loops.{Edges, Chain, one, more, Reaches}
 use Rattle.vlog_graph.specs.Graphs.{IsNumbered, targets_of}
 
-pub has_left : {N : Type 0} (xs ys : List N) (b : N) → Has xs b → Has (xs ++ ys) b
-has_left [] ys b h = absurd h
-has_left (x ∷ xs) ys b (inl e) = inl e
-has_left (x ∷ xs) ys b (inr h) = inr (has_left xs ys b h)
-
-pub has_right : {N : Type 0} (xs ys : List N) (b : N) → Has ys b → Has (xs ++ ys) b
-has_right [] ys b h = h
-has_right (x ∷ xs) ys b h = inr (has_right xs ys b h)
-
-pub has_split : {N : Type 0} (xs ys : List N) (b : N) → Has (xs ++ ys) b → Has xs b ⊎ Has ys b
-has_split [] ys b h = inr h
-has_split (x ∷ xs) ys b (inl e) = inl (inl e)
-has_split (x ∷ xs) ys b (inr h) = elim (has_split xs ys b h) [ inl l ↦ inl (inr l) | inr r ↦ inr r ]
-
 -- a last number without targets changes no targets
 pub targets_push : {X A : Type 0} (xs : List (Vec X A)) (v : Vec X A) → v.items ≡ [] → (j : ℕ) → targets_of (xs ++ v ∷ []) j ≡ targets_of xs j
 targets_push [] v e zero = e

@@ -7,7 +7,7 @@ use Rattle.std.proofs.lemmas.Grind.{get_or-set_at}
 use Rattle.vlog_tree.specs.Grounded.{Has}
 use Rattle.vlog_tree.specs.Loops.{Chain, one, more}
 use Rattle.vlog_graph.specs.Graphs.{IsMarked}
-use Rattle.vlog_graph.proofs.Numbered.{has_left, has_right, has_split}
+use Rattle.vlog_tree.proofs.Lists.{has_left, has_right, has_split}
 
 -- one more number is marked and noted
 module _ (marks : List Bool) (found : List ℕ) (n : ℕ) (m : IsMarked marks found) (low : n < length marks) where
@@ -40,10 +40,6 @@ at_has (x ∷ xs) (suc i) h = inr (at_has xs i (omega arith))
 pub snoc : {N : Type 0} (R : N → N → Type 0) (a b c : N) → Chain R a b → R b c → Chain R a c
 snoc R a b c (one h) s = more b h (one s)
 snoc R a b c (more d h r) s = more d h (snoc R d b c r s)
-
-pub chains : {N : Type 0} (R : N → N → Type 0) (a b c : N) → Chain R a b → Chain R b c → Chain R a c
-chains R a b c (one h) s = more b h s
-chains R a b c (more d h r) s = more d h (chains R d b c r s)
 
 module _ (R : ℕ → ℕ → Type 0) (found : List ℕ) where
   closed_chain : (j k : ℕ) → ((i m : ℕ) → Has found i → R i m → Has found m) → Has found j → Chain R j k → Has found k

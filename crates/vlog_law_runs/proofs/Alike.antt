@@ -1,6 +1,6 @@
 -- From numbers that are alike a module's blocks leave numbers that are alike.
 use Rattle.std.proofs.Common.{◌≡◌, ℕ, ◌<◌, None, Bool, true, false, cond, ◌&&◌, List, [], ◌∷◌, inl, inr, refl, ap, subst, ◌∙◌}
-use Rattle.std.specs.Prelude.{◌==◌, bytes_eq, nat_lt}
+use Rattle.std.specs.Prelude.{◌==◌, bytes_eq, nat_lt, not}
 use Rattle.std.specs.List.{list_all}
 use Rattle.vlog_tree.specs.declared.tree.Atom.{Atom}
 use Rattle.vlog_tree.specs.declared.tree.Step.{Step}
@@ -12,9 +12,9 @@ use Rattle.vlog_tree.specs.declared.table.NetKind.TheVariants.{Unknown, Input, O
 use Rattle.vlog_tree.specs.Form.{ModuleTree}
 use Rattle.vlog_tree.specs.Grounded.{Has}
 use Rattle.vlog_tree.specs.Cycle.{Cycle, Sizes, atom_value, put, store, run_steps, run_items}
-use Rattle.vlog_tree.specs.Table.{Name, NameUse, no, declared, net_kind_of, net_kind_is_read, net_kind_is_memory, is_clk, first_violation}
+use Rattle.vlog_tree.specs.Table.{Name, NameUse, declared, net_kind_of, net_kind_is_read, net_kind_is_memory, is_clk, first_violation}
 use Rattle.vlog_tree.specs.V2.{v2_uses, item_uses, step_uses, atom_uses, read_use, memory_use}
-use Rattle.vlog_comb_loops.proofs.Lists.{has_flat}
+use Rattle.vlog_tree.proofs.Lists.{has_flat}
 use Rattle.vlog_law_runs.proofs.Sound.{item_right, atom_read, both_false, not_no}
 use Rattle.vlog_law_runs.proofs.Values.{atom_same}
 
@@ -61,7 +61,7 @@ module _ (m : ModuleTree) (s t : Sizes) (same_cells : (x : Name) → net_kind_of
     IsRight us = (u : NameUse) → Has us u → u.1 ≡ false
 
     read_same : (x : Name) → (read_use (declared m) x).1 ≡ false → old.net x ≡ old'.net x
-    read_same x h = let p = both_false (no (net_kind_is_read (net_kind_of (declared m) x))) (is_clk x) h in alike x (not_no _ p.0) p.1
+    read_same x h = let p = both_false (not (net_kind_is_read (net_kind_of (declared m) x))) (is_clk x) h in alike x (not_no _ p.0) p.1
 
     atom_alike : (a : Atom) → IsRight (atom_uses (declared m) a) → atom_value old a ≡ atom_value old' a
     atom_alike a f = atom_same old old' a (λ z h. read_same z (f (read_use (declared m) z) (atom_read (declared m) a z h)))
@@ -75,7 +75,7 @@ module _ (m : ModuleTree) (s t : Sizes) (same_cells : (x : Name) → net_kind_of
         subst (λ n. Alike m s (run_steps s old ((old.net x == 1) ∷ on) steps c) (run_steps t old' ((n == 1) ∷ on) steps d)) (read_same x (f (If x) (inl refl) (read_use (declared m) x) (inl refl)))
         (steps_alike steps (λ st h. f st (inr h)) ((old.net x == 1) ∷ on) c d a)
     steps_alike (Else ∷ steps) f [] c d a = a
-    steps_alike (Else ∷ steps) f (b ∷ on) c d a = steps_alike steps (λ st h. f st (inr h)) ((cond b false true) ∷ on) c d a
+    steps_alike (Else ∷ steps) f (b ∷ on) c d a = steps_alike steps (λ st h. f st (inr h)) ((not b) ∷ on) c d a
     steps_alike (End ∷ steps) f [] c d a = a
     steps_alike (End ∷ steps) f (b ∷ on) c d a = steps_alike steps (λ st h. f st (inr h)) on c d a
     steps_alike (NonblockingAssign x v ∷ steps) f on c d a =

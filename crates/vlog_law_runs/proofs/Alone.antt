@@ -1,6 +1,6 @@
 -- What is counted once is alone.
 use Rattle.std.proofs.Common.{◌≡◌, ℕ, ◌+◌, ◌<◌, ◌≤◌, Bool, true, false, cond, ◌||◌, List, [], ◌∷◌, Some, None, inl, inr, refl, sym, ap, subst, ◌∙◌, arith, map}
-use Rattle.std.specs.Prelude.{◌⊎◌, bytes_eq, count_by, nat_le}
+use Rattle.std.specs.Prelude.{◌⊎◌, bytes_eq, count_by, nat_le, not}
 use Rattle.std.specs.List.{flat_map}
 use Rattle.std.specs.Cmp.Lexicographic.{bytes_decides}
 use Rattle.std.proofs.lemmas.List.Sums.{sum_by-append, sum_by-cons}
@@ -11,13 +11,11 @@ use Rattle.vlog_tree.specs.declared.tree.Item.TheVariants.{Wire, Reg, Memory, As
 use Rattle.vlog_tree.specs.declared.table.Declaration.{Declaration}
 use Rattle.vlog_tree.specs.Form.{ModuleTree}
 use Rattle.vlog_tree.specs.Grounded.{Has}
-use Rattle.vlog_tree.specs.Cycle.{module_named, child_of}
-use Rattle.vlog_tree.specs.Table.{find_name, Name, no, is_clk, declared, port_declared, items_declared, ports_of, is_module, is_doubled_name, first_violation}
-use Rattle.vlog_tree.specs.V4.{one_if}
+use Rattle.vlog_tree.specs.Cycle.{child_of}
+use Rattle.vlog_tree.specs.Table.{find_name, Name, is_clk, declared, port_declared, items_declared, ports_of, is_module_name, is_doubled_name, first_violation, module_named, one_if}
 use Rattle.vlog_tree.specs.V2.{v2_uses, item_uses, instance_uses, inner_use, all_connected}
 use Rattle.vlog_tree.specs.Loops.{item_instances}
-use Rattle.vlog_comb_loops.proofs.Lists.{of_flat, of_map}
-use Rattle.vlog_graph.proofs.Numbered.{has_left, has_right, has_split}
+use Rattle.vlog_tree.proofs.Lists.{of_flat, of_map, has_left, has_right, has_split}
 use Rattle.vlog_tree.proofs.Walks.{items_declared-cons}
 use Rattle.vlog_tree.specs.declared.tree.PortDecl.{PortDecl}
 use Rattle.vlog_tree.specs.declared.table.NetKind.TheVariants.{WireNet, Register, MemoryArray, ChildInstance}
@@ -97,10 +95,10 @@ module _ (x : Name) where
 
   lines_few : (items : List Item) → count_by (declares x) items ≤ count_by has_name (items_declared items)
   lines_few [] = omega arith
-  lines_few (Instance m i connections ∷ items) = few_more (declares x) has_name (Instance m i connections) items (record { name = i; net_kind = ChildInstance; bits = 0 }) (items_declared items) (λ e. e) (lines_few items)
-  lines_few (Wire w y ∷ items) = few_more (declares x) has_name (Wire w y) items (record { name = y; net_kind = WireNet; bits = w }) (items_declared items) (λ e. e) (lines_few items)
-  lines_few (Reg w y ∷ items) = few_more (declares x) has_name (Reg w y) items (record { name = y; net_kind = Register; bits = w }) (items_declared items) (λ e. e) (lines_few items)
-  lines_few (Memory w y n ∷ items) = few_more (declares x) has_name (Memory w y n) items (record { name = y; net_kind = MemoryArray; bits = w }) (items_declared items) (λ e. e) (lines_few items)
+  lines_few (Instance m i connections ∷ items) = few_more (declares x) has_name (Instance m i connections) items (record { name = i; net_kind = ChildInstance; bits = 0; cells = 0 }) (items_declared items) (λ e. e) (lines_few items)
+  lines_few (Wire w y ∷ items) = few_more (declares x) has_name (Wire w y) items (record { name = y; net_kind = WireNet; bits = w; cells = 0 }) (items_declared items) (λ e. e) (lines_few items)
+  lines_few (Reg w y ∷ items) = few_more (declares x) has_name (Reg w y) items (record { name = y; net_kind = Register; bits = w; cells = 0 }) (items_declared items) (λ e. e) (lines_few items)
+  lines_few (Memory w y n ∷ items) = few_more (declares x) has_name (Memory w y n) items (record { name = y; net_kind = MemoryArray; bits = w; cells = n }) (items_declared items) (λ e. e) (lines_few items)
   lines_few (Assign y e ∷ items) = few_same (declares x) has_name (Assign y e) items (items_declared items) refl (lines_few items)
   lines_few (Always b ∷ items) = few_same (declares x) has_name (Always b) items (items_declared items) refl (lines_few items)
 
@@ -161,8 +159,8 @@ module _ (ms : List ModuleTree) (names : first_violation (v2_uses ms) ≡ None) 
   pub instance_single : (kn i : Name) (connections : List Connection) → Has m.items (Instance kn i connections) → (is_doubled_name (declared m) i ≡ false) × (all_connected (map port_declared (ports_of ms kn)) connections ≡ true)
   unfolding item_uses instance_uses
   instance_single kn i connections has =
-      let u = item_right ms names m in_ms (Instance kn i connections) has (i, is_doubled_name (declared m) i || is_clk i || no (all_connected (map port_declared (ports_of ms kn)) connections)) (inr (inl refl)) in
-      let v = both_false (is_doubled_name (declared m) i || is_clk i) (no (all_connected (map port_declared (ports_of ms kn)) connections)) u in
+      let u = item_right ms names m in_ms (Instance kn i connections) has (i, is_doubled_name (declared m) i || is_clk i || not (all_connected (map port_declared (ports_of ms kn)) connections)) (inr (inl refl)) in
+      let v = both_false (is_doubled_name (declared m) i || is_clk i) (not (all_connected (map port_declared (ports_of ms kn)) connections)) u in
       ((both_false (is_doubled_name (declared m) i) (is_clk i) v.0).0, not_no _ v.1)
 
   few_instances : (kn i : Name) (connections : List Connection) → Has m.items (Instance kn i connections) → count_by (declares i) m.items < 2
@@ -240,11 +238,11 @@ instance_item items kn i h = let t = of_flat item_instances items (kn, i) h in i
   instance_of (Assign y e) has k = absurd k
   instance_of (Always b) has k = absurd k
 
-named_here : (ms : List ModuleTree) (m : ModuleTree) (x : Name) (b : Bool) → ((is_module ms x ≡ true) → (k : ModuleTree) × (module_named ms x ≡ Some k)) → (b || is_module ms x) ≡ true → (k : ModuleTree) × (cond b (Some m) (module_named ms x) ≡ Some k)
+named_here : (ms : List ModuleTree) (m : ModuleTree) (x : Name) (b : Bool) → ((is_module_name ms x ≡ true) → (k : ModuleTree) × (module_named ms x ≡ Some k)) → (b || is_module_name ms x) ≡ true → (k : ModuleTree) × (cond b (Some m) (module_named ms x) ≡ Some k)
 named_here ms m x true f h = (m, refl)
 named_here ms m x false f h = f h
 
-pub module_there : (ms : List ModuleTree) (x : Name) → is_module ms x ≡ true → (k : ModuleTree) × (module_named ms x ≡ Some k)
+pub module_there : (ms : List ModuleTree) (x : Name) → is_module_name ms x ≡ true → (k : ModuleTree) × (module_named ms x ≡ Some k)
 module_there [] x h = cc
 module_there (m ∷ ms) x h = named_here ms m x (bytes_eq m.name x) (module_there ms x) h
 

@@ -19,7 +19,7 @@ use Rattle.vlog_tree.specs.V2.{v2_uses, all_connected}
 use Rattle.vlog_tree.specs.V4.{v4_uses}
 use Rattle.vlog_tree.specs.Loops.{item_instances}
 use Rattle.vlog_tree.specs.Flattened.{FlatNet, outer_parts, lines_of}
-use Rattle.vlog_comb_loops.proofs.Lists.{has_flat, of_flat}
+use Rattle.vlog_tree.proofs.Lists.{has_flat, of_flat}
 use Rattle.vlog_law_runs.proofs.Sound.{true_not_false, both_true, assign_driven, connection_port, connection_driven, is_known_module, input_is}
 use Rattle.vlog_law_runs.proofs.Alone.{alone, same_name, one_instance, instance_single, module_there, module_is, IsNamed}
 use Rattle.vlog_law_runs.proofs.Settled.{outside, Joined, joined, child_at, module_in}
@@ -122,9 +122,9 @@ module _ (ms : List ModuleTree) (root : ModuleTree) (names : first_violation (v2
         (few_sources ms drivers m in_ms l.net (connection_driven ms names m in_ms kn i connections has l h e)))
 
     line_holds : (it : Item) → Has m.items it → Holds (sizes_of m) (nets_at held v path) it
-    line_holds (Wire w x) has = declared_bits m ms names in_ms _ (has_line m ms names in_ms (Wire w x) has (record { name = x; net_kind = WireNet; bits = w }) (inl refl))
-    line_holds (Reg w x) has = declared_bits m ms names in_ms _ (has_line m ms names in_ms (Reg w x) has (record { name = x; net_kind = Register; bits = w }) (inl refl))
-    line_holds (Memory w x n) has = (declared_bits m ms names in_ms _ (has_line m ms names in_ms (Memory w x n) has (record { name = x; net_kind = MemoryArray; bits = w }) (inl refl)), memory_cells m ms names in_ms w x n has)
+    line_holds (Wire w x) has = declared_bits m ms names in_ms _ (has_line m ms names in_ms (Wire w x) has (record { name = x; net_kind = WireNet; bits = w; cells = 0 }) (inl refl))
+    line_holds (Reg w x) has = declared_bits m ms names in_ms _ (has_line m ms names in_ms (Reg w x) has (record { name = x; net_kind = Register; bits = w; cells = 0 }) (inl refl))
+    line_holds (Memory w x n) has = (declared_bits m ms names in_ms _ (has_line m ms names in_ms (Memory w x n) has (record { name = x; net_kind = MemoryArray; bits = w; cells = n }) (inl refl)), memory_cells m ms names in_ms w x n has)
     line_holds (Assign x e) has = assign_number x e has
     line_holds (Always b) has = tt
     line_holds (Instance kn i connections) has = tt

@@ -1,6 +1,6 @@
 -- The drivers of a module's nets: each net has one at most.
 use Rattle.std.proofs.Common.{◌≡◌, ℕ, ◌+◌, ◌<◌, ◌≤◌, Bool, true, false, cond, List, [], ◌∷◌, ◌++◌, Option, Some, None, inl, inr, refl, sym, ap, subst, ◌∙◌, map, arith}
-use Rattle.std.specs.Prelude.{◌⊎◌, ◌==◌, bytes_eq, if◌then◌else◌, count_by}
+use Rattle.std.specs.Prelude.{◌⊎◌, ◌==◌, bytes_eq, if◌then◌else◌, count_by, not}
 use Rattle.std.specs.List.{flat_map}
 use Rattle.std.specs.Cmp.Lexicographic.{bytes_decides}
 use Rattle.std.proofs.lemmas.Bool.Decides.{nat_tests}
@@ -14,9 +14,9 @@ use Rattle.vlog_tree.specs.declared.table.NetKind.TheVariants.{Unknown, Input, O
 use Rattle.vlog_tree.specs.Form.{ModuleTree}
 use Rattle.vlog_tree.specs.Grounded.{Has}
 use Rattle.vlog_tree.specs.NameTable.{times_in}
-use Rattle.vlog_tree.specs.Table.{Name, no, declared, port_declared, find_name, net_kind_of, net_kind_is_driven, net_kind_is_input, ports_of, first_violation}
-use Rattle.vlog_tree.specs.V4.{one_if, connection_driven, line_driven, drives, is_block_of, breaks_driving, driving_use, module_drives, v4_uses}
-use Rattle.vlog_comb_loops.proofs.Lists.{has_flat, of_flat, has_map}
+use Rattle.vlog_tree.specs.Table.{Name, declared, port_declared, find_name, net_kind_of, net_kind_is_driven, net_kind_is_input, ports_of, first_violation, one_if}
+use Rattle.vlog_tree.specs.V4.{connection_driven, line_driven, drives, is_block_of, breaks_driving, driving_use, module_drives, v4_uses}
+use Rattle.vlog_tree.proofs.Lists.{has_flat, of_flat, has_map}
 use Rattle.vlog_law_runs.proofs.Sound.{right}
 use Rattle.vlog_law_runs.proofs.Alone.{count_cons, counted, alone, same_name}
 use Rattle.vlog_law_runs.proofs.Sizes.{found_name}
@@ -195,10 +195,10 @@ connection_has_source ms items kn i connections has l h e =
     (has_flat (connection_source (map port_declared (ports_of ms kn)) i) connections l (l.net, output i l.port) h
     (subst (λ b. Has {N = Name × Source} (cond b [] ((l.net, output i l.port) ∷ [])) (l.net, output i l.port)) (sym e) (inl refl)))
 
-zero_of : (n : ℕ) → no (n == 0) ≡ false → n ≡ 0
+zero_of : (n : ℕ) → not (n == 0) ≡ false → n ≡ 0
 zero_of n h = grind (arith, nat_tests)
 
-one_of : (n : ℕ) → no (n == 1) ≡ false → n ≡ 1
+one_of : (n : ℕ) → not (n == 1) ≡ false → n ≡ 1
 one_of n h = grind (arith, nat_tests)
 
 few_by_net_kind : (n k : ℕ) (s : NetKind) → net_kind_is_driven s ≡ true → breaks_driving n k s ≡ false → n < 2

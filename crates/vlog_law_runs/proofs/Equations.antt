@@ -11,7 +11,7 @@ use Rattle.vlog_tree.specs.Grounded.{Has}
 use Rattle.vlog_tree.specs.Cycle.{Cycle, Path, driven, module_at}
 use Rattle.vlog_tree.specs.Table.{Name, declared, net_kind_of, bits_of}
 use Rattle.vlog_tree.specs.Flattened.{FlatNet, parts, line_parts}
-use Rattle.vlog_comb_loops.proofs.Lists.{of_flat}
+use Rattle.vlog_tree.proofs.Lists.{of_flat}
 use Rattle.vlog_law_runs.proofs.Settled.{outside, answers}
 use Rattle.vlog_law_runs.proofs.Sizes.{sizes_of}
 use Rattle.vlog_law_runs.proofs.Values.{driven_same, ReadsAlike}

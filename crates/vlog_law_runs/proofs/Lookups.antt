@@ -5,11 +5,11 @@ use Rattle.std.specs.List.{flat_map}
 use Rattle.std.specs.Cmp.Lexicographic.{bytes_decides}
 use Rattle.tapa_base.specs.declared.shape.Port.{Port}
 use Rattle.vlog_tree.specs.declared.tree.PortDecl.{PortDecl}
-use Rattle.vlog_tree.specs.Grounded.{Has}
+use Rattle.vlog_tree.specs.Grounded.{Has, AllTwo}
 use Rattle.vlog_tree.specs.Table.{Name}
 use Rattle.vlog_tree.specs.Cycle.{Cycle}
-use Rattle.vlog_tree.specs.Environment.{AllTwo, AllAnswer, Answers}
-use Rattle.vlog_comb_loops.proofs.Lists.{of_flat}
+use Rattle.vlog_tree.specs.Environment.{AllAnswer, Answers}
+use Rattle.vlog_tree.proofs.Lists.{of_flat}
 use Rattle.vlog_law_runs.proofs.Sound.{true_not_false}
 use Rattle.vlog_law_runs.proofs.Alone.{same_name, count_cons, twice_counted}
 

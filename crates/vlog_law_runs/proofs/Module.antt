@@ -12,9 +12,7 @@ use Rattle.vlog_tree.specs.V2.{v2_uses}
 use Rattle.vlog_tree.specs.V6.{module_children, item_children}
 use Rattle.vlog_tree.specs.Labels.{address_of}
 use Rattle.vlog_tree.specs.Loops.{port_of, connection_edge, line_edges, direct_edges, memory_edges, answer_edges, instances, item_instances, value_nets, Rests, directly, through, after, containment, own_containment, Reaches, one, more, TextPlace, own_places, text_places, IsLoopless}
-use Rattle.vlog_graph.proofs.Numbered.{has_left, has_right, has_split}
-use Rattle.vlog_graph.proofs.Reached.{chains}
-use Rattle.vlog_comb_loops.proofs.Lists.{has_flat, of_flat, has_map, of_map}
+use Rattle.vlog_tree.proofs.Lists.{has_flat, of_flat, has_map, of_map, has_left, has_right, has_split, chains}
 use Rattle.vlog_law_runs.proofs.Ending.{Ends, all_end}
 use Rattle.vlog_law_runs.proofs.Sound.{declared_by, assign_driven, connection_port, connection_driven, is_known_module}
 use Rattle.vlog_law_runs.proofs.Alone.{instance_item, module_there, module_is, IsNamed}

@@ -1,6 +1,6 @@
 -- Two runs from one power-up with the same inputs are the same.
 use Rattle.std.proofs.Common.{◌≡◌, ℕ, Bool, true, false, cond, ◌&&◌, List, [], ◌∷◌, Some, None, inl, inr, refl, sym, ap, subst, ◌∙◌, map}
-use Rattle.std.specs.Prelude.{bytes_eq, if◌then◌else◌}
+use Rattle.std.specs.Prelude.{bytes_eq, if◌then◌else◌, not}
 use Rattle.std.specs.List.{AllByRecursion}
 use Rattle.std.specs.Cmp.Lexicographic.{bytes_decides}
 use Rattle.vlog_tree.specs.declared.tree.Value.{Value}
@@ -11,14 +11,14 @@ use Rattle.vlog_tree.specs.declared.table.NetKind.TheVariants.{Input, Output}
 use Rattle.vlog_tree.specs.Form.{ModuleTree}
 use Rattle.vlog_tree.specs.Grounded.{Has, IsGrounded, grounded}
 use Rattle.vlog_tree.specs.Cycle.{Cycle, Path, module_at}
-use Rattle.vlog_tree.specs.Table.{Name, no, declared, port_declared, net_kind_of, net_kind_is_read, net_kind_is_input, is_clk, ports_of, first_violation}
+use Rattle.vlog_tree.specs.Table.{Name, declared, port_declared, net_kind_of, net_kind_is_read, net_kind_is_input, is_clk, ports_of, first_violation}
 use Rattle.vlog_tree.specs.V2.{v2_uses}
 use Rattle.vlog_tree.specs.V4.{v4_uses}
 use Rattle.vlog_tree.specs.V6.{v6_uses, is_top}
 use Rattle.vlog_tree.specs.Labels.{address_of}
 use Rattle.vlog_tree.specs.Loops.{value_nets, item_instances}
 use Rattle.vlog_tree.specs.Flattened.{FlatNet, parts, line_parts}
-use Rattle.vlog_comb_loops.proofs.Lists.{has_flat, of_flat, of_map}
+use Rattle.vlog_tree.proofs.Lists.{has_flat, of_flat, of_map}
 use Rattle.vlog_law_runs.specs.OneRun.{SameHeld}
 use Rattle.vlog_law_runs.proofs.Sound.{assign_reads, connection_port, connection_net, connection_clock, output_is, is_known_module}
 use Rattle.vlog_law_runs.proofs.Alone.{module_there, module_is, IsNamed}
@@ -57,7 +57,7 @@ module _ (ms : List ModuleTree) (root : ModuleTree) (names : first_violation (v2
         }
 
     connection_net_of : (kn i : Name) (connections : List Connection) → Has m.items (Instance kn i connections) → (l : Connection) → Has connections l → (p q : Bool) → bytes_eq l.net x ≡ p → net_kind_is_input (net_kind_of (map port_declared (ports_of ms kn)) l.port) ≡ q → (b : FlatNet)
-        → Has (cond (p && no q) ((i ∷ path, l.port) ∷ []) []) b → IsNet ms root b
+        → Has (cond (p && not q) ((i ∷ path, l.port) ∷ []) []) b → IsNet ms root b
     connection_net_of kn i connections has l h true false e f b (inl g) = subst (IsNet ms root) g (output_net kn i connections has l h ((bytes_decides l.net x).0 e) f)
     connection_net_of kn i connections has l h true false e f b (inr g) = absurd g
     connection_net_of kn i connections has l h true true e f b g = absurd g
@@ -73,7 +73,7 @@ module _ (ms : List ModuleTree) (root : ModuleTree) (names : first_violation (v2
     line_net : (it : Item) → Has m.items it → (b : FlatNet) → Has (line_parts ms path x it) b → IsNet ms root b
     line_net (Assign z e) has b h = driver_net z e has (bytes_eq z x) b h
     line_net (Instance kn i connections) has b h =
-        let t = of_flat (λ (l : Connection). if bytes_eq l.net x && no (net_kind_is_input (net_kind_of (map port_declared (ports_of ms kn)) l.port)) then (i ∷ path, l.port) ∷ [] else []) connections b h in
+        let t = of_flat (λ (l : Connection). if bytes_eq l.net x && not (net_kind_is_input (net_kind_of (map port_declared (ports_of ms kn)) l.port)) then (i ∷ path, l.port) ∷ [] else []) connections b h in
         connection_net_of kn i connections has t.0 t.1 _ _ refl refl b t.2
     line_net (Wire w z) has b h = absurd h
     line_net (Reg w z) has b h = absurd h

@@ -1,6 +1,6 @@
 -- What is among the parts of a net.
 use Rattle.std.proofs.Common.{◌≡◌, Bool, true, false, ◌&&◌, List, [], ◌∷◌, Some, inl, refl, sym, subst, map}
-use Rattle.std.specs.Prelude.{bytes_eq, if◌then◌else◌}
+use Rattle.std.specs.Prelude.{bytes_eq, if◌then◌else◌, not}
 use Rattle.std.specs.List.{flat_map}
 use Rattle.vlog_tree.specs.declared.tree.Value.{Value}
 use Rattle.vlog_tree.specs.declared.tree.Connection.{Connection}
@@ -8,11 +8,10 @@ use Rattle.vlog_tree.specs.declared.tree.Item.TheVariants.{Assign, Instance}
 use Rattle.vlog_tree.specs.Form.{ModuleTree}
 use Rattle.vlog_tree.specs.Grounded.{Has}
 use Rattle.vlog_tree.specs.Cycle.{Path, module_at}
-use Rattle.vlog_tree.specs.Table.{Name, no, port_declared, net_kind_of, net_kind_is_input, ports_of}
+use Rattle.vlog_tree.specs.Table.{Name, port_declared, net_kind_of, net_kind_is_input, ports_of}
 use Rattle.vlog_tree.specs.Loops.{value_nets}
 use Rattle.vlog_tree.specs.Flattened.{FlatNet, parts, line_parts, lines_of, memory_parts}
-use Rattle.vlog_graph.proofs.Numbered.{has_left, has_right}
-use Rattle.vlog_comb_loops.proofs.Lists.{has_flat, has_map}
+use Rattle.vlog_tree.proofs.Lists.{has_flat, has_map, has_left, has_right}
 use Rattle.vlog_law_runs.proofs.Alone.{same_name}
 use Rattle.vlog_law_runs.proofs.Settled.{outside, answers}
 use Rattle.vlog_law_runs.proofs.Drivers.{IsDrivenBy}
@@ -49,9 +48,9 @@ module _ (ms : List ModuleTree) (m : ModuleTree) (path : Path) where
   pub connection_part : (kn i : Name) (connections : List Connection) → Has m.items (Instance kn i connections) → (l : Connection) → Has connections l → net_kind_is_input (net_kind_of (map port_declared (ports_of ms kn)) l.port) ≡ false → Has (flat_map (line_parts ms path l.net) m.items) (i ∷ path, l.port)
   connection_part kn i connections has l h e =
       has_flat (line_parts ms path l.net) m.items (Instance kn i connections) (i ∷ path, l.port) has
-      (has_flat (λ (k : Connection). if bytes_eq k.net l.net && no (net_kind_is_input (net_kind_of (map port_declared (ports_of ms kn)) k.port)) then (i ∷ path, k.port) ∷ [] else []) connections l (i ∷ path, l.port) h
-      (subst (λ b. Has (by_test (b && no (net_kind_is_input (net_kind_of (map port_declared (ports_of ms kn)) l.port))) ((i ∷ path, l.port) ∷ [])) (i ∷ path, l.port)) (sym (same_name l.net))
-      (subst (λ b. Has (by_test (no b) ((i ∷ path, l.port) ∷ [])) (i ∷ path, l.port)) (sym e) (inl refl))))
+      (has_flat (λ (k : Connection). if bytes_eq k.net l.net && not (net_kind_is_input (net_kind_of (map port_declared (ports_of ms kn)) k.port)) then (i ∷ path, k.port) ∷ [] else []) connections l (i ∷ path, l.port) h
+      (subst (λ b. Has (by_test (b && not (net_kind_is_input (net_kind_of (map port_declared (ports_of ms kn)) l.port))) ((i ∷ path, l.port) ∷ [])) (i ∷ path, l.port)) (sym (same_name l.net))
+      (subst (λ b. Has (by_test (not b) ((i ∷ path, l.port) ∷ [])) (i ∷ path, l.port)) (sym e) (inl refl))))
 
   -- the port that drives a net
   pub output_part : (x i p : Name) → IsDrivenBy ms m.items x i p → Has (flat_map (line_parts ms path x) m.items) (i ∷ path, p)

@@ -1,18 +1,18 @@
 -- What the rule on the top's ports says of each of them.
 use Rattle.std.proofs.Common.{◌≡◌, Bool, true, false, cond, ◌&&◌, ◌||◌, List, Option, Some, None, inl, refl, sym, ap, subst, ◌∙◌, map}
-use Rattle.std.specs.Prelude.{◌==◌, bytes_eq, nat_le, is_some}
+use Rattle.std.specs.Prelude.{◌==◌, bytes_eq, nat_le, is_some, not}
 use Rattle.std.specs.Option.{option_map_or}
 use Rattle.std.specs.Cmp.Lexicographic.{bytes_decides}
 use Rattle.vlog_tree.specs.declared.tree.PortDecl.{PortDecl}
 use Rattle.vlog_tree.specs.declared.table.Declaration.{Declaration}
 use Rattle.vlog_tree.specs.declared.table.NetKind.TheVariants.{Input, Output}
-use Rattle.vlog_tree.specs.Form.{ModuleTree}
+use Rattle.vlog_tree.specs.Form.{ModuleTree, is_input}
 use Rattle.vlog_tree.specs.Grounded.{Has}
-use Rattle.vlog_tree.specs.Table.{Name, no, is_clk, declared, port_declared, declaration_name, net_kind_of, net_kind_is_read, first_violation}
+use Rattle.vlog_tree.specs.Table.{Name, is_clk, declared, port_declared, declaration_name, net_kind_of, net_kind_is_read, first_violation}
 use Rattle.vlog_tree.specs.Labels.{rst, done, scalar_of, ack_of, rdata_of, addr_of, wdata_of, we_of, m_rdata, m_wdata}
 use Rattle.vlog_tree.specs.V2.{v2_uses}
 use Rattle.vlog_tree.specs.V6.{v6_uses, module_tops, port_fits, is_expected, is_memory_port, fixed_fits, scalar_fits, ack_fits, rdata_fits, addr_fits, wdata_fits, we_fits, has_all_five, has_port, is_in, is_out, agrees, is_top, is_whole_top}
-use Rattle.vlog_comb_loops.proofs.Lists.{of_map}
+use Rattle.vlog_tree.proofs.Lists.{of_map}
 use Rattle.vlog_law_runs.proofs.Sound.{both_true, not_no, no_is, true_not_false, declared_by}
 use Rattle.vlog_law_runs.proofs.Sizes.{declared_net_kind, has_port as port_in}
 use Rattle.vlog_law_runs.proofs.TopPorts.{port_right, use_right}
@@ -39,49 +39,49 @@ port_parts ports before p h =
     let f = both_true (is_expected p.name) (fixed_fits p) s.0 in
     record { expected = f.0; fixed = f.1; scalar = s.1; ack = k.1; rdata = r.1; addr = a.1; wdata = d.1; we = w.1 }
 
-either_true : (a b : Bool) → a ≡ true → (no a || b) ≡ true → b ≡ true
+either_true : (a b : Bool) → a ≡ true → (not a || b) ≡ true → b ≡ true
 either_true true b e h = h
 either_true false b e h = cc
 
 module _ (ports : List Declaration) (before : List PortDecl) (p : PortDecl) (f : PortFits ports before p) where
-  pub scalar_input : (l : Name) → scalar_of p.name ≡ Some l → p.input ≡ true
+  pub scalar_input : (l : Name) → scalar_of p.name ≡ Some l → is_input p.direction ≡ true
   unfolding scalar_fits
   scalar_input l e = of_fits f.scalar where
-    of_fits : scalar_fits p ≡ true → p.input ≡ true
-    of_fits h = (both_true p.input (nat_le p.bits 64) (either_true (is_some (scalar_of p.name)) _ (ap (λ o. is_some o) e) h)).0
+    of_fits : scalar_fits p ≡ true → is_input p.direction ≡ true
+    of_fits h = (both_true (is_input p.direction) (nat_le p.width 64) (either_true (is_some (scalar_of p.name)) _ (ap (λ o. is_some o) e) h)).0
 
-  pub ack_input : (l : Name) → ack_of p.name ≡ Some l → (p.input ≡ true) × (has_all_five ports l ≡ true)
+  pub ack_input : (l : Name) → ack_of p.name ≡ Some l → (is_input p.direction ≡ true) × (has_all_five ports l ≡ true)
   unfolding ack_fits
   ack_input l e = of_fits f.ack where
-    of_fits : ack_fits ports p ≡ true → (p.input ≡ true) × (has_all_five ports l ≡ true)
+    of_fits : ack_fits ports p ≡ true → (is_input p.direction ≡ true) × (has_all_five ports l ≡ true)
     of_fits h =
         let r = both_true (is_in p 1) (has_all_five ports l) (subst (λ (o : Option Name). option_map_or (λ x. is_in p 1 && has_all_five ports x) o true ≡ true) e h) in
-        ((both_true p.input (p.bits == 1) r.0).0, r.1)
+        ((both_true (is_input p.direction) (p.width == 1) r.0).0, r.1)
 
-  pub rdata_input : (l : Name) → rdata_of p.name ≡ Some l → (p.input ≡ true) × (has_all_five ports l ≡ true)
+  pub rdata_input : (l : Name) → rdata_of p.name ≡ Some l → (is_input p.direction ≡ true) × (has_all_five ports l ≡ true)
   unfolding rdata_fits
   rdata_input l e = of_fits f.rdata where
-    of_fits : rdata_fits ports before p ≡ true → (p.input ≡ true) × (has_all_five ports l ≡ true)
+    of_fits : rdata_fits ports before p ≡ true → (is_input p.direction ≡ true) × (has_all_five ports l ≡ true)
     of_fits h =
-        let r = both_true _ (agrees before (m_wdata l) p.bits) (subst (λ (o : Option Name). option_map_or (λ x. p.input && nat_le p.bits 64 && has_all_five ports x && agrees before (m_wdata x) p.bits) o true ≡ true) e h) in
+        let r = both_true _ (agrees before (m_wdata l) p.width) (subst (λ (o : Option Name). option_map_or (λ x. is_input p.direction && nat_le p.width 64 && has_all_five ports x && agrees before (m_wdata x) p.width) o true ≡ true) e h) in
         let s = both_true _ (has_all_five ports l) r.0 in
-        ((both_true p.input (nat_le p.bits 64) s.0).0, s.1)
+        ((both_true (is_input p.direction) (nat_le p.width 64) s.0).0, s.1)
 
-  pub reset_input : p.name ≡ rst → p.input ≡ true
+  pub reset_input : p.name ≡ rst → is_input p.direction ≡ true
   unfolding fixed_fits
   reset_input e = of_fits f.fixed where
     either : (a b : Bool) → b ≡ true → (a || b) ≡ true
     either true b e = refl
     either false b e = e
 
-    of_fits : fixed_fits p ≡ true → p.input ≡ true
+    of_fits : fixed_fits p ≡ true → is_input p.direction ≡ true
     of_fits h =
-        let r = both_true (no (is_clk p.name || bytes_eq p.name rst) || is_in p 1) _ h in
-        (both_true p.input (p.bits == 1) (either_true (is_clk p.name || bytes_eq p.name rst) (is_in p 1) (either (is_clk p.name) _ ((bytes_decides p.name rst).1 e)) r.0)).0
+        let r = both_true (not (is_clk p.name || bytes_eq p.name rst) || is_in p 1) _ h in
+        (both_true (is_input p.direction) (p.width == 1) (either_true (is_clk p.name || bytes_eq p.name rst) (is_in p 1) (either (is_clk p.name) _ ((bytes_decides p.name rst).1 e)) r.0)).0
 
-  module _ (input : p.input ≡ true) where
-    no_output : (w : Bool) → (no p.input && w) ≡ true → ⊥
-    no_output w h = true_not_false (sym input ∙ no_is p.input (both_true (no p.input) w h).0)
+  module _ (input : is_input p.direction ≡ true) where
+    no_output : (w : Bool) → (not (is_input p.direction) && w) ≡ true → ⊥
+    no_output w h = true_not_false (sym input ∙ no_is (is_input p.direction) (both_true (not (is_input p.direction)) w h).0)
 
     none_of : (g : Name → Bool) (o : Option Name) → ((x : Name) → g x ≡ true → ⊥) → option_map_or g o true ≡ true → is_some o ≡ false
     none_of g None n h = refl
@@ -91,27 +91,27 @@ module _ (ports : List Declaration) (before : List PortDecl) (p : PortDecl) (f :
     unfolding addr_fits
     no_addr = of_fits f.addr where
       of_fits : addr_fits ports p ≡ true → is_some (addr_of p.name) ≡ false
-      of_fits h = none_of (λ x. is_out p 64 && has_all_five ports x) (addr_of p.name) (λ x e. no_output (p.bits == 64) (both_true (is_out p 64) (has_all_five ports x) e).0) h
+      of_fits h = none_of (λ x. is_out p 64 && has_all_five ports x) (addr_of p.name) (λ x e. no_output (p.width == 64) (both_true (is_out p 64) (has_all_five ports x) e).0) h
 
     no_wdata : is_some (wdata_of p.name) ≡ false
     unfolding wdata_fits
     no_wdata = of_fits f.wdata where
       of_fits : wdata_fits ports before p ≡ true → is_some (wdata_of p.name) ≡ false
       of_fits h =
-          none_of (λ x. no p.input && nat_le p.bits 64 && has_all_five ports x && agrees before (m_rdata x) p.bits) (wdata_of p.name)
-          (λ x e. no_output (nat_le p.bits 64) (both_true _ (has_all_five ports x) (both_true _ (agrees before (m_rdata x) p.bits) e).0).0) h
+          none_of (λ x. not (is_input p.direction) && nat_le p.width 64 && has_all_five ports x && agrees before (m_rdata x) p.width) (wdata_of p.name)
+          (λ x e. no_output (nat_le p.width 64) (both_true _ (has_all_five ports x) (both_true _ (agrees before (m_rdata x) p.width) e).0).0) h
 
     no_we : is_some (we_of p.name) ≡ false
     unfolding we_fits
     no_we = of_fits f.we where
       of_fits : we_fits ports p ≡ true → is_some (we_of p.name) ≡ false
-      of_fits h = none_of (λ x. is_out p 1 && has_all_five ports x) (we_of p.name) (λ x e. no_output (p.bits == 1) (both_true (is_out p 1) (has_all_five ports x) e).0) h
+      of_fits h = none_of (λ x. is_out p 1 && has_all_five ports x) (we_of p.name) (λ x e. no_output (p.width == 1) (both_true (is_out p 1) (has_all_five ports x) e).0) h
 
     no_done : bytes_eq p.name done ≡ false
     unfolding fixed_fits
     no_done = by_test _ refl where
       of_fits : fixed_fits p ≡ true → bytes_eq p.name done ≡ true → ⊥
-      of_fits h e = let r = both_true _ (no (bytes_eq p.name done) || is_out p 1) h in no_output (p.bits == 1) (either_true (bytes_eq p.name done) (is_out p 1) e r.1)
+      of_fits h e = let r = both_true _ (not (bytes_eq p.name done) || is_out p 1) h in no_output (p.width == 1) (either_true (bytes_eq p.name done) (is_out p 1) e r.1)
 
       by_test : (b : Bool) → bytes_eq p.name done ≡ b → bytes_eq p.name done ≡ false
       by_test true e = absurd (of_fits f.fixed e)
@@ -141,16 +141,16 @@ module _ (ms : List ModuleTree) (names : first_violation (v2_uses ms) ≡ None) 
       let q = of_map port_declared m.ports t.0 t.1 in
       (q.0, q.1, ap (λ (d : Declaration). d.name) q.2 ∙ t.2)
 
-  pub input_net_kind : (p : PortDecl) → Has m.ports p → p.input ≡ true → net_kind_of (declared m) p.name ≡ Input
+  pub input_net_kind : (p : PortDecl) → Has m.ports p → is_input p.direction ≡ true → net_kind_of (declared m) p.name ≡ Input
   input_net_kind p h e = declared_net_kind m ms names in_ms (port_declared p) (port_in m ms names in_ms p h) ∙ ap (λ b. cond b Input Output) e
 
   pub has_reset : has_port ports rst ≡ true
   unfolding module_tops is_whole_top
-  has_reset = of_use (use_right ms tops m in_ms (m.name, is_top ms m.name && no (is_whole_top ms ports)) (by_module refl)) where
-    by_module : {u : Name × Bool} → u ≡ (m.name, is_top ms m.name && no (is_whole_top ms ports)) → Has (module_tops ms m) u
+  has_reset = of_use (use_right ms tops m in_ms (m.name, is_top ms m.name && not (is_whole_top ms ports)) (by_module refl)) where
+    by_module : {u : Name × Bool} → u ≡ (m.name, is_top ms m.name && not (is_whole_top ms ports)) → Has (module_tops ms m) u
     by_module e = inl (sym e)
 
-    of_use : (is_top ms m.name && no (is_whole_top ms ports)) ≡ false → has_port ports rst ≡ true
+    of_use : (is_top ms m.name && not (is_whole_top ms ports)) ≡ false → has_port ports rst ≡ true
     of_use h =
-        let w = not_no (is_whole_top ms ports) (subst (λ b. (b && no (is_whole_top ms ports)) ≡ false) top h) in
+        let w = not_no (is_whole_top ms ports) (subst (λ b. (b && not (is_whole_top ms ports)) ≡ false) top h) in
         (both_true _ (has_port ports rst) (both_true _ (has_port ports done) w).0).1

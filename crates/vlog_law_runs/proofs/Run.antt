@@ -68,7 +68,7 @@ module _ (ms : List ModuleTree) (root : ModuleTree) (names : first_violation (v2
     here = module_in ms root in_root path m at
 
     register_net_kind : (w : ℕ) (x : Name) → Has m.items (Reg w x) → net_kind_of (declared m) x ≡ Register
-    register_net_kind w x has = declared_net_kind m ms names here _ (has_line m ms names here (Reg w x) has (record { name = x; net_kind = Register; bits = w }) (inl refl))
+    register_net_kind w x has = declared_net_kind m ms names here _ (has_line m ms names here (Reg w x) has (record { name = x; net_kind = Register; bits = w; cells = 0 }) (inl refl))
 
     register_number : (n w : ℕ) (x : Name) → Has m.items (Reg w x) → (run n path).net x ≡ ((state n).held path).net x
     register_number n w x has = held_number ms root names drivers in_root (state n).held (around.give (state n).world) (number (state n)) (number_solves (state n)) path m at x (register_net_kind w x has)

@@ -74,12 +74,12 @@ module _ (ms : List ModuleTree) (root : ModuleTree) (names : first_violation (v2
 
       held_next : (it : Item) → Has m.items it → SameHeld (b (suc n) path) (a (suc n) path) it
       held_next (Reg w x) has =
-          let net_kind : net_kind_of (declared m) x ≡ Register = declared_net_kind m ms names here _ (has_line m ms names here (Reg w x) has (record { name = x; net_kind = Register; bits = w }) (inl refl)) in
+          let net_kind : net_kind_of (declared m) x ≡ Register = declared_net_kind m ms names here _ (has_line m ms names here (Reg w x) has (record { name = x; net_kind = Register; bits = w; cells = 0 }) (inl refl)) in
           all_at (Takes (rb.runs.each path m at).sizes m.items (b n path) (b (suc n) path)) m.items (Reg w x) ((rb.runs.each path m at).registers n) has
           ∙ sym (left_alike.nets x (ap net_kind_is_read net_kind) (register_clock ms names m here w x has))
           ∙ sym (all_at (Takes (ra.runs.each path m at).sizes m.items (a n path) (a (suc n) path)) m.items (Reg w x) ((ra.runs.each path m at).registers n) has)
       held_next (Memory w x k) has = λ i low.
-          let net_kind : net_kind_of (declared m) x ≡ MemoryArray = declared_net_kind m ms names here _ (has_line m ms names here (Memory w x k) has (record { name = x; net_kind = MemoryArray; bits = w }) (inl refl)) in
+          let net_kind : net_kind_of (declared m) x ≡ MemoryArray = declared_net_kind m ms names here _ (has_line m ms names here (Memory w x k) has (record { name = x; net_kind = MemoryArray; bits = w; cells = k }) (inl refl)) in
           all_at (Takes (rb.runs.each path m at).sizes m.items (b n path) (b (suc n) path)) m.items (Memory w x k) ((rb.runs.each path m at).registers n) has i low
           ∙ sym (left_alike.cells x net_kind i (subst (λ k. i < k) (sym (cells_declared a ra.runs w x k has)) low))
           ∙ sym (all_at (Takes (ra.runs.each path m at).sizes m.items (a n path) (a (suc n) path)) m.items (Memory w x k) ((ra.runs.each path m at).registers n) has i low)

@@ -1,6 +1,6 @@
 -- Each net of a design's flattened tree rests on others in finitely many steps.
 use Rattle.std.proofs.Common.{◌≡◌, ℕ, Bool, true, false, cond, ◌&&◌, List, [], ◌∷◌, Option, Some, None, inl, inr, refl, sym, ap, subst, ◌∙◌, map}
-use Rattle.std.specs.Prelude.{bytes_eq, ◌⊎◌, slice_get, if◌then◌else◌}
+use Rattle.std.specs.Prelude.{bytes_eq, ◌⊎◌, slice_get, if◌then◌else◌, not}
 use Rattle.std.specs.List.{flat_map}
 use Rattle.std.specs.Cmp.Lexicographic.{bytes_decides}
 use Rattle.vlog_tree.specs.declared.tree.Value.{Value}
@@ -10,8 +10,8 @@ use Rattle.vlog_tree.specs.declared.tree.Item.TheVariants.{Wire, Reg, Memory, As
 use Rattle.vlog_tree.specs.declared.table.NetKind.TheVariants.{Input, Output}
 use Rattle.vlog_tree.specs.Form.{ModuleTree}
 use Rattle.vlog_tree.specs.Grounded.{Has, IsGrounded, grounded}
-use Rattle.vlog_tree.specs.Cycle.{Path, module_named, module_at, child_of, and_then}
-use Rattle.vlog_tree.specs.Table.{Name, no, declared, port_declared, declaration_name, net_kind_of, net_kind_is_read, net_kind_is_input, ports_of, first_violation}
+use Rattle.vlog_tree.specs.Cycle.{Path, module_at, child_of, and_then}
+use Rattle.vlog_tree.specs.Table.{Name, declared, port_declared, declaration_name, net_kind_of, net_kind_is_read, net_kind_is_input, ports_of, first_violation, module_named}
 use Rattle.vlog_tree.specs.V2.{v2_uses}
 use Rattle.std.specs.Option.{option_map_or}
 use Rattle.vlog_tree.specs.V6.{is_top, first_name}
@@ -19,8 +19,7 @@ use Rattle.vlog_tree.specs.Labels.{address_of}
 use Rattle.vlog_tree.specs.Loops.{port_of, connection_edge, line_edges, memory_edges, answer_edges, instances, item_instances, value_nets, Rests, directly, through, after, containment, Reaches, one, IsLoopless}
 use Rattle.vlog_tree.specs.Flattened.{FlatNet, parts, line_parts, outer_parts, lines_of, memory_parts}
 use Rattle.vlog_tree.specs.Refused.{IsDesign}
-use Rattle.vlog_graph.proofs.Numbered.{has_left, has_right, has_split}
-use Rattle.vlog_comb_loops.proofs.Lists.{has_flat, of_flat, has_map, of_map, has_got}
+use Rattle.vlog_tree.proofs.Lists.{has_flat, of_flat, has_map, of_map, has_got, has_left, has_right, has_split}
 use Rattle.vlog_law_runs.proofs.Ending.{Ends, ends}
 use Rattle.vlog_law_runs.proofs.Sound.{declared_by, assign_reads, connection_port, connection_net, is_known_module, output_is, input_is}
 use Rattle.vlog_law_runs.proofs.Alone.{instance_item, one_instance, child_is, module_there, module_is, IsNamed, same_name}
@@ -197,7 +196,7 @@ module _ (ms : List ModuleTree) (root : ModuleTree) (is_top : Name → Bool) whe
           (λ y below b g. child_below kn i l.port connections has t.0 t.1 sp r y b (joined ms root m path at i y b g) below)
 
       child_connection : (kn i : Name) (connections : List Connection) → Has m.items (Instance kn i connections) → (l : Connection) → Has connections l → (p q : Bool) → bytes_eq l.net x ≡ p → net_kind_is_input (net_kind_of (map port_declared (ports_of ms kn)) l.port) ≡ q → (b : FlatNet)
-          → Has (cond (p && no q) ((i ∷ path, l.port) ∷ []) []) b → Settles b
+          → Has (cond (p && not q) ((i ∷ path, l.port) ∷ []) []) b → Settles b
       child_connection kn i connections has l h true false e f b (inl g) = subst Settles g (child_net kn i connections has l h ((bytes_decides l.net x).0 e) f)
       child_connection kn i connections has l h true false e f b (inr g) = absurd g
       child_connection kn i connections has l h true true e f b g = absurd g
@@ -214,7 +213,7 @@ module _ (ms : List ModuleTree) (root : ModuleTree) (is_top : Name → Bool) whe
       line_settles : (it : Item) → Has m.items it → (b : FlatNet) → Has (line_parts ms path x it) b → Settles b
       line_settles (Assign z e) has b h = driver_net z e has (bytes_eq z x) refl b h
       line_settles (Instance kn i connections) has b h =
-          let t = of_flat (λ (l : Connection). if bytes_eq l.net x && no (net_kind_is_input (net_kind_of (map port_declared (ports_of ms kn)) l.port)) then (i ∷ path, l.port) ∷ [] else []) connections b h in
+          let t = of_flat (λ (l : Connection). if bytes_eq l.net x && not (net_kind_is_input (net_kind_of (map port_declared (ports_of ms kn)) l.port)) then (i ∷ path, l.port) ∷ [] else []) connections b h in
           child_connection kn i connections has t.0 t.1 _ _ refl refl b t.2
       line_settles (Wire w z) has b h = absurd h
       line_settles (Reg w z) has b h = absurd h

@@ -14,8 +14,7 @@ use Rattle.vlog_tree.specs.Grounded.{Has}
 use Rattle.vlog_tree.specs.Cycle.{Cycle, Sizes, Holds, PortHolds}
 use Rattle.vlog_tree.specs.Table.{Name, declared, port_declared, items_declared, declaration_name, find_name, net_kind_of, bits_of, net_kind_is_memory, net_kind_is_register, first_violation}
 use Rattle.vlog_tree.specs.V2.{v2_uses}
-use Rattle.vlog_graph.proofs.Numbered.{has_left, has_right, has_split}
-use Rattle.vlog_comb_loops.proofs.Lists.{has_map, of_map}
+use Rattle.vlog_tree.proofs.Lists.{has_map, of_map, has_left, has_right, has_split}
 use Rattle.vlog_law_runs.proofs.Sound.{declared_by, true_not_false}
 use Rattle.vlog_law_runs.proofs.Alone.{one_memory, stands_for, of_items, items_have, find_there}
 
@@ -144,7 +143,7 @@ module _ (m : ModuleTree) where
         let d = find_name (declared m) x in
         elim (has_split (map port_declared m.ports) (items_declared m.items) d f.0) [
           | inl l ↦ (let t = of_map port_declared m.ports d l in
-              let p : s.width t.0.name ≡ t.0.bits = all_at (PortHolds s) m.ports t.0 ports t.1 in
+              let p : s.width t.0.name ≡ t.0.width = all_at (PortHolds s) m.ports t.0 ports t.1 in
               subst (λ z. s.width z ≡ d.bits) f.1 (subst (λ (k : Declaration). s.width k.name ≡ k.bits) t.2 p))
           | inr r ↦ (let t = of_items m.items d r in
               subst (λ z. s.width z ≡ d.bits) f.1 (line_width s c t.0 d (all_at (Holds s c) m.items t.0 lines t.1) t.2 (λ e. true_not_false (sym (ap test (sym e) ∙ h) ∙ child))))

@@ -12,15 +12,15 @@ use Rattle.vlog_tree.specs.declared.tree.Item.TheVariants.{Wire, Reg, Memory, As
 use Rattle.vlog_tree.specs.declared.table.Declaration.{Declaration}
 use Rattle.vlog_tree.specs.declared.table.NetKind.{NetKind}
 use Rattle.vlog_tree.specs.declared.table.NetKind.TheVariants.{Unknown, Input, Output, WireNet, Register, MemoryArray, ChildInstance}
-use Rattle.vlog_tree.specs.Form.{ModuleTree}
+use Rattle.vlog_tree.specs.Form.{ModuleTree, is_input}
 use Rattle.vlog_tree.specs.Grounded.{Has}
-use Rattle.vlog_tree.specs.Cycle.{Cycle, Path, Sizes, Holds, PortHolds, Connected, driven, read_cell, module_at, module_named, child_of, and_then}
-use Rattle.vlog_tree.specs.Table.{declaration_name, Name, declared, port_declared, items_declared, find_name, net_kind_of, bits_of, net_kind_is_read, net_kind_is_driven, net_kind_is_input, ports_of, first_violation}
+use Rattle.vlog_tree.specs.Cycle.{Cycle, Path, Sizes, Holds, PortHolds, Connected, driven, read_cell, module_at, child_of, and_then}
+use Rattle.vlog_tree.specs.Table.{declaration_name, Name, declared, port_declared, items_declared, find_name, net_kind_of, bits_of, net_kind_is_read, net_kind_is_driven, net_kind_is_input, ports_of, first_violation, module_named, one_if}
 use Rattle.vlog_tree.specs.V2.{v2_uses, all_connected}
 use Rattle.vlog_tree.specs.declared.tree.PortDecl.{PortDecl}
-use Rattle.vlog_tree.specs.V4.{v4_uses, one_if}
+use Rattle.vlog_tree.specs.V4.{v4_uses}
 use Rattle.vlog_tree.specs.Flattened.{FlatNet}
-use Rattle.vlog_comb_loops.proofs.Lists.{of_flat, of_map, has_map}
+use Rattle.vlog_tree.proofs.Lists.{of_flat, of_map, has_map}
 use Rattle.vlog_law_runs.specs.OneRun.{SameHeld}
 use Rattle.vlog_law_runs.proofs.Sound.{both_true, assign_driven, assign_reads, assign_cell}
 use Rattle.vlog_law_runs.proofs.Alone.{count_cons, instance_single, module_is, IsNamed, find_there}
@@ -104,7 +104,7 @@ port_is_read ps x h =
     let t = of_map declaration_name (map port_declared ps) x h in
     let f = find_there (map port_declared ps) t.0 t.1 in
     let q = of_map port_declared ps (find_name (map port_declared ps) t.0.name) f.0 in
-    subst (λ z. net_kind_is_read (net_kind_of (map port_declared ps) z) ≡ true) t.2 (ap (λ (d : Declaration). net_kind_is_read d.net_kind) (sym q.2) ∙ is_read q.0.input) where
+    subst (λ z. net_kind_is_read (net_kind_of (map port_declared ps) z) ≡ true) t.2 (ap (λ (d : Declaration). net_kind_is_read d.net_kind) (sym q.2) ∙ is_read (is_input q.0.direction)) where
       is_read : (i : Bool) → net_kind_is_read (cond i Input Output) ≡ true
       is_read true = refl
       is_read false = refl

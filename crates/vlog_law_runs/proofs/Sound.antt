@@ -1,6 +1,6 @@
 -- What it says of a design's lines that no name breaks a rule.
 use Rattle.std.proofs.Common.{◌≡◌, Bool, true, false, cond, ◌&&◌, ◌||◌, List, [], ◌∷◌, ◌++◌, Option, Some, None, inl, inr, refl, sym, ap, subst, ◌∙◌, map}
-use Rattle.std.specs.Prelude.{bytes_eq, ◌⊎◌}
+use Rattle.std.specs.Prelude.{bytes_eq, ◌⊎◌, not}
 use Rattle.std.specs.List.{flat_map}
 use Rattle.std.specs.Cmp.Lexicographic.{bytes_decides}
 use Rattle.vlog_tree.specs.declared.tree.Atom.{Atom}
@@ -14,13 +14,12 @@ use Rattle.vlog_tree.specs.declared.tree.PortDecl.{PortDecl}
 use Rattle.vlog_tree.specs.declared.table.Declaration.{Declaration}
 use Rattle.vlog_tree.specs.declared.table.NetKind.{NetKind}
 use Rattle.vlog_tree.specs.declared.table.NetKind.TheVariants.{Unknown, Input, Output, WireNet, Register, MemoryArray, ChildInstance}
-use Rattle.vlog_tree.specs.Form.{ModuleTree}
+use Rattle.vlog_tree.specs.Form.{ModuleTree, is_input}
 use Rattle.vlog_tree.specs.Grounded.{Has}
-use Rattle.vlog_tree.specs.Table.{Name, NameUse, no, clk, is_clk, declared, port_declared, declaration_name, find_name, net_kind_of, net_kind_is_read, net_kind_is_driven, net_kind_is_input, net_kind_is_memory, ports_of, is_module, is_doubled_name, first_violation}
+use Rattle.vlog_tree.specs.Table.{Name, NameUse, clk, is_clk, declared, port_declared, declaration_name, find_name, net_kind_of, net_kind_is_read, net_kind_is_driven, net_kind_is_input, net_kind_is_memory, ports_of, is_module_name, is_doubled_name, first_violation}
 use Rattle.vlog_tree.specs.V2.{memory_use, v2_uses, module_uses, port_uses, item_uses, instance_uses, connection_uses, joined_use, read_use, driven_use, clock_use, atom_uses, value_uses}
 use Rattle.vlog_tree.specs.Loops.{value_nets, atom_nets}
-use Rattle.vlog_graph.proofs.Numbered.{has_left, has_right, has_split}
-use Rattle.vlog_comb_loops.proofs.Lists.{has_flat, of_flat, known}
+use Rattle.vlog_tree.proofs.Lists.{has_flat, of_flat, known, has_left, has_right, has_split}
 
 right_here : (b : Bool) (x : Name) (o : Option Name) → cond b (Some x) o ≡ None → b ≡ false
 right_here true x o h = cc
@@ -41,11 +40,11 @@ both_false false false h = (refl, refl)
 both_false false true h = cc
 both_false true b h = cc
 
-pub not_no : (a : Bool) → no a ≡ false → a ≡ true
+pub not_no : (a : Bool) → not a ≡ false → a ≡ true
 not_no true h = refl
 not_no false h = cc
 
-pub no_is : (a : Bool) → no a ≡ true → a ≡ false
+pub no_is : (a : Bool) → not a ≡ true → a ≡ false
 no_is true h = cc
 no_is false h = refl
 
@@ -89,14 +88,14 @@ input_is MemoryArray h = cc
 input_is ChildInstance h = cc
 
 port_net_kind_of : (p : PortDecl) (ps : List PortDecl) (x : Name) (b i : Bool) → (net_kind_of (map port_declared ps) x ≡ Input) ⊎ (net_kind_of (map port_declared ps) x ≡ Output) ⊎ (net_kind_of (map port_declared ps) x ≡ Unknown)
-    → ((cond b (record { name = p.name; net_kind = cond i Input Output; bits = p.bits }) (find_name (map port_declared ps) x)).net_kind ≡ Input) ⊎ ((cond b (record { name = p.name; net_kind = cond i Input Output; bits = p.bits }) (find_name (map port_declared ps) x)).net_kind ≡ Output) ⊎ ((cond b (record { name = p.name; net_kind = cond i Input Output; bits = p.bits }) (find_name (map port_declared ps) x)).net_kind ≡ Unknown)
+    → ((cond b (record { name = p.name; net_kind = cond i Input Output; bits = p.width; cells = 0 }) (find_name (map port_declared ps) x)).net_kind ≡ Input) ⊎ ((cond b (record { name = p.name; net_kind = cond i Input Output; bits = p.width; cells = 0 }) (find_name (map port_declared ps) x)).net_kind ≡ Output) ⊎ ((cond b (record { name = p.name; net_kind = cond i Input Output; bits = p.width; cells = 0 }) (find_name (map port_declared ps) x)).net_kind ≡ Unknown)
 port_net_kind_of p ps x true true h = inl refl
 port_net_kind_of p ps x true false h = inr (inl refl)
 port_net_kind_of p ps x false i h = h
 
 pub port_net_kind : (ps : List PortDecl) (x : Name) → (net_kind_of (map port_declared ps) x ≡ Input) ⊎ (net_kind_of (map port_declared ps) x ≡ Output) ⊎ (net_kind_of (map port_declared ps) x ≡ Unknown)
 port_net_kind [] x = inr (inr refl)
-port_net_kind (p ∷ ps) x = port_net_kind_of p ps x (bytes_eq p.name x) p.input (port_net_kind ps x)
+port_net_kind (p ∷ ps) x = port_net_kind_of p ps x (bytes_eq p.name x) (is_input p.direction) (port_net_kind ps x)
 
 output_of : (s : NetKind) → (s ≡ Input) ⊎ (s ≡ Output) ⊎ (s ≡ Unknown) → net_kind_is_read s ≡ true → net_kind_is_input s ≡ false → s ≡ Output
 output_of s (inl e) r i = absurd (true_not_false (ap net_kind_is_input (sym e) ∙ i))
@@ -109,20 +108,20 @@ output_is ps x r i = output_of (net_kind_of (map port_declared ps) x) (port_net_
 
 joined_read : (ds : List Declaration) (x : Name) (p q r : Bool) → is_clk x ≡ q → (cond (p && q) (clock_use ds) (cond r (read_use ds x) (driven_use ds x))).1 ≡ false → net_kind_is_read (net_kind_of ds x) ≡ true
 joined_read ds x true true r e h = driven_is_read _ (input_is_driven _ (subst (λ y. net_kind_is_input (net_kind_of ds y) ≡ true) (sym ((bytes_decides x clk).0 e)) (not_no (net_kind_is_input (net_kind_of ds clk)) h)))
-joined_read ds x true false true e h = not_no _ (both_false (no (net_kind_is_read (net_kind_of ds x))) (is_clk x) h).0
-joined_read ds x true false false e h = driven_is_read _ (not_no _ (both_false (no (net_kind_is_driven (net_kind_of ds x))) (is_clk x) h).0)
-joined_read ds x false q true e h = not_no _ (both_false (no (net_kind_is_read (net_kind_of ds x))) (is_clk x) h).0
-joined_read ds x false q false e h = driven_is_read _ (not_no _ (both_false (no (net_kind_is_driven (net_kind_of ds x))) (is_clk x) h).0)
+joined_read ds x true false true e h = not_no _ (both_false (not (net_kind_is_read (net_kind_of ds x))) (is_clk x) h).0
+joined_read ds x true false false e h = driven_is_read _ (not_no _ (both_false (not (net_kind_is_driven (net_kind_of ds x))) (is_clk x) h).0)
+joined_read ds x false q true e h = not_no _ (both_false (not (net_kind_is_read (net_kind_of ds x))) (is_clk x) h).0
+joined_read ds x false q false e h = driven_is_read _ (not_no _ (both_false (not (net_kind_is_driven (net_kind_of ds x))) (is_clk x) h).0)
 
 joined_driven : (ds : List Declaration) (x : Name) (p q r : Bool) → is_clk x ≡ q → r ≡ false → (cond (p && q) (clock_use ds) (cond r (read_use ds x) (driven_use ds x))).1 ≡ false → net_kind_is_driven (net_kind_of ds x) ≡ true
 joined_driven ds x true true r e f h = input_is_driven _ (subst (λ y. net_kind_is_input (net_kind_of ds y) ≡ true) (sym ((bytes_decides x clk).0 e)) (not_no (net_kind_is_input (net_kind_of ds clk)) h))
 joined_driven ds x true false true e f h = cc
-joined_driven ds x true false false e f h = not_no _ (both_false (no (net_kind_is_driven (net_kind_of ds x))) (is_clk x) h).0
+joined_driven ds x true false false e f h = not_no _ (both_false (not (net_kind_is_driven (net_kind_of ds x))) (is_clk x) h).0
 joined_driven ds x false q true e f h = cc
-joined_driven ds x false q false e f h = not_no _ (both_false (no (net_kind_is_driven (net_kind_of ds x))) (is_clk x) h).0
+joined_driven ds x false q false e f h = not_no _ (both_false (not (net_kind_is_driven (net_kind_of ds x))) (is_clk x) h).0
 
 joined_clock : (ds : List Declaration) (x : Name) (p q r : Bool) → is_clk x ≡ q → r ≡ true → p ≡ false → (cond (p && q) (clock_use ds) (cond r (read_use ds x) (driven_use ds x))).1 ≡ false → is_clk x ≡ false
-joined_clock ds x false q true e f g h = (both_false (no (net_kind_is_read (net_kind_of ds x))) (is_clk x) h).1
+joined_clock ds x false q true e f g h = (both_false (not (net_kind_is_read (net_kind_of ds x))) (is_clk x) h).1
 joined_clock ds x false q false e f g h = cc
 joined_clock ds x true q r e f g h = cc
 
@@ -166,12 +165,12 @@ module _ (ms : List ModuleTree) (names : first_violation (v2_uses ms) ≡ None) 
 
   pub assign_driven : (x : Name) (e : Value) → Has m.items (Assign x e) → net_kind_is_driven (net_kind_of (declared m) x) ≡ true
   unfolding item_uses
-  assign_driven x e has = not_no _ (both_false (no (net_kind_is_driven (net_kind_of (declared m) x))) (is_clk x) (item_right (Assign x e) has (driven_use (declared m) x) (inl refl))).0
+  assign_driven x e has = not_no _ (both_false (not (net_kind_is_driven (net_kind_of (declared m) x))) (is_clk x) (item_right (Assign x e) has (driven_use (declared m) x) (inl refl))).0
 
   pub assign_reads : (x : Name) (e : Value) → Has m.items (Assign x e) → (z : Name) → Has (value_nets e) z → (net_kind_is_read (net_kind_of (declared m) z) ≡ true) × (is_clk z ≡ false)
   unfolding item_uses
   assign_reads x e has z h =
-      let p = both_false (no (net_kind_is_read (net_kind_of (declared m) z))) (is_clk z) (item_right (Assign x e) has (read_use (declared m) z) (inr (value_read (declared m) e z h))) in
+      let p = both_false (not (net_kind_is_read (net_kind_of (declared m) z))) (is_clk z) (item_right (Assign x e) has (read_use (declared m) z) (inr (value_read (declared m) e z h))) in
       (not_no _ p.0, p.1)
 
   pub assign_cell : (x k y : Name) → Has m.items (Assign x (Cell k y)) → net_kind_is_memory (net_kind_of (declared m) k) ≡ true
@@ -182,9 +181,9 @@ module _ (ms : List ModuleTree) (names : first_violation (v2_uses ms) ≡ None) 
     abbrev ports : List Declaration
     ports = map port_declared (ports_of ms kn)
 
-    pub is_known_module : is_module ms kn ≡ true
+    pub is_known_module : is_module_name ms kn ≡ true
     unfolding item_uses instance_uses
-    is_known_module = not_no _ (item_right (Instance kn i connections) has (kn, no (is_module ms kn)) (inl refl))
+    is_known_module = not_no _ (item_right (Instance kn i connections) has (kn, not (is_module_name ms kn)) (inl refl))
 
     connection_right : (l : Connection) → Has connections l → (u : NameUse) → Has (connection_uses ports (declared m) l) u → u.1 ≡ false
     unfolding item_uses instance_uses
@@ -192,7 +191,7 @@ module _ (ms : List ModuleTree) (names : first_violation (v2_uses ms) ≡ None) 
 
     pub connection_port : (l : Connection) → Has connections l → net_kind_is_read (net_kind_of ports l.port) ≡ true
     unfolding connection_uses
-    connection_port l h = not_no _ (connection_right l h (l.port, no (net_kind_is_read (net_kind_of ports l.port))) (inl refl))
+    connection_port l h = not_no _ (connection_right l h (l.port, not (net_kind_is_read (net_kind_of ports l.port))) (inl refl))
 
     pub connection_net : (l : Connection) → Has connections l → net_kind_is_read (net_kind_of (declared m) l.net) ≡ true
     unfolding connection_uses

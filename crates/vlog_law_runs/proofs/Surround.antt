@@ -11,19 +11,17 @@ use Rattle.tapa_base.specs.declared.shape.Port.{Port}
 use Rattle.vlog_tree.specs.declared.tree.PortDecl.{PortDecl}
 use Rattle.vlog_tree.specs.declared.table.Declaration.{Declaration}
 use Rattle.vlog_tree.specs.declared.table.NetKind.TheVariants.{Input, Output}
-use Rattle.vlog_tree.specs.Form.{ModuleTree}
+use Rattle.vlog_tree.specs.Form.{ModuleTree, is_input}
 use Rattle.vlog_tree.specs.Grounded.{Has, IsGrounded}
 use Rattle.vlog_tree.specs.Cycle.{Cycle, Path}
-use Rattle.vlog_tree.specs.Table.{Name, bits_of, clk, is_clk, declared, port_declared, items_declared, net_kind_of, net_kind_is_read, first_violation}
+use Rattle.vlog_tree.specs.Table.{Name, bits_of, clk, is_clk, declared, port_declared, items_declared, net_kind_of, net_kind_is_read, first_violation, one_if}
 use Rattle.vlog_tree.specs.Labels.{rst, scalar, m_ack, m_rdata, m_addr, m_wdata, m_we, scalar_of, ack_of, rdata_of, read_of}
 use Rattle.vlog_tree.specs.V2.{v2_uses}
-use Rattle.vlog_tree.specs.V4.{one_if}
 use Rattle.vlog_tree.specs.V6.{v6_uses, is_top, has_all_five, has_port}
 use Rattle.vlog_tree.specs.Environment.{Environment, FitsShape, shape_of, scalar_label, memory_label, Answers, ready_at, set_cell, cells_at, Stands}
 use Rattle.vlog_tree.specs.Flattened.{FlatNet, parts}
 use Rattle.vlog_tree.specs.Refused.{IsDesign}
-use Rattle.vlog_comb_loops.proofs.Lists.{has_flat, of_flat, has_map}
-use Rattle.vlog_graph.proofs.Numbered.{has_left}
+use Rattle.vlog_tree.proofs.Lists.{has_flat, of_flat, has_map, has_left}
 use Rattle.vlog_law_runs.specs.OneRun.{FitsPowerUp, IsRunFrom, IsOnly}
 use Rattle.vlog_law_runs.proofs.Alone.{same_name, declared_once, below_two}
 use Rattle.vlog_law_runs.proofs.Drivers.{count_map}
@@ -139,8 +137,8 @@ module _ (ms : List ModuleTree) (m : ModuleTree) (names : first_violation (v2_us
 
   scalar_there : (p : PortDecl) → Has m.ports p → (x : Name) → scalar_of p.name ≡ Some x → (l : Port) × Has scalars l × (l.name ≡ x)
   scalar_there p h x e = (
-    record { name = x; bits = p.bits },
-    has_flat (λ (p : PortDecl). scalar_label p (scalar_of p.name)) m.ports p _ h (subst (λ o. Has (scalar_label p o) (record { name = x; bits = p.bits })) (sym e) (inl refl)),
+    record { name = x; bits = p.width },
+    has_flat (λ (p : PortDecl). scalar_label p (scalar_of p.name)) m.ports p _ h (subst (λ o. Has (scalar_label p o) (record { name = x; bits = p.width })) (sym e) (inl refl)),
     refl,
   )
 
@@ -160,7 +158,7 @@ module _ (ms : List ModuleTree) (m : ModuleTree) (names : first_violation (v2_us
 
   scalar_single : (p : PortDecl) (o : Option Name) → (scalar_label p o ≡ []) ⊎ ((l : Port) × (scalar_label p o ≡ l ∷ []))
   scalar_single p None = inl refl
-  scalar_single p (Some x) = inr (record { name = x; bits = p.bits }, refl)
+  scalar_single p (Some x) = inr (record { name = x; bits = p.width }, refl)
 
   memory_single : (ds : List Declaration) (o : Option Name) → (memory_label ds o ≡ []) ⊎ ((l : Port) × (memory_label ds o ≡ l ∷ []))
   memory_single ds None = inl refl
@@ -207,7 +205,7 @@ module _ (ms : List ModuleTree) (m : ModuleTree) (names : first_violation (v2_us
 
     -- a run whose inputs are given stands in the environment
     module _ (env_fits : FitsShape env (shape_of m)) (given : (n : ℕ) (x : Name) → net_kind_of (declared m) x ≡ Input → (nets n []).net x ≡ give_input (world n) x (asked_at (nets n) x)) where
-      port_given : (n : ℕ) (p : PortDecl) → Has m.ports p → p.input ≡ true → (x : Name) → p.name ≡ x → (nets n []).net x ≡ give_input (world n) x (asked_at (nets n) x)
+      port_given : (n : ℕ) (p : PortDecl) → Has m.ports p → is_input p.direction ≡ true → (x : Name) → p.name ≡ x → (nets n []).net x ≡ give_input (world n) x (asked_at (nets n) x)
       port_given n p h i x e = given n x (subst (λ z. net_kind_of (declared m) z ≡ Input) e (input_net_kind ms names tops m in_ms top p h i))
 
       reset_given : (n : ℕ) → (nets n []).net rst ≡ cond (n == 0) 1 0
@@ -256,7 +254,7 @@ module _ (ms : List ModuleTree) (m : ModuleTree) (names : first_violation (v2_us
       reset_is zero = s.reset
       reset_is (suc n) = s.runs n ∙ sym (later_reset n)
 
-      label_is : (n : ℕ) (p : PortDecl) → Has m.ports p → p.input ≡ true → is_clk p.name ≡ false → bytes_eq p.name rst ≡ false → (so ao ro : Option Name) → scalar_of p.name ≡ so → ack_of p.name ≡ ao → rdata_of p.name ≡ ro
+      label_is : (n : ℕ) (p : PortDecl) → Has m.ports p → is_input p.direction ≡ true → is_clk p.name ≡ false → bytes_eq p.name rst ≡ false → (so ao ro : Option Name) → scalar_of p.name ≡ so → ack_of p.name ≡ ao → rdata_of p.name ≡ ro
           → (nets n []).net p.name ≡ option_map_or (λ l. lookup 0 scalars env.scalars l) so (option_map_or (λ l. ready_at (lookup [] memories env.ready l) (world n).cycle) ao (option_map_or (λ l. unwrap_or (slice_get ((world n).cells l) (asked_at (nets n) p.name)) 0) ro 0))
       label_is n p h i nc nr (Some l) ao ro es ea er =
           let t = scalar_there p h l es in
@@ -277,7 +275,7 @@ module _ (ms : List ModuleTree) (m : ModuleTree) (names : first_violation (v2_us
           ∙ ap (λ k. unwrap_or (slice_get ((world n).cells l) k) 0) (sym (ap (λ z. asked_at (nets n) z) a.0 ∙ asked_is (nets n) l a.1))
       label_is n p h i nc nr None None None es ea er = let f = fits ms names tops m in_ms top p h in absurd (input_has_label ports f.0 p f.1 i nc nr es ea er)
 
-      by_reset : (n : ℕ) (p : PortDecl) → Has m.ports p → p.input ≡ true → is_clk p.name ≡ false → (b : Bool) → bytes_eq p.name rst ≡ b
+      by_reset : (n : ℕ) (p : PortDecl) → Has m.ports p → is_input p.direction ≡ true → is_clk p.name ≡ false → (b : Bool) → bytes_eq p.name rst ≡ b
           → (nets n []).net p.name ≡ cond b (cond ((world n).cycle == 0) 1 0) (give_label (world n) p.name (asked_at (nets n) p.name))
       by_reset n p h i nc true e = ap (λ z. (nets n []).net z) ((bytes_decides p.name rst).0 e) ∙ reset_is n ∙ ap (λ k. cond (k == 0) 1 0) (sym (cycle_is nets n))
       by_reset n p h i nc false e = label_is n p h i nc e (scalar_of p.name) (ack_of p.name) (rdata_of p.name) refl refl refl
@@ -286,10 +284,10 @@ module _ (ms : List ModuleTree) (m : ModuleTree) (names : first_violation (v2_us
       inputs_stand n x e nc =
           let p = input_port m x e in
           subst (λ z. (nets n []).net z ≡ give_input (world n) z (asked_at (nets n) z)) p.2
-          (by_reset n p.0 p.1 (is_input p.0.input (ap (λ (d : Declaration). d.net_kind) p.3 ∙ e)) (ap is_clk p.2 ∙ nc) (bytes_eq p.0.name rst) refl) where
-            is_input : (b : Bool) → cond b Input Output ≡ Input → b ≡ true
-            is_input true h = refl
-            is_input false h = cc
+          (by_reset n p.0 p.1 (of_input (is_input p.0.direction) (ap (λ (d : Declaration). d.net_kind) p.3 ∙ e)) (ap is_clk p.2 ∙ nc) (bytes_eq p.0.name rst) refl) where
+            of_input : (b : Bool) → cond b Input Output ≡ Input → b ≡ true
+            of_input true h = refl
+            of_input false h = cc
 
 module _ (ms : List ModuleTree) (place : ℕ) (m : ModuleTree) (d : IsDesign ms place) (at : slice_get ms place ≡ Some m) (env : Environment) (contents : Path → Cycle) (env_fits : FitsShape env (shape_of m)) (fits_power_up : FitsPowerUp ms m contents) where
   settled : (n : FlatNet) → IsGrounded (parts ms m true) n

@@ -1,6 +1,6 @@
 -- What the top's ports ask for is there.
 use Rattle.std.proofs.Common.{◌≡◌, Bool, true, false, cond, ◌&&◌, List, [], ◌∷◌, Option, Some, None, inl, inr, refl, sym, ap, subst, ◌∙◌, map}
-use Rattle.std.specs.Prelude.{nat_le}
+use Rattle.std.specs.Prelude.{nat_le, not}
 use Rattle.std.specs.List.{flat_map}
 use Rattle.std.specs.Option.{option_map_or}
 use Rattle.vlog_tree.specs.declared.tree.Connection.{Connection}
@@ -9,13 +9,12 @@ use Rattle.vlog_tree.specs.declared.tree.Item.TheVariants.{Wire, Reg, Memory, As
 use Rattle.vlog_tree.specs.declared.tree.PortDecl.{PortDecl}
 use Rattle.vlog_tree.specs.declared.table.Declaration.{Declaration}
 use Rattle.vlog_tree.specs.declared.table.NetKind.TheVariants.{Input}
-use Rattle.vlog_tree.specs.Form.{ModuleTree}
+use Rattle.vlog_tree.specs.Form.{ModuleTree, is_input}
 use Rattle.vlog_tree.specs.Grounded.{Has}
-use Rattle.vlog_tree.specs.Table.{Name, NameUse, no, clk, is_clk, declared, port_declared, items_declared, find_name, net_kind_of, net_kind_is_read, first_violation}
+use Rattle.vlog_tree.specs.Table.{Name, NameUse, clk, is_clk, declared, port_declared, items_declared, find_name, net_kind_of, net_kind_is_read, first_violation}
 use Rattle.vlog_tree.specs.Labels.{rdata_of, m_addr, m_ack, m_we, m_wdata, m_rdata, read_of, address_of}
 use Rattle.vlog_tree.specs.V6.{v6_uses, module_tops, top_ports, clock_connections, clock_connection, port_fits, rdata_fits, addr_fits, wdata_fits, we_fits, has_all_five, has_port, is_top, agrees}
-use Rattle.vlog_graph.proofs.Numbered.{has_left, has_right, has_split}
-use Rattle.vlog_comb_loops.proofs.Lists.{has_flat, has_map, of_map}
+use Rattle.vlog_tree.proofs.Lists.{has_flat, has_map, of_map, has_left, has_right, has_split}
 use Rattle.vlog_law_runs.proofs.Sound.{right, both_true, not_no}
 use Rattle.vlog_law_runs.proofs.Sizes.{found_name}
 use Rattle.vlog_law_runs.proofs.Alone.{of_items}
@@ -49,11 +48,11 @@ input_port m x s =
 
 fits_of : (ports : List Declaration) (ps before : List PortDecl) → ((u : NameUse) → Has (top_ports ports before ps) u → u.1 ≡ false) → (p : PortDecl) → Has ps p → (b : List PortDecl) × (port_fits ports b p ≡ true)
 fits_of ports [] before f p h = absurd h
-fits_of ports (q ∷ ps) before f p (inl e) = (before, subst (λ z. port_fits ports before z ≡ true) e (not_no _ (f (q.name, no (port_fits ports before q)) (inl refl))))
+fits_of ports (q ∷ ps) before f p (inl e) = (before, subst (λ z. port_fits ports before z ≡ true) e (not_no _ (f (q.name, not (port_fits ports before q)) (inl refl))))
 fits_of ports (q ∷ ps) before f p (inr h) = fits_of ports ps (q ∷ before) (λ u k. f u (inr k)) p h
 
-in_five : (p : PortDecl) (w : Name) (ports : List Declaration) (x : Name) (before : List PortDecl) → (p.input && nat_le p.bits 64 && has_all_five ports x && agrees before w p.bits) ≡ true → has_all_five ports x ≡ true
-in_five p w ports x before h = (both_true _ (has_all_five ports x) (both_true _ (agrees before w p.bits) h).0).1
+in_five : (p : PortDecl) (w : Name) (ports : List Declaration) (x : Name) (before : List PortDecl) → (is_input p.direction && nat_le p.width 64 && has_all_five ports x && agrees before w p.width) ≡ true → has_all_five ports x ≡ true
+in_five p w ports x before h = (both_true _ (has_all_five ports x) (both_true _ (agrees before w p.width) h).0).1
 
 module _ (ms : List ModuleTree) (tops : first_violation (v6_uses ms) ≡ None) (m : ModuleTree) (in_ms : Has ms m) where
   pub use_right : (u : NameUse) → Has (module_tops ms m) u → u.1 ≡ false
@@ -65,7 +64,7 @@ module _ (ms : List ModuleTree) (tops : first_violation (v6_uses ms) ≡ None) (
   clock_joined kn i connections has l h e =
       no_clock (is_clk l.port) (is_clk l.net) e
       (use_right (clock_connection l) (inr (has_right _ (flat_map clock_connections m.items) (clock_connection l) (has_flat clock_connections m.items (Instance kn i connections) (clock_connection l) has (has_map clock_connection connections l h))))) where
-        no_clock : (p n : Bool) → n ≡ false → (p && no n) ≡ false → p ≡ false
+        no_clock : (p n : Bool) → n ≡ false → (p && not n) ≡ false → p ≡ false
         no_clock false n e h = refl
         no_clock true true e h = cc
         no_clock true false e h = cc
@@ -86,7 +85,7 @@ module _ (ms : List ModuleTree) (tops : first_violation (v6_uses ms) ≡ None) (
       let v = both_true _ (wdata_fits ports f.0 p) u.0 in
       let w = both_true _ (addr_fits ports p) v.0 in
       let r = both_true _ (rdata_fits ports f.0 p) w.0 in
-      in_five p (m_wdata x) ports x f.0 (subst (λ (o : Option Name). option_map_or (λ x. p.input && nat_le p.bits 64 && has_all_five ports x && agrees f.0 (m_wdata x) p.bits) o true ≡ true) e r.1)
+      in_five p (m_wdata x) ports x f.0 (subst (λ (o : Option Name). option_map_or (λ x. is_input p.direction && nat_le p.width 64 && has_all_five ports x && agrees f.0 (m_wdata x) p.width) o true ≡ true) e r.1)
 
   pub five_of : (x : Name) → has_all_five ports x ≡ true
       → (has_port ports (m_ack x) ≡ true) × (has_port ports (m_addr x) ≡ true) × (has_port ports (m_wdata x) ≡ true) × (has_port ports (m_we x) ≡ true)

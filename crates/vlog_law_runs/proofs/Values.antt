@@ -9,7 +9,7 @@ use Rattle.vlog_tree.specs.Grounded.{Has}
 use Rattle.vlog_tree.specs.Table.{Name}
 use Rattle.vlog_tree.specs.Cycle.{Cycle, Sizes, atom_value, atom_width, op_value, joined, copies, read_cell, driven}
 use Rattle.vlog_tree.specs.Loops.{atom_nets, value_nets}
-use Rattle.vlog_graph.proofs.Numbered.{has_left, has_right}
+use Rattle.vlog_tree.proofs.Lists.{has_left, has_right}
 
 module _ (c d : Cycle) where
   pub atom_same : (a : Atom) → ((z : Name) → Has (atom_nets a) z → c.net z ≡ d.net z) → atom_value c a ≡ atom_value d a

@@ -1,6 +1,6 @@
 -- A driver's value fits its target, where it reads numbers that fit.
 use Rattle.std.proofs.Common.{◌≡◌, ℕ, zero, suc, ◌+◌, ◌-◌, ◌*◌, ◌/◌, ◌%◌, ◌^◌, ◌<◌, ◌≤◌, Bool, true, false, cond, ◌&&◌, List, [], ◌∷◌, ◌++◌, inl, refl, sym, ap, subst, ◌∙◌, map, sum, arith, mod-lt, div-le_self, mul-le-mul_right, suc-mul}
-use Rattle.std.specs.Prelude.{◌==◌, nat_lt, bit_and}
+use Rattle.std.specs.Prelude.{◌==◌, nat_lt, bit_and, not}
 use Rattle.std.specs.List.{list_all, flat_map}
 use Rattle.std.proofs.Math.Nat.{mod-le}
 use Rattle.std.proofs.Math.Pow.{pow_pos}
@@ -15,11 +15,11 @@ use Rattle.vlog_tree.specs.declared.tree.Value.{Value}
 use Rattle.vlog_tree.specs.declared.tree.Value.TheVariants.{Plain, Invert, Binary, Choose, Concat, Repeat, Cell}
 use Rattle.vlog_tree.specs.declared.table.Declaration.{Declaration}
 use Rattle.vlog_tree.specs.Grounded.{Has}
-use Rattle.vlog_tree.specs.Table.{Name, no, bits_of}
-use Rattle.vlog_tree.specs.Cycle.{Cycle, Sizes, atom_value, atom_width, op_value, bit, joined, copies, read_cell, driven}
+use Rattle.vlog_tree.specs.Table.{one_if, Name, bits_of}
+use Rattle.vlog_tree.specs.Cycle.{Cycle, Sizes, atom_value, atom_width, op_value, joined, copies, read_cell, driven}
 use Rattle.vlog_tree.specs.V3.{is_width, atom_bits, atom_fits, has_bits, is_divisor, op_fits, value_fits}
 use Rattle.vlog_tree.specs.Loops.{atom_nets, value_nets}
-use Rattle.vlog_graph.proofs.Numbered.{has_left, has_right}
+use Rattle.vlog_tree.proofs.Lists.{has_left, has_right}
 use Rattle.vlog_law_runs.proofs.Sound.{both_true}
 use Rattle.vlog_law_widths.specs.Widths.{TakesOperands, Operates}
 
@@ -35,7 +35,7 @@ more_than_none n h = grind (arith, nat_tests)
 cut_below : (n w : ℕ) → n % 2 ^ w < 2 ^ w
 cut_below n w = mod-lt n (pow_pos w)
 
-one_below : (b : Bool) (w : ℕ) → w ≡ 1 → bit b < 2 ^ w
+one_below : (b : Bool) (w : ℕ) → w ≡ 1 → one_if b < 2 ^ w
 one_below true w e = subst (λ n. 1 < 2 ^ n) (sym e) (omega arith)
 one_below false w e = pow_pos w
 
@@ -117,7 +117,7 @@ module _ (ds : List Declaration) (cells : Name → ℕ) (c : Cycle) where
 
     divisor_is : (d : Atom) → is_divisor d ≡ true → 0 < atom_value c d
     divisor_is (Literal k n) h = more_than_none n (is_false (n == 0) h) where
-      is_false : (t : Bool) → no t ≡ true → t ≡ false
+      is_false : (t : Bool) → not t ≡ true → t ≡ false
       is_false true e = cc
       is_false false e = refl
     divisor_is (Net x) h = cc

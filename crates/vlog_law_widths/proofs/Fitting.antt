@@ -53,7 +53,7 @@ module _ (ms : List ModuleTree) (place : ℕ) (root : ModuleTree) (d : IsDesign 
 
     held_next : (it : Item) → Has m.items it → Takes (r.runs.each path m at).sizes m.items (nets n path) (nets (suc n) path) it → PowersUp (nets (suc n) path) it
     held_next (Reg w x) has t =
-        let net_kind : net_kind_of (declared m) x ≡ Register = declared_net_kind m ms d.sound.names here _ (has_line m ms d.sound.names here (Reg w x) has (record { name = x; net_kind = Register; bits = w }) (inl refl)) in
+        let net_kind : net_kind_of (declared m) x ≡ Register = declared_net_kind m ms d.sound.names here _ (has_line m ms d.sound.names here (Reg w x) has (record { name = x; net_kind = Register; bits = w; cells = 0 }) (inl refl)) in
         let low = left_fits.nets x (ap net_kind_is_read net_kind) (register_clock ms d.sound.names m here w x has) in
         subst (λ v. v < 2 ^ w) (sym t) (subst (λ k. (run_items (r.runs.each path m at).sizes (nets n path) m.items (nets n path)).net x < 2 ^ k) (register_bits ms d.sound.names m here w x has) low)
     held_next (Memory w x k) has t = λ a low. subst (λ v. v < 2 ^ w) (sym (t a low)) (left_fits.cells w x k has a low)

@@ -1,6 +1,6 @@
 -- What an environment gives the top fits, and so do the cells that its memories are left with.
 use Rattle.std.proofs.Common.{◌≡◌, ℕ, zero, suc, ◌^◌, ◌<◌, Bool, true, false, cond, ◌&&◌, ◌||◌, List, [], ◌∷◌, Option, Some, None, length, inl, inr, refl, sym, ap, subst, ◌∙◌, map, arith}
-use Rattle.std.specs.Prelude.{◌==◌, bytes_eq, nat_lt, slice_get, slice_set, unwrap_or}
+use Rattle.std.specs.Prelude.{◌==◌, bytes_eq, nat_lt, slice_get, slice_set, unwrap_or, not}
 use Rattle.std.specs.List.{AllByRecursion}
 use Rattle.std.specs.Option.{option_map_or}
 use Rattle.std.specs.Cmp.Lexicographic.{bytes_decides}
@@ -9,15 +9,15 @@ use Rattle.tapa_base.specs.declared.shape.Port.{Port}
 use Rattle.vlog_tree.specs.declared.tree.PortDecl.{PortDecl}
 use Rattle.vlog_tree.specs.declared.table.Declaration.{Declaration}
 use Rattle.vlog_tree.specs.declared.table.NetKind.TheVariants.{Input, Output}
-use Rattle.vlog_tree.specs.Form.{ModuleTree}
-use Rattle.vlog_tree.specs.Grounded.{Has}
-use Rattle.vlog_tree.specs.Table.{Name, no, clk, is_clk, declared, port_declared, items_declared, net_kind_of, bits_of, net_kind_is_read, first_violation}
+use Rattle.vlog_tree.specs.Form.{ModuleTree, is_input}
+use Rattle.vlog_tree.specs.Grounded.{Has, AllTwo}
+use Rattle.vlog_tree.specs.Table.{Name, clk, is_clk, declared, port_declared, items_declared, net_kind_of, bits_of, net_kind_is_read, first_violation}
 use Rattle.vlog_tree.specs.Labels.{rst, done, scalar, m_ack, m_rdata, m_addr, m_wdata, m_we, scalar_of, ack_of, rdata_of}
 use Rattle.vlog_tree.specs.V2.{v2_uses}
 use Rattle.vlog_tree.specs.V6.{v6_uses, fixed_fits, ack_fits, has_all_five, is_in, is_out, is_top}
 use Rattle.vlog_tree.specs.Cycle.{Cycle}
-use Rattle.vlog_tree.specs.Environment.{Environment, FitsShape, AllTwo, shape_of, scalar_label, memory_label, Answers, AllAnswer, Stands, ready_at, set_cell, cells_at}
-use Rattle.vlog_comb_loops.proofs.Lists.{has_flat, of_flat}
+use Rattle.vlog_tree.specs.Environment.{Environment, FitsShape, shape_of, scalar_label, memory_label, Answers, AllAnswer, Stands, ready_at, set_cell, cells_at}
+use Rattle.vlog_tree.proofs.Lists.{has_flat, of_flat}
 use Rattle.vlog_law_runs.proofs.Sound.{both_true}
 use Rattle.vlog_law_runs.proofs.Cycles.{port_stands}
 use Rattle.vlog_law_runs.proofs.TopPorts.{input_port, five_of}
@@ -66,26 +66,26 @@ answer_at run S (k ∷ ls) (c ∷ cs) (r ∷ rs) f g l (inl e) = subst (λ (z : 
 answer_at run S (k ∷ ls) (c ∷ cs) (r ∷ rs) f g l (inr h) = answer_at run S ls cs rs f.1 g.1 l h
 
 module _ (ports : List Declaration) (before : List PortDecl) (p : PortDecl) (f : PortFits ports before p) where
-  ack_bits : (l : Name) → ack_of p.name ≡ Some l → p.bits ≡ 1
+  ack_bits : (l : Name) → ack_of p.name ≡ Some l → p.width ≡ 1
   unfolding ack_fits
   ack_bits l e = of_fits f.ack where
-    of_fits : ack_fits ports p ≡ true → p.bits ≡ 1
+    of_fits : ack_fits ports p ≡ true → p.width ≡ 1
     of_fits h =
         let r = both_true (is_in p 1) (has_all_five ports l) (subst (λ (o : Option Name). option_map_or (λ x. is_in p 1 && has_all_five ports x) o true ≡ true) e h) in
-        same_of p.bits 1 (both_true p.input (p.bits == 1) r.0).1
+        same_of p.width 1 (both_true (is_input p.direction) (p.width == 1) r.0).1
 
-  reset_bits : bytes_eq p.name rst ≡ true → p.bits ≡ 1
+  reset_bits : bytes_eq p.name rst ≡ true → p.width ≡ 1
   unfolding fixed_fits
   reset_bits e = of_fits f.fixed where
-    of_test : (a b i : Bool) → b ≡ true → (no (a || b) || i) ≡ true → i ≡ true
+    of_test : (a b i : Bool) → b ≡ true → (not (a || b) || i) ≡ true → i ≡ true
     of_test true true i e h = h
     of_test false true i e h = h
     of_test a false i e h = cc
 
-    of_fits : fixed_fits p ≡ true → p.bits ≡ 1
+    of_fits : fixed_fits p ≡ true → p.width ≡ 1
     of_fits h =
-        let r = both_true (no (is_clk p.name || bytes_eq p.name rst) || is_in p 1) (no (bytes_eq p.name done) || is_out p 1) h in
-        same_of p.bits 1 (both_true p.input (p.bits == 1) (of_test (is_clk p.name) (bytes_eq p.name rst) (is_in p 1) e r.0)).1
+        let r = both_true (not (is_clk p.name || bytes_eq p.name rst) || is_in p 1) (not (bytes_eq p.name done) || is_out p 1) h in
+        same_of p.width 1 (both_true (is_input p.direction) (p.width == 1) (of_test (is_clk p.name) (bytes_eq p.name rst) (is_in p 1) e r.0)).1
 
 wdata_clock : (l : Name) → is_clk (m_wdata l) ≡ false
 unfolding m_wdata clk
@@ -111,21 +111,21 @@ module _ (ms : List ModuleTree) (names : first_violation (v2_uses ms) ≡ None) 
     of_label (Some x) (inr h) = absurd h
 
   module _ (n : ℕ) (p : PortDecl) (h : Has m.ports p) where
-    scalar_below : (l : Name) → scalar_of p.name ≡ Some l → (run n).net p.name < 2 ^ p.bits
+    scalar_below : (l : Name) → scalar_of p.name ≡ Some l → (run n).net p.name < 2 ^ p.width
     scalar_below l e =
-        let k : Port = record { name = l; bits = p.bits } in
+        let k : Port = record { name = l; bits = p.width } in
         let there : Has (shape_of m).scalars k = has_flat (λ (p : PortDecl). scalar_label p (scalar_of p.name)) m.ports p k h (subst (λ o. Has (scalar_label p o) k) (sym e) (inl refl)) in
         let t = two_at (λ (l : Port) v. (run n).net (scalar l.name) ≡ v) (λ (l : Port) v. v < 2 ^ l.bits) (shape_of m).scalars env.scalars (s.scalars n) env_fits.scalars k there in
-        subst (λ z. (run n).net z < 2 ^ p.bits) (sym (label_of_scalar p.name l e).0) (subst (λ v. v < 2 ^ p.bits) (sym t.1) t.2)
+        subst (λ z. (run n).net z < 2 ^ p.width) (sym (label_of_scalar p.name l e).0) (subst (λ v. v < 2 ^ p.width) (sym t.1) t.2)
 
-    ack_below : (l : Name) → ack_of p.name ≡ Some l → (run n).net p.name < 2 ^ p.bits
+    ack_below : (l : Name) → ack_of p.name ≡ Some l → (run n).net p.name < 2 ^ p.width
     ack_below l e =
         let f = fits ms names tops m in_ms top p h in
         let t = answer_at run (λ (l : Port) cells. AllByRecursion (λ v. v < 2 ^ l.bits) cells) (shape_of m).memories env.memories env.ready s.memories env_fits.memories (memory l) (memory_there p h l e) in
         let is : (run n).net p.name ≡ ready_at t.1 n = ap (λ z. (run n).net z) (ack_label p.name l e).0 ∙ t.2.ack n in
-        subst (λ v. v < 2 ^ p.bits) (sym is) (subst (λ w. ready_at t.1 n < 2 ^ w) (sym (ack_bits ports f.0 p f.1 l e)) (ready_below t.1 n))
+        subst (λ v. v < 2 ^ p.width) (sym is) (subst (λ w. ready_at t.1 n < 2 ^ w) (sym (ack_bits ports f.0 p f.1 l e)) (ready_below t.1 n))
 
-    rdata_below : OutsideFits m env run n → (l : Name) → rdata_of p.name ≡ Some l → (run n).net p.name < 2 ^ p.bits
+    rdata_below : OutsideFits m env run n → (l : Name) → rdata_of p.name ≡ Some l → (run n).net p.name < 2 ^ p.width
     rdata_below cells l e =
         let f = fits ms names tops m in_ms top p h in
         let a = rdata_label p.name l e in
@@ -134,18 +134,18 @@ module _ (ms : List ModuleTree) (names : first_violation (v2_uses ms) ≡ None) 
         let t = answer_at run (CellsFit run n) (shape_of m).memories env.memories env.ready s.memories cells (memory l) (memory_there q.0 q.1 l (ap ack_of q.2 ∙ ack_of_label l a.1)) in
         let low : unwrap_or (slice_get (cells_at run l t.0 n) ((run n).net (m_addr l))) 0 < 2 ^ bits_of (declared m) (m_rdata l) = got_below (bits_of (declared m) (m_rdata l)) (cells_at run l t.0 n) ((run n).net (m_addr l)) t.3 in
         let is : (run n).net p.name ≡ unwrap_or (slice_get (cells_at run l t.0 n) ((run n).net (m_addr l))) 0 = ap (λ z. (run n).net z) a.0 ∙ t.2.rdata n in
-        let bits : bits_of (declared m) (m_rdata l) ≡ p.bits = ap (λ z. bits_of (declared m) z) (sym a.0) ∙ sym (port_bits ms names tops m in_ms top p h) in
-        subst (λ v. v < 2 ^ p.bits) (sym is) (subst (λ w. unwrap_or (slice_get (cells_at run l t.0 n) ((run n).net (m_addr l))) 0 < 2 ^ w) bits low)
+        let bits : bits_of (declared m) (m_rdata l) ≡ p.width = ap (λ z. bits_of (declared m) z) (sym a.0) ∙ sym (port_bits ms names tops m in_ms top p h) in
+        subst (λ v. v < 2 ^ p.width) (sym is) (subst (λ w. unwrap_or (slice_get (cells_at run l t.0 n) ((run n).net (m_addr l))) 0 < 2 ^ w) bits low)
 
-    reset_below : bytes_eq p.name rst ≡ true → (run n).net p.name < 2 ^ p.bits
+    reset_below : bytes_eq p.name rst ≡ true → (run n).net p.name < 2 ^ p.width
     reset_below e =
         let f = fits ms names tops m in_ms top p h in
-        subst (λ z. (run n).net z < 2 ^ p.bits) (sym ((bytes_decides p.name rst).0 e)) (subst (λ w. (run n).net rst < 2 ^ w) (sym (reset_bits ports f.0 p f.1 e)) (by_cycle n)) where
+        subst (λ z. (run n).net z < 2 ^ p.width) (sym ((bytes_decides p.name rst).0 e)) (subst (λ w. (run n).net rst < 2 ^ w) (sym (reset_bits ports f.0 p f.1 e)) (by_cycle n)) where
           by_cycle : (n : ℕ) → (run n).net rst < 2 ^ 1
           by_cycle zero = subst (λ v. v < 2 ^ 1) (sym s.reset) (omega arith)
           by_cycle (suc n) = subst (λ v. v < 2 ^ 1) (sym (s.runs n)) (omega arith)
 
-    port_below : OutsideFits m env run n → p.input ≡ true → is_clk p.name ≡ false → (b : Bool) (so ao ro : Option Name) → bytes_eq p.name rst ≡ b → scalar_of p.name ≡ so → ack_of p.name ≡ ao → rdata_of p.name ≡ ro → (run n).net p.name < 2 ^ p.bits
+    port_below : OutsideFits m env run n → is_input p.direction ≡ true → is_clk p.name ≡ false → (b : Bool) (so ao ro : Option Name) → bytes_eq p.name rst ≡ b → scalar_of p.name ≡ so → ack_of p.name ≡ ao → rdata_of p.name ≡ ro → (run n).net p.name < 2 ^ p.width
     port_below cells i c true so ao ro r es ea er = reset_below r
     port_below cells i c false (Some l) ao ro r es ea er = scalar_below l es
     port_below cells i c false None (Some l) ro r es ea er = ack_below l ea
@@ -156,12 +156,12 @@ module _ (ms : List ModuleTree) (names : first_violation (v2_uses ms) ≡ None) 
   pub input_below : (n : ℕ) → OutsideFits m env run n → (x : Name) → net_kind_of (declared m) x ≡ Input → is_clk x ≡ false → (run n).net x < 2 ^ bits_of (declared m) x
   input_below n cells x e c =
       let p = input_port m x e in
-      let low : (run n).net p.0.name < 2 ^ p.0.bits =
-      port_below n p.0 p.1 cells (is_input p.0.input (ap (λ (d : Declaration). d.net_kind) p.3 ∙ e)) (ap is_clk p.2 ∙ c) (bytes_eq p.0.name rst) (scalar_of p.0.name) (ack_of p.0.name) (rdata_of p.0.name) refl refl refl refl in
+      let low : (run n).net p.0.name < 2 ^ p.0.width =
+      port_below n p.0 p.1 cells (of_input (is_input p.0.direction) (ap (λ (d : Declaration). d.net_kind) p.3 ∙ e)) (ap is_clk p.2 ∙ c) (bytes_eq p.0.name rst) (scalar_of p.0.name) (ack_of p.0.name) (rdata_of p.0.name) refl refl refl refl in
       subst (λ z. (run n).net z < 2 ^ bits_of (declared m) z) p.2 (subst (λ w. (run n).net p.0.name < 2 ^ w) (port_bits ms names tops m in_ms top p.0 p.1) low) where
-        is_input : (b : Bool) → cond b Input Output ≡ Input → b ≡ true
-        is_input true h = refl
-        is_input false h = cc
+        of_input : (b : Bool) → cond b Input Output ≡ Input → b ≡ true
+        of_input true h = refl
+        of_input false h = cc
 
   wdata_below : (n : ℕ) → NumbersFit m (run n) → (l : Name) → 0 < length l → has_all_five ports l ≡ true → (run n).net (m_wdata l) < 2 ^ bits_of (declared m) (m_rdata l)
   wdata_below n f l some five =

@@ -20,7 +20,7 @@ use Rattle.vlog_tree.specs.V4.{v4_uses}
 use Rattle.vlog_tree.specs.V6.{v6_uses}
 use Rattle.vlog_tree.specs.Loops.{item_instances}
 use Rattle.vlog_tree.specs.Flattened.{FlatNet, parts, line_parts}
-use Rattle.vlog_comb_loops.proofs.Lists.{has_flat, of_flat}
+use Rattle.vlog_tree.proofs.Lists.{has_flat, of_flat}
 use Rattle.vlog_law_runs.specs.OneRun.{SameHeld, FitsPowerUp}
 use Rattle.vlog_law_runs.proofs.Sound.{assign_reads, assign_cell, connection_port, connection_net, connection_clock, output_is, is_known_module, input_is}
 use Rattle.vlog_law_runs.proofs.Alone.{child_is, module_there, module_is, IsNamed}

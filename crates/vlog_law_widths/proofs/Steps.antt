@@ -1,6 +1,6 @@
 -- What the blocks of a module leave for the next cycle fits, where the old numbers do.
 use Rattle.std.proofs.Common.{◌≡◌, ℕ, ◌^◌, ◌<◌, Bool, true, false, cond, ◌&&◌, List, [], ◌∷◌, None, inl, inr, refl, sym, ap, subst, ◌∙◌}
-use Rattle.std.specs.Prelude.{◌==◌, bytes_eq, nat_lt}
+use Rattle.std.specs.Prelude.{◌==◌, bytes_eq, nat_lt, not}
 use Rattle.std.specs.List.{list_all}
 use Rattle.std.specs.Cmp.Lexicographic.{bytes_decides}
 use Rattle.vlog_tree.specs.declared.tree.Step.{Step}
@@ -21,10 +21,10 @@ use Rattle.vlog_law_widths.proofs.Ruled.{StepFits}
 module _ (ms : List ModuleTree) (names : first_violation (v2_uses ms) ≡ None) (m : ModuleTree) (in_ms : Has ms m) where
   -- a memory's line declares its cells' width
   pub memory_bits : (w : ℕ) (y : Name) (k : ℕ) → Has m.items (Memory w y k) → bits_of (declared m) y ≡ w
-  memory_bits w y k has = declared_bits m ms names in_ms _ (has_line m ms names in_ms (Memory w y k) has (record { name = y; net_kind = MemoryArray; bits = w }) (inl refl))
+  memory_bits w y k has = declared_bits m ms names in_ms _ (has_line m ms names in_ms (Memory w y k) has (record { name = y; net_kind = MemoryArray; bits = w; cells = k }) (inl refl))
 
   pub register_bits : (w : ℕ) (x : Name) → Has m.items (Reg w x) → bits_of (declared m) x ≡ w
-  register_bits w x has = declared_bits m ms names in_ms _ (has_line m ms names in_ms (Reg w x) has (record { name = x; net_kind = Register; bits = w }) (inl refl))
+  register_bits w x has = declared_bits m ms names in_ms _ (has_line m ms names in_ms (Reg w x) has (record { name = x; net_kind = Register; bits = w; cells = 0 }) (inl refl))
 
   either_fits : (b : Bool) (p q : Cycle) → NumbersFit m p → NumbersFit m q → NumbersFit m (cond b p q)
   either_fits true p q f g = f
@@ -54,7 +54,7 @@ module _ (ms : List ModuleTree) (names : first_violation (v2_uses ms) ≡ None) 
     steps_fit [] f on next g = g
     steps_fit (If c ∷ steps) f on next g = steps_fit steps (λ st h. f st (inr h)) ((old.net c == 1) ∷ on) next g
     steps_fit (Else ∷ steps) f [] next g = g
-    steps_fit (Else ∷ steps) f (b ∷ on) next g = steps_fit steps (λ st h. f st (inr h)) (cond b false true ∷ on) next g
+    steps_fit (Else ∷ steps) f (b ∷ on) next g = steps_fit steps (λ st h. f st (inr h)) (not b ∷ on) next g
     steps_fit (End ∷ steps) f [] next g = g
     steps_fit (End ∷ steps) f (b ∷ on) next g = steps_fit steps (λ st h. f st (inr h)) on next g
     steps_fit (NonblockingAssign x a ∷ steps) f on next g =

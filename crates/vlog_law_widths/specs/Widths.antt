@@ -8,10 +8,10 @@ use Rattle.vlog_tree.specs.declared.tree.Value.{Value}
 use Rattle.vlog_tree.specs.declared.tree.Value.TheVariants.{Plain, Invert, Binary, Choose, Concat, Repeat, Cell}
 use Rattle.vlog_tree.specs.declared.tree.Item.TheVariants.{Memory, Assign}
 use Rattle.vlog_tree.specs.Form.{ModuleTree}
-use Rattle.vlog_tree.specs.Grounded.{Has}
+use Rattle.vlog_tree.specs.Grounded.{Has, AllTwo}
 use Rattle.vlog_tree.specs.Table.{Name, is_clk, declared, net_kind_of, bits_of, net_kind_is_read}
 use Rattle.vlog_tree.specs.Cycle.{Cycle, Sizes, Path, Holds, PortHolds, atom_value, driven, module_at}
-use Rattle.vlog_tree.specs.Environment.{Environment, AllTwo, shape_of, cells_at}
+use Rattle.vlog_tree.specs.Environment.{Environment, shape_of, cells_at}
 
 -- what a line may declare as a width
 abbrev pub IsInRange : ℕ → Type 0

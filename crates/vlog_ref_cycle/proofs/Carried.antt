@@ -1,7 +1,8 @@
 -- What a stream carries, one cycle further.
 use Rattle.std.proofs.Common.{◌≡◌, ℕ, suc, false, cond, ◌&&◌, [], ◌∷◌, ◌++◌, sym, ap, ◌∙◌, append-nil}
 use Rattle.std.specs.Prelude.{◌==◌}
-use Rattle.vlog_tree.specs.Cycle.{Name, Cycle}
+use Rattle.vlog_tree.specs.Cycle.{Cycle}
+use Rattle.vlog_tree.specs.Table.{Name}
 use Rattle.vlog_tree.specs.Environment.{carried}
 use Rattle.vlog_tree.specs.Labels.{s_din, s_wr, s_rdy}
 

@@ -1,7 +1,8 @@
 -- Numbers as a loop gathers them.
 use Rattle.std.proofs.Common.{◌≡◌, ℕ, ◌+◌, ◌<◌, ◌≤◌, List, [], ◌∷◌, ◌++◌, Option, Some, None, length, get_or, drop, refl, sym, ap, ◌∙◌, append_assoc, append-nil}
 use Rattle.std.specs.Option.{option_map}
-use Rattle.vlog_tree.specs.Cycle.{Name, and_then}
+use Rattle.vlog_tree.specs.Cycle.{and_then}
+use Rattle.vlog_tree.specs.Table.{Name}
 use Rattle.vlog_tree.proofs.Walks.{opened, over}
 use Rattle.vlog_ref_driver.specs.declared.numbers.NetNumber.{NetNumber}
 use Rattle.vlog_ref_cycle.specs.Numbers.{all_numbers}

@@ -7,8 +7,9 @@ use Rattle.std.proofs.Math.Seq.{take-suc}
 use Rattle.std.specs.Prelude.{◌==◌, bytes_eq, nat_lt}
 use Rattle.std.specs.List.{AllByRecursion}
 use Rattle.std.specs.Cmp.Lexicographic.{bytes_decides}
-use Rattle.vlog_tree.specs.Cycle.{Name, Cycle, Sizes, put, store}
-use Rattle.vlog_tree.specs.Environment.{AllTwo}
+use Rattle.vlog_tree.specs.Cycle.{Cycle, Sizes, put, store}
+use Rattle.vlog_tree.specs.Table.{Name}
+use Rattle.vlog_tree.specs.Grounded.{AllTwo}
 use Rattle.vlog_ref_driver.specs.declared.numbers.NetNumber.{NetNumber}
 use Rattle.vlog_ref_driver.specs.declared.numbers.MemoryCells.{MemoryCells}
 use Rattle.vlog_ref_cycle.specs.Next.{put_net, IsStored, ShowsNet, ShowsCells, net_shape, memory_shape}

@@ -1,7 +1,7 @@
 -- What the next cycle holds, as a loop gathers it.
 use Rattle.std.proofs.Common.{◌≡◌, ℕ, zero, suc, ◌+◌, ◌<◌, Bool, true, ◌&&◌, List, [], ◌∷◌, ◌++◌, length, get_or, take, drop, sym, ap, subst, ◌∙◌, arith}
 use Rattle.std.specs.List.{AllByRecursion, list_all}
-use Rattle.vlog_tree.specs.Environment.{AllTwo}
+use Rattle.vlog_tree.specs.Grounded.{AllTwo}
 use Rattle.vlog_tree.proofs.Walks.{step}
 use Rattle.vlog_ref_cycle.specs.declared.moment.Circuit.{Circuit}
 use Rattle.vlog_ref_cycle.specs.declared.moment.Held.{Held}

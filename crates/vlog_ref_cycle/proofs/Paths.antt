@@ -5,7 +5,8 @@ use Rattle.std.specs.Prelude.{◌==◌, bytes_eq}
 use Rattle.vlog_tree.specs.declared.tree.Item.{Item}
 use Rattle.vlog_tree.specs.declared.tree.Item.TheVariants.{Wire, Reg, Memory, Assign, Always, Instance}
 use Rattle.vlog_tree.specs.Form.{ModuleTree}
-use Rattle.vlog_tree.specs.Cycle.{Name, Path, and_then, child_of, module_named, module_at}
+use Rattle.vlog_tree.specs.Cycle.{Path, and_then, child_of, module_at}
+use Rattle.vlog_tree.specs.Table.{Name, module_named}
 use Rattle.vlog_tree.proofs.Walks.{opened}
 use Rattle.vlog_ref_cycle.specs.Sources.{or_else, same_path}
 

@@ -1,7 +1,7 @@
 -- A number that is found is the one that each run has.
 use Rattle.std.proofs.lemmas.Bool.{ltb-true}
 use Rattle.std.proofs.Common.{◌≡◌, ℕ, ◌<◌, Bool, true, false, cond, ◌&&◌, List, [], ◌∷◌, Option, Some, None, length, get_or, map, inl, inr, refl, sym, ap, subst, ◌∙◌}
-use Rattle.std.specs.Prelude.{◌⊎◌, bytes_eq, nat_lt, nat_le, is_some, unwrap_or, slice_get}
+use Rattle.std.specs.Prelude.{◌⊎◌, bytes_eq, nat_lt, nat_le, is_some, unwrap_or, slice_get, not}
 use Rattle.std.specs.List.{AllByRecursion}
 use Rattle.std.specs.Option.{option_map_or}
 use Rattle.std.specs.Cmp.Lexicographic.{bytes_decides}
@@ -13,10 +13,10 @@ use Rattle.vlog_tree.specs.declared.tree.Item.{Item}
 use Rattle.vlog_tree.specs.declared.tree.Item.TheVariants.{Wire, Reg, Memory, Assign, Always, Instance}
 use Rattle.vlog_tree.specs.declared.table.Declaration.{Declaration}
 use Rattle.vlog_tree.specs.Form.{ModuleTree}
-use Rattle.vlog_tree.specs.Grounded.{Has}
-use Rattle.vlog_tree.specs.Table.{Name, no, declared, port_declared, ports_of, net_kind_of, bits_of, net_kind_is_input, net_kind_is_read}
+use Rattle.vlog_tree.specs.Grounded.{Has, AllTwo}
+use Rattle.vlog_tree.specs.Table.{Name, declared, port_declared, ports_of, net_kind_of, bits_of, net_kind_is_input, net_kind_is_read}
 use Rattle.vlog_tree.specs.Cycle.{Cycle, Path, Sizes, and_then, Holds, PortHolds, driven}
-use Rattle.vlog_tree.specs.Environment.{AllTwo, AllAnswer, Answers}
+use Rattle.vlog_tree.specs.Environment.{AllAnswer, Answers}
 use Rattle.vlog_tree.specs.Loops.{value_nets}
 use Rattle.vlog_law_runs.proofs.Sound.{both_true, true_not_false}
 use Rattle.vlog_law_runs.proofs.Sizes.{all_at, width_held}
@@ -174,7 +174,7 @@ connection_step l ls x p t false e o f h = let q = f h in record { connection = 
 
 out_found : (ports : List Declaration) (ls : List Connection) (x p : Name) → connection_out ports ls x ≡ Some p → IsConnection ls x p
 out_found ports [] x p h = cc
-out_found ports (l ∷ ls) x p h = connection_step l ls x p (no (net_kind_is_input (net_kind_of ports l.port))) (bytes_eq l.net x && no (net_kind_is_input (net_kind_of ports l.port))) refl (connection_out ports ls x) (out_found ports ls x p) h
+out_found ports (l ∷ ls) x p h = connection_step l ls x p (not (net_kind_is_input (net_kind_of ports l.port))) (bytes_eq l.net x && not (net_kind_is_input (net_kind_of ports l.port))) refl (connection_out ports ls x) (out_found ports ls x p) h
 
 output_more : (it : Item) (items : List Item) (x : Name) (p : Name × Name) → IsOutput items x p → IsOutput (it ∷ items) x p
 output_more it items x p q = record { module_name = q.module_name; connections = q.connections; has = inr q.has; connection = q.connection; connected = q.connected; net = q.net; port = q.port }

@@ -10,11 +10,12 @@ use Rattle.vlog_tree.specs.declared.tree.Step.{Step}
 use Rattle.vlog_tree.specs.declared.tree.Step.TheVariants.{If, Else, End, NonblockingAssign, MemoryAssign}
 use Rattle.vlog_tree.specs.declared.tree.Item.{Item}
 use Rattle.vlog_tree.specs.declared.tree.Item.TheVariants.{Wire, Reg, Memory, Assign, Always, Instance}
-use Rattle.vlog_tree.specs.Environment.{AllTwo}
+use Rattle.vlog_tree.specs.Grounded.{AllTwo}
 use Rattle.vlog_tree.specs.Loops.{atom_nets}
-use Rattle.vlog_tree.specs.Cycle.{Name, Cycle, Sizes, atom_value, put, store, run_steps, run_items}
+use Rattle.vlog_tree.specs.Cycle.{Cycle, Sizes, atom_value, put, store, run_steps, run_items}
+use Rattle.vlog_tree.specs.Table.{Name}
 use Rattle.vlog_tree.proofs.Walks.{opened, over}
-use Rattle.vlog_comb_loops.proofs.Lists.{has_flat, has_got, got_index}
+use Rattle.vlog_tree.proofs.Lists.{has_flat, has_got, got_index}
 use Rattle.vlog_law_runs.proofs.Values.{atom_same}
 use Rattle.vlog_ref_driver.specs.declared.numbers.NetNumber.{NetNumber}
 use Rattle.vlog_ref_driver.specs.declared.numbers.MemoryCells.{MemoryCells}

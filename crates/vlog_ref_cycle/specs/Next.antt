@@ -2,15 +2,15 @@
 use Rattle.std.specs.Prelude.{◌≡◌, ℕ, ◌+◌, ◌<◌, ◌^◌, Bool, ◌&&◌, List, [], ◌∷◌, is_some, nat_lt, ◌==◌, length, get_or, slice_set, bytes_eq, if◌then◌else◌, map}
 use Rattle.std.specs.List.{flat_map, list_all, AllByRecursion}
 use Rattle.vlog_tree.specs.Form.{ModuleTree}
-use Rattle.vlog_tree.specs.Table.{declared}
-use Rattle.vlog_tree.specs.Grounded.{Has}
+use Rattle.vlog_tree.specs.Table.{declared, Name}
+use Rattle.vlog_tree.specs.Grounded.{Has, AllTwo}
 use Rattle.vlog_tree.specs.Labels.{m_ack, m_we, m_addr, m_wdata}
 use Rattle.vlog_tree.specs.declared.tree.Step.{Step}
 use Rattle.vlog_tree.specs.declared.tree.Step.TheVariants.{If, Else, End, NonblockingAssign, MemoryAssign}
 use Rattle.vlog_tree.specs.declared.tree.Item.{Item}
 use Rattle.vlog_tree.specs.declared.tree.Item.TheVariants.{Wire, Reg, Memory, Assign, Always, Instance}
-use Rattle.vlog_tree.specs.Cycle.{Name, Cycle, Sizes, and_then, module_at, atom_value, put, store, run_steps}
-use Rattle.vlog_tree.specs.Environment.{AllTwo, set_cell}
+use Rattle.vlog_tree.specs.Cycle.{Cycle, Sizes, and_then, module_at, atom_value, put, store, run_steps}
+use Rattle.vlog_tree.specs.Environment.{set_cell}
 use Rattle.vlog_tree.specs.Loops.{atom_nets}
 use Rattle.vlog_ref_driver.specs.declared.numbers.NetNumber.{NetNumber}
 use Rattle.vlog_ref_driver.specs.declared.numbers.MemoryCells.{MemoryCells}

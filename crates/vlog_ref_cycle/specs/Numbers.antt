@@ -2,7 +2,8 @@
 use Rattle.std.specs.Prelude.{ℕ, zero, suc, List, [], ◌∷◌, Option, Some, None, unwrap_or, slice_get, nat_le, if◌then◌else◌}
 use Rattle.std.specs.Option.{option_map}
 use Rattle.vlog_tree.specs.Form.{ModuleTree}
-use Rattle.vlog_tree.specs.Cycle.{Name, Path, and_then, driven}
+use Rattle.vlog_tree.specs.Cycle.{Path, and_then, driven}
+use Rattle.vlog_tree.specs.Table.{Name}
 use Rattle.vlog_ref_driver.specs.declared.numbers.NetNumber.{NetNumber}
 use Rattle.vlog_ref_driver.specs.Numbers.{cycle_of, sizes_of, fitting}
 use Rattle.vlog_ref_cycle.specs.declared.moment.Circuit.{Circuit}

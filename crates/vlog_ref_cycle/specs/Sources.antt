@@ -1,5 +1,5 @@
 -- What gives a net its number in a cycle.
-use Rattle.std.specs.Prelude.{ℕ, Bool, true, false, ◌&&◌, ◌==◌, List, [], ◌∷◌, Option, Some, None, bytes_eq, is_some, if◌then◌else◌, map}
+use Rattle.std.specs.Prelude.{ℕ, Bool, true, false, ◌&&◌, ◌==◌, List, [], ◌∷◌, Option, Some, None, bytes_eq, is_some, if◌then◌else◌, map, not}
 use Rattle.std.specs.Borrow.{Bor}
 use Rattle.std.specs.List.{list_all}
 use Rattle.std.specs.Option.{option_map}
@@ -11,7 +11,7 @@ use Rattle.vlog_tree.specs.declared.tree.Item.{Item}
 use Rattle.vlog_tree.specs.declared.tree.Item.TheVariants.{Wire, Reg, Memory, Assign, Always, Instance}
 use Rattle.vlog_tree.specs.declared.table.Declaration.{Declaration}
 use Rattle.vlog_tree.specs.Form.{ModuleTree}
-use Rattle.vlog_tree.specs.Table.{Name, no, declared, port_declared, ports_of, net_kind_of, bits_of, net_kind_is_input, net_kind_is_read}
+use Rattle.vlog_tree.specs.Table.{Name, declared, port_declared, ports_of, net_kind_of, bits_of, net_kind_is_input, net_kind_is_read}
 use Rattle.vlog_tree.specs.Cycle.{Path, and_then, module_at}
 use Rattle.vlog_tree.specs.Environment.{ready_at}
 use Rattle.vlog_tree.specs.Labels.{rst, scalar_of, ack_of, rdata_of, m_addr}
@@ -57,7 +57,7 @@ assigned (it ∷ items) x = or_else (assigned_in it x) (assigned items x)
 -- the first port, no input, that is joined to a net
 abbrev pub connection_out : List Declaration → List Connection → Name → Option Name
 connection_out ports [] x = None
-connection_out ports (l ∷ ls) x = if bytes_eq l.net x && no (net_kind_is_input (net_kind_of ports l.port)) then Some l.port else connection_out ports ls x
+connection_out ports (l ∷ ls) x = if bytes_eq l.net x && not (net_kind_is_input (net_kind_of ports l.port)) then Some l.port else connection_out ports ls x
 
 abbrev pub output_in : List ModuleTree → Item → Name → Option (Name × Name)
 output_in ms (Instance m i connections) x = option_map (λ p. (i, p)) (connection_out (map port_declared (ports_of ms m)) connections x)

@@ -4,7 +4,7 @@ ghost use Rattle.std.specs.Prelude.{◌≡◌, ◌∷◌, ◌++◌, [], List, ma
 ghost use Rattle.std.specs.List.{flat_map, list_all};
 ghost use Rattle.vlog_tree.specs.declared.tree.Step.{Step as StepTree};
 ghost use Rattle.vlog_tree.specs.Cycle.{Cycle, Sizes, run_steps as run_steps_lem, run_items as run_items_lem};
-ghost use Rattle.vlog_tree.specs.Environment.{AllTwo};
+ghost use Rattle.vlog_tree.specs.Grounded.{AllTwo};
 ghost use Rattle.vlog_ref_cycle.specs.Sources.{net_read};
 ghost use Rattle.vlog_ref_cycle.specs.Next.{step_nets, item_nets, put_net, IsStored, ReadsAre, Fits, Shows, IsAlike, step_next, StepLeaves};
 
@@ -28,8 +28,12 @@ fn add_step(
         Step::If(c) => add_net(alloc, scope, out, c),
         Step::Else => Ok(()),
         Step::End => Ok(()),
-        Step::NonblockingAssign(_, a) => add_atom(alloc, scope, out, a),
-        Step::MemoryAssign(_, x, a) => {
+        Step::NonblockingAssign { value: a, .. } => add_atom(alloc, scope, out, a),
+        Step::MemoryAssign {
+            index: x,
+            value: a,
+            ..
+        } => {
             add_net(alloc, scope, out, x)?;
             add_atom(alloc, scope, out, a)
         }
@@ -60,11 +64,11 @@ fn add_item(
 {
     match item {
         Item::Always(block) => add_steps(alloc, scope, out, block.steps()),
-        Item::Wire(_, _) => Ok(()),
-        Item::Reg(_, _) => Ok(()),
-        Item::Memory(_, _, _) => Ok(()),
-        Item::Assign(_, _) => Ok(()),
-        Item::Instance(_, _, _) => Ok(()),
+        Item::Wire { .. } => Ok(()),
+        Item::Reg { .. } => Ok(()),
+        Item::Memory { .. } => Ok(()),
+        Item::Assign { .. } => Ok(()),
+        Item::Instance { .. } => Ok(()),
     }
 }
 
@@ -166,8 +170,8 @@ fn turn(nets: &[NetNumber], on: &mut Vec<bool>, step: &Step) -> Result<bool, All
             None => Ok(false),
         },
         Step::End => Ok(on.pop().is_some()),
-        Step::NonblockingAssign(_, _) => Ok(true),
-        Step::MemoryAssign(_, _, _) => Ok(true),
+        Step::NonblockingAssign { .. } => Ok(true),
+        Step::MemoryAssign { .. } => Ok(true),
     }
 }
 
@@ -177,10 +181,17 @@ fn write(alloc: Global, nets: &[NetNumber], step: &Step, after: &mut Held) -> Re
     ensures alike { OnOk result (IsAlike after.old after.new) }
 {
     match step {
-        Step::NonblockingAssign(x, a) => {
+        Step::NonblockingAssign {
+            register: x,
+            value: a,
+        } => {
             after.nets = put_number(alloc, &after.nets, x, value_of_atom(nets, a))?;
         }
-        Step::MemoryAssign(m, x, a) => {
+        Step::MemoryAssign {
+            memory: m,
+            index: x,
+            value: a,
+        } => {
             let at = number_in(nets, x);
             after.memories = put_cell(alloc, &after.memories, m, at, value_of_atom(nets, a))?;
         }
@@ -236,11 +247,11 @@ fn run_item(
 {
     match item {
         Item::Always(block) => run_steps(alloc, nets, block.steps(), after),
-        Item::Wire(_, _) => Ok(()),
-        Item::Reg(_, _) => Ok(()),
-        Item::Memory(_, _, _) => Ok(()),
-        Item::Assign(_, _) => Ok(()),
-        Item::Instance(_, _, _) => Ok(()),
+        Item::Wire { .. } => Ok(()),
+        Item::Reg { .. } => Ok(()),
+        Item::Memory { .. } => Ok(()),
+        Item::Assign { .. } => Ok(()),
+        Item::Instance { .. } => Ok(()),
     }
 }
 

@@ -2,7 +2,7 @@
 
 ghost use Rattle.std.specs.Prelude.{◌≡◌, ◌+◌, suc, [], length, IfOk, IfSome, is_some};
 ghost use Rattle.std.specs.List.{list_all, AllByRecursion};
-ghost use Rattle.vlog_tree.specs.Environment.{AllTwo};
+ghost use Rattle.vlog_tree.specs.Grounded.{AllTwo};
 ghost use Rattle.vlog_ref_cycle.specs.Moments.{InRuns, HeldIs, IsAt};
 ghost use Rattle.vlog_ref_cycle.specs.Next.{held_known, outside_known, next_known, stored_cells, IsAfterStore, IsCopy, IsAlike, IsSameMemory, IsKept};
 

@@ -17,18 +17,18 @@ fn assigned_in<'a>(item: &'a Item, x: &Text) -> Option<&'a Value>
     ensures { option_copied result ≡ assigned_in_lem item.now x.now }
 {
     match item {
-        Item::Assign(y, e) => {
+        Item::Assign { net: y, value: e } => {
             if y.bytes() == x.bytes() {
                 Some(e)
             } else {
                 None
             }
         }
-        Item::Wire(_, _) => None,
-        Item::Reg(_, _) => None,
-        Item::Memory(_, _, _) => None,
+        Item::Wire { .. } => None,
+        Item::Reg { .. } => None,
+        Item::Memory { .. } => None,
         Item::Always(_) => None,
-        Item::Instance(_, _, _) => None,
+        Item::Instance { .. } => None,
     }
 }
 
@@ -76,17 +76,21 @@ fn output_in<'a>(
     ensures { IfOk result (λ o. option_map pair_of o ≡ output_in_lem modules.now item.now x.now) }
 {
     match item {
-        Item::Instance(m, i, connections) => {
+        Item::Instance {
+            module: m,
+            name: i,
+            connections,
+        } => {
             let ports = ports_of(alloc, modules, m)?;
             match connection_out(&ports, connections.connections(), x) {
                 Some(p) => Ok(Some((i, p))),
                 None => Ok(None),
             }
         }
-        Item::Assign(_, _) => Ok(None),
-        Item::Wire(_, _) => Ok(None),
-        Item::Reg(_, _) => Ok(None),
-        Item::Memory(_, _, _) => Ok(None),
+        Item::Assign { .. } => Ok(None),
+        Item::Wire { .. } => Ok(None),
+        Item::Reg { .. } => Ok(None),
+        Item::Memory { .. } => Ok(None),
         Item::Always(_) => Ok(None),
     }
 }
@@ -123,17 +127,21 @@ fn joined_in<'a>(item: &'a Item, instance: &Text, x: &Text) -> Option<&'a Text>
     ensures { option_copied result ≡ joined_in_lem item.now instance.now x.now }
 {
     match item {
-        Item::Instance(_, i, connections) => {
+        Item::Instance {
+            name: i,
+            connections,
+            ..
+        } => {
             if i.bytes() == instance.bytes() {
                 connection_in(connections.connections(), x)
             } else {
                 None
             }
         }
-        Item::Assign(_, _) => None,
-        Item::Wire(_, _) => None,
-        Item::Reg(_, _) => None,
-        Item::Memory(_, _, _) => None,
+        Item::Assign { .. } => None,
+        Item::Wire { .. } => None,
+        Item::Reg { .. } => None,
+        Item::Memory { .. } => None,
         Item::Always(_) => None,
     }
 }
@@ -180,8 +188,8 @@ pub(crate) fn add_atom(
 {
     match atom {
         Atom::Net(x) => add_net(alloc, scope, out, x),
-        Atom::Part(x, _, _) => add_net(alloc, scope, out, x),
-        Atom::Literal(_, _) => Ok(()),
+        Atom::Part { net: x, .. } => add_net(alloc, scope, out, x),
+        Atom::Literal { .. } => Ok(()),
     }
 }
 
@@ -211,18 +219,26 @@ pub(crate) fn value_reads(
     match value {
         Value::Plain(a) => add_atom(alloc, scope, &mut out, a)?,
         Value::Invert(a) => add_atom(alloc, scope, &mut out, a)?,
-        Value::Binary(a, _, b) => {
+        Value::Binary {
+            left: a,
+            right: b,
+            ..
+        } => {
             add_atom(alloc, scope, &mut out, a)?;
             add_atom(alloc, scope, &mut out, b)?;
         }
-        Value::Choose(c, a, b) => {
+        Value::Choose {
+            condition: c,
+            yes: a,
+            no: b,
+        } => {
             add_atom(alloc, scope, &mut out, c)?;
             add_atom(alloc, scope, &mut out, a)?;
             add_atom(alloc, scope, &mut out, b)?;
         }
         Value::Concat(atoms) => add_atoms(alloc, scope, &mut out, atoms.atoms())?,
-        Value::Repeat(_, a) => add_atom(alloc, scope, &mut out, a)?,
-        Value::Cell(_, x) => add_net(alloc, scope, &mut out, x)?,
+        Value::Repeat { atom: a, .. } => add_atom(alloc, scope, &mut out, a)?,
+        Value::Cell { index: x, .. } => add_net(alloc, scope, &mut out, x)?,
     }
     Ok(out)
 }
@@ -244,12 +260,12 @@ pub(crate) fn has_cells(memories: &[MemoryCells], value: &Value) -> bool
     ensures { result ≡ has_cells_lem memories.now value.now }
 {
     match value {
-        Value::Cell(m, _) => find_memory(memories, m).is_some(),
+        Value::Cell { memory: m, .. } => find_memory(memories, m).is_some(),
         Value::Plain(_) => true,
         Value::Invert(_) => true,
-        Value::Binary(_, _, _) => true,
-        Value::Choose(_, _, _) => true,
+        Value::Binary { .. } => true,
+        Value::Choose { .. } => true,
         Value::Concat(_) => true,
-        Value::Repeat(_, _) => true,
+        Value::Repeat { .. } => true,
     }
 }

@@ -2,7 +2,8 @@
 
 ghost use Rattle.std.specs.Prelude.{◌≡◌, ◌∷◌, ◌++◌, [], IfOk, OnOk};
 ghost use Rattle.std.specs.Option.{option_copied};
-ghost use Rattle.vlog_tree.specs.Cycle.{module_named as module_named_lem, child_of as child_of_lem, module_at as module_at_lem};
+ghost use Rattle.vlog_tree.specs.Cycle.{child_of as child_of_lem, module_at as module_at_lem};
+ghost use Rattle.vlog_tree.specs.Table.{module_named as module_named_lem};
 ghost use Rattle.vlog_ref_cycle.specs.Sources.{same_path as same_path_lem, held_at as held_at_lem};
 
 use crate::moment::Held;
@@ -26,17 +27,21 @@ fn child_in<'a>(item: &'a Item, name: &Text) -> Option<&'a Text>
     ensures { option_copied result ≡ child_of_lem (item.now ∷ []) name.now }
 {
     match item {
-        Item::Instance(m, i, _) => {
+        Item::Instance {
+            module: m,
+            name: i,
+            ..
+        } => {
             if i.bytes() == name.bytes() {
                 Some(m)
             } else {
                 None
             }
         }
-        Item::Assign(_, _) => None,
-        Item::Wire(_, _) => None,
-        Item::Reg(_, _) => None,
-        Item::Memory(_, _, _) => None,
+        Item::Assign { .. } => None,
+        Item::Wire { .. } => None,
+        Item::Reg { .. } => None,
+        Item::Memory { .. } => None,
         Item::Always(_) => None,
     }
 }

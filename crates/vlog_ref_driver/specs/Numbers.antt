@@ -1,7 +1,8 @@
 -- Numbers of nets and memories, as a module's numbers in a cycle.
 use Rattle.std.specs.Prelude.{ℕ, ◌^◌, List, [], ◌∷◌, Option, Some, None, length, get_or, nat_lt, bytes_eq, if◌then◌else◌}
 use Rattle.std.specs.Option.{option_map_or}
-use Rattle.vlog_tree.specs.Cycle.{Name, Cycle, Sizes}
+use Rattle.vlog_tree.specs.Cycle.{Cycle, Sizes}
+use Rattle.vlog_tree.specs.Table.{Name}
 use Rattle.vlog_ref_driver.specs.declared.numbers.NetNumber.{NetNumber}
 use Rattle.vlog_ref_driver.specs.declared.numbers.MemoryCells.{MemoryCells}
 

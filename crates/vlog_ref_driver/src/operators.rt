@@ -1,7 +1,8 @@
 // Operators on numbers of at most 128 bits.
 
 ghost use Rattle.std.specs.Prelude.{◌≡◌, ◌+◌, ◌-◌, ◌*◌, ◌/◌, ◌%◌, ◌^◌, ◌<◌, ◌≤◌};
-ghost use Rattle.vlog_tree.specs.Cycle.{op_value, bit};
+ghost use Rattle.vlog_tree.specs.Cycle.{op_value};
+ghost use Rattle.vlog_tree.specs.Table.{one_if};
 
 use vlog_tree::BinaryOp;
 

@@ -30,8 +30,8 @@ pub fn value_of_atom(nets: &[NetNumber], atom: &Atom) -> u128
 {
     match atom {
         Atom::Net(x) => number_in(nets, x),
-        Atom::Part(x, high, low) => part(number_in(nets, x), *high, *low),
-        Atom::Literal(_, n) => *n,
+        Atom::Part { net: x, high, low } => part(number_in(nets, x), *high, *low),
+        Atom::Literal { value: n, .. } => *n,
     }
 }
 
@@ -47,8 +47,8 @@ fn bits_of_atom(nets: &[NetNumber], atom: &Atom) -> u64
 {
     match atom {
         Atom::Net(x) => u64::from(width_in(nets, x)),
-        Atom::Part(_, high, low) => bits_from(*high, *low),
-        Atom::Literal(w, _) => u64::from(*w),
+        Atom::Part { high, low, .. } => bits_from(*high, *low),
+        Atom::Literal { width: w, .. } => u64::from(*w),
     }
 }
 
@@ -118,12 +118,20 @@ pub fn value_of(
     match value {
         Value::Plain(a) => Some(value_of_atom(nets, a)),
         Value::Invert(a) => Some(invert(bits, value_of_atom(nets, a))),
-        Value::Binary(a, op, b) => {
+        Value::Binary {
+            left: a,
+            op,
+            right: b,
+        } => {
             let left = value_of_atom(nets, a);
             let right = value_of_atom(nets, b);
             Some(apply(bits, *op, left, right))
         }
-        Value::Choose(c, a, b) => {
+        Value::Choose {
+            condition: c,
+            yes: a,
+            no: b,
+        } => {
             if value_of_atom(nets, c) == 1 {
                 Some(value_of_atom(nets, a))
             } else {
@@ -131,7 +139,13 @@ pub fn value_of(
             }
         }
         Value::Concat(atoms) => join(nets, atoms.atoms()),
-        Value::Repeat(times, a) => repeat(*times, bits_of_atom(nets, a), value_of_atom(nets, a)),
-        Value::Cell(m, x) => Some(cell_in(memories, m, number_in(nets, x))),
+        Value::Repeat {
+            count: times,
+            atom: a,
+        } => repeat(*times, bits_of_atom(nets, a), value_of_atom(nets, a)),
+        Value::Cell {
+            memory: m,
+            index: x,
+        } => Some(cell_in(memories, m, number_in(nets, x))),
     }
 }

@@ -10,7 +10,7 @@ use Rattle.vlog_tree.specs.Environment.{shape_of, memory_label}
 use Rattle.vlog_tree.specs.Labels.{ack_of, m_ack, m_we, m_addr, m_wdata}
 use Rattle.vlog_tree.specs.V2.{v2_uses}
 use Rattle.vlog_tree.specs.V6.{v6_uses, is_top, has_port, has_all_five}
-use Rattle.vlog_comb_loops.proofs.Lists.{of_flat}
+use Rattle.vlog_tree.proofs.Lists.{of_flat}
 use Rattle.vlog_law_runs.proofs.Cycles.{port_stands}
 use Rattle.vlog_law_runs.proofs.TopPorts.{memory_clock, five_of}
 use Rattle.vlog_law_runs.proofs.Ports.{fits, ack_input}

@@ -8,11 +8,12 @@ use Rattle.vlog_tree.specs.declared.tree.Item.TheVariants.{Wire, Reg, Memory, As
 use Rattle.vlog_tree.specs.declared.table.Declaration.{Declaration}
 use Rattle.vlog_tree.specs.Form.{ModuleTree}
 use Rattle.vlog_tree.specs.Grounded.{Has}
-use Rattle.vlog_tree.specs.Table.{Name, no, is_clk, declared, net_kind_of, net_kind_is_read, first_violation}
+use Rattle.vlog_tree.specs.Table.{Name, is_clk, declared, net_kind_of, net_kind_is_read, first_violation}
 use Rattle.vlog_tree.specs.V2.{v2_uses, item_uses, step_uses, read_use}
-use Rattle.vlog_comb_loops.proofs.Lists.{has_flat, of_flat}
+use Rattle.vlog_tree.proofs.Lists.{has_flat, of_flat}
 use Rattle.vlog_law_runs.proofs.Sound.{both_false, not_no, atom_read, item_right}
 use Rattle.vlog_ref_cycle.specs.Next.{step_nets, item_nets}
+use Rattle.std.specs.Prelude.{not}
 
 -- each net of a step is among the names that it reads
 step_read : (ds : List Declaration) (s : Step) (z : Name) → Has (step_nets s) z → Has (step_uses ds s) (read_use ds z)
@@ -30,7 +31,7 @@ module _ (ms : List ModuleTree) (names : first_violation (v2_uses ms) ≡ None) 
   item_reads (Always b) has z h =
       let t = of_flat step_nets b z h in
       let u = has_flat (step_uses (declared m)) b t.0 (read_use (declared m) z) t.1 (step_read (declared m) t.0 z t.2) in
-      let p = both_false (no (net_kind_is_read (net_kind_of (declared m) z))) (is_clk z) (item_right ms names m in_ms (Always b) has (read_use (declared m) z) (inr u)) in
+      let p = both_false (not (net_kind_is_read (net_kind_of (declared m) z))) (is_clk z) (item_right ms names m in_ms (Always b) has (read_use (declared m) z) (inr u)) in
       (not_no _ p.0, p.1)
   item_reads (Wire w x) has z h = absurd h
   item_reads (Reg w x) has z h = absurd h

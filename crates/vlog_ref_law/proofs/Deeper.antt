@@ -3,7 +3,8 @@ use Rattle.std.proofs.Common.{◌≡◌, ℕ, zero, suc, ◌+◌, List, [], ◌�
 use Rattle.std.specs.Prelude.{unwrap_or, slice_get}
 use Rattle.vlog_tree.specs.Form.{ModuleTree}
 use Rattle.vlog_tree.specs.Grounded.{Has}
-use Rattle.vlog_tree.specs.Cycle.{Name, Path, and_then}
+use Rattle.vlog_tree.specs.Cycle.{Path, and_then}
+use Rattle.vlog_tree.specs.Table.{Name}
 use Rattle.vlog_tree.specs.Flattened.{FlatNet}
 use Rattle.vlog_ref_driver.specs.declared.numbers.NetNumber.{NetNumber}
 use Rattle.vlog_ref_cycle.specs.declared.moment.Moment.{Moment}

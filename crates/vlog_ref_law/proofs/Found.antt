@@ -21,7 +21,7 @@ use Rattle.vlog_tree.specs.V2.{all_connected}
 use Rattle.vlog_tree.specs.Labels.{address_of}
 use Rattle.vlog_tree.specs.Loops.{value_nets, item_instances}
 use Rattle.vlog_tree.specs.Flattened.{FlatNet, parts}
-use Rattle.vlog_comb_loops.proofs.Lists.{has_flat, of_flat, has_map, of_map}
+use Rattle.vlog_tree.proofs.Lists.{has_flat, of_flat, has_map, of_map}
 use Rattle.vlog_law_runs.proofs.Sound.{true_not_false, assign_reads, assign_cell, connection_port, connection_net, connection_clock, is_known_module, output_is}
 use Rattle.vlog_law_runs.proofs.Sizes.{all_at, memory_item, register_item}
 use Rattle.vlog_law_runs.proofs.Alone.{child_is, instance_single, module_there, module_is, IsNamed}

@@ -2,9 +2,9 @@
 use Rattle.std.proofs.Common.{◌≡◌, ℕ, Bool, true, false, cond, List, [], ◌∷◌, Option, Some, inl, inr, refl, sym, ap, subst, ◌∙◌, map}
 use Rattle.std.specs.Prelude.{bytes_eq, is_some}
 use Rattle.vlog_tree.specs.Form.{ModuleTree}
-use Rattle.vlog_tree.specs.Grounded.{Has}
-use Rattle.vlog_tree.specs.Cycle.{Name, Path, module_at}
-use Rattle.vlog_tree.specs.Environment.{AllTwo}
+use Rattle.vlog_tree.specs.Grounded.{Has, AllTwo}
+use Rattle.vlog_tree.specs.Cycle.{Path, module_at}
+use Rattle.vlog_tree.specs.Table.{Name}
 use Rattle.vlog_ref_driver.specs.declared.numbers.NetNumber.{NetNumber}
 use Rattle.vlog_ref_driver.specs.declared.numbers.MemoryCells.{MemoryCells}
 use Rattle.vlog_ref_driver.specs.Numbers.{first_net, first_memory}

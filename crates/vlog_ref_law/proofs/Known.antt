@@ -10,7 +10,7 @@ use Rattle.vlog_tree.specs.Table.{Name, is_clk, declared, net_kind_of, net_kind_
 use Rattle.vlog_tree.specs.Cycle.{Cycle, Path, and_then, module_at}
 use Rattle.vlog_tree.specs.Environment.{Environment, FitsShape, RunsIn, shape_of}
 use Rattle.vlog_tree.specs.Labels.{m_ack, m_we, m_addr, m_wdata}
-use Rattle.vlog_comb_loops.proofs.Lists.{of_map}
+use Rattle.vlog_tree.proofs.Lists.{of_map}
 use Rattle.vlog_law_runs.proofs.Settled.{module_in, top_tree, IsTopTree}
 use Rattle.vlog_ref_driver.specs.declared.numbers.NetNumber.{NetNumber}
 use Rattle.vlog_ref_cycle.specs.declared.moment.Circuit.{Circuit}

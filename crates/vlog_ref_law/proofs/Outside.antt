@@ -6,7 +6,7 @@ use Rattle.tapa_base.specs.declared.shape.Port.{Port}
 use Rattle.vlog_tree.specs.declared.tree.PortDecl.{PortDecl}
 use Rattle.vlog_tree.specs.declared.table.Declaration.{Declaration}
 use Rattle.vlog_tree.specs.declared.table.NetKind.TheVariants.{Input, Output}
-use Rattle.vlog_tree.specs.Form.{ModuleTree}
+use Rattle.vlog_tree.specs.Form.{ModuleTree, is_input}
 use Rattle.vlog_tree.specs.Grounded.{Has}
 use Rattle.vlog_tree.specs.Table.{Name, is_clk, declared, port_declared, net_kind_of, bits_of, first_violation}
 use Rattle.vlog_tree.specs.Labels.{rst, m_ack, m_rdata, m_addr, scalar_of, ack_of, rdata_of, read_of}
@@ -14,7 +14,7 @@ use Rattle.vlog_tree.specs.V2.{v2_uses}
 use Rattle.vlog_tree.specs.V6.{v6_uses, is_top}
 use Rattle.vlog_tree.specs.Environment.{scalar_label, memory_label, ready_at}
 use Rattle.vlog_tree.specs.Flattened.{FlatNet, memory_parts}
-use Rattle.vlog_comb_loops.proofs.Lists.{has_flat}
+use Rattle.vlog_tree.proofs.Lists.{has_flat}
 use Rattle.vlog_law_runs.proofs.TopPorts.{input_port, five_of}
 use Rattle.vlog_law_runs.proofs.Ports.{fits, named_port, rdata_input, input_has_label}
 use Rattle.vlog_law_runs.proofs.Labelled.{rdata_label, ack_of_label}
@@ -27,9 +27,9 @@ use Rattle.vlog_ref_law.specs.Whole.{IsWhole}
 use Rattle.vlog_ref_law.proofs.Searched.{some_of}
 use Rattle.vlog_ref_law.proofs.Deeper.{IsFound, IsGiven, number_answered, cells_answered}
 
-is_input : (b : Bool) → cond b Input Output ≡ Input → b ≡ true
-is_input true h = refl
-is_input false h = cc
+of_input : (b : Bool) → cond b Input Output ≡ Input → b ≡ true
+of_input true h = refl
+of_input false h = cc
 
 module _ (ms : List ModuleTree) (names : first_violation (v2_uses ms) ≡ None) (tops : first_violation (v6_uses ms) ≡ None) (m : ModuleTree) (in_ms : Has ms m) (top : is_top ms m.name ≡ true) (now : Moment) (whole : IsWhole ms m now) where
   abbrev ports : List Declaration
@@ -40,7 +40,7 @@ module _ (ms : List ModuleTree) (names : first_violation (v2_uses ms) ≡ None) 
 
   scalar_there : (p : PortDecl) → Has m.ports p → (l : Name) → scalar_of p.name ≡ Some l → (v : NetNumber) × (first_net now.scalars.items l ≡ Some v)
   scalar_there p h l e =
-      let k : Port = record { name = l; bits = p.bits } in
+      let k : Port = record { name = l; bits = p.width } in
       some_of (first_net now.scalars.items l) (whole.scalars k (has_flat (λ (p : PortDecl). scalar_label p (scalar_of p.name)) m.ports p k h (subst (λ o. Has (scalar_label p o) k) (sym e) (inl refl))))
 
   -- a memory is there by its ack
@@ -73,7 +73,7 @@ module _ (ms : List ModuleTree) (names : first_violation (v2_uses ms) ≡ None) 
           cells_answered ms m now (m_addr l) o.0.cells.items (asked l e),
         )
 
-    port_given : p.input ≡ true → is_clk p.name ≡ false → (b : Bool) (so ao ro : Option Name) → bytes_eq p.name rst ≡ b → scalar_of p.name ≡ so → ack_of p.name ≡ ao → rdata_of p.name ≡ ro
+    port_given : is_input p.direction ≡ true → is_clk p.name ≡ false → (b : Bool) (so ao ro : Option Name) → bytes_eq p.name rst ≡ b → scalar_of p.name ≡ so → ack_of p.name ≡ ao → rdata_of p.name ≡ ro
         → IsGiven ms m now (cond b (Some (given_number (cond (now.cycle == 0) 1 0))) (scalar_source now.scalars.items so (ack_source now.cycle now.outside.items ao (rdata_source now.outside.items ro))))
     port_given i c true so ao ro r es ea er = number_given (cond (now.cycle == 0) 1 0)
     port_given i c false (Some l) ao ro r es ea er = scalar_given l es (ack_source now.cycle now.outside.items ao (rdata_source now.outside.items ro))
@@ -88,4 +88,4 @@ module _ (ms : List ModuleTree) (names : first_violation (v2_uses ms) ≡ None) 
       let asked : (l : Name) → rdata_of p.0.name ≡ Some l → IsFound ms m now ([], m_addr l) = λ l r.
       f ([], m_addr l) (subst (λ z. Has (memory_parts true z) ([], m_addr l)) p.2 (subst (λ o. Has {N = FlatNet} (map (λ (y : Name). ([], y)) (read_of o)) ([], m_addr l)) (sym r) (inl refl))) in
       subst (λ z. IsGiven ms m now (input_source now z)) p.2
-      (port_given p.0 p.1 asked (is_input p.0.input (ap (λ (d : Declaration). d.net_kind) p.3 ∙ e)) (ap is_clk p.2 ∙ c) (bytes_eq p.0.name rst) (scalar_of p.0.name) (ack_of p.0.name) (rdata_of p.0.name) refl refl refl refl)
+      (port_given p.0 p.1 asked (of_input (is_input p.0.direction) (ap (λ (d : Declaration). d.net_kind) p.3 ∙ e)) (ap is_clk p.2 ∙ c) (bytes_eq p.0.name rst) (scalar_of p.0.name) (ack_of p.0.name) (rdata_of p.0.name) refl refl refl refl)

@@ -1,6 +1,6 @@
 -- What a search through the lines of a module finds, and that it finds what is there.
 use Rattle.std.proofs.Common.{◌≡◌, ℕ, ◌+◌, Bool, true, false, cond, ◌&&◌, List, [], ◌∷◌, Option, Some, None, inl, inr, refl, sym, ap, subst, ◌∙◌, map, arith}
-use Rattle.std.specs.Prelude.{◌==◌, bytes_eq, is_some, count_by}
+use Rattle.std.specs.Prelude.{◌==◌, bytes_eq, is_some, count_by, not}
 use Rattle.std.proofs.lemmas.Bool.Decides.{nat_tests}
 use Rattle.std.specs.Option.{option_map}
 use Rattle.std.specs.Cmp.Lexicographic.{bytes_decides}
@@ -11,8 +11,7 @@ use Rattle.vlog_tree.specs.declared.tree.Item.TheVariants.{Wire, Reg, Memory, As
 use Rattle.vlog_tree.specs.declared.table.Declaration.{Declaration}
 use Rattle.vlog_tree.specs.Form.{ModuleTree}
 use Rattle.vlog_tree.specs.Grounded.{Has}
-use Rattle.vlog_tree.specs.Table.{Name, no, port_declared, ports_of, net_kind_of, net_kind_is_input}
-use Rattle.vlog_tree.specs.V4.{one_if}
+use Rattle.vlog_tree.specs.Table.{Name, port_declared, ports_of, net_kind_of, net_kind_is_input, one_if}
 use Rattle.vlog_law_runs.proofs.Sound.{both_true, no_is, true_not_false}
 use Rattle.vlog_law_runs.proofs.Alone.{same_name, count_cons}
 use Rattle.vlog_law_runs.proofs.Drivers.{IsDrivenBy}
@@ -73,10 +72,10 @@ assigned_there items x e has =
     (λ h. some_not_none e (sym (ap (λ b. cond b (Some e) None) (same_name x)) ∙ h))
 
 abbrev drives_it : List Declaration → Name → Connection → Bool
-drives_it ports x l = bytes_eq l.net x && no (net_kind_is_input (net_kind_of ports l.port))
+drives_it ports x l = bytes_eq l.net x && not (net_kind_is_input (net_kind_of ports l.port))
 
 drives : (ports : List Declaration) (l : Connection) → net_kind_is_input (net_kind_of ports l.port) ≡ false → drives_it ports l.net l ≡ true
-drives ports l e = ap (λ b. b && no (net_kind_is_input (net_kind_of ports l.port))) (same_name l.net) ∙ ap (λ b. no b) e
+drives ports l e = ap (λ b. b && not (net_kind_is_input (net_kind_of ports l.port))) (same_name l.net) ∙ ap (λ b. not b) e
 
 pub output_there : (ms : List ModuleTree) (items : List Item) (x i p : Name) → IsDrivenBy ms items x i p → output_of ms items x ≡ None → ⊥
 output_there ms items x i p d =
@@ -91,7 +90,7 @@ output_item ms items x p (Instance kn i connections) has h =
     let ports = map port_declared (ports_of ms kn) in
     let t = map_some (λ (q : Name). (i, q)) (connection_out ports connections x) p h in
     let f = first_found (λ ls. connection_out ports ls x) (drives_it ports x) (λ (l : Connection). l.port) (λ a more. refl) refl connections t.0 t.1 in
-    let b = both_true (bytes_eq f.0.net x) (no (net_kind_is_input (net_kind_of ports f.0.port))) f.2 in
+    let b = both_true (bytes_eq f.0.net x) (not (net_kind_is_input (net_kind_of ports f.0.port))) f.2 in
     subst (λ z. IsDrivenBy ms items x z.0 z.1) t.2
     (record {
       kn = kn;

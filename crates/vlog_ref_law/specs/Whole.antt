@@ -4,7 +4,8 @@ use Rattle.tapa_base.specs.declared.shape.Port.{Port}
 use Rattle.vlog_tree.specs.declared.tree.Item.TheVariants.{Reg, Memory}
 use Rattle.vlog_tree.specs.Form.{ModuleTree}
 use Rattle.vlog_tree.specs.Grounded.{Has}
-use Rattle.vlog_tree.specs.Cycle.{Name, Path, module_at}
+use Rattle.vlog_tree.specs.Cycle.{Path, module_at}
+use Rattle.vlog_tree.specs.Table.{Name}
 use Rattle.vlog_tree.specs.Environment.{shape_of}
 use Rattle.vlog_ref_driver.specs.Numbers.{first_net, first_memory}
 use Rattle.vlog_ref_cycle.specs.declared.moment.Held.{Held}

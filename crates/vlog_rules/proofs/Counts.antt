@@ -5,12 +5,11 @@ use Rattle.std.proofs.lemmas.List.{append-nil}
 use Rattle.std.proofs.lemmas.List.Sums.{sum_by-append}
 use Rattle.vlog_tree.specs.NameTable.{times_in}
 use Rattle.std.specs.List.{list_all, list_any}
-use Rattle.vlog_tree.specs.V4.{one_if}
 use Rattle.std.proofs.lemmas.List.Folds.{list_any-append}
 use Rattle.std.proofs.lemmas.List.{take_all, take_more}
 use Rattle.std.proofs.lemmas.Bool.Decides.{nat_tests}
 use Rattle.vlog_tree.specs.declared.table.Declaration.{Declaration}
-use Rattle.vlog_tree.specs.Table.{Name}
+use Rattle.vlog_tree.specs.Table.{Name, one_if}
 
 pub once : (n : ℕ) → (min n 2 == 1) ≡ (n == 1)
 once n = grind (arith, nat_tests)

@@ -6,7 +6,7 @@ use Rattle.std.proofs.lemmas.List.Sums.{sum_by-cons}
 use Rattle.std.proofs.lemmas.Bool.Decides.{nat_tests}
 use Rattle.std.proofs.lemmas.List.{get_or_default}
 use Rattle.vlog_tree.specs.declared.table.Declaration.{Declaration}
-use Rattle.vlog_tree.specs.Table.{Name, find_name, unknown, is_doubled_name, ports_of, is_module, module_declared, port_declared, all_ports}
+use Rattle.vlog_tree.specs.Table.{Name, find_name, unknown, is_doubled_name, ports_of, is_module_name, module_declared, port_declared, all_ports}
 use Rattle.vlog_tree.specs.Form.{ModuleTree}
 use Rattle.vlog_tree.specs.NameTable.{places_from}
 use Rattle.vlog_tree.specs.Table.{declaration_name}
@@ -113,7 +113,7 @@ pub record IsModuleAt (start : ℕ) (ms : List ModuleTree) (x : Name) (place : �
   pub after : start ≤ place
   pub before : place - start < length (all_ports ms)
   pub here : map port_declared (ports_of ms x) ≡ get_or (all_ports ms) (place - start) []
-  pub known : is_module ms x ≡ true
+  pub known : is_module_name ms x ≡ true
 
 module_here : (start : ℕ) (m : ModuleTree) (ms : List ModuleTree) (x : Name) (place : ℕ) (again : Bool) (b : Bool) → bytes_eq m.name x ≡ b
     → (places_from (suc start) (names (map module_declared ms)) x ≡ Some (place, again) → IsModuleAt (suc start) ms x place)
@@ -124,7 +124,7 @@ module_here start m ms x place again true e ih h =
       after = omega arith;
       before = omega arith;
       here = ap (λ b. map port_declared (cond b m.ports (ports_of ms x))) e ∙ ap (λ n. get_or (all_ports (m ∷ ms)) n []) (let z : 0 ≡ place - start = omega arith in z);
-      known = ap (λ b. b || is_module ms x) e;
+      known = ap (λ b. b || is_module_name ms x) e;
     }
 module_here start m ms x place again false e ih h =
     let r : IsModuleAt (suc start) ms x place = ih h in
@@ -133,7 +133,7 @@ module_here start m ms x place again false e ih h =
       after = omega arith;
       before = omega arith;
       here = ap (λ b. map port_declared (cond b m.ports (ports_of ms x))) e ∙ r.here ∙ ap (λ n. get_or (all_ports (m ∷ ms)) n []) (sym next);
-      known = ap (λ b. b || is_module ms x) e ∙ r.known;
+      known = ap (λ b. b || is_module_name ms x) e ∙ r.known;
     }
 
 pub module_found : (start : ℕ) (ms : List ModuleTree) (x : Name) (place : ℕ) (again : Bool) → places_from start (names (map module_declared ms)) x ≡ Some (place, again) → IsModuleAt start ms x place
@@ -142,14 +142,14 @@ module_found start (m ∷ ms) x place again e = module_here start m ms x place a
 
 pub record IsNoModule (ms : List ModuleTree) (x : Name) : Type 0 where
   pub here : ports_of ms x ≡ []
-  pub unknown : is_module ms x ≡ false
+  pub unknown : is_module_name ms x ≡ false
 
 no_module_here : (start : ℕ) (m : ModuleTree) (ms : List ModuleTree) (x : Name) (b : Bool) → bytes_eq m.name x ≡ b → (places_from (suc start) (names (map module_declared ms)) x ≡ None → IsNoModule ms x)
     → cond b (Some (start, is_some (places_from (suc start) (names (map module_declared ms)) m.name))) (places_from (suc start) (names (map module_declared ms)) x) ≡ None → IsNoModule (m ∷ ms) x
 no_module_here start m ms x true e ih h = cc
 no_module_here start m ms x false e ih h =
     let r : IsNoModule ms x = ih h in
-    record { here = ap (λ b. cond b m.ports (ports_of ms x)) e ∙ r.here; unknown = ap (λ b. b || is_module ms x) e ∙ r.unknown }
+    record { here = ap (λ b. cond b m.ports (ports_of ms x)) e ∙ r.here; unknown = ap (λ b. b || is_module_name ms x) e ∙ r.unknown }
 
 pub no_module : (start : ℕ) (ms : List ModuleTree) (x : Name) → places_from start (names (map module_declared ms)) x ≡ None → IsNoModule ms x
 no_module start [] x e = record { here = refl; unknown = refl }
@@ -166,6 +166,6 @@ ports_there ms x place again ports e is =
     let z : place - 0 ≡ place = omega arith in
     is ∙ get_or_default (all_ports ms) place ports [] (module_within ms x place again e) ∙ ap (λ n. get_or (all_ports ms) n []) (sym z) ∙ sym f.here
 
-pub known_module : (ms : List ModuleTree) (x : Name) (o : Option (ℕ × Bool)) → places_from 0 (names (map module_declared ms)) x ≡ o → is_some (places_from 0 (names (map module_declared ms)) x) ≡ is_module ms x
+pub known_module : (ms : List ModuleTree) (x : Name) (o : Option (ℕ × Bool)) → places_from 0 (names (map module_declared ms)) x ≡ o → is_some (places_from 0 (names (map module_declared ms)) x) ≡ is_module_name ms x
 known_module ms x None e = ap (λ o. is_some o) e ∙ sym (no_module 0 ms x e).unknown
 known_module ms x (Some p) e = ap (λ o. is_some o) e ∙ sym (module_found 0 ms x p.0 p.1 e).known

@@ -69,8 +69,8 @@ fn atom<'a>(scope: &Scope, atom: &'a Atom) -> Option<&'a Text>
 {
     match atom {
         Atom::Net(x) => read(scope, x),
-        Atom::Part(x, _, _) => read(scope, x),
-        Atom::Literal(_, _) => None,
+        Atom::Part { net: x, .. } => read(scope, x),
+        Atom::Literal { .. } => None,
     }
 }
 
@@ -112,16 +112,27 @@ fn value<'a>(scope: &Scope, value: &'a Value) -> Option<&'a Text>
     ensures { option_copied result ≡ first_violation (value_uses scope.now value.now) }
 {
     match value {
-        Value::Plain(a) | Value::Invert(a) | Value::Repeat(_, a) => atom(scope, a),
-        Value::Binary(a, _, b) => two_atoms(scope, a, b),
-        Value::Choose(c, a, b) => {
+        Value::Plain(a) | Value::Invert(a) | Value::Repeat { atom: a, .. } => atom(scope, a),
+        Value::Binary {
+            left: a,
+            right: b,
+            ..
+        } => two_atoms(scope, a, b),
+        Value::Choose {
+            condition: c,
+            yes: a,
+            no: b,
+        } => {
             if let Some(x) = atom(scope, c) {
                 return Some(x);
             }
             two_atoms(scope, a, b)
         }
         Value::Concat(parts) => atoms(scope, parts.atoms()),
-        Value::Cell(m, x) => {
+        Value::Cell {
+            memory: m,
+            index: x,
+        } => {
             if let Some(name) = memory(scope, m) {
                 return Some(name);
             }
@@ -136,13 +147,20 @@ fn step<'a>(scope: &Scope, step: &'a Step) -> Option<&'a Text>
     match step {
         Step::If(c) => read(scope, c),
         Step::Else | Step::End => None,
-        Step::NonblockingAssign(x, a) => {
+        Step::NonblockingAssign {
+            register: x,
+            value: a,
+        } => {
             if let Some(name) = register(scope, x) {
                 return Some(name);
             }
             atom(scope, a)
         }
-        Step::MemoryAssign(m, x, a) => {
+        Step::MemoryAssign {
+            memory: m,
+            index: x,
+            value: a,
+        } => {
             if let Some(name) = memory(scope, m) {
                 return Some(name);
             }
@@ -357,12 +375,16 @@ fn item<'a>(
     ensures { IfOk result (λ o. option_copied o ≡ first_violation (item_uses library.now scope.now item.now)) }
 {
     match item {
-        Item::Wire(_, x) => Ok(inner(scope, x)),
-        Item::Reg(_, x) => Ok(inner(scope, x)),
-        Item::Memory(_, x, _) => Ok(inner(scope, x)),
-        Item::Assign(x, e) => Ok(assign(scope, x, e)),
+        Item::Wire { name: x, .. } => Ok(inner(scope, x)),
+        Item::Reg { name: x, .. } => Ok(inner(scope, x)),
+        Item::Memory { name: x, .. } => Ok(inner(scope, x)),
+        Item::Assign { net: x, value: e } => Ok(assign(scope, x, e)),
         Item::Always(b) => Ok(always(library, scope, b.steps())),
-        Item::Instance(m, i, joins) => instance(alloc, library, scope, m, i, joins.connections()),
+        Item::Instance {
+            module: m,
+            name: i,
+            connections: joins,
+        } => instance(alloc, library, scope, m, i, joins.connections()),
     }
 }
 

@@ -63,11 +63,15 @@ fn add_item(
     ensures { OnOk result (declarations.new.items ≡ declarations.old.items ++ items_declared (item.now ∷ [])) }
 {
     match item {
-        Item::Wire(bits, name) => add(alloc, declarations, name, NetKind::WireNet, *bits),
-        Item::Reg(bits, name) => add(alloc, declarations, name, NetKind::Register, *bits),
-        Item::Memory(bits, name, _) => add(alloc, declarations, name, NetKind::MemoryArray, *bits),
-        Item::Instance(_, name, _) => add(alloc, declarations, name, NetKind::ChildInstance, 0),
-        Item::Assign(_, _) | Item::Always(_) => Ok(()),
+        Item::Wire { width: bits, name } => add(alloc, declarations, name, NetKind::WireNet, *bits),
+        Item::Reg { width: bits, name } => add(alloc, declarations, name, NetKind::Register, *bits),
+        Item::Memory {
+            width: bits,
+            name,
+            ..
+        } => add(alloc, declarations, name, NetKind::MemoryArray, *bits),
+        Item::Instance { name, .. } => add(alloc, declarations, name, NetKind::ChildInstance, 0),
+        Item::Assign { .. } | Item::Always(_) => Ok(()),
     }
 }
 
@@ -78,12 +82,12 @@ fn add_port(
 ) -> Result<(), AllocError>
     ensures { OnOk result (declarations.new.items ≡ declarations.old.items ++ port_declared port.now ∷ []) }
 {
-    let net_kind = if port.input {
+    let net_kind = if port.is_input() {
         NetKind::Input
     } else {
         NetKind::Output
     };
-    add(alloc, declarations, &port.name, net_kind, port.bits)
+    add(alloc, declarations, &port.name, net_kind, port.width)
 }
 
 fn add_ports(

@@ -24,8 +24,8 @@ fn atom_bits(scope: &Scope, atom: &Atom) -> u64
 {
     match atom {
         Atom::Net(x) => scope.find(x).1 as u64,
-        Atom::Part(_, high, low) => (*high as u64 + 1).saturating_sub(*low as u64),
-        Atom::Literal(bits, _) => *bits as u64,
+        Atom::Part { high, low, .. } => (*high as u64 + 1).saturating_sub(*low as u64),
+        Atom::Literal { width: bits, .. } => *bits as u64,
     }
 }
 
@@ -47,8 +47,11 @@ fn atom_fits(scope: &Scope, atom: &Atom) -> bool
 {
     match atom {
         Atom::Net(_) => true,
-        Atom::Part(x, high, low) => part_fits(scope.find(x).1, *high, *low),
-        Atom::Literal(bits, n) => is_width(*bits) && is_below(*n, *bits),
+        Atom::Part { net: x, high, low } => part_fits(scope.find(x).1, *high, *low),
+        Atom::Literal {
+            width: bits,
+            value: n,
+        } => is_width(*bits) && is_below(*n, *bits),
     }
 }
 
@@ -62,8 +65,8 @@ fn is_divisor(atom: &Atom) -> bool
     ensures { result ≡ is_divisor_lem atom.now }
 {
     match atom {
-        Atom::Literal(_, n) => *n != 0,
-        Atom::Net(_) | Atom::Part(_, _, _) => false,
+        Atom::Literal { value: n, .. } => *n != 0,
+        Atom::Net(_) | Atom::Part { .. } => false,
     }
 }
 
@@ -128,12 +131,20 @@ fn value_fits(scope: &Scope, bits: u64, value: &Value) -> bool
 {
     match value {
         Value::Plain(a) | Value::Invert(a) => has_bits(scope, bits, a),
-        Value::Binary(a, op, b) => op_fits(scope, bits, *op, a, b),
-        Value::Choose(c, a, b) => has_bits(scope, 1, c) && both(scope, bits, a, b),
+        Value::Binary {
+            left: a,
+            op,
+            right: b,
+        } => op_fits(scope, bits, *op, a, b),
+        Value::Choose {
+            condition: c,
+            yes: a,
+            no: b,
+        } => has_bits(scope, 1, c) && both(scope, bits, a, b),
         Value::Concat(atoms) => all_fit(scope, atoms.atoms())
             && have_bits(scope, bits, atoms.atoms()),
-        Value::Repeat(n, a) => copies_fit(scope, bits, *n, a),
-        Value::Cell(m, _) => scope.find(m).1 as u64 == bits,
+        Value::Repeat { count: n, atom: a } => copies_fit(scope, bits, *n, a),
+        Value::Cell { memory: m, .. } => scope.find(m).1 as u64 == bits,
     }
 }
 
@@ -143,8 +154,15 @@ fn step<'a>(scope: &Scope, step: &'a Step) -> Option<&'a Text>
     match step {
         Step::If(c) => named_if(c, scope.find(c).1 != 1),
         Step::Else | Step::End => None,
-        Step::NonblockingAssign(x, a) => named_if(x, !has_bits(scope, scope.find(x).1 as u64, a)),
-        Step::MemoryAssign(m, _, a) => named_if(m, !has_bits(scope, scope.find(m).1 as u64, a)),
+        Step::NonblockingAssign {
+            register: x,
+            value: a,
+        } => named_if(x, !has_bits(scope, scope.find(x).1 as u64, a)),
+        Step::MemoryAssign {
+            memory: m,
+            value: a,
+            ..
+        } => named_if(m, !has_bits(scope, scope.find(m).1 as u64, a)),
     }
 }
 
@@ -182,7 +200,7 @@ fn connections<'a>(ports: &Scope, scope: &Scope, connections: &'a [Connection]) 
 fn port<'a>(port: &'a PortDecl) -> Option<&'a Text>
     ensures { option_copied result ≡ first_violation (port_widths port.now) }
 {
-    named_if(&port.name, !is_width(port.bits))
+    named_if(&port.name, !is_width(port.width))
 }
 
 fn ports<'a>(ports: &'a [PortDecl]) -> Option<&'a Text>
@@ -201,16 +219,29 @@ fn item<'a>(library: &Library, scope: &Scope, item: &'a Item) -> Option<&'a Text
     ensures { option_copied result ≡ first_violation (item_widths library.now scope.now item.now) }
 {
     match item {
-        Item::Wire(bits, x) => named_if(x, !is_width(*bits)),
-        Item::Reg(bits, x) => named_if(x, !is_width(*bits)),
-        Item::Memory(bits, x, cells) => named_if(x, !(is_width(*bits) && *cells <= 1_048_576)),
-        Item::Assign(x, e) => named_if(x, !value_fits(scope, scope.find(x).1 as u64, e)),
-        Item::Always(b) => steps(scope, b.steps()),
-        Item::Instance(m, _, joins) => connections(
-            library.ports_named(m),
-            scope,
-            joins.connections(),
+        Item::Wire {
+            width: bits,
+            name: x,
+        } => named_if(x, !is_width(*bits)),
+        Item::Reg {
+            width: bits,
+            name: x,
+        } => named_if(x, !is_width(*bits)),
+        Item::Memory {
+            width: bits,
+            name: x,
+            cells,
+        } => named_if(x, !(is_width(*bits) && *cells <= 1_048_576)),
+        Item::Assign { net: x, value: e } => named_if(
+            x,
+            !value_fits(scope, scope.find(x).1 as u64, e),
         ),
+        Item::Always(b) => steps(scope, b.steps()),
+        Item::Instance {
+            module: m,
+            connections: joins,
+            ..
+        } => connections(library.ports_named(m), scope, joins.connections()),
     }
 }
 

@@ -64,19 +64,26 @@ fn net(alloc: Global, name: &str) -> Result<Atom, AllocError> {
 }
 
 fn bits(alloc: Global, name: &str, high: u32, low: u32) -> Result<Atom, AllocError> {
-    Ok(Atom::Part(text(alloc, name)?, high, low))
+    Ok(Atom::Part {
+        net: text(alloc, name)?,
+        high,
+        low,
+    })
 }
 
 fn atom(alloc: Global, part: Part) -> Result<Atom, AllocError> {
     match part {
         Part::Net(x) => net(alloc, x),
         Part::Bits(x, high, low) => bits(alloc, x, high, low),
-        Part::Number(w, n) => Ok(Atom::Literal(w, n)),
+        Part::Number(w, n) => Ok(Atom::Literal { width: w, value: n }),
     }
 }
 
 fn assign(alloc: Global, name: &str, value: Value) -> Result<Item, AllocError> {
-    Ok(Item::Assign(text(alloc, name)?, value))
+    Ok(Item::Assign {
+        net: text(alloc, name)?,
+        value,
+    })
 }
 
 fn plain(alloc: Global, name: &str, part: Part) -> Result<Item, AllocError> {
@@ -93,7 +100,15 @@ fn binary(
 ) -> Result<Item, AllocError> {
     let a = net(alloc, left)?;
     let b = atom(alloc, part)?;
-    assign(alloc, name, Value::Binary(a, op, b))
+    assign(
+        alloc,
+        name,
+        Value::Binary {
+            left: a,
+            op,
+            right: b,
+        },
+    )
 }
 
 fn invert(alloc: Global, name: &str, of: &str) -> Result<Item, AllocError> {
@@ -105,12 +120,27 @@ fn choose(alloc: Global, name: &str, test: &str, yes: &str, no: &str) -> Result<
     let c = net(alloc, test)?;
     let a = net(alloc, yes)?;
     let b = net(alloc, no)?;
-    assign(alloc, name, Value::Choose(c, a, b))
+    assign(
+        alloc,
+        name,
+        Value::Choose {
+            condition: c,
+            yes: a,
+            no: b,
+        },
+    )
 }
 
 fn copies(alloc: Global, name: &str, times: u32, part: Part) -> Result<Item, AllocError> {
     let a = atom(alloc, part)?;
-    assign(alloc, name, Value::Repeat(times, a))
+    assign(
+        alloc,
+        name,
+        Value::Repeat {
+            count: times,
+            atom: a,
+        },
+    )
 }
 
 fn join(alloc: Global, name: &str, high: Part, low: Part) -> Result<Item, AllocError> {
@@ -123,13 +153,23 @@ fn join(alloc: Global, name: &str, high: Part, low: Part) -> Result<Item, AllocE
 fn cell(alloc: Global, name: &str, memory: &str, place: &str) -> Result<Item, AllocError> {
     let memory = text(alloc, memory)?;
     let place = text(alloc, place)?;
-    assign(alloc, name, Value::Cell(memory, place))
+    assign(
+        alloc,
+        name,
+        Value::Cell {
+            memory,
+            index: place,
+        },
+    )
 }
 
 fn set(alloc: Global, name: &str, part: Part) -> Result<Item, AllocError> {
     let mut steps = Vec::new(alloc);
     let a = atom(alloc, part)?;
-    steps.push(Step::NonblockingAssign(text(alloc, name)?, a))?;
+    steps.push(Step::NonblockingAssign {
+        register: text(alloc, name)?,
+        value: a,
+    })?;
     Ok(Item::Always(Block::of(steps)))
 }
 
@@ -144,13 +184,20 @@ fn store(alloc: Global, memory: &str, place: &str, part: Part) -> Result<Step, A
     let m = text(alloc, memory)?;
     let x = text(alloc, place)?;
     let a = atom(alloc, part)?;
-    Ok(Step::MemoryAssign(m, x, a))
+    Ok(Step::MemoryAssign {
+        memory: m,
+        index: x,
+        value: a,
+    })
 }
 
 fn put(alloc: Global, name: &str, part: Part) -> Result<Step, AllocError> {
     let x = text(alloc, name)?;
     let a = atom(alloc, part)?;
-    Ok(Step::NonblockingAssign(x, a))
+    Ok(Step::NonblockingAssign {
+        register: x,
+        value: a,
+    })
 }
 
 fn step(alloc: Global, one: Do) -> Result<Step, AllocError> {
@@ -183,23 +230,33 @@ fn child(
         let net = text(alloc, to)?;
         connections.push(Connection { port, net })?;
     }
-    Ok(Item::Instance(
-        text(alloc, of)?,
-        text(alloc, name)?,
-        Connections::of(connections),
-    ))
+    Ok(Item::Instance {
+        module: text(alloc, of)?,
+        name: text(alloc, name)?,
+        connections: Connections::of(connections),
+    })
 }
 
 fn wire(alloc: Global, bits: u32, name: &str) -> Result<Item, AllocError> {
-    Ok(Item::Wire(bits, text(alloc, name)?))
+    Ok(Item::Wire {
+        width: bits,
+        name: text(alloc, name)?,
+    })
 }
 
 fn reg(alloc: Global, bits: u32, name: &str) -> Result<Item, AllocError> {
-    Ok(Item::Reg(bits, text(alloc, name)?))
+    Ok(Item::Reg {
+        width: bits,
+        name: text(alloc, name)?,
+    })
 }
 
 fn memory(alloc: Global, bits: u32, name: &str, cells: u32) -> Result<Item, AllocError> {
-    Ok(Item::Memory(bits, text(alloc, name)?, cells))
+    Ok(Item::Memory {
+        width: bits,
+        name: text(alloc, name)?,
+        cells,
+    })
 }
 
 fn item(alloc: Global, line: Line) -> Result<Item, AllocError> {
@@ -241,8 +298,12 @@ pub(crate) fn add_ports(
     for (input, bits, name) in ports {
         let name = text(alloc, name)?;
         all.push(PortDecl {
-            input: *input,
-            bits: *bits,
+            direction: if *input {
+                Direction::Input
+            } else {
+                Direction::Output
+            },
+            width: *bits,
             name,
         })?;
     }

@@ -3,3 +3,4 @@ pub mod Ranked
 pub mod Grounds
 pub mod Nesting
 pub mod NameTables
+pub mod Lists

@@ -1,7 +1,7 @@
 -- A nested list of steps runs as a whole, or not at all.
 use Rattle.std.proofs.Common.{◌≡◌, ℕ, suc, Bool, true, false, cond, eqb, ◌&&◌, List, [], ◌∷◌, ◌++◌, length, refl, sym, ap, ◌∙◌, arith}
 use Rattle.std.specs.List.{list_all}
-use Rattle.std.specs.Prelude.{reverse}
+use Rattle.std.specs.Prelude.{reverse, not}
 use Rattle.std.proofs.lemmas.List.{reverse-append}
 use Rattle.std.proofs.lemmas.List.Folds.{list_all-append}
 use Rattle.vlog_tree.specs.declared.tree.Step.{Step}
@@ -44,7 +44,7 @@ module _ (s : Sizes) (old : Cycle) (on : List Bool) (rest : List Step) where
   inside (Else ∷ p) [] ups next e h = cc
   inside (Else ∷ p) (true ∷ parts) ups next e h = cc
   inside (Else ∷ p) (false ∷ parts) [] next e h = cc
-  inside (Else ∷ p) (false ∷ parts) (u ∷ ups) next e h = inside p (true ∷ parts) (cond u false true ∷ ups) next e h
+  inside (Else ∷ p) (false ∷ parts) (u ∷ ups) next e h = inside p (true ∷ parts) (not u ∷ ups) next e h
   inside (End ∷ p) [] ups next e h = cc
   inside (End ∷ p) (b ∷ parts) [] next e h = cc
   inside (End ∷ p) (b ∷ parts) (u ∷ ups) next e h = inside p parts ups next (omega arith) h
@@ -53,7 +53,7 @@ module _ (s : Sizes) (old : Cycle) (on : List Bool) (rest : List Step) where
 pub run_two : (s : Sizes) (old : Cycle) (p q : List Step) (next : Cycle) → nested [] p ≡ true → run_steps s old [] (p ++ q) next ≡ run_steps s old [] q (run_steps s old [] p next)
 run_two s old p q next h = inside s old [] q p [] [] next refl h
 
-both_ways : {A : Type 0} (f g : A → A) (v : Bool) (next : A) → cond (cond v false true && true) (g (cond (v && true) (f next) next)) (cond (v && true) (f next) next) ≡ cond v (f next) (g next)
+both_ways : {A : Type 0} (f g : A → A) (v : Bool) (next : A) → cond (not v && true) (g (cond (v && true) (f next) next)) (cond (v && true) (f next) next) ≡ cond v (f next) (g next)
 both_ways f g true next = refl
 both_ways f g false next = refl
 
@@ -63,7 +63,7 @@ pub run_if : (s : Sizes) (old : Cycle) (c : List ℕ) (p q : List Step) (next : 
 run_if s old c p q next hp hq =
     let v = eqb (old.net c) 1 in
     inside s old (v ∷ []) (Else ∷ (q ++ End ∷ [])) p [] [] next refl hp
-    ∙ inside s old (cond v false true ∷ []) (End ∷ []) q [] [] (cond (v && true) (run_steps s old [] p next) next) refl hq
+    ∙ inside s old (not v ∷ []) (End ∷ []) q [] [] (cond (v && true) (run_steps s old [] p next) next) refl hq
     ∙ both_ways (run_steps s old [] p) (run_steps s old [] q) v next
 
 one_way : {A : Type 0} (f : A → A) (v : Bool) (next : A) → cond (v && true) (f next) next ≡ cond v (f next) next

@@ -1,5 +1,5 @@
 -- What a design does, cycle by cycle.
-use Rattle.std.specs.Prelude.{◌≡◌, ℕ, zero, suc, ◌+◌, ◌-◌, ◌*◌, ◌/◌, ◌%◌, ◌^◌, ◌<◌, Bool, true, false, List, [], ◌∷◌, Option, Some, None, bit_and, bit_or, bit_xor, nat_lt, ◌==◌, ◌&&◌, if◌then◌else◌, bytes_eq}
+use Rattle.std.specs.Prelude.{◌≡◌, ℕ, zero, suc, ◌+◌, ◌-◌, ◌*◌, ◌/◌, ◌%◌, ◌^◌, ◌<◌, Bool, true, false, List, [], ◌∷◌, Option, Some, None, bit_and, bit_or, bit_xor, nat_lt, ◌==◌, ◌&&◌, if◌then◌else◌, bytes_eq, not}
 use Rattle.std.specs.List.{AllByRecursion, list_all}
 use Rattle.vlog_tree.specs.declared.tree.Atom.{Atom}
 use Rattle.vlog_tree.specs.declared.tree.Atom.TheVariants.{Net, Part, Literal}
@@ -13,9 +13,7 @@ use Rattle.vlog_tree.specs.declared.tree.Item.{Item}
 use Rattle.vlog_tree.specs.declared.tree.Item.TheVariants.{Wire, Reg, Memory, Assign, Always, Instance}
 use Rattle.vlog_tree.specs.declared.tree.PortDecl.{PortDecl}
 use Rattle.vlog_tree.specs.Form.{ModuleTree}
-
-abbrev pub Name : Type 0
-Name = List ℕ
+use Rattle.vlog_tree.specs.Table.{Name, one_if, module_named}
 
 -- the numbers of a module's nets and of its memories' cells in one cycle
 pub record Cycle : Type 0 where
@@ -26,9 +24,6 @@ pub record Cycle : Type 0 where
 pub record Sizes : Type 0 where
   pub width : Name → ℕ
   pub cells : Name → ℕ
-
-abbrev pub bit : Bool → ℕ
-bit b = if b then 1 else 0
 
 abbrev pub atom_value : Cycle → Atom → ℕ
 atom_value c (Net x) = c.net x
@@ -52,9 +47,9 @@ op_value w Or a b = bit_or a b
 op_value w Xor a b = bit_xor a b
 op_value w ShiftLeft a b = (a * 2 ^ b) % 2 ^ w
 op_value w ShiftRight a b = a / 2 ^ b
-op_value w Equals a b = bit (a == b)
-op_value w Differs a b = bit (if a == b then false else true)
-op_value w Less a b = bit (nat_lt a b)
+op_value w Equals a b = one_if (a == b)
+op_value w Differs a b = one_if (not (a == b))
+op_value w Less a b = one_if (nat_lt a b)
 
 -- parts below a number that is there, the highest first
 abbrev pub joined : Sizes → Cycle → ℕ → List Atom → ℕ
@@ -89,7 +84,7 @@ Holds s c (Always b) = Unit {0}
 Holds s c (Instance m i connections) = Unit {0}
 
 abbrev pub PortHolds : Sizes → PortDecl → Type 0
-PortHolds s p = s.width p.name ≡ p.bits
+PortHolds s p = s.width p.name ≡ p.width
 
 -- one number changed
 abbrev pub put : Name → ℕ → Cycle → Cycle
@@ -105,7 +100,7 @@ abbrev pub run_steps : Sizes → Cycle → List Bool → List Step → Cycle →
 run_steps s old on [] next = next
 run_steps s old on (If c ∷ steps) next = run_steps s old ((old.net c == 1) ∷ on) steps next
 run_steps s old [] (Else ∷ steps) next = next
-run_steps s old (b ∷ on) (Else ∷ steps) next = run_steps s old ((if b then false else true) ∷ on) steps next
+run_steps s old (b ∷ on) (Else ∷ steps) next = run_steps s old (not b ∷ on) steps next
 run_steps s old [] (End ∷ steps) next = next
 run_steps s old (b ∷ on) (End ∷ steps) next = run_steps s old on steps next
 run_steps s old on (NonblockingAssign x a ∷ steps) next = run_steps s old on steps (if list_all (λ b. b) on then put x (atom_value old a) next else next)
@@ -150,10 +145,6 @@ pub record Follows (m : ModuleTree) (run : ℕ → Cycle) : Type 0 where
 -- the instance names on the way to an instance, the innermost first
 abbrev pub Path : Type 0
 Path = List Name
-
-abbrev pub module_named : List ModuleTree → Name → Option ModuleTree
-module_named [] x = None
-module_named (m ∷ ms) x = if bytes_eq m.name x then Some m else module_named ms x
 
 abbrev pub and_then : {A B : Type 0} → Option A → (A → Option B) → Option B
 and_then None f = None

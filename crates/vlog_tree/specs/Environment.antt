@@ -1,11 +1,14 @@
 -- What stands around a design, and what its streams and memories carry.
-use Rattle.std.specs.Prelude.{◌≡◌, ℕ, zero, suc, ◌-◌, ◌^◌, ◌<◌, ◌≤◌, Bool, true, false, ◌&&◌, List, [], ◌∷◌, ◌++◌, Option, Some, None, length, unwrap_or, slice_get, slice_set, nat_le, nat_lt, ◌==◌, if◌then◌else◌, bytes_eq}
-use Rattle.std.specs.List.{AllByRecursion, flat_map, list_any}
+use Rattle.std.specs.Prelude.{◌≡◌, ℕ, zero, suc, ◌-◌, ◌^◌, ◌<◌, ◌≤◌, Bool, true, false, ◌&&◌, List, [], ◌∷◌, ◌++◌, Option, Some, None, length, unwrap_or, slice_get, slice_index, slice_index_or, slice_set, map, nat_le, nat_lt, ◌==◌, if◌then◌else◌, bytes_eq}
+use Rattle.std.specs.List.{flat_map, list_any}
 use Rattle.vlog_tree.specs.declared.tree.Item.{Item}
 use Rattle.vlog_tree.specs.declared.tree.Item.TheVariants.{Wire, Reg, Memory, Assign, Always, Instance}
 use Rattle.vlog_tree.specs.declared.tree.PortDecl.{PortDecl}
 use Rattle.vlog_tree.specs.declared.table.Declaration.{Declaration}
 use Rattle.tapa_base.specs.declared.shape.Port.{Port}
+use Rattle.tapa_base.specs.declared.token.Token.{Token}
+use Rattle.tapa_base.specs.declared.token.Token.TheVariants.{Datum, Eot}
+use Rattle.tapa_base.specs.Fits.{Fits}
 use Rattle.vlog_tree.specs.Form.{ModuleTree}
 use Rattle.vlog_tree.specs.Table.{Name, declared, bits_of}
 use Rattle.vlog_tree.specs.Cycle.{Cycle, Path, Runs}
@@ -17,7 +20,7 @@ pub record ShapeTree : Type 0 where
 
 abbrev pub scalar_label : PortDecl → Option Name → List Port
 scalar_label p None = []
-scalar_label p (Some x) = record { name = x; bits = p.bits } ∷ []
+scalar_label p (Some x) = record { name = x; bits = p.width } ∷ []
 
 abbrev pub memory_label : List Declaration → Option Name → List Port
 memory_label ds None = []
@@ -63,17 +66,13 @@ pub record Environment : Type 0 where
   pub memories : List (List ℕ)
   pub ready : List (List Bool)
 
--- two lists of one length whose elements fit each other
-abbrev pub AllTwo : {A B : Type 0} → (A → B → Type 0) → List A → List B → Type 0
-AllTwo R [] [] = Unit {0}
-AllTwo R [] (y ∷ ys) = ⊥
-AllTwo R (x ∷ xs) [] = ⊥
-AllTwo R (x ∷ xs) (y ∷ ys) = R x y × AllTwo R xs ys
+abbrev pub widths : List Port → List ℕ
+widths ports = map (λ (l : Port). l.bits) ports
 
+-- a number for each scalar and cells for each memory, all of their bits, and ready bits for each memory
 pub record FitsShape (env : Environment) (shape : ShapeTree) : Type 0 where
-  pub scalars : AllTwo (λ (l : Port) n. n < 2 ^ l.bits) shape.scalars env.scalars
-  pub memories : AllTwo (λ (l : Port) cells. AllByRecursion (λ n. n < 2 ^ l.bits) cells) shape.memories env.memories
-  pub ready : length env.ready ≡ length env.memories
+  pub numbers : Fits (widths shape.scalars) (widths shape.memories) env.scalars env.memories
+  pub as_many_ready : length env.ready ≡ length shape.memories
 
 -- entry n, counted from 1, and 1 after the list's end; in cycle 0 it is 0
 abbrev pub ready_at : List Bool → ℕ → ℕ
@@ -97,20 +96,12 @@ pub record Answers (run : ℕ → Cycle) (x : Name) (first : List ℕ) (ready : 
   pub ack : (n : ℕ) → (run n).net (m_ack x) ≡ ready_at ready n
   pub rdata : (n : ℕ) → (run n).net (m_rdata x) ≡ unwrap_or (slice_get (cells_at run x first n) ((run n).net (m_addr x))) 0
 
-abbrev pub AllAnswer : (ℕ → Cycle) → List Port → List (List ℕ) → List (List Bool) → Type 0
-AllAnswer run [] [] [] = Unit {0}
-AllAnswer run [] [] (r ∷ rs) = ⊥
-AllAnswer run [] (c ∷ cs) ready = ⊥
-AllAnswer run (l ∷ ls) [] ready = ⊥
-AllAnswer run (l ∷ ls) (c ∷ cs) [] = ⊥
-AllAnswer run (l ∷ ls) (c ∷ cs) (r ∷ rs) = Answers run l.name c r × AllAnswer run ls cs rs
-
 -- the top's inputs: reset in cycle 0 alone, the scalars, and what the memories answer
 pub record Stands (top : ModuleTree) (env : Environment) (run : ℕ → Cycle) : Type 0 where
   pub reset : (run 0).net rst ≡ 1
   pub runs : (n : ℕ) → (run (suc n)).net rst ≡ 0
-  pub scalars : (n : ℕ) → AllTwo (λ (l : Port) v. (run n).net (scalar l.name) ≡ v) (shape_of top).scalars env.scalars
-  pub memories : AllAnswer run (shape_of top).memories env.memories env.ready
+  pub scalars : (n i : ℕ) (l : Port) → slice_get (shape_of top).scalars i ≡ Some l → (run n).net (scalar l.name) ≡ slice_index env.scalars i
+  pub memories : (i : ℕ) (l : Port) → slice_get (shape_of top).memories i ≡ Some l → Answers run l.name (slice_index_or env.memories i []) (slice_index_or env.ready i [])
 
 -- a run of a design in an environment, from any power-up contents
 pub record RunsIn (ms : List ModuleTree) (top : ModuleTree) (env : Environment) (nets : ℕ → Path → Cycle) : Type 0 where
@@ -124,9 +115,13 @@ carried run x (suc n) =
     let c = run (suc n) in
     if (c.net (s_wr x) == 1) && (c.net (s_rdy x) == 1) then carried run x n ++ c.net (s_din x) ∷ [] else carried run x n
 
--- what w bits on din mean: None is an end, and Some a datum
-abbrev pub token : ℕ → ℕ → Option ℕ
-token w d = if nat_le (2 ^ (w - 1)) d then None else Some d
+-- what w bits on din say: the end of a transaction (EoT) where the highest bit is set, and else a datum
+abbrev pub token_of : ℕ → ℕ → Token
+token_of w d = if nat_lt d (2 ^ (w - 1)) then Datum d else Eot
+
+-- the tokens that a stream of w bits carries in the cycles from 1 to n
+abbrev pub tokens : ℕ → (ℕ → Cycle) → Name → ℕ → List Token
+tokens w run x n = map (token_of w) (carried run x n)
 
 abbrev pub IsDone : (ℕ → Cycle) → ℕ → Type 0
 IsDone run n = (1 ≤ n) × ((run n).net done ≡ 1)

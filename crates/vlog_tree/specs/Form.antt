@@ -12,6 +12,8 @@ use Rattle.vlog_tree.specs.declared.tree.Connection.{Connection}
 use Rattle.vlog_tree.specs.declared.tree.Item.{Item}
 use Rattle.vlog_tree.specs.declared.tree.Item.TheVariants.{Wire, Reg, Memory, Assign, Always, Instance}
 use Rattle.vlog_tree.specs.declared.tree.PortDecl.{PortDecl}
+use Rattle.vlog_tree.specs.declared.tree.Direction.{Direction}
+use Rattle.vlog_tree.specs.declared.tree.Direction.TheVariants.{Input, Output}
 
 -- a module without where it lies in memory
 pub record ModuleTree : Type 0 where
@@ -66,8 +68,12 @@ is_item (Assign x e) = is_name x && is_value e
 is_item (Always b) = nested [] b && list_all is_step b
 is_item (Instance m i connections) = is_name m && is_name i && nat_le 1 (length connections) && list_all is_connection connections
 
+abbrev pub is_input : Direction → Bool
+is_input Input = true
+is_input Output = false
+
 abbrev pub is_port : PortDecl → Bool
-is_port p = nat_le 1 p.bits && is_name p.name
+is_port p = nat_le 1 p.width && is_name p.name
 
 -- names are names, each list has as many parts as the grammar asks for, and the steps of each block are nested
 abbrev pub is_module : ModuleTree → Bool

@@ -1,9 +1,16 @@
--- Walks along parts, loops, and what rests on parts that come to an end.
+-- What lists have, walks along parts, loops, and what rests on parts that come to an end.
 use Rattle.std.specs.Prelude.{◌≡◌, ℕ, zero, suc, ◌⊎◌, List, [], ◌∷◌}
 
 abbrev pub Has : {N : Type 0} → List N → N → Type 0
 Has [] b = ⊥
 Has (x ∷ xs) b = (x ≡ b) ⊎ Has xs b
+
+-- two lists of one length whose elements fit each other
+abbrev pub AllTwo : {A B : Type 0} → (A → B → Type 0) → List A → List B → Type 0
+AllTwo R [] [] = Unit {0}
+AllTwo R [] (y ∷ ys) = ⊥
+AllTwo R (x ∷ xs) [] = ⊥
+AllTwo R (x ∷ xs) (y ∷ ys) = R x y × AllTwo R xs ys
 
 -- n steps from a thing to a part of a part and so on
 abbrev pub Walk : {N : Type 0} → (N → List N) → ℕ → N → N → Type 0

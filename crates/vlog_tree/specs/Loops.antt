@@ -1,5 +1,5 @@
 -- Loops of wires, and modules that contain themselves.
-use Rattle.std.specs.Prelude.{◌≡◌, ◌⊎◌, Bool, true, false, List, [], ◌∷◌, ◌++◌, Option, Some, None, if◌then◌else◌, map}
+use Rattle.std.specs.Prelude.{◌≡◌, ◌⊎◌, Bool, true, false, List, [], ◌∷◌, ◌++◌, Option, Some, None, if◌then◌else◌, map, filter}
 use Rattle.std.specs.List.{flat_map}
 use Rattle.vlog_tree.specs.declared.tree.Atom.{Atom}
 use Rattle.vlog_tree.specs.declared.tree.Atom.TheVariants.{Net, Part, Literal}
@@ -11,11 +11,10 @@ use Rattle.vlog_tree.specs.declared.tree.Item.TheVariants.{Wire, Reg, Memory, As
 use Rattle.vlog_tree.specs.declared.table.Declaration.{Declaration}
 use Rattle.vlog_tree.specs.declared.table.NetKind.TheVariants.{Input, Output}
 use Rattle.vlog_tree.specs.Form.{ModuleTree}
-use Rattle.vlog_tree.specs.Cycle.{module_named}
-use Rattle.vlog_tree.specs.Table.{Name, declared, port_declared, net_kind_of, net_kind_is_input, ports_of}
+use Rattle.vlog_tree.specs.Table.{Name, declared, port_declared, net_kind_of, net_kind_is_input, ports_of, module_named}
 use Rattle.vlog_tree.specs.Grounded.{Has}
 use Rattle.vlog_tree.specs.Labels.{address_of}
-use Rattle.vlog_tree.specs.V6.{module_children}
+use Rattle.vlog_tree.specs.V6.{module_children, has_port}
 
 abbrev pub atom_nets : Atom → List Name
 atom_nets (Net x) = x ∷ []
@@ -32,7 +31,7 @@ value_nets (Concat atoms) = flat_map atom_nets atoms
 value_nets (Repeat n a) = atom_nets a
 value_nets (Cell m x) = x ∷ []
 
--- the hierarchical name of a port of an instance (IEEE 1364-2005, 12.4), which no name of the module is
+-- the hierarchical name of a port of an instance (IEEE 1364-2005, 12.5), which no name of the module is
 unfoldable pub port_of : Name → Name → Name
 port_of i p = i ++ 46 ∷ p
 
@@ -53,17 +52,21 @@ line_edges ms (Reg w x) = []
 line_edges ms (Memory w x n) = []
 line_edges ms (Always b) = []
 
--- what a memory of the top gives rests on the place that it is asked for
-abbrev pub answer_edges : Declaration → Edges
-answer_edges d = map (λ y. (d.name, y)) (address_of d.name)
+-- among the ports of the top an input m_X_rdata rests on the port m_X_addr, since a memory answers for the place that it is
+-- asked for; wires of these names are wires like all others
+abbrev pub asked_port : List Declaration → Name → List Name
+asked_port ports x = if net_kind_is_input (net_kind_of ports x) then filter (has_port ports) (address_of x) else []
+
+abbrev pub answer_edges : List Declaration → Declaration → Edges
+answer_edges ports d = map (λ y. (d.name, y)) (asked_port ports d.name)
 
 abbrev pub memory_edges : Bool → List Declaration → Edges
-memory_edges false ds = []
-memory_edges true ds = flat_map answer_edges ds
+memory_edges false ports = []
+memory_edges true ports = flat_map (answer_edges ports) ports
 
 -- what a module's own lines say; is_top says of a module's name whether it is the top's
 abbrev pub direct_edges : List ModuleTree → (Name → Bool) → ModuleTree → Edges
-direct_edges ms is_top m = flat_map (line_edges ms) m.items ++ memory_edges (is_top m.name) (declared m)
+direct_edges ms is_top m = flat_map (line_edges ms) m.items ++ memory_edges (is_top m.name) (map port_declared m.ports)
 
 -- an instance's module and the instance's name
 abbrev pub item_instances : Item → List (Name × Name)

@@ -14,7 +14,7 @@ use Rattle.vlog_tree.specs.declared.tree.Connection.{Connection}
 use Rattle.vlog_tree.specs.declared.tree.Item.{Item}
 use Rattle.vlog_tree.specs.declared.tree.Item.TheVariants.{Wire, Reg, Memory, Assign, Always, Instance}
 use Rattle.vlog_tree.specs.declared.tree.PortDecl.{PortDecl}
-use Rattle.vlog_tree.specs.Form.{ModuleTree}
+use Rattle.vlog_tree.specs.Form.{ModuleTree, is_input}
 
 abbrev pub Word : Type 0
 Word = List ℕ
@@ -24,7 +24,7 @@ abbrev pub range_words : ℕ → List Word
 range_words w = if w == 1 then [] else codes "[" ∷ decimal (w - 1) ∷ codes ":" ∷ codes "0" ∷ codes "]" ∷ []
 
 abbrev pub port_words : PortDecl → List Word
-port_words p = (if p.input then codes "input" else codes "output") ∷ (range_words p.bits ++ p.name ∷ [])
+port_words p = (if is_input p.direction then codes "input" else codes "output") ∷ (range_words p.width ++ p.name ∷ [])
 
 abbrev pub atom_words : Atom → List Word
 atom_words (Net x) = x ∷ []

@@ -1,18 +1,18 @@
 -- What the names of a module stand for.
-use Rattle.std.specs.Prelude.{ℕ, Bool, true, false, ◌||◌, List, [], ◌∷◌, ◌++◌, Option, Some, None, codes, nat_le, if◌then◌else◌, bytes_eq, map, count_by}
+use Rattle.std.specs.Prelude.{ℕ, Bool, true, false, ◌||◌, List, [], ◌∷◌, ◌++◌, Option, Some, None, codes, nat_le, if◌then◌else◌, bytes_eq, map, count_by, not, is_some}
 use Rattle.vlog_tree.specs.declared.tree.Item.{Item}
 use Rattle.vlog_tree.specs.declared.tree.Item.TheVariants.{Wire, Reg, Memory, Assign, Always, Instance}
 use Rattle.vlog_tree.specs.declared.tree.PortDecl.{PortDecl}
 use Rattle.vlog_tree.specs.declared.table.NetKind.{NetKind}
 use Rattle.vlog_tree.specs.declared.table.NetKind.TheVariants.{Unknown, Input, Output, WireNet, Register, MemoryArray, ChildInstance}
 use Rattle.vlog_tree.specs.declared.table.Declaration.{Declaration}
-use Rattle.vlog_tree.specs.Form.{ModuleTree}
+use Rattle.vlog_tree.specs.Form.{ModuleTree, is_input}
 
 abbrev pub Name : Type 0
 Name = List ℕ
 
-abbrev pub no : Bool → Bool
-no b = if b then false else true
+abbrev pub one_if : Bool → ℕ
+one_if b = if b then 1 else 0
 
 unfoldable pub clk : Name
 clk = codes "clk"
@@ -21,14 +21,14 @@ abbrev pub is_clk : Name → Bool
 is_clk x = bytes_eq x clk
 
 abbrev pub port_declared : PortDecl → Declaration
-port_declared p = record { name = p.name; net_kind = if p.input then Input else Output; bits = p.bits }
+port_declared p = record { name = p.name; net_kind = if is_input p.direction then Input else Output; bits = p.width; cells = 0 }
 
 abbrev pub items_declared : List Item → List Declaration
 items_declared [] = []
-items_declared (Wire w x ∷ items) = record { name = x; net_kind = WireNet; bits = w } ∷ items_declared items
-items_declared (Reg w x ∷ items) = record { name = x; net_kind = Register; bits = w } ∷ items_declared items
-items_declared (Memory w x n ∷ items) = record { name = x; net_kind = MemoryArray; bits = w } ∷ items_declared items
-items_declared (Instance m i connections ∷ items) = record { name = i; net_kind = ChildInstance; bits = 0 } ∷ items_declared items
+items_declared (Wire w x ∷ items) = record { name = x; net_kind = WireNet; bits = w; cells = 0 } ∷ items_declared items
+items_declared (Reg w x ∷ items) = record { name = x; net_kind = Register; bits = w; cells = 0 } ∷ items_declared items
+items_declared (Memory w x n ∷ items) = record { name = x; net_kind = MemoryArray; bits = w; cells = n } ∷ items_declared items
+items_declared (Instance m i connections ∷ items) = record { name = i; net_kind = ChildInstance; bits = 0; cells = 0 } ∷ items_declared items
 items_declared (Assign x e ∷ items) = items_declared items
 items_declared (Always b ∷ items) = items_declared items
 
@@ -41,10 +41,10 @@ declaration_name d = d.name
 
 -- a module's name, as a declaration among those of the other modules
 abbrev pub module_declared : ModuleTree → Declaration
-module_declared m = record { name = m.name; net_kind = Unknown; bits = 0 }
+module_declared m = record { name = m.name; net_kind = Unknown; bits = 0; cells = 0 }
 
 abbrev pub unknown : Declaration
-unknown = record { name = []; net_kind = Unknown; bits = 0 }
+unknown = record { name = []; net_kind = Unknown; bits = 0; cells = 0 }
 
 -- the first that has this name
 abbrev pub find_name : List Declaration → Name → Declaration
@@ -56,6 +56,9 @@ net_kind_of ds x = (find_name ds x).net_kind
 
 abbrev pub bits_of : List Declaration → Name → ℕ
 bits_of ds x = (find_name ds x).bits
+
+abbrev pub cells_of : List Declaration → Name → ℕ
+cells_of ds x = (find_name ds x).cells
 
 abbrev pub is_doubled_name : List Declaration → Name → Bool
 is_doubled_name ds x = nat_le 2 (count_by (λ d. bytes_eq d.name x) ds)
@@ -107,14 +110,20 @@ net_kind_is_input Register = false
 net_kind_is_input MemoryArray = false
 net_kind_is_input ChildInstance = false
 
--- the ports of the first module of this name
-abbrev pub ports_of : List ModuleTree → Name → List PortDecl
-ports_of [] x = []
-ports_of (m ∷ ms) x = if bytes_eq m.name x then m.ports else ports_of ms x
+-- the first module of this name
+abbrev pub module_named : List ModuleTree → Name → Option ModuleTree
+module_named [] x = None
+module_named (m ∷ ms) x = if bytes_eq m.name x then Some m else module_named ms x
 
-abbrev pub is_module : List ModuleTree → Name → Bool
-is_module [] x = false
-is_module (m ∷ ms) x = bytes_eq m.name x || is_module ms x
+abbrev pub ports_in : Option ModuleTree → List PortDecl
+ports_in None = []
+ports_in (Some m) = m.ports
+
+abbrev pub ports_of : List ModuleTree → Name → List PortDecl
+ports_of ms x = ports_in (module_named ms x)
+
+abbrev pub is_module_name : List ModuleTree → Name → Bool
+is_module_name ms x = is_some (module_named ms x)
 
 -- a name of the text, and whether it breaks the rule there
 abbrev pub NameUse : Type 0

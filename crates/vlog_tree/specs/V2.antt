@@ -1,5 +1,5 @@
 -- Names that are unknown, doubled or of the wrong net kind.
-use Rattle.std.specs.Prelude.{Bool, ◌&&◌, ◌||◌, List, [], ◌∷◌, ◌++◌, ◌==◌, if◌then◌else◌, bytes_eq, map, count_by}
+use Rattle.std.specs.Prelude.{Bool, ◌&&◌, ◌||◌, List, [], ◌∷◌, ◌++◌, ◌==◌, if◌then◌else◌, bytes_eq, map, count_by, not}
 use Rattle.std.specs.List.{list_all, flat_map}
 use Rattle.vlog_tree.specs.declared.tree.Atom.{Atom}
 use Rattle.vlog_tree.specs.declared.tree.Atom.TheVariants.{Net, Part, Literal}
@@ -13,24 +13,24 @@ use Rattle.vlog_tree.specs.declared.tree.Item.TheVariants.{Wire, Reg, Memory, As
 use Rattle.vlog_tree.specs.declared.tree.PortDecl.{PortDecl}
 use Rattle.vlog_tree.specs.declared.table.Declaration.{Declaration}
 use Rattle.vlog_tree.specs.Form.{ModuleTree}
-use Rattle.vlog_tree.specs.Table.{Name, NameUse, no, clk, is_clk, declared, port_declared, module_declared, net_kind_of, is_doubled_name, net_kind_is_read, net_kind_is_driven, net_kind_is_register, net_kind_is_memory, net_kind_is_input, ports_of, is_module}
+use Rattle.vlog_tree.specs.Table.{Name, NameUse, clk, is_clk, declared, port_declared, module_declared, net_kind_of, is_doubled_name, net_kind_is_read, net_kind_is_driven, net_kind_is_register, net_kind_is_memory, net_kind_is_input, ports_of, is_module_name}
 
 -- a net whose number is read; the clock's is never
 abbrev pub read_use : List Declaration → Name → NameUse
-read_use ds x = (x, no (net_kind_is_read (net_kind_of ds x)) || is_clk x)
+read_use ds x = (x, not (net_kind_is_read (net_kind_of ds x)) || is_clk x)
 
 abbrev pub driven_use : List Declaration → Name → NameUse
-driven_use ds x = (x, no (net_kind_is_driven (net_kind_of ds x)) || is_clk x)
+driven_use ds x = (x, not (net_kind_is_driven (net_kind_of ds x)) || is_clk x)
 
 abbrev pub register_use : List Declaration → Name → NameUse
-register_use ds x = (x, no (net_kind_is_register (net_kind_of ds x)))
+register_use ds x = (x, not (net_kind_is_register (net_kind_of ds x)))
 
 abbrev pub memory_use : List Declaration → Name → NameUse
-memory_use ds x = (x, no (net_kind_is_memory (net_kind_of ds x)))
+memory_use ds x = (x, not (net_kind_is_memory (net_kind_of ds x)))
 
 -- the clock is an input port
 abbrev pub clock_use : List Declaration → NameUse
-clock_use ds = (clk, no (net_kind_is_input (net_kind_of ds clk)))
+clock_use ds = (clk, not (net_kind_is_input (net_kind_of ds clk)))
 
 abbrev pub atom_uses : List Declaration → Atom → List NameUse
 atom_uses ds (Net x) = read_use ds x ∷ []
@@ -72,12 +72,12 @@ joined_use ports ds l =
     else driven_use ds l.net
 
 unfoldable pub connection_uses : List Declaration → List Declaration → Connection → List NameUse
-connection_uses ports ds l = (l.port, no (net_kind_is_read (net_kind_of ports l.port))) ∷ joined_use ports ds l ∷ []
+connection_uses ports ds l = (l.port, not (net_kind_is_read (net_kind_of ports l.port))) ∷ joined_use ports ds l ∷ []
 
 unfoldable pub instance_uses : List ModuleTree → List Declaration → Name → Name → List Connection → List NameUse
 instance_uses ms ds m i connections =
     let ports = map port_declared (ports_of ms m) in
-    (m, no (is_module ms m)) ∷ (i, is_doubled_name ds i || is_clk i || no (all_connected ports connections)) ∷ flat_map (connection_uses ports ds) connections
+    (m, not (is_module_name ms m)) ∷ (i, is_doubled_name ds i || is_clk i || not (all_connected ports connections)) ∷ flat_map (connection_uses ports ds) connections
 
 unfoldable pub item_uses : List ModuleTree → List Declaration → Item → List NameUse
 item_uses ms ds (Wire w x) = inner_use ds x ∷ []

@@ -1,5 +1,5 @@
 -- How often a name is driven.
-use Rattle.std.specs.Prelude.{ℕ, Bool, false, List, [], ◌∷◌, nat_le, ◌==◌, if◌then◌else◌, bytes_eq, map, count_by}
+use Rattle.std.specs.Prelude.{ℕ, Bool, false, List, [], ◌∷◌, nat_le, ◌==◌, if◌then◌else◌, bytes_eq, map, count_by, not}
 use Rattle.std.specs.List.{list_any, flat_map}
 use Rattle.vlog_tree.specs.declared.tree.Step.{Step}
 use Rattle.vlog_tree.specs.declared.tree.Step.TheVariants.{If, Else, End, NonblockingAssign, MemoryAssign}
@@ -11,7 +11,7 @@ use Rattle.vlog_tree.specs.declared.table.NetKind.{NetKind}
 use Rattle.vlog_tree.specs.declared.table.NetKind.TheVariants.{Unknown, Input, Output, WireNet, Register, MemoryArray, ChildInstance}
 use Rattle.vlog_tree.specs.Form.{ModuleTree}
 use Rattle.vlog_tree.specs.NameTable.{times_in}
-use Rattle.vlog_tree.specs.Table.{Name, NameUse, no, declared, port_declared, net_kind_of, net_kind_is_input, ports_of}
+use Rattle.vlog_tree.specs.Table.{Name, NameUse, declared, port_declared, net_kind_of, net_kind_is_input, ports_of}
 
 -- a connection to an output drives its net
 unfoldable pub connection_driven : List Declaration → Connection → List Name
@@ -30,9 +30,6 @@ line_driven ms (Always b) = []
 abbrev pub drives : List ModuleTree → List Item → Name → ℕ
 drives ms items x = times_in (flat_map (line_driven ms) items) x
 
-abbrev pub one_if : Bool → ℕ
-one_if b = if b then 1 else 0
-
 abbrev pub step_assigns : Name → Step → Bool
 step_assigns x (If c) = false
 step_assigns x Else = false
@@ -50,9 +47,9 @@ is_block_of x (Instance m i connections) = false
 
 -- by how often a name is driven, and in how many blocks it is assigned
 abbrev pub breaks_driving : ℕ → ℕ → NetKind → Bool
-breaks_driving driven blocks Input = no (driven == 0)
-breaks_driving driven blocks Output = no (driven == 1)
-breaks_driving driven blocks WireNet = no (driven == 1)
+breaks_driving driven blocks Input = not (driven == 0)
+breaks_driving driven blocks Output = not (driven == 1)
+breaks_driving driven blocks WireNet = not (driven == 1)
 breaks_driving driven blocks Register = nat_le 2 blocks
 breaks_driving driven blocks MemoryArray = nat_le 2 blocks
 breaks_driving driven blocks ChildInstance = false

@@ -1,5 +1,5 @@
 -- The top module and its ports.
-use Rattle.std.specs.Prelude.{ℕ, Bool, true, false, ◌&&◌, ◌||◌, List, [], ◌∷◌, ◌++◌, Option, Some, None, nat_le, ◌==◌, if◌then◌else◌, bytes_eq, map, filter, length, is_some}
+use Rattle.std.specs.Prelude.{ℕ, Bool, true, false, ◌&&◌, ◌||◌, List, [], ◌∷◌, ◌++◌, Option, Some, None, nat_le, ◌==◌, if◌then◌else◌, bytes_eq, map, filter, length, is_some, not}
 use Rattle.std.specs.List.{flat_map}
 use Rattle.std.specs.Option.{option_map_or}
 use Rattle.vlog_tree.specs.declared.tree.Connection.{Connection}
@@ -7,9 +7,9 @@ use Rattle.vlog_tree.specs.declared.tree.Item.{Item}
 use Rattle.vlog_tree.specs.declared.tree.Item.TheVariants.{Wire, Reg, Memory, Assign, Always, Instance}
 use Rattle.vlog_tree.specs.declared.tree.PortDecl.{PortDecl}
 use Rattle.vlog_tree.specs.declared.table.Declaration.{Declaration}
-use Rattle.vlog_tree.specs.Form.{ModuleTree}
+use Rattle.vlog_tree.specs.Form.{ModuleTree, is_input}
 use Rattle.vlog_tree.specs.NameTable.{times_in}
-use Rattle.vlog_tree.specs.Table.{Name, NameUse, no, clk, is_clk, port_declared, net_kind_of, net_kind_is_read}
+use Rattle.vlog_tree.specs.Table.{Name, NameUse, clk, is_clk, port_declared, net_kind_of, net_kind_is_read}
 use Rattle.vlog_tree.specs.Labels.{rst, done, scalar_of, ack_of, rdata_of, addr_of, wdata_of, we_of, m_ack, m_rdata, m_addr, m_wdata, m_we}
 
 -- the modules that a line contains
@@ -51,17 +51,17 @@ has_all_five ports x = has_port ports (m_ack x) && has_port ports (m_rdata x) &&
 -- the bits of the port of this name, among ports the last of which stands first
 abbrev pub bits_before : List PortDecl → Name → Option ℕ
 bits_before [] x = None
-bits_before (p ∷ ps) x = if bytes_eq p.name x then Some p.bits else bits_before ps x
+bits_before (p ∷ ps) x = if bytes_eq p.name x then Some p.width else bits_before ps x
 
 -- no port of this name stands before with other bits
 abbrev pub agrees : List PortDecl → Name → ℕ → Bool
 agrees before x bits = option_map_or (λ b. b == bits) (bits_before before x) true
 
 abbrev pub is_in : PortDecl → ℕ → Bool
-is_in p w = p.input && (p.bits == w)
+is_in p w = is_input p.direction && (p.width == w)
 
 abbrev pub is_out : PortDecl → ℕ → Bool
-is_out p w = no p.input && (p.bits == w)
+is_out p w = not (is_input p.direction) && (p.width == w)
 
 unfoldable pub is_memory_port : Name → Bool
 is_memory_port x = is_some (ack_of x) || is_some (rdata_of x) || is_some (addr_of x) || is_some (wdata_of x) || is_some (we_of x)
@@ -71,22 +71,22 @@ is_expected x = is_clk x || bytes_eq x rst || bytes_eq x done || is_some (scalar
 
 -- what the name of a port asks of its direction and its width
 unfoldable pub fixed_fits : PortDecl → Bool
-fixed_fits p = (no (is_clk p.name || bytes_eq p.name rst) || is_in p 1) && (no (bytes_eq p.name done) || is_out p 1)
+fixed_fits p = (not (is_clk p.name || bytes_eq p.name rst) || is_in p 1) && (not (bytes_eq p.name done) || is_out p 1)
 
 unfoldable pub scalar_fits : PortDecl → Bool
-scalar_fits p = no (is_some (scalar_of p.name)) || (p.input && nat_le p.bits 64)
+scalar_fits p = not (is_some (scalar_of p.name)) || (is_input p.direction && nat_le p.width 64)
 
 unfoldable pub ack_fits : List Declaration → PortDecl → Bool
 ack_fits ports p = option_map_or (λ x. is_in p 1 && has_all_five ports x) (ack_of p.name) true
 
 unfoldable pub rdata_fits : List Declaration → List PortDecl → PortDecl → Bool
-rdata_fits ports before p = option_map_or (λ x. p.input && nat_le p.bits 64 && has_all_five ports x && agrees before (m_wdata x) p.bits) (rdata_of p.name) true
+rdata_fits ports before p = option_map_or (λ x. is_input p.direction && nat_le p.width 64 && has_all_five ports x && agrees before (m_wdata x) p.width) (rdata_of p.name) true
 
 unfoldable pub addr_fits : List Declaration → PortDecl → Bool
 addr_fits ports p = option_map_or (λ x. is_out p 64 && has_all_five ports x) (addr_of p.name) true
 
 unfoldable pub wdata_fits : List Declaration → List PortDecl → PortDecl → Bool
-wdata_fits ports before p = option_map_or (λ x. no p.input && nat_le p.bits 64 && has_all_five ports x && agrees before (m_rdata x) p.bits) (wdata_of p.name) true
+wdata_fits ports before p = option_map_or (λ x. not (is_input p.direction) && nat_le p.width 64 && has_all_five ports x && agrees before (m_rdata x) p.width) (wdata_of p.name) true
 
 unfoldable pub we_fits : List Declaration → PortDecl → Bool
 we_fits ports p = option_map_or (λ x. is_out p 1 && has_all_five ports x) (we_of p.name) true
@@ -99,11 +99,11 @@ port_fits ports before p =
 
 abbrev pub top_ports : List Declaration → List PortDecl → List PortDecl → List NameUse
 top_ports ports before [] = []
-top_ports ports before (p ∷ ps) = (p.name, no (port_fits ports before p)) ∷ top_ports ports (p ∷ before) ps
+top_ports ports before (p ∷ ps) = (p.name, not (port_fits ports before p)) ∷ top_ports ports (p ∷ before) ps
 
 -- a connection of a clock has a clock at its other end
 unfoldable pub clock_connection : Connection → NameUse
-clock_connection l = (l.port, is_clk l.port && no (is_clk l.net))
+clock_connection l = (l.port, is_clk l.port && not (is_clk l.net))
 
 abbrev pub clock_connections : Item → List NameUse
 clock_connections (Instance m i connections) = map clock_connection connections
@@ -121,7 +121,7 @@ unfoldable pub module_tops : List ModuleTree → ModuleTree → List NameUse
 module_tops ms m =
     let top = is_top ms m.name in
     let ports = map port_declared m.ports in
-    (m.name, top && no (is_whole_top ms ports)) ∷ ((if top then top_ports ports [] m.ports else []) ++ flat_map clock_connections m.items)
+    (m.name, top && not (is_whole_top ms ports)) ∷ ((if top then top_ports ports [] m.ports else []) ++ flat_map clock_connections m.items)
 
 abbrev pub v6_uses : List ModuleTree → List NameUse
 v6_uses ms = flat_map (module_tops ms) ms

@@ -15,8 +15,8 @@ fn is_atom(atom: &Atom) -> bool
 {
     match atom {
         Atom::Net(x) => is_name(x.bytes()),
-        Atom::Part(x, _, _) => is_name(x.bytes()),
-        Atom::Literal(_, _) => true,
+        Atom::Part { net: x, .. } => is_name(x.bytes()),
+        Atom::Literal { .. } => true,
     }
 }
 
@@ -32,11 +32,22 @@ fn is_value(value: &Value) -> bool
     match value {
         Value::Plain(a) => is_atom(a),
         Value::Invert(a) => is_atom(a),
-        Value::Binary(a, _, b) => is_atom(a) && is_atom(b),
-        Value::Choose(c, a, b) => is_atom(c) && is_atom(a) && is_atom(b),
+        Value::Binary {
+            left: a,
+            right: b,
+            ..
+        } => is_atom(a) && is_atom(b),
+        Value::Choose {
+            condition: c,
+            yes: a,
+            no: b,
+        } => is_atom(c) && is_atom(a) && is_atom(b),
         Value::Concat(atoms) => 2 <= atoms.atoms().len() && are_atoms(atoms.atoms()),
-        Value::Repeat(_, a) => is_atom(a),
-        Value::Cell(m, x) => is_name(m.bytes()) && is_name(x.bytes()),
+        Value::Repeat { atom: a, .. } => is_atom(a),
+        Value::Cell {
+            memory: m,
+            index: x,
+        } => is_name(m.bytes()) && is_name(x.bytes()),
     }
 }
 
@@ -47,8 +58,15 @@ fn is_step(step: &Step) -> bool
         Step::If(c) => is_name(c.bytes()),
         Step::Else => true,
         Step::End => true,
-        Step::NonblockingAssign(x, a) => is_name(x.bytes()) && is_atom(a),
-        Step::MemoryAssign(m, x, a) => { is_name(m.bytes()) && is_name(x.bytes()) && is_atom(a) }
+        Step::NonblockingAssign {
+            register: x,
+            value: a,
+        } => is_name(x.bytes()) && is_atom(a),
+        Step::MemoryAssign {
+            memory: m,
+            index: x,
+            value: a,
+        } => { is_name(m.bytes()) && is_name(x.bytes()) && is_atom(a) }
     }
 }
 
@@ -89,8 +107,8 @@ fn is_nested_step(parts: &mut Vec<bool>, step: &Step) -> Result<bool, AllocError
             None => Ok(false),
         },
         Step::End => Ok(parts.pop().is_some()),
-        Step::NonblockingAssign(_, _) => Ok(true),
-        Step::MemoryAssign(_, _, _) => Ok(true),
+        Step::NonblockingAssign { .. } => Ok(true),
+        Step::MemoryAssign { .. } => Ok(true),
     }
 }
 
@@ -110,12 +128,26 @@ fn is_item(alloc: Global, item: &Item) -> Result<bool, AllocError>
     ensures { IfOk result (λ b. b ≡ is_item_lem item.now) }
 {
     match item {
-        Item::Wire(bits, x) => Ok(1 <= *bits && is_name(x.bytes())),
-        Item::Reg(bits, x) => Ok(1 <= *bits && is_name(x.bytes())),
-        Item::Memory(bits, x, cells) => Ok(1 <= *bits && is_name(x.bytes()) && 1 <= *cells),
-        Item::Assign(x, e) => Ok(is_name(x.bytes()) && is_value(e)),
+        Item::Wire {
+            width: bits,
+            name: x,
+        } => Ok(1 <= *bits && is_name(x.bytes())),
+        Item::Reg {
+            width: bits,
+            name: x,
+        } => Ok(1 <= *bits && is_name(x.bytes())),
+        Item::Memory {
+            width: bits,
+            name: x,
+            cells,
+        } => Ok(1 <= *bits && is_name(x.bytes()) && 1 <= *cells),
+        Item::Assign { net: x, value: e } => Ok(is_name(x.bytes()) && is_value(e)),
         Item::Always(b) => Ok(are_nested(alloc, b.steps())? && are_steps(b.steps())),
-        Item::Instance(m, i, joins) => Ok(
+        Item::Instance {
+            module: m,
+            name: i,
+            connections: joins,
+        } => Ok(
             is_name(m.bytes())
                 && is_name(i.bytes())
                 && 1 <= joins.connections().len()
@@ -138,7 +170,7 @@ fn are_items(alloc: Global, items: &[Item]) -> Result<bool, AllocError>
 fn is_port(port: &PortDecl) -> bool
     ensures { result ≡ is_port_lem port.now }
 {
-    1 <= port.bits && is_name(port.name.bytes())
+    1 <= port.width && is_name(port.name.bytes())
 }
 
 fn are_ports(ports: &[PortDecl]) -> bool

@@ -26,5 +26,5 @@ pub use name_table::{
 pub use names::is_name;
 pub use table::{Declaration, NetKind};
 pub use tree::{
-    Atom, Atoms, BinaryOp, Block, Connection, Connections, Item, PortDecl, Step, Value,
+    Atom, Atoms, BinaryOp, Block, Connection, Connections, Direction, Item, PortDecl, Step, Value,
 };

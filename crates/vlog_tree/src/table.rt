@@ -20,4 +20,6 @@ pub struct Declaration {
     pub name: Text,
     pub net_kind: NetKind,
     pub bits: u32,
+    /// Of a memory, how many it has; else 0.
+    pub cells: u32,
 }

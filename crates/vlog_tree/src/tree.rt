@@ -7,8 +7,8 @@ use tapa_base::Text;
 #[derive(Drop)]
 pub enum Atom {
     Net(Text),
-    Part(Text, u32, u32),
-    Literal(u32, u128),
+    Part { net: Text, high: u32, low: u32 },
+    Literal { width: u32, value: u128 },
 }
 
 /// An operator on two atoms.
@@ -44,16 +44,30 @@ impl Model for Atoms {
     ghost view = { λ a. a.atoms.items };
 }
 
-/// What drives a wire. The last two are a number of copies of an atom, and a cell of a memory at a net.
+/// What drives a wire: among others a number of copies of an atom, and the cell of a memory whose index is on a net.
 #[derive(Drop)]
 pub enum Value {
     Plain(Atom),
     Invert(Atom),
-    Binary(Atom, BinaryOp, Atom),
-    Choose(Atom, Atom, Atom),
+    Binary {
+        left: Atom,
+        op: BinaryOp,
+        right: Atom,
+    },
+    Choose {
+        condition: Atom,
+        yes: Atom,
+        no: Atom,
+    },
     Concat(Atoms),
-    Repeat(u32, Atom),
-    Cell(Text, Text),
+    Repeat {
+        count: u32,
+        atom: Atom,
+    },
+    Cell {
+        memory: Text,
+        index: Text,
+    },
 }
 
 /// A step of a clocked block. Steps don't hold each other: an `If` opens a part, `Else` closes it and opens the
@@ -63,8 +77,15 @@ pub enum Step {
     If(Text),
     Else,
     End,
-    NonblockingAssign(Text, Atom),
-    MemoryAssign(Text, Text, Atom),
+    NonblockingAssign {
+        register: Text,
+        value: Atom,
+    },
+    MemoryAssign {
+        memory: Text,
+        index: Text,
+        value: Atom,
+    },
 }
 
 /// The steps between `begin` and `end`, in the order of the text.
@@ -104,26 +125,59 @@ impl Model for Connections {
     ghost view = { λ a. a.connections.items };
 }
 
-/// One line of a module. A width is the number of bits, and a memory has a number of cells.
+/// One line of a module. A width is the number of bits, of a memory that of each of its cells.
 #[derive(Drop)]
 pub enum Item {
-    Wire(u32, Text),
-    Reg(u32, Text),
-    Memory(u32, Text, u32),
-    Assign(Text, Value),
+    Wire {
+        width: u32,
+        name: Text,
+    },
+    Reg {
+        width: u32,
+        name: Text,
+    },
+    Memory {
+        width: u32,
+        name: Text,
+        cells: u32,
+    },
+    Assign {
+        net: Text,
+        value: Value,
+    },
     Always(Block),
-    Instance(Text, Text, Connections),
+    Instance {
+        module: Text,
+        name: Text,
+        connections: Connections,
+    },
 }
 
-/// A port: whether it is an input, its width and its name.
+/// Which way a port goes, seen from its module.
+#[derive(Clone, Copy, PartialEq, Eq, Debug)]
+pub enum Direction {
+    Input,
+    Output,
+}
+
+/// A port and the number of its bits.
 #[derive(Drop)]
 pub struct PortDecl {
-    pub input: bool,
-    pub bits: u32,
+    pub direction: Direction,
+    pub width: u32,
     pub name: Text,
 }
 
 ghost use Rattle.std.specs.Prelude.{◌≡◌};
+ghost use Rattle.vlog_tree.specs.Form.{is_input as is_input_lem};
+
+impl PortDecl {
+    pub fn is_input(&self) -> bool
+        ensures { result ≡ is_input_lem self.now.direction }
+    {
+        matches!(self.direction, Direction::Input)
+    }
+}
 
 impl Atoms {
     pub fn of(atoms: Vec<Atom>) -> Atoms

@@ -1,6 +1,6 @@
 use Rattle.std.proofs.Common.{◌≡◌, [], map, take}
 use Rattle.std.specs.Prelude.{slice_index_or}
-use Rattle.kahn_model.specs.Slow.{rows_of}
+use Rattle.kahn_model.specs.Rows.{rows_of}
 use Rattle.kahn_model.proofs.start.first_cells.Given as goal
 
 abbrev pub invariant-loop-m : goal.invariant-loop-m

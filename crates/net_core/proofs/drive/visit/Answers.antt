@@ -1,4 +1,4 @@
-use Rattle.std.proofs.Common.{◌≡◌, ℕ, ◌<◌, length, ap, ◌∙◌, subst, arith}
+use Rattle.std.proofs.Common.{◌≡◌, ℕ, ◌<◌, length, refl, sym, ap, ◌∙◌, subst, arith}
 use Rattle.kahn_model.proofs.Reach.{total_has}
 use Rattle.tapa_syntax.specs.declared.program.Program.{Program}
 use Rattle.net_core.specs.declared.input.Input.{Input}
@@ -22,12 +22,20 @@ returns-in-Fuel-clause-visited g c =
     let v = c.valid.ensures in
     visited_limit c.args.net.now c.resume_instance.new.net c.args.i c.args.left.now c.in_ok-pause.pause c.in_ok-pause.made c.in_ok-pause.ensures.resumed v.connected v.size c.requires.instance v.pauses_len c.in-Fuel.is c.args.later.now.items
 
+pub wake-requires-clause-listed_len : goal.wake-requires-clause-listed_len
+wake-requires-clause-listed_len g c =
+    let same = c.deref.ensures ∙ ap (λ (z : NetState). z.program) c.net.view_is in
+    let len : length c.deref.result.now.instances.items ≡ length c.args.net.now.program.instances.items = ap (λ (z : Program). length z.instances.items) same ∙ ap (λ (z : Program × Input). length z.0.instances.items) c.in_ok-pause.ensures.resumed.given in
+    c.requires.listed_len ∙ sym len
+
 pub returns-then-made-eq0 : goal.returns-then-made-eq0
 returns-then-made-eq0 g c =
     let v = c.valid.ensures in
     record {
       given = c.in_ok-pause.ensures.resumed.given;
       below = c.requires.below;
+      listed_len = refl;
+      listed = c.requires.listed;
       visited = visited_none c.args.net.now c.resume_instance.new.net c.args.i c.args.left.now c.in_ok-pause.pause c.in_ok-pause.made c.in_ok-pause.ensures.resumed v.connected v.size c.requires.instance v.pauses_len c.in_default.not-Fuel c.if-made-eq0.true c.args.later.now.items;
     }
 
@@ -41,5 +49,7 @@ returns g c =
     record {
       given = h.given;
       below = subst (λ m. AreBelow m c.wake.new.later.items) len c.in_ok-wake.ensures.below;
+      listed_len = c.in_ok-wake.ensures.listed_len;
+      listed = c.in_ok-wake.ensures.listed;
       visited = visited_woken c.args.net.now c.resume_instance.new.net c.args.i c.args.left.now c.in_ok-pause.pause c.in_ok-pause.made h v.connected v.size c.requires.instance v.pauses_len c.in_default.not-Fuel (let z = c.if-made-eq0.false in omega arith) c.args.later.now.items c.wake.new.later.items c.in_ok-wake.ensures.kept woken;
     }

@@ -1,18 +1,25 @@
-use Rattle.std.proofs.Common.{◌<◌, subst, sym, length, arith}
-use Rattle.net_core.specs.Load.{IsIn, AreBelow}
+use Rattle.std.proofs.Common.{◌<◌, ◌∙◌, arith}
 use Rattle.net_core.specs.Bindings.{arity}
-use Rattle.net_core.proofs.Loaded.{in_more, below_push, woken_push}
+use Rattle.net_core.proofs.Loaded.{woken_more}
 use Rattle.net_core.proofs.load.wake.Goals as goal
 
-pub returns-in_err-push-clause-kept : goal.returns-in_err-push-clause-kept
-returns-in_err-push-clause-kept c = λ x h. subst (λ l. IsIn x l) (sym c.in_err-push.ensures.items) (c.loop-p.invariant.kept x h)
-
 pub loop-p-preserved : goal.loop-p-preserved
-loop-p-preserved c = record {
-  below = subst (AreBelow (length c.args.program.now.instances.items)) (sym c.in_ok-push.ensures.items) (below_push _ c.loop-p.later.items c.other_end-other.result c.loop-p.invariant.below c.other_end-other.ensures.inside);
-  kept = λ x h. subst (λ l. IsIn x l) (sym c.in_ok-push.ensures.items) (in_more _ _ x (c.loop-p.invariant.kept x h));
-  woken = woken_push c.args.program.now c.args.i c.loop-p.p c.loop-p.later.items _ c.other_end-other.result c.in_ok-push.ensures.items c.loop-p.invariant.woken c.other_end-other.ensures.reader c.other_end-other.ensures.writer;
-}
+loop-p-preserved c =
+    let i = c.loop-p.invariant in
+    let e = c.in_ok-enlist.ensures in
+    record {
+      below = e.below _ i.below c.other_end.ensures.inside;
+      listed_len = e.listed_len ∙ i.listed_len;
+      listed = e.listed;
+      kept = λ x h. e.kept x (i.kept x h);
+      woken = woken_more c.args.program.now c.args.i c.loop-p.p c.loop-p.later.items _ c.other_end.result e.kept e.there i.woken c.other_end.ensures.reader c.other_end.ensures.writer;
+    }
+
+pub returns-in_err-enlist-clause-below : goal.returns-in_err-enlist-clause-below
+returns-in_err-enlist-clause-below c = c.enlist.ensures.below _ c.loop-p.invariant.below c.other_end.ensures.inside
+
+pub returns-in_err-enlist-clause-kept : goal.returns-in_err-enlist-clause-kept
+returns-in_err-enlist-clause-kept c = λ x h. c.enlist.ensures.kept x (c.loop-p.invariant.kept x h)
 
 pub returns-clause-woken : goal.returns-clause-woken
 returns-clause-woken c = λ p. record {

@@ -12,14 +12,14 @@ use Rattle.net_core.specs.Load.{HasPorts, AreLoaded}
 use Rattle.net_core.specs.State.{count, HasResumed}
 use Rattle.net_core.specs.declared.net_state.NetState.{NetState}
 use Rattle.net_core.proofs.Moves.{get_set_same}
-use Rattle.net_core.proofs.Resuming.{has_ports, can_resume, ends_are, agrees_at, enough, count_set, net_is, has_resumed}
+use Rattle.net_core.proofs.Resuming.{told_for, loaded_net, has_ports, can_resume, ends_are, agrees_at, enough, count_set, net_is, has_resumed}
 use Rattle.net_core.proofs.resume.resume_instance.Goals as goal
 
 pub load_ports-requires-clause-ports : goal.load_ports-requires-clause-ports
 load_ports-requires-clause-ports g c =
     let I = c.net.inside in
     subst (λ p. HasPorts p I.ports.items I.writers.items I.offered.items I.taken.items) (sym c.deref.ensures)
-    (has_ports g.B.Body.stands (arc_value I.program) (arc_value I.input) _ _ _ _ _ _ _ c.net.invariant)
+    (has_ports g.B.Body.stands (arc_value I.program) (arc_value I.input) _ _ _ _ _ _ _ _ c.net.invariant)
 
 pub resume_body-pause-requires : goal.resume_body-pause-requires
 resume_body-pause-requires g c =
@@ -30,6 +30,7 @@ resume_body-pause-requires g c =
     let k = c.in_ok-load_ports.ensures.kept in
     let i = c.args.i in
     let w = subst (λ (p : Program). AreLoaded p (arity p i) i I.ports.items I.writers.items I.taken.items c.load_ports.new.all.items c.load_ports.new.offered.items) c.deref.ensures c.in_ok-load_ports.ensures.loaded in
+    let hp = subst (λ (p : Program). HasPorts p c.load_ports.new.all.items I.writers.items c.load_ports.new.offered.items I.taken.items) c.deref.ensures c.in_ok-load_ports.ensures.ports in
     let b = c.index_mut.result.now in
     let x = c.index_mut-2.result.now in
     let lb = n.bodies_len in
@@ -41,7 +42,7 @@ resume_body-pause-requires g c =
     let eb = slice_get_read I.bodies.items _ i b refl inb c.index_mut.ensures.value in
     let ex = slice_get_read c.load_ports.new.all.items _ i x refl inp' c.index_mut-2.ensures.value in
     let fits : count_of I.counts.items i + c.args.fuel < 2 ^ 64 = subst (λ (v : NetState). count v i + c.args.fuel < 2 ^ 64) (sym c.net.view_is) c.requires.fits in
-    can_resume g.B.Body.stands P inp I.bodies.items I.ports.items I.writers.items I.offered.items I.taken.items I.counts.items I.pauses.items n i ins c.load_ports.new.all.items c.load_ports.new.offered.items k w x ex b eb c.args.fuel fits
+    can_resume g.B.Body.stands P inp I.bodies.items I.ports.items I.writers.items I.offered.items I.taken.items I.fed_by_self.items I.counts.items I.pauses.items n i ins c.load_ports.new.all.items c.load_ports.new.offered.items k hp w x ex b eb c.args.fuel fits
 
 pub count_taken-requires-clause-ends : goal.count_taken-requires-clause-ends
 count_taken-requires-clause-ends g c =
@@ -52,6 +53,7 @@ count_taken-requires-clause-ends g c =
     let k = c.in_ok-load_ports.ensures.kept in
     let i = c.args.i in
     let w = subst (λ (p : Program). AreLoaded p (arity p i) i I.ports.items I.writers.items I.taken.items c.load_ports.new.all.items c.load_ports.new.offered.items) c.deref.ensures c.in_ok-load_ports.ensures.loaded in
+    let hp = subst (λ (p : Program). HasPorts p c.load_ports.new.all.items I.writers.items c.load_ports.new.offered.items I.taken.items) c.deref.ensures c.in_ok-load_ports.ensures.ports in
     let b = c.index_mut.result.now in
     let x = c.index_mut-2.result.now in
     let lb = n.bodies_len in
@@ -63,7 +65,7 @@ count_taken-requires-clause-ends g c =
     let eb = slice_get_read I.bodies.items _ i b refl inb c.index_mut.ensures.value in
     let ex = slice_get_read c.load_ports.new.all.items _ i x refl inp' c.index_mut-2.ensures.value in
     let st = n.standing i b eb in
-    let hh = c.resume_body-pause.ensures (instance_job P inp i) st.ticks st.stands (ends_are g.B.Body.stands P inp I.bodies.items I.ports.items I.writers.items I.offered.items I.taken.items I.counts.items I.pauses.items n i ins c.load_ports.new.all.items c.load_ports.new.offered.items k w x ex b eb) (agrees_at g.B.Body.stands P inp I.bodies.items I.ports.items I.writers.items I.offered.items I.taken.items I.counts.items I.pauses.items n i ins c.load_ports.new.all.items c.load_ports.new.offered.items k w x ex b eb) in
+    let hh = c.resume_body-pause.ensures (instance_job P inp i) st.ticks st.stands (ends_are g.B.Body.stands P inp I.bodies.items I.ports.items I.writers.items I.offered.items I.taken.items I.fed_by_self.items I.counts.items I.pauses.items n i ins c.load_ports.new.all.items c.load_ports.new.offered.items k hp w x ex b eb) (agrees_at g.B.Body.stands P inp I.bodies.items I.ports.items I.writers.items I.offered.items I.taken.items I.fed_by_self.items I.counts.items I.pauses.items n i ins c.load_ports.new.all.items c.load_ports.new.offered.items k hp w x ex b eb) in
     let h = hh.0 in
     let y = c.resume_body-pause.new.ports in
     let here = get_set_same c.load_ports.new.all.items i y inp' in
@@ -79,6 +81,7 @@ count_taken-requires-clause-enough g c =
     let k = c.in_ok-load_ports.ensures.kept in
     let i = c.args.i in
     let w = subst (λ (p : Program). AreLoaded p (arity p i) i I.ports.items I.writers.items I.taken.items c.load_ports.new.all.items c.load_ports.new.offered.items) c.deref.ensures c.in_ok-load_ports.ensures.loaded in
+    let hp = subst (λ (p : Program). HasPorts p c.load_ports.new.all.items I.writers.items c.load_ports.new.offered.items I.taken.items) c.deref.ensures c.in_ok-load_ports.ensures.ports in
     let b = c.index_mut.result.now in
     let x = c.index_mut-2.result.now in
     let lb = n.bodies_len in
@@ -90,12 +93,12 @@ count_taken-requires-clause-enough g c =
     let eb = slice_get_read I.bodies.items _ i b refl inb c.index_mut.ensures.value in
     let ex = slice_get_read c.load_ports.new.all.items _ i x refl inp' c.index_mut-2.ensures.value in
     let st = n.standing i b eb in
-    let hh = c.resume_body-pause.ensures (instance_job P inp i) st.ticks st.stands (ends_are g.B.Body.stands P inp I.bodies.items I.ports.items I.writers.items I.offered.items I.taken.items I.counts.items I.pauses.items n i ins c.load_ports.new.all.items c.load_ports.new.offered.items k w x ex b eb) (agrees_at g.B.Body.stands P inp I.bodies.items I.ports.items I.writers.items I.offered.items I.taken.items I.counts.items I.pauses.items n i ins c.load_ports.new.all.items c.load_ports.new.offered.items k w x ex b eb) in
+    let hh = c.resume_body-pause.ensures (instance_job P inp i) st.ticks st.stands (ends_are g.B.Body.stands P inp I.bodies.items I.ports.items I.writers.items I.offered.items I.taken.items I.fed_by_self.items I.counts.items I.pauses.items n i ins c.load_ports.new.all.items c.load_ports.new.offered.items k hp w x ex b eb) (agrees_at g.B.Body.stands P inp I.bodies.items I.ports.items I.writers.items I.offered.items I.taken.items I.fed_by_self.items I.counts.items I.pauses.items n i ins c.load_ports.new.all.items c.load_ports.new.offered.items k hp w x ex b eb) in
     let h = hh.0 in
     let y = c.resume_body-pause.new.ports in
     let here = get_set_same c.load_ports.new.all.items i y inp' in
     subst (λ (z : Program). (p : ℕ) → Reads z i p → length (waiting_of (slice_set c.load_ports.new.all.items i y) i p) ≤ slice_index c.load_ports.new.offered.items (stream_at z i p)) (sym c.deref-2.ensures)
-    (λ p d. let e = enough g.B.Body.stands P inp I.bodies.items I.ports.items I.writers.items I.offered.items I.taken.items I.counts.items I.pauses.items n i ins c.load_ports.new.all.items c.load_ports.new.offered.items k w x ex b eb c.resume_body-pause.new.body c.args.fuel c.resume_body-pause.result.0 y h p d in let q = ap (λ o. length (waiting_by o p)) here in omega arith)
+    (λ p d. let e = enough g.B.Body.stands P inp I.bodies.items I.ports.items I.writers.items I.offered.items I.taken.items I.fed_by_self.items I.counts.items I.pauses.items n i ins c.load_ports.new.all.items c.load_ports.new.offered.items k hp w x ex b eb c.resume_body-pause.new.body c.args.fuel c.resume_body-pause.result.0 y h p d in let q = ap (λ o. length (waiting_by o p)) here in omega arith)
 
 pub overflow_add-index_mut : goal.overflow_add-index_mut
 overflow_add-index_mut g c =
@@ -106,6 +109,7 @@ overflow_add-index_mut g c =
     let k = c.in_ok-load_ports.ensures.kept in
     let i = c.args.i in
     let w = subst (λ (p : Program). AreLoaded p (arity p i) i I.ports.items I.writers.items I.taken.items c.load_ports.new.all.items c.load_ports.new.offered.items) c.deref.ensures c.in_ok-load_ports.ensures.loaded in
+    let hp = subst (λ (p : Program). HasPorts p c.load_ports.new.all.items I.writers.items c.load_ports.new.offered.items I.taken.items) c.deref.ensures c.in_ok-load_ports.ensures.ports in
     let b = c.index_mut.result.now in
     let x = c.index_mut-2.result.now in
     let lb = n.bodies_len in
@@ -117,7 +121,7 @@ overflow_add-index_mut g c =
     let eb = slice_get_read I.bodies.items _ i b refl inb c.index_mut.ensures.value in
     let ex = slice_get_read c.load_ports.new.all.items _ i x refl inp' c.index_mut-2.ensures.value in
     let st = n.standing i b eb in
-    let hh = c.resume_body-pause.ensures (instance_job P inp i) st.ticks st.stands (ends_are g.B.Body.stands P inp I.bodies.items I.ports.items I.writers.items I.offered.items I.taken.items I.counts.items I.pauses.items n i ins c.load_ports.new.all.items c.load_ports.new.offered.items k w x ex b eb) (agrees_at g.B.Body.stands P inp I.bodies.items I.ports.items I.writers.items I.offered.items I.taken.items I.counts.items I.pauses.items n i ins c.load_ports.new.all.items c.load_ports.new.offered.items k w x ex b eb) in
+    let hh = c.resume_body-pause.ensures (instance_job P inp i) st.ticks st.stands (ends_are g.B.Body.stands P inp I.bodies.items I.ports.items I.writers.items I.offered.items I.taken.items I.fed_by_self.items I.counts.items I.pauses.items n i ins c.load_ports.new.all.items c.load_ports.new.offered.items k hp w x ex b eb) (agrees_at g.B.Body.stands P inp I.bodies.items I.ports.items I.writers.items I.offered.items I.taken.items I.fed_by_self.items I.counts.items I.pauses.items n i ins c.load_ports.new.all.items c.load_ports.new.offered.items k hp w x ex b eb) in
     let h = hh.0 in
     let y = c.resume_body-pause.new.ports in
     let here = get_set_same c.load_ports.new.all.items i y inp' in
@@ -138,6 +142,7 @@ invariant_of-net-2 g c =
     let k = c.in_ok-load_ports.ensures.kept in
     let i = c.args.i in
     let w = subst (λ (p : Program). AreLoaded p (arity p i) i I.ports.items I.writers.items I.taken.items c.load_ports.new.all.items c.load_ports.new.offered.items) c.deref.ensures c.in_ok-load_ports.ensures.loaded in
+    let hp = subst (λ (p : Program). HasPorts p c.load_ports.new.all.items I.writers.items c.load_ports.new.offered.items I.taken.items) c.deref.ensures c.in_ok-load_ports.ensures.ports in
     let b = c.index_mut.result.now in
     let x = c.index_mut-2.result.now in
     let lb = n.bodies_len in
@@ -149,7 +154,7 @@ invariant_of-net-2 g c =
     let eb = slice_get_read I.bodies.items _ i b refl inb c.index_mut.ensures.value in
     let ex = slice_get_read c.load_ports.new.all.items _ i x refl inp' c.index_mut-2.ensures.value in
     let st = n.standing i b eb in
-    let hh = c.resume_body-pause.ensures (instance_job P inp i) st.ticks st.stands (ends_are g.B.Body.stands P inp I.bodies.items I.ports.items I.writers.items I.offered.items I.taken.items I.counts.items I.pauses.items n i ins c.load_ports.new.all.items c.load_ports.new.offered.items k w x ex b eb) (agrees_at g.B.Body.stands P inp I.bodies.items I.ports.items I.writers.items I.offered.items I.taken.items I.counts.items I.pauses.items n i ins c.load_ports.new.all.items c.load_ports.new.offered.items k w x ex b eb) in
+    let hh = c.resume_body-pause.ensures (instance_job P inp i) st.ticks st.stands (ends_are g.B.Body.stands P inp I.bodies.items I.ports.items I.writers.items I.offered.items I.taken.items I.fed_by_self.items I.counts.items I.pauses.items n i ins c.load_ports.new.all.items c.load_ports.new.offered.items k hp w x ex b eb) (agrees_at g.B.Body.stands P inp I.bodies.items I.ports.items I.writers.items I.offered.items I.taken.items I.fed_by_self.items I.counts.items I.pauses.items n i ins c.load_ports.new.all.items c.load_ports.new.offered.items k hp w x ex b eb) in
     let h = hh.0 in
     let y = c.resume_body-pause.new.ports in
     let here = get_set_same c.load_ports.new.all.items i y inp' in
@@ -166,7 +171,9 @@ invariant_of-net-2 g c =
     let to : (s : ℕ) → ((p : ℕ) → Reads P i p → stream_at P i p ≡ s → ⊥) → slice_index c.count_taken.new.taken.items s ≡ slice_index I.taken.items s =
     subst (λ (z : Program). (s : ℕ) → ((p : ℕ) → Reads z i p → stream_at z i p ≡ s → ⊥) → slice_index c.count_taken.new.taken.items s ≡ slice_index I.taken.items s) c.deref-2.ensures c.count_taken.ensures.others
     in
-    net_is g.B.Body.stands P inp I.bodies.items I.ports.items I.writers.items I.offered.items I.taken.items I.counts.items I.pauses.items n i ins c.load_ports.new.all.items c.load_ports.new.offered.items k w x ex b eb c.resume_body-pause.new.body c.args.fuel c.resume_body-pause.result.0 y h c.count_taken.new.taken.items (slice_set I.counts.items i new) c.count_taken.ensures.len (length-set I.counts.items i _) ec tk to (slice_set I.pauses.items i (Some c.resume_body-pause.result.0)) (length-set I.pauses.items i _) refl
+    let fed_at = slice_get_read I.fed_by_self.items _ i c.index.result.now refl (let a = n.fed_len in omega arith) c.index.ensures in
+    let is_told = told_for P i (length h.made) c.resume_body-pause.result.1 c.index.result.now (n.fed i c.index.result.now fed_at) c.resume_body-pause.result.0 c.told.result m c.told.ensures in
+    net_is g.B.Body.stands P inp I.bodies.items I.ports.items I.writers.items I.offered.items I.taken.items I.fed_by_self.items I.counts.items I.pauses.items n i ins c.load_ports.new.all.items c.load_ports.new.offered.items k hp w x ex b eb c.resume_body-pause.new.body c.args.fuel c.resume_body-pause.result.0 y h c.count_taken.new.taken.items (slice_set I.counts.items i new) c.count_taken.ensures.len (length-set I.counts.items i _) ec tk to (slice_set I.pauses.items i (Some c.told.result)) (length-set I.pauses.items i _) c.told.result is_told refl
 
 pub returns-clause-resumed : goal.returns-clause-resumed
 returns-clause-resumed g c =
@@ -177,6 +184,7 @@ returns-clause-resumed g c =
     let k = c.in_ok-load_ports.ensures.kept in
     let i = c.args.i in
     let w = subst (λ (p : Program). AreLoaded p (arity p i) i I.ports.items I.writers.items I.taken.items c.load_ports.new.all.items c.load_ports.new.offered.items) c.deref.ensures c.in_ok-load_ports.ensures.loaded in
+    let hp = subst (λ (p : Program). HasPorts p c.load_ports.new.all.items I.writers.items c.load_ports.new.offered.items I.taken.items) c.deref.ensures c.in_ok-load_ports.ensures.ports in
     let b = c.index_mut.result.now in
     let x = c.index_mut-2.result.now in
     let lb = n.bodies_len in
@@ -188,7 +196,7 @@ returns-clause-resumed g c =
     let eb = slice_get_read I.bodies.items _ i b refl inb c.index_mut.ensures.value in
     let ex = slice_get_read c.load_ports.new.all.items _ i x refl inp' c.index_mut-2.ensures.value in
     let st = n.standing i b eb in
-    let hh = c.resume_body-pause.ensures (instance_job P inp i) st.ticks st.stands (ends_are g.B.Body.stands P inp I.bodies.items I.ports.items I.writers.items I.offered.items I.taken.items I.counts.items I.pauses.items n i ins c.load_ports.new.all.items c.load_ports.new.offered.items k w x ex b eb) (agrees_at g.B.Body.stands P inp I.bodies.items I.ports.items I.writers.items I.offered.items I.taken.items I.counts.items I.pauses.items n i ins c.load_ports.new.all.items c.load_ports.new.offered.items k w x ex b eb) in
+    let hh = c.resume_body-pause.ensures (instance_job P inp i) st.ticks st.stands (ends_are g.B.Body.stands P inp I.bodies.items I.ports.items I.writers.items I.offered.items I.taken.items I.fed_by_self.items I.counts.items I.pauses.items n i ins c.load_ports.new.all.items c.load_ports.new.offered.items k hp w x ex b eb) (agrees_at g.B.Body.stands P inp I.bodies.items I.ports.items I.writers.items I.offered.items I.taken.items I.fed_by_self.items I.counts.items I.pauses.items n i ins c.load_ports.new.all.items c.load_ports.new.offered.items k hp w x ex b eb) in
     let h = hh.0 in
     let y = c.resume_body-pause.new.ports in
     let here = get_set_same c.load_ports.new.all.items i y inp' in
@@ -205,5 +213,13 @@ returns-clause-resumed g c =
     let to : (s : ℕ) → ((p : ℕ) → Reads P i p → stream_at P i p ≡ s → ⊥) → slice_index c.count_taken.new.taken.items s ≡ slice_index I.taken.items s =
     subst (λ (z : Program). (s : ℕ) → ((p : ℕ) → Reads z i p → stream_at z i p ≡ s → ⊥) → slice_index c.count_taken.new.taken.items s ≡ slice_index I.taken.items s) c.deref-2.ensures c.count_taken.ensures.others
     in
-    subst (λ (v : NetState). HasResumed v (record { program = P; input = inp; counts = slice_set I.counts.items i new; pauses = slice_set I.pauses.items i (Some c.resume_body-pause.result.0) }) i c.args.fuel c.resume_body-pause.result.0 c.resume_body-pause.result.1) c.net.view_is
-    (has_resumed g.B.Body.stands P inp I.bodies.items I.ports.items I.writers.items I.offered.items I.taken.items I.counts.items I.pauses.items n i ins c.load_ports.new.all.items c.load_ports.new.offered.items k w x ex b eb c.resume_body-pause.new.body c.args.fuel c.resume_body-pause.result.0 y h c.count_taken.new.taken.items (slice_set I.counts.items i new) c.count_taken.ensures.len (length-set I.counts.items i _) ec tk to (slice_set I.pauses.items i (Some c.resume_body-pause.result.0)) (length-set I.pauses.items i _) refl c.resume_body-pause.result.1 m)
+    let fed_at = slice_get_read I.fed_by_self.items _ i c.index.result.now refl (let a = n.fed_len in omega arith) c.index.ensures in
+    let is_told = told_for P i (length h.made) c.resume_body-pause.result.1 c.index.result.now (n.fed i c.index.result.now fed_at) c.resume_body-pause.result.0 c.told.result m c.told.ensures in
+    subst (λ (v : NetState). HasResumed v (record { program = P; input = inp; counts = slice_set I.counts.items i new; pauses = slice_set I.pauses.items i (Some c.told.result) }) i c.args.fuel c.resume_body-pause.result.0 c.resume_body-pause.result.1) c.net.view_is
+    (has_resumed g.B.Body.stands P inp I.bodies.items I.ports.items I.writers.items I.offered.items I.taken.items I.fed_by_self.items I.counts.items I.pauses.items n i ins c.load_ports.new.all.items c.load_ports.new.offered.items k hp w x ex b eb c.resume_body-pause.new.body c.args.fuel c.resume_body-pause.result.0 y h c.count_taken.new.taken.items (slice_set I.counts.items i new) c.count_taken.ensures.len (length-set I.counts.items i _) ec tk to (slice_set I.pauses.items i (Some c.told.result)) (length-set I.pauses.items i _) c.told.result is_told refl c.resume_body-pause.result.1 m)
+
+pub invariant_of-net : goal.invariant_of-net
+invariant_of-net g c =
+    let I = c.net.inside in
+    loaded_net g.B.Body.stands (arc_value I.program) (arc_value I.input) I.bodies.items I.ports.items I.writers.items I.offered.items I.taken.items I.fed_by_self.items I.counts.items I.pauses.items c.net.invariant c.load_ports.new.all.items c.load_ports.new.offered.items c.load_ports.ensures.kept
+    (subst (λ (p : Program). HasPorts p c.load_ports.new.all.items I.writers.items c.load_ports.new.offered.items I.taken.items) c.deref.ensures c.load_ports.ensures.ports)

@@ -7,8 +7,8 @@ use Rattle.kahn_model.specs.Start.{bound_value}
 use Rattle.net_core.specs.Bounded.{instance_job}
 use Rattle.task_fsm.specs.declared.machine.Fsm.{Fsm}
 use Rattle.task_fsm.specs.Lowered.{IsLowered}
-use Rattle.coro_machine.specs.Run.{rows_of}
-use Rattle.run_program.specs.Started.{kinds_in}
+use Rattle.kahn_model.specs.Rows.{rows_of}
+use Rattle.kahn_model.specs.Start.{kinds_in}
 use Rattle.run_program.proofs.Starting.{job_is, leaf_fits, started}
 use Rattle.run_program.proofs.start.start_one.Goals as goal
 

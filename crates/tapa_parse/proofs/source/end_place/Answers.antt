@@ -1,7 +1,8 @@
 use Rattle.std.proofs.Common.{◌≡◌, ℕ, ◌+◌, ◌<◌, true, false, length, take, get_or, sym, ap, ◌∙◌, nat_eq, eq-eqb, ne_eqb, arith}
 use Rattle.std.proofs.lemmas.List.{take_more}
 use Rattle.tapa_base.specs.declared.text.Place.{Place}
-use Rattle.tapa_syntax.specs.Characters.{Bytes, place_of}
+use Rattle.tapa_base.specs.Gaps.{Bytes}
+use Rattle.tapa_syntax.specs.Characters.{place_of}
 use Rattle.tapa_syntax.proofs.Places.{place_after_feed, place_after_byte}
 use Rattle.tapa_parse.proofs.source.end_place.Goals as goal
 use Rattle.tapa_parse.proofs.source.end_place.Goals.{then-text-turn-eq10, else-text-turn-eq10}

@@ -3,7 +3,8 @@ use Rattle.tapa_base.specs.declared.kind.Kind.{Kind}
 use Rattle.tapa_base.specs.declared.kind.Kind.TheVariants.{U32}
 use Rattle.tapa_syntax.specs.LeafKinds.{kinds_of}
 use Rattle.task_fsm.specs.Machine.{EndAt, TrapAt}
-use Rattle.task_fsm.specs.Code.{Emitted, list_code, size_of_list}
+use Rattle.task_fsm.specs.Code.{Emitted, list_code}
+use Rattle.tapa_syntax.specs.TickPlaces.{size_of_list}
 use Rattle.task_fsm.specs.Draft.{emitted}
 use Rattle.task_fsm.proofs.Body.{leaf_written}
 use Rattle.task_fsm.proofs.Lowers.{lowered}

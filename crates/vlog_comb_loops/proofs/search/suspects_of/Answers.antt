@@ -3,7 +3,7 @@ use Rattle.std.specs.Prelude.{slice_get}
 use Rattle.std.specs.Option.{option_copied}
 use Rattle.vlog_tree.specs.Form.{ModuleTree}
 use Rattle.vlog_comb_loops.specs.Summaries.{is_named}
-use Rattle.vlog_comb_loops.proofs.Lists.{got_index}
+use Rattle.vlog_tree.proofs.Lists.{got_index}
 use Rattle.vlog_comb_loops.proofs.Searching.{next_judged, all_judged}
 use Rattle.vlog_comb_loops.proofs.search.suspects_of.Goals as goal
 

@@ -5,7 +5,7 @@ use Rattle.vlog_tree.specs.Form.{ModuleTree}
 use Rattle.vlog_tree.specs.Table.{port_declared}
 use Rattle.vlog_tree.specs.Loops.{Edges}
 use Rattle.vlog_comb_loops.specs.Summaries.{is_named, module_edges, IsSoundSum, IsSumOf}
-use Rattle.vlog_comb_loops.proofs.Lists.{got_index}
+use Rattle.vlog_tree.proofs.Lists.{got_index}
 use Rattle.vlog_comb_loops.proofs.Resting.{sums_set, sound_of}
 use Rattle.vlog_comb_loops.proofs.sums.renew.Goals as goal
 

@@ -7,7 +7,7 @@ use Rattle.vlog_tree.specs.Grounded.{Has}
 use Rattle.vlog_tree.specs.Table.{Name}
 use Rattle.vlog_tree.specs.Loops.{Reaches, port_of, item_instances}
 use Rattle.vlog_comb_loops.specs.Search.{LoopsAt}
-use Rattle.vlog_comb_loops.proofs.Lists.{got_index}
+use Rattle.vlog_tree.proofs.Lists.{got_index}
 use Rattle.vlog_comb_loops.proofs.Asking.{line_loops, no_line}
 use Rattle.vlog_comb_loops.proofs.suspects.loops_at.Goals as goal
 

@@ -3,7 +3,7 @@ use Rattle.std.proofs.lemmas.List.{take_all, get_or_default}
 use Rattle.vlog_tree.specs.Grounded.{Has}
 use Rattle.vlog_comb_loops.specs.Questions.{Question, asked_of}
 use Rattle.vlog_comb_loops.specs.Search.{LoopsBy}
-use Rattle.vlog_comb_loops.proofs.Lists.{taken_split}
+use Rattle.vlog_tree.proofs.Lists.{taken_split}
 use Rattle.vlog_comb_loops.proofs.Searching.{lies_not}
 use Rattle.vlog_comb_loops.proofs.Asking.{no_suspect}
 use Rattle.vlog_comb_loops.proofs.suspects.on_loop.Goals as goal

@@ -1,6 +1,7 @@
 use Rattle.std.proofs.Common.{◌∙◌, ◌+◌, ap, min, take}
 use Rattle.std.specs.List.{list_any}
-use Rattle.vlog_tree.specs.V4.{one_if, step_assigns}
+use Rattle.vlog_tree.specs.V4.{step_assigns}
+use Rattle.vlog_tree.specs.Table.{one_if}
 use Rattle.vlog_rules.proofs.Counts.{any_more, all_taken}
 use Rattle.vlog_drivers.proofs.drivers.count_block.Goals as goal
 

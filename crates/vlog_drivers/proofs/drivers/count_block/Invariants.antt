@@ -1,7 +1,8 @@
 use Rattle.std.proofs.Common.{◌≡◌, ◌+◌, ℕ, List, take, min}
 use Rattle.std.specs.List.{list_any}
 use Rattle.vlog_tree.specs.NameTable.{CountsTo, count_in}
-use Rattle.vlog_tree.specs.V4.{one_if, step_assigns}
+use Rattle.vlog_tree.specs.V4.{step_assigns}
+use Rattle.vlog_tree.specs.Table.{one_if}
 use Rattle.vlog_drivers.proofs.drivers.count_block.Given as goal
 
 abbrev pub invariant-loop-s : goal.invariant-loop-s

@@ -2,7 +2,7 @@ use Rattle.std.proofs.Common.{◌∷◌, [], ◌<◌, ℕ, List, subst, get_or, 
 use Rattle.std.specs.Prelude.{◌⊎◌}
 use Rattle.std.proofs.lemmas.List.{take_more}
 use Rattle.vlog_tree.specs.Grounded.{Has}
-use Rattle.vlog_graph.proofs.Numbered.{has_split}
+use Rattle.vlog_tree.proofs.Lists.{has_split}
 use Rattle.vlog_graph.proofs.levels.is_above.Goals as goal
 
 above_of : (levels numbers : List ℕ) (level i k : ℕ) → ((k : ℕ) → Has (take i numbers) k → get_or levels k 0 < level) → get_or levels (get_or numbers i 0) 0 < level

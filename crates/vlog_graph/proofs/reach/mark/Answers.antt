@@ -3,7 +3,7 @@ use Rattle.std.specs.Prelude.{slice_set}
 use Rattle.std.proofs.Common.{true}
 use Rattle.vlog_tree.specs.Grounded.{Has}
 use Rattle.vlog_graph.specs.Graphs.{IsMarked}
-use Rattle.vlog_graph.proofs.Numbered.{has_right}
+use Rattle.vlog_tree.proofs.Lists.{has_right}
 use Rattle.vlog_graph.proofs.Reached.{marked_more}
 use Rattle.vlog_graph.proofs.reach.mark.Goals as goal
 

@@ -2,7 +2,7 @@ use Rattle.std.proofs.Common.{◌≡◌, ◌∙◌, ◌++◌, ◌∷◌, ◌<◌
 use Rattle.std.specs.Prelude.{◌⊎◌}
 use Rattle.std.proofs.lemmas.List.{take_more}
 use Rattle.vlog_tree.specs.Grounded.{Has}
-use Rattle.vlog_graph.proofs.Numbered.{has_left, has_split}
+use Rattle.vlog_tree.proofs.Lists.{has_left, has_split}
 use Rattle.vlog_graph.proofs.Reached.{at_has}
 use Rattle.vlog_graph.proofs.reach.mark_all.Goals as goal
 

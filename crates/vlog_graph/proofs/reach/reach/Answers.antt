@@ -4,7 +4,7 @@ use Rattle.vlog_tree.specs.Grounded.{Has}
 use Rattle.vlog_tree.specs.Loops.{one}
 use Rattle.vlog_graph.specs.Graphs.{IsMarked, Steps, targets_of}
 use Rattle.vlog_graph.proofs.Reached.{complete, sound_on, closed_on}
-use Rattle.vlog_graph.proofs.Numbered.{has_left}
+use Rattle.vlog_tree.proofs.Lists.{has_left}
 use Rattle.vlog_graph.proofs.reach.reach.Goals as goal
 
 pub loop-next-init : goal.loop-next-init

@@ -1,5 +1,5 @@
 use Rattle.std.proofs.Common.{take}
-use Rattle.vlog_tree.specs.Environment.{AllTwo}
+use Rattle.vlog_tree.specs.Grounded.{AllTwo}
 use Rattle.vlog_ref_cycle.specs.Next.{IsStored}
 use Rattle.vlog_ref_cycle.proofs.blocks.put_cell.Given as goal
 

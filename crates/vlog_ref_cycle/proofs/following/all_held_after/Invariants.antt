@@ -1,5 +1,5 @@
 use Rattle.std.proofs.Common.{◌≡◌, suc, take, drop}
-use Rattle.vlog_tree.specs.Environment.{AllTwo}
+use Rattle.vlog_tree.specs.Grounded.{AllTwo}
 use Rattle.std.specs.List.{list_all, AllByRecursion}
 use Rattle.vlog_ref_cycle.specs.Moments.{InRuns, HeldIs}
 use Rattle.vlog_ref_cycle.specs.Next.{held_known, IsAlike}

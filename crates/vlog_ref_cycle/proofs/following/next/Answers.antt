@@ -2,7 +2,7 @@ use Rattle.std.proofs.Common.{suc, ◌+◌, [], Option, refl, subst, ◌∙◌}
 use Rattle.std.specs.Prelude.{IfSome, Vec}
 use Rattle.std.specs.List.{AllByRecursion}
 use Rattle.std.specs.declared.alloc.Global.{Global}
-use Rattle.vlog_tree.specs.Environment.{AllTwo}
+use Rattle.vlog_tree.specs.Grounded.{AllTwo}
 use Rattle.vlog_ref_cycle.specs.declared.moment.Held.{Held}
 use Rattle.vlog_ref_cycle.specs.declared.moment.OutsideMemory.{OutsideMemory}
 use Rattle.vlog_ref_cycle.specs.Moments.{HeldIs, InRuns}

@@ -1,5 +1,5 @@
 use Rattle.std.proofs.Common.{◌≡◌, drop}
-use Rattle.vlog_tree.specs.Cycle.{module_named}
+use Rattle.vlog_tree.specs.Table.{module_named}
 use Rattle.vlog_ref_cycle.proofs.places.module_named.Given as goal
 
 abbrev pub invariant-loop-m : goal.invariant-loop-m

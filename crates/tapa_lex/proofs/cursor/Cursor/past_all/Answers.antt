@@ -1,6 +1,6 @@
 use Rattle.std.proofs.Common.{◌++◌, take, arith, subst, sym}
 use Rattle.std.proofs.lemmas.List.{take_all, append-nil}
-use Rattle.tapa_syntax.specs.Characters.{Bytes}
+use Rattle.tapa_base.specs.Gaps.{Bytes}
 use Rattle.tapa_lex.specs.Standing.{IsBehind}
 use Rattle.tapa_lex.proofs.Places.{behind_more}
 use Rattle.tapa_lex.proofs.cursor.Cursor.past_all.Goals as goal

@@ -1,5 +1,5 @@
 use Rattle.std.proofs.Common.{◌+◌, ◌≤◌, ◌++◌, take}
-use Rattle.tapa_syntax.specs.Characters.{Bytes}
+use Rattle.tapa_base.specs.Gaps.{Bytes}
 use Rattle.tapa_lex.specs.Standing.{IsBehind}
 use Rattle.tapa_lex.proofs.cursor.Cursor.past_all.Given as goal
 

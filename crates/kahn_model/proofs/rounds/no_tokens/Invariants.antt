@@ -1,6 +1,0 @@
-use Rattle.std.proofs.Common.{◌≡◌, ℕ, []}
-use Rattle.kahn_model.specs.Slow.{whole}
-use Rattle.kahn_model.proofs.rounds.no_tokens.Given as goal
-
-abbrev pub invariant-loop-stream : goal.invariant-loop-stream
-invariant-loop-stream l = (s : ℕ) → whole l.lists.items s ≡ []

@@ -1,7 +1,0 @@
-use Rattle.std.proofs.Common.{◌≡◌, map, replicate, take}
-use Rattle.tapa_syntax.specs.declared.program.Array.{Array}
-use Rattle.kahn_model.specs.Slow.{rows_of}
-use Rattle.kahn_model.proofs.start.first_arrays.Given as goal
-
-abbrev pub invariant-loop-array : goal.invariant-loop-array
-invariant-loop-array l = rows_of l.rows.items ≡ map (λ (a : Array). replicate a.cells 0) (take l.array-index l.arrays)

@@ -1,0 +1,4 @@
+pub mod SlowSteps
+pub mod SlowFlows
+pub mod SlowStatements
+pub mod RoundLists

@@ -1,0 +1,603 @@
+//! The trace of an instance, computed as it is defined.
+
+ghost use Rattle.std.specs.Prelude.{◌≡◌, ◌∷◌, ◌++◌, [], length, replicate, slice_index_or, IfOk};
+ghost use Rattle.kahn_model.specs.declared.tick.StreamOperation.{StreamOperation};
+ghost use Rattle.kahn_model.specs.declared.tick.StreamOperation.TheVariants.{Read as ByRead};
+ghost use Rattle.kahn_model.specs.declared.tick.Tick.TheVariants.{Did};
+ghost use Rattle.kahn_model.specs.declared.tick.Action.TheVariants.{Local, Load, Store};
+ghost use Rattle.kahn_model.specs.Behavior.{Await, tick_of, ticks, trace_end};
+ghost use Rattle.kahn_reference.specs.Slow.{point, numbers, state_of, GivesAnswer, GivesValue, GivesPair, GivesFlow, GivesTurn, turn_of, loop_of, turn_left, whole};
+ghost use Rattle.kahn_model.specs.Rows.{rows_of};
+ghost use Rattle.kahn_model.specs.Trace.{expr, stmt, statements, job_of, at_streams, set_var, set_cell, store_cell, cell, cells_of, cleared};
+ghost use Rattle.tapa_syntax.specs.LeafKinds.{kinds_of};
+
+use crate::cells::{
+    apply_values, both, cell_of, chosen, convert_value, either, flipped, negated, set_cell_of,
+};
+use crate::simple_statements::{
+    run_discard, run_open, run_read_cell, run_read_store, run_read_var, run_set, run_set_cell,
+    run_set_cell_by, run_store, run_store_by, run_write,
+};
+use kahn_model::tick::{Action, StreamOperation, Tick, TraceEnd};
+use std::alloc::{AllocError, Global};
+use tapa_base::{Token, number_at, value_at};
+use tapa_syntax::{Expr, Leaf, Stmt};
+
+/// What an instance holds: its variables, its arrays, and the cells of its memories.
+#[derive(Drop)]
+pub struct Variables {
+    pub vars: Vec<u64>,
+    pub arrays: Vec<Vec<u64>>,
+    pub cells: Vec<Vec<u64>>,
+}
+
+/// What a run has so far: what the instance holds, how many tokens it has taken from each list, and its ticks.
+#[derive(Drop)]
+pub struct Run {
+    pub state: Variables,
+    pub heads: Vec<usize>,
+    pub ticks: Vec<Tick>,
+}
+
+/// An expression's value, or the end at which the run ends.
+#[derive(Clone, Copy, PartialEq, Eq, Debug)]
+pub enum Value {
+    Given(u64),
+    Stopped(TraceEnd),
+}
+
+fn tick_for(how: StreamOperation, s: u32, token: Token) -> Tick
+    ensures { result ≡ tick_of how s token }
+{
+    match how {
+        StreamOperation::Read => Tick::Take(s, token),
+        StreamOperation::Peek => Tick::See(s, token),
+        StreamOperation::TestEot => Tick::See(s, token),
+        StreamOperation::Open => Tick::Take(s, token),
+    }
+}
+
+// One operation on stream s.
+fn ask(
+    lists: &[Vec<Token>],
+    run: &mut Run,
+    s: u32,
+    how: StreamOperation,
+) -> Result<Value, AllocError>
+    requires { length run.old.heads.items ≡ length lists.now }
+    ensures heads { IfOk result (λ v. length run.new.heads.items ≡ length lists.now) }
+    ensures state { IfOk result (λ v. run.new.state ≡ run.old.state) }
+    ensures value { IfOk result (λ v. GivesAnswer v (point lists.now run.old) s how (point lists.now run.new)) }
+{
+    let i = s as usize;
+    if i >= lists.len() {
+        return Ok(Value::Stopped(TraceEnd::Needs(s)));
+    }
+    let list = &lists[i];
+    let at = run.heads[i];
+    if at >= list.len() {
+        return Ok(Value::Stopped(TraceEnd::Needs(s)));
+    }
+    let token = list[at];
+    match how.value_of(token) {
+        None => Ok(Value::Stopped(TraceEnd::Bad(s))),
+        Some(v) => {
+            run.ticks.push(tick_for(how, s, token))?;
+            if how.takes() {
+                run.heads[i] = at + 1;
+            }
+            Ok(Value::Given(v))
+        }
+    }
+}
+
+// One operation on the stream at a position.
+pub(crate) fn ask_at(
+    lists: &[Vec<Token>],
+    streams: &[u32],
+    run: &mut Run,
+    p: u32,
+    how: StreamOperation,
+) -> Result<Value, AllocError>
+    requires { length run.old.heads.items ≡ length lists.now }
+    ensures heads { IfOk result (λ v. length run.new.heads.items ≡ length lists.now) }
+    ensures state { IfOk result (λ v. run.new.state ≡ run.old.state) }
+    ensures value { IfOk result (λ v. GivesValue (numbers streams.now) v (point lists.now run.old) (λ go. Await p how go) (point lists.now run.new)) }
+{
+    ask(lists, run, number_at(streams, p), how)
+}
+
+/// Why there is no trace.
+#[derive(Clone, Copy, PartialEq, Eq, Debug)]
+pub enum Fault {
+    /// A value is none of its kind, so an operator has no meaning there.
+    NotOfItsKind,
+    OutOfMemory,
+}
+
+impl From<AllocError> for Fault {
+    fn from(_error: AllocError) -> Fault {
+        Fault::OutOfMemory
+    }
+}
+
+// One more tick.
+pub(crate) fn note(run: &mut Run, tick: Tick) -> Result<(), AllocError>
+    ensures ticks { IfOk result (λ u. run.new.ticks.items ≡ run.old.ticks.items ++ tick ∷ []) }
+    ensures state { run.new.state ≡ run.old.state }
+    ensures heads { run.new.heads ≡ run.old.heads }
+{
+    run.ticks.push(tick)?;
+    Ok(())
+}
+
+// A tick that loads a cell, and its value.
+pub(crate) fn load_cell(run: &mut Run, m: u32, i: u64) -> Result<u64, AllocError>
+    ensures ticks { IfOk result (λ v. run.new.ticks.items ≡ run.old.ticks.items ++ Did (Load m i) ∷ []) }
+    ensures value { IfOk result (λ v. v ≡ cell (state_of run.old.state).cells m i) }
+    ensures state { run.new.state ≡ run.old.state }
+    ensures heads { run.new.heads ≡ run.old.heads }
+{
+    note(run, Tick::Did(Action::Load(m, i)))?;
+    Ok(cell_of(&run.state.cells, m, i))
+}
+
+// The value of an expression.
+pub(crate) fn run_expr(
+    lists: &[Vec<Token>],
+    streams: &[u32],
+    run: &mut Run,
+    e: &Expr,
+) -> Result<Value, Fault>
+    requires { length run.old.heads.items ≡ length lists.now }
+    ensures heads { IfOk result (λ v. length run.new.heads.items ≡ length lists.now) }
+    ensures state { IfOk result (λ v. run.new.state ≡ run.old.state) }
+    ensures value { IfOk result (λ v. GivesValue (numbers streams.now) v (point lists.now run.old) (λ go. expr e.now (state_of run.old.state) go) (point lists.now run.new)) }
+{
+    match e {
+        Expr::Lit(_, n) => Ok(Value::Given(*n)),
+        Expr::Var(x) => Ok(Value::Given(value_at(&run.state.vars, *x))),
+        Expr::Cell(a, index) => match run_expr(lists, streams, run, index)? {
+            Value::Stopped(m) => Ok(Value::Stopped(m)),
+            Value::Given(i) => Ok(Value::Given(cell_of(&run.state.arrays, *a, i))),
+        },
+        Expr::Read(p) => Ok(ask_at(lists, streams, run, *p, StreamOperation::Read)?),
+        Expr::Peek(p) => Ok(ask_at(lists, streams, run, *p, StreamOperation::Peek)?),
+        Expr::Eot(p) => Ok(ask_at(lists, streams, run, *p, StreamOperation::TestEot)?),
+        Expr::Load(m, index) => match run_expr(lists, streams, run, index)? {
+            Value::Stopped(trace_end) => Ok(Value::Stopped(trace_end)),
+            Value::Given(i) => Ok(Value::Given(load_cell(run, *m, i)?)),
+        },
+        Expr::Conv { from, to, value } => match run_expr(lists, streams, run, value)? {
+            Value::Stopped(m) => Ok(Value::Stopped(m)),
+            Value::Given(v) => Ok(Value::Given(convert_value(*from, *to, v)?)),
+        },
+        Expr::Apply {
+            op,
+            kind,
+            left,
+            right,
+        } => match run_expr(lists, streams, run, left)? {
+            Value::Stopped(m) => Ok(Value::Stopped(m)),
+            Value::Given(a) => match run_expr(lists, streams, run, right)? {
+                Value::Stopped(m) => Ok(Value::Stopped(m)),
+                Value::Given(b) => Ok(Value::Given(apply_values(*op, *kind, a, b)?)),
+            },
+        },
+        Expr::Flip(kind, value) => match run_expr(lists, streams, run, value)? {
+            Value::Stopped(m) => Ok(Value::Stopped(m)),
+            Value::Given(v) => Ok(Value::Given(flipped(*kind, v))),
+        },
+        Expr::Not(value) => match run_expr(lists, streams, run, value)? {
+            Value::Stopped(m) => Ok(Value::Stopped(m)),
+            Value::Given(v) => Ok(Value::Given(negated(v))),
+        },
+        Expr::And(left, right) => match run_expr(lists, streams, run, left)? {
+            Value::Stopped(m) => Ok(Value::Stopped(m)),
+            Value::Given(a) => match run_expr(lists, streams, run, right)? {
+                Value::Stopped(m) => Ok(Value::Stopped(m)),
+                Value::Given(b) => Ok(Value::Given(both(a, b)?)),
+            },
+        },
+        Expr::Or(left, right) => match run_expr(lists, streams, run, left)? {
+            Value::Stopped(m) => Ok(Value::Stopped(m)),
+            Value::Given(a) => match run_expr(lists, streams, run, right)? {
+                Value::Stopped(m) => Ok(Value::Stopped(m)),
+                Value::Given(b) => Ok(Value::Given(either(a, b))),
+            },
+        },
+        Expr::Choose(test, left, right) => match run_expr(lists, streams, run, test)? {
+            Value::Stopped(m) => Ok(Value::Stopped(m)),
+            Value::Given(v) => match run_expr(lists, streams, run, left)? {
+                Value::Stopped(m) => Ok(Value::Stopped(m)),
+                Value::Given(a) => match run_expr(lists, streams, run, right)? {
+                    Value::Stopped(m) => Ok(Value::Stopped(m)),
+                    Value::Given(b) => Ok(Value::Given(chosen(v, a, b))),
+                },
+            },
+        },
+    }
+}
+
+/// How a statement is left: to the next one, by a break, by a continue, or at the end at which the run ends.
+#[derive(Clone, Copy, PartialEq, Eq, Debug)]
+pub enum Flow {
+    Next,
+    Out,
+    Again,
+    Stopped(TraceEnd),
+}
+
+/// How a turn of a loop is left: for the next test, for what follows the loop, or at a end.
+#[derive(Clone, Copy, PartialEq, Eq, Debug)]
+pub enum Turn {
+    On,
+    Over,
+    Stopped(TraceEnd),
+}
+
+// A variable gets a value.
+fn set_value(run: &mut Run, x: u32, v: u64)
+    ensures state { state_of run.new.state ≡ set_var (state_of run.old.state) x v }
+    ensures heads { run.new.heads ≡ run.old.heads }
+    ensures ticks { run.new.ticks ≡ run.old.ticks }
+{
+    let i = x as usize;
+    if i < run.state.vars.len() {
+        run.state.vars[i] = v;
+    }
+}
+
+// A cell of an array gets a value.
+fn set_array(run: &mut Run, a: u32, i: u64, v: u64)
+    ensures state { state_of run.new.state ≡ set_cell (state_of run.old.state) a i v }
+    ensures heads { run.new.heads ≡ run.old.heads }
+    ensures ticks { run.new.ticks ≡ run.old.ticks }
+{
+    set_cell_of(&mut run.state.arrays, a, i, v);
+}
+
+// A tick that stores a value in a cell of a memory.
+pub(crate) fn store_tick(run: &mut Run, m: u32, i: u64, v: u64) -> Result<(), AllocError>
+    ensures ticks { IfOk result (λ u. run.new.ticks.items ≡ run.old.ticks.items ++ Did (Store m i v) ∷ []) }
+    ensures state { IfOk result (λ u. state_of run.new.state ≡ store_cell (state_of run.old.state) m i v) }
+    ensures heads { run.new.heads ≡ run.old.heads }
+{
+    note(run, Tick::Did(Action::Store(m, i, v)))?;
+    set_cell_of(&mut run.state.cells, m, i, v);
+    Ok(())
+}
+
+// A variable gets a value, in one tick.
+pub(crate) fn set_var_tick(run: &mut Run, x: u32, v: u64) -> Result<(), AllocError>
+    ensures ticks { IfOk result (λ u. run.new.ticks.items ≡ run.old.ticks.items ++ Did Local ∷ []) }
+    ensures state { IfOk result (λ u. state_of run.new.state ≡ set_var (state_of run.old.state) x v) }
+    ensures heads { run.new.heads ≡ run.old.heads }
+{
+    note(run, Tick::Did(Action::Local))?;
+    set_value(run, x, v);
+    Ok(())
+}
+
+pub(crate) fn set_cell_tick(run: &mut Run, a: u32, i: u64, v: u64) -> Result<(), AllocError>
+    ensures ticks { IfOk result (λ u. run.new.ticks.items ≡ run.old.ticks.items ++ Did Local ∷ []) }
+    ensures state { IfOk result (λ u. state_of run.new.state ≡ set_cell (state_of run.old.state) a i v) }
+    ensures heads { run.new.heads ≡ run.old.heads }
+{
+    note(run, Tick::Did(Action::Local))?;
+    set_array(run, a, i, v);
+    Ok(())
+}
+
+// Every cell of a row becomes 0.
+fn zero_row(row: &mut [u64])
+    ensures { row.new ≡ replicate (length row.old) 0 }
+{
+    row.fill(0);
+}
+
+// Every cell of an array becomes 0.
+fn zero_array(run: &mut Run, a: u32)
+    ensures state { state_of run.new.state ≡ cleared (state_of run.old.state) a }
+    ensures heads { run.new.heads ≡ run.old.heads }
+    ensures ticks { run.new.ticks ≡ run.old.ticks }
+{
+    let i = a as usize;
+    if i < run.state.arrays.len() {
+        zero_row(&mut run.state.arrays[i]);
+    }
+}
+
+// How many cells an array has.
+fn cell_count(arrays: &[Vec<u64>], a: u32) -> usize
+    ensures { result ≡ length (slice_index_or (rows_of arrays.now) a []) }
+{
+    match arrays.get(a as usize) {
+        Some(row) => row.len(),
+        None => 0,
+    }
+}
+
+// So many ticks.
+fn note_times(run: &mut Run, count: usize) -> Result<(), AllocError>
+    ensures ticks { IfOk result (λ u. run.new.ticks.items ≡ run.old.ticks.items ++ replicate count (Did Local)) }
+    ensures state { IfOk result (λ u. run.new.state ≡ run.old.state) }
+    ensures heads { IfOk result (λ u. run.new.heads ≡ run.old.heads) }
+{
+    for _tick in 0..count {
+        note(run, Tick::Did(Action::Local))?;
+    }
+    Ok(())
+}
+
+// Every cell of an array becomes 0, one a tick.
+fn clear(run: &mut Run, a: u32) -> Result<(), AllocError>
+    ensures ticks { IfOk result (λ u. run.new.ticks.items ≡ run.old.ticks.items ++ replicate (cells_of (state_of run.old.state) a) (Did Local)) }
+    ensures state { IfOk result (λ u. state_of run.new.state ≡ cleared (state_of run.old.state) a) }
+    ensures heads { IfOk result (λ u. run.new.heads ≡ run.old.heads) }
+{
+    let count = cell_count(&run.state.arrays, a);
+    note_times(run, count)?;
+    zero_array(run, a);
+    Ok(())
+}
+
+/// Two values, or the end at which the run ends.
+#[derive(Clone, Copy, PartialEq, Eq, Debug)]
+pub enum Pair {
+    Given(u64, u64),
+    Stopped(TraceEnd),
+}
+
+// The values of two expressions, one after the other.
+pub(crate) fn run_pair(
+    lists: &[Vec<Token>],
+    streams: &[u32],
+    run: &mut Run,
+    first: &Expr,
+    second: &Expr,
+) -> Result<Pair, Fault>
+    requires { length run.old.heads.items ≡ length lists.now }
+    ensures heads { IfOk result (λ v. length run.new.heads.items ≡ length lists.now) }
+    ensures state { IfOk result (λ v. run.new.state ≡ run.old.state) }
+    ensures value { IfOk result (λ v. GivesPair (numbers streams.now) v (point lists.now run.old) (λ go. expr first.now (state_of run.old.state) (λ a. expr second.now (state_of run.old.state) (go a))) (point lists.now run.new)) }
+{
+    match run_expr(lists, streams, run, first)? {
+        Value::Stopped(m) => Ok(Pair::Stopped(m)),
+        Value::Given(a) => match run_expr(lists, streams, run, second)? {
+            Value::Stopped(m) => Ok(Pair::Stopped(m)),
+            Value::Given(b) => Ok(Pair::Given(a, b)),
+        },
+    }
+}
+
+// The value of an index, and then that of the token that is read from a stream.
+pub(crate) fn run_read(
+    lists: &[Vec<Token>],
+    streams: &[u32],
+    run: &mut Run,
+    index: &Expr,
+    p: u32,
+) -> Result<Pair, Fault>
+    requires { length run.old.heads.items ≡ length lists.now }
+    ensures heads { IfOk result (λ v. length run.new.heads.items ≡ length lists.now) }
+    ensures state { IfOk result (λ v. run.new.state ≡ run.old.state) }
+    ensures value { IfOk result (λ v. GivesPair (numbers streams.now) v (point lists.now run.old) (λ go. expr index.now (state_of run.old.state) (λ a. Await p ByRead (go a))) (point lists.now run.new)) }
+{
+    match run_expr(lists, streams, run, index)? {
+        Value::Stopped(m) => Ok(Pair::Stopped(m)),
+        Value::Given(a) => match ask_at(lists, streams, run, p, StreamOperation::Read)? {
+            Value::Stopped(m) => Ok(Pair::Stopped(m)),
+            Value::Given(b) => Ok(Pair::Given(a, b)),
+        },
+    }
+}
+
+// One statement.
+#[cycle(statements)]
+fn run_stmt(
+    lists: &[Vec<Token>],
+    leaf: &Leaf,
+    streams: &[u32],
+    run: &mut Run,
+    n: u64,
+    s: &Stmt,
+) -> Result<Flow, Fault>
+    requires { length run.old.heads.items ≡ length lists.now }
+    ensures heads { IfOk result (λ f. length run.new.heads.items ≡ length lists.now) }
+    ensures flow { IfOk result (λ f. GivesFlow (numbers streams.now) f (point lists.now run.old) (stmt (kinds_of leaf.now) n s.now (state_of run.old.state)) (point lists.now run.new)) }
+{
+    match s {
+        Stmt::Set(x, e) => run_set(lists, streams, run, *x, e),
+        Stmt::SetCell {
+            array,
+            index,
+            value,
+        } => run_set_cell(lists, streams, run, *array, index, value),
+        Stmt::SetCellBy {
+            array,
+            index,
+            op,
+            kind,
+            value,
+        } => run_set_cell_by(lists, leaf, streams, run, *array, index, *op, *kind, value),
+        Stmt::Store {
+            memory,
+            index,
+            value,
+        } => run_store(lists, streams, run, *memory, index, value),
+        Stmt::StoreBy {
+            memory,
+            index,
+            op,
+            kind,
+            value,
+        } => run_store_by(lists, leaf, streams, run, *memory, index, *op, *kind, value),
+        Stmt::ReadVar { stream, var } => run_read_var(lists, leaf, streams, run, *stream, *var),
+        Stmt::ReadCell {
+            stream,
+            array,
+            index,
+        } => run_read_cell(lists, leaf, streams, run, *stream, *array, index),
+        Stmt::ReadStore {
+            stream,
+            memory,
+            index,
+        } => run_read_store(lists, leaf, streams, run, *stream, *memory, index),
+        Stmt::Write(p, e) => run_write(lists, streams, run, *p, e),
+        Stmt::Open(p) => run_open(lists, streams, run, *p),
+        Stmt::Close(p) => {
+            note(
+                run,
+                Tick::Did(Action::Put(number_at(streams, *p), Token::Eot)),
+            )?;
+            Ok(Flow::Next)
+        }
+        Stmt::Discard(e) => run_discard(lists, streams, run, e),
+        Stmt::Clear(a) => {
+            clear(run, *a)?;
+            Ok(Flow::Next)
+        }
+        Stmt::If(e, left, right) => match run_expr(lists, streams, run, e)? {
+            Value::Stopped(m) => Ok(Flow::Stopped(m)),
+            Value::Given(v) => {
+                note(run, Tick::Did(Action::Local))?;
+                if v == 0 {
+                    run_block(lists, leaf, streams, run, n, right)
+                } else {
+                    run_block(lists, leaf, streams, run, n, left)
+                }
+            }
+        },
+        Stmt::Loop { .. } => run_loop(lists, leaf, streams, run, n, s),
+        Stmt::Break => Ok(Flow::Out),
+        Stmt::Continue => Ok(Flow::Again),
+    }
+}
+
+// Statements one after another.
+#[cycle(statements)]
+fn run_block(
+    lists: &[Vec<Token>],
+    leaf: &Leaf,
+    streams: &[u32],
+    run: &mut Run,
+    n: u64,
+    code: &[Stmt],
+) -> Result<Flow, Fault>
+    requires { length run.old.heads.items ≡ length lists.now }
+    ensures heads { IfOk result (λ f. length run.new.heads.items ≡ length lists.now) }
+    ensures flow { IfOk result (λ f. GivesFlow (numbers streams.now) f (point lists.now run.old) (statements (kinds_of leaf.now) n code.now (state_of run.old.state)) (point lists.now run.new)) }
+{
+    for s in code {
+        match run_stmt(lists, leaf, streams, run, n, s)? {
+            Flow::Next => {}
+            flow => return Ok(flow),
+        }
+    }
+    Ok(Flow::Next)
+}
+
+// One turn of a loop.
+#[cycle(statements)]
+fn run_turn(
+    lists: &[Vec<Token>],
+    leaf: &Leaf,
+    streams: &[u32],
+    run: &mut Run,
+    n: u64,
+    s: &Stmt,
+) -> Result<Turn, Fault>
+    requires { length run.old.heads.items ≡ length lists.now }
+    ensures heads { IfOk result (λ f. length run.new.heads.items ≡ length lists.now) }
+    ensures turn { IfOk result (λ f. GivesTurn (numbers streams.now) f (point lists.now run.old) (turn_of (kinds_of leaf.now) n s.now (state_of run.old.state)) (point lists.now run.new)) }
+{
+    match s {
+        Stmt::Loop { test, body, step } => match run_expr(lists, streams, run, test)? {
+            Value::Stopped(m) => Ok(Turn::Stopped(m)),
+            Value::Given(v) => {
+                note(run, Tick::Did(Action::Local))?;
+                if v == 0 {
+                    return Ok(Turn::Over);
+                }
+                match run_block(lists, leaf, streams, run, n, body)? {
+                    Flow::Stopped(m) => Ok(Turn::Stopped(m)),
+                    Flow::Out => Ok(Turn::Over),
+                    Flow::Next => Ok(turn_after(run_block(lists, leaf, streams, run, n, step)?)),
+                    Flow::Again => Ok(turn_after(run_block(lists, leaf, streams, run, n, step)?)),
+                }
+            }
+        },
+        _ => Ok(Turn::Stopped(TraceEnd::Turns)),
+    }
+}
+
+// The turn that a loop's step leaves.
+fn turn_after(flow: Flow) -> Turn
+    ensures { result ≡ turn_left flow }
+{
+    match flow {
+        Flow::Stopped(m) => Turn::Stopped(m),
+        Flow::Out => Turn::Over,
+        Flow::Next => Turn::On,
+        Flow::Again => Turn::On,
+    }
+}
+
+// A loop of at most n tests.
+#[cycle(statements)]
+fn run_loop(
+    lists: &[Vec<Token>],
+    leaf: &Leaf,
+    streams: &[u32],
+    run: &mut Run,
+    n: u64,
+    s: &Stmt,
+) -> Result<Flow, Fault>
+    requires { length run.old.heads.items ≡ length lists.now }
+    ensures heads { IfOk result (λ f. length run.new.heads.items ≡ length lists.now) }
+    ensures flow { IfOk result (λ f. GivesFlow (numbers streams.now) f (point lists.now run.old) (loop_of (kinds_of leaf.now) n n s.now (state_of run.old.state)) (point lists.now run.new)) }
+{
+    for _turn in 0..n {
+        match run_turn(lists, leaf, streams, run, n, s)? {
+            Turn::On => {}
+            Turn::Over => return Ok(Flow::Next),
+            Turn::Stopped(m) => return Ok(Flow::Stopped(m)),
+        }
+    }
+    Ok(Flow::Stopped(TraceEnd::Turns))
+}
+
+// A list of zeros.
+fn none_taken(alloc: Global, n: usize) -> Result<Vec<usize>, AllocError>
+    ensures { IfOk result (λ v. v.items ≡ replicate n 0) }
+{
+    Ok(vec![in alloc; 0; n]?)
+}
+
+/// The trace of an instance of a leaf: its ticks and its end on whole lists, one for each stream of the program, where
+/// each run of a loop makes at most n tests. `streams` has the numbers of the streams at the leaf's positions.
+pub fn trace(
+    alloc: Global,
+    leaf: &Leaf,
+    streams: &[u32],
+    state: Variables,
+    n: u64,
+    lists: &[Vec<Token>],
+) -> Result<(Vec<Tick>, TraceEnd), Fault>
+    ensures ticks { IfOk result (λ r. r.0.items ≡ ticks (at_streams (numbers streams.now) (job_of (kinds_of leaf.now) leaf.now.code.items (state_of state) n)) (whole lists.now)) }
+    ensures trace_end { IfOk result (λ r. r.1 ≡ trace_end (at_streams (numbers streams.now) (job_of (kinds_of leaf.now) leaf.now.code.items (state_of state) n)) (whole lists.now)) }
+{
+    let mut run = Run {
+        state,
+        heads: none_taken(alloc, lists.len())?,
+        ticks: Vec::new(alloc),
+    };
+    match run_block(lists, leaf, streams, &mut run, n, &leaf.code)? {
+        Flow::Stopped(m) => Ok((run.ticks, m)),
+        _ => {
+            note(&mut run, Tick::End)?;
+            Ok((run.ticks, TraceEnd::Ended))
+        }
+    }
+}

@@ -1,0 +1,6 @@
+pub mod Lists
+pub mod Blocks
+pub mod Lines
+pub mod Ranks
+pub mod Larger
+pub mod Labelled

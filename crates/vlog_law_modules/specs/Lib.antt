@@ -1,0 +1,5 @@
+pub mod Blocks
+pub mod Lines
+pub mod Ranks
+pub mod Larger
+pub mod Labelled

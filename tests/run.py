@@ -1,0 +1,43 @@
+#!/usr/bin/env python3
+"""Tries a built `tapa` on the cases of this folder, on the documents' tables and on the examples.
+
+    tests/run.py PROGRAM            for example crates/tapa_cli/out/tapa_cli
+    tests/run.py PROGRAM --only W   the groups of cases whose name has W
+
+Each case that fails is printed. The last line is `N passed, M failed`, and the exit status is 1 where M is not 0.
+tests/README.md says how cases are written.
+"""
+import sys
+
+from runner import crates, documents, endings, examples, inputs, sessions, sources, tools
+from runner.trial import Trial
+
+
+GROUPS = [
+    ("sources", sources.try_all),
+    ("data", inputs.try_all),
+    ("runs", sessions.try_all),
+    ("endings", endings.try_all),
+    ("examples", examples.try_all),
+    ("documents", documents.try_all),
+    ("tools", tools.try_all),
+    ("crates", crates.try_all),
+    ("messages", documents.try_messages),
+]
+
+
+def main(words):
+    only = words[2] if len(words) == 3 and words[1] == "--only" else ""
+    if len(words) != (3 if only else 1):
+        print(__doc__.strip(), file=sys.stderr)
+        return 2
+    trial = Trial(words[0], is_whole=not only)
+    for name, group in GROUPS:
+        if only in name:
+            trial.begin(name)
+            group(trial)
+    return trial.end()
+
+
+if __name__ == "__main__":
+    sys.exit(main(sys.argv[1:]))

@@ -1,0 +1,52 @@
+"""The examples: the command in each one's first line, what it writes, and that C++ compilers accept them."""
+import os
+import shlex
+import shutil
+import subprocess
+
+from runner.trial import ROOT, read
+
+FOLDERS = ("examples", "examples/refused")
+
+
+def names():
+    for folder in FOLDERS:
+        for name in sorted(os.listdir(os.path.join(ROOT, folder))):
+            if name.endswith(".cpp"):
+                yield f"{folder}/{name[: -len('.cpp')]}"
+
+
+def text_of(path):
+    return read(path) if os.path.exists(os.path.join(ROOT, path)) else ""
+
+
+def try_example(trial, name):
+    first = read(f"{name}.cpp").split("\n")[0]
+    words = shlex.split(first.removeprefix("// tapa "))
+    trial.check(f"{name}: its first line is its command", words[:2] == ["run", f"{name}.cpp"], f"   {first}")
+    out, err = text_of(f"{name}.out"), text_of(f"{name}.err")
+    status = 0 if not err else 8 if out else 1
+    said = trial.run(words, ROOT)
+    trial.check(name, (said.status, said.out.decode(), said.err.decode()) == (status, out, err), f"   {said}")
+    listed = read("examples/README.md")
+    trial.check(f"{name} stands in examples/README.md", f"| {os.path.basename(name).removesuffix('_mended')} |" in listed)
+
+
+def try_compilers(trial):
+    """With tools/include/tapa.h a C++ compiler accepts the examples that have no slip of C++."""
+    compilers = [it for it in ("g++", "clang++") if shutil.which(it)]
+    if not compilers:
+        trial.note("there is no C++ compiler here, so tools/include/tapa.h was not tried")
+    for compiler in compilers:
+        for name in names():
+            if name.startswith("examples/refused/") and not name.endswith("_mended"):
+                continue
+            words = [compiler, "-std=c++17", "-fsyntax-only", "-Wall", "-Itools/include", f"{name}.cpp"]
+            ran = subprocess.run(words, cwd=ROOT, capture_output=True, text=True)
+            trial.check(f"{compiler} accepts {name}", ran.returncode == 0, ran.stderr[:800])
+
+
+def try_all(trial):
+    for name in names():
+        try_example(trial, name)
+    try_compilers(trial)

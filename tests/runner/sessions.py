@@ -1,0 +1,67 @@
+"""Commands on files, with all that they write: the cases in tests/runs, and the sessions that documents show."""
+import os
+import re
+import shlex
+
+from runner.trial import TESTS, read
+
+
+class Command:
+    """A command's words, the lines that it is to write to standard output and error, and its status."""
+
+    def __init__(self, words):
+        self.words, self.out, self.err, self.status = words, [], [], 0
+
+
+def add_line(commands, line):
+    """Takes a line of a session."""
+    if line.startswith("$ tapa"):
+        commands.append(Command(shlex.split(line)[2:]))
+    elif line.startswith("! "):
+        commands[-1].err.append(line[2:])
+    elif re.fullmatch(r"\[\d+\]", line):
+        commands[-1].status = int(line[1:-1])
+    elif line:
+        commands[-1].out.append(line)
+
+
+def cases(path):
+    """Each case of a file: its name, its files, and its commands."""
+    for text in re.split(r"^=== ", read(path), flags=re.M)[1:]:
+        name, *lines = text.split("\n")
+        files, commands, file = {}, [], None
+        for line in lines:
+            if line.startswith("---"):
+                file = line[len("--- "):] or None
+                if file:
+                    files[file] = ""
+            elif file:
+                files[file] += line + "\n"
+            else:
+                add_line(commands, line)
+        yield name, files, commands
+
+
+def text_of(lines):
+    return "".join(line + "\n" for line in lines).encode()
+
+
+def try_command(trial, name, command, folder=None):
+    said = trial.run(command.words, folder)
+    wanted = (command.status, text_of(command.out), text_of(command.err))
+    told = f"   wanted:\n      status {command.status}\n{text_of(command.out + command.err).decode()}   got:\n      {said}"
+    trial.check(f"{name}: tapa {' '.join(command.words)}", (said.status, said.out, said.err) == wanted, told)
+
+
+def try_all(trial):
+    folder = os.path.join(TESTS, "runs")
+    for file in sorted(os.listdir(folder)):
+        if file.endswith(".cases"):
+            for name, files, commands in cases(f"tests/runs/{file}"):
+                for path, text in files.items():
+                    trial.put(path, text)
+                trial.check(f"{name} has a command", commands)
+                for command in commands:
+                    try_command(trial, name, command)
+                for path in files:
+                    os.remove(os.path.join(trial.folder.name, path))

@@ -1,0 +1,109 @@
+"""A built program, and what has been found of it."""
+import os
+import subprocess
+import sys
+import tempfile
+
+ROOT = os.path.dirname(os.path.dirname(os.path.dirname(os.path.abspath(__file__))))
+TESTS = os.path.join(ROOT, "tests")
+
+# The most seconds of one command.
+SECONDS = 120
+
+
+def read(path):
+    """The text of a file of the repository."""
+    with open(os.path.join(ROOT, path), encoding="utf-8") as file:
+        return file.read()
+
+
+class Said:
+    """What a command answered."""
+
+    def __init__(self, status, out, err):
+        self.status, self.out, self.err = status, out, err
+
+    def __str__(self):
+        out, err = (part.decode("utf-8", "replace") for part in (self.out, self.err))
+        return f"status {self.status}\n{shorten(out)}{shorten(err)}"
+
+
+def shorten(text):
+    """At most some twenty lines of a text, and the front of each."""
+    lines = text.splitlines()
+    more = [f".. {len(lines) - 20} more lines"] if len(lines) > 20 else []
+    return "".join(f"      {line[:200]}\n" for line in lines[:20] + more)
+
+
+class Trial:
+    def __init__(self, program, is_whole=True):
+        self.program = os.path.abspath(program)
+        self.is_whole = is_whole
+        self.passed, self.failed = 0, 0
+        self.group, self.group_passed = "", 0
+        # every line of standard error that the program wrote
+        self.lines = set()
+        self.folder = tempfile.TemporaryDirectory(prefix="tapa-tests-")
+
+    def begin(self, group):
+        self.group = group
+
+    def end(self):
+        self.folder.cleanup()
+        print(f"{self.passed} passed, {self.failed} failed")
+        return 1 if self.failed else 0
+
+    def check(self, name, holds, told=""):
+        """Counts a case, and prints it where it fails."""
+        if holds:
+            self.passed += 1
+        else:
+            self.failed += 1
+            print(f"FAILED {self.group}: {name}\n{told}".rstrip(), flush=True)
+
+    def check_equal(self, name, got, wanted):
+        self.check(name, got == wanted, f"   wanted:\n{shorten(str(wanted))}   got:\n{shorten(str(got))}")
+
+    def note(self, text):
+        """Says what could not be tried here, so that nothing is skipped in silence."""
+        print(f"NOTE {self.group}: {text}", file=sys.stderr, flush=True)
+
+    def put(self, name, text):
+        """Writes a file of the trial's own folder."""
+        path = os.path.join(self.folder.name, name)
+        with open(path, "wb") as file:
+            file.write(text if isinstance(text, bytes) else text.encode())
+        return path
+
+    def run(self, words, folder=None, stdout=subprocess.PIPE, stderr=subprocess.PIPE, before=None):
+        """Runs the program with these words, in the trial's own folder if no other is given."""
+        try:
+            ran = subprocess.run(
+                [self.program, *words],
+                cwd=folder or self.folder.name,
+                stdin=subprocess.DEVNULL,
+                stdout=stdout,
+                stderr=stderr,
+                timeout=SECONDS,
+                preexec_fn=before,
+                restore_signals=False,
+            )
+        except subprocess.TimeoutExpired:
+            return Said("none: it had not ended", b"", b"")
+        said = Said(ran.returncode, ran.stdout or b"", ran.stderr or b"")
+        self.lines.update(said.err.decode("utf-8", "replace").splitlines())
+        return said
+
+    def told(self, source, top="T", steps="100000"):
+        """What is told of a source: `CODE LINE:COL`, with the limit for C11, or `accepted`."""
+        self.put("r.cpp", source)
+        said = self.run(["run", "r.cpp", top, "--steps", steps])
+        err = said.err.decode("utf-8", "replace")
+        if said.status == 1 and said.out == b"" and err.count("\n") == 1 and err.startswith("tapa: r.cpp:"):
+            line, col, text = err[len("tapa: r.cpp:"):-1].split(":", 2)
+            words = text.split()
+            code = f"C11 {words[-1]}" if words[0] == "C11" else words[0]
+            return f"{code} {line}:{col}"
+        if said.status == 3 and err.startswith("tapa: {}: J2 ") or said.status in (0, 7, 8):
+            return "accepted"
+        return str(said)

@@ -1,0 +1,3 @@
+void F() { }
+void T() { tapa::task().invoke(F); }
+@
