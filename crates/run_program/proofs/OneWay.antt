@@ -23,10 +23,10 @@ use Rattle.kahn_model.proofs.Standing.{stand_one_way}
 use Rattle.kahn_model.proofs.WellFormed.{program_network}
 use Rattle.run_data.specs.Report.{last_line}
 use Rattle.run_data.specs.declared.lines.Last.{Last}
-use Rattle.run_data.specs.declared.lines.Last.TheVariants.{Done, Stopped}
-use Rattle.run_program.specs.Laws.{RunMeaning, Ends, Stops, Exceeds, Runs}
-use Rattle.run_program.specs.Run.{Values, network, ticks_of, stream_lines, memory_lines, lines_at, report_of, label_of, read_line, write_line, bad_line, IsWaitLine, AreWaitLines, RunsToEnd, StopsShort, RunsPast}
-use Rattle.run_program.proofs.Running.{size_of, runs_to_end, stops_short}
+use Rattle.run_data.specs.declared.lines.Last.TheVariants as last_line_of
+use Rattle.run_program.specs.Laws.{RunMeaning, Done, Stopped, Limit, Runs}
+use Rattle.run_program.specs.Run.{Values, network, ticks_of, stream_lines, memory_lines, lines_at, report_of, label_of, read_line, write_line, bad_line, IsWaitLine, AreWaitLines, DoneRun, StoppedRun, LimitRun}
+use Rattle.run_program.proofs.Running.{size_of, done_run, stopped_run}
 
 -- ---- the same lines of waiting instances, whose labels alone are shown
 
@@ -40,7 +40,7 @@ not_nil : {A : Type 0} (y : A) (ys : List A) → [] ≡ (y ∷ ys) → ⊥
 not_nil y ys e = cc
 
 module _ (net : Network) (k : ℕ → ℕ) (streams : List Stream) where
-  relabelled : (i : ℕ) (xs ys : List Instance) (text : List ℕ) → map flat_instance xs ≡ map flat_instance ys → AreWaitLines net k streams i xs text → AreWaitLines net k streams i ys text
+  relabelled : (i : ℕ) (xs ys : List Instance) (text : List (List ℕ)) → map flat_instance xs ≡ map flat_instance ys → AreWaitLines net k streams i xs text → AreWaitLines net k streams i ys text
   relabelled i [] [] text e h = h
   relabelled i [] (y ∷ ys) text e h = absurd (not_nil (flat_instance y) (map flat_instance ys) e)
   relabelled i (x ∷ xs) [] text e h = absurd (not_nil (flat_instance x) (map flat_instance xs) (sym e))
@@ -104,27 +104,27 @@ module _ (p q : Program) (same : flat_program p ≡ flat_program q) (values : Va
       ∙ ap (λ (net : Network). lines_at q values k ++ last_line (last (total net.size k))) networks
 
   pub runs_alike : (limit : ℕ) (m : RunMeaning) → Runs p values limit m → Runs q values limit m
-  runs_alike limit (Ends report) h = record {
+  runs_alike limit (Done report) h = record {
     count = h.count;
     done = subst (λ (net : Network). IsDone net h.count) networks h.done;
     within = subst (λ (net : Network). total net.size h.count ≤ limit) networks h.within;
     whole = λ s l.
         subst (λ (net : Network). IsKahnStream net s (written net h.count s)) networks
         (h.whole s (subst (λ (ss : List Stream). s < length ss) (sym same_streams) l));
-    shown = h.shown ∙ reports h.count Done;
+    shown = h.shown ∙ reports h.count last_line_of.Done;
   }
-  runs_alike limit (Stops report lines) h = record {
+  runs_alike limit (Stopped report lines) h = record {
     count = h.count;
     stopped = subst (λ (net : Network). IsStopped net h.count) networks h.stopped;
     within = subst (λ (net : Network). total net.size h.count ≤ limit) networks h.within;
-    shown = h.shown ∙ reports h.count Stopped;
+    shown = h.shown ∙ reports h.count last_line_of.Stopped;
     waits = relabelled (network q values) h.count q.streams.items 0 p.instances.items q.instances.items lines instances
         (subst (λ (ss : List Stream). AreWaitLines (network q values) h.count ss 0 p.instances.items lines) same_streams
         (subst (λ (net : Network). AreWaitLines net h.count p.streams.items 0 p.instances.items lines) networks h.waits));
   }
-  runs_alike limit Exceeds h = subst (λ (net : Network). (k : ℕ → ℕ) → IsEnding net k → limit < total net.size k) networks h
+  runs_alike limit Limit h = subst (λ (net : Network). (k : ℕ → ℕ) → IsEnding net k → limit < total net.size k) networks h
 
--- ---- the lines of waiting instances are one text
+-- ---- the lines of waiting instances are one list
 
 -- the line that tells how an instance stands
 abbrev line_at : List Stream → List ℕ → Standing → List ℕ
@@ -167,24 +167,24 @@ module _ (net : Network) (ok : IsNetwork net) (k : ℕ → ℕ) (reach : IsReach
       let a = waits_at net k streams i label line h in
       a.goes_on (stand_one_way net ok k reach i inside over a.standing e a.so)
 
-  pub one_text : (i : ℕ) (xs : List Instance) → i + length xs ≤ net.size → (t u : List ℕ) → AreWaitLines net k streams i xs t → AreWaitLines net k streams i xs u → t ≡ u
-  one_text i [] few t u h g = h ∙ sym g
-  one_text i (x ∷ xs) few t u h g =
+  pub one_list : (i : ℕ) (xs : List Instance) → i + length xs ≤ net.size → (t u : List (List ℕ)) → AreWaitLines net k streams i xs t → AreWaitLines net k streams i xs u → t ≡ u
+  one_list i [] few t u h g = h ∙ sym g
+  one_list i (x ∷ xs) few t u h g =
       let inside : i < net.size = omega arith in
       let later : suc i + length xs ≤ net.size = omega arith in
       ⊎_elim
       (λ (a : HasEnded net k i × AreWaitLines net k streams (suc i) xs t).
       ⊎_elim
-      (λ (b : HasEnded net k i × AreWaitLines net k streams (suc i) xs u). one_text (suc i) xs later t u a.1 b.1)
-      (λ (b : (line : List ℕ) × (more : List ℕ) × (u ≡ line ++ more) × IsWaitLine net k streams i x.label line × AreWaitLines net k streams (suc i) xs more). absurd (not_over i inside x.label b.0 a.0 b.3))
+      (λ (b : HasEnded net k i × AreWaitLines net k streams (suc i) xs u). one_list (suc i) xs later t u a.1 b.1)
+      (λ (b : (line : List ℕ) × (more : List (List ℕ)) × (u ≡ line ∷ more) × IsWaitLine net k streams i x.label line × AreWaitLines net k streams (suc i) xs more). absurd (not_over i inside x.label b.0 a.0 b.3))
       g)
-      (λ (a : (line : List ℕ) × (more : List ℕ) × (t ≡ line ++ more) × IsWaitLine net k streams i x.label line × AreWaitLines net k streams (suc i) xs more).
+      (λ (a : (line : List ℕ) × (more : List (List ℕ)) × (t ≡ line ∷ more) × IsWaitLine net k streams i x.label line × AreWaitLines net k streams (suc i) xs more).
       ⊎_elim
       (λ (b : HasEnded net k i × AreWaitLines net k streams (suc i) xs u). absurd (not_over i inside x.label a.0 b.0 a.3))
-      (λ (b : (line : List ℕ) × (more : List ℕ) × (u ≡ line ++ more) × IsWaitLine net k streams i x.label line × AreWaitLines net k streams (suc i) xs more).
+      (λ (b : (line : List ℕ) × (more : List (List ℕ)) × (u ≡ line ∷ more) × IsWaitLine net k streams i x.label line × AreWaitLines net k streams (suc i) xs more).
       a.2
-      ∙ ap (λ (l : List ℕ). l ++ a.1) (one_line i inside x.label a.0 b.0 a.3 b.3)
-      ∙ ap (λ (m : List ℕ). b.0 ++ m) (one_text (suc i) xs later a.1 b.1 a.4 b.4)
+      ∙ ap (λ (l : List ℕ). l ∷ a.1) (one_line i inside x.label a.0 b.0 a.3 b.3)
+      ∙ ap (λ (m : List (List ℕ)). b.0 ∷ m) (one_list (suc i) xs later a.1 b.1 a.4 b.4)
       ∙ sym b.2)
       g)
       h
@@ -199,13 +199,13 @@ module _ (net : Network) (ok : IsNetwork net) (k : ℕ → ℕ) (ending : IsEndi
     | inr (inr a) ↦ (bad_line label (label_of streams a.0), (a.0, inr (inr (a.1, refl))))
   ]
 
-  pub some_text : (i : ℕ) (xs : List Instance) → i + length xs ≤ net.size → (t : List ℕ) × AreWaitLines net k streams i xs t
-  some_text i [] few = ([], refl)
-  some_text i (x ∷ xs) few =
-      let later = some_text (suc i) xs (omega arith) in
+  pub some_list : (i : ℕ) (xs : List Instance) → i + length xs ≤ net.size → (t : List (List ℕ)) × AreWaitLines net k streams i xs t
+  some_list i [] few = ([], refl)
+  some_list i (x ∷ xs) few =
+      let later = some_list (suc i) xs (omega arith) in
       ⊎_elim
       (λ (e : HasEnded net k i). (later.0, inl (e, later.1)))
-      (λ (d : HasEnded net k i → ⊥). let l = line_of i x.label (waits net ok k ending i (omega arith) d) in (l.0 ++ later.0, inr (l.0, later.0, refl, l.1, later.1)))
+      (λ (d : HasEnded net k i → ⊥). let l = line_of i x.label (waits net ok k ending i (omega arith) d) in (l.0 ∷ later.0, inr (l.0, later.0, refl, l.1, later.1)))
       (has_ended net k i)
 
 -- ---- a program runs in one way
@@ -220,51 +220,51 @@ module _ (p : Program) (w : IsWellFormed p) (values : Values) (limit : ℕ) wher
   all_inside : 0 + length p.instances.items ≤ (network p values).size
   all_inside = omega (arith, size_of p values)
 
-  one_report : (report other : List ℕ) → RunsToEnd p values limit report → RunsToEnd p values limit other → report ≡ other
+  one_report : (report other : List ℕ) → DoneRun p values limit report → DoneRun p values limit other → report ≡ other
   one_report report other a b =
-      a.shown ∙ ap (λ (k : ℕ → ℕ). report_of p values k (Done (ticks_of p values k))) (one_count a.count b.count a.done.ending b.done.ending) ∙ sym b.shown
+      a.shown ∙ ap (λ (k : ℕ → ℕ). report_of p values k (last_line_of.Done (ticks_of p values k))) (one_count a.count b.count a.done.ending b.done.ending) ∙ sym b.shown
 
-  one_stop : (report other lines rows : List ℕ) → StopsShort p values limit report lines → StopsShort p values limit other rows → (report ≡ other) × (lines ≡ rows)
+  one_stop : (report other : List ℕ) (lines rows : List (List ℕ)) → StoppedRun p values limit report lines → StoppedRun p values limit other rows → (report ≡ other) × (lines ≡ rows)
   one_stop report other lines rows a b =
       let same = one_count a.count b.count a.stopped.ending b.stopped.ending in (
-        a.shown ∙ ap (λ (k : ℕ → ℕ). report_of p values k (Stopped (ticks_of p values k))) same ∙ sym b.shown,
-        one_text (network p values) net_ok b.count b.stopped.ending.reachable p.streams.items 0 p.instances.items all_inside lines rows
+        a.shown ∙ ap (λ (k : ℕ → ℕ). report_of p values k (last_line_of.Stopped (ticks_of p values k))) same ∙ sym b.shown,
+        one_list (network p values) net_ok b.count b.stopped.ending.reachable p.streams.items 0 p.instances.items all_inside lines rows
             (subst (λ (k : ℕ → ℕ). AreWaitLines (network p values) k p.streams.items 0 p.instances.items lines) same a.waits) b.waits,
       )
 
-  ends_stops : (report other lines : List ℕ) → RunsToEnd p values limit report → StopsShort p values limit other lines → ⊥
+  ends_stops : (report other : List ℕ) (lines : List (List ℕ)) → DoneRun p values limit report → StoppedRun p values limit other lines → ⊥
   ends_stops report other lines ends stops =
       let same = one_count ends.count stops.count ends.done.ending stops.stopped.ending in
       stops.stopped.goes_on (subst (λ (k : ℕ → ℕ). HasEnded (network p values) k stops.stopped.instance) same (ends.done.ended stops.stopped.instance stops.stopped.inside))
 
-  past_ends : (report : List ℕ) → RunsPast p values limit → RunsToEnd p values limit report → ⊥
+  past_ends : (report : List ℕ) → LimitRun p values limit → DoneRun p values limit report → ⊥
   past_ends report past ends = let a = past ends.count ends.done.ending in let b = ends.within in omega arith
 
-  past_stops : (report lines : List ℕ) → RunsPast p values limit → StopsShort p values limit report lines → ⊥
+  past_stops : (report : List ℕ) (lines : List (List ℕ)) → LimitRun p values limit → StoppedRun p values limit report lines → ⊥
   past_stops report lines past stops = let a = past stops.count stops.stopped.ending in let b = stops.within in omega arith
 
   pub one_way : (m n : RunMeaning) → Runs p values limit m → Runs p values limit n → m ≡ n
-  one_way (Ends report) (Ends other) a b = ap Ends (one_report report other a b)
-  one_way (Ends report) (Stops other lines) a b = absurd (ends_stops report other lines a b)
-  one_way (Ends report) Exceeds a b = absurd (past_ends report b a)
-  one_way (Stops report lines) (Ends other) a b = absurd (ends_stops other report lines b a)
-  one_way (Stops report lines) (Stops other rows) a b =
+  one_way (Done report) (Done other) a b = ap Done (one_report report other a b)
+  one_way (Done report) (Stopped other lines) a b = absurd (ends_stops report other lines a b)
+  one_way (Done report) Limit a b = absurd (past_ends report b a)
+  one_way (Stopped report lines) (Done other) a b = absurd (ends_stops other report lines b a)
+  one_way (Stopped report lines) (Stopped other rows) a b =
       let both = one_stop report other lines rows a b in
-      ap (λ (r : List ℕ). Stops r lines) both.0 ∙ ap (Stops other) both.1
-  one_way (Stops report lines) Exceeds a b = absurd (past_stops report lines b a)
-  one_way Exceeds (Ends other) a b = absurd (past_ends other a b)
-  one_way Exceeds (Stops other rows) a b = absurd (past_stops other rows a b)
-  one_way Exceeds Exceeds a b = refl
+      ap (λ (r : List ℕ). Stopped r lines) both.0 ∙ ap (Stopped other) both.1
+  one_way (Stopped report lines) Limit a b = absurd (past_stops report lines b a)
+  one_way Limit (Done other) a b = absurd (past_ends other a b)
+  one_way Limit (Stopped other rows) a b = absurd (past_stops other rows a b)
+  one_way Limit Limit a b = refl
 
   pub some_way : (m : RunMeaning) × Runs p values limit m
   some_way =
       ⊎_elim
-      (λ (e : EndsWithin (network p values) limit). (Ends _, runs_to_end p values w (network p values) refl e.0 (ticks_of p values e.0) limit refl e.2 e.1))
+      (λ (e : EndsWithin (network p values) limit). (Done _, done_run p values w (network p values) refl e.0 (ticks_of p values e.0) limit refl e.2 e.1))
       (λ (o : StopsWithin (network p values) limit ⊎ GoesPast (network p values) limit).
       ⊎_elim
       (λ (s : StopsWithin (network p values) limit).
-      let t = some_text (network p values) net_ok s.0 s.1.ending p.streams.items 0 p.instances.items all_inside in
-      (Stops _ t.0, stops_short p values w (network p values) refl s.0 (ticks_of p values s.0) limit refl s.2 s.1 t.0 t.1))
-      (λ (g : GoesPast (network p values) limit). (Exceeds, g))
+      let t = some_list (network p values) net_ok s.0 s.1.ending p.streams.items 0 p.instances.items all_inside in
+      (Stopped _ t.0, stopped_run p values w (network p values) refl s.0 (ticks_of p values s.0) limit refl s.2 s.1 t.0 t.1))
+      (λ (g : GoesPast (network p values) limit). (Limit, g))
       o)
       (three_ways (network p values) net_ok limit)

@@ -22,7 +22,7 @@ use Rattle.net_core.specs.declared.outcome.Outcome.TheVariants as outcome
 use Rattle.run_program.specs.Fresh.{IsFresh}
 use Rattle.run_data.specs.Report.{last_line}
 use Rattle.run_data.specs.declared.lines.Last.TheVariants.{Done, Stopped}
-use Rattle.run_program.specs.Run.{Values, values_of, network, ticks_of, lines_at, AreWaitLines, RunsToEnd, StopsShort, RunsPast}
+use Rattle.run_program.specs.Run.{Values, values_of, network, ticks_of, lines_at, AreWaitLines, DoneRun, StoppedRun, LimitRun}
 
 -- the net's network is the program's on its input
 pub network_is : (program : Program) (input : Input) (net : NetState) → net.program ≡ program → net.input ≡ input → state.network net ≡ network program (values_of input)
@@ -56,8 +56,8 @@ module _ (program : Program) (values : Values) (w : IsWellFormed program) (N : N
   within : ticks_of program values k ≤ limit
   within = subst (λ (n : ℕ). n ≤ limit) t_is few
 
-  pub runs_to_end : IsDone N k → RunsToEnd program values limit (lines_at program values k ++ last_line (Done t))
-  runs_to_end d =
+  pub done_run : IsDone N k → DoneRun program values limit (lines_at program values k ++ last_line (Done t))
+  done_run d =
       let done : IsDone (network program values) k = subst (λ (M : Network). IsDone M k) same d in
       record {
         count = k;
@@ -69,8 +69,8 @@ module _ (program : Program) (values : Values) (w : IsWellFormed program) (N : N
         shown = ap (λ (n : ℕ). lines_at program values k ++ last_line (Done n)) t_is;
       }
 
-  pub stops_short : IsStopped N k → (lines : List ℕ) → AreWaitLines N k program.streams.items 0 program.instances.items lines → StopsShort program values limit (lines_at program values k ++ last_line (Stopped t)) lines
-  stops_short d lines waits = record {
+  pub stopped_run : IsStopped N k → (lines : List (List ℕ)) → AreWaitLines N k program.streams.items 0 program.instances.items lines → StoppedRun program values limit (lines_at program values k ++ last_line (Stopped t)) lines
+  stopped_run d lines waits = record {
     count = k;
     stopped = subst (λ (M : Network). IsStopped M k) same d;
     within = within;
@@ -78,22 +78,22 @@ module _ (program : Program) (values : Values) (w : IsWellFormed program) (N : N
     waits = subst (λ (M : Network). AreWaitLines M k program.streams.items 0 program.instances.items lines) same waits;
   }
 
-pub runs_past : (program : Program) (values : Values) (N : Network) → N ≡ network program values → (limit : ℕ) → ((m : ℕ → ℕ) → IsEnding N m → limit < total N.size m) → RunsPast program values limit
-runs_past program values N same limit h = subst (λ (M : Network). (m : ℕ → ℕ) → IsEnding M m → limit < total M.size m) same h
+pub limit_run : (program : Program) (values : Values) (N : Network) → N ≡ network program values → (limit : ℕ) → ((m : ℕ → ℕ) → IsEnding N m → limit < total N.size m) → LimitRun program values limit
+limit_run program values N same limit h = subst (λ (M : Network). (m : ℕ → ℕ) → IsEnding M m → limit < total M.size m) same h
 
 module _ (program : Program) (input : Input) (old new : NetState) (limit : ℕ) (o : Outcome) (fresh : IsFresh program input old) (p : new.program ≡ old.program) (n : new.input ≡ old.input) where
   same_network : state.network new ≡ network program (values_of input)
   same_network = network_is program input new (p ∙ fresh.program_is) (n ∙ fresh.input_is)
 
-  pub done_report : (t : ℕ) → EndsAs new limit o → o ≡ outcome.Done t → RunsToEnd program (values_of input) limit (lines_at program (values_of input) (state.count new) ++ last_line (Done t))
+  pub done_report : (t : ℕ) → EndsAs new limit o → o ≡ outcome.Done t → DoneRun program (values_of input) limit (lines_at program (values_of input) (state.count new) ++ last_line (Done t))
   done_report t ends is =
       let e : EndsAs new limit (outcome.Done t) = subst (λ (x : Outcome). EndsAs new limit x) is ends in
-      runs_to_end program (values_of input) fresh.well_formed (state.network new) same_network (state.count new) t limit e.1 e.2 e.0
+      done_run program (values_of input) fresh.well_formed (state.network new) same_network (state.count new) t limit e.1 e.2 e.0
 
-  pub stopped_report : (t : ℕ) → EndsAs new limit o → o ≡ outcome.Stopped t → (lines : List ℕ) → AreWaitLines (state.network new) (state.count new) program.streams.items 0 program.instances.items lines → StopsShort program (values_of input) limit (lines_at program (values_of input) (state.count new) ++ last_line (Stopped t)) lines
+  pub stopped_report : (t : ℕ) → EndsAs new limit o → o ≡ outcome.Stopped t → (lines : List (List ℕ)) → AreWaitLines (state.network new) (state.count new) program.streams.items 0 program.instances.items lines → StoppedRun program (values_of input) limit (lines_at program (values_of input) (state.count new) ++ last_line (Stopped t)) lines
   stopped_report t ends is lines waits =
       let e : EndsAs new limit (outcome.Stopped t) = subst (λ (x : Outcome). EndsAs new limit x) is ends in
-      stops_short program (values_of input) fresh.well_formed (state.network new) same_network (state.count new) t limit e.1 e.2 e.0 lines waits
+      stopped_run program (values_of input) fresh.well_formed (state.network new) same_network (state.count new) t limit e.1 e.2 e.0 lines waits
 
-  pub limit_past : EndsAs new limit o → o ≡ outcome.Limit → RunsPast program (values_of input) limit
-  limit_past ends is = runs_past program (values_of input) (state.network new) same_network limit (subst (λ (x : Outcome). EndsAs new limit x) is ends)
+  pub limit_past : EndsAs new limit o → o ≡ outcome.Limit → LimitRun program (values_of input) limit
+  limit_past ends is = limit_run program (values_of input) (state.network new) same_network limit (subst (λ (x : Outcome). EndsAs new limit x) is ends)

@@ -1,27 +1,31 @@
 -- How a run leaves the output.
-use Rattle.std.specs.Prelude.{◌≡◌, ◌⊎◌, ℕ, List, Option, Vec}
+use Rattle.std.specs.Prelude.{◌≡◌, ◌⊎◌, ℕ, List, Option, map, Vec}
 use Rattle.std.specs.List.{flat_map}
 use Rattle.std.specs.declared.alloc.Global.{Global}
 use Rattle.std.specs.Io.KnownBytes.{Appends}
 use Rattle.tapa_base.specs.Outside.{AppendsPart}
 use Rattle.tapa_syntax.specs.declared.program.Program.{Program}
-use Rattle.run_program.specs.Run.{Values, RunsToEnd, StopsShort, RunsPast}
+use Rattle.run_program.specs.Run.{Values, DoneRun, StoppedRun, LimitRun}
 use Rattle.run_program.specs.declared.run.RunEnd.{RunEnd}
 use Rattle.run_program.specs.declared.run.RunEnd.TheVariants.{Done, Stopped, Limit}
 
+-- the lines that vectors hold
+abbrev pub lines_in : List (Vec ℕ Global) → List (List ℕ)
+lines_in vectors = map (λ (line : Vec ℕ Global). line.items) vectors
+
 -- lines one after another
-abbrev pub joined : List (Vec ℕ Global) → List ℕ
-joined lines = flat_map (λ (line : Vec ℕ Global). line.items) lines
+abbrev pub joined : List (List ℕ) → List ℕ
+joined lines = flat_map (λ (line : List ℕ). line) lines
 
 -- the run ended in this way, and its report was written; where it passed its limit nothing was
 abbrev pub EndsSo : Program → Values → ℕ → Option (List ℕ) → Option (List ℕ) → RunEnd → Type 0
-EndsSo program values limit old new Done = (report : List ℕ) × RunsToEnd program values limit report × Appends old new report
-EndsSo program values limit old new (Stopped lines) = (report : List ℕ) × StopsShort program values limit report (joined lines.items) × Appends old new report
-EndsSo program values limit old new Limit = RunsPast program values limit × (new ≡ old)
+EndsSo program values limit old new Done = (report : List ℕ) × DoneRun program values limit report × Appends old new report
+EndsSo program values limit old new (Stopped lines) = (report : List ℕ) × StoppedRun program values limit report (lines_in lines.items) × Appends old new report
+EndsSo program values limit old new Limit = LimitRun program values limit × (new ≡ old)
 
 -- a report of a run of the program
 abbrev pub IsReportOf : Program → Values → ℕ → List ℕ → Type 0
-IsReportOf program values limit report = RunsToEnd program values limit report ⊎ ((lines : List ℕ) × StopsShort program values limit report lines)
+IsReportOf program values limit report = DoneRun program values limit report ⊎ ((lines : List (List ℕ)) × StoppedRun program values limit report lines)
 
 -- nothing was written, or a front part of a report
 abbrev pub HasPart : Program → Values → ℕ → Option (List ℕ) → Option (List ℕ) → Type 0

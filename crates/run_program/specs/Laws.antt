@@ -3,19 +3,19 @@ use Rattle.std.specs.Prelude.{◌≡◌, ℕ, List}
 use Rattle.tapa_syntax.specs.declared.program.Program.{Program}
 use Rattle.tapa_syntax.specs.Flat.{flat_program}
 use Rattle.tapa_syntax.specs.WellFormed.{IsWellFormed}
-use Rattle.run_program.specs.Run.{Values, RunsToEnd, StopsShort, RunsPast}
+use Rattle.run_program.specs.Run.{Values, DoneRun, StoppedRun, LimitRun}
 
--- how a run goes: it ends with this report; it stops with this report, where these lines tell what its instances wait for;
--- or it makes more ticks than it may, or never ends
+-- how a run goes: it ends with this report; it stops with this report, where each line tells what an instance waits for; or
+-- it makes more ticks than it may, or never ends
 pub data RunMeaning : Type 0 where
-  Ends : (report : List ℕ) → RunMeaning
-  Stops : (report lines : List ℕ) → RunMeaning
-  Exceeds : RunMeaning
+  Done : (report : List ℕ) → RunMeaning
+  Stopped : (report : List ℕ) (lines : List (List ℕ)) → RunMeaning
+  Limit : RunMeaning
 
 abbrev pub Runs : Program → Values → ℕ → RunMeaning → Type 0
-Runs program values limit (Ends report) = RunsToEnd program values limit report
-Runs program values limit (Stops report lines) = StopsShort program values limit report lines
-Runs program values limit Exceeds = RunsPast program values limit
+Runs program values limit (Done report) = DoneRun program values limit report
+Runs program values limit (Stopped report lines) = StoppedRun program values limit report lines
+Runs program values limit Limit = LimitRun program values limit
 
 -- of two programs that are one as plain data, one runs as the other does
 abbrev pub ProgramsRunAlike : Type 0

@@ -1,5 +1,5 @@
 -- The line that an instance's last pause gives.
-use Rattle.std.specs.Prelude.{ℕ, List, [], Option, Some, None, unwrap_or, slice_index}
+use Rattle.std.specs.Prelude.{ℕ, List, [], ◌∷◌, Option, Some, None, slice_index}
 use Rattle.tapa_syntax.specs.declared.program.Instance.{Instance}
 use Rattle.tapa_syntax.specs.declared.program.Stream.{Stream}
 use Rattle.net_core.specs.declared.body.Pause.{Pause}
@@ -18,7 +18,12 @@ pause_line streams x (WantsRead p) = Some (read_line x.label (bound_label stream
 pause_line streams x (WantsWrite p) = Some (write_line x.label (bound_label streams x p))
 pause_line streams x (BadToken p) = Some (bad_line x.label (bound_label streams x p))
 
--- the same of one that may not have been resumed
-abbrev pub last_pause_text : List Stream → Instance → Option Pause → List ℕ
-last_pause_text streams x None = []
-last_pause_text streams x (Some pause) = unwrap_or (pause_line streams x pause) []
+-- a line, or none
+abbrev pub in_list : Option (List ℕ) → List (List ℕ)
+in_list None = []
+in_list (Some line) = line ∷ []
+
+-- the lines of an instance that may not have been resumed
+abbrev pub last_pause_lines : List Stream → Instance → Option Pause → List (List ℕ)
+last_pause_lines streams x None = []
+last_pause_lines streams x (Some pause) = in_list (pause_line streams x pause)

@@ -86,17 +86,17 @@ IsWaitLine net k streams i label line =
     ⊎ ((WaitsToWrite net k i s × (line ≡ write_line label (label_of streams s))) ⊎ (HasBadToken net k i s × (line ≡ bad_line label (label_of streams s)))))
 
 -- the lines of the instances from number i on, in order, one for each that has not ended
-abbrev pub AreWaitLines : Network → (ℕ → ℕ) → List Stream → ℕ → List Instance → List ℕ → Type 0
-AreWaitLines net k streams i [] text = text ≡ []
-AreWaitLines net k streams i (x ∷ rest) text =
-    (HasEnded net k i × AreWaitLines net k streams (suc i) rest text)
-    ⊎ ((line : List ℕ) × (more : List ℕ) × (text ≡ line ++ more) × IsWaitLine net k streams i x.label line × AreWaitLines net k streams (suc i) rest more)
+abbrev pub AreWaitLines : Network → (ℕ → ℕ) → List Stream → ℕ → List Instance → List (List ℕ) → Type 0
+AreWaitLines net k streams i [] lines = lines ≡ []
+AreWaitLines net k streams i (x ∷ rest) lines =
+    (HasEnded net k i × AreWaitLines net k streams (suc i) rest lines)
+    ⊎ ((line : List ℕ) × (more : List (List ℕ)) × (lines ≡ line ∷ more) × IsWaitLine net k streams i x.label line × AreWaitLines net k streams (suc i) rest more)
 
 -- ---- how a run ends
 
 -- every instance ends, after at most so many ticks in all; the report shows all of each Kahn stream, and the last cells of
 -- each memory
-pub record RunsToEnd (program : Program) (values : Values) (limit : ℕ) (report : List ℕ) : Type 0 where
+pub record DoneRun (program : Program) (values : Values) (limit : ℕ) (report : List ℕ) : Type 0 where
   pub count : ℕ → ℕ
   pub done : IsDone (network program values) count
   pub within : ticks_of program values count ≤ limit
@@ -105,7 +105,7 @@ pub record RunsToEnd (program : Program) (values : Values) (limit : ℕ) (report
 
 -- no step is allowed and some instance has not ended, after at most so many ticks in all; the report shows what was
 -- written, and the lines tell what each such instance waits for
-pub record StopsShort (program : Program) (values : Values) (limit : ℕ) (report lines : List ℕ) : Type 0 where
+pub record StoppedRun (program : Program) (values : Values) (limit : ℕ) (report : List ℕ) (lines : List (List ℕ)) : Type 0 where
   pub count : ℕ → ℕ
   pub stopped : IsStopped (network program values) count
   pub within : ticks_of program values count ≤ limit
@@ -113,5 +113,5 @@ pub record StopsShort (program : Program) (values : Values) (limit : ℕ) (repor
   pub waits : AreWaitLines (network program values) count program.streams.items 0 program.instances.items lines
 
 -- the run makes more ticks than so many, or never ends
-abbrev pub RunsPast : Program → Values → ℕ → Type 0
-RunsPast program values limit = (k : ℕ → ℕ) → IsEnding (network program values) k → limit < ticks_of program values k
+abbrev pub LimitRun : Program → Values → ℕ → Type 0
+LimitRun program values limit = (k : ℕ → ℕ) → IsEnding (network program values) k → limit < ticks_of program values k

@@ -4,8 +4,8 @@ ghost use Rattle.std.specs.Arc.{arc_value};
 ghost use Rattle.tapa_syntax.specs.WellFormed.{IsWellFormed};
 ghost use Rattle.net_core.specs.State.{network, count};
 ghost use Rattle.net_core.specs.Settle.{AreTold};
-ghost use Rattle.run_program.specs.Ending.{joined};
-ghost use Rattle.run_program.specs.Pauses.{bound_label, pause_line, last_pause_text};
+ghost use Rattle.run_program.specs.Ending.{lines_in};
+ghost use Rattle.run_program.specs.Pauses.{bound_label, pause_line, last_pause_lines};
 ghost use Rattle.run_program.specs.Run.{label_of, wait_line, AreWaitLines};
 
 use net_core::{Body, Net, Pause};
@@ -99,7 +99,7 @@ fn push_wait(
     pause: Option<Pause>,
     lines: &mut Vec<Vec<u8>>,
 ) -> Result<(), AllocError>
-    ensures { OnOk result (joined lines.new.items ≡ joined lines.old.items ++ last_pause_text program.now.streams.items instance.now pause) }
+    ensures { OnOk result (lines_in lines.new.items ≡ lines_in lines.old.items ++ last_pause_lines program.now.streams.items instance.now pause) }
 {
     match pause {
         None => Ok(()),
@@ -122,7 +122,7 @@ pub fn wait_lines<B: Body>(
     requires program { program.now ≡ net.now.program }
     requires few { length program.now.instances.items ≤ 512 }
     requires told { AreTold net.now }
-    ensures { IfOk result (λ lines. AreWaitLines (network net.now) (count net.now) program.now.streams.items 0 program.now.instances.items (joined lines.items)) }
+    ensures { IfOk result (λ lines. AreWaitLines (network net.now) (count net.now) program.now.streams.items 0 program.now.instances.items (lines_in lines.items)) }
 {
     let mut lines = Vec::new(alloc);
     for i in 0..program.instances.len() {

@@ -75,7 +75,7 @@ fn slow_report(alloc: Global, text: &str) -> Result<MemSink, Fail> {
 fn run_report(alloc: Global, text: &str) -> Result<(bool, MemSink), Fail> {
     let program = read_program(alloc, short(text), "T")?;
     let mut out = MemSink::new(alloc, 4096, Vec::new(alloc))?;
-    let Ok(input) = read_input(alloc, &program, b"{}", "{}") else {
+    let Ok(input) = read_input(alloc, &program, b"{}") else {
         return Ok((false, out));
     };
     let end = run_program(alloc, program, input, 100_000, &mut out)?;

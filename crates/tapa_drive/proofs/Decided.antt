@@ -1,21 +1,19 @@
 -- Where nothing outside fails, the answer tells what the source means with its data, or want of memory.
-use Rattle.std.proofs.Common.{◌≡◌, ◌≢◌, ◌⊎◌, ◌≤◌, ◌<◌, ℕ, List, length, Option, Some, None, refl, sym, ◌∙◌, subst, inl, inr, ⊎_elim, arith}
-use Rattle.std.specs.Io.KnownBytes.{Appends}
+use Rattle.std.proofs.Common.{◌≡◌, ◌≢◌, ◌⊎◌, ◌≤◌, ◌<◌, ℕ, List, length, Option, Some, None, refl, sym, ap, ◌∙◌, subst, inl, inr, ⊎_elim, arith}
 use Rattle.tapa_base.specs.Outside.{Files, file_bytes, Rose}
 use Rattle.tapa_base.specs.Take.{IsLongerThan}
 use Rattle.tapa_words.specs.Words.{Run, command_of}
-use Rattle.run_program.specs.Laws.{Ends, Stops, Exceeds}
-use Rattle.tapa_drive.specs.Answer.{OfRun, OfTexts, HasProgram, HasBadData, HasRun, HasStopped, HasRunPast, IsReached, IsTooLong, IsRun, HasCause, Leaves}
-use Rattle.tapa_drive.specs.Decided.{SourceMeaning, Ran, Misgiven, Overlong, Nothing, Given, Bytes, TooMany, IsGiven, Means, Tells, IsStill, Expects, IsLengthy}
+use Rattle.run_program.specs.Laws as run
+use Rattle.tapa_drive.specs.Answer.{OfRun, OfTexts, HasProgram, HasBadData, HasDone, HasStopped, HasLimit, IsReached, IsTooLong, IsRun, HasCause, Leaves, IsAnswer}
+use Rattle.tapa_drive.specs.Decided.{SourceMeaning, Ran, Misgiven, Overlong, Refused, Given, Bytes, TooMany, IsGiven, Means, IsRefusedWith, Tells, WritesAll, NothingFails, Expects, IsLengthy}
 use Rattle.tapa_drive.specs.Files.{OfSource, OfData, source_limit, data_limit, shown_name}
-use Rattle.tapa_drive.specs.Refusal.{Reason, BadWords, Unread, Unwritten, Longer, Unfit, UnfitData, Endless, Blocked, NoMemory, message_of}
+use Rattle.tapa_drive.specs.Outside.{Outside, Written, outside}
+use Rattle.tapa_drive.specs.Refusal.{Refusal, Usage, Read, Write, TooLong, Source, Data, Ticks, Stopped, Memory}
 use Rattle.tapa_drive.specs.Source.{IsRefusedSource}
-use Rattle.tapa_drive.specs.Status.{status_of}
-use Rattle.tapa_drive.specs.Told.{IsToldAs}
+use Rattle.tapa_drive.specs.Told.{IsTold, IsToldAs}
 use Rattle.tapa_drive.specs.declared.status.Status.{Status}
 use Rattle.tapa_drive.specs.declared.status.Status.TheVariants as status
 use Rattle.tapa_drive.proofs.OneMeaning.{means_one}
-use Rattle.tapa_drive.proofs.Sourced.{means_nothing}
 
 -- a run that was asked for is the one that the words ask for
 asked_run : (words : List (List ℕ)) (source top : List ℕ) (named : Option (List ℕ)) (limit : ℕ) → command_of words ≡ Some (Run source top named limit) → (P : List ℕ → List ℕ → Option (List ℕ) → ℕ → Type 0) → OfRun words P → P source top named limit
@@ -28,12 +26,19 @@ asked_run words source top named limit asked P h =
     subst (λ (s : List ℕ). P s top named limit) one (subst (λ (t : List ℕ). P h.0 t named limit) two (subst (λ (d : Option (List ℕ)). P h.0 h.1 d limit) three (subst (λ (n : ℕ). P h.0 h.1 h.2 n) four h.5)))
 
 module _ (files : Files) where
+  -- what holds of the bytes of a source holds of those that are told
+  of_source : (source : List ℕ) (P : List ℕ → Type 0) → OfSource (Some files) source P → P (file_bytes files source)
+  of_source source P (text, is, few, h) = subst P is h
+
+  few_in : (source : List ℕ) (most : ℕ) (bytes : List ℕ) → bytes ≡ file_bytes files source → length bytes ≤ most → length (file_bytes files source) ≤ most
+  few_in source most bytes is few = subst (λ (l : List ℕ). length l ≤ most) is few
+
   -- the data that are given are those of which something holds
   of_given : (named : Option (List ℕ)) (given : Given) (P : List ℕ → Type 0) → IsGiven files named given → OfData (Some files) named P → (bytes : List ℕ) × (given ≡ Bytes bytes) × P bytes
   of_given None (Bytes bytes) P is h = (bytes, refl, subst P (sym is) h)
   of_given None TooMany P is h = absurd is
-  of_given (Some name) (Bytes bytes) P is h = (bytes, refl, subst P (sym is.0) h.1)
-  of_given (Some name) TooMany P is h = let few : length (file_bytes files name) ≤ data_limit = h.0 in absurd (omega (arith, is, few))
+  of_given (Some name) (Bytes bytes) P is (other, same, few, h) = (bytes, refl, subst P (same ∙ sym is.0) h)
+  of_given (Some name) TooMany P is (other, same, few, h) = let short = few_in name data_limit other same few in absurd (omega (arith, is, short))
 
   -- data that are too long are given as such
   too_many : (named : Option (List ℕ)) (given : Given) (name : List ℕ) → IsGiven files named given → named ≡ Some name → data_limit < length (file_bytes files name) → given ≡ TooMany
@@ -44,145 +49,158 @@ module _ (files : Files) where
       let few : length (file_bytes files name) ≤ data_limit = subst (λ (n : List ℕ). length (file_bytes files n) ≤ data_limit) same (subst (λ (l : List ℕ). length l ≤ data_limit) is.0 is.1) in
       absurd (omega (arith, few, long))
 
-module _ (words : List (List ℕ)) (files : Files) (source top : List ℕ) (named : Option (List ℕ)) (limit : ℕ) (asked : command_of words ≡ Some (Run source top named limit)) (within : length (file_bytes files source) ≤ source_limit) (given : Given) (is_given : IsGiven files named given) (reads_old reads_new : List ℕ → ℕ) (writes_old writes_new errors_old errors_new : ℕ) (still : IsStill source named reads_old reads_new writes_old writes_new errors_old errors_new) (old new errors_before errors_now : Option (List ℕ)) (expected : SourceMeaning) (means : Means (file_bytes files source) top given limit expected) (result : Status) where
-  abbrev text : List ℕ
-  text = file_bytes files source
-
-  abbrev IsAnswer : SourceMeaning → Type 0
-  IsAnswer m = Tells limit m result old new errors_before errors_now ⊎ (result ≡ status.Memory)
-
-  -- an answer that tells some meaning of the source tells the one that is expected
-  told_by : (m : SourceMeaning) → Means text top given limit m → Tells limit m result old new errors_before errors_now → IsAnswer expected
-  told_by m has tells = subst IsAnswer (means_one text top given limit m expected has means) (inl tells)
-
-  -- the same of a meaning with the bytes of the data
-  told_with : (m : SourceMeaning) (P : List ℕ → Type 0) → OfData (Some files) named P → ((bytes : List ℕ) → P bytes → Means text top (Bytes bytes) limit m) → Tells limit m result old new errors_before errors_now → IsAnswer expected
-  told_with m P h f tells =
-      let (bytes, same, p) = of_given files named given P is_given h in
-      told_by m (subst (λ (g : Given). Means text top g limit m) (sym same) (f bytes p)) tells
+module _ (words : List (List ℕ)) (files : Files) (reads : List ℕ → ℕ) (out errors : Written) (after : Outside) (source top : List ℕ) (named : Option (List ℕ)) (limit : ℕ) (asked : command_of words ≡ Some (Run source top named limit)) (still : NothingFails source named (outside (Some files) reads out errors) after) where
+  abbrev before : Outside
+  before = outside (Some files) reads out errors
 
   not_asked : command_of words ≡ None → ⊥
   not_asked h = let both : None ≡ Some (Run source top named limit) = sym h ∙ asked in cc
 
-  of_reason : (r : Reason) → HasCause words (Some files) reads_old reads_new writes_old writes_new old new r → Leaves words (Some files) old new r → result ≡ status_of r → Appends errors_before errors_now (message_of r) → IsAnswer expected
-  of_reason BadWords h leaves is lines = absurd (not_asked h)
-  of_reason (Unread file) h leaves is lines =
-      let c = asked_run words source top named limit asked (λ s t d n. IsReached (Some files) s t d file × Rose (reads_old file) (reads_new file)) h in
+  -- no read failed
+  no_read : (file : List ℕ) → HasCause words before after (Read file) → ⊥
+  no_read file h =
+      let c = asked_run words source top named limit asked (λ s t d n. IsReached (Some files) s t d file × Rose (reads file) (after.failed_reads file)) h in
       ⊎_elim
-      (λ (e : source ≡ file). absurd (still.read (subst (λ (f : List ℕ). Rose (reads_old f) (reads_new f)) (sym e) c.1)))
-      (λ (w : (named ≡ Some file) × OfSource (Some files) source (λ (t : List ℕ). HasProgram t top)). absurd (still.read_data file w.0 c.1))
+      (λ (e : source ≡ file). still.read (subst (λ (f : List ℕ). Rose (reads f) (after.failed_reads f)) (sym e) c.1))
+      (λ (w : (named ≡ Some file) × OfSource (Some files) source (λ (t : List ℕ). HasProgram t top)). still.read_data file w.0 c.1)
       c.0
-  of_reason Unwritten h leaves is lines = absurd (still.written h)
-  of_reason (Longer file most) h leaves is lines =
-      let c = asked_run words source top named limit asked (λ s t d n. IsTooLong (Some files) s t d file most) h in
-      ⊎_elim
-      (λ (w : (source ≡ file) × (most ≡ source_limit) × IsLongerThan (Some files) file source_limit).
-      let long : source_limit < length (file_bytes files source) = subst (λ (f : List ℕ). source_limit < length (file_bytes files f)) (sym w.0) w.2 in
-      absurd (omega (arith, long, within)))
-      (λ (w : (named ≡ Some file) × (most ≡ data_limit) × IsLongerThan (Some files) file data_limit × OfSource (Some files) source (λ (t : List ℕ). HasProgram t top)).
-      let many = too_many files named given file is_given w.0 w.2 in
-      told_by Overlong (subst (λ (g : Given). Means text top g limit Overlong) (sym many) (w.3.1.program, w.3.1.means, tt)) (is, leaves))
-      c
-  of_reason (Unfit file place code) h leaves is lines =
-      let c = asked_run words source top named limit asked (λ s t d n. (s ≡ file) × OfSource (Some files) file (λ text. IsRefusedSource text t place code)) h in
-      told_by Nothing (means_nothing text top place code (subst (λ (f : List ℕ). IsRefusedSource (file_bytes files f) top place code) (sym c.0) c.1.1)) (is, leaves)
-  of_reason (UnfitData file fault) h leaves is lines =
-      let c = asked_run words source top named limit asked (λ s t d n. (shown_name d ≡ file) × OfTexts (Some files) s d (λ text bytes. HasBadData text t bytes fault)) h in
-      told_with Misgiven (λ bytes. HasBadData text top bytes fault) c.1.1 (λ bytes b. (b.program, b.means, (fault, b.fault))) (is, leaves)
-  of_reason (Endless most) h leaves is lines =
-      let c = asked_run words source top named limit asked (λ s t d n. (most ≡ n) × OfTexts (Some files) s d (λ text bytes. HasRunPast text t bytes n)) h in
-      told_with (Ran Exceeds) (λ bytes. HasRunPast text top bytes limit) c.1.1 (λ bytes r. (r.program, r.values, r.asked, r.past)) (is, leaves, subst (λ n. Appends errors_before errors_now (message_of (Endless n))) c.0 lines)
-  of_reason (Blocked rows) h leaves is lines =
-      let c = asked_run words source top named limit asked (λ s t d n. OfTexts (Some files) s d (λ text bytes. HasStopped text t bytes n rows old new)) h in
-      let (bytes, same, r) = of_given files named given (λ bytes. HasStopped text top bytes limit rows old new) is_given c.1 in
-      told_by (Ran (Stops r.report rows)) (subst (λ (g : Given). Means text top g limit (Ran (Stops r.report rows))) (sym same) (r.program, r.values, r.asked, r.stopped)) (is, r.shown, lines)
-  of_reason NoMemory h leaves is lines = inr is
 
-  of_told : (r : Reason) → IsToldAs r result errors_before errors_now errors_old errors_new → HasCause words (Some files) reads_old reads_new writes_old writes_new old new r → Leaves words (Some files) old new r → IsAnswer expected
-  of_told r told h leaves = elim told [ inl t ↦ of_reason r h leaves t.0 t.1 | inr w ↦ absurd (still.told w.1) ]
+  -- a refusal of another source's name is one of the source
+  refused_so : (why other : Refusal) (result : Status) → why ≡ other → IsTold why result errors after.err → after.out.bytes ≡ out.bytes → IsRefusedWith other result before after
+  refused_so why other result same told quiet = subst (λ (r : Refusal). IsRefusedWith r result before after) same (record { told = told; quiet = quiet })
 
-  of_ok : IsRun words (Some files) old new → result ≡ status.Ok → errors_now ≡ errors_before → IsAnswer expected
-  of_ok h is same =
-      let c = asked_run words source top named limit asked (λ s t d n. OfTexts (Some files) s d (λ text bytes. HasRun text t bytes n old new)) h in
-      let (bytes, found, r) = of_given files named given (λ bytes. HasRun text top bytes limit old new) is_given c.1 in
-      told_by (Ran (Ends r.report)) (subst (λ (g : Given). Means text top g limit (Ran (Ends r.report))) (sym found) (r.program, r.values, r.asked, r.ended)) (is, r.shown, same)
+  module _ (within : length (file_bytes files source) ≤ source_limit) (given : Given) (is_given : IsGiven files named given) (expected : SourceMeaning) (means : Means (file_bytes files source) top given limit expected) (result : Status) where
+    abbrev text : List ℕ
+    text = file_bytes files source
 
--- ---- a source that is too long
+    abbrev Meets : SourceMeaning → Type 0
+    Meets m = Tells source named limit m result before after ⊎ (result ≡ status.Memory)
 
-module _ (words : List (List ℕ)) (files : Files) (source top : List ℕ) (named : Option (List ℕ)) (limit : ℕ) (asked : command_of words ≡ Some (Run source top named limit)) (long : source_limit < length (file_bytes files source)) (reads_old reads_new : List ℕ → ℕ) (writes_old writes_new errors_old errors_new : ℕ) (still : IsStill source named reads_old reads_new writes_old writes_new errors_old errors_new) (old new errors_before errors_now : Option (List ℕ)) where
-  not_few : length (file_bytes files source) ≤ source_limit → ⊥
-  not_few few = omega (arith, few, long)
+    -- an answer that tells some meaning of the source tells the one that is expected
+    told_by : (m : SourceMeaning) → Means text top given limit m → Tells source named limit m result before after → Meets expected
+    told_by m has tells = subst Meets (means_one text top given limit m expected has means) (inl tells)
 
-  not_of : (P : List ℕ → Option (List ℕ) → ℕ → List ℕ → Type 0) → OfRun words (λ s t d n. OfSource (Some files) s (P t d n)) → ⊥
-  not_of P h = not_few (asked_run words source top named limit asked (λ s t d n. OfSource (Some files) s (P t d n)) h).0
+    -- the same of a meaning with the bytes of the data
+    told_with : (m : SourceMeaning) (P : List ℕ → List ℕ → Type 0) → OfTexts (Some files) source named P → ((bytes : List ℕ) → P text bytes → Means text top (Bytes bytes) limit m) → Tells source named limit m result before after → Meets expected
+    told_with m P h f tells =
+        let (bytes, same, p) = of_given files named given (P text) is_given (of_source files source (λ t. OfData (Some files) named (P t)) h) in
+        told_by m (subst (λ (g : Given). Means text top g limit m) (sym same) (f bytes p)) tells
 
-  abbrev IsLong : Status → Type 0
-  IsLong result = ((result ≡ status.Limit) × (new ≡ old)) ⊎ (result ≡ status.Memory)
+    of_reason : (why : Refusal) → HasCause words before after why → Leaves words before after why → IsTold why result errors after.err → Meets expected
+    of_reason Usage h leaves told = absurd (not_asked h)
+    of_reason (Read file) h leaves told = absurd (no_read file h)
+    of_reason Write h leaves told = absurd (still.writes.written h)
+    of_reason (TooLong file most) h leaves told =
+        let c = asked_run words source top named limit asked (λ s t d n. IsTooLong (Some files) s t d file most) h in
+        ⊎_elim
+        (λ (w : (source ≡ file) × (most ≡ source_limit) × IsLongerThan (Some files) file source_limit).
+        let long : source_limit < length (file_bytes files source) = subst (λ (f : List ℕ). source_limit < length (file_bytes files f)) (sym w.0) w.2 in
+        absurd (omega (arith, long, within)))
+        (λ (w : (named ≡ Some file) × (most ≡ data_limit) × IsLongerThan (Some files) file data_limit × OfSource (Some files) source (λ (t : List ℕ). HasProgram t top)).
+        let many = too_many files named given file is_given w.0 w.2 in
+        let p = of_source files source (λ (t : List ℕ). HasProgram t top) w.3 in
+        told_by Overlong (subst (λ (g : Given). Means text top g limit Overlong) (sym many) (p.program, p.means, tt))
+        (refused_so (TooLong file most) (TooLong (shown_name named) data_limit) result (ap (λ n. TooLong file n) w.1 ∙ ap (λ (f : List ℕ). TooLong f data_limit) (sym (ap shown_name w.0))) told leaves))
+        c
+    of_reason (Source file place code) h leaves told =
+        let c = asked_run words source top named limit asked (λ s t d n. (s ≡ file) × OfSource (Some files) file (λ text. IsRefusedSource text t place code)) h in
+        told_by (Refused place code) (subst (λ (f : List ℕ). IsRefusedSource (file_bytes files f) top place code) (sym c.0) (of_source files file (λ (t : List ℕ). IsRefusedSource t top place code) c.1))
+        (refused_so (Source file place code) (Source source place code) result (ap (λ (f : List ℕ). Source f place code) (sym c.0)) told leaves)
+    of_reason (Data file fault) h leaves told =
+        let c = asked_run words source top named limit asked (λ s t d n. (shown_name d ≡ file) × OfTexts (Some files) s d (λ text bytes. HasBadData text t bytes fault)) h in
+        told_with (Misgiven fault) (λ t bytes. HasBadData t top bytes fault) c.1 (λ bytes b. (b.program, b.means, b.fault))
+        (refused_so (Data file fault) (Data (shown_name named) fault) result (ap (λ (f : List ℕ). Data f fault) (sym c.0)) told leaves)
+    of_reason (Ticks most) h leaves told =
+        let c = asked_run words source top named limit asked (λ s t d n. (most ≡ n) × OfTexts (Some files) s d (λ text bytes. HasLimit text t bytes n)) h in
+        told_with (Ran run.Limit) (λ t bytes. HasLimit t top bytes limit) c.1 (λ bytes r. (r.program, r.values, r.asked, r.past))
+        (refused_so (Ticks most) (Ticks limit) result (ap Ticks c.0) told leaves)
+    of_reason (Stopped lines) h leaves told =
+        let c = asked_run words source top named limit asked (λ s t d n. OfTexts (Some files) s d (λ text bytes. HasStopped text t bytes n lines out.bytes after.out.bytes)) h in
+        let (bytes, same, r) = of_given files named given (λ bytes. HasStopped text top bytes limit lines out.bytes after.out.bytes) is_given (of_source files source (λ t. OfData (Some files) named (λ bytes. HasStopped t top bytes limit lines out.bytes after.out.bytes)) c) in
+        told_by (Ran (run.Stopped r.report lines)) (subst (λ (g : Given). Means text top g limit (Ran (run.Stopped r.report lines))) (sym same) (r.program, r.values, r.asked, r.stopped)) (told, r.shown)
+    of_reason Memory h leaves told = inr told.0
 
-  too_long : (result : Status) (r : Reason) → HasCause words (Some files) reads_old reads_new writes_old writes_new old new r → Leaves words (Some files) old new r → result ≡ status_of r → IsLong result
-  too_long result BadWords h leaves is = absurd (let both : None ≡ Some (Run source top named limit) = sym h ∙ asked in cc)
-  too_long result (Unread file) h leaves is =
-      let c = asked_run words source top named limit asked (λ s t d n. IsReached (Some files) s t d file × Rose (reads_old file) (reads_new file)) h in
-      absurd (⊎_elim
-      (λ (e : source ≡ file). still.read (subst (λ (f : List ℕ). Rose (reads_old f) (reads_new f)) (sym e) c.1))
-      (λ (w : (named ≡ Some file) × OfSource (Some files) source (λ (t : List ℕ). HasProgram t top)). not_few w.1.0)
-      c.0)
-  too_long result Unwritten h leaves is = absurd (still.written h)
-  too_long result (Longer file most) h leaves is = inl (is, leaves)
-  too_long result (Unfit file place code) h leaves is =
-      let c = asked_run words source top named limit asked (λ s t d n. (s ≡ file) × OfSource (Some files) file (λ text. IsRefusedSource text t place code)) h in
-      absurd (not_few (subst (λ (f : List ℕ). length (file_bytes files f) ≤ source_limit) (sym c.0) c.1.0))
-  too_long result (UnfitData file fault) h leaves is = absurd (not_few (asked_run words source top named limit asked (λ s t d n. (shown_name d ≡ file) × OfTexts (Some files) s d (λ text bytes. HasBadData text t bytes fault)) h).1.0)
-  too_long result (Endless most) h leaves is = absurd (not_few (asked_run words source top named limit asked (λ s t d n. (most ≡ n) × OfTexts (Some files) s d (λ text bytes. HasRunPast text t bytes n)) h).1.0)
-  too_long result (Blocked rows) h leaves is = absurd (not_of (λ t d n text. OfData (Some files) d (λ bytes. HasStopped text t bytes n rows old new)) h)
-  too_long result NoMemory h leaves is = inr is
+    of_told : (why : Refusal) → IsToldAs why result errors after.err → HasCause words before after why → Leaves words before after why → Meets expected
+    of_told why told h leaves = elim told [ inl t ↦ of_reason why h leaves t | inr w ↦ absurd (still.writes.told w.1) ]
 
-  of_long : (result : Status) (r : Reason) → IsToldAs r result errors_before errors_now errors_old errors_new → HasCause words (Some files) reads_old reads_new writes_old writes_new old new r → Leaves words (Some files) old new r → IsLong result
-  of_long result r told h leaves = elim told [ inl t ↦ too_long result r h leaves t.0 | inr w ↦ absurd (still.told w.1) ]
+    of_ok : IsRun words before after → result ≡ status.Ok → after.err.bytes ≡ errors.bytes → Meets expected
+    of_ok h is same =
+        let c = asked_run words source top named limit asked (λ s t d n. OfTexts (Some files) s d (λ text bytes. HasDone text t bytes n out.bytes after.out.bytes)) h in
+        let (bytes, found, r) = of_given files named given (λ bytes. HasDone text top bytes limit out.bytes after.out.bytes) is_given (of_source files source (λ t. OfData (Some files) named (λ bytes. HasDone t top bytes limit out.bytes after.out.bytes)) c) in
+        told_by (Ran (run.Done r.report)) (subst (λ (g : Given). Means text top g limit (Ran (run.Done r.report))) (sym found) (r.program, r.values, r.asked, r.done)) (is, r.shown, same)
 
-  no_run : IsRun words (Some files) old new → ⊥
-  no_run h = not_of (λ t d n text. OfData (Some files) d (λ bytes. HasRun text t bytes n old new)) h
+  -- ---- a source that is too long
 
-pub lengthy : (words : List (List ℕ)) (files : Option Files) (source top : List ℕ) (named : Option (List ℕ)) (limit : ℕ) → command_of words ≡ Some (Run source top named limit) → IsLengthy files source → (reads_old reads_new : List ℕ → ℕ) (writes_old writes_new errors_old errors_new : ℕ) → IsStill source named reads_old reads_new writes_old writes_new errors_old errors_new → (old new errors_before errors_now : Option (List ℕ)) (result : Status) → (result ≡ status.Ok → IsRun words files old new) → (result ≢ status.Ok → (r : Reason) × IsToldAs r result errors_before errors_now errors_old errors_new × HasCause words files reads_old reads_new writes_old writes_new old new r × Leaves words files old new r) → ((result ≡ status.Limit) × (new ≡ old)) ⊎ (result ≡ status.Memory)
-lengthy words None source top named limit asked long reads_old reads_new writes_old writes_new errors_old errors_new still old new errors_before errors_now result ok told = absurd long
-lengthy words (Some files) source top named limit asked long reads_old reads_new writes_old writes_new errors_old errors_new still old new errors_before errors_now status.Ok ok told =
-    absurd (no_run words files source top named limit asked long reads_old reads_new writes_old writes_new errors_old errors_new still old new errors_before errors_now (ok refl))
-lengthy words (Some files) source top named limit asked long reads_old reads_new writes_old writes_new errors_old errors_new still old new errors_before errors_now result ok told =
-    let t = told (λ e. cc) in
-    of_long words files source top named limit asked long reads_old reads_new writes_old writes_new errors_old errors_new still old new errors_before errors_now result t.0 t.1 t.2 t.3
+  module _ (long : source_limit < length (file_bytes files source)) where
+    not_few : {P : List ℕ → Type 0} → OfSource (Some files) source P → ⊥
+    not_few (text, is, few, h) = let short = few_in files source source_limit text is few in omega (arith, short, long)
+
+    abbrev IsLong : Status → Type 0
+    IsLong result = IsRefusedWith (TooLong source source_limit) result before after ⊎ (result ≡ status.Memory)
+
+    too_long : (result : Status) (why : Refusal) → HasCause words before after why → Leaves words before after why → IsTold why result errors after.err → IsLong result
+    too_long result Usage h leaves told = absurd (not_asked h)
+    too_long result (Read file) h leaves told = absurd (no_read file h)
+    too_long result Write h leaves told = absurd (still.writes.written h)
+    too_long result (TooLong file most) h leaves told =
+        let c = asked_run words source top named limit asked (λ s t d n. IsTooLong (Some files) s t d file most) h in
+        ⊎_elim {C = IsLong result}
+        (λ (w : (source ≡ file) × (most ≡ source_limit) × IsLongerThan (Some files) file source_limit).
+        inl (refused_so (TooLong file most) (TooLong source source_limit) result (ap (λ n. TooLong file n) w.1 ∙ ap (λ (f : List ℕ). TooLong f source_limit) (sym w.0)) told leaves))
+        (λ (w : (named ≡ Some file) × (most ≡ data_limit) × IsLongerThan (Some files) file data_limit × OfSource (Some files) source (λ (t : List ℕ). HasProgram t top)). absurd (not_few w.3))
+        c
+    too_long result (Source file place code) h leaves told =
+        let c = asked_run words source top named limit asked (λ s t d n. (s ≡ file) × OfSource (Some files) file (λ text. IsRefusedSource text t place code)) h in
+        absurd (not_few (subst (λ (f : List ℕ). OfSource (Some files) f (λ (t : List ℕ). IsRefusedSource t top place code)) (sym c.0) c.1))
+    too_long result (Data file fault) h leaves told = absurd (not_few (asked_run words source top named limit asked (λ s t d n. (shown_name d ≡ file) × OfTexts (Some files) s d (λ text bytes. HasBadData text t bytes fault)) h).1)
+    too_long result (Ticks most) h leaves told = absurd (not_few (asked_run words source top named limit asked (λ s t d n. (most ≡ n) × OfTexts (Some files) s d (λ text bytes. HasLimit text t bytes n)) h).1)
+    too_long result (Stopped lines) h leaves told = absurd (not_few (asked_run words source top named limit asked (λ s t d n. OfTexts (Some files) s d (λ text bytes. HasStopped text t bytes n lines out.bytes after.out.bytes)) h))
+    too_long result Memory h leaves told = inr told.0
+
+    of_long : (result : Status) (why : Refusal) → IsToldAs why result errors after.err → HasCause words before after why → Leaves words before after why → IsLong result
+    of_long result why told h leaves = elim told [ inl t ↦ too_long result why h leaves t | inr w ↦ absurd (still.writes.told w.1) ]
+
+    no_run : IsRun words before after → ⊥
+    no_run h = not_few (asked_run words source top named limit asked (λ s t d n. OfTexts (Some files) s d (λ text bytes. HasDone text t bytes n out.bytes after.out.bytes)) h)
+
+pub lengthy : (words : List (List ℕ)) (files : Option Files) (reads : List ℕ → ℕ) (out errors : Written) (after : Outside) (source top : List ℕ) (named : Option (List ℕ)) (limit : ℕ) → command_of words ≡ Some (Run source top named limit) → IsLengthy files source → NothingFails source named (outside files reads out errors) after → (result : Status) → IsAnswer words (outside files reads out errors) after result → IsRefusedWith (TooLong source source_limit) result (outside files reads out errors) after ⊎ (result ≡ status.Memory)
+lengthy words None reads out errors after source top named limit asked long still result h = absurd long
+lengthy words (Some files) reads out errors after source top named limit asked long still status.Ok h = absurd (no_run words files reads out errors after source top named limit asked still long (h.ok refl))
+lengthy words (Some files) reads out errors after source top named limit asked long still result h =
+    let t = h.told (λ e. cc) in
+    of_long words files reads out errors after source top named limit asked still long result t.0 t.1 t.2 t.3
 
 -- ---- words that are no command
 
-module _ (words : List (List ℕ)) (files : Option Files) (none : command_of words ≡ None) (reads_old reads_new : List ℕ → ℕ) (writes_old writes_new : ℕ) (still : Rose writes_old writes_new → ⊥) (old new : Option (List ℕ)) where
-  not_run : (P : List ℕ → List ℕ → Option (List ℕ) → ℕ → Type 0) → OfRun words P → ⊥
-  not_run P h = let both : None ≡ Some (Run h.0 h.1 h.2 h.3) = sym none ∙ h.4 in cc
+module _ (words : List (List ℕ)) (before after : Outside) (none : command_of words ≡ None) (writes : WritesAll before after) where
+  not_run : {P : List ℕ → List ℕ → Option (List ℕ) → ℕ → Type 0} → OfRun words P → ⊥
+  not_run h = let both : None ≡ Some (Run h.0 h.1 h.2 h.3) = sym none ∙ h.4 in cc
 
-  bad_words : (result : Status) (r : Reason) → HasCause words files reads_old reads_new writes_old writes_new old new r → Leaves words files old new r → result ≡ status_of r → ((result ≡ status.Usage) × (new ≡ old)) ⊎ (result ≡ status.Memory)
-  bad_words result BadWords h leaves is = inl (is, leaves)
-  bad_words result (Unread file) h leaves is = absurd (not_run _ h)
-  bad_words result Unwritten h leaves is = absurd (still h)
-  bad_words result (Longer file most) h leaves is = absurd (not_run _ h)
-  bad_words result (Unfit file place code) h leaves is = absurd (not_run _ h)
-  bad_words result (UnfitData file fault) h leaves is = absurd (not_run _ h)
-  bad_words result (Endless most) h leaves is = absurd (not_run _ h)
-  bad_words result (Blocked rows) h leaves is = absurd (not_run _ h)
-  bad_words result NoMemory h leaves is = inr is
+  abbrev IsUsage : Status → Type 0
+  IsUsage result = IsRefusedWith Usage result before after ⊎ (result ≡ status.Memory)
 
-pub usage : (words : List (List ℕ)) (files : Option Files) → command_of words ≡ None → (reads_old reads_new : List ℕ → ℕ) (writes_old writes_new errors_old errors_new : ℕ) → (Rose writes_old writes_new → ⊥) → (Rose errors_old errors_new → ⊥) → (old new errors_before errors_now : Option (List ℕ)) (result : Status) → (result ≡ status.Ok → IsRun words files old new) → (result ≢ status.Ok → (r : Reason) × IsToldAs r result errors_before errors_now errors_old errors_new × HasCause words files reads_old reads_new writes_old writes_new old new r × Leaves words files old new r) → ((result ≡ status.Usage) × (new ≡ old)) ⊎ (result ≡ status.Memory)
-usage words files none reads_old reads_new writes_old writes_new errors_old errors_new still quiet old new errors_before errors_now status.Ok ok told =
-    absurd (not_run words files none reads_old reads_new writes_old writes_new still old new (λ s t d n. OfTexts files s d (λ text bytes. HasRun text t bytes n old new)) (ok refl))
-usage words files none reads_old reads_new writes_old writes_new errors_old errors_new still quiet old new errors_before errors_now result ok told =
-    let t = told (λ e. cc) in
-    elim t.1 [
-      | inl a ↦ bad_words words files none reads_old reads_new writes_old writes_new still old new result t.0 t.2 t.3 a.0
-      | inr w ↦ absurd (quiet w.1)
-    ]
+  bad_words : (result : Status) (why : Refusal) → HasCause words before after why → Leaves words before after why → IsTold why result before.err after.err → IsUsage result
+  bad_words result Usage h leaves told = inl (record { told = told; quiet = leaves })
+  bad_words result (Read file) h leaves told = absurd (not_run h)
+  bad_words result Write h leaves told = absurd (writes.written h)
+  bad_words result (TooLong file most) h leaves told = absurd (not_run h)
+  bad_words result (Source file place code) h leaves told = absurd (not_run h)
+  bad_words result (Data file fault) h leaves told = absurd (not_run h)
+  bad_words result (Ticks most) h leaves told = absurd (not_run h)
+  bad_words result (Stopped lines) h leaves told = absurd (not_run h)
+  bad_words result Memory h leaves told = inr told.0
+
+  pub usage : (result : Status) → IsAnswer words before after result → IsUsage result
+  usage status.Ok h = absurd (not_run (h.ok refl))
+  usage result h =
+      let t = h.told (λ e. cc) in
+      elim t.1 [ inl a ↦ bad_words result t.0 t.2 t.3 a | inr w ↦ absurd (writes.told w.1) ]
 
 -- the answer of a call that keeps what it promises
-pub decided : (words : List (List ℕ)) (files : Option Files) (source top : List ℕ) (named : Option (List ℕ)) (limit : ℕ) → command_of words ≡ Some (Run source top named limit) → (expected : SourceMeaning) → Expects files source top named limit expected → (reads_old reads_new : List ℕ → ℕ) (writes_old writes_new errors_old errors_new : ℕ) → IsStill source named reads_old reads_new writes_old writes_new errors_old errors_new → (old new errors_before errors_now : Option (List ℕ)) (result : Status) → (result ≡ status.Ok → IsRun words files old new) → (result ≡ status.Ok → errors_now ≡ errors_before) → (result ≢ status.Ok → (r : Reason) × IsToldAs r result errors_before errors_now errors_old errors_new × HasCause words files reads_old reads_new writes_old writes_new old new r × Leaves words files old new r) → Tells limit expected result old new errors_before errors_now ⊎ (result ≡ status.Memory)
-decided words None source top named limit asked expected expects reads_old reads_new writes_old writes_new errors_old errors_new still old new errors_before errors_now result ok same told = absurd expects
-decided words (Some files) source top named limit asked expected expects reads_old reads_new writes_old writes_new errors_old errors_new still old new errors_before errors_now status.Ok ok same told =
-    of_ok words files source top named limit asked expects.within expects.given expects.is_given reads_old reads_new writes_old writes_new errors_old errors_new still old new errors_before errors_now expected expects.means status.Ok (ok refl) refl (same refl)
-decided words (Some files) source top named limit asked expected expects reads_old reads_new writes_old writes_new errors_old errors_new still old new errors_before errors_now result ok same told =
-    let t = told (λ e. cc) in
-    of_told words files source top named limit asked expects.within expects.given expects.is_given reads_old reads_new writes_old writes_new errors_old errors_new still old new errors_before errors_now expected expects.means result t.0 t.1 t.2 t.3
+pub decided : (words : List (List ℕ)) (files : Option Files) (reads : List ℕ → ℕ) (out errors : Written) (after : Outside) (source top : List ℕ) (named : Option (List ℕ)) (limit : ℕ) → command_of words ≡ Some (Run source top named limit) → (expected : SourceMeaning) → Expects files source top named limit expected → NothingFails source named (outside files reads out errors) after → (result : Status) → IsAnswer words (outside files reads out errors) after result → (result ≡ status.Ok → after.err.bytes ≡ errors.bytes) → Tells source named limit expected result (outside files reads out errors) after ⊎ (result ≡ status.Memory)
+decided words None reads out errors after source top named limit asked expected expects still result h same = absurd expects
+decided words (Some files) reads out errors after source top named limit asked expected expects still status.Ok h same =
+    of_ok words files reads out errors after source top named limit asked still expects.within expects.given expects.is_given expected expects.means status.Ok (h.ok refl) refl (same refl)
+decided words (Some files) reads out errors after source top named limit asked expected expects still result h same =
+    let t = h.told (λ e. cc) in
+    of_told words files reads out errors after source top named limit asked still expects.within expects.given expects.is_given expected expects.means result t.0 t.1 t.2 t.3

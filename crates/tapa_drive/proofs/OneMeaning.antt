@@ -10,12 +10,15 @@ use Rattle.run_program.specs.Laws.{RunMeaning, Runs}
 use Rattle.run_program.specs.Run.{Values}
 use Rattle.run_program.proofs.OneWay.{runs_alike, one_way, some_way}
 use Rattle.tapa_drive.specs.Answer.{IsAsked}
-use Rattle.tapa_drive.specs.Decided.{SourceMeaning, Ran, Misgiven, Overlong, Nothing, Given, Bytes, TooMany, Means}
+use Rattle.tapa_drive.specs.Decided.{SourceMeaning, Ran, Misgiven, Overlong, Refused, Given, Bytes, TooMany, Means}
 use Rattle.tapa_drive.specs.Inputs.{HasDataFault}
 use Rattle.tapa_drive.specs.Refusal.{DataFault}
-use Rattle.tapa_drive.specs.Source.{IsProgramOf}
+use Rattle.tapa_base.specs.declared.text.Place.{Place}
+use Rattle.tapa_drive.specs.Source.{IsProgramOf, IsRefusedSource}
+use Rattle.tapa_drive.specs.declared.source.SourceCode.{SourceCode}
 use Rattle.tapa_drive.proofs.Given.{one_input, one_fault, not_misgiven}
-use Rattle.tapa_drive.proofs.Sourced.{one_tree}
+use Rattle.tapa_drive.proofs.OneRefusal.{one_refusal}
+use Rattle.tapa_drive.proofs.Sourced.{one_tree, means_nothing}
 
 module _ (text top : List ℕ) where
   pub one_program : (p q : Program) → IsProgramOf text top p → IsProgramOf text top q → flat_program p ≡ flat_program q
@@ -38,33 +41,42 @@ module _ (text top : List ℕ) where
       let at_w : Runs p w limit how = subst (λ (u : Values). Runs p u limit how) (asked_once bytes p q v w h g) a in
       one_way q (well q g.means) w limit how other (runs_alike p q (one_program p q h.means g.means) w limit how at_w) b
 
-  not_both : (bytes : List ℕ) (limit : ℕ) (how : RunMeaning) → Means text top (Bytes bytes) limit (Ran how) → Means text top (Bytes bytes) limit Misgiven → ⊥
-  not_both bytes limit how (p, v, h, a) (q, g, d) = not_misgiven p q (one_program p q h.means g) bytes v d.0 h.gives d.1
+  not_both : (bytes : List ℕ) (limit : ℕ) (how : RunMeaning) (fault : DataFault) → Means text top (Bytes bytes) limit (Ran how) → Means text top (Bytes bytes) limit (Misgiven fault) → ⊥
+  not_both bytes limit how fault (p, v, h, a) (q, g, d) = not_misgiven p q (one_program p q h.means g) bytes v fault h.gives d
+
+  -- a source that has a program is not refused
+  legal : (p : Program) (place : Place) (code : SourceCode) → IsProgramOf text top p → IsRefusedSource text top place code → ⊥
+  legal p place code h refused = means_nothing text top place code refused p h
+
+  refused_once : (place there : Place) (code other : SourceCode) → IsRefusedSource text top place code → IsRefusedSource text top there other → Refused place code ≡ Refused there other
+  refused_once place there code other h g =
+      let once = one_refusal text top place there code other h g in
+      ap (λ (p : Place). Refused p code) once.0 ∙ ap (Refused there) once.1
 
   pub means_one : (given : Given) (limit : ℕ) (m n : SourceMeaning) → Means text top given limit m → Means text top given limit n → m ≡ n
   means_one (Bytes bytes) limit (Ran how) (Ran other) (p, v, h, a) (q, w, g, b) = ap Ran (one_run bytes limit p q v w how other h g a b)
-  means_one (Bytes bytes) limit (Ran how) Misgiven h g = absurd (not_both bytes limit how h g)
+  means_one (Bytes bytes) limit (Ran how) (Misgiven fault) h g = absurd (not_both bytes limit how fault h g)
   means_one (Bytes bytes) limit (Ran how) Overlong h g = absurd g
-  means_one (Bytes bytes) limit (Ran how) Nothing (p, v, h, a) none = absurd (none p h.means)
-  means_one (Bytes bytes) limit Misgiven (Ran other) h g = absurd (not_both bytes limit other g h)
-  means_one (Bytes bytes) limit Misgiven Misgiven h g = refl
-  means_one (Bytes bytes) limit Misgiven Overlong h g = absurd g
-  means_one (Bytes bytes) limit Misgiven Nothing (p, h, d) none = absurd (none p h)
+  means_one (Bytes bytes) limit (Ran how) (Refused place code) (p, v, h, a) g = absurd (legal p place code h.means g)
+  means_one (Bytes bytes) limit (Misgiven fault) (Ran other) h g = absurd (not_both bytes limit other fault g h)
+  means_one (Bytes bytes) limit (Misgiven fault) (Misgiven other) (p, h, d) (q, g, e) = ap Misgiven (faulty_once bytes p q fault other h g d e)
+  means_one (Bytes bytes) limit (Misgiven fault) Overlong h g = absurd g
+  means_one (Bytes bytes) limit (Misgiven fault) (Refused place code) (p, h, d) g = absurd (legal p place code h g)
   means_one (Bytes bytes) limit Overlong n h g = absurd h
-  means_one (Bytes bytes) limit Nothing (Ran other) none (q, w, g, b) = absurd (none q g.means)
-  means_one (Bytes bytes) limit Nothing Misgiven none (q, g, d) = absurd (none q g)
-  means_one (Bytes bytes) limit Nothing Overlong none g = absurd g
-  means_one (Bytes bytes) limit Nothing Nothing none g = refl
+  means_one (Bytes bytes) limit (Refused place code) (Ran other) h (q, w, g, b) = absurd (legal q place code g.means h)
+  means_one (Bytes bytes) limit (Refused place code) (Misgiven fault) h (q, g, d) = absurd (legal q place code g h)
+  means_one (Bytes bytes) limit (Refused place code) Overlong h g = absurd g
+  means_one (Bytes bytes) limit (Refused place code) (Refused there other) h g = refused_once place there code other h g
   means_one TooMany limit (Ran how) n h g = absurd h
-  means_one TooMany limit Misgiven n h g = absurd h
+  means_one TooMany limit (Misgiven fault) n h g = absurd h
   means_one TooMany limit Overlong (Ran other) h g = absurd g
-  means_one TooMany limit Overlong Misgiven h g = absurd g
+  means_one TooMany limit Overlong (Misgiven fault) h g = absurd g
   means_one TooMany limit Overlong Overlong h g = refl
-  means_one TooMany limit Overlong Nothing (p, h, any) none = absurd (none p h)
-  means_one TooMany limit Nothing (Ran other) none g = absurd g
-  means_one TooMany limit Nothing Misgiven none g = absurd g
-  means_one TooMany limit Nothing Overlong none (q, g, any) = absurd (none q g)
-  means_one TooMany limit Nothing Nothing none g = refl
+  means_one TooMany limit Overlong (Refused place code) (p, h, any) g = absurd (legal p place code h g)
+  means_one TooMany limit (Refused place code) (Ran other) h g = absurd g
+  means_one TooMany limit (Refused place code) (Misgiven fault) h g = absurd g
+  means_one TooMany limit (Refused place code) Overlong h (q, g, any) = absurd (legal q place code g h)
+  means_one TooMany limit (Refused place code) (Refused there other) h g = refused_once place there code other h g
 
   pub means_some : (bytes : List ℕ) (limit : ℕ) (p : Program) (v : Values) → IsAsked text top bytes p v → (how : RunMeaning) × Means text top (Bytes bytes) limit (Ran how)
   means_some bytes limit p v h = let s = some_way p (well p h.means) v limit in (s.0, (p, v, h, s.1))

@@ -13,12 +13,12 @@ use Rattle.tapa_syntax.specs.declared.program.Memory.{Memory}
 use Rattle.tapa_syntax.specs.declared.program.Program.{Program}
 use Rattle.tapa_syntax.specs.declared.program.Scalar.{Scalar}
 use Rattle.kahn_model.specs.Fits.{FitsInput}
-use Rattle.run_data.specs.Answer.{FitsShape, IsDataOf, IsCause}
+use Rattle.tapa_base.specs.Fits.{Fits}
+use Rattle.run_data.specs.Answer.{bits_of_ports, IsDataOf, IsCause}
 use Rattle.run_data.specs.declared.data.Data.{Data}
 use Rattle.run_data.specs.declared.data.DataFault.{DataFault}
 use Rattle.run_data.specs.declared.data.DataFault.TheVariants.{J1, J2, J3, J4, OutOfMemory}
 use Rattle.tapa_drive.specs.Inputs.{port_of, IsShapeOf, GivesValues, IsUnfitBy}
-use Rattle.tapa_drive.specs.Meaning.{data_reason}
 
 few_bits : (k : Kind) → bits_of k ≤ 64
 few_bits kind.Bool = omega arith
@@ -53,17 +53,27 @@ memories_few xs ports is = subst (λ (l : List Port). All FewBits l) (sym is) (f
 get_map : {A B : Type 0} (f : A → B) (xs : List A) (i : ℕ) (x : A) → slice_get xs i ≡ Some x → slice_get (map f xs) i ≡ Some (f x)
 get_map f xs i x at = slice_get-map f xs i ∙ ap (option_map f) at
 
-module _ (program : Program) (shape : Shape) (is : IsShapeOf program shape) (given : Data) (fits : FitsShape shape given) where
+module _ (program : Program) (shape : Shape) (is : IsShapeOf program shape) (given : Data) (fits : Fits (bits_of_ports shape.scalars.items) (bits_of_ports shape.memories.items) given.scalars.items (map (λ (v : Vec ℕ Global). v.items) given.memories.items)) where
+  abbrev width : Port → ℕ
+  width port = port.bits
+
+  scalar_bits : (x : ℕ) (c : Scalar) → slice_get program.scalars.items x ≡ Some c → slice_get (bits_of_ports shape.scalars.items) x ≡ Some (bits_of c.kind)
+  scalar_bits x c at =
+      get_map width shape.scalars.items x (port_of c.name c.kind)
+      (ap (λ (l : List Port). slice_get l x) is.scalars ∙ get_map (λ (s : Scalar). port_of s.name s.kind) program.scalars.items x c at)
+
+  memory_bits : (m : ℕ) (c : Memory) → slice_get program.memories.items m ≡ Some c → slice_get (bits_of_ports shape.memories.items) m ≡ Some (bits_of c.kind)
+  memory_bits m c at =
+      get_map width shape.memories.items m (port_of c.name c.kind)
+      (ap (λ (l : List Port). slice_get l m) is.memories ∙ get_map (λ (s : Memory). port_of s.name s.kind) program.memories.items m c at)
+
   -- data that fit the shape of a program fit the program
   pub fits_program : FitsInput program given.scalars.items (map (λ (v : Vec ℕ Global). v.items) given.memories.items)
   fits_program = record {
-    as_many_scalars = fits.as_many_scalars ∙ ap length is.scalars ∙ length-map program.scalars.items (λ (c : Scalar). port_of c.name c.kind);
-    as_many_memories =
-        length-map given.memories.items (λ (v : Vec ℕ Global). v.items) ∙ fits.as_many_memories ∙ ap length is.memories ∙ length-map program.memories.items (λ (c : Memory). port_of c.name c.kind);
-    scalars_fit = λ x c at.
-        fits.scalars_fit x (port_of c.name c.kind) (ap (λ (l : List Port). slice_get l x) is.scalars ∙ get_map (λ (s : Scalar). port_of s.name s.kind) program.scalars.items x c at);
-    cells_fit = λ m c at.
-        fits.cells_fit m (port_of c.name c.kind) (ap (λ (l : List Port). slice_get l m) is.memories ∙ get_map (λ (s : Memory). port_of s.name s.kind) program.memories.items m c at);
+    as_many_scalars = fits.as_many_scalars ∙ length-map shape.scalars.items width ∙ ap length is.scalars ∙ length-map program.scalars.items (λ (c : Scalar). port_of c.name c.kind);
+    as_many_memories = fits.as_many_memories ∙ length-map shape.memories.items width ∙ ap length is.memories ∙ length-map program.memories.items (λ (c : Memory). port_of c.name c.kind);
+    scalars_fit = λ x c at. fits.scalars_fit x (bits_of c.kind) (scalar_bits x c at);
+    cells_fit = λ m c at. fits.cells_fit m (bits_of c.kind) (memory_bits m c at);
   }
 
 pub gives_values : (program : Program) (shape : Shape) → IsShapeOf program shape → (text : List ℕ) (given : Data) → IsDataOf text shape given → GivesValues program text (record { scalars = given.scalars.items; memories = map (λ (v : Vec ℕ Global). v.items) given.memories.items })
@@ -77,10 +87,10 @@ gives_values program shape is text given d = record {
   memories = d.memories;
 }
 
--- a refusal of data is told as it is, of a file
-pub unfit : (program : Program) (shape : Shape) → IsShapeOf program shape → (text file : List ℕ) (fault : DataFault) → IsCause text shape fault → IsUnfitBy program text file (data_reason file fault)
-unfit program shape is text file J1 h = (refl, h)
-unfit program shape is text file (J2 key) h = (refl, (shape, is, h))
-unfit program shape is text file (J3 key) h = (refl, (shape, is, h))
-unfit program shape is text file (J4 key) h = (refl, (shape, is, h))
-unfit program shape is text file OutOfMemory h = tt
+-- the fault of a text for the shape of a program is one for the program
+pub unfit : (program : Program) (shape : Shape) → IsShapeOf program shape → (text : List ℕ) (fault : DataFault) → IsCause text shape fault → IsUnfitBy program text fault
+unfit program shape is text J1 h = h
+unfit program shape is text (J2 key) h = (shape, is, h)
+unfit program shape is text (J3 key) h = (shape, is, h)
+unfit program shape is text (J4 key) h = (shape, is, h)
+unfit program shape is text OutOfMemory h = tt

@@ -1,4 +1,4 @@
--- A refused source means no program, and what holds of the bytes that were taken holds of the files.
+-- A refused source means no program, and what holds of the bytes that were taken holds of the files that they are of.
 use Rattle.std.proofs.Common.{◌≡◌, ◌≤◌, ℕ, List, [], length, Option, Some, None, subst}
 use Rattle.tapa_base.specs.declared.text.Place.{Place}
 use Rattle.tapa_syntax.specs.declared.lexeme.Lexeme.{Lexeme}
@@ -18,7 +18,7 @@ use Rattle.check_scope.specs.declared.fault.Broken.{Broken}
 use Rattle.stream_check.specs.Programs.{program_faults}
 use Rattle.tapa_drive.specs.declared.source.SourceCode.{SourceCode}
 use Rattle.tapa_drive.specs.declared.source.SourceCode.TheVariants.{L1, L2, L3, L4, P1, P2, Rule}
-use Rattle.tapa_base.specs.Outside.{Files, file_bytes}
+use Rattle.tapa_base.specs.Outside.{Files}
 use Rattle.tapa_base.specs.Take.{IsFileOf}
 use Rattle.tapa_drive.specs.Answer.{OfTexts}
 use Rattle.tapa_drive.specs.Codes.{lex_code, parse_code}
@@ -62,14 +62,12 @@ refused_by_parser text top place parse.P2 h = h
 
 -- ---- files
 
--- where the files are told, what holds of the bytes that were taken holds of the file
+-- what holds of the bytes that were taken holds of the file
 pub of_taken : (files : Option Files) (most : ℕ) (name bytes : List ℕ) (P : List ℕ → Type 0) → IsFileOf files name bytes → length bytes ≤ most → P bytes → OfFile files most name P
-of_taken None most name bytes P is few h = tt
-of_taken (Some files) most name bytes P is few h = (subst (λ (text : List ℕ). length text ≤ most) is few, subst P is h)
+of_taken files most name bytes P is few h = (bytes, is, few, h)
 
 pub of_file_also : (files : Option Files) (most : ℕ) (name : List ℕ) (P Q : List ℕ → Type 0) → ((text : List ℕ) → P text → Q text) → OfFile files most name P → OfFile files most name Q
-of_file_also None most name P Q f h = tt
-of_file_also (Some files) most name P Q f (few, h) = (few, f _ h)
+of_file_also files most name P Q f (bytes, is, few, h) = (bytes, is, few, f bytes h)
 
 pub of_data_also : (files : Option Files) (named : Option (List ℕ)) (P Q : List ℕ → Type 0) → ((bytes : List ℕ) → P bytes → Q bytes) → OfData files named P → OfData files named Q
 of_data_also files None P Q f h = f no_data h
@@ -77,5 +75,4 @@ of_data_also files (Some name) P Q f h = of_file_also files data_limit name P Q 
 
 -- what holds of a source, and of data, holds of both
 pub of_both : (files : Option Files) (source : List ℕ) (named : Option (List ℕ)) (P Q : List ℕ → Type 0) (R : List ℕ → List ℕ → Type 0) → ((text bytes : List ℕ) → P text → Q bytes → R text bytes) → OfSource files source P → OfData files named Q → OfTexts files source named R
-of_both None source named P Q R f h g = tt
-of_both (Some files) source named P Q R f (few, h) g = (few, of_data_also (Some files) named Q (R (file_bytes files source)) (λ bytes q. f (file_bytes files source) bytes h q) g)
+of_both files source named P Q R f (text, is, few, h) g = (text, is, few, of_data_also files named Q (R text) (λ bytes q. f text bytes h q) g)

@@ -1,56 +1,53 @@
 -- Why a source has no program, and why a program has no values, by why a file was not taken.
-use Rattle.std.proofs.Common.{◌≤◌, ℕ, List, length, Option, Some, None, ap}
+use Rattle.std.proofs.Common.{◌≤◌, ℕ, List, length, Option, Some, None, refl, ap}
 use Rattle.tapa_base.specs.Outside.{Files}
 use Rattle.tapa_base.specs.Take.{IsFileOf}
 use Rattle.tapa_syntax.specs.declared.program.Program.{Program}
+use Rattle.run_data.specs.Data.{Misshapen, Misfit, Oversized}
+use Rattle.run_data.specs.declared.data.DataFault.{DataFault}
+use Rattle.run_data.specs.declared.data.DataFault.TheVariants.{J1, J2, J3, J4, OutOfMemory}
 use Rattle.tapa_drive.specs.Files.{IsUntaken, source_limit, data_limit, no_data}
 use Rattle.tapa_drive.specs.Found.{IsNotFound, IsNotGiven}
 use Rattle.tapa_drive.specs.Inputs.{HasDataFault, IsUnfitBy}
-use Rattle.tapa_drive.specs.Refusal.{Reason, BadWords, Unread, Unwritten, Longer, Unfit, UnfitData, Endless, Blocked, NoMemory}
+use Rattle.tapa_drive.specs.Meaning.{data_refusal}
+use Rattle.tapa_drive.specs.Refusal.{Refusal, Usage, Read, Write, TooLong, Source, Data, Ticks, Stopped, Memory, NotJson, Faulty}
 use Rattle.tapa_drive.proofs.Sourced.{of_taken}
 
 module _ (files : Option Files) (reads_old reads_new : List ℕ → ℕ) where
-  pub untaken_source : (source top : List ℕ) (r : Reason) → IsUntaken files reads_old reads_new source source_limit r → IsNotFound files reads_old reads_new source top r
-  untaken_source source top BadWords h = absurd h
-  untaken_source source top (Unread file) h = h
-  untaken_source source top Unwritten h = absurd h
-  untaken_source source top (Longer file most) h = h
-  untaken_source source top (Unfit file place code) h = absurd h
-  untaken_source source top (UnfitData file fault) h = absurd h
-  untaken_source source top (Endless most) h = absurd h
-  untaken_source source top (Blocked lines) h = absurd h
-  untaken_source source top NoMemory h = tt
+  pub untaken_source : (source top : List ℕ) (r : Refusal) → IsUntaken files reads_old reads_new source source_limit r → IsNotFound files reads_old reads_new source top r
+  untaken_source source top Usage h = absurd h
+  untaken_source source top (Read file) h = h
+  untaken_source source top Write h = absurd h
+  untaken_source source top (TooLong file most) h = h
+  untaken_source source top (Source file place code) h = absurd h
+  untaken_source source top (Data file fault) h = absurd h
+  untaken_source source top (Ticks most) h = absurd h
+  untaken_source source top (Stopped lines) h = absurd h
+  untaken_source source top Memory h = tt
 
   module _ (program : Program) where
-    pub untaken_data : (name : List ℕ) (r : Reason) → IsUntaken files reads_old reads_new name data_limit r → IsNotGiven files reads_old reads_new program (Some name) r
-    untaken_data name BadWords h = absurd h
-    untaken_data name (Unread file) h = (ap Some h.0, h.1)
-    untaken_data name Unwritten h = absurd h
-    untaken_data name (Longer file most) h = (ap Some h.0, h.1, h.2)
-    untaken_data name (Unfit file place code) h = absurd h
-    untaken_data name (UnfitData file fault) h = absurd h
-    untaken_data name (Endless most) h = absurd h
-    untaken_data name (Blocked lines) h = absurd h
-    untaken_data name NoMemory h = tt
+    pub untaken_data : (name : List ℕ) (r : Refusal) → IsUntaken files reads_old reads_new name data_limit r → IsNotGiven files reads_old reads_new program (Some name) r
+    untaken_data name Usage h = absurd h
+    untaken_data name (Read file) h = (ap Some h.0, h.1)
+    untaken_data name Write h = absurd h
+    untaken_data name (TooLong file most) h = (ap Some h.0, h.1, h.2)
+    untaken_data name (Source file place code) h = absurd h
+    untaken_data name (Data file fault) h = absurd h
+    untaken_data name (Ticks most) h = absurd h
+    untaken_data name (Stopped lines) h = absurd h
+    untaken_data name Memory h = tt
 
-    pub unfit_file : (name bytes : List ℕ) → IsFileOf files name bytes → length bytes ≤ data_limit → (r : Reason) → IsUnfitBy program bytes name r → IsNotGiven files reads_old reads_new program (Some name) r
-    unfit_file name bytes is few BadWords h = absurd h
-    unfit_file name bytes is few (Unread file) h = absurd h
-    unfit_file name bytes is few Unwritten h = absurd h
-    unfit_file name bytes is few (Longer file most) h = absurd h
-    unfit_file name bytes is few (Unfit file place code) h = absurd h
-    unfit_file name bytes is few (UnfitData file fault) h = (h.0, of_taken files data_limit name bytes (λ text. HasDataFault program text fault) is few h.1)
-    unfit_file name bytes is few (Endless most) h = absurd h
-    unfit_file name bytes is few (Blocked lines) h = absurd h
-    unfit_file name bytes is few NoMemory h = tt
+    module _ (name bytes : List ℕ) (is : IsFileOf files name bytes) (few : length bytes ≤ data_limit) where
+      pub unfit_file : (fault : DataFault) → IsUnfitBy program bytes fault → IsNotGiven files reads_old reads_new program (Some name) (data_refusal name fault)
+      unfit_file J1 h = (refl, of_taken files data_limit name bytes (λ text. HasDataFault program text NotJson) is few h)
+      unfit_file (J2 key) h = (refl, of_taken files data_limit name bytes (λ text. HasDataFault program text (Faulty (Misshapen key.items))) is few h)
+      unfit_file (J3 key) h = (refl, of_taken files data_limit name bytes (λ text. HasDataFault program text (Faulty (Misfit key.items))) is few h)
+      unfit_file (J4 key) h = (refl, of_taken files data_limit name bytes (λ text. HasDataFault program text (Faulty (Oversized key.items))) is few h)
+      unfit_file OutOfMemory h = tt
 
-    pub unfit_none : (r : Reason) → IsUnfitBy program no_data no_data r → IsNotGiven files reads_old reads_new program None r
-    unfit_none BadWords h = absurd h
-    unfit_none (Unread file) h = absurd h
-    unfit_none Unwritten h = absurd h
-    unfit_none (Longer file most) h = absurd h
-    unfit_none (Unfit file place code) h = absurd h
-    unfit_none (UnfitData file fault) h = h
-    unfit_none (Endless most) h = absurd h
-    unfit_none (Blocked lines) h = absurd h
-    unfit_none NoMemory h = tt
+    pub unfit_none : (fault : DataFault) → IsUnfitBy program no_data fault → IsNotGiven files reads_old reads_new program None (data_refusal no_data fault)
+    unfit_none J1 h = (refl, h)
+    unfit_none (J2 key) h = (refl, h)
+    unfit_none (J3 key) h = (refl, h)
+    unfit_none (J4 key) h = (refl, h)
+    unfit_none OutOfMemory h = tt

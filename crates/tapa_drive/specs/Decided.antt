@@ -1,25 +1,31 @@
 -- What a source and its data mean, and what a call must answer to them where nothing outside of it fails.
 use Rattle.std.specs.Prelude.{◌≡◌, ◌<◌, ◌≤◌, ℕ, List, length, Option, Some, None, ⊤}
 use Rattle.std.specs.Io.KnownBytes.{Appends}
+use Rattle.tapa_base.specs.declared.text.Place.{Place}
 use Rattle.tapa_base.specs.Outside.{Files, file_bytes, Rose}
 use Rattle.tapa_syntax.specs.declared.program.Program.{Program}
-use Rattle.run_program.specs.Laws.{RunMeaning, Ends, Stops, Exceeds, Runs}
+use Rattle.run_program.specs.Ending.{joined}
+use Rattle.run_program.specs.Laws.{RunMeaning, Done, Stopped, Limit, Runs}
 use Rattle.run_program.specs.Run.{Values}
 use Rattle.tapa_drive.specs.Answer.{IsAsked}
-use Rattle.tapa_drive.specs.Files.{source_limit, data_limit, no_data}
+use Rattle.tapa_drive.specs.Files.{source_limit, data_limit, no_data, shown_name}
 use Rattle.tapa_drive.specs.Inputs.{HasDataFault}
-use Rattle.tapa_drive.specs.Refusal.{DataFault, message_of, Endless}
-use Rattle.tapa_drive.specs.Source.{IsProgramOf, MeansNothing}
+use Rattle.tapa_drive.specs.Outside.{Outside}
+use Rattle.tapa_drive.specs.Refusal.{DataFault, Source, Data, TooLong, Ticks}
+use Rattle.tapa_drive.specs.Refusal as refusal
+use Rattle.tapa_drive.specs.Source.{IsProgramOf, IsRefusedSource}
+use Rattle.tapa_drive.specs.Told.{IsTold}
+use Rattle.tapa_drive.specs.declared.source.SourceCode.{SourceCode}
 use Rattle.tapa_drive.specs.declared.status.Status.{Status}
-use Rattle.tapa_drive.specs.declared.status.Status.TheVariants.{Ok, Source, Data, Stopped, Limit}
+use Rattle.tapa_drive.specs.declared.status.Status.TheVariants.{Ok}
 
 -- what a text means with the name of its top task and with data: a program that runs in some way on the values that the
--- data give; one for which the data have a fault, or are too long; or no program
+-- data give; one for which the data have this fault, or are too long; or no program, since a rule refuses it at a place
 pub data SourceMeaning : Type 0 where
   Ran : (how : RunMeaning) → SourceMeaning
-  Misgiven : SourceMeaning
+  Misgiven : (fault : DataFault) → SourceMeaning
   Overlong : SourceMeaning
-  Nothing : SourceMeaning
+  Refused : (place : Place) (code : SourceCode) → SourceMeaning
 
 -- data: their bytes, or that there are more than there may be
 pub data Given : Type 0 where
@@ -40,32 +46,40 @@ OfProgram text top P = (program : Program) × IsProgramOf text top program × P 
 abbrev pub Means : List ℕ → List ℕ → Given → ℕ → SourceMeaning → Type 0
 Means text top (Bytes bytes) limit (Ran how) = (program : Program) × (values : Values) × IsAsked text top bytes program values × Runs program values limit how
 Means text top TooMany limit (Ran how) = ⊥
-Means text top (Bytes bytes) limit Misgiven = OfProgram text top (λ program. (fault : DataFault) × HasDataFault program bytes fault)
-Means text top TooMany limit Misgiven = ⊥
+Means text top (Bytes bytes) limit (Misgiven fault) = OfProgram text top (λ program. HasDataFault program bytes fault)
+Means text top TooMany limit (Misgiven fault) = ⊥
 Means text top (Bytes bytes) limit Overlong = ⊥
 Means text top TooMany limit Overlong = OfProgram text top (λ program. ⊤)
-Means text top given limit Nothing = MeansNothing text top
+Means text top given limit (Refused place code) = IsRefusedSource text top place code
 
--- the status that tells how a run goes under a limit on its ticks, and what the output and the errors held and hold: a
--- report is written whole, and so are the lines of a stop
-abbrev pub TellsRun : ℕ → RunMeaning → Status → Option (List ℕ) → Option (List ℕ) → Option (List ℕ) → Option (List ℕ) → Type 0
-TellsRun limit (Ends report) status old new errors_old errors_new = (status ≡ Ok) × Appends old new report × (errors_new ≡ errors_old)
-TellsRun limit (Stops report lines) status old new errors_old errors_new = (status ≡ Stopped) × Appends old new report × Appends errors_old errors_new lines
-TellsRun limit Exceeds status old new errors_old errors_new = (status ≡ Limit) × (new ≡ old) × Appends errors_old errors_new (message_of (Endless limit))
+-- a refusal is told whole, and nothing is written to the output
+pub record IsRefusedWith (why : refusal.Refusal) (status : Status) (before after : Outside) : Type 0 where
+  pub told : IsTold why status before.err after.err
+  pub quiet : after.out.bytes ≡ before.out.bytes
 
--- the same of a meaning
-abbrev pub Tells : ℕ → SourceMeaning → Status → Option (List ℕ) → Option (List ℕ) → Option (List ℕ) → Option (List ℕ) → Type 0
-Tells limit (Ran how) status old new errors_old errors_new = TellsRun limit how status old new errors_old errors_new
-Tells limit Misgiven status old new errors_old errors_new = (status ≡ Data) × (new ≡ old)
-Tells limit Overlong status old new errors_old errors_new = (status ≡ Limit) × (new ≡ old)
-Tells limit Nothing status old new errors_old errors_new = (status ≡ Source) × (new ≡ old)
+-- how a run goes under a limit on its ticks is told: a report is written whole, and so are the lines of a stop
+abbrev pub TellsRun : ℕ → RunMeaning → Status → Outside → Outside → Type 0
+TellsRun limit (Done report) status before after = (status ≡ Ok) × Appends before.out.bytes after.out.bytes report × (after.err.bytes ≡ before.err.bytes)
+TellsRun limit (Stopped report lines) status before after = IsTold (refusal.Stopped lines) status before.err after.err × Appends before.out.bytes after.out.bytes report
+TellsRun limit Limit status before after = IsRefusedWith (Ticks limit) status before after
 
--- no read of the source or the data failed, no write of the output, and none of the errors
-pub record IsStill (source : List ℕ) (given : Option (List ℕ)) (reads_old reads_new : List ℕ → ℕ) (writes_old writes_new errors_old errors_new : ℕ) : Type 0 where
-  pub read : Rose (reads_old source) (reads_new source) → ⊥
-  pub read_data : (name : List ℕ) → given ≡ Some name → Rose (reads_old name) (reads_new name) → ⊥
-  pub written : Rose writes_old writes_new → ⊥
-  pub told : Rose errors_old errors_new → ⊥
+-- the status and the lines that tell a meaning of a source with its data
+abbrev pub Tells : List ℕ → Option (List ℕ) → ℕ → SourceMeaning → Status → Outside → Outside → Type 0
+Tells source named limit (Ran how) status before after = TellsRun limit how status before after
+Tells source named limit (Misgiven fault) status before after = IsRefusedWith (Data (shown_name named) fault) status before after
+Tells source named limit Overlong status before after = IsRefusedWith (TooLong (shown_name named) data_limit) status before after
+Tells source named limit (Refused place code) status before after = IsRefusedWith (Source source place code) status before after
+
+-- no write of the output failed, and none of the errors
+pub record WritesAll (before after : Outside) : Type 0 where
+  pub written : Rose before.out.failed after.out.failed → ⊥
+  pub told : Rose before.err.failed after.err.failed → ⊥
+
+-- and no read of the source or the data
+pub record NothingFails (source : List ℕ) (named : Option (List ℕ)) (before after : Outside) : Type 0 where
+  pub read : Rose (before.failed_reads source) (after.failed_reads source) → ⊥
+  pub read_data : (name : List ℕ) → named ≡ Some name → Rose (before.failed_reads name) (after.failed_reads name) → ⊥
+  pub writes : WritesAll before after
 
 -- the source has no more bytes than it may, and means this with its data
 pub record ExpectsOf (files : Files) (source top : List ℕ) (named : Option (List ℕ)) (limit : ℕ) (meaning : SourceMeaning) : Type 0 where

@@ -1,8 +1,8 @@
--- The files that a command names: what holds of their bytes where they are told.
-use Rattle.std.specs.Prelude.{◌≡◌, ◌≤◌, ℕ, List, length, codes, Option, Some, None, ⊤}
-use Rattle.tapa_base.specs.Outside.{Files, file_bytes, Rose}
-use Rattle.tapa_base.specs.Take.{IsLongerThan}
-use Rattle.tapa_drive.specs.Refusal.{Reason, Unread, Longer, NoMemory}
+-- The files that a command names: what holds of their bytes.
+use Rattle.std.specs.Prelude.{◌≡◌, ◌≢◌, ◌≤◌, ℕ, List, length, codes, Option, Some, None, ⊤}
+use Rattle.tapa_base.specs.Outside.{Files, Rose}
+use Rattle.tapa_base.specs.Take.{IsFileOf, IsLongerThan}
+use Rattle.tapa_drive.specs.Refusal.{Refusal, Read, TooLong, Memory}
 
 -- the most bytes that a source may have
 abbrev pub source_limit : ℕ
@@ -12,10 +12,10 @@ source_limit = 262144
 abbrev pub data_limit : ℕ
 data_limit = 33554432
 
--- where the files are told, a file has no more bytes than it may, and this holds of them
+-- a file has no more bytes than it may, and this holds of them: of those of the named file where the files are told, and
+-- else of some bytes
 abbrev pub OfFile : Option Files → ℕ → List ℕ → (List ℕ → Type 0) → Type 0
-OfFile None most name P = ⊤
-OfFile (Some files) most name P = (length (file_bytes files name) ≤ most) × P (file_bytes files name)
+OfFile files most name P = (bytes : List ℕ) × IsFileOf files name bytes × (length bytes ≤ most) × P bytes
 
 abbrev pub OfSource : Option Files → List ℕ → (List ℕ → Type 0) → Type 0
 OfSource files name P = OfFile files source_limit name P
@@ -34,9 +34,15 @@ abbrev pub OfData : Option Files → Option (List ℕ) → (List ℕ → Type 0)
 OfData files None P = P no_data
 OfData files (Some name) P = OfFile files data_limit name P
 
+-- a call that asked for no other file than the data that are named: the files stay, no count falls, and no other changes
+pub record AsksForData {S : Type 0} (files : S → Option Files) (faults : S → List ℕ → ℕ) (named : Option (List ℕ)) (old new : S) : Type 0 where
+  pub same_files : files new ≡ files old
+  pub later : (name : List ℕ) → faults old name ≤ faults new name
+  pub others : (name : List ℕ) → named ≢ Some name → faults new name ≡ faults old name
+
 -- why a file was not taken
-abbrev pub IsUntaken : Option Files → (List ℕ → ℕ) → (List ℕ → ℕ) → List ℕ → ℕ → Reason → Type 0
-IsUntaken files reads_old reads_new name most (Unread file) = (name ≡ file) × Rose (reads_old file) (reads_new file)
-IsUntaken files reads_old reads_new name most (Longer file limit) = (name ≡ file) × (limit ≡ most) × IsLongerThan files file most
-IsUntaken files reads_old reads_new name most NoMemory = ⊤
+abbrev pub IsUntaken : Option Files → (List ℕ → ℕ) → (List ℕ → ℕ) → List ℕ → ℕ → Refusal → Type 0
+IsUntaken files reads_old reads_new name most (Read file) = (name ≡ file) × Rose (reads_old file) (reads_new file)
+IsUntaken files reads_old reads_new name most (TooLong file limit) = (name ≡ file) × (limit ≡ most) × IsLongerThan files file most
+IsUntaken files reads_old reads_new name most Memory = ⊤
 IsUntaken files reads_old reads_new name most _ = ⊥

@@ -9,9 +9,11 @@ use Rattle.tapa_syntax.specs.declared.program.Memory.{Memory}
 use Rattle.tapa_syntax.specs.declared.program.Program.{Program}
 use Rattle.tapa_syntax.specs.declared.program.Scalar.{Scalar}
 use Rattle.run_data.specs.Answer.{IsFirstFault}
-use Rattle.run_data.specs.Data.{IsJson, faults, scalars_of, memories_of}
+use Rattle.run_data.specs.Data.{IsJson, Misshapen, Misfit, Oversized, faults, scalars_of, memories_of}
+use Rattle.run_data.specs.declared.data.DataFault.{DataFault as FaultOfData}
+use Rattle.run_data.specs.declared.data.DataFault.TheVariants.{J1, J2, J3, J4, OutOfMemory}
 use Rattle.run_program.specs.Run.{Values}
-use Rattle.tapa_drive.specs.Refusal.{Reason, UnfitData, NoMemory, DataFault, NotJson, Faulty}
+use Rattle.tapa_drive.specs.Refusal.{DataFault, NotJson, Faulty}
 
 abbrev pub port_of : List ℕ → Kind → Port
 port_of name kind = record { name = name; bits = bits_of kind }
@@ -36,8 +38,10 @@ abbrev pub HasDataFault : Program → List ℕ → DataFault → Type 0
 HasDataFault program text NotJson = (file : Json) → IsJson text file → ⊥
 HasDataFault program text (Faulty fault) = (shape : Shape) × IsShapeOf program shape × IsFirstFault text shape fault
 
--- why a text gives a program no values, told of a file
-abbrev pub IsUnfitBy : Program → List ℕ → List ℕ → Reason → Type 0
-IsUnfitBy program text name (UnfitData file fault) = (name ≡ file) × HasDataFault program text fault
-IsUnfitBy program text name NoMemory = ⊤
-IsUnfitBy program text name _ = ⊥
+-- why a text gives a program no values; want of memory says nothing of it
+abbrev pub IsUnfitBy : Program → List ℕ → FaultOfData → Type 0
+IsUnfitBy program text J1 = HasDataFault program text NotJson
+IsUnfitBy program text (J2 key) = HasDataFault program text (Faulty (Misshapen key.items))
+IsUnfitBy program text (J3 key) = HasDataFault program text (Faulty (Misfit key.items))
+IsUnfitBy program text (J4 key) = HasDataFault program text (Faulty (Oversized key.items))
+IsUnfitBy program text OutOfMemory = ⊤

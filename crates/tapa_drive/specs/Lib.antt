@@ -1,4 +1,5 @@
 pub mod Answer
+pub mod Carried
 pub mod Codes
 pub mod Decided
 pub mod Files
@@ -6,6 +7,7 @@ pub mod Found
 pub mod Inputs
 pub mod Meaning
 pub mod OneMeaning
+pub mod Outside
 pub mod Refusal
 pub mod Refused
 pub mod Source

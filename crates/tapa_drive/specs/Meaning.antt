@@ -2,25 +2,35 @@
 use Rattle.std.specs.Prelude.{ℕ, List}
 use Rattle.run_data.specs.Data.{Misshapen, Misfit, Oversized}
 use Rattle.run_data.specs.declared.data.DataFault.{DataFault as FaultOfData}
-use Rattle.run_data.specs.declared.data.DataFault.TheVariants.{J1, J2, J3, J4, OutOfMemory as NoRoom}
-use Rattle.tapa_drive.specs.Refusal.{Reason, BadWords, Unread, Unwritten, Longer, Unfit, UnfitData, Endless, NoMemory, NotJson, Faulty}
+use Rattle.run_data.specs.declared.data.DataFault.TheVariants.{J1, J2, J3, J4, OutOfMemory}
+use Rattle.run_program.specs.Ending.{lines_in}
+use Rattle.tapa_words.specs.declared.command.WordsFault.{WordsFault}
+use Rattle.tapa_words.specs.declared.command.WordsFault.TheVariants as words_fault
+use Rattle.tapa_drive.specs.Refusal as spec
+use Rattle.tapa_drive.specs.Refusal.{NotJson, Faulty}
 use Rattle.tapa_drive.specs.declared.refusal.Refusal.{Refusal}
-use Rattle.tapa_drive.specs.declared.refusal.Refusal.TheVariants.{Usage, Read, Write, TooLong, Source, Data, Ticks, Memory}
+use Rattle.tapa_drive.specs.declared.refusal.Refusal.TheVariants.{Usage, Read, Write, TooLong, Source, Data, Ticks, Stopped, Memory}
 
 -- a fault of data, told of a file
-abbrev pub data_reason : List ℕ → FaultOfData → Reason
-data_reason file J1 = UnfitData file NotJson
-data_reason file (J2 key) = UnfitData file (Faulty (Misshapen key.items))
-data_reason file (J3 key) = UnfitData file (Faulty (Misfit key.items))
-data_reason file (J4 key) = UnfitData file (Faulty (Oversized key.items))
-data_reason file NoRoom = NoMemory
+abbrev pub data_refusal : List ℕ → FaultOfData → spec.Refusal
+data_refusal file J1 = spec.Data file NotJson
+data_refusal file (J2 key) = spec.Data file (Faulty (Misshapen key.items))
+data_refusal file (J3 key) = spec.Data file (Faulty (Misfit key.items))
+data_refusal file (J4 key) = spec.Data file (Faulty (Oversized key.items))
+data_refusal file OutOfMemory = spec.Memory
 
-abbrev pub reason : Refusal → Reason
-reason Usage = BadWords
-reason (Read file) = Unread file.now
-reason Write = Unwritten
-reason (TooLong file limit) = Longer file.now limit
-reason (Source file place code) = Unfit file.now place code
-reason (Data file fault) = data_reason file.now fault
-reason (Ticks limit) = Endless limit
-reason Memory = NoMemory
+abbrev pub refusal_of : Refusal → spec.Refusal
+refusal_of Usage = spec.Usage
+refusal_of (Read file) = spec.Read file.now
+refusal_of Write = spec.Write
+refusal_of (TooLong file limit) = spec.TooLong file.now limit
+refusal_of (Source file place code) = spec.Source file.now place code
+refusal_of (Data file fault) = data_refusal file.now fault
+refusal_of (Ticks limit) = spec.Ticks limit
+refusal_of (Stopped lines) = spec.Stopped (lines_in lines.items)
+refusal_of Memory = spec.Memory
+
+-- why words were not read
+abbrev pub words_refusal : WordsFault → spec.Refusal
+words_refusal words_fault.Usage = spec.Usage
+words_refusal words_fault.OutOfMemory = spec.Memory

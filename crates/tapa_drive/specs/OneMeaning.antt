@@ -6,10 +6,10 @@ use Rattle.tapa_syntax.specs.Flat.{flat_program}
 use Rattle.run_program.specs.Laws.{RunMeaning}
 use Rattle.run_program.specs.Run.{Values}
 use Rattle.tapa_drive.specs.Answer.{IsAsked}
-use Rattle.tapa_drive.specs.Decided.{SourceMeaning, Ran, Nothing, Given, Bytes, Means}
+use Rattle.tapa_drive.specs.Decided.{SourceMeaning, Ran, Given, Bytes, Means}
 use Rattle.tapa_drive.specs.Inputs.{HasDataFault}
 use Rattle.tapa_drive.specs.Refusal.{DataFault}
-use Rattle.tapa_drive.specs.Source.{IsProgramOf, IsRefusedSource}
+use Rattle.tapa_drive.specs.Source.{IsProgramOf, IsRefusedSource, MeansNothing}
 use Rattle.tapa_drive.specs.declared.source.SourceCode.{SourceCode}
 
 -- the programs of a source are one as plain data
@@ -34,10 +34,9 @@ abbrev pub SourcesMeanSomething : Type 0
 SourcesMeanSomething =
     (text top bytes : List ℕ) (limit : ℕ) (p : Program) (v : Values) → IsAsked text top bytes p v → (how : RunMeaning) × Means text top (Bytes bytes) limit (Ran how)
 
--- where a rule refuses it it means nothing
+-- where a rule refuses it it has no program
 abbrev pub RefusedSourcesMeanNothing : Type 0
-RefusedSourcesMeanNothing =
-    (text top : List ℕ) (given : Given) (limit : ℕ) (place : Place) (code : SourceCode) → IsRefusedSource text top place code → Means text top given limit Nothing
+RefusedSourcesMeanNothing = (text top : List ℕ) (place : Place) (code : SourceCode) → IsRefusedSource text top place code → MeansNothing text top
 
 -- and it is refused at one place, by one rule
 abbrev pub SourcesHaveOneRefusal : Type 0

@@ -1,10 +1,11 @@
 -- Why a command was not carried out to its end, and what is told of it.
-use Rattle.std.specs.Prelude.{ℕ, List, [], ◌++◌, Option, Some, None, codes, decimal}
+use Rattle.std.specs.Prelude.{ℕ, List, [], ◌++◌, Option, Some, None, codes, decimal, ⊤}
 use Rattle.tapa_base.specs.declared.text.Place.{Place}
 use Rattle.check_scope.specs.declared.fault.CheckCode.{CheckCode}
 use Rattle.check_scope.specs.declared.fault.CheckCode.TheVariants.{C1, C2, C3, C4, C5, C6, C7, C8, C9, C10, C11}
 use Rattle.tapa_drive.specs.declared.source.SourceCode.{SourceCode}
 use Rattle.tapa_drive.specs.declared.source.SourceCode.TheVariants.{L1, L2, L3, L4, P1, P2, Rule}
+use Rattle.run_program.specs.Ending.{joined}
 use Rattle.run_data.specs.Data.{Fault, Misshapen, Misfit, Oversized}
 
 -- what is wrong with data: the text is no JSON, or it has this fault
@@ -12,24 +13,26 @@ pub data DataFault : Type 0 where
   NotJson : DataFault
   Faulty : (fault : Fault) → DataFault
 
-pub data Reason : Type 0 where
+-- why a command ends with another status than that of done work
+pub data Refusal : Type 0 where
   -- the words are no command
-  BadWords : Reason
+  Usage : Refusal
   -- a file could not be read
-  Unread : (file : List ℕ) → Reason
+  Read : (file : List ℕ) → Refusal
   -- the output could not be written
-  Unwritten : Reason
+  Write : Refusal
   -- a file is longer than its limit
-  Longer : (file : List ℕ) (limit : ℕ) → Reason
+  TooLong : (file : List ℕ) (limit : ℕ) → Refusal
   -- a source breaks a rule
-  Unfit : (file : List ℕ) (place : Place) (code : SourceCode) → Reason
+  Source : (file : List ℕ) (place : Place) (code : SourceCode) → Refusal
   -- data are not what the program asks for
-  UnfitData : (file : List ℕ) (fault : DataFault) → Reason
+  Data : (file : List ℕ) (fault : DataFault) → Refusal
   -- a run makes more ticks than its limit, or never ends
-  Endless : (limit : ℕ) → Reason
-  -- a run stopped, and these lines tell what its instances wait for
-  Blocked : (lines : List ℕ) → Reason
-  NoMemory : Reason
+  Ticks : (limit : ℕ) → Refusal
+  -- a run stopped, and each line tells what an instance waits for
+  Stopped : (lines : List (List ℕ)) → Refusal
+  -- memory ran out
+  Memory : Refusal
 
 -- the code of a rule beyond the grammar, and what it says
 abbrev pub rule_text : CheckCode → List ℕ
@@ -68,14 +71,22 @@ data_text (Faulty (Misfit key)) = codes "J3 " ++ key
 data_text (Faulty (Oversized key)) = codes "J4 " ++ key
 
 -- the lines that tell it
-abbrev pub message_of : Reason → List ℕ
-message_of BadWords = codes "tapa: usage: tapa build|run|cosim|plan|gen\n"
-message_of (Unread file) = codes "tapa: cannot read " ++ (file ++ codes "\n")
-message_of Unwritten = codes "tapa: cannot write\n"
-message_of (Longer file limit) = codes "tapa: " ++ (file ++ (codes " is longer than " ++ (decimal limit ++ codes " bytes\n")))
-message_of (Unfit file place code) =
+abbrev pub message_of : Refusal → List ℕ
+message_of Usage = codes "tapa: usage: tapa build|run|cosim|plan|gen\n"
+message_of (Read file) = codes "tapa: cannot read " ++ (file ++ codes "\n")
+message_of Write = codes "tapa: cannot write\n"
+message_of (TooLong file limit) = codes "tapa: " ++ (file ++ (codes " is longer than " ++ (decimal limit ++ codes " bytes\n")))
+message_of (Source file place code) =
     codes "tapa: " ++ (file ++ (codes ":" ++ (decimal place.line ++ (codes ":" ++ (decimal place.col ++ (codes ": " ++ (code_text code ++ codes "\n")))))))
-message_of (UnfitData file fault) = codes "tapa: " ++ (file ++ (codes ": " ++ (data_text fault ++ codes "\n")))
-message_of (Endless limit) = codes "tapa: more than " ++ (decimal limit ++ codes " ticks\n")
-message_of (Blocked lines) = lines
-message_of NoMemory = codes "tapa: out of memory\n"
+message_of (Data file fault) = codes "tapa: " ++ (file ++ (codes ": " ++ (data_text fault ++ codes "\n")))
+message_of (Ticks limit) = codes "tapa: more than " ++ (decimal limit ++ codes " ticks\n")
+message_of (Stopped lines) = joined lines
+message_of Memory = codes "tapa: out of memory\n"
+
+-- its lines name nothing that is read or made while the program runs
+abbrev pub IsFixed : Refusal → Type 0
+IsFixed Usage = ⊤
+IsFixed Write = ⊤
+IsFixed (Stopped lines) = ⊤
+IsFixed Memory = ⊤
+IsFixed _ = ⊥

@@ -1,8 +1,9 @@
--- The numbers of the statuses, and the status of each reason.
+-- The numbers of the statuses, and the status of each refusal.
 use Rattle.std.specs.Prelude.{ℕ}
 use Rattle.tapa_drive.specs.declared.status.Status.{Status}
 use Rattle.tapa_drive.specs.declared.status.Status.TheVariants.{Ok, Source, Usage, Data, Read, Write, Limit, Stopped, Memory}
-use Rattle.tapa_drive.specs.Refusal.{Reason, BadWords, Unread, Unwritten, Longer, Unfit, UnfitData, Endless, Blocked, NoMemory}
+use Rattle.tapa_drive.specs.Refusal as refusal
+use Rattle.tapa_drive.specs.Refusal.{Refusal}
 
 abbrev pub code_of : Status → ℕ
 code_of Ok = 0
@@ -15,13 +16,13 @@ code_of Limit = 7
 code_of Stopped = 8
 code_of Memory = 9
 
-abbrev pub status_of : Reason → Status
-status_of BadWords = Usage
-status_of (Unread file) = Read
-status_of Unwritten = Write
-status_of (Longer file limit) = Limit
-status_of (Unfit file place code) = Source
-status_of (UnfitData file fault) = Data
-status_of (Endless limit) = Limit
-status_of (Blocked lines) = Stopped
-status_of NoMemory = Memory
+abbrev pub status_of : Refusal → Status
+status_of refusal.Usage = Usage
+status_of (refusal.Read file) = Read
+status_of refusal.Write = Write
+status_of (refusal.TooLong file limit) = Limit
+status_of (refusal.Source file place code) = Source
+status_of (refusal.Data file fault) = Data
+status_of (refusal.Ticks limit) = Limit
+status_of (refusal.Stopped lines) = Stopped
+status_of refusal.Memory = Memory

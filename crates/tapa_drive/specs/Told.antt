@@ -1,14 +1,19 @@
--- How a reason is told.
-use Rattle.std.specs.Prelude.{◌≡◌, ◌⊎◌, ℕ, List, Option}
+-- How a refusal is told.
+use Rattle.std.specs.Prelude.{◌≡◌, ◌⊎◌}
 use Rattle.std.specs.Io.KnownBytes.{Appends}
 use Rattle.tapa_base.specs.Outside.{Rose, AppendsPart}
-use Rattle.tapa_drive.specs.Refusal.{Reason, message_of}
+use Rattle.tapa_drive.specs.Outside.{Written}
+use Rattle.tapa_drive.specs.Refusal.{Refusal, message_of}
 use Rattle.tapa_drive.specs.Status.{status_of}
 use Rattle.tapa_drive.specs.declared.status.Status.{Status}
 use Rattle.tapa_drive.specs.declared.status.Status.TheVariants.{Write}
 
--- the lines of the reason were written whole, or a write failed and a front part of them stands
-abbrev pub IsToldAs : Reason → Status → Option (List ℕ) → Option (List ℕ) → ℕ → ℕ → Type 0
-IsToldAs reason status old new before now =
-    ((status ≡ status_of reason) × Appends old new (message_of reason))
-    ⊎ ((status ≡ Write) × Rose before now × AppendsPart old new (message_of reason))
+-- the status is that of the refusal, and its lines were written whole
+abbrev pub IsTold : Refusal → Status → Written → Written → Type 0
+IsTold refusal status before after = (status ≡ status_of refusal) × Appends before.bytes after.bytes (message_of refusal)
+
+-- so it is, or a write failed and a front part of the lines stands
+abbrev pub IsToldAs : Refusal → Status → Written → Written → Type 0
+IsToldAs refusal status before after =
+    IsTold refusal status before after
+    ⊎ ((status ≡ Write) × Rose before.failed after.failed × AppendsPart before.bytes after.bytes (message_of refusal))

@@ -6,10 +6,10 @@ ghost use Rattle.tapa_syntax.specs.WellFormed.{IsWellFormed};
 ghost use Rattle.kahn_model.specs.Fits.{FitsInput};
 ghost use Rattle.net_core.specs.Bounded.{scalars_of, memories_of};
 ghost use Rattle.run_program.specs.Run.{values_of};
-ghost use Rattle.tapa_drive.specs.Files.{OfSource, OfData, IsUntaken};
+ghost use Rattle.tapa_drive.specs.Files.{OfSource, OfData, IsUntaken, AsksForData};
 ghost use Rattle.tapa_drive.specs.Found.{IsNotFound, IsNotGiven};
 ghost use Rattle.tapa_drive.specs.Inputs.{GivesValues};
-ghost use Rattle.tapa_drive.specs.Meaning.{reason};
+ghost use Rattle.tapa_drive.specs.Meaning.{refusal_of};
 ghost use Rattle.tapa_drive.specs.Source.{IsProgramOf};
 
 use crate::inputs::read_input;
@@ -24,6 +24,9 @@ const SOURCE_LIMIT: u64 = 262_144;
 
 const DATA_LIMIT: u64 = 33_554_432;
 
+// The data where no file is named.
+const NO_DATA: &str = "{}";
+
 // The bytes of a file, of which there may be so many.
 fn read_file<'a, S: Shelf>(
     alloc: Global,
@@ -35,7 +38,7 @@ fn read_file<'a, S: Shelf>(
     ensures whole { IfOk result (λ text. IsFileOf (S.files shelf.old) file.now text.items) }
     ensures within { IfOk result (λ text. length text.items ≤ limit) }
     ensures asks { AsksFor S.files S.faults file.now shelf.old shelf.new }
-    ensures refused { IfErr result (λ refusal. IsUntaken (S.files shelf.old) (S.faults shelf.old) (S.faults shelf.new) file.now limit (reason refusal)) }
+    ensures refused { IfErr result (λ refusal. IsUntaken (S.files shelf.old) (S.faults shelf.old) (S.faults shelf.new) file.now limit (refusal_of refusal)) }
 {
     match take_file(alloc, shelf, file, limit) {
         Ok(text) => Ok(text),
@@ -46,7 +49,7 @@ fn read_file<'a, S: Shelf>(
 }
 
 /// The program of a source on a shelf.
-pub fn read_source<'a, S: Shelf>(
+pub(crate) fn read_source<'a, S: Shelf>(
     alloc: Global,
     source: &'a str,
     top: &str,
@@ -55,7 +58,7 @@ pub fn read_source<'a, S: Shelf>(
     ensures found { IfOk result (λ program. OfSource (S.files shelf.old) source.now (λ text. IsProgramOf text top.now program)) }
     ensures well_formed { IfOk result (λ program. IsWellFormed program) }
     ensures asks { AsksFor S.files S.faults source.now shelf.old shelf.new }
-    ensures refused { IfErr result (λ refusal. IsNotFound (S.files shelf.old) (S.faults shelf.old) (S.faults shelf.new) source.now top.now (reason refusal)) }
+    ensures refused { IfErr result (λ refusal. IsNotFound (S.files shelf.old) (S.faults shelf.old) (S.faults shelf.new) source.now top.now (refusal_of refusal)) }
 {
     let text = match read_file(alloc, source, SOURCE_LIMIT, shelf) {
         Ok(text) => text,
@@ -73,7 +76,7 @@ pub fn read_source<'a, S: Shelf>(
 }
 
 /// The input that a file of data on a shelf gives a program, and an empty object where no file is named.
-pub fn read_values<'a, S: Shelf>(
+pub(crate) fn read_values<'a, S: Shelf>(
     alloc: Global,
     program: &Program,
     named: Option<&'a str>,
@@ -81,16 +84,26 @@ pub fn read_values<'a, S: Shelf>(
 ) -> Result<Input, Refusal<'a>>
     ensures gives { IfOk result (λ input. OfData (S.files shelf.old) (option_map (λ file. file.now) named.entry) (λ bytes. GivesValues program.now bytes (values_of input))) }
     ensures fits { IfOk result (λ input. FitsInput program.now (scalars_of input) (memories_of input)) }
-    ensures refused { IfErr result (λ refusal. IsNotGiven (S.files shelf.old) (S.faults shelf.old) (S.faults shelf.new) program.now (option_map (λ file. file.now) named.entry) (reason refusal)) }
+    ensures asks { AsksForData S.files S.faults (option_map (λ file. file.now) named.entry) shelf.old shelf.new }
+    ensures refused { IfErr result (λ refusal. IsNotGiven (S.files shelf.old) (S.faults shelf.old) (S.faults shelf.new) program.now (option_map (λ file. file.now) named.entry) (refusal_of refusal)) }
 {
     match named {
-        None => read_input(alloc, program, b"{}", "{}"),
+        None => match read_input(alloc, program, NO_DATA.as_bytes()) {
+            Ok(input) => Ok(input),
+            Err(fault) => Err(Refusal::Data {
+                file: NO_DATA,
+                fault,
+            }),
+        },
         Some(file) => {
             let text = match read_file(alloc, file, DATA_LIMIT, shelf) {
                 Ok(text) => text,
                 Err(refusal) => return Err(refusal),
             };
-            read_input(alloc, program, &text, file)
+            match read_input(alloc, program, &text) {
+                Ok(input) => Ok(input),
+                Err(fault) => Err(Refusal::Data { file, fault }),
+            }
         }
     }
 }

@@ -6,9 +6,7 @@ ghost use Rattle.kahn_model.specs.Fits.{FitsInput};
 ghost use Rattle.net_core.specs.Bounded.{scalars_of, memories_of};
 ghost use Rattle.run_program.specs.Run.{values_of};
 ghost use Rattle.tapa_drive.specs.Inputs.{port_of, IsShapeOf, GivesValues, IsUnfitBy};
-ghost use Rattle.tapa_drive.specs.Meaning.{reason};
 
-use crate::refusal::Refusal;
 use net_core::Input;
 use run_data::{Data, DataFault, read_data};
 use std::alloc::Global;
@@ -44,8 +42,8 @@ fn memory_ports(alloc: Global, memories: &[Memory]) -> Result<Vec<Port>, OutOfMe
     Ok(ports)
 }
 
-/// What the parameters of a program's top task ask for.
-pub fn shape(alloc: Global, program: &Program) -> Result<Shape, OutOfMemory>
+// What the parameters of a program's top task ask for.
+fn shape(alloc: Global, program: &Program) -> Result<Shape, OutOfMemory>
     ensures is { IfOk result (IsShapeOf program.now) }
     ensures scalars { IfOk result (λ shape. All (λ port. port.bits ≤ 64) shape.scalars.items) }
     ensures memories { IfOk result (λ shape. All (λ port. port.bits ≤ 64) shape.memories.items) }
@@ -55,20 +53,15 @@ pub fn shape(alloc: Global, program: &Program) -> Result<Shape, OutOfMemory>
     Ok(Shape { scalars, memories })
 }
 
-/// The input that a text of data gives a program, or the first fault that it has, told of a file.
-pub fn read_input<'a>(
-    alloc: Global,
-    program: &Program,
-    text: &[u8],
-    file: &'a str,
-) -> Result<Input, Refusal<'a>>
+/// The input that a text of data gives a program, or the first fault that it has.
+pub fn read_input(alloc: Global, program: &Program, text: &[u8]) -> Result<Input, DataFault>
     ensures gives { IfOk result (λ input. GivesValues program.now text.now (values_of input)) }
     ensures fits { IfOk result (λ input. FitsInput program.now (scalars_of input) (memories_of input)) }
-    ensures refused { IfErr result (λ refusal. IsUnfitBy program.now text.now file.now (reason refusal)) }
+    ensures refused { IfErr result (IsUnfitBy program.now text.now) }
 {
     let shape = match shape(alloc, program) {
         Ok(shape) => shape,
-        Err(_) => return Err(Refusal::Memory),
+        Err(_) => return Err(DataFault::OutOfMemory),
     };
     match read_data(alloc, text, &shape) {
         Ok(
@@ -78,6 +71,6 @@ pub fn read_input<'a>(
                 ..
             },
         ) => Ok(Input { scalars, memories }),
-        Err(fault) => Err(Refusal::Data { file, fault }),
+        Err(fault) => Err(fault),
     }
 }

@@ -11,9 +11,10 @@ mod source;
 mod status;
 mod top;
 
-pub use inputs::{read_input, shape};
+pub use inputs::read_input;
 pub use program::{SourceFault, read_program};
-pub use refusal::{Refusal, tell, tell_stopped};
+pub use refusal::refuse_words;
 pub use source::SourceCode;
 pub use status::Status;
-pub use top::{Ended, tapa};
+pub use tapa_words::WordsFault;
+pub use top::tapa;

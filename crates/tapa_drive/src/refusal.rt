@@ -1,10 +1,11 @@
-ghost use Rattle.std.specs.Prelude.{◌≡◌, ◌≤◌, ◌⊎◌, ◌++◌, codes, IfOk, OnOk, OnErr};
+ghost use Rattle.std.specs.Prelude.{◌≡◌, ◌⊎◌, ◌++◌, codes, IfOk, OnOk, OnErr, ◌≤◌};
 ghost use Rattle.std.specs.Io.KnownBytes.{Appends};
 ghost use Rattle.tapa_base.specs.Outside.{AppendsPart, Rose};
-ghost use Rattle.run_program.specs.Ending.{joined};
-ghost use Rattle.tapa_drive.specs.Meaning.{reason, data_reason};
+ghost use Rattle.run_program.specs.Ending.{joined, lines_in};
+ghost use Rattle.tapa_drive.specs.Meaning.{refusal_of, data_refusal, words_refusal};
+ghost use Rattle.tapa_drive.specs.Outside.{written};
 ghost use Rattle.tapa_drive.specs.Told.{IsToldAs};
-ghost use Rattle.tapa_drive.specs.Refusal.{NoMemory, Blocked, message_of};
+ghost use Rattle.tapa_drive.specs.Refusal.{Refusal as Why, message_of, code_text, IsFixed};
 ghost use Rattle.tapa_drive.specs.Status.{status_of};
 
 use crate::source::SourceCode;
@@ -12,10 +13,11 @@ use crate::status::Status;
 use run_data::DataFault;
 use std::alloc::Global;
 use tapa_base::{OutOfMemory, Place, Sink, WriteFault, put_all};
+use tapa_words::WordsFault;
 
-/// Why a command was not carried out to its end.
+/// Why a command ends with another status than that of done work.
 #[derive(Drop)]
-pub enum Refusal<'a> {
+pub(crate) enum Refusal<'a> {
     Usage,
     Read {
         file: &'a str,
@@ -40,59 +42,51 @@ pub enum Refusal<'a> {
     Ticks {
         limit: u64,
     },
+    /// The run stopped; each line tells what an instance waits for.
+    Stopped {
+        lines: Vec<Vec<u8>>,
+    },
     Memory,
 }
 
-const USAGE: &str = "tapa: usage: tapa build|run|cosim|plan|gen\n";
+const USAGE: &[u8] = b"tapa: usage: tapa build|run|cosim|plan|gen\n";
 
-const NO_MEMORY: &str = "tapa: out of memory\n";
+const NO_OUTPUT: &[u8] = b"tapa: cannot write\n";
 
-impl Refusal<'_> {
-    pub fn status(&self) -> Status
-        ensures { result ≡ status_of (reason self.now) }
-    {
-        match self {
-            Refusal::Usage => Status::Usage,
-            Refusal::Read { .. } => Status::Read,
-            Refusal::Write => Status::Write,
-            Refusal::TooLong { .. } => Status::Limit,
-            Refusal::Source { .. } => Status::Source,
-            Refusal::Data { fault, .. } => match fault {
-                DataFault::OutOfMemory => Status::Memory,
-                _ => Status::Data,
-            },
-            Refusal::Ticks { .. } => Status::Limit,
-            Refusal::Memory => Status::Memory,
-        }
-    }
+const NO_MEMORY: &[u8] = b"tapa: out of memory\n";
 
-    /// The line that tells it.
-    pub fn line(&self, alloc: Global) -> Result<Vec<u8>, OutOfMemory>
-        ensures { IfOk result (λ line. line.items ≡ message_of (reason self.now)) }
-    {
-        match self {
-            Refusal::Usage => Ok(String::from_str(alloc, USAGE)?.into_bytes()),
-            Refusal::Read { file } => {
-                Ok(format!(in alloc; "tapa: cannot read {file}\n")?.into_bytes())
-            }
-            Refusal::Write => Ok(String::from_str(alloc, "tapa: cannot write\n")?.into_bytes()),
-            Refusal::TooLong { file, limit } => {
-                let line = format!(in alloc; "tapa: {file} is longer than {limit} bytes\n")?;
-                Ok(line.into_bytes())
-            }
-            Refusal::Source { file, place, code } => {
-                let line = place.line;
-                let col = place.col;
-                let text = code.text(alloc)?;
-                Ok(format!(in alloc; "tapa: {file}:{line}:{col}: {text}\n")?.into_bytes())
-            }
-            Refusal::Data { file, fault } => data_line(alloc, file, fault),
-            Refusal::Ticks { limit } => {
-                Ok(format!(in alloc; "tapa: more than {limit} ticks\n")?.into_bytes())
-            }
-            Refusal::Memory => Ok(String::from_str(alloc, NO_MEMORY)?.into_bytes()),
-        }
-    }
+// ---- lines that are made
+
+fn read_line(alloc: Global, file: &str) -> Result<Vec<u8>, OutOfMemory>
+    ensures { IfOk result (λ line. line.items ≡ message_of (Why.Read file.now)) }
+{
+    Ok(format!(in alloc; "tapa: cannot read {file}\n")?.into_bytes())
+}
+
+fn long_line(alloc: Global, file: &str, limit: u64) -> Result<Vec<u8>, OutOfMemory>
+    ensures { IfOk result (λ line. line.items ≡ message_of (Why.TooLong file.now limit)) }
+{
+    Ok(format!(in alloc; "tapa: {file} is longer than {limit} bytes\n")?.into_bytes())
+}
+
+fn source_line(
+    alloc: Global,
+    file: &str,
+    place: Place,
+    code: SourceCode,
+) -> Result<Vec<u8>, OutOfMemory>
+    ensures { IfOk result (λ line. line.items ≡ message_of (Why.Source file.now place code)) }
+{
+    let line = place.line;
+    let col = place.col;
+    let text = code.text(alloc)?;
+    Ok(format!(in alloc; "tapa: {file}:{line}:{col}: {text}\n")?.into_bytes())
+}
+
+fn ticks_line(alloc: Global, limit: u64) -> Result<Vec<u8>, OutOfMemory>
+    ensures { IfOk result (λ line. line.items ≡ message_of (Why.Ticks limit)) }
+{
+    Ok(format!(in alloc; "tapa: more than {limit} ticks\n")?.into_bytes())
 }
 
 // A line: a file, a code and a key.
@@ -108,23 +102,35 @@ fn key_line(alloc: Global, file: &str, code: &[u8], key: &[u8]) -> Result<Vec<u8
     Ok(line)
 }
 
-// The line that tells a fault of data.
-fn data_line(alloc: Global, file: &str, fault: &DataFault) -> Result<Vec<u8>, OutOfMemory>
-    ensures { IfOk result (λ line. line.items ≡ message_of (data_reason file.now fault.now)) }
+// ---- telling
+
+// Puts a line, and answers the status, or that it could not be put.
+fn tell_line<E: Sink>(line: &[u8], status: Status, err: &mut E) -> Status
+    ensures { (why : Why) → line.now ≡ message_of why → status ≡ status_of why →
+        IsToldAs why result (written (E.contents err.old) (E.faults err.old)) (written (E.contents err.new) (E.faults err.new)) }
 {
-    match fault {
-        DataFault::J1 => key_line(alloc, file, b"J1", b""),
-        DataFault::J2(key) => key_line(alloc, file, b"J2 ", key),
-        DataFault::J3(key) => key_line(alloc, file, b"J3 ", key),
-        DataFault::J4(key) => key_line(alloc, file, b"J4 ", key),
-        DataFault::OutOfMemory => Ok(Vec::from_slice(alloc, NO_MEMORY.as_bytes())?),
+    match put_all(err, line) {
+        Ok(()) => status,
+        Err(_) => Status::Write,
+    }
+}
+
+// Puts a line that was made, and tells want of memory where it was not.
+fn tell_made<E: Sink>(line: Result<Vec<u8>, OutOfMemory>, status: Status, err: &mut E) -> Status
+    ensures { (why : Why) → IfOk line (λ made. made.items ≡ message_of why) → status ≡ status_of why →
+        IsToldAs why result (written (E.contents err.old) (E.faults err.old)) (written (E.contents err.new) (E.faults err.new))
+        ⊎ IsToldAs Why.Memory result (written (E.contents err.old) (E.faults err.old)) (written (E.contents err.new) (E.faults err.new)) }
+{
+    match line {
+        Ok(line) => tell_line(&line, status, err),
+        Err(_) => tell_line(NO_MEMORY, Status::Memory, err),
     }
 }
 
 // Puts lines, one a call.
 fn put_lines<E: Sink>(err: &mut E, lines: &[Vec<u8>]) -> Result<(), WriteFault>
-    ensures whole { OnOk result (Appends (E.contents err.old) (E.contents err.new) (joined lines.now)) }
-    ensures part { OnErr result (AppendsPart (E.contents err.old) (E.contents err.new) (joined lines.now)) }
+    ensures whole { OnOk result (Appends (E.contents err.old) (E.contents err.new) (joined (lines_in lines.now))) }
+    ensures part { OnErr result (AppendsPart (E.contents err.old) (E.contents err.new) (joined (lines_in lines.now))) }
     ensures later { E.faults err.old ≤ E.faults err.new }
     ensures fault { OnErr result (Rose (E.faults err.old) (E.faults err.new)) }
 {
@@ -134,10 +140,9 @@ fn put_lines<E: Sink>(err: &mut E, lines: &[Vec<u8>]) -> Result<(), WriteFault>
     Ok(())
 }
 
-/// Tells what the instances of a stopped run wait for, a line each, and answers the status.
-pub fn tell_stopped<E: Sink>(lines: &[Vec<u8>], err: &mut E) -> Status
-    ensures told { IsToldAs (Blocked (joined lines.now)) result (E.contents err.old) (E.contents err.new) (E.faults err.old) (E.faults err.new) }
-    ensures later { E.faults err.old ≤ E.faults err.new }
+// Tells what the instances of a stopped run wait for, a line each.
+fn tell_stopped<E: Sink>(lines: &[Vec<u8>], err: &mut E) -> Status
+    ensures { IsToldAs (Why.Stopped (lines_in lines.now)) result (written (E.contents err.old) (E.faults err.old)) (written (E.contents err.new) (E.faults err.new)) }
 {
     match put_lines(err, lines) {
         Ok(()) => Status::Stopped,
@@ -145,20 +150,51 @@ pub fn tell_stopped<E: Sink>(lines: &[Vec<u8>], err: &mut E) -> Status
     }
 }
 
-/// Tells a refusal, or want of memory in its place, and answers the status.
-pub fn tell<E: Sink>(alloc: Global, refusal: &Refusal<'_>, err: &mut E) -> Status
-    ensures told { IsToldAs (reason refusal.now) result (E.contents err.old) (E.contents err.new) (E.faults err.old) (E.faults err.new)
-        ⊎ IsToldAs NoMemory result (E.contents err.old) (E.contents err.new) (E.faults err.old) (E.faults err.new) }
-    ensures later { E.faults err.old ≤ E.faults err.new }
+// Tells a fault of data.
+fn tell_data<E: Sink>(alloc: Global, file: &str, fault: &DataFault, err: &mut E) -> Status
+    ensures { IsToldAs (data_refusal file.now fault.now) result (written (E.contents err.old) (E.faults err.old)) (written (E.contents err.new) (E.faults err.new))
+        ⊎ IsToldAs Why.Memory result (written (E.contents err.old) (E.faults err.old)) (written (E.contents err.new) (E.faults err.new)) }
 {
-    match refusal.line(alloc) {
-        Ok(line) => match put_all(err, &line) {
-            Ok(()) => refusal.status(),
-            Err(_) => Status::Write,
-        },
-        Err(_) => match put_all(err, NO_MEMORY.as_bytes()) {
-            Ok(()) => Status::Memory,
-            Err(_) => Status::Write,
-        },
+    match fault {
+        DataFault::J1 => tell_made(key_line(alloc, file, b"J1", b""), Status::Data, err),
+        DataFault::J2(key) => tell_made(key_line(alloc, file, b"J2 ", key), Status::Data, err),
+        DataFault::J3(key) => tell_made(key_line(alloc, file, b"J3 ", key), Status::Data, err),
+        DataFault::J4(key) => tell_made(key_line(alloc, file, b"J4 ", key), Status::Data, err),
+        DataFault::OutOfMemory => tell_line(NO_MEMORY, Status::Memory, err),
+    }
+}
+
+/// Tells a refusal, or want of memory in its place, and answers the status. A refusal that names nothing takes no memory.
+pub(crate) fn tell<E: Sink>(alloc: Global, refusal: &Refusal<'_>, err: &mut E) -> Status
+    ensures told { IsToldAs (refusal_of refusal.now) result (written (E.contents err.old) (E.faults err.old)) (written (E.contents err.new) (E.faults err.new))
+        ⊎ IsToldAs Why.Memory result (written (E.contents err.old) (E.faults err.old)) (written (E.contents err.new) (E.faults err.new)) }
+    ensures fixed { IsFixed (refusal_of refusal.now) →
+        IsToldAs (refusal_of refusal.now) result (written (E.contents err.old) (E.faults err.old)) (written (E.contents err.new) (E.faults err.new)) }
+{
+    match refusal {
+        Refusal::Usage => tell_line(USAGE, Status::Usage, err),
+        Refusal::Read { file } => tell_made(read_line(alloc, file), Status::Read, err),
+        Refusal::Write => tell_line(NO_OUTPUT, Status::Write, err),
+        Refusal::TooLong { file, limit } => {
+            tell_made(long_line(alloc, file, *limit), Status::Limit, err)
+        }
+        Refusal::Source { file, place, code } => {
+            tell_made(source_line(alloc, file, *place, *code), Status::Source, err)
+        }
+        Refusal::Data { file, fault } => tell_data(alloc, file, fault, err),
+        Refusal::Ticks { limit } => tell_made(ticks_line(alloc, *limit), Status::Limit, err),
+        Refusal::Stopped { lines } => tell_stopped(lines, err),
+        Refusal::Memory => tell_line(NO_MEMORY, Status::Memory, err),
+    }
+}
+
+/// Tells why the words of a command could not be read, before there is anything to carry out: they are no text, or memory
+/// ran out while they were copied.
+pub fn refuse_words<E: Sink>(fault: WordsFault, err: &mut E) -> Status
+    ensures { IsToldAs (words_refusal fault) result (written (E.contents err.old) (E.faults err.old)) (written (E.contents err.new) (E.faults err.new)) }
+{
+    match fault {
+        WordsFault::Usage => tell_line(USAGE, Status::Usage, err),
+        WordsFault::OutOfMemory => tell_line(NO_MEMORY, Status::Memory, err),
     }
 }

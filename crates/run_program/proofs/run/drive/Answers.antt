@@ -1,5 +1,5 @@
 use Rattle.std.proofs.Common.{inl, inr}
-use Rattle.run_program.specs.Ending.{joined}
+use Rattle.run_program.specs.Ending.{lines_in}
 use Rattle.run_program.proofs.Lines.{on_err}
 use Rattle.run_program.proofs.Running.{done_report, stopped_report}
 use Rattle.run_program.proofs.run.drive.Goals as goal
@@ -16,5 +16,5 @@ returns-in_ok-show-in-Done-clause-end g c =
 
 pub returns-in_err-show-in-Stopped-clause-part : goal.returns-in_err-show-in-Stopped-clause-part
 returns-in_err-show-in-Stopped-clause-part g c =
-    let stopped = stopped_report c.args.program.now c.args.input.now c.args.net.now c.settle.new.net c.args.limit c.in_ok-ticks.field-0 c.requires.fresh c.in_ok-ticks.ensures.program c.in_ok-ticks.ensures.input c.in-Stopped.ticks c.in_ok-ticks.ensures.outcome c.in-Stopped.is (joined c.in_ok-lines-in-Stopped.lines.items) c.in_ok-lines-in-Stopped.ensures in
+    let stopped = stopped_report c.args.program.now c.args.input.now c.args.net.now c.settle.new.net c.args.limit c.in_ok-ticks.field-0 c.requires.fresh c.in_ok-ticks.ensures.program c.in_ok-ticks.ensures.input c.in-Stopped.ticks c.in_ok-ticks.ensures.outcome c.in-Stopped.is (lines_in c.in_ok-lines-in-Stopped.lines.items) c.in_ok-lines-in-Stopped.ensures in
     on_err c.from_residual-in_err-show-in-Stopped.result (inr (_, inr (_, stopped), c.in_err-show-in-Stopped.ensures.part))

@@ -5,4 +5,4 @@ pub returns-in-Ok-read_data-clause-fits : goal.returns-in-Ok-read_data-clause-fi
 returns-in-Ok-read_data-clause-fits c = fits_program c.args.program.now c.in-Ok.shape c.in-Ok.ensures.is c.in-Ok-read_data.field-0 c.in-Ok-read_data.ensures.fits
 
 pub returns-clause-refused : goal.returns-clause-refused
-returns-clause-refused c = unfit c.args.program.now c.in-Ok.shape c.in-Ok.ensures.is c.args.text.now c.args.file.now c.in-Err-read_data.fault c.in-Err-read_data.ensures.cause
+returns-clause-refused c = unfit c.args.program.now c.in-Ok.shape c.in-Ok.ensures.is c.args.text.now c.in-Err-read_data.fault c.in-Err-read_data.ensures.cause

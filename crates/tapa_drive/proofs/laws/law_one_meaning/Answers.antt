@@ -4,4 +4,4 @@ use Rattle.tapa_drive.proofs.Sourced.{means_nothing}
 use Rattle.tapa_drive.proofs.laws.law_one_meaning.Goals as goal
 
 pub returns : goal.returns
-returns c = record { one = means_one; some = means_some; refused = λ text top given limit. means_nothing text top; once = one_refusal }
+returns c = record { one = means_one; some = means_some; refused = means_nothing; once = one_refusal }

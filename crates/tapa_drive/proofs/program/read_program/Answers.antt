@@ -1,6 +1,6 @@
 use Rattle.std.proofs.Common.{Err, subst}
 use Rattle.check_scope.specs.declared.fault.CheckFault.{CheckFault}
-use Rattle.tapa_drive.proofs.Answered.{Checks, program_of_tree, breaks_first}
+use Rattle.tapa_drive.proofs.Read.{Checks, program_of_tree, breaks_first}
 use Rattle.tapa_drive.proofs.program.read_program.Goals as goal
 
 pub returns-in-Err-clause-refused : goal.returns-in-Err-clause-refused

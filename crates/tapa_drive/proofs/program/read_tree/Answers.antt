@@ -9,7 +9,7 @@ use Rattle.tapa_parse.specs.Answers.{Reads, Answers}
 use Rattle.tapa_parse.specs.Reading.{file, below}
 use Rattle.tapa_drive.specs.Source.{IsRefusedSource}
 use Rattle.tapa_drive.proofs.Sourced.{refused_by_parser}
-use Rattle.tapa_drive.proofs.Answered.{has_no_tree}
+use Rattle.tapa_drive.proofs.Read.{has_no_tree}
 use Rattle.tapa_drive.proofs.program.read_tree.Goals as goal
 
 pub returns-in-Err-At-parse-clause-refused : goal.returns-in-Err-At-parse-clause-refused
