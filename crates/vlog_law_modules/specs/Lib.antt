@@ -3,3 +3,4 @@ pub mod Lines
 pub mod Ranks
 pub mod Larger
 pub mod Labelled
+pub mod Forms

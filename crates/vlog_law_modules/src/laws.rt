@@ -1,6 +1,7 @@
 // Laws on one module.
 
 ghost use Rattle.vlog_law_modules.specs.Blocks.{StepsLeaveTheRest, StepsLookAtOneName, OwnBlocksDecide, UnassignedStays, DriversAreAlone};
+ghost use Rattle.vlog_law_modules.specs.Forms.{ResetBlocks, SteadyBlocks, SetBlocks, WriteBlocks};
 ghost use Rattle.vlog_law_modules.specs.Lines.{RunsFollowLines, RunsKeepPorts, LinesMakeRuns, RegistersTakeTheirBlocks, CellsTakeTheirBlocks, ConnectionsHold};
 ghost use Rattle.vlog_law_modules.specs.Ranks.{RestsOnLowerRanks, RankedIsOnNoLoop, RankedIsLoopless};
 ghost use Rattle.vlog_law_modules.specs.Larger.{FrontIsWithin, BackIsWithin, EachRightIsSound, SoundIsEachRight, RightStaysRight, RightHasInstances, RestsStaysSame};
@@ -13,6 +14,15 @@ pub fn law_own_block()
     ensures own { OwnBlocksDecide }
     ensures unassigned { UnassignedStays }
     ensures drivers { DriversAreAlone }
+{}
+
+/// What the usual blocks of one register or one memory leave of it: with a reset or without one, set in each cycle or where
+/// a net says so.
+pub fn law_usual_blocks()
+    ensures reset { ResetBlocks }
+    ensures steady { SteadyBlocks }
+    ensures set { SetBlocks }
+    ensures write { WriteBlocks }
 {}
 
 /// A run of a module does what each of its lines says, and what does so is a run. A register and a memory with a block of
