@@ -4,6 +4,8 @@
 #[cfg(test)]
 mod cycles;
 #[cfg(test)]
+mod simulated;
+#[cfg(test)]
 mod tests;
 #[cfg(test)]
 mod trees;
