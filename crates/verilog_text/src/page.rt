@@ -1,24 +1,26 @@
 // A text that grows by words.
 
-ghost use Rattle.std.specs.Prelude.{◌≡◌, ◌++◌, ◌∷◌, [], OnOk, false, if◌then◌else◌};
+ghost use Rattle.std.specs.Prelude.{◌≡◌, ◌++◌, ◌∷◌, ◌+◌, ◌-◌, [], OnOk, false, length, if◌then◌else◌};
 ghost use Rattle.vlog_tree.specs.Spelling.{Page as PageTree, lay_word, indent, closes as closes_word, opens as opens_word, ends_line as ends_line_word};
 
 use std::alloc::{AllocError, Global};
 use std::marker::Model;
 
+/// A text, of each module and block that is open whether it is a module, and whether a line has begun.
 #[derive(Drop)]
 pub struct Page {
     text: Vec<u8>,
-    depth: usize,
+    open: Vec<bool>,
     begun: bool,
 }
 
 impl Model for Page {
+    ghost use Rattle.std.specs.Prelude.{length};
     ghost use Rattle.vlog_tree.specs.Spelling.{Page as PageTree};
 
     ghost Value = { PageTree };
 
-    ghost view = { λ p. record { text = p.text.items; depth = p.depth; begun = p.begun } };
+    ghost view = { λ p. record { text = p.text.items; depth = length p.open.items; begun = p.begun } };
 }
 
 #[tactic(auto, unfolding(vlog_tree::specs::Spelling::closes))]
@@ -43,6 +45,25 @@ fn ends_line(word: &[u8]) -> bool
         || word == b"begin".as_slice()
         || word == b"end".as_slice()
         || word == b"endmodule".as_slice()
+}
+
+// A part is closed by a word.
+fn close(parts: &mut Vec<bool>, word: &[u8])
+    ensures { length parts.new.items ≡ (if closes_word word.now then length parts.old.items - 1 else length parts.old.items) }
+{
+    if closes(word) {
+        let _part = parts.pop();
+    }
+}
+
+// A part is opened by a word.
+fn open(parts: &mut Vec<bool>, word: &[u8]) -> Result<(), AllocError>
+    ensures { OnOk result (length parts.new.items ≡ (if opens_word word.now then length parts.old.items + 1 else length parts.old.items)) }
+{
+    if opens(word) {
+        parts.push(word == b"module".as_slice())?;
+    }
+    Ok(())
 }
 
 fn push_two(text: &mut Vec<u8>) -> Result<(), AllocError>
@@ -71,7 +92,7 @@ impl Page {
     {
         Page {
             text: Vec::new(alloc),
-            depth: 0,
+            open: Vec::new(alloc),
             begun: false,
         }
     }
@@ -81,19 +102,11 @@ impl Page {
     pub fn word(&mut self, word: &[u8]) -> Result<(), AllocError>
         ensures { OnOk result (self.new ≡ lay_word self.old word.now) }
     {
-        let closing = closes(word);
-        let inner = if closing {
-            self.depth.saturating_sub(1)
-        } else {
-            self.depth
-        };
-        if inner == usize::MAX {
-            return Err(AllocError);
-        }
-        push_front(&mut self.text, self.begun, inner)?;
+        close(&mut self.open, word);
+        push_front(&mut self.text, self.begun, self.open.len())?;
         let ended = ends_line(word);
         push_line(&mut self.text, word, ended)?;
-        self.depth = if opens(word) { inner + 1 } else { inner };
+        open(&mut self.open, word)?;
         self.begun = !ended;
         Ok(())
     }

@@ -4,6 +4,7 @@ ghost use Rattle.std.specs.Prelude.{◌≡◌, ◌≤◌, ◌<◌, ◌++◌, len
 ghost use Rattle.std.specs.Io.KnownBytes.{Appends};
 ghost use Rattle.tapa_base.specs.Outside.{AppendsPart, Rose};
 ghost use Rattle.vlog_tree.specs.Spelling.{spelling};
+ghost use Rattle.verilog_text.specs.Lines.{IsLine, EndsLine};
 
 use crate::page::Page;
 use crate::words::modules;
@@ -24,10 +25,12 @@ fn spell(alloc: Global, parts: &[Module]) -> Result<Vec<u8>, AllocError>
 fn line_length(text: &[u8]) -> usize
     ensures within { result ≤ length text.now }
     ensures some { 0 < length text.now → 0 < result }
+    ensures line { IsLine (take result text.now) }
+    ensures ended { result < length text.now → EndsLine (take result text.now) }
 {
-    for (i, byte) in text.iter().enumerate() {
-        if *byte == b'\n' {
-            return i + 1;
+    for at in 0..text.len() {
+        if text[at] == b'\n' {
+            return at + 1;
         }
     }
     text.len()

@@ -7,7 +7,7 @@ use Rattle.std.proofs.lemmas.List.{get_or-set_other, length-set}
 use Rattle.std.proofs.lemmas.Grind.{get_or-set_at}
 use Rattle.vlog_tree.specs.Grounded.{Has}
 use Rattle.vlog_tree.specs.Form.{ModuleTree}
-use Rattle.vlog_tree.specs.NameTable.{places_from}
+use Rattle.vlog_rules.specs.NameTable.{places_from}
 use Rattle.vlog_tree.specs.Table.{Name, port_declared, declaration_name, module_declared, module_named}
 use Rattle.vlog_tree.specs.Loops.{Edges, Reaches, one, more, Rests, directly, through, after, port_of, direct_edges, instances}
 use Rattle.vlog_comb_loops.specs.Summaries.{sum_named, port_pair, through_edges, module_edges, IsSumOf, IsSoundSum, IsClosedSum, AreSums, AreRight}

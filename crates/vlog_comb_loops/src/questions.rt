@@ -4,7 +4,7 @@ ghost use Rattle.std.specs.Prelude.{◌≡◌, ◌≢◌, ◌<◌, ◌++◌, ◌
 ghost use Rattle.vlog_tree.specs.Grounded.{Has};
 ghost use Rattle.vlog_tree.specs.Form.{ModuleTree};
 ghost use Rattle.vlog_tree.specs.Loops.{item_instances};
-ghost use Rattle.vlog_tree.specs.NameTable.{value_in};
+ghost use Rattle.vlog_rules.specs.NameTable.{value_in};
 ghost use Rattle.vlog_graph.specs.Graphs.{targets_of};
 ghost use Rattle.vlog_comb_loops.specs.Questions.{asked_of, Keeps, AsksLines, Asks, AsksAll};
 

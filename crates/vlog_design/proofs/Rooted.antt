@@ -9,8 +9,7 @@ use Rattle.std.proofs.lemmas.List.{length-map}
 use Rattle.std.proofs.lemmas.List.Sums.{sum_by-cons}
 use Rattle.vlog_tree.specs.Grounded.{Has}
 use Rattle.vlog_tree.specs.Form.{ModuleTree}
-use Rattle.vlog_tree.specs.NameTable.{times_in}
-use Rattle.vlog_tree.specs.Table.{Name, NameUse, clk, first_violation, port_declared}
+use Rattle.vlog_tree.specs.Table.{Name, NameUse, clk, first_violation, port_declared, times_in}
 use Rattle.vlog_tree.specs.Labels.{rst, done}
 use Rattle.vlog_tree.specs.V6.{module_children, contained_names, roots, first_name, is_top, has_port, top_ports, clock_connections, is_whole_top, module_tops, v6_uses}
 use Rattle.vlog_tree.specs.Loops.{one, more, Reaches, own_containment, containment, own_places, IsLoopless}

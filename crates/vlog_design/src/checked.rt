@@ -5,20 +5,19 @@ ghost use Rattle.std.specs.Option.{option_copied};
 ghost use Rattle.vlog_tree.specs.Form.{ModuleTree};
 ghost use Rattle.vlog_tree.specs.Environment.{shape_of, streams_of};
 ghost use Rattle.vlog_tree.specs.Loops.{IsLoopless};
-ghost use Rattle.vlog_tree.specs.Table.{first_violation};
+ghost use Rattle.vlog_tree.specs.Table.{first_violation, declared, names_of};
 ghost use Rattle.vlog_tree.specs.V6.{is_top, roots, first_name, v6_uses};
 ghost use Rattle.vlog_tree.specs.Refused.{Refuses, IsSound, IsDesign};
 ghost use Rattle.vlog_design.specs.Designs.{TopOf};
 
 use crate::outside::first_misplaced;
-use crate::roots::{contained_counts, first_root, root_place};
+use crate::roots::{contained_counts, count_roots, first_root, root_place};
 use crate::shape::{top_shape, top_streams};
 use std::alloc::{AllocError, Global};
 use std::marker::Model;
 use tapa_base::{Port, Shape, Text};
 use vlog_comb_loops::first_on_loop;
-use vlog_drivers::Sound;
-use vlog_rules::{Library, copy_text};
+use vlog_rules::{Library, Scope, Sound, copy_text};
 use vlog_tree::{Module, VFault};
 
 /// Modules that break none of the rules on names, widths, drivers, loops and the top, and the top's place among them.
@@ -52,13 +51,20 @@ fn check_loops(alloc: Global, library: &Library, root: Option<&Text>) -> Result<
     Ok(())
 }
 
-fn check_outside(alloc: Global, library: &Library) -> Result<(), VFault>
+fn check_outside(
+    alloc: Global,
+    library: &Library,
+    root: Option<&Text>,
+    roots_count: usize,
+) -> Result<(), VFault>
     requires sound { IsSound library.now }
     requires loopless { IsLoopless library.now (is_top library.now) }
+    requires root { option_copied root ≡ first_name (roots library.now) }
+    requires roots { roots_count ≡ length (roots library.now) }
     ensures refused { IfErr result (λ e. Refuses library.now e) }
     ensures outside { OnOk result (first_violation (v6_uses library.now) ≡ None) }
 {
-    if let Some(x) = first_misplaced(alloc, library)? {
+    if let Some(x) = first_misplaced(alloc, library, root, roots_count)? {
         let name = copy_text(alloc, x)?;
         return Err(VFault::V6(name));
     }
@@ -72,11 +78,13 @@ fn place_of_top(alloc: Global, library: &Library) -> Result<usize, VFault>
     ensures refused { IfErr result (λ e. Refuses library.now e) }
     ensures design { IfOk result (λ top. IsDesign library.now top) }
 {
-    let counts = contained_counts(alloc, library.modules())?;
-    let root = first_root(&counts, library.modules());
+    let modules = library.modules();
+    let counts = contained_counts(alloc, modules)?;
+    let root = first_root(&counts, modules);
     check_loops(alloc, library, root)?;
-    check_outside(alloc, library)?;
-    Ok(root_place(&counts, library.modules()))
+    let roots_count = count_roots(&counts, modules);
+    check_outside(alloc, library, root, roots_count)?;
+    Ok(root_place(&counts, modules))
 }
 
 impl Design {
@@ -90,6 +98,15 @@ impl Design {
     {
         let sound = Sound::of(alloc, modules)?;
         let top = place_of_top(alloc, sound.library())?;
+        Ok(Design { sound, top })
+    }
+
+    /// Modules of which it is known that they break no rule, with their top's place among them. Nothing is looked at again.
+    pub fn of_known(alloc: Global, modules: Vec<Module>, top: usize) -> Result<Design, AllocError>
+        requires { IsDesign modules.items top }
+        ensures { IfOk result (λ d. (d.modules ≡ modules.items) × (d.top ≡ top)) }
+    {
+        let sound = Sound::of_known(alloc, modules)?;
         Ok(Design { sound, top })
     }
 
@@ -109,17 +126,27 @@ impl Design {
         &modules[place]
     }
 
+    // The names that the top declares.
+    fn scope(&self) -> &Scope
+        ensures { (m : ModuleTree) → TopOf self.now m → result.now ≡ declared m }
+    {
+        let place = self.top;
+        let _modules = self.modules();
+        let scopes = self.sound.library().scopes();
+        &scopes[place]
+    }
+
     /// The top's scalars and memories.
     pub fn shape(&self, alloc: Global) -> Result<Shape, AllocError>
         ensures { IfOk result (λ s. (m : ModuleTree) → TopOf self.now m → (s.scalars.items ≡ (shape_of m).scalars) × (s.memories.items ≡ (shape_of m).memories)) }
     {
-        top_shape(alloc, self.top())
+        top_shape(alloc, self.scope(), self.top())
     }
 
     /// The top's streams, with the bits of their din.
     pub fn streams(&self, alloc: Global) -> Result<Vec<Port>, AllocError>
         ensures { IfOk result (λ v. (m : ModuleTree) → TopOf self.now m → v.items ≡ streams_of m) }
     {
-        top_streams(alloc, self.top())
+        top_streams(alloc, self.scope(), self.top())
     }
 }

@@ -8,5 +8,3 @@ mod shape;
 mod top;
 
 pub use checked::Design;
-pub use outside::first_misplaced;
-pub use shape::{top_shape, top_streams};

@@ -4,11 +4,9 @@ ghost use Rattle.std.specs.Prelude.{◌≡◌, ◌∷◌, ◌++◌, ◌==◌, �
 ghost use Rattle.std.specs.Option.{option_copied, option_map_or};
 ghost use Rattle.std.specs.List.{flat_map};
 ghost use Rattle.vlog_tree.specs.Form.{ModuleTree};
-ghost use Rattle.vlog_tree.specs.NameTable.{CountsTo, times_in};
-ghost use Rattle.vlog_tree.specs.Table.{first_violation, port_declared};
+ghost use Rattle.vlog_tree.specs.Table.{first_violation, port_declared, times_in};
 ghost use Rattle.vlog_tree.specs.V6.{contained_names, roots, first_name, is_top as is_top_lem, is_whole_top as is_whole_top_lem, top_ports, clock_connection as clock_connection_lem, clock_connections as clock_connections_lem, module_tops, v6_uses};
 
-use crate::roots::{contained_counts, count_roots, first_root};
 use crate::top::{first_misfit_port, has_port};
 use std::alloc::{AllocError, Global};
 use tapa_base::Text;
@@ -119,31 +117,39 @@ fn module_names<'a>(
     library: &Library,
     top: bool,
     roots_count: usize,
+    scope: &Scope,
     m: &'a Module,
 ) -> Result<Option<&'a Text>, AllocError>
     requires top { top ≡ is_top_lem library.now m.now.name }
     requires roots { roots_count ≡ length (roots library.now) }
+    requires scope { scope.now ≡ map port_declared m.now.ports }
     ensures { IfOk result (λ o. option_copied o ≡ first_violation (module_tops library.now m.now)) }
 {
-    let scope = Scope::of_ports(alloc, m.ports())?;
-    let whole = is_whole_top(roots_count, &scope);
+    let whole = is_whole_top(roots_count, scope);
     if let Some(x) = named_if(m.name(), top && !whole) {
         return Ok(Some(x));
     }
-    ports_and_items(alloc, top, &scope, m)
+    ports_and_items(alloc, top, scope, m)
 }
 
-/// The first name in the text at which the top module, its ports or the connection of a clock break the rule.
-pub fn first_misplaced(alloc: Global, library: &Library) -> Result<Option<&Text>, AllocError>
+/// The first name in the text at which the top module, its ports or the connection of a clock break the rule, where the
+/// first root and the number of roots are given.
+pub(crate) fn first_misplaced<'a>(
+    alloc: Global,
+    library: &'a Library,
+    root: Option<&Text>,
+    roots_count: usize,
+) -> Result<Option<&'a Text>, AllocError>
+    requires root { option_copied root ≡ first_name (roots library.now) }
+    requires roots { roots_count ≡ length (roots library.now) }
     ensures { IfOk result (λ o. option_copied o ≡ first_violation (v6_uses library.now)) }
 {
     let modules = library.modules();
-    let counts = contained_counts(alloc, modules)?;
-    let root = first_root(&counts, modules);
-    let roots_count = count_roots(&counts, modules);
-    for m in modules {
+    let ports = library.ports();
+    for at in 0..modules.len() {
+        let m = &modules[at];
         let top = is_top(root, m.name());
-        if let Some(x) = module_names(alloc, library, top, roots_count, m)? {
+        if let Some(x) = module_names(alloc, library, top, roots_count, &ports[at], m)? {
             return Ok(Some(x));
         }
     }

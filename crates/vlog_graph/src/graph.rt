@@ -2,7 +2,7 @@
 
 ghost use Rattle.std.specs.Prelude.{◌≡◌, ◌≢◌, ◌<◌, ◌++◌, ◌∷◌, [], ℕ, List, Some, length, bytes_eq, ◌↔◌, true, false, get_or, if◌then◌else◌, IfOk, OnOk};
 ghost use Rattle.vlog_tree.specs.Loops.{Edges, Reaches};
-ghost use Rattle.vlog_tree.specs.NameTable.{value_in};
+ghost use Rattle.vlog_rules.specs.NameTable.{value_in};
 ghost use Rattle.vlog_graph.specs.Graphs.{IsGraphOf, IsExtended, targets_of, mark_of};
 
 use crate::levels::{levels_fall, levels_of};

@@ -6,9 +6,9 @@ use Rattle.std.proofs.lemmas.List.Sums.{sum_by-cons}
 use Rattle.std.proofs.lemmas.Bool.Decides.{nat_tests}
 use Rattle.std.proofs.lemmas.List.{get_or_default}
 use Rattle.vlog_tree.specs.declared.table.Declaration.{Declaration}
-use Rattle.vlog_tree.specs.Table.{Name, find_name, unknown, is_doubled_name, ports_of, is_module_name, module_declared, port_declared, all_ports}
+use Rattle.vlog_tree.specs.Table.{Name, find_name, unknown, is_doubled_name, ports_of, is_module_name, module_declared, port_declared, all_ports, module_named, ports_in}
 use Rattle.vlog_tree.specs.Form.{ModuleTree}
-use Rattle.vlog_tree.specs.NameTable.{places_from}
+use Rattle.vlog_rules.specs.NameTable.{places_from}
 use Rattle.vlog_tree.specs.Table.{declaration_name}
 
 abbrev names : List Declaration → List Name
@@ -123,8 +123,8 @@ module_here start m ms x place again true e ih h =
     record {
       after = omega arith;
       before = omega arith;
-      here = ap (λ b. map port_declared (cond b m.ports (ports_of ms x))) e ∙ ap (λ n. get_or (all_ports (m ∷ ms)) n []) (let z : 0 ≡ place - start = omega arith in z);
-      known = ap (λ b. b || is_module_name ms x) e;
+      here = ap (λ b. map port_declared (ports_in (cond b (Some m) (module_named ms x)))) e ∙ ap (λ n. get_or (all_ports (m ∷ ms)) n []) (let z : 0 ≡ place - start = omega arith in z);
+      known = ap (λ b. is_some (cond b (Some m) (module_named ms x))) e;
     }
 module_here start m ms x place again false e ih h =
     let r : IsModuleAt (suc start) ms x place = ih h in
@@ -132,8 +132,8 @@ module_here start m ms x place again false e ih h =
     record {
       after = omega arith;
       before = omega arith;
-      here = ap (λ b. map port_declared (cond b m.ports (ports_of ms x))) e ∙ r.here ∙ ap (λ n. get_or (all_ports (m ∷ ms)) n []) (sym next);
-      known = ap (λ b. b || is_module_name ms x) e ∙ r.known;
+      here = ap (λ b. map port_declared (ports_in (cond b (Some m) (module_named ms x)))) e ∙ r.here ∙ ap (λ n. get_or (all_ports (m ∷ ms)) n []) (sym next);
+      known = ap (λ b. is_some (cond b (Some m) (module_named ms x))) e ∙ r.known;
     }
 
 pub module_found : (start : ℕ) (ms : List ModuleTree) (x : Name) (place : ℕ) (again : Bool) → places_from start (names (map module_declared ms)) x ≡ Some (place, again) → IsModuleAt start ms x place
@@ -149,7 +149,7 @@ no_module_here : (start : ℕ) (m : ModuleTree) (ms : List ModuleTree) (x : Name
 no_module_here start m ms x true e ih h = cc
 no_module_here start m ms x false e ih h =
     let r : IsNoModule ms x = ih h in
-    record { here = ap (λ b. cond b m.ports (ports_of ms x)) e ∙ r.here; unknown = ap (λ b. b || is_module_name ms x) e ∙ r.unknown }
+    record { here = ap (λ b. ports_in (cond b (Some m) (module_named ms x))) e ∙ r.here; unknown = ap (λ b. is_some (cond b (Some m) (module_named ms x))) e ∙ r.unknown }
 
 pub no_module : (start : ℕ) (ms : List ModuleTree) (x : Name) → places_from start (names (map module_declared ms)) x ≡ None → IsNoModule ms x
 no_module start [] x e = record { here = refl; unknown = refl }

@@ -1,7 +1,9 @@
 // Modules, with tables of their names.
 
 ghost use Rattle.std.specs.Prelude.{◌≡◌, ◌++◌, ◌∷◌, ◌<◌, [], map, IfOk, OnOk, length, get_or};
-ghost use Rattle.vlog_tree.specs.Table.{clk as clk_name, declared, port_declared, module_declared, ports_of, is_module as is_module_name, is_doubled_name, names_of, all_ports};
+ghost use Rattle.std.specs.List.{AllByRecursion};
+ghost use Rattle.vlog_tree.specs.Form.{IsModule};
+ghost use Rattle.vlog_tree.specs.Table.{clk as clk_name, declared, port_declared, module_declared, ports_of, is_module_name, is_doubled_name, names_of, all_ports};
 
 use crate::scope::Scope;
 use std::alloc::{AllocError, Global};
@@ -22,14 +24,15 @@ pub struct Library {
 
 impl Model for Library {
     ghost use Rattle.std.specs.Prelude.{◌≡◌, List, [], map};
-    ghost use Rattle.vlog_tree.specs.Form.{ModuleTree};
+    ghost use Rattle.std.specs.List.{AllByRecursion};
+    ghost use Rattle.vlog_tree.specs.Form.{ModuleTree, IsModule};
     ghost use Rattle.vlog_tree.specs.Table.{clk as clk_name, module_declared, names_of, all_ports};
 
     ghost Value = { List ModuleTree };
 
     ghost view = { λ l. l.modules.items };
 
-    ghost invariant = { λ l. (l.names ≡ map module_declared l.modules.items) × (l.scopes.items ≡ names_of l.modules.items) × (l.ports.items ≡ all_ports l.modules.items) × (l.no_ports ≡ []) × (l.clk ≡ clk_name) };
+    ghost invariant = { λ l. AllByRecursion IsModule l.modules.items × (l.names ≡ map module_declared l.modules.items) × (l.scopes.items ≡ names_of l.modules.items) × (l.ports.items ≡ all_ports l.modules.items) × (l.no_ports ≡ []) × (l.clk ≡ clk_name) };
 }
 
 #[tactic(auto, unfolding(vlog_tree::specs::Table::clk))]
@@ -40,7 +43,8 @@ fn clock_name(alloc: Global) -> Result<Text, AllocError>
 }
 
 fn scopes_of(alloc: Global, modules: &[Module]) -> Result<Vec<Scope>, AllocError>
-    ensures { IfOk result (λ v. v.items ≡ names_of modules.now) }
+    ensures value { IfOk result (λ v. v.items ≡ names_of modules.now) }
+    ensures form { OnOk result (AllByRecursion IsModule modules.now) }
 {
     let mut scopes = Vec::new(alloc);
     for m in modules {
@@ -86,15 +90,10 @@ impl Library {
     }
 
     pub fn modules(&self) -> &[Module]
-        ensures { result.now ≡ self.now }
+        ensures value { result.now ≡ self.now }
+        ensures form { AllByRecursion IsModule self.now }
     {
         &self.modules
-    }
-
-    pub fn into_modules(self) -> Vec<Module>
-        ensures { result.items ≡ self }
-    {
-        self.modules
     }
 
     /// The name of the clock.
@@ -118,7 +117,8 @@ impl Library {
         &self.scopes
     }
 
-    fn ports(&self) -> &[Scope]
+    /// The ports that each module declares.
+    pub fn ports(&self) -> &[Scope]
         ensures { result.now ≡ all_ports self.now }
     {
         &self.ports

@@ -1,14 +1,16 @@
 // The names that a module declares, with a table of their places.
 
 ghost use Rattle.std.specs.Prelude.{◌≡◌, ◌<◌, ◌++◌, ◌∷◌, [], ℕ, List, map, IfOk, OnOk, length, get_or};
-ghost use Rattle.vlog_tree.specs.NameTable.{place_in, places_from};
-ghost use Rattle.vlog_tree.specs.Table.{declared, items_declared, port_declared, net_kind_of, bits_of, is_doubled_name};
+ghost use Rattle.vlog_rules.specs.NameTable.{place_in, places_from};
+ghost use Rattle.vlog_tree.specs.Table.{declared, items_declared, port_declared, net_kind_of, bits_of, cells_of, is_doubled_name};
+ghost use Rattle.vlog_tree.specs.Form.{IsModule};
 ghost use Rattle.vlog_tree.specs.Table.{module_declared, declaration_name};
 
+use crate::name_table::{NameTable, add_before, find_name};
 use std::alloc::{AllocError, Global};
 use std::marker::Model;
 use tapa_base::Text;
-use vlog_tree::{Declaration, Item, Module, NameTable, NetKind, PortDecl, add_before, find_name};
+use vlog_tree::{Declaration, Item, Module, NetKind, PortDecl};
 
 /// Declarations in the order of the text.
 #[derive(Drop)]
@@ -20,7 +22,7 @@ pub struct Scope {
 impl Model for Scope {
     ghost use Rattle.std.specs.Prelude.{◌≡◌, List, ℕ, map};
     ghost use Rattle.vlog_tree.specs.declared.table.Declaration.{Declaration};
-    ghost use Rattle.vlog_tree.specs.NameTable.{place_in, places_from};
+    ghost use Rattle.vlog_rules.specs.NameTable.{place_in, places_from};
     ghost use Rattle.vlog_tree.specs.Table.{declaration_name};
 
     ghost Value = { List Declaration };
@@ -43,14 +45,16 @@ fn add(
     name: &Text,
     net_kind: NetKind,
     bits: u32,
+    cells: u32,
 ) -> Result<(), AllocError>
-    ensures { OnOk result (declarations.new.items ≡ declarations.old.items ++ record { name = name.now; net_kind = net_kind; bits = bits } ∷ []) }
+    ensures { OnOk result (declarations.new.items ≡ declarations.old.items ++ record { name = name.now; net_kind = net_kind; bits = bits; cells = cells } ∷ []) }
 {
     let name = copy_text(alloc, name)?;
     declarations.push(Declaration {
         name,
         net_kind,
         bits,
+        cells,
     })?;
     Ok(())
 }
@@ -63,14 +67,17 @@ fn add_item(
     ensures { OnOk result (declarations.new.items ≡ declarations.old.items ++ items_declared (item.now ∷ [])) }
 {
     match item {
-        Item::Wire { width: bits, name } => add(alloc, declarations, name, NetKind::WireNet, *bits),
-        Item::Reg { width: bits, name } => add(alloc, declarations, name, NetKind::Register, *bits),
-        Item::Memory {
-            width: bits,
+        Item::Wire { width, name } => add(alloc, declarations, name, NetKind::WireNet, *width, 0),
+        Item::Reg { width, name } => add(alloc, declarations, name, NetKind::Register, *width, 0),
+        Item::Memory { width, name, cells } => add(
+            alloc,
+            declarations,
             name,
-            ..
-        } => add(alloc, declarations, name, NetKind::MemoryArray, *bits),
-        Item::Instance { name, .. } => add(alloc, declarations, name, NetKind::ChildInstance, 0),
+            NetKind::MemoryArray,
+            *width,
+            *cells,
+        ),
+        Item::Instance { name, .. } => add(alloc, declarations, name, NetKind::ChildInstance, 0, 0),
         Item::Assign { .. } | Item::Always(_) => Ok(()),
     }
 }
@@ -87,7 +94,7 @@ fn add_port(
     } else {
         NetKind::Output
     };
-    add(alloc, declarations, &port.name, net_kind, port.width)
+    add(alloc, declarations, &port.name, net_kind, port.width, 0)
 }
 
 fn add_ports(
@@ -124,7 +131,7 @@ fn add_modules(
     ensures { OnOk result (declarations.new.items ≡ declarations.old.items ++ map module_declared modules.now) }
 {
     for m in modules {
-        add(alloc, declarations, m.name(), NetKind::Unknown, 0)?;
+        add(alloc, declarations, m.name(), NetKind::Unknown, 0, 0)?;
     }
     Ok(())
 }
@@ -170,7 +177,8 @@ impl Scope {
 
     /// All names of a module.
     pub fn of_module(alloc: Global, m: &Module) -> Result<Scope, AllocError>
-        ensures { IfOk result (λ scope. scope ≡ declared m.now) }
+        ensures value { IfOk result (λ scope. scope ≡ declared m.now) }
+        ensures form { OnOk result (IsModule m.now) }
     {
         let mut declarations = Vec::new(alloc);
         add_ports(alloc, &mut declarations, m.ports())?;
@@ -224,6 +232,17 @@ impl Scope {
         let declarations = self.declarations();
         match self.place_of(name) {
             Some((place, _)) => declaration_at(declarations, place).bits,
+            None => 0,
+        }
+    }
+
+    /// The number of cells of a memory, and 0 of all other names.
+    pub fn cells(&self, name: &[u8]) -> u32
+        ensures { result ≡ cells_of self.now name.now }
+    {
+        let declarations = self.declarations();
+        match self.place_of(name) {
+            Some((place, _)) => declaration_at(declarations, place).cells,
             None => 0,
         }
     }

@@ -4,8 +4,8 @@
 ghost use Rattle.std.specs.Prelude.{◌≡◌, ◌≤◌, ◌^◌, ◌∷◌, ◌++◌, [], map, sum, nat_le, nat_lt, IfOk, ◌==◌, ◌&&◌, ◌*◌};
 ghost use Rattle.std.specs.Option.{option_copied};
 ghost use Rattle.std.specs.List.{flat_map, list_all};
-ghost use Rattle.vlog_tree.specs.Table.{first_violation, declared};
-ghost use Rattle.vlog_tree.specs.V3.{is_width as is_width_lem, atom_bits as bits_of_atom, atom_fits as fits_atom, has_bits as has_bits_lem, is_divisor as is_divisor_lem, op_fits as fits_op, value_fits as fits_value, step_widths, connection_widths, item_widths, port_widths, module_widths, v3_uses};
+ghost use Rattle.vlog_tree.specs.Table.{first_violation, declared, bits_of};
+ghost use Rattle.vlog_tree.specs.V3.{is_width as is_width_lem, is_cell_count as is_cell_count_lem, net_fits as fits_net, memory_fits as fits_memory, atom_bits as bits_of_atom, atom_fits as fits_atom, has_bits as has_bits_lem, is_divisor as is_divisor_lem, op_fits as fits_op, value_fits as fits_value, step_widths, connection_widths, item_widths, port_widths, module_widths, v3_uses};
 
 use crate::library::Library;
 use crate::names::named_if;
@@ -17,6 +17,25 @@ fn is_width(bits: u32) -> bool
     ensures { result ≡ is_width_lem bits }
 {
     1 <= bits && bits <= 128
+}
+
+fn is_cell_count(cells: u32) -> bool
+    ensures { result ≡ is_cell_count_lem cells }
+{
+    1 <= cells && cells <= 1_048_576
+}
+
+// Whether a net can be used: its own line has a width that is in range.
+fn net_fits(scope: &Scope, net: &Text) -> bool
+    ensures { result ≡ fits_net scope.now net.now }
+{
+    is_width(scope.find(net).1)
+}
+
+fn memory_fits(scope: &Scope, memory: &Text) -> bool
+    ensures { result ≡ fits_memory scope.now memory.now }
+{
+    is_width(scope.find(memory).1) && is_cell_count(scope.cells(memory.bytes()))
 }
 
 fn atom_bits(scope: &Scope, atom: &Atom) -> u64
@@ -46,8 +65,10 @@ fn atom_fits(scope: &Scope, atom: &Atom) -> bool
     ensures { result ≡ fits_atom scope.now atom.now }
 {
     match atom {
-        Atom::Net(_) => true,
-        Atom::Part { net: x, high, low } => part_fits(scope.find(x).1, *high, *low),
+        Atom::Net(x) => net_fits(scope, x),
+        Atom::Part { net: x, high, low } => {
+            net_fits(scope, x) && part_fits(scope.find(x).1, *high, *low)
+        }
         Atom::Literal {
             width: bits,
             value: n,
@@ -144,8 +165,17 @@ fn value_fits(scope: &Scope, bits: u64, value: &Value) -> bool
         Value::Concat(atoms) => all_fit(scope, atoms.atoms())
             && have_bits(scope, bits, atoms.atoms()),
         Value::Repeat { count: n, atom: a } => copies_fit(scope, bits, *n, a),
-        Value::Cell { memory: m, .. } => scope.find(m).1 as u64 == bits,
+        Value::Cell {
+            memory: m,
+            index: x,
+        } => { memory_fits(scope, m) && net_fits(scope, x) && scope.find(m).1 as u64 == bits }
     }
+}
+
+fn store_fits(scope: &Scope, m: &Text, x: &Text, a: &Atom) -> bool
+    ensures { result ≡ (fits_memory scope.now m.now && fits_net scope.now x.now && has_bits_lem scope.now (bits_of scope.now m.now) a.now) }
+{
+    memory_fits(scope, m) && net_fits(scope, x) && has_bits(scope, scope.find(m).1 as u64, a)
 }
 
 fn step<'a>(scope: &Scope, step: &'a Step) -> Option<&'a Text>
@@ -157,12 +187,15 @@ fn step<'a>(scope: &Scope, step: &'a Step) -> Option<&'a Text>
         Step::NonblockingAssign {
             register: x,
             value: a,
-        } => named_if(x, !has_bits(scope, scope.find(x).1 as u64, a)),
+        } => named_if(
+            x,
+            !(net_fits(scope, x) && has_bits(scope, scope.find(x).1 as u64, a)),
+        ),
         Step::MemoryAssign {
             memory: m,
+            index: x,
             value: a,
-            ..
-        } => named_if(m, !has_bits(scope, scope.find(m).1 as u64, a)),
+        } => named_if(m, !store_fits(scope, m, x, a)),
     }
 }
 
@@ -182,7 +215,10 @@ fn connection<'a>(ports: &Scope, scope: &Scope, connection: &'a Connection) -> O
     ensures { option_copied result ≡ first_violation (connection_widths ports.now scope.now connection.now) }
 {
     let same = ports.find(&connection.port).1 == scope.find(&connection.net).1;
-    named_if(&connection.port, !same)
+    named_if(
+        &connection.port,
+        !(net_fits(scope, &connection.net) && same),
+    )
 }
 
 fn connections<'a>(ports: &Scope, scope: &Scope, connections: &'a [Connection]) -> Option<&'a Text>
@@ -231,10 +267,10 @@ fn item<'a>(library: &Library, scope: &Scope, item: &'a Item) -> Option<&'a Text
             width: bits,
             name: x,
             cells,
-        } => named_if(x, !(is_width(*bits) && *cells <= 1_048_576)),
+        } => named_if(x, !(is_width(*bits) && is_cell_count(*cells))),
         Item::Assign { net: x, value: e } => named_if(
             x,
-            !value_fits(scope, scope.find(x).1 as u64, e),
+            !(net_fits(scope, x) && value_fits(scope, scope.find(x).1 as u64, e)),
         ),
         Item::Always(b) => steps(scope, b.steps()),
         Item::Instance {

@@ -4,6 +4,8 @@
 #[cfg(test)]
 mod cycles;
 #[cfg(test)]
+mod large;
+#[cfg(test)]
 mod simulated;
 #[cfg(test)]
 mod tests;

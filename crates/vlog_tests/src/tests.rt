@@ -7,8 +7,6 @@ use std::alloc::{AllocError, Global};
 use std::test::Fail;
 use tapa_base::{MemSink, PrintFault, Text};
 use verilog_text::{print, print_modules};
-use vlog_design::{first_misplaced, top_shape, top_streams};
-use vlog_rules::Library;
 use vlog_tree::{BinaryOp, Module, is_name};
 
 const BIT: [Port; 2] = [(true, 1, "a"), (false, 1, "o")];
@@ -369,40 +367,35 @@ fn top(alloc: Global, more: &[Port], lines: &[Line]) -> Result<Vec<Module>, Allo
     Ok(all)
 }
 
-fn misplaced(alloc: Global, all: Vec<Module>) -> Result<Text, AllocError> {
-    let library = Library::of(alloc, all)?;
-    match first_misplaced(alloc, &library)? {
-        Some(x) => Ok(Text::new(x.bytes().to_vec(alloc)?)),
-        None => text(alloc, ""),
-    }
-}
+const ENDS: Line = Line::Plain("done", Part::Number(1, 1));
+
+// Ports of a top beside the three that each has, its lines, the rule that is broken (0: none), the name that is told.
+type Top = (&'static [Port], &'static [Line], u8, &'static str);
 
 #[test]
 fn ports_of_the_top_are_told(rt: HostRuntime) -> Result<(), Fail> {
     let alloc = rt.alloc();
-    let cases: [(&[Port], &'static str); 7] = [
-        (&[(true, 1, "x")], "x"),
-        (&[(true, 8, "v_")], "v_"),
-        (&[(true, 65, "v_a")], "v_a"),
-        (&[(true, 64, "v_a")], ""),
-        (&[(true, 1, "m_A_ack")], "m_A_ack"),
-        (&[(false, 1, "v_a")], "v_a"),
-        (&MEMORY, ""),
+    let cases: [Top; 7] = [
+        (&[(true, 1, "x")], &[ENDS], 6, "x"),
+        (&[(true, 8, "v_")], &[ENDS], 6, "v_"),
+        (&[(true, 65, "v_a")], &[ENDS], 6, "v_a"),
+        (&[(true, 64, "v_a")], &[ENDS], 0, ""),
+        (&[(true, 1, "m_A_ack")], &[ENDS], 6, "m_A_ack"),
+        (
+            &[(false, 1, "v_a")],
+            &[ENDS, Line::Plain("v_a", Part::Number(1, 0))],
+            6,
+            "v_a",
+        ),
+        (&MEMORY, &ASKED, 0, ""),
     ];
-    for (ports, name) in &cases {
-        let x = misplaced(alloc, top(alloc, ports, &[])?)?;
-        assert_eq!(rt; x.bytes(), name.as_bytes());
+    for (ports, lines, rule, name) in &cases {
+        assert!(rt; tells(alloc, top(alloc, ports, lines)?, *rule, name)?);
     }
-    let mut wide = Vec::new(alloc);
-    add_module(
-        alloc,
-        &mut wide,
-        "t_X",
-        &[(true, 1, "clk"), (false, 1, "done")],
-        &[],
-    )?;
-    let x = misplaced(alloc, wide)?;
-    assert_eq!(rt; x.bytes(), b"t_X".as_slice());
+    let mut short = Vec::new(alloc);
+    let ports = [(true, 1, "clk"), (false, 1, "done")];
+    add_module(alloc, &mut short, "t_X", &ports, &[ENDS])?;
+    assert!(rt; tells(alloc, short, 6, "t_X")?);
     Ok(())
 }
 
@@ -421,6 +414,14 @@ const ASKS_ITSELF: [Line; 6] = [
     Line::Plain("m_A_wdata", Part::Net("e")),
     Line::Plain("m_A_we", Part::Number(1, 0)),
     Line::Plain("done", Part::Net("m_A_ack")),
+];
+
+const LIKE_A_MEMORY: [Line; 5] = [
+    Line::Wire(8, "m_A_rdata"),
+    Line::Wire(64, "m_A_addr"),
+    Line::Copies("m_A_addr", 8, Part::Net("m_A_rdata")),
+    Line::Plain("m_A_rdata", Part::Number(8, 1)),
+    ENDS,
 ];
 
 // In a module other than the top these names are no memory's.
@@ -445,18 +446,28 @@ fn memories_are_of_one_width_and_on_no_loop(rt: HostRuntime) -> Result<(), Fail>
     assert!(rt; tells(alloc, inner, 0, "")?);
     let mut ports = MEMORY;
     ports[0] = (false, 16, "m_A_wdata");
-    let x = misplaced(alloc, top(alloc, &ports, &[])?)?;
-    assert_eq!(rt; x.bytes(), b"m_A_rdata".as_slice());
+    let mut lines = ASKED;
+    lines[1] = Line::Plain("m_A_wdata", Part::Number(16, 0));
+    assert!(rt; tells(alloc, top(alloc, &ports, &lines)?, 6, "m_A_rdata")?);
+    // Wires of these names are no memory's.
+    assert!(rt; tells(alloc, top(alloc, &[], &LIKE_A_MEMORY)?, 0, "")?);
     Ok(())
 }
 
-const STREAMS: [Line; 6] = [
+const STREAMS: [Line; 13] = [
     Line::Wire(33, "s_q_din"),
     Line::Wire(1, "s_q_wr"),
     Line::Wire(1, "s_q_rdy"),
     Line::Wire(9, "s_p_din"),
     Line::Wire(1, "s_p_rdy"),
     Line::Wire(1, "s_p_wr0"),
+    Line::Plain("s_q_din", Part::Number(33, 0)),
+    Line::Plain("s_q_wr", Part::Number(1, 0)),
+    Line::Plain("s_q_rdy", Part::Number(1, 0)),
+    Line::Plain("s_p_din", Part::Number(9, 0)),
+    Line::Plain("s_p_rdy", Part::Number(1, 0)),
+    Line::Plain("s_p_wr0", Part::Number(1, 0)),
+    Line::Plain("m_A_addr", Part::Number(64, 0)),
 ];
 
 #[test]
@@ -468,19 +479,26 @@ fn the_top_has_a_shape_and_streams(rt: HostRuntime) -> Result<(), Fail> {
     add_ports(alloc, &mut ports, &MEMORY)?;
     let mut items = Vec::new(alloc);
     add_items(alloc, &mut items, &STREAMS)?;
-    let top = module(alloc, "t_X", ports, items)?;
-    let shape = top_shape(alloc, &top)?;
-    let streams = top_streams(alloc, &top)?;
-    assert_eq!(rt;
-        (shape.scalars.len(), shape.memories.len(), streams.len()),
-        (1, 1, 1)
-    );
-    for (port, name, bits) in [
-        (&shape.scalars[0], "a", 64),
-        (&shape.memories[0], "A", 8),
-        (&streams[0], "q", 33),
-    ] {
-        assert_eq!(rt; (port.name.bytes(), port.bits), (name.as_bytes(), bits));
+    add_items(alloc, &mut items, &ASKED[1..])?;
+    let mut all = Vec::new(alloc);
+    all.push(module(alloc, "t_X", ports, items)?)?;
+    match design(alloc, all) {
+        Ok(d) => {
+            let shape = d.shape(alloc)?;
+            let streams = d.streams(alloc)?;
+            assert_eq!(rt;
+                (shape.scalars.len(), shape.memories.len(), streams.len()),
+                (1, 1, 1)
+            );
+            for (port, name, bits) in [
+                (&shape.scalars[0], "a", 64),
+                (&shape.memories[0], "A", 8),
+                (&streams[0], "q", 33),
+            ] {
+                assert_eq!(rt; (port.name.bytes(), port.bits), (name.as_bytes(), bits));
+            }
+        }
+        Err(_) => assert!(rt; false),
     }
     Ok(())
 }

@@ -4,8 +4,8 @@ use std::alloc::{AllocError, Global};
 use tapa_base::Text;
 use vlog_design::Design;
 use vlog_tree::{
-    Atom, Atoms, BinaryOp, Block, Connection, Connections, Item, Module, PortDecl, Step, VFault,
-    Value,
+    Atom, Atoms, BinaryOp, Block, Connection, Connections, Direction, Item, Module, PortDecl, Step,
+    VFault, Value,
 };
 
 /// A net, its bits from a high one to a low one, or a number of some bits.

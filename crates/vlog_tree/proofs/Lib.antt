@@ -2,5 +2,6 @@ pub mod Walks
 pub mod Ranked
 pub mod Grounds
 pub mod Nesting
-pub mod NameTables
 pub mod Lists
+pub mod Clamped
+pub mod ClampedModules

@@ -1,6 +1,6 @@
 -- What stands around a design, and what its streams and memories carry.
 use Rattle.std.specs.Prelude.{◌≡◌, ℕ, zero, suc, ◌-◌, ◌^◌, ◌<◌, ◌≤◌, Bool, true, false, ◌&&◌, List, [], ◌∷◌, ◌++◌, Option, Some, None, length, unwrap_or, slice_get, slice_index, slice_index_or, slice_set, map, nat_le, nat_lt, ◌==◌, if◌then◌else◌, bytes_eq}
-use Rattle.std.specs.List.{flat_map, list_any}
+use Rattle.std.specs.List.{flat_map}
 use Rattle.vlog_tree.specs.declared.tree.Item.{Item}
 use Rattle.vlog_tree.specs.declared.tree.Item.TheVariants.{Wire, Reg, Memory, Assign, Always, Instance}
 use Rattle.vlog_tree.specs.declared.tree.PortDecl.{PortDecl}
@@ -10,7 +10,7 @@ use Rattle.tapa_base.specs.declared.token.Token.{Token}
 use Rattle.tapa_base.specs.declared.token.Token.TheVariants.{Datum, Eot}
 use Rattle.tapa_base.specs.Fits.{Fits}
 use Rattle.vlog_tree.specs.Form.{ModuleTree}
-use Rattle.vlog_tree.specs.Table.{Name, declared, bits_of}
+use Rattle.vlog_tree.specs.Table.{Name, declared, net_kind_of, net_kind_is_wire, bits_of}
 use Rattle.vlog_tree.specs.Cycle.{Cycle, Path, Runs}
 use Rattle.vlog_tree.specs.Labels.{rst, done, scalar, m_ack, m_rdata, m_addr, m_wdata, m_we, s_din, s_wr, s_rdy, scalar_of, ack_of, din_of}
 
@@ -33,32 +33,28 @@ shape_of top = record {
   memories = flat_map (λ (p : PortDecl). memory_label (declared top) (ack_of p.name)) top.ports;
 }
 
-abbrev pub is_wire_of : Name → Item → Bool
-is_wire_of x (Wire w y) = bytes_eq y x && (w == 1)
-is_wire_of x (Reg w y) = false
-is_wire_of x (Memory w y n) = false
-is_wire_of x (Assign y e) = false
-is_wire_of x (Always b) = false
-is_wire_of x (Instance m i connections) = false
+-- a wire of 1 bit
+abbrev pub is_bit_wire : List Declaration → Name → Bool
+is_bit_wire ds x = net_kind_is_wire (net_kind_of ds x) && (bits_of ds x == 1)
 
-unfoldable pub is_stream : List Item → ℕ → Name → Name → Bool
-is_stream items w wr rdy = nat_le 2 w && nat_le w 65 && list_any (is_wire_of wr) items && list_any (is_wire_of rdy) items
+unfoldable pub is_stream : List Declaration → ℕ → Name → Name → Bool
+is_stream ds w wr rdy = nat_le 2 w && nat_le w 65 && is_bit_wire ds wr && is_bit_wire ds rdy
 
-abbrev pub stream_label : List Item → ℕ → Option Name → List Port
-stream_label items w None = []
-stream_label items w (Some x) = if is_stream items w (s_wr x) (s_rdy x) then record { name = x; bits = w } ∷ [] else []
+abbrev pub stream_label : List Declaration → ℕ → Option Name → List Port
+stream_label ds w None = []
+stream_label ds w (Some x) = if is_stream ds w (s_wr x) (s_rdy x) then record { name = x; bits = w } ∷ [] else []
 
-abbrev pub item_stream : List Item → Item → List Port
-item_stream items (Wire w y) = stream_label items w (din_of y)
-item_stream items (Reg w y) = []
-item_stream items (Memory w y n) = []
-item_stream items (Assign y e) = []
-item_stream items (Always b) = []
-item_stream items (Instance m i connections) = []
+abbrev pub item_stream : List Declaration → Item → List Port
+item_stream ds (Wire w y) = stream_label ds w (din_of y)
+item_stream ds (Reg w y) = []
+item_stream ds (Memory w y n) = []
+item_stream ds (Assign y e) = []
+item_stream ds (Always b) = []
+item_stream ds (Instance m i connections) = []
 
 -- the streams in the order of their din
 abbrev pub streams_of : ModuleTree → List Port
-streams_of top = flat_map (item_stream top.items) top.items
+streams_of top = flat_map (item_stream (declared top)) top.items
 
 -- a value for each scalar, and for each memory its first cells and its ready bits
 pub record Environment : Type 0 where

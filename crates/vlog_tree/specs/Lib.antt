@@ -13,4 +13,4 @@ pub mod V6
 pub mod Environment
 pub mod Spelling
 pub mod Refused
-pub mod NameTable
+pub mod Clamped

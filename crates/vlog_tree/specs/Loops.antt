@@ -1,4 +1,11 @@
 -- Loops of wires, and modules that contain themselves.
+--
+-- The definitions by an example: module k has the ports `input a , output o` and the line `assign o = a ;`, and module p has
+-- a wire w and the line `k u ( .a ( w ) , .o ( w ) ) ;`.
+--   direct_edges  what the lines of one module say: in k that o rests on a, in p that u.a rests on w, and w on u.o
+--   Rests         the same through any number of lines and instances: u.o rests on u.a, since o does on a inside k, so w on w
+--   LiesOnLoop    w of p, which rests on itself, and a and o of k, which do so as the wires u.a and u.o of p
+--   IsFirst       of these places the first in the text, here a of k, whose name is told
 use Rattle.std.specs.Prelude.{◌≡◌, ◌⊎◌, Bool, true, false, List, [], ◌∷◌, ◌++◌, Option, Some, None, if◌then◌else◌, map, filter}
 use Rattle.std.specs.List.{flat_map}
 use Rattle.vlog_tree.specs.declared.tree.Atom.{Atom}

@@ -1,8 +1,9 @@
 -- Which modules are a design, and with which name others are refused.
 use Rattle.std.specs.Prelude.{◌≡◌, ℕ, List, [], ◌∷◌, Some, None, slice_get}
+use Rattle.std.specs.List.{AllByRecursion}
 use Rattle.vlog_tree.specs.declared.fault.VFault.{VFault}
 use Rattle.vlog_tree.specs.declared.fault.VFault.TheVariants.{V1, V2, V3, V4, V5, V6, OutOfMemory}
-use Rattle.vlog_tree.specs.Form.{ModuleTree}
+use Rattle.vlog_tree.specs.Form.{ModuleTree, IsModule}
 use Rattle.vlog_tree.specs.Table.{first_violation}
 use Rattle.vlog_tree.specs.V2.{v2_uses}
 use Rattle.vlog_tree.specs.V3.{v3_uses}
@@ -18,6 +19,7 @@ pub record IsSound (ms : List ModuleTree) : Type 0 where
 
 -- a design with its top
 pub record IsDesign (ms : List ModuleTree) (top : ℕ) : Type 0 where
+  pub form : AllByRecursion IsModule ms
   pub sound : IsSound ms
   pub loopless : IsLoopless ms (is_top ms)
   pub outside : first_violation (v6_uses ms) ≡ None

@@ -63,6 +63,10 @@ cells_of ds x = (find_name ds x).cells
 abbrev pub is_doubled_name : List Declaration → Name → Bool
 is_doubled_name ds x = nat_le 2 (count_by (λ d. bytes_eq d.name x) ds)
 
+-- how often a name stands in a list
+abbrev pub times_in : List Name → Name → ℕ
+times_in names x = count_by (λ y. bytes_eq y x) names
+
 -- the net kinds whose number can be read
 abbrev pub net_kind_is_read : NetKind → Bool
 net_kind_is_read Unknown = false
@@ -82,6 +86,15 @@ net_kind_is_driven WireNet = true
 net_kind_is_driven Register = false
 net_kind_is_driven MemoryArray = false
 net_kind_is_driven ChildInstance = false
+
+abbrev pub net_kind_is_wire : NetKind → Bool
+net_kind_is_wire Unknown = false
+net_kind_is_wire Input = false
+net_kind_is_wire Output = false
+net_kind_is_wire WireNet = true
+net_kind_is_wire Register = false
+net_kind_is_wire MemoryArray = false
+net_kind_is_wire ChildInstance = false
 
 abbrev pub net_kind_is_register : NetKind → Bool
 net_kind_is_register Unknown = false

@@ -10,8 +10,7 @@ use Rattle.vlog_tree.specs.declared.table.Declaration.{Declaration}
 use Rattle.vlog_tree.specs.declared.table.NetKind.{NetKind}
 use Rattle.vlog_tree.specs.declared.table.NetKind.TheVariants.{Unknown, Input, Output, WireNet, Register, MemoryArray, ChildInstance}
 use Rattle.vlog_tree.specs.Form.{ModuleTree}
-use Rattle.vlog_tree.specs.NameTable.{times_in}
-use Rattle.vlog_tree.specs.Table.{Name, NameUse, declared, port_declared, net_kind_of, net_kind_is_input, ports_of}
+use Rattle.vlog_tree.specs.Table.{Name, NameUse, declared, port_declared, net_kind_of, net_kind_is_input, ports_of, times_in}
 
 -- a connection to an output drives its net
 unfoldable pub connection_driven : List Declaration → Connection → List Name

@@ -8,8 +8,7 @@ use Rattle.vlog_tree.specs.declared.tree.Item.TheVariants.{Wire, Reg, Memory, As
 use Rattle.vlog_tree.specs.declared.tree.PortDecl.{PortDecl}
 use Rattle.vlog_tree.specs.declared.table.Declaration.{Declaration}
 use Rattle.vlog_tree.specs.Form.{ModuleTree, is_input}
-use Rattle.vlog_tree.specs.NameTable.{times_in}
-use Rattle.vlog_tree.specs.Table.{Name, NameUse, clk, is_clk, port_declared, net_kind_of, net_kind_is_read}
+use Rattle.vlog_tree.specs.Table.{Name, NameUse, clk, is_clk, port_declared, net_kind_of, net_kind_is_read, times_in}
 use Rattle.vlog_tree.specs.Labels.{rst, done, scalar_of, ack_of, rdata_of, addr_of, wdata_of, we_of, m_ack, m_rdata, m_addr, m_wdata, m_we}
 
 -- the modules that a line contains

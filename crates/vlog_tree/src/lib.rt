@@ -7,7 +7,6 @@ mod form;
 mod labels;
 mod laws;
 mod module;
-mod name_table;
 mod names;
 mod table;
 mod tree;
@@ -17,12 +16,11 @@ pub use labels::{
     ack_name, ack_of, addr_name, addr_of, din_of, rdata_name, rdata_of, rdy_name, scalar_of,
     wdata_name, wdata_of, we_name, we_of, wr_name,
 };
-pub use laws::{law_grounded_is_on_no_loop, law_if, law_if_alone, law_one_solution, law_two};
-pub use module::Module;
-pub use name_table::{
-    NameBits, NameCounts, NameTable, add_before, bits_of_name, count_of, count_one, find_name,
-    set_bits,
+pub use laws::{
+    law_clamped_widths, law_design_is_not_refused, law_grounded_is_on_no_loop, law_if,
+    law_if_alone, law_one_solution, law_two,
 };
+pub use module::Module;
 pub use names::is_name;
 pub use table::{Declaration, NetKind};
 pub use tree::{

@@ -1,6 +1,6 @@
 use Rattle.std.proofs.Common.{◌≡◌, ◌∙◌, ◌+◌, ◌∷◌, sym, ap, cond, drop, true, Some}
 use Rattle.std.specs.Prelude.{◌==◌}
-use Rattle.vlog_tree.specs.NameTable.{times_in}
+use Rattle.vlog_tree.specs.Table.{times_in}
 use Rattle.vlog_tree.specs.V6.{roots_among, first_name}
 use Rattle.vlog_tree.proofs.Walks.{step}
 use Rattle.vlog_design.proofs.roots.first_root.Goals as goal

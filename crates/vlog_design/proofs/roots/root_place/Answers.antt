@@ -1,7 +1,7 @@
 use Rattle.std.proofs.Common.{◌≡◌, ◌∙◌, ◌+◌, List, ◌∷◌, [], sym, ap, cond, drop, true, Some}
 use Rattle.std.specs.Prelude.{◌==◌}
 use Rattle.vlog_tree.specs.Form.{ModuleTree}
-use Rattle.vlog_tree.specs.NameTable.{times_in}
+use Rattle.vlog_tree.specs.Table.{times_in}
 use Rattle.vlog_tree.specs.V6.{roots_among}
 use Rattle.vlog_tree.proofs.Walks.{step, over}
 use Rattle.vlog_tree.proofs.Lists.{got_index}

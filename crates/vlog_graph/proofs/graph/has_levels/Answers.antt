@@ -1,6 +1,6 @@
 use Rattle.std.proofs.Common.{◌<◌, ℕ, List, subst, get_or, length, Global}
 use Rattle.std.specs.Prelude.{Vec}
-use Rattle.vlog_tree.specs.NameTable.{value_in}
+use Rattle.vlog_rules.specs.NameTable.{value_in}
 use Rattle.vlog_graph.specs.Graphs.{targets_of, Steps}
 use Rattle.vlog_graph.proofs.Numbered.{returned}
 use Rattle.vlog_graph.proofs.Reached.{no_return}

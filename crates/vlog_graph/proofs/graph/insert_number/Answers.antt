@@ -1,7 +1,7 @@
 use Rattle.std.proofs.Common.{◌≡◌, ◌∙◌, ap, rules, cond, Some}
 use Rattle.std.specs.Prelude.{bytes_eq}
-use Rattle.vlog_tree.specs.NameTable.{value_in}
-use Rattle.vlog_tree.proofs.NameTables.{updated}
+use Rattle.vlog_rules.specs.NameTable.{value_in}
+use Rattle.vlog_rules.proofs.NameTables.{updated}
 use Rattle.vlog_graph.proofs.graph.insert_number.Goals as goal
 
 pub returns : goal.returns

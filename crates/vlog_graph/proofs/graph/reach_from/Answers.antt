@@ -1,7 +1,7 @@
 use Rattle.std.proofs.Common.{◌≡◌, ◌∙◌, ◌<◌, ℕ, List, sym, subst, get_or, length, true, false, Bool, Global}
 use Rattle.std.specs.Prelude.{◌↔◌, Vec}
 use Rattle.vlog_tree.specs.Loops.{Chain}
-use Rattle.vlog_tree.specs.NameTable.{value_in}
+use Rattle.vlog_rules.specs.NameTable.{value_in}
 use Rattle.vlog_graph.specs.Graphs.{targets_of, Steps, mark_of}
 use Rattle.vlog_graph.proofs.Numbered.{reached_by_number, reached_by_none, steps_low, none_marked}
 use Rattle.vlog_graph.proofs.graph.reach_from.Goals as goal

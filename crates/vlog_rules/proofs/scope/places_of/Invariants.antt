@@ -1,5 +1,5 @@
 use Rattle.std.proofs.Common.{◌≡◌, ◌≤◌, ℕ, List, drop, map, length}
-use Rattle.vlog_tree.specs.NameTable.{place_in, places_from}
+use Rattle.vlog_rules.specs.NameTable.{place_in, places_from}
 use Rattle.vlog_tree.specs.Table.{declaration_name}
 use Rattle.vlog_rules.proofs.scope.places_of.Given as goal
 

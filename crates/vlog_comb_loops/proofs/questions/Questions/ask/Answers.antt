@@ -1,7 +1,7 @@
 use Rattle.std.proofs.Common.{◌≡◌, List, sym, subst, Some}
 use Rattle.vlog_tree.specs.Grounded.{Has}
 use Rattle.vlog_tree.specs.Table.{Name}
-use Rattle.vlog_tree.specs.NameTable.{value_in}
+use Rattle.vlog_rules.specs.NameTable.{value_in}
 use Rattle.vlog_comb_loops.specs.Questions.{Question}
 use Rattle.vlog_comb_loops.proofs.Asking.{pushed_kept, pushed_there}
 use Rattle.vlog_comb_loops.proofs.questions.Questions.ask.Goals as goal

@@ -1,5 +1,5 @@
 use Rattle.std.proofs.Common.{◌<◌, ◌++◌, ◌∷◌, [], sym, subst, length, arith}
-use Rattle.vlog_tree.specs.NameTable.{value_in}
+use Rattle.vlog_rules.specs.NameTable.{value_in}
 use Rattle.vlog_graph.specs.Graphs.{IsNumbered, IsGraphOf, targets_of}
 use Rattle.vlog_graph.proofs.Numbered.{numbered_edge}
 use Rattle.vlog_graph.proofs.graph.Graph.add_edge.Goals as goal

@@ -1,6 +1,6 @@
 use Rattle.std.proofs.Common.{◌≡◌, ◌∙◌, ◌+◌, sym, ap, subst, rules, length, cond, Some, None}
 use Rattle.std.specs.Prelude.{bytes_eq}
-use Rattle.vlog_tree.specs.NameTable.{value_in}
+use Rattle.vlog_rules.specs.NameTable.{value_in}
 use Rattle.vlog_graph.specs.Graphs.{IsNumbered, targets_of}
 use Rattle.vlog_graph.proofs.Numbered.{numbered_more, targets_push}
 use Rattle.vlog_graph.proofs.graph.Graph.number_for.Goals as goal

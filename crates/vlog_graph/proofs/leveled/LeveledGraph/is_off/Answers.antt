@@ -1,7 +1,7 @@
 use Rattle.std.proofs.Common.{◌≡◌, ◌∙◌, ◌<◌, ℕ, List, sym, subst, get_or, length, Some, Global}
 use Rattle.std.specs.Prelude.{Vec}
 use Rattle.vlog_tree.specs.Loops.{Chain}
-use Rattle.vlog_tree.specs.NameTable.{value_in}
+use Rattle.vlog_rules.specs.NameTable.{value_in}
 use Rattle.vlog_graph.specs.declared.graph.Graph.{Graph}
 use Rattle.vlog_graph.specs.Graphs.{IsGraphOf, targets_of, Steps}
 use Rattle.vlog_graph.proofs.Numbered.{returned}

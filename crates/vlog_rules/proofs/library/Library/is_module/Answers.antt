@@ -2,7 +2,7 @@ use Rattle.std.proofs.Common.{◌∙◌, ap, List, map, refl}
 use Rattle.std.specs.Prelude.{is_some}
 use Rattle.vlog_tree.specs.declared.table.Declaration.{Declaration}
 use Rattle.vlog_tree.specs.Table.{declaration_name}
-use Rattle.vlog_tree.specs.NameTable.{places_from}
+use Rattle.vlog_rules.specs.NameTable.{places_from}
 use Rattle.vlog_rules.proofs.Found.{known_module}
 use Rattle.vlog_rules.proofs.library.Library.is_module.Goals as goal
 

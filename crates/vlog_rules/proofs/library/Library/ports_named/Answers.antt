@@ -1,7 +1,7 @@
 use Rattle.std.proofs.Common.{◌∙◌, sym, ap, subst, get_or, length, ◌<◌, List, map}
 use Rattle.vlog_tree.specs.declared.table.Declaration.{Declaration}
 use Rattle.vlog_tree.specs.Table.{port_declared, declaration_name}
-use Rattle.vlog_tree.specs.NameTable.{places_from}
+use Rattle.vlog_rules.specs.NameTable.{places_from}
 use Rattle.vlog_rules.proofs.Found.{module_within, ports_there, no_module}
 use Rattle.vlog_rules.proofs.library.Library.ports_named.Goals as goal
 

@@ -1,0 +1,6 @@
+use Rattle.std.proofs.Common.{take}
+use Rattle.vlog_tree.specs.Grounded.{Has}
+use Rattle.verilog_text.proofs.printed.line_length.Given as goal
+
+abbrev pub invariant-loop-at : goal.invariant-loop-at
+invariant-loop-at l = Has (take l.at l.text) 10 → ⊥

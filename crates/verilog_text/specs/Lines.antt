@@ -1,0 +1,11 @@
+-- Lines of a text.
+use Rattle.std.specs.Prelude.{◌≡◌, ◌-◌, ℕ, List, [], ◌∷◌, ◌++◌, length, take}
+use Rattle.vlog_tree.specs.Grounded.{Has}
+
+-- no end of line (LF) stands before the last byte
+abbrev pub IsLine : List ℕ → Type 0
+IsLine line = Has (take (length line - 1) line) 10 → ⊥
+
+-- the last byte is an end of line
+abbrev pub EndsLine : List ℕ → Type 0
+EndsLine line = (front : List ℕ) × (line ≡ front ++ 10 ∷ [])
