@@ -21,7 +21,7 @@ pub fn law_spelling_has_tree()
 
 /// The spelling of a design has its tree.
 pub fn law_design_is_its_text()
-    ensures { (ms : List ModuleTree) (top : ℕ) → IsDesign ms top → AllByRecursion IsModule ms → HasTree (spelling ms) ms }
+    ensures { (ms : List ModuleTree) (top : ℕ) → IsDesign ms top → HasTree (spelling ms) ms }
 {}
 
 /// The tree of a text has the form of modules.

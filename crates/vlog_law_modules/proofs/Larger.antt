@@ -8,11 +8,10 @@ use Rattle.vlog_tree.specs.declared.tree.Item.TheVariants.{Wire, Reg, Memory, As
 use Rattle.vlog_tree.specs.declared.table.Declaration.{Declaration}
 use Rattle.vlog_tree.specs.Form.{ModuleTree}
 use Rattle.vlog_tree.specs.Grounded.{Has}
-use Rattle.vlog_tree.specs.Table.{Name, NameUse, is_clk, declared, port_declared, module_named, module_declared, is_doubled_name, is_module_name, ports_in, ports_of, first_violation}
+use Rattle.vlog_tree.specs.Table.{Name, NameUse, is_clk, declared, port_declared, module_named, module_declared, is_doubled_name, is_module_name, ports_in, ports_of, first_violation, times_in}
 use Rattle.vlog_tree.specs.V2.{all_connected, module_uses, item_uses, instance_uses, connection_uses, port_uses}
 use Rattle.vlog_tree.specs.V3.{module_widths, port_widths, item_widths, connection_widths}
 use Rattle.vlog_tree.specs.V4.{is_block_of, module_drives, line_driven, connection_driven, driving_use, breaks_driving}
-use Rattle.vlog_tree.specs.NameTable.{times_in}
 use Rattle.vlog_tree.specs.Refused.{IsSound}
 use Rattle.vlog_tree.specs.Loops.{Edges, Rests, directly, through, after, direct_edges, line_edges, connection_edge, memory_edges, instances, item_instances}
 use Rattle.vlog_law_modules.specs.Larger.{IsWithin, AreApart, HaveInstancesOf, IsRightBeside}

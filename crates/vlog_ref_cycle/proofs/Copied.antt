@@ -2,7 +2,8 @@
 use Rattle.std.proofs.Common.{◌≡◌, ℕ, suc, ◌<◌, List, [], ◌∷◌, Some, length, get_or, map, refl, sym, ap, subst, ◌∙◌}
 use Rattle.std.specs.List.{AllByRecursion, flat_map}
 use Rattle.vlog_tree.specs.Form.{ModuleTree}
-use Rattle.vlog_tree.specs.Cycle.{Cycle, Sizes, module_at, run_items}
+use Rattle.vlog_tree.specs.Cycle.{Cycle, Path, Sizes, module_at, run_items}
+use Rattle.vlog_tree.specs.Environment.{Environment}
 use Rattle.vlog_tree.specs.Grounded.{AllTwo}
 use Rattle.vlog_ref_driver.specs.declared.numbers.NetNumber.{NetNumber}
 use Rattle.vlog_ref_driver.specs.declared.numbers.MemoryCells.{MemoryCells}
@@ -10,7 +11,7 @@ use Rattle.vlog_ref_cycle.specs.declared.moment.Circuit.{Circuit}
 use Rattle.vlog_ref_cycle.specs.declared.moment.Held.{Held}
 use Rattle.vlog_ref_cycle.specs.declared.moment.Moment.{Moment}
 use Rattle.vlog_ref_cycle.specs.Numbers.{all_numbers, number_at}
-use Rattle.vlog_ref_cycle.specs.Moments.{HeldIs, InRuns}
+use Rattle.vlog_ref_cycle.specs.Moments.{HeldIs, IsRunAt, run_at, InRuns}
 use Rattle.vlog_ref_cycle.specs.Next.{item_nets, reads_of, ReadsAre, Fits, ShowsNet, ShowsCells, Shows, IsAlike, IsCopy, net_shape, memory_shape}
 use Rattle.vlog_ref_cycle.proofs.Later.{held_next}
 
@@ -52,9 +53,11 @@ module _ (h k j : Held) (path : k.path.items ≡ h.path.items) (nets : k.nets.it
   pub copy_next : (c : Circuit) (now : Moment) (m : ModuleTree) → module_at c.modules.now c.top.now h.path.items ≡ Some m → (depth : ℕ) (ns : List NetNumber) → all_numbers (number_at c now depth h.path.items) (reads_of m) ≡ Some ns
       → ((s : Sizes) (old next : Cycle) → ReadsAre ns old (flat_map item_nets m.items) → Fits s k → Shows k next → Shows j (run_items s old m.items next))
       → InRuns c now (λ env nets. HeldIs c.modules.now c.top.now (nets now.cycle) h → HeldIs c.modules.now c.top.now (nets (suc now.cycle)) j)
-  copy_next c now m at_m depth ns e leaves = λ env run r a i.
-      held_next c.modules.now c.top.now env run now r a h j i m at_m depth ns e copy_alike
-      (λ s old next read fits shows.
-      leaves s old next read
-      (copies_fit s h.memories.items k.memories.items memories fits)
-      (subst (λ l. AllByRecursion (ShowsNet next) l) (sym nets) shows.0, copies_show next h.memories.items k.memories.items memories shows.1))
+  copy_next c now m at_m depth ns e leaves = λ env run q i. copied env run q i where
+    copied : (env : Environment) (run : ℕ → Path → Cycle) → IsRunAt c now env run → HeldIs c.modules.now c.top.now (run now.cycle) h → HeldIs c.modules.now c.top.now (run (suc now.cycle)) j
+    copied env run (run_at r a) i =
+        held_next c.modules.now c.top.now env run now r a h j i m at_m depth ns e copy_alike
+        (λ s old next read fits shows.
+        leaves s old next read
+        (copies_fit s h.memories.items k.memories.items memories fits)
+        (subst (λ l. AllByRecursion (ShowsNet next) l) (sym nets) shows.0, copies_show next h.memories.items k.memories.items memories shows.1))

@@ -1,5 +1,5 @@
 -- What an instance holds in the next cycle of a run.
-use Rattle.std.proofs.Common.{◌≡◌, ℕ, suc, ◌<◌, List, [], ◌∷◌, Option, Some, length, map, ◌+◌, add-one, sym, ap, subst, ◌∙◌}
+use Rattle.std.proofs.Common.{◌≡◌, ℕ, suc, ◌<◌, List, [], ◌∷◌, Option, Some, length, get_or, map, ◌+◌, add-one, sym, ap, subst, ◌∙◌}
 use Rattle.std.specs.List.{AllByRecursion, flat_map}
 use Rattle.vlog_tree.specs.declared.tree.Item.{Item}
 use Rattle.vlog_tree.specs.declared.tree.Item.TheVariants.{Reg, Memory}
@@ -16,9 +16,8 @@ use Rattle.vlog_ref_cycle.specs.declared.moment.Circuit.{Circuit}
 use Rattle.vlog_ref_cycle.specs.declared.moment.OutsideMemory.{OutsideMemory}
 use Rattle.vlog_ref_cycle.specs.declared.moment.Held.{Held}
 use Rattle.vlog_ref_cycle.specs.declared.moment.Moment.{Moment}
-use Rattle.vlog_ref_cycle.specs.Sources.{at_label}
 use Rattle.vlog_ref_cycle.specs.Numbers.{all_numbers, net_within}
-use Rattle.vlog_ref_cycle.specs.Moments.{RegisterIs, MemoryIs, HeldIs, OutsideIs, IsAt, InRuns}
+use Rattle.vlog_ref_cycle.specs.Moments.{RegisterIs, MemoryIs, HeldIs, ScalarIs, OutsideIs, IsAt, IsRunAt, run_at, InRuns}
 use Rattle.vlog_ref_cycle.specs.Next.{stored_cells, IsAfterStore, item_nets, reads_of, ReadsAre, Fits, ShowsNet, ShowsCells, Shows, IsAlike, net_shape, memory_shape}
 use Rattle.vlog_ref_cycle.proofs.Options.{cons_same}
 use Rattle.vlog_ref_cycle.proofs.Sound.{numbers_read, read_found}
@@ -94,11 +93,11 @@ module _ (ms : List ModuleTree) (top : ModuleTree) (env : Environment) (nets : �
 module _ (env : Environment) (run : ℕ → Cycle) (n : ℕ) (labels : List Port) where
   outside_one : (o j : OutsideMemory) → OutsideIs env run n labels o → IsAfterStore (run n) o j → OutsideIs env run (suc n) labels j
   outside_one o j q i = record {
-    first = q.first;
-    ready = q.ready;
-    first_is = ap (λ z. at_label labels env.memories z) i.0 ∙ q.first_is;
-    ready_is = ap (λ z. at_label labels env.ready z) i.0 ∙ q.ready_is;
-    cells = i.2 ∙ ap (λ z. stored_cells (run n) o.name z) q.cells ∙ ap (λ z. cells_at run z q.first (suc n)) (sym i.0);
+    place = q.place;
+    label = q.label;
+    got = q.got;
+    name = i.0 ∙ q.name;
+    cells = i.2 ∙ ap (λ z. stored_cells (run n) o.name z) q.cells ∙ ap (λ z. cells_at run z (get_or env.memories q.place []) (suc n)) (sym i.0);
     bits = i.1 ∙ q.bits;
   }
 
@@ -113,11 +112,16 @@ pub at_next : (c : Circuit) (now after : Moment) → after.cycle ≡ now.cycle +
     → InRuns c now (λ env nets. AllByRecursion (HeldIs c.modules.now c.top.now (nets (suc now.cycle))) after.held.items)
     → InRuns c now (λ env nets. AllTwo (IsAfterStore (nets now.cycle [])) now.outside.items after.outside.items)
     → InRuns c now (λ env nets. IsAt c.modules.now c.top.now env nets after)
-at_next c now after e s held outside = λ env nets r a.
-    let k : suc now.cycle ≡ after.cycle = sym (e ∙ add-one now.cycle) in
-    record {
-      held = subst (λ z. AllByRecursion (HeldIs c.modules.now c.top.now (nets z)) after.held.items) k (held env nets r a);
-      scalars = subst (λ z. AllByRecursion (λ (v : NetNumber). at_label (shape_of c.top.now).scalars env.scalars v.name ≡ Some v.number) z) (sym s) a.scalars;
-      outside = subst (λ z. AllByRecursion (OutsideIs env (λ i. nets i []) z (shape_of c.top.now).memories) after.outside.items) k
-          (outside_next env (λ i. nets i []) now.cycle (shape_of c.top.now).memories now.outside.items after.outside.items a.outside (outside env nets r a));
-    }
+at_next c now after e s held outside = λ env nets q. next_at env nets q (at_of env nets q) where
+  at_of : (env : Environment) (nets : ℕ → Path → Cycle) → IsRunAt c now env nets → IsAt c.modules.now c.top.now env nets now
+  at_of env nets (run_at r a) = a
+
+  next_at : (env : Environment) (nets : ℕ → Path → Cycle) → IsRunAt c now env nets → IsAt c.modules.now c.top.now env nets now → IsAt c.modules.now c.top.now env nets after
+  next_at env nets q a =
+      let k : suc now.cycle ≡ after.cycle = sym (e ∙ add-one now.cycle) in
+      record {
+        held = subst (λ z. AllByRecursion (HeldIs c.modules.now c.top.now (nets z)) after.held.items) k (held env nets q);
+        scalars = subst (λ z. AllByRecursion (ScalarIs env (shape_of c.top.now).scalars) z) (sym s) a.scalars;
+        outside = subst (λ z. AllByRecursion (OutsideIs env (λ i. nets i []) z (shape_of c.top.now).memories) after.outside.items) k
+            (outside_next env (λ i. nets i []) now.cycle (shape_of c.top.now).memories now.outside.items after.outside.items a.outside (outside env nets q));
+      }

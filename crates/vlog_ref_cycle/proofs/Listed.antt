@@ -7,7 +7,9 @@ use Rattle.vlog_ref_cycle.specs.declared.moment.Circuit.{Circuit}
 use Rattle.vlog_ref_cycle.specs.declared.moment.Held.{Held}
 use Rattle.vlog_ref_cycle.specs.declared.moment.OutsideMemory.{OutsideMemory}
 use Rattle.vlog_ref_cycle.specs.declared.moment.Moment.{Moment}
-use Rattle.vlog_ref_cycle.specs.Moments.{HeldIs, InRuns}
+use Rattle.vlog_ref_cycle.specs.Moments.{HeldIs, IsAt, IsRunAt, run_at, InRuns}
+use Rattle.vlog_tree.specs.Cycle.{Cycle, Path}
+use Rattle.vlog_tree.specs.Environment.{Environment}
 use Rattle.vlog_ref_cycle.specs.Next.{IsAfterStore}
 use Rattle.vlog_ref_cycle.proofs.Leaves.{taken_more}
 
@@ -31,10 +33,15 @@ module _ (c : Circuit) (now : Moment) (i : ℕ) where
       → InRuns c now (λ env nets. HeldIs c.modules.now c.top.now (nets now.cycle) h → HeldIs c.modules.now c.top.now (nets (suc now.cycle)) k)
       → more ≡ out ++ k ∷ []
       → InRuns c now (λ env nets. AllByRecursion (HeldIs c.modules.now c.top.now (nets (suc now.cycle))) more)
-  held_more h k out more low is inv one e = λ env nets r a.
-      let after = HeldIs c.modules.now c.top.now (nets (suc now.cycle)) in
-      subst (λ l. AllByRecursion after l) (sym e)
-      (one_more after out k (inv env nets r a) (one env nets r a (at_index (HeldIs c.modules.now c.top.now (nets now.cycle)) now.held.items i h a.held low is)))
+  held_more h k out more low is inv one e = λ env nets q. more_held env nets q (at_of env nets q) where
+    at_of : (env : Environment) (nets : ℕ → Path → Cycle) → IsRunAt c now env nets → IsAt c.modules.now c.top.now env nets now
+    at_of env nets (run_at r a) = a
+
+    more_held : (env : Environment) (nets : ℕ → Path → Cycle) → IsRunAt c now env nets → IsAt c.modules.now c.top.now env nets now → AllByRecursion (HeldIs c.modules.now c.top.now (nets (suc now.cycle))) more
+    more_held env nets q a =
+        let after = HeldIs c.modules.now c.top.now (nets (suc now.cycle)) in
+        subst (λ l. AllByRecursion after l) (sym e)
+        (one_more after out k (inv env nets q) (one env nets q (at_index (HeldIs c.modules.now c.top.now (nets now.cycle)) now.held.items i h a.held low is)))
 
   -- one more memory around the design
   pub outside_more : (m k : OutsideMemory) (out more : List OutsideMemory) → i < length now.outside.items → m ≡ get_or now.outside.items i m
@@ -42,5 +49,5 @@ module _ (c : Circuit) (now : Moment) (i : ℕ) where
       → InRuns c now (λ env nets. IsAfterStore (nets now.cycle []) m k)
       → more ≡ out ++ k ∷ []
       → InRuns c now (λ env nets. AllTwo (IsAfterStore (nets now.cycle [])) (take (i + 1) now.outside.items) more)
-  outside_more m k out more low is inv one e = λ env nets r a.
-      taken_more (IsAfterStore (nets now.cycle [])) now.outside.items i m out more k low is (inv env nets r a) (one env nets r a) e
+  outside_more m k out more low is inv one e = λ env nets q.
+      taken_more (IsAfterStore (nets now.cycle [])) now.outside.items i m out more k low is (inv env nets q) (one env nets q) e

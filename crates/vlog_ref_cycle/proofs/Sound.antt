@@ -5,7 +5,6 @@ use Rattle.std.specs.Prelude.{◌⊎◌, bytes_eq, nat_lt, nat_le, is_some, unwr
 use Rattle.std.specs.List.{AllByRecursion}
 use Rattle.std.specs.Option.{option_map_or}
 use Rattle.std.specs.Cmp.Lexicographic.{bytes_decides}
-use Rattle.tapa_base.specs.declared.shape.Port.{Port}
 use Rattle.vlog_tree.specs.declared.tree.Value.{Value}
 use Rattle.vlog_tree.specs.declared.tree.Value.TheVariants.{Plain, Invert, Binary, Choose, Concat, Repeat, Cell}
 use Rattle.vlog_tree.specs.declared.tree.Connection.{Connection}
@@ -16,7 +15,6 @@ use Rattle.vlog_tree.specs.Form.{ModuleTree}
 use Rattle.vlog_tree.specs.Grounded.{Has, AllTwo}
 use Rattle.vlog_tree.specs.Table.{Name, declared, port_declared, ports_of, net_kind_of, bits_of, net_kind_is_input, net_kind_is_read}
 use Rattle.vlog_tree.specs.Cycle.{Cycle, Path, Sizes, and_then, Holds, PortHolds, driven}
-use Rattle.vlog_tree.specs.Environment.{AllAnswer, Answers}
 use Rattle.vlog_tree.specs.Loops.{value_nets}
 use Rattle.vlog_law_runs.proofs.Sound.{both_true, true_not_false}
 use Rattle.vlog_law_runs.proofs.Sizes.{all_at, width_held}
@@ -27,7 +25,7 @@ use Rattle.vlog_ref_driver.specs.Numbers.{first_net, first_memory, net_in, bits_
 use Rattle.vlog_ref_driver.proofs.Fits.{is_fit}
 use Rattle.vlog_ref_cycle.specs.declared.moment.Held.{Held}
 use Rattle.vlog_ref_cycle.specs.declared.moment.OutsideMemory.{OutsideMemory}
-use Rattle.vlog_ref_cycle.specs.Sources.{RuleTree, SourceTree, same_path, held_at, assigned_in, assigned, connection_out, output_in, output_of, connection_in, joined_in, joined_to, net_read, are_read, has_cells, given_number, same_number, can_drive, at_label, memory_of}
+use Rattle.vlog_ref_cycle.specs.Sources.{RuleTree, SourceTree, same_path, held_at, assigned_in, assigned, connection_out, output_in, output_of, connection_in, joined_in, joined_to, net_read, are_read, has_cells, given_number, same_number, can_drive, memory_of}
 use Rattle.vlog_ref_cycle.specs.Numbers.{by_rule, all_numbers}
 use Rattle.vlog_ref_cycle.specs.Moments.{MemoryIs}
 use Rattle.vlog_ref_cycle.proofs.Gathered.{numbered}
@@ -90,32 +88,6 @@ assigned_has (Instance m i connections) x v h = cc
 pub driver_found : (items : List Item) (x : Name) (v : Value) → assigned items x ≡ Some v → Has items (Assign x v)
 driver_found [] x v h = cc
 driver_found (it ∷ items) x v h = elim (either_some (assigned_in it x) (assigned items x) v h) [ inl a ↦ inl (assigned_has it x v a) | inr b ↦ inr (driver_found items x v b) ]
-
-module _ {A : Type 0} where
-  label_step : (R : Name → A → Type 0) (l : Port) (v : A) (x : Name) (w : A) (o : Option A) (b : Bool) → bytes_eq l.name x ≡ b → R l.name v → (o ≡ Some w → R x w) → cond b (Some v) o ≡ Some w → R x w
-  label_step R l v x w o true e r f h = let a : l.name ≡ x = (bytes_decides l.name x).0 e in let b : v ≡ w = cc in subst (λ z. R x z) b (subst (λ z. R z v) a r)
-  label_step R l v x w o false e r f h = f h
-
-  -- what holds of each label and its value holds of the value that is found
-  pub label_found : (R : Name → A → Type 0) (ls : List Port) (vs : List A) → AllTwo (λ (l : Port) v. R l.name v) ls vs → (x : Name) (w : A) → at_label ls vs x ≡ Some w → R x w
-  label_found R [] vs a x w h = cc
-  label_found R (l ∷ ls) [] a x w h = cc
-  label_found R (l ∷ ls) (v ∷ vs) a x w h = label_step R l v x w (at_label ls vs x) (bytes_eq l.name x) refl a.0 (label_found R ls vs a.1 x w) h
-
-answers_step : (run : ℕ → Cycle) (l : Port) (c c' : List ℕ) (r r' : List Bool) (x : Name) (o : Option (List ℕ)) (p : Option (List Bool)) (b : Bool) → bytes_eq l.name x ≡ b → Answers run l.name c r
-    → (o ≡ Some c' → p ≡ Some r' → Answers run x c' r') → cond b (Some c) o ≡ Some c' → cond b (Some r) p ≡ Some r' → Answers run x c' r'
-answers_step run l c c' r r' x o p true e a f h k =
-    let n : l.name ≡ x = (bytes_decides l.name x).0 e in
-    let q : c ≡ c' = cc in
-    let s : r ≡ r' = cc in
-    subst (λ z. Answers run x c' z) s (subst (λ z. Answers run x z r) q (subst (λ z. Answers run z c r) n a))
-answers_step run l c c' r r' x o p false e a f h k = f h k
-
-pub answers_found : (run : ℕ → Cycle) (ls : List Port) (cs : List (List ℕ)) (rs : List (List Bool)) → AllAnswer run ls cs rs → (x : Name) (c : List ℕ) (r : List Bool) → at_label ls cs x ≡ Some c → at_label ls rs x ≡ Some r → Answers run x c r
-answers_found run [] cs rs a x c r h k = cc
-answers_found run (l ∷ ls) [] rs a x c r h k = cc
-answers_found run (l ∷ ls) (c' ∷ cs) [] a x c r h k = cc
-answers_found run (l ∷ ls) (c' ∷ cs) (r' ∷ rs) a x c r h k = answers_step run l c' c r' r x (at_label ls cs x) (at_label ls rs x) (bytes_eq l.name x) refl a.0 (answers_found run ls cs rs a.1 x c r) h k
 
 module _ (c : Cycle) where
   -- a net that is read, with its number

@@ -1,5 +1,5 @@
 -- What is found at a moment is what each run has that is at this moment.
-use Rattle.std.proofs.Common.{◌≡◌, ℕ, zero, suc, ◌-◌, Bool, true, false, cond, List, [], ◌∷◌, Option, Some, None, refl, sym, ap, subst, ◌∙◌, arith}
+use Rattle.std.proofs.Common.{◌≡◌, ℕ, zero, suc, ◌-◌, Bool, true, false, cond, List, [], ◌∷◌, Option, Some, None, get_or, refl, sym, ap, subst, ◌∙◌, arith}
 use Rattle.std.specs.Prelude.{◌==◌, bytes_eq, unwrap_or, slice_get, map}
 use Rattle.std.specs.List.{AllByRecursion}
 use Rattle.std.specs.Option.{option_map, IfSome}
@@ -22,12 +22,12 @@ use Rattle.vlog_ref_driver.specs.Numbers.{first_net}
 use Rattle.vlog_ref_cycle.specs.declared.moment.Held.{Held}
 use Rattle.vlog_ref_cycle.specs.declared.moment.OutsideMemory.{OutsideMemory}
 use Rattle.vlog_ref_cycle.specs.declared.moment.Moment.{Moment}
-use Rattle.vlog_ref_cycle.specs.Sources.{RuleTree, SourceTree, held_at, assigned, output_of, joined_to, net_read, given_number, same_number, can_drive, at_label, rdata_source, ack_source, scalar_source, memory_of, input_source, outer_source, output_source, line_source, register_source, source_of}
+use Rattle.vlog_ref_cycle.specs.Sources.{RuleTree, SourceTree, held_at, assigned, output_of, joined_to, net_read, given_number, same_number, can_drive, rdata_source, ack_source, scalar_source, memory_of, input_source, outer_source, output_source, line_source, register_source, source_of}
 use Rattle.vlog_ref_cycle.specs.Numbers.{by_rule, all_numbers, net_within, number_at}
 use Rattle.vlog_ref_cycle.specs.declared.moment.Circuit.{Circuit}
-use Rattle.vlog_ref_cycle.specs.Moments.{RegisterIs, MemoryIs, HeldIs, OutsideIs, IsAt, InRuns}
+use Rattle.vlog_ref_cycle.specs.Moments.{RegisterIs, MemoryIs, HeldIs, ScalarIs, OutsideIs, IsAt, IsRunAt, run_at, InRuns}
 use Rattle.vlog_ref_cycle.proofs.Options.{and_then_some, map_some, cond_some}
-use Rattle.vlog_ref_cycle.proofs.Sound.{held_found, net_found, outside_found, driver_found, label_found, answers_found, numbers_read, IsOutput, output_found, joined_found, Gives, given_gives, same_gives, cells_give, driver_gives}
+use Rattle.vlog_ref_cycle.proofs.Sound.{held_found, net_found, outside_found, driver_found, numbers_read, IsOutput, output_found, joined_found, Gives, given_gives, same_gives, cells_give, driver_gives}
 
 later : (n : ℕ) → (suc n == 0) ≡ false
 later n = grind (arith, nat_tests)
@@ -49,24 +49,25 @@ module _ (ms : List ModuleTree) (top : ModuleTree) (env : Environment) (nets : �
   scalar_is : (x l : Name) (w : NetNumber) → scalar_of x ≡ Some l → first_net now.scalars.items l ≡ Some w → (nets n []).net x ≡ w.number
   scalar_is x l w e h =
       let q = net_found now.scalars.items l w h in
-      let v : at_label (shape_of top).scalars env.scalars w.name ≡ Some w.number = all_at (λ (v : NetNumber). at_label (shape_of top).scalars env.scalars v.name ≡ Some v.number) now.scalars.items w at.scalars q.0 in
+      let v : ScalarIs env (shape_of top).scalars w = all_at (ScalarIs env (shape_of top).scalars) now.scalars.items w at.scalars q.0 in
       ap (λ z. (nets n []).net z) (scalar_label x l e).0
-      ∙ label_found (λ y k. (nets n []).net (scalar y) ≡ k) (shape_of top).scalars env.scalars (r.stands.scalars n) l w.number (ap (λ z. at_label (shape_of top).scalars env.scalars z) (sym q.1) ∙ v)
+      ∙ ap (λ z. (nets n []).net (scalar z)) (sym q.1 ∙ v.name)
+      ∙ r.stands.scalars n v.place v.label v.got ∙ sym v.number
 
-  answers : (l : Name) (o : OutsideMemory) (q : OutsideIs env (λ k. nets k []) n labels o) → Answers (λ k. nets k []) o.name q.first q.ready
-  answers l o q = answers_found (λ k. nets k []) labels env.memories env.ready r.stands.memories o.name q.first q.ready q.first_is q.ready_is
+  answers : (o : OutsideMemory) (q : OutsideIs env (λ k. nets k []) n labels o) → Answers (λ k. nets k []) o.name (get_or env.memories q.place []) (get_or env.ready q.place [])
+  answers o q = subst (λ z. Answers (λ k. nets k []) z (get_or env.memories q.place []) (get_or env.ready q.place [])) (sym q.name) (r.stands.memories q.place q.label q.got)
 
   ack_is : (x l : Name) (o : OutsideMemory) → ack_of x ≡ Some l → memory_of now.outside.items l ≡ Some o → (nets n []).net x ≡ ready_at o.ready.items n
   ack_is x l o e h =
       let f = outside_found now.outside.items l o h in
       let q = all_at (OutsideIs env (λ k. nets k []) n labels) now.outside.items o at.outside f.0 in
-      ap (λ z. (nets n []).net z) (ack_label x l e).0 ∙ ap (λ z. (nets n []).net (m_ack z)) (sym f.1) ∙ (answers l o q).ack n ∙ ap (λ b. ready_at b n) (sym q.bits)
+      ap (λ z. (nets n []).net z) (ack_label x l e).0 ∙ ap (λ z. (nets n []).net (m_ack z)) (sym f.1) ∙ (answers o q).ack n ∙ ap (λ b. ready_at b n) (sym q.bits)
 
   rdata_is : (x l : Name) (o : OutsideMemory) → rdata_of x ≡ Some l → memory_of now.outside.items l ≡ Some o → (nets n []).net x ≡ unwrap_or (slice_get o.cells.items ((nets n []).net (m_addr l))) 0
   rdata_is x l o e h =
       let f = outside_found now.outside.items l o h in
       let q = all_at (OutsideIs env (λ k. nets k []) n labels) now.outside.items o at.outside f.0 in
-      ap (λ z. (nets n []).net z) (rdata_label x l e).0 ∙ ap (λ z. (nets n []).net (m_rdata z)) (sym f.1) ∙ (answers l o q).rdata n
+      ap (λ z. (nets n []).net z) (rdata_label x l e).0 ∙ ap (λ z. (nets n []).net (m_rdata z)) (sym f.1) ∙ (answers o q).rdata n
       ∙ ap (λ c. unwrap_or (slice_get c ((nets n []).net (m_addr o.name))) 0) (sym q.cells) ∙ ap (λ z. unwrap_or (slice_get o.cells.items ((nets n []).net (m_addr z))) 0) f.1
 
   rdata_gives : (x : Name) (o : Option Name) → rdata_of x ≡ o → (s : SourceTree) → rdata_source now.outside.items o ≡ Some s → GivesNow [] x s
@@ -169,7 +170,9 @@ module _ (ms : List ModuleTree) (top : ModuleTree) (env : Environment) (nets : �
 
 pub runs_number : (c : Circuit) (now : Moment) (d : ℕ) (path : Path) (x : Name) (o : Option ℕ) → o ≡ number_at c now d path x → IfSome o (λ v. InRuns c now (λ env nets. (nets now.cycle path).net x ≡ v))
 runs_number c now d path x None e = tt
-runs_number c now d path x (Some v) e = λ env nets r a. number_is c.modules.now c.top.now env nets now r a d path x v (sym e)
+runs_number c now d path x (Some v) e = λ env nets q. at_run env nets q where
+  at_run : (env : Environment) (nets : ℕ → Path → Cycle) → IsRunAt c now env nets → (nets now.cycle path).net x ≡ v
+  at_run env nets (run_at r a) = number_is c.modules.now c.top.now env nets now r a d path x v (sym e)
 
 module _ (c : Circuit) (now : Moment) (d : ℕ) (path : Path) (x : Name) (some : d ≡ 0 → ⊥) where
   rest_of : ℕ → SourceTree → Option ℕ

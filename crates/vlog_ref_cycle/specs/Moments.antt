@@ -1,5 +1,5 @@
 -- What it is for a run to be at a moment.
-use Rattle.std.specs.Prelude.{◌≡◌, ℕ, ◌<◌, Bool, List, Some, length, get_or, []}
+use Rattle.std.specs.Prelude.{◌≡◌, ℕ, ◌<◌, Bool, List, Some, length, get_or, slice_get, slice_index, slice_index_or, [], ◌&&◌, is_some}
 use Rattle.std.specs.List.{AllByRecursion}
 use Rattle.tapa_base.specs.declared.shape.Port.{Port}
 use Rattle.vlog_tree.specs.declared.tree.Item.{Item}
@@ -7,6 +7,9 @@ use Rattle.vlog_tree.specs.declared.tree.Item.TheVariants.{Reg, Memory}
 use Rattle.vlog_tree.specs.Form.{ModuleTree}
 use Rattle.vlog_tree.specs.Grounded.{Has}
 use Rattle.vlog_tree.specs.Cycle.{Cycle, Path, module_at}
+use Rattle.vlog_tree.specs.Table.{Name}
+use Rattle.vlog_tree.specs.Labels.{s_din, s_wr, s_rdy}
+use Rattle.vlog_ref_cycle.specs.Numbers.{number_at}
 use Rattle.vlog_tree.specs.Environment.{Environment, RunsIn, shape_of, cells_at}
 use Rattle.vlog_ref_driver.specs.declared.numbers.NetNumber.{NetNumber}
 use Rattle.vlog_ref_driver.specs.declared.numbers.MemoryCells.{MemoryCells}
@@ -14,7 +17,6 @@ use Rattle.vlog_ref_cycle.specs.declared.moment.Circuit.{Circuit}
 use Rattle.vlog_ref_cycle.specs.declared.moment.Held.{Held}
 use Rattle.vlog_ref_cycle.specs.declared.moment.OutsideMemory.{OutsideMemory}
 use Rattle.vlog_ref_cycle.specs.declared.moment.Moment.{Moment}
-use Rattle.vlog_ref_cycle.specs.Sources.{at_label}
 
 -- a register of a module, with the number that it has
 abbrev pub RegisterIs : List Item → Cycle → NetNumber → Type 0
@@ -31,21 +33,37 @@ pub record HeldIs (ms : List ModuleTree) (top : ModuleTree) (nets : Path → Cyc
   pub registers : AllByRecursion (RegisterIs tree.items (nets h.path.items)) h.nets.items
   pub memories : AllByRecursion (MemoryIs tree.items (nets h.path.items)) h.memories.items
 
--- a memory around the design has the cells of this cycle, and the ready bits of the environment
+-- a scalar has a label of the top's, and the number that the environment gives there
+pub record ScalarIs (env : Environment) (labels : List Port) (v : NetNumber) : Type 0 where
+  pub place : ℕ
+  pub label : Port
+  pub got : slice_get labels place ≡ Some label
+  pub name : v.name ≡ label.name
+  pub number : v.number ≡ slice_index env.scalars place
+
+-- a memory around the design has a label of the top's, the cells of this cycle, and the ready bits of the environment
 pub record OutsideIs (env : Environment) (run : ℕ → Cycle) (n : ℕ) (labels : List Port) (o : OutsideMemory) : Type 0 where
-  pub first : List ℕ
-  pub ready : List Bool
-  pub first_is : at_label labels env.memories o.name ≡ Some first
-  pub ready_is : at_label labels env.ready o.name ≡ Some ready
-  pub cells : o.cells.items ≡ cells_at run o.name first n
-  pub bits : o.ready.items ≡ ready
+  pub place : ℕ
+  pub label : Port
+  pub got : slice_get labels place ≡ Some label
+  pub name : o.name ≡ label.name
+  pub cells : o.cells.items ≡ cells_at run o.name (slice_index_or env.memories place []) n
+  pub bits : o.ready.items ≡ slice_index_or env.ready place []
 
 -- a run in an environment is at this moment: all that stands in it is what the run has in its cycle
 pub record IsAt (ms : List ModuleTree) (top : ModuleTree) (env : Environment) (nets : ℕ → Path → Cycle) (now : Moment) : Type 0 where
   pub held : AllByRecursion (HeldIs ms top (nets now.cycle)) now.held.items
-  pub scalars : AllByRecursion (λ (v : NetNumber). at_label (shape_of top).scalars env.scalars v.name ≡ Some v.number) now.scalars.items
+  pub scalars : AllByRecursion (ScalarIs env (shape_of top).scalars) now.scalars.items
   pub outside : AllByRecursion (OutsideIs env (λ n. nets n []) now.cycle (shape_of top).memories) now.outside.items
+
+-- a run of a design in an environment that is at this moment
+pub data IsRunAt (c : Circuit) (now : Moment) (env : Environment) (nets : ℕ → Path → Cycle) : Type 0 where
+  run_at : RunsIn c.modules.now c.top.now env nets → IsAt c.modules.now c.top.now env nets now → IsRunAt c now env nets
 
 -- what holds in each run, in any environment, that is at this moment
 abbrev pub InRuns : Circuit → Moment → (Environment → (ℕ → Path → Cycle) → Type 0) → Type 0
-InRuns c now P = (env : Environment) (nets : ℕ → Path → Cycle) → RunsIn c.modules.now c.top.now env nets → IsAt c.modules.now c.top.now env nets now → P env nets
+InRuns c now P = (env : Environment) (nets : ℕ → Path → Cycle) → IsRunAt c now env nets → P env nets
+
+-- what a stream's wires have is known, by as many steps as a depth allows
+abbrev pub stream_known : Circuit → Moment → ℕ → Name → Bool
+stream_known c now d x = is_some (number_at c now d [] (s_wr x)) && is_some (number_at c now d [] (s_rdy x)) && is_some (number_at c now d [] (s_din x))

@@ -3,13 +3,13 @@ use Rattle.std.specs.Prelude.{ℕ, Bool, true, false, ◌&&◌, ◌==◌, List, 
 use Rattle.std.specs.Borrow.{Bor}
 use Rattle.std.specs.List.{list_all}
 use Rattle.std.specs.Option.{option_map}
-use Rattle.tapa_base.specs.declared.shape.Port.{Port}
 use Rattle.vlog_tree.specs.declared.tree.Value.{Value}
 use Rattle.vlog_tree.specs.declared.tree.Value.TheVariants.{Plain, Invert, Binary, Choose, Concat, Repeat, Cell}
 use Rattle.vlog_tree.specs.declared.tree.Connection.{Connection}
 use Rattle.vlog_tree.specs.declared.tree.Item.{Item}
 use Rattle.vlog_tree.specs.declared.tree.Item.TheVariants.{Wire, Reg, Memory, Assign, Always, Instance}
 use Rattle.vlog_tree.specs.declared.table.Declaration.{Declaration}
+use Rattle.vlog_tree.specs.declared.table.NetKind.{NetKind}
 use Rattle.vlog_tree.specs.Form.{ModuleTree}
 use Rattle.vlog_tree.specs.Table.{Name, declared, port_declared, ports_of, net_kind_of, bits_of, net_kind_is_input, net_kind_is_read}
 use Rattle.vlog_tree.specs.Cycle.{Path, and_then, module_at}
@@ -31,6 +31,11 @@ same_path [] [] = true
 same_path [] (y ∷ ys) = false
 same_path (x ∷ xs) [] = false
 same_path (x ∷ xs) (y ∷ ys) = bytes_eq x y && same_path xs ys
+
+-- what the first declaration of a name says: its kind and its bits
+abbrev pub found : List Declaration → Name → Option (NetKind × ℕ)
+found [] x = None
+found (d ∷ ds) x = if bytes_eq d.name x then Some (d.net_kind, d.bits) else found ds x
 
 -- what the first instance of a path holds
 abbrev pub held_at : List Held → Path → Option Held
@@ -146,12 +151,6 @@ can_drive ds memories x e = net_kind_is_read (net_kind_of ds x) && are_read ds (
 abbrev pub driver_source : List Declaration → Path → List MemoryCells → Name → Value → Option SourceTree
 driver_source ds path memories x e =
     if can_drive ds memories x e then Some (record { path = path; reads = map (net_read ds) (value_nets e); rule = driver (bits_of ds x) e memories }) else None
-
--- the value that stands at a label
-abbrev pub at_label : {A : Type 0} → List Port → List A → Name → Option A
-at_label [] vs x = None
-at_label (l ∷ ls) [] x = None
-at_label (l ∷ ls) (v ∷ vs) x = if bytes_eq l.name x then Some v else at_label ls vs x
 
 -- the first memory of a label
 abbrev pub memory_of : List OutsideMemory → Name → Option OutsideMemory

@@ -10,10 +10,10 @@ ghost use Rattle.vlog_ref_cycle.specs.Next.{step_nets, item_nets, put_net, IsSto
 
 use crate::lines::{add_atom, add_net};
 use crate::moment::Held;
+use crate::scope::Scope;
 use std::alloc::{AllocError, Global};
 use tapa_base::Text;
 use vlog_ref_driver::{MemoryCells, NetNumber, number_in, value_of_atom};
-use vlog_rules::{Scope, copy_text};
 use vlog_tree::{Item, Step};
 
 fn add_step(
@@ -97,7 +97,7 @@ fn put_number(
 {
     let mut out = Vec::new(alloc);
     for r in nets {
-        let name = copy_text(alloc, &r.name)?;
+        let name = r.name.copy(alloc)?;
         let new = if r.name.bytes() == x.bytes() {
             number
         } else {
@@ -121,7 +121,7 @@ fn stored(
 ) -> Result<MemoryCells, AllocError>
     ensures { IfOk result (λ j. IsStored m.now at number k.now j) }
 {
-    let name = copy_text(alloc, &k.name)?;
+    let name = k.name.copy(alloc)?;
     let mut cells = k.cells.as_slice().to_vec(alloc)?;
     if k.name.bytes() == m.bytes() && at < cells.len() as u128 {
         cells[at as usize] = number;

@@ -1,8 +1,9 @@
 // What a design holds in the next cycle.
 
-ghost use Rattle.std.specs.Prelude.{◌≡◌, ◌+◌, suc, [], length, IfOk, IfSome, is_some};
+ghost use Rattle.std.specs.Prelude.{◌≡◌, ◌==◌, ◌&&◌, if◌then◌else◌, ◌+◌, suc, [], length, IfOk, IfSome, is_some};
 ghost use Rattle.std.specs.List.{list_all, AllByRecursion};
 ghost use Rattle.vlog_tree.specs.Grounded.{AllTwo};
+ghost use Rattle.vlog_tree.specs.Environment.{set_cell};
 ghost use Rattle.vlog_ref_cycle.specs.Moments.{InRuns, HeldIs, IsAt};
 ghost use Rattle.vlog_ref_cycle.specs.Next.{held_known, outside_known, next_known, stored_cells, IsAfterStore, IsCopy, IsAlike, IsSameMemory, IsKept};
 
@@ -10,10 +11,10 @@ use crate::blocks::{block_reads, run_items};
 use crate::moment::{Circuit, Held, Moment, OutsideMemory};
 use crate::numbers::all_numbers;
 use crate::places::{copy_path, module_at};
+use crate::scope::Scope;
 use crate::streams::top_number;
 use std::alloc::{AllocError, Global};
 use vlog_ref_driver::{MemoryCells, NetNumber};
-use vlog_rules::{Scope, copy_text};
 use vlog_tree::{ack_name, addr_name, wdata_name, we_name};
 
 fn copy_nets(alloc: Global, nets: &[NetNumber]) -> Result<Vec<NetNumber>, AllocError>
@@ -21,7 +22,7 @@ fn copy_nets(alloc: Global, nets: &[NetNumber]) -> Result<Vec<NetNumber>, AllocE
 {
     let mut out = Vec::new(alloc);
     for n in nets {
-        let name = copy_text(alloc, &n.name)?;
+        let name = n.name.copy(alloc)?;
         out.push(NetNumber {
             name,
             bits: n.bits,
@@ -34,7 +35,7 @@ fn copy_nets(alloc: Global, nets: &[NetNumber]) -> Result<Vec<NetNumber>, AllocE
 fn copy_memory(alloc: Global, m: &MemoryCells) -> Result<MemoryCells, AllocError>
     ensures { IfOk result (λ k. IsCopy m.now k) }
 {
-    let name = copy_text(alloc, &m.name)?;
+    let name = m.name.copy(alloc)?;
     let cells = m.cells.as_slice().to_vec(alloc)?;
     Ok(MemoryCells { name, cells })
 }
@@ -78,7 +79,7 @@ fn held_after(
     let Some(m) = module_at(design.modules, design.top, &h.path) else {
         return Ok(None);
     };
-    let scope = Scope::of_module(alloc, m)?;
+    let scope = Scope::of_module(m);
     let reads = block_reads(alloc, &scope, m.items())?;
     match all_numbers(alloc, design, now, &h.path, &reads, depth)? {
         Some(nets) => {
@@ -110,6 +111,16 @@ fn all_held_after(
     Ok(Some(out))
 }
 
+// Cells after the store of a cycle, if there is one.
+fn stored(mut cells: Vec<u128>, ack: u128, we: u128, addr: u128, wdata: u128) -> Vec<u128>
+    ensures { result.items ≡ (if (ack == 1) && (we == 1) then set_cell cells.items addr wdata else cells.items) }
+{
+    if ack == 1 && we == 1 && addr < cells.len() as u128 {
+        cells[addr as usize] = wdata;
+    }
+    cells
+}
+
 #[tactic(auto, using(crate::proofs::Ascii::ack_ascii, crate::proofs::Ascii::we_ascii, crate::proofs::Ascii::addr_ascii, crate::proofs::Ascii::wdata_ascii))]
 fn top_cells(
     alloc: Global,
@@ -135,11 +146,8 @@ fn top_cells(
     let Some(wdata) = top_number(alloc, design, now, wdata_name(alloc, label)?, depth)? else {
         return Ok(None);
     };
-    let mut cells = m.cells.as_slice().to_vec(alloc)?;
-    if ack == 1 && we == 1 && addr < cells.len() as u128 {
-        cells[addr as usize] = wdata;
-    }
-    Ok(Some(cells))
+    let cells = m.cells.as_slice().to_vec(alloc)?;
+    Ok(Some(stored(cells, ack, we, addr, wdata)))
 }
 
 /// A memory around the design after the store of this cycle.
@@ -156,7 +164,7 @@ fn outside_after(
 {
     match top_cells(alloc, design, now, m, depth)? {
         Some(cells) => {
-            let name = copy_text(alloc, &m.name)?;
+            let name = m.name.copy(alloc)?;
             let ready = m.ready.as_slice().to_vec(alloc)?;
             Ok(Some(OutsideMemory { name, cells, ready }))
         }

@@ -9,6 +9,7 @@ mod lines;
 mod moment;
 mod numbers;
 mod places;
+mod scope;
 mod sources;
 mod streams;
 

@@ -7,10 +7,11 @@ ghost use Rattle.vlog_tree.specs.Table.{port_declared, ports_of as ports_of_lem}
 ghost use Rattle.vlog_tree.specs.Loops.{atom_nets, value_nets};
 ghost use Rattle.vlog_ref_cycle.specs.Sources.{assigned_in as assigned_in_lem, output_in as output_in_lem, joined_in as joined_in_lem, assigned as assigned_lem, connection_out as connection_out_lem, output_of as output_of_lem, pair_of, connection_in as connection_in_lem, joined_to as joined_to_lem, net_read, are_read as are_read_lem, has_cells as has_cells_lem};
 
+use crate::places::module_named;
+use crate::scope::{Scope, is_input, is_read};
 use std::alloc::{AllocError, Global};
 use tapa_base::Text;
 use vlog_ref_driver::{MemoryCells, NetNumber, find_memory};
-use vlog_rules::{Scope, copy_text, is_input, is_read};
 use vlog_tree::{Atom, Connection, Item, Module, Value};
 
 fn assigned_in<'a>(item: &'a Item, x: &Text) -> Option<&'a Value>
@@ -56,24 +57,17 @@ fn connection_out<'a>(ports: &Scope, connections: &'a [Connection], x: &Text) ->
     None
 }
 
-fn ports_of(alloc: Global, modules: &[Module], name: &Text) -> Result<Scope, AllocError>
-    ensures { IfOk result (λ s. s ≡ map port_declared (ports_of_lem modules.now name.now)) }
+fn ports_of<'a>(modules: &'a [Module], name: &Text) -> Scope<'a>
+    ensures { result ≡ map port_declared (ports_of_lem modules.now name.now) }
 {
-    for m in modules {
-        if m.name().bytes() == name.bytes() {
-            return Scope::of_ports(alloc, m.ports());
-        }
+    match module_named(modules, name) {
+        Some(m) => Scope::of_ports(m.ports()),
+        None => Scope::of_ports(&[]),
     }
-    Scope::of_ports(alloc, &[])
 }
 
-fn output_in<'a>(
-    alloc: Global,
-    modules: &[Module],
-    item: &'a Item,
-    x: &Text,
-) -> Result<Option<(&'a Text, &'a Text)>, AllocError>
-    ensures { IfOk result (λ o. option_map pair_of o ≡ output_in_lem modules.now item.now x.now) }
+fn output_in<'a>(modules: &[Module], item: &'a Item, x: &Text) -> Option<(&'a Text, &'a Text)>
+    ensures { option_map pair_of result ≡ output_in_lem modules.now item.now x.now }
 {
     match item {
         Item::Instance {
@@ -81,35 +75,34 @@ fn output_in<'a>(
             name: i,
             connections,
         } => {
-            let ports = ports_of(alloc, modules, m)?;
+            let ports = ports_of(modules, m);
             match connection_out(&ports, connections.connections(), x) {
-                Some(p) => Ok(Some((i, p))),
-                None => Ok(None),
+                Some(p) => Some((i, p)),
+                None => None,
             }
         }
-        Item::Assign { .. } => Ok(None),
-        Item::Wire { .. } => Ok(None),
-        Item::Reg { .. } => Ok(None),
-        Item::Memory { .. } => Ok(None),
-        Item::Always(_) => Ok(None),
+        Item::Assign { .. } => None,
+        Item::Wire { .. } => None,
+        Item::Reg { .. } => None,
+        Item::Memory { .. } => None,
+        Item::Always(_) => None,
     }
 }
 
 /// The first instance, and its port, that drives a net.
 pub(crate) fn output_of<'a>(
-    alloc: Global,
     modules: &[Module],
     items: &'a [Item],
     x: &Text,
-) -> Result<Option<(&'a Text, &'a Text)>, AllocError>
-    ensures { IfOk result (λ o. option_map pair_of o ≡ output_of_lem modules.now items.now x.now) }
+) -> Option<(&'a Text, &'a Text)>
+    ensures { option_map pair_of result ≡ output_of_lem modules.now items.now x.now }
 {
     for item in items {
-        if let Some(p) = output_in(alloc, modules, item, x)? {
-            return Ok(Some(p));
+        if let Some(p) = output_in(modules, item, x) {
+            return Some(p);
         }
     }
-    Ok(None)
+    None
 }
 
 fn connection_in<'a>(connections: &'a [Connection], x: &Text) -> Option<&'a Text>
@@ -168,7 +161,7 @@ pub(crate) fn add_net(
     ensures { OnOk result (out.new.items ≡ out.old.items ++ net_read scope.now x.now ∷ []) }
 {
     let bits = scope.bits(x.bytes());
-    let name = copy_text(alloc, x)?;
+    let name = x.copy(alloc)?;
     out.push(NetNumber {
         name,
         bits,

@@ -13,7 +13,6 @@ use crate::sources::{Rule, source_of};
 use std::alloc::{AllocError, Global};
 use tapa_base::Text;
 use vlog_ref_driver::{NetNumber, value_of};
-use vlog_rules::copy_text;
 
 fn first_of(nets: &[NetNumber]) -> Option<u128>
     ensures { result ≡ first_number nets.now }
@@ -74,7 +73,7 @@ pub(crate) fn all_numbers(
         let Some(number) = net_number(alloc, &*design, &*now, &*path, &r.name, depth)? else {
             return Ok(None);
         };
-        let name = copy_text(alloc, &r.name)?;
+        let name = r.name.copy(alloc)?;
         nets.push(NetNumber {
             name,
             bits: r.bits,

@@ -9,10 +9,10 @@ ghost use Rattle.vlog_ref_cycle.specs.Sources.{same_path as same_path_lem, held_
 use crate::moment::Held;
 use std::alloc::{AllocError, Global};
 use tapa_base::Text;
-use vlog_rules::copy_text;
 use vlog_tree::{Item, Module};
 
-fn module_named<'a>(modules: &'a [Module], name: &Text) -> Option<&'a Module>
+/// The first module of a name.
+pub(crate) fn module_named<'a>(modules: &'a [Module], name: &Text) -> Option<&'a Module>
     ensures { option_copied result ≡ module_named_lem modules.now name.now }
 {
     for m in modules {
@@ -107,7 +107,7 @@ fn add_path(alloc: Global, out: &mut Vec<Text>, path: &[Text]) -> Result<(), All
     ensures { OnOk result (out.new.items ≡ out.old.items ++ path.now) }
 {
     for x in path {
-        out.push(copy_text(alloc, x)?)?;
+        out.push(x.copy(alloc)?)?;
     }
     Ok(())
 }
@@ -130,7 +130,7 @@ pub(crate) fn path_inside(
     ensures { IfOk result (λ v. v.items ≡ name.now ∷ path.now) }
 {
     let mut out = Vec::new(alloc);
-    out.push(copy_text(alloc, name)?)?;
+    out.push(name.copy(alloc)?)?;
     add_path(alloc, &mut out, path)?;
     Ok(out)
 }

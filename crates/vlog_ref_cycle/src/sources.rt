@@ -9,10 +9,10 @@ use crate::inputs::input_source;
 use crate::lines::{are_read, assigned, has_cells, joined_to, output_of, value_reads};
 use crate::moment::{Circuit, Held, Moment};
 use crate::places::{copy_path, held_at, module_at, path_inside};
+use crate::scope::{Scope, is_read};
 use std::alloc::{AllocError, Global};
 use tapa_base::Text;
 use vlog_ref_driver::{MemoryCells, NetNumber, find_net};
-use vlog_rules::{Scope, copy_text, is_read};
 use vlog_tree::{Module, Value};
 
 /// How a number comes from those of some nets.
@@ -59,7 +59,7 @@ pub(crate) fn one_read(alloc: Global, x: Text) -> Result<Vec<NetNumber>, AllocEr
 fn same<'a>(alloc: Global, path: Vec<Text>, x: &Text) -> Result<Source<'a>, AllocError>
     ensures { IfOk result (λ s. source_tree s ≡ same_number path.items x.now) }
 {
-    let x = copy_text(alloc, x)?;
+    let x = x.copy(alloc)?;
     let reads = one_read(alloc, x)?;
     Ok(Source {
         path,
@@ -78,8 +78,9 @@ fn driver<'a>(
 ) -> Result<Option<Source<'a>>, AllocError>
     ensures { IfOk result (λ o. option_map source_tree o ≡ driver_source (declared m.now) path.now memories.now x.now value.now) }
 {
-    let scope = Scope::of_module(alloc, m)?;
-    let (net_kind, bits) = scope.find(x);
+    let scope = Scope::of_module(m);
+    let net_kind = scope.net_kind(x.bytes());
+    let bits = scope.bits(x.bytes());
     let reads = value_reads(alloc, &scope, value)?;
     if is_read(net_kind) && are_read(&scope, &reads) && has_cells(memories, value) {
         let path = copy_path(alloc, path)?;
@@ -128,7 +129,7 @@ fn output<'a>(
 ) -> Result<Option<Source<'a>>, AllocError>
     ensures { IfOk result (λ o. option_map source_tree o ≡ output_source path.now (output_of_lem design.now.modules.now m.now.items x.now) (outer_source design.now.modules.now design.now.top.now now.now path.now x.now)) }
 {
-    match output_of(alloc, design.modules, m.items(), x)? {
+    match output_of(design.modules, m.items(), x) {
         Some((i, p)) => {
             let inside = path_inside(alloc, i, path)?;
             let source = same(alloc, inside, p)?;

@@ -1,17 +1,17 @@
 // What a stream carries in a cycle, and whether the design is done.
 
-ghost use Rattle.std.specs.Prelude.{◌≡◌, ◌++◌, ◌↔◌, ◌&&◌, ℕ, suc, [], None, IfOk, IfSome, IsTrue, is_some};
+ghost use Rattle.std.specs.Prelude.{◌≡◌, ◌≤◌, ◌++◌, ◌↔◌, ℕ, suc, [], None, IfOk, IfSome, IsTrue, is_some};
 ghost use Rattle.std.specs.Option.{option_to_list};
 ghost use Rattle.std.specs.Str.{IsAscii};
-ghost use Rattle.vlog_tree.specs.Labels.{s_din, s_wr, s_rdy, done};
-ghost use Rattle.vlog_tree.specs.Environment.{carried, IsDone};
-ghost use Rattle.vlog_ref_cycle.specs.Moments.{InRuns};
+ghost use Rattle.vlog_tree.specs.Labels.{s_din, done};
+ghost use Rattle.vlog_tree.specs.Environment.{carried, tokens, token_of as token_of_lem, IsDone};
+ghost use Rattle.vlog_ref_cycle.specs.Moments.{InRuns, stream_known};
 ghost use Rattle.vlog_ref_cycle.specs.Numbers.{number_at};
 
 use crate::moment::{Circuit, Moment};
 use crate::numbers::net_number;
 use std::alloc::{AllocError, Global};
-use tapa_base::Text;
+use tapa_base::{Port, Text, Token};
 use vlog_tree::{rdy_name, wr_name};
 
 /// The number of a net of the top.
@@ -39,16 +39,16 @@ fn din_name(alloc: Global, label: &[u8]) -> Result<Vec<u8>, AllocError>
     Ok(name)
 }
 
-/// What a stream carries in this cycle: the number on its `din` where `wr` and `rdy` are 1, and nothing in cycle 0.
+// The number on a stream's `din` in this cycle where `wr` and `rdy` are 1, and nothing in cycle 0.
 #[tactic(auto, using(crate::proofs::Ascii::wr_ascii, crate::proofs::Ascii::rdy_ascii, crate::proofs::Ascii::din_ascii))]
-pub fn carries(
+fn carries_number(
     alloc: Global,
     design: &Circuit,
     now: &Moment,
     label: &Text,
     depth: u32,
 ) -> Result<Option<Option<u128>>, AllocError>
-    ensures known { IfOk result (λ o. is_some o ≡ (is_some (number_at design.now now.now depth [] (s_wr label.now)) && is_some (number_at design.now now.now depth [] (s_rdy label.now)) && is_some (number_at design.now now.now depth [] (s_din label.now)))) }
+    ensures known { IfOk result (λ o. is_some o ≡ stream_known design.now now.now depth label.now) }
     ensures first { IfOk result (λ o. IfSome o (λ t. now.now.cycle ≡ 0 → t ≡ None)) }
     ensures value { IfOk result (λ o. IfSome o (λ t. InRuns design.now now.now (λ env nets. (k : ℕ) → now.now.cycle ≡ suc k → carried (λ n. nets n []) label.now (suc k) ≡ carried (λ n. nets n []) label.now k ++ option_to_list t))) }
 {
@@ -69,6 +69,51 @@ pub fn carries(
     }
 }
 
+// What the bits of a stream say: an end where the highest one is set, and else a datum.
+#[tactic(auto, using(crate::proofs::Tokens::low_datum))]
+fn token_of(bits: u32, din: u128) -> Token
+    requires low { 1 ≤ bits }
+    requires high { bits ≤ 65 }
+    ensures { result ≡ token_of_lem bits din }
+{
+    let first_end = 1u128 << (bits - 1);
+    if din < first_end {
+        Token::Datum(din as u64)
+    } else {
+        Token::Eot
+    }
+}
+
+/// The token that a stream carries in this cycle, where `wr` and `rdy` are 1; in cycle 0 it carries none. A stream has from
+/// 2 to 65 bits.
+#[tactic(auto, using(crate::proofs::Tokens::one_token, crate::proofs::Tokens::no_token))]
+pub fn carries(
+    alloc: Global,
+    design: &Circuit,
+    now: &Moment,
+    stream: &Port,
+    depth: u32,
+) -> Result<Option<Option<Token>>, AllocError>
+    requires low { 2 ≤ stream.now.bits }
+    requires high { stream.now.bits ≤ 65 }
+    ensures known { IfOk result (λ o. is_some o ≡ stream_known design.now now.now depth stream.now.name) }
+    ensures first { IfOk result (λ o. IfSome o (λ t. now.now.cycle ≡ 0 → t ≡ None)) }
+    ensures value { IfOk result (λ o. IfSome o (λ t. InRuns design.now now.now (λ env nets. (k : ℕ) → now.now.cycle ≡ suc k → tokens stream.now.bits (λ n. nets n []) stream.now.name (suc k) ≡ tokens stream.now.bits (λ n. nets n []) stream.now.name k ++ option_to_list t))) }
+{
+    match carries_number(alloc, design, now, &stream.name, depth)? {
+        Some(Some(din)) => Ok(Some(Some(token_of(stream.bits, din)))),
+        Some(None) => Ok(Some(None)),
+        None => Ok(None),
+    }
+}
+
+#[tactic(auto, unfolding(vlog_tree::specs::Labels::done))]
+fn done_name(alloc: Global) -> Result<Vec<u8>, AllocError>
+    ensures { IfOk result (λ v. v.items ≡ done) }
+{
+    b"done".to_vec(alloc)
+}
+
 /// Whether the design is done in this cycle.
 #[tactic(auto, unfolding(vlog_tree::specs::Labels::done), using(crate::proofs::Ascii::done_ascii))]
 pub fn is_done(
@@ -80,7 +125,7 @@ pub fn is_done(
     ensures known { IfOk result (λ o. is_some o ≡ is_some (number_at design.now now.now depth [] done)) }
     ensures value { IfOk result (λ o. IfSome o (λ b. InRuns design.now now.now (λ env nets. IsTrue b ↔ IsDone (λ n. nets n []) now.now.cycle))) }
 {
-    match top_number(alloc, design, now, b"done".to_vec(alloc)?, depth)? {
+    match top_number(alloc, design, now, done_name(alloc)?, depth)? {
         Some(n) => Ok(Some(now.cycle > 0 && n == 1)),
         None => Ok(None),
     }

@@ -18,15 +18,14 @@ use Rattle.vlog_tree.specs.Table.{Name, is_clk, declared, port_declared, items_d
 use Rattle.vlog_tree.specs.Cycle.{Cycle, Path, and_then, driven, module_at}
 use Rattle.vlog_tree.specs.Environment.{Environment, FitsShape, RunsIn, shape_of}
 use Rattle.vlog_tree.specs.V2.{all_connected}
-use Rattle.vlog_tree.specs.Labels.{address_of}
-use Rattle.vlog_tree.specs.Loops.{value_nets, item_instances}
+use Rattle.vlog_tree.specs.Loops.{asked_port, value_nets, item_instances}
 use Rattle.vlog_tree.specs.Flattened.{FlatNet, parts}
 use Rattle.vlog_tree.proofs.Lists.{has_flat, of_flat, has_map, of_map}
 use Rattle.vlog_law_runs.proofs.Sound.{true_not_false, assign_reads, assign_cell, connection_port, connection_net, connection_clock, is_known_module, output_is}
 use Rattle.vlog_law_runs.proofs.Sizes.{all_at, memory_item, register_item}
 use Rattle.vlog_law_runs.proofs.Alone.{child_is, instance_single, module_there, module_is, IsNamed}
 use Rattle.vlog_law_runs.proofs.Alike.{memory_is}
-use Rattle.vlog_law_runs.proofs.Settled.{outside, module_in, child_at, top_tree, IsTopTree, design_settles}
+use Rattle.vlog_law_runs.proofs.Settled.{outside, asked_address, module_in, child_at, top_tree, IsTopTree, design_settles}
 use Rattle.vlog_law_runs.proofs.Drivers.{Source, value, output, sources, line_sources, source_cases, value_line, output_line, IsDrivenBy, has_source}
 use Rattle.vlog_law_runs.proofs.Parts.{part_line, part_outside, part_answer, driver_part, output_part}
 use Rattle.vlog_law_runs.proofs.Cycles.{port_stands, port_net_kind_declared, outside_has, connected_once}
@@ -119,10 +118,11 @@ module _ (ms : List ModuleTree) (place : ℕ) (root : ModuleTree) (d : IsDesign 
       let input : net_kind_of (declared root) x ≡ Input = subst (λ (k : ModuleTree). net_kind_of (declared k) x ≡ Input) (sym same) net_kind in
       input_given ms d.sound.names d.outside root tree.has tree.is_top now whole x input no_clock
       (λ b h.
-      let t = of_map (λ (y : Name). ([], y)) (address_of x) b h in
-      let q = asked_declared ms d.outside root tree.has tree.is_top x input t.0 t.1 in
+      let ports = map port_declared root.ports in
+      let t = of_map (λ (y : Name). ([], y)) (asked_port ports x) b h in
+      let q = asked_declared ms d.outside root tree.has tree.is_top x input t.0 (asked_address ports x t.0 t.1) in
       subst (λ (b : FlatNet). IsFound ms root now b) t.2
-      (below ([], t.0) (part_answer ms root [] x ([], t.0) (has_map (λ (y : Name). ([], y)) (address_of x) t.0 t.1)) root refl q.0 q.1))
+      (below ([], t.0) (part_answer ms root [] x ([], t.0) (has_map (λ (y : Name). ([], y)) (asked_port ports x) t.0 t.1)) root refl q.0 q.1))
   outer_given (i ∷ path) m at x net_kind no_clock below = let a = module_around ms root i path m at in joined_given i path m at x net_kind no_clock below a (joined_to a.tree.items i x) refl
 
   module _ (path : Path) (m : ModuleTree) (at : module_at ms root path ≡ Some m) (h : Held) (at_held : held_at now.held.items path ≡ Some h) (all : HoldsAll m h) where

@@ -2,20 +2,24 @@
 use Rattle.std.proofs.Common.{◌≡◌, ℕ, Bool, true, false, cond, List, [], ◌∷◌, Option, Some, None, inl, refl, sym, ap, subst, ◌∙◌, map}
 use Rattle.std.specs.Prelude.{◌==◌, bytes_eq}
 use Rattle.std.specs.Option.{option_map}
+use Rattle.std.specs.List.{filter}
 use Rattle.tapa_base.specs.declared.shape.Port.{Port}
 use Rattle.vlog_tree.specs.declared.tree.PortDecl.{PortDecl}
 use Rattle.vlog_tree.specs.declared.table.Declaration.{Declaration}
 use Rattle.vlog_tree.specs.declared.table.NetKind.TheVariants.{Input, Output}
 use Rattle.vlog_tree.specs.Form.{ModuleTree, is_input}
 use Rattle.vlog_tree.specs.Grounded.{Has}
-use Rattle.vlog_tree.specs.Table.{Name, is_clk, declared, port_declared, net_kind_of, bits_of, first_violation}
-use Rattle.vlog_tree.specs.Labels.{rst, m_ack, m_rdata, m_addr, scalar_of, ack_of, rdata_of, read_of}
+use Rattle.vlog_tree.specs.Table.{Name, is_clk, declared, port_declared, items_declared, net_kind_of, bits_of, net_kind_is_input, first_violation}
+use Rattle.vlog_tree.specs.Labels.{rst, m_ack, m_rdata, m_addr, scalar_of, ack_of, rdata_of, read_of, address_of}
 use Rattle.vlog_tree.specs.V2.{v2_uses}
-use Rattle.vlog_tree.specs.V6.{v6_uses, is_top}
+use Rattle.vlog_tree.specs.V6.{v6_uses, is_top, has_port}
 use Rattle.vlog_tree.specs.Environment.{scalar_label, memory_label, ready_at}
-use Rattle.vlog_tree.specs.Flattened.{FlatNet, memory_parts}
-use Rattle.vlog_tree.proofs.Lists.{has_flat}
-use Rattle.vlog_law_runs.proofs.TopPorts.{input_port, five_of}
+use Rattle.vlog_tree.specs.Flattened.{FlatNet}
+use Rattle.vlog_tree.specs.Loops.{asked_port}
+use Rattle.vlog_tree.proofs.Lists.{has_flat, has_map}
+use Rattle.vlog_law_runs.proofs.TopPorts.{input_port, five_of, five_rdata}
+use Rattle.vlog_law_runs.proofs.Cycles.{port_stands}
+use Rattle.vlog_law_runs.proofs.Settled.{answers}
 use Rattle.vlog_law_runs.proofs.Ports.{fits, named_port, rdata_input, input_has_label}
 use Rattle.vlog_law_runs.proofs.Labelled.{rdata_label, ack_of_label}
 use Rattle.vlog_ref_driver.specs.declared.numbers.NetNumber.{NetNumber}
@@ -81,11 +85,22 @@ module _ (ms : List ModuleTree) (names : first_violation (v2_uses ms) ≡ None) 
     port_given i c false None None (Some l) r es ea er = rdata_given l er
     port_given i c false None None None r es ea er = let f = fits ms names tops m in_ms top p h in absurd (input_has_label ports f.0 p f.1 i c r es ea er)
 
+  -- a memory's answer rests on the place that it is asked for
+  asked_here : (x l : Name) → rdata_of x ≡ Some l → net_kind_is_input (net_kind_of ports x) ≡ true → has_port ports (m_addr l) ≡ true → Has (asked_port ports x) (m_addr l)
+  asked_here x l e input addr =
+      subst (λ b. Has {N = Name} (cond b (filter (has_port ports) (address_of x)) []) (m_addr l)) (sym input)
+      (subst (λ o. Has {N = Name} (filter (has_port ports) (read_of o)) (m_addr l)) (sym e)
+      (subst (λ b. Has {N = Name} (cond b (m_addr l ∷ []) []) (m_addr l)) (sym addr) (inl refl)))
+
   -- an input of the top has a source, where the place that it asks for is found
-  pub input_given : (x : Name) → net_kind_of (declared m) x ≡ Input → is_clk x ≡ false → ((b : FlatNet) → Has (memory_parts true x) b → IsFound ms m now b) → IsGiven ms m now (input_source now x)
+  pub input_given : (x : Name) → net_kind_of (declared m) x ≡ Input → is_clk x ≡ false → ((b : FlatNet) → Has (answers m ([], x)) b → IsFound ms m now b) → IsGiven ms m now (input_source now x)
   input_given x e c f =
       let p = input_port m x e in
       let asked : (l : Name) → rdata_of p.0.name ≡ Some l → IsFound ms m now ([], m_addr l) = λ l r.
-      f ([], m_addr l) (subst (λ z. Has (memory_parts true z) ([], m_addr l)) p.2 (subst (λ o. Has {N = FlatNet} (map (λ (y : Name). ([], y)) (read_of o)) ([], m_addr l)) (sym r) (inl refl))) in
+      (let g = fits ms names tops m in_ms top p.0 p.1 in
+      let five = (rdata_input ports g.0 p.0 g.1 l r).1 in
+      let there : has_port ports x ≡ true = subst (λ z. has_port ports z ≡ true) (sym (rdata_label p.0.name l r).0 ∙ p.2) (five_rdata ms tops m in_ms l five) in
+      let input : net_kind_is_input (net_kind_of ports x) ≡ true = ap (λ (d : Declaration). net_kind_is_input d.net_kind) (sym (port_stands ports (items_declared m.items) x there)) ∙ ap net_kind_is_input e in
+      f ([], m_addr l) (has_map (λ (y : Name). ([], y)) (asked_port ports x) (m_addr l) (asked_here x l (ap rdata_of (sym p.2) ∙ r) input (five_of ms tops m in_ms l five).1))) in
       subst (λ z. IsGiven ms m now (input_source now z)) p.2
       (port_given p.0 p.1 asked (of_input (is_input p.0.direction) (ap (λ (d : Declaration). d.net_kind) p.3 ∙ e)) (ap is_clk p.2 ∙ c) (bytes_eq p.0.name rst) (scalar_of p.0.name) (ack_of p.0.name) (rdata_of p.0.name) refl refl refl refl)

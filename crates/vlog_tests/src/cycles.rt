@@ -26,7 +26,7 @@ use vlog_ref_cycle::{Circuit, Held, Moment, OutsideMemory, carries, is_done, net
 use vlog_ref_driver::{MemoryCells, NetNumber};
 use vlog_tree::{BinaryOp, Module};
 
-const DEPTH: u32 = 20;
+pub(crate) const DEPTH: u32 = 20;
 
 const READER_PORTS: &[Port] = &[
     (true, 1, "clk"),
@@ -281,7 +281,7 @@ fn accepted(alloc: Global) -> Result<vlog_design::Design, AllocError> {
     }
 }
 
-fn nets_of(
+pub(crate) fn nets_of(
     alloc: Global,
     table: &[(u32, &'static str, u128)],
 ) -> Result<Vec<NetNumber>, AllocError> {

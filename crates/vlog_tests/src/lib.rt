@@ -6,6 +6,8 @@ mod cycles;
 #[cfg(test)]
 mod large;
 #[cfg(test)]
+mod simulated;
+#[cfg(test)]
 mod tests;
 #[cfg(test)]
 mod trees;

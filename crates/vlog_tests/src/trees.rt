@@ -26,7 +26,7 @@ pub(crate) enum Do {
     Store(&'static str, &'static str, Part),
 }
 
-/// A line of a module. `Op` has the net `e` on its left, `Join` has two parts, `Set` and `Test` are blocks of one step.
+/// A line of a module. `Op` has the net `e` on its left, `Join` and `JoinThree` have two parts and three, `Set` and `Test` are blocks of one step.
 #[derive(Clone, Copy)]
 pub(crate) enum Line {
     Wire(u32, &'static str),
@@ -39,6 +39,7 @@ pub(crate) enum Line {
     Choose(&'static str, &'static str, &'static str, &'static str),
     Copies(&'static str, u32, Part),
     Join(&'static str, Part, Part),
+    JoinThree(&'static str, Part, Part, Part),
     Cell(&'static str, &'static str, &'static str),
     Set(&'static str, Part),
     Test(&'static str),
@@ -143,10 +144,11 @@ fn copies(alloc: Global, name: &str, times: u32, part: Part) -> Result<Item, All
     )
 }
 
-fn join(alloc: Global, name: &str, high: Part, low: Part) -> Result<Item, AllocError> {
+fn join(alloc: Global, name: &str, parts: &[Part]) -> Result<Item, AllocError> {
     let mut atoms = Vec::new(alloc);
-    atoms.push(atom(alloc, high)?)?;
-    atoms.push(atom(alloc, low)?)?;
+    for part in parts {
+        atoms.push(atom(alloc, *part)?)?;
+    }
     assign(alloc, name, Value::Concat(Atoms::of(atoms)))
 }
 
@@ -270,7 +272,8 @@ fn item(alloc: Global, line: Line) -> Result<Item, AllocError> {
         Line::Not(x, a) => invert(alloc, x, a),
         Line::Choose(x, c, a, b) => choose(alloc, x, c, a, b),
         Line::Copies(x, times, a) => copies(alloc, x, times, a),
-        Line::Join(x, a, b) => join(alloc, x, a, b),
+        Line::Join(x, a, b) => join(alloc, x, &[a, b]),
+        Line::JoinThree(x, a, b, c) => join(alloc, x, &[a, b, c]),
         Line::Cell(x, m, y) => cell(alloc, x, m, y),
         Line::Set(x, a) => set(alloc, x, a),
         Line::Test(x) => test(alloc, x),

@@ -1,10 +1,11 @@
-use Rattle.std.proofs.Common.{◌≡◌, ◌<◌, true, [], Option, length, get_or, sym, ap, subst, ◌∙◌}
+use Rattle.std.proofs.Common.{◌≡◌, ◌<◌, ◌≤◌, true, [], Option, length, get_or, sym, ap, subst, ◌∙◌}
 use Rattle.std.specs.Prelude.{is_some, IfSome}
 use Rattle.std.specs.List.{list_all}
 use Rattle.vlog_ref_cycle.specs.declared.moment.OutsideMemory.{OutsideMemory}
 use Rattle.vlog_ref_cycle.specs.Moments.{InRuns}
 use Rattle.vlog_ref_cycle.specs.Next.{outside_known, IsAfterStore, IsSameMemory}
 use Rattle.vlog_ref_cycle.proofs.Leaves.{taken_more}
+use Rattle.vlog_ref_cycle.proofs.InRuns.{all_taken}
 use Rattle.vlog_ref_cycle.proofs.Listed.{passed, outside_more}
 use Rattle.vlog_ref_cycle.proofs.following.all_outside_after.Goals as goal
 
@@ -26,3 +27,9 @@ loop-m-preserved c =
           (subst (λ (o : Option OutsideMemory). IfSome o (λ k. InRuns design now (λ env nets. IsAfterStore (nets now.cycle []) m k))) c.in-Some.is c.in_ok-after.ensures.value)
           c.in_ok-push-in-Some.ensures.items;
     }
+
+pub returns-clause-value : goal.returns-clause-value
+returns-clause-value c =
+    let now = c.args.now.now in
+    let past : length now.outside.items ≤ c.loop-m.m-index = subst (λ l. length l ≤ c.loop-m.m-index) c.deref-m-items.ensures.value c.loop-m-test.false in
+    λ env nets q. all_taken (IsAfterStore (nets now.cycle [])) now.outside.items c.loop-m.out.items c.loop-m.m-index past (c.loop-m.invariant.value env nets q)

@@ -25,8 +25,8 @@ returns-in-Some-2-clause-value c =
     let at_m : module_at design.modules.now design.top.now h.path.items ≡ Some m = sym (c.in-Some.ensures ∙ ap (λ p. module_at design.modules.now design.top.now p) c.deref.ensures.value) in
     let reads : c.in_ok-reads.reads.items ≡ reads_of m =
     c.in_ok-reads.ensures
-    ∙ ap (λ l. map (net_read c.in_ok-scope.scope) (flat_map item_nets l)) c.items.ensures.value
-    ∙ ap (λ d. map (net_read d) (flat_map item_nets m.items)) c.in_ok-scope.ensures in
+    ∙ ap (λ l. map (net_read c.of_module-scope.result) (flat_map item_nets l)) c.items.ensures.value
+    ∙ ap (λ d. map (net_read d) (flat_map item_nets m.items)) c.of_module-scope.ensures in
     let all : all_numbers (number_at design now c.args.depth h.path.items) (reads_of m) ≡ Some ns =
     sym
     (ap (λ o. option_map (λ (v : Vec NetNumber Global). v.items) o) (sym c.in-Some-2.is)
