@@ -1,5 +1,5 @@
-use Rattle.std.proofs.Common.{sym, ◌∙◌, subst}
-use Rattle.stream_check.proofs.Bound.{one_answers, none_answers, nobody_one, several_one}
+use Rattle.std.proofs.Common.{sym, ◌∙◌}
+use Rattle.stream_check.proofs.Bound.{one_answers}
 use Rattle.stream_check.proofs.users.Users.only.Goals as goal
 
 pub returns-in-One : goal.returns-in-One
