@@ -9,6 +9,12 @@ void T() { tapa::stream<uint64_t> q; tapa::stream<uint64_t> r;
   tapa::task().invoke(P, q).invoke(C, q, r).invoke(D, r); }
 ";
 
+pub const STOPS: &str =
+    "void A(tapa::ostream<uint64_t>& s1, tapa::ostream<uint64_t>& s2) { s1 << 1; s1 << 2; s2 << 3; }
+void B(tapa::istream<uint64_t>& s1, tapa::istream<uint64_t>& s2) { s2.read(); s1.read(); s1.read(); }
+void T() { tapa::stream<uint64_t, 1> s1; tapa::stream<uint64_t, 1> s2; tapa::task().invoke(A, s1, s2).invoke(B, s1, s2); }
+";
+
 pub const VECADD: &str =
     "void Add(tapa::istream<int>& a, tapa::istream<int>& b, tapa::ostream<int>& c, uint64_t n) {
   for (uint64_t i = 0; i < n; ++i) { c << (a.read() + b.read()); } }

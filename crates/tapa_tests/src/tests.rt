@@ -1,8 +1,8 @@
-use crate::programs::{PATH, VECADD, VECADD_DATA, VECADD_REPORT};
+use crate::programs::{PATH, STOPS, VECADD, VECADD_DATA, VECADD_REPORT};
 use std::alloc::Global;
 use std::test::Fail;
 use tapa_base::{MemShelf, MemSink};
-use tapa_drive::{Status, tapa};
+use tapa_drive::{Status, WordsFault, refuse_words, tapa};
 
 // What a command answers, and what it wrote.
 #[derive(Drop)]
@@ -132,5 +132,38 @@ fn faults_are_told(rt: HostRuntime) -> Result<(), Fail> {
     )?;
     assert_eq!(rt; untold.status, Status::Write);
     assert_eq!(rt; untold.err.bytes(), b"".as_slice());
+    Ok(())
+}
+
+// Standard error failing at each line of what waits: it holds the lines before.
+#[test]
+fn waits_are_cut_at_lines(rt: HostRuntime) -> Result<(), Fail> {
+    let alloc = rt.alloc();
+    let parts = ["", "tapa: A$0 waits to write s1\n"];
+    for (call, part) in parts.iter().enumerate() {
+        let cut = said(
+            alloc,
+            STOPS.as_bytes(),
+            &["run", "r.cpp", "T"],
+            Vec::new(alloc),
+            Vec::new(alloc),
+            vec![in alloc; call as u64; 1]?,
+        )?;
+        assert_eq!(rt; cut.status, Status::Write);
+        assert_eq!(rt; cut.err.bytes(), part.as_bytes());
+    }
+    Ok(())
+}
+
+// Words that could not be read are told.
+#[test]
+fn unread_words_are_told(rt: HostRuntime) -> Result<(), Fail> {
+    let alloc = rt.alloc();
+    let mut err = MemSink::new(alloc, 100, Vec::new(alloc))?;
+    assert_eq!(rt;
+        refuse_words(WordsFault::OutOfMemory, &mut err),
+        Status::Memory
+    );
+    assert_eq!(rt; err.bytes(), b"tapa: out of memory\n".as_slice());
     Ok(())
 }
