@@ -12,9 +12,7 @@ use crate::statement::statements as check_statements;
 use check_scope::{CheckFault, Entity, Names, copied, number_of, over};
 use std::alloc::Global;
 use tapa_base::{Kind, Place, Text};
-use tapa_syntax::{
-    End, Leaf, Name, Parameter, Statement, Stmt, TaskDeclaration, places_in,
-};
+use tapa_syntax::{End, Leaf, Name, Parameter, Statement, Stmt, TaskDeclaration, places_in};
 
 /// The most tick places of a task, its end among them.
 const MOST_PLACES: u32 = 4096;

@@ -12,8 +12,8 @@ ghost use Rattle.kahn_reference.specs.Slow.{whole};
 ghost use Rattle.kahn_model.specs.Rows.{rows_of};
 ghost use Rattle.kahn_model.specs.Start.{instance_state, network_of};
 
-use crate::slow::{Fault, trace};
 use crate::first::{first_variables, scalars_fit};
+use crate::slow::{Fault, trace};
 use kahn_model::tick::{Action, Tick};
 use std::alloc::{AllocError, Global};
 use tapa_base::Token;

@@ -1,12 +1,10 @@
+use kahn_model::tick::{Action, Tick, TraceEnd};
 use kahn_reference::rounds::streams;
 use kahn_reference::slow::{Fault, Variables, trace};
-use kahn_model::tick::{Action, Tick, TraceEnd};
 use std::alloc::{AllocError, Global};
 use std::test::Fail;
 use tapa_base::{Kind, Op, Text, Token};
-use tapa_syntax::{
-    Array, Bound, End, Expr, Instance, Leaf, Memory, Program, Scalar, Stmt, Stream,
-};
+use tapa_syntax::{Array, Bound, End, Expr, Instance, Leaf, Memory, Program, Scalar, Stmt, Stream};
 
 fn apply(alloc: Global, op: Op, left: Expr, right: Expr) -> Result<Expr, AllocError> {
     Ok(Expr::Apply {
@@ -355,7 +353,12 @@ fn data_reach_the_streams(rt: HostRuntime) -> Result<(), Fail> {
     let lists = streams(alloc, &program, &[65_530], &memories, 9)?;
     let want = data(alloc, &[44, 255, 255, 250])?;
     assert_eq!(rt; row(&lists, 1), want.as_slice());
-    assert!(rt; matches!(streams(alloc, &program, &[65_536], &memories, 9), Err(Fault::NotOfItsKind)));
+    assert!(rt;
+        matches!(
+            streams(alloc, &program, &[65_536], &memories, 9),
+            Err(Fault::NotOfItsKind)
+        )
+    );
     Ok(())
 }
 

@@ -12,7 +12,7 @@ use crate::bindings::{memories, streams};
 use crate::body::{bodies, body_numbers, instances_with_bodies};
 use crate::item::check_items;
 use crate::parts::{MOST_LEVELS, Parts, expand};
-use crate::top::{FIRST_PLACE, check_top, task_position, scalars, top_instance};
+use crate::top::{FIRST_PLACE, check_top, scalars, task_position, top_instance};
 use check_scope::{CheckCode, CheckFault, copied, refused};
 use check_upper::Task;
 use std::alloc::Global;

@@ -13,4 +13,4 @@ returns-clause-value c =
     let z : n + 1 ≡ length c.args.blocks.now = omega arith in
     let here = here_in_last c.args.name.now.text c.args.blocks.now c.index-blocks-last.result n z c.index-blocks-last.is in
     meant c.declare.result _ _ _ _ _ _ c.declare.ensures (ap (λ b. where_so (is_there (in_block x b)) (fault C2 c.args.name.now.place)) (sym c.index-blocks-last.is) ∙ ap (λ o. where_so (is_there o) (fault C2 c.args.name.now.place)) (sym here))
-        (λ h. ap (slice_set c.args.blocks.now n) (h ∙ ap (λ b. b ++ (x, c.args.entity) ∷ []) (sym c.index-blocks-last.is)) ∙ sym (declaring-set x c.args.entity c.args.blocks.now n c.index-blocks-last.result z c.index-blocks-last.is))
+    (λ h. ap (slice_set c.args.blocks.now n) (h ∙ ap (λ b. b ++ (x, c.args.entity) ∷ []) (sym c.index-blocks-last.is)) ∙ sym (declaring-set x c.args.entity c.args.blocks.now n c.index-blocks-last.result z c.index-blocks-last.is))

@@ -30,7 +30,7 @@ loop-number-preserved c =
     let more = c.in_ok-mark.ensures in
     record {
       grows = grows_both c.args.marks.now.items c.loop-number.marks.items c.mark.new.marks.items c.args.found.now.items c.loop-number.found.items c.mark.new.found.items
-        (λ m. Has numbers m) (λ m. m ≡ get_or numbers i 0) (λ m. Has numbers m) (λ m h. h) (λ m e. subst (λ n. Has numbers n) (sym e) at) c.loop-number.invariant.grows more.grows;
+          (λ m. Has numbers m) (λ m. m ≡ get_or numbers i 0) (λ m. Has numbers m) (λ m h. h) (λ m e. subst (λ n. Has numbers n) (sym e) at) c.loop-number.invariant.grows more.grows;
       there = λ m h.
           taken_of numbers i (λ n. Has c.mark.new.found.items n) low
           (λ n k. kept c.loop-number.marks.items c.mark.new.marks.items c.loop-number.found.items c.mark.new.found.items (λ m. m ≡ get_or numbers i 0) more.grows n (c.loop-number.invariant.there n k)) more.there m h;

@@ -27,8 +27,8 @@ loop-source-preserved c =
     let more = c.in_ok-mark_all.ensures in
     record {
       grows = grows_both c.args.marks.now.items c.loop-source.marks.items c.mark_all.new.marks.items c.args.found.now.items c.loop-source.found.items c.mark_all.new.found.items
-        (λ m. (j : ℕ) × Has sources j × Steps g j m) (λ m. Has c.targets.result.now m) (λ m. (j : ℕ) × Has sources j × Steps g j m) (λ m h. h)
-        (λ m h. (get_or sources i 0, at, subst (λ l. Has l m) c.targets.ensures h)) c.loop-source.invariant.grows more.grows;
+          (λ m. (j : ℕ) × Has sources j × Steps g j m) (λ m. Has c.targets.result.now m) (λ m. (j : ℕ) × Has sources j × Steps g j m) (λ m h. h)
+          (λ m h. (get_or sources i 0, at, subst (λ l. Has l m) c.targets.ensures h)) c.loop-source.invariant.grows more.grows;
       there = λ j h.
           taken_of sources i (λ n. (m : ℕ) → Steps g n m → Has c.mark_all.new.found.items m) low
           (λ n k m s. kept c.loop-source.marks.items c.mark_all.new.marks.items c.loop-source.found.items c.mark_all.new.found.items (λ m. Has c.targets.result.now m) more.grows m (c.loop-source.invariant.there n k m s))

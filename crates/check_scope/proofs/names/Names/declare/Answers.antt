@@ -25,6 +25,6 @@ pub returns : goal.returns
 returns c = (
   ap (λ o. where_so (is_there o) (fault C2 c.args.name.now.place)) (absent c),
   last c
-  ∙ ap (λ k. declared_in c.self.inside.declared.entries ++ (k, c.args.entity) ∷ []) (spelled c)
-  ∙ ap (λ b. b ++ (c.args.name.now.text, c.args.entity) ∷ []) c.self.view_is,
+      ∙ ap (λ k. declared_in c.self.inside.declared.entries ++ (k, c.args.entity) ∷ []) (spelled c)
+      ∙ ap (λ b. b ++ (c.args.name.now.text, c.args.entity) ∷ []) c.self.view_is,
 )

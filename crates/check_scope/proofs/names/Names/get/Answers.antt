@@ -18,6 +18,6 @@ returns-clause-value c =
 pub returns-clause-sound : goal.returns-clause-sound
 returns-clause-sound c =
     subst (λ o. IfSome o IsSound) (sym (c.copied.ensures ∙ c.get.ensures.value
-        ∙ ap (λ x. lookup (λ (k : Vec _ Global). bytes_eq x k.items) c.self.inside.declared.entries) c.bytes.ensures.value
-        ∙ lookup_is c.args.name.now c.self.inside.declared.entries))
+    ∙ ap (λ x. lookup (λ (k : Vec _ Global). bytes_eq x k.items) c.self.inside.declared.entries) c.bytes.ensures.value
+    ∙ lookup_is c.args.name.now c.self.inside.declared.entries))
     (sound_in c.args.name.now (declared_in c.self.inside.declared.entries) c.self.invariant)
