@@ -22,11 +22,12 @@ use crate::trees::{Do, Line, Part, Port, add_module, design, text};
 use std::alloc::{AllocError, Global};
 use std::process::Abort;
 use std::test::Fail;
+use tapa_base::Token;
 use vlog_ref_cycle::{Circuit, Held, Moment, OutsideMemory, carries, is_done, net_number, next};
 use vlog_ref_driver::{MemoryCells, NetNumber};
 use vlog_tree::{BinaryOp, Module};
 
-pub(crate) const DEPTH: u32 = 20;
+const DEPTH: u32 = 20;
 
 const READER_PORTS: &[Port] = &[
     (true, 1, "clk"),
@@ -402,22 +403,25 @@ fn rows_hold(alloc: Global, design: &Circuit, now: &Moment) -> Result<bool, Allo
     Ok(true)
 }
 
-// The numbers that the stream carries, up to a cycle in which the design is done or a row fails.
-fn run(alloc: Global, a: u128, rows: bool) -> Result<(Vec<u128>, Moment), Fail> {
+// The tokens that the stream carries, up to a cycle in which the design is done or a row fails.
+fn run(alloc: Global, a: u128, rows: bool) -> Result<(Vec<Token>, Moment), Fail> {
     let design_of = accepted(alloc)?;
     let all = Circuit {
         modules: design_of.modules(),
         top: design_of.top(),
     };
-    let label = text(alloc, "X")?;
+    let stream = tapa_base::Port {
+        name: text(alloc, "X")?,
+        bits: 9,
+    };
     let mut tokens = Vec::new(alloc);
     let mut now = power_up(alloc, a)?;
     for _cycle in 0..30 {
         if rows && !rows_hold(alloc, &all, &now)? {
             return Ok((tokens, now));
         }
-        if let Some(Some(n)) = carries(alloc, &all, &now, &label, DEPTH)? {
-            tokens.push(n)?;
+        if let Some(Some(token)) = carries(alloc, &all, &now, &stream, DEPTH)? {
+            tokens.push(token)?;
         }
         if is_done(alloc, &all, &now, DEPTH)? == Some(true) {
             return Ok((tokens, now));
@@ -430,9 +434,15 @@ fn run(alloc: Global, a: u128, rows: bool) -> Result<(Vec<u128>, Moment), Fail> 
     Ok((tokens, now))
 }
 
-fn ends(rt: &impl Abort, tokens: &[u128], now: &Moment, cells: &[u128]) {
+fn ends(rt: &impl Abort, tokens: &[Token], now: &Moment, cells: &[u128]) {
     assert_eq!(rt; now.cycle, 12);
-    assert_eq!(rt; tokens, [5, 7, 200, 9].as_slice());
+    let wanted = [
+        Token::Datum(5),
+        Token::Datum(7),
+        Token::Datum(200),
+        Token::Datum(9),
+    ];
+    assert_eq!(rt; tokens, wanted.as_slice());
     assert_eq!(rt; now.outside.len(), 1);
     assert_eq!(rt; now.outside[0].cells.as_slice(), cells);
 }

@@ -2,7 +2,7 @@
 // made by Icarus Verilog 11 (`iverilog -g2005`) from the same design as a text, with all registers and cells set to FILL,
 // cut to their widths, before the first edge of the clock, `v_a` at 40961, and `rst` at 1 up to that edge.
 
-use crate::cycles::{DEPTH, nets_of};
+use crate::cycles::nets_of;
 use crate::trees::{Do, Line, Part, Port, add_module, design, text};
 use std::alloc::{AllocError, Global};
 use std::process::Abort;
@@ -11,6 +11,8 @@ use tapa_base::Token;
 use vlog_ref_cycle::{Circuit, Held, Moment, carries, is_done, net_number, next};
 use vlog_ref_driver::MemoryCells;
 use vlog_tree::{BinaryOp, Module};
+
+const DEPTH: u32 = 30;
 
 const FILL: u128 = 0x9d3b5a71c2e64f08b7135ad9;
 
@@ -436,16 +438,18 @@ fn run(alloc: Global) -> Result<(Vec<Token>, u64), Fail> {
         modules: checked.modules(),
         top: checked.top(),
     };
+    let stream = tapa_base::Port {
+        name: text(alloc, "X")?,
+        bits: 9,
+    };
     let mut tokens = Vec::new(alloc);
     let mut now = power_up(alloc)?;
     for _cycle in 0..12 {
         if misses(alloc, &all, &now)?.is_some() {
             return Ok((tokens, now.cycle));
         }
-        for stream in checked.streams() {
-            if let Some(Some(token)) = carries(alloc, &all, &now, stream, DEPTH)? {
-                tokens.push(token)?;
-            }
+        if let Some(Some(token)) = carries(alloc, &all, &now, &stream, DEPTH)? {
+            tokens.push(token)?;
         }
         if is_done(alloc, &all, &now, DEPTH)? == Some(true) {
             return Ok((tokens, now.cycle));
