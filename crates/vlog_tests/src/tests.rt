@@ -367,7 +367,12 @@ fn top(alloc: Global, more: &[Port], lines: &[Line]) -> Result<Vec<Module>, Allo
     Ok(all)
 }
 
-const ENDS: Line = Line::Plain("done", Part::Number(1, 1));
+const ENDS: &[Line] = &[Line::Plain("done", Part::Number(1, 1))];
+
+const ENDS_AND_DRIVES: &[Line] = &[
+    Line::Plain("done", Part::Number(1, 1)),
+    Line::Plain("v_a", Part::Number(1, 0)),
+];
 
 // Ports of a top beside the three that each has, its lines, the rule that is broken (0: none), the name that is told.
 type Top = (&'static [Port], &'static [Line], u8, &'static str);
@@ -375,26 +380,20 @@ type Top = (&'static [Port], &'static [Line], u8, &'static str);
 #[test]
 fn ports_of_the_top_are_told(rt: HostRuntime) -> Result<(), Fail> {
     let alloc = rt.alloc();
-    let cases: [Top; 7] = [
-        (&[(true, 1, "x")], &[ENDS], 6, "x"),
-        (&[(true, 8, "v_")], &[ENDS], 6, "v_"),
-        (&[(true, 65, "v_a")], &[ENDS], 6, "v_a"),
-        (&[(true, 64, "v_a")], &[ENDS], 0, ""),
-        (&[(true, 1, "m_A_ack")], &[ENDS], 6, "m_A_ack"),
-        (
-            &[(false, 1, "v_a")],
-            &[ENDS, Line::Plain("v_a", Part::Number(1, 0))],
-            6,
-            "v_a",
-        ),
-        (&MEMORY, &ASKED, 0, ""),
+    let cases: [Top; 6] = [
+        (&[(true, 1, "x")], ENDS, 6, "x"),
+        (&[(true, 8, "v_")], ENDS, 6, "v_"),
+        (&[(true, 65, "v_a")], ENDS, 6, "v_a"),
+        (&[(true, 64, "v_a")], ENDS, 0, ""),
+        (&[(true, 1, "m_A_ack")], ENDS, 6, "m_A_ack"),
+        (&[(false, 1, "v_a")], ENDS_AND_DRIVES, 6, "v_a"),
     ];
     for (ports, lines, rule, name) in &cases {
         assert!(rt; tells(alloc, top(alloc, ports, lines)?, *rule, name)?);
     }
     let mut short = Vec::new(alloc);
     let ports = [(true, 1, "clk"), (false, 1, "done")];
-    add_module(alloc, &mut short, "t_X", &ports, &[ENDS])?;
+    add_module(alloc, &mut short, "t_X", &ports, ENDS)?;
     assert!(rt; tells(alloc, short, 6, "t_X")?);
     Ok(())
 }
@@ -421,7 +420,7 @@ const LIKE_A_MEMORY: [Line; 5] = [
     Line::Wire(64, "m_A_addr"),
     Line::Copies("m_A_addr", 8, Part::Net("m_A_rdata")),
     Line::Plain("m_A_rdata", Part::Number(8, 1)),
-    ENDS,
+    Line::Plain("done", Part::Number(1, 1)),
 ];
 
 // In a module other than the top these names are no memory's.
