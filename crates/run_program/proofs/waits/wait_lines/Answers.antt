@@ -39,4 +39,4 @@ turn program net i x o before after same told within is last grown so_far =
 
 pub loop-i-preserved : goal.loop-i-preserved
 loop-i-preserved g c =
-    turn c.args.program.now c.args.net.now c.loop-i.i c.index.result.now c.pause-pause.result (lines_in c.loop-i.lines.items) (lines_in c.push_wait.new.lines.items) c.requires.program c.requires.told (omega (arith, c.loop-i-test.true, c.len-i-end.ensures)) c.index.ensures c.pause-pause.ensures c.in_ok-push_wait.ensures c.loop-i.invariant
+    turn c.args.program.now c.args.net.now c.loop-i.i c.index.result.now c.pause-pause.result (lines_in c.loop-i.lines.items) (lines_in c.push_wait.new.lines.items) c.requires.program c.requires.told (omega (arith, c.loop-i-test.true, c.len-i-end.ensures)) c.index.ensures c.pause-pause.ensures.last c.in_ok-push_wait.ensures c.loop-i.invariant
