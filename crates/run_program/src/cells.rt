@@ -7,22 +7,23 @@ ghost use Rattle.run_program.specs.Run.{IsNotBound};
 
 use coro_machine::Coro;
 use net_core::{Input, Net};
-use tapa_base::OutOfMemory;
+use tapa_base::{OutOfMemory, position_of};
 use tapa_syntax::Program;
 
-// The position at which a memory is bound. More positions than 32 bits number are answered as want of memory.
-fn position_of(bound: &[u32], m: usize) -> Result<Option<u32>, OutOfMemory>
+// The position at which a memory is bound. A number beyond 32 bits is answered as want of memory.
+fn bound_position(bound: &[u32], m: usize) -> Result<Option<u32>, OutOfMemory>
     ensures { IfOk result (λ found. MatchOption found (IsNotBound bound.now m) (λ p. slice_get bound.now p ≡ Some m)) }
 {
-    for p in 0..bound.len() {
-        if bound[p] as usize == m {
-            let Ok(position) = u32::try_from(p) else {
-                return Err(OutOfMemory);
-            };
-            return Ok(Some(position));
-        }
+    let Ok(number) = u32::try_from(m) else {
+        return Err(OutOfMemory);
+    };
+    let Some(position) = position_of(bound, number) else {
+        return Ok(None);
+    };
+    match u32::try_from(position) {
+        Ok(position) => Ok(Some(position)),
+        Err(_) => Err(OutOfMemory),
     }
-    Ok(None)
 }
 
 // The first cells of a memory.
@@ -36,7 +37,7 @@ fn first_cells(input: &Input, m: usize) -> &[u64]
 }
 
 /// The cells of memory `m` of a program: the first ones, after the stores of the instance that it is bound to.
-pub fn last_cells<'a>(
+pub(crate) fn last_cells<'a>(
     program: &Program,
     input: &'a Input,
     net: &'a Net<Coro>,
@@ -53,7 +54,7 @@ pub fn last_cells<'a>(
     let Some(instance) = program.instances.get(owner as usize) else {
         return Ok(first_cells(input, m));
     };
-    match position_of(&instance.memories, m)? {
+    match bound_position(&instance.memories, m)? {
         None => Ok(first_cells(input, m)),
         Some(position) => Ok(net.body(owner).memory(position)),
     }

@@ -8,8 +8,4 @@ mod shown;
 mod start;
 mod waits;
 
-pub use cells::last_cells;
 pub use run::{RunEnd, run_program};
-pub use shown::show;
-pub use start::{coroutines, machines};
-pub use waits::wait_lines;

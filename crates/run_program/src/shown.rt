@@ -63,7 +63,7 @@ fn show_memories<O: Sink>(
 }
 
 /// Writes what each stream carried, the cells of each memory, and how the run ended.
-pub fn show<O: Sink>(
+pub(crate) fn show<O: Sink>(
     alloc: Global,
     program: &Program,
     input: &Input,

@@ -17,7 +17,7 @@ use task_fsm::{Fsm, lower};
 
 /// The machine of each leaf task, which its instances share. A program with more leaves than 32 bits number is answered as
 /// want of memory.
-pub fn machines(alloc: Global, program: &Program) -> Result<Vec<Arc<Fsm>>, OutOfMemory>
+pub(crate) fn machines(alloc: Global, program: &Program) -> Result<Vec<Arc<Fsm>>, OutOfMemory>
     ensures as_many { IfOk result (λ all. length all.items ≡ length program.now.bodies.items) }
     ensures lowered { IfOk result (λ all. AreLowered program.now (length program.now.bodies.items) all.items) }
 {
@@ -56,7 +56,11 @@ fn start_one(
 }
 
 /// The instances of a program on an input, each before its first tick.
-pub fn coroutines(alloc: Global, program: &Program, input: &Input) -> Result<Vec<Coro>, OutOfMemory>
+pub(crate) fn coroutines(
+    alloc: Global,
+    program: &Program,
+    input: &Input,
+) -> Result<Vec<Coro>, OutOfMemory>
     requires well_formed { IsWellFormed program.now }
     requires fits { FitsInput program.now (scalars_of input.now) (memories_of input.now) }
     ensures as_many { IfOk result (λ all. length all.items ≡ length program.now.instances.items) }

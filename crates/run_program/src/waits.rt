@@ -114,7 +114,7 @@ fn push_wait(
 }
 
 /// A line for each instance that has not ended, in order: what it waits for at the end of a run.
-pub fn wait_lines<B: Body>(
+pub(crate) fn wait_lines<B: Body>(
     alloc: Global,
     program: &Program,
     net: &Net<B>,

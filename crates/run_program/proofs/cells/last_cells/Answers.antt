@@ -29,7 +29,7 @@ returns-in-None c =
     let items = c.args.program.now.memories.items in
     let at = slice_get_read items (length items) c.args.m c.index.result.now refl c.requires.memory c.index.ensures in
     let there = instance_is c.args.program.now (scalars_of c.args.input.now) (memories_of c.args.input.now) (count c.args.net.now) c.args.m c.index.result.now at c.deref.result.now c.in-Some.instance.now c.deref.ensures.value c.in-Some.ensures.lookup.3.0 c.in-Some.ensures.lookup.1 in
-    let none = matched_none (IsNotBound c.deref-2.result.now c.args.m) (λ p. slice_get c.deref-2.result.now p ≡ Some c.args.m) c.in_ok-position_of.field-0 c.in-None.is c.in_ok-position_of.ensures in
+    let none = matched_none (IsNotBound c.deref-2.result.now c.args.m) (λ p. slice_get c.deref-2.result.now p ≡ Some c.args.m) c.in_ok-bound_position.field-0 c.in-None.is c.in_ok-bound_position.ensures in
     unlisted c.args.program.now (scalars_of c.args.input.now) (memories_of c.args.input.now) (count c.args.net.now) c.args.m c.index.result.now at c.in-Some.instance.now there (subst (λ (l : List ℕ). IsNotBound l c.args.m) c.deref-2.ensures.value none) c.first_cells-in-None.result.now c.first_cells-in-None.ensures
 
 pub returns-in-Some-2 : goal.returns-in-Some-2
@@ -38,7 +38,7 @@ returns-in-Some-2 c =
     let net = c.args.net.now in
     let at = slice_get_read items (length items) c.args.m c.index.result.now refl c.requires.memory c.index.ensures in
     let there = instance_is c.args.program.now (scalars_of c.args.input.now) (memories_of c.args.input.now) (count net) c.args.m c.index.result.now at c.deref.result.now c.in-Some.instance.now c.deref.ensures.value c.in-Some.ensures.lookup.3.0 c.in-Some.ensures.lookup.1 in
-    let bound = matched_some (IsNotBound c.deref-2.result.now c.args.m) (λ p. slice_get c.deref-2.result.now p ≡ Some c.args.m) c.in_ok-position_of.field-0 c.in-Some-2.position c.in-Some-2.is c.in_ok-position_of.ensures in
+    let bound = matched_some (IsNotBound c.deref-2.result.now c.args.m) (λ p. slice_get c.deref-2.result.now p ≡ Some c.args.m) c.in_ok-bound_position.field-0 c.in-Some-2.position c.in-Some-2.is c.in_ok-bound_position.ensures in
     let found =
     listed net c.valid.ensures c.args.m c.in-Some-2.position c.index.result.now c.in-Some.instance.now c.body.result.now c.memory.result.now (ap (λ (q : Program). slice_get q.memories.items c.args.m) (sym c.requires.program) ∙ at) (ap (λ (q : Program). slice_get q.instances.items c.index.result.now.owner) (sym c.requires.program) ∙ there)
     (ap (λ (l : List ℕ). slice_get l c.in-Some-2.position) (sym c.deref-2.ensures.value) ∙ bound) c.body.ensures c.memory.ensures in
