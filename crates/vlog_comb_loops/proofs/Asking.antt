@@ -10,7 +10,7 @@ use Rattle.vlog_tree.specs.Form.{ModuleTree}
 use Rattle.vlog_tree.specs.Table.{Name}
 use Rattle.vlog_tree.specs.Loops.{Edges, Reaches, port_of, item_instances}
 use Rattle.vlog_graph.specs.Graphs.{targets_of}
-use Rattle.vlog_graph.proofs.Numbered.{targets_push}
+use Rattle.vlog_graph.proofs.Rows.{row_push as targets_push}
 use Rattle.vlog_comb_loops.specs.declared.suspects.Suspect.{Suspect}
 use Rattle.vlog_comb_loops.specs.declared.suspects.Loops.{Loops}
 use Rattle.vlog_comb_loops.specs.declared.questions.Questions.{Questions}

@@ -3,3 +3,4 @@ pub mod Resting
 pub mod Gathering
 pub mod Searching
 pub mod Asking
+pub mod Numbered

@@ -10,7 +10,7 @@ use Rattle.vlog_comb_loops.specs.declared.suspects.Suspect.{Suspect}
 use Rattle.vlog_comb_loops.specs.declared.suspects.Loops.{Loops}
 use Rattle.vlog_comb_loops.specs.Search.{IsSearched, LoopsIn, IsSuspect, IsEvidence, IsJudged}
 use Rattle.vlog_comb_loops.specs.Summaries.{module_edges, AreRight}
-use Rattle.vlog_graph.specs.Graphs.{IsGraphOf}
+use Rattle.vlog_comb_loops.specs.Names.{IsGraphOf}
 use Rattle.vlog_comb_loops.proofs.Resting.{rests_is_reaches}
 use Rattle.vlog_tree.proofs.Lists.{has_got, got_has, has_left, has_right, has_split}
 

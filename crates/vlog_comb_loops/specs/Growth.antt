@@ -3,12 +3,12 @@ use Rattle.std.specs.Prelude.{◌++◌}
 use Rattle.vlog_tree.specs.Grounded.{Has}
 use Rattle.vlog_tree.specs.Table.{Name}
 use Rattle.vlog_tree.specs.Loops.{Edges}
-use Rattle.vlog_graph.specs.declared.graph.Graph.{Graph}
-use Rattle.vlog_graph.specs.Graphs.{IsGraphOf}
+use Rattle.vlog_comb_loops.specs.declared.names.Draft.{Draft}
+use Rattle.vlog_comb_loops.specs.Names.{IsDraftOf}
 
 -- the new graph has these edges behind those of the old one
-pub record Adds (old new : Graph) (more : Edges) : Type 0 where
-  pub graph : (edges : Edges) → IsGraphOf edges old → IsGraphOf (edges ++ more) new
+pub record Adds (old new : Draft) (more : Edges) : Type 0 where
+  pub graph : (edges : Edges) → IsDraftOf edges old → IsDraftOf (edges ++ more) new
 
 -- To a list of pairs with a property P some were put, so that it has all that Q picks.
 pub record Gathers (P Q : Name → Name → Type 0) (old new : Edges) : Type 0 where

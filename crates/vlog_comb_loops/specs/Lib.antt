@@ -1,3 +1,4 @@
+pub mod Names
 pub mod Summaries
 pub mod Growth
 pub mod Search

@@ -4,7 +4,7 @@ use Rattle.vlog_tree.specs.Grounded.{Has}
 use Rattle.vlog_tree.specs.Form.{ModuleTree}
 use Rattle.vlog_tree.specs.Table.{Name}
 use Rattle.vlog_tree.specs.Loops.{Edges, Reaches, Rests, port_of, item_instances, instances, containment, TextPlace, place_name, IsFirst}
-use Rattle.vlog_graph.specs.Graphs.{IsGraphOf}
+use Rattle.vlog_comb_loops.specs.Names.{IsGraphOf}
 use Rattle.vlog_tree.specs.declared.tree.Item.{Item}
 use Rattle.vlog_comb_loops.specs.Questions.{Question, AsksAll}
 use Rattle.vlog_comb_loops.specs.declared.suspects.Suspect.{Suspect}

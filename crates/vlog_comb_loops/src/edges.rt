@@ -3,17 +3,17 @@
 ghost use Rattle.std.specs.Prelude.{◌≡◌, ◌++◌, ◌∷◌, [], map, IfOk, OnOk};
 ghost use Rattle.std.specs.List.{flat_map};
 ghost use Rattle.std.specs.Option.{option_copied};
-ghost use Rattle.vlog_tree.specs.Table.{declared};
+ghost use Rattle.vlog_tree.specs.Table.{port_declared};
 ghost use Rattle.vlog_tree.specs.Loops.{atom_nets, value_nets, port_of, connection_edge, line_edges, answer_edges, memory_edges, item_instances};
-ghost use Rattle.vlog_graph.specs.Graphs.{IsGraphOf};
+ghost use Rattle.vlog_comb_loops.specs.Names.{IsGraphOf};
 ghost use Rattle.vlog_comb_loops.specs.Growth.{Adds};
 ghost use Rattle.vlog_comb_loops.specs.Summaries.{is_named, sum_named, port_pair, through_edges, module_edges};
 
+use crate::names::{Draft, NamedGraph};
 use crate::sums::{Sum, pairs_at};
 use std::alloc::{AllocError, Global};
 use tapa_base::Text;
-use vlog_graph::Graph;
-use vlog_rules::{Library, Scope, is_input};
+use vlog_rules::{Library, Scope, is_input, is_read};
 use vlog_tree::{Atom, Connection, Declaration, Item, Module, Value, addr_name, rdata_of};
 
 #[tactic(auto, unfolding(vlog_tree::specs::Loops::port_of))]
@@ -26,14 +26,14 @@ pub(crate) fn port_name(alloc: Global, instance: &Text, port: &Text) -> Result<V
     Ok(name)
 }
 
-pub(crate) fn add(alloc: Global, g: &mut Graph, from: &[u8], to: &[u8]) -> Result<(), AllocError>
+pub(crate) fn add(alloc: Global, g: &mut Draft, from: &[u8], to: &[u8]) -> Result<(), AllocError>
     ensures { OnOk result (Adds g.old g.new ((from.now, to.now) ∷ [])) }
 {
     g.add_edge(alloc, from, to)?;
     Ok(())
 }
 
-fn add_atom(alloc: Global, g: &mut Graph, x: &Text, atom: &Atom) -> Result<(), AllocError>
+fn add_atom(alloc: Global, g: &mut Draft, x: &Text, atom: &Atom) -> Result<(), AllocError>
     ensures { OnOk result (Adds g.old g.new (map (λ y. (x.now, y)) (atom_nets atom.now))) }
 {
     match atom {
@@ -43,7 +43,7 @@ fn add_atom(alloc: Global, g: &mut Graph, x: &Text, atom: &Atom) -> Result<(), A
     }
 }
 
-fn add_two(alloc: Global, g: &mut Graph, x: &Text, a: &Atom, b: &Atom) -> Result<(), AllocError>
+fn add_two(alloc: Global, g: &mut Draft, x: &Text, a: &Atom, b: &Atom) -> Result<(), AllocError>
     ensures { OnOk result (Adds g.old g.new (map (λ y. (x.now, y)) (atom_nets a.now ++ atom_nets b.now))) }
 {
     add_atom(alloc, g, x, a)?;
@@ -53,7 +53,7 @@ fn add_two(alloc: Global, g: &mut Graph, x: &Text, a: &Atom, b: &Atom) -> Result
 
 fn add_three(
     alloc: Global,
-    g: &mut Graph,
+    g: &mut Draft,
     x: &Text,
     a: &Atom,
     b: &Atom,
@@ -66,7 +66,7 @@ fn add_three(
     Ok(())
 }
 
-fn add_atoms(alloc: Global, g: &mut Graph, x: &Text, atoms: &[Atom]) -> Result<(), AllocError>
+fn add_atoms(alloc: Global, g: &mut Draft, x: &Text, atoms: &[Atom]) -> Result<(), AllocError>
     ensures { OnOk result (Adds g.old g.new (map (λ y. (x.now, y)) (flat_map atom_nets atoms.now))) }
 {
     for a in atoms {
@@ -76,7 +76,7 @@ fn add_atoms(alloc: Global, g: &mut Graph, x: &Text, atoms: &[Atom]) -> Result<(
 }
 
 // A driven net rests on the nets of its driver.
-fn add_value(alloc: Global, g: &mut Graph, x: &Text, value: &Value) -> Result<(), AllocError>
+fn add_value(alloc: Global, g: &mut Draft, x: &Text, value: &Value) -> Result<(), AllocError>
     ensures { OnOk result (Adds g.old g.new (map (λ y. (x.now, y)) (value_nets value.now))) }
 {
     match value {
@@ -102,7 +102,7 @@ fn add_value(alloc: Global, g: &mut Graph, x: &Text, value: &Value) -> Result<()
 #[tactic(auto, unfolding(vlog_tree::specs::Loops::connection_edge))]
 fn add_connection(
     alloc: Global,
-    g: &mut Graph,
+    g: &mut Draft,
     ports: &Scope,
     instance: &Text,
     connection: &Connection,
@@ -119,7 +119,7 @@ fn add_connection(
 
 fn add_connections(
     alloc: Global,
-    g: &mut Graph,
+    g: &mut Draft,
     ports: &Scope,
     instance: &Text,
     connections: &[Connection],
@@ -132,7 +132,7 @@ fn add_connections(
     Ok(())
 }
 
-fn add_line(alloc: Global, g: &mut Graph, library: &Library, item: &Item) -> Result<(), AllocError>
+fn add_line(alloc: Global, g: &mut Draft, library: &Library, item: &Item) -> Result<(), AllocError>
     ensures { OnOk result (Adds g.old g.new (line_edges library.now item.now)) }
 {
     match item {
@@ -151,7 +151,7 @@ fn add_line(alloc: Global, g: &mut Graph, library: &Library, item: &Item) -> Res
 
 fn add_lines(
     alloc: Global,
-    g: &mut Graph,
+    g: &mut Draft,
     library: &Library,
     items: &[Item],
 ) -> Result<(), AllocError>
@@ -163,34 +163,50 @@ fn add_lines(
     Ok(())
 }
 
-// What a memory gives rests on the place that it is asked for.
-fn add_answer(alloc: Global, g: &mut Graph, d: &Declaration) -> Result<(), AllocError>
-    ensures { OnOk result (Adds g.old g.new (answer_edges d.now)) }
+// What a memory gives rests on the place that it is asked for, where the top has ports for both.
+fn add_answer(
+    alloc: Global,
+    g: &mut Draft,
+    ports: &Scope,
+    d: &Declaration,
+) -> Result<(), AllocError>
+    ensures { OnOk result (Adds g.old g.new (answer_edges ports.now d.now)) }
 {
+    if !is_input(ports.net_kind(d.name.bytes())) {
+        return Ok(());
+    }
     match rdata_of(&d.name) {
         Some(label) => {
             let address = addr_name(alloc, label)?;
-            add(alloc, g, d.name.bytes(), &address)
+            if is_read(ports.net_kind(&address)) {
+                return add(alloc, g, d.name.bytes(), &address);
+            }
+            Ok(())
         }
         None => Ok(()),
     }
 }
 
-fn add_answers(alloc: Global, g: &mut Graph, names: &[Declaration]) -> Result<(), AllocError>
-    ensures { OnOk result (Adds g.old g.new (flat_map answer_edges names.now)) }
+fn add_answers(
+    alloc: Global,
+    g: &mut Draft,
+    ports: &Scope,
+    names: &[Declaration],
+) -> Result<(), AllocError>
+    ensures { OnOk result (Adds g.old g.new (flat_map (answer_edges ports.now) names.now)) }
 {
     for d in names {
-        add_answer(alloc, g, d)?;
+        add_answer(alloc, g, ports, d)?;
     }
     Ok(())
 }
 
-fn add_memories(alloc: Global, g: &mut Graph, top: bool, m: &Module) -> Result<(), AllocError>
-    ensures { OnOk result (Adds g.old g.new (memory_edges top (declared m.now))) }
+fn add_memories(alloc: Global, g: &mut Draft, top: bool, m: &Module) -> Result<(), AllocError>
+    ensures { OnOk result (Adds g.old g.new (memory_edges top (map port_declared m.now.ports))) }
 {
     if top {
-        let scope = Scope::of_module(alloc, m)?;
-        add_answers(alloc, g, scope.declarations())
+        let ports = Scope::of_ports(alloc, m.ports())?;
+        add_answers(alloc, g, &ports, ports.declarations())
     } else {
         Ok(())
     }
@@ -198,7 +214,7 @@ fn add_memories(alloc: Global, g: &mut Graph, top: bool, m: &Module) -> Result<(
 
 fn add_pair(
     alloc: Global,
-    g: &mut Graph,
+    g: &mut Draft,
     instance: &Text,
     pair: &(Text, Text),
 ) -> Result<(), AllocError>
@@ -211,7 +227,7 @@ fn add_pair(
 
 fn add_pairs(
     alloc: Global,
-    g: &mut Graph,
+    g: &mut Draft,
     instance: &Text,
     pairs: &[(Text, Text)],
 ) -> Result<(), AllocError>
@@ -236,7 +252,7 @@ fn pairs_named<'a>(library: &Library, sums: &'a [Sum], name: &Text) -> &'a [(Tex
 // An instance's outputs rest on those inputs on which they rest inside.
 fn add_through(
     alloc: Global,
-    g: &mut Graph,
+    g: &mut Draft,
     library: &Library,
     sums: &[Sum],
     item: &Item,
@@ -259,7 +275,7 @@ fn add_through(
 
 fn add_all_through(
     alloc: Global,
-    g: &mut Graph,
+    g: &mut Draft,
     library: &Library,
     sums: &[Sum],
     items: &[Item],
@@ -289,12 +305,13 @@ pub(crate) fn graph_of(
     root: Option<&Text>,
     sums: &[Sum],
     m: &Module,
-) -> Result<Graph, AllocError>
+) -> Result<NamedGraph, AllocError>
     ensures { IfOk result (λ g. IsGraphOf (module_edges library.now (is_named (option_copied root.entry)) sums.now m.now) g) }
 {
-    let mut g = Graph::new(alloc);
+    let mut g = Draft::new(alloc);
     add_lines(alloc, &mut g, library, m.items())?;
     add_memories(alloc, &mut g, is_top(root, m.name()), m)?;
     add_all_through(alloc, &mut g, library, sums, m.items())?;
+    let g = g.finish(alloc)?;
     Ok(g)
 }

@@ -2,6 +2,7 @@
 #![tactic(auto)]
 
 mod edges;
+mod names;
 mod order;
 mod questions;
 mod search;

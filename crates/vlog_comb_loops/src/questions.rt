@@ -8,11 +8,11 @@ ghost use Rattle.vlog_rules.specs.NameTable.{value_in};
 ghost use Rattle.vlog_graph.specs.Graphs.{targets_of};
 ghost use Rattle.vlog_comb_loops.specs.Questions.{asked_of, Keeps, AsksLines, Asks, AsksAll};
 
+use crate::names::insert_number;
 use crate::suspects::Suspect;
 use std::alloc::{AllocError, Global};
 use std::collections::HashMap;
 use tapa_base::Text;
-use vlog_graph::insert_number;
 use vlog_rules::Library;
 use vlog_tree::{Item, Module};
 

@@ -7,24 +7,24 @@ ghost use Rattle.vlog_tree.specs.V6.{item_children};
 ghost use Rattle.vlog_tree.specs.Form.{ModuleTree};
 ghost use Rattle.vlog_tree.specs.Grounded.{Has};
 ghost use Rattle.vlog_tree.specs.Loops.{Edges, own_containment, containment, Reaches, Rests, own_places, text_places, LiesOnLoop};
-ghost use Rattle.vlog_graph.specs.Graphs.{IsGraphOf};
+ghost use Rattle.vlog_comb_loops.specs.Names.{IsDraftOf, IsGraphOf};
 ghost use Rattle.vlog_comb_loops.specs.declared.suspects.Suspect.{Suspect};
 ghost use Rattle.vlog_comb_loops.specs.Growth.{Adds};
 ghost use Rattle.vlog_comb_loops.specs.Search.{IsSearched, IsSuspect, IsEvidence, IsJudged};
 ghost use Rattle.vlog_comb_loops.specs.Summaries.{is_named, AreRight};
 
 use crate::edges::{add, graph_of};
+use crate::names::{Draft, NamedGraph};
 use crate::order::order_of;
 use crate::questions::questions_of;
 use crate::sums::{Sum, sums_of};
 use crate::suspects::{Loops, Suspect, on_loop};
 use std::alloc::{AllocError, Global};
 use tapa_base::Text;
-use vlog_graph::{Graph, LeveledGraph, has_levels};
 use vlog_rules::{Library, Scope};
 use vlog_tree::{Declaration, Item, Module};
 
-fn add_child(alloc: Global, g: &mut Graph, m: &Text, item: &Item) -> Result<(), AllocError>
+fn add_child(alloc: Global, g: &mut Draft, m: &Text, item: &Item) -> Result<(), AllocError>
     ensures { OnOk result (Adds g.old g.new (map (λ k. (m.now, k)) (item_children item.now))) }
 {
     match item {
@@ -38,7 +38,7 @@ fn add_child(alloc: Global, g: &mut Graph, m: &Text, item: &Item) -> Result<(), 
 }
 
 #[tactic(auto, unfolding(vlog_tree::specs::Loops::own_containment, vlog_tree::specs::V6::module_children))]
-fn add_children(alloc: Global, g: &mut Graph, m: &Module) -> Result<(), AllocError>
+fn add_children(alloc: Global, g: &mut Draft, m: &Module) -> Result<(), AllocError>
     ensures { OnOk result (Adds g.old g.new (own_containment m.now)) }
 {
     for item in m.items() {
@@ -47,14 +47,22 @@ fn add_children(alloc: Global, g: &mut Graph, m: &Module) -> Result<(), AllocErr
     Ok(())
 }
 
-// Which module contains which.
-fn containment_of(alloc: Global, modules: &[Module]) -> Result<Graph, AllocError>
-    ensures { IfOk result (λ g. IsGraphOf (containment modules.now) g) }
+fn containment_draft(alloc: Global, modules: &[Module]) -> Result<Draft, AllocError>
+    ensures { IfOk result (λ g. IsDraftOf (containment modules.now) g) }
 {
-    let mut g = Graph::new(alloc);
+    let mut g = Draft::new(alloc);
     for m in modules {
         add_children(alloc, &mut g, m)?;
     }
+    Ok(g)
+}
+
+// Which module contains which.
+fn containment_of(alloc: Global, modules: &[Module]) -> Result<NamedGraph, AllocError>
+    ensures { IfOk result (λ g. IsGraphOf (containment modules.now) g) }
+{
+    let g = containment_draft(alloc, modules)?;
+    let g = g.finish(alloc)?;
     Ok(g)
 }
 
@@ -63,13 +71,12 @@ fn judge(
     alloc: Global,
     suspects: &mut Vec<Suspect>,
     place: usize,
-    graph: Graph,
+    graph: NamedGraph,
 ) -> Result<(), AllocError>
     ensures { OnOk result ((edges : Edges) → IsGraphOf edges graph → IsJudged edges place suspects.old.items suspects.new.items) }
 {
-    let loopless = has_levels(alloc, &graph)?;
+    let loopless = graph.is_loopless(alloc)?;
     if !loopless {
-        let graph = LeveledGraph::of(alloc, graph)?;
         suspects.push(Suspect { place, graph })?;
     }
     Ok(())
@@ -99,8 +106,7 @@ fn loops_of(alloc: Global, library: &Library, root: Option<&Text>) -> Result<Loo
     ensures { IfOk result (λ loops. IsEvidence library.now (is_named (option_copied root.entry)) loops) }
 {
     let contains = containment_of(alloc, library.modules())?;
-    let flat = has_levels(alloc, &contains)?;
-    let contains = LeveledGraph::of(alloc, contains)?;
+    let flat = contains.is_loopless(alloc)?;
     let order = order_of(alloc, &contains, library.modules())?;
     let sums = sums_of(alloc, library, root, &order)?;
     let suspects = suspects_of(alloc, library, root, &sums)?;

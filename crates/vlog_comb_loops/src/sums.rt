@@ -6,15 +6,15 @@ ghost use Rattle.vlog_tree.specs.declared.table.NetKind.TheVariants.{Input, Outp
 ghost use Rattle.vlog_tree.specs.Form.{ModuleTree};
 ghost use Rattle.vlog_tree.specs.Table.{net_kind_of, port_declared};
 ghost use Rattle.vlog_tree.specs.Loops.{Edges, Reaches};
-ghost use Rattle.vlog_graph.specs.Graphs.{IsGraphOf, mark_of};
+ghost use Rattle.vlog_comb_loops.specs.Names.{IsGraphOf, mark_of};
 ghost use Rattle.vlog_comb_loops.specs.Growth.{Gathers};
 ghost use Rattle.vlog_comb_loops.specs.Summaries.{is_named, module_edges, IsPair, IsSumOf, IsSoundSum, IsClosedSum, AreSums, AreRight};
 
 use crate::edges::graph_of;
+use crate::names::NamedGraph;
 use std::alloc::{AllocError, Global};
 use std::marker::Model;
 use tapa_base::Text;
-use vlog_graph::{Graph, is_marked, reach_from};
 use vlog_rules::{Library, Scope, copy_text};
 use vlog_tree::{Module, NetKind};
 
@@ -74,7 +74,7 @@ fn is_input(ports: &Scope, name: &Text) -> bool
 fn add_input(
     alloc: Global,
     pairs: &mut Vec<(Text, Text)>,
-    graph: &Graph,
+    graph: &NamedGraph,
     marks: &[bool],
     ports: &Scope,
     x: &Text,
@@ -85,7 +85,7 @@ fn add_input(
         → Gathers (IsPair edges ports.now) (λ a b. (a ≡ x.now) × (b ≡ y.now)) pairs.old.items pairs.new.items) }
 {
     if is_input(ports, y) {
-        if is_marked(graph, marks, y.bytes()) {
+        if graph.is_marked(marks, y.bytes()) {
             let from = copy_text(alloc, x)?;
             let to = copy_text(alloc, y)?;
             pairs.push((from, to))?;
@@ -97,7 +97,7 @@ fn add_input(
 fn add_inputs(
     alloc: Global,
     pairs: &mut Vec<(Text, Text)>,
-    graph: &Graph,
+    graph: &NamedGraph,
     marks: &[bool],
     ports: &Scope,
     x: &Text,
@@ -116,7 +116,7 @@ fn add_inputs(
 fn add_output(
     alloc: Global,
     pairs: &mut Vec<(Text, Text)>,
-    graph: &Graph,
+    graph: &NamedGraph,
     ports: &Scope,
     x: &Text,
 ) -> Result<(), AllocError>
@@ -125,13 +125,13 @@ fn add_output(
         → Gathers (IsPair edges ports.now) (λ a b. a ≡ x.now) pairs.old.items pairs.new.items) }
 {
     if is_output(ports, x) {
-        let marks = reach_from(alloc, graph, x.bytes())?;
+        let marks = graph.reach_from(alloc, x.bytes())?;
         add_inputs(alloc, pairs, graph, &marks, ports, x)?;
     }
     Ok(())
 }
 
-fn sum_by(alloc: Global, graph: &Graph, ports: &Scope) -> Result<Sum, AllocError>
+fn sum_by(alloc: Global, graph: &NamedGraph, ports: &Scope) -> Result<Sum, AllocError>
     requires { (edges : Edges) × IsGraphOf edges graph.now }
     ensures { (edges : Edges) → IsGraphOf edges graph.now → IfOk result (λ s. IsSumOf edges ports.now s) }
 {

@@ -3,14 +3,14 @@
 ghost use Rattle.std.specs.Prelude.{◌≡◌, ◌↔◌, ℕ, List, Bool, true, Some, IfOk};
 ghost use Rattle.vlog_tree.specs.Grounded.{Has};
 ghost use Rattle.vlog_tree.specs.Loops.{Edges, Reaches, port_of, item_instances, LiesOnLoop};
-ghost use Rattle.vlog_graph.specs.Graphs.{IsGraphOf};
+ghost use Rattle.vlog_comb_loops.specs.Names.{IsGraphOf};
 ghost use Rattle.vlog_comb_loops.specs.Search.{LoopsAt, LoopsBy, IsSuspect, IsEvidence};
 
 use crate::edges::port_name;
+use crate::names::NamedGraph;
 use crate::questions::Questions;
 use std::alloc::{AllocError, Global};
 use tapa_base::Text;
-use vlog_graph::LeveledGraph;
 use vlog_rules::Library;
 use vlog_tree::{Item, Module};
 
@@ -18,7 +18,7 @@ use vlog_tree::{Item, Module};
 #[derive(Drop)]
 pub struct Suspect {
     pub place: usize,
-    pub graph: LeveledGraph,
+    pub graph: NamedGraph,
 }
 
 /// The modules that may have loops, what to ask of each name, and which module contains which; `flat` says that levels
@@ -27,14 +27,14 @@ pub struct Suspect {
 pub struct Loops {
     pub suspects: Vec<Suspect>,
     pub questions: Questions,
-    pub contains: LeveledGraph,
+    pub contains: NamedGraph,
     pub flat: bool,
 }
 
 // Whether a line is an instance of a module whose port lies on a loop.
 fn port_returns(
     alloc: Global,
-    graph: &LeveledGraph,
+    graph: &NamedGraph,
     item: &Item,
     owner: &Text,
     port: &Text,
@@ -66,7 +66,7 @@ fn port_returns(
 
 fn own_returns(
     alloc: Global,
-    graph: &LeveledGraph,
+    graph: &NamedGraph,
     k: &Module,
     owner: &Text,
     name: &Text,
@@ -84,7 +84,7 @@ fn own_returns(
 // Whether a module has a net or a port of its instance at a line on a loop.
 fn loops_at(
     alloc: Global,
-    graph: &LeveledGraph,
+    graph: &NamedGraph,
     k: &Module,
     line: Option<usize>,
     owner: &Text,

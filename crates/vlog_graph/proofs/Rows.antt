@@ -16,7 +16,7 @@ row_at (v ∷ vs) zero = refl
 row_at (v ∷ vs) (suc j) = row_at vs j
 
 -- a last row without targets
-pub row_push : {A : Type 0} (rows : List (Vec ℕ A)) (v : Vec ℕ A) → v.items ≡ [] → (j : ℕ) → targets_of (rows ++ v ∷ []) j ≡ targets_of rows j
+pub row_push : {X A : Type 0} (rows : List (Vec X A)) (v : Vec X A) → v.items ≡ [] → (j : ℕ) → targets_of (rows ++ v ∷ []) j ≡ targets_of rows j
 row_push [] v e zero = e
 row_push [] v e (suc j) = refl
 row_push (x ∷ xs) v e zero = refl

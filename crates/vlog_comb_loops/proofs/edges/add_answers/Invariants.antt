@@ -4,4 +4,4 @@ use Rattle.vlog_comb_loops.proofs.Growing.{AddsSoFar}
 use Rattle.vlog_comb_loops.proofs.edges.add_answers.Given as goal
 
 abbrev pub invariant-loop-d : goal.invariant-loop-d
-invariant-loop-d l = AddsSoFar (flat_map answer_edges) l.names l.d-index l.fn.g l.g
+invariant-loop-d l = AddsSoFar (flat_map (answer_edges l.ports)) l.names l.d-index l.fn.g l.g

@@ -1,8 +1,7 @@
 use Rattle.std.proofs.Common.{sym, subst, List}
 use Rattle.vlog_tree.specs.Form.{ModuleTree}
 use Rattle.vlog_tree.specs.Loops.{containment}
-use Rattle.vlog_graph.specs.declared.graph.Graph.{Graph}
-use Rattle.vlog_graph.specs.Graphs.{IsGraphOf}
+use Rattle.vlog_comb_loops.specs.Names.{IsGraphOf}
 use Rattle.vlog_comb_loops.specs.declared.suspects.Suspect.{Suspect}
 use Rattle.vlog_comb_loops.specs.Questions.{AsksAll}
 use Rattle.vlog_comb_loops.proofs.search.loops_of.Goals as goal
@@ -10,11 +9,11 @@ use Rattle.vlog_comb_loops.proofs.search.loops_of.Goals as goal
 pub returns : goal.returns
 returns c =
     let ms = c.args.library.now in
-    let graph = subst (λ (l : List ModuleTree). IsGraphOf (containment l) c.in_ok-contains.contains) c.modules.ensures c.in_ok-contains.ensures in
+    let graph = subst (λ (l : List ModuleTree). IsGraphOf (containment l) c.in_ok-contains.contains) c.modules.ensures.value c.in_ok-contains.ensures in
     record {
       suspects = c.in_ok-suspects.ensures.right;
       others = c.in_ok-suspects.ensures.others;
-      contains = subst (λ (g : Graph). IsGraphOf (containment ms) g) (sym c.in_ok-contains-2.ensures) graph;
+      contains = graph;
       questions = subst (λ (l : List Suspect). AsksAll ms l c.in_ok-questions.questions) c.deref-3.ensures.value c.in_ok-questions.ensures;
-      flat = c.in_ok-flat.ensures (containment ms) graph;
+      flat = λ h. (c.in_ok-flat.ensures (containment ms) graph).0 h;
     }

@@ -11,12 +11,12 @@ pub loop-place-preserved : goal.loop-place-preserved
 loop-place-preserved c =
     let is_top = is_named (option_copied c.args.root) in
     let m = c.index-modules-place.result in
-    let at = subst (λ (l : List ModuleTree). slice_get l c.loop-place.place ≡ Some m) c.modules-modules.ensures (got_index c.modules-modules.result.now c.loop-place.place m c.loop-place-test.true c.index-modules-place.is) in
+    let at = subst (λ (l : List ModuleTree). slice_get l c.loop-place.place ≡ Some m) c.modules-modules.ensures.value (got_index c.modules-modules.result.now c.loop-place.place m c.loop-place-test.true c.index-modules-place.is) in
     next_judged c.args.library.now is_top c.args.sums.now c.requires c.loop-place.place m at c.loop-place.suspects.items c.judge.new.suspects.items
     (c.in_ok-judge.ensures _ c.in_ok-graph.ensures) c.loop-place.invariant
 
 pub returns-clause-others : goal.returns-clause-others
 returns-clause-others c =
     let is_top = is_named (option_copied c.args.root) in
-    let over : length c.args.library.now ≤ c.loop-place.place = subst (λ (l : List ModuleTree). length l ≤ c.loop-place.place) c.modules-modules.ensures c.loop-place-test.false in
+    let over : length c.args.library.now ≤ c.loop-place.place = subst (λ (l : List ModuleTree). length l ≤ c.loop-place.place) c.modules-modules.ensures.value c.loop-place-test.false in
     all_judged c.args.library.now is_top c.loop-place.place c.loop-place.suspects.items over c.loop-place.invariant

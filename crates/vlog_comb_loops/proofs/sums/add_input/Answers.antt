@@ -1,7 +1,7 @@
 use Rattle.std.proofs.Common.{◌≡◌, ◌∷◌, [], ◌++◌, ◌∙◌, sym, ap, subst, true, rules}
 use Rattle.vlog_tree.specs.Table.{Name}
 use Rattle.vlog_tree.specs.Loops.{Edges}
-use Rattle.vlog_graph.specs.Graphs.{mark_of}
+use Rattle.vlog_comb_loops.specs.Names.{mark_of}
 use Rattle.vlog_comb_loops.specs.Growth.{Gathers}
 use Rattle.vlog_comb_loops.specs.Summaries.{IsPair}
 use Rattle.vlog_comb_loops.proofs.Gathering.{gathers_pushed}

@@ -3,7 +3,7 @@ use Rattle.std.specs.Prelude.{◌↔◌}
 use Rattle.vlog_tree.specs.Grounded.{Has}
 use Rattle.vlog_tree.specs.Table.{Name, declaration_name}
 use Rattle.vlog_tree.specs.Loops.{Edges, Reaches}
-use Rattle.vlog_graph.specs.Graphs.{mark_of}
+use Rattle.vlog_comb_loops.specs.Names.{mark_of}
 use Rattle.vlog_comb_loops.specs.Growth.{Gathers}
 use Rattle.vlog_comb_loops.specs.Summaries.{IsPair}
 use Rattle.vlog_comb_loops.proofs.sums.add_inputs.Given as goal

@@ -2,7 +2,7 @@ use Rattle.std.proofs.Common.{◌≡◌, sym, subst, List, Bool, true}
 use Rattle.vlog_tree.specs.Table.{Name}
 use Rattle.vlog_tree.specs.Loops.{Reaches}
 use Rattle.std.specs.Prelude.{◌↔◌}
-use Rattle.vlog_graph.specs.Graphs.{mark_of}
+use Rattle.vlog_comb_loops.specs.Names.{mark_of}
 use Rattle.vlog_comb_loops.proofs.sums.add_output.Goals as goal
 
 pub returns-in_ok-add_inputs : goal.returns-in_ok-add_inputs

@@ -15,7 +15,7 @@ returns-clause-sound c = λ sound.
     let is_top = is_named (option_copied c.args.root) in
     let sums = c.args.sums.now.items in
     let m = c.index-modules-at.result in
-    let low = subst (λ (l : List ModuleTree). c.args.at < length l) (sym c.modules.ensures) c.requires.module in
-    let at = subst (λ (l : List ModuleTree). slice_get l c.args.at ≡ Some m) c.modules.ensures (got_index c.modules.result.now c.args.at m low c.index-modules-at.is) in
+    let low = subst (λ (l : List ModuleTree). c.args.at < length l) (sym c.modules.ensures.value) c.requires.module in
+    let at = subst (λ (l : List ModuleTree). slice_get l c.args.at ≡ Some m) c.modules.ensures.value (got_index c.modules.result.now c.args.at m low c.index-modules-at.is) in
     let all = subst (λ (l : List Edges). IsSumOf (module_edges ms is_top l m) (map port_declared m.ports) c.in_ok-sum.sum) c.deref.ensures.value c.in_ok-sum.ensures in
     sums_set (IsSoundSum ms is_top) ms sums c.args.at m c.in_ok-sum.sum c.requires.sum at (sound_of ms is_top sums m c.in_ok-sum.sum sound all) sound

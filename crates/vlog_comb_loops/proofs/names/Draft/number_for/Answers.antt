@@ -1,0 +1,18 @@
+use Rattle.std.proofs.Common.{rules, arith, ◌≡◌, ◌<◌, ◌+◌, ◌++◌, ◌∷◌, [], ℕ, List, length, get_or, true, false, cond, Some, None, inl, inr, refl, sym, ap, subst, ◌∙◌}
+use Rattle.std.specs.Prelude.{bytes_eq}
+use Rattle.vlog_tree.specs.Grounded.{Has}
+use Rattle.vlog_rules.specs.NameTable.{value_in}
+use Rattle.vlog_comb_loops.specs.Names.{IsNumbered}
+use Rattle.vlog_comb_loops.proofs.Numbered.{numbered_more}
+use Rattle.vlog_comb_loops.proofs.names.Draft.number_for.Goals as goal
+
+pub returns-clause-graph : goal.returns-clause-graph
+returns-clause-graph c = λ edges g.
+    let old = c.args.self.now in
+    let R : ℕ → ℕ → Type 0 = λ j k. Has old.edges.items (j, k) in
+    let at : c.len-number.result ≡ length old.names.items = search rules in
+    let longer : length c.push.new.self.items ≡ length old.names.items + 1 = search rules in
+    let fresh : value_in old.numbers c.args.name.now ≡ None = sym c.number.ensures ∙ c.in_default.is in
+    subst (λ n. IsNumbered edges (value_in c.insert_number.new.numbers) R n) (sym longer)
+    (numbered_more edges (value_in old.numbers) (value_in c.insert_number.new.numbers) R (length old.names.items) c.args.name.now g fresh
+    (λ x. c.in_ok-insert_number.ensures x ∙ ap (λ n. cond (bytes_eq c.args.name.now x) (Some n) (value_in old.numbers x)) at))

@@ -1,0 +1,32 @@
+-- Graphs of names: numbers of names, and a graph of the numbers.
+use Rattle.std.specs.Prelude.{◌≡◌, ℕ, ◌<◌, Bool, false, length, Option, Some, get_or, List}
+use Rattle.std.specs.Option.{option_map_or}
+use Rattle.vlog_tree.specs.Grounded.{Has}
+use Rattle.vlog_tree.specs.Table.{Name}
+use Rattle.vlog_tree.specs.Loops.{Edges}
+use Rattle.vlog_rules.specs.NameTable.{value_in}
+use Rattle.vlog_graph.specs.Graphs.{Steps}
+use Rattle.vlog_comb_loops.specs.declared.names.Draft.{Draft}
+use Rattle.vlog_comb_loops.specs.declared.names.NamedGraph.{NamedGraph}
+
+-- the numbers below a count stand for names, one for each, and their steps for the edges
+pub record IsNumbered (edges : Edges) (number : Name → Option ℕ) (R : ℕ → ℕ → Type 0) (count : ℕ) : Type 0 where
+  pub below : (a : Name) (j : ℕ) → number a ≡ Some j → j < count
+  pub distinct : (a b : Name) (j : ℕ) → number a ≡ Some j → number b ≡ Some j → a ≡ b
+  pub there : (a b : Name) → Has edges (a, b) → (j : ℕ) × (k : ℕ) × (number a ≡ Some j) × (number b ≡ Some k) × R j k
+  pub only : (j k : ℕ) → R j k → (a : Name) × (b : Name) × (number a ≡ Some j) × (number b ≡ Some k) × Has edges (a, b)
+
+-- a graph that still grows has these edges
+abbrev pub IsDraftOf : Edges → Draft → Type 0
+IsDraftOf edges d = IsNumbered edges (value_in d.numbers) (λ j k. Has d.edges.items (j, k)) (length d.names.items)
+
+abbrev pub IsGraphOf : Edges → NamedGraph → Type 0
+IsGraphOf edges g = IsNumbered edges (value_in g.numbers) (Steps g.graph) (length g.graph)
+
+-- each name keeps its number
+abbrev pub IsExtended : (Name → Option ℕ) → (Name → Option ℕ) → Type 0
+IsExtended old new = (a : Name) (j : ℕ) → old a ≡ Some j → new a ≡ Some j
+
+-- whether the number of a name is marked
+abbrev pub mark_of : NamedGraph → List Bool → Name → Bool
+mark_of g marks x = option_map_or (λ k. get_or marks k false) (value_in g.numbers x) false

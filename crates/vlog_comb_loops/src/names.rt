@@ -1,0 +1,164 @@
+// Graphs of names.
+
+ghost use Rattle.std.specs.Prelude.{◌≡◌, ◌<◌, ◌++◌, ◌∷◌, [], ℕ, List, Some, true, false, length, bytes_eq, ◌↔◌, get_or, if◌then◌else◌, IfOk, OnOk};
+ghost use Rattle.vlog_tree.specs.Loops.{Edges, Reaches};
+ghost use Rattle.vlog_rules.specs.NameTable.{value_in};
+ghost use Rattle.vlog_comb_loops.specs.Names.{IsDraftOf, IsGraphOf, IsExtended, mark_of};
+
+use std::alloc::{AllocError, Global};
+use std::collections::HashMap;
+use vlog_graph::{Graph, LeveledGraph, Order, order_of, reach_from as reach_numbers};
+
+/// A graph of names that grows: the names by their numbers, and the edges by numbers.
+#[derive(Drop)]
+pub struct Draft {
+    pub numbers: HashMap<Vec<u8>, usize>,
+    pub names: Vec<Vec<u8>>,
+    pub edges: Vec<(usize, usize)>,
+}
+
+/// A graph of names that grows no more.
+#[derive(Drop)]
+pub struct NamedGraph {
+    pub numbers: HashMap<Vec<u8>, usize>,
+    pub graph: LeveledGraph,
+}
+
+/// Gives a name a number.
+pub(crate) fn insert_number(
+    alloc: Global,
+    numbers: &mut HashMap<Vec<u8>, usize>,
+    name: &[u8],
+    number: usize,
+) -> Result<(), AllocError>
+    ensures { OnOk result ((x : List ℕ) → value_in numbers.new x ≡ (if bytes_eq name.now x then Some number else value_in numbers.old x)) }
+{
+    let key = name.to_vec(alloc)?;
+    numbers.insert(key, number)?;
+    Ok(())
+}
+
+impl Draft {
+    pub(crate) fn new(alloc: Global) -> Draft
+        ensures { IsDraftOf [] result }
+    {
+        Draft {
+            numbers: HashMap::new(alloc),
+            names: Vec::new(alloc),
+            edges: Vec::new(alloc),
+        }
+    }
+
+    fn number(&self, name: &[u8]) -> Option<usize>
+        ensures { result ≡ value_in self.now.numbers name.now }
+    {
+        self.numbers.get(name).copied()
+    }
+
+    // The number of a name, which gets one where it has none.
+    fn number_for(&mut self, alloc: Global, name: &[u8]) -> Result<usize, AllocError>
+        ensures number { IfOk result (λ j. value_in self.new.numbers name.now ≡ Some j) }
+        ensures extended { OnOk result (IsExtended (value_in self.old.numbers) (value_in self.new.numbers)) }
+        ensures graph { OnOk result ((edges : Edges) → IsDraftOf edges self.old → IsDraftOf edges self.new) }
+    {
+        if let Some(number) = self.number(name) {
+            return Ok(number);
+        }
+        let number = self.names.len();
+        self.names.push(name.to_vec(alloc)?)?;
+        insert_number(alloc, &mut self.numbers, name, number)?;
+        Ok(number)
+    }
+
+    /// One more edge: the first name rests on the second.
+    pub(crate) fn add_edge(
+        &mut self,
+        alloc: Global,
+        from: &[u8],
+        to: &[u8],
+    ) -> Result<(), AllocError>
+        ensures { OnOk result ((edges : Edges) → IsDraftOf edges self.old → IsDraftOf (edges ++ (from.now, to.now) ∷ []) self.new) }
+    {
+        let a = self.number_for(alloc, from)?;
+        let b = self.number_for(alloc, to)?;
+        self.edges.push((a, b))?;
+        Ok(())
+    }
+
+    pub(crate) fn finish(self, alloc: Global) -> Result<NamedGraph, AllocError>
+        requires { (edges : Edges) × IsDraftOf edges self }
+        ensures { (edges : Edges) → IsDraftOf edges self → IfOk result (λ g. IsGraphOf edges g) }
+    {
+        let graph = Graph::of(alloc, self.names.len(), &self.edges)?;
+        let graph = LeveledGraph::of(alloc, graph)?;
+        Ok(NamedGraph {
+            numbers: self.numbers,
+            graph,
+        })
+    }
+}
+
+fn mark_at(marks: &[bool], number: usize) -> bool
+    ensures { result ≡ get_or marks.now number false }
+{
+    match marks.get(number) {
+        Some(marked) => *marked,
+        None => false,
+    }
+}
+
+impl NamedGraph {
+    /// The number of a name.
+    pub(crate) fn number(&self, name: &[u8]) -> Option<usize>
+        ensures { result ≡ value_in self.now.numbers name.now }
+    {
+        self.numbers.get(name).copied()
+    }
+
+    /// Whether a name is marked by its number.
+    pub(crate) fn is_marked(&self, marks: &[bool], name: &[u8]) -> bool
+        ensures { result ≡ mark_of self.now marks.now name.now }
+    {
+        match self.number(name) {
+            Some(number) => mark_at(marks, number),
+            None => false,
+        }
+    }
+
+    /// Marks the names that a name reaches by one or more edges.
+    pub(crate) fn reach_from(&self, alloc: Global, name: &[u8]) -> Result<Vec<bool>, AllocError>
+        ensures { (edges : Edges) → IsGraphOf edges self.now → IfOk result (λ marks. (y : List ℕ) → (mark_of self.now marks.items y ≡ true) ↔ Reaches edges name.now y) }
+    {
+        match self.number(name) {
+            Some(number) => {
+                let marks = reach_numbers(alloc, self.graph.graph(), &[number])?;
+                Ok(marks)
+            }
+            None => Ok(Vec::new(alloc)),
+        }
+    }
+
+    /// Whether a name reaches itself.
+    pub(crate) fn returns(&self, alloc: Global, name: &[u8]) -> Result<bool, AllocError>
+        ensures { (edges : Edges) → IsGraphOf edges self.now → IfOk result (λ b. (b ≡ true) ↔ Reaches edges name.now name.now) }
+    {
+        match self.number(name) {
+            Some(number) => {
+                let found = self.graph.returns(alloc, number)?;
+                Ok(found)
+            }
+            None => Ok(false),
+        }
+    }
+
+    /// Whether no name reaches itself.
+    pub(crate) fn is_loopless(&self, alloc: Global) -> Result<bool, AllocError>
+        ensures { (edges : Edges) → IsGraphOf edges self.now → IfOk result (λ b. (b ≡ true) ↔ ((x : List ℕ) → Reaches edges x x → ⊥)) }
+    {
+        let order = order_of(alloc, self.graph.graph())?;
+        match order {
+            Order::PartsFirst(_) => Ok(true),
+            Order::Cycle(_) => Ok(false),
+        }
+    }
+}
