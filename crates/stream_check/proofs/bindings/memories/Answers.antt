@@ -1,4 +1,4 @@
-use Rattle.std.proofs.Common.{◌≡◌, ◌<◌, ◌+◌, ◌++◌, drop, get_or, map, length, sym, ap, subst, ◌∙◌, append_assoc, length-append, arith}
+use Rattle.std.proofs.Common.{◌≡◌, ◌<◌, ◌+◌, ◌++◌, drop, get_or, map, length, sym, ap, subst, ◌∙◌, append_assoc, length-append, arith, rules, vec_len}
 use Rattle.std.proofs.lemmas.Result.{err_from_is_err_and}
 use Rattle.tapa_syntax.specs.Flat.{flat_instance}
 use Rattle.stream_check.specs.declared.users.Users.TheVariants.{Nobody}
@@ -15,10 +15,12 @@ returns-in_err-memory c =
     let instances = map flat_instance c.args.instances.now in
     let k = length c.loop-parameter.made.items in
     let rows = c.in_ok-owners.owners.rows.items in
+    let same : vec_len c.loop-parameter.made ≡ length c.loop-parameter.made.items = search rules in
+    let counted : c.len.result ≡ length c.loop-parameter.made.items = c.len.ensures ∙ same in
     let few = c.loop-parameter.invariant.few in
     let least : k < length c.args.parameters.now = omega arith in
     let within : k < length rows = subst (λ m. k < m) (sym c.in_ok-owners.ensures.count.1) least in
-    let owner : c.at-next.result ≡ users_of (program.instances_with k 0 instances) = c.at-next.ensures Nobody (subst (λ n. n < length rows) (sym c.len.ensures) within) ∙ ap (λ n. get_or rows n Nobody) c.len.ensures ∙ c.in_ok-owners.ensures.owned k Nobody least in
+    let owner : c.at-next.result ≡ users_of (program.instances_with k 0 instances) = c.at-next.ensures Nobody (subst (λ n. n < length rows) (sym counted) within) ∙ ap (λ n. get_or rows n Nobody) counted ∙ c.in_ok-owners.ensures.owned k Nobody least in
     let first = c.parameter-item.result in
     let e = c.loop-parameter.invariant.faults ∙ ap (program.memories_faults instances k) (begins c.args.parameters.now i first c.loop-parameter-test.true c.parameter-item.is) in
     rw (p.1, p.2) (refuses c.in_err-memory.field-0.0 _ (program.memory_faults instances k first) (program.memories_faults instances (k + length (program.memory_of instances k first)) (drop (i + 1) c.args.parameters.now)) _ _ (c.in_err-memory.ensures instances owner) e)
@@ -30,10 +32,12 @@ loop-parameter-preserved c =
     let made = c.loop-parameter.made.items in
     let k = length c.loop-parameter.made.items in
     let rows = c.in_ok-owners.owners.rows.items in
+    let same : vec_len c.loop-parameter.made ≡ length c.loop-parameter.made.items = search rules in
+    let counted : c.len.result ≡ length c.loop-parameter.made.items = c.len.ensures ∙ same in
     let few = c.loop-parameter.invariant.few in
     let least : k < length c.args.parameters.now = omega arith in
     let within : k < length rows = subst (λ m. k < m) (sym c.in_ok-owners.ensures.count.1) least in
-    let owner : c.at-next.result ≡ users_of (program.instances_with k 0 instances) = c.at-next.ensures Nobody (subst (λ n. n < length rows) (sym c.len.ensures) within) ∙ ap (λ n. get_or rows n Nobody) c.len.ensures ∙ c.in_ok-owners.ensures.owned k Nobody least in
+    let owner : c.at-next.result ≡ users_of (program.instances_with k 0 instances) = c.at-next.ensures Nobody (subst (λ n. n < length rows) (sym counted) within) ∙ ap (λ n. get_or rows n Nobody) counted ∙ c.in_ok-owners.ensures.owned k Nobody least in
     let first = c.parameter-item.result in
     let new = program.memory_of instances k first in
     let rest = drop (i + 1) c.args.parameters.now in
