@@ -1,5 +1,5 @@
 -- The lines of what instances wait for, one instance after another.
-use Rattle.std.proofs.Common.{◌≡◌, ℕ, suc, ◌+◌, List, [], ◌∷◌, ◌++◌, ◌<◌, length, take, get_or, Option, Some, refl, sym, ◌∙◌, ap, subst, inl, inr, arith}
+use Rattle.std.proofs.Common.{◌≡◌, ℕ, suc, ◌+◌, List, [], ◌∷◌, ◌++◌, ◌<◌, length, take, get_or, Option, Some, refl, sym, ap, subst, inl, inr, arith}
 use Rattle.tapa_syntax.specs.declared.program.Instance.{Instance}
 use Rattle.tapa_syntax.specs.declared.program.Stream.{Stream}
 use Rattle.kahn_model.specs.Network.{Network}

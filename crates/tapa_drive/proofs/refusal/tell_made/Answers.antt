@@ -1,4 +1,4 @@
-use Rattle.std.proofs.Common.{refl, inr, rules}
+use Rattle.std.proofs.Common.{refl, inr}
 use Rattle.tapa_drive.specs.Refusal.{Memory}
 use Rattle.tapa_drive.proofs.refusal.tell_made.Goals as goal
 

@@ -1,5 +1,4 @@
-use Rattle.tapa_words.specs.Words.{texts}
-use Rattle.tapa_drive.specs.Outside.{outside, written}
+use Rattle.tapa_drive.specs.Outside.{written}
 use Rattle.tapa_drive.proofs.Answered.{done, refused}
 use Rattle.tapa_drive.proofs.top.answer.Goals as goal
 
