@@ -71,11 +71,7 @@ fn row_at(rows: &[Vec<usize>], node: usize) -> &[usize]
 
 impl Graph {
     /// The graph of so many nodes with these edges, each from a node to a node that it rests on.
-    pub fn of(
-        alloc: Global,
-        count: usize,
-        edges: &[(usize, usize)],
-    ) -> Result<Graph, AllocError>
+    pub fn of(alloc: Global, count: usize, edges: &[(usize, usize)]) -> Result<Graph, AllocError>
         requires { (j k : ℕ) → Has edges.now (j, k) → (j < count) × (k < count) }
         ensures len { IfOk result (λ g. length g ≡ count) }
         ensures edges { IfOk result (λ g. (j k : ℕ) → Steps g j k ↔ Has edges.now (j, k)) }

@@ -120,11 +120,7 @@ fn follow(
 }
 
 // Looks at the next target of the last node of the path, or ends the node.
-fn go_on(
-    graph: &Graph,
-    visit: &mut Visit,
-    node: usize,
-) -> Result<Option<usize>, AllocError>
+fn go_on(graph: &Graph, visit: &mut Visit, node: usize) -> Result<Option<usize>, AllocError>
     requires visit { IsVisitOf graph.now visit.old }
     requires last { (rest : List ℕ) × (visit.old.path.items ≡ rest ++ node ∷ []) }
     ensures { IfOk result (λ o. IsTurn graph.now visit.old visit.new o) }
@@ -158,11 +154,7 @@ fn end_path(graph: &Graph, visit: &mut Visit) -> Result<Option<usize>, AllocErro
 }
 
 // Visits all that a root reaches.
-fn visit_root(
-    graph: &Graph,
-    visit: &mut Visit,
-    root: usize,
-) -> Result<Option<usize>, AllocError>
+fn visit_root(graph: &Graph, visit: &mut Visit, root: usize) -> Result<Option<usize>, AllocError>
     requires visit { IsVisitOf graph.now visit.old }
     requires empty { length visit.old.path.items ≡ 0 }
     requires low { root < length graph.now }

@@ -61,11 +61,7 @@ fn mark_targets(
 }
 
 // Marks all that is reached from what is marked.
-fn close(
-    graph: &Graph,
-    marks: &mut Vec<bool>,
-    found: &mut Vec<usize>,
-) -> Result<(), AllocError>
+fn close(graph: &Graph, marks: &mut Vec<bool>, found: &mut Vec<usize>) -> Result<(), AllocError>
     requires room { length graph.now ≤ length marks.old.items }
     requires marked { IsMarked marks.old.items found.old.items }
     requires count { length found.old.items + unset marks.old.items ≡ length marks.old.items }
@@ -111,11 +107,7 @@ fn unmarked(alloc: Global, count: usize) -> Result<Vec<bool>, AllocError>
 }
 
 /// Marks the nodes that some nodes reach by one or more steps.
-pub fn reach_from(
-    alloc: Global,
-    graph: &Graph,
-    sources: &[usize],
-) -> Result<Vec<bool>, AllocError>
+pub fn reach_from(alloc: Global, graph: &Graph, sources: &[usize]) -> Result<Vec<bool>, AllocError>
     ensures { IfOk result (λ marks. (k : ℕ) → (get_or marks.items k false ≡ true) ↔ IsReached graph.now sources.now k) }
 {
     let mut marks = unmarked(alloc, graph.len())?;

@@ -1,4 +1,4 @@
-use Rattle.std.proofs.Common.{rules, arith, ◌≡◌, ◌<◌, ◌≤◌, ◌+◌, ◌-◌, ◌++◌, ◌∷◌, [], ℕ, zero, suc, List, length, get_or, take, true, false, slice_set, inl, inr, refl, sym, ap, subst, ◌∙◌}
+use Rattle.std.proofs.Common.{◌<◌, ℕ, List, get_or, take, sym, subst, ◌∙◌}
 use Rattle.std.specs.Prelude.{◌↔◌}
 use Rattle.std.proofs.lemmas.List.{take_more}
 use Rattle.vlog_tree.specs.Grounded.{Has}
@@ -21,5 +21,5 @@ loop-edge-preserved c =
     record {
       len = ens.len ∙ c.loop-edge.invariant.len;
       edges = λ j k. subst (λ (l : List (ℕ × ℕ)). Has (targets_of c.push_target.new.rows.items j) k ↔ Has l (j, k)) (sym (take_more edges i (0, 0) c.loop-edge-test.true))
-        (one_more (take i edges) (targets_of c.loop-edge.rows.items) (targets_of c.push_target.new.rows.items) p.0 p.1 c.loop-edge.invariant.edges ens.at ens.others j k);
+          (one_more (take i edges) (targets_of c.loop-edge.rows.items) (targets_of c.push_target.new.rows.items) p.0 p.1 c.loop-edge.invariant.edges ens.at ens.others j k);
     }

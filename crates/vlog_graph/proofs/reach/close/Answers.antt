@@ -1,8 +1,8 @@
-use Rattle.std.proofs.Common.{rules, arith, ◌≡◌, ◌<◌, ◌≤◌, ◌+◌, ◌-◌, ◌++◌, ◌∷◌, [], ℕ, zero, suc, List, length, get_or, take, drop, true, false, slice_set, inl, inr, refl, sym, ap, subst, ◌∙◌}
+use Rattle.std.proofs.Common.{rules, arith, ◌≡◌, ◌<◌, ◌≤◌, ◌+◌, [], ℕ, List, length, get_or, sym, ap, subst, ◌∙◌}
 use Rattle.vlog_tree.specs.Grounded.{Has}
 use Rattle.vlog_tree.specs.Loops.{Chain}
-use Rattle.vlog_graph.specs.Graphs.{Steps, IsReached}
-use Rattle.vlog_graph.specs.Marks.{IsMarked, Grows, unset}
+use Rattle.vlog_graph.specs.Graphs.{Steps}
+use Rattle.vlog_graph.specs.Marks.{unset}
 use Rattle.std.proofs.lemmas.List.{get_or_default}
 use Rattle.vlog_tree.proofs.Lists.{has_split}
 use Rattle.vlog_graph.proofs.Numbers.{at_has, has_at}
@@ -55,11 +55,11 @@ loop-next-preserved c =
     let from = has_split first before.extra (get_or found next 0) (subst (λ l. Has l (get_or found next 0)) before.grown (at_has found next low)) in
     record {
       grows = grows_both c.args.marks.now.items c.loop-next.marks.items c.mark_all.new.marks.items first found c.mark_all.new.found.items
-        (λ m. (j : ℕ) × Has first j × Chain (Steps g) j m) (λ m. Has c.targets.result.now m) (λ m. (j : ℕ) × Has first j × Chain (Steps g) j m) (λ m h. h)
-        (λ m h. reached_on g first before.extra (get_or found next 0) m before.only from (subst (λ l. Has l m) numbers h)) before more.grows;
+          (λ m. (j : ℕ) × Has first j × Chain (Steps g) j m) (λ m. Has c.targets.result.now m) (λ m. (j : ℕ) × Has first j × Chain (Steps g) j m) (λ m h. h)
+          (λ m h. reached_on g first before.extra (get_or found next 0) m before.only from (subst (λ l. Has l m) numbers h)) before more.grows;
       closed = λ i lt le m s.
           subst (λ l. Has l m) (sym more.grows.grown)
           (closed_on (Steps g) found more.grows.extra next low c.loop-next.invariant.closed
-            (λ k t. subst (λ l. Has l k) more.grows.grown (more.there k (subst (λ l. Has l k) (sym numbers) t))) i lt
-            (subst (λ (l : List ℕ). i < length l) more.grows.grown le) m (subst (λ (l : List ℕ). Steps g (get_or l i 0) m) more.grows.grown s));
+          (λ k t. subst (λ l. Has l k) more.grows.grown (more.there k (subst (λ l. Has l k) (sym numbers) t))) i lt
+          (subst (λ (l : List ℕ). i < length l) more.grows.grown le) m (subst (λ (l : List ℕ). Steps g (get_or l i 0) m) more.grows.grown s));
     }

@@ -1,8 +1,5 @@
-use Rattle.std.proofs.Common.{rules, arith, ◌≡◌, ◌<◌, ◌≤◌, ◌+◌, ◌-◌, ◌++◌, ◌∷◌, [], ℕ, zero, suc, List, length, get_or, take, drop, true, false, slice_set, inl, inr, refl, sym, ap, subst, ◌∙◌}
+use Rattle.std.proofs.Common.{◌≡◌, ◌<◌, length, get_or, sym, subst}
 use Rattle.vlog_tree.specs.Grounded.{Has}
-use Rattle.vlog_tree.specs.Loops.{Chain}
-use Rattle.vlog_graph.specs.Graphs.{Steps, IsReached}
-use Rattle.vlog_graph.specs.Marks.{IsMarked, Grows, unset}
 use Rattle.vlog_graph.proofs.Numbers.{at_has}
 use Rattle.vlog_graph.proofs.Marking.{grows_both, kept, taken_of}
 use Rattle.vlog_graph.proofs.reach.mark_all.Goals as goal
@@ -30,7 +27,7 @@ loop-number-preserved c =
     let more = c.in_ok-mark.ensures in
     record {
       grows = grows_both c.args.marks.now.items c.loop-number.marks.items c.mark.new.marks.items c.args.found.now.items c.loop-number.found.items c.mark.new.found.items
-        (λ m. Has numbers m) (λ m. m ≡ get_or numbers i 0) (λ m. Has numbers m) (λ m h. h) (λ m e. subst (λ n. Has numbers n) (sym e) at) c.loop-number.invariant.grows more.grows;
+          (λ m. Has numbers m) (λ m. m ≡ get_or numbers i 0) (λ m. Has numbers m) (λ m h. h) (λ m e. subst (λ n. Has numbers n) (sym e) at) c.loop-number.invariant.grows more.grows;
       there = λ m h.
           taken_of numbers i (λ n. Has c.mark.new.found.items n) low
           (λ n k. kept c.loop-number.marks.items c.mark.new.marks.items c.loop-number.found.items c.mark.new.found.items (λ m. m ≡ get_or numbers i 0) more.grows n (c.loop-number.invariant.there n k)) more.there m h;

@@ -1,8 +1,6 @@
-use Rattle.std.proofs.Common.{rules, arith, ◌≡◌, ◌<◌, ◌≤◌, ◌+◌, ◌-◌, ◌++◌, ◌∷◌, [], ℕ, zero, suc, List, length, get_or, take, drop, true, false, slice_set, inl, inr, refl, sym, ap, subst, ◌∙◌}
+use Rattle.std.proofs.Common.{◌<◌, ℕ, length, get_or, sym, subst}
 use Rattle.vlog_tree.specs.Grounded.{Has}
-use Rattle.vlog_tree.specs.Loops.{Chain}
-use Rattle.vlog_graph.specs.Graphs.{Steps, IsReached}
-use Rattle.vlog_graph.specs.Marks.{IsMarked, Grows, unset}
+use Rattle.vlog_graph.specs.Graphs.{Steps}
 use Rattle.vlog_graph.proofs.Numbers.{at_has}
 use Rattle.vlog_graph.proofs.Marking.{grows_both, kept, taken_of}
 use Rattle.vlog_graph.proofs.reach.mark_targets.Goals as goal
@@ -27,8 +25,8 @@ loop-source-preserved c =
     let more = c.in_ok-mark_all.ensures in
     record {
       grows = grows_both c.args.marks.now.items c.loop-source.marks.items c.mark_all.new.marks.items c.args.found.now.items c.loop-source.found.items c.mark_all.new.found.items
-        (λ m. (j : ℕ) × Has sources j × Steps g j m) (λ m. Has c.targets.result.now m) (λ m. (j : ℕ) × Has sources j × Steps g j m) (λ m h. h)
-        (λ m h. (get_or sources i 0, at, subst (λ l. Has l m) c.targets.ensures h)) c.loop-source.invariant.grows more.grows;
+          (λ m. (j : ℕ) × Has sources j × Steps g j m) (λ m. Has c.targets.result.now m) (λ m. (j : ℕ) × Has sources j × Steps g j m) (λ m h. h)
+          (λ m h. (get_or sources i 0, at, subst (λ l. Has l m) c.targets.ensures h)) c.loop-source.invariant.grows more.grows;
       there = λ j h.
           taken_of sources i (λ n. (m : ℕ) → Steps g n m → Has c.mark_all.new.found.items m) low
           (λ n k m s. kept c.loop-source.marks.items c.mark_all.new.marks.items c.loop-source.found.items c.mark_all.new.found.items (λ m. Has c.targets.result.now m) more.grows m (c.loop-source.invariant.there n k m s))
