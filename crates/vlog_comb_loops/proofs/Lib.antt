@@ -1,6 +1,7 @@
-pub mod Growing
-pub mod Resting
-pub mod Gathering
-pub mod Searching
 pub mod Asking
+pub mod Gathering
+pub mod Growing
 pub mod Numbered
+pub mod Resting
+pub mod Rooms
+pub mod Searching

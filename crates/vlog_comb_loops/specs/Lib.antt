@@ -1,5 +1,7 @@
 pub mod Names
 pub mod Summaries
 pub mod Growth
+pub mod Merges
+pub mod Rooms
 pub mod Search
 pub mod Questions

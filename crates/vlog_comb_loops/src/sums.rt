@@ -1,6 +1,6 @@
 // Of each module which of its outputs rest on which of its inputs.
 
-ghost use Rattle.std.specs.Prelude.{◌≡◌, ◌<◌, ◌↔◌, [], ℕ, List, true, map, length, slice_get, get_or, Some, IfOk, OnOk};
+ghost use Rattle.std.specs.Prelude.{◌≡◌, ◌<◌, ◌≤◌, ◌↔◌, [], ℕ, List, true, false, map, length, slice_get, get_or, Some, IfOk, OnOk};
 ghost use Rattle.std.specs.Option.{option_copied};
 ghost use Rattle.vlog_tree.specs.declared.table.NetKind.TheVariants.{Input, Output};
 ghost use Rattle.vlog_tree.specs.Form.{ModuleTree};
@@ -8,6 +8,9 @@ ghost use Rattle.vlog_tree.specs.Table.{net_kind_of, port_declared};
 ghost use Rattle.vlog_tree.specs.Loops.{Edges, Reaches};
 ghost use Rattle.vlog_comb_loops.specs.Names.{IsGraphOf, mark_of};
 ghost use Rattle.vlog_comb_loops.specs.Growth.{Gathers};
+ghost use Rattle.vlog_comb_loops.specs.Merges.{IsMerged};
+ghost use Rattle.vlog_comb_loops.specs.Rooms.{room};
+ghost use Rattle.vlog_tree.specs.Grounded.{Has};
 ghost use Rattle.vlog_comb_loops.specs.Summaries.{is_named, module_edges, IsPair, IsSumOf, IsSoundSum, IsClosedSum, AreSums, AreRight};
 
 use crate::edges::graph_of;
@@ -158,27 +161,59 @@ fn sum_of(
     Ok(sum)
 }
 
-fn is_same_pair(a: &(Text, Text), b: &(Text, Text)) -> bool
-    ensures { result ≡ true → a.now ≡ b.now }
+fn is_pair(a: &(Text, Text), b: &(Text, Text)) -> bool
+    ensures { (result ≡ true) ↔ (a.now ≡ b.now) }
 {
     a.0.bytes() == b.0.bytes() && a.1.bytes() == b.1.bytes()
 }
 
-fn is_same(a: &[(Text, Text)], b: &[(Text, Text)]) -> bool
-    ensures { result ≡ true → a.now ≡ b.now }
+fn is_among(pairs: &[(Text, Text)], pair: &(Text, Text)) -> bool
+    ensures { (result ≡ true) ↔ Has pairs.now pair.now }
 {
-    if a.len() != b.len() {
-        return false;
-    }
-    for at in 0..a.len() {
-        if !is_same_pair(&a[at], &b[at]) {
-            return false;
+    for p in pairs {
+        if is_pair(p, pair) {
+            return true;
         }
     }
-    true
+    false
 }
 
-// Makes the sum of a module once more, and says whether it stays as it is.
+// Whether pairs have a pair, which is looked for at a place first.
+fn has_pair(pairs: &[(Text, Text)], at: usize, pair: &(Text, Text)) -> bool
+    ensures { (result ≡ true) ↔ Has pairs.now pair.now }
+{
+    if at < pairs.len() {
+        if is_pair(&pairs[at], pair) {
+            return true;
+        }
+    }
+    is_among(pairs, pair)
+}
+
+// Puts those of other pairs that are missing behind the pairs that are there, and says whether any was missing.
+fn merge(pairs: &mut Vec<(Text, Text)>, mut others: Vec<(Text, Text)>) -> Result<bool, AllocError>
+    ensures { IfOk result (λ added. IsMerged pairs.old.items others.items pairs.new.items added) }
+{
+    let count = others.len();
+    let mut added = false;
+    while let Some(pair) = others.pop() {
+        let at = count.saturating_sub(others.len()).saturating_sub(1);
+        if !has_pair(pairs, at, &pair) {
+            pairs.push(pair)?;
+            added = true;
+        }
+    }
+    Ok(added)
+}
+
+fn merge_sum(sum: &mut Sum, other: Sum) -> Result<bool, AllocError>
+    ensures { IfOk result (λ added. IsMerged sum.old other sum.new added) }
+{
+    let added = merge(&mut sum.pairs, other.pairs)?;
+    Ok(added)
+}
+
+// Makes the sum of a module once more, and says whether it stays as it is. Where it does not, it has one more pair.
 fn renew(
     alloc: Global,
     library: &Library,
@@ -191,16 +226,14 @@ fn renew(
     ensures len { length sums.new.items ≡ length sums.old.items }
     ensures sound { OnOk result (AreSums (IsSoundSum library.now (is_named (option_copied root.entry))) library.now sums.old.items → AreSums (IsSoundSum library.now (is_named (option_copied root.entry))) library.now sums.new.items) }
     ensures same { IfOk result (λ b. b ≡ true → sums.new.items ≡ sums.old.items) }
+    ensures less { IfOk result (λ b. b ≡ false → room library.now sums.new.items < room library.now sums.old.items) }
     ensures closed { IfOk result (λ b. b ≡ true → (m : ModuleTree) → slice_get library.now at ≡ Some m
         → IsClosedSum library.now (is_named (option_copied root.entry)) sums.old.items m (get_or sums.old.items at [])) }
 {
     let m = &library.modules()[at];
     let sum = sum_of(alloc, library, root, sums, m)?;
-    if is_same(sums[at].pairs(), sum.pairs()) {
-        return Ok(true);
-    }
-    sums[at] = sum;
-    Ok(false)
+    let added = merge_sum(&mut sums[at], sum)?;
+    Ok(!added)
 }
 
 // Makes all sums once more, and says whether they stay as they are.
@@ -213,6 +246,8 @@ fn renew_all(
     requires { AreSums (IsSoundSum library.now (is_named (option_copied root))) library.now sums.old.items }
     ensures sound { OnOk result (AreSums (IsSoundSum library.now (is_named (option_copied root.entry))) library.now sums.new.items) }
     ensures closed { IfOk result (λ b. b ≡ true → AreSums (IsClosedSum library.now (is_named (option_copied root.entry)) sums.new.items) library.now sums.new.items) }
+    ensures less { IfOk result (λ b. b ≡ false → room library.now sums.new.items < room library.now sums.old.items) }
+    ensures more { OnOk result (room library.now sums.new.items ≤ room library.now sums.old.items) }
 {
     let mut steady = true;
     for at in 0..library.modules().len() {
@@ -228,7 +263,7 @@ fn empty_sums(alloc: Global, count: usize) -> Result<Vec<Sum>, AllocError>
     ensures empty { IfOk result (λ v. (at : ℕ) → get_or v.items at [] ≡ []) }
 {
     let mut sums = Vec::new(alloc);
-    for made in 0..count {
+    for _ in 0..count {
         sums.push(Sum::empty(alloc))?;
     }
     Ok(sums)
@@ -254,7 +289,8 @@ fn renew_in_order(
     Ok(())
 }
 
-/// The sums of all modules, by passes over them until none changes, the first of them in an order that is given.
+/// The sums of all modules, by passes over them until none changes, the first of them in an order that is given. Each pass but
+/// the last puts at least one pair of ports to a sum, so there are no more passes than such pairs.
 pub(crate) fn sums_of(
     alloc: Global,
     library: &Library,
@@ -265,12 +301,9 @@ pub(crate) fn sums_of(
 {
     let mut sums = empty_sums(alloc, library.modules().len())?;
     renew_in_order(alloc, library, root, &mut sums, order)?;
-    let mut passes = Vec::new(alloc);
-    for pass in 0..usize::MAX {
-        if renew_all(alloc, library, root, &mut sums)? {
-            return Ok(sums);
-        }
-        passes.push(pass)?;
+    let mut steady = false;
+    while !steady {
+        steady = renew_all(alloc, library, root, &mut sums)?;
     }
     Ok(sums)
 }

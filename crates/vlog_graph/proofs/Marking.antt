@@ -1,14 +1,13 @@
 -- What is marked and noted.
-use Rattle.std.proofs.Common.{◌≡◌, ℕ, zero, suc, ◌+◌, ◌<◌, ◌≤◌, Bool, true, false, List, [], ◌∷◌, ◌++◌, length, get_or, take, drop, inl, inr, refl, sym, ap, subst, ◌∙◌, append_assoc, arith}
-use Rattle.std.specs.Prelude.{◌⊎◌, ◌≢◌, ◌↔◌, slice_set}
-use Rattle.std.proofs.lemmas.Bool.{cases_eq, cases_lt}
+use Rattle.std.proofs.Common.{◌≡◌, ℕ, zero, suc, ◌+◌, ◌<◌, Bool, true, false, List, [], ◌∷◌, ◌++◌, length, get_or, take, drop, inl, inr, refl, sym, ap, subst, ◌∙◌, append_assoc, arith}
+use Rattle.std.specs.Prelude.{◌⊎◌, ◌≢◌, slice_set}
+use Rattle.std.proofs.lemmas.Bool.{cases_eq}
 use Rattle.std.proofs.lemmas.List.{get_or-set_same, get_or-set_other, get_or_append_left, append-nil, length_push, length-set, take_more, drop_more}
 use Rattle.vlog_tree.specs.Grounded.{Has}
 use Rattle.vlog_tree.specs.Loops.{Chain, one, more}
 use Rattle.vlog_graph.specs.Graphs.{Adjacency, Steps, IsReached}
 use Rattle.vlog_graph.specs.Marks.{IsMarked, unset, Grows}
 use Rattle.vlog_tree.proofs.Lists.{has_left, has_right, has_split}
-use Rattle.vlog_graph.proofs.Numbers.{has_at, at_has}
 use Rattle.vlog_graph.proofs.Reached.{snoc}
 
 pub unset_set : (marks : List Bool) (n : ℕ) → n < length marks → get_or marks n false ≡ false → suc (unset (slice_set marks n true)) ≡ unset marks

@@ -1,5 +1,5 @@
 -- What chains reach.
-use Rattle.std.proofs.Common.{◌≡◌, ℕ, ◌<◌, ◌≤◌, arith}
+use Rattle.std.proofs.Common.{ℕ, ◌<◌, ◌≤◌, arith}
 use Rattle.vlog_tree.specs.Loops.{Chain, one, more}
 
 pub snoc : {N : Type 0} (R : N → N → Type 0) (a b c : N) → Chain R a b → R b c → Chain R a c

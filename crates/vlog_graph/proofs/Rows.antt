@@ -1,9 +1,9 @@
 -- Rows of numbers as they grow.
-use Rattle.std.proofs.Common.{◌≡◌, ℕ, zero, suc, ◌+◌, ◌<◌, List, [], ◌∷◌, ◌++◌, length, get_or, take, inl, inr, refl, sym, ap, subst, ◌∙◌, arith}
+use Rattle.std.proofs.Common.{◌≡◌, ℕ, zero, suc, List, [], ◌∷◌, ◌++◌, length, get_or, inl, inr, refl, sym, ap, subst}
 use Rattle.std.specs.Prelude.{◌⊎◌, ◌≢◌, ◌↔◌, Vec}
 use Rattle.std.proofs.lemmas.Bool.{cases_eq}
 use Rattle.vlog_tree.specs.Grounded.{Has}
-use Rattle.vlog_graph.specs.Graphs.{Adjacency, rows_of, targets_of}
+use Rattle.vlog_graph.specs.Graphs.{rows_of, targets_of}
 use Rattle.vlog_tree.proofs.Lists.{has_left, has_right, has_split}
 
 pub rows_len : {A : Type 0} (rows : List (Vec ℕ A)) → length (rows_of rows) ≡ length rows

@@ -8,7 +8,7 @@ use Rattle.vlog_tree.specs.Loops.{Chain, one, more}
 use Rattle.vlog_graph.specs.Graphs.{Adjacency, Steps, ArePartsFirst, IsOrder}
 use Rattle.vlog_graph.specs.Visits.{IsOpen, IsDone, IsBehind, IsVisit, steps_left, IsFurther}
 use Rattle.vlog_tree.proofs.Lists.{has_left, has_right, has_split}
-use Rattle.vlog_graph.proofs.Numbers.{has_at, at_has}
+use Rattle.vlog_graph.proofs.Numbers.{has_at}
 use Rattle.vlog_graph.proofs.Reached.{snoc}
 
 -- an element of a list with one more element at its end

@@ -1,5 +1,5 @@
 -- What is answered of a graph.
-use Rattle.std.specs.Prelude.{◌≡◌, ℕ, ◌<◌, length, get_or, List, Option, Some, None}
+use Rattle.std.specs.Prelude.{◌≡◌, ℕ, ◌<◌, length, get_or, Option, Some, None}
 use Rattle.vlog_tree.specs.Loops.{Chain}
 use Rattle.vlog_graph.specs.declared.order.Order.{Order}
 use Rattle.vlog_graph.specs.declared.order.Order.TheVariants.{PartsFirst, Cycle}

@@ -1,4 +1,4 @@
-use Rattle.std.proofs.Common.{rules, arith, ◌≡◌, ◌<◌, ◌≤◌, ◌+◌, ◌∷◌, [], ℕ, List, length, get_or, take, true, false, inl, inr, refl, sym, ap, subst, ◌∙◌}
+use Rattle.std.proofs.Common.{rules, ◌<◌, get_or}
 use Rattle.vlog_graph.proofs.Marking.{taken_of}
 use Rattle.vlog_graph.proofs.cycles.are_below.Goals as goal
 

@@ -1,4 +1,4 @@
-use Rattle.std.proofs.Common.{rules, arith, ◌≡◌, ◌<◌, ◌≤◌, ◌+◌, ◌-◌, ◌++◌, ◌∷◌, [], ℕ, zero, suc, List, length, get_or, take, true, false, slice_set, inl, inr, refl, sym, ap, subst, ◌∙◌}
+use Rattle.std.proofs.Common.{arith, ◌≡◌, get_or, slice_set, sym, subst}
 use Rattle.vlog_graph.specs.Visits.{IsVisit}
 use Rattle.vlog_graph.proofs.Visits.{begun_visit, left_less, further_set}
 use Rattle.vlog_graph.proofs.order.begin.Goals as goal

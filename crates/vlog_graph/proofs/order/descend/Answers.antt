@@ -1,8 +1,8 @@
-use Rattle.std.proofs.Common.{rules, arith, ◌≡◌, ◌<◌, ◌≤◌, ◌+◌, ◌-◌, ◌++◌, ◌∷◌, [], ℕ, zero, suc, List, length, get_or, take, true, false, slice_set, inl, inr, refl, sym, ap, subst, ◌∙◌}
+use Rattle.std.proofs.Common.{arith, ◌≡◌, ◌<◌, ◌+◌, ◌-◌, [], ℕ, List, length, get_or, inr, refl, sym, ap, subst, ◌∙◌}
 use Rattle.std.proofs.lemmas.List.{get_or_push, length_push}
 use Rattle.vlog_tree.specs.Grounded.{Has}
 use Rattle.vlog_graph.specs.Graphs.{Steps}
-use Rattle.vlog_graph.specs.Visits.{IsBehind, IsOpen}
+use Rattle.vlog_graph.specs.Visits.{IsOpen}
 use Rattle.vlog_graph.proofs.Numbers.{at_has}
 use Rattle.vlog_graph.proofs.order.descend.Goals as goal
 

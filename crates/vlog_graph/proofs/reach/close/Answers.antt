@@ -1,8 +1,8 @@
-use Rattle.std.proofs.Common.{rules, arith, ◌≡◌, ◌<◌, ◌≤◌, ◌+◌, ◌-◌, ◌++◌, ◌∷◌, [], ℕ, zero, suc, List, length, get_or, take, drop, true, false, slice_set, inl, inr, refl, sym, ap, subst, ◌∙◌}
+use Rattle.std.proofs.Common.{rules, arith, ◌≡◌, ◌<◌, ◌≤◌, ◌+◌, [], ℕ, List, length, get_or, sym, ap, subst, ◌∙◌}
 use Rattle.vlog_tree.specs.Grounded.{Has}
 use Rattle.vlog_tree.specs.Loops.{Chain}
-use Rattle.vlog_graph.specs.Graphs.{Steps, IsReached}
-use Rattle.vlog_graph.specs.Marks.{IsMarked, Grows, unset}
+use Rattle.vlog_graph.specs.Graphs.{Steps}
+use Rattle.vlog_graph.specs.Marks.{unset}
 use Rattle.std.proofs.lemmas.List.{get_or_default}
 use Rattle.vlog_tree.proofs.Lists.{has_split}
 use Rattle.vlog_graph.proofs.Numbers.{at_has, has_at}

@@ -1,8 +1,6 @@
-use Rattle.std.proofs.Common.{rules, arith, ◌≡◌, ◌<◌, ◌≤◌, ◌+◌, ◌-◌, ◌++◌, ◌∷◌, [], ℕ, zero, suc, List, length, get_or, take, drop, true, false, slice_set, inl, inr, refl, sym, ap, subst, ◌∙◌}
+use Rattle.std.proofs.Common.{rules, ◌≡◌, ◌∷◌, [], get_or, true, false, slice_set, inl, refl, sym, subst}
 use Rattle.vlog_tree.specs.Grounded.{Has}
-use Rattle.vlog_tree.specs.Loops.{Chain}
-use Rattle.vlog_graph.specs.Graphs.{Steps, IsReached}
-use Rattle.vlog_graph.specs.Marks.{IsMarked, Grows, unset}
+use Rattle.vlog_graph.specs.Marks.{Grows}
 use Rattle.vlog_tree.proofs.Lists.{has_right}
 use Rattle.vlog_graph.proofs.Marking.{grows_one}
 use Rattle.vlog_graph.proofs.reach.mark.Goals as goal

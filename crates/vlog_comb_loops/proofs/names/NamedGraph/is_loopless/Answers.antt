@@ -1,4 +1,4 @@
-use Rattle.std.proofs.Common.{◌≡◌, ◌<◌, ℕ, length, List, true, false, Bool, Ok, refl, sym, subst}
+use Rattle.std.proofs.Common.{◌≡◌, ◌<◌, ℕ, length, List, true, false, refl, sym, subst}
 use Rattle.std.specs.Prelude.{◌↔◌, IfOk}
 use Rattle.vlog_tree.specs.Loops.{Chain, Reaches}
 use Rattle.vlog_rules.specs.NameTable.{value_in}

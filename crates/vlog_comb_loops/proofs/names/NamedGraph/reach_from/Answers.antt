@@ -1,12 +1,10 @@
-use Rattle.std.proofs.Common.{rules, arith, ◌≡◌, ◌<◌, ◌+◌, ◌++◌, ◌∷◌, [], ℕ, List, length, get_or, true, false, Bool, cond, Some, None, inl, inr, refl, sym, ap, subst, ◌∙◌}
+use Rattle.std.proofs.Common.{◌≡◌, ◌∷◌, [], ℕ, List, length, get_or, true, false, Bool, Some, sym, subst, ◌∙◌}
 use Rattle.std.specs.Prelude.{◌↔◌}
-use Rattle.vlog_tree.specs.Loops.{Chain, Reaches}
 use Rattle.vlog_rules.specs.NameTable.{value_in}
-use Rattle.vlog_graph.specs.Graphs.{Adjacency, Steps, IsReached, IsOrder}
+use Rattle.vlog_graph.specs.Graphs.{Adjacency, Steps, IsReached}
 use Rattle.vlog_graph.proofs.Marking.{from_one, of_one}
-use Rattle.vlog_graph.proofs.Visits.{no_cycle}
-use Rattle.vlog_comb_loops.specs.Names.{IsGraphOf, mark_of}
-use Rattle.vlog_comb_loops.proofs.Numbered.{reached_by_number, reached_by_none, none_marked, returns_both, some_loop, returned}
+use Rattle.vlog_comb_loops.specs.Names.{mark_of}
+use Rattle.vlog_comb_loops.proofs.Numbered.{reached_by_number, reached_by_none, none_marked}
 use Rattle.vlog_comb_loops.proofs.names.NamedGraph.reach_from.Goals as goal
 
 pub returns-in_ok-marks-in-Some : goal.returns-in_ok-marks-in-Some

@@ -1,6 +1,5 @@
-use Rattle.std.proofs.Common.{rules, arith, ◌≡◌, ◌<◌, ◌≤◌, ◌+◌, ◌-◌, ◌++◌, ◌∷◌, [], ℕ, zero, suc, List, length, get_or, take, true, false, slice_set, inl, inr, refl, sym, ap, subst, ◌∙◌}
+use Rattle.std.proofs.Common.{◌<◌, sym, subst, ◌∙◌}
 use Rattle.vlog_tree.specs.Grounded.{Has}
-use Rattle.vlog_graph.specs.Graphs.{targets_of}
 use Rattle.vlog_graph.proofs.Rows.{rows_len, row_at}
 use Rattle.vlog_graph.proofs.graph.Graph.of.Goals as goal
 

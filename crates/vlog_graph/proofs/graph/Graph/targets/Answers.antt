@@ -1,4 +1,4 @@
-use Rattle.std.proofs.Common.{rules, arith, ◌≡◌, ◌<◌, ◌≤◌, ◌+◌, ◌-◌, ◌++◌, ◌∷◌, [], ℕ, zero, suc, List, length, get_or, take, true, false, slice_set, inl, inr, refl, sym, ap, subst, ◌∙◌}
+use Rattle.std.proofs.Common.{rules, ◌≡◌, [], ℕ, List, get_or, sym, ap, ◌∙◌}
 use Rattle.vlog_graph.specs.Graphs.{targets_of}
 use Rattle.vlog_graph.proofs.Rows.{row_at}
 use Rattle.vlog_graph.proofs.graph.Graph.targets.Goals as goal
