@@ -32,30 +32,30 @@ abbrev IsRead : Bytes → Bytes → Type 0
 IsRead before z = IsWhole before z ⊎ IsStopped before z
 
 -- with one more piece in front
-with_piece : (before z : Bytes) (entity : Option LexKind) (n : ℕ) → Found before z entity n → IsRead (before ++ take n z) (drop n z) → IsRead before z
-with_piece before z entity n f (inl h) =
-    let p : Piece = record { entity = entity; bytes = take n z } in
+with_piece : (before z : Bytes) (sort : Option LexKind) (n : ℕ) → Found before z sort n → IsRead (before ++ take n z) (drop n z) → IsRead before z
+with_piece before z sort n f (inl h) =
+    let p : Piece = record { sort = sort; bytes = take n z } in
     inl (record {
       pieces = p ∷ h.pieces;
       is = ap (λ (l : Bytes). take n z ++ l) h.is ∙ take-append-drop n z;
-      standing = (subst (λ (l : Bytes). Stands before entity (take n z) l) (sym h.is) f.stands, h.standing);
+      standing = (subst (λ (l : Bytes). Stands before sort (take n z) l) (sym h.is) f.stands, h.standing);
     })
-with_piece before z entity n f (inr h) =
-    let p : Piece = record { entity = entity; bytes = take n z } in
+with_piece before z sort n f (inr h) =
+    let p : Piece = record { sort = sort; bytes = take n z } in
     inr (record {
       pieces = p ∷ h.pieces;
       behind = h.behind;
       is = ap (λ (l : Bytes). take n z ++ l) h.is ∙ take-append-drop n z;
-      standing = (subst (λ (l : Bytes). Stands before entity (take n z) l) (sym h.is) f.stands, h.standing);
+      standing = (subst (λ (l : Bytes). Stands before sort (take n z) l) (sym h.is) f.stands, h.standing);
       more = h.more;
       nothing = subst (λ (b : Bytes). NothingStands b h.behind) (append_assoc before (take n z) (text_of h.pieces [])) h.nothing;
     })
 
 -- a piece is cut and the rest is read, or no piece stands
-by_cut : (before z : Bytes) → 0 < length z → ((entity : Option LexKind) (n : ℕ) → Found before z entity n → IsRead (before ++ take n z) (drop n z)) → (o : Cut) → cut (opens_line before) z ≡ o → IsRead before z
-by_cut before z some rest (Ok (entity, n)) e =
-    let f = found before z entity n e some in
-    with_piece before z entity n f (rest entity n f)
+by_cut : (before z : Bytes) → 0 < length z → ((sort : Option LexKind) (n : ℕ) → Found before z sort n → IsRead (before ++ take n z) (drop n z)) → (o : Cut) → cut (opens_line before) z ≡ o → IsRead before z
+by_cut before z some rest (Ok (sort, n)) e =
+    let f = found before z sort n e some in
+    with_piece before z sort n f (rest sort n f)
 by_cut before z some rest (Err code) e = inr (record {
   pieces = [];
   behind = z;
@@ -72,7 +72,7 @@ read zero before (b ∷ y) few = absurd (omega arith)
 read (suc n) before [] few = inl (record { pieces = []; is = refl; standing = tt })
 read (suc n) before (b ∷ y) few =
     by_cut before (b ∷ y) (omega arith)
-    (λ entity k f. read n (before ++ take k (b ∷ y)) (drop k (b ∷ y)) (omega (arith, few, length-drop k (b ∷ y), f.some)))
+    (λ sort k f. read n (before ++ take k (b ∷ y)) (drop k (b ∷ y)) (omega (arith, few, length-drop k (b ∷ y), f.some)))
     (cut (opens_line before) (b ∷ y)) refl
 
 pub lexemes_or_refusal : (text : Bytes) → ((lexemes : List Lexeme) × HasLexemes text lexemes) ⊎ ((code : LexCode) × (place : Place) × IsRefused text code place)
