@@ -132,9 +132,9 @@ module _ (name : Name) (width depth places pb cb : ℕ) (run : ℕ → Cycle) (f
     count_goes n =
         let moves = driven_is m run f 24 (codes "moves") (two (codes "put") Xor (codes "pop")) refl n in
         let more : at n (codes "more") ≡ (at n (codes "count") + 1) % 2 ^ cb =
-            driven_is m run f 26 (codes "more") (with_number (codes "count") Plus cb 1) refl n ∙ ap (λ w. (at n (codes "count") + 1) % 2 ^ w) (wire_width m run f 25 cb (codes "more") refl) in
+        driven_is m run f 26 (codes "more") (with_number (codes "count") Plus cb 1) refl n ∙ ap (λ w. (at n (codes "count") + 1) % 2 ^ w) (wire_width m run f 25 cb (codes "more") refl) in
         let fewer : at n (codes "fewer") ≡ (at n (codes "count") + 2 ^ cb - 1) % 2 ^ cb =
-            driven_is m run f 28 (codes "fewer") (with_number (codes "count") Minus cb 1) refl n ∙ ap (λ w. (at n (codes "count") + 2 ^ w - 1) % 2 ^ w) (wire_width m run f 27 cb (codes "fewer") refl) in
+        driven_is m run f 28 (codes "fewer") (with_number (codes "count") Minus cb 1) refl n ∙ ap (λ w. (at n (codes "count") + 2 ^ w - 1) % 2 ^ w) (wire_width m run f 27 cb (codes "fewer") refl) in
         let next = driven_is m run f 30 (codes "count_next") (Choose (Net (codes "put")) (Net (codes "more")) (Net (codes "fewer"))) refl n in
         reset_set_is m run f cb (codes "count") (Literal cb 0) (codes "moves") (Net (codes "count_next")) (inr (inr (inl refl))) (own 33 0 0 (codes "count") (reset_or_set (codes "count") (Literal cb 0) (codes "moves") (Net (codes "count_next"))) refl refl refl) n
         ∙ in_reset (eqb (at n rst) 1) _ _ (λ off.

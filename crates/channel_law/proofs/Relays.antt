@@ -60,9 +60,9 @@ module _ (all : List ModuleTree) (root : ModuleTree) (nets : ℕ → Path → Cy
       → IsRow (relay_ports (λ n. nets n path)) (relay_ports (λ n. nets n (codes "part_0" ∷ path))) (relay_ports (λ n. nets n (codes "part_1" ∷ path)))
   row_joined path name bits first second at =
       let near : (j : ℕ) (port net : Name) → slice_get first_part j ≡ Some (record { port = port; net = net }) → (n : ℕ) → (nets n (codes "part_0" ∷ path)).net port ≡ (nets n path).net net =
-          (λ j port net c n. joined path (built name (row_elements bits first second)) at 3 j first (codes "part_0") first_part refl port net c n) in
+      (λ j port net c n. joined path (built name (row_elements bits first second)) at 3 j first (codes "part_0") first_part refl port net c n) in
       let far : (j : ℕ) (port net : Name) → slice_get second_part j ≡ Some (record { port = port; net = net }) → (n : ℕ) → (nets n (codes "part_1" ∷ path)).net port ≡ (nets n path).net net =
-          (λ j port net c n. joined path (built name (row_elements bits first second)) at 4 j second (codes "part_1") second_part refl port net c n) in
+      (λ j port net c n. joined path (built name (row_elements bits first second)) at 4 j second (codes "part_1") second_part refl port net c n) in
       record {
         put_first = near 2 (codes "put") (codes "put") refl;
         put_second = λ n. far 2 (codes "put") (codes "put_1") refl n ∙ sym (near 5 (codes "put_late") (codes "put_1") refl n);
@@ -115,16 +115,16 @@ module _ (all : List ModuleTree) (root : ModuleTree) (nets : ℕ → Path → Cy
         let resets = row_reset path (relay_name bits k) bits (relay_name bits (steps_first k)) (relay_name bits (k - steps_first k)) here in
         let row = row_joined path (relay_name bits k) bits (relay_name bits (steps_first k)) (relay_name bits (k - steps_first k)) here in
         let far : Relays (k - steps_first k) (codes "part_1" ∷ path) =
-            is_relay (k - steps_first k) rest r (λ m h. found m (inr h)) (codes "part_1" ∷ path) (inside path (row_tree bits k) here (codes "part_1") (relay_name bits (k - steps_first k)) refl) (λ n. (resets n).1 ∙ same n) in
+        is_relay (k - steps_first k) rest r (λ m h. found m (inr h)) (codes "part_1" ∷ path) (inside path (row_tree bits k) here (codes "part_1") (relay_name bits (k - steps_first k)) refl) (λ n. (resets n).1 ∙ same n) in
         let at_near : module_at all root (codes "part_0" ∷ path) ≡ module_named all (relay_name bits (steps_first k)) = inside path (row_tree bits k) here (codes "part_0") (relay_name bits (steps_first k)) refl in
         let near : Relays (steps_first k) (codes "part_0" ∷ path) =
-            elim (first_cases k l).0 [
-              | inl e ↦
-                  subst (λ s. Relays s (codes "part_0" ∷ path)) (sym e)
-                  (is_relay (k - steps_first k) rest r (λ m h. found m (inr h)) (codes "part_0" ∷ path) (at_near ∙ ap (λ s. module_named all (relay_name bits s)) e) (λ n. (resets n).0 ∙ same n))
-              | inr e ↦
-                  one_step (codes "part_0" ∷ path) (at_near ∙ ap (λ s. module_named all (relay_name bits s)) e ∙ found (step_tree bits) (inr (has_one (k - steps_first k) rest r))) (λ n. (resets n).0 ∙ same n) (steps_first k) e
-            ] in
+        elim (first_cases k l).0 [
+          | inl e ↦
+              subst (λ s. Relays s (codes "part_0" ∷ path)) (sym e)
+              (is_relay (k - steps_first k) rest r (λ m h. found m (inr h)) (codes "part_0" ∷ path) (at_near ∙ ap (λ s. module_named all (relay_name bits s)) e) (λ n. (resets n).0 ∙ same n))
+          | inr e ↦
+              one_step (codes "part_0" ∷ path) (at_near ∙ ap (λ s. module_named all (relay_name bits s)) e ∙ found (step_tree bits) (inr (has_one (k - steps_first k) rest r))) (λ n. (resets n).0 ∙ same n) (steps_first k) e
+        ] in
         let answers = row.rdy_last 0 in
         let low = near.1 in
         (TwoParts k _ (steps_first k) (k - steps_first k) _ _ (sym (first_cases k l).1) row near.0 far.0, omega (arith, answers, low))

@@ -80,26 +80,26 @@ module _ (all : List ModuleTree) (root : ModuleTree) (nets : ℕ → Path → Cy
   is_plain found at few =
       let f = runs.each path (plain_tree width depth) at in
       let fifo_at : module_at all root (codes "fifo" ∷ path) ≡ Some (fifo_tree width depth depth) =
-          inside all root nets runs path (plain_tree width depth) at (codes "fifo") (fifo_name width depth depth) refl ∙ found (fifo_tree width depth depth) (inr (inl refl)) in
+      inside all root nets runs path (plain_tree width depth) at (codes "fifo") (fifo_name width depth depth) refl ∙ found (fifo_tree width depth depth) (inr (inl refl)) in
       let fifo_run = runs.each (codes "fifo" ∷ path) (fifo_tree width depth depth) fifo_at in
       let ends : (j : ℕ) (port net : Name) → slice_get (fifo_ends (codes "put") (codes "din") (codes "ready")) j ≡ Some (record { port = port; net = net }) → (n : ℕ) → in_fifo n port ≡ here n net =
-          (λ j port net c n. joined all root nets runs path (plain_tree width depth) at 4 j (fifo_name width depth depth) (codes "fifo") (fifo_ends (codes "put") (codes "din") (codes "ready")) refl port net c n) in
+      (λ j port net c n. joined all root nets runs path (plain_tree width depth) at 4 j (fifo_name width depth depth) (codes "fifo") (fifo_ends (codes "put") (codes "din") (codes "ready")) refl port net c n) in
       let fifo_reset : Resets (λ n. in_fifo n rst) = same_resets (λ n. in_fifo n rst) (λ n. here n rst) (ends 1 (codes "rst") (codes "rst") refl) reset in
       let ready : (n : ℕ) → here n (codes "rdy") ≡ in_fifo n (codes "rdy") =
-          (λ n. driven_is (plain_tree width depth) (λ n. nets n path) f 1 (codes "rdy") (of_net (codes "ready")) refl n ∙ sym (ends 5 (codes "rdy") (codes "ready") refl n)) in
+      (λ n. driven_is (plain_tree width depth) (λ n. nets n path) f 1 (codes "rdy") (of_net (codes "ready")) refl n ∙ sym (ends 5 (codes "rdy") (codes "ready") refl n)) in
       let ready_small : (n : ℕ) → here n (codes "ready") < 2 =
-          (λ n.
-          let e = ends 5 (codes "rdy") (codes "ready") refl n in
-          let r = rdy_is (fifo_name width depth depth) width depth depth (bits_for (depth - 1)) (bits_for depth) (λ n. nets n (codes "fifo" ∷ path)) fifo_run fifo_reset n in
-          let s = small_bit (ltb (in_fifo n (codes "count")) depth) in
-          omega (arith, e, r, s)) in
+      (λ n.
+      let e = ends 5 (codes "rdy") (codes "ready") refl n in
+      let r = rdy_is (fifo_name width depth depth) width depth depth (bits_for (depth - 1)) (bits_for depth) (λ n. nets n (codes "fifo" ∷ path)) fifo_run fifo_reset n in
+      let s = small_bit (ltb (in_fifo n (codes "count")) depth) in
+      omega (arith, e, r, s)) in
       let put : (n : ℕ) → here n (codes "put") ≡ bit_and (here n (codes "wr")) (here n (codes "ready")) = (λ n. driven_is (plain_tree width depth) (λ n. nets n path) f 3 (codes "put") (two (codes "wr") And (codes "ready")) refl n) in
       let put_small : (n : ℕ) → 0 < n → in_fifo n (codes "put") < 2 =
-          (λ n l.
-          let e = ends 2 (codes "put") (codes "put") refl n in
-          let p = put n in
-          let s = both_small (here n (codes "wr")) (here n (codes "ready")) (wr_small n) (ready_small n) in
-          omega (arith, e, p, s)) in
+      (λ n l.
+      let e = ends 2 (codes "put") (codes "put") refl n in
+      let p = put n in
+      let s = both_small (here n (codes "wr")) (here n (codes "ready")) (wr_small n) (ready_small n) in
+      omega (arith, e, p, s)) in
       let takes : (n : ℕ) → 0 < n → in_fifo n (codes "take") < 2 = (λ n l. let e = ends 4 (codes "take") (codes "take") refl n in let t = take_small n in omega (arith, e, t)) in
       let fifo = is_fifo (fifo_name width depth depth) width depth depth (bits_for (depth - 1)) (bits_for depth) (λ n. nets n (codes "fifo" ∷ path)) fifo_run fifo_reset takes put_small in
       plain (record { places = depth; place_bits = bits_for (depth - 1); count_bits = bits_for depth; depth = depth }) (fit depth depth some (omega arith) few) (λ n. in_fifo n rst) fifo_reset
@@ -122,42 +122,42 @@ module _ (all : List ModuleTree) (root : ModuleTree) (nets : ℕ → Path → Cy
   is_relayed late relays are found at few =
       let f = runs.each path (relayed_tree width depth late) at in
       let fifo_at : module_at all root (codes "fifo" ∷ path) ≡ Some (fifo_tree width depth (depth + 2 * late)) =
-          inside all root nets runs path (relayed_tree width depth late) at (codes "fifo") (fifo_name width depth (depth + 2 * late)) refl ∙ found (fifo_tree width depth (depth + 2 * late)) (inr (inl refl)) in
+      inside all root nets runs path (relayed_tree width depth late) at (codes "fifo") (fifo_name width depth (depth + 2 * late)) refl ∙ found (fifo_tree width depth (depth + 2 * late)) (inr (inl refl)) in
       let fifo_run = runs.each (codes "fifo" ∷ path) (fifo_tree width depth (depth + 2 * late)) fifo_at in
       let ends : (j : ℕ) (port net : Name) → slice_get (fifo_ends (codes "put_late") (codes "din_late") (codes "rdy_early")) j ≡ Some (record { port = port; net = net }) → (n : ℕ) → in_fifo n port ≡ here n net =
-          (λ j port net c n. joined all root nets runs path (relayed_tree width depth late) at 8 j (fifo_name width depth (depth + 2 * late)) (codes "fifo") (fifo_ends (codes "put_late") (codes "din_late") (codes "rdy_early")) refl port net c n) in
+      (λ j port net c n. joined all root nets runs path (relayed_tree width depth late) at 8 j (fifo_name width depth (depth + 2 * late)) (codes "fifo") (fifo_ends (codes "put_late") (codes "din_late") (codes "rdy_early")) refl port net c n) in
       let sides : (j : ℕ) (port net : Name)
-          → slice_get (relay_ends (codes "put") (codes "din") (codes "rdy_early") (codes "put_late") (codes "din_late") (codes "ready")) j ≡ Some (record { port = port; net = net }) → (n : ℕ) → in_relay n port ≡ here n net =
-          (λ j port net c n.
-          joined all root nets runs path (relayed_tree width depth late) at 7 j (relay_name width late) (codes "relay") (relay_ends (codes "put") (codes "din") (codes "rdy_early") (codes "put_late") (codes "din_late") (codes "ready")) refl port net c n) in
+      → slice_get (relay_ends (codes "put") (codes "din") (codes "rdy_early") (codes "put_late") (codes "din_late") (codes "ready")) j ≡ Some (record { port = port; net = net }) → (n : ℕ) → in_relay n port ≡ here n net =
+      (λ j port net c n.
+      joined all root nets runs path (relayed_tree width depth late) at 7 j (relay_name width late) (codes "relay") (relay_ends (codes "put") (codes "din") (codes "rdy_early") (codes "put_late") (codes "din_late") (codes "ready")) refl port net c n) in
       let fifo_reset : Resets (λ n. in_fifo n rst) = same_resets (λ n. in_fifo n rst) (λ n. here n rst) (ends 1 (codes "rst") (codes "rst") refl) reset in
       let relay =
-          is_relay all root nets runs width (λ n. in_fifo n rst) late relays are (λ m h. found m (inr (inr h))) (codes "relay" ∷ path)
-          (inside all root nets runs path (relayed_tree width depth late) at (codes "relay") (relay_name width late) refl) (λ n. sides 1 (codes "rst") (codes "rst") refl n ∙ sym (ends 1 (codes "rst") (codes "rst") refl n)) in
+      is_relay all root nets runs width (λ n. in_fifo n rst) late relays are (λ m h. found m (inr (inr h))) (codes "relay" ∷ path)
+      (inside all root nets runs path (relayed_tree width depth late) at (codes "relay") (relay_name width late) refl) (λ n. sides 1 (codes "rst") (codes "rst") refl n ∙ sym (ends 1 (codes "rst") (codes "rst") refl n)) in
       let d = delays (λ n. in_fifo n rst) fifo_reset late (relay_ports (λ n. nets n (codes "relay" ∷ path))) relay.0 in
       let early_small : (n : ℕ) → in_relay n (codes "rdy_early") < 2 =
-          (λ n.
-          let r = rdy_is (fifo_name width depth (depth + 2 * late)) width depth (depth + 2 * late) (bits_for (depth + 2 * late - 1)) (bits_for (depth + 2 * late)) (λ n. nets n (codes "fifo" ∷ path)) fifo_run fifo_reset n in
-          let s = small_bit (ltb (in_fifo n (codes "count")) depth) in
-          let a = sides 4 (codes "rdy_early") (codes "rdy_early") refl n in
-          let b = ends 5 (codes "rdy") (codes "rdy_early") refl n in
-          omega (arith, a, b, r, s)) in
+      (λ n.
+      let r = rdy_is (fifo_name width depth (depth + 2 * late)) width depth (depth + 2 * late) (bits_for (depth + 2 * late - 1)) (bits_for (depth + 2 * late)) (λ n. nets n (codes "fifo" ∷ path)) fifo_run fifo_reset n in
+      let s = small_bit (ltb (in_fifo n (codes "count")) depth) in
+      let a = sides 4 (codes "rdy_early") (codes "rdy_early") refl n in
+      let b = ends 5 (codes "rdy") (codes "rdy_early") refl n in
+      omega (arith, a, b, r, s)) in
       let ready_later : (n : ℕ) → 0 < n → in_relay n (codes "rdy") < 2 =
-          (λ n l. late_small late n (in_relay n (codes "rdy")) (in_relay (n - late) (codes "rdy_early")) (d.rdy n l) (early_small (n - late))) in
+      (λ n l. late_small late n (in_relay n (codes "rdy")) (in_relay (n - late) (codes "rdy_early")) (d.rdy n l) (early_small (n - late))) in
       let ready_small : (n : ℕ) → here n (codes "ready") < 2 = (λ n. let e = sides 7 (codes "rdy") (codes "ready") refl n in let k = at_each (λ n. in_relay n (codes "rdy")) relay.1 ready_later n in omega (arith, e, k)) in
       let put : (n : ℕ) → here n (codes "put") ≡ bit_and (here n (codes "wr")) (here n (codes "ready")) = (λ n. driven_is (relayed_tree width depth late) (λ n. nets n path) f 3 (codes "put") (two (codes "wr") And (codes "ready")) refl n) in
       let into_relay : (n : ℕ) → in_relay n (codes "put") < 2 =
-          (λ n.
-          let e = sides 2 (codes "put") (codes "put") refl n in
-          let p = put n in
-          let s = both_small (here n (codes "wr")) (here n (codes "ready")) (wr_small n) (ready_small n) in
-          omega (arith, e, p, s)) in
+      (λ n.
+      let e = sides 2 (codes "put") (codes "put") refl n in
+      let p = put n in
+      let s = both_small (here n (codes "wr")) (here n (codes "ready")) (wr_small n) (ready_small n) in
+      omega (arith, e, p, s)) in
       let put_small : (n : ℕ) → 0 < n → in_fifo n (codes "put") < 2 =
-          (λ n l.
-          let k = late_small late n (in_relay n (codes "put_late")) (in_relay (n - late) (codes "put")) (d.put_late n l) (into_relay (n - late)) in
-          let a = ends 2 (codes "put") (codes "put_late") refl n in
-          let b = sides 5 (codes "put_late") (codes "put_late") refl n in
-          omega (arith, a, b, k)) in
+      (λ n l.
+      let k = late_small late n (in_relay n (codes "put_late")) (in_relay (n - late) (codes "put")) (d.put_late n l) (into_relay (n - late)) in
+      let a = ends 2 (codes "put") (codes "put_late") refl n in
+      let b = sides 5 (codes "put_late") (codes "put_late") refl n in
+      omega (arith, a, b, k)) in
       let takes : (n : ℕ) → 0 < n → in_fifo n (codes "take") < 2 = (λ n l. let e = ends 4 (codes "take") (codes "take") refl n in let t = take_small n in omega (arith, e, t)) in
       let fifo = is_fifo (fifo_name width depth (depth + 2 * late)) width depth (depth + 2 * late) (bits_for (depth + 2 * late - 1)) (bits_for (depth + 2 * late)) (λ n. nets n (codes "fifo" ∷ path)) fifo_run fifo_reset takes put_small in
       channel depth late (λ n. in_fifo n rst) fifo_reset (channel_ports (λ n. nets n path)) (relay_ports (λ n. nets n (codes "relay" ∷ path))) (fifo_ports (λ n. nets n (codes "fifo" ∷ path)))
