@@ -1,5 +1,5 @@
-//! The builder of generated modules. Tasks, FIFOs, relays and tops grow by one element after another; what the rules ask
-//! of such a module, and what its lines do in a run, is proved here once.
+//! The builder of generated modules. Tasks, FIFOs, relays and tops grow by one element after another; what the usual
+//! blocks of such a module make of its registers and memories in a run is proved here once.
 #![tactic(auto)]
 
 mod draft;
