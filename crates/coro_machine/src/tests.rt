@@ -46,16 +46,10 @@ mod tests {
         Coro::new(alloc, Arc::new(alloc, machine)?, &[7], memories)
     }
 
-    // A value that may move to another thread.
-    fn sent<T: Send>(value: T) -> T {
-        value
-    }
-
     #[test]
     fn holds_its_first_cells(rt: HostRuntime) {
         match coroutine(rt.alloc()) {
             Ok(coro) => {
-                let coro = sent(coro);
                 assert!(rt; *coro.memory(0) == *[10, 20].as_slice());
                 assert_eq!(rt; coro.memory(1).len(), 0);
                 assert_eq!(rt; coro.ticks(), 0);
