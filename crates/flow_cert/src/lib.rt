@@ -1,0 +1,56 @@
+//! Checks that a balance of a graph's streams takes the fewest registers, by a dual flow of equal value (AutoBridge; the
+//! duality of linear programs of differences).
+#![tactic(auto)]
+
+mod parts;
+pub mod verdict;
+
+ghost use Rattle.std.specs.Prelude.{◌≡◌, ◌<◌, ◌+◌, ℕ, slice_index};
+ghost use Rattle.flow_cert.specs.Flow.{WeakDuality};
+ghost use Rattle.flow_cert.specs.Walks.{LeastOfConsistent};
+ghost use Rattle.flow_cert.specs.Verdicts.{IsVerdict, Proves, AreLists};
+
+use crate::verdict::Verdict;
+use task_graph::Graph;
+
+/// Whether one number per group and a flow show each other best: the first verdict that holds. `lat` has the latency of each
+/// stream in cycles, `s` the number of each group, and `flow` a flow along the streams.
+pub fn check(graph: &Graph, lat: &[u32], s: &[u32], flow: &[u64]) -> Verdict
+    requires { AreLists graph.now lat.now s.now flow.now }
+    ensures first { IsVerdict graph.now lat.now s.now flow.now result }
+    ensures yes { Proves graph.now lat.now s.now flow.now result }
+{
+    let streams = graph.streams();
+    for e in 0..streams {
+        if !parts::stream_fits(graph, lat, s, flow, e) {
+            return Verdict::BadStream(e as u32);
+        }
+    }
+    for v in 0..graph.groups {
+        if !parts::task_keeps(graph, flow, v as usize) {
+            return Verdict::BadTask(v);
+        }
+    }
+    let primal = parts::registers(graph, lat, s);
+    let by_flow = parts::flow_weight(graph, lat, flow);
+    let by_width = parts::width_weight(graph, lat);
+    if by_width + primal == by_flow {
+        Verdict::Yes
+    } else {
+        Verdict::BadValue {
+            primal,
+            dual: by_flow as i64 - by_width as i64,
+        }
+    }
+}
+
+/// No dual flow's value is above the cost of an even balance, so equal values show that both are best.
+pub fn law_weak_duality()
+    ensures { WeakDuality }
+{}
+
+/// Where some task reaches every other task, no balance that gives equal added latency to any two
+/// walks between the same tasks costs less than a least even one.
+pub fn law_least_of_consistent()
+    ensures { LeastOfConsistent }
+{}

@@ -1,0 +1,7 @@
+pub mod Element
+pub mod Capped
+pub mod Walks
+pub mod Numbering
+pub mod Sizes
+pub mod Ranks
+pub mod Made
