@@ -4,10 +4,6 @@
 #[cfg(test)]
 mod cycles;
 #[cfg(test)]
-mod large;
-#[cfg(test)]
-mod simulated;
-#[cfg(test)]
 mod tests;
 #[cfg(test)]
 mod trees;
