@@ -14,11 +14,12 @@ use Rattle.vlog_tree.specs.Form.{ModuleTree}
 use Rattle.vlog_tree.specs.Table.{Name, clk}
 use Rattle.vlog_tree.specs.Labels.{rst}
 
--- An output and a wire come with their drivers, and a link is a wire that an instance drives. A register and a memory are
--- assigned in a block of their own.
+-- An output and a wire come with their drivers; an outlet is an output and a link a wire that an instance drives. A register
+-- and a memory are assigned in a block of their own.
 pub data Element : Type 0 where
   Input : ℕ → Name → Element
   Output : ℕ → Name → Value → Element
+  Outlet : ℕ → Name → Element
   Wire : ℕ → Name → Value → Element
   Link : ℕ → Name → Element
   Register : ℕ → Name → Element
@@ -29,6 +30,7 @@ pub data Element : Type 0 where
 abbrev pub element_ports : Element → List PortDecl
 element_ports (Input w x) = record { direction = Inward; width = w; name = x } ∷ []
 element_ports (Output w x v) = record { direction = Outward; width = w; name = x } ∷ []
+element_ports (Outlet w x) = record { direction = Outward; width = w; name = x } ∷ []
 element_ports (Wire w x v) = []
 element_ports (Link w x) = []
 element_ports (Register w x) = []
@@ -39,6 +41,7 @@ element_ports (Instance k i connections) = []
 abbrev pub element_items : Element → List Item
 element_items (Input w x) = []
 element_items (Output w x v) = AssignLine x v ∷ []
+element_items (Outlet w x) = []
 element_items (Wire w x v) = WireLine w x ∷ AssignLine x v ∷ []
 element_items (Link w x) = WireLine w x ∷ []
 element_items (Register w x) = RegisterLine w x ∷ []

@@ -1,10 +1,11 @@
 // A module under construction.
 
-ghost use Rattle.std.specs.Prelude.{◌≡◌, IfOk};
+ghost use Rattle.std.specs.Prelude.{◌≡◌, ◌++◌, ◌∷◌, [], IfOk};
+ghost use Rattle.std.specs.Str.{IsAscii};
 ghost use Rattle.vlog_tree.specs.Form.{IsModule};
-ghost use Rattle.hw_build.specs.Elements.{with, empty, Input as InputElement, Output as OutputElement, Wire as WireElement, Link as LinkElement, Register as RegisterElement, Memory as MemoryElement, Block as BlockElement, Instance as InstanceElement};
+ghost use Rattle.hw_build.specs.Elements.{with, empty, Input as InputElement, Output as OutputElement, Outlet as OutletElement, Wire as WireElement, Link as LinkElement, Register as RegisterElement, Memory as MemoryElement, Block as BlockElement, Instance as InstanceElement};
 
-use crate::texts::text;
+use crate::texts::{clock_name, reset_name, text};
 use std::alloc::{AllocError, Global};
 use std::marker::Model;
 use tapa_base::Text;
@@ -32,7 +33,7 @@ fn add_port(
     width: u32,
     name: Text,
 ) -> Result<(), AllocError>
-    ensures { IfOk result (λ u. ports.new.items ≡ Rattle.std.specs.Prelude.◌++◌ ports.old.items (Rattle.std.specs.Prelude.◌∷◌ (record { direction = direction; width = width; name = name }) Rattle.std.specs.Prelude.[])) }
+    ensures { IfOk result (λ u. ports.new.items ≡ ports.old.items ++ record { direction = direction; width = width; name = name } ∷ []) }
 {
     ports.push(PortDecl {
         direction,
@@ -48,8 +49,8 @@ impl Draft {
         ensures { IfOk result (λ d. d ≡ empty name) }
     {
         let mut ports = Vec::new(alloc);
-        add_port(&mut ports, Direction::Input, 1, text(alloc, b"clk")?)?;
-        add_port(&mut ports, Direction::Input, 1, text(alloc, b"rst")?)?;
+        add_port(&mut ports, Direction::Input, 1, clock_name(alloc)?)?;
+        add_port(&mut ports, Direction::Input, 1, reset_name(alloc)?)?;
         Ok(Draft {
             name,
             ports,
@@ -57,10 +58,11 @@ impl Draft {
         })
     }
 
-    pub fn input(&mut self, width: u32, name: Text) -> Result<(), AllocError>
-        ensures { IfOk result (λ u. self.new ≡ with self.old (InputElement width name)) }
+    pub fn input(&mut self, alloc: Global, width: u32, name: &[u8]) -> Result<(), AllocError>
+        requires { IsAscii name.now }
+        ensures { IfOk result (λ u. self.new ≡ with self.old (InputElement width name.now)) }
     {
-        add_port(&mut self.ports, Direction::Input, width, name)
+        add_port(&mut self.ports, Direction::Input, width, text(alloc, name)?)
     }
 
     /// A port and its driver.
@@ -68,16 +70,23 @@ impl Draft {
         &mut self,
         alloc: Global,
         width: u32,
-        name: Text,
+        name: &[u8],
         value: Value,
     ) -> Result<(), AllocError>
-        ensures { IfOk result (λ u. self.new ≡ with self.old (OutputElement width name value)) }
+        requires { IsAscii name.now }
+        ensures { IfOk result (λ u. self.new ≡ with self.old (OutputElement width name.now value)) }
     {
-        self.items.push(Item::Assign {
-            net: name.copy(alloc)?,
-            value,
-        })?;
-        add_port(&mut self.ports, Direction::Output, width, name)
+        let net = text(alloc, name)?;
+        self.items.push(Item::Assign { net, value })?;
+        add_port(&mut self.ports, Direction::Output, width, text(alloc, name)?)
+    }
+
+    /// A port that an output of an instance drives.
+    pub fn outlet(&mut self, alloc: Global, width: u32, name: &[u8]) -> Result<(), AllocError>
+        requires { IsAscii name.now }
+        ensures { IfOk result (λ u. self.new ≡ with self.old (OutletElement width name.now)) }
+    {
+        add_port(&mut self.ports, Direction::Output, width, text(alloc, name)?)
     }
 
     /// A wire and its driver.
@@ -85,38 +94,52 @@ impl Draft {
         &mut self,
         alloc: Global,
         width: u32,
-        name: Text,
+        name: &[u8],
         value: Value,
     ) -> Result<(), AllocError>
-        ensures { IfOk result (λ u. self.new ≡ with self.old (WireElement width name value)) }
+        requires { IsAscii name.now }
+        ensures { IfOk result (λ u. self.new ≡ with self.old (WireElement width name.now value)) }
     {
+        let net = text(alloc, name)?;
         self.items.push(Item::Wire {
             width,
-            name: name.copy(alloc)?,
+            name: text(alloc, name)?,
         })?;
-        self.items.push(Item::Assign { net: name, value })?;
+        self.items.push(Item::Assign { net, value })?;
         Ok(())
     }
 
     /// A wire that an output of an instance drives.
-    pub fn link(&mut self, width: u32, name: Text) -> Result<(), AllocError>
-        ensures { IfOk result (λ u. self.new ≡ with self.old (LinkElement width name)) }
+    pub fn link(&mut self, alloc: Global, width: u32, name: &[u8]) -> Result<(), AllocError>
+        requires { IsAscii name.now }
+        ensures { IfOk result (λ u. self.new ≡ with self.old (LinkElement width name.now)) }
     {
+        let name = text(alloc, name)?;
         self.items.push(Item::Wire { width, name })?;
         Ok(())
     }
 
-    pub fn register(&mut self, width: u32, name: Text) -> Result<(), AllocError>
-        ensures { IfOk result (λ u. self.new ≡ with self.old (RegisterElement width name)) }
+    pub fn register(&mut self, alloc: Global, width: u32, name: &[u8]) -> Result<(), AllocError>
+        requires { IsAscii name.now }
+        ensures { IfOk result (λ u. self.new ≡ with self.old (RegisterElement width name.now)) }
     {
+        let name = text(alloc, name)?;
         self.items.push(Item::Reg { width, name })?;
         Ok(())
     }
 
     /// A memory of so many cells of a width.
-    pub fn memory(&mut self, width: u32, name: Text, cells: u32) -> Result<(), AllocError>
-        ensures { IfOk result (λ u. self.new ≡ with self.old (MemoryElement width name cells)) }
+    pub fn memory(
+        &mut self,
+        alloc: Global,
+        width: u32,
+        name: &[u8],
+        cells: u32,
+    ) -> Result<(), AllocError>
+        requires { IsAscii name.now }
+        ensures { IfOk result (λ u. self.new ≡ with self.old (MemoryElement width name.now cells)) }
     {
+        let name = text(alloc, name)?;
         self.items.push(Item::Memory { width, name, cells })?;
         Ok(())
     }
@@ -129,16 +152,17 @@ impl Draft {
         Ok(())
     }
 
+    /// An instance of another module.
     pub fn instance(
         &mut self,
-        module: Text,
+        child: Text,
         name: Text,
         connections: Connections,
     ) -> Result<(), AllocError>
-        ensures { IfOk result (λ u. self.new ≡ with self.old (InstanceElement module name connections)) }
+        ensures { IfOk result (λ u. self.new ≡ with self.old (InstanceElement child name connections)) }
     {
         self.items.push(Item::Instance {
-            module,
+            module: child,
             name,
             connections,
         })?;

@@ -8,4 +8,4 @@ mod texts;
 
 pub use draft::Draft;
 pub use steps::{copy_steps, reset_set_steps, reset_steps, store_steps};
-pub use texts::{net, net_value, number, text};
+pub use texts::{clock_name, net, net_value, number, reset_name, text};

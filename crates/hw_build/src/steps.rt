@@ -1,42 +1,49 @@
 // The blocks of registers and memories.
 
 ghost use Rattle.std.specs.Prelude.{◌≡◌, IfOk};
+ghost use Rattle.std.specs.Str.{IsAscii};
 ghost use Rattle.hw_build.specs.Elements.{copied, reset_or, reset_or_set, stored};
+ghost use Rattle.vlog_tree.specs.declared.tree.Step.TheVariants.{NonblockingAssign};
 
-use crate::texts::text;
+use crate::texts::{reset_name, text};
 use std::alloc::{AllocError, Global};
-use tapa_base::Text;
 use vlog_tree::{Atom, Step};
 
+fn assign(alloc: Global, register: &[u8], value: Atom) -> Result<Step, AllocError>
+    requires { IsAscii register.now }
+    ensures { IfOk result (λ step. step ≡ NonblockingAssign register.now value) }
+{
+    Ok(Step::NonblockingAssign {
+        register: text(alloc, register)?,
+        value,
+    })
+}
+
 /// The register takes a value in each cycle.
-pub fn copy_steps(alloc: Global, register: Text, value: Atom) -> Result<Vec<Step>, AllocError>
-    ensures { IfOk result (λ steps. steps.items ≡ copied register value) }
+pub fn copy_steps(alloc: Global, register: &[u8], value: Atom) -> Result<Vec<Step>, AllocError>
+    requires { IsAscii register.now }
+    ensures { IfOk result (λ steps. steps.items ≡ copied register.now value) }
 {
     let mut steps = Vec::new(alloc);
-    steps.push(Step::NonblockingAssign { register, value })?;
+    steps.push(assign(alloc, register, value)?)?;
     Ok(steps)
 }
 
 /// The register takes its first value in a cycle of reset, and else the next one.
 pub fn reset_steps(
     alloc: Global,
-    register: Text,
+    register: &[u8],
     first: Atom,
     next: Atom,
 ) -> Result<Vec<Step>, AllocError>
-    ensures { IfOk result (λ steps. steps.items ≡ reset_or register first next) }
+    requires { IsAscii register.now }
+    ensures { IfOk result (λ steps. steps.items ≡ reset_or register.now first next) }
 {
     let mut steps = Vec::new(alloc);
-    steps.push(Step::If(text(alloc, b"rst")?))?;
-    steps.push(Step::NonblockingAssign {
-        register: register.copy(alloc)?,
-        value: first,
-    })?;
+    steps.push(Step::If(reset_name(alloc)?))?;
+    steps.push(assign(alloc, register, first)?)?;
     steps.push(Step::Else)?;
-    steps.push(Step::NonblockingAssign {
-        register,
-        value: next,
-    })?;
+    steps.push(assign(alloc, register, next)?)?;
     steps.push(Step::End)?;
     Ok(steps)
 }
@@ -44,46 +51,45 @@ pub fn reset_steps(
 /// The register takes its first value in a cycle of reset, and else the next one where `set` is 1.
 pub fn reset_set_steps(
     alloc: Global,
-    register: Text,
+    register: &[u8],
     first: Atom,
-    set: Text,
+    set: &[u8],
     next: Atom,
 ) -> Result<Vec<Step>, AllocError>
-    ensures { IfOk result (λ steps. steps.items ≡ reset_or_set register first set next) }
+    requires register { IsAscii register.now }
+    requires set { IsAscii set.now }
+    ensures { IfOk result (λ steps. steps.items ≡ reset_or_set register.now first set.now next) }
 {
     let mut steps = Vec::new(alloc);
-    steps.push(Step::If(text(alloc, b"rst")?))?;
-    steps.push(Step::NonblockingAssign {
-        register: register.copy(alloc)?,
-        value: first,
-    })?;
+    steps.push(Step::If(reset_name(alloc)?))?;
+    steps.push(assign(alloc, register, first)?)?;
     steps.push(Step::Else)?;
-    steps.push(Step::If(set))?;
-    steps.push(Step::NonblockingAssign {
-        register,
-        value: next,
-    })?;
+    steps.push(Step::If(text(alloc, set)?))?;
+    steps.push(assign(alloc, register, next)?)?;
     steps.push(Step::End)?;
     steps.push(Step::End)?;
     Ok(steps)
 }
 
-/// The memory takes data at an index where `write` is 1.
+/// The memory takes a value at an index where `write` is 1.
 pub fn store_steps(
     alloc: Global,
-    memory: Text,
-    write: Text,
-    index: Text,
-    data: Atom,
+    memory: &[u8],
+    write: &[u8],
+    index: &[u8],
+    value: Atom,
 ) -> Result<Vec<Step>, AllocError>
-    ensures { IfOk result (λ steps. steps.items ≡ stored memory write index data) }
+    requires memory { IsAscii memory.now }
+    requires write { IsAscii write.now }
+    requires index { IsAscii index.now }
+    ensures { IfOk result (λ steps. steps.items ≡ stored memory.now write.now index.now value) }
 {
     let mut steps = Vec::new(alloc);
-    steps.push(Step::If(write))?;
+    steps.push(Step::If(text(alloc, write)?))?;
     steps.push(Step::MemoryAssign {
-        memory,
-        index,
-        value: data,
+        memory: text(alloc, memory)?,
+        index: text(alloc, index)?,
+        value,
     })?;
     steps.push(Step::End)?;
     Ok(steps)

@@ -4,6 +4,8 @@ ghost use Rattle.std.specs.Prelude.{◌≡◌, IfOk};
 ghost use Rattle.std.specs.Str.{IsAscii};
 ghost use Rattle.vlog_tree.specs.declared.tree.Atom.TheVariants.{Net as NetTree, Literal as LiteralTree};
 ghost use Rattle.vlog_tree.specs.declared.tree.Value.TheVariants.{Plain as PlainTree};
+ghost use Rattle.vlog_tree.specs.Table.{clk};
+ghost use Rattle.vlog_tree.specs.Labels.{rst};
 
 use std::alloc::{AllocError, Global};
 use tapa_base::Text;
@@ -15,6 +17,22 @@ pub fn text(alloc: Global, bytes: &[u8]) -> Result<Text, AllocError>
     ensures { IfOk result (λ t. t ≡ bytes.now) }
 {
     Ok(Text::new(bytes.to_vec(alloc)?))
+}
+
+/// The name of the clock's port.
+#[tactic(auto, unfolding(vlog_tree::specs::Table::clk))]
+pub fn clock_name(alloc: Global) -> Result<Text, AllocError>
+    ensures { IfOk result (λ t. t ≡ clk) }
+{
+    text(alloc, b"clk")
+}
+
+/// The name of the port for reset.
+#[tactic(auto, unfolding(vlog_tree::specs::Labels::rst))]
+pub fn reset_name(alloc: Global) -> Result<Text, AllocError>
+    ensures { IfOk result (λ t. t ≡ rst) }
+{
+    text(alloc, b"rst")
 }
 
 /// The net of this name.
