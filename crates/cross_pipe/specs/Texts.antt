@@ -1,5 +1,5 @@
 -- The modules of a channel by their elements.
-use Rattle.std.specs.Prelude.{ℕ, ◌+◌, ◌-◌, ◌/◌, ◌%◌, ◌*◌, List, [], ◌∷◌, codes, ◌==◌, if◌then◌else◌}
+use Rattle.std.specs.Prelude.{◌≡◌, ℕ, ◌+◌, ◌-◌, ◌/◌, ◌%◌, ◌*◌, ◌<◌, List, [], ◌∷◌, codes, ◌==◌, if◌then◌else◌}
 use Rattle.std.specs.Int.Count.{count_leading_zeros}
 use Rattle.vlog_tree.specs.declared.tree.Atom.{Atom}
 use Rattle.vlog_tree.specs.declared.tree.Atom.TheVariants.{Net, Literal}
@@ -40,15 +40,17 @@ step_elements bits =
     ∷ Output 1 (codes "put_late") (of_net (codes "full")) ∷ Output bits (codes "din_late") (of_net (codes "token")) ∷ Output 1 (codes "rdy") (of_net (codes "room"))
     ∷ Block (reset_or (codes "full") (Literal 1 0) (Net (codes "put"))) ∷ Block (copied (codes "token") (Net (codes "din"))) ∷ Block (reset_or (codes "room") (Literal 1 0) (Net (codes "rdy_early"))) ∷ []
 
+-- the nets of an instance of a relay
+abbrev pub relay_ends : (put din rdy_early put_late din_late rdy : Name) → List Connection
+relay_ends put din rdy_early put_late din_late rdy =
+    clocks (joined_to (codes "put") put ∷ joined_to (codes "din") din ∷ joined_to (codes "rdy_early") rdy_early
+    ∷ joined_to (codes "put_late") put_late ∷ joined_to (codes "din_late") din_late ∷ joined_to (codes "rdy") rdy ∷ [])
+
 abbrev pub first_part : List Connection
-first_part =
-    clocks (joined_to (codes "put") (codes "put") ∷ joined_to (codes "din") (codes "din") ∷ joined_to (codes "rdy_early") (codes "rdy_1")
-    ∷ joined_to (codes "put_late") (codes "put_1") ∷ joined_to (codes "din_late") (codes "din_1") ∷ joined_to (codes "rdy") (codes "rdy") ∷ [])
+first_part = relay_ends (codes "put") (codes "din") (codes "rdy_1") (codes "put_1") (codes "din_1") (codes "rdy")
 
 abbrev pub second_part : List Connection
-second_part =
-    clocks (joined_to (codes "put") (codes "put_1") ∷ joined_to (codes "din") (codes "din_1") ∷ joined_to (codes "rdy_early") (codes "rdy_early")
-    ∷ joined_to (codes "put_late") (codes "put_late") ∷ joined_to (codes "din_late") (codes "din_late") ∷ joined_to (codes "rdy") (codes "rdy_1") ∷ [])
+second_part = relay_ends (codes "put_1") (codes "din_1") (codes "rdy_early") (codes "put_late") (codes "din_late") (codes "rdy_1")
 
 -- two relays in a row
 abbrev pub row_elements : (bits : ℕ) (first second : Name) → List Element
@@ -62,19 +64,22 @@ row_elements bits first second =
 abbrev pub steps_first : ℕ → ℕ
 steps_first steps = if steps % 2 == 0 then steps / 2 else 1
 
-abbrev pub relay_elements : ℕ → ℕ → List Element
-relay_elements bits steps =
-    if steps == 1 then step_elements bits
-    else row_elements bits (relay_name bits (steps_first steps)) (relay_name bits (steps - steps_first steps))
+abbrev pub step_tree : ℕ → ModuleTree
+step_tree bits = built (relay_name bits 1) (step_elements bits)
 
-abbrev pub relay_tree : ℕ → ℕ → ModuleTree
-relay_tree bits steps = built (relay_name bits steps) (relay_elements bits steps)
+abbrev pub row_tree : ℕ → ℕ → ModuleTree
+row_tree bits steps = built (relay_name bits steps) (row_elements bits (relay_name bits (steps_first steps)) (relay_name bits (steps - steps_first steps)))
 
 -- the wires for the place after another: `_up`, `_last` and `_next`
 abbrev pub next_wires : (place_bits places : ℕ) (place up last next : Name) → List Element → List Element
 next_wires place_bits places place up last next rest =
     Wire place_bits up (with_number place Plus place_bits 1) ∷ Wire 1 last (with_number place Equals place_bits (places - 1))
     ∷ Wire place_bits next (Choose (Net last) (Literal place_bits 0) (Net up)) ∷ rest
+
+abbrev pub pointer_wires : (place_bits places : ℕ) → List Element → List Element
+pointer_wires place_bits places rest =
+    next_wires place_bits places (codes "head") (codes "head_up") (codes "head_last") (codes "head_next")
+    (next_wires place_bits places (codes "tail") (codes "tail_up") (codes "tail_last") (codes "tail_next") rest)
 
 abbrev pub fifo_blocks : (place_bits count_bits : ℕ) → List Element
 fifo_blocks place_bits count_bits =
@@ -97,41 +102,46 @@ fifo_elements bits depth places place_bits count_bits =
     ∷ Output 1 (codes "rdy") (with_number (codes "count") Less count_bits depth) ∷ Wire 1 (codes "some") (with_number (codes "count") Differs count_bits 0)
     ∷ Output 1 (codes "has") (of_net (codes "some")) ∷ Output bits (codes "dout") (Cell (codes "tokens") (codes "head"))
     ∷ Wire 1 (codes "pop") (two (codes "take") And (codes "some"))
-    ∷ next_wires place_bits places (codes "head") (codes "head_up") (codes "head_last") (codes "head_next")
-    (next_wires place_bits places (codes "tail") (codes "tail_up") (codes "tail_last") (codes "tail_next") (count_wires count_bits (fifo_blocks place_bits count_bits)))
+    ∷ pointer_wires place_bits places (count_wires count_bits (fifo_blocks place_bits count_bits))
 
 abbrev pub fifo_tree : (bits depth places : ℕ) → ModuleTree
 fifo_tree bits depth places = built (fifo_name bits depth places) (fifo_elements bits depth places (bits_for (places - 1)) (bits_for places))
 
-abbrev pub fifo_connections : (put din rdy : Name) → List Connection
-fifo_connections put din rdy =
+-- the nets of an instance of a FIFO
+abbrev pub fifo_ends : (put din rdy : Name) → List Connection
+fifo_ends put din rdy =
     clocks (joined_to (codes "put") put ∷ joined_to (codes "din") din ∷ joined_to (codes "take") (codes "take")
     ∷ joined_to (codes "rdy") rdy ∷ joined_to (codes "has") (codes "has") ∷ joined_to (codes "dout") (codes "dout") ∷ [])
 
-abbrev pub relay_connections : List Connection
-relay_connections =
-    clocks (joined_to (codes "put") (codes "put") ∷ joined_to (codes "din") (codes "din") ∷ joined_to (codes "rdy_early") (codes "rdy_early")
-    ∷ joined_to (codes "put_late") (codes "put_late") ∷ joined_to (codes "din_late") (codes "din_late") ∷ joined_to (codes "rdy") (codes "ready") ∷ [])
+-- a token is put in where it is written and the channel is ready
+abbrev pub channel_ports : ℕ → List Element → List Element
+channel_ports bits rest =
+    Input bits (codes "din") ∷ Input 1 (codes "wr") ∷ Input 1 (codes "take")
+    ∷ Link 1 (codes "ready") ∷ Output 1 (codes "rdy") (of_net (codes "ready")) ∷ Outlet 1 (codes "has") ∷ Outlet bits (codes "dout")
+    ∷ Wire 1 (codes "put") (two (codes "wr") And (codes "ready")) ∷ rest
 
-abbrev pub plain_inside : (fifo : Name) → List Element
-plain_inside fifo = Instance fifo (codes "fifo") (fifo_connections (codes "put") (codes "din") (codes "ready")) ∷ []
+-- without added latency a FIFO alone
+abbrev pub plain_tree : (bits depth : ℕ) → ModuleTree
+plain_tree bits depth =
+    built (channel_name bits depth 0) (channel_ports bits (Instance (fifo_name bits depth depth) (codes "fifo") (fifo_ends (codes "put") (codes "din") (codes "ready")) ∷ []))
 
 abbrev pub relayed_inside : (bits : ℕ) (relay fifo : Name) → List Element
 relayed_inside bits relay fifo =
     Link 1 (codes "put_late") ∷ Link bits (codes "din_late") ∷ Link 1 (codes "rdy_early")
-    ∷ Instance relay (codes "relay") relay_connections ∷ Instance fifo (codes "fifo") (fifo_connections (codes "put_late") (codes "din_late") (codes "rdy_early")) ∷ []
+    ∷ Instance relay (codes "relay") (relay_ends (codes "put") (codes "din") (codes "rdy_early") (codes "put_late") (codes "din_late") (codes "ready"))
+    ∷ Instance fifo (codes "fifo") (fifo_ends (codes "put_late") (codes "din_late") (codes "rdy_early")) ∷ []
 
--- a FIFO, and with added latency a relay before it; a token is put in where it is written and the channel is ready
-abbrev pub channel_elements : (bits depth late : ℕ) → List Element
-channel_elements bits depth late =
-    Input bits (codes "din") ∷ Input 1 (codes "wr") ∷ Input 1 (codes "take")
-    ∷ Link 1 (codes "ready") ∷ Output 1 (codes "rdy") (of_net (codes "ready")) ∷ Outlet 1 (codes "has") ∷ Outlet bits (codes "dout")
-    ∷ Wire 1 (codes "put") (two (codes "wr") And (codes "ready"))
-    ∷ (if late == 0 then plain_inside (fifo_name bits depth depth) else relayed_inside bits (relay_name bits late) (fifo_name bits depth (depth + 2 * late)))
+-- with added latency a relay before it
+abbrev pub relayed_tree : (bits depth late : ℕ) → ModuleTree
+relayed_tree bits depth late =
+    built (channel_name bits depth late) (channel_ports bits (relayed_inside bits (relay_name bits late) (fifo_name bits depth (depth + 2 * late))))
 
-abbrev pub channel_tree : (bits depth late : ℕ) → ModuleTree
-channel_tree bits depth late = built (channel_name bits depth late) (channel_elements bits depth late)
-
--- the relays of so many steps, and with each those that it is made of
+-- a relay of so many steps, and below it those that it is made of
 pub data AreRelays (bits : ℕ) : ℕ → List ModuleTree → Type 0 where
-  one : (steps : ℕ) → Rattle.std.specs.Prelude.◌≡◌ steps 1 → AreRelays bits steps (relay_tree bits 1 ∷ [])
+  One : (steps : ℕ) → steps ≡ 1 → AreRelays bits steps (step_tree bits ∷ [])
+  More : (steps : ℕ) (rest : List ModuleTree) → 1 < steps → AreRelays bits (steps - steps_first steps) rest → AreRelays bits steps (row_tree bits steps ∷ rest)
+
+-- the modules of a channel, its outermost module first
+pub data AreModules (bits depth : ℕ) : ℕ → List ModuleTree → Type 0 where
+  Alone : (late : ℕ) → late ≡ 0 → AreModules bits depth late (plain_tree bits depth ∷ fifo_tree bits depth depth ∷ [])
+  Relayed : (late : ℕ) (relays : List ModuleTree) → 0 < late → AreRelays bits late relays → AreModules bits depth late (relayed_tree bits depth late ∷ fifo_tree bits depth (depth + 2 * late) ∷ relays)

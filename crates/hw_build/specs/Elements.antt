@@ -1,6 +1,5 @@
 -- The elements of a module that is made, and the module that they are.
 use Rattle.std.specs.Prelude.{ℕ, List, [], ◌∷◌, ◌++◌}
-use Rattle.std.specs.List.{flat_map}
 use Rattle.vlog_tree.specs.declared.tree.Atom.{Atom}
 use Rattle.vlog_tree.specs.declared.tree.Value.{Value}
 use Rattle.vlog_tree.specs.declared.tree.Step.{Step}
@@ -59,9 +58,14 @@ empty name = record {
 abbrev pub with : ModuleTree → Element → ModuleTree
 with m e = record { name = m.name; ports = m.ports ++ element_ports e; items = m.items ++ element_items e }
 
+-- one element after another
+abbrev pub with_all : ModuleTree → List Element → ModuleTree
+with_all m [] = m
+with_all m (e ∷ elements) = with_all (with m e) elements
+
 -- the module of these elements
 abbrev pub built : Name → List Element → ModuleTree
-built name elements = record { name = name; ports = (empty name).ports ++ flat_map element_ports elements; items = flat_map element_items elements }
+built name elements = with_all (empty name) elements
 
 -- a register that takes a value in each cycle
 abbrev pub copied : Name → Atom → List Step

@@ -3,9 +3,11 @@
 #![tactic(auto)]
 
 mod draft;
+mod laws;
 mod steps;
 mod texts;
 
 pub use draft::Draft;
+pub use laws::law_blocks;
 pub use steps::{copy_steps, reset_set_steps, reset_steps, store_steps};
 pub use texts::{clock_name, net, net_value, number, reset_name, text};

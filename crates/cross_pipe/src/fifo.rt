@@ -1,0 +1,213 @@
+// A FIFO: a ring of places, read at its head.
+
+ghost use Rattle.std.specs.Prelude.{◌≡◌, ◌<◌, ◌≤◌, ◌-◌, ◌∷◌, [], IfOk, codes};
+ghost use Rattle.std.specs.Str.{IsAscii};
+ghost use Rattle.vlog_tree.specs.declared.tree.Atom.TheVariants.{Net, Literal};
+ghost use Rattle.vlog_tree.specs.declared.tree.Value.TheVariants.{Choose, Cell};
+ghost use Rattle.vlog_tree.specs.declared.tree.BinaryOp.TheVariants.{Plus, Minus, And, Xor, Equals, Differs, Less};
+ghost use Rattle.hw_build.specs.Elements.{with_all, Input, Output, Wire, Register, Memory, Block, reset_or_set, stored};
+ghost use Rattle.cross_pipe.specs.Texts.{bits_for as bits_for_lem, of_net, two as two_lem, with_number as with_number_lem, fifo_tree, next_wires as next_wires_lem, pointer_wires, count_wires as count_wires_lem, fifo_blocks};
+
+use crate::names::fifo_name;
+use hw_build::{Draft, net, net_value, number, reset_set_steps, store_steps, text};
+use std::alloc::{AllocError, Global};
+use vlog_tree::{BinaryOp, Module, Value};
+
+#[tactic(auto, unfolding(crate::specs::Texts::bits_for))]
+pub(crate) fn bits_for(n: u32) -> u32
+    ensures { result ≡ bits_for_lem n }
+{
+    if n == 0 { 1 } else { 32 - n.leading_zeros() }
+}
+
+pub(crate) fn two(alloc: Global, x: &[u8], op: BinaryOp, y: &[u8]) -> Result<Value, AllocError>
+    requires left { IsAscii x.now }
+    requires right { IsAscii y.now }
+    ensures { IfOk result (λ v. v ≡ two_lem x.now op y.now) }
+{
+    Ok(Value::Binary {
+        left: net(alloc, x)?,
+        op,
+        right: net(alloc, y)?,
+    })
+}
+
+fn with_number(
+    alloc: Global,
+    x: &[u8],
+    op: BinaryOp,
+    width: u32,
+    value: u32,
+) -> Result<Value, AllocError>
+    requires { IsAscii x.now }
+    ensures { IfOk result (λ v. v ≡ with_number_lem x.now op width value) }
+{
+    Ok(Value::Binary {
+        left: net(alloc, x)?,
+        op,
+        right: number(width, value),
+    })
+}
+
+// The wires for the place after another, by their names.
+fn next_wires(
+    alloc: Global,
+    draft: &mut Draft,
+    width: u32,
+    places: u32,
+    place: &[u8],
+    up: &[u8],
+    last: &[u8],
+    next: &[u8],
+) -> Result<(), AllocError>
+    requires places { 0 < places }
+    requires place { IsAscii place.now }
+    requires up { IsAscii up.now }
+    requires last { IsAscii last.now }
+    requires next { IsAscii next.now }
+    ensures { IfOk result (λ u. draft.new ≡ with_all draft.old (next_wires_lem width places place.now up.now last.now next.now [])) }
+{
+    let sum = with_number(alloc, place, BinaryOp::Plus, width, 1)?;
+    let test = with_number(alloc, place, BinaryOp::Equals, width, places - 1)?;
+    let choice = Value::Choose {
+        condition: net(alloc, last)?,
+        yes: number(width, 0),
+        no: net(alloc, up)?,
+    };
+    draft.wire(alloc, width, up, sum)?;
+    draft.wire(alloc, 1, last, test)?;
+    draft.wire(alloc, width, next, choice)
+}
+
+fn inputs(alloc: Global, draft: &mut Draft, bits: u32) -> Result<(), AllocError>
+    ensures { IfOk result (λ u. draft.new ≡ with_all draft.old (Input 1 (codes "put") ∷ Input bits (codes "din") ∷ Input 1 (codes "take") ∷ [])) }
+{
+    draft.input(alloc, 1, b"put")?;
+    draft.input(alloc, bits, b"din")?;
+    draft.input(alloc, 1, b"take")
+}
+
+// The numbers of bits of a place and of a count of places.
+#[derive(Clone, Copy)]
+struct Widths {
+    place: u32,
+    count: u32,
+}
+
+fn registers(
+    alloc: Global,
+    draft: &mut Draft,
+    bits: u32,
+    places: u32,
+    widths: Widths,
+) -> Result<(), AllocError>
+    ensures { IfOk result (λ u. draft.new ≡ with_all draft.old (Register widths.place (codes "head") ∷ Register widths.place (codes "tail") ∷ Register widths.count (codes "count") ∷ Memory bits (codes "tokens") places ∷ [])) }
+{
+    draft.register(alloc, widths.place, b"head")?;
+    draft.register(alloc, widths.place, b"tail")?;
+    draft.register(alloc, widths.count, b"count")?;
+    draft.memory(alloc, bits, b"tokens", places)
+}
+
+fn outputs(
+    alloc: Global,
+    draft: &mut Draft,
+    bits: u32,
+    depth: u32,
+    width: u32,
+) -> Result<(), AllocError>
+    ensures { IfOk result (λ u. draft.new ≡ with_all draft.old (Output 1 (codes "rdy") (with_number_lem (codes "count") Less width depth) ∷ Wire 1 (codes "some") (with_number_lem (codes "count") Differs width 0) ∷ Output 1 (codes "has") (of_net (codes "some")) ∷ Output bits (codes "dout") (Cell (codes "tokens") (codes "head")) ∷ Wire 1 (codes "pop") (two_lem (codes "take") And (codes "some")) ∷ [])) }
+{
+    let ready = with_number(alloc, b"count", BinaryOp::Less, width, depth)?;
+    let some = with_number(alloc, b"count", BinaryOp::Differs, width, 0)?;
+    let cell = Value::Cell {
+        memory: text(alloc, b"tokens")?,
+        index: text(alloc, b"head")?,
+    };
+    draft.output(alloc, 1, b"rdy", ready)?;
+    draft.wire(alloc, 1, b"some", some)?;
+    draft.output(alloc, 1, b"has", net_value(alloc, b"some")?)?;
+    draft.output(alloc, bits, b"dout", cell)?;
+    draft.wire(alloc, 1, b"pop", two(alloc, b"take", BinaryOp::And, b"some")?)
+}
+
+fn count_wires(alloc: Global, draft: &mut Draft, width: u32) -> Result<(), AllocError>
+    ensures { IfOk result (λ u. draft.new ≡ with_all draft.old (count_wires_lem width [])) }
+{
+    let more = with_number(alloc, b"count", BinaryOp::Plus, width, 1)?;
+    let fewer = with_number(alloc, b"count", BinaryOp::Minus, width, 1)?;
+    let next = Value::Choose {
+        condition: net(alloc, b"put")?,
+        yes: net(alloc, b"more")?,
+        no: net(alloc, b"fewer")?,
+    };
+    draft.wire(alloc, 1, b"moves", two(alloc, b"put", BinaryOp::Xor, b"pop")?)?;
+    draft.wire(alloc, width, b"more", more)?;
+    draft.wire(alloc, width, b"fewer", fewer)?;
+    draft.wire(alloc, width, b"count_next", next)
+}
+
+// A register that begins with 0 and takes `next` where `set` is 1.
+fn counter(
+    alloc: Global,
+    draft: &mut Draft,
+    width: u32,
+    register: &[u8],
+    set: &[u8],
+    next: &[u8],
+) -> Result<(), AllocError>
+    requires register { IsAscii register.now }
+    requires set { IsAscii set.now }
+    requires next { IsAscii next.now }
+    ensures { IfOk result (λ u. draft.new ≡ with_all draft.old (Block (reset_or_set register.now (Literal width 0) set.now (Net next.now)) ∷ [])) }
+{
+    let next = net(alloc, next)?;
+    draft.block(reset_set_steps(alloc, register, number(width, 0), set, next)?)
+}
+
+fn blocks(alloc: Global, draft: &mut Draft, widths: Widths) -> Result<(), AllocError>
+    ensures { IfOk result (λ u. draft.new ≡ with_all draft.old (fifo_blocks widths.place widths.count)) }
+{
+    counter(alloc, draft, widths.place, b"head", b"pop", b"head_next")?;
+    counter(alloc, draft, widths.place, b"tail", b"put", b"tail_next")?;
+    counter(alloc, draft, widths.count, b"count", b"moves", b"count_next")?;
+    let din = net(alloc, b"din")?;
+    draft.block(store_steps(alloc, b"tokens", b"put", b"tail", din)?)
+}
+
+fn pointers(
+    alloc: Global,
+    draft: &mut Draft,
+    width: u32,
+    places: u32,
+) -> Result<(), AllocError>
+    requires { 0 < places }
+    ensures { IfOk result (λ u. draft.new ≡ with_all draft.old (pointer_wires width places [])) }
+{
+    next_wires(
+        alloc, draft, width, places, b"head", b"head_up", b"head_last", b"head_next",
+    )?;
+    next_wires(
+        alloc, draft, width, places, b"tail", b"tail_up", b"tail_last", b"tail_next",
+    )
+}
+
+/// A FIFO of so many places that is ready while it holds fewer tokens than `depth`.
+pub(crate) fn fifo(alloc: Global, bits: u32, depth: u32, places: u32) -> Result<Module, AllocError>
+    requires bits { 2 ≤ bits }
+    requires places { 0 < places }
+    ensures { IfOk result (λ m. m ≡ fifo_tree bits depth places) }
+{
+    let widths = Widths {
+        place: bits_for(places - 1),
+        count: bits_for(places),
+    };
+    let mut draft = Draft::new(alloc, fifo_name(alloc, bits, depth, places)?)?;
+    inputs(alloc, &mut draft, bits)?;
+    registers(alloc, &mut draft, bits, places, widths)?;
+    outputs(alloc, &mut draft, bits, depth, widths.count)?;
+    pointers(alloc, &mut draft, widths.place, places)?;
+    count_wires(alloc, &mut draft, widths.count)?;
+    blocks(alloc, &mut draft, widths)?;
+    Ok(draft.module())
+}
