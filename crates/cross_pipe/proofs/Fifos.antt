@@ -46,6 +46,10 @@ counted (suc zero) (suc zero) more fewer count h k = refl
 counted (suc (suc p)) q more fewer count h k = absurd (omega arith)
 counted p (suc (suc q)) more fewer count h k = absurd (omega arith)
 
+together : (a b c : Bool) → (a && b && c) ≡ (a && (b && c))
+together true b c = refl
+together false b c = refl
+
 -- what is no reset is no matter in reset
 in_reset : (b : Bool) (x y : ℕ) → (b ≡ false → x ≡ y) → cond b 0 x ≡ cond b 0 y
 in_reset true x y h = refl
@@ -144,6 +148,7 @@ module _ (name : Name) (width depth places pb cb : ℕ) (run : ℕ → Cycle) (f
     cells_go : (n a : ℕ) → a < places → (run (suc n)).cell (codes "tokens") a ≡ cond (eqb (at n (codes "put")) 1 && eqb a (at n (codes "tail"))) (at n (codes "din")) ((run n).cell (codes "tokens") a)
     cells_go n a h =
         stored_is m run f width (codes "tokens") places (codes "put") (codes "tail") (Net (codes "din")) (inr (inr (inr (inl refl)))) (own 34 0 0 (codes "tokens") (stored (codes "tokens") (codes "put") (codes "tail") (Net (codes "din"))) refl refl refl) n a h
+        ∙ ap (λ t. cond t (at n (codes "din")) ((run n).cell (codes "tokens") a)) (together (eqb (at n (codes "put")) 1) (eqb a (at n (codes "tail"))) (ltb (at n (codes "tail")) (f.sizes.cells (codes "tokens"))))
         ∙ ap (λ k. cond (eqb (at n (codes "put")) 1 && (eqb a (at n (codes "tail")) && ltb (at n (codes "tail")) k)) (at n (codes "din")) ((run n).cell (codes "tokens") a)) (memory_cells m run f 3 width (codes "tokens") places refl)
         ∙ ap (λ t. cond (eqb (at n (codes "put")) 1 && t) (at n (codes "din")) ((run n).cell (codes "tokens") a)) (stores places a (at n (codes "tail")) h)
 

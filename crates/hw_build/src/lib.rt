@@ -8,6 +8,6 @@ mod steps;
 mod texts;
 
 pub use draft::Draft;
-pub use laws::law_blocks;
+pub use laws::{law_blocks, law_built_has_form};
 pub use steps::{copy_steps, reset_set_steps, reset_steps, store_steps};
 pub use texts::{clock_name, net, net_value, number, reset_name, text};
