@@ -11,10 +11,11 @@ use Rattle.vlog_tree.specs.Form.{IsModule}
 use Rattle.vlog_tree.specs.Table.{Name, clk}
 use Rattle.vlog_tree.specs.Labels.{rst}
 use Rattle.vlog_law_modules.proofs.Labelled.{early_name}
+use Rattle.hw_build.specs.Elements.{built, Instance}
 use Rattle.hw_build.specs.Forms.{is_element}
 use Rattle.hw_build.proofs.Forms.{built_form, all_append, yes_and}
-use Rattle.cross_pipe.specs.Names.{channel_name, fifo_name, relay_name}
-use Rattle.cross_pipe.specs.Texts.{bits_for, step_elements, step_tree, row_elements, row_tree, steps_first, fifo_elements, fifo_tree, plain_tree, relayed_tree}
+use Rattle.channel_law.specs.Names.{channel_name, fifo_name, relay_name}
+use Rattle.channel_law.specs.Texts.{bits_for, step_elements, step_tree, row_elements, row_tree, steps_first, fifo_elements, fifo_tree, plain_tree, relayed_tree, channel_ports, fifo_ends, relayed_inside}
 
 middle : (a b c : Bool) → b ≡ true → (a || b || c) ≡ true
 middle true b c e = refl
@@ -68,5 +69,47 @@ row_form bits steps h k l some =
     let one = relay_is_name bits (steps_first steps) (omega arith) low in
     let two = relay_is_name bits (steps - steps_first steps) (omega arith) high in
     row_of bits (relay_name bits (steps_first steps)) (relay_name bits (steps - steps_first steps)) (relay_name bits steps) e one two (relay_is_name bits steps (omega arith) (omega arith)) where
-      row_of : (bits : ℕ) (first second name : Name) → nat_le 1 bits ≡ true → is_name first ≡ true → is_name second ≡ true → is_name name ≡ true → IsModule (Rattle.hw_build.specs.Elements.built name (row_elements bits first second))
+      row_of : (bits : ℕ) (first second name : Name) → nat_le 1 bits ≡ true → is_name first ≡ true → is_name second ≡ true → is_name name ≡ true → IsModule (built name (row_elements bits first second))
       row_of bits first second name e one two n = built_form name (row_elements bits first second) n (rw (e, one, two) refl)
+
+-- at least one bit is there for a number
+pub some_bits : (n : ℕ) → n < 2 ^ 32 → nat_le 1 (bits_for n) ≡ true
+unfolding bits_for
+some_bits n h =
+    ⊎_elim
+    (λ e. let w : cond (eqb n 0) 1 (32 - count_leading_zeros 32 n) ≡ 1 = ap (λ b. cond b 1 (32 - count_leading_zeros 32 n)) (eq-eqb n 0 e) in le-leb 1 (cond (eqb n 0) 1 (32 - count_leading_zeros 32 n)) (omega (arith, w)))
+    (λ e.
+    let w : cond (eqb n 0) 1 (32 - count_leading_zeros 32 n) ≡ 32 - count_leading_zeros 32 n = ap (λ b. cond b 1 (32 - count_leading_zeros 32 n)) (ne_eqb n 0 e) in
+    let pos : 0 < n = omega (arith, e) in
+    let t = leading_top 32 n pos h in
+    let k = t.1 in
+    le-leb 1 (cond (eqb n 0) 1 (32 - count_leading_zeros 32 n)) (omega (arith, w, k)))
+    (cases_eq n 0)
+
+fifo_of : (name : Name) (bits depth places pb cb : ℕ) → is_name name ≡ true → nat_le 1 bits ≡ true → nat_le 1 places ≡ true → nat_le 1 pb ≡ true → nat_le 1 cb ≡ true
+    → IsModule (built name (fifo_elements bits depth places pb cb))
+unfolding clk rst starts_name goes_on is_keyword always_to_default defparam_to_event for_to_input instance_to_not notif0_to_real realtime_to_strong0 strong1_to_unsigned use_to_xor
+fifo_of name bits depth places pb cb n e f g h = built_form name (fifo_elements bits depth places pb cb) n (rw (e, f, g, h) refl)
+
+pub fifo_form : (bits depth places : ℕ) → 2 ≤ bits → bits < 2 ^ 32 → depth < 2 ^ 32 → places < 2 ^ 32 → 0 < places → IsModule (fifo_tree bits depth places)
+fifo_form bits depth places h k l m some =
+    fifo_of (fifo_name bits depth places) bits depth places (bits_for (places - 1)) (bits_for places) (fifo_is_name bits depth places (omega arith) (omega arith) (omega arith))
+    (le-leb 1 bits (omega arith)) (le-leb 1 places (omega arith)) (some_bits (places - 1) (omega arith)) (some_bits places m)
+
+plain_of : (name fifo : Name) (bits : ℕ) → is_name name ≡ true → is_name fifo ≡ true → nat_le 1 bits ≡ true
+    → IsModule (built name (channel_ports bits (Instance fifo (codes "fifo") (fifo_ends (codes "put") (codes "din") (codes "ready")) ∷ [])))
+unfolding clk rst starts_name goes_on is_keyword always_to_default defparam_to_event for_to_input instance_to_not notif0_to_real realtime_to_strong0 strong1_to_unsigned use_to_xor
+plain_of name fifo bits n f e = built_form name (channel_ports bits (Instance fifo (codes "fifo") (fifo_ends (codes "put") (codes "din") (codes "ready")) ∷ [])) n (rw (f, e) refl)
+
+pub plain_form : (bits depth : ℕ) → 2 ≤ bits → bits < 2 ^ 32 → depth < 2 ^ 32 → IsModule (plain_tree bits depth)
+plain_form bits depth h k l =
+    plain_of (channel_name bits depth 0) (fifo_name bits depth depth) bits (channel_is_name bits depth 0 (omega arith) (omega arith) (omega arith)) (fifo_is_name bits depth depth (omega arith) (omega arith) (omega arith)) (le-leb 1 bits (omega arith))
+
+relayed_of : (name relay fifo : Name) (bits : ℕ) → is_name name ≡ true → is_name relay ≡ true → is_name fifo ≡ true → nat_le 1 bits ≡ true → IsModule (built name (channel_ports bits (relayed_inside bits relay fifo)))
+unfolding clk rst starts_name goes_on is_keyword always_to_default defparam_to_event for_to_input instance_to_not notif0_to_real realtime_to_strong0 strong1_to_unsigned use_to_xor
+relayed_of name relay fifo bits n r f e = built_form name (channel_ports bits (relayed_inside bits relay fifo)) n (rw (r, f, e) refl)
+
+pub relayed_form : (bits depth late : ℕ) → 2 ≤ bits → bits < 2 ^ 32 → depth ≤ 4096 → late ≤ 1000000 → IsModule (relayed_tree bits depth late)
+relayed_form bits depth late h k l m =
+    relayed_of (channel_name bits depth late) (relay_name bits late) (fifo_name bits depth (depth + 2 * late)) bits (channel_is_name bits depth late (omega arith) (omega arith) (omega arith))
+    (relay_is_name bits late (omega arith) (omega arith)) (fifo_is_name bits depth (depth + 2 * late) (omega arith) (omega arith) (omega arith)) (le-leb 1 bits (omega arith))

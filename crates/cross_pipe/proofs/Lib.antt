@@ -1,3 +1,2 @@
-pub mod Fifos
-pub mod Relays
-pub mod Whole
+pub mod Forms
+pub mod Rules

@@ -2,7 +2,7 @@
 
 ghost use Rattle.std.specs.Prelude.{◌≡◌, ◌++◌, ◌∷◌, [], IfOk, codes};
 ghost use Rattle.std.specs.Str.{IsAscii};
-ghost use Rattle.cross_pipe.specs.Texts.{clocks as clocks_lem, fifo_ends as fifo_lem, relay_ends as relay_lem, joined_to};
+ghost use Rattle.channel_law.specs.Texts.{clocks as clocks_lem, fifo_ends as fifo_lem, relay_ends as relay_lem, joined_to};
 
 use hw_build::text;
 use std::alloc::{AllocError, Global};

@@ -6,14 +6,14 @@ ghost use Rattle.vlog_tree.specs.declared.tree.Atom.TheVariants.{Net, Literal};
 ghost use Rattle.vlog_tree.specs.declared.tree.Value.TheVariants.{Choose, Cell};
 ghost use Rattle.vlog_tree.specs.declared.tree.BinaryOp.TheVariants.{Plus, Minus, And, Xor, Equals, Differs, Less};
 ghost use Rattle.hw_build.specs.Elements.{with_all, Input, Output, Wire, Register, Memory, Block, reset_or_set, stored};
-ghost use Rattle.cross_pipe.specs.Texts.{bits_for as bits_for_lem, of_net, two as two_lem, with_number as with_number_lem, fifo_tree, next_wires as next_wires_lem, pointer_wires, count_wires as count_wires_lem, fifo_blocks};
+ghost use Rattle.channel_law.specs.Texts.{bits_for as bits_for_lem, of_net, two as two_lem, with_number as with_number_lem, fifo_tree, next_wires as next_wires_lem, pointer_wires, count_wires as count_wires_lem, fifo_blocks};
 
 use crate::names::fifo_name;
 use hw_build::{Draft, net, net_value, number, reset_set_steps, store_steps, text};
 use std::alloc::{AllocError, Global};
 use vlog_tree::{BinaryOp, Module, Value};
 
-#[tactic(auto, unfolding(crate::specs::Texts::bits_for))]
+#[tactic(auto, unfolding(channel_law::specs::Texts::bits_for))]
 pub(crate) fn bits_for(n: u32) -> u32
     ensures { result ≡ bits_for_lem n }
 {
@@ -192,6 +192,15 @@ fn pointers(
     )
 }
 
+fn finished(draft: Draft, bits: u32, depth: u32, places: u32) -> Module
+    requires is { draft ≡ fifo_tree bits depth places }
+    requires bits { 2 ≤ bits }
+    requires places { 0 < places }
+    ensures { result ≡ fifo_tree bits depth places }
+{
+    draft.module()
+}
+
 /// A FIFO of so many places that is ready while it holds fewer tokens than `depth`.
 pub(crate) fn fifo(alloc: Global, bits: u32, depth: u32, places: u32) -> Result<Module, AllocError>
     requires bits { 2 ≤ bits }
@@ -209,5 +218,5 @@ pub(crate) fn fifo(alloc: Global, bits: u32, depth: u32, places: u32) -> Result<
     pointers(alloc, &mut draft, widths.place, places)?;
     count_wires(alloc, &mut draft, widths.count)?;
     blocks(alloc, &mut draft, widths)?;
-    Ok(draft.module())
+    Ok(finished(draft, bits, depth, places))
 }

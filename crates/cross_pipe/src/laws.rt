@@ -1,8 +1,8 @@
 // Laws on the modules of channels.
 
-ghost use Rattle.cross_pipe.specs.Ports.{ChannelsAct};
+ghost use Rattle.cross_pipe.specs.Rules.{StepsAreRight};
 
-/// The modules of a channel do what a channel owes, in any design and from any power-up contents.
-pub fn law_channels_act()
-    ensures { ChannelsAct }
+/// Names, widths and drivers of a relay of one step are right beside modules of other names.
+pub fn law_steps_are_right()
+    ensures { StepsAreRight }
 {}

@@ -9,5 +9,5 @@ mod names;
 mod relay;
 
 
-pub use laws::law_channels_act;
+pub use laws::law_steps_are_right;
 pub use modules::{channel, fifo_size};

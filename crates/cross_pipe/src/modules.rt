@@ -1,9 +1,11 @@
 // A channel: a FIFO, and with added latency a relay before it.
 
-ghost use Rattle.std.specs.Prelude.{◌≡◌, ◌<◌, ◌≤◌, ◌+◌, ◌*◌, [], IfOk};
+ghost use Rattle.std.specs.Prelude.{◌≡◌, ◌<◌, ◌≤◌, ◌+◌, ◌*◌, ◌∷◌, [], List, IfOk};
+ghost use Rattle.vlog_tree.specs.Form.{ModuleTree};
 ghost use Rattle.hw_build.specs.Elements.{with_all};
-ghost use Rattle.cross_pipe.specs.Names.{fifo_name as fifo_lem, relay_name as relay_lem};
-ghost use Rattle.cross_pipe.specs.Texts.{relayed_inside, plain_tree, relayed_tree, channel_ports, AreModules};
+ghost use Rattle.channel_law.specs.Ports.{ActsAsChannel};
+ghost use Rattle.channel_law.specs.Names.{fifo_name as fifo_lem, relay_name as relay_lem};
+ghost use Rattle.channel_law.specs.Texts.{relayed_inside, plain_tree, fifo_tree, relayed_tree, channel_ports, AreRelays, AreModules};
 
 use crate::ends::{fifo_ends, relay_ends};
 use crate::fifo::{fifo, two};
@@ -37,6 +39,14 @@ fn ports(alloc: Global, draft: &mut Draft, bits: u32) -> Result<(), AllocError>
     draft.wire(alloc, 1, b"put", put)
 }
 
+fn finished_plain(draft: Draft, bits: u32, depth: u32) -> Module
+    requires is { draft ≡ plain_tree bits depth }
+    requires bits { 2 ≤ bits }
+    ensures { result ≡ plain_tree bits depth }
+{
+    draft.module()
+}
+
 // A FIFO that is asked before it is written.
 fn plain(alloc: Global, bits: u32, depth: u32) -> Result<Module, AllocError>
     requires { 2 ≤ bits }
@@ -47,7 +57,7 @@ fn plain(alloc: Global, bits: u32, depth: u32) -> Result<Module, AllocError>
     let ends = fifo_ends(alloc, b"put", b"din", b"ready")?;
     let fifo = fifo_name(alloc, bits, depth, depth)?;
     draft.instance(fifo, text(alloc, b"fifo")?, ends)?;
-    Ok(draft.module())
+    Ok(finished_plain(draft, bits, depth))
 }
 
 fn instances(
@@ -79,6 +89,16 @@ fn instances(
     draft.instance(fifo, text(alloc, b"fifo")?, ends)
 }
 
+fn finished_relayed(draft: Draft, bits: u32, depth: u32, latency: u32) -> Module
+    requires is { draft ≡ relayed_tree bits depth latency }
+    requires bits { 2 ≤ bits }
+    requires depth { depth ≤ 4096 }
+    requires latency { latency ≤ 1000000 }
+    ensures { result ≡ relayed_tree bits depth latency }
+{
+    draft.module()
+}
+
 // A relay before a FIFO that takes what comes.
 fn relayed(alloc: Global, bits: u32, depth: u32, latency: u32) -> Result<Module, AllocError>
     requires bits { 2 ≤ bits }
@@ -89,7 +109,38 @@ fn relayed(alloc: Global, bits: u32, depth: u32, latency: u32) -> Result<Module,
     let mut draft = Draft::new(alloc, channel_name(alloc, bits, depth, latency)?)?;
     ports(alloc, &mut draft, bits)?;
     instances(alloc, &mut draft, bits, depth, latency)?;
-    Ok(draft.module())
+    Ok(finished_relayed(draft, bits, depth, latency))
+}
+
+fn plain_modules(alloc: Global, bits: u32, depth: u32) -> Result<Vec<Module>, AllocError>
+    requires bits { 2 ≤ bits }
+    requires depth { 1 ≤ depth }
+    ensures { IfOk result (λ ms. ms.items ≡ plain_tree bits depth ∷ fifo_tree bits depth depth ∷ []) }
+{
+    let mut modules = Vec::new(alloc);
+    modules.push(plain(alloc, bits, depth)?)?;
+    modules.push(fifo(alloc, bits, depth, depth)?)?;
+    Ok(modules)
+}
+
+fn relayed_modules(
+    alloc: Global,
+    bits: u32,
+    depth: u32,
+    latency: u32,
+) -> Result<Vec<Module>, AllocError>
+    requires bits { 2 ≤ bits }
+    requires some_depth { 1 ≤ depth }
+    requires most_depth { depth ≤ 4096 }
+    requires some_latency { 0 < latency }
+    requires most_latency { latency ≤ 1000000 }
+    ensures { IfOk result (λ ms. (relays : List ModuleTree) × (ms.items ≡ relayed_tree bits depth latency ∷ fifo_tree bits depth (depth + 2 * latency) ∷ relays) × AreRelays bits latency relays) }
+{
+    let mut modules = Vec::new(alloc);
+    modules.push(relayed(alloc, bits, depth, latency)?)?;
+    modules.push(fifo(alloc, bits, depth, fifo_size(depth, latency))?)?;
+    add_relays(alloc, &mut modules, bits, latency)?;
+    Ok(modules)
 }
 
 /// The modules of a channel whose tokens have `bits` bits, its outermost module first: a stream of a depth whose tokens
@@ -106,15 +157,10 @@ pub fn channel(
     requires most_depth { depth ≤ 4096 }
     requires latency { latency ≤ 500000 }
     ensures text { IfOk result (λ ms. AreModules bits depth latency ms.items) }
+    ensures acts { IfOk result (λ ms. ActsAsChannel depth latency ms.items) }
 {
-    let mut modules = Vec::new(alloc);
     if latency == 0 {
-        modules.push(plain(alloc, bits, depth)?)?;
-        modules.push(fifo(alloc, bits, depth, depth)?)?;
-    } else {
-        modules.push(relayed(alloc, bits, depth, latency)?)?;
-        modules.push(fifo(alloc, bits, depth, fifo_size(depth, latency))?)?;
-        add_relays(alloc, &mut modules, bits, latency)?;
+        return plain_modules(alloc, bits, depth);
     }
-    Ok(modules)
+    relayed_modules(alloc, bits, depth, latency)
 }

@@ -2,7 +2,7 @@
 
 ghost use Rattle.std.specs.Prelude.{◌≡◌, ◌++◌, ◌∷◌, IfOk, decimal};
 ghost use Rattle.std.specs.Str.{IsAscii};
-ghost use Rattle.cross_pipe.specs.Names.{channel_name as channel_lem, fifo_name as fifo_lem, relay_name as relay_lem};
+ghost use Rattle.channel_law.specs.Names.{channel_name as channel_lem, fifo_name as fifo_lem, relay_name as relay_lem};
 
 use itoa::Buffer;
 use std::alloc::{AllocError, Global};
@@ -27,7 +27,7 @@ fn add_next(bytes: &mut Vec<u8>, number: u32) -> Result<(), AllocError>
     add_number(bytes, number)
 }
 
-#[tactic(auto, unfolding(crate::specs::Names::channel_name))]
+#[tactic(auto, unfolding(channel_law::specs::Names::channel_name))]
 pub(crate) fn channel_name(
     alloc: Global,
     bits: u32,
@@ -43,7 +43,7 @@ pub(crate) fn channel_name(
     Ok(Text::new(bytes))
 }
 
-#[tactic(auto, unfolding(crate::specs::Names::fifo_name))]
+#[tactic(auto, unfolding(channel_law::specs::Names::fifo_name))]
 pub(crate) fn fifo_name(
     alloc: Global,
     bits: u32,
@@ -59,7 +59,7 @@ pub(crate) fn fifo_name(
     Ok(Text::new(bytes))
 }
 
-#[tactic(auto, unfolding(crate::specs::Names::relay_name))]
+#[tactic(auto, unfolding(channel_law::specs::Names::relay_name))]
 pub(crate) fn relay_name(alloc: Global, bits: u32, steps: u32) -> Result<Text, AllocError>
     ensures { IfOk result (λ t. t ≡ relay_lem bits steps) }
 {

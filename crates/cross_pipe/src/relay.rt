@@ -5,8 +5,8 @@ ghost use Rattle.vlog_tree.specs.Form.{ModuleTree};
 ghost use Rattle.std.specs.List.{flat_map};
 ghost use Rattle.vlog_tree.specs.declared.tree.Atom.TheVariants.{Net, Literal};
 ghost use Rattle.hw_build.specs.Elements.{with_all, Input, Output, Outlet, Link, Register, Block, Instance, copied, reset_or};
-ghost use Rattle.cross_pipe.specs.Names.{relay_name as relay_name_lem};
-ghost use Rattle.cross_pipe.specs.Texts.{step_tree, row_tree, steps_first as steps_first_lem, of_net, first_part, second_part, AreRelays};
+ghost use Rattle.channel_law.specs.Names.{relay_name as relay_name_lem};
+ghost use Rattle.channel_law.specs.Texts.{step_tree, row_tree, steps_first as steps_first_lem, of_net, first_part, second_part, AreRelays};
 
 use crate::ends::relay_ends;
 use crate::names::relay_name;
@@ -49,6 +49,14 @@ fn blocks(alloc: Global, draft: &mut Draft) -> Result<(), AllocError>
     draft.block(room)
 }
 
+fn finished_step(draft: Draft, bits: u32) -> Module
+    requires is { draft ≡ step_tree bits }
+    requires bits { 2 ≤ bits }
+    ensures { result ≡ step_tree bits }
+{
+    draft.module()
+}
+
 // One step.
 fn step(alloc: Global, bits: u32) -> Result<Module, AllocError>
     requires { 2 ≤ bits }
@@ -59,7 +67,7 @@ fn step(alloc: Global, bits: u32) -> Result<Module, AllocError>
     registers(alloc, &mut draft, bits)?;
     outputs(alloc, &mut draft, bits)?;
     blocks(alloc, &mut draft)?;
-    Ok(draft.module())
+    Ok(finished_step(draft, bits))
 }
 
 fn nets(alloc: Global, draft: &mut Draft, bits: u32) -> Result<(), AllocError>
@@ -104,6 +112,15 @@ fn steps_first(steps: u32) -> u32
     if steps % 2 == 0 { steps / 2 } else { 1 }
 }
 
+fn finished_row(draft: Draft, bits: u32, steps: u32) -> Module
+    requires is { draft ≡ row_tree bits steps }
+    requires bits { 2 ≤ bits }
+    requires steps { 1 < steps }
+    ensures { result ≡ row_tree bits steps }
+{
+    draft.module()
+}
+
 // Two relays in a row: two halves, or a step and the others.
 fn row(alloc: Global, bits: u32, steps: u32) -> Result<Module, AllocError>
     requires bits { 2 ≤ bits }
@@ -115,7 +132,7 @@ fn row(alloc: Global, bits: u32, steps: u32) -> Result<Module, AllocError>
     inputs(alloc, &mut draft, bits)?;
     nets(alloc, &mut draft, bits)?;
     parts(alloc, &mut draft, bits, first, steps - first)?;
-    Ok(draft.module())
+    Ok(finished_row(draft, bits, steps))
 }
 
 /// Adds a relay of so many steps, and those that it is made of.
@@ -131,9 +148,8 @@ pub(crate) fn add_relays(
 {
     if steps == 1 {
         modules.push(step(alloc, bits)?)?;
-        Ok(())
-    } else {
-        modules.push(row(alloc, bits, steps)?)?;
-        add_relays(alloc, modules, bits, steps - steps_first(steps))
+        return Ok(());
     }
+    modules.push(row(alloc, bits, steps)?)?;
+    add_relays(alloc, modules, bits, steps - steps_first(steps))
 }

@@ -44,7 +44,7 @@ ports_of (Instance k i cs) h = refl
 
 assigned : (a b c : Bool) → (a && b && c) ≡ true → ((b && c) && true) ≡ true
 assigned true b c h = and_true (b && c) h
-assigned false b c h = h
+assigned false b c h = cc
 
 declared_and_assigned : (a b c : Bool) → (a && b && c) ≡ true → ((a && b) && ((b && c) && true)) ≡ true
 declared_and_assigned a b c h = yes_and (a && b) ((b && c) && true) (both_true (a && b) c h).0 (assigned a b c h)
@@ -80,7 +80,6 @@ pub built_form : (name : Name) (elements : List Element) → is_name name ≡ tr
 unfolding IsModule
 built_form name elements h e =
     let f = all_of elements (empty name) (begins name h) e in
-
     yes_and (is_name (built name elements).name && nat_le 1 (length (built name elements).ports) && list_all is_port (built name elements).ports) (list_all is_item (built name elements).items)
     (yes_and (is_name (built name elements).name && nat_le 1 (length (built name elements).ports)) (list_all is_port (built name elements).ports)
     (yes_and (is_name (built name elements).name) (nat_le 1 (length (built name elements).ports)) f.name (le-leb 1 (length (built name elements).ports) f.some)) f.ports)

@@ -31,4 +31,4 @@ StoresGoOn =
     (m : ModuleTree) (run : ℕ → Cycle) (f : Follows m run) (w : ℕ) (x : Name) (k : ℕ) (write index : Name) (value : Atom) → Has m.items (Memory w x k)
     → IsOwnBlock m.items x (stored x write index value) → (n a : ℕ) → a < k
     → (run (suc n)).cell x a
-        ≡ (if ((run n).net write == 1) && (a == (run n).net index) && nat_lt ((run n).net index) (f.sizes.cells x) then atom_value (run n) value else (run n).cell x a)
+    ≡ (if ((run n).net write == 1) && (a == (run n).net index) && nat_lt ((run n).net index) (f.sizes.cells x) then atom_value (run n) value else (run n).cell x a)

@@ -78,7 +78,12 @@ impl Draft {
     {
         let net = text(alloc, name)?;
         self.items.push(Item::Assign { net, value })?;
-        add_port(&mut self.ports, Direction::Output, width, text(alloc, name)?)
+        add_port(
+            &mut self.ports,
+            Direction::Output,
+            width,
+            text(alloc, name)?,
+        )
     }
 
     /// A port that an output of an instance drives.
@@ -86,7 +91,12 @@ impl Draft {
         requires { IsAscii name.now }
         ensures { IfOk result (λ u. self.new ≡ with self.old (OutletElement width name.now)) }
     {
-        add_port(&mut self.ports, Direction::Output, width, text(alloc, name)?)
+        add_port(
+            &mut self.ports,
+            Direction::Output,
+            width,
+            text(alloc, name)?,
+        )
     }
 
     /// A wire and its driver.

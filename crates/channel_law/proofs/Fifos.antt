@@ -23,8 +23,8 @@ use Rattle.channel_core.specs.Signals.{Resets, Signal}
 use Rattle.channel_core.specs.Fifo.{FifoPorts, FifoSizes, IsFifo, next_place, next_count, pops, puts}
 use Rattle.channel_core.proofs.Pointers.{bit_is}
 use Rattle.channel_core.proofs.Lines.{bits, stores}
-use Rattle.cross_pipe.specs.Texts.{fifo_elements, of_net, two, with_number}
-use Rattle.cross_pipe.specs.Ports.{fifo_ports}
+use Rattle.channel_law.specs.Texts.{fifo_elements, of_net, two, with_number}
+use Rattle.channel_law.specs.Ports.{fifo_ports}
 
 pub small_bit : (t : Bool) → bit t < 2
 small_bit true = omega arith

@@ -21,11 +21,11 @@ use Rattle.channel_core.specs.Channel.{IsPlain, IsJoined, IsChannel}
 use Rattle.channel_core.proofs.Lines.{bits as bits_are}
 use Rattle.channel_core.proofs.Relays.{delays}
 use Rattle.channel_core.proofs.Laws.{plain, channel}
-use Rattle.cross_pipe.specs.Names.{channel_name, fifo_name, relay_name}
-use Rattle.cross_pipe.specs.Texts.{bits_for, fifo_elements, fifo_tree, plain_tree, relayed_tree, fifo_ends, relay_ends, of_net, two, AreRelays, AreModules, Alone, Relayed}
-use Rattle.cross_pipe.specs.Ports.{fifo_ports, relay_ports, channel_ports, AreFoundIn, ActsAsChannel}
-use Rattle.cross_pipe.proofs.Fifos.{is_fifo, rdy_is, small_bit}
-use Rattle.cross_pipe.proofs.Relays.{joined, inside, is_relay}
+use Rattle.channel_law.specs.Names.{channel_name, fifo_name, relay_name}
+use Rattle.channel_law.specs.Texts.{bits_for, fifo_elements, fifo_tree, plain_tree, relayed_tree, fifo_ends, relay_ends, of_net, two, AreRelays, AreModules, Alone, Relayed}
+use Rattle.channel_law.specs.Ports.{fifo_ports, relay_ports, channel_ports, AreFoundIn, ActsAsChannel}
+use Rattle.channel_law.proofs.Fifos.{is_fifo, rdy_is, small_bit}
+use Rattle.channel_law.proofs.Relays.{joined, inside, is_relay}
 
 -- a number fits in its bits
 pub fits_bits : (n : ℕ) → n < 2 ^ 32 → n < 2 ^ bits_for n
