@@ -5,7 +5,10 @@
 
 Each input is made here. Seconds are processor seconds of one call, megabytes the most that it held.
 """
+import itertools
+import json
 import os
+import random
 import subprocess
 import sys
 import tempfile
@@ -70,28 +73,102 @@ def many():
     return filled(head, lambda number: f"void {name(number)}(){{int x=1;if(x){{x=x+1;}}}}", top)
 
 
+def readers(instances=448, parameters=1_000):
+    """As many streams as may be, all but one of them legal, and one that a task reads at many parameters, in many instances."""
+    wide = "void L(" + ",".join(f"tapa::istream<int>& p{at}" for at in range(parameters)) + ") {}\n"
+    upper = f"void U(tapa::istream<int>& q) {{ tapa::task().invoke(L{',q' * parameters}); }}\n"
+    ends = [f"tapa::istream<int>& i{at},tapa::ostream<int>& o{at}" for at in range(16)]
+    both = f"void B({','.join(ends)}) {{}}\n"
+    streams = [name(at) for at in range(1_023)]
+    invoked = []
+    for first in range(0, 1_023, 16):
+        own = [it for it in streams[first : first + 16] for _ in "io"]
+        invoked.append(f".invoke(B,{','.join([*own, 's', 's'])})" if len(own) == 30 else f".invoke(B,{','.join(own)})")
+    top = f"void T() {{ tapa::stream<int> {','.join(streams)},s; tapa::task(){''.join(invoked)}{'.invoke(U,s)' * instances}; }}\n"
+    return wide + upper + both + top
+
+
+def network(count, streams):
+    """Tasks T0, T1 and so on, with streams from a writer to a reader, each of a type."""
+    tasks, chain_of = [], []
+    for task in range(count):
+        own = [(at, "w" if writer == task else "r", kind) for at, (writer, reader, kind) in enumerate(streams) if task in (writer, reader)]
+        ends = ",".join(f"tapa::{'o' if end == 'w' else 'i'}stream<{kind}>& {end}{at}" for at, end, kind in own)
+        tasks.append(f"void T{task}({ends}) {{}}\n")
+        chain_of.append(f".invoke({','.join([f'T{task}', *(f's{at}' for at, _, _ in own)])})")
+    declared = "".join(f"tapa::stream<{kind}> s{at};" for at, (_, _, kind) in enumerate(streams))
+    return "".join(tasks) + f"void T() {{ {declared} tapa::task(){''.join(chain_of)}; }}\n"
+
+
+def device(rows, cols, capacity, tasks, **more):
+    """A device whose slots are alike, and what the tasks use of them in LUT."""
+    uses = {f"T{task}": {"LUT": use} for task, use in enumerate(tasks)}
+    return json.dumps({"rows": rows, "cols": cols, "percent": 100, "slots": [{"LUT": capacity}] * (rows * cols), "tasks": uses, **more})
+
+
+def plans():
+    """Devices and graphs for `plan`, the same as `inputs`."""
+    some = random.Random(7)
+    kinds = ["bool", "uint8_t", "int", "uint64_t"]
+    pairs = list(itertools.combinations(range(22), 2))
+    graphs = {
+        "a chain": [(at, at + 1, "int") for at in range(21)],
+        "60 streams at random": [(*some.choice(pairs), some.choice(kinds)) for _ in range(60)],
+        "all to all, 231 streams": [(*pair, "int") for pair in pairs],
+    }
+    for what, streams in graphs.items():
+        for shape, capacity in (("tight", 130), ("wide", 1_000)):
+            uses = [some.randint(8, 14) for _ in range(22)]
+            yield f"22 groups on 2 slots, {what}, {shape}, exact", network(22, streams), device(2, 1, capacity, uses), ["--plan", "exact"], (0, 4)
+    alike = [10] * 22
+    yield "22 groups alike on 2 slots, only the last two have a stream, exact", network(22, [(20, 21, "int")]), device(2, 1, 120, alike), ["--plan", "exact"], (0,)
+    yield "22 groups alike on 2 slots for 20, a chain, no plan, exact", network(22, graphs["a chain"]), device(2, 1, 109, alike), ["--plan", "exact"], (4,)
+    streams = [(at, at + 1, "int") for at in range(511)]
+    pins = {f"T{task}${task}": [task % 4, 0] for task in range(10, 512)}
+    given = device(4, 1, 100_000, [10] * 512, pins=pins)
+    yield "10 free groups before 502 pinned ones on 4 slots, exact", network(512, streams), given, ["--plan", "exact"], (0,)
+    ladder = [(at, at + 2, "int") for at in range(510)] + [(at, at + 1, "uint8_t") for at in range(511)]
+    yield "512 groups and 1,021 streams, two rails with rungs, on 4 by 2 slots, fit, balanced", network(512, ladder), device(4, 2, 700, [10] * 512), [], (0,)
+    scattered = [tuple(sorted(some.sample(range(512), 2))) + (some.choice(kinds),) for _ in range(1_024)]
+    yield "512 groups and 1,024 streams at random on 4 by 2 slots, fit, balanced", network(512, scattered), device(4, 2, 700, [10] * 512), [], (0,)
+    blanks = device(1, 1, 100, [1])
+    yield "a device file of 33,554,432 bytes, blanks", network(1, []), blanks.ljust(33_554_432), [], (0,)
+    keys = ",".join(f'"k{at}":1' for at in range(2_500_000))
+    yield "a device file of 33 MB, 2,500,000 unknown keys, refused with J2", network(1, []), blanks[:-1] + "," + keys + "}", [], (3,)
+
+
 def inputs():
-    """Each measurement: what it is, its source, its data, and further words."""
-    yield "a chain of ten tasks that pass 1,000,000 tokens by streams of depth 16", chain(10, 1_000_000), None, ["--steps", "1000000000"]
+    """Each measurement: what it is, its source, its data, further words, and the status that is wanted."""
+    yield "a chain of ten tasks that pass 1,000,000 tokens by streams of depth 16", chain(10, 1_000_000), None, ["--steps", "1000000000"], 0
     source, data = memories()
-    yield f"data of {len(data) / 1e6:.1f} MB: 1,048,576 cells in 16 memories", source, data, []
+    yield f"data of {len(data) / 1e6:.1f} MB: 1,048,576 cells in 16 memories", source, data, [], 0
     source, count = filled("", lambda number: f"const int {name(number)}=1;", TOP)
-    yield f"a source of 262,144 bytes, {count:,} constants", source, None, []
+    yield f"a source of 262,144 bytes, {count:,} constants", source, None, [], 0
     source, count = uses()
-    yield f"a source of 262,144 bytes, 7,901 constants and {1_000 * count:,} uses", source, None, []
+    yield f"a source of 262,144 bytes, 7,901 constants and {1_000 * count:,} uses", source, None, [], 0
     source, count = filled("", lambda number: f"void {name(number)}(){{}}", TOP)
-    yield f"a source of 262,144 bytes, {count:,} tasks", source, None, []
+    yield f"a source of 262,144 bytes, {count:,} tasks", source, None, [], 0
     source, count = many()
-    yield f"a source of 262,144 bytes, 512 instances, 1,024 streams, {count:,} more leaf tasks", source, None, []
+    yield f"a source of 262,144 bytes, 512 instances, 1,024 streams, {count:,} more leaf tasks", source, None, [], 0
+    source = readers()
+    yield f"a source of {len(source):,} bytes, 1,023 legal streams and one that 448 instances read at 1,000 parameters each, refused with C5", source, None, [], 1
 
 
-def measured(program, folder, source, data, words):
+def commands():
+    """All of them, each behind its command; made one by one, since a child begins with what its parent holds."""
+    for *case, status in inputs():
+        yield "run", *case, (status,)
+    for case in plans():
+        yield "plan", *case
+
+
+def measured(program, folder, verb, source, data, words):
     for file, text in (("r.cpp", source), ("d.json", data)):
         if text is not None:
             with open(os.path.join(folder, file), "w", encoding="utf-8") as it:
                 it.write(text)
     given = ["d.json"] if data is not None else []
-    ran = subprocess.Popen([program, "run", "r.cpp", "T", *given, *words], cwd=folder, stdout=subprocess.DEVNULL, stderr=subprocess.PIPE)
+    ran = subprocess.Popen([program, verb, "r.cpp", "T", *given, *words], cwd=folder, stdout=subprocess.DEVNULL, stderr=subprocess.PIPE)
     err = ran.stderr.read().decode()
     _, status, used = os.wait4(ran.pid, 0)
     ran.returncode = os.waitstatus_to_exitcode(status)
@@ -105,10 +182,11 @@ def main(words):
     print("| what | time | memory |\n|---|---|---|")
     worst = 0
     with tempfile.TemporaryDirectory() as folder:
-        for what, source, data, more in inputs():
-            status, err, seconds, megabytes = measured(os.path.abspath(words[0]), folder, source, data, more)
-            worst = max(worst, status)
-            print(f"| {what} | {seconds:.2f} s | {megabytes:.0f} MB |" + (f" status {status}: {err[:200].strip()}" if status else ""), flush=True)
+        for verb, what, source, data, more, wanted in commands():
+            status, err, seconds, megabytes = measured(os.path.abspath(words[0]), folder, verb, source, data, more)
+            differs = status not in wanted
+            worst = max(worst, status if differs else 0)
+            print(f"| {what} | {seconds:.2f} s | {megabytes:.0f} MB |" + (f" status {status}: {err[:200].strip()}" if differs else ""), flush=True)
     return worst
 
 

@@ -44,8 +44,9 @@ def source_line(file, line, col):
 def explained(told, page):
     """The lines that stand below a message."""
     at_place = re.match(r"tapa: (.+):(\d+):(\d+): ([A-Z]\d+)\b", told)
-    in_data = re.match(r"tapa: .+: (J\d)\b", told)
+    in_data = re.match(r"tapa: .+: ([JK]\d)\b", told)
     stopped = re.match(r"tapa: \S+ (waits to (?:read|write)|bad token on) ", told)
+    unplanned = re.match(r"tapa: (too many plans: |no plan within |no room for )", told)
     if at_place:
         file, line, col, code = at_place.groups()
         text = section(page, code)
@@ -58,6 +59,8 @@ def explained(told, page):
         return [f"      = {it}" for it in reason(section(page, code))] + [f"      = docs/REFUSALS.md, {code}"]
     if stopped:
         return ["      = docs/REFUSALS.md, Deadlock"]
+    if unplanned:
+        return ["      = docs/REFUSALS.md, No plan"]
     return []
 
 

@@ -32,6 +32,20 @@ def try_example(trial, name):
     trial.check(f"{name} stands in examples/README.md", f"| {os.path.basename(name).removesuffix('_mended')} |" in listed)
 
 
+def try_plans(trial):
+    """Every example that is no slip fits on the devices of `examples/devices`, and the flow shows each balance to be best."""
+    devices = [f"examples/devices/{name}.json" for name in ("u250", "u280")]
+    for name in names():
+        if name.startswith("examples/refused/") and not name.endswith("_mended"):
+            continue
+        top = shlex.split(read(f"{name}.cpp").split("\n")[0])[4]
+        for device in devices:
+            said = trial.run(["plan", f"{name}.cpp", top, device], ROOT)
+            last = [line.split() for line in said.out.decode().splitlines()[-3:]]
+            shown = [word for word, _ in last] == ["cost", "registers", "dual"] and last[1][1] == last[2][1]
+            trial.check(f"{name} on {device}", said.status == 0 and shown, f"   {said}")
+
+
 def try_compilers(trial):
     """With tools/include/tapa.h a C++ compiler accepts the examples that have no slip of C++."""
     compilers = [it for it in ("g++", "clang++") if shutil.which(it)]
@@ -49,4 +63,5 @@ def try_compilers(trial):
 def try_all(trial):
     for name in names():
         try_example(trial, name)
+    try_plans(trial)
     try_compilers(trial)

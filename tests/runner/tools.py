@@ -56,7 +56,7 @@ def try_explain(trial):
     _, told, _ = run_tool("explain.py", given="".join(line + "\n" for line in lines))
     kept = [line for line in told.splitlines() if not line.startswith("      ") and not re.match(r" +\d+ \| ", line)]
     trial.check_equal("explain.py keeps every line that was told", kept, lines)
-    for told, wanted in (("tapa: d.json: J3 scalars.n", "docs/REFUSALS.md, J3"), ("tapa: A$0 waits to write s", "docs/REFUSALS.md, Deadlock")):
+    for told, wanted in (("tapa: d.json: J3 scalars.n", "docs/REFUSALS.md, J3"), ("tapa: A$0 waits to write s", "docs/REFUSALS.md, Deadlock"), ("tapa: d.json: K3 B$1", "docs/REFUSALS.md, K3"), ("tapa: no room for A$0", "docs/REFUSALS.md, No plan")):
         trial.check(f"explain.py on {told}", wanted in run_explain(trial, told))
     for code in re.findall(r"`([LPC]\d+) ", read("docs/COMMAND.md")):
         told = run_explain(trial, f"tapa: r.cpp:1:1: {code} x")
@@ -76,6 +76,14 @@ def try_gate_seconds(trial):
     words = ["watch", log, sys.executable, "-c", busy, "--crate-name", "tapa_base", "x"]
     status, out, err = run_tool("gate_seconds.py", *words)
     trial.check("the watched command's output and status", (status, out) == (3, "1 passed, 0 failed\n"), err)
+
+
+def try_floorplan(trial):
+    """The picture in docs is what the tool draws of the plan that README.md shows."""
+    device = "examples/devices/two_slots.json"
+    said = trial.run(["plan", "examples/vector_add.cpp", "VecAdd", device], ROOT)
+    _, drawn, err = run_tool("floorplan.py", trial.put("p.plan", said.out), device)
+    trial.check("docs/plan.svg is drawn by floorplan.py", drawn == read("docs/plan.svg") and drawn.count("<rect") >= 6, f"   {err}")
 
 
 def try_editors(trial):
@@ -169,4 +177,5 @@ def try_all(trial):
     try_gate(trial)
     try_script(trial)
     try_gate_seconds(trial)
+    try_floorplan(trial)
     try_editors(trial)

@@ -1,26 +1,23 @@
 -- The lines of a FIFO are the equations of one.
-use Rattle.std.proofs.Common.{◌≡◌, ℕ, zero, suc, ◌+◌, ◌-◌, ◌*◌, ◌%◌, ◌^◌, ◌<◌, ◌≤◌, Bool, true, false, cond, eqb, ltb, ◌&&◌, List, [], ◌∷◌, Some, inl, inr, refl, sym, ap, ◌∙◌, arith}
+use Rattle.std.proofs.Common.{◌≡◌, ℕ, zero, suc, ◌+◌, ◌-◌, ◌%◌, ◌^◌, ◌<◌, Bool, true, false, cond, eqb, ltb, ◌&&◌, List, Some, inl, inr, refl, sym, ap, ◌∙◌, arith}
 use Rattle.std.specs.Prelude.{codes, slice_get, not, bit_and, bit_xor, count_by}
 use Rattle.std.specs.List.{list_any}
 use Rattle.tapa_base.specs.Operators.{bit}
 use Rattle.vlog_tree.specs.declared.tree.Atom.TheVariants.{Net, Literal}
 use Rattle.vlog_tree.specs.declared.tree.BinaryOp.TheVariants.{Plus, Minus, And, Xor, Equals, Differs, Less}
-use Rattle.vlog_tree.specs.declared.tree.Value.{Value}
 use Rattle.vlog_tree.specs.declared.tree.Value.TheVariants.{Choose, Cell}
 use Rattle.vlog_tree.specs.declared.tree.Step.{Step}
-use Rattle.vlog_tree.specs.declared.tree.Item.{Item}
-use Rattle.vlog_tree.specs.declared.tree.Item.TheVariants.{Wire, Reg, Memory, Assign, Always}
+use Rattle.vlog_tree.specs.declared.tree.Item.TheVariants.{Wire, Assign, Always}
 use Rattle.vlog_tree.specs.Form.{ModuleTree}
-use Rattle.vlog_tree.specs.Grounded.{Has}
 use Rattle.vlog_tree.specs.Labels.{rst}
 use Rattle.vlog_tree.specs.Table.{Name}
-use Rattle.vlog_tree.specs.Cycle.{Cycle, Follows, driven}
+use Rattle.vlog_tree.specs.Cycle.{Cycle, Follows}
 use Rattle.vlog_tree.specs.V4.{step_assigns, is_block_of}
 use Rattle.vlog_law_modules.specs.Blocks.{IsOwnBlock}
 use Rattle.hw_build.specs.Elements.{built, reset_or_set, stored}
 use Rattle.hw_build.proofs.Meaning.{has_got, driven_is, wire_width, memory_cells, reset_set_is, stored_is}
 use Rattle.channel_core.specs.Signals.{Resets, Signal}
-use Rattle.channel_core.specs.Fifo.{FifoPorts, FifoSizes, IsFifo, next_place, next_count, pops, puts}
+use Rattle.channel_core.specs.Fifo.{FifoSizes, IsFifo, next_place, next_count}
 use Rattle.channel_core.proofs.Pointers.{bit_is}
 use Rattle.channel_core.proofs.Lines.{bits, stores}
 use Rattle.channel_law.specs.Texts.{fifo_elements, of_net, two, with_number}

@@ -1,3 +1,11 @@
 pub mod Fifos
 pub mod Relays
 pub mod Whole
+pub mod Words
+pub mod Forms
+pub mod Numbers
+pub mod Parts
+pub mod Ranks
+pub mod Together
+pub mod Clear
+pub mod Fits

@@ -1,12 +1,12 @@
 -- The lines of relays are the equations of relays.
-use Rattle.std.proofs.Common.{◌≡◌, ℕ, zero, suc, ◌+◌, ◌-◌, ◌*◌, ◌/◌, ◌%◌, ◌^◌, ◌<◌, ◌≤◌, Bool, true, false, cond, eqb, List, [], ◌∷◌, ◌++◌, Some, inl, inr, refl, sym, ap, subst, ◌∙◌, arith, ⊎_elim}
-use Rattle.std.specs.Prelude.{codes, slice_get, count_by, ◌⊎◌}
+use Rattle.std.proofs.Common.{◌≡◌, ℕ, suc, ◌+◌, ◌/◌, ◌%◌, ◌^◌, ◌<◌, Bool, true, false, cond, eqb, List, ◌∷◌, Some, inl, inr, refl, sym, ap, ◌∙◌, arith, ⊎_elim}
+use Rattle.std.specs.Prelude.{codes, slice_get, count_by}
 use Rattle.std.specs.List.{list_any}
 use Rattle.std.proofs.lemmas.Bool.{eq-eqb, ne_eqb, cases_eq}
 use Rattle.vlog_tree.specs.declared.tree.Atom.TheVariants.{Net, Literal}
 use Rattle.vlog_tree.specs.declared.tree.Step.{Step}
 use Rattle.vlog_tree.specs.declared.tree.Connection.{Connection}
-use Rattle.vlog_tree.specs.declared.tree.Item.TheVariants.{Reg, Assign, Always, Instance}
+use Rattle.vlog_tree.specs.declared.tree.Item.TheVariants.{Reg, Always, Instance}
 use Rattle.vlog_tree.specs.Form.{ModuleTree}
 use Rattle.vlog_tree.specs.Grounded.{Has}
 use Rattle.vlog_tree.specs.Labels.{rst}
@@ -20,7 +20,7 @@ use Rattle.hw_build.proofs.Meaning.{has_got, driven_is, reset_is, copied_is}
 use Rattle.channel_core.specs.Signals.{Signal}
 use Rattle.channel_core.specs.Relay.{RelayPorts, IsStep, IsRow, IsRelay, Step as OneStep, Row as TwoParts}
 use Rattle.channel_law.specs.Names.{relay_name}
-use Rattle.channel_law.specs.Texts.{step_elements, step_tree, row_elements, row_tree, steps_first, of_net, first_part, second_part, AreRelays, One, More}
+use Rattle.channel_law.specs.Texts.{step_elements, step_tree, even_tree, odd_tree, row_tree, of_net, first_part, second_of_two, second_of_three, third_part, AreRelays, One, More}
 use Rattle.channel_law.specs.Ports.{relay_ports, AreFoundIn}
 
 module _ (name : Name) (bits : ℕ) (run : ℕ → Cycle) (f : Follows (built name (step_elements bits)) run) where
@@ -45,6 +45,13 @@ module _ (name : Name) (bits : ℕ) (run : ℕ → Cycle) (f : Follows (built na
         ∙ ap (λ r. cond (eqb r 1) 0 ((run n).net (codes "rdy_early"))) (same n);
   }
 
+row_name_by : (bits steps : ℕ) (b : Bool) → (cond b (even_tree bits steps (steps / 2)) (odd_tree bits steps (steps / 2))).name ≡ relay_name bits steps
+row_name_by bits steps true = refl
+row_name_by bits steps false = refl
+
+pub row_name : (bits steps : ℕ) → (row_tree bits steps).name ≡ relay_name bits steps
+row_name bits steps = row_name_by bits steps (eqb (steps % 2) 0)
+
 module _ (all : List ModuleTree) (root : ModuleTree) (nets : ℕ → Path → Cycle) (runs : Runs all root nets) where
   -- by their places in the text, a port of an instance has the number of its net
   pub joined : (path : Path) (m : ModuleTree) → module_at all root path ≡ Some m → (i j : ℕ) (k x : Name) (connections : List Connection) → slice_get m.items i ≡ Some (Instance k x connections)
@@ -56,31 +63,56 @@ module _ (all : List ModuleTree) (root : ModuleTree) (nets : ℕ → Path → Cy
   pub inside : (path : Path) (m : ModuleTree) → module_at all root path ≡ Some m → (x k : Name) → child_of m.items x ≡ Some k → module_at all root (x ∷ path) ≡ module_named all k
   inside path m at x k e = ap (λ o. and_then o (λ m. and_then (child_of m.items x) (module_named all))) at ∙ ap (λ o. and_then o (module_named all)) e
 
-  row_joined : (path : Path) (name : Name) (bits : ℕ) (first second : Name) → module_at all root path ≡ Some (built name (row_elements bits first second))
-      → IsRow (relay_ports (λ n. nets n path)) (relay_ports (λ n. nets n (codes "part_0" ∷ path))) (relay_ports (λ n. nets n (codes "part_1" ∷ path)))
-  row_joined path name bits first second at =
-      let near : (j : ℕ) (port net : Name) → slice_get first_part j ≡ Some (record { port = port; net = net }) → (n : ℕ) → (nets n (codes "part_0" ∷ path)).net port ≡ (nets n path).net net =
-      (λ j port net c n. joined path (built name (row_elements bits first second)) at 3 j first (codes "part_0") first_part refl port net c n) in
-      let far : (j : ℕ) (port net : Name) → slice_get second_part j ≡ Some (record { port = port; net = net }) → (n : ℕ) → (nets n (codes "part_1" ∷ path)).net port ≡ (nets n path).net net =
-      (λ j port net c n. joined path (built name (row_elements bits first second)) at 4 j second (codes "part_1") second_part refl port net c n) in
-      record {
-        put_first = near 2 (codes "put") (codes "put") refl;
-        put_second = λ n. far 2 (codes "put") (codes "put_1") refl n ∙ sym (near 5 (codes "put_late") (codes "put_1") refl n);
-        put_last = λ n. sym (far 5 (codes "put_late") (codes "put_late") refl n);
-        din_first = near 3 (codes "din") (codes "din") refl;
-        din_second = λ n. far 3 (codes "din") (codes "din_1") refl n ∙ sym (near 6 (codes "din_late") (codes "din_1") refl n);
-        din_last = λ n. sym (far 6 (codes "din_late") (codes "din_late") refl n);
-        rdy_first = far 4 (codes "rdy_early") (codes "rdy_early") refl;
-        rdy_second = λ n. near 4 (codes "rdy_early") (codes "rdy_1") refl n ∙ sym (far 7 (codes "rdy") (codes "rdy_1") refl n);
-        rdy_last = λ n. sym (near 7 (codes "rdy") (codes "rdy") refl n);
-      }
+  -- two relays in a row, seen as one
+  abbrev chained : RelayPorts → RelayPorts → RelayPorts
+  chained first last = record { put = first.put; din = first.din; rdy = first.rdy; put_late = last.put_late; din_late = last.din_late; rdy_early = last.rdy_early }
 
-  row_reset : (path : Path) (name : Name) (bits : ℕ) (first second : Name) → module_at all root path ≡ Some (built name (row_elements bits first second))
-      → (n : ℕ) → ((nets n (codes "part_0" ∷ path)).net (codes "rst") ≡ (nets n path).net (codes "rst")) × ((nets n (codes "part_1" ∷ path)).net (codes "rst") ≡ (nets n path).net (codes "rst"))
-  row_reset path name bits first second at n = (
-    joined path (built name (row_elements bits first second)) at 3 1 first (codes "part_0") first_part refl (codes "rst") (codes "rst") refl n,
-    joined path (built name (row_elements bits first second)) at 4 1 second (codes "part_1") second_part refl (codes "rst") (codes "rst") refl n,
-  )
+  abbrev ports_at : Path → RelayPorts
+  ports_at path = relay_ports (λ n. nets n path)
+
+  abbrev Joins : Path → Name → List Connection → Type 0
+  Joins path x connections = (j : ℕ) (port net : Name) → slice_get connections j ≡ Some (record { port = port; net = net }) → (n : ℕ) → (nets n (x ∷ path)).net port ≡ (nets n path).net net
+
+  two_in_row : (path : Path) → Joins path (codes "part_0") first_part → Joins path (codes "part_1") second_of_two → IsRow (ports_at path) (ports_at (codes "part_0" ∷ path)) (ports_at (codes "part_1" ∷ path))
+  two_in_row path near far = record {
+    put_first = near 2 (codes "put") (codes "put") refl;
+    put_second = λ n. far 2 (codes "put") (codes "put_1") refl n ∙ sym (near 5 (codes "put_late") (codes "put_1") refl n);
+    put_last = λ n. sym (far 5 (codes "put_late") (codes "put_late") refl n);
+    din_first = near 3 (codes "din") (codes "din") refl;
+    din_second = λ n. far 3 (codes "din") (codes "din_1") refl n ∙ sym (near 6 (codes "din_late") (codes "din_1") refl n);
+    din_last = λ n. sym (far 6 (codes "din_late") (codes "din_late") refl n);
+    rdy_first = far 4 (codes "rdy_early") (codes "rdy_early") refl;
+    rdy_second = λ n. near 4 (codes "rdy_early") (codes "rdy_1") refl n ∙ sym (far 7 (codes "rdy") (codes "rdy_1") refl n);
+    rdy_last = λ n. sym (near 7 (codes "rdy") (codes "rdy") refl n);
+  }
+
+  last_in_row : (path : Path) → Joins path (codes "part_1") second_of_three → Joins path (codes "part_2") third_part
+      → IsRow (chained (ports_at (codes "part_1" ∷ path)) (ports_at (codes "part_2" ∷ path))) (ports_at (codes "part_1" ∷ path)) (ports_at (codes "part_2" ∷ path))
+  last_in_row path near far = record {
+    put_first = λ n. refl;
+    put_second = λ n. far 2 (codes "put") (codes "put_2") refl n ∙ sym (near 5 (codes "put_late") (codes "put_2") refl n);
+    put_last = λ n. refl;
+    din_first = λ n. refl;
+    din_second = λ n. far 3 (codes "din") (codes "din_2") refl n ∙ sym (near 6 (codes "din_late") (codes "din_2") refl n);
+    din_last = λ n. refl;
+    rdy_first = λ n. refl;
+    rdy_second = λ n. near 4 (codes "rdy_early") (codes "rdy_2") refl n ∙ sym (far 7 (codes "rdy") (codes "rdy_2") refl n);
+    rdy_last = λ n. refl;
+  }
+
+  three_in_row : (path : Path) → Joins path (codes "part_0") first_part → Joins path (codes "part_1") second_of_three → Joins path (codes "part_2") third_part
+      → IsRow (ports_at path) (ports_at (codes "part_0" ∷ path)) (chained (ports_at (codes "part_1" ∷ path)) (ports_at (codes "part_2" ∷ path)))
+  three_in_row path near middle far = record {
+    put_first = near 2 (codes "put") (codes "put") refl;
+    put_second = λ n. middle 2 (codes "put") (codes "put_1") refl n ∙ sym (near 5 (codes "put_late") (codes "put_1") refl n);
+    put_last = λ n. sym (far 5 (codes "put_late") (codes "put_late") refl n);
+    din_first = near 3 (codes "din") (codes "din") refl;
+    din_second = λ n. middle 3 (codes "din") (codes "din_1") refl n ∙ sym (near 6 (codes "din_late") (codes "din_1") refl n);
+    din_last = λ n. sym (far 6 (codes "din_late") (codes "din_late") refl n);
+    rdy_first = far 4 (codes "rdy_early") (codes "rdy_early") refl;
+    rdy_second = λ n. near 4 (codes "rdy_early") (codes "rdy_1") refl n ∙ sym (middle 7 (codes "rdy") (codes "rdy_1") refl n);
+    rdy_last = λ n. sym (near 7 (codes "rdy") (codes "rdy") refl n);
+  }
 
   module _ (bits : ℕ) (rst_of : Signal) where
     -- what a relay is, and that its answer is a bit already at power-up
@@ -96,35 +128,52 @@ module _ (all : List ModuleTree) (root : ModuleTree) (nets : ℕ → Path → Cy
 
     has_one : (steps : ℕ) (xs : List ModuleTree) → AreRelays bits steps xs → Has xs (step_tree bits)
     has_one steps xs (One k e) = inl refl
-    has_one steps xs (More k rest l r) = inr (has_one (k - steps_first k) rest r)
+    has_one steps xs (More k rest l r) = inr (has_one (k / 2) rest r)
 
-    first_cases : (k : ℕ) → 1 < k → ((steps_first k ≡ k - steps_first k) ⊎ (steps_first k ≡ 1)) × (steps_first k + (k - steps_first k) ≡ k)
-    first_cases k l =
-        ⊎_elim
-        (λ e. let f : steps_first k ≡ k / 2 = ap (λ b. cond b (k / 2) 1) (eq-eqb (k % 2) 0 e) in (inl (omega arith), omega arith))
-        (λ e. let f : steps_first k ≡ 1 = ap (λ b. cond b (k / 2) 1) (ne_eqb (k % 2) 0 e) in (inr f, omega arith))
-        (cases_eq (k % 2) 0)
+    -- the parts of a relay are relays
+    abbrev Halves : ℕ → Type 0
+    Halves half = (path : Path) → module_at all root path ≡ module_named all (relay_name bits half) → ((n : ℕ) → (nets n path).net rst ≡ rst_of n) → Relays half path
 
-    pub is_relay : (steps : ℕ) (xs : List ModuleTree) → AreRelays bits steps xs → AreFoundIn all xs → (path : Path) → module_at all root path ≡ module_named all (relay_name bits steps)
-        → ((n : ℕ) → (nets n path).net rst ≡ rst_of n) → Relays steps path
+    of_two : (k half : ℕ) → k ≡ half + half → Halves half → (path : Path) → module_at all root path ≡ Some (even_tree bits k half) → ((n : ℕ) → (nets n path).net rst ≡ rst_of n) → Relays k path
     unfolding rst
-    is_relay steps xs (One k e) found path at same =
-        one_step path (at ∙ ap (λ s. module_named all (relay_name bits s)) e ∙ found (step_tree bits) (inl refl)) same k e
-    is_relay steps xs (More k rest l r) found path at same =
-        let here : module_at all root path ≡ Some (row_tree bits k) = at ∙ found (row_tree bits k) (inl refl) in
-        let resets = row_reset path (relay_name bits k) bits (relay_name bits (steps_first k)) (relay_name bits (k - steps_first k)) here in
-        let row = row_joined path (relay_name bits k) bits (relay_name bits (steps_first k)) (relay_name bits (k - steps_first k)) here in
-        let far : Relays (k - steps_first k) (codes "part_1" ∷ path) =
-        is_relay (k - steps_first k) rest r (λ m h. found m (inr h)) (codes "part_1" ∷ path) (inside path (row_tree bits k) here (codes "part_1") (relay_name bits (k - steps_first k)) refl) (λ n. (resets n).1 ∙ same n) in
-        let at_near : module_at all root (codes "part_0" ∷ path) ≡ module_named all (relay_name bits (steps_first k)) = inside path (row_tree bits k) here (codes "part_0") (relay_name bits (steps_first k)) refl in
-        let near : Relays (steps_first k) (codes "part_0" ∷ path) =
-        elim (first_cases k l).0 [
-          | inl e ↦
-              subst (λ s. Relays s (codes "part_0" ∷ path)) (sym e)
-              (is_relay (k - steps_first k) rest r (λ m h. found m (inr h)) (codes "part_0" ∷ path) (at_near ∙ ap (λ s. module_named all (relay_name bits s)) e) (λ n. (resets n).0 ∙ same n))
-          | inr e ↦
-              one_step (codes "part_0" ∷ path) (at_near ∙ ap (λ s. module_named all (relay_name bits s)) e ∙ found (step_tree bits) (inr (has_one (k - steps_first k) rest r))) (λ n. (resets n).0 ∙ same n) (steps_first k) e
-        ] in
+    of_two k half e part path at same =
+        let near : Joins path (codes "part_0") first_part = (λ j port net c n. joined path (even_tree bits k half) at 3 j (relay_name bits half) (codes "part_0") first_part refl port net c n) in
+        let far : Joins path (codes "part_1") second_of_two = (λ j port net c n. joined path (even_tree bits k half) at 4 j (relay_name bits half) (codes "part_1") second_of_two refl port net c n) in
+        let row = two_in_row path near far in
+        let a : Relays half (codes "part_0" ∷ path) =
+        part (codes "part_0" ∷ path) (inside path (even_tree bits k half) at (codes "part_0") (relay_name bits half) refl) (λ n. near 1 (codes "rst") (codes "rst") refl n ∙ same n) in
+        let b : Relays half (codes "part_1" ∷ path) =
+        part (codes "part_1" ∷ path) (inside path (even_tree bits k half) at (codes "part_1") (relay_name bits half) refl) (λ n. far 1 (codes "rst") (codes "rst") refl n ∙ same n) in
         let answers = row.rdy_last 0 in
-        let low = near.1 in
-        (TwoParts k _ (steps_first k) (k - steps_first k) _ _ (sym (first_cases k l).1) row near.0 far.0, omega (arith, answers, low))
+        let low = a.1 in
+        (TwoParts k _ half half _ _ e row a.0 b.0, omega (arith, answers, low))
+
+    of_three : (k half : ℕ) → k ≡ half + half + 1 → Halves half → module_named all (relay_name bits 1) ≡ Some (step_tree bits) → (path : Path) → module_at all root path ≡ Some (odd_tree bits k half)
+        → ((n : ℕ) → (nets n path).net rst ≡ rst_of n) → Relays k path
+    unfolding rst
+    of_three k half e part found path at same =
+        let near : Joins path (codes "part_0") first_part = (λ j port net c n. joined path (odd_tree bits k half) at 6 j (relay_name bits half) (codes "part_0") first_part refl port net c n) in
+        let middle : Joins path (codes "part_1") second_of_three = (λ j port net c n. joined path (odd_tree bits k half) at 7 j (relay_name bits half) (codes "part_1") second_of_three refl port net c n) in
+        let far : Joins path (codes "part_2") third_part = (λ j port net c n. joined path (odd_tree bits k half) at 8 j (relay_name bits 1) (codes "part_2") third_part refl port net c n) in
+        let row = three_in_row path near middle far in
+        let a : Relays half (codes "part_0" ∷ path) =
+        part (codes "part_0" ∷ path) (inside path (odd_tree bits k half) at (codes "part_0") (relay_name bits half) refl) (λ n. near 1 (codes "rst") (codes "rst") refl n ∙ same n) in
+        let b : Relays half (codes "part_1" ∷ path) =
+        part (codes "part_1" ∷ path) (inside path (odd_tree bits k half) at (codes "part_1") (relay_name bits half) refl) (λ n. middle 1 (codes "rst") (codes "rst") refl n ∙ same n) in
+        let c : Relays 1 (codes "part_2" ∷ path) =
+        one_step (codes "part_2" ∷ path) (inside path (odd_tree bits k half) at (codes "part_2") (relay_name bits 1) refl ∙ found) (λ n. far 1 (codes "rst") (codes "rst") refl n ∙ same n) 1 refl in
+        let answers = row.rdy_last 0 in
+        let low = a.1 in
+        let sum : k ≡ half + (half + 1) = omega arith in
+        (TwoParts k _ half (half + 1) _ _ sum row a.0 (TwoParts (half + 1) _ half 1 _ _ refl (last_in_row path middle far) b.0 c.0), omega (arith, answers, low))
+
+    pub is_relay : (steps : ℕ) (xs : List ModuleTree) → AreRelays bits steps xs → AreFoundIn all xs → Halves steps
+    is_relay steps xs (One k e) found path at same = one_step path (at ∙ ap (λ s. module_named all (relay_name bits s)) e ∙ found (step_tree bits) (inl refl)) same k e
+    is_relay steps xs (More k rest l r) found path at same =
+        let part : Halves (k / 2) = is_relay (k / 2) rest r (λ m h. found m (inr h)) in
+        let here : module_at all root path ≡ Some (row_tree bits k) = at ∙ ap (module_named all) (sym (row_name bits k)) ∙ found (row_tree bits k) (inl refl) in
+        ⊎_elim
+        (λ e. of_two k (k / 2) (omega arith) part path (here ∙ ap (λ b. Some (cond b (even_tree bits k (k / 2)) (odd_tree bits k (k / 2)))) (eq-eqb (k % 2) 0 e)) same)
+        (λ e.
+        of_three k (k / 2) (omega arith) part (found (step_tree bits) (inr (has_one (k / 2) rest r))) path (here ∙ ap (λ b. Some (cond b (even_tree bits k (k / 2)) (odd_tree bits k (k / 2)))) (ne_eqb (k % 2) 0 e)) same)
+        (cases_eq (k % 2) 0)

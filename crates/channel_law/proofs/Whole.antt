@@ -1,5 +1,5 @@
 -- The lines of whole channels are the equations of channels.
-use Rattle.std.proofs.Common.{◌≡◌, ℕ, zero, suc, ◌+◌, ◌-◌, ◌*◌, ◌^◌, ◌<◌, ◌≤◌, Bool, true, false, cond, eqb, ltb, ◌&&◌, List, [], ◌∷◌, Some, inl, inr, refl, sym, ap, subst, ◌∙◌, arith, ⊎_elim}
+use Rattle.std.proofs.Common.{◌≡◌, ℕ, zero, suc, ◌+◌, ◌-◌, ◌*◌, ◌^◌, ◌<◌, ◌≤◌, cond, eqb, ltb, ◌&&◌, List, [], ◌∷◌, Some, inl, inr, refl, sym, ap, subst, ◌∙◌, arith, ⊎_elim}
 use Rattle.std.specs.Prelude.{codes, slice_get, bit_and}
 use Rattle.std.specs.Int.Count.{count_leading_zeros}
 use Rattle.std.proofs.lemmas.Nat.{leading_length}
@@ -7,22 +7,18 @@ use Rattle.std.proofs.lemmas.Bool.{eq-eqb, ne_eqb, cases_eq, cases_lt, lt-ltb, l
 use Rattle.tapa_base.specs.Operators.{bit}
 use Rattle.vlog_tree.specs.declared.tree.BinaryOp.TheVariants.{And}
 use Rattle.vlog_tree.specs.Form.{ModuleTree}
-use Rattle.vlog_tree.specs.Grounded.{Has}
 use Rattle.vlog_tree.specs.Labels.{rst}
-use Rattle.vlog_tree.specs.Table.{Name, module_named}
-use Rattle.vlog_tree.specs.Cycle.{Cycle, Path, Follows, Runs, module_at}
-use Rattle.hw_build.specs.Elements.{built}
+use Rattle.vlog_tree.specs.Table.{Name}
+use Rattle.vlog_tree.specs.Cycle.{Cycle, Path, Runs, module_at}
 use Rattle.hw_build.proofs.Meaning.{driven_is}
-use Rattle.channel_core.specs.Signals.{Resets, Signal, both}
+use Rattle.channel_core.specs.Signals.{Resets, Signal}
 use Rattle.channel_core.specs.Contract.{MeetsContract}
-use Rattle.channel_core.specs.Fifo.{FifoPorts, FifoSizes, SizesFit, IsFifo}
-use Rattle.channel_core.specs.Relay.{IsRelay, RelayPorts}
-use Rattle.channel_core.specs.Channel.{IsPlain, IsJoined, IsChannel}
+use Rattle.channel_core.specs.Fifo.{SizesFit}
 use Rattle.channel_core.proofs.Lines.{bits as bits_are}
 use Rattle.channel_core.proofs.Relays.{delays}
 use Rattle.channel_core.proofs.Laws.{plain, channel}
-use Rattle.channel_law.specs.Names.{channel_name, fifo_name, relay_name}
-use Rattle.channel_law.specs.Texts.{bits_for, fifo_elements, fifo_tree, plain_tree, relayed_tree, fifo_ends, relay_ends, of_net, two, AreRelays, AreModules, Alone, Relayed}
+use Rattle.channel_law.specs.Names.{fifo_name, relay_name}
+use Rattle.channel_law.specs.Texts.{bits_for, fifo_tree, plain_tree, relayed_tree, fifo_ends, relay_ends, of_net, two, AreRelays, AreModules, Alone, Relayed}
 use Rattle.channel_law.specs.Ports.{fifo_ports, relay_ports, channel_ports, AreFoundIn, ActsAsChannel}
 use Rattle.channel_law.proofs.Fifos.{is_fifo, rdy_is, small_bit}
 use Rattle.channel_law.proofs.Relays.{joined, inside, is_relay}

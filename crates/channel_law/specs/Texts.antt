@@ -1,7 +1,6 @@
 -- The modules of a channel by their elements.
 use Rattle.std.specs.Prelude.{◌≡◌, ℕ, ◌+◌, ◌-◌, ◌/◌, ◌%◌, ◌*◌, ◌<◌, List, [], ◌∷◌, codes, ◌==◌, if◌then◌else◌}
 use Rattle.std.specs.Int.Count.{count_leading_zeros}
-use Rattle.vlog_tree.specs.declared.tree.Atom.{Atom}
 use Rattle.vlog_tree.specs.declared.tree.Atom.TheVariants.{Net, Literal}
 use Rattle.vlog_tree.specs.declared.tree.BinaryOp.{BinaryOp}
 use Rattle.vlog_tree.specs.declared.tree.BinaryOp.TheVariants.{Plus, Minus, And, Xor, Equals, Differs, Less}
@@ -46,29 +45,44 @@ relay_ends put din rdy_early put_late din_late rdy =
     clocks (joined_to (codes "put") put ∷ joined_to (codes "din") din ∷ joined_to (codes "rdy_early") rdy_early
     ∷ joined_to (codes "put_late") put_late ∷ joined_to (codes "din_late") din_late ∷ joined_to (codes "rdy") rdy ∷ [])
 
+-- the ports of a relay that is made of others, and the wires behind its first part
+abbrev pub row_ports : ℕ → List Element → List Element
+row_ports bits rest =
+    Input 1 (codes "put") ∷ Input bits (codes "din") ∷ Input 1 (codes "rdy_early")
+    ∷ Outlet 1 (codes "put_late") ∷ Outlet bits (codes "din_late") ∷ Outlet 1 (codes "rdy")
+    ∷ Link 1 (codes "put_1") ∷ Link bits (codes "din_1") ∷ Link 1 (codes "rdy_1") ∷ rest
+
 abbrev pub first_part : List Connection
 first_part = relay_ends (codes "put") (codes "din") (codes "rdy_1") (codes "put_1") (codes "din_1") (codes "rdy")
 
-abbrev pub second_part : List Connection
-second_part = relay_ends (codes "put_1") (codes "din_1") (codes "rdy_early") (codes "put_late") (codes "din_late") (codes "rdy_1")
+abbrev pub second_of_two : List Connection
+second_of_two = relay_ends (codes "put_1") (codes "din_1") (codes "rdy_early") (codes "put_late") (codes "din_late") (codes "rdy_1")
 
--- two relays in a row
-abbrev pub row_elements : (bits : ℕ) (first second : Name) → List Element
-row_elements bits first second =
-    Input 1 (codes "put") ∷ Input bits (codes "din") ∷ Input 1 (codes "rdy_early")
-    ∷ Outlet 1 (codes "put_late") ∷ Outlet bits (codes "din_late") ∷ Outlet 1 (codes "rdy")
-    ∷ Link 1 (codes "put_1") ∷ Link bits (codes "din_1") ∷ Link 1 (codes "rdy_1")
-    ∷ Instance first (codes "part_0") first_part ∷ Instance second (codes "part_1") second_part ∷ []
+abbrev pub second_of_three : List Connection
+second_of_three = relay_ends (codes "put_1") (codes "din_1") (codes "rdy_2") (codes "put_2") (codes "din_2") (codes "rdy_1")
 
--- of an even number of steps two halves, of an odd one a step and the others
-abbrev pub steps_first : ℕ → ℕ
-steps_first steps = if steps % 2 == 0 then steps / 2 else 1
+abbrev pub third_part : List Connection
+third_part = relay_ends (codes "put_2") (codes "din_2") (codes "rdy_early") (codes "put_late") (codes "din_late") (codes "rdy_2")
+
+-- two halves in a row
+abbrev pub even_elements : (bits : ℕ) (half : Name) → List Element
+even_elements bits half = row_ports bits (Instance half (codes "part_0") first_part ∷ Instance half (codes "part_1") second_of_two ∷ [])
+
+-- two halves and a step
+abbrev pub odd_elements : (bits : ℕ) (half step : Name) → List Element
+odd_elements bits half step =
+    row_ports bits
+    (Link 1 (codes "put_2") ∷ Link bits (codes "din_2") ∷ Link 1 (codes "rdy_2")
+    ∷ Instance half (codes "part_0") first_part ∷ Instance half (codes "part_1") second_of_three ∷ Instance step (codes "part_2") third_part ∷ [])
 
 abbrev pub step_tree : ℕ → ModuleTree
 step_tree bits = built (relay_name bits 1) (step_elements bits)
 
-abbrev pub row_tree : ℕ → ℕ → ModuleTree
-row_tree bits steps = built (relay_name bits steps) (row_elements bits (relay_name bits (steps_first steps)) (relay_name bits (steps - steps_first steps)))
+abbrev pub even_tree : (bits steps half : ℕ) → ModuleTree
+even_tree bits steps half = built (relay_name bits steps) (even_elements bits (relay_name bits half))
+
+abbrev pub odd_tree : (bits steps half : ℕ) → ModuleTree
+odd_tree bits steps half = built (relay_name bits steps) (odd_elements bits (relay_name bits half) (relay_name bits 1))
 
 -- the wires for the place after another: `_up`, `_last` and `_next`
 abbrev pub next_wires : (place_bits places : ℕ) (place up last next : Name) → List Element → List Element
@@ -136,10 +150,14 @@ abbrev pub relayed_tree : (bits depth late : ℕ) → ModuleTree
 relayed_tree bits depth late =
     built (channel_name bits depth late) (channel_ports bits (relayed_inside bits (relay_name bits late) (fifo_name bits depth (depth + 2 * late))))
 
+-- of an even number of steps two halves, of an odd one two halves and a step
+abbrev pub row_tree : (bits steps : ℕ) → ModuleTree
+row_tree bits steps = if steps % 2 == 0 then even_tree bits steps (steps / 2) else odd_tree bits steps (steps / 2)
+
 -- a relay of so many steps, and below it those that it is made of
 pub data AreRelays (bits : ℕ) : ℕ → List ModuleTree → Type 0 where
   One : (steps : ℕ) → steps ≡ 1 → AreRelays bits steps (step_tree bits ∷ [])
-  More : (steps : ℕ) (rest : List ModuleTree) → 1 < steps → AreRelays bits (steps - steps_first steps) rest → AreRelays bits steps (row_tree bits steps ∷ rest)
+  More : (steps : ℕ) (rest : List ModuleTree) → 1 < steps → AreRelays bits (steps / 2) rest → AreRelays bits steps (row_tree bits steps ∷ rest)
 
 -- the modules of a channel, its outermost module first
 pub data AreModules (bits depth : ℕ) : ℕ → List ModuleTree → Type 0 where

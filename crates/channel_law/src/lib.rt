@@ -4,4 +4,4 @@
 
 mod laws;
 
-pub use laws::law_channels_act;
+pub use laws::{law_channels_act, law_modules_are_clear, law_names_tell_modules};

@@ -1,4 +1,4 @@
-// A coroutine before its first tick.
+// A coroutine before its first tick, and on its way to another thread.
 ghost use Rattle.std.specs.Prelude.{◌≡◌, IfOk, length};
 
 #[cfg(test)]
@@ -44,6 +44,22 @@ mod tests {
         let cells = vec![in alloc; 10u64, 20]?;
         let memories = vec![in alloc; cells]?;
         Coro::new(alloc, Arc::new(alloc, machine)?, &[7], memories)
+    }
+
+    // A value that may move to another thread.
+    fn sent<T: Send>(value: T) -> T {
+        value
+    }
+
+    #[test]
+    fn may_move_to_another_thread(rt: HostRuntime) {
+        match coroutine(rt.alloc()) {
+            Ok(coro) => {
+                let coro = sent(coro);
+                assert_eq!(rt; coro.ticks(), 0);
+            }
+            Err(_) => assert!(rt; false),
+        }
     }
 
     #[test]

@@ -11,6 +11,7 @@ ghost use Rattle.flow_cert.specs.Walks.{LeastOfConsistent};
 ghost use Rattle.flow_cert.specs.Verdicts.{IsVerdict, Proves, AreLists};
 
 use crate::verdict::Verdict;
+pub use parts::{flow_weight, registers, width_weight};
 use task_graph::Graph;
 
 /// Whether one number per group and a flow show each other best: the first verdict that holds. `lat` has the latency of each

@@ -1,2 +1,13 @@
 pub mod Meaning
 pub mod Forms
+pub mod Tables
+pub mod Uses
+pub mod Widths
+pub mod Drivers
+pub mod Right
+pub mod Places
+pub mod Order
+pub mod Free
+pub mod Driven
+pub mod Appended
+pub mod Ors

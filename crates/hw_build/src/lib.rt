@@ -6,8 +6,12 @@ mod draft;
 mod laws;
 mod steps;
 mod texts;
+mod trees;
 
 pub use draft::Draft;
-pub use laws::{law_blocks, law_built_has_form};
+pub use laws::{
+    law_blocks, law_built_has_form, law_built_has_no_loop, law_built_is_right,
+    law_elements_in_a_run, law_loopless, law_rests_on_no_input, law_trees,
+};
 pub use steps::{copy_steps, reset_set_steps, reset_steps, store_steps};
-pub use texts::{clock_name, net, net_value, number, reset_name, text};
+pub use texts::{clock_name, net, net_value, number, numbered, reset_name, text};

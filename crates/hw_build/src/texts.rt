@@ -1,12 +1,14 @@
 // Names and atoms from the bytes of a program.
 
-ghost use Rattle.std.specs.Prelude.{◌≡◌, IfOk};
+ghost use Rattle.std.specs.Prelude.{◌≡◌, ◌++◌, ◌∷◌, IfOk, decimal};
 ghost use Rattle.std.specs.Str.{IsAscii};
 ghost use Rattle.vlog_tree.specs.declared.tree.Atom.TheVariants.{Net as NetTree, Literal as LiteralTree};
 ghost use Rattle.vlog_tree.specs.declared.tree.Value.TheVariants.{Plain as PlainTree};
 ghost use Rattle.vlog_tree.specs.Table.{clk};
 ghost use Rattle.vlog_tree.specs.Labels.{rst};
+ghost use Rattle.hw_build.specs.Trees.{numbered as numbered_name};
 
+use itoa::Buffer;
 use std::alloc::{AllocError, Global};
 use tapa_base::Text;
 use vlog_tree::{Atom, Value};
@@ -59,4 +61,34 @@ pub fn number(width: u32, value: u32) -> Atom
         width,
         value: value as u128,
     }
+}
+
+fn add_number(bytes: &mut Vec<u8>, number: u32) -> Result<(), AllocError>
+    requires { IsAscii bytes.old.items }
+    ensures value { IfOk result (λ u. bytes.new.items ≡ bytes.old.items ++ decimal number) }
+    ensures ascii { IfOk result (λ u. IsAscii bytes.new.items) }
+{
+    let mut buffer = Buffer::new();
+    bytes.extend_from_slice(buffer.format(number).as_bytes())?;
+    Ok(())
+}
+
+fn add_next(bytes: &mut Vec<u8>, number: u32) -> Result<(), AllocError>
+    requires { IsAscii bytes.old.items }
+    ensures value { IfOk result (λ u. bytes.new.items ≡ bytes.old.items ++ 95 ∷ decimal number) }
+    ensures ascii { IfOk result (λ u. IsAscii bytes.new.items) }
+{
+    bytes.push(b'_')?;
+    add_number(bytes, number)
+}
+
+/// A name with a number behind it, as `w_7`.
+#[tactic(auto, unfolding(crate::specs::Trees::numbered))]
+pub fn numbered(alloc: Global, front: &[u8], number: u32) -> Result<Text, AllocError>
+    requires { IsAscii front.now }
+    ensures { IfOk result (λ t. t ≡ numbered_name front.now number) }
+{
+    let mut bytes = front.to_vec(alloc)?;
+    add_next(&mut bytes, number)?;
+    Ok(Text::new(bytes))
 }

@@ -86,12 +86,12 @@ block_is K n l end_of-Stmt σ go out again = refl
 block_is K n l (more_of-Stmt s rest) σ go out again =
     ap (λ (k : State → Behavior). stmt K n s σ k out again) (fun_ext (λ σ'. block_is K n _ rest σ' go out again))
 
-abbrev left_row : Stmt → (l : _) × Row_of-Stmt l
+abbrev pub left_row : Stmt → (l : _) × Row_of-Stmt l
 left_row (If' e p left q right) = (_, left)
 left_row (Loop' e p left q right) = (_, left)
 left_row _ = (_, end_of-Stmt)
 
-abbrev right_row : Stmt → (l : _) × Row_of-Stmt l
+abbrev pub right_row : Stmt → (l : _) × Row_of-Stmt l
 right_row (If' e p left q right) = (_, right)
 right_row (Loop' e p left q right) = (_, right)
 right_row _ = (_, end_of-Stmt)

@@ -5,6 +5,7 @@ ghost use Rattle.kahn_model.specs.Rows.{rows_of};
 ghost use Rattle.kahn_model.specs.Trace.{at_zero, cell, with_cell};
 ghost use Rattle.tapa_base.specs.Kinds.{bits_of, values_of, converted};
 ghost use Rattle.tapa_base.specs.Operators.{CanApply, applied};
+ghost use Rattle.tapa_syntax.specs.Typed.{right_kind};
 
 use crate::slow::Fault;
 use tapa_base::{Kind, Op, apply, can_apply, convert};
@@ -34,7 +35,8 @@ pub(crate) fn convert_value(from: Kind, to: Kind, v: u64) -> Result<u64, Fault>
 
 // The cell of kind `own` that holds `old`, after `op=` with a value.
 pub(crate) fn changed(own: Kind, kind: Kind, op: Op, old: u64, v: u64) -> Result<u64, Fault>
-    ensures { IfOk result (λ w. w ≡ converted kind own (applied op kind (converted own kind old) v)) }
+    ensures value { IfOk result (λ w. w ≡ converted kind own (applied op kind (converted own kind old) v)) }
+    ensures err { OnErr result (old < values_of own → v < values_of (right_kind op kind) → CanApply op kind v → ⊥) }
 {
     let left = convert_value(own, kind, old)?;
     let value = apply_values(op, kind, left, v)?;

@@ -1,13 +1,14 @@
 //! Kahn's rounds of a program, computed as they are defined: slow, and of use beside a faster engine.
 
-ghost use Rattle.std.specs.Prelude.{◌≡◌, ℕ, ◌<◌, length, slice_get, flat_map, option_to_list, [], ◌∷◌, ◌++◌, IfOk};
+ghost use Rattle.std.specs.Prelude.{◌≡◌, ℕ, ◌<◌, length, slice_get, flat_map, option_to_list, [], ◌∷◌, ◌++◌, IfOk, IsErrOf};
 ghost use Rattle.kahn_model.specs.declared.tick.Tick.TheVariants.{End};
 ghost use Rattle.tapa_syntax.specs.declared.program.Stream.{Stream};
 ghost use Rattle.tapa_syntax.specs.WellFormed.{IsWellFormed};
 ghost use Rattle.kahn_model.specs.Behavior.{ticks};
-ghost use Rattle.kahn_model.specs.Fits.{ScalarsFit};
+ghost use Rattle.kahn_model.specs.Fits.{ScalarsFit, FitsInput};
 ghost use Rattle.kahn_model.specs.Network.{put_on, stream};
 ghost use Rattle.kahn_model.specs.ProgramNetwork.{end_of, instance_job};
+ghost use Rattle.kahn_reference.specs.Kept.{TokensFit};
 ghost use Rattle.kahn_reference.specs.Slow.{whole};
 ghost use Rattle.kahn_model.specs.Rows.{rows_of};
 ghost use Rattle.kahn_model.specs.Start.{instance_state, network_of};
@@ -39,7 +40,8 @@ fn instance_ticks(
     lists: &[Vec<Token>],
 ) -> Result<Vec<Tick>, Fault>
     requires { ScalarsFit program.now scalars.now }
-    ensures { IfOk result (λ v. v.items ≡ ticks (instance_job program.now.bodies.items (slice_get program.now.instances.items i) (instance_state program.now scalars.now (rows_of memories.now) (slice_get program.now.instances.items i)) n) (whole lists.now)) }
+    ensures ticks { IfOk result (λ v. v.items ≡ ticks (instance_job program.now.bodies.items (slice_get program.now.instances.items i) (instance_state program.now scalars.now (rows_of memories.now) (slice_get program.now.instances.items i)) n) (whole lists.now)) }
+    ensures fault { IsWellFormed program.now → FitsInput program.now scalars.now (rows_of memories.now) → TokensFit program.now lists.now → IsErrOf result Fault.NotOfItsKind → ⊥ }
 {
     match program.instances.get(i as usize) {
         None => Ok(end_alone(alloc)?),
@@ -104,7 +106,8 @@ fn next_stream(
     lists: &[Vec<Token>],
 ) -> Result<Vec<Token>, Fault>
     requires { ScalarsFit program.now scalars.now }
-    ensures { IfOk result (λ v. v.items ≡ flat_map (put_on s) (ticks ((network_of program.now scalars.now (rows_of memories.now)).job ((network_of program.now scalars.now (rows_of memories.now)).producer s) n) (whole lists.now))) }
+    ensures tokens { IfOk result (λ v. v.items ≡ flat_map (put_on s) (ticks ((network_of program.now scalars.now (rows_of memories.now)).job ((network_of program.now scalars.now (rows_of memories.now)).producer s) n) (whole lists.now))) }
+    ensures fault { IsWellFormed program.now → FitsInput program.now scalars.now (rows_of memories.now) → TokensFit program.now lists.now → IsErrOf result Fault.NotOfItsKind → ⊥ }
 {
     let ticks = instance_ticks(
         alloc,
@@ -137,6 +140,7 @@ fn next_round(
     requires { ScalarsFit program.now scalars.now }
     ensures many { IfOk result (λ r. length r.items ≡ length program.now.streams.items) }
     ensures each { IfOk result (λ r. (s : ℕ) → s < length program.now.streams.items → whole r.items s ≡ flat_map (put_on s) (ticks ((network_of program.now scalars.now (rows_of memories.now)).job ((network_of program.now scalars.now (rows_of memories.now)).producer s) n) (whole lists.now))) }
+    ensures fault { IsWellFormed program.now → FitsInput program.now scalars.now (rows_of memories.now) → TokensFit program.now lists.now → IsErrOf result Fault.NotOfItsKind → ⊥ }
 {
     let mut next = Vec::new(alloc);
     for s in 0..program.streams.len() {
@@ -158,7 +162,8 @@ fn no_tokens(alloc: Global, count: usize) -> Result<Vec<Vec<Token>>, AllocError>
 }
 
 /// What every stream of a program has in round n of Kahn's iteration, given the values of the top task's scalars and the
-/// first cells of its memories. Each round runs the producer of each stream again from its start, so this is slow.
+/// first cells of its memories. Each round runs the producer of each stream again from its start, so this is slow. A
+/// well-formed program gets its rounds on each input that fits, where memory suffices; `NotOfItsKind` comes to others alone.
 pub fn streams(
     alloc: Global,
     program: &Program,
@@ -166,7 +171,8 @@ pub fn streams(
     memories: &[Vec<u64>],
     n: u64,
 ) -> Result<Vec<Vec<Token>>, Fault>
-    ensures { IsWellFormed program.now → IfOk result (λ r. (s : ℕ) → whole r.items s ≡ stream (network_of program.now scalars.now (rows_of memories.now)) n s) }
+    ensures rounds { IsWellFormed program.now → IfOk result (λ r. (s : ℕ) → whole r.items s ≡ stream (network_of program.now scalars.now (rows_of memories.now)) n s) }
+    ensures fault { IsWellFormed program.now → FitsInput program.now scalars.now (rows_of memories.now) → IsErrOf result Fault.NotOfItsKind → ⊥ }
 {
     if !scalars_fit(program, scalars) {
         return Err(Fault::NotOfItsKind);

@@ -1,8 +1,11 @@
 //! The statements that hold no statements, each as it is defined.
 
-ghost use Rattle.std.specs.Prelude.{◌≡◌, ℕ, length, IfOk};
+ghost use Rattle.std.specs.Prelude.{◌≡◌, ◌≢◌, ℕ, length, IfOk, IfErr};
 ghost use Rattle.tapa_syntax.specs.declared.program.Stmt.TheVariants.{Set, SetCell, SetCellBy, Store as StoreCell, StoreBy, ReadVar, ReadCell, ReadStore, Write, Open as OpenIt, Discard};
 ghost use Rattle.tapa_syntax.specs.LeafKinds.{Kinds, kinds_of};
+ghost use Rattle.tapa_syntax.specs.Typed.{IsTyped};
+ghost use Rattle.kahn_reference.specs.declared.slow.Fault.TheVariants.{NotOfItsKind};
+ghost use Rattle.kahn_reference.specs.Kept.{StandsFit, FlowFits};
 ghost use Rattle.kahn_reference.specs.Slow.{point, numbers, state_of, GivesFlow};
 ghost use Rattle.kahn_model.specs.Trace.{stmt};
 
@@ -27,6 +30,8 @@ pub(crate) fn run_set(
     requires { length run.old.heads.items ≡ length lists.now }
     ensures heads { IfOk result (λ f. length run.new.heads.items ≡ length lists.now) }
     ensures flow { IfOk result (λ f. (K : Kinds) (n : ℕ) → GivesFlow (numbers streams.now) f (point lists.now run.old) (stmt K n (Set x e.now) (state_of run.old.state)) (point lists.now run.new)) }
+    ensures fits { IfOk result (λ f. (K : Kinds) → IsTyped K (Set x e.now) → StandsFit K streams.now lists.now (state_of run.old.state) → FlowFits K (state_of run.new.state) f) }
+    ensures cause { IfErr result (λ fault. (K : Kinds) → IsTyped K (Set x e.now) → StandsFit K streams.now lists.now (state_of run.old.state) → fault ≢ NotOfItsKind) }
 {
     match run_expr(lists, streams, run, e)? {
         Value::Stopped(m) => Ok(Flow::Stopped(m)),
@@ -49,6 +54,8 @@ pub(crate) fn run_set_cell(
     requires { length run.old.heads.items ≡ length lists.now }
     ensures heads { IfOk result (λ f. length run.new.heads.items ≡ length lists.now) }
     ensures flow { IfOk result (λ f. (K : Kinds) (n : ℕ) → GivesFlow (numbers streams.now) f (point lists.now run.old) (stmt K n (SetCell array index.now value.now) (state_of run.old.state)) (point lists.now run.new)) }
+    ensures fits { IfOk result (λ f. (K : Kinds) → IsTyped K (SetCell array index.now value.now) → StandsFit K streams.now lists.now (state_of run.old.state) → FlowFits K (state_of run.new.state) f) }
+    ensures cause { IfErr result (λ fault. (K : Kinds) → IsTyped K (SetCell array index.now value.now) → StandsFit K streams.now lists.now (state_of run.old.state) → fault ≢ NotOfItsKind) }
 {
     match run_pair(lists, streams, run, value, index)? {
         Pair::Stopped(m) => Ok(Flow::Stopped(m)),
@@ -74,6 +81,8 @@ pub(crate) fn run_set_cell_by(
     requires { length run.old.heads.items ≡ length lists.now }
     ensures heads { IfOk result (λ f. length run.new.heads.items ≡ length lists.now) }
     ensures flow { IfOk result (λ f. (n : ℕ) → GivesFlow (numbers streams.now) f (point lists.now run.old) (stmt (kinds_of leaf.now) n (SetCellBy array index.now op kind value.now) (state_of run.old.state)) (point lists.now run.new)) }
+    ensures fits { IfOk result (λ f. IsTyped (kinds_of leaf.now) (SetCellBy array index.now op kind value.now) → StandsFit (kinds_of leaf.now) streams.now lists.now (state_of run.old.state) → FlowFits (kinds_of leaf.now) (state_of run.new.state) f) }
+    ensures cause { IfErr result (λ fault. IsTyped (kinds_of leaf.now) (SetCellBy array index.now op kind value.now) → StandsFit (kinds_of leaf.now) streams.now lists.now (state_of run.old.state) → fault ≢ NotOfItsKind) }
 {
     match run_pair(lists, streams, run, value, index)? {
         Pair::Stopped(m) => Ok(Flow::Stopped(m)),
@@ -98,6 +107,8 @@ pub(crate) fn run_store(
     requires { length run.old.heads.items ≡ length lists.now }
     ensures heads { IfOk result (λ f. length run.new.heads.items ≡ length lists.now) }
     ensures flow { IfOk result (λ f. (K : Kinds) (n : ℕ) → GivesFlow (numbers streams.now) f (point lists.now run.old) (stmt K n (StoreCell memory index.now value.now) (state_of run.old.state)) (point lists.now run.new)) }
+    ensures fits { IfOk result (λ f. (K : Kinds) → IsTyped K (StoreCell memory index.now value.now) → StandsFit K streams.now lists.now (state_of run.old.state) → FlowFits K (state_of run.new.state) f) }
+    ensures cause { IfErr result (λ fault. (K : Kinds) → IsTyped K (StoreCell memory index.now value.now) → StandsFit K streams.now lists.now (state_of run.old.state) → fault ≢ NotOfItsKind) }
 {
     match run_pair(lists, streams, run, value, index)? {
         Pair::Stopped(m) => Ok(Flow::Stopped(m)),
@@ -123,6 +134,8 @@ pub(crate) fn run_store_by(
     requires { length run.old.heads.items ≡ length lists.now }
     ensures heads { IfOk result (λ f. length run.new.heads.items ≡ length lists.now) }
     ensures flow { IfOk result (λ f. (n : ℕ) → GivesFlow (numbers streams.now) f (point lists.now run.old) (stmt (kinds_of leaf.now) n (StoreBy memory index.now op kind value.now) (state_of run.old.state)) (point lists.now run.new)) }
+    ensures fits { IfOk result (λ f. IsTyped (kinds_of leaf.now) (StoreBy memory index.now op kind value.now) → StandsFit (kinds_of leaf.now) streams.now lists.now (state_of run.old.state) → FlowFits (kinds_of leaf.now) (state_of run.new.state) f) }
+    ensures cause { IfErr result (λ fault. IsTyped (kinds_of leaf.now) (StoreBy memory index.now op kind value.now) → StandsFit (kinds_of leaf.now) streams.now lists.now (state_of run.old.state) → fault ≢ NotOfItsKind) }
 {
     match run_pair(lists, streams, run, value, index)? {
         Pair::Stopped(m) => Ok(Flow::Stopped(m)),
@@ -147,6 +160,8 @@ pub(crate) fn run_read_var(
     requires { length run.old.heads.items ≡ length lists.now }
     ensures heads { IfOk result (λ f. length run.new.heads.items ≡ length lists.now) }
     ensures flow { IfOk result (λ f. (n : ℕ) → GivesFlow (numbers streams.now) f (point lists.now run.old) (stmt (kinds_of leaf.now) n (ReadVar stream var) (state_of run.old.state)) (point lists.now run.new)) }
+    ensures fits { IfOk result (λ f. IsTyped (kinds_of leaf.now) (ReadVar stream var) → StandsFit (kinds_of leaf.now) streams.now lists.now (state_of run.old.state) → FlowFits (kinds_of leaf.now) (state_of run.new.state) f) }
+    ensures cause { IfErr result (λ fault. IsTyped (kinds_of leaf.now) (ReadVar stream var) → StandsFit (kinds_of leaf.now) streams.now lists.now (state_of run.old.state) → fault ≢ NotOfItsKind) }
 {
     match ask_at(lists, streams, run, stream, StreamOperation::Read)? {
         Value::Stopped(m) => Ok(Flow::Stopped(m)),
@@ -171,6 +186,8 @@ pub(crate) fn run_read_cell(
     requires { length run.old.heads.items ≡ length lists.now }
     ensures heads { IfOk result (λ f. length run.new.heads.items ≡ length lists.now) }
     ensures flow { IfOk result (λ f. (n : ℕ) → GivesFlow (numbers streams.now) f (point lists.now run.old) (stmt (kinds_of leaf.now) n (ReadCell stream array index.now) (state_of run.old.state)) (point lists.now run.new)) }
+    ensures fits { IfOk result (λ f. IsTyped (kinds_of leaf.now) (ReadCell stream array index.now) → StandsFit (kinds_of leaf.now) streams.now lists.now (state_of run.old.state) → FlowFits (kinds_of leaf.now) (state_of run.new.state) f) }
+    ensures cause { IfErr result (λ fault. IsTyped (kinds_of leaf.now) (ReadCell stream array index.now) → StandsFit (kinds_of leaf.now) streams.now lists.now (state_of run.old.state) → fault ≢ NotOfItsKind) }
 {
     match run_read(lists, streams, run, index, stream)? {
         Pair::Stopped(m) => Ok(Flow::Stopped(m)),
@@ -195,6 +212,8 @@ pub(crate) fn run_read_store(
     requires { length run.old.heads.items ≡ length lists.now }
     ensures heads { IfOk result (λ f. length run.new.heads.items ≡ length lists.now) }
     ensures flow { IfOk result (λ f. (n : ℕ) → GivesFlow (numbers streams.now) f (point lists.now run.old) (stmt (kinds_of leaf.now) n (ReadStore stream memory index.now) (state_of run.old.state)) (point lists.now run.new)) }
+    ensures fits { IfOk result (λ f. IsTyped (kinds_of leaf.now) (ReadStore stream memory index.now) → StandsFit (kinds_of leaf.now) streams.now lists.now (state_of run.old.state) → FlowFits (kinds_of leaf.now) (state_of run.new.state) f) }
+    ensures cause { IfErr result (λ fault. IsTyped (kinds_of leaf.now) (ReadStore stream memory index.now) → StandsFit (kinds_of leaf.now) streams.now lists.now (state_of run.old.state) → fault ≢ NotOfItsKind) }
 {
     match run_read(lists, streams, run, index, stream)? {
         Pair::Stopped(m) => Ok(Flow::Stopped(m)),
@@ -217,6 +236,8 @@ pub(crate) fn run_write(
     requires { length run.old.heads.items ≡ length lists.now }
     ensures heads { IfOk result (λ f. length run.new.heads.items ≡ length lists.now) }
     ensures flow { IfOk result (λ f. (K : Kinds) (n : ℕ) → GivesFlow (numbers streams.now) f (point lists.now run.old) (stmt K n (Write p e.now) (state_of run.old.state)) (point lists.now run.new)) }
+    ensures fits { IfOk result (λ f. (K : Kinds) → IsTyped K (Write p e.now) → StandsFit K streams.now lists.now (state_of run.old.state) → FlowFits K (state_of run.new.state) f) }
+    ensures cause { IfErr result (λ fault. (K : Kinds) → IsTyped K (Write p e.now) → StandsFit K streams.now lists.now (state_of run.old.state) → fault ≢ NotOfItsKind) }
 {
     match run_expr(lists, streams, run, e)? {
         Value::Stopped(m) => Ok(Flow::Stopped(m)),
@@ -240,6 +261,8 @@ pub(crate) fn run_open(
     requires { length run.old.heads.items ≡ length lists.now }
     ensures heads { IfOk result (λ f. length run.new.heads.items ≡ length lists.now) }
     ensures flow { IfOk result (λ f. (K : Kinds) (n : ℕ) → GivesFlow (numbers streams.now) f (point lists.now run.old) (stmt K n (OpenIt p) (state_of run.old.state)) (point lists.now run.new)) }
+    ensures fits { IfOk result (λ f. (K : Kinds) → IsTyped K (OpenIt p) → StandsFit K streams.now lists.now (state_of run.old.state) → FlowFits K (state_of run.new.state) f) }
+    ensures cause { IfErr result (λ fault. (K : Kinds) → IsTyped K (OpenIt p) → StandsFit K streams.now lists.now (state_of run.old.state) → fault ≢ NotOfItsKind) }
 {
     match ask_at(lists, streams, run, p, StreamOperation::Open)? {
         Value::Stopped(m) => Ok(Flow::Stopped(m)),
@@ -257,6 +280,8 @@ pub(crate) fn run_discard(
     requires { length run.old.heads.items ≡ length lists.now }
     ensures heads { IfOk result (λ f. length run.new.heads.items ≡ length lists.now) }
     ensures flow { IfOk result (λ f. (K : Kinds) (n : ℕ) → GivesFlow (numbers streams.now) f (point lists.now run.old) (stmt K n (Discard e.now) (state_of run.old.state)) (point lists.now run.new)) }
+    ensures fits { IfOk result (λ f. (K : Kinds) → IsTyped K (Discard e.now) → StandsFit K streams.now lists.now (state_of run.old.state) → FlowFits K (state_of run.new.state) f) }
+    ensures cause { IfErr result (λ fault. (K : Kinds) → IsTyped K (Discard e.now) → StandsFit K streams.now lists.now (state_of run.old.state) → fault ≢ NotOfItsKind) }
 {
     match run_expr(lists, streams, run, e)? {
         Value::Stopped(m) => Ok(Flow::Stopped(m)),

@@ -1,15 +1,20 @@
 //! The trace of an instance, computed as it is defined.
 
-ghost use Rattle.std.specs.Prelude.{◌≡◌, ◌∷◌, ◌++◌, [], length, replicate, slice_index_or, IfOk};
+ghost use Rattle.std.specs.Prelude.{◌≡◌, ◌≢◌, ◌∷◌, ◌++◌, [], All, length, replicate, slice_index_or, IfOk, IfErr, IsErrOf};
+ghost use Rattle.tapa_base.specs.declared.kind.Kind.{Kind};
 ghost use Rattle.kahn_model.specs.declared.tick.StreamOperation.{StreamOperation};
 ghost use Rattle.kahn_model.specs.declared.tick.StreamOperation.TheVariants.{Read as ByRead};
 ghost use Rattle.kahn_model.specs.declared.tick.Tick.TheVariants.{Did};
 ghost use Rattle.kahn_model.specs.declared.tick.Action.TheVariants.{Local, Load, Store};
 ghost use Rattle.kahn_model.specs.Behavior.{Await, tick_of, ticks, trace_end};
+ghost use Rattle.kahn_reference.specs.declared.slow.Fault.TheVariants.{NotOfItsKind};
+ghost use Rattle.kahn_reference.specs.Kept.{StandsFit, IsValueOf, IsPairOf, FlowFits, TurnFits, answer_kind};
 ghost use Rattle.kahn_reference.specs.Slow.{point, numbers, state_of, GivesAnswer, GivesValue, GivesPair, GivesFlow, GivesTurn, turn_of, loop_of, turn_left, whole};
+ghost use Rattle.kahn_model.specs.Fits.{IsTokenOf};
 ghost use Rattle.kahn_model.specs.Rows.{rows_of};
 ghost use Rattle.kahn_model.specs.Trace.{expr, stmt, statements, job_of, at_streams, set_var, set_cell, store_cell, cell, cells_of, cleared};
-ghost use Rattle.tapa_syntax.specs.LeafKinds.{kinds_of};
+ghost use Rattle.tapa_syntax.specs.LeafKinds.{Kinds, kinds_of};
+ghost use Rattle.tapa_syntax.specs.Typed.{HasKind, IsTyped, IsTypedCode};
 
 use crate::cells::{
     apply_values, both, cell_of, chosen, convert_value, either, flipped, negated, set_cell_of,
@@ -68,6 +73,7 @@ fn ask(
     ensures heads { IfOk result (λ v. length run.new.heads.items ≡ length lists.now) }
     ensures state { IfOk result (λ v. run.new.state ≡ run.old.state) }
     ensures value { IfOk result (λ v. GivesAnswer v (point lists.now run.old) s how (point lists.now run.new)) }
+    ensures fits { IfOk result (λ v. (k : Kind) → All (IsTokenOf k) (whole lists.now s) → IsValueOf (answer_kind how k) v) }
 {
     let i = s as usize;
     if i >= lists.len() {
@@ -103,6 +109,7 @@ pub(crate) fn ask_at(
     ensures heads { IfOk result (λ v. length run.new.heads.items ≡ length lists.now) }
     ensures state { IfOk result (λ v. run.new.state ≡ run.old.state) }
     ensures value { IfOk result (λ v. GivesValue (numbers streams.now) v (point lists.now run.old) (λ go. Await p how go) (point lists.now run.new)) }
+    ensures fits { IfOk result (λ v. (k : Kind) → All (IsTokenOf k) (whole lists.now (numbers streams.now p)) → IsValueOf (answer_kind how k) v) }
 {
     ask(lists, run, number_at(streams, p), how)
 }
@@ -116,6 +123,11 @@ pub enum Fault {
 }
 
 impl From<AllocError> for Fault {
+    ghost use Rattle.std.specs.Prelude.{◌≡◌};
+    ghost use Rattle.kahn_reference.specs.declared.slow.Fault.TheVariants.{OutOfMemory};
+
+    ghost from_gives = { λ _ fault. fault ≡ OutOfMemory };
+
     fn from(_error: AllocError) -> Fault {
         Fault::OutOfMemory
     }
@@ -153,6 +165,8 @@ pub(crate) fn run_expr(
     ensures heads { IfOk result (λ v. length run.new.heads.items ≡ length lists.now) }
     ensures state { IfOk result (λ v. run.new.state ≡ run.old.state) }
     ensures value { IfOk result (λ v. GivesValue (numbers streams.now) v (point lists.now run.old) (λ go. expr e.now (state_of run.old.state) go) (point lists.now run.new)) }
+    ensures fits { IfOk result (λ v. (K : Kinds) (k : Kind) → HasKind K e.now k → StandsFit K streams.now lists.now (state_of run.old.state) → IsValueOf k v) }
+    ensures cause { IfErr result (λ fault. (K : Kinds) (k : Kind) → HasKind K e.now k → StandsFit K streams.now lists.now (state_of run.old.state) → fault ≢ NotOfItsKind) }
 {
     match e {
         Expr::Lit(_, n) => Ok(Value::Given(*n)),
@@ -361,6 +375,8 @@ pub(crate) fn run_pair(
     ensures heads { IfOk result (λ v. length run.new.heads.items ≡ length lists.now) }
     ensures state { IfOk result (λ v. run.new.state ≡ run.old.state) }
     ensures value { IfOk result (λ v. GivesPair (numbers streams.now) v (point lists.now run.old) (λ go. expr first.now (state_of run.old.state) (λ a. expr second.now (state_of run.old.state) (go a))) (point lists.now run.new)) }
+    ensures fits { IfOk result (λ v. (K : Kinds) (j k : Kind) → HasKind K first.now j → HasKind K second.now k → StandsFit K streams.now lists.now (state_of run.old.state) → IsPairOf j k v) }
+    ensures cause { IfErr result (λ fault. (K : Kinds) (j k : Kind) → HasKind K first.now j → HasKind K second.now k → StandsFit K streams.now lists.now (state_of run.old.state) → fault ≢ NotOfItsKind) }
 {
     match run_expr(lists, streams, run, first)? {
         Value::Stopped(m) => Ok(Pair::Stopped(m)),
@@ -383,6 +399,8 @@ pub(crate) fn run_read(
     ensures heads { IfOk result (λ v. length run.new.heads.items ≡ length lists.now) }
     ensures state { IfOk result (λ v. run.new.state ≡ run.old.state) }
     ensures value { IfOk result (λ v. GivesPair (numbers streams.now) v (point lists.now run.old) (λ go. expr index.now (state_of run.old.state) (λ a. Await p ByRead (go a))) (point lists.now run.new)) }
+    ensures fits { IfOk result (λ v. (K : Kinds) (j : Kind) → HasKind K index.now j → StandsFit K streams.now lists.now (state_of run.old.state) → IsPairOf j (K.streams p) v) }
+    ensures cause { IfErr result (λ fault. (K : Kinds) (j : Kind) → HasKind K index.now j → StandsFit K streams.now lists.now (state_of run.old.state) → fault ≢ NotOfItsKind) }
 {
     match run_expr(lists, streams, run, index)? {
         Value::Stopped(m) => Ok(Pair::Stopped(m)),
@@ -406,6 +424,8 @@ fn run_stmt(
     requires { length run.old.heads.items ≡ length lists.now }
     ensures heads { IfOk result (λ f. length run.new.heads.items ≡ length lists.now) }
     ensures flow { IfOk result (λ f. GivesFlow (numbers streams.now) f (point lists.now run.old) (stmt (kinds_of leaf.now) n s.now (state_of run.old.state)) (point lists.now run.new)) }
+    ensures fits { IfOk result (λ f. IsTyped (kinds_of leaf.now) s.now → StandsFit (kinds_of leaf.now) streams.now lists.now (state_of run.old.state) → FlowFits (kinds_of leaf.now) (state_of run.new.state) f) }
+    ensures cause { IfErr result (λ fault. IsTyped (kinds_of leaf.now) s.now → StandsFit (kinds_of leaf.now) streams.now lists.now (state_of run.old.state) → fault ≢ NotOfItsKind) }
 {
     match s {
         Stmt::Set(x, e) => run_set(lists, streams, run, *x, e),
@@ -488,6 +508,8 @@ fn run_block(
     requires { length run.old.heads.items ≡ length lists.now }
     ensures heads { IfOk result (λ f. length run.new.heads.items ≡ length lists.now) }
     ensures flow { IfOk result (λ f. GivesFlow (numbers streams.now) f (point lists.now run.old) (statements (kinds_of leaf.now) n code.now (state_of run.old.state)) (point lists.now run.new)) }
+    ensures fits { IfOk result (λ f. IsTypedCode (kinds_of leaf.now) code.now → StandsFit (kinds_of leaf.now) streams.now lists.now (state_of run.old.state) → FlowFits (kinds_of leaf.now) (state_of run.new.state) f) }
+    ensures cause { IfErr result (λ fault. IsTypedCode (kinds_of leaf.now) code.now → StandsFit (kinds_of leaf.now) streams.now lists.now (state_of run.old.state) → fault ≢ NotOfItsKind) }
 {
     for s in code {
         match run_stmt(lists, leaf, streams, run, n, s)? {
@@ -511,6 +533,8 @@ fn run_turn(
     requires { length run.old.heads.items ≡ length lists.now }
     ensures heads { IfOk result (λ f. length run.new.heads.items ≡ length lists.now) }
     ensures turn { IfOk result (λ f. GivesTurn (numbers streams.now) f (point lists.now run.old) (turn_of (kinds_of leaf.now) n s.now (state_of run.old.state)) (point lists.now run.new)) }
+    ensures fits { IfOk result (λ f. IsTyped (kinds_of leaf.now) s.now → StandsFit (kinds_of leaf.now) streams.now lists.now (state_of run.old.state) → TurnFits (kinds_of leaf.now) (state_of run.new.state) f) }
+    ensures cause { IfErr result (λ fault. IsTyped (kinds_of leaf.now) s.now → StandsFit (kinds_of leaf.now) streams.now lists.now (state_of run.old.state) → fault ≢ NotOfItsKind) }
 {
     match s {
         Stmt::Loop { test, body, step } => match run_expr(lists, streams, run, test)? {
@@ -557,6 +581,8 @@ fn run_loop(
     requires { length run.old.heads.items ≡ length lists.now }
     ensures heads { IfOk result (λ f. length run.new.heads.items ≡ length lists.now) }
     ensures flow { IfOk result (λ f. GivesFlow (numbers streams.now) f (point lists.now run.old) (loop_of (kinds_of leaf.now) n n s.now (state_of run.old.state)) (point lists.now run.new)) }
+    ensures fits { IfOk result (λ f. IsTyped (kinds_of leaf.now) s.now → StandsFit (kinds_of leaf.now) streams.now lists.now (state_of run.old.state) → FlowFits (kinds_of leaf.now) (state_of run.new.state) f) }
+    ensures cause { IfErr result (λ fault. IsTyped (kinds_of leaf.now) s.now → StandsFit (kinds_of leaf.now) streams.now lists.now (state_of run.old.state) → fault ≢ NotOfItsKind) }
 {
     for _turn in 0..n {
         match run_turn(lists, leaf, streams, run, n, s)? {
@@ -576,7 +602,8 @@ fn none_taken(alloc: Global, n: usize) -> Result<Vec<usize>, AllocError>
 }
 
 /// The trace of an instance of a leaf: its ticks and its end on whole lists, one for each stream of the program, where
-/// each run of a loop makes at most n tests. `streams` has the numbers of the streams at the leaf's positions.
+/// each run of a loop makes at most n tests. `streams` has the numbers of the streams at the leaf's positions. A leaf that is
+/// typed, at a state and on lists of its kinds, gets a trace where memory suffices; `NotOfItsKind` comes to others alone.
 pub fn trace(
     alloc: Global,
     leaf: &Leaf,
@@ -587,6 +614,7 @@ pub fn trace(
 ) -> Result<(Vec<Tick>, TraceEnd), Fault>
     ensures ticks { IfOk result (λ r. r.0.items ≡ ticks (at_streams (numbers streams.now) (job_of (kinds_of leaf.now) leaf.now.code.items (state_of state) n)) (whole lists.now)) }
     ensures trace_end { IfOk result (λ r. r.1 ≡ trace_end (at_streams (numbers streams.now) (job_of (kinds_of leaf.now) leaf.now.code.items (state_of state) n)) (whole lists.now)) }
+    ensures fault { IsTypedCode (kinds_of leaf.now) leaf.now.code.items → StandsFit (kinds_of leaf.now) streams.now lists.now (state_of state) → IsErrOf result NotOfItsKind → ⊥ }
 {
     let mut run = Run {
         state,

@@ -1,5 +1,5 @@
 -- The text of a report: a line for each stream, a line for each memory, and a line that says how the run ended.
-use Rattle.std.specs.Prelude.{ℕ, List, [], ◌∷◌, ◌++◌, codes, decimal}
+use Rattle.std.specs.Prelude.{◌≡◌, ◌≢◌, ℕ, List, [], ◌∷◌, ◌++◌, All, codes, decimal}
 use Rattle.std.specs.List.{flat_map}
 use Rattle.tapa_base.specs.declared.token.Token.{Token}
 use Rattle.tapa_base.specs.declared.token.Token.TheVariants.{Datum, Eot}
@@ -34,3 +34,11 @@ abbrev pub last_line : Last → List ℕ
 last_line (Done n) = codes "done " ++ (decimal n ++ 10 ∷ [])
 last_line (Stopped n) = codes "stopped " ++ (decimal n ++ 10 ∷ [])
 last_line (Running n) = codes "running " ++ (decimal n ++ 10 ∷ [])
+
+-- no end of line (LF) stands in a text
+abbrev pub HasNoLf : List ℕ → Type 0
+HasNoLf text = All (λ b. b ≢ 10) text
+
+-- one line: an end of line at its end, and nowhere before
+abbrev pub IsOneLine : List ℕ → Type 0
+IsOneLine line = (front : List ℕ) × (line ≡ front ++ 10 ∷ []) × HasNoLf front

@@ -1,7 +1,7 @@
 ghost use Rattle.std.specs.Prelude.{◌≡◌, ◌≤◌, ◌++◌, codes, IfOk, OnOk, OnErr, IsErrOf};
 ghost use Rattle.std.specs.Io.KnownBytes.{Appends};
 ghost use Rattle.tapa_base.specs.Outside.{AppendsPart, Rose};
-ghost use Rattle.run_data.specs.Report.{number_text, token_text, tokens_text, numbers_text, stream_line, memory_line, last_line};
+ghost use Rattle.run_data.specs.Report.{number_text, token_text, tokens_text, numbers_text, stream_line, memory_line, last_line, HasNoLf, IsOneLine};
 
 use itoa::Buffer;
 use std::alloc::{AllocError, Global};
@@ -67,8 +67,10 @@ fn line_front(alloc: Global, word: &[u8], name: &[u8]) -> Result<Vec<u8>, AllocE
     Ok(line)
 }
 
+// The line of a stream, which one call of `put_all` gets.
 fn stream_text(alloc: Global, label: &[u8], tokens: &[Token]) -> Result<Vec<u8>, AllocError>
-    ensures { IfOk result (λ line. line.items ≡ stream_line label.now tokens.now) }
+    ensures text { IfOk result (λ line. line.items ≡ stream_line label.now tokens.now) }
+    ensures line { IfOk result (λ line. HasNoLf label.now → IsOneLine line.items) }
 {
     let mut line = line_front(alloc, b"stream ", label)?;
     push_tokens(&mut line, tokens)?;
@@ -76,8 +78,10 @@ fn stream_text(alloc: Global, label: &[u8], tokens: &[Token]) -> Result<Vec<u8>,
     Ok(line)
 }
 
+// The line of a memory.
 fn memory_text(alloc: Global, name: &[u8], cells: &[u64]) -> Result<Vec<u8>, AllocError>
-    ensures { IfOk result (λ line. line.items ≡ memory_line name.now cells.now) }
+    ensures text { IfOk result (λ line. line.items ≡ memory_line name.now cells.now) }
+    ensures line { IfOk result (λ line. HasNoLf name.now → IsOneLine line.items) }
 {
     let mut line = line_front(alloc, b"memory ", name)?;
     push_numbers(&mut line, cells)?;
@@ -85,7 +89,8 @@ fn memory_text(alloc: Global, name: &[u8], cells: &[u64]) -> Result<Vec<u8>, All
     Ok(line)
 }
 
-fn last_text(alloc: Global, last: Last) -> Result<Vec<u8>, AllocError>
+// The bytes of the last line.
+fn last_bytes(alloc: Global, last: Last) -> Result<Vec<u8>, AllocError>
     ensures { IfOk result (λ line. line.items ≡ last_line last) }
 {
     let mut buffer = Buffer::new();
@@ -98,6 +103,14 @@ fn last_text(alloc: Global, last: Last) -> Result<Vec<u8>, AllocError>
     line.extend_from_slice(buffer.format(number).as_bytes())?;
     line.push(b'\n')?;
     Ok(line)
+}
+
+// The last line.
+fn last_text(alloc: Global, last: Last) -> Result<Vec<u8>, AllocError>
+    ensures text { IfOk result (λ line. line.items ≡ last_line last) }
+    ensures line { IfOk result (λ line. IsOneLine line.items) }
+{
+    last_bytes(alloc, last)
 }
 
 /// Writes the line of a stream: its label and the tokens that it carried. After an error the sink holds what it held and

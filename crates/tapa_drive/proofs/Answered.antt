@@ -1,5 +1,6 @@
 -- From how a command was carried out to what the call answers.
 use Rattle.std.proofs.Common.{◌≡◌, ◌≢◌, ◌⊎◌, ℕ, List, Ok, Err, refl, sym, ◌∙◌, inl, inr}
+use Rattle.plan_device.specs.declared.fault.DeviceFault.TheVariants as device_fault
 use Rattle.run_data.specs.declared.data.DataFault.TheVariants.{J1, J2, J3, J4, OutOfMemory}
 use Rattle.tapa_drive.specs.Answer.{HasCause, HasPartOf, Leaves, IsAnswer}
 use Rattle.tapa_drive.specs.Carried.{IsCarriedOut}
@@ -24,6 +25,10 @@ never (spec.Source file place rule) e = cc
 never (spec.Data file fault) e = cc
 never (spec.Ticks most) e = cc
 never (spec.Stopped lines) e = cc
+never (spec.Device file fault) e = cc
+never (spec.TooManyPlans slots free) e = cc
+never spec.NoPlan e = cc
+never (spec.NoRoom label) e = cc
 never spec.Memory e = cc
 
 module _ (words : List (List ℕ)) (before after : Outside) where
@@ -54,6 +59,17 @@ module _ (words : List (List ℕ)) (before after : Outside) where
     says (code.Data file OutOfMemory) t f cause leaves = either (refusal_of (code.Data file OutOfMemory)) cause leaves leaves t
     says (code.Ticks most) t f cause leaves = either (refusal_of (code.Ticks most)) cause leaves (inl leaves) t
     says (code.Stopped lines) t f cause leaves = (refusal_of (code.Stopped lines), f tt, cause, leaves)
+    says (code.Device file device_fault.J1) t f cause leaves = either (refusal_of (code.Device file device_fault.J1)) cause leaves (inl leaves) t
+    says (code.Device file (device_fault.J2 key)) t f cause leaves = either (refusal_of (code.Device file (device_fault.J2 key))) cause leaves (inl leaves) t
+    says (code.Device file (device_fault.J3 key)) t f cause leaves = either (refusal_of (code.Device file (device_fault.J3 key))) cause leaves (inl leaves) t
+    says (code.Device file (device_fault.K1 key)) t f cause leaves = either (refusal_of (code.Device file (device_fault.K1 key))) cause leaves (inl leaves) t
+    says (code.Device file (device_fault.K2 name)) t f cause leaves = either (refusal_of (code.Device file (device_fault.K2 name))) cause leaves (inl leaves) t
+    says (code.Device file (device_fault.K3 label)) t f cause leaves = either (refusal_of (code.Device file (device_fault.K3 label))) cause leaves (inl leaves) t
+    says (code.Device file (device_fault.K4 label)) t f cause leaves = either (refusal_of (code.Device file (device_fault.K4 label))) cause leaves (inl leaves) t
+    says (code.Device file device_fault.OutOfMemory) t f cause leaves = either (refusal_of (code.Device file device_fault.OutOfMemory)) cause leaves leaves t
+    says (code.TooManyPlans slots free) t f cause leaves = either (refusal_of (code.TooManyPlans slots free)) cause leaves (inl leaves) t
+    says code.NoPlan t f cause leaves = either (refusal_of code.NoPlan) cause leaves (inl leaves) t
+    says (code.NoRoom label) t f cause leaves = either (refusal_of (code.NoRoom label)) cause leaves (inl leaves) t
     says code.Memory t f cause leaves = either (refusal_of code.Memory) cause leaves leaves t
 
     not_ok : (why : Refusal) → IsTold why → result ≢ status.Ok

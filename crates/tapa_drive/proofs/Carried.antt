@@ -1,45 +1,51 @@
--- From what reading and running a source give to what carrying a command out answers.
-use Rattle.std.proofs.Common.{◌≡◌, ◌≢◌, ◌⊎◌, ◌≤◌, ℕ, List, Option, Some, None, Ok, Err, refl, sym, ap, subst, ◌∙◌, inl, inr, ⊎_elim}
-use Rattle.std.specs.Prelude.{Vec, Result}
-use Rattle.std.specs.declared.alloc.Global.{Global}
-use Rattle.tapa_base.specs.Outside.{Files, Rose}
+-- From what reading the source of a command and its further file give to what carrying the command out answers.
+use Rattle.std.proofs.Common.{◌≡◌, ◌≢◌, ◌⊎◌, ◌≤◌, ℕ, List, Option, Some, None, Err, refl, sym, ap, ◌∙◌, inl, inr, ⊎_elim}
+use Rattle.tapa_base.specs.Outside.{Files}
 use Rattle.tapa_syntax.specs.declared.program.Program.{Program}
-use Rattle.tapa_words.specs.Words.{Run, command_of}
-use Rattle.run_program.specs.Ending.{EndsSo, HasPart}
-use Rattle.run_program.specs.Run.{Values}
-use Rattle.run_program.specs.declared.run.RunEnd.TheVariants as run_end
-use Rattle.tapa_drive.specs.Answer.{OfRun, OfTexts, IsAsked, HasProgram, HasBadData, HasDone, HasStopped, HasLimit, IsReached, HasCause, HasPartOf, Leaves, ReadsAsked}
+use Rattle.tapa_words.specs.Words.{Command, command_of}
+use Rattle.tapa_drive.specs.Answer.{OfCommand, source_in, top_in, file_in, HasProgram, IsReached, HasCause, Leaves, ReadsAsked}
 use Rattle.tapa_drive.specs.Carried.{IsCarriedOut}
-use Rattle.tapa_drive.specs.Files.{OfSource, OfData, source_limit}
-use Rattle.tapa_drive.specs.Found.{IsNotFound, IsNotGiven}
-use Rattle.tapa_drive.specs.Inputs.{GivesValues, HasDataFault}
+use Rattle.tapa_drive.specs.Files.{OfSource, source_limit}
+use Rattle.tapa_drive.specs.Found.{IsNotFound}
 use Rattle.tapa_drive.specs.Meaning.{refusal_of}
 use Rattle.tapa_drive.specs.Outside.{Outside, Written, outside}
-use Rattle.tapa_drive.specs.Refusal.{Refusal, Usage, Read, Write, TooLong, Source, Data, Ticks, Stopped, Memory, DataFault}
+use Rattle.tapa_drive.specs.Refusal.{Refusal, Usage, Read, Write, TooLong, Source, Data, Ticks, Stopped, Device, TooManyPlans, NoPlan, NoRoom, Memory}
 use Rattle.tapa_drive.specs.Source.{IsProgramOf}
 use Rattle.tapa_drive.specs.declared.refusal.Refusal.{Refusal as CodeRefusal}
-use Rattle.tapa_drive.specs.declared.refusal.Refusal.TheVariants as code
-use Rattle.tapa_drive.proofs.Counts.{rose_since, one_name, later_all}
-use Rattle.tapa_drive.proofs.Sourced.{of_file_also, of_both}
+use Rattle.tapa_drive.proofs.Counts.{one_name}
+use Rattle.tapa_drive.proofs.Sourced.{of_file_also}
 
 module _ (words : List (List ℕ)) (files : Option Files) (reads : List ℕ → ℕ) (out errors told : Written) where
   -- words that are no command leave all as it was, and so do words for which there is no memory
   pub unread : ReadsAsked words (outside files reads out errors) (outside files reads out told)
   unread = record { same_files = refl; asked = λ name. inl refl }
 
-module _ (words : List (List ℕ)) (files : Option Files) (source top : List ℕ) (named : Option (List ℕ)) (limit : ℕ) (asked : command_of words ≡ Some (Run source top named limit)) (reads_old : List ℕ → ℕ) (old errors told : Written) where
+module _ (words : List (List ℕ)) (files : Option Files) (command : Command) (asked : command_of words ≡ Some command) (reads_old : List ℕ → ℕ) (old errors told : Written) where
+  abbrev source : List ℕ
+  source = source_in command
+
+  abbrev top : List ℕ
+  top = top_in command
+
+  abbrev named : Option (List ℕ)
+  named = file_in command
+
   abbrev before : Outside
   before = outside files reads_old old errors
 
   not_found_cause : (files_new : Option Files) (reads_new : List ℕ → ℕ) (new : Written) (r : Refusal) → IsNotFound files reads_old reads_new source top r → HasCause words before (outside files_new reads_new new told) r
   not_found_cause files_new reads_new new Usage h = absurd h
-  not_found_cause files_new reads_new new (Read file) h = (source, top, named, limit, asked, (inl h.0, h.1))
+  not_found_cause files_new reads_new new (Read file) h = (command, asked, (inl h.0, h.1))
   not_found_cause files_new reads_new new Write h = absurd h
-  not_found_cause files_new reads_new new (TooLong file most) h = (source, top, named, limit, asked, inl h)
-  not_found_cause files_new reads_new new (Source file place rule) h = (source, top, named, limit, asked, h)
+  not_found_cause files_new reads_new new (TooLong file most) h = (command, asked, inl h)
+  not_found_cause files_new reads_new new (Source file place rule) h = (command, asked, h)
   not_found_cause files_new reads_new new (Data file fault) h = absurd h
   not_found_cause files_new reads_new new (Ticks most) h = absurd h
   not_found_cause files_new reads_new new (Stopped lines) h = absurd h
+  not_found_cause files_new reads_new new (Device file fault) h = absurd h
+  not_found_cause files_new reads_new new (TooManyPlans slots free) h = absurd h
+  not_found_cause files_new reads_new new NoPlan h = absurd h
+  not_found_cause files_new reads_new new (NoRoom label) h = absurd h
   not_found_cause files_new reads_new new Memory h = tt
 
   not_found_leaves : (files_new : Option Files) (reads_new : List ℕ → ℕ) (r : Refusal) → IsNotFound files reads_old reads_new source top r → Leaves words before (outside files_new reads_new old told) r
@@ -51,10 +57,14 @@ module _ (words : List (List ℕ)) (files : Option Files) (source top : List ℕ
   not_found_leaves files_new reads_new (Data file fault) h = absurd h
   not_found_leaves files_new reads_new (Ticks most) h = absurd h
   not_found_leaves files_new reads_new (Stopped lines) h = absurd h
+  not_found_leaves files_new reads_new (Device file fault) h = absurd h
+  not_found_leaves files_new reads_new (TooManyPlans slots free) h = absurd h
+  not_found_leaves files_new reads_new NoPlan h = absurd h
+  not_found_leaves files_new reads_new (NoRoom label) h = absurd h
   not_found_leaves files_new reads_new Memory h = inl refl
 
   abbrev WasReached : List ℕ → Type 0
-  WasReached name = OfRun words (λ s t d n. IsReached files s t d name)
+  WasReached name = OfCommand words (λ c. IsReached files (source_in c) (top_in c) (file_in c) name)
 
   module _ (files_mid : Option Files) (reads_mid : List ℕ → ℕ) (same_mid : files_mid ≡ files) (later_mid : reads_old source ≤ reads_mid source) (others_mid : (name : List ℕ) → name ≢ source → reads_mid name ≡ reads_old name) where
     reads_source : (new : Written) → ReadsAsked words before (outside files_mid reads_mid new told)
@@ -62,7 +72,7 @@ module _ (words : List (List ℕ)) (files : Option Files) (source top : List ℕ
       same_files = same_mid;
       asked = λ name.
           ⊎_elim {C = (reads_mid name ≡ reads_old name) ⊎ WasReached name}
-          (λ (e : name ≡ source). inr (source, top, named, limit, asked, inl (sym e)))
+          (λ (e : name ≡ source). inr (command, asked, inl (sym e)))
           (λ (n : name ≢ source). inl (others_mid name n))
           (one_name name source);
     }
@@ -76,10 +86,10 @@ module _ (words : List (List ℕ)) (files : Option Files) (source top : List ℕ
     }
 
     module _ (program : Program) (means : OfSource files source (λ text. IsProgramOf text top program)) (files_new : Option Files) (reads_new : List ℕ → ℕ) (same_new : files_new ≡ files_mid) (others_new : (name : List ℕ) → named ≢ Some name → reads_new name ≡ reads_mid name) where
-      has_program : OfSource files source (λ text. HasProgram text top)
+      pub has_program : OfSource files source (λ text. HasProgram text top)
       has_program = of_file_also files source_limit source (λ text. IsProgramOf text top program) (λ text. HasProgram text top) (λ text p. record { program = program; means = p }) means
 
-      -- the data are those that are named, or none
+      -- the further file is the one that is named, or none
       is_data : (given : Option (List ℕ)) (name : List ℕ) → (given ≡ Some name) ⊎ (given ≢ Some name)
       is_data None name = inr (λ e. cc)
       is_data (Some other) name =
@@ -88,99 +98,16 @@ module _ (words : List (List ℕ)) (files : Option Files) (source top : List ℕ
           (λ (n : other ≢ name). inr (λ e. n cc))
           (one_name other name)
 
-      reads_both : (new : Written) → ReadsAsked words before (outside files_new reads_new new told)
+      pub reads_both : (new : Written) → ReadsAsked words before (outside files_new reads_new new told)
       reads_both new = record {
         same_files = same_new ∙ same_mid;
         asked = λ name.
             ⊎_elim {C = (reads_new name ≡ reads_old name) ⊎ WasReached name}
-            (λ (e : name ≡ source). inr (source, top, named, limit, asked, inl (sym e)))
+            (λ (e : name ≡ source). inr (command, asked, inl (sym e)))
             (λ (n : name ≢ source).
             ⊎_elim {C = (reads_new name ≡ reads_old name) ⊎ WasReached name}
-            (λ (d : named ≡ Some name). inr (source, top, named, limit, asked, inr (d, has_program)))
+            (λ (d : named ≡ Some name). inr (command, asked, inr (d, has_program)))
             (λ (m : named ≢ Some name). inl (others_new name m ∙ others_mid name n))
             (is_data named name))
             (one_name name source);
       }
-
-      bad_data : (fault : DataFault) → OfData files named (λ bytes. HasDataFault program bytes fault) → OfTexts files source named (λ text bytes. HasBadData text top bytes fault)
-      bad_data fault h =
-          of_both files source named (λ text. IsProgramOf text top program) (λ bytes. HasDataFault program bytes fault) (λ text bytes. HasBadData text top bytes fault) (λ text bytes p d. record { program = program; means = p; fault = d }) means h
-
-      not_given_cause : (new : Written) (r : Refusal) → IsNotGiven files reads_mid reads_new program named r → HasCause words before (outside files_new reads_new new told) r
-      not_given_cause new Usage h = absurd h
-      not_given_cause new (Read file) h = (source, top, named, limit, asked, (inr (h.0, has_program), rose_since (reads_old file) (reads_mid file) (reads_new file) (later_all source reads_old reads_mid later_mid others_mid file) h.1))
-      not_given_cause new Write h = absurd h
-      not_given_cause new (TooLong file most) h = (source, top, named, limit, asked, inr (h.0, h.1, h.2, has_program))
-      not_given_cause new (Source file place rule) h = absurd h
-      not_given_cause new (Data file fault) h = (source, top, named, limit, asked, (h.0, bad_data fault h.1))
-      not_given_cause new (Ticks most) h = absurd h
-      not_given_cause new (Stopped lines) h = absurd h
-      not_given_cause new Memory h = tt
-
-      not_given_leaves : (r : Refusal) → IsNotGiven files reads_mid reads_new program named r → Leaves words before (outside files_new reads_new old told) r
-      not_given_leaves Usage h = absurd h
-      not_given_leaves (Read file) h = refl
-      not_given_leaves Write h = absurd h
-      not_given_leaves (TooLong file most) h = refl
-      not_given_leaves (Source file place rule) h = absurd h
-      not_given_leaves (Data file fault) h = refl
-      not_given_leaves (Ticks most) h = absurd h
-      not_given_leaves (Stopped lines) h = absurd h
-      not_given_leaves Memory h = inl refl
-
-      pub not_given : {A : Type 0} (r : CodeRefusal) → IsNotGiven files_mid reads_mid reads_new program named (refusal_of r) → IsCarriedOut {A = A} words before (outside files_new reads_new old told) (Err r)
-      not_given r h =
-          let h' = subst (λ (f : Option Files). IsNotGiven f reads_mid reads_new program named (refusal_of r)) same_mid h in
-          record {
-            done = tt;
-            cause = not_given_cause old (refusal_of r) h';
-            leaves = not_given_leaves (refusal_of r) h';
-            reads = reads_both old;
-          }
-
-      module _ (values : Values) (gives_mid : OfData files_mid named (λ bytes. GivesValues program bytes values)) (new : Written) where
-        abbrev after : Outside
-        after = outside files_new reads_new new told
-
-        gives : OfData files named (λ bytes. GivesValues program bytes values)
-        gives = subst (λ (f : Option Files). OfData f named (λ bytes. GivesValues program bytes values)) same_mid gives_mid
-
-        -- what holds of the source's program on its values, of the texts
-        of_asked : (R : List ℕ → List ℕ → Type 0) → ((text bytes : List ℕ) → IsAsked text top bytes program values → R text bytes) → OfTexts files source named R
-        of_asked R f = of_both files source named (λ text. IsProgramOf text top program) (λ bytes. GivesValues program bytes values) R (λ text bytes p g. f text bytes (record { means = p; gives = g })) means gives
-
-        pub ended : {A : Type 0} (x : A) → EndsSo program values limit old.bytes new.bytes run_end.Done → IsCarriedOut words before after (Ok x)
-        ended x e = record {
-          done = (source, top, named, limit, asked, of_asked (λ text bytes. HasDone text top bytes limit old.bytes new.bytes) (λ text bytes a. record { program = program; values = values; asked = a; report = e.0; done = e.1; shown = e.2 }));
-          cause = tt;
-          leaves = tt;
-          reads = reads_both new;
-        }
-
-        pub stopped : {A : Type 0} (lines : Vec (Vec ℕ Global) Global) → EndsSo program values limit old.bytes new.bytes (run_end.Stopped lines) → IsCarriedOut {A = A} words before after (Err (code.Stopped lines))
-        stopped lines e = record {
-          done = tt;
-          cause = (source, top, named, limit, asked, of_asked (λ text bytes. HasStopped text top bytes limit _ old.bytes new.bytes) (λ text bytes a. record { program = program; values = values; asked = a; report = e.0; stopped = e.1; shown = e.2 }));
-          leaves = tt;
-          reads = reads_both new;
-        }
-
-        pub past : {A : Type 0} → EndsSo program values limit old.bytes new.bytes run_end.Limit → IsCarriedOut {A = A} words before after (Err (code.Ticks limit))
-        past e = record {
-          done = tt;
-          cause = (source, top, named, limit, asked, (refl, of_asked (λ text bytes. HasLimit text top bytes limit) (λ text bytes a. record { program = program; values = values; asked = a; past = e.0 })));
-          leaves = e.1;
-          reads = reads_both new;
-        }
-
-        has_part : HasPart program values limit old.bytes new.bytes → HasPartOf words before after
-        has_part h = elim h [
-          | inl same ↦ inl same
-          | inr w ↦ inr (source, top, named, limit, asked, of_asked _ (λ text bytes a. (w.0, record { program = program; values = values; asked = a; is = w.1 }, w.2)))
-        ]
-
-        pub unwritten : {A : Type 0} → Rose old.failed new.failed → HasPart program values limit old.bytes new.bytes → IsCarriedOut {A = A} words before after (Err code.Write)
-        unwritten rose h = record { done = tt; cause = rose; leaves = has_part h; reads = reads_both new }
-
-        pub no_memory : {A : Type 0} → HasPart program values limit old.bytes new.bytes → IsCarriedOut {A = A} words before after (Err code.Memory)
-        no_memory h = record { done = tt; cause = tt; leaves = has_part h; reads = reads_both new }

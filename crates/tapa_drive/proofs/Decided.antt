@@ -2,20 +2,28 @@
 use Rattle.std.proofs.Common.{◌≡◌, ◌≢◌, ◌⊎◌, ◌≤◌, ◌<◌, ℕ, List, length, Option, Some, None, refl, sym, ap, ◌∙◌, subst, inl, inr, ⊎_elim, arith}
 use Rattle.tapa_base.specs.Outside.{Files, file_bytes, Rose}
 use Rattle.tapa_base.specs.Take.{IsLongerThan}
-use Rattle.tapa_words.specs.Words.{Run, command_of}
+use Rattle.tapa_words.specs.Words.{Command, Run, Plan, command_of}
+use Rattle.tapa_words.specs.declared.command.PlanMode.{PlanMode}
 use Rattle.run_program.specs.Laws as run
-use Rattle.tapa_drive.specs.Answer.{OfRun, OfTexts, HasProgram, HasBadData, HasDone, HasStopped, HasLimit, IsReached, IsTooLong, IsRun, HasCause, Leaves, IsAnswer}
+use Rattle.tapa_drive.specs.Answer.{OfCommand, OfRun, OfPlan, OfTexts, source_in, top_in, file_in, HasProgram, HasBadData, HasDone, HasStopped, HasLimit, IsReached, IsTooLong, IsDone, HasCause, Leaves, IsAnswer}
 use Rattle.tapa_drive.specs.Decided.{SourceMeaning, Ran, Misgiven, Overlong, Refused, Given, Bytes, TooMany, IsGiven, Means, IsRefusedWith, Tells, WritesAll, NothingFails, Expects, IsLengthy}
 use Rattle.tapa_drive.specs.Files.{OfSource, OfData, source_limit, data_limit, shown_name}
 use Rattle.tapa_drive.specs.Outside.{Outside, Written, outside}
-use Rattle.tapa_drive.specs.Refusal.{Refusal, Usage, Read, Write, TooLong, Source, Data, Ticks, Stopped, Memory}
+use Rattle.tapa_drive.specs.Refusal.{Refusal, Usage, Read, Write, TooLong, Source, Data, Ticks, Stopped, Device, TooManyPlans, NoPlan, NoRoom, Memory}
 use Rattle.tapa_drive.specs.Source.{IsRefusedSource}
 use Rattle.tapa_drive.specs.Told.{IsTold, IsToldAs}
 use Rattle.tapa_drive.specs.declared.status.Status.{Status}
 use Rattle.tapa_drive.specs.declared.status.Status.TheVariants as status
 use Rattle.tapa_drive.proofs.OneMeaning.{means_one}
 
--- a run that was asked for is the one that the words ask for
+-- a command that was asked for is the one that the words ask for
+pub asked_of : (words : List (List ℕ)) (command : Command) → command_of words ≡ Some command → (P : Command → Type 0) → OfCommand words P → P command
+asked_of words command asked P h =
+    let both : Some h.0 ≡ Some command = sym h.1 ∙ asked in
+    let one : h.0 ≡ command = cc in
+    subst P one h.2
+
+-- and so is a run
 asked_run : (words : List (List ℕ)) (source top : List ℕ) (named : Option (List ℕ)) (limit : ℕ) → command_of words ≡ Some (Run source top named limit) → (P : List ℕ → List ℕ → Option (List ℕ) → ℕ → Type 0) → OfRun words P → P source top named limit
 asked_run words source top named limit asked P h =
     let both : Some (Run h.0 h.1 h.2 h.3) ≡ Some (Run source top named limit) = sym h.4 ∙ asked in
@@ -27,7 +35,7 @@ asked_run words source top named limit asked P h =
 
 module _ (files : Files) where
   -- what holds of the bytes of a source holds of those that are told
-  of_source : (source : List ℕ) (P : List ℕ → Type 0) → OfSource (Some files) source P → P (file_bytes files source)
+  pub of_source : (source : List ℕ) (P : List ℕ → Type 0) → OfSource (Some files) source P → P (file_bytes files source)
   of_source source P (text, is, few, h) = subst P is h
 
   few_in : (source : List ℕ) (most : ℕ) (bytes : List ℕ) → bytes ≡ file_bytes files source → length bytes ≤ most → length (file_bytes files source) ≤ most
@@ -56,10 +64,17 @@ module _ (words : List (List ℕ)) (files : Files) (reads : List ℕ → ℕ) (o
   not_asked : command_of words ≡ None → ⊥
   not_asked h = let both : None ≡ Some (Run source top named limit) = sym h ∙ asked in cc
 
+  -- no plan was asked for
+  not_planned : {P : List ℕ → List ℕ → List ℕ → PlanMode → Type 0} → OfPlan words P → ⊥
+  not_planned h =
+      let both : Some (Plan h.0 h.1 h.2 h.3) ≡ Some (Run source top named limit) = sym h.4 ∙ asked in
+      let one : Plan h.0 h.1 h.2 h.3 ≡ Run source top named limit = cc in
+      cc
+
   -- no read failed
   no_read : (file : List ℕ) → HasCause words before after (Read file) → ⊥
   no_read file h =
-      let c = asked_run words source top named limit asked (λ s t d n. IsReached (Some files) s t d file × Rose (reads file) (after.failed_reads file)) h in
+      let c = asked_of words (Run source top named limit) asked (λ a. IsReached (Some files) (source_in a) (top_in a) (file_in a) file × Rose (reads file) (after.failed_reads file)) h in
       ⊎_elim
       (λ (e : source ≡ file). still.read (subst (λ (f : List ℕ). Rose (reads f) (after.failed_reads f)) (sym e) c.1))
       (λ (w : (named ≡ Some file) × OfSource (Some files) source (λ (t : List ℕ). HasProgram t top)). still.read_data file w.0 c.1)
@@ -91,7 +106,7 @@ module _ (words : List (List ℕ)) (files : Files) (reads : List ℕ → ℕ) (o
     of_reason (Read file) h leaves told = absurd (no_read file h)
     of_reason Write h leaves told = absurd (still.writes.written h)
     of_reason (TooLong file most) h leaves told =
-        let c = asked_run words source top named limit asked (λ s t d n. IsTooLong (Some files) s t d file most) h in
+        let c = asked_of words (Run source top named limit) asked (λ a. IsTooLong (Some files) (source_in a) (top_in a) (file_in a) file most) h in
         ⊎_elim
         (λ (w : (source ≡ file) × (most ≡ source_limit) × IsLongerThan (Some files) file source_limit).
         let long : source_limit < length (file_bytes files source) = subst (λ (f : List ℕ). source_limit < length (file_bytes files f)) (sym w.0) w.2 in
@@ -103,7 +118,7 @@ module _ (words : List (List ℕ)) (files : Files) (reads : List ℕ → ℕ) (o
         (refused_so (TooLong file most) (TooLong (shown_name named) data_limit) result (ap (λ n. TooLong file n) w.1 ∙ ap (λ (f : List ℕ). TooLong f data_limit) (sym (ap shown_name w.0))) told leaves))
         c
     of_reason (Source file place code) h leaves told =
-        let c = asked_run words source top named limit asked (λ s t d n. (s ≡ file) × OfSource (Some files) file (λ text. IsRefusedSource text t place code)) h in
+        let c = asked_of words (Run source top named limit) asked (λ a. (source_in a ≡ file) × OfSource (Some files) file (λ text. IsRefusedSource text (top_in a) place code)) h in
         told_by (Refused place code) (subst (λ (f : List ℕ). IsRefusedSource (file_bytes files f) top place code) (sym c.0) (of_source files file (λ (t : List ℕ). IsRefusedSource t top place code) c.1))
         (refused_so (Source file place code) (Source source place code) result (ap (λ (f : List ℕ). Source f place code) (sym c.0)) told leaves)
     of_reason (Data file fault) h leaves told =
@@ -118,13 +133,18 @@ module _ (words : List (List ℕ)) (files : Files) (reads : List ℕ → ℕ) (o
         let c = asked_run words source top named limit asked (λ s t d n. OfTexts (Some files) s d (λ text bytes. HasStopped text t bytes n lines out.bytes after.out.bytes)) h in
         let (bytes, same, r) = of_given files named given (λ bytes. HasStopped text top bytes limit lines out.bytes after.out.bytes) is_given (of_source files source (λ t. OfData (Some files) named (λ bytes. HasStopped t top bytes limit lines out.bytes after.out.bytes)) c) in
         told_by (Ran (run.Stopped r.report lines)) (subst (λ (g : Given). Means text top g limit (Ran (run.Stopped r.report lines))) (sym same) (r.program, r.values, r.asked, r.stopped)) (told, r.shown)
+    of_reason (Device file fault) h leaves told = absurd (not_planned h)
+    of_reason (TooManyPlans slots free) h leaves told = absurd (not_planned h)
+    of_reason NoPlan h leaves told = absurd (not_planned h)
+    of_reason (NoRoom label) h leaves told = absurd (not_planned h)
     of_reason Memory h leaves told = inr told.0
 
     of_told : (why : Refusal) → IsToldAs why result errors after.err → HasCause words before after why → Leaves words before after why → Meets expected
     of_told why told h leaves = elim told [ inl t ↦ of_reason why h leaves t | inr w ↦ absurd (still.writes.told w.1) ]
 
-    of_ok : IsRun words before after → result ≡ status.Ok → after.err.bytes ≡ errors.bytes → Meets expected
-    of_ok h is same =
+    of_ok : IsDone words before after → result ≡ status.Ok → after.err.bytes ≡ errors.bytes → Meets expected
+    of_ok (inr p) is same = absurd (not_planned p)
+    of_ok (inl h) is same =
         let c = asked_run words source top named limit asked (λ s t d n. OfTexts (Some files) s d (λ text bytes. HasDone text t bytes n out.bytes after.out.bytes)) h in
         let (bytes, found, r) = of_given files named given (λ bytes. HasDone text top bytes limit out.bytes after.out.bytes) is_given (of_source files source (λ t. OfData (Some files) named (λ bytes. HasDone t top bytes limit out.bytes after.out.bytes)) c) in
         told_by (Ran (run.Done r.report)) (subst (λ (g : Given). Means text top g limit (Ran (run.Done r.report))) (sym found) (r.program, r.values, r.asked, r.done)) (is, r.shown, same)
@@ -143,25 +163,30 @@ module _ (words : List (List ℕ)) (files : Files) (reads : List ℕ → ℕ) (o
     too_long result (Read file) h leaves told = absurd (no_read file h)
     too_long result Write h leaves told = absurd (still.writes.written h)
     too_long result (TooLong file most) h leaves told =
-        let c = asked_run words source top named limit asked (λ s t d n. IsTooLong (Some files) s t d file most) h in
+        let c = asked_of words (Run source top named limit) asked (λ a. IsTooLong (Some files) (source_in a) (top_in a) (file_in a) file most) h in
         ⊎_elim {C = IsLong result}
         (λ (w : (source ≡ file) × (most ≡ source_limit) × IsLongerThan (Some files) file source_limit).
         inl (refused_so (TooLong file most) (TooLong source source_limit) result (ap (λ n. TooLong file n) w.1 ∙ ap (λ (f : List ℕ). TooLong f source_limit) (sym w.0)) told leaves))
         (λ (w : (named ≡ Some file) × (most ≡ data_limit) × IsLongerThan (Some files) file data_limit × OfSource (Some files) source (λ (t : List ℕ). HasProgram t top)). absurd (not_few w.3))
         c
     too_long result (Source file place code) h leaves told =
-        let c = asked_run words source top named limit asked (λ s t d n. (s ≡ file) × OfSource (Some files) file (λ text. IsRefusedSource text t place code)) h in
+        let c = asked_of words (Run source top named limit) asked (λ a. (source_in a ≡ file) × OfSource (Some files) file (λ text. IsRefusedSource text (top_in a) place code)) h in
         absurd (not_few (subst (λ (f : List ℕ). OfSource (Some files) f (λ (t : List ℕ). IsRefusedSource t top place code)) (sym c.0) c.1))
     too_long result (Data file fault) h leaves told = absurd (not_few (asked_run words source top named limit asked (λ s t d n. (shown_name d ≡ file) × OfTexts (Some files) s d (λ text bytes. HasBadData text t bytes fault)) h).1)
     too_long result (Ticks most) h leaves told = absurd (not_few (asked_run words source top named limit asked (λ s t d n. (most ≡ n) × OfTexts (Some files) s d (λ text bytes. HasLimit text t bytes n)) h).1)
     too_long result (Stopped lines) h leaves told = absurd (not_few (asked_run words source top named limit asked (λ s t d n. OfTexts (Some files) s d (λ text bytes. HasStopped text t bytes n lines out.bytes after.out.bytes)) h))
+    too_long result (Device file fault) h leaves told = absurd (not_planned h)
+    too_long result (TooManyPlans slots free) h leaves told = absurd (not_planned h)
+    too_long result NoPlan h leaves told = absurd (not_planned h)
+    too_long result (NoRoom label) h leaves told = absurd (not_planned h)
     too_long result Memory h leaves told = inr told.0
 
     of_long : (result : Status) (why : Refusal) → IsToldAs why result errors after.err → HasCause words before after why → Leaves words before after why → IsLong result
     of_long result why told h leaves = elim told [ inl t ↦ too_long result why h leaves t | inr w ↦ absurd (still.writes.told w.1) ]
 
-    no_run : IsRun words before after → ⊥
-    no_run h = not_few (asked_run words source top named limit asked (λ s t d n. OfTexts (Some files) s d (λ text bytes. HasDone text t bytes n out.bytes after.out.bytes)) h)
+    no_run : IsDone words before after → ⊥
+    no_run (inr p) = not_planned p
+    no_run (inl h) = not_few (asked_run words source top named limit asked (λ s t d n. OfTexts (Some files) s d (λ text bytes. HasDone text t bytes n out.bytes after.out.bytes)) h)
 
 pub lengthy : (words : List (List ℕ)) (files : Option Files) (reads : List ℕ → ℕ) (out errors : Written) (after : Outside) (source top : List ℕ) (named : Option (List ℕ)) (limit : ℕ) → command_of words ≡ Some (Run source top named limit) → IsLengthy files source → NothingFails source named (outside files reads out errors) after → (result : Status) → IsAnswer words (outside files reads out errors) after result → IsRefusedWith (TooLong source source_limit) result (outside files reads out errors) after ⊎ (result ≡ status.Memory)
 lengthy words None reads out errors after source top named limit asked long still result h = absurd long
@@ -176,22 +201,36 @@ module _ (words : List (List ℕ)) (before after : Outside) (none : command_of w
   not_run : {P : List ℕ → List ℕ → Option (List ℕ) → ℕ → Type 0} → OfRun words P → ⊥
   not_run h = let both : None ≡ Some (Run h.0 h.1 h.2 h.3) = sym none ∙ h.4 in cc
 
+  not_plan : {P : List ℕ → List ℕ → List ℕ → PlanMode → Type 0} → OfPlan words P → ⊥
+  not_plan h = let both : None ≡ Some (Plan h.0 h.1 h.2 h.3) = sym none ∙ h.4 in cc
+
+  not_command : {P : Command → Type 0} → OfCommand words P → ⊥
+  not_command h = let both : None ≡ Some h.0 = sym none ∙ h.1 in cc
+
+  not_done : IsDone words before after → ⊥
+  not_done (inl h) = not_run h
+  not_done (inr h) = not_plan h
+
   abbrev IsUsage : Status → Type 0
   IsUsage result = IsRefusedWith Usage result before after ⊎ (result ≡ status.Memory)
 
   bad_words : (result : Status) (why : Refusal) → HasCause words before after why → Leaves words before after why → IsTold why result before.err after.err → IsUsage result
   bad_words result Usage h leaves told = inl (record { told = told; quiet = leaves })
-  bad_words result (Read file) h leaves told = absurd (not_run h)
+  bad_words result (Read file) h leaves told = absurd (not_command h)
   bad_words result Write h leaves told = absurd (writes.written h)
-  bad_words result (TooLong file most) h leaves told = absurd (not_run h)
-  bad_words result (Source file place code) h leaves told = absurd (not_run h)
+  bad_words result (TooLong file most) h leaves told = absurd (not_command h)
+  bad_words result (Source file place code) h leaves told = absurd (not_command h)
   bad_words result (Data file fault) h leaves told = absurd (not_run h)
   bad_words result (Ticks most) h leaves told = absurd (not_run h)
   bad_words result (Stopped lines) h leaves told = absurd (not_run h)
+  bad_words result (Device file fault) h leaves told = absurd (not_plan h)
+  bad_words result (TooManyPlans slots free) h leaves told = absurd (not_plan h)
+  bad_words result NoPlan h leaves told = absurd (not_plan h)
+  bad_words result (NoRoom label) h leaves told = absurd (not_plan h)
   bad_words result Memory h leaves told = inr told.0
 
   pub usage : (result : Status) → IsAnswer words before after result → IsUsage result
-  usage status.Ok h = absurd (not_run (h.ok refl))
+  usage status.Ok h = absurd (not_done (h.ok refl))
   usage result h =
       let t = h.told (λ e. cc) in
       elim t.1 [ inl a ↦ bad_words result t.0 t.2 t.3 a | inr w ↦ absurd (writes.told w.1) ]

@@ -1,16 +1,22 @@
--- Why a source has no program, and why a program has no values, by why a file was not taken.
+-- Why a source has no program, and why a program has no values or no device, by why a file was not taken.
 use Rattle.std.proofs.Common.{◌≤◌, ℕ, List, length, Option, Some, None, refl, ap}
 use Rattle.tapa_base.specs.Outside.{Files}
 use Rattle.tapa_base.specs.Take.{IsFileOf}
 use Rattle.tapa_syntax.specs.declared.program.Program.{Program}
+use Rattle.task_graph.specs.declared.Graph.{Graph}
+use Rattle.plan_device.specs.Answer.{IsCause as IsCauseOfDevice}
+use Rattle.plan_device.specs.Faults as device
+use Rattle.plan_device.specs.declared.fault.DeviceFault.{DeviceFault as FaultOfDevice}
+use Rattle.plan_device.specs.declared.fault.DeviceFault.TheVariants as device_fault
 use Rattle.run_data.specs.Data.{Misshapen, Misfit, Oversized}
 use Rattle.run_data.specs.declared.data.DataFault.{DataFault}
 use Rattle.run_data.specs.declared.data.DataFault.TheVariants.{J1, J2, J3, J4, OutOfMemory}
 use Rattle.tapa_drive.specs.Files.{IsUntaken, source_limit, data_limit, no_data}
-use Rattle.tapa_drive.specs.Found.{IsNotFound, IsNotGiven}
+use Rattle.tapa_drive.specs.Found.{IsNotFound, IsNotGiven, IsNoDevice}
 use Rattle.tapa_drive.specs.Inputs.{HasDataFault, IsUnfitBy}
-use Rattle.tapa_drive.specs.Meaning.{data_refusal}
-use Rattle.tapa_drive.specs.Refusal.{Refusal, Usage, Read, Write, TooLong, Source, Data, Ticks, Stopped, Memory, NotJson, Faulty}
+use Rattle.tapa_drive.specs.Meaning.{data_refusal, device_refusal}
+use Rattle.tapa_drive.specs.Planned.{HasDeviceFault}
+use Rattle.tapa_drive.specs.Refusal.{Refusal, Usage, Read, Write, TooLong, Source, Data, Ticks, Stopped, Device, TooManyPlans, NoPlan, NoRoom, Memory, NotJson, Faulty, DeviceFault as TextFault, NoJson, HasFault}
 use Rattle.tapa_drive.proofs.Sourced.{of_taken}
 
 module _ (files : Option Files) (reads_old reads_new : List ℕ → ℕ) where
@@ -23,6 +29,10 @@ module _ (files : Option Files) (reads_old reads_new : List ℕ → ℕ) where
   untaken_source source top (Data file fault) h = absurd h
   untaken_source source top (Ticks most) h = absurd h
   untaken_source source top (Stopped lines) h = absurd h
+  untaken_source source top (Device file fault) h = absurd h
+  untaken_source source top (TooManyPlans slots free) h = absurd h
+  untaken_source source top NoPlan h = absurd h
+  untaken_source source top (NoRoom label) h = absurd h
   untaken_source source top Memory h = tt
 
   module _ (program : Program) where
@@ -35,6 +45,10 @@ module _ (files : Option Files) (reads_old reads_new : List ℕ → ℕ) where
     untaken_data name (Data file fault) h = absurd h
     untaken_data name (Ticks most) h = absurd h
     untaken_data name (Stopped lines) h = absurd h
+    untaken_data name (Device file fault) h = absurd h
+    untaken_data name (TooManyPlans slots free) h = absurd h
+    untaken_data name NoPlan h = absurd h
+    untaken_data name (NoRoom label) h = absurd h
     untaken_data name Memory h = tt
 
     module _ (name bytes : List ℕ) (is : IsFileOf files name bytes) (few : length bytes ≤ data_limit) where
@@ -51,3 +65,33 @@ module _ (files : Option Files) (reads_old reads_new : List ℕ → ℕ) where
     unfit_none (J3 key) h = (refl, h)
     unfit_none (J4 key) h = (refl, h)
     unfit_none OutOfMemory h = tt
+
+    module _ (graph : Graph) where
+      pub untaken_device : (name : List ℕ) (r : Refusal) → IsUntaken files reads_old reads_new name data_limit r → IsNoDevice files reads_old reads_new program graph name r
+      untaken_device name Usage h = absurd h
+      untaken_device name (Read file) h = h
+      untaken_device name Write h = absurd h
+      untaken_device name (TooLong file most) h = h
+      untaken_device name (Source file place code) h = absurd h
+      untaken_device name (Data file fault) h = absurd h
+      untaken_device name (Ticks most) h = absurd h
+      untaken_device name (Stopped lines) h = absurd h
+      untaken_device name (Device file fault) h = absurd h
+      untaken_device name (TooManyPlans slots free) h = absurd h
+      untaken_device name NoPlan h = absurd h
+      untaken_device name (NoRoom label) h = absurd h
+      untaken_device name Memory h = tt
+
+      module _ (name bytes : List ℕ) (is : IsFileOf files name bytes) (few : length bytes ≤ data_limit) where
+        so : (fault : TextFault) → HasDeviceFault program graph bytes fault → IsNoDevice files reads_old reads_new program graph name (Device name fault)
+        so fault h = (refl, of_taken files data_limit name bytes (λ text. HasDeviceFault program graph text fault) is few h)
+
+        pub faulty_device : (fault : FaultOfDevice) → IsCauseOfDevice bytes program graph fault → IsNoDevice files reads_old reads_new program graph name (device_refusal name fault)
+        faulty_device device_fault.J1 h = so NoJson h
+        faulty_device (device_fault.J2 key) h = so (HasFault (device.Misshapen key.items)) h
+        faulty_device (device_fault.J3 key) h = so (HasFault (device.Misfit key.items)) h
+        faulty_device (device_fault.K1 key) h = so (HasFault (device.OutOfRange key.items)) h
+        faulty_device (device_fault.K2 label) h = so (HasFault (device.Unknown label.items)) h
+        faulty_device (device_fault.K3 label) h = so (HasFault (device.Elsewhere label.items)) h
+        faulty_device (device_fault.K4 label) h = so (HasFault (device.OnForbidden label.items)) h
+        faulty_device device_fault.OutOfMemory h = tt

@@ -4,23 +4,47 @@ use Rattle.std.specs.Io.KnownBytes.{Appends}
 use Rattle.tapa_base.specs.Outside.{Files, Rose, AppendsPart}
 use Rattle.tapa_base.specs.Take.{IsLongerThan}
 use Rattle.tapa_syntax.specs.declared.program.Program.{Program}
-use Rattle.tapa_words.specs.Words.{Run, command_of}
-use Rattle.run_program.specs.Ending.{IsReportOf}
+use Rattle.tapa_words.specs.Words.{Command, Run, Plan, command_of}
+use Rattle.tapa_words.specs.declared.command.PlanMode.{PlanMode}
+use Rattle.run_program.specs.Ending.{IsReportOf, joined}
 use Rattle.run_program.specs.Run.{Values, DoneRun, StoppedRun, LimitRun}
 use Rattle.tapa_drive.specs.Files.{OfSource, OfData, source_limit, data_limit, shown_name}
 use Rattle.tapa_drive.specs.Inputs.{GivesValues, HasDataFault}
 use Rattle.tapa_drive.specs.Outside.{Outside}
-use Rattle.tapa_drive.specs.Refusal.{Refusal, Usage, Read, Write, TooLong, Source, Data, Ticks, Stopped, Memory, DataFault}
+use Rattle.tapa_drive.specs.Planned.{mode_of, HasPlan, HasNoPlan, HasBadDevice}
+use Rattle.tapa_drive.specs.Refusal.{Refusal, Usage, Read, Write, TooLong, Source, Data, Ticks, Stopped, Device, TooManyPlans, NoPlan, NoRoom, Memory, DataFault}
 use Rattle.tapa_drive.specs.Source.{IsProgramOf, IsRefusedSource}
 use Rattle.tapa_drive.specs.Told.{IsToldAs}
 use Rattle.tapa_drive.specs.declared.status.Status.{Status}
 use Rattle.tapa_drive.specs.declared.status.Status.TheVariants.{Ok}
+
+-- the words ask for a command, of which this holds
+abbrev pub OfCommand : List (List ℕ) → (Command → Type 0) → Type 0
+OfCommand words P = (command : Command) × (command_of words ≡ Some command) × P command
+
+-- the source that a command names, the task of it, and the file of data or of a device where one is named
+abbrev pub source_in : Command → List ℕ
+source_in (Run source top given limit) = source
+source_in (Plan source top device mode) = source
+
+abbrev pub top_in : Command → List ℕ
+top_in (Run source top given limit) = top
+top_in (Plan source top device mode) = top
+
+abbrev pub file_in : Command → Option (List ℕ)
+file_in (Run source top given limit) = given
+file_in (Plan source top device mode) = Some device
 
 -- the words ask for a run of a source and a task, with a file of data where one is named, and with a limit on its ticks,
 -- of which this holds
 abbrev pub OfRun : List (List ℕ) → (List ℕ → List ℕ → Option (List ℕ) → ℕ → Type 0) → Type 0
 OfRun words P =
     (source : List ℕ) × (top : List ℕ) × (given : Option (List ℕ)) × (limit : ℕ) × (command_of words ≡ Some (Run source top given limit)) × P source top given limit
+
+-- the words ask for a plan of a source's task on the device of a file, by a mode, of which this holds
+abbrev pub OfPlan : List (List ℕ) → (List ℕ → List ℕ → List ℕ → PlanMode → Type 0) → Type 0
+OfPlan words P =
+    (source : List ℕ) × (top : List ℕ) × (device : List ℕ) × (mode : PlanMode) × (command_of words ≡ Some (Plan source top device mode)) × P source top device mode
 
 -- this holds of the bytes of the source and of the data: of those that are told, and else of some
 abbrev pub OfTexts : Option Files → List ℕ → Option (List ℕ) → (List ℕ → List ℕ → Type 0) → Type 0
@@ -74,11 +98,11 @@ pub record HasLimit (text top bytes : List ℕ) (limit : ℕ) : Type 0 where
   pub asked : IsAsked text top bytes program values
   pub past : LimitRun program values limit
 
--- the file is the source, or the file of data of a source that has a program
+-- the file is the source, or the further file of a source that has a program
 abbrev pub IsReached : Option Files → List ℕ → List ℕ → Option (List ℕ) → List ℕ → Type 0
 IsReached files source top given file = (source ≡ file) ⊎ ((given ≡ Some file) × OfSource files source (λ text. HasProgram text top))
 
--- the source has more bytes than it may; or the data of a source that has a program have
+-- the source has more bytes than it may; or the further file of a source that has a program has
 abbrev pub IsTooLong : Option Files → List ℕ → List ℕ → Option (List ℕ) → List ℕ → ℕ → Type 0
 IsTooLong files source top given file most =
     ((source ≡ file) × (most ≡ source_limit) × IsLongerThan files file source_limit)
@@ -87,24 +111,38 @@ IsTooLong files source top given file most =
 -- what has come to pass in a call that tells this refusal
 abbrev pub HasCause : List (List ℕ) → Outside → Outside → Refusal → Type 0
 HasCause words before after Usage = command_of words ≡ None
-HasCause words before after (Read file) = OfRun words (λ source top given limit. IsReached before.files source top given file × Rose (before.failed_reads file) (after.failed_reads file))
+HasCause words before after (Read file) = OfCommand words (λ c. IsReached before.files (source_in c) (top_in c) (file_in c) file × Rose (before.failed_reads file) (after.failed_reads file))
 HasCause words before after Write = Rose before.out.failed after.out.failed
-HasCause words before after (TooLong file most) = OfRun words (λ source top given limit. IsTooLong before.files source top given file most)
-HasCause words before after (Source file place code) = OfRun words (λ source top given limit. (source ≡ file) × OfSource before.files file (λ text. IsRefusedSource text top place code))
+HasCause words before after (TooLong file most) = OfCommand words (λ c. IsTooLong before.files (source_in c) (top_in c) (file_in c) file most)
+HasCause words before after (Source file place code) = OfCommand words (λ c. (source_in c ≡ file) × OfSource before.files file (λ text. IsRefusedSource text (top_in c) place code))
 HasCause words before after (Data file fault) = OfRun words (λ source top given limit. (shown_name given ≡ file) × OfTexts before.files source given (λ text bytes. HasBadData text top bytes fault))
 HasCause words before after (Ticks most) = OfRun words (λ source top given limit. (most ≡ limit) × OfTexts before.files source given (λ text bytes. HasLimit text top bytes limit))
 HasCause words before after (Stopped lines) = OfRun words (λ source top given limit. OfTexts before.files source given (λ text bytes. HasStopped text top bytes limit lines before.out.bytes after.out.bytes))
+HasCause words before after (Device file fault) = OfPlan words (λ source top device mode. (device ≡ file) × OfTexts before.files source (Some device) (λ text bytes. HasBadDevice text top bytes fault))
+HasCause words before after (TooManyPlans slots free) = OfPlan words (λ source top device mode. OfTexts before.files source (Some device) (λ text bytes. HasNoPlan text top bytes (mode_of mode) (TooManyPlans slots free)))
+HasCause words before after NoPlan = OfPlan words (λ source top device mode. OfTexts before.files source (Some device) (λ text bytes. HasNoPlan text top bytes (mode_of mode) NoPlan))
+HasCause words before after (NoRoom label) = OfPlan words (λ source top device mode. OfTexts before.files source (Some device) (λ text bytes. HasNoPlan text top bytes (mode_of mode) (NoRoom label)))
 HasCause words before after Memory = ⊤
 
 -- the command ran the program of its source to its end
 abbrev pub IsRun : List (List ℕ) → Outside → Outside → Type 0
 IsRun words before after = OfRun words (λ source top given limit. OfTexts before.files source given (λ text bytes. HasDone text top bytes limit before.out.bytes after.out.bytes))
 
--- nothing was written, or a front part of a report of the source
+-- the lines of a plan of the source's program were written
+abbrev pub IsPlanned : List (List ℕ) → Outside → Outside → Type 0
+IsPlanned words before after =
+    OfPlan words (λ source top device mode. OfTexts before.files source (Some device) (λ text bytes. (lines : List (List ℕ)) × HasPlan text top bytes (mode_of mode) lines × Appends before.out.bytes after.out.bytes (joined lines)))
+
+-- the command did what it is for
+abbrev pub IsDone : List (List ℕ) → Outside → Outside → Type 0
+IsDone words before after = IsRun words before after ⊎ IsPlanned words before after
+
+-- nothing was written, or a front part of a report of the source, or of a plan
 abbrev pub HasPartOf : List (List ℕ) → Outside → Outside → Type 0
 HasPartOf words before after =
     (after.out.bytes ≡ before.out.bytes)
-    ⊎ OfRun words (λ source top given limit. OfTexts before.files source given (λ text bytes. (report : List ℕ) × IsReportOfSource text top bytes limit report × AppendsPart before.out.bytes after.out.bytes report))
+    ⊎ (OfRun words (λ source top given limit. OfTexts before.files source given (λ text bytes. (report : List ℕ) × IsReportOfSource text top bytes limit report × AppendsPart before.out.bytes after.out.bytes report))
+    ⊎ OfPlan words (λ source top device mode. OfTexts before.files source (Some device) (λ text bytes. (lines : List (List ℕ)) × HasPlan text top bytes (mode_of mode) lines × AppendsPart before.out.bytes after.out.bytes (joined lines))))
 
 -- what stands in the output after a call that tells this refusal
 abbrev pub Leaves : List (List ℕ) → Outside → Outside → Refusal → Type 0
@@ -116,16 +154,20 @@ Leaves words before after (Source file place code) = after.out.bytes ≡ before.
 Leaves words before after (Data file fault) = after.out.bytes ≡ before.out.bytes
 Leaves words before after (Ticks most) = after.out.bytes ≡ before.out.bytes
 Leaves words before after (Stopped lines) = ⊤
+Leaves words before after (Device file fault) = after.out.bytes ≡ before.out.bytes
+Leaves words before after (TooManyPlans slots free) = after.out.bytes ≡ before.out.bytes
+Leaves words before after NoPlan = after.out.bytes ≡ before.out.bytes
+Leaves words before after (NoRoom label) = after.out.bytes ≡ before.out.bytes
 Leaves words before after Memory = HasPartOf words before after
 
--- the files stay, and reads fail of no other file than the source and, where it has a program, the data that are named
+-- the files stay, and reads fail of no other file than the source and, where it has a program, the further file that is named
 pub record ReadsAsked (words : List (List ℕ)) (before after : Outside) : Type 0 where
   pub same_files : after.files ≡ before.files
-  pub asked : (name : List ℕ) → (after.failed_reads name ≡ before.failed_reads name) ⊎ OfRun words (λ source top given limit. IsReached before.files source top given name)
+  pub asked : (name : List ℕ) → (after.failed_reads name ≡ before.failed_reads name) ⊎ OfCommand words (λ c. IsReached before.files (source_in c) (top_in c) (file_in c) name)
 
--- the status of a call: that of done work, where the program of the source was run to its end; or that of a refusal, which
--- is told, has its cause and leaves the output so
+-- the status of a call: that of done work, where the program of the source was run to its end or planned; or that of a
+-- refusal, which is told, has its cause and leaves the output so
 pub record IsAnswer (words : List (List ℕ)) (before after : Outside) (status : Status) : Type 0 where
-  pub ok : status ≡ Ok → IsRun words before after
+  pub ok : status ≡ Ok → IsDone words before after
   pub told : status ≢ Ok → (why : Refusal) × IsToldAs why status before.err after.err × HasCause words before after why × Leaves words before after why
   pub reads : ReadsAsked words before after

@@ -1,13 +1,13 @@
 -- What a step that carries a command out answers.
 use Rattle.std.specs.Prelude.{List, ℕ, Result, OnOk, IfErr}
-use Rattle.tapa_drive.specs.Answer.{IsRun, HasCause, Leaves, ReadsAsked}
+use Rattle.tapa_drive.specs.Answer.{IsDone, HasCause, Leaves, ReadsAsked}
 use Rattle.tapa_drive.specs.Meaning.{refusal_of}
 use Rattle.tapa_drive.specs.Outside.{Outside}
 use Rattle.tapa_drive.specs.declared.refusal.Refusal.{Refusal}
 
--- the program of the source was run to its end, or the refusal has its cause and leaves the output so
+-- the command did what it is for, or the refusal has its cause and leaves the output so
 pub record IsCarriedOut {A : Type 0} (words : List (List ℕ)) (before after : Outside) (result : Result A Refusal) : Type 0 where
-  pub done : OnOk result (IsRun words before after)
+  pub done : OnOk result (IsDone words before after)
   pub cause : IfErr result (λ refusal. HasCause words before after (refusal_of refusal))
   pub leaves : IfErr result (λ refusal. Leaves words before after (refusal_of refusal))
   pub reads : ReadsAsked words before after

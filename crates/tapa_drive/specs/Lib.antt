@@ -8,6 +8,8 @@ pub mod Inputs
 pub mod Meaning
 pub mod OneMeaning
 pub mod Outside
+pub mod PlanDecided
+pub mod Planned
 pub mod Refusal
 pub mod Refused
 pub mod Source

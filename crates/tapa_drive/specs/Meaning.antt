@@ -7,9 +7,12 @@ use Rattle.run_program.specs.Ending.{lines_in}
 use Rattle.tapa_words.specs.declared.command.WordsFault.{WordsFault}
 use Rattle.tapa_words.specs.declared.command.WordsFault.TheVariants as words_fault
 use Rattle.tapa_drive.specs.Refusal as spec
-use Rattle.tapa_drive.specs.Refusal.{NotJson, Faulty}
+use Rattle.tapa_drive.specs.Refusal.{NotJson, Faulty, NoJson, HasFault}
+use Rattle.plan_device.specs.Faults as device
+use Rattle.plan_device.specs.declared.fault.DeviceFault.{DeviceFault}
+use Rattle.plan_device.specs.declared.fault.DeviceFault.TheVariants as device_fault
 use Rattle.tapa_drive.specs.declared.refusal.Refusal.{Refusal}
-use Rattle.tapa_drive.specs.declared.refusal.Refusal.TheVariants.{Usage, Read, Write, TooLong, Source, Data, Ticks, Stopped, Memory}
+use Rattle.tapa_drive.specs.declared.refusal.Refusal.TheVariants.{Usage, Read, Write, TooLong, Source, Data, Ticks, Stopped, Device, TooManyPlans, NoPlan, NoRoom, Memory}
 
 -- a fault of data, told of a file
 abbrev pub data_refusal : List ℕ → FaultOfData → spec.Refusal
@@ -18,6 +21,17 @@ data_refusal file (J2 key) = spec.Data file (Faulty (Misshapen key.items))
 data_refusal file (J3 key) = spec.Data file (Faulty (Misfit key.items))
 data_refusal file (J4 key) = spec.Data file (Faulty (Oversized key.items))
 data_refusal file OutOfMemory = spec.Memory
+
+-- a fault of a device file, told of it
+abbrev pub device_refusal : List ℕ → DeviceFault → spec.Refusal
+device_refusal file device_fault.J1 = spec.Device file NoJson
+device_refusal file (device_fault.J2 key) = spec.Device file (HasFault (device.Misshapen key.items))
+device_refusal file (device_fault.J3 key) = spec.Device file (HasFault (device.Misfit key.items))
+device_refusal file (device_fault.K1 key) = spec.Device file (HasFault (device.OutOfRange key.items))
+device_refusal file (device_fault.K2 name) = spec.Device file (HasFault (device.Unknown name.items))
+device_refusal file (device_fault.K3 label) = spec.Device file (HasFault (device.Elsewhere label.items))
+device_refusal file (device_fault.K4 label) = spec.Device file (HasFault (device.OnForbidden label.items))
+device_refusal file device_fault.OutOfMemory = spec.Memory
 
 abbrev pub refusal_of : Refusal → spec.Refusal
 refusal_of Usage = spec.Usage
@@ -28,6 +42,10 @@ refusal_of (Source file place code) = spec.Source file.now place code
 refusal_of (Data file fault) = data_refusal file.now fault
 refusal_of (Ticks limit) = spec.Ticks limit
 refusal_of (Stopped lines) = spec.Stopped (lines_in lines.items)
+refusal_of (Device file fault) = device_refusal file.now fault
+refusal_of (TooManyPlans slots free) = spec.TooManyPlans slots free
+refusal_of NoPlan = spec.NoPlan
+refusal_of (NoRoom label) = spec.NoRoom label.items
 refusal_of Memory = spec.Memory
 
 -- why words were not read

@@ -7,11 +7,17 @@ use Rattle.tapa_drive.specs.declared.source.SourceCode.{SourceCode}
 use Rattle.tapa_drive.specs.declared.source.SourceCode.TheVariants.{L1, L2, L3, L4, P1, P2, Rule}
 use Rattle.run_program.specs.Ending.{joined}
 use Rattle.run_data.specs.Data.{Fault, Misshapen, Misfit, Oversized}
+use Rattle.plan_device.specs.Faults as device
 
 -- what is wrong with data: the text is no JSON, or it has this fault
 pub data DataFault : Type 0 where
   NotJson : DataFault
   Faulty : (fault : Fault) → DataFault
+
+-- what is wrong with a device file: the text is no JSON, or it has this fault
+pub data DeviceFault : Type 0 where
+  NoJson : DeviceFault
+  HasFault : (fault : device.Fault) → DeviceFault
 
 -- why a command ends with another status than that of done work
 pub data Refusal : Type 0 where
@@ -31,6 +37,14 @@ pub data Refusal : Type 0 where
   Ticks : (limit : ℕ) → Refusal
   -- a run stopped, and each line tells what an instance waits for
   Stopped : (lines : List (List ℕ)) → Refusal
+  -- a device file is not what the program asks for
+  Device : (file : List ℕ) (fault : DeviceFault) → Refusal
+  -- there are more ways to place the free groups than are looked at
+  TooManyPlans : (slots free : ℕ) → Refusal
+  -- no plan is within capacity
+  NoPlan : Refusal
+  -- first fit has no slot for the group of this instance
+  NoRoom : (label : List ℕ) → Refusal
   -- memory ran out
   Memory : Refusal
 
@@ -70,6 +84,16 @@ data_text (Faulty (Misshapen key)) = codes "J2 " ++ key
 data_text (Faulty (Misfit key)) = codes "J3 " ++ key
 data_text (Faulty (Oversized key)) = codes "J4 " ++ key
 
+-- the code of a fault of a device file, and its key, name or label
+abbrev pub device_text : DeviceFault → List ℕ
+device_text NoJson = codes "J1"
+device_text (HasFault (device.Misshapen key)) = codes "J2 " ++ key
+device_text (HasFault (device.Misfit key)) = codes "J3 " ++ key
+device_text (HasFault (device.OutOfRange key)) = codes "K1 " ++ key
+device_text (HasFault (device.Unknown name)) = codes "K2 " ++ name
+device_text (HasFault (device.Elsewhere label)) = codes "K3 " ++ label
+device_text (HasFault (device.OnForbidden label)) = codes "K4 " ++ label
+
 -- the lines that tell it
 abbrev pub message_of : Refusal → List ℕ
 message_of Usage = codes "tapa: usage: tapa build|run|cosim|plan|gen\n"
@@ -81,6 +105,10 @@ message_of (Source file place code) =
 message_of (Data file fault) = codes "tapa: " ++ (file ++ (codes ": " ++ (data_text fault ++ codes "\n")))
 message_of (Ticks limit) = codes "tapa: more than " ++ (decimal limit ++ codes " ticks\n")
 message_of (Stopped lines) = joined lines
+message_of (Device file fault) = codes "tapa: " ++ (file ++ (codes ": " ++ (device_text fault ++ codes "\n")))
+message_of (TooManyPlans slots free) = codes "tapa: too many plans: " ++ (decimal slots ++ (codes " slots, " ++ (decimal free ++ codes " free groups\n")))
+message_of NoPlan = codes "tapa: no plan within capacity\n"
+message_of (NoRoom label) = codes "tapa: no room for " ++ (label ++ codes "\n")
 message_of Memory = codes "tapa: out of memory\n"
 
 -- its lines name nothing that is read or made while the program runs
@@ -88,5 +116,6 @@ abbrev pub IsFixed : Refusal → Type 0
 IsFixed Usage = ⊤
 IsFixed Write = ⊤
 IsFixed (Stopped lines) = ⊤
+IsFixed NoPlan = ⊤
 IsFixed Memory = ⊤
 IsFixed _ = ⊥

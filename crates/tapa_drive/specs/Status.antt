@@ -1,7 +1,7 @@
 -- The numbers of the statuses, and the status of each refusal.
 use Rattle.std.specs.Prelude.{ℕ}
 use Rattle.tapa_drive.specs.declared.status.Status.{Status}
-use Rattle.tapa_drive.specs.declared.status.Status.TheVariants.{Ok, Source, Usage, Data, Read, Write, Limit, Stopped, Memory}
+use Rattle.tapa_drive.specs.declared.status.Status.TheVariants.{Ok, Source, Usage, Data, NoPlan, Read, Write, Limit, Stopped, Memory}
 use Rattle.tapa_drive.specs.Refusal as refusal
 use Rattle.tapa_drive.specs.Refusal.{Refusal}
 
@@ -10,6 +10,7 @@ code_of Ok = 0
 code_of Source = 1
 code_of Usage = 2
 code_of Data = 3
+code_of NoPlan = 4
 code_of Read = 5
 code_of Write = 6
 code_of Limit = 7
@@ -25,4 +26,8 @@ status_of (refusal.Source file place code) = Source
 status_of (refusal.Data file fault) = Data
 status_of (refusal.Ticks limit) = Limit
 status_of (refusal.Stopped lines) = Stopped
+status_of (refusal.Device file fault) = Data
+status_of (refusal.TooManyPlans slots free) = Data
+status_of refusal.NoPlan = NoPlan
+status_of (refusal.NoRoom label) = NoPlan
 status_of refusal.Memory = Memory

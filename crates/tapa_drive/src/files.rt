@@ -22,13 +22,14 @@ use tapa_syntax::Program;
 
 const SOURCE_LIMIT: u64 = 262_144;
 
-const DATA_LIMIT: u64 = 33_554_432;
+/// The most bytes that a file of data or of a device may have.
+pub(crate) const DATA_LIMIT: u64 = 33_554_432;
 
 // The data where no file is named.
 const NO_DATA: &str = "{}";
 
-// The bytes of a file, of which there may be so many.
-fn read_file<'a, S: Shelf>(
+/// The bytes of a file, of which there may be so many.
+pub(crate) fn read_file<'a, S: Shelf>(
     alloc: Global,
     file: &'a str,
     limit: u64,

@@ -5,6 +5,7 @@
 mod files;
 mod inputs;
 pub mod laws;
+mod planning;
 mod program;
 mod refusal;
 mod source;

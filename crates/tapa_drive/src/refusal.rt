@@ -2,7 +2,7 @@ ghost use Rattle.std.specs.Prelude.{◌≡◌, ◌⊎◌, ◌++◌, codes, IfOk,
 ghost use Rattle.std.specs.Io.KnownBytes.{Appends};
 ghost use Rattle.tapa_base.specs.Outside.{AppendsPart, Rose};
 ghost use Rattle.run_program.specs.Ending.{joined, lines_in};
-ghost use Rattle.tapa_drive.specs.Meaning.{refusal_of, data_refusal, words_refusal};
+ghost use Rattle.tapa_drive.specs.Meaning.{refusal_of, data_refusal, device_refusal, words_refusal};
 ghost use Rattle.tapa_drive.specs.Outside.{written};
 ghost use Rattle.tapa_drive.specs.Told.{IsToldAs};
 ghost use Rattle.tapa_drive.specs.Refusal.{Refusal as Why, message_of, code_text, IsFixed};
@@ -10,6 +10,7 @@ ghost use Rattle.tapa_drive.specs.Status.{status_of};
 
 use crate::source::SourceCode;
 use crate::status::Status;
+use plan_device::DeviceFault;
 use run_data::DataFault;
 use std::alloc::Global;
 use tapa_base::{OutOfMemory, Place, Sink, WriteFault, put_all};
@@ -46,12 +47,30 @@ pub(crate) enum Refusal<'a> {
     Stopped {
         lines: Vec<Vec<u8>>,
     },
+    /// What is wrong with a device file, or want of memory in its place.
+    Device {
+        file: &'a str,
+        fault: DeviceFault,
+    },
+    /// There are more ways to place the free groups than are looked at.
+    TooManyPlans {
+        slots: u32,
+        free: u32,
+    },
+    /// No plan is within capacity.
+    NoPlan,
+    /// First fit has no slot for the group whose first instance has this label.
+    NoRoom {
+        label: Vec<u8>,
+    },
     Memory,
 }
 
 const USAGE: &[u8] = b"tapa: usage: tapa build|run|cosim|plan|gen\n";
 
 const NO_OUTPUT: &[u8] = b"tapa: cannot write\n";
+
+const NO_PLAN: &[u8] = b"tapa: no plan within capacity\n";
 
 const NO_MEMORY: &[u8] = b"tapa: out of memory\n";
 
@@ -87,6 +106,21 @@ fn ticks_line(alloc: Global, limit: u64) -> Result<Vec<u8>, OutOfMemory>
     ensures { IfOk result (λ line. line.items ≡ message_of (Why.Ticks limit)) }
 {
     Ok(format!(in alloc; "tapa: more than {limit} ticks\n")?.into_bytes())
+}
+
+fn plans_line(alloc: Global, slots: u32, free: u32) -> Result<Vec<u8>, OutOfMemory>
+    ensures { IfOk result (λ line. line.items ≡ message_of (Why.TooManyPlans slots free)) }
+{
+    Ok(format!(in alloc; "tapa: too many plans: {slots} slots, {free} free groups\n")?.into_bytes())
+}
+
+fn room_line(alloc: Global, label: &[u8]) -> Result<Vec<u8>, OutOfMemory>
+    ensures { IfOk result (λ line. line.items ≡ message_of (Why.NoRoom label.now)) }
+{
+    let mut line = Vec::from_slice(alloc, b"tapa: no room for ")?;
+    line.extend_from_slice(label)?;
+    line.push(b'\n')?;
+    Ok(line)
 }
 
 // A line: a file, a code and a key.
@@ -127,8 +161,8 @@ fn tell_made<E: Sink>(line: Result<Vec<u8>, OutOfMemory>, status: Status, err: &
     }
 }
 
-// Puts lines, one a call.
-fn put_lines<E: Sink>(err: &mut E, lines: &[Vec<u8>]) -> Result<(), WriteFault>
+/// Puts lines, one a call. After an error a front part of them stands.
+pub(crate) fn put_lines<E: Sink>(err: &mut E, lines: &[Vec<u8>]) -> Result<(), WriteFault>
     ensures whole { OnOk result (Appends (E.contents err.old) (E.contents err.new) (joined (lines_in lines.now))) }
     ensures part { OnErr result (AppendsPart (E.contents err.old) (E.contents err.new) (joined (lines_in lines.now))) }
     ensures later { E.faults err.old ≤ E.faults err.new }
@@ -164,6 +198,31 @@ fn tell_data<E: Sink>(alloc: Global, file: &str, fault: &DataFault, err: &mut E)
     }
 }
 
+// Tells a fault of a device file.
+fn tell_device<E: Sink>(alloc: Global, file: &str, fault: &DeviceFault, err: &mut E) -> Status
+    ensures { IsToldAs (device_refusal file.now fault.now) result (written (E.contents err.old) (E.faults err.old)) (written (E.contents err.new) (E.faults err.new))
+        ⊎ IsToldAs Why.Memory result (written (E.contents err.old) (E.faults err.old)) (written (E.contents err.new) (E.faults err.new)) }
+{
+    match fault {
+        DeviceFault::J1 => tell_made(key_line(alloc, file, b"J1", b""), Status::Data, err),
+        DeviceFault::J2(key) => tell_made(key_line(alloc, file, b"J2 ", key), Status::Data, err),
+        DeviceFault::J3(key) => tell_made(key_line(alloc, file, b"J3 ", key), Status::Data, err),
+        DeviceFault::K1(key) => tell_made(key_line(alloc, file, b"K1 ", key), Status::Data, err),
+        DeviceFault::K2(name) => tell_made(key_line(alloc, file, b"K2 ", name), Status::Data, err),
+        DeviceFault::K3(label) => tell_made(
+            key_line(alloc, file, b"K3 ", label),
+            Status::Data,
+            err,
+        ),
+        DeviceFault::K4(label) => tell_made(
+            key_line(alloc, file, b"K4 ", label),
+            Status::Data,
+            err,
+        ),
+        DeviceFault::OutOfMemory => tell_line(NO_MEMORY, Status::Memory, err),
+    }
+}
+
 /// Tells a refusal, or want of memory in its place, and answers the status. A refusal that names nothing takes no memory.
 pub(crate) fn tell<E: Sink>(alloc: Global, refusal: &Refusal<'_>, err: &mut E) -> Status
     ensures told { IsToldAs (refusal_of refusal.now) result (written (E.contents err.old) (E.faults err.old)) (written (E.contents err.new) (E.faults err.new))
@@ -184,6 +243,12 @@ pub(crate) fn tell<E: Sink>(alloc: Global, refusal: &Refusal<'_>, err: &mut E) -
         Refusal::Data { file, fault } => tell_data(alloc, file, fault, err),
         Refusal::Ticks { limit } => tell_made(ticks_line(alloc, *limit), Status::Limit, err),
         Refusal::Stopped { lines } => tell_stopped(lines, err),
+        Refusal::Device { file, fault } => tell_device(alloc, file, fault, err),
+        Refusal::TooManyPlans { slots, free } => {
+            tell_made(plans_line(alloc, *slots, *free), Status::Data, err)
+        }
+        Refusal::NoPlan => tell_line(NO_PLAN, Status::NoPlan, err),
+        Refusal::NoRoom { label } => tell_made(room_line(alloc, label), Status::NoPlan, err),
         Refusal::Memory => tell_line(NO_MEMORY, Status::Memory, err),
     }
 }

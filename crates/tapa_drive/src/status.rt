@@ -10,8 +10,10 @@ pub enum Status {
     Source,
     /// The words are no command.
     Usage,
-    /// A file of data is not what the program asks for.
+    /// A file of data or of a device is not what the program asks for, or there are too many plans to look at.
     Data,
+    /// No plan is within capacity, or first fit finds no slot for a group.
+    NoPlan,
     /// A file could not be read.
     Read,
     /// Standard output or standard error could not be written to.
@@ -34,6 +36,7 @@ impl Status {
             Status::Source => 1,
             Status::Usage => 2,
             Status::Data => 3,
+            Status::NoPlan => 4,
             Status::Read => 5,
             Status::Write => 6,
             Status::Limit => 7,

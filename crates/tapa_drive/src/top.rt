@@ -1,13 +1,17 @@
 ghost use Rattle.std.specs.Prelude.{◌≡◌, ◌⊎◌, ◌≤◌, ℕ, List, Option, Some, None, option_map};
-ghost use Rattle.tapa_words.specs.Words.{texts, command_of, most_limit, Run};
+ghost use Rattle.tapa_words.specs.Words.{texts, command_of, most_limit, Run, Plan};
+ghost use Rattle.tapa_words.specs.declared.command.PlanMode.{PlanMode as PlanModeWord};
 ghost use Rattle.tapa_drive.specs.Answer.{IsAnswer};
 ghost use Rattle.tapa_drive.specs.Carried.{IsCarriedOut};
 ghost use Rattle.tapa_drive.specs.Decided.{SourceMeaning, Expects, IsLengthy, IsRefusedWith, NothingFails, WritesAll, Tells};
 ghost use Rattle.tapa_drive.specs.Files.{source_limit};
 ghost use Rattle.tapa_drive.specs.Outside.{Written, written, outside};
+ghost use Rattle.tapa_drive.specs.PlanDecided.{ArePlannable, TellsPlan};
+ghost use Rattle.tapa_drive.specs.Planned.{mode_of};
 ghost use Rattle.tapa_drive.specs.Refusal.{Refusal as Why};
 
 use crate::files::{read_source, read_values};
+use crate::planning::plan_source;
 use crate::refusal::{Refusal, tell};
 use crate::status::Status;
 use run_program::{RunEnd, run_program};
@@ -70,6 +74,14 @@ fn carry_out<'a, S: Shelf, O: Sink>(
                 limit,
             },
         ) => run_source(alloc, source, top, data, limit, shelf, out),
+        Ok(
+            Command::Plan {
+                source,
+                top,
+                device,
+                mode,
+            },
+        ) => plan_source(alloc, source, top, device, mode, shelf, out),
         Err(WordsFault::Usage) => Err(Refusal::Usage),
         Err(WordsFault::OutOfMemory) => Err(Refusal::Memory),
     }
@@ -102,8 +114,9 @@ pub fn tapa<S: Shelf, O: Sink, E: Sink>(
     err: &mut E,
 ) -> Status
     // Done work: every instance of the source's program has ended on its data, and the report of the whole Kahn streams and
-    // the last cells is written. Each other status tells a refusal, which has its cause and leaves the output so. No other
-    // file is read than the source and, where it has a program, the data.
+    // the last cells is written; or the lines of a plan of the source's program on the device are. Each other status tells a
+    // refusal, which has its cause and leaves the output so. No other file is read than the source and, where it has a
+    // program, the data or the device file.
     ensures answer { IsAnswer (texts words.now) (outside (S.files shelf.old) (S.faults shelf.old) (written (O.contents out.old) (O.faults out.old)) (written (E.contents err.old) (E.faults err.old)))
         (outside (S.files shelf.new) (S.faults shelf.new) (written (O.contents out.new) (O.faults out.new)) (written (E.contents err.new) (E.faults err.new))) result }
     ensures ok_err { result ≡ Status.Ok → err.new ≡ err.old }
@@ -113,6 +126,11 @@ pub fn tapa<S: Shelf, O: Sink, E: Sink>(
         (source top : List ℕ) (named : Option (List ℕ)) (limit : ℕ) → command_of (texts words.now) ≡ Some (Run source top named limit) →
         (meaning : SourceMeaning) → Expects before.files source top named limit meaning → NothingFails source named before after →
         Tells source named limit meaning result before after ⊎ (result ≡ Status.Memory) }
+    // The same of a plan: the lines of a plan by the mode are written whole, or it is told why there is none.
+    ensures plan_decided { let before = (outside (S.files shelf.old) (S.faults shelf.old) (written (O.contents out.old) (O.faults out.old)) (written (E.contents err.old) (E.faults err.old))) in let after = (outside (S.files shelf.new) (S.faults shelf.new) (written (O.contents out.new) (O.faults out.new)) (written (E.contents err.new) (E.faults err.new))) in
+        (source top device : List ℕ) (by : PlanModeWord) → command_of (texts words.now) ≡ Some (Plan source top device by) →
+        ArePlannable before.files source top device → NothingFails source (Some device) before after →
+        TellsPlan before.files source top device (mode_of by) result before after ⊎ (result ≡ Status.Memory) }
     // The same where the source has more bytes than it may, and where the words are no command.
     ensures lengthy { let before = (outside (S.files shelf.old) (S.faults shelf.old) (written (O.contents out.old) (O.faults out.old)) (written (E.contents err.old) (E.faults err.old))) in let after = (outside (S.files shelf.new) (S.faults shelf.new) (written (O.contents out.new) (O.faults out.new)) (written (E.contents err.new) (E.faults err.new))) in
         (source top : List ℕ) (named : Option (List ℕ)) (limit : ℕ) → command_of (texts words.now) ≡ Some (Run source top named limit) →

@@ -5,7 +5,9 @@ use Rattle.std.specs.Str.{bytes_eq}
 use Rattle.std.specs.Str.Parse.{digits_value}
 use Rattle.std.specs.declared.alloc.Global.{Global}
 use Rattle.tapa_words.specs.declared.verb.Verb.{Verb}
-use Rattle.tapa_words.specs.declared.verb.Verb.TheVariants.{Running}
+use Rattle.tapa_words.specs.declared.verb.Verb.TheVariants.{Running, Planning}
+use Rattle.tapa_words.specs.declared.command.PlanMode.{PlanMode}
+use Rattle.tapa_words.specs.declared.command.PlanMode.TheVariants.{Exact, Fit}
 
 abbrev pub Word : Type 0
 Word = List ℕ
@@ -14,6 +16,8 @@ Word = List ℕ
 pub data Command : Type 0 where
   -- a run of a task of a source, for at most so many ticks, with a file of its data where one is named
   Run : (source top : Word) (input : Option Word) (limit : ℕ) → Command
+  -- a plan of the program of a source on the device of a file, by a mode
+  Plan : (source top device : Word) (mode : PlanMode) → Command
 
 -- the words as bytes
 abbrev pub texts : List (String Global) → List Word
@@ -21,11 +25,12 @@ texts words = map string_bytes words
 
 -- the first word is the command's name, spelled exactly
 abbrev pub verb_of : Word → Option Verb
-verb_of word = if bytes_eq word (codes "run") then Some Running else None
+verb_of word = if bytes_eq word (codes "run") then Some Running else if bytes_eq word (codes "plan") then Some Planning else None
 
 -- the command has an option of this name; each option has a value
 abbrev pub has_option : Verb → Word → Bool
 has_option Running name = bytes_eq name (codes "--steps")
+has_option Planning name = bytes_eq name (codes "--plan")
 
 -- a word of more than one byte that begins with `-`; `--` is of this form too
 abbrev pub is_option : Word → Bool
@@ -172,9 +177,20 @@ run_by (source ∷ top ∷ []) limit = option_map (Run source top None) limit
 run_by (source ∷ top ∷ input ∷ []) limit = option_map (Run source top (Some input)) limit
 run_by words limit = None
 
+-- the mode that a word names, and first fit where none is given
+abbrev pub mode_or : Option Word → Option PlanMode
+mode_or None = Some Fit
+mode_or (Some word) = if bytes_eq word (codes "exact") then Some Exact else if bytes_eq word (codes "fit") then Some Fit else None
+
+-- `plan SRC TOP DEV`, by the mode that `--plan` tells
+abbrev pub plan_by : List Word → Option PlanMode → Option Command
+plan_by (source ∷ top ∷ device ∷ []) mode = option_map (Plan source top device) mode
+plan_by words mode = None
+
 -- a command by its items
 abbrev pub command_by : Verb → List Item → Option Command
 command_by Running items = run_by (positionals items) (number_or default_limit 1 most_limit (value_of (codes "--steps") items))
+command_by Planning items = plan_by (positionals items) (mode_or (value_of (codes "--plan") items))
 
 -- the command that the items are, unless an option is given twice
 abbrev pub of_items : Verb → List Item → Option Command

@@ -8,6 +8,20 @@ pub enum Command<'a> {
         data: Option<&'a str>,
         limit: u64,
     },
+    /// Plan the task `top` of the file `source` on the device of the file `device`.
+    Plan {
+        source: &'a str,
+        top: &'a str,
+        device: &'a str,
+        mode: PlanMode,
+    },
+}
+
+/// How a plan is looked for: one of least cost, or the first that fits.
+#[derive(Clone, Copy, Debug, PartialEq, Eq)]
+pub enum PlanMode {
+    Exact,
+    Fit,
 }
 
 /// Why words are not read.

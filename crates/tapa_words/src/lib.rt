@@ -4,11 +4,12 @@
 mod command;
 mod item;
 mod number;
+mod plan;
 mod read;
 mod run;
 mod verb;
 
-pub use command::{Command, WordsFault};
+pub use command::{Command, PlanMode, WordsFault};
 pub use read::read_words;
 
 #[cfg(test)]

@@ -1,4 +1,4 @@
-use crate::{Command, WordsFault, read_words};
+use crate::{Command, PlanMode, WordsFault, read_words};
 use std::alloc::Global;
 use std::test::Fail;
 
@@ -15,6 +15,17 @@ fn told(alloc: Global, words: &[String]) -> Result<String, Fail> {
         ) => match data {
             Some(data) => Ok(format!(in alloc; "{source}|{top}|{data} {limit}")?),
             None => Ok(format!(in alloc; "{source}|{top} {limit}")?),
+        },
+        Ok(
+            Command::Plan {
+                source,
+                top,
+                device,
+                mode,
+            },
+        ) => match mode {
+            PlanMode::Exact => Ok(format!(in alloc; "{source}|{top}|{device} exact")?),
+            PlanMode::Fit => Ok(format!(in alloc; "{source}|{top}|{device} fit")?),
         },
         Err(WordsFault::Usage) => Ok(format!(in alloc; "usage")?),
         Err(WordsFault::OutOfMemory) => Ok(format!(in alloc; "no memory")?),
@@ -67,6 +78,26 @@ fn words_of_a_run_are_read(rt: HostRuntime) -> Result<(), Fail> {
         ("run|s|--steps|6|--|--steps=5", "s|--steps=5 6"),
         ("run|--|-s|--", "-s|-- 100000000"),
         ("run|--steps|5|--|--|-|--", "--|-|-- 5"),
+    ];
+    for row in rows {
+        assert_eq!(rt; said(rt.alloc(), row.0)?.as_str(), row.1, "at {}", row.0);
+    }
+    Ok(())
+}
+
+#[test]
+fn words_of_a_plan_are_read(rt: HostRuntime) -> Result<(), Fail> {
+    let rows = [
+        ("plan|s|T|d", "s|T|d fit"),
+        ("plan|s|T|d|--plan|exact", "s|T|d exact"),
+        ("plan|--plan=fit|s|T|d", "s|T|d fit"),
+        ("plan|s|T", "usage"),
+        ("plan|s|T|d|e", "usage"),
+        ("plan|s|T|d|--plan|Exact", "usage"),
+        ("plan|s|T|d|--plan|split", "usage"),
+        ("plan|s|T|d|--plan=", "usage"),
+        ("plan|s|T|d|--steps|5", "usage"),
+        ("run|s|T|--plan|fit", "usage"),
     ];
     for row in rows {
         assert_eq!(rt; said(rt.alloc(), row.0)?.as_str(), row.1, "at {}", row.0);

@@ -5,6 +5,7 @@ ghost use Rattle.tapa_words.specs.Words.{verb_of, has_option};
 #[derive(Clone, Copy, Debug)]
 pub(crate) enum Verb {
     Running,
+    Planning,
 }
 
 impl Verb {
@@ -14,6 +15,8 @@ impl Verb {
     {
         if word == "run" {
             Some(Verb::Running)
+        } else if word == "plan" {
+            Some(Verb::Planning)
         } else {
             None
         }
@@ -25,6 +28,7 @@ impl Verb {
     {
         match self {
             Verb::Running => name == "--steps",
+            Verb::Planning => name == "--plan",
         }
     }
 }

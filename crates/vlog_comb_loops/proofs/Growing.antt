@@ -10,10 +10,13 @@ use Rattle.vlog_comb_loops.specs.Names.{IsDraftOf}
 use Rattle.vlog_comb_loops.specs.Growth.{Adds}
 
 pub adds_nothing : (a : Draft) → Adds a a []
-adds_nothing a = record { graph = λ edges g. subst (λ e. IsDraftOf e a) (sym (append-nil edges)) g }
+adds_nothing a = record { graph = λ edges g. subst (λ e. IsDraftOf e a) (sym (append-nil edges)) g; listed = λ h. h }
 
 pub adds_both : (a b c : Draft) (xs ys : Edges) → Adds a b xs → Adds b c ys → Adds a c (xs ++ ys)
-adds_both a b c xs ys l r = record { graph = λ edges g. subst (λ e. IsDraftOf e c) (append_assoc edges xs ys) (r.graph (edges ++ xs) (l.graph edges g)) }
+adds_both a b c xs ys l r = record {
+  graph = λ edges g. subst (λ e. IsDraftOf e c) (append_assoc edges xs ys) (r.graph (edges ++ xs) (l.graph edges g));
+  listed = λ h. r.listed (l.listed h);
+}
 
 pub map-append : {A B : Type 0} (f : A → B) (xs ys : List A) → map f (xs ++ ys) ≡ map f xs ++ map f ys
 map-append f [] ys = refl

@@ -1,13 +1,12 @@
 -- Graphs of names as they grow.
-use Rattle.std.proofs.Common.{◌≡◌, ℕ, ◌+◌, ◌<◌, Bool, true, false, cond, List, [], ◌∷◌, ◌++◌, get_or, Option, Some, None, inl, inr, refl, sym, ap, subst, ◌∙◌, arith}
-use Rattle.std.specs.Prelude.{bytes_eq, ◌⊎◌, ◌↔◌}
-use Rattle.std.specs.Option.{option_map_or}
+use Rattle.std.proofs.Common.{◌≡◌, ℕ, zero, suc, ◌+◌, ◌<◌, Bool, true, false, cond, List, [], ◌∷◌, ◌++◌, length, get_or, take, Option, Some, None, inl, inr, refl, sym, ap, subst, ◌∙◌, arith}
+use Rattle.std.specs.Prelude.{bytes_eq, ◌⊎◌, ◌↔◌, slice_get, Vec}
 use Rattle.std.specs.Cmp.Lexicographic.{bytes_decides}
 use Rattle.vlog_tree.specs.Grounded.{Has}
 use Rattle.vlog_tree.specs.Table.{Name}
 use Rattle.vlog_tree.specs.Loops.{Edges, Chain, one, more, Reaches}
-use Rattle.vlog_tree.proofs.Lists.{has_left, has_right, has_split}
-use Rattle.vlog_comb_loops.specs.Names.{IsNumbered}
+use Rattle.vlog_tree.proofs.Lists.{has_left, has_right, has_split, taken_mapped}
+use Rattle.vlog_comb_loops.specs.Names.{IsNumbered, AreListed, texts}
 
 -- a number that no name has yet is given to a name
 module _ (edges : Edges) (old new : Name → Option ℕ) (R : ℕ → ℕ → Type 0) (n : ℕ) (name : Name)
@@ -114,25 +113,6 @@ module _ (edges : Edges) (number : Name → Option ℕ) (R : ℕ → ℕ → Typ
       let joined : t.1 ≡ u.0 = g.distinct t.1 u.0 m t.3 u.2 in
       (t.0, u.1, t.2, u.3, more t.1 t.4 (subst (λ x. Reaches edges x u.1) (sym joined) u.4))
 
-  -- what is marked of the numbers that are reached is what is reached of the names
-  module _ (x : Name) (j : ℕ) (at : number x ≡ Some j) (marks : List Bool) (m : (k : ℕ) → (get_or marks k false ≡ true) ↔ Goes j k) where
-    marked_names : (y : Name) (o : Option ℕ) → number y ≡ o → option_map_or (λ k. get_or marks k false) o false ≡ true → Reaches edges x y
-    marked_names y None e h = cc
-    marked_names y (Some k) e h =
-        let u = up ((m k).0 h) in
-        let first : u.0 ≡ x = g.distinct u.0 x j u.2 at in
-        let last : u.1 ≡ y = g.distinct u.1 y k u.3 e in
-        subst (λ z. Reaches edges z y) first (subst (λ z. Reaches edges u.0 z) last u.4)
-
-    names_marked : (y : Name) → Reaches edges x y → option_map_or (λ k. get_or marks k false) (number y) false ≡ true
-    names_marked y r =
-        let d = down r in
-        let start : d.0 ≡ j = cc (d.2, at) in
-        ap (λ o. option_map_or (λ k. get_or marks k false) o false) d.3 ∙ (m d.1).1 (subst (λ i. Goes i d.1) start d.4)
-
-    pub reached_by_number : (y : Name) → (option_map_or (λ k. get_or marks k false) (number y) false ≡ true) ↔ Reaches edges x y
-    reached_by_number y = (marked_names y _ refl, names_marked y)
-
   -- a name without a number reaches nothing
   pub reached_by_none : (x y : Name) → number x ≡ None → Reaches edges x y → ⊥
   reached_by_none x y e r = let d = down r in cc (e, d.2)
@@ -158,7 +138,29 @@ module _ (edges : Edges) (number : Name → Option ℕ) (R : ℕ → ℕ → Typ
   pub some_loop : (k : ℕ) → Goes k k → (x : Name) × Reaches edges x x
   some_loop k c = let u = up c in let same : u.1 ≡ u.0 = g.distinct u.1 u.0 k u.3 u.2 in (u.0, subst (λ z. Reaches edges u.0 z) same u.4)
 
--- without marks nothing is marked
-pub none_marked : (o : Option ℕ) → option_map_or (λ k. get_or [] k false) o false ≡ true → ⊥
-none_marked None h = cc
-none_marked (Some k) h = cc
+-- what has a number, since it reaches something
+pub numbered_start : (edges : Edges) (number : Name → Option ℕ) (R : ℕ → ℕ → Type 0) (n : ℕ) → IsNumbered edges number R n → (x y : Name) → Reaches edges x y → (j : ℕ) × (number x ≡ Some j)
+numbered_start edges number R n g x y r = let d = down edges number R n g r in (d.0, d.2)
+
+pub texts_taken : {A : Type 0} (names : List (Vec ℕ A)) (i : ℕ) (v : Vec ℕ A) (x : Name) → i < length names → v ≡ get_or names i v → Has (texts (take (i + 1) names)) x → Has (texts (take i names)) x ⊎ (v.items ≡ x)
+texts_taken names i v x low is h = taken_mapped (λ v. v.items) names i v x low is h
+
+-- one more name is listed
+pushed_here : {A : Type 0} (names : List (Vec ℕ A)) (v : Vec ℕ A) → slice_get (texts (names ++ v ∷ [])) (length names) ≡ Some v.items
+pushed_here [] v = refl
+pushed_here (u ∷ names) v = pushed_here names v
+
+pushed_kept : {A : Type 0} (names : List (Vec ℕ A)) (v : Vec ℕ A) (k : ℕ) (x : Name) → slice_get (texts names) k ≡ Some x → slice_get (texts (names ++ v ∷ [])) k ≡ Some x
+pushed_kept [] v k x h = cc
+pushed_kept (u ∷ names) v zero x h = h
+pushed_kept (u ∷ names) v (suc k) x h = pushed_kept names v k x h
+
+module _ {A : Type 0} (names : List (Vec ℕ A)) (v : Vec ℕ A) (old new : Name → Option ℕ) (name : Name) (is : v.items ≡ name) (step : (x : Name) → new x ≡ cond (bytes_eq name x) (Some (length names)) (old x)) (listed : AreListed old (texts names)) where
+  listed_of : (x : Name) (k : ℕ) (b : Bool) → bytes_eq name x ≡ b → cond b (Some (length names)) (old x) ≡ Some k → slice_get (texts (names ++ v ∷ [])) k ≡ Some x
+  listed_of x k true e h =
+      let at : length names ≡ k = cc in
+      subst (λ n. slice_get (texts (names ++ v ∷ [])) n ≡ Some x) at (pushed_here names v ∙ ap (λ z. Some z) (is ∙ (bytes_decides name x).0 e))
+  listed_of x k false e h = pushed_kept names v k x (listed x k h)
+
+  pub listed_more : AreListed new (texts (names ++ v ∷ []))
+  listed_more x k h = listed_of x k _ refl (sym (step x) ∙ h)

@@ -2,15 +2,17 @@
 use Rattle.std.proofs.Common.{◌≡◌, ℕ, suc, ◌-◌, ◌<◌, ◌≤◌, Bool, true, false, cond, List, [], ◌∷◌, length, get_or, Option, Some, None, inl, inr, refl, sym, ap, subst, ◌∙◌, arith, map}
 use Rattle.std.specs.Prelude.{bytes_eq, slice_get, ◌⊎◌, ◌↔◌, ◌≢◌, slice_set, is_some, unwrap_or}
 use Rattle.std.specs.List.{flat_map}
+use Rattle.std.specs.Cmp.Lexicographic.{bytes_decides}
 use Rattle.std.proofs.lemmas.Bool.{cases_eq}
 use Rattle.std.proofs.lemmas.List.{get_or-set_other, length-set}
 use Rattle.std.proofs.lemmas.Grind.{get_or-set_at}
 use Rattle.vlog_tree.specs.Grounded.{Has}
 use Rattle.vlog_tree.specs.Form.{ModuleTree}
 use Rattle.vlog_rules.specs.NameTable.{places_from}
-use Rattle.vlog_tree.specs.Table.{Name, port_declared, declaration_name, module_declared, module_named}
+use Rattle.vlog_tree.specs.declared.table.NetKind.TheVariants.{Input, Output}
+use Rattle.vlog_tree.specs.Table.{Name, port_declared, declaration_name, module_declared, module_named, net_kind_of}
 use Rattle.vlog_tree.specs.Loops.{Edges, Reaches, one, more, Rests, directly, through, after, port_of, direct_edges, instances}
-use Rattle.vlog_comb_loops.specs.Summaries.{sum_named, port_pair, through_edges, module_edges, IsSumOf, IsSoundSum, IsClosedSum, AreSums, AreRight}
+use Rattle.vlog_comb_loops.specs.Summaries.{sum_named, port_pair, through_edges, module_edges, IsPair, IsSoundSum, IsUsed, IsClosedSum, AreSums, AreRight}
 use Rattle.vlog_rules.proofs.Found.{module_found}
 use Rattle.vlog_tree.proofs.Lists.{has_flat, of_flat, has_map, of_map, has_left, has_right, has_split, chains}
 
@@ -39,16 +41,27 @@ sum_none [] sums x e = refl
 sum_none (m ∷ ms) [] x e = refl
 sum_none (m ∷ ms) (s ∷ sums) x e = none_of m ms s sums x (bytes_eq m.name x) (sum_none ms sums x) e
 
+-- the module that a name finds has that name
+found_of : (m : ModuleTree) (ms : List ModuleTree) (x : Name) (k : ModuleTree) (b : Bool) → bytes_eq m.name x ≡ b → (module_named ms x ≡ Some k → Has ms k × (k.name ≡ x)) → cond b (Some m) (module_named ms x) ≡ Some k → Has {N = ModuleTree} (m ∷ ms) k × (k.name ≡ x)
+found_of m ms x k true e ih h = let same : m ≡ k = cc h in (inl same, ap (λ (t : ModuleTree). t.name) (sym same) ∙ (bytes_decides m.name x).0 e)
+found_of m ms x k false e ih h = let r = ih h in (inr r.0, r.1)
+
+pub found : (ms : List ModuleTree) (x : Name) (k : ModuleTree) → module_named ms x ≡ Some k → Has ms k × (k.name ≡ x)
+found [] x k h = cc
+found (m ∷ ms) x k h = found_of m ms x k (bytes_eq m.name x) refl (found ms x k) h
+
 module _ (ms : List ModuleTree) (is_top : Name → Bool) (sums : List Edges) where
-  pub rests_reaches : AreSums (IsClosedSum ms is_top sums) ms sums → {m : ModuleTree} {a b : Name} → Rests ms is_top m a b → Reaches (module_edges ms is_top sums m) a b
-  rests_reaches closed (directly {m = m} {x = x} {y = y} h) = one (has_left (direct_edges ms is_top m) _ (x, y) h)
-  rests_reaches closed (through {m = m} {a = a} {b = b} k kn i x y inst named out into inside ea eb) =
-      let pair : Has (sum_named ms sums kn) (x, y) = sum_found (IsClosedSum ms is_top sums) ms sums closed kn k named x y (out, into, rests_reaches closed inside) in
+  pub rests_reaches : AreSums (IsClosedSum ms is_top sums) ms sums → {m : ModuleTree} {a b : Name} → Has ms m → Rests ms is_top m a b → Reaches (module_edges ms is_top sums m) a b
+  rests_reaches closed in_ms (directly {m = m} {x = x} {y = y} h) = one (has_left (direct_edges ms is_top m) _ (x, y) h)
+  rests_reaches closed in_ms (through {m = m} {a = a} {b = b} k kn i x y inst named out into inside ea eb) =
+      let f = found ms kn k named in
+      let used : IsUsed ms k.name = (m, i, in_ms, subst (λ z. Has (instances m) (z, i)) (sym f.1) inst) in
+      let pair : Has (sum_named ms sums kn) (x, y) = sum_found (IsClosedSum ms is_top sums) ms sums closed kn k named used x y (out, into, rests_reaches closed f.0 inside) in
       let edge : Has (flat_map (through_edges ms sums) (instances m)) (port_of i x, port_of i y) =
       has_flat (through_edges ms sums) (instances m) (kn, i) (port_of i x, port_of i y) inst (has_map (port_pair i) (sum_named ms sums kn) (x, y) pair) in
       let same : (port_of i x, port_of i y) ≡ (a, b) = cc (ea, eb) in
       one (has_right (direct_edges ms is_top m) _ (a, b) (subst (λ (p : Name × Name). Has (flat_map (through_edges ms sums) (instances m)) p) same edge))
-  rests_reaches closed (after y r s) = chains _ _ y _ (rests_reaches closed r) (rests_reaches closed s)
+  rests_reaches closed in_ms (after y r s) = chains _ _ y _ (rests_reaches closed in_ms r) (rests_reaches closed in_ms s)
 
   module _ (sound : AreSums (IsSoundSum ms is_top) ms sums) (m : ModuleTree) where
     through_of : (a b kn i : Name) (p : Name × Name) (o : Option ModuleTree) → module_named ms kn ≡ o → Has (instances m) (kn, i) → Has (sum_named ms sums kn) p → port_pair i p ≡ (a, b) → Rests ms is_top m a b
@@ -68,8 +81,8 @@ module _ (ms : List ModuleTree) (is_top : Name → Bool) (sums : List Edges) whe
     reaches_rests (one {a = a} {b = b} h) = edge_of a b (has_split (direct_edges ms is_top m) _ (a, b) h)
     reaches_rests (more {a = a} b h r) = after b (edge_of a b (has_split (direct_edges ms is_top m) _ (a, b) h)) (reaches_rests r)
 
-  pub rests_is_reaches : AreRight ms is_top sums → (m : ModuleTree) (x y : Name) → Rests ms is_top m x y ↔ Reaches (module_edges ms is_top sums m) x y
-  rests_is_reaches r m x y = (rests_reaches r.closed, reaches_rests r.sound m)
+  pub rests_is_reaches : AreRight ms is_top sums → (m : ModuleTree) → Has ms m → (x y : Name) → Rests ms is_top m x y ↔ Reaches (module_edges ms is_top sums m) x y
+  rests_is_reaches r m in_ms x y = (rests_reaches r.closed in_ms, reaches_rests r.sound m)
 
 -- the sum at the place that a table of the modules' names gives
 abbrev names : List ModuleTree → List Name
@@ -128,6 +141,8 @@ sums_set P ms sums at m s h is p a = record {
   each = λ j k e. set_of P ms sums at j m k s h is p e (a.each j k e) (cases_eq j at);
 }
 
-pub sound_of : (ms : List ModuleTree) (is_top : Name → Bool) (sums : List Edges) (m : ModuleTree) (s : Edges) → AreSums (IsSoundSum ms is_top) ms sums
-    → IsSumOf (module_edges ms is_top sums m) (map port_declared m.ports) s → IsSoundSum ms is_top m s
-sound_of ms is_top sums m s sound all x y h = let p = (all x y).0 h in (p.0, p.1, reaches_rests ms is_top sums sound m p.2)
+-- a pair that the edges give is right, where the sums are
+pub sound_of : (ms : List ModuleTree) (is_top : Name → Bool) (sums : List Edges) (m : ModuleTree) → AreSums (IsSoundSum ms is_top) ms sums
+    → (x y : Name) → IsPair (module_edges ms is_top sums m) (map port_declared m.ports) x y
+    → (net_kind_of (map port_declared m.ports) x ≡ Output) × (net_kind_of (map port_declared m.ports) y ≡ Input) × Rests ms is_top m x y
+sound_of ms is_top sums m sound x y p = (p.0, p.1, reaches_rests ms is_top sums sound m p.2)

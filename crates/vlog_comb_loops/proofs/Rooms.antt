@@ -1,6 +1,7 @@
 -- Sums that grow leave less room.
-use Rattle.std.proofs.Common.{◌≡◌, ℕ, zero, suc, ◌<◌, ◌≤◌, Bool, true, false, cond, ◌&&◌, ◌||◌, List, [], ◌∷◌, ◌++◌, length, get_or, Some, inl, inr, refl, sym, ap, subst, arith, map}
-use Rattle.std.specs.Prelude.{bytes_eq, slice_get, slice_set, ◌⊎◌}
+use Rattle.std.proofs.Common.{◌≡◌, ℕ, zero, suc, ◌<◌, ◌≤◌, Bool, true, false, cond, ◌&&◌, ◌||◌, List, [], ◌∷◌, ◌++◌, length, get_or, Some, inl, inr, refl, sym, ap, subst, ◌∙◌, arith, map}
+use Rattle.std.specs.Prelude.{bytes_eq, slice_get, slice_set, nat_lt, ◌⊎◌}
+use Rattle.std.proofs.lemmas.Bool.Decides.{nat_tests}
 use Rattle.std.specs.Cmp.Lexicographic.{bytes_decides}
 use Rattle.vlog_tree.specs.declared.table.Declaration.{Declaration}
 use Rattle.vlog_tree.specs.declared.table.NetKind.TheVariants.{Unknown, Input, Output}
@@ -10,7 +11,9 @@ use Rattle.vlog_tree.specs.Table.{Name, port_declared, declaration_name, net_kin
 use Rattle.vlog_tree.specs.Loops.{Edges}
 use Rattle.vlog_tree.proofs.Lists.{has_flat, has_map, has_left, has_right, has_split, known}
 use Rattle.vlog_comb_loops.specs.Rooms.{is_pair_in, missing, candidates, room}
-use Rattle.vlog_comb_loops.specs.Merges.{IsMerged}
+use Rattle.vlog_comb_loops.specs.Merges.{IsMerged, IsGrown}
+use Rattle.vlog_comb_loops.specs.Questions.{Question}
+use Rattle.vlog_comb_loops.specs.Summaries.{IsSumOf}
 
 and_both : (a b : Bool) → (a && b) ≡ true → (a ≡ true) × (b ≡ true)
 and_both true true e = (refl, refl)
@@ -165,3 +168,47 @@ module _ (old pairs new : Edges) (b : Bool) (p : Name × Name) (m : IsMerged old
     where
       on : true ≡ false → ⊥
       on e = cc
+
+not_less : (n : ℕ) → nat_lt 0 n ≡ false → n ≤ 0
+not_less n h = grind (arith, nat_tests)
+
+is_less : (n : ℕ) → nat_lt 0 n ≡ true → 0 < n
+is_less n h = grind (arith, nat_tests)
+
+pub empty_of : (p : Edges) (n : ℕ) → n ≡ length p → nat_lt 0 n ≡ false → p ≡ []
+empty_of [] n e h = refl
+empty_of (q ∷ p) n e h = let none : n ≤ 0 = not_less n h in absurd (omega (arith, e, none))
+
+pub some_of : (p : Edges) (n : ℕ) → n ≡ length p → nat_lt 0 n ≡ true → (q : Name × Name) × Has p q
+some_of [] n e h = let some : 0 < n = is_less n h in absurd (omega (arith, e, some))
+some_of (q ∷ p) n e h = (q, inl refl)
+
+-- pairs that are taken over where there were none
+pub merged_all : (old others : Edges) (b : Bool) → old ≡ [] → (b ≡ false → others ≡ []) → (b ≡ true → (p : Name × Name) × Has others p) → IsMerged old others others b
+merged_all old others b none empty some = record {
+  kept = λ x y h. absurd (subst (λ l. Has l (x, y)) none h);
+  right = λ x y h. inr h;
+  there = λ x y h. h;
+  same = λ e. empty e ∙ sym none;
+  one_more = λ e. let p = some e in (p.0.0, p.0.1, p.1, λ h. absurd (subst (λ l. Has l (p.0.0, p.0.1)) none h), p.1);
+}
+
+pub grown_merged : (edges : Edges) (ports : List Declaration) (asked : List Question) (old pairs new : Edges) (b : Bool) → IsMerged old pairs new b → IsSumOf edges ports pairs → IsGrown edges ports asked old new b
+grown_merged edges ports asked old pairs new b m all = record {
+  kept = m.kept;
+  right = λ x y h. elim (m.right x y h) [ inl o ↦ inl o | inr p ↦ inr ((all x y).0 p) ];
+  there = λ e h x y p. m.there x y ((all x y).1 p);
+  same = m.same;
+  one_more = λ e. let w = m.one_more e in (w.0, w.1, (all w.0 w.1).0 w.2, w.3, w.4);
+}
+
+pub grown_not : (edges : Edges) (ports : List Declaration) (asked : List Question) (s : Edges) → asked ≡ [] → IsGrown edges ports asked s s false
+grown_not edges ports asked s none = record {
+  kept = λ x y h. h;
+  right = λ x y h. inl h;
+  there = λ e h x y p. absurd (subst (λ l. Has l e) none h);
+  same = λ e. refl;
+  one_more = λ e. absurd (off e);
+} where
+  off : false ≡ true → ⊥
+  off e = cc

@@ -2,6 +2,7 @@ pub mod Names
 pub mod Summaries
 pub mod Growth
 pub mod Merges
+pub mod Places
 pub mod Rooms
 pub mod Search
 pub mod Questions

@@ -1,6 +1,5 @@
 -- Graphs of names: numbers of names, and a graph of the numbers.
-use Rattle.std.specs.Prelude.{◌≡◌, ℕ, ◌<◌, Bool, false, length, Option, Some, get_or, List}
-use Rattle.std.specs.Option.{option_map_or}
+use Rattle.std.specs.Prelude.{◌≡◌, ℕ, ◌<◌, length, Option, Some, List, map, slice_get, Vec}
 use Rattle.vlog_tree.specs.Grounded.{Has}
 use Rattle.vlog_tree.specs.Table.{Name}
 use Rattle.vlog_tree.specs.Loops.{Edges}
@@ -27,6 +26,16 @@ IsGraphOf edges g = IsNumbered edges (value_in g.numbers) (Steps g.graph) (lengt
 abbrev pub IsExtended : (Name → Option ℕ) → (Name → Option ℕ) → Type 0
 IsExtended old new = (a : Name) (j : ℕ) → old a ≡ Some j → new a ≡ Some j
 
--- whether the number of a name is marked
-abbrev pub mark_of : NamedGraph → List Bool → Name → Bool
-mark_of g marks x = option_map_or (λ k. get_or marks k false) (value_in g.numbers x) false
+-- texts without where they lie in memory
+abbrev pub texts : {A : Type 0} → List (Vec ℕ A) → List Name
+texts names = map (λ v. v.items) names
+
+-- each name stands at its number
+abbrev pub AreListed : (Name → Option ℕ) → List Name → Type 0
+AreListed number names = (x : Name) (k : ℕ) → number x ≡ Some k → slice_get names k ≡ Some x
+
+abbrev pub IsListed : Draft → Type 0
+IsListed d = AreListed (value_in d.numbers) (texts d.names.items)
+
+abbrev pub IsGraphListed : NamedGraph → Type 0
+IsGraphListed g = AreListed (value_in g.numbers) (texts g.names.items)

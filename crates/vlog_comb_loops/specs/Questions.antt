@@ -5,9 +5,10 @@ use Rattle.vlog_tree.specs.declared.tree.Item.{Item}
 use Rattle.vlog_tree.specs.Grounded.{Has}
 use Rattle.vlog_tree.specs.Form.{ModuleTree}
 use Rattle.vlog_tree.specs.Table.{Name}
-use Rattle.vlog_tree.specs.Loops.{item_instances}
+use Rattle.vlog_tree.specs.Loops.{item_instances, port_of}
 use Rattle.vlog_rules.specs.NameTable.{value_in}
 use Rattle.vlog_graph.specs.Graphs.{targets_of}
+use Rattle.vlog_comb_loops.specs.Names.{texts}
 use Rattle.vlog_comb_loops.specs.declared.suspects.Suspect.{Suspect}
 use Rattle.vlog_comb_loops.specs.declared.questions.Questions.{Questions}
 
@@ -15,7 +16,7 @@ use Rattle.vlog_comb_loops.specs.declared.questions.Questions.{Questions}
 abbrev pub Question : Type 0
 Question = ℕ × Option ℕ
 
--- the questions for the names that a module of this name declares
+-- the questions of a name
 abbrev pub asked_of : Questions → Name → List Question
 asked_of q m = option_map_or (λ n. targets_of q.lists.items n) (value_in q.numbers m) []
 
@@ -23,15 +24,31 @@ asked_of q m = option_map_or (λ n. targets_of q.lists.items n) (value_in q.numb
 abbrev pub Keeps : Questions → Questions → Type 0
 Keeps old new = (m : Name) (e : Question) → Has (asked_of old m) e → Has (asked_of new m) e
 
--- each instance of some lines is asked for
-abbrev pub AsksLines : Questions → ℕ → List Item → Type 0
-AsksLines q at items = (j : ℕ) (item : Item) (m i : Name) → slice_get items j ≡ Some item → Has (item_instances item) (m, i) → Has (asked_of q m) (at, Some j)
+-- each instance of some lines is noted under a name
+abbrev pub NotesLines : (Name → Name → Name) → Questions → ℕ → List Item → Type 0
+NotesLines key q at items = (j : ℕ) (item : Item) (m i : Name) → slice_get items j ≡ Some item → Has (item_instances item) (m, i) → Has (asked_of q (key m i)) (at, Some j)
 
--- a module's own names and those of its instances are asked for
-pub record Asks (q : Questions) (at : ℕ) (k : ModuleTree) : Type 0 where
-  pub own : Has (asked_of q k.name) (at, None)
-  pub lines : AsksLines q at k.items
+-- the name of its module
+abbrev pub AsksLines : Questions → ℕ → List Item → Type 0
+AsksLines q at items = NotesLines (λ m i. m) q at items
+
+-- its own name
+abbrev pub NamesLines : Questions → ℕ → List Item → Type 0
+NamesLines q at items = NotesLines (λ m i. i) q at items
+
+-- each instance is noted under the name of its module
+abbrev pub AreUses : List ModuleTree → Questions → Type 0
+AreUses ms q = (at : ℕ) (k : ModuleTree) → slice_get ms at ≡ Some k → AsksLines q at k.items
+
+-- those of some lines that have an instance ask of its port
+abbrev pub AsksPort : Questions → ModuleTree → List Question → Name → Type 0
+AsksPort q k lines x = (e : Question) (j : ℕ) (item : Item) (m i : Name) → Has lines e → e.1 ≡ Some j → slice_get k.items j ≡ Some item → Has (item_instances item) (m, i) → Has (asked_of q (port_of m x)) e
+
+-- the names of a module's graph are asked for: its own, and those of ports of its instances
+pub record Asks (q : Questions) (at : ℕ) (k : ModuleTree) (names : List Name) : Type 0 where
+  pub own : (x : Name) → Has names x → Has (asked_of q (port_of k.name x)) (at, None)
+  pub wires : (j : ℕ) (item : Item) (m i x : Name) → slice_get k.items j ≡ Some item → Has (item_instances item) (m, i) → Has names (port_of i x) → Has (asked_of q (port_of m x)) (at, Some j)
 
 -- each suspect asks for the names of its module
 abbrev pub AsksAll : List ModuleTree → List Suspect → Questions → Type 0
-AsksAll ms suspects q = (at : ℕ) (s : Suspect) (k : ModuleTree) → slice_get suspects at ≡ Some s → slice_get ms s.place ≡ Some k → Asks q at k
+AsksAll ms suspects q = (at : ℕ) (s : Suspect) (k : ModuleTree) → slice_get suspects at ≡ Some s → slice_get ms s.place ≡ Some k → Asks q at k (texts s.graph.names.items)

@@ -1,10 +1,11 @@
 -- The search for the first name on a loop.
-use Rattle.std.specs.Prelude.{◌≡◌, ◌⊎◌, ◌↔◌, ℕ, List, Bool, true, Option, Some, None, slice_get}
+use Rattle.std.specs.Prelude.{◌≡◌, ◌<◌, ◌⊎◌, ◌↔◌, ℕ, List, Bool, true, Option, Some, None, slice_get}
 use Rattle.vlog_tree.specs.Grounded.{Has}
 use Rattle.vlog_tree.specs.Form.{ModuleTree}
 use Rattle.vlog_tree.specs.Table.{Name}
 use Rattle.vlog_tree.specs.Loops.{Edges, Reaches, Rests, port_of, item_instances, instances, containment, TextPlace, place_name, IsFirst}
-use Rattle.vlog_comb_loops.specs.Names.{IsGraphOf}
+use Rattle.vlog_comb_loops.specs.Names.{IsGraphOf, IsGraphListed}
+use Rattle.vlog_comb_loops.specs.Summaries.{module_edges}
 use Rattle.vlog_tree.specs.declared.tree.Item.{Item}
 use Rattle.vlog_comb_loops.specs.Questions.{Question, AsksAll}
 use Rattle.vlog_comb_loops.specs.declared.suspects.Suspect.{Suspect}
@@ -31,6 +32,7 @@ pub record IsSuspect (ms : List ModuleTree) (is_top : Name → Bool) (s : Suspec
   pub at : slice_get ms s.place ≡ Some tree
   pub edges : Edges
   pub graph : IsGraphOf edges s.graph
+  pub listed : IsGraphListed s.graph
   pub reaches : (x y : Name) → Rests ms is_top tree x y ↔ Reaches edges x y
 
 -- a question of a name is answered by yes
@@ -39,9 +41,15 @@ LoopsBy ms is_top suspects m x e = (s : Suspect) × (slice_get suspects e.0 ≡ 
 
 -- a graph with these edges was put to the others, or has no loop
 pub record IsJudged (edges : Edges) (place : ℕ) (old new : List Suspect) : Type 0 where
-  pub right : (s : Suspect) → Has new s → Has old s ⊎ ((s.place ≡ place) × IsGraphOf edges s.graph)
+  pub right : (s : Suspect) → Has new s → Has old s ⊎ ((s.place ≡ place) × IsGraphOf edges s.graph × IsGraphListed s.graph)
   pub kept : (s : Suspect) → Has old s → Has new s
   pub judged : ((x : Name) → Reaches edges x x → ⊥) ⊎ ((s : Suspect) × Has new s × (s.place ≡ place))
+
+-- the modules before a place were judged by their edges with these sums
+pub record AreJudged (ms : List ModuleTree) (is_top : Name → Bool) (sums : List Edges) (place : ℕ) (suspects : List Suspect) : Type 0 where
+  pub right : (s : Suspect) → Has suspects s → (m : ModuleTree) × (slice_get ms s.place ≡ Some m) × IsGraphOf (module_edges ms is_top sums m) s.graph × IsGraphListed s.graph
+  pub others : (j : ℕ) (m : ModuleTree) → j < place → slice_get ms j ≡ Some m
+      → ((x : Name) → Reaches (module_edges ms is_top sums m) x x → ⊥) ⊎ ((s : Suspect) × Has suspects s × (slice_get ms s.place ≡ Some m))
 
 -- graphs of modules, so that no other module has a loop, and the graph of what contains what
 pub record IsEvidence (ms : List ModuleTree) (is_top : Name → Bool) (loops : Loops) : Type 0 where

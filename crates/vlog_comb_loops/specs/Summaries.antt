@@ -44,9 +44,13 @@ IsSoundSum ms is_top m sum =
     (x y : Name) → Has sum (x, y)
     → (net_kind_of (map port_declared m.ports) x ≡ Output) × (net_kind_of (map port_declared m.ports) y ≡ Input) × Rests ms is_top m x y
 
--- a sum has each pair that the module's edges give
+-- a module has an instance of a module of this name
+abbrev pub IsUsed : List ModuleTree → Name → Type 0
+IsUsed ms x = (p : ModuleTree) × (i : Name) × Has ms p × Has (instances p) (x, i)
+
+-- a sum has each pair that the module's edges give, where others contain the module
 abbrev pub IsClosedSum : List ModuleTree → (Name → Bool) → List Edges → ModuleTree → Edges → Type 0
-IsClosedSum ms is_top sums m sum = (x y : Name) → IsPair (module_edges ms is_top sums m) (map port_declared m.ports) x y → Has sum (x, y)
+IsClosedSum ms is_top sums m sum = IsUsed ms m.name → (x y : Name) → IsPair (module_edges ms is_top sums m) (map port_declared m.ports) x y → Has sum (x, y)
 
 -- the sums stand in the order of the modules
 pub record AreSums (P : ModuleTree → Edges → Type 0) (ms : List ModuleTree) (sums : List Edges) : Type 0 where

@@ -5,7 +5,7 @@ ghost use Rattle.std.specs.List.{flat_map};
 ghost use Rattle.std.specs.Option.{option_copied};
 ghost use Rattle.vlog_tree.specs.Table.{port_declared};
 ghost use Rattle.vlog_tree.specs.Loops.{atom_nets, value_nets, port_of, connection_edge, line_edges, answer_edges, memory_edges, item_instances};
-ghost use Rattle.vlog_comb_loops.specs.Names.{IsGraphOf};
+ghost use Rattle.vlog_comb_loops.specs.Names.{IsGraphOf, IsGraphListed};
 ghost use Rattle.vlog_comb_loops.specs.Growth.{Adds};
 ghost use Rattle.vlog_comb_loops.specs.Summaries.{is_named, sum_named, port_pair, through_edges, module_edges};
 
@@ -16,14 +16,21 @@ use tapa_base::Text;
 use vlog_rules::{Library, Scope, is_input, is_read};
 use vlog_tree::{Atom, Connection, Declaration, Item, Module, Value, addr_name, rdata_of};
 
+/// Two texts with a dot between them.
 #[tactic(auto, unfolding(vlog_tree::specs::Loops::port_of))]
+pub(crate) fn dotted(alloc: Global, before: &[u8], behind: &[u8]) -> Result<Vec<u8>, AllocError>
+    ensures { IfOk result (λ v. v.items ≡ port_of before.now behind.now) }
+{
+    let mut name = before.to_vec(alloc)?;
+    name.push(b'.')?;
+    name.extend_from_slice(behind)?;
+    Ok(name)
+}
+
 pub(crate) fn port_name(alloc: Global, instance: &Text, port: &Text) -> Result<Vec<u8>, AllocError>
     ensures { IfOk result (λ v. v.items ≡ port_of instance.now port.now) }
 {
-    let mut name = instance.bytes().to_vec(alloc)?;
-    name.push(b'.')?;
-    name.extend_from_slice(port.bytes())?;
-    Ok(name)
+    dotted(alloc, instance.bytes(), port.bytes())
 }
 
 pub(crate) fn add(alloc: Global, g: &mut Draft, from: &[u8], to: &[u8]) -> Result<(), AllocError>
@@ -306,7 +313,8 @@ pub(crate) fn graph_of(
     sums: &[Sum],
     m: &Module,
 ) -> Result<NamedGraph, AllocError>
-    ensures { IfOk result (λ g. IsGraphOf (module_edges library.now (is_named (option_copied root.entry)) sums.now m.now) g) }
+    ensures graph { IfOk result (λ g. IsGraphOf (module_edges library.now (is_named (option_copied root.entry)) sums.now m.now) g) }
+    ensures listed { IfOk result (λ g. IsGraphListed g) }
 {
     let mut g = Draft::new(alloc);
     add_lines(alloc, &mut g, library, m.items())?;

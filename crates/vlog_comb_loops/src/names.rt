@@ -1,13 +1,13 @@
 // Graphs of names.
 
-ghost use Rattle.std.specs.Prelude.{◌≡◌, ◌<◌, ◌++◌, ◌∷◌, [], ℕ, List, Some, true, false, length, bytes_eq, ◌↔◌, get_or, if◌then◌else◌, IfOk, OnOk};
+ghost use Rattle.std.specs.Prelude.{◌≡◌, ◌++◌, ◌∷◌, [], ℕ, List, Some, true, length, bytes_eq, ◌↔◌, if◌then◌else◌, IfOk, OnOk};
 ghost use Rattle.vlog_tree.specs.Loops.{Edges, Reaches};
 ghost use Rattle.vlog_rules.specs.NameTable.{value_in};
-ghost use Rattle.vlog_comb_loops.specs.Names.{IsDraftOf, IsGraphOf, IsExtended, mark_of};
+ghost use Rattle.vlog_comb_loops.specs.Names.{IsDraftOf, IsGraphOf, IsExtended, IsListed, IsGraphListed};
 
 use std::alloc::{AllocError, Global};
 use std::collections::HashMap;
-use vlog_graph::{Graph, LeveledGraph, Order, order_of, reach_from as reach_numbers};
+use vlog_graph::{Graph, LeveledGraph, Order, order_of};
 
 /// A graph of names that grows: the names by their numbers, and the edges by numbers.
 #[derive(Drop)]
@@ -17,10 +17,11 @@ pub struct Draft {
     pub edges: Vec<(usize, usize)>,
 }
 
-/// A graph of names that grows no more.
+/// A graph of names that grows no more: the names by their numbers, all of them, and the graph of the numbers.
 #[derive(Drop)]
 pub struct NamedGraph {
     pub numbers: HashMap<Vec<u8>, usize>,
+    pub names: Vec<Vec<u8>>,
     pub graph: LeveledGraph,
 }
 
@@ -40,7 +41,8 @@ pub(crate) fn insert_number(
 
 impl Draft {
     pub(crate) fn new(alloc: Global) -> Draft
-        ensures { IsDraftOf [] result }
+        ensures graph { IsDraftOf [] result }
+        ensures listed { IsListed result }
     {
         Draft {
             numbers: HashMap::new(alloc),
@@ -60,12 +62,14 @@ impl Draft {
         ensures number { IfOk result (λ j. value_in self.new.numbers name.now ≡ Some j) }
         ensures extended { OnOk result (IsExtended (value_in self.old.numbers) (value_in self.new.numbers)) }
         ensures graph { OnOk result ((edges : Edges) → IsDraftOf edges self.old → IsDraftOf edges self.new) }
+        ensures listed { OnOk result (IsListed self.old → IsListed self.new) }
     {
         if let Some(number) = self.number(name) {
             return Ok(number);
         }
         let number = self.names.len();
-        self.names.push(name.to_vec(alloc)?)?;
+        let text = name.to_vec(alloc)?;
+        self.names.push(text)?;
         insert_number(alloc, &mut self.numbers, name, number)?;
         Ok(number)
     }
@@ -77,7 +81,8 @@ impl Draft {
         from: &[u8],
         to: &[u8],
     ) -> Result<(), AllocError>
-        ensures { OnOk result ((edges : Edges) → IsDraftOf edges self.old → IsDraftOf (edges ++ (from.now, to.now) ∷ []) self.new) }
+        ensures graph { OnOk result ((edges : Edges) → IsDraftOf edges self.old → IsDraftOf (edges ++ (from.now, to.now) ∷ []) self.new) }
+        ensures listed { OnOk result (IsListed self.old → IsListed self.new) }
     {
         let a = self.number_for(alloc, from)?;
         let b = self.number_for(alloc, to)?;
@@ -87,23 +92,16 @@ impl Draft {
 
     pub(crate) fn finish(self, alloc: Global) -> Result<NamedGraph, AllocError>
         requires { (edges : Edges) × IsDraftOf edges self }
-        ensures { (edges : Edges) → IsDraftOf edges self → IfOk result (λ g. IsGraphOf edges g) }
+        ensures graph { (edges : Edges) → IsDraftOf edges self → IfOk result (λ g. IsGraphOf edges g) }
+        ensures listed { IsListed self → IfOk result (λ g. IsGraphListed g) }
     {
         let graph = Graph::of(alloc, self.names.len(), &self.edges)?;
         let graph = LeveledGraph::of(alloc, graph)?;
         Ok(NamedGraph {
             numbers: self.numbers,
+            names: self.names,
             graph,
         })
-    }
-}
-
-fn mark_at(marks: &[bool], number: usize) -> bool
-    ensures { result ≡ get_or marks.now number false }
-{
-    match marks.get(number) {
-        Some(marked) => *marked,
-        None => false,
     }
 }
 
@@ -115,27 +113,11 @@ impl NamedGraph {
         self.numbers.get(name).copied()
     }
 
-    /// Whether a name is marked by its number.
-    pub(crate) fn is_marked(&self, marks: &[bool], name: &[u8]) -> bool
-        ensures { result ≡ mark_of self.now marks.now name.now }
+    /// The number of nodes.
+    pub(crate) fn count(&self) -> usize
+        ensures { result ≡ length self.now.graph }
     {
-        match self.number(name) {
-            Some(number) => mark_at(marks, number),
-            None => false,
-        }
-    }
-
-    /// Marks the names that a name reaches by one or more edges.
-    pub(crate) fn reach_from(&self, alloc: Global, name: &[u8]) -> Result<Vec<bool>, AllocError>
-        ensures { (edges : Edges) → IsGraphOf edges self.now → IfOk result (λ marks. (y : List ℕ) → (mark_of self.now marks.items y ≡ true) ↔ Reaches edges name.now y) }
-    {
-        match self.number(name) {
-            Some(number) => {
-                let marks = reach_numbers(alloc, self.graph.graph(), &[number])?;
-                Ok(marks)
-            }
-            None => Ok(Vec::new(alloc)),
-        }
+        self.graph.graph().len()
     }
 
     /// Whether a name reaches itself.

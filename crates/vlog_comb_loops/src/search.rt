@@ -1,23 +1,25 @@
 // The first name in the text that lies on a loop.
 
-ghost use Rattle.std.specs.Prelude.{◌≡◌, ◌↔◌, ◌⊎◌, ℕ, List, Bool, true, map, slice_get, Some, IfOk, OnOk};
+ghost use Rattle.std.specs.Prelude.{◌≡◌, ◌<◌, ◌≤◌, ◌↔◌, ◌⊎◌, [], ℕ, List, Bool, true, false, map, length, slice_get, Some, IfOk, OnOk};
 ghost use Rattle.std.specs.Option.{option_copied};
 ghost use Rattle.vlog_tree.specs.Table.{declared};
 ghost use Rattle.vlog_tree.specs.V6.{item_children};
 ghost use Rattle.vlog_tree.specs.Form.{ModuleTree};
 ghost use Rattle.vlog_tree.specs.Grounded.{Has};
 ghost use Rattle.vlog_tree.specs.Loops.{Edges, own_containment, containment, Reaches, Rests, own_places, text_places, LiesOnLoop};
-ghost use Rattle.vlog_comb_loops.specs.Names.{IsDraftOf, IsGraphOf};
+ghost use Rattle.vlog_comb_loops.specs.Names.{IsDraftOf, IsGraphOf, IsGraphListed};
 ghost use Rattle.vlog_comb_loops.specs.declared.suspects.Suspect.{Suspect};
 ghost use Rattle.vlog_comb_loops.specs.Growth.{Adds};
-ghost use Rattle.vlog_comb_loops.specs.Search.{IsSearched, IsSuspect, IsEvidence, IsJudged};
-ghost use Rattle.vlog_comb_loops.specs.Summaries.{is_named, AreRight};
+ghost use Rattle.vlog_comb_loops.specs.Rooms.{room};
+ghost use Rattle.vlog_comb_loops.specs.Questions.{AreUses};
+ghost use Rattle.vlog_comb_loops.specs.Search.{IsSearched, IsSuspect, IsEvidence, IsJudged, AreJudged};
+ghost use Rattle.vlog_comb_loops.specs.Summaries.{is_named, IsSoundSum, IsClosedSum, AreSums};
 
-use crate::edges::{add, graph_of};
+use crate::edges::add;
 use crate::names::{Draft, NamedGraph};
 use crate::order::order_of;
-use crate::questions::questions_of;
-use crate::sums::{Sum, sums_of};
+use crate::questions::{Questions, questions_of, uses_of};
+use crate::sums::{Sum, renew, sums_of};
 use crate::suspects::{Loops, Suspect, on_loop};
 use std::alloc::{AllocError, Global};
 use tapa_base::Text;
@@ -73,6 +75,7 @@ fn judge(
     place: usize,
     graph: NamedGraph,
 ) -> Result<(), AllocError>
+    requires { IsGraphListed graph }
     ensures { OnOk result ((edges : Edges) → IsGraphOf edges graph → IsJudged edges place suspects.old.items suspects.new.items) }
 {
     let loopless = graph.is_loopless(alloc)?;
@@ -82,22 +85,52 @@ fn judge(
     Ok(())
 }
 
-// The modules that may have loops.
+// The graphs of the modules that may have loops, put to others that are there, where no sum is found to be too small.
+fn judge_all(
+    alloc: Global,
+    library: &Library,
+    root: Option<&Text>,
+    uses: &Questions,
+    sums: &mut Vec<Sum>,
+    suspects: &mut Vec<Suspect>,
+) -> Result<bool, AllocError>
+    requires uses { AreUses library.now uses.now }
+    requires sound { AreSums (IsSoundSum library.now (is_named (option_copied root))) library.now sums.old.items }
+    requires none { suspects.old.items ≡ [] }
+    ensures sound { OnOk result (AreSums (IsSoundSum library.now (is_named (option_copied root.entry))) library.now sums.new.items) }
+    ensures closed { IfOk result (λ b. b ≡ true → AreSums (IsClosedSum library.now (is_named (option_copied root.entry)) sums.new.items) library.now sums.new.items) }
+    ensures judged { IfOk result (λ b. b ≡ true → AreJudged library.now (is_named (option_copied root.entry)) sums.new.items (length library.now) suspects.new.items) }
+    ensures less { IfOk result (λ b. b ≡ false → room library.now sums.new.items < room library.now sums.old.items) }
+    ensures more { OnOk result (room library.now sums.new.items ≤ room library.now sums.old.items) }
+{
+    for place in 0..library.modules().len() {
+        let made = renew(alloc, library, root, uses, sums, place)?;
+        if !made.steady {
+            return Ok(false);
+        }
+        judge(alloc, suspects, place, made.graph)?;
+    }
+    Ok(true)
+}
+
+// The modules that may have loops, by sums that are made larger where they are too small.
 fn suspects_of(
     alloc: Global,
     library: &Library,
     root: Option<&Text>,
-    sums: &[Sum],
+    uses: &Questions,
+    mut sums: Vec<Sum>,
 ) -> Result<Vec<Suspect>, AllocError>
-    requires { AreRight library.now (is_named (option_copied root)) sums.now }
+    requires uses { AreUses library.now uses.now }
+    requires sound { AreSums (IsSoundSum library.now (is_named (option_copied root))) library.now sums.items }
     ensures right { IfOk result (λ v. (s : Suspect) → Has v.items s → IsSuspect library.now (is_named (option_copied root.entry)) s) }
     ensures others { IfOk result (λ v. (m : ModuleTree) → Has library.now m → ((x : List ℕ) → Rests library.now (is_named (option_copied root.entry)) m x x → ⊥) ⊎ ((s : Suspect) × Has v.items s × (slice_get library.now s.place ≡ Some m))) }
 {
     let mut suspects = Vec::new(alloc);
-    let modules = library.modules();
-    for place in 0..modules.len() {
-        let graph = graph_of(alloc, library, root, sums, &modules[place])?;
-        judge(alloc, &mut suspects, place, graph)?;
+    let mut steady = judge_all(alloc, library, root, uses, &mut sums, &mut suspects)?;
+    while !steady {
+        suspects = Vec::new(alloc);
+        steady = judge_all(alloc, library, root, uses, &mut sums, &mut suspects)?;
     }
     Ok(suspects)
 }
@@ -108,8 +141,9 @@ fn loops_of(alloc: Global, library: &Library, root: Option<&Text>) -> Result<Loo
     let contains = containment_of(alloc, library.modules())?;
     let flat = contains.is_loopless(alloc)?;
     let order = order_of(alloc, &contains, library.modules())?;
-    let sums = sums_of(alloc, library, root, &order)?;
-    let suspects = suspects_of(alloc, library, root, &sums)?;
+    let uses = uses_of(alloc, library.modules())?;
+    let sums = sums_of(alloc, library, root, &uses, &order)?;
+    let suspects = suspects_of(alloc, library, root, &uses, sums)?;
     let questions = questions_of(alloc, library, &suspects)?;
     Ok(Loops {
         suspects,

@@ -21,7 +21,7 @@ pub struct Suspect {
     pub graph: NamedGraph,
 }
 
-/// The modules that may have loops, what to ask of each name, and which module contains which; `flat` says that levels
+/// The modules that may have loops, what to ask of each net of a module, and which module contains which; `flat` says that levels
 /// show that no module contains itself.
 #[derive(Drop)]
 pub struct Loops {
@@ -151,7 +151,8 @@ pub(crate) fn on_loop(
     requires { (is_top : List ℕ → Bool) × IsEvidence library.now is_top loops.now }
     ensures { (is_top : List ℕ → Bool) → IsEvidence library.now is_top loops.now → IfOk result (λ b. (b ≡ true) ↔ LiesOnLoop library.now is_top (owner.now, Some name.now)) }
 {
-    for question in loops.questions.of_module(owner) {
+    let key = port_name(alloc, owner, name)?;
+    for question in loops.questions.of_name(&key) {
         let found = question_loops(alloc, library, loops, *question, owner, name)?;
         if found {
             return Ok(true);

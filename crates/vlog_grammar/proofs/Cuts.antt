@@ -71,7 +71,7 @@ sign_cut b z =
     else (if bytes_eq (b ∷ second z) (codes "/*") then gap (b ∷ second z ++ through_close (without_first z))
     else (if is_sign (b ∷ second z) then word (b ∷ second z) else word (b ∷ [])))
 
-cut : Bytes → Piece
+pub cut : Bytes → Piece
 cut [] = gap []
 cut (b ∷ z) =
     if is_blank b then gap (b ∷ [])
@@ -261,7 +261,7 @@ block_cut body rest h =
 
 -- ---- whole texts
 
-stands_cut : (p : Piece) (rest : Bytes) → Stands p rest → cut (piece_bytes p ++ rest) ≡ p
+pub stands_cut : (p : Piece) (rest : Bytes) → Stands p rest → cut (piece_bytes p ++ rest) ≡ p
 unfolding cut
 stands_cut (gap bytes) rest (inl (b, e, blank)) = rw e (if_true (is_blank b) _ _ blank)
 stands_cut (gap bytes) rest (inr (inl (body, e, all, ends))) = subst (λ (v : Bytes). cut (v ++ rest) ≡ gap v) (sym e) (line_cut body rest all ends)
@@ -271,7 +271,7 @@ stands_cut (word bytes) rest (inr (inl h)) = number_word_cut bytes rest h
 stands_cut (word bytes) rest (inr (inr (inl h))) = literal_word_cut bytes rest h
 stands_cut (word bytes) rest (inr (inr (inr h))) = sign_word_cut bytes rest h
 
-no_piece : (p : Piece) (rest : Bytes) → Stands p rest → [] ≡ piece_bytes p ++ rest → ⊥
+pub no_piece : (p : Piece) (rest : Bytes) → Stands p rest → [] ≡ piece_bytes p ++ rest → ⊥
 unfolding cut
 no_piece p rest h e = empty p h (ap cut e ∙ stands_cut p rest h)
   where

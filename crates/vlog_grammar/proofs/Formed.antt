@@ -94,7 +94,7 @@ item_formed (Instance m x connections) i j (t, (n, e), (u, (k, f), (v, g, (w, r,
 port_formed : (p : PortDecl) (i j : List Word) → SpellsPort p i j → is_port p ≡ true
 port_formed p i j (t, e, (u, r, (n, f))) = both _ _ (range_formed _ t u r) n
 
-module_formed : (m : ModuleTree) (i j : List Word) → SpellsModule m i j → IsModule m
+pub module_formed : (m : ModuleTree) (i j : List Word) → SpellsModule m i j → IsModule m
 unfolding IsModule
 module_formed m i j (t, e, (u, (n, p), (v, f, (w, q, (z, g, (l, h, (o, r, end))))))) =
     let s = separated_formed SpellsPort is_port port_formed (codes ",") m.ports v w q in

@@ -7,7 +7,7 @@ use Rattle.kahn_model.specs.Start.{network_of}
 use Rattle.kahn_reference.proofs.RoundLists.{next_is}
 use Rattle.kahn_reference.proofs.rounds.next_stream.Goals as goal
 
-pub returns : goal.returns
+pub returns-clause-tokens : goal.returns-clause-tokens
 unfolding network_of
-returns c =
-    next_is c.args.program.now c.args.scalars.now (rows_of c.args.memories.now) c.args.s c.args.n c.producer_of.result (whole c.args.lists.now) c.in_ok-puts_on.field-0.items c.in_ok-ticks.ticks.items (c.in_ok-puts_on.ensures ∙ ap (flat_map (put_on c.args.s)) c.deref.ensures.value) c.in_ok-ticks.ensures c.producer_of.ensures
+returns-clause-tokens c =
+    next_is c.args.program.now c.args.scalars.now (rows_of c.args.memories.now) c.args.s c.args.n c.producer_of.result (whole c.args.lists.now) c.in_ok-puts_on.field-0.items c.in_ok-ticks.ticks.items (c.in_ok-puts_on.ensures ∙ ap (flat_map (put_on c.args.s)) c.deref.ensures.value) c.in_ok-ticks.ensures.ticks c.producer_of.ensures

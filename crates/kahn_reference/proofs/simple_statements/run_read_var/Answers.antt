@@ -1,4 +1,4 @@
-use Rattle.std.proofs.Common.{◌∙◌, ℕ, List, refl, ap}
+use Rattle.std.proofs.Common.{◌∙◌, ℕ, List, refl, ap, ◌<◌, sym, subst}
 use Rattle.std.specs.Prelude.{Vec}
 use Rattle.std.specs.declared.alloc.Global.{Global}
 use Rattle.tapa_syntax.specs.declared.program.Stmt.TheVariants.{ReadVar}
@@ -7,6 +7,9 @@ use Rattle.kahn_reference.specs.Slow.{point, numbers, feed, state_of}
 use Rattle.kahn_model.specs.Rows.{rows_of}
 use Rattle.kahn_model.specs.Trace.{cell}
 use Rattle.kahn_reference.proofs.SlowStatements.{read_var_goes, read_var_stops}
+use Rattle.std.proofs.lemmas.Result.{err_from_is_err_and}
+use Rattle.tapa_base.specs.Kinds.{values_of}
+use Rattle.kahn_reference.proofs.Kept.{given, converted_below, set_var_fits}
 use Rattle.kahn_reference.proofs.simple_statements.run_read_var.Goals as goal
 
 pub returns-in-Stopped-clause-flow : goal.returns-in-Stopped-clause-flow
@@ -16,3 +19,13 @@ returns-in-Stopped-clause-flow c = λ n.
 pub returns-in_ok-set_var_tick-in-Given-clause-flow : goal.returns-in_ok-set_var_tick-in-Given-clause-flow
 returns-in_ok-set_var_tick-in-Given-clause-flow c = λ n.
     read_var_goes (numbers c.args.streams.now) (kinds_of c.args.leaf.now) n (ReadVar c.args.stream c.args.var) c.args.stream c.args.var (point c.args.lists.now c.args.run.now) (point c.args.lists.now c.ask_at.new.run) (point c.args.lists.now c.set_var_tick.new.run) c.in_ok-m.field-0 c.in-Given.v c.stream_kind.result c.var_kind.result c.in_ok-v-in-Given.v refl c.in-Given.is c.in_ok-m.ensures.value (ap state_of c.in_ok-m.ensures.state) c.stream_kind.ensures c.var_kind.ensures c.in_ok-v-in-Given.ensures.ok c.in_ok-set_var_tick-in-Given.ensures.ticks (ap (λ (v : Vec ℕ Global). feed c.args.lists.now v.items) c.in_ok-set_var_tick-in-Given.ensures.heads) c.in_ok-set_var_tick-in-Given.ensures.state
+
+pub returns-in_err-v-in-Given-clause-cause : goal.returns-in_err-v-in-Given-clause-cause
+returns-in_err-v-in-Given-clause-cause c =
+    let p = err_from_is_err_and c.from_residual-in_err-v-in-Given.result c.from_residual-in_err-v-in-Given.ensures.1 in rw (p.1, p.2) (λ w g e. c.in_err-v-in-Given.ensures.err (subst (λ k. c.in-Given.v < values_of k) (sym c.stream_kind.ensures) (given ((kinds_of c.args.leaf.now).streams c.args.stream) c.in_ok-m.field-0 c.in-Given.v c.in-Given.is (c.in_ok-m.ensures.fits ((kinds_of c.args.leaf.now).streams c.args.stream) (g.tokens c.args.stream)))))
+
+pub returns-in_ok-set_var_tick-in-Given-clause-fits : goal.returns-in_ok-set_var_tick-in-Given-clause-fits
+returns-in_ok-set_var_tick-in-Given-clause-fits c =
+    λ w g.
+    set_var_fits (kinds_of c.args.leaf.now) c.args.run.now.state c.ask_at.new.run.state c.set_var_tick.new.run.state c.args.var c.in_ok-v-in-Given.v c.in_ok-m.ensures.state c.in_ok-set_var_tick-in-Given.ensures.state g.state
+    (converted_below c.stream_kind.result c.var_kind.result _ _ c.in_ok-v-in-Given.v c.in_ok-v-in-Given.ensures.ok c.var_kind.ensures)

@@ -4,7 +4,9 @@ use Rattle.run_program.specs.declared.run.RunEnd.{RunEnd}
 use Rattle.run_program.specs.Ending.{EndsSo}
 use Rattle.run_program.specs.Run.{values_of}
 use Rattle.tapa_drive.specs.Outside.{written}
-use Rattle.tapa_drive.proofs.Carried.{not_found, not_given, ended, stopped, past, unwritten, no_memory}
+use Rattle.tapa_words.specs.Words.{Run}
+use Rattle.tapa_drive.proofs.Carried.{not_found}
+use Rattle.tapa_drive.proofs.RunCarried.{not_given, ended, stopped, past, unwritten, no_memory}
 use Rattle.tapa_drive.proofs.top.run_source.Goals as goal
 
 pub returns-in-Err : goal.returns-in-Err
@@ -13,7 +15,7 @@ returns-in-Err g c = λ words errors told asked.
     let reads = g.S.Shelf.faults c.args.shelf.now in
     let old = written (g.O.Sink.contents c.args.out.now) (g.O.Sink.faults c.args.out.now) in
     let named = option_map (λ file. file.now) c.args.named in
-    not_found words files c.args.source.now c.args.top.now named c.args.limit asked reads old errors told
+    not_found words files (Run c.args.source.now c.args.top.now named c.args.limit) asked reads old errors told
     (g.S.Shelf.files c.read_source.new.shelf) (g.S.Shelf.faults c.read_source.new.shelf) c.in-Err.ensures.asks.same_files c.in-Err.ensures.asks.later c.in-Err.ensures.asks.others
     c.in-Err.refusal c.in-Err.ensures.refused
 

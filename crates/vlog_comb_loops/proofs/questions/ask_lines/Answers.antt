@@ -8,7 +8,7 @@ loop-line-preserved c =
     let x = c.index-items-line.result in
     record {
       there =
-          lines_more c.loop-line.questions c.ask_line.new.questions c.args.at c.args.items.now c.loop-line.line x c.in_ok-ask_line.ensures.kept
+          lines_more (λ m i. m) c.loop-line.questions c.ask_line.new.questions c.args.at c.args.items.now c.loop-line.line x c.in_ok-ask_line.ensures.kept
           (got_index c.args.items.now c.loop-line.line x c.loop-line-test.true c.index-items-line.is) c.in_ok-ask_line.ensures.there c.loop-line.invariant.there;
       kept = λ m e h. c.in_ok-ask_line.ensures.kept m e (c.loop-line.invariant.kept m e h);
     }

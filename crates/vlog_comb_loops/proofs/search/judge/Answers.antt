@@ -7,4 +7,4 @@ use Rattle.vlog_comb_loops.proofs.search.judge.Goals as goal
 pub returns-in_ok-push : goal.returns-in_ok-push
 returns-in_ok-push c = λ edges g.
     let s : Suspect = record { place = c.args.place; graph = c.args.graph } in
-    subst (λ (l : List Suspect). IsJudged edges c.args.place c.args.suspects.now.items l) (sym c.in_ok-push.ensures.items) (judged_pushed edges c.args.place c.args.suspects.now.items s refl g)
+    subst (λ (l : List Suspect). IsJudged edges c.args.place c.args.suspects.now.items l) (sym c.in_ok-push.ensures.items) (judged_pushed edges c.args.place c.args.suspects.now.items s refl g c.requires)

@@ -14,6 +14,6 @@ returns c =
       suspects = c.in_ok-suspects.ensures.right;
       others = c.in_ok-suspects.ensures.others;
       contains = graph;
-      questions = subst (λ (l : List Suspect). AsksAll ms l c.in_ok-questions.questions) c.deref-3.ensures.value c.in_ok-questions.ensures;
+      questions = subst (λ (l : List Suspect). AsksAll ms l c.in_ok-questions.questions) c.deref-2.ensures.value c.in_ok-questions.ensures;
       flat = λ h. (c.in_ok-flat.ensures (containment ms) graph).0 h;
     }

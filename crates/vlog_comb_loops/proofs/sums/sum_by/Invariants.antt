@@ -1,4 +1,4 @@
-use Rattle.std.proofs.Common.{[], map, take}
+use Rattle.std.proofs.Common.{◌≡◌, [], length, map, take}
 use Rattle.vlog_tree.specs.Grounded.{Has}
 use Rattle.vlog_tree.specs.Table.{declaration_name}
 use Rattle.vlog_tree.specs.Loops.{Edges}
@@ -8,5 +8,7 @@ use Rattle.vlog_comb_loops.specs.Summaries.{IsPair}
 use Rattle.vlog_comb_loops.proofs.sums.sum_by.Given as goal
 
 abbrev pub invariant-loop-d : goal.invariant-loop-d
-invariant-loop-d l =
-    (edges : Edges) → IsGraphOf edges l.graph → Gathers (IsPair edges l.ports) (λ a b. Has (map declaration_name (take l.d-index l.d-items)) a) [] l.pairs.items
+invariant-loop-d l = record {
+  room : l.searches ≡ length l.graph.graph;
+  gathers : (edges : Edges) → IsGraphOf edges l.graph → Gathers (IsPair edges l.ports) (λ a b. Has (map declaration_name (take l.d-index l.d-items)) a) [] l.pairs.items;
+}

@@ -1,6 +1,7 @@
-use Rattle.std.proofs.Common.{◌≡◌, ◌∙◌, sym, subst, refl, inl, inr, true, List, None, get_or}
+use Rattle.std.proofs.Common.{◌≡◌, ◌∙◌, rules, sym, ap, subst, refl, inl, inr, true, List, None, get_or}
 use Rattle.std.proofs.lemmas.List.{take_all, get_or_default}
 use Rattle.vlog_tree.specs.Grounded.{Has}
+use Rattle.vlog_tree.specs.Loops.{port_of}
 use Rattle.vlog_comb_loops.specs.Questions.{Question, asked_of}
 use Rattle.vlog_comb_loops.specs.Search.{LoopsBy}
 use Rattle.vlog_tree.proofs.Lists.{taken_split}
@@ -13,7 +14,7 @@ returns-then-found c = λ is_top ev. (λ _. c.in_ok-found.ensures.right is_top e
 
 pub loop-question-preserved : goal.loop-question-preserved
 loop-question-preserved c = λ is_top ev e has by.
-    let items = c.of_module-question-items.result.now in
+    let items = c.of_name-question-items.result.now in
     let i = c.loop-question.question-index in
     let low = c.loop-question-test.true in
     let question : Question = get_or items i (0, None) in
@@ -29,7 +30,8 @@ returns c = λ is_top ev.
     let m = c.args.owner.now in
     let x = c.args.name.now in
     let loops = c.args.loops.now in
-    let all = take_all c.loop-question.question-index c.of_module-question-items.result.now c.loop-question-test.false in
-    let none = λ (e : Question) (has : Has (asked_of loops.questions m) e) (by : LoopsBy ms is_top loops.suspects.items m x e).
-    c.loop-question.invariant is_top ev e (subst (λ (l : List Question). Has l e) (sym c.of_module-question-items.ensures ∙ sym all) has) by in
+    let all = take_all c.loop-question.question-index c.of_name-question-items.result.now c.loop-question-test.false in
+    let key : c.deref.result.now ≡ port_of m x = search rules in
+    let none = λ (e : Question) (has : Has (asked_of loops.questions (port_of m x)) e) (by : LoopsBy ms is_top loops.suspects.items m x e).
+    c.loop-question.invariant is_top ev e (subst (λ (l : List Question). Has l e) (ap (asked_of loops.questions) (sym key) ∙ sym c.of_name-question-items.ensures ∙ sym all) has) by in
     (λ e. cc, λ lies. absurd (lies_not ms is_top m x loops ev (no_suspect ms is_top m x loops ev none) lies))

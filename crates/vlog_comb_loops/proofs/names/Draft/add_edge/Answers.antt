@@ -5,8 +5,8 @@ use Rattle.vlog_comb_loops.specs.Names.{IsNumbered}
 use Rattle.vlog_comb_loops.proofs.Numbered.{numbered_edge}
 use Rattle.vlog_comb_loops.proofs.names.Draft.add_edge.Goals as goal
 
-pub returns : goal.returns
-returns c = λ edges g.
+pub returns-clause-graph : goal.returns-clause-graph
+returns-clause-graph c = λ edges g.
     let two = c.in_ok-b.ensures.graph edges (c.in_ok-a.ensures.graph edges g) in
     let d = c.number_for-2.new.self in
     let is_a = c.in_ok-b.ensures.extended c.args.from.now c.in_ok-a.a c.in_ok-a.ensures.number in

@@ -1,6 +1,5 @@
-use Rattle.std.proofs.Common.{◌≡◌, List, sym, subst, Some}
+use Rattle.std.proofs.Common.{List, sym, subst}
 use Rattle.vlog_tree.specs.Grounded.{Has}
-use Rattle.vlog_tree.specs.Table.{Name}
 use Rattle.vlog_rules.specs.NameTable.{value_in}
 use Rattle.vlog_comb_loops.specs.Questions.{Question}
 use Rattle.vlog_comb_loops.proofs.Asking.{pushed_kept, pushed_there}
@@ -9,9 +8,8 @@ use Rattle.vlog_comb_loops.proofs.questions.Questions.ask.Goals as goal
 pub returns-clause-there : goal.returns-clause-there
 returns-clause-there c =
     let found = c.number_for.new.self in
-    let at = subst (λ (x : Name). value_in found.numbers x ≡ Some c.in_ok-number.number) c.bytes.ensures.value c.in_ok-number.ensures.number.0 in
     pushed_there found.lists.items c.push_question.new.lists.items c.in_ok-number.number c.args.question
-    c.in_ok-push_question.ensures.at c.in_ok-push_question.ensures.others (value_in found.numbers c.args.owner.now) at
+    c.in_ok-push_question.ensures.at c.in_ok-push_question.ensures.others (value_in found.numbers c.args.name.now) c.in_ok-number.ensures.number.0
 
 pub returns-clause-kept : goal.returns-clause-kept
 returns-clause-kept c = λ m e h.

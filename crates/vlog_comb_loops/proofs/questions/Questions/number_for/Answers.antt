@@ -7,7 +7,7 @@ use Rattle.vlog_comb_loops.proofs.questions.Questions.number_for.Goals as goal
 pub returns-clause-same : goal.returns-clause-same
 returns-clause-same c = λ m.
     let old = c.args.self.now in
-    let name = c.args.owner.now in
+    let name = c.args.name.now in
     let at : c.len-number.result ≡ length old.lists.items = search rules in
     ap (λ o. list_of c.push.new.self.items o) (c.in_ok-insert_number.ensures m ∙ ap (λ n. cond (bytes_eq name m) (Some n) (value_in old.numbers m)) at)
     ∙ ap (λ l. list_of l (cond (bytes_eq name m) (Some (length old.lists.items)) (value_in old.numbers m))) c.in_ok-push.ensures.items

@@ -1,0 +1,34 @@
+use denote.Param.Send.{IsSend, IsSync, sendable}
+use Rattle.std.proofs.Crossing.{crosses}
+use Rattle.tapa_syntax.specs.contracts.program.Expr as Expr
+use Rattle.tapa_syntax.proofs.program.Expr.TheLaws.TheKnot as knot
+use Rattle.task_fsm.specs.contracts.machine.State as State
+use Rattle.task_fsm.specs.contracts.machine.Fsm as Fsm
+use Rattle.coro_machine.specs.contracts.coro.Coro as Coro
+use Rattle.coro_machine.proofs.run.Run.TheSendSync as run
+use Rattle.coro_machine.proofs.tests.tests.may_move_to_another_thread.Goals as goal
+
+expr_send : IsSend Expr.the_field.row
+expr_send = search (knot.crosses, sendable, crosses) depth 60
+
+expr_sync : IsSync Expr.the_field.row
+expr_sync = search (knot.crosses, sendable, crosses) depth 60
+
+state_send : IsSend State.the_row
+state_send = search (expr_send, sendable, crosses) depth 60
+
+state_sync : IsSync State.the_row
+state_sync = search (expr_sync, sendable, crosses) depth 60
+
+fsm_send : IsSend Fsm.the_row
+fsm_send = search (state_send, sendable, crosses) depth 60
+
+fsm_sync : IsSync Fsm.the_row
+fsm_sync = search (state_sync, sendable, crosses) depth 60
+
+-- its machine stands behind an `Arc`, which asks both laws of it
+coro_send : IsSend Coro.the_row
+coro_send = search (fsm_send, fsm_sync, run.the_field_send, sendable, crosses) depth 60
+
+pub sent-coro-requires-send-T : goal.sent-coro-requires-send-T
+sent-coro-requires-send-T g c = search (coro_send, sendable) depth 20

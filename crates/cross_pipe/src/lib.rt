@@ -1,0 +1,11 @@
+//! The modules of channels for streams that cross slots: a FIFO, and before it a relay of registers, one a cycle of added
+//! latency.
+#![tactic(auto)]
+
+mod ends;
+mod fifo;
+mod modules;
+mod names;
+mod relay;
+
+pub use modules::{channel, fifo_size};

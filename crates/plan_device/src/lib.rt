@@ -1,0 +1,22 @@
+//! A device: its slots with their capacities and borders, and what the tasks of a graph are to keep on it; read from a
+//! device file.
+#![tactic(auto)]
+
+mod amounts;
+mod check;
+mod contents;
+mod device;
+mod fault;
+mod find;
+mod grid;
+mod json;
+mod key;
+mod misshapen;
+mod names;
+mod passes;
+mod pins;
+mod read;
+
+pub use device::Device;
+pub use fault::DeviceFault;
+pub use read::read_device;

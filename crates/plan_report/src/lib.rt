@@ -1,0 +1,8 @@
+//! The lines of a plan: each slot with what stands in it, each task with its slot, each stream with its registers, and the
+//! sums that show the plan's cost and the balance's least number of registers.
+#![tactic(auto)]
+
+mod lines;
+mod report;
+
+pub use report::plan_lines;

@@ -1,0 +1,15 @@
+pub mod Sums
+pub mod Uses
+pub mod NeedSums
+pub mod Placings
+pub mod Beginnings
+pub mod Exploring
+pub mod Lowered
+pub mod Parts
+pub mod Those
+pub mod Cells
+pub mod Merging
+pub mod Filling
+pub mod Limits
+pub mod UsedSums
+pub mod Blames

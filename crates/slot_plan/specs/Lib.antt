@@ -1,0 +1,9 @@
+pub mod Amounts
+pub mod Plan
+pub mod Least
+pub mod FirstFit
+pub mod Causes
+pub mod Tables
+pub mod Search
+pub mod Merging
+pub mod Placing

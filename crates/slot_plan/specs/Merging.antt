@@ -1,0 +1,64 @@
+-- How a layout of the free groups is a plan, and what the tables of the search are made of.
+use Rattle.std.specs.Prelude.{◌≡◌, ℕ, ◌+◌, ◌*◌, ◌^◌, ◌<◌, ◌==◌, not, Bool, true, false, List, length, map, if◌then◌else◌, slice_index, slice_index_or}
+use Rattle.std.specs.List.{flat_map}
+use Rattle.task_graph.specs.declared.Graph.{Graph}
+use Rattle.task_graph.specs.declared.Use.{Use}
+use Rattle.task_graph.specs.Streams.{amount_at}
+use Rattle.task_graph.specs.Arcs.{streams, tail, head, width, total}
+use Rattle.plan_device.specs.declared.device.Device.{Device}
+use Rattle.slot_plan.specs.declared.tables.Tables.{Tables}
+use Rattle.slot_plan.specs.FirstFit.{is_pinned}
+use Rattle.slot_plan.specs.Plan.{distance}
+
+-- the numbers below n that pass a test, in order
+pub record AreThose (n : ℕ) (test : ℕ → Bool) (xs : List ℕ) : Type 0 where
+  pub inside : (i : ℕ) → i < length xs → slice_index xs i < n
+  pub pass : (i : ℕ) → i < length xs → test (slice_index xs i) ≡ true
+  pub rising : (i j : ℕ) → i < j → j < length xs → slice_index xs i < slice_index xs j
+  pub all : (x : ℕ) → x < n → test x ≡ true → (i : ℕ) × (i < length xs) × (slice_index xs i ≡ x)
+
+abbrev pub is_open : Device → ℕ → Bool
+is_open d s = not (slice_index_or d.forbidden.items s false)
+
+abbrev pub is_unpinned : Device → ℕ → Bool
+is_unpinned d v = not (is_pinned d v)
+
+-- 1 where two numbers are the same, where a group is pinned, and else 0
+abbrev pub one : ℕ → ℕ → ℕ
+one v x = if v == x then 1 else 0
+
+abbrev pub pin : Device → ℕ → ℕ
+pin d x = if is_pinned d x then 1 else 0
+
+-- the widths of the streams between two groups
+abbrev pub between : Graph → ℕ → ℕ → ℕ
+between g v u = total (streams g) (λ e. (one v (tail g e) * one u (head g e) + one u (tail g e) * one v (head g e)) * width g e)
+
+-- what the streams between group v in slot s and the pinned groups cost, where b has the slots of these
+abbrev pub beside_pins : Graph → Device → List ℕ → ℕ → ℕ → ℕ
+beside_pins g d b v s =
+    total (streams g) (λ e.
+    (one v (tail g e) * pin d (head g e) * distance d s (slice_index b (head g e))
+    + one v (head g e) * pin d (tail g e) * distance d s (slice_index b (tail g e)))
+    * width g e)
+
+-- a table with a row for each x and a column for each y, row by row
+abbrev pub table_of : (ℕ → ℕ → ℕ) → List ℕ → List ℕ → List ℕ
+table_of F xs ys = flat_map (λ x. map (F x) ys) xs
+
+-- the tables of items and places, where the pinned groups use so much of each slot
+pub record AreTablesOf (g : Graph) (d : Device) (needs : List Use) (b : List ℕ) (used : List Use) (free open_slots : List ℕ) (t : Tables) : Type 0 where
+  pub needs_long : length t.needs.items ≡ length free
+  pub needs_are : (j k : ℕ) → j < length free → amount_at t.needs.items j k ≡ amount_at needs (slice_index free j) k * 100
+  pub small : (j k : ℕ) → amount_at t.needs.items j k < 2 ^ 56
+  pub room_long : length t.room.items ≡ length open_slots
+  pub room : (y k : ℕ) → y < length open_slots → amount_at t.room.items y k + amount_at used (slice_index open_slots y) k * 100 ≡ amount_at d.slots.items (slice_index open_slots y) k * d.percent
+  pub alone : t.alone.items ≡ table_of (beside_pins g d b) free open_slots
+  pub joint : t.joint.items ≡ table_of (between g) free free
+  pub distance : t.distance.items ≡ table_of (distance d) open_slots open_slots
+
+-- the plan of a layout: pinned groups in their slots, free groups at the places of their items
+pub record IsMerged (g : Graph) (d : Device) (b free open_slots places p : List ℕ) : Type 0 where
+  pub long : length p ≡ g.groups
+  pub pinned : (v : ℕ) → v < g.groups → is_pinned d v ≡ true → slice_index p v ≡ slice_index b v
+  pub items : (j : ℕ) → j < length free → slice_index p (slice_index free j) ≡ slice_index open_slots (slice_index places j)

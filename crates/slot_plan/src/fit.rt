@@ -1,0 +1,97 @@
+//! First fit.
+ghost use Rattle.std.specs.Prelude.{◌≡◌, ◌<◌, ◌+◌, ℕ, IsTrue, true, false, length, IfOk, IfErr, OnOk, Some};
+ghost use Rattle.plan_device.specs.Devices.{IsDevice};
+ghost use Rattle.slot_plan.specs.Causes.{IsPlanBy, IsCause};
+ghost use Rattle.slot_plan.specs.Placing.{ArePlaced, CanPlace, IsStuck};
+ghost use Rattle.slot_plan.specs.Plan.{AreNeeds, IsPlanOf};
+
+use crate::amounts::empty_slots;
+use crate::floorplan::{Mode, PlanFault};
+use crate::slots::{first_room, is_free};
+use plan_device::Device;
+use std::alloc::{AllocError, Global};
+use task_graph::{Graph, Use};
+
+/// The slot of each group that was placed, 0 of the others, and what each slot holds.
+#[derive(Drop)]
+pub(crate) struct Placing {
+    pub slots: Vec<u32>,
+    pub used: Vec<Use>,
+}
+
+impl Placing {
+    /// Places the next group of its kind, pinned or free, in the first slot that has room for it; false if none has. A group
+    /// of the other kind stays.
+    fn place(&mut self, device: &Device, needs: &[Use], free: bool, group: usize) -> bool
+        requires group { group < length needs.now }
+        requires placed { ArePlaced device.now needs.now free group self.old.slots.items self.old.used.items }
+        ensures placed { IsTrue result → ArePlaced device.now needs.now free (group + 1) self.new.slots.items self.new.used.items }
+        ensures none { result ≡ false → IsStuck device.now needs.now free self.new.slots.items group }
+    {
+        if is_free(device, group) != free {
+            return true;
+        }
+        match first_room(device, needs, &self.used, group) {
+            None => false,
+            Some((slot, after)) => {
+                self.slots[group] = slot as u32;
+                self.used[slot] = after;
+                true
+            }
+        }
+    }
+
+    /// Places the groups of one kind, pinned or free, in order.
+    pub(crate) fn place_all(
+        &mut self,
+        device: &Device,
+        needs: &[Use],
+        free: bool,
+    ) -> Result<(), PlanFault>
+        requires placed { ArePlaced device.now needs.now free 0 self.old.slots.items self.old.used.items }
+        ensures placed { OnOk result (ArePlaced device.now needs.now free (length needs.now) self.new.slots.items self.new.used.items) }
+        ensures none { IfErr result (λ fault. (v : ℕ) × (fault ≡ PlanFault.NoFit (Some v)) × IsStuck device.now needs.now free self.new.slots.items v) }
+    {
+        for group in 0..needs.len() {
+            if !self.place(device, needs, free, group) {
+                return Err(PlanFault::NoFit {
+                    group: Some(group as u32),
+                });
+            }
+        }
+        Ok(())
+    }
+}
+
+/// Nothing placed yet.
+pub(crate) fn nothing_placed(
+    alloc: Global,
+    device: &Device,
+    needs: &[Use],
+) -> Result<Placing, AllocError>
+    requires { CanPlace device.now needs.now }
+    ensures { IfOk result (λ placing. ArePlaced device.now needs.now false 0 placing.slots.items placing.used.items) }
+{
+    let slots = vec![in alloc; 0; needs.len()]?;
+    let used = empty_slots(alloc, device.slots.len())?;
+    Ok(Placing { slots, used })
+}
+
+/// The slots of first fit's plan.
+pub(crate) fn first_fit(
+    alloc: Global,
+    graph: &Graph,
+    device: &Device,
+    needs: &[Use],
+) -> Result<Vec<u32>, PlanFault>
+    requires device { IsDevice graph.now device.now }
+    requires needs { AreNeeds graph.now device.now needs.now }
+    ensures plan { IfOk result (λ slot. IsPlanOf graph.now device.now slot.items) }
+    ensures by_mode { IfOk result (λ slot. IsPlanBy graph.now device.now Mode.Fit slot.items) }
+    ensures cause { IfErr result (IsCause graph.now device.now Mode.Fit) }
+{
+    let mut placing = nothing_placed(alloc, device, needs)?;
+    placing.place_all(device, needs, false)?;
+    placing.place_all(device, needs, true)?;
+    Ok(placing.slots)
+}

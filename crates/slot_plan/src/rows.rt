@@ -1,0 +1,64 @@
+//! What items cost that are still to be placed, at each place: a row for each item.
+ghost use Rattle.std.specs.Prelude.{◌≡◌, ◌<◌, ◌≤◌, ◌+◌, ◌*◌, ℕ, ◌⊎◌, length, slice_index, [], ◌∷◌, ◌++◌};
+ghost use Rattle.slot_plan.specs.Tables.{items, places, cell, joint_at, distance_at, AreTables};
+ghost use Rattle.slot_plan.specs.Search.{AreRows, IsBelowRest};
+
+use crate::tables::Tables;
+
+/// Writes an item's row, where one more item was placed; the least that the item costs then.
+fn lower_row(
+    tables: &Tables,
+    rows: &[u64],
+    placed: usize,
+    place: usize,
+    item: usize,
+    next: &mut [u64],
+) -> u64
+    requires tables { AreTables tables.now }
+    requires rows { length rows.now ≡ items tables.now * places tables.now }
+    requires next { length next.old ≡ items tables.now * places tables.now }
+    requires placed { placed < items tables.now }
+    requires item { item < items tables.now }
+    requires place { place < places tables.now }
+    requires low { (y : ℕ) → y < places tables.now → cell rows.now (places tables.now) item y ≤ 2726297600 }
+    ensures row { (y : ℕ) → y < places tables.now → cell next.new (places tables.now) item y ≡ cell rows.now (places tables.now) item y + joint_at tables.now placed item * distance_at tables.now place y }
+    ensures others { (i y : ℕ) → i < item → y < places tables.now → cell next.new (places tables.now) i y ≡ cell next.old (places tables.now) i y }
+    ensures least { (y : ℕ) → y < places tables.now → result ≤ cell next.new (places tables.now) item y }
+    ensures small { result ≤ 2726297600 }
+{
+    let places = tables.room.len();
+    let width = tables.joint[placed * tables.needs.len() + item];
+    // at the same place the item costs no more than before
+    let mut least = rows[item * places + place];
+    for y in 0..places {
+        let cost = rows[item * places + y] + width * tables.distance[place * places + y];
+        next[item * places + y] = cost;
+        least = least.min(cost);
+    }
+    least
+}
+
+/// Writes the rows of all further items, where the next item is placed; a number that they cost at least.
+pub(crate) fn lower_rows(
+    tables: &Tables,
+    rows: &[u64],
+    placed: &[u32],
+    place: usize,
+    next: &mut [u64],
+) -> u64
+    requires tables { AreTables tables.now }
+    requires rows { AreRows tables.now placed.now rows.now }
+    requires next { length next.old ≡ length rows.now }
+    requires more { length placed.now < items tables.now }
+    requires place { place < places tables.now }
+    ensures rows { AreRows tables.now (placed.now ++ place ∷ []) next.new }
+    ensures low { IsBelowRest tables.now (placed.now ++ place ∷ []) result }
+    ensures small { result ≤ 512 * 2731622400 }
+{
+    let item = placed.len();
+    let mut low = 0;
+    for other in item + 1..tables.needs.len() {
+        low += lower_row(tables, rows, item, place, other, next);
+    }
+    low
+}

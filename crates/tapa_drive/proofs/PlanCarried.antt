@@ -1,0 +1,156 @@
+-- From what reading a source and a device file and planning give to what carrying the command of a plan out answers.
+use Rattle.std.proofs.Common.{◌≡◌, ◌≢◌, ◌≤◌, ℕ, List, Option, Some, Ok, Err, refl, ap, subst, inl, inr}
+use Rattle.std.specs.Io.KnownBytes.{Appends}
+use Rattle.tapa_base.specs.Outside.{Files, Rose, AppendsPart}
+use Rattle.tapa_syntax.specs.declared.program.Program.{Program}
+use Rattle.tapa_words.specs.Words.{Command, Plan, command_of}
+use Rattle.tapa_words.specs.declared.command.PlanMode.{PlanMode}
+use Rattle.task_graph.specs.declared.Graph.{Graph}
+use Rattle.task_graph.specs.Programs.{IsGraphOf}
+use Rattle.plan_device.specs.declared.device.Device.{Device as DeviceOf}
+use Rattle.plan_device.specs.Answer.{IsDeviceOf}
+use Rattle.run_program.specs.Ending.{joined}
+use Rattle.tapa_drive.specs.Answer.{OfTexts, HasProgram, HasCause, Leaves, ReadsAsked}
+use Rattle.tapa_drive.specs.Carried.{IsCarriedOut}
+use Rattle.tapa_drive.specs.Files.{OfSource, OfData}
+use Rattle.tapa_drive.specs.Found.{IsNoDevice}
+use Rattle.tapa_drive.specs.Meaning.{refusal_of}
+use Rattle.tapa_drive.specs.Outside.{Outside, Written, outside}
+use Rattle.tapa_drive.specs.Planned.{mode_of, ArePlanLines, IsUnplanned, HasDeviceFault, IsAskedOn, HasBadDevice, HasNoPlan, HasPlan}
+use Rattle.tapa_drive.specs.Refusal.{Refusal, Usage, Read, Write, TooLong, Source, Data, Ticks, Stopped, Device, TooManyPlans, NoPlan, NoRoom, Memory, DeviceFault}
+use Rattle.tapa_drive.specs.Source.{IsProgramOf}
+use Rattle.tapa_drive.specs.declared.refusal.Refusal.{Refusal as CodeRefusal}
+use Rattle.tapa_drive.specs.declared.refusal.Refusal.TheVariants as code
+use Rattle.tapa_drive.proofs.Carried as carried
+use Rattle.tapa_drive.proofs.Counts.{rose_since, later_all}
+use Rattle.tapa_drive.proofs.Sourced.{of_both}
+
+module _ (words : List (List ℕ)) (files : Option Files) (source top name : List ℕ) (mode : PlanMode) (asked : command_of words ≡ Some (Plan source top name mode)) (reads_old : List ℕ → ℕ) (old errors told : Written) (files_mid : Option Files) (reads_mid : List ℕ → ℕ) (same_mid : files_mid ≡ files) (later_mid : reads_old source ≤ reads_mid source) (others_mid : (other : List ℕ) → other ≢ source → reads_mid other ≡ reads_old other) (program : Program) (means : OfSource files source (λ text. IsProgramOf text top program)) (graph : Graph) (is_graph : IsGraphOf program graph) (files_new : Option Files) (reads_new : List ℕ → ℕ) (same_new : files_new ≡ files_mid) (others_new : (other : List ℕ) → Some name ≢ Some other → reads_new other ≡ reads_mid other) where
+  abbrev command : Command
+  command = Plan source top name mode
+
+  abbrev before : Outside
+  before = outside files reads_old old errors
+
+  has_program : OfSource files source (λ text. HasProgram text top)
+  has_program = carried.has_program words files command asked reads_old old errors told files_mid reads_mid same_mid later_mid others_mid program means files_new reads_new same_new others_new
+
+  reads_both : (new : Written) → ReadsAsked words before (outside files_new reads_new new told)
+  reads_both new = carried.reads_both words files command asked reads_old old errors told files_mid reads_mid same_mid later_mid others_mid program means files_new reads_new same_new others_new new
+
+  bad_device : (fault : DeviceFault) → OfData files (Some name) (λ bytes. HasDeviceFault program graph bytes fault) → OfTexts files source (Some name) (λ text bytes. HasBadDevice text top bytes fault)
+  bad_device fault h =
+      of_both files source (Some name) (λ text. IsProgramOf text top program) (λ bytes. HasDeviceFault program graph bytes fault) (λ text bytes. HasBadDevice text top bytes fault) (λ text bytes p d. record { program = program; graph = graph; means = p; is_graph = is_graph; has = d }) means h
+
+  no_device_cause : (r : Refusal) → IsNoDevice files reads_mid reads_new program graph name r → HasCause words before (outside files_new reads_new old told) r
+  no_device_cause Usage h = absurd h
+  no_device_cause (Read file) h = (command, asked, (inr (ap Some h.0, has_program), rose_since (reads_old file) (reads_mid file) (reads_new file) (later_all source reads_old reads_mid later_mid others_mid file) h.1))
+  no_device_cause Write h = absurd h
+  no_device_cause (TooLong file most) h = (command, asked, inr (ap Some h.0, h.1, h.2, has_program))
+  no_device_cause (Source file place rule) h = absurd h
+  no_device_cause (Data file fault) h = absurd h
+  no_device_cause (Ticks most) h = absurd h
+  no_device_cause (Stopped lines) h = absurd h
+  no_device_cause (Device file fault) h = (source, top, name, mode, asked, (h.0, bad_device fault h.1))
+  no_device_cause (TooManyPlans slots free) h = absurd h
+  no_device_cause NoPlan h = absurd h
+  no_device_cause (NoRoom label) h = absurd h
+  no_device_cause Memory h = tt
+
+  no_device_leaves : (r : Refusal) → IsNoDevice files reads_mid reads_new program graph name r → Leaves words before (outside files_new reads_new old told) r
+  no_device_leaves Usage h = absurd h
+  no_device_leaves (Read file) h = refl
+  no_device_leaves Write h = absurd h
+  no_device_leaves (TooLong file most) h = refl
+  no_device_leaves (Source file place rule) h = absurd h
+  no_device_leaves (Data file fault) h = absurd h
+  no_device_leaves (Ticks most) h = absurd h
+  no_device_leaves (Stopped lines) h = absurd h
+  no_device_leaves (Device file fault) h = refl
+  no_device_leaves (TooManyPlans slots free) h = absurd h
+  no_device_leaves NoPlan h = absurd h
+  no_device_leaves (NoRoom label) h = absurd h
+  no_device_leaves Memory h = inl refl
+
+  pub no_device : {A : Type 0} (r : CodeRefusal) → IsNoDevice files_mid reads_mid reads_new program graph name (refusal_of r) → IsCarriedOut {A = A} words before (outside files_new reads_new old told) (Err r)
+  no_device r h =
+      let h' = subst (λ (f : Option Files). IsNoDevice f reads_mid reads_new program graph name (refusal_of r)) same_mid h in
+      record {
+        done = tt;
+        cause = no_device_cause (refusal_of r) h';
+        leaves = no_device_leaves (refusal_of r) h';
+        reads = reads_both old;
+      }
+
+  module _ (device : DeviceOf) (gives_mid : OfData files_mid (Some name) (λ bytes. IsDeviceOf bytes program graph device)) where
+    gives : OfData files (Some name) (λ bytes. IsDeviceOf bytes program graph device)
+    gives = subst (λ (f : Option Files). OfData f (Some name) (λ bytes. IsDeviceOf bytes program graph device)) same_mid gives_mid
+
+    -- what holds of the source's program, its graph and the device, of the texts
+    of_asked : (R : List ℕ → List ℕ → Type 0) → ((text bytes : List ℕ) → IsAskedOn text top bytes program graph device → R text bytes) → OfTexts files source (Some name) R
+    of_asked R f =
+        of_both files source (Some name) (λ text. IsProgramOf text top program) (λ bytes. IsDeviceOf bytes program graph device) R (λ text bytes p g. f text bytes (record { means = p; is_graph = is_graph; is_device = g })) means gives
+
+    no_plan : (why : Refusal) → IsUnplanned graph device (mode_of mode) why → OfTexts files source (Some name) (λ text bytes. HasNoPlan text top bytes (mode_of mode) why)
+    no_plan why h = of_asked (λ text bytes. HasNoPlan text top bytes (mode_of mode) why) (λ text bytes a. record { program = program; graph = graph; device = device; asked = a; is = h })
+
+    unplanned_cause : (r : Refusal) → IsUnplanned graph device (mode_of mode) r → HasCause words before (outside files_new reads_new old told) r
+    unplanned_cause Usage h = absurd h
+    unplanned_cause (Read file) h = absurd h
+    unplanned_cause Write h = absurd h
+    unplanned_cause (TooLong file most) h = absurd h
+    unplanned_cause (Source file place rule) h = absurd h
+    unplanned_cause (Data file fault) h = absurd h
+    unplanned_cause (Ticks most) h = absurd h
+    unplanned_cause (Stopped lines) h = absurd h
+    unplanned_cause (Device file fault) h = absurd h
+    unplanned_cause (TooManyPlans slots free) h = (source, top, name, mode, asked, no_plan (TooManyPlans slots free) h)
+    unplanned_cause NoPlan h = (source, top, name, mode, asked, no_plan NoPlan h)
+    unplanned_cause (NoRoom label) h = (source, top, name, mode, asked, no_plan (NoRoom label) h)
+    unplanned_cause Memory h = tt
+
+    unplanned_leaves : (r : Refusal) → IsUnplanned graph device (mode_of mode) r → Leaves words before (outside files_new reads_new old told) r
+    unplanned_leaves Usage h = absurd h
+    unplanned_leaves (Read file) h = absurd h
+    unplanned_leaves Write h = absurd h
+    unplanned_leaves (TooLong file most) h = absurd h
+    unplanned_leaves (Source file place rule) h = absurd h
+    unplanned_leaves (Data file fault) h = absurd h
+    unplanned_leaves (Ticks most) h = absurd h
+    unplanned_leaves (Stopped lines) h = absurd h
+    unplanned_leaves (Device file fault) h = absurd h
+    unplanned_leaves (TooManyPlans slots free) h = refl
+    unplanned_leaves NoPlan h = refl
+    unplanned_leaves (NoRoom label) h = refl
+    unplanned_leaves Memory h = inl refl
+
+    pub unplanned : {A : Type 0} (r : CodeRefusal) → IsUnplanned graph device (mode_of mode) (refusal_of r) → IsCarriedOut {A = A} words before (outside files_new reads_new old told) (Err r)
+    unplanned r h = record {
+      done = tt;
+      cause = unplanned_cause (refusal_of r) h;
+      leaves = unplanned_leaves (refusal_of r) h;
+      reads = reads_both old;
+    }
+
+    module _ (lines : List (List ℕ)) (are : ArePlanLines graph device (mode_of mode) lines) (new : Written) where
+      abbrev after : Outside
+      after = outside files_new reads_new new told
+
+      has_plan : (text bytes : List ℕ) → IsAskedOn text top bytes program graph device → HasPlan text top bytes (mode_of mode) lines
+      has_plan text bytes a = record { program = program; graph = graph; device = device; asked = a; are = are }
+
+      pub planned : {A : Type 0} (x : A) → Appends old.bytes new.bytes (joined lines) → IsCarriedOut words before after (Ok x)
+      planned x shown = record {
+        done = inr (source, top, name, mode, asked, of_asked (λ text bytes. (told_lines : List (List ℕ)) × HasPlan text top bytes (mode_of mode) told_lines × Appends old.bytes new.bytes (joined told_lines)) (λ text bytes a. (lines, has_plan text bytes a, shown)));
+        cause = tt;
+        leaves = tt;
+        reads = reads_both new;
+      }
+
+      pub unwritten : {A : Type 0} → Rose old.failed new.failed → AppendsPart old.bytes new.bytes (joined lines) → IsCarriedOut {A = A} words before after (Err code.Write)
+      unwritten rose part = record {
+        done = tt;
+        cause = rose;
+        leaves = inr (inr (source, top, name, mode, asked, of_asked (λ text bytes. (told_lines : List (List ℕ)) × HasPlan text top bytes (mode_of mode) told_lines × AppendsPart old.bytes new.bytes (joined told_lines)) (λ text bytes a. (lines, has_plan text bytes a, part))));
+        reads = reads_both new;
+      }

@@ -1,0 +1,118 @@
+-- Where nothing outside fails, the answer tells a plan of the source's program, or why there is none, or want of memory.
+use Rattle.std.proofs.Common.{◌≡◌, ◌≢◌, ◌⊎◌, ◌≤◌, ◌<◌, ℕ, List, length, Option, Some, None, refl, sym, ap, ◌∙◌, subst, inl, inr, ⊎_elim, arith}
+use Rattle.std.specs.Io.KnownBytes.{Appends}
+use Rattle.tapa_base.specs.Outside.{Files, file_bytes, Rose}
+use Rattle.tapa_base.specs.Take.{IsLongerThan}
+use Rattle.tapa_words.specs.Words.{Command, Run, Plan, command_of}
+use Rattle.tapa_words.specs.declared.command.PlanMode.{PlanMode}
+use Rattle.run_program.specs.Ending.{joined}
+use Rattle.tapa_drive.specs.Answer.{OfRun, OfPlan, OfTexts, source_in, top_in, file_in, HasProgram, IsReached, IsTooLong, IsDone, HasCause, Leaves, IsAnswer}
+use Rattle.tapa_drive.specs.Decided.{NothingFails}
+use Rattle.tapa_drive.specs.Files.{OfSource, source_limit, data_limit}
+use Rattle.tapa_drive.specs.Outside.{Outside, Written, outside}
+use Rattle.tapa_drive.specs.PlanDecided.{IsPlannable, ArePlannable, TellsPlanOf, TellsPlan}
+use Rattle.tapa_drive.specs.Planned.{mode_of, HasBadDevice, HasNoPlan, HasPlan}
+use Rattle.tapa_drive.specs.Refusal.{Refusal, Usage, Read, Write, TooLong, Source, Data, Ticks, Stopped, Device, TooManyPlans, NoPlan, NoRoom, Memory}
+use Rattle.tapa_drive.specs.Source.{IsRefusedSource}
+use Rattle.tapa_drive.specs.Told.{IsTold, IsToldAs}
+use Rattle.tapa_drive.specs.declared.status.Status.{Status}
+use Rattle.tapa_drive.specs.declared.status.Status.TheVariants as status
+use Rattle.tapa_drive.proofs.Decided.{asked_of, of_source}
+use Rattle.tapa_drive.proofs.Sourced.{means_nothing}
+
+-- a plan that was asked for is the one that the words ask for
+asked_plan : (words : List (List ℕ)) (source top name : List ℕ) (mode : PlanMode) → command_of words ≡ Some (Plan source top name mode) → (P : List ℕ → List ℕ → List ℕ → PlanMode → Type 0) → OfPlan words P → P source top name mode
+asked_plan words source top name mode asked P h =
+    let both : Some (Plan h.0 h.1 h.2 h.3) ≡ Some (Plan source top name mode) = sym h.4 ∙ asked in
+    let one : h.0 ≡ source = cc in
+    let two : h.1 ≡ top = cc in
+    let three : h.2 ≡ name = cc in
+    let four : h.3 ≡ mode = cc in
+    subst (λ (s : List ℕ). P s top name mode) one (subst (λ (t : List ℕ). P h.0 t name mode) two (subst (λ (d : List ℕ). P h.0 h.1 d mode) three (subst (λ (m : PlanMode). P h.0 h.1 h.2 m) four h.5)))
+
+module _ (words : List (List ℕ)) (files : Files) (reads : List ℕ → ℕ) (out errors : Written) (after : Outside) (source top name : List ℕ) (mode : PlanMode) (asked : command_of words ≡ Some (Plan source top name mode)) (still : NothingFails source (Some name) (outside (Some files) reads out errors) after) where
+  abbrev before : Outside
+  before = outside (Some files) reads out errors
+
+  not_asked : command_of words ≡ None → ⊥
+  not_asked h = let both : None ≡ Some (Plan source top name mode) = sym h ∙ asked in cc
+
+  -- no run was asked for
+  not_run : {P : List ℕ → List ℕ → Option (List ℕ) → ℕ → Type 0} → OfRun words P → ⊥
+  not_run h =
+      let both : Some (Run h.0 h.1 h.2 h.3) ≡ Some (Plan source top name mode) = sym h.4 ∙ asked in
+      let one : Run h.0 h.1 h.2 h.3 ≡ Plan source top name mode = cc in
+      cc
+
+  -- no read failed
+  no_read : (file : List ℕ) → HasCause words before after (Read file) → ⊥
+  no_read file h =
+      let c = asked_of words (Plan source top name mode) asked (λ a. IsReached (Some files) (source_in a) (top_in a) (file_in a) file × Rose (reads file) (after.failed_reads file)) h in
+      ⊎_elim
+      (λ (e : source ≡ file). still.read (subst (λ (f : List ℕ). Rose (reads f) (after.failed_reads f)) (sym e) c.1))
+      (λ (w : (Some name ≡ Some file) × OfSource (Some files) source (λ (t : List ℕ). HasProgram t top)). still.read_data file w.0 c.1)
+      c.0
+
+  -- what holds of the texts of the two files
+  of_texts : (P : List ℕ → List ℕ → Type 0) → OfTexts (Some files) source (Some name) P → P (file_bytes files source) (file_bytes files name)
+  of_texts P (text, is, few, (bytes, same, short, h)) = subst (λ (t : List ℕ). P t (file_bytes files name)) is (subst (λ (b : List ℕ). P text b) same h)
+
+  module _ (can : IsPlannable (file_bytes files source) top (file_bytes files name)) (result : Status) where
+    abbrev Meets : Type 0
+    Meets = TellsPlanOf (file_bytes files source) top (file_bytes files name) (mode_of mode) result before after ⊎ (result ≡ status.Memory)
+
+    no_plan : (why : Refusal) → OfPlan words (λ s t d m. OfTexts (Some files) s (Some d) (λ text bytes. HasNoPlan text t bytes (mode_of m) why)) → after.out.bytes ≡ out.bytes → IsTold why result errors after.err → Meets
+    no_plan why h quiet told =
+        let c = asked_plan words source top name mode asked (λ s t d m. OfTexts (Some files) s (Some d) (λ text bytes. HasNoPlan text t bytes (mode_of m) why)) h in
+        inl (inr (why, of_texts (λ text bytes. HasNoPlan text top bytes (mode_of mode) why) c, record { told = told; quiet = quiet }))
+
+    of_reason : (why : Refusal) → HasCause words before after why → Leaves words before after why → IsTold why result errors after.err → Meets
+    of_reason Usage h leaves told = absurd (not_asked h)
+    of_reason (Read file) h leaves told = absurd (no_read file h)
+    of_reason Write h leaves told = absurd (still.writes.written h)
+    of_reason (TooLong file most) h leaves told =
+        let c = asked_of words (Plan source top name mode) asked (λ a. IsTooLong (Some files) (source_in a) (top_in a) (file_in a) file most) h in
+        let short = can.short in
+        let few = can.few in
+        ⊎_elim {C = Meets}
+        (λ (w : (source ≡ file) × (most ≡ source_limit) × IsLongerThan (Some files) file source_limit).
+        let long : source_limit < length (file_bytes files source) = subst (λ (f : List ℕ). source_limit < length (file_bytes files f)) (sym w.0) w.2 in
+        absurd (omega (arith, short, long)))
+        (λ (w : (Some name ≡ Some file) × (most ≡ data_limit) × IsLongerThan (Some files) file data_limit × OfSource (Some files) source (λ (t : List ℕ). HasProgram t top)).
+        let both = w.0 in
+        let same : name ≡ file = cc both in
+        let long : data_limit < length (file_bytes files name) = subst (λ (f : List ℕ). data_limit < length (file_bytes files f)) (sym same) w.2 in
+        absurd (omega (arith, few, long)))
+        c
+    of_reason (Source file place code) h leaves told =
+        let c = asked_of words (Plan source top name mode) asked (λ a. (source_in a ≡ file) × OfSource (Some files) file (λ text. IsRefusedSource text (top_in a) place code)) h in
+        let refused : IsRefusedSource (file_bytes files source) top place code = subst (λ (f : List ℕ). IsRefusedSource (file_bytes files f) top place code) (sym c.0) (of_source files file (λ (t : List ℕ). IsRefusedSource t top place code) c.1) in
+        absurd (means_nothing (file_bytes files source) top place code refused can.legal.program can.legal.means)
+    of_reason (Data file fault) h leaves told = absurd (not_run h)
+    of_reason (Ticks most) h leaves told = absurd (not_run h)
+    of_reason (Stopped lines) h leaves told = absurd (not_run h)
+    of_reason (Device file fault) h leaves told =
+        let c = asked_plan words source top name mode asked (λ s t d m. (d ≡ file) × OfTexts (Some files) s (Some d) (λ text bytes. HasBadDevice text t bytes fault)) h in
+        absurd (can.faultless fault (of_texts (λ text bytes. HasBadDevice text top bytes fault) c.1))
+    of_reason (TooManyPlans slots free) h leaves told = no_plan (TooManyPlans slots free) h leaves told
+    of_reason NoPlan h leaves told = no_plan NoPlan h leaves told
+    of_reason (NoRoom label) h leaves told = no_plan (NoRoom label) h leaves told
+    of_reason Memory h leaves told = inr told.0
+
+    of_told : (why : Refusal) → IsToldAs why result errors after.err → HasCause words before after why → Leaves words before after why → Meets
+    of_told why told h leaves = elim told [ inl t ↦ of_reason why h leaves t | inr w ↦ absurd (still.writes.told w.1) ]
+
+    of_ok : IsDone words before after → result ≡ status.Ok → after.err.bytes ≡ errors.bytes → Meets
+    of_ok (inl r) is same = absurd (not_run r)
+    of_ok (inr h) is same =
+        let c = asked_plan words source top name mode asked (λ s t d m. OfTexts (Some files) s (Some d) (λ text bytes. (lines : List (List ℕ)) × HasPlan text t bytes (mode_of m) lines × Appends out.bytes after.out.bytes (joined lines))) h in
+        let p = of_texts (λ text bytes. (lines : List (List ℕ)) × HasPlan text top bytes (mode_of mode) lines × Appends out.bytes after.out.bytes (joined lines)) c in
+        inl (inl (p.0, p.1, is, p.2, same))
+
+pub plan_decided : (words : List (List ℕ)) (files : Option Files) (reads : List ℕ → ℕ) (out errors : Written) (after : Outside) (source top name : List ℕ) (mode : PlanMode) → command_of words ≡ Some (Plan source top name mode) → ArePlannable files source top name → NothingFails source (Some name) (outside files reads out errors) after → (result : Status) → IsAnswer words (outside files reads out errors) after result → (result ≡ status.Ok → after.err.bytes ≡ errors.bytes) → TellsPlan files source top name (mode_of mode) result (outside files reads out errors) after ⊎ (result ≡ status.Memory)
+plan_decided words None reads out errors after source top name mode asked can still result h same = absurd can
+plan_decided words (Some files) reads out errors after source top name mode asked can still status.Ok h same =
+    of_ok words files reads out errors after source top name mode asked still can status.Ok (h.ok refl) refl (same refl)
+plan_decided words (Some files) reads out errors after source top name mode asked can still result h same =
+    let t = h.told (λ e. cc) in
+    of_told words files reads out errors after source top name mode asked still can result t.0 t.1 t.2 t.3

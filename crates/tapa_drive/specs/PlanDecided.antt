@@ -1,0 +1,37 @@
+-- What a call must answer to a source and a device file where nothing outside of it fails.
+use Rattle.std.specs.Prelude.{◌≡◌, ◌≤◌, ◌⊎◌, ℕ, List, length, Option, Some, None}
+use Rattle.std.specs.Io.KnownBytes.{Appends}
+use Rattle.tapa_base.specs.Outside.{Files, file_bytes}
+use Rattle.run_program.specs.Ending.{joined}
+use Rattle.slot_plan.specs.declared.floorplan.Mode.{Mode}
+use Rattle.tapa_drive.specs.Answer.{HasProgram}
+use Rattle.tapa_drive.specs.Decided.{IsRefusedWith}
+use Rattle.tapa_drive.specs.Files.{source_limit, data_limit}
+use Rattle.tapa_drive.specs.Outside.{Outside}
+use Rattle.tapa_drive.specs.Planned.{HasBadDevice, HasNoPlan, HasPlan}
+use Rattle.tapa_drive.specs.Refusal.{Refusal, DeviceFault}
+use Rattle.tapa_drive.specs.declared.status.Status.{Status}
+use Rattle.tapa_drive.specs.declared.status.Status.TheVariants.{Ok}
+
+-- neither the source nor the device file has more bytes than it may, the source has a program, and the device file has no
+-- fault for it
+pub record IsPlannable (text top bytes : List ℕ) : Type 0 where
+  pub short : length text ≤ source_limit
+  pub few : length bytes ≤ data_limit
+  pub legal : HasProgram text top
+  pub faultless : (fault : DeviceFault) → HasBadDevice text top bytes fault → ⊥
+
+-- the same of two files, where the files are told
+abbrev pub ArePlannable : Option Files → List ℕ → List ℕ → List ℕ → Type 0
+ArePlannable None source top device = ⊥
+ArePlannable (Some files) source top device = IsPlannable (file_bytes files source) top (file_bytes files device)
+
+-- the lines of a plan by the mode are written whole, or it is told why there is none
+abbrev pub TellsPlanOf : List ℕ → List ℕ → List ℕ → Mode → Status → Outside → Outside → Type 0
+TellsPlanOf text top bytes mode status before after =
+    ((lines : List (List ℕ)) × HasPlan text top bytes mode lines × (status ≡ Ok) × Appends before.out.bytes after.out.bytes (joined lines) × (after.err.bytes ≡ before.err.bytes))
+    ⊎ ((why : Refusal) × HasNoPlan text top bytes mode why × IsRefusedWith why status before after)
+
+abbrev pub TellsPlan : Option Files → List ℕ → List ℕ → List ℕ → Mode → Status → Outside → Outside → Type 0
+TellsPlan None source top device mode status before after = ⊥
+TellsPlan (Some files) source top device mode status before after = TellsPlanOf (file_bytes files source) top (file_bytes files device) mode status before after

@@ -1,0 +1,4 @@
+pub mod Dots
+pub mod Plain
+pub mod Climbed
+pub mod Flat

@@ -1,0 +1,4 @@
+pub mod Instances
+pub mod Contents
+pub mod Outside
+pub mod Runs

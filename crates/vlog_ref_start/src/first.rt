@@ -1,0 +1,36 @@
+// The first moment of a design's runs.
+
+ghost use Rattle.std.specs.Prelude.{◌≡◌, IfOk};
+ghost use Rattle.vlog_tree.specs.Form.{ModuleTree};
+ghost use Rattle.vlog_design.specs.Designs.{TopOf};
+ghost use Rattle.vlog_ref_start.specs.Outside.{environment_of};
+ghost use Rattle.vlog_ref_start.specs.Runs.{IsStart};
+
+use crate::contents::first_held;
+use crate::outside::{first_memories, first_scalars};
+use crate::surroundings::Surroundings;
+use std::alloc::{AllocError, Global};
+use vlog_design::Design;
+use vlog_ref_cycle::Moment;
+
+/// The moment of cycle 0, in which every register and every cell of the design holds `fill` modulo 2 to the power of its
+/// width, and around the design stands what is given.
+pub fn first_moment(
+    alloc: Global,
+    design: &Design,
+    around: &Surroundings,
+    fill: u128,
+) -> Result<Moment, AllocError>
+    ensures { IfOk result (λ now. (m : ModuleTree) → TopOf design.now m → IsStart design.now.modules m (environment_of around.now) fill now) }
+{
+    let held = first_held(alloc, design.modules(), design.top(), fill)?;
+    let shape = design.shape(alloc)?;
+    let scalars = first_scalars(alloc, &shape.scalars, &around.scalars)?;
+    let outside = first_memories(alloc, &shape.memories, around)?;
+    Ok(Moment {
+        cycle: 0,
+        held,
+        scalars,
+        outside,
+    })
+}

@@ -1,0 +1,13 @@
+//! The first cycle of a design, where every register and every cell holds one number, cut to its width; and that the cycles computed from it are those of its run.
+#![tactic(auto)]
+
+mod contents;
+mod first;
+mod instances;
+mod laws;
+mod outside;
+mod surroundings;
+
+pub use first::first_moment;
+pub use laws::law_reference_is_a_run;
+pub use surroundings::Surroundings;
