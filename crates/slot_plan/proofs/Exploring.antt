@@ -11,7 +11,8 @@ use Rattle.slot_plan.specs.Least.{NotAfter}
 use Rattle.slot_plan.specs.Plan.{load}
 use Rattle.slot_plan.specs.Search.{IsAnswer, Begins, IsSound, Covers, IsEarlier, IsFrom, Explored, ExploredBelow, AreRows, IsBelowRest, IsAt, IsAtPlace}
 use Rattle.slot_plan.specs.Tables.{items, places, joint_at, distance_at, beside, cost_of, IsLayout, AreTables}
-use Rattle.slot_plan.proofs.Sums.{pick_same, pick_other, total_le, total_const}
+use Rattle.flow_cert.proofs.Sums.{total_le, total_const}
+use Rattle.slot_plan.proofs.Sums.{pick_same, pick_other}
 use Rattle.slot_plan.proofs.Uses.{amount_set}
 use Rattle.slot_plan.proofs.Beginnings.{goes_on, begins_all, cost_push, load_push, load_at_most, low_at_most, none_below, not_after_fork, not_after_refl, place_of_begin, begins_push, front_place, last_place, push_long}
 

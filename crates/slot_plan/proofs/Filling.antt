@@ -21,7 +21,7 @@ use Rattle.slot_plan.proofs.Cells.{length_table, table_low}
 use Rattle.slot_plan.proofs.Limits.{few_slots}
 use Rattle.slot_plan.proofs.Merging.{AreParts, pinned_may, heads_inside, tails_inside}
 use Rattle.slot_plan.proofs.Parts.{one_same, one_other}
-use Rattle.slot_plan.proofs.Sums.{total_le, total_const}
+use Rattle.flow_cert.proofs.Sums.{total_le, total_const}
 
 -- ---- row by row
 

@@ -21,7 +21,8 @@ use Rattle.slot_plan.proofs.Beginnings.{front_place, last_place}
 use Rattle.slot_plan.proofs.Cells.{cell_table}
 use Rattle.slot_plan.proofs.Parts.{one_same, one_other, unless_zero, reached, upto, meets, upto_all, upto_whole}
 use Rattle.slot_plan.proofs.Placings.{not_self}
-use Rattle.slot_plan.proofs.Sums.{total_same, total_le, total_add, total_one, total_scale, total_zero, pick_same, pick_other}
+use Rattle.flow_cert.proofs.Sums.{total_same, total_le, total_add, total_one, total_zero}
+use Rattle.slot_plan.proofs.Sums.{total_scale, pick_same, pick_other}
 use Rattle.slot_plan.proofs.Those.{those_apart, those_count, those_count_none, Agree, Differ, order_cases, agree_order, differ_order}
 
 -- pinned groups, free groups and open slots

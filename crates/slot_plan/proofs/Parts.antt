@@ -3,7 +3,8 @@ use Rattle.std.proofs.Common.{◌≡◌, ℕ, zero, suc, ◌+◌, ◌*◌, ◌<�
 use Rattle.std.proofs.lemmas.Bool.{cases_eq}
 use Rattle.task_graph.specs.Arcs.{total}
 use Rattle.slot_plan.specs.Merging.{one}
-use Rattle.slot_plan.proofs.Sums.{total_same, total_add, total_scale, pick_same, pick_other}
+use Rattle.flow_cert.proofs.Sums.{total_same, total_add}
+use Rattle.slot_plan.proofs.Sums.{total_scale, pick_same, pick_other}
 
 pub one_same : (v x : ℕ) → v ≡ x → one v x ≡ 1
 one_same v x e = pick_same v x 1 e

@@ -13,7 +13,8 @@ use Rattle.plan_device.specs.declared.device.Device.{Device}
 use Rattle.slot_plan.specs.Plan.{need_of, used_in, AreNeeds, IsPlanOf}
 use Rattle.slot_plan.specs.FirstFit.{is_pinned, comes_before, used_before, HasRoom, StandsFirst, FindsNone, IsFirstFit}
 use Rattle.slot_plan.specs.Placing.{is_placed, placed_in, CanPlace, HasSpace, IsFirstSpace, ArePlaced, IsStuck}
-use Rattle.slot_plan.proofs.Sums.{total_same, total_zero, total_but, pick_same, pick_other}
+use Rattle.flow_cert.proofs.Sums.{total_same, total_zero}
+use Rattle.slot_plan.proofs.Sums.{total_but, pick_same, pick_other}
 use Rattle.slot_plan.proofs.Uses.{amount_set}
 
 -- ---- which groups are placed

@@ -6,7 +6,8 @@ use Rattle.slot_plan.specs.Least.{NotAfter}
 use Rattle.slot_plan.specs.Merging.{AreThose, one}
 use Rattle.slot_plan.proofs.Beginnings.{front_place, last_place}
 use Rattle.slot_plan.proofs.Parts.{one_same, one_other}
-use Rattle.slot_plan.proofs.Sums.{total_same, total_zero, total_but}
+use Rattle.flow_cert.proofs.Sums.{total_same, total_zero}
+use Rattle.slot_plan.proofs.Sums.{total_but}
 
 false_not_true : false ≡ true → ⊥
 false_not_true e = cc

@@ -8,7 +8,8 @@ use Rattle.task_graph.specs.Arcs.{total}
 use Rattle.plan_device.specs.declared.device.Device.{Device}
 use Rattle.slot_plan.specs.Causes.{AreUsed}
 use Rattle.slot_plan.specs.Plan.{need_of, IsPlanOf, AreNeeds}
-use Rattle.slot_plan.proofs.Sums.{total_same, pick_same, pick_other}
+use Rattle.flow_cert.proofs.Sums.{total_same}
+use Rattle.slot_plan.proofs.Sums.{pick_same, pick_other}
 use Rattle.slot_plan.proofs.Uses.{amount_set}
 
 -- what the first n groups use of a kind in a slot

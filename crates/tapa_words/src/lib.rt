@@ -11,6 +11,3 @@ mod verb;
 
 pub use command::{Command, PlanMode, WordsFault};
 pub use read::read_words;
-
-#[cfg(test)]
-mod tests;

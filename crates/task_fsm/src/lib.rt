@@ -9,7 +9,6 @@ mod residual;
 mod simple;
 mod size;
 mod statements;
-mod tests;
 
 pub use leaf::lower;
 pub use machine::{Fsm, State};
