@@ -1,5 +1,5 @@
 -- The labels of the parts that an instance is made of: each is of one part alone.
-use Rattle.std.proofs.Common.{◌≡◌, ◌<◌, ◌≤◌, ◌+◌, ◌^◌, ℕ, zero, suc, List, [], ◌∷◌, ◌++◌, length, map, Some, refl, sym, ap, subst, ◌∙◌, arith}
+use Rattle.std.proofs.Common.{◌≡◌, ◌<◌, ◌≤◌, ◌+◌, ◌^◌, ℕ, zero, suc, List, [], ◌∷◌, ◌++◌, ◌||◌, length, map, Some, refl, sym, ap, subst, ◌∙◌, arith}
 use Rattle.std.specs.Prelude.{slice_get}
 use Rattle.std.specs.List.{AllByRecursion}
 use Rattle.std.proofs.lemmas.List.{append-nil}
@@ -224,8 +224,8 @@ module _ (tasks : List Task) (h : HasOwnNames tasks) (invoked_so : AreInvoked ta
       let name = t.declared.name.text in
       let z = below x.label (instance_name t.declared.name.text k) in
       let count : length (instances_in (here ++ more)) ≡ length (instances_in here) + length (instances_in more) = count_joined here more in
-      let there : slice_get tasks (invoked tasks x first k i).body ≡ Some t = ap (slice_get tasks) (bind_bodies x first (unbound (below x.label (instance_name (name_of (slice_get tasks i.task)) k)) i.task) i.bindings) ∙ known.0.1 in
-      let label : (invoked tasks x first k i).label ≡ z = bind_labels x first (unbound (below x.label (instance_name (name_of (slice_get tasks i.task)) k)) i.task) i.bindings ∙ ap (λ o. below x.label (instance_name (name_of o) k)) known.0.1 in
+      let there : slice_get tasks (invoked tasks x first k i).body ≡ Some t = ap (slice_get tasks) (bind_bodies x first (unbound (below x.label (instance_name (name_of (slice_get tasks i.task)) k)) i.task (x.detached || i.detached)) i.bindings) ∙ known.0.1 in
+      let label : (invoked tasks x first k i).label ≡ z = bind_labels x first (unbound (below x.label (instance_name (name_of (slice_get tasks i.task)) k)) i.task (x.detached || i.detached)) i.bindings ∙ ap (λ o. below x.label (instance_name (name_of o) k)) known.0.1 in
       let plain : IsPlainName name = task_plain i.task t known.0.1 in
       let free : IsFree name = name_free name plain in
       let small : k < 2 ^ 64 = omega arith in

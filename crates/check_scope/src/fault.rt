@@ -30,6 +30,8 @@ pub enum CheckCode {
     C10,
     /// More than a limit allows.
     C11,
+    /// A memory of the top task that may be written, of an instance that is not waited for.
+    C12,
 }
 
 /// A rule that is broken, the place where it is, and for a limit the greatest number that is allowed.

@@ -1,6 +1,6 @@
 -- What the tasks of a legal file mean: the leaf of a leaf task; the streams and the invocations of an upper-level task,
 -- with what each name in them stands for.
-use Rattle.std.specs.Prelude.{ℕ, ◌+◌, List, [], ◌∷◌, Option, Some, None, bytes_eq, if◌then◌else◌}
+use Rattle.std.specs.Prelude.{ℕ, ◌+◌, Bool, List, [], ◌∷◌, Option, Some, None, bytes_eq, if◌then◌else◌}
 use Rattle.tapa_base.specs.declared.text.Place.{Place}
 use Rattle.tapa_syntax.specs.declared.tree.Parameter.{Parameter}
 use Rattle.tapa_syntax.specs.Trees.{TaskTree}
@@ -11,6 +11,8 @@ use Rattle.check_upper.specs.declared.task.Binding.{Binding}
 pub record Invocation : Type 0 where
   -- where the task is named
   pub place : Place
+  -- it is not waited for
+  pub detached : Bool
   -- its number among the tasks of the file
   pub task : ℕ
   -- what the arguments are, in the order of its parameters

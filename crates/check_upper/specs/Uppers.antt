@@ -178,10 +178,15 @@ bindings_of E (p ∷ rest) (a ∷ arguments) = binding_of E (parameter_kind p) a
 
 -- ---- invocations
 
--- C3: the one mode of an invocation is tapa::join
+-- the task is not waited for; without a mode it is (TAPA: join, detach)
+abbrev pub is_detached : Option Name → Bool
+is_detached None = false
+is_detached (Some mode) = bytes_eq mode.text (codes "detach")
+
+-- C3: the modes of an invocation are tapa::join and tapa::detach
 abbrev pub mode_faults : Option Name → List Broken
 mode_faults None = []
-mode_faults (Some mode) = where_so (not (bytes_eq mode.text (codes "join"))) (fault C3 mode.place)
+mode_faults (Some mode) = where_so (not (is_detached (Some mode) || bytes_eq mode.text (codes "join"))) (fault C3 mode.place)
 
 abbrev pub is_task : Entity → Bool
 is_task (entity.Task n) = true
@@ -208,6 +213,7 @@ invocation_faults E tasks self i =
 abbrev pub invocation_of : Scope → List Task → TaskTree → InvocationTree → Invocation
 invocation_of E tasks self i = record {
   place = i.task.place;
+  detached = is_detached i.mode;
   task = invoked_task E i.task.text;
   bindings = bindings_of E (invoked_parameters E tasks self i.task.text) i.arguments;
 }

@@ -9,7 +9,7 @@ use Rattle.check_upper.specs.declared.task.Task.{Task}
 use Rattle.check_upper.specs.Tasks as task
 
 abbrev pub invocation_view : Invoked → task.Invocation
-invocation_view i = record { place = i.place; task = i.task; bindings = i.bindings.items }
+invocation_view i = record { place = i.place; detached = i.detached; task = i.task; bindings = i.bindings.items }
 
 abbrev pub body_view : Body → task.Body
 body_view (Leaf l) = task.leaf_body (flat_leaf l)

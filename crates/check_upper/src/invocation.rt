@@ -15,15 +15,17 @@ use check_scope::{CheckCode, CheckFault, Entity, Names, Scope, refused};
 use std::alloc::Global;
 use tapa_syntax::{Invocation, Name, Parameter, StreamDeclaration, TaskDeclaration};
 
-/// The one mode of an invocation is `tapa::join`.
-fn check_mode(mode: &Option<Name>) -> Result<(), CheckFault>
-    ensures { Answers (λ x. x) result (upper.mode_faults mode.now) tt }
+/// Whether an invocation of this mode is detached: the modes are `tapa::join` and `tapa::detach`, and without one it joins.
+fn is_detached(mode: &Option<Name>) -> Result<bool, CheckFault>
+    ensures { Answers (λ detached. detached) result (upper.mode_faults mode.now) (upper.is_detached mode.now) }
 {
     let Some(mode) = mode else {
-        return Ok(());
+        return Ok(false);
     };
-    if mode.text.bytes() == b"join".as_slice() {
-        Ok(())
+    if mode.text.bytes() == b"detach".as_slice() {
+        Ok(true)
+    } else if mode.text.bytes() == b"join".as_slice() {
+        Ok(false)
     } else {
         Err(refused(CheckCode::C3, mode.place))
     }
@@ -78,7 +80,7 @@ fn invocation(
 ) -> Result<Invoked, CheckFault>
     ensures { Answers invocation_view result (upper.invocation_faults scope.now (map task_view tasks.now) (tree.task_of own.now) (tree.invocation_of invocation.now)) (upper.invocation_of scope.now (map task_view tasks.now) (tree.task_of own.now) (tree.invocation_of invocation.now)) }
 {
-    check_mode(&invocation.mode)?;
+    let detached = is_detached(&invocation.mode)?;
     let task = task_number(scope, &invocation.task)? as usize;
     let is_self = invocation.task.text.bytes() == own.name.text.bytes();
     let parameters = if is_self {
@@ -88,6 +90,7 @@ fn invocation(
     };
     Ok(Invoked {
         place: invocation.task.place,
+        detached,
         task,
         bindings: bindings_of(alloc, scope, parameters, is_self, invocation)?,
     })

@@ -25,10 +25,13 @@ pub struct Channel {
     pub depth: u32,
 }
 
-/// An invocation: where the task is named, its number among the tasks of the file, and what its parameters are bound to.
+/// An invocation: where the task is named, whether it is detached, its number among the tasks of the file, and what its
+/// parameters are bound to.
 #[derive(Drop)]
 pub struct Invoked {
     pub place: Place,
+    /// `invoke<tapa::detach>`: the task is not waited for.
+    pub detached: bool,
     pub task: usize,
     pub bindings: Vec<Binding>,
 }

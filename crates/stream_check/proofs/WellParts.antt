@@ -1,5 +1,5 @@
 -- Each instance that a task is made of is bound to streams, memories and scalars of the kinds of its leaf's ports.
-use Rattle.std.proofs.Common.{◌≡◌, ◌<◌, ◌+◌, ◌%◌, ℕ, zero, suc, List, [], ◌∷◌, ◌++◌, length, map, Bool, true, false, Some, None, refl, sym, ap, subst, ◌∙◌}
+use Rattle.std.proofs.Common.{◌≡◌, ◌<◌, ◌+◌, ◌%◌, ℕ, zero, suc, List, [], ◌∷◌, ◌++◌, length, map, Bool, true, false, ◌||◌, Some, None, refl, sym, ap, subst, ◌∙◌}
 use Rattle.std.specs.Prelude.{Option, slice_get, slice_index, if◌then◌else◌}
 use Rattle.std.proofs.lemmas.Option.{get_or_from_slice_get}
 use Rattle.tapa_base.specs.declared.kind.Kind.{Kind}
@@ -167,8 +167,8 @@ abbrev PartsFit : Known → List Task → Expands → Type 0
 PartsFit w tasks expand = (at : Place) (y : FlatInstance) (m : ℕ) (t : Task) → slice_get tasks y.body ≡ Some t → Fits w y (ports_of t.declared.parameters) → Contains w.streams m (streams_in (expand at y m)) → Each (InstanceIs w tasks) (instances_in (expand at y m))
 
 module _ (w : Known) (tasks : List Task) where
-  unbound_fits : (label : List ℕ) (task : ℕ) → Fits w (unbound label task) no_ports
-  unbound_fits label task = record { streams = tt; memories = tt; scalars = tt }
+  unbound_fits : (label : List ℕ) (task : ℕ) (detached : Bool) → Fits w (unbound label task detached) no_ports
+  unbound_fits label task detached = record { streams = tt; memories = tt; scalars = tt }
 
   chain_fits : (expand : Expands) → PartsFit w tasks expand → (x : FlatInstance) (first : ℕ) (q : Ports) (c : List Channel) → Fits w x q → StandAt w first c → (k n : ℕ) (is : List Invocation) → Each (InvocationFits tasks q c) is → Contains w.streams n (streams_in (chain_parts expand tasks x first k n is)) → Each (InstanceIs w tasks) (instances_in (chain_parts expand tasks x first k n is))
   chain_fits expand fit x first q c fx stand k n [] h r = tt
@@ -178,9 +178,10 @@ module _ (w : Known) (tasks : List Task) where
       let m = n + length (streams_in (expand i.place (invoked tasks x first k i) n)) in
       let more = chain_parts expand tasks x first (k + 1) (n + length (streams_in (expand i.place (invoked tasks x first k i) n))) is in
       let label = below x.label (instance_name (name_of (slice_get tasks i.task)) k) in
+      let detached = x.detached || i.detached in
       let r' = subst (Contains w.streams n) (streams_append here more) r in
-      let there : slice_get tasks y.body ≡ Some h.task = ap (slice_get tasks) (bind_bodies x first (unbound label i.task) i.bindings) ∙ h.there in
-      let fy = bind_each w x first q c fx stand (unbound label i.task) no_ports h.task.declared.parameters i.bindings (unbound_fits label i.task) h.bindings in
+      let there : slice_get tasks y.body ≡ Some h.task = ap (slice_get tasks) (bind_bodies x first (unbound label i.task detached) i.bindings) ∙ h.there in
+      let fy = bind_each w x first q c fx stand (unbound label i.task detached) no_ports h.task.declared.parameters i.bindings (unbound_fits label i.task detached) h.bindings in
       each_joined (InstanceIs w tasks) here more
       (fit i.place y n h.task there fy (contains_left w.streams n (streams_in here) (streams_in more) r'))
       (chain_fits expand fit x first q c fx stand (k + 1) m is hs (contains_right w.streams n (streams_in here) (streams_in more) r'))

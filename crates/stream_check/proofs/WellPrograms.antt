@@ -27,7 +27,7 @@ use Rattle.check_upper.specs.declared.task.Channel.{Channel}
 use Rattle.stream_check.specs.Items.{no_items, items_faults, tasks_of}
 use Rattle.check_upper.specs.Tasks.{leaf_body, Task, task_position}
 use Rattle.stream_check.specs.Parts.{streams_in, instances_in}
-use Rattle.stream_check.specs.Programs.{is_stream_parameter, is_upper, top_faults, top_instance, all_levels, top_parts, parts_faults, top_task_faults, top_program, limit_faults, ends_in, ends_of, instances_at, instances_with, is_one, the_one, stream_of, streams_faults, streams_of, memories_faults, memories_of, scalars_of, is_used, body_numbers, bodies_of, with_body, bindings_faults, whole_faults, program_faults, program_made, program_of}
+use Rattle.stream_check.specs.Programs.{is_stream_parameter, is_upper, top_faults, top_instance, all_levels, top_parts, parts_faults, top_task_faults, top_program, limit_faults, ends_in, ends_of, instances_at, instances_with, is_one, the_one, stream_of, streams_faults, streams_of, memories_faults, memories_of, writers_faults, scalars_of, is_used, body_numbers, bodies_of, with_body, bindings_faults, whole_faults, program_faults, program_made, program_of}
 use Rattle.stream_check.proofs.WellLists.{the_same, both, not_so, no_faults, holds, Each, each_get, get_map, get_unmap, length_map, Pairs, pairs_length, pairs_get, pairs_right}
 use Rattle.stream_check.proofs.WellSpots.{TheSpot, ends_at, the_end, end_there, there_end, memory_at, the_owner, memory_there, there_memory}
 use Rattle.stream_check.proofs.WellPorts.{Ports, ports_of, LeafFits}
@@ -315,7 +315,8 @@ facts levels tasks n t there fine h =
     let w = known t.declared.parameters (streams_in (top_parts levels tasks n t.declared)) in
     let a = no_faults (top_faults t) (parts_faults tasks t.declared parts) h in
     let b = no_faults (limit_faults 0 0 parts) (bindings_faults tasks t.declared (instances_in parts) (streams_in parts)) a.1 in
-    let c = no_faults (streams_faults tasks (instances_in parts) 0 (streams_in parts)) (memories_faults (instances_in parts) 0 t.declared.parameters) b.1 in
+    let c = no_faults (streams_faults tasks (instances_in parts) 0 (streams_in parts)) (memories_faults (instances_in parts) 0 t.declared.parameters ++ writers_faults (instances_in parts) 0 t.declared.parameters) b.1 in
+    let d = no_faults (memories_faults (instances_in parts) 0 t.declared.parameters) (writers_faults (instances_in parts) 0 t.declared.parameters) c.1 in
     let few = limits 0 0 parts (omega arith) (omega arith) b.0 in
     let fits = top_fits w n ps (no_streams t a.0) refl refl in
     record {
@@ -325,7 +326,7 @@ facts levels tasks n t there fine h =
       made = parts_fit w tasks fine levels t.declared.name.place (top_instance n ps) 0 t there fits (λ i x e. subst (λ m. slice_get (streams_in parts) m ≡ Some x) (sym (zero_left i)) e);
       depths = parts_depths tasks fine levels t.declared.name.place (top_instance n ps) 0;
       streams = c.0;
-      memories = c.1;
+      memories = d.0;
     }
 
 whole_program_well : (levels n : ℕ) (tasks : List Task) (o : Option Task) (program : Program) → slice_get tasks n ≡ o → Each (TaskFits tasks) tasks → top_task_faults levels tasks n o ≡ [] → flat_program program ≡ top_program levels tasks n o → IsWellFormed program

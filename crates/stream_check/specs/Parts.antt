@@ -1,6 +1,6 @@
 -- What a legal file's top task is made of: leaf instances and streams, where each upper-level instance is replaced by
 -- what its own task is made of (TAPA: a task hierarchy).
-use Rattle.std.specs.Prelude.{false, ℕ, zero, suc, ◌+◌, ◌%◌, List, [], ◌∷◌, ◌++◌, length, Option, Some, None, decimal, slice_index, slice_get, if◌then◌else◌}
+use Rattle.std.specs.Prelude.{Bool, ◌||◌, ℕ, zero, suc, ◌+◌, ◌%◌, List, [], ◌∷◌, ◌++◌, length, Option, Some, None, decimal, slice_index, slice_get, if◌then◌else◌}
 use Rattle.tapa_base.specs.declared.kind.Kind.{Kind}
 use Rattle.tapa_base.specs.declared.text.Place.{Place}
 use Rattle.tapa_base.specs.Kinds.{converted, values_of}
@@ -79,12 +79,13 @@ abbrev pub bind_all : FlatInstance → ℕ → FlatInstance → List Binding →
 bind_all x first y [] = y
 bind_all x first y (l ∷ bindings) = bind_all x first (bind x first y l) bindings
 
-abbrev pub unbound : List ℕ → ℕ → FlatInstance
-unbound label task = record { label = label; body = task; detached = false; scalars = []; streams = []; memories = [] }
+abbrev pub unbound : List ℕ → ℕ → Bool → FlatInstance
+unbound label task detached = record { label = label; body = task; detached = detached; scalars = []; streams = []; memories = [] }
 
--- the instance of the invocation at position k of the task of instance x
+-- the instance of the invocation at position k of the task of instance x; it is not waited for where that invocation or one
+-- on the way to x from the top task is tapa::detach
 abbrev pub invoked : List Task → FlatInstance → ℕ → ℕ → Invocation → FlatInstance
-invoked tasks x first k i = bind_all x first (unbound (below x.label (instance_name (name_of (slice_get tasks i.task)) k)) i.task) i.bindings
+invoked tasks x first k i = bind_all x first (unbound (below x.label (instance_name (name_of (slice_get tasks i.task)) k)) i.task (x.detached || i.detached)) i.bindings
 
 -- ---- parts
 

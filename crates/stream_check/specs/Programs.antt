@@ -12,7 +12,7 @@ use Rattle.tapa_syntax.specs.Trees.{TaskTree, ItemTree}
 use Rattle.tapa_syntax.specs.Flat.{FlatBound, top_scalar, FlatInstance, FlatLeaf, FlatProgram}
 use Rattle.check_scope.specs.declared.fault.Broken.{Broken}
 use Rattle.check_scope.specs.declared.fault.CheckCode.{CheckCode}
-use Rattle.check_scope.specs.declared.fault.CheckCode.TheVariants.{C1, C3, C4, C5, C7}
+use Rattle.check_scope.specs.declared.fault.CheckCode.TheVariants.{C1, C3, C4, C5, C7, C12}
 use Rattle.check_scope.specs.Faults.{fault, over, where_so}
 use Rattle.check_upper.specs.declared.task.Channel.{Channel}
 use Rattle.check_upper.specs.Tasks.{Body, leaf_body, upper_body, Task, task_position}
@@ -173,6 +173,26 @@ abbrev pub memories_of : List FlatInstance → ℕ → List Parameter → List M
 memories_of instances m [] = []
 memories_of instances m (p ∷ rest) = memory_of instances m p ++ memories_of instances (m + length (memory_of instances m p)) rest
 
+abbrev pub is_detached : Option FlatInstance → Bool
+is_detached None = false
+is_detached (Some x) = x.detached
+
+-- something is bound to one instance, which is not waited for
+abbrev pub is_of_detached : List FlatInstance → List ℕ → Bool
+is_of_detached instances (i ∷ []) = is_detached (slice_get instances i)
+is_of_detached instances bound = false
+
+-- C12: a memory of the top task that may be written is of an instance that is waited for: else its last cells would depend on time
+abbrev pub writer_faults : List FlatInstance → ℕ → Parameter → List Broken
+writer_faults instances m (parameter.Memory constant k x) = where_so (not constant && is_of_detached instances (instances_with m 0 instances)) (fault C12 x.place)
+writer_faults instances m (parameter.Scalar constant k x) = []
+writer_faults instances m (parameter.InputStream k x) = []
+writer_faults instances m (parameter.OutputStream k x) = []
+
+abbrev pub writers_faults : List FlatInstance → ℕ → List Parameter → List Broken
+writers_faults instances m [] = []
+writers_faults instances m (p ∷ rest) = writer_faults instances m p ++ writers_faults instances (m + length (memory_of instances m p)) rest
+
 abbrev pub scalar_of : Parameter → List Scalar
 scalar_of (parameter.Scalar constant k x) = record { name = x.text; kind = k } ∷ []
 scalar_of (parameter.Memory constant k x) = []
@@ -215,7 +235,8 @@ with_body numbers x = record { label = x.label; body = position_among 0 x.body n
 -- ---- programs
 
 abbrev pub bindings_faults : List Task → TaskTree → List FlatInstance → List Channel → List Broken
-bindings_faults tasks top instances streams = streams_faults tasks instances 0 streams ++ memories_faults instances 0 top.parameters
+bindings_faults tasks top instances streams =
+    streams_faults tasks instances 0 streams ++ (memories_faults instances 0 top.parameters ++ writers_faults instances 0 top.parameters)
 
 abbrev pub program_made : List Task → TaskTree → List FlatInstance → List Channel → FlatProgram
 program_made tasks top instances streams = record {
@@ -227,7 +248,7 @@ program_made tasks top instances streams = record {
   streams = streams_of tasks instances 0 streams;
 }
 
--- the limits first, then the streams and then the memories
+-- the limits first, then the streams, then the memories' instances and then who writes them
 abbrev pub parts_faults : List Task → TaskTree → List Part → List Broken
 parts_faults tasks top parts = limit_faults 0 0 parts ++ bindings_faults tasks top (instances_in parts) (streams_in parts)
 

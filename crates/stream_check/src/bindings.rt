@@ -9,7 +9,7 @@ ghost use Rattle.stream_check.specs.Users.{users_of, with_user, with_users};
 ghost use Rattle.stream_check.specs.declared.users.Users.{Users as Among};
 
 use crate::users::{UserTable, Users};
-use check_scope::{CheckCode, CheckFault, copied, number_of};
+use check_scope::{CheckCode, CheckFault, copied, next_number, number_of, refused};
 use check_upper::{Body, Channel, Task};
 use std::alloc::Global;
 use tapa_syntax::{End, Instance, Memory, Parameter, Stream};
@@ -186,13 +186,72 @@ fn memory(
     Ok(())
 }
 
+fn is_detached(instances: &[Instance], number: u32) -> bool
+    ensures { result ≡ program.is_detached (slice_get (map flat_instance instances.now) number) }
+{
+    match instances.get(number as usize) {
+        Some(instance) => instance.detached,
+        None => false,
+    }
+}
+
+/// Whether something is bound to one instance, which is not waited for.
+fn is_of_detached(instances: &[Instance], users: Users) -> bool
+    ensures { (bound : List ℕ) → users ≡ users_of bound → result ≡ program.is_of_detached (map flat_instance instances.now) bound }
+{
+    match users {
+        Users::One(instance) => is_detached(instances, instance),
+        Users::Nobody => false,
+        Users::Several => false,
+    }
+}
+
+/// Whether the next memory of the top task may be written by an instance that is waited for, where the parameter is one;
+/// and the number of the memory after it.
+fn check_writer(
+    instances: &[Instance],
+    number: u32,
+    owners: Users,
+    parameter: &Parameter,
+) -> Result<u32, CheckFault>
+    ensures { owners ≡ users_of (program.instances_with number 0 (map flat_instance instances.now))
+        → Answers (λ next. next) result (program.writer_faults (map flat_instance instances.now) number parameter.now) (number + length (program.memory_of (map flat_instance instances.now) number parameter.now)) }
+{
+    let Parameter::Memory { constant, name, .. } = parameter else {
+        return Ok(number);
+    };
+    let detached = is_of_detached(instances, owners);
+    if !*constant && detached {
+        return Err(refused(CheckCode::C12, name.place));
+    }
+    next_number(number)
+}
+
+/// No memory of the top task that may be written is of an instance that is not waited for.
+fn check_writers(
+    instances: &[Instance],
+    owners: &UserTable,
+    parameters: &[Parameter],
+) -> Result<(), CheckFault>
+    requires count { length owners.now.rows.items ≡ length parameters.now }
+    requires owned { (m : ℕ) (d : Among) → m < length parameters.now → get_or owners.now.rows.items m d ≡ users_of (program.instances_with m 0 (map flat_instance instances.now)) }
+    ensures { Answers (λ x. x) result (program.writers_faults (map flat_instance instances.now) 0 parameters.now) tt }
+{
+    let mut number = 0;
+    for parameter in parameters {
+        let next = owners.at(number as usize);
+        number = check_writer(instances, number, next, parameter)?;
+    }
+    Ok(())
+}
+
 /// The memories of the top task.
 pub(crate) fn memories(
     alloc: Global,
     instances: &[Instance],
     parameters: &[Parameter],
 ) -> Result<Vec<Memory>, CheckFault>
-    ensures { Answers (λ made. made.items) result (program.memories_faults (map flat_instance instances.now) 0 parameters.now) (program.memories_of (map flat_instance instances.now) 0 parameters.now) }
+    ensures { Answers (λ made. made.items) result (program.memories_faults (map flat_instance instances.now) 0 parameters.now ++ program.writers_faults (map flat_instance instances.now) 0 parameters.now) (program.memories_of (map flat_instance instances.now) 0 parameters.now) }
 {
     let owners = memory_owners(alloc, instances, parameters.len())?;
     let mut made: Vec<Memory> = Vec::new(alloc);
@@ -200,5 +259,6 @@ pub(crate) fn memories(
         let next = owners.at(made.len());
         memory(alloc, next, parameter, &mut made)?;
     }
+    check_writers(instances, &owners, parameters)?;
     Ok(made)
 }

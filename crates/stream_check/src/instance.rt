@@ -1,4 +1,4 @@
-ghost use Rattle.std.specs.Prelude.{◌≡◌, ◌+◌, [], map, slice_get};
+ghost use Rattle.std.specs.Prelude.{◌≡◌, ◌||◌, ◌+◌, [], map, slice_get};
 ghost use Rattle.std.specs.Str.{IsAscii};
 ghost use Rattle.tapa_syntax.specs.Flat.{flat_bound, flat_instance};
 ghost use Rattle.check_scope.specs.Answers.{Answers};
@@ -111,6 +111,13 @@ fn name_at<'t>(tasks: &'t [Task], number: usize) -> &'t [u8]
     }
 }
 
+/// Whether an instance is not waited for, which the task of another invokes.
+fn is_detached(outer: &Instance, invocation: &Invoked) -> bool
+    ensures { result ≡ (outer.now.detached || invocation.now.detached) }
+{
+    outer.detached || invocation.detached
+}
+
 /// The instance of the invocation at a position of the task of an instance; its body is the number of its task.
 pub(crate) fn invoked(
     alloc: Global,
@@ -126,7 +133,7 @@ pub(crate) fn invoked(
     let mut made = Instance {
         label: below(alloc, &outer.label, &name)?,
         body: number_of(invocation.task)?,
-        detached: false,
+        detached: is_detached(outer, invocation),
         scalars: Vec::new(alloc),
         streams: Vec::new(alloc),
         memories: Vec::new(alloc),
