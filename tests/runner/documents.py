@@ -65,7 +65,7 @@ def try_refusals(trial):
             trial.check(f"{code}: {text}", (code_of(told), told.split(" ")[-1]) == (wanted, f"{line}:{col}"), f"   {told}")
             trial.check(f"the section {code} shows {code}", wanted == code)
             shown.add(code)
-    rules = {f"{letter}{number}" for letter, most in (("L", 4), ("P", 1), ("C", 11)) for number in range(1, most + 1)}
+    rules = {f"{letter}{number}" for letter, most in (("L", 4), ("P", 1), ("C", 12)) for number in range(1, most + 1)}
     trial.check("each code has a text that is refused", shown == rules, f"   {sorted(rules ^ shown)}")
     headings = {heading for _, heading, _ in sections("docs/REFUSALS.md")}
     same = {heading for _, heading, _ in sections("docs/LANGUAGE.md")}

@@ -1,5 +1,5 @@
 -- What is known of the instances that something is bound to.
-use Rattle.std.proofs.Common.{◌≡◌, ◌<◌, ◌≤◌, ◌+◌, ℕ, zero, suc, List, [], ◌∷◌, ◌++◌, length, map, drop, get_or, Bool, refl, sym, ap, ◌∙◌, arith}
+use Rattle.std.proofs.Common.{◌≡◌, ◌<◌, ◌≤◌, ◌+◌, ℕ, zero, suc, List, [], ◌∷◌, ◌++◌, length, map, drop, get_or, Bool, false, refl, sym, ap, ◌∙◌, arith}
 use Rattle.std.specs.Prelude.{slice_get}
 use Rattle.tapa_base.specs.declared.text.Place.{Place}
 use Rattle.tapa_syntax.specs.declared.program.End.{End}
@@ -13,7 +13,7 @@ use Rattle.check_upper.specs.Tasks.{Task}
 use Rattle.stream_check.specs.declared.users.Users.{Users}
 use Rattle.stream_check.specs.declared.users.Users.TheVariants.{Nobody, One, Several}
 use Rattle.stream_check.specs.Users.{with_user, with_users, users_of}
-use Rattle.stream_check.specs.Programs.{the_one, one_faults, ends_of, bound_ends, bound_memories, instances_at, instances_with, memory_of}
+use Rattle.stream_check.specs.Programs.{the_one, one_faults, ends_of, bound_ends, bound_memories, instances_at, instances_with, memory_of, is_detached, is_of_detached}
 
 several : (rest : List ℕ) → with_users Several rest ≡ Several
 several [] = refl
@@ -30,6 +30,21 @@ one_answers code place i bound h =
     let e = one_only i bound h in
     (ap (one_faults code place) e, ap the_one (sym e))
 
+-- ---- whether what is bound to one instance is bound to one that is not waited for
+
+pub one_detached : (is : List FlatInstance) (i : ℕ) (bound : List ℕ) → One i ≡ users_of bound → is_detached (slice_get is i) ≡ is_of_detached is bound
+one_detached is i bound h = ap (is_of_detached is) (sym (one_only i bound h))
+
+pub nobody_detached : (is : List FlatInstance) (bound : List ℕ) → Nobody ≡ users_of bound → false ≡ is_of_detached is bound
+nobody_detached is [] h = refl
+nobody_detached is (i ∷ []) h = absurd (cc)
+nobody_detached is (i ∷ j ∷ rest) h = refl
+
+pub several_detached : (is : List FlatInstance) (bound : List ℕ) → Several ≡ users_of bound → false ≡ is_of_detached is bound
+several_detached is [] h = refl
+several_detached is (i ∷ []) h = absurd (cc)
+several_detached is (i ∷ j ∷ rest) h = refl
+
 -- users of a list in two parts
 pub with_append : (u : Users) (xs ys : List ℕ) → with_users u (xs ++ ys) ≡ with_users (with_users u xs) ys
 with_append u [] ys = refl
@@ -37,7 +52,7 @@ with_append u (x ∷ xs) ys = with_append (with_user u x) xs ys
 
 -- ---- lists that are gone through from the front
 
-none_left : {A : Type 0} (i : ℕ) (xs : List A) → length xs ≤ i → drop i xs ≡ []
+pub none_left : {A : Type 0} (i : ℕ) (xs : List A) → length xs ≤ i → drop i xs ≡ []
 none_left zero [] h = refl
 none_left zero (x ∷ xs) h = absurd (omega arith)
 none_left (suc i) [] h = refl

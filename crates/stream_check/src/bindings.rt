@@ -240,7 +240,8 @@ fn check_writers(
     let mut number = 0;
     for parameter in parameters {
         let next = owners.at(number as usize);
-        number = check_writer(instances, number, next, parameter)?;
+        let after = check_writer(instances, number, next, parameter)?;
+        number = after;
     }
     Ok(())
 }

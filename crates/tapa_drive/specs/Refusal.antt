@@ -2,7 +2,7 @@
 use Rattle.std.specs.Prelude.{ℕ, List, [], ◌++◌, Option, Some, None, codes, decimal, ⊤}
 use Rattle.tapa_base.specs.declared.text.Place.{Place}
 use Rattle.check_scope.specs.declared.fault.CheckCode.{CheckCode}
-use Rattle.check_scope.specs.declared.fault.CheckCode.TheVariants.{C1, C2, C3, C4, C5, C6, C7, C8, C9, C10, C11}
+use Rattle.check_scope.specs.declared.fault.CheckCode.TheVariants.{C1, C2, C3, C4, C5, C6, C7, C8, C9, C10, C11, C12}
 use Rattle.tapa_drive.specs.declared.source.SourceCode.{SourceCode}
 use Rattle.tapa_drive.specs.declared.source.SourceCode.TheVariants.{L1, L2, L3, L4, P1, P2, Rule}
 use Rattle.run_program.specs.Ending.{joined}
@@ -33,7 +33,7 @@ pub data Refusal : Type 0 where
   Source : (file : List ℕ) (place : Place) (code : SourceCode) → Refusal
   -- data are not what the program asks for
   Data : (file : List ℕ) (fault : DataFault) → Refusal
-  -- a run makes more ticks than its limit, or never ends
+  -- the joined instances of a run make more ticks than its limit, or never end
   Ticks : (limit : ℕ) → Refusal
   -- a run stopped, and each line tells what an instance waits for
   Stopped : (lines : List (List ℕ)) → Refusal
@@ -61,6 +61,7 @@ rule_text C8 = codes "C8 operation in a conditional place"
 rule_text C9 = codes "C9 divisor"
 rule_text C10 = codes "C10 task invokes itself"
 rule_text C11 = codes "C11 over the limit"
+rule_text C12 = codes "C12 memory written by a detached task"
 
 -- the greatest number that a limit allows
 abbrev pub limit_text : Option ℕ → List ℕ

@@ -33,6 +33,7 @@ fn text_of_rule(code: CheckCode) -> &'static str
         CheckCode::C9 => "C9 divisor",
         CheckCode::C10 => "C10 task invokes itself",
         CheckCode::C11 => "C11 over the limit",
+        CheckCode::C12 => "C12 memory written by a detached task",
     }
 }
 
