@@ -11,11 +11,13 @@ use Rattle.tapa_syntax.specs.Flat.{FlatInstance, FlatProgram, flat_instance, fla
 use Rattle.tapa_syntax.specs.WellFormed.{IsWellFormed}
 use Rattle.kahn_model.specs.Network.{Network, IsNetwork}
 use Rattle.kahn_model.specs.Cells.{cells_at, memory_at, owner_of, after_stores}
-use Rattle.kahn_model.specs.Counts.{total, ticks_made, written, HasEnded, IsReachable, IsEnding, IsKahnStream}
-use Rattle.kahn_model.specs.Ending.{EndsWithin, StopsWithin, GoesPast}
-use Rattle.kahn_model.specs.Outcome.{IsDone, IsStopped}
+use Rattle.kahn_model.specs.Counts.{ticks_made, HasEnded, IsReachable, IsEnding, IsKahnPrefix, IsKahnStream}
+use Rattle.kahn_model.specs.Ending as way
+use Rattle.kahn_model.specs.Ending.{EndsWithin, StopsWithin, GoesPast, Way, RunsSo}
+use Rattle.kahn_model.specs.Outcome as outcome
+use Rattle.kahn_model.specs.Outcome.{IsJoined, joined_ticks, IsDone, IsStopped}
 use Rattle.kahn_model.specs.Standing.{Standing, over, to_read, to_write, at_bad, StandsSo}
-use Rattle.kahn_model.proofs.Count.{one_end}
+use Rattle.kahn_model.proofs.Ending as kahn
 use Rattle.kahn_model.proofs.Ending.{has_ended, three_ways}
 use Rattle.kahn_model.proofs.Ends.{Waits, waits}
 use Rattle.kahn_model.proofs.OneMeaning.{one_meaning}
@@ -25,7 +27,7 @@ use Rattle.run_data.specs.Report.{last_line}
 use Rattle.run_data.specs.declared.lines.Last.{Last}
 use Rattle.run_data.specs.declared.lines.Last.TheVariants as last_line_of
 use Rattle.run_program.specs.Laws.{RunMeaning, Done, Stopped, Limit, Runs}
-use Rattle.run_program.specs.Run.{Values, network, ticks_of, stream_lines, memory_lines, lines_at, report_of, label_of, read_line, write_line, bad_line, IsWaitLine, AreWaitLines, DoneRun, StoppedRun, LimitRun}
+use Rattle.run_program.specs.Run.{Values, network, ticks_of, tokens_at, stream_lines, memory_lines, lines_at, report_of, label_of, read_line, write_line, bad_line, IsWaitLine, AreWaitLines, DoneRun, StoppedRun, LimitRun}
 use Rattle.run_program.proofs.Running.{size_of, done_run, stopped_run}
 
 -- ---- the same lines of waiting instances, whose labels alone are shown
@@ -91,38 +93,39 @@ module _ (p q : Program) (same : flat_program p ≡ flat_program q) (values : Va
   cells : (k : ℕ → ℕ) → cells_at p values.scalars values.memories k ≡ cells_at q values.scalars values.memories k
   cells k = one_cells p q same values k
 
-  lines : (k : ℕ → ℕ) → lines_at p values k ≡ lines_at q values k
-  lines k =
-      ap (λ (net : Network). stream_lines (written net k) 0 p.streams.items ++ memory_lines (cells_at p values.scalars values.memories k) 0 p.memories.items) networks
-      ∙ ap (λ (ss : List Stream). stream_lines (written (network q values) k) 0 ss ++ memory_lines (cells_at p values.scalars values.memories k) 0 p.memories.items) same_streams
-      ∙ ap (λ (c : ℕ → List ℕ). stream_lines (written (network q values) k) 0 q.streams.items ++ memory_lines c 0 p.memories.items) (cells k)
-      ∙ ap (λ (ms : List Memory). stream_lines (written (network q values) k) 0 q.streams.items ++ memory_lines (cells_at q values.scalars values.memories k) 0 ms) memories
+  lines : (k : ℕ → ℕ) (last : Last) → lines_at p values k last ≡ lines_at q values k last
+  lines k last =
+      ap (λ (net : Network). stream_lines (tokens_at net k last) 0 p.streams.items ++ memory_lines (cells_at p values.scalars values.memories k) 0 p.memories.items) networks
+      ∙ ap (λ (ss : List Stream). stream_lines (tokens_at (network q values) k last) 0 ss ++ memory_lines (cells_at p values.scalars values.memories k) 0 p.memories.items) same_streams
+      ∙ ap (λ (c : ℕ → List ℕ). stream_lines (tokens_at (network q values) k last) 0 q.streams.items ++ memory_lines c 0 p.memories.items) (cells k)
+      ∙ ap (λ (ms : List Memory). stream_lines (tokens_at (network q values) k last) 0 q.streams.items ++ memory_lines (cells_at q values.scalars values.memories k) 0 ms) memories
 
   reports : (k : ℕ → ℕ) (last : ℕ → Last) → report_of p values k (last (ticks_of p values k)) ≡ report_of q values k (last (ticks_of q values k))
   reports k last =
-      ap (λ (l : List ℕ). l ++ last_line (last (ticks_of p values k))) (lines k)
-      ∙ ap (λ (net : Network). lines_at q values k ++ last_line (last (total net.size k))) networks
+      ap (λ (l : List ℕ). l ++ last_line (last (ticks_of p values k))) (lines k (last (ticks_of p values k)))
+      ∙ ap (λ (net : Network). report_of q values k (last (joined_ticks net k))) networks
 
   pub runs_alike : (limit : ℕ) (m : RunMeaning) → Runs p values limit m → Runs q values limit m
   runs_alike limit (Done report) h = record {
     count = h.count;
-    done = subst (λ (net : Network). IsDone net h.count) networks h.done;
-    within = subst (λ (net : Network). total net.size h.count ≤ limit) networks h.within;
-    whole = λ s l.
-        subst (λ (net : Network). IsKahnStream net s (written net h.count s)) networks
-        (h.whole s (subst (λ (ss : List Stream). s < length ss) (sym same_streams) l));
+    done = subst (λ (net : Network). IsDone net limit h.count) networks h.done;
+    front = λ s l.
+        subst (λ (net : Network). IsKahnPrefix net s (outcome.shown net h.count s)) networks
+        (h.front s (subst (λ (ss : List Stream). s < length ss) (sym same_streams) l));
+    whole = λ s l joined.
+        subst (λ (net : Network). IsKahnStream net s (outcome.shown net h.count s)) networks
+        (h.whole s (subst (λ (ss : List Stream). s < length ss) (sym same_streams) l) (subst (λ (net : Network). IsJoined net (net.producer s)) (sym networks) joined));
     shown = h.shown ∙ reports h.count last_line_of.Done;
   }
   runs_alike limit (Stopped report lines) h = record {
     count = h.count;
-    stopped = subst (λ (net : Network). IsStopped net h.count) networks h.stopped;
-    within = subst (λ (net : Network). total net.size h.count ≤ limit) networks h.within;
+    stopped = subst (λ (net : Network). IsStopped net limit h.count) networks h.stopped;
     shown = h.shown ∙ reports h.count last_line_of.Stopped;
     waits = relabelled (network q values) h.count q.streams.items 0 p.instances.items q.instances.items lines instances
         (subst (λ (ss : List Stream). AreWaitLines (network q values) h.count ss 0 p.instances.items lines) same_streams
         (subst (λ (net : Network). AreWaitLines net h.count p.streams.items 0 p.instances.items lines) networks h.waits));
   }
-  runs_alike limit Limit h = subst (λ (net : Network). (k : ℕ → ℕ) → IsEnding net k → limit < total net.size k) networks h
+  runs_alike limit Limit h = subst (λ (net : Network). GoesPast net limit) networks h
 
 -- ---- the lines of waiting instances are one list
 
@@ -210,38 +213,45 @@ module _ (net : Network) (ok : IsNetwork net) (k : ℕ → ℕ) (ending : IsEndi
 
 -- ---- a program runs in one way
 
+done_stopped : way.done ≡ way.stopped → ⊥
+done_stopped e = cc
+
+past_done : way.past ≡ way.done → ⊥
+past_done e = cc
+
+past_stopped : way.past ≡ way.stopped → ⊥
+past_stopped e = cc
+
 module _ (p : Program) (w : IsWellFormed p) (values : Values) (limit : ℕ) where
   net_ok : IsNetwork (network p values)
   net_ok = program_network p w values.scalars values.memories
 
-  one_count : (k m : ℕ → ℕ) → IsEnding (network p values) k → IsEnding (network p values) m → k ≡ m
-  one_count k m a b = fun_ext (one_end (network p values) net_ok k m a b)
+  one_count : (a b : Way) (k m : ℕ → ℕ) → RunsSo (network p values) limit a k → RunsSo (network p values) limit b m → (a ≡ b) × (k ≡ m)
+  one_count a b k m x y = let h = kahn.one_way (network p values) net_ok limit a b k m x y in (h.0, fun_ext h.1)
 
   all_inside : 0 + length p.instances.items ≤ (network p values).size
   all_inside = omega (arith, size_of p values)
 
   one_report : (report other : List ℕ) → DoneRun p values limit report → DoneRun p values limit other → report ≡ other
   one_report report other a b =
-      a.shown ∙ ap (λ (k : ℕ → ℕ). report_of p values k (last_line_of.Done (ticks_of p values k))) (one_count a.count b.count a.done.ending b.done.ending) ∙ sym b.shown
+      a.shown ∙ ap (λ (k : ℕ → ℕ). report_of p values k (last_line_of.Done (ticks_of p values k))) (one_count way.done way.done a.count b.count a.done b.done).1 ∙ sym b.shown
 
   one_stop : (report other : List ℕ) (lines rows : List (List ℕ)) → StoppedRun p values limit report lines → StoppedRun p values limit other rows → (report ≡ other) × (lines ≡ rows)
   one_stop report other lines rows a b =
-      let same = one_count a.count b.count a.stopped.ending b.stopped.ending in (
+      let same = (one_count way.stopped way.stopped a.count b.count a.stopped b.stopped).1 in (
         a.shown ∙ ap (λ (k : ℕ → ℕ). report_of p values k (last_line_of.Stopped (ticks_of p values k))) same ∙ sym b.shown,
-        one_list (network p values) net_ok b.count b.stopped.ending.reachable p.streams.items 0 p.instances.items all_inside lines rows
+        one_list (network p values) net_ok b.count b.stopped.greatest.reachable p.streams.items 0 p.instances.items all_inside lines rows
             (subst (λ (k : ℕ → ℕ). AreWaitLines (network p values) k p.streams.items 0 p.instances.items lines) same a.waits) b.waits,
       )
 
   ends_stops : (report other : List ℕ) (lines : List (List ℕ)) → DoneRun p values limit report → StoppedRun p values limit other lines → ⊥
-  ends_stops report other lines ends stops =
-      let same = one_count ends.count stops.count ends.done.ending stops.stopped.ending in
-      stops.stopped.goes_on (subst (λ (k : ℕ → ℕ). HasEnded (network p values) k stops.stopped.instance) same (ends.done.ended stops.stopped.instance stops.stopped.inside))
+  ends_stops report other lines ends stops = done_stopped (one_count way.done way.stopped ends.count stops.count ends.done stops.stopped).0
 
   past_ends : (report : List ℕ) → LimitRun p values limit → DoneRun p values limit report → ⊥
-  past_ends report past ends = let a = past ends.count ends.done.ending in let b = ends.within in omega arith
+  past_ends report past ends = past_done (one_count way.past way.done past.0 ends.count past.1 ends.done).0
 
   past_stops : (report : List ℕ) (lines : List (List ℕ)) → LimitRun p values limit → StoppedRun p values limit report lines → ⊥
-  past_stops report lines past stops = let a = past stops.count stops.stopped.ending in let b = stops.within in omega arith
+  past_stops report lines past stops = past_stopped (one_count way.past way.stopped past.0 stops.count past.1 stops.stopped).0
 
   pub one_way : (m n : RunMeaning) → Runs p values limit m → Runs p values limit n → m ≡ n
   one_way (Done report) (Done other) a b = ap Done (one_report report other a b)
@@ -259,12 +269,12 @@ module _ (p : Program) (w : IsWellFormed p) (values : Values) (limit : ℕ) wher
   pub some_way : (m : RunMeaning) × Runs p values limit m
   some_way =
       ⊎_elim
-      (λ (e : EndsWithin (network p values) limit). (Done _, done_run p values w (network p values) refl e.0 (ticks_of p values e.0) limit refl e.2 e.1))
+      (λ (e : EndsWithin (network p values) limit). (Done _, done_run p values w (network p values) refl e.0 (ticks_of p values e.0) limit refl e.1))
       (λ (o : StopsWithin (network p values) limit ⊎ GoesPast (network p values) limit).
       ⊎_elim
       (λ (s : StopsWithin (network p values) limit).
-      let t = some_list (network p values) net_ok s.0 s.1.ending p.streams.items 0 p.instances.items all_inside in
-      (Stopped _ t.0, stopped_run p values w (network p values) refl s.0 (ticks_of p values s.0) limit refl s.2 s.1 t.0 t.1))
+      let t = some_list (network p values) net_ok s.0 (record { reachable = s.1.greatest.reachable; over = s.1.over }) p.streams.items 0 p.instances.items all_inside in
+      (Stopped _ t.0, stopped_run p values w (network p values) refl s.0 (ticks_of p values s.0) limit refl s.1 t.0 t.1))
       (λ (g : GoesPast (network p values) limit). (Limit, g))
       o)
       (three_ways (network p values) net_ok limit)

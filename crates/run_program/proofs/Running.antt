@@ -1,16 +1,16 @@
 -- How a driven network's end is the program's.
-use Rattle.std.proofs.Common.{◌≡◌, ℕ, ◌<◌, ◌≤◌, List, [], ◌∷◌, ◌++◌, length, Some, refl, ◌∙◌, ap, subst, get_or, arith}
+use Rattle.std.proofs.Common.{◌≡◌, ℕ, ◌<◌, List, [], ◌∷◌, ◌++◌, length, Some, refl, ◌∙◌, ap, subst, get_or, arith}
 use Rattle.std.specs.Prelude.{slice_get}
 use Rattle.std.proofs.lemmas.Option.{slice_get-get_or, slice_get_within}
 use Rattle.tapa_syntax.specs.declared.program.Program.{Program}
 use Rattle.tapa_syntax.specs.declared.program.Stream.{Stream}
 use Rattle.tapa_syntax.specs.WellFormed.{IsWellFormed}
+use Rattle.kahn_model.specs.Ending.{GoesPast}
 use Rattle.kahn_model.specs.Network.{Network}
-use Rattle.kahn_model.specs.Counts.{total, IsEnding}
-use Rattle.kahn_model.specs.Outcome.{IsDone, IsStopped}
+use Rattle.kahn_model.specs.Outcome.{joined_ticks, IsDone, IsStopped}
 use Rattle.kahn_model.specs.ProgramNetwork.{end_of}
 use Rattle.kahn_model.specs.Start.{network_of}
-use Rattle.kahn_model.proofs.Reach.{whole}
+use Rattle.kahn_model.proofs.Shown.{shown_begins, shown_whole}
 use Rattle.kahn_model.proofs.WellFormed.{program_network}
 use Rattle.net_core.specs.declared.input.Input.{Input}
 use Rattle.net_core.specs.declared.net_state.NetState.{NetState}
@@ -21,8 +21,9 @@ use Rattle.net_core.specs.declared.outcome.Outcome.{Outcome}
 use Rattle.net_core.specs.declared.outcome.Outcome.TheVariants as outcome
 use Rattle.run_program.specs.Fresh.{IsFresh}
 use Rattle.run_data.specs.Report.{last_line}
+use Rattle.run_data.specs.declared.lines.Last.{Last}
 use Rattle.run_data.specs.declared.lines.Last.TheVariants.{Done, Stopped}
-use Rattle.run_program.specs.Run.{Values, values_of, network, ticks_of, lines_at, AreWaitLines, DoneRun, StoppedRun, LimitRun}
+use Rattle.run_program.specs.Run.{Values, values_of, network, ticks_of, report_of, AreWaitLines, DoneRun, StoppedRun, LimitRun}
 
 -- the net's network is the program's on its input
 pub network_is : (program : Program) (input : Input) (net : NetState) → net.program ≡ program → net.input ≡ input → state.network net ≡ network program (values_of input)
@@ -49,51 +50,52 @@ there : (xs : List Stream) (s : ℕ) → s < length xs → (r : Stream) × (slic
 there [] s h = absurd (omega arith)
 there (x ∷ xs) s h = (get_or (x ∷ xs) s x, slice_get-get_or (x ∷ xs) s x h)
 
-module _ (program : Program) (values : Values) (w : IsWellFormed program) (N : Network) (same : N ≡ network program values) (k : ℕ → ℕ) (t limit : ℕ) (ticks : t ≡ total N.size k) (few : t ≤ limit) where
+module _ (program : Program) (values : Values) (w : IsWellFormed program) (N : Network) (same : N ≡ network program values) (k : ℕ → ℕ) (t limit : ℕ) (ticks : t ≡ joined_ticks N k) where
   t_is : t ≡ ticks_of program values k
-  t_is = ticks ∙ ap (λ (M : Network). total M.size k) same
+  t_is = ticks ∙ ap (λ (M : Network). joined_ticks M k) same
 
-  within : ticks_of program values k ≤ limit
-  within = subst (λ (n : ℕ). n ≤ limit) t_is few
+  -- the report whose last line tells these ticks
+  told : (last : ℕ → Last) → report_of program values k (last t) ≡ report_of program values k (last (ticks_of program values k))
+  told last = ap (λ (n : ℕ). report_of program values k (last n)) t_is
 
-  pub done_run : IsDone N k → DoneRun program values limit (lines_at program values k ++ last_line (Done t))
+  pub done_run : IsDone N limit k → DoneRun program values limit (report_of program values k (Done t))
   done_run d =
-      let done : IsDone (network program values) k = subst (λ (M : Network). IsDone M k) same d in
+      let done : IsDone (network program values) limit k = subst (λ (M : Network). IsDone M limit k) same d in
+      let ok = program_network program w values.scalars values.memories in
       record {
         count = k;
         done = done;
-        within = within;
-        whole = λ s h.
+        front = λ s h. shown_begins (network program values) ok k done.greatest.reachable s;
+        whole = λ s h joined.
             let r = there program.streams.items s h in
-            whole (network program values) (program_network program w values.scalars values.memories) k s (done.ended ((network program values).producer s) (producer_inside program values w s r.0 r.1));
-        shown = ap (λ (n : ℕ). lines_at program values k ++ last_line (Done n)) t_is;
+            shown_whole (network program values) ok k done.ended s (producer_inside program values w s r.0 r.1) joined;
+        shown = told Done;
       }
 
-  pub stopped_run : IsStopped N k → (lines : List (List ℕ)) → AreWaitLines N k program.streams.items 0 program.instances.items lines → StoppedRun program values limit (lines_at program values k ++ last_line (Stopped t)) lines
+  pub stopped_run : IsStopped N limit k → (lines : List (List ℕ)) → AreWaitLines N k program.streams.items 0 program.instances.items lines → StoppedRun program values limit (report_of program values k (Stopped t)) lines
   stopped_run d lines waits = record {
     count = k;
-    stopped = subst (λ (M : Network). IsStopped M k) same d;
-    within = within;
-    shown = ap (λ (n : ℕ). lines_at program values k ++ last_line (Stopped n)) t_is;
+    stopped = subst (λ (M : Network). IsStopped M limit k) same d;
+    shown = told Stopped;
     waits = subst (λ (M : Network). AreWaitLines M k program.streams.items 0 program.instances.items lines) same waits;
   }
 
-pub limit_run : (program : Program) (values : Values) (N : Network) → N ≡ network program values → (limit : ℕ) → ((m : ℕ → ℕ) → IsEnding N m → limit < total N.size m) → LimitRun program values limit
-limit_run program values N same limit h = subst (λ (M : Network). (m : ℕ → ℕ) → IsEnding M m → limit < total M.size m) same h
+pub limit_run : (program : Program) (values : Values) (N : Network) → N ≡ network program values → (limit : ℕ) → GoesPast N limit → LimitRun program values limit
+limit_run program values N same limit h = subst (λ (M : Network). GoesPast M limit) same h
 
 module _ (program : Program) (input : Input) (old new : NetState) (limit : ℕ) (o : Outcome) (fresh : IsFresh program input old) (p : new.program ≡ old.program) (n : new.input ≡ old.input) where
   same_network : state.network new ≡ network program (values_of input)
   same_network = network_is program input new (p ∙ fresh.program_is) (n ∙ fresh.input_is)
 
-  pub done_report : (t : ℕ) → EndsAs new limit o → o ≡ outcome.Done t → DoneRun program (values_of input) limit (lines_at program (values_of input) (state.count new) ++ last_line (Done t))
+  pub done_report : (t : ℕ) → EndsAs new limit o → o ≡ outcome.Done t → DoneRun program (values_of input) limit (report_of program (values_of input) (state.count new) (Done t))
   done_report t ends is =
       let e : EndsAs new limit (outcome.Done t) = subst (λ (x : Outcome). EndsAs new limit x) is ends in
-      done_run program (values_of input) fresh.well_formed (state.network new) same_network (state.count new) t limit e.1 e.2 e.0
+      done_run program (values_of input) fresh.well_formed (state.network new) same_network (state.count new) t limit e.1 e.0
 
-  pub stopped_report : (t : ℕ) → EndsAs new limit o → o ≡ outcome.Stopped t → (lines : List (List ℕ)) → AreWaitLines (state.network new) (state.count new) program.streams.items 0 program.instances.items lines → StoppedRun program (values_of input) limit (lines_at program (values_of input) (state.count new) ++ last_line (Stopped t)) lines
+  pub stopped_report : (t : ℕ) → EndsAs new limit o → o ≡ outcome.Stopped t → (lines : List (List ℕ)) → AreWaitLines (state.network new) (state.count new) program.streams.items 0 program.instances.items lines → StoppedRun program (values_of input) limit (report_of program (values_of input) (state.count new) (Stopped t)) lines
   stopped_report t ends is lines waits =
       let e : EndsAs new limit (outcome.Stopped t) = subst (λ (x : Outcome). EndsAs new limit x) is ends in
-      stopped_run program (values_of input) fresh.well_formed (state.network new) same_network (state.count new) t limit e.1 e.2 e.0 lines waits
+      stopped_run program (values_of input) fresh.well_formed (state.network new) same_network (state.count new) t limit e.1 e.0 lines waits
 
   pub limit_past : EndsAs new limit o → o ≡ outcome.Limit → LimitRun program (values_of input) limit
   limit_past ends is = limit_run program (values_of input) (state.network new) same_network limit (subst (λ (x : Outcome). EndsAs new limit x) is ends)

@@ -5,8 +5,8 @@ use Rattle.tapa_syntax.specs.Flat.{flat_program}
 use Rattle.tapa_syntax.specs.WellFormed.{IsWellFormed}
 use Rattle.run_program.specs.Run.{Values, DoneRun, StoppedRun, LimitRun}
 
--- how a run goes: it ends with this report; it stops with this report, where each line tells what an instance waits for; or
--- it makes more ticks than it may, or never ends
+-- how a run goes: its joined instances end, with this report; it stops with this report, where each line tells what an
+-- instance waits for; or they make more ticks than they may, or never end
 pub data RunMeaning : Type 0 where
   Done : (report : List ℕ) → RunMeaning
   Stopped : (report : List ℕ) (lines : List (List ℕ)) → RunMeaning

@@ -1,21 +1,23 @@
--- The run of a flat program on an input at its declared depths: how it ends, what its report is, and what a stopped one
--- waits for.
-use Rattle.std.specs.Prelude.{◌≡◌, ◌⊎◌, ℕ, suc, ◌<◌, ◌≤◌, List, [], ◌∷◌, ◌++◌, length, codes, option_map, unwrap_or, slice_get, Some}
+-- The run of a flat program on an input at its declared depths, within a limit on ticks: how it ends, what its report is, and
+-- what a stopped one waits for.
+use Rattle.std.specs.Prelude.{◌≡◌, ◌⊎◌, ℕ, suc, ◌<◌, List, [], ◌∷◌, ◌++◌, length, codes, option_map, unwrap_or, slice_get, Some}
 use Rattle.tapa_base.specs.declared.token.Token.{Token}
 use Rattle.tapa_syntax.specs.declared.program.Instance.{Instance}
 use Rattle.tapa_syntax.specs.declared.program.Memory.{Memory}
 use Rattle.tapa_syntax.specs.declared.program.Program.{Program}
 use Rattle.tapa_syntax.specs.declared.program.Stream.{Stream}
 use Rattle.kahn_model.specs.Network.{Network}
-use Rattle.kahn_model.specs.Counts.{total, written, IsEnding, HasEnded, IsKahnStream}
-use Rattle.kahn_model.specs.Outcome.{IsDone, IsStopped, WaitsToRead, WaitsToWrite, HasBadToken}
+use Rattle.kahn_model.specs.Counts.{written, HasEnded, IsKahnPrefix, IsKahnStream}
+use Rattle.kahn_model.specs.Ending.{GoesPast}
+use Rattle.kahn_model.specs.Outcome as outcome
+use Rattle.kahn_model.specs.Outcome.{IsJoined, joined_ticks, IsDone, IsStopped, WaitsToRead, WaitsToWrite, HasBadToken}
 use Rattle.kahn_model.specs.Start.{network_of}
 use Rattle.kahn_model.specs.Cells.{cells_at}
 use Rattle.net_core.specs.declared.input.Input.{Input}
 use Rattle.net_core.specs.Bounded.{scalars_of, memories_of}
 use Rattle.run_data.specs.Report.{stream_line, memory_line, last_line}
 use Rattle.run_data.specs.declared.lines.Last.{Last}
-use Rattle.run_data.specs.declared.lines.Last.TheVariants.{Done, Stopped}
+use Rattle.run_data.specs.declared.lines.Last.TheVariants.{Done, Stopped, Running}
 
 -- what a program runs on: the values of the top task's scalars, and the first cells of its memories, in their order
 pub record Values : Type 0 where
@@ -29,9 +31,9 @@ values_of input = record { scalars = scalars_of input; memories = memories_of in
 abbrev pub network : Program → Values → Network
 network program values = network_of program values.scalars values.memories
 
--- the ticks of all instances
+-- the ticks of the joined instances
 abbrev pub ticks_of : Program → Values → (ℕ → ℕ) → ℕ
-ticks_of program values k = total (network program values).size k
+ticks_of program values k = joined_ticks (network program values) k
 
 -- no position is bound to this memory
 abbrev pub IsNotBound : List ℕ → ℕ → Type 0
@@ -44,7 +46,14 @@ abbrev pub lines_from : {A : Type 0} → (A → ℕ → List ℕ) → ℕ → Li
 lines_from line n [] = []
 lines_from line n (x ∷ rest) = line x n ++ lines_from line (suc n) rest
 
--- the lines of the streams from number s on, with what was written to each
+-- what a report with this last line shows of stream s: what was written where the run stopped; where it is done, what was
+-- written by a producer that is joined, else what was taken by a consumer that is, else nothing
+abbrev pub tokens_at : Network → (ℕ → ℕ) → Last → ℕ → List Token
+tokens_at net k (Done t) s = outcome.shown net k s
+tokens_at net k (Stopped t) s = written net k s
+tokens_at net k (Running t) s = written net k s
+
+-- the lines of the streams from number s on, with the tokens of each
 abbrev pub stream_lines : (ℕ → List Token) → ℕ → List Stream → List ℕ
 stream_lines tokens s streams = lines_from (λ (r : Stream) n. stream_line r.label (tokens n)) s streams
 
@@ -53,13 +62,13 @@ abbrev pub memory_lines : (ℕ → List ℕ) → ℕ → List Memory → List �
 memory_lines cells m memories = lines_from (λ (r : Memory) n. memory_line r.name (cells n)) m memories
 
 -- the lines of the streams and the memories at a count
-abbrev pub lines_at : Program → Values → (ℕ → ℕ) → List ℕ
-lines_at program values k =
-    stream_lines (written (network program values) k) 0 program.streams.items ++ memory_lines (cells_at program values.scalars values.memories k) 0 program.memories.items
+abbrev pub lines_at : Program → Values → (ℕ → ℕ) → Last → List ℕ
+lines_at program values k last =
+    stream_lines (tokens_at (network program values) k last) 0 program.streams.items ++ memory_lines (cells_at program values.scalars values.memories k) 0 program.memories.items
 
 -- the report at a count
 abbrev pub report_of : Program → Values → (ℕ → ℕ) → Last → List ℕ
-report_of program values k last = lines_at program values k ++ last_line last
+report_of program values k last = lines_at program values k last ++ last_line last
 
 -- ---- what an instance waits for
 
@@ -94,24 +103,23 @@ AreWaitLines net k streams i (x ∷ rest) lines =
 
 -- ---- how a run ends
 
--- every instance ends, after at most so many ticks in all; the report shows all of each Kahn stream, and the last cells of
--- each memory
+-- every joined instance ends, after at most so many ticks of them all; the report shows of each stream a front of its Kahn
+-- stream, all of it where its producer is joined, and the last cells of each memory
 pub record DoneRun (program : Program) (values : Values) (limit : ℕ) (report : List ℕ) : Type 0 where
   pub count : ℕ → ℕ
-  pub done : IsDone (network program values) count
-  pub within : ticks_of program values count ≤ limit
-  pub whole : (s : ℕ) → s < length program.streams.items → IsKahnStream (network program values) s (written (network program values) count s)
+  pub done : IsDone (network program values) limit count
+  pub front : (s : ℕ) → s < length program.streams.items → IsKahnPrefix (network program values) s (outcome.shown (network program values) count s)
+  pub whole : (s : ℕ) → s < length program.streams.items → IsJoined (network program values) ((network program values).producer s) → IsKahnStream (network program values) s (outcome.shown (network program values) count s)
   pub shown : report ≡ report_of program values count (Done (ticks_of program values count))
 
--- no step is allowed and some instance has not ended, after at most so many ticks in all; the report shows what was
--- written, and the lines tell what each such instance waits for
+-- no step is allowed and some joined instance has not ended, after at most so many ticks of them all; the report shows what
+-- was written, and the lines tell what each instance that has not ended waits for
 pub record StoppedRun (program : Program) (values : Values) (limit : ℕ) (report : List ℕ) (lines : List (List ℕ)) : Type 0 where
   pub count : ℕ → ℕ
-  pub stopped : IsStopped (network program values) count
-  pub within : ticks_of program values count ≤ limit
+  pub stopped : IsStopped (network program values) limit count
   pub shown : report ≡ report_of program values count (Stopped (ticks_of program values count))
   pub waits : AreWaitLines (network program values) count program.streams.items 0 program.instances.items lines
 
--- the run makes more ticks than so many, or never ends
+-- the run does neither where no instance makes more than so many ticks: the joined instances make more in all, or never end
 abbrev pub LimitRun : Program → Values → ℕ → Type 0
-LimitRun program values limit = (k : ℕ → ℕ) → IsEnding (network program values) k → limit < ticks_of program values k
+LimitRun program values limit = GoesPast (network program values) limit

@@ -23,11 +23,11 @@ use tapa_syntax::Program;
 /// How a run ended.
 #[derive(Drop)]
 pub enum RunEnd {
-    /// Every instance has ended, and the report is written.
+    /// Every joined instance has ended, and the report is written.
     Done,
     /// Nothing may step; the report is written, and each line tells what an instance waits for.
     Stopped { lines: Vec<Vec<u8>> },
-    /// The run makes more ticks than its limit, or never ends; nothing is written.
+    /// The joined instances make more ticks than the limit, or never end; nothing is written.
     Limit,
 }
 
@@ -75,9 +75,9 @@ fn drive<O: Sink>(
     }
 }
 
-/// Runs a program on an input on one thread at its declared depths, for at most `limit` ticks, and writes the report: what
-/// each stream carried, the last cells of each memory, and the ticks of all instances. After an error the output holds
-/// what it held and a front part of the report.
+/// Runs a program on an input on one thread at its declared depths, and writes the report: what each stream carried, the last
+/// cells of each memory, and the ticks of the joined instances. All joined instances together make at most `limit` ticks, and
+/// each detached one as many of its own. After an error the output holds what it held and a front part of the report.
 pub fn run_program<O: Sink>(
     alloc: Global,
     program: Program,

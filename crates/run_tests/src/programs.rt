@@ -113,3 +113,11 @@ pub const NO_TRANSACTION: &str = "void P(tapa::ostream<int>& q) { q << 1; q << 2
 void C(tapa::istream<int>& q) { q.read(); q.open(); q.read(); }
 void T() { tapa::stream<int, 1> q; tapa::task().invoke(P, q).invoke(C, q); }
 ";
+
+// A task that is not waited for: it answers as often as it is asked.
+pub const SERVER: &str = "void P(tapa::ostream<int>& q) { for (int i = 0; i < 2; ++i) q << i; }
+void F(tapa::istream<int>& q, tapa::ostream<int>& r) { while (true) r << q.read() + 1; }
+void C(tapa::istream<int>& r) { r.read(); r.read(); }
+void T() { tapa::stream<int> q; tapa::stream<int> r;
+  tapa::task().invoke(P, q).invoke<tapa::detach>(F, q, r).invoke(C, r); }
+";

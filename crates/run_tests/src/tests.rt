@@ -3,7 +3,8 @@ ghost use Rattle.std.specs.Prelude.{◌≤◌, length};
 use crate::probes::{OPERATORS, STATEMENTS};
 use crate::programs::{
     BAD_TOKEN, CROSSING_ENDS, CROSSING_STOPS, FEEDBACK, GIVEN_NUMBERS, LEVELS, LOOKS_FOR_EOT, MIX,
-    NESTED_TRANSACTIONS, NO_TRANSACTION, PATH, PEEKS, RING, SELF_LOOP, STARVED, TRANSACTIONS,
+    NESTED_TRANSACTIONS, NO_TRANSACTION, PATH, PEEKS, RING, SELF_LOOP, SERVER, STARVED,
+    TRANSACTIONS,
 };
 use kahn_reference::rounds::streams;
 use kahn_reference::slow::{Variables, trace};
@@ -45,11 +46,14 @@ fn first_state(alloc: Global, leaf: &Leaf, instance: &Instance) -> Result<Variab
     })
 }
 
-// The ticks that all instances make on these tokens.
+// The ticks that all joined instances make on these tokens.
 fn ticks_in_all(alloc: Global, program: &Program, lists: &[Vec<Token>]) -> Result<u64, Fail> {
     let mut total: u64 = 0;
     for instance in &program.instances {
-        if let Some(leaf) = program.bodies.get(instance.body as usize) {
+        if let (Some(leaf), false) = (
+            program.bodies.get(instance.body as usize),
+            instance.detached,
+        ) {
             let state = first_state(alloc, leaf, instance)?;
             let (ticks, _trace_end) = trace(alloc, leaf, &instance.streams, state, ROUNDS, lists)?;
             total = total.saturating_add(ticks.len() as u64);
@@ -137,6 +141,7 @@ fn ended_runs_are_the_rounds(rt: HostRuntime) -> Result<(), Fail> {
         SELF_LOOP,
         GIVEN_NUMBERS,
         LEVELS,
+        SERVER,
     ] {
         let slow = slow_report(alloc, text)?;
         let (ended, out) = run_report(alloc, text)?;

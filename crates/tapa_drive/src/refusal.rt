@@ -39,7 +39,7 @@ pub(crate) enum Refusal<'a> {
         file: &'a str,
         fault: DataFault,
     },
-    /// The run makes more ticks than this, or never ends.
+    /// The joined instances make more ticks than this, or never end.
     Ticks {
         limit: u64,
     },

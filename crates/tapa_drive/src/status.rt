@@ -18,9 +18,9 @@ pub enum Status {
     Read,
     /// Standard output or standard error could not be written to.
     Write,
-    /// A limit is passed: of a file's length, or of a run's ticks.
+    /// A limit is passed: of a file's length, or of the ticks of a run's joined instances.
     Limit,
-    /// The program stopped at its declared depths before every instance had ended.
+    /// The program stopped at its declared depths before every joined instance had ended.
     Stopped,
     /// Memory was wanting.
     Memory,

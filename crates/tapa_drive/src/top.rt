@@ -113,8 +113,8 @@ pub fn tapa<S: Shelf, O: Sink, E: Sink>(
     out: &mut O,
     err: &mut E,
 ) -> Status
-    // Done work: every instance of the source's program has ended on its data, and the report of the whole Kahn streams and
-    // the last cells is written; or the lines of a plan of the source's program on the device are. Each other status tells a
+    // Done work: every joined instance of the source's program has ended on its data, and the report of its streams, whole Kahn
+    // streams where their producers are joined, and of the last cells is written; or the lines of a plan of the source's program on the device are. Each other status tells a
     // refusal, which has its cause and leaves the output so. No other file is read than the source and, where it has a
     // program, the data or the device file.
     ensures answer { IsAnswer (texts words.now) (outside (S.files shelf.old) (S.faults shelf.old) (written (O.contents out.old) (O.faults out.old)) (written (E.contents err.old) (E.faults err.old)))

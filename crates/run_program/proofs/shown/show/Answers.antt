@@ -5,7 +5,6 @@ use Rattle.std.proofs.lemmas.List.{append-nil}
 use Rattle.tapa_base.proofs.Known.{part_of_next, appends_none, appends_both}
 use Rattle.tapa_syntax.specs.declared.program.Program.{Program}
 use Rattle.kahn_model.specs.Cells.{cells_at}
-use Rattle.kahn_model.specs.Counts.{written}
 use Rattle.kahn_model.specs.Network.{Network}
 use Rattle.net_core.specs.Bounded.{scalars_of, memories_of}
 use Rattle.net_core.specs.declared.input.Input.{Input}
@@ -13,7 +12,7 @@ use Rattle.net_core.specs.declared.net_state.NetState.{NetState}
 use Rattle.net_core.specs.State as state
 use Rattle.run_data.specs.Report.{last_line}
 use Rattle.run_data.specs.declared.lines.Last.{Last}
-use Rattle.run_program.specs.Run.{values_of, stream_lines, memory_lines, lines_at}
+use Rattle.run_program.specs.Run.{values_of, tokens_at, stream_lines, memory_lines, lines_at}
 use Rattle.run_program.proofs.Lines.{on_err, map_on_err}
 use Rattle.run_program.proofs.Running.{network_is}
 use Rattle.run_program.proofs.shown.show.Goals as goal
@@ -24,16 +23,16 @@ map_on_ok (Err e) f p = p
 
 module _ (program : Program) (input : Input) (net : NetState) (p : program ≡ net.program) (n : input ≡ net.input) (last : Last) where
   abbrev streams : List ℕ
-  streams = stream_lines (written (state.network net) (state.count net)) 0 program.streams.items
+  streams = stream_lines (tokens_at (state.network net) (state.count net) last) 0 program.streams.items
 
   abbrev memories : List ℕ
   memories = memory_lines (cells_at program (scalars_of input) (memories_of input) (state.count net)) 0 program.memories.items
 
   abbrev report : List ℕ
-  report = lines_at program (values_of input) (state.count net) ++ last_line last
+  report = lines_at program (values_of input) (state.count net) last ++ last_line last
 
-  lines_are : lines_at program (values_of input) (state.count net) ≡ streams ++ memories
-  lines_are = ap (λ (N : Network). stream_lines (written N (state.count net)) 0 program.streams.items ++ memories) (sym (network_is program input net (sym p) (sym n)))
+  lines_are : lines_at program (values_of input) (state.count net) last ≡ streams ++ memories
+  lines_are = ap (λ (N : Network). stream_lines (tokens_at N (state.count net) last) 0 program.streams.items ++ memories) (sym (network_is program input net (sym p) (sym n)))
 
   -- the report is the lines of the streams, those of the memories, and the last
   two_parts : report ≡ (streams ++ memories) ++ last_line last
