@@ -9,3 +9,4 @@ pub mod Names
 pub mod Parts
 pub mod Read
 pub mod Spelled
+pub mod Writers

@@ -2,3 +2,4 @@ pub mod Labels
 pub mod Named
 pub mod Owned
 pub mod Told
+pub mod Writers

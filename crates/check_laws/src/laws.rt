@@ -8,6 +8,7 @@ ghost use Rattle.tapa_syntax.specs.Trees.{ItemTree};
 ghost use Rattle.stream_check.specs.Programs.{program_faults, program_of};
 ghost use Rattle.check_laws.specs.Labels.{HasOwnLabels};
 ghost use Rattle.check_laws.specs.Told.{IsLegal, IsRefusedSomehow};
+ghost use Rattle.check_laws.specs.Writers.{HasJoinedWriters};
 
 /// Every text, with every name of a top task, is a legal source or is refused by one of the rules, and no text is both: the
 /// definitions leave no gap between them.
@@ -22,4 +23,10 @@ pub fn law_every_source_is_legal_or_refused()
 pub fn law_labels_tell_parts_apart()
     ensures { (text : List ℕ) (lexemes : List Lexeme) (items : List ItemTree) (top : List ℕ)
         → HasLexemes text lexemes → IsTreeOf (symbols_of text lexemes) items → program_faults items top ≡ [] → HasOwnLabels (program_of items top) }
+{}
+
+/// In the program of each source that breaks no rule the instance of a memory that may be written is waited for, so that its
+/// cells are its last ones where the joined instances have ended.
+pub fn law_writers_are_joined()
+    ensures { (items : List ItemTree) (top : List ℕ) → program_faults items top ≡ [] → HasJoinedWriters (program_of items top) }
 {}
