@@ -1,10 +1,10 @@
 -- Where every instance is joined, the one count that allows no step tells the outcome.
-use Rattle.std.proofs.Common.{◌≡◌, ◌⊎◌, ◌<◌, ◌≤◌, ℕ, suc, sym, ⊎_elim, arith}
+use Rattle.std.proofs.Common.{◌⊎◌, ◌<◌, ◌≤◌, ℕ, ⊎_elim, arith}
 use Rattle.std.proofs.lemmas.Bool.{cases_lt}
 use Rattle.kahn_model.specs.Network.{Network, IsNetwork}
 use Rattle.kahn_model.specs.Counts.{total, with_tick_of, IsEnding}
-use Rattle.kahn_model.specs.Outcome.{IsGreatest, joined_ticks, HaveJoinedEnded, IsDone, IsStopped, GoesOn, IsPast}
-use Rattle.kahn_model.specs.Ending.{EndsWithin, StopsWithin, GoesPast, IsLeastToEnd, AreAllJoined, IsAllOver, IsDeadlock, IsToldByItsEnd}
+use Rattle.kahn_model.specs.Outcome.{IsGreatest, joined_ticks, IsDone, IsStopped, GoesOn}
+use Rattle.kahn_model.specs.Ending.{EndsWithin, StopsWithin, GoesPast, AreAllJoined, IsAllOver, IsDeadlock, IsToldByItsEnd}
 use Rattle.kahn_model.proofs.Count.{total_grows, total_bump, bump_same, reach_below}
 use Rattle.kahn_model.proofs.Reach.{total_has}
 use Rattle.kahn_model.proofs.Ends.{reach_push, bump_capped}

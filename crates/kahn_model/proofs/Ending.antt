@@ -66,7 +66,7 @@ here_left net k n j d = (n, omega arith, j, d)
 
 more_ended : (net : Network) (k : ℕ → ℕ) (n : ℕ) → (IsJoined net n → HasEnded net k n) → HaveEndedIn net k n → HaveEndedIn net k (suc n)
 unfolding HaveEndedIn
-more_ended net k n h all i l j =
+more_ended net k n h all = λ i l j.
     ⊎_elim
     (λ (s : i < n). all i s j)
     (λ (b : n ≤ i). let same : n ≡ i = omega arith in subst (HasEnded net k) same (h (subst (IsJoined net) (sym same) j)))
@@ -74,7 +74,7 @@ more_ended net k n h all i l j =
 
 none_ended : (net : Network) (k : ℕ → ℕ) → HaveEndedIn net k 0
 unfolding HaveEndedIn
-none_ended net k i l j = absurd (omega arith)
+none_ended net k = λ i l j. absurd (omega arith)
 
 left_or_ended : (net : Network) (k : ℕ → ℕ) (n : ℕ) → JoinedLeftIn net k n ⊎ HaveEndedIn net k n
 left_or_ended net k zero = inr (none_ended net k)

@@ -111,7 +111,7 @@ module _ (net : Network) where
       let l = low f.count f.reachable f.ended in
       let u = f.few in
       (n, record { count = f.count; reachable = f.reachable; ended = f.ended; sum = omega arith; least = low }))
-      (λ (b : IsBarren net n zeros). least_from fuel (suc n) (λ x rx hx. past_barren n b x rx hx) m r h (omega arith))
+      (λ (b : IsBarren net n zeros). least_from fuel (suc n) (λ x rx hx. let p = past_barren n b x rx hx in omega arith) m r h (omega arith))
       (search_from n n zeros start (omega arith))
 
 pub least_to_end : (net : Network) → IsNetwork net → (n : ℕ) (k : ℕ → ℕ) → IsDone net n k → (a : ℕ) × IsLeastToEnd net a

@@ -3,8 +3,8 @@ use Rattle.std.proofs.Common.{◌≡◌, ℕ, ◌<◌, ◌≤◌, List, [], Bool
 use Rattle.std.specs.Prelude.{flat_map, if◌then◌else◌}
 use Rattle.tapa_base.specs.declared.token.Token.{Token}
 use Rattle.kahn_model.specs.Network.{Network, IsNetwork, put_on, take_from, stream}
-use Rattle.kahn_model.specs.Counts.{round_of, written, taken, IsReachable, IsKahnPrefix, IsKahnStream}
-use Rattle.kahn_model.specs.Outcome.{IsJoined, joined_ticks, HaveJoinedEnded, IsDone, shown}
+use Rattle.kahn_model.specs.Counts.{written, taken, IsReachable, IsKahnPrefix, IsKahnStream}
+use Rattle.kahn_model.specs.Outcome.{IsJoined, HaveJoinedEnded, IsDone, shown}
 use Rattle.kahn_model.specs.Ending.{ShowAlike}
 use Rattle.kahn_model.proofs.Order.{prefix_trans}
 use Rattle.kahn_model.proofs.Reach.{reach_founded, is_kahn, whole}

@@ -13,13 +13,13 @@ use Rattle.kahn_model.specs.declared.tick.TraceEnd.{TraceEnd}
 use Rattle.kahn_model.specs.declared.tick.TraceEnd.TheVariants.{Ended, Needs, Bad}
 use Rattle.kahn_model.specs.Prefix.{IsPrefixOf}
 use Rattle.kahn_model.specs.Behavior.{Behavior, Finished, OutOfTurns, Act, Await, ticks, trace_end, Extends}
-use Rattle.kahn_model.specs.Network.{Network, IsNetwork, put_on, take_from, round}
+use Rattle.kahn_model.specs.Network.{Network, IsNetwork, put_on, take_from}
 use Rattle.kahn_model.specs.Counts.{round_of, ticks_made, written, taken, IsAllowed, IsReachable, IsFounded}
-use Rattle.kahn_model.proofs.Order.{prefix_refl, prefix_trans, prefix_flat_map, prefix_take, take_prefix, prefix_length, prefix_get, prefix_whole}
+use Rattle.kahn_model.proofs.Order.{prefix_refl, prefix_trans, prefix_flat_map, prefix_take, prefix_length, prefix_get, prefix_whole}
 use Rattle.kahn_model.proofs.Grow.{ticks_grow}
 use Rattle.kahn_model.proofs.Count.{IsBelow, own_ticks, made_le, taken_le}
-use Rattle.kahn_model.proofs.Reach.{reach_founded, full, all_made}
-use Rattle.kahn_model.proofs.Local.{here, here_all, here_prefix}
+use Rattle.kahn_model.proofs.Reach.{reach_founded, full}
+use Rattle.kahn_model.proofs.Local.{here_all}
 use Rattle.kahn_model.proofs.Taken.{takes_begin, made_here, taken_begins}
 use Rattle.net_core.specs.declared.ports.Ports.{Ports}
 use Rattle.net_core.specs.declared.body.Pause.{Pause}

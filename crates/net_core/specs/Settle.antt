@@ -62,7 +62,7 @@ pub record IsLimited (net : NetState) (left : ℕ) : Type 0 where
   pub allowed : IsAllowed (network net) (count net) instance
 
 -- how many more ticks the instances may make, each within the budget
-abbrev pub ticks_ahead : NetState → ℕ → ℕ
+unfoldable pub ticks_ahead : NetState → ℕ → ℕ
 ticks_ahead net budget = (network net).size * budget - total_ticks net
 
 -- what a visit of instance i leaves: each other one is at rest as before, or on the list
