@@ -7,9 +7,11 @@ use Rattle.std.proofs.lemmas.Bool.Decides.{nat_tests}
 use Rattle.kahn_model.specs.Behavior.{Local, Put, Load, Store, Tick, Did, Take, See, End}
 use Rattle.kahn_model.specs.Network.{Network, IsNetwork}
 use Rattle.kahn_model.specs.Counts.{total, round_of, ticks_made, written, taken, HasToken, HasRoom, IsAllowed, with_tick_of, after, AreAllowed, zeros, IsReachable, HasEnded}
+use Rattle.kahn_model.specs.Outcome.{HaveJoinedEnded}
+use Rattle.kahn_model.specs.Ending.{IsLeastToEnd}
 use Rattle.kahn_model.specs.Timed.{Clock, ago, tick_moves, next_moves, moves, past_of, count_at, lost, IsClock}
-use Rattle.kahn_model.proofs.Order.{prefix_get}
-use Rattle.kahn_model.proofs.Count.{IsBelow, OwnTick, own_round, made_le, made_same, next_same, step_stays, written_le, taken_le, written_same, taken_same, bump_same, bump_other, total_bump}
+use Rattle.kahn_model.proofs.Count.{IsBelow, OwnTick, own_round, made_same, next_same, step_stays, written_le, taken_le, written_same, taken_same, bump_same, bump_other, total_bump}
+use Rattle.kahn_model.proofs.Ended.{ended_later}
 use Rattle.kahn_model.proofs.Clocked.{count_le, count_up, past_below, past_above}
 
 and_true : (a b : Bool) → a ≡ true → b ≡ true → (a && b) ≡ true
@@ -170,10 +172,7 @@ module _ (net : Network) (ok : IsNetwork net) (clock : Clock) (top : ℕ) (ready
   total_zeros zero = refl
   total_zeros (suc n) = let h = total_zeros n in omega arith
 
-  ended_later : (k m : ℕ → ℕ) → IsBelow k m → (i : ℕ) → HasEnded net k i → HasEnded net m i
-  ended_later k m h i (j, e) = (j, prefix_get _ _ j End (made_le net ok k m h i) e)
-
-  -- every instance has ended in a cycle that is not late
+  -- what has ended has ended in a cycle that is not late
   pub done_in_time : (k : ℕ → ℕ) → IsReachable net k → (n : ℕ) × (1 ≤ n) × (n ≤ 1 + total net.size k * suc top + waits) × ((i : ℕ) → HasEnded net k i → HasEnded net (count_at net clock n) i)
   done_in_time k r =
       let same : after r.steps zeros ≡ k = sym (fun_ext r.is_after) in
@@ -185,4 +184,10 @@ module _ (net : Network) (ok : IsNetwork net) (clock : Clock) (top : ℕ) (ready
       let t : total net.size (after r.steps zeros) * suc top ≡ total net.size k * suc top = ap (λ (x : ℕ → ℕ). total net.size x * suc top) same in
       let few = is_clock.few p.at in
       let below : IsBelow k (count_at net clock p.at) = subst (λ x. IsBelow x (count_at net clock p.at)) same p.reached in
-      (p.at, omega arith, omega arith, λ i e. ended_later k (count_at net clock p.at) below i e)
+      (p.at, omega arith, omega arith, λ i e. ended_later net ok k (count_at net clock p.at) below i e)
+
+  -- so have all joined instances
+  pub joined_in_time : (a : ℕ) → IsLeastToEnd net a → (n : ℕ) × (1 ≤ n) × (n ≤ 1 + a * suc top + waits) × HaveJoinedEnded net (count_at net clock n)
+  joined_in_time a l =
+      let d = done_in_time l.count l.reachable in
+      (d.0, d.1, subst (λ (x : ℕ). d.0 ≤ 1 + x * suc top + waits) l.sum d.2, λ i inside j. d.3 i (l.ended i inside j))

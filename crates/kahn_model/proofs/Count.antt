@@ -178,7 +178,7 @@ below_end net ok m over [] k h a = h
 below_end net ok m over (i ∷ steps) k h (a, rest) =
     below_end net ok m over steps (with_tick_of i k) (bump_below k m i h (λ e. over i (step_stays net ok k m h i e a))) rest
 
-reach_below : (net : Network) → IsNetwork net → (k m : ℕ → ℕ) → IsReachable net k → IsEnding net m → IsBelow k m
+pub reach_below : (net : Network) → IsNetwork net → (k m : ℕ → ℕ) → IsReachable net k → IsEnding net m → IsBelow k m
 reach_below net ok k m r e i =
     let b = below_end net ok m e.over r.steps zeros (λ j. omega arith) r.allowed i in
     let c = r.is_after i in

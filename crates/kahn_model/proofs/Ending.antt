@@ -1,15 +1,14 @@
--- Within a number of ticks a network ends, stops, or goes past it.
-use Rattle.std.proofs.Common.{◌≡◌, ◌⊎◌, ◌<◌, ◌≤◌, ◌+◌, ℕ, zero, suc, List, [], ◌∷◌, Some, inl, inr, refl, sym, ap, subst, ⊎_elim, arith}
+-- Within every bound a network ends, stops or goes past it, and does one of these alone.
+use Rattle.std.proofs.Common.{◌≡◌, ◌⊎◌, ◌<◌, ◌≤◌, ℕ, zero, suc, List, [], ◌∷◌, Bool, true, false, Some, inl, inr, refl, sym, ap, subst, ⊎_elim, arith}
 use Rattle.std.specs.Prelude.{slice_get}
 use Rattle.std.proofs.lemmas.Bool.{cases_lt}
 use Rattle.std.proofs.Math.Path.{fun_ext}
 use Rattle.kahn_model.specs.Behavior.{Tick, Did, Take, See, End}
 use Rattle.kahn_model.specs.Network.{Network, IsNetwork}
-use Rattle.kahn_model.specs.Counts.{total, ticks_made, zeros, after, with_tick_of, HasEnded, IsAllowed, IsReachable, IsEnding}
-use Rattle.kahn_model.specs.Ending.{EndsWithin, StopsWithin, GoesPast}
-use Rattle.kahn_model.proofs.Count.{total_grows, total_bump, below_end}
-use Rattle.kahn_model.proofs.Reach.{total_has}
-use Rattle.kahn_model.proofs.Ends.{Step, find_step, reach_push}
+use Rattle.kahn_model.specs.Counts.{ticks_made, HasEnded, IsAllowed}
+use Rattle.kahn_model.specs.Outcome.{IsGreatest, IsJoined, joined_ticks, HaveJoinedEnded, HasJoinedLeft, IsDone, IsStopped, GoesOn, IsPast}
+use Rattle.kahn_model.specs.Ending.{EndsWithin, StopsWithin, GoesPast, Way, done, stopped, past, RunsSo}
+use Rattle.kahn_model.proofs.Ends.{Step, find_step, greatest}
 
 -- ---- whether an instance has ended
 
@@ -44,75 +43,133 @@ pub has_ended : (net : Network) (k : ℕ → ℕ) (i : ℕ) → HasEnded net k i
 unfolding HasEnd
 has_ended net k i = has_end (ticks_made net k i)
 
--- some instance goes on, or all have ended
-record GoesOn (net : Network) (k : ℕ → ℕ) (n : ℕ) : Type 0 where
-  instance : ℕ
-  inside : instance < n
-  goes_on : HasEnded net k instance → ⊥
+-- ---- whether the joined instances have ended
 
-last_of : (n i : ℕ) → i < suc n → (i ≡ n → ⊥) → i < n
-last_of n i l d = ⊎_elim (λ (e : i < n). e) (λ (e : n ≤ i). absurd (d (omega arith))) (cases_lt i n)
+-- one of the first n is joined and has not, or all of these have
+JoinedLeftIn : Network → (ℕ → ℕ) → ℕ → Type 0
+JoinedLeftIn net k n = (i : ℕ) × (i < n) × IsJoined net i × (HasEnded net k i → ⊥)
 
-all_over : (net : Network) (k : ℕ → ℕ) (n : ℕ) → GoesOn net k n ⊎ ((i : ℕ) → i < n → HasEnded net k i)
-all_over net k zero = inr (λ i l. absurd (omega arith))
-all_over net k (suc n) =
+HaveEndedIn : Network → (ℕ → ℕ) → ℕ → Type 0
+HaveEndedIn net k n = (i : ℕ) → i < n → IsJoined net i → HasEnded net k i
+
+is_joined : (b : Bool) → (b ≡ false) ⊎ (b ≡ false → ⊥)
+is_joined false = inl refl
+is_joined true = inr (λ e. cc)
+
+more_left : (net : Network) (k : ℕ → ℕ) (n : ℕ) → JoinedLeftIn net k n → JoinedLeftIn net k (suc n)
+unfolding JoinedLeftIn
+more_left net k n (i, l, j, d) = (i, omega arith, j, d)
+
+here_left : (net : Network) (k : ℕ → ℕ) (n : ℕ) → IsJoined net n → (HasEnded net k n → ⊥) → JoinedLeftIn net k (suc n)
+unfolding JoinedLeftIn
+here_left net k n j d = (n, omega arith, j, d)
+
+more_ended : (net : Network) (k : ℕ → ℕ) (n : ℕ) → (IsJoined net n → HasEnded net k n) → HaveEndedIn net k n → HaveEndedIn net k (suc n)
+unfolding HaveEndedIn
+more_ended net k n h all = λ i l j.
     ⊎_elim
-    (λ (g : GoesOn net k n). let l = g.inside in inl (record { instance = g.instance; inside = omega arith; goes_on = g.goes_on }))
-    (λ (all : (i : ℕ) → i < n → HasEnded net k i).
+    (λ (s : i < n). all i s j)
+    (λ (b : n ≤ i). let same : n ≡ i = omega arith in subst (HasEnded net k) same (h (subst (IsJoined net) (sym same) j)))
+    (cases_lt i n)
+
+none_ended : (net : Network) (k : ℕ → ℕ) → HaveEndedIn net k 0
+unfolding HaveEndedIn
+none_ended net k = λ i l j. absurd (omega arith)
+
+left_or_ended : (net : Network) (k : ℕ → ℕ) (n : ℕ) → JoinedLeftIn net k n ⊎ HaveEndedIn net k n
+left_or_ended net k zero = inr (none_ended net k)
+left_or_ended net k (suc n) =
     ⊎_elim
-    (λ (e : HasEnded net k n).
-    inr (λ i l. ⊎_elim (λ (s : i < n). all i s) (λ (b : n ≤ i). let same : n ≡ i = omega arith in subst (HasEnded net k) same e) (cases_lt i n)))
-    (λ (d : HasEnded net k n → ⊥). inl (record { instance = n; inside = omega arith; goes_on = d }))
+    (λ (g : JoinedLeftIn net k n). inl (more_left net k n g))
+    (λ (all : HaveEndedIn net k n).
+    ⊎_elim
+    (λ (j : IsJoined net n).
+    ⊎_elim
+    (λ (e : HasEnded net k n). inr (more_ended net k n (λ x. e) all))
+    (λ (d : HasEnded net k n → ⊥). inl (here_left net k n j d))
     (has_ended net k n))
-    (all_over net k n)
+    (λ (no : IsJoined net n → ⊥). inr (more_ended net k n (λ j. absurd (no j)) all))
+    (is_joined (net.detached n)))
+    (left_or_ended net k n)
 
--- ---- a run up to a limit
-
--- a count that is reached and ends, or has more ticks than the limit
-record Reached (net : Network) (limit : ℕ) : Type 0 where
-  count : ℕ → ℕ
-  reachable : IsReachable net count
-  end : ((total net.size count ≤ limit) × ((i : ℕ) → IsAllowed net count i → ⊥)) ⊎ (limit < total net.size count)
-
-climb : (net : Network) (limit fuel : ℕ) (k : ℕ → ℕ) → IsReachable net k → limit < fuel + total net.size k → Reached net limit
-climb net limit zero k r f = record { count = k; reachable = r; end = inr (omega arith) }
-climb net limit (suc fuel) k r f =
+pub joined_left : (net : Network) (k : ℕ → ℕ) → HasJoinedLeft net k ⊎ HaveJoinedEnded net k
+unfolding JoinedLeftIn HaveEndedIn
+joined_left net k =
     ⊎_elim
-    (λ (past : limit < total net.size k). record { count = k; reachable = r; end = inr past })
-    (λ (within : total net.size k ≤ limit).
-    ⊎_elim
-    (λ (s : Step net (suc (total net.size k)) k).
-    let t = total_bump net.size s.at k s.allowed.supplied.inside in
-    climb net limit fuel (with_tick_of s.at k) (reach_push net k s.at r s.allowed) (omega arith))
-    (λ (none : (i : ℕ) → i < net.size → IsAllowed net k i → k i < suc (total net.size k) → ⊥).
-    record {
-      count = k;
-      reachable = r;
-      end = inl (within, λ i a. let t = total_has net.size i k a.supplied.inside in none i a.supplied.inside a (omega arith));
-    })
-    (find_step net (suc (total net.size k)) k net.size))
-    (cases_lt limit (total net.size k))
+    (λ (g : JoinedLeftIn net k net.size). inl (record { instance = g.0; inside = g.1; joined = g.2; goes_on = g.3 }))
+    (λ (all : HaveEndedIn net k net.size). inr all)
+    (left_or_ended net k net.size)
 
--- an ending count is at least every reachable one
-past_by : (net : Network) → IsNetwork net → (limit : ℕ) (m : ℕ → ℕ) → IsReachable net m → limit < total net.size m → GoesPast net limit
-past_by net ok limit m r l = λ k e.
-    let same : m ≡ after r.steps zeros = fun_ext r.is_after in
-    let below = below_end net ok k e.over r.steps zeros (λ i. omega arith) r.allowed in
-    let t = total_grows net.size m k (subst (λ (c : ℕ → ℕ). (i : ℕ) → c i ≤ k i) (sym same) below) in
+-- ---- one of three ways
+
+left_by : (net : Network) (n : ℕ) (k : ℕ → ℕ) → IsGreatest net n k → joined_ticks net k ≤ n → HasJoinedLeft net k → EndsWithin net n ⊎ (StopsWithin net n ⊎ GoesPast net n)
+left_by net n k g w left =
+    ⊎_elim
+    (λ (s : Step net (suc n) k). inr (inr (k, record { greatest = g; more = inr (record { left = left; instance = s.at; allowed = s.allowed }) })))
+    (λ (none : (i : ℕ) → i < net.size → IsAllowed net k i → k i < suc n → ⊥).
+    inr (inl (k, record { greatest = g; over = λ i a. none i a.supplied.inside a (let c = g.capped i in omega arith); left = left; within = w })))
+    (find_step net (suc n) k net.size)
+
+three_by : (net : Network) (n : ℕ) (k : ℕ → ℕ) → IsGreatest net n k → EndsWithin net n ⊎ (StopsWithin net n ⊎ GoesPast net n)
+three_by net n k g =
+    ⊎_elim
+    (λ (l : n < joined_ticks net k). inr (inr (k, record { greatest = g; more = inl l })))
+    (λ (w : joined_ticks net k ≤ n).
+    ⊎_elim
+    (λ (left : HasJoinedLeft net k). left_by net n k g w left)
+    (λ (all : HaveJoinedEnded net k). inl (k, record { greatest = g; ended = all; within = w }))
+    (joined_left net k))
+    (cases_lt n (joined_ticks net k))
+
+pub three_ways : (net : Network) → IsNetwork net → (n : ℕ) → EndsWithin net n ⊎ (StopsWithin net n ⊎ GoesPast net n)
+three_ways net ok n = let g = greatest net ok n in three_by net n g.0 g.1
+
+-- ---- and of one alone
+
+pub greatest_one : (net : Network) (n : ℕ) (k m : ℕ → ℕ) → IsGreatest net n k → IsGreatest net n m → (i : ℕ) → k i ≡ m i
+greatest_one net n k m g h i =
+    let a = h.above k g.reachable g.capped i in
+    let b = g.above m h.reachable h.capped i in
     omega arith
 
-three_by : (net : Network) → IsNetwork net → (limit : ℕ) → Reached net limit → EndsWithin net limit ⊎ (StopsWithin net limit ⊎ GoesPast net limit)
-three_by net ok limit h =
-    ⊎_elim
-    (λ (e : (total net.size h.count ≤ limit) × ((i : ℕ) → IsAllowed net h.count i → ⊥)).
-    let ending : IsEnding net h.count = record { reachable = h.reachable; over = e.1 } in
-    ⊎_elim
-    (λ (g : GoesOn net h.count net.size). inr (inl (h.count, record { ending = ending; instance = g.instance; inside = g.inside; goes_on = g.goes_on }, e.0)))
-    (λ (all : (i : ℕ) → i < net.size → HasEnded net h.count i). inl (h.count, record { ending = ending; ended = all }, e.0))
-    (all_over net h.count net.size))
-    (λ (past : limit < total net.size h.count). inr (inr (past_by net ok limit h.count h.reachable past)))
-    h.end
+greatest_of : (net : Network) (n : ℕ) (k : ℕ → ℕ) (a : Way) → RunsSo net n a k → IsGreatest net n k
+greatest_of net n k done h = h.greatest
+greatest_of net n k stopped h = h.greatest
+greatest_of net n k past h = h.greatest
 
-pub three_ways : (net : Network) → IsNetwork net → (limit : ℕ) → EndsWithin net limit ⊎ (StopsWithin net limit ⊎ GoesPast net limit)
-three_ways net ok limit =
-    three_by net ok limit (climb net limit (suc limit) zeros (record { steps = []; allowed = tt; is_after = λ i. refl }) (omega arith))
+module _ (net : Network) (n : ℕ) (k : ℕ → ℕ) where
+  not_both : HaveJoinedEnded net k → HasJoinedLeft net k → ⊥
+  not_both all left = left.goes_on (all left.instance left.inside left.joined)
+
+  done_past : IsDone net n k → IsPast net n k → ⊥
+  done_past d p =
+      let w = d.within in
+      ⊎_elim
+      (λ (l : n < joined_ticks net k). omega arith)
+      (λ (g : GoesOn net k). not_both d.ended g.left)
+      p.more
+
+  stopped_past : IsStopped net n k → IsPast net n k → ⊥
+  stopped_past s p =
+      let w = s.within in
+      ⊎_elim
+      (λ (l : n < joined_ticks net k). omega arith)
+      (λ (g : GoesOn net k). s.over g.instance g.allowed)
+      p.more
+
+  way_here : (a b : Way) → RunsSo net n a k → RunsSo net n b k → a ≡ b
+  way_here done done x y = refl
+  way_here done stopped x y = absurd (not_both x.ended y.left)
+  way_here done past x y = absurd (done_past x y)
+  way_here stopped done x y = absurd (not_both y.ended x.left)
+  way_here stopped stopped x y = refl
+  way_here stopped past x y = absurd (stopped_past x y)
+  way_here past done x y = absurd (done_past y x)
+  way_here past stopped x y = absurd (stopped_past y x)
+  way_here past past x y = refl
+
+pub one_way : (net : Network) → IsNetwork net → (n : ℕ) (a b : Way) (k m : ℕ → ℕ) → RunsSo net n a k → RunsSo net n b m → (a ≡ b) × ((i : ℕ) → k i ≡ m i)
+one_way net ok n a b k m x y =
+    let same = greatest_one net n k m (greatest_of net n k a x) (greatest_of net n m b y) in
+    let is : k ≡ m = fun_ext same in
+    (way_here net n k a b x (subst (RunsSo net n b) (sym is) y), same)

@@ -173,7 +173,7 @@ below_capped net ok cap m over (i ∷ steps) k h (a, rest) c =
     let ci = c i in
     below_capped net ok cap m over steps (with_tick_of i k) (bump_below k m i h (λ e. over i (step_stays net ok k m h i e a) (omega arith))) rest c
 
-greatest_by : (net : Network) → IsNetwork net → (cap : ℕ) (k : ℕ → ℕ) → IsReachable net k → IsCapped net cap k → ((i : ℕ) → IsAllowed net k i → k i < cap → ⊥) → IsGreatest net cap k
+pub greatest_by : (net : Network) → IsNetwork net → (cap : ℕ) (k : ℕ → ℕ) → IsReachable net k → IsCapped net cap k → ((i : ℕ) → IsAllowed net k i → k i < cap → ⊥) → IsGreatest net cap k
 greatest_by net ok cap k r c over = record {
   reachable = r;
   capped = c;
@@ -184,11 +184,11 @@ greatest_by net ok cap k r c over = record {
       omega arith;
 }
 
-total_cap : (n cap : ℕ) (k : ℕ → ℕ) → ((i : ℕ) → k i ≤ cap) → total n k ≤ n * cap
+pub total_cap : (n cap : ℕ) (k : ℕ → ℕ) → ((i : ℕ) → k i ≤ cap) → total n k ≤ n * cap
 total_cap zero cap k h = omega arith
 total_cap (suc n) cap k h = let a = total_cap n cap k h in let b = h n in omega arith
 
-bump_capped : (net : Network) (cap : ℕ) (k : ℕ → ℕ) (i : ℕ) → IsCapped net cap k → k i < cap → IsCapped net cap (with_tick_of i k)
+pub bump_capped : (net : Network) (cap : ℕ) (k : ℕ → ℕ) (i : ℕ) → IsCapped net cap k → k i < cap → IsCapped net cap (with_tick_of i k)
 bump_capped net cap k i c l j =
     let cj = c j in
     ⊎_elim

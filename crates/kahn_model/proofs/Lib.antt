@@ -6,9 +6,11 @@ pub mod Reach
 pub mod Statements
 pub mod Wired
 pub mod WellFormed
+pub mod Ended
 pub mod Clocked
 pub mod Bound
 pub mod Local
+pub mod Taken
 pub mod Ends
 pub mod Fits
 pub mod FitsNetwork
@@ -16,4 +18,8 @@ pub mod FitsCells
 pub mod Past
 pub mod OneMeaning
 pub mod Standing
+pub mod Joined
 pub mod Ending
+pub mod Shown
+pub mod Least
+pub mod ByEnd

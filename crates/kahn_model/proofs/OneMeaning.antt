@@ -1,6 +1,6 @@
 -- The network of a program is a function of its plain data: the trace of plain data, and that of a program in memory is
 -- the same.
-use Rattle.std.proofs.Common.{◌≡◌, ℕ, zero, suc, ◌-◌, ◌*◌, ◌^◌, List, [], ◌∷◌, length, map, replicate, Option, Some, None, refl, sym, ap, ◌∙◌}
+use Rattle.std.proofs.Common.{◌≡◌, ℕ, zero, suc, ◌-◌, ◌*◌, ◌^◌, List, [], ◌∷◌, Bool, false, length, map, replicate, Option, Some, None, refl, sym, ap, ◌∙◌}
 use Rattle.std.specs.Prelude.{slice_get, slice_index, slice_index_or, option_map, unwrap_or}
 use Rattle.std.proofs.Math.Path.{fun_ext}
 use Rattle.tapa_base.specs.declared.token.Token.TheVariants.{Datum, Eot as EotToken}
@@ -27,7 +27,7 @@ use Rattle.tapa_syntax.specs.LeafKinds.{Kinds, kinds_of}
 use Rattle.kahn_model.specs.Behavior.{Local, Put, Load, Store, Read as ByRead, Peek as ByPeek, TestEot, Open as ByOpen, Behavior, Finished, Act, Await}
 use Rattle.kahn_model.specs.Trace.{State, at_zero, cell, set_var, set_cell, store_cell, cells_of, cleared, expr, locals, turns, stmt, block, statements, at_streams}
 use Rattle.kahn_model.specs.Network.{Network}
-use Rattle.kahn_model.specs.ProgramNetwork.{stream_at, leaf_job, instance_job, end_of, network_with}
+use Rattle.kahn_model.specs.ProgramNetwork.{stream_at, leaf_job, instance_job, is_detached, end_of, network_with}
 use Rattle.kahn_model.specs.Start.{through, bound_value, with_values, empty_state, leaf_state, instance_state, first_state, network_of}
 
 -- ---- the trace of plain data
@@ -199,10 +199,15 @@ instance_state_by program scalars memories None = empty_state
 instance_state_by program scalars memories (Some x) =
     leaf_state_by (map (λ (c : Scalar). c.kind) program.scalars) scalars memories x (slice_get program.bodies x.body)
 
+abbrev detached_by : Option FlatInstance → Bool
+detached_by None = false
+detached_by (Some x) = x.detached
+
 abbrev network_by : FlatProgram → List ℕ → List (List ℕ) → Network
 network_by program scalars memories = record {
   size = length program.instances;
   job = λ i n. instance_job_by program.bodies (slice_get program.instances i) (instance_state_by program scalars memories (slice_get program.instances i)) n;
+  detached = λ i. detached_by (slice_get program.instances i);
   producer = λ s. end_of (λ (r : Stream). r.producer) (slice_get program.streams s);
   consumer = λ s. end_of (λ (r : Stream). r.consumer) (slice_get program.streams s);
   depth = λ s. end_of (λ (r : Stream). r.depth) (slice_get program.streams s);
@@ -261,11 +266,16 @@ same_at p scalars memories i n =
     ∙ ap (λ (σ : State). instance_job_by (map flat_leaf p.bodies.items) (option_map flat_instance (slice_get p.instances.items i)) σ n) (same_state p scalars memories (slice_get p.instances.items i))
     ∙ ap (λ (o : Option FlatInstance). instance_job_by (map flat_leaf p.bodies.items) o (instance_state_by (flat_program p) scalars memories o) n) (map_get flat_instance p.instances.items i)
 
--- a network by its number of instances and its jobs
-abbrev network_at : Program → ℕ → (ℕ → ℕ → Behavior) → Network
-network_at program size job = record {
+same_detached : (o : Option Instance) → is_detached o ≡ detached_by (option_map flat_instance o)
+same_detached None = refl
+same_detached (Some x) = refl
+
+-- a network by its number of instances, its jobs, and which are detached
+abbrev network_at : Program → ℕ → (ℕ → ℕ → Behavior) → (ℕ → Bool) → Network
+network_at program size job detached = record {
   size = size;
   job = job;
+  detached = detached;
   producer = λ s. end_of (λ (r : Stream). r.producer) (slice_get program.streams.items s);
   consumer = λ s. end_of (λ (r : Stream). r.consumer) (slice_get program.streams.items s);
   depth = λ s. end_of (λ (r : Stream). r.depth) (slice_get program.streams.items s);
@@ -274,8 +284,11 @@ network_at program size job = record {
 pub same_network : (p : Program) (scalars : List ℕ) (memories : List (List ℕ)) → network_of p scalars memories ≡ network_by (flat_program p) scalars memories
 unfolding network_of
 same_network p scalars memories =
-    ap (λ (m : ℕ). network_at p m (network_with p (first_state p scalars memories)).job) (map_length flat_instance p.instances.items)
-    ∙ ap (network_at p (length (map flat_instance p.instances.items))) (fun_ext (λ i. fun_ext (λ n. same_at p scalars memories i n)))
+    let net = network_with p (first_state p scalars memories) in
+    let bare = network_by (flat_program p) scalars memories in
+    ap (λ (m : ℕ). network_at p m net.job net.detached) (map_length flat_instance p.instances.items)
+    ∙ ap (λ (job : ℕ → ℕ → Behavior). network_at p bare.size job net.detached) (fun_ext (λ i. fun_ext (λ n. same_at p scalars memories i n)))
+    ∙ ap (network_at p bare.size bare.job) (fun_ext (λ i. same_detached (slice_get p.instances.items i) ∙ ap detached_by (map_get flat_instance p.instances.items i)))
 
 pub one_meaning : (p q : Program) → flat_program p ≡ flat_program q → (scalars : List ℕ) (memories : List (List ℕ)) → network_of p scalars memories ≡ network_of q scalars memories
 one_meaning p q same scalars memories =

@@ -1,14 +1,15 @@
 -- Networks of tasks and Kahn's rounds: from streams without a token, what the tasks give on what they gave before (Kahn
 -- 1974).
-use Rattle.std.specs.Prelude.{◌≡◌, ℕ, zero, suc, ◌≤◌, List, [], ◌∷◌, ◌==◌, if◌then◌else◌, flat_map}
+use Rattle.std.specs.Prelude.{◌≡◌, ℕ, zero, suc, ◌≤◌, List, [], ◌∷◌, Bool, ◌==◌, if◌then◌else◌, flat_map}
 use Rattle.tapa_base.specs.declared.token.Token.{Token}
 use Rattle.kahn_model.specs.Behavior.{Action, Put, Tick, Did, Take, Behavior, Finished, OutOfTurns, Act, Await, ticks, Extends, Lasts}
 
 -- a network: for each instance a job, which has a behavior for each number of tests that a run of a loop may make, and
--- for each stream its two ends and its depth
+-- whether it is not waited for (TAPA: `invoke<tapa::detach>`); and for each stream its two ends and its depth
 pub record Network : Type 0 where
   pub size : ℕ
   pub job : ℕ → ℕ → Behavior
+  pub detached : ℕ → Bool
   pub producer : ℕ → ℕ
   pub consumer : ℕ → ℕ
   pub depth : ℕ → ℕ

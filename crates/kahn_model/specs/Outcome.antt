@@ -1,21 +1,79 @@
--- How a network ends at its declared depths (TAPA: a stream holds no more tokens than its depth).
-use Rattle.std.specs.Prelude.{◌≡◌, ℕ, ◌<◌, ◌≤◌, length, Some}
+-- How a network ends at its declared depths, within a bound on ticks. A stream holds no more tokens than its depth (TAPA,
+-- streams). A run waits for the joined instances; a detached one goes on as long as it may and is not waited for (TAPA,
+-- `invoke<tapa::detach>`).
+use Rattle.std.specs.Prelude.{◌≡◌, ◌⊎◌, ℕ, ◌<◌, ◌≤◌, List, [], length, false, if◌then◌else◌, Some}
 use Rattle.tapa_base.specs.declared.token.Token.{Token}
 use Rattle.kahn_model.specs.Behavior.{Did, Put, TraceEnd, Needs, Bad, ticks, trace_end}
 use Rattle.kahn_model.specs.Network.{Network}
-use Rattle.kahn_model.specs.Counts.{round_of, written, next, IsReachable, IsEnding, HasEnded}
+use Rattle.kahn_model.specs.Counts.{total, round_of, written, taken, next, IsAllowed, IsReachable, HasEnded}
 
--- every instance has ended
-pub record IsDone (net : Network) (k : ℕ → ℕ) : Type 0 where
-  pub ending : IsEnding net k
-  pub ended : (i : ℕ) → i < net.size → HasEnded net k i
+-- ---- the greatest count within a bound
 
--- no step is allowed, and some instance has not ended
-pub record IsStopped (net : Network) (k : ℕ → ℕ) : Type 0 where
-  pub ending : IsEnding net k
+-- counts in which no instance has made more than n ticks
+abbrev pub IsCapped : Network → ℕ → (ℕ → ℕ) → Type 0
+IsCapped net n k = (i : ℕ) → k i ≤ n
+
+-- the greatest reachable count with at most n ticks of each instance
+pub record IsGreatest (net : Network) (n : ℕ) (k : ℕ → ℕ) : Type 0 where
+  pub reachable : IsReachable net k
+  pub capped : IsCapped net n k
+  pub above : (m : ℕ → ℕ) → IsReachable net m → IsCapped net n m → (i : ℕ) → m i ≤ k i
+
+-- ---- the instances that are waited for
+
+abbrev pub IsJoined : Network → ℕ → Type 0
+IsJoined net i = net.detached i ≡ false
+
+abbrev pub joined_part : Network → (ℕ → ℕ) → ℕ → ℕ
+joined_part net k i = if net.detached i then 0 else k i
+
+-- their ticks in a count
+abbrev pub joined_ticks : Network → (ℕ → ℕ) → ℕ
+joined_ticks net k = total net.size (joined_part net k)
+
+-- each of them has made its last tick
+abbrev pub HaveJoinedEnded : Network → (ℕ → ℕ) → Type 0
+HaveJoinedEnded net k = (i : ℕ) → i < net.size → IsJoined net i → HasEnded net k i
+
+-- one of them has not
+pub record HasJoinedLeft (net : Network) (k : ℕ → ℕ) : Type 0 where
   pub instance : ℕ
   pub inside : instance < net.size
+  pub joined : IsJoined net instance
   pub goes_on : HasEnded net k instance → ⊥
+
+-- ---- the outcome for the bound n, by the greatest count k
+
+-- every joined instance has ended, and they have made at most n ticks in all
+pub record IsDone (net : Network) (n : ℕ) (k : ℕ → ℕ) : Type 0 where
+  pub greatest : IsGreatest net n k
+  pub ended : HaveJoinedEnded net k
+  pub within : joined_ticks net k ≤ n
+
+-- no step is allowed, some joined instance has not ended, and they have made at most n ticks in all
+pub record IsStopped (net : Network) (n : ℕ) (k : ℕ → ℕ) : Type 0 where
+  pub greatest : IsGreatest net n k
+  pub over : (i : ℕ) → IsAllowed net k i → ⊥
+  pub left : HasJoinedLeft net k
+  pub within : joined_ticks net k ≤ n
+
+-- some joined instance has not ended, and a step is allowed
+pub record GoesOn (net : Network) (k : ℕ → ℕ) : Type 0 where
+  pub left : HasJoinedLeft net k
+  pub instance : ℕ
+  pub allowed : IsAllowed net k instance
+
+-- neither of the two: the joined instances have made more than n ticks in all, or go on
+pub record IsPast (net : Network) (n : ℕ) (k : ℕ → ℕ) : Type 0 where
+  pub greatest : IsGreatest net n k
+  pub more : (n < joined_ticks net k) ⊎ GoesOn net k
+
+-- ---- what is shown, and what is waited for
+
+-- the tokens of stream s that a run shows where every joined instance has ended: those that are written where its producer
+-- is joined, else those that are taken where its consumer is, else none
+abbrev pub shown : Network → (ℕ → ℕ) → ℕ → List Token
+shown net k s = if net.detached (net.producer s) then (if net.detached (net.consumer s) then [] else taken net k s) else written net k s
 
 -- instance i waits to write s
 abbrev pub WaitsToWrite : Network → (ℕ → ℕ) → ℕ → ℕ → Type 0
@@ -31,13 +89,3 @@ WaitsToRead net k i s = StandsAt net k i (Needs s)
 
 abbrev pub HasBadToken : Network → (ℕ → ℕ) → ℕ → ℕ → Type 0
 HasBadToken net k i s = StandsAt net k i (Bad s)
-
--- counts in which no instance has made more than n ticks
-abbrev pub IsCapped : Network → ℕ → (ℕ → ℕ) → Type 0
-IsCapped net n k = (i : ℕ) → k i ≤ n
-
--- the greatest reachable count with at most n ticks of each instance
-pub record IsGreatest (net : Network) (n : ℕ) (k : ℕ → ℕ) : Type 0 where
-  pub reachable : IsReachable net k
-  pub capped : IsCapped net n k
-  pub above : (m : ℕ → ℕ) → IsReachable net m → IsCapped net n m → (i : ℕ) → m i ≤ k i

@@ -1,5 +1,5 @@
 -- The network of a program on an input.
-use Rattle.std.specs.Prelude.{◌≡◌, ℕ, List, length, true, false, Option, Some, None, slice_get, slice_index}
+use Rattle.std.specs.Prelude.{◌≡◌, ℕ, List, length, Bool, true, false, Option, Some, None, slice_get, slice_index}
 use Rattle.tapa_syntax.specs.declared.program.Leaf.{Leaf}
 use Rattle.tapa_syntax.specs.declared.program.Instance.{Instance}
 use Rattle.tapa_syntax.specs.declared.program.Stream.{Stream}
@@ -23,6 +23,10 @@ abbrev pub instance_job : List Leaf → Option Instance → State → ℕ → Be
 instance_job leaves None σ n = Finished
 instance_job leaves (Some instance) σ n = leaf_job (slice_get leaves instance.body) instance σ n
 
+abbrev pub is_detached : Option Instance → Bool
+is_detached None = false
+is_detached (Some instance) = instance.detached
+
 abbrev pub end_of : (Stream → ℕ) → Option Stream → ℕ
 end_of f None = 0
 end_of f (Some stream) = f stream
@@ -32,6 +36,7 @@ abbrev pub network_with : Program → (ℕ → State) → Network
 network_with program first = record {
   size = length program.instances.items;
   job = λ i n. instance_job program.bodies.items (slice_get program.instances.items i) (first i) n;
+  detached = λ i. is_detached (slice_get program.instances.items i);
   producer = λ s. end_of (λ (r : Stream). r.producer) (slice_get program.streams.items s);
   consumer = λ s. end_of (λ (r : Stream). r.consumer) (slice_get program.streams.items s);
   depth = λ s. end_of (λ (r : Stream). r.depth) (slice_get program.streams.items s);

@@ -4,8 +4,8 @@ ghost use Rattle.std.specs.Prelude.{ℕ, suc, ◌≡◌, ◌<◌, ◌≤◌, ◌
 ghost use Rattle.kahn_model.specs.Behavior.{Tick, ticks};
 ghost use Rattle.kahn_model.specs.Network.{Network, IsNetwork, stream, round};
 ghost use Rattle.kahn_model.specs.Counts.{IsReachable, IsFounded, IsEnding, IsKahnPrefix, written, ticks_made, next, HasToken, IsSupplied, HasEnded, IsKahnStream, total, round_of};
-ghost use Rattle.kahn_model.specs.Outcome.{WaitsToWrite, WaitsToRead, HasBadToken, IsGreatest};
-ghost use Rattle.kahn_model.specs.Ending.{NetworksRunInThreeWays};
+ghost use Rattle.kahn_model.specs.Outcome.{WaitsToWrite, WaitsToRead, HasBadToken, IsGreatest, HaveJoinedEnded};
+ghost use Rattle.kahn_model.specs.Ending.{NetworksRunInThreeWays, NetworksRunInOneWay, EndsShowAlike, EndsStay, ShownBegins, ShownIsWhole, IsLeastToEnd, EndsHaveALeast, JoinedNetworksAreToldByTheirEnd};
 ghost use Rattle.kahn_model.specs.Standing.{InstancesStandOneWay};
 ghost use Rattle.kahn_model.specs.Timed.{Clock, IsClock, count_at};
 ghost use Rattle.kahn_model.specs.Trace.{State};
@@ -84,9 +84,11 @@ pub fn law_clock_is_founded()
     ensures { (net : Network) → IsNetwork net → (clock : Clock) (n : ℕ) → IsFounded net (count_at net clock n) }
 {}
 
-/// What has ended in a reachable count has ended in the counts of a clock after at most so many cycles.
+/// What has ended in a reachable count has ended in the counts of a clock after at most so many cycles. So have all joined
+/// instances after at most so many cycles as the fewest ticks say with which they can end.
 pub fn law_done_in_time()
-    ensures { (net : Network) → IsNetwork net → (clock : Clock) (top : ℕ) (ready : ℕ → Bool) (waits : ℕ) → IsClock clock top ready waits → (k : ℕ → ℕ) → IsReachable net k → (n : ℕ) × (1 ≤ n) × (n ≤ 1 + total net.size k * suc top + waits) × ((i : ℕ) → HasEnded net k i → HasEnded net (count_at net clock n) i) }
+    ensures ended { (net : Network) → IsNetwork net → (clock : Clock) (top : ℕ) (ready : ℕ → Bool) (waits : ℕ) → IsClock clock top ready waits → (k : ℕ → ℕ) → IsReachable net k → (n : ℕ) × (1 ≤ n) × (n ≤ 1 + total net.size k * suc top + waits) × ((i : ℕ) → HasEnded net k i → HasEnded net (count_at net clock n) i) }
+    ensures joined { (net : Network) → IsNetwork net → (clock : Clock) (top : ℕ) (ready : ℕ → Bool) (waits : ℕ) → IsClock clock top ready waits → (a : ℕ) → IsLeastToEnd net a → (n : ℕ) × (1 ≤ n) × (n ≤ 1 + a * suc top + waits) × HaveJoinedEnded net (count_at net clock n) }
 {}
 
 /// The next tick of an instance whose token is there is its job's next tick on the tokens that are written so far, and
@@ -101,9 +103,35 @@ pub fn law_waits()
     ensures { (net : Network) → IsNetwork net → (k : ℕ → ℕ) → IsEnding net k → (i : ℕ) → i < net.size → (HasEnded net k i → ⊥) → ((s : ℕ) × WaitsToWrite net k i s) ⊎ (((s : ℕ) × WaitsToRead net k i s) ⊎ ((s : ℕ) × HasBadToken net k i s)) }
 {}
 
-/// Within a number of ticks a network ends, or it stops, or it makes more ticks or never ends.
+/// Within a bound on ticks a network ends, or it stops, or neither, and does one of these alone.
 pub fn law_three_ways()
-    ensures { NetworksRunInThreeWays }
+    ensures some { NetworksRunInThreeWays }
+    ensures one { NetworksRunInOneWay }
+{}
+
+/// Where all joined instances have ended, they have made as many ticks and the streams show the same tokens, whatever the
+/// bound and the order of steps; and with a greater bound they end too.
+pub fn law_ends_alike()
+    ensures alike { EndsShowAlike }
+    ensures stay { EndsStay }
+{}
+
+/// What is shown of a stream begins its Kahn stream, and is all of it where its producer is joined and every joined
+/// instance has ended.
+pub fn law_shown_is_kahn()
+    ensures begins { ShownBegins }
+    ensures whole { ShownIsWhole }
+{}
+
+/// Where all joined instances end, some number of ticks is the least with which they can.
+pub fn law_least_to_end()
+    ensures { EndsHaveALeast }
+{}
+
+/// Where every instance is joined, the outcome is told by the one count that allows no step: how many ticks it has, and
+/// whether every instance has ended at it.
+pub fn law_told_by_its_end()
+    ensures { JoinedNetworksAreToldByTheirEnd }
 {}
 
 /// In a reachable count an instance has ended, waits to read one stream, waits to write one, or has a bad token on one:

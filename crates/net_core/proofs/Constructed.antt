@@ -1,7 +1,6 @@
 -- New tables.
-use Rattle.std.proofs.Common.{◌≡◌, ℕ, zero, suc, ◌+◌, ◌<◌, List, [], ◌∷◌, ◌++◌, length, map, take, drop, Bool, Option, Some, None, refl, sym, ap, ◌∙◌, subst, arith}
-use Rattle.std.specs.Prelude.{slice_get}
-use Rattle.std.specs.Prelude.{replicate, slice_index}
+use Rattle.std.proofs.Common.{◌≡◌, ℕ, zero, suc, ◌+◌, ◌<◌, List, [], ◌∷◌, ◌++◌, length, map, take, drop, Bool, true, false, Option, Some, None, refl, sym, ap, ◌∙◌, subst, arith}
+use Rattle.std.specs.Prelude.{slice_get, replicate, slice_index, if◌then◌else◌}
 use Rattle.std.proofs.lemmas.List.{map-append}
 use Rattle.tapa_syntax.specs.declared.program.End.{End}
 use Rattle.net_core.specs.declared.port.Port.{Port}
@@ -9,7 +8,10 @@ use Rattle.net_core.proofs.Chunk.{take_get}
 use Rattle.std.proofs.Math.Path.{fun_ext}
 use Rattle.kahn_model.specs.declared.tick.Tick.{Tick}
 use Rattle.tapa_syntax.specs.declared.program.Program.{Program}
+use Rattle.kahn_model.specs.Network.{Network}
 use Rattle.kahn_model.specs.Counts.{total, written, taken, zeros, IsReachable}
+use Rattle.kahn_model.specs.Outcome.{joined_part, joined_ticks}
+use Rattle.kahn_model.proofs.Joined.{total_same}
 use Rattle.net_core.specs.declared.ports.Ports.{Ports}
 use Rattle.net_core.specs.declared.body.Pause.{Pause}
 use Rattle.net_core.specs.declared.input.Input.{Input}
@@ -57,6 +59,13 @@ zero_count n = fun_ext (λ i. sym (zero_at n i))
 pub zero_total : (m : ℕ) → total m zeros ≡ 0
 zero_total zero = refl
 zero_total (suc m) = let a = zero_total m in omega arith
+
+pub zero_joined : (net : Network) → joined_ticks net zeros ≡ 0
+zero_joined net = total_same net.size (joined_part net zeros) zeros (λ i l. none (net.detached i)) ∙ zero_total net.size
+  where
+    none : (b : Bool) → (if b then 0 else 0) ≡ 0
+    none true = refl
+    none false = refl
 
 pub writer_push : (program : Program) (xs zs : List ℕ) (y : ℕ) → zs ≡ xs ++ y ∷ [] → ((s : ℕ) → s < length xs → IsWriter program s (producer_of program s) (slice_index xs s)) → IsWriter program (length xs) (producer_of program (length xs)) y → (s : ℕ) → s < length xs + 1 → IsWriter program s (producer_of program s) (slice_index zs s)
 writer_push program xs zs y e h g s l = subst (λ v. IsWriter program s (producer_of program s) (slice_index v s)) (sym e) (go xs (λ s p. IsWriter program s (producer_of program s) p) h g s l)

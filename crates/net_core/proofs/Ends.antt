@@ -11,13 +11,11 @@ use Rattle.kahn_model.specs.declared.tick.StreamOperation.TheVariants.{Read, Pee
 use Rattle.kahn_model.specs.Behavior.{Behavior, Finished, OutOfTurns, Act, Await, Offer, NoToken, WrongToken, Answer, first_offer, tick_of, lists_after, on_offer, ticks, trace_end}
 use Rattle.kahn_model.specs.declared.tick.TraceEnd.TheVariants.{Ended, Needs, Bad, Turns}
 use Rattle.kahn_model.specs.Network.{Network, IsNetwork, stream, round}
-use Rattle.kahn_model.specs.Counts.{total, round_of, ticks_made, next, written, HasRoom, IsAllowed, with_tick_of, zeros, IsReachable, IsFounded, IsEnding, HasEnded}
-use Rattle.kahn_model.proofs.Count.{IsBelow, total_bump, total_grows, below_end}
+use Rattle.kahn_model.specs.Counts.{total, round_of, ticks_made, next, written, HasRoom, IsAllowed, IsFounded, HasEnded}
 use Rattle.kahn_model.proofs.Local.{here, here_is_fed}
 use Rattle.kahn_model.proofs.Late.{end_last}
 use Rattle.kahn_model.proofs.Order.{prefix_get, take_prefix}
 use Rattle.std.proofs.lemmas.Option.{slice_get_within}
-use Rattle.kahn_model.proofs.Ends.{reach_push}
 use Rattle.net_core.specs.declared.body.Pause.{Pause}
 use Rattle.net_core.specs.declared.body.Pause.TheVariants.{Ended as Ends, WantsRead, WantsWrite, BadToken, Fuel}
 use Rattle.net_core.specs.Waits.{StopsIn, IsFullFor, HoldsPause, IsToldBy}
@@ -51,20 +49,6 @@ module _ (net : Network) (ok : IsNetwork net) (k : ℕ → ℕ) (r : IsFounded n
   told f (BadToken p) u h = stops_here net ok k r i inside (Bad (f p)) (λ q. cc) h
   told f (WantsWrite p) u h = (h.token, full_next (f p) h)
   told f Fuel u h = absurd (u refl)
-
-pub reach_below : (net : Network) → IsNetwork net → (k m : ℕ → ℕ) → IsReachable net k → IsEnding net m → IsBelow k m
-reach_below net ok k m r e i =
-    let b = below_end net ok m e.over r.steps zeros (λ j. omega arith) r.allowed i in
-    let c = r.is_after i in
-    omega arith
-
--- a count that may go on past the budget is below every ending count
-pub is_limit : (net : Network) → IsNetwork net → (k : ℕ → ℕ) (i : ℕ) → IsReachable net k → IsAllowed net k i → (m : ℕ → ℕ) → IsEnding net m → total net.size k < total net.size m
-is_limit net ok k i r a m e =
-    let b = reach_below net ok (with_tick_of i k) m (reach_push net k i r a) e in
-    let t = total_grows net.size (with_tick_of i k) m b in
-    let u = total_bump net.size i k a.supplied.inside in
-    omega arith
 
 -- an instance that stops elsewhere has not ended
 end_trace_ends_found : (o : Offer) (a b : TraceEnd) (g : Token → ℕ → List Tick) (m : Token → ℕ → TraceEnd) → ((t : Token) (v j : ℕ) → slice_get (g t v) j ≡ Some End → m t v ≡ Ended) → (j : ℕ) → slice_get (on_offer o [] [] g) j ≡ Some End → on_offer o a b m ≡ Ended

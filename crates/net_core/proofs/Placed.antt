@@ -1,10 +1,9 @@
 -- A job at the streams of its instance.
-use Rattle.std.proofs.Common.{◌≡◌, ℕ, zero, suc, ◌<◌, List, [], ◌∷◌, ◌++◌, length, map, drop, Some, Bool, true, false, ◌&&◌, refl, sym, ap, ◌∙◌, subst, ⊎_elim, arith}
+use Rattle.std.proofs.Common.{◌≡◌, ℕ, zero, suc, ◌<◌, List, [], ◌∷◌, ◌++◌, length, map, drop, Some, ◌&&◌, refl, sym, ap, ◌∙◌, subst, ⊎_elim, arith}
 use Rattle.std.specs.Prelude.{◌==◌, slice_get, flat_map, if◌then◌else◌}
 use Rattle.std.proofs.lemmas.Bool.{cases_eq}
 use Rattle.std.proofs.lemmas.Bool.Decides.{nat_tests}
 use Rattle.tapa_base.specs.declared.token.Token.{Token}
-use Rattle.tapa_base.specs.declared.token.Token.TheVariants.{Datum, Eot}
 use Rattle.kahn_model.specs.declared.tick.Action.TheVariants.{Local, Put, Load, Store}
 use Rattle.kahn_model.specs.declared.tick.Tick.{Tick}
 use Rattle.kahn_model.specs.declared.tick.Tick.TheVariants.{Did, Take, See, End}
@@ -13,7 +12,7 @@ use Rattle.kahn_model.specs.declared.tick.TraceEnd.TheVariants.{Needs, Bad}
 use Rattle.kahn_model.specs.declared.tick.StreamOperation.{StreamOperation}
 use Rattle.kahn_model.specs.declared.tick.StreamOperation.TheVariants.{Read, Peek, TestEot, Open}
 use Rattle.kahn_model.specs.Prefix.{IsPrefixOf}
-use Rattle.kahn_model.specs.Behavior.{Behavior, Finished, OutOfTurns, Act, Await, Offer, NoToken, WrongToken, Answer, judge_token, first_offer, takes, tick_of, lists_after, on_offer, ticks, trace_end}
+use Rattle.kahn_model.specs.Behavior.{Behavior, Finished, OutOfTurns, Act, Await, Offer, NoToken, WrongToken, Answer, first_offer, takes, tick_of, lists_after, on_offer, ticks, trace_end}
 use Rattle.kahn_model.specs.Network.{Owns, put_on, take_from}
 use Rattle.kahn_model.specs.Trace.{act_at, at_streams}
 use Rattle.net_core.specs.Placement.{tick_at, trace_end_at, AsksAt, IsAt, TickAt, AreAt}
@@ -104,48 +103,6 @@ ticks_own p c i a xs ys o h = asks_ticks (λ s. c s ≡ i) a xs ys (owns_asks p 
 
 pub trace_end_own : (p c : ℕ → ℕ) (i : ℕ) (a : Behavior) (xs ys : ℕ → List Token) → Owns p c i a → ((s : ℕ) → c s ≡ i → xs s ≡ ys s) → trace_end a xs ≡ trace_end a ys
 trace_end_own p c i a xs ys o h = asks_trace_end (λ s. c s ≡ i) a xs ys (owns_asks p c i a o) h
-
--- what a job takes begins its lists
-first_is : (how : StreamOperation) (x t : Token) (v : ℕ) → judge_token how x ≡ Answer t v → x ≡ t
-first_is Read (Datum w) t v e = cc
-first_is Read Eot t v e = cc
-first_is Peek (Datum w) t v e = cc
-first_is Peek Eot t v e = cc
-first_is TestEot (Datum w) t v e = cc
-first_is TestEot Eot t v e = cc
-first_is Open (Datum w) t v e = cc
-first_is Open Eot t v e = cc
-
-front_bool : (b : Bool) (t : Token) (ts l : List Token) → (b ≡ true → (us : List Token) × (l ≡ t ∷ us)) → IsPrefixOf ts (if b then drop 1 l else l) → IsPrefixOf ((if b then t ∷ [] else []) ++ ts) l
-front_bool true t ts l h p =
-    let w = h refl in subst (λ z. IsPrefixOf (t ∷ ts) z) (sym w.1) (refl, subst (λ z. IsPrefixOf ts (drop 1 z)) w.1 p)
-front_bool false t ts l h p = p
-
-test_is : (r s : ℕ) → (r == s) ≡ true → r ≡ s
-test_is r s e = grind (arith, nat_tests)
-
-front_by : (how : StreamOperation) (r s : ℕ) (t : Token) (us : List Token) (xs : ℕ → List Token) (ts : List Token) → xs r ≡ t ∷ us → IsPrefixOf ts (lists_after how r xs s) → IsPrefixOf (take_from s (tick_of how r t) ++ ts) (xs s)
-front_by Read r s t us xs ts e p = front_bool (r == s) t ts (xs s) (λ b. (us, ap xs (sym (test_is r s b)) ∙ e)) p
-front_by Peek r s t us xs ts e p = p
-front_by TestEot r s t us xs ts e p = p
-front_by Open r s t us xs ts e p = front_bool (r == s) t ts (xs s) (λ b. (us, ap xs (sym (test_is r s b)) ∙ e)) p
-
-takes_found : (how : StreamOperation) (r s : ℕ) (x : Token) (us : List Token) (xs : ℕ → List Token) (o : Offer) (g : Token → ℕ → List Tick) → xs r ≡ x ∷ us → judge_token how x ≡ o → ((t : Token) (v : ℕ) → IsPrefixOf (flat_map (take_from s) (g t v)) (lists_after how r xs s)) → IsPrefixOf (flat_map (take_from s) (on_offer o [] [] (λ t v. tick_of how r t ∷ g t v))) (xs s)
-takes_found how r s x us xs NoToken g e j h = tt
-takes_found how r s x us xs WrongToken g e j h = tt
-takes_found how r s x us xs (Answer t v) g e j h =
-    front_by how r s t us xs (flat_map (take_from s) (g t v)) (e ∙ ap (λ z. z ∷ us) (first_is how x t v j)) (h t v)
-
-takes_ask : (how : StreamOperation) (r s : ℕ) (l : List Token) (xs : ℕ → List Token) (g : Token → ℕ → List Tick) → xs r ≡ l → ((t : Token) (v : ℕ) → IsPrefixOf (flat_map (take_from s) (g t v)) (lists_after how r xs s)) → IsPrefixOf (flat_map (take_from s) (on_offer (first_offer how l) [] [] (λ t v. tick_of how r t ∷ g t v))) (xs s)
-takes_ask how r s [] xs g e h = tt
-takes_ask how r s (x ∷ us) xs g e h = takes_found how r s x us xs (judge_token how x) g e refl h
-
-pub takes_begin : (a : Behavior) (xs : ℕ → List Token) (s : ℕ) → IsPrefixOf (flat_map (take_from s) (ticks a xs)) (xs s)
-takes_begin Finished xs s = tt
-takes_begin OutOfTurns xs s = tt
-takes_begin (Act a rest) xs s = takes_begin rest xs s
-takes_begin (Await r how rest) xs s =
-    takes_ask how r s (xs r) xs (λ t v. ticks (rest v) (lists_after how r xs)) refl (λ t v. takes_begin (rest v) (lists_after how r xs) s)
 
 -- each tick of a job is at its ports
 ticks_found : (R W : ℕ → Type 0) (o : Offer) (g : Token → ℕ → List Tick) → ((t : Token) (v : ℕ) → AreAt R W (g t v)) → AreAt R W (on_offer o [] [] g)

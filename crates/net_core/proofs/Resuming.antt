@@ -34,7 +34,8 @@ use Rattle.net_core.proofs.Loaded.{in_streams, producer_in}
 use Rattle.net_core.proofs.Queued.{queued_lists, take_longer, drop_again}
 use Rattle.net_core.proofs.Lasting.{lasts, decide_fuel}
 use Rattle.net_core.proofs.Chunk.{plus, plus_none, plus_other, Chunk}
-use Rattle.net_core.proofs.Stepped.{plus_above, taken_begins, standing_other, holds_other, agrees, stepped, standing, carried_after, taken_after, written_else, taken_else, took_count, holds, goes_on}
+use Rattle.kahn_model.proofs.Taken.{taken_begins}
+use Rattle.net_core.proofs.Stepped.{plus_above, standing_other, holds_other, agrees, stepped, standing, carried_after, taken_after, written_else, taken_else, took_count, holds, goes_on}
 
 pub count_set : (counts : List ℕ) (i v m : ℕ) → i < length counts → v ≡ slice_index counts i + m → (j : ℕ) → count_of (slice_set counts i v) j ≡ (if j == i then count_of counts j + m else count_of counts j)
 count_set counts i v m l e j =

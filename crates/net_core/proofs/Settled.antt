@@ -1,79 +1,161 @@
 -- How driving a net ends.
-use Rattle.std.proofs.Common.{◌≡◌, ℕ, ◌+◌, ◌-◌, ◌<◌, length, Some, ap, ◌∙◌, subst, arith}
-use Rattle.kahn_model.specs.Network.{IsNetwork}
-use Rattle.kahn_model.specs.Counts.{IsReachable, IsFounded, IsEnding}
+use Rattle.std.proofs.Common.{◌≡◌, ℕ, ◌-◌, ◌<◌, ◌≤◌, ◌⊎◌, length, Some, refl, inl, inr, sym, ap, ◌∙◌, subst, ⊎_elim, arith}
+use Rattle.std.proofs.lemmas.Bool.{cases_lt}
+use Rattle.std.proofs.lemmas.Option.{slice_get_within}
+use Rattle.tapa_syntax.specs.declared.program.Program.{Program}
+use Rattle.kahn_model.specs.Network.{Network}
+use Rattle.kahn_model.specs.Counts.{IsFounded, IsAllowed}
+use Rattle.kahn_model.specs.Outcome.{IsGreatest, IsJoined, HasJoinedLeft}
+use Rattle.kahn_model.specs.Start.{network_of}
+use Rattle.kahn_model.proofs.Count.{step_stays}
 use Rattle.kahn_model.proofs.Reach.{reach_founded}
-use Rattle.net_core.specs.declared.body.Pause.TheVariants.{Ended}
+use Rattle.kahn_model.proofs.Ends.{greatest, greatest_by}
+use Rattle.kahn_model.proofs.Ended.{ended_over}
+use Rattle.kahn_model.proofs.Joined.{joined_more}
+use Rattle.net_core.specs.declared.body.Pause.TheVariants.{Ended, Fuel}
+use Rattle.net_core.specs.declared.input.Input.{Input}
 use Rattle.net_core.specs.declared.outcome.Outcome.TheVariants.{Done, Stopped, Limit}
 use Rattle.net_core.specs.declared.net_state.NetState.{NetState}
-use Rattle.net_core.specs.Bindings.{stream_at}
+use Rattle.net_core.specs.Bindings.{detached_at, stream_at}
+use Rattle.net_core.specs.Bounded.{network_on}
 use Rattle.net_core.specs.Waits.{IsToldBy}
-use Rattle.net_core.specs.State.{network, count, total_ticks}
-use Rattle.net_core.specs.Settle.{IsQuiet, IsLimited, EndsAs, AreTold, AreAllEnded, IsSomeNotEnded}
-use Rattle.net_core.proofs.Ends.{stopped, told, is_limit, not_ended}
+use Rattle.net_core.specs.State.{network, count, joined_total, IsValid, IsWithin}
+use Rattle.net_core.specs.Settle.{IsQuiet, IsSpent, IsAtRest, IsLimited, EndsAs, IsTold, AreTold, AreJoinedTold, AreJoinedEnded, IsSomeJoinedLeft, IsSomeWithFuel, AreNoneWithFuel}
+use Rattle.net_core.proofs.Ends.{stopped, told, not_ended}
 
-module _ (net : NetState) (is_network : IsNetwork (network net)) (size : (network net).size ≡ length net.program.instances.items) (len : length net.pauses ≡ length net.program.instances.items) (reached : IsReachable (network net) (count net)) (budget left : ℕ) (ticks : total_ticks net + left ≡ budget) where
-  founded : IsFounded (network net) (count net)
-  founded = reach_founded (network net) (count net) reached
+pub detached_is : (program : Program) (input : Input) (i : ℕ) → (network_on program input).detached i ≡ detached_at program i
+unfolding network_of
+detached_is program input i = refl
 
+module _ (net : NetState) (v : IsValid net) (budget left : ℕ) (within : IsWithin net budget left) where
+  abbrev N : Network
+  N = network net
+
+  founded : IsFounded N (count net)
+  founded = reach_founded N (count net) v.reachable
+
+  inside : (j : ℕ) → j < N.size → j < length net.program.instances.items
+  inside j l = let e = v.size in omega arith
+
+  outside : (j : ℕ) → j < length net.program.instances.items → j < N.size
+  outside j l = let e = v.size in omega arith
+
+  -- the joined instances have made as many ticks as they may, and one of them goes on
   pub limit_ends : IsLimited net left → EndsAs net budget Limit
-  limit_ends l = λ m e.
-      let a = is_limit (network net) is_network (count net) l.instance reached l.allowed m e in
-      let s = l.spent in
-      let t = ticks in
-      omega arith
+  limit_ends l =
+      let g = greatest N v.is_network budget in
+      let k = g.0 in
+      let i = l.instance in
+      let above : (j : ℕ) → count net j ≤ k j = g.1.above (count net) v.reachable within.capped in
+      let sum = within.joined in
+      let none = l.none in
+      ⊎_elim
+      (λ (less : count net i < k i).
+      let more = joined_more N (count net) k i above l.allowed.supplied.inside l.joined less in
+      (k, record { greatest = g.1; more = inl (omega arith) }))
+      (λ (all : k i ≤ count net i).
+      let a = above i in
+      let here : IsAllowed N k i = step_stays N v.is_network (count net) k above i (omega arith) l.allowed in
+      let on : HasJoinedLeft N k = record { instance = i; inside = l.allowed.supplied.inside; joined = l.joined; goes_on = λ e. ended_over N v.is_network k i e here } in
+      (k, record { greatest = g.1; more = inr (record { left = on; instance = i; allowed = here }) }))
+      (cases_lt (count net i) (k i))
 
-  module _ (quiet : (j : ℕ) → j < length net.program.instances.items → IsQuiet net j) where
-    inside : (j : ℕ) → j < (network net).size → j < length net.program.instances.items
-    inside j l = let e = size in omega arith
+  module _ (rest : (j : ℕ) → j < length net.program.instances.items → IsAtRest net budget j) where
+    -- no instance steps below the budget
+    none_below : (i : ℕ) → IsAllowed N (count net) i → count net i < budget → ⊥
+    none_below i a l =
+        let lt : i < N.size = a.supplied.inside in
+        ⊎_elim
+        (λ (q : IsQuiet net i). stopped N v.is_network (count net) founded i lt (stream_at net.program i) q.pause q.stopped q.holds a)
+        (λ (s : IsSpent net budget i). let e = s.spent in omega arith)
+        (rest i (inside i lt))
 
-    outside : (j : ℕ) → j < length net.program.instances.items → j < (network net).size
-    outside j l = let e = size in omega arith
+    greatest_here : IsGreatest N budget (count net)
+    greatest_here = greatest_by N v.is_network budget (count net) v.reachable within.capped none_below
 
-    ending : IsEnding (network net) (count net)
-    ending = record {
-      reachable = reached;
-      over = λ i a.
-          let l : i < (network net).size = a.supplied.inside in
-          let q = quiet i (inside i l) in
-          stopped (network net) is_network (count net) founded i l (stream_at net.program i) q.pause q.stopped q.holds a;
-    }
+    few : joined_total net ≤ budget
+    few = let sum = within.joined in omega arith
 
-    pub settled : AreTold net
-    settled j l =
-        let q = quiet j l in
-        (q.pause, q.last, told (network net) is_network (count net) founded j (outside j l) (stream_at net.program j) q.pause q.stopped q.holds)
+    ticks : budget - left ≡ joined_total net
+    ticks = let sum = within.joined in omega arith
 
-    pub done_ends : AreAllEnded net.pauses → EndsAs net budget (Done (budget - left))
-    done_ends h =
-        let t = ticks in (
-          record {
-            ending = ending;
-            ended = λ i l.
-                let j = inside i l in
-                let s = settled i j in
-                let len' = len in
-                let e = h i (omega arith) in
-                let d = s.1 in
-                let x : s.0 ≡ Ended = cc in
-                subst (λ z. IsToldBy (network net) (count net) i (stream_at net.program i) z) x s.2;
-          },
-          omega arith,
-          omega arith,
-        )
+    told_quiet : (j : ℕ) → j < length net.program.instances.items → IsQuiet net j → IsTold net j
+    told_quiet j l q = (q.pause, q.last, told N v.is_network (count net) founded j (outside j l) (stream_at net.program j) q.pause q.stopped q.holds)
 
-    pub stopped_ends : IsSomeNotEnded net.pauses → EndsAs net budget (Stopped (budget - left))
-    stopped_ends (j, l, d) =
-        let t = ticks in
-        let len' = len in
+    quiet_joined : (j : ℕ) → j < length net.program.instances.items → IsJoined N j → IsQuiet net j
+    quiet_joined j l joined =
+        ⊎_elim
+        (λ (q : IsQuiet net j). q)
+        (λ (s : IsSpent net budget j). let d = s.detached in absurd (cc))
+        (rest j l)
+
+    pub told_joined : AreJoinedTold net
+    told_joined j l joined = told_quiet j l (quiet_joined j l joined)
+
+    quiet_all : AreNoneWithFuel net.pauses → (j : ℕ) → j < length net.program.instances.items → IsQuiet net j
+    quiet_all none j l =
+        ⊎_elim
+        (λ (q : IsQuiet net j). q)
+        (λ (s : IsSpent net budget j). absurd (none j s.last))
+        (rest j l)
+
+    pub told_all : AreNoneWithFuel net.pauses → AreTold net
+    told_all none j l = told_quiet j l (quiet_all none j l)
+
+    pub done_ends : AreJoinedEnded net.program net.pauses → EndsAs net budget (Done (budget - left))
+    done_ends h = (
+      record {
+        greatest = greatest_here;
+        ended = λ i l joined.
+            let j = inside i l in
+            let s = told_joined i j joined in
+            let len = v.pauses_len in
+            let e = h i (omega arith) (sym (detached_is net.program net.input i) ∙ joined) in
+            let d = s.1 in
+            let x : s.0 ≡ Ended = cc in
+            subst (λ z. IsToldBy N (count net) i (stream_at net.program i) z) x s.2;
+        within = few;
+      },
+      ticks,
+    )
+
+    left_here : IsSomeJoinedLeft net.program net.pauses → HasJoinedLeft N (count net)
+    left_here (j, l, d, e) =
+        let len = v.pauses_len in
         let lj : j < length net.program.instances.items = omega arith in
-        let q = quiet j lj in (
-          record {
-            ending = ending;
-            instance = j;
-            inside = outside j lj;
-            goes_on = not_ended (network net) is_network (count net) founded j (outside j lj) (stream_at net.program j) q.pause q.stopped (λ e. d (q.last ∙ ap (λ z. Some (Some z)) e)) q.holds;
-          },
-          omega arith,
-          omega arith,
-        )
+        let joined : IsJoined N j = detached_is net.program net.input j ∙ d in
+        let q = quiet_joined j lj joined in
+        record {
+          instance = j;
+          inside = outside j lj;
+          joined = joined;
+          goes_on = not_ended N v.is_network (count net) founded j (outside j lj) (stream_at net.program j) q.pause q.stopped (λ p. e (q.last ∙ ap (λ z. Some (Some z)) p)) q.holds;
+        }
+
+    -- a detached instance has made as many ticks as it may and goes on, and a joined one has not ended
+    pub spent_ends : IsSomeJoinedLeft net.program net.pauses → IsSomeWithFuel net.pauses → EndsAs net budget Limit
+    spent_ends h (j, at) =
+        let len = v.pauses_len in
+        let w = slice_get_within net.pauses j (Some Fuel) at in
+        let lj : j < length net.program.instances.items = omega arith in
+        let allowed : IsAllowed N (count net) j =
+        ⊎_elim
+        (λ (q : IsQuiet net j). let e = q.last in absurd (q.stopped (cc)))
+        (λ (s : IsSpent net budget j). s.allowed)
+        (rest j lj)
+        in
+        (count net, record { greatest = greatest_here; more = inr (record { left = left_here h; instance = j; allowed = allowed }) })
+
+    pub stopped_ends : IsSomeJoinedLeft net.program net.pauses → AreNoneWithFuel net.pauses → EndsAs net budget (Stopped (budget - left))
+    stopped_ends h none = (
+      record {
+        greatest = greatest_here;
+        over = λ i a.
+            let l : i < N.size = a.supplied.inside in
+            let q = quiet_all none i (inside i l) in
+            stopped N v.is_network (count net) founded i l (stream_at net.program i) q.pause q.stopped q.holds a;
+        left = left_here h;
+        within = few;
+      },
+      ticks,
+    )

@@ -13,13 +13,14 @@ use Rattle.kahn_model.specs.declared.tick.TraceEnd.{TraceEnd}
 use Rattle.kahn_model.specs.declared.tick.TraceEnd.TheVariants.{Ended, Needs, Bad}
 use Rattle.kahn_model.specs.Prefix.{IsPrefixOf}
 use Rattle.kahn_model.specs.Behavior.{Behavior, Finished, OutOfTurns, Act, Await, ticks, trace_end, Extends}
-use Rattle.kahn_model.specs.Network.{Network, IsNetwork, put_on, take_from, round}
+use Rattle.kahn_model.specs.Network.{Network, IsNetwork, put_on, take_from}
 use Rattle.kahn_model.specs.Counts.{round_of, ticks_made, written, taken, IsAllowed, IsReachable, IsFounded}
-use Rattle.kahn_model.proofs.Order.{prefix_refl, prefix_trans, prefix_flat_map, prefix_take, take_prefix, prefix_length, prefix_get, prefix_whole}
+use Rattle.kahn_model.proofs.Order.{prefix_refl, prefix_trans, prefix_flat_map, prefix_take, prefix_length, prefix_get, prefix_whole}
 use Rattle.kahn_model.proofs.Grow.{ticks_grow}
 use Rattle.kahn_model.proofs.Count.{IsBelow, own_ticks, made_le, taken_le}
-use Rattle.kahn_model.proofs.Reach.{reach_founded, full, all_made}
-use Rattle.kahn_model.proofs.Local.{here, here_all, here_prefix}
+use Rattle.kahn_model.proofs.Reach.{reach_founded, full}
+use Rattle.kahn_model.proofs.Local.{here_all}
+use Rattle.kahn_model.proofs.Taken.{takes_begin, made_here, taken_begins}
 use Rattle.net_core.specs.declared.ports.Ports.{Ports}
 use Rattle.net_core.specs.declared.body.Pause.{Pause}
 use Rattle.net_core.specs.declared.body.Pause.TheVariants.{Ended as HasEnded, WantsRead, WantsWrite, BadToken, Fuel}
@@ -27,7 +28,7 @@ use Rattle.net_core.specs.Ports.{waiting, room_at}
 use Rattle.net_core.specs.Resume.{lists_at, Agrees, HasRoomAt, StopsAt, GoesOnBy, PausesBy, Resumed}
 use Rattle.net_core.specs.Waits.{StopsIn, IsFullFor, HoldsPause}
 use Rattle.net_core.specs.Placement.{tick_at, trace_end_at, TickAt, AreAt, IsPlaced, IsStanding, PortsAre}
-use Rattle.net_core.proofs.Placed.{placed_ticks, placed_trace_end, asks_ticks, asks_trace_end, takes_begin, ticks_at, at_asks, are_prefix, takes_same, puts_same, put_found, take_found, map_prefix, map_get, at_get}
+use Rattle.net_core.proofs.Placed.{placed_ticks, placed_trace_end, asks_ticks, asks_trace_end, ticks_at, at_asks, are_prefix, takes_same, puts_same, put_found, take_found, map_prefix, map_get, at_get}
 use Rattle.net_core.proofs.Chunk.{plus, plus_same, plus_other, HasRoomFor, Chunk, chunk, written_after, is_step}
 use Rattle.net_core.proofs.Stuck.{stays_stopped}
 
@@ -97,14 +98,6 @@ module _ (net : Network) (ok : IsNetwork net) (k m : ℕ → ℕ) (i : ℕ) (ts 
   holds_other j f Fuel d l r w t u h = absurd (u refl)
 
 module _ (net : Network) (ok : IsNetwork net) (k : ℕ → ℕ) (r : IsFounded net k) where
-  made_here : (i : ℕ) → ticks_made net k i ≡ take (k i) (here net k i)
-  made_here i =
-      let us = round net (round_of net k) i in
-      let lm = all_made net ok k r i in
-      let h = here_all net ok k r i in
-      let lt = length-take-le (k i) (here net k i) h in
-      sym (prefix_whole _ _ (prefix_take (k i) (k i) (here net k i) us (omega arith) (here_prefix net ok k (full net ok k r) i)) (omega arith))
-
   take_same : (n : ℕ) (xs ys : List Tick) → IsPrefixOf xs ys → n ≤ length xs → take n xs ≡ take n ys
   take_same n xs ys p l =
       let a = length-take-le n xs l in
@@ -115,19 +108,11 @@ module _ (net : Network) (ok : IsNetwork net) (k : ℕ → ℕ) (r : IsFounded n
   pub made_take : (n i : ℕ) → k i ≤ length (ticks (net.job i n) (written net k)) → ticks_made net k i ≡ take (k i) (ticks (net.job i n) (written net k))
   made_take n i l =
       let xs = written net k in
-      made_here i ∙
+      made_here net ok k r i ∙
       ⊎_elim
       (λ (h : n < round_of net k). sym (take_same (k i) _ _ (ticks_grow (net.job i n) (net.job i (round_of net k)) xs xs (ok.grows i n (round_of net k) (omega arith)) (λ s. prefix_refl (xs s))) l))
       (λ (h : round_of net k ≤ n). take_same (k i) _ _ (ticks_grow (net.job i (round_of net k)) (net.job i n) xs xs (ok.grows i (round_of net k) n h) (λ s. prefix_refl (xs s))) (here_all net ok k r i))
       (cases_lt n (round_of net k))
-
-  pub taken_begins : (s : ℕ) → IsPrefixOf (taken net k s) (written net k s)
-  taken_begins s =
-      let c = net.consumer s in
-      prefix_trans _ _ _
-      (subst (λ l. IsPrefixOf (flat_map (take_from s) l) (flat_map (take_from s) (here net k c))) (sym (made_here c))
-      (prefix_flat_map (take_from s) _ _ (take_prefix (k c) (here net k c))))
-      (takes_begin (net.job c (round_of net k)) (written net k) s)
 
 module _ (net : Network) (ok : IsNetwork net) (k : ℕ → ℕ) (r : IsReachable net k) (i : ℕ) (job : ℕ → Behavior) (f : ℕ → ℕ) (R W : ℕ → Type 0) (plug : IsPlaced net i job f R W) (Stands : List Tick → Type 0) (st : IsStanding Stands net k i job f) where
   abbrev ours : ℕ → List Token

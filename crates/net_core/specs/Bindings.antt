@@ -6,7 +6,7 @@ use Rattle.tapa_syntax.specs.declared.program.Instance.{Instance}
 use Rattle.tapa_syntax.specs.declared.program.Stream.{Stream}
 use Rattle.tapa_syntax.specs.declared.program.Program.{Program}
 use Rattle.tapa_syntax.specs.LeafKinds.{writes_of}
-use Rattle.kahn_model.specs.ProgramNetwork.{end_of}
+use Rattle.kahn_model.specs.ProgramNetwork.{is_detached, end_of}
 use Rattle.kahn_model.specs.Fits.{stream_kind}
 use Rattle.net_core.specs.Kinds.{kind_in}
 
@@ -29,6 +29,10 @@ ends_at program i = ends_in_leaf (leaf_at program i)
 abbrev pub arity_in : Option Instance → ℕ
 arity_in None = 0
 arity_in (Some x) = length x.streams.items
+
+-- instance i is not waited for
+abbrev pub detached_at : Program → ℕ → Bool
+detached_at program i = is_detached (slice_get program.instances.items i)
 
 -- how many streams instance i has
 abbrev pub arity : Program → ℕ → ℕ

@@ -1,32 +1,39 @@
 -- How driving a net ends, and what its rounds keep.
-use Rattle.std.specs.Prelude.{◌≡◌, ℕ, ◌+◌, ◌<◌, ◌≤◌, ◌⊎◌, List, length, Bool, true, false, Option, Some, slice_get}
-use Rattle.kahn_model.specs.Counts.{total, IsAllowed, IsEnding}
-use Rattle.kahn_model.specs.Outcome.{IsDone, IsStopped}
+use Rattle.std.specs.Prelude.{◌≡◌, ℕ, ◌-◌, ◌*◌, ◌<◌, ◌≤◌, ◌⊎◌, List, length, Bool, true, false, Option, Some, slice_get}
+use Rattle.tapa_syntax.specs.declared.program.Program.{Program}
+use Rattle.kahn_model.specs.Counts.{IsAllowed}
+use Rattle.kahn_model.specs.Outcome.{IsJoined, IsDone, IsStopped}
+use Rattle.kahn_model.specs.Ending.{GoesPast}
 use Rattle.net_core.specs.declared.body.Pause.{Pause}
 use Rattle.net_core.specs.declared.body.Pause.TheVariants.{Ended, Fuel}
 use Rattle.net_core.specs.declared.outcome.Outcome.{Outcome}
 use Rattle.net_core.specs.declared.outcome.Outcome.TheVariants.{Done, Stopped, Limit}
 use Rattle.net_core.specs.declared.net_state.NetState.{NetState}
-use Rattle.net_core.specs.Bindings.{stream_at}
+use Rattle.net_core.specs.Bindings.{detached_at, stream_at}
 use Rattle.net_core.specs.Waits.{HoldsPause, IsToldBy}
 use Rattle.net_core.specs.Load.{IsIn, AreBelow}
-use Rattle.net_core.specs.State.{network, count, total_ticks, given}
+use Rattle.net_core.specs.State.{network, count, total_ticks, joined_total, given, IsWithin}
 
 -- the outcome within a budget of ticks: exactly one holds (Kahn's network at its declared depths, see kahn_model's
 -- specs/Outcome)
 abbrev pub EndsAs : NetState → ℕ → Outcome → Type 0
-EndsAs net budget (Done t) = IsDone (network net) (count net) × (t ≡ total_ticks net) × (t ≤ budget)
-EndsAs net budget (Stopped t) = IsStopped (network net) (count net) × (t ≡ total_ticks net) × (t ≤ budget)
-EndsAs net budget Limit = (m : ℕ → ℕ) → IsEnding (network net) m → budget < total (network net).size m
+EndsAs net budget (Done t) = IsDone (network net) budget (count net) × (t ≡ joined_total net)
+EndsAs net budget (Stopped t) = IsStopped (network net) budget (count net) × (t ≡ joined_total net)
+EndsAs net budget Limit = GoesPast (network net) budget
 
--- each instance's last pause tells what it waits for
+-- the last pause of instance j tells what it waits for
+abbrev pub IsTold : NetState → ℕ → Type 0
+IsTold net j = (x : Pause) × (slice_get net.pauses j ≡ Some (Some x)) × IsToldBy (network net) (count net) j (stream_at net.program j) x
+
 abbrev pub AreTold : NetState → Type 0
-AreTold net =
-    (j : ℕ) → j < length net.program.instances.items → (x : Pause) × (slice_get net.pauses j ≡ Some (Some x)) × IsToldBy (network net) (count net) j (stream_at net.program j) x
+AreTold net = (j : ℕ) → j < length net.program.instances.items → IsTold net j
+
+abbrev pub AreJoinedTold : NetState → Type 0
+AreJoinedTold net = (j : ℕ) → j < length net.program.instances.items → IsJoined (network net) j → IsTold net j
 
 abbrev pub IsSettled : NetState → Outcome → Type 0
 IsSettled net Limit = Unit {0}
-IsSettled net (Done t) = AreTold net
+IsSettled net (Done t) = AreJoinedTold net
 IsSettled net (Stopped t) = AreTold net
 
 -- the last pause of instance j still says why it makes no step
@@ -36,30 +43,56 @@ pub record IsQuiet (net : NetState) (j : ℕ) : Type 0 where
   pub stopped : pause ≡ Fuel → ⊥
   pub holds : HoldsPause (network net) (count net) j (stream_at net.program j) pause
 
--- the fuel is spent, and an instance may go on
+-- detached instance j has made as many ticks as the budget, and may go on
+pub record IsSpent (net : NetState) (budget j : ℕ) : Type 0 where
+  pub detached : (network net).detached j ≡ true
+  pub last : slice_get net.pauses j ≡ Some (Some Fuel)
+  pub spent : count net j ≡ budget
+  pub allowed : IsAllowed (network net) (count net) j
+
+-- instance j makes no step within the budget
+abbrev pub IsAtRest : NetState → ℕ → ℕ → Type 0
+IsAtRest net budget j = IsQuiet net j ⊎ IsSpent net budget j
+
+-- nothing is left to the joined instances, and one of them may go on
 pub record IsLimited (net : NetState) (left : ℕ) : Type 0 where
-  pub spent : left ≡ 0
+  pub none : left ≡ 0
   pub instance : ℕ
+  pub joined : IsJoined (network net) instance
   pub allowed : IsAllowed (network net) (count net) instance
 
--- what a visit of instance i leaves: each other one is quiet as before, or on the list
-pub record Visited (old new : NetState) (i left left' : ℕ) (later later' : List ℕ) (go : Bool) : Type 0 where
+-- how many more ticks the instances may make, each within the budget
+unfoldable pub ticks_ahead : NetState → ℕ → ℕ
+ticks_ahead net budget = (network net).size * budget - total_ticks net
+
+-- what a visit of instance i leaves: each other one is at rest as before, or on the list
+pub record Visited (old new : NetState) (i budget left : ℕ) (later later' : List ℕ) (go : Bool) : Type 0 where
   pub given : given new ≡ given old
-  pub ticks : total_ticks new + left' ≡ total_ticks old + left
-  pub less : left' ≤ left
-  pub limit : go ≡ false → IsLimited new left'
-  pub quiet : go ≡ true → (j : ℕ) → j < length old.program.instances.items → (j ≡ i) ⊎ (IsQuiet old j ⊎ IsIn j later) → IsQuiet new j ⊎ IsIn j later'
-  pub progress : 0 < length later' → (0 < length later) ⊎ (left' < left)
+  pub within : IsWithin new budget left
+  pub limit : go ≡ false → IsLimited new left
+  pub rest : go ≡ true → (j : ℕ) → j < length old.program.instances.items → (j ≡ i) ⊎ (IsAtRest old budget j ⊎ IsIn j later) → IsAtRest new budget j ⊎ IsIn j later'
+  pub less : ticks_ahead new budget ≤ ticks_ahead old budget
+  pub progress : 0 < length later' → (0 < length later) ⊎ (ticks_ahead new budget < ticks_ahead old budget)
 
 -- what a pass over a list of instances leaves
-pub record Passed (old new : NetState) (now : List ℕ) (left left' : ℕ) (later : List ℕ) : Type 0 where
+pub record Passed (old new : NetState) (budget : ℕ) (now later : List ℕ) : Type 0 where
   pub below : AreBelow (length old.program.instances.items) later
-  pub quiet : (j : ℕ) → j < length old.program.instances.items → IsQuiet old j ⊎ IsIn j now → IsQuiet new j ⊎ IsIn j later
-  pub less : left' ≤ left
-  pub progress : 0 < length later → left' < left
+  pub rest : (j : ℕ) → j < length old.program.instances.items → IsAtRest old budget j ⊎ IsIn j now → IsAtRest new budget j ⊎ IsIn j later
+  pub less : ticks_ahead new budget ≤ ticks_ahead old budget
+  pub progress : 0 < length later → ticks_ahead new budget < ticks_ahead old budget
 
-abbrev pub AreAllEnded : List (Option Pause) → Type 0
-AreAllEnded pauses = (j : ℕ) → j < length pauses → slice_get pauses j ≡ Some (Some Ended)
+-- each joined instance answered last that it has ended
+abbrev pub AreJoinedEnded : Program → List (Option Pause) → Type 0
+AreJoinedEnded program pauses = (j : ℕ) → j < length pauses → detached_at program j ≡ false → slice_get pauses j ≡ Some (Some Ended)
 
-abbrev pub IsSomeNotEnded : List (Option Pause) → Type 0
-IsSomeNotEnded pauses = (j : ℕ) × (j < length pauses) × (slice_get pauses j ≡ Some (Some Ended) → ⊥)
+-- one of them did not
+abbrev pub IsSomeJoinedLeft : Program → List (Option Pause) → Type 0
+IsSomeJoinedLeft program pauses = (j : ℕ) × (j < length pauses) × (detached_at program j ≡ false) × (slice_get pauses j ≡ Some (Some Ended) → ⊥)
+
+-- some instance answered last that it may go on
+abbrev pub IsSomeWithFuel : List (Option Pause) → Type 0
+IsSomeWithFuel pauses = (j : ℕ) × (slice_get pauses j ≡ Some (Some Fuel))
+
+-- none did
+abbrev pub AreNoneWithFuel : List (Option Pause) → Type 0
+AreNoneWithFuel pauses = (j : ℕ) → slice_get pauses j ≡ Some (Some Fuel) → ⊥

@@ -1,8 +1,9 @@
 -- What contracts say of a net, and what resuming one of its instances does.
-use Rattle.std.specs.Prelude.{◌≡◌, ℕ, ◌+◌, ◌<◌, ◌≤◌, ◌⊎◌, ◌==◌, if◌then◌else◌, length, Some, None, slice_get, slice_set}
+use Rattle.std.specs.Prelude.{◌≡◌, ℕ, ◌+◌, ◌<◌, ◌≤◌, ◌⊎◌, ◌==◌, if◌then◌else◌, length, true, false, Some, None, slice_get, slice_set}
 use Rattle.tapa_syntax.specs.declared.program.Program.{Program}
 use Rattle.kahn_model.specs.Network.{Network, IsNetwork}
 use Rattle.kahn_model.specs.Counts.{written, taken, total, IsAllowed, IsReachable}
+use Rattle.kahn_model.specs.Outcome.{joined_ticks, IsCapped}
 use Rattle.net_core.specs.declared.body.Pause.{Pause}
 use Rattle.net_core.specs.declared.body.Pause.TheVariants.{Fuel}
 use Rattle.net_core.specs.declared.input.Input.{Input}
@@ -24,6 +25,10 @@ count net = count_of net.counts
 -- the ticks of all instances
 abbrev pub total_ticks : NetState → ℕ
 total_ticks net = total (network net).size (count net)
+
+-- the ticks of the joined ones
+abbrev pub joined_total : NetState → ℕ
+joined_total net = joined_ticks (network net) (count net)
 
 -- what a net keeps: its program and its input
 abbrev pub given : NetState → Program × Input
@@ -68,3 +73,16 @@ pub record HasResumed (old new : NetState) (i fuel : ℕ) (pause : Pause) (made 
       (pause ≡ Fuel → ⊥) → ((p : ℕ) → Reads old.program i p → written (network old) (count new) (stream_at old.program i p) ≡ written (network old) (count old) (stream_at old.program i p)) → ((p : ℕ) → Writes old.program i p → taken (network old) (count new) (stream_at old.program i p) ≡ taken (network old) (count old) (stream_at old.program i p)) → HoldsPause (network old) (count new) i (stream_at old.program i) pause
   pub others :
       (j : ℕ) (x : Pause) → (j ≡ i → ⊥) → j < length old.program.instances.items → ((s : ℕ) → consumer_of old.program s ≡ j → written (network old) (count new) s ≡ written (network old) (count old) s) → ((s : ℕ) → producer_of old.program s ≡ j → taken (network old) (count new) s ≡ taken (network old) (count old) s) → (x ≡ Fuel → ⊥) → HoldsPause (network old) (count old) j (stream_at old.program j) x → HoldsPause (network old) (count new) j (stream_at old.program j) x
+
+-- no instance has made more ticks than the budget, nor have the joined ones together, to which so many are left
+pub record IsWithin (net : NetState) (budget left : ℕ) : Type 0 where
+  pub capped : IsCapped (network net) budget (count net)
+  pub joined : joined_total net + left ≡ budget
+
+-- an instance was resumed with what is left to it: a joined one with what is left to all joined ones, a detached one with
+-- what is left to itself
+pub record HasResumedWithin (old new : NetState) (i budget left left' : ℕ) (pause : Pause) (made : ℕ) : Type 0 where
+  pub fuel : ℕ
+  pub resumed : HasResumed old new i fuel pause made
+  pub joined : (network old).detached i ≡ false → (fuel ≡ left) × (left' + made ≡ left)
+  pub detached : (network old).detached i ≡ true → (count old i + fuel ≡ budget) × (left' ≡ left)

@@ -1,16 +1,25 @@
 ghost use Rattle.std.specs.Prelude.{◌≡◌, ◌<◌, length, slice_get, Some, MatchOption};
-ghost use Rattle.kahn_model.specs.Counts.{written};
+ghost use Rattle.kahn_model.specs.Counts.{written, taken};
+ghost use Rattle.kahn_model.specs.Outcome.{shown};
 ghost use Rattle.net_core.specs.Bounded.{IsBodyAt};
 ghost use Rattle.net_core.specs.Bindings.{stream_at};
 ghost use Rattle.net_core.specs.Waits.{HasHeld};
 ghost use Rattle.net_core.specs.State.{network, count, IsValid};
 
-use crate::bindings::producer;
+use crate::bindings::{consumer, is_detached, producer};
 use crate::body::{Body, Pause};
 use crate::net::Net;
 use tapa_base::Token;
 
 impl<B: Body> Net<B> {
+    // Whether an instance is not waited for.
+    pub(crate) fn is_detached(&self, i: usize) -> bool
+        requires { i < length self.now.program.instances.items }
+        ensures { result ≡ (network self.now).detached i }
+    {
+        is_detached(&self.program, i)
+    }
+
     /// What holds of every net, for proofs: it stands at a reachable count of its program's network. It does nothing.
     pub fn valid(&self)
         ensures { IsValid self.now }
@@ -25,6 +34,30 @@ impl<B: Body> Net<B> {
     {
         let j = producer(&self.program, stream as usize);
         self.ports[j].carried(self.writers[stream as usize])
+    }
+
+    /// How many of them the stream's consumer has taken.
+    pub fn taken(&self, stream: u32) -> u64
+        requires { stream < length self.now.program.streams.items }
+        ensures { result ≡ length (taken (network self.now) (count self.now) stream) }
+    {
+        self.taken[stream as usize] as u64
+    }
+
+    /// What a run shows of a stream where every joined instance has ended: the tokens that were written where its producer
+    /// is joined, else those that were taken where its consumer is, else none.
+    pub fn shown(&self, stream: u32) -> &[Token]
+        requires { stream < length self.now.program.streams.items }
+        ensures { result.now ≡ shown (network self.now) (count self.now) stream }
+    {
+        let s = stream as usize;
+        if !self.is_detached(producer(&self.program, s)) {
+            return self.carried(stream);
+        }
+        if self.is_detached(consumer(&self.program, s)) {
+            return &[];
+        }
+        &self.carried(stream)[..self.taken[s]]
     }
 
     /// What the last resume of an instance answered, and `None` before its first: an answer that held at some count on the

@@ -1,8 +1,16 @@
 // How the instances of a program are bound to its streams.
 ghost use Rattle.std.specs.Prelude.{◌≡◌, ◌<◌, length, MatchBool};
-ghost use Rattle.net_core.specs.Bindings.{IsConnected, arity, ends_at, stream_at, Reads, Writes, producer_of, consumer_of, depth_of};
+ghost use Rattle.net_core.specs.Bindings.{IsConnected, detached_at, arity, ends_at, stream_at, Reads, Writes, producer_of, consumer_of, depth_of};
 
 use tapa_syntax::{End, Program};
+
+/// Whether an instance is not waited for.
+pub fn is_detached(program: &Program, i: usize) -> bool
+    requires { i < length program.now.instances.items }
+    ensures { result ≡ detached_at program.now i }
+{
+    program.instances[i].detached
+}
 
 /// How many streams an instance has.
 pub fn arity(program: &Program, i: usize) -> usize

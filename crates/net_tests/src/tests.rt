@@ -40,13 +40,13 @@ mod tests {
         })
     }
 
-    fn instance(alloc: Global, body: u32, streams: Vec<u32>) -> Instance
+    fn instance(alloc: Global, body: u32, detached: bool, streams: Vec<u32>) -> Instance
         ensures { IsPlainInstance result body streams.items }
     {
         Instance {
             label: Text::new(Vec::new(alloc)),
             body,
-            detached: false,
+            detached,
             scalars: Vec::new(alloc),
             streams,
             memories: Vec::new(alloc),
@@ -68,6 +68,7 @@ mod tests {
     fn bench(
         alloc: Global,
         depths: (u32, u32, u32),
+        detached: (bool, bool),
         first: &[Step],
         second: &[Step],
     ) -> Result<Program, OutOfMemory>
@@ -87,8 +88,8 @@ mod tests {
         let second_leaf = leaf(alloc, second_ends, second)?;
         let first_streams = Vec::from_array(alloc, [0, 1, 2, 2])?;
         let second_streams = Vec::from_array(alloc, [0, 1])?;
-        let first_instance = instance(alloc, 0, first_streams);
-        let second_instance = instance(alloc, 1, second_streams);
+        let first_instance = instance(alloc, 0, detached.0, first_streams);
+        let second_instance = instance(alloc, 1, detached.1, second_streams);
         let stream0 = stream(alloc, depths.0, 0, 1);
         let stream1 = stream(alloc, depths.1, 0, 1);
         let stream2 = stream(alloc, depths.2, 0, 0);
@@ -158,6 +159,7 @@ mod tests {
     fn new_net(
         alloc: Global,
         depths: (u32, u32, u32),
+        detached: (bool, bool),
         first: Vec<Step>,
         second: Vec<Step>,
     ) -> Result<Net<Script>, OutOfMemory>
@@ -168,7 +170,7 @@ mod tests {
         ensures instances { IfOk result (λ net. length net.program.instances.items ≡ 2) }
         ensures streams { IfOk result (λ net. length net.program.streams.items ≡ 3) }
     {
-        let program = bench(alloc, depths, &first, &second)?;
+        let program = bench(alloc, depths, detached, &first, &second)?;
         let input = Input {
             scalars: Vec::new(alloc),
             memories: Vec::new(alloc),
@@ -196,11 +198,40 @@ mod tests {
         if !all_suit(&[read(), read()], &second) {
             return Ok(None);
         }
-        let mut net = new_net(alloc, depths, first, second)?;
+        let mut net = new_net(alloc, depths, (false, false), first, second)?;
         let outcome = settle(alloc, &mut net, budget)?;
         let carried = net.carried(0).len();
         let ticks = net.body(0).ticks();
         Ok(Some((outcome, carried, ticks, net.pause(0), net.pause(1))))
+    }
+
+    // The first sends on stream 0, and the second receives from a stream: how they end where these are detached, and of
+    // stream 0 how many tokens were written, were taken and are shown.
+    fn beside(
+        alloc: Global,
+        detached: (bool, bool),
+        depth: u32,
+        sent: usize,
+        from: u32,
+        received: usize,
+        budget: u64,
+    ) -> Result<Option<(Outcome, usize, u64, usize)>, OutOfMemory>
+        requires depth { IsDepth depth }
+        requires budget { budget ≤ 1000000000000 }
+    {
+        let first = sends(alloc, 0, Token::Datum(5), sent)?;
+        let second = receives(alloc, from, received)?;
+        if !all_suit(&[write(), write(), write(), read()], &first) {
+            return Ok(None);
+        }
+        if !all_suit(&[read(), read()], &second) {
+            return Ok(None);
+        }
+        let mut net = new_net(alloc, (depth, 1, 1), detached, first, second)?;
+        let outcome = settle(alloc, &mut net, budget)?;
+        let written = net.carried(0).len();
+        let shown = net.shown(0).len();
+        Ok(Some((outcome, written, net.taken(0), shown)))
     }
 
     fn sends(alloc: Global, p: u32, t: Token, n: usize) -> Result<Vec<Step>, OutOfMemory> {
@@ -256,6 +287,31 @@ mod tests {
             Some(first),
             Some(second),
         ))
+    }
+
+    fn done(
+        ticks: u64,
+        written: usize,
+        taken: u64,
+        shown: usize,
+    ) -> Option<(Outcome, usize, u64, usize)> {
+        Some((Outcome::Done { ticks }, written, taken, shown))
+    }
+
+    #[test]
+    fn a_detached_task_is_not_waited_for(rt: HostRuntime) {
+        let a = rt.alloc();
+        let first = (true, false);
+        assert!(rt; beside(a, first, 2, 9, 0, 4, 100) == Ok(done(5, 6, 4, 4)));
+        assert!(rt; beside(a, first, 2, 9, 0, 4, 5) == Ok(done(5, 5, 4, 4)));
+        assert!(rt; beside(a, (false, true), 2, 3, 0, 9, 4) == Ok(done(4, 3, 3, 3)));
+        assert!(rt; beside(a, (true, true), 2, 9, 0, 4, 100) == Ok(done(0, 6, 4, 0)));
+        assert!(rt; beside(a, first, 2, 9, 0, 4, 4) == Ok(Some((Outcome::Limit, 4, 4, 4))));
+        assert!(rt; beside(a, first, 4096, 9, 1, 1, 4) == Ok(Some((Outcome::Limit, 4, 0, 0))));
+        assert!(rt;
+            beside(a, first, 4096, 9, 1, 1, 10)
+                == Ok(Some((Outcome::Stopped { ticks: 0 }, 9, 0, 0)))
+        );
     }
 
     #[test]

@@ -1,4 +1,4 @@
-use Rattle.std.proofs.Common.{◌≡◌, ℕ, ◌<◌, ◌⊎◌, inr, length, true, refl, sym, ap, subst, ⊎_elim, ◌∙◌, arith}
+use Rattle.std.proofs.Common.{◌≡◌, ℕ, ◌<◌, ◌⊎◌, inr, length, List, true, refl, sym, ap, subst, ⊎_elim, ◌∙◌, arith}
 use Rattle.std.specs.Prelude.{Vec}
 use Rattle.std.specs.declared.alloc.Global.{Global}
 use Rattle.std.proofs.lemmas.Bool.Decides.{nat_tests}
@@ -7,9 +7,14 @@ use Rattle.tapa_syntax.specs.declared.program.Program.{Program}
 use Rattle.net_core.specs.declared.input.Input.{Input}
 use Rattle.net_core.specs.declared.net_state.NetState.{NetState}
 use Rattle.net_core.specs.Load.{IsIn, AreBelow, AreListed}
-use Rattle.net_core.specs.Settle.{IsQuiet, AreAllEnded, IsSomeNotEnded}
-use Rattle.net_core.proofs.Settled.{limit_ends, done_ends, stopped_ends, settled}
+use Rattle.net_core.specs.Settle.{IsAtRest, AreJoinedEnded, IsSomeJoinedLeft, IsSomeWithFuel, AreNoneWithFuel}
+use Rattle.net_core.proofs.Settled.{limit_ends, done_ends, spent_ends, stopped_ends, told_joined, told_all}
 use Rattle.net_core.proofs.drive.settle_rounds.Goals as goal
+
+-- where no instance is left on the list, each is at rest
+rest_all : (net : NetState) (budget : ℕ) (now : List ℕ) → length now ≡ 0 → ((j : ℕ) → j < length net.program.instances.items → IsAtRest net budget j ⊎ IsIn j now) → (j : ℕ) → j < length net.program.instances.items → IsAtRest net budget j
+rest_all net budget now none rest j l =
+    ⊎_elim (λ (q : IsAtRest net budget j). q) (λ (n : IsIn j now). let w = slice_get_within now n.0 j n.1 in absurd (omega arith)) (rest j l)
 
 pub rounds-init : goal.rounds-init
 rounds-init g c =
@@ -24,20 +29,18 @@ rounds-init g c =
     let here : c.len.result ≡ length c.args.net.now.program.instances.items = omega arith in
     record {
       given = refl;
-      ticks = let z = c.requires.new in omega arith;
+      within = c.requires.new;
       listed_len = omega arith;
       listed = λ x e. let w = slice_get_within c.in_ok-listed.listed.items x true e in c.in_ok-now.ensures.all x (omega arith);
       below = subst (λ m. AreBelow m c.in_ok-now.now.items) here c.in_ok-now.ensures.below;
-      quiet = λ j l. inr (c.in_ok-now.ensures.all j (omega arith));
+      rest = λ j l. inr (c.in_ok-now.ensures.all j (omega arith));
     }
 
 pub returns-then-not-branch-clause-outcome : goal.returns-then-not-branch-clause-outcome
 returns-then-not-branch-clause-outcome g c =
-    let inv = c.rounds.invariant in
-    let v = c.valid.ensures in
     let e = c.in_ok-pass.ensures in
     let l = rw c.if-not-branch.true at e.passed in
-    limit_ends c.pass.new.net v.is_network v.size v.pauses_len v.reachable c.args.budget c.pass.new.left (e.ticks ∙ inv.ticks) l
+    limit_ends c.pass.new.net c.valid.ensures c.args.budget c.pass.new.left e.within l
 
 pub rounds-preserved : goal.rounds-preserved
 rounds-preserved g c =
@@ -48,49 +51,48 @@ rounds-preserved g c =
     let same : length c.pass.new.net.program.instances.items ≡ length c.rounds.net.program.instances.items = ap (λ (z : Program × Input). length z.0.instances.items) e.given in
     record {
       given = e.given ∙ inv.given;
-      ticks = e.ticks ∙ inv.ticks;
+      within = e.within;
       listed_len = e.listed_len ∙ inv.listed_len ∙ sym same;
       listed = subst (λ (v : Vec ℕ Global). AreListed c.pass.new.listed.items v.items) x e.listed;
       below = subst (λ (v : Vec ℕ Global). AreBelow (length c.pass.new.net.program.instances.items) v.items) x (subst (λ m. AreBelow m c.pass.new.later.items) (sym same) p.below);
-      quiet = λ j l. subst (λ (v : Vec ℕ Global). IsQuiet c.pass.new.net j ⊎ IsIn j v.items) x (p.quiet j (omega arith) (inv.quiet j (omega arith)));
+      rest = λ j l. subst (λ (v : Vec ℕ Global). IsAtRest c.pass.new.net c.args.budget j ⊎ IsIn j v.items) x (p.rest j (omega arith) (inv.rest j (omega arith)));
     }
 
-pub returns-then-all_ended-clause-outcome : goal.returns-then-all_ended-clause-outcome
-returns-then-all_ended-clause-outcome g c =
+pub returns-then-have_joined_ended-clause-outcome : goal.returns-then-have_joined_ended-clause-outcome
+returns-then-have_joined_ended-clause-outcome g c =
     let inv = c.rounds.invariant in
     let none : length c.rounds.now.items ≡ 0 = let t = c.rounds-test.ensures in let o = c.rounds.now.ok.0 in grind (arith, nat_tests) in
-    let quiet : (j : ℕ) → j < length c.rounds.net.program.instances.items → IsQuiet c.rounds.net j =
-    λ j l. ⊎_elim (λ (q : IsQuiet c.rounds.net j). q) (λ (n : IsIn j c.rounds.now.items). let w = slice_get_within c.rounds.now.items n.0 j n.1 in absurd (omega arith)) (inv.quiet j l)
-    in
-    let v = c.valid-2.ensures in
-    done_ends c.rounds.net v.is_network v.size v.pauses_len v.reachable c.args.budget c.rounds.left inv.ticks quiet (subst (λ (z : NetState). AreAllEnded z.pauses) c.net-2.view_is c.if-all_ended.ensures)
+    let rest = rest_all c.rounds.net c.args.budget c.rounds.now.items none inv.rest in
+    let same = c.deref.ensures ∙ ap (λ (z : NetState). z.program) c.net-2.view_is in
+    let ended : AreJoinedEnded c.rounds.net.program c.rounds.net.pauses = subst (λ (p : Program). AreJoinedEnded p c.rounds.net.pauses) same (subst (λ (z : NetState). AreJoinedEnded c.deref.result.now z.pauses) c.net-2.view_is c.if-have_joined_ended.ensures) in
+    done_ends c.rounds.net c.valid-2.ensures c.args.budget c.rounds.left inv.within rest ended
 
-pub returns-then-all_ended-clause-pauses : goal.returns-then-all_ended-clause-pauses
-returns-then-all_ended-clause-pauses g c =
+pub returns-then-have_joined_ended-clause-pauses : goal.returns-then-have_joined_ended-clause-pauses
+returns-then-have_joined_ended-clause-pauses g c =
     let inv = c.rounds.invariant in
     let none : length c.rounds.now.items ≡ 0 = let t = c.rounds-test.ensures in let o = c.rounds.now.ok.0 in grind (arith, nat_tests) in
-    let quiet : (j : ℕ) → j < length c.rounds.net.program.instances.items → IsQuiet c.rounds.net j =
-    λ j l. ⊎_elim (λ (q : IsQuiet c.rounds.net j). q) (λ (n : IsIn j c.rounds.now.items). let w = slice_get_within c.rounds.now.items n.0 j n.1 in absurd (omega arith)) (inv.quiet j l)
-    in
-    let v = c.valid-2.ensures in
-    settled c.rounds.net v.is_network v.size v.pauses_len v.reachable c.args.budget c.rounds.left inv.ticks quiet
+    told_joined c.rounds.net c.valid-2.ensures c.args.budget c.rounds.left inv.within (rest_all c.rounds.net c.args.budget c.rounds.now.items none inv.rest)
+
+pub returns-then-goes_on-clause-outcome : goal.returns-then-goes_on-clause-outcome
+returns-then-goes_on-clause-outcome g c =
+    let inv = c.rounds.invariant in
+    let none : length c.rounds.now.items ≡ 0 = let t = c.rounds-test.ensures in let o = c.rounds.now.ok.0 in grind (arith, nat_tests) in
+    let rest = rest_all c.rounds.net c.args.budget c.rounds.now.items none inv.rest in
+    let same = c.deref.ensures ∙ ap (λ (z : NetState). z.program) c.net-2.view_is in
+    let left : IsSomeJoinedLeft c.rounds.net.program c.rounds.net.pauses = subst (λ (p : Program). IsSomeJoinedLeft p c.rounds.net.pauses) same (subst (λ (z : NetState). IsSomeJoinedLeft c.deref.result.now z.pauses) c.net-2.view_is c.if-have_joined_ended.ensures) in
+    spent_ends c.rounds.net c.valid-2.ensures c.args.budget c.rounds.left inv.within rest left (subst (λ (z : NetState). IsSomeWithFuel z.pauses) c.net-2.view_is c.if-goes_on.ensures)
 
 pub returns-clause-outcome : goal.returns-clause-outcome
 returns-clause-outcome g c =
     let inv = c.rounds.invariant in
     let none : length c.rounds.now.items ≡ 0 = let t = c.rounds-test.ensures in let o = c.rounds.now.ok.0 in grind (arith, nat_tests) in
-    let quiet : (j : ℕ) → j < length c.rounds.net.program.instances.items → IsQuiet c.rounds.net j =
-    λ j l. ⊎_elim (λ (q : IsQuiet c.rounds.net j). q) (λ (n : IsIn j c.rounds.now.items). let w = slice_get_within c.rounds.now.items n.0 j n.1 in absurd (omega arith)) (inv.quiet j l)
-    in
-    let v = c.valid-2.ensures in
-    stopped_ends c.rounds.net v.is_network v.size v.pauses_len v.reachable c.args.budget c.rounds.left inv.ticks quiet (subst (λ (z : NetState). IsSomeNotEnded z.pauses) c.net-2.view_is c.if-all_ended.ensures)
+    let rest = rest_all c.rounds.net c.args.budget c.rounds.now.items none inv.rest in
+    let same = c.deref.ensures ∙ ap (λ (z : NetState). z.program) c.net-2.view_is in
+    let left : IsSomeJoinedLeft c.rounds.net.program c.rounds.net.pauses = subst (λ (p : Program). IsSomeJoinedLeft p c.rounds.net.pauses) same (subst (λ (z : NetState). IsSomeJoinedLeft c.deref.result.now z.pauses) c.net-2.view_is c.if-have_joined_ended.ensures) in
+    stopped_ends c.rounds.net c.valid-2.ensures c.args.budget c.rounds.left inv.within rest left (subst (λ (z : NetState). AreNoneWithFuel z.pauses) c.net-2.view_is c.if-goes_on.ensures)
 
 pub returns-clause-pauses : goal.returns-clause-pauses
 returns-clause-pauses g c =
     let inv = c.rounds.invariant in
     let none : length c.rounds.now.items ≡ 0 = let t = c.rounds-test.ensures in let o = c.rounds.now.ok.0 in grind (arith, nat_tests) in
-    let quiet : (j : ℕ) → j < length c.rounds.net.program.instances.items → IsQuiet c.rounds.net j =
-    λ j l. ⊎_elim (λ (q : IsQuiet c.rounds.net j). q) (λ (n : IsIn j c.rounds.now.items). let w = slice_get_within c.rounds.now.items n.0 j n.1 in absurd (omega arith)) (inv.quiet j l)
-    in
-    let v = c.valid-2.ensures in
-    settled c.rounds.net v.is_network v.size v.pauses_len v.reachable c.args.budget c.rounds.left inv.ticks quiet
+    told_all c.rounds.net c.valid-2.ensures c.args.budget c.rounds.left inv.within (rest_all c.rounds.net c.args.budget c.rounds.now.items none inv.rest) (subst (λ (z : NetState). AreNoneWithFuel z.pauses) c.net-2.view_is c.if-goes_on.ensures)
