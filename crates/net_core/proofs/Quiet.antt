@@ -83,7 +83,7 @@ module _ (old new : NetState) (i budget left left' : ℕ) (pause : Pause) (made 
   abbrev N : Network
   N = network old
 
-  c : HasResumed old new i r.fuel pause made
+  abbrev c : HasResumed old new i r.fuel pause made
   c = r.resumed
 
   counted : count new ≡ plus i made (count old)
