@@ -1,6 +1,6 @@
 // Of each module which of its outputs rest on which of its inputs.
 
-ghost use Rattle.std.specs.Prelude.{◌≡◌, ◌<◌, ◌≤◌, ◌↔◌, ◌⊎◌, ◌++◌, [], ℕ, List, true, false, length, slice_get, get_or, Some, None, IfOk, OnOk};
+ghost use Rattle.std.specs.Prelude.{◌≡◌, ◌<◌, ◌≤◌, ◌↔◌, ◌⊎◌, ◌++◌, [], ℕ, true, false, length, slice_get, get_or, Some, None, IfOk, OnOk};
 ghost use Rattle.std.specs.List.{flat_map};
 ghost use Rattle.std.specs.Option.{option_copied};
 ghost use Rattle.vlog_tree.specs.declared.table.NetKind.TheVariants.{Input, Output};

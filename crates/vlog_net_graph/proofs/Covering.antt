@@ -1,5 +1,5 @@
 -- What rests in a module reaches in the graph of all modules at once.
-use Rattle.std.proofs.Common.{◌≡◌, Bool, true, false, cond, List, ◌∷◌, [], Option, Some, inl, inr, refl, sym, ap, subst, ◌∙◌, map}
+use Rattle.std.proofs.Common.{◌≡◌, Bool, true, false, cond, List, ◌∷◌, [], Some, inl, inr, refl, sym, ap, subst, ◌∙◌, map}
 use Rattle.std.specs.Prelude.{bytes_eq}
 use Rattle.std.specs.List.{flat_map}
 use Rattle.std.specs.Cmp.Lexicographic.{bytes_decides}
