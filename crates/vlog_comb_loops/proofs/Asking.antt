@@ -15,12 +15,12 @@ use Rattle.vlog_graph.proofs.Rows.{row_push as targets_push}
 use Rattle.vlog_comb_loops.specs.declared.suspects.Suspect.{Suspect}
 use Rattle.vlog_comb_loops.specs.declared.suspects.Loops.{Loops}
 use Rattle.vlog_comb_loops.specs.declared.questions.Questions.{Questions}
-use Rattle.vlog_comb_loops.specs.Names.{texts}
+use Rattle.vlog_net_graph.specs.Names.{texts}
 use Rattle.vlog_comb_loops.specs.Summaries.{IsUsed}
 use Rattle.vlog_comb_loops.specs.Questions.{Question, asked_of, Keeps, AsksLines, AreUses, AsksPort, Asks}
 use Rattle.vlog_comb_loops.specs.Search.{LoopsIn, LoopsAt, LoopsBy, IsSuspect, IsEvidence}
 use Rattle.vlog_tree.proofs.Lists.{has_flat, of_flat, has_got, got_has, has_left, has_right}
-use Rattle.vlog_comb_loops.proofs.Numbered.{numbered_start}
+use Rattle.vlog_net_graph.proofs.Numbered.{numbered_start}
 
 module _ {X A : Type 0} where
   abbrev pub list_of : List (Vec X A) → Option ℕ → List X

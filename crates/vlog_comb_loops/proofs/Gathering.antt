@@ -8,12 +8,12 @@ use Rattle.vlog_tree.specs.declared.table.NetKind.TheVariants.{Unknown, Input, O
 use Rattle.vlog_tree.specs.Grounded.{Has}
 use Rattle.vlog_tree.specs.Table.{Name, declaration_name, net_kind_of}
 use Rattle.vlog_tree.specs.Loops.{Edges, Chain, Reaches}
-use Rattle.vlog_comb_loops.specs.Names.{IsNumbered}
+use Rattle.vlog_net_graph.specs.Names.{IsNumbered}
 use Rattle.vlog_comb_loops.specs.Growth.{Gathers}
 use Rattle.vlog_comb_loops.specs.Places.{ArePlaces, picked, paired}
 use Rattle.vlog_comb_loops.specs.Summaries.{IsPair, IsSumOf}
 use Rattle.vlog_tree.proofs.Lists.{taken_mapped, known, has_flat, of_flat, has_left, has_right, has_split}
-use Rattle.vlog_comb_loops.proofs.Numbered.{down, up, reached_by_none}
+use Rattle.vlog_net_graph.proofs.Numbered.{down, up, reached_by_none}
 
 module _ (P : Name → Name → Type 0) where
   pub gathers_nothing : (Q : Name → Name → Type 0) (s : Edges) → ((x y : Name) → P x y → Q x y → ⊥) → Gathers P Q s s

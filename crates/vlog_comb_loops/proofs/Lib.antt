@@ -1,7 +1,5 @@
 pub mod Asking
 pub mod Gathering
-pub mod Growing
-pub mod Numbered
 pub mod Placing
 pub mod Resting
 pub mod Rooms

@@ -2,7 +2,6 @@
 use Rattle.std.proofs.Common.{◌≡◌, ℕ, suc, ◌-◌, ◌<◌, ◌≤◌, Bool, true, false, cond, List, [], ◌∷◌, length, get_or, Option, Some, None, inl, inr, refl, sym, ap, subst, ◌∙◌, arith, map}
 use Rattle.std.specs.Prelude.{bytes_eq, slice_get, ◌⊎◌, ◌↔◌, ◌≢◌, slice_set, is_some, unwrap_or}
 use Rattle.std.specs.List.{flat_map}
-use Rattle.std.specs.Cmp.Lexicographic.{bytes_decides}
 use Rattle.std.proofs.lemmas.Bool.{cases_eq}
 use Rattle.std.proofs.lemmas.List.{get_or-set_other, length-set}
 use Rattle.std.proofs.lemmas.Grind.{get_or-set_at}
@@ -14,6 +13,7 @@ use Rattle.vlog_tree.specs.Table.{Name, port_declared, declaration_name, module_
 use Rattle.vlog_tree.specs.Loops.{Edges, Reaches, one, more, Rests, directly, through, after, port_of, direct_edges, instances}
 use Rattle.vlog_comb_loops.specs.Summaries.{sum_named, port_pair, through_edges, module_edges, IsPair, IsSoundSum, IsUsed, IsClosedSum, AreSums, AreRight}
 use Rattle.vlog_rules.proofs.Found.{module_found}
+use Rattle.vlog_net_graph.proofs.Covering.{found}
 use Rattle.vlog_tree.proofs.Lists.{has_flat, of_flat, has_map, of_map, has_left, has_right, has_split, chains}
 
 -- the sum of a module that a name finds
@@ -40,15 +40,6 @@ pub sum_none : (ms : List ModuleTree) (sums : List Edges) (x : Name) → module_
 sum_none [] sums x e = refl
 sum_none (m ∷ ms) [] x e = refl
 sum_none (m ∷ ms) (s ∷ sums) x e = none_of m ms s sums x (bytes_eq m.name x) (sum_none ms sums x) e
-
--- the module that a name finds has that name
-found_of : (m : ModuleTree) (ms : List ModuleTree) (x : Name) (k : ModuleTree) (b : Bool) → bytes_eq m.name x ≡ b → (module_named ms x ≡ Some k → Has ms k × (k.name ≡ x)) → cond b (Some m) (module_named ms x) ≡ Some k → Has {N = ModuleTree} (m ∷ ms) k × (k.name ≡ x)
-found_of m ms x k true e ih h = let same : m ≡ k = cc h in (inl same, ap (λ (t : ModuleTree). t.name) (sym same) ∙ (bytes_decides m.name x).0 e)
-found_of m ms x k false e ih h = let r = ih h in (inr r.0, r.1)
-
-pub found : (ms : List ModuleTree) (x : Name) (k : ModuleTree) → module_named ms x ≡ Some k → Has ms k × (k.name ≡ x)
-found [] x k h = cc
-found (m ∷ ms) x k h = found_of m ms x k (bytes_eq m.name x) refl (found ms x k) h
 
 module _ (ms : List ModuleTree) (is_top : Name → Bool) (sums : List Edges) where
   pub rests_reaches : AreSums (IsClosedSum ms is_top sums) ms sums → {m : ModuleTree} {a b : Name} → Has ms m → Rests ms is_top m a b → Reaches (module_edges ms is_top sums m) a b

@@ -10,7 +10,7 @@ use Rattle.vlog_comb_loops.specs.declared.suspects.Suspect.{Suspect}
 use Rattle.vlog_comb_loops.specs.declared.suspects.Loops.{Loops}
 use Rattle.vlog_comb_loops.specs.Search.{IsSearched, LoopsIn, IsSuspect, IsEvidence, IsJudged, AreJudged}
 use Rattle.vlog_comb_loops.specs.Summaries.{module_edges, IsSoundSum, IsClosedSum, AreSums, AreRight}
-use Rattle.vlog_comb_loops.specs.Names.{IsGraphOf, IsGraphListed}
+use Rattle.vlog_net_graph.specs.Names.{IsGraphOf, IsGraphListed}
 use Rattle.vlog_comb_loops.proofs.Resting.{rests_is_reaches}
 use Rattle.vlog_tree.proofs.Lists.{has_got, got_has, has_left, has_right, has_split}
 
@@ -62,15 +62,15 @@ module _ (ms : List ModuleTree) (is_top : Name → Bool) (m x : Name) where
         → ((s : Suspect) (v : IsSuspect ms is_top s) → Has loops.suspects.items s → (v.tree ≡ k) → Reaches v.edges y y → ⊥) → ⊥
     found_of k (inl n) y r f = n y r
     found_of k (inr t) y r f =
-        let v : IsSuspect ms is_top t.0 = ev.suspects t.0 t.1 in
+        let v : IsSuspect ms is_top t.0 = ev.found.right t.0 t.1 in
         let same : v.tree ≡ k = same_tree v.tree k t.0.place v.at t.2 in
         f t.0 v t.1 same ((v.reaches y y).0 (subst (λ w. Rests ms is_top w y y) (sym same) r))
 
     pub lies_not : LiesOnLoop ms is_top (m, Some x) → ⊥
     lies_not (inl h) =
-        found_of h.0 (ev.others h.0 h.1) x h.3 (λ s v has same r. none s has v (inl (ap (λ (w : ModuleTree). w.name) same ∙ h.2, r)))
+        found_of h.0 (ev.found.others h.0 h.1) x h.3 (λ s v has same r. none s has v (inl (ap (λ (w : ModuleTree). w.name) same ∙ h.2, r)))
     lies_not (inr h) =
-        found_of h.0 (ev.others h.0 h.2) (port_of h.1 x) h.4
+        found_of h.0 (ev.found.others h.0 h.2) (port_of h.1 x) h.4
         (λ s v has same r. none s has v (inr (h.1, subst (λ (w : ModuleTree). Has (instances w) (m, h.1)) (sym same) h.3, r)))
 
 -- a graph that was put to the others

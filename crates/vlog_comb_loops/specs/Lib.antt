@@ -1,4 +1,3 @@
-pub mod Names
 pub mod Summaries
 pub mod Growth
 pub mod Merges

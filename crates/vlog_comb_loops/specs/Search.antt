@@ -4,7 +4,7 @@ use Rattle.vlog_tree.specs.Grounded.{Has}
 use Rattle.vlog_tree.specs.Form.{ModuleTree}
 use Rattle.vlog_tree.specs.Table.{Name}
 use Rattle.vlog_tree.specs.Loops.{Edges, Reaches, Rests, port_of, item_instances, instances, containment, TextPlace, place_name, IsFirst}
-use Rattle.vlog_comb_loops.specs.Names.{IsGraphOf, IsGraphListed}
+use Rattle.vlog_net_graph.specs.Names.{IsGraphOf, IsGraphListed}
 use Rattle.vlog_comb_loops.specs.Summaries.{module_edges}
 use Rattle.vlog_tree.specs.declared.tree.Item.{Item}
 use Rattle.vlog_comb_loops.specs.Questions.{Question, AsksAll}
@@ -51,10 +51,14 @@ pub record AreJudged (ms : List ModuleTree) (is_top : Name → Bool) (sums : Lis
   pub others : (j : ℕ) (m : ModuleTree) → j < place → slice_get ms j ≡ Some m
       → ((x : Name) → Reaches (module_edges ms is_top sums m) x x → ⊥) ⊎ ((s : Suspect) × Has suspects s × (slice_get ms s.place ≡ Some m))
 
--- graphs of modules, so that no other module has a loop, and the graph of what contains what
+-- graphs of modules, so that no other module has a loop
+pub record AreSuspects (ms : List ModuleTree) (is_top : Name → Bool) (suspects : List Suspect) : Type 0 where
+  pub right : (s : Suspect) → Has suspects s → IsSuspect ms is_top s
+  pub others : (m : ModuleTree) → Has ms m → ((x : Name) → Rests ms is_top m x x → ⊥) ⊎ ((s : Suspect) × Has suspects s × (slice_get ms s.place ≡ Some m))
+
+-- such graphs, what to ask of each name, and the graph of what contains what
 pub record IsEvidence (ms : List ModuleTree) (is_top : Name → Bool) (loops : Loops) : Type 0 where
-  pub suspects : (s : Suspect) → Has loops.suspects.items s → IsSuspect ms is_top s
-  pub others : (m : ModuleTree) → Has ms m → ((x : Name) → Rests ms is_top m x x → ⊥) ⊎ ((s : Suspect) × Has loops.suspects.items s × (slice_get ms s.place ≡ Some m))
+  pub found : AreSuspects ms is_top loops.suspects.items
   pub contains : IsGraphOf (containment ms) loops.contains
   pub questions : AsksAll ms loops.suspects.items loops.questions
   pub flat : loops.flat ≡ true → (x : Name) → Reaches (containment ms) x x → ⊥

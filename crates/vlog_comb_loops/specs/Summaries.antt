@@ -1,17 +1,13 @@
 -- What the check of loops keeps of each module: which of its outputs rest on which of its inputs.
-use Rattle.std.specs.Prelude.{◌≡◌, ◌↔◌, ℕ, List, [], ◌∷◌, ◌++◌, Bool, false, Option, Some, bytes_eq, if◌then◌else◌, map, length, slice_get, get_or}
+use Rattle.std.specs.Prelude.{◌≡◌, ◌↔◌, ℕ, List, [], ◌∷◌, ◌++◌, Bool, Some, bytes_eq, if◌then◌else◌, map, length, slice_get, get_or}
 use Rattle.std.specs.List.{flat_map}
-use Rattle.std.specs.Option.{option_map_or}
 use Rattle.vlog_tree.specs.declared.table.Declaration.{Declaration}
 use Rattle.vlog_tree.specs.declared.table.NetKind.TheVariants.{Input, Output}
 use Rattle.vlog_tree.specs.Grounded.{Has}
 use Rattle.vlog_tree.specs.Form.{ModuleTree}
 use Rattle.vlog_tree.specs.Table.{Name, port_declared, net_kind_of}
-use Rattle.vlog_tree.specs.Loops.{Edges, Reaches, Rests, port_of, direct_edges, instances}
-
--- whether a module is the top, by the name of the first that no other contains
-abbrev pub is_named : Option Name → Name → Bool
-is_named root x = option_map_or (λ y. bytes_eq y x) root false
+use Rattle.vlog_tree.specs.Loops.{Edges, Reaches, Rests, direct_edges, instances}
+pub use Rattle.vlog_net_graph.specs.Merged.{is_named, port_pair}
 
 -- the sum of the first module of this name
 abbrev pub sum_named : List ModuleTree → List Edges → Name → Edges
@@ -19,10 +15,7 @@ sum_named [] sums x = []
 sum_named (m ∷ ms) [] x = []
 sum_named (m ∷ ms) (s ∷ sums) x = if bytes_eq m.name x then s else sum_named ms sums x
 
--- a pair of a sum, as wires of an instance
-abbrev pub port_pair : Name → Name × Name → Name × Name
-port_pair i e = (port_of i e.0, port_of i e.1)
-
+-- the pairs of a sum, as wires of an instance
 abbrev pub through_edges : List ModuleTree → List Edges → Name × Name → Edges
 through_edges ms sums k = map (port_pair k.1) (sum_named ms sums k.0)
 

@@ -1,8 +1,8 @@
 // An order in which each module comes after those that it contains. It is a hint: nothing is promised of it.
 
-use crate::names::NamedGraph;
 use std::alloc::{AllocError, Global};
 use vlog_graph::{Order, order_of as order_nodes};
+use vlog_net_graph::NamedGraph;
 use vlog_tree::Module;
 
 // The place of each node in an order, and 0 for all where there is a cycle.

@@ -6,14 +6,13 @@ ghost use Rattle.vlog_tree.specs.Form.{ModuleTree};
 ghost use Rattle.vlog_tree.specs.Loops.{item_instances, port_of};
 ghost use Rattle.vlog_rules.specs.NameTable.{value_in};
 ghost use Rattle.vlog_graph.specs.Graphs.{targets_of};
-ghost use Rattle.vlog_comb_loops.specs.Names.{texts};
+ghost use Rattle.vlog_net_graph.specs.Names.{texts};
 ghost use Rattle.vlog_comb_loops.specs.Questions.{asked_of, Keeps, AsksLines, NamesLines, AsksPort, Asks, AsksAll, AreUses};
 
-use crate::edges::dotted;
-use crate::names::{NamedGraph, insert_number};
 use crate::suspects::Suspect;
 use std::alloc::{AllocError, Global};
 use std::collections::HashMap;
+use vlog_net_graph::{NamedGraph, dotted, insert_number};
 use vlog_rules::Library;
 use vlog_tree::{Item, Module};
 

@@ -1,72 +1,24 @@
 // The first name in the text that lies on a loop.
 
-ghost use Rattle.std.specs.Prelude.{◌≡◌, ◌<◌, ◌≤◌, ◌↔◌, ◌⊎◌, [], ℕ, List, Bool, true, false, map, length, slice_get, Some, IfOk, OnOk};
+ghost use Rattle.std.specs.Prelude.{◌≡◌, ◌<◌, ◌≤◌, ◌↔◌, [], ℕ, List, Bool, true, false, map, length, Some, IfOk, OnOk};
 ghost use Rattle.std.specs.Option.{option_copied};
 ghost use Rattle.vlog_tree.specs.Table.{declared};
-ghost use Rattle.vlog_tree.specs.V6.{item_children};
-ghost use Rattle.vlog_tree.specs.Form.{ModuleTree};
-ghost use Rattle.vlog_tree.specs.Grounded.{Has};
-ghost use Rattle.vlog_tree.specs.Loops.{Edges, own_containment, containment, Reaches, Rests, own_places, text_places, LiesOnLoop};
-ghost use Rattle.vlog_comb_loops.specs.Names.{IsDraftOf, IsGraphOf, IsGraphListed};
-ghost use Rattle.vlog_comb_loops.specs.declared.suspects.Suspect.{Suspect};
-ghost use Rattle.vlog_comb_loops.specs.Growth.{Adds};
+ghost use Rattle.vlog_tree.specs.Loops.{Edges, containment, Reaches, own_places, text_places, LiesOnLoop};
+ghost use Rattle.vlog_net_graph.specs.Names.{IsGraphOf, IsGraphListed};
 ghost use Rattle.vlog_comb_loops.specs.Rooms.{room};
 ghost use Rattle.vlog_comb_loops.specs.Questions.{AreUses};
-ghost use Rattle.vlog_comb_loops.specs.Search.{IsSearched, IsSuspect, IsEvidence, IsJudged, AreJudged};
+ghost use Rattle.vlog_comb_loops.specs.Search.{IsSearched, AreSuspects, IsEvidence, IsJudged, AreJudged};
 ghost use Rattle.vlog_comb_loops.specs.Summaries.{is_named, IsSoundSum, IsClosedSum, AreSums};
 
-use crate::edges::add;
-use crate::names::{Draft, NamedGraph};
 use crate::order::order_of;
 use crate::questions::{Questions, questions_of, uses_of};
 use crate::sums::{Sum, renew, sums_of};
 use crate::suspects::{Loops, Suspect, on_loop};
 use std::alloc::{AllocError, Global};
 use tapa_base::Text;
+use vlog_net_graph::{NamedGraph, containment_of, merged_is_loopless};
 use vlog_rules::{Library, Scope};
-use vlog_tree::{Declaration, Item, Module};
-
-fn add_child(alloc: Global, g: &mut Draft, m: &Text, item: &Item) -> Result<(), AllocError>
-    ensures { OnOk result (Adds g.old g.new (map (λ k. (m.now, k)) (item_children item.now))) }
-{
-    match item {
-        Item::Instance { module: k, .. } => add(alloc, g, m.bytes(), k.bytes()),
-        Item::Wire { .. } => Ok(()),
-        Item::Reg { .. } => Ok(()),
-        Item::Memory { .. } => Ok(()),
-        Item::Assign { .. } => Ok(()),
-        Item::Always(_) => Ok(()),
-    }
-}
-
-#[tactic(auto, unfolding(vlog_tree::specs::Loops::own_containment, vlog_tree::specs::V6::module_children))]
-fn add_children(alloc: Global, g: &mut Draft, m: &Module) -> Result<(), AllocError>
-    ensures { OnOk result (Adds g.old g.new (own_containment m.now)) }
-{
-    for item in m.items() {
-        add_child(alloc, g, m.name(), item)?;
-    }
-    Ok(())
-}
-
-fn containment_draft(alloc: Global, modules: &[Module]) -> Result<Draft, AllocError>
-    ensures { IfOk result (λ g. IsDraftOf (containment modules.now) g) }
-{
-    let mut g = Draft::new(alloc);
-    for m in modules {
-        add_children(alloc, &mut g, m)?;
-    }
-    Ok(g)
-}
-
-// Which module contains which.
-fn containment_of(alloc: Global, modules: &[Module]) -> Result<NamedGraph, AllocError>
-    ensures { IfOk result (λ g. IsGraphOf (containment modules.now) g) }
-{
-    let g = containment_draft(alloc, modules)?;
-    let g = g.finish(alloc)?;
-    Ok(g)
-}
+use vlog_tree::{Declaration, Module};
 
 // Keeps the graph of a module where no levels show that it has no loop.
 fn judge(
@@ -123,8 +75,7 @@ fn suspects_of(
 ) -> Result<Vec<Suspect>, AllocError>
     requires uses { AreUses library.now uses.now }
     requires sound { AreSums (IsSoundSum library.now (is_named (option_copied root))) library.now sums.items }
-    ensures right { IfOk result (λ v. (s : Suspect) → Has v.items s → IsSuspect library.now (is_named (option_copied root.entry)) s) }
-    ensures others { IfOk result (λ v. (m : ModuleTree) → Has library.now m → ((x : List ℕ) → Rests library.now (is_named (option_copied root.entry)) m x x → ⊥) ⊎ ((s : Suspect) × Has v.items s × (slice_get library.now s.place ≡ Some m))) }
+    ensures { IfOk result (λ v. AreSuspects library.now (is_named (option_copied root.entry)) v.items) }
 {
     let mut suspects = Vec::new(alloc);
     let mut steady = judge_all(alloc, library, root, uses, &mut sums, &mut suspects)?;
@@ -135,15 +86,46 @@ fn suspects_of(
     Ok(suspects)
 }
 
+// The modules that may have loops, by the sums of all modules.
+fn suspects_by_sums(
+    alloc: Global,
+    library: &Library,
+    root: Option<&Text>,
+    contains: &NamedGraph,
+) -> Result<Vec<Suspect>, AllocError>
+    ensures { IfOk result (λ v. AreSuspects library.now (is_named (option_copied root.entry)) v.items) }
+{
+    let order = order_of(alloc, contains, library.modules())?;
+    let uses = uses_of(alloc, library.modules())?;
+    let sums = sums_of(alloc, library, root, &uses, &order)?;
+    let suspects = suspects_of(alloc, library, root, &uses, sums)?;
+    Ok(suspects)
+}
+
+// The modules that may have loops: none where all modules at once show none, which needs no sums.
+fn suspects_among(
+    alloc: Global,
+    library: &Library,
+    root: Option<&Text>,
+    contains: &NamedGraph,
+) -> Result<Vec<Suspect>, AllocError>
+    ensures { IfOk result (λ v. AreSuspects library.now (is_named (option_copied root.entry)) v.items) }
+{
+    let loopless = merged_is_loopless(alloc, library, root)?;
+    if loopless {
+        let none = Vec::new(alloc);
+        return Ok(none);
+    }
+    let suspects = suspects_by_sums(alloc, library, root, contains)?;
+    Ok(suspects)
+}
+
 fn loops_of(alloc: Global, library: &Library, root: Option<&Text>) -> Result<Loops, AllocError>
     ensures { IfOk result (λ loops. IsEvidence library.now (is_named (option_copied root.entry)) loops) }
 {
     let contains = containment_of(alloc, library.modules())?;
     let flat = contains.is_loopless(alloc)?;
-    let order = order_of(alloc, &contains, library.modules())?;
-    let uses = uses_of(alloc, library.modules())?;
-    let sums = sums_of(alloc, library, root, &uses, &order)?;
-    let suspects = suspects_of(alloc, library, root, &uses, sums)?;
+    let suspects = suspects_among(alloc, library, root, &contains)?;
     let questions = questions_of(alloc, library, &suspects)?;
     Ok(Loops {
         suspects,

@@ -1,6 +1,6 @@
 // Of each module which of its outputs rest on which of its inputs.
 
-ghost use Rattle.std.specs.Prelude.{◌≡◌, ◌<◌, ◌≤◌, ◌↔◌, ◌⊎◌, ◌++◌, [], ℕ, List, true, false, length, slice_get, get_or, Some, None, IfOk, OnOk};
+ghost use Rattle.std.specs.Prelude.{◌≡◌, ◌<◌, ◌≤◌, ◌↔◌, ◌⊎◌, ◌++◌, [], ℕ, true, false, length, slice_get, get_or, Some, None, IfOk, OnOk};
 ghost use Rattle.std.specs.List.{flat_map};
 ghost use Rattle.std.specs.Option.{option_copied};
 ghost use Rattle.vlog_tree.specs.declared.table.NetKind.TheVariants.{Input, Output};
@@ -8,7 +8,7 @@ ghost use Rattle.vlog_tree.specs.Form.{ModuleTree};
 ghost use Rattle.vlog_tree.specs.Table.{net_kind_of};
 ghost use Rattle.vlog_tree.specs.Loops.{Edges};
 ghost use Rattle.vlog_rules.specs.NameTable.{value_in};
-ghost use Rattle.vlog_comb_loops.specs.Names.{IsGraphOf, IsGraphListed};
+ghost use Rattle.vlog_net_graph.specs.Names.{IsGraphOf, IsGraphListed};
 ghost use Rattle.vlog_comb_loops.specs.Growth.{Gathers};
 ghost use Rattle.vlog_comb_loops.specs.Merges.{IsMerged, IsGrown};
 ghost use Rattle.vlog_comb_loops.specs.Questions.{asked_of, AreUses};
@@ -17,13 +17,13 @@ ghost use Rattle.vlog_comb_loops.specs.Rooms.{room};
 ghost use Rattle.vlog_tree.specs.Grounded.{Has};
 ghost use Rattle.vlog_comb_loops.specs.Summaries.{is_named, module_edges, IsPair, IsSumOf, IsSoundSum, IsClosedSum, AreSums};
 
-use crate::edges::graph_of;
-use crate::names::NamedGraph;
 use crate::questions::Questions;
+use crate::through::graph_of;
 use std::alloc::{AllocError, Global};
 use std::marker::Model;
 use tapa_base::Text;
 use vlog_graph::Searches;
+use vlog_net_graph::NamedGraph;
 use vlog_rules::{Library, Scope, copy_text};
 use vlog_tree::{Module, NetKind};
 

@@ -3,14 +3,13 @@
 ghost use Rattle.std.specs.Prelude.{◌≡◌, ◌↔◌, ℕ, List, Bool, true, Some, IfOk};
 ghost use Rattle.vlog_tree.specs.Grounded.{Has};
 ghost use Rattle.vlog_tree.specs.Loops.{Edges, Reaches, port_of, item_instances, LiesOnLoop};
-ghost use Rattle.vlog_comb_loops.specs.Names.{IsGraphOf};
+ghost use Rattle.vlog_net_graph.specs.Names.{IsGraphOf};
 ghost use Rattle.vlog_comb_loops.specs.Search.{LoopsAt, LoopsBy, IsSuspect, IsEvidence};
 
-use crate::edges::port_name;
-use crate::names::NamedGraph;
 use crate::questions::Questions;
 use std::alloc::{AllocError, Global};
 use tapa_base::Text;
+use vlog_net_graph::{NamedGraph, port_name};
 use vlog_rules::Library;
 use vlog_tree::{Item, Module};
 

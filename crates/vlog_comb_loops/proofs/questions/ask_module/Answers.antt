@@ -3,7 +3,7 @@ use Rattle.vlog_tree.specs.declared.tree.Item.{Item}
 use Rattle.vlog_tree.specs.Grounded.{Has}
 use Rattle.vlog_tree.specs.Table.{Name}
 use Rattle.vlog_tree.specs.Loops.{port_of}
-use Rattle.vlog_comb_loops.specs.Names.{texts}
+use Rattle.vlog_net_graph.specs.Names.{texts}
 use Rattle.vlog_comb_loops.specs.Questions.{NamesLines}
 use Rattle.vlog_comb_loops.proofs.questions.ask_module.Goals as goal
 

@@ -3,10 +3,10 @@ use Rattle.std.proofs.lemmas.List.{take_all}
 use Rattle.vlog_tree.specs.Grounded.{Has}
 use Rattle.vlog_tree.specs.Table.{Name}
 use Rattle.vlog_tree.specs.Loops.{port_of}
-use Rattle.vlog_comb_loops.specs.Names.{texts}
+use Rattle.vlog_net_graph.specs.Names.{texts}
 use Rattle.vlog_comb_loops.specs.Questions.{asked_of}
 use Rattle.vlog_comb_loops.proofs.Asking.{port_kept}
-use Rattle.vlog_comb_loops.proofs.Numbered.{texts_taken}
+use Rattle.vlog_net_graph.proofs.Numbered.{texts_taken}
 use Rattle.vlog_comb_loops.proofs.questions.ask_names.Goals as goal
 
 pub loop-name-preserved : goal.loop-name-preserved

@@ -2,7 +2,7 @@ use Rattle.std.proofs.Common.{None, take}
 use Rattle.vlog_tree.specs.Grounded.{Has}
 use Rattle.vlog_tree.specs.Table.{Name}
 use Rattle.vlog_tree.specs.Loops.{port_of}
-use Rattle.vlog_comb_loops.specs.Names.{texts}
+use Rattle.vlog_net_graph.specs.Names.{texts}
 use Rattle.vlog_comb_loops.specs.Questions.{asked_of, Keeps, AsksPort}
 use Rattle.vlog_comb_loops.proofs.questions.ask_names.Given as goal
 

@@ -2,7 +2,7 @@ use Rattle.std.proofs.Common.{◌≡◌, ◌<◌, ℕ, Some}
 use Rattle.std.specs.Prelude.{slice_get}
 use Rattle.vlog_tree.specs.Form.{ModuleTree}
 use Rattle.vlog_comb_loops.specs.declared.suspects.Suspect.{Suspect}
-use Rattle.vlog_comb_loops.specs.Names.{texts}
+use Rattle.vlog_net_graph.specs.Names.{texts}
 use Rattle.vlog_comb_loops.specs.Questions.{Asks}
 use Rattle.vlog_comb_loops.proofs.questions.questions_of.Given as goal
 

@@ -8,7 +8,7 @@ use Rattle.vlog_tree.specs.Form.{ModuleTree}
 use Rattle.vlog_tree.specs.Table.{port_declared}
 use Rattle.vlog_tree.specs.Loops.{Edges}
 use Rattle.vlog_tree.proofs.Lists.{got_index}
-use Rattle.vlog_comb_loops.specs.Names.{IsGraphOf}
+use Rattle.vlog_net_graph.specs.Names.{IsGraphOf}
 use Rattle.vlog_comb_loops.specs.Merges.{IsGrown}
 use Rattle.vlog_comb_loops.specs.Rooms.{candidates, room}
 use Rattle.vlog_comb_loops.specs.Questions.{asked_of}

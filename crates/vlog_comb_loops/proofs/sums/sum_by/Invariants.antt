@@ -2,7 +2,7 @@ use Rattle.std.proofs.Common.{◌≡◌, [], length, map, take}
 use Rattle.vlog_tree.specs.Grounded.{Has}
 use Rattle.vlog_tree.specs.Table.{declaration_name}
 use Rattle.vlog_tree.specs.Loops.{Edges}
-use Rattle.vlog_comb_loops.specs.Names.{IsGraphOf}
+use Rattle.vlog_net_graph.specs.Names.{IsGraphOf}
 use Rattle.vlog_comb_loops.specs.Growth.{Gathers}
 use Rattle.vlog_comb_loops.specs.Summaries.{IsPair}
 use Rattle.vlog_comb_loops.proofs.sums.sum_by.Given as goal

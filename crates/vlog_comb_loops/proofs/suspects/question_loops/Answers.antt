@@ -13,7 +13,7 @@ suspect_loops-requires c =
     let s = c.in-Some.s.now in
     let found = c.in-Some.ensures.lookup in
     let got = subst (λ (l : List Suspect). slice_get l c.args.question.0 ≡ Some s) c.deref.ensures.value (got_index c.deref.result.now c.args.question.0 s found.3.0 found.1) in
-    (c.requires.0, c.requires.1.suspects s (has_got c.args.loops.now.suspects.items c.args.question.0 s got))
+    (c.requires.0, c.requires.1.found.right s (has_got c.args.loops.now.suspects.items c.args.question.0 s got))
 
 pub returns-in_ok-found-in-Some-clause-right : goal.returns-in_ok-found-in-Some-clause-right
 returns-in_ok-found-in-Some-clause-right c = λ is_top ev yes.
@@ -22,7 +22,7 @@ returns-in_ok-found-in-Some-clause-right c = λ is_top ev yes.
     let x = c.args.name.now in
     let found = c.in-Some.ensures.lookup in
     let got = subst (λ (l : List Suspect). slice_get l c.args.question.0 ≡ Some s) c.deref.ensures.value (got_index c.deref.result.now c.args.question.0 s found.3.0 found.1) in
-    let v : IsSuspect c.args.library.now is_top s = ev.suspects s (has_got c.args.loops.now.suspects.items c.args.question.0 s got) in
+    let v : IsSuspect c.args.library.now is_top s = ev.found.right s (has_got c.args.loops.now.suspects.items c.args.question.0 s got) in
     loops_lie c.args.library.now is_top m x s v (at_in v.edges v.tree c.args.question.1 m x ((c.in_ok-found-in-Some.ensures is_top v).0 yes))
 
 pub returns-in_ok-found-in-Some-clause-found : goal.returns-in_ok-found-in-Some-clause-found

@@ -1,0 +1,69 @@
+-- Graphs that grow by the edges of a list's elements.
+use Rattle.std.proofs.Common.{◌≡◌, ℕ, ◌+◌, ◌<◌, ◌≤◌, List, [], ◌∷◌, ◌++◌, length, get_or, drop, inl, inr, refl, sym, ap, subst, ◌∙◌, append_assoc, map}
+use Rattle.std.specs.Prelude.{◌↔◌}
+use Rattle.std.specs.List.{flat_map}
+use Rattle.std.proofs.lemmas.List.{append-nil}
+use Rattle.vlog_tree.specs.Grounded.{Has}
+use Rattle.vlog_tree.specs.Table.{Name}
+use Rattle.vlog_tree.specs.Loops.{Edges}
+use Rattle.vlog_tree.proofs.Lists.{has_left, has_right, has_split}
+use Rattle.vlog_tree.proofs.Walks.{grows, over}
+use Rattle.vlog_rules.specs.NameTable.{value_in}
+use Rattle.vlog_net_graph.specs.declared.names.Draft.{Draft}
+use Rattle.vlog_net_graph.specs.Names.{IsDraftOf}
+use Rattle.vlog_net_graph.specs.Growth.{Adds}
+use Rattle.vlog_net_graph.proofs.Numbered.{numbered_alike}
+
+pub adds_nothing : (a : Draft) → Adds a a []
+adds_nothing a = record { graph = λ edges g. subst (λ e. IsDraftOf e a) (sym (append-nil edges)) g; listed = λ h. h }
+
+pub adds_both : (a b c : Draft) (xs ys : Edges) → Adds a b xs → Adds b c ys → Adds a c (xs ++ ys)
+adds_both a b c xs ys l r = record {
+  graph = λ edges g. subst (λ e. IsDraftOf e c) (append_assoc edges xs ys) (r.graph (edges ++ xs) (l.graph edges g));
+  listed = λ h. r.listed (l.listed h);
+}
+
+behind : (edges xs ys : Edges) → ((x y : Name) → Has xs (x, y) → Has ys (x, y)) → (x y : Name) → Has (edges ++ xs) (x, y) → Has (edges ++ ys) (x, y)
+behind edges xs ys to x y h = elim (has_split edges xs (x, y) h) [ inl l ↦ has_left edges ys (x, y) l | inr r ↦ has_right edges ys (x, y) (to x y r) ]
+
+-- the same edges in another list
+pub adds_alike : (a b : Draft) (xs ys : Edges) → ((x y : Name) → Has xs (x, y) ↔ Has ys (x, y)) → Adds a b xs → Adds a b ys
+adds_alike a b xs ys both s = record {
+  graph = λ edges g.
+      numbered_alike (edges ++ xs) (edges ++ ys) (value_in b.numbers) (λ j k. Has b.edges.items (j, k)) (length b.names.items)
+      (λ x y. (behind edges xs ys (λ u v h. (both u v).0 h) x y, behind edges ys xs (λ u v h. (both u v).1 h) x y)) (s.graph edges g);
+  listed = s.listed;
+}
+
+pub map-append : {A B : Type 0} (f : A → B) (xs ys : List A) → map f (xs ++ ys) ≡ map f xs ++ map f ys
+map-append f [] ys = refl
+map-append f (x ∷ xs) ys = ap (λ l. f x ∷ l) (map-append f xs ys)
+
+pub flat_map-append : {A B : Type 0} (f : A → List B) (xs ys : List A) → flat_map f (xs ++ ys) ≡ flat_map f xs ++ flat_map f ys
+flat_map-append f [] ys = refl
+flat_map-append f (x ∷ xs) ys = ap (λ l. f x ++ l) (flat_map-append f xs ys) ∙ sym (append_assoc (f x) (flat_map f xs) (flat_map f ys))
+
+pub adds_mapped : (f : Name → Name × Name) (a b c : Draft) (xs ys : List Name) → Adds a b (map f xs) → Adds b c (map f ys) → Adds a c (map f (xs ++ ys))
+adds_mapped f a b c xs ys l r = subst (λ e. Adds a c e) (sym (map-append f xs ys)) (adds_both a b c (map f xs) (map f ys) l r)
+
+-- the elements that were gone over have added their edges
+pub record AddsSoFar {A : Type 0} (f : List A → Edges) (xs : List A) (i : ℕ) (a b : Draft) : Type 0 where
+  pub done : Edges
+  pub adds : Adds a b done
+  pub rest : done ++ f (drop i xs) ≡ f xs
+
+pub so_far_start : {A : Type 0} (f : List A → Edges) (xs : List A) (a : Draft) → AddsSoFar f xs 0 a a
+so_far_start f xs a = record { done = []; adds = adds_nothing a; rest = refl }
+
+pub so_far_step : {A : Type 0} (f : List A → Edges) (xs : List A) (i : ℕ) (x : A) (a b c : Draft) (piece : Edges) → ((rest : List A) → f (x ∷ rest) ≡ piece ++ f rest)
+    → i < length xs → x ≡ get_or xs i x → AddsSoFar f xs i a b → Adds b c piece → AddsSoFar f xs (i + 1) a c
+so_far_step f xs i x a b c piece cons h e s step = record {
+  done = s.done ++ piece;
+  adds = adds_both a b c s.done piece s.adds step;
+  rest = grows f xs i x s.done (s.done ++ piece) piece (f xs) cons h e refl s.rest;
+}
+
+pub so_far_end : {A : Type 0} (f : List A → Edges) (xs : List A) (i : ℕ) (a b : Draft) → f [] ≡ [] → length xs ≤ i → AddsSoFar f xs i a b → Adds a b (f xs)
+so_far_end f xs i a b none h s =
+    let all : s.done ≡ f xs = sym (append-nil s.done) ∙ ap (λ l. s.done ++ l) (sym none) ∙ ap (λ l. s.done ++ f l) (sym (over xs i h)) ∙ s.rest in
+    subst (λ e. Adds a b e) all s.adds

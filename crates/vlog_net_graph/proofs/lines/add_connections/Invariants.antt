@@ -1,0 +1,7 @@
+use Rattle.std.proofs.Common.{map}
+use Rattle.vlog_tree.specs.Loops.{connection_edge}
+use Rattle.vlog_net_graph.proofs.Growing.{AddsSoFar}
+use Rattle.vlog_net_graph.proofs.lines.add_connections.Given as goal
+
+abbrev pub invariant-loop-l : goal.invariant-loop-l
+invariant-loop-l l = AddsSoFar (map (connection_edge l.ports l.instance)) l.connections l.l-index l.fn.g l.g

@@ -1,0 +1,7 @@
+use Rattle.std.specs.List.{flat_map}
+use Rattle.vlog_tree.specs.Loops.{line_edges}
+use Rattle.vlog_net_graph.proofs.Growing.{AddsSoFar}
+use Rattle.vlog_net_graph.proofs.lines.add_lines.Given as goal
+
+abbrev pub invariant-loop-item : goal.invariant-loop-item
+invariant-loop-item l = AddsSoFar (flat_map (line_edges l.library)) l.items l.item-index l.fn.g l.g

@@ -1,0 +1,13 @@
+//! Graphs of nets by their names: what each net of a module rests on within a cycle, what all nets of all modules do, where
+//! each instance stands for its module, and which module contains which.
+#![tactic(auto)]
+
+mod containment;
+mod lines;
+mod merged;
+mod names;
+
+pub use containment::containment_of;
+pub use lines::{add_edge, direct_draft, dotted, port_name};
+pub use merged::merged_is_loopless;
+pub use names::{Draft, NamedGraph, insert_number};

@@ -1,0 +1,264 @@
+// What each net of a module rests on within a cycle by the module's own lines, as a graph of names.
+
+ghost use Rattle.std.specs.Prelude.{◌≡◌, ◌++◌, ◌∷◌, [], map, IfOk, OnOk};
+ghost use Rattle.std.specs.List.{flat_map};
+ghost use Rattle.std.specs.Option.{option_copied};
+ghost use Rattle.vlog_tree.specs.Table.{port_declared};
+ghost use Rattle.vlog_tree.specs.Loops.{atom_nets, value_nets, port_of, connection_edge, line_edges, answer_edges, memory_edges, direct_edges};
+ghost use Rattle.vlog_net_graph.specs.Names.{IsDraftOf, IsListed};
+ghost use Rattle.vlog_net_graph.specs.Growth.{Adds};
+ghost use Rattle.vlog_net_graph.specs.Merged.{is_named, port_edge};
+
+use crate::names::Draft;
+use std::alloc::{AllocError, Global};
+use tapa_base::Text;
+use vlog_rules::{Library, Scope, is_input, is_read};
+use vlog_tree::{Atom, Connection, Declaration, Item, Module, Value, addr_name, rdata_of};
+
+/// Two texts with a dot between them.
+#[tactic(auto, unfolding(vlog_tree::specs::Loops::port_of))]
+pub fn dotted(alloc: Global, before: &[u8], behind: &[u8]) -> Result<Vec<u8>, AllocError>
+    ensures { IfOk result (λ v. v.items ≡ port_of before.now behind.now) }
+{
+    let mut name = before.to_vec(alloc)?;
+    name.push(b'.')?;
+    name.extend_from_slice(behind)?;
+    Ok(name)
+}
+
+/// The name of an instance's port as a wire of the module that has the instance.
+pub fn port_name(alloc: Global, instance: &Text, port: &Text) -> Result<Vec<u8>, AllocError>
+    ensures { IfOk result (λ v. v.items ≡ port_of instance.now port.now) }
+{
+    dotted(alloc, instance.bytes(), port.bytes())
+}
+
+/// One more edge: the first name rests on the second.
+pub fn add_edge(alloc: Global, g: &mut Draft, from: &[u8], to: &[u8]) -> Result<(), AllocError>
+    ensures { OnOk result (Adds g.old g.new ((from.now, to.now) ∷ [])) }
+{
+    g.add_edge(alloc, from, to)?;
+    Ok(())
+}
+
+fn add_atom(alloc: Global, g: &mut Draft, x: &Text, atom: &Atom) -> Result<(), AllocError>
+    ensures { OnOk result (Adds g.old g.new (map (λ y. (x.now, y)) (atom_nets atom.now))) }
+{
+    match atom {
+        Atom::Net(y) => add_edge(alloc, g, x.bytes(), y.bytes()),
+        Atom::Part { net: y, .. } => add_edge(alloc, g, x.bytes(), y.bytes()),
+        Atom::Literal { .. } => Ok(()),
+    }
+}
+
+fn add_two(alloc: Global, g: &mut Draft, x: &Text, a: &Atom, b: &Atom) -> Result<(), AllocError>
+    ensures { OnOk result (Adds g.old g.new (map (λ y. (x.now, y)) (atom_nets a.now ++ atom_nets b.now))) }
+{
+    add_atom(alloc, g, x, a)?;
+    add_atom(alloc, g, x, b)?;
+    Ok(())
+}
+
+fn add_three(
+    alloc: Global,
+    g: &mut Draft,
+    x: &Text,
+    a: &Atom,
+    b: &Atom,
+    c: &Atom,
+) -> Result<(), AllocError>
+    ensures { OnOk result (Adds g.old g.new (map (λ y. (x.now, y)) (atom_nets a.now ++ (atom_nets b.now ++ atom_nets c.now)))) }
+{
+    add_atom(alloc, g, x, a)?;
+    add_two(alloc, g, x, b, c)?;
+    Ok(())
+}
+
+fn add_atoms(alloc: Global, g: &mut Draft, x: &Text, atoms: &[Atom]) -> Result<(), AllocError>
+    ensures { OnOk result (Adds g.old g.new (map (λ y. (x.now, y)) (flat_map atom_nets atoms.now))) }
+{
+    for a in atoms {
+        add_atom(alloc, g, x, a)?;
+    }
+    Ok(())
+}
+
+// A driven net rests on the nets of its driver.
+fn add_value(alloc: Global, g: &mut Draft, x: &Text, value: &Value) -> Result<(), AllocError>
+    ensures { OnOk result (Adds g.old g.new (map (λ y. (x.now, y)) (value_nets value.now))) }
+{
+    match value {
+        Value::Plain(a) => add_atom(alloc, g, x, a),
+        Value::Invert(a) => add_atom(alloc, g, x, a),
+        Value::Binary {
+            left: a,
+            right: b,
+            ..
+        } => add_two(alloc, g, x, a, b),
+        Value::Choose {
+            condition: c,
+            yes: a,
+            no: b,
+        } => add_three(alloc, g, x, c, a, b),
+        Value::Concat(atoms) => add_atoms(alloc, g, x, atoms.atoms()),
+        Value::Repeat { atom: a, .. } => add_atom(alloc, g, x, a),
+        Value::Cell { index: y, .. } => add_edge(alloc, g, x.bytes(), y.bytes()),
+    }
+}
+
+/// One more edge, of a port in the module of its instance and the net that it is linked to: an input rests on the net, and the net on
+/// an output. The ports are those of that module, and the port's name has the given one before it.
+pub(crate) fn add_port_edge(
+    alloc: Global,
+    g: &mut Draft,
+    ports: &Scope,
+    before: &Text,
+    port: &Text,
+    net: &[u8],
+) -> Result<(), AllocError>
+    ensures { OnOk result (Adds g.old g.new (port_edge ports.now before.now port.now net.now ∷ [])) }
+{
+    let name = port_name(alloc, before, port)?;
+    if is_input(ports.net_kind(port.bytes())) {
+        add_edge(alloc, g, &name, net)
+    } else {
+        add_edge(alloc, g, net, &name)
+    }
+}
+
+// An instance's input rests on its net, and a net on the instance's output.
+#[tactic(auto, unfolding(vlog_tree::specs::Loops::connection_edge))]
+fn add_connection(
+    alloc: Global,
+    g: &mut Draft,
+    ports: &Scope,
+    instance: &Text,
+    connection: &Connection,
+) -> Result<(), AllocError>
+    ensures { OnOk result (Adds g.old g.new (connection_edge ports.now instance.now connection.now ∷ [])) }
+{
+    let net = connection.net.bytes();
+    add_port_edge(alloc, g, ports, instance, &connection.port, net)
+}
+
+fn add_connections(
+    alloc: Global,
+    g: &mut Draft,
+    ports: &Scope,
+    instance: &Text,
+    connections: &[Connection],
+) -> Result<(), AllocError>
+    ensures { OnOk result (Adds g.old g.new (map (connection_edge ports.now instance.now) connections.now)) }
+{
+    for l in connections {
+        add_connection(alloc, g, ports, instance, l)?;
+    }
+    Ok(())
+}
+
+fn add_line(alloc: Global, g: &mut Draft, library: &Library, item: &Item) -> Result<(), AllocError>
+    ensures { OnOk result (Adds g.old g.new (line_edges library.now item.now)) }
+{
+    match item {
+        Item::Assign { net: x, value: e } => add_value(alloc, g, x, e),
+        Item::Instance {
+            module: m,
+            name: i,
+            connections: joins,
+        } => { add_connections(alloc, g, library.ports_named(m), i, joins.connections()) }
+        Item::Wire { .. } => Ok(()),
+        Item::Reg { .. } => Ok(()),
+        Item::Memory { .. } => Ok(()),
+        Item::Always(_) => Ok(()),
+    }
+}
+
+fn add_lines(
+    alloc: Global,
+    g: &mut Draft,
+    library: &Library,
+    items: &[Item],
+) -> Result<(), AllocError>
+    ensures { OnOk result (Adds g.old g.new (flat_map (line_edges library.now) items.now)) }
+{
+    for item in items {
+        add_line(alloc, g, library, item)?;
+    }
+    Ok(())
+}
+
+// What a memory gives rests on the place that it is asked for, where the top has ports for both.
+fn add_answer(
+    alloc: Global,
+    g: &mut Draft,
+    ports: &Scope,
+    d: &Declaration,
+) -> Result<(), AllocError>
+    ensures { OnOk result (Adds g.old g.new (answer_edges ports.now d.now)) }
+{
+    if !is_input(ports.net_kind(d.name.bytes())) {
+        return Ok(());
+    }
+    match rdata_of(&d.name) {
+        Some(label) => {
+            let address = addr_name(alloc, label)?;
+            if is_read(ports.net_kind(&address)) {
+                return add_edge(alloc, g, d.name.bytes(), &address);
+            }
+            Ok(())
+        }
+        None => Ok(()),
+    }
+}
+
+fn add_answers(
+    alloc: Global,
+    g: &mut Draft,
+    ports: &Scope,
+    names: &[Declaration],
+) -> Result<(), AllocError>
+    ensures { OnOk result (Adds g.old g.new (flat_map (answer_edges ports.now) names.now)) }
+{
+    for d in names {
+        add_answer(alloc, g, ports, d)?;
+    }
+    Ok(())
+}
+
+fn add_memories(alloc: Global, g: &mut Draft, top: bool, m: &Module) -> Result<(), AllocError>
+    ensures { OnOk result (Adds g.old g.new (memory_edges top (map port_declared m.now.ports))) }
+{
+    if top {
+        let ports = Scope::of_ports(alloc, m.ports())?;
+        add_answers(alloc, g, &ports, ports.declarations())
+    } else {
+        Ok(())
+    }
+}
+
+// Whether a module is the top, by its name and that of the first root.
+fn is_top(root: Option<&Text>, name: &Text) -> bool
+    ensures { result ≡ is_named (option_copied root.entry) name.now }
+{
+    match root {
+        Some(r) => r.bytes() == name.bytes(),
+        None => false,
+    }
+}
+
+/// What a module's own lines say, and at the top the memories outside: each net with what it rests on. `root` is the name of the first
+/// module that no other contains.
+pub fn direct_draft(
+    alloc: Global,
+    library: &Library,
+    root: Option<&Text>,
+    m: &Module,
+) -> Result<Draft, AllocError>
+    ensures graph { IfOk result (λ g. IsDraftOf (direct_edges library.now (is_named (option_copied root.entry)) m.now) g) }
+    ensures listed { IfOk result (λ g. IsListed g) }
+{
+    let mut g = Draft::new(alloc);
+    add_lines(alloc, &mut g, library, m.items())?;
+    add_memories(alloc, &mut g, is_top(root, m.name()), m)?;
+    Ok(g)
+}

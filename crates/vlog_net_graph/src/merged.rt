@@ -1,0 +1,212 @@
+// The graph of all modules at once, where each instance stands for its module. Where it has no cycle no module has a loop. Where it
+// has one there may be none: two instances of one module in a row are one module here.
+
+ghost use Rattle.std.specs.Prelude.{◌≡◌, ◌∷◌, ◌↔◌, [], ℕ, List, true, map, IfOk, OnOk};
+ghost use Rattle.std.specs.List.{flat_map};
+ghost use Rattle.std.specs.Option.{option_copied};
+ghost use Rattle.vlog_tree.specs.Grounded.{Has};
+ghost use Rattle.vlog_tree.specs.Form.{ModuleTree};
+ghost use Rattle.vlog_tree.specs.Loops.{Reaches, Rests, direct_edges, item_instances};
+ghost use Rattle.vlog_graph.specs.Graphs.{targets_of};
+ghost use Rattle.vlog_net_graph.specs.Names.{IsDraftOf};
+ghost use Rattle.vlog_net_graph.specs.Growth.{Adds};
+ghost use Rattle.vlog_net_graph.specs.Merged.{is_named, port_pair, named_edge, join, joins, module_merged, merged_edges};
+
+use crate::lines::{add_edge, add_port_edge, direct_draft, dotted, port_name};
+use crate::names::Draft;
+use std::alloc::{AllocError, Global};
+use tapa_base::Text;
+use vlog_rules::{Library, Scope};
+use vlog_tree::{Declaration, Item, Module};
+
+fn name_at(names: &[Vec<u8>], number: usize) -> &[u8]
+    ensures { result.now ≡ targets_of names.now number }
+{
+    match names.get(number) {
+        Some(name) => name,
+        None => &[],
+    }
+}
+
+fn add_named_edge(
+    alloc: Global,
+    g: &mut Draft,
+    m: &Text,
+    names: &[Vec<u8>],
+    edge: (usize, usize),
+) -> Result<(), AllocError>
+    ensures { OnOk result (Adds g.old g.new (named_edge m.now names.now edge ∷ [])) }
+{
+    let from = dotted(alloc, m.bytes(), name_at(names, edge.0))?;
+    let to = dotted(alloc, m.bytes(), name_at(names, edge.1))?;
+    add_edge(alloc, g, &from, &to)
+}
+
+fn add_named_edges(
+    alloc: Global,
+    g: &mut Draft,
+    m: &Text,
+    names: &[Vec<u8>],
+    edges: &[(usize, usize)],
+) -> Result<(), AllocError>
+    ensures { OnOk result (Adds g.old g.new (map (named_edge m.now names.now) edges.now)) }
+{
+    for edge in edges {
+        add_named_edge(alloc, g, m, names, *edge)?;
+    }
+    Ok(())
+}
+
+// The edges of a module's own lines.
+fn add_own(
+    alloc: Global,
+    g: &mut Draft,
+    library: &Library,
+    root: Option<&Text>,
+    m: &Module,
+) -> Result<(), AllocError>
+    ensures { OnOk result (Adds g.old g.new (map (port_pair m.now.name) (direct_edges library.now (is_named (option_copied root.entry)) m.now))) }
+{
+    let own = direct_draft(alloc, library, root, m)?;
+    add_named_edges(alloc, g, m.name(), &own.names, &own.edges)?;
+    Ok(())
+}
+
+// A port of an instance of k in a module m.
+fn add_join(
+    alloc: Global,
+    g: &mut Draft,
+    ports: &Scope,
+    m: &Text,
+    k: &Text,
+    instance: &Text,
+    d: &Declaration,
+) -> Result<(), AllocError>
+    ensures { OnOk result (Adds g.old g.new (join ports.now m.now (k.now, instance.now) d.now ∷ [])) }
+{
+    let wire = port_name(alloc, instance, &d.name)?;
+    let whole = dotted(alloc, m.bytes(), &wire)?;
+    add_port_edge(alloc, g, ports, k, &d.name, &whole)
+}
+
+fn add_joins(
+    alloc: Global,
+    g: &mut Draft,
+    ports: &Scope,
+    m: &Text,
+    k: &Text,
+    instance: &Text,
+    names: &[Declaration],
+) -> Result<(), AllocError>
+    ensures { OnOk result (Adds g.old g.new (map (join ports.now m.now (k.now, instance.now)) names.now)) }
+{
+    for d in names {
+        add_join(alloc, g, ports, m, k, instance, d)?;
+    }
+    Ok(())
+}
+
+fn add_instance(
+    alloc: Global,
+    g: &mut Draft,
+    library: &Library,
+    m: &Text,
+    k: &Text,
+    instance: &Text,
+) -> Result<(), AllocError>
+    ensures { OnOk result (Adds g.old g.new (joins library.now m.now (k.now, instance.now))) }
+{
+    let ports = library.ports_named(k);
+    add_joins(alloc, g, ports, m, k, instance, ports.declarations())
+}
+
+fn add_item(
+    alloc: Global,
+    g: &mut Draft,
+    library: &Library,
+    m: &Text,
+    item: &Item,
+) -> Result<(), AllocError>
+    ensures { OnOk result (Adds g.old g.new (flat_map (joins library.now m.now) (item_instances item.now))) }
+{
+    match item {
+        Item::Instance {
+            module: k,
+            name: i,
+            ..
+        } => add_instance(alloc, g, library, m, k, i),
+        Item::Wire { .. } => Ok(()),
+        Item::Reg { .. } => Ok(()),
+        Item::Memory { .. } => Ok(()),
+        Item::Assign { .. } => Ok(()),
+        Item::Always(_) => Ok(()),
+    }
+}
+
+fn add_items(
+    alloc: Global,
+    g: &mut Draft,
+    library: &Library,
+    m: &Text,
+    items: &[Item],
+) -> Result<(), AllocError>
+    ensures { OnOk result (Adds g.old g.new (flat_map (joins library.now m.now) (flat_map item_instances items.now))) }
+{
+    for item in items {
+        add_item(alloc, g, library, m, item)?;
+    }
+    Ok(())
+}
+
+fn add_module(
+    alloc: Global,
+    g: &mut Draft,
+    library: &Library,
+    root: Option<&Text>,
+    m: &Module,
+) -> Result<(), AllocError>
+    ensures { OnOk result (Adds g.old g.new (module_merged library.now (is_named (option_copied root.entry)) m.now)) }
+{
+    add_own(alloc, g, library, root, m)?;
+    add_items(alloc, g, library, m.name(), m.items())?;
+    Ok(())
+}
+
+fn add_modules(
+    alloc: Global,
+    g: &mut Draft,
+    library: &Library,
+    root: Option<&Text>,
+    modules: &[Module],
+) -> Result<(), AllocError>
+    ensures { OnOk result (Adds g.old g.new (flat_map (module_merged library.now (is_named (option_copied root.entry))) modules.now)) }
+{
+    for m in modules {
+        add_module(alloc, g, library, root, m)?;
+    }
+    Ok(())
+}
+
+fn merged_draft(alloc: Global, library: &Library, root: Option<&Text>) -> Result<Draft, AllocError>
+    ensures { IfOk result (λ g. IsDraftOf (merged_edges library.now (is_named (option_copied root.entry))) g) }
+{
+    let mut g = Draft::new(alloc);
+    add_modules(alloc, &mut g, library, root, library.modules())?;
+    Ok(g)
+}
+
+/// Whether the graph of all modules at once has no cycle. Then no net of any module rests on itself. `root` is the name of the first
+/// module that no other contains. It takes time and memory as the lines and the ports of all instances do.
+pub fn merged_is_loopless(
+    alloc: Global,
+    library: &Library,
+    root: Option<&Text>,
+) -> Result<bool, AllocError>
+    ensures exact { IfOk result (λ b. (b ≡ true) ↔ ((x : List ℕ) → Reaches (merged_edges library.now (is_named (option_copied root.entry))) x x → ⊥)) }
+    ensures loopless { IfOk result (λ b. b ≡ true → (m : ModuleTree) → Has library.now m → (x : List ℕ) → Rests library.now (is_named (option_copied root.entry)) m x x → ⊥) }
+{
+    let draft = merged_draft(alloc, library, root)?;
+    let graph = draft.finish(alloc)?;
+    let loopless = graph.is_loopless(alloc)?;
+    Ok(loopless)
+}

@@ -1,0 +1,143 @@
+// Graphs of names.
+
+ghost use Rattle.std.specs.Prelude.{◌≡◌, ◌++◌, ◌∷◌, [], ℕ, List, Some, true, length, bytes_eq, ◌↔◌, if◌then◌else◌, IfOk, OnOk};
+ghost use Rattle.vlog_tree.specs.Loops.{Edges, Reaches};
+ghost use Rattle.vlog_rules.specs.NameTable.{value_in};
+ghost use Rattle.vlog_net_graph.specs.Names.{IsDraftOf, IsGraphOf, IsExtended, IsListed, IsGraphListed};
+
+use std::alloc::{AllocError, Global};
+use std::collections::HashMap;
+use vlog_graph::{Graph, LeveledGraph, Order, order_of};
+
+/// A graph of names that grows: the names by their numbers, and the edges by numbers.
+#[derive(Drop)]
+pub struct Draft {
+    pub numbers: HashMap<Vec<u8>, usize>,
+    pub names: Vec<Vec<u8>>,
+    pub edges: Vec<(usize, usize)>,
+}
+
+/// A graph of names that grows no more: the names by their numbers, all of them, and the graph of the numbers.
+#[derive(Drop)]
+pub struct NamedGraph {
+    pub numbers: HashMap<Vec<u8>, usize>,
+    pub names: Vec<Vec<u8>>,
+    pub graph: LeveledGraph,
+}
+
+/// Gives a name a number.
+pub fn insert_number(
+    alloc: Global,
+    numbers: &mut HashMap<Vec<u8>, usize>,
+    name: &[u8],
+    number: usize,
+) -> Result<(), AllocError>
+    ensures { OnOk result ((x : List ℕ) → value_in numbers.new x ≡ (if bytes_eq name.now x then Some number else value_in numbers.old x)) }
+{
+    let key = name.to_vec(alloc)?;
+    numbers.insert(key, number)?;
+    Ok(())
+}
+
+impl Draft {
+    /// A graph of no names.
+    pub fn new(alloc: Global) -> Draft
+        ensures graph { IsDraftOf [] result }
+        ensures listed { IsListed result }
+    {
+        Draft {
+            numbers: HashMap::new(alloc),
+            names: Vec::new(alloc),
+            edges: Vec::new(alloc),
+        }
+    }
+
+    fn number(&self, name: &[u8]) -> Option<usize>
+        ensures { result ≡ value_in self.now.numbers name.now }
+    {
+        self.numbers.get(name).copied()
+    }
+
+    // The number of a name, which gets one where it has none.
+    fn number_for(&mut self, alloc: Global, name: &[u8]) -> Result<usize, AllocError>
+        ensures number { IfOk result (λ j. value_in self.new.numbers name.now ≡ Some j) }
+        ensures extended { OnOk result (IsExtended (value_in self.old.numbers) (value_in self.new.numbers)) }
+        ensures graph { OnOk result ((edges : Edges) → IsDraftOf edges self.old → IsDraftOf edges self.new) }
+        ensures listed { OnOk result (IsListed self.old → IsListed self.new) }
+    {
+        if let Some(number) = self.number(name) {
+            return Ok(number);
+        }
+        let number = self.names.len();
+        let text = name.to_vec(alloc)?;
+        self.names.push(text)?;
+        insert_number(alloc, &mut self.numbers, name, number)?;
+        Ok(number)
+    }
+
+    /// One more edge: the first name rests on the second.
+    pub fn add_edge(&mut self, alloc: Global, from: &[u8], to: &[u8]) -> Result<(), AllocError>
+        ensures graph { OnOk result ((edges : Edges) → IsDraftOf edges self.old → IsDraftOf (edges ++ (from.now, to.now) ∷ []) self.new) }
+        ensures listed { OnOk result (IsListed self.old → IsListed self.new) }
+    {
+        let a = self.number_for(alloc, from)?;
+        let b = self.number_for(alloc, to)?;
+        self.edges.push((a, b))?;
+        Ok(())
+    }
+
+    /// The graph as it is, with levels of its nodes.
+    pub fn finish(self, alloc: Global) -> Result<NamedGraph, AllocError>
+        requires { (edges : Edges) × IsDraftOf edges self }
+        ensures graph { (edges : Edges) → IsDraftOf edges self → IfOk result (λ g. IsGraphOf edges g) }
+        ensures listed { IsListed self → IfOk result (λ g. IsGraphListed g) }
+    {
+        let graph = Graph::of(alloc, self.names.len(), &self.edges)?;
+        let graph = LeveledGraph::of(alloc, graph)?;
+        Ok(NamedGraph {
+            numbers: self.numbers,
+            names: self.names,
+            graph,
+        })
+    }
+}
+
+impl NamedGraph {
+    /// The number of a name.
+    pub fn number(&self, name: &[u8]) -> Option<usize>
+        ensures { result ≡ value_in self.now.numbers name.now }
+    {
+        self.numbers.get(name).copied()
+    }
+
+    /// The number of nodes.
+    pub fn count(&self) -> usize
+        ensures { result ≡ length self.now.graph }
+    {
+        self.graph.graph().len()
+    }
+
+    /// Whether a name reaches itself.
+    pub fn returns(&self, alloc: Global, name: &[u8]) -> Result<bool, AllocError>
+        ensures { (edges : Edges) → IsGraphOf edges self.now → IfOk result (λ b. (b ≡ true) ↔ Reaches edges name.now name.now) }
+    {
+        match self.number(name) {
+            Some(number) => {
+                let found = self.graph.returns(alloc, number)?;
+                Ok(found)
+            }
+            None => Ok(false),
+        }
+    }
+
+    /// Whether no name reaches itself.
+    pub fn is_loopless(&self, alloc: Global) -> Result<bool, AllocError>
+        ensures { (edges : Edges) → IsGraphOf edges self.now → IfOk result (λ b. (b ≡ true) ↔ ((x : List ℕ) → Reaches edges x x → ⊥)) }
+    {
+        let order = order_of(alloc, self.graph.graph())?;
+        match order {
+            Order::PartsFirst(_) => Ok(true),
+            Order::Cycle(_) => Ok(false),
+        }
+    }
+}
