@@ -61,11 +61,11 @@ zero_total zero = refl
 zero_total (suc m) = let a = zero_total m in omega arith
 
 pub zero_joined : (net : Network) → joined_ticks net zeros ≡ 0
-zero_joined net = total_same net.size (joined_part net zeros) zeros (λ i l. none (net.detached i)) ∙ zero_total net.size
+zero_joined net = total_same net.size (joined_part net zeros) zeros (λ i l. none (net.detached i) (zeros i) refl) ∙ zero_total net.size
   where
-    none : (b : Bool) → (if b then 0 else 0) ≡ 0
-    none true = refl
-    none false = refl
+    none : (b : Bool) (n : ℕ) → n ≡ 0 → (if b then 0 else n) ≡ n
+    none true n e = sym e
+    none false n e = refl
 
 pub writer_push : (program : Program) (xs zs : List ℕ) (y : ℕ) → zs ≡ xs ++ y ∷ [] → ((s : ℕ) → s < length xs → IsWriter program s (producer_of program s) (slice_index xs s)) → IsWriter program (length xs) (producer_of program (length xs)) y → (s : ℕ) → s < length xs + 1 → IsWriter program s (producer_of program s) (slice_index zs s)
 writer_push program xs zs y e h g s l = subst (λ v. IsWriter program s (producer_of program s) (slice_index v s)) (sym e) (go xs (λ s p. IsWriter program s (producer_of program s) p) h g s l)

@@ -22,10 +22,7 @@ use Rattle.net_core.specs.Waits.{IsToldBy}
 use Rattle.net_core.specs.State.{network, count, joined_total, IsValid, IsWithin}
 use Rattle.net_core.specs.Settle.{IsQuiet, IsSpent, IsAtRest, IsLimited, EndsAs, IsTold, AreTold, AreJoinedTold, AreJoinedEnded, IsSomeJoinedLeft, IsSomeWithFuel, AreNoneWithFuel}
 use Rattle.net_core.proofs.Ends.{stopped, told, not_ended}
-
-pub detached_is : (program : Program) (input : Input) (i : ℕ) → (network_on program input).detached i ≡ detached_at program i
-unfolding network_of
-detached_is program input i = refl
+use Rattle.net_core.proofs.Shown.{detached_is}
 
 module _ (net : NetState) (v : IsValid net) (budget left : ℕ) (within : IsWithin net budget left) where
   abbrev N : Network

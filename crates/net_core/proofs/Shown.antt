@@ -11,7 +11,7 @@ use Rattle.kahn_model.specs.Start.{network_of}
 use Rattle.kahn_model.proofs.Reach.{reach_founded}
 use Rattle.kahn_model.proofs.Taken.{taken_begins}
 use Rattle.net_core.specs.declared.input.Input.{Input}
-use Rattle.net_core.specs.Bindings.{producer_of, consumer_of}
+use Rattle.net_core.specs.Bindings.{detached_at, producer_of, consumer_of}
 use Rattle.net_core.specs.Bounded.{network_on}
 
 prefix_front : {A : Type 0} (xs ys : List A) → IsPrefixOf xs ys → take (length xs) ys ≡ xs
@@ -30,6 +30,10 @@ producer_is program input s = refl
 consumer_is : (program : Program) (input : Input) (s : ℕ) → (network_on program input).consumer s ≡ consumer_of program s
 unfolding network_of consumer_of
 consumer_is program input s = refl
+
+pub detached_is : (program : Program) (input : Input) (i : ℕ) → (network_on program input).detached i ≡ detached_at program i
+unfolding network_of
+detached_is program input i = refl
 
 module _ (program : Program) (input : Input) (k : ℕ → ℕ) (s : ℕ) where
   abbrev N : Network

@@ -36,7 +36,8 @@ pub fn resume_within<B: Body>(
 {
     if net.is_detached(i) {
         let fuel = own_left(net, i, budget);
-        return resume_instance(alloc, net, i, fuel);
+        let answer = resume_instance(alloc, net, i, fuel)?;
+        return Ok(answer);
     }
     let (pause, made) = resume_instance(alloc, net, i, *left)?;
     *left -= made;
