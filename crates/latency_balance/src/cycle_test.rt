@@ -1,4 +1,4 @@
-ghost use Rattle.std.specs.Prelude.{◌≡◌, ◌<◌, ◌≤◌, ◌^◌, ℕ, IsTrue, slice_index, length, IfOk};
+ghost use Rattle.std.specs.Prelude.{◌≡◌, ◌<◌, ◌≤◌, ◌^◌, IsTrue, length, IfOk};
 ghost use Rattle.task_graph.specs.Arcs.{streams, total};
 ghost use Rattle.latency_balance.specs.Moves.{AreLatencies, IsCycle, IsMove, gain_of, loss_of, move_at};
 ghost use Rattle.latency_balance.specs.Paths.{AreInside, IsOnce, LeadsBack};

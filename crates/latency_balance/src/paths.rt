@@ -43,15 +43,21 @@ fn no_moves(alloc: Global, graph: &Graph, stream: usize, limit: u64) -> Result<P
     })
 }
 
-/// Which of the groups that were reached costs least.
-fn cheapest(reached: &[usize], cost: &[u64]) -> usize
+/// Which of the groups that were reached costs least: the first that costs no more than a bound of them all from below.
+fn cheapest(reached: &[usize], cost: &[u64], floor: u64) -> usize
     requires some { 0 < length reached.now }
     requires inside { (k : ℕ) → k < length reached.now → slice_index reached.now k < length cost.now }
     ensures { result < length reached.now }
 {
     let mut best = 0;
-    for place in 1..reached.len() {
-        if cost[reached[place]] < cost[reached[best]] {
+    let mut least = u64::MAX;
+    for place in 0..reached.len() {
+        let found = cost[reached[place]];
+        if found <= floor {
+            return place;
+        }
+        if found < least {
+            least = found;
             best = place;
         }
     }
@@ -59,7 +65,7 @@ fn cheapest(reached: &[usize], cost: &[u64]) -> usize
 }
 
 /// Takes out the group that costs least of those that were reached.
-fn take_cheapest(graph: &Graph, paths: &mut Paths) -> Option<usize>
+fn take_cheapest(graph: &Graph, paths: &mut Paths, floor: u64) -> Option<usize>
     requires { ArePaths graph.now paths.old }
     ensures paths { ArePaths graph.now paths.new }
     ensures inside { IfSome result (λ group. group < graph.now.groups) }
@@ -67,7 +73,7 @@ fn take_cheapest(graph: &Graph, paths: &mut Paths) -> Option<usize>
     if paths.reached.is_empty() {
         return None;
     }
-    let place = cheapest(&paths.reached, &paths.cost);
+    let place = cheapest(&paths.reached, &paths.cost, floor);
     Some(paths.reached.swap_remove(place))
 }
 
@@ -164,11 +170,13 @@ pub fn paths_from(
 {
     let mut paths = no_moves(alloc, graph, stream, limit)?;
     let end = graph.head(stream);
+    let mut floor = 0;
     'groups: for _ in 0..graph.groups {
-        match take_cheapest(graph, &mut paths) {
+        match take_cheapest(graph, &mut paths, floor) {
             None => return Ok(paths),
             Some(group) => {
-                if group == end {
+                floor = paths.cost[group];
+                if paths.cost[end] <= floor {
                     return Ok(paths);
                 }
                 go_on_from(graph, lat, flow, heights, exits, &mut paths, group)?;

@@ -1,4 +1,4 @@
-ghost use Rattle.std.specs.Prelude.{◌≡◌, ◌<◌, ◌≤◌, ◌+◌, ◌*◌, ◌^◌, ℕ, slice_index, length, IfOk, IfSome};
+ghost use Rattle.std.specs.Prelude.{◌≡◌, ◌<◌, ◌≤◌, length, IfOk, IfSome};
 ghost use Rattle.task_graph.specs.Arcs.{streams};
 ghost use Rattle.latency_balance.specs.Moves.{AreLatencies, IsCarried, IsCycle};
 ghost use Rattle.latency_balance.specs.Paths.{AreExits};

@@ -1,4 +1,4 @@
-use Rattle.std.proofs.Common.{◌≡◌, ◌<◌, ◌+◌, ℕ, add-one, arith, below_more, refl, rules, sym, ◌∙◌}
+use Rattle.std.proofs.Common.{◌≡◌, ◌+◌, add-one, arith, below_more, refl, rules, sym, ◌∙◌}
 use Rattle.latency_balance.specs.Moves.{IsMove, end_of, start_of, move_at, place}
 use Rattle.latency_balance.proofs.cycle_test.leads_back.Goals as goal
 
