@@ -13,6 +13,8 @@ import subprocess
 import sys
 import tempfile
 
+from runner.shapes import ORDERS, PLACES, SHAPES, shaped, slots_of
+
 LIMIT = 262_144
 
 TOP = "void F() {} void T() { tapa::task().invoke(F); }\n"
@@ -162,6 +164,17 @@ def commands():
         yield "plan", *case
 
 
+def balances(shape):
+    """The plans of a shape at its largest size, each with its name: each order of the streams, and each way to pin the tasks."""
+    for order, place in itertools.product(ORDERS, PLACES):
+        some = random.Random(f"{shape} {order} {place}")
+        streams = [(*pair, some.choice(["bool", "uint8_t", "int", "uint64_t"])) for pair in shaped(shape, order, 512)]
+        pins = {f"T{task}${task}": list(divmod(slot, 4)) for task, slot in enumerate(slots_of(place, 512))}
+        levels = {"version": 2, "levels_rows": [16] * 7, "levels_cols": [16] * 3, "forbidden": []}
+        what = f"{shape}, {len(streams)} streams {order}, tasks {place}"
+        yield what, network(512, streams), device(8, 4, 10_000, [1] * 512, pins=pins, **levels)
+
+
 def measured(program, folder, verb, source, data, words):
     for file, text in (("r.cpp", source), ("d.json", data)):
         if text is not None:
@@ -173,6 +186,15 @@ def measured(program, folder, verb, source, data, words):
     _, status, used = os.wait4(ran.pid, 0)
     ran.returncode = os.waitstatus_to_exitcode(status)
     return ran.returncode, err, used.ru_utime + used.ru_stime, used.ru_maxrss / 1024
+
+
+def slowest(program, folder, shape):
+    """The slowest balance of a shape, as a row, and the worst status of all of them."""
+    runs = [(*measured(program, folder, "plan", source, data, []), what) for what, source, data in balances(shape)]
+    seconds, megabytes, what = max((run[2:] for run in runs), key=lambda run: run[0])
+    worst = max(run[0] for run in runs)
+    row = f"| 512 groups, {what}: the slowest of {len(runs)} | {seconds:.2f} s | {megabytes:.0f} MB |"
+    return row + (f" status {worst}: {[run[1][:200] for run in runs if run[0]]}" if worst else ""), worst
 
 
 def main(words):
@@ -187,6 +209,10 @@ def main(words):
             differs = status not in wanted
             worst = max(worst, status if differs else 0)
             print(f"| {what} | {seconds:.2f} s | {megabytes:.0f} MB |" + (f" status {status}: {err[:200].strip()}" if differs else ""), flush=True)
+        for shape in SHAPES:
+            row, status = slowest(os.path.abspath(words[0]), folder, shape)
+            worst = max(worst, status)
+            print(row, flush=True)
     return worst
 
 

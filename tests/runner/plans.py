@@ -3,6 +3,7 @@ import itertools
 import json
 import random
 
+from runner.shapes import ORDERS, PLACES, SHAPES, shaped, slots_of
 from runner.sources import bytes_of, parts, table
 from runner.trial import read
 
@@ -140,6 +141,22 @@ class Case:
         return rows + self.crossed(self.levels_cols, a % self.cols, b % self.cols)
 
 
+class Shaped(Case):
+    """A program in a shape, of which each task has a pin, on a device with the longest ways that may be."""
+
+    def __init__(self, shape, order, place, count=16):
+        some = random.Random(f"{shape} {order} {place}")
+        self.count = count
+        self.streams = [(*pair, some.choice(list(TYPES))) for pair in shaped(shape, order, count)]
+        self.group, self.first = groups_of(count, self.streams)
+        self.rows, self.cols, self.slots = 8, 4, 32
+        self.version, self.percent, self.forbidden = 2, 100, set()
+        self.capacity = [[count] * 5] * self.slots
+        self.uses = [[1] * 5] * count
+        self.levels_rows, self.levels_cols = [16] * 7, [16] * 3
+        self.pins = dict(enumerate(slots_of(place, count)))
+
+
 def front_lines(case, placed):
     """The lines of slots and of tasks."""
     for slot, five in enumerate(case.used(placed)):
@@ -216,6 +233,14 @@ def try_case(trial, seed):
             check_none(trial, name, said, f"tapa: no room for T{case.first[found]}${case.first[found]}\n")
 
 
+def try_shape(trial, shape, order, place):
+    case = Shaped(shape, order, place)
+    trial.put("p.cpp", source_of(case.count, case.streams))
+    trial.put("d.json", case.device())
+    said = trial.run(["plan", "p.cpp", "T", "d.json"])
+    check_plan(trial, f"plan of {shape}, streams {order}, tasks {place}", case, said, case.pins)
+
+
 def check_device(trial, row):
     """`CODE KEY `device file``, or `ok` where it has no fault; a key may be empty."""
     told = row.partition(" `")[0]
@@ -240,3 +265,5 @@ def try_all(trial):
     try_devices(trial)
     for seed in range(GRAPHS):
         try_case(trial, seed)
+    for names in itertools.product(SHAPES, ORDERS, PLACES):
+        try_shape(trial, *names)

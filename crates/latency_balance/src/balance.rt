@@ -6,6 +6,7 @@ ghost use Rattle.latency_balance.specs.Result.{IsBalance};
 
 use crate::search::{Found, search_gain};
 use crate::sending::{amount_along, send};
+use crate::settling::settled;
 use std::alloc::{AllocError, Global};
 use task_graph::Graph;
 
@@ -62,7 +63,8 @@ pub fn balance_streams(alloc: Global, graph: &Graph, lat: &[u32]) -> Result<Bala
     requires { AreLatencies graph.now lat.now }
     ensures { IfOk result (λ b. IsBalance graph.now lat.now b) }
 {
-    let mut flow = first_flow(alloc, graph)?;
+    let widths = first_flow(alloc, graph)?;
+    let mut flow = settled(alloc, graph, lat, widths)?;
     'cycles: loop {
         match search_gain(alloc, graph, lat, &flow)? {
             Found::Gain(cycle) => {
