@@ -1,5 +1,5 @@
 -- How a driven network's end is the program's.
-use Rattle.std.proofs.Common.{◌≡◌, ℕ, ◌<◌, List, [], ◌∷◌, ◌++◌, length, Some, refl, ◌∙◌, ap, subst, get_or, arith}
+use Rattle.std.proofs.Common.{◌≡◌, ℕ, ◌<◌, List, [], ◌∷◌, length, Some, refl, ◌∙◌, ap, subst, get_or, arith}
 use Rattle.std.specs.Prelude.{slice_get}
 use Rattle.std.proofs.lemmas.Option.{slice_get-get_or, slice_get_within}
 use Rattle.tapa_syntax.specs.declared.program.Program.{Program}
@@ -20,7 +20,6 @@ use Rattle.net_core.specs.Settle.{EndsAs}
 use Rattle.net_core.specs.declared.outcome.Outcome.{Outcome}
 use Rattle.net_core.specs.declared.outcome.Outcome.TheVariants as outcome
 use Rattle.run_program.specs.Fresh.{IsFresh}
-use Rattle.run_data.specs.Report.{last_line}
 use Rattle.run_data.specs.declared.lines.Last.{Last}
 use Rattle.run_data.specs.declared.lines.Last.TheVariants.{Done, Stopped}
 use Rattle.run_program.specs.Run.{Values, values_of, network, ticks_of, report_of, AreWaitLines, DoneRun, StoppedRun, LimitRun}
