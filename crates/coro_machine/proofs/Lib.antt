@@ -1,3 +1,4 @@
+pub mod Flat
 pub mod Ticks
 pub mod Rest
 pub mod Compute

@@ -1,4 +1,3 @@
-pub mod Compute
 pub mod Run
 pub mod Tick
 pub mod Coro

@@ -1,0 +1,140 @@
+#!/usr/bin/env python3
+"""Measures how fast a built `tapa` runs programs, and prints the rows of docs/FIGURES.md, "Speed".
+
+    tests/speed.py PROGRAM [WORD]      all of them, or those whose name has the word
+
+The sources are those of tests/speed/, and wide networks that are made here. Seconds are processor seconds of one call, the best of three, with the
+report, which goes nowhere; ticks are those that the report counts. Where g++ is there, the anchors of tests/speed/ are compiled with -O2
+and measured beside it.
+"""
+import json
+import os
+import shutil
+import subprocess
+import sys
+import tempfile
+
+from figures import chain
+
+HERE = os.path.dirname(os.path.abspath(__file__))
+REPEATS = 3
+
+
+def source(name):
+    with open(os.path.join(HERE, "speed", f"{name}.cpp"), encoding="utf-8") as it:
+        return it.read()
+
+
+def hub(workers, rounds):
+    """A task that sends a token to each worker and reads one back, again and again."""
+    worker = f"void W(tapa::istream<int>& p, tapa::ostream<int>& q) {{ for (int i = 0; i < {rounds}; ++i) q << p.read(); }}\n"
+    ends = [f"tapa::ostream<int>& a{at}" for at in range(workers)] + [f"tapa::istream<int>& b{at}" for at in range(workers)]
+    sends = "".join(f"a{at} << i; " for at in range(workers)) + "".join(f"b{at}.read(); " for at in range(workers))
+    task = f"void H({', '.join(ends)}) {{ for (int i = 0; i < {rounds}; ++i) {{ {sends}}} }}\n"
+    streams = "".join(f"tapa::stream<int, 2> s{at}; tapa::stream<int, 2> t{at}; " for at in range(workers))
+    bound = ", ".join([f"s{at}" for at in range(workers)] + [f"t{at}" for at in range(workers)])
+    chained = "".join(f".invoke(W, s{at}, t{at})" for at in range(workers))
+    return f"{worker}{task}void Top() {{ {streams}tapa::task().invoke(H, {bound}){chained}; }}\n"
+
+
+def pair(count, rounds):
+    """Two tasks with so many streams from the one to the other."""
+    writes = "".join(f"s{at} << i; " for at in range(count))
+    reads = "".join(f"s{at}.read(); " for at in range(count))
+    outs = ", ".join(f"tapa::ostream<int>& s{at}" for at in range(count))
+    ins = ", ".join(f"tapa::istream<int>& s{at}" for at in range(count))
+    streams = "".join(f"tapa::stream<int, 2> s{at}; " for at in range(count))
+    bound = ", ".join(f"s{at}" for at in range(count))
+    return (
+        f"void P({outs}) {{ for (int i = 0; i < {rounds}; ++i) {{ {writes}}} }}\n"
+        f"void C({ins}) {{ for (int i = 0; i < {rounds}; ++i) {{ {reads}}} }}\n"
+        f"void Top() {{ {streams}tapa::task().invoke(P, {bound}).invoke(C, {bound}); }}\n"
+    )
+
+
+def queue(depth, tokens):
+    """A task that is held up on its output, behind a stream of a depth."""
+    return (
+        f"void P(tapa::ostream<int>& q) {{ for (int i = 0; i < {tokens}; ++i) q << i; }}\n"
+        f"void M(tapa::istream<int>& p, tapa::ostream<int>& q) {{ for (int i = 0; i < {tokens}; ++i) q << p.read(); }}\n"
+        f"void C(tapa::istream<int>& q) {{ for (int i = 0; i < {tokens}; ++i) q.read(); }}\n"
+        f"void Top() {{ tapa::stream<int, {depth}> a; tapa::stream<int, 1> b; tapa::task().invoke(P, a).invoke(M, a, b).invoke(C, b); }}\n"
+    )
+
+
+def cases():
+    """Each measurement: its name, its source, its top task, and its data."""
+    yield "a busy task, 50,000,000 turns", source("busy"), "Top", {"scalars": {"n": 50_000_000}, "memories": {"m": [0]}}
+    yield "a task with an array, a memory and several kinds, 3,000,000 turns", source("mixed"), "Top", {"scalars": {"n": 3_000_000}, "memories": {"m": [0] * 256}}
+    yield "a chain of ten, 1,000,000 tokens, depth 16", chain(10, 1_000_000), "T", {}
+    for workers, rounds in ((8, 50_000), (500, 1_000)):
+        yield f"a hub and {workers} workers, {rounds:,} rounds", hub(workers, rounds), "Top", {}
+    for count, rounds in ((1, 2_000_000), (1_000, 2_000)):
+        yield f"two tasks and {count:,} streams, {rounds:,} rounds", pair(count, rounds), "Top", {}
+    for depth in (2, 4_096):
+        yield f"a task held up on its output, input depth {depth:,}", queue(depth, 1_000_000), "Top", {}
+    for turns in (100_000, 400_000, 1_600_000):
+        yield f"a ring of three, {turns:,} turns", source("ring"), "Top", {"scalars": {"n": turns}}
+
+
+def used(words, folder, out):
+    """The processor seconds and megabytes of one call, which must end well."""
+    ran = subprocess.Popen(words, cwd=folder, stdout=out, stderr=subprocess.PIPE)
+    err = ran.stderr.read().decode()
+    _, status, spent = os.wait4(ran.pid, 0)
+    ran.returncode = os.waitstatus_to_exitcode(status)
+    if ran.returncode:
+        sys.exit(f"{words}: status {ran.returncode}: {err[:300].strip()}")
+    return spent.ru_utime + spent.ru_stime, spent.ru_maxrss / 1024
+
+
+def ticks_of(words, folder):
+    """The ticks that a report counts; of a long report only the end is kept."""
+    with open(os.path.join(folder, "report"), "wb") as it:
+        used(words, folder, it)
+    with open(os.path.join(folder, "report"), "rb") as it:
+        it.seek(max(0, os.path.getsize(it.name) - 100))
+        word, ticks = it.read().decode().split()[-2:]
+    os.remove(os.path.join(folder, "report"))
+    if word != "done":
+        sys.exit(f"{words}: it ended with {word}")
+    return int(ticks)
+
+
+def anchors(folder):
+    """Plain C++ of the first rows, by their names: the seconds of one call."""
+    compiler = shutil.which("g++")
+    if not compiler:
+        return {}
+    found = {}
+    for name, file, count in (("busy", "busy_anchor", 50_000_000), ("chain", "chain_anchor", 1_000_000)):
+        built = os.path.join(folder, file)
+        subprocess.run([compiler, "-O2", "-o", built, os.path.join(HERE, "speed", f"{file}.cc")], check=True)
+        found[name] = min(used([built, str(count)], folder, subprocess.DEVNULL)[0] for _ in range(REPEATS))
+    return found
+
+
+def main(words):
+    if len(words) not in (1, 2):
+        print(__doc__.strip(), file=sys.stderr)
+        return 2
+    program, wanted = os.path.abspath(words[0]), words[1] if len(words) == 2 else ""
+    print("| what | ticks | time | ticks a second | memory | g++ -O2 |\n|---|---|---|---|---|---|")
+    with tempfile.TemporaryDirectory() as folder:
+        plain = anchors(folder)
+        for name, text, top, data in cases():
+            if wanted not in name:
+                continue
+            for file, content in (("r.cpp", text), ("d.json", json.dumps(data))):
+                with open(os.path.join(folder, file), "w", encoding="utf-8") as it:
+                    it.write(content)
+            call = [program, "run", "r.cpp", top, "d.json", "--steps", "1000000000"]
+            ticks = ticks_of(call, folder)
+            seconds, megabytes = min(used(call, folder, subprocess.DEVNULL) for _ in range(REPEATS))
+            anchor = next((f"{spent:.2f} s" for word, spent in plain.items() if f"a {word} " in name), "")
+            print(f"| {name} | {ticks:,} | {seconds:.2f} s | {ticks / max(seconds, 0.001) / 1e6:.0f} million | {megabytes:.0f} MB | {anchor} |", flush=True)
+    return 0
+
+
+if __name__ == "__main__":
+    sys.exit(main(sys.argv[1:]))
