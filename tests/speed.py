@@ -70,7 +70,7 @@ def cases():
     for workers, rounds in ((8, 50_000), (500, 1_000)):
         yield f"a hub and {workers} workers, {rounds:,} rounds", hub(workers, rounds), "Top", {}
     for count, rounds in ((1, 2_000_000), (1_000, 2_000)):
-        yield f"two tasks and {count:,} streams, {rounds:,} rounds", pair(count, rounds), "Top", {}
+        yield f"two tasks and {count:,} stream{'s' if count > 1 else ''}, {rounds:,} rounds", pair(count, rounds), "Top", {}
     for depth in (2, 4_096):
         yield f"a task held up on its output, input depth {depth:,}", queue(depth, 1_000_000), "Top", {}
     for turns in (100_000, 400_000, 1_600_000):
