@@ -1,0 +1,4 @@
+pub mod Placed
+pub mod Stopped
+pub mod CutNames
+pub mod Uncut
