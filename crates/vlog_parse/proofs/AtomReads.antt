@@ -173,7 +173,7 @@ module _ (cs : List ModuleTree) where
   atom_end_read d (Right y left op) a = fixed_read cs (codes ";") (driven d Nothing y (Binary left op a))
   atom_end_read d (Yes y c) a =
       as_read (fixed_read cs (codes ":") (at (Value (AtomStart d (No y c a))))) (λ i x. (x.0, x.1, plain_atom d (No y c a) (λ m i h. h) x.0 x.2)) (λ i x. (x.0, x.1, inl x.2))
-  atom_end_read d (No y c yes) a = fixed_read cs (codes ";") (driven d Nothing y (Choose c yes a))
+  atom_end_read d (No y c chosen) a = fixed_read cs (codes ";") (driven d Nothing y (Choose c chosen a))
   atom_end_read d (Joined y atoms) a = concat_next_read d y (atoms ++ a ∷ [])
   atom_end_read d (Copied y n) a = fixed_read cs (codes "}") (behind BraceEnd (Item (ItemStart (with_item d (Assign y (Repeat n a))))))
   atom_end_read d (Assigned s x) a = fixed_read cs (codes ";") (at (Block (StepStart d (with_step s (NonblockingAssign x a)))))
@@ -186,7 +186,7 @@ module _ (cs : List ModuleTree) where
   no_bracket d (Inverted y) a = refl
   no_bracket d (Right y left op) a = refl
   no_bracket d (Yes y c) a = refl
-  no_bracket d (No y c yes) a = refl
+  no_bracket d (No y c chosen) a = refl
   no_bracket d (Joined y atoms) a = refl
   no_bracket d (Copied y n) a = refl
   no_bracket d (Assigned s x) a = refl
@@ -200,7 +200,7 @@ module _ (cs : List ModuleTree) where
   index_read d (Inverted y) m = no_read cs
   index_read d (Right y left op) m = no_read cs
   index_read d (Yes y c) m = no_read cs
-  index_read d (No y c yes) m = no_read cs
+  index_read d (No y c chosen) m = no_read cs
   index_read d (Joined y atoms) m = no_read cs
   index_read d (Copied y n) m = no_read cs
   index_read d (Assigned s x) m = no_read cs
@@ -211,7 +211,7 @@ module _ (cs : List ModuleTree) where
   no_index d (Inverted y) m w h = refl
   no_index d (Right y left op) m w h = refl
   no_index d (Yes y c) m w h = refl
-  no_index d (No y c yes) m w h = refl
+  no_index d (No y c chosen) m w h = refl
   no_index d (Joined y atoms) m w h = refl
   no_index d (Copied y n) m w h = refl
   no_index d (Assigned s x) m w h = refl

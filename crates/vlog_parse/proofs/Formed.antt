@@ -1,6 +1,6 @@
 -- The modules with which a reader may end have the form of modules.
 use Rattle.std.proofs.Common.{◌≡◌, ℕ, zero, suc, ◌≤◌, min, Bool, true, false, ◌&&◌, if◌then◌else◌, List, [], ◌∷◌, ◌++◌, length, map, codes, refl, sym, ap, subst, ◌∙◌, arith}
-use Rattle.std.specs.Prelude.{nat_le}
+use Rattle.std.specs.Prelude.{◌^◌, nat_le, nat_lt}
 use Rattle.std.specs.List.{list_all, AllByRecursion}
 use Rattle.std.proofs.lemmas.Bool.Decides.{nat_tests}
 use Rattle.vlog_tree.specs.declared.tree.Atom.{Atom}
@@ -15,7 +15,7 @@ use Rattle.vlog_tree.specs.declared.tree.PortDecl.{PortDecl}
 use Rattle.vlog_tree.specs.Form.{ModuleTree, IsModule, is_atom, is_value, is_step, is_connection, is_item, is_port, is_module, nested}
 use Rattle.vlog_tree.specs.Names.{is_name}
 use Rattle.vlog_tree.specs.Spelling.{Word}
-use Rattle.vlog_tree.specs.Clamped.{clamped_atom, clamped_value, clamped_step, clamped_item, clamped_port, clamped}
+use Rattle.vlog_tree.specs.Clamped.{clamped_width, clamped_atom, clamped_value, clamped_step, clamped_item, clamped_port, clamped}
 use Rattle.tapa_base.specs.Spans.{Each}
 use Rattle.vlog_grammar.specs.Grammar.{SpellsModule, SpellsDesign}
 use Rattle.vlog_grammar.proofs.Formed.{module_formed}
@@ -35,7 +35,7 @@ of_le : (a b : ℕ) → a ≤ b → nat_le a b ≡ true
 of_le a b h = grind (arith, nat_tests)
 
 one_same : (w most : ℕ) → 1 ≤ most → nat_le 1 (min w most) ≡ nat_le 1 w
-one_same zero most h = ap (nat_le 1) (omega arith)
+one_same zero most h = let e : min 0 most ≡ 0 = omega arith in ap (nat_le 1) e
 one_same (suc w) most h = of_le 1 (min (suc w) most) (omega arith) ∙ sym (of_le 1 (suc w) (omega arith))
 
 and_same : {a b c d : Bool} → a ≡ c → b ≡ d → (a && b) ≡ (c && d)
@@ -56,7 +56,7 @@ literal_formed false x y h k = k
 atom_same : (a : Atom) → is_atom (clamped_atom a) ≡ is_atom a
 atom_same (Net x) = refl
 atom_same (Part x high low) = refl
-atom_same (Literal w n) = literal_formed _ _ _ refl refl
+atom_same (Literal w n) = literal_formed (nat_lt n (2 ^ 128)) (Literal (clamped_width w) n) (Literal 0 0) refl refl
 
 value_same : (v : Value) → is_value (clamped_value v) ≡ is_value v
 value_same (Plain a) = atom_same a

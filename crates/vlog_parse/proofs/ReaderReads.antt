@@ -1,5 +1,5 @@
 -- Words of any reader.
-use Rattle.std.proofs.Common.{◌≡◌, ℕ, ◌≤◌, true, false, List, [], ◌∷◌, codes, length, Option, Some, None, cond, nat_eq, refl, sym, ap, subst, arith, ne_eqb}
+use Rattle.std.proofs.Common.{◌≡◌, ℕ, ◌≤◌, true, false, List, [], ◌∷◌, codes, length, Option, Some, None, cond, nat_eq, refl, sym, ap, subst, ◌∙◌, arith, ne_eqb}
 use Rattle.vlog_tree.specs.Form.{ModuleTree}
 use Rattle.vlog_tree.specs.Spelling.{Word}
 use Rattle.vlog_parse.specs.declared.coming.Coming.{Coming}
@@ -115,12 +115,16 @@ reader_read cs r = by_coming cs r.coming r.state
 
 -- ---- the end
 
+some_is : (x y : List ModuleTree) → (let p : Option (List ModuleTree) = Some x in let q : Option (List ModuleTree) = Some y in p ≡ q) → x ≡ y
+some_is x y e = cc
+
+some_modules : (m : ModuleTree) (ms : List ModuleTree) → whole_head (Between (m ∷ ms)) ≡ Some (m ∷ ms)
+some_modules m ms = ap (λ b. cond {A = Option (List ModuleTree)} b None (Some (m ∷ ms))) (ne_eqb (length (m ∷ ms)) 0 (λ e. absurd (omega (arith, e))))
+
 whole_between : (ms cs : List ModuleTree) → whole_head (Between ms) ≡ Some cs → EndsBetween cs ms
 whole_between [] cs e = absurd cc
-whole_between (m ∷ ms) cs e = (some_is (m ∷ ms) cs e, subst (λ (l : List ModuleTree). 1 ≤ length l) (some_is (m ∷ ms) cs e) (omega arith))
-  where
-    some_is : (x y : List ModuleTree) → (let p : Option (List ModuleTree) = Some x in let q : Option (List ModuleTree) = Some y in p ≡ q) → x ≡ y
-    some_is x y e = cc
+whole_between (m ∷ ms) cs e =
+    let same = some_is (m ∷ ms) cs (sym (some_modules m ms) ∙ e) in (same, subst (λ (l : List ModuleTree). 1 ≤ length l) same (omega arith))
 
 -- where a reader tells modules its words may end with them
 pub whole_ends : (cs : List ModuleTree) (r : Reader) → whole r ≡ Some cs → EndsReader cs r
@@ -136,7 +140,7 @@ whole_ends cs r e = by_parts r.coming r.state e
 
 none_between : (ms cs : List ModuleTree) → whole_head (Between ms) ≡ None → EndsBetween cs ms → ⊥
 none_between [] cs e (same, one) = absurd (omega (arith, ap length same, one))
-none_between (m ∷ ms) cs e h = absurd cc
+none_between (m ∷ ms) cs e h = absurd (let f = sym (some_modules m ms) ∙ e in cc)
 
 -- and where it tells none they may not
 pub none_ends : (cs : List ModuleTree) (r : Reader) → whole r ≡ None → EndsReader cs r → ⊥

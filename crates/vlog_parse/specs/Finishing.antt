@@ -154,7 +154,7 @@ module _ (cs : List ModuleTree) where
   AtomBehind d (Inverted y) a = Driven d y (Invert a)
   AtomBehind d (Right y left op) a = Driven d y (Binary left op a)
   AtomBehind d (Yes y c) a = Words (codes ":" ∷ []) (OneAtom (λ b. Driven d y (Choose c a b)))
-  AtomBehind d (No y c yes) a = Driven d y (Choose c yes a)
+  AtomBehind d (No y c chosen) a = Driven d y (Choose c chosen a)
   AtomBehind d (Joined y atoms) a = MoreAtoms d y (atoms ++ a ∷ [])
   AtomBehind d (Copied y n) a = ItemBehind (codes "}" ∷ codes "}" ∷ codes ";" ∷ []) d (Assign y (Repeat n a))
   AtomBehind d (Assigned s x) a = Words (codes ";" ∷ []) (MoreSteps d (with_step s (NonblockingAssign x a)))

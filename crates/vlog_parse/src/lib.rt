@@ -9,6 +9,8 @@ mod listed;
 mod number;
 mod port;
 mod state;
+mod theory;
 mod value;
 
 pub use design::{ParseFault, parse};
+pub use theory::law_theory;

@@ -1,0 +1,6 @@
+// Laws.
+
+/// Temporary.
+pub fn law_theory()
+    ensures { Unit {0} }
+{}
