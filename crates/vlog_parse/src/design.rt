@@ -1,6 +1,6 @@
 // Designs: one word after another.
 
-ghost use Rattle.std.specs.Prelude.{◌≡◌, List, IfOk, IfErr, IfSome, IfNone, Some, None, map};
+ghost use Rattle.std.specs.Prelude.{◌≡◌, List, IfOk, IfErr, map};
 ghost use Rattle.vlog_tree.specs.Clamped.{clamped};
 ghost use Rattle.vlog_tree.specs.Form.{ModuleTree};
 ghost use Rattle.vlog_grammar.specs.Grammar.{SpellsDesign};
@@ -19,7 +19,7 @@ use crate::listed::Listed;
 use crate::port::{
     between, declared_name, module_name, port_next, port_start, range_high, range_or_name,
 };
-use crate::state::{BlockState, HeadState, ItemState, Reader, State, ValueState, expected};
+use crate::state::{BlockState, HeadState, ItemState, Reader, State, ValueState};
 use crate::value::{
     assign_name, atom_end, atom_high, atom_low, atom_next, atom_start, brace_start, concat_next,
     value_next, value_start,
@@ -130,26 +130,36 @@ fn next(alloc: Global, reader: Reader, word: &[u8]) -> Result<Option<Reader>, Al
     requires { IsFormed reader }
     ensures { IfOk result (λ o. o ≡ spec.next reader word.now) }
 {
-    let Reader { coming, state } = reader;
-    match coming {
-        Coming::Nothing => state_next(alloc, state, word),
-        coming => Ok(expected(coming, state, word)),
+    if !reader.coming.is_nothing() {
+        return Ok(reader.expected(word));
+    }
+    let Reader { state, .. } = reader;
+    state_next(alloc, state, word)
+}
+
+fn whole_head(state: HeadState) -> Option<Listed<Module>>
+    ensures { result ≡ spec.whole_head state }
+{
+    match state {
+        HeadState::Between(modules) => {
+            if modules.len() == 0 {
+                return None;
+            }
+            Some(modules)
+        }
+        _ => None,
     }
 }
 
 /// The modules, where a design may end.
-fn whole(reader: Reader) -> Option<Vec<Module>>
-    ensures some { IfSome result (λ ms. spec.whole reader ≡ Some ms.items) }
-    ensures none { IfNone result (spec.whole reader ≡ None) }
+fn whole(reader: Reader) -> Option<Listed<Module>>
+    ensures { result ≡ spec.whole reader }
 {
-    let Reader { coming, state } = reader;
-    match (coming, state) {
-        (Coming::Nothing, State::Head(HeadState::Between(modules))) => {
-            if modules.len() == 0 {
-                return None;
-            }
-            Some(modules.into_vec())
-        }
+    if !reader.coming.is_nothing() {
+        return None;
+    }
+    match reader.state {
+        State::Head(state) => whole_head(state),
         _ => None,
     }
 }
@@ -176,14 +186,16 @@ pub fn parse(alloc: Global, text: &[u8], lexemes: &[Lexeme]) -> Result<Vec<Modul
     let mut reader = Reader::head(Coming::Nothing, HeadState::Between(Listed::new(alloc)));
     let mut passed = 0;
     for lexeme in lexemes {
-        match next(alloc, reader, word_at(text, *lexeme))? {
+        let word = word_at(text, *lexeme);
+        let found = next(alloc, reader, word)?;
+        match found {
             Some(more) => reader = more,
             None => return Err(ParseFault::Refused(passed)),
         }
         passed += 1;
     }
     match whole(reader) {
-        Some(modules) => Ok(modules),
+        Some(modules) => Ok(modules.into_vec()),
         None => Err(ParseFault::Refused(passed)),
     }
 }

@@ -1,6 +1,6 @@
 // Lists that grow at one end.
 
-ghost use Rattle.std.specs.Prelude.{◌≡◌, ◌∷◌, ◌++◌, [], List, length, IfOk, Some, None};
+ghost use Rattle.std.specs.Prelude.{◌≡◌, ◌∷◌, ◌++◌, [], List, length, IfOk, Some, None, Bool};
 
 use std::alloc::{AllocError, Global};
 use std::marker::Model;

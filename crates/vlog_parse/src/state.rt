@@ -153,15 +153,38 @@ impl Reader {
     }
 }
 
-/// The words that must come, of which this is one.
-pub fn expected(coming: Coming, state: State, word: &[u8]) -> Option<Reader>
-    ensures { result ≡ spec.expected coming state word.now }
-{
-    if word == coming.first() {
-        let coming = coming.rest();
-        Some(Reader { coming, state })
-    } else {
-        None
+// A state is let go part by part: all at once is more than one function holds.
+
+fn discard_head(_state: HeadState) {}
+
+fn discard_item(_state: ItemState) {}
+
+fn discard_value(_state: ValueState) {}
+
+fn discard_block(_state: BlockState) {}
+
+fn discard(state: State) {
+    match state {
+        State::Head(state) => discard_head(state),
+        State::Item(state) => discard_item(state),
+        State::Value(state) => discard_value(state),
+        State::Block(state) => discard_block(state),
+    }
+}
+
+impl Reader {
+    /// The reader behind this word, where it must come.
+    pub fn expected(self, word: &[u8]) -> Option<Reader>
+        ensures { result ≡ spec.expected self.coming self.state word.now }
+    {
+        let Reader { coming, state } = self;
+        if word == coming.first() {
+            let coming = coming.rest();
+            Some(Reader { coming, state })
+        } else {
+            discard(state);
+            None
+        }
     }
 }
 

@@ -6,7 +6,7 @@ ghost use Rattle.vlog_parse.specs.Reading as spec;
 use crate::coming::Coming;
 use crate::listed::Listed;
 use crate::number::{is_number, literal_of, name_of, width_at};
-use crate::state::{BlockState, Draft, Purpose, Reader, State, Steps, ValueState, expected};
+use crate::state::{BlockState, Draft, Purpose, Reader, State, Steps, ValueState};
 use std::alloc::{AllocError, Global};
 use tapa_base::Text;
 use vlog_tree::{Atom, Atoms, BinaryOp, Item, Step, Value, is_name};
@@ -275,11 +275,10 @@ fn behind_first(state: ValueState, word: &[u8]) -> Result<Option<Reader>, AllocE
 fn next_behind(reader: Reader, word: &[u8]) -> Result<Option<Reader>, AllocError>
     ensures { IfOk result (λ o. o ≡ spec.next_behind reader word.now) }
 {
-    let Reader { coming, state } = reader;
-    if !coming.is_nothing() {
-        return Ok(expected(coming, state, word));
+    if !reader.coming.is_nothing() {
+        return Ok(reader.expected(word));
     }
-    match state {
+    match reader.state {
         State::Value(state) => behind_first(state, word),
         _ => Ok(None),
     }

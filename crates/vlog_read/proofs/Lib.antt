@@ -2,3 +2,4 @@ pub mod Placed
 pub mod Stopped
 pub mod CutNames
 pub mod Uncut
+pub mod Judged
