@@ -3,3 +3,4 @@ pub mod Stopped
 pub mod CutNames
 pub mod Uncut
 pub mod Judged
+pub mod Told

@@ -80,6 +80,7 @@ more_parted (word bytes) ps rest zero at end h lt =
 more_parted (word bytes) [] rest (suc k) at end h lt = absurd (omega (arith, lt))
 more_parted (word bytes) (q ∷ ps) rest (suc k) at end h lt =
     let m = more_parted q ps rest k (at + length bytes) end h.1 (omega (arith, lt)) in
+    let one_more : suc k + 1 ≡ suc (k + 1) = omega arith in
     record {
       before = word bytes ∷ m.before;
       bytes = m.bytes;
@@ -88,7 +89,7 @@ more_parted (word bytes) (q ∷ ps) rest (suc k) at end h lt =
       stands = m.stands;
       is = ap (λ (t : Bytes). bytes ++ t) m.is;
       words = ap (λ (l : List Word). bytes ∷ l) m.words;
-      next = ap (λ (l : List Word). bytes ∷ l) m.next;
+      next = ap (λ n. take n (words_of (word bytes ∷ q ∷ ps))) one_more ∙ ap (λ (l : List Word). bytes ∷ l) m.next;
       there = omega (arith, m.there, length-append bytes (text_of m.before []));
     }
 more_parted (gap bytes) [] rest k at end h lt = absurd (omega (arith, lt))

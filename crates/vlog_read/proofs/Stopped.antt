@@ -1,5 +1,5 @@
 -- A text that is refused at a place has no tree.
-use Rattle.std.proofs.Common.{◌≡◌, ◌⊎◌, inl, inr, ℕ, zero, suc, Bool, true, false, ◌+◌, ◌<◌, ◌≤◌, List, [], ◌∷◌, ◌++◌, append_assoc, length, take, map, Some, None, refl, sym, ap, subst, ◌∙◌, arith}
+use Rattle.std.proofs.Common.{◌≡◌, ◌⊎◌, inl, inr, ℕ, zero, suc, Bool, true, false, ◌+◌, ◌<◌, ◌≤◌, List, [], ◌∷◌, ◌++◌, append_assoc, zero-add, length, take, map, Some, None, refl, sym, ap, subst, ◌∙◌, arith}
 use Rattle.std.specs.Prelude.{slice_get, nat_lt}
 use Rattle.std.proofs.lemmas.Bool.Decides.{nat_tests}
 use Rattle.std.proofs.lemmas.List.{append_cancel_left, append-nil, length-append, take_all, take-append-le}
@@ -97,7 +97,7 @@ pub word_refused : (text : Bytes) (lexemes : List Lexeme) (end k : ℕ) → IsSc
 word_refused text lexemes end k s f lt =
     let words = scanned_words text lexemes end s in
     let p = parted s.pieces s.behind k end s.standing (subst (λ (l : List Word). k < length l) words lt) in
-    let at : refused_at lexemes k end ≡ length (text_of p.before []) = ap (λ (l : List Lexeme). refused_at l k end) (sym s.told) ∙ p.there in
+    let at : refused_at lexemes k end ≡ length (text_of p.before []) = ap (λ (l : List Lexeme). refused_at l k end) (sym s.told) ∙ p.there ∙ zero-add (length (text_of p.before [])) in
     record {
       before = p.before;
       behind = p.bytes ++ text_of p.after s.behind;
@@ -139,7 +139,7 @@ refused_within text lexemes end k s = by_size (nat_lt k (length (words_of s.piec
     by_size : (b : Bool) → nat_lt k (length (words_of s.pieces)) ≡ b → refused_at lexemes k end ≤ length text
     by_size true e =
         let p = parted s.pieces s.behind k end s.standing (grind (arith, nat_tests)) in
-        let at : refused_at lexemes k end ≡ length (text_of p.before []) = ap (λ (l : List Lexeme). refused_at l k end) (sym s.told) ∙ p.there in
+        let at : refused_at lexemes k end ≡ length (text_of p.before []) = ap (λ (l : List Lexeme). refused_at l k end) (sym s.told) ∙ p.there ∙ zero-add (length (text_of p.before [])) in
         let front : text_of p.before [] ++ (p.bytes ++ text_of p.after s.behind) ≡ text = sym (text_split p.before (p.bytes ++ text_of p.after s.behind)) ∙ p.is ∙ s.is in
         omega (arith, at, length-append (text_of p.before []) (p.bytes ++ text_of p.after s.behind), ap length front)
     by_size false e =

@@ -1,13 +1,19 @@
-use Rattle.std.proofs.Common.{◌≡◌, ℕ, ◌≤◌, List, length, map, take, sym, ap, subst, arith}
-use Rattle.tapa_syntax.specs.Characters.{place_of}
+use Rattle.std.proofs.Common.{◌≡◌, ◌≤◌, List, length, sym, subst, arith}
 use Rattle.vlog_tree.specs.Form.{ModuleTree}
-use Rattle.vlog_read.specs.Texts.{HasNoTree}
-use Rattle.vlog_read.proofs.Stopped.{no_tree, left_refused, scan_within}
-use Rattle.vlog_read.proofs.Judged.{refuses_text, tree_uncut, scan_tree, some_modules}
+use Rattle.vlog_lex.specs.Scanned.{words_at}
+use Rattle.vlog_read.proofs.Judged.{scan_tree, some_modules}
+use Rattle.vlog_read.proofs.Told.{told_fault, told_design}
 use Rattle.vlog_read.proofs.reading.checked.Goals as goal
 
 pub of-requires : goal.of-requires
-of-requires c = ?
+of-requires c = subst (λ (l : List ModuleTree). 1 ≤ length l) (sym c.requires.tree.2) (some_modules (words_at c.args.text.now c.args.words.now.lexemes.items) c.requires.tree.0 c.requires.tree.1)
 
 pub returns : goal.returns
-returns c = ?
+returns c =
+    let text = c.args.text.now in
+    let t = c.requires.tree in
+    let tree = scan_tree text c.args.words.now.lexemes.items c.args.words.now.end t.0 c.requires.scan (omega arith) t.1 in
+    record {
+      refused = told_fault text t.0 c.args.modules.items c.of.result tree t.2 c.of.ensures.refused;
+      tree = told_design text t.0 c.args.modules.items c.of.result tree t.2 c.of.ensures.value c.of.ensures.design;
+    }

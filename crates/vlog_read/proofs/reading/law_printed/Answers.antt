@@ -22,5 +22,5 @@ pub returns : goal.returns
 returns c = record {
   same = λ ms ns top d tree. c.law_one_tree.ensures (spelling ms) ns ms tree (c.law_design_is_its_text.ensures ms top d);
   taken = λ ms top e d r.
-    taken ms top e (λ ns tree. c.law_one_tree.ensures (spelling ms) ns ms tree (c.law_design_is_its_text.ensures ms top d)) (c.law_design_is_its_text.ensures ms top d) (c.law_design_is_not_refused.ensures ms top e d) r;
+      taken ms top e (λ ns tree. c.law_one_tree.ensures (spelling ms) ns ms tree (c.law_design_is_its_text.ensures ms top d)) (c.law_design_is_its_text.ensures ms top d) (c.law_design_is_not_refused.ensures ms top e d) r;
 }
