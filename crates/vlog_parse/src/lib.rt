@@ -9,8 +9,6 @@ mod listed;
 mod number;
 mod port;
 mod state;
-mod theory;
 mod value;
 
 pub use design::{ParseFault, parse};
-pub use theory::law_theory;

@@ -1,6 +1,0 @@
-// Laws.
-
-/// Temporary.
-pub fn law_theory()
-    ensures { Unit {0} }
-{}
