@@ -1,0 +1,133 @@
+// A line of a text, word by word.
+
+use std::alloc::{AllocError, AllocFailed, Global};
+use tapa_base::{OutOfMemory, Text};
+
+/// Why a line is not taken.
+#[derive(Debug, Drop)]
+pub(crate) enum Fault {
+    Unreadable,
+    OutOfMemory,
+}
+
+impl From<AllocError> for Fault {
+    fn from(_fault: AllocError) -> Fault {
+        Fault::OutOfMemory
+    }
+}
+
+impl<T: Drop> From<AllocFailed<T>> for Fault {
+    fn from(_fault: AllocFailed<T>) -> Fault {
+        Fault::OutOfMemory
+    }
+}
+
+impl From<OutOfMemory> for Fault {
+    fn from(_fault: OutOfMemory) -> Fault {
+        Fault::OutOfMemory
+    }
+}
+
+/// The words of a line, and how many of them are read.
+#[derive(Drop)]
+pub(crate) struct Line<'a> {
+    words: Vec<&'a str>,
+    read: usize,
+}
+
+impl<'a> Line<'a> {
+    pub(crate) fn of(alloc: Global, text: &'a str) -> Result<Line<'a>, AllocError> {
+        let words = text.split_whitespace().collect(alloc)?;
+        Ok(Line { words, read: 0 })
+    }
+
+    /// The next word, empty at the end.
+    pub(crate) fn word(&mut self) -> &'a str {
+        match self.words.get(self.read) {
+            Some(word) => {
+                let word = *word;
+                self.read = self.read.saturating_add(1);
+                word
+            }
+            None => "",
+        }
+    }
+
+    /// Whether a word stands so many words behind the next one.
+    pub(crate) fn stands(&self, behind: usize, word: &str) -> bool {
+        match self.words.get(self.read.saturating_add(behind)) {
+            Some(w) => *w == word,
+            None => false,
+        }
+    }
+
+    /// Reads a word where it is the next one.
+    pub(crate) fn takes(&mut self, word: &str) -> bool {
+        let there = self.stands(0, word);
+        if there {
+            let _word = self.word();
+        }
+        there
+    }
+
+    /// How many words the line has.
+    pub(crate) fn len(&self) -> usize {
+        self.words.len()
+    }
+
+    pub(crate) fn is_read(&self) -> bool {
+        self.read >= self.words.len()
+    }
+
+    /// The words that are left, with a blank before each.
+    pub(crate) fn rest(&mut self, alloc: Global) -> Result<String, AllocError> {
+        let mut text = String::new(alloc);
+        for _ in 0..self.words.len() {
+            if self.is_read() {
+                return Ok(text);
+            }
+            text.push(' ')?;
+            text.push_str(self.word())?;
+        }
+        Ok(text)
+    }
+
+    /// The next word must be this one.
+    pub(crate) fn expect(&mut self, word: &str) -> Result<(), Fault> {
+        if self.takes(word) {
+            Ok(())
+        } else {
+            Err(Fault::Unreadable)
+        }
+    }
+
+    pub(crate) fn name(&mut self, alloc: Global) -> Result<Text, Fault> {
+        text(alloc, self.word())
+    }
+
+    pub(crate) fn number(&mut self) -> Result<u32, Fault> {
+        small(self.word())
+    }
+}
+
+pub(crate) fn text(alloc: Global, word: &str) -> Result<Text, Fault> {
+    if word.is_ascii() {
+        Ok(Text::new(word.as_bytes().to_vec(alloc)?))
+    } else {
+        Err(Fault::Unreadable)
+    }
+}
+
+pub(crate) fn small(word: &str) -> Result<u32, Fault> {
+    match word.parse::<u32>() {
+        Ok(n) => Ok(n),
+        Err(_) => Err(Fault::Unreadable),
+    }
+}
+
+pub(crate) fn large(word: &str) -> Result<u128, Fault> {
+    match word.parse::<u128>() {
+        Ok(n) => Ok(n),
+        Err(_) => Err(Fault::Unreadable),
+    }
+}
