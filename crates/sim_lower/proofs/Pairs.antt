@@ -64,11 +64,11 @@ choice_by : (b : Bool) (h l k m : ℕ) → cond b h k * 2 ^ 64 + cond b l m ≡ 
 choice_by true h l k m = refl
 choice_by false h l k m = refl
 
-pub choice_says : (ns : List ℕ) (test : ℕ) (yes no : Pair) (l h : ℕ) → number_at ns l ≡ cond (number_at ns test == 1) (number_at ns yes.low) (number_at ns no.low)
-    → number_at ns h ≡ cond (number_at ns test == 1) (number_at ns yes.high) (number_at ns no.high) → pair_value ns (record { low = l; high = h }) ≡ cond (number_at ns test == 1) (pair_value ns yes) (pair_value ns no)
-choice_says ns test yes no l h low high =
-    ap (λ x. x * 2 ^ 64 + number_at ns l) high ∙ ap (λ x. cond (number_at ns test == 1) (number_at ns yes.high) (number_at ns no.high) * 2 ^ 64 + x) low
-    ∙ choice_by (number_at ns test == 1) (number_at ns yes.high) (number_at ns yes.low) (number_at ns no.high) (number_at ns no.low)
+pub choice_says : (ns : List ℕ) (test : ℕ) (one other : Pair) (l h : ℕ) → number_at ns l ≡ cond (number_at ns test == 1) (number_at ns one.low) (number_at ns other.low)
+    → number_at ns h ≡ cond (number_at ns test == 1) (number_at ns one.high) (number_at ns other.high) → pair_value ns (record { low = l; high = h }) ≡ cond (number_at ns test == 1) (pair_value ns one) (pair_value ns other)
+choice_says ns test one other l h low high =
+    ap (λ x. x * 2 ^ 64 + number_at ns l) high ∙ ap (λ x. cond (number_at ns test == 1) (number_at ns one.high) (number_at ns other.high) * 2 ^ 64 + x) low
+    ∙ choice_by (number_at ns test == 1) (number_at ns one.high) (number_at ns one.low) (number_at ns other.high) (number_at ns other.low)
 
 pub same_choice : (b : Bool) (n : ℕ) → n ≡ cond b n n
 same_choice true n = refl

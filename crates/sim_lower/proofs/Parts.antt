@@ -3,7 +3,7 @@ use Rattle.std.proofs.Common.{◌≡◌, ℕ, zero, suc, ◌+◌, ◌-◌, ◌*�
 use Rattle.std.specs.Prelude.{bit_and}
 use Rattle.std.proofs.Math.Nat.{mod-eq_of_lt}
 use Rattle.std.proofs.Math.Pow.{pow_pos, pow_mono}
-use Rattle.std.proofs.lemmas.Nat.{pow-add, and_mask, shr-shr, field_of, mod_low, shr_high}
+use Rattle.std.proofs.lemmas.Nat.{row_fits, pow-add, and_mask, shr-shr, field_of, mod_low, shr_high}
 use Rattle.sim_lower.proofs.Operating.{cut_twice, masked}
 
 -- a part of the low half
@@ -59,12 +59,8 @@ join_wide a b n w h =
 -- both together fit the bits of both
 pub join_fits : (a n j k : ℕ) → a < 2 ^ j → n < 2 ^ k → a * 2 ^ k + n < 2 ^ (j + k)
 join_fits a n j k h l = joined_fits a n (2 ^ j) (2 ^ k) h l (pow-add 2 j k) where
-  below : (a p q : ℕ) → a < p → a * q + q ≤ p * q
-  below a zero q h = absurd (omega arith)
-  below a (suc p) q h = grind arith
-
   joined_fits : (a n p q : ℕ) {w : ℕ} → a < p → n < q → w ≡ p * q → a * q + n < w
-  joined_fits a n p q h l e = let b : a * q + q ≤ p * q = below a p q h in omega arith
+  joined_fits a n p q h l e = let b : a * q + q ≤ p * q = row_fits a q p q h (omega arith) in omega arith
 
 -- the complement of 64 bits or fewer
 pub complement_gate : (n w : ℕ) → w ≤ 64 → n < 2 ^ w → bit_and ((2 ^ w - 1 + 2 ^ 64 - n) % 2 ^ 64) (2 ^ w - 1) ≡ 2 ^ w - 1 - n

@@ -12,4 +12,4 @@ returns-clause-says c = λ cells ns h fits.
     let small = parts_low (pair_value ns c.args.above) c.args.below_bits (pair_value ns c.args.below) (2 ^ 64) fits in
     single _ c.in_ok-low.ensures.extends.new_tape cells ns h c.in_ok-low.low
     ∙ join_says (pair_value ns c.args.above) c.args.below_bits (pair_value ns c.args.below) (number_at ns c.args.above.low) (number_at ns c.in_ok-shift.shift) (number_at ns c.args.below.low)
-    (number_at ns c.in_ok-low.low) (c.in_ok-low.ensures.says cells ns h) (low_is ns c.args.above small.0) (c.in_ok-shift.ensures.says cells ns at_shift) (low_is ns c.args.below small.1) fits
+    (number_at ns c.in_ok-low.low) (c.in_ok-low.ensures.says cells ns h) (low_is ns c.args.above small.0) (c.in_ok-shift.ensures.says cells ns at_shift ∙ c.from.ensures) (low_is ns c.args.below small.1) fits
