@@ -1,0 +1,3 @@
+pub mod Scope
+pub mod Fits
+pub mod Choices

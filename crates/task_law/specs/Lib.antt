@@ -1,0 +1,12 @@
+pub mod Nets
+pub mod Names
+pub mod Shape
+pub mod Fixed
+pub mod Drivers
+pub mod Wires
+pub mod States
+pub mod Effects
+pub mod Texts
+pub mod Signals
+pub mod Machine
+pub mod Runs
