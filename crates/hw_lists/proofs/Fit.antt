@@ -4,6 +4,7 @@ use Rattle.std.specs.Prelude.{bytes_eq, count_by, not, nat_le, IsTrue}
 use Rattle.std.specs.List.{list_any, list_all, flat_map, AllByRecursion}
 use Rattle.std.specs.Cmp.Lexicographic.{bytes_decides}
 use Rattle.std.proofs.lemmas.Bool.{le-leb}
+use Rattle.std.proofs.lemmas.List.Sums.{sum_by-cons}
 use Rattle.std.proofs.lemmas.Grind.{flat_map-append}
 use Rattle.vlog_tree.specs.declared.tree.Atom.{Atom}
 use Rattle.vlog_tree.specs.declared.tree.Atom.TheVariants.{Net, Part, Literal}
@@ -50,10 +51,6 @@ kept_is false e = cc
 not_both : (b : Bool) → (b ≡ true → ⊥) → b ≡ false
 not_both true h = absurd (h refl)
 not_both false h = refl
-
-rst_is_not_clk : rst ≡ clk → ⊥
-unfolding rst clk
-rst_is_not_clk e = cc
 
 -- ---- an element, where no name is declared twice
 
@@ -193,7 +190,7 @@ module _ (before : List Element) (once : AreOnce (clk ∷ rst ∷ named before))
   parts_fit (a ∷ atoms) w h =
       let rest = parts_fit atoms h.1 h.4 in (
         (atom_fits h.0 a h.2 h.3, rest.0),
-        ap (λ n. n + sum (map (atom_bits t) atoms)) (atom_wide h.0 a h.3) ∙ ap (λ n. h.0 + n) rest.1 ∙ h.5,
+        sum_by-cons (λ n. n) (atom_bits t a) (map (atom_bits t) atoms) ∙ ap (λ n. n + sum (map (atom_bits t) atoms)) (atom_wide h.0 a h.3) ∙ ap (λ n. h.0 + n) rest.1 ∙ h.5,
       )
 
   value_fits : (w : ℕ) (v : Value) → ValueIs before w v → ValueFits t w v
@@ -316,19 +313,20 @@ links_once ms elements h =
     ap (λ l. list_all (λ x. eqb (times_in (flat_map (instance_driven ms) elements) x) 1) l && list_all (is_among l) (flat_map (instance_driven ms) elements)) (no_links [] elements h)
     ∙ ap (λ l. list_all (is_among []) l) (no_instances ms [] elements h)
 
+either_of : (y z x : Name) (c r : Bool) → bytes_eq z x ≡ c → z ≡ y → (r ≡ true → bytes_eq y x ≡ true) → (c || r) ≡ true → bytes_eq y x ≡ true
+either_of y z x true r e s rest k = ap (λ u. bytes_eq u x) (sym s) ∙ e
+either_of y z x false r e s rest k = rest k
+
+either_is : (y z x : Name) (r : Bool) → z ≡ y → (r ≡ true → bytes_eq y x ≡ true) → (bytes_eq z x || r) ≡ true → bytes_eq y x ≡ true
+either_is y z x r s rest k = either_of y z x (bytes_eq z x) r refl s rest k
+
 assigned_is : (before : List Element) (y x : Name) (b : List Step) → AllByRecursion (StepIs before y) b → list_any (step_assigns x) b ≡ true → bytes_eq y x ≡ true
 assigned_is before y x [] h k = cc
 assigned_is before y x (If c ∷ b) h k = assigned_is before y x b h.1 k
 assigned_is before y x (Else ∷ b) h k = assigned_is before y x b h.1 k
 assigned_is before y x (End ∷ b) h k = assigned_is before y x b h.1 k
-assigned_is before y x (NonblockingAssign z a ∷ b) h k = here (bytes_eq z x) refl k where
-  here : (c : Bool) → bytes_eq z x ≡ c → (c || list_any (step_assigns x) b) ≡ true → bytes_eq y x ≡ true
-  here true e r = ap (λ u. bytes_eq u x) (sym h.0.0) ∙ e
-  here false e r = assigned_is before y x b h.1 r
-assigned_is before y x (MemoryAssign z i a ∷ b) h k = here (bytes_eq z x) refl k where
-  here : (c : Bool) → bytes_eq z x ≡ c → (c || list_any (step_assigns x) b) ≡ true → bytes_eq y x ≡ true
-  here true e r = ap (λ u. bytes_eq u x) (sym h.0.0) ∙ e
-  here false e r = assigned_is before y x b h.1 r
+assigned_is before y x (NonblockingAssign z a ∷ b) h k = either_is y z x (list_any (step_assigns x) b) h.0.0 (assigned_is before y x b h.1) k
+assigned_is before y x (MemoryAssign z i a ∷ b) h k = either_is y z x (list_any (step_assigns x) b) h.0.0 (assigned_is before y x b h.1) k
 
 block_target : (before : List Element) (x : Name) (b : List Step) (ys : List Name) → IsBlockOf before b ys → one_if (list_any (step_assigns x) b) ≤ times_in ys x
 block_target before x b [] h = absurd h

@@ -22,7 +22,7 @@ two_once xs ys a b none x =
     omega (arith, c, s)
 
 pub parts_once : (f : ℕ → List Name) (n : ℕ) → ((k : ℕ) → k < n → AreOnce (f k)) → ((j k : ℕ) (x : Name) → j < n → k < n → Has (f j) x → Has (f k) x → j ≡ k) → AreOnce (each f n)
-parts_once f zero h d x = omega arith
+parts_once f zero h d = λ x. omega arith
 parts_once f (suc n) h d =
     two_once (each f n) (f n) (parts_once f n (λ k l. h k (omega arith)) (λ j k x l m. d j k x (omega arith) (omega arith))) (h n (omega arith))
     (λ x a b. let r = of_each f n x a in let low : r.0 < n = r.1 in let e : r.0 ≡ n = d r.0 n x (omega arith) (omega arith) r.2 b in omega (arith, low, e))

@@ -54,17 +54,6 @@ one_is v a (suc n) k i l m e h =
       later (inr f) g = ap (λ z. bit_or z (or_range v (suc k) n)) f ∙ ap (bit_or a) g ∙ or_self a
 
 -- the leaves: each has an entry, and each entry has one
-record IsLeaf (leaf : ℕ → Entry → Element) (leaves : List Element) (k n : ℕ) (entries : List Entry) (j : ℕ) : Type 0 where
-  is : Entry
-  has : Has entries is
-  there : Has leaves (leaf j is)
-
-any_leaf : Name → ℕ → Entry → Element
-any_leaf front j e = Wire 1 (numbered front j) (Plain (Net e.condition))
-
-pick_leaf : ℕ → Name → ℕ → Entry → Element
-pick_leaf width front j e = gated width (numbered front j) e.condition e.value
-
 any_at : (front : Name) (entries : List Entry) (k j : ℕ) → k ≤ j → j < k + length entries → (e : Entry) × Has entries e × Has (any_leaves front k entries) (Wire 1 (numbered front j) (Plain (Net e.condition)))
 any_at front [] k j l m = absurd (omega arith)
 any_at front (e ∷ entries) k j l m =
@@ -141,16 +130,13 @@ module _ (name : Name) (elements : List Element) (run : ℕ → Cycle) (f : Foll
       any_root front entries among some n
       ∙ none_is_zero (λ j. at n (numbered front j)) (length entries) (λ j l. let k = any_leaf_is front entries among n j l in k.2 ∙ none k.0 k.1)
 
-  shut : (b : Bool) (c v : ℕ) → eqb c 1 ≡ b → (c ≡ 1 → ⊥) ⊎ (v ≡ 0 → ⊥) → cond b v 0 ≡ cond b v 0
-  shut b c v e h = refl
-
   -- a gate has 0 or its value
   gate_is : (c v a : ℕ) → (c ≡ 1 → ⊥) ⊎ (v ≡ a) → (cond (eqb c 1) v 0 ≡ 0) ⊎ (cond (eqb c 1) v 0 ≡ a)
-  gate_is c v a (inl no) = inl (ap (λ b. cond b v 0) (ne_eqb c 1 no))
+  gate_is c v a (inl off) = inl (ap (λ b. cond b v 0) (ne_eqb c 1 off))
   gate_is c v a (inr e) = ⊎_elim (λ s. inr (ap (λ b. cond b v 0) (eq-eqb c 1 s) ∙ e)) (λ s. inl (ap (λ b. cond b v 0) (ne_eqb c 1 s))) (cases_eq c 1)
 
   chosen_gate : (c v a : ℕ) → (c ≡ 1 → ⊥) ⊎ (v ≡ a) → c ≡ 1 → v ≡ a
-  chosen_gate c v a (inl no) e = absurd (no e)
+  chosen_gate c v a (inl off) e = absurd (off e)
   chosen_gate c v a (inr s) e = s
 
   abbrev Chosen : Name → List Entry → Type 0

@@ -1,6 +1,5 @@
 pub mod Machine
 pub mod Run
-pub mod After
 pub mod MachineKinds
 pub mod Follows
 pub mod Code
