@@ -1,19 +1,19 @@
 // Atoms and the drivers of wires.
 
-use crate::names::name;
-use crate::numbers::power;
-use hw_build::numbered;
-use std::alloc::{AllocError, Global};
-use task_law::Net;
-use tapa_base::Text;
-use vlog_tree::{Atom, Atoms, BinaryOp, Value};
-
 ghost use Rattle.std.specs.Prelude.{◌≡◌, ◌<◌, ◌≤◌, [], ◌∷◌, IfOk};
 ghost use Rattle.std.specs.Str.{IsAscii};
 ghost use Rattle.vlog_tree.specs.declared.tree.Atom.TheVariants.{Net as NetAtom, Literal};
 ghost use Rattle.vlog_tree.specs.declared.tree.Value.TheVariants.{Plain, Invert, Binary, Choose, Concat, Repeat};
 ghost use Rattle.task_law.specs.Drivers.{low_bits as low_bits_lem, sign_of as sign_of_lem, wire as wire_lem};
 ghost use Rattle.task_law.specs.States.{net as net_lem};
+
+use crate::names::name;
+use crate::numbers::power;
+use hw_build::numbered;
+use std::alloc::{AllocError, Global};
+use tapa_base::Text;
+use task_law::Net;
+use vlog_tree::{Atom, Atoms, BinaryOp, Value};
 
 pub(crate) fn copy(alloc: Global, atom: &Atom) -> Result<Atom, AllocError>
     ensures { IfOk result (λ a. a ≡ atom.now) }

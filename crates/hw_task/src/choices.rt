@@ -1,5 +1,7 @@
 // Choices among the states: trees of ors over gates.
 
+ghost use Rattle.std.specs.Prelude.{◌≡◌};
+
 use crate::atoms::copy;
 use crate::names::front;
 use crate::numbers::{plus, small};
@@ -8,8 +10,6 @@ use std::alloc::{AllocError, Global};
 use tapa_base::Text;
 use task_law::Choice;
 use vlog_tree::{Atom, Value};
-
-ghost use Rattle.std.specs.Prelude.{◌≡◌};
 
 /// A value and the net that says when it is meant.
 #[derive(Drop)]

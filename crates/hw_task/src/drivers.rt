@@ -1,13 +1,13 @@
 // Each operator on atoms as drivers of wires, one after another.
 
+ghost use Rattle.std.specs.Prelude.{◌≡◌, ◌<◌, ◌≤◌};
+ghost use Rattle.std.specs.Str.{IsAscii};
+
 use crate::atoms::{binary, choose, concat, copy, literal, low_bits, sign_of, wire};
 use crate::numbers::{plus, power};
 use std::alloc::{AllocError, Global};
 use tapa_base::{Kind, Op};
 use vlog_tree::{Atom, BinaryOp, Value};
-
-ghost use Rattle.std.specs.Prelude.{◌≡◌, ◌<◌, ◌≤◌};
-ghost use Rattle.std.specs.Str.{IsAscii};
 
 /// The width of a wire and its driver.
 pub(crate) type Driver = (u32, Value);
@@ -28,7 +28,11 @@ pub(crate) struct Start<'a> {
 fn wire_at(alloc: Global, start: Start, offset: usize) -> Result<Atom, AllocError>
     requires { IsAscii start.entry.front.now }
 {
-    wire(alloc, start.front, plus(start.first, crate::numbers::small(offset)?)?)
+    wire(
+        alloc,
+        start.front,
+        plus(start.first, crate::numbers::small(offset)?)?,
+    )
 }
 
 /// The wire of the last driver, or what there was before.

@@ -78,7 +78,11 @@ fn places(
     let width = shape.index_bits(a);
     match state {
         State::Cell { array, .. } if *array == a => {
-            entry(alloc, Net::Into(k), low_bits(alloc, width, &operands.index)?)
+            entry(
+                alloc,
+                Net::Into(k),
+                low_bits(alloc, width, &operands.index)?,
+            )
         }
         State::Clear { array, count, .. } if *array == a => {
             let counter = net(alloc, Net::Variable(*count))?;

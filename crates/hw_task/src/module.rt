@@ -26,11 +26,7 @@ fn add_decodes(alloc: Global, draft: &mut Draft, shape: Shape) -> Result<(), All
     Ok(())
 }
 
-fn add_states(
-    alloc: Global,
-    draft: &mut Draft,
-    shape: Shape,
-) -> Result<Vec<Operands>, AllocError> {
+fn add_states(alloc: Global, draft: &mut Draft, shape: Shape) -> Result<Vec<Operands>, AllocError> {
     let mut operands = Vec::new(alloc);
     for k in 0..shape.states {
         if let Some(state) = shape.machine.states.get(k as usize) {

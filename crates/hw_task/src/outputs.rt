@@ -16,11 +16,7 @@ use vlog_tree::{Atom, Step, Value};
 
 // ---- choices with their blocks
 
-fn held_steps(
-    alloc: Global,
-    register: &Text,
-    first: Atom,
-) -> Result<Vec<Step>, AllocError> {
+fn held_steps(alloc: Global, register: &Text, first: Atom) -> Result<Vec<Step>, AllocError> {
     let mut steps = Vec::new(alloc);
     steps.push(Step::If(reset_name(alloc)?))?;
     steps.push(Step::NonblockingAssign {
@@ -56,13 +52,7 @@ fn add_register_block(
         draft.block(held_steps(alloc, &register, first)?)
     } else {
         let set = root(alloc, choice, found)?;
-        draft.block(reset_set_steps(
-            alloc,
-            register.bytes(),
-            first,
-            set.bytes(),
-            next,
-        )?)
+        draft.block(reset_set_steps(alloc, register.bytes(), first, set.bytes(), next)?)
     }
 }
 
@@ -126,13 +116,7 @@ fn add_array_block(
     let write = root(alloc, Choice::Stores(a), &found)?;
     let place = root(alloc, Choice::Place(a), &found)?;
     let content = Atom::Net(root(alloc, Choice::Content(a), &found)?);
-    draft.block(store_steps(
-        alloc,
-        array.bytes(),
-        write.bytes(),
-        place.bytes(),
-        content,
-    )?)
+    draft.block(store_steps(alloc, array.bytes(), write.bytes(), place.bytes(), content)?)
 }
 
 /// Adds the blocks.
@@ -182,7 +166,14 @@ pub(crate) fn add_choices(
     shape: Shape,
     operands: &[Operands],
 ) -> Result<(), AllocError> {
-    add_pick(alloc, draft, shape, operands, shape.state_bits(), Choice::ToState)?;
+    add_pick(
+        alloc,
+        draft,
+        shape,
+        operands,
+        shape.state_bits(),
+        Choice::ToState,
+    )?;
     add_any(alloc, draft, shape, operands, Choice::ToEnd)?;
     for r in 0..small(shape.machine.regs.len())? {
         add_any(alloc, draft, shape, operands, Choice::Set(r))?;
@@ -191,7 +182,14 @@ pub(crate) fn add_choices(
     }
     for a in 0..small(shape.machine.arrays.len())? {
         add_any(alloc, draft, shape, operands, Choice::Stores(a))?;
-        add_pick(alloc, draft, shape, operands, shape.index_bits(a), Choice::Place(a))?;
+        add_pick(
+            alloc,
+            draft,
+            shape,
+            operands,
+            shape.index_bits(a),
+            Choice::Place(a),
+        )?;
         let width = bits(shape.array_kind(a));
         add_pick(alloc, draft, shape, operands, width, Choice::Content(a))?;
     }
@@ -229,8 +227,24 @@ fn add_written(
     let width = shape.token_bits(s);
     add_any(alloc, draft, shape, operands, Choice::Puts(s))?;
     add_pick(alloc, draft, shape, operands, width, Choice::Token(s))?;
-    add_output(alloc, draft, shape, operands, 1, Net::Wr(s), Choice::Puts(s))?;
-    add_output(alloc, draft, shape, operands, width, Net::Din(s), Choice::Token(s))
+    add_output(
+        alloc,
+        draft,
+        shape,
+        operands,
+        1,
+        Net::Wr(s),
+        Choice::Puts(s),
+    )?;
+    add_output(
+        alloc,
+        draft,
+        shape,
+        operands,
+        width,
+        Net::Din(s),
+        Choice::Token(s),
+    )
 }
 
 fn add_taken(
@@ -241,7 +255,15 @@ fn add_taken(
     s: u32,
 ) -> Result<(), AllocError> {
     add_any(alloc, draft, shape, operands, Choice::Takes(s))?;
-    add_output(alloc, draft, shape, operands, 1, Net::Taken(s), Choice::Takes(s))
+    add_output(
+        alloc,
+        draft,
+        shape,
+        operands,
+        1,
+        Net::Taken(s),
+        Choice::Takes(s),
+    )
 }
 
 fn add_memory(
@@ -255,9 +277,33 @@ fn add_memory(
     add_pick(alloc, draft, shape, operands, 64, Choice::Asks(m))?;
     add_any(alloc, draft, shape, operands, Choice::Saves(m))?;
     add_pick(alloc, draft, shape, operands, width, Choice::Data(m))?;
-    add_output(alloc, draft, shape, operands, 64, Net::Addr(m), Choice::Asks(m))?;
-    add_output(alloc, draft, shape, operands, width, Net::Wdata(m), Choice::Data(m))?;
-    add_output(alloc, draft, shape, operands, 1, Net::We(m), Choice::Saves(m))
+    add_output(
+        alloc,
+        draft,
+        shape,
+        operands,
+        64,
+        Net::Addr(m),
+        Choice::Asks(m),
+    )?;
+    add_output(
+        alloc,
+        draft,
+        shape,
+        operands,
+        width,
+        Net::Wdata(m),
+        Choice::Data(m),
+    )?;
+    add_output(
+        alloc,
+        draft,
+        shape,
+        operands,
+        1,
+        Net::We(m),
+        Choice::Saves(m),
+    )
 }
 
 /// Adds the outputs, each behind its choices.
@@ -268,7 +314,12 @@ pub(crate) fn add_outputs(
     operands: &[Operands],
 ) -> Result<(), AllocError> {
     let done = name(alloc, Net::Done)?;
-    draft.output(alloc, 1, done.bytes(), Value::Plain(net(alloc, Net::Ended)?))?;
+    draft.output(
+        alloc,
+        1,
+        done.bytes(),
+        Value::Plain(net(alloc, Net::Ended)?),
+    )?;
     for s in 0..small(shape.streams.len())? {
         if shape.writes(s) {
             add_written(alloc, draft, shape, operands, s)?;

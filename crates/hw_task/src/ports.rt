@@ -27,7 +27,12 @@ fn add_register(alloc: Global, draft: &mut Draft, width: u32, net: Net) -> Resul
 pub(crate) fn add_inputs(alloc: Global, draft: &mut Draft, shape: Shape) -> Result<(), AllocError> {
     for i in 0..small(shape.machine.scalars.len())? {
         let register = number_at(&shape.machine.scalars, i);
-        add_input(alloc, draft, bits(shape.register_kind(register)), Net::Scalar(i))?;
+        add_input(
+            alloc,
+            draft,
+            bits(shape.register_kind(register)),
+            Net::Scalar(i),
+        )?;
     }
     for s in 0..small(shape.streams.len())? {
         add_stream_inputs(alloc, draft, shape, s)?;

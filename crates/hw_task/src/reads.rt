@@ -158,7 +158,11 @@ fn most_reads(reads: &[Vec<ArrayRead<'_>>]) -> usize {
 }
 
 /// Adds the wires of all reads, lower numbers first: an index reads answers of lower numbers alone.
-pub(crate) fn add_reads_of(alloc: Global, draft: &mut Draft, shape: Shape) -> Result<(), AllocError> {
+pub(crate) fn add_reads_of(
+    alloc: Global,
+    draft: &mut Draft,
+    shape: Shape,
+) -> Result<(), AllocError> {
     let reads = all_reads(alloc, shape)?;
     let most = small(most_reads(&reads))?;
     for p in 0..most {

@@ -33,12 +33,7 @@ pub(crate) struct Operands {
 }
 
 // Adds the wires of the index.
-fn add_index(
-    alloc: Global,
-    draft: &mut Draft,
-    k: u32,
-    state: &State,
-) -> Result<Atom, AllocError> {
+fn add_index(alloc: Global, draft: &mut Draft, k: u32, state: &State) -> Result<Atom, AllocError> {
     match index_of(state) {
         Some(index) => {
             let front = index_front(alloc, k)?;
@@ -124,11 +119,7 @@ fn add_go(alloc: Global, draft: &mut Draft, k: u32, state: &State) -> Result<(),
     match awaited(state) {
         Some(waits) => {
             if acts_late(state) {
-                let go = binary(
-                    net(alloc, Net::At(k))?,
-                    BinaryOp::And,
-                    net(alloc, waits)?,
-                );
+                let go = binary(net(alloc, Net::At(k))?, BinaryOp::And, net(alloc, waits)?);
                 add_wire(alloc, draft, 1, Net::Go(k), go)
             } else {
                 Ok(())

@@ -280,14 +280,7 @@ pub(crate) fn compile(
                 right_kind(*op, *own),
                 right,
             )?;
-            joined(
-                alloc,
-                draft,
-                start,
-                Operator::Apply(*op, *own, kind),
-                a,
-                b,
-            )
+            joined(alloc, draft, start, Operator::Apply(*op, *own, kind), a, b)
         }
         Expr::Flip(own, e) => {
             let operand = compile(alloc, draft, start, m, *own, e)?;

@@ -36,11 +36,11 @@ marked : (c : ℕ) → 95 ≡ c → no_mark c ≡ true → ⊥
 marked c e h = let t : no_mark 95 ≡ true = ap no_mark e ∙ h in cc
 
 -- the numbers behind a word
-abbrev tail_of : List ℕ → Name
+abbrev pub tail_of : List ℕ → Name
 tail_of [] = []
 tail_of (n ∷ ns) = 95 ∷ decimal n ++ tail_of ns
 
-spelled_tail : (w : Name) (ns : List ℕ) → spelled w ns ≡ w ++ tail_of ns
+pub spelled_tail : (w : Name) (ns : List ℕ) → spelled w ns ≡ w ++ tail_of ns
 unfolding numbered
 spelled_tail w [] = sym (append-nil w)
 spelled_tail w (n ∷ ns) = spelled_tail (numbered w n) ns ∙ append_assoc w (95 ∷ decimal n) (tail_of ns)

@@ -1,5 +1,5 @@
 -- Each operator on atoms as drivers of wires, one after another; the last has the result.
-use Rattle.std.specs.Prelude.{ℕ, suc, ◌+◌, ◌-◌, ◌/◌, ◌%◌, ◌^◌, min, List, [], ◌∷◌, ◌++◌, length, Bool, true, false, nat_le, nat_lt, bit_xor, ◌==◌, if◌then◌else◌}
+use Rattle.std.specs.Prelude.{ℕ, suc, ◌-◌, ◌/◌, ◌%◌, ◌^◌, min, List, [], ◌∷◌, ◌++◌, Bool, true, false, nat_le, nat_lt, bit_xor, ◌==◌, if◌then◌else◌}
 use Rattle.tapa_base.specs.declared.kind.Kind.{Kind}
 use Rattle.tapa_base.specs.declared.kind.Kind.TheVariants as kind
 use Rattle.tapa_base.specs.declared.op.Op.{Op}
@@ -27,6 +27,11 @@ wires_of front n (d ∷ drivers) = Wire d.0 (numbered front n) d.1 ∷ wires_of 
 abbrev pub wire : Name → ℕ → Atom
 wire front n = Net (numbered front n)
 
+-- the number behind them
+abbrev pub after : ℕ → List Driver → ℕ
+after n [] = n
+after n (d ∷ drivers) = after (suc n) drivers
+
 -- the last of them, or what there was before where there is none
 abbrev pub last_of : Name → ℕ → List Driver → Atom → Atom
 last_of front n [] a = a
@@ -41,7 +46,7 @@ half w = 2 ^ (w - 1)
 -- the lowest bits of an atom that has more
 abbrev pub low_bits : ℕ → Atom → Atom
 low_bits w (Net x) = Part x (w - 1) 0
-low_bits w (Part x high low) = Part x (low + w - 1) low
+low_bits w (Part x high low) = Part x high low
 low_bits w (Literal v n) = Literal w (n % 2 ^ w)
 
 -- the highest bit of an atom of w bits
@@ -80,7 +85,7 @@ turned_atom front n w a = wire front n
 abbrev pub less : Bool → Name → ℕ → ℕ → Atom → Atom → List Driver
 less false front n w a b = one 1 (Binary a Less b)
 less true front n w a b =
-    (turned w a ++ turned w b) ++ one 1 (Binary (turned_atom front n w a) Less (turned_atom front (n + length (turned w a)) w b))
+    (turned w a ++ turned w b) ++ one 1 (Binary (turned_atom front n w a) Less (turned_atom front (after n (turned w a)) w b))
 
 -- one more wire behind others
 abbrev pub then_one : Name → ℕ → List Driver → (Atom → List Driver) → List Driver
@@ -102,8 +107,8 @@ shift_count w a = a
 abbrev pub shifted_right : Bool → Name → ℕ → ℕ → Atom → Atom → List Driver
 shifted_right false front n w a b = one w (Binary a ShiftRight (shift_count w b))
 shifted_right true front n w a b =
-    (w, Invert a) ∷ (w, Choose (sign_of w a) (wire front n) a) ∷ (w, Binary (wire front (n + 1)) ShiftRight (shift_count w b)) ∷ (w, Invert (wire front (n + 2)))
-    ∷ one w (Choose (sign_of w a) (wire front (n + 3)) (wire front (n + 2)))
+    (w, Invert a) ∷ (w, Choose (sign_of w a) (wire front n) a) ∷ (w, Binary (wire front (suc n)) ShiftRight (shift_count w b)) ∷ (w, Invert (wire front (suc (suc n))))
+    ∷ one w (Choose (sign_of w a) (wire front (suc (suc (suc n)))) (wire front (suc (suc n))))
 
 -- the absolute value of a literal, and whether it is negative
 abbrev pub absolute : ℕ → Atom → Atom
@@ -118,8 +123,8 @@ is_negative w a = false
 abbrev pub divided : Bool → BinaryOp → Bool → Name → ℕ → ℕ → Atom → Atom → List Driver
 divided false o back front n w a b = one w (Binary a o b)
 divided true o back front n w a b =
-    (w, Binary (Literal w 0) Minus a) ∷ (w, Choose (sign_of w a) (wire front n) a) ∷ (w, Binary (wire front (n + 1)) o (absolute w b)) ∷ (w, Binary (Literal w 0) Minus (wire front (n + 2)))
-    ∷ one w (Choose (sign_of w a) (if back then wire front (n + 2) else wire front (n + 3)) (if back then wire front (n + 3) else wire front (n + 2)))
+    (w, Binary (Literal w 0) Minus a) ∷ (w, Choose (sign_of w a) (wire front n) a) ∷ (w, Binary (wire front (suc n)) o (absolute w b)) ∷ (w, Binary (Literal w 0) Minus (wire front (suc (suc n))))
+    ∷ one w (Choose (sign_of w a) (if back then wire front (suc (suc n)) else wire front (suc (suc (suc n)))) (if back then wire front (suc (suc (suc n))) else wire front (suc (suc n))))
 
 -- an operator in a kind, for a result of another kind where it is a comparison
 abbrev pub operation : Name → ℕ → Op → (own asked : Kind) → Atom → Atom → List Driver

@@ -7,6 +7,11 @@ pub mod Wires
 pub mod States
 pub mod Effects
 pub mod Texts
+pub mod After
 pub mod Signals
 pub mod Machine
 pub mod Runs
+pub mod Shows
+pub mod Decides
+pub mod Computes
+pub mod Moves

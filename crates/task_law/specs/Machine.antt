@@ -6,7 +6,7 @@ use Rattle.kahn_model.specs.declared.tick.Action.TheVariants.{Local, Put, Load, 
 use Rattle.kahn_model.specs.declared.tick.StreamOperation.{StreamOperation}
 use Rattle.kahn_model.specs.Behavior.{Offer, NoToken, judge_token, on_offer, takes}
 use Rattle.task_fsm.specs.Run.{StateStep, Performs, Awaits, Completes, Halts, step_at}
-use Rattle.task_fsm.specs.After.{at_after, held_after, ends_by}
+use Rattle.task_law.specs.After.{at_after, held_after, ends_by}
 use Rattle.task_law.specs.Signals.{Streams, History, Part}
 
 -- what an operation finds at the reader's end of a stream
