@@ -2,9 +2,3 @@ pub mod Names
 pub mod Spelled
 pub mod Members
 pub mod Decodes
-pub mod Shown
-pub mod Operated
-pub mod Fixes
-pub mod Computed
-pub mod Answered
-pub mod Moves

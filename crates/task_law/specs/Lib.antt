@@ -11,7 +11,4 @@ pub mod After
 pub mod Signals
 pub mod Machine
 pub mod Runs
-pub mod Shows
 pub mod Decides
-pub mod Computes
-pub mod Moves

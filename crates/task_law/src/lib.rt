@@ -5,5 +5,5 @@
 mod laws;
 mod nets;
 
-pub use laws::law_nets;
+pub use laws::{law_nets, law_states};
 pub use nets::{Choice, Net};

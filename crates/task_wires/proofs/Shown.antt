@@ -20,7 +20,7 @@ use Rattle.hw_build.specs.Elements.{Element, Wire}
 use Rattle.hw_build.specs.Trees.{numbered}
 use Rattle.word_law.specs.Words.{half_of, is_negative}
 use Rattle.word_law.proofs.Words.{cuts, extends}
-use Rattle.task_law.specs.Shows.{Shows, AreSaid, ShowsConverted}
+use Rattle.task_wires.specs.Shows.{Shows, AreSaid, ShowsConverted}
 use Rattle.task_law.specs.Drivers.{Driver, wires_of, wire, last_of, one, half, low_bits, sign_of, extended, resized, tested, conversion}
 
 -- ---- numbers

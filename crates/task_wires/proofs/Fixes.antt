@@ -16,7 +16,7 @@ use Rattle.task_fsm.specs.MachineKinds.{IsFixed, IsDivisor, IsOfKind, HoldsValue
 use Rattle.task_fsm.specs.Run.{value}
 use Rattle.task_fsm.proofs.Steps.{value_fits}
 use Rattle.task_law.specs.Fixed.{only_if, on_one, on_two, on_three, can_apply, fixed}
-use Rattle.task_law.specs.Computes.{FixedIsValue, NumbersAreFixed}
+use Rattle.task_wires.specs.Computes.{FixedIsValue, NumbersAreFixed}
 
 some_same : (n v : ℕ) → Some n ≡ Some v → n ≡ v
 some_same n v e = cc

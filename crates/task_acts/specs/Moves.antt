@@ -16,7 +16,7 @@ use Rattle.task_law.specs.Nets.{Net, State as StateNet, Ended, Variable, Has, Rd
 use Rattle.task_law.specs.Shape.{Shape, array_cells, form_at}
 use Rattle.task_law.specs.Effects.{entries}
 use Rattle.task_law.specs.Texts.{root, first_value, task_elements}
-use Rattle.task_law.specs.Computes.{IsIn}
+use Rattle.task_acts.specs.Reads.{IsIn}
 
 -- a state that waits for a net goes on where it is 1
 abbrev pub waits : Cycle → Net → (next k : ℕ) → ℕ

@@ -28,12 +28,12 @@ use Rattle.task_fsm.proofs.Steps.{value_fits}
 use Rattle.task_law.specs.Nets.{Answer, name}
 use Rattle.task_law.specs.Fixed.{fixed}
 use Rattle.task_law.specs.Drivers.{Driver, wires_of, wire, last_of, one, conversion, operation}
-use Rattle.task_law.specs.Wires.{ArrayRead, read_count, reads_in, Compiled, by_fixed, constant, compiled}
-use Rattle.task_law.specs.Shows.{IsNumber, IsDivisor, Shows, AreSaid}
-use Rattle.task_law.specs.Computes.{Numbered, RegistersShown, AnswerShown, AnswersShown, ShowsValue}
-use Rattle.task_law.proofs.Shown.{said_first, same_value, conversion_shown}
-use Rattle.task_law.proofs.Operated.{operation_shown}
-use Rattle.task_law.proofs.Fixes.{fixed_value, numbers_fixed}
+use Rattle.task_law.specs.Wires.{ArrayRead, read_count, reads_in, Compiled, by_fixed, converting, one_more, joining, choosing, compiled}
+use Rattle.task_wires.specs.Shows.{IsNumber, IsDivisor, Shows, AreSaid}
+use Rattle.task_wires.specs.Computes.{Numbered, RegistersShown, AnswerShown, AnswersShown, ShowsValue}
+use Rattle.task_wires.proofs.Shown.{said_first, same_value, conversion_shown}
+use Rattle.task_wires.proofs.Operated.{operation_shown}
+use Rattle.task_wires.proofs.Fixes.{fixed_value, numbers_fixed}
 
 sum_length : (xs ys : List ArrayRead) (n m : ℕ) → length xs ≡ n → length ys ≡ m → length (xs ++ ys) ≡ n + m
 sum_length xs ys n m e f = let g = length-append xs ys in omega (arith, e, f, g)
@@ -185,7 +185,7 @@ module _ (s : Sizes) (c : Cycle) where
         of_kind (Net (name (Answer (m + read_count i) a))) (K.arrays a) k (cell σ.arrays a (value i σ)) t.0 (second K σ m i (record { array = a; index = i; first = m } ∷ []) answers).0
     computed (Converted source target e) k front m n t g answers said =
         let C = compiled front m n source e in
-        numbered K σ k (Converted source target e) (fixed (Converted source target e)) refl _
+        numbered K σ k (Converted source target e) (fixed (Converted source target e)) refl (converting front n source target C)
         (λ told.
         of_kind _ target k (value (Converted source target e) σ) t.0
         (conversion_shown s c source target front (n + C.count) (value e σ) C.atom (value_fits K e source σ t.1 fits)
@@ -198,7 +198,7 @@ module _ (s : Sizes) (c : Cycle) where
         let i = n + (C.count + D.count) in
         let ops = wires_of front i (operation front i o j k C.atom D.atom) in
         let high = value_fits K r (right_kind o j) σ t.2 fits in
-        numbered K σ k (Applied o j l r) (fixed (Applied o j l r)) refl _
+        numbered K σ k (Applied o j l r) (fixed (Applied o j l r)) refl (joining front n C D (λ i a b. operation front i o j k a b))
         (λ told.
         let two = before (C.elements ++ D.elements) ops told in
         operation_shown s c o j k front i (value l σ) (value r σ) C.atom D.atom C.atom (value_fits K l j σ t.1 fits) (can_apply o j r σ high t.3)
@@ -210,7 +210,7 @@ module _ (s : Sizes) (c : Cycle) where
     computed (Flipped j e) k front m n t g answers said =
         let C = compiled front m n j e in
         let ops = wires_of front (n + C.count) (one (bits_of j) (Invert C.atom)) in
-        numbered K σ k (Flipped j e) (fixed (Flipped j e)) refl _
+        numbered K σ k (Flipped j e) (fixed (Flipped j e)) refl (one_more front n C (λ a. one (bits_of j) (Invert a)))
         (λ told.
         of_kind _ j k (value (Flipped j e) σ) t.0
         (let r = computed e j front m n t.1 g answers (before C.elements ops told) in
@@ -219,7 +219,7 @@ module _ (s : Sizes) (c : Cycle) where
     computed (Inverse e) k front m n t g answers said =
         let C = compiled front m n kind.Bool e in
         let ops = wires_of front (n + C.count) (one 1 (Invert C.atom)) in
-        numbered K σ k (Inverse e) (fixed (Inverse e)) refl _
+        numbered K σ k (Inverse e) (fixed (Inverse e)) refl (one_more front n C (λ a. one 1 (Invert a)))
         (λ told.
         of_kind _ kind.Bool k (1 - value e σ) t.0
         (let r = computed e kind.Bool front m n t.1 g answers (before C.elements ops told) in
@@ -230,7 +230,7 @@ module _ (s : Sizes) (c : Cycle) where
         let D = compiled front (m + read_count l) (n + C.count) kind.Bool r in
         let i = n + (C.count + D.count) in
         let ops = wires_of front i (one 1 (Binary C.atom And D.atom)) in
-        numbered K σ k (Both l r) (fixed (Both l r)) refl _
+        numbered K σ k (Both l r) (fixed (Both l r)) refl (joining front n C D (λ i a b. one 1 (Binary a And b)))
         (λ told.
         let two = before (C.elements ++ D.elements) ops told in
         let x = computed l kind.Bool front m n t.1 g.0 (answers_left K σ m (reads_in m l) (reads_in (m + read_count l) r) answers) (before C.elements D.elements two) in
@@ -244,7 +244,7 @@ module _ (s : Sizes) (c : Cycle) where
         let D = compiled front (m + read_count l) (n + C.count) kind.Bool r in
         let i = n + (C.count + D.count) in
         let ops = wires_of front i (one 1 (Binary C.atom Or D.atom)) in
-        numbered K σ k (Either l r) (fixed (Either l r)) refl _
+        numbered K σ k (Either l r) (fixed (Either l r)) refl (joining front n C D (λ i a b. one 1 (Binary a Or b)))
         (λ told.
         let two = before (C.elements ++ D.elements) ops told in
         let x = computed l kind.Bool front m n t.1 g.0 (answers_left K σ m (reads_in m l) (reads_in (m + read_count l) r) answers) (before C.elements D.elements two) in
@@ -261,7 +261,7 @@ module _ (s : Sizes) (c : Cycle) where
         let ops = wires_of front i (one (bits_of k) (Choose C.atom D.atom E.atom)) in
         let ab = reads_in (m + read_count e) a ++ reads_in (m + read_count e + read_count a) b in
         let late = second K σ m e ab answers in
-        numbered K σ k (Chosen e a b) (fixed (Chosen e a b)) refl _
+        numbered K σ k (Chosen e a b) (fixed (Chosen e a b)) refl (choosing front n k C D E)
         (λ told.
         let three = before (C.elements ++ (D.elements ++ E.elements)) ops told in
         let two = rest C.elements (D.elements ++ E.elements) three in

@@ -30,9 +30,9 @@ use Rattle.word_law.specs.Signed as signed
 use Rattle.word_law.proofs.Words.{left, right, far_left}
 use Rattle.word_law.proofs.Numbers.{quotient_none}
 use Rattle.word_law.proofs.Signed.{plain_order, turned_order, opposite, divides, leaves}
-use Rattle.task_law.specs.Shows.{IsNumber, IsDivisor, Shows, AreSaid}
+use Rattle.task_wires.specs.Shows.{IsNumber, IsDivisor, Shows, AreSaid}
 use Rattle.task_law.specs.Drivers.{Driver, wires_of, wire, after, last_of, one, half, sign_of, turned, turned_atom, less, then_one, not_less, as_wide, shift_count, shifted_right, absolute, is_negative, divided, operation}
-use Rattle.task_law.proofs.Shown.{two_halves, said_first, said_rest, same_value, same_width, sign_is, widened, some_bits}
+use Rattle.task_wires.proofs.Shown.{two_halves, said_first, said_rest, same_value, same_width, sign_is, widened, some_bits}
 
 -- drivers behind drivers
 pub wires_behind : (front : Name) (n : ℕ) (xs ys : List Driver) → wires_of front n (xs ++ ys) ≡ wires_of front n xs ++ wires_of front (after n xs) ys
@@ -99,15 +99,22 @@ module _ (s : Sizes) (c : Cycle) where
       let neg = nat_le (half w) x in
       let sign = sign_is s c w x a h (some_bits k) low in
       let m = atom_value c (shift_count w b) in
-      let r0 = said_first s c front n w (2 ^ w - 1 - x) (Invert a) _ said (ap (λ z. 2 ^ w - 1 - z) h.value) in
-      let s1 = said_rest s c front n _ _ said in
-      let r1 = said_first s c front (suc n) w (cond neg (2 ^ w - 1 - x) x) (Choose (sign_of w a) (wire front n) a) _ s1
+      let d1 = Choose (sign_of w a) (wire front n) a in
+      let d2 = Binary (wire front (suc n)) ShiftRight (shift_count w b) in
+      let d3 = Invert (wire front (suc (suc n))) in
+      let l4 : List Driver = one w (Choose (sign_of w a) (wire front (suc (suc (suc n)))) (wire front (suc (suc n)))) in
+      let l3 : List Driver = (w, d3) ∷ l4 in
+      let l2 : List Driver = (w, d2) ∷ l3 in
+      let l1 : List Driver = (w, d1) ∷ l2 in
+      let r0 = said_first s c front n w (2 ^ w - 1 - x) (Invert a) l1 said (ap (λ z. 2 ^ w - 1 - z) h.value) in
+      let s1 = said_rest s c front n (w, Invert a) l1 said in
+      let r1 = said_first s c front (suc n) w (cond neg (2 ^ w - 1 - x) x) d1 l2 s1
       (ap (λ z. cond (eqb z 1) (atom_value c (wire front n)) (atom_value c a)) sign ∙ chosen_bit neg (atom_value c (wire front n)) (atom_value c a) ∙ ap (λ z. cond neg z (atom_value c a)) r0.value ∙ ap (cond neg (2 ^ w - 1 - x)) h.value) in
-      let s2 = said_rest s c front (suc n) _ _ s1 in
-      let r2 = said_first s c front (suc (suc n)) w (cond neg (2 ^ w - 1 - x) x / 2 ^ m) (Binary (wire front (suc n)) ShiftRight (shift_count w b)) _ s2 (ap (λ z. z / 2 ^ m) r1.value) in
-      let s3 = said_rest s c front (suc (suc n)) _ _ s2 in
-      let r3 = said_first s c front (suc (suc (suc n))) w (2 ^ w - 1 - cond neg (2 ^ w - 1 - x) x / 2 ^ m) (Invert (wire front (suc (suc n)))) _ s3 (ap (λ z. 2 ^ w - 1 - z) r2.value) in
-      let s4 = said_rest s c front (suc (suc (suc n))) _ _ s3 in
+      let s2 = said_rest s c front (suc n) (w, d1) l2 s1 in
+      let r2 = said_first s c front (suc (suc n)) w (cond neg (2 ^ w - 1 - x) x / 2 ^ m) d2 l3 s2 (ap (λ z. z / 2 ^ m) r1.value) in
+      let s3 = said_rest s c front (suc (suc n)) (w, d2) l3 s2 in
+      let r3 = said_first s c front (suc (suc (suc n))) w (2 ^ w - 1 - cond neg (2 ^ w - 1 - x) x / 2 ^ m) d3 l4 s3 (ap (λ z. 2 ^ w - 1 - z) r2.value) in
+      let s4 = said_rest s c front (suc (suc (suc n))) (w, d3) l4 s3 in
       said_first s c front (suc (suc (suc (suc n)))) w (applied op.Shr k x y) (Choose (sign_of w a) (wire front (suc (suc (suc n)))) (wire front (suc (suc n)))) [] s4
       (ap (λ z. cond (eqb z 1) (atom_value c (wire front (suc (suc (suc n))))) (atom_value c (wire front (suc (suc n))))) sign ∙ chosen_bit neg (atom_value c (wire front (suc (suc (suc n))))) (atom_value c (wire front (suc (suc n))))
       ∙ ap (λ z. cond neg z (atom_value c (wire front (suc (suc n))))) r3.value ∙ ap (cond neg (2 ^ w - 1 - cond neg (2 ^ w - 1 - x) x / 2 ^ m)) r2.value
@@ -228,15 +235,23 @@ module _ (s : Sizes) (c : Cycle) where
       let sign = sign_is s c w x a h (some_bits k) low in
       let p = cond neg (2 ^ w - x) x in
       let u = op_value w o p q in
-      let r0 = said_first s c front n w ((2 ^ w - x) % 2 ^ w) (Binary (Literal w 0) Minus a) _ said (ap (λ z. (0 + 2 ^ w - z) % 2 ^ w) h.value ∙ ap (λ z. z % 2 ^ w) (no_front (2 ^ w) x)) in
-      let s1 = said_rest s c front n _ _ said in
-      let r1 = said_first s c front (suc n) w p (Choose (sign_of w a) (wire front n) a) _ s1
+      let d0 = Binary (Literal w 0) Minus a in
+      let d1 = Choose (sign_of w a) (wire front n) a in
+      let d2 = Binary (wire front (suc n)) o (absolute w b) in
+      let d3 = Binary (Literal w 0) Minus (wire front (suc (suc n))) in
+      let l4 : List Driver = one w (Choose (sign_of w a) (cond back (wire front (suc (suc n))) (wire front (suc (suc (suc n))))) (cond back (wire front (suc (suc (suc n)))) (wire front (suc (suc n))))) in
+      let l3 : List Driver = (w, d3) ∷ l4 in
+      let l2 : List Driver = (w, d2) ∷ l3 in
+      let l1 : List Driver = (w, d1) ∷ l2 in
+      let r0 = said_first s c front n w ((2 ^ w - x) % 2 ^ w) d0 l1 said (ap (λ z. (0 + 2 ^ w - z) % 2 ^ w) h.value ∙ ap (λ z. z % 2 ^ w) (no_front (2 ^ w) x)) in
+      let s1 = said_rest s c front n (w, d0) l1 said in
+      let r1 = said_first s c front (suc n) w p d1 l2 s1
       (ap (λ z. cond (eqb z 1) (atom_value c (wire front n)) (atom_value c a)) sign ∙ chosen_bit neg (atom_value c (wire front n)) (atom_value c a) ∙ ap (λ z. cond neg z (atom_value c a)) r0.value ∙ ap (cond neg ((2 ^ w - x) % 2 ^ w)) h.value ∙ abs_word w x (some_bits k) low) in
-      let s2 = said_rest s c front (suc n) _ _ s1 in
-      let r2 = said_first s c front (suc (suc n)) w u (Binary (wire front (suc n)) o (absolute w b)) _ s2 (ap (λ z. op_value w o z (atom_value c (absolute w b))) r1.value ∙ ap (op_value w o p) i) in
-      let s3 = said_rest s c front (suc (suc n)) _ _ s2 in
-      let r3 = said_first s c front (suc (suc (suc n))) w ((2 ^ w - u) % 2 ^ w) (Binary (Literal w 0) Minus (wire front (suc (suc n)))) _ s3 (ap (λ z. (0 + 2 ^ w - z) % 2 ^ w) r2.value ∙ ap (λ z. z % 2 ^ w) (no_front (2 ^ w) u)) in
-      let s4 = said_rest s c front (suc (suc (suc n))) _ _ s3 in
+      let s2 = said_rest s c front (suc n) (w, d1) l2 s1 in
+      let r2 = said_first s c front (suc (suc n)) w u d2 l3 s2 (ap (λ z. op_value w o z (atom_value c (absolute w b))) r1.value ∙ ap (op_value w o p) i) in
+      let s3 = said_rest s c front (suc (suc n)) (w, d2) l3 s2 in
+      let r3 = said_first s c front (suc (suc (suc n))) w ((2 ^ w - u) % 2 ^ w) d3 l4 s3 (ap (λ z. (0 + 2 ^ w - z) % 2 ^ w) r2.value ∙ ap (λ z. z % 2 ^ w) (no_front (2 ^ w) u)) in
+      let s4 = said_rest s c front (suc (suc (suc n))) (w, d3) l4 s3 in
       said_first s c front (suc (suc (suc (suc n)))) w (signed.opposite_if (signed.differ neg back) k u)
       (Choose (sign_of w a) (cond back (wire front (suc (suc n))) (wire front (suc (suc (suc n))))) (cond back (wire front (suc (suc (suc n)))) (wire front (suc (suc n))))) [] s4
       (ap (λ z. cond (eqb z 1) (atom_value c (cond back (wire front (suc (suc n))) (wire front (suc (suc (suc n)))))) (atom_value c (cond back (wire front (suc (suc (suc n)))) (wire front (suc (suc n)))))) sign

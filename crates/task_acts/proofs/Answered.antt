@@ -21,7 +21,7 @@ use Rattle.vlog_tree.specs.Grounded.{Has}
 use Rattle.vlog_tree.specs.Table.{Name, one_if}
 use Rattle.vlog_tree.specs.Cycle.{Cycle, Follows, atom_value, driven}
 use Rattle.vlog_tree.proofs.Lists.{has_left, has_right}
-use Rattle.hw_build.specs.Elements.{Element, Wire, Memory, built}
+use Rattle.hw_build.specs.Elements.{Element, Wire, Register, Memory, built}
 use Rattle.hw_build.proofs.Driven.{wire_driven, width_declared, cells_declared}
 use Rattle.hw_lists.specs.Scope.{each}
 use Rattle.hw_lists.specs.Choices.{Entry, any_elements, pick_elements, choice}
@@ -31,19 +31,20 @@ use Rattle.task_fsm.specs.Machine.{Expression, Number, Reg, CellOf, Converted, A
 use Rattle.task_fsm.specs.MachineKinds.{IsOfKind, IsTypedState, HoldsValues}
 use Rattle.task_fsm.specs.Ranges.{Ranges, NamesWithin, IsInRange}
 use Rattle.task_fsm.specs.Run.{value}
-use Rattle.task_law.specs.Nets.{State as StateNet, At, Array, Answer, Raw, ReadInside, ReadOn, Reads, Spot, name, front, read_front}
-use Rattle.task_law.specs.Shape.{Shape, bits_for, kinds_in, array_kind, array_cells, index_bits, state_count, form_at}
+use Rattle.task_law.specs.Nets.{State as StateNet, Ended, At, Array, Answer, Raw, ReadInside, ReadOn, Reads, Spot, name, front, value_front, index_front, read_front}
+use Rattle.task_law.specs.Shape.{Shape, bits_for, kinds_in, array_kind, array_cells, index_bits, state_count, state_bits, form_at}
 use Rattle.task_law.specs.Drivers.{low_bits}
 use Rattle.task_law.specs.Wires.{ArrayRead, read_count, reads_in, compiled}
 use Rattle.task_law.specs.States.{net, nothing, index_of, value_of, value_kind, index_wires, value_wires, reads_at}
 use Rattle.task_law.specs.Effects.{entry, at, effect, entries, spot_of}
 use Rattle.task_law.specs.Texts.{array, held, read_index, asked_of, answered, unless_none, read_numbers, variable, task_elements}
-use Rattle.task_law.specs.Shows.{Shows, AreSaid}
-use Rattle.task_law.specs.Computes.{Numbered, AnswerShown, AnswersShown, IsIn, ReadsAreShown, ValueIsShown, IndexIsShown}
+use Rattle.task_wires.specs.Shows.{Shows, AreSaid}
+use Rattle.task_wires.specs.Computes.{Numbered, AnswerShown, AnswersShown}
+use Rattle.task_acts.specs.Reads.{IsIn, ReadsAreShown, ValueIsShown, IndexIsShown}
 use Rattle.task_law.proofs.Members.{all, asked_in, answered_in, held_in, value_in, index_in, among_left, among_right, among_each}
 use Rattle.task_law.proofs.Decodes.{at_here, any_on, any_off, pick_on, most_of, got_low}
-use Rattle.task_law.proofs.Shown.{low_bits_is}
-use Rattle.task_law.proofs.Computed.{reads_counted, numbered_left, numbered_right, numbered_second, numbered_join, computed}
+use Rattle.task_wires.proofs.Shown.{low_bits_is}
+use Rattle.task_wires.proofs.Computed.{reads_counted, numbered_left, numbered_right, numbered_second, numbered_join, computed}
 
 -- a number fits in its bits
 pub fits_bits : (n : ℕ) → n < 2 ^ 32 → n < 2 ^ bits_for n
@@ -183,7 +184,7 @@ module _ (S : Shape) (title : Name) (run : ℕ → Cycle) (f : Follows (built ti
   array_there : (a : ℕ) → a < length S.arrays → Has (all S) (Memory (bits_of (array_kind S a)) (name (Array a)) (array_cells S a))
   array_there a h =
       among_each (array S) (length S.arrays) a (all S) h
-      (among_right (each (variable S) (length S.registers)) (each (array S) (length S.arrays)) (all S) (among_right _ (each (variable S) (length S.registers) ++ each (array S) (length S.arrays)) (all S) (held_in S)))
+      (among_right (each (variable S) (length S.registers)) (each (array S) (length S.arrays)) (all S) (among_right (Register (state_bits S) (name StateNet) ∷ Register 1 (name Ended) ∷ []) (each (variable S) (length S.registers) ++ each (array S) (length S.arrays)) (all S) (held_in S)))
       (Memory (bits_of (array_kind S a)) (name (Array a)) (array_cells S a)) (inl refl)
 
   module _ (R : Ranges) (σ : State) (k : ℕ) (is : IsIn S R f.sizes (run n) k σ) where
@@ -204,7 +205,7 @@ module _ (S : Shape) (title : Name) (run : ℕ → Cycle) (f : Follows (built ti
           let x : p < length (reads_at S k) = got_low (reads_at S k) p r got in
           let y : length (reads_at S k) ≤ read_numbers S = most_of (λ j. length (reads_at S j)) (state_count S) k l in omega (arith, x, y)
 
-      spot_entry : Entry
+      abbrev spot_entry : Entry
       spot_entry = record { condition = name (ReadOn k p); value = low_bits (index_bits S a) (read_index p k r).atom }
 
       given : spot_of S p a k (slice_get (reads_at S k) p) ≡ spot_entry ∷ []
@@ -243,20 +244,28 @@ module _ (S : Shape) (title : Name) (run : ℕ → Cycle) (f : Follows (built ti
           answered_in S p a inside there e
           (subst (λ es. Has es e) (sym (not_none (entries S (Reads p a)) spot_entry (answered S p a) (has_each (effect S (Reads p a)) (state_count S) k spot_entry is.low own_entry))) h)
 
-      any_among : IsAmong (any_elements (front (Reads p a)) (entries S (Reads p a))) (all S)
-      any_among = among_left (any_elements (front (Reads p a)) (entries S (Reads p a))) _ (all S) answers
+      abbrev last_two : List Element
+      last_two =
+          Wire (bits_of (array_kind S a)) (name (Raw p a)) (Cell (name (Array a)) (choice (front (Spot p a)) (entries S (Spot p a))))
+          ∷ Wire (bits_of (array_kind S a)) (name (Answer p a)) (Choose (Net (choice (front (Reads p a)) (entries S (Reads p a)))) (net (Raw p a)) (Literal (bits_of (array_kind S a)) 0)) ∷ []
 
-      behind : IsAmong (pick_elements (index_bits S a) (front (Spot p a)) (entries S (Spot p a)) ++ _) (all S)
-      behind = among_right (any_elements (front (Reads p a)) (entries S (Reads p a))) _ (all S) answers
+      any_among : IsAmong (any_elements (front (Reads p a)) (entries S (Reads p a))) (all S)
+      any_among = among_left (any_elements (front (Reads p a)) (entries S (Reads p a))) (pick_elements (index_bits S a) (front (Spot p a)) (entries S (Spot p a)) ++ last_two) (all S) answers
+
+      behind : IsAmong (pick_elements (index_bits S a) (front (Spot p a)) (entries S (Spot p a)) ++ last_two) (all S)
+      behind = among_right (any_elements (front (Reads p a)) (entries S (Reads p a))) (pick_elements (index_bits S a) (front (Spot p a)) (entries S (Spot p a)) ++ last_two) (all S) answers
 
       pick_among : IsAmong (pick_elements (index_bits S a) (front (Spot p a)) (entries S (Spot p a))) (all S)
-      pick_among = among_left (pick_elements (index_bits S a) (front (Spot p a)) (entries S (Spot p a))) _ (all S) behind
+      pick_among = among_left (pick_elements (index_bits S a) (front (Spot p a)) (entries S (Spot p a))) last_two (all S) behind
+
+      two_among : IsAmong last_two (all S)
+      two_among = among_right (pick_elements (index_bits S a) (front (Spot p a)) (entries S (Spot p a))) last_two (all S) behind
 
       raw_there : Has (all S) (Wire (bits_of (array_kind S a)) (name (Raw p a)) (Cell (name (Array a)) (choice (front (Spot p a)) (entries S (Spot p a)))))
-      raw_there = among_right (pick_elements (index_bits S a) (front (Spot p a)) (entries S (Spot p a))) _ (all S) behind _ (inl refl)
+      raw_there = two_among _ (inl refl)
 
       answer_there : Has (all S) (Wire (bits_of (array_kind S a)) (name (Answer p a)) (Choose (Net (choice (front (Reads p a)) (entries S (Reads p a)))) (net (Raw p a)) (Literal (bits_of (array_kind S a)) 0)))
-      answer_there = among_right (pick_elements (index_bits S a) (front (Spot p a)) (entries S (Spot p a))) _ (all S) behind _ (inr (inl refl))
+      answer_there = two_among _ (inr (inl refl))
 
       abbrev root : Name
       root = choice (front (Reads p a)) (entries S (Reads p a))
@@ -275,7 +284,7 @@ module _ (S : Shape) (title : Name) (run : ℕ → Cycle) (f : Follows (built ti
           let bits : array_cells S a - 1 < 2 ^ index_bits S a = fits_bits (array_cells S a - 1) (omega (arith, few)) in
           let on : (run n).net (name (ReadOn k p)) ≡ 1 = on_is ∙ ap one_if e in
           let set : (run n).net root ≡ 1 = any_on S title run f (Reads p a) any_among n k is.low spot_entry own_entry on in
-          let some : 0 < index_bits S a = has_bits (array_cells S a - 1) in
+          let some : 0 < index_bits S a = has_bits (array_cells S a - 1) (omega (arith, few)) in
           let low_is : atom_value (run n) (low_bits (index_bits S a) (read_index p k r).atom) ≡ v =
           low_bits_is f.sizes (run n) 64 v (index_bits S a) (read_index p k r).atom shown some ∙ mod-eq_of_lt (omega (arith, low, bits)) in
           let spot : (run n).net (choice (front (Spot p a)) (entries S (Spot p a))) ≡ v =
@@ -375,11 +384,11 @@ module _ (S : Shape) (title : Name) (run : ℕ → Cycle) (f : Follows (built ti
 
     pub value_shown : Shows f.sizes (run n) (value_wires S k).atom (bits_of (value_kind S (form_at S k))) (value (value_of (form_at S k)) σ)
     value_shown =
-        computed f.sizes (run n) K R σ is.fits is.registers (value_of (form_at S k)) (value_kind S (form_at S k)) _ (read_count index) 0 (value_typed S R (form_at S k) is.typed) (value_within S R (form_at S k) is.ranged) value_answers
+        computed f.sizes (run n) K R σ is.fits is.registers (value_of (form_at S k)) (value_kind S (form_at S k)) (value_front k) (read_count index) 0 (value_typed S R (form_at S k) is.typed) (value_within S R (form_at S k) is.ranged) value_answers
         (told (value_wires S k).elements (value_in S k is.low))
 
     pub index_shown : IsOfKind K index kind.U64 → Shows f.sizes (run n) (index_wires S k).atom 64 (value index σ)
-    index_shown t = computed f.sizes (run n) K R σ is.fits is.registers index kind.U64 _ 0 0 t (index_within S R (form_at S k) is.ranged) index_answers (told (index_wires S k).elements (index_in S k is.low))
+    index_shown t = computed f.sizes (run n) K R σ is.fits is.registers index kind.U64 (index_front k) 0 0 t (index_within S R (form_at S k) is.ranged) index_answers (told (index_wires S k).elements (index_in S k is.low))
 
 pub reads_are_shown : ReadsAreShown
 reads_are_shown S title run f R σ n k is = reads_shown S title run f n R σ k is

@@ -44,12 +44,12 @@ use Rattle.task_law.specs.Drivers.{wires_of}
 use Rattle.task_law.specs.States.{net, number_of, next_of, next_wires, next_atom, value_wires, value_of, value_kind, into_of, counting, more_wires}
 use Rattle.task_law.specs.Effects.{effect, entries}
 use Rattle.task_law.specs.Texts.{inputs, held, variable, array, any, pick, root, result_of, variable_choices, array_choices, choices, register_block, first_value, variable_block, array_block, blocks, task_elements}
-use Rattle.task_law.specs.Computes.{IsIn}
-use Rattle.task_law.specs.Moves.{waits, place_after, set_next, StateMoves, StateGoesOn, RegistersGoOn}
+use Rattle.task_acts.specs.Reads.{IsIn}
+use Rattle.task_acts.specs.Moves.{waits, place_after, set_next, StateMoves, StateGoesOn, RegistersGoOn}
 use Rattle.task_law.proofs.Members.{all, held_in, choices_in, blocks_in, next_in, more_in, among_left, among_right, among_each}
 use Rattle.task_law.proofs.Decodes.{at_here, any_on, any_off, pick_on}
-use Rattle.task_law.proofs.Computed.{choose_bit}
-use Rattle.task_law.proofs.Answered.{value_shown}
+use Rattle.task_wires.proofs.Computed.{choose_bit}
+use Rattle.task_acts.proofs.Answered.{value_shown}
 
 -- the only entry that a state gives
 alone : (es : List Entry) (e d : Entry) → es ≡ e ∷ [] → Has es d → e ≡ d
