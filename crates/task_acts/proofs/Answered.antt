@@ -31,7 +31,9 @@ use Rattle.task_fsm.specs.Machine.{Expression, Number, Reg, CellOf, Converted, A
 use Rattle.task_fsm.specs.MachineKinds.{IsOfKind, IsTypedState, HoldsValues}
 use Rattle.task_fsm.specs.Ranges.{Ranges, NamesWithin, IsInRange}
 use Rattle.task_fsm.specs.Run.{value}
-use Rattle.task_law.specs.Nets.{State as StateNet, Ended, At, Array, Answer, Raw, ReadInside, ReadOn, Reads, Spot, name, front, value_front, index_front, read_front}
+use Rattle.task_law.specs.declared.nets.Choice.TheVariants.{Reads, Spot}
+use Rattle.task_law.specs.declared.nets.Net.TheVariants.{State as StateNet, Ended, At, Array, Answer, Raw, ReadInside, ReadOn}
+use Rattle.task_law.specs.Nets.{name, front, value_front, index_front, read_front}
 use Rattle.task_law.specs.Shape.{Shape, bits_for, kinds_in, array_kind, array_cells, index_bits, state_count, state_bits, form_at}
 use Rattle.task_law.specs.Drivers.{low_bits}
 use Rattle.task_law.specs.Wires.{ArrayRead, read_count, reads_in, compiled}

@@ -37,7 +37,11 @@ use Rattle.task_fsm.specs.MachineKinds.{IsTypedState}
 use Rattle.task_fsm.specs.Ranges.{Ranges, IsInRange}
 use Rattle.task_fsm.specs.Run.{value}
 use Rattle.task_fsm.proofs.Steps.{value_fits}
-use Rattle.task_law.specs.Nets.{Net as NetNumber, State as StateNet, Ended, Variable, Array, Has as HasNet, Rdy, Ack, Datum, Eot as EotNet, At, Next, Value, Choice, ToState, ToEnd, Set, In, name, front, value_front}
+use Rattle.task_law.specs.declared.nets.Choice.{Choice}
+use Rattle.task_law.specs.declared.nets.Choice.TheVariants.{ToState, ToEnd, Set, In}
+use Rattle.task_law.specs.declared.nets.Net.{Net as NetNumber}
+use Rattle.task_law.specs.declared.nets.Net.TheVariants.{State as StateNet, Ended, Variable, Array, Has as HasNet, Rdy, Ack, Datum, Eot as EotNet, At, Next, Value}
+use Rattle.task_law.specs.Nets.{name, front, value_front}
 use Rattle.task_law.specs.Names.{NodesAreNumbered}
 use Rattle.task_law.specs.Shape.{Shape, kinds_in, array_kind, array_cells, register_kind, state_count, state_bits, form_at}
 use Rattle.task_law.specs.Drivers.{wires_of}

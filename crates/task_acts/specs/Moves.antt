@@ -12,7 +12,10 @@ use Rattle.hw_lists.specs.Choices.{Entry}
 use Rattle.task_fsm.specs.Machine.{StateForm, SetAt, CellAt, TestAt, ReadAt, WriteAt, PeekAt, EotAt, OpenAt, CloseAt, LoadAt, StoreAt, ClearAt, EndAt, TrapAt}
 use Rattle.task_fsm.specs.Ranges.{Ranges}
 use Rattle.task_fsm.specs.Run.{value}
-use Rattle.task_law.specs.Nets.{Net, State as StateNet, Ended, Variable, Has, Rdy, Ack, Datum, Eot, name, ToState, ToEnd, Set, In}
+use Rattle.task_law.specs.declared.nets.Choice.TheVariants.{ToState, ToEnd, Set, In}
+use Rattle.task_law.specs.declared.nets.Net.{Net}
+use Rattle.task_law.specs.declared.nets.Net.TheVariants.{State as StateNet, Ended, Variable, Has, Rdy, Ack, Datum, Eot}
+use Rattle.task_law.specs.Nets.{name}
 use Rattle.task_law.specs.Shape.{Shape, array_cells, form_at}
 use Rattle.task_law.specs.Effects.{entries}
 use Rattle.task_law.specs.Texts.{root, first_value, task_elements}

@@ -9,7 +9,8 @@ use Rattle.hw_build.specs.Elements.{built}
 use Rattle.task_fsm.specs.MachineKinds.{IsOfKind, IsTypedState, HoldsValues}
 use Rattle.task_fsm.specs.Ranges.{Ranges, IsInRange}
 use Rattle.task_fsm.specs.Run.{value}
-use Rattle.task_law.specs.Nets.{State as StateNet, Array, name}
+use Rattle.task_law.specs.declared.nets.Net.TheVariants.{State as StateNet, Array}
+use Rattle.task_law.specs.Nets.{name}
 use Rattle.task_law.specs.Shape.{Shape, kinds_in, array_cells, state_count, form_at}
 use Rattle.task_law.specs.States.{index_of, value_of, value_kind, index_wires, value_wires, reads_at}
 use Rattle.task_law.specs.Texts.{task_elements}

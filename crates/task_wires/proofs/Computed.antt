@@ -25,7 +25,8 @@ use Rattle.task_fsm.specs.MachineKinds as machine
 use Rattle.task_fsm.specs.Ranges.{Ranges, NamesWithin}
 use Rattle.task_fsm.specs.Run.{value}
 use Rattle.task_fsm.proofs.Steps.{value_fits}
-use Rattle.task_law.specs.Nets.{Answer, name}
+use Rattle.task_law.specs.declared.nets.Net.TheVariants.{Answer}
+use Rattle.task_law.specs.Nets.{name}
 use Rattle.task_law.specs.Fixed.{fixed}
 use Rattle.task_law.specs.Drivers.{Driver, wires_of, wire, last_of, one, conversion, operation}
 use Rattle.task_law.specs.Wires.{ArrayRead, read_count, reads_in, Compiled, by_fixed, converting, one_more, joining, choosing, compiled}

@@ -1,7 +1,7 @@
 -- What the drivers of operators make of operands that show values.
 use Rattle.std.proofs.Common.{◌≡◌, ℕ, zero, suc, ◌+◌, ◌-◌, ◌*◌, ◌/◌, ◌%◌, ◌^◌, ◌<◌, ◌≤◌, min, Bool, true, false, cond, eqb, ltb, ◌&&◌, List, [], ◌∷◌, ◌++◌, inl, inr, refl, sym, ap, subst, ◌∙◌, arith, ⊎_elim}
 use Rattle.std.specs.Prelude.{nat_le, nat_lt, not, bit_xor, ◌==◌}
-use Rattle.std.specs.Int.RustNames.{int_lt}
+use Rattle.std.specs.Int.RustNames.{int_lt, int_le}
 use Rattle.std.proofs.Math.Nat.{mod-eq_of_lt, mod-le, div-le_self}
 use Rattle.std.proofs.Math.Pow.{pow_pos, pow_mono}
 use Rattle.std.proofs.lemmas.Bool.{cases_eq, eqb-true, ltb-true, ltb-false, leb-true, leb-false, lt-ltb}

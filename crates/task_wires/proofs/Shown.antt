@@ -69,7 +69,7 @@ zero_front x y v = omega arith
 bits_front : (x u y v : ℕ) → (0 * x + u) * y + v ≡ u * y + v
 bits_front x u y v = omega arith
 
-some_bits : (k : Kind) → 0 < bits_of k
+pub some_bits : (k : Kind) → 0 < bits_of k
 some_bits kind.Bool = omega arith
 some_bits kind.I8 = omega arith
 some_bits kind.U8 = omega arith

@@ -11,7 +11,8 @@ use Rattle.task_fsm.specs.Machine.{Expression}
 use Rattle.task_fsm.specs.MachineKinds.{IsFixed, IsOfKind, HoldsValues}
 use Rattle.task_fsm.specs.Ranges.{Ranges, NamesWithin}
 use Rattle.task_fsm.specs.Run.{value}
-use Rattle.task_law.specs.Nets.{Variable, Answer, name}
+use Rattle.task_law.specs.declared.nets.Net.TheVariants.{Variable, Answer}
+use Rattle.task_law.specs.Nets.{name}
 use Rattle.task_law.specs.Fixed.{fixed}
 use Rattle.task_law.specs.Wires.{ArrayRead, reads_in, compiled}
 use Rattle.task_wires.specs.Shows.{Shows, AreSaid}
