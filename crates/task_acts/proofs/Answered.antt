@@ -77,7 +77,7 @@ has_bits n h =
 -- each of a list at its number
 numbered_all : (xs ys : List ArrayRead) → Numbered (λ p r. slice_get (xs ++ ys) p ≡ Some r) (length xs) ys
 numbered_all xs [] = tt
-numbered_all xs (y ∷ ys) = (here xs, moved) where
+numbered_all xs (y ∷ ys) = (here xs, moved (numbered_all (xs ++ y ∷ []) ys)) where
   here : (zs : List ArrayRead) → slice_get (zs ++ y ∷ ys) (length zs) ≡ Some y
   here [] = refl
   here (z ∷ zs) = here zs
@@ -90,8 +90,10 @@ numbered_all xs (y ∷ ys) = (here xs, moved) where
   counted [] = refl
   counted (z ∷ zs) = ap suc (counted zs)
 
-  moved : Numbered (λ p r. slice_get (xs ++ y ∷ ys) p ≡ Some r) (suc (length xs)) ys
-  moved = subst (λ l. Numbered (λ p r. slice_get l p ≡ Some r) (suc (length xs)) ys) (joined xs) (subst (λ m. Numbered (λ p r. slice_get ((xs ++ y ∷ []) ++ ys) p ≡ Some r) m ys) (counted xs) (numbered_all (xs ++ y ∷ []) ys))
+  moved : Numbered (λ p r. slice_get ((xs ++ y ∷ []) ++ ys) p ≡ Some r) (length (xs ++ y ∷ [])) ys → Numbered (λ p r. slice_get (xs ++ y ∷ ys) p ≡ Some r) (suc (length xs)) ys
+  moved h =
+      subst (λ l. Numbered (λ p r. slice_get l p ≡ Some r) (suc (length xs)) ys) (joined xs)
+      (subst (λ m. Numbered (λ p r. slice_get ((xs ++ y ∷ []) ++ ys) p ≡ Some r) m ys) (counted xs) h)
 
 -- an entry for one thing alone
 only_entry : (x : ℕ) (es : List Entry) → at x x es ≡ es
@@ -251,17 +253,23 @@ module _ (S : Shape) (title : Name) (run : ℕ → Cycle) (f : Follows (built ti
           Wire (bits_of (array_kind S a)) (name (Raw p a)) (Cell (name (Array a)) (choice (front (Spot p a)) (entries S (Spot p a))))
           ∷ Wire (bits_of (array_kind S a)) (name (Answer p a)) (Choose (Net (choice (front (Reads p a)) (entries S (Reads p a)))) (net (Raw p a)) (Literal (bits_of (array_kind S a)) 0)) ∷ []
 
-      any_among : IsAmong (any_elements (front (Reads p a)) (entries S (Reads p a))) (all S)
-      any_among = among_left (any_elements (front (Reads p a)) (entries S (Reads p a))) (pick_elements (index_bits S a) (front (Spot p a)) (entries S (Spot p a)) ++ last_two) (all S) answers
+      abbrev any_part : List Element
+      any_part = any_elements (front (Reads p a)) (entries S (Reads p a))
 
-      behind : IsAmong (pick_elements (index_bits S a) (front (Spot p a)) (entries S (Spot p a)) ++ last_two) (all S)
-      behind = among_right (any_elements (front (Reads p a)) (entries S (Reads p a))) (pick_elements (index_bits S a) (front (Spot p a)) (entries S (Spot p a)) ++ last_two) (all S) answers
+      abbrev pick_part : List Element
+      pick_part = pick_elements (index_bits S a) (front (Spot p a)) (entries S (Spot p a))
+
+      both : IsAmong (any_part ++ pick_part) (all S)
+      both = among_left (any_part ++ pick_part) last_two (all S) answers
+
+      any_among : IsAmong (any_elements (front (Reads p a)) (entries S (Reads p a))) (all S)
+      any_among = among_left any_part pick_part (all S) both
 
       pick_among : IsAmong (pick_elements (index_bits S a) (front (Spot p a)) (entries S (Spot p a))) (all S)
-      pick_among = among_left (pick_elements (index_bits S a) (front (Spot p a)) (entries S (Spot p a))) last_two (all S) behind
+      pick_among = among_right any_part pick_part (all S) both
 
       two_among : IsAmong last_two (all S)
-      two_among = among_right (pick_elements (index_bits S a) (front (Spot p a)) (entries S (Spot p a))) last_two (all S) behind
+      two_among = among_right (any_part ++ pick_part) last_two (all S) answers
 
       raw_there : Has (all S) (Wire (bits_of (array_kind S a)) (name (Raw p a)) (Cell (name (Array a)) (choice (front (Spot p a)) (entries S (Spot p a)))))
       raw_there = two_among _ (inl refl)

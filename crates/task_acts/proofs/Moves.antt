@@ -93,7 +93,10 @@ counter_there S k a c next = has_right (into_of S k a (net (Variable c)) 32) (co
 
 module _ (S : Shape) (title : Name) (run : ℕ → Cycle) (f : Follows (built title (task_elements S)) run) (R : Ranges) (σ : State) (n k : ℕ) (is : IsIn S R f.sizes (run n) k σ) where
   to_state : IsAmong (pick S (state_bits S) ToState) (all S)
-  to_state = among_left (pick S (state_bits S) ToState) _ (all S) (choices_in S)
+  to_state =
+      among_left (pick S (state_bits S) ToState) (any S ToEnd) (all S)
+      (among_left (pick S (state_bits S) ToState ++ any S ToEnd) (each (variable_choices S) (length S.registers)) (all S)
+      (among_left ((pick S (state_bits S) ToState ++ any S ToEnd) ++ each (variable_choices S) (length S.registers)) (each (array_choices S) (length S.arrays)) (all S) (choices_in S)))
 
   root_is : (run n).net (root S ToState) ≡ atom_value (run n) (next_atom S k (form_at S k))
   root_is =
