@@ -219,62 +219,8 @@ fn rounds_of_the_path_program(rt: HostRuntime) -> Result<(), Fail> {
     Ok(())
 }
 
-// The token that a leaf writes for an expression.
-fn written(alloc: Global, e: Expr) -> Result<Option<u64>, Fault> {
-    let code = one(alloc, Stmt::Write(0, e))?;
-    let body = leaf(alloc, 1, 0, code)?;
-    let (ticks, _trace_end) = trace(alloc, &body, &[0], variables(alloc)?, 1, &[])?;
-    Ok(match ticks.first() {
-        Some(Tick::Did(Action::Put(0, Token::Datum(v)))) => Some(*v),
-        _ => None,
-    })
-}
-
 fn one(alloc: Global, statement: Stmt) -> Result<Vec<Stmt>, AllocError> {
     Ok(Vec::from_array(alloc, [statement])?)
-}
-
-#[test]
-fn expressions_have_their_values(rt: HostRuntime) -> Result<(), Fail> {
-    let alloc = rt.alloc();
-    for (from, to, v, want) in [
-        (Kind::I8, Kind::I32, 200, 4_294_967_240),
-        (Kind::U8, Kind::I32, 200, 200),
-        (Kind::I32, Kind::U8, 511, 255),
-        (Kind::U64, Kind::Bool, 256, 1),
-    ] {
-        let value = Box::new(alloc, Expr::Lit(from, v))?;
-        let got = written(alloc, Expr::Conv { from, to, value })?;
-        assert_eq!(rt; got, Some(want), "from {v}");
-    }
-    for (a, b, and, or, chosen) in [
-        (0, 0, 0, 0, 7),
-        (0, 1, 0, 1, 7),
-        (1, 0, 0, 1, 9),
-        (1, 1, 1, 1, 9),
-    ] {
-        let both = Expr::And(Box::new(alloc, number(a))?, Box::new(alloc, number(b))?);
-        assert_eq!(rt; written(alloc, both)?, Some(and), "{a} && {b}");
-        let either = Expr::Or(Box::new(alloc, number(a))?, Box::new(alloc, number(b))?);
-        assert_eq!(rt; written(alloc, either)?, Some(or), "{a} || {b}");
-        let choice = Expr::Choose(
-            Box::new(alloc, number(a))?,
-            Box::new(alloc, number(9))?,
-            Box::new(alloc, number(7))?,
-        );
-        assert_eq!(rt; written(alloc, choice)?, Some(chosen), "{a} ? 9 : 7");
-        let not = Expr::Not(Box::new(alloc, number(a))?);
-        assert_eq!(rt; written(alloc, not)?, Some(1 - a), "!{a}");
-    }
-    let flip = Expr::Flip(Kind::U8, Box::new(alloc, number(5))?);
-    assert_eq!(rt; written(alloc, flip)?, Some(250));
-    let wide = Expr::Conv {
-        from: Kind::U8,
-        to: Kind::U64,
-        value: Box::new(alloc, number(256))?,
-    };
-    assert!(rt; matches!(written(alloc, wide), Err(Fault::NotOfItsKind)));
-    Ok(())
 }
 
 // `a` is cleared, set and changed; `m[0] -= 1; q >> m[1]; r << a[1]; r << m[0]; r << m[1]; r << x;`

@@ -13,6 +13,3 @@ mod values;
 
 pub use data::{Data, DataFault, read_data};
 pub use lines::{Last, report_last, report_memory, report_stream};
-
-#[cfg(test)]
-mod tests;

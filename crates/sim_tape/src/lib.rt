@@ -13,6 +13,3 @@ pub use gates::{Gate, Operator, Pair, Rule, Wide};
 pub use program::Program;
 pub use runs::Run;
 pub use tape::Tape;
-
-#[cfg(test)]
-mod tests;

@@ -31,6 +31,3 @@ pub use system::{DirShelf, StdSink};
 pub use take::take_file;
 pub use text::{Place, Text};
 pub use token::Token;
-
-#[cfg(test)]
-mod tests;

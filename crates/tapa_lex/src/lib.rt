@@ -14,6 +14,3 @@ pub use laws::{
     lexemes_are_in_order, lexemes_are_slices, lexemes_or_refusal, one_list_of_lexemes, one_refusal,
 };
 pub use lexer::lex;
-
-#[cfg(test)]
-mod tests;

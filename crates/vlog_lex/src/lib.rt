@@ -7,6 +7,3 @@ mod lexer;
 
 pub use class::{Class, base_of, run, worth};
 pub use lexer::{Lexeme, Words, place_at, scan};
-
-#[cfg(test)]
-mod tests;

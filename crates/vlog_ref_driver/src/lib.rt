@@ -8,6 +8,3 @@ mod values;
 pub use numbers::{MemoryCells, NetNumber, cell_at, find_memory, find_net, number_in};
 pub use operators::apply;
 pub use values::{value_of, value_of_atom};
-
-#[cfg(test)]
-mod tests;
