@@ -12,7 +12,7 @@ use Rattle.coro_code.specs.contracts.code.Act as Act
 use Rattle.coro_code.specs.contracts.code.Place as Place
 use Rattle.coro_machine.specs.contracts.coro.Coro as Coro
 use Rattle.coro_machine.proofs.run.Run.TheSendSync as run
-use Rattle.coro_machine.proofs.tests.tests.may_move_to_another_thread.Goals as goal
+use Rattle.net_tests.proofs.threads.tests.may_move_to_another_thread.Goals as goal
 
 expr_send : IsSend Expr.the_field.row
 expr_send = search (knot.crosses, sendable, crosses) depth 60
