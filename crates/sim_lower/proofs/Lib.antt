@@ -1,0 +1,4 @@
+pub mod Operating
+pub mod Parts
+pub mod Pairs
+pub mod AtomSlots
