@@ -1,0 +1,7 @@
+pub mod Outs
+pub mod Streams
+pub mod Memories
+pub mod Registers
+pub mod Blocks
+pub mod Arrays
+pub mod Ends

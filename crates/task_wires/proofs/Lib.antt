@@ -1,0 +1,4 @@
+pub mod Shown
+pub mod Operated
+pub mod Fixes
+pub mod Computed
