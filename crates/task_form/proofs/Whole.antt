@@ -1,10 +1,13 @@
 -- A task's module fits, is right, has the form of a module and no loop.
-use Rattle.std.proofs.Common.{◌≡◌, Bool, true, List, [], ◌∷◌, ◌++◌, length, refl, sym, subst}
+use Rattle.std.proofs.Common.{ap, ◌∙◌, ◌≡◌, Bool, true, List, [], ◌∷◌, ◌++◌, length, refl, sym, subst}
 use Rattle.std.specs.Prelude.{Some}
 use Rattle.std.specs.List.{flat_map, list_all, AllByRecursion}
 use Rattle.vlog_tree.specs.Form.{ModuleTree}
 use Rattle.vlog_tree.specs.Table.{Name, module_named}
-use Rattle.hw_build.specs.Elements.{Element, Instance}
+use Rattle.vlog_tree.specs.declared.tree.Item.{Item}
+use Rattle.vlog_tree.specs.V6.{item_children, module_children}
+use Rattle.hw_build.specs.Elements.{Element, Instance, element_items, empty}
+use Rattle.hw_build.proofs.Tables.{items_of_all}
 use Rattle.hw_build.specs.Forms.{is_element}
 use Rattle.hw_build.specs.Order.{child_names, RestsOnNoInput, ChildrenRestOnNoInput}
 use Rattle.hw_build.proofs.Forms.{built_form}
@@ -21,7 +24,7 @@ use Rattle.task_law.specs.Texts.{inputs, held, offered, reads_of, read_numbers, 
 use Rattle.task_names.specs.Countable.{IsCountable}
 use Rattle.task_names.proofs.Sorts.{names_once, nets_named, blocks_once}
 use Rattle.wires_fit.proofs.Scopes.{left_among, right_among, among_more}
-use Rattle.task_form.specs.Form.{TasksFit, TasksAreFitting, TasksAreRight, TasksAreModules, TasksHaveNoLoop}
+use Rattle.task_form.specs.Form.{TasksFit, TasksAreFitting, TasksAreRight, TasksAreModules, TasksHaveNoChildren, TasksHaveNoLoop}
 use Rattle.task_form.proofs.Task.{IsTask, is_task}
 use Rattle.task_form.proofs.Asked.{reads_fit}
 use Rattle.task_form.proofs.States.{inputs_fit, held_fits, decodes_fit, offers_fit, states_fit}
@@ -162,7 +165,7 @@ pub tasks_are_right : TasksAreRight
 tasks_are_right leaf machine is_leaf lowered c ms title single =
     built_right ms title (task_elements (shape_of machine leaf.memories.items leaf.streams.items)) (tasks_are_fitting leaf machine is_leaf lowered c ms) single
 
-in_form : (S : Shape) → IsCountable S → FitAlone (task_elements S) → list_all is_element (task_elements S) ≡ true
+pub in_form : (S : Shape) → IsCountable S → FitAlone (task_elements S) → list_all is_element (task_elements S) ≡ true
 in_form S c f = alone_has_form (task_elements S) f (nets_named S c)
 
 pub tasks_are_modules : TasksAreModules
@@ -176,8 +179,19 @@ no_children before [] h = refl
 no_children before (Instance k i ls ∷ elements) h = absurd h.0
 no_children before (e ∷ elements) h = no_children (before ++ e ∷ []) elements h.1
 
-childless : (ms : List ModuleTree) (is_top : Name → Bool) (elements : List Element) → FitInOrder [] elements → ChildrenRestOnNoInput ms is_top elements
+pub childless : (ms : List ModuleTree) (is_top : Name → Bool) (elements : List Element) → FitInOrder [] elements → ChildrenRestOnNoInput ms is_top elements
 childless ms is_top elements h = subst (λ (l : List Name). AllByRecursion (λ kn. (k : ModuleTree) → module_named ms kn ≡ Some k → RestsOnNoInput ms is_top k) l) (sym (no_children [] elements h)) tt
+
+no_inner : (before elements : List Element) → FitInOrder before elements → flat_map item_children (flat_map element_items elements) ≡ []
+no_inner before [] h = refl
+no_inner before (Instance k i ls ∷ elements) h = absurd h.0
+no_inner before (e ∷ elements) h = no_inner (before ++ e ∷ []) elements h.1
+
+pub tasks_have_no_children : TasksHaveNoChildren
+unfolding module_children
+tasks_have_no_children leaf machine is_leaf lowered c title =
+    let S = shape_of machine leaf.memories.items leaf.streams.items in
+    ap (λ (l : List Item). flat_map item_children l) (items_of_all (task_elements S) (empty title)) ∙ no_inner [] (task_elements S) (tasks_fit leaf machine is_leaf lowered c).order
 
 pub tasks_have_no_loop : TasksHaveNoLoop
 tasks_have_no_loop leaf machine is_leaf lowered c ms is_top title inner x rests =

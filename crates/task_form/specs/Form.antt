@@ -1,5 +1,5 @@
 -- The module of a leaf task fits the rules.
-use Rattle.std.specs.Prelude.{◌≡◌, Bool, true, false, List, map}
+use Rattle.std.specs.Prelude.{◌≡◌, Bool, false, true, List, [], map}
 use Rattle.tapa_syntax.specs.declared.program.Leaf.{Leaf}
 use Rattle.tapa_syntax.specs.WellFormed.{IsLeaf}
 use Rattle.task_fsm.specs.declared.machine.Fsm.{Fsm}
@@ -8,6 +8,7 @@ use Rattle.vlog_tree.specs.Form.{ModuleTree, IsModule}
 use Rattle.vlog_tree.specs.Loops.{Rests}
 use Rattle.vlog_tree.specs.Names.{is_name}
 use Rattle.vlog_tree.specs.Table.{Name, is_doubled_name, module_declared}
+use Rattle.vlog_tree.specs.V6.{module_children}
 use Rattle.vlog_law_modules.specs.Larger.{IsRightBeside}
 use Rattle.hw_build.specs.Elements.{built}
 use Rattle.hw_build.specs.Fitting.{AreFitting}
@@ -41,3 +42,7 @@ TasksAreModules = ForTasks (λ S. (title : Name) → is_name title ≡ true → 
 abbrev pub TasksHaveNoLoop : Type 0
 TasksHaveNoLoop =
     ForTasks (λ S. (ms : List ModuleTree) (is_top : Name → Bool) (title : Name) → is_top title ≡ false → (x : Name) → Rests ms is_top (built title (task_elements S)) x x → ⊥)
+
+-- it contains no other module
+abbrev pub TasksHaveNoChildren : Type 0
+TasksHaveNoChildren = ForTasks (λ S. (title : Name) → module_children (built title (task_elements S)) ≡ [])

@@ -5,3 +5,4 @@ pub mod Nets
 pub mod Empty
 pub mod Sorts
 pub mod Ported
+pub mod Lined

@@ -6,7 +6,8 @@ use Rattle.std.proofs.lemmas.List.{append-nil}
 use Rattle.tapa_base.specs.Kinds.{bits_of}
 use Rattle.vlog_tree.specs.declared.tree.PortDecl.{PortDecl}
 use Rattle.vlog_tree.specs.declared.tree.Value.TheVariants.{Plain}
-use Rattle.hw_build.specs.Elements.{Element, Output, element_ports}
+use Rattle.hw_build.specs.Elements.{Element, Output, element_ports, empty}
+use Rattle.hw_build.proofs.Tables.{ports_of_all}
 use Rattle.hw_lists.specs.Scope.{each}
 use Rattle.task_law.specs.declared.nets.Choice.TheVariants.{Puts, Token, Takes, Asks, Saves, Data, Stores}
 use Rattle.task_law.specs.declared.nets.Net.TheVariants.{Ended, Done}
@@ -15,7 +16,7 @@ use Rattle.task_law.specs.Shape.{Shape, stream_kind, memory_kind, state_count}
 use Rattle.task_law.specs.States.{net, state_wires, decoded}
 use Rattle.task_law.specs.Texts.{by_end, scalar_port, writes, stream_inputs, memory_inputs, inputs, held, offered, reads_of, read_numbers, any, pick, choices, written, taken, stream_outputs, memory_outputs, outputs, variable_block, array_block, blocks, task_elements}
 use Rattle.task_law.specs.Effects.{entries}
-use Rattle.task_names.specs.Ports.{outward, scalar_input, stream_in, stream_out, memory_in, memory_out, task_inputs, task_outputs, PortsAreThese}
+use Rattle.task_names.specs.Ports.{outward, scalar_input, stream_in, stream_out, memory_in, memory_out, task_inputs, task_outputs, ModulesHavePorts, PortsAreThese}
 use Rattle.task_names.proofs.Named.{flat_each}
 use Rattle.task_names.proofs.Empty.{GiveNone, both_none, each_none, unless_gives, any_none, pick_none, decodes_none, offers_none, reads_none, states_none, choices_none, held_none}
 
@@ -99,3 +100,6 @@ module _ (S : Shape) where
 
 pub ports_are_these : PortsAreThese
 ports_are_these S = ports_of_task S
+
+pub modules_have_ports : ModulesHavePorts
+modules_have_ports S title = ports_of_all (task_elements S) (empty title) ∙ ap (λ (l : List PortDecl). (empty title).ports ++ l) (ports_of_task S)

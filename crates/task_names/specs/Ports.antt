@@ -4,7 +4,8 @@ use Rattle.std.specs.List.{flat_map}
 use Rattle.tapa_base.specs.Kinds.{bits_of}
 use Rattle.vlog_tree.specs.declared.tree.Direction.TheVariants.{Input as Inward, Output as Outward}
 use Rattle.vlog_tree.specs.declared.tree.PortDecl.{PortDecl}
-use Rattle.hw_build.specs.Elements.{element_ports}
+use Rattle.vlog_tree.specs.Table.{Name}
+use Rattle.hw_build.specs.Elements.{element_ports, empty, built}
 use Rattle.hw_lists.specs.Scope.{each}
 use Rattle.task_law.specs.declared.nets.Net.{Net}
 use Rattle.task_law.specs.declared.nets.Net.TheVariants.{Done, Scalar, Has, Dout, Taken, Din, Wr, Rdy, Ack, Rdata, Addr, Wdata, We}
@@ -46,3 +47,7 @@ task_outputs S = (outward 1 Done ∷ []) ++ each (stream_out S) (length S.stream
 
 abbrev pub PortsAreThese : Type 0
 PortsAreThese = (S : Shape) → flat_map element_ports (task_elements S) ≡ task_inputs S ++ task_outputs S
+
+-- behind the clock and the reset these are the module's
+abbrev pub ModulesHavePorts : Type 0
+ModulesHavePorts = (S : Shape) (title : Name) → (built title (task_elements S)).ports ≡ (empty title).ports ++ (task_inputs S ++ task_outputs S)

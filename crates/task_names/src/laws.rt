@@ -1,7 +1,7 @@
 // Laws on the names of a task's module.
 
-ghost use Rattle.task_names.specs.Countable.{BlocksAreOnce, NamesAreOnce, NetsAreNamed};
-ghost use Rattle.task_names.specs.Ports.{PortsAreThese};
+ghost use Rattle.task_names.specs.Countable.{BlocksAreOnce, LinesCountElements, NamesAreOnce, NetsAreNamed, TitlesAreNames};
+ghost use Rattle.task_names.specs.Ports.{ModulesHavePorts, PortsAreThese};
 
 /// No name is declared twice in a task's module, each is one, and no two blocks assign one register or array.
 pub fn law_names()
@@ -12,5 +12,12 @@ pub fn law_names()
 
 /// The ports of a task's module are those of its scalar parameters, its streams and its memories.
 pub fn law_task_ports()
-    ensures { PortsAreThese }
+    ensures elements { PortsAreThese }
+    ensures modules { ModulesHavePorts }
+{}
+
+/// A module has at least as many ports and lines as it is made of elements, and what follows `t_` in a name makes a name.
+pub fn law_task_lines()
+    ensures lines { LinesCountElements }
+    ensures titles { TitlesAreNames }
 {}

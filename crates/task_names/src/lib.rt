@@ -4,4 +4,4 @@
 
 mod laws;
 
-pub use laws::{law_names, law_task_ports};
+pub use laws::{law_names, law_task_lines, law_task_ports};

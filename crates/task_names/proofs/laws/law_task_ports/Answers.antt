@@ -1,5 +1,5 @@
-use Rattle.task_names.proofs.Ported.{ports_are_these}
+use Rattle.task_names.proofs.Ported.{modules_have_ports, ports_are_these}
 use Rattle.task_names.proofs.laws.law_task_ports.Goals as goal
 
 pub returns : goal.returns
-returns c = ports_are_these
+returns c = record { elements = ports_are_these; modules = modules_have_ports }

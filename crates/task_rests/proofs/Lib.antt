@@ -1,0 +1,4 @@
+pub mod Free
+pub mod Wires
+pub mod Closed
+pub mod Rested
