@@ -1,3 +1,4 @@
 pub mod Grown
 pub mod Placing
+pub mod Once
 pub mod Numbered
