@@ -1,0 +1,11 @@
+use Rattle.std.proofs.Common.{subst}
+use Rattle.vlog_read_words.specs.declared.coming.Coming.TheVariants.{Nothing}
+use Rattle.vlog_parse.specs.declared.state.ItemState.{ItemState}
+use Rattle.vlog_parse.specs.declared.state.State.TheVariants.{Item}
+use Rattle.vlog_parse.specs.Reading.{behind}
+use Rattle.vlog_parse.specs.Finishing.{IsFormed}
+use Rattle.vlog_parse.proofs.Formed.{item_formed}
+use Rattle.vlog_parse.proofs.design.item_next.Goals as goal
+
+pub item_start-requires : goal.item_start-requires
+item_start-requires c = item_formed c.in-ItemStart.draft (subst (λ (s : ItemState). IsFormed (behind Nothing (Item s))) c.in-ItemStart.is c.requires)

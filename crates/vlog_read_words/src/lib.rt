@@ -1,0 +1,10 @@
+//! What a reader of the Verilog subset does with single words, and the lists in which it keeps what it has read.
+#![tactic(auto)]
+
+mod coming;
+mod listed;
+mod number;
+
+pub use coming::Coming;
+pub use listed::{Listed, Parts};
+pub use number::{cells_behind, is_number, literal_of, name_of, width_at, width_behind};
