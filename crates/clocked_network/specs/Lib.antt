@@ -1,0 +1,9 @@
+pub mod Channel
+pub mod Clocked
+pub mod Joined
+pub mod Timed
+pub mod Pace
+pub mod Cells
+pub mod Ports
+pub mod Parts
+pub mod Run
