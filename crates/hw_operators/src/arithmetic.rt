@@ -1,0 +1,206 @@
+// Shifts, and division with signs.
+
+ghost use Rattle.std.specs.Prelude.{◌≡◌, ◌≤◌, suc, if◌then◌else◌, IfOk, true};
+ghost use Rattle.vlog_tree.specs.declared.tree.Value.TheVariants.{Choose};
+ghost use Rattle.task_law.specs.Drivers.{absolute as absolute_lem, divided as divided_lem, half as half_lem, is_negative as is_negative_lem, shift_count as shift_count_lem, shifted_right as shifted_right_lem, sign_of as sign_of_lem, wire as wire_lem};
+
+use crate::drivers::{Driver, one};
+use hw_atoms::{binary, choose, copy, literal, plus, power, sign_of, wire};
+use std::alloc::{AllocError, Global};
+use tapa_base::Text;
+use vlog_tree::{Atom, BinaryOp, Value};
+
+/// Half as many as there are numbers of some bits.
+pub(crate) fn half(width: u32) -> u128
+    requires { width ≤ 128 }
+    ensures { result ≡ half_lem width }
+{
+    power(width.saturating_sub(1))
+}
+
+/// A literal count of a shift is cut to the width.
+pub(crate) fn shift_count(alloc: Global, width: u32, b: &Atom) -> Result<Atom, AllocError>
+    ensures { IfOk result (λ a. a ≡ shift_count_lem width b.now) }
+{
+    match b {
+        Atom::Net(_) => copy(alloc, b),
+        Atom::Part { .. } => copy(alloc, b),
+        Atom::Literal { width: bits, value } => {
+            let most = u128::from(width);
+            Ok(literal(*bits, if *value < most { *value } else { most }))
+        }
+    }
+}
+
+// The next number.
+fn next(n: u32) -> Result<u32, AllocError>
+    ensures { IfOk result (λ m. m ≡ suc n) }
+{
+    plus(n, 1)
+}
+
+// Every bit turned where the sign is set, shifted, and turned back.
+fn signed_shift(
+    alloc: Global,
+    front: &Text,
+    first: u32,
+    width: u32,
+    a: &Atom,
+    b: &Atom,
+) -> Result<Vec<Driver>, AllocError>
+    requires { width ≤ 64 }
+    ensures { IfOk result (λ v. v.items ≡ shifted_right_lem true front.now first width a.now b.now) }
+{
+    let second = next(first)?;
+    let third = next(second)?;
+    let fourth = next(third)?;
+    let mut drivers = one(alloc, width, Value::Invert(copy(alloc, a)?))?;
+    let turned = choose(
+        sign_of(alloc, width, a)?,
+        wire(alloc, front, first)?,
+        copy(alloc, a)?,
+    );
+    drivers.push((width, turned))?;
+    let count = shift_count(alloc, width, b)?;
+    let shifted = binary(wire(alloc, front, second)?, BinaryOp::ShiftRight, count);
+    drivers.push((width, shifted))?;
+    drivers.push((width, Value::Invert(wire(alloc, front, third)?)))?;
+    let back = choose(
+        sign_of(alloc, width, a)?,
+        wire(alloc, front, fourth)?,
+        wire(alloc, front, third)?,
+    );
+    drivers.push((width, back))?;
+    Ok(drivers)
+}
+
+pub(crate) fn shifted_right(
+    alloc: Global,
+    signed: bool,
+    front: &Text,
+    first: u32,
+    width: u32,
+    a: &Atom,
+    b: &Atom,
+) -> Result<Vec<Driver>, AllocError>
+    requires { width ≤ 64 }
+    ensures { IfOk result (λ v. v.items ≡ shifted_right_lem signed front.now first width a.now b.now) }
+{
+    if signed {
+        return signed_shift(alloc, front, first, width, a, b);
+    }
+    let count = shift_count(alloc, width, b)?;
+    let shifted = binary(copy(alloc, a)?, BinaryOp::ShiftRight, count);
+    one(alloc, width, shifted)
+}
+
+// The absolute value of a literal.
+fn absolute(alloc: Global, width: u32, b: &Atom) -> Result<Atom, AllocError>
+    requires { width ≤ 64 }
+    ensures { IfOk result (λ a. a ≡ absolute_lem width b.now) }
+{
+    match b {
+        Atom::Net(_) => copy(alloc, b),
+        Atom::Part { .. } => copy(alloc, b),
+        Atom::Literal { width: bits, value } => {
+            if *value < half(width) {
+                Ok(literal(*bits, *value))
+            } else {
+                Ok(literal(*bits, power(width).saturating_sub(*value)))
+            }
+        }
+    }
+}
+
+/// Whether a literal is negative.
+pub(crate) fn is_negative(width: u32, b: &Atom) -> bool
+    requires { width ≤ 64 }
+    ensures { result ≡ is_negative_lem width b.now }
+{
+    match b {
+        Atom::Net(_) => false,
+        Atom::Part { .. } => false,
+        Atom::Literal { value, .. } => half(width) <= *value,
+    }
+}
+
+// The sign of the dividend chooses between a wire and its opposite.
+fn sign_back(
+    alloc: Global,
+    back: bool,
+    width: u32,
+    a: &Atom,
+    same: Atom,
+    opposite: Atom,
+) -> Result<Value, AllocError>
+    requires { width ≤ 64 }
+    ensures { IfOk result (λ v. v ≡ Choose (sign_of_lem width a.now) (if back then same else opposite) (if back then opposite else same)) }
+{
+    let sign = sign_of(alloc, width, a)?;
+    if back {
+        Ok(choose(sign, same, opposite))
+    } else {
+        Ok(choose(sign, opposite, same))
+    }
+}
+
+// Division on absolute values, and the sign back: a quotient's by both signs, a remainder's by the dividend's.
+fn signed_division(
+    alloc: Global,
+    op: BinaryOp,
+    back: bool,
+    front: &Text,
+    first: u32,
+    width: u32,
+    a: &Atom,
+    b: &Atom,
+) -> Result<Vec<Driver>, AllocError>
+    requires { width ≤ 64 }
+    ensures { IfOk result (λ v. v.items ≡ divided_lem true op back front.now first width a.now b.now) }
+{
+    let second = next(first)?;
+    let third = next(second)?;
+    let fourth = next(third)?;
+    let negated = binary(literal(width, 0), BinaryOp::Minus, copy(alloc, a)?);
+    let mut drivers = one(alloc, width, negated)?;
+    let dividend = choose(
+        sign_of(alloc, width, a)?,
+        wire(alloc, front, first)?,
+        copy(alloc, a)?,
+    );
+    drivers.push((width, dividend))?;
+    let divisor = absolute(alloc, width, b)?;
+    let divided = binary(wire(alloc, front, second)?, op, divisor);
+    drivers.push((width, divided))?;
+    let opposite = binary(
+        literal(width, 0),
+        BinaryOp::Minus,
+        wire(alloc, front, third)?,
+    );
+    drivers.push((width, opposite))?;
+    let same = wire(alloc, front, third)?;
+    let other = wire(alloc, front, fourth)?;
+    drivers.push((width, sign_back(alloc, back, width, a, same, other)?))?;
+    Ok(drivers)
+}
+
+pub(crate) fn divided(
+    alloc: Global,
+    signed: bool,
+    op: BinaryOp,
+    back: bool,
+    front: &Text,
+    first: u32,
+    width: u32,
+    a: &Atom,
+    b: &Atom,
+) -> Result<Vec<Driver>, AllocError>
+    requires { width ≤ 64 }
+    ensures { IfOk result (λ v. v.items ≡ divided_lem signed op back front.now first width a.now b.now) }
+{
+    if signed {
+        return signed_division(alloc, op, back, front, first, width, a, b);
+    }
+    let quotient = binary(copy(alloc, a)?, op, copy(alloc, b)?);
+    one(alloc, width, quotient)
+}

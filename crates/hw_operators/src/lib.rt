@@ -1,0 +1,12 @@
+//! Each operator of a task's expressions as drivers of wires, one after another.
+#![tactic(auto)]
+
+mod arithmetic;
+mod comparisons;
+mod conversions;
+mod drivers;
+mod operations;
+
+pub use conversions::conversion;
+pub use drivers::{Driver, last, one};
+pub use operations::operation;

@@ -1,0 +1,4 @@
+pub mod Shapes
+pub mod ReadCounts
+pub mod FirstStates
+pub mod StateWires

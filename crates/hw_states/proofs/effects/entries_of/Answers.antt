@@ -1,0 +1,18 @@
+use Rattle.std.proofs.Common.{◌≡◌, ◌++◌, sym, ap, ◌∙◌, arith}
+use Rattle.hw_lists.specs.Scope.{each}
+use Rattle.task_law.specs.Shape.{state_count}
+use Rattle.task_law.specs.Effects.{effect}
+use Rattle.hw_atoms.proofs.Grows.{each_next}
+use Rattle.hw_states.specs.Shapes.{form}
+use Rattle.hw_states.proofs.effects.entries_of.Goals as goal
+
+pub loop-k-preserved : goal.loop-k-preserved
+loop-k-preserved c =
+    let f = effect (form c.args.shape.now) c.args.choice in
+    c.in_ok-add_effect.ensures ∙ ap (λ xs. xs ++ f c.loop-k.k) c.loop-k.invariant ∙ sym (each_next f c.loop-k.k)
+
+pub returns : goal.returns
+returns c =
+    let S = form c.args.shape.now in
+    let all : c.loop-k.k ≡ state_count S = omega (arith, c.in_ok-count.ensures) in
+    c.loop-k.invariant ∙ ap (each (effect S c.args.choice)) all

@@ -1,0 +1,457 @@
+// What each state gives a choice.
+
+ghost use Rattle.std.specs.Prelude.{◌≡◌, ◌<◌, ◌++◌, IfOk};
+ghost use Rattle.task_fsm.specs.Machine.{form_of};
+ghost use Rattle.task_law.specs.declared.nets.Net.TheVariants.{At};
+ghost use Rattle.task_law.specs.Shape.{form_at, state_count};
+ghost use Rattle.task_law.specs.Effects.{askings, at, contents, datum_of as datum_of_lem, effect as effect_lem, end_token, endings, entries as entries_lem, entry, eot_of, into_register, places, savings, sets, takings, tokens};
+ghost use Rattle.task_law.specs.States.{next_atom};
+ghost use Rattle.hw_choices.specs.Entries.{entries_in, entry_forms};
+ghost use Rattle.hw_states.specs.ByState.{IsByState};
+ghost use Rattle.hw_states.specs.Operands.{AreOperands, IsOperands};
+ghost use Rattle.hw_states.specs.Shapes.{form};
+
+use crate::operands::{Operands, operands_of};
+use crate::shape::Shape;
+use crate::states::number_of;
+use hw_atoms::{bits, copy, literal, low_bits, name, net, power};
+use hw_choices::{Entry, add_found, entry_of};
+use std::alloc::{AllocError, Global};
+use task_fsm::State;
+use task_law::{Choice, Net};
+use vlog_tree::Atom;
+
+// The datum of a token.
+fn datum_of(alloc: Global, shape: &Shape, stream: u32) -> Result<Atom, AllocError>
+    ensures { IfOk result (λ a. a ≡ datum_of_lem (form shape.now) stream) }
+{
+    Ok(Atom::Part {
+        net: name(alloc, Net::Dout(stream))?,
+        high: bits(shape.stream_kind(stream)).saturating_sub(1),
+        low: 0,
+    })
+}
+
+/// Whether a token is the end of a transaction.
+pub fn end_of_transaction(alloc: Global, shape: &Shape, stream: u32) -> Result<Atom, AllocError>
+    ensures { IfOk result (λ a. a ≡ eot_of (form shape.now) stream) }
+{
+    let top = bits(shape.stream_kind(stream));
+    Ok(Atom::Part {
+        net: name(alloc, Net::Dout(stream))?,
+        high: top,
+        low: top,
+    })
+}
+
+// The token of an end of a transaction.
+fn end_of(shape: &Shape, stream: u32) -> Atom
+    ensures { result ≡ end_token (form shape.now) stream }
+{
+    let datum = bits(shape.stream_kind(stream));
+    literal(shape.token_bits(stream), power(datum))
+}
+
+// An entry for one thing of its sort alone.
+fn entry_at(
+    alloc: Global,
+    x: u32,
+    y: u32,
+    condition: Net,
+    value: Atom,
+) -> Result<Option<Entry>, AllocError>
+    ensures { IfOk result (λ o. entries_in o ≡ at x y (entry condition value)) }
+{
+    if x == y {
+        entry_of(alloc, condition, value)
+    } else {
+        Ok(None)
+    }
+}
+
+fn entry_into(
+    alloc: Global,
+    into: Option<u32>,
+    r: u32,
+    condition: Net,
+    value: Atom,
+) -> Result<Option<Entry>, AllocError>
+    ensures { IfOk result (λ o. entries_in o ≡ into_register into r (entry condition value)) }
+{
+    match into {
+        None => Ok(None),
+        Some(x) => entry_at(alloc, x, r, condition, value),
+    }
+}
+
+// Register r.
+fn sets(
+    alloc: Global,
+    shape: &Shape,
+    r: u32,
+    k: u32,
+    state: &State,
+    operands: &Operands,
+) -> Result<Option<Entry>, AllocError>
+    requires { IsOperands (form shape.now) k operands.now }
+    ensures { IfOk result (λ o. entries_in o ≡ sets (form shape.now) r k (form_of state.now)) }
+{
+    match state {
+        State::Set { reg, .. } => {
+            let value = copy(alloc, &operands.value)?;
+            entry_at(alloc, *reg, r, Net::At(k), value)
+        }
+        State::Cell { .. } => Ok(None),
+        State::Test { .. } => Ok(None),
+        State::Read { stream, into, .. } => {
+            let value = datum_of(alloc, shape, *stream)?;
+            entry_into(alloc, *into, r, Net::Go(k), value)
+        }
+        State::Write { .. } => Ok(None),
+        State::Peek { stream, into, .. } => {
+            let value = datum_of(alloc, shape, *stream)?;
+            entry_into(alloc, *into, r, Net::Go(k), value)
+        }
+        State::Eot { stream, into, .. } => {
+            let value = end_of_transaction(alloc, shape, *stream)?;
+            entry_into(alloc, *into, r, Net::Go(k), value)
+        }
+        State::Open { .. } => Ok(None),
+        State::Close { .. } => Ok(None),
+        State::Load { memory, into, .. } => {
+            let value = net(alloc, Net::Rdata(*memory))?;
+            entry_into(alloc, *into, r, Net::Go(k), value)
+        }
+        State::Store { .. } => Ok(None),
+        State::Clear { count, .. } => {
+            let value = net(alloc, Net::Value(k, 2))?;
+            entry_at(alloc, *count, r, Net::At(k), value)
+        }
+        State::End => Ok(None),
+        State::Trap => Ok(None),
+    }
+}
+
+// Where array a is written.
+fn places(
+    alloc: Global,
+    shape: &Shape,
+    a: u32,
+    k: u32,
+    state: &State,
+    operands: &Operands,
+) -> Result<Option<Entry>, AllocError>
+    requires { IsOperands (form shape.now) k operands.now }
+    ensures { IfOk result (λ o. entries_in o ≡ places (form shape.now) a k (form_of state.now)) }
+{
+    match state {
+        State::Set { .. } => Ok(None),
+        State::Cell { array, .. } => {
+            let place = low_bits(alloc, shape.index_bits(a), &operands.index)?;
+            entry_at(alloc, *array, a, Net::Into(k), place)
+        }
+        State::Test { .. } => Ok(None),
+        State::Read { .. } => Ok(None),
+        State::Write { .. } => Ok(None),
+        State::Peek { .. } => Ok(None),
+        State::Eot { .. } => Ok(None),
+        State::Open { .. } => Ok(None),
+        State::Close { .. } => Ok(None),
+        State::Load { .. } => Ok(None),
+        State::Store { .. } => Ok(None),
+        State::Clear { array, count, .. } => {
+            let counter = net(alloc, Net::Variable(*count))?;
+            let place = low_bits(alloc, shape.index_bits(a), &counter)?;
+            entry_at(alloc, *array, a, Net::Into(k), place)
+        }
+        State::End => Ok(None),
+        State::Trap => Ok(None),
+    }
+}
+
+// And what is written there.
+fn contents(
+    alloc: Global,
+    shape: &Shape,
+    a: u32,
+    k: u32,
+    state: &State,
+    operands: &Operands,
+) -> Result<Option<Entry>, AllocError>
+    requires { IsOperands (form shape.now) k operands.now }
+    ensures { IfOk result (λ o. entries_in o ≡ contents (form shape.now) a k (form_of state.now)) }
+{
+    match state {
+        State::Set { .. } => Ok(None),
+        State::Cell { array, .. } => {
+            let value = copy(alloc, &operands.value)?;
+            entry_at(alloc, *array, a, Net::Into(k), value)
+        }
+        State::Test { .. } => Ok(None),
+        State::Read { .. } => Ok(None),
+        State::Write { .. } => Ok(None),
+        State::Peek { .. } => Ok(None),
+        State::Eot { .. } => Ok(None),
+        State::Open { .. } => Ok(None),
+        State::Close { .. } => Ok(None),
+        State::Load { .. } => Ok(None),
+        State::Store { .. } => Ok(None),
+        State::Clear { array, .. } => {
+            let zero = literal(bits(shape.array_kind(a)), 0);
+            entry_at(alloc, *array, a, Net::Into(k), zero)
+        }
+        State::End => Ok(None),
+        State::Trap => Ok(None),
+    }
+}
+
+// The token for stream s.
+fn tokens(
+    alloc: Global,
+    shape: &Shape,
+    s: u32,
+    k: u32,
+    state: &State,
+) -> Result<Option<Entry>, AllocError>
+    ensures { IfOk result (λ o. entries_in o ≡ tokens (form shape.now) s k (form_of state.now)) }
+{
+    match state {
+        State::Set { .. } => Ok(None),
+        State::Cell { .. } => Ok(None),
+        State::Test { .. } => Ok(None),
+        State::Read { .. } => Ok(None),
+        State::Write { stream, .. } => {
+            let token = net(alloc, Net::Packed(k))?;
+            entry_at(alloc, *stream, s, Net::At(k), token)
+        }
+        State::Peek { .. } => Ok(None),
+        State::Eot { .. } => Ok(None),
+        State::Open { .. } => Ok(None),
+        State::Close { stream, .. } => { entry_at(alloc, *stream, s, Net::At(k), end_of(shape, s)) }
+        State::Load { .. } => Ok(None),
+        State::Store { .. } => Ok(None),
+        State::Clear { .. } => Ok(None),
+        State::End => Ok(None),
+        State::Trap => Ok(None),
+    }
+}
+
+// Whether a token of stream s is taken.
+fn takings(
+    alloc: Global,
+    shape: &Shape,
+    s: u32,
+    k: u32,
+    state: &State,
+) -> Result<Option<Entry>, AllocError>
+    ensures { IfOk result (λ o. entries_in o ≡ takings (form shape.now) s k (form_of state.now)) }
+{
+    match state {
+        State::Set { .. } => Ok(None),
+        State::Cell { .. } => Ok(None),
+        State::Test { .. } => Ok(None),
+        State::Read { stream, .. } => { entry_at(alloc, *stream, s, Net::Go(k), literal(1, 1)) }
+        State::Write { .. } => Ok(None),
+        State::Peek { .. } => Ok(None),
+        State::Eot { .. } => Ok(None),
+        State::Open { stream, .. } => { entry_at(alloc, *stream, s, Net::Go(k), literal(1, 1)) }
+        State::Close { .. } => Ok(None),
+        State::Load { .. } => Ok(None),
+        State::Store { .. } => Ok(None),
+        State::Clear { .. } => Ok(None),
+        State::End => Ok(None),
+        State::Trap => Ok(None),
+    }
+}
+
+// Where memory m is asked.
+fn askings(
+    alloc: Global,
+    shape: &Shape,
+    m: u32,
+    k: u32,
+    state: &State,
+    operands: &Operands,
+) -> Result<Option<Entry>, AllocError>
+    requires { IsOperands (form shape.now) k operands.now }
+    ensures { IfOk result (λ o. entries_in o ≡ askings (form shape.now) m k (form_of state.now)) }
+{
+    match state {
+        State::Set { .. } => Ok(None),
+        State::Cell { .. } => Ok(None),
+        State::Test { .. } => Ok(None),
+        State::Read { .. } => Ok(None),
+        State::Write { .. } => Ok(None),
+        State::Peek { .. } => Ok(None),
+        State::Eot { .. } => Ok(None),
+        State::Open { .. } => Ok(None),
+        State::Close { .. } => Ok(None),
+        State::Load { memory, .. } => {
+            let index = copy(alloc, &operands.index)?;
+            entry_at(alloc, *memory, m, Net::At(k), index)
+        }
+        State::Store { memory, .. } => {
+            let index = copy(alloc, &operands.index)?;
+            entry_at(alloc, *memory, m, Net::At(k), index)
+        }
+        State::Clear { .. } => Ok(None),
+        State::End => Ok(None),
+        State::Trap => Ok(None),
+    }
+}
+
+// What is stored in memory m.
+fn savings(
+    alloc: Global,
+    shape: &Shape,
+    m: u32,
+    k: u32,
+    state: &State,
+    operands: &Operands,
+) -> Result<Option<Entry>, AllocError>
+    requires { IsOperands (form shape.now) k operands.now }
+    ensures { IfOk result (λ o. entries_in o ≡ savings (form shape.now) m k (form_of state.now)) }
+{
+    match state {
+        State::Set { .. } => Ok(None),
+        State::Cell { .. } => Ok(None),
+        State::Test { .. } => Ok(None),
+        State::Read { .. } => Ok(None),
+        State::Write { .. } => Ok(None),
+        State::Peek { .. } => Ok(None),
+        State::Eot { .. } => Ok(None),
+        State::Open { .. } => Ok(None),
+        State::Close { .. } => Ok(None),
+        State::Load { .. } => Ok(None),
+        State::Store { memory, .. } => {
+            let value = copy(alloc, &operands.value)?;
+            entry_at(alloc, *memory, m, Net::At(k), value)
+        }
+        State::Clear { .. } => Ok(None),
+        State::End => Ok(None),
+        State::Trap => Ok(None),
+    }
+}
+
+// Whether End is made.
+fn endings(alloc: Global, k: u32, state: &State) -> Result<Option<Entry>, AllocError>
+    ensures { IfOk result (λ o. entries_in o ≡ endings k (form_of state.now)) }
+{
+    match state {
+        State::Set { .. } => Ok(None),
+        State::Cell { .. } => Ok(None),
+        State::Test { .. } => Ok(None),
+        State::Read { .. } => Ok(None),
+        State::Write { .. } => Ok(None),
+        State::Peek { .. } => Ok(None),
+        State::Eot { .. } => Ok(None),
+        State::Open { .. } => Ok(None),
+        State::Close { .. } => Ok(None),
+        State::Load { .. } => Ok(None),
+        State::Store { .. } => Ok(None),
+        State::Clear { .. } => Ok(None),
+        State::End => entry_of(alloc, Net::At(k), literal(1, 1)),
+        State::Trap => Ok(None),
+    }
+}
+
+// The number of the next state.
+fn next_of(alloc: Global, shape: &Shape, k: u32, state: &State) -> Result<Atom, AllocError>
+    ensures { IfOk result (λ a. a ≡ next_atom (form shape.now) k (form_of state.now)) }
+{
+    match state {
+        State::Set { next, .. } => number_of(shape, *next),
+        State::Cell { next, .. } => number_of(shape, *next),
+        State::Test { .. } => net(alloc, Net::Next(k)),
+        State::Read { .. } => net(alloc, Net::Next(k)),
+        State::Write { .. } => net(alloc, Net::Next(k)),
+        State::Peek { .. } => net(alloc, Net::Next(k)),
+        State::Eot { .. } => net(alloc, Net::Next(k)),
+        State::Open { .. } => net(alloc, Net::Next(k)),
+        State::Close { .. } => net(alloc, Net::Next(k)),
+        State::Load { .. } => net(alloc, Net::Next(k)),
+        State::Store { .. } => net(alloc, Net::Next(k)),
+        State::Clear { .. } => net(alloc, Net::Next(k)),
+        State::End => number_of(shape, k),
+        State::Trap => number_of(shape, k),
+    }
+}
+
+// Where the state leads.
+fn leading(alloc: Global, shape: &Shape, k: u32, state: &State) -> Result<Option<Entry>, AllocError>
+    ensures { IfOk result (λ o. entries_in o ≡ entry (At k) (next_atom (form shape.now) k (form_of state.now))) }
+{
+    let next = next_of(alloc, shape, k, state)?;
+    entry_of(alloc, Net::At(k), next)
+}
+
+fn effect(
+    alloc: Global,
+    shape: &Shape,
+    choice: Choice,
+    k: u32,
+    state: &State,
+    operands: &Operands,
+) -> Result<Option<Entry>, AllocError>
+    requires by_state { IsByState choice }
+    requires form { form_of state.now ≡ form_at (form shape.now) k }
+    requires operands { IsOperands (form shape.now) k operands.now }
+    ensures { IfOk result (λ o. entries_in o ≡ effect_lem (form shape.now) choice k) }
+{
+    match choice {
+        Choice::ToState => leading(alloc, shape, k, state),
+        Choice::ToEnd => endings(alloc, k, state),
+        Choice::Set(r) => sets(alloc, shape, r, k, state, operands),
+        Choice::In(r) => sets(alloc, shape, r, k, state, operands),
+        Choice::Stores(a) => places(alloc, shape, a, k, state, operands),
+        Choice::Place(a) => places(alloc, shape, a, k, state, operands),
+        Choice::Content(a) => contents(alloc, shape, a, k, state, operands),
+        Choice::Reads(_, _) => Ok(None),
+        Choice::Spot(_, _) => Ok(None),
+        Choice::Puts(s) => tokens(alloc, shape, s, k, state),
+        Choice::Token(s) => tokens(alloc, shape, s, k, state),
+        Choice::Takes(s) => takings(alloc, shape, s, k, state),
+        Choice::Asks(m) => askings(alloc, shape, m, k, state, operands),
+        Choice::Saves(m) => savings(alloc, shape, m, k, state, operands),
+        Choice::Data(m) => savings(alloc, shape, m, k, state, operands),
+    }
+}
+
+// Adds what a state gives a choice.
+fn add_effect(
+    alloc: Global,
+    shape: &Shape,
+    choice: Choice,
+    k: u32,
+    operands: &[Operands],
+    found: &mut Vec<Entry>,
+) -> Result<(), AllocError>
+    requires by_state { IsByState choice }
+    requires below { k < state_count (form shape.now) }
+    requires operands { AreOperands (form shape.now) operands.now (state_count (form shape.now)) }
+    ensures { IfOk result (λ u. entry_forms found.new.items ≡ entry_forms found.old.items ++ effect_lem (form shape.now) choice k) }
+{
+    let state = shape.state(k);
+    let atoms = operands_of(shape, operands, k);
+    let entry = effect(alloc, shape, choice, k, state, atoms)?;
+    add_found(found, entry)
+}
+
+/// What all states give a choice.
+pub fn entries_of(
+    alloc: Global,
+    shape: &Shape,
+    choice: Choice,
+    operands: &[Operands],
+) -> Result<Vec<Entry>, AllocError>
+    requires by_state { IsByState choice }
+    requires operands { AreOperands (form shape.now) operands.now (state_count (form shape.now)) }
+    ensures { IfOk result (λ v. entry_forms v.items ≡ entries_lem (form shape.now) choice) }
+{
+    let mut found = Vec::new(alloc);
+    let count = shape.state_count()?;
+    for k in 0..count {
+        add_effect(alloc, shape, choice, k, operands, &mut found)?;
+    }
+    Ok(found)
+}

@@ -1,0 +1,2 @@
+pub mod ReadPorts
+pub mod BlockSteps

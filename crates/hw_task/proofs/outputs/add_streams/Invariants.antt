@@ -1,0 +1,9 @@
+use Rattle.std.proofs.Common.{◌≡◌}
+use Rattle.hw_build.specs.Elements.{with_all}
+use Rattle.hw_lists.specs.Scope.{each}
+use Rattle.task_law.specs.Texts.{stream_outputs}
+use Rattle.hw_states.specs.Shapes.{form}
+use Rattle.hw_task.proofs.outputs.add_streams.Given as goal
+
+abbrev pub invariant-loop-s : goal.invariant-loop-s
+invariant-loop-s l = l.draft ≡ with_all l.initial.draft (each (stream_outputs (form l.shape)) l.s)

@@ -1,0 +1,13 @@
+use Rattle.std.proofs.Common.{◌≡◌, length, arith}
+use Rattle.task_law.specs.Texts.{offered}
+use Rattle.hw_atoms.proofs.Grows.{each_more, each_end}
+use Rattle.hw_states.specs.Shapes.{form}
+use Rattle.hw_task.proofs.ports.add_offers.Goals as goal
+
+pub loop-s-preserved : goal.loop-s-preserved
+loop-s-preserved c = each_more c.args.draft.now c.loop-s.draft c.add_offered.new.draft (offered (form c.args.shape.now)) c.loop-s.s c.loop-s.invariant c.in_ok-add_offered.ensures
+
+pub returns : goal.returns
+returns c =
+    let all : c.loop-s.s ≡ length (form c.args.shape.now).streams = omega (arith, c.in_ok-count.ensures) in
+    each_end c.args.draft.now c.loop-s.draft (offered (form c.args.shape.now)) c.loop-s.s (length (form c.args.shape.now).streams) all c.loop-s.invariant

@@ -1,0 +1,13 @@
+use Rattle.std.proofs.Common.{◌≡◌, length, arith}
+use Rattle.task_law.specs.Texts.{variable}
+use Rattle.hw_atoms.proofs.Grows.{each_more, each_end}
+use Rattle.hw_states.specs.Shapes.{form}
+use Rattle.hw_task.proofs.ports.add_variables.Goals as goal
+
+pub loop-r-preserved : goal.loop-r-preserved
+loop-r-preserved c = each_more c.args.draft.now c.loop-r.draft c.add_variable.new.draft (variable (form c.args.shape.now)) c.loop-r.r c.loop-r.invariant c.in_ok-add_variable.ensures
+
+pub returns : goal.returns
+returns c =
+    let all : c.loop-r.r ≡ length (form c.args.shape.now).registers = omega (arith, c.in_ok-count.ensures) in
+    each_end c.args.draft.now c.loop-r.draft (variable (form c.args.shape.now)) c.loop-r.r (length (form c.args.shape.now).registers) all c.loop-r.invariant

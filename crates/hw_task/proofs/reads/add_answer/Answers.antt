@@ -1,0 +1,15 @@
+use Rattle.std.proofs.Common.{ap, ◌∙◌}
+use Rattle.hw_build.specs.Elements.{with_all}
+use Rattle.hw_lists.specs.Choices.{pick_elements}
+use Rattle.task_law.specs.declared.nets.Choice.TheVariants.{Spot}
+use Rattle.task_law.specs.Nets.{front}
+use Rattle.hw_choices.specs.Entries.{entry_forms}
+use Rattle.hw_states.specs.Shapes.{form}
+use Rattle.hw_task.proofs.ReadPorts.{answered_grows}
+use Rattle.hw_task.proofs.reads.add_answer.Goals as goal
+
+pub returns : goal.returns
+returns c =
+    let E = entry_forms c.args.found.now in
+    answered_grows (form c.args.shape.now) c.args.p c.args.a E c.args.draft.now c.add_any.new.draft c.add_pick.new.draft c.add_cell.new.draft c.requires c.in_ok-add_any.ensures
+    (c.in_ok-add_pick.ensures ∙ ap (λ w. with_all c.add_any.new.draft (pick_elements w (front (Spot c.args.p c.args.a)) E)) c.index_bits-width.ensures.value) c.in_ok-add_cell.ensures

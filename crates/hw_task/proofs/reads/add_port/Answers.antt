@@ -1,0 +1,17 @@
+use Rattle.std.proofs.Common.{arith}
+use Rattle.task_law.specs.declared.nets.Choice.TheVariants.{Reads}
+use Rattle.task_law.specs.Effects.{entries}
+use Rattle.task_law.specs.Texts.{answered}
+use Rattle.hw_states.specs.Shapes.{form}
+use Rattle.hw_task.proofs.BlockSteps.{stands_not, stands}
+use Rattle.hw_task.proofs.reads.add_port.Goals as goal
+
+pub returns-then-count-eq0 : goal.returns-then-count-eq0
+returns-then-count-eq0 c =
+    let S = form c.args.shape.now in
+    stands_not c.args.found.now (entries S (Reads c.args.p c.args.a)) (answered S c.args.p c.args.a) c.args.draft.now (omega arith) c.requires
+
+pub returns : goal.returns
+returns c =
+    let S = form c.args.shape.now in
+    stands c.args.found.now (entries S (Reads c.args.p c.args.a)) (answered S c.args.p c.args.a) c.args.draft.now c.add_answer.new.draft c.if-count-eq0.false c.requires c.in_ok-add_answer.ensures

@@ -1,0 +1,31 @@
+use Rattle.std.proofs.Common.{List, [], ◌∷◌, ap, subst, ◌∙◌}
+use Rattle.tapa_base.specs.declared.kind.Kind.TheVariants.{U64}
+use Rattle.vlog_tree.specs.declared.tree.Atom.{Atom}
+use Rattle.vlog_tree.specs.declared.tree.Atom.TheVariants.{Literal}
+use Rattle.vlog_tree.specs.declared.tree.BinaryOp.TheVariants.{And, Less}
+use Rattle.vlog_tree.specs.declared.tree.Value.TheVariants.{Binary}
+use Rattle.hw_build.specs.Elements.{Element, Wire, with_all}
+use Rattle.task_fsm.specs.Machine.{expression_of}
+use Rattle.task_law.specs.declared.nets.Net.TheVariants.{At, ReadInside, ReadOn}
+use Rattle.task_law.specs.Nets.{name}
+use Rattle.task_law.specs.Shape.{array_cells}
+use Rattle.task_law.specs.States.{net}
+use Rattle.task_law.specs.Wires.{Compiled, compiled}
+use Rattle.task_law.specs.Texts.{read_index}
+use Rattle.hw_atoms.proofs.Grows.{both}
+use Rattle.hw_expressions.specs.Grown.{Grows}
+use Rattle.hw_expressions.specs.Reads.{read_form}
+use Rattle.hw_states.specs.Shapes.{form}
+use Rattle.hw_task.proofs.reads.add_read.Goals as goal
+
+pub returns-clause-draft : goal.returns-clause-draft
+returns-clause-draft c =
+    let r = c.args.read.now in
+    let p = c.args.p in
+    let k = c.args.k in
+    let C : Compiled = read_index p k (read_form r) in
+    let g : Grows c.args.draft.now c.compile.new.draft c.in_ok-wires.wires C =
+    subst (λ f. Grows c.args.draft.now c.compile.new.draft c.in_ok-wires.wires (compiled f r.first 0 U64 (expression_of r.index.now))) c.in_ok-front.ensures c.in_ok-wires.ensures in
+    let wires : Atom → List Element =
+    λ (a : Atom). Wire 1 (name (ReadInside k p)) (Binary a Less (Literal 64 (array_cells (form c.args.shape.now) r.array))) ∷ Wire 1 (name (ReadOn k p)) (Binary (net (At k)) And (net (ReadInside k p))) ∷ [] in
+    both c.args.draft.now c.compile.new.draft c.add_inside.new.draft C.elements (wires C.atom) g.elements (c.in_ok-add_inside.ensures ∙ ap (λ a. with_all c.compile.new.draft (wires a)) g.atom)

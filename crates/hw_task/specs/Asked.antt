@@ -1,0 +1,27 @@
+-- What the reads with one number ask for, state by state.
+use Rattle.std.specs.Prelude.{◌≡◌, ℕ, List, [], ◌∷◌, map, Option, option_map, slice_get}
+use Rattle.vlog_tree.specs.declared.tree.Atom.{Atom}
+use Rattle.hw_build.specs.Elements.{Element}
+use Rattle.hw_lists.specs.Scope.{each}
+use Rattle.task_law.specs.declared.nets.Choice.TheVariants.{Reads}
+use Rattle.task_law.specs.Shape.{Shape}
+use Rattle.task_law.specs.States.{reads_at}
+use Rattle.task_law.specs.Wires.{ArrayRead}
+use Rattle.task_law.specs.Effects.{entries}
+use Rattle.task_law.specs.Texts.{read_index, answered, unless_none}
+use Rattle.hw_task.specs.declared.reads.Asked.{Asked}
+
+-- the array and the atom of the index
+abbrev pub asked_form : Option Asked → Option (ℕ × Atom)
+asked_form o = option_map (λ (x : Asked). (x.array, x.index)) o
+
+abbrev pub asked_at : Shape → ℕ → ℕ → Option (ℕ × Atom)
+asked_at S p k = option_map (λ (r : ArrayRead). (r.array, (read_index p k r).atom)) (slice_get (reads_at S k) p)
+
+-- in the first n states
+pub record AreAsked (S : Shape) (p : ℕ) (asked : List (Option Asked)) (n : ℕ) : Type 0 where
+  pub forms : map asked_form asked ≡ each (λ k. asked_at S p k ∷ []) n
+
+-- the port of a number and an array, if something is read there
+abbrev pub port_of : Shape → ℕ → ℕ → List Element
+port_of S p a = unless_none (entries S (Reads p a)) (answered S p a)
