@@ -1,0 +1,5 @@
+pub mod Walking
+pub mod Putting
+pub mod Storing
+pub mod Stepping
+pub mod Readying

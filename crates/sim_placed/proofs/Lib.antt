@@ -1,0 +1,7 @@
+pub mod Parts
+pub mod Driving
+pub mod Joining
+pub mod Answering
+pub mod Owning
+pub mod Telling
+pub mod Giving
