@@ -1,2 +1,3 @@
 pub mod ReadPorts
 pub mod BlockSteps
+pub mod Promise
