@@ -1,0 +1,14 @@
+pub mod Ascii
+pub mod Capped
+pub mod NumberWords
+pub mod IsRead
+pub mod Folded
+pub mod HeadReads
+pub mod ItemReads
+pub mod AtomReads
+pub mod ValueReads
+pub mod BlockReads
+pub mod ReaderReads
+pub mod Alive
+pub mod Behind
+pub mod Formed

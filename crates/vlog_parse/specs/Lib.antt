@@ -1,0 +1,5 @@
+pub mod Coming
+pub mod Numerals
+pub mod Reading
+pub mod Finishing
+pub mod Refused

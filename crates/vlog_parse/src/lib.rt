@@ -1,0 +1,9 @@
+//! The tree of the words of a text of the Verilog subset, read word by word, or the first word that no design goes on with.
+#![tactic(auto)]
+
+mod coming;
+mod design;
+mod listed;
+mod state;
+
+pub use design::{ParseFault, parse};

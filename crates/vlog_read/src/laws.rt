@@ -1,0 +1,30 @@
+// Laws on what is read.
+
+ghost use Rattle.std.specs.Prelude.{◌≡◌, List, ℕ};
+ghost use Rattle.tapa_base.specs.declared.text.Place.{Place as PlaceTree};
+ghost use Rattle.vlog_tree.specs.declared.fault.VFault.{VFault as VFaultTree};
+ghost use Rattle.vlog_tree.specs.declared.fault.VFault.TheVariants as fault;
+ghost use Rattle.vlog_tree.specs.Refused.{IsDesign};
+ghost use Rattle.vlog_tree.specs.Spelling.{spelling};
+ghost use Rattle.vlog_grammar.specs.Grammar.{HasTree};
+ghost use Rattle.vlog_design.specs.Designs.{DesignTree};
+ghost use Rattle.vlog_read.specs.Texts.{IsRefusedAt, RefusesText};
+
+use vlog_grammar::{law_design_is_its_text, law_one_tree};
+use vlog_tree::law_design_is_not_refused;
+
+/// A text is refused at one place at most.
+pub fn law_one_place()
+    ensures { (text : List ℕ) (place other : PlaceTree) → IsRefusedAt text place → IsRefusedAt text other → place ≡ other }
+{}
+
+/// What is printed of a design is read as that design, with its top: the text has no other tree, and nothing but want of memory
+/// stands against it.
+pub fn law_printed()
+    ensures same { (d e : DesignTree) → IsDesign d.modules d.top → IsDesign e.modules e.top → HasTree (spelling d.modules) e.modules → e ≡ d }
+    ensures taken { (d : DesignTree) (e : VFaultTree) → IsDesign d.modules d.top → RefusesText (spelling d.modules) e → e ≡ fault.OutOfMemory }
+{
+    law_design_is_its_text();
+    law_one_tree();
+    law_design_is_not_refused();
+}
