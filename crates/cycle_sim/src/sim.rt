@@ -4,7 +4,7 @@ ghost use Rattle.std.specs.Prelude.{◌≡◌, ℕ, [], Some, slice_get, slice_i
 ghost use Rattle.tapa_base.specs.declared.shape.Port.{Port as PortTree};
 ghost use Rattle.vlog_tree.specs.Environment.{streams_of, tokens};
 ghost use Rattle.vlog_ref_start.specs.Outside.{environment_of, lists_of};
-ghost use Rattle.cycle_sim.specs.Sims.{InRuns, IsFirst, IsLater, IsDoneAt, last_cycle};
+ghost use Rattle.cycle_sim.specs.Sims.{InRuns, IsFirst, IsLater, IsDoneAt, last_cycle, told_of};
 
 use std::alloc::{AllocError, Global};
 use std::marker::Model;
@@ -16,15 +16,17 @@ use vlog_ref_start::Surroundings;
 #[derive(Drop)]
 pub struct Sim {
     design: Design,
+    cells: Vec<Vec<u64>>,
 }
 
 impl Model for Sim {
     ghost use Rattle.std.specs.Prelude.{[]};
+    ghost use Rattle.vlog_ref_start.specs.Outside.{lists_of};
     ghost use Rattle.cycle_sim.specs.Sims.{SimTree};
 
     ghost Value = { SimTree };
 
-    ghost view = { λ s. record { design = s.design; told = record { cycle = 0; number = λ path x. 0; cell = λ path x a. 0; outside = λ i. [] }; ready = [] } };
+    ghost view = { λ s. record { design = s.design; cycle = 0; cells = lists_of s.cells.items; ready = [] } };
 }
 
 impl Sim {
@@ -42,9 +44,12 @@ impl Sim {
 
     /// The cells of a memory in this cycle, before its store.
     pub fn memory(&self, m: u32) -> &[u64]
-        ensures { result.now ≡ self.now.told.outside m }
+        ensures { result.now ≡ (told_of self.now).outside m }
     {
-        &[]
+        match self.cells.get(m as usize) {
+            Some(cells) => cells,
+            None => &[],
+        }
     }
 }
 
@@ -58,7 +63,7 @@ pub struct Carried {
 /// Steps until the design is done or to a cycle, and gives the tokens of the cycles from 1 on. The simulator stands in the last
 /// of these cycles.
 pub fn run_cycles(alloc: Global, sim: &mut Sim, limit: u64) -> Result<Carried, AllocError>
-    requires { sim.old.told.cycle ≡ 0 }
+    requires { sim.old.cycle ≡ 0 }
     ensures done { IfOk result (λ r. InRuns sim.old (λ m env nets. IsDoneAt (λ n. nets n []) limit r.done_at)) }
     ensures tokens { IfOk result (λ r. InRuns sim.old (λ m env nets. (place : ℕ) (l : PortTree) → slice_get (streams_of m) place ≡ Some l → tokens l.bits (λ n. nets n []) l.name (last_cycle limit r.done_at) ≡ slice_index_or (lists_of r.tokens.items) place [])) }
     ensures later { IfOk result (λ r. IsLater sim.old sim.new (last_cycle limit r.done_at)) }

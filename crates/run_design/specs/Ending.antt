@@ -8,6 +8,11 @@ use Rattle.run_design.specs.Reports.{IsSimulated}
 use Rattle.run_design.specs.declared.run.DesignEnd.{DesignEnd}
 use Rattle.run_design.specs.declared.run.DesignEnd.TheVariants.{Done, Running}
 
+-- a design that is done in a cycle, or in none
+abbrev pub end_of : Option ℕ → DesignEnd
+end_of None = Running
+end_of (Some at) = Done
+
 -- the design is done in one of the cycles, or in none, and the report was written
 abbrev pub EndsSo : DesignTree → Environment → ℕ → Option (List ℕ) → Option (List ℕ) → DesignEnd → Type 0
 EndsSo design env limit old new Done = (at : ℕ) × (report : List ℕ) × IsSimulated design env limit (Some at) report × Appends old new report

@@ -6,7 +6,8 @@ ghost use Rattle.vlog_tree.specs.Environment.{FitsShape, shape_of};
 ghost use Rattle.vlog_tree.specs.Form.{ModuleTree};
 ghost use Rattle.vlog_design.specs.Designs.{TopOf};
 ghost use Rattle.vlog_ref_start.specs.Outside.{environment_of};
-ghost use Rattle.run_design.specs.Ending.{EndsSo, HasPart};
+ghost use Rattle.run_design.specs.Ending.{EndsSo, HasPart, end_of};
+ghost use Rattle.run_design.specs.Reports.{last_of};
 
 use crate::shown::show;
 use cycle_sim::{Sim, run_cycles};
@@ -14,7 +15,6 @@ use run_data::Last;
 use std::alloc::Global;
 use tapa_base::{PrintFault, Sink};
 use vlog_design::Design;
-use vlog_law_runs::{law_fill, law_one_run_in_environment};
 use vlog_ref_start::Surroundings;
 
 /// How the run of a design ended.
@@ -24,6 +24,25 @@ pub enum DesignEnd {
     Done,
     /// It was done in none of them.
     Running,
+}
+
+// The last line of a report, by the cycle in which the design was done.
+fn last_after(limit: u64, done_at: Option<u64>) -> Last
+    ensures { result ≡ last_of limit done_at }
+{
+    match done_at {
+        Some(at) => Last::Done(at),
+        None => Last::Running(limit),
+    }
+}
+
+fn end_after(done_at: Option<u64>) -> DesignEnd
+    ensures { result ≡ end_of done_at }
+{
+    match done_at {
+        Some(_) => DesignEnd::Done,
+        None => DesignEnd::Running,
+    }
 }
 
 /// Runs a design in an environment that fits it, from power-up with 0 in every register and every cell, until it is done and
@@ -42,18 +61,20 @@ pub fn run_design<O: Sink>(
     ensures later { O.faults out.old ≤ O.faults out.new }
     ensures fault { IsErrOf result PrintFault.WriteFault → Rose (O.faults out.old) (O.faults out.new) }
 {
-    law_fill();
-    law_one_run_in_environment();
     let _modules = design.modules();
     let _top = design.top();
     let shape = design.shape(alloc)?;
     let streams = design.streams(alloc)?;
     let mut sim = Sim::new(alloc, design, around, 0)?;
     let carried = run_cycles(alloc, &mut sim, limit)?;
-    let (last, end) = match carried.done_at {
-        Some(at) => (Last::Done(at), DesignEnd::Done),
-        None => (Last::Running(limit), DesignEnd::Running),
-    };
-    show(alloc, &streams, &carried.tokens, &shape.memories, &sim, last, out)?;
-    Ok(end)
+    show(
+        alloc,
+        &streams,
+        &carried.tokens,
+        &shape.memories,
+        &sim,
+        last,
+        out,
+    )?;
+    Ok(end_after(carried.done_at))
 }

@@ -5,6 +5,7 @@ ghost use Rattle.std.specs.Io.KnownBytes.{Appends};
 ghost use Rattle.tapa_base.specs.Outside.{AppendsPart, Rose};
 ghost use Rattle.run_data.specs.Report.{last_line};
 ghost use Rattle.vlog_ref_start.specs.Outside.{lists_of};
+ghost use Rattle.cycle_sim.specs.Sims.{told_of};
 ghost use Rattle.run_design.specs.Reports.{stream_lines, memory_lines};
 
 use cycle_sim::Sim;
@@ -48,8 +49,8 @@ fn show_memories<O: Sink>(
     sim: &Sim,
     out: &mut O,
 ) -> Result<(), PrintFault>
-    ensures whole { OnOk result (Appends (O.contents out.old) (O.contents out.new) (memory_lines sim.now.told.outside memories.now)) }
-    ensures part { OnErr result (AppendsPart (O.contents out.old) (O.contents out.new) (memory_lines sim.now.told.outside memories.now)) }
+    ensures whole { OnOk result (Appends (O.contents out.old) (O.contents out.new) (memory_lines (told_of sim.now).outside memories.now)) }
+    ensures part { OnErr result (AppendsPart (O.contents out.old) (O.contents out.new) (memory_lines (told_of sim.now).outside memories.now)) }
     ensures later { O.faults out.old ≤ O.faults out.new }
     ensures fault { IsErrOf result PrintFault.WriteFault → Rose (O.faults out.old) (O.faults out.new) }
 {
@@ -73,8 +74,8 @@ pub(crate) fn show<O: Sink>(
     last: Last,
     out: &mut O,
 ) -> Result<(), PrintFault>
-    ensures whole { OnOk result (Appends (O.contents out.old) (O.contents out.new) ((stream_lines (λ i. slice_index_or (lists_of tokens.now) i []) streams.now ++ memory_lines sim.now.told.outside memories.now) ++ last_line last)) }
-    ensures part { OnErr result (AppendsPart (O.contents out.old) (O.contents out.new) ((stream_lines (λ i. slice_index_or (lists_of tokens.now) i []) streams.now ++ memory_lines sim.now.told.outside memories.now) ++ last_line last)) }
+    ensures whole { OnOk result (Appends (O.contents out.old) (O.contents out.new) ((stream_lines (λ i. slice_index_or (lists_of tokens.now) i []) streams.now ++ memory_lines (told_of sim.now).outside memories.now) ++ last_line last)) }
+    ensures part { OnErr result (AppendsPart (O.contents out.old) (O.contents out.new) ((stream_lines (λ i. slice_index_or (lists_of tokens.now) i []) streams.now ++ memory_lines (told_of sim.now).outside memories.now) ++ last_line last)) }
     ensures later { O.faults out.old ≤ O.faults out.new }
     ensures fault { IsErrOf result PrintFault.WriteFault → Rose (O.faults out.old) (O.faults out.new) }
 {
