@@ -61,9 +61,7 @@ module _ (design : DesignTree) (env : Environment) (limit : ℕ) (top : ModuleTr
         (subst (λ (d : DesignTree). RunsIn d.modules top env nets) (sym is_first.same) only.is.runs_in)
         (subst (λ (d : DesignTree). IsToldOf d.modules top env nets (told_of first)) (sym is_first.same) told)
 
-    module _ (later : SimTree) (done_at : Option ℕ) (carried : List (Vec Token Global)) (done : InRuns first (λ m env nets. IsDoneAt (λ n. nets n []) limit done_at))
-    (are_carried : InRuns first (λ m env nets. (place : ℕ) (l : Port) → slice_get (streams_of m) place ≡ Some l → tokens l.bits (λ n. nets n []) l.name (last_cycle limit done_at) ≡ slice_index_or (lists_of carried) place []))
-    (is_later : IsLater first later (last_cycle limit done_at)) (streams memories : List Port) (are_streams : streams ≡ streams_of top) (are_memories : memories ≡ (shape_of top).memories) where
+    module _ (later : SimTree) (done_at : Option ℕ) (carried : List (Vec Token Global)) (done : InRuns first (λ m env nets. IsDoneAt (λ n. nets n []) limit done_at)) (are_carried : InRuns first (λ m env nets. (place : ℕ) (l : Port) → slice_get (streams_of m) place ≡ Some l → tokens l.bits (λ n. nets n []) l.name (last_cycle limit done_at) ≡ slice_index_or (lists_of carried) place [])) (is_later : IsLater first later (last_cycle limit done_at)) (streams memories : List Port) (are_streams : streams ≡ streams_of top) (are_memories : memories ≡ (shape_of top).memories) where
       abbrev by_place : ℕ → List Token
       by_place i = slice_index_or (lists_of carried) i []
 

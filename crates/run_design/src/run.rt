@@ -73,7 +73,7 @@ pub fn run_design<O: Sink>(
         &carried.tokens,
         &shape.memories,
         &sim,
-        last,
+        last_after(limit, carried.done_at),
         out,
     )?;
     Ok(end_after(carried.done_at))

@@ -21,18 +21,18 @@ pub data TextMeaning : Type 0 where
   Refused : (fault : VerilogFault) → TextMeaning
   Lengthy : TextMeaning
 
--- a text that is not too long means this
+-- a text that has a design means this with these data
 abbrev pub MeansWithin : List ℕ → Given → ℕ → TextMeaning → Type 0
 MeansWithin text (Bytes bytes) limit (DoneIn cycle report) = HasSimulated text bytes limit (Some cycle) report
 MeansWithin text (Bytes bytes) limit (StillRunning report) = HasSimulated text bytes limit None report
 MeansWithin text (Bytes bytes) limit (Misgiven fault) = HasBadDesignData text bytes fault
 MeansWithin text TooMany limit Overlong = HasDesign text
-MeansWithin text given limit (Refused fault) = IsRefusedText text fault
 MeansWithin text given limit meaning = ⊥
 
 -- the text of a file, with the data of a file or with none, means this
 abbrev pub MeansText : Files → List ℕ → Option (List ℕ) → ℕ → TextMeaning → Type 0
 MeansText files name named limit Lengthy = verilog_limit < length (file_bytes files name)
+MeansText files name named limit (Refused fault) = (length (file_bytes files name) ≤ verilog_limit) × IsRefusedText (file_bytes files name) fault
 MeansText files name named limit meaning =
     (length (file_bytes files name) ≤ verilog_limit) × ((given : Given) × IsGiven files named given × MeansWithin (file_bytes files name) given limit meaning)
 

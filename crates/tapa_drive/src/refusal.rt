@@ -229,12 +229,7 @@ fn tell_data<E: Sink>(alloc: Global, file: &str, fault: &DataFault, err: &mut E)
 }
 
 // Tells a fault of the data of a design.
-fn tell_design_data<E: Sink>(
-    alloc: Global,
-    file: &str,
-    fault: &DataFault,
-    err: &mut E,
-) -> Status
+fn tell_design_data<E: Sink>(alloc: Global, file: &str, fault: &DataFault, err: &mut E) -> Status
     ensures { IsToldAs (design_refusal file.now fault.now) result (written (E.contents err.old) (E.faults err.old)) (written (E.contents err.new) (E.faults err.new))
         ⊎ IsToldAs Why.Memory result (written (E.contents err.old) (E.faults err.old)) (written (E.contents err.new) (E.faults err.new)) }
 {
@@ -253,7 +248,11 @@ fn tell_rule<E: Sink>(alloc: Global, file: &str, rule: &[u8], name: &Text, err: 
         IsToldAs why result (written (E.contents err.old) (E.faults err.old)) (written (E.contents err.new) (E.faults err.new))
         ⊎ IsToldAs Why.Memory result (written (E.contents err.old) (E.faults err.old)) (written (E.contents err.new) (E.faults err.new)) }
 {
-    tell_made(key_line(alloc, file, rule, name.bytes()), Status::Source, err)
+    tell_made(
+        key_line(alloc, file, rule, name.bytes()),
+        Status::Source,
+        err,
+    )
 }
 
 // Tells why a Verilog text has no design.
