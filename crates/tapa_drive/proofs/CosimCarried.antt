@@ -1,5 +1,5 @@
 -- From what reading and running a Verilog text give to what carrying the command of a simulation out answers.
-use Rattle.std.proofs.Common.{◌≡◌, ◌≢◌, ◌≤◌, ℕ, List, [], ◌++◌, Option, Some, None, Ok, Err, refl, sym, subst, inl, inr}
+use Rattle.std.proofs.Common.{◌≡◌, ◌≢◌, ◌≤◌, ℕ, List, [], Option, Some, None, Ok, Err, refl, sym, subst, inl, inr}
 use Rattle.std.proofs.lemmas.List.{append-nil}
 use Rattle.tapa_base.specs.Outside.{Files, Rose, AppendsPart}
 use Rattle.tapa_words.specs.Words.{Command, Cosim, command_of}

@@ -2,15 +2,15 @@
 use Rattle.std.proofs.Common.{◌≡◌, ◌⊎◌, ◌≤◌, ◌<◌, ℕ, List, length, Option, Some, None, refl, sym, ap, ◌∙◌, subst, inl, inr, ⊎_elim}
 use Rattle.tapa_base.specs.Outside.{Files, file_bytes, Rose}
 use Rattle.tapa_base.specs.Take.{IsLongerThan}
-use Rattle.tapa_words.specs.Words.{Command, Run, Plan, Cosim, command_of}
+use Rattle.tapa_words.specs.Words.{Run, Plan, Cosim, command_of}
 use Rattle.tapa_words.specs.declared.command.PlanMode.{PlanMode}
 use Rattle.tapa_drive.specs.Answer.{OfRun, OfPlan, OfCosim, OfDesignTexts, source_in, most_in, IsTaken, IsRefusedIn, IsFaultyIn, IsReached, IsTooLong, IsDone, HasCause, Leaves, IsAnswer}
-use Rattle.tapa_drive.specs.CosimDecided.{TextMeaning, DoneIn, StillRunning, Misgiven, Overlong, Refused, Lengthy, MeansText, TellsText, TellsCosimOf, TellsCosim}
-use Rattle.tapa_drive.specs.Decided.{Given, Bytes, TooMany, IsGiven, IsRefusedWith, NothingFails}
+use Rattle.tapa_drive.specs.CosimDecided.{DoneIn, StillRunning, Misgiven, Overlong, Refused, Lengthy, TellsCosimOf, TellsCosim}
+use Rattle.tapa_drive.specs.Decided.{Bytes, TooMany, IsGiven, IsRefusedWith, NothingFails}
 use Rattle.tapa_drive.specs.Designs.{HasDesign, IsRefusedText, HasBadDesignData, HasCosimmed, HasUndone}
 use Rattle.tapa_drive.specs.Files.{OfFile, OfData, data_limit, verilog_limit, no_data, shown_name}
 use Rattle.tapa_drive.specs.Outside.{Outside, Written, outside}
-use Rattle.tapa_drive.specs.Refusal.{Refusal, Usage, Read, Write, TooLong, Source, Data, Ticks, Stopped, Device, TooManyPlans, NoPlan, NoRoom, Verilog, DesignData, Undone, Memory, VerilogFault}
+use Rattle.tapa_drive.specs.Refusal.{Refusal, Usage, Read, Write, TooLong, Source, Data, Ticks, Stopped, Device, TooManyPlans, NoPlan, NoRoom, Verilog, DesignData, Undone, Memory}
 use Rattle.tapa_drive.specs.Told.{IsTold, IsToldAs}
 use Rattle.tapa_drive.specs.declared.status.Status.{Status}
 use Rattle.tapa_drive.specs.declared.status.Status.TheVariants as status
@@ -95,7 +95,7 @@ module _ (words : List (List ℕ)) (files : Files) (reads : List ℕ → ℕ) (o
         let t = of_told_file files name (λ text. HasDesign text) w.3 in
         inl (
           Overlong,
-          (t.0, TooMany, too_many files named file w.0 w.2, t.1),
+          (t.0, (TooMany, too_many files named file w.0 w.2, t.1)),
           refused_so (TooLong file most) (TooLong (shown_name named) data_limit) result (ap (λ n. TooLong file n) w.1 ∙ ap (λ (f : List ℕ). TooLong f data_limit) (sym (ap shown_name w.0))) told leaves,
         ))
         c
@@ -116,11 +116,11 @@ module _ (words : List (List ℕ)) (files : Files) (reads : List ℕ → ℕ) (o
     of_reason (DesignData file fault) h leaves told =
         let c = asked_cosim words name named limit asked (λ s d n. (shown_name d ≡ file) × OfDesignTexts (Some files) s d (λ text bytes. HasBadDesignData text bytes fault)) h in
         let t = of_texts (λ text bytes. HasBadDesignData text bytes fault) c.1 in
-        inl (Misgiven fault, (t.2, Bytes t.0, t.1, t.3), refused_so (DesignData file fault) (DesignData (shown_name named) fault) result (ap (λ (f : List ℕ). DesignData f fault) (sym c.0)) told leaves)
+        inl (Misgiven fault, (t.2, (Bytes t.0, t.1, t.3)), refused_so (DesignData file fault) (DesignData (shown_name named) fault) result (ap (λ (f : List ℕ). DesignData f fault) (sym c.0)) told leaves)
     of_reason (Undone most) h leaves told =
         let c = asked_cosim words name named limit asked (λ s d n. (most ≡ n) × OfDesignTexts (Some files) s d (λ text bytes. HasUndone text bytes n out.bytes after.out.bytes)) h in
         let t = of_texts (λ text bytes. HasUndone text bytes limit out.bytes after.out.bytes) c.1 in
-        inl (StillRunning t.3.report, (t.2, Bytes t.0, t.1, t.3.simulated), (subst (λ (n : ℕ). IsTold (Undone n) result errors after.err) c.0 told, t.3.shown))
+        inl (StillRunning t.3.report, (t.2, (Bytes t.0, t.1, t.3.simulated)), (subst (λ (n : ℕ). IsTold (Undone n) result errors after.err) c.0 told, t.3.shown))
     of_reason Memory h leaves told = inr told.0
 
     of_told : (why : Refusal) → IsToldAs why result errors after.err → HasCause words before after why → Leaves words before after why → Meets
@@ -132,7 +132,7 @@ module _ (words : List (List ℕ)) (files : Files) (reads : List ℕ → ℕ) (o
     of_ok (inr (inr h)) is same =
         let c = asked_cosim words name named limit asked (λ s d n. OfDesignTexts (Some files) s d (λ text bytes. HasCosimmed text bytes n out.bytes after.out.bytes)) h in
         let t = of_texts (λ text bytes. HasCosimmed text bytes limit out.bytes after.out.bytes) c in
-        inl (DoneIn t.3.at t.3.report, (t.2, Bytes t.0, t.1, t.3.simulated), (is, t.3.shown, same))
+        inl (DoneIn t.3.at t.3.report, (t.2, (Bytes t.0, t.1, t.3.simulated)), (is, t.3.shown, same))
 
 pub cosim_decided : (words : List (List ℕ)) (files : Option Files) (reads : List ℕ → ℕ) (out errors : Written) (after : Outside) (name : List ℕ) (named : Option (List ℕ)) (limit : ℕ) → command_of words ≡ Some (Cosim name named limit) → NothingFails name named (outside files reads out errors) after → (result : Status) → IsAnswer words (outside files reads out errors) after result → (result ≡ status.Ok → after.err.bytes ≡ errors.bytes) → TellsCosim name named limit result (outside files reads out errors) after ⊎ (result ≡ status.Memory)
 cosim_decided words None reads out errors after name named limit asked still result h same = inl tt

@@ -1,5 +1,5 @@
 -- Where nothing outside fails, the answer tells what the source means with its data, or want of memory.
-use Rattle.std.proofs.Common.{◌≡◌, ◌≢◌, ◌⊎◌, ◌≤◌, ◌<◌, ℕ, List, length, Option, Some, None, refl, sym, ap, ◌∙◌, subst, inl, inr, ⊎_elim, arith}
+use Rattle.std.proofs.Common.{◌≡◌, ◌⊎◌, ◌≤◌, ◌<◌, ℕ, List, length, Option, Some, None, refl, sym, ap, ◌∙◌, subst, inl, inr, ⊎_elim, arith}
 use Rattle.tapa_base.specs.Outside.{Files, file_bytes, Rose}
 use Rattle.tapa_base.specs.Take.{IsLongerThan}
 use Rattle.tapa_words.specs.Words.{Command, Run, Plan, Cosim, command_of}

@@ -1,7 +1,6 @@
 -- What the top of a design asks for, and the environments that fit it.
-use Rattle.std.proofs.Common.{◌≡◌, ◌≤◌, ◌<◌, ℕ, Bool, true, false, ◌&&◌, List, [], ◌∷◌, length, map, Option, Some, None, inl, inr, refl, sym, ap, subst, ◌∙◌, arith}
-use Rattle.std.specs.Prelude.{All, ◌||◌, not, is_some, nat_le, slice_get, get_or, Vec}
-use Rattle.std.specs.List.{flat_map}
+use Rattle.std.proofs.Common.{◌≡◌, ◌≤◌, ℕ, Bool, true, false, ◌&&◌, List, length, map, Option, Some, None, Result, Ok, Err, inl, inr, refl, sym, ap, subst, ◌∙◌, arith}
+use Rattle.std.specs.Prelude.{All, IfOk, ◌||◌, not, is_some, nat_le, slice_get, get_or, Vec}
 use Rattle.std.specs.Option.{option_map_or}
 use Rattle.std.specs.declared.alloc.Global.{Global}
 use Rattle.std.proofs.lemmas.List.{length-map}
@@ -11,7 +10,7 @@ use Rattle.tapa_base.specs.declared.shape.Shape.{Shape}
 use Rattle.tapa_base.specs.Fits.{Fits}
 use Rattle.vlog_tree.specs.declared.tree.PortDecl.{PortDecl}
 use Rattle.vlog_tree.specs.declared.table.Declaration.{Declaration}
-use Rattle.vlog_tree.specs.Environment.{Environment, FitsShape, shape_of, scalar_label, memory_label, widths}
+use Rattle.vlog_tree.specs.Environment.{FitsShape, shape_of, scalar_label, memory_label, widths}
 use Rattle.vlog_tree.specs.Form.{ModuleTree, is_input}
 use Rattle.vlog_tree.specs.Grounded.{Has}
 use Rattle.vlog_tree.specs.Labels.{m_rdata, m_wdata, scalar_of, ack_of, rdata_of}
@@ -98,6 +97,10 @@ module _ (ms : List ModuleTree) (place : ℕ) (m : ModuleTree) (design : IsDesig
 
   pub memories_few : (xs : List Port) → xs ≡ (shape_of m).memories → All FewBits xs
   memories_few xs is k d lt = some_memory (get_or xs k d) (subst (λ (l : List Port). Has l (get_or xs k d)) is (has_got xs k (get_or xs k d) (slice_get-get_or xs k d lt)))
+
+pub map_if_ok : {A E : Type 0} (P Q : A → Type 0) (r : Result A E) → ((x : A) → P x → Q x) → IfOk r P → IfOk r Q
+map_if_ok P Q (Ok x) f h = f x h
+map_if_ok P Q (Err e) f h = tt
 
 module _ (design : DesignTree) (shape : Shape) (is : IsShapeIn design shape) where
   -- data that fit the shape fit the top

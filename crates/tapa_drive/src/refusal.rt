@@ -150,7 +150,8 @@ fn no_text_line(alloc: Global, file: &str, place: Place) -> Result<Vec<u8>, OutO
 {
     let line = place.line;
     let col = place.col;
-    Ok(format!(in alloc; "tapa: {file}:{line}:{col}: V1 no text of the subset\n")?.into_bytes())
+    let text = "V1 no text of the subset";
+    Ok(format!(in alloc; "tapa: {file}:{line}:{col}: {text}\n")?.into_bytes())
 }
 
 // A line: a file, a code and a key.

@@ -66,8 +66,8 @@ returns-in-Done g c = λ words errors told asked.
     (environment_of c.in-Ok-read_surroundings.around) c.in-Ok-read_surroundings.ensures.gives (written (g.O.Sink.contents c.run_design.new.out) (g.O.Sink.faults c.run_design.new.out))
     tt (subst (λ (e : DesignEnd). EndsSo c.in-Ok.design (environment_of c.in-Ok-read_surroundings.around) c.args.limit old.bytes (g.O.Sink.contents c.run_design.new.out) e) c.in-Done.is c.in-Ok-run_design.ensures.end)
 
-pub returns-in-Running : goal.returns-in-Running
-returns-in-Running g c = λ words errors told asked.
+pub returns : goal.returns
+returns g c = λ words errors told asked.
     let files = g.S.Shelf.files c.args.shelf.now in
     let reads = g.S.Shelf.faults c.args.shelf.now in
     let old = written (g.O.Sink.contents c.args.out.now) (g.O.Sink.faults c.args.out.now) in

@@ -1,4 +1,4 @@
-use Rattle.tapa_drive.proofs.DesignShapes.{fits_top, gives_environment, unfit_design}
+use Rattle.tapa_drive.proofs.DesignShapes.{fits_top, unfit_design}
 use Rattle.tapa_drive.proofs.cosim.surroundings.Goals as goal
 
 pub returns-in-Ok-read_data-clause-fits : goal.returns-in-Ok-read_data-clause-fits
