@@ -22,7 +22,7 @@ use Rattle.vlog_ref_start.specs.Outside.{lists_of}
 use Rattle.sim_law.specs.Told.{IsToldOf}
 use Rattle.cycle_sim.specs.Sims.{SimTree, InRuns, IsFirst, IsLater, IsDoneAt, last_cycle, told_of}
 use Rattle.run_design.specs.Ending.{EndsSo, end_of}
-use Rattle.run_design.specs.Reports.{stream_lines, memory_lines, streams_to, memories_at, last_of, report_to, IsSimulated}
+use Rattle.run_design.specs.Reports.{stream_lines, memory_lines, streams_to, memories_at, last_of, IsSimulated}
 
 -- lines that are the same one by one
 lines_same : {A : Type 0} (f g : A → ℕ → List ℕ) (n : ℕ) (xs : List A) → ((i : ℕ) (x : A) → slice_get xs i ≡ Some x → f x (n + i) ≡ g x (n + i)) → lines_from f n xs ≡ lines_from g n xs

@@ -1,4 +1,4 @@
-use Rattle.std.proofs.Common.{◌≡◌, ℕ, List, [], ◌++◌, ap, sym, append_assoc}
+use Rattle.std.proofs.Common.{ℕ, List, [], ◌++◌, ap, sym, append_assoc}
 use Rattle.std.specs.Prelude.{slice_index_or}
 use Rattle.std.proofs.lemmas.List.{append-nil}
 use Rattle.tapa_base.proofs.Known.{part_of_next, appends_none, appends_both}

@@ -1,4 +1,4 @@
-use Rattle.std.proofs.Common.{◌≡◌, ◌<◌, ℕ, List, length, take, drop, suc, get_or, ◌∙◌, ap, add-one, arith}
+use Rattle.std.proofs.Common.{◌≡◌, ◌<◌, ℕ, List, length, take, get_or, ◌∙◌, ap, add-one, arith}
 use Rattle.tapa_base.specs.declared.shape.Port.{Port}
 use Rattle.tapa_base.proofs.Known.{part_so_far, part_of_next, appends_both}
 use Rattle.run_data.specs.Report.{memory_line}

@@ -1,4 +1,4 @@
-use Rattle.std.proofs.Common.{◌≡◌, ◌<◌, ℕ, List, [], length, take, drop, suc, get_or, ◌∙◌, ap, add-one, arith}
+use Rattle.std.proofs.Common.{◌≡◌, ◌<◌, ℕ, List, [], length, take, get_or, ◌∙◌, ap, add-one, arith}
 use Rattle.std.specs.Prelude.{slice_index_or}
 use Rattle.tapa_base.specs.declared.shape.Port.{Port}
 use Rattle.tapa_base.specs.declared.token.Token.{Token}
