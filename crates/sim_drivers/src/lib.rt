@@ -1,0 +1,6 @@
+//! Drivers of the Verilog subset as gates of a tape: a pair of slots has the driver's value wherever the slots of the nets that it reads have theirs.
+#![tactic(auto)]
+
+mod drivers;
+
+pub use drivers::pair_of_driver;

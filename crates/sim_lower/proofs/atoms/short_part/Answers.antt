@@ -1,0 +1,11 @@
+use Rattle.std.proofs.Common.{◌≡◌, ℕ, ◌+◌, ◌-◌, ◌*◌, ◌/◌, ◌%◌, ◌^◌, ◌<◌, ◌≤◌, List, cond, sym, ap, subst, ◌∙◌, rules, arith}
+use Rattle.sim_tape.specs.Operators.{Cells}
+use Rattle.sim_tape.specs.Tape.{number_at, pair_value}
+use Rattle.sim_tape.proofs.Growing.{solved_on}
+use Rattle.sim_lower.proofs.Parts.{all_bits}
+use Rattle.sim_lower.proofs.Pairs.{single}
+use Rattle.sim_lower.proofs.atoms.short_part.Goals as goal
+
+pub returns-clause-says : goal.returns-clause-says
+returns-clause-says c = λ cells ns h.
+    single _ c.requires.tape cells ns h c.args.slot ∙ all_bits (number_at ns c.args.slot) c.args.low c.args.bits (h.words c.args.slot) c.if-low-ne0.false c.if-bits-ne64.false
