@@ -1,3 +1,0 @@
-pub mod Operating
-pub mod Parts
-pub mod Pairs
