@@ -1,10 +1,11 @@
 -- What registers and memories have in the next cycle, told by the numbers of slots in this one.
 use Rattle.std.specs.Prelude.{◌≡◌, ℕ, ◌<◌, Bool, ◌&&◌, List, [], ◌∷◌, Option, Some, None, get_or, is_some, nat_lt, ◌==◌, if◌then◌else◌}
 use Rattle.vlog_tree.specs.declared.tree.Step.{Step}
+use Rattle.vlog_tree.specs.declared.tree.Item.{Item}
 use Rattle.vlog_tree.specs.declared.table.Declaration.{Declaration}
 use Rattle.vlog_tree.specs.Table.{Name}
 use Rattle.vlog_tree.specs.Grounded.{Has}
-use Rattle.vlog_tree.specs.Cycle.{Cycle, Sizes, run_steps}
+use Rattle.vlog_tree.specs.Cycle.{Cycle, Sizes, run_steps, run_items}
 use Rattle.sim_tape.specs.declared.gates.Pair.{Pair}
 use Rattle.sim_tape.specs.Tape.{number_at, pair_value}
 use Rattle.sim_lower.specs.Nets.{pair_in}
@@ -59,3 +60,9 @@ pub record StepsLeft (ds : List Declaration) (memories next : List (Option Pair)
   pub walk : WalkShows ns on parts
   pub shows : ShowsNext ds memories next stores s first after ns
   pub same : run_steps s c [] steps now ≡ run_steps s c (parts_run ns parts) rest after
+
+-- the lines that are left run on what those before them left
+pub record ItemsLeft (ds : List Declaration) (memories next : List (Option Pair)) (stores : List Store) (items rest : List Item) (s : Sizes) (c : Cycle) (ns : List ℕ) : Type 0 where
+  pub after : Cycle
+  pub shows : ShowsNext ds memories next stores s c after ns
+  pub same : run_items s c items c ≡ run_items s c rest after

@@ -1,10 +1,12 @@
 // Atoms on a tape.
 
-ghost use Rattle.std.specs.Prelude.{◌≡◌, ◌+◌, ◌-◌, ◌*◌, ◌/◌, ◌%◌, ◌^◌, ◌<◌, ◌≤◌, length, IfOk, IfSome};
-ghost use Rattle.sim_tape.specs.Tape.{number_at, pair_value, Extends, IsTape, PairBefore};
+ghost use Rattle.std.specs.Prelude.{◌≡◌, ◌<◌, length, IfOk, IfSome, IsSome, IsTrue};
+ghost use Rattle.vlog_tree.specs.V3.{atom_fits};
+ghost use Rattle.vlog_tree.specs.Loops.{atom_nets};
+ghost use Rattle.sim_tape.specs.Tape.{pair_value, Extends, IsTape, PairBefore};
 ghost use Rattle.sim_tape.specs.Solved.{Says};
 ghost use Rattle.sim_tape.specs.Trees.{tree_of};
-ghost use Rattle.sim_lower.specs.Nets.{IsAtom, SlotsBefore, Told};
+ghost use Rattle.sim_lower.specs.Nets.{HavePairs, IsAtom, SlotsBefore, Told};
 
 use crate::nets::Nets;
 use sim_tape::{Pair, Tape};
@@ -28,6 +30,7 @@ pub fn pair_of_atom(tape: &mut Tape, nets: &Nets, atom: &Atom) -> Result<Option<
     ensures extends { Extends (tree_of tape.old) (tree_of tape.new) }
     ensures slots { IfOk result (λ o. IfSome o (λ p. PairBefore (length (tree_of tape.new).gates) p)) }
     ensures says { IfOk result (λ o. IfSome o (λ p. Told nets.now.scope.now nets.now.pairs.now (tree_of tape.new) (λ s c ns. IsAtom nets.now.scope.now atom.now s c ns p))) }
+    ensures some { IsTrue (atom_fits nets.now.scope.now atom.now) → HavePairs nets.now.scope.now nets.now.pairs.now (atom_nets atom.now) → IfOk result (λ o. IsSome o) }
 {
     Err(AllocError)
 }

@@ -1,6 +1,6 @@
 // Where the nets of a module stand on a tape.
 
-ghost use Rattle.std.specs.Prelude.{◌≡◌};
+ghost use Rattle.std.specs.Prelude.{◌≡◌, ◌+◌, ◌-◌, get_or};
 ghost use Rattle.vlog_tree.specs.Table.{bits_of};
 ghost use Rattle.vlog_tree.specs.V3.{atom_bits};
 ghost use Rattle.sim_lower.specs.Nets.{pair_in};
@@ -19,13 +19,30 @@ pub struct Nets<'a> {
     pub memories: &'a [Option<Pair>],
 }
 
+fn pair_of_place(pairs: &[Option<Pair>], place: usize) -> Option<Pair>
+    ensures { result ≡ get_or pairs.now place None }
+{
+    if place < pairs.len() {
+        pairs[place]
+    } else {
+        None
+    }
+}
+
 fn pair_at(scope: &Scope, pairs: &[Option<Pair>], name: &Text) -> Option<Pair>
     ensures { result ≡ pair_in scope.now pairs.now name.now }
 {
     match scope.place(name) {
-        Some((place, _)) => pairs.get(place).copied().flatten(),
+        Some((place, _)) => pair_of_place(pairs, place),
         None => None,
     }
+}
+
+// The bits from a high one to a low one.
+fn bits_from(high: u32, low: u32) -> u64
+    ensures { result ≡ high + 1 - low }
+{
+    (u64::from(high) + 1).saturating_sub(u64::from(low))
 }
 
 impl Nets<'_> {
@@ -43,6 +60,7 @@ impl Nets<'_> {
         pair_at(self.scope, self.memories, name)
     }
 
+    /// The declared bits of a name.
     pub fn bits(&self, name: &Text) -> u32
         ensures { result ≡ bits_of self.now.scope.now name.now }
     {
@@ -55,7 +73,7 @@ impl Nets<'_> {
     {
         match atom {
             Atom::Net(x) => u64::from(self.bits(x)),
-            Atom::Part { high, low, .. } => (u64::from(*high) + 1).saturating_sub(u64::from(*low)),
+            Atom::Part { high, low, .. } => bits_from(*high, *low),
             Atom::Literal { width, .. } => u64::from(*width),
         }
     }

@@ -1,0 +1,69 @@
+// A design on a tape.
+
+ghost use Rattle.std.specs.Prelude.{◌≡◌, IfOk};
+ghost use Rattle.vlog_tree.specs.Form.{ModuleTree};
+ghost use Rattle.vlog_design.specs.Designs.{TopOf};
+ghost use Rattle.sim_nets.specs.Flat.{IsFlat};
+ghost use Rattle.sim_design.specs.Drafts.{IsDraft};
+
+use crate::memories::memories_of;
+use crate::next::add_next;
+use crate::placing::{Plan, place_all};
+use sim_blocks::Store;
+use sim_nets::Flat;
+use sim_tape::{Pair, Tape};
+use std::alloc::{AllocError, Global};
+use vlog_design::Design;
+
+/// A memory: the numbers of the lists with the low and the high halves of its cells, the bits of a cell, and how many there
+/// are.
+#[derive(Clone, Copy, PartialEq, Eq, Debug)]
+pub struct Width {
+    pub pair: Pair,
+    pub bits: u32,
+    pub cells: u32,
+}
+
+/// A slot of a register, and the slot whose number it has in the next cycle.
+#[derive(Clone, Copy, PartialEq, Eq, Debug)]
+pub struct Commit {
+    pub slot: u32,
+    pub next: u32,
+}
+
+/// A design on a tape: by numbers of nets their pairs of slots, and by those of memories the numbers of the lists with the
+/// halves of their cells; the memories, what registers take over, and what is stored.
+#[derive(Drop)]
+pub struct Draft {
+    pub tape: Tape,
+    pub pairs: Vec<Option<Pair>>,
+    pub memories: Vec<Option<Pair>>,
+    pub cells: Vec<Width>,
+    pub commits: Vec<Commit>,
+    pub stores: Vec<Store>,
+}
+
+/// A design on a tape.
+pub fn draft_of(alloc: Global, design: &Design, flat: &Flat) -> Result<Option<Draft>, AllocError>
+    requires { (m : ModuleTree) → TopOf design.now m → IsFlat design.now.modules m flat.now }
+    ensures draft { IfOk result (λ o. IfSome o (λ d. (m : ModuleTree) → TopOf design.now m → IsDraft design.now.modules m flat.now d)) }
+    ensures some { IfOk result (λ o. IsSome o) }
+{
+    let shape = design.shape(alloc)?;
+    let memories = memories_of(alloc, flat, shape.memories.len())?;
+    let mut draft = Draft {
+        tape: Tape::new(alloc)?,
+        pairs: vec![in alloc; None; flat.owners.len()]?,
+        memories: memories.numbers,
+        cells: memories.widths,
+        commits: Vec::new(alloc),
+        stores: Vec::new(alloc),
+    };
+    if !place_all(alloc, &mut draft, flat, design, &shape)? {
+        return Ok(None);
+    }
+    if !add_next(alloc, &mut draft, flat, design)? {
+        return Ok(None);
+    }
+    Ok(Some(draft))
+}
