@@ -1,5 +1,11 @@
 // A design in one of its cycles.
 
+ghost use Rattle.std.specs.Prelude.{◌≡◌, ◌+◌, ◌<◌, ◌^◌, ◌↔◌, ℕ, [], List, Some, slice_get, get_or, length, IfOk, IsTrue};
+ghost use Rattle.tapa_base.specs.declared.shape.Port.{Port as PortTree};
+ghost use Rattle.vlog_tree.specs.Environment.{IsDone, streams_of, tokens};
+ghost use Rattle.vlog_ref_start.specs.Outside.{environment_of};
+ghost use Rattle.cycle_sim.specs.Sims.{InRuns, IsFirst, IsNext, IsCarried, IsDoneAt, last_cycle};
+
 use crate::blocks::{Commit, Store};
 use crate::build::{Draft, Width, draft_of, move_all};
 use sim_nets::flatten;
@@ -176,7 +182,9 @@ impl Sim {
         design: Design,
         around: &Surroundings,
         fill: u64,
-    ) -> Result<Sim, AllocError> {
+    ) -> Result<Sim, AllocError>
+        ensures { IfOk result (λ sim. IsFirst design (environment_of around.now) fill sim) }
+    {
         let flat = flatten(alloc, &design)?;
         let shape = design.shape(alloc)?;
         let ports = design.streams(alloc)?;
@@ -269,7 +277,10 @@ impl Sim {
     }
 
     /// Goes to the next cycle.
-    pub fn step(&mut self) {
+    pub fn step(&mut self)
+        requires { self.old.told.cycle + 1 < 2 ^ 64 }
+        ensures { IsNext self.old self.new }
+    {
         self.store();
         self.store_outside();
         self.commit();
@@ -278,17 +289,23 @@ impl Sim {
         self.program.pass(&mut self.numbers, &self.cells);
     }
 
-    pub fn cycle(&self) -> u64 {
+    pub fn cycle(&self) -> u64
+        ensures { result ≡ self.now.told.cycle }
+    {
         self.cycle
     }
 
     /// Whether the design is done in this cycle.
-    pub fn done(&self) -> bool {
+    pub fn done(&self) -> bool
+        ensures { InRuns self.now (λ m env nets. IsTrue result ↔ IsDone (λ n. nets n []) self.now.told.cycle) }
+    {
         self.cycle > 0 && number(&self.numbers, self.done) == 1
     }
 
     /// The token that a stream carries in this cycle.
-    pub fn token(&self, stream: u32) -> Option<Token> {
+    pub fn token(&self, stream: u32) -> Option<Token>
+        ensures { IsCarried self.now stream result }
+    {
         let s = self.streams.get(stream as usize)?;
         if self.cycle == 0
             || number(&self.numbers, s.wr) != 1
@@ -313,7 +330,9 @@ impl Sim {
     }
 
     /// The cells of a memory in this cycle, before its store.
-    pub fn memory(&self, m: u32) -> &[u64] {
+    pub fn memory(&self, m: u32) -> &[u64]
+        ensures { result.now ≡ self.now.told.outside m }
+    {
         match self.cells.get(m as usize) {
             Some(cells) => cells,
             None => &[],
@@ -353,7 +372,11 @@ fn add_tokens(sim: &Sim, tokens: &mut [Vec<Token>]) -> Result<(), AllocError> {
 }
 
 /// Steps until the design is done or to a cycle, and gives the tokens of the cycles from 1 on.
-pub fn run_cycles(alloc: Global, sim: &mut Sim, limit: u64) -> Result<Carried, AllocError> {
+pub fn run_cycles(alloc: Global, sim: &mut Sim, limit: u64) -> Result<Carried, AllocError>
+    requires { sim.old.told.cycle ≡ 0 }
+    ensures done { IfOk result (λ r. InRuns sim.old (λ m env nets. IsDoneAt (λ n. nets n []) limit r.done_at)) }
+    ensures tokens { IfOk result (λ r. InRuns sim.old (λ m env nets. (place : ℕ) (l : PortTree) → slice_get (streams_of m) place ≡ Some l → tokens l.bits (λ n. nets n []) l.name (last_cycle limit r.done_at) ≡ (get_or r.tokens.items place (record { items = [] })).items)) }
+{
     let mut tokens = Vec::new(alloc);
     for _ in 0..sim.streams() {
         tokens.push(Vec::new(alloc))?;

@@ -1,0 +1,53 @@
+-- A simulator of a design, as it stands in a cycle.
+use Rattle.std.specs.Prelude.{◌≡◌, ℕ, suc, ◌+◌, ◌<◌, ◌≤◌, ◌++◌, Bool, List, [], Option, Some, None, slice_get, slice_index_or}
+use Rattle.std.specs.Option.{option_to_list}
+use Rattle.tapa_base.specs.declared.shape.Port.{Port}
+use Rattle.tapa_base.specs.declared.token.Token.{Token}
+use Rattle.vlog_tree.specs.Form.{ModuleTree}
+use Rattle.vlog_tree.specs.Cycle.{Cycle, Path}
+use Rattle.vlog_tree.specs.Environment.{Environment, FitsShape, RunsIn, IsDone, shape_of, streams_of, tokens}
+use Rattle.vlog_design.specs.Designs.{DesignTree, TopOf}
+use Rattle.sim_law.specs.Told.{TellTree, IsToldOf, IsTold}
+
+-- the design, what is told of it in this cycle, and when the memories around it are ready
+pub record SimTree : Type 0 where
+  pub design : DesignTree
+  pub told : TellTree
+  pub ready : List (List Bool)
+
+-- what holds of each run that a simulator tells of: one of its design, in an environment that fits it and whose memories are
+-- ready when those around the simulator are
+abbrev pub InRuns : SimTree → (ModuleTree → Environment → (ℕ → Path → Cycle) → Type 0) → Type 0
+InRuns s P =
+    (m : ModuleTree) (env : Environment) (nets : ℕ → Path → Cycle) → TopOf s.design m → FitsShape env (shape_of m) → env.ready ≡ s.ready
+    → RunsIn s.design.modules m env nets → IsToldOf s.design.modules m env nets s.told → P m env nets
+
+-- a simulator in cycle 0 of a design in an environment, where every register and every cell begins with a number, cut to its width
+pub record IsFirst (design : DesignTree) (env : Environment) (fill : ℕ) (s : SimTree) : Type 0 where
+  pub same : s.design ≡ design
+  pub cycle : s.told.cycle ≡ 0
+  pub ready : s.ready ≡ env.ready
+  pub told : (m : ModuleTree) → TopOf design m → FitsShape env (shape_of m) → IsTold design.modules m env fill s.told
+
+-- a simulator in the next cycle, of each run that the one before tells of
+pub record IsNext (now next : SimTree) : Type 0 where
+  pub same : next.design ≡ now.design
+  pub cycle : next.told.cycle ≡ now.told.cycle + 1
+  pub ready : next.ready ≡ now.ready
+  pub told : InRuns now (λ m env nets. IsToldOf now.design.modules m env nets next.told)
+
+-- what a stream carries in a cycle is added to what it carried before, and nothing in cycle 0
+pub record IsCarried (s : SimTree) (place : ℕ) (token : Option Token) : Type 0 where
+  pub first : s.told.cycle ≡ 0 → token ≡ None
+  pub later : InRuns s (λ m env nets. (l : Port) (n : ℕ) → slice_get (streams_of m) place ≡ Some l → s.told.cycle ≡ suc n
+      → tokens l.bits (λ k. nets k []) l.name (suc n) ≡ tokens l.bits (λ k. nets k []) l.name n ++ option_to_list token)
+
+-- the first cycle in which a design is done, or none up to a limit
+abbrev pub IsDoneAt : (ℕ → Cycle) → ℕ → Option ℕ → Type 0
+IsDoneAt run limit None = (n : ℕ) → n ≤ limit → IsDone run n → ⊥
+IsDoneAt run limit (Some at) = (at ≤ limit) × IsDone run at × ((n : ℕ) → n < at → IsDone run n → ⊥)
+
+-- the last cycle that is gone over
+abbrev pub last_cycle : ℕ → Option ℕ → ℕ
+last_cycle limit None = limit
+last_cycle limit (Some at) = at
