@@ -134,6 +134,3 @@ places_same pairs i = refl
 
 pub places_twice : (a b c : List (Option Pair)) → SamePlaces a b → SamePlaces b c → SamePlaces a c
 places_twice a b c h k i = k i ∙ h i
-
-pub slots_later : (pairs : List (Option Pair)) (m n : ℕ) → m ≤ n → SlotsBefore pairs m → SlotsBefore pairs n
-slots_later pairs m n le slots i p h = pair_later m n p le (slots i p h)

@@ -1,0 +1,21 @@
+use Rattle.std.proofs.Common.{◌≡◌, ℕ, ◌+◌, ◌<◌, ◌≤◌, Bool, true, false, cond, List, [], ◌∷◌, ◌++◌, Option, Some, None, length, refl, sym, ap, subst, ◌∙◌, rules, arith}
+use Rattle.std.specs.Prelude.{reverse}
+use Rattle.sim_tape.specs.Trees.{tree_of}
+use Rattle.sim_blocks.proofs.Walking.{popped, ended_before, else_turned}
+use Rattle.sim_blocks.proofs.parts.turn_part.Goals as goal
+
+pub enter-requires : goal.enter-requires
+enter-requires c =
+    let p = c.in-Some.part in
+    let old = c.args.walk.now.parts.items in
+    let new = c.pop.new.self.items in
+    let b = ended_before p (length (tree_of c.args.tape.now).gates) c.args.walk.now.on (reverse new) (reverse old) (popped old new p c.in-Some.ensures.items) c.requires.walk in
+    record { tape = c.requires.tape; walk = b.2; around = b.0; test = b.1 }
+
+pub returns-clause-value : goal.returns-clause-value
+returns-clause-value c = λ cells ns h s k walk.
+    let p = c.in-Some.part in
+    let old = c.args.walk.now.parts.items in
+    let new = c.pop.new.self.items in
+    else_turned s k ns p c.enter.new.walk.on c.args.walk.now.on (reverse new) (reverse old) (reverse c.enter.new.walk.parts.items) (popped old new p c.in-Some.ensures.items)
+    c.in_ok-enter.ensures.parts (c.in_ok-enter.ensures.says cells ns h) walk
