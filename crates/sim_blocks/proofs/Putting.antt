@@ -33,7 +33,7 @@ named_here start d ds x place again true e ih h = (bytes_decides d.name x).0 e
 named_here start d ds x place again false e ih h = ih h
 
 -- what stands at a name's place has the name
-named : (start : ℕ) (ds : List Declaration) (x : Name) (place : ℕ) (again : Bool) → places_from start (names ds) x ≡ Some (place, again) → (find_name ds x).name ≡ x
+pub named : (start : ℕ) (ds : List Declaration) (x : Name) (place : ℕ) (again : Bool) → places_from start (names ds) x ≡ Some (place, again) → (find_name ds x).name ≡ x
 named start [] x place again e = cc
 named start (d ∷ ds) x place again e = named_here start d ds x place again _ refl (named (suc start) ds x place again) e
 

@@ -1,6 +1,7 @@
 -- A design on a tape.
 use Rattle.std.specs.Prelude.{◌≡◌, ◌≢◌, ◌⊎◌, ℕ, suc, ◌+◌, ◌*◌, ◌<◌, ◌≤◌, false, List, [], Option, Some, None, IsSome, IsTrue, length, get_or, slice_get}
 use Rattle.vlog_tree.specs.declared.tree.Item.TheVariants.{Reg, Memory}
+use Rattle.vlog_tree.specs.declared.table.NetKind.TheVariants.{MemoryArray}
 use Rattle.vlog_tree.specs.Form.{ModuleTree}
 use Rattle.vlog_tree.specs.Grounded.{Has}
 use Rattle.vlog_tree.specs.Flattened.{FlatNet}
@@ -52,6 +53,7 @@ pub record AreMemories (ms : List ModuleTree) (top : ModuleTree) (f : Flat) (mem
   pub all : (number : ℕ) (n : FlatNet) (m : ModuleTree) (w k : ℕ) → HasNumber ms f number n → module_at ms top n.0 ≡ Some m → Has m.items (Memory w n.1 k)
       → (i : ℕ) × (slice_get widths i ≡ Some (record { pair = record { low = length (shape_of top).memories + 2 * i; high = length (shape_of top).memories + 2 * i + 1 }; bits = w; cells = k }))
       × (get_or memories number None ≡ Some (record { low = length (shape_of top).memories + 2 * i; high = length (shape_of top).memories + 2 * i + 1 }))
+  pub only : (number : ℕ) (n : FlatNet) (m : ModuleTree) (q : Pair) → HasNumber ms f number n → module_at ms top n.0 ≡ Some m → get_or memories number None ≡ Some q → net_kind_of (declared m) n.1 ≡ MemoryArray
   pub own : (number other : ℕ) (p q : Pair) → get_or memories number None ≡ Some p → get_or memories other None ≡ Some q → p.low ≡ q.low → number ≡ other
 
 -- commits bring the numbers of one pair into another
