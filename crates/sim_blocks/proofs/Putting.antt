@@ -4,9 +4,9 @@ use Rattle.std.specs.Prelude.{◌⊎◌, ◌==◌, bytes_eq, is_some, slice_set,
 use Rattle.std.specs.List.{list_all}
 use Rattle.std.specs.Cmp.Lexicographic.{bytes_decides}
 use Rattle.std.proofs.Math.Bool.{and_comm}
-use Rattle.std.proofs.lemmas.Bool.{eq-eqb, ne_eqb, false≢true, cases_eq}
+use Rattle.std.proofs.lemmas.Bool.{eq-eqb, ne_eqb, false≢true, cases_eq, cases_lt}
 use Rattle.std.proofs.lemmas.Grind.{get_or-set_at}
-use Rattle.std.proofs.lemmas.List.{get_or-set_other}
+use Rattle.std.proofs.lemmas.List.{get_or-set_other, get_or_past}
 use Rattle.std.proofs.lemmas.Option.{same_Some}
 use Rattle.vlog_tree.specs.declared.tree.Atom.{Atom}
 use Rattle.vlog_tree.specs.declared.tree.Step.{Step}
@@ -93,7 +93,13 @@ module _ (ds : List Declaration) (s : Sizes) (c now : Cycle) (ns : List ℕ) (x 
   nets_put y p h = at_place y p (places_from 0 (names ds) y) refl h
 
 -- the pair of one place is another
-module _ (before : List (Option Pair)) (place : ℕ) (old chosen : Pair) (low : place < length before) (got : get_or before place None ≡ Some old) where
+module _ (before : List (Option Pair)) (place : ℕ) (old chosen : Pair) (got : get_or before place None ≡ Some old) where
+  missing : length before ≤ place → ⊥
+  missing h = let none : None ≡ Some old = sym (get_or_past before place None h) ∙ got in cc
+
+  low : place < length before
+  low = elim (cases_lt place (length before)) [ inl lt ↦ lt | inr ge ↦ absurd (missing ge) ]
+
   abbrev after : List (Option Pair)
   after = slice_set before place (Some chosen)
 

@@ -88,10 +88,10 @@ else_by false n = refl
 
 -- the slot of a part that runs where its condition is not 1, and of one that runs where it is
 pub off_says : (e t : Bool) (z n r : ℕ) → e ≡ true → z ≡ 0 → r ≡ cond t z n → r ≡ cond (cond e (not t) t) n 0
-off_says e t z n r is zero says = says ∙ ap (λ k. cond t k n) zero ∙ else_by t n ∙ ap (λ q. cond (cond q (not t) t) n 0) (sym is)
+off_says e t z n r is none says = says ∙ ap (λ k. cond t k n) none ∙ else_by t n ∙ ap (λ q. cond (cond q (not t) t) n 0) (sym is)
 
 pub on_says : (e t : Bool) (z n r : ℕ) → e ≡ false → z ≡ 0 → r ≡ cond t n z → r ≡ cond (cond e (not t) t) n 0
-on_says e t z n r is zero says = says ∙ ap (λ k. cond t n k) zero ∙ ap (λ q. cond (cond q (not t) t) n 0) (sym is)
+on_says e t z n r is none says = says ∙ ap (λ k. cond t n k) none ∙ ap (λ q. cond (cond q (not t) t) n 0) (sym is)
 
 -- the innermost part of those that are open
 pub popped : {A : Type 0} (old new : List A) (x : A) → old ≡ new ++ x ∷ [] → reverse old ≡ x ∷ reverse new

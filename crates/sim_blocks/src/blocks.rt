@@ -14,7 +14,7 @@ ghost use Rattle.sim_blocks.specs.Next.{ShowsNext, AreApart, AreKnown, SamePlace
 use crate::parts::{Walk, turn};
 use crate::writes::{Blocks, write};
 use sim_lower::Nets;
-use sim_tape::Tape;
+use sim_tape::{Pair, Tape};
 use std::alloc::{AllocError, Global};
 use vlog_tree::{Item, Step};
 
@@ -101,6 +101,16 @@ fn add_item(
     }
 }
 
+fn copy_pairs(alloc: Global, pairs: &[Option<Pair>]) -> Result<Vec<Option<Pair>>, AllocError>
+    ensures { IfOk result (λ v. v.items ≡ pairs.now) }
+{
+    let mut out = Vec::new(alloc);
+    for pair in pairs {
+        out.push(*pair)?;
+    }
+    Ok(out)
+}
+
 /// What the blocks of a module leave, over the nets and memories of one of its instances (IEEE 1364-2005, 9.2.2); none where
 /// a net that they read has no slots, a memory no numbers, or a part is closed that is not open.
 pub fn blocks_of(
@@ -117,8 +127,9 @@ pub fn blocks_of(
     ensures known { IfOk result (λ o. IfSome o (λ b. AreKnown nets.now.scope.now nets.now.memories.now b.stores.items)) }
     ensures value { IfOk result (λ o. IfSome o (λ b. AreApart nets.now.scope.now nets.now.memories.now → Told nets.now.scope.now nets.now.pairs.now (tree_of tape.new) (λ s c ns. IsTrue (list_all (has_conditions nets.now.scope.now) items.now) → ShowsNext nets.now.scope.now nets.now.memories.now b.next.items b.stores.items s c (run_items s c items.now c) ns))) }
 {
+    let next = copy_pairs(alloc, nets.pairs)?;
     let mut after = Blocks {
-        next: nets.pairs.to_vec(alloc)?,
+        next,
         stores: Vec::new(alloc),
     };
     for item in items {

@@ -142,9 +142,18 @@ pub(crate) fn turn(
     ensures value { IfOk result (λ done. OnTrue done (Told nets.now.scope.now nets.now.pairs.now (tree_of tape.new) (λ s c ns. IsTrue (is_condition nets.now.scope.now step.now) → WalkShows ns walk.old.on (reverse walk.old.parts.items) → IsTurned s c ns step.now (reverse walk.old.parts.items) walk.new.on (reverse walk.new.parts.items)))) }
 {
     match step {
-        Step::If(test) => open_part(tape, nets, walk, test),
-        Step::Else => turn_part(tape, walk),
-        Step::End => Ok(close_part(walk)),
+        Step::If(test) => {
+            let opened = open_part(tape, nets, walk, test)?;
+            Ok(opened)
+        }
+        Step::Else => {
+            let turned = turn_part(tape, walk)?;
+            Ok(turned)
+        }
+        Step::End => {
+            let closed = close_part(walk);
+            Ok(closed)
+        }
         Step::NonblockingAssign { .. } => Ok(true),
         Step::MemoryAssign { .. } => Ok(true),
     }

@@ -9,10 +9,10 @@ use Rattle.sim_blocks.specs.Parts.{has_conditions}
 use Rattle.sim_blocks.specs.Next.{ShowsNext, AreApart}
 use Rattle.sim_blocks.proofs.blocks.add_item.Goals as goal
 
-pub returns-in_ok-done-clause-value : goal.returns-in_ok-done-clause-value
-returns-in_ok-done-clause-value c =
+pub returns-in_ok-done-in-Always-clause-value : goal.returns-in_ok-done-in-Always-clause-value
+returns-in_ok-done-in-Always-clause-value c =
     let ds = c.args.nets.now.scope.now in
     let memories = c.args.nets.now.memories.now in
-    subst (λ t. OnTrue c.in_ok-done.done (AreApart ds memories → Told ds c.args.nets.now.pairs.now (tree_of c.add_steps.new.tape) (λ s k ns. (first now : Cycle) → IsTrue (has_conditions ds t)
+    subst (λ t. OnTrue c.in_ok-done-in-Always.done (AreApart ds memories → Told ds c.args.nets.now.pairs.now (tree_of c.add_steps.new.tape) (λ s k ns. (first now : Cycle) → IsTrue (has_conditions ds t)
         → ShowsNext ds memories c.args.after.now.next.items c.args.after.now.stores.items s first now ns → ShowsNext ds memories c.add_steps.new.after.next.items c.add_steps.new.after.stores.items s first (run_items s k (t ∷ []) now) ns)))
-    (ap (λ b. Always b) c.steps.ensures ∙ sym c.in-Always.is) c.in_ok-done.ensures.value
+    (ap (λ b. Always b) c.steps.ensures ∙ sym c.in-Always.is) c.in_ok-done-in-Always.ensures.value

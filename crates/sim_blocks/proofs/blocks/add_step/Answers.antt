@@ -3,7 +3,7 @@ use Rattle.std.specs.Prelude.{reverse}
 use Rattle.std.proofs.lemmas.Bool.{OnTrue_at, OnTrue_from}
 use Rattle.sim_tape.specs.Trees.{tree_of}
 use Rattle.sim_tape.proofs.Growing.{solved_on, extends_twice}
-use Rattle.sim_lower.proofs.Atoms.{slots_on}
+use Rattle.sim_lower.proofs.FromNets.{slots_on}
 use Rattle.sim_blocks.specs.Parts.{parts_run}
 use Rattle.sim_blocks.proofs.Walking.{on_before, walk_later, all_shown}
 use Rattle.sim_blocks.proofs.blocks.add_step.Goals as goal
@@ -11,8 +11,8 @@ use Rattle.sim_blocks.proofs.blocks.add_step.Goals as goal
 pub write-requires-clause-on : goal.write-requires-clause-on
 write-requires-clause-on c = on_before (length (tree_of c.args.tape.now).gates) c.args.walk.now.on (reverse c.args.walk.now.parts.items) c.requires.walk
 
-pub turn-done-requires : goal.turn-done-requires
-turn-done-requires c =
+pub turn-requires : goal.turn-requires
+turn-requires c =
     let g = c.in_ok-write.ensures.extends in
     record { tape = g.new_tape; nets = slots_on _ _ _ g c.requires.nets; walk = walk_later _ _ c.args.walk.now.on (reverse c.args.walk.now.parts.items) g.grows.gates c.requires.walk }
 
@@ -30,3 +30,6 @@ returns-clause-value c =
       OnTrue_at done c.in_ok-done.ensures.value cells ns s k h shows bit walk,
       OnTrue_at c.if-not-branch.false c.in_ok-write.ensures.value apart cells ns s k at_written shows (parts_run ns parts) first now (all_shown ns c.args.walk.now.on parts walk) before,
     ))
+
+pub returns-then-not-branch-clause-walk : goal.returns-then-not-branch-clause-walk
+returns-then-not-branch-clause-walk c = walk_later _ _ c.args.walk.now.on (reverse c.args.walk.now.parts.items) c.in_ok-write.ensures.extends.grows.gates c.requires.walk

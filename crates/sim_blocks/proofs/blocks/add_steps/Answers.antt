@@ -3,8 +3,9 @@ use Rattle.std.specs.Prelude.{reverse}
 use Rattle.std.proofs.lemmas.Bool.{OnTrue_at}
 use Rattle.sim_tape.specs.Trees.{tree_of}
 use Rattle.sim_tape.proofs.Growing.{solved_on, extends_twice}
-use Rattle.sim_lower.proofs.Atoms.{slots_on}
-use Rattle.sim_blocks.specs.Parts.{WalkShows, WalkBefore, is_condition}
+use Rattle.sim_lower.proofs.FromNets.{slots_on}
+use Rattle.vlog_tree.specs.Cycle.{run_steps}
+use Rattle.sim_blocks.specs.Parts.{WalkShows, WalkBefore, parts_run, is_condition}
 use Rattle.sim_blocks.specs.Next.{StepsLeft}
 use Rattle.sim_blocks.proofs.Putting.{places_same, places_twice}
 use Rattle.sim_blocks.proofs.Stepping.{all_got, step_left, steps_left}
@@ -13,7 +14,7 @@ use Rattle.sim_blocks.proofs.blocks.add_steps.Goals as goal
 pub loop-step-init : goal.loop-step-init
 loop-step-init c =
     let on = c.in_ok-on.on in
-    let e = c.new-parts.ensures.items in
+    let e = c.new.ensures.items in
     record {
       extends = c.in_ok-on.ensures.extends;
       walk = subst (λ l. WalkBefore (length (tree_of c.constant.new.self).gates) on (reverse l)) (sym e) c.in_ok-on.ensures.slot;
@@ -24,7 +25,7 @@ loop-step-init c =
         after = now;
         walk = subst (λ l. WalkShows ns on (reverse l)) (sym e) (c.in_ok-on.ensures.says cells ns h);
         shows = before;
-        same = refl;
+        same = ap (λ l. run_steps s k (parts_run ns (reverse l)) c.args.steps.now now) (sym e);
       };
     }
 
@@ -54,3 +55,9 @@ pub returns-clause-value : goal.returns-clause-value
 returns-clause-value c = λ apart cells ns s k h shows first now bits before.
     steps_left c.args.nets.now.scope.now c.args.nets.now.memories.now c.args.steps.now s k first now ns c.loop-step.after.next.items c.loop-step.after.stores.items c.loop-step.walk.on (reverse c.loop-step.walk.parts.items) c.loop-step.step-index c.loop-step-test.false
     (c.loop-step.invariant.value apart cells ns s k h shows first now bits before)
+
+pub returns-then-not-branch-clause-known : goal.returns-then-not-branch-clause-known
+returns-then-not-branch-clause-known c = λ h. c.in_ok-add_step.ensures.known (c.loop-step.invariant.known h)
+
+pub returns-then-not-branch-clause-same : goal.returns-then-not-branch-clause-same
+returns-then-not-branch-clause-same c = places_twice c.args.after.now.next.items c.loop-step.after.next.items c.add_step.new.after.next.items c.loop-step.invariant.same c.in_ok-add_step.ensures.same

@@ -3,7 +3,7 @@ use Rattle.std.proofs.lemmas.Bool.{OnTrue_at}
 use Rattle.sim_tape.specs.Trees.{tree_of}
 use Rattle.sim_tape.proofs.Growing.{solved_on, extends_twice, extends_refl}
 use Rattle.sim_lower.specs.Nets.{SlotsBefore}
-use Rattle.sim_lower.proofs.Atoms.{slots_on}
+use Rattle.sim_lower.proofs.FromNets.{slots_on}
 use Rattle.sim_blocks.specs.Parts.{has_conditions}
 use Rattle.sim_blocks.specs.Next.{SamePlaces, AreKnown}
 use Rattle.sim_blocks.proofs.Putting.{places_same, places_twice}
@@ -15,8 +15,8 @@ loop-item-init c =
     let ds = c.args.nets.now.scope.now in
     let memories = c.args.nets.now.memories.now in
     let pairs = c.args.nets.now.pairs.now in
-    let e : c.in_ok-to_vec.field-0.items ≡ pairs = c.in_ok-to_vec.ensures in
-    let f = c.new-stores.ensures.items in
+    let e : c.in_ok-next.next.items ≡ pairs = c.in_ok-next.ensures in
+    let f = c.new.ensures.items in
     record {
       extends = extends_refl (tree_of c.args.tape.now) c.requires.tape;
       slots = subst (λ l. SlotsBefore l (length (tree_of c.args.tape.now).gates)) (sym e) c.requires.nets;

@@ -1,18 +1,18 @@
-use Rattle.std.proofs.Common.{◌≡◌, ℕ, ◌+◌, ◌<◌, ◌≤◌, Bool, true, false, cond, List, [], ◌∷◌, ◌++◌, Option, Some, None, length, refl, sym, ap, subst, ◌∙◌, rules, arith}
+use Rattle.std.proofs.Common.{◌≡◌, ℕ, ◌+◌, ◌<◌, ◌≤◌, Bool, true, false, cond, List, [], ◌∷◌, ◌++◌, Option, Some, None, length, get_or, refl, sym, ap, subst, ◌∙◌, rules, arith}
 use Rattle.sim_tape.specs.Trees.{tree_of}
 use Rattle.sim_blocks.proofs.Putting.{same_places, slots_put, is_put}
 use Rattle.sim_blocks.proofs.writes.put_at.Goals as goal
 
 pub choose-requires-clause-no : goal.choose-requires-clause-no
-choose-requires-clause-no c = c.requires.next c.args.place c.in-Some.old (sym c.in-Some.ensures)
+choose-requires-clause-no c = c.requires.next c.args.place c.in-Some.old (sym (c.in-Some.ensures ∙ ap (λ l. get_or l c.args.place None) c.deref.ensures.value))
 
 pub returns-clause-slots : goal.returns-clause-slots
 returns-clause-slots c =
-    slots_put c.args.next.now.items c.args.place c.in-Some.old c.in_ok-chosen.chosen c.if-place-next.false (sym c.in-Some.ensures) _ _ c.in_ok-chosen.ensures.extends.grows.gates c.requires.next c.in_ok-chosen.ensures.slots
+    slots_put c.args.next.now.items c.args.place c.in-Some.old c.in_ok-chosen.chosen (sym (c.in-Some.ensures ∙ ap (λ l. get_or l c.args.place None) c.deref.ensures.value)) _ _ c.in_ok-chosen.ensures.extends.grows.gates c.requires.next c.in_ok-chosen.ensures.slots
 
 pub returns-clause-same : goal.returns-clause-same
-returns-clause-same c = same_places c.args.next.now.items c.args.place c.in-Some.old c.in_ok-chosen.chosen c.if-place-next.false (sym c.in-Some.ensures)
+returns-clause-same c = same_places c.args.next.now.items c.args.place c.in-Some.old c.in_ok-chosen.chosen (sym (c.in-Some.ensures ∙ ap (λ l. get_or l c.args.place None) c.deref.ensures.value))
 
 pub returns-clause-says : goal.returns-clause-says
 returns-clause-says c = λ cells ns h.
-    is_put c.args.next.now.items c.args.place c.in-Some.old c.in_ok-chosen.chosen c.if-place-next.false (sym c.in-Some.ensures) ns c.args.on c.args.value (c.in_ok-chosen.ensures.says cells ns h)
+    is_put c.args.next.now.items c.args.place c.in-Some.old c.in_ok-chosen.chosen (sym (c.in-Some.ensures ∙ ap (λ l. get_or l c.args.place None) c.deref.ensures.value)) ns c.args.on c.args.value (c.in_ok-chosen.ensures.says cells ns h)

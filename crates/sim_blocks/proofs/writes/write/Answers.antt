@@ -4,7 +4,7 @@ use Rattle.std.proofs.lemmas.Bool.{OnTrue_at, OnTrue_from}
 use Rattle.vlog_tree.specs.Cycle.{atom_value}
 use Rattle.vlog_ref_cycle.specs.Next.{step_next}
 use Rattle.sim_tape.specs.Trees.{tree_of}
-use Rattle.sim_lower.proofs.Atoms.{slots_on}
+use Rattle.sim_lower.proofs.FromNets.{slots_on}
 use Rattle.sim_blocks.specs.Next.{ShowsNext}
 use Rattle.sim_blocks.proofs.Putting.{cell_put}
 use Rattle.sim_blocks.proofs.Storing.{net_stored}
@@ -18,7 +18,7 @@ returns-in_ok-done-in-NonblockingAssign-clause-value c =
     subst (λ t. ShowsNext ds memories c.put_register.new.next.items c.args.after.now.stores.items s first (step_next s k bs t now) ns) (sym c.in-NonblockingAssign.is)
     (record {
       nets = OnTrue_at done c.in_ok-done-in-NonblockingAssign.ensures.value cells ns s k h shows bs now runs before.nets;
-      cells = λ m q g a. cell_put (list_all (λ b. b) bs) c.in-NonblockingAssign.register.now m (atom_value k c.in-NonblockingAssign.value.now) a now ∙ before.cells m q g a;
+      cells = λ m q g a. cell_put (list_all (λ b. b) bs) c.in-NonblockingAssign.register m (atom_value k c.in-NonblockingAssign.value) a now ∙ before.cells m q g a;
     }))
 
 pub returns-in_ok-done-in-MemoryAssign-clause-slots : goal.returns-in_ok-done-in-MemoryAssign-clause-slots
@@ -31,6 +31,6 @@ returns-in_ok-done-in-MemoryAssign-clause-value c =
     let memories = c.args.nets.now.memories.now in
     subst (λ t. ShowsNext ds memories c.args.after.now.next.items c.add_store.new.stores.items s first (step_next s k bs t now) ns) (sym c.in-MemoryAssign.is)
     (record {
-      nets = λ y p g. net_stored (list_all (λ b. b) bs) s c.in-MemoryAssign.memory.now y (k.net c.in-MemoryAssign.index.now) (atom_value k c.in-MemoryAssign.value.now) now ∙ before.nets y p g;
+      nets = λ y p g. net_stored (list_all (λ b. b) bs) s c.in-MemoryAssign.memory y (k.net c.in-MemoryAssign.index) (atom_value k c.in-MemoryAssign.value) now ∙ before.nets y p g;
       cells = OnTrue_at done c.in_ok-done-in-MemoryAssign.ensures.value apart cells ns s k h shows bs first now runs before.cells;
     }))
