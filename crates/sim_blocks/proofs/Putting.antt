@@ -1,6 +1,6 @@
 -- What registers have in the next cycle, after one more of them takes over a number.
 use Rattle.std.proofs.Common.{◌≡◌, ℕ, suc, ◌<◌, ◌≤◌, Bool, true, false, cond, ◌&&◌, List, [], ◌∷◌, Option, Some, None, length, get_or, inl, inr, refl, sym, ap, subst, ◌∙◌, map, arith}
-use Rattle.std.specs.Prelude.{◌⊎◌, ◌==◌, bytes_eq, is_some, slice_set, unwrap_or}
+use Rattle.std.specs.Prelude.{◌==◌, bytes_eq, is_some, slice_set, unwrap_or}
 use Rattle.std.specs.List.{list_all}
 use Rattle.std.specs.Cmp.Lexicographic.{bytes_decides}
 use Rattle.std.proofs.Math.Bool.{and_comm}
@@ -9,18 +9,17 @@ use Rattle.std.proofs.lemmas.Grind.{get_or-set_at}
 use Rattle.std.proofs.lemmas.List.{get_or-set_other, get_or_past}
 use Rattle.std.proofs.lemmas.Option.{same_Some}
 use Rattle.vlog_tree.specs.declared.tree.Atom.{Atom}
-use Rattle.vlog_tree.specs.declared.tree.Step.{Step}
-use Rattle.vlog_tree.specs.declared.tree.Step.TheVariants.{If, Else, End, NonblockingAssign, MemoryAssign}
+use Rattle.vlog_tree.specs.declared.tree.Step.TheVariants.{NonblockingAssign}
 use Rattle.vlog_tree.specs.declared.table.Declaration.{Declaration}
-use Rattle.vlog_tree.specs.Table.{Name, declaration_name, find_name, unknown, one_if}
-use Rattle.vlog_tree.specs.Cycle.{Cycle, Sizes, and_then, atom_value, put, store}
+use Rattle.vlog_tree.specs.Table.{Name, declaration_name, find_name, one_if}
+use Rattle.vlog_tree.specs.Cycle.{Cycle, Sizes, and_then, atom_value, put}
 use Rattle.vlog_rules.specs.NameTable.{places_from}
 use Rattle.vlog_rules.proofs.Found.{found}
 use Rattle.vlog_ref_cycle.specs.Next.{step_next}
 use Rattle.sim_tape.specs.declared.gates.Pair.{Pair}
 use Rattle.sim_tape.specs.Tape.{number_at, pair_value, PairBefore}
 use Rattle.sim_tape.proofs.Growing.{pair_later}
-use Rattle.sim_lower.specs.Nets.{pair_in, SlotsBefore}
+use Rattle.sim_lower.specs.Nets.{SlotsBefore}
 use Rattle.sim_blocks.specs.Next.{NetsNext, IsPut, SamePlaces}
 
 abbrev names : List Declaration → List Name
@@ -125,14 +124,16 @@ module _ (before : List (Option Pair)) (place : ℕ) (old chosen : Pair) (got : 
     pub is_put : IsPut ns on value place before after
     is_put i p h = elim (cases_eq i place) [
       | inl e ↦ (
-          old,
-          ap (λ k. get_or before k None) e ∙ got,
-          ap (λ q. pair_value ns q) (same_Some p chosen (sym h ∙ at_it i e)) ∙ says
-          ∙ ap (λ t. cond (t && (number_at ns on == 1)) (pair_value ns value) (pair_value ns old)) (sym (eq-eqb i place e)))
+        old,
+        ap (λ k. get_or before k None) e ∙ got,
+        ap (λ q. pair_value ns q) (same_Some p chosen (sym h ∙ at_it i e)) ∙ says
+            ∙ ap (λ t. cond (t && (number_at ns on == 1)) (pair_value ns value) (pair_value ns old)) (sym (eq-eqb i place e)),
+      )
       | inr ne ↦ (
-          p,
-          sym (away i ne) ∙ h,
-          ap (λ t. cond (t && (number_at ns on == 1)) (pair_value ns value) (pair_value ns p)) (sym (ne_eqb i place ne)))
+        p,
+        sym (away i ne) ∙ h,
+        ap (λ t. cond (t && (number_at ns on == 1)) (pair_value ns value) (pair_value ns p)) (sym (ne_eqb i place ne)),
+      )
     ]
 
 pub places_same : (pairs : List (Option Pair)) → SamePlaces pairs pairs

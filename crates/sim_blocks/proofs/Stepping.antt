@@ -1,12 +1,12 @@
 -- What steps and items leave, one after another.
-use Rattle.std.proofs.Common.{◌≡◌, ℕ, zero, suc, ◌+◌, ◌<◌, ◌≤◌, Bool, true, ◌&&◌, List, [], ◌∷◌, Option, length, get_or, drop, refl, sym, ap, subst, ◌∙◌, arith}
+use Rattle.std.proofs.Common.{◌≡◌, ℕ, zero, suc, ◌+◌, ◌<◌, ◌≤◌, Bool, true, List, [], ◌∷◌, Option, length, get_or, drop, refl, sym, ap, subst, ◌∙◌, arith}
 use Rattle.std.specs.List.{list_all}
 use Rattle.std.proofs.lemmas.Bool.{and_parts}
 use Rattle.vlog_tree.specs.declared.tree.Step.{Step}
 use Rattle.vlog_tree.specs.declared.tree.Item.{Item}
 use Rattle.vlog_tree.specs.declared.table.Declaration.{Declaration}
 use Rattle.vlog_tree.specs.Cycle.{Cycle, Sizes, run_steps, run_items}
-use Rattle.vlog_tree.proofs.Walks.{opened, over}
+use Rattle.vlog_tree.proofs.Walks.{opened}
 use Rattle.vlog_ref_cycle.specs.Next.{step_next}
 use Rattle.vlog_ref_cycle.proofs.Turns.{steps_end, items_on, items_end}
 use Rattle.sim_tape.specs.declared.gates.Pair.{Pair}

@@ -1,5 +1,5 @@
 -- What memories have in the next cycle, after one more store.
-use Rattle.std.proofs.Common.{◌≡◌, ℕ, Bool, true, false, cond, ◌&&◌, List, [], ◌∷◌, ◌++◌, Option, Some, None, inl, inr, refl, sym, ap, subst, ◌∙◌}
+use Rattle.std.proofs.Common.{◌≡◌, ℕ, Bool, true, false, cond, ◌&&◌, List, [], ◌∷◌, ◌++◌, Option, Some, inl, inr, refl, sym, ap, subst, ◌∙◌}
 use Rattle.std.specs.Prelude.{◌==◌, bytes_eq, nat_lt}
 use Rattle.std.specs.List.{list_all}
 use Rattle.std.specs.Cmp.Lexicographic.{bytes_decides}
@@ -8,7 +8,6 @@ use Rattle.std.proofs.lemmas.Option.{same_Some}
 use Rattle.vlog_tree.specs.declared.tree.Atom.{Atom}
 use Rattle.vlog_tree.specs.declared.tree.Step.TheVariants.{MemoryAssign}
 use Rattle.vlog_tree.specs.declared.table.Declaration.{Declaration}
-use Rattle.vlog_tree.specs.Grounded.{Has}
 use Rattle.vlog_tree.specs.Table.{Name, one_if}
 use Rattle.vlog_tree.specs.Cycle.{Cycle, Sizes, atom_value, store}
 use Rattle.vlog_tree.proofs.Lists.{has_split}
@@ -68,7 +67,7 @@ pub known_pushed : (ds : List Declaration) (memories : List (Option Pair)) (stor
 known_pushed ds memories stores t m e h u has = elim (has_split stores (t ∷ []) u has) [
   | inl l ↦ h u l
   | inr r ↦ (elim r [
-      | inl same ↦ (m, subst (λ (z : Store). pair_in ds memories m ≡ Some z.memory) same e)
-      | inr none ↦ absurd none
-    ])
+    | inl same ↦ (m, subst (λ (z : Store). pair_in ds memories m ≡ Some z.memory) same e)
+    | inr none ↦ absurd none
+  ])
 ]

@@ -4,8 +4,7 @@ use Rattle.std.specs.Prelude.{◌==◌, not, reverse}
 use Rattle.std.specs.List.{list_all}
 use Rattle.std.proofs.lemmas.List.{reverse-append}
 use Rattle.std.proofs.lemmas.Bool.{eqb-true}
-use Rattle.vlog_tree.specs.declared.tree.Step.{Step}
-use Rattle.vlog_tree.specs.declared.tree.Step.TheVariants.{If, Else, End, NonblockingAssign, MemoryAssign}
+use Rattle.vlog_tree.specs.declared.tree.Step.TheVariants.{If, Else, End}
 use Rattle.vlog_tree.specs.Table.{Name, one_if}
 use Rattle.vlog_tree.specs.Cycle.{Cycle, Sizes, run_steps}
 use Rattle.sim_tape.specs.Tape.{number_at}

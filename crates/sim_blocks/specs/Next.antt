@@ -1,5 +1,5 @@
 -- What registers and memories have in the next cycle, told by the numbers of slots in this one.
-use Rattle.std.specs.Prelude.{◌≡◌, ℕ, ◌<◌, Bool, ◌&&◌, List, [], ◌∷◌, Option, Some, None, get_or, is_some, nat_lt, ◌==◌, if◌then◌else◌}
+use Rattle.std.specs.Prelude.{◌≡◌, ℕ, Bool, ◌&&◌, List, [], ◌∷◌, Option, Some, None, get_or, is_some, nat_lt, ◌==◌, if◌then◌else◌}
 use Rattle.vlog_tree.specs.declared.tree.Step.{Step}
 use Rattle.vlog_tree.specs.declared.tree.Item.{Item}
 use Rattle.vlog_tree.specs.declared.table.Declaration.{Declaration}

@@ -68,12 +68,7 @@ fn enter(tape: &mut Tape, walk: &mut Walk, part: Part) -> Result<(), AllocError>
 }
 
 // The part that runs where a net is 1; false where the net has no slots.
-fn open_part(
-    tape: &mut Tape,
-    nets: &Nets,
-    walk: &mut Walk,
-    test: &Text,
-) -> Result<bool, AllocError>
+fn open_part(tape: &mut Tape, nets: &Nets, walk: &mut Walk, test: &Text) -> Result<bool, AllocError>
     requires tape { IsTape (tree_of tape.old) }
     requires nets { SlotsBefore nets.now.pairs.now (length (tree_of tape.old).gates) }
     requires walk { WalkBefore (length (tree_of tape.old).gates) walk.old.on (reverse walk.old.parts.items) }

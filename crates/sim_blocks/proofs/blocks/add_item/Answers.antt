@@ -1,4 +1,4 @@
-use Rattle.std.proofs.Common.{◌≡◌, ℕ, ◌+◌, ◌<◌, ◌≤◌, Bool, true, false, cond, List, [], ◌∷◌, ◌++◌, Option, Some, None, length, refl, sym, ap, subst, ◌∙◌, rules, arith}
+use Rattle.std.proofs.Common.{[], ◌∷◌, sym, ap, subst, ◌∙◌}
 use Rattle.std.specs.Prelude.{IsTrue}
 use Rattle.std.specs.Bool.{OnTrue}
 use Rattle.vlog_tree.specs.declared.tree.Item.TheVariants.{Always}
@@ -14,5 +14,5 @@ returns-in_ok-done-in-Always-clause-value c =
     let ds = c.args.nets.now.scope.now in
     let memories = c.args.nets.now.memories.now in
     subst (λ t. OnTrue c.in_ok-done-in-Always.done (AreApart ds memories → Told ds c.args.nets.now.pairs.now (tree_of c.add_steps.new.tape) (λ s k ns. (first now : Cycle) → IsTrue (has_conditions ds t)
-        → ShowsNext ds memories c.args.after.now.next.items c.args.after.now.stores.items s first now ns → ShowsNext ds memories c.add_steps.new.after.next.items c.add_steps.new.after.stores.items s first (run_items s k (t ∷ []) now) ns)))
+    → ShowsNext ds memories c.args.after.now.next.items c.args.after.now.stores.items s first now ns → ShowsNext ds memories c.add_steps.new.after.next.items c.add_steps.new.after.stores.items s first (run_items s k (t ∷ []) now) ns)))
     (ap (λ b. Always b) c.steps.ensures ∙ sym c.in-Always.is) c.in_ok-done-in-Always.ensures.value

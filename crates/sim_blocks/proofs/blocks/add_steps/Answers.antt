@@ -1,4 +1,4 @@
-use Rattle.std.proofs.Common.{◌≡◌, ℕ, ◌+◌, ◌<◌, ◌≤◌, Bool, true, false, cond, List, [], ◌∷◌, ◌++◌, Option, Some, None, length, refl, sym, ap, subst, ◌∙◌, rules, arith}
+use Rattle.std.proofs.Common.{length, sym, ap, subst}
 use Rattle.std.specs.Prelude.{reverse}
 use Rattle.std.proofs.lemmas.Bool.{OnTrue_at}
 use Rattle.sim_tape.specs.Trees.{tree_of}
@@ -6,7 +6,6 @@ use Rattle.sim_tape.proofs.Growing.{solved_on, extends_twice}
 use Rattle.sim_lower.proofs.FromNets.{slots_on}
 use Rattle.vlog_tree.specs.Cycle.{run_steps}
 use Rattle.sim_blocks.specs.Parts.{WalkShows, WalkBefore, parts_run, is_condition}
-use Rattle.sim_blocks.specs.Next.{StepsLeft}
 use Rattle.sim_blocks.proofs.Putting.{places_same, places_twice}
 use Rattle.sim_blocks.proofs.Stepping.{all_got, step_left, steps_left}
 use Rattle.sim_blocks.proofs.blocks.add_steps.Goals as goal

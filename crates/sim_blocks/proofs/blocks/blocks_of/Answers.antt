@@ -1,9 +1,8 @@
-use Rattle.std.proofs.Common.{◌≡◌, ℕ, ◌+◌, ◌<◌, ◌≤◌, Bool, true, false, cond, List, [], ◌∷◌, ◌++◌, Option, Some, None, length, refl, sym, ap, subst, ◌∙◌, rules, arith}
+use Rattle.std.proofs.Common.{◌≡◌, length, sym, subst}
 use Rattle.std.proofs.lemmas.Bool.{OnTrue_at}
 use Rattle.sim_tape.specs.Trees.{tree_of}
 use Rattle.sim_tape.proofs.Growing.{solved_on, extends_twice, extends_refl}
 use Rattle.sim_lower.specs.Nets.{SlotsBefore}
-use Rattle.sim_lower.proofs.FromNets.{slots_on}
 use Rattle.sim_blocks.specs.Parts.{has_conditions}
 use Rattle.sim_blocks.specs.Next.{SamePlaces, AreKnown}
 use Rattle.sim_blocks.proofs.Putting.{places_same, places_twice}

@@ -1,4 +1,3 @@
-use Rattle.std.proofs.Common.{◌≡◌, ℕ, ◌+◌, ◌<◌, ◌≤◌, Bool, true, false, cond, List, [], ◌∷◌, ◌++◌, Option, Some, None, length, refl, sym, ap, subst, ◌∙◌, rules, arith}
 use Rattle.std.specs.Prelude.{reverse}
 use Rattle.sim_blocks.proofs.Walking.{popped, ended_before, end_turned}
 use Rattle.sim_blocks.proofs.parts.close_part.Goals as goal

@@ -1,4 +1,4 @@
-use Rattle.std.proofs.Common.{◌≡◌, ℕ, ◌+◌, ◌<◌, ◌≤◌, Bool, true, false, cond, List, [], ◌∷◌, ◌++◌, Option, Some, None, length, refl, sym, ap, subst, ◌∙◌, rules, arith}
+use Rattle.std.proofs.Common.{◌≡◌, [], ◌∷◌, ◌++◌, ap, ◌∙◌, rules}
 use Rattle.std.specs.Prelude.{reverse}
 use Rattle.sim_blocks.proofs.Walking.{reverse_push, entered}
 use Rattle.sim_blocks.proofs.parts.enter.Goals as goal

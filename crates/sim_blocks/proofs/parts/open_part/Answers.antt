@@ -1,4 +1,4 @@
-use Rattle.std.proofs.Common.{◌≡◌, ℕ, ◌+◌, ◌<◌, ◌≤◌, Bool, true, false, cond, List, [], ◌∷◌, ◌++◌, Option, Some, None, length, refl, sym, ap, subst, ◌∙◌, rules, arith}
+use Rattle.std.proofs.Common.{length, sym}
 use Rattle.std.specs.Prelude.{reverse}
 use Rattle.vlog_tree.specs.Table.{bits_of}
 use Rattle.sim_tape.specs.Tape.{number_at}

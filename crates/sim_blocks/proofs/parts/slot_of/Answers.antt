@@ -1,4 +1,3 @@
-use Rattle.std.proofs.Common.{◌≡◌, ℕ, ◌+◌, ◌<◌, ◌≤◌, Bool, true, false, cond, List, [], ◌∷◌, ◌++◌, Option, Some, None, length, refl, sym, ap, subst, ◌∙◌, rules, arith}
 use Rattle.std.specs.Prelude.{◌==◌}
 use Rattle.sim_tape.specs.Tape.{number_at}
 use Rattle.sim_tape.proofs.Growing.{zero_says}

@@ -1,4 +1,4 @@
-use Rattle.std.proofs.Common.{◌≡◌, refl, sym, subst}
+use Rattle.std.proofs.Common.{sym, subst}
 use Rattle.std.specs.Prelude.{IsTrue, reverse}
 use Rattle.std.specs.Bool.{OnTrue}
 use Rattle.std.proofs.lemmas.Bool.{OnTrue_at, OnTrue_from}
@@ -11,7 +11,7 @@ pub returns-in_ok-opened-in-If-clause-value : goal.returns-in_ok-opened-in-If-cl
 returns-in_ok-opened-in-If-clause-value c =
     let ds = c.args.nets.now.scope.now in
     subst (λ t. OnTrue c.in_ok-opened-in-If.opened (Told ds c.args.nets.now.pairs.now (tree_of c.open_part.new.tape) (λ s k ns. IsTrue (is_condition ds t) → WalkShows ns c.args.walk.now.on (reverse c.args.walk.now.parts.items)
-        → IsTurned s k ns t (reverse c.args.walk.now.parts.items) c.open_part.new.walk.on (reverse c.open_part.new.walk.parts.items)))) (sym c.in-If.is) c.in_ok-opened-in-If.ensures.value
+    → IsTurned s k ns t (reverse c.args.walk.now.parts.items) c.open_part.new.walk.on (reverse c.open_part.new.walk.parts.items)))) (sym c.in-If.is) c.in_ok-opened-in-If.ensures.value
 
 pub returns-in_ok-turned-in-Else-clause-value : goal.returns-in_ok-turned-in-Else-clause-value
 returns-in_ok-turned-in-Else-clause-value c =

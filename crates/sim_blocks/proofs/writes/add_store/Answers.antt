@@ -1,10 +1,7 @@
-use Rattle.std.proofs.Common.{◌≡◌, ℕ, ◌+◌, ◌<◌, ◌≤◌, Bool, true, false, cond, List, [], ◌∷◌, ◌++◌, Option, Some, None, length, refl, sym, ap, subst, ◌∙◌, rules, arith}
-use Rattle.std.specs.Prelude.{IfOk}
+use Rattle.std.proofs.Common.{◌≡◌, [], ◌∷◌, ◌++◌, sym, subst, rules}
 use Rattle.sim_tape.specs.Trees.{tree_of}
-use Rattle.sim_tape.proofs.Growing.{solved_on}
 use Rattle.sim_lower.specs.Nets.{IsAtom, Told}
 use Rattle.sim_lower.proofs.FromNets.{some_is}
-use Rattle.vlog_tree.specs.Cycle.{Cycle}
 use Rattle.vlog_tree.specs.declared.tree.Step.TheVariants.{MemoryAssign}
 use Rattle.vlog_ref_cycle.specs.Next.{step_next}
 use Rattle.sim_blocks.specs.declared.writes.Store.{Store}

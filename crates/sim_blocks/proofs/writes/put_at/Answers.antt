@@ -1,5 +1,4 @@
-use Rattle.std.proofs.Common.{◌≡◌, ℕ, ◌+◌, ◌<◌, ◌≤◌, Bool, true, false, cond, List, [], ◌∷◌, ◌++◌, Option, Some, None, length, get_or, refl, sym, ap, subst, ◌∙◌, rules, arith}
-use Rattle.sim_tape.specs.Trees.{tree_of}
+use Rattle.std.proofs.Common.{None, get_or, sym, ap, ◌∙◌}
 use Rattle.sim_blocks.proofs.Putting.{same_places, slots_put, is_put}
 use Rattle.sim_blocks.proofs.writes.put_at.Goals as goal
 

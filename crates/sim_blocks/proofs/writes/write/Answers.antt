@@ -1,9 +1,8 @@
-use Rattle.std.proofs.Common.{◌≡◌, ℕ, ◌+◌, ◌<◌, ◌≤◌, Bool, true, false, cond, List, [], ◌∷◌, ◌++◌, Option, Some, None, length, refl, sym, ap, subst, ◌∙◌, rules, arith}
+use Rattle.std.proofs.Common.{sym, subst, ◌∙◌}
 use Rattle.std.specs.List.{list_all}
 use Rattle.std.proofs.lemmas.Bool.{OnTrue_at, OnTrue_from}
 use Rattle.vlog_tree.specs.Cycle.{atom_value}
 use Rattle.vlog_ref_cycle.specs.Next.{step_next}
-use Rattle.sim_tape.specs.Trees.{tree_of}
 use Rattle.sim_lower.proofs.FromNets.{slots_on}
 use Rattle.sim_blocks.specs.Next.{ShowsNext}
 use Rattle.sim_blocks.proofs.Putting.{cell_put}
