@@ -1,9 +1,6 @@
-//! The clocked blocks of a module on a tape: the pairs of slots with the numbers that registers take over, and the stores into memories.
+//! The clocked blocks of a module on a tape: what its registers take over and what is stored in its memories.
 #![tactic(auto)]
 
-mod blocks;
-mod parts;
 mod writes;
 
-pub use blocks::blocks_of;
-pub use writes::{Blocks, Store};
+pub use writes::Store;

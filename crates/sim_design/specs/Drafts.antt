@@ -50,6 +50,7 @@ pub record AreGiven (ms : List ModuleTree) (top : ModuleTree) (f : Flat) (pairs 
 
 -- The memories inside have two numbers each, one behind the other, behind those of the memories outside.
 pub record AreMemories (ms : List ModuleTree) (top : ModuleTree) (f : Flat) (memories : List (Option Pair)) (widths : List Width) : Type 0 where
+  pub count : length memories ≡ length f.owners.items
   pub all : (number : ℕ) (n : FlatNet) (m : ModuleTree) (w k : ℕ) → HasNumber ms f number n → module_at ms top n.0 ≡ Some m → Has m.items (Memory w n.1 k)
       → (i : ℕ) × (slice_get widths i ≡ Some (record { pair = record { low = length (shape_of top).memories + 2 * i; high = length (shape_of top).memories + 2 * i + 1 }; bits = w; cells = k }))
       × (get_or memories number None ≡ Some (record { low = length (shape_of top).memories + 2 * i; high = length (shape_of top).memories + 2 * i + 1 }))

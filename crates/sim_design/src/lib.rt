@@ -2,8 +2,5 @@
 #![tactic(auto)]
 
 mod drafts;
-mod memories;
-mod next;
-mod placing;
 
 pub use drafts::{Commit, Draft, Width, draft_of};

@@ -2,6 +2,5 @@
 #![tactic(auto)]
 
 mod instances;
-mod kinds;
 
 pub use instances::{Instance, Instances, instances_of};

@@ -2,9 +2,7 @@
 #![tactic(auto)]
 
 mod flat;
-mod order;
 mod tables;
 
 pub use flat::{Flat, flatten};
-pub use order::{net_around, net_inside, order_of_nets};
-pub use tables::{Child, Source, Table, tables_of};
+pub use tables::{Child, Source, Table};

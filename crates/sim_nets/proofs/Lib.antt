@@ -1,0 +1,3 @@
+pub mod Got
+pub mod Names
+pub mod Standing
