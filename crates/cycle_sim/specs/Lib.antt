@@ -1,2 +1,3 @@
-pub mod Sims
 pub mod Told
+pub mod Sims
+pub mod Steps

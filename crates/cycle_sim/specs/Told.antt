@@ -1,6 +1,5 @@
 -- What is told of a cycle by slots and cells.
-use Rattle.std.specs.Prelude.{ℕ, ◌+◌, ◌*◌, ◌^◌, ◌==◌, List, [], ◌∷◌, Option, Some, None, get_or, slice_get, option_map, option_and_then, position, bytes_eq}
-use Rattle.std.specs.Option.{option_map_or}
+use Rattle.std.specs.Prelude.{ℕ, ◌+◌, ◌*◌, ◌^◌, ◌==◌, List, [], ◌∷◌, Option, Some, None, suc, get_or, slice_get, option_map, option_and_then, bytes_eq, if◌then◌else◌}
 use Rattle.vlog_tree.specs.Form.{ModuleTree}
 use Rattle.vlog_tree.specs.Cycle.{Path}
 use Rattle.vlog_tree.specs.Loops.{instances}
@@ -17,15 +16,16 @@ use Rattle.sim_law.specs.Told.{TellTree}
 abbrev pub module_of : List ModuleTree → Flat → ℕ → Option ModuleTree
 module_of ms f k = slice_get ms (row_at f.instances.items k).kind
 
--- the place of an instance's name among those in a module
-abbrev pub child_place : ModuleTree → Name → Option ℕ
-child_place m i = position (λ (p : Name × Name). bytes_eq p.1 i) (instances m)
+-- the first place of a name among instances
+abbrev pub child_place : List (Name × Name) → Name → Option ℕ
+child_place [] i = None
+child_place (p ∷ ps) i = if bytes_eq p.1 i then Some 0 else option_map suc (child_place ps i)
 
 -- the number of the instance at the end of a path
 abbrev pub instance_at : List ModuleTree → Flat → Path → Option ℕ
 instance_at ms f [] = Some 0
 instance_at ms f (i ∷ path) =
-    option_and_then (λ k. option_and_then (λ m. option_map (λ c. get_or f.first_child.items k 0 + c) (child_place m i)) (module_of ms f k)) (instance_at ms f path)
+    option_and_then (λ k. option_and_then (λ m. option_map (λ c. get_or f.first_child.items k 0 + c) (child_place (instances m) i)) (module_of ms f k)) (instance_at ms f path)
 
 -- the number of a net by its path and its name
 abbrev pub number_of : List ModuleTree → Flat → Path → Name → Option ℕ

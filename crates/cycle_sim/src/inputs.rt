@@ -1,81 +1,80 @@
-// The top's inputs on a tape.
+// What the inputs of the top are given.
 
-use sim_tape::{Operator, Pair, Tape};
-use std::alloc::{AllocError, Global};
-use tapa_base::{Port, Text};
-use vlog_rules::Scope;
-use vlog_tree::{ack_of, addr_name, rdata_of, scalar_of};
+ghost use Rattle.std.specs.Prelude.{◌≡◌, ℕ, Bool, List, [], Some, length, slice_get, slice_index_or};
+ghost use Rattle.vlog_tree.specs.Environment.{ready_at};
+ghost use Rattle.vlog_ref_start.specs.Outside.{lists_of};
+ghost use Rattle.sim_tape.specs.Tape.{number_at};
+ghost use Rattle.cycle_sim.specs.declared.inputs.Input.{Input as InputTree};
+ghost use Rattle.cycle_sim.specs.Steps.{HaveSlots, IsAway, PairHas, supplied as supplied_lem};
 
-/// The slots of the top's inputs that are given: of the reset, and with the place of its scalar or of its memory each other.
-#[derive(Drop)]
-pub(crate) struct Inputs {
-    pub reset: u32,
-    pub scalars: Vec<(u32, usize)>,
-    pub acks: Vec<(u32, usize)>,
+use crate::slots::put_pair;
+use sim_tape::Pair;
+
+/// What an input of the top is given: reset, a number that stays, or whether the memory at a place is ready.
+#[derive(Clone, Copy, PartialEq, Eq, Debug)]
+pub enum Supply {
+    Reset,
+    Scalar(u64),
+    Ready(usize),
 }
 
-fn place_of_label(labels: &[Port], label: &[u8]) -> Option<usize> {
-    for (place, port) in labels.iter().enumerate() {
-        if port.name.bytes() == label {
-            return Some(place);
+/// The slots of an input of the top, and what it is given.
+#[derive(Clone, Copy, PartialEq, Eq, Debug)]
+pub struct Input {
+    pub pair: Pair,
+    pub supply: Supply,
+}
+
+fn ready_in(bits: &[bool], cycle: u64) -> u64
+    ensures { result ≡ ready_at bits.now cycle }
+{
+    if cycle == 0 {
+        return 0;
+    }
+    match bits.get((cycle - 1) as usize) {
+        Some(b) => {
+            if *b {
+                1
+            } else {
+                0
+            }
         }
-    }
-    None
-}
-
-fn pair_at(scope: &Scope, pairs: &[Option<Pair>], name: &Text) -> Option<Pair> {
-    match scope.place(name) {
-        Some((place, _)) => pairs.get(place).copied().flatten(),
-        None => None,
+        None => 1,
     }
 }
 
-// What a memory answers is a cell of it.
-fn answer(
-    alloc: Global,
-    tape: &mut Tape,
-    scope: &Scope,
-    pairs: &[Option<Pair>],
-    memories: &[Port],
-    label: &[u8],
-) -> Result<Option<Pair>, AllocError> {
-    let Some(place) = place_of_label(memories, label) else {
-        return Ok(None);
-    };
-    let addr = Text::new(addr_name(alloc, label)?);
-    let Some(at) = pair_at(scope, pairs, &addr) else {
-        return Ok(None);
-    };
-    let memory = tape.constant(place as u64)?;
-    let low = tape.operate(Operator::Cell, at.low, memory, 0)?;
-    Ok(Some(Pair { low, high: 0 }))
+fn is_ready(ready: &[Vec<bool>], place: usize, cycle: u64) -> u64
+    ensures { (bits : List Bool) → bits ≡ slice_index_or (lists_of ready.now) place [] → result ≡ ready_at bits cycle }
+{
+    match ready.get(place) {
+        Some(bits) => ready_in(bits, cycle),
+        None => ready_in(&[], cycle),
+    }
 }
 
-/// The pair of an input of the top.
-pub(crate) fn input(
-    alloc: Global,
-    tape: &mut Tape,
-    scope: &Scope,
-    pairs: &[Option<Pair>],
-    scalars: &[Port],
-    memories: &[Port],
-    name: &Text,
-    inputs: &mut Inputs,
-) -> Result<Option<Pair>, AllocError> {
-    if let Some(label) = rdata_of(name) {
-        return answer(alloc, tape, scope, pairs, memories, label);
-    }
-    let slot = tape.given()?;
-    if let Some(label) = scalar_of(name) {
-        if let Some(place) = place_of_label(scalars, label) {
-            inputs.scalars.push((slot, place))?;
+fn supplied(ready: &[Vec<bool>], cycle: u64, supply: Supply) -> u64
+    ensures { result ≡ supplied_lem (lists_of ready.now) cycle supply }
+{
+    match supply {
+        Supply::Reset => {
+            if cycle == 0 {
+                1
+            } else {
+                0
+            }
         }
-    } else if let Some(label) = ack_of(name) {
-        if let Some(place) = place_of_label(memories, label) {
-            inputs.acks.push((slot, place))?;
-        }
-    } else {
-        inputs.reset = slot;
+        Supply::Scalar(n) => n,
+        Supply::Ready(place) => is_ready(ready, place, cycle),
     }
-    Ok(Some(Pair { low: slot, high: 0 }))
+}
+
+/// Gives the inputs of the top what stands around the design in a cycle.
+pub(crate) fn give(inputs: &[Input], ready: &[Vec<bool>], cycle: u64, numbers: &mut [u64])
+    requires { HaveSlots (length numbers.old) inputs.now }
+    ensures values { (i : ℕ) (a : InputTree) → slice_get inputs.now i ≡ Some a → PairHas numbers.new a.pair (supplied_lem (lists_of ready.now) cycle a.supply) }
+    ensures kept { (k : ℕ) → ((i : ℕ) (a : InputTree) → slice_get inputs.now i ≡ Some a → IsAway k a.pair) → number_at numbers.new k ≡ number_at numbers.old k }
+{
+    for input in inputs {
+        put_pair(numbers, input.pair, supplied(ready, cycle, input.supply));
+    }
 }

@@ -1,9 +1,9 @@
 //! The simulator of designs: it stands in one cycle of a design's run and goes to the next.
 #![tactic(auto)]
 
-mod blocks;
-mod build;
+mod cells;
 mod inputs;
-mod sim;
+mod slots;
 
-pub use sim::{Carried, Sim, run_cycles};
+pub use cells::Outside;
+pub use inputs::{Input, Supply};
