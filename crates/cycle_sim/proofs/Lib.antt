@@ -1,1 +1,4 @@
 pub mod Numbering
+pub mod Writing
+pub mod Telling
+pub mod Storing

@@ -25,9 +25,12 @@ use Rattle.cycle_sim.specs.Told.{child_place, module_of, instance_at, number_of}
 child_here : (p : Name × Name) (ps : List (Name × Name)) (i kn : Name) → p ≡ (kn, i) → child_place (p ∷ ps) i ≡ Some 0
 child_here p ps i kn e = ap (λ b. cond b (Some 0) (option_map suc (child_place ps i))) ((bytes_decides p.1 i).1 (ap (λ (z : Name × Name). z.1) e))
 
-child_behind : (p : Name × Name) (ps : List (Name × Name)) (i : Name) (c : ℕ) (b : Bool) → bytes_eq p.1 i ≡ b → child_place ps i ≡ Some c → (p.1 ≡ i → ⊥) → child_place (p ∷ ps) i ≡ Some (suc c)
-child_behind p ps i c true e h no = absurd (no ((bytes_decides p.1 i).0 e))
-child_behind p ps i c false e h no = ap (λ b. cond b (Some 0) (option_map suc (child_place ps i))) e ∙ ap (option_map suc) h
+differs : (x y : Name) (b : Bool) → bytes_eq x y ≡ b → (x ≡ y → ⊥) → bytes_eq x y ≡ false
+differs x y true e f = absurd (f ((bytes_decides x y).0 e))
+differs x y false e f = e
+
+child_behind : (p : Name × Name) (ps : List (Name × Name)) (i : Name) (c : ℕ) → bytes_eq p.1 i ≡ false → child_place ps i ≡ Some c → child_place (p ∷ ps) i ≡ Some (suc c)
+child_behind p ps i c e h = ap (λ b. cond b (Some 0) (option_map suc (child_place ps i))) e ∙ ap (option_map suc) h
 
 -- a name that stands at one place alone is found there
 child_is : (ps : List (Name × Name)) (c : ℕ) (kn i : Name) → slice_get ps c ≡ Some (kn, i) → ((e : ℕ) (hn : Name) → slice_get ps e ≡ Some (hn, i) → c ≡ e) → child_place ps i ≡ Some c
@@ -35,8 +38,7 @@ child_is [] c kn i g once = cc
 child_is (p ∷ ps) zero kn i g once = let e : p ≡ (kn, i) = cc g in child_here p ps i kn e
 child_is (p ∷ ps) (suc c) kn i g once =
     let rest : child_place ps i ≡ Some c = child_is ps c kn i g (λ e hn h. let s : suc c ≡ suc e = once (suc e) hn h in omega arith) in
-    child_behind p ps i c (bytes_eq p.1 i) refl rest (λ e.
-        let z : suc c ≡ 0 = once 0 p.0 (ap (λ (x : Name). Some (p.0, x)) e) in absurd (omega arith))
+    child_behind p ps i c (differs p.1 i (bytes_eq p.1 i) refl (λ e. let z : suc c ≡ 0 = once 0 p.0 (ap (λ (x : Name). Some (p.0, x)) e) in absurd (omega arith))) rest
 
 module _ (ms : List ModuleTree) (top : ModuleTree) (f : Flat) (flat : IsFlat ms top f) where
   abbrev rows : List row.Instance

@@ -1,3 +1,4 @@
 pub mod Told
 pub mod Sims
 pub mod Steps
+pub mod Machines
