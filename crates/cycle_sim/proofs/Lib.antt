@@ -2,3 +2,5 @@ pub mod Numbering
 pub mod Writing
 pub mod Telling
 pub mod Storing
+pub mod Stepping
+pub mod Asking

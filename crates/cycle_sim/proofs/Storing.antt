@@ -115,18 +115,18 @@ module _ (ns : List ℕ) (k : ℕ) (few : k < 2 ^ 64) (q : Pair) (two : q.low �
     no_hit e = ap (λ b. cond b (pair_value ns t.value) (value_of low high)) e
 
     place_is : number_at ns t.at.high ≡ 0 → pair_value ns t.at ≡ at
-    place_is e = ap (λ z. z * 2 ^ 64 + at) e
+    place_is e = let z : 0 * 2 ^ 64 + at ≡ at = omega arith in ap (λ z. z * 2 ^ 64 + at) e ∙ z
 
     hit_by : (x y : Bool) → (number_at ns t.on == 1) ≡ x → (number_at ns t.at.high == 0) ≡ y
         → value_of (cond (x && y) (set_cell low at (number_at ns t.value.low)) low) (cond (x && y) (set_cell high at (number_at ns t.value.high)) high) ≡ cond (hits ns k q a t) (pair_value ns t.value) (value_of low high)
-    hit_by false y ex ey = sym (no_hit (ap (λ b. b && ((t.memory.low == q.low) && ((a == pair_value ns t.at) && nat_lt (pair_value ns t.at) k))) ex))
+    hit_by false y ex ey = sym (no_hit (ap (λ b. b && (((t.memory.low == q.low) && (a == pair_value ns t.at)) && nat_lt (pair_value ns t.at) k)) ex))
     hit_by true false ex ey =
         let pos : 0 < number_at ns t.at.high = grind (arith, nat_tests) in
         let far : k ≤ pair_value ns t.at = omega arith in
         sym (no_hit (
-              ap (λ b. (number_at ns t.on == 1) && ((t.memory.low == q.low) && ((a == pair_value ns t.at) && b))) (lt_false (pair_value ns t.at) k far)
+              ap (λ b. (number_at ns t.on == 1) && (((t.memory.low == q.low) && (a == pair_value ns t.at)) && b)) (lt_false (pair_value ns t.at) k far)
               ∙ dead (number_at ns t.on == 1) (t.memory.low == q.low) (a == pair_value ns t.at))) where
-          dead : (x y z : Bool) → (x && (y && (z && false))) ≡ false
+          dead : (x y z : Bool) → (x && ((y && z) && false)) ≡ false
           dead true true true = refl
           dead true true false = refl
           dead true false z = refl
@@ -137,8 +137,8 @@ module _ (ns : List ℕ) (k : ℕ) (few : k < 2 ^ 64) (q : Pair) (two : q.low �
 
       hit_test : (b c : Bool) → (a == at) ≡ b → nat_lt at k ≡ c → hits ns k q a t ≡ (b && c)
       hit_test b c eb ec =
-          ap (λ z. z && ((t.memory.low == q.low) && ((a == pair_value ns t.at) && nat_lt (pair_value ns t.at) k))) ex
-          ∙ ap (λ z. z && ((a == pair_value ns t.at) && nat_lt (pair_value ns t.at) k)) (same_test t.memory.low q.low (ap (λ (p : Pair). p.low) is))
+          ap (λ z. z && (((t.memory.low == q.low) && (a == pair_value ns t.at)) && nat_lt (pair_value ns t.at) k)) ex
+          ∙ ap (λ z. (z && (a == pair_value ns t.at)) && nat_lt (pair_value ns t.at) k) (same_test t.memory.low q.low (ap (λ (p : Pair). p.low) is))
           ∙ ap (λ z. (a == z) && nat_lt z k) (place_is zero_high)
           ∙ ap (λ z. z && nat_lt at k) eb ∙ ap (λ z. b && z) ec
 
@@ -164,8 +164,8 @@ module _ (ns : List ℕ) (k : ℕ) (few : k < 2 ^ 64) (q : Pair) (two : q.low �
       ap (λ l. get_or l a 0 * 2 ^ 64 + get_or (stored_list ns t q.low low) a 0) (list_stays t q.high high (λ e. apart.1 (sym e)) (λ e. apart.3 (sym e)))
       ∙ ap (λ l. get_or high a 0 * 2 ^ 64 + get_or l a 0) (list_stays t q.low low (λ e. apart.0 (sym e)) (λ e. apart.2 (sym e)))
       ∙ sym (ap (λ b. cond b (pair_value ns t.value) (get_or high a 0 * 2 ^ 64 + get_or low a 0)) (miss (number_at ns t.on == 1))) where
-        miss : (x : Bool) → (x && ((t.memory.low == q.low) && ((a == pair_value ns t.at) && nat_lt (pair_value ns t.at) k))) ≡ false
-        miss true = ap (λ b. b && ((a == pair_value ns t.at) && nat_lt (pair_value ns t.at) k)) (other_test t.memory.low q.low apart.0)
+        miss : (x : Bool) → (x && (((t.memory.low == q.low) && (a == pair_value ns t.at)) && nat_lt (pair_value ns t.at) k)) ≡ false
+        miss true = ap (λ b. (b && (a == pair_value ns t.at)) && nat_lt (pair_value ns t.at) k) (other_test t.memory.low q.low apart.0)
         miss false = refl
 
   -- all stores, one after another

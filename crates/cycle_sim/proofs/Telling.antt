@@ -33,7 +33,7 @@ use Rattle.cycle_sim.specs.Machines.{IsMachine, HasCells, IsShown}
 use Rattle.cycle_sim.proofs.Numbering.{number_is_found, net_number, named_number, tree_at}
 
 pub some_is : {A : Type 0} (o : Option A) → IsSome o → (x : A) × (o ≡ Some x)
-some_is None h = absurd h
+some_is None h = cc
 some_is (Some x) h = (x, refl)
 
 below : (a k : ℕ) → a < k → nat_lt a k ≡ true
