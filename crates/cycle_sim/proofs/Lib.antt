@@ -4,3 +4,4 @@ pub mod Telling
 pub mod Storing
 pub mod Stepping
 pub mod Asking
+pub mod Advancing

@@ -42,7 +42,7 @@ use Rattle.cycle_sim.specs.declared.inputs.Supply.{Supply}
 use Rattle.cycle_sim.specs.declared.inputs.Supply.TheVariants.{Reset, Scalar, Ready}
 use Rattle.cycle_sim.specs.declared.inputs.Input.{Input}
 use Rattle.cycle_sim.specs.declared.cells.Outside.{Outside}
-use Rattle.cycle_sim.specs.Steps.{IsAway, PairHas, supplied, stored_all, is_one, outside_list}
+use Rattle.cycle_sim.specs.Steps.{IsAway, PairHas, HasRoom, HaveSlots, supplied, stored_all, is_one, outside_list}
 use Rattle.cycle_sim.specs.Machines.{IsSuppliedBy, IsInput, AreInputs, IsPairOf, IsOutside, AreOutside, IsMachine, HasCells, IsShown}
 use Rattle.cycle_sim.proofs.Numbering.{tree_at}
 use Rattle.cycle_sim.proofs.Telling.{cells_are, cell_is}
@@ -168,6 +168,78 @@ module _ (ms : List ModuleTree) (top : ModuleTree) (f : Flat) (pairs memories : 
       let same : Some q ≡ Some (record { low = length (shape_of top).memories + 2 * a.0; high = length (shape_of top).memories + 2 * a.0 + 1 }) = sym e ∙ a.2 in
       (a.0, cc same)
 
+  few_cells : (path : Path) (m : ModuleTree) (w k : ℕ) (x : Name) → module_at ms top path ≡ Some m → Has m.items (Memory w x k) → k < 2 ^ 64
+  few_cells path m w k x at line = let b : k ≤ 1048576 = ((widths_in_range ms machine.flat.design.sound.widths m (in_ms path m at)).cells w x k line).1 in omega arith
+
+  -- memories inside after stores
+  module _ (cells next_cells : Cells) (ns : List ℕ) (has : HasCells ms top f memories cells) (behind : (m : ℕ) → length outside ≤ m → get_or next_cells m [] ≡ stored_all ns m (get_or cells m []) stores) where
+    behind_all : (number : ℕ) (b : FlatNet) (m : ModuleTree) (w k : ℕ) (q : Pair) → HasNumber ms f number b → HasTop b m → Has m.items (Memory w b.1 k) → get_or memories number None ≡ Some q
+        → (get_or next_cells q.low [] ≡ stored_all ns q.low (get_or cells q.low []) stores) × (get_or next_cells q.high [] ≡ stored_all ns q.high (get_or cells q.high []) stores) × (q.low ≢ q.high)
+    behind_all number b m w k q h at line e =
+        let i = memory_numbers number b m w k q h at line e in
+        let low : q.low ≡ length (shape_of top).memories + 2 * i.0 = ap (λ (p : Pair). p.low) i.1 in
+        let high : q.high ≡ length (shape_of top).memories + 2 * i.0 + 1 = ap (λ (p : Pair). p.high) i.1 in
+        let c : length outside ≡ length (shape_of top).memories = around.count in
+        (behind q.low (omega arith), behind q.high (omega arith), λ z. absurd (omega arith))
+
+    pub has_next : HasCells ms top f memories next_cells
+    has_next number b m w k q h at line e =
+        let p = behind_all number b m w k q h at line e in
+        let long = has number b m w k q h at line e in
+        let few = few_cells b.0 m w k b.1 at line in (
+          ap length p.0 ∙ all_length ns k few q p.2 stores q.low (get_or cells q.low []) ∙ long.0,
+          ap length p.1 ∙ all_length ns k few q p.2 stores q.high (get_or cells q.high []) ∙ long.1,
+        )
+
+  -- inputs have slots of their own
+  input_given : (number : ℕ) (a : Input) → IsInput ms top f pairs number a → (bits : ℕ) × IsGivenPair t bits a.pair
+  input_given number a i =
+      let x = input_free number a i in
+      (bits_of (declared top) i.name, machine.given.given number ([], i.name) top a.pair i.has_number refl (record { tree = top; at = refl; by = inr (refl, i.net_kind, i.no_answer) }) i.placed)
+
+  pair_room : (bits : ℕ) (p : Pair) → IsGivenPair t bits p → HasRoom (length t.gates) p
+  pair_room bits p g = let h = by_high g.1 in (g.0.1, h.0, h.1) where
+    by_high : ((bits ≤ 64) × (p.high ≡ 0)) ⊎ ((64 < bits) × IsGivenSlot t p.high × (p.low ≢ p.high)) → (p.high < length t.gates) × ((p.high ≡ 0) ⊎ (p.low ≢ p.high))
+    by_high (inl z) = (subst (λ k. k < length t.gates) (sym z.1) machine.tape.some, inl z.1)
+    by_high (inr k) = (k.1.1, inr k.2)
+
+  pub have_slots : HaveSlots (length t.gates) inputs
+  have_slots = record {
+    room = λ i a got. let k = given.each i a got in let g = input_given k.0 a k.1 in pair_room g.0 a.pair g.1;
+    own = λ i j a b before ga gb.
+        let k = given.each i a ga in
+        let l = given.each j b gb in
+        let apart : k.0 ≢ l.0 = λ e. (let same : i ≡ j = given.once i j k.0 a b ga gb k.1 (subst (λ z. IsInput ms top f pairs z b) (sym e) l.1) in absurd (omega arith)) in
+        let own = machine.given.own k.0 l.0 ([], k.1.name) ([], l.1.name) a.pair b.pair k.1.has_number l.1.has_number (record { tree = top; at = refl; by = inr (refl, k.1.net_kind, k.1.no_answer) })
+        (record { tree = top; at = refl; by = inr (refl, l.1.net_kind, l.1.no_answer) }) apart k.1.placed l.1.placed in
+        ((own.0, inr own.1), high a.pair b.pair own.2 own.3);
+  } where
+    high : (p q : Pair) → (p.high ≢ q.low) → (p.high ≡ 0) ⊎ (p.high ≢ q.high) → (p.high ≡ 0) ⊎ IsAway p.high q
+    high p q x (inl z) = inl z
+    high p q x (inr y) = inr (x, inr y)
+
+  -- registers that take over have slots
+  pub commit_room : (i : ℕ) (a : Commit) → slice_get commits i ≡ Some a → a.slot < length t.gates
+  commit_room i a got =
+      let s = machine.next.slots a (has_got commits i a got) in
+      let line : Has s.tree.items (Reg s.width s.net.1) = s.line in
+      let in_tree : Has ms s.tree = in_ms s.net.0 s.tree s.at in
+      let reg : net_kind_of (declared s.tree) s.net.1 ≡ kind.Register = declared_net_kind s.tree ms machine.flat.design.sound.names in_tree _ (has_line s.tree ms machine.flat.design.sound.names in_tree (Reg s.width s.net.1) line (record { name = s.net.1; net_kind = kind.Register; bits = s.width; cells = 0 }) (inl refl)) in
+      let g = machine.given.given s.number s.net s.tree s.pair s.has_number s.at (record { tree = s.tree; at = s.at; by = inl reg }) s.placed in
+      let room = pair_room (bits_of (declared s.tree) s.net.1) s.pair g in
+      by_slot s.pair room s.is where
+        by_slot : (p : Pair) → HasRoom (length t.gates) p → (a.slot ≡ p.low) ⊎ (a.slot ≡ p.high) → a.slot < length t.gates
+        by_slot p room (inl e) = subst (λ k. k < length t.gates) (sym e) room.0
+        by_slot p room (inr e) = subst (λ k. k < length t.gates) (sym e) room.1
+
+  -- what inputs are given they have after a pass
+  pub given_next : (cells : Cells) (old ns : List ℕ) (ready : List (List Bool)) (n : ℕ) → IsSolved t cells ns → SameGiven t.gates old ns → ((i : ℕ) (a : Input) → slice_get inputs i ≡ Some a → PairHas old a.pair (supplied ready n a.supply))
+      → (i : ℕ) (a : Input) → slice_get inputs i ≡ Some a → pair_value ns a.pair ≡ supplied ready n a.supply
+  given_next cells old ns ready n s same has i a got =
+      let k = given.each i a got in
+      let g = input_given k.0 a k.1 in
+      given_pair g.0 a.pair cells old ns (supplied ready n a.supply) g.1 s same (has i a got)
+
   -- a run that is shown
   module _ (env : Environment) (env_fits : FitsShape env (shape_of top)) (nets : ℕ → Path → Cycle) (r : RunsIn ms top env nets) where
     pub fits : RunFits ms top env nets
@@ -249,34 +321,13 @@ module _ (ms : List ModuleTree) (top : ModuleTree) (f : Flat) (pairs memories : 
             ap (λ z. (nets (suc n) z).net x) i.0 ∙ input_next number x p (subst (λ z. HasNumber ms f number (z, x)) i.0 h) input i.2 e
 
       -- cells inside
-      few_cells : (path : Path) (m : ModuleTree) (w k : ℕ) (x : Name) → module_at ms top path ≡ Some m → Has m.items (Memory w x k) → k < 2 ^ 64
-      few_cells path m w k x at line = let b : k ≤ 1048576 = ((widths_in_range ms machine.flat.design.sound.widths m (in_ms path m at)).cells w x k line).1 in omega arith
-
-      behind_all : (number : ℕ) (b : FlatNet) (m : ModuleTree) (w k : ℕ) (q : Pair) → HasNumber ms f number b → HasTop b m → Has m.items (Memory w b.1 k) → get_or memories number None ≡ Some q
-          → (get_or next_cells q.low [] ≡ stored_all ns q.low (get_or cells q.low []) stores) × (get_or next_cells q.high [] ≡ stored_all ns q.high (get_or cells q.high []) stores) × (q.low ≢ q.high)
-      behind_all number b m w k q h at line e =
-          let i = memory_numbers number b m w k q h at line e in
-          let low : q.low ≡ length (shape_of top).memories + 2 * i.0 = ap (λ (p : Pair). p.low) i.1 in
-          let high : q.high ≡ length (shape_of top).memories + 2 * i.0 + 1 = ap (λ (p : Pair). p.high) i.1 in
-          let c : length outside ≡ length (shape_of top).memories = around.count in
-          (behind q.low (omega arith), behind q.high (omega arith), λ z. absurd (omega arith))
-
-      pub has_next : HasCells ms top f memories next_cells
-      has_next number b m w k q h at line e =
-          let p = behind_all number b m w k q h at line e in
-          let long = has number b m w k q h at line e in
-          let few = few_cells b.0 m w k b.1 at line in (
-            ap length p.0 ∙ all_length ns k few q p.2 stores q.low (get_or cells q.low []) ∙ long.0,
-            ap length p.1 ∙ all_length ns k few q p.2 stores q.high (get_or cells q.high []) ∙ long.1,
-          )
-
       cell_next : (number : ℕ) (b : FlatNet) (q : Pair) (m : ModuleTree) (w k : ℕ) → HasNumber ms f number b → HasTop b m → Has m.items (Memory w b.1 k) → get_or memories number None ≡ Some q
           → (a : ℕ) → a < k → (nets (suc n) b.0).cell b.1 a ≡ cell_in next_cells q.high a * 2 ^ 64 + cell_in next_cells q.low a
       cell_next number b q m w k h at line e a low =
           let follows = r.runs.each b.0 m at in
           let law : IsLawful m follows.sizes (nets n b.0) = record { ports = follows.ports; lines = follows.lines n } in
           let i = memory_numbers number b m w k q h at line e in
-          let p = behind_all number b m w k q h at line e in
+          let p = behind_all cells next_cells ns has behind number b m w k q h at line e in
           let long = has number b m w k q h at line e in
           let takes = all_at (Takes follows.sizes m.items (nets n b.0) (nets (suc n) b.0)) m.items (Memory w b.1 k) (follows.registers n) line in
           takes a low ∙ machine.next.cells number b m w k q h at line e cells ns (nets n) follows.sizes solved (valuation n) now.placed law a
@@ -287,7 +338,7 @@ module _ (ms : List ModuleTree) (top : ModuleTree) (f : Flat) (pairs memories : 
 
       inside_next : (number : ℕ) (b : FlatNet) (q : Pair) (m : ModuleTree) (w k : ℕ) → HasNumber ms f number b → HasTop b m → Has m.items (Memory w b.1 k) → get_or memories number None ≡ Some q → CellsAre (nets (suc n) b.0) b.1 k next_cells q
       inside_next number b q m w k h at line e =
-          let long = has_next number b m w k q h at line e in
+          let long = has_next cells next_cells ns has behind number b m w k q h at line e in
           cells_are (nets (suc n) b.0) b.1 next_cells q k long.0 long.1 (cell_next number b q m w k h at line e)
 
       -- cells outside

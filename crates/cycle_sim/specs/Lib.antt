@@ -2,3 +2,4 @@ pub mod Told
 pub mod Sims
 pub mod Steps
 pub mod Machines
+pub mod Wholes

@@ -3,7 +3,9 @@
 
 mod cells;
 mod inputs;
+mod parts;
 mod slots;
 
 pub use cells::Outside;
 pub use inputs::{Input, Supply};
+pub use parts::{Parts, State, Stream};

@@ -1,0 +1,51 @@
+-- A whole simulator.
+use Rattle.std.specs.Prelude.{◌≡◌, ℕ, ◌≤◌, List, [], Some, length, get_or, slice_get}
+use Rattle.tapa_base.specs.declared.shape.Port.{Port}
+use Rattle.vlog_tree.specs.Form.{ModuleTree}
+use Rattle.vlog_tree.specs.Labels.{s_wr, s_rdy, s_din, done}
+use Rattle.vlog_tree.specs.Environment.{streams_of}
+use Rattle.vlog_design.specs.Designs.{TopOf}
+use Rattle.vlog_ref_start.specs.Outside.{lists_of}
+use Rattle.sim_tape.specs.Operators.{cells_of}
+use Rattle.sim_tape.specs.Tape.{pair_value}
+use Rattle.sim_tape.specs.Solved.{IsSolved}
+use Rattle.cycle_sim.specs.declared.inputs.Input.{Input}
+use Rattle.cycle_sim.specs.declared.parts.Stream.{Stream}
+use Rattle.cycle_sim.specs.declared.parts.Parts.{Parts}
+use Rattle.cycle_sim.specs.declared.parts.State.{State}
+use Rattle.cycle_sim.specs.Told.{told_by}
+use Rattle.cycle_sim.specs.Sims.{SimTree}
+use Rattle.cycle_sim.specs.Steps.{supplied}
+use Rattle.cycle_sim.specs.Machines.{AreInputs, AreOutside, IsPairOf, IsMachine, HasCells}
+
+-- what a simulator is of, what it tells of its cycle, and when the memories around it are ready
+abbrev pub sim_tree : Parts → State → SimTree
+sim_tree p s = record {
+  design = p.design;
+  told = told_by p.design.modules p.flat p.pairs.items p.memories.items s.cycle (cells_of s.cells.items) s.numbers.items;
+  ready = lists_of p.ready.items;
+}
+
+-- the pairs of a stream's nets, and the bits of its din
+pub record IsStream (p : Parts) (l : Port) (s : Stream) : Type 0 where
+  pub wr : IsPairOf p.design.modules p.flat p.pairs.items (s_wr l.name) s.wr
+  pub rdy : IsPairOf p.design.modules p.flat p.pairs.items (s_rdy l.name) s.rdy
+  pub din : IsPairOf p.design.modules p.flat p.pairs.items (s_din l.name) s.din
+  pub bits : s.bits ≡ l.bits
+  pub low : 2 ≤ l.bits
+  pub high : l.bits ≤ 65
+
+-- A design is on the tape, with all that stands around it, and the slots are those of a cycle.
+pub record IsSim (p : Parts) (s : State) : Type 0 where
+  pub top : ModuleTree
+  pub at : TopOf p.design top
+  pub machine : IsMachine p.design.modules top p.flat p.pairs.items p.memories.items p.widths.items p.program p.commits.items p.stores.items
+  pub inputs : AreInputs p.design.modules top p.flat p.pairs.items p.inputs.items
+  pub outside : AreOutside p.design.modules top p.flat p.pairs.items p.outside.items
+  pub streams : (i : ℕ) (l : Port) → slice_get (streams_of top) i ≡ Some l → (t : Stream) × (slice_get p.streams.items i ≡ Some t) × IsStream p l t
+  pub is_done : IsPairOf p.design.modules p.flat p.pairs.items done p.done
+  pub size : length s.numbers.items ≡ length p.program.gates
+  pub room : length s.next.items ≡ length p.commits.items
+  pub solved : IsSolved p.program (cells_of s.cells.items) s.numbers.items
+  pub cells : HasCells p.design.modules top p.flat p.memories.items (cells_of s.cells.items)
+  pub given : (i : ℕ) (a : Input) → slice_get p.inputs.items i ≡ Some a → pair_value s.numbers.items a.pair ≡ supplied (lists_of p.ready.items) s.cycle a.supply
