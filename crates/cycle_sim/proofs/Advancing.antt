@@ -77,6 +77,7 @@ module _ (p : Parts) (s : State) (sim : IsSim p s) where
       machine = sim.machine;
       inputs = sim.inputs;
       outside = sim.outside;
+      stream_count = sim.stream_count;
       streams = sim.streams;
       is_done = sim.is_done;
       size = size ∙ sim.size;

@@ -5,3 +5,4 @@ pub mod Storing
 pub mod Stepping
 pub mod Asking
 pub mod Advancing
+pub mod Asked

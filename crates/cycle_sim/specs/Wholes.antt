@@ -1,9 +1,10 @@
 -- A whole simulator.
-use Rattle.std.specs.Prelude.{◌≡◌, ℕ, ◌≤◌, List, [], Some, length, get_or, slice_get}
+use Rattle.std.specs.Prelude.{◌≡◌, ℕ, ◌≤◌, ◌&&◌, List, [], Option, Some, None, length, get_or, slice_get, if◌then◌else◌}
 use Rattle.tapa_base.specs.declared.shape.Port.{Port}
 use Rattle.vlog_tree.specs.Form.{ModuleTree}
 use Rattle.vlog_tree.specs.Labels.{s_wr, s_rdy, s_din, done}
-use Rattle.vlog_tree.specs.Environment.{streams_of}
+use Rattle.tapa_base.specs.declared.token.Token.{Token}
+use Rattle.vlog_tree.specs.Environment.{streams_of, token_of}
 use Rattle.vlog_design.specs.Designs.{TopOf}
 use Rattle.vlog_ref_start.specs.Outside.{lists_of}
 use Rattle.sim_tape.specs.Operators.{cells_of}
@@ -15,7 +16,7 @@ use Rattle.cycle_sim.specs.declared.parts.Parts.{Parts}
 use Rattle.cycle_sim.specs.declared.parts.State.{State}
 use Rattle.cycle_sim.specs.Told.{told_by}
 use Rattle.cycle_sim.specs.Sims.{SimTree}
-use Rattle.cycle_sim.specs.Steps.{supplied}
+use Rattle.cycle_sim.specs.Steps.{supplied, is_one}
 use Rattle.cycle_sim.specs.Machines.{AreInputs, AreOutside, IsPairOf, IsMachine, HasCells}
 
 -- what a simulator is of, what it tells of its cycle, and when the memories around it are ready
@@ -35,6 +36,10 @@ pub record IsStream (p : Parts) (l : Port) (s : Stream) : Type 0 where
   pub low : 2 ≤ l.bits
   pub high : l.bits ≤ 65
 
+-- the token on a stream, by the numbers of slots
+abbrev pub token_on : List ℕ → Stream → Option Token
+token_on ns s = if is_one ns s.wr && is_one ns s.rdy then Some (token_of s.bits (pair_value ns s.din)) else None
+
 -- A design is on the tape, with all that stands around it, and the slots are those of a cycle.
 pub record IsSim (p : Parts) (s : State) : Type 0 where
   pub top : ModuleTree
@@ -42,6 +47,7 @@ pub record IsSim (p : Parts) (s : State) : Type 0 where
   pub machine : IsMachine p.design.modules top p.flat p.pairs.items p.memories.items p.widths.items p.program p.commits.items p.stores.items
   pub inputs : AreInputs p.design.modules top p.flat p.pairs.items p.inputs.items
   pub outside : AreOutside p.design.modules top p.flat p.pairs.items p.outside.items
+  pub stream_count : length p.streams.items ≡ length (streams_of top)
   pub streams : (i : ℕ) (l : Port) → slice_get (streams_of top) i ≡ Some l → (t : Stream) × (slice_get p.streams.items i ≡ Some t) × IsStream p l t
   pub is_done : IsPairOf p.design.modules p.flat p.pairs.items done p.done
   pub size : length s.numbers.items ≡ length p.program.gates

@@ -1,10 +1,10 @@
 // A design on a tape, and what changes from cycle to cycle.
 
-ghost use Rattle.std.specs.Prelude.{◌+◌, ◌<◌, ◌^◌, ◌≡◌, ◌↔◌, IsTrue, [], get_or};
+ghost use Rattle.std.specs.Prelude.{◌+◌, ◌*◌, ◌<◌, ◌≤◌, ◌^◌, ◌≡◌, ◌↔◌, IsTrue, [], get_or};
 ghost use Rattle.sim_tape.specs.Operators.{cells_of};
-ghost use Rattle.vlog_tree.specs.Environment.{IsDone};
+ghost use Rattle.vlog_tree.specs.Environment.{IsDone, token_of as token_lem};
 ghost use Rattle.cycle_sim.specs.Sims.{InRuns, IsNext, IsCarried};
-ghost use Rattle.cycle_sim.specs.Wholes.{IsSim, sim_tree};
+ghost use Rattle.cycle_sim.specs.Wholes.{IsSim, sim_tree, token_on};
 
 use crate::cells::{Outside, ask_all, store_all};
 use crate::inputs::{Input, give};
@@ -74,4 +74,65 @@ pub(crate) fn is_done(parts: &Parts, state: &State) -> bool
     ensures { InRuns (sim_tree parts.now state.now) (λ m env nets. IsTrue result ↔ IsDone (λ n. nets n []) state.now.cycle) }
 {
     state.cycle > 0 && is_one(&state.numbers, parts.done)
+}
+
+fn join(low: u64, high: u64) -> u128
+    ensures { result ≡ high * 2 ^ 64 + low }
+{
+    (u128::from(high) << 64) + u128::from(low)
+}
+
+// What the bits of a stream say: an end where the highest one is set, and else a datum.
+#[tactic(auto, using(vlog_ref_cycle::proofs::Tokens::low_datum))]
+fn token_of(bits: u32, din: u128) -> Token
+    requires low { 2 ≤ bits }
+    requires high { bits ≤ 65 }
+    ensures { result ≡ token_lem bits din }
+{
+    let first_end = 1u128 << (bits - 1);
+    if din < first_end {
+        Token::Datum(din as u64)
+    } else {
+        Token::Eot
+    }
+}
+
+fn carries(numbers: &[u64], s: &Stream) -> Option<Token>
+    requires low { 2 ≤ s.now.bits }
+    requires high { s.now.bits ≤ 65 }
+    ensures { result ≡ token_on numbers.now s.now }
+{
+    if is_one(numbers, s.wr) && is_one(numbers, s.rdy) {
+        let din = join(number(numbers, s.din.low), number(numbers, s.din.high));
+        Some(token_of(s.bits, din))
+    } else {
+        None
+    }
+}
+
+/// The token that a stream carries in a cycle; in cycle 0 it carries none.
+pub(crate) fn carried(parts: &Parts, state: &State, place: usize) -> Option<Token>
+    requires { IsSim parts.now state.now }
+    ensures { IsCarried (sim_tree parts.now state.now) place result }
+{
+    match parts.streams.get(place) {
+        Some(s) => {
+            if state.cycle == 0 {
+                None
+            } else {
+                carries(&state.numbers, s)
+            }
+        }
+        None => None,
+    }
+}
+
+/// The cells of a list in a cycle.
+pub(crate) fn cells_in(state: &State, m: usize) -> &[u64]
+    ensures { result.now ≡ get_or (cells_of state.now.cells.items) m [] }
+{
+    match state.cells.get(m) {
+        Some(cells) => cells,
+        None => &[],
+    }
 }
