@@ -1,5 +1,5 @@
 -- A simulator of a design, as it stands in a cycle.
-use Rattle.std.specs.Prelude.{◌≡◌, ℕ, suc, ◌+◌, ◌<◌, ◌≤◌, ◌++◌, Bool, List, [], Option, Some, None, slice_get, slice_index_or}
+use Rattle.std.specs.Prelude.{◌≡◌, ℕ, suc, ◌+◌, ◌<◌, ◌≤◌, ◌++◌, Bool, List, [], Option, Some, None, length, slice_get, slice_index_or}
 use Rattle.std.specs.Option.{option_to_list}
 use Rattle.tapa_base.specs.declared.shape.Port.{Port}
 use Rattle.tapa_base.specs.declared.token.Token.{Token}
@@ -41,6 +41,22 @@ pub record IsCarried (s : SimTree) (place : ℕ) (token : Option Token) : Type 0
   pub first : s.told.cycle ≡ 0 → token ≡ None
   pub later : InRuns s (λ m env nets. (l : Port) (n : ℕ) → slice_get (streams_of m) place ≡ Some l → s.told.cycle ≡ suc n
       → tokens l.bits (λ k. nets k []) l.name (suc n) ≡ tokens l.bits (λ k. nets k []) l.name n ++ option_to_list token)
+
+-- the token of a stream is added to what it carried before
+abbrev pub IsAdded : SimTree → ℕ → List Token → List Token → Type 0
+IsAdded s place old new = (token : Option Token) × IsCarried s place token × (new ≡ old ++ option_to_list token)
+
+abbrev pub AreAdded : SimTree → List (List Token) → List (List Token) → Type 0
+AreAdded s old new = (length new ≡ length old) × ((i : ℕ) → i < length old → IsAdded s i (slice_index_or old i []) (slice_index_or new i []))
+
+-- a simulator that went on from a first one, what its streams carried since, and that no cycle up to this one was the last
+pub record IsRunTo (first now : SimTree) (carried : List (List Token)) : Type 0 where
+  pub same : now.design ≡ first.design
+  pub ready : now.ready ≡ first.ready
+  pub told : InRuns first (λ m env nets. IsToldOf first.design.modules m env nets now.told)
+  pub count : (m : ModuleTree) → TopOf first.design m → length carried ≡ length (streams_of m)
+  pub tokens : InRuns first (λ m env nets. (place : ℕ) (l : Port) → slice_get (streams_of m) place ≡ Some l → tokens l.bits (λ n. nets n []) l.name now.told.cycle ≡ slice_index_or carried place [])
+  pub going : InRuns first (λ m env nets. (n : ℕ) → n ≤ now.told.cycle → IsDone (λ n. nets n []) n → ⊥)
 
 -- the first cycle in which a design is done, or none up to a limit
 abbrev pub IsDoneAt : (ℕ → Cycle) → ℕ → Option ℕ → Type 0

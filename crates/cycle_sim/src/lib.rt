@@ -4,8 +4,10 @@
 mod cells;
 mod inputs;
 mod parts;
+mod sim;
 mod slots;
 
 pub use cells::Outside;
 pub use inputs::{Input, Supply};
 pub use parts::{Parts, State, Stream};
+pub use sim::{Carried, Sim};

@@ -77,7 +77,7 @@ returns-clause-sim c =
     let same : SameGiven p.program.gates c.give.new.numbers u3.items = subst (λ l. SameGiven p.program.gates c.give.new.numbers l) (sym n3) (subst (λ l. SameGiven p.program.gates l c.pass.new.numbers) (c.deref_mut-6.ensures.value ∙ n2) c.pass.ensures.given) in
     let size : length u3.items ≡ length s.numbers.items = ap length n3 ∙ m3 ∙ s.numbers.ok.0 in
     let room : length (with_items s.next c.take_over.new.next).items ≡ length s.next.items = ap length x1 ∙ k1 ∙ s.next.ok.0 in
-    sim_next p s sim _ (cells_of c.store_all.new.cells) c.take_over.new.numbers c.give.new.numbers refl size room stores asked behind taken values kept solved same
+    sim_next p s sim (record { cycle = s.cycle + 1; numbers = u3; cells = v2; next = with_items s.next c.take_over.new.next }) (cells_of c.store_all.new.cells) c.take_over.new.numbers c.give.new.numbers refl size room stores asked behind taken values kept solved same
 
 pub returns-clause-next : goal.returns-clause-next
 returns-clause-next c =
@@ -121,4 +121,4 @@ returns-clause-next c =
     let same : SameGiven p.program.gates c.give.new.numbers u3.items = subst (λ l. SameGiven p.program.gates c.give.new.numbers l) (sym n3) (subst (λ l. SameGiven p.program.gates l c.pass.new.numbers) (c.deref_mut-6.ensures.value ∙ n2) c.pass.ensures.given) in
     let size : length u3.items ≡ length s.numbers.items = ap length n3 ∙ m3 ∙ s.numbers.ok.0 in
     let room : length (with_items s.next c.take_over.new.next).items ≡ length s.next.items = ap length x1 ∙ k1 ∙ s.next.ok.0 in
-    next_told p s sim _ (cells_of c.store_all.new.cells) c.take_over.new.numbers c.give.new.numbers refl size room stores asked behind taken values kept solved same
+    next_told p s sim (record { cycle = s.cycle + 1; numbers = u3; cells = v2; next = with_items s.next c.take_over.new.next }) (cells_of c.store_all.new.cells) c.take_over.new.numbers c.give.new.numbers refl size room stores asked behind taken values kept solved same
