@@ -3,3 +3,4 @@ pub mod Sims
 pub mod Steps
 pub mod Machines
 pub mod Wholes
+pub mod Simulators

@@ -5,9 +5,11 @@ mod cells;
 mod inputs;
 mod parts;
 mod sim;
+mod simulator;
 mod slots;
 
 pub use cells::Outside;
 pub use inputs::{Input, Supply};
 pub use parts::{Parts, State, Stream};
-pub use sim::{Carried, Sim};
+pub use sim::Carried;
+pub use simulator::Sim;

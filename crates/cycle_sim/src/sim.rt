@@ -6,78 +6,61 @@ ghost use Rattle.vlog_tree.specs.Form.{ModuleTree};
 ghost use Rattle.vlog_tree.specs.Environment.{IsDone, streams_of, tokens};
 ghost use Rattle.vlog_design.specs.Designs.{TopOf};
 ghost use Rattle.vlog_ref_start.specs.Outside.{lists_of};
+ghost use Rattle.cycle_sim.specs.Simulators.{sim_of};
 ghost use Rattle.cycle_sim.specs.Sims.{InRuns, IsNext, IsCarried, IsDoneAt, last_cycle, IsAdded, AreAdded, IsRunTo};
 
-use crate::parts::{Parts, State, advance, carried, cells_in, is_done};
+use crate::parts::{advance, carried, cells_in, is_done};
+use crate::simulator::Sim;
 use std::alloc::{AllocError, Global};
-use std::marker::Model;
 use tapa_base::Token;
-
-/// A design in one of its cycles, in the environment that it stands in.
-#[derive(Drop)]
-pub struct Sim {
-    parts: Parts,
-    state: State,
-}
-
-impl Model for Sim {
-    ghost use Rattle.cycle_sim.specs.Sims.{SimTree};
-    ghost use Rattle.cycle_sim.specs.Wholes.{IsSim, sim_tree};
-
-    ghost Value = { SimTree };
-
-    ghost view = { λ s. sim_tree s.parts s.state };
-
-    ghost invariant = { λ s. IsSim s.parts s.state };
-}
 
 impl Sim {
     /// Goes to the next cycle.
     pub fn step(&mut self)
-        requires { self.old.told.cycle + 1 < 2 ^ 64 }
-        ensures { IsNext self.old self.new }
+        requires { (sim_of self.old).told.cycle + 1 < 2 ^ 64 }
+        ensures { IsNext (sim_of self.old) (sim_of self.new) }
     {
         advance(&self.parts, &mut self.state);
     }
 
     /// The number of the cycle.
     pub fn cycle(&self) -> u64
-        ensures { result ≡ self.now.told.cycle }
+        ensures { result ≡ (sim_of self.now).told.cycle }
     {
         self.state.cycle
     }
 
     /// Whether the design is done in this cycle.
     pub fn done(&self) -> bool
-        ensures { InRuns self.now (λ m env nets. IsTrue result ↔ IsDone (λ n. nets n []) self.now.told.cycle) }
+        ensures { InRuns (sim_of self.now) (λ m env nets. IsTrue result ↔ IsDone (λ n. nets n []) (sim_of self.now).told.cycle) }
     {
         is_done(&self.parts, &self.state)
     }
 
     /// The token that a stream carries in this cycle, by its place among the streams; in cycle 0 it carries none.
     pub fn token(&self, stream: u32) -> Option<Token>
-        ensures { IsCarried self.now stream result }
+        ensures { IsCarried (sim_of self.now) stream result }
     {
         carried(&self.parts, &self.state, stream as usize)
     }
 
     /// The cells of a memory around the design in this cycle, before its store, by the memory's place in the shape.
     pub fn memory(&self, m: u32) -> &[u64]
-        ensures { result.now ≡ self.now.told.outside m }
+        ensures { result.now ≡ (sim_of self.now).told.outside m }
     {
         cells_in(&self.state, m as usize)
     }
 
     /// How many streams the design has.
     pub fn streams(&self) -> usize
-        ensures { (m : ModuleTree) → TopOf self.now.design m → result ≡ length (streams_of m) }
+        ensures { (m : ModuleTree) → TopOf (sim_of self.now).design m → result ≡ length (streams_of m) }
     {
         self.parts.streams.len()
     }
 
     // The token of a stream, by any place.
     fn token_at(&self, place: usize) -> Option<Token>
-        ensures { IsCarried self.now place result }
+        ensures { IsCarried (sim_of self.now) place result }
     {
         carried(&self.parts, &self.state, place)
     }
@@ -91,7 +74,7 @@ pub struct Carried {
 }
 
 fn add_token(sim: &Sim, place: usize, tokens: &mut Vec<Token>) -> Result<(), AllocError>
-    ensures { OnOk result (IsAdded sim.now place tokens.old.items tokens.new.items) }
+    ensures { OnOk result (IsAdded (sim_of sim.now) place tokens.old.items tokens.new.items) }
 {
     if let Some(token) = sim.token_at(place) {
         tokens.push(token)?;
@@ -100,7 +83,7 @@ fn add_token(sim: &Sim, place: usize, tokens: &mut Vec<Token>) -> Result<(), All
 }
 
 fn add_tokens(sim: &Sim, tokens: &mut [Vec<Token>]) -> Result<(), AllocError>
-    ensures { OnOk result (AreAdded sim.now (lists_of tokens.old) (lists_of tokens.new)) }
+    ensures { OnOk result (AreAdded (sim_of sim.now) (lists_of tokens.old) (lists_of tokens.new)) }
 {
     for i in 0..tokens.len() {
         add_token(sim, i, &mut tokens[i])?;
@@ -113,7 +96,8 @@ fn no_tokens(alloc: Global, count: usize) -> Result<Vec<Vec<Token>>, AllocError>
     ensures none { IfOk result (λ v. (i : ℕ) → slice_index_or (lists_of v.items) i [] ≡ []) }
 {
     let mut tokens = Vec::new(alloc);
-    for _i in 0..count {
+    for i in 0..count {
+        let _place = i;
         tokens.push(Vec::new(alloc))?;
     }
     Ok(tokens)
