@@ -6,3 +6,4 @@ pub mod Stepping
 pub mod Asking
 pub mod Advancing
 pub mod Asked
+pub mod Adding

@@ -11,5 +11,5 @@ mod slots;
 pub use cells::Outside;
 pub use inputs::{Input, Supply};
 pub use parts::{Parts, State, Stream};
-pub use sim::Carried;
+pub use sim::{Carried, run_cycles};
 pub use simulator::Sim;

@@ -102,3 +102,36 @@ fn no_tokens(alloc: Global, count: usize) -> Result<Vec<Vec<Token>>, AllocError>
     }
     Ok(tokens)
 }
+
+// Steps once, and adds what the streams carry.
+fn go_on(sim: &mut Sim, tokens: &mut [Vec<Token>]) -> Result<(), AllocError>
+    requires { (sim_of sim.old).told.cycle + 1 < 2 ^ 64 }
+    ensures next { OnOk result (IsNext (sim_of sim.old) (sim_of sim.new)) }
+    ensures added { OnOk result (AreAdded (sim_of sim.new) (lists_of tokens.old) (lists_of tokens.new)) }
+{
+    sim.step();
+    add_tokens(sim, tokens)
+}
+
+/// Steps until the design is done or to a cycle, and gives the tokens of the cycles from 1 on, and the first cycle in which the
+/// design is done.
+pub fn run_cycles(alloc: Global, sim: &mut Sim, limit: u64) -> Result<Carried, AllocError>
+    requires { (sim_of sim.old).told.cycle ≡ 0 }
+    ensures done { IfOk result (λ r. InRuns (sim_of sim.old) (λ m env nets. IsDoneAt (λ n. nets n []) limit r.done_at)) }
+    ensures tokens { IfOk result (λ r. InRuns (sim_of sim.old) (λ m env nets. (place : ℕ) (l : PortTree) → slice_get (streams_of m) place ≡ Some l → tokens l.bits (λ n. nets n []) l.name (last_cycle limit r.done_at) ≡ slice_index_or (lists_of r.tokens.items) place [])) }
+{
+    let mut tokens = no_tokens(alloc, sim.streams())?;
+    for cycle in 0..limit {
+        go_on(sim, &mut tokens)?;
+        if sim.done() {
+            return Ok(Carried {
+                tokens,
+                done_at: Some(cycle + 1),
+            });
+        }
+    }
+    Ok(Carried {
+        tokens,
+        done_at: None,
+    })
+}
