@@ -1,9 +1,9 @@
 -- What streams carried, from cycle to cycle.
-use Rattle.std.proofs.Common.{◌≡◌, ◌≢◌, ℕ, zero, suc, ◌+◌, ◌<◌, ◌≤◌, Bool, true, false, cond, List, [], ◌∷◌, ◌++◌, Option, Some, None, length, get_or, inl, inr, refl, sym, ap, subst, ◌∙◌, arith}
-use Rattle.std.specs.Prelude.{◌⊎◌, ◌↔◌, IsTrue, slice_get, slice_set, slice_index_or, Vec}
+use Rattle.std.proofs.Common.{◌≡◌, ◌≢◌, ℕ, zero, suc, ◌+◌, ◌<◌, ◌≤◌, List, [], ◌∷◌, ◌++◌, Some, None, length, get_or, inl, inr, refl, sym, ap, subst, ◌∙◌, arith}
+use Rattle.std.specs.Prelude.{◌⊎◌, slice_get, slice_set, slice_index_or, Vec}
 use Rattle.std.specs.declared.alloc.Global.{Global}
 use Rattle.std.specs.Option.{option_to_list}
-use Rattle.std.proofs.lemmas.Bool.{cases_eq, cases_lt}
+use Rattle.std.proofs.lemmas.Bool.{cases_eq}
 use Rattle.std.proofs.lemmas.List.{get_or-set_other}
 use Rattle.std.proofs.lemmas.Grind.{get_or-set_at}
 use Rattle.std.proofs.lemmas.Option.{slice_get_within}
@@ -15,7 +15,7 @@ use Rattle.vlog_tree.specs.Environment.{Environment, FitsShape, RunsIn, IsDone, 
 use Rattle.vlog_design.specs.Designs.{DesignTree, TopOf}
 use Rattle.vlog_ref_start.specs.Outside.{lists_of}
 use Rattle.sim_law.specs.Told.{IsToldOf}
-use Rattle.cycle_sim.specs.Sims.{SimTree, InRuns, IsNext, IsCarried, IsAdded, AreAdded, IsRunTo, IsDoneAt, last_cycle}
+use Rattle.cycle_sim.specs.Sims.{SimTree, InRuns, IsNext, IsCarried, IsAdded, AreAdded, IsRunTo, IsDoneAt}
 
 pub lists_set : {A : Type 0} (vs : List (Vec A Global)) (i : ℕ) (v : Vec A Global) → lists_of (slice_set vs i v) ≡ slice_set (lists_of vs) i v.items
 lists_set [] i v = refl

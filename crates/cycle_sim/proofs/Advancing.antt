@@ -1,28 +1,24 @@
 -- A step keeps a simulator, and goes to the next cycle of each run that it tells of.
-use Rattle.std.proofs.Common.{◌≡◌, ℕ, zero, suc, ◌+◌, ◌^◌, ◌<◌, ◌≤◌, Bool, List, [], ◌∷◌, Some, length, get_or, inl, inr, refl, sym, ap, subst, ◌∙◌, arith}
+use Rattle.std.proofs.Common.{◌≡◌, ℕ, zero, suc, ◌+◌, ◌^◌, ◌<◌, ◌≤◌, List, [], ◌∷◌, Some, length, get_or, refl, sym, ap, subst, ◌∙◌, arith}
 use Rattle.std.specs.Prelude.{slice_get, Vec}
 use Rattle.std.specs.declared.alloc.Global.{Global}
-use Rattle.tapa_base.specs.declared.shape.Port.{Port}
 use Rattle.vlog_tree.specs.Form.{ModuleTree}
-use Rattle.vlog_tree.specs.Grounded.{Has}
-use Rattle.vlog_tree.specs.Labels.{m_wdata}
 use Rattle.vlog_tree.specs.Cycle.{Cycle, Path}
 use Rattle.vlog_tree.specs.Environment.{Environment, FitsShape, RunsIn, shape_of}
 use Rattle.vlog_law_runs.proofs.Settled.{IsTopTree, top_tree}
 use Rattle.vlog_ref_start.specs.Outside.{lists_of}
-use Rattle.vlog_design.specs.Designs.{TopOf}
 use Rattle.sim_law.specs.Told.{IsToldOf}
 use Rattle.sim_tape.specs.Operators.{Cells, cells_of}
-use Rattle.sim_tape.specs.Tape.{number_at, pair_value}
+use Rattle.sim_tape.specs.Tape.{number_at}
 use Rattle.sim_tape.specs.Solved.{IsSolved, SameGiven}
 use Rattle.sim_design.specs.declared.drafts.Commit.{Commit}
 use Rattle.cycle_sim.specs.declared.inputs.Input.{Input}
 use Rattle.cycle_sim.specs.declared.cells.Outside.{Outside}
 use Rattle.cycle_sim.specs.declared.parts.Parts.{Parts}
 use Rattle.cycle_sim.specs.declared.parts.State.{State}
-use Rattle.cycle_sim.specs.Sims.{SimTree, InRuns, IsNext}
+use Rattle.cycle_sim.specs.Sims.{InRuns, IsNext}
 use Rattle.cycle_sim.specs.Steps.{IsAway, PairHas, supplied, stored_all, outside_list}
-use Rattle.cycle_sim.specs.Machines.{IsShown, HasCells}
+use Rattle.cycle_sim.specs.Machines.{IsShown}
 use Rattle.cycle_sim.specs.Wholes.{IsSim, sim_tree}
 use Rattle.cycle_sim.proofs.Telling.{shown_of, told_of}
 use Rattle.cycle_sim.proofs.Stepping.{has_next, given_next, fits, shown_next}

@@ -1,5 +1,5 @@
 -- What a simulator is asked of its cycle.
-use Rattle.std.proofs.Common.{◌≡◌, ℕ, zero, suc, ◌+◌, ◌*◌, ◌^◌, ◌<◌, ◌≤◌, Bool, true, false, cond, ◌&&◌, List, [], ◌∷◌, ◌++◌, Option, Some, None, length, get_or, map, append-nil, inl, inr, refl, sym, ap, subst, ◌∙◌, arith}
+use Rattle.std.proofs.Common.{◌≡◌, ℕ, suc, ◌<◌, ◌≤◌, Bool, true, false, cond, ◌&&◌, List, [], ◌∷◌, ◌++◌, Option, Some, None, length, get_or, map, append-nil, refl, sym, ap, subst, ◌∙◌, arith}
 use Rattle.std.specs.Prelude.{◌==◌, ◌↔◌, IsTrue, slice_get}
 use Rattle.std.specs.Option.{option_to_list}
 use Rattle.std.proofs.lemmas.Bool.Decides.{nat_tests}
@@ -12,13 +12,13 @@ use Rattle.vlog_tree.specs.Labels.{done, s_wr, s_rdy, s_din}
 use Rattle.vlog_tree.specs.Cycle.{Cycle, Path}
 use Rattle.vlog_tree.specs.Environment.{IsDone, streams_of, tokens, token_of, carried}
 use Rattle.sim_tape.specs.declared.gates.Pair.{Pair}
-use Rattle.sim_tape.specs.Tape.{number_at, pair_value}
+use Rattle.sim_tape.specs.Tape.{pair_value}
 use Rattle.cycle_sim.specs.declared.parts.Stream.{Stream}
 use Rattle.cycle_sim.specs.declared.parts.Parts.{Parts}
 use Rattle.cycle_sim.specs.declared.parts.State.{State}
 use Rattle.cycle_sim.specs.Sims.{InRuns, IsCarried}
 use Rattle.cycle_sim.specs.Steps.{is_one}
-use Rattle.cycle_sim.specs.Machines.{IsPairOf, IsShown}
+use Rattle.cycle_sim.specs.Machines.{IsPairOf}
 use Rattle.cycle_sim.specs.Wholes.{IsSim, IsStream, sim_tree, token_on}
 use Rattle.cycle_sim.proofs.Stepping.{one_test}
 use Rattle.cycle_sim.proofs.Advancing.{in_runs}

@@ -1,5 +1,5 @@
 -- What the memories around a design are given fits their cells.
-use Rattle.std.proofs.Common.{◌≡◌, ℕ, ◌^◌, ◌<◌, ◌≤◌, Bool, true, false, ◌&&◌, List, [], ◌∷◌, Option, Some, None, length, inl, inr, refl, sym, ap, subst, ◌∙◌, map, arith}
+use Rattle.std.proofs.Common.{◌≡◌, ℕ, ◌^◌, ◌<◌, ◌≤◌, true, false, ◌&&◌, List, Option, Some, None, length, inl, inr, refl, ap, subst, ◌∙◌, map, arith}
 use Rattle.std.specs.Prelude.{nat_le}
 use Rattle.std.specs.Option.{option_map_or}
 use Rattle.std.proofs.Math.Pow.{pow_mono}
@@ -19,7 +19,7 @@ use Rattle.vlog_tree.proofs.Lists.{of_flat}
 use Rattle.vlog_law_runs.proofs.Sound.{both_true}
 use Rattle.vlog_law_runs.proofs.Cycles.{port_stands}
 use Rattle.vlog_law_runs.proofs.TopPorts.{five_of, five_rdata}
-use Rattle.vlog_law_runs.proofs.Ports.{PortFits, fits, named_port, ack_input}
+use Rattle.vlog_law_runs.proofs.Ports.{fits, named_port, ack_input}
 use Rattle.vlog_law_runs.proofs.Labelled.{ack_label, rdata_of_label}
 use Rattle.vlog_law_widths.specs.Widths.{NumbersFit}
 use Rattle.vlog_law_widths.proofs.Agreeing.{port_bits, data_agree}

@@ -1,25 +1,24 @@
 -- The numbers that names of a design are found by.
-use Rattle.std.proofs.Common.{◌≡◌, ℕ, zero, suc, ◌+◌, ◌<◌, Bool, true, false, cond, List, [], ◌∷◌, Option, Some, None, length, get_or, inl, inr, refl, sym, ap, subst, ◌∙◌, map, arith}
+use Rattle.std.proofs.Common.{◌≡◌, ℕ, zero, suc, ◌+◌, ◌<◌, Bool, true, false, cond, List, [], ◌∷◌, Some, length, get_or, refl, sym, ap, subst, ◌∙◌, map, arith}
 use Rattle.std.specs.Prelude.{bytes_eq, slice_get, option_map, option_and_then}
 use Rattle.std.specs.Cmp.Lexicographic.{bytes_decides}
-use Rattle.vlog_tree.specs.declared.table.Declaration.{Declaration}
 use Rattle.vlog_tree.specs.Form.{ModuleTree}
 use Rattle.vlog_tree.specs.Grounded.{Has}
 use Rattle.vlog_tree.specs.Cycle.{Path, module_at}
 use Rattle.vlog_tree.specs.Flattened.{FlatNet}
 use Rattle.vlog_tree.specs.Loops.{instances}
 use Rattle.vlog_tree.specs.Table.{Name, declared, declaration_name, net_kind_of, net_kind_is_read}
-use Rattle.vlog_tree.proofs.Lists.{has_got, got_has, has_map}
+use Rattle.vlog_tree.proofs.Lists.{has_got}
 use Rattle.vlog_law_runs.proofs.Sound.{declared_by}
 use Rattle.sim_flat.specs.declared.instances.Instance as row
 use Rattle.sim_flat.specs.Rows.{row_at}
 use Rattle.sim_flat.specs.Instances.{IsNamed, StandsAt, IsModuleOf}
 use Rattle.sim_flat.proofs.Once.{instance_once}
 use Rattle.sim_nets.specs.declared.flat.Flat.{Flat}
-use Rattle.sim_nets.specs.Flat.{IsFlat, IsNetAt, HasNumber}
-use Rattle.sim_nets.specs.Places.{place_in, DeclaredAt}
+use Rattle.sim_nets.specs.Flat.{IsFlat, HasNumber}
+use Rattle.sim_nets.specs.Places.{place_in}
 use Rattle.sim_nets.proofs.Names.{place_is, place_found, place_declared}
-use Rattle.sim_nets.proofs.Standing.{in_top, module_of as module_leads}
+use Rattle.sim_nets.proofs.Standing.{module_of as module_leads}
 use Rattle.cycle_sim.specs.Told.{child_place, module_of, instance_at, number_of}
 
 child_here : (p : Name × Name) (ps : List (Name × Name)) (i kn : Name) → p ≡ (kn, i) → child_place (p ∷ ps) i ≡ Some 0

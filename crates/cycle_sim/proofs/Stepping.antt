@@ -1,32 +1,31 @@
 -- What slots and cells show of a run's cycle they show of its next cycle after a step.
-use Rattle.std.proofs.Common.{◌≡◌, ◌≢◌, ℕ, zero, suc, ◌+◌, ◌*◌, ◌^◌, ◌<◌, ◌≤◌, Bool, true, false, cond, ◌&&◌, List, [], ◌∷◌, Option, Some, None, length, get_or, inl, inr, refl, sym, ap, subst, ◌∙◌, arith}
-use Rattle.std.specs.Prelude.{◌⊎◌, ◌==◌, slice_get, slice_index, slice_index_or}
-use Rattle.std.specs.List.{AllByRecursion}
+use Rattle.std.proofs.Common.{◌≡◌, ◌≢◌, ℕ, zero, suc, ◌+◌, ◌*◌, ◌^◌, ◌<◌, ◌≤◌, Bool, true, false, cond, ◌&&◌, List, [], Option, Some, None, length, get_or, inl, inr, refl, sym, ap, subst, ◌∙◌, arith}
+use Rattle.std.specs.Prelude.{◌⊎◌, ◌==◌, slice_get, slice_index_or}
 use Rattle.std.proofs.Math.Pow.{pow_mono}
 use Rattle.std.proofs.lemmas.Bool.{cases_lt, cases_eq}
 use Rattle.std.proofs.lemmas.Bool.Decides.{nat_tests}
 use Rattle.std.proofs.lemmas.List.{get_or_past}
-use Rattle.std.proofs.lemmas.Option.{unwrap_or-slice_get, get_or_from_slice_get, slice_get_within}
+use Rattle.std.proofs.lemmas.Option.{unwrap_or-slice_get, slice_get_within}
 use Rattle.tapa_base.specs.declared.shape.Port.{Port}
 use Rattle.vlog_tree.specs.declared.tree.Item.TheVariants.{Reg, Memory}
 use Rattle.vlog_tree.specs.declared.table.NetKind.TheVariants as kind
 use Rattle.vlog_tree.specs.Form.{ModuleTree}
 use Rattle.vlog_tree.specs.Grounded.{Has}
 use Rattle.vlog_tree.specs.Flattened.{FlatNet}
-use Rattle.vlog_tree.specs.Labels.{rst, scalar, rdata_of, m_ack, m_we, m_addr, m_wdata, m_rdata}
-use Rattle.vlog_tree.specs.Table.{Name, is_clk, declared, net_kind_of, net_kind_is_read, bits_of}
-use Rattle.vlog_tree.specs.Cycle.{Cycle, Sizes, Path, Takes, module_at, run_items}
+use Rattle.vlog_tree.specs.Labels.{rdata_of, m_ack, m_we, m_addr, m_wdata}
+use Rattle.vlog_tree.specs.Table.{Name, declared, net_kind_of, bits_of}
+use Rattle.vlog_tree.specs.Cycle.{Cycle, Path, Takes, module_at, run_items}
 use Rattle.vlog_tree.specs.Environment.{Environment, FitsShape, RunsIn, shape_of, cells_at, ready_at, set_cell}
 use Rattle.vlog_tree.proofs.Lists.{has_got, got_has}
 use Rattle.vlog_law_runs.proofs.Settled.{module_in}
 use Rattle.vlog_law_runs.proofs.Sizes.{all_at, memory_item, register_item, declared_net_kind, has_line}
-use Rattle.vlog_law_widths.specs.Widths.{NumbersFit, RunFits}
+use Rattle.vlog_law_widths.specs.Widths.{RunFits}
 use Rattle.vlog_law_widths.proofs.Fitting.{run_fits}
 use Rattle.vlog_law_widths.proofs.Ruled.{widths_in_range}
 use Rattle.sim_tape.specs.declared.gates.Pair.{Pair}
 use Rattle.sim_tape.specs.declared.gates.Rule.TheVariants.{Given, Constant}
 use Rattle.sim_tape.specs.Operators.{Cells, cell_in}
-use Rattle.sim_tape.specs.Tape.{TapeTree, IsTape, gate_at, gate_value, number_at, pair_value}
+use Rattle.sim_tape.specs.Tape.{TapeTree, gate_value, number_at, pair_value}
 use Rattle.sim_tape.specs.Solved.{IsSolved, SameGiven}
 use Rattle.sim_blocks.specs.declared.writes.Store.{Store}
 use Rattle.sim_blocks.specs.Next.{cell_after}
@@ -36,8 +35,8 @@ use Rattle.sim_nets.proofs.Standing.{in_top, net_of, net_single}
 use Rattle.sim_design.specs.declared.drafts.Commit.{Commit}
 use Rattle.sim_design.specs.declared.drafts.Width.{Width}
 use Rattle.sim_design.specs.Valuations.{IsLawful, IsValuation}
-use Rattle.sim_design.specs.States.{IsFree, ShowsPlaced, ShowsState, CellsAre}
-use Rattle.sim_design.specs.Drafts.{IsGivenSlot, IsGivenPair, IsCommitted}
+use Rattle.sim_design.specs.States.{IsFree, ShowsState, CellsAre}
+use Rattle.sim_design.specs.Drafts.{IsGivenSlot, IsGivenPair}
 use Rattle.cycle_sim.specs.declared.inputs.Supply.{Supply}
 use Rattle.cycle_sim.specs.declared.inputs.Supply.TheVariants.{Reset, Scalar, Ready}
 use Rattle.cycle_sim.specs.declared.inputs.Input.{Input}
@@ -75,7 +74,6 @@ one_test ns p = by_high (cases_eq (number_at ns p.high) 0) where
 
 module _ (ms : List ModuleTree) (top : ModuleTree) (f : Flat) (pairs memories : List (Option Pair)) (widths : List Width) (t : TapeTree) (commits : List Commit) (stores : List Store)
     (machine : IsMachine ms top f pairs memories widths t commits stores) (inputs : List Input) (given : AreInputs ms top f pairs inputs) (outside : List Outside) (around : AreOutside ms top f pairs outside) where
-
   abbrev HasTop : FlatNet → ModuleTree → Type 0
   HasTop n m = module_at ms top n.0 ≡ Some m
 
@@ -262,7 +260,6 @@ module _ (ms : List ModuleTree) (top : ModuleTree) (f : Flat) (pairs memories : 
         (next_solved : IsSolved t next_cells next_ns) (same : SameGiven t.gates given_ns next_ns)
         (asked : (i : ℕ) (o : Outside) → slice_get outside i ≡ Some o → get_or next_cells i [] ≡ outside_list ns o (stored_all ns i (get_or cells i []) stores))
         (behind : (m : ℕ) → length outside ≤ m → get_or next_cells m [] ≡ stored_all ns m (get_or cells m []) stores) where
-
       register_next : (number : ℕ) (k : FlatNet) (p : Pair) (m : ModuleTree) → HasNumber ms f number k → HasTop k m → IsFree ms top k → net_kind_of (declared m) k.1 ≡ kind.Register → get_or pairs number None ≡ Some p → (nets (suc n) k.0).net k.1 ≡ pair_value next_ns p
       register_next number k p m h at free reg e =
           let line = register_item m k.1 reg in
@@ -282,7 +279,7 @@ module _ (ms : List ModuleTree) (top : ModuleTree) (f : Flat) (pairs memories : 
             slot_taken slot from h = let i = got_has commits (record { slot = slot; next = from }) h in taken i.0 (record { slot = slot; next = from }) i.2
 
             far : (p : Pair) → 0 < p.high → (i : ℕ) (a : Input) → IsAway p.low a.pair × ((p.high ≡ 0) ⊎ IsAway p.high a.pair) → IsAway p.high a.pair
-            far p pos i a w = elim w.1 [ | inl z ↦ absurd (omega arith) | inr y ↦ y ]
+            far p pos i a w = elim w.1 [ inl z ↦ absurd (omega arith) | inr y ↦ y ]
 
             high : (p q : Pair) (bits : ℕ) → ((bits ≤ 64) × (p.high ≡ 0)) ⊎ ((64 < bits) × IsGivenSlot t p.high × (p.low ≢ p.high)) → (p.high ≡ 0) ⊎ Has commits (record { slot = p.high; next = q.high })
                 → ((i : ℕ) (a : Input) → slice_get inputs i ≡ Some a → IsAway p.low a.pair × ((p.high ≡ 0) ⊎ IsAway p.high a.pair)) → (v : ℕ) → v ≡ pair_value ns q → v < 2 ^ bits → number_at next_ns p.high ≡ number_at ns q.high
@@ -370,7 +367,6 @@ module _ (ms : List ModuleTree) (top : ModuleTree) (f : Flat) (pairs memories : 
             let old : c ≡ cells_at run l.name (slice_index_or env.memories i []) n = now.outside i l got in
             let in_shape : i < length (shape_of top).memories = slice_get_within (shape_of top).memories i l got in
             let few : 0 < 2 ^ 64 = omega arith in
-            
             let stay : stored_all ns i c stores ≡ c = all_stay ns 0 few (record { low = 0; high = 1 }) zero_one stores i c (λ u h. store_inside u h i in_shape) in
             let w : (run n).net (m_wdata l.name) ≡ pair_value ns asks.written = net_here (m_wdata l.name) asks.written asks.wdata in
             let zero_high : number_at ns asks.written.high ≡ 0 = no_high (number_at ns asks.written.high) (number_at ns asks.written.low) ((run n).net (m_wdata l.name)) w (data_low l (has_got (shape_of top).memories i l got)) in

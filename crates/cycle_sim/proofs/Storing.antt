@@ -1,7 +1,7 @@
 -- Two lists of halves after stores have the halves of what a memory has after them.
-use Rattle.std.proofs.Common.{◌≡◌, ◌≢◌, ℕ, zero, suc, ◌+◌, ◌*◌, ◌^◌, ◌<◌, ◌≤◌, Bool, true, false, cond, ◌&&◌, List, [], ◌∷◌, length, get_or, inl, inr, refl, sym, ap, subst, ◌∙◌, arith}
+use Rattle.std.proofs.Common.{◌≡◌, ◌≢◌, ℕ, ◌+◌, ◌*◌, ◌^◌, ◌<◌, ◌≤◌, Bool, true, false, cond, ◌&&◌, List, [], ◌∷◌, length, get_or, inl, inr, refl, sym, ap, ◌∙◌, arith}
 use Rattle.std.specs.Prelude.{◌⊎◌, ◌==◌, nat_lt, slice_set}
-use Rattle.std.proofs.lemmas.Bool.{cases_lt, cases_eq}
+use Rattle.std.proofs.lemmas.Bool.{cases_eq}
 use Rattle.std.proofs.lemmas.Bool.Decides.{nat_tests}
 use Rattle.std.proofs.lemmas.List.{get_or-set_other, length-set}
 use Rattle.std.proofs.lemmas.Grind.{get_or-set_at}
@@ -124,8 +124,8 @@ module _ (ns : List ℕ) (k : ℕ) (few : k < 2 ^ 64) (q : Pair) (two : q.low �
         let pos : 0 < number_at ns t.at.high = grind (arith, nat_tests) in
         let far : k ≤ pair_value ns t.at = omega arith in
         sym (no_hit (
-              ap (λ b. (number_at ns t.on == 1) && (((t.memory.low == q.low) && (a == pair_value ns t.at)) && b)) (lt_false (pair_value ns t.at) k far)
-              ∙ dead (number_at ns t.on == 1) (t.memory.low == q.low) (a == pair_value ns t.at))) where
+        ap (λ b. (number_at ns t.on == 1) && (((t.memory.low == q.low) && (a == pair_value ns t.at)) && b)) (lt_false (pair_value ns t.at) k far)
+        ∙ dead (number_at ns t.on == 1) (t.memory.low == q.low) (a == pair_value ns t.at))) where
           dead : (x y z : Bool) → (x && ((y && z) && false)) ≡ false
           dead true true true = refl
           dead true true false = refl

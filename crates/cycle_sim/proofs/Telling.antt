@@ -1,23 +1,21 @@
 -- What slots and cells tell of a cycle is what they show of it.
-use Rattle.std.proofs.Common.{◌≡◌, ℕ, suc, ◌+◌, ◌*◌, ◌^◌, ◌<◌, ◌≤◌, Bool, true, false, cond, List, [], ◌∷◌, Option, Some, None, length, get_or, inl, inr, refl, sym, ap, subst, ◌∙◌, map, arith}
-use Rattle.std.specs.Prelude.{◌⊎◌, IsSome, IsTrue, slice_get, slice_index_or, nat_lt, option_and_then}
+use Rattle.std.proofs.Common.{◌≡◌, ℕ, ◌+◌, ◌*◌, ◌^◌, ◌<◌, ◌≤◌, true, false, cond, List, [], Option, Some, None, length, get_or, inl, inr, refl, sym, ap, ◌∙◌, arith}
+use Rattle.std.specs.Prelude.{◌⊎◌, IsSome, nat_lt, option_and_then}
 use Rattle.std.proofs.lemmas.Bool.{cases_lt}
 use Rattle.std.proofs.lemmas.Bool.Decides.{nat_tests}
 use Rattle.std.proofs.lemmas.List.{get_or_past}
-use Rattle.tapa_base.specs.declared.shape.Port.{Port}
 use Rattle.vlog_tree.specs.declared.tree.Item.TheVariants.{Memory}
 use Rattle.vlog_tree.specs.declared.table.Declaration.{Declaration}
 use Rattle.vlog_tree.specs.declared.table.NetKind.TheVariants.{MemoryArray}
 use Rattle.vlog_tree.specs.Form.{ModuleTree}
-use Rattle.vlog_tree.specs.Grounded.{Has}
 use Rattle.vlog_tree.specs.Flattened.{FlatNet}
 use Rattle.vlog_tree.specs.Cycle.{Cycle, Path, module_at}
-use Rattle.vlog_tree.specs.Table.{Name, is_clk, declared, declaration_name, net_kind_of, net_kind_is_read}
-use Rattle.vlog_tree.specs.Environment.{Environment, shape_of, cells_at}
+use Rattle.vlog_tree.specs.Table.{Name, declared, declaration_name}
+use Rattle.vlog_tree.specs.Environment.{Environment, shape_of}
 use Rattle.vlog_tree.proofs.Lists.{has_map}
 use Rattle.vlog_law_runs.proofs.Settled.{module_in}
 use Rattle.vlog_law_runs.proofs.Sizes.{has_line}
-use Rattle.sim_law.specs.Told.{TellTree, IsToldOf}
+use Rattle.sim_law.specs.Told.{IsToldOf}
 use Rattle.sim_tape.specs.declared.gates.Pair.{Pair}
 use Rattle.sim_tape.specs.Operators.{Cells, cell_in}
 use Rattle.sim_tape.specs.Tape.{TapeTree, pair_value}
@@ -27,8 +25,8 @@ use Rattle.sim_nets.specs.Flat.{HasNumber}
 use Rattle.sim_nets.proofs.Standing.{in_top}
 use Rattle.sim_design.specs.declared.drafts.Commit.{Commit}
 use Rattle.sim_design.specs.declared.drafts.Width.{Width}
-use Rattle.sim_design.specs.States.{ShowsPlaced, CellsAre}
-use Rattle.cycle_sim.specs.Told.{number_of, number_told, cell_told, pair_of, told_by}
+use Rattle.sim_design.specs.States.{CellsAre}
+use Rattle.cycle_sim.specs.Told.{number_told, cell_told, pair_of, told_by}
 use Rattle.cycle_sim.specs.Machines.{IsMachine, HasCells, IsShown}
 use Rattle.cycle_sim.proofs.Numbering.{number_is_found, net_number, named_number, tree_at}
 

@@ -1,5 +1,5 @@
 -- Writes to slots and to cells, one after another.
-use Rattle.std.proofs.Common.{◌≡◌, ◌≢◌, ℕ, zero, suc, ◌+◌, ◌<◌, ◌≤◌, Bool, true, false, cond, List, [], ◌∷◌, Some, length, get_or, inl, inr, refl, sym, ap, subst, ◌∙◌, arith, eq-eqb, map}
+use Rattle.std.proofs.Common.{◌≡◌, ◌≢◌, ℕ, zero, suc, ◌+◌, ◌<◌, ◌≤◌, Bool, false, cond, List, [], ◌∷◌, Some, length, get_or, inl, inr, refl, sym, ap, subst, ◌∙◌, arith, eq-eqb}
 use Rattle.std.specs.Prelude.{◌⊎◌, ◌==◌, slice_get, slice_set, Vec}
 use Rattle.std.specs.declared.alloc.Global.{Global}
 use Rattle.std.proofs.lemmas.Bool.{cases_eq}
@@ -9,7 +9,7 @@ use Rattle.std.proofs.lemmas.Grind.{get_or-set_at}
 use Rattle.vlog_tree.specs.Environment.{set_cell}
 use Rattle.sim_tape.specs.declared.gates.Pair.{Pair}
 use Rattle.sim_tape.specs.Tape.{number_at}
-use Rattle.sim_tape.specs.Operators.{Cells, cells_of}
+use Rattle.sim_tape.specs.Operators.{cells_of}
 use Rattle.cycle_sim.specs.declared.inputs.Input.{Input}
 use Rattle.cycle_sim.specs.declared.cells.Outside.{Outside}
 use Rattle.cycle_sim.specs.Steps.{IsAway, PairHas, HaveSlots, supplied, put_list, outside_list}

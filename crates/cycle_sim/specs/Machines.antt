@@ -1,15 +1,15 @@
 -- What a simulator is made of, and when it shows a cycle of a run.
-use Rattle.std.specs.Prelude.{◌≡◌, ℕ, ◌<◌, Bool, List, [], ◌∷◌, Option, Some, None, length, get_or, slice_get, slice_index_or}
+use Rattle.std.specs.Prelude.{◌≡◌, ℕ, List, [], Option, Some, None, length, get_or, slice_get, slice_index_or}
 use Rattle.tapa_base.specs.declared.shape.Port.{Port}
 use Rattle.vlog_tree.specs.declared.tree.Item.TheVariants.{Memory}
 use Rattle.vlog_tree.specs.declared.table.NetKind.TheVariants as kind
 use Rattle.vlog_tree.specs.Form.{ModuleTree}
 use Rattle.vlog_tree.specs.Grounded.{Has}
 use Rattle.vlog_tree.specs.Flattened.{FlatNet}
-use Rattle.vlog_tree.specs.Labels.{rst, scalar, rdata_of, m_ack, m_we, m_addr, m_wdata, s_wr, s_rdy, s_din}
+use Rattle.vlog_tree.specs.Labels.{rst, scalar, rdata_of, m_ack, m_we, m_addr, m_wdata}
 use Rattle.vlog_tree.specs.Table.{Name, declared, net_kind_of}
 use Rattle.vlog_tree.specs.Cycle.{Cycle, Path, module_at}
-use Rattle.vlog_tree.specs.Environment.{Environment, shape_of, streams_of, cells_at}
+use Rattle.vlog_tree.specs.Environment.{Environment, shape_of, cells_at}
 use Rattle.sim_tape.specs.declared.gates.Pair.{Pair}
 use Rattle.sim_tape.specs.Operators.{Cells}
 use Rattle.sim_tape.specs.Tape.{TapeTree, IsTape}

@@ -40,8 +40,18 @@ fn store(numbers: &[u64], store: &Store, cells: &mut [Vec<u64>])
 {
     if number(numbers, store.on) == 1 && number(numbers, store.at.high) == 0 {
         let at = number(numbers, store.at.low) as usize;
-        put_cell(cells, store.memory.low as usize, at, number(numbers, store.value.low));
-        put_cell(cells, store.memory.high as usize, at, number(numbers, store.value.high));
+        put_cell(
+            cells,
+            store.memory.low as usize,
+            at,
+            number(numbers, store.value.low),
+        );
+        put_cell(
+            cells,
+            store.memory.high as usize,
+            at,
+            number(numbers, store.value.high),
+        );
     }
 }
 

@@ -32,13 +32,7 @@ fn ready_in(bits: &[bool], cycle: u64) -> u64
         return 0;
     }
     match bits.get((cycle - 1) as usize) {
-        Some(b) => {
-            if *b {
-                1
-            } else {
-                0
-            }
-        }
+        Some(b) => { if *b { 1 } else { 0 } }
         None => 1,
     }
 }
@@ -56,13 +50,7 @@ fn supplied(ready: &[Vec<bool>], cycle: u64, supply: Supply) -> u64
     ensures { result ≡ supplied_lem (lists_of ready.now) cycle supply }
 {
     match supply {
-        Supply::Reset => {
-            if cycle == 0 {
-                1
-            } else {
-                0
-            }
-        }
+        Supply::Reset => { if cycle == 0 { 1 } else { 0 } }
         Supply::Scalar(n) => n,
         Supply::Ready(place) => is_ready(ready, place, cycle),
     }

@@ -1,4 +1,4 @@
-use Rattle.std.proofs.Common.{◌<◌, ◌≤◌, [], get_or, arith, length}
+use Rattle.std.proofs.Common.{◌<◌, [], get_or, arith, length}
 use Rattle.std.proofs.lemmas.Option.{slice_get-get_or, slice_get_within}
 use Rattle.sim_tape.specs.Operators.{cells_of}
 use Rattle.cycle_sim.proofs.Writing.{asked_more, kept_more}

@@ -1,4 +1,3 @@
-use Rattle.std.proofs.Common.{◌<◌, arith}
 use Rattle.cycle_sim.proofs.Writing.{cell_put}
 use Rattle.cycle_sim.proofs.cells.put_cell.Goals as goal
 

@@ -4,14 +4,13 @@ use Rattle.std.specs.declared.alloc.Global.{Global}
 use Rattle.std.specs.Vec.{with_items}
 use Rattle.std.proofs.lemmas.List.{with_items_is}
 use Rattle.vlog_ref_start.specs.Outside.{lists_of}
-use Rattle.sim_tape.specs.Operators.{Cells, cells_of}
+use Rattle.sim_tape.specs.Operators.{cells_of}
 use Rattle.sim_tape.specs.Tape.{number_at}
 use Rattle.sim_tape.specs.Solved.{IsSolved, SameGiven}
 use Rattle.sim_design.specs.declared.drafts.Commit.{Commit}
 use Rattle.cycle_sim.specs.declared.inputs.Input.{Input}
 use Rattle.cycle_sim.specs.declared.cells.Outside.{Outside}
 use Rattle.cycle_sim.specs.Steps.{IsAway, PairHas, HaveSlots, supplied, stored_all, outside_list}
-use Rattle.cycle_sim.specs.Wholes.{IsSim, sim_tree}
 use Rattle.cycle_sim.proofs.Stepping.{have_slots, commit_room}
 use Rattle.cycle_sim.proofs.Advancing.{sim_next, next_told}
 use Rattle.cycle_sim.proofs.parts.advance.Goals as goal

@@ -1,4 +1,4 @@
-use Rattle.std.proofs.Common.{◌≡◌, List, ap, ◌∙◌}
+use Rattle.std.proofs.Common.{ap, ◌∙◌}
 use Rattle.cycle_sim.specs.Steps.{is_one}
 use Rattle.cycle_sim.proofs.Asked.{done_is}
 use Rattle.cycle_sim.proofs.parts.is_done.Goals as goal

@@ -1,13 +1,13 @@
-use Rattle.std.proofs.Common.{◌≡◌, ℕ, ◌+◌, ◌<◌, ◌≤◌, List, [], Some, length, sym, ap, subst, ◌∙◌, arith}
+use Rattle.std.proofs.Common.{◌≡◌, ◌+◌, List, [], length, sym, ap, subst, ◌∙◌}
 use Rattle.std.specs.Vec.{with_items}
 use Rattle.std.proofs.lemmas.List.{with_items_is}
 use Rattle.tapa_base.specs.declared.token.Token.{Token}
-use Rattle.vlog_tree.specs.Environment.{IsDone, tokens}
+use Rattle.vlog_tree.specs.Environment.{tokens}
 use Rattle.vlog_law_runs.proofs.Sound.{true_not_false}
 use Rattle.vlog_ref_start.specs.Outside.{lists_of}
 use Rattle.cycle_sim.specs.Simulators.{sim_of}
-use Rattle.cycle_sim.specs.Sims.{IsNext, AreAdded, IsRunTo, IsDoneAt}
-use Rattle.cycle_sim.proofs.Adding.{run_begins, tokens_next, run_on, done_first, none_done}
+use Rattle.cycle_sim.specs.Sims.{IsNext, AreAdded, IsRunTo}
+use Rattle.cycle_sim.proofs.Adding.{tokens_next, run_on}
 use Rattle.cycle_sim.proofs.sim.run_cycles.Goals as goal
 
 pub returns-then-done-clause-tokens : goal.returns-then-done-clause-tokens

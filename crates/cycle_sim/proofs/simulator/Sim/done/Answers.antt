@@ -1,4 +1,4 @@
-use Rattle.std.proofs.Common.{◌≡◌, ℕ, [], subst, sym}
+use Rattle.std.proofs.Common.{[], subst}
 use Rattle.std.specs.Prelude.{◌↔◌, IsTrue}
 use Rattle.vlog_tree.specs.Environment.{IsDone}
 use Rattle.cycle_sim.specs.declared.parts.Parts.{Parts}
