@@ -79,9 +79,9 @@ module _ (p : Parts) (s : State) (sim : IsSim p s) where
       size = size ∙ sim.size;
       room = room ∙ sim.room;
       solved = solved;
-      cells = has_next p.design.modules sim.top p.flat p.pairs.items p.memories.items p.widths.items p.program p.commits.items p.stores.items sim.machine p.inputs.items sim.inputs p.outside.items sim.outside
+      cells = has_next p.design.modules sim.top p.flat p.pairs.items p.memories.items p.widths.items p.program p.commits.items p.stores.items sim.machine p.scalars.items p.inputs.items sim.inputs p.outside.items sim.outside
           (cells_of s.cells.items) (cells_of t.cells.items) s.numbers.items sim.cells behind_all;
-      given = given_next p.design.modules sim.top p.flat p.pairs.items p.memories.items p.widths.items p.program p.commits.items p.stores.items sim.machine p.inputs.items sim.inputs p.outside.items sim.outside
+      given = given_next p.design.modules sim.top p.flat p.pairs.items p.memories.items p.widths.items p.program p.commits.items p.stores.items sim.machine p.scalars.items p.inputs.items sim.inputs p.outside.items sim.outside
           (cells_of t.cells.items) given_ns t.numbers.items (lists_of p.ready.items) t.cycle solved same values;
     }
 
@@ -90,8 +90,8 @@ module _ (p : Parts) (s : State) (sim : IsSim p s) where
         → IsShown p.design.modules sim.top p.flat p.pairs.items p.memories.items env nets (suc s.cycle) (cells_of t.cells.items) t.numbers.items
     shown_later env nets env_fits ready r now =
         let d = sim.machine.flat.design in
-        let run_fits = fits p.design.modules sim.top p.flat p.pairs.items p.memories.items p.widths.items p.program p.commits.items p.stores.items sim.machine p.inputs.items sim.inputs p.outside.items sim.outside env env_fits nets r in
-        shown_next p.design.modules sim.top p.flat p.pairs.items p.memories.items p.widths.items p.program p.commits.items p.stores.items sim.machine p.inputs.items sim.inputs p.outside.items sim.outside
+        let run_fits = fits p.design.modules sim.top p.flat p.pairs.items p.memories.items p.widths.items p.program p.commits.items p.stores.items sim.machine p.scalars.items p.inputs.items sim.inputs p.outside.items sim.outside env env_fits nets r in
+        shown_next p.design.modules sim.top p.flat p.pairs.items p.memories.items p.widths.items p.program p.commits.items p.stores.items sim.machine p.scalars.items p.inputs.items sim.inputs p.outside.items sim.outside
         env env_fits nets r s.cycle (cells_of s.cells.items) (cells_of t.cells.items) s.numbers.items taken_ns given_ns t.numbers.items now sim.solved (lists_of p.ready.items) ready sim.given sim.cells (cells_short s.cells.items)
         taken values_later kept solved same asked_all behind_all
         (λ l has. data_low p.design.modules d.sound.names d.outside sim.top tree.has tree.is_top (nets s.cycle []) (run_fits.modules s.cycle [] sim.top refl) l has)

@@ -7,3 +7,4 @@ pub mod Asking
 pub mod Advancing
 pub mod Asked
 pub mod Adding
+pub mod Beginning

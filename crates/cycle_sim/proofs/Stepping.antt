@@ -73,7 +73,7 @@ one_test ns p = by_high (cases_eq (number_at ns p.high) 0) where
       f ∙ ap (λ b. b && (number_at ns p.low == 1)) (sym t)
 
 module _ (ms : List ModuleTree) (top : ModuleTree) (f : Flat) (pairs memories : List (Option Pair)) (widths : List Width) (t : TapeTree) (commits : List Commit) (stores : List Store)
-    (machine : IsMachine ms top f pairs memories widths t commits stores) (inputs : List Input) (given : AreInputs ms top f pairs inputs) (outside : List Outside) (around : AreOutside ms top f pairs outside) where
+    (machine : IsMachine ms top f pairs memories widths t commits stores) (scalars : List ℕ) (inputs : List Input) (given : AreInputs ms top f pairs scalars inputs) (outside : List Outside) (around : AreOutside ms top f pairs outside) where
   abbrev HasTop : FlatNet → ModuleTree → Type 0
   HasTop n m = module_at ms top n.0 ≡ Some m
 
@@ -95,10 +95,10 @@ module _ (ms : List ModuleTree) (top : ModuleTree) (f : Flat) (pairs memories : 
     high (inr k) (inr e) = same p.high k.1.2 k.1.1 ∙ e
 
   -- an input of the top is no register, and what it is given has slots of its own
-  pub input_free : (number : ℕ) (a : Input) → IsInput ms top f pairs number a → (x : Name) × HasNumber ms f number ([], x) × IsFree ms top ([], x)
+  pub input_free : (number : ℕ) (a : Input) → IsInput ms top f pairs scalars number a → (x : Name) × HasNumber ms f number ([], x) × IsFree ms top ([], x)
   input_free number a i = (i.name, i.has_number, record { tree = top; at = refl; by = inr (refl, i.net_kind, i.no_answer) })
 
-  register_apart : (number other : ℕ) (n : FlatNet) (m : ModuleTree) (a : Input) → HasNumber ms f number n → HasTop n m → net_kind_of (declared m) n.1 ≡ kind.Register → IsInput ms top f pairs other a → number ≢ other
+  register_apart : (number other : ℕ) (n : FlatNet) (m : ModuleTree) (a : Input) → HasNumber ms f number n → HasTop n m → net_kind_of (declared m) n.1 ≡ kind.Register → IsInput ms top f pairs scalars other a → number ≢ other
   register_apart number other n m a h at r i e =
       let same : n ≡ ([], i.name) = net_single ms top f machine.flat number n ([], i.name) h (subst (λ z. HasNumber ms f z ([], i.name)) (sym e) i.has_number) in
       let here : Some m ≡ Some top = sym at ∙ ap (λ (k : FlatNet). module_at ms top k.0) same in
@@ -190,7 +190,7 @@ module _ (ms : List ModuleTree) (top : ModuleTree) (f : Flat) (pairs memories : 
         )
 
   -- inputs have slots of their own
-  input_given : (number : ℕ) (a : Input) → IsInput ms top f pairs number a → (bits : ℕ) × IsGivenPair t bits a.pair
+  input_given : (number : ℕ) (a : Input) → IsInput ms top f pairs scalars number a → (bits : ℕ) × IsGivenPair t bits a.pair
   input_given number a i =
       let x = input_free number a i in
       (bits_of (declared top) i.name, machine.given.given number ([], i.name) top a.pair i.has_number refl (record { tree = top; at = refl; by = inr (refl, i.net_kind, i.no_answer) }) i.placed)
@@ -207,7 +207,7 @@ module _ (ms : List ModuleTree) (top : ModuleTree) (f : Flat) (pairs memories : 
     own = λ i j a b before ga gb.
         let k = given.each i a ga in
         let l = given.each j b gb in
-        let apart : k.0 ≢ l.0 = λ e. (let same : i ≡ j = given.once i j k.0 a b ga gb k.1 (subst (λ z. IsInput ms top f pairs z b) (sym e) l.1) in absurd (omega arith)) in
+        let apart : k.0 ≢ l.0 = λ e. (let same : i ≡ j = given.once i j k.0 a b ga gb k.1 (subst (λ z. IsInput ms top f pairs scalars z b) (sym e) l.1) in absurd (omega arith)) in
         let own = machine.given.own k.0 l.0 ([], k.1.name) ([], l.1.name) a.pair b.pair k.1.has_number l.1.has_number (record { tree = top; at = refl; by = inr (refl, k.1.net_kind, k.1.no_answer) })
         (record { tree = top; at = refl; by = inr (refl, l.1.net_kind, l.1.no_answer) }) apart k.1.placed l.1.placed in
         ((own.0, inr own.1), high a.pair b.pair own.2 own.3);
@@ -290,7 +290,7 @@ module _ (ms : List ModuleTree) (top : ModuleTree) (f : Flat) (pairs memories : 
             high p q bits (inr g) (inr c) away v is low = same p.high g.1.2 g.1.1 ∙ kept p.high (λ i a got. far p g.1.0 i a (away i a got)) ∙ slot_taken p.high q.high c
 
       -- what stands around the design in the next cycle
-      supplied_next : (number : ℕ) (x : Name) (p : Pair) (i : ℕ) (a : Input) → HasNumber ms f number ([], x) → get_or pairs number None ≡ Some p → slice_get inputs i ≡ Some a → a.pair ≡ p → (s : Supply) → a.supply ≡ s → IsSuppliedBy top x s → (nets (suc n) []).net x ≡ supplied ready (suc n) s
+      supplied_next : (number : ℕ) (x : Name) (p : Pair) (i : ℕ) (a : Input) → HasNumber ms f number ([], x) → get_or pairs number None ≡ Some p → slice_get inputs i ≡ Some a → a.pair ≡ p → (s : Supply) → a.supply ≡ s → IsSuppliedBy top scalars x s → (nets (suc n) []).net x ≡ supplied ready (suc n) s
       supplied_next number x p i a h e got is Reset se by = let later : (suc n == 0) ≡ false = grind (arith, nat_tests) in ap (λ z. (nets (suc n) []).net z) by ∙ r.stands.runs n ∙ ap (λ b. cond b 1 0) (sym later)
       supplied_next number x p i a h e got is (Scalar v) se by =
           ap (λ z. (nets (suc n) []).net z) by.3 ∙ r.stands.scalars (suc n) by.0 by.1 by.2 ∙ sym (r.stands.scalars n by.0 by.1 by.2) ∙ ap (λ z. (nets n []).net z) (sym by.3)

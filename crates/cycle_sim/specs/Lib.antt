@@ -4,3 +4,4 @@ pub mod Steps
 pub mod Machines
 pub mod Wholes
 pub mod Simulators
+pub mod Firsts

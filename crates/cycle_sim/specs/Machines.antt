@@ -1,7 +1,7 @@
 -- What a simulator is made of, and when it shows a cycle of a run.
-use Rattle.std.specs.Prelude.{◌≡◌, ℕ, List, [], Option, Some, None, length, get_or, slice_get, slice_index_or}
+use Rattle.std.specs.Prelude.{◌≡◌, ℕ, ◌+◌, ◌*◌, ◌%◌, ◌^◌, ◌<◌, List, [], Option, Some, None, length, get_or, slice_get, slice_index, slice_index_or}
 use Rattle.tapa_base.specs.declared.shape.Port.{Port}
-use Rattle.vlog_tree.specs.declared.tree.Item.TheVariants.{Memory}
+use Rattle.vlog_tree.specs.declared.tree.Item.TheVariants.{Reg, Memory}
 use Rattle.vlog_tree.specs.declared.table.NetKind.TheVariants as kind
 use Rattle.vlog_tree.specs.Form.{ModuleTree}
 use Rattle.vlog_tree.specs.Grounded.{Has}
@@ -11,8 +11,8 @@ use Rattle.vlog_tree.specs.Table.{Name, declared, net_kind_of}
 use Rattle.vlog_tree.specs.Cycle.{Cycle, Path, module_at}
 use Rattle.vlog_tree.specs.Environment.{Environment, shape_of, cells_at}
 use Rattle.sim_tape.specs.declared.gates.Pair.{Pair}
-use Rattle.sim_tape.specs.Operators.{Cells}
-use Rattle.sim_tape.specs.Tape.{TapeTree, IsTape}
+use Rattle.sim_tape.specs.Operators.{Cells, cell_in}
+use Rattle.sim_tape.specs.Tape.{TapeTree, IsTape, pair_value}
 use Rattle.sim_blocks.specs.declared.writes.Store.{Store}
 use Rattle.sim_nets.specs.declared.flat.Flat.{Flat}
 use Rattle.sim_nets.specs.Flat.{IsFlat, HasNumber}
@@ -26,26 +26,26 @@ use Rattle.cycle_sim.specs.declared.inputs.Input.{Input}
 use Rattle.cycle_sim.specs.declared.cells.Outside.{Outside}
 
 -- what a name of the top is given
-abbrev pub IsSuppliedBy : ModuleTree → Name → Supply → Type 0
-IsSuppliedBy top x Reset = x ≡ rst
-IsSuppliedBy top x (Scalar v) = (i : ℕ) × (l : Port) × (slice_get (shape_of top).scalars i ≡ Some l) × (x ≡ scalar l.name)
-IsSuppliedBy top x (Ready i) = (l : Port) × (slice_get (shape_of top).memories i ≡ Some l) × (x ≡ m_ack l.name)
+abbrev pub IsSuppliedBy : ModuleTree → List ℕ → Name → Supply → Type 0
+IsSuppliedBy top scalars x Reset = x ≡ rst
+IsSuppliedBy top scalars x (Scalar v) = (i : ℕ) × (l : Port) × (slice_get (shape_of top).scalars i ≡ Some l) × (x ≡ scalar l.name) × (v ≡ slice_index scalars i)
+IsSuppliedBy top scalars x (Ready i) = (l : Port) × (slice_get (shape_of top).memories i ≡ Some l) × (x ≡ m_ack l.name)
 
 -- the input of the top with a number has these slots, and is given what stands around the design
-pub record IsInput (ms : List ModuleTree) (top : ModuleTree) (f : Flat) (pairs : List (Option Pair)) (number : ℕ) (a : Input) : Type 0 where
+pub record IsInput (ms : List ModuleTree) (top : ModuleTree) (f : Flat) (pairs : List (Option Pair)) (scalars : List ℕ) (number : ℕ) (a : Input) : Type 0 where
   pub name : Name
   pub has_number : HasNumber ms f number ([], name)
   pub net_kind : net_kind_of (declared top) name ≡ kind.Input
   pub no_answer : rdata_of name ≡ None
   pub placed : get_or pairs number None ≡ Some a.pair
-  pub supplied : IsSuppliedBy top name a.supply
+  pub supplied : IsSuppliedBy top scalars name a.supply
 
 -- the inputs of the top but what memories answer, each once
-pub record AreInputs (ms : List ModuleTree) (top : ModuleTree) (f : Flat) (pairs : List (Option Pair)) (inputs : List Input) : Type 0 where
+pub record AreInputs (ms : List ModuleTree) (top : ModuleTree) (f : Flat) (pairs : List (Option Pair)) (scalars : List ℕ) (inputs : List Input) : Type 0 where
   pub all : (number : ℕ) (x : Name) (p : Pair) → HasNumber ms f number ([], x) → net_kind_of (declared top) x ≡ kind.Input → rdata_of x ≡ None → get_or pairs number None ≡ Some p
-      → (i : ℕ) × (a : Input) × (slice_get inputs i ≡ Some a) × (a.pair ≡ p) × IsSuppliedBy top x a.supply
-  pub each : (i : ℕ) (a : Input) → slice_get inputs i ≡ Some a → (number : ℕ) × IsInput ms top f pairs number a
-  pub once : (i j number : ℕ) (a b : Input) → slice_get inputs i ≡ Some a → slice_get inputs j ≡ Some b → IsInput ms top f pairs number a → IsInput ms top f pairs number b → i ≡ j
+      → (i : ℕ) × (a : Input) × (slice_get inputs i ≡ Some a) × (a.pair ≡ p) × IsSuppliedBy top scalars x a.supply
+  pub each : (i : ℕ) (a : Input) → slice_get inputs i ≡ Some a → (number : ℕ) × IsInput ms top f pairs scalars number a
+  pub once : (i j number : ℕ) (a b : Input) → slice_get inputs i ≡ Some a → slice_get inputs j ≡ Some b → IsInput ms top f pairs scalars number a → IsInput ms top f pairs scalars number b → i ≡ j
 
 -- the pair of a name of the top
 abbrev pub IsPairOf : List ModuleTree → Flat → List (Option Pair) → Name → Pair → Type 0
@@ -80,6 +80,12 @@ abbrev pub HasCells : List ModuleTree → ModuleTree → Flat → List (Option P
 HasCells ms top f memories cells =
     (number : ℕ) (n : FlatNet) (m : ModuleTree) (w k : ℕ) (q : Pair) → HasNumber ms f number n → module_at ms top n.0 ≡ Some m → Has m.items (Memory w n.1 k) → get_or memories number None ≡ Some q
     → (length (get_or cells q.low []) ≡ k) × (length (get_or cells q.high []) ≡ k)
+
+-- every register and every cell has a number, cut to its width
+pub record IsFilledWith (ms : List ModuleTree) (top : ModuleTree) (f : Flat) (pairs memories : List (Option Pair)) (fill : ℕ) (cells : Cells) (ns : List ℕ) : Type 0 where
+  pub registers : (number : ℕ) (n : FlatNet) (m : ModuleTree) (w : ℕ) (p : Pair) → HasNumber ms f number n → module_at ms top n.0 ≡ Some m → Has m.items (Reg w n.1) → get_or pairs number None ≡ Some p → pair_value ns p ≡ fill % 2 ^ w
+  pub inside : (number : ℕ) (n : FlatNet) (m : ModuleTree) (w k : ℕ) (q : Pair) → HasNumber ms f number n → module_at ms top n.0 ≡ Some m → Has m.items (Memory w n.1 k) → get_or memories number None ≡ Some q
+      → (a : ℕ) → a < k → cell_in cells q.high a * 2 ^ 64 + cell_in cells q.low a ≡ fill % 2 ^ w
 
 -- slots and cells show a cycle of a run
 pub record IsShown (ms : List ModuleTree) (top : ModuleTree) (f : Flat) (pairs memories : List (Option Pair)) (env : Environment) (nets : ℕ → Path → Cycle) (cycle : ℕ) (cells : Cells) (ns : List ℕ) : Type 0 where

@@ -45,7 +45,7 @@ pub record IsSim (p : Parts) (s : State) : Type 0 where
   pub top : ModuleTree
   pub at : TopOf p.design top
   pub machine : IsMachine p.design.modules top p.flat p.pairs.items p.memories.items p.widths.items p.program p.commits.items p.stores.items
-  pub inputs : AreInputs p.design.modules top p.flat p.pairs.items p.inputs.items
+  pub inputs : AreInputs p.design.modules top p.flat p.pairs.items p.scalars.items p.inputs.items
   pub outside : AreOutside p.design.modules top p.flat p.pairs.items p.outside.items
   pub stream_count : length p.streams.items ≡ length (streams_of top)
   pub streams : (i : ℕ) (l : Port) → slice_get (streams_of top) i ≡ Some l → (t : Stream) × (slice_get p.streams.items i ≡ Some t) × IsStream p l t

@@ -2,6 +2,7 @@
 #![tactic(auto)]
 
 mod cells;
+mod first;
 mod inputs;
 mod parts;
 mod sim;

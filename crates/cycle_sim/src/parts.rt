@@ -37,6 +37,7 @@ pub struct Parts {
     pub program: Program,
     pub commits: Vec<Commit>,
     pub stores: Vec<Store>,
+    pub scalars: Vec<u64>,
     pub inputs: Vec<Input>,
     pub outside: Vec<Outside>,
     pub streams: Vec<Stream>,

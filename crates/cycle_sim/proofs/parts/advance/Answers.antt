@@ -20,7 +20,7 @@ take_over-requires-clause-slots c = λ i a g.
     let p = c.args.parts.now in
     let sim = c.requires.sim in
     let got : slice_get p.commits.items i ≡ Some a = subst (λ l. slice_get l i ≡ Some a) c.deref-5.ensures.value g in
-    let room = commit_room p.design.modules sim.top p.flat p.pairs.items p.memories.items p.widths.items p.program p.commits.items p.stores.items sim.machine p.inputs.items sim.inputs p.outside.items sim.outside i a got in
+    let room = commit_room p.design.modules sim.top p.flat p.pairs.items p.memories.items p.widths.items p.program p.commits.items p.stores.items sim.machine p.scalars.items p.inputs.items sim.inputs p.outside.items sim.outside i a got in
     let size : length c.deref_mut-4.result.now ≡ length p.program.gates = ap length c.deref_mut-4.ensures.value ∙ sim.size in
     subst (λ n. a.slot < n) (sym size) room
 
@@ -28,7 +28,7 @@ pub give-requires : goal.give-requires
 give-requires c =
     let p = c.args.parts.now in
     let sim = c.requires.sim in
-    let slots = have_slots p.design.modules sim.top p.flat p.pairs.items p.memories.items p.widths.items p.program p.commits.items p.stores.items sim.machine p.inputs.items sim.inputs p.outside.items sim.outside in
+    let slots = have_slots p.design.modules sim.top p.flat p.pairs.items p.memories.items p.widths.items p.program p.commits.items p.stores.items sim.machine p.scalars.items p.inputs.items sim.inputs p.outside.items sim.outside in
     let s = c.args.state.now in
     let n1 : (with_items s.numbers c.take_over.new.numbers).items ≡ c.take_over.new.numbers = with_items_is s.numbers c.take_over.new.numbers (c.take_over.auto.numbers ∙ ap length c.deref_mut-4.ensures.value ∙ sym s.numbers.ok.0) in
     let size : length c.deref_mut-5.result.now ≡ length p.program.gates = ap length c.deref_mut-5.ensures.value ∙ ap length n1 ∙ c.take_over.auto.numbers ∙ ap length c.deref_mut-4.ensures.value ∙ sim.size in
