@@ -1,5 +1,5 @@
 -- What slots and cells show of the first cycle of a run, where every register and every cell begins with one number.
-use Rattle.std.proofs.Common.{◌≡◌, ℕ, suc, ◌+◌, ◌*◌, ◌%◌, ◌^◌, ◌<◌, ◌≤◌, Bool, true, false, cond, List, [], ◌∷◌, Option, Some, None, length, get_or, inl, inr, refl, sym, ap, subst, ◌∙◌, arith}
+use Rattle.std.proofs.Common.{◌≡◌, ℕ, Bool, List, [], Option, Some, None, get_or, inl, inr, sym, ap, subst, ◌∙◌}
 use Rattle.std.specs.Prelude.{◌⊎◌, slice_get, slice_index, slice_index_or}
 use Rattle.std.proofs.lemmas.Option.{unwrap_or-slice_get}
 use Rattle.tapa_base.specs.declared.shape.Port.{Port}
@@ -11,12 +11,12 @@ use Rattle.vlog_tree.specs.Flattened.{FlatNet}
 use Rattle.vlog_tree.specs.Labels.{rdata_of, m_addr}
 use Rattle.vlog_tree.specs.Table.{Name, declared, net_kind_of}
 use Rattle.vlog_tree.specs.Cycle.{Cycle, Path, module_at}
-use Rattle.vlog_tree.specs.Environment.{Environment, FitsShape, RunsIn, shape_of, cells_at}
-use Rattle.vlog_law_runs.specs.OneRun.{SameHeld, BeginsWith, IsRunFrom}
+use Rattle.vlog_tree.specs.Environment.{Environment, FitsShape, shape_of}
+use Rattle.vlog_law_runs.specs.OneRun.{SameHeld, IsRunFrom}
 use Rattle.vlog_law_runs.specs.Filled.{HoldsFill, IsFilled}
 use Rattle.vlog_law_runs.proofs.Sizes.{all_at, register_item}
 use Rattle.sim_tape.specs.declared.gates.Pair.{Pair}
-use Rattle.sim_tape.specs.Operators.{Cells, cell_in}
+use Rattle.sim_tape.specs.Operators.{Cells}
 use Rattle.sim_tape.specs.Tape.{TapeTree, pair_value}
 use Rattle.sim_tape.specs.Solved.{IsSolved}
 use Rattle.sim_blocks.specs.declared.writes.Store.{Store}
@@ -40,7 +40,6 @@ module _ (ms : List ModuleTree) (top : ModuleTree) (f : Flat) (pairs memories : 
     (cells : Cells) (ns : List ℕ) (solved : IsSolved t cells ns) (ready : List (List Bool)) (has : HasCells ms top f memories cells) (full : IsFilledWith ms top f pairs memories fill cells ns)
     (kept_inputs : (i : ℕ) (a : Input) → slice_get inputs i ≡ Some a → pair_value ns a.pair ≡ supplied ready 0 a.supply)
     (first_outside : (i : ℕ) (l : Port) → slice_get (shape_of top).memories i ≡ Some l → get_or cells i [] ≡ slice_index_or env.memories i []) where
-
   register_first : (number : ℕ) (path : Path) (x : Name) (p : Pair) (m : ModuleTree) → HasNumber ms f number (path, x) → module_at ms top path ≡ Some m → net_kind_of (declared m) x ≡ kind.Register → get_or pairs number None ≡ Some p → (nets 0 path).net x ≡ pair_value ns p
   register_first number path x p m h at reg e =
       let line = register_item m x reg in

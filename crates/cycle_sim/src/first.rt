@@ -12,11 +12,7 @@ use std::alloc::{AllocError, Global};
 pub(crate) fn cut(fill: u64, bits: u32) -> u64
     ensures { result ≡ fill % 2 ^ bits }
 {
-    if bits < 64 {
-        fill % (1 << bits)
-    } else {
-        fill
-    }
+    if bits < 64 { fill % (1 << bits) } else { fill }
 }
 
 fn add_width(
