@@ -1,0 +1,7 @@
+// A stub.
+
+/// Nothing.
+#[derive(Drop)]
+pub struct Stub {
+    pub none: u32,
+}
