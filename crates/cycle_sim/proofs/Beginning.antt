@@ -24,7 +24,7 @@ use Rattle.sim_nets.specs.declared.flat.Flat.{Flat}
 use Rattle.sim_nets.specs.Flat.{HasNumber}
 use Rattle.sim_design.specs.declared.drafts.Commit.{Commit}
 use Rattle.sim_design.specs.declared.drafts.Width.{Width}
-use Rattle.sim_design.specs.States.{IsFree, ShowsState, CellsAre}
+use Rattle.sim_placed.specs.States.{IsFree, ShowsCells, CellsAre}
 use Rattle.cycle_sim.specs.declared.inputs.Supply.{Supply}
 use Rattle.cycle_sim.specs.declared.inputs.Supply.TheVariants.{Reset, Scalar, Ready}
 use Rattle.cycle_sim.specs.declared.inputs.Input.{Input}
@@ -74,9 +74,8 @@ module _ (ms : List ModuleTree) (top : ModuleTree) (f : Flat) (pairs memories : 
       let fills = all_at (HoldsFill fill (contents b.0)) m.items (Memory w b.1 k) (filled b.0 m at) line in
       cells_are (nets 0 b.0) b.1 cells q k long.0 long.1 (λ a low. held a low ∙ fills a low ∙ sym (full.inside number b m w k q h at line e a low))
 
-  state_first : ShowsState ms top f pairs memories (nets 0) cells ns
+  state_first : ShowsCells ms top f memories (nets 0) cells
   state_first = record {
-    free = free_first;
     inside = inside_first;
     outside = λ i l got.
         let run : ℕ → Cycle = λ n. nets n [] in
@@ -86,7 +85,7 @@ module _ (ms : List ModuleTree) (top : ModuleTree) (f : Flat) (pairs memories : 
   -- the first cycle is shown
   pub shown_first : IsShown ms top f pairs memories env nets 0 cells ns
   shown_first = record {
-    placed = machine.tells cells ns (nets 0) solved (valuation ms top f pairs memories widths t commits stores machine scalars inputs given outside around env env_fits nets r.runs_in 0) state_first;
+    placed = machine.tells cells ns (nets 0) solved (valuation ms top f pairs memories widths t commits stores machine scalars inputs given outside around env env_fits nets r.runs_in 0) state_first free_first;
     inside = inside_first;
     outside = first_outside;
   }

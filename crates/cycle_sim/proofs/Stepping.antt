@@ -34,9 +34,9 @@ use Rattle.sim_nets.specs.Flat.{HasNumber}
 use Rattle.sim_nets.proofs.Standing.{in_top, net_of, net_single}
 use Rattle.sim_design.specs.declared.drafts.Commit.{Commit}
 use Rattle.sim_design.specs.declared.drafts.Width.{Width}
-use Rattle.sim_design.specs.Valuations.{IsLawful, IsValuation}
-use Rattle.sim_design.specs.States.{IsFree, ShowsState, CellsAre}
-use Rattle.sim_design.specs.Drafts.{IsGivenSlot, IsGivenPair}
+use Rattle.sim_placed.specs.Valuations.{IsLawful, IsValuation}
+use Rattle.sim_placed.specs.States.{IsFree, ShowsCells, CellsAre}
+use Rattle.sim_placed.specs.Given.{IsGivenSlot, IsGivenPair}
 use Rattle.cycle_sim.specs.declared.inputs.Supply.{Supply}
 use Rattle.cycle_sim.specs.declared.inputs.Supply.TheVariants.{Reset, Scalar, Ready}
 use Rattle.cycle_sim.specs.declared.inputs.Input.{Input}
@@ -378,9 +378,8 @@ module _ (ms : List ModuleTree) (top : ModuleTree) (f : Flat) (pairs memories : 
             ∙ ap (λ z. cond (((run n).net (m_ack l.name) == 1) && ((run n).net (m_we l.name) == 1)) (set_cell c z ((run n).net (m_wdata l.name))) c) (sym (net_here (m_addr l.name) o.0.addr asks.addr))
             ∙ ap (λ z. cond (((run n).net (m_ack l.name) == 1) && ((run n).net (m_we l.name) == 1)) (set_cell z ((run n).net (m_addr l.name)) ((run n).net (m_wdata l.name))) z) old
 
-        state_next : ShowsState ms top f pairs memories (nets (suc n)) next_cells next_ns
+        state_next : ShowsCells ms top f memories (nets (suc n)) next_cells
         state_next = record {
-          free = free_next;
           inside = inside_next;
           outside = λ i l got.
               let run : ℕ → Cycle = λ n. nets n [] in
@@ -390,4 +389,4 @@ module _ (ms : List ModuleTree) (top : ModuleTree) (f : Flat) (pairs memories : 
 
         -- the next cycle is shown
         pub shown_next : IsShown ms top f pairs memories env nets (suc n) next_cells next_ns
-        shown_next = record { placed = machine.tells next_cells next_ns (nets (suc n)) next_solved (valuation (suc n)) state_next; inside = inside_next; outside = outside_next }
+        shown_next = record { placed = machine.tells next_cells next_ns (nets (suc n)) next_solved (valuation (suc n)) state_next free_next; inside = inside_next; outside = outside_next }

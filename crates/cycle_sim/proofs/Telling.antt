@@ -25,7 +25,7 @@ use Rattle.sim_nets.specs.Flat.{HasNumber}
 use Rattle.sim_nets.proofs.Standing.{in_top}
 use Rattle.sim_design.specs.declared.drafts.Commit.{Commit}
 use Rattle.sim_design.specs.declared.drafts.Width.{Width}
-use Rattle.sim_design.specs.States.{CellsAre}
+use Rattle.sim_placed.specs.States.{CellsAre}
 use Rattle.cycle_sim.specs.Told.{number_told, cell_told, pair_of, told_by}
 use Rattle.cycle_sim.specs.Machines.{IsMachine, HasCells, IsShown}
 use Rattle.cycle_sim.proofs.Numbering.{number_is_found, net_number, named_number, tree_at}

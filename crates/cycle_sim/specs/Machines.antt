@@ -18,8 +18,9 @@ use Rattle.sim_nets.specs.declared.flat.Flat.{Flat}
 use Rattle.sim_nets.specs.Flat.{IsFlat, HasNumber}
 use Rattle.sim_design.specs.declared.drafts.Commit.{Commit}
 use Rattle.sim_design.specs.declared.drafts.Width.{Width}
-use Rattle.sim_design.specs.States.{ShowsPlaced, CellsAre, Tells}
-use Rattle.sim_design.specs.Drafts.{ArePlaced, AreGiven, AreMemories, AreNext}
+use Rattle.sim_placed.specs.States.{ShowsPlaced, CellsAre, Tells}
+use Rattle.sim_placed.specs.Given.{ArePlaced, AreGiven}
+use Rattle.sim_design.specs.Drafts.{AreMemories, AreNext}
 use Rattle.cycle_sim.specs.declared.inputs.Supply.{Supply}
 use Rattle.cycle_sim.specs.declared.inputs.Supply.TheVariants.{Reset, Scalar, Ready}
 use Rattle.cycle_sim.specs.declared.inputs.Input.{Input}
