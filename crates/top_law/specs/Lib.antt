@@ -1,0 +1,5 @@
+pub mod Names
+pub mod Bounds
+pub mod Texts
+pub mod Channels
+pub mod Designs
