@@ -1,10 +1,10 @@
 -- The circuit of a program: the modules of its channels, of its leaf tasks, and last the top.
-use Rattle.std.specs.Prelude.{ℕ, zero, suc, List, [], ◌∷◌, ◌++◌, length, Option, Some, None, slice_get, slice_index}
+use Rattle.std.specs.Prelude.{◌≡◌, ℕ, zero, suc, ◌≤◌, List, [], ◌∷◌, ◌++◌, length, Option, Some, None, slice_get, slice_index}
 use Rattle.tapa_syntax.specs.declared.program.Leaf.{Leaf}
 use Rattle.tapa_syntax.specs.declared.program.Program.{Program}
 use Rattle.tapa_syntax.specs.declared.program.Stream.{Stream}
 use Rattle.task_fsm.specs.declared.machine.Fsm.{Fsm}
-use Rattle.vlog_tree.specs.Form.{ModuleTree}
+use Rattle.vlog_tree.specs.Form.{ModuleTree, IsModule}
 use Rattle.hw_lists.specs.Scope.{each}
 use Rattle.task_law.specs.Texts.{task_tree}
 use Rattle.top_law.specs.Channels.{channel_modules, with_new}
@@ -35,3 +35,12 @@ task_modules program machines = each (λ b. leaf_module (slice_get program.bodie
 -- of the machines of the program's bodies, and the added latency of each stream
 abbrev pub design_tree : Program → List Fsm → List ℕ → List ModuleTree
 design_tree program machines added = channels_before program added (length program.streams.items) ++ task_modules program machines ++ top_tree program added ∷ []
+
+-- no stream has more added latency than a channel has
+abbrev pub AreShort : List ℕ → Type 0
+AreShort added = (s : ℕ) → slice_index added s ≤ 500000
+
+-- the modules of the leaf tasks have the form of modules
+abbrev pub HaveTaskForm : Program → List Fsm → Type 0
+HaveTaskForm program machines =
+    (b : ℕ) (leaf : Leaf) (machine : Fsm) → slice_get program.bodies.items b ≡ Some leaf → slice_get machines b ≡ Some machine → IsModule (task_tree machine leaf.memories.items leaf.streams.items)

@@ -1,0 +1,6 @@
+use Rattle.std.proofs.Common.{◌≡◌}
+use Rattle.top_law.specs.Designs.{channels_before}
+use Rattle.hw_top.proofs.channels.all_channels.Given as goal
+
+abbrev pub invariant-loop-s : goal.invariant-loop-s
+invariant-loop-s l = l.modules.items ≡ channels_before l.program l.added l.s
