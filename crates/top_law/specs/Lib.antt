@@ -3,3 +3,4 @@ pub mod Bounds
 pub mod Texts
 pub mod Channels
 pub mod Designs
+pub mod Legal
