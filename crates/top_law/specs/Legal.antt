@@ -60,6 +60,20 @@ pub record AreMachinesOf (program : Program) (machines : List Fsm) : Type 0 wher
   pub as_many : length machines ≡ length program.bodies.items
   pub each : (b : ℕ) (leaf : Leaf) (machine : Fsm) → slice_get program.bodies.items b ≡ Some leaf → slice_get machines b ≡ Some machine → IsLowered leaf machine
 
+-- each leaf task has an instance, so that no other module than the top stands in none
+abbrev pub AreUsed : Program → Type 0
+AreUsed program =
+    (b : ℕ) (leaf : Leaf) → slice_get program.bodies.items b ≡ Some leaf → (i : ℕ) × (x : Instance) × (slice_get program.instances.items i ≡ Some x) × (x.body ≡ b)
+
+-- a program and its machines, of which a circuit is to be made
+pub record IsReady (program : Program) (machines : List Fsm) (added : List ℕ) : Type 0 where
+  pub well_formed : IsWellFormed program
+  pub told_apart : HasOwnNames program
+  pub used : AreUsed program
+  pub lowered : AreMachinesOf program machines
+  pub form : HaveTaskForm program machines
+  pub short : AreShort added
+
 -- ---- the top
 
 -- no name is declared twice in it, and each is one
@@ -76,7 +90,7 @@ TopsAreModules = (program : Program) (added : List ℕ) → IsWellFormed program
 -- its elements fit one after another, beside the modules of the channels and of the leaf tasks
 abbrev pub TopsAreFitting : Type 0
 TopsAreFitting =
-    (program : Program) (machines : List Fsm) (added : List ℕ) → IsWellFormed program → HasOwnNames program → AreMachinesOf program machines → HaveTaskForm program machines → AreShort added
+    (program : Program) (machines : List Fsm) (added : List ℕ) → IsReady program machines added
     → AreFitting (channels_before program added (length program.streams.items) ++ task_modules program machines) (top_elements program added)
 
 -- ---- the whole
@@ -84,7 +98,7 @@ TopsAreFitting =
 -- the circuit breaks no rule, and its last module is its top
 abbrev pub DesignsAreLegal : Type 0
 DesignsAreLegal =
-    (program : Program) (machines : List Fsm) (added : List ℕ) → IsWellFormed program → HasOwnNames program → AreMachinesOf program machines → HaveTaskForm program machines → AreShort added
+    (program : Program) (machines : List Fsm) (added : List ℕ) → IsReady program machines added
     → IsDesign (design_tree program machines added) (length (channels_before program added (length program.streams.items) ++ task_modules program machines))
 
 -- ---- what stands at its outside: the program's scalars, memories and streams in order
