@@ -1,0 +1,6 @@
+//! Stub: the wires of drivers.
+#![tactic(auto)]
+
+mod wires;
+
+pub use wires::add_wires;

@@ -1,0 +1,6 @@
+//! Stub: operators as drivers.
+#![tactic(auto)]
+
+mod drivers;
+
+pub use drivers::{Driver, conversion, last};

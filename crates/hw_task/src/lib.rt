@@ -1,0 +1,6 @@
+//! Stub: the generator of task modules.
+#![tactic(auto)]
+
+mod module;
+
+pub use module::module_of;
