@@ -1,8 +1,11 @@
 // The clocked blocks of a module.
 
-ghost use Rattle.std.specs.Prelude.{◌≡◌, ◌∷◌, ◌<◌, [], List, length, reverse, IfOk, IfSome, OnOk, IsTrue};
+ghost use Rattle.std.specs.Prelude.{◌≡◌, ◌∷◌, ◌<◌, [], List, length, reverse, IfOk, IfSome, OnOk, IsSome, IsTrue};
 ghost use Rattle.std.specs.Bool.{OnTrue};
-ghost use Rattle.std.specs.List.{list_all};
+ghost use Rattle.std.specs.List.{list_all, AllByRecursion};
+ghost use Rattle.vlog_tree.specs.declared.tree.Step.{Step as StepTree};
+ghost use Rattle.vlog_tree.specs.declared.tree.Item.TheVariants as lines;
+ghost use Rattle.vlog_tree.specs.Form.{nested};
 ghost use Rattle.vlog_tree.specs.Cycle.{Cycle, run_steps, run_items};
 ghost use Rattle.vlog_ref_cycle.specs.Next.{step_next};
 ghost use Rattle.sim_tape.specs.Tape.{Extends, IsTape};
@@ -10,6 +13,7 @@ ghost use Rattle.sim_tape.specs.Trees.{tree_of};
 ghost use Rattle.sim_lower.specs.Nets.{SlotsBefore, Told};
 ghost use Rattle.sim_blocks.specs.Parts.{parts_run, WalkShows, WalkBefore, IsTurned, is_condition, has_conditions};
 ghost use Rattle.sim_blocks.specs.Next.{ShowsNext, AreApart, AreKnown, SamePlaces};
+ghost use Rattle.sim_blocks.specs.Ready.{IsReady, IsStepReady, elses};
 
 use crate::parts::{Walk, turn};
 use crate::writes::{Blocks, write};
@@ -35,6 +39,7 @@ fn add_step(
     ensures same { OnOk result (SamePlaces after.old.next.items after.new.next.items) }
     ensures known { OnOk result (AreKnown nets.now.scope.now nets.now.memories.now after.old.stores.items → AreKnown nets.now.scope.now nets.now.memories.now after.new.stores.items) }
     ensures value { IfOk result (λ done. OnTrue done (AreApart nets.now.scope.now nets.now.memories.now → Told nets.now.scope.now nets.now.pairs.now (tree_of tape.new) (λ s c ns. (first now : Cycle) → IsTrue (is_condition nets.now.scope.now step.now) → WalkShows ns walk.old.on (reverse walk.old.parts.items) → ShowsNext nets.now.scope.now nets.now.memories.now after.old.next.items after.old.stores.items s first now ns → IsTurned s c ns step.now (reverse walk.old.parts.items) walk.new.on (reverse walk.new.parts.items) × ShowsNext nets.now.scope.now nets.now.memories.now after.new.next.items after.new.stores.items s first (step_next s c (parts_run ns (reverse walk.old.parts.items)) step.now now) ns))) }
+    ensures some { (rest : List StepTree) → SamePlaces nets.now.pairs.now after.old.next.items → IsStepReady nets.now.scope.now nets.now.pairs.now nets.now.memories.now step.now → IsTrue (nested (elses (reverse walk.old.parts.items)) (step.now ∷ rest)) → IfOk result (λ done. IsTrue done × IsTrue (nested (elses (reverse walk.new.parts.items)) rest)) }
 {
     if !write(tape, nets, walk.on, step, after)? {
         return Ok(false);
@@ -58,6 +63,7 @@ fn add_steps(
     ensures same { OnOk result (SamePlaces after.old.next.items after.new.next.items) }
     ensures known { OnOk result (AreKnown nets.now.scope.now nets.now.memories.now after.old.stores.items → AreKnown nets.now.scope.now nets.now.memories.now after.new.stores.items) }
     ensures value { IfOk result (λ done. OnTrue done (AreApart nets.now.scope.now nets.now.memories.now → Told nets.now.scope.now nets.now.pairs.now (tree_of tape.new) (λ s c ns. (first now : Cycle) → IsTrue (list_all (is_condition nets.now.scope.now) steps.now) → ShowsNext nets.now.scope.now nets.now.memories.now after.old.next.items after.old.stores.items s first now ns → ShowsNext nets.now.scope.now nets.now.memories.now after.new.next.items after.new.stores.items s first (run_steps s c [] steps.now now) ns))) }
+    ensures some { SamePlaces nets.now.pairs.now after.old.next.items → IsReady nets.now.scope.now nets.now.pairs.now nets.now.memories.now (lines.Always steps.now) → IfOk result (λ done. IsTrue done) }
 {
     let on = tape.constant(1)?;
     let mut walk = Walk {
@@ -87,6 +93,7 @@ fn add_item(
     ensures same { OnOk result (SamePlaces after.old.next.items after.new.next.items) }
     ensures known { OnOk result (AreKnown nets.now.scope.now nets.now.memories.now after.old.stores.items → AreKnown nets.now.scope.now nets.now.memories.now after.new.stores.items) }
     ensures value { IfOk result (λ done. OnTrue done (AreApart nets.now.scope.now nets.now.memories.now → Told nets.now.scope.now nets.now.pairs.now (tree_of tape.new) (λ s c ns. (first now : Cycle) → IsTrue (has_conditions nets.now.scope.now item.now) → ShowsNext nets.now.scope.now nets.now.memories.now after.old.next.items after.old.stores.items s first now ns → ShowsNext nets.now.scope.now nets.now.memories.now after.new.next.items after.new.stores.items s first (run_items s c (item.now ∷ []) now) ns))) }
+    ensures some { SamePlaces nets.now.pairs.now after.old.next.items → IsReady nets.now.scope.now nets.now.pairs.now nets.now.memories.now item.now → IfOk result (λ done. IsTrue done) }
 {
     match item {
         Item::Always(block) => {
@@ -126,6 +133,7 @@ pub fn blocks_of(
     ensures same { IfOk result (λ o. IfSome o (λ b. SamePlaces nets.now.pairs.now b.next.items)) }
     ensures known { IfOk result (λ o. IfSome o (λ b. AreKnown nets.now.scope.now nets.now.memories.now b.stores.items)) }
     ensures value { IfOk result (λ o. IfSome o (λ b. AreApart nets.now.scope.now nets.now.memories.now → Told nets.now.scope.now nets.now.pairs.now (tree_of tape.new) (λ s c ns. IsTrue (list_all (has_conditions nets.now.scope.now) items.now) → ShowsNext nets.now.scope.now nets.now.memories.now b.next.items b.stores.items s c (run_items s c items.now c) ns))) }
+    ensures some { AllByRecursion (IsReady nets.now.scope.now nets.now.pairs.now nets.now.memories.now) items.now → IfOk result (λ o. IsSome o) }
 {
     let next = copy_pairs(alloc, nets.pairs)?;
     let mut after = Blocks {

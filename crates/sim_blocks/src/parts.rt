@@ -1,14 +1,17 @@
 // The parts of a clocked block that are open.
 
-ghost use Rattle.std.specs.Prelude.{◌≡◌, ◌∷◌, ◌<◌, ◌==◌, if◌then◌else◌, ℕ, List, reverse, length, IfOk, OnOk, IsTrue};
+ghost use Rattle.std.specs.Prelude.{◌≡◌, ◌∷◌, ◌<◌, ◌==◌, if◌then◌else◌, ℕ, Bool, true, false, List, reverse, length, IfOk, OnOk, IsSome, IsTrue};
 ghost use Rattle.std.specs.Bool.{OnTrue};
+ghost use Rattle.vlog_tree.specs.declared.tree.Step.{Step as StepTree};
 ghost use Rattle.vlog_tree.specs.declared.tree.Step.TheVariants as steps;
+ghost use Rattle.vlog_tree.specs.Form.{nested};
 ghost use Rattle.vlog_tree.specs.Cycle.{Cycle, Sizes};
 ghost use Rattle.sim_tape.specs.Tape.{number_at, Extends, IsTape};
 ghost use Rattle.sim_tape.specs.Solved.{Says};
 ghost use Rattle.sim_tape.specs.Trees.{tree_of};
-ghost use Rattle.sim_lower.specs.Nets.{SlotsBefore, Told};
+ghost use Rattle.sim_lower.specs.Nets.{pair_in, SlotsBefore, Told};
 ghost use Rattle.sim_blocks.specs.Parts.{part_runs, WalkShows, WalkBefore, IsTurned, is_condition};
+ghost use Rattle.sim_blocks.specs.Ready.{IsStepReady, elses};
 
 use sim_lower::Nets;
 use sim_tape::{Operator, Tape};
@@ -75,6 +78,7 @@ fn open_part(tape: &mut Tape, nets: &Nets, walk: &mut Walk, test: &Text) -> Resu
     ensures extends { Extends (tree_of tape.old) (tree_of tape.new) }
     ensures slots { OnOk result (WalkBefore (length (tree_of tape.new).gates) walk.new.on (reverse walk.new.parts.items)) }
     ensures value { IfOk result (λ done. OnTrue done (Told nets.now.scope.now nets.now.pairs.now (tree_of tape.new) (λ s c ns. IsTrue (is_condition nets.now.scope.now (steps.If test.now)) → WalkShows ns walk.old.on (reverse walk.old.parts.items) → IsTurned s c ns (steps.If test.now) (reverse walk.old.parts.items) walk.new.on (reverse walk.new.parts.items)))) }
+    ensures some { IsSome (pair_in nets.now.scope.now nets.now.pairs.now test.now) → IfOk result (λ done. IsTrue done × (elses (reverse walk.new.parts.items) ≡ false ∷ elses (reverse walk.old.parts.items))) }
 {
     let Some(pair) = nets.pair(test) else {
         return Ok(false);
@@ -96,6 +100,7 @@ fn turn_part(tape: &mut Tape, walk: &mut Walk) -> Result<bool, AllocError>
     ensures extends { Extends (tree_of tape.old) (tree_of tape.new) }
     ensures slots { OnOk result (WalkBefore (length (tree_of tape.new).gates) walk.new.on (reverse walk.new.parts.items)) }
     ensures value { IfOk result (λ done. OnTrue done (Says (tree_of tape.new) (λ cells ns. (s : Sizes) (c : Cycle) → WalkShows ns walk.old.on (reverse walk.old.parts.items) → IsTurned s c ns steps.Else (reverse walk.old.parts.items) walk.new.on (reverse walk.new.parts.items)))) }
+    ensures some { (parts : List Bool) → elses (reverse walk.old.parts.items) ≡ false ∷ parts → IfOk result (λ done. IsTrue done × (elses (reverse walk.new.parts.items) ≡ true ∷ parts)) }
 {
     let Some(part) = walk.parts.pop() else {
         return Ok(false);
@@ -114,6 +119,7 @@ fn turn_part(tape: &mut Tape, walk: &mut Walk) -> Result<bool, AllocError>
 fn close_part(walk: &mut Walk) -> bool
     ensures slots { (n : ℕ) → WalkBefore n walk.old.on (reverse walk.old.parts.items) → WalkBefore n walk.new.on (reverse walk.new.parts.items) }
     ensures value { OnTrue result ((s : Sizes) (c : Cycle) (ns : List ℕ) → WalkShows ns walk.old.on (reverse walk.old.parts.items) → IsTurned s c ns steps.End (reverse walk.old.parts.items) walk.new.on (reverse walk.new.parts.items)) }
+    ensures some { (b : Bool) (parts : List Bool) → elses (reverse walk.old.parts.items) ≡ b ∷ parts → IsTrue result × (elses (reverse walk.new.parts.items) ≡ parts) }
 {
     let Some(part) = walk.parts.pop() else {
         return false;
@@ -135,6 +141,7 @@ pub(crate) fn turn(
     ensures extends { Extends (tree_of tape.old) (tree_of tape.new) }
     ensures slots { OnOk result (WalkBefore (length (tree_of tape.new).gates) walk.new.on (reverse walk.new.parts.items)) }
     ensures value { IfOk result (λ done. OnTrue done (Told nets.now.scope.now nets.now.pairs.now (tree_of tape.new) (λ s c ns. IsTrue (is_condition nets.now.scope.now step.now) → WalkShows ns walk.old.on (reverse walk.old.parts.items) → IsTurned s c ns step.now (reverse walk.old.parts.items) walk.new.on (reverse walk.new.parts.items)))) }
+    ensures some { (rest : List StepTree) → IsStepReady nets.now.scope.now nets.now.pairs.now nets.now.memories.now step.now → IsTrue (nested (elses (reverse walk.old.parts.items)) (step.now ∷ rest)) → IfOk result (λ done. IsTrue done × IsTrue (nested (elses (reverse walk.new.parts.items)) rest)) }
 {
     match step {
         Step::If(test) => {

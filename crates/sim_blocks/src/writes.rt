@@ -1,6 +1,6 @@
 // What registers take over, and what is stored in memories.
 
-ghost use Rattle.std.specs.Prelude.{◌≡◌, ◌<◌, ◌==◌, ℕ, Bool, List, Option, Some, None, length, get_or, IfOk, OnOk};
+ghost use Rattle.std.specs.Prelude.{◌≡◌, ◌<◌, ◌==◌, ℕ, Bool, List, Option, Some, None, length, get_or, IfOk, OnOk, IsSome, IsTrue};
 ghost use Rattle.std.specs.Bool.{OnTrue};
 ghost use Rattle.std.specs.List.{list_all};
 ghost use Rattle.vlog_tree.specs.declared.tree.Step.TheVariants as steps;
@@ -12,6 +12,7 @@ ghost use Rattle.sim_tape.specs.Solved.{Says};
 ghost use Rattle.sim_tape.specs.Trees.{tree_of};
 ghost use Rattle.sim_lower.specs.Nets.{SlotsBefore, Told};
 ghost use Rattle.sim_blocks.specs.Next.{NetsNext, CellsNext, ShowsNext, AreApart, AreKnown, SamePlaces, IsPut};
+ghost use Rattle.sim_blocks.specs.Ready.{IsStepReady};
 
 use sim_lower::{Nets, choose, pair_of_atom};
 use sim_tape::{Pair, Tape};
@@ -61,6 +62,7 @@ fn put_at(
     ensures slots { OnOk result (SlotsBefore next.new.items (length (tree_of tape.new).gates)) }
     ensures same { OnOk result (SamePlaces next.old.items next.new.items) }
     ensures says { IfOk result (λ done. OnTrue done (Says (tree_of tape.new) (λ cells ns. IsPut ns on value place next.old.items next.new.items))) }
+    ensures some { IsSome (get_or next.old.items place None) → IfOk result (λ done. IsTrue done) }
 {
     if place >= next.len() {
         return Ok(false);
@@ -90,6 +92,7 @@ fn put_register(
     ensures slots { OnOk result (SlotsBefore next.new.items (length (tree_of tape.new).gates)) }
     ensures same { OnOk result (SamePlaces next.old.items next.new.items) }
     ensures value { IfOk result (λ done. OnTrue done (Told nets.now.scope.now nets.now.pairs.now (tree_of tape.new) (λ s c ns. (bs : List Bool) (now : Cycle) → number_at ns on ≡ one_if (list_all (λ b. b) bs) → NetsNext nets.now.scope.now next.old.items now ns → NetsNext nets.now.scope.now next.new.items (step_next s c bs (steps.NonblockingAssign register.now value.now) now) ns))) }
+    ensures some { SamePlaces nets.now.pairs.now next.old.items → IsStepReady nets.now.scope.now nets.now.pairs.now nets.now.memories.now (steps.NonblockingAssign register.now value.now) → IfOk result (λ done. IsTrue done) }
 {
     let Some((place, _)) = nets.scope.place(register) else {
         return Ok(false);
@@ -116,6 +119,7 @@ fn add_store(
     ensures extends { Extends (tree_of tape.old) (tree_of tape.new) }
     ensures known { OnOk result (AreKnown nets.now.scope.now nets.now.memories.now stores.old.items → AreKnown nets.now.scope.now nets.now.memories.now stores.new.items) }
     ensures value { IfOk result (λ done. OnTrue done (AreApart nets.now.scope.now nets.now.memories.now → Told nets.now.scope.now nets.now.pairs.now (tree_of tape.new) (λ s c ns. (bs : List Bool) (first now : Cycle) → number_at ns on ≡ one_if (list_all (λ b. b) bs) → CellsNext nets.now.scope.now nets.now.memories.now stores.old.items s first now ns → CellsNext nets.now.scope.now nets.now.memories.now stores.new.items s first (step_next s c bs (steps.MemoryAssign memory.now index.now value.now) now) ns))) }
+    ensures some { IsStepReady nets.now.scope.now nets.now.pairs.now nets.now.memories.now (steps.MemoryAssign memory.now index.now value.now) → IfOk result (λ done. IsTrue done) }
 {
     let Some(numbers) = nets.memory(memory) else {
         return Ok(false);
@@ -152,6 +156,7 @@ pub(crate) fn write(
     ensures same { OnOk result (SamePlaces after.old.next.items after.new.next.items) }
     ensures known { OnOk result (AreKnown nets.now.scope.now nets.now.memories.now after.old.stores.items → AreKnown nets.now.scope.now nets.now.memories.now after.new.stores.items) }
     ensures value { IfOk result (λ done. OnTrue done (AreApart nets.now.scope.now nets.now.memories.now → Told nets.now.scope.now nets.now.pairs.now (tree_of tape.new) (λ s c ns. (bs : List Bool) (first now : Cycle) → number_at ns on ≡ one_if (list_all (λ b. b) bs) → ShowsNext nets.now.scope.now nets.now.memories.now after.old.next.items after.old.stores.items s first now ns → ShowsNext nets.now.scope.now nets.now.memories.now after.new.next.items after.new.stores.items s first (step_next s c bs step.now now) ns))) }
+    ensures some { SamePlaces nets.now.pairs.now after.old.next.items → IsStepReady nets.now.scope.now nets.now.pairs.now nets.now.memories.now step.now → IfOk result (λ done. IsTrue done) }
 {
     match step {
         Step::NonblockingAssign { register, value } => {

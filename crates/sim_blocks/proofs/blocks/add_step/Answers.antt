@@ -1,6 +1,6 @@
 use Rattle.std.proofs.Common.{length}
 use Rattle.std.specs.Prelude.{reverse}
-use Rattle.std.proofs.lemmas.Bool.{OnTrue_at, OnTrue_from}
+use Rattle.std.proofs.lemmas.Bool.{OnTrue_at, OnTrue_from, both_ways}
 use Rattle.sim_tape.specs.Trees.{tree_of}
 use Rattle.sim_tape.proofs.Growing.{solved_on, extends_twice}
 use Rattle.sim_lower.proofs.FromNets.{slots_on}
@@ -33,3 +33,9 @@ returns-clause-value c =
 
 pub returns-then-not-branch-clause-walk : goal.returns-then-not-branch-clause-walk
 returns-then-not-branch-clause-walk c = walk_later _ _ c.args.walk.now.on (reverse c.args.walk.now.parts.items) c.in_ok-write.ensures.extends.grows.gates c.requires.walk
+
+pub returns-then-not-branch-clause-some : goal.returns-then-not-branch-clause-some
+returns-then-not-branch-clause-some c = λ rest same ready nest. absurd (both_ways c.in_ok-write.field-0 c.if-not-branch.true (c.in_ok-write.ensures.some same ready))
+
+pub returns-clause-some : goal.returns-clause-some
+returns-clause-some c = λ rest same ready nest. c.in_ok-done.ensures.some rest ready nest

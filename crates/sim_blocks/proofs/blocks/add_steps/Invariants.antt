@@ -7,6 +7,9 @@ use Rattle.sim_tape.specs.Trees.{tree_of}
 use Rattle.sim_lower.specs.Nets.{SlotsBefore, Told}
 use Rattle.sim_blocks.specs.Parts.{WalkBefore, is_condition}
 use Rattle.sim_blocks.specs.Next.{ShowsNext, StepsLeft, AreApart, AreKnown, SamePlaces}
+use Rattle.sim_blocks.specs.Ready.{IsReady, elses}
+use Rattle.vlog_tree.specs.Form.{nested}
+use Rattle.vlog_tree.specs.declared.tree.Item.TheVariants.{Always}
 use Rattle.sim_blocks.proofs.blocks.add_steps.Given as goal
 
 abbrev pub invariant-loop-step : goal.invariant-loop-step
@@ -20,4 +23,6 @@ invariant-loop-step l = record {
       → Told l.nets.scope.now l.nets.pairs.now (tree_of l.tape) (λ s c ns. (first now : Cycle) → IsTrue (list_all (is_condition l.nets.scope.now) l.steps)
       → ShowsNext l.nets.scope.now l.nets.memories.now l.fn.after.next.items l.fn.after.stores.items s first now ns
       → StepsLeft l.nets.scope.now l.nets.memories.now l.after.next.items l.after.stores.items l.walk.on (reverse l.walk.parts.items) l.steps (drop l.step-index l.steps) s c first now ns);
+  ready : SamePlaces l.nets.pairs.now l.fn.after.next.items → IsReady l.nets.scope.now l.nets.pairs.now l.nets.memories.now (Always l.steps)
+      → IsTrue (nested (elses (reverse l.walk.parts.items)) (drop l.step-index l.steps));
 }

@@ -1,5 +1,5 @@
 use Rattle.std.proofs.Common.{◌≡◌, length, sym, subst}
-use Rattle.std.proofs.lemmas.Bool.{OnTrue_at}
+use Rattle.std.proofs.lemmas.Bool.{OnTrue_at, both_ways}
 use Rattle.sim_tape.specs.Trees.{tree_of}
 use Rattle.sim_tape.proofs.Growing.{solved_on, extends_twice, extends_refl}
 use Rattle.sim_lower.specs.Nets.{SlotsBefore}
@@ -7,6 +7,8 @@ use Rattle.sim_blocks.specs.Parts.{has_conditions}
 use Rattle.sim_blocks.specs.Next.{SamePlaces, AreKnown}
 use Rattle.sim_blocks.proofs.Putting.{places_same, places_twice}
 use Rattle.sim_blocks.proofs.Stepping.{all_got, none_left, item_left, items_left}
+use Rattle.sim_blocks.specs.Ready.{IsReady}
+use Rattle.sim_blocks.proofs.Readying.{all_by}
 use Rattle.sim_blocks.proofs.blocks.blocks_of.Goals as goal
 
 pub loop-item-init : goal.loop-item-init
@@ -48,3 +50,9 @@ pub returns-clause-value : goal.returns-clause-value
 returns-clause-value c = λ apart cells ns s k h shows bits.
     items_left c.args.nets.now.scope.now c.args.nets.now.memories.now c.args.items.now s k ns c.loop-item.after.next.items c.loop-item.after.stores.items c.loop-item.item-index c.loop-item-test.false
     (c.loop-item.invariant.value apart cells ns s k h shows bits)
+
+pub returns-then-not-branch-clause-some : goal.returns-then-not-branch-clause-some
+returns-then-not-branch-clause-some c = λ all.
+    absurd (both_ways c.in_ok-add_item.field-0 c.if-not-branch.true
+    (c.in_ok-add_item.ensures.some c.loop-item.invariant.same
+    (all_by (IsReady c.args.nets.now.scope.now c.args.nets.now.pairs.now c.args.nets.now.memories.now) c.args.items.now c.loop-item.item-index c.item-item.result c.loop-item-test.true c.item-item.is all)))

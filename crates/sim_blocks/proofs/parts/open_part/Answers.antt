@@ -1,10 +1,11 @@
-use Rattle.std.proofs.Common.{length, sym}
+use Rattle.std.proofs.Common.{length, sym, refl, ap}
 use Rattle.std.specs.Prelude.{reverse}
 use Rattle.vlog_tree.specs.Table.{bits_of}
 use Rattle.sim_tape.specs.Tape.{number_at}
 use Rattle.sim_tape.specs.Trees.{tree_of}
-use Rattle.sim_lower.proofs.FromNets.{found_before}
+use Rattle.sim_lower.proofs.FromNets.{found_before, not_missing}
 use Rattle.sim_blocks.proofs.Walking.{on_before, one_bit, if_turned}
+use Rattle.sim_blocks.specs.Ready.{elses}
 use Rattle.sim_blocks.proofs.parts.open_part.Goals as goal
 
 pub enter-requires-clause-around : goal.enter-requires-clause-around
@@ -22,3 +23,9 @@ returns-clause-value c = λ cells ns s k h shows bit walk.
     let got = sym c.in-Some.ensures in
     if_turned s k ns x p.low c.args.walk.now.on c.enter.new.walk.on (reverse c.args.walk.now.parts.items) (reverse c.enter.new.walk.parts.items)
     (one_bit (k.net x) (number_at ns p.high) (number_at ns p.low) (bits_of ds x) (shows.value x p got) (shows.fits x p got) bit) c.in_ok-enter.ensures.parts (c.in_ok-enter.ensures.says cells ns h) walk
+
+pub returns-in_default-clause-some : goal.returns-in_default-clause-some
+returns-in_default-clause-some c = λ have. absurd (not_missing _ c.in_default.ensures have)
+
+pub returns-clause-some : goal.returns-clause-some
+returns-clause-some c = λ have. (refl, ap elses c.in_ok-enter.ensures.parts)

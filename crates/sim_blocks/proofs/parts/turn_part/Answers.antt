@@ -1,7 +1,9 @@
-use Rattle.std.proofs.Common.{length}
-use Rattle.std.specs.Prelude.{reverse}
+use Rattle.std.proofs.Common.{length, ◌≡◌, refl, ap, false, true, ◌∷◌, ◌∙◌, arith}
+use Rattle.std.specs.Prelude.{reverse, not}
 use Rattle.sim_tape.specs.Trees.{tree_of}
 use Rattle.sim_blocks.proofs.Walking.{popped, ended_before, else_turned}
+use Rattle.sim_blocks.proofs.Readying.{none_open, rest_open}
+use Rattle.sim_blocks.specs.Ready.{elses}
 use Rattle.sim_blocks.proofs.parts.turn_part.Goals as goal
 
 pub enter-requires : goal.enter-requires
@@ -19,3 +21,16 @@ returns-clause-value c = λ cells ns h s k walk.
     let new = c.pop.new.self.items in
     else_turned s k ns p c.enter.new.walk.on c.args.walk.now.on (reverse new) (reverse old) (reverse c.enter.new.walk.parts.items) (popped old new p c.in-Some.ensures.items)
     c.in_ok-enter.ensures.parts (c.in_ok-enter.ensures.says cells ns h) walk
+
+pub returns-in_default-clause-some : goal.returns-in_default-clause-some
+returns-in_default-clause-some c = λ parts e.
+    let empty : length c.args.walk.now.parts.items ≡ 0 = omega (arith, c.args.walk.now.parts.ok.0, c.in_default.ensures.cases.0) in
+    absurd (none_open c.args.walk.now.parts.items false parts empty e)
+
+pub returns-clause-some : goal.returns-clause-some
+returns-clause-some c = λ parts e.
+    let p = c.in-Some.part in
+    let old = c.args.walk.now.parts.items in
+    let new = c.pop.new.self.items in
+    let r = rest_open p (reverse old) (reverse new) false parts (popped old new p c.in-Some.ensures.items) e in
+    (refl, ap elses c.in_ok-enter.ensures.parts ∙ ap (λ b. not b ∷ elses (reverse new)) r.0 ∙ ap (λ l. true ∷ l) r.1)

@@ -1,7 +1,7 @@
 use Rattle.std.proofs.Common.{◌≡◌, [], ◌∷◌, ◌++◌, sym, subst, rules}
 use Rattle.sim_tape.specs.Trees.{tree_of}
 use Rattle.sim_lower.specs.Nets.{IsAtom, Told}
-use Rattle.sim_lower.proofs.FromNets.{some_is}
+use Rattle.sim_lower.proofs.FromNets.{some_is, not_missing}
 use Rattle.vlog_tree.specs.declared.tree.Step.TheVariants.{MemoryAssign}
 use Rattle.vlog_ref_cycle.specs.Next.{step_next}
 use Rattle.sim_blocks.specs.declared.writes.Store.{Store}
@@ -24,3 +24,6 @@ returns-clause-value c = λ apart cells ns s k h shows bs first now runs before.
     let atom = some_is (λ p. Told ds c.args.nets.now.pairs.now (tree_of c.pair_of_atom.new.tape) (λ s k ns. IsAtom ds c.args.value.now s k ns p)) c.in_ok-pair.field-0 c.in-Some-2.pair c.in-Some-2.is c.in_ok-pair.ensures.says cells ns s k h shows in
     subst (λ l. CellsNext ds memories l s first (step_next s k bs (MemoryAssign c.args.memory.now c.args.index.now c.args.value.now) now) ns) (sym e)
     (cells_stored ds memories apart s k first now ns c.args.memory.now c.args.index.now c.args.value.now bs c.args.stores.now.items t (sym c.in-Some.ensures) (shows.value c.args.index.now c.in-Some-pair.at (sym c.in-Some-pair.ensures)) atom.value runs before)
+
+pub returns-in_default-clause-some : goal.returns-in_default-clause-some
+returns-in_default-clause-some c = λ ready. absurd (not_missing _ c.in_default.ensures ready.0)

@@ -7,6 +7,7 @@ use Rattle.sim_lower.proofs.FromNets.{slots_on}
 use Rattle.sim_blocks.specs.Next.{ShowsNext}
 use Rattle.sim_blocks.proofs.Putting.{cell_put}
 use Rattle.sim_blocks.proofs.Storing.{net_stored}
+use Rattle.sim_blocks.specs.Ready.{IsStepReady}
 use Rattle.sim_blocks.proofs.writes.write.Goals as goal
 
 pub returns-in_ok-done-in-NonblockingAssign-clause-value : goal.returns-in_ok-done-in-NonblockingAssign-clause-value
@@ -33,3 +34,11 @@ returns-in_ok-done-in-MemoryAssign-clause-value c =
       nets = λ y p g. net_stored (list_all (λ b. b) bs) s c.in-MemoryAssign.memory y (k.net c.in-MemoryAssign.index) (atom_value k c.in-MemoryAssign.value) now ∙ before.nets y p g;
       cells = OnTrue_at done c.in_ok-done-in-MemoryAssign.ensures.value apart cells ns s k h shows bs first now runs before.cells;
     }))
+
+pub returns-in_ok-done-in-NonblockingAssign-clause-some : goal.returns-in_ok-done-in-NonblockingAssign-clause-some
+returns-in_ok-done-in-NonblockingAssign-clause-some c = λ same ready.
+    c.in_ok-done-in-NonblockingAssign.ensures.some same (subst (λ t. IsStepReady c.args.nets.now.scope.now c.args.nets.now.pairs.now c.args.nets.now.memories.now t) c.in-NonblockingAssign.is ready)
+
+pub returns-in_ok-done-in-MemoryAssign-clause-some : goal.returns-in_ok-done-in-MemoryAssign-clause-some
+returns-in_ok-done-in-MemoryAssign-clause-some c = λ same ready.
+    c.in_ok-done-in-MemoryAssign.ensures.some (subst (λ t. IsStepReady c.args.nets.now.scope.now c.args.nets.now.pairs.now c.args.nets.now.memories.now t) c.in-MemoryAssign.is ready)
