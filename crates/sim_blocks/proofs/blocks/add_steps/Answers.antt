@@ -73,9 +73,9 @@ returns-then-not-branch-clause-same c = places_twice c.args.after.now.next.items
 pub returns-then-not-branch-clause-some : goal.returns-then-not-branch-clause-some
 returns-then-not-branch-clause-some c = λ same r.
     absurd (both_ways c.in_ok-add_step.field-0 c.if-not-branch.true (c.in_ok-add_step.ensures.some (drop (c.loop-step.step-index + 1) c.args.steps.now)
-          (places_twice c.args.nets.now.pairs.now c.args.after.now.next.items c.loop-step.after.next.items same c.loop-step.invariant.same)
-          (all_by (IsStepReady c.args.nets.now.scope.now c.args.nets.now.pairs.now c.args.nets.now.memories.now) c.args.steps.now c.loop-step.step-index c.step-item.result c.loop-step-test.true c.step-item.is r.1)
-          (subst (λ l. IsTrue (nested (elses (reverse c.loop-step.walk.parts.items)) l)) (opened c.args.steps.now c.loop-step.step-index c.step-item.result c.loop-step-test.true c.step-item.is) (c.loop-step.invariant.ready same r))).0)
+    (places_twice c.args.nets.now.pairs.now c.args.after.now.next.items c.loop-step.after.next.items same c.loop-step.invariant.same)
+    (all_by (IsStepReady c.args.nets.now.scope.now c.args.nets.now.pairs.now c.args.nets.now.memories.now) c.args.steps.now c.loop-step.step-index c.step-item.result c.loop-step-test.true c.step-item.is r.1)
+    (subst (λ l. IsTrue (nested (elses (reverse c.loop-step.walk.parts.items)) l)) (opened c.args.steps.now c.loop-step.step-index c.step-item.result c.loop-step-test.true c.step-item.is) (c.loop-step.invariant.ready same r))).0)
 
 pub returns-clause-some : goal.returns-clause-some
 returns-clause-some c = λ same r. refl

@@ -1,4 +1,4 @@
-use Rattle.std.proofs.Common.{sym, subst, ◌∷◌}
+use Rattle.std.proofs.Common.{refl, sym, subst, ◌∷◌}
 use Rattle.std.specs.Prelude.{IsTrue, reverse}
 use Rattle.std.specs.Bool.{OnTrue}
 use Rattle.std.proofs.lemmas.Bool.{OnTrue_at, OnTrue_from}
