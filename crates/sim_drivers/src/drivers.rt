@@ -1,137 +1,20 @@
 // Drivers on a tape.
 
-use sim_lower::{Nets, choose, invert, literal, pair_of_atom, pair_of_operator, put_below};
-use sim_tape::{Operator, Pair, Tape};
+ghost use Rattle.std.specs.Prelude.{◌≤◌, length, IfOk, IfSome, IsSome, IsTrue};
+ghost use Rattle.vlog_tree.specs.V3.{value_fits};
+ghost use Rattle.sim_tape.specs.Tape.{Extends, IsTape, PairBefore};
+ghost use Rattle.sim_tape.specs.Trees.{tree_of};
+ghost use Rattle.sim_lower.specs.Nets.{SlotsBefore};
+ghost use Rattle.sim_drivers.specs.Drivers.{HasParts, IsDriven};
+
+use crate::cells::pair_of_cell;
+use crate::copies::pair_of_copies;
+use crate::joining::pair_of_concat;
+use crate::operators::{pair_of_binary, pair_of_choice, pair_of_inverse, pair_of_plain};
+use sim_lower::Nets;
+use sim_tape::{Pair, Tape};
 use std::alloc::AllocError;
-use tapa_base::Text;
-use vlog_ref_driver::value_of;
-use vlog_tree::{Atom, BinaryOp, Value};
-
-fn pair_of_binary(
-    tape: &mut Tape,
-    nets: &Nets,
-    bits: u32,
-    left: &Atom,
-    op: BinaryOp,
-    right: &Atom,
-) -> Result<Option<Pair>, AllocError> {
-    let Some(a) = pair_of_atom(tape, nets, left)? else {
-        return Ok(None);
-    };
-    let Some(b) = pair_of_atom(tape, nets, right)? else {
-        return Ok(None);
-    };
-    let is_narrow = bits <= 64 && nets.atom_bits(left) <= 64 && nets.atom_bits(right) <= 64;
-    Ok(Some(pair_of_operator(tape, bits, op, a, b, is_narrow)?))
-}
-
-fn pair_of_choice(
-    tape: &mut Tape,
-    nets: &Nets,
-    condition: &Atom,
-    yes: &Atom,
-    no: &Atom,
-) -> Result<Option<Pair>, AllocError> {
-    let Some(c) = pair_of_atom(tape, nets, condition)? else {
-        return Ok(None);
-    };
-    let Some(a) = pair_of_atom(tape, nets, yes)? else {
-        return Ok(None);
-    };
-    let Some(b) = pair_of_atom(tape, nets, no)? else {
-        return Ok(None);
-    };
-    Ok(Some(choose(tape, c.low, a, b)?))
-}
-
-fn pair_of_concat(
-    tape: &mut Tape,
-    nets: &Nets,
-    atoms: &[Atom],
-) -> Result<Option<Pair>, AllocError> {
-    let mut above = Pair { low: 0, high: 0 };
-    let mut bits: u32 = 0;
-    for atom in atoms {
-        let more = nets.atom_bits(atom);
-        let Some(pair) = pair_of_atom(tape, nets, atom)? else {
-            return Ok(None);
-        };
-        if u64::from(bits) + more > 128 {
-            return Ok(None);
-        }
-        above = put_below(tape, above, bits, pair, more as u32)?;
-        bits += more as u32;
-    }
-    Ok(Some(above))
-}
-
-// The number 1 in each of some copies of so many bits.
-fn one_in_each(bits: u32, count: u32) -> Option<u128> {
-    let one = Atom::Literal {
-        width: bits,
-        value: 1,
-    };
-    value_of(&[], &[], 0, &Value::Repeat { count, atom: one })
-}
-
-// Copies are a product with the number that has 1 in each.
-fn pair_of_copies(
-    tape: &mut Tape,
-    nets: &Nets,
-    bits: u32,
-    count: u32,
-    atom: &Atom,
-) -> Result<Option<Pair>, AllocError> {
-    let width = nets.atom_bits(atom);
-    let Some(pair) = pair_of_atom(tape, nets, atom)? else {
-        return Ok(None);
-    };
-    if width > 128 {
-        return Ok(None);
-    }
-    let Some(ones) = one_in_each(width as u32, count) else {
-        return Ok(None);
-    };
-    let ones = literal(tape, ones)?;
-    Ok(Some(pair_of_operator(tape, bits, BinaryOp::Times, pair, ones, bits <= 64)?))
-}
-
-// Half of a cell: none is read past 2^64.
-fn half_of_cell(
-    tape: &mut Tape,
-    memory: u32,
-    at: Pair,
-    is_narrow: bool,
-) -> Result<u32, AllocError> {
-    let memory = tape.constant(u64::from(memory))?;
-    let cell = tape.operate(Operator::Cell, at.low, memory, 0)?;
-    if is_narrow {
-        return Ok(cell);
-    }
-    let inside = tape.operate(Operator::Equals, at.high, 0, 0)?;
-    tape.operate(Operator::Choose, inside, cell, 0)
-}
-
-fn pair_of_cell(
-    tape: &mut Tape,
-    nets: &Nets,
-    memory: &Text,
-    index: &Text,
-) -> Result<Option<Pair>, AllocError> {
-    let Some(halves) = nets.memory(memory) else {
-        return Ok(None);
-    };
-    let Some(at) = nets.pair(index) else {
-        return Ok(None);
-    };
-    let is_narrow = nets.bits(index) <= 64;
-    let low = half_of_cell(tape, halves.low, at, is_narrow)?;
-    if nets.bits(memory) <= 64 {
-        return Ok(Some(Pair { low, high: 0 }));
-    }
-    let high = half_of_cell(tape, halves.high, at, is_narrow)?;
-    Ok(Some(Pair { low, high }))
-}
+use vlog_tree::Value;
 
 /// A pair with the value of a driver, for a target of some bits, and none where a net has no slots yet or bits do not fit.
 pub fn pair_of_driver(
@@ -139,20 +22,26 @@ pub fn pair_of_driver(
     nets: &Nets,
     bits: u32,
     value: &Value,
-) -> Result<Option<Pair>, AllocError> {
+) -> Result<Option<Pair>, AllocError>
+    requires tape { IsTape (tree_of tape.old) }
+    requires nets { SlotsBefore nets.now.pairs.now (length (tree_of tape.old).gates) }
+    ensures extends { Extends (tree_of tape.old) (tree_of tape.new) }
+    ensures slots { IfOk result (λ o. IfSome o (λ p. PairBefore (length (tree_of tape.new).gates) p)) }
+    ensures says { IsTrue (value_fits nets.now.scope.now bits value.now) → IfOk result (λ o. IfSome o (λ p. IsDriven nets.now.scope.now nets.now.pairs.now nets.now.memories.now bits value.now (tree_of tape.new) p)) }
+    ensures some { bits ≤ 128 → IsTrue (value_fits nets.now.scope.now bits value.now) → HasParts nets.now.scope.now nets.now.pairs.now nets.now.memories.now value.now → IfOk result (λ o. IsSome o) }
+{
     if bits > 128 {
         return Ok(None);
     }
     match value {
-        Value::Plain(a) => pair_of_atom(tape, nets, a),
-        Value::Invert(a) => match pair_of_atom(tape, nets, a)? {
-            Some(pair) => Ok(Some(invert(tape, pair, bits)?)),
-            None => Ok(None),
-        },
+        Value::Plain(a) => pair_of_plain(tape, nets, bits, a),
+        Value::Invert(a) => pair_of_inverse(tape, nets, bits, a),
         Value::Binary { left, op, right } => pair_of_binary(tape, nets, bits, left, *op, right),
-        Value::Choose { condition, yes, no } => pair_of_choice(tape, nets, condition, yes, no),
-        Value::Concat(atoms) => pair_of_concat(tape, nets, atoms.atoms()),
+        Value::Choose { condition, yes, no } => {
+            pair_of_choice(tape, nets, bits, condition, yes, no)
+        }
+        Value::Concat(atoms) => pair_of_concat(tape, nets, bits, atoms.atoms()),
         Value::Repeat { count, atom } => pair_of_copies(tape, nets, bits, *count, atom),
-        Value::Cell { memory, index } => pair_of_cell(tape, nets, memory, index),
+        Value::Cell { memory, index } => pair_of_cell(tape, nets, bits, memory, index),
     }
 }

@@ -87,6 +87,26 @@ module _ (rows : List Instance) (k depth : ℕ) (ks : List ℕ) where
         let is : length rows + (s - length rows) ≡ s = omega arith in
         subst (λ n. IsPlaced kinds (length first_next) n (row_at grown n) (row_at grown (row_at grown n).around)) is (new_placed (s - length rows) (omega arith))
 
+    once_before : (s : ℕ) → 0 < s → s < length rows → s ≡ get_or first_next (row_at grown s).around 0 + (row_at grown s).child
+    once_before s pos low =
+        let early : (row_at rows s).around < length first = (r.placed s pos low).early in
+        subst (λ (q : Instance). s ≡ get_or first_next q.around 0 + q.child) (sym (old_row s low))
+        (r.once s pos low ∙ ap (λ n. n + (row_at rows s).child) (sym (get_or_append_left first (length rows ∷ []) 0 (row_at rows s).around early)))
+
+    once_behind : (j : ℕ) → j < length ks → length rows + j ≡ get_or first_next (row_at grown (length rows + j)).around 0 + (row_at grown (length rows + j)).child
+    once_behind j h =
+        let q : IsRow ks k depth 0 j (row_at grown (length rows + j)) = new_row j h in
+        let a : get_or first_next (row_at grown (length rows + j)).around 0 ≡ length rows = ap (λ n. get_or first_next n 0) q.around ∙ get_or_push first (length rows) 0 k next in
+        let b : (row_at grown (length rows + j)).child ≡ 0 + j = q.child in
+        omega arith
+
+    once_at : (s : ℕ) → 0 < s → s < length grown → (s < length rows) ⊎ (length rows ≤ s) → s ≡ get_or first_next (row_at grown s).around 0 + (row_at grown s).child
+    once_at s pos low (inl lt) = once_before s pos lt
+    once_at s pos low (inr ge) =
+        let e : length grown ≡ length rows + length ks = grown_length in
+        let is : length rows + (s - length rows) ≡ s = omega arith in
+        subst (λ n. n ≡ get_or first_next (row_at grown n).around 0 + (row_at grown n).child) is (once_behind (s - length rows) (omega arith))
+
     old_inside : (s a c : ℕ) → IsInside rows s a c → IsInside grown s a c
     old_inside s a c i =
         let e = sym (old_row s i.there) in
@@ -125,6 +145,7 @@ module _ (rows : List Instance) (k depth : ℕ) (ks : List ℕ) where
           fewer = omega arith;
           placed = λ s pos low. placed_at s pos low (cases_lt s (length rows));
           inside = λ a c low h. inside_of a c low h (cases_lt a (length first));
+          once = λ s pos low. once_at s pos low (cases_lt s (length rows));
         }
 
 -- the instances of the next depth stay behind those of this one

@@ -22,6 +22,7 @@ use Rattle.sim_flat.specs.declared.instances.Instance as row
 use Rattle.sim_flat.specs.Kinds.{kind_place, module_kinds, all_kinds}
 use Rattle.sim_flat.specs.Rows.{row_at, kinds_at, IsPlaced, IsInside, AreRows, HaveDepth}
 use Rattle.sim_flat.specs.Instances.{IsNamed, StandsAt, IsModuleOf, AreInstances}
+use Rattle.sim_flat.proofs.Once.{instance_once}
 use Rattle.sim_flat.proofs.Placing.{kind_got, kinds_got, kinds_length, kind_at, got_low}
 
 module _ (ms : List ModuleTree) (place : ℕ) (d : IsDesign ms place) (top : ModuleTree) (at : slice_get ms place ≡ Some top) (rows : List row.Instance) (first : List ℕ)
@@ -105,6 +106,21 @@ module _ (ms : List ModuleTree) (place : ℕ) (d : IsDesign ms place) (top : Mod
       let z : length path + 1 ≡ suc (length path) = omega arith in
       p ∙ ap (λ n. n + 1) e ∙ z
 
+  -- the place of an instance in another, by its name there
+  child_single : (k n : ℕ) (i : Name) → (row_at rows k).around ≡ (row_at rows n).around → IsNamed ms rows k i → IsNamed ms rows n i → (row_at rows k).child ≡ (row_at rows n).child
+  child_single k n i same s t =
+      let got : slice_get ms (outer_of k).kind ≡ Some t.outer = ap (λ a. slice_get ms (row_at rows a).kind) same ∙ t.got in
+      let one : s.outer ≡ t.outer = cc (s.got, got) in
+      instance_once ms d.sound.names s.outer (has_got ms (outer_of k).kind s.outer s.got) (row_at rows k).child (row_at rows n).child s.module_name t.module_name i s.named
+      (subst (λ (q : ModuleTree). slice_get (instances q) (row_at rows n).child ≡ Some (t.module_name, i)) (sym one) t.named)
+
+  number_single : (path : Path) (k n : ℕ) → k < length rows → n < length rows → StandsAt ms rows k path → StandsAt ms rows n path → k ≡ n
+  number_single [] k n low high s t = s ∙ sym t
+  number_single (i ∷ path) k n low high s t =
+      let same : (row_at rows k).around ≡ (row_at rows n).around = number_single path (row_at rows k).around (row_at rows n).around (around_low k s.0 low) (around_low n t.0 high) s.2 t.2 in
+      let child : (row_at rows k).child ≡ (row_at rows n).child = child_single k n i same s.1 t.1 in
+      r.once k s.0 low ∙ ap (λ a. get_or first a 0 + (row_at rows k).child) same ∙ ap (λ c. get_or first (row_at rows n).around 0 + c) child ∙ sym (r.once n t.0 high)
+
   module _ (deepest : HaveDepth rows (length first) (length rows) (length ms)) where
     no_more : length first < length rows → ⊥
     no_more low =
@@ -163,4 +179,7 @@ module _ (ms : List ModuleTree) (place : ℕ) (d : IsDesign ms place) (top : Mod
       modules = λ k path low s. leads path k low s;
       numbers = number_of;
       inside = inside_all;
+      before = λ s pos low. (r.placed s pos low).before;
+      once = λ s pos low. r.once s pos low;
+      single = number_single;
     }

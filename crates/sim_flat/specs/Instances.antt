@@ -23,10 +23,13 @@ StandsAt ms rows k (i ∷ path) = (0 < k) × IsNamed ms rows k i × StandsAt ms 
 abbrev pub IsModuleOf : List ModuleTree → List Instance → ℕ → ModuleTree → Type 0
 IsModuleOf ms rows k m = slice_get ms (row_at rows k).kind ≡ Some m
 
--- Each number stands for the instance at the end of a path, and each instance has a number. Those in one instance have numbers
+-- Each number stands for the instance at the end of a path, and each instance has one number. Those in one instance have numbers
 -- one behind the other, in the order of the text.
 pub record AreInstances (ms : List ModuleTree) (top : ModuleTree) (rows : List Instance) (first : List ℕ) : Type 0 where
   pub paths : (k : ℕ) → k < length rows → (path : Path) × StandsAt ms rows k path
   pub modules : (k : ℕ) (path : Path) → k < length rows → StandsAt ms rows k path → (m : ModuleTree) × (module_at ms top path ≡ Some m) × IsModuleOf ms rows k m
   pub numbers : (path : Path) (m : ModuleTree) → module_at ms top path ≡ Some m → (k : ℕ) × (k < length rows) × StandsAt ms rows k path
   pub inside : (k c : ℕ) (m : ModuleTree) → k < length rows → IsModuleOf ms rows k m → c < length (instances m) → IsInside rows (get_or first k 0 + c) k c
+  pub before : (s : ℕ) → 0 < s → s < length rows → (row_at rows s).around < s
+  pub once : (s : ℕ) → 0 < s → s < length rows → s ≡ get_or first (row_at rows s).around 0 + (row_at rows s).child
+  pub single : (path : Path) (k n : ℕ) → k < length rows → n < length rows → StandsAt ms rows k path → StandsAt ms rows n path → k ≡ n

@@ -35,6 +35,7 @@ pub record AreRows (kinds : List (List ℕ)) (top : ℕ) (rows : List Instance) 
   pub fewer : length first ≤ length rows
   pub placed : (s : ℕ) → 0 < s → s < length rows → IsPlaced kinds (length first) s (row_at rows s) (row_at rows (row_at rows s).around)
   pub inside : (k c : ℕ) → k < length first → c < length (kinds_at kinds (row_at rows k).kind) → IsInside rows (get_or first k 0 + c) k c
+  pub once : (s : ℕ) → 0 < s → s < length rows → s ≡ get_or first (row_at rows s).around 0 + (row_at rows s).child
 
 -- the instances from one to another are so deep
 abbrev pub HaveDepth : List Instance → ℕ → ℕ → ℕ → Type 0

@@ -10,7 +10,7 @@ use vlog_rules::Scope;
 use vlog_tree::{Item, Module};
 
 /// The place of a module's name among those of all modules.
-pub(crate) fn place_of(names: &Scope, name: &Text) -> usize
+pub fn place_of(names: &Scope, name: &Text) -> usize
     ensures { result ≡ kind_place names.now name.now }
 {
     match names.place(name) {

@@ -5,3 +5,4 @@ mod instances;
 mod kinds;
 
 pub use instances::{Instance, Instances, instances_of};
+pub use kinds::place_of;

@@ -1,1 +1,4 @@
-pub mod Atoms
+pub mod Operating
+pub mod Parts
+pub mod Pairs
+pub mod AtomSlots

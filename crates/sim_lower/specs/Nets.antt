@@ -1,5 +1,5 @@
 -- Where nets stand on a tape, and when slots and cells show the numbers of a cycle.
-use Rattle.std.specs.Prelude.{◌≡◌, ℕ, ◌*◌, ◌+◌, ◌<◌, ◌^◌, Bool, List, [], Option, Some, None, IsSome, IsTrue, length, get_or, map}
+use Rattle.std.specs.Prelude.{◌≡◌, ℕ, ◌*◌, ◌+◌, ◌<◌, ◌^◌, Bool, List, Option, Some, None, IsSome, IsTrue, get_or, map}
 use Rattle.vlog_tree.specs.declared.table.Declaration.{Declaration}
 use Rattle.vlog_tree.specs.Table.{Name, declaration_name, bits_of, cells_of}
 use Rattle.vlog_tree.specs.declared.tree.Atom.{Atom}

@@ -1,10 +1,14 @@
 //! The nets of a flattened design by number, what each has its number from, and an order in which each comes after those.
 #![tactic(auto)]
 
+mod edges;
 mod flat;
+mod links;
 mod order;
+mod places;
 mod tables;
 
 pub use flat::{Flat, flatten};
-pub use order::{net_around, net_inside, order_of_nets};
+pub use links::{net_around, net_inside};
+pub use order::order_of_nets;
 pub use tables::{Child, Source, Table, tables_of};

@@ -1,160 +1,163 @@
 // An order of the nets of a flattened design.
 
-use crate::flat::Flat;
-use crate::tables::{Source, Table};
+ghost use Rattle.std.specs.Prelude.{◌≡◌, ◌++◌, IfOk, OnOk, length};
+ghost use Rattle.vlog_tree.specs.Form.{ModuleTree};
+ghost use Rattle.vlog_design.specs.Designs.{TopOf};
+ghost use Rattle.sim_nets.specs.Flat.{IsFlat};
+ghost use Rattle.sim_nets.specs.Order.{IsNetOrder};
+ghost use Rattle.sim_nets.specs.Edges.{lines_at as lines_lem, connections_of as connections_lem, connections_in as connections_in_lem, NumbersFit, own_edges, joins_in, join_edges, instance_edges, edges_below, top_answers, all_edges};
+
+use crate::edges::{Edges, add_answers, add_assigns, add_connections};
+use crate::flat::{Flat, base_at, table_at};
+use sim_flat::Instance;
 use std::alloc::{AllocError, Global};
-use tapa_base::Text;
+use vlog_design::Design;
 use vlog_graph::{Graph, Order, order_of};
 use vlog_rules::Scope;
-use vlog_tree::{Atom, Item, Module, Value, addr_name, rdata_of};
+use vlog_tree::{Connection, Item, Module};
 
-fn add_edge(
-    edges: &mut Vec<(usize, usize)>,
-    count: usize,
-    from: usize,
-    to: usize,
-) -> Result<(), AllocError> {
-    if from < count && to < count {
-        edges.push((from, to))?;
+// The lines of an instance's module.
+fn lines_at<'a>(flat: &Flat, modules: &'a [Module], k: usize) -> &'a [Item]
+    ensures { result.now ≡ lines_lem modules.now flat.now k }
+{
+    match flat.instances.get(k) {
+        Some(row) => match modules.get(row.kind) {
+            Some(m) => m.items(),
+            None => &[],
+        },
+        None => &[],
     }
-    Ok(())
 }
 
-fn add_name(
-    edges: &mut Vec<(usize, usize)>,
+fn connections_of(item: &Item) -> &[Connection]
+    ensures { result.now ≡ connections_lem item.now }
+{
+    match item {
+        Item::Instance {
+            connections: joins,
+            ..
+        } => joins.connections(),
+        Item::Wire { .. } => &[],
+        Item::Reg { .. } => &[],
+        Item::Memory { .. } => &[],
+        Item::Assign { .. } => &[],
+        Item::Always(_) => &[],
+    }
+}
+
+// The connections of the instance at a place of another.
+fn connections_in<'a>(
     flat: &Flat,
-    scope: &Scope,
-    base: usize,
-    from: usize,
-    name: &Text,
-) -> Result<(), AllocError> {
-    match scope.place(name) {
-        Some((place, _)) => add_edge(edges, flat.nets, from, base.saturating_add(place)),
+    modules: &'a [Module],
+    k: usize,
+    child: usize,
+) -> &'a [Connection]
+    ensures { result.now ≡ connections_in_lem modules.now flat.now k child }
+{
+    let items = lines_at(flat, modules, k);
+    match table_at(flat, k) {
+        Some(table) => match table.children.get(child) {
+            Some(place) => match items.get(place.line) {
+                Some(item) => connections_of(item),
+                None => &[],
+            },
+            None => &[],
+        },
+        None => &[],
+    }
+}
+
+fn add_own(edges: &mut Edges, flat: &Flat, modules: &[Module], k: usize) -> Result<(), AllocError>
+    requires { NumbersFit flat.now }
+    ensures { OnOk result (edges.new.items ≡ edges.old.items ++ own_edges modules.now flat.now k) }
+{
+    let base = base_at(flat, k);
+    let items = lines_at(flat, modules, k);
+    match table_at(flat, k) {
+        Some(table) => add_assigns(edges, base, &table.scope, items),
         None => Ok(()),
     }
 }
 
-fn add_atom(
-    edges: &mut Vec<(usize, usize)>,
+fn add_joins_in(
+    edges: &mut Edges,
     flat: &Flat,
-    scope: &Scope,
-    base: usize,
-    from: usize,
-    atom: &Atom,
-) -> Result<(), AllocError> {
-    match atom {
-        Atom::Net(x) => add_name(edges, flat, scope, base, from, x),
-        Atom::Part { net: x, .. } => add_name(edges, flat, scope, base, from, x),
-        Atom::Literal { .. } => Ok(()),
+    modules: &[Module],
+    k: usize,
+    row: &Instance,
+) -> Result<(), AllocError>
+    requires { NumbersFit flat.now }
+    ensures { OnOk result (edges.new.items ≡ edges.old.items ++ joins_in modules.now flat.now k row.now) }
+{
+    let around = row.around;
+    let base = base_at(flat, around);
+    let base_inside = base_at(flat, k);
+    let connections = connections_in(flat, modules, around, row.child);
+    match table_at(flat, k) {
+        Some(inside) => match table_at(flat, around) {
+            Some(table) => add_connections(
+                edges,
+                base,
+                &table.scope,
+                base_inside,
+                &inside.scope,
+                connections,
+            ),
+            None => Ok(()),
+        },
+        None => Ok(()),
     }
 }
 
-fn add_value(
-    edges: &mut Vec<(usize, usize)>,
-    flat: &Flat,
-    scope: &Scope,
-    base: usize,
-    from: usize,
-    value: &Value,
-) -> Result<(), AllocError> {
-    match value {
-        Value::Plain(a) => add_atom(edges, flat, scope, base, from, a),
-        Value::Invert(a) => add_atom(edges, flat, scope, base, from, a),
-        Value::Binary { left, right, .. } => {
-            add_atom(edges, flat, scope, base, from, left)?;
-            add_atom(edges, flat, scope, base, from, right)
-        }
-        Value::Choose { condition, yes, no } => {
-            add_atom(edges, flat, scope, base, from, condition)?;
-            add_atom(edges, flat, scope, base, from, yes)?;
-            add_atom(edges, flat, scope, base, from, no)
-        }
-        Value::Concat(atoms) => {
-            for a in atoms.atoms() {
-                add_atom(edges, flat, scope, base, from, a)?;
-            }
-            Ok(())
-        }
-        Value::Repeat { atom, .. } => add_atom(edges, flat, scope, base, from, atom),
-        Value::Cell { index, .. } => add_name(edges, flat, scope, base, from, index),
+fn add_joins(edges: &mut Edges, flat: &Flat, modules: &[Module], k: usize) -> Result<(), AllocError>
+    requires { NumbersFit flat.now }
+    ensures { OnOk result (edges.new.items ≡ edges.old.items ++ join_edges modules.now flat.now k) }
+{
+    if k == 0 {
+        return Ok(());
+    }
+    match flat.instances.get(k) {
+        Some(row) => add_joins_in(edges, flat, modules, k, row),
+        None => Ok(()),
     }
 }
 
-// What an input of the top rests on: a memory's answer on the place that it is asked for.
-fn add_answer(
-    alloc: Global,
-    edges: &mut Vec<(usize, usize)>,
+fn add_instance(
+    edges: &mut Edges,
     flat: &Flat,
-    table: &Table,
-    from: usize,
-) -> Result<(), AllocError> {
-    if let Some(d) = table.scope.declarations().get(from) {
-        if let Some(label) = rdata_of(&d.name) {
-            let addr = Text::new(addr_name(alloc, label)?);
-            add_name(edges, flat, &table.scope, 0, from, &addr)?;
-        }
+    modules: &[Module],
+    k: usize,
+) -> Result<(), AllocError>
+    requires { NumbersFit flat.now }
+    ensures { OnOk result (edges.new.items ≡ edges.old.items ++ instance_edges modules.now flat.now k) }
+{
+    add_own(edges, flat, modules, k)?;
+    add_joins(edges, flat, modules, k)?;
+    Ok(())
+}
+
+fn add_instances(edges: &mut Edges, flat: &Flat, modules: &[Module]) -> Result<(), AllocError>
+    requires { NumbersFit flat.now }
+    ensures { OnOk result (edges.new.items ≡ edges.old.items ++ edges_below (instance_edges modules.now flat.now) (length flat.now.instances.items)) }
+{
+    for k in 0..flat.instances.len() {
+        add_instance(edges, flat, modules, k)?;
     }
     Ok(())
 }
 
-/// The net that an input of an instance is joined to.
-pub fn net_around(flat: &Flat, instance: usize, place: usize) -> Option<usize> {
-    let inner = flat.instances.get(instance)?;
-    let outer = flat.instances.get(inner.around)?;
-    let table = flat.tables.get(outer.kind)?;
-    let child = table.children.get(inner.child)?;
-    let net = child.joined.get(place).copied().flatten()?;
-    let base = flat.first_net.get(inner.around).copied()?;
-    Some(base.saturating_add(net))
-}
-
-/// The net of a port of an instance inside another.
-pub fn net_inside(flat: &Flat, instance: usize, child: usize, port: usize) -> Option<usize> {
-    let first = flat.first_child.get(instance).copied()?;
-    let base = flat.first_net.get(first.saturating_add(child)).copied()?;
-    Some(base.saturating_add(port))
-}
-
-fn add_net(
+fn add_top_answers(
     alloc: Global,
-    edges: &mut Vec<(usize, usize)>,
+    edges: &mut Edges,
     flat: &Flat,
-    modules: &[Module],
-    instance: usize,
-    place: usize,
-) -> Result<(), AllocError> {
-    let Some(row) = flat.instances.get(instance) else {
-        return Ok(());
-    };
-    let Some(table) = flat.tables.get(row.kind) else {
-        return Ok(());
-    };
-    let Some(module) = modules.get(row.kind) else {
-        return Ok(());
-    };
-    let base = flat.first_net.get(instance).copied().unwrap_or(0);
-    let from = base.saturating_add(place);
-    match table.sources.get(place).copied() {
-        Some(Source::Line(line)) => match module.items().get(line) {
-            Some(Item::Assign { value, .. }) => {
-                add_value(edges, flat, &table.scope, base, from, value)
-            }
-            _ => Ok(()),
-        },
-        Some(Source::Child { child, port }) => match net_inside(flat, instance, child, port) {
-            Some(to) => add_edge(edges, flat.nets, from, to),
-            None => Ok(()),
-        },
-        Some(Source::Input) => {
-            if instance == 0 {
-                return add_answer(alloc, edges, flat, table, from);
-            }
-            match net_around(flat, instance, place) {
-                Some(to) => add_edge(edges, flat.nets, from, to),
-                None => Ok(()),
-            }
-        }
-        _ => Ok(()),
+    ports: &Scope,
+) -> Result<(), AllocError>
+    requires { NumbersFit flat.now }
+    ensures { OnOk result (edges.new.items ≡ edges.old.items ++ top_answers flat.now ports.now) }
+{
+    match table_at(flat, 0) {
+        Some(table) => add_answers(alloc, edges, &table.scope, ports),
+        None => Ok(()),
     }
 }
 
@@ -162,28 +165,26 @@ fn edges_of(
     alloc: Global,
     flat: &Flat,
     modules: &[Module],
-) -> Result<Vec<(usize, usize)>, AllocError> {
+    top: &Module,
+) -> Result<Edges, AllocError>
+    requires { NumbersFit flat.now }
+    ensures { IfOk result (λ e. e.items ≡ all_edges modules.now flat.now top.now) }
+{
+    let ports = Scope::of_ports(alloc, top.ports())?;
     let mut edges = Vec::new(alloc);
-    for (instance, row) in flat.instances.iter().enumerate() {
-        let places = match flat.tables.get(row.kind) {
-            Some(table) => table.sources.len(),
-            None => 0,
-        };
-        for place in 0..places {
-            add_net(alloc, &mut edges, flat, modules, instance, place)?;
-        }
-    }
+    add_instances(&mut edges, flat, modules)?;
+    add_top_answers(alloc, &mut edges, flat, &ports)?;
     Ok(edges)
 }
 
-/// The nets of a flattened design, each after those that it has its number from in the same cycle.
-pub fn order_of_nets(
-    alloc: Global,
-    flat: &Flat,
-    modules: &[Module],
-) -> Result<Vec<usize>, AllocError> {
-    let edges = edges_of(alloc, flat, modules)?;
-    let graph = Graph::of(alloc, flat.nets, &edges)?;
+/// The numbers of all nets of a flattened design, each after those of the nets that its net has its number from in the same cycle.
+pub fn order_of_nets(alloc: Global, flat: &Flat, design: &Design) -> Result<Vec<usize>, AllocError>
+    requires { (m : ModuleTree) → TopOf design.now m → IsFlat design.now.modules m flat.now }
+    ensures { IfOk result (λ order. (m : ModuleTree) → TopOf design.now m → IsNetOrder design.now.modules m flat.now order.items) }
+{
+    let count = flat.owners.len();
+    let edges = edges_of(alloc, flat, design.modules(), design.top())?;
+    let graph = Graph::of(alloc, count, &edges)?;
     match order_of(alloc, &graph)? {
         Order::PartsFirst(order) => Ok(order),
         Order::Cycle(_) => Ok(Vec::new(alloc)),

@@ -1,4 +1,4 @@
-use Rattle.std.proofs.Common.{◌≡◌, ℕ, Bool, None, get_or, ap, ◌∙◌}
+use Rattle.std.proofs.Common.{ℕ, Bool, None, get_or, ap, ◌∙◌}
 use Rattle.vlog_tree.specs.Cycle.{and_then}
 use Rattle.sim_lower.proofs.nets.pair_at.Goals as goal
 

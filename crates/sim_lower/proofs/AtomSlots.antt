@@ -1,6 +1,6 @@
 -- Atoms on a tape, from the slots of their nets.
-use Rattle.std.proofs.Common.{◌≡◌, ℕ, ◌+◌, ◌-◌, ◌*◌, ◌/◌, ◌%◌, ◌^◌, ◌<◌, ◌≤◌, Bool, true, ◌&&◌, List, Option, Some, None, length, get_or, inl, refl, sym, ap, subst, ◌∙◌, map, arith, mod-lt, ltb-true, leb-true}
-use Rattle.std.specs.Prelude.{IfSome, IsSome, is_some, nat_le, nat_lt}
+use Rattle.std.proofs.Common.{◌≡◌, ℕ, ◌+◌, ◌-◌, ◌/◌, ◌%◌, ◌^◌, ◌<◌, ◌≤◌, Bool, true, ◌&&◌, List, Option, Some, None, length, get_or, refl, sym, ap, subst, ◌∙◌, map, arith, mod-lt, ltb-true, leb-true}
+use Rattle.std.specs.Prelude.{IfSome, IsSome, nat_le, nat_lt}
 use Rattle.std.proofs.Math.Pow.{pow_pos}
 use Rattle.std.proofs.lemmas.Bool.{and_parts}
 use Rattle.vlog_tree.specs.declared.table.Declaration.{Declaration}
@@ -16,9 +16,9 @@ use Rattle.sim_tape.proofs.Growing.{pair_later}
 use Rattle.sim_lower.specs.Nets.{IsAtom, ShowsNets, SlotsBefore, pair_in}
 
 -- a value that is there has what is said of it
-pub some_is : {A : Type 0} {P : A → Type 0} (o : Option A) (x : A) → o ≡ Some x → IfSome o P → P x
-some_is None x e h = cc
-some_is {A} {P} (Some y) x e h = let same : y ≡ x = cc in subst P same h
+pub some_is : {A : Type 0} (P : A → Type 0) (o : Option A) (x : A) → o ≡ Some x → IfSome o P → P x
+some_is P None x e h = cc
+some_is P (Some y) x e h = let same : y ≡ x = cc in subst P same h
 
 -- what is said of each value that may be there
 pub each_is : {A : Type 0} (P : A → Type 0) (o q : Option A) → o ≡ q → ((x : A) → q ≡ Some x → P x) → IfSome o P

@@ -1,0 +1,7 @@
+pub mod Places
+pub mod Tables
+pub mod Flat
+pub mod Order
+pub mod Numbering
+pub mod Written
+pub mod Edges
