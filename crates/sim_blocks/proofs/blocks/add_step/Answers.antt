@@ -3,7 +3,7 @@ use Rattle.std.specs.Prelude.{reverse}
 use Rattle.std.proofs.lemmas.Bool.{OnTrue_at, OnTrue_from, both_ways}
 use Rattle.sim_tape.specs.Trees.{tree_of}
 use Rattle.sim_tape.proofs.Growing.{solved_on, extends_twice}
-use Rattle.sim_lower.proofs.FromNets.{slots_on}
+use Rattle.sim_lower.proofs.AtomSlots.{slots_on}
 use Rattle.sim_blocks.specs.Parts.{parts_run}
 use Rattle.sim_blocks.proofs.Walking.{on_before, walk_later, all_shown}
 use Rattle.sim_blocks.proofs.blocks.add_step.Goals as goal

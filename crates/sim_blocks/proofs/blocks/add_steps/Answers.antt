@@ -3,7 +3,7 @@ use Rattle.std.specs.Prelude.{reverse, IsTrue}
 use Rattle.std.proofs.lemmas.Bool.{OnTrue_at, both_ways}
 use Rattle.sim_tape.specs.Trees.{tree_of}
 use Rattle.sim_tape.proofs.Growing.{solved_on, extends_twice}
-use Rattle.sim_lower.proofs.FromNets.{slots_on}
+use Rattle.sim_lower.proofs.AtomSlots.{slots_on}
 use Rattle.vlog_tree.specs.Cycle.{run_steps}
 use Rattle.sim_blocks.specs.Parts.{WalkShows, WalkBefore, parts_run, is_condition}
 use Rattle.sim_blocks.proofs.Putting.{places_same, places_twice}

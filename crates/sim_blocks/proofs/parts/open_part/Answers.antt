@@ -3,7 +3,7 @@ use Rattle.std.specs.Prelude.{reverse}
 use Rattle.vlog_tree.specs.Table.{bits_of}
 use Rattle.sim_tape.specs.Tape.{number_at}
 use Rattle.sim_tape.specs.Trees.{tree_of}
-use Rattle.sim_lower.proofs.FromNets.{found_before, not_missing}
+use Rattle.sim_lower.proofs.AtomSlots.{found_before, not_missing}
 use Rattle.sim_blocks.proofs.Walking.{on_before, one_bit, if_turned}
 use Rattle.sim_blocks.specs.Ready.{elses}
 use Rattle.sim_blocks.proofs.parts.open_part.Goals as goal

@@ -1,7 +1,7 @@
 use Rattle.std.proofs.Common.{◌≡◌, [], ◌∷◌, ◌++◌, sym, subst, rules}
 use Rattle.sim_tape.specs.Trees.{tree_of}
 use Rattle.sim_lower.specs.Nets.{IsAtom, Told}
-use Rattle.sim_lower.proofs.FromNets.{some_is, not_missing}
+use Rattle.sim_lower.proofs.AtomSlots.{some_is, not_missing}
 use Rattle.vlog_tree.specs.declared.tree.Step.TheVariants.{MemoryAssign}
 use Rattle.vlog_ref_cycle.specs.Next.{step_next}
 use Rattle.sim_blocks.specs.declared.writes.Store.{Store}

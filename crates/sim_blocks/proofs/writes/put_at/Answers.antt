@@ -1,6 +1,6 @@
 use Rattle.std.proofs.Common.{None, get_or, sym, ap, ◌∙◌, ◌≤◌, length, arith}
 use Rattle.sim_blocks.proofs.Putting.{same_places, slots_put, is_put}
-use Rattle.sim_lower.proofs.FromNets.{not_missing}
+use Rattle.sim_lower.proofs.AtomSlots.{not_missing}
 use Rattle.sim_blocks.proofs.Readying.{past_some}
 use Rattle.sim_blocks.proofs.writes.put_at.Goals as goal
 

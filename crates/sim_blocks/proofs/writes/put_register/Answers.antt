@@ -4,7 +4,7 @@ use Rattle.sim_tape.specs.Tape.{PairBefore}
 use Rattle.sim_tape.specs.Trees.{tree_of}
 use Rattle.sim_tape.proofs.Growing.{solved_on}
 use Rattle.sim_lower.specs.Nets.{IsAtom, Told}
-use Rattle.sim_lower.proofs.FromNets.{some_is, slots_on}
+use Rattle.sim_lower.proofs.AtomSlots.{some_is, slots_on}
 use Rattle.sim_blocks.proofs.Putting.{nets_put}
 use Rattle.sim_blocks.proofs.Readying.{has_place, pair_there}
 use Rattle.sim_blocks.proofs.writes.put_register.Goals as goal

@@ -3,7 +3,7 @@ use Rattle.std.specs.List.{list_all}
 use Rattle.std.proofs.lemmas.Bool.{OnTrue_at, OnTrue_from}
 use Rattle.vlog_tree.specs.Cycle.{atom_value}
 use Rattle.vlog_ref_cycle.specs.Next.{step_next}
-use Rattle.sim_lower.proofs.FromNets.{slots_on}
+use Rattle.sim_lower.proofs.AtomSlots.{slots_on}
 use Rattle.sim_blocks.specs.Next.{ShowsNext}
 use Rattle.sim_blocks.proofs.Putting.{cell_put}
 use Rattle.sim_blocks.proofs.Storing.{net_stored}
