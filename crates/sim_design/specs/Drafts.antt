@@ -21,8 +21,8 @@ use Rattle.sim_nets.specs.Flat.{IsFlat, HasNumber}
 use Rattle.sim_design.specs.declared.drafts.Commit.{Commit}
 use Rattle.sim_design.specs.declared.drafts.Width.{Width}
 use Rattle.sim_design.specs.declared.drafts.Draft.{Draft}
-use Rattle.sim_design.specs.Valuations.{IsLawful, IsValuation}
-use Rattle.sim_design.specs.States.{IsFree, ShowsPlaced, Tells}
+use Rattle.sim_placed.specs.Valuations.{IsLawful, IsValuation}
+use Rattle.sim_placed.specs.States.{IsFree, ShowsPlaced, Tells}
 
 -- just the nets that can be read, but the clocks, have pairs of slots
 pub record ArePlaced (ms : List ModuleTree) (top : ModuleTree) (f : Flat) (pairs : List (Option Pair)) : Type 0 where

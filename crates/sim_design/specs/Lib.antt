@@ -1,3 +1,1 @@
-pub mod Valuations
-pub mod States
 pub mod Drafts

@@ -1,0 +1,13 @@
+use Rattle.std.proofs.Common.{◌≡◌, sym}
+use Rattle.vlog_tree.specs.Flattened.{FlatNet}
+use Rattle.sim_nets.specs.Flat.{AreJoined}
+use Rattle.sim_placed.proofs.Joining.{same_number, linked, linked_there}
+use Rattle.sim_placed.proofs.joined.pair_inside.Goals as goal
+
+pub returns-clause-told : goal.returns-clause-told
+returns-clause-told c = λ ms top j n flat h d.
+    linked ms top c.args.flat.now c.args.pairs.now n (λ a b. AreJoined ms top b a) (λ b q k v. sym (same_number ms top b n q k v)) c.net_inside-number.result (c.net_inside-number.ensures ms top j n flat h d) c.pair_of.result c.pair_of.ensures
+
+pub returns-clause-some : goal.returns-clause-some
+returns-clause-some c = λ ms top j n flat h d placed.
+    linked_there ms top c.args.flat.now c.args.pairs.now n (λ a b. AreJoined ms top b a) (λ b q k v. sym (same_number ms top b n q k v)) c.net_inside-number.result (c.net_inside-number.ensures ms top j n flat h d) c.pair_of.result c.pair_of.ensures placed

@@ -1,0 +1,3 @@
+pub mod Valuations
+pub mod States
+pub mod Lines

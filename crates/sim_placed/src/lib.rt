@@ -1,0 +1,10 @@
+//! The nets of a whole design on a tape, one after another: a pair of slots has the number of a net wherever those that it has its number from have theirs.
+#![tactic(auto)]
+
+mod driven;
+mod joined;
+mod slices;
+
+pub use driven::pair_of_line;
+pub use joined::{pair_around, pair_inside};
+pub use slices::{pair_of, part_of};
