@@ -1,5 +1,5 @@
 -- Nets that lines drive.
-use Rattle.std.proofs.Common.{◌≡◌, ℕ, ◌+◌, ◌<◌, ◌≤◌, true, List, inl, inr, Option, Some, None, length, get_or, take, drop, refl, sym, ap, subst, ◌∙◌, arith}
+use Rattle.std.proofs.Common.{◌≡◌, ℕ, ◌+◌, ◌<◌, ◌≤◌, true, List, inl, inr, Option, Some, length, get_or, take, drop, refl, sym, ap, subst, ◌∙◌, arith}
 use Rattle.std.specs.Prelude.{IsSome, IsTrue}
 use Rattle.vlog_tree.specs.declared.tree.Value.{Value}
 use Rattle.vlog_tree.specs.declared.tree.Value.TheVariants.{Plain, Invert, Binary, Choose, Concat, Repeat, Cell}
@@ -10,7 +10,6 @@ use Rattle.vlog_tree.specs.declared.tree.Item.TheVariants.{Assign}
 use Rattle.vlog_tree.specs.declared.table.Declaration.{Declaration}
 use Rattle.vlog_tree.specs.Form.{ModuleTree}
 use Rattle.vlog_tree.specs.Grounded.{Has}
-use Rattle.vlog_tree.specs.Refused.{IsDesign}
 use Rattle.vlog_tree.specs.Table.{Name, declared, bits_of, net_kind_of, net_kind_is_driven, net_kind_is_read, net_kind_is_memory}
 use Rattle.vlog_tree.specs.V3.{value_fits}
 use Rattle.vlog_tree.specs.Cycle.{Cycle, Sizes, Path, Holds, driven, module_at}
@@ -20,7 +19,7 @@ use Rattle.vlog_law_runs.proofs.Sound.{assign_driven, assign_reads, assign_cell}
 use Rattle.vlog_law_runs.proofs.Settled.{module_in}
 use Rattle.vlog_law_widths.proofs.Ruled.{assign_width, net_width}
 use Rattle.sim_tape.specs.declared.gates.Pair.{Pair}
-use Rattle.sim_tape.specs.Tape.{TapeTree, pair_value}
+use Rattle.sim_tape.specs.Tape.{TapeTree}
 use Rattle.vlog_law_runs.proofs.Alike.{memory_is}
 use Rattle.vlog_law_runs.proofs.Parts.{part_line, driver_part}
 use Rattle.sim_lower.specs.Nets.{pair_in, HavePairs}
@@ -29,7 +28,7 @@ use Rattle.sim_flat.specs.Instances.{StandsAt, IsModuleOf}
 use Rattle.sim_nets.specs.declared.flat.Flat.{Flat}
 use Rattle.sim_nets.specs.Flat.{IsFlat}
 use Rattle.sim_nets.proofs.Standing.{module_of}
-use Rattle.sim_placed.specs.Valuations.{IsLawful, IsValuation}
+use Rattle.sim_placed.specs.Valuations.{IsLawful}
 use Rattle.sim_placed.specs.States.{AreRead, AreMemories, MemoriesPlaced, PartsPlaced, IsTold}
 use Rattle.sim_placed.proofs.Parts.{base, part, there, shows_nets, shows_memories}
 

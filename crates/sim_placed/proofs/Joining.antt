@@ -1,5 +1,5 @@
 -- Nets that are joined by instances have the same numbers.
-use Rattle.std.proofs.Common.{◌≡◌, ℕ, List, ◌∷◌, Option, Some, None, get_or, refl, sym, ap, subst, ◌∙◌}
+use Rattle.std.proofs.Common.{◌≡◌, ℕ, List, ◌∷◌, Option, None, get_or, sym, ap, ◌∙◌}
 use Rattle.std.specs.Prelude.{option_and_then, is_some, IfSome, IsSome}
 use Rattle.std.specs.List.{AllByRecursion}
 use Rattle.vlog_tree.specs.declared.tree.Connection.{Connection}

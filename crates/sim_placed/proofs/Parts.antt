@@ -1,6 +1,6 @@
 -- The nets and memories of one instance among those of a flattened design.
-use Rattle.std.proofs.Common.{◌≡◌, ℕ, ◌+◌, ◌-◌, ◌*◌, ◌^◌, ◌<◌, ◌≤◌, Bool, true, false, cond, List, Option, Some, None, length, get_or, take, drop, inl, inr, refl, sym, ap, subst, ◌∙◌, map, length-take, arith}
-use Rattle.std.specs.Prelude.{IsTrue, IsSome, is_some, slice_get, nat_lt, min}
+use Rattle.std.proofs.Common.{◌≡◌, ℕ, ◌+◌, ◌-◌, ◌^◌, ◌<◌, ◌≤◌, Bool, true, false, cond, List, Option, Some, None, length, get_or, take, drop, inl, refl, sym, ap, subst, ◌∙◌, map, length-take, arith}
+use Rattle.std.specs.Prelude.{IsSome, is_some, nat_lt, min}
 use Rattle.std.proofs.Math.Pow.{pow_pos}
 use Rattle.std.proofs.lemmas.Bool.{ltb-true, false≢true}
 use Rattle.std.proofs.lemmas.List.{get_or-take, get_or-drop, get_or_past}
@@ -11,8 +11,7 @@ use Rattle.vlog_tree.specs.declared.table.NetKind.{NetKind}
 use Rattle.vlog_tree.specs.declared.table.NetKind.TheVariants.{MemoryArray, Unknown}
 use Rattle.vlog_tree.specs.Form.{ModuleTree}
 use Rattle.vlog_tree.specs.Grounded.{Has}
-use Rattle.vlog_tree.specs.Flattened.{FlatNet}
-use Rattle.vlog_tree.specs.Table.{Name, is_clk, declared, declaration_name, find_name, unknown, net_kind_of, net_kind_is_read, bits_of, cells_of, first_violation}
+use Rattle.vlog_tree.specs.Table.{Name, declared, declaration_name, find_name, unknown, net_kind_of, net_kind_is_read, bits_of, cells_of, first_violation}
 use Rattle.vlog_tree.specs.V2.{v2_uses}
 use Rattle.vlog_tree.specs.Cycle.{Cycle, Sizes, Path, Holds, and_then, module_at, read_cell}
 use Rattle.vlog_rules.specs.NameTable.{places_from}
@@ -20,8 +19,7 @@ use Rattle.vlog_rules.proofs.Found.{found, missing, within}
 use Rattle.vlog_law_runs.proofs.Alone.{stands_for}
 use Rattle.vlog_law_runs.proofs.Sizes.{all_at, memory_item, has_line, width_held}
 use Rattle.sim_tape.specs.declared.gates.Pair.{Pair}
-use Rattle.sim_tape.specs.Operators.{Cells, cell_in}
-use Rattle.sim_tape.specs.Tape.{pair_value}
+use Rattle.sim_tape.specs.Operators.{Cells}
 use Rattle.sim_lower.specs.Nets.{pair_in, ShowsNets, ShowsMemories}
 use Rattle.sim_blocks.proofs.Putting.{named}
 use Rattle.sim_flat.specs.Instances.{StandsAt, IsModuleOf}
@@ -29,7 +27,7 @@ use Rattle.sim_nets.specs.declared.flat.Flat.{Flat}
 use Rattle.sim_nets.specs.Places.{DeclaredAt}
 use Rattle.sim_nets.specs.Flat.{HasNumber}
 use Rattle.sim_placed.specs.Valuations.{IsLawful, IsValuation}
-use Rattle.sim_placed.specs.States.{CellsAre, ShowsPlaced, ShowsCells, AreRead, AreMemories}
+use Rattle.sim_placed.specs.States.{ShowsPlaced, ShowsCells, AreRead, AreMemories}
 
 none_past : (pairs : List (Option Pair)) (base count j : ℕ) → count ≤ j → get_or (take count (drop base pairs)) j None ≡ None
 none_past pairs base count j h =

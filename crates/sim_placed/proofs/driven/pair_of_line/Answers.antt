@@ -1,4 +1,4 @@
-use Rattle.std.proofs.Common.{◌≡◌, ◌+◌, ◌≤◌, length, get_or, sym, subst, ◌∙◌}
+use Rattle.std.proofs.Common.{◌≤◌, get_or, sym, subst, ◌∙◌}
 use Rattle.std.specs.Prelude.{IsTrue}
 use Rattle.std.proofs.lemmas.Option.{IfSome_then}
 use Rattle.vlog_tree.specs.Table.{declared, bits_of}

@@ -1,5 +1,3 @@
-use Rattle.std.proofs.Common.{◌≡◌}
-use Rattle.vlog_tree.specs.Flattened.{FlatNet}
 use Rattle.sim_nets.specs.Flat.{AreJoined}
 use Rattle.sim_placed.proofs.Joining.{same_number, linked, linked_there}
 use Rattle.sim_placed.proofs.joined.pair_around.Goals as goal
