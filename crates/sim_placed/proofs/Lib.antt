@@ -1,3 +1,5 @@
 pub mod Parts
 pub mod Driving
 pub mod Joining
+pub mod Answering
+pub mod Owning

@@ -56,7 +56,7 @@ module _ (ms : List ModuleTree) (f : Flat) (k : ℕ) (low : k < length f.instanc
     pub got : get_or pairs (base + place) None ≡ Some p
 
   -- the place of a name
-  declared_here : (x : Name) (q : ℕ × Bool) → places_from 0 (map declaration_name (declared m)) x ≡ Some q → DeclaredAt m q.0 x
+  pub declared_here : (x : Name) (q : ℕ × Bool) → places_from 0 (map declaration_name (declared m)) x ≡ Some q → DeclaredAt m q.0 x
   declared_here x q e =
       let inside : q.0 < length (declared m) = within (declared m) x q.0 q.1 e in
       let d : Declaration = get_or (declared m) q.0 unknown in

@@ -1,3 +1,4 @@
 pub mod Valuations
 pub mod States
 pub mod Lines
+pub mod Plans

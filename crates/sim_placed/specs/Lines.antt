@@ -1,5 +1,6 @@
 -- A line of an instance that drives a net.
-use Rattle.std.specs.Prelude.{◌≡◌, ℕ, ◌<◌, List, length, get_or}
+use Rattle.std.specs.Prelude.{◌≡◌, ℕ, ◌<◌, List, Option, Some, length, get_or, slice_get}
+use Rattle.tapa_base.specs.declared.shape.Port.{Port}
 use Rattle.vlog_tree.specs.declared.tree.Value.{Value}
 use Rattle.vlog_tree.specs.declared.tree.Item.TheVariants.{Assign}
 use Rattle.vlog_tree.specs.declared.table.Declaration.{Declaration}
@@ -20,3 +21,9 @@ pub record IsLine (ms : List ModuleTree) (f : Flat) (spot : Spot) (names : List 
   pub declares : names ≡ declared m
   pub wide : bits ≡ bits_of (declared m) x
   pub line : Has m.items (Assign x e)
+
+-- a label stands at a place
+pub record IsLabelAt (labels : List Port) (i : ℕ) (label : Name) : Type 0 where
+  pub port : Port
+  pub got : slice_get labels i ≡ Some port
+  pub is : port.name ≡ label

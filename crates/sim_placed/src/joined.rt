@@ -5,7 +5,8 @@ ghost use Rattle.vlog_tree.specs.Form.{ModuleTree};
 ghost use Rattle.vlog_tree.specs.Flattened.{FlatNet};
 ghost use Rattle.vlog_tree.specs.Cycle.{Cycle, Path};
 ghost use Rattle.vlog_tree.specs.Table.{declared, net_kind_of, net_kind_is_input};
-ghost use Rattle.sim_tape.specs.Tape.{pair_value};
+ghost use Rattle.sim_tape.specs.Tape.{pair_value, PairBefore};
+ghost use Rattle.sim_lower.specs.Nets.{SlotsBefore};
 ghost use Rattle.sim_nets.specs.Tables.{IsDrivenByPort};
 ghost use Rattle.sim_nets.specs.Flat.{IsFlat, IsNetAt};
 ghost use Rattle.sim_placed.specs.Valuations.{IsValuation};
@@ -22,6 +23,7 @@ pub fn pair_around(
     instance: usize,
     place: usize,
 ) -> Option<Pair>
+    ensures slots { (n : ℕ) → SlotsBefore pairs.now n → IfSome result (λ p. PairBefore n p) }
     ensures told { (ms : List ModuleTree) (top : ModuleTree) (n : FlatNet) → IsFlat ms top flat.now → 0 < instance → (h : IsNetAt ms flat.now instance place n) → net_kind_is_input (net_kind_of (declared h.tree) n.1) ≡ true
         → IfSome result (λ p. (c : Path → Cycle) (ns : List ℕ) → IsValuation ms top c → ShowsPlaced ms flat.now pairs.now c ns → (c n.0).net n.1 ≡ pair_value ns p) }
     ensures some { (ms : List ModuleTree) (top : ModuleTree) (n : FlatNet) → IsFlat ms top flat.now → 0 < instance → (h : IsNetAt ms flat.now instance place n) → net_kind_is_input (net_kind_of (declared h.tree) n.1) ≡ true
@@ -39,6 +41,7 @@ pub fn pair_inside(
     child: usize,
     port: usize,
 ) -> Option<Pair>
+    ensures slots { (n : ℕ) → SlotsBefore pairs.now n → IfSome result (λ p. PairBefore n p) }
     ensures told { (ms : List ModuleTree) (top : ModuleTree) (j : ℕ) (n : FlatNet) → IsFlat ms top flat.now → (h : IsNetAt ms flat.now instance j n) → IsDrivenByPort ms h.tree j child port
         → IfSome result (λ p. (c : Path → Cycle) (ns : List ℕ) → IsValuation ms top c → ShowsPlaced ms flat.now pairs.now c ns → (c n.0).net n.1 ≡ pair_value ns p) }
     ensures some { (ms : List ModuleTree) (top : ModuleTree) (j : ℕ) (n : FlatNet) → IsFlat ms top flat.now → (h : IsNetAt ms flat.now instance j n) → IsDrivenByPort ms h.tree j child port

@@ -1,13 +1,15 @@
 // Pairs of all nets of a design, and those of one instance.
 
-ghost use Rattle.std.specs.Prelude.{◌≡◌, ◌+◌, ◌≤◌, ℕ, None, length, get_or, take, drop, option_and_then};
+ghost use Rattle.std.specs.Prelude.{◌≡◌, ◌+◌, ◌≤◌, ℕ, None, length, get_or, take, drop, option_and_then, IfSome};
+ghost use Rattle.sim_tape.specs.Tape.{PairBefore};
 ghost use Rattle.sim_lower.specs.Nets.{SlotsBefore};
 
 use sim_tape::Pair;
 
 /// The pair of a number.
 pub fn pair_of(pairs: &[Option<Pair>], number: Option<usize>) -> Option<Pair>
-    ensures { result ≡ option_and_then (λ k. get_or pairs.now k None) number }
+    ensures value { result ≡ option_and_then (λ k. get_or pairs.now k None) number }
+    ensures slots { (n : ℕ) → SlotsBefore pairs.now n → IfSome result (λ p. PairBefore n p) }
 {
     match number {
         Some(k) => match pairs.get(k) {

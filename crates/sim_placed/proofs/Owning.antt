@@ -1,0 +1,134 @@
+-- Nets by their numbers, and what they have their numbers from.
+use Rattle.std.proofs.Common.{◌≡◌, ℕ, ◌+◌, ◌<◌, true, List, [], ◌∷◌, map, Option, Some, None, length, get_or, refl, sym, ap, subst, ◌∙◌, arith}
+use Rattle.std.specs.Prelude.{slice_get}
+use Rattle.std.proofs.lemmas.Option.{same_Some, slice_get_within}
+use Rattle.vlog_tree.specs.declared.tree.Value.{Value}
+use Rattle.vlog_tree.specs.declared.tree.Item.{Item}
+use Rattle.vlog_tree.specs.declared.tree.Item.TheVariants.{Assign}
+use Rattle.vlog_tree.specs.Form.{ModuleTree}
+use Rattle.vlog_tree.specs.Flattened.{FlatNet}
+use Rattle.vlog_tree.specs.declared.table.Declaration.{Declaration}
+use Rattle.vlog_tree.specs.declared.table.NetKind.TheVariants as kind
+use Rattle.vlog_tree.specs.Grounded.{Has}
+use Rattle.vlog_tree.specs.Cycle.{Path, module_at}
+use Rattle.vlog_tree.specs.Labels.{rdata_of, m_rdata}
+use Rattle.vlog_tree.specs.V6.{has_all_five}
+use Rattle.vlog_tree.specs.Table.{Name, declared, port_declared, net_kind_of, bits_of}
+use Rattle.vlog_law_runs.proofs.Sizes.{declared_net_kind}
+use Rattle.vlog_law_runs.proofs.Settled.{module_in, top_tree}
+use Rattle.vlog_law_runs.proofs.Labelled.{rdata_label}
+use Rattle.vlog_law_runs.proofs.TopPorts.{input_port, all_five}
+use Rattle.vlog_tree.proofs.Lists.{has_got}
+use Rattle.sim_flat.specs.Instances.{StandsAt, IsModuleOf}
+use Rattle.sim_nets.specs.declared.flat.Flat.{Flat}
+use Rattle.sim_nets.specs.declared.tables.Source.{Source}
+use Rattle.sim_nets.specs.declared.tables.Source.TheVariants as source
+use Rattle.sim_nets.specs.declared.tables.Table.{Table}
+use Rattle.sim_nets.specs.Tables.{IsSource, IsTable}
+use Rattle.sim_nets.specs.Flat.{IsFlat, IsNetAt, HasNumber}
+use Rattle.sim_nets.specs.Edges.{table_at, lines_at}
+use Rattle.sim_nets.proofs.Standing.{module_of, table_of, lines_are, top_is}
+use Rattle.sim_placed.specs.declared.driven.Spot.{Spot}
+use Rattle.sim_placed.specs.Lines.{IsLine}
+use Rattle.sim_placed.specs.Plans.{IsAtSpot}
+
+module _ (ms : List ModuleTree) (top : ModuleTree) (f : Flat) (flat : IsFlat ms top f) where
+  -- the owner of a number is the instance of its net
+  owner_is : (number k : ℕ) (n : FlatNet) (h : HasNumber ms f number n) → Some k ≡ slice_get f.owners.items number → k ≡ h.instance
+  owner_is number k n h e =
+      same_Some k h.instance
+      (e ∙ ap (λ i. slice_get f.owners.items i) h.is ∙ flat.numbers.owned h.instance h.place h.at.tree h.at.there h.at.of_module (slice_get_within (declared h.at.tree) h.place h.at.declared_at.0 h.at.declared_at.1))
+
+  net_there : (k j : ℕ) (n : FlatNet) (i p : ℕ) → IsNetAt ms f i p n → k ≡ i → j ≡ p → IsNetAt ms f k j n
+  net_there k j n i p at e g = subst (λ a. IsNetAt ms f a j n) (sym e) (subst (λ b. IsNetAt ms f i b n) (sym g) at)
+
+  -- the net of a number stands where it is looked for
+  pub stands_there : (number k j : ℕ) (n : FlatNet) → HasNumber ms f number n → Some k ≡ slice_get f.owners.items number → number ≡ get_or f.first_net.items k 0 + j → IsNetAt ms f k j n
+  stands_there number k j n h e is =
+      let same : k ≡ h.instance = owner_is number k n h e in
+      let there : number ≡ get_or f.first_net.items h.instance 0 + h.place = h.is in
+      let here : number ≡ get_or f.first_net.items h.instance 0 + j = subst (λ a. number ≡ get_or f.first_net.items a 0 + j) same is in
+      net_there k j n h.instance h.place h.at same (omega arith)
+
+  pub at_spot : (t : Table) (k base j number : ℕ) (n : FlatNet) → HasNumber ms f number n → Some k ≡ slice_get f.owners.items number → Some t ≡ table_at f k → base ≡ get_or f.first_net.items k 0 → number ≡ base + j
+      → IsAtSpot ms f t (record { instance = k; base = base }) j n
+  at_spot t k base j number n h e got first is =
+      let at = stands_there number k j n h e (is ∙ ap (λ b. b + j) first) in
+      let r = table_of ms top f flat k n.0 at.tree at.there at.stands at.of_module in
+      let same : t ≡ r.0 = same_Some t r.0 (got ∙ r.1) in
+      record { at = at; first = first; table = subst (λ (t : Table). IsTable ms at.tree t) (sym same) r.2 }
+
+  module _ (t : Table) (spot : Spot) (place : ℕ) (n : FlatNet) (a : IsAtSpot ms f t spot place n) where
+    -- what the net has its number from
+    pub from_source : (s : Source) → s ≡ get_or t.sources.items place source.Nothing → IsSource ms a.at.tree place a.at.declared_at.0 s
+    from_source s e = subst (λ (s : Source). IsSource ms a.at.tree place a.at.declared_at.0 s) (sym e) (a.table.sources place a.at.declared_at.0 a.at.declared_at.1)
+
+    abbrev tree : ModuleTree
+    tree = a.at.tree
+
+    abbrev d : Declaration
+    d = a.at.declared_at.0
+
+    -- the line that drives the net
+    pub is_line : (at bits : ℕ) (item : Item) (x : Name) (e : Value) (items : List Item) → source.Line at ≡ get_or t.sources.items place source.Nothing → items ≡ lines_at ms f spot.instance → Some item ≡ slice_get items at → item ≡ Assign x e → bits ≡ bits_of t.scope x
+        → (x ≡ n.1) × IsLine ms f spot t.scope n.0 tree x e bits
+    is_line at bits item x e items s are got is wide =
+        let r = from_source (source.Line at) s in
+        let lines : lines_at ms f spot.instance ≡ tree.items = lines_are ms top f flat spot.instance n.0 tree a.at.there a.at.stands a.at.of_module in
+        let same : Assign x e ≡ Assign d.name r.0 = same_Some (Assign x e) (Assign d.name r.0) (ap (λ (i : Item). Some i) (sym is) ∙ got ∙ ap (λ l. slice_get l at) (are ∙ lines) ∙ r.1) in
+        let name : x ≡ d.name = cc same in (
+          name ∙ a.at.declared_at.2,
+          record {
+            there = a.at.there;
+            stands = a.at.stands;
+            of_module = a.at.of_module;
+            first = a.first;
+            declares = a.table.names;
+            wide = wide ∙ ap (λ ds. bits_of ds x) a.table.names;
+            line = has_got tree.items at (Assign x e) (r.1 ∙ ap (λ (i : Item). Some i) (sym same));
+          },
+        )
+
+    -- the name at the place is the net's
+    pub name_is : (e : Declaration) → Some e ≡ slice_get t.scope place → e.name ≡ n.1
+    name_is e got =
+        let same : e ≡ d = same_Some e d (got ∙ ap (λ ds. slice_get ds place) a.table.names ∙ a.at.declared_at.1) in
+        ap (λ (d : Declaration). d.name) same ∙ a.at.declared_at.2
+
+    at_path : module_at ms top n.0 ≡ Some tree
+    at_path = module_of ms top f flat spot.instance n.0 tree a.at.there a.at.stands a.at.of_module
+
+    in_ms : Has ms tree
+    in_ms = module_in ms top (has_got ms flat.top_place top flat.top_at) n.0 tree at_path
+
+    -- an input of a module
+    pub is_input_net : source.Input ≡ get_or t.sources.items place source.Nothing → net_kind_of (declared tree) n.1 ≡ kind.Input
+    is_input_net s =
+        let r = from_source source.Input s in
+        ap (λ y. net_kind_of (declared tree) y) (sym a.at.declared_at.2) ∙ declared_net_kind tree ms flat.design.sound.names in_ms d (has_got (declared tree) place d a.at.declared_at.1) ∙ r.0
+
+    -- the top stands at no name
+    no_way : (path : Path) → StandsAt ms f.instances.items spot.instance path → spot.instance ≡ 0 → path ≡ []
+    no_way [] h z = refl
+    no_way (i ∷ path) h z = let some : 0 < spot.instance = h.0 in absurd (omega arith)
+
+    pub at_top : spot.instance ≡ 0 → (n.0 ≡ []) × (tree ≡ top)
+    at_top z = (
+      no_way n.0 a.at.stands z,
+      same_Some tree top (sym (subst (λ k. IsModuleOf ms f.instances.items k tree) z a.at.of_module) ∙ top_is ms top f flat),
+    )
+
+    -- what a memory answers at a port of the top
+    pub is_answer : spot.instance ≡ 0 → source.Input ≡ get_or t.sources.items place source.Nothing → (label : Name) → rdata_of n.1 ≡ Some label
+        → (t.scope ≡ declared top) × (0 < length label) × (has_all_five (map port_declared top.ports) label ≡ true) × (n ≡ ([], m_rdata label))
+    is_answer z s label e =
+        let q = at_top z in
+        let l = rdata_label n.1 label e in
+        let top_here = top_tree ms flat.top_place flat.design top flat.top_at in
+        let p = input_port top n.1 (ap (λ (m : ModuleTree). net_kind_of (declared m) n.1) (sym q.1) ∙ is_input_net s) in
+        let five = all_five ms flat.design.outside top top_here.has top_here.is_top p.0 p.1 label (ap rdata_of p.2 ∙ e) in (
+          a.table.names ∙ ap declared q.1,
+          l.1,
+          five,
+          ap (λ (w : Path). (w, n.1)) q.0 ∙ ap (λ (y : Name). ([], y)) l.0,
+        )

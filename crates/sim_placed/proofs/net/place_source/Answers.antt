@@ -1,0 +1,27 @@
+use Rattle.std.proofs.Common.{◌≡◌, ◌<◌, ◌≤◌, sym, ap, ◌∙◌, arith}
+use Rattle.std.proofs.lemmas.Option.{IfSome_then}
+use Rattle.vlog_tree.specs.Table.{net_kind_is_input}
+use Rattle.sim_nets.specs.declared.tables.Source.TheVariants as source
+use Rattle.sim_placed.proofs.Owning.{from_source, is_input_net}
+use Rattle.sim_placed.proofs.net.place_source.Goals as goal
+
+pub returns-in_ok-driven-in-Line-clause-told : goal.returns-in_ok-driven-in-Line-clause-told
+returns-in_ok-driven-in-Line-clause-told c = λ ms top n plan a s count read.
+    c.in_ok-driven-in-Line.ensures.told ms top n plan a (sym c.in-Line.is ∙ s) count read
+
+pub returns-in-Child-clause-told : goal.returns-in-Child-clause-told
+returns-in-Child-clause-told c = λ ms top n plan a s count read.
+    let f = c.args.plan.now.flat.now in
+    let d = from_source ms top f plan.flat c.args.table.now c.args.spot c.args.place n a (source.Child c.in-Child.child c.in-Child.port) (sym c.in-Child.is ∙ s) in
+    IfSome_then c.pair_inside-inside.result (c.pair_inside-inside.ensures.told ms top c.args.place n plan.flat a.at d) (λ p h cells ns k solved v shows_cells shows. h k ns v shows)
+
+pub returns-then-spot-gt0-clause-told : goal.returns-then-spot-gt0-clause-told
+returns-then-spot-gt0-clause-told c = λ ms top n plan a s count read.
+    let f = c.args.plan.now.flat.now in
+    let input = is_input_net ms top f plan.flat c.args.table.now c.args.spot c.args.place n a (sym c.in-Input.is ∙ s) in
+    IfSome_then c.pair_around-around.result (c.pair_around-around.ensures.told ms top n plan.flat c.if-spot-gt0.true a.at (ap net_kind_is_input input)) (λ p h cells ns k solved v shows_cells shows. h k ns v shows)
+
+pub returns-in_ok-answered-in-Input-clause-told : goal.returns-in_ok-answered-in-Input-clause-told
+returns-in_ok-answered-in-Input-clause-told c = λ ms top n plan a s count read.
+    let none : c.args.spot.instance ≡ 0 = omega arith in
+    c.in_ok-answered-in-Input.ensures.told ms top n plan a none (sym c.in-Input.is ∙ s)
