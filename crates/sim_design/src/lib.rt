@@ -1,9 +1,6 @@
-//! A whole design on a tape: each net that can be read has a pair of slots with its number, in each cycle that the tape shows, and registers and memories have what the next cycle has.
+//! All nets of a design on a tape: in each array that solves the tape and shows the registers, inputs and memories of a cycle, each net's pair of slots has its number.
 #![tactic(auto)]
 
-mod drafts;
-mod memories;
-mod next;
-mod placing;
+mod all;
 
-pub use drafts::{Commit, Draft, Width, draft_of};
+pub use all::place_all;

@@ -1,5 +1,5 @@
 -- Nets that are joined by instances have the same numbers.
-use Rattle.std.proofs.Common.{◌≡◌, ℕ, List, ◌∷◌, Option, None, get_or, sym, ap, ◌∙◌}
+use Rattle.std.proofs.Common.{◌≡◌, ℕ, List, ◌∷◌, Option, None, get_or, sym, ap, ◌∙◌, Some}
 use Rattle.std.specs.Prelude.{option_and_then, is_some, IfSome, IsSome}
 use Rattle.std.specs.List.{AllByRecursion}
 use Rattle.vlog_tree.specs.declared.tree.Connection.{Connection}
@@ -35,3 +35,8 @@ module _ (ms : List ModuleTree) (top : ModuleTree) where
 
     pub linked_there : PartsPlaced ms top f pairs n → IsSome found
     linked_there placed = ap (λ o. is_some o) got ∙ placed link.number link.net link.has_number link.part
+
+-- what holds whatever the value is
+pub if_some : {A : Type 0} (P : Type 0) (o : Option A) → P → IfSome o (λ x. P)
+if_some P None h = tt
+if_some P (Some x) h = h

@@ -1,5 +1,5 @@
 -- Nets by their numbers, and what they have their numbers from.
-use Rattle.std.proofs.Common.{◌≡◌, ℕ, ◌+◌, ◌<◌, true, List, [], ◌∷◌, map, Option, Some, None, length, get_or, refl, sym, ap, subst, ◌∙◌, arith}
+use Rattle.std.proofs.Common.{◌≡◌, ℕ, ◌+◌, ◌<◌, true, false, List, [], ◌∷◌, map, Option, Some, None, length, get_or, refl, sym, ap, subst, ◌∙◌, arith}
 use Rattle.std.specs.Prelude.{slice_get}
 use Rattle.std.proofs.lemmas.Option.{same_Some, slice_get_within}
 use Rattle.vlog_tree.specs.declared.tree.Value.{Value}
@@ -13,7 +13,7 @@ use Rattle.vlog_tree.specs.Grounded.{Has}
 use Rattle.vlog_tree.specs.Cycle.{Path, module_at}
 use Rattle.vlog_tree.specs.Labels.{rdata_of, m_rdata}
 use Rattle.vlog_tree.specs.V6.{has_all_five}
-use Rattle.vlog_tree.specs.Table.{Name, declared, port_declared, net_kind_of, bits_of}
+use Rattle.vlog_tree.specs.Table.{Name, is_clk, declared, port_declared, net_kind_of, net_kind_is_read, bits_of}
 use Rattle.vlog_law_runs.proofs.Sizes.{declared_net_kind}
 use Rattle.vlog_law_runs.proofs.Settled.{module_in, top_tree}
 use Rattle.vlog_law_runs.proofs.Labelled.{rdata_label}
@@ -131,4 +131,16 @@ module _ (ms : List ModuleTree) (top : ModuleTree) (f : Flat) (flat : IsFlat ms 
           l.1,
           five,
           ap (λ (w : Path). (w, n.1)) q.0 ∙ ap (λ (y : Name). ([], y)) l.0,
+        )
+
+    -- a net that can be read, and no clock
+    pub is_read_net : (e : Declaration) (m : ModuleTree) → Some e ≡ slice_get t.scope place → module_at ms top n.0 ≡ Some m → net_kind_is_read e.net_kind ≡ true → is_clk e.name ≡ false
+        → (net_kind_is_read (net_kind_of (declared m) n.1) ≡ true) × (is_clk n.1 ≡ false)
+    is_read_net e m got there read clock =
+        let same : e ≡ d = same_Some e d (got ∙ ap (λ ds. slice_get ds place) a.table.names ∙ a.at.declared_at.1) in
+        let name : d.name ≡ n.1 = a.at.declared_at.2 in
+        let kind_is : net_kind_of (declared tree) n.1 ≡ d.net_kind = ap (λ y. net_kind_of (declared tree) y) (sym name) ∙ declared_net_kind tree ms flat.design.sound.names in_ms d (has_got (declared tree) place d a.at.declared_at.1) in
+        let it : tree ≡ m = same_Some tree m (sym at_path ∙ there) in (
+          ap (λ (k : ModuleTree). net_kind_is_read (net_kind_of (declared k) n.1)) (sym it) ∙ ap net_kind_is_read (kind_is ∙ ap (λ (d : Declaration). d.net_kind) (sym same)) ∙ read,
+          ap is_clk (sym name) ∙ ap (λ (d : Declaration). is_clk d.name) (sym same) ∙ clock,
         )

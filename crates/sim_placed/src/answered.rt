@@ -1,6 +1,7 @@
 // What the memories outside answer.
 
-ghost use Rattle.std.specs.Prelude.{◌≡◌, ◌<◌, true, [], List, Option, Some, length, map, slice_get, IfOk, IfSome, codes, ◌++◌};
+ghost use Rattle.std.specs.Prelude.{◌≡◌, ◌<◌, true, [], List, Option, Some, length, map, slice_get, IfOk, IfSome};
+ghost use Rattle.std.specs.Str.{IsAscii};
 ghost use Rattle.tapa_base.specs.declared.shape.Port.{Port as PortTree};
 ghost use Rattle.vlog_tree.specs.Form.{ModuleTree};
 ghost use Rattle.vlog_tree.specs.Labels.{m_rdata};
@@ -46,6 +47,7 @@ pub(crate) fn pair_of_answer(
 ) -> Result<Option<Pair>, AllocError>
     requires tape { IsTape (tree_of tape.old) }
     requires slots { SlotsBefore pairs.now (length (tree_of tape.old).gates) }
+    requires ascii { IsAscii label.now }
     ensures extends { Extends (tree_of tape.old) (tree_of tape.new) }
     ensures slots { IfOk result (λ o. IfSome o (λ p. PairBefore (length (tree_of tape.new).gates) p)) }
     ensures told { (ms : List ModuleTree) (top : ModuleTree) (f : FlatTree) (memories : List (Option PairTree)) → IsFlat ms top f → scope.now ≡ declared top → outside.now ≡ (shape_of top).memories → 0 < length label.now → has_all_five (map port_declared top.ports) label.now ≡ true

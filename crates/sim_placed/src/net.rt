@@ -1,8 +1,10 @@
 // A net of a design on a tape.
 
-ghost use Rattle.std.specs.Prelude.{◌≡◌, ◌<◌, [], List, Some, length, get_or, slice_get, option_copied, IfOk, IfSome};
+ghost use Rattle.std.specs.Prelude.{◌≡◌, ◌<◌, [], List, Some, length, get_or, slice_get, option_copied, false, IfOk, IfSome, IsTrue};
 ghost use Rattle.vlog_tree.specs.Form.{ModuleTree};
 ghost use Rattle.vlog_tree.specs.Flattened.{FlatNet};
+ghost use Rattle.vlog_tree.specs.Cycle.{module_at};
+ghost use Rattle.vlog_tree.specs.Table.{declared, is_clk, net_kind_of, net_kind_is_read};
 ghost use Rattle.sim_tape.specs.Tape.{Extends, IsTape, PairBefore};
 ghost use Rattle.sim_tape.specs.Trees.{tree_of};
 ghost use Rattle.sim_lower.specs.Nets.{SlotsBefore};
@@ -18,6 +20,7 @@ use crate::plan::{Plan, base_at, lines_at, owner_of, source_at, table_at};
 use sim_nets::{Source, Table};
 use sim_tape::{Pair, Tape};
 use std::alloc::{AllocError, Global};
+use vlog_rules::{is_clock, is_read};
 use vlog_tree::{Declaration, Item, rdata_of};
 
 fn item_at(items: &[Item], at: usize) -> Option<&Item>
@@ -156,6 +159,8 @@ pub fn place_net(
     requires slots { SlotsBefore pairs.now (length (tree_of tape.old).gates) }
     ensures extends { Extends (tree_of tape.old) (tree_of tape.new) }
     ensures slots { IfOk result (λ o. IfSome o (λ p. PairBefore (length (tree_of tape.new).gates) p)) }
+    ensures read { (ms : List ModuleTree) (top : ModuleTree) (n : FlatNet) (m : ModuleTree) → IsPlan ms top plan.now → HasNumber ms plan.now.flat.now number n → module_at ms top n.0 ≡ Some m
+        → IfOk result (λ o. IfSome o (λ p. IsTrue (net_kind_is_read (net_kind_of (declared m) n.1)) × (is_clk n.1 ≡ false))) }
     ensures told { (ms : List ModuleTree) (top : ModuleTree) (n : FlatNet) → IsPlan ms top plan.now → HasNumber ms plan.now.flat.now number n → length pairs.now ≡ length plan.now.flat.now.owners.items → AreRead ms top plan.now.flat.now pairs.now
         → IfOk result (λ o. IfSome o (λ p. IsTold ms top plan.now.flat.now plan.now.memories.now pairs.now (tree_of tape.new) n p)) }
 {
@@ -170,6 +175,15 @@ pub fn place_net(
         return Ok(None);
     }
     let place = number - base;
+    let Some(d) = name_at(table, place) else {
+        return Ok(None);
+    };
+    if !is_read(d.net_kind) {
+        return Ok(None);
+    }
+    if is_clock(&d.name) {
+        return Ok(None);
+    }
     let source = source_at(table, place);
     let spot = Spot { instance, base };
     let placed = place_source(alloc, tape, plan, table, spot, place, source, pairs)?;

@@ -4,8 +4,12 @@ use Rattle.vlog_tree.specs.Labels.{m_addr}
 use Rattle.vlog_rules.specs.NameTable.{places_from}
 use Rattle.sim_tape.specs.Trees.{tree_of}
 use Rattle.sim_tape.proofs.Growing.{solved_on}
+use Rattle.vlog_ref_cycle.proofs.Ascii.{addr_ascii}
 use Rattle.sim_placed.proofs.Answering.{answer_told}
 use Rattle.sim_placed.proofs.answered.pair_of_answer.Goals as goal
+
+pub new-addr-requires : goal.new-addr-requires
+new-addr-requires c = addr_ascii c.in_ok-addr_name.field-0.items c.args.label.now c.in_ok-addr_name.ensures c.requires.ascii
 
 pub returns-clause-told : goal.returns-clause-told
 returns-clause-told c = λ ms top f memories flat names are some five.
