@@ -1,6 +1,8 @@
-//! All nets of a design on a tape: in each array that solves the tape and shows the registers, inputs and memories of a cycle, each net's pair of slots has its number.
+//! A whole design on a tape: what each net has, and what registers and memories have in the next cycle.
 #![tactic(auto)]
 
-mod all;
+mod drafts;
+mod memories;
+mod next;
 
-pub use all::place_all;
+pub use drafts::{Commit, Draft, Width, draft_of};

@@ -1,6 +1,6 @@
 -- What memories outside answer.
-use Rattle.std.proofs.Common.{◌≡◌, ℕ, ◌+◌, ◌*◌, ◌^◌, ◌<◌, Bool, true, false, ◌&&◌, List, [], ◌∷◌, Option, Some, None, length, get_or, refl, sym, ap, subst, ◌∙◌, map, arith}
-use Rattle.std.specs.Prelude.{◌==◌, not, slice_get, option_and_then}
+use Rattle.std.proofs.Common.{◌≡◌, ℕ, ◌+◌, ◌^◌, ◌<◌, Bool, true, ◌&&◌, List, [], Option, Some, None, length, get_or, refl, sym, ap, subst, ◌∙◌, map, arith}
+use Rattle.std.specs.Prelude.{◌==◌, not, slice_get}
 use Rattle.std.specs.Option.{option_map_or}
 use Rattle.std.proofs.lemmas.Bool.{eqb-true}
 use Rattle.tapa_base.specs.declared.shape.Port.{Port}
@@ -10,7 +10,6 @@ use Rattle.vlog_tree.specs.Grounded.{Has}
 use Rattle.vlog_tree.specs.Labels.{addr_of, m_addr, m_rdata}
 use Rattle.vlog_tree.specs.Table.{Name, declared, port_declared, items_declared, declaration_name, find_name, net_kind_of, net_kind_is_read, bits_of, first_violation}
 use Rattle.vlog_tree.specs.V6.{v6_uses, is_top, port_fits, addr_fits, wdata_fits, we_fits, has_all_five, is_out}
-use Rattle.vlog_tree.specs.Cycle.{Cycle, Path, module_at}
 use Rattle.vlog_tree.specs.Environment.{shape_of}
 use Rattle.vlog_tree.proofs.Lists.{of_map}
 use Rattle.vlog_rules.specs.NameTable.{places_from}
@@ -28,8 +27,7 @@ use Rattle.sim_lower.proofs.Pairs.{single, low_is}
 use Rattle.sim_nets.specs.declared.flat.Flat.{Flat}
 use Rattle.sim_nets.specs.Flat.{IsFlat, HasNumber}
 use Rattle.sim_nets.proofs.Standing.{top_low, top_is}
-use Rattle.sim_placed.specs.Valuations.{IsValuation}
-use Rattle.sim_placed.specs.States.{ShowsCells, ShowsPlaced, IsTold}
+use Rattle.sim_placed.specs.States.{IsTold}
 use Rattle.sim_placed.specs.Lines.{IsLabelAt}
 use Rattle.sim_placed.proofs.Parts.{numbered, declared_here}
 

@@ -3,3 +3,4 @@ pub mod Driving
 pub mod Joining
 pub mod Answering
 pub mod Owning
+pub mod Telling

@@ -2,3 +2,4 @@ pub mod Valuations
 pub mod States
 pub mod Lines
 pub mod Plans
+pub mod Placed

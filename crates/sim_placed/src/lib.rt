@@ -1,6 +1,7 @@
-//! The nets of a whole design on a tape, one after another: a pair of slots has the number of a net wherever those that it has its number from have theirs.
+//! The nets of a whole design on a tape, one after another: in each array that solves the tape and shows the registers, inputs and memories of a cycle, the pair of slots of each net has its number.
 #![tactic(auto)]
 
+mod all;
 mod answered;
 mod driven;
 mod joined;
@@ -8,6 +9,7 @@ mod net;
 mod plan;
 mod slices;
 
+pub use all::place_all;
 pub use driven::{Spot, pair_of_line};
 pub use joined::{pair_around, pair_inside};
 pub use net::place_net;

@@ -1,4 +1,4 @@
-use Rattle.std.proofs.Common.{◌≡◌, sym, ap, map, ◌∙◌}
+use Rattle.std.proofs.Common.{sym, ap, map, ◌∙◌}
 use Rattle.vlog_tree.specs.Table.{declaration_name}
 use Rattle.vlog_tree.specs.Labels.{m_addr}
 use Rattle.vlog_rules.specs.NameTable.{places_from}
@@ -15,8 +15,8 @@ pub returns-clause-told : goal.returns-clause-told
 returns-clause-told c = λ ms top f memories flat names are some five.
     let label = c.args.label.now in
     let place =
-        c.in-Some-place.ensures ∙ ap (λ y. places_from 0 (map declaration_name c.args.scope.now) y) (c.new-addr.ensures ∙ c.in_ok-addr_name.ensures)
-        ∙ ap (λ ds. places_from 0 (map declaration_name ds) (m_addr label)) names in
+    c.in-Some-place.ensures ∙ ap (λ y. places_from 0 (map declaration_name c.args.scope.now) y) (c.new-addr.ensures ∙ c.in_ok-addr_name.ensures)
+    ∙ ap (λ ds. places_from 0 (map declaration_name ds) (m_addr label)) names in
     answer_told ms top f flat label some five c.args.pairs.now memories c.args.outside.now c.in-Some.place are c.in-Some.ensures (c.in-Some-place.at, c.in-Some-place.field-0-1) (sym place) c.in-Some-pair_of.asked (sym c.in-Some-pair_of.ensures.value)
     (tree_of c.operate.new.self) c.in_ok-cell.ensures.extends.new_tape c.in_ok-cell.cell c.in_ok-memory.memory (λ cells ns h. c.in_ok-cell.ensures.says cells ns h)
     (λ cells ns h. c.in_ok-memory.ensures.says cells ns (solved_on _ _ c.in_ok-cell.ensures.extends cells ns h))

@@ -1,4 +1,4 @@
-use Rattle.std.proofs.Common.{◌≡◌, ◌+◌, ◌-◌, ◌≤◌, arith, sym, ◌∙◌}
+use Rattle.std.proofs.Common.{◌≡◌, ◌+◌, ◌-◌, arith, sym, ◌∙◌}
 use Rattle.sim_placed.proofs.Owning.{at_spot, is_read_net}
 use Rattle.sim_placed.proofs.Joining.{if_some}
 use Rattle.sim_placed.proofs.net.place_net.Goals as goal

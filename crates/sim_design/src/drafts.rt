@@ -4,7 +4,7 @@ ghost use Rattle.std.specs.Prelude.{◌≡◌, IfOk};
 ghost use Rattle.vlog_tree.specs.Form.{ModuleTree};
 ghost use Rattle.vlog_design.specs.Designs.{TopOf};
 ghost use Rattle.sim_nets.specs.Flat.{IsFlat};
-ghost use Rattle.sim_draft.specs.Drafts.{IsDraft};
+ghost use Rattle.sim_design.specs.Drafts.{IsDraft};
 
 use crate::memories::memories_of;
 use crate::next::add_next;

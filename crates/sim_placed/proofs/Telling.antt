@@ -1,6 +1,6 @@
 -- Nets that are placed one after another.
-use Rattle.std.proofs.Common.{◌≡◌, ℕ, ◌<◌, ◌≤◌, Bool, true, false, List, Option, Some, None, length, get_or, inl, inr, refl, sym, ap, subst, ◌∙◌}
-use Rattle.std.specs.Prelude.{◌⊎◌, is_some, slice_set, IfSome, IsTrue}
+use Rattle.std.proofs.Common.{◌≡◌, ℕ, ◌<◌, ◌≤◌, false, List, Option, Some, None, length, get_or, inl, inr, refl, sym, ap, subst, ◌∙◌}
+use Rattle.std.specs.Prelude.{is_some, slice_set, IfSome, IsTrue}
 use Rattle.std.proofs.lemmas.Bool.{cases_eq}
 use Rattle.std.proofs.lemmas.Grind.{get_or-set_at}
 use Rattle.std.proofs.lemmas.List.{get_or-set_other, length-set}
@@ -16,7 +16,7 @@ use Rattle.sim_lower.proofs.AtomSlots.{some_is}
 use Rattle.sim_nets.specs.declared.flat.Flat.{Flat}
 use Rattle.sim_nets.specs.Flat.{HasNumber}
 use Rattle.sim_placed.specs.States.{IsTold, AreRead, Tells}
-use Rattle.sim_design.specs.Placed.{AreFree, AreKept, ArePlacedMore}
+use Rattle.sim_placed.specs.Placed.{AreFree, AreKept, ArePlacedMore}
 
 none_of : {A : Type 0} (o : Option A) → is_some o ≡ false → o ≡ None
 none_of None e = refl

@@ -8,9 +8,10 @@ ghost use Rattle.sim_tape.specs.Trees.{tree_of};
 ghost use Rattle.sim_lower.specs.Nets.{SlotsBefore};
 ghost use Rattle.sim_placed.specs.Plans.{IsPlan};
 ghost use Rattle.sim_placed.specs.States.{AreRead, Tells};
-ghost use Rattle.sim_design.specs.Placed.{AreFree, ArePlacedMore, AreKept};
+ghost use Rattle.sim_placed.specs.Placed.{AreFree, ArePlacedMore, AreKept};
 
-use sim_placed::{Plan, place_net};
+use crate::net::place_net;
+use crate::plan::Plan;
 use sim_tape::{Pair, Tape};
 use std::alloc::{AllocError, Global};
 

@@ -18,9 +18,9 @@ use Rattle.sim_blocks.specs.declared.writes.Store.{Store}
 use Rattle.sim_blocks.specs.Next.{cell_after}
 use Rattle.sim_nets.specs.declared.flat.Flat.{Flat}
 use Rattle.sim_nets.specs.Flat.{IsFlat, HasNumber}
-use Rattle.sim_draft.specs.declared.drafts.Commit.{Commit}
-use Rattle.sim_draft.specs.declared.drafts.Width.{Width}
-use Rattle.sim_draft.specs.declared.drafts.Draft.{Draft}
+use Rattle.sim_design.specs.declared.drafts.Commit.{Commit}
+use Rattle.sim_design.specs.declared.drafts.Width.{Width}
+use Rattle.sim_design.specs.declared.drafts.Draft.{Draft}
 use Rattle.sim_placed.specs.Valuations.{IsLawful, IsValuation}
 use Rattle.sim_placed.specs.States.{IsFree, ShowsPlaced, Tells}
 

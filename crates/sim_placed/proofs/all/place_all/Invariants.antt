@@ -1,11 +1,11 @@
-use Rattle.std.proofs.Common.{ℕ, List, length}
+use Rattle.std.proofs.Common.{List, length}
 use Rattle.vlog_tree.specs.Form.{ModuleTree}
 use Rattle.sim_tape.specs.Tape.{Extends}
 use Rattle.sim_tape.specs.Trees.{tree_of}
 use Rattle.sim_lower.specs.Nets.{SlotsBefore}
 use Rattle.sim_placed.specs.Plans.{IsPlan}
-use Rattle.sim_design.specs.Placed.{AreKept, ArePlacedMore}
-use Rattle.sim_design.proofs.all.place_all.Given as goal
+use Rattle.sim_placed.specs.Placed.{AreKept, ArePlacedMore}
+use Rattle.sim_placed.proofs.all.place_all.Given as goal
 
 abbrev pub invariant-loop-number : goal.invariant-loop-number
 invariant-loop-number l = record {

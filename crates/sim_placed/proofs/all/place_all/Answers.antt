@@ -1,7 +1,7 @@
 use Rattle.sim_tape.specs.Trees.{tree_of}
 use Rattle.sim_tape.proofs.Growing.{extends_refl, extends_twice}
-use Rattle.sim_design.proofs.Telling.{kept_same, kept_twice, same_placed, placed_twice, free_told}
-use Rattle.sim_design.proofs.all.place_all.Goals as goal
+use Rattle.sim_placed.proofs.Telling.{kept_same, kept_twice, same_placed, placed_twice, free_told}
+use Rattle.sim_placed.proofs.all.place_all.Goals as goal
 
 pub loop-number-init : goal.loop-number-init
 loop-number-init c = record {

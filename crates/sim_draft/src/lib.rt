@@ -1,8 +1,0 @@
-//! A whole design on a tape: what each net has, and what registers and memories have in the next cycle.
-#![tactic(auto)]
-
-mod drafts;
-mod memories;
-mod next;
-
-pub use drafts::{Commit, Draft, Width, draft_of};

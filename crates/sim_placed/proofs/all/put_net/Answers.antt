@@ -1,0 +1,37 @@
+use Rattle.std.proofs.Common.{◌≡◌, ◌<◌, length, get_or, None, sym, subst, ap, ◌∙◌, arith}
+use Rattle.std.specs.Prelude.{is_some, IfSome}
+use Rattle.sim_placed.specs.States.{IsTold, AreRead}
+use Rattle.sim_tape.specs.Trees.{tree_of}
+use Rattle.sim_placed.proofs.Telling.{kept, slots_put, placed_more, same_placed}
+use Rattle.sim_placed.proofs.all.put_net.Goals as goal
+
+pub returns-then-is_placed-clause-more : goal.returns-then-is_placed-clause-more
+returns-then-is_placed-clause-more c = λ ms top plan. same_placed ms top c.args.plan.now.flat.now c.args.plan.now.memories.now c.args.pairs.now.items (tree_of c.args.tape.now)
+
+pub returns-then-number-len-clause-more : goal.returns-then-number-len-clause-more
+returns-then-number-len-clause-more c = λ ms top plan. same_placed ms top c.args.plan.now.flat.now c.args.plan.now.memories.now c.args.pairs.now.items (tree_of c.args.tape.now)
+
+pub returns-clause-slots : goal.returns-clause-slots
+returns-clause-slots c =
+    let low : c.args.number < length c.args.pairs.now.items = omega (arith, c.args.pairs.now.ok.0) in
+    let none = sym (c.is_placed.ensures ∙ ap (λ l. is_some (get_or l c.args.number None)) c.deref.ensures.value) ∙ c.if-is_placed.false in
+    slots_put c.args.pairs.now.items c.args.number c.in_ok-pair.pair low none _ _ c.in_ok-pair.ensures.extends.grows.gates c.requires.slots c.in_ok-pair.ensures.slots
+
+pub returns-clause-kept : goal.returns-clause-kept
+returns-clause-kept c =
+    let low : c.args.number < length c.args.pairs.now.items = omega (arith, c.args.pairs.now.ok.0) in
+    let none = sym (c.is_placed.ensures ∙ ap (λ l. is_some (get_or l c.args.number None)) c.deref.ensures.value) ∙ c.if-is_placed.false in
+    kept c.args.pairs.now.items c.args.number c.in_ok-pair.pair low none
+
+pub returns-clause-more : goal.returns-clause-more
+returns-clause-more c = λ ms top plan.
+    let f = c.args.plan.now.flat.now in
+    let memories = c.args.plan.now.memories.now in
+    let t = tree_of c.place_net.new.tape in
+    let same = c.deref-2.ensures.value in
+    let low : c.args.number < length c.args.pairs.now.items = omega (arith, c.args.pairs.now.ok.0) in
+    let none = sym (c.is_placed.ensures ∙ ap (λ l. is_some (get_or l c.args.number None)) c.deref.ensures.value) ∙ c.if-is_placed.false in
+    placed_more c.args.pairs.now.items c.args.number c.in_ok-pair.pair low none ms top f memories (tree_of c.args.tape.now) t c.in_ok-pair.ensures.extends
+    (λ n h count was. subst (λ l. IfSome c.in_ok-pair.pair (λ p. IsTold ms top f memories l t n p)) same
+    (c.in_ok-pair.ensures.told ms top n plan h (subst (λ l. length l ≡ length f.owners.items) (sym same) count) (subst (λ l. AreRead ms top f l) (sym same) was)))
+    (λ n m h at. c.in_ok-pair.ensures.read ms top n m plan h at)
