@@ -1,5 +1,5 @@
 -- Lists of edges as they grow.
-use Rattle.std.proofs.Common.{◌≡◌, ℕ, zero, suc, ◌+◌, ◌<◌, ◌≤◌, Bool, true, false, cond, Option, List, [], ◌∷◌, ◌++◌, length, get_or, drop, Some, inl, inr, refl, sym, ap, subst, ◌∙◌, append_assoc, arith}
+use Rattle.std.proofs.Common.{◌≡◌, ℕ, zero, suc, ◌+◌, ◌<◌, ◌≤◌, Bool, true, false, cond, Option, List, [], ◌++◌, length, get_or, drop, Some, inl, inr, refl, sym, ap, subst, ◌∙◌, append_assoc, arith}
 use Rattle.std.specs.Prelude.{◌⊎◌, ◌==◌}
 use Rattle.std.specs.Option.{option_map_or}
 use Rattle.std.specs.List.{flat_map}
@@ -9,6 +9,7 @@ use Rattle.vlog_tree.specs.declared.table.Declaration.{Declaration}
 use Rattle.vlog_tree.specs.Form.{ModuleTree}
 use Rattle.vlog_tree.specs.Grounded.{Has}
 use Rattle.vlog_tree.specs.Table.{Name}
+use Rattle.vlog_net_graph.proofs.Growing.{flat_map-append}
 use Rattle.vlog_tree.proofs.Walks.{grows}
 use Rattle.vlog_tree.proofs.Lists.{has_left, has_right, has_split, has_flat, of_flat}
 use Rattle.sim_nets.specs.Places.{number_in, both}
@@ -17,13 +18,9 @@ use Rattle.sim_nets.specs.declared.flat.Flat.{Flat}
 use Rattle.sim_nets.specs.Edges.{net_edge, net_edges, edges_below, joins_in, join_edges}
 use Rattle.sim_nets.proofs.Names.{of_both, is_both, of_edge, has_edge}
 
-pub flat_both : {A B : Type 0} (f : A → List B) (xs ys : List A) → flat_map f (xs ++ ys) ≡ flat_map f xs ++ flat_map f ys
-flat_both f [] ys = refl
-flat_both f (x ∷ xs) ys = ap (λ l. f x ++ l) (flat_both f xs ys) ∙ sym (append_assoc (f x) (flat_map f xs) (flat_map f ys))
-
 -- what two calls add
 pub added_both : {A B : Type 0} (f : A → List B) (xs ys : List A) (old mid new : List B) → mid ≡ old ++ flat_map f xs → new ≡ mid ++ flat_map f ys → new ≡ old ++ flat_map f (xs ++ ys)
-added_both f xs ys old mid new a b = b ∙ ap (λ l. l ++ flat_map f ys) a ∙ append_assoc old (flat_map f xs) (flat_map f ys) ∙ ap (λ l. old ++ l) (sym (flat_both f xs ys))
+added_both f xs ys old mid new a b = b ∙ ap (λ l. l ++ flat_map f ys) a ∙ append_assoc old (flat_map f xs) (flat_map f ys) ∙ ap (λ l. old ++ l) (sym (flat_map-append f xs ys))
 
 pub of_net_edges : (base : ℕ) (ds : List Declaration) (x : Name) (ys : List Name) (p q : ℕ) → Has (net_edges base ds x ys) (p, q) → (y : Name) × Has ys y × (number_in base ds x ≡ Some p) × (number_in base ds y ≡ Some q)
 of_net_edges base ds x ys p q h =
@@ -53,7 +50,7 @@ has_below g (suc n) k e low h = below_of g n k e h (λ lt. has_below g n k e lt 
 -- the names of one more element are gone over
 pub names_more : {X A B : Type 0} (f : A → List B) (g : X → List A) (xs : List X) (i : ℕ) (x : X) (old new all : List B) → i < length xs → x ≡ get_or xs i x → new ≡ old ++ flat_map f (g x)
     → old ++ flat_map f (flat_map g (drop i xs)) ≡ all → new ++ flat_map f (flat_map g (drop (i + 1) xs)) ≡ all
-names_more f g xs i x old new all low is step inv = grows (λ l. flat_map f (flat_map g l)) xs i x old new (flat_map f (g x)) all (λ rest. flat_both f (g x) (flat_map g rest)) low is step inv
+names_more f g xs i x old new all low is step inv = grows (λ l. flat_map f (flat_map g l)) xs i x old new (flat_map f (g x)) all (λ rest. flat_map-append f (g x) (flat_map g rest)) low is step inv
 
 -- the edges of one more instance
 pub below_more : (g : ℕ → List (ℕ × ℕ)) (k : ℕ) (first old new : List (ℕ × ℕ)) → old ≡ first ++ edges_below g k → new ≡ old ++ g k → new ≡ first ++ edges_below g (k + 1)

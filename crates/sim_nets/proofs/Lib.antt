@@ -10,3 +10,4 @@ pub mod Edging
 pub mod Edged
 pub mod Linked
 pub mod Ordered
+pub mod Earlier

@@ -49,7 +49,7 @@ input_by m x e (inl i) = ap net_kind_is_input i
 input_by m x e (inr (inl o)) = let clash : Input ≡ Output = sym e ∙ port_net_kind_declared m x Output refl o in cc
 input_by m x e (inr (inr u)) = let t = input_port m x e in absurd (port_known m.ports t.0 t.1 (subst (λ (y : Name). net_kind_of (map port_declared m.ports) y ≡ Unknown) (sym t.2) u))
 
-input_port_is : (m : ModuleTree) (x : Name) → net_kind_is_input (net_kind_of (declared m) x) ≡ true → net_kind_is_input (net_kind_of (map port_declared m.ports) x) ≡ true
+pub input_port_is : (m : ModuleTree) (x : Name) → net_kind_is_input (net_kind_of (declared m) x) ≡ true → net_kind_is_input (net_kind_of (map port_declared m.ports) x) ≡ true
 input_port_is m x e = input_by m x (input_is (net_kind_of (declared m) x) e) (port_net_kind m.ports x)
 
 module _ (ms : List ModuleTree) (top : ModuleTree) (f : Flat) (flat : IsFlat ms top f) where

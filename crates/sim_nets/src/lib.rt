@@ -3,12 +3,14 @@
 
 mod edges;
 mod flat;
+mod laws;
 mod links;
 mod order;
 mod places;
 mod tables;
 
 pub use flat::{Flat, flatten};
+pub use laws::law_parts_come_first;
 pub use links::{net_around, net_inside};
 pub use order::order_of_nets;
 pub use tables::{Child, Source, Table, tables_of};
