@@ -4,3 +4,4 @@ pub mod Joining
 pub mod Answering
 pub mod Owning
 pub mod Telling
+pub mod Giving

@@ -1,5 +1,5 @@
 -- Nets by their numbers, and what they have their numbers from.
-use Rattle.std.proofs.Common.{◌≡◌, ℕ, ◌+◌, ◌<◌, true, false, List, [], ◌∷◌, map, Some, length, get_or, refl, sym, ap, subst, ◌∙◌, arith}
+use Rattle.std.proofs.Common.{◌≡◌, ℕ, ◌+◌, ◌<◌, true, false, List, [], ◌∷◌, map, Some, length, get_or, inl, inr, refl, sym, ap, subst, ◌∙◌, arith}
 use Rattle.std.specs.Prelude.{slice_get}
 use Rattle.std.proofs.lemmas.Option.{same_Some, slice_get_within}
 use Rattle.vlog_tree.specs.declared.tree.Value.{Value}
@@ -14,7 +14,7 @@ use Rattle.vlog_tree.specs.Cycle.{Path, module_at}
 use Rattle.vlog_tree.specs.Labels.{rdata_of, m_rdata}
 use Rattle.vlog_tree.specs.V6.{has_all_five}
 use Rattle.vlog_tree.specs.Table.{Name, is_clk, declared, port_declared, net_kind_of, net_kind_is_read, bits_of}
-use Rattle.vlog_law_runs.proofs.Sizes.{declared_net_kind}
+use Rattle.vlog_law_runs.proofs.Sizes.{declared_bits, declared_net_kind}
 use Rattle.vlog_law_runs.proofs.Settled.{module_in, top_tree}
 use Rattle.vlog_law_runs.proofs.Labelled.{rdata_label}
 use Rattle.vlog_law_runs.proofs.TopPorts.{input_port, all_five}
@@ -31,6 +31,10 @@ use Rattle.sim_nets.proofs.Standing.{module_of, table_of, lines_are, top_is}
 use Rattle.sim_placed.specs.declared.driven.Spot.{Spot}
 use Rattle.sim_placed.specs.Lines.{IsLine}
 use Rattle.sim_placed.specs.Plans.{IsAtSpot}
+use Rattle.sim_placed.specs.States.{IsFree}
+use Rattle.sim_placed.specs.Given.{HasGivenSlots, IsFreeSource, IsGivenNet}
+use Rattle.sim_tape.specs.Tape.{TapeTree}
+use Rattle.sim_tape.specs.declared.gates.Pair.{Pair}
 
 module _ (ms : List ModuleTree) (top : ModuleTree) (f : Flat) (flat : IsFlat ms top f) where
   -- the owner of a number is the instance of its net
@@ -144,3 +148,30 @@ module _ (ms : List ModuleTree) (top : ModuleTree) (f : Flat) (flat : IsFlat ms 
           ap (λ (k : ModuleTree). net_kind_is_read (net_kind_of (declared k) n.1)) (sym it) ∙ ap net_kind_is_read (kind_is ∙ ap (λ (d : Declaration). d.net_kind) (sym same)) ∙ read,
           ap is_clk (sym name) ∙ ap (λ (d : Declaration). is_clk d.name) (sym same) ∙ clock,
         )
+
+    -- what the name at the place is
+    pub kind_is : net_kind_of (declared tree) n.1 ≡ d.net_kind
+    kind_is = ap (λ y. net_kind_of (declared tree) y) (sym a.at.declared_at.2) ∙ declared_net_kind tree ms flat.design.sound.names in_ms d (has_got (declared tree) place d a.at.declared_at.1)
+
+    pub bits_are : (e : Declaration) → Some e ≡ slice_get t.scope place → bits_of (declared tree) n.1 ≡ e.bits
+    bits_are e got =
+        let same : e ≡ d = same_Some e d (got ∙ ap (λ ds. slice_get ds place) a.table.names ∙ a.at.declared_at.1) in
+        ap (λ y. bits_of (declared tree) y) (sym a.at.declared_at.2) ∙ declared_bits tree ms flat.design.sound.names in_ms d (has_got (declared tree) place d a.at.declared_at.1) ∙ ap (λ (d : Declaration). d.bits) (sym same)
+
+    -- a register, or an input of the top but what a memory answers
+    pub is_free : (e : Declaration) → Some e ≡ slice_get t.scope place → (s : Source) → s ≡ get_or t.sources.items place source.Nothing → IsFreeSource spot.instance e.name s → IsFree ms top n
+    is_free e got source.Register s free = record { tree = tree; at = at_path; by = inl (kind_is ∙ from_source source.Register s) }
+    is_free e got source.Input s free = record { tree = tree; at = at_path; by = inr ((at_top free.0).0, is_input_net s, ap rdata_of (sym (name_is e got)) ∙ free.1) }
+    is_free e got source.Nothing s free = absurd free
+    is_free e got (source.Line l) s free = absurd free
+    is_free e got (source.Child c p) s free = absurd free
+
+    pub is_given : (e : Declaration) → Some e ≡ slice_get t.scope place → (s : Source) → s ≡ get_or t.sources.items place source.Nothing → is_clk e.name ≡ false → (tape : TapeTree) (p : Pair)
+        → HasGivenSlots tape e.bits p × IsFreeSource spot.instance e.name s → IsGivenNet ms top n tape p
+    is_given e got s from clock tape p h = record {
+      tree = tree;
+      at = at_path;
+      free = is_free e got s from h.1;
+      clock = ap is_clk (sym (name_is e got)) ∙ clock;
+      given = subst (λ k. HasGivenSlots tape k p) (sym (bits_are e got)) h.0;
+    }

@@ -3,3 +3,4 @@ pub mod States
 pub mod Lines
 pub mod Plans
 pub mod Placed
+pub mod Given

@@ -4,6 +4,7 @@
 mod all;
 mod answered;
 mod driven;
+mod given;
 mod joined;
 mod net;
 mod plan;
@@ -11,6 +12,7 @@ mod slices;
 
 pub use all::place_all;
 pub use driven::{Spot, pair_of_line};
+pub use given::give_all;
 pub use joined::{pair_around, pair_inside};
 pub use net::place_net;
 pub use plan::Plan;

@@ -73,7 +73,8 @@ fn place_line(
     }
 }
 
-fn name_at(table: &Table, place: usize) -> Option<&Declaration>
+/// The name at a place.
+pub(crate) fn name_at(table: &Table, place: usize) -> Option<&Declaration>
     ensures { option_copied result ≡ slice_get table.now.scope place }
 {
     table.scope.declarations().get(place)

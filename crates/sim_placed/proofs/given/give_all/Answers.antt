@@ -1,0 +1,26 @@
+use Rattle.std.proofs.Common.{◌≡◌, ◌+◌, ◌++◌, ◌∷◌, [], length, sym, subst, ap, ◌∙◌}
+use Rattle.std.proofs.lemmas.List.{length_push}
+use Rattle.sim_lower.specs.Nets.{SlotsBefore}
+use Rattle.sim_tape.specs.Trees.{tree_of}
+use Rattle.sim_tape.proofs.Growing.{extends_twice}
+use Rattle.sim_nets.specs.Flat.{HasNumber}
+use Rattle.sim_placed.specs.Given.{AreGivenNets}
+use Rattle.sim_placed.proofs.Giving.{given_more, slots_more}
+use Rattle.sim_placed.proofs.given.give_all.Goals as goal
+
+pub loop-number-preserved : goal.loop-number-preserved
+loop-number-preserved c =
+    let i = c.loop-number.invariant in
+    let e = c.in_ok-pair.ensures in
+    let pairs = c.loop-number.pairs.items in
+    let pair = c.in_ok-pair.pair in
+    let t = tree_of c.give_net.new.tape in
+    let is : c.push.new.self.items ≡ c.loop-number.pairs.items ++ c.in_ok-pair.pair ∷ [] = c.in_ok-push.ensures.items in
+    record {
+      extends = extends_twice _ _ _ i.extends e.extends;
+      slots = subst (λ l. SlotsBefore l (length t.gates)) (sym is) (slots_more pairs pair _ _ e.extends.grows.gates i.slots e.slots);
+      count = ap length is ∙ length_push pairs pair ∙ ap (λ n. n + 1) i.count;
+      given = λ ms top flat.
+          subst (λ l. AreGivenNets ms top c.args.flat.now l t) (sym is) (given_more (tree_of c.loop-number.tape) t e.extends ms top c.args.flat.now pairs pair (i.given ms top flat)
+          (λ n h. e.given ms top n flat (subst (λ k. HasNumber ms c.args.flat.now k n) i.count h)));
+    }
