@@ -1,17 +1,16 @@
 -- A design on a tape.
-use Rattle.std.specs.Prelude.{◌≡◌, ◌≢◌, ◌⊎◌, ℕ, suc, ◌+◌, ◌*◌, ◌<◌, ◌≤◌, false, List, [], Option, Some, None, IsSome, IsTrue, length, get_or, slice_get}
+use Rattle.std.specs.Prelude.{◌≡◌, ◌⊎◌, ℕ, ◌+◌, ◌*◌, List, Option, Some, None, length, get_or, slice_get}
 use Rattle.vlog_tree.specs.declared.tree.Item.TheVariants.{Reg, Memory}
 use Rattle.vlog_tree.specs.declared.table.NetKind.TheVariants.{MemoryArray}
 use Rattle.vlog_tree.specs.Form.{ModuleTree}
 use Rattle.vlog_tree.specs.Grounded.{Has}
 use Rattle.vlog_tree.specs.Flattened.{FlatNet}
-use Rattle.vlog_tree.specs.Table.{Name, is_clk, declared, net_kind_of, net_kind_is_read, bits_of}
+use Rattle.vlog_tree.specs.Table.{declared, net_kind_of}
 use Rattle.vlog_tree.specs.Cycle.{Cycle, Sizes, Path, module_at, run_items}
 use Rattle.vlog_tree.specs.Environment.{shape_of}
 use Rattle.sim_tape.specs.declared.gates.Pair.{Pair}
-use Rattle.sim_tape.specs.declared.gates.Rule.TheVariants.{Given}
 use Rattle.sim_tape.specs.Operators.{Cells}
-use Rattle.sim_tape.specs.Tape.{TapeTree, IsTape, gate_at, pair_value, PairBefore}
+use Rattle.sim_tape.specs.Tape.{TapeTree, IsTape, pair_value}
 use Rattle.sim_tape.specs.Solved.{IsSolved}
 use Rattle.sim_tape.specs.Trees.{tree_of}
 use Rattle.sim_blocks.specs.declared.writes.Store.{Store}
@@ -22,34 +21,12 @@ use Rattle.sim_design.specs.declared.drafts.Commit.{Commit}
 use Rattle.sim_design.specs.declared.drafts.Width.{Width}
 use Rattle.sim_design.specs.declared.drafts.Draft.{Draft}
 use Rattle.sim_placed.specs.Valuations.{IsLawful, IsValuation}
-use Rattle.sim_placed.specs.States.{IsFree, ShowsPlaced, Tells}
-
--- just the nets that can be read, but the clocks, have pairs of slots
-pub record ArePlaced (ms : List ModuleTree) (top : ModuleTree) (f : Flat) (pairs : List (Option Pair)) : Type 0 where
-  pub count : length pairs ≡ length f.owners.items
-  pub all : (number : ℕ) (n : FlatNet) (m : ModuleTree) → HasNumber ms f number n → module_at ms top n.0 ≡ Some m → IsTrue (net_kind_is_read (net_kind_of (declared m) n.1)) → is_clk n.1 ≡ false → IsSome (get_or pairs number None)
-  pub only : (number : ℕ) (n : FlatNet) (m : ModuleTree) (p : Pair) → HasNumber ms f number n → module_at ms top n.0 ≡ Some m → get_or pairs number None ≡ Some p → IsTrue (net_kind_is_read (net_kind_of (declared m) n.1)) × (is_clk n.1 ≡ false)
-
--- a slot that is given from outside
-abbrev pub IsGivenSlot : TapeTree → ℕ → Type 0
-IsGivenSlot t s = (0 < s) × (s < length t.gates) × ((gate_at t.gates s).rule ≡ Given)
-
--- the slots of a pair are given from outside, the high one where there are more than 64 bits, and else it is slot 0
-abbrev pub IsGivenPair : TapeTree → ℕ → Pair → Type 0
-IsGivenPair t bits p = IsGivenSlot t p.low × (((bits ≤ 64) × (p.high ≡ 0)) ⊎ ((64 < bits) × IsGivenSlot t p.high × (p.low ≢ p.high)))
-
--- two pairs have no slot in common but slot 0
-abbrev pub HaveOwnSlots : Pair → Pair → Type 0
-HaveOwnSlots p q = (p.low ≢ q.low) × (p.low ≢ q.high) × (p.high ≢ q.low) × ((p.high ≡ 0) ⊎ (p.high ≢ q.high))
-
--- registers and inputs of the top have slots of their own, which are given from outside
-pub record AreGiven (ms : List ModuleTree) (top : ModuleTree) (f : Flat) (pairs : List (Option Pair)) (t : TapeTree) : Type 0 where
-  pub given : (number : ℕ) (n : FlatNet) (m : ModuleTree) (p : Pair) → HasNumber ms f number n → module_at ms top n.0 ≡ Some m → IsFree ms top n → get_or pairs number None ≡ Some p → IsGivenPair t (bits_of (declared m) n.1) p
-  pub own : (number other : ℕ) (n k : FlatNet) (p q : Pair) → HasNumber ms f number n → HasNumber ms f other k → IsFree ms top n → IsFree ms top k → number ≢ other
-      → get_or pairs number None ≡ Some p → get_or pairs other None ≡ Some q → HaveOwnSlots p q
+use Rattle.sim_placed.specs.States.{ShowsPlaced, Tells}
+use Rattle.sim_placed.specs.Given.{ArePlaced, AreGiven}
 
 -- The memories inside have two numbers each, one behind the other, behind those of the memories outside.
 pub record AreMemories (ms : List ModuleTree) (top : ModuleTree) (f : Flat) (memories : List (Option Pair)) (widths : List Width) : Type 0 where
+  pub count : length memories ≡ length f.owners.items
   pub all : (number : ℕ) (n : FlatNet) (m : ModuleTree) (w k : ℕ) → HasNumber ms f number n → module_at ms top n.0 ≡ Some m → Has m.items (Memory w n.1 k)
       → (i : ℕ) × (slice_get widths i ≡ Some (record { pair = record { low = length (shape_of top).memories + 2 * i; high = length (shape_of top).memories + 2 * i + 1 }; bits = w; cells = k }))
       × (get_or memories number None ≡ Some (record { low = length (shape_of top).memories + 2 * i; high = length (shape_of top).memories + 2 * i + 1 }))

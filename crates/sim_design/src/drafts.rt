@@ -1,6 +1,6 @@
 // A design on a tape.
 
-ghost use Rattle.std.specs.Prelude.{◌≡◌, IfOk};
+ghost use Rattle.std.specs.Prelude.{◌≡◌, IfOk, IfSome, IsSome};
 ghost use Rattle.vlog_tree.specs.Form.{ModuleTree};
 ghost use Rattle.vlog_design.specs.Designs.{TopOf};
 ghost use Rattle.sim_nets.specs.Flat.{IsFlat};
@@ -8,9 +8,9 @@ ghost use Rattle.sim_design.specs.Drafts.{IsDraft};
 
 use crate::memories::memories_of;
 use crate::next::add_next;
-use crate::placing::{Plan, place_all};
 use sim_blocks::Store;
-use sim_nets::Flat;
+use sim_nets::{Flat, order_of_nets};
+use sim_placed::{Plan, give_all, place_all};
 use sim_tape::{Pair, Tape};
 use std::alloc::{AllocError, Global};
 use vlog_design::Design;
@@ -51,17 +51,24 @@ pub fn draft_of(alloc: Global, design: &Design, flat: &Flat) -> Result<Option<Dr
 {
     let shape = design.shape(alloc)?;
     let memories = memories_of(alloc, flat, shape.memories.len())?;
+    let order = order_of_nets(alloc, flat, design)?;
+    let mut tape = Tape::new(alloc)?;
+    let mut pairs = give_all(alloc, &mut tape, flat)?;
+    let plan = Plan {
+        flat,
+        modules: design.modules(),
+        memories: &memories.numbers,
+        outside: &shape.memories,
+    };
+    place_all(alloc, &mut tape, &plan, &order, &mut pairs)?;
     let mut draft = Draft {
-        tape: Tape::new(alloc)?,
-        pairs: vec![in alloc; None; flat.owners.len()]?,
+        tape,
+        pairs,
         memories: memories.numbers,
         cells: memories.widths,
         commits: Vec::new(alloc),
         stores: Vec::new(alloc),
     };
-    if !place_all(alloc, &mut draft, flat, design, &shape)? {
-        return Ok(None);
-    }
     if !add_next(alloc, &mut draft, flat, design)? {
         return Ok(None);
     }

@@ -1,11 +1,11 @@
 // What registers and memories have in the next cycle.
 
 use crate::drafts::{Commit, Draft};
-use crate::placing::part_of;
 use sim_blocks::{Store, blocks_of};
 use sim_flat::Instance;
 use sim_lower::Nets;
 use sim_nets::{Flat, Table};
+use sim_placed::part_of;
 use sim_tape::Pair;
 use std::alloc::{AllocError, Global};
 use vlog_design::Design;
