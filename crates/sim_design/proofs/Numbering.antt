@@ -29,7 +29,7 @@ use Rattle.sim_design.specs.declared.drafts.Width.{Width}
 use Rattle.sim_design.specs.Memories.{declaration_at, memory_pair, number_for, widths_for, IsMemoryAt, IsMemoryOf, AreNumbersBelow}
 use Rattle.sim_design.specs.Drafts.{AreMemories}
 
-pub none_below : (f : Flat) (outside : ℕ) → AreNumbersBelow f outside [] []
+none_below : (f : Flat) (outside : ℕ) → AreNumbersBelow f outside [] []
 none_below f outside = record {
   all = λ number d low at kind. absurd (omega (arith, low));
   only = λ number q got. (let clash : None ≡ Some q = got in cc);
@@ -57,13 +57,13 @@ of_later f outside count more number q le h =
 -- a name that is no memory
 module _ (f : Flat) (outside : ℕ) (numbers : List (Option Pair)) (widths : List Width) (below : AreNumbersBelow f outside numbers widths) where
   plain : (o : Option Declaration) → declaration_at f (length numbers) ≡ o → ((d : Declaration) → o ≡ Some d → net_kind_is_memory d.net_kind ≡ false) → AreNumbersBelow f outside (numbers ++ None ∷ []) (widths ++ [])
-  plain o e no = record {
+  plain o e other_kind = record {
     all = λ number d low at kind. elim (cases_lt number (length numbers)) [
       | inl lt ↦ (let h = below.all number d lt at kind in record { place = h.place; width = got_left widths [] h.place (slice_get_within widths h.place _ h.width) ∙ h.width; numbered = get_or_append_left numbers (None ∷ []) None number lt ∙ h.numbered })
       | inr ge ↦
           let long : length (numbers ++ None ∷ []) ≡ length numbers + 1 = length_push numbers None in
           let same : number ≡ length numbers = omega arith in
-          let clash : false ≡ true = sym (no d (sym e ∙ ap (declaration_at f) (sym same) ∙ at)) ∙ kind in cc
+          let clash : false ≡ true = sym (other_kind d (sym e ∙ ap (declaration_at f) (sym same) ∙ at)) ∙ kind in cc
     ];
     only = λ number q got. elim (number_split numbers None number q got) [
       | inl l ↦ of_later f outside (length widths) (length (widths ++ [])) number q (longer [] ) (below.only number q l.1)
@@ -199,3 +199,6 @@ module _ (ms : List ModuleTree) (top : ModuleTree) (f : Flat) (flat : IsFlat ms 
           memory_is (net_kind_of (declared m) n.1) (ap (λ (d : Declaration). net_kind_is_memory d.net_kind) one ∙ it.kind);
       own = below.own;
     }
+
+pub empty_below : (f : Flat) (outside : ℕ) (numbers : List (Option Pair)) (widths : List Width) → numbers ≡ [] → widths ≡ [] → AreNumbersBelow f outside numbers widths
+empty_below f outside numbers widths i j = subst (λ l. AreNumbersBelow f outside l widths) (sym i) (subst (λ l. AreNumbersBelow f outside [] l) (sym j) (none_below f outside))

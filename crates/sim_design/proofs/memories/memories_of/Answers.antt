@@ -1,11 +1,11 @@
-use Rattle.std.proofs.Common.{◌≡◌, ◌+◌, ◌++◌, ◌∷◌, [], length, refl, sym, subst, ap, ◌∙◌}
+use Rattle.std.proofs.Common.{◌≡◌, ◌+◌, ◌++◌, ◌∷◌, [], length, refl, sym, subst, ap, ◌∙◌, arith}
 use Rattle.std.proofs.lemmas.List.{length_push}
 use Rattle.sim_design.specs.Memories.{AreNumbersBelow, declaration_at, number_for, widths_for}
-use Rattle.sim_design.proofs.Numbering.{none_below, below_more, are_memories}
+use Rattle.sim_design.proofs.Numbering.{empty_below, below_more, are_memories}
 use Rattle.sim_design.proofs.memories.memories_of.Goals as goal
 
 pub loop-number-init : goal.loop-number-init
-loop-number-init c = record { count = refl; below = none_below c.args.flat.now c.args.outside }
+loop-number-init c = record { count = ap length c.new.ensures.items; below = empty_below c.args.flat.now c.args.outside _ _ c.new.ensures.items c.new-2.ensures.items }
 
 pub loop-number-preserved : goal.loop-number-preserved
 loop-number-preserved c =
@@ -23,6 +23,6 @@ loop-number-preserved c =
           (below_more f c.args.outside numbers widths d (ap (declaration_at f) i.count) i.below));
     }
 
-pub returns-clause : goal.returns-clause
-returns-clause c = λ ms top flat out.
-    are_memories ms top c.args.flat.now flat c.args.outside c.loop-number.all.numbers.items c.loop-number.all.widths.items out c.loop-number.invariant.count c.loop-number.invariant.below
+pub returns : goal.returns
+returns c = λ ms top flat out.
+    are_memories ms top c.args.flat.now flat c.args.outside c.loop-number.all.numbers.items c.loop-number.all.widths.items out (let stop : c.loop-number.number ≡ length c.args.flat.now.owners.items = omega arith in c.loop-number.invariant.count ∙ stop) c.loop-number.invariant.below
