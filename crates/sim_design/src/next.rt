@@ -1,5 +1,9 @@
 // What registers and memories have in the next cycle.
 
+ghost use Rattle.std.specs.Prelude.{◌≡◌, ◌++◌, None, get_or, OnOk};
+ghost use Rattle.vlog_tree.specs.Table.{net_kind_is_register};
+ghost use Rattle.sim_design.specs.Commits.{commits_of, commits_at};
+
 use crate::drafts::{Commit, Draft};
 use sim_blocks::{Store, blocks_of};
 use sim_flat::Instance;
@@ -12,18 +16,62 @@ use vlog_design::Design;
 use vlog_tree::{Module, NetKind};
 
 // A register takes over the numbers of a pair; slot 0 has none.
-fn add_commit(commits: &mut Vec<Commit>, pair: Pair, next: Pair) -> Result<(), AllocError> {
+fn add_commit(commits: &mut Vec<Commit>, pair: Pair, next: Pair) -> Result<(), AllocError>
+    ensures { OnOk result (commits.new.items ≡ commits.old.items ++ commits_of pair next) }
+{
     commits.push(Commit {
         slot: pair.low,
         next: next.low,
     })?;
-    if pair.high != 0 {
-        commits.push(Commit {
-            slot: pair.high,
-            next: next.high,
-        })?;
+    if pair.high == 0 {
+        return Ok(());
     }
+    commits.push(Commit {
+        slot: pair.high,
+        next: next.high,
+    })?;
     Ok(())
+}
+
+fn pair_at(pairs: &[Option<Pair>], place: usize) -> Option<Pair>
+    ensures { result ≡ get_or pairs.now place None }
+{
+    match pairs.get(place) {
+        Some(pair) => *pair,
+        None => None,
+    }
+}
+
+// What the register at a place takes over, where it has slots.
+fn add_place(
+    commits: &mut Vec<Commit>,
+    old: Option<Pair>,
+    new: Option<Pair>,
+) -> Result<(), AllocError>
+    ensures { OnOk result (commits.new.items ≡ commits.old.items ++ commits_at old new) }
+{
+    let Some(pair) = old else {
+        return Ok(());
+    };
+    let Some(next) = new else {
+        return Ok(());
+    };
+    add_commit(commits, pair, next)?;
+    Ok(())
+}
+
+fn is_register(net_kind: NetKind) -> bool
+    ensures { result ≡ net_kind_is_register net_kind }
+{
+    match net_kind {
+        NetKind::Register => true,
+        NetKind::Unknown => false,
+        NetKind::Input => false,
+        NetKind::Output => false,
+        NetKind::WireNet => false,
+        NetKind::MemoryArray => false,
+        NetKind::ChildInstance => false,
+    }
 }
 
 fn add_commits(
@@ -32,17 +80,18 @@ fn add_commits(
     pairs: &[Option<Pair>],
     next: &[Option<Pair>],
 ) -> Result<(), AllocError> {
-    for (place, d) in table.scope.declarations().iter().enumerate() {
-        if matches!(d.net_kind, NetKind::Register) {
-            if let (Some(Some(old)), Some(Some(new))) = (pairs.get(place), next.get(place)) {
-                add_commit(commits, *old, *new)?;
-            }
+    let names = table.scope.declarations();
+    for place in 0..names.len() {
+        if is_register(names[place].net_kind) {
+            add_place(commits, pair_at(pairs, place), pair_at(next, place))?;
         }
     }
     Ok(())
 }
 
-fn add_stores(stores: &mut Vec<Store>, more: &[Store]) -> Result<(), AllocError> {
+fn add_stores(stores: &mut Vec<Store>, more: &[Store]) -> Result<(), AllocError>
+    ensures { OnOk result (stores.new.items ≡ stores.old.items ++ more.now) }
+{
     for store in more {
         stores.push(*store)?;
     }
