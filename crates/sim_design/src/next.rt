@@ -1,8 +1,8 @@
 // What registers and memories have in the next cycle.
 
-ghost use Rattle.std.specs.Prelude.{◌≡◌, ◌++◌, None, get_or, OnOk};
+ghost use Rattle.std.specs.Prelude.{◌≡◌, ◌++◌, None, get_or, slice_get, length, OnOk};
 ghost use Rattle.vlog_tree.specs.Table.{net_kind_is_register};
-ghost use Rattle.sim_design.specs.Commits.{commits_of, commits_at};
+ghost use Rattle.sim_design.specs.Commits.{commits_of, commits_at, has_register, commits_for, commits_below};
 
 use crate::drafts::{Commit, Draft};
 use sim_blocks::{Store, blocks_of};
@@ -13,7 +13,7 @@ use sim_placed::part_of;
 use sim_tape::Pair;
 use std::alloc::{AllocError, Global};
 use vlog_design::Design;
-use vlog_tree::{Module, NetKind};
+use vlog_tree::{Declaration, Module, NetKind};
 
 // A register takes over the numbers of a pair; slot 0 has none.
 fn add_commit(commits: &mut Vec<Commit>, pair: Pair, next: Pair) -> Result<(), AllocError>
@@ -43,7 +43,7 @@ fn pair_at(pairs: &[Option<Pair>], place: usize) -> Option<Pair>
 }
 
 // What the register at a place takes over, where it has slots.
-fn add_place(
+fn add_pairs(
     commits: &mut Vec<Commit>,
     old: Option<Pair>,
     new: Option<Pair>,
@@ -57,6 +57,31 @@ fn add_place(
         return Ok(());
     };
     add_commit(commits, pair, next)?;
+    Ok(())
+}
+
+fn is_register_at(names: &[Declaration], place: usize) -> bool
+    ensures { result ≡ has_register (slice_get names.now place) }
+{
+    match names.get(place) {
+        Some(d) => is_register(d.net_kind),
+        None => false,
+    }
+}
+
+fn add_place(
+    commits: &mut Vec<Commit>,
+    names: &[Declaration],
+    place: usize,
+    pairs: &[Option<Pair>],
+    next: &[Option<Pair>],
+) -> Result<(), AllocError>
+    ensures { OnOk result (commits.new.items ≡ commits.old.items ++ commits_for (slice_get names.now place) (get_or pairs.now place None) (get_or next.now place None)) }
+{
+    if !is_register_at(names, place) {
+        return Ok(());
+    }
+    add_pairs(commits, pair_at(pairs, place), pair_at(next, place))?;
     Ok(())
 }
 
@@ -79,12 +104,12 @@ fn add_commits(
     table: &Table,
     pairs: &[Option<Pair>],
     next: &[Option<Pair>],
-) -> Result<(), AllocError> {
+) -> Result<(), AllocError>
+    ensures { OnOk result (commits.new.items ≡ commits.old.items ++ commits_below table.now.scope pairs.now next.now (length table.now.scope)) }
+{
     let names = table.scope.declarations();
     for place in 0..names.len() {
-        if is_register(names[place].net_kind) {
-            add_place(commits, pair_at(pairs, place), pair_at(next, place))?;
-        }
+        add_place(commits, names, place, pairs, next)?;
     }
     Ok(())
 }
