@@ -2,15 +2,18 @@
 
 ghost use Rattle.std.specs.Prelude.{◌≡◌, ◌++◌, None, get_or, slice_get, length, OnOk};
 ghost use Rattle.vlog_tree.specs.Table.{net_kind_is_register};
+ghost use Rattle.sim_tape.specs.Tape.{Extends, IsTape};
+ghost use Rattle.sim_tape.specs.Trees.{tree_of};
+ghost use Rattle.sim_lower.specs.Nets.{SlotsBefore};
 ghost use Rattle.sim_design.specs.Commits.{commits_of, commits_at, has_register, commits_for, commits_below};
 
 use crate::drafts::{Commit, Draft};
-use sim_blocks::{Store, blocks_of};
+use sim_blocks::{Blocks, Store, blocks_of};
 use sim_flat::Instance;
 use sim_lower::Nets;
 use sim_nets::{Flat, Table};
 use sim_placed::part_of;
-use sim_tape::Pair;
+use sim_tape::{Pair, Tape};
 use std::alloc::{AllocError, Global};
 use vlog_design::Design;
 use vlog_tree::{Declaration, Module, NetKind};
@@ -123,6 +126,30 @@ fn add_stores(stores: &mut Vec<Store>, more: &[Store]) -> Result<(), AllocError>
     Ok(())
 }
 
+// The blocks of one instance over the pairs and memories of all; none where a net that they read has no slots.
+fn blocks_at(
+    alloc: Global,
+    tape: &mut Tape,
+    table: &Table,
+    module: &Module,
+    base: usize,
+    pairs: &[Option<Pair>],
+    memories: &[Option<Pair>],
+) -> Result<Option<Blocks>, AllocError>
+    requires tape { IsTape (tree_of tape.old) }
+    requires slots { SlotsBefore pairs.now (length (tree_of tape.old).gates) }
+    ensures extends { Extends (tree_of tape.old) (tree_of tape.new) }
+{
+    let count = table.scope.declarations().len();
+    let nets = Nets {
+        scope: &table.scope,
+        pairs: part_of(pairs, base, count),
+        memories: part_of(memories, base, count),
+    };
+    let blocks = blocks_of(alloc, tape, &nets, module.items())?;
+    Ok(blocks)
+}
+
 // The blocks of one instance; false where a net that they read has no slots.
 fn add_instance(
     alloc: Global,
@@ -130,17 +157,26 @@ fn add_instance(
     table: &Table,
     module: &Module,
     base: usize,
-) -> Result<bool, AllocError> {
-    let count = table.sources.len();
-    let pairs = part_of(&draft.pairs, base, count);
-    let nets = Nets {
-        scope: &table.scope,
-        pairs,
-        memories: part_of(&draft.memories, base, count),
-    };
-    let Some(blocks) = blocks_of(alloc, &mut draft.tape, &nets, module.items())? else {
+) -> Result<bool, AllocError>
+    requires tape { IsTape (tree_of draft.old.tape) }
+    requires slots { SlotsBefore draft.old.pairs.items (length (tree_of draft.old.tape).gates) }
+    ensures extends { Extends (tree_of draft.old.tape) (tree_of draft.new.tape) }
+    ensures pairs { draft.new.pairs.items ≡ draft.old.pairs.items }
+    ensures memories { draft.new.memories.items ≡ draft.old.memories.items }
+{
+    let found = blocks_at(
+        alloc,
+        &mut draft.tape,
+        table,
+        module,
+        base,
+        &draft.pairs,
+        &draft.memories,
+    )?;
+    let Some(blocks) = found else {
         return Ok(false);
     };
+    let pairs = part_of(&draft.pairs, base, table.scope.declarations().len());
     add_commits(&mut draft.commits, table, pairs, &blocks.next)?;
     add_stores(&mut draft.stores, &blocks.stores)?;
     Ok(true)
