@@ -1,6 +1,6 @@
 -- Slots that are given from outside, as a tape grows.
-use Rattle.std.proofs.Common.{◌≡◌, ℕ, zero, suc, ◌<◌, ◌≤◌, List, [], ◌∷◌, ◌++◌, Option, Some, None, length, get_or, inl, inr, sym, ap, subst, ◌∙◌, arith}
-use Rattle.std.specs.Prelude.{IfSome}
+use Rattle.std.proofs.Common.{◌≡◌, ◌≢◌, ℕ, zero, suc, ◌<◌, ◌≤◌, List, [], ◌∷◌, ◌++◌, Option, Some, None, length, get_or, inl, inr, sym, ap, subst, ◌∙◌, arith}
+use Rattle.std.specs.Prelude.{◌⊎◌, IfSome}
 use Rattle.std.proofs.lemmas.Bool.{cases_eq, cases_lt}
 use Rattle.std.proofs.lemmas.List.{get_or_append_left, get_or_push, get_or_past, length_push}
 use Rattle.vlog_tree.specs.Form.{ModuleTree}
@@ -15,7 +15,7 @@ use Rattle.sim_lower.specs.Nets.{SlotsBefore}
 use Rattle.sim_lower.proofs.AtomSlots.{some_is}
 use Rattle.sim_nets.specs.declared.flat.Flat.{Flat}
 use Rattle.sim_nets.specs.Flat.{HasNumber}
-use Rattle.sim_placed.specs.Given.{IsGivenSlot, HasGivenSlots, IsGivenNet, AreGivenNets}
+use Rattle.sim_placed.specs.Given.{IsGivenSlot, IsGivenPair, HaveOwnSlots, IsBehind, HaveOwn, IsGivenNet, AreGivenNets}
 
 -- slot 0 is a constant
 positive : (t : TapeTree) → IsTape t → (s : ℕ) → (gate_at t.gates s).rule ≡ Given → 0 < s
@@ -29,8 +29,8 @@ module _ (s t : TapeTree) (g : Extends s t) where
   pub slot_given_on : (i : ℕ) → IsGivenSlot s i → IsGivenSlot t i
   slot_given_on i h = (h.0, slot_on s t i g h.1, ap (λ (q : Gate). q.rule) (g.grows.same_gates i h.1) ∙ h.2)
 
-  slots_given_on : (bits : ℕ) (p : Pair) → HasGivenSlots s bits p → HasGivenSlots t bits p
-  slots_given_on bits p h = (slot_given_on p.low h.0, elim h.1 [ inl e ↦ inl e | inr e ↦ inr (e.0, slot_given_on p.high e.1) ])
+  slots_given_on : (bits : ℕ) (p : Pair) → IsGivenPair s bits p → IsGivenPair t bits p
+  slots_given_on bits p h = (slot_given_on p.low h.0, elim h.1 [ inl e ↦ inl e | inr e ↦ inr (e.0, slot_given_on p.high e.1, e.2) ])
 
   module _ (ms : List ModuleTree) (top : ModuleTree) where
     net_given_on : (n : FlatNet) (p : Pair) → IsGivenNet ms top n s p → IsGivenNet ms top n t p
@@ -66,3 +66,66 @@ none_given ms top f t i n p h got = let clash : None ≡ Some p = got in cc
 
 pub no_slots : (n : ℕ) → SlotsBefore [] n
 no_slots n i p got = let clash : None ≡ Some p = got in cc
+
+-- a pair of new slots has none in common with one of slots before them
+new_after : (m : ℕ) (p q : Pair) → 0 < p.low → PairBefore m p → IsBehind m q → HaveOwnSlots p q
+new_after m p q some before behind =
+    let low : p.low < m = before.0 in
+    let high : p.high < m = before.1 in
+    let from : m ≤ q.low = behind.0 in (
+      (λ e. let s : p.low ≡ q.low = e in absurd (omega arith)),
+      elim behind.1 [ inl z ↦ (λ e. let s : p.low ≡ q.high = e in absurd (omega (arith, z))) | inr ge ↦ (λ e. let s : p.low ≡ q.high = e in absurd (omega (arith, ge))) ],
+      (λ e. let s : p.high ≡ q.low = e in absurd (omega arith)),
+      elim behind.1 [
+        | inl z ↦ elim (cases_eq p.high 0) [ inl e ↦ inl e | inr ne ↦ inr (λ e. ne (e ∙ z)) ]
+        | inr ge ↦ inr (λ e. let s : p.high ≡ q.high = e in absurd (omega (arith, ge)))
+      ],
+    )
+
+own_turned : (p q : Pair) → HaveOwnSlots p q → HaveOwnSlots q p
+own_turned p q h = (
+  (λ e. h.0 (sym e)),
+  (λ e. h.2 (sym e)),
+  (λ e. h.1 (sym e)),
+  elim (cases_eq q.high 0) [
+    | inl e ↦ inl e
+    | inr ne ↦ inr (λ e. elim h.3 [ inl z ↦ ne (e ∙ z) | inr other ↦ other (sym e) ])
+  ],
+)
+
+module _ (pairs : List (Option Pair)) (pair : Option Pair) (m : ℕ) (slots : SlotsBefore pairs m) (behind : IfSome pair (λ p. IsBehind m p)) (zero_before : 0 < m) (was : HaveOwn pairs) where
+  abbrev more : List (Option Pair)
+  more = pairs ++ pair ∷ []
+
+  -- a pair among them is one of the former or the new one
+  among : (i : ℕ) (p : Pair) → get_or more i None ≡ Some p → (get_or pairs i None ≡ Some p) ⊎ ((i ≡ length pairs) × (pair ≡ Some p))
+  among i p got = elim (cases_lt i (length pairs)) [
+    | inl lt ↦ inl (sym (get_or_append_left pairs (pair ∷ []) None i lt) ∙ got)
+    | inr ge ↦ elim (cases_eq i (length pairs)) [
+      | inl e ↦ inr (e, sym (get_or_push pairs pair None i (sym e)) ∙ got)
+      | inr ne ↦
+          let none : get_or more i None ≡ None = get_or_past more i None (let long = length_push pairs pair in omega arith) in
+          let clash : None ≡ Some p = sym none ∙ got in cc
+    ]
+  ]
+
+  new_one : (p : Pair) → pair ≡ Some p → IsBehind m p
+  new_one p e = some_is (λ p. IsBehind m p) pair p e behind
+
+  some_more : (p : Pair) → IsBehind m p → 0 < p.low
+  some_more p b = let ge : m ≤ p.low = b.0 in omega arith
+
+  pub own_more : HaveOwn more
+  own_more = record {
+    some = λ i p got. elim (among i p got) [ inl old ↦ was.some i p old | inr new ↦ some_more p (new_one p new.1) ];
+    own = λ i j p q ne got other. elim (among i p got) [
+      | inl old ↦ elim (among j q other) [ inl o ↦ was.own i j p q ne old o | inr o ↦ new_after m p q (was.some i p old) (slots i p old) (new_one q o.1) ]
+      | inr new ↦ elim (among j q other) [
+        | inl o ↦ own_turned q p (new_after m q p (was.some j q o) (slots j q o) (new_one p new.1))
+        | inr o ↦ absurd (ne (new.0 ∙ sym o.0))
+      ]
+    ];
+  }
+
+pub none_own : HaveOwn []
+none_own = record { some = λ i p got. (let clash : None ≡ Some p = got in cc); own = λ i j p q ne got other. (let clash : None ≡ Some p = got in cc) }

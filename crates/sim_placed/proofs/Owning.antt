@@ -32,7 +32,7 @@ use Rattle.sim_placed.specs.declared.driven.Spot.{Spot}
 use Rattle.sim_placed.specs.Lines.{IsLine}
 use Rattle.sim_placed.specs.Plans.{IsAtSpot}
 use Rattle.sim_placed.specs.States.{IsFree}
-use Rattle.sim_placed.specs.Given.{HasGivenSlots, IsFreeSource, IsGivenNet}
+use Rattle.sim_placed.specs.Given.{IsGivenPair, IsFreeSource, IsGivenNet}
 use Rattle.sim_tape.specs.Tape.{TapeTree}
 use Rattle.sim_tape.specs.declared.gates.Pair.{Pair}
 
@@ -167,11 +167,11 @@ module _ (ms : List ModuleTree) (top : ModuleTree) (f : Flat) (flat : IsFlat ms 
     is_free e got (source.Child c p) s free = absurd free
 
     pub is_given : (e : Declaration) → Some e ≡ slice_get t.scope place → (s : Source) → s ≡ get_or t.sources.items place source.Nothing → is_clk e.name ≡ false → (tape : TapeTree) (p : Pair)
-        → HasGivenSlots tape e.bits p × IsFreeSource spot.instance e.name s → IsGivenNet ms top n tape p
+        → IsGivenPair tape e.bits p × IsFreeSource spot.instance e.name s → IsGivenNet ms top n tape p
     is_given e got s from clock tape p h = record {
       tree = tree;
       at = at_path;
       free = is_free e got s from h.1;
       clock = ap is_clk (sym (name_is e got)) ∙ clock;
-      given = subst (λ k. HasGivenSlots tape k p) (sym (bits_are e got)) h.0;
+      given = subst (λ k. IsGivenPair tape k p) (sym (bits_are e got)) h.0;
     }
