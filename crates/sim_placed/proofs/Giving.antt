@@ -1,11 +1,14 @@
 -- Slots that are given from outside, as a tape grows.
-use Rattle.std.proofs.Common.{◌≡◌, ℕ, zero, suc, ◌<◌, ◌≤◌, List, [], ◌∷◌, ◌++◌, Option, Some, None, length, get_or, inl, inr, sym, ap, subst, ◌∙◌, arith}
-use Rattle.std.specs.Prelude.{◌⊎◌, IfSome}
+use Rattle.std.proofs.Common.{◌≡◌, ℕ, zero, suc, ◌<◌, ◌≤◌, false, List, [], ◌∷◌, ◌++◌, Option, Some, None, length, get_or, inl, inr, sym, ap, subst, ◌∙◌, arith}
+use Rattle.std.specs.Prelude.{◌⊎◌, IfSome, IsSome, is_some}
 use Rattle.std.proofs.lemmas.Bool.{cases_eq, cases_lt}
 use Rattle.std.proofs.lemmas.List.{get_or_append_left, get_or_push, get_or_past, length_push}
 use Rattle.vlog_tree.specs.Form.{ModuleTree}
 use Rattle.vlog_tree.specs.Flattened.{FlatNet}
-use Rattle.vlog_tree.specs.Table.{declared, bits_of}
+use Rattle.vlog_tree.specs.Cycle.{module_at}
+use Rattle.vlog_tree.specs.Table.{is_clk, declared, bits_of}
+use Rattle.std.proofs.lemmas.Option.{same_Some}
+use Rattle.vlog_ref_start.proofs.Found.{some_of}
 use Rattle.sim_tape.specs.declared.gates.Pair.{Pair}
 use Rattle.sim_tape.specs.declared.gates.Gate.{Gate}
 use Rattle.sim_tape.specs.declared.gates.Rule.TheVariants.{Given, Constant}
@@ -15,7 +18,9 @@ use Rattle.sim_lower.specs.Nets.{SlotsBefore}
 use Rattle.sim_lower.proofs.AtomSlots.{some_is}
 use Rattle.sim_nets.specs.declared.flat.Flat.{Flat}
 use Rattle.sim_nets.specs.Flat.{HasNumber}
-use Rattle.sim_placed.specs.Given.{IsGivenSlot, IsGivenPair, HaveOwnSlots, IsBehind, HaveOwn, IsGivenNet, AreGivenNets}
+use Rattle.sim_placed.specs.States.{IsFree, AreRead}
+use Rattle.sim_placed.specs.Placed.{AllFree, AreKept}
+use Rattle.sim_placed.specs.Given.{IsGivenSlot, IsGivenPair, HaveOwnSlots, IsBehind, HaveOwn, IsGivenNet, AreGivenNets, AreGiven}
 
 -- slot 0 is a constant
 positive : (t : TapeTree) → IsTape t → (s : ℕ) → (gate_at t.gates s).rule ≡ Given → 0 < s
@@ -129,3 +134,39 @@ module _ (pairs : List (Option Pair)) (pair : Option Pair) (m : ℕ) (slots : Sl
 
 pub none_own : HaveOwn []
 none_own = record { some = λ i p got. (let clash : None ≡ Some p = got in cc); own = λ i j p q ne got other. (let clash : None ≡ Some p = got in cc) }
+
+-- all nets of some numbers that have their numbers from no other net have pairs
+abbrev pub AllFreeBelow : List ModuleTree → ModuleTree → Flat → List (Option Pair) → Type 0
+AllFreeBelow ms top f pairs = (i : ℕ) (n : FlatNet) → i < length pairs → HasNumber ms f i n → IsFree ms top n → is_clk n.1 ≡ false → IsSome (get_or pairs i None)
+
+module _ (ms : List ModuleTree) (top : ModuleTree) (f : Flat) where
+  pub none_free : AllFreeBelow ms top f []
+  none_free i n low h free clock = absurd (omega (arith, low))
+
+  pub all_more : (pairs : List (Option Pair)) (pair : Option Pair) → AllFreeBelow ms top f pairs → ((n : FlatNet) → HasNumber ms f (length pairs) n → IsFree ms top n → is_clk n.1 ≡ false → IsSome pair) → AllFreeBelow ms top f (pairs ++ pair ∷ [])
+  all_more pairs pair was here i n low h free clock = elim (cases_lt i (length pairs)) [
+    | inl lt ↦ ap is_some (get_or_append_left pairs (pair ∷ []) None i lt) ∙ was i n lt h free clock
+    | inr ge ↦
+        let long = length_push pairs pair in
+        let same : i ≡ length pairs = omega (arith, ge, low) in
+        ap is_some (get_or_push pairs pair None i (sym same)) ∙ here n (subst (λ k. HasNumber ms f k n) same h) free clock
+  ]
+
+  -- pairs that stay among more ones, where clocks have none
+  module _ (old new : List (Option Pair)) (s t : TapeTree) (g : Extends s t) (nets : AreGivenNets ms top f old s) (own : HaveOwn old) (all : AllFree ms top f old) (kept : AreKept old new) (read : AreRead ms top f new) where
+    was_there : (number : ℕ) (n : FlatNet) (p : Pair) → HasNumber ms f number n → IsFree ms top n → get_or new number None ≡ Some p → get_or old number None ≡ Some p
+    was_there number n p h free got =
+        let q = some_of (get_or old number None) (all number n h free (read number n free.tree p h free.at got).1) in
+        q.1 ∙ ap (λ z. Some z) (same_Some q.0 p (sym (kept number q.0 q.1) ∙ got))
+
+    given_net : (number : ℕ) (n : FlatNet) (m : ModuleTree) (p : Pair) → HasNumber ms f number n → module_at ms top n.0 ≡ Some m → IsFree ms top n → get_or new number None ≡ Some p → IsGivenPair t (bits_of (declared m) n.1) p
+    given_net number n m p h at free got =
+        let i = nets number n p h (was_there number n p h free got) in
+        let same : i.tree ≡ m = same_Some i.tree m (sym i.at ∙ at) in
+        slots_given_on s t g (bits_of (declared m) n.1) p (subst (λ (k : ModuleTree). IsGivenPair s (bits_of (declared k) n.1) p) same i.given)
+
+    pub are_given : AreGiven ms top f new t
+    are_given = record {
+      given = λ number n m p h at free got. given_net number n m p h at free got;
+      own = λ number other n k p q h e free also ne got and. own.own number other p q ne (was_there number n p h free got) (was_there other k q e also and);
+    }

@@ -5,6 +5,7 @@ use Rattle.sim_tape.specs.Trees.{tree_of}
 use Rattle.sim_lower.specs.Nets.{SlotsBefore}
 use Rattle.sim_nets.specs.Flat.{IsFlat}
 use Rattle.sim_placed.specs.Given.{HaveOwn, AreGivenNets}
+use Rattle.sim_placed.proofs.Giving.{AllFreeBelow}
 use Rattle.sim_placed.proofs.given.give_all.Given as goal
 
 abbrev pub invariant-loop-number : goal.invariant-loop-number
@@ -13,5 +14,6 @@ invariant-loop-number l = record {
   slots : SlotsBefore l.pairs.items (length (tree_of l.tape).gates);
   own : HaveOwn l.pairs.items;
   count : length l.pairs.items ≡ l.number;
+  all : (ms : List ModuleTree) (top : ModuleTree) → IsFlat ms top l.flat → AllFreeBelow ms top l.flat l.pairs.items;
   given : (ms : List ModuleTree) (top : ModuleTree) → IsFlat ms top l.flat → AreGivenNets ms top l.flat l.pairs.items (tree_of l.tape);
 }
