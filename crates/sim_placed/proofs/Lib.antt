@@ -4,5 +4,6 @@ pub mod Joining
 pub mod Answering
 pub mod Undriven
 pub mod Owning
+pub mod Reading
 pub mod Telling
 pub mod Giving
