@@ -264,3 +264,9 @@ module _ (ms : List ModuleTree) (top : ModuleTree) (f : Flat) (flat : IsFlat ms 
         let r = from_source (source.Line l) s in
         let lines : lines_at ms f spot.instance ≡ tree.items = lines_are ms top f flat spot.instance n.0 tree a.at.there a.at.stands a.at.of_module in
         (r.0, ap (λ z. slice_get z l) (are ∙ lines) ∙ r.1)
+
+    -- what the name at the place of a net that can be read is
+    pub can_be_read : (e : Declaration) → Some e ≡ slice_get t.scope place → CanBeRead ms top n → (net_kind_is_read e.net_kind ≡ true) × (is_clk e.name ≡ false)
+    can_be_read e got r =
+        let same : e ≡ d = same_Some e d (got ∙ ap (λ ds. slice_get ds place) a.table.names ∙ a.at.declared_at.1) in
+        (ap (λ (d : Declaration). net_kind_is_read d.net_kind) same ∙ ap net_kind_is_read (sym kind_is) ∙ is_read_here r, ap is_clk (name_is e got) ∙ r.clock)

@@ -32,19 +32,17 @@ loop-number-preserved c =
       kept = kept_twice c.args.pairs.now.items c.loop-number.pairs.items c.put_net.new.pairs.items i.kept e.kept;
       all = λ ms top plan order count free number n has h r.
           let f = c.args.plan.now.flat.now in
-          let x = c.number-item.result in
           let index = c.loop-number.number-index in
           let low = c.loop-number-test.true in
-          let at : x ≡ get_or c.args.order.now index x = c.number-item.is in
-          elim (taken_split c.args.order.now index x number low at has) [
+          let x = get_or c.args.order.now index 0 in
+          elim (taken_split c.args.order.now index x number low (get_or_default c.args.order.now index 0 x low) has) [
             | inl was ↦ kept_some c.loop-number.pairs.items c.put_net.new.pairs.items e.kept number (i.all ms top plan order count free number n was h r)
             | inr same ↦
                 let t = top_tree ms plan.flat.top_place plan.flat.design top plan.flat.top_at in
-                let number_is : x ≡ get_or c.args.order.now index 0 = at ∙ get_or_default c.args.order.now index x 0 low in
                 let here : HasNumber ms f x n = subst (λ k. HasNumber ms f k n) (sym same) h in
                 subst (λ k. IsSome (get_or c.put_net.new.pairs.items k None)) same
                 (e.all ms top n plan here r ((i.more ms top plan).count ∙ count) (all_kept ms top f c.args.pairs.now.items c.loop-number.pairs.items i.kept free)
-                (parts_placed ms top plan.flat.design.sound.names plan.flat.design.outside t.has t.is_top f c.args.order.now order c.loop-number.pairs.items index low (i.all ms top plan order count free) n (subst (λ k. HasNumber ms f k n) number_is here) r))
+                (parts_placed ms top plan.flat.design.sound.names plan.flat.design.outside t.has t.is_top f c.args.order.now order c.loop-number.pairs.items index low (i.all ms top plan order count free) n here r))
           ];
       more = λ ms top plan.
           placed_twice ms top c.args.plan.now.flat.now c.args.plan.now.memories.now c.args.pairs.now.items c.loop-number.pairs.items c.put_net.new.pairs.items (tree_of c.args.tape.now) (tree_of c.loop-number.tape) (tree_of c.put_net.new.tape) (i.more ms top plan) (e.more ms top plan);
