@@ -10,9 +10,9 @@ use Rattle.vlog_tree.specs.Form.{ModuleTree, is_input}
 use Rattle.vlog_tree.specs.declared.tree.PortDecl.{PortDecl}
 use Rattle.vlog_tree.specs.declared.table.NetKind.TheVariants.{Input, Unknown}
 use Rattle.vlog_tree.specs.Loops.{asked_port}
-use Rattle.vlog_tree.specs.Flattened.{FlatNet, parts}
+use Rattle.vlog_tree.specs.Flattened.{parts}
 use Rattle.vlog_tree.specs.Grounded.{Has}
-use Rattle.vlog_tree.specs.Labels.{ack_of, rdata_of, addr_of, m_ack, m_addr, m_rdata, read_of, address_of}
+use Rattle.vlog_tree.specs.Labels.{ack_of, addr_of, m_ack, m_addr, m_rdata, read_of, address_of}
 use Rattle.vlog_tree.specs.Table.{Name, declared, port_declared, items_declared, declaration_name, find_name, net_kind_of, net_kind_is_read, net_kind_is_input, bits_of, first_violation}
 use Rattle.vlog_tree.specs.V6.{v6_uses, is_top, port_fits, addr_fits, wdata_fits, we_fits, has_all_five, is_out, has_port}
 use Rattle.vlog_tree.specs.Environment.{shape_of, memory_label}

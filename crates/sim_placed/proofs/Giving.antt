@@ -1,12 +1,12 @@
 -- Slots that are given from outside, as a tape grows.
-use Rattle.std.proofs.Common.{◌≡◌, ℕ, zero, suc, ◌<◌, ◌≤◌, false, List, [], ◌∷◌, ◌++◌, Option, Some, None, length, get_or, inl, inr, sym, ap, subst, ◌∙◌, arith}
+use Rattle.std.proofs.Common.{◌≡◌, ℕ, zero, suc, ◌<◌, ◌≤◌, true, false, List, [], ◌∷◌, ◌++◌, Option, Some, None, length, get_or, inl, inr, sym, ap, subst, ◌∙◌, arith}
 use Rattle.std.specs.Prelude.{◌⊎◌, IfSome, IsSome, is_some}
 use Rattle.std.proofs.lemmas.Bool.{cases_eq, cases_lt}
 use Rattle.std.proofs.lemmas.List.{get_or_append_left, get_or_push, get_or_past, length_push}
 use Rattle.vlog_tree.specs.Form.{ModuleTree}
 use Rattle.vlog_tree.specs.Flattened.{FlatNet}
 use Rattle.vlog_tree.specs.Cycle.{module_at}
-use Rattle.vlog_tree.specs.Table.{is_clk, declared, bits_of}
+use Rattle.vlog_tree.specs.Table.{is_clk, declared, net_kind_of, net_kind_is_read, bits_of}
 use Rattle.std.proofs.lemmas.Option.{same_Some}
 use Rattle.vlog_ref_start.proofs.Found.{some_of}
 use Rattle.sim_tape.specs.declared.gates.Pair.{Pair}
@@ -19,7 +19,7 @@ use Rattle.sim_lower.proofs.AtomSlots.{some_is}
 use Rattle.sim_nets.specs.declared.flat.Flat.{Flat}
 use Rattle.sim_nets.specs.Flat.{HasNumber}
 use Rattle.sim_placed.specs.States.{IsFree, AreRead}
-use Rattle.sim_placed.specs.Placed.{AllFree, AreKept}
+use Rattle.sim_placed.specs.Placed.{AreFree, AllFree, AreKept}
 use Rattle.sim_placed.specs.Given.{IsGivenSlot, IsGivenPair, HaveOwnSlots, IsBehind, HaveOwn, IsGivenNet, AreGivenNets, AreGiven}
 
 -- slot 0 is a constant
@@ -151,6 +151,18 @@ module _ (ms : List ModuleTree) (top : ModuleTree) (f : Flat) where
         let same : i ≡ length pairs = omega (arith, ge, low) in
         ap is_some (get_or_push pairs pair None i (sym same)) ∙ here n (subst (λ k. HasNumber ms f k n) same h) free clock
   ]
+
+  -- given nets are such that have their numbers from no other net, and can be read
+  module _ (pairs : List (Option Pair)) (t : TapeTree) (nets : AreGivenNets ms top f pairs t) where
+    pub given_free : AreFree ms top f pairs
+    given_free number n p h got = (nets number n p h got).free
+
+    pub given_read : AreRead ms top f pairs
+    given_read number n m p h at got =
+        let i = nets number n p h got in
+        let same : i.free.tree ≡ m = same_Some i.free.tree m (sym i.free.at ∙ at) in
+        let read : net_kind_is_read (net_kind_of (declared i.free.tree) n.1) ≡ true = elim i.free.by [ inl r ↦ ap net_kind_is_read r | inr q ↦ ap net_kind_is_read q.1 ] in
+        (subst (λ (k : ModuleTree). net_kind_is_read (net_kind_of (declared k) n.1) ≡ true) same read, i.clock)
 
   -- pairs that stay among more ones, where clocks have none
   module _ (old new : List (Option Pair)) (s t : TapeTree) (g : Extends s t) (nets : AreGivenNets ms top f old s) (own : HaveOwn old) (all : AllFree ms top f old) (kept : AreKept old new) (read : AreRead ms top f new) where

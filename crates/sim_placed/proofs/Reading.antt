@@ -1,7 +1,7 @@
 -- What a net has its number from can be read.
 use Rattle.std.proofs.Common.{◌≡◌, ℕ, ◌<◌, Bool, true, false, cond, ◌&&◌, List, [], ◌∷◌, Option, Some, None, length, get_or, take, inl, inr, refl, sym, ap, subst, ◌∙◌, map}
 use Rattle.std.specs.Prelude.{bytes_eq, if◌then◌else◌, not, IsSome}
-use Rattle.std.specs.List.{flat_map, filter}
+use Rattle.std.specs.List.{filter}
 use Rattle.std.specs.Cmp.Lexicographic.{bytes_decides}
 use Rattle.vlog_tree.specs.declared.tree.Value.{Value}
 use Rattle.vlog_tree.specs.declared.tree.Connection.{Connection}

@@ -1,7 +1,7 @@
-use Rattle.std.proofs.Common.{◌≡◌, ℕ, ◌<◌, List, None, length, get_or, inl, inr, sym, subst, ap, ◌∙◌}
+use Rattle.std.proofs.Common.{None, get_or, inl, inr, sym, subst, ◌∙◌}
 use Rattle.std.proofs.lemmas.List.{take_all, get_or_default}
 use Rattle.vlog_tree.specs.Grounded.{Has}
-use Rattle.vlog_tree.proofs.Lists.{taken_split, got_index}
+use Rattle.vlog_tree.proofs.Lists.{taken_split}
 use Rattle.vlog_law_runs.proofs.Settled.{top_tree}
 use Rattle.sim_nets.specs.Flat.{HasNumber}
 use Rattle.sim_nets.proofs.Standing.{number_low}
