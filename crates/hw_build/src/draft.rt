@@ -1,6 +1,6 @@
 // A module under construction.
 
-ghost use Rattle.std.specs.Prelude.{◌≡◌, ◌++◌, ◌∷◌, [], IfOk};
+ghost use Rattle.std.specs.Prelude.{◌≡◌, ◌+◌, ◌≤◌, ◌^◌, ◌++◌, ◌∷◌, [], length, IfOk};
 ghost use Rattle.std.specs.Str.{IsAscii};
 ghost use Rattle.vlog_tree.specs.Form.{IsModule};
 ghost use Rattle.hw_build.specs.Elements.{with, empty, Input as InputElement, Output as OutputElement, Outlet as OutletElement, Wire as WireElement, Link as LinkElement, Register as RegisterElement, Memory as MemoryElement, Block as BlockElement, Instance as InstanceElement};
@@ -177,6 +177,16 @@ impl Draft {
             connections,
         })?;
         Ok(())
+    }
+
+    /// Whether its ports and its items together are at most 2^64. What is held in memory has no more.
+    pub fn count(&self) -> Result<(), AllocError>
+        ensures { IfOk result (λ u. length self.now.ports + length self.now.items ≤ 2 ^ 64) }
+    {
+        match self.ports.len().checked_add(self.items.len()) {
+            Some(_) => Ok(()),
+            None => Err(AllocError),
+        }
     }
 
     /// The finished module.

@@ -7,4 +7,4 @@ mod reads;
 mod wires;
 
 pub use reads::{ArrayRead, add_reads, read_count};
-pub use wires::{Wired, compile};
+pub use wires::{Wired, add_wires, compile};

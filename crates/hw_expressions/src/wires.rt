@@ -29,8 +29,8 @@ pub struct Wired {
     pub count: u32,
 }
 
-// Adds wires with these drivers, numbered from n on.
-fn add_wires(
+/// Adds wires with these drivers, numbered from `first` on.
+pub fn add_wires(
     alloc: Global,
     draft: &mut Draft,
     front: &Text,

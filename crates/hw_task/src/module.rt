@@ -2,7 +2,6 @@
 
 ghost use Rattle.std.specs.Prelude.{◌≡◌, ◌+◌, ◌≤◌, ◌^◌, length, IfOk};
 ghost use Rattle.tapa_syntax.specs.declared.program.Leaf.{Leaf};
-ghost use Rattle.vlog_tree.specs.Form.{IsModule};
 ghost use Rattle.hw_build.specs.Elements.{empty, with_all};
 ghost use Rattle.task_law.specs.Texts.{task_elements, task_name as task_name_lem, task_tree};
 ghost use Rattle.hw_states.specs.Shapes.{form};
@@ -64,19 +63,16 @@ fn drafted(
 }
 
 // Whether the states have numbers of 32 bits, and the lines of 64. What is held in memory has no larger ones.
-fn count(machine: &Fsm, tree: &Module) -> Result<(), AllocError>
+fn count(machine: &Fsm, draft: &Draft) -> Result<(), AllocError>
     ensures states { IfOk result (λ u. length machine.now.states.items ≤ 2 ^ 32) }
-    ensures lines { IfOk result (λ u. length tree.now.ports + length tree.now.items ≤ 2 ^ 64) }
+    ensures lines { IfOk result (λ u. length draft.now.ports + length draft.now.items ≤ 2 ^ 64) }
 {
     small(machine.states.len())?;
-    match tree.ports().len().checked_add(tree.items().len()) {
-        Some(_) => Ok(()),
-        None => Err(AllocError),
-    }
+    draft.count()
 }
 
 /// The module of a machine whose task has memories of these kinds and streams with these ends. In each cycle after reset it
-/// makes its machine's tick or none. If the machine is that of a leaf, the module runs it in any design, breaks no rule on
+/// makes its machine's tick or none. The machine is that of a leaf: the module runs it in any design, breaks no rule on
 /// names, widths, drivers and loops, has the ports of the task, and none of its outputs rests on an input in the same cycle
 /// but those that take a token.
 pub fn module_of(
@@ -85,12 +81,11 @@ pub fn module_of(
     memories: &[Kind],
     streams: &[End],
 ) -> Result<Module, OutOfMemory>
-    requires { IsModule (task_tree machine.now memories.now streams.now) }
+    requires { (leaf : Leaf) × IsOfLeaf leaf machine.now memories.now streams.now }
     ensures tree { IfOk result (λ m. m ≡ task_tree machine.now memories.now streams.now) }
     ensures promise { IfOk result (λ m. (leaf : Leaf) → IsOfLeaf leaf machine.now memories.now streams.now → KeepsPromise leaf machine.now m) }
 {
     let draft = drafted(alloc, machine, memories, streams)?;
-    let tree = draft.module();
-    count(machine, &tree)?;
-    Ok(tree)
+    count(machine, &draft)?;
+    Ok(draft.module())
 }

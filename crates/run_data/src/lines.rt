@@ -3,7 +3,7 @@ ghost use Rattle.std.specs.Io.KnownBytes.{Appends};
 ghost use Rattle.tapa_base.specs.Outside.{AppendsPart, Rose};
 ghost use Rattle.run_data.specs.Report.{number_text, token_text, tokens_text, numbers_text, stream_line, memory_line, last_line, HasNoLf, IsOneLine};
 
-use itoa::Buffer;
+use itoa::{Buffer, write_digits};
 use std::alloc::{AllocError, Global};
 use tapa_base::{PrintFault, Sink, Token, put_all};
 
@@ -15,17 +15,29 @@ pub enum Last {
     Running(u64),
 }
 
-// A space and a number.
-fn push_number(line: &mut Vec<u8>, buffer: &mut Buffer, number: u64) -> Result<(), AllocError>
+// The bytes of a space and the longest number.
+const LONGEST: usize = 21;
+
+// A space and a number, which are written into a buffer first.
+fn push_number(
+    line: &mut Vec<u8>,
+    buffer: &mut [u8; LONGEST],
+    number: u64,
+) -> Result<(), AllocError>
     ensures { OnOk result (line.new.items ≡ line.old.items ++ number_text number) }
 {
-    line.push(b' ')?;
-    line.extend_from_slice(buffer.format(number).as_bytes())?;
+    let start = write_digits(number, buffer, LONGEST) - 1;
+    buffer[start] = b' ';
+    line.extend_from_slice(&buffer[start..])?;
     Ok(())
 }
 
 // A space and a token.
-fn push_token(line: &mut Vec<u8>, buffer: &mut Buffer, token: Token) -> Result<(), AllocError>
+fn push_token(
+    line: &mut Vec<u8>,
+    buffer: &mut [u8; LONGEST],
+    token: Token,
+) -> Result<(), AllocError>
     ensures { OnOk result (line.new.items ≡ line.old.items ++ token_text token) }
 {
     match token {
@@ -40,7 +52,7 @@ fn push_token(line: &mut Vec<u8>, buffer: &mut Buffer, token: Token) -> Result<(
 fn push_tokens(line: &mut Vec<u8>, tokens: &[Token]) -> Result<(), AllocError>
     ensures { OnOk result (line.new.items ≡ line.old.items ++ tokens_text tokens.now) }
 {
-    let mut buffer = Buffer::new();
+    let mut buffer = [0; LONGEST];
     for token in tokens {
         push_token(line, &mut buffer, *token)?;
     }
@@ -50,7 +62,7 @@ fn push_tokens(line: &mut Vec<u8>, tokens: &[Token]) -> Result<(), AllocError>
 fn push_numbers(line: &mut Vec<u8>, numbers: &[u64]) -> Result<(), AllocError>
     ensures { OnOk result (line.new.items ≡ line.old.items ++ numbers_text numbers.now) }
 {
-    let mut buffer = Buffer::new();
+    let mut buffer = [0; LONGEST];
     for number in numbers {
         push_number(line, &mut buffer, *number)?;
     }

@@ -1,22 +1,29 @@
 -- What memories outside answer.
-use Rattle.std.proofs.Common.{◌≡◌, ℕ, ◌+◌, ◌^◌, ◌<◌, Bool, true, ◌&&◌, List, [], Option, Some, None, length, get_or, refl, sym, ap, subst, ◌∙◌, map, arith}
-use Rattle.std.specs.Prelude.{◌==◌, not, slice_get}
+use Rattle.std.proofs.Common.{◌≡◌, ℕ, ◌+◌, ◌^◌, ◌<◌, Bool, true, cond, ◌&&◌, List, [], ◌∷◌, Option, Some, None, inl, length, get_or, refl, sym, ap, subst, ◌∙◌, map, arith}
+use Rattle.std.specs.Prelude.{◌==◌, not, slice_get, IsSome}
+use Rattle.std.specs.List.{filter}
 use Rattle.std.specs.Option.{option_map_or}
 use Rattle.std.proofs.lemmas.Bool.{eqb-true}
 use Rattle.tapa_base.specs.declared.shape.Port.{Port}
 use Rattle.vlog_tree.specs.declared.table.Declaration.{Declaration}
 use Rattle.vlog_tree.specs.Form.{ModuleTree, is_input}
+use Rattle.vlog_tree.specs.declared.tree.PortDecl.{PortDecl}
+use Rattle.vlog_tree.specs.declared.table.NetKind.TheVariants.{Input, Unknown}
+use Rattle.vlog_tree.specs.Loops.{asked_port}
+use Rattle.vlog_tree.specs.Flattened.{parts}
 use Rattle.vlog_tree.specs.Grounded.{Has}
-use Rattle.vlog_tree.specs.Labels.{addr_of, m_addr, m_rdata}
-use Rattle.vlog_tree.specs.Table.{Name, declared, port_declared, items_declared, declaration_name, find_name, net_kind_of, net_kind_is_read, bits_of, first_violation}
-use Rattle.vlog_tree.specs.V6.{v6_uses, is_top, port_fits, addr_fits, wdata_fits, we_fits, has_all_five, is_out}
-use Rattle.vlog_tree.specs.Environment.{shape_of}
-use Rattle.vlog_tree.proofs.Lists.{of_map}
+use Rattle.vlog_tree.specs.Labels.{ack_of, addr_of, m_ack, m_addr, m_rdata, read_of, address_of}
+use Rattle.vlog_tree.specs.Table.{Name, declared, port_declared, items_declared, declaration_name, find_name, net_kind_of, net_kind_is_read, net_kind_is_input, bits_of, first_violation}
+use Rattle.vlog_tree.specs.V6.{v6_uses, is_top, port_fits, addr_fits, wdata_fits, we_fits, has_all_five, is_out, has_port}
+use Rattle.vlog_tree.specs.Environment.{shape_of, memory_label}
+use Rattle.vlog_tree.proofs.Lists.{of_map, has_map, has_flat, got_has}
+use Rattle.vlog_rules.proofs.Found.{missing}
 use Rattle.vlog_rules.specs.NameTable.{places_from}
-use Rattle.vlog_law_runs.proofs.Sound.{both_true}
+use Rattle.vlog_law_runs.proofs.Sound.{both_true, true_not_false}
+use Rattle.vlog_law_runs.proofs.Parts.{part_answer}
 use Rattle.vlog_law_runs.proofs.Sizes.{found_name}
 use Rattle.vlog_law_runs.proofs.Cycles.{port_stands}
-use Rattle.vlog_law_runs.proofs.Labelled.{label_of}
+use Rattle.vlog_law_runs.proofs.Labelled.{label_of, ack_of_label, rdata_of_label}
 use Rattle.vlog_law_runs.proofs.TopPorts.{memory_clock, port_right, five_of}
 use Rattle.vlog_law_runs.proofs.Settled.{top_tree}
 use Rattle.sim_tape.specs.declared.gates.Pair.{Pair}
@@ -27,7 +34,8 @@ use Rattle.sim_lower.proofs.Pairs.{single, low_is}
 use Rattle.sim_nets.specs.declared.flat.Flat.{Flat}
 use Rattle.sim_nets.specs.Flat.{IsFlat, HasNumber}
 use Rattle.sim_nets.proofs.Standing.{top_low, top_is}
-use Rattle.sim_placed.specs.States.{IsTold}
+use Rattle.sim_nets.proofs.Linked.{input_port_is}
+use Rattle.sim_placed.specs.States.{IsTold, PartsPlaced}
 use Rattle.sim_placed.specs.Lines.{IsLabelAt}
 use Rattle.sim_placed.proofs.Parts.{numbered, declared_here}
 
@@ -89,3 +97,47 @@ module _ (ms : List ModuleTree) (top : ModuleTree) (f : Flat) (flat : IsFlat ms 
       ∙ ap (λ n. cell_in cells i n) (value ∙ sym (low_is ns asked small))
       ∙ ap (λ k. cell_in cells k (number_at ns asked.low)) (sym (is cells ns solved))
       ∙ sym (single t tape cells ns solved cell ∙ says cells ns solved)
+
+  -- the label stands among those of the memories outside
+  pub label_there : (labels : List Port) → labels ≡ (shape_of top).memories → (i : ℕ) × IsLabelAt labels i l
+  label_there labels are =
+      let ports : List Declaration = map port_declared top.ports in
+      let read : net_kind_is_read (net_kind_of ports (m_ack l)) ≡ true = (five_of ms flat.design.outside top top_here l five).0 in
+      let f = found_name ports (m_ack l) net_kind_is_read refl read in
+      let t = of_map port_declared top.ports (find_name ports (m_ack l)) f.0 in
+      let name : t.0.name ≡ m_ack l = ap (λ (d : Declaration). d.name) t.2 ∙ f.1 in
+      let memory : Port = record { name = l; bits = bits_of (declared top) (m_rdata l) } in
+      let has : Has (shape_of top).memories memory = has_flat (λ (p : PortDecl). memory_label (declared top) (ack_of p.name)) top.ports t.0 memory t.1
+      (subst (λ o. Has (memory_label (declared top) o) memory) (sym (ap ack_of name ∙ ack_of_label l some)) (inl refl)) in
+      let g = got_has (shape_of top).memories memory has in
+      (g.0, record { port = memory; got = ap (λ z. slice_get z g.0) are ∙ g.2; is = refl })
+
+  -- the top declares the net at which the memory is asked
+  pub asked_there : places_from 0 (map declaration_name (declared top)) (m_addr l) ≡ None → ⊥
+  asked_there e =
+      let unknown_kind : net_kind_of (declared top) (m_addr l) ≡ Unknown = ap (λ (d : Declaration). d.net_kind) (missing 0 (declared top) (m_addr l) e).here in
+      let read : net_kind_is_read (net_kind_of (declared top) (m_addr l)) ≡ true = asked_read ms flat.design.outside top top_here is_the_top l some five in
+      true_not_false (sym read ∙ ap net_kind_is_read unknown_kind)
+
+  -- its place is its number
+  pub asked_number : (q : ℕ × Bool) → places_from 0 (map declaration_name (declared top)) (m_addr l) ≡ Some q → HasNumber ms f q.0 ([], m_addr l)
+  asked_number q place =
+      let low = top_low ms top f flat in
+      let here = top_is ms top f flat in
+      let from : get_or f.first_net.items 0 0 + q.0 ≡ q.0 = let z = flat.numbers.starts in omega arith in
+      subst (λ k. HasNumber ms f k ([], m_addr l)) from (numbered ms f 0 low [] refl top here q.0 (m_addr l) (declared_here ms f 0 low [] refl top here (m_addr l) q place))
+
+  -- what the memory answers has its number from there
+  pub asked_part : net_kind_of (declared top) (m_rdata l) ≡ Input → Has (parts ms top true ([], m_rdata l)) ([], m_addr l)
+  asked_part input =
+      let ports : List Declaration = map port_declared top.ports in
+      let port : has_port ports (m_addr l) ≡ true = (five_of ms flat.design.outside top top_here l five).1 in
+      let asked : Has (asked_port ports (m_rdata l)) (m_addr l) =
+      subst (λ b. Has (cond b (filter (has_port ports) (address_of (m_rdata l))) []) (m_addr l)) (sym (input_port_is top (m_rdata l) (ap net_kind_is_input input)))
+      (subst (λ o. Has (filter (has_port ports) (read_of o)) (m_addr l)) (sym (rdata_of_label l some))
+      (subst (λ b. Has (cond b (m_addr l ∷ []) []) (m_addr l)) (sym port) (inl refl))) in
+      part_answer ms top [] (m_rdata l) ([], m_addr l) (has_map (λ (y : Name). ([], y)) (asked_port ports (m_rdata l)) (m_addr l) asked)
+
+  pub asked_placed : (pairs : List (Option Pair)) (x : Name) → x ≡ m_rdata l → net_kind_of (declared top) x ≡ Input → PartsPlaced ms top f pairs ([], x) → (number : ℕ) → HasNumber ms f number ([], m_addr l) → IsSome (get_or pairs number None)
+  asked_placed pairs x is input placed number h =
+      subst (λ y. PartsPlaced ms top f pairs ([], y)) is placed number ([], m_addr l) h (asked_part (subst (λ y. net_kind_of (declared top) y ≡ Input) is input))

@@ -2,6 +2,8 @@ pub mod Parts
 pub mod Driving
 pub mod Joining
 pub mod Answering
+pub mod Undriven
 pub mod Owning
+pub mod Reading
 pub mod Telling
 pub mod Giving

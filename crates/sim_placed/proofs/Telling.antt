@@ -1,6 +1,6 @@
 -- Nets that are placed one after another.
 use Rattle.std.proofs.Common.{◌≡◌, ℕ, ◌<◌, ◌≤◌, false, List, Option, Some, None, length, get_or, inl, inr, refl, sym, ap, subst, ◌∙◌}
-use Rattle.std.specs.Prelude.{is_some, slice_set, IfSome, IsTrue}
+use Rattle.std.specs.Prelude.{is_some, slice_set, IfSome, IsSome, IsTrue}
 use Rattle.std.proofs.lemmas.Bool.{cases_eq}
 use Rattle.std.proofs.lemmas.Grind.{get_or-set_at}
 use Rattle.std.proofs.lemmas.List.{get_or-set_other, length-set}
@@ -16,7 +16,9 @@ use Rattle.sim_lower.proofs.AtomSlots.{some_is}
 use Rattle.sim_nets.specs.declared.flat.Flat.{Flat}
 use Rattle.sim_nets.specs.Flat.{HasNumber}
 use Rattle.sim_placed.specs.States.{IsTold, AreRead, Tells}
-use Rattle.sim_placed.specs.Placed.{AreFree, AreKept, ArePlacedMore}
+use Rattle.sim_placed.specs.Placed.{AreFree, AllFree, AreKept, ArePlacedMore}
+use Rattle.vlog_law_runs.proofs.Sound.{true_not_false}
+use Rattle.vlog_ref_start.proofs.Found.{some_of}
 
 none_of : {A : Type 0} (o : Option A) → is_some o ≡ false → o ≡ None
 none_of None e = refl
@@ -27,6 +29,13 @@ kept_same pairs number p e = e
 
 pub kept_twice : (a b c : List (Option Pair)) → AreKept a b → AreKept b c → AreKept a c
 kept_twice a b c h k number p e = k number p (h number p e)
+
+-- what has a pair keeps one
+pub kept_some : (old new : List (Option Pair)) → AreKept old new → (number : ℕ) → IsSome (get_or old number None) → IsSome (get_or new number None)
+kept_some old new kept number is = let q = some_of (get_or old number None) is in ap is_some (kept number q.0 q.1)
+
+pub all_kept : (ms : List ModuleTree) (top : ModuleTree) (f : Flat) (old new : List (Option Pair)) → AreKept old new → AllFree ms top f old → AllFree ms top f new
+all_kept ms top f old new kept all number n h free clock = kept_some old new kept number (all number n h free clock)
 
 module _ (old : List (Option Pair)) (f : ℕ) (pair : Option Pair) (low : f < length old) (none : is_some (get_or old f None) ≡ false) where
   abbrev pub new : List (Option Pair)
@@ -43,6 +52,12 @@ module _ (old : List (Option Pair)) (f : ℕ) (pair : Option Pair) (low : f < le
 
   pub kept : AreKept old new
   kept i p h = elim (cases_eq i f) [ inl e ↦ absurd (no_old i p e h) | inr ne ↦ away i ne ∙ h ]
+
+  pub not_placed : IsSome (get_or old f None) → ⊥
+  not_placed is = true_not_false (sym is ∙ none)
+
+  pub put_some : IsSome pair → IsSome (get_or new f None)
+  put_some is = ap is_some (at_it f refl) ∙ is
 
   pub slots_put : (m n : ℕ) → m ≤ n → SlotsBefore old m → IfSome pair (λ p. PairBefore n p) → SlotsBefore new n
   slots_put m n le slots here i p h = elim (cases_eq i f) [

@@ -28,13 +28,18 @@ IsGivenSlot t s = (0 < s) × (s < length t.gates) × ((gate_at t.gates s).rule �
 abbrev pub IsGivenPair : TapeTree → ℕ → Pair → Type 0
 IsGivenPair t bits p = IsGivenSlot t p.low × (((bits ≤ 64) × (p.high ≡ 0)) ⊎ ((64 < bits) × IsGivenSlot t p.high × (p.low ≢ p.high)))
 
--- the same, where the two slots may be one
-abbrev pub HasGivenSlots : TapeTree → ℕ → Pair → Type 0
-HasGivenSlots t bits p = IsGivenSlot t p.low × (((bits ≤ 64) × (p.high ≡ 0)) ⊎ ((64 < bits) × IsGivenSlot t p.high))
-
 -- two pairs have no slot in common but slot 0
 abbrev pub HaveOwnSlots : Pair → Pair → Type 0
 HaveOwnSlots p q = (p.low ≢ q.low) × (p.low ≢ q.high) × (p.high ≢ q.low) × ((p.high ≡ 0) ⊎ (p.high ≢ q.high))
+
+-- the slots of a pair, but slot 0, come after so many
+abbrev pub IsBehind : ℕ → Pair → Type 0
+IsBehind m p = (m ≤ p.low) × ((p.high ≡ 0) ⊎ (m ≤ p.high))
+
+-- no two pairs have a slot in common, and none has slot 0 for its low half
+pub record HaveOwn (pairs : List (Option Pair)) : Type 0 where
+  pub some : (i : ℕ) (p : Pair) → get_or pairs i None ≡ Some p → 0 < p.low
+  pub own : (i j : ℕ) (p q : Pair) → i ≢ j → get_or pairs i None ≡ Some p → get_or pairs j None ≡ Some q → HaveOwnSlots p q
 
 -- registers and inputs of the top have slots of their own, which are given from outside
 pub record AreGiven (ms : List ModuleTree) (top : ModuleTree) (f : Flat) (pairs : List (Option Pair)) (t : TapeTree) : Type 0 where
@@ -56,7 +61,7 @@ pub record IsGivenNet (ms : List ModuleTree) (top : ModuleTree) (n : FlatNet) (t
   pub at : module_at ms top n.0 ≡ Some tree
   pub free : IsFree ms top n
   pub clock : is_clk n.1 ≡ false
-  pub given : HasGivenSlots t (bits_of (declared tree) n.1) p
+  pub given : IsGivenPair t (bits_of (declared tree) n.1) p
 
 -- only such nets have slots
 abbrev pub AreGivenNets : List ModuleTree → ModuleTree → Flat → List (Option Pair) → TapeTree → Type 0

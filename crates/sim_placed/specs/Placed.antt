@@ -1,7 +1,9 @@
 -- Pairs of nets as they are placed.
-use Rattle.std.specs.Prelude.{◌≡◌, ℕ, List, Option, Some, None, length, get_or}
+use Rattle.std.specs.Prelude.{◌≡◌, ℕ, false, List, Option, Some, None, IsSome, IsTrue, length, get_or}
 use Rattle.vlog_tree.specs.Form.{ModuleTree}
 use Rattle.vlog_tree.specs.Flattened.{FlatNet}
+use Rattle.vlog_tree.specs.Table.{is_clk, declared, net_kind_of, net_kind_is_read}
+use Rattle.vlog_tree.specs.Cycle.{module_at}
 use Rattle.sim_tape.specs.declared.gates.Pair.{Pair}
 use Rattle.sim_tape.specs.Tape.{TapeTree}
 use Rattle.sim_nets.specs.declared.flat.Flat.{Flat}
@@ -11,6 +13,17 @@ use Rattle.sim_placed.specs.States.{IsFree, AreRead, Tells}
 -- only nets that have their numbers from no other net have pairs
 abbrev pub AreFree : List ModuleTree → ModuleTree → Flat → List (Option Pair) → Type 0
 AreFree ms top f pairs = (number : ℕ) (n : FlatNet) (p : Pair) → HasNumber ms f number n → get_or pairs number None ≡ Some p → IsFree ms top n
+
+-- all nets that have their numbers from no other net, but the clocks, have pairs
+abbrev pub AllFree : List ModuleTree → ModuleTree → Flat → List (Option Pair) → Type 0
+AllFree ms top f pairs = (number : ℕ) (n : FlatNet) → HasNumber ms f number n → IsFree ms top n → is_clk n.1 ≡ false → IsSome (get_or pairs number None)
+
+-- a net that can be read, and no clock
+pub record CanBeRead (ms : List ModuleTree) (top : ModuleTree) (n : FlatNet) : Type 0 where
+  pub tree : ModuleTree
+  pub at : module_at ms top n.0 ≡ Some tree
+  pub read : IsTrue (net_kind_is_read (net_kind_of (declared tree) n.1))
+  pub clock : is_clk n.1 ≡ false
 
 -- pairs that are there stay
 abbrev pub AreKept : List (Option Pair) → List (Option Pair) → Type 0

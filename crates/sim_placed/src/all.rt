@@ -1,14 +1,18 @@
 // All nets of a design on a tape.
 
-ghost use Rattle.std.specs.Prelude.{◌≡◌, ℕ, List, Some, None, length, get_or, is_some, OnOk};
+ghost use Rattle.std.specs.Prelude.{◌≡◌, ℕ, List, Some, None, length, get_or, is_some, IsSome, OnOk};
 ghost use Rattle.vlog_tree.specs.Form.{ModuleTree};
 ghost use Rattle.sim_tape.specs.declared.gates.Pair.{Pair as PairTree};
 ghost use Rattle.sim_tape.specs.Tape.{Extends, IsTape};
 ghost use Rattle.sim_tape.specs.Trees.{tree_of};
 ghost use Rattle.sim_lower.specs.Nets.{SlotsBefore};
 ghost use Rattle.sim_placed.specs.Plans.{IsPlan};
-ghost use Rattle.sim_placed.specs.States.{AreRead, Tells};
-ghost use Rattle.sim_placed.specs.Placed.{AreFree, ArePlacedMore, AreKept};
+ghost use Rattle.sim_placed.specs.States.{AreRead, PartsPlaced, Tells};
+ghost use Rattle.vlog_tree.specs.Flattened.{FlatNet};
+ghost use Rattle.sim_nets.specs.Flat.{HasNumber};
+ghost use Rattle.sim_nets.specs.Order.{IsNetOrder};
+ghost use Rattle.sim_placed.specs.Given.{ArePlaced, AreGiven, AreGivenNets, HaveOwn};
+ghost use Rattle.sim_placed.specs.Placed.{AreFree, AllFree, CanBeRead, ArePlacedMore, AreKept};
 
 use crate::net::place_net;
 use crate::plan::Plan;
@@ -38,6 +42,8 @@ fn put_net(
     ensures slots { OnOk result (SlotsBefore pairs.new.items (length (tree_of tape.new).gates)) }
     ensures kept { OnOk result (AreKept pairs.old.items pairs.new.items) }
     ensures more { OnOk result ((ms : List ModuleTree) (top : ModuleTree) → IsPlan ms top plan.now → ArePlacedMore ms top plan.now.flat.now plan.now.memories.now pairs.old.items (tree_of tape.old) pairs.new.items (tree_of tape.new)) }
+    ensures all { OnOk result ((ms : List ModuleTree) (top : ModuleTree) (n : FlatNet) → IsPlan ms top plan.now → HasNumber ms plan.now.flat.now number n → CanBeRead ms top n → length pairs.old.items ≡ length plan.now.flat.now.owners.items
+        → AllFree ms top plan.now.flat.now pairs.old.items → PartsPlaced ms top plan.now.flat.now pairs.old.items n → IsSome (get_or pairs.new.items number None)) }
 {
     if is_placed(pairs, number) {
         return Ok(());
@@ -66,6 +72,10 @@ pub fn place_all(
     ensures kept { OnOk result (AreKept pairs.old.items pairs.new.items) }
     ensures tells { OnOk result ((ms : List ModuleTree) (top : ModuleTree) → IsPlan ms top plan.now → length pairs.old.items ≡ length plan.now.flat.now.owners.items → AreRead ms top plan.now.flat.now pairs.old.items → AreFree ms top plan.now.flat.now pairs.old.items
         → AreRead ms top plan.now.flat.now pairs.new.items × Tells ms top plan.now.flat.now pairs.new.items plan.now.memories.now (tree_of tape.new)) }
+    ensures placed { OnOk result ((ms : List ModuleTree) (top : ModuleTree) → IsPlan ms top plan.now → IsNetOrder ms top plan.now.flat.now order.now → length pairs.old.items ≡ length plan.now.flat.now.owners.items → AreRead ms top plan.now.flat.now pairs.old.items → AllFree ms top plan.now.flat.now pairs.old.items
+        → ArePlaced ms top plan.now.flat.now pairs.new.items) }
+    ensures given { OnOk result ((ms : List ModuleTree) (top : ModuleTree) → IsPlan ms top plan.now → length pairs.old.items ≡ length plan.now.flat.now.owners.items → AreRead ms top plan.now.flat.now pairs.old.items → AllFree ms top plan.now.flat.now pairs.old.items
+        → AreGivenNets ms top plan.now.flat.now pairs.old.items (tree_of tape.old) → HaveOwn pairs.old.items → AreGiven ms top plan.now.flat.now pairs.new.items (tree_of tape.new)) }
 {
     for number in order {
         put_net(alloc, tape, plan, *number, pairs)?;

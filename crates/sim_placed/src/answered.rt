@@ -1,10 +1,10 @@
 // What the memories outside answer.
 
-ghost use Rattle.std.specs.Prelude.{◌≡◌, ◌<◌, true, [], List, Option, Some, length, map, slice_get, IfOk, IfSome};
+ghost use Rattle.std.specs.Prelude.{◌≡◌, ◌<◌, true, [], ℕ, List, Option, Some, None, length, get_or, map, slice_get, IfOk, IfSome, IsSome};
 ghost use Rattle.std.specs.Str.{IsAscii};
 ghost use Rattle.tapa_base.specs.declared.shape.Port.{Port as PortTree};
 ghost use Rattle.vlog_tree.specs.Form.{ModuleTree};
-ghost use Rattle.vlog_tree.specs.Labels.{m_rdata};
+ghost use Rattle.vlog_tree.specs.Labels.{m_addr, m_rdata};
 ghost use Rattle.vlog_tree.specs.Table.{declared, port_declared};
 ghost use Rattle.vlog_tree.specs.V6.{has_all_five};
 ghost use Rattle.vlog_tree.specs.Environment.{shape_of};
@@ -13,7 +13,7 @@ ghost use Rattle.sim_tape.specs.Tape.{Extends, IsTape, PairBefore};
 ghost use Rattle.sim_tape.specs.Trees.{tree_of};
 ghost use Rattle.sim_lower.specs.Nets.{SlotsBefore};
 ghost use Rattle.sim_nets.specs.declared.flat.Flat.{Flat as FlatTree};
-ghost use Rattle.sim_nets.specs.Flat.{IsFlat};
+ghost use Rattle.sim_nets.specs.Flat.{IsFlat, HasNumber};
 ghost use Rattle.sim_placed.specs.States.{IsTold};
 ghost use Rattle.sim_placed.specs.Lines.{IsLabelAt};
 
@@ -26,7 +26,8 @@ use vlog_tree::addr_name;
 
 // The place of a label.
 fn place_of_label(labels: &[Port], label: &[u8]) -> Option<usize>
-    ensures { IfSome result (λ i. IsLabelAt labels.now i label.now) }
+    ensures at { IfSome result (λ i. IsLabelAt labels.now i label.now) }
+    ensures there { (i : ℕ) → IsLabelAt labels.now i label.now → IsSome result }
 {
     for (place, port) in labels.iter().enumerate() {
         if port.name.bytes() == label {
@@ -52,6 +53,8 @@ pub(crate) fn pair_of_answer(
     ensures slots { IfOk result (λ o. IfSome o (λ p. PairBefore (length (tree_of tape.new).gates) p)) }
     ensures told { (ms : List ModuleTree) (top : ModuleTree) (f : FlatTree) (memories : List (Option PairTree)) → IsFlat ms top f → scope.now ≡ declared top → outside.now ≡ (shape_of top).memories → 0 < length label.now → has_all_five (map port_declared top.ports) label.now ≡ true
         → IfOk result (λ o. IfSome o (λ p. IsTold ms top f memories pairs.now (tree_of tape.new) ([], m_rdata label.now) p)) }
+    ensures some { (ms : List ModuleTree) (top : ModuleTree) (f : FlatTree) → IsFlat ms top f → scope.now ≡ declared top → outside.now ≡ (shape_of top).memories → 0 < length label.now → has_all_five (map port_declared top.ports) label.now ≡ true
+        → ((number : ℕ) → HasNumber ms f number ([], m_addr label.now) → IsSome (get_or pairs.now number None)) → IfOk result (λ o. IsSome o) }
 {
     let Some(place) = place_of_label(outside, label) else {
         return Ok(None);

@@ -1,13 +1,16 @@
 // Nets that have their numbers from no other net.
 
-ghost use Rattle.std.specs.Prelude.{◌≡◌, List, length, IfOk, IfSome};
+ghost use Rattle.std.specs.Prelude.{◌≡◌, false, ℕ, List, length, IfOk, IfSome, IsSome};
 ghost use Rattle.vlog_tree.specs.Form.{ModuleTree};
 ghost use Rattle.vlog_tree.specs.Flattened.{FlatNet};
 ghost use Rattle.sim_tape.specs.Tape.{Extends, IsTape, PairBefore};
 ghost use Rattle.sim_tape.specs.Trees.{tree_of};
 ghost use Rattle.sim_lower.specs.Nets.{SlotsBefore};
 ghost use Rattle.sim_nets.specs.Flat.{IsFlat, HasNumber};
-ghost use Rattle.sim_placed.specs.Given.{HasGivenSlots, IsFreeSource, IsGivenNet, AreGivenNets};
+ghost use Rattle.vlog_tree.specs.Table.{is_clk};
+ghost use Rattle.sim_placed.specs.States.{IsFree};
+ghost use Rattle.sim_placed.specs.Placed.{AllFree};
+ghost use Rattle.sim_placed.specs.Given.{IsGivenPair, IsBehind, HaveOwn, IsFreeSource, IsGivenNet, AreGivenNets};
 
 use crate::net::name_at;
 use crate::plan::{base_at, owner_of, source_at, table_at};
@@ -22,7 +25,8 @@ fn give(tape: &mut Tape, bits: u32) -> Result<Pair, AllocError>
     requires { IsTape (tree_of tape.old) }
     ensures extends { Extends (tree_of tape.old) (tree_of tape.new) }
     ensures slots { IfOk result (λ p. PairBefore (length (tree_of tape.new).gates) p) }
-    ensures given { IfOk result (λ p. HasGivenSlots (tree_of tape.new) bits p) }
+    ensures given { IfOk result (λ p. IsGivenPair (tree_of tape.new) bits p) }
+    ensures fresh { IfOk result (λ p. IsBehind (length (tree_of tape.old).gates) p) }
 {
     let low = tape.given()?;
     if bits <= 64 {
@@ -42,7 +46,9 @@ fn give_source(
     requires { IsTape (tree_of tape.old) }
     ensures extends { Extends (tree_of tape.old) (tree_of tape.new) }
     ensures slots { IfOk result (λ o. IfSome o (λ p. PairBefore (length (tree_of tape.new).gates) p)) }
-    ensures given { IfOk result (λ o. IfSome o (λ p. HasGivenSlots (tree_of tape.new) d.now.bits p × IsFreeSource instance d.now.name source)) }
+    ensures given { IfOk result (λ o. IfSome o (λ p. IsGivenPair (tree_of tape.new) d.now.bits p × IsFreeSource instance d.now.name source)) }
+    ensures all { IsFreeSource instance d.now.name source → IfOk result (λ o. IsSome o) }
+    ensures fresh { IfOk result (λ o. IfSome o (λ p. IsBehind (length (tree_of tape.old).gates) p)) }
 {
     match source {
         Source::Register => {
@@ -71,6 +77,8 @@ fn give_net(tape: &mut Tape, flat: &Flat, number: usize) -> Result<Option<Pair>,
     ensures extends { Extends (tree_of tape.old) (tree_of tape.new) }
     ensures slots { IfOk result (λ o. IfSome o (λ p. PairBefore (length (tree_of tape.new).gates) p)) }
     ensures given { (ms : List ModuleTree) (top : ModuleTree) (n : FlatNet) → IsFlat ms top flat.now → HasNumber ms flat.now number n → IfOk result (λ o. IfSome o (λ p. IsGivenNet ms top n (tree_of tape.new) p)) }
+    ensures all { (ms : List ModuleTree) (top : ModuleTree) (n : FlatNet) → IsFlat ms top flat.now → HasNumber ms flat.now number n → IsFree ms top n → is_clk n.1 ≡ false → IfOk result (λ o. IsSome o) }
+    ensures fresh { IfOk result (λ o. IfSome o (λ p. IsBehind (length (tree_of tape.old).gates) p)) }
 {
     let Some(instance) = owner_of(flat, number) else {
         return Ok(None);
@@ -104,8 +112,10 @@ pub fn give_all(
     requires { IsTape (tree_of tape.old) }
     ensures extends { Extends (tree_of tape.old) (tree_of tape.new) }
     ensures slots { IfOk result (λ v. SlotsBefore v.items (length (tree_of tape.new).gates)) }
+    ensures own { IfOk result (λ v. HaveOwn v.items) }
     ensures count { IfOk result (λ v. length v.items ≡ length flat.now.owners.items) }
     ensures given { (ms : List ModuleTree) (top : ModuleTree) → IsFlat ms top flat.now → IfOk result (λ v. AreGivenNets ms top flat.now v.items (tree_of tape.new)) }
+    ensures all { (ms : List ModuleTree) (top : ModuleTree) → IsFlat ms top flat.now → IfOk result (λ v. AllFree ms top flat.now v.items) }
 {
     let mut pairs = Vec::new(alloc);
     for number in 0..flat.owners.len() {

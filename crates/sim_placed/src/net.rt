@@ -1,6 +1,6 @@
 // A net of a design on a tape.
 
-ghost use Rattle.std.specs.Prelude.{◌≡◌, ◌<◌, [], List, Some, length, get_or, slice_get, option_copied, false, IfOk, IfSome, IsTrue};
+ghost use Rattle.std.specs.Prelude.{◌≡◌, ◌<◌, [], List, Some, length, get_or, slice_get, option_copied, false, IfOk, IfSome, IsSome, IsTrue};
 ghost use Rattle.vlog_tree.specs.Form.{ModuleTree};
 ghost use Rattle.vlog_tree.specs.Flattened.{FlatNet};
 ghost use Rattle.vlog_tree.specs.Cycle.{module_at};
@@ -10,7 +10,8 @@ ghost use Rattle.sim_tape.specs.Trees.{tree_of};
 ghost use Rattle.sim_lower.specs.Nets.{SlotsBefore};
 ghost use Rattle.sim_nets.specs.declared.tables.Source.TheVariants as sources;
 ghost use Rattle.sim_nets.specs.Flat.{HasNumber};
-ghost use Rattle.sim_placed.specs.States.{AreRead, IsTold};
+ghost use Rattle.sim_placed.specs.States.{AreRead, IsTold, IsFree, PartsPlaced};
+ghost use Rattle.sim_placed.specs.Placed.{CanBeRead};
 ghost use Rattle.sim_placed.specs.Plans.{IsPlan, IsAtSpot};
 
 use crate::answered::pair_of_answer;
@@ -45,6 +46,8 @@ fn place_line(
     ensures slots { IfOk result (λ o. IfSome o (λ p. PairBefore (length (tree_of tape.new).gates) p)) }
     ensures told { (ms : List ModuleTree) (top : ModuleTree) (n : FlatNet) → IsPlan ms top plan.now → IsAtSpot ms plan.now.flat.now table.now spot place n → sources.Line at ≡ get_or table.now.sources.items place sources.Nothing → length pairs.now ≡ length plan.now.flat.now.owners.items → AreRead ms top plan.now.flat.now pairs.now
         → IfOk result (λ o. IfSome o (λ p. IsTold ms top plan.now.flat.now plan.now.memories.now pairs.now (tree_of tape.new) n p)) }
+    ensures some { (ms : List ModuleTree) (top : ModuleTree) (n : FlatNet) → IsPlan ms top plan.now → IsAtSpot ms plan.now.flat.now table.now spot place n → sources.Line at ≡ get_or table.now.sources.items place sources.Nothing → length pairs.now ≡ length plan.now.flat.now.owners.items
+        → PartsPlaced ms top plan.now.flat.now pairs.now n → IfOk result (λ o. IsSome o) }
 {
     let items = lines_at(plan.flat, plan.modules, spot.instance);
     let Some(item) = item_at(items, at) else {
@@ -96,6 +99,8 @@ fn place_answer(
     ensures slots { IfOk result (λ o. IfSome o (λ p. PairBefore (length (tree_of tape.new).gates) p)) }
     ensures told { (ms : List ModuleTree) (top : ModuleTree) (n : FlatNet) → IsPlan ms top plan.now → IsAtSpot ms plan.now.flat.now table.now spot place n → spot.instance ≡ 0 → sources.Input ≡ get_or table.now.sources.items place sources.Nothing
         → IfOk result (λ o. IfSome o (λ p. IsTold ms top plan.now.flat.now plan.now.memories.now pairs.now (tree_of tape.new) n p)) }
+    ensures some { (ms : List ModuleTree) (top : ModuleTree) (n : FlatNet) → IsPlan ms top plan.now → IsAtSpot ms plan.now.flat.now table.now spot place n → spot.instance ≡ 0 → sources.Input ≡ get_or table.now.sources.items place sources.Nothing
+        → (IsFree ms top n → ⊥) → PartsPlaced ms top plan.now.flat.now pairs.now n → IfOk result (λ o. IsSome o) }
 {
     let Some(d) = name_at(table, place) else {
         return Ok(None);
@@ -124,6 +129,8 @@ fn place_source(
     ensures slots { IfOk result (λ o. IfSome o (λ p. PairBefore (length (tree_of tape.new).gates) p)) }
     ensures told { (ms : List ModuleTree) (top : ModuleTree) (n : FlatNet) → IsPlan ms top plan.now → IsAtSpot ms plan.now.flat.now table.now spot place n → source ≡ get_or table.now.sources.items place sources.Nothing → length pairs.now ≡ length plan.now.flat.now.owners.items → AreRead ms top plan.now.flat.now pairs.now
         → IfOk result (λ o. IfSome o (λ p. IsTold ms top plan.now.flat.now plan.now.memories.now pairs.now (tree_of tape.new) n p)) }
+    ensures some { (ms : List ModuleTree) (top : ModuleTree) (n : FlatNet) → IsPlan ms top plan.now → IsAtSpot ms plan.now.flat.now table.now spot place n → source ≡ get_or table.now.sources.items place sources.Nothing → length pairs.now ≡ length plan.now.flat.now.owners.items
+        → CanBeRead ms top n → (IsFree ms top n → ⊥) → PartsPlaced ms top plan.now.flat.now pairs.now n → IfOk result (λ o. IsSome o) }
 {
     match source {
         Source::Line(at) => {
@@ -164,6 +171,8 @@ pub fn place_net(
         → IfOk result (λ o. IfSome o (λ p. IsTrue (net_kind_is_read (net_kind_of (declared m) n.1)) × (is_clk n.1 ≡ false))) }
     ensures told { (ms : List ModuleTree) (top : ModuleTree) (n : FlatNet) → IsPlan ms top plan.now → HasNumber ms plan.now.flat.now number n → length pairs.now ≡ length plan.now.flat.now.owners.items → AreRead ms top plan.now.flat.now pairs.now
         → IfOk result (λ o. IfSome o (λ p. IsTold ms top plan.now.flat.now plan.now.memories.now pairs.now (tree_of tape.new) n p)) }
+    ensures some { (ms : List ModuleTree) (top : ModuleTree) (n : FlatNet) → IsPlan ms top plan.now → HasNumber ms plan.now.flat.now number n → length pairs.now ≡ length plan.now.flat.now.owners.items
+        → CanBeRead ms top n → (IsFree ms top n → ⊥) → PartsPlaced ms top plan.now.flat.now pairs.now n → IfOk result (λ o. IsSome o) }
 {
     let Some(instance) = owner_of(plan.flat, number) else {
         return Ok(None);

@@ -91,13 +91,14 @@ impl Tape {
         &self.wides
     }
 
-    /// A slot with a gate that reads slots before it.
+    /// A slot with a gate that reads slots before it; it is new.
     pub fn push(&mut self, gate: Gate) -> Result<u32, AllocError>
         requires tape { IsTape (tree_of self.old) }
         requires reads { ReadsBefore self.old.wides.items (length self.old.gates.items) gate }
         ensures extends { Extends (tree_of self.old) (tree_of self.new) }
         ensures slot { IfOk result (λ s. HasGate (tree_of self.new) s gate) }
         ensures wides { self.new.wides.items ≡ self.old.wides.items }
+        ensures fresh { IfOk result (λ s. s ≡ length self.old.gates.items) }
     {
         let slot = self.gates.len();
         if slot >= u32::MAX as usize {
@@ -107,12 +108,13 @@ impl Tape {
         Ok(slot as u32)
     }
 
-    /// A slot whose number is given from outside.
+    /// A slot of its own whose number is given from outside.
     pub fn given(&mut self) -> Result<u32, AllocError>
         requires { IsTape (tree_of self.old) }
         ensures extends { Extends (tree_of self.old) (tree_of self.new) }
         ensures slot { IfOk result (λ s. s < length self.new.gates.items) }
         ensures given { IfOk result (λ s. (gate_at self.new.gates.items s).rule ≡ rules.Given) }
+        ensures fresh { IfOk result (λ s. s ≡ length self.old.gates.items) }
     {
         self.push(Gate {
             rule: Rule::Given,

@@ -4,7 +4,6 @@ use Rattle.tapa_base.specs.declared.kind.Kind.{Kind}
 use Rattle.tapa_base.specs.declared.token.Token.{Token}
 use Rattle.tapa_base.specs.Kinds.{bits_of, values_of}
 use Rattle.tapa_syntax.specs.declared.program.Leaf.{Leaf}
-use Rattle.tapa_syntax.specs.WellFormed.{IsLeaf}
 use Rattle.tapa_syntax.specs.LeafKinds.{writes_of}
 use Rattle.vlog_tree.specs.Form.{ModuleTree}
 use Rattle.vlog_tree.specs.Labels.{rst}
@@ -15,14 +14,12 @@ use Rattle.kahn_model.specs.declared.tick.Action.TheVariants.{Local, Put, Load, 
 use Rattle.kahn_model.specs.Trace.{State, cell, with_cell}
 use Rattle.task_fsm.specs.declared.machine.Fsm.{Fsm}
 use Rattle.task_fsm.specs.Machine.{forms_of}
-use Rattle.task_fsm.specs.Lowered.{IsLowered, with_temporaries}
 use Rattle.task_fsm.specs.Run.{StateStep, Performs, Awaits, Completes, Halts}
 use Rattle.hw_lists.specs.Scope.{each}
 use Rattle.task_law.specs.Nets.{Net, State as StateNet, Ended, Done, Scalar, Variable, Array, Has, Dout, Taken, Din, Wr, Rdy, Ack, Rdata, Addr, Wdata, We, name}
 use Rattle.task_law.specs.Shape.{Shape, shape_of, array_cells, stream_kind, register_kind, memory_kind}
 use Rattle.task_law.specs.Signals.{Streams, History, Part}
 use Rattle.task_law.specs.Machine.{RunsMachine, step_in, steps}
-use Rattle.task_law.specs.Texts.{first_by, task_tree}
 
 abbrev pub number_at : (ℕ → Cycle) → Net → ℕ → ℕ
 number_at run x n = (run n).net (name x)
@@ -134,6 +131,3 @@ ActsAsTask leaf machine tree =
     (all : List ModuleTree) (top : ModuleTree) (nets : ℕ → Path → Cycle) → Runs all top nets → (path : Path) → module_at all top path ≡ Some tree → (cells : ℕ → List (List ℕ))
     → StandsAround (shape_of machine leaf.memories.items leaf.streams.items) (λ n. nets n path) cells
     → RunsTask (shape_of machine leaf.memories.items leaf.streams.items) (writes_of leaf.streams.items) (λ n. nets n path) cells
-
-abbrev pub TasksAct : Type 0
-TasksAct = (leaf : Leaf) (machine : Fsm) → IsLeaf leaf → IsLowered leaf machine → ActsAsTask leaf machine (task_tree machine leaf.memories.items leaf.streams.items)

@@ -4,13 +4,16 @@ use Rattle.sim_tape.specs.Tape.{Extends}
 use Rattle.sim_tape.specs.Trees.{tree_of}
 use Rattle.sim_lower.specs.Nets.{SlotsBefore}
 use Rattle.sim_nets.specs.Flat.{IsFlat}
-use Rattle.sim_placed.specs.Given.{AreGivenNets}
+use Rattle.sim_placed.specs.Given.{HaveOwn, AreGivenNets}
+use Rattle.sim_placed.proofs.Giving.{AllFreeBelow}
 use Rattle.sim_placed.proofs.given.give_all.Given as goal
 
 abbrev pub invariant-loop-number : goal.invariant-loop-number
 invariant-loop-number l = record {
   extends : Extends (tree_of l.fn.tape) (tree_of l.tape);
   slots : SlotsBefore l.pairs.items (length (tree_of l.tape).gates);
+  own : HaveOwn l.pairs.items;
   count : length l.pairs.items ≡ l.number;
+  all : (ms : List ModuleTree) (top : ModuleTree) → IsFlat ms top l.flat → AllFreeBelow ms top l.flat l.pairs.items;
   given : (ms : List ModuleTree) (top : ModuleTree) → IsFlat ms top l.flat → AreGivenNets ms top l.flat l.pairs.items (tree_of l.tape);
 }
