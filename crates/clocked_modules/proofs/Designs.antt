@@ -44,7 +44,7 @@ module _ (program : Program) (scalars : List ℕ) (memories : List (List ℕ)) w
   unfolding network_of
   consumer_is s o e = ap (end_of (λ (r : Stream). r.consumer)) e
 
-module _ (program : Program) (w : IsWellFormed program) (scalars : List ℕ) (memories : List (List ℕ)) (latency : ℕ → ℕ) (machines : ℕ → Fsm) (runs : ℕ → ℕ → Cycle) (cells : ℕ → ℕ → List (List ℕ)) (channels : ℕ → ChannelPorts) (S : Streams) (d : IsDesignOf program scalars memories latency machines runs cells channels S) (parts : ℕ → Part) (h : ℕ → History) (a : AreMachines program machines runs cells parts h) where
+module _ (program : Program) (w : IsWellFormed program) (scalars : List ℕ) (memories : List (List ℕ)) (latency : ℕ → ℕ) (machines : ℕ → Option Fsm) (runs : ℕ → ℕ → Cycle) (cells : ℕ → ℕ → List (List ℕ)) (channels : ℕ → ChannelPorts) (S : Streams) (d : IsDesignOf program scalars memories latency machines runs cells channels S) (parts : ℕ → Part) (h : ℕ → History) (a : AreMachines program machines runs cells parts h) where
   abbrev net : Network
   net = network_of program scalars memories
 
@@ -54,7 +54,9 @@ module _ (program : Program) (w : IsWellFormed program) (scalars : List ℕ) (me
     leaf : Leaf
     at : slice_get program.instances.items i ≡ Some instance
     body : slice_get program.bodies.items instance.body ≡ Some leaf
-    stands : IsInstanceOf program scalars memories i instance leaf (machines i) (runs i) (cells i) S
+    machine : Fsm
+    is : machines i ≡ Some machine
+    stands : IsInstanceOf program scalars memories i instance leaf machine (runs i) (cells i) S
 
   found : (i : ℕ) → i < length program.instances.items → Found i
   found i inside =
@@ -66,19 +68,21 @@ module _ (program : Program) (w : IsWellFormed program) (scalars : List ℕ) (me
         leaf = l.0;
         at = x.1;
         body = l.1.body;
-        stands = instance_is program w scalars memories i x.0 l.0 (machines i) x.1 l.1.body t.lowered (runs i) (cells i) t.begins S t.runs t.wired;
+        machine = t.machine;
+        is = t.is;
+        stands = instance_is program w scalars memories i x.0 l.0 t.machine x.1 l.1.body t.runs.lowered (runs i) (cells i) t.runs.begins S t.runs.runs t.runs.wired;
       }
 
   follows_at : (i : ℕ) → i < length program.instances.items → IsPartOf (net.job i) (parts i)
   follows_at i inside =
       let f = found i inside in
-      subst (IsPartOf (net.job i)) (sym (a.part i f.instance f.leaf f.at f.body)) f.stands.part
+      subst (IsPartOf (net.job i)) (sym (a.part i f.instance f.leaf f.machine f.at f.body f.is)) f.stands.part
 
   runs_at : (i : ℕ) → i < length program.instances.items → RunsMachine (parts i) S (answers_at (runs i)) (λ s. net.consumer s ≡ i) (λ s. net.producer s ≡ i) (h i)
   runs_at i inside =
       let f = found i inside in
-      subst (λ p. RunsMachine p S (answers_at (runs i)) (λ s. net.consumer s ≡ i) (λ s. net.producer s ≡ i) (h i)) (sym (a.part i f.instance f.leaf f.at f.body))
-      (subst (λ g. RunsMachine (part_in f.instance f.leaf (machines i) (runs i) (cells i)) S (answers_at (runs i)) (λ s. net.consumer s ≡ i) (λ s. net.producer s ≡ i) g) (sym (a.history i f.instance f.leaf f.at f.body)) f.stands.runs)
+      subst (λ p. RunsMachine p S (answers_at (runs i)) (λ s. net.consumer s ≡ i) (λ s. net.producer s ≡ i) (h i)) (sym (a.part i f.instance f.leaf f.machine f.at f.body f.is))
+      (subst (λ g. RunsMachine (part_in f.instance f.leaf f.machine (runs i) (cells i)) S (answers_at (runs i)) (λ s. net.consumer s ≡ i) (λ s. net.producer s ≡ i) g) (sym (a.history i f.instance f.leaf f.machine f.at f.body f.is)) f.stands.runs)
 
   -- the ends of a stream are instances
   reader_inside : (s : ℕ) (r : Stream) → slice_get program.streams.items s ≡ Some r → r.consumer < length program.instances.items

@@ -69,10 +69,10 @@ pub record StandsAround (S : Shape) (run : ℕ → Cycle) (cells : ℕ → List 
   pub reset : (run 0).net rst ≡ 1
   pub runs : (n : ℕ) → (run (suc n)).net rst ≡ 0
   pub scalars : (n i r : ℕ) → slice_get S.scalars i ≡ Some r → number_at run (Scalar i) n < values_of (register_kind S r)
-  pub has : (n s : ℕ) → number_at run (Has s) n < 2
-  pub dout : (n s : ℕ) → number_at run (Dout s) n < 2 ^ token_bits S s
-  pub rdy : (n s : ℕ) → number_at run (Rdy s) n < 2
-  pub ack : (n m : ℕ) → number_at run (Ack m) n < 2
+  pub has : (n s : ℕ) → writes_of S.streams s ≡ Some false → number_at run (Has s) n < 2
+  pub dout : (n s : ℕ) → writes_of S.streams s ≡ Some false → number_at run (Dout s) n < 2 ^ token_bits S s
+  pub rdy : (n s : ℕ) → writes_of S.streams s ≡ Some true → number_at run (Rdy s) n < 2
+  pub ack : (n m : ℕ) → m < length S.memories → number_at run (Ack m) n < 2
   pub memories : length (cells 0) ≡ length S.memories
   pub rdata : (n m : ℕ) → m < length S.memories → number_at run (Rdata m) n ≡ cell (cells n) m (number_at run (Addr m) n)
   pub fit : (n m i : ℕ) → cell (cells n) m i < values_of (memory_kind S m)

@@ -135,10 +135,10 @@ module _ (S : Shape) (title : Name) (run : ℕ → Cycle) (f : Follows (built ti
     offers_among e h = offers_in S s (stream_there S.streams s false reads) e (subst (λ b. Has (by_end [] (offers S s) b) e) (sym (side_is (slice_get S.streams s) false reads)) h)
 
     pub has_is : (run n).net (name (HasNet s)) ≡ one_if has
-    has_is = as_bit ((run n).net (name (HasNet s))) (around.has n s)
+    has_is = as_bit ((run n).net (name (HasNet s))) (around.has n s reads)
 
     pub eot_is : atom_value (run n) (eot_of S s) ≡ one_if (not datum)
-    eot_is = top_bit v bits (around.dout n s)
+    eot_is = top_bit v bits (around.dout n s reads)
 
     plain_is : (run n).net (name (PlainNet s)) ≡ 1 - one_if (not datum)
     plain_is =
@@ -209,15 +209,15 @@ module _ (S : Shape) (title : Name) (run : ℕ → Cycle) (f : Follows (built ti
   awaits_is (TestAt e y m) same w h = cc
   awaits_is (ReadAt s into next) same w h =
       named (DatumNet s) w (allowed S run n (step (ReadAt s into next) k σ)) h (read_net S title run f cells is.around n s (ranged (ReadAt s into next) same).0)
-  awaits_is (WriteAt s e next) same w h = named (Rdy s) w (bit_at run (Rdy s) n) h (as_bit ((run n).net (name (Rdy s))) (is.around.rdy n s))
+  awaits_is (WriteAt s e next) same w h = named (Rdy s) w (bit_at run (Rdy s) n) h (as_bit ((run n).net (name (Rdy s))) (is.around.rdy n s (ranged (WriteAt s e next) same).0))
   awaits_is (PeekAt s into next) same w h =
       named (DatumNet s) w (allowed S run n (step (PeekAt s into next) k σ)) h (peek_net S title run f cells is.around n s (ranged (PeekAt s into next) same).0)
   awaits_is (EotAt s into next) same w h =
       named (HasNet s) w (allowed S run n (step (EotAt s into next) k σ)) h (test_net S title run f cells is.around n s (ranged (EotAt s into next) same).0)
   awaits_is (OpenAt s next) same w h = named (EotNet s) w (allowed S run n (step (OpenAt s next) k σ)) h (open_net S title run f cells is.around n s (ranged (OpenAt s next) same).0)
-  awaits_is (CloseAt s next) same w h = named (Rdy s) w (bit_at run (Rdy s) n) h (as_bit ((run n).net (name (Rdy s))) (is.around.rdy n s))
-  awaits_is (LoadAt m i into next) same w h = named (Ack m) w (bit_at run (Ack m) n) h (as_bit ((run n).net (name (Ack m))) (is.around.ack n m))
-  awaits_is (StoreAt m i e next) same w h = named (Ack m) w (bit_at run (Ack m) n) h (as_bit ((run n).net (name (Ack m))) (is.around.ack n m))
+  awaits_is (CloseAt s next) same w h = named (Rdy s) w (bit_at run (Rdy s) n) h (as_bit ((run n).net (name (Rdy s))) (is.around.rdy n s (ranged (CloseAt s next) same).0))
+  awaits_is (LoadAt m i into next) same w h = named (Ack m) w (bit_at run (Ack m) n) h (as_bit ((run n).net (name (Ack m))) (is.around.ack n m (ranged (LoadAt m i into next) same).0))
+  awaits_is (StoreAt m i e next) same w h = named (Ack m) w (bit_at run (Ack m) n) h (as_bit ((run n).net (name (Ack m))) (is.around.ack n m (ranged (StoreAt m i e next) same).0))
   awaits_is (ClearAt a c next) same w h = cc
   awaits_is EndAt same w h = cc
   awaits_is TrapAt same w h = cc

@@ -1,0 +1,10 @@
+pub mod Standing
+pub mod Bounds
+pub mod Tasks
+pub mod Channels
+pub mod Order
+pub mod Drives
+pub mod Once
+pub mod Reached
+pub mod Form
+pub mod Whole

@@ -1,0 +1,6 @@
+pub mod Names
+pub mod Bounds
+pub mod Texts
+pub mod Channels
+pub mod Designs
+pub mod Legal

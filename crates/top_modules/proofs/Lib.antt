@@ -1,0 +1,4 @@
+pub mod Added
+pub mod Tasks
+pub mod Channels
+pub mod Lower
