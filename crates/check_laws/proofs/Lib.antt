@@ -10,3 +10,4 @@ pub mod Parts
 pub mod Read
 pub mod Spelled
 pub mod Writers
+pub mod Sources

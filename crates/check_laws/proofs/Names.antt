@@ -97,3 +97,13 @@ leaves_distinct numbers n [] named d = tt
 leaves_distinct numbers n (t ∷ ts) named d =
     leaf_distinct t (is_among n numbers) t.body (bodies_of numbers (n + 1) ts) refl named.0
     (leaves_all (λ y. t.declared.name.text ≡ y → ⊥) numbers (n + 1) ts named.1 d.0) (leaves_distinct numbers (n + 1) ts named.1 d.1)
+
+-- what holds of each leaf that a task of a list is
+own_leaf : (Q : Bytes → Type 0) (t : Task) (used : Bool) (b : Body) (rest : List FlatLeaf) → t.body ≡ b → ((l : FlatLeaf) → t.body ≡ leaf_body l → Q l.name) → AllByRecursion Q (map (λ (l : FlatLeaf). l.name) rest) → AllByRecursion Q (first_leaf used b rest)
+own_leaf Q t true (leaf_body l) rest e f a = (f l e, a)
+own_leaf Q t true (upper_body channels invocations) rest e f a = a
+own_leaf Q t false b rest e f a = a
+
+pub leaves_by : (Q : Bytes → Type 0) (numbers : List ℕ) (n : ℕ) (ts : List Task) → AllByRecursion (λ (t : Task). (l : FlatLeaf) → t.body ≡ leaf_body l → Q l.name) ts → AllByRecursion Q (leaf_names_of numbers n ts)
+leaves_by Q numbers n [] a = tt
+leaves_by Q numbers n (t ∷ ts) a = own_leaf Q t (is_among n numbers) t.body (bodies_of numbers (n + 1) ts) refl a.0 (leaves_by Q numbers (n + 1) ts a.1)

@@ -1,9 +1,10 @@
 -- The labels of the parts of a legal program tell them apart.
-use Rattle.std.proofs.Common.{◌≡◌, ◌+◌, ℕ, List, [], ◌∷◌, ◌++◌, map, true, not, ◌&&◌, Option, Some, None, refl, sym, ap, subst, arith}
-use Rattle.std.specs.Prelude.{nat_le, slice_get}
+use Rattle.std.proofs.Common.{◌≡◌, ◌+◌, ℕ, List, [], ◌∷◌, ◌++◌, map, true, not, ◌&&◌, Option, Some, None, refl, sym, ap, subst, ◌∙◌, arith}
+use Rattle.std.specs.Prelude.{nat_le, option_map, slice_get}
+use Rattle.std.proofs.lemmas.Option.{same_Some, slice_get-map}
 use Rattle.std.specs.List.{list_any, AllByRecursion}
 use Rattle.tapa_syntax.specs.declared.program.Stream.{Stream}
-use Rattle.tapa_syntax.specs.Flat.{FlatInstance}
+use Rattle.tapa_syntax.specs.Flat.{FlatInstance, FlatLeaf}
 use Rattle.check_scope.specs.declared.fault.CheckCode.TheVariants.{C3}
 use Rattle.check_scope.specs.Faults.{over, where_so}
 use Rattle.check_upper.specs.declared.task.Channel.{Channel}
@@ -15,8 +16,8 @@ use Rattle.stream_check.proofs.WellTops.{limits}
 use Rattle.check_laws.specs.Labels.{IsPlainName, IsLabel, HasOwnLabels}
 use Rattle.check_laws.specs.Named.{parameter_name}
 use Rattle.check_laws.specs.Owned.{HasOwnNames}
-use Rattle.check_laws.proofs.Apart.{all_append, all_from, Distinct, distinct, apart}
-use Rattle.check_laws.proofs.Names.{scalar_names, memory_names, scalars_all, memories_all, parameters_distinct, task_names, NamesLeaf, leaf_names_of, leaves_all, leaves_distinct}
+use Rattle.check_laws.proofs.Apart.{all_append, all_at, all_from, Distinct, distinct, apart}
+use Rattle.check_laws.proofs.Names.{scalar_names, memory_names, scalars_all, memories_all, parameters_distinct, task_names, NamesLeaf, leaf_names_of, leaves_all, leaves_by, leaves_distinct}
 use Rattle.check_laws.proofs.Labelled.{AreInvoked, IsBelow, IsFlat, AreTold, top_good}
 
 -- ---- what the limits say
@@ -41,8 +42,24 @@ module _ (tasks : List Task) (h : HasOwnNames tasks) where
   names_leaves : AllByRecursion NamesLeaf tasks
   names_leaves = all_from NamesLeaf tasks (λ n t there l e. h.leaves n t l there e)
 
-  made_labelled : (n : ℕ) (t : Task) (parts : List Part) → slice_get tasks n ≡ Some t → AreTold (IsBelow []) parts → HasOwnLabels (program_made tasks t.declared (instances_in parts) (streams_in parts))
-  made_labelled n t parts there told =
+  -- no leaf has the name of an upper-level task
+  upper_avoids : (n : ℕ) (t : Task) (channels : List Channel) (invocations : List Invocation) → slice_get tasks n ≡ Some t → t.body ≡ upper_body channels invocations → (numbers : List ℕ) → AllByRecursion (λ x. t.declared.name.text ≡ x → ⊥) (leaf_names_of numbers 0 tasks)
+  upper_avoids n t channels invocations there upper numbers =
+      leaves_by (λ x. t.declared.name.text ≡ x → ⊥) numbers 0 tasks
+      (all_from (λ (u : Task). (l : FlatLeaf) → u.body ≡ leaf_body l → t.declared.name.text ≡ l.name → ⊥) tasks
+      (λ m u at l leaf same.
+      let name_of = λ (z : Task). z.declared.name.text in
+      let named : l.name ≡ u.declared.name.text = h.leaves m u l at leaf in
+      let here : slice_get (task_names tasks) n ≡ Some t.declared.name.text = slice_get-map name_of tasks n ∙ ap (option_map name_of) there in
+      let too : slice_get (task_names tasks) m ≡ Some t.declared.name.text = slice_get-map name_of tasks m ∙ ap (option_map name_of) at ∙ ap Some (sym (same ∙ named)) in
+      let position : n ≡ m = h.apart n m t.declared.name.text here too in
+      let both : Some t ≡ Some u = sym there ∙ ap (slice_get tasks) position ∙ at in
+      let one : t ≡ u = same_Some t u both in
+      let bodies : upper_body channels invocations ≡ leaf_body l = sym upper ∙ ap (λ (z : Task). z.body) one ∙ leaf in
+      cc))
+
+  made_labelled : (n : ℕ) (t : Task) (channels : List Channel) (invocations : List Invocation) (parts : List Part) → slice_get tasks n ≡ Some t → t.body ≡ upper_body channels invocations → AreTold (IsBelow []) parts → HasOwnLabels (program_made tasks t.declared (instances_in parts) (streams_in parts))
+  made_labelled n t channels invocations parts there upper told =
       let is = instances_in parts in
       let cs = streams_in parts in
       let ps = t.declared.parameters in
@@ -51,6 +68,7 @@ module _ (tasks : List Task) (h : HasOwnNames tasks) where
       let streams = sym (made_streams tasks (instances_in parts) 0 (streams_in parts)) in
       let instances = sym (made_instances (body_numbers (instances_in parts) 0 tasks) (instances_in parts)) in
       record {
+        top = record { written = all_at (λ (u : Task). IsPlainName u.declared.name.text) tasks n t h.names there; apart = upper_avoids n t channels invocations there upper numbers };
         instances = apart (map (λ (x : FlatInstance). x.label) (map (with_body numbers) is)) (subst Distinct instances told.instances.apart);
         streams = apart (map (λ (r : Stream). r.label) (streams_of tasks is 0 cs)) (subst Distinct streams told.streams.apart);
         parameters = apart (scalar_names ps ++ memory_names is 0 ps) (parameters_distinct is ps (distinct (map parameter_name ps) (h.parameters_apart n t there)));
@@ -81,7 +99,7 @@ module _ (tasks : List Task) (h : HasOwnNames tasks) where
       let alone = not (list_any is_stream_parameter t.declared.parameters) in
       let u = uppers t.body (both upper alone (holds (upper && alone) (record { code = C3; place = t.declared.name.place; limit = None }) p.0)).0 in
       let l = (limits 0 0 parts (omega arith) (omega arith) q.0).1 in
-      made_labelled n t parts there (top_good tasks h invoked levels t.declared.name.place (top_instance n t.declared.parameters) 0 t u.0 u.1 there u.2 refl (flat_within 0 0 parts q.0) (omega arith))
+      made_labelled n t u.0 u.1 parts there u.2 (top_good tasks h invoked levels t.declared.name.place (top_instance n t.declared.parameters) 0 t u.0 u.1 there u.2 refl (flat_within 0 0 parts q.0) (omega arith))
 
 -- where no rule is broken, and each upper-level task invokes tasks of the list
 pub tasks_labelled : (levels : ℕ) (tasks : List Task) (n : ℕ) → HasOwnNames tasks → AreInvoked tasks → whole_faults levels tasks n ≡ [] → HasOwnLabels (whole_program levels tasks n)

@@ -34,7 +34,13 @@ parameter_names program = map (λ (c : Scalar). c.name) program.scalars ++ map (
 abbrev pub leaf_names : FlatProgram → List Bytes
 leaf_names program = map (λ (l : FlatLeaf). l.name) program.bodies
 
+-- the top task is named, and no leaf has its name
+pub record IsNamedApart (program : FlatProgram) : Type 0 where
+  pub written : IsPlainName program.top
+  pub apart : AllByRecursion (λ x. program.top ≡ x → ⊥) (leaf_names program)
+
 pub record HasOwnLabels (program : FlatProgram) : Type 0 where
+  pub top : IsNamedApart program
   pub instances : AreApart (instance_labels program)
   pub streams : AreApart (stream_labels program)
   pub parameters : AreApart (parameter_names program)

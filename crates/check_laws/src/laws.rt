@@ -18,7 +18,7 @@ pub fn law_every_source_is_legal_or_refused()
 {}
 
 /// In the program of each source that breaks no rule no two instances have one label, no two streams, no two leaves one
-/// name, and no two parameters of the top task. Leaves and parameters have names as the source spells them; a label begins
+/// name, nor one and the top task, and no two parameters of the top task. Leaves and parameters have names as the source spells them; a label begins
 /// with a letter or `_`, and goes on with letters, digits, `_` and `$`.
 pub fn law_labels_tell_parts_apart()
     ensures { (text : List ℕ) (lexemes : List Lexeme) (items : List ItemTree) (top : List ℕ)

@@ -2,6 +2,7 @@
 use Rattle.std.proofs.Common.{◌≡◌, ◌≢◌, ◌⊎◌, ℕ, List, Ok, Err, refl, sym, ◌∙◌, inl, inr}
 use Rattle.plan_device.specs.declared.fault.DeviceFault.TheVariants as device_fault
 use Rattle.run_data.specs.declared.data.DataFault.TheVariants.{J1, J2, J3, J4, OutOfMemory}
+use Rattle.vlog_tree.specs.declared.fault.VFault.TheVariants as verilog_fault
 use Rattle.tapa_drive.specs.Answer.{HasCause, HasPartOf, Leaves, IsAnswer}
 use Rattle.tapa_drive.specs.Carried.{IsCarriedOut}
 use Rattle.tapa_drive.specs.Meaning.{refusal_of}
@@ -29,6 +30,9 @@ never (spec.Device file fault) e = cc
 never (spec.TooManyPlans slots free) e = cc
 never spec.NoPlan e = cc
 never (spec.NoRoom label) e = cc
+never (spec.Verilog file fault) e = cc
+never (spec.DesignData file fault) e = cc
+never (spec.Undone most) e = cc
 never spec.Memory e = cc
 
 module _ (words : List (List ℕ)) (before after : Outside) where
@@ -70,6 +74,19 @@ module _ (words : List (List ℕ)) (before after : Outside) where
     says (code.TooManyPlans slots free) t f cause leaves = either (refusal_of (code.TooManyPlans slots free)) cause leaves (inl leaves) t
     says code.NoPlan t f cause leaves = either (refusal_of code.NoPlan) cause leaves (inl leaves) t
     says (code.NoRoom label) t f cause leaves = either (refusal_of (code.NoRoom label)) cause leaves (inl leaves) t
+    says (code.Verilog file (verilog_fault.V1 place)) t f cause leaves = either (refusal_of (code.Verilog file (verilog_fault.V1 place))) cause leaves (inl leaves) t
+    says (code.Verilog file (verilog_fault.V2 name)) t f cause leaves = either (refusal_of (code.Verilog file (verilog_fault.V2 name))) cause leaves (inl leaves) t
+    says (code.Verilog file (verilog_fault.V3 name)) t f cause leaves = either (refusal_of (code.Verilog file (verilog_fault.V3 name))) cause leaves (inl leaves) t
+    says (code.Verilog file (verilog_fault.V4 name)) t f cause leaves = either (refusal_of (code.Verilog file (verilog_fault.V4 name))) cause leaves (inl leaves) t
+    says (code.Verilog file (verilog_fault.V5 name)) t f cause leaves = either (refusal_of (code.Verilog file (verilog_fault.V5 name))) cause leaves (inl leaves) t
+    says (code.Verilog file (verilog_fault.V6 name)) t f cause leaves = either (refusal_of (code.Verilog file (verilog_fault.V6 name))) cause leaves (inl leaves) t
+    says (code.Verilog file verilog_fault.OutOfMemory) t f cause leaves = either (refusal_of (code.Verilog file verilog_fault.OutOfMemory)) cause leaves leaves t
+    says (code.DesignData file J1) t f cause leaves = either (refusal_of (code.DesignData file J1)) cause leaves (inl leaves) t
+    says (code.DesignData file (J2 key)) t f cause leaves = either (refusal_of (code.DesignData file (J2 key))) cause leaves (inl leaves) t
+    says (code.DesignData file (J3 key)) t f cause leaves = either (refusal_of (code.DesignData file (J3 key))) cause leaves (inl leaves) t
+    says (code.DesignData file (J4 key)) t f cause leaves = either (refusal_of (code.DesignData file (J4 key))) cause leaves (inl leaves) t
+    says (code.DesignData file OutOfMemory) t f cause leaves = either (refusal_of (code.DesignData file OutOfMemory)) cause leaves leaves t
+    says (code.Undone most) t f cause leaves = either (refusal_of (code.Undone most)) cause leaves leaves t
     says code.Memory t f cause leaves = either (refusal_of code.Memory) cause leaves leaves t
 
     not_ok : (why : Refusal) → IsTold why → result ≢ status.Ok

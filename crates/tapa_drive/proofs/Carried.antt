@@ -3,17 +3,21 @@ use Rattle.std.proofs.Common.{◌≡◌, ◌≢◌, ◌⊎◌, ◌≤◌, ℕ, L
 use Rattle.tapa_base.specs.Outside.{Files}
 use Rattle.tapa_syntax.specs.declared.program.Program.{Program}
 use Rattle.tapa_words.specs.Words.{Command, command_of}
-use Rattle.tapa_drive.specs.Answer.{OfCommand, source_in, top_in, file_in, HasProgram, IsReached, HasCause, Leaves, ReadsAsked}
+use Rattle.tapa_drive.specs.Answer.{OfCommand, source_in, most_in, file_in, HasProgram, IsTaken, IsRefusedIn, IsFaultyIn, IsReached, HasCause, Leaves, ReadsAsked}
 use Rattle.tapa_drive.specs.Carried.{IsCarriedOut}
-use Rattle.tapa_drive.specs.Files.{OfSource, source_limit}
-use Rattle.tapa_drive.specs.Found.{IsNotFound}
+use Rattle.tapa_drive.specs.Files.{OfFile, OfSource, source_limit}
+use Rattle.tapa_drive.specs.Found.{IsNotTaken}
 use Rattle.tapa_drive.specs.Meaning.{refusal_of}
 use Rattle.tapa_drive.specs.Outside.{Outside, Written, outside}
-use Rattle.tapa_drive.specs.Refusal.{Refusal, Usage, Read, Write, TooLong, Source, Data, Ticks, Stopped, Device, TooManyPlans, NoPlan, NoRoom, Memory}
+use Rattle.tapa_drive.specs.Refusal.{Refusal, Usage, Read, Write, TooLong, Source, Data, Ticks, Stopped, Device, TooManyPlans, NoPlan, NoRoom, Verilog, DesignData, Undone, Memory}
 use Rattle.tapa_drive.specs.Source.{IsProgramOf}
 use Rattle.tapa_drive.specs.declared.refusal.Refusal.{Refusal as CodeRefusal}
 use Rattle.tapa_drive.proofs.Counts.{one_name}
 use Rattle.tapa_drive.proofs.Sourced.{of_file_also}
+
+pub has_program : (files : Option Files) (source top : List ℕ) (program : Program) → OfSource files source (λ text. IsProgramOf text top program) → OfSource files source (λ text. HasProgram text top)
+has_program files source top program means =
+    of_file_also files source_limit source (λ text. IsProgramOf text top program) (λ text. HasProgram text top) (λ text p. record { program = program; means = p }) means
 
 module _ (words : List (List ℕ)) (files : Option Files) (reads : List ℕ → ℕ) (out errors told : Written) where
   -- words that are no command leave all as it was, and so do words for which there is no memory
@@ -24,16 +28,13 @@ module _ (words : List (List ℕ)) (files : Option Files) (command : Command) (a
   abbrev source : List ℕ
   source = source_in command
 
-  abbrev top : List ℕ
-  top = top_in command
-
   abbrev named : Option (List ℕ)
   named = file_in command
 
   abbrev before : Outside
   before = outside files reads_old old errors
 
-  not_found_cause : (files_new : Option Files) (reads_new : List ℕ → ℕ) (new : Written) (r : Refusal) → IsNotFound files reads_old reads_new source top r → HasCause words before (outside files_new reads_new new told) r
+  not_found_cause : (files_new : Option Files) (reads_new : List ℕ → ℕ) (new : Written) (r : Refusal) → IsNotTaken files reads_old reads_new source (most_in command) (IsRefusedIn command) (IsFaultyIn command) r → HasCause words before (outside files_new reads_new new told) r
   not_found_cause files_new reads_new new Usage h = absurd h
   not_found_cause files_new reads_new new (Read file) h = (command, asked, (inl h.0, h.1))
   not_found_cause files_new reads_new new Write h = absurd h
@@ -46,9 +47,12 @@ module _ (words : List (List ℕ)) (files : Option Files) (command : Command) (a
   not_found_cause files_new reads_new new (TooManyPlans slots free) h = absurd h
   not_found_cause files_new reads_new new NoPlan h = absurd h
   not_found_cause files_new reads_new new (NoRoom label) h = absurd h
+  not_found_cause files_new reads_new new (Verilog file fault) h = (command, asked, h)
+  not_found_cause files_new reads_new new (DesignData file fault) h = absurd h
+  not_found_cause files_new reads_new new (Undone most) h = absurd h
   not_found_cause files_new reads_new new Memory h = tt
 
-  not_found_leaves : (files_new : Option Files) (reads_new : List ℕ → ℕ) (r : Refusal) → IsNotFound files reads_old reads_new source top r → Leaves words before (outside files_new reads_new old told) r
+  not_found_leaves : (files_new : Option Files) (reads_new : List ℕ → ℕ) (r : Refusal) → IsNotTaken files reads_old reads_new source (most_in command) (IsRefusedIn command) (IsFaultyIn command) r → Leaves words before (outside files_new reads_new old told) r
   not_found_leaves files_new reads_new Usage h = absurd h
   not_found_leaves files_new reads_new (Read file) h = refl
   not_found_leaves files_new reads_new Write h = absurd h
@@ -61,10 +65,13 @@ module _ (words : List (List ℕ)) (files : Option Files) (command : Command) (a
   not_found_leaves files_new reads_new (TooManyPlans slots free) h = absurd h
   not_found_leaves files_new reads_new NoPlan h = absurd h
   not_found_leaves files_new reads_new (NoRoom label) h = absurd h
+  not_found_leaves files_new reads_new (Verilog file fault) h = refl
+  not_found_leaves files_new reads_new (DesignData file fault) h = absurd h
+  not_found_leaves files_new reads_new (Undone most) h = absurd h
   not_found_leaves files_new reads_new Memory h = inl refl
 
   abbrev WasReached : List ℕ → Type 0
-  WasReached name = OfCommand words (λ c. IsReached files (source_in c) (top_in c) (file_in c) name)
+  WasReached name = OfCommand words (λ c. IsReached files c name)
 
   module _ (files_mid : Option Files) (reads_mid : List ℕ → ℕ) (same_mid : files_mid ≡ files) (later_mid : reads_old source ≤ reads_mid source) (others_mid : (name : List ℕ) → name ≢ source → reads_mid name ≡ reads_old name) where
     reads_source : (new : Written) → ReadsAsked words before (outside files_mid reads_mid new told)
@@ -77,7 +84,7 @@ module _ (words : List (List ℕ)) (files : Option Files) (command : Command) (a
           (one_name name source);
     }
 
-    pub not_found : {A : Type 0} (r : CodeRefusal) → IsNotFound files reads_old reads_mid source top (refusal_of r) → IsCarriedOut {A = A} words before (outside files_mid reads_mid old told) (Err r)
+    pub not_found : {A : Type 0} (r : CodeRefusal) → IsNotTaken files reads_old reads_mid source (most_in command) (IsRefusedIn command) (IsFaultyIn command) (refusal_of r) → IsCarriedOut {A = A} words before (outside files_mid reads_mid old told) (Err r)
     not_found r h = record {
       done = tt;
       cause = not_found_cause files_mid reads_mid old (refusal_of r) h;
@@ -85,10 +92,7 @@ module _ (words : List (List ℕ)) (files : Option Files) (command : Command) (a
       reads = reads_source old;
     }
 
-    module _ (program : Program) (means : OfSource files source (λ text. IsProgramOf text top program)) (files_new : Option Files) (reads_new : List ℕ → ℕ) (same_new : files_new ≡ files_mid) (others_new : (name : List ℕ) → named ≢ Some name → reads_new name ≡ reads_mid name) where
-      pub has_program : OfSource files source (λ text. HasProgram text top)
-      has_program = of_file_also files source_limit source (λ text. IsProgramOf text top program) (λ text. HasProgram text top) (λ text p. record { program = program; means = p }) means
-
+    module _ (taken : OfFile files (most_in command) source (IsTaken command)) (files_new : Option Files) (reads_new : List ℕ → ℕ) (same_new : files_new ≡ files_mid) (others_new : (name : List ℕ) → named ≢ Some name → reads_new name ≡ reads_mid name) where
       -- the further file is the one that is named, or none
       is_data : (given : Option (List ℕ)) (name : List ℕ) → (given ≡ Some name) ⊎ (given ≢ Some name)
       is_data None name = inr (λ e. cc)
@@ -106,7 +110,7 @@ module _ (words : List (List ℕ)) (files : Option Files) (command : Command) (a
             (λ (e : name ≡ source). inr (command, asked, inl (sym e)))
             (λ (n : name ≢ source).
             ⊎_elim {C = (reads_new name ≡ reads_old name) ⊎ WasReached name}
-            (λ (d : named ≡ Some name). inr (command, asked, inr (d, has_program)))
+            (λ (d : named ≡ Some name). inr (command, asked, inr (d, taken)))
             (λ (m : named ≢ Some name). inl (others_new name m ∙ others_mid name n))
             (is_data named name))
             (one_name name source);

@@ -1,15 +1,15 @@
 -- Where nothing outside fails, the answer tells what the source means with its data, or want of memory.
-use Rattle.std.proofs.Common.{◌≡◌, ◌≢◌, ◌⊎◌, ◌≤◌, ◌<◌, ℕ, List, length, Option, Some, None, refl, sym, ap, ◌∙◌, subst, inl, inr, ⊎_elim, arith}
+use Rattle.std.proofs.Common.{◌≡◌, ◌⊎◌, ◌≤◌, ◌<◌, ℕ, List, length, Option, Some, None, refl, sym, ap, ◌∙◌, subst, inl, inr, ⊎_elim, arith}
 use Rattle.tapa_base.specs.Outside.{Files, file_bytes, Rose}
 use Rattle.tapa_base.specs.Take.{IsLongerThan}
-use Rattle.tapa_words.specs.Words.{Command, Run, Plan, command_of}
+use Rattle.tapa_words.specs.Words.{Command, Run, Plan, Cosim, command_of}
 use Rattle.tapa_words.specs.declared.command.PlanMode.{PlanMode}
 use Rattle.run_program.specs.Laws as run
-use Rattle.tapa_drive.specs.Answer.{OfCommand, OfRun, OfPlan, OfTexts, source_in, top_in, file_in, HasProgram, HasBadData, HasDone, HasStopped, HasLimit, IsReached, IsTooLong, IsDone, HasCause, Leaves, IsAnswer}
+use Rattle.tapa_drive.specs.Answer.{OfCommand, OfRun, OfPlan, OfTexts, OfCosim, source_in, most_in, HasProgram, IsRefusedIn, IsFaultyIn, HasBadData, HasDone, HasStopped, HasLimit, IsReached, IsTooLong, IsDone, HasCause, Leaves, IsAnswer}
 use Rattle.tapa_drive.specs.Decided.{SourceMeaning, Ran, Misgiven, Overlong, Refused, Given, Bytes, TooMany, IsGiven, Means, IsRefusedWith, Tells, WritesAll, NothingFails, Expects, IsLengthy}
-use Rattle.tapa_drive.specs.Files.{OfSource, OfData, source_limit, data_limit, shown_name}
+use Rattle.tapa_drive.specs.Files.{OfFile, OfSource, OfData, source_limit, data_limit, shown_name}
 use Rattle.tapa_drive.specs.Outside.{Outside, Written, outside}
-use Rattle.tapa_drive.specs.Refusal.{Refusal, Usage, Read, Write, TooLong, Source, Data, Ticks, Stopped, Device, TooManyPlans, NoPlan, NoRoom, Memory}
+use Rattle.tapa_drive.specs.Refusal.{Refusal, Usage, Read, Write, TooLong, Source, Data, Ticks, Stopped, Device, TooManyPlans, NoPlan, NoRoom, Verilog, DesignData, Undone, Memory, VerilogFault}
 use Rattle.tapa_drive.specs.Source.{IsRefusedSource}
 use Rattle.tapa_drive.specs.Told.{IsTold, IsToldAs}
 use Rattle.tapa_drive.specs.declared.status.Status.{Status}
@@ -71,10 +71,24 @@ module _ (words : List (List ℕ)) (files : Files) (reads : List ℕ → ℕ) (o
       let one : Plan h.0 h.1 h.2 h.3 ≡ Run source top named limit = cc in
       cc
 
+  -- no simulation was asked for
+  not_cosim : {P : List ℕ → Option (List ℕ) → ℕ → Type 0} → OfCosim words P → ⊥
+  not_cosim h =
+      let both : Some (Cosim h.0 h.1 h.2) ≡ Some (Run source top named limit) = sym h.3 ∙ asked in
+      let one : Cosim h.0 h.1 h.2 ≡ Run source top named limit = cc in
+      cc
+
+  -- no Verilog text was read
+  not_faulty : (file : List ℕ) (fault : VerilogFault) → HasCause words before after (Verilog file fault) → ⊥
+  not_faulty file fault h =
+      let c = asked_of words (Run source top named limit) asked (λ a. (source_in a ≡ file) × OfFile (Some files) (most_in a) file (λ text. IsFaultyIn a text fault)) h in
+      let w : OfSource (Some files) file (λ text. ⊥) = c.1 in
+      w.3
+
   -- no read failed
   no_read : (file : List ℕ) → HasCause words before after (Read file) → ⊥
   no_read file h =
-      let c = asked_of words (Run source top named limit) asked (λ a. IsReached (Some files) (source_in a) (top_in a) (file_in a) file × Rose (reads file) (after.failed_reads file)) h in
+      let c = asked_of words (Run source top named limit) asked (λ a. IsReached (Some files) a file × Rose (reads file) (after.failed_reads file)) h in
       ⊎_elim
       (λ (e : source ≡ file). still.read (subst (λ (f : List ℕ). Rose (reads f) (after.failed_reads f)) (sym e) c.1))
       (λ (w : (named ≡ Some file) × OfSource (Some files) source (λ (t : List ℕ). HasProgram t top)). still.read_data file w.0 c.1)
@@ -106,7 +120,7 @@ module _ (words : List (List ℕ)) (files : Files) (reads : List ℕ → ℕ) (o
     of_reason (Read file) h leaves told = absurd (no_read file h)
     of_reason Write h leaves told = absurd (still.writes.written h)
     of_reason (TooLong file most) h leaves told =
-        let c = asked_of words (Run source top named limit) asked (λ a. IsTooLong (Some files) (source_in a) (top_in a) (file_in a) file most) h in
+        let c = asked_of words (Run source top named limit) asked (λ a. IsTooLong (Some files) a file most) h in
         ⊎_elim
         (λ (w : (source ≡ file) × (most ≡ source_limit) × IsLongerThan (Some files) file source_limit).
         let long : source_limit < length (file_bytes files source) = subst (λ (f : List ℕ). source_limit < length (file_bytes files f)) (sym w.0) w.2 in
@@ -118,7 +132,7 @@ module _ (words : List (List ℕ)) (files : Files) (reads : List ℕ → ℕ) (o
         (refused_so (TooLong file most) (TooLong (shown_name named) data_limit) result (ap (λ n. TooLong file n) w.1 ∙ ap (λ (f : List ℕ). TooLong f data_limit) (sym (ap shown_name w.0))) told leaves))
         c
     of_reason (Source file place code) h leaves told =
-        let c = asked_of words (Run source top named limit) asked (λ a. (source_in a ≡ file) × OfSource (Some files) file (λ text. IsRefusedSource text (top_in a) place code)) h in
+        let c = asked_of words (Run source top named limit) asked (λ a. (source_in a ≡ file) × OfFile (Some files) (most_in a) file (λ text. IsRefusedIn a text place code)) h in
         told_by (Refused place code) (subst (λ (f : List ℕ). IsRefusedSource (file_bytes files f) top place code) (sym c.0) (of_source files file (λ (t : List ℕ). IsRefusedSource t top place code) c.1))
         (refused_so (Source file place code) (Source source place code) result (ap (λ (f : List ℕ). Source f place code) (sym c.0)) told leaves)
     of_reason (Data file fault) h leaves told =
@@ -137,13 +151,17 @@ module _ (words : List (List ℕ)) (files : Files) (reads : List ℕ → ℕ) (o
     of_reason (TooManyPlans slots free) h leaves told = absurd (not_planned h)
     of_reason NoPlan h leaves told = absurd (not_planned h)
     of_reason (NoRoom label) h leaves told = absurd (not_planned h)
+    of_reason (Verilog file fault) h leaves told = absurd (not_faulty file fault h)
+    of_reason (DesignData file fault) h leaves told = absurd (not_cosim h)
+    of_reason (Undone most) h leaves told = absurd (not_cosim h)
     of_reason Memory h leaves told = inr told.0
 
     of_told : (why : Refusal) → IsToldAs why result errors after.err → HasCause words before after why → Leaves words before after why → Meets expected
     of_told why told h leaves = elim told [ inl t ↦ of_reason why h leaves t | inr w ↦ absurd (still.writes.told w.1) ]
 
     of_ok : IsDone words before after → result ≡ status.Ok → after.err.bytes ≡ errors.bytes → Meets expected
-    of_ok (inr p) is same = absurd (not_planned p)
+    of_ok (inr (inl p)) is same = absurd (not_planned p)
+    of_ok (inr (inr p)) is same = absurd (not_cosim p)
     of_ok (inl h) is same =
         let c = asked_run words source top named limit asked (λ s t d n. OfTexts (Some files) s d (λ text bytes. HasDone text t bytes n out.bytes after.out.bytes)) h in
         let (bytes, found, r) = of_given files named given (λ bytes. HasDone text top bytes limit out.bytes after.out.bytes) is_given (of_source files source (λ t. OfData (Some files) named (λ bytes. HasDone t top bytes limit out.bytes after.out.bytes)) c) in
@@ -163,14 +181,14 @@ module _ (words : List (List ℕ)) (files : Files) (reads : List ℕ → ℕ) (o
     too_long result (Read file) h leaves told = absurd (no_read file h)
     too_long result Write h leaves told = absurd (still.writes.written h)
     too_long result (TooLong file most) h leaves told =
-        let c = asked_of words (Run source top named limit) asked (λ a. IsTooLong (Some files) (source_in a) (top_in a) (file_in a) file most) h in
+        let c = asked_of words (Run source top named limit) asked (λ a. IsTooLong (Some files) a file most) h in
         ⊎_elim {C = IsLong result}
         (λ (w : (source ≡ file) × (most ≡ source_limit) × IsLongerThan (Some files) file source_limit).
         inl (refused_so (TooLong file most) (TooLong source source_limit) result (ap (λ n. TooLong file n) w.1 ∙ ap (λ (f : List ℕ). TooLong f source_limit) (sym w.0)) told leaves))
         (λ (w : (named ≡ Some file) × (most ≡ data_limit) × IsLongerThan (Some files) file data_limit × OfSource (Some files) source (λ (t : List ℕ). HasProgram t top)). absurd (not_few w.3))
         c
     too_long result (Source file place code) h leaves told =
-        let c = asked_of words (Run source top named limit) asked (λ a. (source_in a ≡ file) × OfSource (Some files) file (λ text. IsRefusedSource text (top_in a) place code)) h in
+        let c = asked_of words (Run source top named limit) asked (λ a. (source_in a ≡ file) × OfFile (Some files) (most_in a) file (λ text. IsRefusedIn a text place code)) h in
         absurd (not_few (subst (λ (f : List ℕ). OfSource (Some files) f (λ (t : List ℕ). IsRefusedSource t top place code)) (sym c.0) c.1))
     too_long result (Data file fault) h leaves told = absurd (not_few (asked_run words source top named limit asked (λ s t d n. (shown_name d ≡ file) × OfTexts (Some files) s d (λ text bytes. HasBadData text t bytes fault)) h).1)
     too_long result (Ticks most) h leaves told = absurd (not_few (asked_run words source top named limit asked (λ s t d n. (most ≡ n) × OfTexts (Some files) s d (λ text bytes. HasLimit text t bytes n)) h).1)
@@ -179,13 +197,17 @@ module _ (words : List (List ℕ)) (files : Files) (reads : List ℕ → ℕ) (o
     too_long result (TooManyPlans slots free) h leaves told = absurd (not_planned h)
     too_long result NoPlan h leaves told = absurd (not_planned h)
     too_long result (NoRoom label) h leaves told = absurd (not_planned h)
+    too_long result (Verilog file fault) h leaves told = absurd (not_faulty file fault h)
+    too_long result (DesignData file fault) h leaves told = absurd (not_cosim h)
+    too_long result (Undone most) h leaves told = absurd (not_cosim h)
     too_long result Memory h leaves told = inr told.0
 
     of_long : (result : Status) (why : Refusal) → IsToldAs why result errors after.err → HasCause words before after why → Leaves words before after why → IsLong result
     of_long result why told h leaves = elim told [ inl t ↦ too_long result why h leaves t | inr w ↦ absurd (still.writes.told w.1) ]
 
     no_run : IsDone words before after → ⊥
-    no_run (inr p) = not_planned p
+    no_run (inr (inl p)) = not_planned p
+    no_run (inr (inr p)) = not_cosim p
     no_run (inl h) = not_few (asked_run words source top named limit asked (λ s t d n. OfTexts (Some files) s d (λ text bytes. HasDone text t bytes n out.bytes after.out.bytes)) h)
 
 pub lengthy : (words : List (List ℕ)) (files : Option Files) (reads : List ℕ → ℕ) (out errors : Written) (after : Outside) (source top : List ℕ) (named : Option (List ℕ)) (limit : ℕ) → command_of words ≡ Some (Run source top named limit) → IsLengthy files source → NothingFails source named (outside files reads out errors) after → (result : Status) → IsAnswer words (outside files reads out errors) after result → IsRefusedWith (TooLong source source_limit) result (outside files reads out errors) after ⊎ (result ≡ status.Memory)
@@ -204,12 +226,16 @@ module _ (words : List (List ℕ)) (before after : Outside) (none : command_of w
   not_plan : {P : List ℕ → List ℕ → List ℕ → PlanMode → Type 0} → OfPlan words P → ⊥
   not_plan h = let both : None ≡ Some (Plan h.0 h.1 h.2 h.3) = sym none ∙ h.4 in cc
 
+  not_simulated : {P : List ℕ → Option (List ℕ) → ℕ → Type 0} → OfCosim words P → ⊥
+  not_simulated h = let both : None ≡ Some (Cosim h.0 h.1 h.2) = sym none ∙ h.3 in cc
+
   not_command : {P : Command → Type 0} → OfCommand words P → ⊥
   not_command h = let both : None ≡ Some h.0 = sym none ∙ h.1 in cc
 
   not_done : IsDone words before after → ⊥
   not_done (inl h) = not_run h
-  not_done (inr h) = not_plan h
+  not_done (inr (inl h)) = not_plan h
+  not_done (inr (inr h)) = not_simulated h
 
   abbrev IsUsage : Status → Type 0
   IsUsage result = IsRefusedWith Usage result before after ⊎ (result ≡ status.Memory)
@@ -227,6 +253,9 @@ module _ (words : List (List ℕ)) (before after : Outside) (none : command_of w
   bad_words result (TooManyPlans slots free) h leaves told = absurd (not_plan h)
   bad_words result NoPlan h leaves told = absurd (not_plan h)
   bad_words result (NoRoom label) h leaves told = absurd (not_plan h)
+  bad_words result (Verilog file fault) h leaves told = absurd (not_command h)
+  bad_words result (DesignData file fault) h leaves told = absurd (not_simulated h)
+  bad_words result (Undone most) h leaves told = absurd (not_simulated h)
   bad_words result Memory h leaves told = inr told.0
 
   pub usage : (result : Status) → IsAnswer words before after result → IsUsage result

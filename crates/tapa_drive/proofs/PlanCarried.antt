@@ -17,7 +17,7 @@ use Rattle.tapa_drive.specs.Found.{IsNoDevice}
 use Rattle.tapa_drive.specs.Meaning.{refusal_of}
 use Rattle.tapa_drive.specs.Outside.{Outside, Written, outside}
 use Rattle.tapa_drive.specs.Planned.{mode_of, ArePlanLines, IsUnplanned, HasDeviceFault, IsAskedOn, HasBadDevice, HasNoPlan, HasPlan}
-use Rattle.tapa_drive.specs.Refusal.{Refusal, Usage, Read, Write, TooLong, Source, Data, Ticks, Stopped, Device, TooManyPlans, NoPlan, NoRoom, Memory, DeviceFault}
+use Rattle.tapa_drive.specs.Refusal.{Refusal, Usage, Read, Write, TooLong, Source, Data, Ticks, Stopped, Device, TooManyPlans, NoPlan, NoRoom, Verilog, DesignData, Undone, Memory, DeviceFault}
 use Rattle.tapa_drive.specs.Source.{IsProgramOf}
 use Rattle.tapa_drive.specs.declared.refusal.Refusal.{Refusal as CodeRefusal}
 use Rattle.tapa_drive.specs.declared.refusal.Refusal.TheVariants as code
@@ -33,10 +33,10 @@ module _ (words : List (List ℕ)) (files : Option Files) (source top name : Lis
   before = outside files reads_old old errors
 
   has_program : OfSource files source (λ text. HasProgram text top)
-  has_program = carried.has_program words files command asked reads_old old errors told files_mid reads_mid same_mid later_mid others_mid program means files_new reads_new same_new others_new
+  has_program = carried.has_program files source top program means
 
   reads_both : (new : Written) → ReadsAsked words before (outside files_new reads_new new told)
-  reads_both new = carried.reads_both words files command asked reads_old old errors told files_mid reads_mid same_mid later_mid others_mid program means files_new reads_new same_new others_new new
+  reads_both new = carried.reads_both words files command asked reads_old old errors told files_mid reads_mid same_mid later_mid others_mid has_program files_new reads_new same_new others_new new
 
   bad_device : (fault : DeviceFault) → OfData files (Some name) (λ bytes. HasDeviceFault program graph bytes fault) → OfTexts files source (Some name) (λ text bytes. HasBadDevice text top bytes fault)
   bad_device fault h =
@@ -55,6 +55,9 @@ module _ (words : List (List ℕ)) (files : Option Files) (source top name : Lis
   no_device_cause (TooManyPlans slots free) h = absurd h
   no_device_cause NoPlan h = absurd h
   no_device_cause (NoRoom label) h = absurd h
+  no_device_cause (Verilog file fault) h = absurd h
+  no_device_cause (DesignData file fault) h = absurd h
+  no_device_cause (Undone most) h = absurd h
   no_device_cause Memory h = tt
 
   no_device_leaves : (r : Refusal) → IsNoDevice files reads_mid reads_new program graph name r → Leaves words before (outside files_new reads_new old told) r
@@ -70,6 +73,9 @@ module _ (words : List (List ℕ)) (files : Option Files) (source top name : Lis
   no_device_leaves (TooManyPlans slots free) h = absurd h
   no_device_leaves NoPlan h = absurd h
   no_device_leaves (NoRoom label) h = absurd h
+  no_device_leaves (Verilog file fault) h = absurd h
+  no_device_leaves (DesignData file fault) h = absurd h
+  no_device_leaves (Undone most) h = absurd h
   no_device_leaves Memory h = inl refl
 
   pub no_device : {A : Type 0} (r : CodeRefusal) → IsNoDevice files_mid reads_mid reads_new program graph name (refusal_of r) → IsCarriedOut {A = A} words before (outside files_new reads_new old told) (Err r)
@@ -107,6 +113,9 @@ module _ (words : List (List ℕ)) (files : Option Files) (source top name : Lis
     unplanned_cause (TooManyPlans slots free) h = (source, top, name, mode, asked, no_plan (TooManyPlans slots free) h)
     unplanned_cause NoPlan h = (source, top, name, mode, asked, no_plan NoPlan h)
     unplanned_cause (NoRoom label) h = (source, top, name, mode, asked, no_plan (NoRoom label) h)
+    unplanned_cause (Verilog file fault) h = absurd h
+    unplanned_cause (DesignData file fault) h = absurd h
+    unplanned_cause (Undone most) h = absurd h
     unplanned_cause Memory h = tt
 
     unplanned_leaves : (r : Refusal) → IsUnplanned graph device (mode_of mode) r → Leaves words before (outside files_new reads_new old told) r
@@ -122,6 +131,9 @@ module _ (words : List (List ℕ)) (files : Option Files) (source top name : Lis
     unplanned_leaves (TooManyPlans slots free) h = refl
     unplanned_leaves NoPlan h = refl
     unplanned_leaves (NoRoom label) h = refl
+    unplanned_leaves (Verilog file fault) h = absurd h
+    unplanned_leaves (DesignData file fault) h = absurd h
+    unplanned_leaves (Undone most) h = absurd h
     unplanned_leaves Memory h = inl refl
 
     pub unplanned : {A : Type 0} (r : CodeRefusal) → IsUnplanned graph device (mode_of mode) (refusal_of r) → IsCarriedOut {A = A} words before (outside files_new reads_new old told) (Err r)
@@ -141,7 +153,7 @@ module _ (words : List (List ℕ)) (files : Option Files) (source top name : Lis
 
       pub planned : {A : Type 0} (x : A) → Appends old.bytes new.bytes (joined lines) → IsCarriedOut words before after (Ok x)
       planned x shown = record {
-        done = inr (source, top, name, mode, asked, of_asked (λ text bytes. (told_lines : List (List ℕ)) × HasPlan text top bytes (mode_of mode) told_lines × Appends old.bytes new.bytes (joined told_lines)) (λ text bytes a. (lines, has_plan text bytes a, shown)));
+        done = inr (inl (source, top, name, mode, asked, of_asked (λ text bytes. (told_lines : List (List ℕ)) × HasPlan text top bytes (mode_of mode) told_lines × Appends old.bytes new.bytes (joined told_lines)) (λ text bytes a. (lines, has_plan text bytes a, shown))));
         cause = tt;
         leaves = tt;
         reads = reads_both new;
@@ -151,6 +163,6 @@ module _ (words : List (List ℕ)) (files : Option Files) (source top name : Lis
       unwritten rose part = record {
         done = tt;
         cause = rose;
-        leaves = inr (inr (source, top, name, mode, asked, of_asked (λ text bytes. (told_lines : List (List ℕ)) × HasPlan text top bytes (mode_of mode) told_lines × AppendsPart old.bytes new.bytes (joined told_lines)) (λ text bytes a. (lines, has_plan text bytes a, part))));
+        leaves = inr (inr (inl (source, top, name, mode, asked, of_asked (λ text bytes. (told_lines : List (List ℕ)) × HasPlan text top bytes (mode_of mode) told_lines × AppendsPart old.bytes new.bytes (joined told_lines)) (λ text bytes a. (lines, has_plan text bytes a, part)))));
         reads = reads_both new;
       }

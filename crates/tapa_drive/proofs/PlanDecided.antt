@@ -1,18 +1,18 @@
 -- Where nothing outside fails, the answer tells a plan of the source's program, or why there is none, or want of memory.
-use Rattle.std.proofs.Common.{◌≡◌, ◌≢◌, ◌⊎◌, ◌≤◌, ◌<◌, ℕ, List, length, Option, Some, None, refl, sym, ap, ◌∙◌, subst, inl, inr, ⊎_elim, arith}
+use Rattle.std.proofs.Common.{◌≡◌, ◌⊎◌, ◌<◌, ℕ, List, length, Option, Some, None, refl, sym, ◌∙◌, subst, inl, inr, ⊎_elim, arith}
 use Rattle.std.specs.Io.KnownBytes.{Appends}
 use Rattle.tapa_base.specs.Outside.{Files, file_bytes, Rose}
 use Rattle.tapa_base.specs.Take.{IsLongerThan}
-use Rattle.tapa_words.specs.Words.{Command, Run, Plan, command_of}
+use Rattle.tapa_words.specs.Words.{Run, Plan, Cosim, command_of}
 use Rattle.tapa_words.specs.declared.command.PlanMode.{PlanMode}
 use Rattle.run_program.specs.Ending.{joined}
-use Rattle.tapa_drive.specs.Answer.{OfRun, OfPlan, OfTexts, source_in, top_in, file_in, HasProgram, IsReached, IsTooLong, IsDone, HasCause, Leaves, IsAnswer}
+use Rattle.tapa_drive.specs.Answer.{OfRun, OfPlan, OfTexts, OfCosim, source_in, most_in, HasProgram, IsRefusedIn, IsFaultyIn, IsReached, IsTooLong, IsDone, HasCause, Leaves, IsAnswer}
 use Rattle.tapa_drive.specs.Decided.{NothingFails}
-use Rattle.tapa_drive.specs.Files.{OfSource, source_limit, data_limit}
+use Rattle.tapa_drive.specs.Files.{OfFile, OfSource, source_limit, data_limit}
 use Rattle.tapa_drive.specs.Outside.{Outside, Written, outside}
 use Rattle.tapa_drive.specs.PlanDecided.{IsPlannable, ArePlannable, TellsPlanOf, TellsPlan}
 use Rattle.tapa_drive.specs.Planned.{mode_of, HasBadDevice, HasNoPlan, HasPlan}
-use Rattle.tapa_drive.specs.Refusal.{Refusal, Usage, Read, Write, TooLong, Source, Data, Ticks, Stopped, Device, TooManyPlans, NoPlan, NoRoom, Memory}
+use Rattle.tapa_drive.specs.Refusal.{Refusal, Usage, Read, Write, TooLong, Source, Data, Ticks, Stopped, Device, TooManyPlans, NoPlan, NoRoom, Verilog, DesignData, Undone, Memory, VerilogFault}
 use Rattle.tapa_drive.specs.Source.{IsRefusedSource}
 use Rattle.tapa_drive.specs.Told.{IsTold, IsToldAs}
 use Rattle.tapa_drive.specs.declared.status.Status.{Status}
@@ -44,10 +44,24 @@ module _ (words : List (List ℕ)) (files : Files) (reads : List ℕ → ℕ) (o
       let one : Run h.0 h.1 h.2 h.3 ≡ Plan source top name mode = cc in
       cc
 
+  -- no simulation was asked for
+  not_cosim : {P : List ℕ → Option (List ℕ) → ℕ → Type 0} → OfCosim words P → ⊥
+  not_cosim h =
+      let both : Some (Cosim h.0 h.1 h.2) ≡ Some (Plan source top name mode) = sym h.3 ∙ asked in
+      let one : Cosim h.0 h.1 h.2 ≡ Plan source top name mode = cc in
+      cc
+
+  -- no Verilog text was read
+  not_faulty : (file : List ℕ) (fault : VerilogFault) → HasCause words before after (Verilog file fault) → ⊥
+  not_faulty file fault h =
+      let c = asked_of words (Plan source top name mode) asked (λ a. (source_in a ≡ file) × OfFile (Some files) (most_in a) file (λ text. IsFaultyIn a text fault)) h in
+      let w : OfSource (Some files) file (λ text. ⊥) = c.1 in
+      w.3
+
   -- no read failed
   no_read : (file : List ℕ) → HasCause words before after (Read file) → ⊥
   no_read file h =
-      let c = asked_of words (Plan source top name mode) asked (λ a. IsReached (Some files) (source_in a) (top_in a) (file_in a) file × Rose (reads file) (after.failed_reads file)) h in
+      let c = asked_of words (Plan source top name mode) asked (λ a. IsReached (Some files) a file × Rose (reads file) (after.failed_reads file)) h in
       ⊎_elim
       (λ (e : source ≡ file). still.read (subst (λ (f : List ℕ). Rose (reads f) (after.failed_reads f)) (sym e) c.1))
       (λ (w : (Some name ≡ Some file) × OfSource (Some files) source (λ (t : List ℕ). HasProgram t top)). still.read_data file w.0 c.1)
@@ -71,7 +85,7 @@ module _ (words : List (List ℕ)) (files : Files) (reads : List ℕ → ℕ) (o
     of_reason (Read file) h leaves told = absurd (no_read file h)
     of_reason Write h leaves told = absurd (still.writes.written h)
     of_reason (TooLong file most) h leaves told =
-        let c = asked_of words (Plan source top name mode) asked (λ a. IsTooLong (Some files) (source_in a) (top_in a) (file_in a) file most) h in
+        let c = asked_of words (Plan source top name mode) asked (λ a. IsTooLong (Some files) a file most) h in
         let short = can.short in
         let few = can.few in
         ⊎_elim {C = Meets}
@@ -85,7 +99,7 @@ module _ (words : List (List ℕ)) (files : Files) (reads : List ℕ → ℕ) (o
         absurd (omega (arith, few, long)))
         c
     of_reason (Source file place code) h leaves told =
-        let c = asked_of words (Plan source top name mode) asked (λ a. (source_in a ≡ file) × OfSource (Some files) file (λ text. IsRefusedSource text (top_in a) place code)) h in
+        let c = asked_of words (Plan source top name mode) asked (λ a. (source_in a ≡ file) × OfFile (Some files) (most_in a) file (λ text. IsRefusedIn a text place code)) h in
         let refused : IsRefusedSource (file_bytes files source) top place code = subst (λ (f : List ℕ). IsRefusedSource (file_bytes files f) top place code) (sym c.0) (of_source files file (λ (t : List ℕ). IsRefusedSource t top place code) c.1) in
         absurd (means_nothing (file_bytes files source) top place code refused can.legal.program can.legal.means)
     of_reason (Data file fault) h leaves told = absurd (not_run h)
@@ -97,6 +111,9 @@ module _ (words : List (List ℕ)) (files : Files) (reads : List ℕ → ℕ) (o
     of_reason (TooManyPlans slots free) h leaves told = no_plan (TooManyPlans slots free) h leaves told
     of_reason NoPlan h leaves told = no_plan NoPlan h leaves told
     of_reason (NoRoom label) h leaves told = no_plan (NoRoom label) h leaves told
+    of_reason (Verilog file fault) h leaves told = absurd (not_faulty file fault h)
+    of_reason (DesignData file fault) h leaves told = absurd (not_cosim h)
+    of_reason (Undone most) h leaves told = absurd (not_cosim h)
     of_reason Memory h leaves told = inr told.0
 
     of_told : (why : Refusal) → IsToldAs why result errors after.err → HasCause words before after why → Leaves words before after why → Meets
@@ -104,7 +121,8 @@ module _ (words : List (List ℕ)) (files : Files) (reads : List ℕ → ℕ) (o
 
     of_ok : IsDone words before after → result ≡ status.Ok → after.err.bytes ≡ errors.bytes → Meets
     of_ok (inl r) is same = absurd (not_run r)
-    of_ok (inr h) is same =
+    of_ok (inr (inr p)) is same = absurd (not_cosim p)
+    of_ok (inr (inl h)) is same =
         let c = asked_plan words source top name mode asked (λ s t d m. OfTexts (Some files) s (Some d) (λ text bytes. (lines : List (List ℕ)) × HasPlan text t bytes (mode_of m) lines × Appends out.bytes after.out.bytes (joined lines))) h in
         let p = of_texts (λ text bytes. (lines : List (List ℕ)) × HasPlan text top bytes (mode_of mode) lines × Appends out.bytes after.out.bytes (joined lines)) c in
         inl (inl (p.0, p.1, is, p.2, same))

@@ -15,7 +15,7 @@ use Rattle.tapa_drive.specs.Found.{IsNotGiven}
 use Rattle.tapa_drive.specs.Inputs.{GivesValues, HasDataFault}
 use Rattle.tapa_drive.specs.Meaning.{refusal_of}
 use Rattle.tapa_drive.specs.Outside.{Outside, Written, outside}
-use Rattle.tapa_drive.specs.Refusal.{Refusal, Usage, Read, Write, TooLong, Source, Data, Ticks, Stopped, Device, TooManyPlans, NoPlan, NoRoom, Memory, DataFault}
+use Rattle.tapa_drive.specs.Refusal.{Refusal, Usage, Read, Write, TooLong, Source, Data, Ticks, Stopped, Device, TooManyPlans, NoPlan, NoRoom, Verilog, DesignData, Undone, Memory, DataFault}
 use Rattle.tapa_drive.specs.Source.{IsProgramOf}
 use Rattle.tapa_drive.specs.declared.refusal.Refusal.{Refusal as CodeRefusal}
 use Rattle.tapa_drive.specs.declared.refusal.Refusal.TheVariants as code
@@ -31,10 +31,10 @@ module _ (words : List (List ℕ)) (files : Option Files) (source top : List ℕ
   before = outside files reads_old old errors
 
   has_program : OfSource files source (λ text. HasProgram text top)
-  has_program = carried.has_program words files command asked reads_old old errors told files_mid reads_mid same_mid later_mid others_mid program means files_new reads_new same_new others_new
+  has_program = carried.has_program files source top program means
 
   reads_both : (new : Written) → ReadsAsked words before (outside files_new reads_new new told)
-  reads_both new = carried.reads_both words files command asked reads_old old errors told files_mid reads_mid same_mid later_mid others_mid program means files_new reads_new same_new others_new new
+  reads_both new = carried.reads_both words files command asked reads_old old errors told files_mid reads_mid same_mid later_mid others_mid has_program files_new reads_new same_new others_new new
 
   bad_data : (fault : DataFault) → OfData files named (λ bytes. HasDataFault program bytes fault) → OfTexts files source named (λ text bytes. HasBadData text top bytes fault)
   bad_data fault h =
@@ -53,6 +53,9 @@ module _ (words : List (List ℕ)) (files : Option Files) (source top : List ℕ
   not_given_cause new (TooManyPlans slots free) h = absurd h
   not_given_cause new NoPlan h = absurd h
   not_given_cause new (NoRoom label) h = absurd h
+  not_given_cause new (Verilog file fault) h = absurd h
+  not_given_cause new (DesignData file fault) h = absurd h
+  not_given_cause new (Undone most) h = absurd h
   not_given_cause new Memory h = tt
 
   not_given_leaves : (r : Refusal) → IsNotGiven files reads_mid reads_new program named r → Leaves words before (outside files_new reads_new old told) r
@@ -68,6 +71,9 @@ module _ (words : List (List ℕ)) (files : Option Files) (source top : List ℕ
   not_given_leaves (TooManyPlans slots free) h = absurd h
   not_given_leaves NoPlan h = absurd h
   not_given_leaves (NoRoom label) h = absurd h
+  not_given_leaves (Verilog file fault) h = absurd h
+  not_given_leaves (DesignData file fault) h = absurd h
+  not_given_leaves (Undone most) h = absurd h
   not_given_leaves Memory h = inl refl
 
   pub not_given : {A : Type 0} (r : CodeRefusal) → IsNotGiven files_mid reads_mid reads_new program named (refusal_of r) → IsCarriedOut {A = A} words before (outside files_new reads_new old told) (Err r)

@@ -20,9 +20,9 @@ use Rattle.tapa_drive.specs.declared.source.SourceCode.{SourceCode}
 use Rattle.tapa_drive.specs.declared.source.SourceCode.TheVariants.{L1, L2, L3, L4, P1, P2, Rule}
 use Rattle.tapa_base.specs.Outside.{Files}
 use Rattle.tapa_base.specs.Take.{IsFileOf}
-use Rattle.tapa_drive.specs.Answer.{OfTexts}
+use Rattle.tapa_drive.specs.Answer.{OfTexts, OfDesignTexts}
 use Rattle.tapa_drive.specs.Codes.{lex_code, parse_code}
-use Rattle.tapa_drive.specs.Files.{OfFile, OfSource, OfData, data_limit, no_data}
+use Rattle.tapa_drive.specs.Files.{OfFile, OfSource, OfData, data_limit, verilog_limit, no_data}
 use Rattle.tapa_drive.specs.Source.{HasTree, HasNoTree, IsRefusedSource, MeansNothing}
 
 -- a text has one tree
@@ -76,3 +76,7 @@ of_data_also files (Some name) P Q f h = of_file_also files data_limit name P Q 
 -- what holds of a source, and of data, holds of both
 pub of_both : (files : Option Files) (source : List ℕ) (named : Option (List ℕ)) (P Q : List ℕ → Type 0) (R : List ℕ → List ℕ → Type 0) → ((text bytes : List ℕ) → P text → Q bytes → R text bytes) → OfSource files source P → OfData files named Q → OfTexts files source named R
 of_both files source named P Q R f (text, is, few, h) g = (text, is, few, of_data_also files named Q (R text) (λ bytes q. f text bytes h q) g)
+
+-- and so of a Verilog text
+pub of_text_both : (files : Option Files) (name : List ℕ) (named : Option (List ℕ)) (P Q : List ℕ → Type 0) (R : List ℕ → List ℕ → Type 0) → ((text bytes : List ℕ) → P text → Q bytes → R text bytes) → OfFile files verilog_limit name P → OfData files named Q → OfDesignTexts files name named R
+of_text_both files name named P Q R f (text, is, few, h) g = (text, is, few, of_data_also files named Q (R text) (λ bytes q. f text bytes h q) g)

@@ -11,29 +11,36 @@ use Rattle.plan_device.specs.declared.fault.DeviceFault.TheVariants as device_fa
 use Rattle.run_data.specs.Data.{Misshapen, Misfit, Oversized}
 use Rattle.run_data.specs.declared.data.DataFault.{DataFault}
 use Rattle.run_data.specs.declared.data.DataFault.TheVariants.{J1, J2, J3, J4, OutOfMemory}
-use Rattle.tapa_drive.specs.Files.{IsUntaken, source_limit, data_limit, no_data}
-use Rattle.tapa_drive.specs.Found.{IsNotFound, IsNotGiven, IsNoDevice}
+use Rattle.tapa_base.specs.declared.text.Place.{Place}
+use Rattle.vlog_design.specs.Designs.{DesignTree}
+use Rattle.tapa_drive.specs.Designs.{HasDesignFault, IsUnfitFor}
+use Rattle.tapa_drive.specs.Files.{IsUntaken, data_limit, no_data}
+use Rattle.tapa_drive.specs.Found.{IsNotTaken, IsNotGiven, IsNotSurrounded, IsNoDevice}
 use Rattle.tapa_drive.specs.Inputs.{HasDataFault, IsUnfitBy}
-use Rattle.tapa_drive.specs.Meaning.{data_refusal, device_refusal}
+use Rattle.tapa_drive.specs.Meaning.{data_refusal, design_refusal, device_refusal}
 use Rattle.tapa_drive.specs.Planned.{HasDeviceFault}
-use Rattle.tapa_drive.specs.Refusal.{Refusal, Usage, Read, Write, TooLong, Source, Data, Ticks, Stopped, Device, TooManyPlans, NoPlan, NoRoom, Memory, NotJson, Faulty, DeviceFault as TextFault, NoJson, HasFault}
+use Rattle.tapa_drive.specs.Refusal.{Refusal, Usage, Read, Write, TooLong, Source, Data, Ticks, Stopped, Device, TooManyPlans, NoPlan, NoRoom, Verilog, DesignData, Undone, Memory, NotJson, Faulty, DeviceFault as TextFault, NoJson, HasFault, VerilogFault}
+use Rattle.tapa_drive.specs.declared.source.SourceCode.{SourceCode}
 use Rattle.tapa_drive.proofs.Sourced.{of_taken}
 
 module _ (files : Option Files) (reads_old reads_new : List ℕ → ℕ) where
-  pub untaken_source : (source top : List ℕ) (r : Refusal) → IsUntaken files reads_old reads_new source source_limit r → IsNotFound files reads_old reads_new source top r
-  untaken_source source top Usage h = absurd h
-  untaken_source source top (Read file) h = h
-  untaken_source source top Write h = absurd h
-  untaken_source source top (TooLong file most) h = h
-  untaken_source source top (Source file place code) h = absurd h
-  untaken_source source top (Data file fault) h = absurd h
-  untaken_source source top (Ticks most) h = absurd h
-  untaken_source source top (Stopped lines) h = absurd h
-  untaken_source source top (Device file fault) h = absurd h
-  untaken_source source top (TooManyPlans slots free) h = absurd h
-  untaken_source source top NoPlan h = absurd h
-  untaken_source source top (NoRoom label) h = absurd h
-  untaken_source source top Memory h = tt
+  pub untaken_text : (name : List ℕ) (most : ℕ) (refuses : List ℕ → Place → SourceCode → Type 0) (faulty : List ℕ → VerilogFault → Type 0) (r : Refusal) → IsUntaken files reads_old reads_new name most r → IsNotTaken files reads_old reads_new name most refuses faulty r
+  untaken_text name most refuses faulty Usage h = absurd h
+  untaken_text name most refuses faulty (Read file) h = h
+  untaken_text name most refuses faulty Write h = absurd h
+  untaken_text name most refuses faulty (TooLong file limit) h = h
+  untaken_text name most refuses faulty (Source file place code) h = absurd h
+  untaken_text name most refuses faulty (Data file fault) h = absurd h
+  untaken_text name most refuses faulty (Ticks limit) h = absurd h
+  untaken_text name most refuses faulty (Stopped lines) h = absurd h
+  untaken_text name most refuses faulty (Device file fault) h = absurd h
+  untaken_text name most refuses faulty (TooManyPlans slots free) h = absurd h
+  untaken_text name most refuses faulty NoPlan h = absurd h
+  untaken_text name most refuses faulty (NoRoom label) h = absurd h
+  untaken_text name most refuses faulty (Verilog file fault) h = absurd h
+  untaken_text name most refuses faulty (DesignData file fault) h = absurd h
+  untaken_text name most refuses faulty (Undone limit) h = absurd h
+  untaken_text name most refuses faulty Memory h = tt
 
   module _ (program : Program) where
     pub untaken_data : (name : List ℕ) (r : Refusal) → IsUntaken files reads_old reads_new name data_limit r → IsNotGiven files reads_old reads_new program (Some name) r
@@ -49,6 +56,9 @@ module _ (files : Option Files) (reads_old reads_new : List ℕ → ℕ) where
     untaken_data name (TooManyPlans slots free) h = absurd h
     untaken_data name NoPlan h = absurd h
     untaken_data name (NoRoom label) h = absurd h
+    untaken_data name (Verilog file fault) h = absurd h
+    untaken_data name (DesignData file fault) h = absurd h
+    untaken_data name (Undone most) h = absurd h
     untaken_data name Memory h = tt
 
     module _ (name bytes : List ℕ) (is : IsFileOf files name bytes) (few : length bytes ≤ data_limit) where
@@ -80,6 +90,9 @@ module _ (files : Option Files) (reads_old reads_new : List ℕ → ℕ) where
       untaken_device name (TooManyPlans slots free) h = absurd h
       untaken_device name NoPlan h = absurd h
       untaken_device name (NoRoom label) h = absurd h
+      untaken_device name (Verilog file fault) h = absurd h
+      untaken_device name (DesignData file fault) h = absurd h
+      untaken_device name (Undone most) h = absurd h
       untaken_device name Memory h = tt
 
       module _ (name bytes : List ℕ) (is : IsFileOf files name bytes) (few : length bytes ≤ data_limit) where
@@ -95,3 +108,37 @@ module _ (files : Option Files) (reads_old reads_new : List ℕ → ℕ) where
         faulty_device (device_fault.K3 label) h = so (HasFault (device.Elsewhere label.items)) h
         faulty_device (device_fault.K4 label) h = so (HasFault (device.OnForbidden label.items)) h
         faulty_device device_fault.OutOfMemory h = tt
+
+  module _ (design : DesignTree) where
+    pub untaken_design_data : (name : List ℕ) (r : Refusal) → IsUntaken files reads_old reads_new name data_limit r → IsNotSurrounded files reads_old reads_new design (Some name) r
+    untaken_design_data name Usage h = absurd h
+    untaken_design_data name (Read file) h = (ap Some h.0, h.1)
+    untaken_design_data name Write h = absurd h
+    untaken_design_data name (TooLong file most) h = (ap Some h.0, h.1, h.2)
+    untaken_design_data name (Source file place code) h = absurd h
+    untaken_design_data name (Data file fault) h = absurd h
+    untaken_design_data name (Ticks most) h = absurd h
+    untaken_design_data name (Stopped lines) h = absurd h
+    untaken_design_data name (Device file fault) h = absurd h
+    untaken_design_data name (TooManyPlans slots free) h = absurd h
+    untaken_design_data name NoPlan h = absurd h
+    untaken_design_data name (NoRoom label) h = absurd h
+    untaken_design_data name (Verilog file fault) h = absurd h
+    untaken_design_data name (DesignData file fault) h = absurd h
+    untaken_design_data name (Undone most) h = absurd h
+    untaken_design_data name Memory h = tt
+
+    module _ (name bytes : List ℕ) (is : IsFileOf files name bytes) (few : length bytes ≤ data_limit) where
+      pub unfit_design_file : (fault : DataFault) → IsUnfitFor design bytes fault → IsNotSurrounded files reads_old reads_new design (Some name) (design_refusal name fault)
+      unfit_design_file J1 h = (refl, of_taken files data_limit name bytes (λ text. HasDesignFault design text NotJson) is few h)
+      unfit_design_file (J2 key) h = (refl, of_taken files data_limit name bytes (λ text. HasDesignFault design text (Faulty (Misshapen key.items))) is few h)
+      unfit_design_file (J3 key) h = (refl, of_taken files data_limit name bytes (λ text. HasDesignFault design text (Faulty (Misfit key.items))) is few h)
+      unfit_design_file (J4 key) h = (refl, of_taken files data_limit name bytes (λ text. HasDesignFault design text (Faulty (Oversized key.items))) is few h)
+      unfit_design_file OutOfMemory h = tt
+
+    pub unfit_design_none : (fault : DataFault) → IsUnfitFor design no_data fault → IsNotSurrounded files reads_old reads_new design None (design_refusal no_data fault)
+    unfit_design_none J1 h = (refl, h)
+    unfit_design_none (J2 key) h = (refl, h)
+    unfit_design_none (J3 key) h = (refl, h)
+    unfit_design_none (J4 key) h = (refl, h)
+    unfit_design_none OutOfMemory h = tt

@@ -1,20 +1,23 @@
 -- What has come to pass in a call of the program, and what stands after it.
 use Rattle.std.specs.Prelude.{◌≡◌, ◌≢◌, ◌⊎◌, ℕ, List, Option, Some, None, ⊤}
 use Rattle.std.specs.Io.KnownBytes.{Appends}
+use Rattle.tapa_base.specs.declared.text.Place.{Place}
 use Rattle.tapa_base.specs.Outside.{Files, Rose, AppendsPart}
 use Rattle.tapa_base.specs.Take.{IsLongerThan}
 use Rattle.tapa_syntax.specs.declared.program.Program.{Program}
-use Rattle.tapa_words.specs.Words.{Command, Run, Plan, command_of}
+use Rattle.tapa_words.specs.Words.{Command, Run, Plan, Cosim, command_of}
 use Rattle.tapa_words.specs.declared.command.PlanMode.{PlanMode}
 use Rattle.run_program.specs.Ending.{IsReportOf, joined}
 use Rattle.run_program.specs.Run.{Values, DoneRun, StoppedRun, LimitRun}
-use Rattle.tapa_drive.specs.Files.{OfSource, OfData, source_limit, data_limit, shown_name}
+use Rattle.tapa_drive.specs.Designs.{HasDesign, IsRefusedText, HasBadDesignData, HasSimulated, HasCosimmed, HasUndone}
+use Rattle.tapa_drive.specs.Files.{OfFile, OfSource, OfData, source_limit, data_limit, verilog_limit, shown_name}
 use Rattle.tapa_drive.specs.Inputs.{GivesValues, HasDataFault}
 use Rattle.tapa_drive.specs.Outside.{Outside}
 use Rattle.tapa_drive.specs.Planned.{mode_of, HasPlan, HasNoPlan, HasBadDevice}
-use Rattle.tapa_drive.specs.Refusal.{Refusal, Usage, Read, Write, TooLong, Source, Data, Ticks, Stopped, Device, TooManyPlans, NoPlan, NoRoom, Memory, DataFault}
+use Rattle.tapa_drive.specs.Refusal.{Refusal, Usage, Read, Write, TooLong, Source, Data, Ticks, Stopped, Device, TooManyPlans, NoPlan, NoRoom, Verilog, DesignData, Undone, Memory, DataFault, VerilogFault}
 use Rattle.tapa_drive.specs.Source.{IsProgramOf, IsRefusedSource}
 use Rattle.tapa_drive.specs.Told.{IsToldAs}
+use Rattle.tapa_drive.specs.declared.source.SourceCode.{SourceCode}
 use Rattle.tapa_drive.specs.declared.status.Status.{Status}
 use Rattle.tapa_drive.specs.declared.status.Status.TheVariants.{Ok}
 
@@ -22,24 +25,33 @@ use Rattle.tapa_drive.specs.declared.status.Status.TheVariants.{Ok}
 abbrev pub OfCommand : List (List ℕ) → (Command → Type 0) → Type 0
 OfCommand words P = (command : Command) × (command_of words ≡ Some command) × P command
 
--- the source that a command names, the task of it, and the file of data or of a device where one is named
+-- the source or the Verilog text that a command names, how many bytes it may have, and the file of data or of a device where
+-- one is named
 abbrev pub source_in : Command → List ℕ
 source_in (Run source top given limit) = source
 source_in (Plan source top device mode) = source
+source_in (Cosim text given limit) = text
 
-abbrev pub top_in : Command → List ℕ
-top_in (Run source top given limit) = top
-top_in (Plan source top device mode) = top
+abbrev pub most_in : Command → ℕ
+most_in (Run source top given limit) = source_limit
+most_in (Plan source top device mode) = source_limit
+most_in (Cosim text given limit) = verilog_limit
 
 abbrev pub file_in : Command → Option (List ℕ)
 file_in (Run source top given limit) = given
 file_in (Plan source top device mode) = Some device
+file_in (Cosim text given limit) = given
 
 -- the words ask for a run of a source and a task, with a file of data where one is named, and with a limit on its ticks,
 -- of which this holds
 abbrev pub OfRun : List (List ℕ) → (List ℕ → List ℕ → Option (List ℕ) → ℕ → Type 0) → Type 0
 OfRun words P =
     (source : List ℕ) × (top : List ℕ) × (given : Option (List ℕ)) × (limit : ℕ) × (command_of words ≡ Some (Run source top given limit)) × P source top given limit
+
+-- the words ask for a simulation of a Verilog text, with a file of data where one is named, and with a limit on its cycles, of
+-- which this holds
+abbrev pub OfCosim : List (List ℕ) → (List ℕ → Option (List ℕ) → ℕ → Type 0) → Type 0
+OfCosim words P = (text : List ℕ) × (given : Option (List ℕ)) × (limit : ℕ) × (command_of words ≡ Some (Cosim text given limit)) × P text given limit
 
 -- the words ask for a plan of a source's task on the device of a file, by a mode, of which this holds
 abbrev pub OfPlan : List (List ℕ) → (List ℕ → List ℕ → List ℕ → PlanMode → Type 0) → Type 0
@@ -49,6 +61,10 @@ OfPlan words P =
 -- this holds of the bytes of the source and of the data: of those that are told, and else of some
 abbrev pub OfTexts : Option Files → List ℕ → Option (List ℕ) → (List ℕ → List ℕ → Type 0) → Type 0
 OfTexts files source given P = OfSource files source (λ text. OfData files given (λ bytes. P text bytes))
+
+-- the same of the bytes of a Verilog text and of the data
+abbrev pub OfDesignTexts : Option Files → List ℕ → Option (List ℕ) → (List ℕ → List ℕ → Type 0) → Type 0
+OfDesignTexts files name given P = OfFile files verilog_limit name (λ text. OfData files given (λ bytes. P text bytes))
 
 -- the program of a source, and the values that the data give it
 pub record IsAsked (text top bytes : List ℕ) (program : Program) (values : Values) : Type 0 where
@@ -98,23 +114,41 @@ pub record HasLimit (text top bytes : List ℕ) (limit : ℕ) : Type 0 where
   pub asked : IsAsked text top bytes program values
   pub past : LimitRun program values limit
 
--- the file is the source, or the further file of a source that has a program
-abbrev pub IsReached : Option Files → List ℕ → List ℕ → Option (List ℕ) → List ℕ → Type 0
-IsReached files source top given file = (source ≡ file) ⊎ ((given ≡ Some file) × OfSource files source (λ text. HasProgram text top))
+-- the text is what the command asks for: a source with a program, or a Verilog text with a design
+abbrev pub IsTaken : Command → List ℕ → Type 0
+IsTaken (Run source top given limit) text = HasProgram text top
+IsTaken (Plan source top device mode) text = HasProgram text top
+IsTaken (Cosim name given limit) text = HasDesign text
 
--- the source has more bytes than it may; or the further file of a source that has a program has
-abbrev pub IsTooLong : Option Files → List ℕ → List ℕ → Option (List ℕ) → List ℕ → ℕ → Type 0
-IsTooLong files source top given file most =
-    ((source ≡ file) × (most ≡ source_limit) × IsLongerThan files file source_limit)
-    ⊎ ((given ≡ Some file) × (most ≡ data_limit) × IsLongerThan files file data_limit × OfSource files source (λ text. HasProgram text top))
+-- the command is one of a source, and the source is refused so
+abbrev pub IsRefusedIn : Command → List ℕ → Place → SourceCode → Type 0
+IsRefusedIn (Run source top given limit) text place code = IsRefusedSource text top place code
+IsRefusedIn (Plan source top device mode) text place code = IsRefusedSource text top place code
+IsRefusedIn (Cosim name given limit) text place code = ⊥
+
+-- the command is one of a Verilog text, and the text is refused so
+abbrev pub IsFaultyIn : Command → List ℕ → VerilogFault → Type 0
+IsFaultyIn (Run source top given limit) text fault = ⊥
+IsFaultyIn (Plan source top device mode) text fault = ⊥
+IsFaultyIn (Cosim name given limit) text fault = IsRefusedText text fault
+
+-- the file is the source or the text, or the further file of one that is taken
+abbrev pub IsReached : Option Files → Command → List ℕ → Type 0
+IsReached files c file = (source_in c ≡ file) ⊎ ((file_in c ≡ Some file) × OfFile files (most_in c) (source_in c) (IsTaken c))
+
+-- the source or the text has more bytes than it may; or the further file of one that is taken has
+abbrev pub IsTooLong : Option Files → Command → List ℕ → ℕ → Type 0
+IsTooLong files c file most =
+    ((source_in c ≡ file) × (most ≡ most_in c) × IsLongerThan files file (most_in c))
+    ⊎ ((file_in c ≡ Some file) × (most ≡ data_limit) × IsLongerThan files file data_limit × OfFile files (most_in c) (source_in c) (IsTaken c))
 
 -- what has come to pass in a call that tells this refusal
 abbrev pub HasCause : List (List ℕ) → Outside → Outside → Refusal → Type 0
 HasCause words before after Usage = command_of words ≡ None
-HasCause words before after (Read file) = OfCommand words (λ c. IsReached before.files (source_in c) (top_in c) (file_in c) file × Rose (before.failed_reads file) (after.failed_reads file))
+HasCause words before after (Read file) = OfCommand words (λ c. IsReached before.files c file × Rose (before.failed_reads file) (after.failed_reads file))
 HasCause words before after Write = Rose before.out.failed after.out.failed
-HasCause words before after (TooLong file most) = OfCommand words (λ c. IsTooLong before.files (source_in c) (top_in c) (file_in c) file most)
-HasCause words before after (Source file place code) = OfCommand words (λ c. (source_in c ≡ file) × OfSource before.files file (λ text. IsRefusedSource text (top_in c) place code))
+HasCause words before after (TooLong file most) = OfCommand words (λ c. IsTooLong before.files c file most)
+HasCause words before after (Source file place code) = OfCommand words (λ c. (source_in c ≡ file) × OfFile before.files (most_in c) file (λ text. IsRefusedIn c text place code))
 HasCause words before after (Data file fault) = OfRun words (λ source top given limit. (shown_name given ≡ file) × OfTexts before.files source given (λ text bytes. HasBadData text top bytes fault))
 HasCause words before after (Ticks most) = OfRun words (λ source top given limit. (most ≡ limit) × OfTexts before.files source given (λ text bytes. HasLimit text top bytes limit))
 HasCause words before after (Stopped lines) = OfRun words (λ source top given limit. OfTexts before.files source given (λ text bytes. HasStopped text top bytes limit lines before.out.bytes after.out.bytes))
@@ -122,6 +156,9 @@ HasCause words before after (Device file fault) = OfPlan words (λ source top de
 HasCause words before after (TooManyPlans slots free) = OfPlan words (λ source top device mode. OfTexts before.files source (Some device) (λ text bytes. HasNoPlan text top bytes (mode_of mode) (TooManyPlans slots free)))
 HasCause words before after NoPlan = OfPlan words (λ source top device mode. OfTexts before.files source (Some device) (λ text bytes. HasNoPlan text top bytes (mode_of mode) NoPlan))
 HasCause words before after (NoRoom label) = OfPlan words (λ source top device mode. OfTexts before.files source (Some device) (λ text bytes. HasNoPlan text top bytes (mode_of mode) (NoRoom label)))
+HasCause words before after (Verilog file fault) = OfCommand words (λ c. (source_in c ≡ file) × OfFile before.files (most_in c) file (λ text. IsFaultyIn c text fault))
+HasCause words before after (DesignData file fault) = OfCosim words (λ name given limit. (shown_name given ≡ file) × OfDesignTexts before.files name given (λ text bytes. HasBadDesignData text bytes fault))
+HasCause words before after (Undone most) = OfCosim words (λ name given limit. (most ≡ limit) × OfDesignTexts before.files name given (λ text bytes. HasUndone text bytes limit before.out.bytes after.out.bytes))
 HasCause words before after Memory = ⊤
 
 -- the command ran the program of its source to its end
@@ -133,16 +170,21 @@ abbrev pub IsPlanned : List (List ℕ) → Outside → Outside → Type 0
 IsPlanned words before after =
     OfPlan words (λ source top device mode. OfTexts before.files source (Some device) (λ text bytes. (lines : List (List ℕ)) × HasPlan text top bytes (mode_of mode) lines × Appends before.out.bytes after.out.bytes (joined lines)))
 
+-- the design of the Verilog text was done in one of the cycles, and the report up to there was written
+abbrev pub IsCosimmed : List (List ℕ) → Outside → Outside → Type 0
+IsCosimmed words before after = OfCosim words (λ name given limit. OfDesignTexts before.files name given (λ text bytes. HasCosimmed text bytes limit before.out.bytes after.out.bytes))
+
 -- the command did what it is for
 abbrev pub IsDone : List (List ℕ) → Outside → Outside → Type 0
-IsDone words before after = IsRun words before after ⊎ IsPlanned words before after
+IsDone words before after = IsRun words before after ⊎ (IsPlanned words before after ⊎ IsCosimmed words before after)
 
--- nothing was written, or a front part of a report of the source, or of a plan
+-- nothing was written, or a front part of a report of the source, of a plan, or of a report of the Verilog text
 abbrev pub HasPartOf : List (List ℕ) → Outside → Outside → Type 0
 HasPartOf words before after =
     (after.out.bytes ≡ before.out.bytes)
     ⊎ (OfRun words (λ source top given limit. OfTexts before.files source given (λ text bytes. (report : List ℕ) × IsReportOfSource text top bytes limit report × AppendsPart before.out.bytes after.out.bytes report))
-    ⊎ OfPlan words (λ source top device mode. OfTexts before.files source (Some device) (λ text bytes. (lines : List (List ℕ)) × HasPlan text top bytes (mode_of mode) lines × AppendsPart before.out.bytes after.out.bytes (joined lines))))
+    ⊎ (OfPlan words (λ source top device mode. OfTexts before.files source (Some device) (λ text bytes. (lines : List (List ℕ)) × HasPlan text top bytes (mode_of mode) lines × AppendsPart before.out.bytes after.out.bytes (joined lines)))
+    ⊎ OfCosim words (λ name given limit. OfDesignTexts before.files name given (λ text bytes. (done_at : Option ℕ) × (report : List ℕ) × HasSimulated text bytes limit done_at report × AppendsPart before.out.bytes after.out.bytes report))))
 
 -- what stands in the output after a call that tells this refusal
 abbrev pub Leaves : List (List ℕ) → Outside → Outside → Refusal → Type 0
@@ -158,12 +200,16 @@ Leaves words before after (Device file fault) = after.out.bytes ≡ before.out.b
 Leaves words before after (TooManyPlans slots free) = after.out.bytes ≡ before.out.bytes
 Leaves words before after NoPlan = after.out.bytes ≡ before.out.bytes
 Leaves words before after (NoRoom label) = after.out.bytes ≡ before.out.bytes
+Leaves words before after (Verilog file fault) = after.out.bytes ≡ before.out.bytes
+Leaves words before after (DesignData file fault) = after.out.bytes ≡ before.out.bytes
+Leaves words before after (Undone most) = HasPartOf words before after
 Leaves words before after Memory = HasPartOf words before after
 
--- the files stay, and reads fail of no other file than the source and, where it has a program, the further file that is named
+-- the files stay, and reads fail of no other file than the source or the text and, where it is taken, the further file that is
+-- named
 pub record ReadsAsked (words : List (List ℕ)) (before after : Outside) : Type 0 where
   pub same_files : after.files ≡ before.files
-  pub asked : (name : List ℕ) → (after.failed_reads name ≡ before.failed_reads name) ⊎ OfCommand words (λ c. IsReached before.files (source_in c) (top_in c) (file_in c) name)
+  pub asked : (name : List ℕ) → (after.failed_reads name ≡ before.failed_reads name) ⊎ OfCommand words (λ c. IsReached before.files c name)
 
 -- the status of a call: that of done work, where the program of the source was run to its end or planned; or that of a
 -- refusal, which is told, has its cause and leaves the output so

@@ -12,6 +12,10 @@ source_limit = 262144
 abbrev pub data_limit : ℕ
 data_limit = 33554432
 
+-- the most bytes that a Verilog text may have
+abbrev pub verilog_limit : ℕ
+verilog_limit = 16777216
+
 -- a file has no more bytes than it may, and this holds of them: of those of the named file where the files are told, and
 -- else of some bytes
 abbrev pub OfFile : Option Files → ℕ → List ℕ → (List ℕ → Type 0) → Type 0

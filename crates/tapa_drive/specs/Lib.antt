@@ -1,7 +1,9 @@
 pub mod Answer
 pub mod Carried
 pub mod Codes
+pub mod CosimDecided
 pub mod Decided
+pub mod Designs
 pub mod Files
 pub mod Found
 pub mod Inputs

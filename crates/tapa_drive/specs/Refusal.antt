@@ -19,6 +19,15 @@ pub data DeviceFault : Type 0 where
   NoJson : DeviceFault
   HasFault : (fault : device.Fault) → DeviceFault
 
+-- why a Verilog text has no design: no text of the subset goes on at a place, or a rule is broken first at a name
+pub data VerilogFault : Type 0 where
+  V1 : (place : Place) → VerilogFault
+  V2 : (name : List ℕ) → VerilogFault
+  V3 : (name : List ℕ) → VerilogFault
+  V4 : (name : List ℕ) → VerilogFault
+  V5 : (name : List ℕ) → VerilogFault
+  V6 : (name : List ℕ) → VerilogFault
+
 -- why a command ends with another status than that of done work
 pub data Refusal : Type 0 where
   -- the words are no command
@@ -45,6 +54,12 @@ pub data Refusal : Type 0 where
   NoPlan : Refusal
   -- first fit has no slot for the group of this instance
   NoRoom : (label : List ℕ) → Refusal
+  -- a Verilog text has no design
+  Verilog : (file : List ℕ) (fault : VerilogFault) → Refusal
+  -- data are not what the design asks for
+  DesignData : (file : List ℕ) (fault : DataFault) → Refusal
+  -- a design is done in none of so many cycles
+  Undone : (limit : ℕ) → Refusal
   -- memory ran out
   Memory : Refusal
 
@@ -110,6 +125,14 @@ message_of (Device file fault) = codes "tapa: " ++ (file ++ (codes ": " ++ (devi
 message_of (TooManyPlans slots free) = codes "tapa: too many plans: " ++ (decimal slots ++ (codes " slots, " ++ (decimal free ++ codes " free groups\n")))
 message_of NoPlan = codes "tapa: no plan within capacity\n"
 message_of (NoRoom label) = codes "tapa: no room for " ++ (label ++ codes "\n")
+message_of (Verilog file (V1 place)) = codes "tapa: " ++ (file ++ (codes ":" ++ (decimal place.line ++ (codes ":" ++ (decimal place.col ++ (codes ": " ++ (codes "V1 no text of the subset" ++ codes "\n")))))))
+message_of (Verilog file (V2 name)) = codes "tapa: " ++ (file ++ (codes ": " ++ ((codes "V2 " ++ name) ++ codes "\n")))
+message_of (Verilog file (V3 name)) = codes "tapa: " ++ (file ++ (codes ": " ++ ((codes "V3 " ++ name) ++ codes "\n")))
+message_of (Verilog file (V4 name)) = codes "tapa: " ++ (file ++ (codes ": " ++ ((codes "V4 " ++ name) ++ codes "\n")))
+message_of (Verilog file (V5 name)) = codes "tapa: " ++ (file ++ (codes ": " ++ ((codes "V5 " ++ name) ++ codes "\n")))
+message_of (Verilog file (V6 name)) = codes "tapa: " ++ (file ++ (codes ": " ++ ((codes "V6 " ++ name) ++ codes "\n")))
+message_of (DesignData file fault) = codes "tapa: " ++ (file ++ (codes ": " ++ (data_text fault ++ codes "\n")))
+message_of (Undone limit) = codes "tapa: not done after " ++ (decimal limit ++ codes " cycles\n")
 message_of Memory = codes "tapa: out of memory\n"
 
 -- its lines name nothing that is read or made while the program runs

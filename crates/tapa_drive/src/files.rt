@@ -26,7 +26,7 @@ const SOURCE_LIMIT: u64 = 262_144;
 pub(crate) const DATA_LIMIT: u64 = 33_554_432;
 
 // The data where no file is named.
-const NO_DATA: &str = "{}";
+pub(crate) const NO_DATA: &str = "{}";
 
 /// The bytes of a file, of which there may be so many.
 pub(crate) fn read_file<'a, S: Shelf>(

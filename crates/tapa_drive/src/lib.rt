@@ -2,6 +2,7 @@
 //! the report.
 #![tactic(auto)]
 
+mod cosim;
 mod files;
 mod inputs;
 pub mod laws;

@@ -2,10 +2,10 @@ ghost use Rattle.std.specs.Prelude.{◌≡◌, ◌⊎◌, ◌++◌, codes, IfOk,
 ghost use Rattle.std.specs.Io.KnownBytes.{Appends};
 ghost use Rattle.tapa_base.specs.Outside.{AppendsPart, Rose};
 ghost use Rattle.run_program.specs.Ending.{joined, lines_in};
-ghost use Rattle.tapa_drive.specs.Meaning.{refusal_of, data_refusal, device_refusal, words_refusal};
+ghost use Rattle.tapa_drive.specs.Meaning.{refusal_of, data_refusal, device_refusal, design_refusal, verilog_refusal, words_refusal};
 ghost use Rattle.tapa_drive.specs.Outside.{written};
 ghost use Rattle.tapa_drive.specs.Told.{IsToldAs};
-ghost use Rattle.tapa_drive.specs.Refusal.{Refusal as Why, message_of, code_text, IsFixed};
+ghost use Rattle.tapa_drive.specs.Refusal.{Refusal as Why, V1, message_of, code_text, IsFixed};
 ghost use Rattle.tapa_drive.specs.Status.{status_of};
 
 use crate::source::SourceCode;
@@ -13,8 +13,9 @@ use crate::status::Status;
 use plan_device::DeviceFault;
 use run_data::DataFault;
 use std::alloc::Global;
-use tapa_base::{OutOfMemory, Place, Sink, WriteFault, put_all};
+use tapa_base::{OutOfMemory, Place, Sink, Text, WriteFault, put_all};
 use tapa_words::WordsFault;
+use vlog_tree::VFault;
 
 /// Why a command ends with another status than that of done work.
 #[derive(Drop)]
@@ -62,6 +63,20 @@ pub(crate) enum Refusal<'a> {
     /// First fit has no slot for the group whose first instance has this label.
     NoRoom {
         label: Vec<u8>,
+    },
+    /// Why a Verilog text has no design, or want of memory in its place.
+    Verilog {
+        file: &'a str,
+        fault: VFault,
+    },
+    /// What is wrong with the data of a design, or want of memory in its place.
+    DesignData {
+        file: &'a str,
+        fault: DataFault,
+    },
+    /// The design is done in none of so many cycles.
+    Undone {
+        limit: u64,
     },
     Memory,
 }
@@ -121,6 +136,22 @@ fn room_line(alloc: Global, label: &[u8]) -> Result<Vec<u8>, OutOfMemory>
     line.extend_from_slice(label)?;
     line.push(b'\n')?;
     Ok(line)
+}
+
+fn undone_line(alloc: Global, limit: u64) -> Result<Vec<u8>, OutOfMemory>
+    ensures { IfOk result (λ line. line.items ≡ message_of (Why.Undone limit)) }
+{
+    Ok(format!(in alloc; "tapa: not done after {limit} cycles\n")?.into_bytes())
+}
+
+// That no text of the subset goes on at a place.
+fn no_text_line(alloc: Global, file: &str, place: Place) -> Result<Vec<u8>, OutOfMemory>
+    ensures { IfOk result (λ line. line.items ≡ message_of (Why.Verilog file.now (V1 place))) }
+{
+    let line = place.line;
+    let col = place.col;
+    let text = "V1 no text of the subset";
+    Ok(format!(in alloc; "tapa: {file}:{line}:{col}: {text}\n")?.into_bytes())
 }
 
 // A line: a file, a code and a key.
@@ -198,6 +229,49 @@ fn tell_data<E: Sink>(alloc: Global, file: &str, fault: &DataFault, err: &mut E)
     }
 }
 
+// Tells a fault of the data of a design.
+fn tell_design_data<E: Sink>(alloc: Global, file: &str, fault: &DataFault, err: &mut E) -> Status
+    ensures { IsToldAs (design_refusal file.now fault.now) result (written (E.contents err.old) (E.faults err.old)) (written (E.contents err.new) (E.faults err.new))
+        ⊎ IsToldAs Why.Memory result (written (E.contents err.old) (E.faults err.old)) (written (E.contents err.new) (E.faults err.new)) }
+{
+    match fault {
+        DataFault::J1 => tell_made(key_line(alloc, file, b"J1", b""), Status::Data, err),
+        DataFault::J2(key) => tell_made(key_line(alloc, file, b"J2 ", key), Status::Data, err),
+        DataFault::J3(key) => tell_made(key_line(alloc, file, b"J3 ", key), Status::Data, err),
+        DataFault::J4(key) => tell_made(key_line(alloc, file, b"J4 ", key), Status::Data, err),
+        DataFault::OutOfMemory => tell_line(NO_MEMORY, Status::Memory, err),
+    }
+}
+
+// Tells that a rule on designs is broken at a name.
+fn tell_rule<E: Sink>(alloc: Global, file: &str, rule: &[u8], name: &Text, err: &mut E) -> Status
+    ensures { (why : Why) → message_of why ≡ codes "tapa: " ++ (file.now ++ (codes ": " ++ ((rule.now ++ name.now) ++ codes "\n"))) → Status.Source ≡ status_of why →
+        IsToldAs why result (written (E.contents err.old) (E.faults err.old)) (written (E.contents err.new) (E.faults err.new))
+        ⊎ IsToldAs Why.Memory result (written (E.contents err.old) (E.faults err.old)) (written (E.contents err.new) (E.faults err.new)) }
+{
+    tell_made(
+        key_line(alloc, file, rule, name.bytes()),
+        Status::Source,
+        err,
+    )
+}
+
+// Tells why a Verilog text has no design.
+fn tell_verilog<E: Sink>(alloc: Global, file: &str, fault: &VFault, err: &mut E) -> Status
+    ensures { IsToldAs (verilog_refusal file.now fault.now) result (written (E.contents err.old) (E.faults err.old)) (written (E.contents err.new) (E.faults err.new))
+        ⊎ IsToldAs Why.Memory result (written (E.contents err.old) (E.faults err.old)) (written (E.contents err.new) (E.faults err.new)) }
+{
+    match fault {
+        VFault::V1(place) => tell_made(no_text_line(alloc, file, *place), Status::Source, err),
+        VFault::V2(name) => tell_rule(alloc, file, b"V2 ", name, err),
+        VFault::V3(name) => tell_rule(alloc, file, b"V3 ", name, err),
+        VFault::V4(name) => tell_rule(alloc, file, b"V4 ", name, err),
+        VFault::V5(name) => tell_rule(alloc, file, b"V5 ", name, err),
+        VFault::V6(name) => tell_rule(alloc, file, b"V6 ", name, err),
+        VFault::OutOfMemory => tell_line(NO_MEMORY, Status::Memory, err),
+    }
+}
+
 // Tells a fault of a device file.
 fn tell_device<E: Sink>(alloc: Global, file: &str, fault: &DeviceFault, err: &mut E) -> Status
     ensures { IsToldAs (device_refusal file.now fault.now) result (written (E.contents err.old) (E.faults err.old)) (written (E.contents err.new) (E.faults err.new))
@@ -249,6 +323,9 @@ pub(crate) fn tell<E: Sink>(alloc: Global, refusal: &Refusal<'_>, err: &mut E) -
         }
         Refusal::NoPlan => tell_line(NO_PLAN, Status::NoPlan, err),
         Refusal::NoRoom { label } => tell_made(room_line(alloc, label), Status::NoPlan, err),
+        Refusal::Verilog { file, fault } => tell_verilog(alloc, file, fault, err),
+        Refusal::DesignData { file, fault } => tell_design_data(alloc, file, fault, err),
+        Refusal::Undone { limit } => tell_made(undone_line(alloc, *limit), Status::Limit, err),
         Refusal::Memory => tell_line(NO_MEMORY, Status::Memory, err),
     }
 }

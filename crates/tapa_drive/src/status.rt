@@ -6,11 +6,11 @@ ghost use Rattle.tapa_drive.specs.Status.{code_of};
 pub enum Status {
     /// The work is done, and all of it is written.
     Ok,
-    /// A source is refused.
+    /// A source or a Verilog text is refused.
     Source,
     /// The words are no command.
     Usage,
-    /// A file of data or of a device is not what the program asks for, or there are too many plans to look at.
+    /// A file of data or of a device is not what the program or the design asks for, or there are too many plans to look at.
     Data,
     /// No plan is within capacity, or first fit finds no slot for a group.
     NoPlan,
@@ -18,7 +18,7 @@ pub enum Status {
     Read,
     /// Standard output or standard error could not be written to.
     Write,
-    /// A limit is passed: of a file's length, or of the ticks of a run's joined instances.
+    /// A limit is passed: of a file's length, of the ticks of a run's joined instances, or of the cycles of a simulation.
     Limit,
     /// The program stopped at its declared depths before every joined instance had ended.
     Stopped,

@@ -5,7 +5,7 @@ use Rattle.std.specs.Str.{bytes_eq}
 use Rattle.std.specs.Str.Parse.{digits_value}
 use Rattle.std.specs.declared.alloc.Global.{Global}
 use Rattle.tapa_words.specs.declared.verb.Verb.{Verb}
-use Rattle.tapa_words.specs.declared.verb.Verb.TheVariants.{Running, Planning}
+use Rattle.tapa_words.specs.declared.verb.Verb.TheVariants.{Running, Planning, Simulating}
 use Rattle.tapa_words.specs.declared.command.PlanMode.{PlanMode}
 use Rattle.tapa_words.specs.declared.command.PlanMode.TheVariants.{Exact, Fit}
 
@@ -18,6 +18,8 @@ pub data Command : Type 0 where
   Run : (source top : Word) (input : Option Word) (limit : ℕ) → Command
   -- a plan of the program of a source on the device of a file, by a mode
   Plan : (source top device : Word) (mode : PlanMode) → Command
+  -- a simulation of the design of a Verilog text, for at most so many cycles, with a file of its data where one is named
+  Cosim : (text : Word) (input : Option Word) (limit : ℕ) → Command
 
 -- the words as bytes
 abbrev pub texts : List (String Global) → List Word
@@ -25,12 +27,13 @@ texts words = map string_bytes words
 
 -- the first word is the command's name, spelled exactly
 abbrev pub verb_of : Word → Option Verb
-verb_of word = if bytes_eq word (codes "run") then Some Running else if bytes_eq word (codes "plan") then Some Planning else None
+verb_of word = if bytes_eq word (codes "run") then Some Running else if bytes_eq word (codes "plan") then Some Planning else if bytes_eq word (codes "cosim") then Some Simulating else None
 
 -- the command has an option of this name; each option has a value
 abbrev pub has_option : Verb → Word → Bool
 has_option Running name = bytes_eq name (codes "--steps")
 has_option Planning name = bytes_eq name (codes "--plan")
+has_option Simulating name = bytes_eq name (codes "--cycles")
 
 -- a word of more than one byte that begins with `-`; `--` is of this form too
 abbrev pub is_option : Word → Bool
@@ -167,6 +170,10 @@ number_or default least most (Some value) = in_range least most (number_of value
 abbrev pub default_limit : ℕ
 default_limit = 100000000
 
+-- the most cycles that a simulation may go, where the words don't tell
+abbrev pub default_cycles : ℕ
+default_cycles = 10000000
+
 -- the most that the words may tell
 abbrev pub most_limit : ℕ
 most_limit = 1000000000000
@@ -187,10 +194,17 @@ abbrev pub plan_by : List Word → Option PlanMode → Option Command
 plan_by (source ∷ top ∷ device ∷ []) mode = option_map (Plan source top device) mode
 plan_by words mode = None
 
+-- `cosim VTEXT [DATA]`, with the limit that `--cycles` tells
+abbrev pub cosim_by : List Word → Option ℕ → Option Command
+cosim_by (text ∷ []) limit = option_map (Cosim text None) limit
+cosim_by (text ∷ input ∷ []) limit = option_map (Cosim text (Some input)) limit
+cosim_by words limit = None
+
 -- a command by its items
 abbrev pub command_by : Verb → List Item → Option Command
 command_by Running items = run_by (positionals items) (number_or default_limit 1 most_limit (value_of (codes "--steps") items))
 command_by Planning items = plan_by (positionals items) (mode_or (value_of (codes "--plan") items))
+command_by Simulating items = cosim_by (positionals items) (number_or default_cycles 1 most_limit (value_of (codes "--cycles") items))
 
 -- the command that the items are, unless an option is given twice
 abbrev pub of_items : Verb → List Item → Option Command

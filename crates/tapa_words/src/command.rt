@@ -15,6 +15,13 @@ pub enum Command<'a> {
         device: &'a str,
         mode: PlanMode,
     },
+    /// Simulate the design of the Verilog text in the file `text`, for at most `limit` cycles, with the file `data` where one
+    /// is named.
+    Cosim {
+        text: &'a str,
+        data: Option<&'a str>,
+        limit: u64,
+    },
 }
 
 /// How a plan is looked for: one of least cost, or the first that fits.

@@ -2,6 +2,7 @@
 #![tactic(auto)]
 
 mod command;
+mod cosim;
 mod item;
 mod number;
 mod plan;

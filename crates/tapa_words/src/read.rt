@@ -3,6 +3,7 @@ ghost use Rattle.tapa_words.specs.Words.{texts, command_of, most_limit};
 ghost use Rattle.tapa_words.specs.Meaning.{command, limit_in, Answers};
 
 use crate::command::{Command, WordsFault};
+use crate::cosim::read_cosim;
 use crate::item::{are_each_once, read_items};
 use crate::plan::read_plan;
 use crate::run::read_run;
@@ -29,5 +30,6 @@ pub fn read_words<'a>(alloc: Global, words: &'a [String]) -> Result<Command<'a>,
     match verb {
         Verb::Running => read_run(alloc, items.as_slice()),
         Verb::Planning => read_plan(alloc, items.as_slice()),
+        Verb::Simulating => read_cosim(alloc, items.as_slice()),
     }
 }

@@ -10,7 +10,8 @@ use std::alloc::Global;
 
 const DEFAULT_LIMIT: u64 = 100_000_000;
 
-const MOST_LIMIT: u64 = 1_000_000_000_000;
+/// The most ticks or cycles that the words may tell.
+pub(crate) const MOST_LIMIT: u64 = 1_000_000_000_000;
 
 /// `run SRC TOP [DATA] [--steps N]`, by its items.
 pub(crate) fn read_run<'a>(alloc: Global, items: &[Item<'a>]) -> Result<Command<'a>, WordsFault>

@@ -6,6 +6,7 @@ ghost use Rattle.tapa_words.specs.Words.{verb_of, has_option};
 pub(crate) enum Verb {
     Running,
     Planning,
+    Simulating,
 }
 
 impl Verb {
@@ -17,6 +18,8 @@ impl Verb {
             Some(Verb::Running)
         } else if word == "plan" {
             Some(Verb::Planning)
+        } else if word == "cosim" {
+            Some(Verb::Simulating)
         } else {
             None
         }
@@ -29,6 +32,7 @@ impl Verb {
         match self {
             Verb::Running => name == "--steps",
             Verb::Planning => name == "--plan",
+            Verb::Simulating => name == "--cycles",
         }
     }
 }

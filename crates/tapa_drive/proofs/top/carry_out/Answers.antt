@@ -14,3 +14,6 @@ returns-in-Ok-Run g c = λ errors told. c.run_source.ensures (texts c.args.words
 
 pub returns-in-Ok-Plan : goal.returns-in-Ok-Plan
 returns-in-Ok-Plan g c = λ errors told. c.plan_source.ensures (texts c.args.words.now) errors told (search rules)
+
+pub returns-in-Ok-Cosim : goal.returns-in-Ok-Cosim
+returns-in-Ok-Cosim g c = λ errors told. c.cosim_text.ensures (texts c.args.words.now) errors told (search rules)

@@ -1,0 +1,99 @@
+-- The design of a Verilog text, what data give it, and what it does with them.
+use Rattle.std.specs.Prelude.{◌≡◌, ℕ, List, [], Option, Some, None, ⊤}
+use Rattle.std.specs.Io.KnownBytes.{Appends}
+use Rattle.serde_json.specs.Data.{Data as Json}
+use Rattle.tapa_base.specs.declared.shape.Shape.{Shape}
+use Rattle.vlog_tree.specs.declared.fault.VFault.{VFault}
+use Rattle.vlog_tree.specs.declared.fault.VFault.TheVariants as verilog_fault
+use Rattle.vlog_tree.specs.Environment.{Environment, shape_of}
+use Rattle.vlog_tree.specs.Form.{ModuleTree}
+use Rattle.vlog_tree.specs.Refused.{IsDesign}
+use Rattle.vlog_grammar.specs.Grammar.{HasTree}
+use Rattle.vlog_design.specs.Designs.{DesignTree, TopOf}
+use Rattle.vlog_read.specs.Texts.{RefusesText}
+use Rattle.run_data.specs.Answer.{IsFirstFault}
+use Rattle.run_data.specs.Data.{IsJson, Misshapen, Misfit, Oversized, faults, scalars_of, memories_of, waits_of}
+use Rattle.run_data.specs.declared.data.DataFault.{DataFault as FaultOfData}
+use Rattle.run_data.specs.declared.data.DataFault.TheVariants.{J1, J2, J3, J4, OutOfMemory}
+use Rattle.run_design.specs.Reports.{IsSimulated}
+use Rattle.tapa_drive.specs.Refusal.{DataFault, NotJson, Faulty, VerilogFault, V1, V2, V3, V4, V5, V6}
+
+-- the text spells modules, and these are a design
+pub record IsDesignOf (text : List ℕ) (design : DesignTree) : Type 0 where
+  pub spelled : HasTree text design.modules
+  pub legal : IsDesign design.modules design.top
+
+pub record HasDesign (text : List ℕ) : Type 0 where
+  pub design : DesignTree
+  pub means : IsDesignOf text design
+
+abbrev pub fault_of : VerilogFault → VFault
+fault_of (V1 place) = verilog_fault.V1 place
+fault_of (V2 name) = verilog_fault.V2 name
+fault_of (V3 name) = verilog_fault.V3 name
+fault_of (V4 name) = verilog_fault.V4 name
+fault_of (V5 name) = verilog_fault.V5 name
+fault_of (V6 name) = verilog_fault.V6 name
+
+-- the text spells no modules, and this is the place; or they break this rule first, at this name
+abbrev pub IsRefusedText : List ℕ → VerilogFault → Type 0
+IsRefusedText text fault = RefusesText text (fault_of fault)
+
+-- what the top of a design asks for
+pub record IsShapeIn (design : DesignTree) (shape : Shape) : Type 0 where
+  pub top : ModuleTree
+  pub is_top : TopOf design top
+  pub scalars : shape.scalars.items ≡ (shape_of top).scalars
+  pub memories : shape.memories.items ≡ (shape_of top).memories
+
+-- the text is JSON without a fault for the design, and gives this environment: a value for each scalar, and for each memory its
+-- first cells and when it is ready
+pub record GivesEnvironment (design : DesignTree) (bytes : List ℕ) (env : Environment) : Type 0 where
+  pub shape : Shape
+  pub is_shape : IsShapeIn design shape
+  pub file : Json
+  pub is_json : IsJson bytes file
+  pub faultless : faults shape file ≡ []
+  pub scalars : env.scalars ≡ scalars_of shape file
+  pub memories : env.memories ≡ memories_of shape file
+  pub ready : env.ready ≡ waits_of shape file
+
+-- the text has this fault for the design, and no fault before it
+abbrev pub HasDesignFault : DesignTree → List ℕ → DataFault → Type 0
+HasDesignFault design bytes NotJson = (file : Json) → IsJson bytes file → ⊥
+HasDesignFault design bytes (Faulty fault) = (shape : Shape) × IsShapeIn design shape × IsFirstFault bytes shape fault
+
+-- why a text gives a design no environment; want of memory says nothing of it
+abbrev pub IsUnfitFor : DesignTree → List ℕ → FaultOfData → Type 0
+IsUnfitFor design bytes J1 = HasDesignFault design bytes NotJson
+IsUnfitFor design bytes (J2 key) = HasDesignFault design bytes (Faulty (Misshapen key.items))
+IsUnfitFor design bytes (J3 key) = HasDesignFault design bytes (Faulty (Misfit key.items))
+IsUnfitFor design bytes (J4 key) = HasDesignFault design bytes (Faulty (Oversized key.items))
+IsUnfitFor design bytes OutOfMemory = ⊤
+
+-- the data have this fault for the design of the text
+pub record HasBadDesignData (text bytes : List ℕ) (fault : DataFault) : Type 0 where
+  pub design : DesignTree
+  pub means : IsDesignOf text design
+  pub has : HasDesignFault design bytes fault
+
+-- The design of the text runs in the environment that the data give. It is done first in this cycle, or in none up to a limit;
+-- and this is the report up to there.
+pub record HasSimulated (text bytes : List ℕ) (limit : ℕ) (done_at : Option ℕ) (report : List ℕ) : Type 0 where
+  pub design : DesignTree
+  pub env : Environment
+  pub means : IsDesignOf text design
+  pub gives : GivesEnvironment design bytes env
+  pub is : IsSimulated design env limit done_at report
+
+-- a report of so many cycles at most was written: of a design that is done, or of one that is not
+pub record HasCosimmed (text bytes : List ℕ) (limit : ℕ) (old new : Option (List ℕ)) : Type 0 where
+  pub at : ℕ
+  pub report : List ℕ
+  pub simulated : HasSimulated text bytes limit (Some at) report
+  pub shown : Appends old new report
+
+pub record HasUndone (text bytes : List ℕ) (limit : ℕ) (old new : Option (List ℕ)) : Type 0 where
+  pub report : List ℕ
+  pub simulated : HasSimulated text bytes limit None report
+  pub shown : Appends old new report

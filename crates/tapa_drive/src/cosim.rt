@@ -1,0 +1,148 @@
+// The simulation of a Verilog text on its data.
+ghost use Rattle.std.specs.Prelude.{◌≡◌, ◌≤◌, ℕ, List, All, IfOk, IfErr, option_map};
+ghost use Rattle.tapa_base.specs.Outside.{AsksFor};
+ghost use Rattle.vlog_tree.specs.Environment.{FitsShape, shape_of};
+ghost use Rattle.vlog_tree.specs.Form.{ModuleTree};
+ghost use Rattle.vlog_design.specs.Designs.{TopOf};
+ghost use Rattle.vlog_ref_start.specs.Outside.{environment_of};
+ghost use Rattle.tapa_words.specs.Words.{command_of, Cosim};
+ghost use Rattle.tapa_drive.specs.Carried.{IsCarriedOut};
+ghost use Rattle.tapa_drive.specs.Designs.{IsDesignOf, IsShapeIn, GivesEnvironment, IsUnfitFor};
+ghost use Rattle.tapa_drive.specs.Files.{OfFile, OfData, AsksForData, verilog_limit};
+ghost use Rattle.tapa_drive.specs.Found.{HasNoDesign, IsNotSurrounded};
+ghost use Rattle.tapa_drive.specs.Meaning.{refusal_of};
+ghost use Rattle.tapa_drive.specs.Outside.{Written, written, outside};
+
+use crate::files::{DATA_LIMIT, NO_DATA, read_file};
+use crate::refusal::Refusal;
+use run_data::{Data, DataFault, read_data};
+use run_design::{DesignEnd, run_design};
+use std::alloc::{AllocError, Global};
+use tapa_base::{PrintFault, Shape, Shelf, Sink};
+use vlog_design::Design;
+use vlog_read::read;
+use vlog_ref_start::Surroundings;
+
+const VERILOG_LIMIT: u64 = 16_777_216;
+
+// The design of a Verilog text on a shelf.
+fn read_design<'a, S: Shelf>(
+    alloc: Global,
+    file: &'a str,
+    shelf: &mut S,
+) -> Result<Design, Refusal<'a>>
+    ensures found { IfOk result (λ design. OfFile (S.files shelf.old) verilog_limit file.now (λ text. IsDesignOf text design)) }
+    ensures asks { AsksFor S.files S.faults file.now shelf.old shelf.new }
+    ensures refused { IfErr result (λ refusal. HasNoDesign (S.files shelf.old) (S.faults shelf.old) (S.faults shelf.new) file.now (refusal_of refusal)) }
+{
+    let text = match read_file(alloc, file, VERILOG_LIMIT, shelf) {
+        Ok(text) => text,
+        Err(refusal) => return Err(refusal),
+    };
+    match read(alloc, &text) {
+        Ok(design) => Ok(design),
+        Err(fault) => Err(Refusal::Verilog { file, fault }),
+    }
+}
+
+// What the top of a design asks for. Its scalars and its memories' cells have at most 64 bits.
+fn shape(alloc: Global, design: &Design) -> Result<Shape, AllocError>
+    ensures is { IfOk result (IsShapeIn design.now) }
+    ensures scalars { IfOk result (λ shape. All (λ port. port.bits ≤ 64) shape.scalars.items) }
+    ensures memories { IfOk result (λ shape. All (λ port. port.bits ≤ 64) shape.memories.items) }
+{
+    let _modules = design.modules();
+    let _top = design.top();
+    design.shape(alloc)
+}
+
+// The environment that a text of data gives a design, or the first fault that it has.
+fn surroundings(alloc: Global, design: &Design, text: &[u8]) -> Result<Surroundings, DataFault>
+    ensures gives { IfOk result (λ around. GivesEnvironment design.now text.now (environment_of around)) }
+    ensures fits { IfOk result (λ around. (m : ModuleTree) → TopOf design.now m → FitsShape (environment_of around) (shape_of m)) }
+    ensures refused { IfErr result (IsUnfitFor design.now text.now) }
+{
+    let shape = match shape(alloc, design) {
+        Ok(shape) => shape,
+        Err(_) => return Err(DataFault::OutOfMemory),
+    };
+    match read_data(alloc, text, &shape) {
+        Ok(
+            Data {
+                scalars,
+                memories,
+                waits,
+            },
+        ) => Ok(Surroundings {
+            scalars,
+            memories,
+            ready: waits,
+        }),
+        Err(fault) => Err(fault),
+    }
+}
+
+// The environment that a file of data on a shelf gives a design, and an empty object where no file is named.
+fn read_surroundings<'a, S: Shelf>(
+    alloc: Global,
+    design: &Design,
+    named: Option<&'a str>,
+    shelf: &mut S,
+) -> Result<Surroundings, Refusal<'a>>
+    ensures gives { IfOk result (λ around. OfData (S.files shelf.old) (option_map (λ file. file.now) named.entry) (λ bytes. GivesEnvironment design.now bytes (environment_of around))) }
+    ensures fits { IfOk result (λ around. (m : ModuleTree) → TopOf design.now m → FitsShape (environment_of around) (shape_of m)) }
+    ensures asks { AsksForData S.files S.faults (option_map (λ file. file.now) named.entry) shelf.old shelf.new }
+    ensures refused { IfErr result (λ refusal. IsNotSurrounded (S.files shelf.old) (S.faults shelf.old) (S.faults shelf.new) design.now (option_map (λ file. file.now) named.entry) (refusal_of refusal)) }
+{
+    match named {
+        None => match surroundings(alloc, design, NO_DATA.as_bytes()) {
+            Ok(around) => Ok(around),
+            Err(fault) => Err(Refusal::DesignData {
+                file: NO_DATA,
+                fault,
+            }),
+        },
+        Some(file) => {
+            let text = match read_file(alloc, file, DATA_LIMIT, shelf) {
+                Ok(text) => text,
+                Err(refusal) => return Err(refusal),
+            };
+            match surroundings(alloc, design, &text) {
+                Ok(around) => Ok(around),
+                Err(fault) => Err(Refusal::DesignData { file, fault }),
+            }
+        }
+    }
+}
+
+/// Simulates the design of a Verilog text on its data, up to the first step that refuses.
+pub(crate) fn cosim_text<'a, S: Shelf, O: Sink>(
+    alloc: Global,
+    text: &'a str,
+    named: Option<&'a str>,
+    limit: u64,
+    shelf: &mut S,
+    out: &mut O,
+) -> Result<(), Refusal<'a>>
+    ensures { (words : List (List ℕ)) (errors told : Written) → command_of words ≡ Some (Cosim text.now (option_map (λ file. file.now) named.entry) limit) →
+        IsCarriedOut words (outside (S.files shelf.old) (S.faults shelf.old) (written (O.contents out.old) (O.faults out.old)) errors)
+        (outside (S.files shelf.new) (S.faults shelf.new) (written (O.contents out.new) (O.faults out.new)) told) result }
+{
+    let design = match read_design(alloc, text, shelf) {
+        Ok(design) => design,
+        Err(refusal) => return Err(refusal),
+    };
+    let around = match read_surroundings(alloc, &design, named, shelf) {
+        Ok(around) => around,
+        Err(refusal) => return Err(refusal),
+    };
+    let end = match run_design(alloc, design, &around, limit, out) {
+        Ok(end) => end,
+        Err(PrintFault::WriteFault) => return Err(Refusal::Write),
+        Err(PrintFault::OutOfMemory) => return Err(Refusal::Memory),
+    };
+    match end {
+        DesignEnd::Done => Ok(()),
+        DesignEnd::Running => Err(Refusal::Undone { limit }),
+    }
+}
