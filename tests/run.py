@@ -9,7 +9,7 @@ tests/README.md says how cases are written.
 """
 import sys
 
-from runner import crates, documents, endings, examples, inputs, plans, sessions, sources, tools, values, words
+from runner import crates, documents, endings, examples, inputs, plans, sessions, sources, texts, tools, values, words
 from runner.trial import Trial
 
 
@@ -18,6 +18,7 @@ GROUPS = [
     ("data", inputs.try_all),
     ("runs", sessions.try_all),
     ("plans", plans.try_all),
+    ("texts", texts.try_all),
     ("values", values.try_all),
     ("words", words.try_all),
     ("endings", endings.try_all),

@@ -72,6 +72,22 @@ def try_refusals(trial):
     trial.check("docs/REFUSALS.md and docs/LANGUAGE.md have the same codes", same == {h for h in headings if h[0] != "J"})
 
 
+def try_texts(trial):
+    """The Verilog texts of docs/REFUSALS.md: `// text: V1 at LINE:COL`, `// text: CODE NAME`, or `// text: instead`."""
+    shown = set()
+    for what, text in re.findall(r"^```verilog\n// text: (.*)\n([^`]*)^```$", read("docs/REFUSALS.md"), re.M):
+        trial.put("x.v", text)
+        said = trial.run(["cosim", "x.v", "--cycles", "9"])
+        if what == "instead":
+            trial.check(text, said.status in (0, 7) or said.err.startswith(b"tapa: {}: J2 "), f"   {said}")
+            continue
+        code, _, place = what.partition(" at ")
+        wanted = f"tapa: x.v:{place}: V1 no text of the subset\n" if place else f"tapa: x.v: {what}\n"
+        trial.check(text, (said.status, said.err.decode()) == (1, wanted), f"   {said}")
+        shown.add(code.split(" ")[0])
+    trial.check("each rule on Verilog texts has one that is refused", shown == {f"V{number}" for number in range(1, 7)}, f"   {shown}")
+
+
 RIGHT = {"scalars": '"scalars":{"n":3}', "memories": '"memories":{"a":[1],"b":[1],"c":[1]}'}
 VECTORS = """void F(tapa::mmap<const int> a, tapa::mmap<const int> b, tapa::mmap<int> c, uint64_t n) { }
 void T(tapa::mmap<const int> a, tapa::mmap<const int> b, tapa::mmap<int> c, uint64_t n) { tapa::task().invoke(F, a, b, c, n); }
@@ -109,14 +125,24 @@ def sessions(page):
             command[1].append(line)
 
 
+def shown_by(trial, command, made):
+    """What a command of a session shows. A file behind `>` is made in the trial's own folder, and read there by later commands."""
+    words, _, asks = command.partition(";")
+    words, _, target = words.partition(" > ")
+    said = trial.run([made.get(word, word) for word in shlex.split(words)[1:]], ROOT)
+    out = said.out
+    if target:
+        made[target.strip()] = trial.put(target.strip(), out)
+        out = b""
+    return (out + said.err + (f"{said.status}\n".encode() if asks else b"")).decode()
+
+
 def try_sessions(trial):
     count = 0
     for page in PAGES:
+        made = {}
         for command, lines in sessions(page):
-            words, _, asks = command.partition(";")
-            said = trial.run(shlex.split(words)[1:], ROOT)
-            shown = said.out + said.err + (f"{said.status}\n".encode() if asks else b"")
-            trial.check_equal(f"{page}: {command}", shown.decode(), "".join(line + "\n" for line in lines))
+            trial.check_equal(f"{page}: {command}", shown_by(trial, command, made), "".join(line + "\n" for line in lines))
             count += 1
     trial.check("documents show sessions", count >= 6, f"   {count}")
 
@@ -124,18 +150,19 @@ def try_sessions(trial):
 def try_all(trial):
     try_language(trial)
     try_refusals(trial)
+    try_texts(trial)
     try_data(trial)
     try_sessions(trial)
 
 
 # What stands for a word of the case's own in a message of docs/COMMAND.md.
-OPEN = r"\b(FILE|LINE|COL|CODE|TEXT|KEY|LABEL|STREAM|N)\b"
+OPEN = r"\b(FILE|LINE|COL|CODE|TEXT|KEY|NAME|LABEL|STREAM|N)\b"
 
 
 def messages():
     """The messages of docs/COMMAND.md: those of its table of statuses, and the texts of the codes."""
     rows = re.findall(r"^\| (\d) \| `(tapa: .*?)` \|", read("docs/COMMAND.md"), re.M)
-    texts = re.findall(r"`([LPC]\d+ [^`]*)`", read("docs/COMMAND.md"))
+    texts = re.findall(r"`([LPCV]\d+ [^`]*)`", read("docs/COMMAND.md"))
     return [line.replace("\\|", "|") for _, line in rows], texts
 
 
@@ -150,7 +177,7 @@ def told_by_code():
         folder = f"crates/{crate}/src"
         for name in sorted(os.listdir(os.path.join(ROOT, folder))):
             text = read(f"{folder}/{name}")
-            found.update(re.findall(r'"((?:tapa: |[LPC]\d+ | waits to | bad token )[^"]*?)(?:\\n)?"', text))
+            found.update(re.findall(r'"((?:tapa: |[LPCV]\d+ | waits to | bad token )[^"]*?)(?:\\n)?"', text))
     return {re.sub(r"\{\w*\}", "*", text) for text in found}
 
 
@@ -166,7 +193,7 @@ def try_messages(trial):
         trial.check(f"a document has the text {text}", re.search(r"\w+".join(parts), page))
     if not trial.is_whole:
         return
-    refused = [line for line in trial.lines if re.match(r"tapa: .*:\d+:\d+: [LPC]\d+ ", line)]
+    refused = [line for line in trial.lines if re.match(r"tapa: .*:\d+:\d+: [LPCV]\d+ ", line)]
     for text in texts:
         told = pattern(text)
         trial.check(f"the text {text} is told", any(told.fullmatch(line.split(": ", 2)[2]) for line in refused))

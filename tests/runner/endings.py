@@ -5,12 +5,18 @@ import subprocess
 
 SOURCE_LIMIT = 262_144
 DATA_LIMIT = 33_554_432
+VERILOG_LIMIT = 16_777_216
 
 PAIR = """void P(tapa::ostream<int>& q) { q << 1 << 2 << 3; }
 void C(tapa::istream<int>& q) { q.read(); q.read(); q.read(); }
 void T() { tapa::stream<int> q; tapa::stream<int> r; tapa::task().invoke(P, q).invoke(C, q).invoke(P, r).invoke(C, r); }
 """
 PAIR_REPORT = b"stream q: 1 2 3\nstream r: 1 2 3\ndone 16\n"
+
+DONE = """module t_X ( input clk , input rst , output done ) ;
+assign done = 1'd1 ;
+endmodule
+"""
 
 STOPS = """void P(tapa::ostream<int>& q) { q << 1; q << 2; }
 void C(tapa::istream<int>& q) { q.open(); }
@@ -41,6 +47,16 @@ def try_source_limit(trial):
     trial.put("r.cpp", "x" * 40_000_000)
     said = trial.run(["run", "r.cpp", "T"])
     trial.check("a source of 40 MB is too long", is_told(said, 7, line), f"   {said}")
+
+
+def try_verilog_limit(trial):
+    """A Verilog text at its limit, most of which is a comment, and one byte more."""
+    trial.put("x.v", padded(DONE, VERILOG_LIMIT))
+    said = trial.run(["cosim", "x.v"])
+    trial.check("a Verilog text of 16,777,216 bytes is read whole", is_told(said, 0, "", b"done 1\n"), f"   {said}")
+    trial.put("x.v", padded(DONE, VERILOG_LIMIT + 1))
+    said = trial.run(["cosim", "x.v"])
+    trial.check("a Verilog text of 16,777,217 bytes is too long", is_told(said, 7, "tapa: x.v is longer than 16777216 bytes\n"), f"   {said}")
 
 
 def try_long_data(trial):
@@ -143,6 +159,7 @@ def try_little_memory(trial):
 
 def try_all(trial):
     try_source_limit(trial)
+    try_verilog_limit(trial)
     try_long_data(trial)
     try_full_device(trial)
     try_closed_pipe(trial)

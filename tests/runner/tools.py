@@ -58,7 +58,7 @@ def try_explain(trial):
     trial.check_equal("explain.py keeps every line that was told", kept, lines)
     for told, wanted in (("tapa: d.json: J3 scalars.n", "docs/REFUSALS.md, J3"), ("tapa: A$0 waits to write s", "docs/REFUSALS.md, Deadlock"), ("tapa: d.json: K3 B$1", "docs/REFUSALS.md, K3"), ("tapa: no room for A$0", "docs/REFUSALS.md, No plan")):
         trial.check(f"explain.py on {told}", wanted in run_explain(trial, told))
-    for code in re.findall(r"`([LPC]\d+) ", read("docs/COMMAND.md")):
+    for code in re.findall(r"`([LPCV]\d+) ", read("docs/COMMAND.md")):
         told = run_explain(trial, f"tapa: r.cpp:1:1: {code} x")
         trial.check(f"explain.py says why, and what instead, of {code}", told.count("      = ") >= 3, f"   {told}")
     without = run_explain(trial, "tapa: cannot write")

@@ -53,23 +53,6 @@ impl<'a> Line<'a> {
         }
     }
 
-    /// Whether a word stands so many words behind the next one.
-    pub(crate) fn stands(&self, behind: usize, word: &str) -> bool {
-        match self.words.get(self.read.saturating_add(behind)) {
-            Some(w) => *w == word,
-            None => false,
-        }
-    }
-
-    /// Reads a word where it is the next one.
-    pub(crate) fn takes(&mut self, word: &str) -> bool {
-        let there = self.stands(0, word);
-        if there {
-            let _word = self.word();
-        }
-        there
-    }
-
     /// How many words the line has.
     pub(crate) fn len(&self) -> usize {
         self.words.len()
@@ -79,55 +62,26 @@ impl<'a> Line<'a> {
         self.read >= self.words.len()
     }
 
-    /// The words that are left, with a blank before each.
-    pub(crate) fn rest(&mut self, alloc: Global) -> Result<String, AllocError> {
-        let mut text = String::new(alloc);
-        for _ in 0..self.words.len() {
-            if self.is_read() {
-                return Ok(text);
-            }
-            text.push(' ')?;
-            text.push_str(self.word())?;
-        }
-        Ok(text)
-    }
-
-    /// The next word must be this one.
-    pub(crate) fn expect(&mut self, word: &str) -> Result<(), Fault> {
-        if self.takes(word) {
-            Ok(())
+    pub(crate) fn name(&mut self, alloc: Global) -> Result<Text, Fault> {
+        let word = self.word();
+        if word.is_ascii() {
+            Ok(Text::new(word.as_bytes().to_vec(alloc)?))
         } else {
             Err(Fault::Unreadable)
         }
     }
 
-    pub(crate) fn name(&mut self, alloc: Global) -> Result<Text, Fault> {
-        text(alloc, self.word())
-    }
-
     pub(crate) fn number(&mut self) -> Result<u32, Fault> {
-        small(self.word())
+        match self.word().parse::<u32>() {
+            Ok(n) => Ok(n),
+            Err(_) => Err(Fault::Unreadable),
+        }
     }
-}
 
-pub(crate) fn text(alloc: Global, word: &str) -> Result<Text, Fault> {
-    if word.is_ascii() {
-        Ok(Text::new(word.as_bytes().to_vec(alloc)?))
-    } else {
-        Err(Fault::Unreadable)
-    }
-}
-
-pub(crate) fn small(word: &str) -> Result<u32, Fault> {
-    match word.parse::<u32>() {
-        Ok(n) => Ok(n),
-        Err(_) => Err(Fault::Unreadable),
-    }
-}
-
-pub(crate) fn large(word: &str) -> Result<u128, Fault> {
-    match word.parse::<u128>() {
-        Ok(n) => Ok(n),
-        Err(_) => Err(Fault::Unreadable),
+    pub(crate) fn large(&mut self) -> Result<u128, Fault> {
+        match self.word().parse::<u128>() {
+            Ok(n) => Ok(n),
+            Err(_) => Err(Fault::Unreadable),
+        }
     }
 }

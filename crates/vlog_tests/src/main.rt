@@ -1,12 +1,9 @@
-//! Designs as texts: whether they are refused, how they are printed, and what they do cycle by cycle, beside what a hand or a simulator has found.
+//! What designs do cycle by cycle, as the slow reference computes it, beside what a hand or another simulator has found.
 #![tactic(auto)]
 
-mod draft;
 mod line;
-mod parts;
 mod reader;
 mod table;
-mod told;
 
 use crate::reader::Reader;
 use std::io;

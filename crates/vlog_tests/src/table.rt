@@ -1,6 +1,5 @@
 // The numbers of a design's nets, cycle by cycle, as the slow reference finds them.
 
-use crate::told::push_name;
 use std::alloc::{AllocError, Global};
 use tapa_base::{Port, Text, Token};
 use vlog_design::Design;
@@ -20,6 +19,13 @@ pub(crate) struct Row {
 pub(crate) struct Carried {
     port: Port,
     tokens: String,
+}
+
+fn push_name(to: &mut String, name: &Text) -> Result<(), AllocError> {
+    for byte in name.bytes() {
+        to.push(char::from(*byte))?;
+    }
+    Ok(())
 }
 
 fn add_number(alloc: Global, to: &mut String, number: Option<u128>) -> Result<(), AllocError> {

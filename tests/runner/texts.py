@@ -1,0 +1,95 @@
+"""Verilog texts as they are read: whether each is of the subset, and else the rule that it breaks, with the place or the name: tests/texts."""
+import re
+
+from runner.sources import bytes_of, parts
+from runner.trial import read
+
+LETTERS = {"n": "\n", "r": "\r", "t": "\t", "s": " ", "b": "\\x5c"}
+# a text of which nothing is told, but perhaps that it wants data or is not done in one cycle
+OK = (0, 3, 7)
+
+
+def told(trial, text):
+    """What is told of a text."""
+    trial.put("x.v", text)
+    said = trial.run(["cosim", "x.v", "--cycles", "1"])
+    err = said.err.decode("utf-8", "replace")
+    placed = re.fullmatch(r"tapa: x\.v:(\d+:\d+): V1 no text of the subset\n", err)
+    named = re.fullmatch(r"tapa: x\.v: (V[2-6] \S+)\n", err)
+    if said.status == 1 and said.out == b"" and (placed or named):
+        return f"V1 {placed[1]}" if placed else named[1]
+    return "ok" if said.status in OK else str(said)
+
+
+def unescaped(text, head):
+    r"""The bytes of a row's text, in which `\n`, `\r`, `\t`, `\s` and `\b` are a line feed, a carriage return, a tab, a blank and a backslash, `\x` with two
+    hexadecimal digits is any byte, and `\h` is the head."""
+    return bytes_of(re.sub(r"\\([nrtsbh])", lambda it: head if it[1] == "h" else LETTERS[it[1]], text))
+
+
+def try_prefixes(trial, row, head):
+    """A text and the places that V1 tells of its parts, from no byte on."""
+    source, places = re.fullmatch(r"prefixes `([^`]*)` (.*)", row).groups()
+    text = unescaped(source, head)
+    for length, place in enumerate(places.split()):
+        trial.check_equal(f"{length} bytes of {source}", told(trial, text[:length]), f"V1 {place}")
+    trial.check_equal(f"places of {source}", len(places.split()), len(text))
+
+
+def framed(frame, net, own):
+    """The design `frame` with own lines at `*`, and without the driver there of the net."""
+    lines = [line for line in frame.split("|") if not line.startswith(f"assign {net} ")]
+    return "\n".join(own if line == "*" else line for line in lines)
+
+
+def try_case(trial, word, frame, own):
+    """`case NET TOLD `lines``."""
+    _, net, wanted = word.split(" ", 2)
+    trial.check_equal(own, told(trial, framed(frame, net, own)), wanted)
+
+
+def try_table(trial, path):
+    head, frame, gaps = "", "", []
+    for row in read(path).splitlines():
+        if not row or row.startswith("# "):
+            continue
+        if row.startswith("prefixes "):
+            try_prefixes(trial, row, head)
+            continue
+        word, (source,) = parts(row)
+        if word == "frame":
+            frame = source
+            continue
+        if word.startswith("case "):
+            try_case(trial, word, frame, source)
+            continue
+        if word == "head":
+            head = source
+            head = re.sub(r"\\([nrtsb])", lambda it: LETTERS[it[1]], head)
+        elif word == "gap":
+            gaps.append(unescaped(source, head))
+        elif word == "gaps":
+            for gap in gaps:
+                trial.check_equal(f"{gap} in {source}", told(trial, gap + unescaped(source, head).replace(b" ", gap) + gap), "ok")
+        else:
+            trial.check_equal(source, told(trial, unescaped(source, head)), word)
+
+
+def try_large(trial):
+    """A design has no limit of its own: a thousand ports, blocks a thousand deep, and a thousand modules, each within the one before."""
+    top = "module t_X ( input clk , input rst , output done"
+    ports = "".join(f" , input [ 31 : 0 ] v_{number}" for number in range(1000))
+    trial.check_equal("a thousand ports", told(trial, f"{top}{ports} ) ;\nassign done = 1'd1 ;\nendmodule\n"), "ok")
+    block = "if ( rst ) begin\n" * 1000 + "r <= 1'd1 ;\n" + "end\n" * 1000
+    trial.check_equal("a block a thousand deep", told(trial, f"{top} ) ;\nreg r ;\nassign done = r ;\nalways @ ( posedge clk ) begin\n{block}end\nendmodule\n"), "ok")
+    child = "module c{0} ( input a , output o ) ;\nc{1} i ( . a ( a ) , . o ( o ) ) ;\nendmodule\n"
+    modules = "".join(child.format(number, number + 1) for number in range(1000)) + "module c1000 ( input a , output o ) ;\nassign o = a ;\nendmodule\n"
+    trial.check_equal("a thousand modules", told(trial, f"{top} ) ;\nc0 i ( . a ( rst ) , . o ( done ) ) ;\nendmodule\n{modules}"), "ok")
+    nested = "if ( rst ) begin\n" * 200_000 + "end\n" * 200_000
+    trial.check_equal("a block 200,000 deep", told(trial, f"{top} ) ;\nreg r ;\nassign done = r ;\nalways @ ( posedge clk ) begin\n{nested}end\nendmodule\n"), "ok")
+
+
+def try_all(trial):
+    try_table(trial, "tests/texts/read.rows")
+    try_table(trial, "tests/texts/rules.rows")
+    try_large(trial)
