@@ -25,7 +25,7 @@ def reason(text):
 
 def way_round(text):
     """The first text of a section that is accepted."""
-    found = re.search(r"^```cpp\n// \w+: instead\n(.*?)^```$", text, re.M | re.S)
+    found = re.search(r"^```(?:cpp|verilog)\n// \w+: instead\n(.*?)^```$", text, re.M | re.S)
     return found[1].splitlines() if found else []
 
 
@@ -44,7 +44,7 @@ def source_line(file, line, col):
 def explained(told, page):
     """The lines that stand below a message."""
     at_place = re.match(r"tapa: (.+):(\d+):(\d+): ([A-Z]\d+)\b", told)
-    in_data = re.match(r"tapa: .+: ([JK]\d)\b", told)
+    in_data = re.match(r"tapa: .+: ([JKV]\d)\b", told)
     stopped = re.match(r"tapa: \S+ (waits to (?:read|write)|bad token on) ", told)
     unplanned = re.match(r"tapa: (too many plans: |no plan within |no room for )", told)
     if at_place:
