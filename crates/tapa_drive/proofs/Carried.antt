@@ -74,7 +74,7 @@ module _ (words : List (List ℕ)) (files : Option Files) (command : Command) (a
   WasReached name = OfCommand words (λ c. IsReached files c name)
 
   module _ (files_mid : Option Files) (reads_mid : List ℕ → ℕ) (same_mid : files_mid ≡ files) (later_mid : reads_old source ≤ reads_mid source) (others_mid : (name : List ℕ) → name ≢ source → reads_mid name ≡ reads_old name) where
-    reads_source : (new : Written) → ReadsAsked words before (outside files_mid reads_mid new told)
+    pub reads_source : (new : Written) → ReadsAsked words before (outside files_mid reads_mid new told)
     reads_source new = record {
       same_files = same_mid;
       asked = λ name.

@@ -97,14 +97,14 @@ module _ (words : List (List ℕ)) (files : Option Files) (name : List ℕ) (nam
 
     pub ended : {A : Type 0} (x : A) → EndsSo design env limit old.bytes new.bytes design_end.Done → IsCarriedOut words before after (Ok x)
     ended x e = record {
-      done = inr (inr (
+      done = inr (inr (inl (
         name,
         named,
         limit,
         asked,
         of_asked (λ text bytes. HasCosimmed text bytes limit old.bytes new.bytes)
             (λ text bytes d g. record { at = e.0; report = e.1; simulated = record { design = design; env = env; means = d; gives = g; is = e.2 }; shown = e.3 }),
-      ));
+      )));
       cause = tt;
       leaves = tt;
       reads = reads_both new;
@@ -113,14 +113,14 @@ module _ (words : List (List ℕ)) (files : Option Files) (name : List ℕ) (nam
     has_part : HasPart design env limit old.bytes new.bytes → HasPartOf words before after
     has_part h = elim h [
       | inl same ↦ inl same
-      | inr w ↦ inr (inr (inr (
+      | inr w ↦ inr (inr (inr (inl (
         name,
         named,
         limit,
         asked,
         of_asked (λ text bytes. (done_at : Option ℕ) × (report : List ℕ) × HasSimulated text bytes limit done_at report × AppendsPart old.bytes new.bytes report)
             (λ text bytes d g. (w.0, w.1, record { design = design; env = env; means = d; gives = g; is = w.2 }, w.3)),
-      )))
+      ))))
     ]
 
     pub unfinished : {A : Type 0} → EndsSo design env limit old.bytes new.bytes design_end.Running → IsCarriedOut {A = A} words before after (Err (code.Undone limit))

@@ -2,9 +2,9 @@
 use Rattle.std.proofs.Common.{◌≡◌, ◌⊎◌, ◌≤◌, ◌<◌, ℕ, List, length, Option, Some, None, refl, sym, ap, ◌∙◌, subst, inl, inr, ⊎_elim}
 use Rattle.tapa_base.specs.Outside.{Files, file_bytes, Rose}
 use Rattle.tapa_base.specs.Take.{IsLongerThan}
-use Rattle.tapa_words.specs.Words.{Run, Plan, Cosim, command_of}
+use Rattle.tapa_words.specs.Words.{Run, Build, Plan, Cosim, command_of}
 use Rattle.tapa_words.specs.declared.command.PlanMode.{PlanMode}
-use Rattle.tapa_drive.specs.Answer.{OfRun, OfPlan, OfCosim, OfDesignTexts, source_in, most_in, IsTaken, IsRefusedIn, IsFaultyIn, IsReached, IsTooLong, IsDone, HasCause, Leaves, IsAnswer}
+use Rattle.tapa_drive.specs.Answer.{OfRun, OfBuild, OfPlan, OfCosim, OfDesignTexts, source_in, most_in, IsTaken, IsRefusedIn, IsFaultyIn, IsReached, IsTooLong, IsDone, HasCause, Leaves, IsAnswer}
 use Rattle.tapa_drive.specs.CosimDecided.{DoneIn, StillRunning, Misgiven, Overlong, Refused, Lengthy, TellsCosimOf, TellsCosim}
 use Rattle.tapa_drive.specs.Decided.{Bytes, TooMany, IsGiven, IsRefusedWith, NothingFails}
 use Rattle.tapa_drive.specs.Designs.{HasDesign, IsRefusedText, HasBadDesignData, HasCosimmed, HasUndone}
@@ -56,6 +56,13 @@ module _ (words : List (List ℕ)) (files : Files) (reads : List ℕ → ℕ) (o
   not_planned h =
       let both : Some (Plan h.0 h.1 h.2 h.3) ≡ Some (Cosim name named limit) = sym h.4 ∙ asked in
       let one : Plan h.0 h.1 h.2 h.3 ≡ Cosim name named limit = cc in
+      cc
+
+  -- no circuit was asked for
+  not_built : {P : List ℕ → List ℕ → Type 0} → OfBuild words P → ⊥
+  not_built h =
+      let both : Some (Build h.0 h.1) ≡ Some (Cosim name named limit) = sym h.2 ∙ asked in
+      let one : Build h.0 h.1 ≡ Cosim name named limit = cc in
       cc
 
   -- no read failed
@@ -129,7 +136,8 @@ module _ (words : List (List ℕ)) (files : Files) (reads : List ℕ → ℕ) (o
     of_ok : IsDone words before after → result ≡ status.Ok → after.err.bytes ≡ errors.bytes → Meets
     of_ok (inl r) is same = absurd (not_run r)
     of_ok (inr (inl p)) is same = absurd (not_planned p)
-    of_ok (inr (inr h)) is same =
+    of_ok (inr (inr (inr b))) is same = absurd (not_built b)
+    of_ok (inr (inr (inl h))) is same =
         let c = asked_cosim words name named limit asked (λ s d n. OfDesignTexts (Some files) s d (λ text bytes. HasCosimmed text bytes n out.bytes after.out.bytes)) h in
         let t = of_texts (λ text bytes. HasCosimmed text bytes limit out.bytes after.out.bytes) c in
         inl (DoneIn t.3.at t.3.report, (t.2, (Bytes t.0, t.1, t.3.simulated)), (is, t.3.shown, same))

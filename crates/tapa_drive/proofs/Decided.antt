@@ -2,10 +2,10 @@
 use Rattle.std.proofs.Common.{◌≡◌, ◌⊎◌, ◌≤◌, ◌<◌, ℕ, List, length, Option, Some, None, refl, sym, ap, ◌∙◌, subst, inl, inr, ⊎_elim, arith}
 use Rattle.tapa_base.specs.Outside.{Files, file_bytes, Rose}
 use Rattle.tapa_base.specs.Take.{IsLongerThan}
-use Rattle.tapa_words.specs.Words.{Command, Run, Plan, Cosim, command_of}
+use Rattle.tapa_words.specs.Words.{Command, Run, Build, Plan, Cosim, command_of}
 use Rattle.tapa_words.specs.declared.command.PlanMode.{PlanMode}
 use Rattle.run_program.specs.Laws as run
-use Rattle.tapa_drive.specs.Answer.{OfCommand, OfRun, OfPlan, OfTexts, OfCosim, source_in, most_in, HasProgram, IsRefusedIn, IsFaultyIn, HasBadData, HasDone, HasStopped, HasLimit, IsReached, IsTooLong, IsDone, HasCause, Leaves, IsAnswer}
+use Rattle.tapa_drive.specs.Answer.{OfCommand, OfRun, OfBuild, OfPlan, OfTexts, OfCosim, source_in, most_in, HasProgram, IsRefusedIn, IsFaultyIn, HasBadData, HasDone, HasStopped, HasLimit, IsReached, IsTooLong, IsDone, HasCause, Leaves, IsAnswer}
 use Rattle.tapa_drive.specs.Decided.{SourceMeaning, Ran, Misgiven, Overlong, Refused, Given, Bytes, TooMany, IsGiven, Means, IsRefusedWith, Tells, WritesAll, NothingFails, Expects, IsLengthy}
 use Rattle.tapa_drive.specs.Files.{OfFile, OfSource, OfData, source_limit, data_limit, shown_name}
 use Rattle.tapa_drive.specs.Outside.{Outside, Written, outside}
@@ -69,6 +69,13 @@ module _ (words : List (List ℕ)) (files : Files) (reads : List ℕ → ℕ) (o
   not_planned h =
       let both : Some (Plan h.0 h.1 h.2 h.3) ≡ Some (Run source top named limit) = sym h.4 ∙ asked in
       let one : Plan h.0 h.1 h.2 h.3 ≡ Run source top named limit = cc in
+      cc
+
+  -- no circuit was asked for
+  not_built : {P : List ℕ → List ℕ → Type 0} → OfBuild words P → ⊥
+  not_built h =
+      let both : Some (Build h.0 h.1) ≡ Some (Run source top named limit) = sym h.2 ∙ asked in
+      let one : Build h.0 h.1 ≡ Run source top named limit = cc in
       cc
 
   -- no simulation was asked for
@@ -161,7 +168,8 @@ module _ (words : List (List ℕ)) (files : Files) (reads : List ℕ → ℕ) (o
 
     of_ok : IsDone words before after → result ≡ status.Ok → after.err.bytes ≡ errors.bytes → Meets expected
     of_ok (inr (inl p)) is same = absurd (not_planned p)
-    of_ok (inr (inr p)) is same = absurd (not_cosim p)
+    of_ok (inr (inr (inl p))) is same = absurd (not_cosim p)
+    of_ok (inr (inr (inr b))) is same = absurd (not_built b)
     of_ok (inl h) is same =
         let c = asked_run words source top named limit asked (λ s t d n. OfTexts (Some files) s d (λ text bytes. HasDone text t bytes n out.bytes after.out.bytes)) h in
         let (bytes, found, r) = of_given files named given (λ bytes. HasDone text top bytes limit out.bytes after.out.bytes) is_given (of_source files source (λ t. OfData (Some files) named (λ bytes. HasDone t top bytes limit out.bytes after.out.bytes)) c) in
@@ -207,7 +215,8 @@ module _ (words : List (List ℕ)) (files : Files) (reads : List ℕ → ℕ) (o
 
     no_run : IsDone words before after → ⊥
     no_run (inr (inl p)) = not_planned p
-    no_run (inr (inr p)) = not_cosim p
+    no_run (inr (inr (inl p))) = not_cosim p
+    no_run (inr (inr (inr b))) = not_built b
     no_run (inl h) = not_few (asked_run words source top named limit asked (λ s t d n. OfTexts (Some files) s d (λ text bytes. HasDone text t bytes n out.bytes after.out.bytes)) h)
 
 pub lengthy : (words : List (List ℕ)) (files : Option Files) (reads : List ℕ → ℕ) (out errors : Written) (after : Outside) (source top : List ℕ) (named : Option (List ℕ)) (limit : ℕ) → command_of words ≡ Some (Run source top named limit) → IsLengthy files source → NothingFails source named (outside files reads out errors) after → (result : Status) → IsAnswer words (outside files reads out errors) after result → IsRefusedWith (TooLong source source_limit) result (outside files reads out errors) after ⊎ (result ≡ status.Memory)
@@ -226,6 +235,9 @@ module _ (words : List (List ℕ)) (before after : Outside) (none : command_of w
   not_plan : {P : List ℕ → List ℕ → List ℕ → PlanMode → Type 0} → OfPlan words P → ⊥
   not_plan h = let both : None ≡ Some (Plan h.0 h.1 h.2 h.3) = sym none ∙ h.4 in cc
 
+  not_a_build : {P : List ℕ → List ℕ → Type 0} → OfBuild words P → ⊥
+  not_a_build h = let both : None ≡ Some (Build h.0 h.1) = sym none ∙ h.2 in cc
+
   not_simulated : {P : List ℕ → Option (List ℕ) → ℕ → Type 0} → OfCosim words P → ⊥
   not_simulated h = let both : None ≡ Some (Cosim h.0 h.1 h.2) = sym none ∙ h.3 in cc
 
@@ -235,7 +247,8 @@ module _ (words : List (List ℕ)) (before after : Outside) (none : command_of w
   not_done : IsDone words before after → ⊥
   not_done (inl h) = not_run h
   not_done (inr (inl h)) = not_plan h
-  not_done (inr (inr h)) = not_simulated h
+  not_done (inr (inr (inl h))) = not_simulated h
+  not_done (inr (inr (inr h))) = not_a_build h
 
   abbrev IsUsage : Status → Type 0
   IsUsage result = IsRefusedWith Usage result before after ⊎ (result ≡ status.Memory)

@@ -3,10 +3,10 @@ use Rattle.std.proofs.Common.{◌≡◌, ◌⊎◌, ◌<◌, ℕ, List, length, 
 use Rattle.std.specs.Io.KnownBytes.{Appends}
 use Rattle.tapa_base.specs.Outside.{Files, file_bytes, Rose}
 use Rattle.tapa_base.specs.Take.{IsLongerThan}
-use Rattle.tapa_words.specs.Words.{Run, Plan, Cosim, command_of}
+use Rattle.tapa_words.specs.Words.{Run, Build, Plan, Cosim, command_of}
 use Rattle.tapa_words.specs.declared.command.PlanMode.{PlanMode}
 use Rattle.run_program.specs.Ending.{joined}
-use Rattle.tapa_drive.specs.Answer.{OfRun, OfPlan, OfTexts, OfCosim, source_in, most_in, HasProgram, IsRefusedIn, IsFaultyIn, IsReached, IsTooLong, IsDone, HasCause, Leaves, IsAnswer}
+use Rattle.tapa_drive.specs.Answer.{OfRun, OfBuild, OfPlan, OfTexts, OfCosim, source_in, most_in, HasProgram, IsRefusedIn, IsFaultyIn, IsReached, IsTooLong, IsDone, HasCause, Leaves, IsAnswer}
 use Rattle.tapa_drive.specs.Decided.{NothingFails}
 use Rattle.tapa_drive.specs.Files.{OfFile, OfSource, source_limit, data_limit}
 use Rattle.tapa_drive.specs.Outside.{Outside, Written, outside}
@@ -45,6 +45,12 @@ module _ (words : List (List ℕ)) (files : Files) (reads : List ℕ → ℕ) (o
       cc
 
   -- no simulation was asked for
+  not_built : {P : List ℕ → List ℕ → Type 0} → OfBuild words P → ⊥
+  not_built h =
+      let both : Some (Build h.0 h.1) ≡ Some (Plan source top name mode) = sym h.2 ∙ asked in
+      let one : Build h.0 h.1 ≡ Plan source top name mode = cc in
+      cc
+
   not_cosim : {P : List ℕ → Option (List ℕ) → ℕ → Type 0} → OfCosim words P → ⊥
   not_cosim h =
       let both : Some (Cosim h.0 h.1 h.2) ≡ Some (Plan source top name mode) = sym h.3 ∙ asked in
@@ -121,7 +127,8 @@ module _ (words : List (List ℕ)) (files : Files) (reads : List ℕ → ℕ) (o
 
     of_ok : IsDone words before after → result ≡ status.Ok → after.err.bytes ≡ errors.bytes → Meets
     of_ok (inl r) is same = absurd (not_run r)
-    of_ok (inr (inr p)) is same = absurd (not_cosim p)
+    of_ok (inr (inr (inl p))) is same = absurd (not_cosim p)
+    of_ok (inr (inr (inr b))) is same = absurd (not_built b)
     of_ok (inr (inl h)) is same =
         let c = asked_plan words source top name mode asked (λ s t d m. OfTexts (Some files) s (Some d) (λ text bytes. (lines : List (List ℕ)) × HasPlan text t bytes (mode_of m) lines × Appends out.bytes after.out.bytes (joined lines))) h in
         let p = of_texts (λ text bytes. (lines : List (List ℕ)) × HasPlan text top bytes (mode_of mode) lines × Appends out.bytes after.out.bytes (joined lines)) c in

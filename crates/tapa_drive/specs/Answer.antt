@@ -5,10 +5,11 @@ use Rattle.tapa_base.specs.declared.text.Place.{Place}
 use Rattle.tapa_base.specs.Outside.{Files, Rose, AppendsPart}
 use Rattle.tapa_base.specs.Take.{IsLongerThan}
 use Rattle.tapa_syntax.specs.declared.program.Program.{Program}
-use Rattle.tapa_words.specs.Words.{Command, Run, Plan, Cosim, command_of}
+use Rattle.tapa_words.specs.Words.{Command, Run, Build, Plan, Cosim, command_of}
 use Rattle.tapa_words.specs.declared.command.PlanMode.{PlanMode}
 use Rattle.run_program.specs.Ending.{IsReportOf, joined}
 use Rattle.run_program.specs.Run.{Values, DoneRun, StoppedRun, LimitRun}
+use Rattle.tapa_drive.specs.Built.{HasCircuit}
 use Rattle.tapa_drive.specs.Designs.{HasDesign, IsRefusedText, HasBadDesignData, HasSimulated, HasCosimmed, HasUndone}
 use Rattle.tapa_drive.specs.Files.{OfFile, OfSource, OfData, source_limit, data_limit, verilog_limit, shown_name}
 use Rattle.tapa_drive.specs.Inputs.{GivesValues, HasDataFault}
@@ -29,16 +30,19 @@ OfCommand words P = (command : Command) × (command_of words ≡ Some command) �
 -- one is named
 abbrev pub source_in : Command → List ℕ
 source_in (Run source top given limit) = source
+source_in (Build source top) = source
 source_in (Plan source top device mode) = source
 source_in (Cosim text given limit) = text
 
 abbrev pub most_in : Command → ℕ
 most_in (Run source top given limit) = source_limit
+most_in (Build source top) = source_limit
 most_in (Plan source top device mode) = source_limit
 most_in (Cosim text given limit) = verilog_limit
 
 abbrev pub file_in : Command → Option (List ℕ)
 file_in (Run source top given limit) = given
+file_in (Build source top) = None
 file_in (Plan source top device mode) = Some device
 file_in (Cosim text given limit) = given
 
@@ -52,6 +56,10 @@ OfRun words P =
 -- which this holds
 abbrev pub OfCosim : List (List ℕ) → (List ℕ → Option (List ℕ) → ℕ → Type 0) → Type 0
 OfCosim words P = (text : List ℕ) × (given : Option (List ℕ)) × (limit : ℕ) × (command_of words ≡ Some (Cosim text given limit)) × P text given limit
+
+-- the words ask for the circuit of a source's task, of which this holds
+abbrev pub OfBuild : List (List ℕ) → (List ℕ → List ℕ → Type 0) → Type 0
+OfBuild words P = (source : List ℕ) × (top : List ℕ) × (command_of words ≡ Some (Build source top)) × P source top
 
 -- the words ask for a plan of a source's task on the device of a file, by a mode, of which this holds
 abbrev pub OfPlan : List (List ℕ) → (List ℕ → List ℕ → List ℕ → PlanMode → Type 0) → Type 0
@@ -117,18 +125,21 @@ pub record HasLimit (text top bytes : List ℕ) (limit : ℕ) : Type 0 where
 -- the text is what the command asks for: a source with a program, or a Verilog text with a design
 abbrev pub IsTaken : Command → List ℕ → Type 0
 IsTaken (Run source top given limit) text = HasProgram text top
+IsTaken (Build source top) text = HasProgram text top
 IsTaken (Plan source top device mode) text = HasProgram text top
 IsTaken (Cosim name given limit) text = HasDesign text
 
 -- the command is one of a source, and the source is refused so
 abbrev pub IsRefusedIn : Command → List ℕ → Place → SourceCode → Type 0
 IsRefusedIn (Run source top given limit) text place code = IsRefusedSource text top place code
+IsRefusedIn (Build source top) text place code = IsRefusedSource text top place code
 IsRefusedIn (Plan source top device mode) text place code = IsRefusedSource text top place code
 IsRefusedIn (Cosim name given limit) text place code = ⊥
 
 -- the command is one of a Verilog text, and the text is refused so
 abbrev pub IsFaultyIn : Command → List ℕ → VerilogFault → Type 0
 IsFaultyIn (Run source top given limit) text fault = ⊥
+IsFaultyIn (Build source top) text fault = ⊥
 IsFaultyIn (Plan source top device mode) text fault = ⊥
 IsFaultyIn (Cosim name given limit) text fault = IsRefusedText text fault
 
@@ -174,17 +185,22 @@ IsPlanned words before after =
 abbrev pub IsCosimmed : List (List ℕ) → Outside → Outside → Type 0
 IsCosimmed words before after = OfCosim words (λ name given limit. OfDesignTexts before.files name given (λ text bytes. HasCosimmed text bytes limit before.out.bytes after.out.bytes))
 
+-- the text of the circuit of the source's program was written
+abbrev pub IsBuilt : List (List ℕ) → Outside → Outside → Type 0
+IsBuilt words before after = OfBuild words (λ source top. OfSource before.files source (λ text. (lines : List ℕ) × HasCircuit text top lines × Appends before.out.bytes after.out.bytes lines))
+
 -- the command did what it is for
 abbrev pub IsDone : List (List ℕ) → Outside → Outside → Type 0
-IsDone words before after = IsRun words before after ⊎ (IsPlanned words before after ⊎ IsCosimmed words before after)
+IsDone words before after = IsRun words before after ⊎ (IsPlanned words before after ⊎ (IsCosimmed words before after ⊎ IsBuilt words before after))
 
--- nothing was written, or a front part of a report of the source, of a plan, or of a report of the Verilog text
+-- nothing was written, or a front part of a report of the source, of a plan, of a report of the Verilog text, or of a circuit
 abbrev pub HasPartOf : List (List ℕ) → Outside → Outside → Type 0
 HasPartOf words before after =
     (after.out.bytes ≡ before.out.bytes)
     ⊎ (OfRun words (λ source top given limit. OfTexts before.files source given (λ text bytes. (report : List ℕ) × IsReportOfSource text top bytes limit report × AppendsPart before.out.bytes after.out.bytes report))
     ⊎ (OfPlan words (λ source top device mode. OfTexts before.files source (Some device) (λ text bytes. (lines : List (List ℕ)) × HasPlan text top bytes (mode_of mode) lines × AppendsPart before.out.bytes after.out.bytes (joined lines)))
-    ⊎ OfCosim words (λ name given limit. OfDesignTexts before.files name given (λ text bytes. (done_at : Option ℕ) × (report : List ℕ) × HasSimulated text bytes limit done_at report × AppendsPart before.out.bytes after.out.bytes report))))
+    ⊎ (OfCosim words (λ name given limit. OfDesignTexts before.files name given (λ text bytes. (done_at : Option ℕ) × (report : List ℕ) × HasSimulated text bytes limit done_at report × AppendsPart before.out.bytes after.out.bytes report))
+    ⊎ OfBuild words (λ source top. OfSource before.files source (λ text. (lines : List ℕ) × HasCircuit text top lines × AppendsPart before.out.bytes after.out.bytes lines)))))
 
 -- what stands in the output after a call that tells this refusal
 abbrev pub Leaves : List (List ℕ) → Outside → Outside → Refusal → Type 0

@@ -1,4 +1,6 @@
 pub mod Answer
+pub mod BuildDecided
+pub mod Built
 pub mod Carried
 pub mod Codes
 pub mod CosimDecided

@@ -6,6 +6,7 @@ ghost use Rattle.tapa_syntax.specs.WellFormed.{IsWellFormed};
 ghost use Rattle.kahn_model.specs.Fits.{FitsInput};
 ghost use Rattle.net_core.specs.Bounded.{scalars_of, memories_of};
 ghost use Rattle.run_program.specs.Run.{values_of};
+ghost use Rattle.top_law.specs.Legal.{HasOwnNames};
 ghost use Rattle.tapa_drive.specs.Files.{OfSource, OfData, IsUntaken, AsksForData};
 ghost use Rattle.tapa_drive.specs.Found.{IsNotFound, IsNotGiven};
 ghost use Rattle.tapa_drive.specs.Inputs.{GivesValues};
@@ -58,6 +59,7 @@ pub(crate) fn read_source<'a, S: Shelf>(
 ) -> Result<Program, Refusal<'a>>
     ensures found { IfOk result (λ program. OfSource (S.files shelf.old) source.now (λ text. IsProgramOf text top.now program)) }
     ensures well_formed { IfOk result (λ program. IsWellFormed program) }
+    ensures names { IfOk result (λ program. HasOwnNames program) }
     ensures asks { AsksFor S.files S.faults source.now shelf.old shelf.new }
     ensures refused { IfErr result (λ refusal. IsNotFound (S.files shelf.old) (S.faults shelf.old) (S.faults shelf.new) source.now top.now (refusal_of refusal)) }
 {

@@ -2,6 +2,7 @@
 //! the report.
 #![tactic(auto)]
 
+mod building;
 mod cosim;
 mod files;
 mod inputs;

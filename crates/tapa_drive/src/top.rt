@@ -1,7 +1,8 @@
 ghost use Rattle.std.specs.Prelude.{◌≡◌, ◌⊎◌, ◌≤◌, ℕ, List, Option, Some, None, option_map};
-ghost use Rattle.tapa_words.specs.Words.{texts, command_of, most_limit, Run, Plan, Cosim};
+ghost use Rattle.tapa_words.specs.Words.{texts, command_of, most_limit, Run, Build, Plan, Cosim};
 ghost use Rattle.tapa_words.specs.declared.command.PlanMode.{PlanMode as PlanModeWord};
 ghost use Rattle.tapa_drive.specs.Answer.{IsAnswer};
+ghost use Rattle.tapa_drive.specs.BuildDecided.{TellsBuild};
 ghost use Rattle.tapa_drive.specs.Carried.{IsCarriedOut};
 ghost use Rattle.tapa_drive.specs.CosimDecided.{TellsCosim};
 ghost use Rattle.tapa_drive.specs.Decided.{SourceMeaning, Expects, IsLengthy, IsRefusedWith, NothingFails, WritesAll, Tells};
@@ -11,6 +12,7 @@ ghost use Rattle.tapa_drive.specs.PlanDecided.{ArePlannable, TellsPlan};
 ghost use Rattle.tapa_drive.specs.Planned.{mode_of};
 ghost use Rattle.tapa_drive.specs.Refusal.{Refusal as Why};
 
+use crate::building::build_source;
 use crate::cosim::cosim_text;
 use crate::files::{read_source, read_values};
 use crate::planning::plan_source;
@@ -76,6 +78,7 @@ fn carry_out<'a, S: Shelf, O: Sink>(
                 limit,
             },
         ) => run_source(alloc, source, top, data, limit, shelf, out),
+        Ok(Command::Build { source, top }) => build_source(alloc, source, top, shelf, out),
         Ok(
             Command::Plan {
                 source,
@@ -119,9 +122,9 @@ pub fn tapa<S: Shelf, O: Sink, E: Sink>(
     err: &mut E,
 ) -> Status
     // Done work: every joined instance of the source's program has ended on its data, and the report of its streams, whole Kahn
-    // streams where their producers are joined, and of the last cells is written; or the lines of a plan of the source's program on the device are; or the design of the Verilog text
-    // was done, and the report of its cycles is. Each other status tells a
-    // refusal, which has its cause and leaves the output so. No other file is read than the source or the text and, where it has a
+    // streams where their producers are joined, and of the last cells is written; or the lines of a plan of the source's program on the device are; or the
+    // text of its circuit is, whose streams carry prefixes of Kahn streams in every cycle, and all of them once its done is raised; or
+    // the design of the Verilog text was done, and the report of its cycles is. Each other status tells a refusal, which has its cause and leaves the output so. No other file is read than the source or the text and, where it has a
     // program or a design, the data or the device file.
     ensures answer { IsAnswer (texts words.now) (outside (S.files shelf.old) (S.faults shelf.old) (written (O.contents out.old) (O.faults out.old)) (written (E.contents err.old) (E.faults err.old)))
         (outside (S.files shelf.new) (S.faults shelf.new) (written (O.contents out.new) (O.faults out.new)) (written (E.contents err.new) (E.faults err.new))) result }
@@ -137,6 +140,10 @@ pub fn tapa<S: Shelf, O: Sink, E: Sink>(
         (source top device : List ℕ) (by : PlanModeWord) → command_of (texts words.now) ≡ Some (Plan source top device by) →
         ArePlannable before.files source top device → NothingFails source (Some device) before after →
         TellsPlan before.files source top device (mode_of by) result before after ⊎ (result ≡ Status.Memory) }
+    // The same of a circuit: its text is written whole, or it is told why the source has none.
+    ensures build_decided { let before = (outside (S.files shelf.old) (S.faults shelf.old) (written (O.contents out.old) (O.faults out.old)) (written (E.contents err.old) (E.faults err.old))) in let after = (outside (S.files shelf.new) (S.faults shelf.new) (written (O.contents out.new) (O.faults out.new)) (written (E.contents err.new) (E.faults err.new))) in
+        (source top : List ℕ) → command_of (texts words.now) ≡ Some (Build source top) →
+        NothingFails source None before after → TellsBuild before.files source top result before after ⊎ (result ≡ Status.Memory) }
     // The same of a simulation: the report of the design's cycles is written whole, or it is told why there is none.
     ensures cosim_decided { let before = (outside (S.files shelf.old) (S.faults shelf.old) (written (O.contents out.old) (O.faults out.old)) (written (E.contents err.old) (E.faults err.old))) in let after = (outside (S.files shelf.new) (S.faults shelf.new) (written (O.contents out.new) (O.faults out.new)) (written (E.contents err.new) (E.faults err.new))) in
         (text : List ℕ) (named : Option (List ℕ)) (limit : ℕ) → command_of (texts words.now) ≡ Some (Cosim text named limit) →

@@ -5,7 +5,7 @@ use Rattle.std.specs.Str.{bytes_eq}
 use Rattle.std.specs.Str.Parse.{digits_value}
 use Rattle.std.specs.declared.alloc.Global.{Global}
 use Rattle.tapa_words.specs.declared.verb.Verb.{Verb}
-use Rattle.tapa_words.specs.declared.verb.Verb.TheVariants.{Running, Planning, Simulating}
+use Rattle.tapa_words.specs.declared.verb.Verb.TheVariants.{Running, Building, Planning, Simulating}
 use Rattle.tapa_words.specs.declared.command.PlanMode.{PlanMode}
 use Rattle.tapa_words.specs.declared.command.PlanMode.TheVariants.{Exact, Fit}
 
@@ -16,6 +16,8 @@ Word = List ℕ
 pub data Command : Type 0 where
   -- a run of a task of a source, for at most so many ticks, with a file of its data where one is named
   Run : (source top : Word) (input : Option Word) (limit : ℕ) → Command
+  -- the circuit of a task of a source
+  Build : (source top : Word) → Command
   -- a plan of the program of a source on the device of a file, by a mode
   Plan : (source top device : Word) (mode : PlanMode) → Command
   -- a simulation of the design of a Verilog text, for at most so many cycles, with a file of its data where one is named
@@ -27,11 +29,12 @@ texts words = map string_bytes words
 
 -- the first word is the command's name, spelled exactly
 abbrev pub verb_of : Word → Option Verb
-verb_of word = if bytes_eq word (codes "run") then Some Running else if bytes_eq word (codes "plan") then Some Planning else if bytes_eq word (codes "cosim") then Some Simulating else None
+verb_of word = if bytes_eq word (codes "run") then Some Running else if bytes_eq word (codes "build") then Some Building else if bytes_eq word (codes "plan") then Some Planning else if bytes_eq word (codes "cosim") then Some Simulating else None
 
 -- the command has an option of this name; each option has a value
 abbrev pub has_option : Verb → Word → Bool
 has_option Running name = bytes_eq name (codes "--steps")
+has_option Building name = false
 has_option Planning name = bytes_eq name (codes "--plan")
 has_option Simulating name = bytes_eq name (codes "--cycles")
 
@@ -184,6 +187,11 @@ run_by (source ∷ top ∷ []) limit = option_map (Run source top None) limit
 run_by (source ∷ top ∷ input ∷ []) limit = option_map (Run source top (Some input)) limit
 run_by words limit = None
 
+-- `build SRC TOP`
+abbrev pub build_by : List Word → Option Command
+build_by (source ∷ top ∷ []) = Some (Build source top)
+build_by words = None
+
 -- the mode that a word names, and first fit where none is given
 abbrev pub mode_or : Option Word → Option PlanMode
 mode_or None = Some Fit
@@ -203,6 +211,7 @@ cosim_by words limit = None
 -- a command by its items
 abbrev pub command_by : Verb → List Item → Option Command
 command_by Running items = run_by (positionals items) (number_or default_limit 1 most_limit (value_of (codes "--steps") items))
+command_by Building items = build_by (positionals items)
 command_by Planning items = plan_by (positionals items) (mode_or (value_of (codes "--plan") items))
 command_by Simulating items = cosim_by (positionals items) (number_or default_cycles 1 most_limit (value_of (codes "--cycles") items))
 

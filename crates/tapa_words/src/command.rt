@@ -8,6 +8,11 @@ pub enum Command<'a> {
         data: Option<&'a str>,
         limit: u64,
     },
+    /// Build the circuit of the task `top` of the file `source`.
+    Build {
+        source: &'a str,
+        top: &'a str,
+    },
     /// Plan the task `top` of the file `source` on the device of the file `device`.
     Plan {
         source: &'a str,

@@ -1,6 +1,7 @@
 //! Reads the words of a command.
 #![tactic(auto)]
 
+mod build;
 mod command;
 mod cosim;
 mod item;

@@ -2,6 +2,7 @@ ghost use Rattle.std.specs.Prelude.{◌≤◌, IfOk};
 ghost use Rattle.tapa_words.specs.Words.{texts, command_of, most_limit};
 ghost use Rattle.tapa_words.specs.Meaning.{command, limit_in, Answers};
 
+use crate::build::read_build;
 use crate::command::{Command, WordsFault};
 use crate::cosim::read_cosim;
 use crate::item::{are_each_once, read_items};
@@ -29,6 +30,7 @@ pub fn read_words<'a>(alloc: Global, words: &'a [String]) -> Result<Command<'a>,
     }
     match verb {
         Verb::Running => read_run(alloc, items.as_slice()),
+        Verb::Building => read_build(alloc, items.as_slice()),
         Verb::Planning => read_plan(alloc, items.as_slice()),
         Verb::Simulating => read_cosim(alloc, items.as_slice()),
     }

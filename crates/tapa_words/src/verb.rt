@@ -5,6 +5,7 @@ ghost use Rattle.tapa_words.specs.Words.{verb_of, has_option};
 #[derive(Clone, Copy, Debug)]
 pub(crate) enum Verb {
     Running,
+    Building,
     Planning,
     Simulating,
 }
@@ -16,6 +17,8 @@ impl Verb {
     {
         if word == "run" {
             Some(Verb::Running)
+        } else if word == "build" {
+            Some(Verb::Building)
         } else if word == "plan" {
             Some(Verb::Planning)
         } else if word == "cosim" {
@@ -31,6 +34,7 @@ impl Verb {
     {
         match self {
             Verb::Running => name == "--steps",
+            Verb::Building => false,
             Verb::Planning => name == "--plan",
             Verb::Simulating => name == "--cycles",
         }

@@ -12,6 +12,9 @@ returns-in-Err-OutOfMemory g c = λ errors told. record { done = tt; cause = tt;
 pub returns-in-Ok-Run : goal.returns-in-Ok-Run
 returns-in-Ok-Run g c = λ errors told. c.run_source.ensures (texts c.args.words.now) errors told (search rules)
 
+pub returns-in-Ok-Build : goal.returns-in-Ok-Build
+returns-in-Ok-Build g c = λ errors told. c.build_source.ensures (texts c.args.words.now) errors told (search rules)
+
 pub returns-in-Ok-Plan : goal.returns-in-Ok-Plan
 returns-in-Ok-Plan g c = λ errors told. c.plan_source.ensures (texts c.args.words.now) errors told (search rules)
 

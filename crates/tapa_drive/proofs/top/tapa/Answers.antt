@@ -1,6 +1,7 @@
 use Rattle.std.proofs.Common.{ap}
 use Rattle.tapa_words.specs.Words.{texts}
 use Rattle.tapa_drive.specs.Outside.{written}
+use Rattle.tapa_drive.proofs.BuildDecided.{build_decided}
 use Rattle.tapa_drive.proofs.CosimDecided.{cosim_decided}
 use Rattle.tapa_drive.proofs.Decided.{decided, lengthy, usage}
 use Rattle.tapa_drive.proofs.PlanDecided.{plan_decided}
@@ -17,6 +18,12 @@ returns-clause-plan_decided g c = λ source top device by asked can still.
     plan_decided (texts c.args.words.now) (g.S.Shelf.files c.args.shelf.now) (g.S.Shelf.faults c.args.shelf.now)
     (written (g.O.Sink.contents c.args.out.now) (g.O.Sink.faults c.args.out.now)) (written (g.E.Sink.contents c.args.err.now) (g.E.Sink.faults c.args.err.now))
     _ source top device by asked can still c.answer.result c.answer.ensures.answer (λ is. ap g.E.Sink.contents (c.answer.ensures.ok_err is))
+
+pub returns-clause-build_decided : goal.returns-clause-build_decided
+returns-clause-build_decided g c = λ source top asked still.
+    build_decided (texts c.args.words.now) (g.S.Shelf.files c.args.shelf.now) (g.S.Shelf.faults c.args.shelf.now)
+    (written (g.O.Sink.contents c.args.out.now) (g.O.Sink.faults c.args.out.now)) (written (g.E.Sink.contents c.args.err.now) (g.E.Sink.faults c.args.err.now))
+    _ source top asked still c.answer.result c.answer.ensures.answer (λ is. ap g.E.Sink.contents (c.answer.ensures.ok_err is))
 
 pub returns-clause-cosim_decided : goal.returns-clause-cosim_decided
 returns-clause-cosim_decided g c = λ name named limit asked still.
