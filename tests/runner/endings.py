@@ -86,6 +86,8 @@ def try_full_device(trial):
     with open("/dev/full", "wb") as full:
         said = trial.run(["run", "r.cpp", "T"], stdout=full)
         trial.check("the output is full", is_told(said, 6, "tapa: cannot write\n"), f"   {said}")
+        said = trial.run(["build", "r.cpp", "T"], stdout=full)
+        trial.check("the output is full of a circuit", is_told(said, 6, "tapa: cannot write\n"), f"   {said}")
         said = trial.run(["run", "s.cpp", "T"], stdout=full)
         trial.check("the output is full where a run stops", is_told(said, 6, "tapa: cannot write\n"), f"   {said}")
         for words in (["run", "s.cpp", "T"], ["run", "r.cpp", "none"], ["run", "none", "T"], [], ["run", "r.cpp", "T", "--steps", "1"]):

@@ -1,0 +1,42 @@
+#!/bin/sh
+# Builds every example and shows what other tools say of the texts, where they are installed: Icarus Verilog (and its run beside `tapa cosim`), Verilator, Yosys.
+#
+#     tools/check_verilog.sh PROGRAM
+#
+# Nothing is shown where they agree. Left out of Verilator's warnings are UNUSEDSIGNAL, a fact of the source (bits that a conversion drops, the data of a memory that is
+# only stored to, `done` of detached instances), and DECLFILENAME.
+program=$1
+if [ -z "$program" ]; then
+  sed -n '2,7s/^# \{0,1\}//p' "$0" >&2
+  exit 2
+fi
+cd "$(dirname "$0")/.." || exit 2
+folder=$(mktemp -d)
+trap 'rm -rf "$folder"' EXIT
+tools=""
+for tool in iverilog verilator yosys; do
+  if command -v "$tool" >/dev/null; then tools="$tools $tool"; else echo "check_verilog: $tool is not installed, so it was not tried" >&2; fi
+done
+status=0
+for source in examples/*.cpp examples/refused/*_mended.cpp; do
+  set -- $(head -n 1 "$source" | sed 's|^// tapa run ||')
+  text=$folder/$(basename "$source" .cpp).v
+  "$program" build "$1" "$2" > "$text" || { echo "check_verilog: $source is not built"; status=1; continue; }
+  case $tools in *iverilog*)
+    iverilog -g2005 -gno-xtypes -Wall -o /dev/null "$text" > "$folder/said" 2>&1 || status=1
+    sed "s|^|iverilog: |" "$folder/said"
+    [ -s "$folder/said" ] && status=1
+    "$program" cosim "$text" $3 --cycles 2000 > "$folder/cosim" 2>/dev/null
+    python3 tools/icarus.py "$text" $3 --cycles 2000 > "$folder/icarus"
+    diff "$folder/cosim" "$folder/icarus" || { echo "check_verilog: $source runs otherwise in Icarus Verilog"; status=1; };;
+  esac
+  case $tools in *verilator*)
+    verilator --lint-only -Wall -Wno-UNUSEDSIGNAL -Wno-DECLFILENAME "$text" > "$folder/said" 2>&1 || status=1
+    sed "s|^|verilator: |" "$folder/said";;
+  esac
+  case $tools in *yosys*)
+    yosys -q -p "read_verilog $text; hierarchy -check; proc; check -assert" > "$folder/said" 2>&1 || status=1
+    sed "s|^|yosys: |" "$folder/said";;
+  esac
+done
+exit $status

@@ -1,0 +1,116 @@
+#!/usr/bin/env python3
+"""Runs a circuit that `tapa build` wrote in Icarus Verilog, and prints the report that `tapa cosim` prints.
+
+    tools/icarus.py VTEXT [DATA] [--cycles N]
+
+Needs `iverilog` and `vvp` (11 or later). DATA is a data file (docs/DATA.md). A testbench is made in a folder of its own: reset in cycle 0, the scalars, and memories
+that answer within the cycle by their ready lists. Registers begin unknown, as IEEE 1364-2005 says.
+"""
+import json
+import os
+import re
+import subprocess
+import sys
+import tempfile
+
+PORT = re.compile(r"(input|output)\s*(?:\[\s*(\d+)\s*:\s*0\s*\])?\s*([\w$]+)")
+WIRE = re.compile(r"^\s*wire\s*(?:\[\s*(\d+)\s*:\s*0\s*\])?\s*([\w$]+)\s*;", re.M)
+
+
+def top_of(text):
+    """The last module: its name, its ports as (direction, bits, name), and the bits of its wires by name."""
+    name, ports, body = re.findall(r"\bmodule\s+([\w$]+)\s*\((.*?)\)\s*;(.*?)\bendmodule\b", text, re.S)[-1]
+    bits = lambda high: int(high) + 1 if high else 1
+    return name, [(way, bits(high), port) for way, high, port in PORT.findall(ports)], {wire: bits(high) for high, wire in WIRE.findall(body)}
+
+
+def memory_lines(name, bits, cells, ready):
+    """What stands around the top for a memory: its cells, what it answers, and the store of a cycle."""
+    size = max(1, len(cells))
+    yield f"reg m_{name}_ack; wire [63:0] m_{name}_addr; wire [{bits - 1}:0] m_{name}_wdata; wire m_{name}_we;"
+    yield f"reg [{bits - 1}:0] cells_{name} [0:{size - 1}]; reg [{bits - 1}:0] data_{name}; reg [63:0] place_{name}; reg stores_{name};"
+    yield f"wire [{bits - 1}:0] m_{name}_rdata = m_{name}_addr < 64'd{len(cells)} ? cells_{name}[m_{name}_addr] : {bits}'d0;"
+    yield f"reg ready_{name} [0:{max(1, len(ready))}];"
+    yield "initial begin"
+    yield from (f"  cells_{name}[{at}] = {bits}'d{cell % 2**bits};" for at, cell in enumerate(cells))
+    yield from (f"  ready_{name}[{at}] = 1'd{bit};" for at, bit in enumerate(ready))
+    yield "end"
+
+
+def bench(text, data, cycles):
+    name, ports, wires = top_of(text)
+    scalars = [(bits, port[2:]) for way, bits, port in ports if port.startswith("v_")]
+    memories = [(dict((port, bits) for _, bits, port in ports)[f"m_{port[2:-4]}_rdata"], port[2:-4]) for _, _, port in ports if port.endswith("_ack")]
+    streams = [wire[2:-4] for wire in wires if wire.startswith("s_") and wire.endswith("_din") and wires.get(wire[:-3] + "wr") == wires.get(wire[:-3] + "rdy") == 1]
+    values, cells, waits = (data.get(group, {}) for group in ("scalars", "memories", "waits"))
+    yield "module bench;"
+    yield "reg clk; reg rst; wire done; integer cycle; integer at;"
+    yield from (f"wire [{bits - 1}:0] v_{label} = {bits}'d{int(values[label]) % 2**bits};" for bits, label in scalars)
+    for bits, label in memories:
+        yield from memory_lines(label, bits, cells[label], waits.get(label, []))
+    yield f"{name} top (" + ", ".join(f".{port}({port})" for _, _, port in ports) + ");"
+    yield "initial begin clk = 0; cycle = 0; while (1) begin"
+    yield "  rst = cycle == 0;"
+    for _, label in memories:
+        long = len(waits.get(label, []))
+        yield f"  m_{label}_ack = cycle == 0 ? 1'd0 : cycle <= {long} ? ready_{label}[cycle - 1] : 1'd1;"
+    yield "  #4;"
+    for label in streams:
+        bits = wires[f"s_{label}_din"]
+        yield f'  if (cycle > 0 && top.s_{label}_wr === 1 && top.s_{label}_rdy === 1) $display("stream {label} %0d {bits}", top.s_{label}_din);'
+    yield f"  if (cycle > 0 && (done === 1 || cycle == {cycles})) begin"
+    for _, label in memories:
+        yield f'    for (at = 0; at < {len(cells[label])}; at = at + 1) $display("memory {label} %0d", cells_{label}[at]);'
+    yield '    if (done === 1) $display("done %0d", cycle); else $display("running %0d", cycle);'
+    yield "    $finish; end"
+    for _, label in memories:
+        yield f"  stores_{label} = m_{label}_ack && m_{label}_we === 1 && m_{label}_addr < 64'd{len(cells[label])}; place_{label} = m_{label}_addr; data_{label} = m_{label}_wdata;"
+    yield "  clk = 1; #1;"
+    yield from (f"  if (stores_{label}) cells_{label}[place_{label}] = data_{label};" for _, label in memories)
+    yield "  #4; clk = 0; #1; cycle = cycle + 1; end end"
+    yield "endmodule"
+
+
+def token(number, bits):
+    return "eot" if number >> (bits - 1) else str(number)
+
+
+def report(text, data, lines):
+    """The lines of a report from what the testbench showed."""
+    _, ports, wires = top_of(text)
+    names = [f"stream {wire[2:-4]}" for wire in wires if wire.startswith("s_") and wire.endswith("_din") and wire[:-3] + "wr" in wires and wire[:-3] + "rdy" in wires]
+    names += [f"memory {port[2:-4]}" for _, _, port in ports if port.endswith("_ack")]
+    shown = {name: [] for name in names}
+    for line in lines[:-1]:
+        kind, label, *rest = line.split()
+        shown[f"{kind} {label}"].append(token(int(rest[0]), int(rest[1])) if kind == "stream" else rest[0])
+    return [" ".join([f"{name}:", *shown[name]]) for name in names] + lines[-1:]
+
+
+def main(given):
+    cycles = "10000000"
+    if "--cycles" in given:
+        at = given.index("--cycles")
+        cycles = given[at + 1]
+        given = given[:at] + given[at + 2:]
+    if len(given) not in (2, 3):
+        print(__doc__.strip(), file=sys.stderr)
+        return 2
+    with open(given[1], encoding="utf-8") as file:
+        text = file.read()
+    data = {}
+    if len(given) == 3:
+        with open(given[2], encoding="utf-8") as file:
+            data = json.load(file)
+    with tempfile.TemporaryDirectory(prefix="tapa-icarus-") as folder:
+        made, ran = os.path.join(folder, "bench.v"), os.path.join(folder, "bench")
+        with open(made, "w", encoding="utf-8") as file:
+            file.write("\n".join(bench(text, data, int(cycles))) + "\n")
+        subprocess.run(["iverilog", "-g2005", "-gno-xtypes", "-o", ran, given[1], made], check=True)
+        said = subprocess.run(["vvp", "-n", ran], check=True, capture_output=True, text=True)
+    print("\n".join(report(text, data, said.stdout.splitlines())))
+    return 0
+
+
+if __name__ == "__main__":
+    sys.exit(main(sys.argv))
