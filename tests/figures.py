@@ -156,12 +156,41 @@ def inputs():
     yield f"a source of {len(source):,} bytes, 1,023 legal streams and one that 448 instances read at 1,000 parameters each, refused with C5", source, None, [], 1
 
 
+def pairs(tasks, tokens):
+    """Tasks that pass so many tokens on, one to the next, along two streams."""
+    ends = [("q", "r", "tapa::ostream<int>& q, tapa::ostream<int>& r", "q << i; r << i; "), ("p", "o", "tapa::istream<int>& p, tapa::istream<int>& o", "p.read(); o.read(); ")]
+    both = f"{ends[1][2]}, {ends[0][2]}"
+    turn = f"for (int i = 0; i < {tokens}; ++i) {{{{ {{}} }}}}"
+    first = f"void P({ends[0][2]}) {{ {turn.format(ends[0][3])} }}\n"
+    middle = f"void M({both}) {{ {turn.format('q << p.read(); r << o.read(); ')} }}\n"
+    last = f"void C({ends[1][2]}) {{ {turn.format(ends[1][3])} }}\n"
+    streams = "".join(f"tapa::stream<int> a{number}; tapa::stream<int> b{number}; " for number in range(tasks - 1))
+    middles = "".join(f".invoke(M, a{number}, b{number}, a{number + 1}, b{number + 1})" for number in range(tasks - 2))
+    chained = f".invoke(P, a0, b0){middles}.invoke(C, a{tasks - 2}, b{tasks - 2})"
+    return f"{first}{middle}{last}void T() {{ {streams}tapa::task(){chained}; }}\n"
+
+
+def writes(count):
+    """A task of one state for each write, and one that reads them."""
+    body = "".join(f"q << {number}; " for number in range(count))
+    last = f"void C(tapa::istream<int>& q) {{ for (int i = 0; i < {count}; ++i) q.read(); }}\n"
+    return f"void P(tapa::ostream<int>& q) {{ {body}}}\n{last}void T() {{ tapa::stream<int> q; tapa::task().invoke(P, q).invoke(C, q); }}\n"
+
+
+def circuits():
+    """What is built: what it is, and its source."""
+    yield "512 tasks that pass tokens on along 1,022 streams", pairs(512, 100)
+    yield "a task of 4,080 writes, with a state for each", writes(4080)
+
+
 def commands():
     """All of them, each behind its command; made one by one, since a child begins with what its parent holds."""
     for *case, status in inputs():
         yield "run", *case, (status,)
     for case in plans():
         yield "plan", *case
+    for what, source in circuits():
+        yield "build", f"the circuit of {what}", source, None, [], (0,)
 
 
 def balances(shape):
