@@ -1,4 +1,4 @@
-//! Tests of the floor: files taken whole or refused, sinks that keep what fits, each with the faults that no command shows.
+//! Tests of the floor: real files taken whole or refused, standard output written to.
 #![tactic(auto)]
 
 #[cfg(test)]

@@ -1,66 +1,6 @@
-use std::alloc::{AllocError, Global};
 use std::fs;
 use std::test::Fail;
-use tapa_base::{DirShelf, MemShelf, MemSink, StdSink, StillShelf, TakeFault, put_all, take_file};
-
-fn named(alloc: Global, name: &str, bytes: &[u8]) -> Result<Vec<(String, Vec<u8>)>, AllocError> {
-    let mut files = Vec::new(alloc);
-    files.push((String::from_str(alloc, name)?, bytes.to_vec(alloc)?))?;
-    Ok(files)
-}
-
-#[test]
-fn a_file_is_taken_whole_or_refused(rt: HostRuntime) -> Result<(), Fail> {
-    let alloc = rt.alloc();
-    let long = vec![in alloc; b'x'; 10_000]?;
-    let mut shelf = MemShelf::new(alloc, named(alloc, "a", &long)?, Vec::new(alloc));
-    let taken = take_file(alloc, &mut shelf, "a", 10_000)?;
-    assert_eq!(rt; taken.as_slice(), long.as_slice());
-    let refused = take_file(alloc, &mut shelf, "a", 9_999);
-    assert!(rt; matches!(refused, Err(TakeFault::TooLong { limit: 9_999 })));
-    let missing = take_file(alloc, &mut shelf, "b", 9_999);
-    assert!(rt; matches!(missing, Err(TakeFault::ReadFault)));
-    Ok(())
-}
-
-#[test]
-fn a_read_fails_in_the_middle(rt: HostRuntime) -> Result<(), Fail> {
-    let alloc = rt.alloc();
-    let long = vec![in alloc; b'x'; 10_000]?;
-    let mut shelf = MemShelf::new(alloc, named(alloc, "a", &long)?, vec![in alloc; 1]?);
-    let first = take_file(alloc, &mut shelf, "a", 10_000);
-    assert!(rt; matches!(first, Err(TakeFault::ReadFault)));
-    let again = take_file(alloc, &mut shelf, "a", 10_000)?;
-    assert_eq!(rt; again.len(), 10_000);
-    Ok(())
-}
-
-#[test]
-fn a_still_shelf_reads_a_missing_name_as_empty(rt: HostRuntime) -> Result<(), Fail> {
-    let alloc = rt.alloc();
-    let mut shelf = StillShelf::new(named(alloc, "a", b"tea")?);
-    assert_eq!(rt;
-        take_file(alloc, &mut shelf, "a", 3)?.as_slice(),
-        b"tea".as_slice()
-    );
-    assert!(rt; take_file(alloc, &mut shelf, "b", 3)?.is_empty());
-    Ok(())
-}
-
-#[test]
-fn a_sink_in_memory_keeps_what_fits(rt: HostRuntime) -> Result<(), Fail> {
-    let alloc = rt.alloc();
-    let mut sink = MemSink::new(alloc, 5, vec![in alloc; 1]?)?;
-    for (text, fits) in [("tea", true), ("s", false), ("egg", false), ("s!", true)] {
-        assert_eq!(rt;
-            put_all(&mut sink, text.as_bytes()).is_ok(),
-            fits,
-            "at {text}"
-        );
-    }
-    assert_eq!(rt; sink.bytes(), b"teas!".as_slice());
-    Ok(())
-}
+use tapa_base::{DirShelf, StdSink, TakeFault, put_all, take_file};
 
 #[test]
 fn a_real_file_is_read(rt: HostRuntime) -> Result<(), Fail> {
@@ -75,7 +15,6 @@ fn a_real_file_is_read(rt: HostRuntime) -> Result<(), Fail> {
     Ok(())
 }
 
-// Three times the piece in which a file is read, and a bit: no byte is lost, doubled or moved.
 #[test]
 fn a_long_real_file_is_read_whole(rt: HostRuntime) -> Result<(), Fail> {
     let alloc = rt.alloc();

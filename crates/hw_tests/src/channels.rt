@@ -33,19 +33,6 @@ const CASES: &[Case] = &[
         latency: 1,
         places: &[(0, &["c"]), (1, &["fifo", "c"]), (2, &["relay", "c"])],
     },
-    Case {
-        bits: 2,
-        depth: 1,
-        latency: 3,
-        places: &[
-            (0, &["c"]),
-            (1, &["fifo", "c"]),
-            (2, &["relay", "c"]),
-            (3, &["part_0", "relay", "c"]),
-            (3, &["part_1", "relay", "c"]),
-            (3, &["part_2", "relay", "c"]),
-        ],
-    },
 ];
 
 // The tokens so far, and before each cycle how many were written and how many were taken.

@@ -1,5 +1,4 @@
 use kahn_model::tick::{Action, Tick, TraceEnd};
-use kahn_reference::rounds::streams;
 use kahn_reference::slow::{Fault, Variables, trace};
 use std::alloc::{AllocError, Global};
 use std::test::Fail;
@@ -104,13 +103,6 @@ fn data(alloc: Global, numbers: &[u64]) -> Result<Vec<Token>, AllocError> {
     Ok(tokens)
 }
 
-fn row(lists: &[Vec<Token>], s: usize) -> &[Token] {
-    match lists.get(s) {
-        Some(list) => list,
-        None => &[],
-    }
-}
-
 // `for (x = 0; x < 3; ++x) statement`.
 fn three_times(alloc: Global, statement: Stmt) -> Result<Vec<Stmt>, AllocError> {
     let step = Vec::from_array(alloc, [Stmt::Set(0, plus(alloc, Expr::Var(0), 1)?)])?;
@@ -194,120 +186,6 @@ fn ticks_of_the_path_program(rt: HostRuntime) -> Result<(), Fail> {
     Ok(())
 }
 
-#[test]
-fn rounds_of_the_path_program(rt: HostRuntime) -> Result<(), Fail> {
-    let alloc = rt.alloc();
-    let path = path(alloc)?;
-    for (n, q, r) in [
-        (0, 0, 0),
-        (1, 1, 0),
-        (2, 2, 1),
-        (3, 3, 2),
-        (4, 3, 3),
-        (9, 3, 3),
-    ] {
-        let lists = streams(alloc, &path, &[], &[], n)?;
-        assert_eq!(rt;
-            (row(&lists, 0).len(), row(&lists, 1).len()),
-            (q, r),
-            "round {n}"
-        );
-    }
-    let lists = streams(alloc, &path, &[], &[], 43)?;
-    assert_eq!(rt; row(&lists, 0), data(alloc, &[5, 6, 7])?.as_slice());
-    assert_eq!(rt; row(&lists, 1), data(alloc, &[6, 7, 8])?.as_slice());
-    Ok(())
-}
-
-fn one(alloc: Global, statement: Stmt) -> Result<Vec<Stmt>, AllocError> {
-    Ok(Vec::from_array(alloc, [statement])?)
-}
-
-// `a` is cleared, set and changed; `m[0] -= 1; q >> m[1]; r << a[1]; r << m[0]; r << m[1]; r << x;`
-fn cells(alloc: Global) -> Result<Vec<Stmt>, AllocError> {
-    let kind = Kind::I32;
-    Ok(Vec::from_array(
-        alloc,
-        [
-            Stmt::Clear(0),
-            Stmt::SetCell {
-                array: 0,
-                index: number(1),
-                value: Expr::Lit(Kind::I8, 200),
-            },
-            Stmt::SetCellBy {
-                array: 0,
-                index: number(1),
-                op: Op::Add,
-                kind,
-                value: Expr::Lit(kind, 100),
-            },
-            Stmt::StoreBy {
-                memory: 0,
-                index: number(0),
-                op: Op::Sub,
-                kind,
-                value: Expr::Lit(kind, 1),
-            },
-            Stmt::ReadStore {
-                stream: 1,
-                memory: 0,
-                index: number(1),
-            },
-            Stmt::Write(0, Expr::Cell(0, Box::new(alloc, number(1))?)),
-            Stmt::Write(0, Expr::Load(0, Box::new(alloc, number(0))?)),
-            Stmt::Write(0, Expr::Load(0, Box::new(alloc, number(1))?)),
-            Stmt::Write(0, Expr::Var(0)),
-        ],
-    )?)
-}
-
-// A task that writes 511, and one that has the memory and the scalar of the top task, which is narrowed on its way down.
-fn with_data(alloc: Global) -> Result<Program, AllocError> {
-    let first = leaf(alloc, 1, 0, one(alloc, Stmt::Write(0, number(511)))?)?;
-    let mut second = leaf(alloc, 1, 1, cells(alloc)?)?;
-    second.scalars.push(0)?;
-    let bodies = Vec::from_array(alloc, [first, second])?;
-    let mut owner = instance(alloc, 1, Vec::from_array(alloc, [1, 0])?);
-    owner.memories.push(0)?;
-    let kinds = Vec::from_array(alloc, [Kind::U8, Kind::I32, Kind::U64])?;
-    owner.scalars.push(Bound::Top { scalar: 0, kinds })?;
-    let instances = Vec::from_array(alloc, [instance(alloc, 0, vec![in alloc; 0; 1]?), owner])?;
-    let streams = Vec::from_array(alloc, [stream(alloc, 0, 1), stream(alloc, 1, 0)])?;
-    let mut program = program(alloc, bodies, instances, streams);
-    program.scalars.push(Scalar {
-        name: Text::new(Vec::new(alloc)),
-        kind: Kind::I16,
-    })?;
-    program.memories.push(Memory {
-        name: Text::new(Vec::new(alloc)),
-        kind: Kind::U8,
-        constant: false,
-        owner: 1,
-    })?;
-    Ok(program)
-}
-
-#[test]
-fn data_reach_the_streams(rt: HostRuntime) -> Result<(), Fail> {
-    let alloc = rt.alloc();
-    let program = with_data(alloc)?;
-    let mut memories = Vec::new(alloc);
-    memories.push(Vec::from_array(alloc, [0, 7])?)?;
-    // The cell of the array is 200, which is -56, and 100 more, 44; that of the memory is 1 less than 0 modulo 256; 511
-    // and 65,530 are cut to 8 bits.
-    let lists = streams(alloc, &program, &[65_530], &memories, 9)?;
-    let want = data(alloc, &[44, 255, 255, 250])?;
-    assert_eq!(rt; row(&lists, 1), want.as_slice());
-    assert!(rt;
-        matches!(
-            streams(alloc, &program, &[65_536], &memories, 9),
-            Err(Fault::NotOfItsKind)
-        )
-    );
-    Ok(())
-}
-
 // `while (!q.eot(nullptr)) x += q.read(); q.open(); r << x;`
 fn sum(alloc: Global) -> Result<Vec<Stmt>, AllocError> {
     let eot = Box::new(alloc, Expr::Eot(1))?;
@@ -339,7 +217,7 @@ fn a_transaction_ends_with_its_token(rt: HostRuntime) -> Result<(), Fail> {
     assert_eq!(rt; ticks.len(), 13);
     assert!(rt; ticks.contains(&Tick::Take(0, Token::Eot)));
     assert!(rt; ticks.contains(&Tick::Did(Action::Put(1, Token::Datum(17)))));
-    let bad = leaf(alloc, 0, 1, one(alloc, Stmt::Open(0))?)?;
+    let bad = leaf(alloc, 0, 1, Vec::from_array(alloc, [Stmt::Open(0)])?)?;
     let (ticks, trace_end) = trace(alloc, &bad, &[0], variables(alloc)?, 9, &lists)?;
     assert_eq!(rt; (ticks.len(), trace_end), (0, TraceEnd::Bad(0)));
     Ok(())
