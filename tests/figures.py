@@ -183,6 +183,16 @@ def circuits():
     yield "a task of 4,080 writes, with a state for each", writes(4080)
 
 
+def pipelines():
+    """Circuits for a device: what they are, the source and the device."""
+    slots = device(8, 4, 16, [])
+    uses = {task: {"LUT": 1} for task in "PMC"}
+    yield "512 tasks that pass tokens on along 1,022 streams, on 8 by 4 slots", pairs(512, 100), json.dumps({**json.loads(slots), "tasks": uses})
+    for shape in SHAPES:
+        what, source, given = max(balances(shape), key=lambda case: len(case[1]))
+        yield f"512 groups, {what}, on 8 by 4 slots", source, given
+
+
 def commands():
     """All of them, each behind its command; made one by one, since a child begins with what its parent holds."""
     for *case, status in inputs():
@@ -191,6 +201,8 @@ def commands():
         yield "plan", *case
     for what, source in circuits():
         yield "build", f"the circuit of {what}", source, None, [], (0,)
+    for what, source, given in pipelines():
+        yield "build", f"the circuit of {what}", source, given, ["--device", "d.json"], (0,)
 
 
 def balances(shape):
@@ -209,7 +221,7 @@ def measured(program, folder, verb, source, data, words):
         if text is not None:
             with open(os.path.join(folder, file), "w", encoding="utf-8") as it:
                 it.write(text)
-    given = ["d.json"] if data is not None else []
+    given = ["d.json"] if data is not None and "--device" not in words else []
     ran = subprocess.Popen([program, verb, "r.cpp", "T", *given, *words], cwd=folder, stdout=subprocess.DEVNULL, stderr=subprocess.PIPE)
     err = ran.stderr.read().decode()
     _, status, used = os.wait4(ran.pid, 0)

@@ -126,14 +126,18 @@ def sessions(page):
 
 
 def shown_by(trial, command, made):
-    """What a command of a session shows. A file behind `>` is made in the trial's own folder, and read there by later commands."""
+    """What a command of a session shows. A file behind `>` is made in the trial's own folder, and read there by later commands; `| tail -1` shows
+    the last line alone."""
     words, _, asks = command.partition(";")
+    words, _, behind = words.partition(" | ")
     words, _, target = words.partition(" > ")
     said = trial.run([made.get(word, word) for word in shlex.split(words)[1:]], ROOT)
     out = said.out
     if target:
         made[target.strip()] = trial.put(target.strip(), out)
         out = b""
+    if behind:
+        out = b"".join(out.splitlines(keepends=True)[-1:]) if behind == "tail -1" else behind.encode()
     return (out + said.err + (f"{said.status}\n".encode() if asks else b"")).decode()
 
 

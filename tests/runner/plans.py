@@ -166,11 +166,11 @@ def front_lines(case, placed):
         yield f"task T{task}${task}: {slot // case.cols} {slot % case.cols}"
 
 
-def is_even(case, latency, balance):
+def is_even(groups, ends, latency, balance):
     """One number per group, of which each stream's registers are the difference at its ends."""
-    edges = [(case.group[w], case.group[r], lat + more) for (w, r, _), lat, more in zip(case.streams, latency, balance)]
+    edges = [(a, b, lat + more) for (a, b), lat, more in zip(ends, latency, balance)]
     time = {}
-    for start in range(len(case.first)):
+    for start in range(groups):
         reached = [start] if start not in time else []
         time.setdefault(start, 0)
         while reached:
@@ -183,16 +183,15 @@ def is_even(case, latency, balance):
     return all(time[b] - time[a] == length for a, b, length in edges)
 
 
-def is_certified(case, latency, balance, flow, sums):
-    """The page of arithmetic: the balance is even, the flow keeps at each group what the widths bring there, and both have one value."""
-    width = [TYPES[kind] for _, _, kind in case.streams]
-    ends = [(case.group[writer], case.group[reader]) for writer, reader, _ in case.streams]
+def is_certified(groups, ends, width, latency, balance, flow, sums):
+    """The page of arithmetic: the balance is even, the flow keeps at each group what the widths bring there, and both have one value. `ends` has
+    the groups of each stream's writer and reader."""
     inner = [a == b for a, b in ends]
-    kept = all(sum((f - w) * ((b == g) - (a == g)) for (a, b), f, w in zip(ends, flow, width)) == 0 for g in range(len(case.first)))
+    kept = all(sum((f - w) * ((b == g) - (a == g)) for (a, b), f, w in zip(ends, flow, width)) == 0 for g in range(groups))
     registers = sum(w * more for w, more in zip(width, balance))
     dual = sum(lat * (f - w) for lat, f, w in zip(latency, flow, width))
     idle = all(f == 0 and more == 0 for f, more, within in zip(flow, balance, inner) if within)
-    return is_even(case, latency, balance) and kept and idle and registers == dual and sums == (registers, dual)
+    return is_even(groups, ends, latency, balance) and kept and idle and registers == dual and sums == (registers, dual)
 
 
 def check_plan(trial, name, case, said, placed):
@@ -210,7 +209,9 @@ def check_plan(trial, name, case, said, placed):
     holds = holds and [words[0] for words in last] == ["cost", "registers", "dual"] and int(last[0][1]) == case.cost(placed)
     if holds:
         balance, flow = ([int(words[at]) for words in streams] for at in (7, 9))
-        holds = is_certified(case, latency, balance, flow, (int(last[1][1]), int(last[2][1])))
+        width = [TYPES[kind] for _, _, kind in case.streams]
+        ends = [(case.group[writer], case.group[reader]) for writer, reader, _ in case.streams]
+        holds = is_certified(len(case.first), ends, width, latency, balance, flow, (int(last[1][1]), int(last[2][1])))
     trial.check(name, holds, f"   {said}\n   wanted: {front}")
 
 

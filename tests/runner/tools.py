@@ -79,11 +79,12 @@ def try_gate_seconds(trial):
 
 
 def try_floorplan(trial):
-    """The picture in docs is what the tool draws of the plan that README.md shows."""
-    device = "examples/devices/two_slots.json"
-    said = trial.run(["plan", "examples/vector_add.cpp", "VecAdd", device], ROOT)
-    _, drawn, err = run_tool("floorplan.py", trial.put("p.plan", said.out), device)
-    trial.check("docs/plan.svg is drawn by floorplan.py", drawn == read("docs/plan.svg") and drawn.count("<rect") >= 6, f"   {err}")
+    """The pictures in docs are what the tool draws of the plans that README.md and docs/FLOORPLAN.md show."""
+    for picture, source, top, device in (("plan", "vector_add", "VecAdd", "two_slots"), ("two_dies", "two_ways", "TwoWays", "two_dies")):
+        device = f"examples/devices/{device}.json"
+        said = trial.run(["plan", f"examples/{source}.cpp", top, device], ROOT)
+        _, drawn, err = run_tool("floorplan.py", trial.put("p.plan", said.out), device)
+        trial.check(f"docs/{picture}.svg is drawn by floorplan.py", drawn == read(f"docs/{picture}.svg") and drawn.count("<rect") >= 6, f"   {err}")
 
 
 def try_editors(trial):

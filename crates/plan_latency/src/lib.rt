@@ -1,6 +1,10 @@
 //! The registers that a stream's wires take on their way over the borders of a device's slots.
 #![tactic(auto)]
 
+mod added;
+
+pub use added::added_latencies;
+
 ghost use Rattle.std.specs.Prelude.{◌≡◌, ◌<◌, ◌≤◌, ◌*◌, ℕ, length, slice_index, IfOk};
 ghost use Rattle.task_graph.specs.Arcs.{streams};
 ghost use Rattle.latency_balance.specs.Moves.{AreLatencies};

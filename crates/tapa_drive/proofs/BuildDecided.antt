@@ -5,6 +5,7 @@ use Rattle.std.specs.Io.KnownBytes.{Appends}
 use Rattle.tapa_base.specs.Outside.{Files, file_bytes, Rose}
 use Rattle.tapa_base.specs.Take.{IsLongerThan}
 use Rattle.tapa_words.specs.Words.{Run, Build, Plan, Cosim, command_of}
+use Rattle.tapa_words.specs.declared.command.PlanAim.{PlanAim}
 use Rattle.tapa_words.specs.declared.command.PlanMode.{PlanMode}
 use Rattle.tapa_drive.specs.Answer.{OfRun, OfBuild, OfPlan, OfCosim, source_in, most_in, IsTaken, IsRefusedIn, IsFaultyIn, IsReached, IsTooLong, IsDone, HasCause, Leaves, IsAnswer}
 use Rattle.tapa_drive.specs.BuildDecided.{TellsBuildOf, TellsBuild}
@@ -48,10 +49,10 @@ module _ (words : List (List ℕ)) (files : Files) (reads : List ℕ → ℕ) (o
       let one : Run h.0 h.1 h.2 h.3 ≡ Build source top = cc in
       cc
 
-  not_planned : {P : List ℕ → List ℕ → List ℕ → PlanMode → Type 0} → OfPlan words P → ⊥
+  not_planned : {P : List ℕ → List ℕ → List ℕ → PlanMode → PlanAim → Type 0} → OfPlan words P → ⊥
   not_planned h =
-      let both : Some (Plan h.0 h.1 h.2 h.3) ≡ Some (Build source top) = sym h.4 ∙ asked in
-      let one : Plan h.0 h.1 h.2 h.3 ≡ Build source top = cc in
+      let both : Some (Plan h.0 h.1 h.2 h.3 h.4) ≡ Some (Build source top) = sym h.5 ∙ asked in
+      let one : Plan h.0 h.1 h.2 h.3 h.4 ≡ Build source top = cc in
       cc
 
   not_cosim : {P : List ℕ → Option (List ℕ) → ℕ → Type 0} → OfCosim words P → ⊥
@@ -117,8 +118,8 @@ module _ (words : List (List ℕ)) (files : Files) (reads : List ℕ → ℕ) (o
     of_ok (inr (inl p)) is same = absurd (not_planned p)
     of_ok (inr (inr (inl s))) is same = absurd (not_cosim s)
     of_ok (inr (inr (inr h))) is same =
-        let c = asked_build words source top asked (λ s t. OfSource (Some files) s (λ bytes. (lines : List ℕ) × HasCircuit bytes t lines × Appends out.bytes after.out.bytes lines)) h in
-        let t = of_told_source files source (λ bytes. (lines : List ℕ) × HasCircuit bytes top lines × Appends out.bytes after.out.bytes lines) c in
+        let c = asked_build words source top asked (λ s t. OfSource (Some files) s (λ bytes. (told : List ℕ) × HasCircuit bytes t told × Appends out.bytes after.out.bytes told)) h in
+        let t = of_told_source files source (λ bytes. (told : List ℕ) × HasCircuit bytes top told × Appends out.bytes after.out.bytes told) c in
         inl (inl (t.0, (t.1.0, t.1.1, is, t.1.2, same)))
 
 pub build_decided : (words : List (List ℕ)) (files : Option Files) (reads : List ℕ → ℕ) (out errors : Written) (after : Outside) (source top : List ℕ) → command_of words ≡ Some (Build source top) → NothingFails source None (outside files reads out errors) after → (result : Status) → IsAnswer words (outside files reads out errors) after result → (result ≡ status.Ok → after.err.bytes ≡ errors.bytes) → TellsBuild files source top result (outside files reads out errors) after ⊎ (result ≡ status.Memory)

@@ -3,6 +3,7 @@ use Rattle.std.proofs.Common.{◌≡◌, ◌⊎◌, ◌≤◌, ◌<◌, ℕ, Lis
 use Rattle.tapa_base.specs.Outside.{Files, file_bytes, Rose}
 use Rattle.tapa_base.specs.Take.{IsLongerThan}
 use Rattle.tapa_words.specs.Words.{Run, Build, Plan, Cosim, command_of}
+use Rattle.tapa_words.specs.declared.command.PlanAim.{PlanAim}
 use Rattle.tapa_words.specs.declared.command.PlanMode.{PlanMode}
 use Rattle.tapa_drive.specs.Answer.{OfRun, OfBuild, OfPlan, OfCosim, OfDesignTexts, source_in, most_in, IsTaken, IsRefusedIn, IsFaultyIn, IsReached, IsTooLong, IsDone, HasCause, Leaves, IsAnswer}
 use Rattle.tapa_drive.specs.CosimDecided.{DoneIn, StillRunning, Misgiven, Overlong, Refused, Lengthy, TellsCosimOf, TellsCosim}
@@ -52,10 +53,10 @@ module _ (words : List (List ℕ)) (files : Files) (reads : List ℕ → ℕ) (o
       let one : Run h.0 h.1 h.2 h.3 ≡ Cosim name named limit = cc in
       cc
 
-  not_planned : {P : List ℕ → List ℕ → List ℕ → PlanMode → Type 0} → OfPlan words P → ⊥
+  not_planned : {P : List ℕ → List ℕ → List ℕ → PlanMode → PlanAim → Type 0} → OfPlan words P → ⊥
   not_planned h =
-      let both : Some (Plan h.0 h.1 h.2 h.3) ≡ Some (Cosim name named limit) = sym h.4 ∙ asked in
-      let one : Plan h.0 h.1 h.2 h.3 ≡ Cosim name named limit = cc in
+      let both : Some (Plan h.0 h.1 h.2 h.3 h.4) ≡ Some (Cosim name named limit) = sym h.5 ∙ asked in
+      let one : Plan h.0 h.1 h.2 h.3 h.4 ≡ Cosim name named limit = cc in
       cc
 
   -- no circuit was asked for

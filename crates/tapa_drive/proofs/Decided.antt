@@ -3,6 +3,7 @@ use Rattle.std.proofs.Common.{◌≡◌, ◌⊎◌, ◌≤◌, ◌<◌, ℕ, Lis
 use Rattle.tapa_base.specs.Outside.{Files, file_bytes, Rose}
 use Rattle.tapa_base.specs.Take.{IsLongerThan}
 use Rattle.tapa_words.specs.Words.{Command, Run, Build, Plan, Cosim, command_of}
+use Rattle.tapa_words.specs.declared.command.PlanAim.{PlanAim}
 use Rattle.tapa_words.specs.declared.command.PlanMode.{PlanMode}
 use Rattle.run_program.specs.Laws as run
 use Rattle.tapa_drive.specs.Answer.{OfCommand, OfRun, OfBuild, OfPlan, OfTexts, OfCosim, source_in, most_in, HasProgram, IsRefusedIn, IsFaultyIn, HasBadData, HasDone, HasStopped, HasLimit, IsReached, IsTooLong, IsDone, HasCause, Leaves, IsAnswer}
@@ -65,10 +66,10 @@ module _ (words : List (List ℕ)) (files : Files) (reads : List ℕ → ℕ) (o
   not_asked h = let both : None ≡ Some (Run source top named limit) = sym h ∙ asked in cc
 
   -- no plan was asked for
-  not_planned : {P : List ℕ → List ℕ → List ℕ → PlanMode → Type 0} → OfPlan words P → ⊥
+  not_planned : {P : List ℕ → List ℕ → List ℕ → PlanMode → PlanAim → Type 0} → OfPlan words P → ⊥
   not_planned h =
-      let both : Some (Plan h.0 h.1 h.2 h.3) ≡ Some (Run source top named limit) = sym h.4 ∙ asked in
-      let one : Plan h.0 h.1 h.2 h.3 ≡ Run source top named limit = cc in
+      let both : Some (Plan h.0 h.1 h.2 h.3 h.4) ≡ Some (Run source top named limit) = sym h.5 ∙ asked in
+      let one : Plan h.0 h.1 h.2 h.3 h.4 ≡ Run source top named limit = cc in
       cc
 
   -- no circuit was asked for
@@ -232,8 +233,8 @@ module _ (words : List (List ℕ)) (before after : Outside) (none : command_of w
   not_run : {P : List ℕ → List ℕ → Option (List ℕ) → ℕ → Type 0} → OfRun words P → ⊥
   not_run h = let both : None ≡ Some (Run h.0 h.1 h.2 h.3) = sym none ∙ h.4 in cc
 
-  not_plan : {P : List ℕ → List ℕ → List ℕ → PlanMode → Type 0} → OfPlan words P → ⊥
-  not_plan h = let both : None ≡ Some (Plan h.0 h.1 h.2 h.3) = sym none ∙ h.4 in cc
+  not_plan : {P : List ℕ → List ℕ → List ℕ → PlanMode → PlanAim → Type 0} → OfPlan words P → ⊥
+  not_plan h = let both : None ≡ Some (Plan h.0 h.1 h.2 h.3 h.4) = sym none ∙ h.5 in cc
 
   not_a_build : {P : List ℕ → List ℕ → Type 0} → OfBuild words P → ⊥
   not_a_build h = let both : None ≡ Some (Build h.0 h.1) = sym none ∙ h.2 in cc

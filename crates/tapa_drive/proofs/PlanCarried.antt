@@ -1,33 +1,34 @@
 -- From what reading a source and a device file and planning give to what carrying the command of a plan out answers.
-use Rattle.std.proofs.Common.{◌≡◌, ◌≢◌, ◌≤◌, ℕ, List, Option, Some, Ok, Err, refl, ap, subst, inl, inr}
+use Rattle.std.proofs.Common.{◌≡◌, ◌≢◌, ◌≤◌, ℕ, List, Option, Some, Result, Err, IfOk, IfErr, refl, ap, subst, inl, inr}
 use Rattle.std.specs.Io.KnownBytes.{Appends}
-use Rattle.tapa_base.specs.Outside.{Files, Rose, AppendsPart}
+use Rattle.tapa_base.specs.Outside.{Files, AppendsPart}
 use Rattle.tapa_syntax.specs.declared.program.Program.{Program}
 use Rattle.tapa_words.specs.Words.{Command, Plan, command_of}
+use Rattle.tapa_words.specs.declared.command.PlanAim.{PlanAim}
 use Rattle.tapa_words.specs.declared.command.PlanMode.{PlanMode}
 use Rattle.task_graph.specs.declared.Graph.{Graph}
 use Rattle.task_graph.specs.Programs.{IsGraphOf}
 use Rattle.plan_device.specs.declared.device.Device.{Device as DeviceOf}
 use Rattle.plan_device.specs.Answer.{IsDeviceOf}
-use Rattle.run_program.specs.Ending.{joined}
-use Rattle.tapa_drive.specs.Answer.{OfTexts, HasProgram, HasCause, Leaves, ReadsAsked}
-use Rattle.tapa_drive.specs.Carried.{IsCarriedOut}
+use Rattle.slot_plan.specs.declared.floorplan.Plan.{Plan as FloorPlan}
+use Rattle.tapa_drive.specs.Answer.{OfTexts, HasProgram, HasCause, HasPartOf, IsDone, Leaves, ReadsAsked}
+use Rattle.tapa_drive.specs.Carried.{IsCarriedOut, IsUnwritten}
 use Rattle.tapa_drive.specs.Files.{OfSource, OfData}
 use Rattle.tapa_drive.specs.Found.{IsNoDevice}
 use Rattle.tapa_drive.specs.Meaning.{refusal_of}
 use Rattle.tapa_drive.specs.Outside.{Outside, Written, outside}
-use Rattle.tapa_drive.specs.Planned.{mode_of, ArePlanLines, IsUnplanned, HasDeviceFault, IsAskedOn, HasBadDevice, HasNoPlan, HasPlan}
+use Rattle.tapa_drive.specs.Planned.{mode_of, IsFound, IsToldBy, IsUnplanned, HasDeviceFault, IsAskedOn, HasBadDevice, HasNoPlan, HasPlan}
 use Rattle.tapa_drive.specs.Refusal.{Refusal, Usage, Read, Write, TooLong, Source, Data, Ticks, Stopped, Device, TooManyPlans, NoPlan, NoRoom, Verilog, DesignData, Undone, Memory, DeviceFault}
 use Rattle.tapa_drive.specs.Source.{IsProgramOf}
 use Rattle.tapa_drive.specs.declared.refusal.Refusal.{Refusal as CodeRefusal}
-use Rattle.tapa_drive.specs.declared.refusal.Refusal.TheVariants as code
 use Rattle.tapa_drive.proofs.Carried as carried
 use Rattle.tapa_drive.proofs.Counts.{rose_since, later_all}
+use Rattle.tapa_drive.proofs.Put.{WritesWhole, carried_out}
 use Rattle.tapa_drive.proofs.Sourced.{of_both}
 
-module _ (words : List (List ℕ)) (files : Option Files) (source top name : List ℕ) (mode : PlanMode) (asked : command_of words ≡ Some (Plan source top name mode)) (reads_old : List ℕ → ℕ) (old errors told : Written) (files_mid : Option Files) (reads_mid : List ℕ → ℕ) (same_mid : files_mid ≡ files) (later_mid : reads_old source ≤ reads_mid source) (others_mid : (other : List ℕ) → other ≢ source → reads_mid other ≡ reads_old other) (program : Program) (means : OfSource files source (λ text. IsProgramOf text top program)) (graph : Graph) (is_graph : IsGraphOf program graph) (files_new : Option Files) (reads_new : List ℕ → ℕ) (same_new : files_new ≡ files_mid) (others_new : (other : List ℕ) → Some name ≢ Some other → reads_new other ≡ reads_mid other) where
+module _ (words : List (List ℕ)) (files : Option Files) (source top name : List ℕ) (mode : PlanMode) (aim : PlanAim) (asked : command_of words ≡ Some (Plan source top name mode aim)) (reads_old : List ℕ → ℕ) (old errors told : Written) (files_mid : Option Files) (reads_mid : List ℕ → ℕ) (same_mid : files_mid ≡ files) (later_mid : reads_old source ≤ reads_mid source) (others_mid : (other : List ℕ) → other ≢ source → reads_mid other ≡ reads_old other) (program : Program) (means : OfSource files source (λ text. IsProgramOf text top program)) (graph : Graph) (is_graph : IsGraphOf program graph) (files_new : Option Files) (reads_new : List ℕ → ℕ) (same_new : files_new ≡ files_mid) (others_new : (other : List ℕ) → Some name ≢ Some other → reads_new other ≡ reads_mid other) where
   abbrev command : Command
-  command = Plan source top name mode
+  command = Plan source top name mode aim
 
   abbrev before : Outside
   before = outside files reads_old old errors
@@ -51,7 +52,7 @@ module _ (words : List (List ℕ)) (files : Option Files) (source top name : Lis
   no_device_cause (Data file fault) h = absurd h
   no_device_cause (Ticks most) h = absurd h
   no_device_cause (Stopped lines) h = absurd h
-  no_device_cause (Device file fault) h = (source, top, name, mode, asked, (h.0, bad_device fault h.1))
+  no_device_cause (Device file fault) h = (source, top, name, mode, aim, asked, (h.0, bad_device fault h.1))
   no_device_cause (TooManyPlans slots free) h = absurd h
   no_device_cause NoPlan h = absurd h
   no_device_cause (NoRoom label) h = absurd h
@@ -110,9 +111,9 @@ module _ (words : List (List ℕ)) (files : Option Files) (source top name : Lis
     unplanned_cause (Ticks most) h = absurd h
     unplanned_cause (Stopped lines) h = absurd h
     unplanned_cause (Device file fault) h = absurd h
-    unplanned_cause (TooManyPlans slots free) h = (source, top, name, mode, asked, no_plan (TooManyPlans slots free) h)
-    unplanned_cause NoPlan h = (source, top, name, mode, asked, no_plan NoPlan h)
-    unplanned_cause (NoRoom label) h = (source, top, name, mode, asked, no_plan (NoRoom label) h)
+    unplanned_cause (TooManyPlans slots free) h = (source, top, name, mode, aim, asked, no_plan (TooManyPlans slots free) h)
+    unplanned_cause NoPlan h = (source, top, name, mode, aim, asked, no_plan NoPlan h)
+    unplanned_cause (NoRoom label) h = (source, top, name, mode, aim, asked, no_plan (NoRoom label) h)
     unplanned_cause (Verilog file fault) h = absurd h
     unplanned_cause (DesignData file fault) h = absurd h
     unplanned_cause (Undone most) h = absurd h
@@ -144,25 +145,24 @@ module _ (words : List (List ℕ)) (files : Option Files) (source top name : Lis
       reads = reads_both old;
     }
 
-    module _ (lines : List (List ℕ)) (are : ArePlanLines graph device (mode_of mode) lines) (new : Written) where
+    module _ (plan : FloorPlan) (found : IsFound graph device (mode_of mode) plan) (new : Written) where
       abbrev after : Outside
       after = outside files_new reads_new new told
 
-      has_plan : (text bytes : List ℕ) → IsAskedOn text top bytes program graph device → HasPlan text top bytes (mode_of mode) lines
-      has_plan text bytes a = record { program = program; graph = graph; device = device; asked = a; are = are }
+      abbrev IsText : List ℕ → Type 0
+      IsText l = IsToldBy aim program graph device plan l
 
-      pub planned : {A : Type 0} (x : A) → Appends old.bytes new.bytes (joined lines) → IsCarriedOut words before after (Ok x)
-      planned x shown = record {
-        done = inr (inl (source, top, name, mode, asked, of_asked (λ text bytes. (told_lines : List (List ℕ)) × HasPlan text top bytes (mode_of mode) told_lines × Appends old.bytes new.bytes (joined told_lines)) (λ text bytes a. (lines, has_plan text bytes a, shown))));
-        cause = tt;
-        leaves = tt;
-        reads = reads_both new;
-      }
+      -- what holds of the text that was written holds of one for the source and the device
+      of_text : (R : List ℕ → Type 0) (l : List ℕ) → IsText l → R l → OfTexts files source (Some name) (λ text bytes. (by_plan : List ℕ) × HasPlan text top bytes (mode_of mode) aim by_plan × R by_plan)
+      of_text R l is r =
+          of_asked (λ text bytes. (by_plan : List ℕ) × HasPlan text top bytes (mode_of mode) aim by_plan × R by_plan)
+          (λ text bytes a. (l, record { program = program; graph = graph; device = device; asked = a; plan = plan; found = found; is = is }, r))
 
-      pub unwritten : {A : Type 0} → Rose old.failed new.failed → AppendsPart old.bytes new.bytes (joined lines) → IsCarriedOut {A = A} words before after (Err code.Write)
-      unwritten rose part = record {
-        done = tt;
-        cause = rose;
-        leaves = inr (inr (inl (source, top, name, mode, asked, of_asked (λ text bytes. (told_lines : List (List ℕ)) × HasPlan text top bytes (mode_of mode) told_lines × AppendsPart old.bytes new.bytes (joined told_lines)) (λ text bytes a. (lines, has_plan text bytes a, part)))));
-        reads = reads_both new;
-      }
+      planned : (l : List ℕ) → IsText l → Appends old.bytes new.bytes l → IsDone words before after
+      planned l is shown = inr (inl (source, top, name, mode, aim, asked, of_text (λ l. Appends old.bytes new.bytes l) l is shown))
+
+      has_part : (l : List ℕ) → IsText l → AppendsPart old.bytes new.bytes l → HasPartOf words before after
+      has_part l is part = inr (inr (inl (source, top, name, mode, aim, asked, of_text (λ l. AppendsPart old.bytes new.bytes l) l is part)))
+
+      pub put : {A : Type 0} (result : Result A CodeRefusal) → IfOk result (λ x. WritesWhole old new IsText) → IfErr result (λ r. IsUnwritten old new IsText (refusal_of r)) → IsCarriedOut words before after result
+      put result whole refused = carried_out words before after IsText planned has_part (reads_both new) result whole refused

@@ -4,8 +4,8 @@ use Rattle.std.specs.Io.KnownBytes.{Appends}
 use Rattle.tapa_base.specs.Outside.{Files, file_bytes, Rose}
 use Rattle.tapa_base.specs.Take.{IsLongerThan}
 use Rattle.tapa_words.specs.Words.{Run, Build, Plan, Cosim, command_of}
+use Rattle.tapa_words.specs.declared.command.PlanAim.{PlanAim}
 use Rattle.tapa_words.specs.declared.command.PlanMode.{PlanMode}
-use Rattle.run_program.specs.Ending.{joined}
 use Rattle.tapa_drive.specs.Answer.{OfRun, OfBuild, OfPlan, OfTexts, OfCosim, source_in, most_in, HasProgram, IsRefusedIn, IsFaultyIn, IsReached, IsTooLong, IsDone, HasCause, Leaves, IsAnswer}
 use Rattle.tapa_drive.specs.Decided.{NothingFails}
 use Rattle.tapa_drive.specs.Files.{OfFile, OfSource, source_limit, data_limit}
@@ -21,53 +21,54 @@ use Rattle.tapa_drive.proofs.Decided.{asked_of, of_source}
 use Rattle.tapa_drive.proofs.Sourced.{means_nothing}
 
 -- a plan that was asked for is the one that the words ask for
-asked_plan : (words : List (List ℕ)) (source top name : List ℕ) (mode : PlanMode) → command_of words ≡ Some (Plan source top name mode) → (P : List ℕ → List ℕ → List ℕ → PlanMode → Type 0) → OfPlan words P → P source top name mode
-asked_plan words source top name mode asked P h =
-    let both : Some (Plan h.0 h.1 h.2 h.3) ≡ Some (Plan source top name mode) = sym h.4 ∙ asked in
+asked_plan : (words : List (List ℕ)) (source top name : List ℕ) (mode : PlanMode) (aim : PlanAim) → command_of words ≡ Some (Plan source top name mode aim) → (P : List ℕ → List ℕ → List ℕ → PlanMode → PlanAim → Type 0) → OfPlan words P → P source top name mode aim
+asked_plan words source top name mode aim asked P h =
+    let both : Some (Plan h.0 h.1 h.2 h.3 h.4) ≡ Some (Plan source top name mode aim) = sym h.5 ∙ asked in
     let one : h.0 ≡ source = cc in
     let two : h.1 ≡ top = cc in
     let three : h.2 ≡ name = cc in
     let four : h.3 ≡ mode = cc in
-    subst (λ (s : List ℕ). P s top name mode) one (subst (λ (t : List ℕ). P h.0 t name mode) two (subst (λ (d : List ℕ). P h.0 h.1 d mode) three (subst (λ (m : PlanMode). P h.0 h.1 h.2 m) four h.5)))
+    let five : h.4 ≡ aim = cc in
+    subst (λ (s : List ℕ). P s top name mode aim) one (subst (λ (t : List ℕ). P h.0 t name mode aim) two (subst (λ (d : List ℕ). P h.0 h.1 d mode aim) three (subst (λ (m : PlanMode). P h.0 h.1 h.2 m aim) four (subst (λ (a : PlanAim). P h.0 h.1 h.2 h.3 a) five h.6))))
 
-module _ (words : List (List ℕ)) (files : Files) (reads : List ℕ → ℕ) (out errors : Written) (after : Outside) (source top name : List ℕ) (mode : PlanMode) (asked : command_of words ≡ Some (Plan source top name mode)) (still : NothingFails source (Some name) (outside (Some files) reads out errors) after) where
+module _ (words : List (List ℕ)) (files : Files) (reads : List ℕ → ℕ) (out errors : Written) (after : Outside) (source top name : List ℕ) (mode : PlanMode) (aim : PlanAim) (asked : command_of words ≡ Some (Plan source top name mode aim)) (still : NothingFails source (Some name) (outside (Some files) reads out errors) after) where
   abbrev before : Outside
   before = outside (Some files) reads out errors
 
   not_asked : command_of words ≡ None → ⊥
-  not_asked h = let both : None ≡ Some (Plan source top name mode) = sym h ∙ asked in cc
+  not_asked h = let both : None ≡ Some (Plan source top name mode aim) = sym h ∙ asked in cc
 
   -- no run was asked for
   not_run : {P : List ℕ → List ℕ → Option (List ℕ) → ℕ → Type 0} → OfRun words P → ⊥
   not_run h =
-      let both : Some (Run h.0 h.1 h.2 h.3) ≡ Some (Plan source top name mode) = sym h.4 ∙ asked in
-      let one : Run h.0 h.1 h.2 h.3 ≡ Plan source top name mode = cc in
+      let both : Some (Run h.0 h.1 h.2 h.3) ≡ Some (Plan source top name mode aim) = sym h.4 ∙ asked in
+      let one : Run h.0 h.1 h.2 h.3 ≡ Plan source top name mode aim = cc in
       cc
 
   -- no simulation was asked for
   not_built : {P : List ℕ → List ℕ → Type 0} → OfBuild words P → ⊥
   not_built h =
-      let both : Some (Build h.0 h.1) ≡ Some (Plan source top name mode) = sym h.2 ∙ asked in
-      let one : Build h.0 h.1 ≡ Plan source top name mode = cc in
+      let both : Some (Build h.0 h.1) ≡ Some (Plan source top name mode aim) = sym h.2 ∙ asked in
+      let one : Build h.0 h.1 ≡ Plan source top name mode aim = cc in
       cc
 
   not_cosim : {P : List ℕ → Option (List ℕ) → ℕ → Type 0} → OfCosim words P → ⊥
   not_cosim h =
-      let both : Some (Cosim h.0 h.1 h.2) ≡ Some (Plan source top name mode) = sym h.3 ∙ asked in
-      let one : Cosim h.0 h.1 h.2 ≡ Plan source top name mode = cc in
+      let both : Some (Cosim h.0 h.1 h.2) ≡ Some (Plan source top name mode aim) = sym h.3 ∙ asked in
+      let one : Cosim h.0 h.1 h.2 ≡ Plan source top name mode aim = cc in
       cc
 
   -- no Verilog text was read
   not_faulty : (file : List ℕ) (fault : VerilogFault) → HasCause words before after (Verilog file fault) → ⊥
   not_faulty file fault h =
-      let c = asked_of words (Plan source top name mode) asked (λ a. (source_in a ≡ file) × OfFile (Some files) (most_in a) file (λ text. IsFaultyIn a text fault)) h in
+      let c = asked_of words (Plan source top name mode aim) asked (λ a. (source_in a ≡ file) × OfFile (Some files) (most_in a) file (λ text. IsFaultyIn a text fault)) h in
       let w : OfSource (Some files) file (λ text. ⊥) = c.1 in
       w.3
 
   -- no read failed
   no_read : (file : List ℕ) → HasCause words before after (Read file) → ⊥
   no_read file h =
-      let c = asked_of words (Plan source top name mode) asked (λ a. IsReached (Some files) a file × Rose (reads file) (after.failed_reads file)) h in
+      let c = asked_of words (Plan source top name mode aim) asked (λ a. IsReached (Some files) a file × Rose (reads file) (after.failed_reads file)) h in
       ⊎_elim
       (λ (e : source ≡ file). still.read (subst (λ (f : List ℕ). Rose (reads f) (after.failed_reads f)) (sym e) c.1))
       (λ (w : (Some name ≡ Some file) × OfSource (Some files) source (λ (t : List ℕ). HasProgram t top)). still.read_data file w.0 c.1)
@@ -79,11 +80,11 @@ module _ (words : List (List ℕ)) (files : Files) (reads : List ℕ → ℕ) (o
 
   module _ (can : IsPlannable (file_bytes files source) top (file_bytes files name)) (result : Status) where
     abbrev Meets : Type 0
-    Meets = TellsPlanOf (file_bytes files source) top (file_bytes files name) (mode_of mode) result before after ⊎ (result ≡ status.Memory)
+    Meets = TellsPlanOf (file_bytes files source) top (file_bytes files name) (mode_of mode) aim result before after ⊎ (result ≡ status.Memory)
 
-    no_plan : (why : Refusal) → OfPlan words (λ s t d m. OfTexts (Some files) s (Some d) (λ text bytes. HasNoPlan text t bytes (mode_of m) why)) → after.out.bytes ≡ out.bytes → IsTold why result errors after.err → Meets
+    no_plan : (why : Refusal) → OfPlan words (λ s t d m a. OfTexts (Some files) s (Some d) (λ text bytes. HasNoPlan text t bytes (mode_of m) why)) → after.out.bytes ≡ out.bytes → IsTold why result errors after.err → Meets
     no_plan why h quiet told =
-        let c = asked_plan words source top name mode asked (λ s t d m. OfTexts (Some files) s (Some d) (λ text bytes. HasNoPlan text t bytes (mode_of m) why)) h in
+        let c = asked_plan words source top name mode aim asked (λ s t d m a. OfTexts (Some files) s (Some d) (λ text bytes. HasNoPlan text t bytes (mode_of m) why)) h in
         inl (inr (why, of_texts (λ text bytes. HasNoPlan text top bytes (mode_of mode) why) c, record { told = told; quiet = quiet }))
 
     of_reason : (why : Refusal) → HasCause words before after why → Leaves words before after why → IsTold why result errors after.err → Meets
@@ -91,7 +92,7 @@ module _ (words : List (List ℕ)) (files : Files) (reads : List ℕ → ℕ) (o
     of_reason (Read file) h leaves told = absurd (no_read file h)
     of_reason Write h leaves told = absurd (still.writes.written h)
     of_reason (TooLong file most) h leaves told =
-        let c = asked_of words (Plan source top name mode) asked (λ a. IsTooLong (Some files) a file most) h in
+        let c = asked_of words (Plan source top name mode aim) asked (λ a. IsTooLong (Some files) a file most) h in
         let short = can.short in
         let few = can.few in
         ⊎_elim {C = Meets}
@@ -105,14 +106,14 @@ module _ (words : List (List ℕ)) (files : Files) (reads : List ℕ → ℕ) (o
         absurd (omega (arith, few, long)))
         c
     of_reason (Source file place code) h leaves told =
-        let c = asked_of words (Plan source top name mode) asked (λ a. (source_in a ≡ file) × OfFile (Some files) (most_in a) file (λ text. IsRefusedIn a text place code)) h in
+        let c = asked_of words (Plan source top name mode aim) asked (λ a. (source_in a ≡ file) × OfFile (Some files) (most_in a) file (λ text. IsRefusedIn a text place code)) h in
         let refused : IsRefusedSource (file_bytes files source) top place code = subst (λ (f : List ℕ). IsRefusedSource (file_bytes files f) top place code) (sym c.0) (of_source files file (λ (t : List ℕ). IsRefusedSource t top place code) c.1) in
         absurd (means_nothing (file_bytes files source) top place code refused can.legal.program can.legal.means)
     of_reason (Data file fault) h leaves told = absurd (not_run h)
     of_reason (Ticks most) h leaves told = absurd (not_run h)
     of_reason (Stopped lines) h leaves told = absurd (not_run h)
     of_reason (Device file fault) h leaves told =
-        let c = asked_plan words source top name mode asked (λ s t d m. (d ≡ file) × OfTexts (Some files) s (Some d) (λ text bytes. HasBadDevice text t bytes fault)) h in
+        let c = asked_plan words source top name mode aim asked (λ s t d m a. (d ≡ file) × OfTexts (Some files) s (Some d) (λ text bytes. HasBadDevice text t bytes fault)) h in
         absurd (can.faultless fault (of_texts (λ text bytes. HasBadDevice text top bytes fault) c.1))
     of_reason (TooManyPlans slots free) h leaves told = no_plan (TooManyPlans slots free) h leaves told
     of_reason NoPlan h leaves told = no_plan NoPlan h leaves told
@@ -130,14 +131,14 @@ module _ (words : List (List ℕ)) (files : Files) (reads : List ℕ → ℕ) (o
     of_ok (inr (inr (inl p))) is same = absurd (not_cosim p)
     of_ok (inr (inr (inr b))) is same = absurd (not_built b)
     of_ok (inr (inl h)) is same =
-        let c = asked_plan words source top name mode asked (λ s t d m. OfTexts (Some files) s (Some d) (λ text bytes. (lines : List (List ℕ)) × HasPlan text t bytes (mode_of m) lines × Appends out.bytes after.out.bytes (joined lines))) h in
-        let p = of_texts (λ text bytes. (lines : List (List ℕ)) × HasPlan text top bytes (mode_of mode) lines × Appends out.bytes after.out.bytes (joined lines)) c in
+        let c = asked_plan words source top name mode aim asked (λ s t d m a. OfTexts (Some files) s (Some d) (λ text bytes. (told : List ℕ) × HasPlan text t bytes (mode_of m) a told × Appends out.bytes after.out.bytes told)) h in
+        let p = of_texts (λ text bytes. (told : List ℕ) × HasPlan text top bytes (mode_of mode) aim told × Appends out.bytes after.out.bytes told) c in
         inl (inl (p.0, p.1, is, p.2, same))
 
-pub plan_decided : (words : List (List ℕ)) (files : Option Files) (reads : List ℕ → ℕ) (out errors : Written) (after : Outside) (source top name : List ℕ) (mode : PlanMode) → command_of words ≡ Some (Plan source top name mode) → ArePlannable files source top name → NothingFails source (Some name) (outside files reads out errors) after → (result : Status) → IsAnswer words (outside files reads out errors) after result → (result ≡ status.Ok → after.err.bytes ≡ errors.bytes) → TellsPlan files source top name (mode_of mode) result (outside files reads out errors) after ⊎ (result ≡ status.Memory)
-plan_decided words None reads out errors after source top name mode asked can still result h same = absurd can
-plan_decided words (Some files) reads out errors after source top name mode asked can still status.Ok h same =
-    of_ok words files reads out errors after source top name mode asked still can status.Ok (h.ok refl) refl (same refl)
-plan_decided words (Some files) reads out errors after source top name mode asked can still result h same =
+pub plan_decided : (words : List (List ℕ)) (files : Option Files) (reads : List ℕ → ℕ) (out errors : Written) (after : Outside) (source top name : List ℕ) (mode : PlanMode) (aim : PlanAim) → command_of words ≡ Some (Plan source top name mode aim) → ArePlannable files source top name → NothingFails source (Some name) (outside files reads out errors) after → (result : Status) → IsAnswer words (outside files reads out errors) after result → (result ≡ status.Ok → after.err.bytes ≡ errors.bytes) → TellsPlan files source top name (mode_of mode) aim result (outside files reads out errors) after ⊎ (result ≡ status.Memory)
+plan_decided words None reads out errors after source top name mode aim asked can still result h same = absurd can
+plan_decided words (Some files) reads out errors after source top name mode aim asked can still status.Ok h same =
+    of_ok words files reads out errors after source top name mode aim asked still can status.Ok (h.ok refl) refl (same refl)
+plan_decided words (Some files) reads out errors after source top name mode aim asked can still result h same =
     let t = h.told (λ e. cc) in
-    of_told words files reads out errors after source top name mode asked still can result t.0 t.1 t.2 t.3
+    of_told words files reads out errors after source top name mode aim asked still can result t.0 t.1 t.2 t.3

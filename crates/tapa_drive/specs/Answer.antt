@@ -6,8 +6,9 @@ use Rattle.tapa_base.specs.Outside.{Files, Rose, AppendsPart}
 use Rattle.tapa_base.specs.Take.{IsLongerThan}
 use Rattle.tapa_syntax.specs.declared.program.Program.{Program}
 use Rattle.tapa_words.specs.Words.{Command, Run, Build, Plan, Cosim, command_of}
+use Rattle.tapa_words.specs.declared.command.PlanAim.{PlanAim}
 use Rattle.tapa_words.specs.declared.command.PlanMode.{PlanMode}
-use Rattle.run_program.specs.Ending.{IsReportOf, joined}
+use Rattle.run_program.specs.Ending.{IsReportOf}
 use Rattle.run_program.specs.Run.{Values, DoneRun, StoppedRun, LimitRun}
 use Rattle.tapa_drive.specs.Built.{HasCircuit}
 use Rattle.tapa_drive.specs.Designs.{HasDesign, IsRefusedText, HasBadDesignData, HasSimulated, HasCosimmed, HasUndone}
@@ -31,19 +32,19 @@ OfCommand words P = (command : Command) × (command_of words ≡ Some command) �
 abbrev pub source_in : Command → List ℕ
 source_in (Run source top given limit) = source
 source_in (Build source top) = source
-source_in (Plan source top device mode) = source
+source_in (Plan source top device mode aim) = source
 source_in (Cosim text given limit) = text
 
 abbrev pub most_in : Command → ℕ
 most_in (Run source top given limit) = source_limit
 most_in (Build source top) = source_limit
-most_in (Plan source top device mode) = source_limit
+most_in (Plan source top device mode aim) = source_limit
 most_in (Cosim text given limit) = verilog_limit
 
 abbrev pub file_in : Command → Option (List ℕ)
 file_in (Run source top given limit) = given
 file_in (Build source top) = None
-file_in (Plan source top device mode) = Some device
+file_in (Plan source top device mode aim) = Some device
 file_in (Cosim text given limit) = given
 
 -- the words ask for a run of a source and a task, with a file of data where one is named, and with a limit on its ticks,
@@ -61,10 +62,10 @@ OfCosim words P = (text : List ℕ) × (given : Option (List ℕ)) × (limit : �
 abbrev pub OfBuild : List (List ℕ) → (List ℕ → List ℕ → Type 0) → Type 0
 OfBuild words P = (source : List ℕ) × (top : List ℕ) × (command_of words ≡ Some (Build source top)) × P source top
 
--- the words ask for a plan of a source's task on the device of a file, by a mode, of which this holds
-abbrev pub OfPlan : List (List ℕ) → (List ℕ → List ℕ → List ℕ → PlanMode → Type 0) → Type 0
+-- the words ask for a plan of a source's task on the device of a file, by a mode, or for the circuit by it, of which this holds
+abbrev pub OfPlan : List (List ℕ) → (List ℕ → List ℕ → List ℕ → PlanMode → PlanAim → Type 0) → Type 0
 OfPlan words P =
-    (source : List ℕ) × (top : List ℕ) × (device : List ℕ) × (mode : PlanMode) × (command_of words ≡ Some (Plan source top device mode)) × P source top device mode
+    (source : List ℕ) × (top : List ℕ) × (device : List ℕ) × (mode : PlanMode) × (aim : PlanAim) × (command_of words ≡ Some (Plan source top device mode aim)) × P source top device mode aim
 
 -- this holds of the bytes of the source and of the data: of those that are told, and else of some
 abbrev pub OfTexts : Option Files → List ℕ → Option (List ℕ) → (List ℕ → List ℕ → Type 0) → Type 0
@@ -126,21 +127,21 @@ pub record HasLimit (text top bytes : List ℕ) (limit : ℕ) : Type 0 where
 abbrev pub IsTaken : Command → List ℕ → Type 0
 IsTaken (Run source top given limit) text = HasProgram text top
 IsTaken (Build source top) text = HasProgram text top
-IsTaken (Plan source top device mode) text = HasProgram text top
+IsTaken (Plan source top device mode aim) text = HasProgram text top
 IsTaken (Cosim name given limit) text = HasDesign text
 
 -- the command is one of a source, and the source is refused so
 abbrev pub IsRefusedIn : Command → List ℕ → Place → SourceCode → Type 0
 IsRefusedIn (Run source top given limit) text place code = IsRefusedSource text top place code
 IsRefusedIn (Build source top) text place code = IsRefusedSource text top place code
-IsRefusedIn (Plan source top device mode) text place code = IsRefusedSource text top place code
+IsRefusedIn (Plan source top device mode aim) text place code = IsRefusedSource text top place code
 IsRefusedIn (Cosim name given limit) text place code = ⊥
 
 -- the command is one of a Verilog text, and the text is refused so
 abbrev pub IsFaultyIn : Command → List ℕ → VerilogFault → Type 0
 IsFaultyIn (Run source top given limit) text fault = ⊥
 IsFaultyIn (Build source top) text fault = ⊥
-IsFaultyIn (Plan source top device mode) text fault = ⊥
+IsFaultyIn (Plan source top device mode aim) text fault = ⊥
 IsFaultyIn (Cosim name given limit) text fault = IsRefusedText text fault
 
 -- the file is the source or the text, or the further file of one that is taken
@@ -163,10 +164,10 @@ HasCause words before after (Source file place code) = OfCommand words (λ c. (s
 HasCause words before after (Data file fault) = OfRun words (λ source top given limit. (shown_name given ≡ file) × OfTexts before.files source given (λ text bytes. HasBadData text top bytes fault))
 HasCause words before after (Ticks most) = OfRun words (λ source top given limit. (most ≡ limit) × OfTexts before.files source given (λ text bytes. HasLimit text top bytes limit))
 HasCause words before after (Stopped lines) = OfRun words (λ source top given limit. OfTexts before.files source given (λ text bytes. HasStopped text top bytes limit lines before.out.bytes after.out.bytes))
-HasCause words before after (Device file fault) = OfPlan words (λ source top device mode. (device ≡ file) × OfTexts before.files source (Some device) (λ text bytes. HasBadDevice text top bytes fault))
-HasCause words before after (TooManyPlans slots free) = OfPlan words (λ source top device mode. OfTexts before.files source (Some device) (λ text bytes. HasNoPlan text top bytes (mode_of mode) (TooManyPlans slots free)))
-HasCause words before after NoPlan = OfPlan words (λ source top device mode. OfTexts before.files source (Some device) (λ text bytes. HasNoPlan text top bytes (mode_of mode) NoPlan))
-HasCause words before after (NoRoom label) = OfPlan words (λ source top device mode. OfTexts before.files source (Some device) (λ text bytes. HasNoPlan text top bytes (mode_of mode) (NoRoom label)))
+HasCause words before after (Device file fault) = OfPlan words (λ source top device mode aim. (device ≡ file) × OfTexts before.files source (Some device) (λ text bytes. HasBadDevice text top bytes fault))
+HasCause words before after (TooManyPlans slots free) = OfPlan words (λ source top device mode aim. OfTexts before.files source (Some device) (λ text bytes. HasNoPlan text top bytes (mode_of mode) (TooManyPlans slots free)))
+HasCause words before after NoPlan = OfPlan words (λ source top device mode aim. OfTexts before.files source (Some device) (λ text bytes. HasNoPlan text top bytes (mode_of mode) NoPlan))
+HasCause words before after (NoRoom label) = OfPlan words (λ source top device mode aim. OfTexts before.files source (Some device) (λ text bytes. HasNoPlan text top bytes (mode_of mode) (NoRoom label)))
 HasCause words before after (Verilog file fault) = OfCommand words (λ c. (source_in c ≡ file) × OfFile before.files (most_in c) file (λ text. IsFaultyIn c text fault))
 HasCause words before after (DesignData file fault) = OfCosim words (λ name given limit. (shown_name given ≡ file) × OfDesignTexts before.files name given (λ text bytes. HasBadDesignData text bytes fault))
 HasCause words before after (Undone most) = OfCosim words (λ name given limit. (most ≡ limit) × OfDesignTexts before.files name given (λ text bytes. HasUndone text bytes limit before.out.bytes after.out.bytes))
@@ -176,10 +177,10 @@ HasCause words before after Memory = ⊤
 abbrev pub IsRun : List (List ℕ) → Outside → Outside → Type 0
 IsRun words before after = OfRun words (λ source top given limit. OfTexts before.files source given (λ text bytes. HasDone text top bytes limit before.out.bytes after.out.bytes))
 
--- the lines of a plan of the source's program were written
+-- what is told by a plan of the source's program was written: its lines, or the text of a circuit
 abbrev pub IsPlanned : List (List ℕ) → Outside → Outside → Type 0
 IsPlanned words before after =
-    OfPlan words (λ source top device mode. OfTexts before.files source (Some device) (λ text bytes. (lines : List (List ℕ)) × HasPlan text top bytes (mode_of mode) lines × Appends before.out.bytes after.out.bytes (joined lines)))
+    OfPlan words (λ source top device mode aim. OfTexts before.files source (Some device) (λ text bytes. (told : List ℕ) × HasPlan text top bytes (mode_of mode) aim told × Appends before.out.bytes after.out.bytes told))
 
 -- the design of the Verilog text was done in one of the cycles, and the report up to there was written
 abbrev pub IsCosimmed : List (List ℕ) → Outside → Outside → Type 0
@@ -187,7 +188,7 @@ IsCosimmed words before after = OfCosim words (λ name given limit. OfDesignText
 
 -- the text of the circuit of the source's program was written
 abbrev pub IsBuilt : List (List ℕ) → Outside → Outside → Type 0
-IsBuilt words before after = OfBuild words (λ source top. OfSource before.files source (λ text. (lines : List ℕ) × HasCircuit text top lines × Appends before.out.bytes after.out.bytes lines))
+IsBuilt words before after = OfBuild words (λ source top. OfSource before.files source (λ text. (told : List ℕ) × HasCircuit text top told × Appends before.out.bytes after.out.bytes told))
 
 -- the command did what it is for
 abbrev pub IsDone : List (List ℕ) → Outside → Outside → Type 0
@@ -198,9 +199,9 @@ abbrev pub HasPartOf : List (List ℕ) → Outside → Outside → Type 0
 HasPartOf words before after =
     (after.out.bytes ≡ before.out.bytes)
     ⊎ (OfRun words (λ source top given limit. OfTexts before.files source given (λ text bytes. (report : List ℕ) × IsReportOfSource text top bytes limit report × AppendsPart before.out.bytes after.out.bytes report))
-    ⊎ (OfPlan words (λ source top device mode. OfTexts before.files source (Some device) (λ text bytes. (lines : List (List ℕ)) × HasPlan text top bytes (mode_of mode) lines × AppendsPart before.out.bytes after.out.bytes (joined lines)))
+    ⊎ (OfPlan words (λ source top device mode aim. OfTexts before.files source (Some device) (λ text bytes. (told : List ℕ) × HasPlan text top bytes (mode_of mode) aim told × AppendsPart before.out.bytes after.out.bytes told))
     ⊎ (OfCosim words (λ name given limit. OfDesignTexts before.files name given (λ text bytes. (done_at : Option ℕ) × (report : List ℕ) × HasSimulated text bytes limit done_at report × AppendsPart before.out.bytes after.out.bytes report))
-    ⊎ OfBuild words (λ source top. OfSource before.files source (λ text. (lines : List ℕ) × HasCircuit text top lines × AppendsPart before.out.bytes after.out.bytes lines)))))
+    ⊎ OfBuild words (λ source top. OfSource before.files source (λ text. (told : List ℕ) × HasCircuit text top told × AppendsPart before.out.bytes after.out.bytes told)))))
 
 -- what stands in the output after a call that tells this refusal
 abbrev pub Leaves : List (List ℕ) → Outside → Outside → Refusal → Type 0

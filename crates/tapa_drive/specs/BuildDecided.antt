@@ -17,7 +17,7 @@ use Rattle.tapa_drive.specs.declared.status.Status.TheVariants.{Ok}
 -- or that it has more bytes than it may
 abbrev pub TellsBuildOf : List ℕ → List ℕ → List ℕ → Status → Outside → Outside → Type 0
 TellsBuildOf source text top status before after =
-    ((length text ≤ source_limit) × ((lines : List ℕ) × HasCircuit text top lines × (status ≡ Ok) × Appends before.out.bytes after.out.bytes lines × (after.err.bytes ≡ before.err.bytes)))
+    ((length text ≤ source_limit) × ((told : List ℕ) × HasCircuit text top told × (status ≡ Ok) × Appends before.out.bytes after.out.bytes told × (after.err.bytes ≡ before.err.bytes)))
     ⊎ (((length text ≤ source_limit) × ((place : Place) × (code : SourceCode) × IsRefusedSource text top place code × IsRefusedWith (Source source place code) status before after))
     ⊎ ((source_limit < length text) × IsRefusedWith (TooLong source source_limit) status before after))
 

@@ -6,10 +6,14 @@ use Rattle.vlog_tree.specs.Spelling.{spelling}
 use Rattle.hw_design.specs.Circuits.{IsCircuitOf}
 use Rattle.tapa_drive.specs.Source.{IsProgramOf}
 
--- no latency is added to the streams: each has a FIFO alone
-pub record HasCircuit (text top lines : List ℕ) : Type 0 where
+-- the text of a circuit of a program, to whose streams these latencies are added
+pub record IsCircuitText (program : Program) (added text : List ℕ) : Type 0 where
+  pub design : DesignTree
+  pub circuit : IsCircuitOf program added design
+  pub told : text ≡ spelling design.modules
+
+-- without a device no latency is added to the streams: each has a FIFO alone
+pub record HasCircuit (text top told : List ℕ) : Type 0 where
   pub program : Program
   pub means : IsProgramOf text top program
-  pub design : DesignTree
-  pub circuit : IsCircuitOf program [] design
-  pub told : lines ≡ spelling design.modules
+  pub is : IsCircuitText program [] told

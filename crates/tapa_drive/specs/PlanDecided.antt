@@ -2,7 +2,7 @@
 use Rattle.std.specs.Prelude.{◌≡◌, ◌≤◌, ◌⊎◌, ℕ, List, length, Option, Some, None}
 use Rattle.std.specs.Io.KnownBytes.{Appends}
 use Rattle.tapa_base.specs.Outside.{Files, file_bytes}
-use Rattle.run_program.specs.Ending.{joined}
+use Rattle.tapa_words.specs.declared.command.PlanAim.{PlanAim}
 use Rattle.slot_plan.specs.declared.floorplan.Mode.{Mode}
 use Rattle.tapa_drive.specs.Answer.{HasProgram}
 use Rattle.tapa_drive.specs.Decided.{IsRefusedWith}
@@ -26,12 +26,12 @@ abbrev pub ArePlannable : Option Files → List ℕ → List ℕ → List ℕ �
 ArePlannable None source top device = ⊥
 ArePlannable (Some files) source top device = IsPlannable (file_bytes files source) top (file_bytes files device)
 
--- the lines of a plan by the mode are written whole, or it is told why there is none
-abbrev pub TellsPlanOf : List ℕ → List ℕ → List ℕ → Mode → Status → Outside → Outside → Type 0
-TellsPlanOf text top bytes mode status before after =
-    ((lines : List (List ℕ)) × HasPlan text top bytes mode lines × (status ≡ Ok) × Appends before.out.bytes after.out.bytes (joined lines) × (after.err.bytes ≡ before.err.bytes))
+-- what is told by a plan by the mode is written whole, or it is told why there is none
+abbrev pub TellsPlanOf : List ℕ → List ℕ → List ℕ → Mode → PlanAim → Status → Outside → Outside → Type 0
+TellsPlanOf text top bytes mode aim status before after =
+    ((told : List ℕ) × HasPlan text top bytes mode aim told × (status ≡ Ok) × Appends before.out.bytes after.out.bytes told × (after.err.bytes ≡ before.err.bytes))
     ⊎ ((why : Refusal) × HasNoPlan text top bytes mode why × IsRefusedWith why status before after)
 
-abbrev pub TellsPlan : Option Files → List ℕ → List ℕ → List ℕ → Mode → Status → Outside → Outside → Type 0
-TellsPlan None source top device mode status before after = ⊥
-TellsPlan (Some files) source top device mode status before after = TellsPlanOf (file_bytes files source) top (file_bytes files device) mode status before after
+abbrev pub TellsPlan : Option Files → List ℕ → List ℕ → List ℕ → Mode → PlanAim → Status → Outside → Outside → Type 0
+TellsPlan None source top device mode aim status before after = ⊥
+TellsPlan (Some files) source top device mode aim status before after = TellsPlanOf (file_bytes files source) top (file_bytes files device) mode aim status before after

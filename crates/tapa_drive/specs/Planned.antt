@@ -1,6 +1,8 @@
 -- What the plan of a source's program on a device is, and why there is none.
-use Rattle.std.specs.Prelude.{◌≡◌, ℕ, List, [], ⊤, slice_get, unwrap_or, None, Some}
+use Rattle.std.specs.Prelude.{◌≡◌, ℕ, Bool, List, [], ⊤, slice_get, unwrap_or, None, Some}
 use Rattle.tapa_syntax.specs.declared.program.Program.{Program}
+use Rattle.tapa_words.specs.declared.command.PlanAim.{PlanAim}
+use Rattle.tapa_words.specs.declared.command.PlanAim.TheVariants.{Lines, Circuit}
 use Rattle.tapa_words.specs.declared.command.PlanMode.{PlanMode}
 use Rattle.tapa_words.specs.declared.command.PlanMode.TheVariants as words_mode
 use Rattle.task_graph.specs.declared.Graph.{Graph}
@@ -18,8 +20,11 @@ use Rattle.slot_plan.specs.declared.floorplan.Plan.{Plan}
 use Rattle.slot_plan.specs.declared.floorplan.PlanFault.TheVariants.{NoFit, TooMany}
 use Rattle.slot_plan.specs.Causes.{IsPlanBy, IsCause, AreUsed}
 use Rattle.slot_plan.specs.Plan.{cost}
+use Rattle.plan_latency.specs.Added.{AreAdded}
 use Rattle.plan_latency.specs.Borders.{AreBorderLatencies}
 use Rattle.plan_report.specs.Lines.{plan_lines}
+use Rattle.run_program.specs.Ending.{joined}
+use Rattle.tapa_drive.specs.Built.{IsCircuitText}
 use Rattle.tapa_drive.specs.Refusal.{Refusal, DeviceFault, NoJson, HasFault, TooManyPlans, NoPlan, NoRoom, Memory}
 use Rattle.tapa_drive.specs.Source.{IsProgramOf}
 
@@ -37,13 +42,26 @@ pub record AreLinesOf (graph : Graph) (device : Device) (plan : Plan) (lines : L
   pub best : IsBalance graph latencies balance
   pub told : lines ≡ plan_lines graph device plan latencies balance
 
--- and the plan is one by a mode, with what its slots use and what it costs
-pub record ArePlanLines (graph : Graph) (device : Device) (mode : Mode) (lines : List (List ℕ)) : Type 0 where
-  pub plan : Plan
+-- the plan is one by a mode, with what its slots use and what it costs
+pub record IsFound (graph : Graph) (device : Device) (mode : Mode) (plan : Plan) : Type 0 where
   pub by : IsPlanBy graph device mode plan.slot.items
   pub used : AreUsed graph device plan.slot.items plan.used.items
   pub cost : plan.cost ≡ cost graph device plan.slot.items
-  pub of_plan : AreLinesOf graph device plan lines
+
+-- the text of the circuit of a program with the latencies that a plan adds to its streams, balanced or not
+pub record IsCircuitBy (program : Program) (graph : Graph) (device : Device) (plan : Plan) (balanced : Bool) (told : List ℕ) : Type 0 where
+  pub added : List ℕ
+  pub are : AreAdded graph device plan.slot.items balanced added
+  pub is : IsCircuitText program added told
+
+-- the text of the lines of a plan
+abbrev pub IsPlanText : Graph → Device → Plan → List ℕ → Type 0
+IsPlanText graph device plan told = (lines : List (List ℕ)) × AreLinesOf graph device plan lines × (told ≡ joined lines)
+
+-- what is told by a plan: its lines, or a circuit
+abbrev pub IsToldBy : PlanAim → Program → Graph → Device → Plan → List ℕ → Type 0
+IsToldBy Lines program graph device plan told = IsPlanText graph device plan told
+IsToldBy (Circuit balanced) program graph device plan told = IsCircuitBy program graph device plan balanced told
 
 -- the label of a group's first instance
 abbrev pub first_label : Graph → ℕ → List ℕ
@@ -84,10 +102,12 @@ pub record HasNoPlan (text top bytes : List ℕ) (mode : Mode) (why : Refusal) :
   pub asked : IsAskedOn text top bytes program graph device
   pub is : IsUnplanned graph device mode why
 
--- the lines of a plan of the source's program on the device
-pub record HasPlan (text top bytes : List ℕ) (mode : Mode) (lines : List (List ℕ)) : Type 0 where
+-- what is told by a plan of the source's program on the device
+pub record HasPlan (text top bytes : List ℕ) (mode : Mode) (aim : PlanAim) (told : List ℕ) : Type 0 where
   pub program : Program
   pub graph : Graph
   pub device : Device
   pub asked : IsAskedOn text top bytes program graph device
-  pub are : ArePlanLines graph device mode lines
+  pub plan : Plan
+  pub found : IsFound graph device mode plan
+  pub is : IsToldBy aim program graph device plan told

@@ -1,10 +1,14 @@
 // The circuit of a source's program.
-ghost use Rattle.std.specs.Prelude.{◌≡◌, ℕ, List, [], Some, IfOk};
+ghost use Rattle.std.specs.Prelude.{◌≡◌, ℕ, List, [], Some, IfOk, IfErr};
+ghost use Rattle.std.specs.Io.KnownBytes.{Appends};
 ghost use Rattle.tapa_syntax.specs.WellFormed.{IsWellFormed};
 ghost use Rattle.tapa_words.specs.Words.{command_of, Build};
 ghost use Rattle.hw_design.specs.Circuits.{IsCircuitOf};
+ghost use Rattle.top_law.specs.Designs.{AreShort};
 ghost use Rattle.top_law.specs.Legal.{HasOwnNames};
-ghost use Rattle.tapa_drive.specs.Carried.{IsCarriedOut};
+ghost use Rattle.tapa_drive.specs.Built.{IsCircuitText};
+ghost use Rattle.tapa_drive.specs.Carried.{IsCarriedOut, IsUnwritten};
+ghost use Rattle.tapa_drive.specs.Meaning.{refusal_of};
 ghost use Rattle.tapa_drive.specs.Outside.{Written, written, outside};
 
 use crate::files::read_source;
@@ -16,17 +20,42 @@ use tapa_syntax::Program;
 use verilog_text::print;
 use vlog_design::Design;
 
-// The circuit of a program, to whose streams no latency is added.
-fn circuit_of(alloc: Global, program: &Program) -> Result<Design, OutOfMemory>
+// The circuit of a program, to whose streams these latencies are added.
+fn circuit_of(alloc: Global, program: &Program, added: &[u32]) -> Result<Design, OutOfMemory>
     requires program { IsWellFormed program.now }
     requires names { HasOwnNames program.now }
-    ensures { IfOk result (IsCircuitOf program.now []) }
+    requires added { AreShort added.now }
+    ensures { IfOk result (IsCircuitOf program.now added.now) }
 {
     let machines = machines_of(alloc, program)?;
-    design(alloc, program, &machines, &[])
+    design(alloc, program, &machines, added)
 }
 
-/// Builds the circuit of the program of a source, up to the first step that refuses.
+/// Writes the text of the circuit of a program, to whose streams these latencies are added, a line at a time.
+pub(crate) fn put_circuit<'a, O: Sink>(
+    alloc: Global,
+    program: &Program,
+    added: &[u32],
+    out: &mut O,
+) -> Result<(), Refusal<'a>>
+    requires program { IsWellFormed program.now }
+    requires names { HasOwnNames program.now }
+    requires added { AreShort added.now }
+    ensures whole { IfOk result (λ _. (told : List ℕ) × IsCircuitText program.now added.now told × Appends (O.contents out.old) (O.contents out.new) told) }
+    ensures refused { IfErr result (λ refusal. IsUnwritten (written (O.contents out.old) (O.faults out.old)) (written (O.contents out.new) (O.faults out.new)) (IsCircuitText program.now added.now) (refusal_of refusal)) }
+{
+    let design = match circuit_of(alloc, program, added) {
+        Ok(design) => design,
+        Err(_) => return Err(Refusal::Memory),
+    };
+    match print(alloc, &design, out) {
+        Ok(()) => Ok(()),
+        Err(PrintFault::WriteFault) => Err(Refusal::Write),
+        Err(PrintFault::OutOfMemory) => Err(Refusal::Memory),
+    }
+}
+
+/// Builds the circuit of the program of a source without a device, up to the first step that refuses.
 pub(crate) fn build_source<'a, S: Shelf, O: Sink>(
     alloc: Global,
     source: &'a str,
@@ -42,13 +71,5 @@ pub(crate) fn build_source<'a, S: Shelf, O: Sink>(
         Ok(program) => program,
         Err(refusal) => return Err(refusal),
     };
-    let design = match circuit_of(alloc, &program) {
-        Ok(design) => design,
-        Err(_) => return Err(Refusal::Memory),
-    };
-    match print(alloc, &design, out) {
-        Ok(()) => Ok(()),
-        Err(PrintFault::WriteFault) => Err(Refusal::Write),
-        Err(PrintFault::OutOfMemory) => Err(Refusal::Memory),
-    }
+    put_circuit(alloc, &program, &[], out)
 }

@@ -7,6 +7,7 @@ mod cosim;
 mod files;
 mod inputs;
 pub mod laws;
+mod plan_text;
 mod planning;
 mod program;
 mod refusal;

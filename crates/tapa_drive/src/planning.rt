@@ -1,33 +1,34 @@
-// The plan of a source's program on a device.
-ghost use Rattle.std.specs.Prelude.{◌≡◌, ◌<◌, ℕ, List, length, Some, IfOk, IfErr};
+// The plan of a source's program on a device, and what it is for.
+ghost use Rattle.std.specs.Prelude.{◌≡◌, ℕ, List, length, Some, IfOk, IfErr};
+ghost use Rattle.std.specs.Io.KnownBytes.{Appends};
+ghost use Rattle.tapa_syntax.specs.WellFormed.{IsWellFormed};
 ghost use Rattle.task_graph.specs.Programs.{IsGraphOf};
 ghost use Rattle.task_graph.specs.Streams.{least_of};
-ghost use Rattle.latency_balance.specs.Moves.{AreLatencies};
-ghost use Rattle.plan_latency.specs.Borders.{AreBorderLatencies};
 ghost use Rattle.tapa_words.specs.Words.{command_of, Plan as PlanWords};
 ghost use Rattle.plan_device.specs.Answer.{IsDeviceOf};
 ghost use Rattle.plan_device.specs.Devices.{IsDevice};
-ghost use Rattle.plan_report.specs.Lines.{texts};
 ghost use Rattle.slot_plan.specs.Causes.{IsCause};
+ghost use Rattle.slot_plan.specs.Plan.{IsPlanOf};
 ghost use Rattle.slot_plan.specs.declared.floorplan.PlanFault.TheVariants.{NoFit};
-ghost use Rattle.tapa_drive.specs.Carried.{IsCarriedOut};
+ghost use Rattle.top_law.specs.Legal.{HasOwnNames};
+ghost use Rattle.tapa_drive.specs.Carried.{IsCarriedOut, IsUnwritten};
 ghost use Rattle.tapa_drive.specs.Files.{OfData, AsksForData};
 ghost use Rattle.tapa_drive.specs.Found.{IsNoDevice};
 ghost use Rattle.tapa_drive.specs.Meaning.{refusal_of};
 ghost use Rattle.tapa_drive.specs.Outside.{Written, written, outside};
-ghost use Rattle.tapa_drive.specs.Planned.{mode_of as mode_lem, first_label as first_label_lem, AreLinesOf, ArePlanLines, IsUnplanned};
+ghost use Rattle.tapa_drive.specs.Planned.{mode_of as mode_lem, first_label as first_label_lem, IsCircuitBy, IsFound, IsToldBy, IsUnplanned};
 
+use crate::building::put_circuit;
 use crate::files::{DATA_LIMIT, read_file, read_source};
-use crate::refusal::{Refusal, put_lines};
-use latency_balance::balance_streams;
+use crate::plan_text::put_plan;
+use crate::refusal::Refusal;
 use plan_device::{Device, read_device};
-use plan_latency::latencies;
-use plan_report::plan_lines;
+use plan_latency::added_latencies;
 use slot_plan::{Mode, Plan, PlanFault, plan};
 use std::alloc::{AllocError, Global};
-use tapa_base::{OutOfMemory, Shelf, Sink, position_of};
+use tapa_base::{Shelf, Sink, position_of};
 use tapa_syntax::Program;
-use tapa_words::PlanMode;
+use tapa_words::{PlanAim, PlanMode};
 use task_graph::Graph;
 
 fn mode_of(mode: PlanMode) -> Mode
@@ -107,73 +108,84 @@ fn refusal_by<'a>(alloc: Global, graph: &Graph, fault: PlanFault) -> Refusal<'a>
     }
 }
 
-// The lines of a plan with its border latencies, and of their balance.
-fn lines_with(
-    alloc: Global,
-    graph: &Graph,
-    device: &Device,
-    plan: &Plan,
-    border: &[u32],
-) -> Result<Vec<Vec<u8>>, AllocError>
-    requires cols { 0 < device.now.cols }
-    requires slots { length plan.now.slot.items ≡ graph.now.groups }
-    requires borders { AreBorderLatencies graph.now device.now plan.now.slot.items border.now }
-    requires low { AreLatencies graph.now border.now }
-    ensures { IfOk result (λ lines. AreLinesOf graph.now device.now plan.now (texts lines.items)) }
-{
-    let balance = balance_streams(alloc, graph, border)?;
-    let lines = plan_lines(alloc, graph, device, plan, border, &balance)?;
-    Ok(lines)
-}
-
-// The lines of a plan, of its border latencies and of their balance.
-fn lines_of(
-    alloc: Global,
-    graph: &Graph,
-    device: &Device,
-    plan: &Plan,
-) -> Result<Vec<Vec<u8>>, OutOfMemory>
-    requires device { IsDevice graph.now device.now }
-    requires slots { length plan.now.slot.items ≡ graph.now.groups }
-    ensures { IfOk result (λ lines. AreLinesOf graph.now device.now plan.now (texts lines.items)) }
-{
-    let border = latencies(alloc, graph, plan, device)?;
-    let lines = lines_with(alloc, graph, device, plan, &border)?;
-    Ok(lines)
-}
-
-// The lines of the plan of a graph on a device by a mode, or why there is none.
+// The plan of a graph on a device by a mode, or why there is none.
 fn planned<'a>(
     alloc: Global,
     graph: &Graph,
     device: &Device,
     mode: Mode,
-) -> Result<Vec<Vec<u8>>, Refusal<'a>>
+) -> Result<Plan, Refusal<'a>>
     requires { IsDevice graph.now device.now }
-    ensures lines { IfOk result (λ lines. ArePlanLines graph.now device.now mode (texts lines.items)) }
+    ensures plan { IfOk result (λ found. IsPlanOf graph.now device.now found.slot.items) }
+    ensures found { IfOk result (λ found. IsFound graph.now device.now mode found) }
     ensures refused { IfErr result (λ refusal. IsUnplanned graph.now device.now mode (refusal_of refusal)) }
 {
-    let found = match plan(alloc, graph, device, mode) {
-        Ok(found) => found,
-        Err(fault) => return Err(refusal_by(alloc, graph, fault)),
-    };
-    match lines_of(alloc, graph, device, &found) {
-        Ok(lines) => Ok(lines),
+    match plan(alloc, graph, device, mode) {
+        Ok(found) => Ok(found),
+        Err(fault) => Err(refusal_by(alloc, graph, fault)),
+    }
+}
+
+// Writes the circuit of a program by a plan.
+fn put_planned_circuit<'a, O: Sink>(
+    alloc: Global,
+    program: &Program,
+    graph: &Graph,
+    device: &Device,
+    plan: &Plan,
+    balanced: bool,
+    out: &mut O,
+) -> Result<(), Refusal<'a>>
+    requires program { IsWellFormed program.now }
+    requires names { HasOwnNames program.now }
+    requires device { IsDevice graph.now device.now }
+    requires slots { length plan.now.slot.items ≡ graph.now.groups }
+    ensures whole { IfOk result (λ _. (told : List ℕ) × IsCircuitBy program.now graph.now device.now plan.now balanced told × Appends (O.contents out.old) (O.contents out.new) told) }
+    ensures refused { IfErr result (λ refusal. IsUnwritten (written (O.contents out.old) (O.faults out.old)) (written (O.contents out.new) (O.faults out.new)) (IsCircuitBy program.now graph.now device.now plan.now balanced) (refusal_of refusal)) }
+{
+    match added_latencies(alloc, graph, plan, device, balanced) {
+        Ok(added) => put_circuit(alloc, program, &added, out),
         Err(_) => Err(Refusal::Memory),
     }
 }
 
-/// Plans the program of a source on the device of a file, up to the first step that refuses.
+// Writes what a plan is for.
+fn put_aim<'a, O: Sink>(
+    alloc: Global,
+    program: &Program,
+    graph: &Graph,
+    device: &Device,
+    plan: &Plan,
+    aim: PlanAim,
+    out: &mut O,
+) -> Result<(), Refusal<'a>>
+    requires program { IsWellFormed program.now }
+    requires names { HasOwnNames program.now }
+    requires device { IsDevice graph.now device.now }
+    requires slots { length plan.now.slot.items ≡ graph.now.groups }
+    ensures whole { IfOk result (λ _. (told : List ℕ) × IsToldBy aim program.now graph.now device.now plan.now told × Appends (O.contents out.old) (O.contents out.new) told) }
+    ensures refused { IfErr result (λ refusal. IsUnwritten (written (O.contents out.old) (O.faults out.old)) (written (O.contents out.new) (O.faults out.new)) (IsToldBy aim program.now graph.now device.now plan.now) (refusal_of refusal)) }
+{
+    match aim {
+        PlanAim::Lines => put_plan(alloc, graph, device, plan, out),
+        PlanAim::Circuit { balanced } => {
+            put_planned_circuit(alloc, program, graph, device, plan, balanced, out)
+        }
+    }
+}
+
+/// Plans the program of a source on the device of a file and writes what the plan is for, up to the first step that refuses.
 pub(crate) fn plan_source<'a, S: Shelf, O: Sink>(
     alloc: Global,
     source: &'a str,
     top: &str,
     file: &'a str,
     mode: PlanMode,
+    aim: PlanAim,
     shelf: &mut S,
     out: &mut O,
 ) -> Result<(), Refusal<'a>>
-    ensures { (words : List (List ℕ)) (errors told : Written) → command_of words ≡ Some (PlanWords source.now top.now file.now mode) →
+    ensures { (words : List (List ℕ)) (errors told : Written) → command_of words ≡ Some (PlanWords source.now top.now file.now mode aim) →
         IsCarriedOut words (outside (S.files shelf.old) (S.faults shelf.old) (written (O.contents out.old) (O.faults out.old)) errors)
         (outside (S.files shelf.new) (S.faults shelf.new) (written (O.contents out.new) (O.faults out.new)) told) result }
 {
@@ -189,12 +201,9 @@ pub(crate) fn plan_source<'a, S: Shelf, O: Sink>(
         Ok(device) => device,
         Err(refusal) => return Err(refusal),
     };
-    let lines = match planned(alloc, &graph, &device, mode_of(mode)) {
-        Ok(lines) => lines,
+    let found = match planned(alloc, &graph, &device, mode_of(mode)) {
+        Ok(found) => found,
         Err(refusal) => return Err(refusal),
     };
-    match put_lines(out, &lines) {
-        Ok(()) => Ok(()),
-        Err(_) => Err(Refusal::Write),
-    }
+    put_aim(alloc, &program, &graph, &device, &found, aim, out)
 }

@@ -1,5 +1,6 @@
 ghost use Rattle.std.specs.Prelude.{◌≡◌, ◌⊎◌, ◌≤◌, ℕ, List, Option, Some, None, option_map};
 ghost use Rattle.tapa_words.specs.Words.{texts, command_of, most_limit, Run, Build, Plan, Cosim};
+ghost use Rattle.tapa_words.specs.declared.command.PlanAim.{PlanAim as PlanAimWord};
 ghost use Rattle.tapa_words.specs.declared.command.PlanMode.{PlanMode as PlanModeWord};
 ghost use Rattle.tapa_drive.specs.Answer.{IsAnswer};
 ghost use Rattle.tapa_drive.specs.BuildDecided.{TellsBuild};
@@ -85,8 +86,9 @@ fn carry_out<'a, S: Shelf, O: Sink>(
                 top,
                 device,
                 mode,
+                aim,
             },
-        ) => plan_source(alloc, source, top, device, mode, shelf, out),
+        ) => plan_source(alloc, source, top, device, mode, aim, shelf, out),
         Ok(Command::Cosim { text, data, limit }) => {
             cosim_text(alloc, text, data, limit, shelf, out)
         }
@@ -123,7 +125,7 @@ pub fn tapa<S: Shelf, O: Sink, E: Sink>(
 ) -> Status
     // Done work: every joined instance of the source's program has ended on its data, and the report of its streams, whole Kahn
     // streams where their producers are joined, and of the last cells is written; or the lines of a plan of the source's program on the device are; or the
-    // text of its circuit is, whose streams carry prefixes of Kahn streams in every cycle, and all of them once its done is raised; or
+    // text of its circuit is, with the latencies of such a plan where a device is named, whose streams carry prefixes of Kahn streams in every cycle, and all of them once its done is raised; or
     // the design of the Verilog text was done, and the report of its cycles is. Each other status tells a refusal, which has its cause and leaves the output so. No other file is read than the source or the text and, where it has a
     // program or a design, the data or the device file.
     ensures answer { IsAnswer (texts words.now) (outside (S.files shelf.old) (S.faults shelf.old) (written (O.contents out.old) (O.faults out.old)) (written (E.contents err.old) (E.faults err.old)))
@@ -135,11 +137,11 @@ pub fn tapa<S: Shelf, O: Sink, E: Sink>(
         (source top : List ℕ) (named : Option (List ℕ)) (limit : ℕ) → command_of (texts words.now) ≡ Some (Run source top named limit) →
         (meaning : SourceMeaning) → Expects before.files source top named limit meaning → NothingFails source named before after →
         Tells source named limit meaning result before after ⊎ (result ≡ Status.Memory) }
-    // The same of a plan: the lines of a plan by the mode are written whole, or it is told why there is none.
+    // The same of a plan: its lines, or the circuit by it, are written whole, or it is told why there is none.
     ensures plan_decided { let before = (outside (S.files shelf.old) (S.faults shelf.old) (written (O.contents out.old) (O.faults out.old)) (written (E.contents err.old) (E.faults err.old))) in let after = (outside (S.files shelf.new) (S.faults shelf.new) (written (O.contents out.new) (O.faults out.new)) (written (E.contents err.new) (E.faults err.new))) in
-        (source top device : List ℕ) (by : PlanModeWord) → command_of (texts words.now) ≡ Some (Plan source top device by) →
+        (source top device : List ℕ) (by : PlanModeWord) (aim : PlanAimWord) → command_of (texts words.now) ≡ Some (Plan source top device by aim) →
         ArePlannable before.files source top device → NothingFails source (Some device) before after →
-        TellsPlan before.files source top device (mode_of by) result before after ⊎ (result ≡ Status.Memory) }
+        TellsPlan before.files source top device (mode_of by) aim result before after ⊎ (result ≡ Status.Memory) }
     // The same of a circuit: its text is written whole, or it is told why the source has none.
     ensures build_decided { let before = (outside (S.files shelf.old) (S.faults shelf.old) (written (O.contents out.old) (O.faults out.old)) (written (E.contents err.old) (E.faults err.old))) in let after = (outside (S.files shelf.new) (S.faults shelf.new) (written (O.contents out.new) (O.faults out.new)) (written (E.contents err.new) (E.faults err.new))) in
         (source top : List ℕ) → command_of (texts words.now) ≡ Some (Build source top) →

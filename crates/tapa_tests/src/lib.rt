@@ -1,7 +1,12 @@
-//! Tests of the top call with files and sinks in memory that fail: a file that cannot be read, and a report that is cut.
+//! Tests of the whole program: the top call with files and sinks in memory that fail; and runs beside the definitions, the reports
+//! of programs against the rounds and traces that the slow functions compute.
 #![tactic(auto)]
 
 #[cfg(test)]
+mod faults;
+#[cfg(test)]
+mod probes;
+#[cfg(test)]
 mod programs;
 #[cfg(test)]
-mod tests;
+mod runs;

@@ -15,13 +15,13 @@ use Rattle.tapa_words.specs.declared.item.Step.TheVariants.{Gives, Moves, Breaks
 abbrev pub command : Command → words.Command
 command (Run source top input limit) = words.Run source.now top.now (option_map (λ file. file.now) input) limit
 command (Build source top) = words.Build source.now top.now
-command (Plan source top device mode) = words.Plan source.now top.now device.now mode
+command (Plan source top device mode aim) = words.Plan source.now top.now device.now mode aim
 command (Cosim text input limit) = words.Cosim text.now (option_map (λ file. file.now) input) limit
 
 abbrev pub limit_in : Command → ℕ
 limit_in (Run source top input limit) = limit
 limit_in (Build source top) = 0
-limit_in (Plan source top device mode) = 0
+limit_in (Plan source top device mode aim) = 0
 limit_in (Cosim text input limit) = limit
 
 abbrev pub item : Item → words.Item

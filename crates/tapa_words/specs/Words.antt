@@ -1,11 +1,15 @@
 -- Which words are a command. Words are read from left to right, and words that break a rule are no command.
-use Rattle.std.specs.Prelude.{ℕ, List, [], ◌∷◌, length, Option, Some, None, Bool, false, true, not, ◌&&◌, ◌==◌, nat_le, codes, if◌then◌else◌, map, option_map, option_and_then, String, string_bytes}
+use Rattle.std.specs.Prelude.{ℕ, List, [], ◌∷◌, length, Option, Some, None, Bool, false, true, not, ◌&&◌, ◌||◌, ◌==◌, nat_le, codes, if◌then◌else◌, map, option_map, option_and_then, is_none, String, string_bytes}
 use Rattle.std.specs.List.{list_all, list_any}
 use Rattle.std.specs.Str.{bytes_eq}
 use Rattle.std.specs.Str.Parse.{digits_value}
 use Rattle.std.specs.declared.alloc.Global.{Global}
 use Rattle.tapa_words.specs.declared.verb.Verb.{Verb}
 use Rattle.tapa_words.specs.declared.verb.Verb.TheVariants.{Running, Building, Planning, Simulating}
+use Rattle.tapa_words.specs.declared.verb.OptionKind.{OptionKind}
+use Rattle.tapa_words.specs.declared.verb.OptionKind.TheVariants as kind
+use Rattle.tapa_words.specs.declared.command.PlanAim.{PlanAim}
+use Rattle.tapa_words.specs.declared.command.PlanAim.TheVariants.{Lines, Circuit}
 use Rattle.tapa_words.specs.declared.command.PlanMode.{PlanMode}
 use Rattle.tapa_words.specs.declared.command.PlanMode.TheVariants.{Exact, Fit}
 
@@ -18,8 +22,8 @@ pub data Command : Type 0 where
   Run : (source top : Word) (input : Option Word) (limit : ℕ) → Command
   -- the circuit of a task of a source
   Build : (source top : Word) → Command
-  -- a plan of the program of a source on the device of a file, by a mode
-  Plan : (source top device : Word) (mode : PlanMode) → Command
+  -- a plan of the program of a source on the device of a file, by a mode: its lines, or the circuit by it
+  Plan : (source top device : Word) (mode : PlanMode) (aim : PlanAim) → Command
   -- a simulation of the design of a Verilog text, for at most so many cycles, with a file of its data where one is named
   Cosim : (text : Word) (input : Option Word) (limit : ℕ) → Command
 
@@ -31,12 +35,16 @@ texts words = map string_bytes words
 abbrev pub verb_of : Word → Option Verb
 verb_of word = if bytes_eq word (codes "run") then Some Running else if bytes_eq word (codes "build") then Some Building else if bytes_eq word (codes "plan") then Some Planning else if bytes_eq word (codes "cosim") then Some Simulating else None
 
--- the command has an option of this name; each option has a value
-abbrev pub has_option : Verb → Word → Bool
-has_option Running name = bytes_eq name (codes "--steps")
-has_option Building name = false
-has_option Planning name = bytes_eq name (codes "--plan")
-has_option Simulating name = bytes_eq name (codes "--cycles")
+-- an option with a value, where this is one of a command
+abbrev pub valued : Bool → Option OptionKind
+valued is_one = if is_one then Some kind.Valued else None
+
+-- what the option of this name is, where the command has one
+abbrev pub option_kind : Verb → Word → Option OptionKind
+option_kind Running name = valued (bytes_eq name (codes "--steps"))
+option_kind Building name = if bytes_eq name (codes "--no-balance") then Some kind.Bare else valued (bytes_eq name (codes "--device") || bytes_eq name (codes "--plan"))
+option_kind Planning name = valued (bytes_eq name (codes "--plan"))
+option_kind Simulating name = valued (bytes_eq name (codes "--cycles"))
 
 -- a word of more than one byte that begins with `-`; `--` is of this form too
 abbrev pub is_option : Word → Bool
@@ -61,6 +69,7 @@ value_in (b ∷ rest) = if b == 61 then Some rest else value_in rest
 -- what the words behind the command's name are
 pub data Item : Type 0 where
   Positional : (word : Word) → Item
+  -- an option, and its value, which is empty where it has none
   Valued : (name value : Word) → Item
 
 -- what the next word may be
@@ -81,20 +90,23 @@ pub data Step : Type 0 where
   Breaks : Step
 
 -- an option by its name, which the command has or has not, and what stands behind its `=`
-abbrev pub option_step : Bool → Word → Option Word → Step
+abbrev pub option_step : Option OptionKind → Word → Option Word → Step
 -- an option is one of its command's options, spelled whole
-option_step false name value = Breaks
+option_step None name value = Breaks
 -- `--name V`, or `--name=V` with V not empty
-option_step true name None = Moves (ValueOf name)
-option_step true name (Some []) = Breaks
-option_step true name (Some (b ∷ value)) = Gives (Valued name (b ∷ value)) AnyWord
+option_step (Some kind.Valued) name None = Moves (ValueOf name)
+option_step (Some kind.Valued) name (Some []) = Breaks
+option_step (Some kind.Valued) name (Some (b ∷ value)) = Gives (Valued name (b ∷ value)) AnyWord
+-- `--name` alone
+option_step (Some kind.Bare) name None = Gives (Valued name []) AnyWord
+option_step (Some kind.Bare) name (Some value) = Breaks
 
 -- a word by what it may be
 abbrev pub step_of : Verb → Next → Word → Step
 -- `--` is dropped; before it a word that looks like an option is one, and every other word is a positional
 step_of verb AnyWord word =
     if is_end_of_options word then Moves OnlyPositionals
-    else if is_option word then option_step (has_option verb (name_in word)) (name_in word) (value_in word)
+    else if is_option word then option_step (option_kind verb (name_in word)) (name_in word) (value_in word)
     else Gives (Positional word) AnyWord
 -- a value that is the next word is no option and not `--`
 step_of verb (ValueOf name) word = if is_option word then Breaks else Gives (Valued name word) AnyWord
@@ -187,11 +199,6 @@ run_by (source ∷ top ∷ []) limit = option_map (Run source top None) limit
 run_by (source ∷ top ∷ input ∷ []) limit = option_map (Run source top (Some input)) limit
 run_by words limit = None
 
--- `build SRC TOP`
-abbrev pub build_by : List Word → Option Command
-build_by (source ∷ top ∷ []) = Some (Build source top)
-build_by words = None
-
 -- the mode that a word names, and first fit where none is given
 abbrev pub mode_or : Option Word → Option PlanMode
 mode_or None = Some Fit
@@ -199,8 +206,18 @@ mode_or (Some word) = if bytes_eq word (codes "exact") then Some Exact else if b
 
 -- `plan SRC TOP DEV`, by the mode that `--plan` tells
 abbrev pub plan_by : List Word → Option PlanMode → Option Command
-plan_by (source ∷ top ∷ device ∷ []) mode = option_map (Plan source top device) mode
+plan_by (source ∷ top ∷ device ∷ []) mode = option_map (λ by. Plan source top device by Lines) mode
 plan_by words mode = None
+
+-- a circuit by a mode, on the device that is named, balanced or not: without a device the mode and the balance are no matter
+abbrev pub built_on : Word → Word → Option Word → Bool → PlanMode → Command
+built_on source top None balanced mode = Build source top
+built_on source top (Some device) balanced mode = Plan source top device mode (Circuit balanced)
+
+-- `build SRC TOP`, on the device that `--device` names, by the mode that `--plan` tells, balanced without `--no-balance`
+abbrev pub build_by : List Word → Option Word → Option PlanMode → Bool → Option Command
+build_by (source ∷ top ∷ []) device mode balanced = option_map (built_on source top device balanced) mode
+build_by words device mode balanced = None
 
 -- `cosim VTEXT [DATA]`, with the limit that `--cycles` tells
 abbrev pub cosim_by : List Word → Option ℕ → Option Command
@@ -211,7 +228,7 @@ cosim_by words limit = None
 -- a command by its items
 abbrev pub command_by : Verb → List Item → Option Command
 command_by Running items = run_by (positionals items) (number_or default_limit 1 most_limit (value_of (codes "--steps") items))
-command_by Building items = build_by (positionals items)
+command_by Building items = build_by (positionals items) (value_of (codes "--device") items) (mode_or (value_of (codes "--plan") items)) (is_none (value_of (codes "--no-balance") items))
 command_by Planning items = plan_by (positionals items) (mode_or (value_of (codes "--plan") items))
 command_by Simulating items = cosim_by (positionals items) (number_or default_cycles 1 most_limit (value_of (codes "--cycles") items))
 

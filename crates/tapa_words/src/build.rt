@@ -3,18 +3,34 @@ ghost use Rattle.tapa_words.specs.Words.{command_by, most_limit};
 ghost use Rattle.tapa_words.specs.declared.verb.Verb.TheVariants.{Building};
 ghost use Rattle.tapa_words.specs.Meaning.{command, item, limit_in, Answers};
 
-use crate::command::{Command, WordsFault};
-use crate::item::{Item, positional_words};
+use crate::command::{Command, PlanAim, WordsFault};
+use crate::item::{Item, positional_words, value};
+use crate::plan::mode_by;
 use std::alloc::Global;
 
-/// `build SRC TOP`, by its items.
+/// `build SRC TOP [--device DEV] [--plan MODE] [--no-balance]`, by its items.
 pub(crate) fn read_build<'a>(alloc: Global, items: &[Item<'a>]) -> Result<Command<'a>, WordsFault>
     ensures asked { Answers command result (command_by Building (map item items.now)) }
     ensures limit { IfOk result (λ asked. limit_in asked ≤ most_limit) }
 {
     let words = positional_words(alloc, items)?;
-    match words.as_slice() {
-        [source, top] => Ok(Command::Build { source, top }),
-        _ => Err(WordsFault::Usage),
+    let mode = match mode_by(value("--plan", items)) {
+        Some(mode) => mode,
+        None => return Err(WordsFault::Usage),
+    };
+    let (source, top) = match words.as_slice() {
+        [source, top] => (*source, *top),
+        _ => return Err(WordsFault::Usage),
+    };
+    let balanced = value("--no-balance", items).is_none();
+    match value("--device", items) {
+        None => Ok(Command::Build { source, top }),
+        Some(device) => Ok(Command::Plan {
+            source,
+            top,
+            device,
+            mode,
+            aim: PlanAim::Circuit { balanced },
+        }),
     }
 }

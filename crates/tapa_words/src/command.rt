@@ -13,12 +13,13 @@ pub enum Command<'a> {
         source: &'a str,
         top: &'a str,
     },
-    /// Plan the task `top` of the file `source` on the device of the file `device`.
+    /// Plan the task `top` of the file `source` on the device of the file `device`, and do this with the plan.
     Plan {
         source: &'a str,
         top: &'a str,
         device: &'a str,
         mode: PlanMode,
+        aim: PlanAim,
     },
     /// Simulate the design of the Verilog text in the file `text`, for at most `limit` cycles, with the file `data` where one
     /// is named.
@@ -34,6 +35,14 @@ pub enum Command<'a> {
 pub enum PlanMode {
     Exact,
     Fit,
+}
+
+/// What a plan is for: its lines are told, or a circuit is built by it, whose streams get latency at the borders of slots
+/// and, where they are balanced, as much more as makes all ways between two tasks equally late.
+#[derive(Clone, Copy, Debug, PartialEq, Eq)]
+pub enum PlanAim {
+    Lines,
+    Circuit { balanced: bool },
 }
 
 /// Why words are not read.

@@ -1,17 +1,17 @@
 ghost use Rattle.std.specs.Prelude.{◌≡◌, map, Some, option_map};
 ghost use Rattle.std.specs.List.{list_any};
-ghost use Rattle.tapa_words.specs.Words.{texts, is_option, step_of, option_step, has_option, name_in, value_in, items_of, is_named, is_each_once, positionals, value_of};
+ghost use Rattle.tapa_words.specs.Words.{texts, is_option, step_of, option_step, option_kind, name_in, value_in, items_of, is_named, is_each_once, positionals, value_of};
 ghost use Rattle.tapa_words.specs.Meaning.{item, next, step, Answers};
 
 use crate::command::WordsFault;
-use crate::verb::Verb;
+use crate::verb::{OptionKind, Verb};
 use std::alloc::Global;
 
 // What the words behind the command's name are.
 #[derive(Clone, Copy, Debug)]
 pub(crate) enum Item<'a> {
     Positional(&'a str),
-    /// An option, and its value.
+    /// An option, and its value, which is empty where it has none.
     Valued(&'a str, &'a str),
 }
 
@@ -51,13 +51,10 @@ fn cut(word: &str) -> (&str, Option<&str>)
     }
 }
 
-// An option of this name, which the command has or has not, and its value in its word.
-fn take_option<'a>(has: bool, name: &'a str, value: Option<&'a str>) -> Step<'a>
-    ensures { step result ≡ option_step has name.now (option_map (λ text. text.now) value.entry) }
+// An option of this name that has a value, and its value in its word.
+fn take_valued<'a>(name: &'a str, value: Option<&'a str>) -> Step<'a>
+    ensures { step result ≡ option_step (Some OptionKind.Valued) name.now (option_map (λ text. text.now) value.entry) }
 {
-    if !has {
-        return Step::Breaks;
-    }
     match value {
         None => Step::Moves(Next::ValueOf(name)),
         Some(value) => {
@@ -70,12 +67,26 @@ fn take_option<'a>(has: bool, name: &'a str, value: Option<&'a str>) -> Step<'a>
     }
 }
 
+// An option of this name, which the command has or has not, and its value in its word.
+fn take_option<'a>(kind: Option<OptionKind>, name: &'a str, value: Option<&'a str>) -> Step<'a>
+    ensures { step result ≡ option_step kind name.now (option_map (λ text. text.now) value.entry) }
+{
+    match kind {
+        None => Step::Breaks,
+        Some(OptionKind::Valued) => take_valued(name, value),
+        Some(OptionKind::Bare) => match value {
+            None => Step::Gives(Item::Valued(name, ""), Next::AnyWord),
+            Some(_) => Step::Breaks,
+        },
+    }
+}
+
 // An option before `--`.
 fn read_option(verb: Verb, word: &str) -> Step<'_>
-    ensures { step result ≡ option_step (has_option verb (name_in word.now)) (name_in word.now) (value_in word.now) }
+    ensures { step result ≡ option_step (option_kind verb (name_in word.now)) (name_in word.now) (value_in word.now) }
 {
     let (name, value) = cut(word);
-    take_option(verb.has(name), name, value)
+    take_option(verb.option(name), name, value)
 }
 
 // A word, by what it may be.

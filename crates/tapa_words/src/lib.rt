@@ -11,5 +11,5 @@ mod read;
 mod run;
 mod verb;
 
-pub use command::{Command, PlanMode, WordsFault};
+pub use command::{Command, PlanAim, PlanMode, WordsFault};
 pub use read::read_words;

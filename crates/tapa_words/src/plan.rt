@@ -3,12 +3,12 @@ ghost use Rattle.tapa_words.specs.Words.{command_by, mode_or, most_limit};
 ghost use Rattle.tapa_words.specs.declared.verb.Verb.TheVariants.{Planning};
 ghost use Rattle.tapa_words.specs.Meaning.{command, item, limit_in, Answers};
 
-use crate::command::{Command, PlanMode, WordsFault};
+use crate::command::{Command, PlanAim, PlanMode, WordsFault};
 use crate::item::{Item, positional_words, value};
 use std::alloc::Global;
 
-// The mode that the value of `--plan` names, or first fit where it is not given.
-fn mode_by(value: Option<&str>) -> Option<PlanMode>
+/// The mode that the value of `--plan` names, or first fit where it is not given.
+pub(crate) fn mode_by(value: Option<&str>) -> Option<PlanMode>
     ensures { result ≡ mode_or (option_map (λ text. text.now) value.entry) }
 {
     match value {
@@ -44,5 +44,6 @@ pub(crate) fn read_plan<'a>(alloc: Global, items: &[Item<'a>]) -> Result<Command
         top,
         device,
         mode,
+        aim: PlanAim::Lines,
     })
 }

@@ -1,5 +1,5 @@
 ghost use Rattle.std.specs.Prelude.{◌≡◌};
-ghost use Rattle.tapa_words.specs.Words.{verb_of, has_option};
+ghost use Rattle.tapa_words.specs.Words.{verb_of, option_kind, valued as valued_lem};
 
 // The commands.
 #[derive(Clone, Copy, Debug)]
@@ -8,6 +8,24 @@ pub(crate) enum Verb {
     Building,
     Planning,
     Simulating,
+}
+
+// Whether an option has a value.
+#[derive(Clone, Copy, Debug)]
+pub(crate) enum OptionKind {
+    Valued,
+    Bare,
+}
+
+// An option with a value, where this is one of a command.
+fn valued(is_one: bool) -> Option<OptionKind>
+    ensures { result ≡ valued_lem is_one }
+{
+    if is_one {
+        Some(OptionKind::Valued)
+    } else {
+        None
+    }
 }
 
 impl Verb {
@@ -28,15 +46,21 @@ impl Verb {
         }
     }
 
-    /// Whether the command has an option of this name. Each option has a value.
-    pub(crate) fn has(self, name: &str) -> bool
-        ensures { result ≡ has_option self name.now }
+    /// What the option of this name is, where the command has one.
+    pub(crate) fn option(self, name: &str) -> Option<OptionKind>
+        ensures { result ≡ option_kind self name.now }
     {
         match self {
-            Verb::Running => name == "--steps",
-            Verb::Building => false,
-            Verb::Planning => name == "--plan",
-            Verb::Simulating => name == "--cycles",
+            Verb::Running => valued(name == "--steps"),
+            Verb::Building => {
+                if name == "--no-balance" {
+                    Some(OptionKind::Bare)
+                } else {
+                    valued(name == "--device" || name == "--plan")
+                }
+            }
+            Verb::Planning => valued(name == "--plan"),
+            Verb::Simulating => valued(name == "--cycles"),
         }
     }
 }

@@ -1,13 +1,11 @@
 use Rattle.tapa_drive.proofs.planning.planned.Goals as goal
 
-pub returns-in-Err-clause-refused : goal.returns-in-Err-clause-refused
-returns-in-Err-clause-refused c = c.refusal_by.ensures c.args.device.now c.args.mode c.in-Err.ensures.cause
-
-pub returns-in-Ok-lines_of-clause-lines : goal.returns-in-Ok-lines_of-clause-lines
-returns-in-Ok-lines_of-clause-lines c = record {
-  plan = c.in-Ok.found;
+pub returns-in-Ok-clause-found : goal.returns-in-Ok-clause-found
+returns-in-Ok-clause-found c = record {
   by = c.in-Ok.ensures.by_mode;
   used = c.in-Ok.ensures.used;
   cost = c.in-Ok.ensures.cost;
-  of_plan = c.in-Ok-lines_of.ensures;
 }
+
+pub returns-clause-refused : goal.returns-clause-refused
+returns-clause-refused c = c.refusal_by.ensures c.args.device.now c.args.mode c.in-Err.ensures.cause

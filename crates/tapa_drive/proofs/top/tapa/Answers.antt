@@ -14,10 +14,10 @@ returns-clause-decided g c = λ source top named limit asked meaning expects sti
     _ source top named limit asked meaning expects still c.answer.result c.answer.ensures.answer (λ is. ap g.E.Sink.contents (c.answer.ensures.ok_err is))
 
 pub returns-clause-plan_decided : goal.returns-clause-plan_decided
-returns-clause-plan_decided g c = λ source top device by asked can still.
+returns-clause-plan_decided g c = λ source top device by aim asked can still.
     plan_decided (texts c.args.words.now) (g.S.Shelf.files c.args.shelf.now) (g.S.Shelf.faults c.args.shelf.now)
     (written (g.O.Sink.contents c.args.out.now) (g.O.Sink.faults c.args.out.now)) (written (g.E.Sink.contents c.args.err.now) (g.E.Sink.faults c.args.err.now))
-    _ source top device by asked can still c.answer.result c.answer.ensures.answer (λ is. ap g.E.Sink.contents (c.answer.ensures.ok_err is))
+    _ source top device by aim asked can still c.answer.result c.answer.ensures.answer (λ is. ap g.E.Sink.contents (c.answer.ensures.ok_err is))
 
 pub returns-clause-build_decided : goal.returns-clause-build_decided
 returns-clause-build_decided g c = λ source top asked still.

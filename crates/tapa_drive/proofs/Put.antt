@@ -1,0 +1,89 @@
+-- Texts that are written whole or not.
+use Rattle.std.proofs.Common.{ℕ, List, Result, Ok, Err, IfOk, IfErr, inl, inr}
+use Rattle.std.specs.Io.KnownBytes.{Appends}
+use Rattle.tapa_base.specs.Outside.{AppendsPart}
+use Rattle.tapa_drive.specs.Answer.{HasCause, HasPartOf, IsDone, Leaves, ReadsAsked}
+use Rattle.tapa_drive.specs.Carried.{HasPartOfText, IsCarriedOut, IsUnwritten}
+use Rattle.tapa_drive.specs.Meaning.{refusal_of}
+use Rattle.tapa_drive.specs.Outside.{Outside, Written}
+use Rattle.tapa_drive.specs.Refusal.{Refusal, Usage, Read, Write, TooLong, Source, Data, Ticks, Stopped, Device, TooManyPlans, NoPlan, NoRoom, Verilog, DesignData, Undone, Memory}
+use Rattle.tapa_drive.specs.declared.refusal.Refusal.{Refusal as CodeRefusal}
+
+-- a text of which this holds was written whole
+abbrev pub WritesWhole : Written → Written → (List ℕ → Type 0) → Type 0
+WritesWhole old new P = (told : List ℕ) × P told × Appends old.bytes new.bytes told
+
+-- what holds of a text that was written holds of it in other words
+module _ (old new : Written) (P Q : List ℕ → Type 0) (also : (told : List ℕ) → P told → Q told) where
+  pub whole_also : {A : Type 0} (result : Result A CodeRefusal) → IfOk result (λ x. WritesWhole old new P) → IfOk result (λ x. WritesWhole old new Q)
+  whole_also (Ok x) h = (h.0, also h.0 h.1, h.2)
+  whole_also (Err r) h = tt
+
+  part_also : HasPartOfText old new P → HasPartOfText old new Q
+  part_also h = (h.0, also h.0 h.1, h.2)
+
+  unwritten_by : (r : Refusal) → IsUnwritten old new P r → IsUnwritten old new Q r
+  unwritten_by Usage h = absurd h
+  unwritten_by (Read file) h = absurd h
+  unwritten_by Write h = (h.0, part_also h.1)
+  unwritten_by (TooLong file most) h = absurd h
+  unwritten_by (Source file place rule) h = absurd h
+  unwritten_by (Data file fault) h = absurd h
+  unwritten_by (Ticks most) h = absurd h
+  unwritten_by (Stopped lines) h = absurd h
+  unwritten_by (Device file fault) h = absurd h
+  unwritten_by (TooManyPlans slots free) h = absurd h
+  unwritten_by NoPlan h = absurd h
+  unwritten_by (NoRoom label) h = absurd h
+  unwritten_by (Verilog file fault) h = absurd h
+  unwritten_by (DesignData file fault) h = absurd h
+  unwritten_by (Undone most) h = absurd h
+  unwritten_by Memory (inl same) = inl same
+  unwritten_by Memory (inr h) = inr (part_also h)
+
+  pub unwritten_also : {A : Type 0} (result : Result A CodeRefusal) → IfErr result (λ r. IsUnwritten old new P (refusal_of r)) → IfErr result (λ r. IsUnwritten old new Q (refusal_of r))
+  unwritten_also (Ok x) h = tt
+  unwritten_also (Err r) h = unwritten_by (refusal_of r) h
+
+-- a command whose text was written whole did what it is for, and else a front part of the text stands
+module _ (words : List (List ℕ)) (before after : Outside) (P : List ℕ → Type 0) (done : (told : List ℕ) → P told → Appends before.out.bytes after.out.bytes told → IsDone words before after) (part : (told : List ℕ) → P told → AppendsPart before.out.bytes after.out.bytes told → HasPartOf words before after) (reads : ReadsAsked words before after) where
+  unwritten_cause : (r : Refusal) → IsUnwritten before.out after.out P r → HasCause words before after r
+  unwritten_cause Usage h = absurd h
+  unwritten_cause (Read file) h = absurd h
+  unwritten_cause Write h = h.0
+  unwritten_cause (TooLong file most) h = absurd h
+  unwritten_cause (Source file place rule) h = absurd h
+  unwritten_cause (Data file fault) h = absurd h
+  unwritten_cause (Ticks most) h = absurd h
+  unwritten_cause (Stopped lines) h = absurd h
+  unwritten_cause (Device file fault) h = absurd h
+  unwritten_cause (TooManyPlans slots free) h = absurd h
+  unwritten_cause NoPlan h = absurd h
+  unwritten_cause (NoRoom label) h = absurd h
+  unwritten_cause (Verilog file fault) h = absurd h
+  unwritten_cause (DesignData file fault) h = absurd h
+  unwritten_cause (Undone most) h = absurd h
+  unwritten_cause Memory h = tt
+
+  unwritten_leaves : (r : Refusal) → IsUnwritten before.out after.out P r → Leaves words before after r
+  unwritten_leaves Usage h = absurd h
+  unwritten_leaves (Read file) h = absurd h
+  unwritten_leaves Write h = part h.1.0 h.1.1 h.1.2
+  unwritten_leaves (TooLong file most) h = absurd h
+  unwritten_leaves (Source file place rule) h = absurd h
+  unwritten_leaves (Data file fault) h = absurd h
+  unwritten_leaves (Ticks most) h = absurd h
+  unwritten_leaves (Stopped lines) h = absurd h
+  unwritten_leaves (Device file fault) h = absurd h
+  unwritten_leaves (TooManyPlans slots free) h = absurd h
+  unwritten_leaves NoPlan h = absurd h
+  unwritten_leaves (NoRoom label) h = absurd h
+  unwritten_leaves (Verilog file fault) h = absurd h
+  unwritten_leaves (DesignData file fault) h = absurd h
+  unwritten_leaves (Undone most) h = absurd h
+  unwritten_leaves Memory (inl same) = inl same
+  unwritten_leaves Memory (inr h) = part h.0 h.1 h.2
+
+  pub carried_out : {A : Type 0} (result : Result A CodeRefusal) → IfOk result (λ x. WritesWhole before.out after.out P) → IfErr result (λ r. IsUnwritten before.out after.out P (refusal_of r)) → IsCarriedOut words before after result
+  carried_out (Ok x) whole refused = record { done = done whole.0 whole.1 whole.2; cause = tt; leaves = tt; reads = reads }
+  carried_out (Err r) whole refused = record { done = tt; cause = unwritten_cause (refusal_of r) refused; leaves = unwritten_leaves (refusal_of r) refused; reads = reads }
