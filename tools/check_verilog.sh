@@ -18,10 +18,13 @@ for tool in iverilog verilator yosys; do
   if command -v "$tool" >/dev/null; then tools="$tools $tool"; else echo "check_verilog: $tool is not installed, so it was not tried" >&2; fi
 done
 status=0
-for source in examples/*.cpp examples/refused/*_mended.cpp; do
+
+# The circuit of one example, with these options of `build`.
+look() {
+  source=$1 options=$2
   set -- $(head -n 1 "$source" | sed 's|^// tapa run ||')
   text=$folder/$(basename "$source" .cpp).v
-  "$program" build "$1" "$2" > "$text" || { echo "check_verilog: $source is not built"; status=1; continue; }
+  "$program" build "$1" "$2" $options > "$text" || { echo "check_verilog: $source is not built"; status=1; return; }
   case $tools in *iverilog*)
     iverilog -g2005 -gno-xtypes -Wall -o /dev/null "$text" > "$folder/said" 2>&1 || status=1
     sed "s|^|iverilog: |" "$folder/said"
@@ -38,5 +41,8 @@ for source in examples/*.cpp examples/refused/*_mended.cpp; do
     yosys -q -p "read_verilog $text; hierarchy -check; proc; check -assert" > "$folder/said" 2>&1 || status=1
     sed "s|^|yosys: |" "$folder/said";;
   esac
-done
+}
+
+for source in examples/*.cpp examples/refused/*_mended.cpp; do look "$source" ""; done
+look examples/two_ways.cpp "--device examples/devices/two_dies.json"
 exit $status

@@ -1,5 +1,5 @@
 -- What border latencies and a balance come to.
-use Rattle.std.proofs.Common.{◌≡◌, ◌≤◌, ◌<◌, ◌⊎◌, ℕ, ◌+◌, ◌-◌, ◌*◌, ◌==◌, Bool, true, false, List, length, get_or, refl, sym, subst, ⊎_elim, arith}
+use Rattle.std.proofs.Common.{◌≡◌, ◌≤◌, ◌<◌, ◌⊎◌, ℕ, ◌+◌, ◌-◌, ◌*◌, ◌==◌, Bool, true, false, List, length, get_or, refl, sym, ap, ◌∙◌, subst, ⊎_elim, arith}
 use Rattle.std.proofs.lemmas.Bool.{cases_lt}
 use Rattle.std.proofs.lemmas.List.{get_or_past}
 use Rattle.std.specs.Prelude.{MatchBool}
@@ -9,6 +9,7 @@ use Rattle.flow_cert.specs.Verdicts.{Fits, balance_of}
 use Rattle.latency_balance.specs.declared.balance.Balance.{Balance}
 use Rattle.latency_balance.specs.Result.{IsBalance}
 use Rattle.slot_plan.proofs.Limits.{few_groups}
+use Rattle.plan_latency.specs.Added.{AreBalanced}
 
 module _ (g : Graph) (lat : List ℕ) (b : Balance) (best : IsBalance g lat b) where
   -- no number of a group is greater than the streams of all groups could make it
@@ -48,3 +49,18 @@ module _ (g : Graph) (lat : List ℕ) (b : Balance) (best : IsBalance g lat b) w
       let no_bal = get_or_past b.bal.items e 0 (omega (arith, bal_long, past)) in
       omega (arith, no_lat, no_bal))
       (cases_lt e (streams g))
+
+  -- lists that are these two, and their sums
+  pub balanced : (border bal added : List ℕ) → border ≡ lat → bal ≡ b.bal.items → length added ≡ length border → ((e : ℕ) → e < length border → get_or added e 0 ≡ get_or border e 0 + get_or bal e 0) → AreBalanced g lat added
+  balanced border bal added same bal_same long sums =
+      let lats = best.lists.lats in
+      let border_long : length border ≡ streams g = ap length same ∙ lats in
+      record {
+        balance = b;
+        best = best;
+        long = long ∙ border_long;
+        sums = λ e inside.
+            sums e (omega (arith, border_long, inside))
+            ∙ ap (λ (l : List ℕ). get_or l e 0 + get_or bal e 0) same
+            ∙ ap (λ (l : List ℕ). get_or lat e 0 + get_or l e 0) bal_same;
+      }

@@ -3,14 +3,13 @@
 
 mod added;
 
-pub use added::added_latencies;
-
 ghost use Rattle.std.specs.Prelude.{◌≡◌, ◌<◌, ◌≤◌, ◌*◌, ℕ, length, slice_index, IfOk};
 ghost use Rattle.task_graph.specs.Arcs.{streams};
 ghost use Rattle.latency_balance.specs.Moves.{AreLatencies};
 ghost use Rattle.plan_device.specs.Devices.{IsDevice};
 ghost use Rattle.plan_latency.specs.Borders.{crossed as crossed_lem, border_latency, AreBorderLatencies};
 
+pub use added::added_latencies;
 use plan_device::Device;
 use slot_plan::Plan;
 use std::alloc::Global;
