@@ -12,7 +12,8 @@ returns-in-Err-clause-refused g c = inl refl
 
 pub returns-in-Ok-put_lines-clause-whole : goal.returns-in-Ok-put_lines-clause-whole
 returns-in-Ok-put_lines-clause-whole g c = (
-  joined (texts c.in-Ok.lines.items), (texts c.in-Ok.lines.items, c.in-Ok.ensures, refl),
+  joined (texts c.in-Ok.lines.items),
+  (texts c.in-Ok.lines.items, c.in-Ok.ensures, refl),
   subst (λ (l : List (Vec ℕ Global)). Appends (g.O.Sink.contents c.args.out.now) (g.O.Sink.contents c.put_lines.new.err) (joined (lines_in l))) c.deref.ensures.value c.in-Ok-put_lines.ensures.whole,
 )
 
@@ -20,7 +21,8 @@ pub returns-clause-refused : goal.returns-clause-refused
 returns-clause-refused g c = (
   c.in-Err-put_lines.ensures.fault,
   (
-    joined (texts c.in-Ok.lines.items), (texts c.in-Ok.lines.items, c.in-Ok.ensures, refl),
+    joined (texts c.in-Ok.lines.items),
+    (texts c.in-Ok.lines.items, c.in-Ok.ensures, refl),
     subst (λ (l : List (Vec ℕ Global)). AppendsPart (g.O.Sink.contents c.args.out.now) (g.O.Sink.contents c.put_lines.new.err) (joined (lines_in l))) c.deref.ensures.value c.in-Err-put_lines.ensures.part,
   ),
 )

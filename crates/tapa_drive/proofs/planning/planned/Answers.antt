@@ -7,5 +7,5 @@ returns-in-Ok-clause-found c = record {
   cost = c.in-Ok.ensures.cost;
 }
 
-pub returns-clause-refused : goal.returns-clause-refused
-returns-clause-refused c = c.refusal_by.ensures c.args.device.now c.args.mode c.in-Err.ensures.cause
+pub returns-in-Err-clause-refused : goal.returns-in-Err-clause-refused
+returns-in-Err-clause-refused c = c.refusal_by.ensures c.args.device.now c.args.mode c.in-Err.ensures.cause
