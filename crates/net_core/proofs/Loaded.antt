@@ -1,6 +1,6 @@
 -- Filled ports.
-use Rattle.std.proofs.Common.{◌≡◌, ℕ, zero, suc, ◌+◌, ◌-◌, ◌<◌, ◌≤◌, List, [], ◌∷◌, ◌++◌, length, drop, Bool, true, Some, refl, sym, ap, ◌∙◌, subst, ⊎_elim, arith}
-use Rattle.std.specs.Prelude.{slice_get, slice_index, slice_set}
+use Rattle.std.proofs.Common.{◌≡◌, ℕ, zero, suc, ◌+◌, ◌-◌, ◌<◌, ◌≤◌, List, [], ◌∷◌, ◌++◌, length, drop, Bool, true, false, Some, refl, sym, ap, ◌∙◌, subst, ⊎_elim, arith}
+use Rattle.std.specs.Prelude.{replicate, slice_get, slice_index, slice_set}
 use Rattle.std.proofs.lemmas.Bool.{cases_lt, cases_eq}
 use Rattle.tapa_syntax.specs.declared.program.Program.{Program}
 use Rattle.net_core.specs.declared.ports.Ports.{Ports}
@@ -132,11 +132,15 @@ below_push m [] y h l (suc n) x e = cc
 below_push m (z ∷ xs) y h l zero x e = h zero x e
 below_push m (z ∷ xs) y h l (suc n) x e = below_push m xs y (λ n' x' e'. h (suc n') x' e') l n x e
 
+-- what is on a list is on a longer one
+pub woken_by : (program : Program) (i p : ℕ) (xs zs : List ℕ) → ((x : ℕ) → IsIn x xs → IsIn x zs) → AreWoken program i p xs → AreWoken program i p zs
+woken_by program i p xs zs kept h = record { reader = λ d. kept _ (h.reader d); writer = λ d. kept _ (h.writer d) }
+
 -- one more port's other end is on the list
 pub woken_more : (program : Program) (i p : ℕ) (xs zs : List ℕ) (y : ℕ) → ((x : ℕ) → IsIn x xs → IsIn x zs) → IsIn y zs → ((q : ℕ) → q < p → AreWoken program i q xs) → (Writes program i p → y ≡ consumer_of program (stream_at program i p)) → (Reads program i p → y ≡ producer_of program (stream_at program i p)) → (q : ℕ) → q < p + 1 → AreWoken program i q zs
 woken_more program i p xs zs y kept there h w r q l =
     ⊎_elim
-    (λ (e : q < p). record { reader = λ d. kept _ ((h q e).reader d); writer = λ d. kept _ ((h q e).writer d) })
+    (λ (e : q < p). woken_by program i q xs zs kept (h q e))
     (λ (e : p ≤ q). let same : p ≡ q = omega arith in
     subst (λ x. AreWoken program i x zs) same
     (record {
@@ -160,3 +164,36 @@ all_push i xs h j l =
     (λ (e : j < i). in_more xs (i ∷ []) j (h j e))
     (λ (e : i ≤ j). let same : i ≡ j = omega arith in subst (λ z. IsIn z (xs ++ i ∷ [])) same (in_last xs i))
     (cases_lt j i)
+
+-- one more item of a list is on another
+pub all_more : (near xs zs : List ℕ) (n y : ℕ) → slice_get near n ≡ Some y → ((x : ℕ) → IsIn x xs → IsIn x zs) → IsIn y zs → ((m x : ℕ) → m < n → slice_get near m ≡ Some x → IsIn x xs) → (m x : ℕ) → m < n + 1 → slice_get near m ≡ Some x → IsIn x zs
+all_more near xs zs n y at kept there h m x l e =
+    ⊎_elim
+    (λ (q : m < n). kept x (h m x q e))
+    (λ (q : n ≤ m).
+    let same : m ≡ n = omega arith in
+    let here : slice_get near n ≡ Some x = subst (λ z. slice_get near z ≡ Some x) same e in
+    let is : y ≡ x = cc in
+    subst (λ z. IsIn z zs) is there)
+    (cases_lt m n)
+
+-- nothing is in an empty list
+pub none_in : {A : Type 0} (n : ℕ) (x : A) (l : List A) → l ≡ [] → slice_get l n ≡ Some x → ⊥
+none_in n x [] e h = cc
+none_in n x (y ∷ l) e h = cc
+
+-- no instance is listed at first
+pub none_listed : (n x : ℕ) → slice_get (replicate n false) x ≡ Some true → ⊥
+none_listed zero x e = cc
+none_listed (suc n) zero e = cc
+none_listed (suc n) (suc x) e = none_listed n x e
+
+-- what holds of each item of a list and of one more
+pub each_push : {A : Type 0} (xs zs : List A) (y : A) (P : ℕ → A → Type 0) → zs ≡ xs ++ y ∷ [] → ((i : ℕ) (x : A) → slice_get xs i ≡ Some x → P i x) → P (length xs) y → (i : ℕ) (x : A) → slice_get zs i ≡ Some x → P i x
+each_push xs zs y P e h g i x at = go xs P h g i (subst (λ v. slice_get v i ≡ Some x) e at)
+  where
+    go : (xs : List A) (P : ℕ → A → Type 0) → ((i : ℕ) (x : A) → slice_get xs i ≡ Some x → P i x) → P (length xs) y → (i : ℕ) → slice_get (xs ++ y ∷ []) i ≡ Some x → P i x
+    go [] P h g zero at = let q : y ≡ x = cc in subst (P 0) q g
+    go [] P h g (suc i) at = cc
+    go (z ∷ xs) P h g zero at = h zero x at
+    go (z ∷ xs) P h g (suc i) at = go xs (λ n. P (suc n)) (λ n w k. h (suc n) w k) g i at

@@ -1,10 +1,10 @@
 // The ports of an instance, loaded from the streams before a call and read after it.
 
-ghost use Rattle.std.specs.Prelude.{ℕ, ◌≡◌, ◌<◌, ◌≤◌, ◌-◌, ◌++◌, length, drop, slice_get, slice_index, Some, IfOk, is_ok, if◌then◌else◌};
+ghost use Rattle.std.specs.Prelude.{ℕ, ◌≡◌, ◌<◌, ◌≤◌, ◌-◌, ◌++◌, length, drop, replicate, slice_get, slice_index, Some, false, IfOk, is_ok, if◌then◌else◌};
 ghost use Rattle.net_core.specs.declared.ports.Ports.{Ports};
 ghost use Rattle.net_core.specs.Ports.{IsReloaded, ends_in, carried_of, waiting_of, room_of, port_count, kind_at};
 ghost use Rattle.net_core.specs.Bindings.{IsConnected, arity, ends_at, stream_at, Reads, Writes, producer_of, consumer_of, depth_of};
-ghost use Rattle.net_core.specs.Load.{IsIn, AreBelow, AreListed, AreKept, AreLoaded, IsLoaded, IsOffered, AreWoken, HasPorts, list_at};
+ghost use Rattle.net_core.specs.Load.{IsIn, AreBelow, AreListed, AreKept, AreLoaded, IsLoaded, IsOffered, AreWoken, AreNeighbours, AreAllNeighbours, HasPorts, list_at};
 
 use crate::bindings::{arity, consumer, depth, producer, stream_at, writes_at};
 use crate::ports::Ports;
@@ -239,7 +239,7 @@ fn enlist(later: &mut Vec<usize>, listed: &mut Vec<bool>, j: usize) -> Result<()
 }
 
 // Puts the other ends of an instance's streams on a list, each once.
-pub fn wake(
+fn list_other_ends(
     program: &Program,
     later: &mut Vec<usize>,
     listed: &mut Vec<bool>,
@@ -258,6 +258,58 @@ pub fn wake(
 {
     for p in 0..arity(program, i) {
         enlist(later, listed, other_end(program, i, p))?;
+    }
+    Ok(())
+}
+
+// No instance is listed.
+fn none_listed(alloc: Global, n: usize) -> Result<Vec<bool>, OutOfMemory>
+    ensures { IfOk result (λ v. v.items ≡ replicate n false) }
+{
+    Ok(vec![in alloc; false; n]?)
+}
+
+// The instances at the other ends of an instance's streams, each once.
+fn neighbours(alloc: Global, program: &Program, i: usize) -> Result<Vec<usize>, OutOfMemory>
+    requires connected { IsConnected program.now }
+    requires instance { i < length program.now.instances.items }
+    ensures { IfOk result (λ near. AreNeighbours program.now i near.items) }
+{
+    let mut near = Vec::new(alloc);
+    let mut listed = none_listed(alloc, program.instances.len())?;
+    list_other_ends(program, &mut near, &mut listed, i)?;
+    Ok(near)
+}
+
+/// The neighbours of each instance.
+pub fn all_neighbours(alloc: Global, program: &Program) -> Result<Vec<Vec<usize>>, OutOfMemory>
+    requires { IsConnected program.now }
+    ensures len { IfOk result (λ all. length all.items ≡ length program.now.instances.items) }
+    ensures each { IfOk result (λ all. AreAllNeighbours program.now all.items) }
+{
+    let mut all = Vec::new(alloc);
+    for i in 0..program.instances.len() {
+        all.push(neighbours(alloc, program, i)?)?;
+    }
+    Ok(all)
+}
+
+/// Puts the neighbours of an instance on a list, each once.
+pub fn wake(
+    near: &Vec<usize>,
+    later: &mut Vec<usize>,
+    listed: &mut Vec<bool>,
+) -> Result<(), OutOfMemory>
+    requires inside { AreBelow (length listed.old.items) near.now.items }
+    requires listed { AreListed listed.old.items later.old.items }
+    ensures below { (m : ℕ) → AreBelow m near.now.items → AreBelow m later.old.items → AreBelow m later.new.items }
+    ensures listed_len { length listed.new.items ≡ length listed.old.items }
+    ensures listed { AreListed listed.new.items later.new.items }
+    ensures kept { (x : ℕ) → IsIn x later.old.items → IsIn x later.new.items }
+    ensures woken { IfOk result (λ _. (x : ℕ) → IsIn x near.now.items → IsIn x later.new.items) }
+{
+    for x in 0..near.len() {
+        enlist(later, listed, near[x])?;
     }
     Ok(())
 }
