@@ -10,6 +10,8 @@ use Rattle.net_core.specs.Kinds.{kind_in}
 use Rattle.net_core.specs.Ports.{carried, kind_at, port_count, ends_by, carried_by, IsReloaded, ends_in, carried_of, waiting_of, room_of}
 use Rattle.net_core.specs.Bindings.{IsConnected, IsWriter, arity, ends_at, arity_in, stream_at, stream_in, Reads, Writes, producer_of, consumer_of, depth_of}
 use Rattle.net_core.proofs.Moves.{has_item, get_set_other, port_count_is}
+use Rattle.net_core.specs.declared.ties.Tie.{Tie}
+use Rattle.net_core.specs.Ties.{IsTie}
 use Rattle.net_core.specs.Load.{IsIn, AreBelow, AreListed, AreKept, AreLoaded, IsLoaded, AreWoken, list_at, queue_at}
 
 pub in_streams : (program : Program) → IsConnected program → (i p : ℕ) → i < length program.instances.items → p < arity program i → stream_at program i p < length program.streams.items
@@ -197,3 +199,9 @@ each_push xs zs y P e h g i x at = go xs P h g i (subst (λ v. slice_get v i ≡
     go [] P h g (suc i) at = cc
     go (z ∷ xs) P h g zero at = h zero x at
     go (z ∷ xs) P h g (suc i) at = go xs (λ n. P (suc n)) (λ n w k. h (suc n) w k) g i at
+
+-- a tie has the position of its stream's writer
+pub tie_written : (program : Program) → IsConnected program → (writers : List ℕ) (i p : ℕ) (tie : Tie) → ((s : ℕ) → s < length program.streams.items → IsWriter program s (producer_of program s) (slice_index writers s)) → IsTie program i p tie → slice_index writers tie.stream ≡ tie.position
+tie_written program connected writers i p tie w t =
+    let a = w tie.stream t.stream_in in
+    connected.writes_one (producer_of program tie.stream) (slice_index writers tie.stream) tie.position a.0 t.writer.0 (a.1 ∙ sym t.writer.1)

@@ -1,6 +1,5 @@
 -- What the streams of a net offer to the ports of its instances.
-use Rattle.std.specs.Prelude.{◌≡◌, Bool, true, ℕ, ◌<◌, ◌≤◌, ◌-◌, List, length, drop, take, Some, Vec, slice_get, slice_index}
-use Rattle.std.specs.declared.alloc.Global.{Global}
+use Rattle.std.specs.Prelude.{◌≡◌, Bool, true, ℕ, ◌<◌, ◌≤◌, ◌-◌, List, length, drop, take, Some, slice_get, slice_index}
 use Rattle.tapa_base.specs.declared.token.Token.{Token}
 use Rattle.tapa_syntax.specs.declared.program.Program.{Program}
 use Rattle.net_core.specs.declared.ports.Ports.{Ports}
@@ -75,7 +74,3 @@ pub record AreWoken (program : Program) (i p : ℕ) (later : List ℕ) : Type 0 
 -- the list has the other end of each port's stream of instance i
 abbrev pub AreNeighbours : Program → ℕ → List ℕ → Type 0
 AreNeighbours program i near = AreBelow (length program.instances.items) near × ((p : ℕ) → AreWoken program i p near)
-
--- each list is of the instance at its place
-abbrev pub AreAllNeighbours : Program → List (Vec ℕ Global) → Type 0
-AreAllNeighbours program all = (i : ℕ) (near : Vec ℕ Global) → slice_get all i ≡ Some near → AreNeighbours program i near.items

@@ -7,6 +7,20 @@ use Rattle.net_core.proofs.Loaded.{woken_by}
 use Rattle.net_core.proofs.Quiet.{visited_limit, visited_none, visited_woken}
 use Rattle.net_core.proofs.drive.visit.Goals as goal
 
+pub resume_within-requires-clause-as_many : goal.resume_within-requires-clause-as_many
+resume_within-requires-clause-as_many g c =
+    let l = c.requires.instance in
+    let n = c.requires.ties_len in
+    let at = slice_get_read c.args.ties.now.items _ c.args.i c.index-tied.result.now refl (omega arith) c.index-tied.ensures in
+    (c.requires.ties c.args.i c.index-tied.result.now at).as_many
+
+pub resume_within-requires-clause-ties : goal.resume_within-requires-clause-ties
+resume_within-requires-clause-ties g c =
+    let l = c.requires.instance in
+    let n = c.requires.ties_len in
+    let at = slice_get_read c.args.ties.now.items _ c.args.i c.index-tied.result.now refl (omega arith) c.index-tied.ensures in
+    (c.requires.ties c.args.i c.index-tied.result.now at).each
+
 pub returns-then-goes_past-clause-visited : goal.returns-then-goes_past-clause-visited
 returns-then-goes_past-clause-visited g c =
     let h = c.if-goes_past.ensures in
@@ -15,9 +29,9 @@ returns-then-goes_past-clause-visited g c =
 pub wake-requires-clause-inside : goal.wake-requires-clause-inside
 wake-requires-clause-inside g c =
     let l = c.requires.instance in
-    let n = c.requires.near_len in
-    let at = slice_get_read c.args.near.now.items _ c.args.i c.index.result.now refl (omega arith) c.index.ensures in
-    subst (λ m. AreBelow m c.index.result.now.items) (sym c.requires.listed_len) (c.requires.near c.args.i c.index.result.now at).0
+    let n = c.requires.ties_len in
+    let at = slice_get_read c.args.ties.now.items _ c.args.i c.index-tied.result.now refl (omega arith) c.index-tied.ensures in
+    subst (λ m. AreBelow m c.index-tied.result.now.near.items) (sym c.requires.listed_len) (c.requires.ties c.args.i c.index-tied.result.now at).near.0
 
 pub returns-then-made-eq0 : goal.returns-then-made-eq0
 returns-then-made-eq0 g c = record {
@@ -31,22 +45,22 @@ returns-then-made-eq0 g c = record {
 pub returns-in_err-wake-clause-below : goal.returns-in_err-wake-clause-below
 returns-in_err-wake-clause-below g c =
     let l = c.requires.instance in
-    let n = c.requires.near_len in
-    let at = slice_get_read c.args.near.now.items _ c.args.i c.index.result.now refl (omega arith) c.index.ensures in
-    c.wake.ensures.below _ (c.requires.near c.args.i c.index.result.now at).0 c.requires.below
+    let n = c.requires.ties_len in
+    let at = slice_get_read c.args.ties.now.items _ c.args.i c.index-tied.result.now refl (omega arith) c.index-tied.ensures in
+    c.wake.ensures.below _ (c.requires.ties c.args.i c.index-tied.result.now at).near.0 c.requires.below
 
 pub returns : goal.returns
 returns g c =
     let given = c.in_ok-pause.ensures.given in
     let e = c.in_ok-wake.ensures in
     let l = c.requires.instance in
-    let n = c.requires.near_len in
-    let at = slice_get_read c.args.near.now.items _ c.args.i c.index.result.now refl (omega arith) c.index.ensures in
-    let around = c.requires.near c.args.i c.index.result.now at in
-    let woken : (p : ℕ) → AreWoken c.resume_within.new.net.program c.args.i p c.wake.new.later.items = subst (λ (z : Program × Input). (p : ℕ) → AreWoken z.0 c.args.i p c.wake.new.later.items) (sym given) (λ p. woken_by c.args.net.now.program c.args.i p c.index.result.now.items c.wake.new.later.items e.woken (around.1 p)) in
+    let n = c.requires.ties_len in
+    let at = slice_get_read c.args.ties.now.items _ c.args.i c.index-tied.result.now refl (omega arith) c.index-tied.ensures in
+    let near = (c.requires.ties c.args.i c.index-tied.result.now at).near in
+    let woken : (p : ℕ) → AreWoken c.resume_within.new.net.program c.args.i p c.wake.new.later.items = subst (λ (z : Program × Input). (p : ℕ) → AreWoken z.0 c.args.i p c.wake.new.later.items) (sym given) (λ p. woken_by c.args.net.now.program c.args.i p c.index-tied.result.now.near.items c.wake.new.later.items e.woken (near.1 p)) in
     record {
       given = given;
-      below = e.below _ around.0 c.requires.below;
+      below = e.below _ near.0 c.requires.below;
       listed_len = e.listed_len;
       listed = e.listed;
       visited = visited_woken c.args.net.now c.resume_within.new.net c.args.i c.args.budget c.args.left.now c.resume_within.new.left c.in_ok-pause.pause c.in_ok-pause.made c.in_ok-pause.ensures.resumed c.valid.ensures c.requires.instance c.requires.within c.if-goes_past.ensures (let z = c.if-made-eq0.false in omega arith) c.args.later.now.items c.wake.new.later.items e.kept woken;
