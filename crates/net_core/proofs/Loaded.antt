@@ -190,15 +190,15 @@ none_listed zero x e = cc
 none_listed (suc n) zero e = cc
 none_listed (suc n) (suc x) e = none_listed n x e
 
+each_next : {A : Type 0} (xs : List A) (y : A) (P : ℕ → A → Type 0) → ((i : ℕ) (x : A) → slice_get xs i ≡ Some x → P i x) → P (length xs) y → (i : ℕ) (x : A) → slice_get (xs ++ y ∷ []) i ≡ Some x → P i x
+each_next [] y P h g zero x at = let q : y ≡ x = cc in subst (P 0) q g
+each_next [] y P h g (suc i) x at = cc
+each_next (z ∷ xs) y P h g zero x at = h zero x at
+each_next (z ∷ xs) y P h g (suc i) x at = each_next xs y (λ n. P (suc n)) (λ n w k. h (suc n) w k) g i x at
+
 -- what holds of each item of a list and of one more
 pub each_push : {A : Type 0} (xs zs : List A) (y : A) (P : ℕ → A → Type 0) → zs ≡ xs ++ y ∷ [] → ((i : ℕ) (x : A) → slice_get xs i ≡ Some x → P i x) → P (length xs) y → (i : ℕ) (x : A) → slice_get zs i ≡ Some x → P i x
-each_push xs zs y P e h g i x at = go xs P h g i (subst (λ v. slice_get v i ≡ Some x) e at)
-  where
-    go : (xs : List A) (P : ℕ → A → Type 0) → ((i : ℕ) (x : A) → slice_get xs i ≡ Some x → P i x) → P (length xs) y → (i : ℕ) → slice_get (xs ++ y ∷ []) i ≡ Some x → P i x
-    go [] P h g zero at = let q : y ≡ x = cc in subst (P 0) q g
-    go [] P h g (suc i) at = cc
-    go (z ∷ xs) P h g zero at = h zero x at
-    go (z ∷ xs) P h g (suc i) at = go xs (λ n. P (suc n)) (λ n w k. h (suc n) w k) g i at
+each_push xs zs y P e h g i x at = each_next xs y P h g i x (subst (λ v. slice_get v i ≡ Some x) e at)
 
 -- a tie has the position of its stream's writer
 pub tie_written : (program : Program) → IsConnected program → (writers : List ℕ) (i p : ℕ) (tie : Tie) → ((s : ℕ) → s < length program.streams.items → IsWriter program s (producer_of program s) (slice_index writers s)) → IsTie program i p tie → slice_index writers tie.stream ≡ tie.position
