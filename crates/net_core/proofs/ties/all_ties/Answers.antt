@@ -1,4 +1,4 @@
-use Rattle.std.proofs.Common.{◌≡◌, ◌+◌, length, [], ◌∷◌, ap, ◌∙◌, subst, sym, arith, length-append}
+use Rattle.std.proofs.Common.{length, [], ◌∷◌, ap, ◌∙◌, subst, sym, arith, length-append}
 use Rattle.net_core.specs.declared.ties.Ties.{Ties}
 use Rattle.net_core.specs.Ties.{AreTiesOf}
 use Rattle.net_core.proofs.Loaded.{each_push}

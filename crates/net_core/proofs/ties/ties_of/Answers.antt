@@ -1,4 +1,4 @@
-use Rattle.std.proofs.Common.{◌≡◌, ◌+◌, length, [], ◌∷◌, ap, ◌∙◌, subst, sym, arith, length-append}
+use Rattle.std.proofs.Common.{length, [], ◌∷◌, ap, ◌∙◌, subst, sym, arith, length-append}
 use Rattle.net_core.specs.Ties.{IsTie}
 use Rattle.net_core.proofs.Loaded.{each_push}
 use Rattle.net_core.proofs.ties.ties_of.Goals as goal
