@@ -2,9 +2,11 @@
 use Rattle.std.proofs.Common.{◌≡◌, ℕ, zero, suc, ◌+◌, ◌<◌, List, [], ◌∷◌, ◌++◌, length, map, take, drop, Bool, true, false, Option, Some, None, refl, sym, ap, ◌∙◌, subst, arith}
 use Rattle.std.specs.Prelude.{slice_get, replicate, slice_index, if◌then◌else◌}
 use Rattle.std.proofs.lemmas.List.{map-append}
+use Rattle.std.proofs.lemmas.Option.{slice_get_within}
 use Rattle.tapa_syntax.specs.declared.program.End.{End}
 use Rattle.net_core.specs.declared.port.Port.{Port}
 use Rattle.net_core.proofs.Chunk.{take_get}
+use Rattle.net_core.proofs.Loaded.{each_push}
 use Rattle.std.proofs.Math.Path.{fun_ext}
 use Rattle.kahn_model.specs.declared.tick.Tick.{Tick}
 use Rattle.tapa_syntax.specs.declared.program.Program.{Program}
@@ -112,10 +114,4 @@ not_some (suc n) zero x e = cc
 not_some (suc n) (suc i) x e = not_some n i x e
 
 pub fed_push : (program : Program) (xs zs : List Bool) (y : Bool) → zs ≡ xs ++ y ∷ [] → ((i : ℕ) (b : Bool) → i < length xs → slice_get xs i ≡ Some b → TellsFedBySelf program i b) → TellsFedBySelf program (length xs) y → (i : ℕ) (b : Bool) → i < length zs → slice_get zs i ≡ Some b → TellsFedBySelf program i b
-fed_push program xs zs y e h g i b l at = go xs (TellsFedBySelf program) h g i b (subst (λ v. slice_get v i ≡ Some b) e at)
-  where
-    go : (xs : List Bool) (P : ℕ → Bool → Type 0) → ((i : ℕ) (b : Bool) → i < length xs → slice_get xs i ≡ Some b → P i b) → P (length xs) y → (i : ℕ) (b : Bool) → slice_get (xs ++ y ∷ []) i ≡ Some b → P i b
-    go [] P h g zero b at = let q : y ≡ b = cc in subst (P 0) q g
-    go [] P h g (suc i) b at = cc
-    go (x ∷ xs) P h g zero b at = h zero b (omega arith) at
-    go (x ∷ xs) P h g (suc i) b at = go xs (λ n. P (suc n)) (λ n c k. h (suc n) c (omega arith)) g i b at
+fed_push program xs zs y e h g i b l at = each_push xs zs y (TellsFedBySelf program) e (λ n c k. h n c (slice_get_within xs n c k) k) g i b at

@@ -1,6 +1,6 @@
 -- Filled ports.
-use Rattle.std.proofs.Common.{◌≡◌, ℕ, zero, suc, ◌+◌, ◌-◌, ◌<◌, ◌≤◌, List, [], ◌∷◌, ◌++◌, length, drop, Bool, true, Some, refl, sym, ap, ◌∙◌, subst, ⊎_elim, arith}
-use Rattle.std.specs.Prelude.{slice_get, slice_index, slice_set}
+use Rattle.std.proofs.Common.{◌≡◌, ℕ, zero, suc, ◌+◌, ◌-◌, ◌<◌, ◌≤◌, List, [], ◌∷◌, ◌++◌, length, drop, Bool, true, false, Some, refl, sym, ap, ◌∙◌, subst, ⊎_elim, arith}
+use Rattle.std.specs.Prelude.{replicate, slice_get, slice_index, slice_set}
 use Rattle.std.proofs.lemmas.Bool.{cases_lt, cases_eq}
 use Rattle.tapa_syntax.specs.declared.program.Program.{Program}
 use Rattle.net_core.specs.declared.ports.Ports.{Ports}
@@ -10,6 +10,8 @@ use Rattle.net_core.specs.Kinds.{kind_in}
 use Rattle.net_core.specs.Ports.{carried, kind_at, port_count, ends_by, carried_by, IsReloaded, ends_in, carried_of, waiting_of, room_of}
 use Rattle.net_core.specs.Bindings.{IsConnected, IsWriter, arity, ends_at, arity_in, stream_at, stream_in, Reads, Writes, producer_of, consumer_of, depth_of}
 use Rattle.net_core.proofs.Moves.{has_item, get_set_other, port_count_is}
+use Rattle.net_core.specs.declared.ties.Tie.{Tie}
+use Rattle.net_core.specs.Ties.{IsTie}
 use Rattle.net_core.specs.Load.{IsIn, AreBelow, AreListed, AreKept, AreLoaded, IsLoaded, AreWoken, list_at, queue_at}
 
 pub in_streams : (program : Program) → IsConnected program → (i p : ℕ) → i < length program.instances.items → p < arity program i → stream_at program i p < length program.streams.items
@@ -132,11 +134,15 @@ below_push m [] y h l (suc n) x e = cc
 below_push m (z ∷ xs) y h l zero x e = h zero x e
 below_push m (z ∷ xs) y h l (suc n) x e = below_push m xs y (λ n' x' e'. h (suc n') x' e') l n x e
 
+-- what is on a list is on a longer one
+pub woken_by : (program : Program) (i p : ℕ) (xs zs : List ℕ) → ((x : ℕ) → IsIn x xs → IsIn x zs) → AreWoken program i p xs → AreWoken program i p zs
+woken_by program i p xs zs kept h = record { reader = λ d. kept _ (h.reader d); writer = λ d. kept _ (h.writer d) }
+
 -- one more port's other end is on the list
 pub woken_more : (program : Program) (i p : ℕ) (xs zs : List ℕ) (y : ℕ) → ((x : ℕ) → IsIn x xs → IsIn x zs) → IsIn y zs → ((q : ℕ) → q < p → AreWoken program i q xs) → (Writes program i p → y ≡ consumer_of program (stream_at program i p)) → (Reads program i p → y ≡ producer_of program (stream_at program i p)) → (q : ℕ) → q < p + 1 → AreWoken program i q zs
 woken_more program i p xs zs y kept there h w r q l =
     ⊎_elim
-    (λ (e : q < p). record { reader = λ d. kept _ ((h q e).reader d); writer = λ d. kept _ ((h q e).writer d) })
+    (λ (e : q < p). woken_by program i q xs zs kept (h q e))
     (λ (e : p ≤ q). let same : p ≡ q = omega arith in
     subst (λ x. AreWoken program i x zs) same
     (record {
@@ -160,3 +166,42 @@ all_push i xs h j l =
     (λ (e : j < i). in_more xs (i ∷ []) j (h j e))
     (λ (e : i ≤ j). let same : i ≡ j = omega arith in subst (λ z. IsIn z (xs ++ i ∷ [])) same (in_last xs i))
     (cases_lt j i)
+
+-- one more item of a list is on another
+pub all_more : (near xs zs : List ℕ) (n y : ℕ) → slice_get near n ≡ Some y → ((x : ℕ) → IsIn x xs → IsIn x zs) → IsIn y zs → ((m x : ℕ) → m < n → slice_get near m ≡ Some x → IsIn x xs) → (m x : ℕ) → m < n + 1 → slice_get near m ≡ Some x → IsIn x zs
+all_more near xs zs n y at kept there h m x l e =
+    ⊎_elim
+    (λ (q : m < n). kept x (h m x q e))
+    (λ (q : n ≤ m).
+    let same : m ≡ n = omega arith in
+    let here : slice_get near n ≡ Some x = subst (λ z. slice_get near z ≡ Some x) same e in
+    let is : y ≡ x = cc in
+    subst (λ z. IsIn z zs) is there)
+    (cases_lt m n)
+
+-- nothing is in an empty list
+pub none_in : {A : Type 0} (n : ℕ) (x : A) (l : List A) → l ≡ [] → slice_get l n ≡ Some x → ⊥
+none_in n x [] e h = cc
+none_in n x (y ∷ l) e h = cc
+
+-- no instance is listed at first
+pub none_listed : (n x : ℕ) → slice_get (replicate n false) x ≡ Some true → ⊥
+none_listed zero x e = cc
+none_listed (suc n) zero e = cc
+none_listed (suc n) (suc x) e = none_listed n x e
+
+each_next : {A : Type 0} (xs : List A) (y : A) (P : ℕ → A → Type 0) → ((i : ℕ) (x : A) → slice_get xs i ≡ Some x → P i x) → P (length xs) y → (i : ℕ) (x : A) → slice_get (xs ++ y ∷ []) i ≡ Some x → P i x
+each_next [] y P h g zero x at = let q : y ≡ x = cc in subst (P 0) q g
+each_next [] y P h g (suc i) x at = cc
+each_next (z ∷ xs) y P h g zero x at = h zero x at
+each_next (z ∷ xs) y P h g (suc i) x at = each_next xs y (λ n. P (suc n)) (λ n w k. h (suc n) w k) g i x at
+
+-- what holds of each item of a list and of one more
+pub each_push : {A : Type 0} (xs zs : List A) (y : A) (P : ℕ → A → Type 0) → zs ≡ xs ++ y ∷ [] → ((i : ℕ) (x : A) → slice_get xs i ≡ Some x → P i x) → P (length xs) y → (i : ℕ) (x : A) → slice_get zs i ≡ Some x → P i x
+each_push xs zs y P e h g i x at = each_next xs y P h g i x (subst (λ v. slice_get v i ≡ Some x) e at)
+
+-- a tie has the position of its stream's writer
+pub tie_written : (program : Program) → IsConnected program → (writers : List ℕ) (i p : ℕ) (tie : Tie) → ((s : ℕ) → s < length program.streams.items → IsWriter program s (producer_of program s) (slice_index writers s)) → IsTie program i p tie → slice_index writers tie.stream ≡ tie.position
+tie_written program connected writers i p tie w t =
+    let a = w tie.stream t.stream_in in
+    connected.writes_one (producer_of program tie.stream) (slice_index writers tie.stream) tie.position a.0 t.writer.0 (a.1 ∙ sym t.writer.1)

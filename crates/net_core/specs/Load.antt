@@ -70,3 +70,7 @@ pub record AreLoaded (program : Program) (m i : ℕ) (before : List Ports) (writ
 pub record AreWoken (program : Program) (i p : ℕ) (later : List ℕ) : Type 0 where
   pub reader : Writes program i p → IsIn (consumer_of program (stream_at program i p)) later
   pub writer : Reads program i p → IsIn (producer_of program (stream_at program i p)) later
+
+-- the list has the other end of each port's stream of instance i
+abbrev pub AreNeighbours : Program → ℕ → List ℕ → Type 0
+AreNeighbours program i near = AreBelow (length program.instances.items) near × ((p : ℕ) → AreWoken program i p near)

@@ -1,13 +1,15 @@
 // The ports of an instance, loaded from the streams before a call and read after it.
 
-ghost use Rattle.std.specs.Prelude.{ℕ, ◌≡◌, ◌<◌, ◌≤◌, ◌-◌, ◌++◌, length, drop, slice_get, slice_index, Some, IfOk, is_ok, if◌then◌else◌};
+ghost use Rattle.std.specs.Prelude.{ℕ, ◌≡◌, ◌<◌, ◌≤◌, ◌-◌, ◌++◌, length, drop, replicate, slice_get, slice_index, Some, false, IfOk, is_ok, if◌then◌else◌};
 ghost use Rattle.net_core.specs.declared.ports.Ports.{Ports};
 ghost use Rattle.net_core.specs.Ports.{IsReloaded, ends_in, carried_of, waiting_of, room_of, port_count, kind_at};
 ghost use Rattle.net_core.specs.Bindings.{IsConnected, arity, ends_at, stream_at, Reads, Writes, producer_of, consumer_of, depth_of};
-ghost use Rattle.net_core.specs.Load.{IsIn, AreBelow, AreListed, AreKept, AreLoaded, IsLoaded, IsOffered, AreWoken, HasPorts, list_at};
+ghost use Rattle.net_core.specs.Load.{IsIn, AreBelow, AreListed, AreKept, AreLoaded, IsLoaded, IsOffered, AreWoken, AreNeighbours, HasPorts, list_at};
+ghost use Rattle.net_core.specs.Ties.{IsTie, AreTies};
 
-use crate::bindings::{arity, consumer, depth, producer, stream_at, writes_at};
+use crate::bindings::{arity, consumer, producer, stream_at, writes_at};
 use crate::ports::Ports;
+use crate::ties::{Tie, is_writing};
 use std::alloc::Global;
 use tapa_base::{OutOfMemory, Token};
 use tapa_syntax::Program;
@@ -54,11 +56,14 @@ fn load_reader(
     writers: &Vec<usize>,
     offered: &mut Vec<usize>,
     taken: &Vec<usize>,
+    tie: &Tie,
     i: usize,
     p: usize,
 ) -> Result<(), OutOfMemory>
     requires connected { IsConnected program.now }
     requires ports { HasPorts program.now all.old.items writers.now.items offered.old.items taken.now.items }
+    requires tie { IsTie program.now i p tie.now }
+    requires written { slice_index writers.now.items tie.now.stream ≡ tie.now.position }
     requires instance { i < length program.now.instances.items }
     requires reads { Reads program.now i p }
     ensures reloaded { IsReloaded all.old.items i p all.new.items }
@@ -67,14 +72,11 @@ fn load_reader(
     ensures whole { IfOk result (λ _. slice_index offered.new.items (stream_at program.now i p) ≡ length (list_at program.now all.old.items writers.now.items (stream_at program.now i p))) }
     ensures others { (s : ℕ) → (s ≡ stream_at program.now i p → ⊥) → slice_index offered.new.items s ≡ slice_index offered.old.items s }
 {
-    let s = stream_at(program, i, p);
-    let j = producer(program, s);
-    let q = writers[s];
-    let total = all[j].carried(q).len();
-    let from = offered[s];
+    let total = all[tie.producer].carried(tie.position).len();
+    let from = offered[tie.stream];
     if from < total {
-        offer_more(alloc, all, i, p, j, q, from)?;
-        offered[s] = total;
+        offer_more(alloc, all, i, p, tie.producer, tie.position, from)?;
+        offered[tie.stream] = total;
     }
     Ok(())
 }
@@ -84,10 +86,12 @@ fn load_writer(
     program: &Program,
     all: &mut Vec<Ports>,
     taken: &Vec<usize>,
+    tie: &Tie,
     i: usize,
     p: usize,
 ) -> Result<(), OutOfMemory>
     requires connected { IsConnected program.now }
+    requires tie { IsTie program.now i p tie.now }
     requires ends { ends_in all.old.items i ≡ ends_at program.now i }
     requires taken_len { length taken.now.items ≡ length program.now.streams.items }
     requires ports_len { length all.old.items ≡ length program.now.instances.items }
@@ -96,10 +100,9 @@ fn load_writer(
     ensures reloaded { IsReloaded all.old.items i p all.new.items }
     ensures room { IfOk result (λ _. room_of all.new.items i p ≡ depth_of program.now (stream_at program.now i p) - (length (carried_of all.old.items i p) - slice_index taken.now.items (stream_at program.now i p))) }
 {
-    let s = stream_at(program, i, p);
     let len = all[i].carried(p).len();
-    let queue = len.saturating_sub(taken[s]);
-    let room = depth(program, s).saturating_sub(queue);
+    let queue = len.saturating_sub(taken[tie.stream]);
+    let room = tie.depth.saturating_sub(queue);
     all[i].make_room(p, room)
 }
 
@@ -111,21 +114,24 @@ fn load_port(
     writers: &Vec<usize>,
     offered: &mut Vec<usize>,
     taken: &Vec<usize>,
+    tie: &Tie,
     i: usize,
     p: usize,
 ) -> Result<(), OutOfMemory>
     requires connected { IsConnected program.now }
     requires ports { HasPorts program.now all.old.items writers.now.items offered.old.items taken.now.items }
+    requires tie { IsTie program.now i p tie.now }
+    requires written { slice_index writers.now.items tie.now.stream ≡ tie.now.position }
     requires instance { i < length program.now.instances.items }
     requires position { p < arity program.now i }
     ensures reloaded { IsReloaded all.old.items i p all.new.items }
     ensures ports { HasPorts program.now all.new.items writers.now.items offered.new.items taken.now.items }
     ensures loaded { IfOk result (λ _. IsLoaded program.now i p all.old.items writers.now.items taken.now.items offered.old.items all.new.items offered.new.items) }
 {
-    if writes_at(program, i, p) {
-        load_writer(program, all, taken, i, p)
+    if is_writing(program, tie, i, p) {
+        load_writer(program, all, taken, tie, i, p)
     } else {
-        load_reader(alloc, program, all, writers, offered, taken, i, p)
+        load_reader(alloc, program, all, writers, offered, taken, tie, i, p)
     }
 }
 
@@ -137,17 +143,20 @@ pub fn load_ports(
     writers: &Vec<usize>,
     offered: &mut Vec<usize>,
     taken: &Vec<usize>,
+    ties: &Vec<Tie>,
     i: usize,
 ) -> Result<(), OutOfMemory>
     requires connected { IsConnected program.now }
     requires ports { HasPorts program.now all.old.items writers.now.items offered.old.items taken.now.items }
     requires instance { i < length program.now.instances.items }
+    requires as_many { length ties.now.items ≡ arity program.now i }
+    requires ties { AreTies program.now i ties.now.items }
     ensures kept { AreKept all.old.items offered.old.items all.new.items offered.new.items }
     ensures ports { HasPorts program.now all.new.items writers.now.items offered.new.items taken.now.items }
     ensures loaded { IfOk result (λ _. AreLoaded program.now (arity program.now i) i all.old.items writers.now.items taken.now.items all.new.items offered.new.items) }
 {
-    for p in 0..arity(program, i) {
-        load_port(alloc, program, all, writers, offered, taken, i, p)?;
+    for p in 0..ties.len() {
+        load_port(alloc, program, all, writers, offered, taken, &ties[p], i, p)?;
     }
     Ok(())
 }
@@ -158,10 +167,12 @@ fn count_taken_at(
     all: &Vec<Ports>,
     offered: &Vec<usize>,
     taken: &mut Vec<usize>,
+    tie: &Tie,
     i: usize,
     p: usize,
 )
     requires connected { IsConnected program.now }
+    requires tie { IsTie program.now i p tie.now }
     requires instance { i < length program.now.instances.items }
     requires position { p < arity program.now i }
     requires ports_len { length all.now.items ≡ length program.now.instances.items }
@@ -173,11 +184,10 @@ fn count_taken_at(
     ensures took { Reads program.now i p → slice_index taken.new.items (stream_at program.now i p) ≡ slice_index offered.now.items (stream_at program.now i p) - length (waiting_of all.now.items i p) }
     ensures others { (s : ℕ) → (Reads program.now i p → s ≡ stream_at program.now i p → ⊥) → slice_index taken.new.items s ≡ slice_index taken.old.items s }
 {
-    if writes_at(program, i, p) {
+    if is_writing(program, tie, i, p) {
         return;
     }
-    let s = stream_at(program, i, p);
-    taken[s] = offered[s] - all[i].left(p);
+    taken[tie.stream] = offered[tie.stream] - all[i].left(p);
 }
 
 // Takes over what an instance took from its ports.
@@ -186,10 +196,13 @@ pub fn count_taken(
     all: &Vec<Ports>,
     offered: &Vec<usize>,
     taken: &mut Vec<usize>,
+    ties: &Vec<Tie>,
     i: usize,
 )
     requires connected { IsConnected program.now }
     requires instance { i < length program.now.instances.items }
+    requires as_many { length ties.now.items ≡ arity program.now i }
+    requires ties { AreTies program.now i ties.now.items }
     requires ports_len { length all.now.items ≡ length program.now.instances.items }
     requires ends { ends_in all.now.items i ≡ ends_at program.now i }
     requires offered_len { length offered.now.items ≡ length program.now.streams.items }
@@ -199,8 +212,8 @@ pub fn count_taken(
     ensures took { (p : ℕ) → Reads program.now i p → slice_index taken.new.items (stream_at program.now i p) ≡ slice_index offered.now.items (stream_at program.now i p) - length (waiting_of all.now.items i p) }
     ensures others { (s : ℕ) → ((p : ℕ) → Reads program.now i p → stream_at program.now i p ≡ s → ⊥) → slice_index taken.new.items s ≡ slice_index taken.old.items s }
 {
-    for p in 0..arity(program, i) {
-        count_taken_at(program, all, offered, taken, i, p);
+    for p in 0..ties.len() {
+        count_taken_at(program, all, offered, taken, &ties[p], i, p);
     }
 }
 
@@ -239,7 +252,7 @@ fn enlist(later: &mut Vec<usize>, listed: &mut Vec<bool>, j: usize) -> Result<()
 }
 
 // Puts the other ends of an instance's streams on a list, each once.
-pub fn wake(
+fn list_other_ends(
     program: &Program,
     later: &mut Vec<usize>,
     listed: &mut Vec<bool>,
@@ -258,6 +271,45 @@ pub fn wake(
 {
     for p in 0..arity(program, i) {
         enlist(later, listed, other_end(program, i, p))?;
+    }
+    Ok(())
+}
+
+// No instance is listed.
+fn none_listed(alloc: Global, n: usize) -> Result<Vec<bool>, OutOfMemory>
+    ensures { IfOk result (λ v. v.items ≡ replicate n false) }
+{
+    Ok(vec![in alloc; false; n]?)
+}
+
+/// The instances at the other ends of an instance's streams, each once.
+pub fn neighbours(alloc: Global, program: &Program, i: usize) -> Result<Vec<usize>, OutOfMemory>
+    requires connected { IsConnected program.now }
+    requires instance { i < length program.now.instances.items }
+    ensures { IfOk result (λ near. AreNeighbours program.now i near.items) }
+{
+    let mut near = Vec::new(alloc);
+    let mut listed = none_listed(alloc, program.instances.len())?;
+    list_other_ends(program, &mut near, &mut listed, i)?;
+    Ok(near)
+}
+
+/// Puts the neighbours of an instance on a list, each once.
+pub fn wake(
+    near: &Vec<usize>,
+    later: &mut Vec<usize>,
+    listed: &mut Vec<bool>,
+) -> Result<(), OutOfMemory>
+    requires inside { AreBelow (length listed.old.items) near.now.items }
+    requires listed { AreListed listed.old.items later.old.items }
+    ensures below { (m : ℕ) → AreBelow m near.now.items → AreBelow m later.old.items → AreBelow m later.new.items }
+    ensures listed_len { length listed.new.items ≡ length listed.old.items }
+    ensures listed { AreListed listed.new.items later.new.items }
+    ensures kept { (x : ℕ) → IsIn x later.old.items → IsIn x later.new.items }
+    ensures woken { IfOk result (λ _. (x : ℕ) → IsIn x near.now.items → IsIn x later.new.items) }
+{
+    for x in 0..near.len() {
+        enlist(later, listed, near[x])?;
     }
     Ok(())
 }

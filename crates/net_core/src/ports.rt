@@ -29,6 +29,7 @@ pub struct Ports {
 
 impl Ports {
     /// The token that waits at a port.
+    #[inline(always)]
     pub fn front(&self, s: u32) -> Option<Token>
         requires { s < port_count self.now }
         ensures token { result ≡ slice_get (waiting self.now s) 0 }
@@ -39,6 +40,7 @@ impl Ports {
     }
 
     /// Takes the token that waits at a port.
+    #[inline(always)]
     pub fn take(&mut self, s: u32) -> Option<Token>
         requires { s < port_count self.old }
         ensures token { result ≡ slice_get (waiting self.old s) 0 }
@@ -56,6 +58,7 @@ impl Ports {
     }
 
     /// Whether a port has room for a token.
+    #[inline(always)]
     pub fn room(&self, s: u32) -> bool
         requires { s < port_count self.now }
         ensures { IsTrue result ↔ 0 < room_at self.now s }
@@ -64,6 +67,7 @@ impl Ports {
     }
 
     /// Puts a token, where there is room.
+    #[inline(always)]
     pub fn put(&mut self, s: u32, t: Token) -> bool
         requires port { s < port_count self.old }
         requires kind { IsTokenOf (kind_at self.old s) t }

@@ -6,11 +6,14 @@ ghost use Rattle.net_core.specs.Job.{Job};
 ghost use Rattle.net_core.specs.Resume.{CanResume, Agrees, Resumed};
 ghost use Rattle.net_core.specs.Ports.{ends_of};
 ghost use Rattle.net_core.specs.State.{count, HasResumed};
+ghost use Rattle.net_core.specs.Bindings.{arity};
+ghost use Rattle.net_core.specs.Ties.{AreTies};
 
 use crate::body::{Body, Pause};
 use crate::load::{count_taken, load_ports};
 use crate::net::Net;
 use crate::ports::Ports;
+use crate::ties::Tie;
 use std::alloc::Global;
 use tapa_base::OutOfMemory;
 
@@ -40,10 +43,13 @@ fn told(fed_by_self: bool, made: u64, pause: Pause) -> Pause
 pub fn resume_instance<B: Body>(
     alloc: Global,
     net: &mut Net<B>,
+    ties: &Vec<Tie>,
     i: usize,
     fuel: u64,
 ) -> Result<(Pause, u64), OutOfMemory>
     requires instance { i < length net.old.program.instances.items }
+    requires as_many { length ties.now.items ≡ arity net.old.program i }
+    requires ties { AreTies net.old.program i ties.now.items }
     requires fits { count net.old i + fuel < 2 ^ 64 }
     ensures failed { OnErr result (net.new ≡ net.old) }
     ensures resumed { IfOk result (λ r. HasResumed net.old net.new i fuel r.0 r.1) }
@@ -55,10 +61,18 @@ pub fn resume_instance<B: Body>(
         &net.writers,
         &mut net.offered,
         &net.taken,
+        ties,
         i,
     )?;
     let (pause, made) = resume_body(&mut net.bodies[i], &mut net.ports[i], fuel);
-    count_taken(&net.program, &net.ports, &net.offered, &mut net.taken, i);
+    count_taken(
+        &net.program,
+        &net.ports,
+        &net.offered,
+        &mut net.taken,
+        ties,
+        i,
+    );
     net.counts[i] += made;
     net.pauses[i] = Some(told(net.fed_by_self[i], made, pause));
     Ok((pause, made))

@@ -1,12 +1,14 @@
 use Rattle.std.proofs.Common.{◌≡◌, ℕ, ◌<◌, ◌⊎◌, inr, length, List, true, refl, sym, ap, subst, ⊎_elim, ◌∙◌, arith}
-use Rattle.std.specs.Prelude.{Vec}
+use Rattle.std.specs.Prelude.{Vec, slice_index}
 use Rattle.std.specs.declared.alloc.Global.{Global}
 use Rattle.std.proofs.lemmas.Bool.Decides.{nat_tests}
 use Rattle.std.proofs.lemmas.Option.{slice_get_within}
 use Rattle.tapa_syntax.specs.declared.program.Program.{Program}
 use Rattle.net_core.specs.declared.input.Input.{Input}
 use Rattle.net_core.specs.declared.net_state.NetState.{NetState}
+use Rattle.net_core.specs.Bindings.{IsConnected, IsWriter, producer_of}
 use Rattle.net_core.specs.Load.{IsIn, AreBelow, AreListed}
+use Rattle.net_core.specs.Ties.{AreAllTies}
 use Rattle.net_core.specs.Settle.{IsAtRest, AreJoinedEnded, IsSomeJoinedLeft, IsSomeWithFuel, AreNoneWithFuel}
 use Rattle.net_core.proofs.Settled.{limit_ends, done_ends, spent_ends, stopped_ends, told_joined, told_all}
 use Rattle.net_core.proofs.drive.settle_rounds.Goals as goal
@@ -15,6 +17,27 @@ use Rattle.net_core.proofs.drive.settle_rounds.Goals as goal
 rest_all : (net : NetState) (budget : ℕ) (now : List ℕ) → length now ≡ 0 → ((j : ℕ) → j < length net.program.instances.items → IsAtRest net budget j ⊎ IsIn j now) → (j : ℕ) → j < length net.program.instances.items → IsAtRest net budget j
 rest_all net budget now none rest j l =
     ⊎_elim (λ (q : IsAtRest net budget j). q) (λ (n : IsIn j now). let w = slice_get_within now n.0 j n.1 in absurd (omega arith)) (rest j l)
+
+pub all_ties-requires-clause-connected : goal.all_ties-requires-clause-connected
+all_ties-requires-clause-connected g c = subst IsConnected (sym c.deref.ensures) c.net.invariant.connected
+
+pub all_ties-requires-clause-writers_len : goal.all_ties-requires-clause-writers_len
+all_ties-requires-clause-writers_len g c = c.net.invariant.writers_len ∙ ap (λ (p : Program). length p.streams.items) (sym c.deref.ensures)
+
+pub all_ties-requires-clause-writers : goal.all_ties-requires-clause-writers
+all_ties-requires-clause-writers g c =
+    let writers = c.net.inside.writers.items in
+    subst (λ (p : Program). (s : ℕ) → s < length p.streams.items → IsWriter p s (producer_of p s) (slice_index writers s)) (sym c.deref.ensures) c.net.invariant.writer_is
+
+pub pass-requires-clause-ties_len : goal.pass-requires-clause-ties_len
+pass-requires-clause-ties_len g c =
+    let same : c.deref.result.now ≡ c.args.net.now.program = c.deref.ensures ∙ ap (λ (z : NetState). z.program) c.net.view_is in
+    c.in_ok-ties.ensures.len ∙ ap (λ (p : Program). length p.instances.items) same ∙ ap (λ (z : Program × Input). length z.0.instances.items) (sym c.rounds.invariant.given)
+
+pub pass-requires-clause-ties : goal.pass-requires-clause-ties
+pass-requires-clause-ties g c =
+    let same : c.deref.result.now ≡ c.args.net.now.program = c.deref.ensures ∙ ap (λ (z : NetState). z.program) c.net.view_is in
+    subst (λ (z : Program × Input). AreAllTies z.0 c.in_ok-ties.ties.items) (sym c.rounds.invariant.given) (subst (λ (p : Program). AreAllTies p c.in_ok-ties.ties.items) same c.in_ok-ties.ensures.each)
 
 pub rounds-init : goal.rounds-init
 rounds-init g c =
@@ -63,8 +86,8 @@ returns-then-have_joined_ended-clause-outcome g c =
     let inv = c.rounds.invariant in
     let none : length c.rounds.now.items ≡ 0 = let t = c.rounds-test.ensures in let o = c.rounds.now.ok.0 in grind (arith, nat_tests) in
     let rest = rest_all c.rounds.net c.args.budget c.rounds.now.items none inv.rest in
-    let same = c.deref.ensures ∙ ap (λ (z : NetState). z.program) c.net-2.view_is in
-    let ended : AreJoinedEnded c.rounds.net.program c.rounds.net.pauses = subst (λ (p : Program). AreJoinedEnded p c.rounds.net.pauses) same (subst (λ (z : NetState). AreJoinedEnded c.deref.result.now z.pauses) c.net-2.view_is c.if-have_joined_ended.ensures) in
+    let same = c.deref-2.ensures ∙ ap (λ (z : NetState). z.program) c.net-2.view_is in
+    let ended : AreJoinedEnded c.rounds.net.program c.rounds.net.pauses = subst (λ (p : Program). AreJoinedEnded p c.rounds.net.pauses) same (subst (λ (z : NetState). AreJoinedEnded c.deref-2.result.now z.pauses) c.net-2.view_is c.if-have_joined_ended.ensures) in
     done_ends c.rounds.net c.valid-2.ensures c.args.budget c.rounds.left inv.within rest ended
 
 pub returns-then-have_joined_ended-clause-pauses : goal.returns-then-have_joined_ended-clause-pauses
@@ -78,8 +101,8 @@ returns-then-goes_on-clause-outcome g c =
     let inv = c.rounds.invariant in
     let none : length c.rounds.now.items ≡ 0 = let t = c.rounds-test.ensures in let o = c.rounds.now.ok.0 in grind (arith, nat_tests) in
     let rest = rest_all c.rounds.net c.args.budget c.rounds.now.items none inv.rest in
-    let same = c.deref.ensures ∙ ap (λ (z : NetState). z.program) c.net-2.view_is in
-    let left : IsSomeJoinedLeft c.rounds.net.program c.rounds.net.pauses = subst (λ (p : Program). IsSomeJoinedLeft p c.rounds.net.pauses) same (subst (λ (z : NetState). IsSomeJoinedLeft c.deref.result.now z.pauses) c.net-2.view_is c.if-have_joined_ended.ensures) in
+    let same = c.deref-2.ensures ∙ ap (λ (z : NetState). z.program) c.net-2.view_is in
+    let left : IsSomeJoinedLeft c.rounds.net.program c.rounds.net.pauses = subst (λ (p : Program). IsSomeJoinedLeft p c.rounds.net.pauses) same (subst (λ (z : NetState). IsSomeJoinedLeft c.deref-2.result.now z.pauses) c.net-2.view_is c.if-have_joined_ended.ensures) in
     spent_ends c.rounds.net c.valid-2.ensures c.args.budget c.rounds.left inv.within rest left (subst (λ (z : NetState). IsSomeWithFuel z.pauses) c.net-2.view_is c.if-goes_on.ensures)
 
 pub returns-clause-outcome : goal.returns-clause-outcome
@@ -87,8 +110,8 @@ returns-clause-outcome g c =
     let inv = c.rounds.invariant in
     let none : length c.rounds.now.items ≡ 0 = let t = c.rounds-test.ensures in let o = c.rounds.now.ok.0 in grind (arith, nat_tests) in
     let rest = rest_all c.rounds.net c.args.budget c.rounds.now.items none inv.rest in
-    let same = c.deref.ensures ∙ ap (λ (z : NetState). z.program) c.net-2.view_is in
-    let left : IsSomeJoinedLeft c.rounds.net.program c.rounds.net.pauses = subst (λ (p : Program). IsSomeJoinedLeft p c.rounds.net.pauses) same (subst (λ (z : NetState). IsSomeJoinedLeft c.deref.result.now z.pauses) c.net-2.view_is c.if-have_joined_ended.ensures) in
+    let same = c.deref-2.ensures ∙ ap (λ (z : NetState). z.program) c.net-2.view_is in
+    let left : IsSomeJoinedLeft c.rounds.net.program c.rounds.net.pauses = subst (λ (p : Program). IsSomeJoinedLeft p c.rounds.net.pauses) same (subst (λ (z : NetState). IsSomeJoinedLeft c.deref-2.result.now z.pauses) c.net-2.view_is c.if-have_joined_ended.ensures) in
     stopped_ends c.rounds.net c.valid-2.ensures c.args.budget c.rounds.left inv.within rest left (subst (λ (z : NetState). AreNoneWithFuel z.pauses) c.net-2.view_is c.if-goes_on.ensures)
 
 pub returns-clause-pauses : goal.returns-clause-pauses

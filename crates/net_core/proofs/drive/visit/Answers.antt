@@ -1,21 +1,37 @@
-use Rattle.std.proofs.Common.{◌≡◌, ℕ, length, refl, sym, ap, ◌∙◌, subst, arith}
+use Rattle.std.proofs.Common.{ℕ, refl, sym, subst, arith}
+use Rattle.std.proofs.lemmas.Option.{slice_get_read}
 use Rattle.tapa_syntax.specs.declared.program.Program.{Program}
 use Rattle.net_core.specs.declared.input.Input.{Input}
-use Rattle.net_core.specs.declared.net_state.NetState.{NetState}
 use Rattle.net_core.specs.Load.{AreBelow, AreWoken}
+use Rattle.net_core.proofs.Loaded.{woken_by}
 use Rattle.net_core.proofs.Quiet.{visited_limit, visited_none, visited_woken}
 use Rattle.net_core.proofs.drive.visit.Goals as goal
+
+pub resume_within-requires-clause-as_many : goal.resume_within-requires-clause-as_many
+resume_within-requires-clause-as_many g c =
+    let l = c.requires.instance in
+    let n = c.requires.ties_len in
+    let at = slice_get_read c.args.ties.now.items _ c.args.i c.index-tied.result.now refl (omega arith) c.index-tied.ensures in
+    (c.requires.ties c.args.i c.index-tied.result.now at).as_many
+
+pub resume_within-requires-clause-ties : goal.resume_within-requires-clause-ties
+resume_within-requires-clause-ties g c =
+    let l = c.requires.instance in
+    let n = c.requires.ties_len in
+    let at = slice_get_read c.args.ties.now.items _ c.args.i c.index-tied.result.now refl (omega arith) c.index-tied.ensures in
+    (c.requires.ties c.args.i c.index-tied.result.now at).each
 
 pub returns-then-goes_past-clause-visited : goal.returns-then-goes_past-clause-visited
 returns-then-goes_past-clause-visited g c =
     let h = c.if-goes_past.ensures in
     visited_limit c.args.net.now c.resume_within.new.net c.args.i c.args.budget c.args.left.now c.resume_within.new.left c.in_ok-pause.pause c.in_ok-pause.made c.in_ok-pause.ensures.resumed c.valid.ensures c.requires.instance c.requires.within h.0 h.1 c.args.later.now.items
 
-pub wake-requires-clause-listed_len : goal.wake-requires-clause-listed_len
-wake-requires-clause-listed_len g c =
-    let same = c.deref.ensures ∙ ap (λ (z : NetState). z.program) c.net.view_is in
-    let len : length c.deref.result.now.instances.items ≡ length c.args.net.now.program.instances.items = ap (λ (z : Program). length z.instances.items) same ∙ ap (λ (z : Program × Input). length z.0.instances.items) c.in_ok-pause.ensures.given in
-    c.requires.listed_len ∙ sym len
+pub wake-requires-clause-inside : goal.wake-requires-clause-inside
+wake-requires-clause-inside g c =
+    let l = c.requires.instance in
+    let n = c.requires.ties_len in
+    let at = slice_get_read c.args.ties.now.items _ c.args.i c.index-tied.result.now refl (omega arith) c.index-tied.ensures in
+    subst (λ m. AreBelow m c.index-tied.result.now.near.items) (sym c.requires.listed_len) (c.requires.ties c.args.i c.index-tied.result.now at).near.0
 
 pub returns-then-made-eq0 : goal.returns-then-made-eq0
 returns-then-made-eq0 g c = record {
@@ -26,16 +42,26 @@ returns-then-made-eq0 g c = record {
   visited = visited_none c.args.net.now c.resume_within.new.net c.args.i c.args.budget c.args.left.now c.resume_within.new.left c.in_ok-pause.pause c.in_ok-pause.made c.in_ok-pause.ensures.resumed c.valid.ensures c.requires.instance c.requires.within c.if-goes_past.ensures c.if-made-eq0.true c.args.later.now.items;
 }
 
+pub returns-in_err-wake-clause-below : goal.returns-in_err-wake-clause-below
+returns-in_err-wake-clause-below g c =
+    let l = c.requires.instance in
+    let n = c.requires.ties_len in
+    let at = slice_get_read c.args.ties.now.items _ c.args.i c.index-tied.result.now refl (omega arith) c.index-tied.ensures in
+    c.wake.ensures.below _ (c.requires.ties c.args.i c.index-tied.result.now at).near.0 c.requires.below
+
 pub returns : goal.returns
 returns g c =
     let given = c.in_ok-pause.ensures.given in
-    let same : c.deref.result.now ≡ c.resume_within.new.net.program = c.deref.ensures ∙ ap (λ (z : NetState). z.program) c.net.view_is in
-    let woken : (p : ℕ) → AreWoken c.resume_within.new.net.program c.args.i p c.wake.new.later.items = subst (λ z. (p : ℕ) → AreWoken z c.args.i p c.wake.new.later.items) same c.in_ok-wake.ensures.woken in
-    let len : length c.deref.result.now.instances.items ≡ length c.args.net.now.program.instances.items = ap (λ (z : Program). length z.instances.items) same ∙ ap (λ (z : Program × Input). length z.0.instances.items) given in
+    let e = c.in_ok-wake.ensures in
+    let l = c.requires.instance in
+    let n = c.requires.ties_len in
+    let at = slice_get_read c.args.ties.now.items _ c.args.i c.index-tied.result.now refl (omega arith) c.index-tied.ensures in
+    let near = (c.requires.ties c.args.i c.index-tied.result.now at).near in
+    let woken : (p : ℕ) → AreWoken c.resume_within.new.net.program c.args.i p c.wake.new.later.items = subst (λ (z : Program × Input). (p : ℕ) → AreWoken z.0 c.args.i p c.wake.new.later.items) (sym given) (λ p. woken_by c.args.net.now.program c.args.i p c.index-tied.result.now.near.items c.wake.new.later.items e.woken (near.1 p)) in
     record {
       given = given;
-      below = subst (λ m. AreBelow m c.wake.new.later.items) len c.in_ok-wake.ensures.below;
-      listed_len = c.in_ok-wake.ensures.listed_len;
-      listed = c.in_ok-wake.ensures.listed;
-      visited = visited_woken c.args.net.now c.resume_within.new.net c.args.i c.args.budget c.args.left.now c.resume_within.new.left c.in_ok-pause.pause c.in_ok-pause.made c.in_ok-pause.ensures.resumed c.valid.ensures c.requires.instance c.requires.within c.if-goes_past.ensures (let z = c.if-made-eq0.false in omega arith) c.args.later.now.items c.wake.new.later.items c.in_ok-wake.ensures.kept woken;
+      below = e.below _ near.0 c.requires.below;
+      listed_len = e.listed_len;
+      listed = e.listed;
+      visited = visited_woken c.args.net.now c.resume_within.new.net c.args.i c.args.budget c.args.left.now c.resume_within.new.left c.in_ok-pause.pause c.in_ok-pause.made c.in_ok-pause.ensures.resumed c.valid.ensures c.requires.instance c.requires.within c.if-goes_past.ensures (let z = c.if-made-eq0.false in omega arith) c.args.later.now.items c.wake.new.later.items e.kept woken;
     }

@@ -10,6 +10,7 @@ use Rattle.net_core.specs.Bindings.{arity, ends_at, stream_at, Reads}
 use Rattle.net_core.specs.Bounded.{instance_job, count_of}
 use Rattle.net_core.specs.Load.{HasPorts, AreLoaded}
 use Rattle.net_core.specs.State.{count, HasResumed}
+use Rattle.net_core.specs.Ties.{AreTies}
 use Rattle.net_core.specs.declared.net_state.NetState.{NetState}
 use Rattle.net_core.proofs.Moves.{get_set_same}
 use Rattle.net_core.proofs.Resuming.{told_for, loaded_net, has_ports, can_resume, ends_are, agrees_at, enough, count_set, net_is, has_resumed}
@@ -20,6 +21,26 @@ load_ports-requires-clause-ports g c =
     let I = c.net.inside in
     subst (λ p. HasPorts p I.ports.items I.writers.items I.offered.items I.taken.items) (sym c.deref.ensures)
     (has_ports g.B.Body.stands (arc_value I.program) (arc_value I.input) _ _ _ _ _ _ _ _ c.net.invariant)
+
+pub load_ports-requires-clause-as_many : goal.load_ports-requires-clause-as_many
+load_ports-requires-clause-as_many g c =
+    let same : c.deref.result.now ≡ c.args.net.now.program = c.deref.ensures ∙ ap (λ (z : NetState). z.program) c.net.view_is in
+    subst (λ (p : Program). length c.args.ties.now.items ≡ arity p c.args.i) (sym same) c.requires.as_many
+
+pub load_ports-requires-clause-ties : goal.load_ports-requires-clause-ties
+load_ports-requires-clause-ties g c =
+    let same : c.deref.result.now ≡ c.args.net.now.program = c.deref.ensures ∙ ap (λ (z : NetState). z.program) c.net.view_is in
+    subst (λ (p : Program). AreTies p c.args.i c.args.ties.now.items) (sym same) c.requires.ties
+
+pub count_taken-requires-clause-as_many : goal.count_taken-requires-clause-as_many
+count_taken-requires-clause-as_many g c =
+    let same : c.deref-2.result.now ≡ c.args.net.now.program = c.deref-2.ensures ∙ ap (λ (z : NetState). z.program) c.net.view_is in
+    subst (λ (p : Program). length c.args.ties.now.items ≡ arity p c.args.i) (sym same) c.requires.as_many
+
+pub count_taken-requires-clause-ties : goal.count_taken-requires-clause-ties
+count_taken-requires-clause-ties g c =
+    let same : c.deref-2.result.now ≡ c.args.net.now.program = c.deref-2.ensures ∙ ap (λ (z : NetState). z.program) c.net.view_is in
+    subst (λ (p : Program). AreTies p c.args.i c.args.ties.now.items) (sym same) c.requires.ties
 
 pub resume_body-pause-requires : goal.resume_body-pause-requires
 resume_body-pause-requires g c =
