@@ -150,6 +150,9 @@ pub(crate) fn on_loop(
     requires { (is_top : List ℕ → Bool) × IsEvidence library.now is_top loops.now }
     ensures { (is_top : List ℕ → Bool) → IsEvidence library.now is_top loops.now → IfOk result (λ b. (b ≡ true) ↔ LiesOnLoop library.now is_top (owner.now, Some name.now)) }
 {
+    if loops.suspects.is_empty() {
+        return Ok(false);
+    }
     let key = port_name(alloc, owner, name)?;
     for question in loops.questions.of_name(&key) {
         let found = question_loops(alloc, library, loops, *question, owner, name)?;

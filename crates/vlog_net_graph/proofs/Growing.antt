@@ -5,14 +5,14 @@ use Rattle.std.specs.List.{flat_map}
 use Rattle.std.proofs.lemmas.List.{append-nil}
 use Rattle.vlog_tree.specs.Grounded.{Has}
 use Rattle.vlog_tree.specs.Table.{Name}
-use Rattle.vlog_tree.specs.Loops.{Edges}
+use Rattle.vlog_tree.specs.Loops.{Edges, port_of}
 use Rattle.vlog_tree.proofs.Lists.{has_left, has_right, has_split}
 use Rattle.vlog_tree.proofs.Walks.{grows, over}
 use Rattle.vlog_rules.specs.NameTable.{value_in}
 use Rattle.vlog_net_graph.specs.declared.names.Draft.{Draft}
 use Rattle.vlog_net_graph.specs.Names.{IsDraftOf}
 use Rattle.vlog_net_graph.specs.Growth.{Adds}
-use Rattle.vlog_net_graph.proofs.Numbered.{numbered_alike}
+use Rattle.vlog_net_graph.specs.Merged.{port_pair, under}
 
 pub adds_nothing : (a : Draft) → Adds a a []
 adds_nothing a = record { graph = λ edges g. subst (λ e. IsDraftOf e a) (sym (append-nil edges)) g; listed = λ h. h }
@@ -23,18 +23,6 @@ adds_both a b c xs ys l r = record {
   listed = λ h. r.listed (l.listed h);
 }
 
-behind : (edges xs ys : Edges) → ((x y : Name) → Has xs (x, y) → Has ys (x, y)) → (x y : Name) → Has (edges ++ xs) (x, y) → Has (edges ++ ys) (x, y)
-behind edges xs ys to x y h = elim (has_split edges xs (x, y) h) [ inl l ↦ has_left edges ys (x, y) l | inr r ↦ has_right edges ys (x, y) (to x y r) ]
-
--- the same edges in another list
-pub adds_alike : (a b : Draft) (xs ys : Edges) → ((x y : Name) → Has xs (x, y) ↔ Has ys (x, y)) → Adds a b xs → Adds a b ys
-adds_alike a b xs ys both s = record {
-  graph = λ edges g.
-      numbered_alike (edges ++ xs) (edges ++ ys) (value_in b.numbers) (λ j k. Has b.edges.items (j, k)) (length b.names.items)
-      (λ x y. (behind edges xs ys (λ u v h. (both u v).0 h) x y, behind edges ys xs (λ u v h. (both u v).1 h) x y)) (s.graph edges g);
-  listed = s.listed;
-}
-
 pub map-append : {A B : Type 0} (f : A → B) (xs ys : List A) → map f (xs ++ ys) ≡ map f xs ++ map f ys
 map-append f [] ys = refl
 map-append f (x ∷ xs) ys = ap (λ l. f x ∷ l) (map-append f xs ys)
@@ -43,7 +31,7 @@ pub flat_map-append : {A B : Type 0} (f : A → List B) (xs ys : List A) → fla
 flat_map-append f [] ys = refl
 flat_map-append f (x ∷ xs) ys = ap (λ l. f x ++ l) (flat_map-append f xs ys) ∙ sym (append_assoc (f x) (flat_map f xs) (flat_map f ys))
 
-pub adds_mapped : (f : Name → Name × Name) (a b c : Draft) (xs ys : List Name) → Adds a b (map f xs) → Adds b c (map f ys) → Adds a c (map f (xs ++ ys))
+pub adds_mapped : {A : Type 0} (f : A → Name × Name) (a b c : Draft) (xs ys : List A) → Adds a b (map f xs) → Adds b c (map f ys) → Adds a c (map f (xs ++ ys))
 adds_mapped f a b c xs ys l r = subst (λ e. Adds a c e) (sym (map-append f xs ys)) (adds_both a b c (map f xs) (map f ys) l r)
 
 -- the elements that were gone over have added their edges
@@ -67,3 +55,20 @@ pub so_far_end : {A : Type 0} (f : List A → Edges) (xs : List A) (i : ℕ) (a 
 so_far_end f xs i a b none h s =
     let all : s.done ≡ f xs = sym (append-nil s.done) ∙ ap (λ l. s.done ++ l) (sym none) ∙ ap (λ l. s.done ++ f l) (sym (over xs i h)) ∙ s.rest in
     subst (λ e. Adds a b e) all s.adds
+
+-- ---- names with bytes in front
+
+pub fused : {A : Type 0} (front : Name) (f : A → Name × Name) (xs : List A) → map (λ x. under front (f x)) xs ≡ map (under front) (map f xs)
+fused front f [] = refl
+fused front f (x ∷ xs) = ap (λ l. under front (f x) ∷ l) (fused front f xs)
+
+pub under_none : (edges : Edges) → map (under []) edges ≡ edges
+under_none [] = refl
+under_none ((a, b) ∷ edges) = ap (λ l. (a, b) ∷ l) (under_none edges)
+
+pub under_named : (m : Name) (edges : Edges) → map (under (port_of m [])) edges ≡ map (port_pair m) edges
+unfolding port_of
+under_named m [] = refl
+under_named m ((a, b) ∷ edges) =
+    ap (λ l. under (m ++ 46 ∷ []) (a, b) ∷ l) (under_named m edges)
+    ∙ ap (λ e. e ∷ map (port_pair m) edges) (ap (λ x. (x, (m ++ 46 ∷ []) ++ b)) (append_assoc m (46 ∷ []) a) ∙ ap (λ y. (m ++ 46 ∷ a, y)) (append_assoc m (46 ∷ []) b))

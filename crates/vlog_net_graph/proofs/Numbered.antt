@@ -5,9 +5,7 @@ use Rattle.std.specs.Cmp.Lexicographic.{bytes_decides}
 use Rattle.vlog_tree.specs.Grounded.{Has}
 use Rattle.vlog_tree.specs.Table.{Name}
 use Rattle.vlog_tree.specs.Loops.{Edges, Chain, one, more, Reaches}
-use Rattle.vlog_graph.specs.Graphs.{targets_of}
-use Rattle.vlog_tree.proofs.Lists.{has_left, has_right, has_split, has_map, of_map, taken_mapped}
-use Rattle.vlog_net_graph.specs.Merged.{port_pair, named_edge}
+use Rattle.vlog_tree.proofs.Lists.{has_left, has_right, has_split, taken_mapped}
 use Rattle.vlog_net_graph.specs.Names.{IsNumbered, AreListed, texts}
 
 -- a number that no name has yet is given to a name
@@ -166,47 +164,3 @@ module _ {A : Type 0} (names : List (Vec ℕ A)) (v : Vec ℕ A) (old new : Name
 
   pub listed_more : AreListed new (texts (names ++ v ∷ []))
   listed_more x k h = listed_of x k _ refl (sym (step x) ∙ h)
-
--- the same edges in another list
-pub numbered_alike : (edges others : Edges) (number : Name → Option ℕ) (R : ℕ → ℕ → Type 0) (n : ℕ) → ((x y : Name) → Has edges (x, y) ↔ Has others (x, y))
-    → IsNumbered edges number R n → IsNumbered others number R n
-numbered_alike edges others number R n both g = record {
-  below = g.below;
-  distinct = g.distinct;
-  there = λ a b h. g.there a b ((both a b).1 h);
-  only = λ j k h. let t = g.only j k h in (t.0, t.1, t.2, t.3, (both t.0 t.1).0 t.4);
-}
-
--- the name of a number that a name has
-pub text_at : {A : Type 0} (names : List (Vec ℕ A)) (k : ℕ) (x : Name) → slice_get (texts names) k ≡ Some x → targets_of names k ≡ x
-text_at [] k x h = cc
-text_at (v ∷ names) zero x h = cc
-text_at (v ∷ names) (suc k) x h = text_at names k x h
-
--- the edges of a draft by their names, with a name and a dot before each
-module _ {A : Type 0} (m : Name) (edges : Edges) (number : Name → Option ℕ) (pairs : List (ℕ × ℕ)) (n : ℕ) (names : List (Vec ℕ A))
-    (g : IsNumbered edges number (λ j k. Has pairs (j, k)) n) (listed : AreListed number (texts names)) where
-  named_of : (a b : Name) (j k : ℕ) → number a ≡ Some j → number b ≡ Some k → named_edge m names (j, k) ≡ port_pair m (a, b)
-  named_of a b j k p q =
-      let first : targets_of names j ≡ a = text_at names j a (listed a j p) in
-      let second : targets_of names k ≡ b = text_at names k b (listed b k q) in
-      cc
-
-  named_there : (x y : Name) → Has (map (port_pair m) edges) (x, y) → Has (map (named_edge m names) pairs) (x, y)
-  named_there x y h =
-      let t = of_map (port_pair m) edges (x, y) h in
-      let s = g.there t.0.0 t.0.1 t.1 in
-      subst (λ (e : Name × Name). Has (map (named_edge m names) pairs) e) (named_of t.0.0 t.0.1 s.0 s.1 s.2 s.3 ∙ t.2) (has_map (named_edge m names) pairs (s.0, s.1) s.4)
-
-  named_only : (x y : Name) → Has (map (named_edge m names) pairs) (x, y) → Has (map (port_pair m) edges) (x, y)
-  named_only x y h =
-      let t = of_map (named_edge m names) pairs (x, y) h in
-      let s = g.only t.0.0 t.0.1 t.1 in
-      subst (λ (e : Name × Name). Has (map (port_pair m) edges) e) (sym (named_of s.0 s.1 t.0.0 t.0.1 s.2 s.3) ∙ t.2) (has_map (port_pair m) edges (s.0, s.1) s.4)
-
-  pub named_alike : (x y : Name) → Has (map (named_edge m names) pairs) (x, y) ↔ Has (map (port_pair m) edges) (x, y)
-  named_alike x y = (named_only x y, named_there x y)
-
-module _ {A : Type 0} (m : Name) (names others : List (Vec ℕ A)) (pairs more : List (ℕ × ℕ)) where
-  pub named_same : names ≡ others → pairs ≡ more → map (named_edge m names) pairs ≡ map (named_edge m others) more
-  named_same p q = ap (λ (l : List (Vec ℕ A)). map (named_edge m l) pairs) p ∙ ap (λ (l : List (ℕ × ℕ)). map (named_edge m others) l) q

@@ -4,14 +4,13 @@
 --
 -- By an example: module k has the ports `input a , output o`, and module p has a wire w and the line `k u ( .a ( w ) , .o ( w ) ) ;`.
 -- Of p's own lines p.u.a rests on p.w, and p.w on p.u.o; of the instance k.a rests on p.u.a, and p.u.o on k.o.
-use Rattle.std.specs.Prelude.{ℕ, List, Bool, false, ◌++◌, Option, Vec, bytes_eq, if◌then◌else◌, map}
+use Rattle.std.specs.Prelude.{List, Bool, false, ◌++◌, Option, bytes_eq, if◌then◌else◌, map}
 use Rattle.std.specs.List.{flat_map}
 use Rattle.std.specs.Option.{option_map_or}
 use Rattle.vlog_tree.specs.declared.table.Declaration.{Declaration}
 use Rattle.vlog_tree.specs.Form.{ModuleTree}
 use Rattle.vlog_tree.specs.Table.{Name, port_declared, net_kind_of, net_kind_is_input, ports_of}
 use Rattle.vlog_tree.specs.Loops.{Edges, port_of, direct_edges, instances}
-use Rattle.vlog_graph.specs.Graphs.{targets_of}
 
 -- whether a module is the top, by the name of the first that no other contains
 abbrev pub is_named : Option Name → Name → Bool
@@ -21,9 +20,9 @@ is_named root x = option_map_or (λ y. bytes_eq y x) root false
 abbrev pub port_pair : Name → Name × Name → Name × Name
 port_pair i e = (port_of i e.0, port_of i e.1)
 
--- a pair of numbers, by their names
-abbrev pub named_edge : {A : Type 0} → Name → List (Vec ℕ A) → ℕ × ℕ → Name × Name
-named_edge m names e = port_pair m (targets_of names e.0, targets_of names e.1)
+-- a pair of names, each with these bytes before it
+abbrev pub under : Name → Name × Name → Name × Name
+under front e = (front ++ e.0, front ++ e.1)
 
 -- a port, with the name of its module or instance before it, and a net that it is linked to: an input rests on the net, and the net
 -- on an output

@@ -7,7 +7,7 @@ ghost use Rattle.vlog_tree.specs.Table.{port_declared};
 ghost use Rattle.vlog_tree.specs.Loops.{atom_nets, value_nets, port_of, connection_edge, line_edges, answer_edges, memory_edges, direct_edges};
 ghost use Rattle.vlog_net_graph.specs.Names.{IsDraftOf, IsListed};
 ghost use Rattle.vlog_net_graph.specs.Growth.{Adds};
-ghost use Rattle.vlog_net_graph.specs.Merged.{is_named, port_edge};
+ghost use Rattle.vlog_net_graph.specs.Merged.{is_named, under};
 
 use crate::names::Draft;
 use std::alloc::{AllocError, Global};
@@ -20,7 +20,9 @@ use vlog_tree::{Atom, Connection, Declaration, Item, Module, Value, addr_name, r
 pub fn dotted(alloc: Global, before: &[u8], behind: &[u8]) -> Result<Vec<u8>, AllocError>
     ensures { IfOk result (λ v. v.items ≡ port_of before.now behind.now) }
 {
-    let mut name = before.to_vec(alloc)?;
+    let length = before.len().saturating_add(behind.len()).saturating_add(1);
+    let mut name = Vec::with_capacity(alloc, length)?;
+    name.extend_from_slice(before)?;
     name.push(b'.')?;
     name.extend_from_slice(behind)?;
     Ok(name)
@@ -41,88 +43,123 @@ pub fn add_edge(alloc: Global, g: &mut Draft, from: &[u8], to: &[u8]) -> Result<
     Ok(())
 }
 
-fn add_atom(alloc: Global, g: &mut Draft, x: &Text, atom: &Atom) -> Result<(), AllocError>
-    ensures { OnOk result (Adds g.old g.new (map (λ y. (x.now, y)) (atom_nets atom.now))) }
+fn joined(alloc: Global, front: &[u8], behind: &[u8]) -> Result<Vec<u8>, AllocError>
+    ensures { IfOk result (λ v. v.items ≡ front.now ++ behind.now) }
+{
+    let mut name = Vec::with_capacity(alloc, front.len().saturating_add(behind.len()))?;
+    name.extend_from_slice(front)?;
+    name.extend_from_slice(behind)?;
+    Ok(name)
+}
+
+// One more edge, of names with these bytes in front.
+fn add_under(
+    alloc: Global,
+    g: &mut Draft,
+    front: &[u8],
+    from: &[u8],
+    to: &[u8],
+) -> Result<(), AllocError>
+    ensures { OnOk result (Adds g.old g.new (under front.now (from.now, to.now) ∷ [])) }
+{
+    match front {
+        [] => add_edge(alloc, g, from, to),
+        _ => {
+            let from = joined(alloc, front, from)?;
+            let to = joined(alloc, front, to)?;
+            add_edge(alloc, g, &from, &to)
+        }
+    }
+}
+
+fn add_atom(
+    alloc: Global,
+    g: &mut Draft,
+    front: &[u8],
+    x: &Text,
+    atom: &Atom,
+) -> Result<(), AllocError>
+    ensures { OnOk result (Adds g.old g.new (map (λ y. under front.now (x.now, y)) (atom_nets atom.now))) }
 {
     match atom {
-        Atom::Net(y) => add_edge(alloc, g, x.bytes(), y.bytes()),
-        Atom::Part { net: y, .. } => add_edge(alloc, g, x.bytes(), y.bytes()),
+        Atom::Net(y) => add_under(alloc, g, front, x.bytes(), y.bytes()),
+        Atom::Part { net: y, .. } => add_under(alloc, g, front, x.bytes(), y.bytes()),
         Atom::Literal { .. } => Ok(()),
     }
 }
 
-fn add_two(alloc: Global, g: &mut Draft, x: &Text, a: &Atom, b: &Atom) -> Result<(), AllocError>
-    ensures { OnOk result (Adds g.old g.new (map (λ y. (x.now, y)) (atom_nets a.now ++ atom_nets b.now))) }
+fn add_two(
+    alloc: Global,
+    g: &mut Draft,
+    front: &[u8],
+    x: &Text,
+    a: &Atom,
+    b: &Atom,
+) -> Result<(), AllocError>
+    ensures { OnOk result (Adds g.old g.new (map (λ y. under front.now (x.now, y)) (atom_nets a.now ++ atom_nets b.now))) }
 {
-    add_atom(alloc, g, x, a)?;
-    add_atom(alloc, g, x, b)?;
+    add_atom(alloc, g, front, x, a)?;
+    add_atom(alloc, g, front, x, b)?;
     Ok(())
 }
 
 fn add_three(
     alloc: Global,
     g: &mut Draft,
+    front: &[u8],
     x: &Text,
     a: &Atom,
     b: &Atom,
     c: &Atom,
 ) -> Result<(), AllocError>
-    ensures { OnOk result (Adds g.old g.new (map (λ y. (x.now, y)) (atom_nets a.now ++ (atom_nets b.now ++ atom_nets c.now)))) }
+    ensures { OnOk result (Adds g.old g.new (map (λ y. under front.now (x.now, y)) (atom_nets a.now ++ (atom_nets b.now ++ atom_nets c.now)))) }
 {
-    add_atom(alloc, g, x, a)?;
-    add_two(alloc, g, x, b, c)?;
+    add_atom(alloc, g, front, x, a)?;
+    add_two(alloc, g, front, x, b, c)?;
     Ok(())
 }
 
-fn add_atoms(alloc: Global, g: &mut Draft, x: &Text, atoms: &[Atom]) -> Result<(), AllocError>
-    ensures { OnOk result (Adds g.old g.new (map (λ y. (x.now, y)) (flat_map atom_nets atoms.now))) }
+fn add_atoms(
+    alloc: Global,
+    g: &mut Draft,
+    front: &[u8],
+    x: &Text,
+    atoms: &[Atom],
+) -> Result<(), AllocError>
+    ensures { OnOk result (Adds g.old g.new (map (λ y. under front.now (x.now, y)) (flat_map atom_nets atoms.now))) }
 {
     for a in atoms {
-        add_atom(alloc, g, x, a)?;
+        add_atom(alloc, g, front, x, a)?;
     }
     Ok(())
 }
 
 // A driven net rests on the nets of its driver.
-fn add_value(alloc: Global, g: &mut Draft, x: &Text, value: &Value) -> Result<(), AllocError>
-    ensures { OnOk result (Adds g.old g.new (map (λ y. (x.now, y)) (value_nets value.now))) }
+fn add_value(
+    alloc: Global,
+    g: &mut Draft,
+    front: &[u8],
+    x: &Text,
+    value: &Value,
+) -> Result<(), AllocError>
+    ensures { OnOk result (Adds g.old g.new (map (λ y. under front.now (x.now, y)) (value_nets value.now))) }
 {
     match value {
-        Value::Plain(a) => add_atom(alloc, g, x, a),
-        Value::Invert(a) => add_atom(alloc, g, x, a),
+        Value::Plain(a) => add_atom(alloc, g, front, x, a),
+        Value::Invert(a) => add_atom(alloc, g, front, x, a),
         Value::Binary {
             left: a,
             right: b,
             ..
-        } => add_two(alloc, g, x, a, b),
+        } => add_two(alloc, g, front, x, a, b),
         Value::Choose {
             condition: c,
             yes: a,
             no: b,
-        } => add_three(alloc, g, x, c, a, b),
-        Value::Concat(atoms) => add_atoms(alloc, g, x, atoms.atoms()),
-        Value::Repeat { atom: a, .. } => add_atom(alloc, g, x, a),
-        Value::Cell { index: y, .. } => add_edge(alloc, g, x.bytes(), y.bytes()),
-    }
-}
-
-/// One more edge, of a port in the module of its instance and the net that it is linked to: an input rests on the net, and the net on
-/// an output. The ports are those of that module, and the port's name has the given one before it.
-pub(crate) fn add_port_edge(
-    alloc: Global,
-    g: &mut Draft,
-    ports: &Scope,
-    before: &Text,
-    port: &Text,
-    net: &[u8],
-) -> Result<(), AllocError>
-    ensures { OnOk result (Adds g.old g.new (port_edge ports.now before.now port.now net.now ∷ [])) }
-{
-    let name = port_name(alloc, before, port)?;
-    if is_input(ports.net_kind(port.bytes())) {
-        add_edge(alloc, g, &name, net)
-    } else {
-        add_edge(alloc, g, net, &name)
+        } => add_three(alloc, g, front, x, c, a, b),
+        Value::Concat(atoms) => add_atoms(alloc, g, front, x, atoms.atoms()),
+        Value::Repeat { atom: a, .. } => add_atom(alloc, g, front, x, a),
+        Value::Cell { index: y, .. } => add_under(alloc, g, front, x.bytes(), y.bytes()),
     }
 }
 
@@ -132,40 +169,56 @@ fn add_connection(
     alloc: Global,
     g: &mut Draft,
     ports: &Scope,
+    front: &[u8],
     instance: &Text,
     connection: &Connection,
 ) -> Result<(), AllocError>
-    ensures { OnOk result (Adds g.old g.new (connection_edge ports.now instance.now connection.now ∷ [])) }
+    ensures { OnOk result (Adds g.old g.new (under front.now (connection_edge ports.now instance.now connection.now) ∷ [])) }
 {
+    let name = port_name(alloc, instance, &connection.port)?;
     let net = connection.net.bytes();
-    add_port_edge(alloc, g, ports, instance, &connection.port, net)
+    if is_input(ports.net_kind(connection.port.bytes())) {
+        add_under(alloc, g, front, &name, net)
+    } else {
+        add_under(alloc, g, front, net, &name)
+    }
 }
 
 fn add_connections(
     alloc: Global,
     g: &mut Draft,
     ports: &Scope,
+    front: &[u8],
     instance: &Text,
     connections: &[Connection],
 ) -> Result<(), AllocError>
-    ensures { OnOk result (Adds g.old g.new (map (connection_edge ports.now instance.now) connections.now)) }
+    ensures { OnOk result (Adds g.old g.new (map (λ l. under front.now (connection_edge ports.now instance.now l)) connections.now)) }
 {
     for l in connections {
-        add_connection(alloc, g, ports, instance, l)?;
+        add_connection(alloc, g, ports, front, instance, l)?;
     }
     Ok(())
 }
 
-fn add_line(alloc: Global, g: &mut Draft, library: &Library, item: &Item) -> Result<(), AllocError>
-    ensures { OnOk result (Adds g.old g.new (line_edges library.now item.now)) }
+fn add_line(
+    alloc: Global,
+    g: &mut Draft,
+    library: &Library,
+    front: &[u8],
+    item: &Item,
+) -> Result<(), AllocError>
+    ensures { OnOk result (Adds g.old g.new (map (under front.now) (line_edges library.now item.now))) }
 {
     match item {
-        Item::Assign { net: x, value: e } => add_value(alloc, g, x, e),
+        Item::Assign { net: x, value: e } => add_value(alloc, g, front, x, e),
         Item::Instance {
             module: m,
             name: i,
             connections: joins,
-        } => { add_connections(alloc, g, library.ports_named(m), i, joins.connections()) }
+        } => {
+            let ports = library.ports_named(m);
+            add_connections(alloc, g, ports, front, i, joins.connections())
+        }
         Item::Wire { .. } => Ok(()),
         Item::Reg { .. } => Ok(()),
         Item::Memory { .. } => Ok(()),
@@ -177,12 +230,13 @@ fn add_lines(
     alloc: Global,
     g: &mut Draft,
     library: &Library,
+    front: &[u8],
     items: &[Item],
 ) -> Result<(), AllocError>
-    ensures { OnOk result (Adds g.old g.new (flat_map (line_edges library.now) items.now)) }
+    ensures { OnOk result (Adds g.old g.new (map (under front.now) (flat_map (line_edges library.now) items.now))) }
 {
     for item in items {
-        add_line(alloc, g, library, item)?;
+        add_line(alloc, g, library, front, item)?;
     }
     Ok(())
 }
@@ -192,9 +246,10 @@ fn add_answer(
     alloc: Global,
     g: &mut Draft,
     ports: &Scope,
+    front: &[u8],
     d: &Declaration,
 ) -> Result<(), AllocError>
-    ensures { OnOk result (Adds g.old g.new (answer_edges ports.now d.now)) }
+    ensures { OnOk result (Adds g.old g.new (map (under front.now) (answer_edges ports.now d.now))) }
 {
     if !is_input(ports.net_kind(d.name.bytes())) {
         return Ok(());
@@ -203,7 +258,7 @@ fn add_answer(
         Some(label) => {
             let address = addr_name(alloc, label)?;
             if is_read(ports.net_kind(&address)) {
-                return add_edge(alloc, g, d.name.bytes(), &address);
+                return add_under(alloc, g, front, d.name.bytes(), &address);
             }
             Ok(())
         }
@@ -215,22 +270,29 @@ fn add_answers(
     alloc: Global,
     g: &mut Draft,
     ports: &Scope,
+    front: &[u8],
     names: &[Declaration],
 ) -> Result<(), AllocError>
-    ensures { OnOk result (Adds g.old g.new (flat_map (answer_edges ports.now) names.now)) }
+    ensures { OnOk result (Adds g.old g.new (map (under front.now) (flat_map (answer_edges ports.now) names.now))) }
 {
     for d in names {
-        add_answer(alloc, g, ports, d)?;
+        add_answer(alloc, g, ports, front, d)?;
     }
     Ok(())
 }
 
-fn add_memories(alloc: Global, g: &mut Draft, top: bool, m: &Module) -> Result<(), AllocError>
-    ensures { OnOk result (Adds g.old g.new (memory_edges top (map port_declared m.now.ports))) }
+fn add_memories(
+    alloc: Global,
+    g: &mut Draft,
+    front: &[u8],
+    top: bool,
+    m: &Module,
+) -> Result<(), AllocError>
+    ensures { OnOk result (Adds g.old g.new (map (under front.now) (memory_edges top (map port_declared m.now.ports)))) }
 {
     if top {
         let ports = Scope::of_ports(alloc, m.ports())?;
-        add_answers(alloc, g, &ports, ports.declarations())
+        add_answers(alloc, g, &ports, front, ports.declarations())
     } else {
         Ok(())
     }
@@ -246,6 +308,23 @@ fn is_top(root: Option<&Text>, name: &Text) -> bool
     }
 }
 
+/// What a module's own lines say, and at the top the memories outside: each net with what it rests on, of all names with these
+/// bytes in front. `root` is the name of the first module that no other contains.
+pub(crate) fn add_direct(
+    alloc: Global,
+    g: &mut Draft,
+    library: &Library,
+    root: Option<&Text>,
+    front: &[u8],
+    m: &Module,
+) -> Result<(), AllocError>
+    ensures { OnOk result (Adds g.old g.new (map (under front.now) (direct_edges library.now (is_named (option_copied root.entry)) m.now))) }
+{
+    add_lines(alloc, g, library, front, m.items())?;
+    add_memories(alloc, g, front, is_top(root, m.name()), m)?;
+    Ok(())
+}
+
 /// What a module's own lines say, and at the top the memories outside: each net with what it rests on. `root` is the name of the first
 /// module that no other contains.
 pub fn direct_draft(
@@ -258,7 +337,6 @@ pub fn direct_draft(
     ensures listed { IfOk result (λ g. IsListed g) }
 {
     let mut g = Draft::new(alloc);
-    add_lines(alloc, &mut g, library, m.items())?;
-    add_memories(alloc, &mut g, is_top(root, m.name()), m)?;
+    add_direct(alloc, &mut g, library, root, &[], m)?;
     Ok(g)
 }

@@ -7,55 +7,16 @@ ghost use Rattle.std.specs.Option.{option_copied};
 ghost use Rattle.vlog_tree.specs.Grounded.{Has};
 ghost use Rattle.vlog_tree.specs.Form.{ModuleTree};
 ghost use Rattle.vlog_tree.specs.Loops.{Reaches, Rests, direct_edges, item_instances};
-ghost use Rattle.vlog_graph.specs.Graphs.{targets_of};
 ghost use Rattle.vlog_net_graph.specs.Names.{IsDraftOf};
 ghost use Rattle.vlog_net_graph.specs.Growth.{Adds};
-ghost use Rattle.vlog_net_graph.specs.Merged.{is_named, port_pair, named_edge, join, joins, module_merged, merged_edges};
+ghost use Rattle.vlog_net_graph.specs.Merged.{is_named, port_pair, port_edge, join, joins, module_merged, merged_edges};
 
-use crate::lines::{add_edge, add_port_edge, direct_draft, dotted, port_name};
+use crate::lines::{add_direct, add_edge, dotted, port_name};
 use crate::names::Draft;
 use std::alloc::{AllocError, Global};
 use tapa_base::Text;
-use vlog_rules::{Library, Scope};
+use vlog_rules::{Library, Scope, is_input};
 use vlog_tree::{Declaration, Item, Module};
-
-fn name_at(names: &[Vec<u8>], number: usize) -> &[u8]
-    ensures { result.now ≡ targets_of names.now number }
-{
-    match names.get(number) {
-        Some(name) => name,
-        None => &[],
-    }
-}
-
-fn add_named_edge(
-    alloc: Global,
-    g: &mut Draft,
-    m: &Text,
-    names: &[Vec<u8>],
-    edge: (usize, usize),
-) -> Result<(), AllocError>
-    ensures { OnOk result (Adds g.old g.new (named_edge m.now names.now edge ∷ [])) }
-{
-    let from = dotted(alloc, m.bytes(), name_at(names, edge.0))?;
-    let to = dotted(alloc, m.bytes(), name_at(names, edge.1))?;
-    add_edge(alloc, g, &from, &to)
-}
-
-fn add_named_edges(
-    alloc: Global,
-    g: &mut Draft,
-    m: &Text,
-    names: &[Vec<u8>],
-    edges: &[(usize, usize)],
-) -> Result<(), AllocError>
-    ensures { OnOk result (Adds g.old g.new (map (named_edge m.now names.now) edges.now)) }
-{
-    for edge in edges {
-        add_named_edge(alloc, g, m, names, *edge)?;
-    }
-    Ok(())
-}
 
 // The edges of a module's own lines.
 fn add_own(
@@ -67,9 +28,29 @@ fn add_own(
 ) -> Result<(), AllocError>
     ensures { OnOk result (Adds g.old g.new (map (port_pair m.now.name) (direct_edges library.now (is_named (option_copied root.entry)) m.now))) }
 {
-    let own = direct_draft(alloc, library, root, m)?;
-    add_named_edges(alloc, g, m.name(), &own.names, &own.edges)?;
+    let front = dotted(alloc, m.name().bytes(), &[])?;
+    add_direct(alloc, g, library, root, &front, m)?;
     Ok(())
+}
+
+// One more edge, of a port in the module of its instance and the net that it is linked to: an input rests on the net, and the net on
+// an output. The ports are those of that module, and the port's name has the given one before it.
+fn add_port_edge(
+    alloc: Global,
+    g: &mut Draft,
+    ports: &Scope,
+    before: &Text,
+    port: &Text,
+    net: &[u8],
+) -> Result<(), AllocError>
+    ensures { OnOk result (Adds g.old g.new (port_edge ports.now before.now port.now net.now ∷ [])) }
+{
+    let name = port_name(alloc, before, port)?;
+    if is_input(ports.net_kind(port.bytes())) {
+        add_edge(alloc, g, &name, net)
+    } else {
+        add_edge(alloc, g, net, &name)
+    }
 }
 
 // A port of an instance of k in a module m.
@@ -187,11 +168,21 @@ fn add_modules(
     Ok(())
 }
 
+// How many lines modules have: about as many names as their graph has, or more.
+fn count_lines(modules: &[Module]) -> usize {
+    let mut count: usize = 0;
+    for m in modules {
+        count = count.saturating_add(m.items().len());
+    }
+    count
+}
+
 fn merged_draft(alloc: Global, library: &Library, root: Option<&Text>) -> Result<Draft, AllocError>
     ensures { IfOk result (λ g. IsDraftOf (merged_edges library.now (is_named (option_copied root.entry))) g) }
 {
-    let mut g = Draft::new(alloc);
-    add_modules(alloc, &mut g, library, root, library.modules())?;
+    let modules = library.modules();
+    let mut g = Draft::with_room(alloc, count_lines(modules))?;
+    add_modules(alloc, &mut g, library, root, modules)?;
     Ok(g)
 }
 
@@ -206,7 +197,6 @@ pub fn merged_is_loopless(
     ensures loopless { IfOk result (λ b. b ≡ true → (m : ModuleTree) → Has library.now m → (x : List ℕ) → Rests library.now (is_named (option_copied root.entry)) m x x → ⊥) }
 {
     let draft = merged_draft(alloc, library, root)?;
-    let graph = draft.finish(alloc)?;
-    let loopless = graph.is_loopless(alloc)?;
+    let loopless = draft.is_loopless(alloc)?;
     Ok(loopless)
 }

@@ -3,7 +3,8 @@
 ghost use Rattle.std.specs.Prelude.{◌≡◌, ◌++◌, ◌∷◌, [], ℕ, List, Some, true, length, bytes_eq, ◌↔◌, if◌then◌else◌, IfOk, OnOk};
 ghost use Rattle.vlog_tree.specs.Loops.{Edges, Reaches};
 ghost use Rattle.vlog_rules.specs.NameTable.{value_in};
-ghost use Rattle.vlog_net_graph.specs.Names.{IsDraftOf, IsGraphOf, IsExtended, IsListed, IsGraphListed};
+ghost use Rattle.vlog_graph.specs.Graphs.{Steps};
+ghost use Rattle.vlog_net_graph.specs.Names.{IsNumbered, IsDraftOf, IsGraphOf, IsExtended, IsListed, IsGraphListed};
 
 use std::alloc::{AllocError, Global};
 use std::collections::HashMap;
@@ -52,6 +53,18 @@ impl Draft {
         }
     }
 
+    /// A graph of no names, with room for so many.
+    pub fn with_room(alloc: Global, count: usize) -> Result<Draft, AllocError>
+        ensures graph { IfOk result (λ g. IsDraftOf [] g) }
+        ensures listed { IfOk result (λ g. IsListed g) }
+    {
+        Ok(Draft {
+            numbers: HashMap::with_capacity(alloc, count)?,
+            names: Vec::with_capacity(alloc, count)?,
+            edges: Vec::new(alloc),
+        })
+    }
+
     fn number(&self, name: &[u8]) -> Option<usize>
         ensures { result ≡ value_in self.now.numbers name.now }
     {
@@ -84,6 +97,27 @@ impl Draft {
         let b = self.number_for(alloc, to)?;
         self.edges.push((a, b))?;
         Ok(())
+    }
+
+    fn graph(&self, alloc: Global) -> Result<Graph, AllocError>
+        requires { (edges : Edges) × IsDraftOf edges self.now }
+        ensures { (edges : Edges) → IsDraftOf edges self.now → IfOk result (λ g. IsNumbered edges (value_in self.now.numbers) (Steps g) (length g)) }
+    {
+        let graph = Graph::of(alloc, self.names.len(), &self.edges)?;
+        Ok(graph)
+    }
+
+    /// Whether no name reaches itself.
+    pub fn is_loopless(&self, alloc: Global) -> Result<bool, AllocError>
+        requires { (edges : Edges) × IsDraftOf edges self.now }
+        ensures { (edges : Edges) → IsDraftOf edges self.now → IfOk result (λ b. (b ≡ true) ↔ ((x : List ℕ) → Reaches edges x x → ⊥)) }
+    {
+        let graph = self.graph(alloc)?;
+        let order = order_of(alloc, &graph)?;
+        match order {
+            Order::PartsFirst(_) => Ok(true),
+            Order::Cycle(_) => Ok(false),
+        }
     }
 
     /// The graph as it is, with levels of its nodes.

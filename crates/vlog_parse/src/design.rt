@@ -92,15 +92,19 @@ fn value_word(alloc: Global, state: ValueState, word: &[u8]) -> Result<Option<Re
         ValueState::AssignName(draft) => assign_name(alloc, draft, word),
         ValueState::ValueStart(draft, net) => value_start(alloc, draft, net, word),
         ValueState::BraceStart(draft, net) => brace_start(alloc, draft, net, word),
-        ValueState::ValueNext(draft, net, first) => value_next(draft, net, first, word),
-        ValueState::ConcatNext(draft, net, atoms) => concat_next(draft, net, atoms, word),
+        ValueState::ValueNext(draft, net, first) => {
+            value_next(alloc, draft, net, first.into_inner(), word)
+        }
+        ValueState::ConcatNext(draft, net, atoms) => concat_next(alloc, draft, net, atoms, word),
         ValueState::AtomStart(draft, purpose) => atom_start(alloc, draft, purpose, word),
-        ValueState::AtomNext(draft, purpose, name) => atom_next(draft, purpose, name, word),
+        ValueState::AtomNext(draft, purpose, name) => atom_next(alloc, draft, purpose, name, word),
         ValueState::AtomHigh(draft, purpose, name) => atom_high(alloc, draft, purpose, name, word),
         ValueState::AtomLow(draft, purpose, net, high) => {
-            Ok(atom_low(draft, purpose, net, high, word))
+            atom_low(alloc, draft, purpose, net, high, word)
         }
-        ValueState::AtomEnd(draft, purpose, atom) => atom_end(draft, purpose, atom, word),
+        ValueState::AtomEnd(draft, purpose, atom) => {
+            atom_end(alloc, draft, purpose, atom.into_inner(), word)
+        }
     }
 }
 
@@ -112,7 +116,9 @@ fn block_next(alloc: Global, state: BlockState, word: &[u8]) -> Result<Option<Re
         BlockState::StepStart(draft, steps) => step_start(alloc, draft, steps, word),
         BlockState::AfterEnd(draft, steps) => after_end(alloc, draft, steps, word),
         BlockState::IfName(draft, steps) => if_name(alloc, draft, steps, word),
-        BlockState::StepTarget(draft, steps, target) => Ok(step_target(draft, steps, target, word)),
+        BlockState::StepTarget(draft, steps, target) => step_target(
+            alloc, draft, steps, target, word,
+        ),
         BlockState::StepIndex(draft, steps, memory) => step_index(
             alloc, draft, steps, memory, word,
         ),

@@ -4,16 +4,17 @@ ghost use Rattle.std.specs.Prelude.{◌≡◌, IfOk};
 ghost use Rattle.vlog_tree.specs.Form.{IsModule};
 ghost use Rattle.vlog_parse.specs.Reading as spec;
 
+use crate::held::Held;
 use crate::state::{
     BlockState, Declared, Draft, HeadState, ItemState, Joining, Reader, Steps, ValueState,
 };
 use std::alloc::{AllocError, Global};
 use tapa_base::Text;
-use vlog_read_words::{Coming, Listed, cells_behind, is_number, name_of};
-use vlog_tree::{Connection, Connections, Item, is_name};
+use vlog_read_words::{Coming, Listed, cells_behind, is_name_word, is_number, name_of};
+use vlog_tree::{Connection, Connections, Item};
 
 /// An item that a keyword begins, or the end of the module.
-fn item_word(alloc: Global, draft: Draft, word: &[u8]) -> Result<Option<Reader>, AllocError>
+fn item_word(alloc: Global, draft: Held<Draft>, word: &[u8]) -> Result<Option<Reader>, AllocError>
     requires { IsModule (spec.module_of draft) }
     ensures { IfOk result (λ o. o ≡ spec.item_word draft word.now) }
 {
@@ -30,23 +31,28 @@ fn item_word(alloc: Global, draft: Draft, word: &[u8]) -> Result<Option<Reader>,
     } else if word == b"assign".as_slice() {
         Ok(Some(Reader::value(Coming::Nothing, ValueState::AssignName(draft))))
     } else if word == b"always".as_slice() {
-        Ok(Some(Reader::block(
-            Coming::Clocked,
-            BlockState::StepStart(draft, Steps::new(alloc)),
-        )))
+        let steps = Held::new(alloc, Steps::new(alloc))?;
+        Ok(Some(Reader::block(Coming::Clocked, BlockState::StepStart(draft, steps))))
     } else if word == b"endmodule".as_slice() {
-        Ok(Some(Reader::head(Coming::Nothing, HeadState::Between(draft.finished()?))))
+        Ok(Some(Reader::head(
+            Coming::Nothing,
+            HeadState::Between(draft.into_inner().finished()?),
+        )))
     } else {
         Ok(None)
     }
 }
 
 /// Where an item may come, or the end of the module.
-pub fn item_start(alloc: Global, draft: Draft, word: &[u8]) -> Result<Option<Reader>, AllocError>
+pub fn item_start(
+    alloc: Global,
+    draft: Held<Draft>,
+    word: &[u8],
+) -> Result<Option<Reader>, AllocError>
     requires { IsModule (spec.module_of draft) }
     ensures { IfOk result (λ o. o ≡ spec.item_start draft word.now) }
 {
-    if is_name(word) {
+    if is_name_word(word) {
         let child = name_of(alloc, word)?;
         return Ok(Some(Reader::item(Coming::Nothing, ItemState::InstanceName(draft, child))));
     }
@@ -55,7 +61,7 @@ pub fn item_start(alloc: Global, draft: Draft, word: &[u8]) -> Result<Option<Rea
 
 /// Behind the name of a register: its end, or the range that makes a memory of it.
 pub fn reg_next(
-    draft: Draft,
+    draft: Held<Draft>,
     width: u32,
     name: Text,
     word: &[u8],
@@ -63,7 +69,7 @@ pub fn reg_next(
     ensures { IfOk result (λ o. o ≡ spec.reg_next draft width name word.now) }
 {
     if word == b";".as_slice() {
-        Ok(Some(draft.item_behind(Coming::Nothing, Item::Reg { width, name })?))
+        Ok(Some(Reader::item_behind(Coming::Nothing, draft, Item::Reg { width, name })?))
     } else if word == b"[".as_slice() {
         Ok(Some(Reader::item(Coming::ZeroColon, ItemState::CellsLast(draft, width, name))))
     } else {
@@ -73,7 +79,7 @@ pub fn reg_next(
 
 /// The last cell of a memory.
 pub fn cells_last(
-    draft: Draft,
+    draft: Held<Draft>,
     width: u32,
     name: Text,
     word: &[u8],
@@ -85,19 +91,19 @@ pub fn cells_last(
     }
     let cells = cells_behind(word);
     let memory = Item::Memory { width, name, cells };
-    Ok(Some(draft.item_behind(Coming::BracketSemicolon, memory)?))
+    Ok(Some(Reader::item_behind(Coming::BracketSemicolon, draft, memory)?))
 }
 
 /// The name of an instance.
 pub fn instance_name(
     alloc: Global,
-    draft: Draft,
+    draft: Held<Draft>,
     child: Text,
     word: &[u8],
 ) -> Result<Option<Reader>, AllocError>
     ensures { IfOk result (λ o. o ≡ spec.instance_name draft child word.now) }
 {
-    if !is_name(word) {
+    if !is_name_word(word) {
         return Ok(None);
     }
     let name = name_of(alloc, word)?;
@@ -106,19 +112,20 @@ pub fn instance_name(
         name,
         connections: Listed::new(alloc),
     };
+    let joining = Held::new(alloc, joining)?;
     Ok(Some(Reader::item(Coming::ParenDot, ItemState::ConnectionPort(draft, joining))))
 }
 
 /// The port that is joined by its name (IEEE 1364-2005, 12.3.6).
 pub fn connection_port(
     alloc: Global,
-    draft: Draft,
-    joining: Joining,
+    draft: Held<Draft>,
+    joining: Held<Joining>,
     word: &[u8],
 ) -> Result<Option<Reader>, AllocError>
     ensures { IfOk result (λ o. o ≡ spec.connection_port draft joining word.now) }
 {
-    if !is_name(word) {
+    if !is_name_word(word) {
         return Ok(None);
     }
     let port = name_of(alloc, word)?;
@@ -131,18 +138,20 @@ pub fn connection_port(
 /// The net that a port is joined to.
 pub fn connection_net(
     alloc: Global,
-    draft: Draft,
-    joining: Joining,
+    draft: Held<Draft>,
+    joining: Held<Joining>,
     port: Text,
     word: &[u8],
 ) -> Result<Option<Reader>, AllocError>
     ensures { IfOk result (λ o. o ≡ spec.connection_net draft joining port word.now) }
 {
-    if !is_name(word) {
+    if !is_name_word(word) {
         return Ok(None);
     }
     let net = name_of(alloc, word)?;
-    let joining = joining.with_connection(Connection { port, net })?;
+    let Held { mut held } = joining;
+    held.push(Connection { port, net })?;
+    let joining = Held { held };
     Ok(Some(Reader::item(
         Coming::RightParen,
         ItemState::ConnectionNext(draft, joining),
@@ -150,14 +159,14 @@ pub fn connection_net(
 }
 
 /// The instance that was read.
-fn joined(joining: Joining) -> Item
+fn joined(joining: Held<Joining>) -> Item
     ensures { result ≡ spec.joined joining }
 {
     let Joining {
         child,
         name,
         connections,
-    } = joining;
+    } = joining.into_inner();
     Item::Instance {
         module: child,
         name,
@@ -167,8 +176,8 @@ fn joined(joining: Joining) -> Item
 
 /// Behind a connection: one more, or the end of the instance.
 pub fn connection_next(
-    draft: Draft,
-    joining: Joining,
+    draft: Held<Draft>,
+    joining: Held<Joining>,
     word: &[u8],
 ) -> Result<Option<Reader>, AllocError>
     ensures { IfOk result (λ o. o ≡ spec.connection_next draft joining word.now) }
@@ -176,7 +185,7 @@ pub fn connection_next(
     if word == b",".as_slice() {
         Ok(Some(Reader::item(Coming::Dot, ItemState::ConnectionPort(draft, joining))))
     } else if word == b")".as_slice() {
-        Ok(Some(draft.item_behind(Coming::Semicolon, joined(joining))?))
+        Ok(Some(Reader::item_behind(Coming::Semicolon, draft, joined(joining))?))
     } else {
         Ok(None)
     }

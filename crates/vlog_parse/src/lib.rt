@@ -3,6 +3,7 @@
 
 mod block;
 mod design;
+mod held;
 mod item;
 mod port;
 mod state;

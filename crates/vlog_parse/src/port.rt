@@ -4,11 +4,12 @@ ghost use Rattle.std.specs.Prelude.{◌≡◌, IfOk, true};
 ghost use Rattle.vlog_tree.specs.Names.{is_name as is_name_lem};
 ghost use Rattle.vlog_parse.specs.Reading as spec;
 
+use crate::held::Held;
 use crate::state::{Declared, Draft, HeadState, ItemState, Reader};
 use std::alloc::{AllocError, Global};
 use tapa_base::Text;
-use vlog_read_words::{Coming, Listed, is_number, name_of, width_behind};
-use vlog_tree::{Direction, Item, Module, PortDecl, is_name};
+use vlog_read_words::{Coming, Listed, is_name_word, is_number, name_of, width_behind};
+use vlog_tree::{Direction, Item, Module, PortDecl};
 
 /// Where a module may come.
 pub fn between(modules: Listed<Module>, word: &[u8]) -> Option<Reader>
@@ -29,16 +30,16 @@ pub fn module_name(
 ) -> Result<Option<Reader>, AllocError>
     ensures { IfOk result (λ o. o ≡ spec.module_name modules word.now) }
 {
-    if !is_name(word) {
+    if !is_name_word(word) {
         return Ok(None);
     }
     let name = name_of(alloc, word)?;
-    let draft = Draft::begun(alloc, modules, name);
+    let draft = Held::new(alloc, Draft::begun(alloc, modules, name))?;
     Ok(Some(Reader::head(Coming::LeftParen, HeadState::PortStart(draft))))
 }
 
 /// Where a port must come.
-pub fn port_start(draft: Draft, word: &[u8]) -> Option<Reader>
+pub fn port_start(draft: Held<Draft>, word: &[u8]) -> Option<Reader>
     ensures { result ≡ spec.port_start draft word.now }
 {
     if word == b"input".as_slice() {
@@ -57,7 +58,7 @@ pub fn port_start(draft: Draft, word: &[u8]) -> Option<Reader>
 }
 
 /// Behind a port: one more, or the end of the list.
-pub fn port_next(draft: Draft, word: &[u8]) -> Option<Reader>
+pub fn port_next(draft: Held<Draft>, word: &[u8]) -> Option<Reader>
     ensures { result ≡ spec.port_next draft word.now }
 {
     if word == b",".as_slice() {
@@ -70,7 +71,7 @@ pub fn port_next(draft: Draft, word: &[u8]) -> Option<Reader>
 }
 
 /// The last bit of a range.
-pub fn range_high(draft: Draft, declared: Declared, word: &[u8]) -> Option<Reader>
+pub fn range_high(draft: Held<Draft>, declared: Declared, word: &[u8]) -> Option<Reader>
     ensures { result ≡ spec.range_high draft declared word.now }
 {
     if is_number(word) {
@@ -86,29 +87,36 @@ pub fn range_high(draft: Draft, declared: Declared, word: &[u8]) -> Option<Reade
 
 /// A reader behind the name of a port.
 fn port_named(
-    draft: Draft,
+    draft: Held<Draft>,
     direction: Direction,
     width: u32,
     name: Text,
 ) -> Result<Reader, AllocError>
     ensures { IfOk result (λ r. r ≡ spec.port_named draft direction width name) }
 {
-    let draft = draft.with_port(PortDecl {
+    let Held { mut held } = draft;
+    held.push_port(PortDecl {
         direction,
         width,
         name,
     })?;
+    let draft = Held { held };
     Ok(Reader::head(Coming::Nothing, HeadState::PortNext(draft)))
 }
 
 /// A reader behind a range and a name.
-fn named(draft: Draft, declared: Declared, width: u32, name: Text) -> Result<Reader, AllocError>
+fn named(
+    draft: Held<Draft>,
+    declared: Declared,
+    width: u32,
+    name: Text,
+) -> Result<Reader, AllocError>
     ensures { IfOk result (λ r. r ≡ spec.named draft declared width name) }
 {
     match declared {
         Declared::Input => port_named(draft, Direction::Input, width, name),
         Declared::Output => port_named(draft, Direction::Output, width, name),
-        Declared::Wire => draft.item_behind(Coming::Semicolon, Item::Wire { width, name }),
+        Declared::Wire => Reader::item_behind(Coming::Semicolon, draft, Item::Wire { width, name }),
         Declared::Reg => Ok(Reader::item(Coming::Nothing, ItemState::RegNext(draft, width, name))),
     }
 }
@@ -116,14 +124,14 @@ fn named(draft: Draft, declared: Declared, width: u32, name: Text) -> Result<Rea
 /// The name that is declared.
 pub fn declared_name(
     alloc: Global,
-    draft: Draft,
+    draft: Held<Draft>,
     declared: Declared,
     width: u32,
     word: &[u8],
 ) -> Result<Option<Reader>, AllocError>
     ensures { IfOk result (λ o. o ≡ spec.declared_name draft declared width word.now) }
 {
-    if !is_name(word) {
+    if !is_name_word(word) {
         return Ok(None);
     }
     let name = name_of(alloc, word)?;
@@ -133,7 +141,7 @@ pub fn declared_name(
 /// A range, or at once the name that is declared.
 pub fn range_or_name(
     alloc: Global,
-    draft: Draft,
+    draft: Held<Draft>,
     declared: Declared,
     word: &[u8],
 ) -> Result<Option<Reader>, AllocError>

@@ -1,9 +1,10 @@
 // What is read so far, and what may come next.
 
-ghost use Rattle.std.specs.Prelude.{◌≡◌, IfOk};
+ghost use Rattle.std.specs.Prelude.{◌≡◌, IfOk, OnOk};
 ghost use Rattle.vlog_tree.specs.Form.{IsModule};
 ghost use Rattle.vlog_parse.specs.Reading as spec;
 
+use crate::held::Held;
 use std::alloc::{AllocError, Global};
 use tapa_base::Text;
 use vlog_read_words::{Coming, Listed, Parts};
@@ -53,8 +54,8 @@ pub enum Purpose {
     No(Text, Atom, Atom),
     Joined(Text, Listed<Atom>),
     Copied(Text, u32),
-    Assigned(Steps, Text),
-    Stored(Steps, Text, Text),
+    Assigned(Held<Steps>, Text),
+    Stored(Held<Steps>, Text, Text),
 }
 
 /// What is chosen by the next word between modules, and up to the items of one.
@@ -62,48 +63,48 @@ pub enum Purpose {
 pub enum HeadState {
     Between(Listed<Module>),
     ModuleName(Listed<Module>),
-    PortStart(Draft),
-    RangeOrName(Draft, Declared),
-    RangeHigh(Draft, Declared),
-    DeclaredName(Draft, Declared, u32),
-    PortNext(Draft),
+    PortStart(Held<Draft>),
+    RangeOrName(Held<Draft>, Declared),
+    RangeHigh(Held<Draft>, Declared),
+    DeclaredName(Held<Draft>, Declared, u32),
+    PortNext(Held<Draft>),
 }
 
 /// What is chosen by the next word among items.
 #[derive(Drop)]
 pub enum ItemState {
-    ItemStart(Draft),
-    RegNext(Draft, u32, Text),
-    CellsLast(Draft, u32, Text),
-    InstanceName(Draft, Text),
-    ConnectionPort(Draft, Joining),
-    ConnectionNet(Draft, Joining, Text),
-    ConnectionNext(Draft, Joining),
+    ItemStart(Held<Draft>),
+    RegNext(Held<Draft>, u32, Text),
+    CellsLast(Held<Draft>, u32, Text),
+    InstanceName(Held<Draft>, Text),
+    ConnectionPort(Held<Draft>, Held<Joining>),
+    ConnectionNet(Held<Draft>, Held<Joining>, Text),
+    ConnectionNext(Held<Draft>, Held<Joining>),
 }
 
 /// What is chosen by the next word in an assignment, and in an atom.
 #[derive(Drop)]
 pub enum ValueState {
-    AssignName(Draft),
-    ValueStart(Draft, Text),
-    BraceStart(Draft, Text),
-    ValueNext(Draft, Text, Atom),
-    ConcatNext(Draft, Text, Listed<Atom>),
-    AtomStart(Draft, Purpose),
-    AtomNext(Draft, Purpose, Text),
-    AtomHigh(Draft, Purpose, Text),
-    AtomLow(Draft, Purpose, Text, u32),
-    AtomEnd(Draft, Purpose, Atom),
+    AssignName(Held<Draft>),
+    ValueStart(Held<Draft>, Text),
+    BraceStart(Held<Draft>, Text),
+    ValueNext(Held<Draft>, Text, Held<Atom>),
+    ConcatNext(Held<Draft>, Text, Listed<Atom>),
+    AtomStart(Held<Draft>, Held<Purpose>),
+    AtomNext(Held<Draft>, Held<Purpose>, Text),
+    AtomHigh(Held<Draft>, Held<Purpose>, Text),
+    AtomLow(Held<Draft>, Held<Purpose>, Text, u32),
+    AtomEnd(Held<Draft>, Held<Purpose>, Held<Atom>),
 }
 
 /// What is chosen by the next word in a block.
 #[derive(Drop)]
 pub enum BlockState {
-    StepStart(Draft, Steps),
-    AfterEnd(Draft, Steps),
-    IfName(Draft, Steps),
-    StepTarget(Draft, Steps, Text),
-    StepIndex(Draft, Steps, Text),
+    StepStart(Held<Draft>, Held<Steps>),
+    AfterEnd(Held<Draft>, Held<Steps>),
+    IfName(Held<Draft>, Held<Steps>),
+    StepTarget(Held<Draft>, Held<Steps>, Text),
+    StepIndex(Held<Draft>, Held<Steps>, Text),
 }
 
 /// What is chosen by the next word.
@@ -115,7 +116,7 @@ pub enum State {
     Block(BlockState),
 }
 
-/// What must come, and what is chosen behind that.
+/// What must come, and what is chosen behind that. It is moved at each word, so what is read so far is held elsewhere.
 #[derive(Drop)]
 pub struct Reader {
     pub coming: Coming,
@@ -151,6 +152,29 @@ impl Reader {
         let state = State::Block(state);
         Reader { coming, state }
     }
+
+    /// A reader in front of an atom.
+    pub fn atom(
+        alloc: Global,
+        coming: Coming,
+        draft: Held<Draft>,
+        purpose: Purpose,
+    ) -> Result<Reader, AllocError>
+        ensures { IfOk result (λ r. r ≡ spec.behind coming (State.Value (ValueState.AtomStart draft purpose))) }
+    {
+        let purpose = Held::new(alloc, purpose)?;
+        Ok(Reader::value(coming, ValueState::AtomStart(draft, purpose)))
+    }
+
+    /// A reader behind an item, before the words that end it.
+    pub fn item_behind(coming: Coming, draft: Held<Draft>, item: Item) -> Result<Reader, AllocError>
+        ensures { IfOk result (λ r. r ≡ spec.item_behind coming draft item) }
+    {
+        let Held { mut held } = draft;
+        held.push_item(item)?;
+        let draft = Held { held };
+        Ok(Reader::item(coming, ItemState::ItemStart(draft)))
+    }
 }
 
 // A state is let go part by part: all at once is more than one function holds.
@@ -159,7 +183,7 @@ pub fn discard_head(_state: HeadState) {}
 
 pub fn discard_item(_state: ItemState) {}
 
-fn discard_purpose(_draft: Draft, _purpose: Purpose) {}
+fn discard_purpose(_draft: Held<Draft>, _purpose: Held<Purpose>) {}
 
 pub fn discard_value(state: ValueState) {
     match state {
@@ -216,42 +240,20 @@ impl Draft {
         }
     }
 
-    /// The module with one more port.
-    pub fn with_port(self, port: PortDecl) -> Result<Draft, AllocError>
-        ensures { IfOk result (λ d. d ≡ spec.with_port self port) }
+    /// One more port.
+    pub fn push_port(&mut self, port: PortDecl) -> Result<(), AllocError>
+        ensures { OnOk result (self.new ≡ spec.with_port self.old port) }
     {
-        let Draft {
-            modules,
-            name,
-            ports,
-            items,
-        } = self;
-        let ports = ports.with(port)?;
-        Ok(Draft {
-            modules,
-            name,
-            ports,
-            items,
-        })
+        self.ports.push(port)?;
+        Ok(())
     }
 
-    /// The module with one more item.
-    pub fn with_item(self, item: Item) -> Result<Draft, AllocError>
-        ensures { IfOk result (λ d. d ≡ spec.with_item self item) }
+    /// One more item.
+    pub fn push_item(&mut self, item: Item) -> Result<(), AllocError>
+        ensures { OnOk result (self.new ≡ spec.with_item self.old item) }
     {
-        let Draft {
-            modules,
-            name,
-            ports,
-            items,
-        } = self;
-        let items = items.with(item)?;
-        Ok(Draft {
-            modules,
-            name,
-            ports,
-            items,
-        })
+        self.items.push(item)?;
+        Ok(())
     }
 
     /// The modules with the one that was read.
@@ -267,14 +269,6 @@ impl Draft {
         } = self;
         modules.with(Module::of(name, ports.into_vec(), items.into_vec()))
     }
-
-    /// A reader behind an item, before the words that end it.
-    pub fn item_behind(self, coming: Coming, item: Item) -> Result<Reader, AllocError>
-        ensures { IfOk result (λ r. r ≡ spec.item_behind coming self item) }
-    {
-        let draft = self.with_item(item)?;
-        Ok(Reader::item(coming, ItemState::ItemStart(draft)))
-    }
 }
 
 impl Steps {
@@ -289,40 +283,49 @@ impl Steps {
     }
 
     /// One more step, in the part that is open.
-    pub fn with_step(self, step: Step) -> Result<Steps, AllocError>
-        ensures { IfOk result (λ s. s ≡ spec.with_step self step) }
+    pub fn push(&mut self, step: Step) -> Result<(), AllocError>
+        ensures { OnOk result (self.new ≡ spec.with_step self.old step) }
     {
-        let Steps { steps, parts } = self;
-        let steps = steps.with(step)?;
-        Ok(Steps { steps, parts })
+        self.steps.push(step)?;
+        Ok(())
     }
 
     /// One more step, which opens a part.
-    pub fn opened(self, step: Step, is_else: bool) -> Result<Steps, AllocError>
+    pub fn push_open(&mut self, step: Step, is_else: bool) -> Result<(), AllocError>
+        ensures { OnOk result (self.new ≡ spec.opened self.old step is_else) }
+    {
+        self.steps.push(step)?;
+        self.parts.push(is_else)?;
+        Ok(())
+    }
+}
+
+impl Held<Steps> {
+    /// The steps with one more, in the part that is open.
+    pub fn with_step(self, step: Step) -> Result<Held<Steps>, AllocError>
+        ensures { IfOk result (λ s. s ≡ spec.with_step self step) }
+    {
+        let Held { mut held } = self;
+        held.push(step)?;
+        Ok(Held { held })
+    }
+
+    /// The steps with one more, which opens a part.
+    pub fn opened(self, step: Step, is_else: bool) -> Result<Held<Steps>, AllocError>
         ensures { IfOk result (λ s. s ≡ spec.opened self step is_else) }
     {
-        let Steps { steps, parts } = self;
-        let steps = steps.with(step)?;
-        let parts = parts.with(is_else)?;
-        Ok(Steps { steps, parts })
+        let Held { mut held } = self;
+        held.push_open(step, is_else)?;
+        Ok(Held { held })
     }
 }
 
 impl Joining {
-    /// The instance with one more connection.
-    pub fn with_connection(self, connection: Connection) -> Result<Joining, AllocError>
-        ensures { IfOk result (λ q. q ≡ spec.with_connection self connection) }
+    /// One more connection.
+    pub fn push(&mut self, connection: Connection) -> Result<(), AllocError>
+        ensures { OnOk result (self.new ≡ spec.with_connection self.old connection) }
     {
-        let Joining {
-            child,
-            name,
-            connections,
-        } = self;
-        let connections = connections.with(connection)?;
-        Ok(Joining {
-            child,
-            name,
-            connections,
-        })
+        self.connections.push(connection)?;
+        Ok(())
     }
 }

@@ -3,27 +3,29 @@
 ghost use Rattle.std.specs.Prelude.{◌≡◌, IfOk};
 ghost use Rattle.vlog_parse.specs.Reading as spec;
 
-use crate::state::{
-    BlockState, Draft, Purpose, Reader, State, Steps, ValueState, discard_block, discard_head,
-    discard_item, discard_value,
-};
+use crate::held::Held;
+use crate::state::{BlockState, Draft, Purpose, Reader, Steps, ValueState};
 use std::alloc::{AllocError, Global};
 use tapa_base::Text;
-use vlog_read_words::{Coming, Listed, is_number, literal_of, name_of, width_at};
-use vlog_tree::{Atom, Atoms, BinaryOp, Item, Step, Value, is_name};
+use vlog_read_words::{Coming, Listed, is_name_word, is_number, literal_of, name_of, width_at};
+use vlog_tree::{Atom, Atoms, BinaryOp, Item, Step, Value};
 
 /// A reader behind what drives a net, and the words that end it.
-fn driven(draft: Draft, coming: Coming, net: Text, value: Value) -> Result<Reader, AllocError>
+fn driven(draft: Held<Draft>, coming: Coming, net: Text, value: Value) -> Result<Reader, AllocError>
     ensures { IfOk result (λ r. r ≡ spec.driven draft coming net value) }
 {
-    draft.item_behind(coming, Item::Assign { net, value })
+    Reader::item_behind(coming, draft, Item::Assign { net, value })
 }
 
 /// The net that is driven.
-pub fn assign_name(alloc: Global, draft: Draft, word: &[u8]) -> Result<Option<Reader>, AllocError>
+pub fn assign_name(
+    alloc: Global,
+    draft: Held<Draft>,
+    word: &[u8],
+) -> Result<Option<Reader>, AllocError>
     ensures { IfOk result (λ o. o ≡ spec.assign_name draft word.now) }
 {
-    if !is_name(word) {
+    if !is_name_word(word) {
         return Ok(None);
     }
     let net = name_of(alloc, word)?;
@@ -33,21 +35,21 @@ pub fn assign_name(alloc: Global, draft: Draft, word: &[u8]) -> Result<Option<Re
 /// Where an atom must come: a name, which may go on, or a literal.
 pub fn atom_start(
     alloc: Global,
-    draft: Draft,
-    purpose: Purpose,
+    draft: Held<Draft>,
+    purpose: Held<Purpose>,
     word: &[u8],
 ) -> Result<Option<Reader>, AllocError>
     ensures { IfOk result (λ o. o ≡ spec.atom_start draft purpose word.now) }
 {
-    if is_name(word) {
+    if is_name_word(word) {
         let name = name_of(alloc, word)?;
         return Ok(Some(Reader::value(Coming::Nothing, ValueState::AtomNext(draft, purpose, name))));
     }
     match literal_of(word) {
-        Some(atom) => Ok(Some(Reader::value(
-            Coming::Nothing,
-            ValueState::AtomEnd(draft, purpose, atom),
-        ))),
+        Some(atom) => {
+            let atom = Held::new(alloc, atom)?;
+            Ok(Some(Reader::value(Coming::Nothing, ValueState::AtomEnd(draft, purpose, atom))))
+        }
         None => Ok(None),
     }
 }
@@ -55,41 +57,38 @@ pub fn atom_start(
 /// Where must come what drives a net.
 pub fn value_start(
     alloc: Global,
-    draft: Draft,
+    draft: Held<Draft>,
     net: Text,
     word: &[u8],
 ) -> Result<Option<Reader>, AllocError>
     ensures { IfOk result (λ o. o ≡ spec.value_start draft net word.now) }
 {
     if word == b"~".as_slice() {
-        Ok(Some(Reader::value(
-            Coming::Nothing,
-            ValueState::AtomStart(draft, Purpose::Inverted(net)),
-        )))
+        let purpose = Purpose::Inverted(net);
+        Ok(Some(Reader::atom(alloc, Coming::Nothing, draft, purpose)?))
     } else if word == b"{".as_slice() {
         Ok(Some(Reader::value(Coming::Nothing, ValueState::BraceStart(draft, net))))
     } else {
-        atom_start(alloc, draft, Purpose::First(net), word)
+        let purpose = Held::new(alloc, Purpose::First(net))?;
+        atom_start(alloc, draft, purpose, word)
     }
 }
 
 /// Behind a brace: a number of copies, or the first atom of a concatenation.
 pub fn brace_start(
     alloc: Global,
-    draft: Draft,
+    draft: Held<Draft>,
     net: Text,
     word: &[u8],
 ) -> Result<Option<Reader>, AllocError>
     ensures { IfOk result (λ o. o ≡ spec.brace_start draft net word.now) }
 {
     if is_number(word) {
-        let count = width_at(word);
-        return Ok(Some(Reader::value(
-            Coming::LeftBrace,
-            ValueState::AtomStart(draft, Purpose::Copied(net, count)),
-        )));
+        let purpose = Purpose::Copied(net, width_at(word));
+        return Ok(Some(Reader::atom(alloc, Coming::LeftBrace, draft, purpose)?));
     }
-    atom_start(alloc, draft, Purpose::Joined(net, Listed::new(alloc)), word)
+    let purpose = Held::new(alloc, Purpose::Joined(net, Listed::new(alloc)))?;
+    atom_start(alloc, draft, purpose, word)
 }
 
 /// The operator of arithmetic that a word is, if it is one.
@@ -160,7 +159,8 @@ fn operator_of(word: &[u8]) -> Option<BinaryOp>
 
 /// Behind the first atom of what drives a net.
 pub fn value_next(
-    draft: Draft,
+    alloc: Global,
+    draft: Held<Draft>,
     net: Text,
     first: Atom,
     word: &[u8],
@@ -171,23 +171,22 @@ pub fn value_next(
         return Ok(Some(driven(draft, Coming::Nothing, net, Value::Plain(first))?));
     }
     if word == b"?".as_slice() {
-        return Ok(Some(Reader::value(
-            Coming::Nothing,
-            ValueState::AtomStart(draft, Purpose::Yes(net, first)),
-        )));
+        let purpose = Purpose::Yes(net, first);
+        return Ok(Some(Reader::atom(alloc, Coming::Nothing, draft, purpose)?));
     }
     match operator_of(word) {
-        Some(op) => Ok(Some(Reader::value(
-            Coming::Nothing,
-            ValueState::AtomStart(draft, Purpose::Right(net, first, op)),
-        ))),
+        Some(op) => {
+            let purpose = Purpose::Right(net, first, op);
+            Ok(Some(Reader::atom(alloc, Coming::Nothing, draft, purpose)?))
+        }
         None => Ok(None),
     }
 }
 
 /// Behind an atom of a concatenation: one more, or the end behind two at least.
 pub fn concat_next(
-    draft: Draft,
+    alloc: Global,
+    draft: Held<Draft>,
     net: Text,
     atoms: Listed<Atom>,
     word: &[u8],
@@ -195,10 +194,8 @@ pub fn concat_next(
     ensures { IfOk result (λ o. o ≡ spec.concat_next draft net atoms word.now) }
 {
     if word == b",".as_slice() {
-        Ok(Some(Reader::value(
-            Coming::Nothing,
-            ValueState::AtomStart(draft, Purpose::Joined(net, atoms)),
-        )))
+        let purpose = Purpose::Joined(net, atoms);
+        Ok(Some(Reader::atom(alloc, Coming::Nothing, draft, purpose)?))
     } else if word == b"}".as_slice() && 2 <= atoms.len() {
         let value = Value::Concat(Atoms::of(atoms.into_vec()));
         Ok(Some(driven(draft, Coming::Semicolon, net, value)?))
@@ -207,12 +204,44 @@ pub fn concat_next(
     }
 }
 
-/// A reader behind a step and before the semicolon that ends it.
-fn step_behind(draft: Draft, steps: Steps, step: Step) -> Result<Reader, AllocError>
-    ensures { IfOk result (λ r. r ≡ spec.step_behind draft steps step) }
+/// The word behind what drives a net.
+fn driven_by(
+    draft: Held<Draft>,
+    coming: Coming,
+    net: Text,
+    value: Value,
+    word: &[u8],
+) -> Result<Option<Reader>, AllocError>
+    ensures { IfOk result (λ o. o ≡ spec.expected coming (spec.driven draft coming net value).state word.now) }
+{
+    let reader = driven(draft, coming, net, value)?;
+    Ok(reader.expected(word))
+}
+
+/// The semicolon behind what drives a net.
+fn ended(
+    draft: Held<Draft>,
+    net: Text,
+    value: Value,
+    word: &[u8],
+) -> Result<Option<Reader>, AllocError>
+    ensures { IfOk result (λ o. o ≡ spec.expected Coming.Semicolon (spec.driven draft Coming.Semicolon net value).state word.now) }
+{
+    driven_by(draft, Coming::Semicolon, net, value, word)
+}
+
+/// The semicolon behind a step.
+fn stepped(
+    draft: Held<Draft>,
+    steps: Held<Steps>,
+    step: Step,
+    word: &[u8],
+) -> Result<Option<Reader>, AllocError>
+    ensures { IfOk result (λ o. o ≡ spec.expected Coming.Semicolon (spec.step_behind draft steps step).state word.now) }
 {
     let steps = steps.with_step(step)?;
-    Ok(Reader::block(Coming::Semicolon, BlockState::StepStart(draft, steps)))
+    let reader = Reader::block(Coming::Semicolon, BlockState::StepStart(draft, steps));
+    Ok(reader.expected(word))
 }
 
 fn binary(left: Atom, op: BinaryOp, right: Atom) -> Value
@@ -243,104 +272,65 @@ fn store(memory: Text, index: Text, value: Atom) -> Step
     }
 }
 
-/// A reader behind an atom that is whole.
-fn after_atom(draft: Draft, purpose: Purpose, atom: Atom) -> Result<Reader, AllocError>
-    ensures { IfOk result (λ r. r ≡ spec.after_atom draft purpose atom) }
+/// The colon behind the first of two atoms between which one is chosen.
+fn first_chosen(
+    alloc: Global,
+    draft: Held<Draft>,
+    net: Text,
+    condition: Atom,
+    yes: Atom,
+    word: &[u8],
+) -> Result<Option<Reader>, AllocError>
+    ensures { IfOk result (λ o. o ≡ spec.atom_end draft (Purpose.Yes net condition) yes word.now) }
 {
-    match purpose {
-        Purpose::First(net) => Ok(Reader::value(
-            Coming::Nothing,
-            ValueState::ValueNext(draft, net, atom),
-        )),
-        Purpose::Inverted(net) => driven(draft, Coming::Semicolon, net, Value::Invert(atom)),
-        Purpose::Right(net, left, op) => {
-            driven(draft, Coming::Semicolon, net, binary(left, op, atom))
-        }
-        Purpose::Yes(net, condition) => Ok(Reader::value(
-            Coming::Colon,
-            ValueState::AtomStart(draft, Purpose::No(net, condition, atom)),
-        )),
-        Purpose::No(net, condition, yes) => {
-            driven(draft, Coming::Semicolon, net, choose(condition, yes, atom))
-        }
-        Purpose::Joined(net, atoms) => {
-            let atoms = atoms.with(atom)?;
-            Ok(Reader::value(Coming::Nothing, ValueState::ConcatNext(draft, net, atoms)))
-        }
-        Purpose::Copied(net, count) => {
-            let value = Value::Repeat { count, atom };
-            driven(draft, Coming::BracesEnd, net, value)
-        }
-        Purpose::Assigned(steps, register) => step_behind(draft, steps, assign(register, atom)),
-        Purpose::Stored(steps, memory, index) => {
-            step_behind(draft, steps, store(memory, index, atom))
-        }
-    }
-}
-
-/// One word more behind an atom on which it depends how a value goes on.
-fn behind_first(state: ValueState, word: &[u8]) -> Result<Option<Reader>, AllocError>
-    ensures { IfOk result (λ o. o ≡ spec.behind_first state word.now) }
-{
-    match state {
-        ValueState::ValueNext(draft, net, first) => value_next(draft, net, first, word),
-        ValueState::ConcatNext(draft, net, atoms) => concat_next(draft, net, atoms, word),
-        state => {
-            discard_value(state);
-            Ok(None)
-        }
-    }
-}
-
-/// One word more behind an atom, where nothing has to come.
-fn behind_state(state: State, word: &[u8]) -> Result<Option<Reader>, AllocError>
-    ensures { IfOk result (λ o. o ≡ spec.behind_state state word.now) }
-{
-    match state {
-        State::Value(state) => behind_first(state, word),
-        State::Head(state) => {
-            discard_head(state);
-            Ok(None)
-        }
-        State::Item(state) => {
-            discard_item(state);
-            Ok(None)
-        }
-        State::Block(state) => {
-            discard_block(state);
-            Ok(None)
-        }
-    }
-}
-
-/// One word more, in a reader that is behind an atom.
-fn next_behind(reader: Reader, word: &[u8]) -> Result<Option<Reader>, AllocError>
-    ensures { IfOk result (λ o. o ≡ spec.next_behind reader word.now) }
-{
-    if !reader.coming.is_nothing() {
-        return Ok(reader.expected(word));
-    }
-    let Reader { state, .. } = reader;
-    behind_state(state, word)
+    let reader = Reader::atom(
+        alloc,
+        Coming::Colon,
+        draft,
+        Purpose::No(net, condition, yes),
+    )?;
+    Ok(reader.expected(word))
 }
 
 /// Behind an atom that is whole.
 pub fn atom_end(
-    draft: Draft,
-    purpose: Purpose,
+    alloc: Global,
+    draft: Held<Draft>,
+    purpose: Held<Purpose>,
     atom: Atom,
     word: &[u8],
 ) -> Result<Option<Reader>, AllocError>
     ensures { IfOk result (λ o. o ≡ spec.atom_end draft purpose atom word.now) }
 {
-    let reader = after_atom(draft, purpose, atom)?;
-    next_behind(reader, word)
+    let purpose = purpose.into_inner();
+    match purpose {
+        Purpose::First(net) => value_next(alloc, draft, net, atom, word),
+        Purpose::Inverted(net) => ended(draft, net, Value::Invert(atom), word),
+        Purpose::Right(net, left, op) => ended(draft, net, binary(left, op, atom), word),
+        Purpose::Yes(net, condition) => first_chosen(alloc, draft, net, condition, atom, word),
+        Purpose::No(net, condition, yes) => {
+            ended(draft, net, choose(condition, yes, atom), word)
+        }
+        Purpose::Joined(net, atoms) => {
+            let atoms = atoms.with(atom)?;
+            concat_next(alloc, draft, net, atoms, word)
+        }
+        Purpose::Copied(net, count) => {
+            let value = Value::Repeat { count, atom };
+            driven_by(draft, Coming::BracesEnd, net, value, word)
+        }
+        Purpose::Assigned(steps, register) => stepped(draft, steps, assign(register, atom), word),
+        Purpose::Stored(steps, memory, index) => {
+            stepped(draft, steps, store(memory, index, atom), word)
+        }
+    }
 }
 
 /// Behind a name where an atom stands: a part of the net, the cell of a memory, or the whole net.
 pub fn atom_next(
-    draft: Draft,
-    purpose: Purpose,
+    alloc: Global,
+    draft: Held<Draft>,
+    purpose: Held<Purpose>,
     name: Text,
     word: &[u8],
 ) -> Result<Option<Reader>, AllocError>
@@ -349,23 +339,24 @@ pub fn atom_next(
     if word == b"[".as_slice() {
         Ok(Some(Reader::value(Coming::Nothing, ValueState::AtomHigh(draft, purpose, name))))
     } else {
-        atom_end(draft, purpose, Atom::Net(name), word)
+        atom_end(alloc, draft, purpose, Atom::Net(name), word)
     }
 }
 
 /// The index of a memory, which stands alone behind the net that it drives.
 fn cell_index(
     alloc: Global,
-    draft: Draft,
-    purpose: Purpose,
+    draft: Held<Draft>,
+    purpose: Held<Purpose>,
     memory: Text,
     word: &[u8],
 ) -> Result<Option<Reader>, AllocError>
     ensures { IfOk result (λ o. o ≡ spec.cell_index draft purpose memory word.now) }
 {
+    let purpose = purpose.into_inner();
     match purpose {
         Purpose::First(net) => {
-            if !is_name(word) {
+            if !is_name_word(word) {
                 return Ok(None);
             }
             let index = name_of(alloc, word)?;
@@ -379,8 +370,8 @@ fn cell_index(
 /// Behind a bracket: the high bit of a part, or the index of a memory.
 pub fn atom_high(
     alloc: Global,
-    draft: Draft,
-    purpose: Purpose,
+    draft: Held<Draft>,
+    purpose: Held<Purpose>,
     name: Text,
     word: &[u8],
 ) -> Result<Option<Reader>, AllocError>
@@ -397,16 +388,23 @@ pub fn atom_high(
 }
 
 /// The low bit of a part.
-pub fn atom_low(draft: Draft, purpose: Purpose, net: Text, high: u32, word: &[u8]) -> Option<Reader>
-    ensures { result ≡ spec.atom_low draft purpose net high word.now }
+pub fn atom_low(
+    alloc: Global,
+    draft: Held<Draft>,
+    purpose: Held<Purpose>,
+    net: Text,
+    high: u32,
+    word: &[u8],
+) -> Result<Option<Reader>, AllocError>
+    ensures { IfOk result (λ o. o ≡ spec.atom_low draft purpose net high word.now) }
 {
-    if is_number(word) {
-        let low = width_at(word);
-        Some(Reader::value(
-            Coming::RightBracket,
-            ValueState::AtomEnd(draft, purpose, Atom::Part { net, high, low }),
-        ))
-    } else {
-        None
+    if !is_number(word) {
+        return Ok(None);
     }
+    let low = width_at(word);
+    let part = Held::new(alloc, Atom::Part { net, high, low })?;
+    Ok(Some(Reader::value(
+        Coming::RightBracket,
+        ValueState::AtomEnd(draft, purpose, part),
+    )))
 }

@@ -1,3 +1,4 @@
 pub mod Ascii
 pub mod Capped
 pub mod NumberWords
+pub mod Keywords

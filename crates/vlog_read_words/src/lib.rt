@@ -3,8 +3,10 @@
 
 mod coming;
 mod listed;
+mod names;
 mod number;
 
 pub use coming::Coming;
 pub use listed::{Listed, Parts};
+pub use names::is_name_word;
 pub use number::{cells_behind, is_number, literal_of, name_of, width_at, width_behind};

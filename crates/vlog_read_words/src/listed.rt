@@ -1,6 +1,6 @@
 // Lists that grow at one end.
 
-ghost use Rattle.std.specs.Prelude.{◌≡◌, ◌∷◌, ◌++◌, [], length, IfOk, MatchOption};
+ghost use Rattle.std.specs.Prelude.{◌≡◌, ◌∷◌, ◌++◌, [], length, IfOk, OnOk, MatchOption};
 
 use std::alloc::{AllocError, Global};
 use std::marker::Model;
@@ -27,6 +27,14 @@ impl<T: Drop> Listed<T> {
         Listed {
             items: Vec::new(alloc),
         }
+    }
+
+    /// One more at the end.
+    pub fn push(&mut self, item: T) -> Result<(), AllocError>
+        ensures { OnOk result (self.new ≡ self.old ++ item ∷ []) }
+    {
+        self.items.push(item)?;
+        Ok(())
     }
 
     /// The list with one more at its end.
@@ -78,14 +86,13 @@ impl Parts {
         }
     }
 
-    /// The parts with one more open in them.
+    /// Opens one more in those that are open.
     #[tactic(auto, using(vlog_tree::proofs::Nesting::reverse_push))]
-    pub fn with(self, is_else: bool) -> Result<Self, AllocError>
-        ensures { IfOk result (λ p. p ≡ is_else ∷ self) }
+    pub fn push(&mut self, is_else: bool) -> Result<(), AllocError>
+        ensures { OnOk result (self.new ≡ is_else ∷ self.old) }
     {
-        let Parts { mut parts } = self;
-        parts.push(is_else)?;
-        Ok(Parts { parts })
+        self.parts.push(is_else)?;
+        Ok(())
     }
 
     /// Closes the innermost part: whether it is an `else`, and the parts round it; none where none is open.

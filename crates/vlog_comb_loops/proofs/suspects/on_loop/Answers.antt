@@ -1,13 +1,31 @@
-use Rattle.std.proofs.Common.{◌≡◌, ◌∙◌, rules, sym, ap, subst, refl, inl, inr, true, List, None, get_or}
+use Rattle.std.proofs.Common.{◌≡◌, ◌∙◌, ℕ, arith, rules, sym, ap, subst, refl, inl, inr, true, List, [], ◌∷◌, length, None, get_or}
+use Rattle.std.specs.Prelude.{◌==◌}
+use Rattle.std.proofs.lemmas.Bool.Decides.{nat_tests}
 use Rattle.std.proofs.lemmas.List.{take_all, get_or_default}
 use Rattle.vlog_tree.specs.Grounded.{Has}
 use Rattle.vlog_tree.specs.Loops.{port_of}
+use Rattle.vlog_comb_loops.specs.declared.suspects.Suspect.{Suspect}
 use Rattle.vlog_comb_loops.specs.Questions.{Question, asked_of}
 use Rattle.vlog_comb_loops.specs.Search.{LoopsBy}
 use Rattle.vlog_tree.proofs.Lists.{taken_split}
 use Rattle.vlog_comb_loops.proofs.Searching.{lies_not}
 use Rattle.vlog_comb_loops.proofs.Asking.{no_suspect}
 use Rattle.vlog_comb_loops.proofs.suspects.on_loop.Goals as goal
+
+zero_of : (n : ℕ) → (n == 0) ≡ true → n ≡ 0
+zero_of n h = grind (arith, nat_tests)
+
+none_there : (xs : List Suspect) → (length xs == 0) ≡ true → (s : Suspect) → Has xs s → ⊥
+none_there [] e s h = h
+none_there (x ∷ xs) e s h = let none : length (x ∷ xs) ≡ 0 = zero_of (length (x ∷ xs)) e in absurd (omega (arith, none))
+
+pub returns-then-is_empty : goal.returns-then-is_empty
+returns-then-is_empty c = λ is_top ev.
+    let loops = c.args.loops.now in
+    let empty : (length loops.suspects.items == 0) ≡ true = search rules in (
+      λ e. cc,
+      λ lies. absurd (lies_not c.args.library.now is_top c.args.owner.now c.args.name.now loops ev (λ s has v l. none_there loops.suspects.items empty s has) lies),
+    )
 
 pub returns-then-found : goal.returns-then-found
 returns-then-found c = λ is_top ev. (λ _. c.in_ok-found.ensures.right is_top ev c.if-found.true, λ _. refl)

@@ -8,5 +8,5 @@ use Rattle.vlog_net_graph.proofs.merged.merged_draft.Goals as goal
 
 pub returns : goal.returns
 returns c =
-    subst (λ (l : List ModuleTree). IsDraftOf (flat_map (module_merged c.args.library.now (is_named (option_copied c.args.root))) l) c.add_modules.new.g) c.modules.ensures.value
-    (c.in_ok-add_modules.ensures.graph [] c.new-g.ensures.graph)
+    subst (λ (l : List ModuleTree). IsDraftOf (flat_map (module_merged c.args.library.now (is_named (option_copied c.args.root))) l) c.add_modules.new.g) c.modules-modules.ensures.value
+    (c.in_ok-add_modules.ensures.graph [] c.in_ok-g.ensures.graph)

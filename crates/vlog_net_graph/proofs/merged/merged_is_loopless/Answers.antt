@@ -8,5 +8,5 @@ returns c =
     let ms = c.args.library.now in
     let is_top = is_named (option_copied c.args.root) in
     let edges = merged_edges ms is_top in
-    let e = c.in_ok-loopless.ensures edges (c.in_ok-graph.ensures.graph edges c.in_ok-draft.ensures) in
+    let e = c.in_ok-loopless.ensures edges c.in_ok-draft.ensures in
     record { exact = e; loopless = λ yes. merged_loopless ms is_top (e.0 yes) }
