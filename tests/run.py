@@ -9,7 +9,7 @@ tests/README.md says how cases are written.
 """
 import sys
 
-from runner import circuits, crates, documents, endings, examples, inputs, plans, sessions, sources, texts, tools, values, words
+from runner import circuits, crates, documents, endings, examples, inputs, plans, reference, sessions, sources, texts, tools, values, words
 from runner.trial import Trial
 
 
@@ -24,6 +24,7 @@ GROUPS = [
     ("endings", endings.try_all),
     ("examples", examples.try_all),
     ("circuits", circuits.try_all),
+    ("reference", reference.try_all),
     ("documents", documents.try_all),
     ("tools", tools.try_all),
     ("crates", crates.try_all),
