@@ -9,7 +9,7 @@ tests/README.md says how cases are written.
 """
 import sys
 
-from runner import circuits, crates, documents, endings, examples, inputs, pipelines, plans, sessions, sources, texts, tools, values, words
+from runner import circuits, crates, documents, endings, examples, inputs, pipelines, plans, reference, sessions, sources, texts, tools, values, words
 from runner.trial import Trial
 
 
@@ -25,6 +25,7 @@ GROUPS = [
     ("examples", examples.try_all),
     ("circuits", circuits.try_all),
     ("pipelines", pipelines.try_all),
+    ("reference", reference.try_all),
     ("documents", documents.try_all),
     ("tools", tools.try_all),
     ("crates", crates.try_all),

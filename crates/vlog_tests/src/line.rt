@@ -78,6 +78,13 @@ impl<'a> Line<'a> {
         }
     }
 
+    pub(crate) fn long(&mut self) -> Result<u64, Fault> {
+        match self.word().parse::<u64>() {
+            Ok(n) => Ok(n),
+            Err(_) => Err(Fault::Unreadable),
+        }
+    }
+
     pub(crate) fn large(&mut self) -> Result<u128, Fault> {
         match self.word().parse::<u128>() {
             Ok(n) => Ok(n),

@@ -1,17 +1,20 @@
 // A text of modules. Lines that begin with `//:` say what stands around them, and `//= C D` shows what they do in at most C cycles, each net by at most
-// D steps.
+// D steps. Behind it `//: fill N` and `//= C D` show the same text from another number at power-up, until a line of a further text.
 
 use crate::line::{Fault, Line};
-use crate::table::{Row, table};
+use crate::simulated::simulated;
+use crate::table::{Found, Row, table};
 use std::alloc::Global;
 use std::mem;
+use vlog_design::Design;
 use vlog_read::read;
 use vlog_ref_start::Surroundings;
 
-/// The text so far, what stands around the top, the number at power-up, and the nets that are shown.
+/// The text so far, whether it is run, what stands around the top, the number at power-up, and the nets that are shown.
 #[derive(Drop)]
 pub(crate) struct Reader {
     text: String,
+    is_run: bool,
     around: Surroundings,
     fill: u128,
     rows: Vec<Row>,
@@ -31,7 +34,7 @@ fn numbers(alloc: Global, line: &mut Line) -> Result<Vec<u64>, Fault> {
         if line.is_read() {
             break;
         }
-        all.push(u64::from(line.number()?))?;
+        all.push(line.long()?)?;
     }
     Ok(all)
 }
@@ -65,25 +68,53 @@ impl Reader {
     pub(crate) fn new(alloc: Global) -> Reader {
         Reader {
             text: String::new(alloc),
+            is_run: false,
             around: nothing_around(alloc),
             fill: 0,
             rows: Vec::new(alloc),
         }
     }
 
+    fn design(&self, alloc: Global) -> Result<Design, Fault> {
+        if self.text.len() >= 4_294_967_295 {
+            return Err(Fault::OutOfMemory);
+        }
+        match read(alloc, self.text.as_bytes()) {
+            Ok(design) => Ok(design),
+            Err(_) => Err(Fault::Unreadable),
+        }
+    }
+
+    // Whether the simulator shows the same, where the number at power-up is one that it takes.
+    fn beside(&self, alloc: Global, cycles: u32, shown: &str) -> Result<String, Fault> {
+        let Ok(fill) = u64::try_from(self.fill) else {
+            return Ok(String::new(alloc));
+        };
+        let simulated = simulated(alloc, self.design(alloc)?, &self.around, fill, cycles)?;
+        if simulated.as_str() == shown {
+            Ok(String::from_str(alloc, "simulated alike\n")?)
+        } else {
+            Ok(format!(in alloc; "simulated otherwise\n{simulated}")?)
+        }
+    }
+
     fn run(&mut self, alloc: Global, line: &mut Line) -> Result<String, Fault> {
         let cycles = line.number()?;
         let depth = line.number()?;
-        let text = mem::replace(&mut self.text, String::new(alloc));
-        let around = mem::replace(&mut self.around, nothing_around(alloc));
         let rows = mem::replace(&mut self.rows, Vec::new(alloc));
-        if text.len() >= 4_294_967_295 {
-            return Err(Fault::OutOfMemory);
-        }
-        match read(alloc, text.as_bytes()) {
-            Ok(d) => Ok(table(alloc, &d, &around, self.fill, rows, cycles, depth)?),
-            Err(_) => Err(Fault::Unreadable),
-        }
+        self.is_run = true;
+        let design = self.design(alloc)?;
+        let Found { nets, rest } = table(
+            alloc,
+            &design,
+            &self.around,
+            self.fill,
+            rows,
+            cycles,
+            depth,
+        )?;
+        let beside = self.beside(alloc, cycles, rest.as_str())?;
+        Ok(format!(in alloc; "{beside}{nets}{rest}")?)
     }
 
     // What is to be kept for what is shown later.
@@ -99,7 +130,13 @@ impl Reader {
         Ok(())
     }
 
-    fn put(&mut self, text: &str) -> Result<(), Fault> {
+    // A further line of the text, or the first of another.
+    fn put(&mut self, alloc: Global, text: &str) -> Result<(), Fault> {
+        if self.is_run {
+            self.text = String::new(alloc);
+            self.around = nothing_around(alloc);
+            self.is_run = false;
+        }
         self.text.push_str(text)?;
         self.text.push('\n')?;
         Ok(())
@@ -112,7 +149,7 @@ impl Reader {
             "//" => (),
             "//=" => return self.run(alloc, &mut line),
             "//:" => self.keep(alloc, &mut line)?,
-            _ => self.put(text)?,
+            _ => self.put(alloc, text)?,
         }
         Ok(String::new(alloc))
     }

@@ -1,7 +1,10 @@
 // The numbers of a design's nets, cycle by cycle, as the slow reference finds them.
 
+use crate::shown::{
+    Carried, add_number, add_token, push_end, push_memory, push_name, push_streams, streams_of,
+};
 use std::alloc::{AllocError, Global};
-use tapa_base::{Port, Text, Token};
+use tapa_base::Text;
 use vlog_design::Design;
 use vlog_ref_cycle::{Circuit, Moment, carries, is_done, net_number, next};
 use vlog_ref_start::{Surroundings, first_moment};
@@ -14,26 +17,11 @@ pub(crate) struct Row {
     pub numbers: String,
 }
 
-/// A stream of the top and the tokens that it has carried.
+/// What the reference shows: a line for each net, and what is shown of the streams, the memories and the end.
 #[derive(Drop)]
-pub(crate) struct Carried {
-    port: Port,
-    tokens: String,
-}
-
-fn push_name(to: &mut String, name: &Text) -> Result<(), AllocError> {
-    for byte in name.bytes() {
-        to.push(char::from(*byte))?;
-    }
-    Ok(())
-}
-
-fn add_number(alloc: Global, to: &mut String, number: Option<u128>) -> Result<(), AllocError> {
-    let text = match number {
-        Some(n) => format!(in alloc; " {n}")?,
-        None => String::from_str(alloc, " ?")?,
-    };
-    to.push_str(text.as_str())
+pub(crate) struct Found {
+    pub nets: String,
+    pub rest: String,
 }
 
 fn add_numbers(
@@ -48,13 +36,6 @@ fn add_numbers(
         add_number(alloc, &mut row.numbers, number)?;
     }
     Ok(())
-}
-
-fn add_token(alloc: Global, to: &mut String, token: Token) -> Result<(), AllocError> {
-    match token {
-        Token::Datum(n) => add_number(alloc, to, Some(u128::from(n))),
-        Token::Eot => to.push_str(" eot"),
-    }
 }
 
 fn add_tokens(
@@ -75,17 +56,6 @@ fn add_tokens(
     Ok(())
 }
 
-fn streams_of(alloc: Global, design: &Design) -> Result<Vec<Carried>, AllocError> {
-    let mut all = Vec::new(alloc);
-    for port in design.streams(alloc)? {
-        all.push(Carried {
-            port,
-            tokens: String::new(alloc),
-        })?;
-    }
-    Ok(all)
-}
-
 fn push_rows(to: &mut String, rows: &[Row]) -> Result<(), AllocError> {
     for row in rows {
         for name in row.path.iter().rev() {
@@ -99,42 +69,11 @@ fn push_rows(to: &mut String, rows: &[Row]) -> Result<(), AllocError> {
     Ok(())
 }
 
-fn push_streams(to: &mut String, streams: &[Carried]) -> Result<(), AllocError> {
-    for s in streams {
-        to.push_str("stream ")?;
-        push_name(to, &s.port.name)?;
-        to.push_str(s.tokens.as_str())?;
-        to.push('\n')?;
-    }
-    Ok(())
-}
-
 fn push_memories(alloc: Global, to: &mut String, now: &Moment) -> Result<(), AllocError> {
     for memory in &now.outside {
-        to.push_str("memory ")?;
-        push_name(to, &memory.name)?;
-        for cell in &memory.cells {
-            add_number(alloc, to, Some(*cell))?;
-        }
-        to.push('\n')?;
+        push_memory(alloc, to, &memory.name, &memory.cells)?;
     }
     Ok(())
-}
-
-fn push_end(
-    alloc: Global,
-    to: &mut String,
-    design: &Circuit,
-    now: &Moment,
-    depth: u32,
-) -> Result<(), AllocError> {
-    let cycle = now.cycle;
-    let text = if is_done(alloc, design, now, depth)? == Some(true) {
-        format!(in alloc; "done in cycle {cycle}\n")?
-    } else {
-        format!(in alloc; "not done in cycle {cycle}\n")?
-    };
-    to.push_str(text.as_str())
 }
 
 /// Runs a design until it is done, at most so many cycles: the numbers of the rows and the tokens of the streams in each
@@ -147,7 +86,7 @@ pub(crate) fn table(
     mut rows: Vec<Row>,
     cycles: u32,
     depth: u32,
-) -> Result<String, AllocError> {
+) -> Result<Found, AllocError> {
     let design = Circuit {
         modules: checked.modules(),
         top: checked.top(),
@@ -165,10 +104,12 @@ pub(crate) fn table(
             None => break,
         }
     }
-    let mut text = String::new(alloc);
-    push_rows(&mut text, &rows)?;
-    push_streams(&mut text, &streams)?;
-    push_memories(alloc, &mut text, &now)?;
-    push_end(alloc, &mut text, &design, &now, depth)?;
-    Ok(text)
+    let mut nets = String::new(alloc);
+    push_rows(&mut nets, &rows)?;
+    let mut rest = String::new(alloc);
+    push_streams(&mut rest, &streams)?;
+    push_memories(alloc, &mut rest, &now)?;
+    let ended = is_done(alloc, &design, &now, depth)? == Some(true);
+    push_end(alloc, &mut rest, ended, now.cycle)?;
+    Ok(Found { nets, rest })
 }
