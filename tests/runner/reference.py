@@ -6,6 +6,7 @@ import json
 import os
 import re
 
+from runner import cycles
 from runner.trial import ROOT, TESTS, read
 
 STDIN, STDOUT = "crates/vlog_tests/stdin", "crates/vlog_tests/stdout"
@@ -17,10 +18,10 @@ PORT = re.compile(r"(input|output) (?:\[ (\d+) : 0 \] )?([\w$]+)")
 
 
 class Run:
-    """A text, what stands around its top, the number at power-up, and the most cycles."""
+    """A text, what stands around its top, the number at power-up, the most cycles, and the nets that are shown, each with its path."""
 
-    def __init__(self, text, scalars, memories, ready, fill, cycles):
-        self.text, self.scalars, self.memories, self.ready, self.fill, self.cycles = text, scalars, memories, ready, fill, cycles
+    def __init__(self, text, scalars, memories, ready, fill, cycles, nets):
+        self.text, self.scalars, self.memories, self.ready, self.fill, self.cycles, self.nets = text, scalars, memories, ready, fill, cycles, nets
 
     def data(self):
         """What stands around the top, as a data file has it."""
@@ -39,12 +40,12 @@ def ports_of(text):
 
 def runs(stdin):
     """Each run for which the lines ask."""
-    text, scalars, memories, ready, fill, is_run = [], [], [], [], 0, False
+    text, scalars, memories, ready, nets, fill, is_run = [], [], [], [], [], 0, False
     for line in stdin.splitlines():
         first, *words = line.split() or [""]
         if first == "//=":
-            yield Run("\n".join(text), scalars, memories, ready, fill, int(words[0]))
-            is_run = True
+            yield Run("\n".join(text), scalars, memories, ready, fill, int(words[0]), nets)
+            nets, is_run = [], True
         elif first == "//:":
             numbers = [int(word) for word in words[1:]] if words[0] != "net" else []
             if words[0] == "fill":
@@ -53,6 +54,8 @@ def runs(stdin):
                 scalars = numbers
             elif words[0] in ("memory", "ready"):
                 (memories if words[0] == "memory" else ready).append(numbers)
+            elif words[0] == "net":
+                nets.append((words[:1:-1], words[1]))
         elif first != "//":
             if is_run:
                 text, scalars, memories, ready, is_run = [], [], [], [], False
@@ -82,6 +85,16 @@ def try_run(trial, name, run, lines):
     said = trial.run(["cosim", "x.v", "d.json", "--cycles", str(run.cycles - 1)])
     trial.check_equal(name, said.out.decode().splitlines(), report_of(lines))
     trial.check(f"{name}: the status", said.status == (7 if "not" in lines[-1].split() else 0), f"   {said}")
+
+
+def try_beside(trial, name, run, lines):
+    """A run beside the second evaluator; of a net whose steps were too few, the reference says `?`."""
+    scalars, memories = (list(dict(ports)) for ports in ports_of(run.text))
+    lists = [*run.ready, *[[]] * len(memories)]
+    machine = cycles.Machine(run.text, zip(scalars, run.scalars), dict(zip(memories, run.memories)), dict(zip(memories, lists)), run.fill)
+    wanted = [line for line in lines if line != "simulated alike"]
+    if not any("?" in line for line in wanted):
+        trial.check_equal(f"{name}, by the second evaluator", cycles.shown(machine, run.nets, run.cycles), wanted)
 
 
 def sources():
@@ -132,6 +145,8 @@ def try_all(trial):
     trial.check(f"{STDIN} has the circuits of tests/circuits (tests/reference.py writes them)", read(STDIN) == stdin)
     trial.check_equal(STDOUT, read(STDOUT), stdout)
     all_runs, all_lines = list(runs(stdin)), list(shown(stdout))
+    for number, (run, lines) in enumerate(zip(runs(stdin.partition(MARK)[0]), all_lines), 1):
+        try_beside(trial, f"run {number} of {STDIN}", run, lines)
     trial.check_equal("runs", len(all_runs), len(all_lines))
     for number, (run, lines) in enumerate(zip(all_runs, all_lines), 1):
         if run.fill == 0:
