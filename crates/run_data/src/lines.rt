@@ -1,4 +1,4 @@
-ghost use Rattle.std.specs.Prelude.{◌≡◌, ◌≤◌, ◌++◌, codes, IfOk, OnOk, OnErr, IsErrOf};
+ghost use Rattle.std.specs.Prelude.{◌≡◌, ◌+◌, ◌<◌, ◌≤◌, ◌∷◌, ◌++◌, length, drop, codes, IfOk, OnOk, OnErr, IsErrOf};
 ghost use Rattle.std.specs.Io.KnownBytes.{Appends};
 ghost use Rattle.tapa_base.specs.Outside.{AppendsPart, Rose};
 ghost use Rattle.run_data.specs.Report.{number_text, token_text, tokens_text, numbers_text, stream_line, memory_line, last_line, HasNoLf, IsOneLine};
@@ -32,29 +32,91 @@ fn push_number(
     Ok(())
 }
 
-// A space and a token.
-fn push_token(
-    line: &mut Vec<u8>,
-    buffer: &mut [u8; LONGEST],
-    token: Token,
-) -> Result<(), AllocError>
-    ensures { OnOk result (line.new.items ≡ line.old.items ++ token_text token) }
+// How many tokens are written together, and the bytes that they take at most.
+const TOGETHER: usize = 64;
+
+const ROOM: usize = 1344;
+
+// A byte before others in a buffer, and where it stands.
+#[inline(always)]
+fn write_byte(buffer: &mut [u8; ROOM], byte: u8, end: usize) -> usize
+    requires some { 0 < end }
+    requires within { end ≤ 1344 }
+    ensures text { drop result buffer.new ≡ byte ∷ drop end buffer.old }
+    ensures start { result + 1 ≡ end }
+{
+    let start = end - 1;
+    buffer[start] = byte;
+    start
+}
+
+// A space and a number before what stands in a buffer, and where they start.
+#[inline(always)]
+fn write_number(buffer: &mut [u8; ROOM], number: u64, end: usize) -> usize
+    requires some { 21 ≤ end }
+    requires within { end ≤ 1344 }
+    ensures text { drop result buffer.new ≡ number_text number ++ drop end buffer.old }
+    ensures start { end ≤ result + 21 }
+    ensures within { result ≤ end }
+{
+    let digits = write_digits(number, buffer, end);
+    write_byte(buffer, b' ', digits)
+}
+
+// A space and the word for an end of transaction before what stands in a buffer, and where they start.
+#[inline(always)]
+fn write_eot(buffer: &mut [u8; ROOM], end: usize) -> usize
+    requires some { 4 ≤ end }
+    requires within { end ≤ 1344 }
+    ensures text { drop result buffer.new ≡ codes " eot" ++ drop end buffer.old }
+    ensures start { result + 4 ≡ end }
+{
+    let third = write_byte(buffer, b't', end);
+    let second = write_byte(buffer, b'o', third);
+    let first = write_byte(buffer, b'e', second);
+    write_byte(buffer, b' ', first)
+}
+
+// A space and a token before what stands in a buffer, and where they start.
+#[inline(always)]
+fn write_token(buffer: &mut [u8; ROOM], token: Token, end: usize) -> usize
+    requires some { 21 ≤ end }
+    requires within { end ≤ 1344 }
+    ensures text { drop result buffer.new ≡ token_text token ++ drop end buffer.old }
+    ensures start { end ≤ result + 21 }
+    ensures within { result ≤ end }
 {
     match token {
-        Token::Datum(number) => push_number(line, buffer, number),
-        Token::Eot => {
-            line.extend_from_slice(b" eot")?;
-            Ok(())
-        }
+        Token::Datum(number) => write_number(buffer, number, end),
+        Token::Eot => write_eot(buffer, end),
     }
+}
+
+// Tokens at the end of a buffer, the last one first, and where they start.
+fn write_tokens(buffer: &mut [u8; ROOM], tokens: &[Token]) -> usize
+    requires { length tokens.now ≤ 64 }
+    ensures text { drop result buffer.new ≡ tokens_text tokens.now }
+    ensures within { result ≤ 1344 }
+{
+    let mut at = ROOM;
+    let mut left = tokens.len();
+    'back: while left > 0 {
+        left -= 1;
+        at = write_token(buffer, tokens[left], at);
+    }
+    at
 }
 
 fn push_tokens(line: &mut Vec<u8>, tokens: &[Token]) -> Result<(), AllocError>
     ensures { OnOk result (line.new.items ≡ line.old.items ++ tokens_text tokens.now) }
 {
-    let mut buffer = [0; LONGEST];
-    for token in tokens {
-        push_token(line, &mut buffer, *token)?;
+    let mut buffer = [0; ROOM];
+    let mut done = 0;
+    'parts: while done < tokens.len() {
+        let end = done + TOGETHER.min(tokens.len() - done);
+        let start = write_tokens(&mut buffer, &tokens[done..end]);
+        line.extend_from_slice(&buffer[start..])?;
+        done = end;
     }
     Ok(())
 }

@@ -1,6 +1,4 @@
 use Rattle.std.proofs.Common.{◌≡◌, sym, subst}
-use Rattle.std.specs.Prelude.{Vec}
-use Rattle.std.specs.declared.alloc.Global.{Global}
 use Rattle.std.proofs.lemmas.Result.{IfOk-weaker}
 use Rattle.run_data.specs.Report.{last_line, IsOneLine}
 use Rattle.run_data.proofs.OneLine.{last_is_line}
