@@ -21,7 +21,7 @@ pub use laws::{
     law_if_alone, law_one_solution, law_two,
 };
 pub use module::Module;
-pub use names::is_name;
+pub use names::{has_name_form, is_name};
 pub use table::{Declaration, NetKind};
 pub use tree::{
     Atom, Atoms, BinaryOp, Block, Connection, Connections, Direction, Item, PortDecl, Step, Value,

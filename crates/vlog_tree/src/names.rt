@@ -216,7 +216,8 @@ fn all_continue(bytes: &[u8]) -> bool
     bytes.iter().all(|b| continues(*b))
 }
 
-fn has_name_form(word: &[u8]) -> bool
+/// Whether bytes look like a name, as keywords do too: a letter or `_`, then letters, digits, `_` and `$`.
+pub fn has_name_form(word: &[u8]) -> bool
     ensures { result ≡ has_name_form_lem word.now }
 {
     match word {
