@@ -5,5 +5,5 @@ mod class;
 mod cut;
 mod lexer;
 
-pub use class::{Class, base_of, run, starts_name, worth};
+pub use class::{Class, base_of, run, worth};
 pub use lexer::{Lexeme, Words, place_at, scan};

@@ -17,26 +17,27 @@ use Rattle.vlog_tree.specs.Clamped.{clamped_width, clamped_cells}
 use Rattle.tapa_base.specs.Spans.{Each}
 use Rattle.vlog_grammar.specs.Numerals.{IsNumber}
 use Rattle.vlog_grammar.specs.Flat.{SpellsStep}
-use Rattle.vlog_parse.specs.declared.state.Draft.{Draft}
-use Rattle.vlog_parse.specs.declared.state.Steps.{Steps}
-use Rattle.vlog_parse.specs.declared.state.Joining.{Joining}
-use Rattle.vlog_parse.specs.declared.state.Declared.{Declared}
-use Rattle.vlog_parse.specs.declared.state.Declared.TheVariants as declared_form
-use Rattle.vlog_parse.specs.declared.state.Purpose.{Purpose}
-use Rattle.vlog_parse.specs.declared.state.Purpose.TheVariants.{First, Inverted, Right, Yes, No, Joined, Copied, Assigned, Stored}
-use Rattle.vlog_parse.specs.declared.state.HeadState.{HeadState}
-use Rattle.vlog_parse.specs.declared.state.HeadState.TheVariants.{Between, ModuleName, PortStart, RangeOrName, RangeHigh, DeclaredName, PortNext}
-use Rattle.vlog_parse.specs.declared.state.ItemState.{ItemState}
-use Rattle.vlog_parse.specs.declared.state.ItemState.TheVariants.{ItemStart, RegNext, CellsLast, InstanceName, ConnectionPort, ConnectionNet, ConnectionNext}
-use Rattle.vlog_parse.specs.declared.state.ValueState.{ValueState}
-use Rattle.vlog_parse.specs.declared.state.ValueState.TheVariants.{AssignName, ValueStart, BraceStart, ValueNext, ConcatNext, AtomStart, AtomNext, AtomHigh, AtomLow, AtomEnd}
-use Rattle.vlog_parse.specs.declared.state.BlockState.{BlockState}
-use Rattle.vlog_parse.specs.declared.state.BlockState.TheVariants.{StepStart, AfterEnd, IfName, StepTarget, StepIndex}
-use Rattle.vlog_parse.specs.declared.state.State.{State}
-use Rattle.vlog_parse.specs.declared.state.State.TheVariants.{Head, Item, Value, Block}
-use Rattle.vlog_parse.specs.declared.state.Reader.{Reader}
+use Rattle.vlog_parse_value.specs.declared.state.Draft.{Draft}
+use Rattle.vlog_parse_value.specs.declared.state.Steps.{Steps}
+use Rattle.vlog_parse_value.specs.declared.state.Joining.{Joining}
+use Rattle.vlog_parse_value.specs.declared.state.Declared.{Declared}
+use Rattle.vlog_parse_value.specs.declared.state.Declared.TheVariants as declared_form
+use Rattle.vlog_parse_value.specs.declared.state.Purpose.{Purpose}
+use Rattle.vlog_parse_value.specs.declared.state.Purpose.TheVariants.{First, Inverted, Right, Yes, No, Joined, Copied, Assigned, Stored}
+use Rattle.vlog_parse_value.specs.declared.state.HeadState.{HeadState}
+use Rattle.vlog_parse_value.specs.declared.state.HeadState.TheVariants.{Between, ModuleName, PortStart, RangeOrName, RangeHigh, DeclaredName, PortNext}
+use Rattle.vlog_parse_value.specs.declared.state.ItemState.{ItemState}
+use Rattle.vlog_parse_value.specs.declared.state.ItemState.TheVariants.{ItemStart, RegNext, CellsLast, InstanceName, ConnectionPort, ConnectionNet, ConnectionNext}
+use Rattle.vlog_parse_value.specs.declared.state.ValueState.{ValueState}
+use Rattle.vlog_parse_value.specs.declared.state.ValueState.TheVariants.{AssignName, ValueStart, BraceStart, ValueNext, ConcatNext, AtomStart, AtomNext, AtomHigh, AtomLow, AtomEnd}
+use Rattle.vlog_parse_value.specs.declared.state.BlockState.{BlockState}
+use Rattle.vlog_parse_value.specs.declared.state.BlockState.TheVariants.{StepStart, AfterEnd, IfName, StepTarget, StepIndex}
+use Rattle.vlog_parse_value.specs.declared.state.State.{State}
+use Rattle.vlog_parse_value.specs.declared.state.State.TheVariants.{Head, Item, Value, Block}
+use Rattle.vlog_parse_value.specs.declared.state.Reader.{Reader}
 use Rattle.vlog_read_words.specs.Coming.{coming_words}
-use Rattle.vlog_parse.specs.Reading.{begun, with_port, with_item, module_of, finished, with_step, opened, with_connection, no_connection, connection_of, joined, port_of}
+use Rattle.vlog_parse_value.specs.Reading.{begun, with_port, with_item, module_of, finished, with_step, opened, with_connection, joined}
+use Rattle.vlog_parse.specs.Reading.{no_connection, connection_of, port_of}
 use Rattle.vlog_parse.specs.Finishing.{Left, Words, Named, Numbered, Counted, OneAtom, put_step, put_atom, Modules, Items, ItemBehind, MorePorts, Ports, Cells, RegEnd, DeclarationEnd, Name, High, Declaration, MoreSteps, ElseOrMore, Condition, Driven, ValueEnd, MoreAtoms, AtomBehind, Low, HighOrIndex, NameEnd, AnAtom, InBraces, Drives, Place, Target, MoreConnections, JoinedNet, JoinedPort, Instances, FinishesHead, FinishesItem, FinishesValue, FinishesBlock, FinishesState, Finishes}
 use Rattle.vlog_parse.proofs.HeadReads.{between_read}
 

@@ -15,15 +15,15 @@ use Rattle.tapa_base.specs.Spans.{Is}
 use Rattle.vlog_grammar.specs.Numerals.{IsLiteral}
 use Rattle.vlog_grammar.specs.Grammar.{SpellsOperator}
 use Rattle.vlog_read_words.specs.declared.coming.Coming.TheVariants.{Nothing, Semicolon, RightBracket, Colon, BracketSemicolon, BraceEnd}
-use Rattle.vlog_parse.specs.declared.state.Draft.{Draft}
-use Rattle.vlog_parse.specs.declared.state.Purpose.{Purpose}
-use Rattle.vlog_parse.specs.declared.state.Purpose.TheVariants.{First, Inverted, Right, Yes, No, Joined, Copied, Assigned, Stored}
-use Rattle.vlog_parse.specs.declared.state.ValueState.TheVariants.{AtomStart, AtomNext, AtomHigh, AtomLow, AtomEnd}
-use Rattle.vlog_parse.specs.declared.state.BlockState.TheVariants.{StepStart}
-use Rattle.vlog_parse.specs.declared.state.ItemState.TheVariants.{ItemStart}
-use Rattle.vlog_parse.specs.declared.state.State.TheVariants.{Item, Value, Block}
+use Rattle.vlog_parse_value.specs.declared.state.Draft.{Draft}
+use Rattle.vlog_parse_value.specs.declared.state.Purpose.{Purpose}
+use Rattle.vlog_parse_value.specs.declared.state.Purpose.TheVariants.{First, Inverted, Right, Yes, No, Joined, Copied, Assigned, Stored}
+use Rattle.vlog_parse_value.specs.declared.state.ValueState.TheVariants.{AtomStart, AtomNext, AtomHigh, AtomLow, AtomEnd}
+use Rattle.vlog_parse_value.specs.declared.state.BlockState.TheVariants.{StepStart}
+use Rattle.vlog_parse_value.specs.declared.state.ItemState.TheVariants.{ItemStart}
+use Rattle.vlog_parse_value.specs.declared.state.State.TheVariants.{Item, Value, Block}
 use Rattle.vlog_read_words.specs.Numerals.{is_number, literal_of}
-use Rattle.vlog_parse.specs.Reading.{Next, at, behind, with_item, with_step, driven, atom_by, atom_start, arithmetic_of, bits_of, comparison_of, or_else, operator_of, right_by, value_next, concat_next, atom_end, atom_next, cell_index, atom_high, atom_low}
+use Rattle.vlog_parse_value.specs.Reading.{Next, at, behind, with_item, with_step, driven, atom_by, atom_start, arithmetic_of, bits_of, comparison_of, or_else, operator_of, right_by, value_next, concat_next, atom_end, atom_next, cell_index, atom_high, atom_low}
 use Rattle.vlog_parse.specs.Finishing.{Left, Words, Named, OneAtom, ItemBehind, Driven, ValueEnd, MoreAtoms, AtomBehind, Index, Low, HighOrIndex, NameEnd, AnAtom}
 use Rattle.vlog_read_words.proofs.NumberWords.{number_no_name, name_no_literal, literal_is, of_literal}
 use Rattle.vlog_parse.proofs.IsRead.{Follows, Reads, IsRead, as_read, at_word, same_word, no_read, guard_read, fixed_read, word_or, name_or, name_read, number_or, number_read}

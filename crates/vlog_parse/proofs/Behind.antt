@@ -8,10 +8,11 @@ use Rattle.vlog_grammar.specs.Grammar.{SpellsDesign}
 use Rattle.vlog_grammar.specs.Lexemes.{Bytes}
 use Rattle.vlog_lex.specs.declared.lexer.Lexeme.{Lexeme}
 use Rattle.vlog_lex.specs.Scanned.{word_of, words_at}
-use Rattle.vlog_parse.specs.declared.state.HeadState.TheVariants.{Between}
-use Rattle.vlog_parse.specs.declared.state.State.TheVariants.{Head}
-use Rattle.vlog_parse.specs.declared.state.Reader.{Reader}
-use Rattle.vlog_parse.specs.Reading.{at, next, whole}
+use Rattle.vlog_parse_value.specs.declared.state.HeadState.TheVariants.{Between}
+use Rattle.vlog_parse_value.specs.declared.state.State.TheVariants.{Head}
+use Rattle.vlog_parse_value.specs.declared.state.Reader.{Reader}
+use Rattle.vlog_parse_value.specs.Reading.{at}
+use Rattle.vlog_parse.specs.Reading.{next, whole}
 use Rattle.vlog_parse.specs.Finishing.{Finishes}
 use Rattle.vlog_parse.specs.Refused.{Begins, IsFirstRefused}
 use Rattle.vlog_parse.proofs.IsRead.{Follows}

@@ -10,16 +10,17 @@ use Rattle.tapa_base.specs.Spans.{Each}
 use Rattle.vlog_grammar.specs.Flat.{SpellsStep}
 use Rattle.vlog_grammar.proofs.OneBlock.{keywords}
 use Rattle.vlog_read_words.specs.declared.coming.Coming.TheVariants.{LeftParen, ParenBegin, Begin, BracketArrow}
-use Rattle.vlog_parse.specs.declared.state.Draft.{Draft}
-use Rattle.vlog_parse.specs.declared.state.Steps.{Steps}
-use Rattle.vlog_parse.specs.declared.state.Purpose.TheVariants.{Assigned, Stored}
-use Rattle.vlog_parse.specs.declared.state.ValueState.TheVariants.{AtomStart}
-use Rattle.vlog_parse.specs.declared.state.BlockState.TheVariants.{StepStart, IfName, StepTarget, StepIndex}
-use Rattle.vlog_parse.specs.declared.state.State.TheVariants.{Value, Block}
-use Rattle.vlog_parse.specs.Reading.{Next, at, behind, with_step, opened, ended_by, ended, step_start, after_end, if_name, step_target, step_index}
+use Rattle.vlog_parse_value.specs.declared.state.Draft.{Draft}
+use Rattle.vlog_parse_value.specs.declared.state.Steps.{Steps}
+use Rattle.vlog_parse_value.specs.declared.state.Purpose.TheVariants.{Assigned, Stored}
+use Rattle.vlog_parse_value.specs.declared.state.ValueState.TheVariants.{AtomStart}
+use Rattle.vlog_parse_value.specs.declared.state.BlockState.TheVariants.{StepStart, IfName, StepTarget, StepIndex}
+use Rattle.vlog_parse_value.specs.declared.state.State.TheVariants.{Value, Block}
+use Rattle.vlog_parse_value.specs.Reading.{Next, at, behind, with_step, opened}
+use Rattle.vlog_parse.specs.Reading.{ended_by, ended, step_start, after_end, if_name, step_target, step_index}
 use Rattle.vlog_parse.specs.Finishing.{Left, Words, Named, ItemBehind, Finishes, MoreSteps, ElseOrMore, Condition, Target, Place, put_step}
 use Rattle.vlog_parse.proofs.IsRead.{IsRead, as_read, fixed_read, word_or, name_or, name_read}
-use Rattle.vlog_parse.proofs.ItemReads.{not_word}
+use Rattle.vlog_parse.proofs.Items.{not_word}
 
 module _ (cs : List ModuleTree) where
   pub step_target_read : (d : Draft) (s : Steps) (x : Word) → IsRead cs (step_target d s x) ⊥ (Target cs d s x)

@@ -10,9 +10,10 @@ use Rattle.vlog_tree.specs.declared.tree.PortDecl.{PortDecl}
 use Rattle.vlog_tree.specs.Form.{ModuleTree}
 use Rattle.vlog_tree.specs.Spelling.{Word}
 use Rattle.vlog_tree.specs.Clamped.{clamped_atom, clamped_step, clamped_item, clamped_port, clamped}
-use Rattle.vlog_parse.specs.declared.state.Draft.{Draft}
-use Rattle.vlog_parse.specs.declared.state.Joining.{Joining}
-use Rattle.vlog_parse.specs.Reading.{begun, finished, with_connection, no_connection, joined}
+use Rattle.vlog_parse_value.specs.declared.state.Draft.{Draft}
+use Rattle.vlog_parse_value.specs.declared.state.Joining.{Joining}
+use Rattle.vlog_parse_value.specs.Reading.{begun, finished, with_connection, joined}
+use Rattle.vlog_parse.specs.Reading.{no_connection}
 use Rattle.vlog_parse.specs.Finishing.{put_module, put_port, put_item, put_step, put_atom}
 
 behind_one : {A : Type 0} (xs : List A) (y : A) (ys : List A) → (xs ++ y ∷ []) ++ ys ≡ xs ++ y ∷ ys

@@ -22,11 +22,11 @@ use Rattle.vlog_grammar.proofs.Formed.{module_formed}
 use Rattle.vlog_read_words.specs.declared.coming.Coming.{Coming}
 use Rattle.vlog_read_words.specs.declared.coming.Coming.TheVariants.{Nothing}
 use Rattle.vlog_read_words.specs.Coming.{is_nothing}
-use Rattle.vlog_parse.specs.declared.state.Draft.{Draft}
-use Rattle.vlog_parse.specs.declared.state.ItemState.TheVariants.{ItemStart}
-use Rattle.vlog_parse.specs.declared.state.State.TheVariants.{Item}
-use Rattle.vlog_parse.specs.declared.state.Reader.{Reader}
-use Rattle.vlog_parse.specs.Reading.{behind, module_of, finished}
+use Rattle.vlog_parse_value.specs.declared.state.Draft.{Draft}
+use Rattle.vlog_parse_value.specs.declared.state.ItemState.TheVariants.{ItemStart}
+use Rattle.vlog_parse_value.specs.declared.state.State.TheVariants.{Item}
+use Rattle.vlog_parse_value.specs.declared.state.Reader.{Reader}
+use Rattle.vlog_parse_value.specs.Reading.{behind, module_of, finished}
 use Rattle.vlog_parse.specs.Finishing.{IsFormed}
 use Rattle.vlog_parse.proofs.Alive.{items_end}
 use Rattle.vlog_parse.proofs.Behind.{IsBehind, design_of}

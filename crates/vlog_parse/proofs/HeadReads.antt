@@ -11,13 +11,14 @@ use Rattle.tapa_base.specs.Spans.{Separated}
 use Rattle.vlog_grammar.specs.Spans.{Takes}
 use Rattle.vlog_grammar.specs.Grammar.{SpellsPort}
 use Rattle.vlog_read_words.specs.declared.coming.Coming.TheVariants.{RangeEnd, Semicolon, LeftParen}
-use Rattle.vlog_parse.specs.declared.state.Draft.{Draft}
-use Rattle.vlog_parse.specs.declared.state.Declared.{Declared}
-use Rattle.vlog_parse.specs.declared.state.Declared.TheVariants as declared_form
-use Rattle.vlog_parse.specs.declared.state.HeadState.TheVariants.{ModuleName, PortStart, RangeOrName, RangeHigh, DeclaredName}
-use Rattle.vlog_parse.specs.declared.state.ItemState.TheVariants.{ItemStart}
-use Rattle.vlog_parse.specs.declared.state.State.TheVariants.{Head, Item}
-use Rattle.vlog_parse.specs.Reading.{at, behind, begun, finished, with_port, port_of, between, module_name, port_start, port_next, range_high, named, declared_name, range_or_name}
+use Rattle.vlog_parse_value.specs.declared.state.Draft.{Draft}
+use Rattle.vlog_parse_value.specs.declared.state.Declared.{Declared}
+use Rattle.vlog_parse_value.specs.declared.state.Declared.TheVariants as declared_form
+use Rattle.vlog_parse_value.specs.declared.state.HeadState.TheVariants.{ModuleName, PortStart, RangeOrName, RangeHigh, DeclaredName}
+use Rattle.vlog_parse_value.specs.declared.state.ItemState.TheVariants.{ItemStart}
+use Rattle.vlog_parse_value.specs.declared.state.State.TheVariants.{Head, Item}
+use Rattle.vlog_parse_value.specs.Reading.{at, behind, begun, finished, with_port}
+use Rattle.vlog_parse.specs.Reading.{port_of, between, module_name, port_start, port_next, range_high, named, declared_name, range_or_name}
 use Rattle.vlog_parse.specs.Finishing.{Words, Named, Modules, Items, MorePorts, Ports, Name, High, Declaration, put_module, put_port, put_item}
 use Rattle.vlog_parse.proofs.IsRead.{IsRead, as_read, none_read, fixed_read, word_or, name_read, count_read}
 use Rattle.vlog_parse.proofs.Folded.{whole_module}

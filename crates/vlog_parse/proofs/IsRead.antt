@@ -6,9 +6,9 @@ use Rattle.std.proofs.lemmas.Slice.Eq.{bytes_eq-Decides}
 use Rattle.vlog_tree.specs.Form.{ModuleTree}
 use Rattle.vlog_tree.specs.Names.{is_name}
 use Rattle.vlog_tree.specs.Spelling.{Word}
-use Rattle.vlog_parse.specs.declared.state.Reader.{Reader}
+use Rattle.vlog_parse_value.specs.declared.state.Reader.{Reader}
 use Rattle.vlog_read_words.specs.Numerals.{is_number}
-use Rattle.vlog_parse.specs.Reading.{Next}
+use Rattle.vlog_parse_value.specs.Reading.{Next}
 use Rattle.vlog_parse.specs.Finishing.{Left, Words, Named, Numbered, Counted, Finishes}
 use Rattle.vlog_read_words.proofs.NumberWords.{numeral_true, numeral_of}
 

@@ -1,11 +1,10 @@
 -- Words among items: declarations, instances, and what keywords begin.
-use Rattle.std.proofs.Common.{◌≡◌, ◌⊎◌, inl, inr, ℕ, true, false, Bool, bytes_eq, List, [], ◌∷◌, codes, fold, None, refl, sym, ap, subst, ◌∙◌}
+use Rattle.std.proofs.Common.{◌⊎◌, inl, inr, ℕ, List, [], ◌∷◌, codes, fold, refl, sym, subst, ◌∙◌}
 use Rattle.vlog_tree.specs.declared.tree.Step.{Step}
 use Rattle.vlog_tree.specs.declared.tree.Connection.{Connection}
 use Rattle.vlog_tree.specs.declared.tree.Item.{Item as ItemTree}
 use Rattle.vlog_tree.specs.declared.tree.Item.TheVariants.{Wire, Reg, Memory, Assign, Always, Instance}
 use Rattle.vlog_tree.specs.Form.{ModuleTree}
-use Rattle.vlog_tree.specs.Names.{is_name}
 use Rattle.vlog_tree.specs.Spelling.{Word}
 use Rattle.vlog_tree.specs.Clamped.{clamped_cells}
 use Rattle.tapa_base.specs.Spans.{Separated}
@@ -13,33 +12,21 @@ use Rattle.vlog_grammar.specs.Spans.{Takes}
 use Rattle.vlog_grammar.specs.Grammar.{SpellsConnection, SpellsItem}
 use Rattle.vlog_grammar.specs.Flat.{SpellsFlatBlock}
 use Rattle.vlog_grammar.proofs.Flattened.{flat_block, block_of_flat}
-use Rattle.vlog_grammar.proofs.OneBlock.{NoName, keywords}
 use Rattle.vlog_read_words.specs.declared.coming.Coming.TheVariants.{Nothing, Semicolon, LeftParen, ParenDot, Dot, RightParen, ZeroColon, BracketSemicolon, Clocked}
-use Rattle.vlog_parse.specs.declared.state.Draft.{Draft}
-use Rattle.vlog_parse.specs.declared.state.Joining.{Joining}
-use Rattle.vlog_parse.specs.declared.state.Declared.TheVariants as declared_form
-use Rattle.vlog_parse.specs.declared.state.HeadState.TheVariants.{Between, RangeOrName}
-use Rattle.vlog_parse.specs.declared.state.ItemState.TheVariants.{CellsLast, InstanceName, ConnectionPort, ConnectionNet, ConnectionNext}
-use Rattle.vlog_parse.specs.declared.state.ValueState.TheVariants.{AssignName}
-use Rattle.vlog_parse.specs.declared.state.BlockState.TheVariants.{StepStart}
-use Rattle.vlog_parse.specs.declared.state.State.TheVariants.{Head, Item, Value, Block}
-use Rattle.vlog_parse.specs.Reading.{at, behind, with_item, finished, item_behind, no_steps, no_connection, connection_of, with_connection, joined, item_word, item_start, reg_next, cells_last, instance_name, connection_port, connection_net, connection_next}
+use Rattle.vlog_parse_value.specs.declared.state.Draft.{Draft}
+use Rattle.vlog_parse_value.specs.declared.state.Joining.{Joining}
+use Rattle.vlog_parse_value.specs.declared.state.Declared.TheVariants as declared_form
+use Rattle.vlog_parse_value.specs.declared.state.HeadState.TheVariants.{Between, RangeOrName}
+use Rattle.vlog_parse_value.specs.declared.state.ItemState.TheVariants.{CellsLast, InstanceName, ConnectionPort, ConnectionNet, ConnectionNext}
+use Rattle.vlog_parse_value.specs.declared.state.ValueState.TheVariants.{AssignName}
+use Rattle.vlog_parse_value.specs.declared.state.BlockState.TheVariants.{StepStart}
+use Rattle.vlog_parse_value.specs.declared.state.State.TheVariants.{Head, Item, Value, Block}
+use Rattle.vlog_parse_value.specs.Reading.{at, behind, with_item, finished, item_behind, no_steps, with_connection, joined}
+use Rattle.vlog_parse.specs.Reading.{no_connection, connection_of, item_word, item_start, reg_next, cells_last, instance_name, connection_port, connection_net, connection_next}
 use Rattle.vlog_parse.specs.Finishing.{Words, Named, Modules, Items, ItemBehind, Cells, RegEnd, Declaration, MoreSteps, Drives, MoreConnections, JoinedNet, JoinedPort, Instances, put_item}
-use Rattle.vlog_parse.proofs.IsRead.{IsRead, as_read, same_word, fixed_read, word_or, name_or, name_read, count_read}
+use Rattle.vlog_parse.proofs.IsRead.{IsRead, as_read, fixed_read, word_or, name_or, name_read, count_read}
+use Rattle.vlog_parse.proofs.Items.{name_no_item}
 use Rattle.vlog_parse.proofs.Folded.{all_steps, all_connections}
-
--- a name is no keyword
-pub not_word : (w v : Word) → is_name w ≡ true → NoName v → bytes_eq w v ≡ false
-not_word w v named none = by_test (bytes_eq w v) refl
-  where
-    by_test : (t : Bool) → bytes_eq w v ≡ t → bytes_eq w v ≡ false
-    by_test true e = absurd (let f : true ≡ false = sym named ∙ ap is_name (same_word w v e) ∙ none in cc)
-    by_test false e = e
-
-name_no_item : (d : Draft) (w : Word) → is_name w ≡ true → item_word d w ≡ None
-name_no_item d w h =
-    rw (not_word w (codes "wire") h keywords.no_wire, not_word w (codes "reg") h keywords.no_reg, not_word w (codes "assign") h keywords.no_assign, not_word w (codes "always") h keywords.no_always, not_word w (codes "endmodule") h keywords.no_endmodule)
-    refl
 
 module _ (cs : List ModuleTree) where
   -- ---- items

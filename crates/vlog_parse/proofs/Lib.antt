@@ -9,3 +9,4 @@ pub mod ReaderReads
 pub mod Alive
 pub mod Behind
 pub mod Formed
+pub mod Items

@@ -3,19 +3,20 @@ use Rattle.std.proofs.Common.{◌≡◌, ◌≤◌, List, [], ◌∷◌, codes, 
 use Rattle.vlog_tree.specs.Form.{ModuleTree}
 use Rattle.vlog_read_words.specs.declared.coming.Coming.{Coming}
 use Rattle.vlog_read_words.specs.declared.coming.Coming.TheVariants.{Nothing, Semicolon, LeftParen, ParenDot, Dot, RightParen, RangeEnd, ZeroBracket, RightBracket, ZeroColon, Colon, BracketSemicolon, BracketArrow, Arrow, Equals, LeftBrace, BracesEnd, BraceEnd, Clocked, ClockedParen, ClockedEdge, ClockedName, ParenBegin, Begin}
-use Rattle.vlog_parse.specs.declared.state.HeadState.{HeadState}
-use Rattle.vlog_parse.specs.declared.state.HeadState.TheVariants.{Between, ModuleName, PortStart, RangeOrName, RangeHigh, DeclaredName, PortNext}
-use Rattle.vlog_parse.specs.declared.state.ItemState.{ItemState}
-use Rattle.vlog_parse.specs.declared.state.ItemState.TheVariants.{ItemStart, RegNext, CellsLast, InstanceName, ConnectionPort, ConnectionNet, ConnectionNext}
-use Rattle.vlog_parse.specs.declared.state.ValueState.{ValueState}
-use Rattle.vlog_parse.specs.declared.state.ValueState.TheVariants.{AssignName, ValueStart, BraceStart, ValueNext, ConcatNext, AtomStart, AtomNext, AtomHigh, AtomLow, AtomEnd}
-use Rattle.vlog_parse.specs.declared.state.BlockState.{BlockState}
-use Rattle.vlog_parse.specs.declared.state.BlockState.TheVariants.{StepStart, AfterEnd, IfName, StepTarget, StepIndex}
-use Rattle.vlog_parse.specs.declared.state.State.{State}
-use Rattle.vlog_parse.specs.declared.state.State.TheVariants.{Head, Item, Value, Block}
-use Rattle.vlog_parse.specs.declared.state.Reader.{Reader}
+use Rattle.vlog_parse_value.specs.declared.state.HeadState.{HeadState}
+use Rattle.vlog_parse_value.specs.declared.state.HeadState.TheVariants.{Between, ModuleName, PortStart, RangeOrName, RangeHigh, DeclaredName, PortNext}
+use Rattle.vlog_parse_value.specs.declared.state.ItemState.{ItemState}
+use Rattle.vlog_parse_value.specs.declared.state.ItemState.TheVariants.{ItemStart, RegNext, CellsLast, InstanceName, ConnectionPort, ConnectionNet, ConnectionNext}
+use Rattle.vlog_parse_value.specs.declared.state.ValueState.{ValueState}
+use Rattle.vlog_parse_value.specs.declared.state.ValueState.TheVariants.{AssignName, ValueStart, BraceStart, ValueNext, ConcatNext, AtomStart, AtomNext, AtomHigh, AtomLow, AtomEnd}
+use Rattle.vlog_parse_value.specs.declared.state.BlockState.{BlockState}
+use Rattle.vlog_parse_value.specs.declared.state.BlockState.TheVariants.{StepStart, AfterEnd, IfName, StepTarget, StepIndex}
+use Rattle.vlog_parse_value.specs.declared.state.State.{State}
+use Rattle.vlog_parse_value.specs.declared.state.State.TheVariants.{Head, Item, Value, Block}
+use Rattle.vlog_parse_value.specs.declared.state.Reader.{Reader}
 use Rattle.vlog_read_words.specs.Coming.{coming_words}
-use Rattle.vlog_parse.specs.Reading.{behind, head_next, item_next, value_word, block_next, state_next, next, whole_head, whole}
+use Rattle.vlog_parse_value.specs.Reading.{behind}
+use Rattle.vlog_parse.specs.Reading.{head_next, item_next, value_word, block_next, state_next, next, whole_head, whole}
 use Rattle.vlog_parse.specs.Finishing.{Words, FinishesHead, FinishesItem, FinishesValue, FinishesBlock, FinishesState, Finishes}
 use Rattle.vlog_parse.proofs.IsRead.{IsRead, fixed_read}
 use Rattle.vlog_parse.proofs.HeadReads.{EndsBetween, between_read, module_name_read, port_start_read, name_read_of, range_or_name_read, range_high_read, port_next_read}

@@ -12,12 +12,12 @@ use Rattle.vlog_tree.specs.Clamped.{clamped_width, clamped_value, clamped_atom}
 use Rattle.vlog_grammar.specs.Spans.{Takes, SeparatedTwo}
 use Rattle.vlog_grammar.specs.Grammar.{SpellsAtom, SpellsValue}
 use Rattle.vlog_read_words.specs.declared.coming.Coming.TheVariants.{Equals, LeftBrace}
-use Rattle.vlog_parse.specs.declared.state.Draft.{Draft}
-use Rattle.vlog_parse.specs.declared.state.Purpose.TheVariants.{First, Inverted, Joined, Copied}
-use Rattle.vlog_parse.specs.declared.state.ValueState.TheVariants.{ValueStart, BraceStart, AtomStart, AtomNext}
-use Rattle.vlog_parse.specs.declared.state.State.TheVariants.{Value}
+use Rattle.vlog_parse_value.specs.declared.state.Draft.{Draft}
+use Rattle.vlog_parse_value.specs.declared.state.Purpose.TheVariants.{First, Inverted, Joined, Copied}
+use Rattle.vlog_parse_value.specs.declared.state.ValueState.TheVariants.{ValueStart, BraceStart, AtomStart, AtomNext}
+use Rattle.vlog_parse_value.specs.declared.state.State.TheVariants.{Value}
 use Rattle.vlog_read_words.specs.Numerals.{is_number, literal_of}
-use Rattle.vlog_parse.specs.Reading.{Next, at, behind, assign_name, atom_by, atom_start, value_start, brace_start}
+use Rattle.vlog_parse_value.specs.Reading.{Next, at, behind, assign_name, atom_by, atom_start, value_start, brace_start}
 use Rattle.vlog_parse.specs.Finishing.{Left, Words, Named, ItemBehind, Driven, AnAtom, InBraces, Drives, put_atom}
 use Rattle.vlog_read_words.proofs.NumberWords.{number_no_name, number_no_literal}
 use Rattle.vlog_parse.proofs.IsRead.{IsRead, as_read, word_or, name_read, number_or}

@@ -3,10 +3,9 @@
 ghost use Rattle.std.specs.Prelude.{◌≡◌, ◌∷◌, IfOk};
 ghost use Rattle.vlog_parse.specs.Reading as spec;
 
-use crate::held::Held;
-use crate::state::{BlockState, Draft, Purpose, Reader, Steps};
 use std::alloc::{AllocError, Global};
 use tapa_base::Text;
+use vlog_parse_value::{BlockState, Draft, Held, Purpose, Reader, Steps};
 use vlog_read_words::{Coming, Listed, Parts, is_name_word, name_of};
 use vlog_tree::{Block, Item, Step};
 

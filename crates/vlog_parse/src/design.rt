@@ -7,6 +7,7 @@ ghost use Rattle.vlog_grammar.specs.Grammar.{SpellsDesign};
 ghost use Rattle.vlog_lex.specs.Scanned.{word_of, words_at};
 ghost use Rattle.vlog_parse.specs.Refused.{Refuses};
 ghost use Rattle.vlog_parse.specs.Finishing.{IsFormed};
+ghost use Rattle.vlog_parse_value.specs.Reading as read;
 ghost use Rattle.vlog_parse.specs.Reading as spec;
 
 use crate::block::{after_end, if_name, step_index, step_start, step_target};
@@ -17,16 +18,13 @@ use crate::item::{
 use crate::port::{
     between, declared_name, module_name, port_next, port_start, range_high, range_or_name,
 };
-use crate::state::{
-    BlockState, HeadState, ItemState, Reader, State, ValueState, discard, discard_block,
-    discard_item, discard_value,
-};
-use crate::value::{
-    assign_name, atom_end, atom_high, atom_low, atom_next, atom_start, brace_start, concat_next,
-    value_next, value_start,
-};
 use std::alloc::{AllocError, Global};
 use vlog_lex::Lexeme;
+use vlog_parse_value::{
+    BlockState, HeadState, ItemState, Reader, State, ValueState, assign_name, atom_end, atom_high,
+    atom_low, atom_next, atom_start, brace_start, concat_next, discard, discard_block,
+    discard_item, discard_value, value_next, value_start,
+};
 use vlog_read_words::{Coming, Listed};
 use vlog_tree::Module;
 
@@ -68,7 +66,7 @@ fn head_next(alloc: Global, state: HeadState, word: &[u8]) -> Result<Option<Read
 
 /// One word more among items.
 fn item_next(alloc: Global, state: ItemState, word: &[u8]) -> Result<Option<Reader>, AllocError>
-    requires { IsFormed (spec.behind Coming.Nothing (State.Item state)) }
+    requires { IsFormed (read.behind Coming.Nothing (State.Item state)) }
     ensures { IfOk result (λ o. o ≡ spec.item_next state word.now) }
 {
     match state {
@@ -127,7 +125,7 @@ fn block_next(alloc: Global, state: BlockState, word: &[u8]) -> Result<Option<Re
 
 /// One word more where it is chosen.
 fn state_next(alloc: Global, state: State, word: &[u8]) -> Result<Option<Reader>, AllocError>
-    requires { IsFormed (spec.behind Coming.Nothing state) }
+    requires { IsFormed (read.behind Coming.Nothing state) }
     ensures { IfOk result (λ o. o ≡ spec.state_next state word.now) }
 {
     match state {

@@ -2,20 +2,31 @@
 
 ghost use Rattle.std.specs.Prelude.{◌≡◌, IfOk};
 ghost use Rattle.vlog_tree.specs.Form.{IsModule};
+ghost use Rattle.vlog_parse_value.specs.Reading as read;
 ghost use Rattle.vlog_parse.specs.Reading as spec;
 
-use crate::held::Held;
-use crate::state::{
-    BlockState, Declared, Draft, HeadState, ItemState, Joining, Reader, Steps, ValueState,
-};
 use std::alloc::{AllocError, Global};
 use tapa_base::Text;
+use vlog_parse_value::{
+    BlockState, Declared, Draft, HeadState, Held, ItemState, Joining, Reader, Steps, ValueState,
+};
 use vlog_read_words::{Coming, Listed, cells_behind, is_name_word, is_number, name_of};
 use vlog_tree::{Connection, Connections, Item};
 
+/// Whether a word is a keyword that begins an item, or ends the module.
+fn begins_item(word: &[u8]) -> bool
+    ensures { result ≡ spec.begins_item word.now }
+{
+    word == b"wire".as_slice()
+        || word == b"reg".as_slice()
+        || word == b"assign".as_slice()
+        || word == b"always".as_slice()
+        || word == b"endmodule".as_slice()
+}
+
 /// An item that a keyword begins, or the end of the module.
 fn item_word(alloc: Global, draft: Held<Draft>, word: &[u8]) -> Result<Option<Reader>, AllocError>
-    requires { IsModule (spec.module_of draft) }
+    requires { IsModule (read.module_of draft) }
     ensures { IfOk result (λ o. o ≡ spec.item_word draft word.now) }
 {
     if word == b"wire".as_slice() {
@@ -43,20 +54,24 @@ fn item_word(alloc: Global, draft: Held<Draft>, word: &[u8]) -> Result<Option<Re
     }
 }
 
-/// Where an item may come, or the end of the module.
+/// Where an item may come, or the end of the module. Most words here are keywords, which are seen to be no names at once.
+#[tactic(auto, using(crate::proofs::Items::no_item))]
 pub fn item_start(
     alloc: Global,
     draft: Held<Draft>,
     word: &[u8],
 ) -> Result<Option<Reader>, AllocError>
-    requires { IsModule (spec.module_of draft) }
+    requires { IsModule (read.module_of draft) }
     ensures { IfOk result (λ o. o ≡ spec.item_start draft word.now) }
 {
+    if begins_item(word) {
+        return item_word(alloc, draft, word);
+    }
     if is_name_word(word) {
         let child = name_of(alloc, word)?;
         return Ok(Some(Reader::item(Coming::Nothing, ItemState::InstanceName(draft, child))));
     }
-    item_word(alloc, draft, word)
+    Ok(None)
 }
 
 /// Behind the name of a register: its end, or the range that makes a memory of it.
@@ -149,9 +164,7 @@ pub fn connection_net(
         return Ok(None);
     }
     let net = name_of(alloc, word)?;
-    let Held { mut held } = joining;
-    held.push(Connection { port, net })?;
-    let joining = Held { held };
+    let joining = joining.with_connection(Connection { port, net })?;
     Ok(Some(Reader::item(
         Coming::RightParen,
         ItemState::ConnectionNext(draft, joining),
@@ -160,7 +173,7 @@ pub fn connection_net(
 
 /// The instance that was read.
 fn joined(joining: Held<Joining>) -> Item
-    ensures { result ≡ spec.joined joining }
+    ensures { result ≡ read.joined joining }
 {
     let Joining {
         child,

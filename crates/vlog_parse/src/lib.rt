@@ -3,10 +3,7 @@
 
 mod block;
 mod design;
-mod held;
 mod item;
 mod port;
-mod state;
-mod value;
 
 pub use design::{ParseFault, parse};

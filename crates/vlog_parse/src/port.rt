@@ -4,10 +4,9 @@ ghost use Rattle.std.specs.Prelude.{◌≡◌, IfOk, true};
 ghost use Rattle.vlog_tree.specs.Names.{is_name as is_name_lem};
 ghost use Rattle.vlog_parse.specs.Reading as spec;
 
-use crate::held::Held;
-use crate::state::{Declared, Draft, HeadState, ItemState, Reader};
 use std::alloc::{AllocError, Global};
 use tapa_base::Text;
+use vlog_parse_value::{Declared, Draft, HeadState, Held, ItemState, Reader};
 use vlog_read_words::{Coming, Listed, is_name_word, is_number, name_of, width_behind};
 use vlog_tree::{Direction, Item, Module, PortDecl};
 
@@ -94,13 +93,11 @@ fn port_named(
 ) -> Result<Reader, AllocError>
     ensures { IfOk result (λ r. r ≡ spec.port_named draft direction width name) }
 {
-    let Held { mut held } = draft;
-    held.push_port(PortDecl {
+    let draft = draft.with_port(PortDecl {
         direction,
         width,
         name,
     })?;
-    let draft = Held { held };
     Ok(Reader::head(Coming::Nothing, HeadState::PortNext(draft)))
 }
 

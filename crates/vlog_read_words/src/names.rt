@@ -1,27 +1,10 @@
 // Words that are names and no keywords.
 
 ghost use Rattle.std.specs.Prelude.{◌≡◌};
-ghost use Rattle.std.specs.List.{list_all};
-ghost use Rattle.vlog_tree.specs.Names.{goes_on, has_name_form as has_name_form_lem, is_name as is_name_lem};
+ghost use Rattle.vlog_tree.specs.Names.{is_name as is_name_lem};
 ghost use Rattle.vlog_read_words.specs.Keywords as spec;
 
-use vlog_lex::{Class, starts_name};
-use vlog_tree::is_name;
-
-fn all_go_on(bytes: &[u8]) -> bool
-    ensures { result ≡ list_all goes_on bytes.now }
-{
-    bytes.iter().all(|b| Class::Name.has(*b))
-}
-
-fn has_name_form(word: &[u8]) -> bool
-    ensures { result ≡ has_name_form_lem word.now }
-{
-    match word {
-        [] => false,
-        [first, rest @ ..] => starts_name(*first) && all_go_on(rest),
-    }
-}
+use vlog_tree::{has_name_form, is_name};
 
 /// Whether no keyword looks like this: each has a small letter in the second place.
 fn is_unlike_keywords(word: &[u8]) -> bool

@@ -1,6 +1,6 @@
 -- What a name's first place says of a list.
 use Rattle.std.proofs.Common.{◌≡◌, ℕ, suc, ◌+◌, ◌-◌, ◌<◌, ◌≤◌, Bool, true, false, cond, List, [], ◌∷◌, length, get_or, Option, Some, None, refl, sym, ap, ◌∙◌, arith, map}
-use Rattle.std.specs.Prelude.{bytes_eq, count_by, nat_le, is_some, unwrap_or, ◌||◌}
+use Rattle.std.specs.Prelude.{bytes_eq, count_by, nat_le, is_some, unwrap_or}
 use Rattle.std.specs.Cmp.Lexicographic.{bytes_decides}
 use Rattle.std.proofs.lemmas.List.Sums.{sum_by-cons}
 use Rattle.std.proofs.lemmas.Bool.Decides.{nat_tests}

@@ -1,5 +1,5 @@
 -- A table from names to the first place at which a list has them.
-use Rattle.std.specs.Prelude.{◌≡◌, min, count_by, ℕ, suc, Bool, List, [], ◌∷◌, Option, Some, None, if◌then◌else◌, bytes_eq, is_some, unwrap_or, Vec}
+use Rattle.std.specs.Prelude.{◌≡◌, min, ℕ, suc, Bool, List, [], ◌∷◌, Option, Some, None, if◌then◌else◌, bytes_eq, is_some, unwrap_or, Vec}
 use Rattle.std.specs.HashMap.{HashMap, get_by}
 
 -- from a name to its first place, and whether it stands once more behind

@@ -79,7 +79,7 @@ fn count_line(
 fn drive_counts(alloc: Global, library: &Library, items: &[Item]) -> Result<NameCounts, AllocError>
     ensures { IfOk result (λ counts. CountsTo counts (drives library.now items.now)) }
 {
-    let mut counts = NameCounts::new(alloc);
+    let mut counts = NameCounts::with_capacity(alloc, items.len())?;
     for i in items {
         count_line(alloc, &mut counts, library, i)?;
     }

@@ -1,6 +1,6 @@
 // The first place of each name of a list.
 
-ghost use Rattle.std.specs.Prelude.{◌≡◌, ◌+◌, ℕ, List, OnOk, Some, bytes_eq, min, if◌then◌else◌};
+ghost use Rattle.std.specs.Prelude.{◌≡◌, ◌+◌, ℕ, List, IfOk, OnOk, Some, bytes_eq, min, if◌then◌else◌};
 ghost use Rattle.vlog_rules.specs.NameTable.{with_name, place_in, count_in, value_in};
 
 use std::alloc::{AllocError, Global};
@@ -16,7 +16,22 @@ pub fn find_name(table: &NameTable, name: &[u8]) -> Option<(usize, bool)>
     table.get(name).copied()
 }
 
-/// Puts a name in front of those that are there.
+/// Gives a name a value, and tells the one that it had.
+fn put<V: Drop>(
+    alloc: Global,
+    table: &mut HashMap<Vec<u8>, V>,
+    name: &[u8],
+    value: V,
+) -> Result<Option<V>, AllocError>
+    ensures before { IfOk result (λ before. before ≡ value_in table.old name.now) }
+    ensures table { OnOk result ((x : List ℕ) → value_in table.new x ≡ (if bytes_eq name.now x then Some value else value_in table.old x)) }
+{
+    let key = name.to_vec(alloc)?;
+    let before = table.insert(key, value)?;
+    Ok(before)
+}
+
+/// Puts a name in front of those that are there. Most names are new, so it is looked up once, by putting it in.
 pub fn add_before(
     alloc: Global,
     table: &mut NameTable,
@@ -25,9 +40,10 @@ pub fn add_before(
 ) -> Result<(), AllocError>
     ensures { OnOk result ((x : List ℕ) → place_in table.new x ≡ with_name name.now place (place_in table.old) x) }
 {
-    let again = find_name(table, name).is_some();
-    let key = name.to_vec(alloc)?;
-    table.insert(key, (place, again))?;
+    let before = put(alloc, table, name, (place, false))?;
+    if before.is_some() {
+        put(alloc, table, name, (place, true))?;
+    }
     Ok(())
 }
 
@@ -40,13 +56,14 @@ pub fn count_of(counts: &NameCounts, name: &[u8]) -> usize
     counts.get(name).copied().unwrap_or(0)
 }
 
-/// Counts a name once more.
+/// Counts a name once more. Most names are new, so it is looked up once, by putting it in.
 pub fn count_one(alloc: Global, counts: &mut NameCounts, name: &[u8]) -> Result<(), AllocError>
     ensures { OnOk result ((x : List ℕ) → count_in counts.new x ≡ (if bytes_eq name.now x then min (count_in counts.old x + 1) 2 else count_in counts.old x)) }
 {
-    let count = count_of(counts, name).saturating_add(1).min(2);
-    let key = name.to_vec(alloc)?;
-    counts.insert(key, count)?;
+    let before = put(alloc, counts, name, 1)?;
+    if let Some(count) = before {
+        put(alloc, counts, name, count.saturating_add(1).min(2))?;
+    }
     Ok(())
 }
 
@@ -68,7 +85,6 @@ pub fn set_bits(
 ) -> Result<(), AllocError>
     ensures { OnOk result ((x : List ℕ) → value_in table.new x ≡ (if bytes_eq name.now x then Some bits else value_in table.old x)) }
 {
-    let key = name.to_vec(alloc)?;
-    table.insert(key, bits)?;
+    put(alloc, table, name, bits)?;
     Ok(())
 }

@@ -246,7 +246,26 @@ fn all_counted_once(declarations: &[Declaration], counts: &NameCounts) -> bool
         .all(|d| is_counted_once(&d.name, counts))
 }
 
-fn all_connected(
+fn is_connected_once(name: &Text, connections: &[Connection]) -> bool
+    ensures { result ≡ (count_by (λ l. bytes_eq l.port name.now) connections.now == 1) }
+{
+    let port = name.bytes();
+    connections
+        .iter()
+        .filter(|l| l.port.bytes() == port)
+        .count()
+        == 1
+}
+
+fn all_connected_once(declarations: &[Declaration], connections: &[Connection]) -> bool
+    ensures { result ≡ list_all (λ d. count_by (λ l. bytes_eq l.port d.name) connections.now == 1) declarations.now }
+{
+    declarations
+        .iter()
+        .all(|d| is_connected_once(&d.name, connections))
+}
+
+fn all_connected_by_counts(
     alloc: Global,
     ports: &Scope,
     connections: &[Connection],
@@ -255,6 +274,20 @@ fn all_connected(
 {
     let counts = connection_counts(alloc, connections)?;
     Ok(all_counted_once(ports.declarations(), &counts))
+}
+
+// A few connections are looked through for each port, which is faster than to count their names first.
+fn all_connected(
+    alloc: Global,
+    ports: &Scope,
+    connections: &[Connection],
+) -> Result<bool, AllocError>
+    ensures { IfOk result (λ b. b ≡ all_are_connected ports.now connections.now) }
+{
+    if connections.len() <= 8 {
+        return Ok(all_connected_once(ports.declarations(), connections));
+    }
+    all_connected_by_counts(alloc, ports, connections)
 }
 
 fn joined<'a>(

@@ -139,8 +139,8 @@ fn add_modules(
 fn places_of(alloc: Global, declarations: &[Declaration]) -> Result<NameTable, AllocError>
     ensures { IfOk result (λ table. (x : List ℕ) → place_in table x ≡ places_from 0 (map declaration_name declarations.now) x) }
 {
-    let mut places = NameTable::new(alloc);
     let mut left = declarations.len();
+    let mut places = NameTable::with_capacity(alloc, left)?;
     while left > 0 {
         left -= 1;
         add_before(alloc, &mut places, declarations[left].name.bytes(), left)?;

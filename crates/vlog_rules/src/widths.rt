@@ -67,7 +67,8 @@ fn atom_fits(scope: &Scope, atom: &Atom) -> bool
     match atom {
         Atom::Net(x) => net_fits(scope, x),
         Atom::Part { net: x, high, low } => {
-            net_fits(scope, x) && part_fits(scope.find(x).1, *high, *low)
+            let own = scope.find(x).1;
+            is_width(own) && part_fits(own, *high, *low)
         }
         Atom::Literal {
             width: bits,
@@ -79,7 +80,14 @@ fn atom_fits(scope: &Scope, atom: &Atom) -> bool
 fn has_bits(scope: &Scope, bits: u64, atom: &Atom) -> bool
     ensures { result ≡ has_bits_lem scope.now bits atom.now }
 {
-    atom_fits(scope, atom) && atom_bits(scope, atom) == bits
+    match atom {
+        Atom::Net(x) => {
+            let own = scope.find(x).1;
+            is_width(own) && own as u64 == bits
+        }
+        Atom::Part { .. } => atom_fits(scope, atom) && atom_bits(scope, atom) == bits,
+        Atom::Literal { .. } => atom_fits(scope, atom) && atom_bits(scope, atom) == bits,
+    }
 }
 
 fn is_divisor(atom: &Atom) -> bool
@@ -172,6 +180,20 @@ fn value_fits(scope: &Scope, bits: u64, value: &Value) -> bool
     }
 }
 
+fn assign_fits(scope: &Scope, x: &Text, e: &Value) -> bool
+    ensures { result ≡ (fits_net scope.now x.now && fits_value scope.now (bits_of scope.now x.now) e.now) }
+{
+    let bits = scope.find(x).1;
+    is_width(bits) && value_fits(scope, bits as u64, e)
+}
+
+fn register_fits(scope: &Scope, x: &Text, a: &Atom) -> bool
+    ensures { result ≡ (fits_net scope.now x.now && has_bits_lem scope.now (bits_of scope.now x.now) a.now) }
+{
+    let bits = scope.find(x).1;
+    is_width(bits) && has_bits(scope, bits as u64, a)
+}
+
 fn store_fits(scope: &Scope, m: &Text, x: &Text, a: &Atom) -> bool
     ensures { result ≡ (fits_memory scope.now m.now && fits_net scope.now x.now && has_bits_lem scope.now (bits_of scope.now m.now) a.now) }
 {
@@ -187,10 +209,7 @@ fn step<'a>(scope: &Scope, step: &'a Step) -> Option<&'a Text>
         Step::NonblockingAssign {
             register: x,
             value: a,
-        } => named_if(
-            x,
-            !(net_fits(scope, x) && has_bits(scope, scope.find(x).1 as u64, a)),
-        ),
+        } => named_if(x, !register_fits(scope, x, a)),
         Step::MemoryAssign {
             memory: m,
             index: x,
@@ -214,11 +233,9 @@ fn steps<'a>(scope: &Scope, steps: &'a [Step]) -> Option<&'a Text>
 fn connection<'a>(ports: &Scope, scope: &Scope, connection: &'a Connection) -> Option<&'a Text>
     ensures { option_copied result ≡ first_violation (connection_widths ports.now scope.now connection.now) }
 {
-    let same = ports.find(&connection.port).1 == scope.find(&connection.net).1;
-    named_if(
-        &connection.port,
-        !(net_fits(scope, &connection.net) && same),
-    )
+    let bits = scope.find(&connection.net).1;
+    let same = ports.find(&connection.port).1 == bits;
+    named_if(&connection.port, !(is_width(bits) && same))
 }
 
 fn connections<'a>(ports: &Scope, scope: &Scope, connections: &'a [Connection]) -> Option<&'a Text>
@@ -268,10 +285,7 @@ fn item<'a>(library: &Library, scope: &Scope, item: &'a Item) -> Option<&'a Text
             name: x,
             cells,
         } => named_if(x, !(is_width(*bits) && is_cell_count(*cells))),
-        Item::Assign { net: x, value: e } => named_if(
-            x,
-            !(net_fits(scope, x) && value_fits(scope, scope.find(x).1 as u64, e)),
-        ),
+        Item::Assign { net: x, value: e } => named_if(x, !assign_fits(scope, x, e)),
         Item::Always(b) => steps(scope, b.steps()),
         Item::Instance {
             module: m,

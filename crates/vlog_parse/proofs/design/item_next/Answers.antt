@@ -1,8 +1,8 @@
 use Rattle.std.proofs.Common.{subst}
 use Rattle.vlog_read_words.specs.declared.coming.Coming.TheVariants.{Nothing}
-use Rattle.vlog_parse.specs.declared.state.ItemState.{ItemState}
-use Rattle.vlog_parse.specs.declared.state.State.TheVariants.{Item}
-use Rattle.vlog_parse.specs.Reading.{behind}
+use Rattle.vlog_parse_value.specs.declared.state.ItemState.{ItemState}
+use Rattle.vlog_parse_value.specs.declared.state.State.TheVariants.{Item}
+use Rattle.vlog_parse_value.specs.Reading.{behind}
 use Rattle.vlog_parse.specs.Finishing.{IsFormed}
 use Rattle.vlog_parse.proofs.Formed.{item_formed}
 use Rattle.vlog_parse.proofs.design.item_next.Goals as goal

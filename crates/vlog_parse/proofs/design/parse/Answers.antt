@@ -4,8 +4,9 @@ use Rattle.vlog_tree.specs.Form.{ModuleTree}
 use Rattle.vlog_lex.specs.declared.lexer.Lexeme.{Lexeme}
 use Rattle.vlog_lex.specs.Scanned.{words_at}
 use Rattle.vlog_read_words.specs.declared.coming.Coming.TheVariants.{Nothing}
-use Rattle.vlog_parse.specs.declared.state.HeadState.TheVariants.{Between}
-use Rattle.vlog_parse.specs.declared.state.State.TheVariants.{Head}
+use Rattle.vlog_parse_value.specs.declared.state.HeadState.TheVariants.{Between}
+use Rattle.vlog_parse_value.specs.declared.state.State.TheVariants.{Head}
+use Rattle.vlog_parse_value.specs.Reading.{behind}
 use Rattle.vlog_parse.specs.Reading as spec
 use Rattle.vlog_parse.specs.Refused.{IsFirstRefused, Refuses}
 use Rattle.vlog_parse.proofs.Behind.{behind_begun, behind_next, refused_next, refused_last, found_last}
@@ -18,7 +19,7 @@ past = record { from = 0; to = 0 }
 
 pub loop-lexeme-init : goal.loop-lexeme-init
 loop-lexeme-init c = record {
-  behind = behind_begun (words_at c.args.text.now c.args.lexemes.now) c.head-reader.result (c.head-reader.ensures ∙ ap (λ (ms : List ModuleTree). spec.behind Nothing (Head (Between ms))) c.new.ensures);
+  behind = behind_begun (words_at c.args.text.now c.args.lexemes.now) c.head-reader.result (c.head-reader.ensures ∙ ap (λ (ms : List ModuleTree). behind Nothing (Head (Between ms))) c.new.ensures);
   passed = refl;
 }
 

@@ -5,7 +5,7 @@ use Rattle.vlog_tree.specs.declared.table.Declaration.{Declaration}
 use Rattle.vlog_tree.specs.declared.tree.Connection.{Connection}
 use Rattle.vlog_rules.specs.NameTable.{count_in}
 use Rattle.vlog_rules.proofs.Counts.{all_once}
-use Rattle.vlog_rules.proofs.names.all_connected.Goals as goal
+use Rattle.vlog_rules.proofs.names.all_connected_by_counts.Goals as goal
 
 pub returns : goal.returns
 returns c =

@@ -2,7 +2,7 @@
 
 ghost use Rattle.std.specs.Prelude.{◌≡◌, IfOk, OnOk};
 ghost use Rattle.vlog_tree.specs.Form.{IsModule};
-ghost use Rattle.vlog_parse.specs.Reading as spec;
+ghost use Rattle.vlog_parse_value.specs.Reading as spec;
 
 use crate::held::Held;
 use std::alloc::{AllocError, Global};
@@ -327,5 +327,27 @@ impl Joining {
     {
         self.connections.push(connection)?;
         Ok(())
+    }
+}
+
+impl Held<Draft> {
+    /// The draft with one more port.
+    pub fn with_port(self, port: PortDecl) -> Result<Held<Draft>, AllocError>
+        ensures { IfOk result (λ d. d ≡ spec.with_port self port) }
+    {
+        let Held { mut held } = self;
+        held.push_port(port)?;
+        Ok(Held { held })
+    }
+}
+
+impl Held<Joining> {
+    /// The instance with one more connection.
+    pub fn with_connection(self, connection: Connection) -> Result<Held<Joining>, AllocError>
+        ensures { IfOk result (λ q. q ≡ spec.with_connection self connection) }
+    {
+        let Held { mut held } = self;
+        held.push(connection)?;
+        Ok(Held { held })
     }
 }

@@ -1,7 +1,7 @@
 // Atoms, and what drives a net.
 
 ghost use Rattle.std.specs.Prelude.{◌≡◌, IfOk};
-ghost use Rattle.vlog_parse.specs.Reading as spec;
+ghost use Rattle.vlog_parse_value.specs.Reading as spec;
 
 use crate::held::Held;
 use crate::state::{BlockState, Draft, Purpose, Reader, Steps, ValueState};
