@@ -1,7 +1,7 @@
 -- The instances that something is bound to, as far as the rules ask: none, one, or more.
 use Rattle.std.specs.Prelude.{ℕ, List, [], ◌∷◌}
-use Rattle.stream_check.specs.declared.users.Users.{Users}
-use Rattle.stream_check.specs.declared.users.Users.TheVariants.{Nobody, One, Several}
+use Rattle.check_users.specs.declared.users.Users.{Users}
+use Rattle.check_users.specs.declared.users.Users.TheVariants.{Nobody, One, Several}
 
 abbrev pub with_user : Users → ℕ → Users
 with_user Nobody i = One i

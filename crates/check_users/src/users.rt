@@ -1,10 +1,11 @@
-//! Which instance something is bound to, where it may be one alone.
+// Which instance something is bound to, where it may be one alone.
+
 ghost use Rattle.std.specs.Prelude.{◌≡◌, ◌<◌, ℕ, List, [], IfOk, length, get_or, if◌then◌else◌, ◌==◌};
 ghost use Rattle.check_scope.specs.Answers.{Answers};
-ghost use Rattle.stream_check.specs.Programs as program;
-ghost use Rattle.stream_check.specs.Users.{users_of, with_user};
-ghost use Rattle.stream_check.specs.declared.users.Users.{Users as Among};
-ghost use Rattle.stream_check.specs.declared.users.Users.TheVariants.{Nobody};
+ghost use Rattle.check_users.specs.One.{one_faults, the_one};
+ghost use Rattle.check_users.specs.Users.{users_of, with_user};
+ghost use Rattle.check_users.specs.declared.users.Users.{Users as Among};
+ghost use Rattle.check_users.specs.declared.users.Users.TheVariants.{Nobody};
 
 use check_scope::{CheckCode, CheckFault, refused};
 use std::alloc::Global;
@@ -12,7 +13,7 @@ use tapa_base::Place;
 
 /// The instances that something is bound to, as far as the rules ask.
 #[derive(Clone, Copy)]
-pub(crate) enum Users {
+pub enum Users {
     Nobody,
     One(u32),
     Several,
@@ -20,7 +21,7 @@ pub(crate) enum Users {
 
 impl Users {
     /// One instance more.
-    pub(crate) fn with(self, instance: u32) -> Users
+    pub fn with(self, instance: u32) -> Users
         ensures { result ≡ with_user self instance }
     {
         match self {
@@ -31,8 +32,8 @@ impl Users {
     }
 
     /// The one instance that something is bound to.
-    pub(crate) fn only(self, code: CheckCode, place: Place) -> Result<u32, CheckFault>
-        ensures { (bound : List ℕ) → self ≡ users_of bound → Answers (λ n. n) result (program.one_faults code place bound) (program.the_one bound) }
+    pub fn only(self, code: CheckCode, place: Place) -> Result<u32, CheckFault>
+        ensures { (bound : List ℕ) → self ≡ users_of bound → Answers (λ n. n) result (one_faults code place bound) (the_one bound) }
     {
         match self {
             Users::One(instance) => Ok(instance),
@@ -44,13 +45,13 @@ impl Users {
 
 /// The instances that each of a row of streams or memories is bound to.
 #[derive(Drop)]
-pub(crate) struct UserTable {
-    rows: Vec<Users>,
+pub struct UserTable {
+    pub rows: Vec<Users>,
 }
 
 impl UserTable {
     /// So many streams or memories, to which nothing is bound yet.
-    pub(crate) fn new(alloc: Global, count: usize) -> Result<Self, CheckFault>
+    pub fn new(alloc: Global, count: usize) -> Result<Self, CheckFault>
         ensures count { Answers (λ table. length table.rows.items) result [] count }
         ensures each { IfOk result (λ table. (s : ℕ) (d : Among) → s < count → get_or table.rows.items s d ≡ Nobody) }
     {
@@ -60,7 +61,7 @@ impl UserTable {
     }
 
     /// Adds an instance at a number, where there is a row of it.
-    pub(crate) fn add(&mut self, number: u32, instance: u32)
+    pub fn add(&mut self, number: u32, instance: u32)
         ensures count { length self.new.rows.items ≡ length self.old.rows.items }
         ensures each { (s : ℕ) (d : Among) → s < length self.old.rows.items → get_or self.new.rows.items s d ≡ (if number == s then with_user (get_or self.old.rows.items s d) instance else get_or self.old.rows.items s d) }
     {
@@ -71,7 +72,7 @@ impl UserTable {
     }
 
     /// The instances at a number.
-    pub(crate) fn at(&self, number: usize) -> Users
+    pub fn at(&self, number: usize) -> Users
         ensures { (d : Among) → number < length self.now.rows.items → result ≡ get_or self.now.rows.items number d }
     {
         match self.rows.get(number) {
