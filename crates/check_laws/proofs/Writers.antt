@@ -13,9 +13,10 @@ use Rattle.check_scope.specs.declared.fault.CheckCode.TheVariants.{C7, C12}
 use Rattle.check_scope.specs.Faults.{fault, where_so}
 use Rattle.check_upper.specs.declared.task.Channel.{Channel}
 use Rattle.check_upper.specs.Tasks.{Task, task_position}
+use Rattle.check_users.specs.One.{is_one, the_one, one_faults}
 use Rattle.stream_check.specs.Items.{no_items, items_faults, tasks_of}
 use Rattle.stream_check.specs.Parts.{streams_in, instances_in}
-use Rattle.stream_check.specs.Programs.{instances_with, is_one, the_one, one_faults, streams_faults, memories_faults, memories_of, is_detached, is_of_detached, writers_faults, body_numbers, with_body, bindings_faults, program_made, top_faults, top_parts, limit_faults, parts_faults, top_task_faults, top_program, whole_faults, all_levels, program_faults, program_of}
+use Rattle.stream_check.specs.Programs.{instances_with, streams_faults, memories_faults, memories_of, is_detached, is_of_detached, writers_faults, body_numbers, with_body, bindings_faults, program_made, top_faults, top_parts, limit_faults, parts_faults, top_task_faults, top_program, whole_faults, all_levels, program_faults, program_of}
 use Rattle.stream_check.proofs.WellLists.{nothing, the_same, no_faults, holds, holds_not, get_unmap}
 use Rattle.check_laws.specs.Writers.{HasJoinedWriters}
 

@@ -2,10 +2,6 @@
 //! latency.
 #![tactic(auto)]
 
-mod ends;
-mod fifo;
 mod modules;
-mod names;
-mod relay;
 
 pub use modules::{channel, fifo_size};

@@ -1,34 +1,18 @@
 -- What is known of the instances that something is bound to.
 use Rattle.std.proofs.Common.{◌≡◌, ◌<◌, ◌≤◌, ◌+◌, ℕ, zero, suc, List, [], ◌∷◌, ◌++◌, length, map, drop, get_or, Bool, false, refl, sym, ap, ◌∙◌, arith}
 use Rattle.std.specs.Prelude.{slice_get}
-use Rattle.tapa_base.specs.declared.text.Place.{Place}
 use Rattle.tapa_syntax.specs.declared.program.End.{End}
 use Rattle.tapa_syntax.specs.declared.program.Instance.{Instance}
 use Rattle.tapa_syntax.specs.declared.tree.Parameter.{Parameter}
 use Rattle.tapa_syntax.specs.declared.tree.Parameter.TheVariants as parameter
 use Rattle.tapa_syntax.specs.Flat.{FlatInstance, flat_instance}
-use Rattle.check_scope.specs.declared.fault.CheckCode.{CheckCode}
 use Rattle.check_scope.proofs.Order.{begins}
 use Rattle.check_upper.specs.Tasks.{Task}
-use Rattle.stream_check.specs.declared.users.Users.{Users}
-use Rattle.stream_check.specs.declared.users.Users.TheVariants.{Nobody, One, Several}
-use Rattle.stream_check.specs.Users.{with_user, with_users, users_of}
-use Rattle.stream_check.specs.Programs.{the_one, one_faults, ends_of, bound_ends, bound_memories, instances_at, instances_with, memory_of, is_detached, is_of_detached}
-
-several : (rest : List ℕ) → with_users Several rest ≡ Several
-several [] = refl
-several (i ∷ rest) = several rest
-
--- one instance alone
-pub one_only : (i : ℕ) (bound : List ℕ) → One i ≡ users_of bound → bound ≡ i ∷ []
-one_only i [] h = absurd (cc)
-one_only i (j ∷ []) h = let e : i ≡ j = cc in ap (λ k. k ∷ []) (sym e)
-one_only i (j ∷ k ∷ rest) h = let e = several rest in absurd (cc)
-
-pub one_answers : (code : CheckCode) (place : Place) (i : ℕ) (bound : List ℕ) → One i ≡ users_of bound → (one_faults code place bound ≡ []) × (i ≡ the_one bound)
-one_answers code place i bound h =
-    let e = one_only i bound h in
-    (ap (one_faults code place) e, ap the_one (sym e))
+use Rattle.check_users.specs.declared.users.Users.{Users}
+use Rattle.check_users.specs.declared.users.Users.TheVariants.{Nobody, One, Several}
+use Rattle.check_users.specs.Users.{with_user, with_users, users_of}
+use Rattle.check_users.proofs.Only.{one_only}
+use Rattle.stream_check.specs.Programs.{ends_of, bound_ends, bound_memories, instances_at, instances_with, memory_of, is_detached, is_of_detached}
 
 -- ---- whether what is bound to one instance is bound to one that is not waited for
 

@@ -24,10 +24,11 @@ use Rattle.tapa_syntax.specs.WellFormed.{IsBoundTo, IsEndOf, IsInstance, IsJoine
 use Rattle.check_scope.specs.declared.fault.CheckCode.TheVariants.{C3}
 use Rattle.check_leaf.proofs.Leaves.{leaf_well}
 use Rattle.check_upper.specs.declared.task.Channel.{Channel}
+use Rattle.check_users.specs.One.{is_one, the_one}
 use Rattle.stream_check.specs.Items.{no_items, items_faults, tasks_of}
 use Rattle.check_upper.specs.Tasks.{leaf_body, Task, task_position}
 use Rattle.stream_check.specs.Parts.{streams_in, instances_in}
-use Rattle.stream_check.specs.Programs.{is_stream_parameter, is_upper, top_faults, top_instance, all_levels, top_parts, parts_faults, top_task_faults, top_program, limit_faults, ends_in, ends_of, instances_at, instances_with, is_one, the_one, stream_of, streams_faults, streams_of, memories_faults, memories_of, writers_faults, scalars_of, is_used, body_numbers, bodies_of, with_body, bindings_faults, whole_faults, program_faults, program_made, program_of}
+use Rattle.stream_check.specs.Programs.{is_stream_parameter, is_upper, top_faults, top_instance, all_levels, top_parts, parts_faults, top_task_faults, top_program, limit_faults, ends_in, ends_of, instances_at, instances_with, stream_of, streams_faults, streams_of, memories_faults, memories_of, writers_faults, scalars_of, is_used, body_numbers, bodies_of, with_body, bindings_faults, whole_faults, program_faults, program_made, program_of}
 use Rattle.stream_check.proofs.WellLists.{the_same, both, not_so, no_faults, holds, Each, each_get, get_map, get_unmap, length_map, Pairs, pairs_length, pairs_get, pairs_right}
 use Rattle.stream_check.proofs.WellSpots.{TheSpot, ends_at, the_end, end_there, there_end, memory_at, the_owner, memory_there, there_memory}
 use Rattle.stream_check.proofs.WellPorts.{Ports, ports_of, LeafFits}

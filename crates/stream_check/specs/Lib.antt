@@ -1,6 +1,5 @@
 pub mod Items
 pub mod Parts
 pub mod Programs
-pub mod Users
 pub mod Views
 pub mod Laws

@@ -11,11 +11,11 @@ use Rattle.tapa_syntax.specs.declared.tree.Parameter.TheVariants as parameter
 use Rattle.tapa_syntax.specs.Trees.{TaskTree, ItemTree}
 use Rattle.tapa_syntax.specs.Flat.{FlatBound, top_scalar, FlatInstance, FlatLeaf, FlatProgram}
 use Rattle.check_scope.specs.declared.fault.Broken.{Broken}
-use Rattle.check_scope.specs.declared.fault.CheckCode.{CheckCode}
 use Rattle.check_scope.specs.declared.fault.CheckCode.TheVariants.{C1, C3, C4, C5, C7, C12}
 use Rattle.check_scope.specs.Faults.{fault, over, where_so}
 use Rattle.check_upper.specs.declared.task.Channel.{Channel}
 use Rattle.check_upper.specs.Tasks.{Body, leaf_body, upper_body, Task, task_position}
+use Rattle.check_users.specs.One.{the_one, one_faults}
 use Rattle.stream_check.specs.Items.{no_items, items_faults, tasks_of}
 use Rattle.stream_check.specs.Parts.{Part, own, instance, too_deep, streams_in, instances_in, parts_of}
 
@@ -117,18 +117,6 @@ bound_memories i m (n ∷ rest) = (if n == m then i ∷ [] else []) ++ bound_mem
 abbrev pub instances_with : ℕ → ℕ → List FlatInstance → List ℕ
 instances_with m i [] = []
 instances_with m i (x ∷ rest) = bound_memories i m x.memories ++ instances_with m (i + 1) rest
-
-abbrev pub is_one : List ℕ → Bool
-is_one (i ∷ []) = true
-is_one bound = false
-
-abbrev pub the_one : List ℕ → ℕ
-the_one [] = 0
-the_one (i ∷ rest) = i
-
--- it is bound to one instance
-abbrev pub one_faults : CheckCode → Place → List ℕ → List Broken
-one_faults code place bound = where_so (not (is_one bound)) (fault code place)
 
 -- C4: each stream has one producer, C5: and one consumer (TAPA: a stream is read by one task instance and written by one)
 abbrev pub stream_faults : List Task → List FlatInstance → ℕ → Channel → List Broken

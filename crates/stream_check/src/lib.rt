@@ -10,7 +10,6 @@ mod laws;
 mod parts;
 mod program;
 mod top;
-mod users;
 
 pub use check_scope::{Broken, CheckCode, CheckFault};
 pub use laws::law_legal_programs_are_well_formed;
