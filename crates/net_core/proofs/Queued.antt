@@ -1,16 +1,16 @@
 -- What the readers' ports hold.
-use Rattle.std.proofs.Common.{◌≡◌, ℕ, ◌+◌, ◌-◌, ◌<◌, ◌≤◌, List, [], ◌++◌, Bool, true, false, min, length, take, drop, Some, refl, sym, ap, ◌∙◌, subst, ⊎_elim, arith, length-drop}
+use Rattle.std.proofs.Common.{◌≡◌, ℕ, ◌-◌, ◌<◌, ◌≤◌, List, ◌++◌, Bool, true, false, length, take, drop, sym, ap, ◌∙◌, subst, ⊎_elim, arith, length-drop}
 use Rattle.std.specs.Prelude.{slice_index, if◌then◌else◌}
 use Rattle.std.proofs.lemmas.Bool.{cases_lt, cases_eq}
 use Rattle.std.proofs.lemmas.List.{drop-append-le, take-append-drop, take_all, drop_all, length-take-le}
 use Rattle.tapa_base.specs.declared.token.Token.{Token}
 use Rattle.tapa_syntax.specs.declared.program.Program.{Program}
 use Rattle.kahn_model.specs.Prefix.{IsPrefixOf}
-use Rattle.kahn_model.proofs.Order.{prefix_trans, prefix_whole, prefix_length, take_prefix, prefix_take}
+use Rattle.kahn_model.proofs.Order.{prefix_whole, prefix_length, prefix_take}
 use Rattle.net_core.specs.declared.ports.Ports.{Ports}
-use Rattle.net_core.specs.Ports.{IsReloaded, waiting_of, carried_of}
-use Rattle.net_core.specs.Bindings.{IsConnected, arity, stream_at, Reads, Writes, producer_of, consumer_of}
-use Rattle.net_core.specs.Load.{AreQueued, HasPorts, IsOffered, list_at, queue_at}
+use Rattle.net_core.specs.Ports.{IsReloaded, waiting_of}
+use Rattle.net_core.specs.Bindings.{IsConnected, stream_at, Reads, Writes, producer_of, consumer_of}
+use Rattle.net_core.specs.Load.{AreQueued, HasPorts, IsOffered, list_at}
 use Rattle.net_core.proofs.Loaded.{in_streams}
 
 -- a queue and what its stream got since

@@ -23,6 +23,29 @@ fn extended(tokens: &mut Vec<Token>, list: &[Token], from: usize) -> Result<(), 
     Ok(())
 }
 
+// Offers an instance the tokens that a stream got which it writes itself.
+fn offer_own(
+    alloc: Global,
+    all: &mut Vec<Ports>,
+    i: usize,
+    p: usize,
+    q: usize,
+    from: usize,
+) -> Result<(), OutOfMemory>
+    requires reader { i < length all.old.items }
+    requires port { (x : Ports) → slice_get all.old.items i ≡ Some x → p < port_count x }
+    requires other_port { (x : Ports) → slice_get all.old.items i ≡ Some x → q < port_count x }
+    requires from { from ≤ length (carried_of all.old.items i q) }
+    requires kind { (x : Ports) → slice_get all.old.items i ≡ Some x → kind_at x q ≡ kind_at x p }
+    ensures reloaded { IsReloaded all.old.items i p all.new.items }
+    ensures waits { waiting_of all.new.items i p ≡ (if is_ok result then waiting_of all.old.items i p ++ drop from (carried_of all.old.items i q) else waiting_of all.old.items i p) }
+{
+    let (mut tokens, head) = all[i].lift(p, Vec::new(alloc));
+    let grown = extended(&mut tokens, all[i].carried(q), from);
+    all[i].offer(p, tokens, head);
+    grown
+}
+
 // Offers the tokens that a stream got since its reader's port was last loaded.
 fn offer_more(
     alloc: Global,
@@ -42,10 +65,15 @@ fn offer_more(
     ensures reloaded { IsReloaded all.old.items i p all.new.items }
     ensures waits { waiting_of all.new.items i p ≡ (if is_ok result then waiting_of all.old.items i p ++ drop from (carried_of all.old.items j q) else waiting_of all.old.items i p) }
 {
-    let (mut tokens, head) = all[i].lift(p, Vec::new(alloc));
-    let grown = extended(&mut tokens, all[j].carried(q), from);
-    all[i].offer(p, tokens, head);
-    grown
+    if i < j {
+        let (low, high) = all.split_at_mut(j);
+        return low[i].offer_more(p, &high[0].carried(q)[from..]);
+    }
+    if j < i {
+        let (low, high) = all.split_at_mut(i);
+        return high[0].offer_more(p, &low[j].carried(q)[from..]);
+    }
+    offer_own(alloc, all, i, p, q, from)
 }
 
 // Loads a port that reads.

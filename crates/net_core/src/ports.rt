@@ -1,4 +1,4 @@
-ghost use Rattle.std.specs.Prelude.{◌≡◌, ◌<◌, ◌≤◌, ◌↔◌, [], ◌∷◌, length, drop, slice_get, MatchOption, IsTrue, IfOk, MatchBool};
+ghost use Rattle.std.specs.Prelude.{◌≡◌, ◌<◌, ◌≤◌, ◌↔◌, [], ◌∷◌, length, drop, slice_get, MatchOption, IsTrue, IfOk, MatchBool, ◌++◌, is_ok, if◌then◌else◌};
 ghost use Rattle.kahn_model.specs.declared.tick.Tick.TheVariants.{Did, Take};
 ghost use Rattle.kahn_model.specs.declared.tick.Action.TheVariants.{Put};
 ghost use Rattle.kahn_model.specs.Fits.{IsTokenOf};
@@ -135,6 +135,37 @@ impl Ports {
         port.head = 0;
         port.tokens = tokens;
         port.head = head;
+    }
+
+    // Lets a front part of a port's tokens go that was taken, once it is half of the list or more.
+    fn trim(&mut self, s: usize)
+        requires { s < port_count self.old }
+        ensures adjusted { Adjusted self.old s self.new }
+        ensures waits { waiting self.new s ≡ waiting self.old s }
+    {
+        let port = &mut self.ports[s];
+        let head = port.head;
+        let left = port.tokens.len() - head;
+        if head < left {
+            return;
+        }
+        port.head = 0;
+        port.tokens.rotate_left(head);
+        port.tokens.truncate(left);
+    }
+
+    /// Lets more tokens wait at a port.
+    #[inline(always)]
+    pub(crate) fn offer_more(&mut self, s: usize, more: &[Token]) -> Result<(), OutOfMemory>
+        requires port { s < port_count self.old }
+        requires kind { AreTokensOf (kind_at self.old s) more.now }
+        ensures adjusted { Adjusted self.old s self.new }
+        ensures waits { waiting self.new s ≡ (if is_ok result then waiting self.old s ++ more.now else waiting self.old s) }
+    {
+        self.trim(s);
+        let port = &mut self.ports[s];
+        port.tokens.extend_from_slice(more)?;
+        Ok(())
     }
 
     /// Makes room for tokens at a port.
