@@ -168,21 +168,11 @@ fn add_modules(
     Ok(())
 }
 
-// About as many names as a line brings, or more: the net that it declares or drives, and the ports of an instance.
-fn count_names(item: &Item) -> usize {
-    match item {
-        Item::Instance { connections, .. } => connections.connections().len().saturating_add(1),
-        _ => 1,
-    }
-}
-
-// About as many names as the graph of modules has, or more.
-fn count_all_names(modules: &[Module]) -> usize {
+// How many lines modules have: about as many names as their graph has, or more.
+fn count_lines(modules: &[Module]) -> usize {
     let mut count: usize = 0;
     for m in modules {
-        for item in m.items() {
-            count = count.saturating_add(count_names(item));
-        }
+        count = count.saturating_add(m.items().len());
     }
     count
 }
@@ -191,7 +181,7 @@ fn merged_draft(alloc: Global, library: &Library, root: Option<&Text>) -> Result
     ensures { IfOk result (λ g. IsDraftOf (merged_edges library.now (is_named (option_copied root.entry))) g) }
 {
     let modules = library.modules();
-    let mut g = Draft::with_room(alloc, count_all_names(modules))?;
+    let mut g = Draft::with_room(alloc, count_lines(modules))?;
     add_modules(alloc, &mut g, library, root, modules)?;
     Ok(g)
 }

@@ -61,7 +61,7 @@ impl Draft {
         Ok(Draft {
             numbers: HashMap::with_capacity(alloc, count)?,
             names: Vec::with_capacity(alloc, count)?,
-            edges: Vec::with_capacity(alloc, count)?,
+            edges: Vec::new(alloc),
         })
     }
 
