@@ -120,13 +120,13 @@ pub(crate) fn around_of(
     ensures { IfOk result (λ a. (top : ModuleTree) (f : FlatTree) (t : TapeTree) → TopOf design.now top → IsFlat design.now.modules top f → ArePlaced design.now.modules top f pairs.now → AreGiven design.now.modules top f pairs.now t
         → IsAround design.now.modules top f pairs.now scalars.now a.inputs.items a.outside.items a.streams.items a.done) }
 {
-    let scope = Scope::of_module(alloc, design.top())?;
+    let scope = design.scope();
     let shape = design.shape(alloc)?;
     let ports = design.streams(alloc)?;
-    let inputs = all_inputs(alloc, &scope, pairs, &shape, scalars)?;
-    let outside = all_outside(alloc, &scope, pairs, &shape.memories)?;
-    let streams = all_streams(alloc, &scope, pairs, &ports)?;
-    let done = pair_named(&scope, pairs, done_name(alloc)?);
+    let inputs = all_inputs(alloc, scope, pairs, &shape, scalars)?;
+    let outside = all_outside(alloc, scope, pairs, &shape.memories)?;
+    let streams = all_streams(alloc, scope, pairs, &ports)?;
+    let done = pair_named(scope, pairs, done_name(alloc)?);
     Ok(Around {
         inputs,
         outside,

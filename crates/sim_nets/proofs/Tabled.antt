@@ -159,7 +159,7 @@ module _ (ms : List ModuleTree) (sound : IsSound ms) (m : ModuleTree) (in_ms : H
 
   inner_is : (kn : Name) (inner : ModuleTree) → module_named ms kn ≡ Some inner → inner_names s kn ≡ declared inner
   inner_is kn inner e =
-      ap (λ (l : List Declaration). unwrap_or (slice_get s.scopes.items (kind_place l kn)) s.none) are.names
+      ap (λ (l : List Declaration). unwrap_or (slice_get s.scopes.now (kind_place l kn)) s.none) are.names
       ∙ ap (λ (l : List (List Declaration)). unwrap_or (slice_get l (kind_place (map module_declared ms) kn)) s.none) are.scopes
       ∙ ap (λ o. unwrap_or o s.none) (map_got declared ms (kind_place (map module_declared ms) kn) inner (kind_got ms kn inner e))
 

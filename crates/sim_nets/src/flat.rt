@@ -105,7 +105,8 @@ fn numbers_of(alloc: Global, tables: &[Table], rows: &[Instance]) -> Result<Numb
 pub fn flatten(alloc: Global, design: &Design) -> Result<Flat, AllocError>
     ensures { IfOk result (λ f. (m : ModuleTree) → TopOf design.now m → IsFlat design.now.modules m f) }
 {
-    let tables = tables_of(alloc, design.modules())?;
+    let _modules = design.modules();
+    let tables = tables_of(alloc, design)?;
     let all = instances_of(alloc, design)?;
     let numbers = numbers_of(alloc, &tables, &all.rows)?;
     Ok(Flat {

@@ -6,7 +6,7 @@ ghost use Rattle.vlog_tree.specs.Form.{ModuleTree};
 ghost use Rattle.vlog_tree.specs.Grounded.{Has};
 ghost use Rattle.vlog_tree.specs.Refused.{IsSound};
 ghost use Rattle.vlog_tree.specs.Loops.{item_instances};
-ghost use Rattle.vlog_tree.specs.Table.{declared, module_declared, names_of};
+ghost use Rattle.vlog_tree.specs.Table.{declared, module_declared};
 ghost use Rattle.sim_nets.specs.Tables.{AreTables, AreTablesOf, IsTable};
 ghost use Rattle.sim_nets.specs.Written.{written, source_by, first_source as first_source_lem, inner_names, AreScopes, join_of as join_lem, output_of as output_lem, join_writes, output_writes, joined_of as joined_lem, line_writes, lines_writes, line_children, lines_children, child_rows};
 
@@ -14,6 +14,7 @@ use crate::places::{both, place_in};
 use sim_flat::place_of;
 use std::alloc::{AllocError, Global};
 use tapa_base::Text;
+use vlog_design::Design;
 use vlog_rules::{Scope, is_clock, is_input};
 use vlog_tree::{Connection, Item, Module, NetKind};
 
@@ -46,9 +47,9 @@ pub struct Table {
 
 /// The names of all modules, those that each declares, and none for a module that is not there.
 #[derive(Drop)]
-pub struct Scopes {
+pub struct Scopes<'a> {
     pub names: Scope,
-    pub scopes: Vec<Scope>,
+    pub scopes: &'a [Scope],
     pub none: Scope,
 }
 
@@ -82,21 +83,11 @@ fn first_sources(alloc: Global, scope: &Scope) -> Result<Vec<Source>, AllocError
     Ok(sources)
 }
 
-fn all_scopes(alloc: Global, modules: &[Module]) -> Result<Vec<Scope>, AllocError>
-    ensures { IfOk result (λ v. v.items ≡ names_of modules.now) }
+fn scopes_of(alloc: Global, design: &Design) -> Result<Scopes<'_>, AllocError>
+    ensures { IfOk result (λ s. AreScopes design.now.modules s) }
 {
-    let mut scopes = Vec::new(alloc);
-    for m in modules {
-        scopes.push(Scope::of_module(alloc, m)?)?;
-    }
-    Ok(scopes)
-}
-
-fn scopes_of(alloc: Global, modules: &[Module]) -> Result<Scopes, AllocError>
-    ensures { IfOk result (λ s. AreScopes modules.now s) }
-{
-    let names = Scope::of_modules(alloc, modules)?;
-    let scopes = all_scopes(alloc, modules)?;
+    let names = Scope::of_modules(alloc, design.modules())?;
+    let scopes = design.scopes();
     let none = Scope::of_ports(alloc, &[])?;
     Ok(Scopes {
         names,
@@ -106,7 +97,7 @@ fn scopes_of(alloc: Global, modules: &[Module]) -> Result<Scopes, AllocError>
 }
 
 // The names that an instance's module declares.
-fn inner_scope<'a>(scopes: &'a Scopes, kind: &Text) -> &'a Scope
+fn inner_scope<'a>(scopes: &'a Scopes<'a>, kind: &Text) -> &'a Scope
     ensures { result.now ≡ inner_names scopes.now kind.now }
 {
     let place = place_of(&scopes.names, kind);
@@ -303,15 +294,22 @@ fn table_of(alloc: Global, scopes: &Scopes, m: &Module) -> Result<Table, AllocEr
     })
 }
 
-/// The table of each module, in the order of the modules.
-pub fn tables_of(alloc: Global, modules: &[Module]) -> Result<Vec<Table>, AllocError>
+fn all_tables(alloc: Global, scopes: &Scopes, modules: &[Module]) -> Result<Vec<Table>, AllocError>
+    requires { AreScopes modules.now scopes.now }
     ensures { IfOk result (λ v. IsSound modules.now → AreTables modules.now v.items) }
 {
-    let scopes = scopes_of(alloc, modules)?;
     let mut tables = Vec::new(alloc);
     for m in modules {
-        let table = table_of(alloc, &scopes, m)?;
+        let table = table_of(alloc, scopes, m)?;
         tables.push(table)?;
     }
     Ok(tables)
+}
+
+/// The table of each module of a design, in the order of the modules.
+pub fn tables_of(alloc: Global, design: &Design) -> Result<Vec<Table>, AllocError>
+    ensures { IfOk result (λ v. IsSound design.now.modules → AreTables design.now.modules v.items) }
+{
+    let scopes = scopes_of(alloc, design)?;
+    all_tables(alloc, &scopes, design.modules())
 }

@@ -126,8 +126,15 @@ impl Design {
         &modules[place]
     }
 
-    // The names that the top declares.
-    fn scope(&self) -> &Scope
+    /// The names that each module declares.
+    pub fn scopes(&self) -> &[Scope]
+        ensures { result.now ≡ names_of self.now.modules }
+    {
+        self.sound.library().scopes()
+    }
+
+    /// The names that the top declares.
+    pub fn scope(&self) -> &Scope
         ensures { (m : ModuleTree) → TopOf self.now m → result.now ≡ declared m }
     {
         let place = self.top;

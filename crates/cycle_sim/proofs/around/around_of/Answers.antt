@@ -10,9 +10,8 @@ pub returns : goal.returns
 returns c = λ top f t at flat placed given.
     let d = c.args.design.now in
     let pairs = c.args.pairs.now in
-    let names = c.in_ok-scope.scope in
-    let same = same_Some c.top.result.now top (sym c.top.ensures ∙ at) in
-    let here : IsTopPlaced d.modules top f pairs t names = record { flat = flat; placed = placed; given = given; are_names = c.in_ok-scope.ensures.value ∙ ap declared same } in
+    let names = c.scope-scope.result.now in
+    let here : IsTopPlaced d.modules top f pairs t names = record { flat = flat; placed = placed; given = given; are_names = c.scope-scope.ensures top at } in
     let shape = c.in_ok-shape.ensures top at in
     record {
       inputs = c.in_ok-inputs.ensures d.modules top f t here shape.0 shape.1;

@@ -1,9 +1,6 @@
-use Rattle.std.proofs.Common.{List, length, sym, subst}
-use Rattle.vlog_tree.specs.Form.{ModuleTree}
-use Rattle.vlog_tree.specs.Refused.{IsSound}
+use Rattle.std.proofs.Common.{List, length, subst}
 use Rattle.sim_flat.specs.declared.instances.Instance as row
 use Rattle.sim_nets.specs.declared.tables.Table.{Table}
-use Rattle.sim_nets.specs.Tables.{AreTables}
 use Rattle.sim_nets.specs.Numbering.{count_at, IsNumbering}
 use Rattle.sim_nets.proofs.Counted.{are_numbered}
 use Rattle.sim_nets.proofs.flat.flatten.Goals as goal
@@ -11,9 +8,8 @@ use Rattle.sim_nets.proofs.flat.flatten.Goals as goal
 pub returns : goal.returns
 returns c = λ m at.
     let ms = c.args.design.now.modules in
-    let design = c.modules.ensures.design in
-    let sound = subst (λ (l : List ModuleTree). IsSound l) (sym c.modules.ensures.value) design.sound in
-    let tables = subst (λ (l : List ModuleTree). AreTables l c.in_ok-tables.tables.items) c.modules.ensures.value (c.in_ok-tables.ensures sound) in
+    let design = c.modules-modules.ensures.design in
+    let tables = c.in_ok-tables.ensures design.sound in
     let instances = c.in_ok-all.ensures m at in
     let rows = c.in_ok-all.all.rows.items in
     let first = c.in_ok-numbers.numbers.first.items in

@@ -5,7 +5,7 @@ use Rattle.vlog_tree.proofs.Lists.{has_got, got_index}
 use Rattle.sim_nets.specs.declared.tables.Table.{Table}
 use Rattle.sim_nets.specs.Tables.{AreTablesOf}
 use Rattle.sim_nets.proofs.Tabling.{tables_start, tables_more}
-use Rattle.sim_nets.proofs.tables.tables_of.Goals as goal
+use Rattle.sim_nets.proofs.tables.all_tables.Goals as goal
 
 pub loop-m-init : goal.loop-m-init
 loop-m-init c = λ sound. subst (λ (l : List Table). AreTablesOf c.args.modules.now [] l) (sym c.new-tables.ensures.items) (tables_start c.args.modules.now)
@@ -16,7 +16,7 @@ loop-m-preserved c = λ sound.
     let m = c.m-item.result in
     let got = got_index ms c.loop-m.m-index m c.loop-m-test.true c.m-item.is in
     tables_more ms c.loop-m.m-index m _ _ _ c.loop-m-test.true c.m-item.is c.in_ok-push.ensures.items
-    (c.in_ok-table.ensures ms c.in_ok-scopes.ensures sound (has_got ms c.loop-m.m-index m got)) (c.loop-m.invariant sound)
+    (c.in_ok-table.ensures ms c.requires sound (has_got ms c.loop-m.m-index m got)) (c.loop-m.invariant sound)
 
 pub returns : goal.returns
 returns c = λ sound.
