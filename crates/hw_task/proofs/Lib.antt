@@ -1,3 +1,3 @@
 pub mod ReadPorts
-pub mod BlockSteps
+pub mod Stands
 pub mod Promise

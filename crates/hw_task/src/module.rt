@@ -7,12 +7,12 @@ ghost use Rattle.task_law.specs.Texts.{task_elements, task_name as task_name_lem
 ghost use Rattle.hw_states.specs.Shapes.{form};
 ghost use Rattle.hw_task.specs.Promise.{IsOfLeaf, KeepsPromise};
 
-use crate::blocks::add_blocks;
-use crate::outputs::{add_choices, add_outputs};
 use crate::ports::{add_held, add_inputs, add_offers};
 use crate::reads::add_all_reads;
 use hw_atoms::small;
+use hw_blocks::add_blocks;
 use hw_build::Draft;
+use hw_outputs::{add_choices, add_outputs};
 use hw_states::{Shape, add_decodes, add_states};
 use std::alloc::{AllocError, Global};
 use tapa_base::{Kind, OutOfMemory, Text};

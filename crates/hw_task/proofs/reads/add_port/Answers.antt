@@ -3,7 +3,7 @@ use Rattle.task_law.specs.declared.nets.Choice.TheVariants.{Reads}
 use Rattle.task_law.specs.Effects.{entries}
 use Rattle.task_law.specs.Texts.{answered}
 use Rattle.hw_states.specs.Shapes.{form}
-use Rattle.hw_task.proofs.BlockSteps.{stands_not, stands}
+use Rattle.hw_task.proofs.Stands.{stands_not, stands}
 use Rattle.hw_task.proofs.reads.add_port.Goals as goal
 
 pub returns-then-count-eq0 : goal.returns-then-count-eq0

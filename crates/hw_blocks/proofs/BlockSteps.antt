@@ -1,16 +1,14 @@
 -- First values, and the blocks of registers and arrays.
-use Rattle.std.proofs.Common.{◌≡◌, ℕ, ◌+◌, cond, eqb, List, [], ◌∷◌, length, slice_index, refl, ap, ◌∙◌, arith, add-one}
+use Rattle.std.proofs.Common.{◌≡◌, ℕ, ◌+◌, cond, eqb, List, [], ◌∷◌, length, slice_index, refl, ap, arith, add-one}
 use Rattle.vlog_tree.specs.declared.tree.Atom.{Atom}
-use Rattle.vlog_tree.specs.Form.{ModuleTree}
 use Rattle.vlog_tree.specs.Labels.{rst}
 use Rattle.vlog_tree.specs.Table.{Name}
 use Rattle.vlog_law_modules.specs.Forms.{set_block}
-use Rattle.hw_build.specs.Elements.{Element, with_all, reset_or_set}
-use Rattle.hw_lists.specs.Choices.{Entry as EntryForm}
+use Rattle.hw_build.specs.Elements.{reset_or_set}
 use Rattle.task_law.specs.declared.nets.Net.TheVariants.{Scalar}
 use Rattle.task_law.specs.Shape.{Shape}
 use Rattle.task_law.specs.States.{net}
-use Rattle.task_law.specs.Texts.{first_by, register_block, unless_none}
+use Rattle.task_law.specs.Texts.{first_by, register_block}
 use Rattle.hw_choices.specs.declared.entries.Entry.{Entry}
 use Rattle.hw_choices.specs.Entries.{entry_forms}
 
@@ -24,12 +22,3 @@ none_set x set first next (e ∷ found) h = absurd (omega arith)
 pub some_set : (x set : Name) (first next : Atom) (found : List Entry) → (length found ≡ 0 → ⊥) → reset_or_set x first set next ≡ register_block x first (entry_forms found) set next
 some_set x set first next [] h = absurd (h refl)
 some_set x set first next (e ∷ found) h = refl
-
--- elements that stand where there is an entry
-pub stands_not : (found : List Entry) (es : List EntryForm) (elements : List Element) (d : ModuleTree) → length found ≡ 0 → entry_forms found ≡ es → d ≡ with_all d (unless_none es elements)
-stands_not [] es elements d h e = ap (λ z. with_all d (unless_none z elements)) e
-stands_not (x ∷ found) es elements d h e = absurd (omega arith)
-
-pub stands : (found : List Entry) (es : List EntryForm) (elements : List Element) (d f : ModuleTree) → (length found ≡ 0 → ⊥) → entry_forms found ≡ es → f ≡ with_all d elements → f ≡ with_all d (unless_none es elements)
-stands [] es elements d f h e p = absurd (h refl)
-stands (x ∷ found) es elements d f h e p = p ∙ ap (λ z. with_all d (unless_none z elements)) e

@@ -128,7 +128,7 @@ fn add_all_array_choices(
 
 /// Adds the choices for the state, the registers and the arrays.
 #[tactic(auto, using(hw_atoms::proofs::Grows::all_append))]
-pub(crate) fn add_choices(
+pub fn add_choices(
     alloc: Global,
     draft: &mut Draft,
     shape: &Shape,
@@ -318,7 +318,7 @@ fn add_done(alloc: Global, draft: &mut Draft) -> Result<(), AllocError>
 
 /// Adds the outputs, each behind its choices.
 #[tactic(auto, using(hw_atoms::proofs::Grows::all_append))]
-pub(crate) fn add_outputs(
+pub fn add_outputs(
     alloc: Global,
     draft: &mut Draft,
     shape: &Shape,

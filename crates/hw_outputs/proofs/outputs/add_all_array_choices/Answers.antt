@@ -2,7 +2,7 @@ use Rattle.std.proofs.Common.{◌≡◌, length, arith}
 use Rattle.task_law.specs.Texts.{array_choices}
 use Rattle.hw_atoms.proofs.Grows.{each_more, each_end}
 use Rattle.hw_states.specs.Shapes.{form}
-use Rattle.hw_task.proofs.outputs.add_all_array_choices.Goals as goal
+use Rattle.hw_outputs.proofs.outputs.add_all_array_choices.Goals as goal
 
 pub loop-a-preserved : goal.loop-a-preserved
 loop-a-preserved c = each_more c.args.draft.now c.loop-a.draft c.add_array_choices.new.draft (array_choices (form c.args.shape.now)) c.loop-a.a c.loop-a.invariant c.in_ok-add_array_choices.ensures

@@ -2,7 +2,7 @@ use Rattle.std.proofs.Common.{◌≡◌, length, arith}
 use Rattle.task_law.specs.Texts.{stream_outputs}
 use Rattle.hw_atoms.proofs.Grows.{each_more, each_end}
 use Rattle.hw_states.specs.Shapes.{form}
-use Rattle.hw_task.proofs.outputs.add_streams.Goals as goal
+use Rattle.hw_outputs.proofs.outputs.add_streams.Goals as goal
 
 pub loop-s-preserved : goal.loop-s-preserved
 loop-s-preserved c = each_more c.args.draft.now c.loop-s.draft c.add_stream.new.draft (stream_outputs (form c.args.shape.now)) c.loop-s.s c.loop-s.invariant c.in_ok-add_stream.ensures

@@ -2,7 +2,7 @@ use Rattle.std.proofs.Common.{◌≡◌, length, arith}
 use Rattle.task_law.specs.Texts.{variable_choices}
 use Rattle.hw_atoms.proofs.Grows.{each_more, each_end}
 use Rattle.hw_states.specs.Shapes.{form}
-use Rattle.hw_task.proofs.outputs.add_all_variable_choices.Goals as goal
+use Rattle.hw_outputs.proofs.outputs.add_all_variable_choices.Goals as goal
 
 pub loop-r-preserved : goal.loop-r-preserved
 loop-r-preserved c = each_more c.args.draft.now c.loop-r.draft c.add_variable_choices.new.draft (variable_choices (form c.args.shape.now)) c.loop-r.r c.loop-r.invariant c.in_ok-add_variable_choices.ensures

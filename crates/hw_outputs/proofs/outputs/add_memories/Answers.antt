@@ -2,7 +2,7 @@ use Rattle.std.proofs.Common.{◌≡◌, length, arith}
 use Rattle.task_law.specs.Texts.{memory_outputs}
 use Rattle.hw_atoms.proofs.Grows.{each_more, each_end}
 use Rattle.hw_states.specs.Shapes.{form}
-use Rattle.hw_task.proofs.outputs.add_memories.Goals as goal
+use Rattle.hw_outputs.proofs.outputs.add_memories.Goals as goal
 
 pub loop-m-preserved : goal.loop-m-preserved
 loop-m-preserved c = each_more c.args.draft.now c.loop-m.draft c.add_memory.new.draft (memory_outputs (form c.args.shape.now)) c.loop-m.m c.loop-m.invariant c.in_ok-add_memory.ensures

@@ -3,7 +3,7 @@ use Rattle.hw_build.specs.Elements.{with_all}
 use Rattle.hw_lists.specs.Scope.{each}
 use Rattle.task_law.specs.Texts.{variable_choices}
 use Rattle.hw_states.specs.Shapes.{form}
-use Rattle.hw_task.proofs.outputs.add_all_variable_choices.Given as goal
+use Rattle.hw_outputs.proofs.outputs.add_all_variable_choices.Given as goal
 
 abbrev pub invariant-loop-r : goal.invariant-loop-r
 invariant-loop-r l = l.draft ≡ with_all l.initial.draft (each (variable_choices (form l.shape)) l.r)

@@ -2,7 +2,7 @@ use Rattle.std.proofs.Common.{◌≡◌, length, arith}
 use Rattle.task_law.specs.Texts.{variable_block}
 use Rattle.hw_atoms.proofs.Grows.{each_more, each_end}
 use Rattle.hw_states.specs.Shapes.{form}
-use Rattle.hw_task.proofs.blocks.add_variable_blocks.Goals as goal
+use Rattle.hw_blocks.proofs.blocks.add_variable_blocks.Goals as goal
 
 pub loop-r-preserved : goal.loop-r-preserved
 loop-r-preserved c = each_more c.args.draft.now c.loop-r.draft c.add_variable_block.new.draft (variable_block (form c.args.shape.now)) c.loop-r.r c.loop-r.invariant c.in_ok-add_variable_block.ensures

@@ -206,7 +206,7 @@ fn add_array_blocks(
 
 /// Adds the blocks.
 #[tactic(auto, using(hw_atoms::proofs::Grows::all_append))]
-pub(crate) fn add_blocks(
+pub fn add_blocks(
     alloc: Global,
     draft: &mut Draft,
     shape: &Shape,

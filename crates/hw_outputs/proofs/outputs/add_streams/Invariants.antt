@@ -3,7 +3,7 @@ use Rattle.hw_build.specs.Elements.{with_all}
 use Rattle.hw_lists.specs.Scope.{each}
 use Rattle.task_law.specs.Texts.{stream_outputs}
 use Rattle.hw_states.specs.Shapes.{form}
-use Rattle.hw_task.proofs.outputs.add_streams.Given as goal
+use Rattle.hw_outputs.proofs.outputs.add_streams.Given as goal
 
 abbrev pub invariant-loop-s : goal.invariant-loop-s
 invariant-loop-s l = l.draft ≡ with_all l.initial.draft (each (stream_outputs (form l.shape)) l.s)

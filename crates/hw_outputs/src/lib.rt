@@ -1,0 +1,6 @@
+//! The choices and the outputs of a task's module: what its states give its registers, arrays, streams and memories.
+#![tactic(auto)]
+
+mod outputs;
+
+pub use outputs::{add_choices, add_outputs};
