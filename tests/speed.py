@@ -67,9 +67,10 @@ def cases():
     yield "a busy task, 50,000,000 turns", source("busy"), "Top", {"scalars": {"n": 50_000_000}, "memories": {"m": [0]}}
     yield "a task with an array, a memory and several kinds, 3,000,000 turns", source("mixed"), "Top", {"scalars": {"n": 3_000_000}, "memories": {"m": [0] * 256}}
     yield "a chain of ten, 1,000,000 tokens, depth 16", chain(10, 1_000_000), "T", {}
-    for workers, rounds in ((8, 50_000), (500, 1_000)):
+    # (rows that are compared make about as many ticks, so that none has more of the start in its time)
+    for workers, rounds in ((8, 240_000), (500, 4_000)):
         yield f"a hub and {workers} workers, {rounds:,} rounds", hub(workers, rounds), "Top", {}
-    for count, rounds in ((1, 2_000_000), (1_000, 2_000)):
+    for count, rounds in ((1, 2_000_000), (1_000, 6_000)):
         yield f"two tasks and {count:,} stream{'s' if count > 1 else ''}, {rounds:,} rounds", pair(count, rounds), "Top", {}
     for depth in (2, 4_096):
         yield f"a task held up on its output, input depth {depth:,}", queue(depth, 1_000_000), "Top", {}
