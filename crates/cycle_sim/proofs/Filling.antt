@@ -1,9 +1,9 @@
 -- The registers of a design by their nets' numbers, and their slots in the first cycle.
-use Rattle.std.proofs.Common.{◌≡◌, ◌≢◌, ℕ, ◌+◌, ◌-◌, ◌%◌, ◌^◌, ◌<◌, true, List, Option, Some, None, length, get_or, inl, inr, refl, sym, ap, subst, ◌∙◌, arith}
-use Rattle.std.specs.Prelude.{◌⊎◌, slice_get, option_and_then}
+use Rattle.std.proofs.Common.{◌≡◌, ◌≢◌, ℕ, ◌+◌, ◌%◌, ◌^◌, ◌<◌, true, List, Option, Some, None, length, get_or, inl, inr, refl, sym, ap, subst, ◌∙◌, arith}
+use Rattle.std.specs.Prelude.{◌⊎◌, slice_get}
 use Rattle.std.proofs.lemmas.Bool.{cases_eq, cases_lt}
 use Rattle.std.proofs.lemmas.List.{get_or_past}
-use Rattle.std.proofs.lemmas.Option.{same_Some, slice_get_within}
+use Rattle.std.proofs.lemmas.Option.{same_Some}
 use Rattle.vlog_tree.specs.declared.tree.Item.TheVariants.{Reg}
 use Rattle.vlog_tree.specs.declared.table.Declaration.{Declaration}
 use Rattle.vlog_tree.specs.declared.table.NetKind.{NetKind}
@@ -23,17 +23,16 @@ use Rattle.sim_tape.specs.Tape.{TapeTree, number_at, pair_value}
 use Rattle.sim_tape.specs.Solved.{IsSolved, SameGiven}
 use Rattle.sim_blocks.specs.declared.writes.Store.{Store}
 use Rattle.sim_nets.specs.declared.flat.Flat.{Flat}
-use Rattle.sim_nets.specs.declared.tables.Table.{Table}
-use Rattle.sim_nets.specs.Edges.{table_at, base_at}
 use Rattle.sim_nets.specs.Flat.{IsFlat, HasNumber}
-use Rattle.sim_nets.proofs.Standing.{in_top, net_of, table_of}
+use Rattle.sim_nets.proofs.Standing.{in_top, net_of}
 use Rattle.sim_design.specs.declared.drafts.Commit.{Commit}
 use Rattle.sim_design.specs.declared.drafts.Width.{Width}
+use Rattle.sim_design.proofs.Numbering.{declaration_is}
 use Rattle.sim_placed.specs.States.{IsFree}
 use Rattle.sim_placed.specs.Given.{HaveOwnSlots, IsGivenPair}
 use Rattle.cycle_sim.specs.declared.inputs.Input.{Input}
 use Rattle.cycle_sim.specs.declared.cells.Outside.{Outside}
-use Rattle.cycle_sim.specs.Firsts.{declared_as, IsHeldAt, AreHeld}
+use Rattle.cycle_sim.specs.Firsts.{IsHeldAt, AreHeld}
 use Rattle.cycle_sim.specs.Steps.{IsAway, PairHas}
 use Rattle.cycle_sim.specs.Machines.{AreInputs, AreOutside, IsMachine}
 use Rattle.cycle_sim.proofs.Numbering.{tree_at}
@@ -73,20 +72,6 @@ pub away_of : (p q : Pair) → HaveOwnSlots p q → IsAway p.low q × ((p.high �
 away_of p q h = ((h.0, inr h.1), elim h.3 [ inl z ↦ inl z | inr y ↦ inr (h.2, inr y) ])
 
 module _ (ms : List ModuleTree) (top : ModuleTree) (f : Flat) (flat : IsFlat ms top f) where
-  -- what stands at a net's number
-  named_is : (number : ℕ) (n : FlatNet) (h : HasNumber ms f number n) → declared_as f number ≡ Some h.at.declared_at.0
-  named_is number n h =
-      let k : ℕ = h.instance in
-      let m : ModuleTree = h.at.tree in
-      let low : h.place < length (declared m) = slice_get_within (declared m) h.place h.at.declared_at.0 h.at.declared_at.1 in
-      let owner : slice_get f.owners.items number ≡ Some k = ap (λ z. slice_get f.owners.items z) h.is ∙ flat.numbers.owned k h.place m h.at.there h.at.of_module low in
-      let t = table_of ms top f flat k n.0 m h.at.there h.at.stands h.at.of_module in
-      let place : number - base_at f k ≡ h.place = let is : number ≡ get_or f.first_net.items k 0 + h.place = h.is in omega arith in
-      ap (λ o. option_and_then (λ k. option_and_then (λ (t : Table). slice_get t.scope (number - base_at f k)) (table_at f k)) o) owner
-      ∙ ap (λ o. option_and_then (λ (t : Table). slice_get t.scope (number - base_at f k)) o) t.1
-      ∙ ap (λ ds. slice_get ds (number - base_at f k)) t.2.names
-      ∙ ap (λ j. slice_get (declared m) j) place ∙ h.at.declared_at.1
-
   in_ms : (number : ℕ) (n : FlatNet) (h : HasNumber ms f number n) → Has ms h.at.tree
   in_ms number n h = module_in ms top (in_top ms top f flat) n.0 h.at.tree (tree_at ms top f flat number n h)
 
@@ -99,7 +84,7 @@ module _ (ms : List ModuleTree) (top : ModuleTree) (f : Flat) (flat : IsFlat ms 
       let n = net_of ms top f flat number (omega arith) in
       let m : ModuleTree = n.1.at.tree in
       let d : Declaration = n.1.at.declared_at.0 in
-      let same : d ≡ h.declaration = same_Some d h.declaration (sym (named_is number n.0 n.1) ∙ h.named) in
+      let same : d ≡ h.declaration = same_Some d h.declaration (sym (declaration_is ms top f flat number n.0 n.1) ∙ h.named) in
       let is : find_name (declared m) n.0.1 ≡ h.declaration = ap (find_name (declared m)) (sym n.1.at.declared_at.2) ∙ stands_here number n.0 n.1 ∙ same in
       record {
         net = n.0;
@@ -119,7 +104,7 @@ module _ (ms : List ModuleTree) (top : ModuleTree) (f : Flat) (flat : IsFlat ms 
       let one : find_name (declared m) d.name ≡ d = subst (λ (q : ModuleTree). find_name (declared q) d.name ≡ d) tree (stands_here number n h) in
       let two : find_name (declared m) n.1 ≡ r = stands_for ms flat.design.sound.names m there r (has_line m ms flat.design.sound.names there (Reg w n.1) line r (inl refl)) in
       let same : d ≡ r = sym one ∙ ap (find_name (declared m)) h.at.declared_at.2 ∙ two in
-      record { declaration = d; named = named_is number n h; is_register = ap (λ (d : Declaration). d.net_kind) same; wide = ap (λ (d : Declaration). d.bits) same; placed = e }
+      record { declaration = d; named = declaration_is ms top f flat number n h; is_register = ap (λ (d : Declaration). d.net_kind) same; wide = ap (λ (d : Declaration). d.bits) same; placed = e }
 
 -- one more register has its number
 module _ (f : Flat) (pairs : List (Option Pair)) (fill i room : ℕ) (are : AreHeld f pairs room) (now new : List ℕ)

@@ -1,5 +1,5 @@
 -- What stands in slots and cells in the first cycle.
-use Rattle.std.specs.Prelude.{◌≡◌, ◌≢◌, ℕ, ◌-◌, ◌%◌, ◌^◌, List, [], ◌∷◌, Option, Some, None, bytes_eq, get_or, replicate, slice_get, option_and_then}
+use Rattle.std.specs.Prelude.{◌≡◌, ◌≢◌, ℕ, ◌%◌, ◌^◌, List, [], ◌∷◌, Option, Some, None, bytes_eq, get_or, replicate}
 use Rattle.std.specs.List.{position}
 use Rattle.tapa_base.specs.declared.shape.Port.{Port}
 use Rattle.vlog_tree.specs.declared.table.Declaration.{Declaration}
@@ -7,9 +7,8 @@ use Rattle.vlog_tree.specs.declared.table.NetKind.TheVariants.{Register}
 use Rattle.vlog_tree.specs.Table.{Name}
 use Rattle.sim_tape.specs.declared.gates.Pair.{Pair}
 use Rattle.sim_nets.specs.declared.flat.Flat.{Flat}
-use Rattle.sim_nets.specs.declared.tables.Table.{Table}
-use Rattle.sim_nets.specs.Edges.{table_at, base_at}
 use Rattle.sim_design.specs.declared.drafts.Width.{Width}
+use Rattle.sim_design.specs.Memories.{declaration_at}
 use Rattle.sim_placed.specs.Given.{HaveOwnSlots}
 use Rattle.cycle_sim.specs.Steps.{HasRoom}
 
@@ -21,14 +20,10 @@ width_lists fill w = replicate w.cells (fill % 2 ^ w.bits) ∷ replicate w.cells
 abbrev pub place_of : List Port → Name → Option ℕ
 place_of labels x = position (λ (l : Port). bytes_eq l.name x) labels
 
--- what the instance of a net declares it as, by the net's number
-abbrev pub declared_as : Flat → ℕ → Option Declaration
-declared_as f number = option_and_then (λ k. option_and_then (λ (t : Table). slice_get t.scope (number - base_at f k)) (table_at f k)) (slice_get f.owners.items number)
-
 -- a register of so many bits has a number and a pair
 pub record IsHeldAt (f : Flat) (pairs : List (Option Pair)) (number bits : ℕ) (p : Pair) : Type 0 where
   pub declaration : Declaration
-  pub named : declared_as f number ≡ Some declaration
+  pub named : declaration_at f number ≡ Some declaration
   pub is_register : declaration.net_kind ≡ Register
   pub wide : declaration.bits ≡ bits
   pub placed : get_or pairs number None ≡ Some p

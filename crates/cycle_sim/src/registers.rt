@@ -1,69 +1,19 @@
 // The registers of a design, each with one number in its slots, cut to its width.
 
-ghost use Rattle.std.specs.Prelude.{◌≡◌, ◌%◌, ◌^◌, ℕ, Some, length, slice_get, option_copied, IfSome};
+ghost use Rattle.std.specs.Prelude.{◌≡◌, ◌%◌, ◌^◌, ℕ, Some, length, IfSome};
 ghost use Rattle.vlog_tree.specs.Table.{net_kind_is_register};
 ghost use Rattle.sim_tape.specs.declared.gates.Pair.{Pair as PairTree};
 ghost use Rattle.sim_tape.specs.Tape.{number_at};
-ghost use Rattle.sim_nets.specs.Edges.{table_at as table_lem, base_at as base_lem};
-ghost use Rattle.cycle_sim.specs.Firsts.{declared_as as declared_as_lem, IsHeldAt, AreHeld};
+ghost use Rattle.cycle_sim.specs.Firsts.{IsHeldAt, AreHeld};
 ghost use Rattle.cycle_sim.specs.Steps.{IsAway, PairHas};
 
 use crate::first::cut;
 use crate::slots::put_pair;
-use sim_nets::{Flat, Table};
+use sim_design::declaration_of;
+use sim_nets::Flat;
 use sim_placed::pair_of;
 use sim_tape::Pair;
-use vlog_tree::{Declaration, NetKind};
-
-// The instance of a net.
-fn owner_of(flat: &Flat, number: usize) -> Option<usize>
-    ensures { result ≡ slice_get flat.now.owners.items number }
-{
-    match flat.owners.get(number) {
-        Some(instance) => Some(*instance),
-        None => None,
-    }
-}
-
-// The table of an instance's module.
-fn table_at(flat: &Flat, k: usize) -> Option<&Table>
-    ensures { option_copied result ≡ table_lem flat.now k }
-{
-    match flat.instances.get(k) {
-        Some(row) => flat.tables.get(row.kind),
-        None => None,
-    }
-}
-
-// The number of an instance's first net.
-fn base_at(flat: &Flat, k: usize) -> usize
-    ensures { result ≡ base_lem flat.now k }
-{
-    match flat.first_net.get(k) {
-        Some(number) => *number,
-        None => 0,
-    }
-}
-
-fn name_at(table: &Table, place: usize) -> Option<&Declaration>
-    ensures { option_copied result ≡ slice_get table.now.scope place }
-{
-    table.scope.declarations().get(place)
-}
-
-// What the instance of a net declares it as.
-fn declared_as(flat: &Flat, number: usize) -> Option<&Declaration>
-    ensures { option_copied result ≡ declared_as_lem flat.now number }
-{
-    let Some(k) = owner_of(flat, number) else {
-        return None;
-    };
-    let Some(table) = table_at(flat, k) else {
-        return None;
-    };
-    let place = number.saturating_sub(base_at(flat, k));
-    name_at(table, place)
-}
+use vlog_tree::NetKind;
 
 fn is_register(net_kind: NetKind) -> bool
     ensures { result ≡ net_kind_is_register net_kind }
@@ -76,7 +26,7 @@ fn held_at(flat: &Flat, pairs: &[Option<Pair>], number: usize) -> Option<(Pair, 
     ensures is { IfSome result (λ r. IsHeldAt flat.now pairs.now number r.1 r.0) }
     ensures some { (bits : ℕ) (p : PairTree) → IsHeldAt flat.now pairs.now number bits p → result ≡ Some (p, bits) }
 {
-    let Some(d) = declared_as(flat, number) else {
+    let Some(d) = declaration_of(flat, number) else {
         return None;
     };
     if !is_register(d.net_kind) {

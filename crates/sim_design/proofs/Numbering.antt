@@ -149,7 +149,7 @@ pub below_more : (f : Flat) (outside : ℕ) (numbers : List (Option Pair)) (widt
 below_more f outside numbers widths o e below = more_of f outside numbers widths below o e
 
 module _ (ms : List ModuleTree) (top : ModuleTree) (f : Flat) (flat : IsFlat ms top f) where
-  declaration_is : (number : ℕ) (n : FlatNet) (h : HasNumber ms f number n) → declaration_at f number ≡ Some h.at.declared_at.0
+  pub declaration_is : (number : ℕ) (n : FlatNet) (h : HasNumber ms f number n) → declaration_at f number ≡ Some h.at.declared_at.0
   declaration_is number n h =
       let k : ℕ = h.instance in
       let low : h.place < length (declared h.at.tree) = slice_get_within (declared h.at.tree) h.place h.at.declared_at.0 h.at.declared_at.1 in

@@ -7,3 +7,4 @@ mod next;
 mod rows;
 
 pub use drafts::{Commit, Draft, Width, draft_of};
+pub use memories::declaration_of;

@@ -1,16 +1,15 @@
 // The numbers of the lists with the cells of the memories inside a design.
 
-ghost use Rattle.std.specs.Prelude.{◌≡◌, ◌++◌, ◌∷◌, [], List, length, slice_get, option_copied, IfOk, OnOk};
+ghost use Rattle.std.specs.Prelude.{◌≡◌, ◌++◌, ◌∷◌, [], List, length, option_copied, IfOk, OnOk};
 ghost use Rattle.vlog_tree.specs.Form.{ModuleTree};
 ghost use Rattle.vlog_tree.specs.Table.{net_kind_is_memory};
 ghost use Rattle.vlog_tree.specs.Environment.{shape_of};
 ghost use Rattle.sim_nets.specs.Flat.{IsFlat};
-ghost use Rattle.sim_nets.specs.Edges.{table_at as table_lem, base_at as base_lem};
 ghost use Rattle.sim_design.specs.Memories.{declaration_at, memory_pair, number_for, widths_for};
 ghost use Rattle.sim_design.specs.Drafts.{AreMemories};
 
 use crate::drafts::Width;
-use sim_nets::{Flat, Table};
+use sim_nets::{Flat, base_at, owner_of, table_at};
 use sim_tape::Pair;
 use std::alloc::{AllocError, Global};
 use vlog_tree::{Declaration, NetKind};
@@ -22,38 +21,8 @@ pub(crate) struct Memories {
     pub widths: Vec<Width>,
 }
 
-// The instance of a name by its number.
-fn owner_of(flat: &Flat, number: usize) -> Option<usize>
-    ensures { result ≡ slice_get flat.now.owners.items number }
-{
-    match flat.owners.get(number) {
-        Some(instance) => Some(*instance),
-        None => None,
-    }
-}
-
-/// The table of an instance's module.
-pub(crate) fn table_at(flat: &Flat, k: usize) -> Option<&Table>
-    ensures { option_copied result ≡ table_lem flat.now k }
-{
-    match flat.instances.get(k) {
-        Some(row) => flat.tables.get(row.kind),
-        None => None,
-    }
-}
-
-/// The number of an instance's first name.
-pub(crate) fn base_at(flat: &Flat, k: usize) -> usize
-    ensures { result ≡ base_lem flat.now k }
-{
-    match flat.first_net.get(k) {
-        Some(number) => *number,
-        None => 0,
-    }
-}
-
-// The declaration of a number's name.
-fn declaration_of(flat: &Flat, number: usize) -> Option<&Declaration>
+/// What the instance of a net declares it as, by the net's number.
+pub fn declaration_of(flat: &Flat, number: usize) -> Option<&Declaration>
     ensures { option_copied result ≡ declaration_at flat.now number }
 {
     match owner_of(flat, number) {

@@ -14,11 +14,10 @@ ghost use Rattle.sim_design.specs.Drafts.{AreNext};
 ghost use Rattle.sim_design.specs.Below.{HasPlaces, AreNextBelow};
 
 use crate::drafts::Draft;
-use crate::memories::{base_at, table_at};
 use crate::next::{add_commits, add_stores};
 use sim_blocks::{Blocks, blocks_of};
 use sim_lower::Nets;
-use sim_nets::{Flat, Table};
+use sim_nets::{Flat, Table, base_at, table_at};
 use sim_placed::part_of;
 use sim_tape::{Pair, Tape};
 use std::alloc::{AllocError, Global};

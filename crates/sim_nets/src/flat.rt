@@ -1,6 +1,6 @@
 // A flattened design.
 
-ghost use Rattle.std.specs.Prelude.{◌≡◌, ◌<◌, ◌++◌, ◌∷◌, [], IfOk, OnOk, length, replicate, option_copied};
+ghost use Rattle.std.specs.Prelude.{◌≡◌, ◌<◌, ◌++◌, ◌∷◌, [], IfOk, OnOk, length, replicate, slice_get, option_copied};
 ghost use Rattle.vlog_tree.specs.Form.{ModuleTree};
 ghost use Rattle.vlog_design.specs.Designs.{TopOf};
 ghost use Rattle.sim_flat.specs.Rows.{row_at};
@@ -32,8 +32,18 @@ pub struct Numbers {
     pub owners: Vec<usize>,
 }
 
+/// The instance of a net by its number.
+pub fn owner_of(flat: &Flat, number: usize) -> Option<usize>
+    ensures { result ≡ slice_get flat.now.owners.items number }
+{
+    match flat.owners.get(number) {
+        Some(instance) => Some(*instance),
+        None => None,
+    }
+}
+
 /// The table of an instance's module.
-pub(crate) fn table_at(flat: &Flat, k: usize) -> Option<&Table>
+pub fn table_at(flat: &Flat, k: usize) -> Option<&Table>
     ensures { option_copied result ≡ table_lem flat.now k }
 {
     match flat.instances.get(k) {
@@ -43,7 +53,7 @@ pub(crate) fn table_at(flat: &Flat, k: usize) -> Option<&Table>
 }
 
 /// The number of the first net of an instance.
-pub(crate) fn base_at(flat: &Flat, k: usize) -> usize
+pub fn base_at(flat: &Flat, k: usize) -> usize
     ensures { result ≡ base_lem flat.now k }
 {
     match flat.first_net.get(k) {

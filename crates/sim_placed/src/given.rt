@@ -13,8 +13,8 @@ ghost use Rattle.sim_placed.specs.Placed.{AllFree};
 ghost use Rattle.sim_placed.specs.Given.{IsGivenPair, IsBehind, HaveOwn, IsFreeSource, IsGivenNet, AreGivenNets};
 
 use crate::net::name_at;
-use crate::plan::{base_at, owner_of, source_at, table_at};
-use sim_nets::{Flat, Source};
+use crate::plan::source_at;
+use sim_nets::{Flat, Source, base_at, owner_of, table_at};
 use sim_tape::{Pair, Tape};
 use std::alloc::{AllocError, Global};
 use vlog_rules::is_clock;
