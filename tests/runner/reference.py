@@ -14,6 +14,10 @@ MARK = "// What `tapa build` made of the sources of tests/circuits, put here by 
 FILLS = (0, 2**64 - 1)
 # The cycles after which a circuit that comes to a stop carries nothing more, a limit for the others, and the steps that a net may take.
 ENOUGH, MOST, STEPS = 150, 1000, 1000
+CHANNEL = """void P(tapa::ostream<KIND>& q) { q << 1; }
+void C(tapa::istream<KIND>& q) { q.read(); }
+void T() { tapa::stream<KIND, DEPTH> q; tapa::task().invoke(P, q).invoke(C, q); }
+"""
 PORT = re.compile(r"(input|output) (?:\[ (\d+) : 0 \] )?([\w$]+)")
 
 
@@ -140,7 +144,20 @@ def files(trial):
     return texts + MARK + "".join(text for text, _ in made), tables + "".join(table for _, table in made)
 
 
+def try_channels(trial):
+    """The channels that stand in front, as texts by hand, are those that `build` prints, without registers and with one each way."""
+    front = read(STDIN).partition(MARK)[0]
+    slots = [{"LUT": 9000, "FF": 9000}] * 2
+    device = trial.put("v.json", json.dumps({"rows": 2, "cols": 1, "levels": 1, "slots": slots, "pins": {"P$0": [0, 0], "C$1": [1, 0]}}))
+    for kind, depth, words in (("bool", 1, []), ("uint64_t", 2, ["--device", device])):
+        source = trial.put("c.cpp", CHANNEL.replace("KIND", kind).replace("DEPTH", str(depth)))
+        built = trial.run(["build", source, "T", *words]).out.decode()
+        parts = re.findall(r"^module (?:channel|fifo|relay)_.*?^endmodule$", built, re.M | re.S)
+        trial.check(f"the channels of {STDIN}, {kind}", len(parts) > 1 and all(part in front for part in parts), f"   {parts}")
+
+
 def try_all(trial):
+    try_channels(trial)
     stdin, stdout = files(trial)
     trial.check(f"{STDIN} has the circuits of tests/circuits (tests/reference.py writes them)", read(STDIN) == stdin)
     trial.check_equal(STDOUT, read(STDOUT), stdout)
