@@ -51,7 +51,7 @@ def try_names(trial):
 
 def try_clauses(trial):
     """The clauses that docs/READING.md explains are those of the code."""
-    code = read("crates/tapa_base/src/take.rt").partition("pub fn take_file")[2]
+    code = read("crates/tapa_files/src/take.rt").partition("pub fn take_file")[2]
     shown = re.findall(r"^    ((?:requires|ensures) .*)$", read("docs/READING.md"), re.M)
     trial.check("docs/READING.md shows clauses", shown)
     trial.check_equal("docs/READING.md shows the clauses of take_file", shown, re.findall(r"^    ((?:requires|ensures) .*)$", code.partition("\n{")[0], re.M))

@@ -2,7 +2,7 @@ use tapa_base::{Kind, Place, Text};
 use tapa_syntax::{Leaf, TaskDeclaration};
 
 /// What an argument of an invocation is, for the parameter that it is bound to.
-#[derive(Clone, Copy, PartialEq, Eq, Debug)]
+#[derive(Clone, Copy)]
 pub enum Binding {
     /// A stream of the invoking task's own, by its number among them.
     OwnStream(u32),

@@ -1,15 +1,1 @@
-pub mod Numbering
-pub mod Writing
-pub mod Telling
-pub mod Storing
-pub mod Stepping
-pub mod Asking
-pub mod Advancing
-pub mod Asked
 pub mod Adding
-pub mod Beginning
-pub mod Growing
-pub mod Naming
-pub mod Supplying
-pub mod Filling
-pub mod Starting

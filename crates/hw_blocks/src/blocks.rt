@@ -15,13 +15,15 @@ ghost use Rattle.task_law.specs.States.{net as net_lem};
 ghost use Rattle.task_law.specs.Effects.{entries as entries_lem};
 ghost use Rattle.task_law.specs.Texts.{array_block, blocks, first_value as first_value_lem, register_block, root as root_lem, variable_block};
 ghost use Rattle.hw_choices.specs.Entries.{entry_forms};
-ghost use Rattle.hw_states.specs.Operands.{AreOperands};
-ghost use Rattle.hw_states.specs.Shapes.{form};
+ghost use Rattle.hw_parts.specs.Operands.{AreOperands};
+ghost use Rattle.hw_shape.specs.Shapes.{form};
 
 use hw_atoms::{bits, literal, name, net};
 use hw_build::{Draft, reset_name, reset_set_steps, reset_steps, store_steps};
 use hw_choices::{Entry, root};
-use hw_states::{Operands, Shape, entries_of};
+use hw_parts::Operands;
+use hw_shape::Shape;
+use hw_states::entries_of;
 use std::alloc::{AllocError, Global};
 use tapa_base::Text;
 use task_law::{Choice, Net};

@@ -12,13 +12,15 @@ ghost use Rattle.task_law.specs.Shape.{memory_kind as memory_kind_lem, state_cou
 ghost use Rattle.task_law.specs.States.{net as net_lem};
 ghost use Rattle.task_law.specs.Texts.{any, array_choices, choices, memory_outputs, outputs, pick, result as result_lem, stream_outputs, taken, variable_choices, written};
 ghost use Rattle.hw_states.specs.ByState.{IsByState};
-ghost use Rattle.hw_states.specs.Operands.{AreOperands};
-ghost use Rattle.hw_states.specs.Shapes.{form};
+ghost use Rattle.hw_parts.specs.Operands.{AreOperands};
+ghost use Rattle.hw_shape.specs.Shapes.{form};
 
 use hw_atoms::{bits, name, net};
 use hw_build::Draft;
 use hw_choices::{add_any, add_pick, result_of};
-use hw_states::{Operands, Shape, entries_of};
+use hw_parts::Operands;
+use hw_shape::Shape;
+use hw_states::entries_of;
 use std::alloc::{AllocError, Global};
 use task_law::{Choice, Net};
 use vlog_tree::Value;

@@ -8,14 +8,13 @@ ghost use Rattle.task_law.specs.Effects.{askings, at, contents, datum_of as datu
 ghost use Rattle.task_law.specs.States.{next_atom};
 ghost use Rattle.hw_choices.specs.Entries.{entries_in, entry_forms};
 ghost use Rattle.hw_states.specs.ByState.{IsByState};
-ghost use Rattle.hw_states.specs.Operands.{AreOperands, IsOperands};
-ghost use Rattle.hw_states.specs.Shapes.{form};
+ghost use Rattle.hw_parts.specs.Operands.{AreOperands, IsOperands};
+ghost use Rattle.hw_shape.specs.Shapes.{form};
 
-use crate::operands::{Operands, operands_of};
-use crate::shape::Shape;
-use crate::states::number_of;
 use hw_atoms::{bits, copy, literal, low_bits, name, net, power};
 use hw_choices::{Entry, add_found, entry_of};
+use hw_parts::{Operands, number_of, operands_of};
+use hw_shape::Shape;
 use std::alloc::{AllocError, Global};
 use task_fsm::State;
 use task_law::{Choice, Net};

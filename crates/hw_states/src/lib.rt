@@ -3,13 +3,5 @@
 #![tactic(auto)]
 
 mod effects;
-mod operands;
-mod parts;
-mod shape;
-mod states;
 
 pub use effects::{end_of_transaction, entries_of};
-pub use operands::{Operands, add_states};
-pub use parts::{reads_at, reads_count};
-pub use shape::Shape;
-pub use states::{add_decodes, add_wire};

@@ -13,7 +13,7 @@ use Rattle.task_names.proofs.Ported.{modules_have_ports}
 use Rattle.task_form.proofs.Whole.{tasks_are_right, tasks_are_modules, tasks_have_no_children, tasks_have_no_loop}
 use Rattle.task_rests.proofs.Rested.{only_takes_rest}
 use Rattle.task_runs.proofs.Machines.{instances_run}
-use Rattle.hw_states.proofs.Shapes.{count_is}
+use Rattle.hw_shape.proofs.Shapes.{count_is}
 use Rattle.hw_task.specs.Promise.{IsOfLeaf, KeepsPromise, leaf_shape}
 
 countable : (machine : Fsm) (memories : List Kind) (streams : List End) → length machine.states.items ≤ 2 ^ 32 → length (task_tree machine memories streams).ports + length (task_tree machine memories streams).items ≤ 2 ^ 64 → IsCountable (shape_of machine memories streams)

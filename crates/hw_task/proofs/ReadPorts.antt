@@ -23,7 +23,7 @@ use Rattle.task_law.specs.Texts.{asked, asked_of, read_index, answered, most}
 use Rattle.hw_atoms.proofs.Grows.{both, each_next}
 use Rattle.hw_expressions.specs.declared.reads.ArrayRead.{ArrayRead}
 use Rattle.hw_expressions.specs.Reads.{read_form, read_forms}
-use Rattle.hw_states.proofs.FirstStates.{each_at, each_length}
+use Rattle.hw_parts.proofs.FirstStates.{each_at, each_length}
 use Rattle.hw_task.specs.declared.reads.Asked.{Asked}
 use Rattle.hw_task.specs.Asked.{asked_form, asked_at, AreAsked}
 

@@ -7,11 +7,13 @@ ghost use Rattle.task_law.specs.declared.nets.Net.TheVariants.{Ended, State};
 ghost use Rattle.task_law.specs.Nets.{name as name_lem};
 ghost use Rattle.task_law.specs.Shape.{state_bits};
 ghost use Rattle.task_law.specs.Texts.{array, held, inputs, memory_inputs, offered, offers, scalar_port, stream_inputs, variable};
-ghost use Rattle.hw_states.specs.Shapes.{form};
+ghost use Rattle.hw_shape.specs.Shapes.{form};
 
 use hw_atoms::{binary, bits, name, net};
 use hw_build::Draft;
-use hw_states::{Shape, add_wire, end_of_transaction};
+use hw_parts::add_wire;
+use hw_shape::Shape;
+use hw_states::end_of_transaction;
 use std::alloc::{AllocError, Global};
 use task_law::Net;
 use vlog_tree::{BinaryOp, Value};

@@ -19,13 +19,14 @@ ghost use Rattle.task_law.specs.Texts.{answered, asked, asked_of, read_index, re
 ghost use Rattle.hw_choices.specs.Entries.{entries_in, entry_forms};
 ghost use Rattle.hw_expressions.specs.Reads.{read_form};
 ghost use Rattle.hw_task.specs.Asked.{AreAsked, asked_at, asked_form, port_of};
-ghost use Rattle.hw_states.specs.Shapes.{form};
+ghost use Rattle.hw_shape.specs.Shapes.{form};
 
 use hw_atoms::{binary, bits, choose, copy, literal, low_bits, name, net, read_front};
 use hw_build::Draft;
 use hw_choices::{Entry, add_any, add_found, add_pick, entry_of, root};
 use hw_expressions::{ArrayRead, compile};
-use hw_states::{Shape, add_wire, reads_at, reads_count};
+use hw_parts::{add_wire, reads_at, reads_count};
+use hw_shape::Shape;
 use std::alloc::{AllocError, Global};
 use tapa_base::Kind;
 use task_law::{Choice, Net};

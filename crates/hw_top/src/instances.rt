@@ -5,10 +5,10 @@ ghost use Rattle.hw_build.specs.Elements.{with_all};
 ghost use Rattle.hw_lists.specs.Scope.{each};
 ghost use Rattle.top_law.specs.Texts.{at_instance, channel_part, instances, task_part};
 
-use crate::wires::token_bits;
 use hw_atoms::small;
 use hw_build::Draft;
 use hw_ends::{channel_ends, channel_instance, channel_name, task_ends, task_instance, task_name};
+use hw_wires::token_bits;
 use std::alloc::{AllocError, Global};
 use tapa_base::number_at;
 use tapa_syntax::{Instance, Leaf, Program};

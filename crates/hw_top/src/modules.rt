@@ -10,9 +10,9 @@ ghost use Rattle.top_law.specs.Texts.{top_tree};
 ghost use Rattle.hw_task.specs.Promise.{IsOfLeaf, KeepsPromise};
 ghost use Rattle.hw_top.specs.Kept.{IsKept, IsOfBody};
 
-use crate::channels::all_channels;
 use crate::top::top_module;
 use hw_atoms::small;
+use hw_channels::all_channels;
 use hw_task::module_of;
 use std::alloc::Global;
 use tapa_base::OutOfMemory;

@@ -8,9 +8,9 @@ ghost use Rattle.top_law.specs.Texts.{top_elements, top_tree};
 
 use crate::instances::add_instances;
 use crate::ports::add_ports;
-use crate::wires::{add_all_wires, add_done};
 use hw_build::Draft;
 use hw_ends::task_name;
+use hw_wires::{add_all_wires, add_done};
 use std::alloc::{AllocError, Global};
 use tapa_syntax::Program;
 use vlog_tree::Module;

@@ -4,13 +4,5 @@
 #![tactic(auto)]
 
 mod balance;
-mod cycle_test;
-mod exits;
-pub mod moves;
-mod paths;
-mod search;
-mod sending;
-mod settling;
-mod walking;
 
 pub use balance::{Balance, balance_streams};

@@ -1,6 +1,6 @@
 use std::fs;
 use std::test::Fail;
-use tapa_base::{DirShelf, StdSink, TakeFault, put_all, take_file};
+use tapa_files::{DirShelf, StdSink, TakeFault, put_all, take_file};
 
 #[test]
 fn a_real_file_is_read(rt: HostRuntime) -> Result<(), Fail> {

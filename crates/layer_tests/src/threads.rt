@@ -3,8 +3,8 @@ ghost use Rattle.std.specs.Prelude.{◌≡◌, IfOk, length};
 
 #[cfg(test)]
 mod tests {
-    use coro_machine::Coro;
-    use net_core::Body;
+    use coro_machine::{Coro, Machine};
+    use net_ports::Body;
     use std::alloc::Global;
     use std::sync::Arc;
     use tapa_base::{Kind, OutOfMemory, Text};
@@ -40,7 +40,7 @@ mod tests {
     }
 
     fn coroutine(alloc: Global) -> Result<Coro, OutOfMemory> {
-        let machine = lower(alloc, &program(alloc)?, 0)?;
+        let machine = Machine::new(alloc, lower(alloc, &program(alloc)?, 0)?)?;
         let cells = vec![in alloc; 10u64, 20]?;
         let memories = vec![in alloc; cells]?;
         Coro::new(alloc, Arc::new(alloc, machine)?, &[7], memories)

@@ -1,10 +1,5 @@
 pub mod Checks
-pub mod Entries
 pub mod Faults
-pub mod KnownNames
-pub mod Lists
 pub mod Meaning
-pub mod Numbers
-pub mod Pinned
 pub mod Ranges
 pub mod Uses

@@ -1,12 +1,4 @@
 pub mod Answer
-pub mod Amounts
 pub mod Checked
 pub mod Contents
 pub mod Devices
-pub mod Faults
-pub mod GroupPins
-pub mod Json
-pub mod Keys
-pub mod Known
-pub mod Pins
-pub mod Tests

@@ -5,7 +5,7 @@ mod added;
 
 ghost use Rattle.std.specs.Prelude.{◌≡◌, ◌<◌, ◌≤◌, ◌*◌, ℕ, length, slice_index, IfOk};
 ghost use Rattle.task_graph.specs.Arcs.{streams};
-ghost use Rattle.latency_balance.specs.Moves.{AreLatencies};
+ghost use Rattle.plan_flows.specs.Moves.{AreLatencies};
 ghost use Rattle.plan_device.specs.Devices.{IsDevice};
 ghost use Rattle.plan_latency.specs.Borders.{crossed as crossed_lem, border_latency, AreBorderLatencies};
 

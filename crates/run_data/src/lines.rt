@@ -1,11 +1,12 @@
 ghost use Rattle.std.specs.Prelude.{◌≡◌, ◌+◌, ◌<◌, ◌≤◌, ◌∷◌, ◌++◌, length, drop, codes, IfOk, OnOk, OnErr, IsErrOf};
 ghost use Rattle.std.specs.Io.KnownBytes.{Appends};
-ghost use Rattle.tapa_base.specs.Outside.{AppendsPart, Rose};
+ghost use Rattle.tapa_files.specs.Outside.{AppendsPart, Rose};
 ghost use Rattle.run_data.specs.Report.{number_text, token_text, tokens_text, numbers_text, stream_line, memory_line, last_line, HasNoLf, IsOneLine};
 
 use itoa::{Buffer, write_digits};
 use std::alloc::{AllocError, Global};
-use tapa_base::{PrintFault, Sink, Token, put_all};
+use tapa_base::Token;
+use tapa_files::{PrintFault, Sink, put_all};
 
 /// How a run ended: the ticks of a run, or the cycle of a simulation.
 #[derive(Clone, Copy, PartialEq, Eq, Debug)]

@@ -20,7 +20,7 @@ use Rattle.vlog_law_runs.proofs.Filled as fill
 use Rattle.vlog_law_runs.proofs.Surround.{one_run_from}
 use Rattle.vlog_ref_start.specs.Outside.{lists_of}
 use Rattle.sim_law.specs.Told.{IsToldOf}
-use Rattle.cycle_sim.specs.Sims.{SimTree, InRuns, IsFirst, IsLater, IsDoneAt, last_cycle}
+use Rattle.sim_parts.specs.Sims.{SimTree, InRuns, IsFirst, IsLater, IsDoneAt, last_cycle}
 use Rattle.run_design.specs.Ending.{EndsSo, end_of}
 use Rattle.run_design.specs.Reports.{stream_lines, memory_lines, streams_to, memories_at, last_of, IsSimulated}
 

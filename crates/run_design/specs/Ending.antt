@@ -1,7 +1,7 @@
 -- How the run of a design leaves the output.
 use Rattle.std.specs.Prelude.{◌≡◌, ◌⊎◌, ℕ, List, Option, Some, None}
 use Rattle.std.specs.Io.KnownBytes.{Appends}
-use Rattle.tapa_base.specs.Outside.{AppendsPart}
+use Rattle.tapa_files.specs.Outside.{AppendsPart}
 use Rattle.vlog_tree.specs.Environment.{Environment}
 use Rattle.vlog_design.specs.Designs.{DesignTree}
 use Rattle.run_design.specs.Reports.{IsSimulated}

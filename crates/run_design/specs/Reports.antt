@@ -12,7 +12,7 @@ use Rattle.vlog_tree.specs.Environment.{Environment, shape_of, streams_of, token
 use Rattle.vlog_design.specs.Designs.{DesignTree, TopOf}
 use Rattle.vlog_law_runs.specs.Filled.{IsFilled}
 use Rattle.vlog_law_runs.specs.OneRun.{IsRunFrom}
-use Rattle.cycle_sim.specs.Sims.{IsDoneAt, last_cycle}
+use Rattle.sim_parts.specs.Sims.{IsDoneAt, last_cycle}
 
 -- the lines of streams, with the tokens of each by its place
 abbrev pub stream_lines : (ℕ → List Token) → List Port → List ℕ

@@ -1,7 +1,7 @@
 // A run of a design on its data, and its report.
 
 ghost use Rattle.std.specs.Prelude.{◌≡◌, ◌≤◌, IfOk, OnErr, IsErrOf};
-ghost use Rattle.tapa_base.specs.Outside.{Rose};
+ghost use Rattle.tapa_files.specs.Outside.{Rose};
 ghost use Rattle.vlog_tree.specs.Environment.{FitsShape, shape_of};
 ghost use Rattle.vlog_tree.specs.Form.{ModuleTree};
 ghost use Rattle.vlog_design.specs.Designs.{TopOf};
@@ -13,7 +13,7 @@ use crate::shown::show;
 use cycle_sim::{Sim, run_cycles};
 use run_data::Last;
 use std::alloc::Global;
-use tapa_base::{PrintFault, Sink};
+use tapa_files::{PrintFault, Sink};
 use vlog_design::Design;
 use vlog_ref_start::Surroundings;
 

@@ -2,7 +2,7 @@
 
 ghost use Rattle.std.specs.Prelude.{◌≡◌, ◌≤◌, ◌++◌, [], slice_index_or, OnOk, OnErr, IsErrOf};
 ghost use Rattle.std.specs.Io.KnownBytes.{Appends};
-ghost use Rattle.tapa_base.specs.Outside.{AppendsPart, Rose};
+ghost use Rattle.tapa_files.specs.Outside.{AppendsPart, Rose};
 ghost use Rattle.run_data.specs.Report.{last_line};
 ghost use Rattle.vlog_ref_start.specs.Outside.{lists_of};
 ghost use Rattle.cycle_sim.specs.Simulators.{sim_of};
@@ -11,7 +11,8 @@ ghost use Rattle.run_design.specs.Reports.{stream_lines, memory_lines};
 use cycle_sim::Sim;
 use run_data::{Last, report_last, report_memory, report_stream};
 use std::alloc::Global;
-use tapa_base::{Port, PrintFault, Sink, Token};
+use tapa_base::{Port, Token};
+use tapa_files::{PrintFault, Sink};
 
 // The tokens of a stream by its place, and none where there is no such place.
 fn tokens_at(tokens: &[Vec<Token>], place: usize) -> &[Token]

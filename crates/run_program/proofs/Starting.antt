@@ -10,17 +10,16 @@ use Rattle.kahn_model.specs.Fits.{FitsInput}
 use Rattle.kahn_model.specs.Start.{bound_value, instance_state, leaf_state}
 use Rattle.kahn_model.specs.Trace.{State, job_of}
 use Rattle.kahn_model.proofs.FitsNetwork.{first_fits}
-use Rattle.net_core.specs.declared.input.Input.{Input}
-use Rattle.net_core.specs.Bindings.{ends_at, ends_in_leaf, leaf_in}
-use Rattle.net_core.specs.Bounded.{instance_job, leaf_behavior, scalars_of, memories_of}
-use Rattle.net_core.specs.Job.{Job}
+use Rattle.net_instances.specs.declared.input.Input.{Input}
+use Rattle.net_instances.specs.Bindings.{ends_at, ends_in_leaf, leaf_in}
+use Rattle.net_instances.specs.Bounded.{instance_job, leaf_behavior, scalars_of, memories_of}
+use Rattle.net_ports.specs.Job.{Job}
 use Rattle.std.specs.Arc.{arc_value}
 use Rattle.std.specs.declared.alloc.Global.{Global}
 use Rattle.std.specs.declared.sync.Arc.{Arc}
-use Rattle.task_fsm.specs.declared.machine.Fsm.{Fsm}
-use Rattle.task_fsm.specs.Lowered.{IsLowered}
 use Rattle.coro_machine.specs.declared.coro.Coro.{Coro}
-use Rattle.coro_machine.specs.Coro.{job_with, FitsLeaf, IsCoroOf}
+use Rattle.coro_machine.specs.declared.machine.Machine.{Machine}
+use Rattle.coro_machine.specs.Coro.{job_with, FitsLeaf, IsMachineOf, IsCoroOf}
 use Rattle.kahn_model.specs.Fits.{ScalarsFit}
 use Rattle.kahn_model.specs.Start.{kinds_in}
 use Rattle.run_program.specs.Started.{AreLowered, AreStarted}
@@ -71,8 +70,8 @@ module _ (program : Program) (input : Input) (fits : FitsInput program (scalars_
   leaf_fits i x leaf h = let f = first_fits program (scalars_of input) (memories_of input) fits i x leaf h in record { vars = f.vars; cells = f.cells }
 
 -- a coroutine that stands for the job of its leaf stands for the job of its instance
-pub started : (c : Coro) (leaf : Leaf) (fsm : Fsm) (values bound : List ℕ) (cells rows : List (List ℕ)) (job : Job) → IsLeaf leaf → IsLowered leaf fsm → values ≡ bound → cells ≡ rows → FitsLeaf leaf bound rows → job ≡ job_with leaf bound rows → ((l : Leaf) → IsLeaf l → IsLowered l fsm → FitsLeaf l values cells → IsCoroOf c (job_with l values cells) []) → IsCoroOf c job []
-started c leaf fsm values bound cells rows job is_leaf lowered v m fits is stands =
+pub started : (c : Coro) (leaf : Leaf) (machine : Machine) (values bound : List ℕ) (cells rows : List (List ℕ)) (job : Job) → IsLeaf leaf → IsMachineOf leaf machine → values ≡ bound → cells ≡ rows → FitsLeaf leaf bound rows → job ≡ job_with leaf bound rows → ((l : Leaf) → IsLeaf l → IsMachineOf l machine → FitsLeaf l values cells → IsCoroOf c (job_with l values cells) []) → IsCoroOf c job []
+started c leaf machine values bound cells rows job is_leaf lowered v m fits is stands =
     let at_leaf = stands leaf is_leaf lowered (subst (λ (ms : List (List ℕ)). FitsLeaf leaf values ms) (sym m) (subst (λ (vs : List ℕ). FitsLeaf leaf vs rows) (sym v) fits)) in
     subst (λ (j : Job). IsCoroOf c j []) (sym is) (subst (λ (ms : List (List ℕ)). IsCoroOf c (job_with leaf bound ms) []) m (subst (λ (vs : List ℕ). IsCoroOf c (job_with leaf vs cells) []) v at_leaf))
 
@@ -92,9 +91,9 @@ started_more program input n all c len before last i x within at =
     ]
 
 -- one machine more
-pub lowered_more : (program : Program) (n : ℕ) (all : List (Arc Fsm Global)) (machine : Arc Fsm Global) → length all ≡ n → AreLowered program n all → ((leaf : Leaf) → slice_get program.bodies.items n ≡ Some leaf → IsLeaf leaf → IsLowered leaf (arc_value machine)) → AreLowered program (n + 1) (all ++ machine ∷ [])
+pub lowered_more : (program : Program) (n : ℕ) (all : List (Arc Machine Global)) (machine : Arc Machine Global) → length all ≡ n → AreLowered program n all → ((leaf : Leaf) → slice_get program.bodies.items n ≡ Some leaf → IsLeaf leaf → IsMachineOf leaf (arc_value machine)) → AreLowered program (n + 1) (all ++ machine ∷ [])
 lowered_more program n all machine len before last b leaf x within at_leaf at is_leaf =
     elim (pushed all machine x b at) [
       | inl w ↦ before b leaf x (omega (arith, w.0, len)) at_leaf w.1 is_leaf
-      | inr w ↦ subst (λ (a : Arc Fsm Global). IsLowered leaf (arc_value a)) w.1 (last leaf (subst (λ (k : ℕ). slice_get program.bodies.items k ≡ Some leaf) (omega (arith, w.0, len)) at_leaf) is_leaf)
+      | inr w ↦ subst (λ (a : Arc Machine Global). IsMachineOf leaf (arc_value a)) w.1 (last leaf (subst (λ (k : ℕ). slice_get program.bodies.items k ≡ Some leaf) (omega (arith, w.0, len)) at_leaf) is_leaf)
     ]

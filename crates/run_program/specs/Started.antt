@@ -6,17 +6,16 @@ use Rattle.std.specs.declared.sync.Arc.{Arc}
 use Rattle.tapa_syntax.specs.declared.program.Leaf.{Leaf}
 use Rattle.tapa_syntax.specs.declared.program.Program.{Program}
 use Rattle.tapa_syntax.specs.WellFormed.{IsLeaf}
-use Rattle.task_fsm.specs.declared.machine.Fsm.{Fsm}
-use Rattle.task_fsm.specs.Lowered.{IsLowered}
-use Rattle.net_core.specs.declared.input.Input.{Input}
-use Rattle.net_core.specs.Bounded.{instance_job}
+use Rattle.net_instances.specs.declared.input.Input.{Input}
+use Rattle.net_instances.specs.Bounded.{instance_job}
 use Rattle.coro_machine.specs.declared.coro.Coro.{Coro}
-use Rattle.coro_machine.specs.Coro.{IsCoroOf}
+use Rattle.coro_machine.specs.declared.machine.Machine.{Machine}
+use Rattle.coro_machine.specs.Coro.{IsMachineOf, IsCoroOf}
 
 -- each of the first m is the machine of its leaf
-abbrev pub AreLowered : Program → ℕ → List (Arc Fsm Global) → Type 0
+abbrev pub AreLowered : Program → ℕ → List (Arc Machine Global) → Type 0
 AreLowered program m machines =
-    (b : ℕ) (leaf : Leaf) (machine : Arc Fsm Global) → b < m → slice_get program.bodies.items b ≡ Some leaf → slice_get machines b ≡ Some machine → IsLeaf leaf → IsLowered leaf (arc_value machine)
+    (b : ℕ) (leaf : Leaf) (machine : Arc Machine Global) → b < m → slice_get program.bodies.items b ≡ Some leaf → slice_get machines b ≡ Some machine → IsLeaf leaf → IsMachineOf leaf (arc_value machine)
 
 -- each of the first m stands for the job of its instance, before its first tick
 abbrev pub AreStarted : Program → Input → ℕ → List Coro → Type 0

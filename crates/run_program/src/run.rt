@@ -1,11 +1,11 @@
 // A run of a flat program on an input on one thread, and its report.
 ghost use Rattle.std.specs.Prelude.{◌≤◌, IfOk, OnErr, IsErrOf};
 ghost use Rattle.std.specs.Arc.{arc_value};
-ghost use Rattle.tapa_base.specs.Outside.{Rose};
+ghost use Rattle.tapa_files.specs.Outside.{Rose};
 ghost use Rattle.tapa_syntax.specs.WellFormed.{IsWellFormed};
 ghost use Rattle.kahn_model.specs.Fits.{FitsInput};
 ghost use Rattle.run_program.specs.Ending.{EndsSo, HasPart};
-ghost use Rattle.net_core.specs.Bounded.{scalars_of, memories_of};
+ghost use Rattle.net_instances.specs.Bounded.{scalars_of, memories_of};
 ghost use Rattle.run_program.specs.Fresh.{IsFresh};
 ghost use Rattle.run_program.specs.Run.{values_of};
 
@@ -13,11 +13,13 @@ use crate::shown::show;
 use crate::start::coroutines;
 use crate::waits::wait_lines;
 use coro_machine::Coro;
-use net_core::{Input, Net, Outcome, settle};
+use net_core::{Outcome, settle};
+use net_instances::{Input, Net};
 use run_data::Last;
 use std::alloc::Global;
 use std::sync::Arc;
-use tapa_base::{OutOfMemory, PrintFault, Sink};
+use tapa_base::OutOfMemory;
+use tapa_files::{PrintFault, Sink};
 use tapa_syntax::Program;
 
 /// How a run ended.

@@ -1,19 +1,21 @@
 // The report of a run.
 ghost use Rattle.std.specs.Prelude.{◌≡◌, ◌<◌, ◌≤◌, ◌++◌, length, OnOk, OnErr, IsErrOf};
 ghost use Rattle.std.specs.Io.KnownBytes.{Appends};
-ghost use Rattle.tapa_base.specs.Outside.{AppendsPart, Rose};
+ghost use Rattle.tapa_files.specs.Outside.{AppendsPart, Rose};
 ghost use Rattle.run_data.specs.Report.{last_line};
-ghost use Rattle.net_core.specs.State.{network, count};
+ghost use Rattle.net_instances.specs.State.{network, count};
 ghost use Rattle.kahn_model.specs.Cells.{cells_at};
-ghost use Rattle.net_core.specs.Bounded.{scalars_of, memories_of};
+ghost use Rattle.net_instances.specs.Bounded.{scalars_of, memories_of};
 ghost use Rattle.run_program.specs.Run.{values_of, tokens_at, stream_lines, memory_lines, lines_at};
 
 use crate::cells::last_cells;
 use coro_machine::Coro;
-use net_core::{Body, Input, Net};
+use net_instances::{Input, Net};
+use net_ports::Body;
 use run_data::{Last, report_last, report_memory, report_stream};
 use std::alloc::Global;
-use tapa_base::{PrintFault, Sink, Token};
+use tapa_base::Token;
+use tapa_files::{PrintFault, Sink};
 use tapa_syntax::Program;
 
 // What a report with this last line shows of a stream.

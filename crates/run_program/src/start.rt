@@ -2,22 +2,22 @@
 ghost use Rattle.std.specs.Prelude.{ℕ, ◌≡◌, ◌<◌, [], length, IfOk};
 ghost use Rattle.tapa_syntax.specs.WellFormed.{IsWellFormed};
 ghost use Rattle.kahn_model.specs.Fits.{FitsInput};
-ghost use Rattle.net_core.specs.Bounded.{instance_job, scalars_of, memories_of};
+ghost use Rattle.net_instances.specs.Bounded.{instance_job, scalars_of, memories_of};
 ghost use Rattle.coro_machine.specs.Coro.{IsCoroOf};
 ghost use Rattle.run_program.specs.Started.{AreLowered, AreStarted};
 
-use coro_machine::Coro;
+use coro_machine::{Coro, Machine};
 use kahn_model::start::{bound_values, first_cells};
-use net_core::Input;
+use net_instances::Input;
 use std::alloc::Global;
 use std::sync::Arc;
 use tapa_base::OutOfMemory;
 use tapa_syntax::Program;
-use task_fsm::{Fsm, lower};
+use task_fsm::lower;
 
-/// The machine of each leaf task, which its instances share. A program with more leaves than 32 bits number is answered as
+/// The machine of each leaf task with its flat code, which its instances share. A program with more leaves than 32 bits number is answered as
 /// want of memory.
-pub(crate) fn machines(alloc: Global, program: &Program) -> Result<Vec<Arc<Fsm>>, OutOfMemory>
+pub(crate) fn machines(alloc: Global, program: &Program) -> Result<Vec<Arc<Machine>>, OutOfMemory>
     ensures as_many { IfOk result (λ all. length all.items ≡ length program.now.bodies.items) }
     ensures lowered { IfOk result (λ all. AreLowered program.now (length program.now.bodies.items) all.items) }
 {
@@ -26,7 +26,8 @@ pub(crate) fn machines(alloc: Global, program: &Program) -> Result<Vec<Arc<Fsm>>
         let Ok(number) = u32::try_from(body) else {
             return Err(OutOfMemory);
         };
-        let machine = lower(alloc, program, number)?;
+        let fsm = lower(alloc, program, number)?;
+        let machine = Machine::new(alloc, fsm)?;
         all.push(Arc::new(alloc, machine)?)?;
     }
     Ok(all)
@@ -37,7 +38,7 @@ fn start_one(
     alloc: Global,
     program: &Program,
     input: &Input,
-    machines: &[Arc<Fsm>],
+    machines: &[Arc<Machine>],
     i: usize,
 ) -> Result<Coro, OutOfMemory>
     requires well_formed { IsWellFormed program.now }

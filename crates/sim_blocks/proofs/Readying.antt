@@ -9,8 +9,8 @@ use Rattle.vlog_tree.specs.declared.table.Declaration.{Declaration}
 use Rattle.vlog_tree.specs.Form.{nested}
 use Rattle.vlog_tree.specs.Table.{Name, declaration_name}
 use Rattle.vlog_tree.specs.Cycle.{and_then}
-use Rattle.vlog_rules.specs.NameTable.{places_from}
-use Rattle.sim_tape.specs.declared.gates.Pair.{Pair}
+use Rattle.vlog_scope.specs.NameTable.{places_from}
+use Rattle.sim_operations.specs.declared.gates.Pair.{Pair}
 use Rattle.sim_lower.specs.Nets.{pair_in}
 use Rattle.sim_blocks.specs.declared.parts.Part.{Part}
 use Rattle.sim_blocks.specs.Next.{SamePlaces}

@@ -9,7 +9,7 @@ use Rattle.vlog_tree.specs.Cycle.{Cycle, Sizes, run_steps, run_items}
 use Rattle.vlog_tree.proofs.Walks.{opened}
 use Rattle.vlog_ref_cycle.specs.Next.{step_next}
 use Rattle.vlog_ref_cycle.proofs.Turns.{steps_end, items_on, items_end}
-use Rattle.sim_tape.specs.declared.gates.Pair.{Pair}
+use Rattle.sim_operations.specs.declared.gates.Pair.{Pair}
 use Rattle.sim_lower.specs.Nets.{pair_in, ShowsNets}
 use Rattle.sim_blocks.specs.declared.parts.Part.{Part}
 use Rattle.sim_blocks.specs.declared.writes.Store.{Store}

@@ -12,7 +12,7 @@ use Rattle.vlog_tree.specs.Table.{Name, one_if}
 use Rattle.vlog_tree.specs.Cycle.{Cycle, Sizes, atom_value, store}
 use Rattle.vlog_tree.proofs.Lists.{has_split}
 use Rattle.vlog_ref_cycle.specs.Next.{step_next}
-use Rattle.sim_tape.specs.declared.gates.Pair.{Pair}
+use Rattle.sim_operations.specs.declared.gates.Pair.{Pair}
 use Rattle.sim_tape.specs.Tape.{number_at, pair_value}
 use Rattle.sim_lower.specs.Nets.{pair_in}
 use Rattle.sim_blocks.specs.declared.writes.Store.{Store}

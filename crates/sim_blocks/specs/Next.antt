@@ -6,7 +6,7 @@ use Rattle.vlog_tree.specs.declared.table.Declaration.{Declaration}
 use Rattle.vlog_tree.specs.Table.{Name}
 use Rattle.vlog_tree.specs.Grounded.{Has}
 use Rattle.vlog_tree.specs.Cycle.{Cycle, Sizes, run_steps, run_items}
-use Rattle.sim_tape.specs.declared.gates.Pair.{Pair}
+use Rattle.sim_operations.specs.declared.gates.Pair.{Pair}
 use Rattle.sim_tape.specs.Tape.{number_at, pair_value}
 use Rattle.sim_lower.specs.Nets.{pair_in}
 use Rattle.sim_blocks.specs.declared.parts.Part.{Part}

@@ -9,7 +9,7 @@ use Rattle.vlog_tree.specs.declared.table.Declaration.{Declaration}
 use Rattle.vlog_tree.specs.Form.{nested}
 use Rattle.vlog_tree.specs.Loops.{atom_nets}
 use Rattle.vlog_tree.specs.V3.{atom_fits}
-use Rattle.sim_tape.specs.declared.gates.Pair.{Pair}
+use Rattle.sim_operations.specs.declared.gates.Pair.{Pair}
 use Rattle.sim_lower.specs.Nets.{pair_in, HavePairs}
 use Rattle.sim_blocks.specs.declared.parts.Part.{Part}
 

@@ -18,7 +18,8 @@ ghost use Rattle.sim_blocks.specs.Ready.{IsReady, IsStepReady, elses};
 use crate::parts::{Walk, turn};
 use crate::writes::{Blocks, write};
 use sim_lower::Nets;
-use sim_tape::{Pair, Tape};
+use sim_operations::Pair;
+use sim_tape::Tape;
 use std::alloc::{AllocError, Global};
 use vlog_tree::{Item, Step};
 

@@ -14,14 +14,15 @@ ghost use Rattle.sim_blocks.specs.Parts.{part_runs, WalkShows, WalkBefore, IsTur
 ghost use Rattle.sim_blocks.specs.Ready.{IsStepReady, elses};
 
 use sim_lower::Nets;
-use sim_tape::{Operator, Tape};
+use sim_operations::Operator;
+use sim_tape::Tape;
 use std::alloc::AllocError;
 use tapa_base::Text;
 use vlog_tree::Step;
 
 /// A part that is open: the slot that says whether what is around it runs, the slot of its condition, and whether it runs
 /// where that is not 1.
-#[derive(Clone, Copy, PartialEq, Eq, Debug)]
+#[derive(Clone, Copy)]
 pub(crate) struct Part {
     pub around: u32,
     pub test: u32,

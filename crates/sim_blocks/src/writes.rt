@@ -15,13 +15,14 @@ ghost use Rattle.sim_blocks.specs.Next.{NetsNext, CellsNext, ShowsNext, AreApart
 ghost use Rattle.sim_blocks.specs.Ready.{IsStepReady};
 
 use sim_lower::{Nets, choose, pair_of_atom};
-use sim_tape::{Pair, Tape};
+use sim_operations::Pair;
+use sim_tape::Tape;
 use std::alloc::AllocError;
 use tapa_base::Text;
 use vlog_tree::{Atom, Step};
 
 /// A store: where the slot `on` is 1, the cell at `at` of the memory with these two numbers gets `value`.
-#[derive(Clone, Copy, PartialEq, Eq, Debug)]
+#[derive(Clone, Copy)]
 pub struct Store {
     pub on: u32,
     pub memory: Pair,

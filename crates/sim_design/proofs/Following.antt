@@ -12,8 +12,8 @@ use Rattle.vlog_tree.specs.Cycle.{Cycle, Sizes, Path, Holds, module_at, run_item
 use Rattle.vlog_tree.proofs.Lists.{has_got, has_left, has_right, has_split}
 use Rattle.vlog_law_runs.proofs.Sizes.{all_at, declared_net_kind}
 use Rattle.vlog_ref_start.proofs.Found.{some_of}
-use Rattle.sim_tape.specs.declared.gates.Pair.{Pair}
-use Rattle.sim_tape.specs.Operators.{Cells}
+use Rattle.sim_operations.specs.declared.gates.Pair.{Pair}
+use Rattle.sim_operations.specs.Operators.{Cells}
 use Rattle.sim_tape.specs.Tape.{TapeTree, Extends}
 use Rattle.sim_tape.specs.Solved.{IsSolved}
 use Rattle.sim_tape.proofs.Growing.{solved_on}
@@ -21,10 +21,10 @@ use Rattle.sim_lower.specs.Nets.{pair_in}
 use Rattle.sim_blocks.specs.declared.writes.Store.{Store}
 use Rattle.sim_blocks.specs.Next.{cell_after, ShowsNext}
 use Rattle.sim_flat.specs.Instances.{StandsAt, IsModuleOf}
-use Rattle.sim_nets.specs.declared.flat.Flat.{Flat}
-use Rattle.sim_nets.specs.Places.{DeclaredAt}
-use Rattle.sim_nets.specs.Flat.{HasNumber}
-use Rattle.sim_nets.proofs.Names.{place_is}
+use Rattle.sim_names.specs.declared.flat.Flat.{Flat}
+use Rattle.sim_names.specs.Places.{DeclaredAt}
+use Rattle.sim_names.specs.Flat.{HasNumber}
+use Rattle.sim_names.proofs.Names.{place_is}
 use Rattle.sim_placed.specs.Valuations.{IsLawful, IsValuation}
 use Rattle.sim_placed.specs.States.{ShowsPlaced}
 use Rattle.sim_placed.proofs.Parts.{is_at, shows_nets}

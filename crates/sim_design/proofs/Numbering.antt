@@ -18,13 +18,13 @@ use Rattle.vlog_law_runs.proofs.Alike.{memory_is}
 use Rattle.vlog_law_runs.proofs.Alone.{stands_for}
 use Rattle.vlog_law_runs.proofs.Settled.{module_in}
 use Rattle.vlog_law_runs.proofs.Sizes.{has_line}
-use Rattle.sim_tape.specs.declared.gates.Pair.{Pair}
-use Rattle.sim_nets.specs.declared.flat.Flat.{Flat}
-use Rattle.sim_nets.specs.declared.tables.Table.{Table}
-use Rattle.sim_nets.specs.Flat.{IsFlat, HasNumber}
-use Rattle.sim_nets.specs.Edges.{table_at, base_at}
-use Rattle.sim_nets.proofs.Got.{got_left, got_behind}
-use Rattle.sim_nets.proofs.Standing.{module_of, table_of, number_low}
+use Rattle.sim_operations.specs.declared.gates.Pair.{Pair}
+use Rattle.sim_names.specs.declared.flat.Flat.{Flat}
+use Rattle.sim_names.specs.declared.tables.Table.{Table}
+use Rattle.sim_names.specs.Flat.{IsFlat, HasNumber}
+use Rattle.sim_names.specs.Edges.{table_at, base_at}
+use Rattle.sim_names.proofs.Got.{got_left, got_behind}
+use Rattle.sim_names.proofs.Standing.{module_of, table_of, number_low}
 use Rattle.sim_design.specs.declared.drafts.Width.{Width}
 use Rattle.sim_design.specs.Memories.{declaration_at, memory_pair, number_for, widths_for, IsMemoryAt, IsMemoryOf, AreNumbersBelow}
 use Rattle.sim_design.specs.Drafts.{AreMemories}

@@ -19,7 +19,7 @@ use Rattle.vlog_tree.specs.V3.{v3_uses, module_widths, item_widths, port_widths,
 use Rattle.vlog_tree.proofs.Lists.{has_flat, has_right}
 use Rattle.vlog_law_runs.proofs.Sound.{right, both_false, not_no, item_right, atom_read}
 use Rattle.vlog_law_runs.proofs.Sizes.{all_from, register_item}
-use Rattle.sim_tape.specs.declared.gates.Pair.{Pair}
+use Rattle.sim_operations.specs.declared.gates.Pair.{Pair}
 use Rattle.sim_lower.specs.Nets.{pair_in}
 use Rattle.sim_blocks.specs.Parts.{is_condition, has_conditions}
 use Rattle.sim_blocks.specs.Ready.{IsStepReady, IsReady}

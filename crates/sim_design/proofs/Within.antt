@@ -13,20 +13,20 @@ use Rattle.vlog_tree.specs.Flattened.{FlatNet}
 use Rattle.vlog_tree.specs.Table.{Name, declared, declaration_name, net_kind_of, net_kind_is_read, net_kind_is_register, net_kind_is_memory}
 use Rattle.vlog_tree.specs.Cycle.{Path, and_then, module_at}
 use Rattle.vlog_tree.proofs.Lists.{has_got}
-use Rattle.vlog_rules.specs.NameTable.{places_from}
+use Rattle.vlog_scope.specs.NameTable.{places_from}
 use Rattle.vlog_law_runs.proofs.Alike.{memory_is}
 use Rattle.vlog_law_runs.proofs.Sizes.{all_at, memory_item, register_item, declared_net_kind, has_line}
 use Rattle.vlog_law_runs.proofs.Settled.{module_in}
-use Rattle.sim_tape.specs.declared.gates.Pair.{Pair}
+use Rattle.sim_operations.specs.declared.gates.Pair.{Pair}
 use Rattle.sim_tape.specs.Tape.{TapeTree}
 use Rattle.sim_lower.specs.Nets.{pair_in}
 use Rattle.sim_blocks.specs.Next.{AreApart}
 use Rattle.sim_blocks.specs.Ready.{IsReady}
 use Rattle.sim_flat.specs.Instances.{StandsAt, IsModuleOf}
-use Rattle.sim_nets.specs.declared.flat.Flat.{Flat}
-use Rattle.sim_nets.specs.Places.{place_in, DeclaredAt}
-use Rattle.sim_nets.specs.Flat.{IsFlat, HasNumber}
-use Rattle.sim_nets.proofs.Standing.{module_of, in_top}
+use Rattle.sim_names.specs.declared.flat.Flat.{Flat}
+use Rattle.sim_names.specs.Places.{place_in, DeclaredAt}
+use Rattle.sim_names.specs.Flat.{IsFlat, HasNumber}
+use Rattle.sim_names.proofs.Standing.{module_of, in_top}
 use Rattle.sim_placed.specs.States.{IsFree}
 use Rattle.sim_placed.specs.Given.{HaveOwnSlots}
 use Rattle.sim_placed.proofs.Parts.{there, is_at}

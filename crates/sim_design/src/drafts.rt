@@ -6,7 +6,7 @@ ghost use Rattle.vlog_design.specs.Designs.{TopOf};
 ghost use Rattle.sim_tape.specs.Tape.{IsTape};
 ghost use Rattle.sim_tape.specs.Trees.{tree_of};
 ghost use Rattle.sim_lower.specs.Nets.{SlotsBefore};
-ghost use Rattle.sim_nets.specs.Flat.{IsFlat};
+ghost use Rattle.sim_names.specs.Flat.{IsFlat};
 ghost use Rattle.sim_placed.specs.States.{Tells};
 ghost use Rattle.sim_design.specs.Drafts.{IsDraft};
 ghost use Rattle.sim_design.specs.Below.{HasPlaces};
@@ -14,15 +14,17 @@ ghost use Rattle.sim_design.specs.Below.{HasPlaces};
 use crate::memories::memories_of;
 use crate::rows::add_next;
 use sim_blocks::Store;
-use sim_nets::{Flat, order_of_nets};
+use sim_names::Flat;
+use sim_nets::order_of_nets;
+use sim_operations::Pair;
 use sim_placed::{Plan, give_all, place_all};
-use sim_tape::{Pair, Tape};
+use sim_tape::Tape;
 use std::alloc::{AllocError, Global};
 use vlog_design::Design;
 
 /// A memory: the numbers of the lists with the low and the high halves of its cells, the bits of a cell, and how many there
 /// are.
-#[derive(Clone, Copy, PartialEq, Eq, Debug)]
+#[derive(Clone, Copy)]
 pub struct Width {
     pub pair: Pair,
     pub bits: u32,
@@ -30,7 +32,7 @@ pub struct Width {
 }
 
 /// A slot of a register, and the slot whose number it has in the next cycle.
-#[derive(Clone, Copy, PartialEq, Eq, Debug)]
+#[derive(Clone, Copy)]
 pub struct Commit {
     pub slot: u32,
     pub next: u32,

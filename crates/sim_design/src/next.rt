@@ -6,8 +6,8 @@ ghost use Rattle.sim_design.specs.Commits.{commits_of, commits_at, has_register,
 
 use crate::drafts::Commit;
 use sim_blocks::Store;
-use sim_nets::Table;
-use sim_tape::Pair;
+use sim_names::Table;
+use sim_operations::Pair;
 use std::alloc::AllocError;
 use vlog_tree::{Declaration, NetKind};
 

@@ -17,9 +17,10 @@ use crate::drafts::Draft;
 use crate::next::{add_commits, add_stores};
 use sim_blocks::{Blocks, blocks_of};
 use sim_lower::Nets;
-use sim_nets::{Flat, Table, base_at, table_at};
+use sim_names::{Flat, Table, base_at, table_at};
+use sim_operations::Pair;
 use sim_placed::part_of;
-use sim_tape::{Pair, Tape};
+use sim_tape::Tape;
 use std::alloc::{AllocError, Global};
 use vlog_tree::Module;
 

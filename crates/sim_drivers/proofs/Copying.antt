@@ -10,7 +10,7 @@ use Rattle.vlog_tree.specs.Cycle.{Cycle, Sizes, atom_value, atom_width, copies, 
 use Rattle.vlog_tree.specs.V3.{atom_bits, atom_fits}
 use Rattle.vlog_ref_driver.specs.Numbers.{fitting}
 use Rattle.vlog_ref_driver.proofs.Fits.{is_fit, is_large}
-use Rattle.sim_tape.specs.declared.gates.Pair.{Pair}
+use Rattle.sim_operations.specs.declared.gates.Pair.{Pair}
 use Rattle.sim_tape.specs.Tape.{pair_value}
 use Rattle.sim_lower.specs.Nets.{IsAtom}
 use Rattle.sim_lower.proofs.AtomSlots.{atom_range}

@@ -15,7 +15,7 @@ use Rattle.vlog_tree.specs.Table.{Name}
 use Rattle.vlog_tree.specs.V3.{atom_bits, atom_fits}
 use Rattle.vlog_tree.proofs.Lists.{has_left, has_right}
 use Rattle.vlog_tree.proofs.Walks.{opened, over}
-use Rattle.sim_tape.specs.declared.gates.Pair.{Pair}
+use Rattle.sim_operations.specs.declared.gates.Pair.{Pair}
 use Rattle.sim_tape.specs.Tape.{TapeTree, IsTape, Extends, PairBefore, pair_value}
 use Rattle.sim_tape.proofs.Growing.{extends_refl, extends_twice, solved_on}
 use Rattle.sim_lower.specs.Nets.{HavePairs, IsAtom, Told}

@@ -6,8 +6,8 @@ use Rattle.vlog_tree.specs.declared.table.Declaration.{Declaration}
 use Rattle.vlog_tree.specs.Cycle.{Cycle, Sizes, read_cell}
 use Rattle.vlog_tree.specs.Table.{Name, one_if, bits_of, cells_of}
 use Rattle.vlog_tree.specs.V3.{is_cell_count, is_width, memory_fits, net_fits}
-use Rattle.sim_tape.specs.declared.gates.Pair.{Pair}
-use Rattle.sim_tape.specs.Operators.{Cells, cell_in}
+use Rattle.sim_operations.specs.declared.gates.Pair.{Pair}
+use Rattle.sim_operations.specs.Operators.{Cells, cell_in}
 use Rattle.sim_tape.specs.Tape.{number_at, pair_value}
 use Rattle.sim_lower.specs.Nets.{ShowsMemories, ShowsNets, pair_in}
 use Rattle.sim_lower.proofs.Pairs.{fits_word, low_is}

@@ -7,7 +7,7 @@ use Rattle.vlog_tree.specs.declared.tree.BinaryOp.{BinaryOp}
 use Rattle.vlog_tree.specs.declared.tree.BinaryOp.TheVariants.{Minus}
 use Rattle.vlog_tree.specs.Cycle.{Cycle, Sizes, atom_value, op_value}
 use Rattle.vlog_tree.specs.V3.{atom_bits, atom_fits, has_bits, op_fits}
-use Rattle.sim_tape.specs.declared.gates.Pair.{Pair}
+use Rattle.sim_operations.specs.declared.gates.Pair.{Pair}
 use Rattle.sim_tape.specs.Tape.{number_at, pair_value}
 use Rattle.sim_lower.specs.Nets.{IsAtom}
 use Rattle.sim_lower.proofs.Pairs.{fits_word, low_is}

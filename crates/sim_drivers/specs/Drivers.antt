@@ -6,8 +6,8 @@ use Rattle.vlog_tree.specs.declared.tree.Value.TheVariants.{Plain, Invert, Binar
 use Rattle.vlog_tree.specs.Table.{Name}
 use Rattle.vlog_tree.specs.Cycle.{Cycle, Sizes, driven}
 use Rattle.vlog_tree.specs.Loops.{value_nets}
-use Rattle.sim_tape.specs.declared.gates.Pair.{Pair}
-use Rattle.sim_tape.specs.Operators.{Cells, cell_in}
+use Rattle.sim_operations.specs.declared.gates.Pair.{Pair}
+use Rattle.sim_operations.specs.Operators.{Cells, cell_in}
 use Rattle.sim_tape.specs.Tape.{TapeTree, pair_value}
 use Rattle.sim_tape.specs.Solved.{IsSolved}
 use Rattle.sim_lower.specs.Nets.{HavePairs, ShowsNets, ShowsMemories}

@@ -1,7 +1,7 @@
 // Cells of memories as drivers.
 
 ghost use Rattle.std.specs.Prelude.{◌≡◌, ◌^◌, ◌<◌, ◌≤◌, length, IfOk, IfSome, IsSome, IsTrue};
-ghost use Rattle.sim_tape.specs.Operators.{cell_in};
+ghost use Rattle.sim_operations.specs.Operators.{cell_in};
 ghost use Rattle.sim_tape.specs.Tape.{number_at, pair_value};
 ghost use Rattle.sim_tape.specs.Solved.{Says};
 ghost use Rattle.sim_drivers.specs.Drivers.{cell_at};
@@ -13,7 +13,8 @@ ghost use Rattle.sim_lower.specs.Nets.{SlotsBefore};
 ghost use Rattle.sim_drivers.specs.Drivers.{HasParts, IsDriven};
 
 use sim_lower::Nets;
-use sim_tape::{Operator, Pair, Tape};
+use sim_operations::{Operator, Pair};
+use sim_tape::Tape;
 use std::alloc::AllocError;
 use tapa_base::Text;
 

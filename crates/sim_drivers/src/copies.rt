@@ -12,7 +12,8 @@ ghost use Rattle.sim_drivers.specs.Drivers.{HasParts, IsDriven};
 
 use crate::operators::are_narrow;
 use sim_lower::{Nets, literal, pair_of_atom, pair_of_operator};
-use sim_tape::{Pair, Tape};
+use sim_operations::Pair;
+use sim_tape::Tape;
 use std::alloc::AllocError;
 use vlog_ref_driver::value_of;
 use vlog_tree::{Atom, BinaryOp, Value};

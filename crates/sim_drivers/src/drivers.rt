@@ -12,7 +12,8 @@ use crate::copies::pair_of_copies;
 use crate::joining::pair_of_concat;
 use crate::operators::{pair_of_binary, pair_of_choice, pair_of_inverse, pair_of_plain};
 use sim_lower::Nets;
-use sim_tape::{Pair, Tape};
+use sim_operations::Pair;
+use sim_tape::Tape;
 use std::alloc::AllocError;
 use vlog_tree::Value;
 

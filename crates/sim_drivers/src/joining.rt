@@ -14,12 +14,13 @@ ghost use Rattle.sim_lower.specs.Nets.{SlotsBefore};
 ghost use Rattle.sim_drivers.specs.Drivers.{HasParts, IsDriven};
 
 use sim_lower::{Nets, pair_of_atom, put_below};
-use sim_tape::{Pair, Tape};
+use sim_operations::Pair;
+use sim_tape::Tape;
 use std::alloc::AllocError;
 use vlog_tree::Atom;
 
 // Slots with what is put together, and how many bits it has.
-#[derive(Clone, Copy, PartialEq, Eq, Debug)]
+#[derive(Clone, Copy)]
 struct Front {
     pair: Pair,
     bits: u32,

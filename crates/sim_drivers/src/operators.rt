@@ -9,7 +9,8 @@ ghost use Rattle.sim_lower.specs.Nets.{SlotsBefore};
 ghost use Rattle.sim_drivers.specs.Drivers.{HasParts, IsDriven};
 
 use sim_lower::{Nets, choose, invert, pair_of_atom, pair_of_operator};
-use sim_tape::{Pair, Tape};
+use sim_operations::Pair;
+use sim_tape::Tape;
 use std::alloc::AllocError;
 use vlog_tree::{Atom, BinaryOp};
 

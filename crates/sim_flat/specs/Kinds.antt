@@ -7,7 +7,7 @@ use Rattle.vlog_tree.specs.declared.tree.Item.TheVariants.{Wire, Reg, Memory, As
 use Rattle.vlog_tree.specs.declared.table.Declaration.{Declaration}
 use Rattle.vlog_tree.specs.Form.{ModuleTree}
 use Rattle.vlog_tree.specs.Table.{Name, declaration_name}
-use Rattle.vlog_rules.specs.NameTable.{places_from}
+use Rattle.vlog_scope.specs.NameTable.{places_from}
 
 -- the first place of a name
 abbrev pub kind_place : List Declaration → Name → ℕ

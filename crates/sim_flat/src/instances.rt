@@ -13,12 +13,12 @@ use crate::kinds::{kinds_of, place_of};
 use std::alloc::{AllocError, Global};
 use tapa_base::Text;
 use vlog_design::Design;
-use vlog_rules::Scope;
+use vlog_scope::Scope;
 use vlog_tree::Module;
 
 /// An instance: the place of its module, and, but for the top, the number of the instance around it and its place among the
 /// instances there; and how many instances are around it.
-#[derive(Clone, Copy, PartialEq, Eq, Debug)]
+#[derive(Clone, Copy)]
 pub struct Instance {
     pub kind: usize,
     pub around: usize,

@@ -6,7 +6,7 @@ ghost use Rattle.sim_flat.specs.Kinds.{kind_place, item_kinds, module_kinds, all
 
 use std::alloc::{AllocError, Global};
 use tapa_base::Text;
-use vlog_rules::Scope;
+use vlog_scope::Scope;
 use vlog_tree::{Item, Module};
 
 /// The place of a module's name among those of all modules.

@@ -9,8 +9,8 @@ use Rattle.vlog_tree.specs.declared.tree.Atom.TheVariants.{Net, Part, Literal}
 use Rattle.vlog_tree.specs.Cycle.{Cycle, Sizes, and_then}
 use Rattle.vlog_tree.specs.Table.{Name, declaration_name, bits_of}
 use Rattle.vlog_tree.specs.V3.{is_width, net_fits, atom_bits, atom_fits}
-use Rattle.vlog_rules.specs.NameTable.{places_from}
-use Rattle.sim_tape.specs.declared.gates.Pair.{Pair}
+use Rattle.vlog_scope.specs.NameTable.{places_from}
+use Rattle.sim_operations.specs.declared.gates.Pair.{Pair}
 use Rattle.sim_tape.specs.Tape.{TapeTree, Extends, PairBefore, pair_value}
 use Rattle.sim_tape.proofs.Growing.{pair_later}
 use Rattle.sim_lower.specs.Nets.{IsAtom, ShowsNets, SlotsBefore, pair_in}

@@ -7,7 +7,7 @@ use Rattle.std.proofs.lemmas.Nat.{pow-add, and_mask, and_block, or_block, xor_bl
 use Rattle.vlog_tree.specs.declared.tree.BinaryOp.{BinaryOp}
 use Rattle.vlog_tree.specs.declared.tree.BinaryOp.TheVariants.{Plus, Minus, Times, Divide, Remainder, And, Or, Xor, ShiftLeft, ShiftRight, Equals, Differs, Less}
 use Rattle.vlog_tree.specs.Cycle.{op_value}
-use Rattle.sim_tape.specs.Operators.{Cells, operator_value}
+use Rattle.sim_operations.specs.Operators.{Cells, operator_value}
 use Rattle.sim_lower.specs.Operands.{narrow_of, IsBitwise}
 
 -- what is cut to 64 bits and then to fewer is cut to the fewer

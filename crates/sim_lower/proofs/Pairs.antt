@@ -6,9 +6,9 @@ use Rattle.std.proofs.lemmas.Nat.{shr_split, shr_high, shr_below}
 use Rattle.vlog_tree.specs.declared.tree.BinaryOp.{BinaryOp}
 use Rattle.vlog_tree.specs.declared.tree.BinaryOp.TheVariants.{Minus}
 use Rattle.vlog_tree.specs.Cycle.{op_value}
-use Rattle.sim_tape.specs.declared.gates.Operator.{Operator}
-use Rattle.sim_tape.specs.declared.gates.Pair.{Pair}
-use Rattle.sim_tape.specs.Operators.{Cells, operator_value}
+use Rattle.sim_operations.specs.declared.gates.Operator.{Operator}
+use Rattle.sim_operations.specs.declared.gates.Pair.{Pair}
+use Rattle.sim_operations.specs.Operators.{Cells, operator_value}
 use Rattle.sim_tape.specs.Tape.{TapeTree, IsTape, number_at, pair_value}
 use Rattle.sim_tape.specs.Solved.{IsSolved}
 use Rattle.sim_tape.proofs.Growing.{zero_says}

@@ -6,9 +6,9 @@ use Rattle.vlog_tree.specs.declared.tree.Atom.{Atom}
 use Rattle.vlog_tree.specs.Cycle.{Cycle, Sizes, and_then, atom_value, atom_width, read_cell}
 use Rattle.vlog_tree.specs.V3.{atom_bits, atom_fits}
 use Rattle.vlog_tree.specs.Grounded.{Has}
-use Rattle.vlog_rules.specs.NameTable.{places_from}
-use Rattle.sim_tape.specs.declared.gates.Pair.{Pair}
-use Rattle.sim_tape.specs.Operators.{Cells, cell_in}
+use Rattle.vlog_scope.specs.NameTable.{places_from}
+use Rattle.sim_operations.specs.declared.gates.Pair.{Pair}
+use Rattle.sim_operations.specs.Operators.{Cells, cell_in}
 use Rattle.sim_tape.specs.Tape.{TapeTree, pair_value, PairBefore}
 use Rattle.sim_tape.specs.Solved.{IsSolved}
 

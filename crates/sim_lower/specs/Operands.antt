@@ -1,8 +1,8 @@
 -- Which operator of a tape stands for which of the Verilog subset.
 use Rattle.vlog_tree.specs.declared.tree.BinaryOp.{BinaryOp}
 use Rattle.vlog_tree.specs.declared.tree.BinaryOp.TheVariants as binary
-use Rattle.sim_tape.specs.declared.gates.Operator.{Operator}
-use Rattle.sim_tape.specs.declared.gates.Operator.TheVariants as operator
+use Rattle.sim_operations.specs.declared.gates.Operator.{Operator}
+use Rattle.sim_operations.specs.declared.gates.Operator.TheVariants as operator
 
 abbrev pub narrow_of : BinaryOp → Operator
 narrow_of binary.Plus = operator.Plus

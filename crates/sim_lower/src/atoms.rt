@@ -10,7 +10,8 @@ ghost use Rattle.sim_tape.specs.Trees.{tree_of};
 ghost use Rattle.sim_lower.specs.Nets.{HavePairs, IsAtom, SlotsBefore, Told};
 
 use crate::nets::Nets;
-use sim_tape::{Operator, Pair, Tape};
+use sim_operations::{Operator, Pair};
+use sim_tape::Tape;
 use std::alloc::AllocError;
 use tapa_base::Text;
 use vlog_tree::{Atom, BinaryOp};

@@ -9,7 +9,8 @@ ghost use Rattle.sim_tape.specs.Trees.{tree_of};
 ghost use Rattle.sim_lower.specs.Operands.{narrow_of, IsBitwise};
 
 use crate::atoms::mask_of;
-use sim_tape::{Operator, Pair, Tape};
+use sim_operations::{Operator, Pair};
+use sim_tape::Tape;
 use std::alloc::AllocError;
 use vlog_tree::BinaryOp;
 

@@ -6,7 +6,8 @@ ghost use Rattle.sim_tape.specs.Solved.{Says};
 ghost use Rattle.sim_tape.specs.Trees.{tree_of};
 
 use crate::atoms::{literal, mask_of};
-use sim_tape::{Operator, Pair, Tape};
+use sim_operations::{Operator, Pair};
+use sim_tape::Tape;
 use std::alloc::AllocError;
 use vlog_tree::BinaryOp;
 

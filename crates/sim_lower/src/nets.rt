@@ -5,9 +5,9 @@ ghost use Rattle.vlog_tree.specs.Table.{bits_of};
 ghost use Rattle.vlog_tree.specs.V3.{atom_bits};
 ghost use Rattle.sim_lower.specs.Nets.{pair_in};
 
-use sim_tape::Pair;
+use sim_operations::Pair;
 use tapa_base::Text;
-use vlog_rules::Scope;
+use vlog_scope::Scope;
 use vlog_tree::Atom;
 
 /// The names of an instance's module, in their order the pairs of slots of those nets that have some, and for its memories

@@ -20,13 +20,13 @@ use Rattle.vlog_law_runs.proofs.Module.{name_declared}
 use Rattle.vlog_law_runs.proofs.TopPorts.{input_port, all_five, five_of}
 use Rattle.vlog_law_runs.proofs.Parts.{part_line, part_answer, driver_part}
 use Rattle.sim_flat.specs.Rows.{row_at}
-use Rattle.sim_nets.specs.declared.flat.Flat.{Flat}
-use Rattle.sim_nets.specs.Places.{DeclaredAt}
-use Rattle.sim_nets.specs.Flat.{IsFlat, IsNetAt, HasNumber}
+use Rattle.sim_names.specs.declared.flat.Flat.{Flat}
+use Rattle.sim_names.specs.Places.{DeclaredAt}
+use Rattle.sim_names.specs.Flat.{IsFlat, IsNetAt, HasNumber}
 use Rattle.sim_nets.specs.Order.{IsNetOrder, DriversComeFirst, AskedComeFirst}
-use Rattle.sim_nets.proofs.Names.{place_declared, place_found}
-use Rattle.sim_nets.proofs.Standing.{v2, in_top, module_of, top_low, top_is}
-use Rattle.sim_nets.proofs.Linked.{input_port_is}
+use Rattle.sim_names.proofs.Names.{place_declared, place_found}
+use Rattle.sim_names.proofs.Standing.{v2, in_top, module_of, top_low, top_is}
+use Rattle.sim_names.proofs.Linked.{input_port_is}
 
 -- an input that reads a memory asks by the port of the same label
 asked_has : (ports : List Declaration) (x label : Name) → net_kind_is_input (net_kind_of ports x) ≡ true → rdata_of x ≡ Some label → has_port ports (m_addr label) ≡ true → Has (asked_port ports x) (m_addr label)

@@ -25,15 +25,15 @@ use Rattle.vlog_law_runs.proofs.Parts.{part_line, part_outside, part_answer, dri
 use Rattle.vlog_law_runs.proofs.Cycles.{outside_has}
 use Rattle.sim_flat.specs.Rows.{row_at}
 use Rattle.sim_flat.specs.Instances.{StandsAt, IsModuleOf}
-use Rattle.sim_nets.specs.declared.flat.Flat.{Flat}
-use Rattle.sim_nets.specs.declared.tables.Table.{Table}
-use Rattle.sim_nets.specs.Places.{number_in, both}
-use Rattle.sim_nets.specs.Flat.{IsFlat, HasNumber}
-use Rattle.sim_nets.specs.Edges.{lines_at, base_at, net_edges, assign_edges, own_edges, connection_edge, join_edges, answer_edges, edges_below, instance_edges, top_answers, all_edges}
-use Rattle.sim_nets.proofs.Names.{of_both, is_both, of_edge, has_edge}
-use Rattle.sim_nets.proofs.Ports.{direction_same}
-use Rattle.sim_nets.proofs.Standing.{v2, number_is, net_is, table_of, lines_are, module_of, top_low, top_is, IsInner, inner_of, joins_are}
-use Rattle.sim_nets.proofs.Edging.{of_net_edges, has_net_edges, of_below, has_below}
+use Rattle.sim_names.specs.declared.flat.Flat.{Flat}
+use Rattle.sim_names.specs.declared.tables.Table.{Table}
+use Rattle.sim_names.specs.Places.{number_in, both}
+use Rattle.sim_names.specs.Flat.{IsFlat, HasNumber}
+use Rattle.sim_names.specs.Edges.{lines_at, base_at, net_edges, assign_edges, own_edges, connection_edge, join_edges, answer_edges, edges_below, instance_edges, top_answers, all_edges}
+use Rattle.sim_names.proofs.Names.{of_both, is_both, of_edge, has_edge}
+use Rattle.sim_names.proofs.Ports.{direction_same}
+use Rattle.sim_names.proofs.Standing.{v2, number_is, net_is, table_of, lines_are, module_of, top_low, top_is, IsInner, inner_of, joins_are}
+use Rattle.sim_edges.proofs.Edging.{of_net_edges, has_net_edges, of_below, has_below}
 
 -- an edge leads from a net to one that it has its number from
 pub record IsPartEdge (ms : List ModuleTree) (top : ModuleTree) (f : Flat) (p q : ℕ) : Type 0 where

@@ -1,13 +1,3 @@
-pub mod Got
-pub mod Names
-pub mod Ports
-pub mod Writes
-pub mod Tabled
-pub mod Tabling
-pub mod Counted
-pub mod Standing
-pub mod Edging
 pub mod Edged
-pub mod Linked
 pub mod Ordered
 pub mod Earlier

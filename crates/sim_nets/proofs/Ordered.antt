@@ -8,11 +8,11 @@ use Rattle.vlog_tree.specs.Flattened.{FlatNet, parts}
 use Rattle.vlog_tree.proofs.Grounds.{no_loop}
 use Rattle.vlog_graph.specs.Graphs.{Adjacency, Steps, IsOrder}
 use Rattle.vlog_law_runs.proofs.Settled.{design_settles}
-use Rattle.sim_nets.specs.declared.flat.Flat.{Flat}
-use Rattle.sim_nets.specs.Flat.{IsFlat, HasNumber}
+use Rattle.sim_names.specs.declared.flat.Flat.{Flat}
+use Rattle.sim_names.specs.Flat.{IsFlat, HasNumber}
 use Rattle.sim_nets.specs.Order.{IsNetOrder}
-use Rattle.sim_nets.specs.Edges.{all_edges}
-use Rattle.sim_nets.proofs.Standing.{net_single, number_low}
+use Rattle.sim_names.specs.Edges.{all_edges}
+use Rattle.sim_names.proofs.Standing.{net_single, number_low}
 use Rattle.sim_nets.proofs.Edged.{IsPartEdge, edges_sound, edges_complete}
 
 module _ (ms : List ModuleTree) (top : ModuleTree) (f : Flat) (flat : IsFlat ms top f) where

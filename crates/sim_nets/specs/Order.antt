@@ -9,9 +9,9 @@ use Rattle.vlog_tree.specs.Table.{Name, declared, net_kind_of}
 use Rattle.vlog_tree.specs.Labels.{rdata_of, m_addr}
 use Rattle.vlog_tree.specs.Loops.{value_nets}
 use Rattle.vlog_tree.specs.Flattened.{FlatNet, parts}
-use Rattle.sim_nets.specs.declared.flat.Flat.{Flat}
-use Rattle.sim_nets.specs.Places.{DeclaredAt}
-use Rattle.sim_nets.specs.Flat.{IsFlat, IsNetAt, HasNumber}
+use Rattle.sim_names.specs.declared.flat.Flat.{Flat}
+use Rattle.sim_names.specs.Places.{DeclaredAt}
+use Rattle.sim_names.specs.Flat.{IsFlat, IsNetAt, HasNumber}
 
 -- the numbers of all nets, each once, and after those of all nets that its net has its number from in the same cycle
 pub record IsNetOrder (ms : List ModuleTree) (top : ModuleTree) (f : Flat) (order : List ℕ) : Type 0 where

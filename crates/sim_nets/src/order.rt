@@ -3,17 +3,17 @@
 ghost use Rattle.std.specs.Prelude.{◌≡◌, ◌++◌, IfOk, OnOk, length};
 ghost use Rattle.vlog_tree.specs.Form.{ModuleTree};
 ghost use Rattle.vlog_design.specs.Designs.{TopOf};
-ghost use Rattle.sim_nets.specs.Flat.{IsFlat};
+ghost use Rattle.sim_names.specs.Flat.{IsFlat};
 ghost use Rattle.sim_nets.specs.Order.{IsNetOrder};
-ghost use Rattle.sim_nets.specs.Edges.{lines_at as lines_lem, connections_of as connections_lem, connections_in as connections_in_lem, NumbersFit, own_edges, joins_in, join_edges, instance_edges, edges_below, top_answers, all_edges};
+ghost use Rattle.sim_names.specs.Edges.{lines_at as lines_lem, connections_of as connections_lem, connections_in as connections_in_lem, NumbersFit, own_edges, joins_in, join_edges, instance_edges, edges_below, top_answers, all_edges};
 
-use crate::edges::{Edges, add_answers, add_assigns, add_connections};
-use crate::flat::{Flat, base_at, table_at};
+use sim_edges::{Edges, add_answers, add_assigns, add_connections};
 use sim_flat::Instance;
+use sim_names::{Flat, base_at, table_at};
 use std::alloc::{AllocError, Global};
 use vlog_design::Design;
 use vlog_graph::{Graph, Order, order_of};
-use vlog_rules::Scope;
+use vlog_scope::Scope;
 use vlog_tree::{Connection, Item, Module};
 
 // The lines of an instance's module.

@@ -17,8 +17,8 @@ use Rattle.vlog_tree.specs.Table.{Name, declared, port_declared, items_declared,
 use Rattle.vlog_tree.specs.V6.{v6_uses, is_top, port_fits, addr_fits, wdata_fits, we_fits, has_all_five, is_out, has_port}
 use Rattle.vlog_tree.specs.Environment.{shape_of, memory_label}
 use Rattle.vlog_tree.proofs.Lists.{of_map, has_map, has_flat, got_has}
-use Rattle.vlog_rules.proofs.Found.{missing}
-use Rattle.vlog_rules.specs.NameTable.{places_from}
+use Rattle.vlog_scope.proofs.Found.{missing}
+use Rattle.vlog_scope.specs.NameTable.{places_from}
 use Rattle.vlog_law_runs.proofs.Sound.{both_true, true_not_false}
 use Rattle.vlog_law_runs.proofs.Parts.{part_answer}
 use Rattle.vlog_law_runs.proofs.Sizes.{found_name}
@@ -26,15 +26,15 @@ use Rattle.vlog_law_runs.proofs.Cycles.{port_stands}
 use Rattle.vlog_law_runs.proofs.Labelled.{label_of, ack_of_label, rdata_of_label}
 use Rattle.vlog_law_runs.proofs.TopPorts.{memory_clock, port_right, five_of}
 use Rattle.vlog_law_runs.proofs.Settled.{top_tree}
-use Rattle.sim_tape.specs.declared.gates.Pair.{Pair}
-use Rattle.sim_tape.specs.Operators.{Cells, cell_in}
+use Rattle.sim_operations.specs.declared.gates.Pair.{Pair}
+use Rattle.sim_operations.specs.Operators.{Cells, cell_in}
 use Rattle.sim_tape.specs.Tape.{TapeTree, IsTape, number_at, pair_value}
 use Rattle.sim_tape.specs.Solved.{IsSolved}
 use Rattle.sim_lower.proofs.Pairs.{single, low_is}
-use Rattle.sim_nets.specs.declared.flat.Flat.{Flat}
-use Rattle.sim_nets.specs.Flat.{IsFlat, HasNumber}
-use Rattle.sim_nets.proofs.Standing.{top_low, top_is}
-use Rattle.sim_nets.proofs.Linked.{input_port_is}
+use Rattle.sim_names.specs.declared.flat.Flat.{Flat}
+use Rattle.sim_names.specs.Flat.{IsFlat, HasNumber}
+use Rattle.sim_names.proofs.Standing.{top_low, top_is}
+use Rattle.sim_names.proofs.Linked.{input_port_is}
 use Rattle.sim_placed.specs.States.{IsTold, PartsPlaced}
 use Rattle.sim_placed.specs.Lines.{IsLabelAt}
 use Rattle.sim_placed.proofs.Parts.{numbered, declared_here}

@@ -18,16 +18,16 @@ use Rattle.vlog_law_runs.proofs.Sizes.{all_at, width_held}
 use Rattle.vlog_law_runs.proofs.Sound.{assign_driven, assign_reads, assign_cell}
 use Rattle.vlog_law_runs.proofs.Settled.{module_in}
 use Rattle.vlog_law_widths.proofs.Ruled.{assign_width, net_width}
-use Rattle.sim_tape.specs.declared.gates.Pair.{Pair}
+use Rattle.sim_operations.specs.declared.gates.Pair.{Pair}
 use Rattle.sim_tape.specs.Tape.{TapeTree}
 use Rattle.vlog_law_runs.proofs.Alike.{memory_is}
 use Rattle.vlog_law_runs.proofs.Parts.{part_line, driver_part}
 use Rattle.sim_lower.specs.Nets.{pair_in, HavePairs}
 use Rattle.sim_drivers.specs.Drivers.{HasParts, IsDriven, value_memories}
 use Rattle.sim_flat.specs.Instances.{StandsAt, IsModuleOf}
-use Rattle.sim_nets.specs.declared.flat.Flat.{Flat}
-use Rattle.sim_nets.specs.Flat.{IsFlat}
-use Rattle.sim_nets.proofs.Standing.{module_of}
+use Rattle.sim_names.specs.declared.flat.Flat.{Flat}
+use Rattle.sim_names.specs.Flat.{IsFlat}
+use Rattle.sim_names.proofs.Standing.{module_of}
 use Rattle.sim_placed.specs.Valuations.{IsLawful}
 use Rattle.sim_placed.specs.States.{AreRead, AreMemories, MemoriesPlaced, PartsPlaced, IsTold}
 use Rattle.sim_placed.proofs.Parts.{base, part, there, shows_nets, shows_memories}

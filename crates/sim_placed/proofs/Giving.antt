@@ -9,15 +9,15 @@ use Rattle.vlog_tree.specs.Cycle.{module_at}
 use Rattle.vlog_tree.specs.Table.{is_clk, declared, net_kind_of, net_kind_is_read, bits_of}
 use Rattle.std.proofs.lemmas.Option.{same_Some}
 use Rattle.vlog_ref_start.proofs.Found.{some_of}
-use Rattle.sim_tape.specs.declared.gates.Pair.{Pair}
-use Rattle.sim_tape.specs.declared.gates.Gate.{Gate}
-use Rattle.sim_tape.specs.declared.gates.Rule.TheVariants.{Given, Constant}
+use Rattle.sim_operations.specs.declared.gates.Pair.{Pair}
+use Rattle.sim_operations.specs.declared.gates.Gate.{Gate}
+use Rattle.sim_operations.specs.declared.gates.Rule.TheVariants.{Given, Constant}
 use Rattle.sim_tape.specs.Tape.{TapeTree, IsTape, Extends, PairBefore, gate_at}
 use Rattle.sim_tape.proofs.Growing.{pair_later, slot_on}
 use Rattle.sim_lower.specs.Nets.{SlotsBefore}
 use Rattle.sim_lower.proofs.AtomSlots.{some_is}
-use Rattle.sim_nets.specs.declared.flat.Flat.{Flat}
-use Rattle.sim_nets.specs.Flat.{HasNumber}
+use Rattle.sim_names.specs.declared.flat.Flat.{Flat}
+use Rattle.sim_names.specs.Flat.{HasNumber}
 use Rattle.sim_placed.specs.States.{IsFree, AreRead}
 use Rattle.sim_placed.specs.Placed.{AreFree, AllFree, AreKept}
 use Rattle.sim_placed.specs.Given.{IsGivenSlot, IsGivenPair, HaveOwnSlots, IsBehind, HaveOwn, IsGivenNet, AreGivenNets, AreGiven}

@@ -8,11 +8,11 @@ use Rattle.vlog_tree.specs.Form.{ModuleTree}
 use Rattle.vlog_tree.specs.Flattened.{FlatNet}
 use Rattle.vlog_tree.specs.Cycle.{Cycle, Path, Connected}
 use Rattle.vlog_law_runs.proofs.Sizes.{all_at}
-use Rattle.sim_tape.specs.declared.gates.Pair.{Pair}
+use Rattle.sim_operations.specs.declared.gates.Pair.{Pair}
 use Rattle.sim_tape.specs.Tape.{pair_value}
 use Rattle.sim_lower.proofs.AtomSlots.{each_is}
-use Rattle.sim_nets.specs.declared.flat.Flat.{Flat}
-use Rattle.sim_nets.specs.Flat.{AreJoined, IsLink}
+use Rattle.sim_names.specs.declared.flat.Flat.{Flat}
+use Rattle.sim_names.specs.Flat.{AreJoined, IsLink}
 use Rattle.sim_placed.specs.Valuations.{IsValuation}
 use Rattle.sim_placed.specs.States.{ShowsPlaced, PartsPlaced}
 

@@ -21,14 +21,14 @@ use Rattle.vlog_law_runs.proofs.Labelled.{rdata_label}
 use Rattle.vlog_law_runs.proofs.TopPorts.{input_port, all_five}
 use Rattle.vlog_tree.proofs.Lists.{has_got}
 use Rattle.sim_flat.specs.Instances.{StandsAt, IsModuleOf}
-use Rattle.sim_nets.specs.declared.flat.Flat.{Flat}
-use Rattle.sim_nets.specs.declared.tables.Source.{Source}
-use Rattle.sim_nets.specs.declared.tables.Source.TheVariants as source
-use Rattle.sim_nets.specs.declared.tables.Table.{Table}
-use Rattle.sim_nets.specs.Tables.{IsSource, IsTable}
-use Rattle.sim_nets.specs.Flat.{IsFlat, IsNetAt, HasNumber}
-use Rattle.sim_nets.specs.Edges.{table_at, lines_at}
-use Rattle.sim_nets.proofs.Standing.{module_of, table_of, lines_are, top_is}
+use Rattle.sim_names.specs.declared.flat.Flat.{Flat}
+use Rattle.sim_names.specs.declared.tables.Source.{Source}
+use Rattle.sim_names.specs.declared.tables.Source.TheVariants as source
+use Rattle.sim_names.specs.declared.tables.Table.{Table}
+use Rattle.sim_names.specs.Tables.{IsSource, IsTable}
+use Rattle.sim_names.specs.Flat.{IsFlat, IsNetAt, HasNumber}
+use Rattle.sim_names.specs.Edges.{table_at, lines_at}
+use Rattle.sim_names.proofs.Standing.{module_of, table_of, lines_are, top_is}
 use Rattle.sim_placed.specs.declared.driven.Spot.{Spot}
 use Rattle.sim_placed.specs.Lines.{IsLine}
 use Rattle.sim_placed.specs.Placed.{CanBeRead}
@@ -37,7 +37,7 @@ use Rattle.sim_placed.specs.Plans.{IsAtSpot}
 use Rattle.sim_placed.specs.States.{IsFree}
 use Rattle.sim_placed.specs.Given.{IsGivenPair, IsFreeSource, IsGivenNet}
 use Rattle.sim_tape.specs.Tape.{TapeTree}
-use Rattle.sim_tape.specs.declared.gates.Pair.{Pair}
+use Rattle.sim_operations.specs.declared.gates.Pair.{Pair}
 
 register_no_input : kind.Register ≡ kind.Input → ⊥
 register_no_input e = cc

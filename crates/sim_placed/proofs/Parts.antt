@@ -14,18 +14,18 @@ use Rattle.vlog_tree.specs.Grounded.{Has}
 use Rattle.vlog_tree.specs.Table.{Name, declared, declaration_name, find_name, unknown, net_kind_of, net_kind_is_read, bits_of, cells_of, first_violation}
 use Rattle.vlog_tree.specs.V2.{v2_uses}
 use Rattle.vlog_tree.specs.Cycle.{Cycle, Sizes, Path, Holds, and_then, module_at, read_cell}
-use Rattle.vlog_rules.specs.NameTable.{places_from}
-use Rattle.vlog_rules.proofs.Found.{found, missing, within}
+use Rattle.vlog_scope.specs.NameTable.{places_from}
+use Rattle.vlog_scope.proofs.Found.{found, missing, within}
 use Rattle.vlog_law_runs.proofs.Alone.{stands_for}
 use Rattle.vlog_law_runs.proofs.Sizes.{all_at, memory_item, has_line, width_held}
-use Rattle.sim_tape.specs.declared.gates.Pair.{Pair}
-use Rattle.sim_tape.specs.Operators.{Cells}
+use Rattle.sim_operations.specs.declared.gates.Pair.{Pair}
+use Rattle.sim_operations.specs.Operators.{Cells}
 use Rattle.sim_lower.specs.Nets.{pair_in, ShowsNets, ShowsMemories}
 use Rattle.sim_blocks.proofs.Putting.{named}
 use Rattle.sim_flat.specs.Instances.{StandsAt, IsModuleOf}
-use Rattle.sim_nets.specs.declared.flat.Flat.{Flat}
-use Rattle.sim_nets.specs.Places.{DeclaredAt}
-use Rattle.sim_nets.specs.Flat.{HasNumber}
+use Rattle.sim_names.specs.declared.flat.Flat.{Flat}
+use Rattle.sim_names.specs.Places.{DeclaredAt}
+use Rattle.sim_names.specs.Flat.{HasNumber}
 use Rattle.sim_placed.specs.Valuations.{IsLawful, IsValuation}
 use Rattle.sim_placed.specs.States.{ShowsPlaced, ShowsCells, AreRead, AreMemories}
 

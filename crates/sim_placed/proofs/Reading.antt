@@ -25,9 +25,9 @@ use Rattle.vlog_law_runs.proofs.Settled.{outside, answers, asked_address, joined
 use Rattle.vlog_law_runs.proofs.Cycles.{port_net_kind_declared}
 use Rattle.vlog_law_runs.proofs.TopPorts.{clock_joined, asked_declared}
 use Rattle.vlog_law_runs.proofs.Solved.{module_around}
-use Rattle.sim_tape.specs.declared.gates.Pair.{Pair}
-use Rattle.sim_nets.specs.declared.flat.Flat.{Flat}
-use Rattle.sim_nets.specs.Flat.{HasNumber}
+use Rattle.sim_operations.specs.declared.gates.Pair.{Pair}
+use Rattle.sim_names.specs.declared.flat.Flat.{Flat}
+use Rattle.sim_names.specs.Flat.{HasNumber}
 use Rattle.sim_nets.specs.Order.{IsNetOrder}
 use Rattle.sim_placed.specs.States.{PartsPlaced}
 use Rattle.sim_placed.specs.Placed.{CanBeRead}

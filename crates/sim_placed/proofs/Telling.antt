@@ -8,13 +8,13 @@ use Rattle.vlog_tree.specs.Form.{ModuleTree}
 use Rattle.vlog_tree.specs.Flattened.{FlatNet}
 use Rattle.vlog_tree.specs.Cycle.{module_at}
 use Rattle.vlog_tree.specs.Table.{is_clk, declared, net_kind_of, net_kind_is_read}
-use Rattle.sim_tape.specs.declared.gates.Pair.{Pair}
+use Rattle.sim_operations.specs.declared.gates.Pair.{Pair}
 use Rattle.sim_tape.specs.Tape.{TapeTree, Extends, PairBefore}
 use Rattle.sim_tape.proofs.Growing.{solved_on, pair_later}
 use Rattle.sim_lower.specs.Nets.{SlotsBefore}
 use Rattle.sim_lower.proofs.AtomSlots.{some_is}
-use Rattle.sim_nets.specs.declared.flat.Flat.{Flat}
-use Rattle.sim_nets.specs.Flat.{HasNumber}
+use Rattle.sim_names.specs.declared.flat.Flat.{Flat}
+use Rattle.sim_names.specs.Flat.{HasNumber}
 use Rattle.sim_placed.specs.States.{IsTold, AreRead, Tells}
 use Rattle.sim_placed.specs.Placed.{AreFree, AllFree, AreKept, ArePlacedMore}
 use Rattle.vlog_law_runs.proofs.Sound.{true_not_false}

@@ -4,13 +4,13 @@ use Rattle.vlog_tree.specs.Form.{ModuleTree}
 use Rattle.vlog_tree.specs.Flattened.{FlatNet}
 use Rattle.vlog_tree.specs.Table.{Name, is_clk, declared, net_kind_of, net_kind_is_read, bits_of}
 use Rattle.vlog_tree.specs.Cycle.{module_at}
-use Rattle.sim_tape.specs.declared.gates.Pair.{Pair}
-use Rattle.sim_tape.specs.declared.gates.Rule.TheVariants.{Given}
+use Rattle.sim_operations.specs.declared.gates.Pair.{Pair}
+use Rattle.sim_operations.specs.declared.gates.Rule.TheVariants.{Given}
 use Rattle.sim_tape.specs.Tape.{TapeTree, gate_at}
-use Rattle.sim_nets.specs.declared.flat.Flat.{Flat}
-use Rattle.sim_nets.specs.Flat.{HasNumber}
-use Rattle.sim_nets.specs.declared.tables.Source.{Source}
-use Rattle.sim_nets.specs.declared.tables.Source.TheVariants as source
+use Rattle.sim_names.specs.declared.flat.Flat.{Flat}
+use Rattle.sim_names.specs.Flat.{HasNumber}
+use Rattle.sim_names.specs.declared.tables.Source.{Source}
+use Rattle.sim_names.specs.declared.tables.Source.TheVariants as source
 use Rattle.vlog_tree.specs.Labels.{rdata_of}
 use Rattle.sim_placed.specs.States.{IsFree}
 

@@ -9,7 +9,7 @@ use Rattle.vlog_tree.specs.Grounded.{Has}
 use Rattle.vlog_tree.specs.Cycle.{Path}
 use Rattle.vlog_tree.specs.Table.{Name, declared, bits_of}
 use Rattle.sim_flat.specs.Instances.{StandsAt, IsModuleOf}
-use Rattle.sim_nets.specs.declared.flat.Flat.{Flat}
+use Rattle.sim_names.specs.declared.flat.Flat.{Flat}
 use Rattle.sim_placed.specs.declared.driven.Spot.{Spot}
 
 -- in the instance of a module that stands here, a line drives a net of so many bits

@@ -3,10 +3,10 @@ use Rattle.std.specs.Prelude.{◌≡◌, ℕ, List, length, get_or}
 use Rattle.vlog_tree.specs.Form.{ModuleTree}
 use Rattle.vlog_tree.specs.Flattened.{FlatNet}
 use Rattle.vlog_tree.specs.Environment.{shape_of}
-use Rattle.sim_nets.specs.declared.flat.Flat.{Flat}
-use Rattle.sim_nets.specs.declared.tables.Table.{Table}
-use Rattle.sim_nets.specs.Tables.{IsTable}
-use Rattle.sim_nets.specs.Flat.{IsFlat, IsNetAt}
+use Rattle.sim_names.specs.declared.flat.Flat.{Flat}
+use Rattle.sim_names.specs.declared.tables.Table.{Table}
+use Rattle.sim_names.specs.Tables.{IsTable}
+use Rattle.sim_names.specs.Flat.{IsFlat, IsNetAt}
 use Rattle.sim_placed.specs.declared.driven.Spot.{Spot}
 use Rattle.sim_placed.specs.declared.plan.Plan.{Plan}
 use Rattle.sim_placed.specs.States.{AreMemories, MemoriesPlaced}

@@ -10,12 +10,12 @@ use Rattle.vlog_tree.specs.Labels.{rdata_of, m_rdata, m_addr}
 use Rattle.vlog_tree.specs.Table.{Name, is_clk, declared, net_kind_of, net_kind_is_read}
 use Rattle.vlog_tree.specs.Cycle.{Cycle, Path, module_at}
 use Rattle.vlog_tree.specs.Environment.{shape_of}
-use Rattle.sim_tape.specs.declared.gates.Pair.{Pair}
-use Rattle.sim_tape.specs.Operators.{Cells, cell_in}
+use Rattle.sim_operations.specs.declared.gates.Pair.{Pair}
+use Rattle.sim_operations.specs.Operators.{Cells, cell_in}
 use Rattle.sim_tape.specs.Tape.{TapeTree, pair_value}
 use Rattle.sim_tape.specs.Solved.{IsSolved}
-use Rattle.sim_nets.specs.declared.flat.Flat.{Flat}
-use Rattle.sim_nets.specs.Flat.{HasNumber}
+use Rattle.sim_names.specs.declared.flat.Flat.{Flat}
+use Rattle.sim_names.specs.Flat.{HasNumber}
 use Rattle.sim_placed.specs.Valuations.{IsValuation}
 
 -- a net that has its number from no other in the same cycle: a register, or an input of the top but what a memory answers

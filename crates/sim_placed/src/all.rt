@@ -2,21 +2,22 @@
 
 ghost use Rattle.std.specs.Prelude.{◌≡◌, ℕ, List, Some, None, length, get_or, is_some, IsSome, OnOk};
 ghost use Rattle.vlog_tree.specs.Form.{ModuleTree};
-ghost use Rattle.sim_tape.specs.declared.gates.Pair.{Pair as PairTree};
+ghost use Rattle.sim_operations.specs.declared.gates.Pair.{Pair as PairTree};
 ghost use Rattle.sim_tape.specs.Tape.{Extends, IsTape};
 ghost use Rattle.sim_tape.specs.Trees.{tree_of};
 ghost use Rattle.sim_lower.specs.Nets.{SlotsBefore};
 ghost use Rattle.sim_placed.specs.Plans.{IsPlan};
 ghost use Rattle.sim_placed.specs.States.{AreRead, PartsPlaced, Tells};
 ghost use Rattle.vlog_tree.specs.Flattened.{FlatNet};
-ghost use Rattle.sim_nets.specs.Flat.{HasNumber};
+ghost use Rattle.sim_names.specs.Flat.{HasNumber};
 ghost use Rattle.sim_nets.specs.Order.{IsNetOrder};
 ghost use Rattle.sim_placed.specs.Given.{ArePlaced, AreGiven, AreGivenNets, HaveOwn};
 ghost use Rattle.sim_placed.specs.Placed.{AreFree, AllFree, CanBeRead, ArePlacedMore, AreKept};
 
 use crate::net::place_net;
 use crate::plan::Plan;
-use sim_tape::{Pair, Tape};
+use sim_operations::Pair;
+use sim_tape::Tape;
 use std::alloc::{AllocError, Global};
 
 fn is_placed(pairs: &[Option<Pair>], number: usize) -> bool

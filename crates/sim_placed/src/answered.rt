@@ -8,20 +8,21 @@ ghost use Rattle.vlog_tree.specs.Labels.{m_addr, m_rdata};
 ghost use Rattle.vlog_tree.specs.Table.{declared, port_declared};
 ghost use Rattle.vlog_tree.specs.V6.{has_all_five};
 ghost use Rattle.vlog_tree.specs.Environment.{shape_of};
-ghost use Rattle.sim_tape.specs.declared.gates.Pair.{Pair as PairTree};
+ghost use Rattle.sim_operations.specs.declared.gates.Pair.{Pair as PairTree};
 ghost use Rattle.sim_tape.specs.Tape.{Extends, IsTape, PairBefore};
 ghost use Rattle.sim_tape.specs.Trees.{tree_of};
 ghost use Rattle.sim_lower.specs.Nets.{SlotsBefore};
-ghost use Rattle.sim_nets.specs.declared.flat.Flat.{Flat as FlatTree};
-ghost use Rattle.sim_nets.specs.Flat.{IsFlat, HasNumber};
+ghost use Rattle.sim_names.specs.declared.flat.Flat.{Flat as FlatTree};
+ghost use Rattle.sim_names.specs.Flat.{IsFlat, HasNumber};
 ghost use Rattle.sim_placed.specs.States.{IsTold};
 ghost use Rattle.sim_placed.specs.Lines.{IsLabelAt};
 
 use crate::slices::pair_of;
-use sim_tape::{Operator, Pair, Tape};
+use sim_operations::{Operator, Pair};
+use sim_tape::Tape;
 use std::alloc::{AllocError, Global};
 use tapa_base::{Port, Text};
-use vlog_rules::Scope;
+use vlog_scope::Scope;
 use vlog_tree::addr_name;
 
 // The place of a label.

@@ -7,21 +7,22 @@ ghost use Rattle.vlog_tree.specs.Table.{Name};
 ghost use Rattle.sim_tape.specs.Tape.{Extends, IsTape, PairBefore};
 ghost use Rattle.sim_tape.specs.Trees.{tree_of};
 ghost use Rattle.sim_lower.specs.Nets.{SlotsBefore};
-ghost use Rattle.sim_nets.specs.Flat.{IsFlat};
+ghost use Rattle.sim_names.specs.Flat.{IsFlat};
 ghost use Rattle.sim_placed.specs.States.{AreRead, AreMemories, MemoriesPlaced, PartsPlaced, IsTold};
 ghost use Rattle.sim_placed.specs.Lines.{IsLine};
 
 use crate::slices::part_of;
 use sim_drivers::pair_of_driver;
 use sim_lower::Nets;
-use sim_nets::Flat;
-use sim_tape::{Pair, Tape};
+use sim_names::Flat;
+use sim_operations::Pair;
+use sim_tape::Tape;
 use std::alloc::AllocError;
-use vlog_rules::Scope;
+use vlog_scope::Scope;
 use vlog_tree::Value;
 
 /// Where an instance stands in a flattened design: its number, and that of its first net.
-#[derive(Clone, Copy, PartialEq, Eq, Debug)]
+#[derive(Clone, Copy)]
 pub struct Spot {
     pub instance: usize,
     pub base: usize,

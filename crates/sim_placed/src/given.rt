@@ -6,7 +6,7 @@ ghost use Rattle.vlog_tree.specs.Flattened.{FlatNet};
 ghost use Rattle.sim_tape.specs.Tape.{Extends, IsTape, PairBefore};
 ghost use Rattle.sim_tape.specs.Trees.{tree_of};
 ghost use Rattle.sim_lower.specs.Nets.{SlotsBefore};
-ghost use Rattle.sim_nets.specs.Flat.{IsFlat, HasNumber};
+ghost use Rattle.sim_names.specs.Flat.{IsFlat, HasNumber};
 ghost use Rattle.vlog_tree.specs.Table.{is_clk};
 ghost use Rattle.sim_placed.specs.States.{IsFree};
 ghost use Rattle.sim_placed.specs.Placed.{AllFree};
@@ -14,8 +14,9 @@ ghost use Rattle.sim_placed.specs.Given.{IsGivenPair, IsBehind, HaveOwn, IsFreeS
 
 use crate::net::name_at;
 use crate::plan::source_at;
-use sim_nets::{Flat, Source, base_at, owner_of, table_at};
-use sim_tape::{Pair, Tape};
+use sim_names::{Flat, Source, base_at, owner_of, table_at};
+use sim_operations::Pair;
+use sim_tape::Tape;
 use std::alloc::{AllocError, Global};
 use vlog_rules::is_clock;
 use vlog_tree::{Declaration, rdata_of};

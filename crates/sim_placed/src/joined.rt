@@ -7,14 +7,14 @@ ghost use Rattle.vlog_tree.specs.Cycle.{Cycle, Path};
 ghost use Rattle.vlog_tree.specs.Table.{declared, net_kind_of, net_kind_is_input};
 ghost use Rattle.sim_tape.specs.Tape.{pair_value, PairBefore};
 ghost use Rattle.sim_lower.specs.Nets.{SlotsBefore};
-ghost use Rattle.sim_nets.specs.Tables.{IsDrivenByPort};
-ghost use Rattle.sim_nets.specs.Flat.{IsFlat, IsNetAt};
+ghost use Rattle.sim_names.specs.Tables.{IsDrivenByPort};
+ghost use Rattle.sim_names.specs.Flat.{IsFlat, IsNetAt};
 ghost use Rattle.sim_placed.specs.Valuations.{IsValuation};
 ghost use Rattle.sim_placed.specs.States.{ShowsPlaced, PartsPlaced};
 
 use crate::slices::pair_of;
-use sim_nets::{Flat, net_around, net_inside};
-use sim_tape::Pair;
+use sim_names::{Flat, net_around, net_inside};
+use sim_operations::Pair;
 
 /// The pair of an input of an instance: that of the net around that it is joined to.
 pub fn pair_around(

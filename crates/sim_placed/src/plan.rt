@@ -1,11 +1,11 @@
 // What nets are placed by.
 
 ghost use Rattle.std.specs.Prelude.{◌≡◌, get_or};
-ghost use Rattle.sim_nets.specs.Edges.{lines_at as lines_lem};
-ghost use Rattle.sim_nets.specs.declared.tables.Source.TheVariants as sources;
+ghost use Rattle.sim_names.specs.Edges.{lines_at as lines_lem};
+ghost use Rattle.sim_names.specs.declared.tables.Source.TheVariants as sources;
 
-use sim_nets::{Flat, Source, Table};
-use sim_tape::Pair;
+use sim_names::{Flat, Source, Table};
+use sim_operations::Pair;
 use tapa_base::Port;
 use vlog_tree::{Item, Module};
 

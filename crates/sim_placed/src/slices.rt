@@ -4,7 +4,7 @@ ghost use Rattle.std.specs.Prelude.{◌≡◌, ◌+◌, ◌≤◌, ℕ, None, le
 ghost use Rattle.sim_tape.specs.Tape.{PairBefore};
 ghost use Rattle.sim_lower.specs.Nets.{SlotsBefore};
 
-use sim_tape::Pair;
+use sim_operations::Pair;
 
 /// The pair of a number.
 pub fn pair_of(pairs: &[Option<Pair>], number: Option<usize>) -> Option<Pair>

@@ -1,4 +1,3 @@
-pub mod Operators
 pub mod Tape
 pub mod Solved
 pub mod Trees

@@ -3,7 +3,7 @@
 ghost use Rattle.std.specs.Prelude.{◌≡◌, ◌+◌, ◌*◌, ◌/◌, ◌%◌, ◌^◌, ◌<◌, ◌≤◌, length};
 ghost use Rattle.sim_tape.specs.Tape.{pair_value, wide_value, PairBefore};
 
-use crate::gates::{Pair, Wide};
+use sim_operations::{Pair, Wide};
 use vlog_ref_driver::apply;
 
 fn number_of(numbers: &[u64], pair: Pair) -> u128

@@ -6,7 +6,7 @@ use std::alloc::AllocError;
 use task_graph::Use;
 
 /// How a plan is looked for.
-#[derive(Clone, Copy, Debug, PartialEq, Eq)]
+#[derive(Clone, Copy)]
 pub enum Mode {
     /// The least of all plans; of several that cost the same, the one whose list of slots is first in order.
     Exact,
@@ -24,7 +24,7 @@ pub struct Plan {
 }
 
 /// Why there is no plan.
-#[derive(Clone, Copy, Debug, PartialEq, Eq)]
+#[derive(Clone, Copy)]
 pub enum PlanFault {
     /// No plan is within capacity and keeps the pins; in mode fit, `group` finds no slot.
     NoFit { group: Option<u32> },

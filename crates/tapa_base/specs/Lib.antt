@@ -1,9 +1,5 @@
-pub mod Faults
 pub mod Fits
 pub mod Gaps
 pub mod Kinds
-pub mod Memory
 pub mod Operators
-pub mod Outside
 pub mod Spans
-pub mod Take

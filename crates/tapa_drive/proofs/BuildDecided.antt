@@ -2,8 +2,8 @@
 -- memory.
 use Rattle.std.proofs.Common.{◌≡◌, ◌⊎◌, ◌≤◌, ◌<◌, ℕ, List, length, Option, Some, None, refl, sym, ap, ◌∙◌, subst, inl, inr, ⊎_elim}
 use Rattle.std.specs.Io.KnownBytes.{Appends}
-use Rattle.tapa_base.specs.Outside.{Files, file_bytes, Rose}
-use Rattle.tapa_base.specs.Take.{IsLongerThan}
+use Rattle.tapa_files.specs.Outside.{Files, file_bytes, Rose}
+use Rattle.tapa_files.specs.Take.{IsLongerThan}
 use Rattle.tapa_words.specs.Words.{Run, Build, Plan, Cosim, command_of}
 use Rattle.tapa_words.specs.declared.command.PlanAim.{PlanAim}
 use Rattle.tapa_words.specs.declared.command.PlanMode.{PlanMode}

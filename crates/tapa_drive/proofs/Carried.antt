@@ -1,6 +1,6 @@
 -- From what reading the source of a command and its further file give to what carrying the command out answers.
 use Rattle.std.proofs.Common.{◌≡◌, ◌≢◌, ◌⊎◌, ◌≤◌, ℕ, List, Option, Some, None, Err, refl, sym, ap, ◌∙◌, inl, inr, ⊎_elim}
-use Rattle.tapa_base.specs.Outside.{Files}
+use Rattle.tapa_files.specs.Outside.{Files}
 use Rattle.tapa_syntax.specs.declared.program.Program.{Program}
 use Rattle.tapa_words.specs.Words.{Command, command_of}
 use Rattle.tapa_drive.specs.Answer.{OfCommand, source_in, most_in, file_in, HasProgram, IsTaken, IsRefusedIn, IsFaultyIn, IsReached, HasCause, Leaves, ReadsAsked}
@@ -13,7 +13,7 @@ use Rattle.tapa_drive.specs.Refusal.{Refusal, Usage, Read, Write, TooLong, Sourc
 use Rattle.tapa_drive.specs.Source.{IsProgramOf}
 use Rattle.tapa_drive.specs.declared.refusal.Refusal.{Refusal as CodeRefusal}
 use Rattle.tapa_drive.proofs.Counts.{one_name}
-use Rattle.tapa_drive.proofs.Sourced.{of_file_also}
+use Rattle.tapa_drive.proofs.OfFiles.{of_file_also}
 
 pub has_program : (files : Option Files) (source top : List ℕ) (program : Program) → OfSource files source (λ text. IsProgramOf text top program) → OfSource files source (λ text. HasProgram text top)
 has_program files source top program means =

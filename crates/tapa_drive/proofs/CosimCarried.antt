@@ -1,7 +1,7 @@
 -- From what reading and running a Verilog text give to what carrying the command of a simulation out answers.
 use Rattle.std.proofs.Common.{◌≡◌, ◌≢◌, ◌≤◌, ℕ, List, [], Option, Some, None, Ok, Err, refl, sym, subst, inl, inr}
 use Rattle.std.proofs.lemmas.List.{append-nil}
-use Rattle.tapa_base.specs.Outside.{Files, Rose, AppendsPart}
+use Rattle.tapa_files.specs.Outside.{Files, Rose, AppendsPart}
 use Rattle.tapa_words.specs.Words.{Command, Cosim, command_of}
 use Rattle.vlog_tree.specs.Environment.{Environment}
 use Rattle.vlog_design.specs.Designs.{DesignTree}
@@ -19,7 +19,7 @@ use Rattle.tapa_drive.specs.declared.refusal.Refusal.{Refusal as CodeRefusal}
 use Rattle.tapa_drive.specs.declared.refusal.Refusal.TheVariants as code
 use Rattle.tapa_drive.proofs.Carried as carried
 use Rattle.tapa_drive.proofs.Counts.{rose_since, later_all}
-use Rattle.tapa_drive.proofs.Sourced.{of_file_also, of_text_both}
+use Rattle.tapa_drive.proofs.OfFiles.{of_file_also, of_text_both}
 
 module _ (words : List (List ℕ)) (files : Option Files) (name : List ℕ) (named : Option (List ℕ)) (limit : ℕ) (asked : command_of words ≡ Some (Cosim name named limit)) (reads_old : List ℕ → ℕ) (old errors told : Written) (files_mid : Option Files) (reads_mid : List ℕ → ℕ) (same_mid : files_mid ≡ files) (later_mid : reads_old name ≤ reads_mid name) (others_mid : (other : List ℕ) → other ≢ name → reads_mid other ≡ reads_old other) (design : DesignTree) (means : OfFile files verilog_limit name (λ text. IsDesignOf text design)) (files_new : Option Files) (reads_new : List ℕ → ℕ) (same_new : files_new ≡ files_mid) (others_new : (other : List ℕ) → named ≢ Some other → reads_new other ≡ reads_mid other) where
   abbrev command : Command

@@ -5,7 +5,7 @@ use Rattle.std.specs.Str.{bytes_eq}
 use Rattle.std.proofs.lemmas.Slice.Eq.{bytes_eq-Decides}
 use Rattle.std.proofs.lemmas.Bool.Decides.{not_from_Decides}
 use Rattle.std.proofs.Math.Nat.{min-le_left, min-le_right, le-min}
-use Rattle.tapa_base.specs.Outside.{Rose}
+use Rattle.tapa_files.specs.Outside.{Rose}
 
 since : (m a b c : ℕ) → a ≤ b → min (b + 1) m ≤ c → min (a + 1) m ≤ c
 since m a b c later h =

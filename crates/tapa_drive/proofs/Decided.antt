@@ -1,7 +1,7 @@
 -- Where nothing outside fails, the answer tells what the source means with its data, or want of memory.
 use Rattle.std.proofs.Common.{◌≡◌, ◌⊎◌, ◌≤◌, ◌<◌, ℕ, List, length, Option, Some, None, refl, sym, ap, ◌∙◌, subst, inl, inr, ⊎_elim, arith}
-use Rattle.tapa_base.specs.Outside.{Files, file_bytes, Rose}
-use Rattle.tapa_base.specs.Take.{IsLongerThan}
+use Rattle.tapa_files.specs.Outside.{Files, file_bytes, Rose}
+use Rattle.tapa_files.specs.Take.{IsLongerThan}
 use Rattle.tapa_words.specs.Words.{Command, Run, Build, Plan, Cosim, command_of}
 use Rattle.tapa_words.specs.declared.command.PlanAim.{PlanAim}
 use Rattle.tapa_words.specs.declared.command.PlanMode.{PlanMode}

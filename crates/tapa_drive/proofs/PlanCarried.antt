@@ -1,7 +1,7 @@
 -- From what reading a source and a device file and planning give to what carrying the command of a plan out answers.
 use Rattle.std.proofs.Common.{◌≡◌, ◌≢◌, ◌≤◌, ℕ, List, Option, Some, Result, Err, IfOk, IfErr, refl, ap, subst, inl, inr}
 use Rattle.std.specs.Io.KnownBytes.{Appends}
-use Rattle.tapa_base.specs.Outside.{Files, AppendsPart}
+use Rattle.tapa_files.specs.Outside.{Files, AppendsPart}
 use Rattle.tapa_syntax.specs.declared.program.Program.{Program}
 use Rattle.tapa_words.specs.Words.{Command, Plan, command_of}
 use Rattle.tapa_words.specs.declared.command.PlanAim.{PlanAim}
@@ -24,7 +24,7 @@ use Rattle.tapa_drive.specs.declared.refusal.Refusal.{Refusal as CodeRefusal}
 use Rattle.tapa_drive.proofs.Carried as carried
 use Rattle.tapa_drive.proofs.Counts.{rose_since, later_all}
 use Rattle.tapa_drive.proofs.Put.{WritesWhole, carried_out}
-use Rattle.tapa_drive.proofs.Sourced.{of_both}
+use Rattle.tapa_drive.proofs.OfFiles.{of_both}
 
 module _ (words : List (List ℕ)) (files : Option Files) (source top name : List ℕ) (mode : PlanMode) (aim : PlanAim) (asked : command_of words ≡ Some (Plan source top name mode aim)) (reads_old : List ℕ → ℕ) (old errors told : Written) (files_mid : Option Files) (reads_mid : List ℕ → ℕ) (same_mid : files_mid ≡ files) (later_mid : reads_old source ≤ reads_mid source) (others_mid : (other : List ℕ) → other ≢ source → reads_mid other ≡ reads_old other) (program : Program) (means : OfSource files source (λ text. IsProgramOf text top program)) (graph : Graph) (is_graph : IsGraphOf program graph) (files_new : Option Files) (reads_new : List ℕ → ℕ) (same_new : files_new ≡ files_mid) (others_new : (other : List ℕ) → Some name ≢ Some other → reads_new other ≡ reads_mid other) where
   abbrev command : Command

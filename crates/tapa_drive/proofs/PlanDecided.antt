@@ -1,8 +1,8 @@
 -- Where nothing outside fails, the answer tells a plan of the source's program, or why there is none, or want of memory.
 use Rattle.std.proofs.Common.{◌≡◌, ◌⊎◌, ◌<◌, ℕ, List, length, Option, Some, None, refl, sym, ◌∙◌, subst, inl, inr, ⊎_elim, arith}
 use Rattle.std.specs.Io.KnownBytes.{Appends}
-use Rattle.tapa_base.specs.Outside.{Files, file_bytes, Rose}
-use Rattle.tapa_base.specs.Take.{IsLongerThan}
+use Rattle.tapa_files.specs.Outside.{Files, file_bytes, Rose}
+use Rattle.tapa_files.specs.Take.{IsLongerThan}
 use Rattle.tapa_words.specs.Words.{Run, Build, Plan, Cosim, command_of}
 use Rattle.tapa_words.specs.declared.command.PlanAim.{PlanAim}
 use Rattle.tapa_words.specs.declared.command.PlanMode.{PlanMode}

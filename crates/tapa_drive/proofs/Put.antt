@@ -1,7 +1,7 @@
 -- Texts that are written whole or not.
 use Rattle.std.proofs.Common.{ℕ, List, Result, Ok, Err, IfOk, IfErr, inl, inr}
 use Rattle.std.specs.Io.KnownBytes.{Appends}
-use Rattle.tapa_base.specs.Outside.{AppendsPart}
+use Rattle.tapa_files.specs.Outside.{AppendsPart}
 use Rattle.tapa_drive.specs.Answer.{HasCause, HasPartOf, IsDone, Leaves, ReadsAsked}
 use Rattle.tapa_drive.specs.Carried.{HasPartOfText, IsCarriedOut, IsUnwritten}
 use Rattle.tapa_drive.specs.Meaning.{refusal_of}

@@ -2,7 +2,7 @@
 use Rattle.std.proofs.Common.{◌≡◌, ◌≢◌, ◌≤◌, ℕ, List, Option, Some, Ok, Err, refl, subst, inl, inr}
 use Rattle.std.specs.Prelude.{Vec}
 use Rattle.std.specs.declared.alloc.Global.{Global}
-use Rattle.tapa_base.specs.Outside.{Files, Rose, AppendsPart}
+use Rattle.tapa_files.specs.Outside.{Files, Rose, AppendsPart}
 use Rattle.tapa_syntax.specs.declared.program.Program.{Program}
 use Rattle.tapa_words.specs.Words.{Command, Run, command_of}
 use Rattle.run_program.specs.Ending.{EndsSo, HasPart}
@@ -21,7 +21,7 @@ use Rattle.tapa_drive.specs.declared.refusal.Refusal.{Refusal as CodeRefusal}
 use Rattle.tapa_drive.specs.declared.refusal.Refusal.TheVariants as code
 use Rattle.tapa_drive.proofs.Carried as carried
 use Rattle.tapa_drive.proofs.Counts.{rose_since, later_all}
-use Rattle.tapa_drive.proofs.Sourced.{of_both}
+use Rattle.tapa_drive.proofs.OfFiles.{of_both}
 
 module _ (words : List (List ℕ)) (files : Option Files) (source top : List ℕ) (named : Option (List ℕ)) (limit : ℕ) (asked : command_of words ≡ Some (Run source top named limit)) (reads_old : List ℕ → ℕ) (old errors told : Written) (files_mid : Option Files) (reads_mid : List ℕ → ℕ) (same_mid : files_mid ≡ files) (later_mid : reads_old source ≤ reads_mid source) (others_mid : (name : List ℕ) → name ≢ source → reads_mid name ≡ reads_old name) (program : Program) (means : OfSource files source (λ text. IsProgramOf text top program)) (files_new : Option Files) (reads_new : List ℕ → ℕ) (same_new : files_new ≡ files_mid) (others_new : (name : List ℕ) → named ≢ Some name → reads_new name ≡ reads_mid name) where
   abbrev command : Command

@@ -1,5 +1,5 @@
--- A refused source means no program, and what holds of the bytes that were taken holds of the files that they are of.
-use Rattle.std.proofs.Common.{◌≡◌, ◌≤◌, ℕ, List, [], length, Option, Some, None, subst}
+-- A text has one tree, and a refused source means no program.
+use Rattle.std.proofs.Common.{◌≡◌, ℕ, List, [], subst}
 use Rattle.tapa_base.specs.declared.text.Place.{Place}
 use Rattle.tapa_syntax.specs.declared.lexeme.Lexeme.{Lexeme}
 use Rattle.tapa_syntax.specs.declared.tree.File.{File}
@@ -18,11 +18,7 @@ use Rattle.check_scope.specs.declared.fault.Broken.{Broken}
 use Rattle.stream_check.specs.Programs.{program_faults}
 use Rattle.tapa_drive.specs.declared.source.SourceCode.{SourceCode}
 use Rattle.tapa_drive.specs.declared.source.SourceCode.TheVariants.{L1, L2, L3, L4, P1, P2, Rule}
-use Rattle.tapa_base.specs.Outside.{Files}
-use Rattle.tapa_base.specs.Take.{IsFileOf}
-use Rattle.tapa_drive.specs.Answer.{OfTexts, OfDesignTexts}
 use Rattle.tapa_drive.specs.Codes.{lex_code, parse_code}
-use Rattle.tapa_drive.specs.Files.{OfFile, OfSource, OfData, data_limit, verilog_limit, no_data}
 use Rattle.tapa_drive.specs.Source.{HasTree, HasNoTree, IsRefusedSource, MeansNothing}
 
 -- a text has one tree
@@ -59,24 +55,3 @@ refused_by_lexer text top place lex.L4 h = h
 pub refused_by_parser : (text top : List ℕ) (place : Place) (code : ParseCode) → HasNoTree text place code → IsRefusedSource text top place (parse_code code)
 refused_by_parser text top place parse.P1 h = h
 refused_by_parser text top place parse.P2 h = h
-
--- ---- files
-
--- what holds of the bytes that were taken holds of the file
-pub of_taken : (files : Option Files) (most : ℕ) (name bytes : List ℕ) (P : List ℕ → Type 0) → IsFileOf files name bytes → length bytes ≤ most → P bytes → OfFile files most name P
-of_taken files most name bytes P is few h = (bytes, is, few, h)
-
-pub of_file_also : (files : Option Files) (most : ℕ) (name : List ℕ) (P Q : List ℕ → Type 0) → ((text : List ℕ) → P text → Q text) → OfFile files most name P → OfFile files most name Q
-of_file_also files most name P Q f (bytes, is, few, h) = (bytes, is, few, f bytes h)
-
-pub of_data_also : (files : Option Files) (named : Option (List ℕ)) (P Q : List ℕ → Type 0) → ((bytes : List ℕ) → P bytes → Q bytes) → OfData files named P → OfData files named Q
-of_data_also files None P Q f h = f no_data h
-of_data_also files (Some name) P Q f h = of_file_also files data_limit name P Q f h
-
--- what holds of a source, and of data, holds of both
-pub of_both : (files : Option Files) (source : List ℕ) (named : Option (List ℕ)) (P Q : List ℕ → Type 0) (R : List ℕ → List ℕ → Type 0) → ((text bytes : List ℕ) → P text → Q bytes → R text bytes) → OfSource files source P → OfData files named Q → OfTexts files source named R
-of_both files source named P Q R f (text, is, few, h) g = (text, is, few, of_data_also files named Q (R text) (λ bytes q. f text bytes h q) g)
-
--- and so of a Verilog text
-pub of_text_both : (files : Option Files) (name : List ℕ) (named : Option (List ℕ)) (P Q : List ℕ → Type 0) (R : List ℕ → List ℕ → Type 0) → ((text bytes : List ℕ) → P text → Q bytes → R text bytes) → OfFile files verilog_limit name P → OfData files named Q → OfDesignTexts files name named R
-of_text_both files name named P Q R f (text, is, few, h) g = (text, is, few, of_data_also files named Q (R text) (λ bytes q. f text bytes h q) g)

@@ -1,11 +1,11 @@
 -- Why a source has no program, and why a program has no values or no device, by why a file was not taken.
 use Rattle.std.proofs.Common.{◌≤◌, ℕ, List, length, Option, Some, None, refl, ap}
-use Rattle.tapa_base.specs.Outside.{Files}
-use Rattle.tapa_base.specs.Take.{IsFileOf}
+use Rattle.tapa_files.specs.Outside.{Files}
+use Rattle.tapa_files.specs.Take.{IsFileOf}
 use Rattle.tapa_syntax.specs.declared.program.Program.{Program}
 use Rattle.task_graph.specs.declared.Graph.{Graph}
 use Rattle.plan_device.specs.Answer.{IsCause as IsCauseOfDevice}
-use Rattle.plan_device.specs.Faults as device
+use Rattle.plan_keys.specs.Faults as device
 use Rattle.plan_device.specs.declared.fault.DeviceFault.{DeviceFault as FaultOfDevice}
 use Rattle.plan_device.specs.declared.fault.DeviceFault.TheVariants as device_fault
 use Rattle.run_data.specs.Data.{Misshapen, Misfit, Oversized}
@@ -21,7 +21,7 @@ use Rattle.tapa_drive.specs.Meaning.{data_refusal, design_refusal, device_refusa
 use Rattle.tapa_drive.specs.Planned.{HasDeviceFault}
 use Rattle.tapa_drive.specs.Refusal.{Refusal, Usage, Read, Write, TooLong, Source, Data, Ticks, Stopped, Device, TooManyPlans, NoPlan, NoRoom, Verilog, DesignData, Undone, Memory, NotJson, Faulty, DeviceFault as TextFault, NoJson, HasFault, VerilogFault}
 use Rattle.tapa_drive.specs.declared.source.SourceCode.{SourceCode}
-use Rattle.tapa_drive.proofs.Sourced.{of_taken}
+use Rattle.tapa_drive.proofs.OfFiles.{of_taken}
 
 module _ (files : Option Files) (reads_old reads_new : List ℕ → ℕ) where
   pub untaken_text : (name : List ℕ) (most : ℕ) (refuses : List ℕ → Place → SourceCode → Type 0) (faulty : List ℕ → VerilogFault → Type 0) (r : Refusal) → IsUntaken files reads_old reads_new name most r → IsNotTaken files reads_old reads_new name most refuses faulty r

@@ -2,8 +2,8 @@
 use Rattle.std.specs.Prelude.{◌≡◌, ◌≢◌, ◌⊎◌, ℕ, List, Option, Some, None, ⊤}
 use Rattle.std.specs.Io.KnownBytes.{Appends}
 use Rattle.tapa_base.specs.declared.text.Place.{Place}
-use Rattle.tapa_base.specs.Outside.{Files, Rose, AppendsPart}
-use Rattle.tapa_base.specs.Take.{IsLongerThan}
+use Rattle.tapa_files.specs.Outside.{Files, Rose, AppendsPart}
+use Rattle.tapa_files.specs.Take.{IsLongerThan}
 use Rattle.tapa_syntax.specs.declared.program.Program.{Program}
 use Rattle.tapa_words.specs.Words.{Command, Run, Build, Plan, Cosim, command_of}
 use Rattle.tapa_words.specs.declared.command.PlanAim.{PlanAim}

@@ -2,7 +2,7 @@
 use Rattle.std.specs.Prelude.{◌≡◌, ◌⊎◌, ◌<◌, ◌≤◌, ℕ, List, length, Option, Some, None}
 use Rattle.std.specs.Io.KnownBytes.{Appends}
 use Rattle.tapa_base.specs.declared.text.Place.{Place}
-use Rattle.tapa_base.specs.Outside.{Files, file_bytes}
+use Rattle.tapa_files.specs.Outside.{Files, file_bytes}
 use Rattle.tapa_drive.specs.Built.{HasCircuit}
 use Rattle.tapa_drive.specs.Decided.{IsRefusedWith}
 use Rattle.tapa_drive.specs.Files.{source_limit}

@@ -1,6 +1,6 @@
 -- What a step that carries a command out answers.
 use Rattle.std.specs.Prelude.{◌≡◌, ◌⊎◌, List, ℕ, Result, OnOk, IfErr}
-use Rattle.tapa_base.specs.Outside.{Rose, AppendsPart}
+use Rattle.tapa_files.specs.Outside.{Rose, AppendsPart}
 use Rattle.tapa_drive.specs.Answer.{IsDone, HasCause, Leaves, ReadsAsked}
 use Rattle.tapa_drive.specs.Meaning.{refusal_of}
 use Rattle.tapa_drive.specs.Outside.{Outside, Written}

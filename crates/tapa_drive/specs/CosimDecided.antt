@@ -1,7 +1,7 @@
 -- What a Verilog text and its data mean, and what a call must answer to them where nothing outside of it fails.
 use Rattle.std.specs.Prelude.{◌≡◌, ◌<◌, ◌≤◌, ℕ, List, length, Option, Some, None}
 use Rattle.std.specs.Io.KnownBytes.{Appends}
-use Rattle.tapa_base.specs.Outside.{Files, file_bytes}
+use Rattle.tapa_files.specs.Outside.{Files, file_bytes}
 use Rattle.tapa_drive.specs.Decided.{Given, Bytes, TooMany, IsGiven, IsRefusedWith}
 use Rattle.tapa_drive.specs.Designs.{HasDesign, IsRefusedText, HasBadDesignData, HasSimulated}
 use Rattle.tapa_drive.specs.Files.{data_limit, verilog_limit, shown_name}

@@ -2,7 +2,7 @@
 use Rattle.std.specs.Prelude.{◌≡◌, ◌<◌, ◌≤◌, ℕ, List, length, Option, Some, None, ⊤}
 use Rattle.std.specs.Io.KnownBytes.{Appends}
 use Rattle.tapa_base.specs.declared.text.Place.{Place}
-use Rattle.tapa_base.specs.Outside.{Files, file_bytes, Rose}
+use Rattle.tapa_files.specs.Outside.{Files, file_bytes, Rose}
 use Rattle.tapa_syntax.specs.declared.program.Program.{Program}
 use Rattle.run_program.specs.Laws.{RunMeaning, Done, Stopped, Limit, Runs}
 use Rattle.run_program.specs.Run.{Values}

@@ -1,7 +1,7 @@
 -- The files that a command names: what holds of their bytes.
 use Rattle.std.specs.Prelude.{◌≡◌, ◌≢◌, ◌≤◌, ℕ, List, length, codes, Option, Some, None, ⊤}
-use Rattle.tapa_base.specs.Outside.{Files, Rose}
-use Rattle.tapa_base.specs.Take.{IsFileOf, IsLongerThan}
+use Rattle.tapa_files.specs.Outside.{Files, Rose}
+use Rattle.tapa_files.specs.Take.{IsFileOf, IsLongerThan}
 use Rattle.tapa_drive.specs.Refusal.{Refusal, Read, TooLong, Memory}
 
 -- the most bytes that a source may have

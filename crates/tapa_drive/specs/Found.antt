@@ -1,7 +1,7 @@
 -- What reading a source and its data from a shelf gives.
 use Rattle.std.specs.Prelude.{◌≡◌, ℕ, List, Option, Some, ⊤}
-use Rattle.tapa_base.specs.Outside.{Files, Rose}
-use Rattle.tapa_base.specs.Take.{IsLongerThan}
+use Rattle.tapa_files.specs.Outside.{Files, Rose}
+use Rattle.tapa_files.specs.Take.{IsLongerThan}
 use Rattle.tapa_syntax.specs.declared.program.Program.{Program}
 use Rattle.tapa_base.specs.declared.text.Place.{Place}
 use Rattle.vlog_design.specs.Designs.{DesignTree}

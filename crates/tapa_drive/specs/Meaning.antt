@@ -8,7 +8,7 @@ use Rattle.tapa_words.specs.declared.command.WordsFault.{WordsFault}
 use Rattle.tapa_words.specs.declared.command.WordsFault.TheVariants as words_fault
 use Rattle.tapa_drive.specs.Refusal as spec
 use Rattle.tapa_drive.specs.Refusal.{NotJson, Faulty, NoJson, HasFault}
-use Rattle.plan_device.specs.Faults as device
+use Rattle.plan_keys.specs.Faults as device
 use Rattle.plan_device.specs.declared.fault.DeviceFault.{DeviceFault}
 use Rattle.plan_device.specs.declared.fault.DeviceFault.TheVariants as device_fault
 use Rattle.vlog_tree.specs.declared.fault.VFault.{VFault}

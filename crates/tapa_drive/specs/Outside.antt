@@ -1,6 +1,6 @@
 -- What contracts see of the outside at one moment: the files, the output and the errors.
 use Rattle.std.specs.Prelude.{ℕ, List, Option}
-use Rattle.tapa_base.specs.Outside.{Files}
+use Rattle.tapa_files.specs.Outside.{Files}
 
 -- what a sink holds, where it tells its bytes, and how often a write to it has failed
 pub record Written : Type 0 where

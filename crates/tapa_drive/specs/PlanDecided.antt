@@ -1,7 +1,7 @@
 -- What a call must answer to a source and a device file where nothing outside of it fails.
 use Rattle.std.specs.Prelude.{◌≡◌, ◌≤◌, ◌⊎◌, ℕ, List, length, Option, Some, None}
 use Rattle.std.specs.Io.KnownBytes.{Appends}
-use Rattle.tapa_base.specs.Outside.{Files, file_bytes}
+use Rattle.tapa_files.specs.Outside.{Files, file_bytes}
 use Rattle.tapa_words.specs.declared.command.PlanAim.{PlanAim}
 use Rattle.slot_plan.specs.declared.floorplan.Mode.{Mode}
 use Rattle.tapa_drive.specs.Answer.{HasProgram}

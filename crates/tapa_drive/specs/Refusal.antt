@@ -7,7 +7,7 @@ use Rattle.tapa_drive.specs.declared.source.SourceCode.{SourceCode}
 use Rattle.tapa_drive.specs.declared.source.SourceCode.TheVariants.{L1, L2, L3, L4, P1, P2, Rule}
 use Rattle.run_program.specs.Ending.{joined}
 use Rattle.run_data.specs.Data.{Fault, Misshapen, Misfit, Oversized}
-use Rattle.plan_device.specs.Faults as device
+use Rattle.plan_keys.specs.Faults as device
 
 -- what is wrong with data: the text is no JSON, or it has this fault
 pub data DataFault : Type 0 where

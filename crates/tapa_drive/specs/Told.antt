@@ -1,7 +1,7 @@
 -- How a refusal is told.
 use Rattle.std.specs.Prelude.{◌≡◌, ◌⊎◌}
 use Rattle.std.specs.Io.KnownBytes.{Appends}
-use Rattle.tapa_base.specs.Outside.{Rose, AppendsPart}
+use Rattle.tapa_files.specs.Outside.{Rose, AppendsPart}
 use Rattle.tapa_drive.specs.Outside.{Written}
 use Rattle.tapa_drive.specs.Refusal.{Refusal, message_of}
 use Rattle.tapa_drive.specs.Status.{status_of}

@@ -1,6 +1,6 @@
 // The simulation of a Verilog text on its data.
 ghost use Rattle.std.specs.Prelude.{◌≡◌, ◌≤◌, ℕ, List, All, IfOk, IfErr, option_map};
-ghost use Rattle.tapa_base.specs.Outside.{AsksFor};
+ghost use Rattle.tapa_files.specs.Outside.{AsksFor};
 ghost use Rattle.vlog_tree.specs.Environment.{FitsShape, shape_of};
 ghost use Rattle.vlog_tree.specs.Form.{ModuleTree};
 ghost use Rattle.vlog_design.specs.Designs.{TopOf};
@@ -18,7 +18,8 @@ use crate::refusal::Refusal;
 use run_data::{Data, DataFault, read_data};
 use run_design::{DesignEnd, run_design};
 use std::alloc::{AllocError, Global};
-use tapa_base::{PrintFault, Shape, Shelf, Sink};
+use tapa_base::Shape;
+use tapa_files::{PrintFault, Shelf, Sink};
 use vlog_design::Design;
 use vlog_read::read;
 use vlog_ref_start::Surroundings;

@@ -1,10 +1,10 @@
 // The files that a command names.
 ghost use Rattle.std.specs.Prelude.{◌≤◌, IfOk, IfErr, length, option_map};
-ghost use Rattle.tapa_base.specs.Outside.{AsksFor};
-ghost use Rattle.tapa_base.specs.Take.{IsFileOf};
+ghost use Rattle.tapa_files.specs.Outside.{AsksFor};
+ghost use Rattle.tapa_files.specs.Take.{IsFileOf};
 ghost use Rattle.tapa_syntax.specs.WellFormed.{IsWellFormed};
 ghost use Rattle.kahn_model.specs.Fits.{FitsInput};
-ghost use Rattle.net_core.specs.Bounded.{scalars_of, memories_of};
+ghost use Rattle.net_instances.specs.Bounded.{scalars_of, memories_of};
 ghost use Rattle.run_program.specs.Run.{values_of};
 ghost use Rattle.top_law.specs.Legal.{HasOwnNames};
 ghost use Rattle.tapa_drive.specs.Files.{OfSource, OfData, IsUntaken, AsksForData};
@@ -16,9 +16,9 @@ ghost use Rattle.tapa_drive.specs.Source.{IsProgramOf};
 use crate::inputs::read_input;
 use crate::program::{SourceFault, read_program};
 use crate::refusal::Refusal;
-use net_core::Input;
+use net_instances::Input;
 use std::alloc::Global;
-use tapa_base::{Shelf, TakeFault, take_file};
+use tapa_files::{Shelf, TakeFault, take_file};
 use tapa_syntax::Program;
 
 const SOURCE_LIMIT: u64 = 262_144;

@@ -3,11 +3,11 @@ ghost use Rattle.std.specs.Prelude.{◌≡◌, ◌≤◌, List, All, map, IfOk, 
 ghost use Rattle.tapa_syntax.specs.declared.program.Memory.{Memory};
 ghost use Rattle.tapa_syntax.specs.declared.program.Scalar.{Scalar};
 ghost use Rattle.kahn_model.specs.Fits.{FitsInput};
-ghost use Rattle.net_core.specs.Bounded.{scalars_of, memories_of};
+ghost use Rattle.net_instances.specs.Bounded.{scalars_of, memories_of};
 ghost use Rattle.run_program.specs.Run.{values_of};
 ghost use Rattle.tapa_drive.specs.Inputs.{port_of, IsShapeOf, GivesValues, IsUnfitBy};
 
-use net_core::Input;
+use net_instances::Input;
 use run_data::{Data, DataFault, read_data};
 use std::alloc::Global;
 use tapa_base::{Kind, OutOfMemory, Port, Shape, Text};

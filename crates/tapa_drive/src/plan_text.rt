@@ -1,7 +1,7 @@
 // The lines of a plan.
 ghost use Rattle.std.specs.Prelude.{◌≡◌, ◌<◌, ℕ, List, length, IfOk, IfErr};
 ghost use Rattle.std.specs.Io.KnownBytes.{Appends};
-ghost use Rattle.latency_balance.specs.Moves.{AreLatencies};
+ghost use Rattle.plan_flows.specs.Moves.{AreLatencies};
 ghost use Rattle.plan_device.specs.Devices.{IsDevice};
 ghost use Rattle.plan_latency.specs.Borders.{AreBorderLatencies};
 ghost use Rattle.plan_report.specs.Lines.{texts};
@@ -17,7 +17,8 @@ use plan_latency::latencies;
 use plan_report::plan_lines;
 use slot_plan::Plan;
 use std::alloc::{AllocError, Global};
-use tapa_base::{OutOfMemory, Sink};
+use tapa_base::OutOfMemory;
+use tapa_files::Sink;
 use task_graph::Graph;
 
 // The lines of a plan with its border latencies, and of their balance.

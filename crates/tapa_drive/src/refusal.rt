@@ -1,6 +1,6 @@
 ghost use Rattle.std.specs.Prelude.{◌≡◌, ◌⊎◌, ◌++◌, codes, IfOk, OnOk, OnErr, ◌≤◌};
 ghost use Rattle.std.specs.Io.KnownBytes.{Appends};
-ghost use Rattle.tapa_base.specs.Outside.{AppendsPart, Rose};
+ghost use Rattle.tapa_files.specs.Outside.{AppendsPart, Rose};
 ghost use Rattle.run_program.specs.Ending.{joined, lines_in};
 ghost use Rattle.tapa_drive.specs.Meaning.{refusal_of, data_refusal, device_refusal, design_refusal, verilog_refusal, words_refusal};
 ghost use Rattle.tapa_drive.specs.Outside.{written};
@@ -13,7 +13,8 @@ use crate::status::Status;
 use plan_device::DeviceFault;
 use run_data::DataFault;
 use std::alloc::Global;
-use tapa_base::{OutOfMemory, Place, Sink, Text, WriteFault, put_all};
+use tapa_base::{OutOfMemory, Place, Text};
+use tapa_files::{Sink, WriteFault, put_all};
 use tapa_words::WordsFault;
 use vlog_tree::VFault;
 

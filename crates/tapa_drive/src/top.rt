@@ -21,7 +21,7 @@ use crate::refusal::{Refusal, tell};
 use crate::status::Status;
 use run_program::{RunEnd, run_program};
 use std::alloc::Global;
-use tapa_base::{PrintFault, Shelf, Sink};
+use tapa_files::{PrintFault, Shelf, Sink};
 use tapa_words::{Command, WordsFault, read_words};
 
 // Runs the program of a source on its data, up to the first step that refuses.

@@ -1,8 +1,8 @@
 use crate::programs::{CROSSING_STOPS, PATH, VECADD, VECADD_DATA, VECADD_REPORT};
 use std::alloc::Global;
 use std::test::Fail;
-use tapa_base::{MemShelf, MemSink};
 use tapa_drive::{Status, WordsFault, refuse_words, tapa};
+use tapa_files::{MemShelf, MemSink};
 
 // What a command answers, and what it wrote.
 #[derive(Drop)]

@@ -12,8 +12,9 @@ use run_data::{Last, report_last, report_stream};
 use run_program::{RunEnd, run_program};
 use std::alloc::{AllocError, Global};
 use std::test::Fail;
-use tapa_base::{MemSink, Token};
+use tapa_base::Token;
 use tapa_drive::{read_input, read_program};
+use tapa_files::MemSink;
 use tapa_syntax::{Bound, Instance, Leaf, Program};
 
 // More rounds than any of these programs needs.

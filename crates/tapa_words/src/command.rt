@@ -1,5 +1,5 @@
 /// What the words ask for.
-#[derive(Clone, Copy, Debug)]
+#[derive(Clone, Copy)]
 pub enum Command<'a> {
     /// Run the task `top` of the file `source`, for at most `limit` ticks, with the file `data` where one is named.
     Run {
@@ -31,7 +31,7 @@ pub enum Command<'a> {
 }
 
 /// How a plan is looked for: one of least cost, or the first that fits.
-#[derive(Clone, Copy, Debug, PartialEq, Eq)]
+#[derive(Clone, Copy)]
 pub enum PlanMode {
     Exact,
     Fit,
@@ -39,14 +39,14 @@ pub enum PlanMode {
 
 /// What a plan is for: its lines are told, or a circuit is built by it, whose streams get latency at the borders of slots
 /// and, where they are balanced, as much more as makes all ways between two tasks equally late.
-#[derive(Clone, Copy, Debug, PartialEq, Eq)]
+#[derive(Clone, Copy)]
 pub enum PlanAim {
     Lines,
     Circuit { balanced: bool },
 }
 
 /// Why words are not read.
-#[derive(Clone, Copy, Debug, PartialEq, Eq)]
+#[derive(Clone, Copy)]
 pub enum WordsFault {
     /// They break a rule: they are no command.
     Usage,

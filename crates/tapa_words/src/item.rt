@@ -8,7 +8,7 @@ use crate::verb::{OptionKind, Verb};
 use std::alloc::Global;
 
 // What the words behind the command's name are.
-#[derive(Clone, Copy, Debug)]
+#[derive(Clone, Copy)]
 pub(crate) enum Item<'a> {
     Positional(&'a str),
     /// An option, and its value, which is empty where it has none.
@@ -16,7 +16,7 @@ pub(crate) enum Item<'a> {
 }
 
 // What the next word may be.
-#[derive(Clone, Copy, Debug)]
+#[derive(Clone, Copy)]
 enum Next<'a> {
     AnyWord,
     /// The value of this option.
@@ -25,7 +25,7 @@ enum Next<'a> {
 }
 
 // What a word says.
-#[derive(Clone, Copy, Debug)]
+#[derive(Clone, Copy)]
 enum Step<'a> {
     Gives(Item<'a>, Next<'a>),
     Moves(Next<'a>),

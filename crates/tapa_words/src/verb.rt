@@ -2,7 +2,7 @@ ghost use Rattle.std.specs.Prelude.{◌≡◌};
 ghost use Rattle.tapa_words.specs.Words.{verb_of, option_kind, valued as valued_lem};
 
 // The commands.
-#[derive(Clone, Copy, Debug)]
+#[derive(Clone, Copy)]
 pub(crate) enum Verb {
     Running,
     Building,
@@ -11,7 +11,7 @@ pub(crate) enum Verb {
 }
 
 // Whether an option has a value.
-#[derive(Clone, Copy, Debug)]
+#[derive(Clone, Copy)]
 pub(crate) enum OptionKind {
     Valued,
     Bare,

@@ -2,14 +2,14 @@
 
 ghost use Rattle.std.specs.Prelude.{◌≡◌, ◌≤◌, ◌<◌, ◌++◌, length, take, IfOk, OnOk, OnErr, IsErrOf};
 ghost use Rattle.std.specs.Io.KnownBytes.{Appends};
-ghost use Rattle.tapa_base.specs.Outside.{AppendsPart, Rose};
+ghost use Rattle.tapa_files.specs.Outside.{AppendsPart, Rose};
 ghost use Rattle.vlog_tree.specs.Spelling.{spelling};
 ghost use Rattle.verilog_text.specs.Lines.{IsLine, EndsLine};
 
 use crate::page::Page;
 use crate::words::modules;
 use std::alloc::{AllocError, Global};
-use tapa_base::{PrintFault, Sink, WriteFault, put_all};
+use tapa_files::{PrintFault, Sink, WriteFault, put_all};
 use vlog_design::Design;
 use vlog_tree::Module;
 

@@ -7,12 +7,12 @@ use Rattle.std.proofs.lemmas.List.{get_or-set_other, length-set}
 use Rattle.std.proofs.lemmas.Grind.{get_or-set_at}
 use Rattle.vlog_tree.specs.Grounded.{Has}
 use Rattle.vlog_tree.specs.Form.{ModuleTree}
-use Rattle.vlog_rules.specs.NameTable.{places_from}
+use Rattle.vlog_scope.specs.NameTable.{places_from}
 use Rattle.vlog_tree.specs.declared.table.NetKind.TheVariants.{Input, Output}
 use Rattle.vlog_tree.specs.Table.{Name, port_declared, declaration_name, module_declared, module_named, net_kind_of}
 use Rattle.vlog_tree.specs.Loops.{Edges, Reaches, one, more, Rests, directly, through, after, port_of, direct_edges, instances}
 use Rattle.vlog_comb_loops.specs.Summaries.{sum_named, port_pair, through_edges, module_edges, IsPair, IsSoundSum, IsUsed, IsClosedSum, AreSums, AreRight}
-use Rattle.vlog_rules.proofs.Found.{module_found}
+use Rattle.vlog_scope.proofs.Found.{module_found}
 use Rattle.vlog_net_graph.proofs.Covering.{found}
 use Rattle.vlog_tree.proofs.Lists.{has_flat, of_flat, has_map, of_map, has_left, has_right, has_split, chains}
 

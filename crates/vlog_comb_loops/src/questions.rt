@@ -4,7 +4,7 @@ ghost use Rattle.std.specs.Prelude.{◌≡◌, ◌≢◌, ◌<◌, ◌↔◌, �
 ghost use Rattle.vlog_tree.specs.Grounded.{Has};
 ghost use Rattle.vlog_tree.specs.Form.{ModuleTree};
 ghost use Rattle.vlog_tree.specs.Loops.{item_instances, port_of};
-ghost use Rattle.vlog_rules.specs.NameTable.{value_in};
+ghost use Rattle.vlog_scope.specs.NameTable.{value_in};
 ghost use Rattle.vlog_graph.specs.Graphs.{targets_of};
 ghost use Rattle.vlog_net_graph.specs.Names.{texts};
 ghost use Rattle.vlog_comb_loops.specs.Questions.{asked_of, Keeps, AsksLines, NamesLines, AsksPort, Asks, AsksAll, AreUses};
@@ -13,7 +13,7 @@ use crate::suspects::Suspect;
 use std::alloc::{AllocError, Global};
 use std::collections::HashMap;
 use vlog_net_graph::{NamedGraph, dotted, insert_number};
-use vlog_rules::Library;
+use vlog_scope::Library;
 use vlog_tree::{Item, Module};
 
 /// For each name a list of questions. A question is a place, and the line of an instance there, or no line.

@@ -17,7 +17,7 @@ use crate::suspects::{Loops, Suspect, on_loop};
 use std::alloc::{AllocError, Global};
 use tapa_base::Text;
 use vlog_net_graph::{NamedGraph, containment_of, merged_is_loopless};
-use vlog_rules::{Library, Scope};
+use vlog_scope::{Library, Scope};
 use vlog_tree::{Declaration, Module};
 
 // Keeps the graph of a module where no levels show that it has no loop.

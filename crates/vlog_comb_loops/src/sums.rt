@@ -7,7 +7,7 @@ ghost use Rattle.vlog_tree.specs.declared.table.NetKind.TheVariants.{Input, Outp
 ghost use Rattle.vlog_tree.specs.Form.{ModuleTree};
 ghost use Rattle.vlog_tree.specs.Table.{net_kind_of};
 ghost use Rattle.vlog_tree.specs.Loops.{Edges};
-ghost use Rattle.vlog_rules.specs.NameTable.{value_in};
+ghost use Rattle.vlog_scope.specs.NameTable.{value_in};
 ghost use Rattle.vlog_net_graph.specs.Names.{IsGraphOf, IsGraphListed};
 ghost use Rattle.vlog_comb_loops.specs.Growth.{Gathers};
 ghost use Rattle.vlog_comb_loops.specs.Merges.{IsMerged, IsGrown};
@@ -24,7 +24,7 @@ use std::marker::Model;
 use tapa_base::Text;
 use vlog_graph::Searches;
 use vlog_net_graph::NamedGraph;
-use vlog_rules::{Library, Scope, copy_text};
+use vlog_scope::{Library, Scope, copy_text};
 use vlog_tree::{Module, NetKind};
 
 /// Pairs of an output and an input on which it rests.

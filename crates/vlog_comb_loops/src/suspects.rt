@@ -10,7 +10,7 @@ use crate::questions::Questions;
 use std::alloc::{AllocError, Global};
 use tapa_base::Text;
 use vlog_net_graph::{NamedGraph, port_name};
-use vlog_rules::Library;
+use vlog_scope::Library;
 use vlog_tree::{Item, Module};
 
 /// A module, by its place, whose graph was not seen to be without loops.

@@ -12,7 +12,7 @@ use crate::sums::{Sum, pairs_at};
 use std::alloc::{AllocError, Global};
 use tapa_base::Text;
 use vlog_net_graph::{Draft, NamedGraph, add_edge, direct_draft, port_name};
-use vlog_rules::Library;
+use vlog_scope::Library;
 use vlog_tree::{Item, Module};
 
 fn add_pair(

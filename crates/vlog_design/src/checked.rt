@@ -17,7 +17,8 @@ use std::alloc::{AllocError, Global};
 use std::marker::Model;
 use tapa_base::{Port, Shape, Text};
 use vlog_comb_loops::first_on_loop;
-use vlog_rules::{Library, Scope, Sound, copy_text};
+use vlog_rules::Sound;
+use vlog_scope::{Library, Scope, copy_text};
 use vlog_tree::{Module, VFault};
 
 /// Modules that break none of the rules on names, widths, drivers, loops and the top, and the top's place among them.

@@ -10,7 +10,8 @@ ghost use Rattle.vlog_tree.specs.V6.{contained_names, roots, first_name, is_top 
 use crate::top::{first_misfit_port, has_port};
 use std::alloc::{AllocError, Global};
 use tapa_base::Text;
-use vlog_rules::{Library, Scope, is_clock, named_if};
+use vlog_rules::{is_clock, named_if};
+use vlog_scope::{Library, Scope};
 use vlog_tree::{Connection, Item, Module, PortDecl};
 
 #[tactic(auto, unfolding(vlog_tree::specs::V6::clock_connection))]

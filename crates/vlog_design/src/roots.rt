@@ -4,13 +4,13 @@ ghost use Rattle.std.specs.Prelude.{◌≡◌, ◌++◌, ◌∷◌, ◌==◌, �
 ghost use Rattle.std.specs.Option.{option_copied};
 ghost use Rattle.std.specs.List.{flat_map};
 ghost use Rattle.vlog_tree.specs.Form.{ModuleTree};
-ghost use Rattle.vlog_rules.specs.NameTable.{CountsTo};
+ghost use Rattle.vlog_scope.specs.NameTable.{CountsTo};
 ghost use Rattle.vlog_tree.specs.Table.{times_in};
 ghost use Rattle.vlog_tree.specs.V6.{item_children, module_children, contained_names, roots_among, first_name};
 
 use std::alloc::{AllocError, Global};
 use tapa_base::Text;
-use vlog_rules::{NameCounts, count_of, count_one};
+use vlog_scope::{NameCounts, count_of, count_one};
 use vlog_tree::{Item, Module};
 
 #[tactic(auto, using(vlog_rules::proofs::Counts::one_name_more, vlog_rules::proofs::Counts::no_name_more))]

@@ -8,7 +8,7 @@ use Rattle.vlog_tree.specs.Table.{Name}
 use Rattle.vlog_tree.specs.Loops.{Edges, port_of}
 use Rattle.vlog_tree.proofs.Lists.{has_left, has_right, has_split}
 use Rattle.vlog_tree.proofs.Walks.{grows, over}
-use Rattle.vlog_rules.specs.NameTable.{value_in}
+use Rattle.vlog_scope.specs.NameTable.{value_in}
 use Rattle.vlog_net_graph.specs.declared.names.Draft.{Draft}
 use Rattle.vlog_net_graph.specs.Names.{IsDraftOf}
 use Rattle.vlog_net_graph.specs.Growth.{Adds}

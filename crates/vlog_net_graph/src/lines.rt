@@ -12,7 +12,8 @@ ghost use Rattle.vlog_net_graph.specs.Merged.{is_named, under};
 use crate::names::Draft;
 use std::alloc::{AllocError, Global};
 use tapa_base::Text;
-use vlog_rules::{Library, Scope, is_input, is_read};
+use vlog_rules::{is_input, is_read};
+use vlog_scope::{Library, Scope};
 use vlog_tree::{Atom, Connection, Declaration, Item, Module, Value, addr_name, rdata_of};
 
 /// Two texts with a dot between them.
@@ -43,11 +44,45 @@ pub fn add_edge(alloc: Global, g: &mut Draft, from: &[u8], to: &[u8]) -> Result<
     Ok(())
 }
 
+/// One more edge, of names in memory of their own.
+pub(crate) fn add_owned(
+    alloc: Global,
+    g: &mut Draft,
+    from: Vec<u8>,
+    to: Vec<u8>,
+) -> Result<(), AllocError>
+    ensures { OnOk result (Adds g.old g.new ((from.items, to.items) ∷ [])) }
+{
+    g.add_owned(alloc, from, to)?;
+    Ok(())
+}
+
 fn joined(alloc: Global, front: &[u8], behind: &[u8]) -> Result<Vec<u8>, AllocError>
     ensures { IfOk result (λ v. v.items ≡ front.now ++ behind.now) }
 {
     let mut name = Vec::with_capacity(alloc, front.len().saturating_add(behind.len()))?;
     name.extend_from_slice(front)?;
+    name.extend_from_slice(behind)?;
+    Ok(name)
+}
+
+/// The name of an instance's port, with bytes in front.
+#[tactic(auto, unfolding(vlog_tree::specs::Loops::port_of))]
+pub(crate) fn port_under(
+    alloc: Global,
+    front: &[u8],
+    instance: &Text,
+    port: &Text,
+) -> Result<Vec<u8>, AllocError>
+    ensures { IfOk result (λ v. v.items ≡ front.now ++ port_of instance.now port.now) }
+{
+    let (before, behind) = (instance.bytes(), port.bytes());
+    let named = before.len().saturating_add(behind.len());
+    let length = front.len().saturating_add(named).saturating_add(1);
+    let mut name = Vec::with_capacity(alloc, length)?;
+    name.extend_from_slice(front)?;
+    name.extend_from_slice(before)?;
+    name.push(b'.')?;
     name.extend_from_slice(behind)?;
     Ok(name)
 }
@@ -67,7 +102,7 @@ fn add_under(
         _ => {
             let from = joined(alloc, front, from)?;
             let to = joined(alloc, front, to)?;
-            add_edge(alloc, g, &from, &to)
+            add_owned(alloc, g, from, to)
         }
     }
 }
@@ -175,12 +210,12 @@ fn add_connection(
 ) -> Result<(), AllocError>
     ensures { OnOk result (Adds g.old g.new (under front.now (connection_edge ports.now instance.now connection.now) ∷ [])) }
 {
-    let name = port_name(alloc, instance, &connection.port)?;
-    let net = connection.net.bytes();
+    let name = port_under(alloc, front, instance, &connection.port)?;
+    let net = joined(alloc, front, connection.net.bytes())?;
     if is_input(ports.net_kind(connection.port.bytes())) {
-        add_under(alloc, g, front, &name, net)
+        add_owned(alloc, g, name, net)
     } else {
-        add_under(alloc, g, front, net, &name)
+        add_owned(alloc, g, net, name)
     }
 }
 

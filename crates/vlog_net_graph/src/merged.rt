@@ -6,16 +6,17 @@ ghost use Rattle.std.specs.List.{flat_map};
 ghost use Rattle.std.specs.Option.{option_copied};
 ghost use Rattle.vlog_tree.specs.Grounded.{Has};
 ghost use Rattle.vlog_tree.specs.Form.{ModuleTree};
-ghost use Rattle.vlog_tree.specs.Loops.{Reaches, Rests, direct_edges, item_instances};
+ghost use Rattle.vlog_tree.specs.Loops.{Reaches, Rests, direct_edges, item_instances, port_of};
 ghost use Rattle.vlog_net_graph.specs.Names.{IsDraftOf};
 ghost use Rattle.vlog_net_graph.specs.Growth.{Adds};
 ghost use Rattle.vlog_net_graph.specs.Merged.{is_named, port_pair, port_edge, join, joins, module_merged, merged_edges};
 
-use crate::lines::{add_direct, add_edge, dotted, port_name};
+use crate::lines::{add_direct, add_owned, dotted, port_name};
 use crate::names::Draft;
 use std::alloc::{AllocError, Global};
 use tapa_base::Text;
-use vlog_rules::{Library, Scope, is_input};
+use vlog_rules::is_input;
+use vlog_scope::{Library, Scope};
 use vlog_tree::{Declaration, Item, Module};
 
 // The edges of a module's own lines.
@@ -41,16 +42,33 @@ fn add_port_edge(
     ports: &Scope,
     before: &Text,
     port: &Text,
-    net: &[u8],
+    net: Vec<u8>,
 ) -> Result<(), AllocError>
-    ensures { OnOk result (Adds g.old g.new (port_edge ports.now before.now port.now net.now ∷ [])) }
+    ensures { OnOk result (Adds g.old g.new (port_edge ports.now before.now port.now net.items ∷ [])) }
 {
     let name = port_name(alloc, before, port)?;
     if is_input(ports.net_kind(port.bytes())) {
-        add_edge(alloc, g, &name, net)
+        add_owned(alloc, g, name, net)
     } else {
-        add_edge(alloc, g, net, &name)
+        add_owned(alloc, g, net, name)
     }
+}
+
+// The name of an instance's port with its module's name before it.
+#[tactic(auto, unfolding(vlog_tree::specs::Loops::port_of))]
+fn wire_name(alloc: Global, m: &Text, instance: &Text, port: &Text) -> Result<Vec<u8>, AllocError>
+    ensures { IfOk result (λ v. v.items ≡ port_of m.now (port_of instance.now port.now)) }
+{
+    let (owner, before, behind) = (m.bytes(), instance.bytes(), port.bytes());
+    let named = before.len().saturating_add(behind.len());
+    let length = owner.len().saturating_add(named).saturating_add(2);
+    let mut name = Vec::with_capacity(alloc, length)?;
+    name.extend_from_slice(owner)?;
+    name.push(b'.')?;
+    name.extend_from_slice(before)?;
+    name.push(b'.')?;
+    name.extend_from_slice(behind)?;
+    Ok(name)
 }
 
 // A port of an instance of k in a module m.
@@ -65,9 +83,8 @@ fn add_join(
 ) -> Result<(), AllocError>
     ensures { OnOk result (Adds g.old g.new (join ports.now m.now (k.now, instance.now) d.now ∷ [])) }
 {
-    let wire = port_name(alloc, instance, &d.name)?;
-    let whole = dotted(alloc, m.bytes(), &wire)?;
-    add_port_edge(alloc, g, ports, k, &d.name, &whole)
+    let wire = wire_name(alloc, m, instance, &d.name)?;
+    add_port_edge(alloc, g, ports, k, &d.name, wire)
 }
 
 fn add_joins(
@@ -168,11 +185,25 @@ fn add_modules(
     Ok(())
 }
 
-// How many lines modules have: about as many names as their graph has, or more.
-fn count_lines(modules: &[Module]) -> usize {
+// About how many names the graph gets by a line: a net for each line that drives one, and for an instance a net and its ports.
+fn count_names(item: &Item) -> usize {
+    match item {
+        Item::Assign { .. } => 1,
+        Item::Instance { connections, .. } => connections.connections().len().saturating_add(1),
+        Item::Wire { .. } => 0,
+        Item::Reg { .. } => 0,
+        Item::Memory { .. } => 0,
+        Item::Always(_) => 0,
+    }
+}
+
+// About how many names the graph of modules gets.
+fn count_all_names(modules: &[Module]) -> usize {
     let mut count: usize = 0;
     for m in modules {
-        count = count.saturating_add(m.items().len());
+        for item in m.items() {
+            count = count.saturating_add(count_names(item));
+        }
     }
     count
 }
@@ -181,7 +212,7 @@ fn merged_draft(alloc: Global, library: &Library, root: Option<&Text>) -> Result
     ensures { IfOk result (λ g. IsDraftOf (merged_edges library.now (is_named (option_copied root.entry))) g) }
 {
     let modules = library.modules();
-    let mut g = Draft::with_room(alloc, count_lines(modules))?;
+    let mut g = Draft::with_room(alloc, count_all_names(modules))?;
     add_modules(alloc, &mut g, library, root, modules)?;
     Ok(g)
 }

@@ -1,8 +1,8 @@
 // Graphs of names.
 
-ghost use Rattle.std.specs.Prelude.{◌≡◌, ◌++◌, ◌∷◌, [], ℕ, List, Some, true, length, bytes_eq, ◌↔◌, if◌then◌else◌, IfOk, OnOk};
+ghost use Rattle.std.specs.Prelude.{◌≡◌, ◌++◌, ◌∷◌, [], ℕ, List, Some, None, true, length, bytes_eq, ◌↔◌, if◌then◌else◌, IfOk, OnOk};
 ghost use Rattle.vlog_tree.specs.Loops.{Edges, Reaches};
-ghost use Rattle.vlog_rules.specs.NameTable.{value_in};
+ghost use Rattle.vlog_scope.specs.NameTable.{value_in};
 ghost use Rattle.vlog_graph.specs.Graphs.{Steps};
 ghost use Rattle.vlog_net_graph.specs.Names.{IsNumbered, IsDraftOf, IsGraphOf, IsExtended, IsListed, IsGraphListed};
 
@@ -71,6 +71,20 @@ impl Draft {
         self.numbers.get(name).copied()
     }
 
+    // Gives a name that has none the next number.
+    fn add_name(&mut self, alloc: Global, name: Vec<u8>) -> Result<usize, AllocError>
+        requires { value_in self.old.numbers name.items ≡ None }
+        ensures number { IfOk result (λ j. value_in self.new.numbers name.items ≡ Some j) }
+        ensures extended { OnOk result (IsExtended (value_in self.old.numbers) (value_in self.new.numbers)) }
+        ensures graph { OnOk result ((edges : Edges) → IsDraftOf edges self.old → IsDraftOf edges self.new) }
+        ensures listed { OnOk result (IsListed self.old → IsListed self.new) }
+    {
+        let number = self.names.len();
+        insert_number(alloc, &mut self.numbers, &name, number)?;
+        self.names.push(name)?;
+        Ok(number)
+    }
+
     // The number of a name, which gets one where it has none.
     fn number_for(&mut self, alloc: Global, name: &[u8]) -> Result<usize, AllocError>
         ensures number { IfOk result (λ j. value_in self.new.numbers name.now ≡ Some j) }
@@ -78,14 +92,26 @@ impl Draft {
         ensures graph { OnOk result ((edges : Edges) → IsDraftOf edges self.old → IsDraftOf edges self.new) }
         ensures listed { OnOk result (IsListed self.old → IsListed self.new) }
     {
-        if let Some(number) = self.number(name) {
-            return Ok(number);
+        match self.number(name) {
+            Some(number) => Ok(number),
+            None => {
+                let name = name.to_vec(alloc)?;
+                self.add_name(alloc, name)
+            }
         }
-        let number = self.names.len();
-        let text = name.to_vec(alloc)?;
-        self.names.push(text)?;
-        insert_number(alloc, &mut self.numbers, name, number)?;
-        Ok(number)
+    }
+
+    // The same of a name in memory of its own, which is kept where it is new.
+    fn number_of(&mut self, alloc: Global, name: Vec<u8>) -> Result<usize, AllocError>
+        ensures number { IfOk result (λ j. value_in self.new.numbers name.items ≡ Some j) }
+        ensures extended { OnOk result (IsExtended (value_in self.old.numbers) (value_in self.new.numbers)) }
+        ensures graph { OnOk result ((edges : Edges) → IsDraftOf edges self.old → IsDraftOf edges self.new) }
+        ensures listed { OnOk result (IsListed self.old → IsListed self.new) }
+    {
+        match self.number(&name) {
+            Some(number) => Ok(number),
+            None => self.add_name(alloc, name),
+        }
     }
 
     /// One more edge: the first name rests on the second.
@@ -95,6 +121,17 @@ impl Draft {
     {
         let a = self.number_for(alloc, from)?;
         let b = self.number_for(alloc, to)?;
+        self.edges.push((a, b))?;
+        Ok(())
+    }
+
+    /// One more edge, of names in memory of their own.
+    pub fn add_owned(&mut self, alloc: Global, from: Vec<u8>, to: Vec<u8>) -> Result<(), AllocError>
+        ensures graph { OnOk result ((edges : Edges) → IsDraftOf edges self.old → IsDraftOf (edges ++ (from.items, to.items) ∷ []) self.new) }
+        ensures listed { OnOk result (IsListed self.old → IsListed self.new) }
+    {
+        let a = self.number_of(alloc, from)?;
+        let b = self.number_of(alloc, to)?;
         self.edges.push((a, b))?;
         Ok(())
     }

@@ -37,7 +37,7 @@ use Rattle.vlog_parse_value.specs.declared.state.State.TheVariants.{Head, Item, 
 use Rattle.vlog_parse_value.specs.declared.state.Reader.{Reader}
 use Rattle.vlog_read_words.specs.Coming.{coming_words}
 use Rattle.vlog_parse_value.specs.Reading.{begun, with_port, with_item, module_of, finished, with_step, opened, with_connection, joined}
-use Rattle.vlog_parse.specs.Reading.{no_connection, connection_of, port_of}
+use Rattle.vlog_parse_block.specs.Reading.{no_connection, connection_of, port_of}
 use Rattle.vlog_parse.specs.Finishing.{Left, Words, Named, Numbered, Counted, OneAtom, put_step, put_atom, Modules, Items, ItemBehind, MorePorts, Ports, Cells, RegEnd, DeclarationEnd, Name, High, Declaration, MoreSteps, ElseOrMore, Condition, Driven, ValueEnd, MoreAtoms, AtomBehind, Low, HighOrIndex, NameEnd, AnAtom, InBraces, Drives, Place, Target, MoreConnections, JoinedNet, JoinedPort, Instances, FinishesHead, FinishesItem, FinishesValue, FinishesBlock, FinishesState, Finishes}
 use Rattle.vlog_parse.proofs.HeadReads.{between_read}
 

@@ -12,7 +12,7 @@ use Rattle.vlog_parse_value.specs.declared.state.HeadState.TheVariants.{Between}
 use Rattle.vlog_parse_value.specs.declared.state.State.TheVariants.{Head}
 use Rattle.vlog_parse_value.specs.declared.state.Reader.{Reader}
 use Rattle.vlog_parse_value.specs.Reading.{at}
-use Rattle.vlog_parse.specs.Reading.{next, whole}
+use Rattle.vlog_parse_block.specs.Reading.{next, whole}
 use Rattle.vlog_parse.specs.Finishing.{Finishes}
 use Rattle.vlog_parse.specs.Refused.{Begins, IsFirstRefused}
 use Rattle.vlog_parse.proofs.IsRead.{Follows}

@@ -17,7 +17,7 @@ use Rattle.vlog_parse_value.specs.declared.state.ValueState.TheVariants.{AtomSta
 use Rattle.vlog_parse_value.specs.declared.state.BlockState.TheVariants.{StepStart, IfName, StepTarget, StepIndex}
 use Rattle.vlog_parse_value.specs.declared.state.State.TheVariants.{Value, Block}
 use Rattle.vlog_parse_value.specs.Reading.{Next, at, behind, with_step, opened}
-use Rattle.vlog_parse.specs.Reading.{ended_by, ended, step_start, after_end, if_name, step_target, step_index}
+use Rattle.vlog_parse_block.specs.Reading.{ended_by, ended, step_start, after_end, if_name, step_target, step_index}
 use Rattle.vlog_parse.specs.Finishing.{Left, Words, Named, ItemBehind, Finishes, MoreSteps, ElseOrMore, Condition, Target, Place, put_step}
 use Rattle.vlog_parse.proofs.IsRead.{IsRead, as_read, fixed_read, word_or, name_or, name_read}
 use Rattle.vlog_parse.proofs.Items.{not_word}

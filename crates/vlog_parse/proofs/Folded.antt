@@ -13,7 +13,7 @@ use Rattle.vlog_tree.specs.Clamped.{clamped_atom, clamped_step, clamped_item, cl
 use Rattle.vlog_parse_value.specs.declared.state.Draft.{Draft}
 use Rattle.vlog_parse_value.specs.declared.state.Joining.{Joining}
 use Rattle.vlog_parse_value.specs.Reading.{begun, finished, with_connection, joined}
-use Rattle.vlog_parse.specs.Reading.{no_connection}
+use Rattle.vlog_parse_block.specs.Reading.{no_connection}
 use Rattle.vlog_parse.specs.Finishing.{put_module, put_port, put_item, put_step, put_atom}
 
 behind_one : {A : Type 0} (xs : List A) (y : A) (ys : List A) → (xs ++ y ∷ []) ++ ys ≡ xs ++ y ∷ ys

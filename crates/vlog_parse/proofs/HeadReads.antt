@@ -18,7 +18,7 @@ use Rattle.vlog_parse_value.specs.declared.state.HeadState.TheVariants.{ModuleNa
 use Rattle.vlog_parse_value.specs.declared.state.ItemState.TheVariants.{ItemStart}
 use Rattle.vlog_parse_value.specs.declared.state.State.TheVariants.{Head, Item}
 use Rattle.vlog_parse_value.specs.Reading.{at, behind, begun, finished, with_port}
-use Rattle.vlog_parse.specs.Reading.{port_of, between, module_name, port_start, port_next, range_high, named, declared_name, range_or_name}
+use Rattle.vlog_parse_block.specs.Reading.{port_of, between, module_name, port_start, port_next, range_high, named, declared_name, range_or_name}
 use Rattle.vlog_parse.specs.Finishing.{Words, Named, Modules, Items, MorePorts, Ports, Name, High, Declaration, put_module, put_port, put_item}
 use Rattle.vlog_parse.proofs.IsRead.{IsRead, as_read, none_read, fixed_read, word_or, name_read, count_read}
 use Rattle.vlog_parse.proofs.Folded.{whole_module}

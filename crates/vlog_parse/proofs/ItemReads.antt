@@ -22,7 +22,7 @@ use Rattle.vlog_parse_value.specs.declared.state.ValueState.TheVariants.{AssignN
 use Rattle.vlog_parse_value.specs.declared.state.BlockState.TheVariants.{StepStart}
 use Rattle.vlog_parse_value.specs.declared.state.State.TheVariants.{Head, Item, Value, Block}
 use Rattle.vlog_parse_value.specs.Reading.{at, behind, with_item, finished, item_behind, no_steps, with_connection, joined}
-use Rattle.vlog_parse.specs.Reading.{no_connection, connection_of, item_word, item_start, reg_next, cells_last, instance_name, connection_port, connection_net, connection_next}
+use Rattle.vlog_parse_block.specs.Reading.{no_connection, connection_of, item_word, item_start, reg_next, cells_last, instance_name, connection_port, connection_net, connection_next}
 use Rattle.vlog_parse.specs.Finishing.{Words, Named, Modules, Items, ItemBehind, Cells, RegEnd, Declaration, MoreSteps, Drives, MoreConnections, JoinedNet, JoinedPort, Instances, put_item}
 use Rattle.vlog_parse.proofs.IsRead.{IsRead, as_read, fixed_read, word_or, name_or, name_read, count_read}
 use Rattle.vlog_parse.proofs.Items.{name_no_item}

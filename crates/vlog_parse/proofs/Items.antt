@@ -4,7 +4,7 @@ use Rattle.vlog_tree.specs.Names.{is_name}
 use Rattle.vlog_tree.specs.Spelling.{Word}
 use Rattle.vlog_grammar.proofs.OneBlock.{NoName, keywords}
 use Rattle.vlog_parse_value.specs.declared.state.Draft.{Draft}
-use Rattle.vlog_parse.specs.Reading.{begins_item, item_word, item_start}
+use Rattle.vlog_parse_block.specs.Reading.{begins_item, item_word, item_start}
 use Rattle.vlog_parse.proofs.IsRead.{same_word}
 
 -- a name is no keyword

@@ -16,7 +16,7 @@ use Rattle.vlog_parse_value.specs.declared.state.State.TheVariants.{Head, Item, 
 use Rattle.vlog_parse_value.specs.declared.state.Reader.{Reader}
 use Rattle.vlog_read_words.specs.Coming.{coming_words}
 use Rattle.vlog_parse_value.specs.Reading.{behind}
-use Rattle.vlog_parse.specs.Reading.{head_next, item_next, value_word, block_next, state_next, next, whole_head, whole}
+use Rattle.vlog_parse_block.specs.Reading.{head_next, item_next, value_word, block_next, state_next, next, whole_head, whole}
 use Rattle.vlog_parse.specs.Finishing.{Words, FinishesHead, FinishesItem, FinishesValue, FinishesBlock, FinishesState, Finishes}
 use Rattle.vlog_parse.proofs.IsRead.{IsRead, fixed_read}
 use Rattle.vlog_parse.proofs.HeadReads.{EndsBetween, between_read, module_name_read, port_start_read, name_read_of, range_or_name_read, range_high_read, port_next_read}

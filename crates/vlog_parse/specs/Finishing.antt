@@ -41,7 +41,7 @@ use Rattle.vlog_parse_value.specs.declared.state.State.TheVariants.{Head, Item, 
 use Rattle.vlog_parse_value.specs.declared.state.Reader.{Reader}
 use Rattle.vlog_read_words.specs.Coming.{coming_words}
 use Rattle.vlog_parse_value.specs.Reading.{begun, with_port, with_item, finished, with_step, opened, with_connection, joined}
-use Rattle.vlog_parse.specs.Reading.{no_connection, connection_of, port_of}
+use Rattle.vlog_parse_block.specs.Reading.{no_connection, connection_of, port_of}
 
 -- which words are left
 abbrev pub Left : Type 1

@@ -8,9 +8,8 @@ ghost use Rattle.vlog_lex.specs.Scanned.{word_of, words_at};
 ghost use Rattle.vlog_parse.specs.Refused.{Refuses};
 ghost use Rattle.vlog_parse.specs.Finishing.{IsFormed};
 ghost use Rattle.vlog_parse_value.specs.Reading as read;
-ghost use Rattle.vlog_parse.specs.Reading as spec;
+ghost use Rattle.vlog_parse_block.specs.Reading as spec;
 
-use crate::block::{after_end, if_name, step_index, step_start, step_target};
 use crate::item::{
     cells_last, connection_net, connection_next, connection_port, instance_name, item_start,
     reg_next,
@@ -20,6 +19,7 @@ use crate::port::{
 };
 use std::alloc::{AllocError, Global};
 use vlog_lex::Lexeme;
+use vlog_parse_block::{after_end, if_name, step_index, step_start, step_target};
 use vlog_parse_value::{
     BlockState, HeadState, ItemState, Reader, State, ValueState, assign_name, atom_end, atom_high,
     atom_low, atom_next, atom_start, brace_start, concat_next, discard, discard_block,

@@ -3,7 +3,7 @@
 ghost use Rattle.std.specs.Prelude.{◌≡◌, IfOk};
 ghost use Rattle.vlog_tree.specs.Form.{IsModule};
 ghost use Rattle.vlog_parse_value.specs.Reading as read;
-ghost use Rattle.vlog_parse.specs.Reading as spec;
+ghost use Rattle.vlog_parse_block.specs.Reading as spec;
 
 use std::alloc::{AllocError, Global};
 use tapa_base::Text;

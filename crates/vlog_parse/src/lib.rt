@@ -1,7 +1,6 @@
 //! The tree of the words of a text of the Verilog subset, read word by word, or the first word that no design goes on with.
 #![tactic(auto)]
 
-mod block;
 mod design;
 mod item;
 mod port;

@@ -2,7 +2,7 @@
 
 ghost use Rattle.std.specs.Prelude.{◌≡◌, IfOk, true};
 ghost use Rattle.vlog_tree.specs.Names.{is_name as is_name_lem};
-ghost use Rattle.vlog_parse.specs.Reading as spec;
+ghost use Rattle.vlog_parse_block.specs.Reading as spec;
 
 use std::alloc::{AllocError, Global};
 use tapa_base::Text;

@@ -1,11 +1,11 @@
--- Keywords have a small letter in the second place.
+-- By their first two letters words are seen to be no keywords.
 use Rattle.std.proofs.Common.{◌≡◌, Bool, true, false, cond, ◌&&◌, ◌||◌, List, [], ◌∷◌, refl, ap, ◌∙◌}
 use Rattle.std.specs.Prelude.{bytes_eq}
 use Rattle.std.specs.List.{list_any}
 use Rattle.std.specs.Cmp.Lexicographic.{bytes_decides}
 use Rattle.vlog_tree.specs.Names.{is_name, has_name_form, is_among, is_keyword, always_to_default, defparam_to_event, for_to_input, instance_to_not, notif0_to_real, realtime_to_strong0, strong1_to_unsigned, use_to_xor}
 use Rattle.vlog_tree.specs.Spelling.{Word}
-use Rattle.vlog_read_words.specs.Keywords.{is_unlike_keywords}
+use Rattle.vlog_read_words.specs.Keywords.{is_unlike_keywords, a_to_d, e_to_i, j_to_o, p_to_s, t_to_x}
 
 not_this : (x w : Word) (b : Bool) → bytes_eq x w ≡ b → is_unlike_keywords x ≡ true → is_unlike_keywords w ≡ false → b ≡ false
 not_this x w true e h k =
@@ -28,7 +28,7 @@ eight : (a b c d e f g h : Bool) → a ≡ false → b ≡ false → c ≡ false
 eight a b c d e f g h p q r s t u v w = rw (p, q, r, s, t, u, v, w) refl
 
 no_keyword : (x : Word) → is_unlike_keywords x ≡ true → is_keyword x ≡ false
-unfolding is_keyword always_to_default defparam_to_event for_to_input instance_to_not notif0_to_real realtime_to_strong0 strong1_to_unsigned use_to_xor
+unfolding a_to_d e_to_i j_to_o p_to_s t_to_x is_keyword always_to_default defparam_to_event for_to_input instance_to_not notif0_to_real realtime_to_strong0 strong1_to_unsigned use_to_xor
 no_keyword x h =
     eight (is_among always_to_default x) (is_among defparam_to_event x) (is_among for_to_input x) (is_among instance_to_not x)
     (is_among notif0_to_real x) (is_among realtime_to_strong0 x) (is_among strong1_to_unsigned x) (is_among use_to_xor x)

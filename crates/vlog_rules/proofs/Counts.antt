@@ -26,10 +26,10 @@ twice n = grind (arith, nat_tests)
 none_more : (n : ℕ) → 0 + n ≡ n
 none_more n = omega arith
 
-times-append : (names : List Name) (name x : Name) → times_in (names ++ name ∷ []) x ≡ times_in names x + cond (bytes_eq name x) 1 0
+pub times-append : (names : List Name) (name x : Name) → times_in (names ++ name ∷ []) x ≡ times_in names x + cond (bytes_eq name x) 1 0
 times-append names name x = sum_by-append (λ (y : Name). cond (bytes_eq y x) 1 0) names (name ∷ []) ∙ ap (λ n. times_in names x + n) (none_more (cond (bytes_eq name x) 1 0))
 
-capped : (a n : ℕ) (b : Bool) → a ≡ min n 2 → cond b (min (a + 1) 2) a ≡ min (n + cond b 1 0) 2
+pub capped : (a n : ℕ) (b : Bool) → a ≡ min n 2 → cond b (min (a + 1) 2) a ≡ min (n + cond b 1 0) 2
 capped a n true e = ap (λ k. min (k + 1) 2) e ∙ grind (arith, nat_tests)
 capped a n false e = e ∙ grind (arith, nat_tests)
 

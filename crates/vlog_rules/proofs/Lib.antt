@@ -1,3 +1,2 @@
-pub mod Found
 pub mod Counts
-pub mod NameTables
+pub mod Counting

@@ -1,1 +1,1 @@
-pub mod NameTable
+pub mod Drives

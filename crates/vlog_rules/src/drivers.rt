@@ -1,89 +1,111 @@
 // The first name that is driven too little or too often.
 
-ghost use Rattle.std.specs.Prelude.{◌≡◌, ◌∷◌, ◌++◌, ◌+◌, ◌==◌, ◌&&◌, [], ℕ, List, Bool, map, min, bytes_eq, ◌||◌, count_by, false, if◌then◌else◌, IfOk, OnOk};
+ghost use Rattle.std.specs.Prelude.{◌≡◌, ◌<◌, ◌∷◌, ◌++◌, ◌+◌, length, get_or, slice_set, ◌==◌, ◌&&◌, [], ℕ, List, Bool, map, min, bytes_eq, ◌||◌, count_by, false, if◌then◌else◌, IfOk, OnOk};
 ghost use Rattle.std.specs.Option.{option_copied, option_map_or};
 ghost use Rattle.std.specs.List.{flat_map, list_any};
-ghost use Rattle.vlog_rules.specs.NameTable.{count_in, CountsTo};
+ghost use Rattle.vlog_scope.specs.NameTable.{count_in, CountsTo};
+ghost use Rattle.vlog_scope.specs.Chains.{name_at};
+ghost use Rattle.vlog_rules.specs.Drives.{CountsPlaces};
 ghost use Rattle.vlog_tree.specs.Table.{first_violation, port_declared, declared, ports_of, one_if, times_in};
 ghost use Rattle.vlog_tree.specs.V4.{connection_driven, line_driven, drives, step_assigns, is_block_of, breaks_driving as breaks_driving_lem, module_drives, v4_uses};
 
-use crate::library::Library;
-use crate::name_table::{NameCounts, count_of, count_one};
 use crate::names::{is_input, named_if};
-use crate::scope::Scope;
 use std::alloc::{AllocError, Global};
 use tapa_base::Text;
+use vlog_scope::{Library, NameCounts, Scope, count_of, count_one};
 use vlog_tree::{Connection, Declaration, Item, Module, NetKind, Step};
 
-#[tactic(auto, using(crate::proofs::Counts::one_name_more, crate::proofs::Counts::no_name_more), unfolding(vlog_tree::specs::V4::connection_driven))]
-fn count_connection(
-    alloc: Global,
-    counts: &mut NameCounts,
-    ports: &Scope,
-    connection: &Connection,
-) -> Result<(), AllocError>
-    ensures { OnOk result ((names : List (List ℕ)) → CountsTo counts.old (times_in names) → CountsTo counts.new (times_in (names ++ connection_driven ports.now connection.now))) }
+// Counts what stands at a place once more, where there is such a place.
+#[tactic(auto, using(std::proofs::lemmas::List::set_past))]
+fn count_place(counts: &mut Vec<u8>, place: usize)
+    ensures { counts.new.items ≡ slice_set counts.old.items place (min (get_or counts.old.items place 0 + 1) 2) }
+{
+    if place < counts.len() {
+        counts[place] = counts[place].saturating_add(1).min(2);
+    }
+}
+
+// Counts a name once more, where it is declared.
+fn count_net(scope: &Scope, counts: &mut Vec<u8>, name: &Text)
+    ensures { (names : List (List ℕ)) → CountsPlaces scope.now counts.old.items (times_in names) → CountsPlaces scope.now counts.new.items (times_in (names ++ name.now ∷ [])) }
+{
+    match scope.first_place(name.bytes()) {
+        Some(place) => count_place(counts, place),
+        None => {}
+    }
+}
+
+#[tactic(auto, using(crate::proofs::Counts::no_name_more), unfolding(vlog_tree::specs::V4::connection_driven))]
+fn count_connection(scope: &Scope, counts: &mut Vec<u8>, ports: &Scope, connection: &Connection)
+    ensures { (names : List (List ℕ)) → CountsPlaces scope.now counts.old.items (times_in names) → CountsPlaces scope.now counts.new.items (times_in (names ++ connection_driven ports.now connection.now)) }
 {
     if is_input(ports.find(&connection.port).0) {
-        Ok(())
-    } else {
-        count_one(alloc, counts, connection.net.bytes())
+        return;
     }
+    count_net(scope, counts, &connection.net);
 }
 
-fn count_connections(
-    alloc: Global,
-    counts: &mut NameCounts,
-    ports: &Scope,
-    connections: &[Connection],
-) -> Result<(), AllocError>
-    ensures { OnOk result ((names : List (List ℕ)) → CountsTo counts.old (times_in names) → CountsTo counts.new (times_in (names ++ flat_map (connection_driven ports.now) connections.now))) }
+fn count_connections(scope: &Scope, counts: &mut Vec<u8>, ports: &Scope, connections: &[Connection])
+    ensures { (names : List (List ℕ)) → CountsPlaces scope.now counts.old.items (times_in names) → CountsPlaces scope.now counts.new.items (times_in (names ++ flat_map (connection_driven ports.now) connections.now)) }
 {
     for l in connections {
-        count_connection(alloc, counts, ports, l)?;
+        count_connection(scope, counts, ports, l);
     }
-    Ok(())
 }
 
-#[tactic(auto, using(crate::proofs::Counts::one_name_more, crate::proofs::Counts::no_name_more))]
-fn count_line(
-    alloc: Global,
-    counts: &mut NameCounts,
-    library: &Library,
-    item: &Item,
-) -> Result<(), AllocError>
-    ensures { OnOk result ((names : List (List ℕ)) → CountsTo counts.old (times_in names) → CountsTo counts.new (times_in (names ++ line_driven library.now item.now))) }
+#[tactic(auto, using(crate::proofs::Counts::no_name_more))]
+fn count_line(scope: &Scope, counts: &mut Vec<u8>, library: &Library, item: &Item)
+    ensures { (names : List (List ℕ)) → CountsPlaces scope.now counts.old.items (times_in names) → CountsPlaces scope.now counts.new.items (times_in (names ++ line_driven library.now item.now)) }
 {
     match item {
-        Item::Assign { net: x, .. } => count_one(alloc, counts, x.bytes()),
+        Item::Assign { net: x, .. } => count_net(scope, counts, x),
         Item::Instance {
             module: m,
             connections,
             ..
         } => {
             count_connections(
-                alloc,
+                scope,
                 counts,
                 library.ports_named(m),
                 connections.connections(),
             )
         }
-        Item::Wire { .. } => Ok(()),
-        Item::Reg { .. } => Ok(()),
-        Item::Memory { .. } => Ok(()),
-        Item::Always(_) => Ok(()),
+        Item::Wire { .. } => {}
+        Item::Reg { .. } => {}
+        Item::Memory { .. } => {}
+        Item::Always(_) => {}
     }
 }
 
-// How often each net is driven.
-fn drive_counts(alloc: Global, library: &Library, items: &[Item]) -> Result<NameCounts, AllocError>
-    ensures { IfOk result (λ counts. CountsTo counts (drives library.now items.now)) }
+// How often each declared name is driven.
+fn drive_counts(
+    alloc: Global,
+    library: &Library,
+    scope: &Scope,
+    items: &[Item],
+) -> Result<Vec<u8>, AllocError>
+    ensures { IfOk result (λ counts. CountsPlaces scope.now counts.items (drives library.now items.now)) }
 {
-    let mut counts = NameCounts::with_capacity(alloc, items.len())?;
+    let mut counts = vec![in alloc; 0u8; scope.declarations().len()]?;
     for i in items {
-        count_line(alloc, &mut counts, library, i)?;
+        count_line(scope, &mut counts, library, i);
     }
     Ok(counts)
+}
+
+// How often a name was counted that is declared.
+fn drives_of(scope: &Scope, counts: &[u8], name: &Text) -> usize
+    requires { (i : ℕ) × (i < length scope.now) × (name_at scope.now i ≡ name.now) }
+    ensures { (f : List ℕ → ℕ) → CountsPlaces scope.now counts.now f → result ≡ min (f name.now) 2 }
+{
+    match scope.first_place(name.bytes()) {
+        Some(place) => match counts.get(place) {
+            Some(count) => usize::from(*count),
+            None => 0,
+        },
+        None => 0,
+    }
 }
 
 // The register or memory that a step assigns.
@@ -182,23 +204,25 @@ fn breaks_driving(drives: usize, blocks: usize, net_kind: NetKind) -> bool
     }
 }
 
-fn declaration<'a>(d: &'a Declaration, drives: &NameCounts, blocks: &NameCounts) -> Option<&'a Text>
-    ensures { (f g : List ℕ → ℕ) → CountsTo drives.now f → CountsTo blocks.now g → option_copied result ≡ first_violation ((d.now.name, breaks_driving_lem (f d.now.name) (g d.now.name) d.now.net_kind) ∷ []) }
+fn declaration<'a>(
+    scope: &Scope,
+    d: &'a Declaration,
+    drives: &[u8],
+    blocks: &NameCounts,
+) -> Option<&'a Text>
+    requires { (i : ℕ) × (i < length scope.now) × (name_at scope.now i ≡ d.now.name) }
+    ensures { (f g : List ℕ → ℕ) → CountsPlaces scope.now drives.now f → CountsTo blocks.now g → option_copied result ≡ first_violation ((d.now.name, breaks_driving_lem (f d.now.name) (g d.now.name) d.now.net_kind) ∷ []) }
 {
-    let driven = count_of(drives, d.name.bytes());
+    let driven = drives_of(scope, drives, &d.name);
     let assigned = count_of(blocks, d.name.bytes());
     named_if(&d.name, breaks_driving(driven, assigned, d.net_kind))
 }
 
-fn declarations<'a>(
-    declarations: &'a [Declaration],
-    drives: &NameCounts,
-    blocks: &NameCounts,
-) -> Option<&'a Text>
-    ensures { (f g : List ℕ → ℕ) → CountsTo drives.now f → CountsTo blocks.now g → option_copied result ≡ first_violation (map (λ d. (d.name, breaks_driving_lem (f d.name) (g d.name) d.net_kind)) declarations.now) }
+fn declarations<'a>(scope: &'a Scope, drives: &[u8], blocks: &NameCounts) -> Option<&'a Text>
+    ensures { (f g : List ℕ → ℕ) → CountsPlaces scope.now drives.now f → CountsTo blocks.now g → option_copied result ≡ first_violation (map (λ d. (d.name, breaks_driving_lem (f d.name) (g d.name) d.net_kind)) scope.now) }
 {
-    for d in declarations {
-        if let Some(x) = declaration(d, drives, blocks) {
+    for d in scope.declarations() {
+        if let Some(x) = declaration(scope, d, drives, blocks) {
             return Some(x);
         }
     }
@@ -215,9 +239,9 @@ fn module_names<'a>(
     requires { scope.now ≡ declared m.now }
     ensures { IfOk result (λ o. option_copied o ≡ first_violation (module_drives library.now m.now)) }
 {
-    let drives = drive_counts(alloc, library, m.items())?;
+    let drives = drive_counts(alloc, library, scope, m.items())?;
     let blocks = block_counts(alloc, m.items())?;
-    Ok(declarations(scope.declarations(), &drives, &blocks))
+    Ok(declarations(scope, &drives, &blocks))
 }
 
 /// The first name in the text that is driven too little or too often.

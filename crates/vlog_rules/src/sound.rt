@@ -4,12 +4,11 @@ ghost use Rattle.std.specs.Prelude.{◌≡◌, IfErr, IfOk, OnOk};
 ghost use Rattle.vlog_tree.specs.Refused.{Refuses, IsSound};
 
 use crate::drivers::first_misdriven;
-use crate::library::Library;
 use crate::names::first_unknown;
-use crate::scope::copy_text;
 use crate::widths::first_misfit;
 use std::alloc::{AllocError, Global};
 use std::marker::Model;
+use vlog_scope::{Library, copy_text};
 use vlog_tree::{Module, VFault};
 
 /// Modules whose names, widths and drivers are right. Loops, and what the top asks of the outside, are not looked at.

@@ -7,10 +7,9 @@ ghost use Rattle.std.specs.List.{flat_map, list_all};
 ghost use Rattle.vlog_tree.specs.Table.{first_violation, declared, bits_of};
 ghost use Rattle.vlog_tree.specs.V3.{is_width as is_width_lem, is_cell_count as is_cell_count_lem, net_fits as fits_net, memory_fits as fits_memory, atom_bits as bits_of_atom, atom_fits as fits_atom, has_bits as has_bits_lem, is_divisor as is_divisor_lem, op_fits as fits_op, value_fits as fits_value, step_widths, connection_widths, item_widths, port_widths, module_widths, v3_uses};
 
-use crate::library::Library;
 use crate::names::named_if;
-use crate::scope::Scope;
 use tapa_base::Text;
+use vlog_scope::{Library, Scope};
 use vlog_tree::{Atom, BinaryOp, Connection, Item, Module, PortDecl, Step, Value};
 
 fn is_width(bits: u32) -> bool

@@ -6,7 +6,7 @@ use Rattle.vlog_tree.specs.Environment.{tokens}
 use Rattle.vlog_law_runs.proofs.Sound.{true_not_false}
 use Rattle.vlog_ref_start.specs.Outside.{lists_of}
 use Rattle.cycle_sim.specs.Simulators.{sim_of}
-use Rattle.cycle_sim.specs.Sims.{IsNext, IsLater, AreAdded, IsRunTo}
+use Rattle.sim_parts.specs.Sims.{IsNext, IsLater, AreAdded, IsRunTo}
 use Rattle.cycle_sim.proofs.Adding.{tokens_next, later_next, run_on}
 use Rattle.cycle_sim.proofs.sim.run_cycles.Goals as goal
 

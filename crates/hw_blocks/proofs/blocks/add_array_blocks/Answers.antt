@@ -1,7 +1,7 @@
 use Rattle.std.proofs.Common.{◌≡◌, length, arith}
 use Rattle.task_law.specs.Texts.{array_block}
 use Rattle.hw_atoms.proofs.Grows.{each_more, each_end}
-use Rattle.hw_states.specs.Shapes.{form}
+use Rattle.hw_shape.specs.Shapes.{form}
 use Rattle.hw_blocks.proofs.blocks.add_array_blocks.Goals as goal
 
 pub loop-a-preserved : goal.loop-a-preserved

@@ -1,7 +1,7 @@
 use Rattle.std.proofs.Common.{◌≡◌, length, arith}
 use Rattle.task_law.specs.Texts.{variable_block}
 use Rattle.hw_atoms.proofs.Grows.{each_more, each_end}
-use Rattle.hw_states.specs.Shapes.{form}
+use Rattle.hw_shape.specs.Shapes.{form}
 use Rattle.hw_blocks.proofs.blocks.add_variable_blocks.Goals as goal
 
 pub loop-r-preserved : goal.loop-r-preserved

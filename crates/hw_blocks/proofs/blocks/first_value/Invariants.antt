@@ -1,6 +1,6 @@
 use Rattle.std.proofs.Common.{◌≡◌}
 use Rattle.task_law.specs.Texts.{first_by}
-use Rattle.hw_states.specs.Shapes.{form}
+use Rattle.hw_shape.specs.Shapes.{form}
 use Rattle.hw_blocks.proofs.blocks.first_value.Given as goal
 
 abbrev pub invariant-loop-i : goal.invariant-loop-i

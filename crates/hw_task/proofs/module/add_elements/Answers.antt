@@ -5,7 +5,7 @@ use Rattle.task_law.specs.Shape.{state_count}
 use Rattle.task_law.specs.States.{decoded, state_wires}
 use Rattle.task_law.specs.Texts.{inputs, held, offered, reads_of, read_numbers, choices, outputs, blocks}
 use Rattle.hw_atoms.proofs.Grows.{both}
-use Rattle.hw_states.specs.Shapes.{form}
+use Rattle.hw_shape.specs.Shapes.{form}
 use Rattle.hw_task.proofs.module.add_elements.Goals as goal
 
 pub returns : goal.returns

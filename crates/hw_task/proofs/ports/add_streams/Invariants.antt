@@ -2,7 +2,7 @@ use Rattle.std.proofs.Common.{◌≡◌}
 use Rattle.hw_build.specs.Elements.{with_all}
 use Rattle.hw_lists.specs.Scope.{each}
 use Rattle.task_law.specs.Texts.{stream_inputs}
-use Rattle.hw_states.specs.Shapes.{form}
+use Rattle.hw_shape.specs.Shapes.{form}
 use Rattle.hw_task.proofs.ports.add_streams.Given as goal
 
 abbrev pub invariant-loop-s : goal.invariant-loop-s

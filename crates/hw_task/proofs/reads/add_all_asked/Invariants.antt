@@ -3,7 +3,7 @@ use Rattle.hw_build.specs.Elements.{with_all}
 use Rattle.hw_lists.specs.Scope.{each}
 use Rattle.task_law.specs.Texts.{asked}
 use Rattle.hw_task.specs.Asked.{AreAsked}
-use Rattle.hw_states.specs.Shapes.{form}
+use Rattle.hw_shape.specs.Shapes.{form}
 use Rattle.hw_task.proofs.reads.add_all_asked.Given as goal
 
 abbrev pub invariant-loop-k : goal.invariant-loop-k

@@ -15,7 +15,7 @@ use Rattle.task_law.specs.Texts.{read_index}
 use Rattle.hw_atoms.proofs.Grows.{both}
 use Rattle.hw_expressions.specs.Grown.{Grows}
 use Rattle.hw_expressions.specs.Reads.{read_form}
-use Rattle.hw_states.specs.Shapes.{form}
+use Rattle.hw_shape.specs.Shapes.{form}
 use Rattle.hw_task.proofs.reads.add_read.Goals as goal
 
 pub returns-clause-draft : goal.returns-clause-draft

@@ -4,7 +4,7 @@ use Rattle.task_law.specs.Shape.{state_count}
 use Rattle.task_law.specs.States.{reads_at, index_of, value_of}
 use Rattle.task_law.specs.Wires.{read_count, reads_in}
 use Rattle.task_law.specs.Texts.{most}
-use Rattle.hw_states.specs.Shapes.{form}
+use Rattle.hw_shape.specs.Shapes.{form}
 use Rattle.hw_task.proofs.ReadPorts.{most_more}
 use Rattle.hw_task.proofs.reads.most_reads.Goals as goal
 

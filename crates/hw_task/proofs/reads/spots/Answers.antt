@@ -5,7 +5,7 @@ use Rattle.task_law.specs.Shape.{state_count}
 use Rattle.task_law.specs.Effects.{effect}
 use Rattle.hw_atoms.proofs.Grows.{each_next}
 use Rattle.hw_choices.specs.Entries.{entries_in}
-use Rattle.hw_states.specs.Shapes.{form}
+use Rattle.hw_shape.specs.Shapes.{form}
 use Rattle.hw_task.proofs.reads.spots.Goals as goal
 
 pub loop-k-preserved : goal.loop-k-preserved

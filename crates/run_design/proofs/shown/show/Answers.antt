@@ -1,7 +1,7 @@
 use Rattle.std.proofs.Common.{ℕ, List, [], ◌++◌, ap, sym, append_assoc}
 use Rattle.std.specs.Prelude.{slice_index_or}
 use Rattle.std.proofs.lemmas.List.{append-nil}
-use Rattle.tapa_base.proofs.Known.{part_of_next, appends_none, appends_both}
+use Rattle.tapa_files.proofs.Known.{part_of_next, appends_none, appends_both}
 use Rattle.run_data.specs.Report.{last_line}
 use Rattle.run_program.proofs.Lines.{on_err, map_on_err}
 use Rattle.vlog_ref_start.specs.Outside.{lists_of}

@@ -1,6 +1,6 @@
 use Rattle.std.proofs.Common.{◌≡◌, ◌<◌, ℕ, List, length, take, get_or, ◌∙◌, ap, add-one, arith}
 use Rattle.tapa_base.specs.declared.shape.Port.{Port}
-use Rattle.tapa_base.proofs.Known.{part_so_far, part_of_next, appends_both}
+use Rattle.tapa_files.proofs.Known.{part_so_far, part_of_next, appends_both}
 use Rattle.run_data.specs.Report.{memory_line}
 use Rattle.run_program.proofs.Lines.{on_err}
 use Rattle.run_program.proofs.Showing.{first_so_far, first_next, first_more}

@@ -2,7 +2,7 @@ use Rattle.std.proofs.Common.{◌≡◌, ◌<◌, ℕ, List, [], length, take, g
 use Rattle.std.specs.Prelude.{slice_index_or}
 use Rattle.tapa_base.specs.declared.shape.Port.{Port}
 use Rattle.tapa_base.specs.declared.token.Token.{Token}
-use Rattle.tapa_base.proofs.Known.{part_of_next, appends_both}
+use Rattle.tapa_files.proofs.Known.{part_of_next, appends_both}
 use Rattle.run_data.specs.Report.{stream_line}
 use Rattle.run_program.proofs.Lines.{on_err}
 use Rattle.run_program.proofs.Showing.{first_next, first_more}

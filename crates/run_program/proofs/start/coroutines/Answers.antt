@@ -1,8 +1,8 @@
 use Rattle.std.proofs.Common.{◌+◌, List, length, arith, sym, subst}
 use Rattle.std.specs.declared.alloc.Global.{Global}
 use Rattle.std.specs.declared.sync.Arc.{Arc}
-use Rattle.task_fsm.specs.declared.machine.Fsm.{Fsm}
 use Rattle.coro_machine.specs.declared.coro.Coro.{Coro}
+use Rattle.coro_machine.specs.declared.machine.Machine.{Machine}
 use Rattle.run_program.specs.Started.{AreLowered, AreStarted}
 use Rattle.run_program.proofs.Starting.{started_more}
 use Rattle.run_program.proofs.start.coroutines.Goals as goal
@@ -18,4 +18,4 @@ returns-clause-first c = λ i c' within at. c.loop-i.invariant.1 i c' (omega (ar
 
 pub start_one-requires-clause-lowered : goal.start_one-requires-clause-lowered
 start_one-requires-clause-lowered c =
-    subst (λ (l : List (Arc Fsm Global)). AreLowered c.args.program.now (length c.args.program.now.bodies.items) l) (sym c.deref.ensures.value) c.in_ok-machines.ensures.lowered
+    subst (λ (l : List (Arc Machine Global)). AreLowered c.args.program.now (length c.args.program.now.bodies.items) l) (sym c.deref.ensures.value) c.in_ok-machines.ensures.lowered

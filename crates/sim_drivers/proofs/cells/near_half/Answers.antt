@@ -1,5 +1,5 @@
 use Rattle.std.proofs.Common.{ap, ◌∙◌}
-use Rattle.sim_tape.specs.Operators.{cell_in}
+use Rattle.sim_operations.specs.Operators.{cell_in}
 use Rattle.sim_tape.specs.Tape.{number_at}
 use Rattle.sim_tape.proofs.Growing.{solved_on}
 use Rattle.sim_drivers.proofs.cells.near_half.Goals as goal

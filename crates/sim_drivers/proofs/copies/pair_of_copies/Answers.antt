@@ -1,6 +1,6 @@
 use Rattle.std.proofs.Common.{◌≤◌, Option, sym, ap, subst, ◌∙◌, arith}
 use Rattle.std.specs.Prelude.{IsSome, ◌&&◌, nat_le}
-use Rattle.sim_tape.specs.declared.gates.Pair.{Pair}
+use Rattle.sim_operations.specs.declared.gates.Pair.{Pair}
 use Rattle.sim_tape.proofs.Growing.{pair_on, solved_on}
 use Rattle.sim_lower.proofs.AtomSlots.{some_is}
 use Rattle.sim_lower.proofs.AtomSlots.{atom_range}

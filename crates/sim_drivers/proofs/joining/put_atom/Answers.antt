@@ -1,6 +1,6 @@
 use Rattle.std.proofs.Common.{Option, subst, arith}
 use Rattle.std.specs.Prelude.{IsSome}
-use Rattle.sim_tape.specs.declared.gates.Pair.{Pair}
+use Rattle.sim_operations.specs.declared.gates.Pair.{Pair}
 use Rattle.sim_tape.proofs.Growing.{pair_on, solved_on}
 use Rattle.sim_lower.proofs.AtomSlots.{some_is}
 use Rattle.sim_drivers.proofs.Fronts.{put_told}

@@ -1,6 +1,6 @@
 use Rattle.std.proofs.Common.{Option, subst}
 use Rattle.std.specs.Prelude.{IsSome}
-use Rattle.sim_tape.specs.declared.gates.Pair.{Pair}
+use Rattle.sim_operations.specs.declared.gates.Pair.{Pair}
 use Rattle.vlog_tree.proofs.Lists.{has_left, has_right}
 use Rattle.vlog_tree.specs.Loops.{atom_nets}
 use Rattle.sim_tape.proofs.Growing.{pair_on, solved_on}

@@ -1,5 +1,5 @@
-use Rattle.sim_nets.specs.Edges.{instance_edges}
-use Rattle.sim_nets.proofs.Edging.{below_more}
+use Rattle.sim_names.specs.Edges.{instance_edges}
+use Rattle.sim_edges.proofs.Edging.{below_more}
 use Rattle.sim_nets.proofs.order.add_instances.Goals as goal
 
 pub loop-k-preserved : goal.loop-k-preserved

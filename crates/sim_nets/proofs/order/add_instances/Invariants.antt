@@ -1,5 +1,5 @@
 use Rattle.std.proofs.Common.{◌≡◌, ◌++◌}
-use Rattle.sim_nets.specs.Edges.{instance_edges, edges_below}
+use Rattle.sim_names.specs.Edges.{instance_edges, edges_below}
 use Rattle.sim_nets.proofs.order.add_instances.Given as goal
 
 abbrev pub invariant-loop-k : goal.invariant-loop-k

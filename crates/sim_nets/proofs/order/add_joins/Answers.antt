@@ -1,6 +1,6 @@
 use Rattle.std.proofs.Common.{◌≡◌, ◌≤◌, ◌++◌, length, sym, ap, ◌∙◌, arith}
 use Rattle.std.proofs.lemmas.List.{append-nil}
-use Rattle.sim_nets.proofs.Edging.{join_past}
+use Rattle.sim_edges.proofs.Edging.{join_past}
 use Rattle.sim_nets.proofs.order.add_joins.Goals as goal
 
 pub returns-in-None : goal.returns-in-None

@@ -1,5 +1,5 @@
 use Rattle.std.proofs.Common.{◌+◌, ◌<◌, ◌^◌, length, sym, arith}
-use Rattle.sim_nets.specs.Edges.{base_at}
+use Rattle.sim_names.specs.Edges.{base_at}
 use Rattle.sim_nets.proofs.order.add_top_answers.Goals as goal
 
 pub add_answers-requires : goal.add_answers-requires

@@ -5,8 +5,8 @@ use Rattle.vlog_tree.specs.Grounded.{Has}
 use Rattle.vlog_graph.specs.declared.order.Order.{Order}
 use Rattle.vlog_graph.specs.Graphs.{Steps}
 use Rattle.vlog_graph.specs.Orders.{IsAnswer}
-use Rattle.sim_nets.specs.Edges.{all_edges}
-use Rattle.sim_nets.proofs.Standing.{tables_fit}
+use Rattle.sim_names.specs.Edges.{all_edges}
+use Rattle.sim_names.proofs.Standing.{tables_fit}
 use Rattle.sim_nets.proofs.Ordered.{edges_low, no_cycle, net_order}
 use Rattle.sim_nets.proofs.order.order_of_nets.Goals as goal
 

@@ -3,8 +3,8 @@ use Rattle.std.proofs.lemmas.List.{take_all, get_or_default}
 use Rattle.vlog_tree.specs.Grounded.{Has}
 use Rattle.vlog_tree.proofs.Lists.{taken_split}
 use Rattle.vlog_law_runs.proofs.Settled.{top_tree}
-use Rattle.sim_nets.specs.Flat.{HasNumber}
-use Rattle.sim_nets.proofs.Standing.{number_low}
+use Rattle.sim_names.specs.Flat.{HasNumber}
+use Rattle.sim_names.proofs.Standing.{number_low}
 use Rattle.sim_placed.proofs.Reading.{parts_placed}
 use Rattle.sim_placed.proofs.Giving.{are_given}
 use Rattle.std.specs.Prelude.{IsSome}

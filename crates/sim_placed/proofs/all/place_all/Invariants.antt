@@ -3,7 +3,7 @@ use Rattle.std.specs.Prelude.{IsSome}
 use Rattle.vlog_tree.specs.Form.{ModuleTree}
 use Rattle.vlog_tree.specs.Grounded.{Has}
 use Rattle.vlog_tree.specs.Flattened.{FlatNet}
-use Rattle.sim_nets.specs.Flat.{HasNumber}
+use Rattle.sim_names.specs.Flat.{HasNumber}
 use Rattle.sim_nets.specs.Order.{IsNetOrder}
 use Rattle.sim_tape.specs.Tape.{Extends}
 use Rattle.sim_tape.specs.Trees.{tree_of}

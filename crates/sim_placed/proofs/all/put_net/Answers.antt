@@ -3,7 +3,7 @@ use Rattle.std.specs.Prelude.{is_some, IfSome}
 use Rattle.sim_placed.specs.States.{IsTold, AreRead, PartsPlaced}
 use Rattle.sim_tape.specs.Trees.{tree_of}
 use Rattle.sim_placed.proofs.Telling.{kept, slots_put, placed_more, same_placed, not_placed, put_some}
-use Rattle.sim_nets.proofs.Standing.{number_low}
+use Rattle.sim_names.proofs.Standing.{number_low}
 use Rattle.sim_placed.proofs.all.put_net.Goals as goal
 
 pub returns-then-is_placed-clause-more : goal.returns-then-is_placed-clause-more

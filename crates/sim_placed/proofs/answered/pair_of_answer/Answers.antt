@@ -2,7 +2,7 @@ use Rattle.std.proofs.Common.{sym, ap, map, ◌∙◌}
 use Rattle.std.specs.Prelude.{is_some}
 use Rattle.vlog_tree.specs.Table.{declaration_name}
 use Rattle.vlog_tree.specs.Labels.{m_addr}
-use Rattle.vlog_rules.specs.NameTable.{places_from}
+use Rattle.vlog_scope.specs.NameTable.{places_from}
 use Rattle.sim_tape.specs.Trees.{tree_of}
 use Rattle.sim_tape.proofs.Growing.{solved_on}
 use Rattle.vlog_ref_cycle.proofs.Ascii.{addr_ascii}

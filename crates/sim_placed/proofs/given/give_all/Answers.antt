@@ -3,8 +3,8 @@ use Rattle.std.proofs.lemmas.List.{length_push}
 use Rattle.sim_lower.specs.Nets.{SlotsBefore}
 use Rattle.sim_tape.specs.Trees.{tree_of}
 use Rattle.sim_tape.proofs.Growing.{extends_twice}
-use Rattle.sim_nets.specs.Flat.{HasNumber}
-use Rattle.sim_nets.proofs.Standing.{number_low}
+use Rattle.sim_names.specs.Flat.{HasNumber}
+use Rattle.sim_names.proofs.Standing.{number_low}
 use Rattle.sim_placed.specs.Given.{HaveOwn, AreGivenNets}
 use Rattle.sim_placed.proofs.Giving.{AllFreeBelow, given_more, slots_more, own_more, all_more}
 use Rattle.sim_placed.proofs.given.give_all.Goals as goal

@@ -3,7 +3,7 @@ use Rattle.vlog_tree.specs.Form.{ModuleTree}
 use Rattle.sim_tape.specs.Tape.{Extends}
 use Rattle.sim_tape.specs.Trees.{tree_of}
 use Rattle.sim_lower.specs.Nets.{SlotsBefore}
-use Rattle.sim_nets.specs.Flat.{IsFlat}
+use Rattle.sim_names.specs.Flat.{IsFlat}
 use Rattle.sim_placed.specs.Given.{HaveOwn, AreGivenNets}
 use Rattle.sim_placed.proofs.Giving.{AllFreeBelow}
 use Rattle.sim_placed.proofs.given.give_all.Given as goal

@@ -1,4 +1,4 @@
-use Rattle.sim_nets.specs.Flat.{AreJoined}
+use Rattle.sim_names.specs.Flat.{AreJoined}
 use Rattle.sim_placed.proofs.Joining.{same_number, linked, linked_there}
 use Rattle.sim_placed.proofs.joined.pair_around.Goals as goal
 

@@ -1,5 +1,5 @@
 use Rattle.std.proofs.Common.{sym}
-use Rattle.sim_nets.specs.Flat.{AreJoined}
+use Rattle.sim_names.specs.Flat.{AreJoined}
 use Rattle.sim_placed.proofs.Joining.{same_number, linked, linked_there}
 use Rattle.sim_placed.proofs.joined.pair_inside.Goals as goal
 

@@ -6,7 +6,7 @@ use Rattle.sim_placed.specs.States.{IsTold}
 use Rattle.sim_placed.proofs.Owning.{is_answer, name_is, is_input_net, is_free, at_top}
 use Rattle.sim_placed.proofs.Answering.{asked_placed}
 use Rattle.sim_placed.specs.States.{PartsPlaced}
-use Rattle.sim_nets.specs.declared.tables.Source.TheVariants as source
+use Rattle.sim_names.specs.declared.tables.Source.TheVariants as source
 use Rattle.vlog_tree.specs.Table.{declared, net_kind_of}
 use Rattle.vlog_tree.specs.Flattened.{FlatNet}
 use Rattle.vlog_tree.specs.Form.{ModuleTree}

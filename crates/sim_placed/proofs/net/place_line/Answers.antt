@@ -2,7 +2,7 @@ use Rattle.std.proofs.Common.{sym, subst, ap, ◌∙◌}
 use Rattle.std.specs.Prelude.{IfSome}
 use Rattle.vlog_tree.specs.Table.{bits_of}
 use Rattle.sim_tape.specs.Trees.{tree_of}
-use Rattle.sim_nets.specs.Edges.{lines_at}
+use Rattle.sim_names.specs.Edges.{lines_at}
 use Rattle.sim_placed.specs.States.{IsTold, PartsPlaced}
 use Rattle.sim_placed.proofs.Owning.{is_line}
 use Rattle.sim_placed.proofs.net.place_line.Goals as goal

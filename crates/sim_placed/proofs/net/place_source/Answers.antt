@@ -1,7 +1,7 @@
 use Rattle.std.proofs.Common.{◌≡◌, sym, ap, ◌∙◌, arith}
 use Rattle.std.proofs.lemmas.Option.{IfSome_then}
 use Rattle.vlog_tree.specs.Table.{net_kind_is_input}
-use Rattle.sim_nets.specs.declared.tables.Source.TheVariants as source
+use Rattle.sim_names.specs.declared.tables.Source.TheVariants as source
 use Rattle.sim_placed.proofs.Owning.{from_source, is_input_net, is_register, is_read_here, no_nothing}
 use Rattle.sim_placed.proofs.net.place_source.Goals as goal
 

@@ -1,5 +1,5 @@
 use Rattle.std.proofs.Common.{ℕ, List, sym, subst}
-use Rattle.latency_balance.specs.Moves.{AreLatencies}
+use Rattle.plan_flows.specs.Moves.{AreLatencies}
 use Rattle.plan_latency.specs.Borders.{AreBorderLatencies}
 use Rattle.tapa_drive.proofs.plan_text.lines_of.Goals as goal
 

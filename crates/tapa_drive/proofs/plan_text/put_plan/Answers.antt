@@ -2,7 +2,7 @@ use Rattle.std.proofs.Common.{ℕ, List, refl, subst, inl}
 use Rattle.std.specs.Prelude.{Vec}
 use Rattle.std.specs.Io.KnownBytes.{Appends}
 use Rattle.std.specs.declared.alloc.Global.{Global}
-use Rattle.tapa_base.specs.Outside.{AppendsPart}
+use Rattle.tapa_files.specs.Outside.{AppendsPart}
 use Rattle.plan_report.specs.Lines.{texts}
 use Rattle.run_program.specs.Ending.{joined, lines_in}
 use Rattle.tapa_drive.proofs.plan_text.put_plan.Goals as goal

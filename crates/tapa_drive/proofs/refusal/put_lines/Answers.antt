@@ -3,7 +3,7 @@ use Rattle.std.specs.Io.KnownBytes.{Appends}
 use Rattle.std.specs.declared.alloc.Global.{Global}
 use Rattle.std.specs.List.{flat_map}
 use Rattle.std.proofs.lemmas.List.{take_all}
-use Rattle.tapa_base.proofs.Known.{part_of_next}
+use Rattle.tapa_files.proofs.Known.{part_of_next}
 use Rattle.run_program.specs.Ending.{joined, lines_in}
 use Rattle.run_program.proofs.Lines.{on_err, lines_next}
 use Rattle.tapa_drive.proofs.Joined.{joined_is}

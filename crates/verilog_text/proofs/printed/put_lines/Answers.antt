@@ -1,6 +1,6 @@
 use Rattle.std.proofs.Common.{◌∙◌, ◌++◌, List, ℕ, ap, sym, take, drop, arith}
 use Rattle.std.proofs.lemmas.List.{take-append-drop}
-use Rattle.tapa_base.proofs.Known.{put_more, part_of_next}
+use Rattle.tapa_files.proofs.Known.{put_more, part_of_next}
 use Rattle.verilog_text.proofs.printed.put_lines.Goals as goal
 
 pub loop-rest-preserved : goal.loop-rest-preserved

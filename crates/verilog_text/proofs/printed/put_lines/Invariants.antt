@@ -1,5 +1,5 @@
 use Rattle.std.proofs.Common.{◌≤◌, length}
-use Rattle.tapa_base.proofs.Known.{IsPutTo}
+use Rattle.tapa_files.proofs.Known.{IsPutTo}
 use Rattle.verilog_text.proofs.printed.put_lines.Given as goal
 
 abbrev pub invariant-loop-rest : goal.invariant-loop-rest

@@ -1,6 +1,6 @@
 use Rattle.std.proofs.Common.{◌≡◌, ◌<◌, ◌∙◌, ℕ, length, Some, sym, subst, rules}
 use Rattle.vlog_tree.specs.Table.{Name}
-use Rattle.vlog_rules.specs.NameTable.{value_in}
+use Rattle.vlog_scope.specs.NameTable.{value_in}
 use Rattle.vlog_comb_loops.proofs.Placing.{no_places_yet, next_places, all_places}
 use Rattle.vlog_comb_loops.proofs.sums.input_places.Goals as goal
 

@@ -1,5 +1,5 @@
 use Rattle.std.proofs.Common.{◌≡◌, length}
-use Rattle.vlog_rules.specs.NameTable.{value_in}
+use Rattle.vlog_scope.specs.NameTable.{value_in}
 use Rattle.vlog_comb_loops.proofs.Placing.{PlacesSoFar}
 use Rattle.vlog_comb_loops.proofs.sums.input_places.Given as goal
 

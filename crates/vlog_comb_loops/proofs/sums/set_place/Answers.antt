@@ -1,5 +1,5 @@
 use Rattle.std.proofs.Common.{◌≡◌, ◌<◌, Some, length, rules}
-use Rattle.vlog_rules.specs.NameTable.{value_in}
+use Rattle.vlog_scope.specs.NameTable.{value_in}
 use Rattle.vlog_comb_loops.proofs.Placing.{places_set}
 use Rattle.vlog_comb_loops.proofs.sums.set_place.Goals as goal
 

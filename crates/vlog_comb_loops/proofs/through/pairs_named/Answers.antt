@@ -1,6 +1,6 @@
 use Rattle.std.proofs.Common.{◌∙◌, sym, ap, List, map}
 use Rattle.vlog_tree.specs.declared.table.Declaration.{Declaration}
-use Rattle.vlog_rules.specs.NameTable.{places_from}
+use Rattle.vlog_scope.specs.NameTable.{places_from}
 use Rattle.vlog_tree.specs.Table.{declaration_name}
 use Rattle.vlog_comb_loops.proofs.Resting.{sum_at, sum_missing}
 use Rattle.vlog_comb_loops.proofs.through.pairs_named.Goals as goal

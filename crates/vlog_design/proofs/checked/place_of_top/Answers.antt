@@ -1,7 +1,7 @@
 use Rattle.std.proofs.Common.{◌≡◌, ◌∷◌, subst, List, Some}
 use Rattle.std.specs.Prelude.{slice_get}
 use Rattle.vlog_tree.specs.Form.{ModuleTree}
-use Rattle.vlog_rules.specs.NameTable.{CountsTo}
+use Rattle.vlog_scope.specs.NameTable.{CountsTo}
 use Rattle.vlog_tree.specs.Table.{times_in}
 use Rattle.vlog_tree.specs.V6.{contained_names, roots_among}
 use Rattle.vlog_design.proofs.Rooted.{one_root}

@@ -1,7 +1,7 @@
 use Rattle.std.proofs.Common.{◌≡◌, ◌++◌, ◌∙◌, refl, sym, ap, subst}
 use Rattle.std.specs.List.{flat_map}
 use Rattle.std.proofs.lemmas.List.{append-nil}
-use Rattle.vlog_rules.specs.NameTable.{CountsTo}
+use Rattle.vlog_scope.specs.NameTable.{CountsTo}
 use Rattle.vlog_tree.specs.Table.{times_in}
 use Rattle.vlog_tree.specs.V6.{module_children}
 use Rattle.vlog_tree.proofs.Walks.{grows, over}

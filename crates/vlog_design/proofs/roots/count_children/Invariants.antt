@@ -1,6 +1,6 @@
 use Rattle.std.proofs.Common.{◌≡◌, ◌++◌, ℕ, List, drop}
 use Rattle.std.specs.List.{flat_map}
-use Rattle.vlog_rules.specs.NameTable.{CountsTo}
+use Rattle.vlog_scope.specs.NameTable.{CountsTo}
 use Rattle.vlog_tree.specs.Table.{times_in}
 use Rattle.vlog_tree.specs.V6.{item_children}
 use Rattle.vlog_design.proofs.roots.count_children.Given as goal

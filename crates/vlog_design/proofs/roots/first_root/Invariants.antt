@@ -1,5 +1,5 @@
 use Rattle.std.proofs.Common.{◌≡◌, ℕ, List, drop}
-use Rattle.vlog_rules.specs.NameTable.{CountsTo}
+use Rattle.vlog_scope.specs.NameTable.{CountsTo}
 use Rattle.vlog_tree.specs.Table.{times_in}
 use Rattle.vlog_tree.specs.V6.{roots_among, first_name}
 use Rattle.vlog_design.proofs.roots.first_root.Given as goal

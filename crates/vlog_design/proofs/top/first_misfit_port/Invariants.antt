@@ -1,6 +1,6 @@
 use Rattle.std.proofs.Common.{◌≡◌, ℕ, List, [], drop}
 use Rattle.vlog_tree.specs.declared.tree.PortDecl.{PortDecl}
-use Rattle.vlog_rules.specs.NameTable.{value_in}
+use Rattle.vlog_scope.specs.NameTable.{value_in}
 use Rattle.vlog_tree.specs.Table.{first_violation}
 use Rattle.vlog_tree.specs.V6.{bits_before, top_ports}
 use Rattle.vlog_design.proofs.top.first_misfit_port.Given as goal

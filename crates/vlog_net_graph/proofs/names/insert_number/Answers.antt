@@ -1,7 +1,7 @@
 use Rattle.std.proofs.Common.{◌≡◌, ◌∙◌, ap, rules, cond, Some}
 use Rattle.std.specs.Prelude.{bytes_eq}
-use Rattle.vlog_rules.specs.NameTable.{value_in}
-use Rattle.vlog_rules.proofs.NameTables.{updated}
+use Rattle.vlog_scope.specs.NameTable.{value_in}
+use Rattle.vlog_scope.proofs.NameTables.{updated}
 use Rattle.vlog_net_graph.proofs.names.insert_number.Goals as goal
 
 pub returns : goal.returns

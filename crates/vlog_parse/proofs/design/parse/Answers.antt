@@ -7,7 +7,7 @@ use Rattle.vlog_read_words.specs.declared.coming.Coming.TheVariants.{Nothing}
 use Rattle.vlog_parse_value.specs.declared.state.HeadState.TheVariants.{Between}
 use Rattle.vlog_parse_value.specs.declared.state.State.TheVariants.{Head}
 use Rattle.vlog_parse_value.specs.Reading.{behind}
-use Rattle.vlog_parse.specs.Reading as spec
+use Rattle.vlog_parse_block.specs.Reading as spec
 use Rattle.vlog_parse.specs.Refused.{IsFirstRefused, Refuses}
 use Rattle.vlog_parse.proofs.Behind.{behind_begun, behind_next, refused_next, refused_last, found_last}
 use Rattle.vlog_parse.proofs.Formed.{behind_formed}

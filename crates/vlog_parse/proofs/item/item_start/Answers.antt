@@ -1,6 +1,6 @@
 use Rattle.std.proofs.Common.{◌≡◌, true, sym, ◌∙◌}
 use Rattle.std.proofs.lemmas.Result.{IfOk-weaker}
-use Rattle.vlog_parse.specs.Reading.{begins_item}
+use Rattle.vlog_parse_block.specs.Reading.{begins_item}
 use Rattle.vlog_parse.proofs.Items.{keyword_starts}
 use Rattle.vlog_parse.proofs.item.item_start.Goals as goal
 

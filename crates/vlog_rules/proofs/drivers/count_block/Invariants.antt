@@ -1,6 +1,6 @@
 use Rattle.std.proofs.Common.{◌≡◌, ◌+◌, ℕ, List, take, min}
 use Rattle.std.specs.List.{list_any}
-use Rattle.vlog_rules.specs.NameTable.{CountsTo, count_in}
+use Rattle.vlog_scope.specs.NameTable.{CountsTo, count_in}
 use Rattle.vlog_tree.specs.V4.{step_assigns}
 use Rattle.vlog_tree.specs.Table.{one_if}
 use Rattle.vlog_rules.proofs.drivers.count_block.Given as goal

@@ -3,7 +3,7 @@ use Rattle.std.specs.Prelude.{bytes_eq, count_by, ◌==◌}
 use Rattle.std.specs.List.{list_all}
 use Rattle.vlog_tree.specs.declared.table.Declaration.{Declaration}
 use Rattle.vlog_tree.specs.declared.tree.Connection.{Connection}
-use Rattle.vlog_rules.specs.NameTable.{count_in}
+use Rattle.vlog_scope.specs.NameTable.{count_in}
 use Rattle.vlog_rules.proofs.Counts.{all_once}
 use Rattle.vlog_rules.proofs.names.all_connected_by_counts.Goals as goal
 

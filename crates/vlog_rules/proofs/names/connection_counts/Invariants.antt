@@ -1,7 +1,7 @@
 use Rattle.std.proofs.Common.{◌≡◌, ℕ, List, min, take}
 use Rattle.std.specs.Prelude.{bytes_eq, count_by}
 use Rattle.vlog_tree.specs.declared.tree.Connection.{Connection}
-use Rattle.vlog_rules.specs.NameTable.{count_in}
+use Rattle.vlog_scope.specs.NameTable.{count_in}
 use Rattle.vlog_rules.proofs.names.connection_counts.Given as goal
 
 abbrev pub invariant-loop-l : goal.invariant-loop-l

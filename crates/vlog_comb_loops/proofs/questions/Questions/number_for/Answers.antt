@@ -1,6 +1,6 @@
 use Rattle.std.proofs.Common.{◌≡◌, ◌∙◌, ap, refl, rules, length, cond, Some}
 use Rattle.std.specs.Prelude.{bytes_eq}
-use Rattle.vlog_rules.specs.NameTable.{value_in}
+use Rattle.vlog_scope.specs.NameTable.{value_in}
 use Rattle.vlog_comb_loops.proofs.Asking.{list_of, begun_same}
 use Rattle.vlog_comb_loops.proofs.questions.Questions.number_for.Goals as goal
 

@@ -1,6 +1,6 @@
 use Rattle.std.proofs.Common.{◌++◌, ◌∷◌, [], ℕ, List, sym, subst, length}
 use Rattle.vlog_tree.specs.Grounded.{Has}
-use Rattle.vlog_rules.specs.NameTable.{value_in}
+use Rattle.vlog_scope.specs.NameTable.{value_in}
 use Rattle.vlog_net_graph.specs.Names.{IsNumbered}
 use Rattle.vlog_net_graph.proofs.Numbered.{numbered_edge}
 use Rattle.vlog_net_graph.proofs.names.Draft.add_edge.Goals as goal

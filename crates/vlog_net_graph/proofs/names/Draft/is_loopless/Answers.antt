@@ -1,6 +1,6 @@
 use Rattle.std.proofs.Common.{◌≡◌, ◌<◌, length, List, ℕ, true, false, refl, subst}
 use Rattle.vlog_tree.specs.Loops.{Chain, Reaches}
-use Rattle.vlog_rules.specs.NameTable.{value_in}
+use Rattle.vlog_scope.specs.NameTable.{value_in}
 use Rattle.vlog_graph.specs.declared.order.Order.{Order}
 use Rattle.vlog_graph.specs.Graphs.{Steps, IsOrder}
 use Rattle.vlog_graph.specs.Orders.{IsAnswer}

@@ -1,0 +1,2 @@
+pub mod ChannelModules
+pub mod Named

@@ -1,4 +1,0 @@
-pub mod Shapes
-pub mod ReadCounts
-pub mod FirstStates
-pub mod StateWires

@@ -1,0 +1,11 @@
+pub mod Placed
+pub mod Chunk
+pub mod Stuck
+pub mod Stepped
+pub mod Loaded
+pub mod Queued
+pub mod Lasting
+pub mod Resuming
+pub mod Shown
+pub mod Constructed
+pub mod Connected

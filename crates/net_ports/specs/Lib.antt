@@ -1,0 +1,4 @@
+pub mod Kinds
+pub mod Ports
+pub mod Job
+pub mod Resume

@@ -1,0 +1,4 @@
+pub mod Moves
+pub mod Log
+pub mod Search
+pub mod Paths

@@ -1,0 +1,6 @@
+pub mod Asked
+pub mod Entries
+pub mod KnownNames
+pub mod Lists
+pub mod Numbers
+pub mod Pinned

@@ -1,0 +1,6 @@
+pub mod Places
+pub mod Tables
+pub mod Flat
+pub mod Numbering
+pub mod Written
+pub mod Edges

@@ -1,0 +1,133 @@
+// The places of names in a list of declarations, by a hash of the name. Names of one hash are on one chain: from its head, the first
+// place, each place leads to the next. No name is copied, and names that differ in their last byte have heads next to one another.
+
+ghost use Rattle.std.specs.Prelude.{◌≡◌, ◌<◌, ◌≤◌, ℕ, suc, Some, None, length, map, drop, is_some, IfSome, IfOk};
+ghost use Rattle.vlog_tree.specs.Table.{declaration_name};
+ghost use Rattle.vlog_scope.specs.NameTable.{places_from};
+ghost use Rattle.vlog_scope.specs.Chains.{hash_from, chain_of, name_at, IsChained};
+
+use std::alloc::{AllocError, Global};
+use vlog_tree::Declaration;
+
+/// By the number of a chain its head, and by a place the next one; a number past the last place is none.
+#[derive(Drop)]
+pub struct Chains {
+    pub heads: Vec<usize>,
+    pub nexts: Vec<usize>,
+}
+
+fn hash_of(name: &[u8]) -> u64
+    ensures { result ≡ hash_from 0 name.now }
+{
+    let mut hash: u64 = 0;
+    for byte in name {
+        hash = (hash * 131 + u64::from(*byte)) % 4_294_967_296;
+    }
+    hash
+}
+
+fn chain_at(name: &[u8], count: usize) -> usize
+    requires { 0 < count }
+    ensures value { result ≡ chain_of count name.now }
+    ensures within { result < count }
+{
+    hash_of(name) as usize & (count - 1)
+}
+
+// A power of two, at least twice as many as names, up to a limit.
+fn chain_count(names: usize) -> usize
+    ensures { 0 < result }
+{
+    let enough = names.saturating_mul(2);
+    let mut count: usize = 1;
+    while count < enough && count < 1_099_511_627_776 {
+        count *= 2;
+    }
+    count
+}
+
+fn no_chains(alloc: Global, declarations: &[Declaration]) -> Result<Chains, AllocError>
+    ensures { IfOk result (λ c. IsChained (length declarations.now) declarations.now c.heads.items c.nexts.items) }
+{
+    let none = declarations.len();
+    let heads = vec![in alloc; none; chain_count(none)]?;
+    let nexts = vec![in alloc; none; none]?;
+    Ok(Chains { heads, nexts })
+}
+
+// Puts the place before all others on its chain, as its head.
+fn link(chains: &mut Chains, declarations: &[Declaration], place: usize)
+    requires chained { IsChained (suc place) declarations.now chains.old.heads.items chains.old.nexts.items }
+    requires within { place < length declarations.now }
+    ensures { IsChained place declarations.now chains.new.heads.items chains.new.nexts.items }
+{
+    let chain = chain_at(declarations[place].name.bytes(), chains.heads.len());
+    chains.nexts[place] = chains.heads[chain];
+    chains.heads[chain] = place;
+}
+
+/// The places of all declarations.
+pub(crate) fn chains_of(alloc: Global, declarations: &[Declaration]) -> Result<Chains, AllocError>
+    ensures { IfOk result (λ c. IsChained 0 declarations.now c.heads.items c.nexts.items) }
+{
+    let mut chains = no_chains(alloc, declarations)?;
+    let mut left = declarations.len();
+    while left > 0 {
+        left -= 1;
+        link(&mut chains, declarations, left);
+    }
+    Ok(chains)
+}
+
+// The first place that has a name, from a place of its chain on.
+fn walk(chains: &Chains, declarations: &[Declaration], name: &[u8], from: usize) -> Option<usize>
+    requires chained { IsChained 0 declarations.now chains.now.heads.items chains.now.nexts.items }
+    requires on { from < length declarations.now → chain_of (length chains.now.heads.items) (name_at declarations.now from) ≡ chain_of (length chains.now.heads.items) name.now }
+    ensures within { IfSome result (λ p. p < length declarations.now) }
+    ensures named { IfSome result (λ p. name_at declarations.now p ≡ name.now) }
+    ensures found { IfSome result (λ p. places_from from (map declaration_name (drop from declarations.now)) name.now ≡ Some (p, is_some (places_from (suc p) (map declaration_name (drop (suc p) declarations.now)) name.now))) }
+    ensures none { result ≡ None → places_from from (map declaration_name (drop from declarations.now)) name.now ≡ None }
+{
+    let mut at = from;
+    while at < declarations.len() {
+        if declarations[at].name.bytes() == name {
+            return Some(at);
+        }
+        at = chains.nexts[at];
+    }
+    None
+}
+
+/// The first place that has a name.
+pub(crate) fn first_place(
+    chains: &Chains,
+    declarations: &[Declaration],
+    name: &[u8],
+) -> Option<usize>
+    requires { IsChained 0 declarations.now chains.now.heads.items chains.now.nexts.items }
+    ensures within { IfSome result (λ p. p < length declarations.now) }
+    ensures named { IfSome result (λ p. name_at declarations.now p ≡ name.now) }
+    ensures found { IfSome result (λ p. places_from 0 (map declaration_name declarations.now) name.now ≡ Some (p, is_some (places_from (suc p) (map declaration_name (drop (suc p) declarations.now)) name.now))) }
+    ensures none { result ≡ None → places_from 0 (map declaration_name declarations.now) name.now ≡ None }
+{
+    let chain = chain_at(name, chains.heads.len());
+    walk(chains, declarations, name, chains.heads[chain])
+}
+
+/// Whether a name stands once more behind a place that has it.
+pub(crate) fn is_again(
+    chains: &Chains,
+    declarations: &[Declaration],
+    name: &[u8],
+    place: usize,
+) -> bool
+    requires chained { IsChained 0 declarations.now chains.now.heads.items chains.now.nexts.items }
+    requires within { place < length declarations.now }
+    requires named { name_at declarations.now place ≡ name.now }
+    ensures { result ≡ is_some (places_from (suc place) (map declaration_name (drop (suc place) declarations.now)) name.now) }
+{
+    match walk(chains, declarations, name, chains.nexts[place]) {
+        Some(_) => true,
+        None => false,
+    }
+}
