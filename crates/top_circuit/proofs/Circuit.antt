@@ -18,7 +18,7 @@ use Rattle.top_modules.specs.Lower.{lower_modules, task_module, KeepPromises}
 use Rattle.top_modules.proofs.Channels.{channel_are}
 use Rattle.top_modules.proofs.Lower.{channels_found}
 use Rattle.top_form.proofs.Tasks.{part_at, used, named}
-use Rattle.top_outside.proofs.Outside.{tops_have_scalars, tops_have_memories}
+use Rattle.top_design.proofs.Outside.{tops_have_scalars, tops_have_memories}
 use Rattle.top_design.proofs.Whole.{designs_are_legal}
 use Rattle.top_runs.specs.Designs.{StandsForTask, StandsForChannel, IsCircuit}
 use Rattle.top_runs.proofs.Designs.{circuits_are_designs}

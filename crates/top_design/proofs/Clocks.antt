@@ -35,9 +35,9 @@ use Rattle.top_modules.proofs.Lower.{one_of, lower_ports}
 use Rattle.top_modules.proofs.Tasks.{IsTask}
 use Rattle.top_form.proofs.Drives.{ports_none, wires_none, done_none}
 use Rattle.top_form.proofs.Tasks.{part_at, child, named, ports_are, same}
-use Rattle.top_order.proofs.Chains.{task_alone}
-use Rattle.top_order.proofs.Parts.{IsOfTop, OfTask, OfChannel, in_instances}
-use Rattle.top_order.proofs.Places.{same_connection}
+use Rattle.top_design.proofs.Chains.{task_alone}
+use Rattle.top_design.proofs.OrderParts.{IsOfTop, OfTask, OfChannel, in_instances}
+use Rattle.top_design.proofs.Places.{same_connection}
 
 -- a use that breaks no rule
 abbrev pub IsKept : NameUse → Type 0

@@ -26,7 +26,7 @@ use Rattle.top_joins.specs.Joins.{input_port, output_port, port_names}
 use Rattle.top_joins.proofs.Joined.{found_port, input_kind, output_kind}
 use Rattle.top_law.specs.Texts.{memory_ports}
 use Rattle.top_names.proofs.Made.{sort, clk_sort, rst_sort, scalar_sort, addr_sort, wdata_sort, we_sort, ack_sort, rdata_sort, done_sort}
-use Rattle.top_outside.proofs.Parts.{no_scalar, no_ack, no_rdata, no_addr, no_wdata, no_we}
+use Rattle.top_design.proofs.OutsideParts.{no_scalar, no_ack, no_rdata, no_addr, no_wdata, no_we}
 use Rattle.top_design.proofs.Ports.{whole, IsTopPort, AtClock, AtReset, AtDone, AtScalar, AtMemory, port_is, clock_there, reset_there, done_there, memory_there}
 
 -- ---- the ports one after another

@@ -1,3 +1,12 @@
+pub mod OutsideParts
+pub mod Outside
+pub mod Places
+pub mod OrderParts
+pub mod Kept
+pub mod Answers
+pub mod Loops
+pub mod Chains
+pub mod OrderWhole
 pub mod Contained
 pub mod Roots
 pub mod Clocks

@@ -32,7 +32,7 @@ use Rattle.top_modules.specs.Lower.{lower_modules, KeepPromises}
 use Rattle.top_modules.proofs.Channels.{IsOfStream, channel_are}
 use Rattle.top_modules.proofs.Lower.{one_of, no_top}
 use Rattle.top_modules.proofs.Tasks.{IsTask, task_title, some_index}
-use Rattle.top_order.proofs.Chains.{IsNamed, top_title, lower_there, top_there, own_there, lower_child, top_child}
+use Rattle.top_design.proofs.Chains.{IsNamed, top_title, lower_there, top_there, own_there, lower_child, top_child}
 use Rattle.top_design.specs.Design.{TopsAreRoots}
 use Rattle.top_design.proofs.Contained.{StandsIn, stands_in}
 

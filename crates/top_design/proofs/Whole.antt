@@ -28,10 +28,10 @@ use Rattle.top_law.specs.Texts.{top_tree}
 use Rattle.top_modules.specs.Lower.{lower_modules, KeepPromises}
 use Rattle.top_modules.proofs.Lower.{lower_form, lower_right, no_top, ports_once}
 use Rattle.top_form.proofs.Whole.{tops_are_right, tops_are_modules}
-use Rattle.top_order.specs.Order.{AreBelow}
-use Rattle.top_order.proofs.Chains.{top_title, top_there, all_apart}
-use Rattle.top_order.proofs.Whole.{designs_are_loopless}
-use Rattle.top_outside.proofs.Outside.{scalar_long, memory_long}
+use Rattle.top_design.specs.Order.{AreBelow}
+use Rattle.top_design.proofs.Chains.{top_title, top_there, all_apart}
+use Rattle.top_design.proofs.OrderWhole.{designs_are_loopless}
+use Rattle.top_design.proofs.Outside.{scalar_long, memory_long}
 use Rattle.top_design.specs.Design.{DesignsAreSound, OutsidesAreRight, DesignsAreLegal}
 use Rattle.top_design.proofs.Clocks.{IsKept, top_clocks, lower_clocks}
 use Rattle.top_design.proofs.Fits.{has_clock, has_reset, has_done, top_ports_kept}

@@ -45,8 +45,8 @@ use Rattle.wires_fit.proofs.Scopes.{few_bits, kind_wide}
 use Rattle.top_form.proofs.Drives.{ports_none, wires_none, done_none, instances_none}
 use Rattle.top_form.proofs.Standing.{stream_there, memory_there}
 use Rattle.top_form.proofs.Whole.{tops_are_fitting}
-use Rattle.top_outside.specs.Outside.{TopsHaveScalars, TopsHaveMemories, TopsHaveStreams}
-use Rattle.top_outside.proofs.Parts.{flat_flat, flat_none, flat_both, flat_each, gives, each_given, each_nothing, no_scalar, no_ack, no_din}
+use Rattle.top_design.specs.Outside.{TopsHaveScalars, TopsHaveMemories, TopsHaveStreams}
+use Rattle.top_design.proofs.OutsideParts.{flat_flat, flat_none, flat_both, flat_each, gives, each_given, each_nothing, no_scalar, no_ack, no_din}
 
 -- a name is not empty
 some_bytes : (x : Name) → (x ≡ [] → ⊥) → 0 < length x

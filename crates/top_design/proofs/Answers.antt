@@ -32,8 +32,8 @@ use Rattle.top_modules.proofs.Tasks.{some_index}
 use Rattle.top_names.proofs.Made.{sort, clk_sort, rst_sort, scalar_sort, addr_sort, wdata_sort, we_sort, ack_sort, rdata_sort, done_sort, same_between}
 use Rattle.top_form.proofs.Drives.{wires_none, waits_none, instances_none}
 use Rattle.top_form.proofs.Whole.{tops_are_fitting}
-use Rattle.top_order.specs.Order.{TopsKeepAnswers}
-use Rattle.top_order.proofs.Places.{IsBefore, in_left, in_right, in_each, before_order}
+use Rattle.top_design.specs.Order.{TopsKeepAnswers}
+use Rattle.top_design.proofs.Places.{IsBefore, in_left, in_right, in_each, before_order}
 
 same_rdata : (l m : Name) → m_rdata l ≡ m_rdata m → l ≡ m
 unfolding m_rdata

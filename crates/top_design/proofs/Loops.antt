@@ -12,9 +12,9 @@ use Rattle.top_law.specs.Texts.{top_elements}
 use Rattle.top_modules.specs.Lower.{lower_modules}
 use Rattle.top_form.proofs.Form.{elements_form}
 use Rattle.top_form.proofs.Whole.{tops_are_fitting}
-use Rattle.top_order.specs.Order.{TopsHaveNoLoop}
-use Rattle.top_order.proofs.Answers.{answers}
-use Rattle.top_order.proofs.Kept.{order}
+use Rattle.top_design.specs.Order.{TopsHaveNoLoop}
+use Rattle.top_design.proofs.Answers.{answers}
+use Rattle.top_design.proofs.Kept.{order}
 
 module _ (ms all : List ModuleTree) (is_top : Name → Bool) (within : IsWithin ms all) (have : (m : ModuleTree) → Has ms m → HaveInstancesOf ms m) where
   -- of a module whose instances are of these modules, though it is none of them

@@ -26,9 +26,9 @@ use Rattle.top_modules.proofs.Channels.{sizes, channel_are}
 use Rattle.top_modules.proofs.Lower.{one_of, lower_right, channel_within}
 use Rattle.top_modules.proofs.Tasks.{IsTask, title}
 use Rattle.top_form.proofs.Whole.{tops_are_right}
-use Rattle.top_order.specs.Order.{AreBelow, DesignsAreLoopless}
-use Rattle.top_order.proofs.Chains.{one_module, own_there, lower_there, no_cycle}
-use Rattle.top_order.proofs.Loops.{fewer, top_no_loop}
+use Rattle.top_design.specs.Order.{AreBelow, DesignsAreLoopless}
+use Rattle.top_design.proofs.Chains.{one_module, own_there, lower_there, no_cycle}
+use Rattle.top_design.proofs.Loops.{fewer, top_no_loop}
 
 -- a place in a text is one of the module that it names
 place_of : (m x : Name) (k : ModuleTree) → Has (own_places k) (m, Some x) → k.name ≡ m

@@ -46,9 +46,9 @@ use Rattle.top_form.proofs.Channels.{outer}
 use Rattle.top_form.proofs.Standing.{front, streams, bounds, ends as ends_of, takes}
 use Rattle.top_form.proofs.Tasks.{IsPart, part_at, used, child, all_ports, ports_are, named, same, stream_at, IsOrdered, AtClock, AtInput, AtOutput, end_right}
 use Rattle.top_form.proofs.Whole.{tops_are_fitting}
-use Rattle.top_order.specs.Order.{AreBelow, TopsKeepOrder}
-use Rattle.top_order.proofs.Parts.{IsOfTop, OfTask, OfChannel, of_top}
-use Rattle.top_order.proofs.Places.{split_order, net_known, clock_known, same_connection}
+use Rattle.top_design.specs.Order.{AreBelow, TopsKeepOrder}
+use Rattle.top_design.proofs.OrderParts.{IsOfTop, OfTask, OfChannel, of_top}
+use Rattle.top_design.proofs.Places.{split_order, net_known, clock_known, same_connection}
 
 pub same_module : (a b : ModuleTree) → Some a ≡ Some b → a ≡ b
 same_module a b e = cc

@@ -29,7 +29,7 @@ use Rattle.top_modules.proofs.Channels.{sizes, channel_are}
 use Rattle.top_modules.proofs.Lower.{one_of, apart, stream_has, no_top}
 use Rattle.top_modules.proofs.Tasks.{IsTask}
 use Rattle.top_form.proofs.Whole.{tops_are_right}
-use Rattle.top_order.proofs.Kept.{same_module}
+use Rattle.top_design.proofs.Kept.{same_module}
 
 -- what a module contains is an instance of it
 pub child_instance : (m : ModuleTree) (y : Name) → Has (module_children m) y → (i : Name) × Has (instances m) (y, i)

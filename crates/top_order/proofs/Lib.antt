@@ -1,7 +1,0 @@
-pub mod Places
-pub mod Parts
-pub mod Kept
-pub mod Answers
-pub mod Loops
-pub mod Chains
-pub mod Whole
