@@ -1,6 +1,5 @@
-use Rattle.std.proofs.Common.{ℕ, sym, ap, subst, ◌∙◌, ◌≡◌, length, arith, length-append, List, [], ◌∷◌, ◌++◌, Some}
+use Rattle.std.proofs.Common.{sym, ap, ◌∙◌, length, arith, length-append, [], ◌∷◌}
 use Rattle.std.specs.Prelude.{slice_get}
-use Rattle.tapa_syntax.specs.declared.program.Leaf.{Leaf}
 use Rattle.hw_design.proofs.Lowering.{one_more}
 use Rattle.hw_design.proofs.machines.machines_of.Goals as goal
 
