@@ -46,10 +46,6 @@ front_token ports s q t e g =
     let w : slice_get (drop q.head q.tokens.items) 0 ≡ Some t = ap (λ o. slice_get (waiting_in o) 0) (sym e) ∙ g in
     subst (λ k. IsTokenOf k t) (sym (kind_here ports s q e)) (one_token q.end.kind q.tokens.items (q.head + 0) t q.tokens_fit (get_drop q.head q.tokens.items 0 t w))
 
-pub tokens_pushed : (b : Bool) (k : Kind) (ts us : List Token) (t : Token) → us ≡ (if b then ts ++ t ∷ [] else ts) → AreTokensOf k ts → IsTokenOf k t → AreTokensOf k us
-tokens_pushed true k ts us t e h g = tokens_push k ts us t e h g
-tokens_pushed false k ts us t e h g = subst (AreTokensOf k) (sym e) h
-
 pub tokens_append : (k : Kind) (ts us : List Token) → AreTokensOf k ts → AreTokensOf k us → AreTokensOf k (ts ++ us)
 tokens_append k [] us h g n v e = g n v e
 tokens_append k (t ∷ ts) us h g zero v e = h zero v e

@@ -94,10 +94,8 @@ impl Ports {
         }
         let port = &mut self.ports[s as usize];
         port.room -= 1;
-        match port.carried.push(t) {
-            Ok(()) => true,
-            Err(_) => false,
-        }
+        port.carried.push_reserved(t);
+        true
     }
 
     /// How many tokens wait at a port.
