@@ -10,10 +10,8 @@ use Rattle.vlog_tree.specs.Refused.{IsDesign}
 use Rattle.top_law.specs.Designs.{design_tree}
 use Rattle.top_law.specs.Legal.{IsReady}
 use Rattle.top_law.specs.Texts.{top_tree}
-use Rattle.top_modules.specs.Lower.{lower_modules, KeepPromises}
-use Rattle.top_design.proofs.Outside.{tops_have_scalars, tops_have_memories, tops_have_streams}
-use Rattle.top_design.proofs.Whole.{designs_are_legal}
-use Rattle.top_circuit.proofs.Circuit.{designs_carry_streams}
+use Rattle.top_circuit.specs.Lower.{lower_modules, KeepPromises}
+use Rattle.top_circuit.proofs.Circuit.{tops_have_scalars, tops_have_memories, tops_have_streams, designs_are_legal, designs_carry_streams}
 use Rattle.hw_top.specs.Kept.{IsKept}
 use Rattle.hw_design.specs.Circuits.{IsCircuitOf}
 

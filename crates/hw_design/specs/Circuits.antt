@@ -7,7 +7,7 @@ use Rattle.vlog_tree.specs.Environment.{Environment, FitsShape, RunsIn, shape_of
 use Rattle.vlog_tree.specs.Refused.{IsDesign}
 use Rattle.top_law.specs.Legal.{scalar_ports, memory_ports, stream_ports}
 use Rattle.top_law.specs.Texts.{top_tree}
-use Rattle.top_kahn.specs.Carries.{CarriesStreams}
+use Rattle.top_circuit.specs.Carries.{CarriesStreams}
 
 -- A design that breaks no rule, whose scalars, memories and streams are the program's in order, with the program's labels
 -- and their bits. In each run in an environment that fits it, from any power-up contents, it carries the program's streams.

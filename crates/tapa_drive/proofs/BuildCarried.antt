@@ -1,20 +1,22 @@
 -- From what reading a source and writing its circuit give to what carrying the command of a circuit out answers.
-use Rattle.std.proofs.Common.{◌≡◌, ◌≢◌, ◌≤◌, ℕ, List, [], Option, Some, Result, IfOk, IfErr, inl, inr}
+use Rattle.std.proofs.Common.{◌≡◌, ◌≢◌, ◌≤◌, ℕ, List, [], Option, Some, Result, IfOk, IfErr, inr}
 use Rattle.std.specs.Io.KnownBytes.{Appends}
 use Rattle.tapa_files.specs.Outside.{Files, AppendsPart}
 use Rattle.tapa_syntax.specs.declared.program.Program.{Program}
 use Rattle.tapa_words.specs.Words.{Build, command_of}
+use Rattle.command_files.specs.Files.{OfSource, source_limit}
+use Rattle.command_files.specs.Meaning.{refusal_of}
+use Rattle.command_files.specs.Outside.{Outside, Written, outside}
+use Rattle.command_files.specs.Source.{IsProgramOf}
+use Rattle.command_files.specs.declared.refusal.Refusal.{Refusal as CodeRefusal}
+use Rattle.command_files.proofs.OfFiles.{of_file_also}
+use Rattle.command_plans.specs.Built.{IsCircuitText, HasCircuit}
+use Rattle.command_plans.specs.Unwritten.{IsUnwritten}
+use Rattle.command_plans.proofs.Put.{WritesWhole}
 use Rattle.tapa_drive.specs.Answer.{HasPartOf, IsDone, ReadsAsked}
-use Rattle.tapa_drive.specs.Built.{IsCircuitText, HasCircuit}
-use Rattle.tapa_drive.specs.Carried.{IsCarriedOut, IsUnwritten}
-use Rattle.tapa_drive.specs.Files.{OfSource, source_limit}
-use Rattle.tapa_drive.specs.Meaning.{refusal_of}
-use Rattle.tapa_drive.specs.Outside.{Outside, Written, outside}
-use Rattle.tapa_drive.specs.Source.{IsProgramOf}
-use Rattle.tapa_drive.specs.declared.refusal.Refusal.{Refusal as CodeRefusal}
+use Rattle.tapa_drive.specs.Carried.{IsCarriedOut}
 use Rattle.tapa_drive.proofs.Carried as carried
-use Rattle.tapa_drive.proofs.Put.{WritesWhole, carried_out}
-use Rattle.tapa_drive.proofs.OfFiles.{of_file_also}
+use Rattle.tapa_drive.proofs.Put.{carried_out}
 
 module _ (words : List (List ℕ)) (files : Option Files) (source top : List ℕ) (asked : command_of words ≡ Some (Build source top)) (reads_old : List ℕ → ℕ) (old errors told : Written) (files_new : Option Files) (reads_new : List ℕ → ℕ) (same_new : files_new ≡ files) (later_new : reads_old source ≤ reads_new source) (others_new : (other : List ℕ) → other ≢ source → reads_new other ≡ reads_old other)
     (program : Program) (means : OfSource files source (λ text. IsProgramOf text top program)) (new : Written) where

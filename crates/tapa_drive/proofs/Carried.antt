@@ -3,17 +3,17 @@ use Rattle.std.proofs.Common.{◌≡◌, ◌≢◌, ◌⊎◌, ◌≤◌, ℕ, L
 use Rattle.tapa_files.specs.Outside.{Files}
 use Rattle.tapa_syntax.specs.declared.program.Program.{Program}
 use Rattle.tapa_words.specs.Words.{Command, command_of}
+use Rattle.command_files.specs.Files.{OfFile, OfSource, source_limit}
+use Rattle.command_files.specs.Found.{IsNotTaken}
+use Rattle.command_files.specs.Meaning.{refusal_of}
+use Rattle.command_files.specs.Outside.{Outside, Written, outside}
+use Rattle.command_files.specs.Refusal.{Refusal, Usage, Read, Write, TooLong, Source, Data, Ticks, Stopped, Device, TooManyPlans, NoPlan, NoRoom, Verilog, DesignData, Undone, Memory}
+use Rattle.command_files.specs.Source.{IsProgramOf}
+use Rattle.command_files.specs.declared.refusal.Refusal.{Refusal as CodeRefusal}
+use Rattle.command_files.proofs.OfFiles.{of_file_also}
 use Rattle.tapa_drive.specs.Answer.{OfCommand, source_in, most_in, file_in, HasProgram, IsTaken, IsRefusedIn, IsFaultyIn, IsReached, HasCause, Leaves, ReadsAsked}
 use Rattle.tapa_drive.specs.Carried.{IsCarriedOut}
-use Rattle.tapa_drive.specs.Files.{OfFile, OfSource, source_limit}
-use Rattle.tapa_drive.specs.Found.{IsNotTaken}
-use Rattle.tapa_drive.specs.Meaning.{refusal_of}
-use Rattle.tapa_drive.specs.Outside.{Outside, Written, outside}
-use Rattle.tapa_drive.specs.Refusal.{Refusal, Usage, Read, Write, TooLong, Source, Data, Ticks, Stopped, Device, TooManyPlans, NoPlan, NoRoom, Verilog, DesignData, Undone, Memory}
-use Rattle.tapa_drive.specs.Source.{IsProgramOf}
-use Rattle.tapa_drive.specs.declared.refusal.Refusal.{Refusal as CodeRefusal}
 use Rattle.tapa_drive.proofs.Counts.{one_name}
-use Rattle.tapa_drive.proofs.OfFiles.{of_file_also}
 
 pub has_program : (files : Option Files) (source top : List ℕ) (program : Program) → OfSource files source (λ text. IsProgramOf text top program) → OfSource files source (λ text. HasProgram text top)
 has_program files source top program means =

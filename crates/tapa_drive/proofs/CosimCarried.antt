@@ -7,19 +7,20 @@ use Rattle.vlog_tree.specs.Environment.{Environment}
 use Rattle.vlog_design.specs.Designs.{DesignTree}
 use Rattle.run_design.specs.Ending.{EndsSo, HasPart}
 use Rattle.run_design.specs.declared.run.DesignEnd.TheVariants as design_end
+use Rattle.command_files.specs.Files.{OfFile, OfData, verilog_limit}
+use Rattle.command_files.specs.Meaning.{refusal_of}
+use Rattle.command_files.specs.Outside.{Outside, Written, outside}
+use Rattle.command_files.specs.Refusal.{Refusal, Usage, Read, Write, TooLong, Source, Data, Ticks, Stopped, Device, TooManyPlans, NoPlan, NoRoom, Verilog, DesignData, Undone, Memory, DataFault}
+use Rattle.command_files.specs.declared.refusal.Refusal.{Refusal as CodeRefusal}
+use Rattle.command_files.specs.declared.refusal.Refusal.TheVariants as code
+use Rattle.command_files.proofs.OfFiles.{of_file_also}
 use Rattle.tapa_drive.specs.Answer.{OfDesignTexts, HasCause, HasPartOf, Leaves, ReadsAsked}
 use Rattle.tapa_drive.specs.Carried.{IsCarriedOut}
 use Rattle.tapa_drive.specs.Designs.{IsDesignOf, HasDesign, GivesEnvironment, HasDesignFault, HasBadDesignData, HasSimulated, HasCosimmed, HasUndone}
-use Rattle.tapa_drive.specs.Files.{OfFile, OfData, verilog_limit}
 use Rattle.tapa_drive.specs.Found.{IsNotSurrounded}
-use Rattle.tapa_drive.specs.Meaning.{refusal_of}
-use Rattle.tapa_drive.specs.Outside.{Outside, Written, outside}
-use Rattle.tapa_drive.specs.Refusal.{Refusal, Usage, Read, Write, TooLong, Source, Data, Ticks, Stopped, Device, TooManyPlans, NoPlan, NoRoom, Verilog, DesignData, Undone, Memory, DataFault}
-use Rattle.tapa_drive.specs.declared.refusal.Refusal.{Refusal as CodeRefusal}
-use Rattle.tapa_drive.specs.declared.refusal.Refusal.TheVariants as code
 use Rattle.tapa_drive.proofs.Carried as carried
 use Rattle.tapa_drive.proofs.Counts.{rose_since, later_all}
-use Rattle.tapa_drive.proofs.OfFiles.{of_file_also, of_text_both}
+use Rattle.tapa_drive.proofs.OfFiles.{of_text_both}
 
 module _ (words : List (List ℕ)) (files : Option Files) (name : List ℕ) (named : Option (List ℕ)) (limit : ℕ) (asked : command_of words ≡ Some (Cosim name named limit)) (reads_old : List ℕ → ℕ) (old errors told : Written) (files_mid : Option Files) (reads_mid : List ℕ → ℕ) (same_mid : files_mid ≡ files) (later_mid : reads_old name ≤ reads_mid name) (others_mid : (other : List ℕ) → other ≢ name → reads_mid other ≡ reads_old other) (design : DesignTree) (means : OfFile files verilog_limit name (λ text. IsDesignOf text design)) (files_new : Option Files) (reads_new : List ℕ → ℕ) (same_new : files_new ≡ files_mid) (others_new : (other : List ℕ) → named ≢ Some other → reads_new other ≡ reads_mid other) where
   abbrev command : Command

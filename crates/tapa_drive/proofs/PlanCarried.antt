@@ -11,19 +11,21 @@ use Rattle.task_graph.specs.Programs.{IsGraphOf}
 use Rattle.plan_device.specs.declared.device.Device.{Device as DeviceOf}
 use Rattle.plan_device.specs.Answer.{IsDeviceOf}
 use Rattle.slot_plan.specs.declared.floorplan.Plan.{Plan as FloorPlan}
+use Rattle.command_files.specs.Files.{OfSource, OfData}
+use Rattle.command_files.specs.Meaning.{refusal_of}
+use Rattle.command_files.specs.Outside.{Outside, Written, outside}
+use Rattle.command_files.specs.Refusal.{Refusal, Usage, Read, Write, TooLong, Source, Data, Ticks, Stopped, Device, TooManyPlans, NoPlan, NoRoom, Verilog, DesignData, Undone, Memory, DeviceFault}
+use Rattle.command_files.specs.Source.{IsProgramOf}
+use Rattle.command_files.specs.declared.refusal.Refusal.{Refusal as CodeRefusal}
+use Rattle.command_plans.specs.Unwritten.{IsUnwritten}
+use Rattle.command_plans.specs.Found.{IsNoDevice}
+use Rattle.command_plans.specs.Planned.{mode_of, IsFound, IsToldBy, IsUnplanned, HasDeviceFault, IsAskedOn, HasBadDevice, HasNoPlan, HasPlan}
+use Rattle.command_plans.proofs.Put.{WritesWhole}
 use Rattle.tapa_drive.specs.Answer.{OfTexts, HasProgram, HasCause, HasPartOf, IsDone, Leaves, ReadsAsked}
-use Rattle.tapa_drive.specs.Carried.{IsCarriedOut, IsUnwritten}
-use Rattle.tapa_drive.specs.Files.{OfSource, OfData}
-use Rattle.tapa_drive.specs.Found.{IsNoDevice}
-use Rattle.tapa_drive.specs.Meaning.{refusal_of}
-use Rattle.tapa_drive.specs.Outside.{Outside, Written, outside}
-use Rattle.tapa_drive.specs.Planned.{mode_of, IsFound, IsToldBy, IsUnplanned, HasDeviceFault, IsAskedOn, HasBadDevice, HasNoPlan, HasPlan}
-use Rattle.tapa_drive.specs.Refusal.{Refusal, Usage, Read, Write, TooLong, Source, Data, Ticks, Stopped, Device, TooManyPlans, NoPlan, NoRoom, Verilog, DesignData, Undone, Memory, DeviceFault}
-use Rattle.tapa_drive.specs.Source.{IsProgramOf}
-use Rattle.tapa_drive.specs.declared.refusal.Refusal.{Refusal as CodeRefusal}
+use Rattle.tapa_drive.specs.Carried.{IsCarriedOut}
 use Rattle.tapa_drive.proofs.Carried as carried
 use Rattle.tapa_drive.proofs.Counts.{rose_since, later_all}
-use Rattle.tapa_drive.proofs.Put.{WritesWhole, carried_out}
+use Rattle.tapa_drive.proofs.Put.{carried_out}
 use Rattle.tapa_drive.proofs.OfFiles.{of_both}
 
 module _ (words : List (List ℕ)) (files : Option Files) (source top name : List ℕ) (mode : PlanMode) (aim : PlanAim) (asked : command_of words ≡ Some (Plan source top name mode aim)) (reads_old : List ℕ → ℕ) (old errors told : Written) (files_mid : Option Files) (reads_mid : List ℕ → ℕ) (same_mid : files_mid ≡ files) (later_mid : reads_old source ≤ reads_mid source) (others_mid : (other : List ℕ) → other ≢ source → reads_mid other ≡ reads_old other) (program : Program) (means : OfSource files source (λ text. IsProgramOf text top program)) (graph : Graph) (is_graph : IsGraphOf program graph) (files_new : Option Files) (reads_new : List ℕ → ℕ) (same_new : files_new ≡ files_mid) (others_new : (other : List ℕ) → Some name ≢ Some other → reads_new other ≡ reads_mid other) where

@@ -6,19 +6,19 @@ use Rattle.tapa_files.specs.Take.{IsLongerThan}
 use Rattle.tapa_words.specs.Words.{Run, Build, Plan, Cosim, command_of}
 use Rattle.tapa_words.specs.declared.command.PlanAim.{PlanAim}
 use Rattle.tapa_words.specs.declared.command.PlanMode.{PlanMode}
+use Rattle.command_files.specs.Files.{OfFile, OfSource, source_limit, data_limit}
+use Rattle.command_files.specs.Outside.{Outside, Written, outside}
+use Rattle.command_files.specs.Refusal.{Refusal, Usage, Read, Write, TooLong, Source, Data, Ticks, Stopped, Device, TooManyPlans, NoPlan, NoRoom, Verilog, DesignData, Undone, Memory, VerilogFault}
+use Rattle.command_files.specs.Source.{IsRefusedSource}
+use Rattle.command_files.specs.Told.{IsTold, IsToldAs}
+use Rattle.command_files.specs.declared.status.Status.{Status}
+use Rattle.command_files.specs.declared.status.Status.TheVariants as status
+use Rattle.command_files.proofs.Sourced.{means_nothing}
+use Rattle.command_plans.specs.Planned.{mode_of, HasBadDevice, HasNoPlan, HasPlan}
 use Rattle.tapa_drive.specs.Answer.{OfRun, OfBuild, OfPlan, OfTexts, OfCosim, source_in, most_in, HasProgram, IsRefusedIn, IsFaultyIn, IsReached, IsTooLong, IsDone, HasCause, Leaves, IsAnswer}
 use Rattle.tapa_drive.specs.Decided.{NothingFails}
-use Rattle.tapa_drive.specs.Files.{OfFile, OfSource, source_limit, data_limit}
-use Rattle.tapa_drive.specs.Outside.{Outside, Written, outside}
 use Rattle.tapa_drive.specs.PlanDecided.{IsPlannable, ArePlannable, TellsPlanOf, TellsPlan}
-use Rattle.tapa_drive.specs.Planned.{mode_of, HasBadDevice, HasNoPlan, HasPlan}
-use Rattle.tapa_drive.specs.Refusal.{Refusal, Usage, Read, Write, TooLong, Source, Data, Ticks, Stopped, Device, TooManyPlans, NoPlan, NoRoom, Verilog, DesignData, Undone, Memory, VerilogFault}
-use Rattle.tapa_drive.specs.Source.{IsRefusedSource}
-use Rattle.tapa_drive.specs.Told.{IsTold, IsToldAs}
-use Rattle.tapa_drive.specs.declared.status.Status.{Status}
-use Rattle.tapa_drive.specs.declared.status.Status.TheVariants as status
 use Rattle.tapa_drive.proofs.Decided.{asked_of, of_source}
-use Rattle.tapa_drive.proofs.Sourced.{means_nothing}
 
 -- a plan that was asked for is the one that the words ask for
 asked_plan : (words : List (List ℕ)) (source top name : List ℕ) (mode : PlanMode) (aim : PlanAim) → command_of words ≡ Some (Plan source top name mode aim) → (P : List ℕ → List ℕ → List ℕ → PlanMode → PlanAim → Type 0) → OfPlan words P → P source top name mode aim

@@ -3,15 +3,15 @@ use Rattle.std.specs.Prelude.{◌≡◌, ◌⊎◌, ◌<◌, ◌≤◌, ℕ, Lis
 use Rattle.std.specs.Io.KnownBytes.{Appends}
 use Rattle.tapa_base.specs.declared.text.Place.{Place}
 use Rattle.tapa_files.specs.Outside.{Files, file_bytes}
-use Rattle.tapa_drive.specs.Built.{HasCircuit}
+use Rattle.command_files.specs.Files.{source_limit}
+use Rattle.command_files.specs.Outside.{Outside}
+use Rattle.command_files.specs.Refusal.{Source, TooLong}
+use Rattle.command_files.specs.Source.{IsRefusedSource}
+use Rattle.command_files.specs.declared.source.SourceCode.{SourceCode}
+use Rattle.command_files.specs.declared.status.Status.{Status}
+use Rattle.command_files.specs.declared.status.Status.TheVariants.{Ok}
+use Rattle.command_plans.specs.Built.{HasCircuit}
 use Rattle.tapa_drive.specs.Decided.{IsRefusedWith}
-use Rattle.tapa_drive.specs.Files.{source_limit}
-use Rattle.tapa_drive.specs.Outside.{Outside}
-use Rattle.tapa_drive.specs.Refusal.{Source, TooLong}
-use Rattle.tapa_drive.specs.Source.{IsRefusedSource}
-use Rattle.tapa_drive.specs.declared.source.SourceCode.{SourceCode}
-use Rattle.tapa_drive.specs.declared.status.Status.{Status}
-use Rattle.tapa_drive.specs.declared.status.Status.TheVariants.{Ok}
 
 -- the text of the circuit of the source's program is written whole; or it is told which rule refuses the source, and where;
 -- or that it has more bytes than it may

@@ -2,14 +2,14 @@
 use Rattle.std.specs.Prelude.{◌≡◌, ◌<◌, ◌≤◌, ℕ, List, length, Option, Some, None}
 use Rattle.std.specs.Io.KnownBytes.{Appends}
 use Rattle.tapa_files.specs.Outside.{Files, file_bytes}
+use Rattle.command_files.specs.Files.{data_limit, verilog_limit, shown_name}
+use Rattle.command_files.specs.Outside.{Outside}
+use Rattle.command_files.specs.Refusal.{DataFault, VerilogFault, TooLong, Verilog, DesignData, Undone}
+use Rattle.command_files.specs.Told.{IsTold}
+use Rattle.command_files.specs.declared.status.Status.{Status}
+use Rattle.command_files.specs.declared.status.Status.TheVariants.{Ok}
 use Rattle.tapa_drive.specs.Decided.{Given, Bytes, TooMany, IsGiven, IsRefusedWith}
 use Rattle.tapa_drive.specs.Designs.{HasDesign, IsRefusedText, HasBadDesignData, HasSimulated}
-use Rattle.tapa_drive.specs.Files.{data_limit, verilog_limit, shown_name}
-use Rattle.tapa_drive.specs.Outside.{Outside}
-use Rattle.tapa_drive.specs.Refusal.{DataFault, VerilogFault, TooLong, Verilog, DesignData, Undone}
-use Rattle.tapa_drive.specs.Told.{IsTold}
-use Rattle.tapa_drive.specs.declared.status.Status.{Status}
-use Rattle.tapa_drive.specs.declared.status.Status.TheVariants.{Ok}
 
 -- what a text means with data and a limit on cycles: a design that is done in a cycle, with this report, or in none; one for which
 -- the data have this fault, or are too long; no design, by a fault; or more bytes than it may have

@@ -6,17 +6,17 @@ use Rattle.tapa_files.specs.Outside.{Files, file_bytes, Rose}
 use Rattle.tapa_syntax.specs.declared.program.Program.{Program}
 use Rattle.run_program.specs.Laws.{RunMeaning, Done, Stopped, Limit, Runs}
 use Rattle.run_program.specs.Run.{Values}
+use Rattle.command_files.specs.Files.{source_limit, data_limit, no_data, shown_name}
+use Rattle.command_files.specs.Inputs.{HasDataFault}
+use Rattle.command_files.specs.Outside.{Outside}
+use Rattle.command_files.specs.Refusal.{DataFault, Source, Data, TooLong, Ticks}
+use Rattle.command_files.specs.Refusal as refusal
+use Rattle.command_files.specs.Source.{IsProgramOf, IsRefusedSource}
+use Rattle.command_files.specs.Told.{IsTold}
+use Rattle.command_files.specs.declared.source.SourceCode.{SourceCode}
+use Rattle.command_files.specs.declared.status.Status.{Status}
+use Rattle.command_files.specs.declared.status.Status.TheVariants.{Ok}
 use Rattle.tapa_drive.specs.Answer.{IsAsked}
-use Rattle.tapa_drive.specs.Files.{source_limit, data_limit, no_data, shown_name}
-use Rattle.tapa_drive.specs.Inputs.{HasDataFault}
-use Rattle.tapa_drive.specs.Outside.{Outside}
-use Rattle.tapa_drive.specs.Refusal.{DataFault, Source, Data, TooLong, Ticks}
-use Rattle.tapa_drive.specs.Refusal as refusal
-use Rattle.tapa_drive.specs.Source.{IsProgramOf, IsRefusedSource}
-use Rattle.tapa_drive.specs.Told.{IsTold}
-use Rattle.tapa_drive.specs.declared.source.SourceCode.{SourceCode}
-use Rattle.tapa_drive.specs.declared.status.Status.{Status}
-use Rattle.tapa_drive.specs.declared.status.Status.TheVariants.{Ok}
 
 -- what a text means with the name of its top task and with data: a program that runs in some way on the values that the
 -- data give; one for which the data have this fault, or are too long; or no program, since a rule refuses it at a place

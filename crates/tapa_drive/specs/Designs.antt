@@ -16,7 +16,7 @@ use Rattle.run_data.specs.Data.{IsJson, Misshapen, Misfit, Oversized, faults, sc
 use Rattle.run_data.specs.declared.data.DataFault.{DataFault as FaultOfData}
 use Rattle.run_data.specs.declared.data.DataFault.TheVariants.{J1, J2, J3, J4, OutOfMemory}
 use Rattle.run_design.specs.Reports.{IsSimulated}
-use Rattle.tapa_drive.specs.Refusal.{DataFault, NotJson, Faulty, VerilogFault, V1, V2, V3, V4, V5, V6}
+use Rattle.command_files.specs.Refusal.{DataFault, NotJson, Faulty, VerilogFault, V1, V2, V3, V4, V5, V6}
 
 -- the text spells modules, and these are a design
 pub record IsDesignOf (text : List ℕ) (design : DesignTree) : Type 0 where

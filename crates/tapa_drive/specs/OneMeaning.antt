@@ -5,12 +5,12 @@ use Rattle.tapa_syntax.specs.declared.program.Program.{Program}
 use Rattle.tapa_syntax.specs.Flat.{flat_program}
 use Rattle.run_program.specs.Laws.{RunMeaning}
 use Rattle.run_program.specs.Run.{Values}
+use Rattle.command_files.specs.Inputs.{HasDataFault}
+use Rattle.command_files.specs.Refusal.{DataFault}
+use Rattle.command_files.specs.Source.{IsProgramOf, IsRefusedSource, MeansNothing}
+use Rattle.command_files.specs.declared.source.SourceCode.{SourceCode}
 use Rattle.tapa_drive.specs.Answer.{IsAsked}
 use Rattle.tapa_drive.specs.Decided.{SourceMeaning, Ran, Given, Bytes, Means}
-use Rattle.tapa_drive.specs.Inputs.{HasDataFault}
-use Rattle.tapa_drive.specs.Refusal.{DataFault}
-use Rattle.tapa_drive.specs.Source.{IsProgramOf, IsRefusedSource, MeansNothing}
-use Rattle.tapa_drive.specs.declared.source.SourceCode.{SourceCode}
 
 -- the programs of a source are one as plain data
 abbrev pub SourcesHaveOneProgram : Type 0

@@ -1,63 +1,24 @@
-ghost use Rattle.std.specs.Prelude.{◌≡◌, ◌⊎◌, ◌≤◌, ℕ, List, Option, Some, None, option_map};
-ghost use Rattle.tapa_words.specs.Words.{texts, command_of, most_limit, Run, Build, Plan, Cosim};
+ghost use Rattle.std.specs.Prelude.{◌≡◌, ◌⊎◌, ℕ, List, Option, Some, None};
+ghost use Rattle.tapa_words.specs.Words.{texts, command_of, Run, Build, Plan, Cosim};
 ghost use Rattle.tapa_words.specs.declared.command.PlanAim.{PlanAim as PlanAimWord};
 ghost use Rattle.tapa_words.specs.declared.command.PlanMode.{PlanMode as PlanModeWord};
+ghost use Rattle.command_files.specs.Files.{source_limit};
+ghost use Rattle.command_files.specs.Outside.{Written, written, outside};
+ghost use Rattle.command_files.specs.Refusal.{Refusal as Why};
+ghost use Rattle.command_plans.specs.Planned.{mode_of};
 ghost use Rattle.tapa_drive.specs.Answer.{IsAnswer};
 ghost use Rattle.tapa_drive.specs.BuildDecided.{TellsBuild};
 ghost use Rattle.tapa_drive.specs.Carried.{IsCarriedOut};
 ghost use Rattle.tapa_drive.specs.CosimDecided.{TellsCosim};
 ghost use Rattle.tapa_drive.specs.Decided.{SourceMeaning, Expects, IsLengthy, IsRefusedWith, NothingFails, WritesAll, Tells};
-ghost use Rattle.tapa_drive.specs.Files.{source_limit};
-ghost use Rattle.tapa_drive.specs.Outside.{Written, written, outside};
 ghost use Rattle.tapa_drive.specs.PlanDecided.{ArePlannable, TellsPlan};
-ghost use Rattle.tapa_drive.specs.Planned.{mode_of};
-ghost use Rattle.tapa_drive.specs.Refusal.{Refusal as Why};
 
-use crate::building::build_source;
 use crate::cosim::cosim_text;
-use crate::files::{read_source, read_values};
-use crate::planning::plan_source;
-use crate::refusal::{Refusal, tell};
-use crate::status::Status;
-use run_program::{RunEnd, run_program};
+use crate::sources::{build_source, plan_source, run_source};
+use command_files::{Refusal, Status, tell};
 use std::alloc::Global;
-use tapa_files::{PrintFault, Shelf, Sink};
+use tapa_files::{Shelf, Sink};
 use tapa_words::{Command, WordsFault, read_words};
-
-// Runs the program of a source on its data, up to the first step that refuses.
-fn run_source<'a, S: Shelf, O: Sink>(
-    alloc: Global,
-    source: &'a str,
-    top: &str,
-    named: Option<&'a str>,
-    limit: u64,
-    shelf: &mut S,
-    out: &mut O,
-) -> Result<(), Refusal<'a>>
-    requires { limit ≤ most_limit }
-    ensures { (words : List (List ℕ)) (errors told : Written) → command_of words ≡ Some (Run source.now top.now (option_map (λ file. file.now) named.entry) limit) →
-        IsCarriedOut words (outside (S.files shelf.old) (S.faults shelf.old) (written (O.contents out.old) (O.faults out.old)) errors)
-        (outside (S.files shelf.new) (S.faults shelf.new) (written (O.contents out.new) (O.faults out.new)) told) result }
-{
-    let program = match read_source(alloc, source, top, shelf) {
-        Ok(program) => program,
-        Err(refusal) => return Err(refusal),
-    };
-    let input = match read_values(alloc, &program, named, shelf) {
-        Ok(input) => input,
-        Err(refusal) => return Err(refusal),
-    };
-    let end = match run_program(alloc, program, input, limit, out) {
-        Ok(end) => end,
-        Err(PrintFault::WriteFault) => return Err(Refusal::Write),
-        Err(PrintFault::OutOfMemory) => return Err(Refusal::Memory),
-    };
-    match end {
-        RunEnd::Done => Ok(()),
-        RunEnd::Stopped { lines } => Err(Refusal::Stopped { lines }),
-        RunEnd::Limit => Err(Refusal::Ticks { limit }),
-    }
-}
 
 // Carries a command out, up to the first step that refuses.
 fn carry_out<'a, S: Shelf, O: Sink>(

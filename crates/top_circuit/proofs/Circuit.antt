@@ -18,8 +18,9 @@ use Rattle.top_modules.specs.Lower.{lower_modules, task_module, KeepPromises}
 use Rattle.top_modules.proofs.Channels.{channel_are}
 use Rattle.top_modules.proofs.Lower.{channels_found}
 use Rattle.top_form.proofs.Tasks.{part_at, used, named}
-use Rattle.top_design.proofs.Outside.{tops_have_scalars, tops_have_memories}
-use Rattle.top_design.proofs.Whole.{designs_are_legal}
+pub use Rattle.top_form.proofs.Whole.{tops_are_modules}
+pub use Rattle.top_design.proofs.Outside.{tops_have_scalars, tops_have_memories, tops_have_streams}
+pub use Rattle.top_design.proofs.Whole.{designs_are_legal}
 use Rattle.top_runs.specs.Designs.{StandsForTask, StandsForChannel, IsCircuit}
 use Rattle.top_runs.proofs.Designs.{circuits_are_designs}
 use Rattle.top_kahn.proofs.Carries.{circuits_carry_streams}

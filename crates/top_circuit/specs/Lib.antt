@@ -1,1 +1,3 @@
+pub use Rattle.top_modules.specs.Lower
+pub use Rattle.top_kahn.specs.Carries
 pub mod Circuit

@@ -5,7 +5,7 @@ use Rattle.task_fsm.specs.declared.machine.Fsm.{Fsm}
 use Rattle.vlog_tree.specs.Form.{ModuleTree}
 use Rattle.top_law.specs.Designs.{AreShort}
 use Rattle.top_law.specs.Legal.{AreMachinesOf, HasOwnNames, IsCountable, IsReady}
-use Rattle.top_form.proofs.Whole.{tops_are_modules}
+use Rattle.top_circuit.proofs.Circuit.{tops_are_modules}
 use Rattle.hw_design.proofs.Circuit.{kept_promises, whole_long, legal_at, circuit_of}
 use Rattle.hw_design.proofs.whole.design.Goals as goal
 

@@ -4,7 +4,7 @@ use Rattle.vlog_ref_start.specs.Outside.{environment_of}
 use Rattle.run_design.specs.Ending.{EndsSo}
 use Rattle.run_design.specs.declared.run.DesignEnd.{DesignEnd}
 use Rattle.tapa_words.specs.Words.{Cosim}
-use Rattle.tapa_drive.specs.Outside.{written}
+use Rattle.command_files.specs.Outside.{written}
 use Rattle.tapa_drive.proofs.Carried.{not_found}
 use Rattle.tapa_drive.proofs.CosimCarried.{not_surrounded, ended, unfinished, unwritten, no_memory}
 use Rattle.tapa_drive.proofs.cosim.cosim_text.Goals as goal

@@ -1,9 +1,9 @@
 use Rattle.std.proofs.Common.{ℕ, List, sym, subst}
 use Rattle.std.specs.Prelude.{option_map}
+use Rattle.command_files.specs.Files.{no_data}
+use Rattle.command_files.specs.Meaning.{design_refusal}
 use Rattle.tapa_drive.specs.Designs.{IsUnfitFor}
-use Rattle.tapa_drive.specs.Files.{no_data}
 use Rattle.tapa_drive.specs.Found.{IsNotSurrounded}
-use Rattle.tapa_drive.specs.Meaning.{design_refusal}
 use Rattle.tapa_drive.proofs.Taking.{unfit_design_none}
 use Rattle.tapa_drive.proofs.cosim.read_surroundings.Goals as goal
 

@@ -1,6 +1,6 @@
+use Rattle.command_files.proofs.Sourced.{means_nothing}
 use Rattle.tapa_drive.proofs.OneMeaning.{means_one, means_some}
 use Rattle.tapa_drive.proofs.OneRefusal.{one_refusal}
-use Rattle.tapa_drive.proofs.Sourced.{means_nothing}
 use Rattle.tapa_drive.proofs.laws.law_one_meaning.Goals as goal
 
 pub returns : goal.returns

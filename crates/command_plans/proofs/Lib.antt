@@ -1,0 +1,3 @@
+pub mod FirstLabel
+pub mod Put
+pub mod Taking

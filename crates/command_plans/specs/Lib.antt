@@ -1,0 +1,4 @@
+pub mod Built
+pub mod Found
+pub mod Planned
+pub mod Unwritten

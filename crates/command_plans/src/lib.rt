@@ -1,0 +1,9 @@
+//! What a command plans and builds: the device of a file, a plan on it with its lines, and the text of a circuit.
+#![tactic(auto)]
+
+mod building;
+mod plan_text;
+mod planning;
+
+pub use building::put_circuit;
+pub use planning::{mode_of, planned, put_aim, read_device_file};

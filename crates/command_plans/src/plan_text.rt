@@ -1,0 +1,80 @@
+// The lines of a plan.
+ghost use Rattle.std.specs.Prelude.{◌≡◌, ◌<◌, ℕ, List, length, IfOk, IfErr};
+ghost use Rattle.std.specs.Io.KnownBytes.{Appends};
+ghost use Rattle.plan_flows.specs.Moves.{AreLatencies};
+ghost use Rattle.plan_device.specs.Devices.{IsDevice};
+ghost use Rattle.plan_latency.specs.Borders.{AreBorderLatencies};
+ghost use Rattle.plan_report.specs.Lines.{texts};
+ghost use Rattle.command_files.specs.Meaning.{refusal_of};
+ghost use Rattle.command_files.specs.Outside.{written};
+ghost use Rattle.command_plans.specs.Unwritten.{IsUnwritten};
+ghost use Rattle.command_plans.specs.Planned.{AreLinesOf, IsPlanText};
+
+use command_files::{Refusal, put_lines};
+use latency_balance::balance_streams;
+use plan_device::Device;
+use plan_latency::latencies;
+use plan_report::plan_lines;
+use slot_plan::Plan;
+use std::alloc::{AllocError, Global};
+use tapa_base::OutOfMemory;
+use tapa_files::Sink;
+use task_graph::Graph;
+
+// The lines of a plan with its border latencies, and of their balance.
+fn lines_with(
+    alloc: Global,
+    graph: &Graph,
+    device: &Device,
+    plan: &Plan,
+    border: &[u32],
+) -> Result<Vec<Vec<u8>>, AllocError>
+    requires cols { 0 < device.now.cols }
+    requires slots { length plan.now.slot.items ≡ graph.now.groups }
+    requires borders { AreBorderLatencies graph.now device.now plan.now.slot.items border.now }
+    requires low { AreLatencies graph.now border.now }
+    ensures { IfOk result (λ lines. AreLinesOf graph.now device.now plan.now (texts lines.items)) }
+{
+    let balance = balance_streams(alloc, graph, border)?;
+    let lines = plan_lines(alloc, graph, device, plan, border, &balance)?;
+    Ok(lines)
+}
+
+// The lines of a plan, of its border latencies and of their balance.
+fn lines_of(
+    alloc: Global,
+    graph: &Graph,
+    device: &Device,
+    plan: &Plan,
+) -> Result<Vec<Vec<u8>>, OutOfMemory>
+    requires device { IsDevice graph.now device.now }
+    requires slots { length plan.now.slot.items ≡ graph.now.groups }
+    ensures { IfOk result (λ lines. AreLinesOf graph.now device.now plan.now (texts lines.items)) }
+{
+    let border = latencies(alloc, graph, plan, device)?;
+    let lines = lines_with(alloc, graph, device, plan, &border)?;
+    Ok(lines)
+}
+
+/// Writes the lines of a plan with its border latencies and their balance.
+pub fn put_plan<'a, O: Sink>(
+    alloc: Global,
+    graph: &Graph,
+    device: &Device,
+    plan: &Plan,
+    out: &mut O,
+) -> Result<(), Refusal<'a>>
+    requires device { IsDevice graph.now device.now }
+    requires slots { length plan.now.slot.items ≡ graph.now.groups }
+    ensures whole { IfOk result (λ _. (told : List ℕ) × IsPlanText graph.now device.now plan.now told × Appends (O.contents out.old) (O.contents out.new) told) }
+    ensures refused { IfErr result (λ refusal. IsUnwritten (written (O.contents out.old) (O.faults out.old)) (written (O.contents out.new) (O.faults out.new)) (IsPlanText graph.now device.now plan.now) (refusal_of refusal)) }
+{
+    let lines = match lines_of(alloc, graph, device, plan) {
+        Ok(lines) => lines,
+        Err(_) => return Err(Refusal::Memory),
+    };
+    match put_lines(out, &lines) {
+        Ok(()) => Ok(()),
+        Err(_) => Err(Refusal::Write),
+    }
+}
