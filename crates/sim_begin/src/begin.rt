@@ -43,17 +43,17 @@ pub fn parts_of(alloc: Global, design: Design, around: &Surroundings) -> Result<
     ensures scalars { IfOk result (λ p. p.scalars.items ≡ around.now.scalars.items) }
     ensures ready { IfOk result (λ p. lists_of p.ready.items ≡ lists_of around.now.ready.items) }
 {
+    let scalars = around.scalars.as_slice().to_vec(alloc)?;
+    let ready = copied(alloc, &around.ready)?;
     let _top = design.top();
     let flat = flatten(alloc, &design)?;
     let draft = draft_of(alloc, &design, &flat)?.unwrap();
-    let scalars = around.scalars.as_slice().to_vec(alloc)?;
     let Around {
         inputs,
         outside,
         streams,
         done,
     } = around_of(alloc, &design, &draft.pairs, &scalars)?;
-    let ready = copied(alloc, &around.ready)?;
     let program = draft.tape.finish(alloc)?;
     Ok(Parts {
         design,

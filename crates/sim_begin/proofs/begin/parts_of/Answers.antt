@@ -25,8 +25,8 @@ returns-clause-parts c =
     let flat = c.in_ok-flat.flat in
     let draft = c.unwrap-draft.result in
     let is : IsDraft d.modules top flat draft = subst (λ (o : Option Draft). IfSome o (λ (x : Draft). (m : ModuleTree) → TopOf d m → IsDraft d.modules m flat x)) c.unwrap-draft.ensures c.in_ok-draft_of.ensures.draft top at in
-    let placed = subst (λ l. ArePlaced d.modules top flat l) (sym c.deref.ensures.value) is.placed in
-    let given = subst (λ l. AreGiven d.modules top flat l (tree_of draft.tape)) (sym c.deref.ensures.value) is.given in
+    let placed = subst (λ l. ArePlaced d.modules top flat l) (sym c.deref-2.ensures.value) is.placed in
+    let given = subst (λ l. AreGiven d.modules top flat l (tree_of draft.tape)) (sym c.deref-2.ensures.value) is.given in
     let a = c.in_ok-inputs.field-0 in
     let around = c.in_ok-inputs.ensures top flat (tree_of draft.tape) at is.flat placed given in
     record {
@@ -34,6 +34,6 @@ returns-clause-parts c =
       at = at;
       machine = subst (λ (t : TapeTree). IsMachine d.modules top flat draft.pairs.items draft.memories.items draft.cells.items t draft.commits.items draft.stores.items) (sym c.in_ok-program.ensures)
           (record { flat = is.flat; tape = is.tape; placed = is.placed; given = is.given; numbered = is.numbered; tells = is.tells; next = is.next });
-      around = subst (λ l. IsAround d.modules top flat l c.in_ok-scalars.scalars.items a.inputs.items a.outside.items a.streams.items a.done) c.deref.ensures.value
-          (subst (λ l. IsAround d.modules top flat c.deref.result.now l a.inputs.items a.outside.items a.streams.items a.done) c.deref-2.ensures.value around);
+      around = subst (λ l. IsAround d.modules top flat l c.in_ok-scalars.scalars.items a.inputs.items a.outside.items a.streams.items a.done) c.deref-2.ensures.value
+          (subst (λ l. IsAround d.modules top flat c.deref-2.result.now l a.inputs.items a.outside.items a.streams.items a.done) c.deref-3.ensures.value around);
     }
