@@ -12,7 +12,7 @@ use std::alloc::Global;
 use tapa_parse_expression::{Fault, Parser};
 use tapa_syntax::{
     Attribute, AttributeArgument, AttributeArguments, Count, CountValue, Declaration, Declarator,
-    Terminal,
+    Name, Terminal,
 };
 
 fn count_value(parser: &mut Parser, levels: u32) -> Result<CountValue, Fault>
@@ -44,23 +44,33 @@ pub(crate) fn count(parser: &mut Parser, levels: u32) -> Result<Count, Fault>
     Ok(Count { place, value })
 }
 
+// What follows the name of a variable, from `=` on.
+fn initialized(parser: &mut Parser, name: Name, levels: u32) -> Result<Declarator, Fault>
+    ensures { Gives view.declarator_of result parser.new (spec.declarator_by most_operators (spec.below levels) terminal.Assign name parser.old) }
+{
+    parser.skip();
+    let value = whole_expression(parser, levels)?;
+    Ok(Declarator::Initialized(name, value))
+}
+
+// What follows the name of an array, from `[` on.
+fn array(parser: &mut Parser, name: Name, levels: u32) -> Result<Declarator, Fault>
+    ensures { Gives view.declarator_of result parser.new (spec.declarator_by most_operators (spec.below levels) terminal.LeftBracket name parser.old) }
+{
+    parser.skip();
+    let cells = count(parser, levels)?;
+    parser.expect(Terminal::RightBracket)?;
+    Ok(Declarator::Array(name, cells))
+}
+
 #[tactic(auto, unfolding(tapa_parse_expression::specs::Reading::declarator))]
 fn declarator(parser: &mut Parser, levels: u32) -> Result<Declarator, Fault>
     ensures { Gives view.declarator_of result parser.new (spec.declarator most_operators (spec.below levels) parser.old) }
 {
     let name = parser.name()?;
     match parser.next() {
-        Terminal::Assign => {
-            parser.skip();
-            let value = whole_expression(parser, levels)?;
-            Ok(Declarator::Initialized(name, value))
-        }
-        Terminal::LeftBracket => {
-            parser.skip();
-            let cells = count(parser, levels)?;
-            parser.expect(Terminal::RightBracket)?;
-            Ok(Declarator::Array(name, cells))
-        }
+        Terminal::Assign => initialized(parser, name, levels),
+        Terminal::LeftBracket => array(parser, name, levels),
         _ => Ok(Declarator::Plain(name)),
     }
 }

@@ -4,8 +4,9 @@ ghost use Rattle.std.specs.Prelude.{◌≡◌, List, map};
 ghost use Rattle.tapa_syntax.specs.Symbols.{Symbol};
 ghost use Rattle.tapa_syntax.specs.Limits.{most_operators};
 ghost use Rattle.tapa_syntax.specs.Trees as view;
+ghost use Rattle.tapa_syntax.specs.declared.terminal.Terminal.TheVariants as terminal;
 ghost use Rattle.tapa_syntax.specs.Trees.{StatementTree};
-ghost use Rattle.tapa_parse_expression.specs.Readers.{Gives, Outcome, and_then, pure};
+ghost use Rattle.tapa_parse_expression.specs.Readers.{Gives, Outcome, and_then, expect, pure};
 ghost use Rattle.tapa_parse_expression.specs.Reading as spec;
 
 use crate::action::{action, condition, whole_expression};
@@ -16,49 +17,63 @@ use tapa_base::Place;
 use tapa_parse_expression::{Fault, ParseCode, Parser};
 use tapa_syntax::{Action, Expression, ForHead, ForStart, Statement, Terminal};
 
-// A loop of a head and a body, where the body was read.
-fn for_statement(
-    alloc: Global,
-    head: Box<ForHead>,
-    body: Result<Statement, Fault>,
-) -> Result<Statement, Fault>
-    ensures { (left : List Symbol) (outcome : Outcome StatementTree) → Gives view.statement body left outcome → Gives view.statement result left (and_then outcome (λ s. pure (view.for (view.head_of head.value) s))) }
+// A statement in a box, where it was read or refused.
+fn boxed(alloc: Global, found: Result<Statement, Fault>) -> Result<Box<Statement>, Fault>
+    ensures { (left : List Symbol) (outcome : Outcome StatementTree) → Gives view.statement found left outcome → Gives (λ s. view.statement s.value) result left outcome }
 {
-    let body = Box::new(alloc, body?)?;
-    Ok(Statement::For { head, body })
+    let found = found?;
+    Ok(Box::new(alloc, found)?)
 }
 
 // A statement of its parts, where the last was read or refused. These stand outside the recursion, so that no branch is
-// made there while the other parts are alive.
-fn if_statement(alloc: Global, test: Expression, first: Statement) -> Result<Statement, Fault>
-    ensures { (left : List Symbol) → Gives view.statement result left (Ok (view.if_only (view.expression test) (view.statement first), left)) }
+// made there while the other parts are alive, and have one branch each.
+fn for_statement(
+    head: Box<ForHead>,
+    body: Result<Box<Statement>, Fault>,
+) -> Result<Statement, Fault>
+    ensures { (left : List Symbol) (outcome : Outcome StatementTree) → Gives (λ s. view.statement s.value) body left outcome → Gives view.statement result left (and_then outcome (λ s. pure (view.for (view.head_of head.value) s))) }
 {
-    let first = Box::new(alloc, first)?;
-    Ok(Statement::If(test, first))
+    let body = body?;
+    Ok(Statement::For { head, body })
 }
 
 fn if_else_statement(
-    alloc: Global,
     test: Expression,
-    first: Statement,
-    second: Result<Statement, Fault>,
+    first: Box<Statement>,
+    second: Result<Box<Statement>, Fault>,
 ) -> Result<Statement, Fault>
-    ensures { (left : List Symbol) (outcome : Outcome StatementTree) → Gives view.statement second left outcome → Gives view.statement result left (and_then outcome (λ t. pure (view.if_else (view.expression test) (view.statement first) t))) }
+    ensures { (left : List Symbol) (outcome : Outcome StatementTree) → Gives (λ s. view.statement s.value) second left outcome → Gives view.statement result left (and_then outcome (λ t. pure (view.if_else (view.expression test) (view.statement first.value) t))) }
 {
-    let first = Box::new(alloc, first)?;
-    let second = Box::new(alloc, second?)?;
+    let second = second?;
     Ok(Statement::IfElse(test, first, second))
 }
 
 fn while_statement(
-    alloc: Global,
     test: Expression,
-    body: Result<Statement, Fault>,
+    body: Result<Box<Statement>, Fault>,
 ) -> Result<Statement, Fault>
-    ensures { (left : List Symbol) (outcome : Outcome StatementTree) → Gives view.statement body left outcome → Gives view.statement result left (and_then outcome (λ s. pure (view.while (view.expression test) s))) }
+    ensures { (left : List Symbol) (outcome : Outcome StatementTree) → Gives (λ s. view.statement s.value) body left outcome → Gives view.statement result left (and_then outcome (λ s. pure (view.while (view.expression test) s))) }
 {
-    let body = Box::new(alloc, body?)?;
+    let body = body?;
     Ok(Statement::While(test, body))
+}
+
+// An action and a semicolon.
+fn act(parser: &mut Parser, levels: u32) -> Result<Statement, Fault>
+    ensures { Gives view.statement result parser.new (and_then (spec.action_with most_operators (spec.below levels) parser.old) (λ a i. and_then (expect terminal.Semicolon i) (λ x. pure (view.act a)))) }
+{
+    let action = action(parser, levels)?;
+    parser.expect(Terminal::Semicolon)?;
+    Ok(Statement::Act(action))
+}
+
+// A declaration and a semicolon.
+fn declare(parser: &mut Parser, levels: u32) -> Result<Statement, Fault>
+    ensures { Gives view.statement result parser.new (and_then (spec.declaration_with most_operators (spec.below levels) parser.old) (λ d i. and_then (expect terminal.Semicolon i) (λ x. pure (view.declare d)))) }
+{
+    let declaration = declaration(parser, levels)?;
+    parser.expect(Terminal::Semicolon)?;
+    Ok(Statement::Declare(declaration))
 }
 
 // An action or a declaration, and a semicolon.
@@ -67,13 +82,10 @@ fn simple(parser: &mut Parser, levels: u32) -> Result<Statement, Fault>
     ensures { Gives view.statement result parser.new (spec.simple most_operators (spec.below levels) parser.old) }
 {
     if begins_action(parser.next()) {
-        let action = action(parser, levels)?;
-        parser.expect(Terminal::Semicolon)?;
-        return Ok(Statement::Act(action));
+        act(parser, levels)
+    } else {
+        declare(parser, levels)
     }
-    let declaration = declaration(parser, levels)?;
-    parser.expect(Terminal::Semicolon)?;
-    Ok(Statement::Declare(declaration))
 }
 
 #[tactic(auto, unfolding(tapa_parse_expression::specs::Reading::jump))]
@@ -182,17 +194,17 @@ fn braces(parser: &mut Parser, levels: u32) -> Result<Statement, Fault>
 fn otherwise(
     parser: &mut Parser,
     test: Expression,
-    first: Statement,
+    first: Box<Statement>,
     levels: u32,
 ) -> Result<Statement, Fault>
-    ensures { Gives view.statement result parser.new (spec.otherwise most_operators (spec.below levels) (view.expression test) (view.statement first) parser.old) }
+    ensures { Gives view.statement result parser.new (spec.otherwise most_operators (spec.below levels) (view.expression test) (view.statement first.value) parser.old) }
 {
     if !parser.sees(Terminal::Else) {
-        return if_statement(parser.alloc(), test, first);
+        return Ok(Statement::If(test, first));
     }
     parser.skip();
     let second = statement(parser, levels);
-    if_else_statement(parser.alloc(), test, first, second)
+    if_else_statement(test, first, boxed(parser.alloc(), second))
 }
 
 #[cycle(statement)]
@@ -202,7 +214,8 @@ fn choice(parser: &mut Parser, levels: u32) -> Result<Statement, Fault>
 {
     parser.skip();
     let test = condition(parser, levels)?;
-    let first = statement(parser, levels)?;
+    let first = statement(parser, levels);
+    let first = boxed(parser.alloc(), first)?;
     otherwise(parser, test, first, levels)
 }
 
@@ -214,7 +227,7 @@ fn repetition(parser: &mut Parser, levels: u32) -> Result<Statement, Fault>
     parser.skip();
     let test = condition(parser, levels)?;
     let body = statement(parser, levels);
-    while_statement(parser.alloc(), test, body)
+    while_statement(test, boxed(parser.alloc(), body))
 }
 
 #[cycle(statement)]
@@ -225,7 +238,7 @@ fn counting_loop(parser: &mut Parser, levels: u32) -> Result<Statement, Fault>
     parser.skip();
     let head = head(parser, levels)?;
     let body = statement(parser, levels);
-    for_statement(parser.alloc(), head, body)
+    for_statement(head, boxed(parser.alloc(), body))
 }
 
 #[cycle(statement)]
