@@ -3,7 +3,7 @@
 
     tests/speed.py PROGRAM [WORD]      all of them, or those whose name has the word
 
-The sources are those of tests/speed/, and wide networks that are made here. Seconds are processor seconds of one call, the best of three, with the
+The sources are those of tests/speed/, and wide networks that are made here. Seconds are processor seconds of one call, the best of seven, with the
 report, which goes nowhere; ticks are those that the report counts. Where g++ is there, the anchors of tests/speed/ are compiled with -O2
 and measured beside it.
 """
@@ -17,7 +17,7 @@ import tempfile
 from figures import chain
 
 HERE = os.path.dirname(os.path.abspath(__file__))
-REPEATS = 3
+REPEATS = 7
 
 
 def source(name):
@@ -123,16 +123,18 @@ def main(words):
     print("| what | ticks | time | ticks a second | memory | g++ -O2 |\n|---|---|---|---|---|---|")
     with tempfile.TemporaryDirectory() as folder:
         plain = anchors(folder)
-        for name, text, top, data in cases():
-            if wanted not in name:
-                continue
-            for file, content in (("r.cpp", text), ("d.json", json.dumps(data))):
+        rows = []
+        for at, (name, text, top, data) in enumerate(it for it in cases() if wanted in it[0]):
+            for file, content in ((f"{at}.cpp", text), (f"{at}.json", json.dumps(data))):
                 with open(os.path.join(folder, file), "w", encoding="utf-8") as it:
                     it.write(content)
-            call = [program, "run", "r.cpp", top, "d.json", "--steps", "1000000000"]
-            ticks = ticks_of(call, folder)
-            seconds, megabytes = min(used(call, folder, subprocess.DEVNULL) for _ in range(REPEATS))
-            anchor = next((f"{spent:.2f} s" for word, spent in plain.items() if f"a {word} " in name), "")
+            call = [program, "run", f"{at}.cpp", top, f"{at}.json", "--steps", "1000000000"]
+            rows.append((name, call, ticks_of(call, folder)))
+        # (the calls of a row are spread over the whole run, so that a slow minute of the machine strikes no row alone)
+        spent = [[used(call, folder, subprocess.DEVNULL) for _, call, _ in rows] for _ in range(REPEATS)]
+        for at, (name, _, ticks) in enumerate(rows):
+            seconds, megabytes = min(one[at] for one in spent)
+            anchor = next((f"{least:.2f} s" for word, least in plain.items() if f"a {word} " in name), "")
             print(f"| {name} | {ticks:,} | {seconds:.2f} s | {ticks / max(seconds, 0.001) / 1e6:.0f} million | {megabytes:.0f} MB | {anchor} |", flush=True)
     return 0
 
