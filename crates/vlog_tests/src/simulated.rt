@@ -42,6 +42,39 @@ fn push_memories(
     Ok(())
 }
 
+// Goes on until a design is done, in at most so many cycles.
+fn run_on(
+    alloc: Global,
+    sim: &mut Sim,
+    streams: &mut [Carried],
+    cycles: u32,
+) -> Result<(), AllocError> {
+    for _cycle in 0..cycles {
+        add_tokens(alloc, sim, streams)?;
+        if sim.done() || sim.cycle() == u64::MAX {
+            break;
+        }
+        sim.step();
+    }
+    Ok(())
+}
+
+// What a simulator shows that stands at the first cycle. It owns nothing of the design, so that little is dropped at its exits.
+fn shown(
+    alloc: Global,
+    sim: &mut Sim,
+    streams: &mut [Carried],
+    memories: &[Port],
+    cycles: u32,
+) -> Result<String, AllocError> {
+    run_on(alloc, sim, streams, cycles)?;
+    let mut text = String::new(alloc);
+    push_streams(&mut text, streams)?;
+    push_memories(alloc, &mut text, memories, sim)?;
+    push_end(alloc, &mut text, sim.done(), sim.cycle())?;
+    Ok(text)
+}
+
 /// What the simulator shows until a design is done, in at most so many cycles.
 pub(crate) fn simulated(
     alloc: Global,
@@ -53,16 +86,5 @@ pub(crate) fn simulated(
     let mut streams = streams_of(alloc, &design)?;
     let shape = design.shape(alloc)?;
     let mut sim = Sim::new(alloc, design, around, fill)?;
-    for _cycle in 0..cycles {
-        add_tokens(alloc, &sim, &mut streams)?;
-        if sim.done() || sim.cycle() == u64::MAX {
-            break;
-        }
-        sim.step();
-    }
-    let mut text = String::new(alloc);
-    push_streams(&mut text, &streams)?;
-    push_memories(alloc, &mut text, &shape.memories, &sim)?;
-    push_end(alloc, &mut text, sim.done(), sim.cycle())?;
-    Ok(text)
+    shown(alloc, &mut sim, &mut streams, &shape.memories, cycles)
 }
