@@ -7,18 +7,12 @@ use tapa_base::Port;
 use vlog_design::Design;
 use vlog_ref_start::Surroundings;
 
-// Adds the token of one stream, if it carries one.
-fn add_carried(alloc: Global, sim: &Sim, place: u32, to: &mut String) -> Result<(), AllocError> {
-    match sim.token(place) {
-        Some(token) => add_token(alloc, to, token),
-        None => Ok(()),
-    }
-}
-
 fn add_tokens(alloc: Global, sim: &Sim, streams: &mut [Carried]) -> Result<(), AllocError> {
     let mut place = 0u32;
     for s in streams.iter_mut() {
-        add_carried(alloc, sim, place, &mut s.tokens)?;
+        if let Some(token) = sim.token(place) {
+            add_token(alloc, &mut s.tokens, token)?;
+        }
         place = place.saturating_add(1);
     }
     Ok(())
