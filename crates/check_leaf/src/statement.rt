@@ -1,4 +1,4 @@
-ghost use Rattle.std.specs.Prelude.{List, ◌≡◌, ◌<◌, ◌∷◌, ◌++◌, [], IfOk, false, true, length, map};
+ghost use Rattle.std.specs.Prelude.{if◌then◌else◌, List, ◌≡◌, ◌<◌, ◌∷◌, ◌++◌, [], IfOk, false, true, length, map};
 ghost use Rattle.tapa_base.specs.declared.kind.Kind.TheVariants as kind;
 ghost use Rattle.tapa_syntax.specs.Flat as flat;
 ghost use Rattle.tapa_syntax.specs.Flat.{FlatStatement, flat_expression, flat_statement, in_row};
@@ -37,19 +37,18 @@ fn not_at_end(frame: &Frame, stream: &Name) -> Result<Expr, CheckFault>
     Ok(Expr::Not(Box::new(frame.alloc(), end)?))
 }
 
-/// `break` or `continue`.
-fn jump(
-    in_loop: bool,
-    place: Place,
-    statement: Stmt,
-    code: &mut Vec<Stmt>,
-) -> Result<(), CheckFault>
-    ensures { Appends result code.old.items code.new.items (task.jump_faults in_loop place) (flat_statement statement ∷ []) }
+/// `break`, or else `continue`.
+fn jump(in_loop: bool, place: Place, breaks: bool, code: &mut Vec<Stmt>) -> Result<(), CheckFault>
+    ensures { Appends result code.old.items code.new.items (task.jump_faults in_loop place) ((if breaks then flat.break else flat.continue) ∷ []) }
 {
     if !in_loop {
         return Err(refused(CheckCode::C3, place));
     }
-    code.push(statement)?;
+    if breaks {
+        code.push(Stmt::Break)?;
+    } else {
+        code.push(Stmt::Continue)?;
+    }
     Ok(())
 }
 
@@ -237,8 +236,8 @@ fn statement(
             let step = Vec::new(frame.alloc());
             counted(frame, Turn { test, step }, inner, code)
         }
-        Statement::Break(place) => jump(in_loop, *place, Stmt::Break, code),
-        Statement::Continue(place) => jump(in_loop, *place, Stmt::Continue, code),
+        Statement::Break(place) => jump(in_loop, *place, true, code),
+        Statement::Continue(place) => jump(in_loop, *place, false, code),
     }
 }
 

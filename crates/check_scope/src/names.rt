@@ -29,6 +29,7 @@ impl Model for Names {
 }
 
 impl Names {
+    /// No names yet.
     pub fn new(alloc: Global) -> Self
         ensures { result ≡ [] }
     {

@@ -36,6 +36,7 @@ pub struct Invoked {
     pub bindings: Vec<Binding>,
 }
 
+/// A task's body once it is checked: a leaf's code, or what an upper task declares and invokes.
 #[derive(Drop)]
 pub enum Body {
     Leaf(Leaf),

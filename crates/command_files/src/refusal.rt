@@ -13,7 +13,7 @@ use crate::status::Status;
 use plan_device::DeviceFault;
 use run_data::DataFault;
 use std::alloc::Global;
-use tapa_base::{OutOfMemory, Place, Text};
+use tapa_base::{OutOfMemory, Place};
 use tapa_files::{Sink, WriteFault, put_all};
 use tapa_words::WordsFault;
 use vlog_tree::VFault;
@@ -216,16 +216,32 @@ fn tell_stopped<E: Sink>(lines: &[Vec<u8>], err: &mut E) -> Status
     }
 }
 
+// Tells a fault of a file by its code and what it names.
+fn tell_key<E: Sink>(
+    alloc: Global,
+    file: &str,
+    code: &[u8],
+    key: &[u8],
+    status: Status,
+    err: &mut E,
+) -> Status
+    ensures { (why : Why) → message_of why ≡ codes "tapa: " ++ (file.now ++ (codes ": " ++ ((code.now ++ key.now) ++ codes "\n"))) → status ≡ status_of why →
+        IsToldAs why result (written (E.contents err.old) (E.faults err.old)) (written (E.contents err.new) (E.faults err.new))
+        ⊎ IsToldAs Why.Memory result (written (E.contents err.old) (E.faults err.old)) (written (E.contents err.new) (E.faults err.new)) }
+{
+    tell_made(key_line(alloc, file, code, key), status, err)
+}
+
 // Tells a fault of data.
 fn tell_data<E: Sink>(alloc: Global, file: &str, fault: &DataFault, err: &mut E) -> Status
     ensures { IsToldAs (data_refusal file.now fault.now) result (written (E.contents err.old) (E.faults err.old)) (written (E.contents err.new) (E.faults err.new))
         ⊎ IsToldAs Why.Memory result (written (E.contents err.old) (E.faults err.old)) (written (E.contents err.new) (E.faults err.new)) }
 {
     match fault {
-        DataFault::J1 => tell_made(key_line(alloc, file, b"J1", b""), Status::Data, err),
-        DataFault::J2(key) => tell_made(key_line(alloc, file, b"J2 ", key), Status::Data, err),
-        DataFault::J3(key) => tell_made(key_line(alloc, file, b"J3 ", key), Status::Data, err),
-        DataFault::J4(key) => tell_made(key_line(alloc, file, b"J4 ", key), Status::Data, err),
+        DataFault::J1 => tell_key(alloc, file, b"J1", b"", Status::Data, err),
+        DataFault::J2(key) => tell_key(alloc, file, b"J2 ", key, Status::Data, err),
+        DataFault::J3(key) => tell_key(alloc, file, b"J3 ", key, Status::Data, err),
+        DataFault::J4(key) => tell_key(alloc, file, b"J4 ", key, Status::Data, err),
         DataFault::OutOfMemory => tell_line(NO_MEMORY, Status::Memory, err),
     }
 }
@@ -236,25 +252,12 @@ fn tell_design_data<E: Sink>(alloc: Global, file: &str, fault: &DataFault, err: 
         ⊎ IsToldAs Why.Memory result (written (E.contents err.old) (E.faults err.old)) (written (E.contents err.new) (E.faults err.new)) }
 {
     match fault {
-        DataFault::J1 => tell_made(key_line(alloc, file, b"J1", b""), Status::Data, err),
-        DataFault::J2(key) => tell_made(key_line(alloc, file, b"J2 ", key), Status::Data, err),
-        DataFault::J3(key) => tell_made(key_line(alloc, file, b"J3 ", key), Status::Data, err),
-        DataFault::J4(key) => tell_made(key_line(alloc, file, b"J4 ", key), Status::Data, err),
+        DataFault::J1 => tell_key(alloc, file, b"J1", b"", Status::Data, err),
+        DataFault::J2(key) => tell_key(alloc, file, b"J2 ", key, Status::Data, err),
+        DataFault::J3(key) => tell_key(alloc, file, b"J3 ", key, Status::Data, err),
+        DataFault::J4(key) => tell_key(alloc, file, b"J4 ", key, Status::Data, err),
         DataFault::OutOfMemory => tell_line(NO_MEMORY, Status::Memory, err),
     }
-}
-
-// Tells that a rule on designs is broken at a name.
-fn tell_rule<E: Sink>(alloc: Global, file: &str, rule: &[u8], name: &Text, err: &mut E) -> Status
-    ensures { (why : Why) → message_of why ≡ codes "tapa: " ++ (file.now ++ (codes ": " ++ ((rule.now ++ name.now) ++ codes "\n"))) → Status.Source ≡ status_of why →
-        IsToldAs why result (written (E.contents err.old) (E.faults err.old)) (written (E.contents err.new) (E.faults err.new))
-        ⊎ IsToldAs Why.Memory result (written (E.contents err.old) (E.faults err.old)) (written (E.contents err.new) (E.faults err.new)) }
-{
-    tell_made(
-        key_line(alloc, file, rule, name.bytes()),
-        Status::Source,
-        err,
-    )
 }
 
 // Tells why a Verilog text has no design.
@@ -264,11 +267,11 @@ fn tell_verilog<E: Sink>(alloc: Global, file: &str, fault: &VFault, err: &mut E)
 {
     match fault {
         VFault::V1(place) => tell_made(no_text_line(alloc, file, *place), Status::Source, err),
-        VFault::V2(name) => tell_rule(alloc, file, b"V2 ", name, err),
-        VFault::V3(name) => tell_rule(alloc, file, b"V3 ", name, err),
-        VFault::V4(name) => tell_rule(alloc, file, b"V4 ", name, err),
-        VFault::V5(name) => tell_rule(alloc, file, b"V5 ", name, err),
-        VFault::V6(name) => tell_rule(alloc, file, b"V6 ", name, err),
+        VFault::V2(name) => tell_key(alloc, file, b"V2 ", name.bytes(), Status::Source, err),
+        VFault::V3(name) => tell_key(alloc, file, b"V3 ", name.bytes(), Status::Source, err),
+        VFault::V4(name) => tell_key(alloc, file, b"V4 ", name.bytes(), Status::Source, err),
+        VFault::V5(name) => tell_key(alloc, file, b"V5 ", name.bytes(), Status::Source, err),
+        VFault::V6(name) => tell_key(alloc, file, b"V6 ", name.bytes(), Status::Source, err),
         VFault::OutOfMemory => tell_line(NO_MEMORY, Status::Memory, err),
     }
 }
@@ -279,21 +282,13 @@ fn tell_device<E: Sink>(alloc: Global, file: &str, fault: &DeviceFault, err: &mu
         ⊎ IsToldAs Why.Memory result (written (E.contents err.old) (E.faults err.old)) (written (E.contents err.new) (E.faults err.new)) }
 {
     match fault {
-        DeviceFault::J1 => tell_made(key_line(alloc, file, b"J1", b""), Status::Data, err),
-        DeviceFault::J2(key) => tell_made(key_line(alloc, file, b"J2 ", key), Status::Data, err),
-        DeviceFault::J3(key) => tell_made(key_line(alloc, file, b"J3 ", key), Status::Data, err),
-        DeviceFault::K1(key) => tell_made(key_line(alloc, file, b"K1 ", key), Status::Data, err),
-        DeviceFault::K2(name) => tell_made(key_line(alloc, file, b"K2 ", name), Status::Data, err),
-        DeviceFault::K3(label) => tell_made(
-            key_line(alloc, file, b"K3 ", label),
-            Status::Data,
-            err,
-        ),
-        DeviceFault::K4(label) => tell_made(
-            key_line(alloc, file, b"K4 ", label),
-            Status::Data,
-            err,
-        ),
+        DeviceFault::J1 => tell_key(alloc, file, b"J1", b"", Status::Data, err),
+        DeviceFault::J2(key) => tell_key(alloc, file, b"J2 ", key, Status::Data, err),
+        DeviceFault::J3(key) => tell_key(alloc, file, b"J3 ", key, Status::Data, err),
+        DeviceFault::K1(key) => tell_key(alloc, file, b"K1 ", key, Status::Data, err),
+        DeviceFault::K2(name) => tell_key(alloc, file, b"K2 ", name, Status::Data, err),
+        DeviceFault::K3(label) => tell_key(alloc, file, b"K3 ", label, Status::Data, err),
+        DeviceFault::K4(label) => tell_key(alloc, file, b"K4 ", label, Status::Data, err),
         DeviceFault::OutOfMemory => tell_line(NO_MEMORY, Status::Memory, err),
     }
 }

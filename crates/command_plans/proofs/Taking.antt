@@ -8,32 +8,14 @@ use Rattle.plan_device.specs.Answer.{IsCause as IsCauseOfDevice}
 use Rattle.plan_keys.specs.Faults as device
 use Rattle.plan_device.specs.declared.fault.DeviceFault.{DeviceFault as FaultOfDevice}
 use Rattle.plan_device.specs.declared.fault.DeviceFault.TheVariants as device_fault
-use Rattle.command_files.specs.Files.{IsUntaken, data_limit}
+use Rattle.command_files.specs.Files.{data_limit}
 use Rattle.command_files.specs.Meaning.{device_refusal}
-use Rattle.command_files.specs.Refusal.{Refusal, Usage, Read, Write, TooLong, Source, Data, Ticks, Stopped, Device, TooManyPlans, NoPlan, NoRoom, Verilog, DesignData, Undone, Memory, DeviceFault as TextFault, NoJson, HasFault}
+use Rattle.command_files.specs.Refusal.{Device, DeviceFault as TextFault, NoJson, HasFault}
 use Rattle.command_files.proofs.OfFiles.{of_taken}
 use Rattle.command_plans.specs.Found.{IsNoDevice}
 use Rattle.command_plans.specs.Planned.{HasDeviceFault}
 
 module _ (files : Option Files) (reads_old reads_new : List ℕ → ℕ) (program : Program) (graph : Graph) where
-  pub untaken_device : (name : List ℕ) (r : Refusal) → IsUntaken files reads_old reads_new name data_limit r → IsNoDevice files reads_old reads_new program graph name r
-  untaken_device name Usage h = absurd h
-  untaken_device name (Read file) h = h
-  untaken_device name Write h = absurd h
-  untaken_device name (TooLong file most) h = h
-  untaken_device name (Source file place code) h = absurd h
-  untaken_device name (Data file fault) h = absurd h
-  untaken_device name (Ticks most) h = absurd h
-  untaken_device name (Stopped lines) h = absurd h
-  untaken_device name (Device file fault) h = absurd h
-  untaken_device name (TooManyPlans slots free) h = absurd h
-  untaken_device name NoPlan h = absurd h
-  untaken_device name (NoRoom label) h = absurd h
-  untaken_device name (Verilog file fault) h = absurd h
-  untaken_device name (DesignData file fault) h = absurd h
-  untaken_device name (Undone most) h = absurd h
-  untaken_device name Memory h = tt
-
   module _ (name bytes : List ℕ) (is : IsFileOf files name bytes) (few : length bytes ≤ data_limit) where
     so : (fault : TextFault) → HasDeviceFault program graph bytes fault → IsNoDevice files reads_old reads_new program graph name (Device name fault)
     so fault h = (refl, of_taken files data_limit name bytes (λ text. HasDeviceFault program graph text fault) is few h)

@@ -58,6 +58,7 @@ impl Draft {
         })
     }
 
+    /// Adds an input of so many bits. Want of memory is the only error.
     pub fn input(&mut self, alloc: Global, width: u32, name: &[u8]) -> Result<(), AllocError>
         requires { IsAscii name.now }
         ensures { IfOk result (λ u. self.new ≡ with self.old (InputElement width name.now)) }
@@ -99,6 +100,18 @@ impl Draft {
         )
     }
 
+    // A wire without its driver, and its name.
+    fn declared(&mut self, alloc: Global, width: u32, name: &[u8]) -> Result<Text, AllocError>
+        requires { IsAscii name.now }
+        ensures wire { IfOk result (λ n. self.new ≡ with self.old (LinkElement width name.now)) }
+        ensures name { IfOk result (λ n. n ≡ name.now) }
+    {
+        let wire = text(alloc, name)?;
+        let net = text(alloc, name)?;
+        self.items.push(Item::Wire { width, name: wire })?;
+        Ok(net)
+    }
+
     /// A wire and its driver.
     pub fn wire(
         &mut self,
@@ -110,11 +123,7 @@ impl Draft {
         requires { IsAscii name.now }
         ensures { IfOk result (λ u. self.new ≡ with self.old (WireElement width name.now value)) }
     {
-        let net = text(alloc, name)?;
-        self.items.push(Item::Wire {
-            width,
-            name: text(alloc, name)?,
-        })?;
+        let net = self.declared(alloc, width, name)?;
         self.items.push(Item::Assign { net, value })?;
         Ok(())
     }
@@ -129,6 +138,7 @@ impl Draft {
         Ok(())
     }
 
+    /// Adds a register of so many bits. Want of memory is the only error.
     pub fn register(&mut self, alloc: Global, width: u32, name: &[u8]) -> Result<(), AllocError>
         requires { IsAscii name.now }
         ensures { IfOk result (λ u. self.new ≡ with self.old (RegisterElement width name.now)) }

@@ -224,10 +224,10 @@ pub fn compile(
             left,
             right,
         } => {
-            let a = compile(alloc, draft, front, first, m, *own, left)?;
-            let second = plus(first, a.count)?;
             let after = plus(m, read_count(left)?)?;
             let count = right_kind(*op, *own);
+            let a = compile(alloc, draft, front, first, m, *own, left)?;
+            let second = plus(first, a.count)?;
             let b = compile(alloc, draft, front, second, after, count, right)?;
             applied(alloc, draft, front, first, *op, *own, kind, a, b)
         }
@@ -240,26 +240,26 @@ pub fn compile(
             inverted(alloc, draft, front, first, Kind::Bool, operand)
         }
         Expr::And(l, r) => {
+            let after = plus(m, read_count(l)?)?;
             let a = compile(alloc, draft, front, first, m, Kind::Bool, l)?;
             let second = plus(first, a.count)?;
-            let after = plus(m, read_count(l)?)?;
             let b = compile(alloc, draft, front, second, after, Kind::Bool, r)?;
             joined(alloc, draft, front, first, BinaryOp::And, a, b)
         }
         Expr::Or(l, r) => {
+            let after = plus(m, read_count(l)?)?;
             let a = compile(alloc, draft, front, first, m, Kind::Bool, l)?;
             let second = plus(first, a.count)?;
-            let after = plus(m, read_count(l)?)?;
             let b = compile(alloc, draft, front, second, after, Kind::Bool, r)?;
             joined(alloc, draft, front, first, BinaryOp::Or, a, b)
         }
         Expr::Choose(test, yes, no) => {
+            let after = plus(m, read_count(test)?)?;
+            let later = plus(after, read_count(yes)?)?;
             let c = compile(alloc, draft, front, first, m, Kind::Bool, test)?;
             let second = plus(first, c.count)?;
-            let after = plus(m, read_count(test)?)?;
             let a = compile(alloc, draft, front, second, after, kind, yes)?;
             let third = plus(second, a.count)?;
-            let later = plus(after, read_count(yes)?)?;
             let b = compile(alloc, draft, front, third, later, kind, no)?;
             chosen(alloc, draft, front, first, kind, c, a, b)
         }

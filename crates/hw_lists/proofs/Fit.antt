@@ -251,7 +251,7 @@ module _ (before : List Element) (once : AreOnce (clk ∷ rst ∷ named before))
 -- ---- all of them
 
 -- what is named once in a whole is named once in its front
-front_once : (before rest : List Element) → AreOnce (clk ∷ rst ∷ named (before ++ rest)) → AreOnce (clk ∷ rst ∷ named before)
+pub front_once : (before rest : List Element) → AreOnce (clk ∷ rst ∷ named (before ++ rest)) → AreOnce (clk ∷ rst ∷ named before)
 front_once before rest once x =
     let w = once x in
     let e : times_in (clk ∷ rst ∷ named (before ++ rest)) x ≡ times_in ((clk ∷ rst ∷ named before) ++ named rest) x =
@@ -259,7 +259,7 @@ front_once before rest once x =
     let c : times_in ((clk ∷ rst ∷ named before) ++ named rest) x ≡ times_in (clk ∷ rst ∷ named before) x + times_in (named rest) x = count_append (λ y. bytes_eq y x) (clk ∷ rst ∷ named before) (named rest) in
     omega (arith, w, e, c)
 
-new_next : (before : List Element) (e : Element) (rest : List Element) → AreOnce (clk ∷ rst ∷ named (before ++ e ∷ rest)) → (x : Name) → Has (declared_names e) x → is_new (table before) x ≡ true
+pub new_next : (before : List Element) (e : Element) (rest : List Element) → AreOnce (clk ∷ rst ∷ named (before ++ e ∷ rest)) → (x : Name) → Has (declared_names e) x → is_new (table before) x ≡ true
 new_next before e rest once x h =
     let w = once x in
     let s : times_in (clk ∷ rst ∷ named (before ++ e ∷ rest)) x ≡ times_in ((clk ∷ rst ∷ named before) ++ (declared_names e ++ named rest)) x =

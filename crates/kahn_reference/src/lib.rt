@@ -7,3 +7,4 @@ mod first;
 pub mod rounds;
 mod simple_statements;
 pub mod slow;
+mod ticks;

@@ -10,10 +10,8 @@ ghost use Rattle.kahn_reference.specs.Slow.{point, numbers, state_of, GivesFlow}
 ghost use Rattle.kahn_model.specs.Trace.{stmt};
 
 use crate::cells::{cell_of, changed, convert_value};
-use crate::slow::{
-    Fault, Flow, Pair, Run, Value, ask_at, load_cell, note, run_expr, run_pair, run_read,
-    set_cell_tick, set_var_tick, store_tick,
-};
+use crate::slow::{Fault, Flow, Pair, Run, Value, run_expr, run_pair, run_read};
+use crate::ticks::{ask_at, load_cell, note, set_cell_tick, set_var_tick, store_tick};
 use kahn_model::kinds::{array_kind, memory_kind, stream_kind, var_kind};
 use kahn_model::tick::{Action, StreamOperation, Tick};
 use tapa_base::{Kind, Op, Token, number_at};

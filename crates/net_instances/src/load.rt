@@ -218,7 +218,7 @@ fn count_taken_at(
     taken[tie.stream] = offered[tie.stream] - all[i].left(p);
 }
 
-// Takes over what an instance took from its ports.
+/// Takes over what an instance took from its ports.
 pub fn count_taken(
     program: &Program,
     all: &Vec<Ports>,

@@ -77,6 +77,7 @@ pub fn number_in(low: u64, past: u64, value: &Value) -> Option<u64>
     natural_in(low, past, number)
 }
 
+/// Whether a value is a whole number, at least `low` and below `past`.
 pub fn is_in(low: u64, past: u64, value: &Value) -> bool
     ensures { result ≡ is_in low past (view value.now) }
 {
@@ -119,6 +120,7 @@ pub fn is_place(value: &Value) -> bool
     }
 }
 
+/// Whether a value's items, the row and the column of a slot, are whole numbers.
 pub fn is_whole_place(value: &Value) -> bool
     ensures { result ≡ is_whole_place (view value.now) }
 {

@@ -37,6 +37,7 @@ pub enum Key {
 }
 
 impl Group {
+    /// Its name, as a device file has it.
     pub fn name(self) -> &'static str
         ensures { result.now ≡ group_name self }
     {
@@ -47,6 +48,7 @@ impl Group {
     }
 }
 
+/// Its name, as a device file has it.
 impl Key {
     pub fn name(self) -> &'static str
         ensures { result.now ≡ key_name self }

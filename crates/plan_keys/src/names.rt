@@ -80,6 +80,7 @@ impl Known {
         Ok(Known { tasks, labels })
     }
 
+    /// The names that a group of keys may use: those of tasks or the labels of instances.
     pub fn names(&self, group: Group) -> &NameList
         ensures { result.now.list.items ≡ names_in group (names_known self.now) }
     {

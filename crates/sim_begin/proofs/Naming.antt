@@ -20,7 +20,7 @@ use Rattle.vlog_scope.proofs.Found.{missing}
 use Rattle.vlog_law_runs.proofs.Sound.{both_true, not_no, true_not_false}
 use Rattle.vlog_law_runs.proofs.Sizes.{declared_net_kind, has_line}
 use Rattle.vlog_law_runs.proofs.Cycles.{port_stands}
-use Rattle.vlog_law_runs.proofs.Labelled.{labelled}
+use Rattle.vlog_tree.proofs.Labelled.{labelled}
 use Rattle.vlog_law_runs.proofs.TopPorts.{use_right, five_of, memory_clock}
 use Rattle.vlog_law_runs.proofs.Settled.{IsTopTree, top_tree}
 use Rattle.sim_operations.specs.declared.gates.Pair.{Pair}

@@ -1,6 +1,6 @@
 // The first cycle of a design.
 
-ghost use Rattle.std.specs.Prelude.{◌≡◌, ◌%◌, ◌^◌, ℕ, Some, length, slice_get, IfOk};
+ghost use Rattle.std.specs.Prelude.{◌≡◌, ◌%◌, ◌^◌, ℕ, List, Some, length, slice_get, IfOk};
 ghost use Rattle.vlog_tree.specs.Form.{ModuleTree};
 ghost use Rattle.vlog_tree.specs.Environment.{Environment, FitsShape, shape_of};
 ghost use Rattle.vlog_design.specs.Designs.{TopOf};
@@ -8,19 +8,27 @@ ghost use Rattle.vlog_ref_start.specs.Outside.{lists_of};
 ghost use Rattle.sim_law.specs.Told.{IsTold};
 ghost use Rattle.sim_operations.specs.declared.gates.Pair.{Pair as PairTree};
 ghost use Rattle.sim_operations.specs.Operators.{cells_of};
-ghost use Rattle.sim_tape.specs.Tape.{pair_value};
+ghost use Rattle.sim_tape.specs.Tape.{IsTape, pair_value};
 ghost use Rattle.sim_tape.specs.Solved.{IsSolved};
+ghost use Rattle.sim_tape.specs.Trees.{tree_of};
+ghost use Rattle.sim_names.specs.declared.flat.Flat.{Flat as FlatTree};
+ghost use Rattle.sim_names.specs.Flat.{IsFlat};
+ghost use Rattle.sim_design.specs.Drafts.{IsDraft};
 ghost use Rattle.sim_parts.specs.declared.inputs.Input.{Input as InputTree};
 ghost use Rattle.sim_begin.specs.Firsts.{IsHeldAt};
 ghost use Rattle.sim_parts.specs.Steps.{supplied};
-ghost use Rattle.sim_parts.specs.Wholes.{AreParts, IsSim, sim_tree};
+ghost use Rattle.sim_parts.specs.Machines.{IsMachine};
+ghost use Rattle.sim_parts.specs.Wholes.{AreParts, IsAround, IsSim, sim_tree};
 
 use crate::around::{Around, around_of};
 use crate::first::first_cells;
 use crate::registers::fill_registers;
-use sim_design::draft_of;
-use sim_names::flatten;
+use sim_blocks::Store;
+use sim_design::{Commit, Draft, Width, draft_of};
+use sim_names::{Flat, flatten};
+use sim_operations::Pair;
 use sim_parts::{Parts, State, give};
+use sim_tape::Program;
 use std::alloc::{AllocError, Global};
 use vlog_design::Design;
 use vlog_ref_start::Surroundings;
@@ -36,6 +44,50 @@ fn copied(alloc: Global, ready: &[Vec<bool>]) -> Result<Vec<Vec<bool>>, AllocErr
     Ok(out)
 }
 
+// A draft whose tape is ready to run.
+struct Finished {
+    program: Program,
+    pairs: Vec<Option<Pair>>,
+    memories: Vec<Option<Pair>>,
+    widths: Vec<Width>,
+    commits: Vec<Commit>,
+    stores: Vec<Store>,
+}
+
+fn finish(alloc: Global, draft: Draft) -> Result<Finished, AllocError>
+    requires { IsTape (tree_of draft.tape) }
+    ensures machine { IfOk result (λ f. (ms : List ModuleTree) (m : ModuleTree) (flat : FlatTree) → IsDraft ms m flat draft → IsMachine ms m flat f.pairs.items f.memories.items f.widths.items f.program f.commits.items f.stores.items) }
+    ensures pairs { IfOk result (λ f. f.pairs ≡ draft.pairs) }
+{
+    let program = draft.tape.finish(alloc)?;
+    Ok(Finished {
+        program,
+        pairs: draft.pairs,
+        memories: draft.memories,
+        widths: draft.cells,
+        commits: draft.commits,
+        stores: draft.stores,
+    })
+}
+
+// The tape of a flattened design, and what stands around the design.
+fn laid_out(
+    alloc: Global,
+    design: &Design,
+    flat: &Flat,
+    scalars: &[u64],
+) -> Result<(Finished, Around), AllocError>
+    requires { (m : ModuleTree) → TopOf design.now m → IsFlat design.now.modules m flat.now }
+    ensures machine { IfOk result (λ r. (m : ModuleTree) → TopOf design.now m → IsMachine design.now.modules m flat.now r.0.pairs.items r.0.memories.items r.0.widths.items r.0.program r.0.commits.items r.0.stores.items) }
+    ensures around { IfOk result (λ r. (m : ModuleTree) → TopOf design.now m → IsAround design.now.modules m flat.now r.0.pairs.items scalars.now r.1.inputs.items r.1.outside.items r.1.streams.items r.1.done) }
+{
+    let _top = design.top();
+    let draft = draft_of(alloc, design, flat)?.unwrap();
+    let around = around_of(alloc, design, &draft.pairs, scalars)?;
+    let finished = finish(alloc, draft)?;
+    Ok((finished, around))
+}
+
 /// A design on a tape, with all that stands around it.
 pub fn parts_of(alloc: Global, design: Design, around: &Surroundings) -> Result<Parts, AllocError>
     ensures parts { IfOk result (λ p. AreParts p) }
@@ -43,27 +95,34 @@ pub fn parts_of(alloc: Global, design: Design, around: &Surroundings) -> Result<
     ensures scalars { IfOk result (λ p. p.scalars.items ≡ around.now.scalars.items) }
     ensures ready { IfOk result (λ p. lists_of p.ready.items ≡ lists_of around.now.ready.items) }
 {
+    let _top = design.top();
     let scalars = around.scalars.as_slice().to_vec(alloc)?;
     let ready = copied(alloc, &around.ready)?;
-    let _top = design.top();
     let flat = flatten(alloc, &design)?;
-    let draft = draft_of(alloc, &design, &flat)?.unwrap();
+    let (finished, around) = laid_out(alloc, &design, &flat, &scalars)?;
+    let Finished {
+        program,
+        pairs,
+        memories,
+        widths,
+        commits,
+        stores,
+    } = finished;
     let Around {
         inputs,
         outside,
         streams,
         done,
-    } = around_of(alloc, &design, &draft.pairs, &scalars)?;
-    let program = draft.tape.finish(alloc)?;
+    } = around;
     Ok(Parts {
         design,
         flat,
-        pairs: draft.pairs,
-        memories: draft.memories,
-        widths: draft.cells,
+        pairs,
+        memories,
+        widths,
         program,
-        commits: draft.commits,
-        stores: draft.stores,
+        commits,
+        stores,
         scalars,
         inputs,
         outside,

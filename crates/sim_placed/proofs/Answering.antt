@@ -23,7 +23,8 @@ use Rattle.vlog_law_runs.proofs.Sound.{both_true, true_not_false}
 use Rattle.vlog_law_runs.proofs.Parts.{part_answer}
 use Rattle.vlog_law_runs.proofs.Sizes.{found_name}
 use Rattle.vlog_law_runs.proofs.Cycles.{port_stands}
-use Rattle.vlog_law_runs.proofs.Labelled.{label_of, ack_of_label, rdata_of_label}
+use Rattle.vlog_tree.proofs.Labelled.{label_of}
+use Rattle.vlog_law_runs.proofs.Labelled.{ack_of_label, rdata_of_label}
 use Rattle.vlog_law_runs.proofs.TopPorts.{memory_clock, port_right, five_of}
 use Rattle.vlog_law_runs.proofs.Settled.{top_tree}
 use Rattle.sim_operations.specs.declared.gates.Pair.{Pair}

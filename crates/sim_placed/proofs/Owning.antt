@@ -31,7 +31,7 @@ use Rattle.sim_names.specs.Edges.{table_at, lines_at}
 use Rattle.sim_names.proofs.Standing.{module_of, table_of, lines_are, top_is}
 use Rattle.sim_placed.specs.declared.driven.Spot.{Spot}
 use Rattle.sim_placed.specs.Lines.{IsLine}
-use Rattle.sim_placed.specs.Placed.{CanBeRead}
+use Rattle.vlog_law_runs.specs.Readable.{CanBeRead}
 use Rattle.sim_placed.proofs.Undriven.{IsHeld, no_assign, no_port}
 use Rattle.sim_placed.specs.Plans.{IsAtSpot}
 use Rattle.sim_placed.specs.States.{IsFree}

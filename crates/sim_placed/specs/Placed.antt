@@ -1,9 +1,8 @@
 -- Pairs of nets as they are placed.
-use Rattle.std.specs.Prelude.{◌≡◌, ℕ, false, List, Option, Some, None, IsSome, IsTrue, length, get_or}
+use Rattle.std.specs.Prelude.{◌≡◌, ℕ, false, List, Option, Some, None, IsSome, length, get_or}
 use Rattle.vlog_tree.specs.Form.{ModuleTree}
 use Rattle.vlog_tree.specs.Flattened.{FlatNet}
-use Rattle.vlog_tree.specs.Table.{is_clk, declared, net_kind_of, net_kind_is_read}
-use Rattle.vlog_tree.specs.Cycle.{module_at}
+use Rattle.vlog_tree.specs.Table.{is_clk}
 use Rattle.sim_operations.specs.declared.gates.Pair.{Pair}
 use Rattle.sim_tape.specs.Tape.{TapeTree}
 use Rattle.sim_names.specs.declared.flat.Flat.{Flat}
@@ -17,13 +16,6 @@ AreFree ms top f pairs = (number : ℕ) (n : FlatNet) (p : Pair) → HasNumber m
 -- all nets that have their numbers from no other net, but the clocks, have pairs
 abbrev pub AllFree : List ModuleTree → ModuleTree → Flat → List (Option Pair) → Type 0
 AllFree ms top f pairs = (number : ℕ) (n : FlatNet) → HasNumber ms f number n → IsFree ms top n → is_clk n.1 ≡ false → IsSome (get_or pairs number None)
-
--- a net that can be read, and no clock
-pub record CanBeRead (ms : List ModuleTree) (top : ModuleTree) (n : FlatNet) : Type 0 where
-  pub tree : ModuleTree
-  pub at : module_at ms top n.0 ≡ Some tree
-  pub read : IsTrue (net_kind_is_read (net_kind_of (declared tree) n.1))
-  pub clock : is_clk n.1 ≡ false
 
 -- pairs that are there stay
 abbrev pub AreKept : List (Option Pair) → List (Option Pair) → Type 0

@@ -12,7 +12,8 @@ ghost use Rattle.vlog_tree.specs.Flattened.{FlatNet};
 ghost use Rattle.sim_names.specs.Flat.{HasNumber};
 ghost use Rattle.sim_nets.specs.Order.{IsNetOrder};
 ghost use Rattle.sim_placed.specs.Given.{ArePlaced, AreGiven, AreGivenNets, HaveOwn};
-ghost use Rattle.sim_placed.specs.Placed.{AreFree, AllFree, CanBeRead, ArePlacedMore, AreKept};
+ghost use Rattle.vlog_law_runs.specs.Readable.{CanBeRead};
+ghost use Rattle.sim_placed.specs.Placed.{AreFree, AllFree, ArePlacedMore, AreKept};
 
 use crate::net::place_net;
 use crate::plan::Plan;

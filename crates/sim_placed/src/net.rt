@@ -11,7 +11,7 @@ ghost use Rattle.sim_lower.specs.Nets.{SlotsBefore};
 ghost use Rattle.sim_names.specs.declared.tables.Source.TheVariants as sources;
 ghost use Rattle.sim_names.specs.Flat.{HasNumber};
 ghost use Rattle.sim_placed.specs.States.{AreRead, IsTold, IsFree, PartsPlaced};
-ghost use Rattle.sim_placed.specs.Placed.{CanBeRead};
+ghost use Rattle.vlog_law_runs.specs.Readable.{CanBeRead};
 ghost use Rattle.sim_placed.specs.Plans.{IsPlan, IsAtSpot};
 
 use crate::answered::pair_of_answer;

@@ -1,37 +1,19 @@
 -- Why a design has no environment, by why a file was not taken.
-use Rattle.std.proofs.Common.{◌≤◌, ℕ, List, length, Option, Some, None, refl, ap}
+use Rattle.std.proofs.Common.{◌≤◌, ℕ, List, length, Option, Some, None, refl}
 use Rattle.tapa_files.specs.Outside.{Files}
 use Rattle.tapa_files.specs.Take.{IsFileOf}
 use Rattle.run_data.specs.Data.{Misshapen, Misfit, Oversized}
 use Rattle.run_data.specs.declared.data.DataFault.{DataFault}
 use Rattle.run_data.specs.declared.data.DataFault.TheVariants.{J1, J2, J3, J4, OutOfMemory}
 use Rattle.vlog_design.specs.Designs.{DesignTree}
-use Rattle.command_files.specs.Files.{IsUntaken, data_limit, no_data}
+use Rattle.command_files.specs.Files.{data_limit, no_data}
 use Rattle.command_files.specs.Meaning.{design_refusal}
-use Rattle.command_files.specs.Refusal.{Refusal, Usage, Read, Write, TooLong, Source, Data, Ticks, Stopped, Device, TooManyPlans, NoPlan, NoRoom, Verilog, DesignData, Undone, Memory, NotJson, Faulty}
+use Rattle.command_files.specs.Refusal.{NotJson, Faulty}
 use Rattle.command_files.proofs.OfFiles.{of_taken}
 use Rattle.tapa_drive.specs.Designs.{HasDesignFault, IsUnfitFor}
 use Rattle.tapa_drive.specs.Found.{IsNotSurrounded}
 
 module _ (files : Option Files) (reads_old reads_new : List ℕ → ℕ) (design : DesignTree) where
-  pub untaken_design_data : (name : List ℕ) (r : Refusal) → IsUntaken files reads_old reads_new name data_limit r → IsNotSurrounded files reads_old reads_new design (Some name) r
-  untaken_design_data name Usage h = absurd h
-  untaken_design_data name (Read file) h = (ap Some h.0, h.1)
-  untaken_design_data name Write h = absurd h
-  untaken_design_data name (TooLong file most) h = (ap Some h.0, h.1, h.2)
-  untaken_design_data name (Source file place code) h = absurd h
-  untaken_design_data name (Data file fault) h = absurd h
-  untaken_design_data name (Ticks most) h = absurd h
-  untaken_design_data name (Stopped lines) h = absurd h
-  untaken_design_data name (Device file fault) h = absurd h
-  untaken_design_data name (TooManyPlans slots free) h = absurd h
-  untaken_design_data name NoPlan h = absurd h
-  untaken_design_data name (NoRoom label) h = absurd h
-  untaken_design_data name (Verilog file fault) h = absurd h
-  untaken_design_data name (DesignData file fault) h = absurd h
-  untaken_design_data name (Undone most) h = absurd h
-  untaken_design_data name Memory h = tt
-
   module _ (name bytes : List ℕ) (is : IsFileOf files name bytes) (few : length bytes ≤ data_limit) where
     pub unfit_design_file : (fault : DataFault) → IsUnfitFor design bytes fault → IsNotSurrounded files reads_old reads_new design (Some name) (design_refusal name fault)
     unfit_design_file J1 h = (refl, of_taken files data_limit name bytes (λ text. HasDesignFault design text NotJson) is few h)

@@ -19,6 +19,7 @@ pub struct MemShelf {
 }
 
 impl MemShelf {
+    /// A shelf of these files, of whose reads those with these numbers fail, counted from 0.
     pub fn new(alloc: Global, files: Vec<(String, Vec<u8>)>, fails: Vec<u64>) -> Self
         ensures files { ⟦<MemShelf as Shelf>⟧.files result ≡ Some (files_of files.items) }
         ensures calm { (name : List ℕ) → ⟦<MemShelf as Shelf>⟧.faults result name ≡ 0 }
@@ -99,6 +100,7 @@ pub struct MemSink {
 }
 
 impl MemSink {
+    /// An empty sink with room for so many bytes, of whose writes those with these numbers fail, counted from 0.
     pub fn new(alloc: Global, room: usize, fails: Vec<u64>) -> Result<Self, OutOfMemory>
         ensures empty { IfOk result (λ sink. ⟦<MemSink as Sink>⟧.contents sink ≡ Some []) }
         ensures calm { IfOk result (λ sink. ⟦<MemSink as Sink>⟧.faults sink ≡ 0) }

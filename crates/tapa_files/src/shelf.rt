@@ -5,6 +5,7 @@ ghost use Rattle.tapa_files.specs.Outside.{Files, ReadsAt, AsksFor, Rose};
 
 use crate::ShelfFault;
 
+/// Where files are read by their names: the real folder, or files in memory for tests. It counts, for each name, the reads that failed.
 pub trait Shelf {
     /// The files, where the shelf tells them.
     ghost files: { Self → Option Files };

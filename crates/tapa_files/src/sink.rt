@@ -6,6 +6,7 @@ ghost use Rattle.tapa_files.specs.Outside.{Rose};
 
 use crate::WriteFailed;
 
+/// Where bytes are written: standard output or error, or memory for tests. It counts the writes that failed.
 pub trait Sink {
     /// The bytes that it holds, where the sink tells them.
     ghost contents: { Self → Option (List ℕ) };

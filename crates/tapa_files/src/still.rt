@@ -14,6 +14,7 @@ pub struct StillShelf {
 }
 
 impl StillShelf {
+    /// A shelf of these files, each read whole whenever it is asked for.
     pub fn new(files: Vec<(String, Vec<u8>)>) -> Self
         ensures { ⟦<StillShelf as Shelf>⟧.files result ≡ Some (files_of files.items) }
     {
@@ -44,6 +45,7 @@ impl Shelf for StillShelf {
 pub struct StillSink;
 
 impl StillSink {
+    /// A sink that takes every byte and tells none.
     pub fn new() -> Self {
         StillSink
     }

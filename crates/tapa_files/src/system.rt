@@ -30,6 +30,7 @@ pub struct DirShelf<'a, R> {
 }
 
 impl<'a, R: Files<File = File>> DirShelf<'a, R> {
+    /// The files of the folder in which the program runs; no read has failed yet.
     pub fn new(rt: &'a R, alloc: Global) -> Self
         ensures { (name : List ℕ) → times result.failed.items name ≡ 0 }
     {
@@ -114,6 +115,7 @@ pub struct StdSink<W> {
 }
 
 impl<W: Write> StdSink<W> {
+    /// A sink that writes to this stream; no write has failed yet.
     pub fn new(inner: W) -> Self
         ensures { result.faults ≡ 0 }
     {

@@ -10,14 +10,16 @@ use Rattle.tapa_base.specs.Gaps.{Bytes, is_blank, is_in_line, IsLineComment, has
 use Rattle.tapa_syntax.specs.Characters.{is_digit, is_letter, is_word_byte, is_plain, run, opens_line}
 use Rattle.tapa_syntax.specs.Literals.{literal_of}
 use Rattle.tapa_syntax.specs.Lexemes.{Stands, IsSkippedLine, IsWord, IsPunctuation, IsGap, IsLexeme, NothingStands}
-use Rattle.tapa_lex.specs.Reading.{Cut, closing, first_word, is_known, cut_literal, cut_string, cut_line, cut_comment, cut_sign, cut_mark, cut_quoted, cut_word, cut}
+use Rattle.tapa_syntax.specs.Comments.{closing}
+use Rattle.tapa_lex.specs.Reading.{Cut, first_word, is_known, cut_literal, cut_string, cut_line, cut_comment, cut_sign, cut_mark, cut_quoted, cut_word, cut}
 use Rattle.tapa_lex.specs.Refusals.{code_at}
 use Rattle.tapa_lex.specs.declared.fault.LexCode.{LexCode}
 use Rattle.tapa_lex.specs.declared.fault.LexCode.TheVariants.{L1, L2, L3, L4}
-use Rattle.tapa_lex.proofs.Runs.{split}
+use Rattle.tapa_syntax.proofs.Runs.{split}
 use Rattle.tapa_lex.proofs.Bytes.{letter_no_blank, digit_no_blank, digit_no_letter, single_apart}
 use Rattle.tapa_lex.proofs.Signs.{sign_at, sign_cut, nothing_signed}
-use Rattle.tapa_lex.proofs.Gaps.{word_run, line_run, closing_is, string_run, string_ends, skipped_word, skipped_run}
+use Rattle.tapa_syntax.proofs.Comments.{line_run, closing_is}
+use Rattle.tapa_lex.proofs.Gaps.{word_run, string_run, string_ends, skipped_word, skipped_run}
 
 -- ---- one test after the other
 

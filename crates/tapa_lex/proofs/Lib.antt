@@ -1,6 +1,5 @@
 pub mod Places
 pub mod Values
-pub mod Runs
 pub mod Bytes
 pub mod Signs
 pub mod Gaps

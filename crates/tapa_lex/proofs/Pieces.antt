@@ -8,12 +8,14 @@ use Rattle.tapa_base.specs.Gaps.{Bytes, is_blank, is_in_line}
 use Rattle.tapa_syntax.specs.Characters.{is_digit, is_letter, is_word_byte, is_plain, run, opens_line}
 use Rattle.tapa_syntax.specs.Literals.{literal_of}
 use Rattle.tapa_syntax.specs.Lexemes.{Stands}
-use Rattle.tapa_lex.specs.Reading.{Cut, closing, first_word, is_known, cut_literal, cut_string, cut_line, cut_comment, cut_sign, cut_mark, cut_quoted, cut_word, cut}
+use Rattle.tapa_syntax.specs.Comments.{closing}
+use Rattle.tapa_lex.specs.Reading.{Cut, first_word, is_known, cut_literal, cut_string, cut_line, cut_comment, cut_sign, cut_mark, cut_quoted, cut_word, cut}
 use Rattle.tapa_lex.specs.declared.fault.LexCode.TheVariants.{L1, L2, L4}
-use Rattle.tapa_lex.proofs.Runs.{split, run_within, run_some}
+use Rattle.tapa_syntax.proofs.Runs.{split, run_within, run_some}
 use Rattle.tapa_lex.proofs.Bytes.{letter_in_word, digit_in_word}
 use Rattle.tapa_lex.proofs.Signs.{sign_at, sign_stands}
-use Rattle.tapa_lex.proofs.Gaps.{word_stands, line_stands, Closes, closing_stands, block_stands, string_stands, skipped_stands}
+use Rattle.tapa_syntax.proofs.Comments.{line_stands, Closes, closing_stands, block_stands}
+use Rattle.tapa_lex.proofs.Gaps.{word_stands, string_stands, skipped_stands}
 
 -- a piece of n bytes stands in front of a text
 pub record Found (before z : Bytes) (sort : Option LexKind) (n : ℕ) : Type 0 where

@@ -9,7 +9,7 @@ use Rattle.tapa_base.specs.Gaps.{Bytes}
 use Rattle.tapa_syntax.specs.Characters.{is_among}
 use Rattle.tapa_syntax.specs.Lexemes.{is_sign, is_comment_mark, signs, IsPunctuation}
 use Rattle.tapa_lex.specs.Reading.{sign_length, is_single, is_pair, is_triple, singles, doubled, before_equals, shifts}
-use Rattle.tapa_lex.proofs.Runs.{split}
+use Rattle.tapa_syntax.proofs.Runs.{split}
 use Rattle.tapa_lex.proofs.Bytes.{pair_first, pair_second, triple_first, triple_parts, pair_cases, one_of}
 
 -- the same signs, by their lengths

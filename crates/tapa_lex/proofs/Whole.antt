@@ -15,7 +15,7 @@ use Rattle.tapa_lex.specs.Refusals.{IsRefused, code_at}
 use Rattle.tapa_lex.specs.Standing.{IsBehind, spanned}
 use Rattle.tapa_lex.specs.declared.cursor.Cursor.{Cursor}
 use Rattle.tapa_lex.specs.declared.fault.LexCode.{LexCode}
-use Rattle.tapa_lex.proofs.Runs.{take_both}
+use Rattle.tapa_syntax.proofs.Runs.{take_both}
 use Rattle.tapa_syntax.proofs.Places.{line_within, col_within}
 use Rattle.tapa_lex.proofs.Pieces.{found}
 use Rattle.tapa_lex.proofs.Cuts.{is_cut, is_some, code_is, nothing_stands}

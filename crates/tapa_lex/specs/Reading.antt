@@ -1,10 +1,11 @@
 -- What the lexer finds in front of a text.
-use Rattle.std.specs.Prelude.{ℕ, ◌+◌, Bool, ◌&&◌, ◌||◌, if◌then◌else◌, ◌==◌, List, [], ◌∷◌, take, drop, slice_index, Option, Some, None, option_map, Result, Ok, Err, codes}
+use Rattle.std.specs.Prelude.{ℕ, ◌+◌, Bool, ◌&&◌, ◌||◌, if◌then◌else◌, ◌==◌, List, [], take, drop, slice_index, Option, Some, None, Result, Ok, Err, codes}
 use Rattle.std.specs.Str.{bytes_eq}
 use Rattle.tapa_base.specs.declared.kind.Kind.{Kind}
 use Rattle.tapa_syntax.specs.declared.lexeme.LexKind.{LexKind}
 use Rattle.tapa_syntax.specs.declared.lexeme.LexKind.TheVariants as kind
 use Rattle.tapa_base.specs.Gaps.{Bytes, is_blank, is_in_line}
+use Rattle.tapa_syntax.specs.Comments.{closing}
 use Rattle.tapa_syntax.specs.Characters.{is_digit, is_letter, is_word_byte, is_plain, is_among, run}
 use Rattle.tapa_syntax.specs.Literals.{is_digit_of, literal_of}
 use Rattle.tapa_syntax.specs.Lexemes.{is_inner_blank}
@@ -19,11 +20,6 @@ is_in class.InLine = is_in_line
 is_in class.InnerBlank = is_inner_blank
 is_in class.Plain = is_plain
 is_in (class.DigitOf base) = is_digit_of base
-
--- how many bytes there are through the first `*/`
-unfoldable pub closing : Bytes → Option ℕ
-closing [] = None
-closing (b ∷ z) = if b == 42 && slice_index z 0 == 47 then Some 2 else option_map (λ n. n + 1) (closing z)
 
 -- ---- signs
 

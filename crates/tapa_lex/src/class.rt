@@ -1,10 +1,11 @@
 //! Classes of bytes, and runs of them.
 
-ghost use Rattle.std.specs.Prelude.{◌≡◌, ◌≤◌, length, slice_index};
-ghost use Rattle.tapa_base.specs.Gaps as gaps;
+ghost use Rattle.std.specs.Prelude.{◌≡◌, ◌≤◌, length};
 ghost use Rattle.tapa_syntax.specs.Characters as characters;
 ghost use Rattle.tapa_syntax.specs.Literals as literals;
 ghost use Rattle.tapa_lex.specs.Reading.{is_in};
+
+use tapa_syntax::is_blank;
 
 /// A class of bytes.
 #[derive(Clone, Copy)]
@@ -35,18 +36,14 @@ impl Class {
     }
 }
 
-pub fn is_blank(b: u8) -> bool
-    ensures { result ≡ gaps.is_blank b }
-{
-    b == b' ' || b == b'\t' || b == b'\r' || b == b'\n'
-}
-
+/// Whether a byte is a decimal digit.
 pub fn is_digit(b: u8) -> bool
     ensures { result ≡ characters.is_digit b }
 {
     b'0' <= b && b <= b'9'
 }
 
+/// Whether a byte may begin a name: a letter or `_`.
 pub fn is_letter(b: u8) -> bool
     ensures { result ≡ characters.is_letter b }
 {
@@ -82,14 +79,4 @@ pub fn run(class: Class, text: &[u8]) -> usize
         passed += 1;
     }
     passed
-}
-
-/// The byte at an index, and 0 past the end.
-pub fn byte(text: &[u8], at: usize) -> u8
-    ensures { result ≡ slice_index text.now at }
-{
-    match text.get(at) {
-        Some(b) => *b,
-        None => 0,
-    }
 }

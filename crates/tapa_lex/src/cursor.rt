@@ -4,8 +4,8 @@ ghost use Rattle.std.specs.Prelude.{◌≡◌, ◌+◌, ◌<◌, ◌≤◌, ◌^
 ghost use Rattle.tapa_base.specs.Gaps.{Bytes};
 ghost use Rattle.tapa_lex.specs.Standing.{IsBehind};
 
-use crate::class::is_blank;
 use tapa_base::Place;
+use tapa_syntax::is_blank;
 
 /// An index of a text, its place, and whether only blanks stand before it in its line.
 #[derive(Clone, Copy)]
@@ -16,6 +16,7 @@ pub struct Cursor {
 }
 
 impl Cursor {
+    /// Before the first byte of a text.
     pub fn start() -> Self
         ensures { IsBehind [] result }
     {

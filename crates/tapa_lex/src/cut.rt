@@ -1,12 +1,13 @@
 //! The piece that a text begins with.
 
 ghost use Rattle.std.specs.Prelude.{◌≡◌, ◌+◌, ◌<◌, ◌≤◌, ◌^◌, length, drop, IfOk, IfSome};
+ghost use Rattle.tapa_syntax.specs.Comments.{closing};
 ghost use Rattle.tapa_lex.specs.Reading as reading;
 
-use crate::class::{Class, byte, is_blank, is_digit, is_letter, run};
+use crate::class::{Class, is_digit, is_letter, run};
 use crate::fault::LexCode;
 use crate::literal::literal;
-use tapa_syntax::LexKind;
+use tapa_syntax::{LexKind, byte, closing, is_blank};
 
 /// The kind of a lexeme, or none for a gap, and how many bytes it has.
 type Piece = (Option<LexKind>, usize);
@@ -116,30 +117,12 @@ fn cut_mark(text: &[u8]) -> Result<Piece, LexCode>
 /// A comment whose mark is passed.
 fn cut_comment(body: &[u8]) -> Result<Piece, LexCode>
     requires { 2 + length body.now < 2 ^ 63 }
-    ensures { result ≡ reading.cut_comment (reading.closing body.now) }
+    ensures { result ≡ reading.cut_comment (closing body.now) }
 {
     match closing(body) {
         Some(len) => Ok((None, len + 2)),
         None => Err(LexCode::L2),
     }
-}
-
-/// How many bytes there are through the first `*/`.
-#[tactic(auto, unfolding(crate::specs::Reading::closing))]
-fn closing(text: &[u8]) -> Option<usize>
-    ensures value { result ≡ reading.closing text.now }
-    ensures within { IfSome result (λ n. n ≤ length text.now) }
-{
-    let mut passed = 0;
-    let mut rest = text;
-    while let [b, after @ ..] = rest {
-        if *b == b'*' && byte(after, 0) == b'/' {
-            return Some(passed + 2);
-        }
-        rest = after;
-        passed += 1;
-    }
-    None
 }
 
 /// How many bytes of these are the longest sign, and 0 where none of them begins one.

@@ -3,8 +3,9 @@
 ghost use Rattle.std.specs.Prelude.{◌≡◌, ◌+◌, ◌*◌, ◌<◌, ◌≤◌, ◌^◌, ◌==◌, length, SomeIff};
 ghost use Rattle.tapa_syntax.specs.Literals as literals;
 
-use crate::class::{Class, byte, run, worth};
+use crate::class::{Class, run, worth};
 use tapa_base::Kind;
+use tapa_syntax::byte;
 
 /// The letters of a suffix.
 type Suffix = (bool, bool);

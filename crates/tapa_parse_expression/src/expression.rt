@@ -285,18 +285,24 @@ impl<'a> Parser<'a> {
             let Some(operator) = self.operator(level) else {
                 return Ok(left);
             };
+            let first = Box::new(self.alloc(), left)?;
             *operators = count(*operators)?;
             let place = self.place();
             self.skip();
             let right = self.level(level, levels, operators)?;
-            left = Expression::Binary(
-                operator,
-                place,
-                Box::new(self.alloc(), left)?,
-                Box::new(self.alloc(), right)?,
-            );
+            let second = Box::new(self.alloc(), right)?;
+            left = Expression::Binary(operator, place, first, second);
         }
         Ok(left)
+    }
+
+    // An expression in a box.
+    #[cycle(expression)]
+    fn boxed(&mut self, levels: u32, operators: &mut u32) -> Result<Box<Expression>, Fault>
+        ensures { Gives (λ e. (view.expression e.value, operators.new)) result self.new ((spec.at levels).expression operators.old self.old) }
+    {
+        let e = self.expression(levels, operators)?;
+        Ok(Box::new(self.alloc(), e)?)
     }
 
     #[cycle(expression)]
@@ -304,24 +310,19 @@ impl<'a> Parser<'a> {
     fn arms(
         &mut self,
         levels: u32,
-        test: Expression,
+        test: Box<Expression>,
         operators: &mut u32,
     ) -> Result<Expression, Fault>
-        ensures { Gives (λ e. (view.expression e, operators.new)) result self.new (spec.arms (spec.below levels) (view.expression test) operators.old self.old) }
+        ensures { Gives (λ e. (view.expression e, operators.new)) result self.new (spec.arms (spec.below levels) (view.expression test.value) operators.old self.old) }
     {
         *operators = count(*operators)?;
         let levels = self.enter(levels)?;
         let place = self.place();
         self.skip();
-        let first = self.expression(levels, operators)?;
+        let first = self.boxed(levels, operators)?;
         self.expect(Terminal::Colon)?;
-        let second = self.expression(levels, operators)?;
-        Ok(Expression::Conditional(
-            place,
-            Box::new(self.alloc(), test)?,
-            Box::new(self.alloc(), first)?,
-            Box::new(self.alloc(), second)?,
-        ))
+        let second = self.boxed(levels, operators)?;
+        Ok(Expression::Conditional(place, test, first, second))
     }
 
     /// An expression. `levels` says how many levels of nesting may be opened, `operators` how many operators are left to the
@@ -334,6 +335,7 @@ impl<'a> Parser<'a> {
     {
         let test = self.level(OR_LEVEL, levels, operators)?;
         if self.sees(Terminal::Question) {
+            let test = Box::new(self.alloc(), test)?;
             self.arms(levels, test, operators)
         } else {
             Ok(test)

@@ -1,5 +1,6 @@
 pub mod ArrayUse
 pub mod Characters
+pub mod Comments
 pub mod Flat
 pub mod Grammar
 pub mod LeafKinds

@@ -1,12 +1,14 @@
 //! What the front end reads and gives: the lexemes of a text, its tree, and the flat program.
 #![tactic(auto)]
 
+mod gap;
 mod lexeme;
 mod program;
 mod terminal;
 mod tick_places;
 mod tree;
 
+pub use gap::{byte, closing, is_blank};
 pub use lexeme::{LexKind, Lexeme};
 pub use program::{Array, Bound, End, Expr, Instance, Leaf, Memory, Program, Scalar, Stmt, Stream};
 pub use terminal::Terminal;

@@ -34,6 +34,7 @@ pub struct Attribute {
     pub arguments: AttributeArguments,
 }
 
+/// What stands in the parentheses of an attribute, if it has any.
 #[derive(Drop)]
 pub enum AttributeArguments {
     /// There are no parentheses.
@@ -41,6 +42,7 @@ pub enum AttributeArguments {
     Listed(Vec<AttributeArgument>),
 }
 
+/// An argument of an attribute.
 #[derive(Drop)]
 pub enum AttributeArgument {
     Literal(Kind, u64),
@@ -59,6 +61,7 @@ pub struct TaskDeclaration {
     pub end: Place,
 }
 
+/// A parameter of a task, with its name.
 #[derive(Drop)]
 pub enum Parameter {
     /// `tapa::istream<kind>& name`.
@@ -78,6 +81,7 @@ pub enum Parameter {
     },
 }
 
+/// A task's body: the statements of a leaf, or what an upper task declares and invokes.
 #[derive(Drop)]
 pub enum TaskBody {
     Leaf(Vec<Statement>),
@@ -104,6 +108,7 @@ pub struct Count {
     pub value: CountValue,
 }
 
+/// A number that a declaration asks for: written out, a constant's name, or an expression in parentheses.
 #[derive(Drop)]
 pub enum CountValue {
     Literal(Kind, u64),
@@ -119,6 +124,7 @@ pub struct Invocation {
     pub arguments: Vec<InvocationArgument>,
 }
 
+/// An argument of an invocation.
 #[derive(Drop)]
 pub struct InvocationArgument {
     /// The first lexeme.
@@ -156,6 +162,7 @@ pub struct ForHead {
     pub step: Option<Action>,
 }
 
+/// What stands before the first semicolon of a `for`.
 #[derive(Drop)]
 pub enum ForStart {
     Nothing,
@@ -171,6 +178,7 @@ pub struct Declaration {
     pub names: Vec<Declarator>,
 }
 
+/// A name that a declaration of a leaf declares, with what it begins with.
 #[derive(Drop)]
 pub enum Declarator {
     Plain(Name),
@@ -218,6 +226,7 @@ pub enum PlaceExpression {
     Element(Name, Expression),
 }
 
+/// The operators `++` and `--`.
 #[derive(Clone, Copy, Debug, PartialEq, Eq)]
 pub enum StepOperator {
     Increment,
@@ -259,6 +268,7 @@ pub enum Expression {
     Conditional(Place, Box<Expression>, Box<Expression>, Box<Expression>),
 }
 
+/// The operators before one operand (ISO C++, unary expressions).
 #[derive(Clone, Copy, Debug, PartialEq, Eq)]
 pub enum PrefixOperator {
     Negate,
@@ -269,6 +279,7 @@ pub enum PrefixOperator {
     Not,
 }
 
+/// The operators between two operands.
 #[derive(Clone, Copy, Debug, PartialEq, Eq)]
 pub enum BinaryOperator {
     LogicalOr,

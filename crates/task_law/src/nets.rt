@@ -1,7 +1,7 @@
 // The nets of a task's module.
 
 /// What is chosen among the states. Each choice is a tree of nets.
-#[derive(Clone, Copy, PartialEq, Eq, Debug)]
+#[derive(Clone, Copy)]
 pub enum Choice {
     /// The next state.
     ToState,
@@ -36,7 +36,7 @@ pub enum Choice {
 }
 
 /// A net. Ports, registers and arrays have their positions, other nets the number of their state first.
-#[derive(Clone, Copy, PartialEq, Eq, Debug)]
+#[derive(Clone, Copy)]
 pub enum Net {
     /// The number of the state.
     State,

@@ -28,7 +28,7 @@ use Rattle.hw_build.proofs.Forms.{yes_and}
 use Rattle.hw_build.proofs.Tables.{times, clock_declared, count_append, same_name, AreDistinct, stays, stays_new, found}
 use Rattle.hw_build.proofs.Uses.{both_together}
 use Rattle.hw_lists.specs.Fits.{declared_names, AreOnce}
-use Rattle.hw_lists.proofs.Fit.{names_fit, widths_fit}
+use Rattle.hw_lists.proofs.Fit.{names_fit, widths_fit, front_once, new_next}
 use Rattle.hw_lists.proofs.Tables.{table, named, names_after, first_times, none_is_new, IsDeclared, net_declared, net_name}
 use Rattle.top_joins.specs.Joins.{open_nets, IsOpen, output_port, port_names, IsJoin, ToClock, ToInput, FromOutput, IsJoined, StandsAfter, StandInOrder, PortsAreOnce, FitTogether, TogetherIsFitting}
 use Rattle.top_joins.proofs.Joined.{input_kind, output_kind, input_bits, output_bits, connected, open_name}
@@ -203,26 +203,6 @@ module _ (ms : List ModuleTree) (ports_once : PortsAreOnce ms) (before : List El
   widths_stand (Instance k i ls) h = joined_widths k i ls h
 
 -- ---- all of them
-
-front_once : (before rest : List Element) → AreOnce (clk ∷ rst ∷ named (before ++ rest)) → AreOnce (clk ∷ rst ∷ named before)
-front_once before rest once x =
-    let w = once x in
-    let e : times_in (clk ∷ rst ∷ named (before ++ rest)) x ≡ times_in ((clk ∷ rst ∷ named before) ++ named rest) x =
-    ap (λ l. times_in (clk ∷ rst ∷ l) x) (flat_map-append declared_names before rest) in
-    let c : times_in ((clk ∷ rst ∷ named before) ++ named rest) x ≡ times_in (clk ∷ rst ∷ named before) x + times_in (named rest) x = count_append (λ y. bytes_eq y x) (clk ∷ rst ∷ named before) (named rest) in
-    omega (arith, w, e, c)
-
-new_next : (before : List Element) (e : Element) (rest : List Element) → AreOnce (clk ∷ rst ∷ named (before ++ e ∷ rest)) → (x : Name) → Has (declared_names e) x → is_new (table before) x ≡ true
-new_next before e rest once x h =
-    let w = once x in
-    let s : times_in (clk ∷ rst ∷ named (before ++ e ∷ rest)) x ≡ times_in ((clk ∷ rst ∷ named before) ++ (declared_names e ++ named rest)) x =
-    ap (λ l. times_in (clk ∷ rst ∷ l) x) (flat_map-append declared_names before (e ∷ rest)) in
-    let c : times_in ((clk ∷ rst ∷ named before) ++ (declared_names e ++ named rest)) x ≡ times_in (clk ∷ rst ∷ named before) x + times_in (declared_names e ++ named rest) x =
-    count_append (λ y. bytes_eq y x) (clk ∷ rst ∷ named before) (declared_names e ++ named rest) in
-    let d : times_in (declared_names e ++ named rest) x ≡ times_in (declared_names e) x + times_in (named rest) x = count_append (λ y. bytes_eq y x) (declared_names e) (named rest) in
-    let some : 1 ≤ times_in (declared_names e) x = counted (λ y. bytes_eq y x) (declared_names e) x h (same_name x) in
-    let k : times (table before) x ≡ times_in (clk ∷ rst ∷ named before) x = table_counts before (front_once before (e ∷ rest) once) x in
-    none_is_new (table before) x (omega (arith, w, s, c, d, some, k))
 
 stand_from : (ms : List ModuleTree) → PortsAreOnce ms → (before elements : List Element) → AreOnce (clk ∷ rst ∷ named (before ++ elements)) → StandInOrder ms before elements
     → (have_fitting_names ms (table before) elements ≡ true) × HaveFittingWidths ms (table before) elements

@@ -87,6 +87,7 @@ fn push_indent(text: &mut Vec<u8>, depth: usize) -> Result<(), AllocError>
 }
 
 impl Page {
+    /// An empty page.
     pub fn new(alloc: Global) -> Page
         ensures { result ≡ record { text = []; depth = 0; begun = false } }
     {
@@ -111,6 +112,7 @@ impl Page {
         Ok(())
     }
 
+    /// The text that was written on it.
     pub fn into_text(self) -> Vec<u8>
         ensures { result.items ≡ self.text }
     {

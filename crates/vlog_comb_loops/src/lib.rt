@@ -2,6 +2,7 @@
 #![tactic(auto)]
 
 mod order;
+mod pairs;
 mod questions;
 mod search;
 mod sums;

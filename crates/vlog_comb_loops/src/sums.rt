@@ -14,9 +14,9 @@ ghost use Rattle.vlog_comb_loops.specs.Merges.{IsMerged, IsGrown};
 ghost use Rattle.vlog_comb_loops.specs.Questions.{asked_of, AreUses};
 ghost use Rattle.vlog_comb_loops.specs.Places.{ArePlaces, PlacesInput, picked};
 ghost use Rattle.vlog_comb_loops.specs.Rooms.{room};
-ghost use Rattle.vlog_tree.specs.Grounded.{Has};
 ghost use Rattle.vlog_comb_loops.specs.Summaries.{is_named, module_edges, IsPair, IsSumOf, IsSoundSum, IsClosedSum, AreSums};
 
+use crate::pairs::merge;
 use crate::questions::Questions;
 use crate::through::graph_of;
 use std::alloc::{AllocError, Global};
@@ -245,49 +245,6 @@ fn sum_by(alloc: Global, graph: &NamedGraph, ports: &Scope) -> Result<Sum, Alloc
         )?;
     }
     Ok(Sum { pairs })
-}
-
-fn is_pair(a: &(Text, Text), b: &(Text, Text)) -> bool
-    ensures { (result ≡ true) ↔ (a.now ≡ b.now) }
-{
-    a.0.bytes() == b.0.bytes() && a.1.bytes() == b.1.bytes()
-}
-
-fn is_among(pairs: &[(Text, Text)], pair: &(Text, Text)) -> bool
-    ensures { (result ≡ true) ↔ Has pairs.now pair.now }
-{
-    for p in pairs {
-        if is_pair(p, pair) {
-            return true;
-        }
-    }
-    false
-}
-
-// Whether pairs have a pair, which is looked for at a place first.
-fn has_pair(pairs: &[(Text, Text)], at: usize, pair: &(Text, Text)) -> bool
-    ensures { (result ≡ true) ↔ Has pairs.now pair.now }
-{
-    if at < pairs.len() {
-        if is_pair(&pairs[at], pair) {
-            return true;
-        }
-    }
-    is_among(pairs, pair)
-}
-
-// Puts those of other pairs that are missing behind the pairs that are there, and says whether any was missing.
-fn merge(pairs: &mut Vec<(Text, Text)>, mut others: Vec<(Text, Text)>) -> Result<bool, AllocError>
-    ensures { IfOk result (λ added. IsMerged pairs.old.items others.items pairs.new.items added) }
-{
-    let mut added = false;
-    while let Some(pair) = others.pop() {
-        if !has_pair(pairs, others.len(), &pair) {
-            pairs.push(pair)?;
-            added = true;
-        }
-    }
-    Ok(added)
 }
 
 // Takes pairs over where there are none yet.

@@ -111,6 +111,7 @@ impl Design {
         Ok(Design { sound, top })
     }
 
+    /// The modules, in the order of the text.
     pub fn modules(&self) -> &[Module]
         ensures value { result.now ≡ self.now.modules }
         ensures design { IsDesign self.now.modules self.now.top }

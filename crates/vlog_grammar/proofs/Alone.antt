@@ -7,7 +7,8 @@ use Rattle.std.proofs.lemmas.List.{append_assoc}
 use Rattle.vlog_tree.specs.Names.{IsName, has_name_form, starts_name, goes_on}
 use Rattle.vlog_tree.specs.Spelling.{Word}
 use Rattle.vlog_grammar.specs.Numerals.{Sized, sized_word, IsSized, IsNumber, IsLiteral}
-use Rattle.vlog_grammar.specs.Lexemes.{Bytes, begins, is_digit_of, makes_literal, is_sign, is_sign_or_mark, IsWord}
+use Rattle.tapa_base.specs.Gaps.{Bytes, begins}
+use Rattle.vlog_grammar.specs.Lexemes.{is_digit_of, makes_literal, is_sign, is_sign_or_mark, IsWord}
 use Rattle.std.specs.Prelude.{not}
 
 pub both : (a b : Bool) → a && b ≡ true → (a ≡ true) × (b ≡ true)

@@ -9,7 +9,8 @@ use Rattle.std.proofs.lemmas.Slice.Eq.{bytes_eq-Decides}
 use Rattle.vlog_tree.specs.Names.{starts_name, goes_on}
 use Rattle.vlog_tree.specs.Spelling.{Word}
 use Rattle.vlog_grammar.specs.Numerals.{base_of, Sized, sized_word, IsSized}
-use Rattle.vlog_grammar.specs.Lexemes.{Bytes, begins, is_blank, is_in_line, has_close, is_digit_of, makes_literal, IsNameWord, IsNumberWord, IsLiteralWord, signs, is_sign, is_sign_or_mark, IsSignWord, Piece, gap, word, Stands, piece_bytes, text_of, StandInTurn, words_of, HasWords}
+use Rattle.tapa_base.specs.Gaps.{Bytes, begins, is_blank, is_in_line, has_close}
+use Rattle.vlog_grammar.specs.Lexemes.{is_digit_of, makes_literal, IsNameWord, IsNumberWord, IsLiteralWord, signs, is_sign, is_sign_or_mark, IsSignWord, Piece, gap, word, Stands, piece_bytes, text_of, StandInTurn, words_of, HasWords}
 use Rattle.std.specs.Prelude.{not}
 
 -- ---- the longest front of a class, and what is behind it

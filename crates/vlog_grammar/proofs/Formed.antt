@@ -17,7 +17,7 @@ use Rattle.vlog_tree.specs.Form.{ModuleTree, IsModule, is_atom, is_value, is_ste
 use Rattle.vlog_tree.specs.Spelling.{Word}
 use Rattle.tapa_base.specs.Spans.{◌⨾◌, Each, Separated}
 use Rattle.vlog_grammar.specs.Spans.{Part, Takes, SeparatedTwo}
-use Rattle.vlog_grammar.specs.Lexemes.{Bytes}
+use Rattle.tapa_base.specs.Gaps.{Bytes}
 use Rattle.vlog_grammar.specs.Grammar.{SpellsAtom, SpellsValue, SpellsRange, SpellsConnection, SpellsItem, SpellsPort, SpellsModule, HasTree}
 use Rattle.vlog_grammar.specs.Flat.{SpellsStep}
 use Rattle.vlog_grammar.proofs.Flattened.{flat_block}

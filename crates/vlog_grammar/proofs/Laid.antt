@@ -3,7 +3,8 @@ use Rattle.std.proofs.Common.{◌≡◌, inl, inr, ℕ, zero, suc, ◌-◌, Bool
 use Rattle.std.specs.List.{AllByRecursion}
 use Rattle.std.proofs.lemmas.List.{append_assoc, append-nil}
 use Rattle.vlog_tree.specs.Spelling.{Word, Page, lay_word, indent, ends_line, closes}
-use Rattle.vlog_grammar.specs.Lexemes.{Bytes, is_blank, IsGap, IsWord, gap, word, HasWords}
+use Rattle.tapa_base.specs.Gaps.{Bytes, is_blank}
+use Rattle.vlog_grammar.specs.Lexemes.{IsGap, IsWord, gap, word, HasWords}
 use Rattle.vlog_grammar.proofs.Alone.{IsApart, StandsAlone}
 
 -- ---- one piece in front of a text

@@ -9,7 +9,8 @@ use Rattle.vlog_tree.specs.Spelling.{Word}
 use Rattle.tapa_base.specs.Spans.{◌⨾◌}
 use Rattle.vlog_grammar.specs.Spans.{Takes}
 use Rattle.vlog_grammar.specs.Numerals.{base_of, Sized, sized_word, IsSized, IsNumber, IsLiteral}
-use Rattle.vlog_grammar.specs.Lexemes.{Bytes, begins, is_digit_of}
+use Rattle.tapa_base.specs.Gaps.{Bytes, begins}
+use Rattle.vlog_grammar.specs.Lexemes.{is_digit_of}
 use Rattle.vlog_grammar.specs.Grammar.{SpellsName, SpellsNumber, SpellsLastOf, SpellsRange, SpellsAtom}
 use Rattle.vlog_grammar.proofs.Cuts.{front, behind, front_is, behind_is, all_digits, digits_begin, sized_begins, digit_no_name}
 

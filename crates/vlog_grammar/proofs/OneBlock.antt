@@ -6,7 +6,7 @@ use Rattle.vlog_tree.specs.Form.{nested}
 use Rattle.vlog_tree.specs.Names.{IsName, is_name, is_keyword, starts_name, goes_on, always_to_default, defparam_to_event, for_to_input, instance_to_not, notif0_to_real, realtime_to_strong0, strong1_to_unsigned, use_to_xor}
 use Rattle.vlog_tree.specs.Spelling.{Word}
 use Rattle.tapa_base.specs.Spans.{Each}
-use Rattle.vlog_grammar.specs.Lexemes.{begins}
+use Rattle.tapa_base.specs.Gaps.{begins}
 use Rattle.vlog_grammar.specs.Grammar.{SpellsName, SpellsAtom, SpellsBlock}
 use Rattle.vlog_grammar.specs.Flat.{SpellsStep, SpellsFlatBlock}
 use Rattle.vlog_grammar.proofs.Flattened.{flat_block}

@@ -12,7 +12,7 @@ use Rattle.vlog_tree.specs.Names.{IsName}
 use Rattle.vlog_tree.specs.Spelling.{Word}
 use Rattle.tapa_base.specs.Spans.{◌⨾◌, Each, Separated}
 use Rattle.vlog_grammar.specs.Spans.{Takes}
-use Rattle.vlog_grammar.specs.Lexemes.{Bytes}
+use Rattle.tapa_base.specs.Gaps.{Bytes}
 use Rattle.vlog_grammar.specs.Grammar.{SpellsName, SpellsLastOf, SpellsRange, SpellsValue, SpellsBlock, SpellsConnection, SpellsItem, SpellsPort, SpellsModule, SpellsDesign, HasTree}
 use Rattle.vlog_grammar.proofs.Cuts.{one_list}
 use Rattle.vlog_grammar.proofs.OneAtom.{first, apart, names_no_keyword, same_first, same_rest, one_name, one_last, one_range}

@@ -11,7 +11,8 @@ use Rattle.vlog_tree.specs.Names.{IsName, is_name, starts_name}
 use Rattle.vlog_tree.specs.Spelling.{Word}
 use Rattle.tapa_base.specs.Spans.{◌⨾◌, Each, Separated}
 use Rattle.vlog_grammar.specs.Spans.{Part, Takes, SeparatedTwo}
-use Rattle.vlog_grammar.specs.Lexemes.{begins, is_digit_of}
+use Rattle.tapa_base.specs.Gaps.{begins}
+use Rattle.vlog_grammar.specs.Lexemes.{is_digit_of}
 use Rattle.vlog_grammar.specs.Grammar.{SpellsName, SpellsNumber, SpellsAtom, SpellsOperator, SpellsValue}
 use Rattle.vlog_grammar.proofs.OneAtom.{first, apart, names_no_sign, digit_begins_no_name, number_begins, literal_begins, same_first, same_rest, one_name, one_number, EndsAtom, one_atom}
 use Rattle.std.specs.Prelude.{not}

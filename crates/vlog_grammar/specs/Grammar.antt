@@ -19,7 +19,8 @@ use Rattle.vlog_tree.specs.Spelling.{Word}
 use Rattle.tapa_base.specs.Spans.{◌⨾◌, ◌∣◌, Nothing, Is, Each, EachOfSome, Separated, Given}
 use Rattle.vlog_grammar.specs.Spans.{Part, Takes, SeparatedTwo}
 use Rattle.vlog_grammar.specs.Numerals.{IsNumber, IsLiteral}
-use Rattle.vlog_grammar.specs.Lexemes.{Bytes, HasWords}
+use Rattle.tapa_base.specs.Gaps.{Bytes}
+use Rattle.vlog_grammar.specs.Lexemes.{HasWords}
 
 -- ---- names and numbers
 

@@ -1,47 +1,13 @@
 -- The words of a text of the subset (IEEE 1364-2005, clause 3). A text is gaps and words in turn, each judged in sight of the
 -- text behind it: a word is the longest that begins where it stands. The definition doesn't say how they are found.
-use Rattle.std.specs.Prelude.{◌≡◌, ℕ, ⊤, Bool, true, false, not, ◌&&◌, ◌||◌, ◌==◌, ◌⊎◌, List, [], ◌∷◌, ◌++◌, slice_index, codes, bytes_eq}
-use Rattle.std.specs.List.{list_all, list_any}
+use Rattle.std.specs.Prelude.{◌≡◌, ℕ, ⊤, Bool, true, false, ◌&&◌, ◌||◌, ◌==◌, ◌⊎◌, List, [], ◌∷◌, ◌++◌, codes, bytes_eq}
+use Rattle.std.specs.List.{list_any}
 use Rattle.std.specs.Char.{is_digit}
 use Rattle.std.specs.Str.Parse.{IsNumeral}
 use Rattle.vlog_tree.specs.Names.{goes_on, has_name_form}
 use Rattle.vlog_tree.specs.Spelling.{Word}
+use Rattle.tapa_base.specs.Gaps.{Bytes, begins, IsBlank, IsLineComment, IsBlockComment}
 use Rattle.vlog_grammar.specs.Numerals.{base_of, Sized, sized_word, IsSized}
-
-abbrev pub Bytes : Type 0
-Bytes = List ℕ
-
--- the first byte is of a class; there is none in no bytes
-abbrev pub begins : (ℕ → Bool) → Bytes → Bool
-begins class [] = false
-begins class (b ∷ z) = class b
-
--- ---- gaps: white space and comments (3.2, 3.3)
-
--- space, tab, carriage return, line feed
-abbrev pub is_blank : ℕ → Bool
-is_blank b = b == 32 || b == 9 || b == 13 || b == 10
-
--- anything but the line feed, which ends a line
-abbrev pub is_in_line : ℕ → Bool
-is_in_line b = not (b == 10)
-
--- one blank
-abbrev pub IsBlank : Bytes → Type 0
-IsBlank bytes = (b : ℕ) × (bytes ≡ b ∷ []) × (is_blank b ≡ true)
-
--- `//` to the line's end, or to the end of the text
-abbrev pub IsLineComment : Bytes → Bytes → Type 0
-IsLineComment bytes rest = (body : Bytes) × (bytes ≡ 47 ∷ 47 ∷ body) × (list_all is_in_line body ≡ true) × (begins is_in_line rest ≡ false)
-
--- `*/` stands somewhere in these bytes
-unfoldable pub has_close : Bytes → Bool
-has_close [] = false
-has_close (b ∷ z) = (b == 42 && slice_index z 0 == 47) || has_close z
-
--- `/*` to the first `*/`
-abbrev pub IsBlockComment : Bytes → Type 0
-IsBlockComment bytes = (body : Bytes) × (bytes ≡ 47 ∷ 42 ∷ body ++ 42 ∷ 47 ∷ []) × (has_close (body ++ 42 ∷ []) ≡ false)
 
 -- a gap, in sight of the text behind it
 abbrev pub IsGap : Bytes → Bytes → Type 0

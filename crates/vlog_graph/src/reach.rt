@@ -147,6 +147,7 @@ impl Model for Searches {
 }
 
 impl Searches {
+    /// Searches in a graph of so many nodes, of which none is marked. Want of memory is the only error.
     pub fn new(alloc: Global, count: usize) -> Result<Searches, AllocError>
         ensures { IfOk result (λ s. s ≡ count) }
     {

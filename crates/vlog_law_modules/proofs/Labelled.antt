@@ -1,16 +1,15 @@
 -- Names by their form, and labels by the ends of their names.
-use Rattle.std.proofs.Common.{◌≡◌, ℕ, zero, suc, ◌+◌, ◌-◌, ◌<◌, ◌≤◌, Bool, true, false, cond, eqb, ◌&&◌, ◌||◌, List, [], ◌∷◌, ◌++◌, Option, Some, None, refl, sym, ap, ◌∙◌, arith, length, length-append, length-take, take, drop, get_or}
-use Rattle.std.specs.Prelude.{bytes_eq, codes, nat_le, reverse, is_some, count_by}
+use Rattle.std.proofs.Common.{◌≡◌, ℕ, zero, suc, ◌+◌, ◌-◌, ◌<◌, ◌≤◌, Bool, true, false, cond, eqb, ◌&&◌, ◌||◌, List, [], ◌∷◌, ◌++◌, Option, Some, None, refl, sym, ap, ◌∙◌, arith, length, take, get_or}
+use Rattle.std.specs.Prelude.{bytes_eq, codes, reverse, is_some, count_by}
 use Rattle.std.specs.List.{list_any}
 use Rattle.std.specs.Cmp.Lexicographic.{bytes_decides}
-use Rattle.std.proofs.lemmas.Bool.Decides.{nat_tests}
-use Rattle.std.proofs.lemmas.List.{take-append-drop, append-nil, reverse-append}
-use Rattle.std.proofs.Math.Seq.{take-append_seam, drop-append_seam}
+use Rattle.std.proofs.lemmas.List.{append-nil, reverse-append}
 use Rattle.vlog_tree.specs.Names.{IsName, has_name_form, is_among, is_keyword, always_to_default, defparam_to_event, for_to_input, instance_to_not, notif0_to_real, realtime_to_strong0, strong1_to_unsigned, use_to_xor}
 use Rattle.vlog_tree.specs.Table.{Name, one_if}
 use Rattle.vlog_tree.specs.Labels.{label_in, scalar, m_ack, m_rdata, m_addr, m_wdata, m_we, s_din, scalar_of, ack_of, rdata_of, addr_of, wdata_of, we_of, din_of}
 use Rattle.vlog_law_modules.specs.Labelled.{IsLabelOf, AreLabels}
-use Rattle.vlog_law_modules.proofs.Lists.{both_true, count_cons}
+use Rattle.vlog_tree.proofs.Labelled.{IsLabelled, labelled, label_of}
+use Rattle.vlog_law_modules.proofs.Lists.{count_cons}
 
 abbrev has_early : Name → Bool
 has_early w = list_any (λ c. eqb c 95) (take 10 w)
@@ -60,66 +59,6 @@ pub early_name : (front rest : Name) → length front < 10 → has_name_form (fr
 early_name front rest few form =
     let no_word : is_keyword (front ++ 95 ∷ rest) ≡ false = no_keyword (front ++ 95 ∷ rest) (early front rest 10 few) in
     ap (λ b. has_name_form (front ++ 95 ∷ rest) && cond b false true) no_word ∙ ap (λ b. b && true) form
-
-pub record IsLabelled (front end x l : Name) : Type 0 where
-  pub is : x ≡ front ++ (l ++ end)
-  pub some : 0 < length l
-
-le_of : (a b : ℕ) → nat_le a b ≡ true → a ≤ b
-le_of a b h = grind (arith, nat_tests)
-
-lt_of : (a b : ℕ) → nat_le a b ≡ false → b < a
-lt_of a b h = grind (arith, nat_tests)
-
-of_le : (a b : ℕ) → a ≤ b → nat_le a b ≡ true
-of_le a b h = grind (arith, nat_tests)
-
-of_lt : (a b : ℕ) → b < a → nat_le a b ≡ false
-of_lt a b h = grind (arith, nat_tests)
-
-rest_of : (end rest l : Name) (b c : Bool) → (nat_le (length end) (length rest) && bytes_eq (drop (length rest - length end) rest) end) ≡ b → nat_le (length rest) (length end) ≡ c
-    → cond b (cond c None (Some (take (length rest - length end) rest))) None ≡ Some l → (rest ≡ l ++ end) × (0 < length l)
-rest_of end rest l true true e f h = cc
-rest_of end rest l true false e f h =
-    let p = both_true _ (bytes_eq (drop (length rest - length end) rest) end) e in
-    let same : take (length rest - length end) rest ≡ l = cc h in
-    let last : drop (length rest - length end) rest ≡ end = (bytes_decides _ end).0 p.1 in
-    let more : length end < length rest = lt_of (length rest) (length end) f in
-    let long : length (take (length rest - length end) rest) ≡ length l = ap length same in (
-      sym (take-append-drop (length rest - length end) rest) ∙ ap (λ z. z ++ drop (length rest - length end) rest) same ∙ ap (λ z. l ++ z) last,
-      omega (arith, length-take (length rest - length end) rest),
-    )
-rest_of end rest l false c e f h = cc
-
-front_of : (front end x l : Name) (b : Bool) → (nat_le (length front) (length x) && bytes_eq (take (length front) x) front) ≡ b
-    → cond b (cond (nat_le (length end) (length (drop (length front) x)) && bytes_eq (drop (length (drop (length front) x) - length end) (drop (length front) x)) end)
-    (cond (nat_le (length (drop (length front) x)) (length end)) None (Some (take (length (drop (length front) x) - length end) (drop (length front) x)))) None) None ≡ Some l
-    → IsLabelled front end x l
-front_of front end x l true e h =
-    let p = both_true _ (bytes_eq (take (length front) x) front) e in
-    let r = rest_of end (drop (length front) x) l _ _ refl refl h in
-    record {
-      is = sym (take-append-drop (length front) x) ∙ ap (λ z. z ++ drop (length front) x) ((bytes_decides (take (length front) x) front).0 p.1) ∙ ap (λ z. front ++ z) r.0;
-      some = r.1;
-    }
-front_of front end x l false e h = cc
-
-pub labelled : (front end x l : Name) → label_in front end x ≡ Some l → IsLabelled front end x l
-unfolding label_in
-labelled front end x l h = front_of front end x l _ refl h
-
--- the label of a name that is made of one
-pub label_of : (front end l : Name) → 0 < length l → label_in front end (front ++ (l ++ end)) ≡ Some l
-unfolding label_in
-label_of front end l some =
-    let there : nat_le (length front) (length (front ++ (l ++ end))) ≡ true = of_le _ _ (simp length-append (omega arith)) in
-    let same : bytes_eq (take (length front) (front ++ (l ++ end))) front ≡ true = (bytes_decides _ front).1 (take-append_seam front (l ++ end)) in
-    let rest : drop (length front) (front ++ (l ++ end)) ≡ l ++ end = drop-append_seam front (l ++ end) in
-    let size : length (l ++ end) - length end ≡ length l = simp length-append (omega arith) in
-    let ends : nat_le (length end) (length (l ++ end)) ≡ true = of_le _ _ (simp length-append (omega arith)) in
-    let more : nat_le (length (l ++ end)) (length end) ≡ false = of_lt _ _ (simp length-append (omega arith)) in
-    let last : bytes_eq (drop (length (l ++ end) - length end) (l ++ end)) end ≡ true = (bytes_decides _ end).1 (ap (λ n. drop n (l ++ end)) size ∙ drop-append_seam l end) in
-    rw (there, same, rest, ends, last, more) (ap (λ n. Some (take n (l ++ end))) size ∙ ap (λ z. Some z) (take-append_seam l end))
 
 made_by : (front end : Name) → IsLabelOf (λ x. front ++ (x ++ end)) (label_in front end)
 made_by front end = record { there = λ x h. label_of front end x h; back = λ y x h. let r = labelled front end y x h in (r.is, r.some) }

@@ -6,7 +6,8 @@ use Rattle.vlog_tree.specs.Grounded.{Has}
 pub data Ends {N : Type 0} (R : N → N → Type 0) : N → Type 0 where
   ends : {a : N} → ((b : N) → R a b → Ends R b) → Ends R a
 
-abbrev Distinct : {N : Type 0} → List N → Type 0
+-- none stands twice
+abbrev pub Distinct : {N : Type 0} → List N → Type 0
 Distinct [] = Unit {0}
 Distinct (x ∷ xs) = (Has xs x → ⊥) × Distinct xs
 
@@ -29,7 +30,7 @@ others_stay (z ∷ zs) x (inr h) y ne (inl f) = inl f
 others_stay (z ∷ zs) x (inr h) y ne (inr k) = inr (others_stay zs x h y ne k)
 
 -- distinct members of a list are no more than the list has
-no_more : {N : Type 0} (xs v : List N) → Distinct xs → ((x : N) → Has xs x → Has v x) → length xs ≤ length v
+pub no_more : {N : Type 0} (xs v : List N) → Distinct xs → ((x : N) → Has xs x → Has v x) → length xs ≤ length v
 no_more [] v d f = omega arith
 no_more (x ∷ xs) v d f =
     let h = f x (inl refl) in

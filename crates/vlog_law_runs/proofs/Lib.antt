@@ -14,6 +14,7 @@ pub mod Run
 pub mod Alike
 pub mod TopPorts
 pub mod Solved
+pub mod NetsRead
 pub mod Only
 pub mod Same
 pub mod Inputs

@@ -46,7 +46,7 @@ module _ (ms : List ModuleTree) (root : ModuleTree) (names : first_violation (v2
     net_same : (path : Path) (m : ModuleTree) → module_at ms root path ≡ Some m → (x : Name) → net_kind_is_read (net_kind_of (declared m) x) ≡ true → is_clk x ≡ false → (a n path).net x ≡ (b n path).net x
     net_same path m at x r c =
         nets_agree ms root names drivers tops in_root top_is (a n) (b n) (allowed a ra.runs n) (allowed b rb.runs n) held (around.give (worlds W around a n)) (ra.inputs n)
-        (λ x s c. rb.inputs n x s c ∙ ap (λ w. around.give w x (asked_at root (b n) x)) (sym world)) (path, x) (settled (path, x)) (record { tree = m; at = at; read = r; no_clock = c })
+        (λ x s c. rb.inputs n x s c ∙ ap (λ w. around.give w x (asked_at root (b n) x)) (sym world)) (path, x) (settled (path, x)) (record { tree = m; at = at; read = r; clock = c })
 
     world_next : worlds W around a (suc n) ≡ worlds W around b (suc n)
     world_next = decided (worlds W around a n) (a n []) (b n []) (net_same [] root refl) ∙ ap (λ w. around.next w (b n [])) world

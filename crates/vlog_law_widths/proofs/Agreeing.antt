@@ -16,7 +16,8 @@ use Rattle.vlog_tree.proofs.Lists.{has_left}
 use Rattle.vlog_law_runs.proofs.Sound.{both_true, not_no}
 use Rattle.vlog_law_runs.proofs.Alone.{same_name}
 use Rattle.vlog_law_runs.proofs.Sizes.{declared_bits, has_port}
-use Rattle.vlog_law_runs.proofs.Labelled.{label_of, rdata_of_label}
+use Rattle.vlog_tree.proofs.Labelled.{label_of}
+use Rattle.vlog_law_runs.proofs.Labelled.{rdata_of_label}
 use Rattle.vlog_law_runs.proofs.TopPorts.{use_right, five_of, five_rdata}
 use Rattle.vlog_law_runs.proofs.Ports.{port_parts, named_port}
 use Rattle.vlog_law_widths.proofs.Bits.{same_of}

@@ -1,21 +1,23 @@
 -- What is cut stands, and where nothing is cut nothing stands.
-use Rattle.std.proofs.Common.{◌≡◌, ◌⊎◌, ⊎_elim, inl, inr, ℕ, zero, suc, ◌+◌, ◌<◌, ◌≤◌, ◌-◌, Bool, true, false, cond, ◌&&◌, ◌||◌, List, [], ◌∷◌, ◌++◌, append_assoc, codes, length, take, drop, get_or, Option, Some, None, refl, sym, ap, subst, ◌∙◌, arith, nat_eq, add-one, eqb-true}
+use Rattle.std.proofs.Common.{◌≡◌, ◌⊎◌, ⊎_elim, inl, inr, ℕ, zero, suc, ◌+◌, ◌<◌, ◌≤◌, ◌-◌, Bool, true, false, cond, ◌&&◌, [], ◌∷◌, ◌++◌, append_assoc, length, take, drop, get_or, Option, Some, None, refl, sym, ap, subst, ◌∙◌, arith, nat_eq, eqb-true}
 use Rattle.std.specs.Str.Parse.{AllDigits, IsNumeral}
 use Rattle.std.specs.Char.{digit_value}
 use Rattle.std.specs.List.{list_all}
 use Rattle.std.proofs.lemmas.Bool.{and_parts, or_cases, false≢true, ltb-true}
-use Rattle.std.proofs.lemmas.List.{length-drop, length-take-le, take-append-drop, drop-drop}
+use Rattle.std.proofs.lemmas.List.{length-drop, length-take-le, drop-drop}
 use Rattle.tapa_syntax.specs.Characters.{is_among, run}
 use Rattle.vlog_tree.specs.Names.{starts_name, goes_on, has_name_form}
-use Rattle.vlog_grammar.specs.Numerals.{base_of, Sized, sized_word, IsSized}
-use Rattle.vlog_grammar.specs.Lexemes.{Bytes, begins, is_blank, is_in_line, has_close, is_digit_of, makes_literal, IsNameWord, IsNumberWord, IsLiteralWord, signs, is_sign, is_sign_or_mark, IsSignWord, Piece, gap, word, Stands, piece_bytes}
+use Rattle.vlog_grammar.specs.Numerals.{base_of}
+use Rattle.tapa_base.specs.Gaps.{Bytes, begins, is_blank, is_in_line, has_close}
+use Rattle.vlog_grammar.specs.Lexemes.{is_digit_of, makes_literal, signs, is_sign, is_sign_or_mark, IsSignWord, Piece, gap, word, Stands}
 use Rattle.vlog_grammar.proofs.Cuts.{digits_begin, sized_begins}
 use Rattle.vlog_lex.specs.declared.cut.Sort.{Sort}
 use Rattle.vlog_lex.specs.declared.cut.Sort.TheVariants.{Gap, Word}
-use Rattle.vlog_lex.specs.Reading.{closing, doubled, before_equals, is_single, is_pair, sign_length, Cut, cut_comment, cut_sign, cut_mark, number_length, cut}
+use Rattle.tapa_syntax.specs.Comments.{closing}
+use Rattle.vlog_lex.specs.Reading.{doubled, before_equals, is_single, is_pair, sign_length, Cut, cut_comment, cut_sign, cut_mark, number_length, cut}
 use Rattle.vlog_lex.specs.Scanned.{NothingStands}
-use Rattle.vlog_lex.proofs.Runs.{split, run_passes, run_stops, run_within, run_some, begins_taken, take_both}
-use Rattle.vlog_lex.proofs.Comments.{line_stands, Closes, closing_stands, closing_is, block_stands}
+use Rattle.tapa_syntax.proofs.Runs.{split, run_passes, run_stops, run_within, run_some, take_both}
+use Rattle.tapa_syntax.proofs.Comments.{line_stands, closing_stands, closing_is, block_stands}
 use Rattle.vlog_lex.proofs.Signs.{sign_single, sign_pair, sign_none, sign_three, pair_stands, single_stands}
 
 -- a piece of a sort

@@ -5,7 +5,8 @@ use Rattle.std.proofs.lemmas.Bool.{and_parts, or_cases, false≢true}
 use Rattle.std.proofs.lemmas.Slice.Eq.{bytes_eq-Decides}
 use Rattle.tapa_syntax.specs.Characters.{is_among}
 use Rattle.vlog_tree.specs.Spelling.{Word}
-use Rattle.vlog_grammar.specs.Lexemes.{Bytes, begins, signs, is_sign, is_sign_or_mark, IsSignWord}
+use Rattle.tapa_base.specs.Gaps.{Bytes, begins}
+use Rattle.vlog_grammar.specs.Lexemes.{signs, is_sign, is_sign_or_mark, IsSignWord}
 use Rattle.vlog_lex.specs.Reading.{is_single, is_pair, singles, doubled, before_equals, sign_length}
 
 -- what holds of each of a few bytes holds of one of them

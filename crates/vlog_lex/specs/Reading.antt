@@ -1,9 +1,11 @@
 -- What the lexer finds in front of a text.
-use Rattle.std.specs.Prelude.{ℕ, ◌+◌, Bool, ◌&&◌, ◌||◌, if◌then◌else◌, ◌==◌, List, [], ◌∷◌, drop, slice_index, Option, Some, None, option_map, codes}
+use Rattle.std.specs.Prelude.{ℕ, ◌+◌, Bool, ◌&&◌, ◌||◌, if◌then◌else◌, ◌==◌, List, [], drop, slice_index, Option, Some, None, codes}
+use Rattle.tapa_syntax.specs.Comments.{closing}
 use Rattle.tapa_syntax.specs.Characters.{is_among, run}
 use Rattle.vlog_tree.specs.Names.{starts_name, goes_on}
 use Rattle.vlog_grammar.specs.Numerals.{base_of}
-use Rattle.vlog_grammar.specs.Lexemes.{Bytes, is_blank, is_in_line, is_digit_of, makes_literal}
+use Rattle.tapa_base.specs.Gaps.{Bytes, is_blank, is_in_line}
+use Rattle.vlog_grammar.specs.Lexemes.{is_digit_of, makes_literal}
 use Rattle.vlog_lex.specs.declared.class.Class.{Class}
 use Rattle.vlog_lex.specs.declared.class.Class.TheVariants as class
 use Rattle.vlog_lex.specs.declared.cut.Sort.{Sort}
@@ -13,11 +15,6 @@ abbrev pub is_in : Class → ℕ → Bool
 is_in class.Name = goes_on
 is_in class.InLine = is_in_line
 is_in (class.DigitOf base) = is_digit_of base
-
--- how many bytes there are through the first `*/`
-unfoldable pub closing : Bytes → Option ℕ
-closing [] = None
-closing (b ∷ z) = if b == 42 && slice_index z 0 == 47 then Some 2 else option_map (λ n. n + 1) (closing z)
 
 -- ---- signs
 

@@ -1,10 +1,9 @@
 //! Classes of bytes, and runs of them.
 
-ghost use Rattle.std.specs.Prelude.{◌≡◌, ◌≤◌, ◌<◌, length, slice_index};
+ghost use Rattle.std.specs.Prelude.{◌≡◌, ◌≤◌, ◌<◌, length};
 ghost use Rattle.std.specs.Char.{digit_value};
 ghost use Rattle.tapa_syntax.specs.Characters as characters;
 ghost use Rattle.vlog_grammar.specs.Numerals as numerals;
-ghost use Rattle.vlog_grammar.specs.Lexemes as lexemes;
 ghost use Rattle.vlog_tree.specs.Names as names;
 ghost use Rattle.vlog_lex.specs.Reading.{is_in};
 
@@ -20,6 +19,7 @@ pub enum Class {
 }
 
 impl Class {
+    /// Whether a byte is of the class.
     pub fn has(self, b: u8) -> bool
         ensures { result ≡ is_in self b }
     {
@@ -29,12 +29,6 @@ impl Class {
             Class::DigitOf(base) => worth(b) < base,
         }
     }
-}
-
-pub fn is_blank(b: u8) -> bool
-    ensures { result ≡ lexemes.is_blank b }
-{
-    b == b' ' || b == b'\t' || b == b'\r' || b == b'\n'
 }
 
 /// A letter or `_`.
@@ -101,14 +95,4 @@ pub fn run(class: Class, text: &[u8]) -> usize
         passed += 1;
     }
     passed
-}
-
-/// The byte at an index, and 0 past the end.
-pub fn byte(text: &[u8], at: usize) -> u8
-    ensures { result ≡ slice_index text.now at }
-{
-    match text.get(at) {
-        Some(b) => *b,
-        None => 0,
-    }
 }

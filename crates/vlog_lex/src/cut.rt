@@ -2,9 +2,11 @@
 
 ghost use Rattle.std.specs.Prelude.{◌≡◌, ◌+◌, ◌<◌, ◌≤◌, ◌^◌, length, drop, IfSome};
 ghost use Rattle.vlog_grammar.specs.Lexemes as lexemes;
+ghost use Rattle.tapa_syntax.specs.Comments.{closing};
 ghost use Rattle.vlog_lex.specs.Reading as reading;
 
-use crate::class::{Class, base_of, byte, is_blank, run, starts_name};
+use crate::class::{Class, base_of, run, starts_name};
+use tapa_syntax::{byte, closing, is_blank};
 
 /// What a piece is.
 #[derive(Clone, Copy)]
@@ -81,30 +83,12 @@ fn cut_mark(text: &[u8]) -> Option<(Sort, usize)>
 /// A comment whose mark is passed.
 fn cut_comment(body: &[u8]) -> Option<(Sort, usize)>
     requires { 2 + length body.now < 2 ^ 63 }
-    ensures { result ≡ reading.cut_comment (reading.closing body.now) }
+    ensures { result ≡ reading.cut_comment (closing body.now) }
 {
     match closing(body) {
         Some(length) => Some((Sort::Gap, length + 2)),
         None => None,
     }
-}
-
-/// How many bytes there are through the first `*/`.
-#[tactic(auto, unfolding(crate::specs::Reading::closing))]
-fn closing(text: &[u8]) -> Option<usize>
-    ensures value { result ≡ reading.closing text.now }
-    ensures within { IfSome result (λ n. n ≤ length text.now) }
-{
-    let mut passed = 0;
-    let mut rest = text;
-    while let [b, after @ ..] = rest {
-        if *b == b'*' && byte(after, 0) == b'/' {
-            return Some(passed + 2);
-        }
-        rest = after;
-        passed += 1;
-    }
-    None
 }
 
 /// How many bytes of these are the longest sign, and 0 where none of them begins one.

@@ -5,7 +5,7 @@ use Rattle.vlog_tree.specs.Form.{ModuleTree}
 use Rattle.vlog_tree.specs.Spelling.{Word}
 use Rattle.vlog_tree.specs.Clamped.{clamped}
 use Rattle.vlog_grammar.specs.Grammar.{SpellsDesign}
-use Rattle.vlog_grammar.specs.Lexemes.{Bytes}
+use Rattle.tapa_base.specs.Gaps.{Bytes}
 use Rattle.vlog_lex.specs.declared.lexer.Lexeme.{Lexeme}
 use Rattle.vlog_lex.specs.Scanned.{word_of, words_at}
 use Rattle.vlog_parse_value.specs.declared.state.HeadState.TheVariants.{Between}

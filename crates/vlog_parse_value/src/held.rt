@@ -30,6 +30,7 @@ impl<T> Held<T> {
 }
 
 impl<T: Drop> Held<T> {
+    /// Holds a value. Want of memory is the only error.
     pub fn new(alloc: Global, value: T) -> Result<Held<T>, AllocError>
         ensures { IfOk result (λ h. h ≡ value) }
     {

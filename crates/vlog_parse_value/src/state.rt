@@ -125,6 +125,7 @@ pub struct Reader {
 
 // Readers in which certain words must come, and then a choice of one of the four sorts.
 impl Reader {
+    /// A reader in the head of a module, before these words.
     pub fn head(coming: Coming, state: HeadState) -> Reader
         ensures { result ≡ spec.behind coming (State.Head state) }
     {
@@ -132,6 +133,7 @@ impl Reader {
         Reader { coming, state }
     }
 
+    /// A reader among the items, before these words.
     pub fn item(coming: Coming, state: ItemState) -> Reader
         ensures { result ≡ spec.behind coming (State.Item state) }
     {
@@ -139,6 +141,7 @@ impl Reader {
         Reader { coming, state }
     }
 
+    /// A reader in a value, before these words.
     pub fn value(coming: Coming, state: ValueState) -> Reader
         ensures { result ≡ spec.behind coming (State.Value state) }
     {
@@ -146,6 +149,7 @@ impl Reader {
         Reader { coming, state }
     }
 
+    /// A reader in an `always` block, before these words.
     pub fn block(coming: Coming, state: BlockState) -> Reader
         ensures { result ≡ spec.behind coming (State.Block state) }
     {
@@ -179,12 +183,15 @@ impl Reader {
 
 // A state is let go part by part: all at once is more than one function holds.
 
+/// Lets go what a reader in a head holds.
 pub fn discard_head(_state: HeadState) {}
 
+/// Lets go what a reader among items holds.
 pub fn discard_item(_state: ItemState) {}
 
 fn discard_purpose(_draft: Held<Draft>, _purpose: Held<Purpose>) {}
 
+/// Lets go what a reader in a value holds.
 pub fn discard_value(state: ValueState) {
     match state {
         ValueState::AssignName(_draft) => {}
@@ -200,8 +207,10 @@ pub fn discard_value(state: ValueState) {
     }
 }
 
+/// Lets go what a reader in a block holds.
 pub fn discard_block(_state: BlockState) {}
 
+/// Lets go what a reader holds.
 pub fn discard(state: State) {
     match state {
         State::Head(state) => discard_head(state),

@@ -9,7 +9,7 @@ use Rattle.vlog_tree.specs.V3.{v3_uses}
 use Rattle.vlog_tree.specs.Refused.{Refuses, IsDesign}
 use Rattle.vlog_tree.specs.Clamped.{clamped}
 use Rattle.vlog_tree.proofs.ClampedModules.{widths_same}
-use Rattle.vlog_grammar.specs.Lexemes.{Bytes}
+use Rattle.tapa_base.specs.Gaps.{Bytes}
 use Rattle.vlog_grammar.specs.Grammar.{SpellsDesign, HasTree}
 use Rattle.vlog_lex.specs.declared.lexer.Lexeme.{Lexeme}
 use Rattle.vlog_lex.specs.Scanned.{IsScan, words_at}

@@ -4,7 +4,8 @@ use Rattle.std.proofs.lemmas.List.{append_cancel_left}
 use Rattle.tapa_base.specs.declared.text.Place.{Place}
 use Rattle.tapa_syntax.specs.Characters.{place_of}
 use Rattle.vlog_tree.specs.Spelling.{Word}
-use Rattle.vlog_grammar.specs.Lexemes.{Bytes, Piece, gap, word, Stands, IsWord, piece_bytes, text_of, StandInTurn, words_of}
+use Rattle.tapa_base.specs.Gaps.{Bytes}
+use Rattle.vlog_grammar.specs.Lexemes.{Piece, gap, word, Stands, IsWord, piece_bytes, text_of, StandInTurn, words_of}
 use Rattle.vlog_grammar.specs.Grammar.{SpellsDesign}
 use Rattle.vlog_grammar.proofs.Cuts.{cut, stands_cut}
 use Rattle.vlog_lex.specs.Scanned.{NothingStands}

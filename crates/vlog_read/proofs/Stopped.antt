@@ -7,7 +7,8 @@ use Rattle.tapa_base.specs.declared.text.Place.{Place}
 use Rattle.tapa_syntax.specs.Characters.{place_of}
 use Rattle.vlog_tree.specs.Form.{ModuleTree}
 use Rattle.vlog_tree.specs.Spelling.{Word}
-use Rattle.vlog_grammar.specs.Lexemes.{Bytes, Piece, gap, word, piece_bytes, text_of, StandInTurn, words_of, HasWords}
+use Rattle.tapa_base.specs.Gaps.{Bytes}
+use Rattle.vlog_grammar.specs.Lexemes.{Piece, gap, word, piece_bytes, text_of, StandInTurn, words_of, HasWords}
 use Rattle.vlog_grammar.specs.Grammar.{SpellsDesign}
 use Rattle.vlog_grammar.proofs.Cuts.{cut, stands_cut, no_piece}
 use Rattle.vlog_lex.specs.declared.lexer.Lexeme.{Lexeme}

@@ -7,7 +7,8 @@ use Rattle.vlog_tree.specs.declared.fault.VFault.TheVariants.{V1, V2, V3, V4, V5
 use Rattle.vlog_tree.specs.Form.{ModuleTree}
 use Rattle.vlog_tree.specs.Spelling.{Word}
 use Rattle.vlog_tree.specs.Refused.{Refuses}
-use Rattle.vlog_grammar.specs.Lexemes.{Bytes, Piece, IsWord, text_of, StandInTurn, words_of}
+use Rattle.tapa_base.specs.Gaps.{Bytes}
+use Rattle.vlog_grammar.specs.Lexemes.{Piece, IsWord, text_of, StandInTurn, words_of}
 use Rattle.vlog_grammar.specs.Grammar.{SpellsDesign, HasTree}
 use Rattle.vlog_lex.specs.declared.lexer.Lexeme.{Lexeme}
 use Rattle.vlog_lex.specs.Scanned.{NothingStands}

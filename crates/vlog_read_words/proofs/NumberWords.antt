@@ -11,10 +11,11 @@ use Rattle.vlog_tree.specs.Names.{is_name, has_name_form, starts_name}
 use Rattle.vlog_tree.specs.Spelling.{Word}
 use Rattle.vlog_tree.specs.Clamped.{clamped_atom}
 use Rattle.vlog_grammar.specs.Numerals.{base_of, IsLiteral}
-use Rattle.vlog_grammar.specs.Lexemes.{begins, is_digit_of}
+use Rattle.tapa_base.specs.Gaps.{begins}
+use Rattle.vlog_grammar.specs.Lexemes.{is_digit_of}
 use Rattle.vlog_grammar.proofs.Cuts.{all_digits, digits_begin, digit_no_name}
 use Rattle.vlog_grammar.proofs.OneAtom.{name_begins, digit_begins_no_name}
-use Rattle.vlog_lex.proofs.Runs.{run_passes, run_within, run_is}
+use Rattle.tapa_syntax.proofs.Runs.{run_passes, run_within, run_is}
 use Rattle.vlog_lex.proofs.Pieces.{digits_all}
 use Rattle.vlog_read_words.specs.Numerals.{is_numeral, is_number, sized_atom, based_of, literal_of}
 

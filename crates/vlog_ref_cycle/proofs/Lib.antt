@@ -10,6 +10,5 @@ pub mod Turns
 pub mod Later
 pub mod Copied
 pub mod Listed
-pub mod Named
 pub mod Tokens
 pub mod InRuns

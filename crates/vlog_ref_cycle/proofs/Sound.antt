@@ -23,8 +23,8 @@ use Rattle.vlog_ref_driver.specs.declared.numbers.NetNumber.{NetNumber}
 use Rattle.vlog_ref_driver.specs.declared.numbers.MemoryCells.{MemoryCells}
 use Rattle.vlog_ref_driver.specs.Numbers.{first_net, first_memory, net_in, bits_in, cycle_of, sizes_of, fitting}
 use Rattle.vlog_ref_driver.proofs.Fits.{is_fit}
-use Rattle.vlog_ref_cycle.specs.declared.moment.Held.{Held}
-use Rattle.vlog_ref_cycle.specs.declared.moment.OutsideMemory.{OutsideMemory}
+use Rattle.vlog_ref_driver.specs.declared.moment.Held.{Held}
+use Rattle.vlog_ref_driver.specs.declared.moment.OutsideMemory.{OutsideMemory}
 use Rattle.vlog_ref_cycle.specs.Sources.{RuleTree, SourceTree, same_path, held_at, assigned_in, assigned, connection_out, output_in, output_of, connection_in, joined_in, joined_to, net_read, are_read, has_cells, given_number, same_number, can_drive, memory_of}
 use Rattle.vlog_ref_cycle.specs.Numbers.{by_rule, all_numbers}
 use Rattle.vlog_ref_cycle.specs.Moments.{MemoryIs}

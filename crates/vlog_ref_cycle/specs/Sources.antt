@@ -9,7 +9,6 @@ use Rattle.vlog_tree.specs.declared.tree.Connection.{Connection}
 use Rattle.vlog_tree.specs.declared.tree.Item.{Item}
 use Rattle.vlog_tree.specs.declared.tree.Item.TheVariants.{Wire, Reg, Memory, Assign, Always, Instance}
 use Rattle.vlog_tree.specs.declared.table.Declaration.{Declaration}
-use Rattle.vlog_tree.specs.declared.table.NetKind.{NetKind}
 use Rattle.vlog_tree.specs.Form.{ModuleTree}
 use Rattle.vlog_tree.specs.Table.{Name, declared, port_declared, ports_of, net_kind_of, bits_of, net_kind_is_input, net_kind_is_read}
 use Rattle.vlog_tree.specs.Cycle.{Path, and_then, module_at}
@@ -18,10 +17,11 @@ use Rattle.vlog_tree.specs.Labels.{rst, scalar_of, ack_of, rdata_of, m_addr}
 use Rattle.vlog_tree.specs.Loops.{value_nets}
 use Rattle.vlog_ref_driver.specs.declared.numbers.NetNumber.{NetNumber}
 use Rattle.vlog_ref_driver.specs.declared.numbers.MemoryCells.{MemoryCells}
+use Rattle.vlog_ref_driver.specs.Scopes.{or_else}
 use Rattle.vlog_ref_driver.specs.Numbers.{first_net, first_memory}
-use Rattle.vlog_ref_cycle.specs.declared.moment.Held.{Held}
-use Rattle.vlog_ref_cycle.specs.declared.moment.OutsideMemory.{OutsideMemory}
-use Rattle.vlog_ref_cycle.specs.declared.moment.Moment.{Moment}
+use Rattle.vlog_ref_driver.specs.declared.moment.Held.{Held}
+use Rattle.vlog_ref_driver.specs.declared.moment.OutsideMemory.{OutsideMemory}
+use Rattle.vlog_ref_driver.specs.declared.moment.Moment.{Moment}
 use Rattle.vlog_ref_cycle.specs.declared.sources.Rule.{Rule}
 use Rattle.vlog_ref_cycle.specs.declared.sources.Rule.TheVariants.{Number, Same, Driver, Cells}
 use Rattle.vlog_ref_cycle.specs.declared.sources.Source.{Source}
@@ -32,19 +32,10 @@ same_path [] (y ∷ ys) = false
 same_path (x ∷ xs) [] = false
 same_path (x ∷ xs) (y ∷ ys) = bytes_eq x y && same_path xs ys
 
--- what the first declaration of a name says: its kind and its bits
-abbrev pub found : List Declaration → Name → Option (NetKind × ℕ)
-found [] x = None
-found (d ∷ ds) x = if bytes_eq d.name x then Some (d.net_kind, d.bits) else found ds x
-
 -- what the first instance of a path holds
 abbrev pub held_at : List Held → Path → Option Held
 held_at [] path = None
 held_at (h ∷ hs) path = if same_path h.path.items path then Some h else held_at hs path
-
-abbrev pub or_else : {A : Type 0} → Option A → Option A → Option A
-or_else None others = others
-or_else (Some x) others = Some x
 
 abbrev pub assigned_in : Item → Name → Option Value
 assigned_in (Assign y e) x = if bytes_eq y x then Some e else None

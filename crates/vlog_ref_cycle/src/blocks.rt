@@ -9,11 +9,9 @@ ghost use Rattle.vlog_ref_cycle.specs.Sources.{net_read};
 ghost use Rattle.vlog_ref_cycle.specs.Next.{step_nets, item_nets, put_net, IsStored, ReadsAre, Fits, Shows, IsAlike, step_next, StepLeaves};
 
 use crate::lines::{add_atom, add_net};
-use crate::moment::Held;
-use crate::scope::Scope;
 use std::alloc::{AllocError, Global};
 use tapa_base::Text;
-use vlog_ref_driver::{MemoryCells, NetNumber, number_in, value_of_atom};
+use vlog_ref_driver::{Held, MemoryCells, NetNumber, Scope, number_in, value_of_atom};
 use vlog_tree::{Item, Step};
 
 fn add_step(

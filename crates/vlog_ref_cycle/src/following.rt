@@ -8,13 +8,11 @@ ghost use Rattle.vlog_ref_cycle.specs.Moments.{InRuns, HeldIs, IsAt};
 ghost use Rattle.vlog_ref_cycle.specs.Next.{held_known, outside_known, next_known, stored_cells, IsAfterStore, IsCopy, IsAlike, IsSameMemory, IsKept};
 
 use crate::blocks::{block_reads, run_items};
-use crate::moment::{Circuit, Held, Moment, OutsideMemory};
 use crate::numbers::all_numbers;
 use crate::places::{copy_path, module_at};
-use crate::scope::Scope;
 use crate::streams::top_number;
 use std::alloc::{AllocError, Global};
-use vlog_ref_driver::{MemoryCells, NetNumber};
+use vlog_ref_driver::{Circuit, Held, MemoryCells, Moment, NetNumber, OutsideMemory, Scope};
 use vlog_tree::{ack_name, addr_name, wdata_name, we_name};
 
 fn copy_nets(alloc: Global, nets: &[NetNumber]) -> Result<Vec<NetNumber>, AllocError>

@@ -8,11 +8,10 @@ ghost use Rattle.vlog_ref_driver.specs.declared.numbers.NetNumber.{NetNumber as 
 ghost use Rattle.vlog_ref_driver.specs.Numbers.{first_net};
 ghost use Rattle.vlog_ref_cycle.specs.Sources.{source_tree, memory_of as memory_of_lem, rdata_source, ack_source, scalar_source, input_source as input_source_lem};
 
-use crate::moment::{Moment, OutsideMemory};
 use crate::sources::{Rule, Source, given, one_read};
 use std::alloc::{AllocError, Global};
 use tapa_base::Text;
-use vlog_ref_driver::NetNumber;
+use vlog_ref_driver::{Moment, NetNumber, OutsideMemory};
 use vlog_tree::{ack_of, addr_name, rdata_of, scalar_of};
 
 #[tactic(auto, unfolding(vlog_tree::specs::Labels::rst))]

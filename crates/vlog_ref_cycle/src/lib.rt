@@ -6,14 +6,11 @@ mod blocks;
 mod following;
 mod inputs;
 mod lines;
-mod moment;
 mod numbers;
 mod places;
-mod scope;
 mod sources;
 mod streams;
 
 pub use following::next;
-pub use moment::{Circuit, Held, Moment, OutsideMemory};
 pub use numbers::net_number;
 pub use streams::{carries, is_done};

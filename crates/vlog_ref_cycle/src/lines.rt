@@ -8,10 +8,9 @@ ghost use Rattle.vlog_tree.specs.Loops.{atom_nets, value_nets};
 ghost use Rattle.vlog_ref_cycle.specs.Sources.{assigned_in as assigned_in_lem, output_in as output_in_lem, joined_in as joined_in_lem, assigned as assigned_lem, connection_out as connection_out_lem, output_of as output_of_lem, pair_of, connection_in as connection_in_lem, joined_to as joined_to_lem, net_read, are_read as are_read_lem, has_cells as has_cells_lem};
 
 use crate::places::module_named;
-use crate::scope::{Scope, is_input, is_read};
 use std::alloc::{AllocError, Global};
 use tapa_base::Text;
-use vlog_ref_driver::{MemoryCells, NetNumber, find_memory};
+use vlog_ref_driver::{MemoryCells, NetNumber, Scope, find_memory, is_input, is_read};
 use vlog_tree::{Atom, Connection, Item, Module, Value};
 
 fn assigned_in<'a>(item: &'a Item, x: &Text) -> Option<&'a Value>

@@ -8,11 +8,10 @@ ghost use Rattle.std.specs.Option.{option_map};
 ghost use Rattle.std.specs.declared.alloc.Global.{Global};
 ghost use Rattle.vlog_ref_driver.specs.declared.numbers.NetNumber.{NetNumber};
 
-use crate::moment::{Circuit, Moment};
 use crate::sources::{Rule, source_of};
 use std::alloc::{AllocError, Global};
 use tapa_base::Text;
-use vlog_ref_driver::{NetNumber, value_of};
+use vlog_ref_driver::{Circuit, Moment, NetNumber, value_of};
 
 fn first_of(nets: &[NetNumber]) -> Option<u128>
     ensures { result ≡ first_number nets.now }

@@ -6,9 +6,9 @@ ghost use Rattle.vlog_tree.specs.Cycle.{child_of as child_of_lem, module_at as m
 ghost use Rattle.vlog_tree.specs.Table.{module_named as module_named_lem};
 ghost use Rattle.vlog_ref_cycle.specs.Sources.{same_path as same_path_lem, held_at as held_at_lem};
 
-use crate::moment::Held;
 use std::alloc::{AllocError, Global};
 use tapa_base::Text;
+use vlog_ref_driver::Held;
 use vlog_tree::{Item, Module};
 
 /// The first module of a name.

@@ -7,12 +7,10 @@ ghost use Rattle.vlog_ref_cycle.specs.Sources.{source_tree, given_number, same_n
 
 use crate::inputs::input_source;
 use crate::lines::{are_read, assigned, has_cells, joined_to, output_of, value_reads};
-use crate::moment::{Circuit, Held, Moment};
 use crate::places::{copy_path, held_at, module_at, path_inside};
-use crate::scope::{Scope, is_read};
 use std::alloc::{AllocError, Global};
 use tapa_base::Text;
-use vlog_ref_driver::{MemoryCells, NetNumber, find_net};
+use vlog_ref_driver::{Circuit, Held, MemoryCells, Moment, NetNumber, Scope, find_net, is_read};
 use vlog_tree::{Module, Value};
 
 /// How a number comes from those of some nets.

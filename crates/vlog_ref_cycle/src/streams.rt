@@ -8,10 +8,10 @@ ghost use Rattle.vlog_tree.specs.Environment.{carried, tokens, token_of as token
 ghost use Rattle.vlog_ref_cycle.specs.Moments.{InRuns, stream_known};
 ghost use Rattle.vlog_ref_cycle.specs.Numbers.{number_at};
 
-use crate::moment::{Circuit, Moment};
 use crate::numbers::net_number;
 use std::alloc::{AllocError, Global};
 use tapa_base::{Port, Text, Token};
+use vlog_ref_driver::{Circuit, Moment};
 use vlog_tree::{rdy_name, wr_name};
 
 /// The number of a net of the top.

@@ -1,3 +1,4 @@
 pub mod Cuts
 pub mod Fits
 pub mod Joins
+pub mod Named

@@ -7,7 +7,7 @@ use Rattle.vlog_tree.specs.Cycle.{Path, and_then}
 use Rattle.vlog_tree.specs.Table.{Name}
 use Rattle.vlog_tree.specs.Flattened.{FlatNet}
 use Rattle.vlog_ref_driver.specs.declared.numbers.NetNumber.{NetNumber}
-use Rattle.vlog_ref_cycle.specs.declared.moment.Moment.{Moment}
+use Rattle.vlog_ref_driver.specs.declared.moment.Moment.{Moment}
 use Rattle.vlog_ref_cycle.specs.Sources.{RuleTree, SourceTree, given_number, same_number, source_of}
 use Rattle.vlog_ref_cycle.specs.Numbers.{by_rule, all_numbers, net_within}
 use Rattle.vlog_ref_cycle.proofs.Gathered.{numbered}

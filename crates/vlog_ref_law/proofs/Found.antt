@@ -36,8 +36,8 @@ use Rattle.vlog_law_widths.proofs.Fitting.{run_fits}
 use Rattle.vlog_ref_driver.specs.declared.numbers.NetNumber.{NetNumber}
 use Rattle.vlog_ref_driver.specs.Numbers.{first_net, cycle_of, sizes_of, fitting}
 use Rattle.vlog_ref_driver.proofs.Fits.{fits}
-use Rattle.vlog_ref_cycle.specs.declared.moment.Held.{Held}
-use Rattle.vlog_ref_cycle.specs.declared.moment.Moment.{Moment}
+use Rattle.vlog_ref_driver.specs.declared.moment.Held.{Held}
+use Rattle.vlog_ref_driver.specs.declared.moment.Moment.{Moment}
 use Rattle.vlog_ref_cycle.specs.Sources.{RuleTree, SourceTree, held_at, assigned, output_of, joined_to, net_read, has_cells, given_number, same_number, outer_source, output_source, line_source, register_source, source_of}
 use Rattle.vlog_ref_cycle.specs.Numbers.{by_rule, net_within}
 use Rattle.vlog_ref_cycle.specs.Moments.{MemoryIs, HeldIs, IsAt}

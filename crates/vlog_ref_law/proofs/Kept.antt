@@ -8,9 +8,9 @@ use Rattle.vlog_tree.specs.Table.{Name}
 use Rattle.vlog_ref_driver.specs.declared.numbers.NetNumber.{NetNumber}
 use Rattle.vlog_ref_driver.specs.declared.numbers.MemoryCells.{MemoryCells}
 use Rattle.vlog_ref_driver.specs.Numbers.{first_net, first_memory}
-use Rattle.vlog_ref_cycle.specs.declared.moment.Held.{Held}
-use Rattle.vlog_ref_cycle.specs.declared.moment.OutsideMemory.{OutsideMemory}
-use Rattle.vlog_ref_cycle.specs.declared.moment.Moment.{Moment}
+use Rattle.vlog_ref_driver.specs.declared.moment.Held.{Held}
+use Rattle.vlog_ref_driver.specs.declared.moment.OutsideMemory.{OutsideMemory}
+use Rattle.vlog_ref_driver.specs.declared.moment.Moment.{Moment}
 use Rattle.vlog_ref_cycle.specs.Sources.{same_path, held_at, memory_of}
 use Rattle.vlog_ref_cycle.specs.Next.{net_shape, memory_shape, IsAlike, IsSameMemory, IsKept}
 use Rattle.vlog_ref_cycle.proofs.Options.{cons_same}

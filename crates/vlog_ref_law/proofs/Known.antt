@@ -13,10 +13,10 @@ use Rattle.vlog_tree.specs.Labels.{m_ack, m_we, m_addr, m_wdata}
 use Rattle.vlog_tree.proofs.Lists.{of_map}
 use Rattle.vlog_law_runs.proofs.Settled.{module_in, top_tree, IsTopTree}
 use Rattle.vlog_ref_driver.specs.declared.numbers.NetNumber.{NetNumber}
-use Rattle.vlog_ref_cycle.specs.declared.moment.Circuit.{Circuit}
-use Rattle.vlog_ref_cycle.specs.declared.moment.Held.{Held}
-use Rattle.vlog_ref_cycle.specs.declared.moment.OutsideMemory.{OutsideMemory}
-use Rattle.vlog_ref_cycle.specs.declared.moment.Moment.{Moment}
+use Rattle.vlog_ref_driver.specs.declared.moment.Circuit.{Circuit}
+use Rattle.vlog_ref_driver.specs.declared.moment.Held.{Held}
+use Rattle.vlog_ref_driver.specs.declared.moment.OutsideMemory.{OutsideMemory}
+use Rattle.vlog_ref_driver.specs.declared.moment.Moment.{Moment}
 use Rattle.vlog_ref_cycle.specs.Sources.{net_read}
 use Rattle.vlog_ref_cycle.specs.Numbers.{all_numbers, number_at}
 use Rattle.vlog_ref_cycle.specs.Moments.{IsAt}

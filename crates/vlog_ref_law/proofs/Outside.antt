@@ -24,8 +24,8 @@ use Rattle.vlog_law_runs.proofs.Ports.{fits, named_port, rdata_input, input_has_
 use Rattle.vlog_law_runs.proofs.Labelled.{rdata_label, ack_of_label}
 use Rattle.vlog_ref_driver.specs.declared.numbers.NetNumber.{NetNumber}
 use Rattle.vlog_ref_driver.specs.Numbers.{first_net}
-use Rattle.vlog_ref_cycle.specs.declared.moment.OutsideMemory.{OutsideMemory}
-use Rattle.vlog_ref_cycle.specs.declared.moment.Moment.{Moment}
+use Rattle.vlog_ref_driver.specs.declared.moment.OutsideMemory.{OutsideMemory}
+use Rattle.vlog_ref_driver.specs.declared.moment.Moment.{Moment}
 use Rattle.vlog_ref_cycle.specs.Sources.{RuleTree, SourceTree, given_number, memory_of, rdata_source, ack_source, scalar_source, input_source}
 use Rattle.vlog_ref_law.specs.Whole.{IsWhole}
 use Rattle.vlog_ref_law.proofs.Searched.{some_of}

@@ -15,7 +15,8 @@ use Rattle.vlog_tree.specs.Table.{Name, port_declared, ports_of, net_kind_of, ne
 use Rattle.vlog_law_runs.proofs.Sound.{both_true, no_is, true_not_false}
 use Rattle.vlog_law_runs.proofs.Alone.{same_name, count_cons}
 use Rattle.vlog_law_runs.proofs.Drivers.{IsDrivenBy}
-use Rattle.vlog_ref_cycle.specs.Sources.{or_else, assigned_in, assigned, connection_out, output_in, output_of, connection_in, joined_in, joined_to}
+use Rattle.vlog_ref_driver.specs.Scopes.{or_else}
+use Rattle.vlog_ref_cycle.specs.Sources.{assigned_in, assigned, connection_out, output_in, output_of, connection_in, joined_in, joined_to}
 use Rattle.vlog_ref_cycle.proofs.Options.{map_some, either_some}
 
 pub some_of : {A : Type 0} (o : Option A) → is_some o ≡ true → (x : A) × (o ≡ Some x)

@@ -6,8 +6,8 @@ use Rattle.vlog_tree.specs.Cycle.{Cycle, Path}
 use Rattle.vlog_tree.specs.Environment.{Environment, FitsShape, shape_of}
 use Rattle.vlog_law_runs.specs.OneRun.{IsRunFrom}
 use Rattle.vlog_law_runs.specs.Filled.{IsFilled}
-use Rattle.vlog_ref_cycle.specs.declared.moment.Circuit.{Circuit}
-use Rattle.vlog_ref_cycle.specs.declared.moment.Moment.{Moment}
+use Rattle.vlog_ref_driver.specs.declared.moment.Circuit.{Circuit}
+use Rattle.vlog_ref_driver.specs.declared.moment.Moment.{Moment}
 use Rattle.vlog_ref_cycle.specs.Moments.{IsAt, run_at}
 use Rattle.vlog_ref_law.specs.Whole.{IsWhole, HasNoMore}
 use Rattle.vlog_ref_law.proofs.Deeper.{deeper}

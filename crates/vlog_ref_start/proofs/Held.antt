@@ -16,7 +16,7 @@ use Rattle.vlog_law_runs.proofs.Sizes.{all_at, all_from}
 use Rattle.vlog_ref_driver.specs.declared.numbers.NetNumber.{NetNumber}
 use Rattle.vlog_ref_driver.specs.declared.numbers.MemoryCells.{MemoryCells}
 use Rattle.vlog_ref_driver.specs.Numbers.{first_net, first_memory}
-use Rattle.vlog_ref_cycle.specs.declared.moment.Held.{Held}
+use Rattle.vlog_ref_driver.specs.declared.moment.Held.{Held}
 use Rattle.vlog_ref_cycle.specs.Moments.{RegisterIs, MemoryIs, HeldIs}
 use Rattle.vlog_ref_law.specs.Whole.{HoldsAll}
 use Rattle.vlog_ref_start.specs.Instances.{PlaceTree}

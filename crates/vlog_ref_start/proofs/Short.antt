@@ -9,41 +9,11 @@ use Rattle.vlog_tree.specs.Table.{Name}
 use Rattle.vlog_tree.specs.Loops.{item_instances, containment, Reaches, one, own_places, IsLoopless}
 use Rattle.vlog_tree.specs.declared.tree.Item.TheVariants.{Instance}
 use Rattle.vlog_tree.proofs.Lists.{has_flat, has_map, of_map, chains}
+use Rattle.vlog_law_runs.proofs.Ending.{Distinct, no_more}
 use Rattle.vlog_law_runs.proofs.Alone.{module_is, IsNamed}
 use Rattle.vlog_law_runs.proofs.Module.{contains}
 use Rattle.vlog_law_runs.proofs.Settled.{module_in}
 use Rattle.vlog_law_runs.proofs.Solved.{child_item, Around, module_around}
-
-abbrev Distinct : {N : Type 0} → List N → Type 0
-Distinct [] = Unit {0}
-Distinct (x ∷ xs) = (Has xs x → ⊥) × Distinct xs
-
--- a list without one of its members
-abbrev without : {N : Type 0} (v : List N) (x : N) → Has v x → List N
-without [] x h = []
-without (y ∷ ys) x (inl e) = ys
-without (y ∷ ys) x (inr h) = y ∷ without ys x h
-
-without_length : {N : Type 0} (v : List N) (x : N) (h : Has v x) → suc (length (without v x h)) ≡ length v
-without_length [] x h = absurd h
-without_length (y ∷ ys) x (inl e) = refl
-without_length (y ∷ ys) x (inr h) = ap suc (without_length ys x h)
-
-others_stay : {N : Type 0} (v : List N) (x : N) (h : Has v x) (y : N) → (x ≡ y → ⊥) → Has v y → Has (without v x h) y
-others_stay [] x h y ne k = absurd h
-others_stay (z ∷ zs) x (inl e) y ne (inl f) = absurd (ne (sym e ∙ f))
-others_stay (z ∷ zs) x (inl e) y ne (inr k) = k
-others_stay (z ∷ zs) x (inr h) y ne (inl f) = inl f
-others_stay (z ∷ zs) x (inr h) y ne (inr k) = inr (others_stay zs x h y ne k)
-
--- distinct members of a list are no more than the list has
-no_more : {N : Type 0} (xs v : List N) → Distinct xs → ((x : N) → Has xs x → Has v x) → length xs ≤ length v
-no_more [] v d f = omega arith
-no_more (x ∷ xs) v d f =
-    let h = f x (inl refl) in
-    let rest : length xs ≤ length (without v x h) = no_more xs (without v x h) d.1 (λ y k. others_stay v x h y (λ e. d.0 (subst (λ z. Has xs z) (sym e) k)) (f y (inr k))) in
-    let same : suc (length (without v x h)) ≡ length v = without_length v x h in
-    omega arith
 
 abbrev name_in : Option ModuleTree → Name
 name_in None = []

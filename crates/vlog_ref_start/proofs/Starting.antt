@@ -14,9 +14,9 @@ use Rattle.vlog_law_runs.specs.Filled.{IsFilled}
 use Rattle.vlog_law_runs.proofs.Sizes.{all_from}
 use Rattle.vlog_law_runs.proofs.Settled.{IsTopTree, top_tree}
 use Rattle.vlog_ref_driver.specs.Numbers.{first_net}
-use Rattle.vlog_ref_cycle.specs.declared.moment.Held.{Held}
-use Rattle.vlog_ref_cycle.specs.declared.moment.OutsideMemory.{OutsideMemory}
-use Rattle.vlog_ref_cycle.specs.declared.moment.Moment.{Moment}
+use Rattle.vlog_ref_driver.specs.declared.moment.Held.{Held}
+use Rattle.vlog_ref_driver.specs.declared.moment.OutsideMemory.{OutsideMemory}
+use Rattle.vlog_ref_driver.specs.declared.moment.Moment.{Moment}
 use Rattle.vlog_ref_cycle.specs.Sources.{held_at, memory_of}
 use Rattle.vlog_ref_cycle.specs.Moments.{HeldIs, ScalarIs, OutsideIs, IsAt}
 use Rattle.vlog_ref_cycle.proofs.Sound.{held_found}

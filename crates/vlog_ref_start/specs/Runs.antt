@@ -7,8 +7,8 @@ use Rattle.vlog_tree.specs.Cycle.{Cycle, Path, module_at}
 use Rattle.vlog_tree.specs.Environment.{Environment, FitsShape, shape_of}
 use Rattle.vlog_law_runs.specs.OneRun.{IsRunFrom}
 use Rattle.vlog_law_runs.specs.Filled.{IsFilled}
-use Rattle.vlog_ref_cycle.specs.declared.moment.Circuit.{Circuit}
-use Rattle.vlog_ref_cycle.specs.declared.moment.Moment.{Moment}
+use Rattle.vlog_ref_driver.specs.declared.moment.Circuit.{Circuit}
+use Rattle.vlog_ref_driver.specs.declared.moment.Moment.{Moment}
 use Rattle.vlog_ref_cycle.specs.Numbers.{net_within}
 use Rattle.vlog_ref_cycle.specs.Moments.{InRuns, IsAt}
 use Rattle.vlog_ref_cycle.specs.Next.{IsKept, next_known}

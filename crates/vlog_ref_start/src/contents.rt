@@ -8,8 +8,7 @@ ghost use Rattle.vlog_ref_start.specs.Contents.{memory_tree, held_tree, filled_n
 use crate::instances::{Place, level_below};
 use std::alloc::{AllocError, Global};
 use tapa_base::Text;
-use vlog_ref_cycle::Held;
-use vlog_ref_driver::{MemoryCells, NetNumber};
+use vlog_ref_driver::{Held, MemoryCells, NetNumber};
 use vlog_tree::{Item, Module};
 
 #[tactic(auto, using(vlog_ref_driver::proofs::Cuts::all_in))]

@@ -32,6 +32,7 @@ fn is_driven(net_kind: NetKind) -> bool
     )
 }
 
+/// Whether a name is that of the clock, `clk`.
 #[tactic(auto, using(vlog_tree::proofs::Walks::passes, vlog_tree::proofs::Walks::tells), unfolding(vlog_tree::specs::Table::clk))]
 pub fn is_clock(name: &Text) -> bool
     ensures { result ≡ is_clk name.now }

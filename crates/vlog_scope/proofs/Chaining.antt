@@ -1,12 +1,12 @@
 -- Chains of places, and the first place of a name.
-use Rattle.std.proofs.Common.{◌≡◌, ℕ, zero, suc, ◌+◌, ◌-◌, ◌<◌, ◌≤◌, Bool, true, false, cond, List, [], ◌∷◌, length, get_or, drop, Option, Some, None, inl, inr, refl, sym, ap, subst, ◌∙◌, map, arith, replicate, ◌++◌, min}
+use Rattle.std.proofs.Common.{◌≡◌, ℕ, zero, suc, ◌+◌, ◌-◌, ◌<◌, ◌≤◌, Bool, true, false, cond, List, [], ◌∷◌, length, get_or, drop, Option, Some, None, inl, inr, refl, sym, ap, subst, ◌∙◌, map, arith, replicate}
 use Rattle.std.specs.Prelude.{◌⊎◌, bytes_eq, is_some, unwrap_or, slice_set}
 use Rattle.std.specs.Cmp.Lexicographic.{bytes_decides}
 use Rattle.std.proofs.Math.Seq.{drop-cons}
 use Rattle.std.proofs.lemmas.Bool.{cases_eq, cases_lt}
 use Rattle.std.proofs.lemmas.List.{get_or-set_same, get_or-set_other, get_or-replicate, length-replicate, length-set}
 use Rattle.vlog_tree.specs.declared.table.Declaration.{Declaration}
-use Rattle.vlog_tree.specs.Table.{Name, unknown, declaration_name, times_in}
+use Rattle.vlog_tree.specs.Table.{Name, unknown, declaration_name}
 use Rattle.vlog_tree.proofs.Walks.{over}
 use Rattle.vlog_scope.specs.NameTable.{places_from}
 use Rattle.vlog_scope.specs.Chains.{chain_of, name_at, IsChained}
@@ -20,9 +20,6 @@ opened ds x p low = ap (λ (l : List Declaration). places_from p (map declaratio
 
 ended : (ds : List Declaration) (x : Name) (p : ℕ) → length ds ≤ p → from_place ds x p ≡ None
 ended ds x p high = ap (λ (l : List Declaration). places_from p (map declaration_name l) x) (over ds p high)
-
-pub none_from : (ds : List Declaration) (x : Name) (p : ℕ) → length ds ≤ p → from_place ds x p ≡ None
-none_from ds x p high = ended ds x p high
 
 -- a place that has the name is the first from itself on
 pub some_at : (ds : List Declaration) (x : Name) (p : ℕ) → p < length ds → name_at ds p ≡ x → from_place ds x p ≡ Some (p, is_some (from_place ds x (suc p)))

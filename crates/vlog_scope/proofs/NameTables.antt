@@ -1,13 +1,10 @@
 -- A map from names after one more name was put in.
-use Rattle.std.proofs.Common.{◌≡◌, ℕ, suc, ◌<◌, Bool, true, false, cond, List, ◌∷◌, length, get_or, drop, map, Option, refl, sym, ap, subst, ◌∙◌, Vec}
-use Rattle.std.specs.Prelude.{bytes_eq, Some, is_some, unwrap_or}
-use Rattle.std.proofs.Math.Seq.{drop-cons}
+use Rattle.std.proofs.Common.{◌≡◌, ℕ, Bool, true, false, cond, List, map, Option, refl, sym, ap, subst, ◌∙◌, Vec}
+use Rattle.std.specs.Prelude.{bytes_eq, Some, unwrap_or}
 use Rattle.std.specs.HashMap.{HashMap, UpdatesBy}
 use Rattle.std.specs.Map.{lookup, IsKeyTest, AreApart, KeepsOthers}
 use Rattle.std.specs.Cmp.Lexicographic.{bytes_decides, nat_list_eq_equiv}
-use Rattle.vlog_tree.specs.declared.table.Declaration.{Declaration}
-use Rattle.vlog_tree.specs.Table.{declaration_name}
-use Rattle.vlog_scope.specs.NameTable.{Places, value_in, count_in, with_name, places_from}
+use Rattle.vlog_scope.specs.NameTable.{value_in, count_in}
 
 apart : (bs cs ks : List ℕ) → bytes_eq bs cs ≡ false → bytes_eq bs ks ≡ true → bytes_eq cs ks ≡ false
 apart bs cs ks n y = nat_list_eq_equiv.symm cs ks ∙ sym (nat_list_eq_equiv.congr bs ks cs y) ∙ n
@@ -36,14 +33,3 @@ pub counted : {A S : Type 0} (key : Vec ℕ A) (m n : HashMap (Vec ℕ A) ℕ S)
     → UpdatesBy (λ x y. bytes_eq x.items y.items) (λ k. bytes_eq key.items k.items) m n (Some w)
     → (cs : List ℕ) → count_in n cs ≡ cond (bytes_eq key.items cs) w (count_in m cs)
 counted key m n w h cs = ap (λ o. unwrap_or o 0) (updated key m n (Some w) h cs) ∙ unwrap_cond (bytes_eq key.items cs) w (value_in m cs)
-
--- the places of a list with one more name in front
-pub places_more : (ds : List Declaration) (i : ℕ) (d : Declaration) (old new : Places) → i < length ds → d ≡ get_or ds i d
-    → ((x : List ℕ) → old x ≡ places_from (suc i) (map declaration_name (drop (suc i) ds)) x)
-    → ((x : List ℕ) → new x ≡ with_name d.name i old x)
-    → (x : List ℕ) → new x ≡ places_from i (map declaration_name (drop i ds)) x
-places_more ds i d old new low is before step x =
-    step x
-    ∙ ap (λ b. cond (bytes_eq d.name x) (Some (i, b)) (old x)) (ap is_some (before d.name))
-    ∙ ap (λ o. cond (bytes_eq d.name x) (Some (i, is_some (places_from (suc i) (map declaration_name (drop (suc i) ds)) d.name))) o) (before x)
-    ∙ ap (λ (l : List Declaration). places_from i (map declaration_name l) x) (sym (drop-cons ds i d low ∙ ap (λ (y : Declaration). y ∷ drop (suc i) ds) (sym is)))

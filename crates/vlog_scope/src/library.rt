@@ -71,6 +71,7 @@ fn scope_at(scopes: &[Scope], place: usize) -> &Scope
 }
 
 impl Library {
+    /// These modules, with a table of their names. Want of memory is the only error.
     pub fn of(alloc: Global, modules: Vec<Module>) -> Result<Library, AllocError>
         ensures { IfOk result (λ l. l ≡ modules.items) }
     {
@@ -89,6 +90,7 @@ impl Library {
         })
     }
 
+    /// The modules, in the order of the text.
     pub fn modules(&self) -> &[Module]
         ensures value { result.now ≡ self.now }
         ensures form { AllByRecursion IsModule self.now }
@@ -141,6 +143,7 @@ impl Library {
         }
     }
 
+    /// Whether a module has this name.
     pub fn is_module(&self, name: &Text) -> bool
         ensures { result ≡ is_module_name self.now name.now }
     {

@@ -50,6 +50,7 @@ pub fn add_before(
 /// How often each of some names was counted, where twice and more are one.
 pub type NameCounts = HashMap<Vec<u8>, usize>;
 
+/// How often a name was counted, at most 2.
 pub fn count_of(counts: &NameCounts, name: &[u8]) -> usize
     ensures { result ≡ count_in counts.now name.now }
 {
@@ -70,6 +71,7 @@ pub fn count_one(alloc: Global, counts: &mut NameCounts, name: &[u8]) -> Result<
 /// From names to numbers of bits.
 pub type NameBits = HashMap<Vec<u8>, u32>;
 
+/// The number of bits that stands with a name, if one does.
 pub fn bits_of_name(table: &NameBits, name: &[u8]) -> Option<u32>
     ensures { result ≡ value_in table.now name.now }
 {

@@ -183,6 +183,7 @@ impl Scope {
         Scope::of(alloc, declarations)
     }
 
+    /// The declarations, in the order of the text.
     pub fn declarations(&self) -> &[Declaration]
         ensures { result.now ≡ self.now }
     {
@@ -261,6 +262,7 @@ impl Scope {
         }
     }
 
+    /// Whether a name is declared twice or more.
     pub fn is_doubled(&self, name: &Text) -> bool
         ensures { result ≡ is_doubled_name self.now name.now }
     {

@@ -6,7 +6,8 @@ use crate::shown::{
 use std::alloc::{AllocError, Global};
 use tapa_base::Text;
 use vlog_design::Design;
-use vlog_ref_cycle::{Circuit, Moment, carries, is_done, net_number, next};
+use vlog_ref_cycle::{carries, is_done, net_number, next};
+use vlog_ref_driver::{Circuit, Moment};
 use vlog_ref_start::{Surroundings, first_moment};
 
 /// A net of an instance, with the names of the instances on the way to it, the innermost first, and its numbers so far.

@@ -29,6 +29,7 @@ impl Model for Module {
 }
 
 impl Module {
+    /// A module of the subset, of parts that are in its form.
     pub fn of(name: Text, ports: Vec<PortDecl>, items: Vec<Item>) -> Module
         requires { IsModule (record { name = name; ports = ports.items; items = items.items }) }
         ensures { result ≡ record { name = name; ports = ports.items; items = items.items } }
@@ -54,18 +55,21 @@ impl Module {
         }
     }
 
+    /// Its name.
     pub fn name(&self) -> &Text
         ensures { result.now ≡ self.now.name }
     {
         &self.name
     }
 
+    /// Its ports, in their order.
     pub fn ports(&self) -> &[PortDecl]
         ensures { result.now ≡ self.now.ports }
     {
         &self.ports
     }
 
+    /// Its items, in their order.
     pub fn items(&self) -> &[Item]
         ensures value { result.now ≡ self.now.items }
         ensures form { IsModule self.now }

@@ -172,6 +172,7 @@ ghost use Rattle.std.specs.Prelude.{◌≡◌};
 ghost use Rattle.vlog_tree.specs.Form.{is_input as is_input_lem};
 
 impl PortDecl {
+    /// Whether it is an input.
     pub fn is_input(&self) -> bool
         ensures { result ≡ is_input_lem self.now.direction }
     {
@@ -180,12 +181,14 @@ impl PortDecl {
 }
 
 impl Atoms {
+    /// These atoms.
     pub fn of(atoms: Vec<Atom>) -> Atoms
         ensures { result ≡ atoms.items }
     {
         Atoms { atoms }
     }
 
+    /// The atoms, the first before the next.
     pub fn atoms(&self) -> &[Atom]
         ensures { result.now ≡ self.now }
     {
@@ -194,12 +197,14 @@ impl Atoms {
 }
 
 impl Block {
+    /// A block of these steps.
     pub fn of(steps: Vec<Step>) -> Block
         ensures { result ≡ steps.items }
     {
         Block { steps }
     }
 
+    /// The steps, in the order of the text.
     pub fn steps(&self) -> &[Step]
         ensures { result.now ≡ self.now }
     {
@@ -208,12 +213,14 @@ impl Block {
 }
 
 impl Connections {
+    /// These connections.
     pub fn of(connections: Vec<Connection>) -> Connections
         ensures { result ≡ connections.items }
     {
         Connections { connections }
     }
 
+    /// The connections, in the order of the text.
     pub fn connections(&self) -> &[Connection]
         ensures { result.now ≡ self.now }
     {

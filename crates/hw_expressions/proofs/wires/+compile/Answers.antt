@@ -49,55 +49,55 @@ returns-in_ok-operand-in-Not t c =
 
 pub returns-in_ok-b-in-Apply : goal.returns-in_ok-b-in-Apply
 returns-in_ok-b-in-Apply t c =
-    let is : expression_of c.args.e.now ≡ Applied c.in-Apply.op c.in-Apply.own (expression_of c.deref-in-Apply.result.now) (expression_of c.deref-in-Apply-3.result.now) = cc (ap expression_of c.in-Apply.is, c.deref-in-Apply.ensures, c.deref-in-Apply-3.ensures) in
-    let reads : c.in_ok-after-in-Apply.after ≡ c.args.m + read_count (expression_of c.deref-in-Apply.result.now) = cc (c.in_ok-after-in-Apply.ensures, c.in_ok-read_count-in-Apply.ensures, c.deref-in-Apply.ensures, c.deref-in-Apply-2.ensures) in
-    let start : c.in_ok-second-in-Apply.second ≡ c.args.first + (compiled c.args.front.now c.args.m c.args.first c.in-Apply.own (expression_of c.deref-in-Apply.result.now)).count = c.in_ok-second-in-Apply.ensures ∙ ap (λ i. c.args.first + i) c.in_ok-a-in-Apply.ensures.count in
+    let is : expression_of c.args.e.now ≡ Applied c.in-Apply.op c.in-Apply.own (expression_of c.deref-in-Apply-2.result.now) (expression_of c.deref-in-Apply-3.result.now) = cc (ap expression_of c.in-Apply.is, c.deref-in-Apply-2.ensures, c.deref-in-Apply-3.ensures) in
+    let reads : c.in_ok-after-in-Apply.after ≡ c.args.m + read_count (expression_of c.deref-in-Apply-2.result.now) = cc (c.in_ok-after-in-Apply.ensures, c.in_ok-read_count-in-Apply.ensures, c.deref-in-Apply-2.ensures, c.deref-in-Apply.ensures) in
+    let start : c.in_ok-second-in-Apply.second ≡ c.args.first + (compiled c.args.front.now c.args.m c.args.first c.in-Apply.own (expression_of c.deref-in-Apply-2.result.now)).count = c.in_ok-second-in-Apply.ensures ∙ ap (λ i. c.args.first + i) c.in_ok-a-in-Apply.ensures.count in
     let none : fixed (expression_of c.args.e.now) ≡ None = sym c.fixed.ensures ∙ is_none_of c.fixed.result c.in_default.not-Some in
     IfOk-weaker c.applied.result _ _
     (λ r h.
-    compound c.args.draft.now _ r c.args.front.now c.args.m c.args.first c.args.kind (expression_of c.args.e.now) (Applied c.in-Apply.op c.in-Apply.own (expression_of c.deref-in-Apply.result.now) (expression_of c.deref-in-Apply-3.result.now)) _ is none refl
-    (h c.args.draft.now _ (compiled c.args.front.now c.args.m c.args.first c.in-Apply.own (expression_of c.deref-in-Apply.result.now)) (compiled c.args.front.now (c.args.m + read_count (expression_of c.deref-in-Apply.result.now)) (c.args.first + (compiled c.args.front.now c.args.m c.args.first c.in-Apply.own (expression_of c.deref-in-Apply.result.now)).count) (right_kind c.in-Apply.op c.in-Apply.own) (expression_of c.deref-in-Apply-3.result.now)) c.in_ok-a-in-Apply.ensures
+    compound c.args.draft.now _ r c.args.front.now c.args.m c.args.first c.args.kind (expression_of c.args.e.now) (Applied c.in-Apply.op c.in-Apply.own (expression_of c.deref-in-Apply-2.result.now) (expression_of c.deref-in-Apply-3.result.now)) _ is none refl
+    (h c.args.draft.now _ (compiled c.args.front.now c.args.m c.args.first c.in-Apply.own (expression_of c.deref-in-Apply-2.result.now)) (compiled c.args.front.now (c.args.m + read_count (expression_of c.deref-in-Apply-2.result.now)) (c.args.first + (compiled c.args.front.now c.args.m c.args.first c.in-Apply.own (expression_of c.deref-in-Apply-2.result.now)).count) (right_kind c.in-Apply.op c.in-Apply.own) (expression_of c.deref-in-Apply-3.result.now)) c.in_ok-a-in-Apply.ensures
     (same_start _ _ c.in_ok-b-in-Apply.b c.args.front.now c.right_kind-count.result ((right_kind c.in-Apply.op c.in-Apply.own)) (expression_of c.deref-in-Apply-3.result.now) _ _ _ _ c.right_kind-count.ensures reads start c.in_ok-b-in-Apply.ensures)))
     c.applied.ensures
 
 pub returns-in_ok-b-in-And : goal.returns-in_ok-b-in-And
 returns-in_ok-b-in-And t c =
-    let is : expression_of c.args.e.now ≡ Both (expression_of c.deref-in-And.result.now) (expression_of c.deref-in-And-3.result.now) = cc (ap expression_of c.in-And.is, c.deref-in-And.ensures, c.deref-in-And-3.ensures) in
-    let reads : c.in_ok-after-in-And.after ≡ c.args.m + read_count (expression_of c.deref-in-And.result.now) = cc (c.in_ok-after-in-And.ensures, c.in_ok-read_count-in-And.ensures, c.deref-in-And.ensures, c.deref-in-And-2.ensures) in
-    let start : c.in_ok-second-in-And.second ≡ c.args.first + (compiled c.args.front.now c.args.m c.args.first Bool (expression_of c.deref-in-And.result.now)).count = c.in_ok-second-in-And.ensures ∙ ap (λ i. c.args.first + i) c.in_ok-a-in-And.ensures.count in
+    let is : expression_of c.args.e.now ≡ Both (expression_of c.deref-in-And-2.result.now) (expression_of c.deref-in-And-3.result.now) = cc (ap expression_of c.in-And.is, c.deref-in-And-2.ensures, c.deref-in-And-3.ensures) in
+    let reads : c.in_ok-after-in-And.after ≡ c.args.m + read_count (expression_of c.deref-in-And-2.result.now) = cc (c.in_ok-after-in-And.ensures, c.in_ok-read_count-in-And.ensures, c.deref-in-And-2.ensures, c.deref-in-And.ensures) in
+    let start : c.in_ok-second-in-And.second ≡ c.args.first + (compiled c.args.front.now c.args.m c.args.first Bool (expression_of c.deref-in-And-2.result.now)).count = c.in_ok-second-in-And.ensures ∙ ap (λ i. c.args.first + i) c.in_ok-a-in-And.ensures.count in
     let none : fixed (expression_of c.args.e.now) ≡ None = sym c.fixed.ensures ∙ is_none_of c.fixed.result c.in_default.not-Some in
     IfOk-weaker c.joined.result _ _
     (λ r h.
-    compound c.args.draft.now _ r c.args.front.now c.args.m c.args.first c.args.kind (expression_of c.args.e.now) (Both (expression_of c.deref-in-And.result.now) (expression_of c.deref-in-And-3.result.now)) _ is none refl
-    (h c.args.draft.now _ (compiled c.args.front.now c.args.m c.args.first Bool (expression_of c.deref-in-And.result.now)) (compiled c.args.front.now (c.args.m + read_count (expression_of c.deref-in-And.result.now)) (c.args.first + (compiled c.args.front.now c.args.m c.args.first Bool (expression_of c.deref-in-And.result.now)).count) Bool (expression_of c.deref-in-And-3.result.now)) c.in_ok-a-in-And.ensures
+    compound c.args.draft.now _ r c.args.front.now c.args.m c.args.first c.args.kind (expression_of c.args.e.now) (Both (expression_of c.deref-in-And-2.result.now) (expression_of c.deref-in-And-3.result.now)) _ is none refl
+    (h c.args.draft.now _ (compiled c.args.front.now c.args.m c.args.first Bool (expression_of c.deref-in-And-2.result.now)) (compiled c.args.front.now (c.args.m + read_count (expression_of c.deref-in-And-2.result.now)) (c.args.first + (compiled c.args.front.now c.args.m c.args.first Bool (expression_of c.deref-in-And-2.result.now)).count) Bool (expression_of c.deref-in-And-3.result.now)) c.in_ok-a-in-And.ensures
     (same_start _ _ c.in_ok-b-in-And.b c.args.front.now Bool (Bool) (expression_of c.deref-in-And-3.result.now) _ _ _ _ refl reads start c.in_ok-b-in-And.ensures)))
     c.joined.ensures
 
 pub returns-in_ok-b-in-Or : goal.returns-in_ok-b-in-Or
 returns-in_ok-b-in-Or t c =
-    let is : expression_of c.args.e.now ≡ Either (expression_of c.deref-in-Or.result.now) (expression_of c.deref-in-Or-3.result.now) = cc (ap expression_of c.in-Or.is, c.deref-in-Or.ensures, c.deref-in-Or-3.ensures) in
-    let reads : c.in_ok-after-in-Or.after ≡ c.args.m + read_count (expression_of c.deref-in-Or.result.now) = cc (c.in_ok-after-in-Or.ensures, c.in_ok-read_count-in-Or.ensures, c.deref-in-Or.ensures, c.deref-in-Or-2.ensures) in
-    let start : c.in_ok-second-in-Or.second ≡ c.args.first + (compiled c.args.front.now c.args.m c.args.first Bool (expression_of c.deref-in-Or.result.now)).count = c.in_ok-second-in-Or.ensures ∙ ap (λ i. c.args.first + i) c.in_ok-a-in-Or.ensures.count in
+    let is : expression_of c.args.e.now ≡ Either (expression_of c.deref-in-Or-2.result.now) (expression_of c.deref-in-Or-3.result.now) = cc (ap expression_of c.in-Or.is, c.deref-in-Or-2.ensures, c.deref-in-Or-3.ensures) in
+    let reads : c.in_ok-after-in-Or.after ≡ c.args.m + read_count (expression_of c.deref-in-Or-2.result.now) = cc (c.in_ok-after-in-Or.ensures, c.in_ok-read_count-in-Or.ensures, c.deref-in-Or-2.ensures, c.deref-in-Or.ensures) in
+    let start : c.in_ok-second-in-Or.second ≡ c.args.first + (compiled c.args.front.now c.args.m c.args.first Bool (expression_of c.deref-in-Or-2.result.now)).count = c.in_ok-second-in-Or.ensures ∙ ap (λ i. c.args.first + i) c.in_ok-a-in-Or.ensures.count in
     let none : fixed (expression_of c.args.e.now) ≡ None = sym c.fixed.ensures ∙ is_none_of c.fixed.result c.in_default.not-Some in
     IfOk-weaker c.joined-in-Or.result _ _
     (λ r h.
-    compound c.args.draft.now _ r c.args.front.now c.args.m c.args.first c.args.kind (expression_of c.args.e.now) (Either (expression_of c.deref-in-Or.result.now) (expression_of c.deref-in-Or-3.result.now)) _ is none refl
-    (h c.args.draft.now _ (compiled c.args.front.now c.args.m c.args.first Bool (expression_of c.deref-in-Or.result.now)) (compiled c.args.front.now (c.args.m + read_count (expression_of c.deref-in-Or.result.now)) (c.args.first + (compiled c.args.front.now c.args.m c.args.first Bool (expression_of c.deref-in-Or.result.now)).count) Bool (expression_of c.deref-in-Or-3.result.now)) c.in_ok-a-in-Or.ensures
+    compound c.args.draft.now _ r c.args.front.now c.args.m c.args.first c.args.kind (expression_of c.args.e.now) (Either (expression_of c.deref-in-Or-2.result.now) (expression_of c.deref-in-Or-3.result.now)) _ is none refl
+    (h c.args.draft.now _ (compiled c.args.front.now c.args.m c.args.first Bool (expression_of c.deref-in-Or-2.result.now)) (compiled c.args.front.now (c.args.m + read_count (expression_of c.deref-in-Or-2.result.now)) (c.args.first + (compiled c.args.front.now c.args.m c.args.first Bool (expression_of c.deref-in-Or-2.result.now)).count) Bool (expression_of c.deref-in-Or-3.result.now)) c.in_ok-a-in-Or.ensures
     (same_start _ _ c.in_ok-b-in-Or.b c.args.front.now Bool (Bool) (expression_of c.deref-in-Or-3.result.now) _ _ _ _ refl reads start c.in_ok-b-in-Or.ensures)))
     c.joined-in-Or.ensures
 
 pub returns-in_ok-b-in-Choose : goal.returns-in_ok-b-in-Choose
 returns-in_ok-b-in-Choose t c =
-    let is : expression_of c.args.e.now ≡ Chosen (expression_of c.deref-in-Choose.result.now) (expression_of c.deref-in-Choose-3.result.now) (expression_of c.deref-in-Choose-5.result.now) = cc (ap expression_of c.in-Choose.is, c.deref-in-Choose.ensures, c.deref-in-Choose-3.ensures, c.deref-in-Choose-5.ensures) in
-    let reads : c.in_ok-after-in-Choose.after ≡ c.args.m + read_count (expression_of c.deref-in-Choose.result.now) = cc (c.in_ok-after-in-Choose.ensures, c.in_ok-read_count-in-Choose.ensures, c.deref-in-Choose.ensures, c.deref-in-Choose-2.ensures) in
-    let start : c.in_ok-second-in-Choose.second ≡ c.args.first + (compiled c.args.front.now c.args.m c.args.first Bool (expression_of c.deref-in-Choose.result.now)).count = c.in_ok-second-in-Choose.ensures ∙ ap (λ i. c.args.first + i) c.in_ok-c-in-Choose.ensures.count in
-    let g = same_start _ _ c.in_ok-a-in-Choose.a c.args.front.now c.args.kind c.args.kind (expression_of c.deref-in-Choose-3.result.now) _ _ _ _ refl reads start c.in_ok-a-in-Choose.ensures in
-    let later : c.in_ok-later-in-Choose.later ≡ c.args.m + read_count (expression_of c.deref-in-Choose.result.now) + read_count (expression_of c.deref-in-Choose-3.result.now) = cc (c.in_ok-later-in-Choose.ensures, c.in_ok-read_count-in-Choose-2.ensures, c.deref-in-Choose-3.ensures, c.deref-in-Choose-4.ensures, reads) in
-    let third : c.in_ok-third-in-Choose.third ≡ c.args.first + (compiled c.args.front.now c.args.m c.args.first Bool (expression_of c.deref-in-Choose.result.now)).count + (compiled c.args.front.now (c.args.m + read_count (expression_of c.deref-in-Choose.result.now)) (c.args.first + (compiled c.args.front.now c.args.m c.args.first Bool (expression_of c.deref-in-Choose.result.now)).count) c.args.kind (expression_of c.deref-in-Choose-3.result.now)).count = c.in_ok-third-in-Choose.ensures ∙ ap (λ i. i + c.in_ok-a-in-Choose.a.count) start ∙ ap (λ i. c.args.first + (compiled c.args.front.now c.args.m c.args.first Bool (expression_of c.deref-in-Choose.result.now)).count + i) g.count in
+    let is : expression_of c.args.e.now ≡ Chosen (expression_of c.deref-in-Choose-3.result.now) (expression_of c.deref-in-Choose-4.result.now) (expression_of c.deref-in-Choose-5.result.now) = cc (ap expression_of c.in-Choose.is, c.deref-in-Choose-3.ensures, c.deref-in-Choose-4.ensures, c.deref-in-Choose-5.ensures) in
+    let reads : c.in_ok-after-in-Choose.after ≡ c.args.m + read_count (expression_of c.deref-in-Choose-3.result.now) = cc (c.in_ok-after-in-Choose.ensures, c.in_ok-read_count-in-Choose.ensures, c.deref-in-Choose-3.ensures, c.deref-in-Choose.ensures) in
+    let start : c.in_ok-second-in-Choose.second ≡ c.args.first + (compiled c.args.front.now c.args.m c.args.first Bool (expression_of c.deref-in-Choose-3.result.now)).count = c.in_ok-second-in-Choose.ensures ∙ ap (λ i. c.args.first + i) c.in_ok-c-in-Choose.ensures.count in
+    let g = same_start _ _ c.in_ok-a-in-Choose.a c.args.front.now c.args.kind c.args.kind (expression_of c.deref-in-Choose-4.result.now) _ _ _ _ refl reads start c.in_ok-a-in-Choose.ensures in
+    let later : c.in_ok-later-in-Choose.later ≡ c.args.m + read_count (expression_of c.deref-in-Choose-3.result.now) + read_count (expression_of c.deref-in-Choose-4.result.now) = cc (c.in_ok-later-in-Choose.ensures, c.in_ok-read_count-in-Choose-2.ensures, c.deref-in-Choose-4.ensures, c.deref-in-Choose-2.ensures, reads) in
+    let third : c.in_ok-third-in-Choose.third ≡ c.args.first + (compiled c.args.front.now c.args.m c.args.first Bool (expression_of c.deref-in-Choose-3.result.now)).count + (compiled c.args.front.now (c.args.m + read_count (expression_of c.deref-in-Choose-3.result.now)) (c.args.first + (compiled c.args.front.now c.args.m c.args.first Bool (expression_of c.deref-in-Choose-3.result.now)).count) c.args.kind (expression_of c.deref-in-Choose-4.result.now)).count = c.in_ok-third-in-Choose.ensures ∙ ap (λ i. i + c.in_ok-a-in-Choose.a.count) start ∙ ap (λ i. c.args.first + (compiled c.args.front.now c.args.m c.args.first Bool (expression_of c.deref-in-Choose-3.result.now)).count + i) g.count in
     let none : fixed (expression_of c.args.e.now) ≡ None = sym c.fixed.ensures ∙ is_none_of c.fixed.result c.in_default.not-Some in
     IfOk-weaker c.chosen.result _ _
     (λ r h.
-    compound c.args.draft.now _ r c.args.front.now c.args.m c.args.first c.args.kind (expression_of c.args.e.now) (Chosen (expression_of c.deref-in-Choose.result.now) (expression_of c.deref-in-Choose-3.result.now) (expression_of c.deref-in-Choose-5.result.now)) _ is none refl
-    (h c.args.draft.now _ _ (compiled c.args.front.now c.args.m c.args.first Bool (expression_of c.deref-in-Choose.result.now)) (compiled c.args.front.now (c.args.m + read_count (expression_of c.deref-in-Choose.result.now)) (c.args.first + (compiled c.args.front.now c.args.m c.args.first Bool (expression_of c.deref-in-Choose.result.now)).count) c.args.kind (expression_of c.deref-in-Choose-3.result.now)) (compiled c.args.front.now (c.args.m + read_count (expression_of c.deref-in-Choose.result.now) + read_count (expression_of c.deref-in-Choose-3.result.now)) (c.args.first + (compiled c.args.front.now c.args.m c.args.first Bool (expression_of c.deref-in-Choose.result.now)).count + (compiled c.args.front.now (c.args.m + read_count (expression_of c.deref-in-Choose.result.now)) (c.args.first + (compiled c.args.front.now c.args.m c.args.first Bool (expression_of c.deref-in-Choose.result.now)).count) c.args.kind (expression_of c.deref-in-Choose-3.result.now)).count) c.args.kind (expression_of c.deref-in-Choose-5.result.now)) c.in_ok-c-in-Choose.ensures g
+    compound c.args.draft.now _ r c.args.front.now c.args.m c.args.first c.args.kind (expression_of c.args.e.now) (Chosen (expression_of c.deref-in-Choose-3.result.now) (expression_of c.deref-in-Choose-4.result.now) (expression_of c.deref-in-Choose-5.result.now)) _ is none refl
+    (h c.args.draft.now _ _ (compiled c.args.front.now c.args.m c.args.first Bool (expression_of c.deref-in-Choose-3.result.now)) (compiled c.args.front.now (c.args.m + read_count (expression_of c.deref-in-Choose-3.result.now)) (c.args.first + (compiled c.args.front.now c.args.m c.args.first Bool (expression_of c.deref-in-Choose-3.result.now)).count) c.args.kind (expression_of c.deref-in-Choose-4.result.now)) (compiled c.args.front.now (c.args.m + read_count (expression_of c.deref-in-Choose-3.result.now) + read_count (expression_of c.deref-in-Choose-4.result.now)) (c.args.first + (compiled c.args.front.now c.args.m c.args.first Bool (expression_of c.deref-in-Choose-3.result.now)).count + (compiled c.args.front.now (c.args.m + read_count (expression_of c.deref-in-Choose-3.result.now)) (c.args.first + (compiled c.args.front.now c.args.m c.args.first Bool (expression_of c.deref-in-Choose-3.result.now)).count) c.args.kind (expression_of c.deref-in-Choose-4.result.now)).count) c.args.kind (expression_of c.deref-in-Choose-5.result.now)) c.in_ok-c-in-Choose.ensures g
     (same_start _ _ c.in_ok-b-in-Choose.b c.args.front.now c.args.kind c.args.kind (expression_of c.deref-in-Choose-5.result.now) _ _ _ _ refl later third c.in_ok-b-in-Choose.ensures)))
     c.chosen.ensures

@@ -9,7 +9,8 @@ use Rattle.sim_tape.specs.Tape.{Extends}
 use Rattle.sim_tape.specs.Trees.{tree_of}
 use Rattle.sim_lower.specs.Nets.{SlotsBefore}
 use Rattle.sim_placed.specs.Plans.{IsPlan}
-use Rattle.sim_placed.specs.Placed.{AllFree, CanBeRead, AreKept, ArePlacedMore}
+use Rattle.vlog_law_runs.specs.Readable.{CanBeRead}
+use Rattle.sim_placed.specs.Placed.{AllFree, AreKept, ArePlacedMore}
 use Rattle.sim_placed.proofs.all.place_all.Given as goal
 
 abbrev pub invariant-loop-number : goal.invariant-loop-number

@@ -3,7 +3,7 @@ use Rattle.std.proofs.lemmas.List.{take_more}
 use Rattle.tapa_base.specs.declared.text.Place.{Place}
 use Rattle.tapa_syntax.specs.Characters.{place_of}
 use Rattle.tapa_syntax.proofs.Places.{place_after_feed, place_after_byte}
-use Rattle.vlog_grammar.specs.Lexemes.{Bytes}
+use Rattle.tapa_base.specs.Gaps.{Bytes}
 use Rattle.vlog_lex.proofs.lexer.place_at.Goals as goal
 use Rattle.vlog_lex.proofs.lexer.place_at.Goals.{then-before-turn-eq10, else-before-turn-eq10}
 

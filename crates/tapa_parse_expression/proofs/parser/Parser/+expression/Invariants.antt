@@ -15,6 +15,9 @@ decreases-arguments l = 30 * l.levels + 0
 abbrev pub decreases-arms : goal.decreases-arms
 decreases-arms l = 30 * l.levels + 0
 
+abbrev pub decreases-boxed : goal.decreases-boxed
+decreases-boxed l = 30 * l.levels + 26
+
 abbrev pub decreases-constructed : goal.decreases-constructed
 decreases-constructed l = 30 * l.levels + 1
 

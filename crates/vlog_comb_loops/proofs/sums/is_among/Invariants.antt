@@ -1,6 +1,0 @@
-use Rattle.std.proofs.Common.{take}
-use Rattle.vlog_tree.specs.Grounded.{Has}
-use Rattle.vlog_comb_loops.proofs.sums.is_among.Given as goal
-
-abbrev pub invariant-loop-p : goal.invariant-loop-p
-invariant-loop-p l = Has (take l.p-index l.pairs) l.pair → ⊥
