@@ -138,26 +138,11 @@ pub fn check_expression(
             method_of(&method.text, arguments),
         ),
         Expression::Nullptr => Ok(literal_value(Kind::U64, 0)),
-        Expression::Construct(kind, value) => {
-            cast(
-                alloc,
-                *kind,
-                check_expression(alloc, scope, conditional, value)?,
-            )
-        }
-        Expression::StaticCast(kind, value) => {
-            cast(
-                alloc,
-                *kind,
-                check_expression(alloc, scope, conditional, value)?,
-            )
-        }
-        Expression::Cast(kind, value) => {
-            cast(
-                alloc,
-                *kind,
-                check_expression(alloc, scope, conditional, value)?,
-            )
+        Expression::Construct(kind, value)
+        | Expression::StaticCast(kind, value)
+        | Expression::Cast(kind, value) => {
+            let value = check_expression(alloc, scope, conditional, value)?;
+            cast(alloc, *kind, value)
         }
         Expression::Parenthesized(value) => check_expression(alloc, scope, conditional, value),
         Expression::Prefix(operator, _, value) => {

@@ -2,7 +2,7 @@
 use Rattle.std.proofs.Common.{◌≡◌, ℕ, ◌<◌, List, [], ◌∷◌, ◌++◌, length, Bool, true, append_assoc, refl, sym, ap, subst, ◌∙◌, arith, length-append}
 use Rattle.tapa_base.specs.declared.kind.Kind.{Kind}
 use Rattle.tapa_syntax.specs.Trees as tree
-use Rattle.tapa_syntax.specs.Trees.{DeclaratorTree, DeclarationTree, StartTree, HeadTree, StatementTree, Statements}
+use Rattle.tapa_syntax.specs.Trees.{DeclaratorTree, StartTree, HeadTree, StatementTree, Statements}
 use Rattle.tapa_syntax.specs.Flat as flat
 use Rattle.tapa_syntax.specs.Flat.{FlatExpression, FlatStatement, in_row}
 use Rattle.check_leaf.specs.Views.{HeadPart, Part}

@@ -10,7 +10,7 @@ use Rattle.tapa_base.specs.Kinds.{bits_of}
 use Rattle.tapa_syntax.specs.declared.program.Array.{Array}
 use Rattle.tapa_syntax.specs.declared.tree.Name.{Name}
 use Rattle.tapa_syntax.specs.Trees as tree
-use Rattle.tapa_syntax.specs.Trees.{ExpressionTree, ActionTree, DeclaratorTree, DeclarationTree, StartTree, HeadTree, StatementTree, Statements, CountTree}
+use Rattle.tapa_syntax.specs.Trees.{ExpressionTree, ActionTree, DeclaratorTree, DeclarationTree, StartTree, StatementTree, Statements, CountTree}
 use Rattle.tapa_syntax.specs.Flat as flat
 use Rattle.tapa_syntax.specs.Flat.{FlatExpression, literal, FlatStatement, set, clear, branch, loop, in_row, FlatLeaf}
 use Rattle.check_scope.specs.declared.fault.Broken.{Broken}

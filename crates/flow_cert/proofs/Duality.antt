@@ -1,5 +1,5 @@
 -- Every dual flow's value is at most every even balance's cost.
-use Rattle.std.proofs.Common.{◌≡◌, ℕ, zero, suc, ◌+◌, ◌*◌, ◌<◌, ◌≤◌, Bool, true, false, cond, List, [], ◌∷◌, length, get_or, refl, sym, ap, ◌∙◌, arith, ⊎_elim}
+use Rattle.std.proofs.Common.{◌≡◌, ℕ, zero, suc, ◌+◌, ◌*◌, ◌<◌, ◌≤◌, true, List, length, get_or, ap, arith, ⊎_elim}
 use Rattle.std.specs.Prelude.{◌==◌, if◌then◌else◌}
 use Rattle.std.specs.List.{position_or_len}
 use Rattle.std.proofs.Math.Logic.{∥∥₁_elim}
@@ -9,9 +9,8 @@ use Rattle.std.proofs.lemmas.Bool.{cases_lt, cases_eq}
 use Rattle.std.proofs.lemmas.List.Sums.{passes_at_first}
 use Rattle.std.proofs.lemmas.Nat.{mul-le}
 use Rattle.std.proofs.Math.Nat.{mul-le-mul_left}
-use Rattle.std.proofs.lemmas.Grind.{common_steps}
 use Rattle.task_graph.specs.declared.Graph.{Graph}
-use Rattle.task_graph.specs.Streams.{from_of, to_of, Walk, Reaches, AreGroups, least_of, IsRank, HasRank}
+use Rattle.task_graph.specs.Streams.{from_of, to_of, Walk, AreGroups, least_of, IsRank, HasRank}
 use Rattle.task_graph.specs.Arcs.{streams, tail, head, width, inner, total}
 use Rattle.flow_cert.specs.Balance.{IsEven, cost, IsLeast}
 use Rattle.flow_cert.specs.Flow.{inflow, outflow, IsKept, IsDualFlow, weight, Levels, WeakDuality}

@@ -1,10 +1,10 @@
 -- Fitting elements in parts, for lists of elements that grow with what they are made of.
-use Rattle.std.proofs.Common.{◌≡◌, Bool, true, false, ◌&&◌, List, [], ◌∷◌, ◌++◌, refl, ap, ◌∙◌}
+use Rattle.std.proofs.Common.{◌≡◌, true, List, [], ◌∷◌, ◌++◌, refl}
 use Rattle.vlog_tree.specs.declared.table.Declaration.{Declaration}
 use Rattle.vlog_tree.specs.Form.{ModuleTree}
 use Rattle.vlog_law_modules.proofs.Lists.{both_true}
 use Rattle.hw_build.specs.Elements.{Element}
-use Rattle.hw_build.specs.Fitting.{declarations, table_after, has_fitting_names, have_fitting_names, HasFittingWidths, HaveFittingWidths}
+use Rattle.hw_build.specs.Fitting.{declarations, table_after, has_fitting_names, have_fitting_names, HaveFittingWidths}
 use Rattle.hw_build.proofs.Forms.{yes_and}
 
 pub table_append : (xs ys : List Element) (t : List Declaration) → table_after t (xs ++ ys) ≡ table_after (table_after t xs) ys

@@ -1,24 +1,22 @@
 -- How often each net of what is built is driven.
-use Rattle.std.proofs.Common.{◌≡◌, ℕ, zero, suc, ◌+◌, ◌<◌, ◌≤◌, Bool, true, false, cond, eqb, ◌&&◌, ◌||◌, List, [], ◌∷◌, ◌++◌, map, None, inl, inr, refl, sym, ap, subst, ◌∙◌, arith}
-use Rattle.std.specs.Prelude.{◌⊎◌, bytes_eq, count_by, not, nat_le}
+use Rattle.std.proofs.Common.{◌≡◌, ℕ, zero, suc, ◌+◌, ◌≤◌, Bool, true, false, eqb, ◌||◌, List, [], ◌∷◌, ◌++◌, inl, inr, refl, sym, ap, subst, ◌∙◌, arith}
+use Rattle.std.specs.Prelude.{bytes_eq, count_by, nat_le}
 use Rattle.std.specs.List.{list_any, list_all, flat_map}
 use Rattle.std.specs.Cmp.Lexicographic.{bytes_decides}
-use Rattle.std.proofs.lemmas.Bool.{le-leb, leb-true, eq-eqb, eqb-true}
+use Rattle.std.proofs.lemmas.Bool.{leb-true, eqb-true}
 use Rattle.std.proofs.lemmas.Grind.{flat_map-append}
-use Rattle.vlog_tree.specs.declared.tree.Item.{Item}
-use Rattle.vlog_tree.specs.declared.tree.Item.TheVariants.{Wire as WireLine, Reg as RegisterLine, Memory as MemoryLine, Assign as AssignLine, Always as BlockLine, Instance as InstanceLine}
+use Rattle.vlog_tree.specs.declared.tree.Item.TheVariants.{Always as BlockLine, Instance as InstanceLine}
 use Rattle.vlog_tree.specs.declared.table.Declaration.{Declaration}
-use Rattle.vlog_tree.specs.declared.table.NetKind.{NetKind}
-use Rattle.vlog_tree.specs.declared.table.NetKind.TheVariants.{Unknown, Input as InputNet, Output as OutputNet, WireNet, Register as RegisterNet, MemoryArray, ChildInstance}
+use Rattle.vlog_tree.specs.declared.table.NetKind.TheVariants.{Input as InputNet, Output as OutputNet, WireNet, Register as RegisterNet, MemoryArray, ChildInstance}
 use Rattle.vlog_tree.specs.Form.{ModuleTree}
 use Rattle.vlog_tree.specs.Grounded.{Has}
 use Rattle.vlog_tree.specs.Names.{is_among}
-use Rattle.vlog_tree.specs.Table.{Name, NameUse, clk, times_in, first_violation, one_if}
+use Rattle.vlog_tree.specs.Table.{Name, clk, times_in, one_if}
 use Rattle.vlog_tree.specs.Labels.{rst}
 use Rattle.vlog_tree.specs.V4.{line_driven, step_assigns, is_block_of, breaks_driving}
-use Rattle.vlog_tree.proofs.Lists.{has_flat, of_flat}
-use Rattle.vlog_law_modules.proofs.Lists.{count_cons, counted, one_if_true, none_counted, both_true, both_false}
-use Rattle.hw_build.specs.Elements.{Element, Input, Output, Outlet, Wire, Link, Register, Memory, Block, Instance, element_ports, element_items}
+use Rattle.vlog_tree.proofs.Lists.{has_flat}
+use Rattle.vlog_law_modules.proofs.Lists.{count_cons, counted, both_true}
+use Rattle.hw_build.specs.Elements.{Element, Input, Output, Outlet, Wire, Link, Register, Memory, Block, Instance, element_items}
 use Rattle.hw_build.specs.Fitting.{declarations, first_table, table_after, link_names, instance_driven, stored_names, assigns, drive_links_once, have_own_blocks}
 use Rattle.hw_build.proofs.Tables.{times, clock_declared, reset_declared, count_append, same_name, AreDistinct, comes_from}
 use Rattle.hw_build.proofs.Uses.{all_has}

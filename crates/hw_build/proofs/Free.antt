@@ -1,18 +1,16 @@
 -- Nets that rest on no input, and modules without loops together.
-use Rattle.std.proofs.Common.{◌≡◌, ℕ, zero, suc, ◌+◌, ◌-◌, ◌*◌, ◌<◌, ◌≤◌, Bool, true, false, cond, ltb, ◌&&◌, ◌||◌, List, [], ◌∷◌, ◌++◌, map, Some, None, inl, inr, refl, sym, ap, subst, ◌∙◌, arith}
-use Rattle.std.specs.Prelude.{◌⊎◌, bytes_eq, not}
-use Rattle.std.specs.List.{list_all, flat_map, AllByRecursion}
-use Rattle.std.proofs.lemmas.Bool.{lt-ltb}
+use Rattle.std.proofs.Common.{◌≡◌, ℕ, ◌+◌, ◌-◌, ◌*◌, ◌<◌, Bool, true, false, cond, ◌&&◌, ◌||◌, List, map, Some, None, inl, inr, refl, sym, ap, subst, ◌∙◌, arith}
+use Rattle.std.specs.Prelude.{◌⊎◌, not}
+use Rattle.std.specs.List.{list_all, flat_map}
 use Rattle.vlog_tree.specs.declared.tree.Value.{Value}
 use Rattle.vlog_tree.specs.declared.tree.Connection.{Connection}
 use Rattle.vlog_tree.specs.declared.tree.Item.{Item}
-use Rattle.vlog_tree.specs.declared.tree.Item.TheVariants.{Wire as WireLine, Reg as RegisterLine, Memory as MemoryLine, Assign as AssignLine, Always as BlockLine, Instance as InstanceLine}
 use Rattle.vlog_tree.specs.declared.table.Declaration.{Declaration}
 use Rattle.vlog_tree.specs.declared.table.NetKind.{NetKind}
-use Rattle.vlog_tree.specs.declared.table.NetKind.TheVariants.{Unknown, Input as InputNet, Output as OutputNet, WireNet, Register as RegisterNet, MemoryArray, ChildInstance}
+use Rattle.vlog_tree.specs.declared.table.NetKind.TheVariants.{Input as InputNet, Output as OutputNet, WireNet, Register as RegisterNet, MemoryArray, ChildInstance}
 use Rattle.vlog_tree.specs.Form.{ModuleTree}
 use Rattle.vlog_tree.specs.Grounded.{Has}
-use Rattle.vlog_tree.specs.Table.{Name, clk, declared, port_declared, items_declared, find_name, net_kind_of, net_kind_is_input, ports_in, module_named}
+use Rattle.vlog_tree.specs.Table.{Name, clk, declared, port_declared, items_declared, find_name, net_kind_of, net_kind_is_input, module_named}
 use Rattle.vlog_tree.specs.Labels.{rst}
 use Rattle.vlog_tree.specs.V2.{value_uses}
 use Rattle.vlog_tree.specs.V6.{module_children}
@@ -22,11 +20,11 @@ use Rattle.vlog_law_modules.proofs.Lists.{both_true, all_at}
 use Rattle.hw_build.specs.Elements.{Element, Input, Output, Outlet, Wire, Link, Register, Memory, Block, Instance, element_items, empty, built}
 use Rattle.hw_build.specs.Forms.{is_element}
 use Rattle.hw_build.specs.Fitting.{declarations, first_table, table_after, is_new, are_kept, child_ports, AreFitting}
-use Rattle.hw_build.specs.Order.{place, StandsBefore, RestsOnNoInput, InstancesKeepOrder, AnswersKeepOrder, child_names, ChildrenRestOnNoInput, is_closed_at, is_closed, output_names}
-use Rattle.hw_build.proofs.Tables.{is_known, known, comes_from, stays_new, name_of_all, IsTable}
+use Rattle.hw_build.specs.Order.{place, RestsOnNoInput, InstancesKeepOrder, AnswersKeepOrder, child_names, ChildrenRestOnNoInput, is_closed_at, is_closed, output_names}
+use Rattle.hw_build.proofs.Tables.{is_known, known, comes_from, name_of_all}
 use Rattle.hw_build.proofs.Uses.{all_has, all_of_flat}
 use Rattle.hw_build.proofs.Places.{has_times, place_some}
-use Rattle.hw_build.proofs.Right.{table, lines_are}
+use Rattle.hw_build.proofs.Right.{table}
 use Rattle.hw_build.proofs.Order.{declared_at, driver_order, instance_joined, rank, joint_rank, port_placeless, line_of, instance_has, no_loop}
 
 child_rests : (ms : List ModuleTree) (is_top : Name → Bool) (elements : List Element) → ChildrenRestOnNoInput ms is_top elements → (kn i : Name) (ls : List Connection) → Has elements (Instance kn i ls)

@@ -1,36 +1,34 @@
 -- No net of what is built rests on itself.
-use Rattle.std.proofs.Common.{◌≡◌, ℕ, zero, suc, ◌+◌, ◌-◌, ◌*◌, ◌<◌, ◌≤◌, Bool, true, false, cond, eqb, ltb, ◌&&◌, ◌||◌, List, [], ◌∷◌, ◌++◌, length, map, Some, None, inl, inr, refl, sym, ap, subst, ◌∙◌, arith}
-use Rattle.std.specs.Prelude.{◌⊎◌, bytes_eq, count_by, not, nat_le}
-use Rattle.std.specs.List.{list_any, list_all, flat_map, AllByRecursion}
+use Rattle.std.proofs.Common.{◌≡◌, ℕ, suc, ◌+◌, ◌-◌, ◌*◌, ◌<◌, ◌≤◌, Bool, true, false, cond, eqb, ltb, ◌&&◌, ◌||◌, List, [], ◌∷◌, ◌++◌, length, map, Some, inl, inr, refl, sym, ap, subst, ◌∙◌, arith}
+use Rattle.std.specs.Prelude.{bytes_eq, count_by, not, nat_le}
+use Rattle.std.specs.List.{list_any, list_all, flat_map}
 use Rattle.std.specs.Cmp.Lexicographic.{bytes_decides}
 use Rattle.std.proofs.lemmas.Bool.{lt-ltb, eqb-true}
 use Rattle.vlog_tree.specs.declared.tree.Value.{Value}
 use Rattle.vlog_tree.specs.declared.tree.Connection.{Connection}
 use Rattle.vlog_tree.specs.declared.tree.Item.{Item}
-use Rattle.vlog_tree.specs.declared.tree.Item.TheVariants.{Wire as WireLine, Reg as RegisterLine, Memory as MemoryLine, Assign as AssignLine, Always as BlockLine, Instance as InstanceLine}
-use Rattle.vlog_tree.specs.declared.tree.PortDecl.{PortDecl}
 use Rattle.vlog_tree.specs.declared.table.Declaration.{Declaration}
 use Rattle.vlog_tree.specs.declared.table.NetKind.{NetKind}
-use Rattle.vlog_tree.specs.declared.table.NetKind.TheVariants.{Unknown, Input as InputNet, Output as OutputNet, WireNet, Register as RegisterNet, MemoryArray, ChildInstance}
+use Rattle.vlog_tree.specs.declared.table.NetKind.TheVariants.{Input as InputNet, Output as OutputNet, WireNet, ChildInstance}
 use Rattle.vlog_tree.specs.Names.{within, is_name, has_name_form, starts_name, goes_on, is_keyword}
 use Rattle.vlog_tree.specs.Form.{ModuleTree, is_value, is_connection}
 use Rattle.vlog_tree.specs.Grounded.{Has}
-use Rattle.vlog_tree.specs.Table.{Name, NameUse, clk, is_clk, port_declared, find_name, net_kind_of, net_kind_is_read, net_kind_is_driven, net_kind_is_input, ports_in, ports_of, module_named, is_module_name, times_in, one_if}
+use Rattle.vlog_tree.specs.Table.{Name, NameUse, clk, is_clk, port_declared, find_name, net_kind_of, net_kind_is_read, net_kind_is_driven, net_kind_is_input, ports_in, module_named, is_module_name, times_in, one_if}
 use Rattle.vlog_tree.specs.Labels.{rst}
 use Rattle.vlog_tree.specs.V2.{read_use, driven_use, clock_use, value_uses, connection_uses, all_connected}
-use Rattle.vlog_tree.specs.Loops.{Rests, directly, through, after, value_nets, port_of, line_edges, connection_edge, direct_edges, memory_edges, instances, item_instances}
-use Rattle.vlog_tree.proofs.Lists.{has_left, has_split, has_map, of_flat, of_map}
+use Rattle.vlog_tree.specs.Loops.{Rests, value_nets, port_of, line_edges, connection_edge, direct_edges, memory_edges, instances, item_instances}
+use Rattle.vlog_tree.proofs.Lists.{has_split, of_flat, of_map}
 use Rattle.vlog_law_modules.specs.Ranks.{FallsBy}
 use Rattle.vlog_law_modules.proofs.Ranks.{on_no_loop}
 use Rattle.vlog_law_modules.proofs.Lists.{both_true, both_false, count_cons, counted, none_counted}
-use Rattle.hw_build.specs.Elements.{Element, Input, Output, Outlet, Wire, Link, Register, Memory, Block, Instance, element_ports, element_items, empty, built}
+use Rattle.hw_build.specs.Elements.{Element, Input, Output, Outlet, Wire, Link, Register, Memory, Block, Instance, element_items, empty, built}
 use Rattle.hw_build.specs.Forms.{is_element}
-use Rattle.hw_build.specs.Fitting.{declarations, first_table, table_after, is_new, are_kept, child_ports, has_fitting_names, have_fitting_names, AreFitting}
+use Rattle.hw_build.specs.Fitting.{declarations, first_table, table_after, is_new, are_kept, child_ports, AreFitting}
 use Rattle.hw_build.specs.Order.{place_in, place, StandsBefore, InstancesKeepOrder, AnswersKeepOrder}
 use Rattle.hw_build.proofs.Tables.{times, is_known, known, same_name, count_append, comes_from, stays_new, name_of_all}
 use Rattle.hw_build.proofs.Uses.{all_has, all_of_flat, read_known, driven_known, input_known}
-use Rattle.hw_build.proofs.Drivers.{times_by, other_names, declared_times, named_in, times_has}
-use Rattle.hw_build.proofs.Places.{has_times, place_low, place_some, IsDeclaredAt, moment, value_read, read_times, known_times}
+use Rattle.hw_build.proofs.Drivers.{times_by, other_names, declared_times, named_in}
+use Rattle.hw_build.proofs.Places.{place_low, place_some, IsDeclaredAt, moment, value_read, read_times, known_times}
 use Rattle.hw_build.proofs.Right.{names_once, lines_are}
 
 -- ---- names with a dot are those of ports of instances

@@ -1,24 +1,22 @@
 -- The places of names, and when an element was declared.
-use Rattle.std.proofs.Common.{◌≡◌, ℕ, zero, suc, ◌+◌, ◌<◌, ◌≤◌, Bool, true, false, cond, ◌&&◌, ◌||◌, List, [], ◌∷◌, ◌++◌, length, map, inl, inr, refl, sym, ap, subst, ◌∙◌, arith}
-use Rattle.std.specs.Prelude.{◌⊎◌, bytes_eq, count_by, not}
-use Rattle.std.specs.List.{list_any, list_all, flat_map}
+use Rattle.std.proofs.Common.{◌≡◌, suc, ◌+◌, ◌<◌, ◌≤◌, Bool, true, false, cond, ◌&&◌, ◌||◌, List, [], ◌∷◌, ◌++◌, length, inl, inr, refl, sym, ap, subst, ◌∙◌, arith}
+use Rattle.std.specs.Prelude.{bytes_eq, not}
 use Rattle.std.specs.Cmp.Lexicographic.{bytes_decides}
 use Rattle.vlog_tree.specs.declared.tree.Atom.{Atom}
 use Rattle.vlog_tree.specs.declared.tree.Atom.TheVariants.{Net, Part, Literal}
 use Rattle.vlog_tree.specs.declared.tree.Value.{Value}
 use Rattle.vlog_tree.specs.declared.tree.Value.TheVariants.{Plain, Invert, Binary, Choose, Concat, Repeat, Cell}
-use Rattle.vlog_tree.specs.declared.tree.Connection.{Connection}
 use Rattle.vlog_tree.specs.declared.table.Declaration.{Declaration}
-use Rattle.vlog_tree.specs.declared.table.NetKind.TheVariants.{Unknown, Input as InputNet, Output as OutputNet, WireNet, Register as RegisterNet, MemoryArray, ChildInstance}
+use Rattle.vlog_tree.specs.declared.table.NetKind.TheVariants.{Input as InputNet, Output as OutputNet, WireNet, Register as RegisterNet, MemoryArray, ChildInstance}
 use Rattle.vlog_tree.specs.Form.{ModuleTree}
 use Rattle.vlog_tree.specs.Grounded.{Has}
 use Rattle.vlog_tree.specs.Table.{Name, NameUse, is_clk, find_name, net_kind_of, net_kind_is_read, one_if}
 use Rattle.vlog_tree.specs.V2.{read_use, memory_use, atom_uses, value_uses}
 use Rattle.vlog_tree.specs.Loops.{atom_nets, value_nets}
-use Rattle.vlog_tree.proofs.Lists.{has_left, has_right, has_split, of_flat}
-use Rattle.vlog_law_modules.proofs.Lists.{count_cons, counted, none_counted, both_true}
+use Rattle.vlog_tree.proofs.Lists.{has_left, has_split, of_flat}
+use Rattle.vlog_law_modules.proofs.Lists.{count_cons, counted, both_true}
 use Rattle.hw_build.specs.Elements.{Element, Input, Output, Outlet, Wire, Link, Register, Memory, Block, Instance}
-use Rattle.hw_build.specs.Fitting.{declarations, table_after, is_new, are_kept, child_ports, has_fitting_names, have_fitting_names}
+use Rattle.hw_build.specs.Fitting.{declarations, table_after, is_new, are_kept, has_fitting_names, have_fitting_names}
 use Rattle.hw_build.specs.Order.{place_in}
 use Rattle.hw_build.proofs.Tables.{times, is_known, known, count_append, same_name, new_is_none}
 use Rattle.hw_build.proofs.Uses.{all_of_both, all_of_flat, read_known}

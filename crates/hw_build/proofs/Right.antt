@@ -1,23 +1,20 @@
 -- What is built of fitting elements is right in names, widths and drivers.
-use Rattle.std.proofs.Common.{◌≡◌, ℕ, zero, suc, ◌+◌, ◌≤◌, Bool, true, false, cond, ◌&&◌, ◌||◌, List, [], ◌∷◌, ◌++◌, map, None, inl, inr, refl, sym, ap, subst, ◌∙◌, arith}
-use Rattle.std.specs.Prelude.{◌⊎◌, bytes_eq, count_by, not, nat_le}
-use Rattle.std.specs.List.{list_all, flat_map, AllByRecursion}
+use Rattle.std.proofs.Common.{◌≡◌, ℕ, zero, suc, ◌+◌, ◌≤◌, Bool, true, false, ◌&&◌, ◌||◌, List, [], ◌∷◌, ◌++◌, map, None, inl, inr, refl, sym, ap, subst, ◌∙◌, arith}
+use Rattle.std.specs.Prelude.{bytes_eq, count_by, not, nat_le}
+use Rattle.std.specs.List.{list_all, flat_map}
 use Rattle.std.specs.Cmp.Lexicographic.{bytes_decides}
 use Rattle.std.proofs.lemmas.Grind.{flat_map-append}
 use Rattle.vlog_tree.specs.declared.tree.Item.{Item}
-use Rattle.vlog_tree.specs.declared.tree.Item.TheVariants.{Wire as WireLine, Reg as RegisterLine, Memory as MemoryLine, Assign as AssignLine, Always as BlockLine, Instance as InstanceLine}
-use Rattle.vlog_tree.specs.declared.tree.PortDecl.{PortDecl}
 use Rattle.vlog_tree.specs.declared.tree.Value.{Value}
 use Rattle.vlog_tree.specs.declared.tree.Step.{Step}
 use Rattle.vlog_tree.specs.declared.tree.Connection.{Connection}
 use Rattle.vlog_tree.specs.declared.table.Declaration.{Declaration}
-use Rattle.vlog_tree.specs.declared.table.NetKind.{NetKind}
-use Rattle.vlog_tree.specs.declared.table.NetKind.TheVariants.{Unknown, Input as InputNet, Output as OutputNet, WireNet, Register as RegisterNet, MemoryArray, ChildInstance}
+use Rattle.vlog_tree.specs.declared.table.NetKind.TheVariants.{Input as InputNet, Output as OutputNet, WireNet, Register as RegisterNet, MemoryArray, ChildInstance}
 use Rattle.vlog_tree.specs.Form.{ModuleTree}
 use Rattle.vlog_tree.specs.Grounded.{Has}
-use Rattle.vlog_tree.specs.Table.{Name, NameUse, clk, is_clk, declared, port_declared, module_declared, find_name, net_kind_of, net_kind_is_driven, net_kind_is_input, bits_of, is_doubled_name, is_module_name, ports_of, first_violation, times_in}
+use Rattle.vlog_tree.specs.Table.{Name, NameUse, clk, is_clk, declared, module_declared, find_name, net_kind_of, net_kind_is_driven, net_kind_is_input, bits_of, is_doubled_name, is_module_name, first_violation, times_in}
 use Rattle.vlog_tree.specs.Labels.{rst}
-use Rattle.vlog_tree.specs.V2.{driven_use, value_uses, step_uses, inner_use, port_uses, all_connected, connection_uses, instance_uses, item_uses, clock_use, module_uses}
+use Rattle.vlog_tree.specs.V2.{driven_use, value_uses, step_uses, port_uses, all_connected, connection_uses, instance_uses, item_uses, clock_use, module_uses}
 use Rattle.vlog_tree.specs.V3.{is_width, is_cell_count, net_fits, value_fits, step_widths, connection_widths, item_widths, port_widths, module_widths}
 use Rattle.vlog_tree.specs.V4.{line_driven, is_block_of, breaks_driving, driving_use, module_drives}
 use Rattle.vlog_tree.proofs.Lists.{of_map, has_left, has_right}
@@ -27,7 +24,7 @@ use Rattle.hw_build.specs.Elements.{Element, Input, Output, Outlet, Wire, Link, 
 use Rattle.hw_build.specs.Fitting.{declarations, first_table, table_after, is_new, are_kept, child_ports, has_fitting_names, have_fitting_names, HasFittingWidths, HaveFittingWidths, ValueFits, AreFitting}
 use Rattle.hw_build.proofs.Forms.{yes_and}
 use Rattle.hw_build.proofs.Tables.{times, clock_declared, reset_declared, is_known, same_name, new_is_none, AreDistinct, distinct_all, distinct_more, found, same_in, stays, IsTable, table_of_all, first_is_table, items_of_all, ports_of_all, name_of_all}
-use Rattle.hw_build.proofs.Uses.{both_together, flat_together, kept_is_none, value_same, steps_same, connections_same}
+use Rattle.hw_build.proofs.Uses.{both_together, kept_is_none, value_same, steps_same, connections_same}
 use Rattle.hw_build.proofs.Widths.{is_sized, AreSized, value_ok, steps_ok, connections_ok}
 use Rattle.hw_build.proofs.Drivers.{drivers_right}
 

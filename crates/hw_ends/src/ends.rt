@@ -1,6 +1,7 @@
 // The connections of instances.
 
 ghost use Rattle.std.specs.Prelude.{◌≡◌, ◌++◌, ◌∷◌, [], IfOk, length, slice_get, slice_index, codes};
+ghost use Rattle.std.specs.Str.{IsAscii};
 ghost use Rattle.hw_lists.specs.Scope.{each};
 ghost use Rattle.channel_law.specs.Texts.{clocks as clocks_lem, joined_to};
 ghost use Rattle.task_law.specs.declared.nets.Net.TheVariants.{Done};
@@ -39,14 +40,28 @@ fn join_port(
     join(ends, port, net)
 }
 
+// A port of this name, joined to a net.
+fn join_named(
+    alloc: Global,
+    ends: &mut Vec<Connection>,
+    port: &[u8],
+    net: Text,
+) -> Result<(), AllocError>
+    requires { IsAscii port.now }
+    ensures { IfOk result (λ u. ends.new.items ≡ ends.old.items ++ joined_to port.now net ∷ []) }
+{
+    let port = text(alloc, port)?;
+    join(ends, port, net)
+}
+
 // Connections that begin with the clock and reset.
 fn clocks(alloc: Global) -> Result<Vec<Connection>, AllocError>
     ensures { IfOk result (λ c. c.items ≡ clocks_lem []) }
 {
-    let mut connections = Vec::new(alloc);
-    join(&mut connections, text(alloc, b"clk")?, text(alloc, b"clk")?)?;
-    join(&mut connections, text(alloc, b"rst")?, text(alloc, b"rst")?)?;
-    Ok(connections)
+    let mut ends = Vec::new(alloc);
+    join_named(alloc, &mut ends, b"clk", text(alloc, b"clk")?)?;
+    join_named(alloc, &mut ends, b"rst", text(alloc, b"rst")?)?;
+    Ok(ends)
 }
 
 /// The connections of a channel's instance.
@@ -54,12 +69,12 @@ pub fn channel_ends(alloc: Global, label: &Text) -> Result<Connections, AllocErr
     ensures { IfOk result (λ c. c ≡ channel_ends_lem label.now) }
 {
     let mut ends = clocks(alloc)?;
-    join(&mut ends, text(alloc, b"din")?, din(alloc, label)?)?;
-    join(&mut ends, text(alloc, b"wr")?, wr(alloc, label)?)?;
-    join(&mut ends, text(alloc, b"take")?, take(alloc, label)?)?;
-    join(&mut ends, text(alloc, b"rdy")?, rdy(alloc, label)?)?;
-    join(&mut ends, text(alloc, b"has")?, has(alloc, label)?)?;
-    join(&mut ends, text(alloc, b"dout")?, dout(alloc, label)?)?;
+    join_named(alloc, &mut ends, b"din", din(alloc, label)?)?;
+    join_named(alloc, &mut ends, b"wr", wr(alloc, label)?)?;
+    join_named(alloc, &mut ends, b"take", take(alloc, label)?)?;
+    join_named(alloc, &mut ends, b"rdy", rdy(alloc, label)?)?;
+    join_named(alloc, &mut ends, b"has", has(alloc, label)?)?;
+    join_named(alloc, &mut ends, b"dout", dout(alloc, label)?)?;
     Ok(Connections::of(ends))
 }
 

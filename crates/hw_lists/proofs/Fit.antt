@@ -1,5 +1,5 @@
 -- Elements that fit in order fit.
-use Rattle.std.proofs.Common.{◌≡◌, ℕ, zero, suc, ◌+◌, ◌-◌, ◌*◌, ◌<◌, ◌≤◌, Bool, true, false, cond, eqb, ◌&&◌, ◌||◌, List, [], ◌∷◌, ◌++◌, map, sum, inl, inr, refl, sym, ap, subst, ◌∙◌, arith, append_assoc}
+use Rattle.std.proofs.Common.{◌≡◌, ℕ, ◌+◌, ◌-◌, ◌*◌, ◌<◌, ◌≤◌, Bool, true, false, eqb, ◌&&◌, ◌||◌, List, [], ◌∷◌, ◌++◌, map, sum, inl, refl, sym, ap, subst, ◌∙◌, arith, append_assoc}
 use Rattle.std.specs.Prelude.{bytes_eq, count_by, not, nat_le, IsTrue}
 use Rattle.std.specs.List.{list_any, list_all, flat_map, AllByRecursion}
 use Rattle.std.specs.Cmp.Lexicographic.{bytes_decides}
@@ -24,15 +24,15 @@ use Rattle.vlog_tree.specs.Table.{Name, NameUse, clk, is_clk, find_name, net_kin
 use Rattle.vlog_tree.specs.V2.{read_use, register_use, memory_use, atom_uses, value_uses, step_uses}
 use Rattle.vlog_tree.specs.V3.{is_width, atom_bits}
 use Rattle.vlog_tree.specs.V4.{step_assigns}
-use Rattle.vlog_law_modules.proofs.Lists.{count_cons, counted, both_true}
+use Rattle.vlog_law_modules.proofs.Lists.{count_cons, counted}
 use Rattle.hw_build.specs.Elements.{Element, Input, Output, Outlet, Wire, Link, Register, Memory, Block, Instance}
-use Rattle.hw_build.specs.Fitting.{declarations, first_table, table_after, is_new, are_kept, has_fitting_names, have_fitting_names, AtomFits, AtomHas, OpFits, ValueFits, StepFits, HasFittingWidths, HaveFittingWidths, link_names, instance_driven, stored_names, assigns, drive_links_once, have_own_blocks, AreFitting}
+use Rattle.hw_build.specs.Fitting.{declarations, first_table, is_new, are_kept, has_fitting_names, have_fitting_names, AtomFits, AtomHas, OpFits, ValueFits, StepFits, HasFittingWidths, HaveFittingWidths, link_names, instance_driven, stored_names, assigns, drive_links_once, have_own_blocks}
 use Rattle.hw_build.proofs.Forms.{yes_and}
 use Rattle.hw_build.proofs.Tables.{times, count_append, same_name, AreDistinct, found}
 use Rattle.hw_build.proofs.Uses.{both_together}
 use Rattle.hw_build.proofs.Appended.{table_append}
-use Rattle.hw_lists.specs.Scope.{IsNet, IsRegister, IsMemory, AtomIs, SomeAtom, SameAtoms, OpIs, PartsAre, ValueIs, StepIs, first_assigned, IsBlockOf, FitsAfter, FitInOrder}
-use Rattle.hw_lists.specs.Fits.{declared_names, targets, AreOnce, FitAlone, AloneIsFitting}
+use Rattle.hw_lists.specs.Scope.{IsNet, IsRegister, IsMemory, AtomIs, SameAtoms, OpIs, PartsAre, ValueIs, StepIs, first_assigned, IsBlockOf, FitsAfter, FitInOrder}
+use Rattle.hw_lists.specs.Fits.{declared_names, targets, AreOnce, AloneIsFitting}
 use Rattle.hw_lists.proofs.Tables.{table, named, names_after, first_times, none_is_new, IsDeclared, net_declared, register_declared, memory_declared, net_name}
 
 and_true : (a : Bool) → a ≡ true → (a && true) ≡ true

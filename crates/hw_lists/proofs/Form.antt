@@ -1,7 +1,7 @@
 -- Elements that fit in order, with names for what they declare, have the form of parts of a module.
-use Rattle.std.proofs.Common.{◌≡◌, ℕ, ◌≤◌, Bool, true, false, ◌&&◌, List, [], ◌∷◌, ◌++◌, length, inl, inr, refl, sym, ap, subst, ◌∙◌, append_assoc}
-use Rattle.std.specs.Prelude.{nat_le, codes, IsTrue}
-use Rattle.std.specs.List.{list_all, flat_map, AllByRecursion}
+use Rattle.std.proofs.Common.{◌≡◌, ℕ, true, ◌&&◌, List, [], ◌∷◌, ◌++◌, length, inl, inr, refl, sym, ap, ◌∙◌, append_assoc}
+use Rattle.std.specs.Prelude.{nat_le, IsTrue}
+use Rattle.std.specs.List.{list_all, AllByRecursion}
 use Rattle.std.proofs.lemmas.Bool.{le-leb}
 use Rattle.vlog_tree.specs.declared.tree.Atom.{Atom}
 use Rattle.vlog_tree.specs.declared.tree.Atom.TheVariants.{Net, Part, Literal}
@@ -22,7 +22,7 @@ use Rattle.hw_build.specs.Elements.{Element, Input, Output, Outlet, Wire, Link, 
 use Rattle.hw_build.specs.Forms.{is_element}
 use Rattle.hw_build.proofs.Forms.{yes_and}
 use Rattle.hw_build.proofs.Uses.{all_has, both_together, all_of_both}
-use Rattle.hw_lists.specs.Scope.{IsNet, IsRegister, IsMemory, AtomIs, OpIs, PartsAre, ValueIs, StepIs, first_assigned, IsBlockOf, FitsAfter, FitInOrder}
+use Rattle.hw_lists.specs.Scope.{IsNet, AtomIs, OpIs, PartsAre, ValueIs, StepIs, first_assigned, IsBlockOf, FitsAfter, FitInOrder}
 use Rattle.hw_lists.specs.Fits.{declared_names, AloneHasForm}
 use Rattle.hw_lists.proofs.Tables.{named, net_name, register_name, memory_name}
 

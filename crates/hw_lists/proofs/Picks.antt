@@ -1,5 +1,5 @@
 -- What choices among entries give.
-use Rattle.std.proofs.Common.{◌≡◌, ℕ, zero, suc, ◌+◌, ◌-◌, ◌*◌, ◌^◌, ◌<◌, ◌≤◌, Bool, true, false, max, cond, eqb, List, [], ◌∷◌, ◌++◌, length, inl, inr, refl, sym, ap, subst, ◌∙◌, arith, ⊎_elim}
+use Rattle.std.proofs.Common.{◌≡◌, ℕ, zero, suc, ◌+◌, ◌-◌, ◌<◌, ◌≤◌, max, cond, eqb, List, [], ◌∷◌, ◌++◌, length, inl, inr, refl, sym, ap, subst, ◌∙◌, arith, ⊎_elim}
 use Rattle.std.specs.Prelude.{◌⊎◌, bit_or, IsTrue}
 use Rattle.std.specs.List.{flat_map}
 use Rattle.std.specs.Int.{bit_at}
@@ -7,21 +7,20 @@ use Rattle.std.specs.Int.Bits.{or_zero_l, or_zero_r}
 use Rattle.std.proofs.Math.Pow.{pow_pos}
 use Rattle.std.proofs.lemmas.Nat.Bits.{bit_at_or, same_from_bits}
 use Rattle.std.proofs.lemmas.Bool.{cases_eq, eq-eqb, ne_eqb}
-use Rattle.vlog_tree.specs.declared.tree.Atom.{Atom}
-use Rattle.vlog_tree.specs.declared.tree.Atom.TheVariants.{Net, Literal}
-use Rattle.vlog_tree.specs.declared.tree.Value.TheVariants.{Plain, Choose}
+use Rattle.vlog_tree.specs.declared.tree.Atom.TheVariants.{Net}
+use Rattle.vlog_tree.specs.declared.tree.Value.TheVariants.{Plain}
 use Rattle.vlog_tree.specs.Grounded.{Has}
 use Rattle.vlog_tree.specs.Table.{Name}
 use Rattle.vlog_tree.specs.Cycle.{Cycle, Follows, atom_value}
 use Rattle.vlog_tree.specs.V3.{is_width}
-use Rattle.vlog_tree.proofs.Lists.{has_left, has_right, has_split, has_flat}
+use Rattle.vlog_tree.proofs.Lists.{has_left, has_right, has_flat}
 use Rattle.hw_build.specs.Elements.{Element, Wire, built}
-use Rattle.hw_build.specs.Trees.{numbered, gated, tree_node, tree_nodes, tree_root, or_range}
+use Rattle.hw_build.specs.Trees.{numbered, gated, tree_nodes, or_range}
 use Rattle.hw_build.proofs.Driven.{wire_driven}
 use Rattle.hw_build.proofs.Ors.{root_driven, gate_driven, none_is_zero, set_stays}
-use Rattle.hw_lists.specs.Scope.{readable, IsNet, AtomIs, FitsAfter, FitInOrder}
+use Rattle.hw_lists.specs.Scope.{readable, IsNet, AtomIs, FitsAfter}
 use Rattle.hw_lists.specs.Fits.{IsAmong}
-use Rattle.hw_lists.specs.Choices.{Entry, any_leaves, any_elements, pick_leaves, pick_elements, choice, AnyIsSet, AnyIsClear, PickIsChosen, AnyFits, PickFits}
+use Rattle.hw_lists.specs.Choices.{Entry, any_leaves, any_elements, pick_leaves, pick_elements, choice, AnyFits, PickFits}
 use Rattle.hw_lists.proofs.Parts.{parts_fit, each_fits, tree_fits}
 
 -- numbers that are 0 or a

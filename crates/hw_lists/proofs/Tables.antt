@@ -1,20 +1,20 @@
 -- What is declared behind some elements: how often each name, and with which width each net.
-use Rattle.std.proofs.Common.{◌≡◌, ℕ, zero, suc, ◌+◌, ◌≤◌, Bool, true, false, cond, ◌&&◌, ◌||◌, List, [], ◌∷◌, ◌++◌, inl, inr, refl, sym, ap, subst, ◌∙◌, arith}
+use Rattle.std.proofs.Common.{◌≡◌, ℕ, ◌+◌, Bool, true, false, ◌||◌, List, [], ◌∷◌, ◌++◌, inl, inr, refl, sym, ap, ◌∙◌, arith}
 use Rattle.std.specs.Prelude.{bytes_eq, count_by, not}
 use Rattle.std.specs.List.{list_any, flat_map}
 use Rattle.vlog_tree.specs.declared.table.Declaration.{Declaration}
 use Rattle.vlog_tree.specs.declared.table.NetKind.{NetKind}
-use Rattle.vlog_tree.specs.declared.table.NetKind.TheVariants.{Unknown, Input as InputNet, Output as OutputNet, WireNet, Register as RegisterNet, MemoryArray, ChildInstance}
+use Rattle.vlog_tree.specs.declared.table.NetKind.TheVariants.{Input as InputNet, Output as OutputNet, WireNet, Register as RegisterNet, MemoryArray, ChildInstance}
 use Rattle.vlog_tree.specs.Grounded.{Has}
-use Rattle.vlog_tree.specs.Table.{Name, clk, is_clk, find_name, net_kind_of, bits_of, net_kind_is_read, net_kind_is_register, net_kind_is_memory, times_in, one_if}
+use Rattle.vlog_tree.specs.Table.{Name, clk, net_kind_is_read, net_kind_is_register, net_kind_is_memory, times_in, one_if}
 use Rattle.vlog_tree.specs.Labels.{rst}
 use Rattle.vlog_tree.proofs.Lists.{of_flat, has_flat}
-use Rattle.vlog_law_modules.proofs.Lists.{count_cons, counted}
+use Rattle.vlog_law_modules.proofs.Lists.{count_cons}
 use Rattle.hw_build.specs.Elements.{Element, Input, Output, Outlet, Wire, Link, Register, Memory, Block, Instance}
 use Rattle.hw_build.specs.Fitting.{declarations, first_table, table_after, is_new}
-use Rattle.hw_build.proofs.Tables.{times, clock_declared, reset_declared, count_append, same_name, AreDistinct, stays, stays_new, found}
+use Rattle.hw_build.proofs.Tables.{times, clock_declared, reset_declared, count_append, stays, stays_new}
 use Rattle.hw_lists.specs.Scope.{readable, register_of, memory_of, IsNet, IsRegister, IsMemory}
-use Rattle.hw_lists.specs.Fits.{declared_names, AreOnce}
+use Rattle.hw_lists.specs.Fits.{declared_names}
 
 abbrev pub table : List Element → List Declaration
 table elements = table_after first_table elements

@@ -39,6 +39,41 @@ fn next(n: u32) -> Result<u32, AllocError>
     plus(n, 1)
 }
 
+// A wire where the sign is set, and else the operand itself.
+fn turned(
+    alloc: Global,
+    front: &Text,
+    number: u32,
+    width: u32,
+    a: &Atom,
+) -> Result<Value, AllocError>
+    requires { width ≤ 64 }
+    ensures { IfOk result (λ v. v ≡ Choose (sign_of_lem width a.now) (wire_lem front.now number) a.now) }
+{
+    let sign = sign_of(alloc, width, a)?;
+    let other = wire(alloc, front, number)?;
+    let itself = copy(alloc, a)?;
+    Ok(choose(sign, other, itself))
+}
+
+// One wire where the sign is set, and else another.
+fn by_sign(
+    alloc: Global,
+    front: &Text,
+    yes: u32,
+    no: u32,
+    width: u32,
+    a: &Atom,
+) -> Result<Value, AllocError>
+    requires { width ≤ 64 }
+    ensures { IfOk result (λ v. v ≡ Choose (sign_of_lem width a.now) (wire_lem front.now yes) (wire_lem front.now no)) }
+{
+    let sign = sign_of(alloc, width, a)?;
+    let first = wire(alloc, front, yes)?;
+    let second = wire(alloc, front, no)?;
+    Ok(choose(sign, first, second))
+}
+
 // Every bit turned where the sign is set, shifted, and turned back.
 fn signed_shift(
     alloc: Global,
@@ -55,22 +90,12 @@ fn signed_shift(
     let third = next(second)?;
     let fourth = next(third)?;
     let mut drivers = one(alloc, width, Value::Invert(copy(alloc, a)?))?;
-    let turned = choose(
-        sign_of(alloc, width, a)?,
-        wire(alloc, front, first)?,
-        copy(alloc, a)?,
-    );
-    drivers.push((width, turned))?;
+    drivers.push((width, turned(alloc, front, first, width, a)?))?;
     let count = shift_count(alloc, width, b)?;
     let shifted = binary(wire(alloc, front, second)?, BinaryOp::ShiftRight, count);
     drivers.push((width, shifted))?;
     drivers.push((width, Value::Invert(wire(alloc, front, third)?)))?;
-    let back = choose(
-        sign_of(alloc, width, a)?,
-        wire(alloc, front, fourth)?,
-        wire(alloc, front, third)?,
-    );
-    drivers.push((width, back))?;
+    drivers.push((width, by_sign(alloc, front, fourth, third, width, a)?))?;
     Ok(drivers)
 }
 
@@ -163,12 +188,7 @@ fn signed_division(
     let fourth = next(third)?;
     let negated = binary(literal(width, 0), BinaryOp::Minus, copy(alloc, a)?);
     let mut drivers = one(alloc, width, negated)?;
-    let dividend = choose(
-        sign_of(alloc, width, a)?,
-        wire(alloc, front, first)?,
-        copy(alloc, a)?,
-    );
-    drivers.push((width, dividend))?;
+    drivers.push((width, turned(alloc, front, first, width, a)?))?;
     let divisor = absolute(alloc, width, b)?;
     let divided = binary(wire(alloc, front, second)?, op, divisor);
     drivers.push((width, divided))?;

@@ -12,7 +12,7 @@ use Rattle.kahn_model.specs.Counts.{total, round_of, ticks_made, written, taken,
 use Rattle.kahn_model.specs.Outcome.{WaitsToWrite, WaitsToRead, HasBadToken, IsCapped, IsGreatest}
 use Rattle.kahn_model.proofs.Order.{prefix_refl, prefix_take, prefix_whole}
 use Rattle.kahn_model.proofs.Late.{IsLate, late}
-use Rattle.kahn_model.proofs.Count.{IsBelow, step_stays, bump_below, bump_same, bump_other, total_bump, total_grows, below_end}
+use Rattle.kahn_model.proofs.Count.{IsBelow, step_stays, bump_below, bump_same, bump_other, total_bump}
 use Rattle.kahn_model.proofs.Reach.{reach_founded, full, total_has}
 use Rattle.kahn_model.proofs.Local.{here, here_all, here_prefix, here_is_fed}
 

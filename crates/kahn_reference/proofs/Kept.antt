@@ -1,5 +1,5 @@
 -- A leaf that is typed, at a state and on lists of its kinds, refuses nothing.
-use Rattle.std.proofs.Common.{◌≡◌, ℕ, zero, suc, ◌<◌, List, [], ◌∷◌, length, get_or, drop, Some, refl, sym, ap, ◌∙◌, subst, ⊎_elim, arith}
+use Rattle.std.proofs.Common.{◌≡◌, ℕ, zero, suc, ◌<◌, List, ◌∷◌, length, get_or, Some, refl, sym, ap, ◌∙◌, subst, ⊎_elim, arith}
 use Rattle.std.specs.Prelude.{◌==◌, if◌then◌else◌, slice_get, All, Vec, Result, Ok, Err, IsErrAnd, IsErrOf}
 use Rattle.std.specs.declared.alloc.Global.{Global}
 use Rattle.std.proofs.lemmas.Bool.{cases_eq}
@@ -19,7 +19,7 @@ use Rattle.tapa_syntax.specs.declared.program.Expr.{Expr}
 use Rattle.tapa_syntax.specs.declared.program.Expr.TheVariants.{Lit, Var, Cell', Read, Peek, Eot, Load' as LoadCell, Conv', Apply', Flip', Not', And', Or', Choose'}
 use Rattle.tapa_syntax.specs.declared.program.Stmt.{Stmt, Row_of-Stmt, end_of-Stmt, more_of-Stmt, If, Loop, items-the_row-Stmt, items_hidden-the_row-Stmt-0}
 use Rattle.tapa_syntax.specs.LeafKinds.{Kinds}
-use Rattle.tapa_syntax.specs.Typed.{HasKind, MayDivide, IsConstant, constant, by_zero, IsTyped, AreTyped, IsTypedCode, right_kind, result_kind}
+use Rattle.tapa_syntax.specs.Typed.{HasKind, MayDivide, IsConstant, constant, by_zero, IsTyped, AreTyped, IsTypedCode, right_kind}
 use Rattle.tapa_syntax.proofs.Values.{applied_fits, converted_fits}
 use Rattle.kahn_model.specs.declared.tick.StreamOperation.{StreamOperation}
 use Rattle.kahn_model.specs.declared.tick.TraceEnd.TheVariants.{Ended, Turns}
@@ -39,7 +39,7 @@ use Rattle.kahn_reference.specs.declared.slow.Flow.{Flow}
 use Rattle.kahn_reference.specs.declared.slow.Flow.TheVariants.{Next, Out, Again, Stopped as StoppedFlow}
 use Rattle.kahn_reference.specs.declared.slow.Turn.{Turn}
 use Rattle.kahn_reference.specs.Kept.{StandsFit, answer_kind, IsValueOf, IsPairOf, FlowFits, TurnFits}
-use Rattle.kahn_reference.specs.Slow.{row_at, whole, numbers, state_of, Point, GoesOn, GivesValue, GivesPair, turn_left}
+use Rattle.kahn_reference.specs.Slow.{row_at, whole, state_of, Point, GoesOn, GivesValue, GivesPair, turn_left}
 use Rattle.kahn_reference.proofs.SlowFlows.{left_row, right_row}
 
 -- ---- what is carried along

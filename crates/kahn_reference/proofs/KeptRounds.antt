@@ -1,10 +1,8 @@
 -- The rounds of a well-formed program on an input that fits: each instance stands at a state and on lists of its kinds.
-use Rattle.std.proofs.Common.{◌≡◌, ℕ, zero, suc, ◌<◌, ◌≤◌, List, [], ◌∷◌, length, Option, Some, None, get_or, refl, sym, ap, ◌∙◌, subst, ⊎_elim, arith}
-use Rattle.std.specs.Prelude.{slice_get, slice_index, option_map, unwrap_or, All, Vec}
+use Rattle.std.proofs.Common.{◌≡◌, ℕ, ◌<◌, List, [], ◌∷◌, Option, Some, None, refl, sym, ap, ◌∙◌, subst, arith}
+use Rattle.std.specs.Prelude.{slice_get, option_map, unwrap_or, All, Vec}
 use Rattle.std.specs.declared.alloc.Global.{Global}
-use Rattle.std.proofs.lemmas.Bool.{cases_lt}
 use Rattle.std.proofs.lemmas.List.Elements.{All-nil, All-head, All-tail, All-cons}
-use Rattle.std.proofs.lemmas.Option.{slice_get-get_or, slice_get_past}
 use Rattle.tapa_base.specs.declared.kind.Kind.{Kind}
 use Rattle.tapa_base.specs.declared.kind.Kind.TheVariants as kind
 use Rattle.tapa_base.specs.declared.token.Token.{Token}
@@ -14,11 +12,10 @@ use Rattle.tapa_syntax.specs.declared.program.End.{End}
 use Rattle.tapa_syntax.specs.declared.program.Instance.{Instance}
 use Rattle.tapa_syntax.specs.declared.program.Leaf.{Leaf}
 use Rattle.tapa_syntax.specs.declared.program.Program.{Program}
-use Rattle.tapa_syntax.specs.declared.program.Stream.{Stream}
 use Rattle.tapa_syntax.specs.LeafKinds.{kinds_of, writes_of}
 use Rattle.tapa_syntax.specs.WellFormed.{IsInstance, IsWellFormed}
 use Rattle.tapa_syntax.specs.Typed.{IsTypedCode}
-use Rattle.kahn_model.specs.Fits.{IsTokenOf, IsFitState, FitsInput, stream_kind, memory_kind}
+use Rattle.kahn_model.specs.Fits.{IsTokenOf, FitsInput, stream_kind, memory_kind}
 use Rattle.kahn_model.specs.Network.{stream}
 use Rattle.kahn_model.specs.declared.tick.Tick.{Tick}
 use Rattle.kahn_model.specs.declared.tick.Tick.TheVariants.{End as Ended}
@@ -27,9 +24,9 @@ use Rattle.kahn_model.specs.ProgramNetwork.{leaf_job, instance_job}
 use Rattle.kahn_model.specs.Trace.{State, job_of, at_streams}
 use Rattle.kahn_model.specs.Start.{kinds_in, leaf_state, instance_state, network_of}
 use Rattle.kahn_model.proofs.FitsNetwork.{first_fits, network_keeps, stream_fits}
-use Rattle.kahn_model.proofs.WellFormed.{get_there, stream_kind_at}
+use Rattle.kahn_model.proofs.WellFormed.{stream_kind_at}
 use Rattle.kahn_reference.specs.Kept.{StandsFit, TokensFit}
-use Rattle.kahn_reference.specs.Slow.{row_at, whole, numbers}
+use Rattle.kahn_reference.specs.Slow.{whole, numbers}
 
 -- each kind has at most as many values as that of 64 bits
 wide : (k : Kind) (v : ℕ) → v < values_of k → v < values_of kind.U64

@@ -1,23 +1,19 @@
 -- How driving a net ends.
-use Rattle.std.proofs.Common.{◌≡◌, ℕ, ◌-◌, ◌<◌, ◌≤◌, ◌⊎◌, length, Some, refl, inl, inr, sym, ap, ◌∙◌, subst, ⊎_elim, arith}
+use Rattle.std.proofs.Common.{◌≡◌, ℕ, ◌-◌, ◌<◌, ◌≤◌, ◌⊎◌, length, Some, inl, inr, sym, ap, ◌∙◌, subst, ⊎_elim, arith}
 use Rattle.std.proofs.lemmas.Bool.{cases_lt}
 use Rattle.std.proofs.lemmas.Option.{slice_get_within}
-use Rattle.tapa_syntax.specs.declared.program.Program.{Program}
 use Rattle.kahn_model.specs.Network.{Network}
 use Rattle.kahn_model.specs.Counts.{IsFounded, IsAllowed}
 use Rattle.kahn_model.specs.Outcome.{IsGreatest, IsJoined, HasJoinedLeft}
-use Rattle.kahn_model.specs.Start.{network_of}
 use Rattle.kahn_model.proofs.Count.{step_stays}
 use Rattle.kahn_model.proofs.Reach.{reach_founded}
 use Rattle.kahn_model.proofs.Ends.{greatest, greatest_by}
 use Rattle.kahn_model.proofs.Ended.{ended_over}
 use Rattle.kahn_model.proofs.Joined.{joined_more}
 use Rattle.net_ports.specs.declared.body.Pause.TheVariants.{Ended, Fuel}
-use Rattle.net_instances.specs.declared.input.Input.{Input}
 use Rattle.net_core.specs.declared.outcome.Outcome.TheVariants.{Done, Stopped, Limit}
 use Rattle.net_instances.specs.declared.net_state.NetState.{NetState}
-use Rattle.net_instances.specs.Bindings.{detached_at, stream_at}
-use Rattle.net_instances.specs.Bounded.{network_on}
+use Rattle.net_instances.specs.Bindings.{stream_at}
 use Rattle.net_instances.specs.Waits.{IsToldBy}
 use Rattle.net_instances.specs.State.{network, count, joined_total, IsValid, IsWithin}
 use Rattle.net_core.specs.Settle.{IsQuiet, IsSpent, IsAtRest, IsLimited, EndsAs, IsTold, AreTold, AreJoinedTold, AreJoinedEnded, IsSomeJoinedLeft, IsSomeWithFuel, AreNoneWithFuel}

@@ -1,5 +1,5 @@
 -- An instance that has ended, or has met a token that it may not have, makes no more ticks.
-use Rattle.std.proofs.Common.{◌≡◌, ℕ, ◌≤◌, ◌⊎◌, List, [], ◌∷◌, length, max, inl, inr, refl, sym, ap, ◌∙◌, subst, arith}
+use Rattle.std.proofs.Common.{◌≡◌, ℕ, ◌≤◌, ◌⊎◌, List, [], ◌∷◌, length, max, inl, inr, refl, sym, ap, subst, arith}
 use Rattle.tapa_base.specs.declared.token.Token.{Token}
 use Rattle.kahn_model.specs.declared.tick.TraceEnd.{TraceEnd}
 use Rattle.kahn_model.specs.declared.tick.TraceEnd.TheVariants.{Ended, Needs, Bad, Turns}
@@ -14,7 +14,7 @@ use Rattle.kahn_model.proofs.Grow.{Grows, after_grows, ticks_grow}
 use Rattle.kahn_model.proofs.Late.{IsLate, late}
 use Rattle.kahn_model.proofs.Count.{IsBelow, made_le}
 use Rattle.kahn_model.proofs.Reach.{reach_founded}
-use Rattle.kahn_model.proofs.Local.{here, here_all}
+use Rattle.kahn_model.proofs.Local.{here_all}
 use Rattle.net_ports.specs.declared.body.Pause.{Pause}
 use Rattle.net_ports.specs.declared.body.Pause.TheVariants.{Ended as HasEnded, WantsRead, WantsWrite, BadToken, Fuel}
 use Rattle.net_instances.specs.Waits.{StopsIn, HoldsPause, IsLast}

@@ -9,7 +9,7 @@ use Rattle.kahn_model.specs.declared.tick.Tick.{Tick}
 use Rattle.kahn_model.specs.declared.tick.Tick.TheVariants.{Did, End}
 use Rattle.kahn_model.specs.declared.tick.TraceEnd.{TraceEnd}
 use Rattle.kahn_model.specs.declared.tick.TraceEnd.TheVariants.{Ended, Needs, Bad, Turns}
-use Rattle.kahn_model.specs.Behavior.{Behavior, Finished, OutOfTurns, Act, Await, Offer, NoToken, WrongToken, Answer, first_offer, lists_after, on_offer, ticks, trace_end, Extends, Lasts}
+use Rattle.kahn_model.specs.Behavior.{Behavior, Finished, OutOfTurns, Act, Await, Offer, NoToken, WrongToken, Answer, first_offer, lists_after, on_offer, ticks, trace_end, Extends}
 use Rattle.kahn_model.specs.Network.{Network, IsNetwork, round}
 use Rattle.kahn_model.specs.Counts.{round_of, ticks_made, written, IsSupplied, IsFounded, HasEnded}
 use Rattle.kahn_model.specs.Outcome.{StandsAt}

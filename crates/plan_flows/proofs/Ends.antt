@@ -1,22 +1,21 @@
 -- The first flow, and the last one.
-use Rattle.std.proofs.Common.{◌≡◌, ℕ, zero, suc, ◌+◌, ◌*◌, ◌^◌, ◌<◌, ◌≤◌, ◌⊎◌, inl, inr, Bool, true, false, cond, List, [], ◌∷◌, ◌++◌, length, get_or, refl, sym, ap, subst, ◌∙◌, arith, ⊎_elim}
+use Rattle.std.proofs.Common.{◌≡◌, ℕ, zero, suc, ◌+◌, ◌*◌, ◌<◌, ◌≤◌, ◌⊎◌, Bool, true, false, cond, List, length, get_or, refl, sym, ap, ◌∙◌, arith, ⊎_elim}
 use Rattle.std.specs.Prelude.{if◌then◌else◌, ◌==◌, MatchBool, slice_index}
 use Rattle.std.proofs.lemmas.Bool.{cases_lt, cases_eq}
-use Rattle.std.proofs.lemmas.Bool.Decides.{nat_tests}
 use Rattle.std.proofs.lemmas.Grind.{common_steps}
 use Rattle.std.proofs.lemmas.Nat.{mul-le}
 use Rattle.task_graph.specs.declared.Graph.{Graph}
 use Rattle.task_graph.specs.Arcs.{streams, tail, head, width, inner, total}
-use Rattle.flow_cert.specs.Balance.{IsEven, cost}
-use Rattle.flow_cert.specs.Flow.{weight, Levels, IsDualFlow}
-use Rattle.flow_cert.specs.Verdicts.{balance_of, Fits, FitBelow, KeptBelow, IsBest, AreLists, IsVerdict}
+use Rattle.flow_cert.specs.Balance.{IsEven}
+use Rattle.flow_cert.specs.Flow.{weight, IsDualFlow}
+use Rattle.flow_cert.specs.Verdicts.{balance_of, FitBelow, AreLists, IsVerdict}
 use Rattle.flow_cert.specs.declared.verdict.Verdict.TheVariants.{Yes}
-use Rattle.flow_cert.proofs.Sums.{total_same, total_le, total_add, total_const, total_zero}
+use Rattle.flow_cert.proofs.Sums.{total_same, total_le, total_add, total_zero}
 use Rattle.flow_cert.proofs.Duality.{kept_by_levels, duality, flow_small}
-use Rattle.flow_cert.proofs.Yes.{is_inner, is_outer, fits_even, best}
+use Rattle.flow_cert.proofs.Yes.{is_inner, is_outer, fits_even}
 use Rattle.plan_flows.specs.declared.moves.Move.{Move}
 use Rattle.plan_flows.specs.Moves.{IsMove, IsCarried, AreLatencies}
-use Rattle.plan_flows.specs.Search.{IsSettled, AreSettled}
+use Rattle.plan_flows.specs.Search.{AreSettled}
 
 -- one term is at most the sum
 pub total_part : (n e : ℕ) (f : ℕ → ℕ) → e < n → f e ≤ total n f

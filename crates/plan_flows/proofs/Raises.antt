@@ -1,10 +1,9 @@
 -- A log with one more entry.
-use Rattle.std.proofs.Common.{◌≡◌, ℕ, zero, suc, ◌+◌, ◌*◌, ◌<◌, ◌≤◌, ◌⊎◌, inl, inr, Bool, true, false, cond, List, [], ◌∷◌, ◌++◌, length, get_or, set, refl, sym, ap, subst, ◌∙◌, arith, ⊎_elim, length-set, length-append}
+use Rattle.std.proofs.Common.{◌≡◌, ℕ, zero, suc, ◌+◌, ◌*◌, ◌<◌, ◌≤◌, ◌⊎◌, inl, inr, List, [], ◌∷◌, ◌++◌, length, get_or, set, refl, sym, ap, subst, ◌∙◌, arith, ⊎_elim, length-set, length-append}
 use Rattle.std.proofs.lemmas.Bool.{cases_lt, cases_eq}
 use Rattle.std.proofs.lemmas.Grind.{common_steps}
-use Rattle.std.proofs.lemmas.Nat.{mul-le}
 use Rattle.task_graph.specs.declared.Graph.{Graph}
-use Rattle.task_graph.specs.Arcs.{streams, tail, head, total}
+use Rattle.task_graph.specs.Arcs.{total}
 use Rattle.task_graph.specs.Streams.{least_of}
 use Rattle.flow_cert.proofs.Sums.{total_same, total_le, total_const}
 use Rattle.plan_flows.specs.declared.moves.Move.{Move}

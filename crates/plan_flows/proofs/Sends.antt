@@ -1,11 +1,11 @@
 -- What one move sends.
-use Rattle.std.proofs.Common.{◌≡◌, ℕ, zero, suc, ◌+◌, ◌*◌, ◌<◌, ◌≤◌, Bool, true, false, cond, List, length, get_or, set, refl, sym, ap, subst, ◌∙◌, arith, ⊎_elim, inl, inr, ◌⊎◌, ◌^◌, add-one, get_or-set_other, get_or-set_same}
+use Rattle.std.proofs.Common.{◌≡◌, ℕ, zero, suc, ◌+◌, ◌*◌, ◌<◌, ◌≤◌, true, false, cond, List, length, get_or, set, refl, sym, ap, ◌∙◌, arith, ⊎_elim, inl, inr, ◌⊎◌, ◌^◌, add-one}
 use Rattle.std.proofs.lemmas.Bool.{cases_lt, cases_eq}
 use Rattle.std.proofs.lemmas.Grind.{common_steps}
 use Rattle.std.proofs.lemmas.Bool.Decides.{nat_tests}
 use Rattle.std.proofs.Math.Nat.{mul-le-mul_left}
 use Rattle.task_graph.specs.declared.Graph.{Graph}
-use Rattle.task_graph.specs.Arcs.{streams, tail, head, width, inner, total}
+use Rattle.task_graph.specs.Arcs.{streams, tail, head, inner, total}
 use Rattle.flow_cert.specs.Flow.{weight}
 use Rattle.plan_flows.specs.declared.moves.Move.{Move}
 use Rattle.plan_flows.specs.Moves.{start_of, end_of, gain_of, loss_of, place, move_at, Sent, IsCycle}

@@ -1,16 +1,16 @@
 -- The way back through a log.
-use Rattle.std.proofs.Common.{◌≡◌, ℕ, zero, suc, ◌+◌, ◌*◌, ◌<◌, ◌≤◌, ◌⊎◌, inl, inr, Bool, true, false, cond, List, [], ◌∷◌, ◌++◌, length, get_or, set, refl, sym, ap, subst, ◌∙◌, arith, ⊎_elim, add-one, length-set, length-append, ◌^◌}
+use Rattle.std.proofs.Common.{◌≡◌, ℕ, zero, suc, ◌+◌, ◌*◌, ◌<◌, ◌≤◌, ◌⊎◌, inl, inr, Bool, true, false, cond, List, [], ◌∷◌, ◌++◌, length, get_or, set, refl, sym, ap, subst, ◌∙◌, arith, ⊎_elim, length-set, length-append, ◌^◌}
 use Rattle.std.specs.Prelude.{nat_lt, if◌then◌else◌}
 use Rattle.std.proofs.lemmas.Bool.{cases_lt, cases_eq}
 use Rattle.std.proofs.lemmas.Bool.Decides.{nat_tests}
 use Rattle.std.proofs.lemmas.Grind.{common_steps}
 use Rattle.task_graph.specs.declared.Graph.{Graph}
-use Rattle.task_graph.specs.Arcs.{streams, tail, head, width, total}
+use Rattle.task_graph.specs.Arcs.{tail, head, total}
 use Rattle.flow_cert.proofs.Sums.{total_same, total_le, total_const}
 use Rattle.plan_flows.specs.declared.moves.Move.{Move}
 use Rattle.plan_flows.specs.declared.moves.Entry.{Entry}
-use Rattle.plan_flows.specs.Moves.{start_of, end_of, gain_of, loss_of, place, move_at, still, IsMove, IsCycle, AreLatencies}
-use Rattle.plan_flows.specs.Log.{entry_at, IsStep, IsLog, IsMarked, ClosedTo, IsRepeat}
+use Rattle.plan_flows.specs.Moves.{start_of, end_of, gain_of, loss_of, place, move_at, IsMove, IsCycle, AreLatencies}
+use Rattle.plan_flows.specs.Log.{entry_at, IsLog, IsMarked, ClosedTo, IsRepeat}
 
 -- how many groups are marked
 abbrev pub mark : ℕ → ℕ → ℕ

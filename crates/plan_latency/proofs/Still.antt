@@ -1,5 +1,5 @@
 -- A wire within one slot crosses no border.
-use Rattle.std.proofs.Common.{◌≡◌, ◌≤◌, ◌==◌, ℕ, zero, suc, ◌+◌, ◌/◌, ◌%◌, ◌&&◌, max, min, nat_le, nat_lt, Bool, true, false, List, length, if◌then◌else◌, refl, ap, subst, arith}
+use Rattle.std.proofs.Common.{◌≡◌, ◌≤◌, ◌==◌, ℕ, zero, suc, ◌/◌, ◌%◌, ◌&&◌, max, min, nat_le, nat_lt, Bool, true, false, List, length, if◌then◌else◌, refl, ap, subst, arith}
 use Rattle.std.specs.Prelude.{slice_index}
 use Rattle.std.proofs.lemmas.Bool.Decides.{nat_tests}
 use Rattle.task_graph.specs.Arcs.{total}

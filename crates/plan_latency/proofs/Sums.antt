@@ -1,11 +1,11 @@
 -- What border latencies and a balance come to.
-use Rattle.std.proofs.Common.{◌≡◌, ◌≤◌, ◌<◌, ◌⊎◌, ℕ, ◌+◌, ◌-◌, ◌*◌, ◌==◌, Bool, true, false, List, length, get_or, refl, sym, ap, ◌∙◌, subst, ⊎_elim, arith}
+use Rattle.std.proofs.Common.{◌≡◌, ◌≤◌, ◌<◌, ◌⊎◌, ℕ, ◌+◌, ◌-◌, Bool, true, false, List, length, get_or, refl, sym, ap, ◌∙◌, ⊎_elim, arith}
 use Rattle.std.proofs.lemmas.Bool.{cases_lt}
 use Rattle.std.proofs.lemmas.List.{get_or_past}
 use Rattle.std.specs.Prelude.{MatchBool}
 use Rattle.task_graph.specs.declared.Graph.{Graph}
 use Rattle.task_graph.specs.Arcs.{streams, tail, head, inner}
-use Rattle.flow_cert.specs.Verdicts.{Fits, balance_of}
+use Rattle.flow_cert.specs.Verdicts.{balance_of}
 use Rattle.latency_balance.specs.declared.balance.Balance.{Balance}
 use Rattle.latency_balance.specs.Result.{IsBalance}
 use Rattle.slot_plan.proofs.Limits.{few_groups}

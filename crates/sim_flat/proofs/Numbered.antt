@@ -1,7 +1,6 @@
 -- Rows that have all instances in them number the instances of a design.
 use Rattle.std.proofs.Common.{◌≡◌, ℕ, zero, suc, ◌+◌, ◌<◌, ◌≤◌, List, [], ◌∷◌, Some, length, get_or, inl, inr, refl, sym, ap, subst, ◌∙◌, map, arith}
-use Rattle.std.specs.Prelude.{◌⊎◌, slice_get}
-use Rattle.std.specs.List.{flat_map}
+use Rattle.std.specs.Prelude.{slice_get}
 use Rattle.std.proofs.lemmas.Bool.{cases_lt, cases_eq}
 use Rattle.vlog_tree.specs.declared.tree.Item.TheVariants.{Instance}
 use Rattle.vlog_tree.specs.Form.{ModuleTree}
@@ -20,7 +19,7 @@ use Rattle.vlog_law_loops.proofs.Climbed.{named_is}
 use Rattle.vlog_ref_start.proofs.Short.{way_short}
 use Rattle.sim_flat.specs.declared.instances.Instance as row
 use Rattle.sim_flat.specs.Kinds.{kind_place, module_kinds, all_kinds}
-use Rattle.sim_flat.specs.Rows.{row_at, kinds_at, IsPlaced, IsInside, AreRows, HaveDepth}
+use Rattle.sim_flat.specs.Rows.{row_at, IsInside, AreRows, HaveDepth}
 use Rattle.sim_flat.specs.Instances.{IsNamed, StandsAt, IsModuleOf, AreInstances}
 use Rattle.sim_flat.proofs.Once.{instance_once}
 use Rattle.sim_flat.proofs.Placing.{kind_got, kinds_got, kinds_length, kind_at, got_low}

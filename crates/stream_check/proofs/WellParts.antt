@@ -17,7 +17,7 @@ use Rattle.check_upper.specs.declared.task.Binding.{Binding}
 use Rattle.check_upper.specs.declared.task.Binding.TheVariants.{OwnStream, StreamParameter, MemoryParameter, ScalarParameter, Constant}
 use Rattle.check_upper.specs.Tasks.{Invocation, Body, leaf_body, upper_body, Task}
 use Rattle.stream_check.specs.Parts as part
-use Rattle.stream_check.specs.Parts.{Part, own, instance, too_deep, streams_in, instances_in, below, instance_name, name_of, passed, bound_or_zero, bind, bind_all, unbound, invoked, labelled, own_parts, Expands, followed, chain_parts, body_of, body_parts, deepest_parts, parts_of}
+use Rattle.stream_check.specs.Parts.{Part, own, instance, too_deep, streams_in, instances_in, below, instance_name, name_of, passed, bound_or_zero, bind, bind_all, unbound, invoked, labelled, own_parts, Expands, chain_parts, body_of, body_parts, deepest_parts, parts_of}
 use Rattle.stream_check.proofs.WellLists.{Each, each_append, each_get, get_map, Contains, contains_left, contains_right, Pairs, pairs_left, pairs_push}
 use Rattle.stream_check.proofs.WellValues.{kinds_same}
 use Rattle.stream_check.proofs.WellPorts.{Ports, no_ports, end_of, with_stream, with_memory, with_scalar, with_port, with_ports, ports_of}

@@ -20,7 +20,7 @@ use Rattle.tapa_syntax.specs.LeafKinds.{writes_of}
 use Rattle.tapa_syntax.specs.Trees.{ItemTree, TaskTree}
 use Rattle.tapa_syntax.specs.Flat.{FlatInstance, FlatLeaf, FlatProgram, flat_bound, flat_instance, flat_leaf, flat_program}
 use Rattle.tapa_syntax.specs.WellFormed as well
-use Rattle.tapa_syntax.specs.WellFormed.{IsBoundTo, IsEndOf, IsInstance, IsJoined, IsMemoryAt, IsStreamAt, IsWellFormed}
+use Rattle.tapa_syntax.specs.WellFormed.{IsBoundTo, IsEndOf, IsInstance, IsJoined, IsWellFormed}
 use Rattle.check_scope.specs.declared.fault.CheckCode.TheVariants.{C3}
 use Rattle.check_leaf.proofs.Leaves.{leaf_well}
 use Rattle.check_upper.specs.declared.task.Channel.{Channel}

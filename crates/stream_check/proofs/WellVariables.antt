@@ -3,7 +3,7 @@ use Rattle.std.proofs.Common.{◌≡◌, ℕ, List, [], ◌∷◌, not, Some}
 use Rattle.std.specs.Prelude.{slice_get}
 use Rattle.tapa_base.specs.declared.kind.Kind.{Kind}
 use Rattle.tapa_syntax.specs.Trees as tree
-use Rattle.tapa_syntax.specs.Trees.{StatementTree, Statements, DeclarationTree, DeclaratorTree, StartTree, HeadTree}
+use Rattle.tapa_syntax.specs.Trees.{StatementTree, Statements, DeclarationTree, DeclaratorTree, StartTree}
 use Rattle.check_leaf.specs.Statements.{Frame, opened, closed, after_declarator, after_declarators, after_declaration, after_start, in_head, after, after_all}
 use Rattle.stream_check.proofs.WellLists.{get_left}
 

@@ -13,7 +13,7 @@ use Rattle.tapa_syntax.specs.Trees.{ExpressionTree, PlaceTree, variable_place, e
 use Rattle.tapa_syntax.specs.Grammar.{Part, Takes, MeansAt, IsName, IsType, IsExpression, is_name, step_operator_of, assignment_operator_of, sum_level, expression_level, argument_level, IsPlace, IsAction, IsCountForm, IsDeclarator, IsDeclaration, IsStatement, IsClosed}
 use Rattle.tapa_syntax.specs.Limits.{most, nesting, operators, place_nesting, place_operators, action_nesting, action_operators, declarator_nesting, declarator_operators, declaration_nesting, declaration_operators, statement_nesting, statement_operators}
 use Rattle.tapa_parse_expression.specs.Readers.{and_then, ◌>>◌, skip, next, same, sees, past}
-use Rattle.tapa_parse_expression.specs.Reading.{Readers, enter, open_level, argument, level, unary_with, expression_with, whole, place_from, place_with, call_arguments, assigned_by, assigned, acted_by, acted, stepped, action_with, declarator_by, declarator, declaration_with}
+use Rattle.tapa_parse_expression.specs.Reading.{Readers, argument, level, unary_with, expression_with, whole, place_from, place_with, call_arguments, assigned, acted_by, acted, stepped, action_with, declarator_by, declarator, declaration_with}
 use Rattle.tapa_parse_expression.specs.Reading as spec
 use Rattle.tapa_parse_expression.proofs.Parts.{Symbols, done, then_is, if_true, if_false, differ_by, next_is, seen_is, dropped, expect_is, past_is, past_none, name_is, plain_is}
 use Rattle.tapa_parse_expression.proofs.Lists.{IsPart, ReadsAll, ReadsEach, repeat_some_complete, separated_complete, separated_until_complete}

@@ -13,7 +13,7 @@ use Rattle.tapa_syntax.specs.Trees.{ExpressionTree, ActionTree, call_action, wri
 use Rattle.tapa_syntax.specs.Grammar.{Takes, TakesAt, IsName, IsExpression, is_name, step_operator_of, expression_level, IsPlace, IsAction, IsDeclaration, IsAttributeArgument, AreAttributeArguments, IsAttribute, IsBare, IsStart, IsHead, IsStatement, AreStatements}
 use Rattle.tapa_syntax.specs.Limits.{most, if_there, nesting, operators, action_nesting, action_operators, attribute_nesting, start_nesting, start_operators, head_nesting, head_operators, statement_nesting, statement_operators, statements_nesting, statements_operators}
 use Rattle.tapa_parse_expression.specs.Readers.{and_then, pure, next, same, sees, name}
-use Rattle.tapa_parse_expression.specs.Reading.{Readers, whole, begins_action, begins_statement, attribute_argument_by, attribute_argument, listed_arguments, attribute_arguments, attribute, action_with, declaration_with, start, loop_test, step, jump, statement_with, statements_with, simple, braces, otherwise, choice, repetition, counting_loop, transaction_loop, bare_by, bare, inside_with, readers, below_levels}
+use Rattle.tapa_parse_expression.specs.Reading.{Readers, begins_action, begins_statement, attribute_argument_by, attribute_argument, listed_arguments, attribute_arguments, attribute, start, loop_test, step, jump, statement_with, statements_with, simple, braces, otherwise, choice, repetition, counting_loop, transaction_loop, bare_by, bare, inside_with, readers, below_levels}
 use Rattle.tapa_parse_expression.specs.Reading as spec
 use Rattle.tapa_parse_expression.proofs.Parts.{Symbols, done, then_is, if_true, if_false, differ_by, is_seen, next_is, seen_is, dropped, expect_is, name_is, plain_is, literal_is}
 use Rattle.tapa_parse_expression.proofs.Lists.{IsPart, ReadsAll, repeat_complete, repeat_some_complete, separated_until_complete}

@@ -1,25 +1,23 @@
 -- In a cycle in one state, the answers of its reads show the cells, and its wires its value and its index.
-use Rattle.std.proofs.Common.{◌≡◌, ℕ, zero, suc, ◌+◌, ◌-◌, ◌%◌, ◌^◌, ◌<◌, ◌≤◌, Bool, true, false, cond, eqb, ltb, List, [], ◌∷◌, ◌++◌, length, Option, Some, None, inl, inr, refl, sym, ap, subst, ◌∙◌, arith, ⊎_elim}
+use Rattle.std.proofs.Common.{◌≡◌, ℕ, suc, ◌+◌, ◌-◌, ◌^◌, ◌<◌, ◌≤◌, Bool, true, false, cond, eqb, List, [], ◌∷◌, ◌++◌, length, Some, inl, inr, refl, sym, ap, subst, ◌∙◌, arith, ⊎_elim}
 use Rattle.std.specs.Prelude.{◌⊎◌, nat_lt, bit_and, slice_get}
 use Rattle.std.specs.Int.Count.{count_leading_zeros}
 use Rattle.std.proofs.Math.Nat.{mod-eq_of_lt}
 use Rattle.std.proofs.lemmas.Nat.{leading_length, leading_top}
-use Rattle.std.proofs.lemmas.Bool.{cases_eq, eq-eqb, ne_eqb, ltb-true, ltb-false}
+use Rattle.std.proofs.lemmas.Bool.{cases_eq, eq-eqb, ne_eqb, ltb-true}
 use Rattle.tapa_base.specs.declared.kind.Kind.{Kind}
 use Rattle.tapa_base.specs.declared.kind.Kind.TheVariants as kind
 use Rattle.tapa_base.specs.Kinds.{bits_of}
 use Rattle.tapa_syntax.specs.LeafKinds.{Kinds}
 use Rattle.tapa_syntax.specs.Typed.{right_kind}
 use Rattle.kahn_model.specs.Trace.{State, cell}
-use Rattle.vlog_tree.specs.declared.tree.Atom.{Atom}
 use Rattle.vlog_tree.specs.declared.tree.Atom.TheVariants.{Net, Literal}
 use Rattle.vlog_tree.specs.declared.tree.BinaryOp.TheVariants.{And, Less}
-use Rattle.vlog_tree.specs.declared.tree.Value.{Value}
 use Rattle.vlog_tree.specs.declared.tree.Value.TheVariants.{Binary, Choose, Cell}
 use Rattle.vlog_tree.specs.declared.table.NetKind.TheVariants.{WireNet}
 use Rattle.vlog_tree.specs.Grounded.{Has}
 use Rattle.vlog_tree.specs.Table.{Name, one_if}
-use Rattle.vlog_tree.specs.Cycle.{Cycle, Follows, atom_value, driven}
+use Rattle.vlog_tree.specs.Cycle.{Cycle, Follows, atom_value}
 use Rattle.vlog_tree.proofs.Lists.{has_left, has_right}
 use Rattle.hw_build.specs.Elements.{Element, Wire, Register, Memory, built}
 use Rattle.hw_build.proofs.Driven.{wire_driven, width_declared, cells_declared}
@@ -28,7 +26,7 @@ use Rattle.hw_lists.specs.Choices.{Entry, any_elements, pick_elements, choice}
 use Rattle.hw_lists.specs.Fits.{IsAmong}
 use Rattle.hw_lists.proofs.Parts.{has_each}
 use Rattle.task_fsm.specs.Machine.{Expression, Number, Reg, CellOf, Converted, Applied, Flipped, Inverse, Both, Either, Chosen, Operation, StateForm, SetAt, CellAt, TestAt, ReadAt, WriteAt, PeekAt, EotAt, OpenAt, CloseAt, LoadAt, StoreAt, ClearAt, EndAt, TrapAt}
-use Rattle.task_fsm.specs.MachineKinds.{IsOfKind, IsTypedState, HoldsValues}
+use Rattle.task_fsm.specs.MachineKinds.{IsOfKind, IsTypedState}
 use Rattle.task_fsm.specs.Ranges.{Ranges, NamesWithin, IsInRange}
 use Rattle.task_fsm.specs.Run.{value}
 use Rattle.task_law.specs.declared.nets.Choice.TheVariants.{Reads, Spot}
@@ -36,17 +34,17 @@ use Rattle.task_law.specs.declared.nets.Net.TheVariants.{State as StateNet, Ende
 use Rattle.task_law.specs.Nets.{name, front, value_front, index_front, read_front}
 use Rattle.task_law.specs.Shape.{Shape, bits_for, kinds_in, array_kind, array_cells, index_bits, state_count, state_bits, form_at}
 use Rattle.task_law.specs.Drivers.{low_bits}
-use Rattle.task_law.specs.Wires.{ArrayRead, read_count, reads_in, compiled}
+use Rattle.task_law.specs.Wires.{ArrayRead, read_count, reads_in}
 use Rattle.task_law.specs.States.{net, nothing, index_of, value_of, value_kind, index_wires, value_wires, reads_at}
 use Rattle.task_law.specs.Effects.{entry, at, effect, entries, spot_of}
-use Rattle.task_law.specs.Texts.{array, held, read_index, asked_of, answered, unless_none, read_numbers, variable, task_elements}
+use Rattle.task_law.specs.Texts.{array, read_index, asked_of, answered, unless_none, read_numbers, variable, task_elements}
 use Rattle.task_wires.specs.Shows.{Shows, AreSaid}
 use Rattle.task_wires.specs.Computes.{Numbered, AnswerShown, AnswersShown}
 use Rattle.task_acts.specs.Reads.{IsIn, ReadsAreShown, ValueIsShown, IndexIsShown}
 use Rattle.task_law.proofs.Members.{all, asked_in, answered_in, held_in, value_in, index_in, among_left, among_right, among_each}
 use Rattle.task_law.proofs.Decodes.{at_here, any_on, any_off, pick_on, most_of, got_low}
 use Rattle.task_wires.proofs.Shown.{low_bits_is}
-use Rattle.task_wires.proofs.Computed.{reads_counted, numbered_left, numbered_right, numbered_second, numbered_join, computed}
+use Rattle.task_wires.proofs.Computed.{numbered_left, numbered_second, numbered_join, computed}
 
 -- a number fits in its bits
 pub fits_bits : (n : ℕ) → n < 2 ^ 32 → n < 2 ^ bits_for n

@@ -1,15 +1,14 @@
 -- The next state and the next values of registers.
-use Rattle.std.proofs.Common.{◌≡◌, ℕ, zero, suc, ◌+◌, ◌-◌, ◌<◌, Bool, true, false, cond, eqb, ◌||◌, List, [], ◌∷◌, ◌++◌, length, inl, inr, refl, sym, ap, subst, ◌∙◌, arith}
+use Rattle.std.proofs.Common.{◌≡◌, ℕ, suc, ◌+◌, ◌-◌, ◌<◌, Bool, true, false, cond, eqb, ◌||◌, List, [], ◌∷◌, ◌++◌, length, inl, inr, refl, sym, ap, subst, ◌∙◌, arith}
 use Rattle.std.specs.Prelude.{nat_lt, bytes_eq, slice_index}
-use Rattle.std.specs.List.{list_any, flat_map}
+use Rattle.std.specs.List.{list_any}
 use Rattle.std.specs.Cmp.Lexicographic.{bytes_decides}
 use Rattle.tapa_base.specs.declared.kind.Kind.TheVariants as kind
 use Rattle.tapa_base.specs.Kinds.{bits_of}
-use Rattle.kahn_model.specs.Trace.{State, at_zero}
+use Rattle.kahn_model.specs.Trace.{State}
 use Rattle.vlog_tree.specs.declared.tree.Atom.{Atom}
 use Rattle.vlog_tree.specs.declared.tree.Atom.TheVariants.{Net, Literal}
-use Rattle.vlog_tree.specs.declared.tree.BinaryOp.TheVariants.{Plus, Less}
-use Rattle.vlog_tree.specs.declared.tree.Item.{Item}
+use Rattle.vlog_tree.specs.declared.tree.BinaryOp.TheVariants.{Less}
 use Rattle.vlog_tree.specs.declared.tree.Item.TheVariants.{Reg}
 use Rattle.vlog_tree.specs.declared.tree.Value.TheVariants.{Binary, Choose}
 use Rattle.vlog_tree.specs.declared.tree.Step.{Step}
@@ -20,16 +19,16 @@ use Rattle.vlog_tree.specs.Labels.{rst}
 use Rattle.vlog_tree.specs.Table.{Name, one_if}
 use Rattle.vlog_tree.specs.Cycle.{Cycle, Follows, Sizes, put, run_steps, atom_value}
 use Rattle.vlog_tree.specs.V4.{step_assigns}
-use Rattle.vlog_tree.proofs.Lists.{has_flat, has_left, has_right}
+use Rattle.vlog_tree.proofs.Lists.{has_flat, has_right}
 use Rattle.vlog_law_modules.specs.Forms.{set_block}
 use Rattle.vlog_law_modules.specs.Blocks.{IsOwnBlock}
 use Rattle.vlog_law_modules.proofs.Lines.{register_takes}
-use Rattle.hw_build.specs.Elements.{Element, Wire, Register, Block, built, reset_or, reset_or_set}
+use Rattle.hw_build.specs.Elements.{Wire, Register, Block, built, reset_or}
 use Rattle.hw_build.specs.Fitting.{AreFitting, stored_names}
 use Rattle.hw_build.proofs.Driven.{wire_driven, line_there, block_is_own}
 use Rattle.hw_build.proofs.Meaning.{reset_is, reset_set_is}
 use Rattle.hw_lists.specs.Scope.{each}
-use Rattle.hw_lists.specs.Choices.{Entry, any_elements, pick_elements, choice}
+use Rattle.hw_lists.specs.Choices.{Entry, any_elements, pick_elements}
 use Rattle.hw_lists.specs.Fits.{IsAmong}
 use Rattle.hw_lists.proofs.Parts.{has_each}
 use Rattle.task_fsm.specs.Machine.{Expression, StateForm, SetAt, CellAt, TestAt, ReadAt, WriteAt, PeekAt, EotAt, OpenAt, CloseAt, LoadAt, StoreAt, ClearAt, EndAt, TrapAt}
@@ -39,17 +38,14 @@ use Rattle.task_fsm.specs.Run.{value}
 use Rattle.task_fsm.proofs.Steps.{value_fits}
 use Rattle.task_law.specs.declared.nets.Choice.{Choice}
 use Rattle.task_law.specs.declared.nets.Choice.TheVariants.{ToState, ToEnd, Set, In}
-use Rattle.task_law.specs.declared.nets.Net.{Net as NetNumber}
-use Rattle.task_law.specs.declared.nets.Net.TheVariants.{State as StateNet, Ended, Variable, Array, Has as HasNet, Rdy, Ack, Datum, Eot as EotNet, At, Next, Value}
+use Rattle.task_law.specs.declared.nets.Net.TheVariants.{State as StateNet, Ended, Variable, Has as HasNet, Rdy, Ack, Datum, Eot as EotNet, At, Next, Value}
 use Rattle.task_law.specs.Nets.{name, front, value_front}
-use Rattle.task_law.specs.Names.{NodesAreNumbered}
-use Rattle.task_law.specs.Shape.{Shape, kinds_in, array_kind, array_cells, register_kind, state_count, state_bits, form_at}
-use Rattle.task_law.specs.Drivers.{wires_of}
-use Rattle.task_law.specs.States.{net, number_of, next_of, next_wires, next_atom, value_wires, value_of, value_kind, into_of, counting, more_wires}
+use Rattle.task_law.specs.Shape.{Shape, kinds_in, array_cells, register_kind, state_count, state_bits, form_at}
+use Rattle.task_law.specs.States.{net, number_of, next_of, next_wires, next_atom, value_wires, value_of, into_of, counting, more_wires}
 use Rattle.task_law.specs.Effects.{effect, entries}
-use Rattle.task_law.specs.Texts.{inputs, held, variable, array, any, pick, root, result_of, variable_choices, array_choices, choices, register_block, first_value, variable_block, array_block, blocks, task_elements}
+use Rattle.task_law.specs.Texts.{variable, array, any, pick, root, variable_choices, array_choices, register_block, first_value, variable_block, array_block, blocks, task_elements}
 use Rattle.task_acts.specs.Reads.{IsIn}
-use Rattle.task_acts.specs.Moves.{waits, place_after, set_next, StateMoves, StateGoesOn, RegistersGoOn}
+use Rattle.task_acts.specs.Moves.{place_after, set_next, StateMoves, StateGoesOn, RegistersGoOn}
 use Rattle.task_law.proofs.Members.{all, held_in, choices_in, blocks_in, next_in, more_in, among_left, among_right, among_each}
 use Rattle.task_law.proofs.Decodes.{at_here, any_on, any_off, pick_on}
 use Rattle.task_wires.proofs.Computed.{choose_bit}

@@ -1,9 +1,8 @@
 -- The machine of a leaf names what is there.
-use Rattle.std.proofs.Common.{◌≡◌, ◌⊎◌, ℕ, zero, suc, ◌+◌, ◌-◌, ◌<◌, ◌≤◌, List, [], ◌∷◌, length, Bool, true, false, Option, Some, None, sym, subst, ⊎_elim, arith, length-append}
+use Rattle.std.proofs.Common.{◌≡◌, ◌⊎◌, ℕ, zero, suc, ◌+◌, ◌-◌, ◌<◌, ◌≤◌, List, [], ◌∷◌, length, Bool, Some, None, sym, subst, ⊎_elim, arith, length-append}
 use Rattle.std.specs.Prelude.{slice_get}
 use Rattle.tapa_base.specs.declared.kind.Kind.{Kind}
 use Rattle.tapa_base.specs.declared.kind.Kind.TheVariants as kind
-use Rattle.tapa_base.specs.declared.op.Op.{Op}
 use Rattle.tapa_syntax.specs.declared.program.Expr.{Expr}
 use Rattle.tapa_syntax.specs.declared.program.Expr.TheVariants.{Lit, Var, Cell', Read, Peek, Eot, Load', Conv', Apply', Flip', Not', And', Or', Choose'}
 use Rattle.tapa_syntax.specs.declared.program.Leaf.{Leaf}
@@ -15,8 +14,8 @@ use Rattle.tapa_syntax.specs.StreamUse.{UsesExpr, UsesStmt, UsesBlock, UsesCode}
 use Rattle.tapa_syntax.specs.MemoryUse.{LoadsWithin, AsksStmt, AsksBlock, AsksCode}
 use Rattle.tapa_syntax.specs.TickPlaces.{operation_count, size_of_block, size_of_list}
 use Rattle.tapa_syntax.specs.WellFormed.{IsLeaf}
-use Rattle.task_fsm.specs.Machine.{Expression, Reg, CellOf, Converted, StateForm, SetAt, CellAt, TestAt, ReadAt, WriteAt, PeekAt, EotAt, OpenAt, CloseAt, LoadAt, StoreAt, ClearAt, EndAt, TrapAt}
-use Rattle.task_fsm.specs.Ranges.{Ranges, NamesWithin, IsRegister, IsInRange, AreInRange}
+use Rattle.task_fsm.specs.Machine.{Reg, CellOf, Converted, StateForm, SetAt, CellAt, TestAt, ReadAt, WriteAt, PeekAt, EotAt, OpenAt, CloseAt, LoadAt, StoreAt, ClearAt}
+use Rattle.task_fsm.specs.Ranges.{Ranges, NamesWithin, IsInRange, AreInRange}
 use Rattle.task_fsm.specs.Code.{Emitted, emit, emit_held, going_to, residual, operations, discarded, old_with, test_code, stmt_code, block_code, list_code, last_code, leaf_code}
 use Rattle.task_fsm.proofs.Grows.{grows_ops, grows_test, grows_stmt, grows_block, regs_ops}
 use Rattle.task_fsm.proofs.Body.{grows_list, size_leaf}

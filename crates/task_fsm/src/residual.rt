@@ -9,14 +9,24 @@ use std::alloc::{AllocError, Global};
 use tapa_base::{Kind, Op};
 use tapa_syntax::Expr;
 
+// The same in a box.
+#[cycle(rest)]
+pub(crate) fn boxed(alloc: Global, e: &Expr, t: u32) -> Result<Box<Expr>, AllocError>
+    ensures { IfOk result (λ r. expression_of r.value ≡ residual e.now t) }
+{
+    let left = rest(alloc, e, t)?;
+    Ok(Box::new(alloc, left)?)
+}
+
 // What is left of an expression whose operations have their values in the registers from t on.
+#[cycle(rest)]
 pub(crate) fn rest(alloc: Global, e: &Expr, t: u32) -> Result<Expr, AllocError>
     ensures { IfOk result (λ r. expression_of r ≡ residual e.now t) }
 {
     match e {
         Expr::Lit(kind, n) => Ok(Expr::Lit(*kind, *n)),
         Expr::Var(x) => Ok(Expr::Var(*x)),
-        Expr::Cell(a, i) => Ok(Expr::Cell(*a, Box::new(alloc, rest(alloc, i, t)?)?)),
+        Expr::Cell(a, i) => Ok(Expr::Cell(*a, boxed(alloc, i, t)?)),
         Expr::Read(_) => Ok(Expr::Var(t)),
         Expr::Peek(_) => Ok(Expr::Var(t)),
         Expr::Eot(_) => Ok(Expr::Var(t)),
@@ -24,7 +34,7 @@ pub(crate) fn rest(alloc: Global, e: &Expr, t: u32) -> Result<Expr, AllocError>
         Expr::Conv { from, to, value } => Ok(Expr::Conv {
             from: *from,
             to: *to,
-            value: Box::new(alloc, rest(alloc, value, t)?)?,
+            value: boxed(alloc, value, t)?,
         }),
         Expr::Apply {
             op,
@@ -36,33 +46,27 @@ pub(crate) fn rest(alloc: Global, e: &Expr, t: u32) -> Result<Expr, AllocError>
             Ok(Expr::Apply {
                 op: *op,
                 kind: *kind,
-                left: Box::new(alloc, rest(alloc, left, after)?)?,
-                right: Box::new(alloc, rest(alloc, right, t)?)?,
+                left: boxed(alloc, left, after)?,
+                right: boxed(alloc, right, t)?,
             })
         }
-        Expr::Flip(kind, e) => Ok(Expr::Flip(*kind, Box::new(alloc, rest(alloc, e, t)?)?)),
-        Expr::Not(e) => Ok(Expr::Not(Box::new(alloc, rest(alloc, e, t)?)?)),
+        Expr::Flip(kind, e) => Ok(Expr::Flip(*kind, boxed(alloc, e, t)?)),
+        Expr::Not(e) => Ok(Expr::Not(boxed(alloc, e, t)?)),
         Expr::And(l, r) => {
             let after = plus(t, count_of(r)?)?;
-            Ok(Expr::And(
-                Box::new(alloc, rest(alloc, l, after)?)?,
-                Box::new(alloc, rest(alloc, r, t)?)?,
-            ))
+            Ok(Expr::And(boxed(alloc, l, after)?, boxed(alloc, r, t)?))
         }
         Expr::Or(l, r) => {
             let after = plus(t, count_of(r)?)?;
-            Ok(Expr::Or(
-                Box::new(alloc, rest(alloc, l, after)?)?,
-                Box::new(alloc, rest(alloc, r, t)?)?,
-            ))
+            Ok(Expr::Or(boxed(alloc, l, after)?, boxed(alloc, r, t)?))
         }
         Expr::Choose(e, a, b) => {
             let second = count_of(b)?;
             let both = plus(second, count_of(a)?)?;
             Ok(Expr::Choose(
-                Box::new(alloc, rest(alloc, e, plus(t, both)?)?)?,
-                Box::new(alloc, rest(alloc, a, plus(t, second)?)?)?,
-                Box::new(alloc, rest(alloc, b, t)?)?,
+                boxed(alloc, e, plus(t, both)?)?,
+                boxed(alloc, a, plus(t, second)?)?,
+                boxed(alloc, b, t)?,
             ))
         }
     }

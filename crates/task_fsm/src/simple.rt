@@ -9,7 +9,7 @@ ghost use Rattle.task_fsm.specs.Draft.{emitted};
 use crate::draft::{Draft, write_held, write_state};
 use crate::machine::State;
 use crate::operations::write_ops;
-use crate::residual::{converted, joined, rest};
+use crate::residual::{boxed, converted, joined, rest};
 use crate::size::{count_of, plus, small};
 use kahn_model::kinds::{array_kind, memory_kind, stream_kind, var_kind};
 use std::alloc::{AllocError, Global};
@@ -56,8 +56,9 @@ pub(crate) fn write_set_cell(
 {
     let t = small(draft.regs.len())?;
     let next = draft.entry;
+    let after = plus(t, count_of(i)?)?;
     let index = rest(alloc, i, t)?;
-    let value = rest(alloc, e, plus(t, count_of(i)?)?)?;
+    let value = rest(alloc, e, after)?;
     let state = State::Cell {
         array,
         index,
@@ -85,10 +86,11 @@ pub(crate) fn write_set_cell_by(
 {
     let t = small(draft.regs.len())?;
     let next = draft.entry;
-    let index = rest(alloc, i, t)?;
-    let old = Expr::Cell(array, Box::new(alloc, rest(alloc, i, t)?)?);
-    let new = rest(alloc, e, plus(t, count_of(i)?)?)?;
+    let after = plus(t, count_of(i)?)?;
+    let old = Expr::Cell(array, boxed(alloc, i, t)?);
+    let new = rest(alloc, e, after)?;
     let value = joined(alloc, op, kind, array_kind(leaf, array), old, new)?;
+    let index = rest(alloc, i, t)?;
     let state = State::Cell {
         array,
         index,
@@ -114,8 +116,9 @@ pub(crate) fn write_store(
 {
     let t = small(draft.regs.len())?;
     let next = draft.entry;
+    let after = plus(t, count_of(i)?)?;
     let index = rest(alloc, i, t)?;
-    let value = rest(alloc, e, plus(t, count_of(i)?)?)?;
+    let value = rest(alloc, e, after)?;
     let state = State::Store {
         memory,
         index,
@@ -145,9 +148,10 @@ pub(crate) fn write_store_by(
     let next = draft.entry;
     let cells = memory_kind(leaf, memory);
     let after = plus(t, 1)?;
-    let index = rest(alloc, i, after)?;
-    let new = rest(alloc, e, plus(after, count_of(i)?)?)?;
+    let behind = plus(after, count_of(i)?)?;
+    let new = rest(alloc, e, behind)?;
     let value = joined(alloc, op, kind, cells, Expr::Var(t), new)?;
+    let index = rest(alloc, i, after)?;
     let state = State::Store {
         memory,
         index,

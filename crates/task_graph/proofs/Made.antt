@@ -13,7 +13,6 @@ use Rattle.tapa_syntax.specs.declared.program.Program.{Program}
 use Rattle.tapa_syntax.specs.declared.program.Stream.{Stream}
 use Rattle.tapa_syntax.specs.WellFormed.{IsWellFormed}
 use Rattle.task_graph.specs.declared.Edge.{Edge}
-use Rattle.task_graph.specs.declared.Use.{Use}
 use Rattle.task_graph.specs.Streams.{from_of, to_of, width_of, amount, amount_at}
 use Rattle.std.specs.List.{sum_by}
 use Rattle.task_graph.specs.Estimate.{at_most, estimate, luts, flip_flops, array_brams, in_code, dsp_rates}

@@ -1,5 +1,5 @@
 -- How many instances reach a group is a rank that grows along each stream between groups.
-use Rattle.std.proofs.Common.{◌≡◌, ℕ, zero, suc, ◌-◌, ◌<◌, ◌≤◌, List, Bool, true, false, cond, length, get_or, inl, inr, refl, sym, ap, subst, ◌∙◌, arith}
+use Rattle.std.proofs.Common.{◌≡◌, ℕ, zero, suc, ◌-◌, ◌<◌, ◌≤◌, List, Bool, true, false, cond, length, get_or, inl, inr, refl, sym, ap, ◌∙◌, arith}
 use Rattle.std.specs.Prelude.{◌⊎◌, ◌==◌, Vec}
 use Rattle.std.specs.List.{position_or_len}
 use Rattle.std.proofs.lemmas.Bool.{cases_eq}
@@ -9,7 +9,7 @@ use Rattle.task_graph.specs.declared.Edge.{Edge}
 use Rattle.task_graph.specs.Arcs.{total}
 use Rattle.task_graph.specs.Edges.{EndBelow}
 use Rattle.task_graph.specs.Reach.{mark, Marks, MarkEachOther, AreTransitive, MarkReached}
-use Rattle.task_graph.specs.Streams.{from_of, to_of, Reaches, AreNumbered, HasRank, IsRank, least_of}
+use Rattle.task_graph.specs.Streams.{from_of, to_of, Reaches, AreNumbered, HasRank, least_of}
 use Rattle.task_graph.proofs.Numbering.{AreSame}
 use Rattle.task_graph.proofs.Sizes.{total_lt, total_small, counts_low, counts_more, counts_less}
 

@@ -1,5 +1,5 @@
 -- In a cycle in one state, the conditions of all other states are 0, so that each choice has what the state gives it.
-use Rattle.std.proofs.Common.{◌≡◌, ℕ, zero, suc, ◌+◌, ◌<◌, ◌≤◌, Bool, true, false, cond, eqb, max, List, [], ◌∷◌, ◌++◌, length, Option, Some, None, inl, inr, refl, sym, ap, subst, ◌∙◌, arith, ⊎_elim}
+use Rattle.std.proofs.Common.{◌≡◌, ℕ, zero, suc, ◌<◌, ◌≤◌, Bool, true, false, cond, eqb, max, List, [], ◌∷◌, length, Option, Some, None, inl, inr, refl, sym, ap, subst, ◌∙◌, arith, ⊎_elim}
 use Rattle.std.specs.Prelude.{◌⊎◌, bit_and, slice_get}
 use Rattle.std.specs.Int.Bits.{and_zero_l}
 use Rattle.std.proofs.lemmas.Nat.{and_le_l}
@@ -10,7 +10,7 @@ use Rattle.vlog_tree.specs.declared.tree.Value.TheVariants.{Binary}
 use Rattle.vlog_tree.specs.Grounded.{Has}
 use Rattle.vlog_tree.specs.Table.{Name, one_if}
 use Rattle.vlog_tree.specs.Cycle.{Cycle, Follows, atom_value}
-use Rattle.hw_build.specs.Elements.{Element, Wire, built}
+use Rattle.hw_build.specs.Elements.{Wire, built}
 use Rattle.vlog_tree.proofs.Lists.{has_right}
 use Rattle.hw_build.proofs.Driven.{wire_driven}
 use Rattle.hw_lists.specs.Scope.{each}

@@ -1,7 +1,5 @@
 -- Where the elements of a task's module stand.
-use Rattle.std.proofs.Common.{◌≡◌, ℕ, ◌<◌, List, [], ◌∷◌, ◌++◌, length, inl, inr, refl}
-use Rattle.std.specs.Prelude.{slice_get}
-use Rattle.tapa_base.specs.Kinds.{bits_of}
+use Rattle.std.proofs.Common.{ℕ, ◌<◌, List, ◌++◌, length, inl, refl}
 use Rattle.vlog_tree.specs.declared.tree.BinaryOp.TheVariants.{Equals}
 use Rattle.vlog_tree.specs.declared.tree.Value.TheVariants.{Binary}
 use Rattle.vlog_tree.specs.Grounded.{Has}
@@ -11,10 +9,10 @@ use Rattle.hw_lists.specs.Scope.{each}
 use Rattle.hw_lists.specs.Fits.{IsAmong}
 use Rattle.hw_lists.proofs.Parts.{has_each}
 use Rattle.task_law.specs.Nets.{State, At, name, Reads}
-use Rattle.task_law.specs.Shape.{Shape, array_kind, register_kind, index_bits, state_count, state_bits}
+use Rattle.task_law.specs.Shape.{Shape, state_count}
 use Rattle.task_law.specs.States.{net, number_of, state_wires, decoded, index_wires, value_wires, more_wires, go_of, next_wires, awaited, acts_late}
 use Rattle.task_law.specs.Shape.{form_at}
-use Rattle.task_law.specs.Texts.{inputs, held, offered, asked, answered, unless_none, reads_of, read_numbers, any, pick, variable_choices, array_choices, choices, outputs, stream_outputs, memory_outputs, blocks, variable_block, array_block, task_elements}
+use Rattle.task_law.specs.Texts.{inputs, held, offered, asked, answered, unless_none, reads_of, read_numbers, choices, outputs, blocks, task_elements}
 use Rattle.task_law.specs.Effects.{entries}
 
 pub among_left : (xs ys zs : List Element) → IsAmong (xs ++ ys) zs → IsAmong xs zs

@@ -1,7 +1,7 @@
 -- A net is told by its name.
-use Rattle.std.proofs.Common.{◌≡◌, ℕ, zero, suc, ◌+◌, ◌%◌, ◌^◌, ◌<◌, Bool, true, false, cond, ltb, List, [], ◌∷◌, ◌++◌, get_or, drop, append_assoc, refl, sym, ap, ◌∙◌, arith}
+use Rattle.std.proofs.Common.{◌≡◌, ℕ, ◌+◌, ◌%◌, ◌^◌, ◌<◌, Bool, true, cond, ltb, List, [], ◌∷◌, ◌++◌, get_or, drop, append_assoc, refl, sym, ap, ◌∙◌, arith}
 use Rattle.std.specs.Prelude.{codes, decimal, bytes_eq}
-use Rattle.std.specs.List.{list_all, AllByRecursion, flat_map}
+use Rattle.std.specs.List.{list_all}
 use Rattle.std.proofs.lemmas.Bool.{lt-ltb}
 use Rattle.std.proofs.lemmas.Fmt.{decimal_by_steps, decimal_injective}
 use Rattle.std.proofs.lemmas.List.{append-nil}
@@ -9,7 +9,7 @@ use Rattle.vlog_tree.specs.Table.{Name}
 use Rattle.vlog_law_modules.proofs.Lists.{both_true}
 use Rattle.hw_build.specs.Trees.{numbered}
 use Rattle.hw_build.proofs.Forms.{all_append, yes_and}
-use Rattle.task_law.specs.Nets.{Choice, Net, choice_word, choice_numbers, word, numbers, spelled, name, front, value_front, index_front, read_front, ToState, ToEnd, Set, In, Stores, Place, Content, Reads, Spot, Puts, Token, Takes, Asks, Saves, Data, State, Ended, Done, Scalar, Variable, Array, Has, Dout, Taken, Din, Wr, Rdy, Ack, Rdata, Addr, Wdata, We, Plain, Datum, Eot, At, Go, Inside, Into, Packed, Next, Value, Index, ReadIndex, ReadInside, ReadOn, Raw, Answer, Node}
+use Rattle.task_law.specs.Nets.{Choice, Net, choice_word, choice_numbers, word, numbers, spelled, name, ToState, ToEnd, Set, In, Stores, Place, Content, Reads, Spot, Puts, Token, Takes, Asks, Saves, Data, State, Ended, Done, Scalar, Variable, Array, Has, Dout, Taken, Din, Wr, Rdy, Ack, Rdata, Addr, Wdata, We, Plain, Datum, Eot, At, Go, Inside, Into, Packed, Next, Value, Index, ReadIndex, ReadInside, ReadOn, Raw, Answer, Node}
 use Rattle.task_law.specs.Names.{AreSmall, NamesTellNets}
 
 -- below `_`, as digits and the letters of words are

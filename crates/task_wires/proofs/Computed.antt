@@ -1,20 +1,19 @@
 -- The wires of an expression show its value.
-use Rattle.std.proofs.Common.{◌≡◌, ℕ, zero, suc, ◌+◌, ◌-◌, ◌*◌, ◌^◌, ◌<◌, Bool, true, false, cond, eqb, List, [], ◌∷◌, ◌++◌, length, Option, Some, None, inl, inr, refl, sym, ap, subst, ◌∙◌, arith, length-append}
+use Rattle.std.proofs.Common.{◌≡◌, ℕ, zero, suc, ◌+◌, ◌-◌, ◌*◌, ◌^◌, ◌<◌, Bool, cond, eqb, List, [], ◌∷◌, ◌++◌, length, Option, Some, None, refl, sym, ap, subst, ◌∙◌, arith, length-append}
 use Rattle.std.specs.Prelude.{slice_index, bit_and, bit_or}
 use Rattle.tapa_base.specs.declared.kind.Kind.{Kind}
 use Rattle.tapa_base.specs.declared.kind.Kind.TheVariants as kind
 use Rattle.tapa_base.specs.declared.op.Op.{Op}
 use Rattle.tapa_base.specs.declared.op.Op.TheVariants as op
 use Rattle.tapa_base.specs.Kinds.{bits_of, values_of}
-use Rattle.tapa_base.specs.Operators.{CanApply, applied}
+use Rattle.tapa_base.specs.Operators.{CanApply}
 use Rattle.tapa_syntax.specs.LeafKinds.{Kinds}
 use Rattle.tapa_syntax.specs.Typed.{right_kind}
 use Rattle.kahn_model.specs.Trace.{State, cell, at_zero}
 use Rattle.vlog_tree.specs.declared.tree.Atom.{Atom}
-use Rattle.vlog_tree.specs.declared.tree.Atom.TheVariants.{Net, Literal}
+use Rattle.vlog_tree.specs.declared.tree.Atom.TheVariants.{Net}
 use Rattle.vlog_tree.specs.declared.tree.BinaryOp.TheVariants.{And, Or}
 use Rattle.vlog_tree.specs.declared.tree.Value.TheVariants.{Invert, Binary, Choose}
-use Rattle.vlog_tree.specs.Grounded.{Has}
 use Rattle.vlog_tree.specs.Table.{Name}
 use Rattle.vlog_tree.specs.Cycle.{Cycle, Sizes, atom_value}
 use Rattle.vlog_tree.proofs.Lists.{has_left, has_right}
@@ -28,11 +27,11 @@ use Rattle.task_fsm.proofs.Steps.{value_fits}
 use Rattle.task_law.specs.declared.nets.Net.TheVariants.{Answer}
 use Rattle.task_law.specs.Nets.{name}
 use Rattle.task_law.specs.Fixed.{fixed}
-use Rattle.task_law.specs.Drivers.{Driver, wires_of, wire, last_of, one, conversion, operation}
+use Rattle.task_law.specs.Drivers.{wires_of, one, conversion, operation}
 use Rattle.task_law.specs.Wires.{ArrayRead, read_count, reads_in, Compiled, by_fixed, converting, one_more, joining, choosing, compiled}
 use Rattle.task_wires.specs.Shows.{IsNumber, IsDivisor, Shows, AreSaid}
 use Rattle.task_wires.specs.Computes.{Numbered, RegistersShown, AnswerShown, AnswersShown, ShowsValue}
-use Rattle.task_wires.proofs.Shown.{said_first, same_value, conversion_shown}
+use Rattle.task_wires.proofs.Shown.{said_first, conversion_shown}
 use Rattle.task_wires.proofs.Operated.{operation_shown}
 use Rattle.task_wires.proofs.Fixes.{fixed_value, numbers_fixed}
 

@@ -1,5 +1,5 @@
 -- What is computed before anything is printed is the value.
-use Rattle.std.proofs.Common.{◌≡◌, ℕ, zero, suc, ◌-◌, ◌*◌, ◌^◌, ◌<◌, Bool, true, false, ltb, ◌&&◌, Option, Some, None, refl, sym, ap, ◌∙◌, arith}
+use Rattle.std.proofs.Common.{◌≡◌, ℕ, ◌-◌, ◌*◌, ◌^◌, ◌<◌, Bool, true, false, ◌&&◌, Option, Some, None, refl, ap, ◌∙◌}
 use Rattle.std.specs.Prelude.{nat_lt}
 use Rattle.std.proofs.lemmas.Bool.{lt-ltb}
 use Rattle.tapa_base.specs.declared.kind.Kind.{Kind}
@@ -7,12 +7,11 @@ use Rattle.tapa_base.specs.declared.kind.Kind.TheVariants as kind
 use Rattle.tapa_base.specs.declared.op.Op.{Op}
 use Rattle.tapa_base.specs.declared.op.Op.TheVariants as op
 use Rattle.tapa_base.specs.Kinds.{bits_of, values_of, converted}
-use Rattle.tapa_base.specs.Operators.{CanApply, applied}
-use Rattle.tapa_syntax.specs.LeafKinds.{Kinds}
+use Rattle.tapa_base.specs.Operators.{applied}
 use Rattle.tapa_syntax.specs.Typed.{right_kind}
 use Rattle.kahn_model.specs.Trace.{State, at_zero}
 use Rattle.task_fsm.specs.Machine.{Expression, Number, Reg, CellOf, Converted, Applied, Flipped, Inverse, Both, Either, Chosen, Operation}
-use Rattle.task_fsm.specs.MachineKinds.{IsFixed, IsDivisor, IsOfKind, HoldsValues}
+use Rattle.task_fsm.specs.MachineKinds.{IsDivisor}
 use Rattle.task_fsm.specs.Run.{value}
 use Rattle.task_fsm.proofs.Steps.{value_fits}
 use Rattle.task_law.specs.Fixed.{only_if, on_one, on_two, on_three, can_apply, fixed}

@@ -1,12 +1,11 @@
 -- What the drivers of operators make of operands that show values.
-use Rattle.std.proofs.Common.{◌≡◌, ℕ, zero, suc, ◌+◌, ◌-◌, ◌*◌, ◌/◌, ◌%◌, ◌^◌, ◌<◌, ◌≤◌, min, Bool, true, false, cond, eqb, ltb, ◌&&◌, List, [], ◌∷◌, ◌++◌, inl, inr, refl, sym, ap, subst, ◌∙◌, arith, ⊎_elim}
+use Rattle.std.proofs.Common.{◌≡◌, ℕ, suc, ◌+◌, ◌-◌, ◌*◌, ◌/◌, ◌%◌, ◌^◌, ◌<◌, ◌≤◌, min, Bool, true, false, cond, eqb, ◌&&◌, List, [], ◌∷◌, ◌++◌, refl, sym, ap, subst, ◌∙◌, arith}
 use Rattle.std.specs.Prelude.{nat_le, nat_lt, not, bit_xor, ◌==◌}
 use Rattle.std.specs.Int.RustNames.{int_lt, int_le}
-use Rattle.std.proofs.Math.Nat.{mod-eq_of_lt, mod-le, div-le_self}
+use Rattle.std.proofs.Math.Nat.{mod-eq_of_lt}
 use Rattle.std.proofs.Math.Pow.{pow_pos, pow_mono}
-use Rattle.std.proofs.lemmas.Bool.{cases_eq, eqb-true, ltb-true, ltb-false, leb-true, leb-false, lt-ltb}
+use Rattle.std.proofs.lemmas.Bool.{eqb-true, ltb-true, ltb-false, leb-true, leb-false}
 use Rattle.tapa_base.specs.declared.kind.Kind.{Kind}
-use Rattle.tapa_base.specs.declared.kind.Kind.TheVariants as kind
 use Rattle.tapa_base.specs.declared.op.Op.{Op}
 use Rattle.tapa_base.specs.declared.op.Op.TheVariants as op
 use Rattle.tapa_base.specs.Kinds.{bits_of, is_signed, values_of, number}
@@ -22,7 +21,7 @@ use Rattle.vlog_tree.specs.Grounded.{Has}
 use Rattle.vlog_tree.specs.Table.{Name, one_if}
 use Rattle.vlog_tree.specs.Cycle.{Cycle, Sizes, atom_value, op_value}
 use Rattle.vlog_tree.proofs.Lists.{has_left, has_right}
-use Rattle.hw_build.specs.Elements.{Element, Wire}
+use Rattle.hw_build.specs.Elements.{Wire}
 use Rattle.hw_build.specs.Trees.{numbered}
 use Rattle.word_law.specs.Words.{half_of}
 use Rattle.word_law.specs.Words as word
@@ -31,8 +30,8 @@ use Rattle.word_law.proofs.Words.{left, right, far_left}
 use Rattle.word_law.proofs.Numbers.{quotient_none}
 use Rattle.word_law.proofs.Signed.{plain_order, turned_order, opposite, divides, leaves}
 use Rattle.task_wires.specs.Shows.{IsNumber, IsDivisor, Shows, AreSaid}
-use Rattle.task_law.specs.Drivers.{Driver, wires_of, wire, after, last_of, one, half, sign_of, turned, turned_atom, less, then_one, not_less, as_wide, shift_count, shifted_right, absolute, is_negative, divided, operation}
-use Rattle.task_wires.proofs.Shown.{two_halves, said_first, said_rest, same_value, same_width, sign_is, widened, some_bits}
+use Rattle.task_law.specs.Drivers.{Driver, wires_of, wire, after, last_of, one, half, sign_of, turned, turned_atom, less, not_less, as_wide, shift_count, shifted_right, absolute, is_negative, divided, operation}
+use Rattle.task_wires.proofs.Shown.{said_first, said_rest, same_value, same_width, sign_is, widened, some_bits}
 
 -- drivers behind drivers
 pub wires_behind : (front : Name) (n : ℕ) (xs ys : List Driver) → wires_of front n (xs ++ ys) ≡ wires_of front n xs ++ wires_of front (after n xs) ys

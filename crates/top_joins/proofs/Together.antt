@@ -29,7 +29,7 @@ use Rattle.hw_build.proofs.Tables.{times, clock_declared, count_append, same_nam
 use Rattle.hw_build.proofs.Uses.{both_together}
 use Rattle.hw_lists.specs.Fits.{declared_names, AreOnce}
 use Rattle.hw_lists.proofs.Fit.{names_fit, widths_fit, front_once, new_next}
-use Rattle.hw_lists.proofs.Tables.{table, named, names_after, first_times, none_is_new, IsDeclared, net_declared, net_name}
+use Rattle.hw_lists.proofs.Tables.{table, named, names_after, first_times, IsDeclared, net_declared, net_name}
 use Rattle.top_joins.specs.Joins.{open_nets, IsOpen, output_port, port_names, IsJoin, ToClock, ToInput, FromOutput, IsJoined, StandsAfter, StandInOrder, PortsAreOnce, FitTogether, TogetherIsFitting}
 use Rattle.top_joins.proofs.Joined.{input_kind, output_kind, input_bits, output_bits, connected, open_name}
 

@@ -1,5 +1,5 @@
 -- What a program's circuit carries in a run.
-use Rattle.std.proofs.Common.{◌≡◌, ℕ, zero, suc, ◌+◌, ◌*◌, ◌<◌, ◌≤◌, Bool, true, false, ◌&&◌, List, [], ◌∷◌, ◌++◌, length, map, get_or, Option, Some, None, refl, sym, ap, subst, ◌∙◌, arith}
+use Rattle.std.proofs.Common.{◌≡◌, ℕ, zero, suc, ◌+◌, ◌<◌, ◌≤◌, Bool, true, false, ◌&&◌, List, [], ◌∷◌, ◌++◌, length, map, Option, Some, None, refl, sym, ap, subst, ◌∙◌, arith}
 use Rattle.std.specs.Prelude.{◌==◌, if◌then◌else◌, option_map, slice_get, slice_index, slice_index_or, unwrap_or, nat_lt}
 use Rattle.std.specs.List.{list_all}
 use Rattle.std.proofs.lemmas.Bool.{eq-eqb, eqb-true, lt-ltb}
@@ -13,18 +13,17 @@ use Rattle.tapa_syntax.specs.declared.program.Memory.{Memory}
 use Rattle.tapa_syntax.specs.declared.program.Program.{Program}
 use Rattle.tapa_syntax.specs.declared.program.Stream.{Stream}
 use Rattle.vlog_tree.specs.Cycle.{Cycle, Path}
-use Rattle.vlog_tree.specs.Environment.{Environment, FitsShape, RunsIn, shape_of, cells_at, ready_at, carried as carried_bits, tokens, token_of, IsDone}
+use Rattle.vlog_tree.specs.Environment.{Environment, FitsShape, RunsIn, shape_of, cells_at, ready_at, carried as carried_bits, tokens, token_of}
 use Rattle.vlog_tree.specs.Form.{ModuleTree}
 use Rattle.vlog_tree.specs.Labels.{done, s_din, s_wr, s_rdy}
 use Rattle.kahn_model.proofs.Clocked.{and_parts}
 use Rattle.kahn_model.specs.Cells.{cells_at as cells_of}
 use Rattle.kahn_model.specs.Counts.{written, IsKahnPrefix, IsKahnStream}
-use Rattle.kahn_model.specs.Ending.{IsLeastToEnd}
 use Rattle.kahn_model.specs.Network.{Network}
-use Rattle.kahn_model.specs.Outcome.{IsJoined, HaveJoinedEnded, IsDone as EndsWithin, shown}
+use Rattle.kahn_model.specs.Outcome.{IsJoined}
 use Rattle.kahn_model.specs.ProgramNetwork.{end_of, is_detached as is_left}
 use Rattle.kahn_model.specs.Start.{kinds_in, leaf_state, instance_state, first_state, network_of}
-use Rattle.kahn_model.specs.Timed.{Clock, IsClock, count_at, lost}
+use Rattle.kahn_model.specs.Timed.{Clock, IsClock, lost}
 use Rattle.task_fsm.specs.declared.machine.Fsm.{Fsm}
 use Rattle.task_law.specs.declared.nets.Net.TheVariants.{Ended}
 use Rattle.task_law.specs.Machine.{put_in}
@@ -41,7 +40,7 @@ use Rattle.top_law.specs.Names.{task_instance}
 use Rattle.top_law.specs.Texts.{token_bits, top_tree, is_detached, memory_name}
 use Rattle.top_runs.specs.Designs.{IsCircuit}
 use Rattle.top_runs.specs.Parts.{bit_of, token_in, streams_seen, memory_before, rows_of}
-use Rattle.top_kahn.specs.Carries.{network, top_of, carried_by, CarriesStreams, CircuitsCarryStreams}
+use Rattle.top_kahn.specs.Carries.{network, carried_by, CarriesStreams, CircuitsCarryStreams}
 use Rattle.top_kahn.specs.Clock.{answers_of, clock_in, counts, all_answer}
 use Rattle.top_kahn.proofs.Done.{told, only, end_is, end_low}
 use Rattle.top_kahn.proofs.Networks.{parts, histories, design, are_machines, label_is, in_clock}

@@ -1,21 +1,14 @@
 -- The output that says that all is done is 1 exactly where every instance that is waited for has ended.
-use Rattle.std.proofs.Common.{◌≡◌, ℕ, zero, suc, ◌+◌, ◌-◌, ◌*◌, ◌^◌, ◌<◌, ◌≤◌, Bool, true, false, List, [], ◌∷◌, ◌++◌, length, Option, Some, None, inl, inr, refl, sym, ap, subst, ◌∙◌, arith, ⊎_elim}
-use Rattle.std.specs.Prelude.{◌==◌, if◌then◌else◌, slice_get}
-use Rattle.std.proofs.lemmas.Bool.{cases_eq, eq-eqb, eqb-true}
-use Rattle.tapa_syntax.specs.LeafKinds.{writes_of}
+use Rattle.std.proofs.Common.{◌≡◌, ℕ, zero, suc, ◌+◌, ◌-◌, ◌^◌, ◌<◌, Bool, true, false, List, [], ◌∷◌, ◌++◌, length, Option, Some, inl, refl, sym, ap, subst, ◌∙◌, arith, ⊎_elim}
+use Rattle.std.specs.Prelude.{if◌then◌else◌, slice_get}
+use Rattle.std.proofs.lemmas.Bool.{cases_eq}
 use Rattle.tapa_syntax.specs.WellFormed.{IsWellFormed}
 use Rattle.tapa_syntax.specs.declared.program.Instance.{Instance}
 use Rattle.tapa_syntax.specs.declared.program.Leaf.{Leaf}
 use Rattle.tapa_syntax.specs.declared.program.Program.{Program}
-use Rattle.kahn_model.specs.Outcome.{IsJoined}
-use Rattle.kahn_model.specs.ProgramNetwork.{is_detached as is_left}
-use Rattle.kahn_model.specs.Start.{network_of}
-use Rattle.vlog_tree.specs.declared.tree.Atom.TheVariants.{Net}
-use Rattle.vlog_tree.specs.declared.tree.Value.TheVariants.{Invert}
 use Rattle.vlog_tree.specs.Cycle.{Cycle, Path, Follows, driven}
 use Rattle.vlog_tree.specs.Environment.{Environment, FitsShape, RunsIn, shape_of}
 use Rattle.vlog_tree.specs.Form.{ModuleTree}
-use Rattle.vlog_tree.specs.Grounded.{Has}
 use Rattle.vlog_tree.specs.Labels.{done}
 use Rattle.vlog_tree.proofs.Lists.{has_left, has_right}
 use Rattle.hw_build.specs.Elements.{Element, Output, Wire}
@@ -25,23 +18,17 @@ use Rattle.hw_build.proofs.Ors.{none_is_zero, set_stays, root_driven}
 use Rattle.hw_lists.specs.Scope.{each}
 use Rattle.hw_lists.proofs.Parts.{has_each}
 use Rattle.task_fsm.specs.declared.machine.Fsm.{Fsm}
-use Rattle.task_law.specs.declared.nets.Net.TheVariants.{Done, Ended}
-use Rattle.task_law.specs.Nets.{name}
+use Rattle.task_law.specs.declared.nets.Net.TheVariants.{Ended}
 use Rattle.task_law.specs.Runs.{number_at}
 use Rattle.task_law.specs.Texts.{task_name}
-use Rattle.clocked_network.specs.Joined.{AreJoinedOver}
-use Rattle.clocked_modules.proofs.Tasks.{there_at as item_at}
 use Rattle.top_law.specs.Designs.{AreShort}
 use Rattle.top_law.specs.Names.{ended_net, task_instance, waits}
-use Rattle.top_law.specs.Texts.{top_elements, top_tree, still_waits, is_detached, waiting, none_waits, doneness}
+use Rattle.top_law.specs.Texts.{top_elements, top_tree, still_waits, is_detached, waiting, none_waits}
 use Rattle.top_runs.specs.Designs.{IsCircuit}
-use Rattle.top_runs.specs.Parts.{instance_run}
 use Rattle.top_runs.proofs.Elements.{of_doneness}
 use Rattle.top_runs.proofs.Joined.{done_at}
 use Rattle.top_runs.proofs.Fitting.{done_low}
 use Rattle.top_runs.proofs.Tasks.{task_at, runs_task}
-use Rattle.top_kahn.specs.Carries.{network}
-use Rattle.top_kahn.proofs.Networks.{are_machines, histories}
 
 -- an instance's own bit: whether it is waited for
 abbrev waits_still : Bool → ℕ → ℕ

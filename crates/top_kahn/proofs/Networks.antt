@@ -1,12 +1,12 @@
 -- A program's circuit in a run is the clocked network of its program, at the clock of the environment.
-use Rattle.std.proofs.Common.{◌≡◌, ℕ, suc, ◌<◌, false, List, [], ◌∷◌, length, Option, Some, None, refl, sym, ap, subst, ◌∙◌, arith}
-use Rattle.std.specs.Prelude.{◌==◌, option_map, slice_get, slice_index, slice_index_or, unwrap_or}
+use Rattle.std.proofs.Common.{◌≡◌, ℕ, ◌<◌, false, List, [], ◌∷◌, length, Option, Some, None, sym, ap, subst, ◌∙◌}
+use Rattle.std.specs.Prelude.{◌==◌, option_map, slice_get, slice_index, unwrap_or}
 use Rattle.tapa_syntax.specs.WellFormed.{IsWellFormed}
 use Rattle.tapa_syntax.specs.declared.program.Instance.{Instance}
 use Rattle.tapa_syntax.specs.declared.program.Leaf.{Leaf}
 use Rattle.tapa_syntax.specs.declared.program.Program.{Program}
 use Rattle.vlog_tree.specs.Cycle.{Cycle, Path}
-use Rattle.vlog_tree.specs.Environment.{Environment, FitsShape, RunsIn, shape_of, ready_at}
+use Rattle.vlog_tree.specs.Environment.{Environment, FitsShape, RunsIn, shape_of}
 use Rattle.vlog_tree.specs.Form.{ModuleTree}
 use Rattle.kahn_model.specs.Network.{Network}
 use Rattle.kahn_model.specs.Start.{empty_state, network_of}

@@ -1,16 +1,15 @@
 -- The cells of the memories that an instance is bound to: what its module sees of them, and how they go on.
-use Rattle.std.proofs.Common.{◌≡◌, ℕ, zero, suc, ◌+◌, ◌-◌, ◌^◌, ◌<◌, ◌≤◌, Bool, true, false, ◌&&◌, List, [], ◌∷◌, length, map, get_or, Some, refl, sym, ap, subst, ◌∙◌, arith, ⊎_elim}
-use Rattle.std.specs.Prelude.{◌==◌, nat_lt, if◌then◌else◌, option_map, slice_get, slice_index, slice_index_or, slice_set, unwrap_or}
+use Rattle.std.proofs.Common.{◌≡◌, ℕ, zero, suc, ◌-◌, ◌^◌, ◌<◌, ◌≤◌, Bool, true, false, ◌&&◌, List, [], ◌∷◌, length, map, get_or, Some, refl, sym, ap, subst, ◌∙◌, arith, ⊎_elim}
+use Rattle.std.specs.Prelude.{◌==◌, if◌then◌else◌, option_map, slice_get, slice_index, slice_index_or, slice_set, unwrap_or}
 use Rattle.std.specs.List.{AllByRecursion}
 use Rattle.std.proofs.lemmas.Bool.{cases_eq, cases_lt, lt-ltb, le-ltb}
-use Rattle.std.proofs.lemmas.List.{set_past, set-get_or, get_or-set_same, get_or-set_other, get_or_past, get_or-map, ext_get_or, length-set, length-map}
+use Rattle.std.proofs.lemmas.List.{set_past, get_or-set_same, get_or-set_other, get_or_past, get_or-map, ext_get_or, length-set, length-map}
 use Rattle.std.proofs.lemmas.Nat.{pow_pos}
-use Rattle.std.proofs.lemmas.Option.{slice_get-map, slice_get-get_or, get_or_from_slice_get, unwrap_or-slice_get}
-use Rattle.tapa_base.specs.declared.kind.Kind.{Kind}
+use Rattle.std.proofs.lemmas.Option.{slice_get-map, slice_get-get_or, unwrap_or-slice_get}
 use Rattle.tapa_base.specs.declared.kind.Kind.TheVariants.{U64}
 use Rattle.tapa_base.specs.declared.shape.Port.{Port}
 use Rattle.tapa_base.specs.Kinds.{bits_of, values_of}
-use Rattle.tapa_syntax.specs.WellFormed.{IsWellFormed, IsInstance, IsMemoryAt}
+use Rattle.tapa_syntax.specs.WellFormed.{IsWellFormed, IsInstance}
 use Rattle.tapa_syntax.specs.declared.program.Instance.{Instance}
 use Rattle.tapa_syntax.specs.declared.program.Leaf.{Leaf}
 use Rattle.tapa_syntax.specs.declared.program.Memory.{Memory}

@@ -1,10 +1,10 @@
 -- The module of an instance in a run of the circuit: what stands around it, and that it runs the instance's machine.
-use Rattle.std.proofs.Common.{◌≡◌, ℕ, zero, suc, ◌+◌, ◌*◌, ◌^◌, ◌<◌, ◌≤◌, Bool, true, false, ◌&&◌, List, [], ◌∷◌, length, Option, Some, None, refl, sym, ap, subst, ◌∙◌, arith}
+use Rattle.std.proofs.Common.{◌≡◌, ℕ, zero, suc, ◌^◌, ◌<◌, Bool, true, false, ◌&&◌, List, [], ◌∷◌, length, Option, Some, sym, ap, subst, ◌∙◌, arith}
 use Rattle.std.specs.Prelude.{◌==◌, if◌then◌else◌, codes, option_map, slice_get, slice_index, slice_index_or, unwrap_or}
 use Rattle.std.proofs.lemmas.Option.{slice_get-get_or, get_or_from_slice_get, slice_get_within}
 use Rattle.tapa_base.specs.declared.kind.Kind.{Kind}
 use Rattle.tapa_base.specs.declared.kind.Kind.TheVariants.{U64}
-use Rattle.tapa_base.specs.Kinds.{bits_of, values_of}
+use Rattle.tapa_base.specs.Kinds.{values_of}
 use Rattle.tapa_syntax.specs.LeafKinds.{writes_of}
 use Rattle.tapa_syntax.specs.WellFormed.{IsWellFormed, IsInstance, IsBoundTo}
 use Rattle.tapa_syntax.specs.declared.program.Bound.{Bound}
@@ -25,7 +25,7 @@ use Rattle.clocked_network.proofs.Ports.{is_instance}
 use Rattle.clocked_network.specs.Ports.{AreWired}
 use Rattle.vlog_law_widths.specs.Widths.{OutsideFits}
 use Rattle.task_fsm.specs.declared.machine.Fsm.{Fsm}
-use Rattle.task_law.specs.declared.nets.Net.TheVariants.{Scalar, Has as HasPort, Dout, Rdy}
+use Rattle.task_law.specs.declared.nets.Net.TheVariants.{Scalar}
 use Rattle.task_law.specs.Runs.{number_at, streams_at, RunsTask, StandsAround}
 use Rattle.task_law.specs.Shape.{Shape, register_kind, stream_kind}
 use Rattle.task_law.specs.Signals.{Streams}
@@ -34,7 +34,6 @@ use Rattle.clocked_modules.specs.Designs.{RunsInstance}
 use Rattle.clocked_modules.specs.Tasks.{shape_for}
 use Rattle.clocked_modules.proofs.Tasks.{there_at as item_at}
 use Rattle.channel_core.specs.Contract.{MeetsContract as OwesContract}
-use Rattle.channel_core.specs.Signals.{Resets}
 use Rattle.channel_law.specs.Ports.{channel_ports}
 use Rattle.channel_law.proofs.Whole.{acts}
 use Rattle.top_law.specs.Bounds.{parameter_kind}

@@ -1,5 +1,5 @@
 -- The scalar parameters of an instance have the values that they are bound to.
-use Rattle.std.proofs.Common.{◌≡◌, ℕ, zero, suc, ◌+◌, ◌-◌, ◌^◌, ◌<◌, ◌≤◌, List, [], ◌∷◌, ◌++◌, length, drop, map, Bool, Option, Some, None, inl, refl, sym, ap, subst, ◌∙◌, arith, add-one}
+use Rattle.std.proofs.Common.{◌≡◌, ℕ, zero, suc, ◌+◌, ◌-◌, ◌<◌, ◌≤◌, List, [], ◌∷◌, length, drop, Bool, Option, Some, None, inl, refl, sym, ap, subst, ◌∙◌, arith, add-one}
 use Rattle.std.specs.Prelude.{slice_get, slice_index, slice_index_or, option_map, unwrap_or, if◌then◌else◌}
 use Rattle.std.proofs.lemmas.Bool.{ne_eqb}
 use Rattle.std.proofs.lemmas.List.{length-drop}
@@ -34,7 +34,7 @@ use Rattle.hw_build.specs.Elements.{Element, Wire}
 use Rattle.hw_build.proofs.Driven.{line_there, wire_driven}
 use Rattle.hw_lists.specs.Scope.{each}
 use Rattle.hw_lists.proofs.Parts.{has_each}
-use Rattle.task_law.specs.Drivers.{Driver, wires_of, last_of, conversion}
+use Rattle.task_law.specs.Drivers.{wires_of, last_of, conversion}
 use Rattle.task_law.specs.Texts.{task_name}
 use Rattle.task_wires.specs.Shows.{Shows}
 use Rattle.task_wires.proofs.Shown.{conversion_shown}

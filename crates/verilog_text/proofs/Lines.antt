@@ -1,6 +1,5 @@
 -- The first line of a text.
 use Rattle.std.proofs.Common.{◌≡◌, ℕ, zero, suc, ◌+◌, ◌-◌, ◌<◌, ◌≤◌, List, [], ◌∷◌, ◌++◌, length, get_or, take, inl, inr, refl, sym, ap, subst, ◌∙◌, arith}
-use Rattle.std.specs.Prelude.{◌⊎◌}
 use Rattle.std.proofs.lemmas.List.{take_more, length-take-le}
 use Rattle.vlog_tree.specs.Grounded.{Has}
 use Rattle.vlog_tree.proofs.Lists.{taken_split}

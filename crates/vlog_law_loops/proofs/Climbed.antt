@@ -11,7 +11,7 @@ use Rattle.vlog_tree.specs.declared.tree.Item.TheVariants.{Wire, Reg, Memory, As
 use Rattle.vlog_tree.specs.Form.{ModuleTree}
 use Rattle.vlog_tree.specs.Grounded.{Has}
 use Rattle.vlog_tree.specs.Cycle.{Path, module_at, child_of, and_then}
-use Rattle.vlog_tree.specs.Table.{Name, NameUse, module_declared, module_named, is_module_name, is_doubled_name, first_violation, times_in}
+use Rattle.vlog_tree.specs.Table.{Name, module_declared, module_named, is_module_name, is_doubled_name, first_violation, times_in}
 use Rattle.vlog_tree.specs.V2.{v2_uses, module_uses}
 use Rattle.vlog_tree.specs.V6.{item_children, module_children, contained_names, roots}
 use Rattle.vlog_tree.specs.Loops.{item_instances, instances, containment, own_containment, Reaches, one, more}

@@ -1,6 +1,6 @@
 -- What rests on itself in a module does so in the flattened design.
-use Rattle.std.proofs.Common.{◌≡◌, ℕ, zero, suc, Bool, true, false, cond, ◌&&◌, List, [], ◌∷◌, ◌++◌, Option, Some, None, inl, inr, refl, sym, ap, subst, ◌∙◌, map}
-use Rattle.std.specs.Prelude.{◌⊎◌, bytes_eq, if◌then◌else◌, filter}
+use Rattle.std.proofs.Common.{◌≡◌, ℕ, suc, Bool, true, false, cond, ◌&&◌, List, [], ◌∷◌, Option, Some, None, inl, inr, refl, sym, ap, subst, ◌∙◌, map}
+use Rattle.std.specs.Prelude.{bytes_eq, if◌then◌else◌, filter}
 use Rattle.std.specs.List.{flat_map, AllByRecursion}
 use Rattle.std.specs.Option.{option_map_or}
 use Rattle.std.specs.Cmp.Lexicographic.{bytes_decides}
@@ -11,25 +11,25 @@ use Rattle.vlog_tree.specs.declared.tree.Item.{Item}
 use Rattle.vlog_tree.specs.declared.tree.Value.{Value}
 use Rattle.vlog_tree.specs.declared.tree.Item.TheVariants.{Wire, Reg, Memory, Assign, Always, Instance}
 use Rattle.vlog_tree.specs.Form.{ModuleTree, IsModule}
-use Rattle.vlog_tree.specs.Grounded.{Has, Walk, OnLoop}
+use Rattle.vlog_tree.specs.Grounded.{Has, Walk}
 use Rattle.vlog_tree.specs.Cycle.{Path, module_at}
 use Rattle.vlog_tree.specs.Labels.{address_of}
-use Rattle.vlog_tree.specs.Table.{Name, declared, port_declared, declaration_name, net_kind_of, net_kind_is_read, net_kind_is_driven, net_kind_is_input, ports_of, first_violation, module_named}
+use Rattle.vlog_tree.specs.Table.{Name, declared, port_declared, declaration_name, net_kind_of, net_kind_is_read, net_kind_is_driven, net_kind_is_input, ports_of, first_violation}
 use Rattle.vlog_tree.specs.V2.{v2_uses}
 use Rattle.vlog_tree.specs.V6.{is_top, roots, first_name, has_port}
-use Rattle.vlog_tree.specs.Loops.{port_of, connection_edge, line_edges, direct_edges, memory_edges, answer_edges, asked_port, instances, item_instances, value_nets, Chain, one, more, Rests, directly, through, after, containment, Reaches, TextPlace, LiesOnLoop, IsFirst}
+use Rattle.vlog_tree.specs.Loops.{port_of, connection_edge, line_edges, direct_edges, memory_edges, answer_edges, asked_port, value_nets, Chain, one, more, Rests, directly, through, after, TextPlace, LiesOnLoop, IsFirst}
 use Rattle.vlog_tree.specs.Flattened.{FlatNet, parts, outer_parts, lines_of}
 use Rattle.vlog_tree.specs.Refused.{IsSound, Refuses}
 use Rattle.vlog_tree.proofs.Lists.{has_flat, of_flat, has_map, of_map, has_split, chains}
-use Rattle.vlog_law_runs.proofs.Sound.{declared_by, assign_driven, assign_reads, connection_port, connection_net}
+use Rattle.vlog_law_runs.proofs.Sound.{declared_by, assign_driven, assign_reads, connection_net}
 use Rattle.vlog_law_runs.proofs.Alone.{instance_item, same_name, module_is, IsNamed}
-use Rattle.vlog_law_runs.proofs.Settled.{outside, answers, child_at}
+use Rattle.vlog_law_runs.proofs.Settled.{child_at}
 use Rattle.vlog_law_runs.proofs.Sizes.{all_at}
 use Rattle.vlog_law_runs.proofs.Module.{name_declared}
 use Rattle.vlog_law_runs.proofs.Parts.{part_line, part_outside, part_answer, driver_part, connection_part}
 use Rattle.vlog_law_loops.proofs.Dots.{at_dot, node, own_node, port_node}
 use Rattle.vlog_law_loops.proofs.Plain.{declared_plain, instance_plain}
-use Rattle.vlog_law_loops.proofs.Climbed.{root_in, root_path, path_to}
+use Rattle.vlog_law_loops.proofs.Climbed.{root_path, path_to}
 use Rattle.vlog_law_loops.specs.Loops.{ContainsNoneItself, HasLoop}
 
 -- steps along parts are a walk

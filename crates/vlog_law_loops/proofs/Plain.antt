@@ -1,5 +1,5 @@
 -- The names that modules declare have no dot.
-use Rattle.std.proofs.Common.{◌≡◌, ℕ, Bool, true, false, ◌&&◌, List, [], ◌∷◌, ◌++◌, length, map, Some, None, inl, inr, refl, sym, ap, subst, ◌∙◌}
+use Rattle.std.proofs.Common.{◌≡◌, Bool, true, ◌&&◌, List, [], ◌∷◌, length, map, None, inl, inr, refl, subst}
 use Rattle.std.specs.Prelude.{nat_le}
 use Rattle.std.specs.List.{list_all}
 use Rattle.vlog_tree.specs.declared.tree.Connection.{Connection}
@@ -12,7 +12,7 @@ use Rattle.vlog_tree.specs.Form.{ModuleTree, is_port, is_item, is_connection, Is
 use Rattle.vlog_tree.specs.Grounded.{Has}
 use Rattle.vlog_tree.specs.Names.{is_name}
 use Rattle.vlog_tree.specs.Table.{Name, declared, port_declared, items_declared, declaration_name}
-use Rattle.vlog_tree.proofs.Lists.{of_map, has_map, has_right, has_split}
+use Rattle.vlog_tree.proofs.Lists.{of_map, has_right, has_split}
 use Rattle.vlog_law_runs.proofs.Sound.{both_true}
 use Rattle.vlog_law_runs.proofs.Alone.{of_items, items_have}
 use Rattle.vlog_law_loops.proofs.Dots.{at_dot, name_plain}

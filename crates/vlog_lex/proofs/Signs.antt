@@ -1,5 +1,5 @@
 -- Signs: the longest is cut.
-use Rattle.std.proofs.Common.{◌≡◌, ◌⊎◌, ⊎_elim, inl, inr, ℕ, zero, suc, ◌+◌, ◌<◌, ◌≤◌, Bool, true, false, cond, ◌&&◌, ◌||◌, List, [], ◌∷◌, ◌++◌, codes, bytes_eq, length, take, drop, get_or, refl, sym, ap, subst, ◌∙◌, arith, nat_eq, eqb-true}
+use Rattle.std.proofs.Common.{◌≡◌, ◌⊎◌, ⊎_elim, ℕ, Bool, true, false, ◌&&◌, ◌||◌, List, [], ◌∷◌, bytes_eq, get_or, refl, sym, ap, subst, ◌∙◌, nat_eq, eqb-true}
 use Rattle.std.specs.List.{list_all, list_any}
 use Rattle.std.proofs.lemmas.Bool.{and_parts, or_cases, false≢true}
 use Rattle.std.proofs.lemmas.Slice.Eq.{bytes_eq-Decides}
@@ -7,7 +7,7 @@ use Rattle.tapa_syntax.specs.Characters.{is_among}
 use Rattle.vlog_tree.specs.Spelling.{Word}
 use Rattle.tapa_base.specs.Gaps.{Bytes, begins}
 use Rattle.vlog_grammar.specs.Lexemes.{signs, is_sign, is_sign_or_mark, IsSignWord}
-use Rattle.vlog_lex.specs.Reading.{is_single, is_pair, singles, doubled, before_equals, sign_length}
+use Rattle.vlog_lex.specs.Reading.{is_single, is_pair, singles, doubled, before_equals}
 
 -- what holds of each of a few bytes holds of one of them
 one_of : (P : ℕ → Bool) (set : List ℕ) (b : ℕ) → list_all P set ≡ true → is_among set b ≡ true → P b ≡ true

@@ -1,6 +1,6 @@
 -- Pieces one after the other, up to where nothing more stands.
-use Rattle.std.proofs.Common.{◌≡◌, ℕ, ◌+◌, ◌-◌, ◌<◌, ◌≤◌, List, [], ◌∷◌, ◌++◌, append_assoc, length, take, drop, Option, Some, None, refl, sym, ap, subst, ◌∙◌, arith}
-use Rattle.std.proofs.lemmas.List.{length-append, length-drop, length-take-le, drop-drop, take-append-drop, append-nil, append_cancel_left, take_all, drop_all, take_rest}
+use Rattle.std.proofs.Common.{◌≡◌, ℕ, ◌+◌, ◌-◌, ◌<◌, ◌≤◌, List, [], ◌∷◌, ◌++◌, append_assoc, length, take, drop, Some, None, refl, sym, ap, subst, ◌∙◌, arith}
+use Rattle.std.proofs.lemmas.List.{length-append, length-drop, length-take-le, drop-drop, take-append-drop, append-nil, append_cancel_left, drop_all, take_rest}
 use Rattle.tapa_base.specs.Gaps.{Bytes}
 use Rattle.vlog_grammar.specs.Lexemes.{Piece, gap, word, Stands, piece_bytes, text_of, StandInTurn}
 use Rattle.vlog_grammar.proofs.Cuts.{cut as grammar_cut, stands_cut, no_piece}
@@ -10,7 +10,7 @@ use Rattle.vlog_lex.specs.declared.lexer.Lexeme.{Lexeme}
 use Rattle.vlog_lex.specs.Reading.{cut}
 use Rattle.vlog_lex.specs.Scanned.{NothingStands, slices_of, put_slice, IsScan}
 use Rattle.tapa_syntax.proofs.Runs.{take_both}
-use Rattle.vlog_lex.proofs.Pieces.{piece_of, Found, found, nothing}
+use Rattle.vlog_lex.proofs.Pieces.{piece_of, found, nothing}
 
 -- ---- one more piece at the end
 

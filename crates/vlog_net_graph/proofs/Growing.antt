@@ -1,14 +1,10 @@
 -- Graphs that grow by the edges of a list's elements.
-use Rattle.std.proofs.Common.{◌≡◌, ℕ, ◌+◌, ◌<◌, ◌≤◌, List, [], ◌∷◌, ◌++◌, length, get_or, drop, inl, inr, refl, sym, ap, subst, ◌∙◌, append_assoc, map}
-use Rattle.std.specs.Prelude.{◌↔◌}
+use Rattle.std.proofs.Common.{◌≡◌, ℕ, ◌+◌, ◌<◌, ◌≤◌, List, [], ◌∷◌, ◌++◌, length, get_or, drop, refl, sym, ap, subst, ◌∙◌, append_assoc, map}
 use Rattle.std.specs.List.{flat_map}
 use Rattle.std.proofs.lemmas.List.{append-nil}
-use Rattle.vlog_tree.specs.Grounded.{Has}
 use Rattle.vlog_tree.specs.Table.{Name}
 use Rattle.vlog_tree.specs.Loops.{Edges, port_of}
-use Rattle.vlog_tree.proofs.Lists.{has_left, has_right, has_split}
 use Rattle.vlog_tree.proofs.Walks.{grows, over}
-use Rattle.vlog_scope.specs.NameTable.{value_in}
 use Rattle.vlog_net_graph.specs.declared.names.Draft.{Draft}
 use Rattle.vlog_net_graph.specs.Names.{IsDraftOf}
 use Rattle.vlog_net_graph.specs.Growth.{Adds}

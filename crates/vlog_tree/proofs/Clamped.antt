@@ -1,7 +1,7 @@
 -- The rule on widths sees no difference between modules and the same with their numbers cut.
-use Rattle.std.proofs.Common.{◌≡◌, ℕ, zero, suc, ◌+◌, ◌-◌, ◌*◌, ◌^◌, ◌<◌, ◌≤◌, min, Bool, true, false, cond, ◌&&◌, List, [], ◌∷◌, ◌++◌, refl, sym, ap, subst, ◌∙◌, map, arith}
-use Rattle.std.specs.Prelude.{bytes_eq, not, nat_le, nat_lt, ◌==◌, sum, fold}
-use Rattle.std.specs.List.{list_all, flat_map}
+use Rattle.std.proofs.Common.{◌≡◌, ℕ, zero, suc, ◌+◌, ◌-◌, ◌*◌, ◌^◌, ◌≤◌, min, Bool, true, false, cond, ◌&&◌, List, [], ◌∷◌, refl, sym, ap, ◌∙◌, map, arith}
+use Rattle.std.specs.Prelude.{not, nat_le, nat_lt, ◌==◌, sum, fold}
+use Rattle.std.specs.List.{list_all}
 use Rattle.std.proofs.lemmas.Bool.Decides.{nat_tests}
 use Rattle.std.proofs.Math.Nat.{pow-le-pow_right, le-mul_of_pos_right}
 use Rattle.vlog_tree.specs.declared.tree.Atom.{Atom}
@@ -13,9 +13,9 @@ use Rattle.vlog_tree.specs.declared.tree.Value.TheVariants.{Plain, Invert, Binar
 use Rattle.vlog_tree.specs.declared.tree.Step.{Step}
 use Rattle.vlog_tree.specs.declared.tree.Step.TheVariants.{If, Else, End, NonblockingAssign, MemoryAssign}
 use Rattle.vlog_tree.specs.declared.table.Declaration.{Declaration}
-use Rattle.vlog_tree.specs.Table.{Name, NameUse, bits_of, cells_of, find_name}
+use Rattle.vlog_tree.specs.Table.{Name, NameUse, bits_of, cells_of}
 use Rattle.vlog_tree.specs.V3.{is_width, is_cell_count, net_fits, memory_fits, atom_fits, atom_bits, has_bits, is_divisor, op_fits, value_fits, step_widths}
-use Rattle.vlog_tree.specs.Clamped.{clamped_width, clamped_cells, clamped_atom, clamped_value, clamped_step}
+use Rattle.vlog_tree.specs.Clamped.{clamped_atom, clamped_value, clamped_step}
 
 -- numbers
 pub width_same : (w : ℕ) → is_width (min w 129) ≡ is_width w

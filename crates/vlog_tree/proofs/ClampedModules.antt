@@ -1,8 +1,7 @@
 -- The rule on widths over modules with their numbers cut.
-use Rattle.std.proofs.Common.{◌≡◌, ℕ, min, Bool, true, false, cond, ◌&&◌, List, [], ◌∷◌, ◌++◌, Option, Some, None, refl, sym, ap, ◌∙◌, map, arith}
-use Rattle.std.specs.Prelude.{bytes_eq, not, nat_le, ◌==◌}
+use Rattle.std.proofs.Common.{◌≡◌, min, Bool, true, false, cond, ◌&&◌, List, [], ◌∷◌, ◌++◌, Some, refl, sym, ap, ◌∙◌, map}
+use Rattle.std.specs.Prelude.{bytes_eq, not, ◌==◌}
 use Rattle.std.specs.List.{flat_map}
-use Rattle.vlog_tree.specs.declared.tree.Step.{Step}
 use Rattle.vlog_tree.specs.declared.tree.Connection.{Connection}
 use Rattle.vlog_tree.specs.declared.tree.Item.{Item}
 use Rattle.vlog_tree.specs.declared.tree.Item.TheVariants.{Wire, Reg, Memory, Assign, Always, Instance}
@@ -10,8 +9,8 @@ use Rattle.vlog_tree.specs.declared.tree.PortDecl.{PortDecl}
 use Rattle.vlog_tree.specs.declared.table.Declaration.{Declaration}
 use Rattle.vlog_tree.specs.declared.table.NetKind.TheVariants.{WireNet, Register, MemoryArray, ChildInstance}
 use Rattle.vlog_tree.specs.Form.{ModuleTree}
-use Rattle.vlog_tree.specs.Table.{Name, NameUse, declared, port_declared, items_declared, bits_of, cells_of, find_name, module_named, ports_in, ports_of}
-use Rattle.vlog_tree.specs.V3.{is_width, is_cell_count, net_fits, step_widths, connection_widths, item_widths, port_widths, module_widths, v3_uses}
+use Rattle.vlog_tree.specs.Table.{Name, declared, port_declared, items_declared, bits_of, find_name, module_named, ports_in, ports_of}
+use Rattle.vlog_tree.specs.V3.{is_width, net_fits, step_widths, connection_widths, item_widths, port_widths, module_widths, v3_uses}
 use Rattle.vlog_tree.specs.Clamped.{clamped_step, clamped_item, clamped_port, clamped}
 use Rattle.vlog_tree.proofs.Clamped.{IsCut, width_same, cells_same, width_is, width_low, both_same, same_bits, and_same, step_same, assign_widths}
 

@@ -1,7 +1,7 @@
 -- Comparisons and divisions of words in two's complement.
-use Rattle.std.proofs.Common.{◌≡◌, ℕ, zero, suc, ◌+◌, ◌-◌, ◌*◌, ◌/◌, ◌%◌, ◌^◌, ◌<◌, ◌≤◌, Bool, true, false, cond, ltb, ◌&&◌, refl, sym, ap, subst, ◌∙◌, arith}
-use Rattle.std.specs.Prelude.{ℤ, pos, negsuc, nat_le, nat_lt, not, bit_xor}
-use Rattle.std.specs.Int.RustNames.{int_lt, int_le, int_div, int_rem}
+use Rattle.std.proofs.Common.{◌≡◌, ℕ, zero, suc, ◌+◌, ◌-◌, ◌*◌, ◌/◌, ◌%◌, ◌^◌, ◌<◌, ◌≤◌, Bool, true, false, cond, ◌&&◌, refl, sym, ap, ◌∙◌, arith}
+use Rattle.std.specs.Prelude.{pos, negsuc, nat_le, nat_lt, not, bit_xor}
+use Rattle.std.specs.Int.RustNames.{int_lt, int_div, int_rem}
 use Rattle.std.specs.Int.Bits.{xor_block, xor_zero_r}
 use Rattle.std.proofs.Math.Nat.{mod-eq_of_lt, mod-le, div-le_self}
 use Rattle.std.proofs.Math.IntN.{neg_ℤ}
@@ -9,13 +9,10 @@ use Rattle.std.proofs.Math.Arith.{digits_mod}
 use Rattle.std.proofs.Math.Pow.{pow_pos}
 use Rattle.std.proofs.lemmas.Bool.{lt-ltb, ltb-true}
 use Rattle.tapa_base.specs.declared.kind.Kind.{Kind}
-use Rattle.tapa_base.specs.declared.kind.Kind.TheVariants as kind
-use Rattle.tapa_base.specs.declared.op.Op.TheVariants.{Div, Rem}
 use Rattle.tapa_base.specs.Kinds.{bits_of, is_signed, values_of, number, residue}
-use Rattle.tapa_base.specs.Operators.{applied}
 use Rattle.word_law.specs.Words.{half_of, is_negative}
 use Rattle.word_law.specs.Signed.{OrdersWords, OrdersTurnedWords, NotAboveIsNotBelow, absolute, opposite_if, differ, DividesWords, LeavesWords}
-use Rattle.word_law.proofs.Numbers.{number_plain, number_negative, some_values, two_halves, negative_high, plain_low, residue_low, residue_back}
+use Rattle.word_law.proofs.Numbers.{number_plain, number_negative, two_halves, negative_high, plain_low, residue_low, residue_back}
 
 unsigned_plain : (k : Kind) (a : ℕ) → is_signed k ≡ false → is_negative k a ≡ false
 unsigned_plain k a e = ap (λ b. b && nat_le (half_of k) a) e

@@ -1,17 +1,16 @@
 -- Conversions and shifts of words.
-use Rattle.std.proofs.Common.{◌≡◌, ℕ, zero, suc, ◌+◌, ◌-◌, ◌*◌, ◌/◌, ◌%◌, ◌^◌, ◌<◌, ◌≤◌, Bool, true, false, cond, ltb, ◌&&◌, refl, sym, ap, subst, ◌∙◌, arith}
-use Rattle.std.specs.Prelude.{ℤ, pos, negsuc, nat_le, nat_lt}
+use Rattle.std.proofs.Common.{◌≡◌, ℕ, ◌+◌, ◌-◌, ◌*◌, ◌/◌, ◌%◌, ◌^◌, ◌<◌, ◌≤◌, Bool, true, false, cond, refl, sym, ap, subst, ◌∙◌, arith}
+use Rattle.std.specs.Prelude.{nat_lt}
 use Rattle.std.proofs.Math.Pow.{pow_pos, pow_mono, pow-add}
 use Rattle.std.proofs.Math.Nat.{div-le_self, mul_assoc}
 use Rattle.std.proofs.Math.Arith.{digits_mod}
 use Rattle.std.proofs.lemmas.Bool.{ltb-false}
 use Rattle.tapa_base.specs.declared.kind.Kind.{Kind}
 use Rattle.tapa_base.specs.declared.kind.Kind.TheVariants as kind
-use Rattle.tapa_base.specs.declared.op.Op.TheVariants.{Shl, Shr}
-use Rattle.tapa_base.specs.Kinds.{bits_of, is_signed, values_of, number, residue, converted}
-use Rattle.tapa_base.specs.Operators.{applied, floor_div, sign_bits}
-use Rattle.word_law.specs.Words.{half_of, is_negative, CutsWords, ExtendsWords, ShiftsWordsLeft, ShiftsWordsRight}
-use Rattle.word_law.proofs.Numbers.{number_plain, number_negative, some_values, two_halves, negative_high, plain_low, turned_remainder, residue_low, residue_back, quotient_none}
+use Rattle.tapa_base.specs.Kinds.{bits_of, values_of, number, residue, converted}
+use Rattle.tapa_base.specs.Operators.{floor_div, sign_bits}
+use Rattle.word_law.specs.Words.{is_negative, CutsWords, ExtendsWords, ShiftsWordsLeft, ShiftsWordsRight}
+use Rattle.word_law.proofs.Numbers.{number_plain, number_negative, some_values, turned_remainder, residue_low, residue_back, quotient_none}
 
 -- to a kind other than Bool by the number
 converted_is : (s t : Kind) (a : ℕ) → (t ≡ kind.Bool → ⊥) → converted s t a ≡ residue (values_of t) (number s a)

@@ -1,4 +1,4 @@
-use Rattle.std.proofs.Common.{◌≡◌, ◌∙◌, sym, subst}
+use Rattle.std.proofs.Common.{◌∙◌, sym, subst}
 use Rattle.vlog_tree.specs.Form.{ModuleTree}
 use Rattle.hw_task.specs.Promise.{KeepsPromise}
 use Rattle.hw_task.proofs.Promise.{keeps}

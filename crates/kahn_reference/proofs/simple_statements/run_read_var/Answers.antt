@@ -1,11 +1,9 @@
-use Rattle.std.proofs.Common.{◌∙◌, ℕ, List, refl, ap, ◌<◌, sym, subst}
+use Rattle.std.proofs.Common.{ℕ, refl, ap, ◌<◌, sym, subst}
 use Rattle.std.specs.Prelude.{Vec}
 use Rattle.std.specs.declared.alloc.Global.{Global}
 use Rattle.tapa_syntax.specs.declared.program.Stmt.TheVariants.{ReadVar}
 use Rattle.tapa_syntax.specs.LeafKinds.{kinds_of}
 use Rattle.kahn_reference.specs.Slow.{point, numbers, feed, state_of}
-use Rattle.kahn_model.specs.Rows.{rows_of}
-use Rattle.kahn_model.specs.Trace.{cell}
 use Rattle.kahn_reference.proofs.SlowStatements.{read_var_goes, read_var_stops}
 use Rattle.std.proofs.lemmas.Result.{err_from_is_err_and}
 use Rattle.tapa_base.specs.Kinds.{values_of}

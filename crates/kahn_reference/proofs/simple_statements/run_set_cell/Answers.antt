@@ -1,10 +1,8 @@
-use Rattle.std.proofs.Common.{◌∙◌, ℕ, List, refl, ap}
+use Rattle.std.proofs.Common.{ℕ, refl, ap}
 use Rattle.std.specs.Prelude.{Vec}
 use Rattle.std.specs.declared.alloc.Global.{Global}
 use Rattle.tapa_syntax.specs.declared.program.Stmt.TheVariants.{SetCell}
 use Rattle.kahn_reference.specs.Slow.{point, numbers, feed, state_of}
-use Rattle.kahn_model.specs.Rows.{rows_of}
-use Rattle.kahn_model.specs.Trace.{cell}
 use Rattle.kahn_reference.proofs.SlowStatements.{set_cell_goes, set_cell_stops}
 use Rattle.std.proofs.lemmas.Result.{err_from_is_err_and}
 use Rattle.tapa_base.specs.declared.kind.Kind.TheVariants as kind

@@ -1,7 +1,6 @@
 use Rattle.std.proofs.Common.{◌<◌, sym, subst}
 use Rattle.std.proofs.lemmas.Result.{err_from_is_err_and}
 use Rattle.tapa_base.specs.declared.kind.Kind.{Kind}
-use Rattle.tapa_base.specs.declared.kind.Kind.TheVariants as kind
 use Rattle.tapa_base.specs.Kinds.{values_of}
 use Rattle.tapa_syntax.specs.declared.program.Expr.{Expr}
 use Rattle.tapa_syntax.specs.Typed.{HasKind, MayDivide, right_kind, result_kind}

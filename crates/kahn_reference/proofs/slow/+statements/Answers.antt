@@ -1,4 +1,4 @@
-use Rattle.std.proofs.Common.{◌+◌, ◌-◌, List, ◌∷◌, drop, ℕ, sym, ap, refl, ◌∙◌, subst, arith}
+use Rattle.std.proofs.Common.{◌+◌, ◌-◌, ◌∷◌, drop, ℕ, sym, ap, refl, ◌∙◌, subst, arith}
 use Rattle.std.specs.Prelude.{◌≢◌}
 use Rattle.std.specs.Prelude.{Vec}
 use Rattle.std.specs.declared.alloc.Global.{Global}
@@ -8,10 +8,9 @@ use Rattle.tapa_syntax.specs.LeafKinds.{kinds_of}
 use Rattle.kahn_reference.specs.declared.slow.Flow.TheVariants.{Next, Out, Again, Stopped as StoppedFlow}
 use Rattle.kahn_reference.specs.declared.slow.Turn.TheVariants.{On, Over, Stopped as StoppedTurn}
 use Rattle.kahn_reference.specs.Slow.{point, numbers, feed, state_of, GivesFlow, turn_of, loop_of, turn_left}
-use Rattle.kahn_model.specs.Rows.{rows_of}
-use Rattle.kahn_model.specs.Trace.{cell, statements, stmt}
+use Rattle.kahn_model.specs.Trace.{statements, stmt}
 use Rattle.kahn_reference.proofs.SlowFlows.{turn_begins, turn_stops, turn_out, turn_next, turn_again, turn_at, flow_at, flow_after, if_begins, code_at_zero, code_not_zero, block_step, block_leaves, loop_on, loop_over, loop_stops}
-use Rattle.kahn_reference.proofs.SlowStatements.{set_cell_goes, set_cell_stops, set_cell_by_goes, set_cell_by_stops, store_goes, store_stops, store_by_goes, store_by_stops, read_var_goes, read_var_stops, read_cell_goes, read_cell_stops, read_store_goes, read_store_stops, open_goes, open_stops, clear_goes}
+use Rattle.kahn_reference.proofs.SlowStatements.{clear_goes}
 use Rattle.tapa_syntax.specs.Typed.{IsTyped, IsTypedCode}
 use Rattle.kahn_reference.specs.declared.slow.Fault.{Fault}
 use Rattle.kahn_reference.specs.declared.slow.Fault.TheVariants.{NotOfItsKind}

@@ -1,4 +1,4 @@
-use Rattle.std.proofs.Common.{◌≡◌, ◌≤◌, ◌+◌, refl, arith}
+use Rattle.std.proofs.Common.{refl, arith}
 use Rattle.net_core.proofs.share.resume_within.Goals as goal
 
 pub returns-then-is_detached-clause-resumed : goal.returns-then-is_detached-clause-resumed

@@ -1,8 +1,6 @@
-use Rattle.std.proofs.Common.{◌≡◌, ◌<◌, ◌≤◌, ◌+◌, ◌-◌, ◌*◌, ◌^◌, ℕ, List, [], ◌∷◌, ◌++◌, length, get_or, set, arith, rules, sym, subst, ap, refl, ◌∙◌}
+use Rattle.std.proofs.Common.{◌≡◌, ◌<◌, ◌≤◌, ◌+◌, ◌-◌, ◌*◌, ℕ, List, [], ◌∷◌, ◌++◌, length, get_or, set, arith, rules, sym, subst, ap, ◌∙◌}
 use Rattle.plan_flows.specs.declared.moves.Entry.{Entry}
-use Rattle.plan_flows.specs.Moves.{start_of, end_of, gain_of, loss_of}
 use Rattle.plan_flows.specs.Log.{IsLog, entry_at, AreHeights}
-use Rattle.plan_flows.specs.Search.{IsState, risen}
 use Rattle.plan_flows.proofs.Raises.{log_raise, heights_push, risen_set, risen_low, read_is, one_more, entry_new}
 use Rattle.plan_flows.proofs.search.raise_by.Goals as goal
 

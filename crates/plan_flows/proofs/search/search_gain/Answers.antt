@@ -1,4 +1,4 @@
-use Rattle.std.proofs.Common.{◌≡◌, ◌<◌, ◌≤◌, ◌-◌, arith}
+use Rattle.std.proofs.Common.{◌-◌, arith}
 use Rattle.plan_flows.proofs.Raises.{risen_low}
 use Rattle.plan_flows.proofs.search.search_gain.Goals as goal
 

@@ -1,4 +1,4 @@
-use Rattle.std.proofs.Common.{◌≡◌, ℕ, ◌<◌, ◌≤◌, ◌-◌, ◌+◌, true, false}
+use Rattle.std.proofs.Common.{◌≡◌, ◌<◌, ◌≤◌, ◌-◌, true, false}
 use Rattle.plan_flows.specs.declared.moves.Move.{Move}
 use Rattle.plan_flows.specs.Moves.{IsMove}
 use Rattle.plan_flows.specs.Search.{IsState, IsSettled, risen}

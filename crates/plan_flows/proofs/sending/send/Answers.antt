@@ -1,4 +1,4 @@
-use Rattle.std.proofs.Common.{◌≡◌, ◌<◌, ◌≤◌, ◌+◌, ◌-◌, ◌*◌, ℕ, List, length, get_or, arith, sym, refl, subst, true}
+use Rattle.std.proofs.Common.{◌≡◌, ◌<◌, ◌+◌, ◌-◌, ℕ, List, length, arith, sym, refl, subst, true}
 use Rattle.plan_flows.specs.Moves.{move_at}
 use Rattle.plan_flows.proofs.Sends.{Progress, progress_forward, progress_back, grown, Gained}
 use Rattle.plan_flows.proofs.sending.send.Goals as goal

@@ -1,4 +1,4 @@
-use Rattle.std.proofs.Common.{◌≡◌, List, sym, subst}
+use Rattle.std.proofs.Common.{List, sym, subst}
 use Rattle.plan_flows.specs.declared.moves.Move.{Move}
 use Rattle.plan_flows.specs.Log.{entry_at}
 use Rattle.plan_flows.proofs.Walks.{Collected, collected_more, collected_all}

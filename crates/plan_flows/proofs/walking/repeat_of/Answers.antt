@@ -1,7 +1,7 @@
-use Rattle.std.proofs.Common.{◌≡◌, ◌<◌, ◌≤◌, ℕ, List, length, get_or, arith, sym, subst, ◌∙◌}
+use Rattle.std.proofs.Common.{◌≡◌, ◌<◌, ℕ, List, length, get_or, arith, subst}
 use Rattle.std.proofs.lemmas.Grind.{common_steps}
 use Rattle.plan_flows.specs.Log.{entry_at, IsRepeat}
-use Rattle.plan_flows.proofs.Walks.{Walked, walked_more, walked_repeat, walked_root}
+use Rattle.plan_flows.proofs.Walks.{walked_more, walked_repeat, walked_root}
 use Rattle.plan_flows.proofs.walking.repeat_of.Goals as goal
 
 read_is : (xs : List ℕ) (i r : ℕ) → i < length xs → r ≡ get_or xs i r → get_or xs i 0 ≡ r

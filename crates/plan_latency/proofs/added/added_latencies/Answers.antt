@@ -1,4 +1,4 @@
-use Rattle.std.proofs.Common.{ℕ, List, Bool, sym, ap, ◌+◌, ◌≤◌, get_or, subst}
+use Rattle.std.proofs.Common.{ℕ, List, Bool, sym, ◌+◌, ◌≤◌, get_or, subst}
 use Rattle.latency_balance.specs.Result.{IsBalance}
 use Rattle.plan_latency.specs.Added.{AddsTo}
 use Rattle.plan_latency.proofs.Sums.{sum_low, balanced}

@@ -1,7 +1,5 @@
-use Rattle.std.proofs.Common.{sym, ap, ◌∙◌}
-use Rattle.std.proofs.lemmas.Option.{same_Some}
+use Rattle.std.proofs.Common.{◌∙◌}
 use Rattle.vlog_tree.specs.Labels.{done}
-use Rattle.vlog_tree.specs.Table.{declared}
 use Rattle.sim_parts.specs.Machines.{IsTopPlaced}
 use Rattle.sim_begin.proofs.Naming.{done_read, done_clock}
 use Rattle.sim_begin.proofs.around.around_of.Goals as goal

@@ -1,4 +1,4 @@
-use Rattle.std.proofs.Common.{◌≡◌, ℕ, ◌+◌, ◌<◌, ◌≤◌, length, arith}
+use Rattle.std.proofs.Common.{◌≡◌, ◌+◌, ◌≤◌, length, arith}
 use Rattle.sim_flat.proofs.Grown.{deeper_more, level_more}
 use Rattle.sim_flat.proofs.instances.add_level.Goals as goal
 

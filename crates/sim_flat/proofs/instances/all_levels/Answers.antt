@@ -1,4 +1,4 @@
-use Rattle.std.proofs.Common.{◌≡◌, ℕ, ◌+◌, ◌<◌, ◌≤◌, length, arith}
+use Rattle.std.proofs.Common.{arith}
 use Rattle.sim_flat.proofs.instances.all_levels.Goals as goal
 
 pub loop-depth-preserved : goal.loop-depth-preserved

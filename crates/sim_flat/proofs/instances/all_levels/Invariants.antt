@@ -1,4 +1,4 @@
-use Rattle.std.proofs.Common.{◌≡◌, ℕ, ◌+◌, ◌<◌, ◌≤◌, length}
+use Rattle.std.proofs.Common.{length}
 use Rattle.vlog_graph.specs.Graphs.{rows_of}
 use Rattle.sim_flat.specs.Rows.{AreRows, HaveDepth}
 use Rattle.sim_flat.proofs.instances.all_levels.Given as goal

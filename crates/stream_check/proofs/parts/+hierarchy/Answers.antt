@@ -4,7 +4,6 @@ use Rattle.tapa_syntax.specs.Flat.{FlatInstance, flat_instance}
 use Rattle.check_upper.specs.declared.task.Invoked.{Invoked}
 use Rattle.check_upper.specs.Views.{invocation_view, task_view}
 use Rattle.stream_check.specs.Parts as spec
-use Rattle.stream_check.specs.Parts.{Part}
 use Rattle.stream_check.specs.Views.{flat_of, flat_faults, with_parts}
 use Rattle.stream_check.proofs.Levels.{above}
 use Rattle.stream_check.proofs.Limits.{adds_on, faults_go, parts_go, parts_stop}

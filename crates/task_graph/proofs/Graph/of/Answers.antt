@@ -1,4 +1,4 @@
-use Rattle.std.proofs.Common.{◌≡◌, ℕ, ◌^◌, ◌<◌, ◌≤◌, List, length, map, ap, subst, sym, ◌∙◌, arith}
+use Rattle.std.proofs.Common.{◌≡◌, ◌^◌, ◌<◌, ◌≤◌, List, length, map, ap, subst, sym, ◌∙◌, arith}
 use Rattle.tapa_syntax.specs.declared.program.Instance.{Instance}
 use Rattle.task_graph.specs.declared.Edge.{Edge}
 use Rattle.task_graph.specs.declared.Use.{Use}

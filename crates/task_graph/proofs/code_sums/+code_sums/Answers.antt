@@ -1,4 +1,4 @@
-use Rattle.std.proofs.Common.{◌≡◌, map, ap, ◌∙◌, sym}
+use Rattle.std.proofs.Common.{map, ap, ◌∙◌, sym}
 use Rattle.tapa_syntax.specs.Flat.{flat_statement, in_row}
 use Rattle.tapa_syntax.specs.LeafKinds.{kinds_of}
 use Rattle.tapa_syntax.specs.TickPlaces.{capped}

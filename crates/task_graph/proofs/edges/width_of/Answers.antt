@@ -1,5 +1,4 @@
-use Rattle.std.proofs.Common.{◌≡◌, ◌≤◌, ◌+◌, arith}
-use Rattle.tapa_base.specs.Kinds.{bits_of}
+use Rattle.std.proofs.Common.{arith}
 use Rattle.task_graph.proofs.Made.{few_bits}
 use Rattle.task_graph.proofs.edges.width_of.Goals as goal
 

@@ -1,4 +1,4 @@
-use Rattle.std.proofs.Common.{◌≡◌, ℕ, ◌<◌, ◌≤◌, sym, arith, below_more}
+use Rattle.std.proofs.Common.{sym, arith, below_more}
 use Rattle.task_graph.specs.Reach.{MarkEachOther}
 use Rattle.task_graph.proofs.Numbering.{mark_each_other, mark_not_both}
 use Rattle.task_graph.proofs.groups.companion.Goals as goal

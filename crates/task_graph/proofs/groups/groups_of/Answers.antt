@@ -1,4 +1,4 @@
-use Rattle.std.proofs.Common.{◌≡◌, ◌≤◌, ℕ, List, Bool, Vec, Global, length, ap, subst, sym, ◌∙◌, arith}
+use Rattle.std.proofs.Common.{◌≡◌, List, Bool, Vec, Global, length, ap, subst, sym, ◌∙◌, arith}
 use Rattle.task_graph.specs.Edges.{EndBelow}
 use Rattle.task_graph.specs.Reach.{AreTransitive, MarkReached}
 use Rattle.task_graph.proofs.Numbering.{are_groups}

@@ -1,4 +1,3 @@
-use Rattle.std.proofs.Common.{◌≡◌, ℕ, ◌+◌, ◌<◌, length, arith}
 use Rattle.task_graph.proofs.Walks.{rows_more}
 use Rattle.task_graph.proofs.reach.rows_of.Goals as goal
 

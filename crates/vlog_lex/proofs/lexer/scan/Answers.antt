@@ -1,4 +1,4 @@
-use Rattle.std.proofs.Common.{◌≡◌, ◌+◌, arith, refl, subst, sym}
+use Rattle.std.proofs.Common.{◌+◌, arith, refl, subst, sym}
 use Rattle.vlog_lex.proofs.Whole.{HasFront, front_none, front_more, piece_fits, scan_all, scan_stopped}
 use Rattle.vlog_lex.proofs.lexer.scan.Goals as goal
 

@@ -1,4 +1,4 @@
-use Rattle.std.proofs.Common.{◌≡◌, List, ◌∷◌, ◌++◌, refl, inl, inr, subst, sym}
+use Rattle.std.proofs.Common.{◌≡◌, List, ◌∷◌, refl, inl, subst, sym}
 use Rattle.vlog_tree.specs.declared.fault.VFault.{VFault}
 use Rattle.vlog_tree.specs.declared.fault.VFault.TheVariants.{V1, V2, V3, V4, V5, V6, OutOfMemory}
 use Rattle.vlog_tree.specs.Form.{ModuleTree}

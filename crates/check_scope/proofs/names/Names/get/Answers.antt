@@ -1,5 +1,5 @@
-use Rattle.std.proofs.Common.{◌≡◌, ap, ◌∙◌, sym, subst, rules}
-use Rattle.std.specs.Prelude.{Option, IfSome, Vec}
+use Rattle.std.proofs.Common.{ap, ◌∙◌, sym, subst, rules}
+use Rattle.std.specs.Prelude.{IfSome, Vec}
 use Rattle.std.specs.Map.{lookup}
 use Rattle.std.specs.Str.{bytes_eq}
 use Rattle.std.specs.declared.alloc.Global.{Global}

@@ -3,7 +3,7 @@ use Rattle.std.specs.Prelude.{slice_index}
 use Rattle.std.proofs.lemmas.Option.{slice_get_read, get_or_from_slice_get}
 use Rattle.tapa_syntax.specs.declared.program.Program.{Program}
 use Rattle.kahn_model.specs.Network.{IsNetwork}
-use Rattle.kahn_model.specs.Counts.{written, taken, IsReachable}
+use Rattle.kahn_model.specs.Counts.{taken, IsReachable}
 use Rattle.net_instances.specs.declared.net_state.NetState.{NetState}
 use Rattle.net_instances.specs.Bindings.{producer_of, consumer_of}
 use Rattle.net_instances.specs.State.{network, count}
