@@ -7,6 +7,7 @@
 Each case that fails is printed. The last line is `N passed, M failed`, and the exit status is 1 where M is not 0.
 tests/README.md says how cases are written.
 """
+import os
 import sys
 
 from runner import circuits, crates, documents, endings, examples, inputs, pipelines, plans, reference, sessions, sources, texts, tools, values, words
@@ -35,8 +36,14 @@ GROUPS = [
 
 def main(given):
     only = given[2] if len(given) == 3 and given[1] == "--only" else ""
-    if len(given) != (3 if only else 1):
+    if len(given) != (3 if only else 1) or given[0].startswith("-"):
         print(__doc__.strip(), file=sys.stderr)
+        return 2
+    if not os.path.isfile(given[0]) or not os.access(given[0], os.X_OK):
+        print(f"tests/run.py: {given[0]} is no program: rt run in crates/tapa_cli builds it", file=sys.stderr)
+        return 2
+    if not any(only in name for name, _ in GROUPS):
+        print(f"tests/run.py: no group has {only} in its name: {', '.join(name for name, _ in GROUPS)}", file=sys.stderr)
         return 2
     trial = Trial(given[0], is_whole=not only)
     for name, group in GROUPS:
