@@ -48,8 +48,8 @@ impl Group {
     }
 }
 
-/// Its name, as a device file has it.
 impl Key {
+    /// Its name, as a device file has it.
     pub fn name(self) -> &'static str
         ensures { result.now ≡ key_name self }
     {

@@ -1,5 +1,6 @@
 // Small bodies, the kind of the stream that they write, and the tokens that it carries by the language.
 
+/// Bodies of operators and literals.
 pub const OPERATORS: [(&str, &str, &str); 24] = [
     (
         "int64_t",
@@ -123,6 +124,7 @@ pub const OPERATORS: [(&str, &str, &str); 24] = [
     ),
 ];
 
+/// Bodies of statements.
 pub const STATEMENTS: [(&str, &str, &str); 24] = [
     (
         "int",

@@ -1,5 +1,6 @@
 // Whole programs, whose top task is T.
 
+/// Three tasks in a row.
 pub const PATH: &str =
     "void P(tapa::ostream<uint64_t>& q) { for (uint64_t i = 0; i < 3; ++i) { q << i + 5; } }
 void C(tapa::istream<uint64_t>& q, tapa::ostream<uint64_t>& r) {
@@ -9,24 +10,28 @@ void T() { tapa::stream<uint64_t> q; tapa::stream<uint64_t> r;
   tapa::task().invoke(P, q).invoke(C, q, r).invoke(D, r); }
 ";
 
+/// Two streams that are read in another order than they are written, deep enough.
 pub const CROSSING_ENDS: &str =
     "void A(tapa::ostream<uint64_t>& s1, tapa::ostream<uint64_t>& s2) { s1 << 1; s1 << 2; s2 << 3; }
 void B(tapa::istream<uint64_t>& s1, tapa::istream<uint64_t>& s2) { s2.read(); s1.read(); s1.read(); }
 void T() { tapa::stream<uint64_t, 2> s1; tapa::stream<uint64_t, 1> s2; tapa::task().invoke(A, s1, s2).invoke(B, s1, s2); }
 ";
 
+/// The same, too shallow: a deadlock.
 pub const CROSSING_STOPS: &str =
     "void A(tapa::ostream<uint64_t>& s1, tapa::ostream<uint64_t>& s2) { s1 << 1; s1 << 2; s2 << 3; }
 void B(tapa::istream<uint64_t>& s1, tapa::istream<uint64_t>& s2) { s2.read(); s1.read(); s1.read(); }
 void T() { tapa::stream<uint64_t, 1> s1; tapa::stream<uint64_t, 1> s2; tapa::task().invoke(A, s1, s2).invoke(B, s1, s2); }
 ";
 
+/// Two tasks in a ring, of which one writes first.
 pub const FEEDBACK: &str =
     "void A(tapa::istream<uint64_t>& in, tapa::ostream<uint64_t>& out) { out << 5; in.read(); }
 void B(tapa::istream<uint64_t>& in, tapa::ostream<uint64_t>& out) { out << in.read() + 1; }
 void T() { tapa::stream<uint64_t> x; tapa::stream<uint64_t> y; tapa::task().invoke(A, y, x).invoke(B, x, y); }
 ";
 
+/// One task deals to two streams of other depths, another reads them in turn.
 pub const MIX: &str = "void Deal(tapa::ostream<uint64_t>& a, tapa::ostream<uint64_t>& b) {
   uint64_t t = 3; for (uint64_t i = 0; i < 5; ++i) { a << t; t = t + i; b.write(t + 7); } }
 void Mix(tapa::istream<uint64_t>& a, tapa::istream<uint64_t>& b, tapa::ostream<uint64_t>& c) {
@@ -36,6 +41,7 @@ void T() { tapa::stream<uint64_t, 1> a; tapa::stream<uint64_t, 3> b; tapa::strea
   tapa::task().invoke(Deal, a, b).invoke(Mix, a, b, c).invoke(Keep, c); }
 ";
 
+/// Three tasks in a ring, round which a number goes.
 pub const RING: &str = "void Start(tapa::istream<uint64_t>& back, tapa::ostream<uint64_t>& on) {
   on << 1; for (uint64_t i = 0; i < 6; ++i) { uint64_t x = back.read(); on << x + 2; } back.read(); }
 void Pass(tapa::istream<uint64_t>& in, tapa::ostream<uint64_t>& out) {
@@ -44,6 +50,7 @@ void T() { tapa::stream<uint64_t, 1> on; tapa::stream<uint64_t, 1> mid; tapa::st
   tapa::task().invoke(Start, back, on).invoke(Pass, on, mid).invoke(Pass, mid, back); }
 ";
 
+/// A task that asks for more than it gets: the run stops.
 pub const STARVED: &str = "void Two(tapa::ostream<uint64_t>& a, tapa::ostream<uint64_t>& b) {
   for (uint64_t i = 0; i < 3; ++i) { a << i; } for (uint64_t j = 0; j < 3; ++j) { b << j + 10; } }
 void Swap(tapa::istream<uint64_t>& a, tapa::istream<uint64_t>& b, tapa::ostream<uint64_t>& c, tapa::ostream<uint64_t>& d) {
@@ -54,12 +61,14 @@ void T() { tapa::stream<uint64_t, 2> a; tapa::stream<uint64_t> b; tapa::stream<u
   tapa::task().invoke(Two, a, b).invoke(Swap, a, b, c, d).invoke(Join, c, d); }
 ";
 
+/// A token is looked at before it is taken.
 pub const PEEKS: &str = "void P(tapa::ostream<int>& q) { q << 3 << 4; }
 void C(tapa::istream<int>& q, tapa::ostream<int>& r) { int x = q.peek(nullptr); r << x + 10; r << q.read(); r << q.read(); }
 void S(tapa::istream<int>& r) { for (int i = 0; i < 3; ++i) r.read(); }
 void T() { tapa::stream<int, 1> q; tapa::stream<int> r; tapa::task().invoke(P, q).invoke(C, q, r).invoke(S, r); }
 ";
 
+/// A task looks whether an end comes next, and takes what comes.
 pub const LOOKS_FOR_EOT: &str = "void P(tapa::ostream<int>& q) { q << 1; q.close(); q << 2; }
 void C(tapa::istream<int>& q, tapa::ostream<int>& r) { for (int i = 0; i < 3; ++i) {
   if (q.eot(nullptr)) { q.open(); r << 100; } else { r << q.read(); } } }
@@ -67,6 +76,7 @@ void S(tapa::istream<int>& r) { for (int i = 0; i < 3; ++i) r.read(); }
 void T() { tapa::stream<int> q; tapa::stream<int> r; tapa::task().invoke(P, q).invoke(C, q, r).invoke(S, r); }
 ";
 
+/// Three transactions, one of them empty, are summed.
 pub const TRANSACTIONS: &str =
     "void P(tapa::ostream<int>& q) { q << 7; q.close(); q << 8; q << 9; q.close(); q.close(); }
 void C(tapa::istream<int>& q, tapa::ostream<int>& r) { for (int k = 0; k < 3; ++k) { int sum = 0;
@@ -75,6 +85,7 @@ void S(tapa::istream<int>& r) { TAPA_WHILE_NOT_EOT(r) { r.read(); } r.open(); }
 void T() { tapa::stream<int> q; tapa::stream<int> r; tapa::task().invoke(P, q).invoke(C, q, r).invoke(S, r); }
 ";
 
+/// Transactions within a transaction.
 pub const NESTED_TRANSACTIONS: &str = "void P(tapa::ostream<int>& a, tapa::ostream<int>& b) {
   for (int i = 1; i < 4; ++i) { for (int j = 0; j < i; ++j) { b << j; } b.close(); a << i; } a.close(); }
 void C(tapa::istream<int>& a, tapa::istream<int>& b, tapa::ostream<int>& r) {
@@ -83,11 +94,13 @@ void S(tapa::istream<int>& r) { int last[3]; for (int i = 0; i < 3; ++i) { r >> 
 void T() { tapa::stream<int> a; tapa::stream<int, 8> b; tapa::stream<int> r; tapa::task().invoke(P, a, b).invoke(C, a, b, r).invoke(S, r); }
 ";
 
+/// A task that reads what it writes.
 pub const SELF_LOOP: &str =
     "void A(tapa::ostream<int>& o, tapa::istream<int>& i) { for (int k = 0; k < 4; ++k) { o << k; int x = i.read(); } }
 void T() { tapa::stream<int, 1> s; tapa::task().invoke(A, s, s); }
 ";
 
+/// Constants, scalars of several kinds, and a depth by a constant.
 pub const GIVEN_NUMBERS: &str = "const int N = 3;
 constexpr uint8_t M = N * 100;
 void P(tapa::ostream<int>& q, int n, const uint8_t m) { int a[N]; for (int i = 0; i < n; ++i) { a[i] = m + i; } for (int i = 0; i < N; ++i) q << a[i]; }
@@ -95,6 +108,7 @@ void C(tapa::istream<int>& q, uint16_t n) { int x; for (int i = 0; i < n; ++i) q
 void T() { tapa::stream<int, N> q(\"numbers\"); tapa::task().invoke(P, q, N - 1, M).invoke(C, q, N); }
 ";
 
+/// Upper tasks within upper tasks.
 pub const LEVELS: &str = "void P(tapa::ostream<int>& q) { q << 4; }
 void F(tapa::istream<int>& i, tapa::ostream<int>& o, int by) { o << i.read() * by; }
 void C(tapa::istream<int>& q) { q.read(); }
@@ -103,18 +117,20 @@ void U(tapa::ostream<int>& r) { tapa::stream<int> x; tapa::task().invoke(P, x).i
 void T() { tapa::stream<int> y; tapa::stream<int> z; tapa::task().invoke(U, y).invoke(Twice, y, z, 2).invoke<tapa::join>(C, z); }
 ";
 
+/// An end comes where a datum is read: the run stops.
 pub const BAD_TOKEN: &str =
     "void P(tapa::ostream<int>& q, tapa::ostream<int>& r) { q.close(); r << 5; }
 void C(tapa::istream<int>& q, tapa::istream<int>& r) { r.read(); q.read(); }
 void T() { tapa::stream<int> q; tapa::stream<int> r; tapa::task().invoke(P, q, r).invoke(C, q, r); }
 ";
 
+/// A datum comes where an end is opened: the run stops.
 pub const NO_TRANSACTION: &str = "void P(tapa::ostream<int>& q) { q << 1; q << 2; }
 void C(tapa::istream<int>& q) { q.read(); q.open(); q.read(); }
 void T() { tapa::stream<int, 1> q; tapa::task().invoke(P, q).invoke(C, q); }
 ";
 
-// A task that is not waited for: it answers as often as it is asked.
+/// A task that is not waited for: it answers as often as it is asked.
 pub const SERVER: &str = "void P(tapa::ostream<int>& q) { for (int i = 0; i < 2; ++i) q << i; }
 void F(tapa::istream<int>& q, tapa::ostream<int>& r) { while (true) r << q.read() + 1; }
 void C(tapa::istream<int>& r) { r.read(); r.read(); }
@@ -122,6 +138,7 @@ void T() { tapa::stream<int> q; tapa::stream<int> r;
   tapa::task().invoke(P, q).invoke<tapa::detach>(F, q, r).invoke(C, r); }
 ";
 
+/// The sum of two memories, with all that an application has.
 pub const VECADD: &str =
     "void Add(tapa::istream<int>& a, tapa::istream<int>& b, tapa::ostream<int>& c, uint64_t n) {
   for (uint64_t i = 0; i < n; ++i) { c << (a.read() + b.read()); } }
@@ -135,8 +152,10 @@ void VecAdd(tapa::mmap<const int> a, tapa::mmap<const int> b, tapa::mmap<int> c,
     .invoke(Add, a_q, b_q, c_q, n).invoke(Stream2Mmap, c_q, c, n); }
 ";
 
+/// Its data.
 pub const VECADD_DATA: &str =
     "{\"scalars\":{\"n\":3},\"memories\":{\"a\":[1,2,3],\"b\":[10,20,30],\"c\":[0,0,0]}}";
 
+/// What its run reports.
 pub const VECADD_REPORT: &str =
     "stream a_q: 1 2 3\nstream b_q: 10 20 30\nstream c_q: 11 22 33\nmemory a: 1 2 3\nmemory b: 10 20 30\nmemory c: 11 22 33\ndone 63\n";
