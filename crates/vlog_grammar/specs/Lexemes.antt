@@ -9,7 +9,7 @@ use Rattle.vlog_tree.specs.Spelling.{Word}
 use Rattle.tapa_base.specs.Gaps.{Bytes, begins, IsBlank, IsLineComment, IsBlockComment}
 use Rattle.vlog_grammar.specs.Numerals.{base_of, Sized, sized_word, IsSized}
 
--- a gap, in sight of the text behind it
+-- a gap, in sight of the text behind it: white space or a comment (3.2, 3.3)
 abbrev pub IsGap : Bytes → Bytes → Type 0
 IsGap bytes rest = IsBlank bytes ⊎ (IsLineComment bytes rest ⊎ IsBlockComment bytes)
 

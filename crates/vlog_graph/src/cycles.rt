@@ -84,7 +84,7 @@ fn checked_levels(alloc: Global, graph: &Graph) -> Result<Vec<usize>, AllocError
 }
 
 impl LeveledGraph {
-    /// A graph with a level for each of its nodes, by which cycles are found. Want of memory is the only error.
+    /// A graph with levels of its nodes. Want of memory is the only error.
     pub fn of(alloc: Global, graph: Graph) -> Result<LeveledGraph, AllocError>
         ensures { IfOk result (λ g. g ≡ graph) }
     {
