@@ -1,3 +1,4 @@
 pub mod Order
 pub mod Scopes
 pub mod Tables
+pub mod Only

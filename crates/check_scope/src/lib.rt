@@ -7,6 +7,7 @@ mod names;
 mod number;
 mod role;
 mod scope;
+mod users;
 
 pub use entity::Entity;
 pub use fault::{Broken, CheckCode, CheckFault, over, refused};
@@ -14,3 +15,4 @@ pub use names::{Names, copied};
 pub use number::{next_number, number_of};
 pub use role::Role;
 pub use scope::Scope;
+pub use users::{UserTable, Users};

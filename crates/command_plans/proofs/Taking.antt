@@ -5,13 +5,13 @@ use Rattle.tapa_files.specs.Take.{IsFileOf}
 use Rattle.tapa_syntax.specs.declared.program.Program.{Program}
 use Rattle.task_graph.specs.declared.Graph.{Graph}
 use Rattle.plan_device.specs.Answer.{IsCause as IsCauseOfDevice}
-use Rattle.plan_keys.specs.Faults as device
+use Rattle.plan_device.specs.Faults as device
 use Rattle.plan_device.specs.declared.fault.DeviceFault.{DeviceFault as FaultOfDevice}
 use Rattle.plan_device.specs.declared.fault.DeviceFault.TheVariants as device_fault
-use Rattle.command_files.specs.Files.{data_limit}
-use Rattle.command_files.specs.Meaning.{device_refusal}
-use Rattle.command_files.specs.Refusal.{Device, DeviceFault as TextFault, NoJson, HasFault}
-use Rattle.command_files.proofs.OfFiles.{of_taken}
+use Rattle.command_source.specs.Files.{data_limit}
+use Rattle.command_source.specs.Meaning.{device_refusal}
+use Rattle.command_source.specs.Refusal.{Device, DeviceFault as TextFault, NoJson, HasFault}
+use Rattle.command_source.proofs.OfFiles.{of_taken}
 use Rattle.command_plans.specs.Found.{IsNoDevice}
 use Rattle.command_plans.specs.Planned.{HasDeviceFault}
 

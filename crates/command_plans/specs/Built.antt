@@ -3,8 +3,8 @@ use Rattle.std.specs.Prelude.{◌≡◌, ℕ, List, []}
 use Rattle.tapa_syntax.specs.declared.program.Program.{Program}
 use Rattle.vlog_design.specs.Designs.{DesignTree}
 use Rattle.vlog_tree.specs.Spelling.{spelling}
-use Rattle.hw_design.specs.Circuits.{IsCircuitOf}
-use Rattle.command_files.specs.Source.{IsProgramOf}
+use Rattle.hw_top.specs.Circuits.{IsCircuitOf}
+use Rattle.command_source.specs.Source.{IsProgramOf}
 
 -- the text of a circuit of a program, to whose streams these latencies are added
 pub record IsCircuitText (program : Program) (added text : List ℕ) : Type 0 where

@@ -3,9 +3,9 @@ use Rattle.std.specs.Prelude.{◌≡◌, ℕ, List, Option, Some, ⊤}
 use Rattle.tapa_files.specs.Outside.{Files, Rose}
 use Rattle.tapa_files.specs.Take.{IsLongerThan}
 use Rattle.tapa_syntax.specs.declared.program.Program.{Program}
-use Rattle.command_files.specs.Files.{OfData, data_limit}
+use Rattle.command_source.specs.Files.{OfData, data_limit}
 use Rattle.task_graph.specs.declared.Graph.{Graph}
-use Rattle.command_files.specs.Refusal.{Refusal, Read, TooLong, Device, Memory}
+use Rattle.command_source.specs.Refusal.{Refusal, Read, TooLong, Device, Memory}
 use Rattle.command_plans.specs.Planned.{HasDeviceFault}
 
 -- why a program has no device from the file that is named

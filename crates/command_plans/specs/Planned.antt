@@ -20,12 +20,12 @@ use Rattle.slot_plan.specs.declared.floorplan.Plan.{Plan}
 use Rattle.slot_plan.specs.declared.floorplan.PlanFault.TheVariants.{NoFit, TooMany}
 use Rattle.slot_plan.specs.Causes.{IsPlanBy, IsCause, AreUsed}
 use Rattle.slot_plan.specs.Plan.{cost}
-use Rattle.plan_latency.specs.Added.{AreAdded}
-use Rattle.plan_latency.specs.Borders.{AreBorderLatencies}
+use Rattle.plan_report.specs.Added.{AreAdded}
+use Rattle.plan_report.specs.Borders.{AreBorderLatencies}
 use Rattle.plan_report.specs.Lines.{plan_lines}
 use Rattle.run_program.specs.Ending.{joined}
-use Rattle.command_files.specs.Refusal.{Refusal, DeviceFault, NoJson, HasFault, TooManyPlans, NoPlan, NoRoom, Memory}
-use Rattle.command_files.specs.Source.{IsProgramOf}
+use Rattle.command_source.specs.Refusal.{Refusal, DeviceFault, NoJson, HasFault, TooManyPlans, NoPlan, NoRoom, Memory}
+use Rattle.command_source.specs.Source.{IsProgramOf}
 use Rattle.command_plans.specs.Built.{IsCircuitText}
 
 -- the mode that the words name

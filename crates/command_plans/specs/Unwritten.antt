@@ -1,9 +1,9 @@
 -- Why a text was not written whole.
 use Rattle.std.specs.Prelude.{◌≡◌, ◌⊎◌, List, ℕ}
 use Rattle.tapa_files.specs.Outside.{Rose, AppendsPart}
-use Rattle.command_files.specs.Outside.{Written}
-use Rattle.command_files.specs.Refusal.{Write, Memory}
-use Rattle.command_files.specs.Refusal as spec
+use Rattle.command_source.specs.Outside.{Written}
+use Rattle.command_source.specs.Refusal.{Write, Memory}
+use Rattle.command_source.specs.Refusal as spec
 
 -- a front part of a text of which this holds was written
 abbrev pub HasPartOfText : Written → Written → (List ℕ → Type 0) → Type 0

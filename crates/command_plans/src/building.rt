@@ -2,16 +2,16 @@
 ghost use Rattle.std.specs.Prelude.{ℕ, List, IfOk, IfErr};
 ghost use Rattle.std.specs.Io.KnownBytes.{Appends};
 ghost use Rattle.tapa_syntax.specs.WellFormed.{IsWellFormed};
-ghost use Rattle.hw_design.specs.Circuits.{IsCircuitOf};
-ghost use Rattle.top_law.specs.Designs.{AreShort};
-ghost use Rattle.top_law.specs.Legal.{HasOwnNames};
-ghost use Rattle.command_files.specs.Meaning.{refusal_of};
-ghost use Rattle.command_files.specs.Outside.{written};
+ghost use Rattle.hw_top.specs.Circuits.{IsCircuitOf};
+ghost use Rattle.hw_top_lines.specs.Designs.{AreShort};
+ghost use Rattle.hw_top_lines.specs.Legal.{HasOwnNames};
+ghost use Rattle.command_source.specs.Meaning.{refusal_of};
+ghost use Rattle.command_source.specs.Outside.{written};
 ghost use Rattle.command_plans.specs.Built.{IsCircuitText};
 ghost use Rattle.command_plans.specs.Unwritten.{IsUnwritten};
 
-use command_files::Refusal;
-use hw_design::{design, machines_of};
+use command_source::Refusal;
+use hw_top::{design, machines_of};
 use std::alloc::Global;
 use tapa_base::OutOfMemory;
 use tapa_files::{PrintFault, Sink};

@@ -1,20 +1,19 @@
 // The lines of a plan.
 ghost use Rattle.std.specs.Prelude.{◌≡◌, ◌<◌, ℕ, List, length, IfOk, IfErr};
 ghost use Rattle.std.specs.Io.KnownBytes.{Appends};
-ghost use Rattle.plan_flows.specs.Moves.{AreLatencies};
+ghost use Rattle.latency_balance.specs.Moves.{AreLatencies};
 ghost use Rattle.plan_device.specs.Devices.{IsDevice};
-ghost use Rattle.plan_latency.specs.Borders.{AreBorderLatencies};
+ghost use Rattle.plan_report.specs.Borders.{AreBorderLatencies};
 ghost use Rattle.plan_report.specs.Lines.{texts};
-ghost use Rattle.command_files.specs.Meaning.{refusal_of};
-ghost use Rattle.command_files.specs.Outside.{written};
+ghost use Rattle.command_source.specs.Meaning.{refusal_of};
+ghost use Rattle.command_source.specs.Outside.{written};
 ghost use Rattle.command_plans.specs.Unwritten.{IsUnwritten};
 ghost use Rattle.command_plans.specs.Planned.{AreLinesOf, IsPlanText};
 
-use command_files::{Refusal, put_lines};
+use command_source::{Refusal, put_lines};
 use latency_balance::balance_streams;
 use plan_device::Device;
-use plan_latency::latencies;
-use plan_report::plan_lines;
+use plan_report::{latencies, plan_lines};
 use slot_plan::Plan;
 use std::alloc::{AllocError, Global};
 use tapa_base::OutOfMemory;

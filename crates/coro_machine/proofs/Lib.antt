@@ -1,3 +1,7 @@
+pub mod Ran
+pub mod Prepares
+pub mod Steps
+pub mod Places
 pub mod Flat
 pub mod Ticks
 pub mod Rest

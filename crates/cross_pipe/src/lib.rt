@@ -2,6 +2,10 @@
 //! latency.
 #![tactic(auto)]
 
+mod ends;
+mod module;
 mod modules;
+mod names;
+mod relay;
 
-pub use modules::{channel, fifo_size};
+pub use modules::channel;

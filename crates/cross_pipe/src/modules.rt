@@ -4,14 +4,15 @@ ghost use Rattle.std.specs.Prelude.{◌≡◌, ◌<◌, ◌≤◌, ◌+◌, ◌*
 ghost use Rattle.vlog_tree.specs.Form.{ModuleTree};
 ghost use Rattle.vlog_tree.specs.Refused.{IsSound};
 ghost use Rattle.hw_build.specs.Elements.{with, with_all, Instance};
-ghost use Rattle.channel_law.specs.Ports.{ActsAsChannel};
-ghost use Rattle.channel_law.specs.Names.{fifo_name as fifo_lem, relay_name as relay_lem};
-ghost use Rattle.channel_law.specs.Texts.{relay_ends as relay_ends_lem, relayed_inside, plain_tree, fifo_tree, relayed_tree, channel_ports, AreRelays, AreModules};
-ghost use Rattle.channel_law.specs.Rules.{OfFirst, IsOutermost, HaveNoLoop, HasNoWayThrough, JoinClocks, AreNoTasks};
+ghost use Rattle.hw_channel_laws.specs.modules.Ports.{ActsAsChannel};
+ghost use Rattle.hw_channel_laws.specs.modules.Names.{fifo_name as fifo_lem, relay_name as relay_lem};
+ghost use Rattle.hw_channel_laws.specs.modules.Texts.{relay_ends as relay_ends_lem, relayed_inside, plain_tree, fifo_tree, relayed_tree, channel_ports, AreRelays, AreModules};
+ghost use Rattle.hw_channel_laws.specs.modules.Rules.{OfFirst, IsOutermost, HaveNoLoop, HasNoWayThrough, JoinClocks, AreNoTasks};
 
-use cross_fifo::{fifo, two};
-use cross_names::{channel_name, fifo_ends, fifo_name, relay_ends, relay_name};
-use cross_relay::add_relays;
+use crate::module::{fifo, two};
+use crate::names::{channel_name, fifo_name, relay_name};
+use crate::ends::{fifo_ends, relay_ends};
+use crate::relay::add_relays;
 use hw_build::{Draft, net_value, text};
 use std::alloc::{AllocError, Global};
 use vlog_tree::{BinaryOp, Connections, Module};

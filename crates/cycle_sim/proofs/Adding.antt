@@ -14,8 +14,8 @@ use Rattle.vlog_tree.specs.Cycle.{Cycle, Path}
 use Rattle.vlog_tree.specs.Environment.{Environment, FitsShape, RunsIn, IsDone, shape_of, streams_of, tokens}
 use Rattle.vlog_design.specs.Designs.{DesignTree, TopOf}
 use Rattle.vlog_ref_start.specs.Outside.{lists_of}
-use Rattle.sim_law.specs.Told.{IsToldOf}
-use Rattle.sim_parts.specs.Sims.{SimTree, InRuns, IsNext, IsLater, IsCarried, IsAdded, AreAdded, IsRunTo, IsDoneAt}
+use Rattle.cycle_sim.specs.Told.{IsToldOf}
+use Rattle.cycle_sim.specs.Sims.{SimTree, InRuns, IsNext, IsLater, IsCarried, IsAdded, AreAdded, IsRunTo, IsDoneAt}
 
 pub lists_set : {A : Type 0} (vs : List (Vec A Global)) (i : ℕ) (v : Vec A Global) → lists_of (slice_set vs i v) ≡ slice_set (lists_of vs) i v.items
 lists_set [] i v = refl

@@ -1,1 +1,16 @@
+pub mod Same
+pub mod Numbering
+pub mod Writing
+pub mod Telling
+pub mod Storing
+pub mod Stepping
+pub mod Asking
+pub mod Advancing
+pub mod Asked
+pub mod Beginning
+pub mod Growing
+pub mod Naming
+pub mod Supplying
+pub mod Filling
+pub mod Starting
 pub mod Adding

@@ -1,8 +1,20 @@
 //! The simulator of designs: it stands in one cycle of a design's run and goes to the next.
 #![tactic(auto)]
 
+mod around;
+mod begin;
+mod cells;
+mod first;
+mod inputs;
+mod laws;
+mod named;
+mod parts;
+mod registers;
 mod sim;
 mod simulator;
+mod slots;
+mod supplies;
 
-pub use sim::{Carried, run_cycles};
+pub use laws::law_told_is_one;
+pub use sim::run_cycles;
 pub use simulator::Sim;

@@ -7,11 +7,11 @@ ghost use Rattle.vlog_tree.specs.Environment.{IsDone, streams_of, tokens};
 ghost use Rattle.vlog_design.specs.Designs.{TopOf};
 ghost use Rattle.vlog_ref_start.specs.Outside.{environment_of, lists_of};
 ghost use Rattle.cycle_sim.specs.Simulators.{sim_of};
-ghost use Rattle.sim_parts.specs.Sims.{InRuns, IsFirst, IsNext, IsLater, IsCarried, IsDoneAt, last_cycle, IsAdded, AreAdded};
+ghost use Rattle.cycle_sim.specs.Sims.{InRuns, IsFirst, IsNext, IsLater, IsCarried, IsDoneAt, last_cycle, IsAdded, AreAdded};
 
 use crate::simulator::Sim;
-use sim_begin::{first_state, parts_of};
-use sim_parts::{advance, carried, cells_in, is_done};
+use crate::begin::{first_state, parts_of};
+use crate::parts::{advance, carried, cells_in, is_done};
 use std::alloc::{AllocError, Global};
 use tapa_base::Token;
 use vlog_design::Design;

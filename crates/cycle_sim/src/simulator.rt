@@ -1,6 +1,6 @@
 // A simulator.
 
-use sim_parts::{Parts, State};
+use crate::parts::{Parts, State};
 use std::marker::Model;
 
 /// A design in one of its cycles, in the environment that it stands in.
@@ -11,9 +11,9 @@ pub struct Sim {
 }
 
 impl Model for Sim {
-    ghost use Rattle.sim_parts.specs.declared.parts.Parts.{Parts};
-    ghost use Rattle.sim_parts.specs.declared.parts.State.{State};
-    ghost use Rattle.sim_parts.specs.Wholes.{IsSim};
+    ghost use Rattle.cycle_sim.specs.declared.parts.Parts.{Parts};
+    ghost use Rattle.cycle_sim.specs.declared.parts.State.{State};
+    ghost use Rattle.cycle_sim.specs.Wholes.{IsSim};
 
     ghost Value = { Parts × State };
 

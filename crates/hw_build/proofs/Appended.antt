@@ -2,7 +2,7 @@
 use Rattle.std.proofs.Common.{◌≡◌, true, List, [], ◌∷◌, ◌++◌, refl}
 use Rattle.vlog_tree.specs.declared.table.Declaration.{Declaration}
 use Rattle.vlog_tree.specs.Form.{ModuleTree}
-use Rattle.vlog_law_modules.proofs.Lists.{both_true}
+use Rattle.vlog_module_laws.proofs.Lists.{both_true}
 use Rattle.hw_build.specs.Elements.{Element}
 use Rattle.hw_build.specs.Fitting.{declarations, table_after, has_fitting_names, have_fitting_names, HaveFittingWidths}
 use Rattle.hw_build.proofs.Forms.{yes_and}

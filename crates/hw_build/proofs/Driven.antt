@@ -16,8 +16,8 @@ use Rattle.vlog_tree.specs.Table.{Name}
 use Rattle.vlog_tree.specs.Cycle.{Cycle, Follows, Holds, driven}
 use Rattle.vlog_tree.specs.V4.{step_assigns, is_block_of}
 use Rattle.vlog_tree.proofs.Lists.{has_flat, of_flat, has_right}
-use Rattle.vlog_law_modules.specs.Blocks.{IsOwnBlock}
-use Rattle.vlog_law_modules.proofs.Lines.{line, port}
+use Rattle.vlog_module_laws.specs.Blocks.{IsOwnBlock}
+use Rattle.vlog_module_laws.proofs.Lines.{line, port}
 use Rattle.hw_build.specs.Elements.{Element, Input, Output, Outlet, Wire, Link, Register, Memory, Block, Instance, element_ports, element_items, empty, built}
 use Rattle.hw_build.specs.Fitting.{declarations, stored_names, assigns, AreFitting}
 use Rattle.hw_build.proofs.Tables.{items_of_all, ports_of_all}

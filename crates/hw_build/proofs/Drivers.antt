@@ -15,7 +15,7 @@ use Rattle.vlog_tree.specs.Table.{Name, clk, times_in, one_if}
 use Rattle.vlog_tree.specs.Labels.{rst}
 use Rattle.vlog_tree.specs.V4.{line_driven, step_assigns, is_block_of, breaks_driving}
 use Rattle.vlog_tree.proofs.Lists.{has_flat}
-use Rattle.vlog_law_modules.proofs.Lists.{count_cons, counted, both_true}
+use Rattle.vlog_module_laws.proofs.Lists.{count_cons, counted, both_true}
 use Rattle.hw_build.specs.Elements.{Element, Input, Output, Outlet, Wire, Link, Register, Memory, Block, Instance, element_items}
 use Rattle.hw_build.specs.Fitting.{declarations, first_table, table_after, link_names, instance_driven, stored_names, assigns, drive_links_once, have_own_blocks}
 use Rattle.hw_build.proofs.Tables.{times, clock_declared, reset_declared, count_append, same_name, AreDistinct, comes_from}

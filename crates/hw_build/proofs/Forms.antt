@@ -7,7 +7,7 @@ use Rattle.vlog_tree.specs.Names.{is_name, starts_name, goes_on, is_keyword, alw
 use Rattle.vlog_tree.specs.Form.{ModuleTree, is_port, is_item, is_value, is_step, is_connection, nested, IsModule}
 use Rattle.vlog_tree.specs.Table.{Name, clk}
 use Rattle.vlog_tree.specs.Labels.{rst}
-use Rattle.vlog_law_modules.proofs.Lists.{both_true}
+use Rattle.vlog_module_laws.proofs.Lists.{both_true}
 use Rattle.hw_build.specs.Elements.{Element, Input, Output, Outlet, Wire, Link, Register, Memory, Block, Instance, built, with, with_all, empty, element_ports, element_items}
 use Rattle.hw_build.specs.Forms.{is_element}
 

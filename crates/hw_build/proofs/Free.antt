@@ -16,7 +16,7 @@ use Rattle.vlog_tree.specs.V2.{value_uses}
 use Rattle.vlog_tree.specs.V6.{module_children}
 use Rattle.vlog_tree.specs.Loops.{Rests, directly, through, after, LiesOnLoop, TextPlace, Chain, one, more, containment, own_containment, IsLoopless, value_nets, port_of, line_edges, connection_edge, direct_edges, memory_edges, instances}
 use Rattle.vlog_tree.proofs.Lists.{has_left, has_split, of_flat, of_map, has_flat}
-use Rattle.vlog_law_modules.proofs.Lists.{both_true, all_at}
+use Rattle.vlog_module_laws.proofs.Lists.{both_true, all_at}
 use Rattle.hw_build.specs.Elements.{Element, Input, Output, Outlet, Wire, Link, Register, Memory, Block, Instance, element_items, empty, built}
 use Rattle.hw_build.specs.Forms.{is_element}
 use Rattle.hw_build.specs.Fitting.{declarations, first_table, table_after, is_new, are_kept, child_ports, AreFitting}

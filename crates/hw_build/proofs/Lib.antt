@@ -11,3 +11,9 @@ pub mod Free
 pub mod Driven
 pub mod Appended
 pub mod Ors
+pub mod Parts
+pub mod ListTables
+pub mod Fit
+pub mod Form
+pub mod Once
+pub mod Picks

@@ -11,8 +11,8 @@ use Rattle.vlog_tree.specs.Grounded.{Has}
 use Rattle.vlog_tree.specs.Labels.{rst}
 use Rattle.vlog_tree.specs.Table.{Name}
 use Rattle.vlog_tree.specs.Cycle.{Cycle, Sizes, Follows, put, run_steps, atom_value, driven}
-use Rattle.vlog_law_modules.specs.Blocks.{IsOwnBlock}
-use Rattle.vlog_law_modules.proofs.Lines.{line, register_takes, cell_takes}
+use Rattle.vlog_module_laws.specs.Blocks.{IsOwnBlock}
+use Rattle.vlog_module_laws.proofs.Lines.{line, register_takes, cell_takes}
 use Rattle.hw_build.specs.Elements.{copied, reset_or, reset_or_set, stored}
 
 pub has_got : {A : Type 0} (xs : List A) (i : ℕ) (x : A) → slice_get xs i ≡ Some x → Has xs x

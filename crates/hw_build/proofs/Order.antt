@@ -18,9 +18,9 @@ use Rattle.vlog_tree.specs.Labels.{rst}
 use Rattle.vlog_tree.specs.V2.{read_use, driven_use, clock_use, value_uses, connection_uses, all_connected}
 use Rattle.vlog_tree.specs.Loops.{Rests, value_nets, port_of, line_edges, connection_edge, direct_edges, memory_edges, instances, item_instances}
 use Rattle.vlog_tree.proofs.Lists.{has_split, of_flat, of_map}
-use Rattle.vlog_law_modules.specs.Ranks.{FallsBy}
-use Rattle.vlog_law_modules.proofs.Ranks.{on_no_loop}
-use Rattle.vlog_law_modules.proofs.Lists.{both_true, both_false, count_cons, counted, none_counted}
+use Rattle.vlog_module_laws.specs.Ranks.{FallsBy}
+use Rattle.vlog_module_laws.proofs.Ranks.{on_no_loop}
+use Rattle.vlog_module_laws.proofs.Lists.{both_true, both_false, count_cons, counted, none_counted}
 use Rattle.hw_build.specs.Elements.{Element, Input, Output, Outlet, Wire, Link, Register, Memory, Block, Instance, element_items, empty, built}
 use Rattle.hw_build.specs.Forms.{is_element}
 use Rattle.hw_build.specs.Fitting.{declarations, first_table, table_after, is_new, are_kept, child_ports, AreFitting}

@@ -18,8 +18,8 @@ use Rattle.vlog_tree.specs.V2.{driven_use, value_uses, step_uses, port_uses, all
 use Rattle.vlog_tree.specs.V3.{is_width, is_cell_count, net_fits, value_fits, step_widths, connection_widths, item_widths, port_widths, module_widths}
 use Rattle.vlog_tree.specs.V4.{line_driven, is_block_of, breaks_driving, driving_use, module_drives}
 use Rattle.vlog_tree.proofs.Lists.{of_map, has_left, has_right}
-use Rattle.vlog_law_modules.specs.Larger.{IsRightBeside}
-use Rattle.vlog_law_modules.proofs.Lists.{both_true, counted, all_right}
+use Rattle.vlog_module_laws.specs.Larger.{IsRightBeside}
+use Rattle.vlog_module_laws.proofs.Lists.{both_true, counted, all_right}
 use Rattle.hw_build.specs.Elements.{Element, Input, Output, Outlet, Wire, Link, Register, Memory, Block, Instance, element_ports, element_items, empty, built}
 use Rattle.hw_build.specs.Fitting.{declarations, first_table, table_after, is_new, are_kept, child_ports, has_fitting_names, have_fitting_names, HasFittingWidths, HaveFittingWidths, ValueFits, AreFitting}
 use Rattle.hw_build.proofs.Forms.{yes_and}

@@ -11,7 +11,7 @@ use Rattle.vlog_tree.specs.Grounded.{Has}
 use Rattle.vlog_tree.specs.Table.{Name}
 use Rattle.vlog_tree.specs.Cycle.{Cycle, Follows, driven}
 use Rattle.vlog_tree.specs.V4.{step_assigns}
-use Rattle.vlog_law_modules.specs.Blocks.{IsOwnBlock}
+use Rattle.vlog_module_laws.specs.Blocks.{IsOwnBlock}
 use Rattle.hw_build.specs.Elements.{Element, Output, Wire, Memory, Block, element_items, built}
 use Rattle.hw_build.specs.Fitting.{declarations, stored_names, AreFitting}
 

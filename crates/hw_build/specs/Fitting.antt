@@ -22,7 +22,7 @@ use Rattle.vlog_tree.specs.Table.{Name, NameUse, port_declared, items_declared, 
 use Rattle.vlog_tree.specs.V2.{value_uses, step_uses, connection_uses, all_connected}
 use Rattle.vlog_tree.specs.V3.{is_width, is_cell_count, atom_bits, is_divisor}
 use Rattle.vlog_tree.specs.V4.{line_driven, step_assigns}
-use Rattle.vlog_law_modules.specs.Larger.{IsRightBeside}
+use Rattle.vlog_module_laws.specs.Larger.{IsRightBeside}
 use Rattle.hw_build.specs.Elements.{Element, Input, Output, Outlet, Wire, Link, Register, Memory, Block, Instance, element_ports, element_items, empty, built}
 
 -- what an element declares

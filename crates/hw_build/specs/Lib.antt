@@ -5,3 +5,6 @@ pub mod Fitting
 pub mod Order
 pub mod Driven
 pub mod Trees
+pub mod Scope
+pub mod Fits
+pub mod Choices

@@ -7,7 +7,7 @@ use Rattle.vlog_tree.specs.Grounded.{Has}
 use Rattle.vlog_tree.specs.Labels.{rst}
 use Rattle.vlog_tree.specs.Table.{Name}
 use Rattle.vlog_tree.specs.Cycle.{Cycle, Follows, atom_value}
-use Rattle.vlog_law_modules.specs.Blocks.{IsOwnBlock}
+use Rattle.vlog_module_laws.specs.Blocks.{IsOwnBlock}
 use Rattle.hw_build.specs.Elements.{copied, reset_or, reset_or_set, stored}
 
 abbrev pub CopiesGoOn : Type 0

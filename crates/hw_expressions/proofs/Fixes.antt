@@ -7,10 +7,10 @@ use Rattle.tapa_base.specs.declared.op.Op.{Op}
 use Rattle.tapa_base.specs.declared.op.Op.TheVariants.{Add, Sub, Mul, Div, Rem, And, Or, Xor, Shl, Shr, Eq, Ne, Lt, Le, Gt, Ge}
 use Rattle.tapa_base.specs.Kinds.{values_of}
 use Rattle.tapa_base.specs.Operators.{CanApply}
-use Rattle.vlog_law_modules.proofs.Lists.{both_true}
+use Rattle.vlog_module_laws.proofs.Lists.{both_true}
 use Rattle.hw_build.proofs.Forms.{yes_and}
 use Rattle.kahn_model.specs.Trace.{at_zero}
-use Rattle.task_law.specs.Fixed.{can_apply, only_if}
+use Rattle.hw_task_lines.specs.Fixed.{can_apply, only_if}
 
 -- the test is the one of the operators
 pub applies : (op : Op) (k : Kind) (b : ℕ) → CanApply op k b → can_apply op k b ≡ true

@@ -7,19 +7,19 @@ ghost use Rattle.vlog_tree.specs.Form.{ModuleTree};
 ghost use Rattle.vlog_tree.specs.declared.tree.Value.TheVariants.{Binary, Invert};
 ghost use Rattle.hw_build.specs.Elements.{Element, with_all};
 ghost use Rattle.task_fsm.specs.Machine.{expression_of};
-ghost use Rattle.task_law.specs.Drivers.{one as one_lem, operation as operation_lem, wires_of};
-ghost use Rattle.task_law.specs.Wires.{Compiled, behind, choosing, compiled, converting, joining, one_more};
+ghost use Rattle.hw_task_lines.specs.Drivers.{one as one_lem, operation as operation_lem, wires_of};
+ghost use Rattle.hw_task_lines.specs.Wires.{Compiled, behind, choosing, compiled, converting, joining, one_more};
 ghost use Rattle.hw_expressions.specs.Grown.{Grows};
 
 use crate::fixed::fixed;
 use crate::reads::read_count;
-use hw_atoms::{binary, bits, choose, copy, literal, net, plus, small};
+use hw_nets::{binary, bits, choose, copy, literal, net, plus, small};
 use hw_build::{Draft, numbered};
 use hw_operators::{Driver, conversion, last, one, operation};
 use std::alloc::{AllocError, Global};
 use tapa_base::{Kind, Op, Text};
 use tapa_syntax::Expr;
-use task_law::Net;
+use hw_task_lines::Net;
 use vlog_tree::{Atom, BinaryOp, Value};
 
 /// The atom with the value of an expression, and how many wires it has.

@@ -1,10 +1,10 @@
 // Values of one width as values of another.
 
 ghost use Rattle.std.specs.Prelude.{◌≡◌, ◌≤◌, IfOk, true};
-ghost use Rattle.task_law.specs.Drivers.{conversion as conversion_lem, extended as extended_lem, resized as resized_lem, tested as tested_lem};
+ghost use Rattle.hw_task_lines.specs.Drivers.{conversion as conversion_lem, extended as extended_lem, resized as resized_lem, tested as tested_lem};
 
 use crate::drivers::{Driver, one};
-use hw_atoms::{binary, bits, concat, copy, literal, low_bits, sign_of, wire};
+use hw_nets::{binary, bits, concat, copy, literal, low_bits, sign_of, wire};
 use std::alloc::{AllocError, Global};
 use tapa_base::{Kind, Text};
 use vlog_tree::{Atom, BinaryOp, Value};

@@ -1,9 +1,9 @@
 // Drivers of wires that stand one after another.
 
 ghost use Rattle.std.specs.Prelude.{◌≡◌, IfOk};
-ghost use Rattle.task_law.specs.Drivers.{last_of, one as one_lem};
+ghost use Rattle.hw_task_lines.specs.Drivers.{last_of, one as one_lem};
 
-use hw_atoms::{copy, plus, small, wire};
+use hw_nets::{copy, plus, small, wire};
 use std::alloc::{AllocError, Global};
 use tapa_base::Text;
 use vlog_tree::{Atom, Value};

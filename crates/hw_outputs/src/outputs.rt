@@ -4,25 +4,22 @@ ghost use Rattle.std.specs.Prelude.{◌≡◌, ◌+◌, ◌∷◌, [], IfOk, len
 ghost use Rattle.tapa_base.specs.Kinds.{bits_of};
 ghost use Rattle.vlog_tree.specs.declared.tree.Value.TheVariants.{Plain as PlainValue};
 ghost use Rattle.hw_build.specs.Elements.{Output, with, with_all};
-ghost use Rattle.hw_lists.specs.Scope.{each};
-ghost use Rattle.task_law.specs.declared.nets.Choice.TheVariants.{Asks, Data, Puts, Saves, Takes, Token};
-ghost use Rattle.task_law.specs.declared.nets.Net.TheVariants.{Addr, Din, Done, Ended, Taken, Wdata, We, Wr};
-ghost use Rattle.task_law.specs.Nets.{name as name_lem};
-ghost use Rattle.task_law.specs.Shape.{memory_kind as memory_kind_lem, state_count, stream_kind as stream_kind_lem};
-ghost use Rattle.task_law.specs.States.{net as net_lem};
-ghost use Rattle.task_law.specs.Texts.{any, array_choices, choices, memory_outputs, outputs, pick, result as result_lem, stream_outputs, taken, variable_choices, written};
+ghost use Rattle.hw_build.specs.Scope.{each};
+ghost use Rattle.hw_task_lines.specs.declared.nets.Choice.TheVariants.{Asks, Data, Puts, Saves, Takes, Token};
+ghost use Rattle.hw_task_lines.specs.declared.nets.Net.TheVariants.{Addr, Din, Done, Ended, Taken, Wdata, We, Wr};
+ghost use Rattle.hw_task_lines.specs.Nets.{name as name_lem};
+ghost use Rattle.hw_task_lines.specs.Shape.{memory_kind as memory_kind_lem, state_count, stream_kind as stream_kind_lem};
+ghost use Rattle.hw_task_lines.specs.States.{net as net_lem};
+ghost use Rattle.hw_task_lines.specs.Texts.{any, array_choices, choices, memory_outputs, outputs, pick, result as result_lem, stream_outputs, taken, variable_choices, written};
 ghost use Rattle.hw_states.specs.ByState.{IsByState};
-ghost use Rattle.hw_parts.specs.Operands.{AreOperands};
-ghost use Rattle.hw_shape.specs.Shapes.{form};
+ghost use Rattle.hw_states.specs.Operands.{AreOperands};
+ghost use Rattle.hw_nets.specs.Shapes.{form};
 
-use hw_atoms::{bits, name, net};
+use hw_nets::{Shape, add_any, add_pick, bits, name, net, result_of};
 use hw_build::Draft;
-use hw_choices::{add_any, add_pick, result_of};
-use hw_parts::Operands;
-use hw_shape::Shape;
-use hw_states::entries_of;
+use hw_states::{Operands, entries_of};
 use std::alloc::{AllocError, Global};
-use task_law::{Choice, Net};
+use hw_task_lines::{Choice, Net};
 use vlog_tree::Value;
 
 // Adds whether one of a choice's conditions holds.
@@ -60,7 +57,7 @@ fn add_value(
     Ok(())
 }
 
-#[tactic(auto, using(hw_atoms::proofs::Grows::all_append))]
+#[tactic(auto, using(hw_nets::proofs::Grows::all_append))]
 fn add_variable_choices(
     alloc: Global,
     draft: &mut Draft,
@@ -93,7 +90,7 @@ fn add_all_variable_choices(
     Ok(())
 }
 
-#[tactic(auto, using(hw_atoms::proofs::Grows::all_append))]
+#[tactic(auto, using(hw_nets::proofs::Grows::all_append))]
 fn add_array_choices(
     alloc: Global,
     draft: &mut Draft,
@@ -129,7 +126,7 @@ fn add_all_array_choices(
 }
 
 /// Adds the choices for the state, the registers and the arrays.
-#[tactic(auto, using(hw_atoms::proofs::Grows::all_append))]
+#[tactic(auto, using(hw_nets::proofs::Grows::all_append))]
 pub fn add_choices(
     alloc: Global,
     draft: &mut Draft,
@@ -187,7 +184,7 @@ fn add_writer(
     Ok(())
 }
 
-#[tactic(auto, using(hw_atoms::proofs::Grows::all_append))]
+#[tactic(auto, using(hw_nets::proofs::Grows::all_append))]
 fn add_written(
     alloc: Global,
     draft: &mut Draft,
@@ -205,7 +202,7 @@ fn add_written(
     Ok(())
 }
 
-#[tactic(auto, using(hw_atoms::proofs::Grows::all_append))]
+#[tactic(auto, using(hw_nets::proofs::Grows::all_append))]
 fn add_taken(
     alloc: Global,
     draft: &mut Draft,
@@ -275,7 +272,7 @@ fn add_memory_ports(
     Ok(())
 }
 
-#[tactic(auto, using(hw_atoms::proofs::Grows::all_append))]
+#[tactic(auto, using(hw_nets::proofs::Grows::all_append))]
 fn add_memory(
     alloc: Global,
     draft: &mut Draft,
@@ -319,7 +316,7 @@ fn add_done(alloc: Global, draft: &mut Draft) -> Result<(), AllocError>
 }
 
 /// Adds the outputs, each behind its choices.
-#[tactic(auto, using(hw_atoms::proofs::Grows::all_append))]
+#[tactic(auto, using(hw_nets::proofs::Grows::all_append))]
 pub fn add_outputs(
     alloc: Global,
     draft: &mut Draft,

@@ -3,5 +3,11 @@
 #![tactic(auto)]
 
 mod effects;
+mod operands;
+mod parts;
+mod states;
 
 pub use effects::{end_of_transaction, entries_of};
+pub use operands::{Operands, add_states};
+pub use parts::{reads_at, reads_count};
+pub use states::{add_decodes, add_wire};

@@ -5,15 +5,15 @@ use Rattle.tapa_syntax.specs.declared.program.End.{End}
 use Rattle.tapa_syntax.specs.declared.program.Leaf.{Leaf}
 use Rattle.task_fsm.specs.declared.machine.Fsm.{Fsm}
 use Rattle.vlog_tree.specs.Form.{ModuleTree}
-use Rattle.task_law.specs.Shape.{shape_of}
-use Rattle.task_law.specs.Texts.{task_elements, task_name, task_tree}
-use Rattle.task_names.specs.Countable.{IsCountable}
-use Rattle.task_names.proofs.Lined.{lines_count, titles_are_names}
-use Rattle.task_names.proofs.Ported.{modules_have_ports}
-use Rattle.task_form.proofs.Whole.{tasks_are_right, tasks_are_modules, tasks_have_no_children, tasks_have_no_loop}
-use Rattle.task_rests.proofs.Rested.{only_takes_rest}
-use Rattle.task_runs.proofs.Machines.{instances_run}
-use Rattle.hw_shape.proofs.Shapes.{count_is}
+use Rattle.hw_task_lines.specs.Shape.{shape_of}
+use Rattle.hw_task_lines.specs.Texts.{task_elements, task_name, task_tree}
+use Rattle.hw_task_laws.specs.names.Countable.{IsCountable}
+use Rattle.hw_task_laws.proofs.names.Lined.{lines_count, titles_are_names}
+use Rattle.hw_task_laws.proofs.names.Ported.{modules_have_ports}
+use Rattle.hw_task_laws.proofs.form.Whole.{tasks_are_right, tasks_are_modules, tasks_have_no_children, tasks_have_no_loop}
+use Rattle.hw_task_laws.proofs.rests.Rested.{only_takes_rest}
+use Rattle.hw_task_laws.proofs.runs.Machines.{instances_run}
+use Rattle.hw_nets.proofs.Shapes.{count_is}
 use Rattle.hw_task.specs.Promise.{IsOfLeaf, KeepsPromise, leaf_shape}
 
 countable : (machine : Fsm) (memories : List Kind) (streams : List End) → length machine.states.items ≤ 2 ^ 32 → length (task_tree machine memories streams).ports + length (task_tree machine memories streams).items ≤ 2 ^ 64 → IsCountable (shape_of machine memories streams)

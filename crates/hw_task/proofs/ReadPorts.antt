@@ -9,21 +9,21 @@ use Rattle.vlog_tree.specs.declared.tree.Atom.TheVariants.{Net, Literal}
 use Rattle.vlog_tree.specs.declared.tree.Value.TheVariants.{Cell, Choose}
 use Rattle.vlog_tree.specs.Form.{ModuleTree}
 use Rattle.hw_build.specs.Elements.{Element, Wire, with_all}
-use Rattle.hw_lists.specs.Scope.{each}
-use Rattle.hw_lists.specs.Choices.{Entry as EntryForm, any_elements, pick_elements, choice}
-use Rattle.task_law.specs.declared.nets.Choice.TheVariants.{Reads, Spot}
-use Rattle.task_law.specs.declared.nets.Net.TheVariants.{Array, Raw, Answer, ReadOn}
-use Rattle.task_law.specs.Nets.{front, name}
-use Rattle.task_law.specs.Drivers.{low_bits}
-use Rattle.task_law.specs.Shape.{Shape, array_kind, index_bits}
-use Rattle.task_law.specs.States.{net, reads_at}
-use Rattle.task_law.specs.Wires.{ArrayRead as ReadForm}
-use Rattle.task_law.specs.Effects.{at, entry, effect, entries, spot_of}
-use Rattle.task_law.specs.Texts.{asked, asked_of, read_index, answered, most}
-use Rattle.hw_atoms.proofs.Grows.{both, each_next}
+use Rattle.hw_build.specs.Scope.{each}
+use Rattle.hw_build.specs.Choices.{Entry as EntryForm, any_elements, pick_elements, choice}
+use Rattle.hw_task_lines.specs.declared.nets.Choice.TheVariants.{Reads, Spot}
+use Rattle.hw_task_lines.specs.declared.nets.Net.TheVariants.{Array, Raw, Answer, ReadOn}
+use Rattle.hw_task_lines.specs.Nets.{front, name}
+use Rattle.hw_task_lines.specs.Drivers.{low_bits}
+use Rattle.hw_task_lines.specs.Shape.{Shape, array_kind, index_bits}
+use Rattle.hw_task_lines.specs.States.{net, reads_at}
+use Rattle.hw_task_lines.specs.Wires.{ArrayRead as ReadForm}
+use Rattle.hw_task_lines.specs.Effects.{at, entry, effect, entries, spot_of}
+use Rattle.hw_task_lines.specs.Texts.{asked, asked_of, read_index, answered, most}
+use Rattle.hw_nets.proofs.Grows.{both, each_next}
 use Rattle.hw_expressions.specs.declared.reads.ArrayRead.{ArrayRead}
 use Rattle.hw_expressions.specs.Reads.{read_form, read_forms}
-use Rattle.hw_parts.proofs.FirstStates.{each_at, each_length}
+use Rattle.hw_states.proofs.FirstStates.{each_at, each_length}
 use Rattle.hw_task.specs.declared.reads.Asked.{Asked}
 use Rattle.hw_task.specs.Asked.{asked_form, asked_at, AreAsked}
 

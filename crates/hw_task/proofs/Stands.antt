@@ -2,10 +2,10 @@
 use Rattle.std.proofs.Common.{◌≡◌, List, [], ◌∷◌, length, refl, ap, ◌∙◌, arith}
 use Rattle.vlog_tree.specs.Form.{ModuleTree}
 use Rattle.hw_build.specs.Elements.{Element, with_all}
-use Rattle.hw_lists.specs.Choices.{Entry as EntryForm}
-use Rattle.task_law.specs.Texts.{unless_none}
-use Rattle.hw_choices.specs.declared.entries.Entry.{Entry}
-use Rattle.hw_choices.specs.Entries.{entry_forms}
+use Rattle.hw_build.specs.Choices.{Entry as EntryForm}
+use Rattle.hw_task_lines.specs.Texts.{unless_none}
+use Rattle.hw_nets.specs.declared.entries.Entry.{Entry}
+use Rattle.hw_nets.specs.Entries.{entry_forms}
 
 pub stands_not : (found : List Entry) (es : List EntryForm) (elements : List Element) (d : ModuleTree) → length found ≡ 0 → entry_forms found ≡ es → d ≡ with_all d (unless_none es elements)
 stands_not [] es elements d h e = ap (λ z. with_all d (unless_none z elements)) e

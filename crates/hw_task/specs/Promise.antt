@@ -13,13 +13,13 @@ use Rattle.vlog_tree.specs.Loops.{Rests}
 use Rattle.vlog_tree.specs.Names.{goes_on}
 use Rattle.vlog_tree.specs.Table.{Name, is_doubled_name, module_declared, port_declared, net_kind_of}
 use Rattle.vlog_tree.specs.V6.{module_children}
-use Rattle.vlog_law_modules.specs.Larger.{IsRightBeside}
+use Rattle.vlog_module_laws.specs.Larger.{IsRightBeside}
 use Rattle.hw_build.specs.Elements.{empty}
-use Rattle.task_law.specs.Runs.{ActsAsTask}
-use Rattle.task_law.specs.Shape.{Shape, shape_of}
-use Rattle.task_law.specs.Texts.{task_name}
-use Rattle.task_names.specs.Ports.{task_inputs, task_outputs}
-use Rattle.task_rests.specs.Rests.{TakesToken}
+use Rattle.hw_task_lines.specs.Runs.{ActsAsTask}
+use Rattle.hw_task_lines.specs.Shape.{Shape, shape_of}
+use Rattle.hw_task_lines.specs.Texts.{task_name}
+use Rattle.hw_task_laws.specs.names.Ports.{task_inputs, task_outputs}
+use Rattle.hw_task_laws.specs.rests.Rests.{TakesToken}
 
 -- the machine, the memories and the streams are those of a leaf, whose name has letters, digits, `_` and `$` alone
 pub record IsOfLeaf (leaf : Leaf) (machine : Fsm) (memories : List Kind) (streams : List End) : Type 0 where

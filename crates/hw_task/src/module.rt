@@ -3,18 +3,16 @@
 ghost use Rattle.std.specs.Prelude.{◌≡◌, ◌+◌, ◌≤◌, ◌^◌, length, IfOk};
 ghost use Rattle.tapa_syntax.specs.declared.program.Leaf.{Leaf};
 ghost use Rattle.hw_build.specs.Elements.{empty, with_all};
-ghost use Rattle.task_law.specs.Texts.{task_elements, task_name as task_name_lem, task_tree};
-ghost use Rattle.hw_shape.specs.Shapes.{form};
+ghost use Rattle.hw_task_lines.specs.Texts.{task_elements, task_name as task_name_lem, task_tree};
+ghost use Rattle.hw_nets.specs.Shapes.{form};
 ghost use Rattle.hw_task.specs.Promise.{IsOfLeaf, KeepsPromise};
 
 use crate::ports::{add_held, add_inputs, add_offers};
 use crate::reads::add_all_reads;
-use hw_atoms::small;
-use hw_blocks::add_blocks;
+use hw_nets::{Shape, small};
+use hw_outputs::{add_blocks, add_choices, add_outputs};
 use hw_build::Draft;
-use hw_outputs::{add_choices, add_outputs};
-use hw_parts::{add_decodes, add_states};
-use hw_shape::Shape;
+use hw_states::{add_decodes, add_states};
 use std::alloc::{AllocError, Global};
 use tapa_base::{Kind, OutOfMemory, Text};
 use tapa_syntax::End;

@@ -2,20 +2,18 @@
 
 ghost use Rattle.std.specs.Prelude.{◌≡◌, ◌∷◌, ◌++◌, [], IfOk, length};
 ghost use Rattle.hw_build.specs.Elements.{Input, Register, with, with_all};
-ghost use Rattle.hw_lists.specs.Scope.{each};
-ghost use Rattle.task_law.specs.declared.nets.Net.TheVariants.{Ended, State};
-ghost use Rattle.task_law.specs.Nets.{name as name_lem};
-ghost use Rattle.task_law.specs.Shape.{state_bits};
-ghost use Rattle.task_law.specs.Texts.{array, held, inputs, memory_inputs, offered, offers, scalar_port, stream_inputs, variable};
-ghost use Rattle.hw_shape.specs.Shapes.{form};
+ghost use Rattle.hw_build.specs.Scope.{each};
+ghost use Rattle.hw_task_lines.specs.declared.nets.Net.TheVariants.{Ended, State};
+ghost use Rattle.hw_task_lines.specs.Nets.{name as name_lem};
+ghost use Rattle.hw_task_lines.specs.Shape.{state_bits};
+ghost use Rattle.hw_task_lines.specs.Texts.{array, held, inputs, memory_inputs, offered, offers, scalar_port, stream_inputs, variable};
+ghost use Rattle.hw_nets.specs.Shapes.{form};
 
-use hw_atoms::{binary, bits, name, net};
+use hw_nets::{Shape, binary, bits, name, net};
 use hw_build::Draft;
-use hw_parts::add_wire;
-use hw_shape::Shape;
-use hw_states::end_of_transaction;
+use hw_states::{add_wire, end_of_transaction};
 use std::alloc::{AllocError, Global};
-use task_law::Net;
+use hw_task_lines::Net;
 use vlog_tree::{BinaryOp, Value};
 
 fn add_input(alloc: Global, draft: &mut Draft, width: u32, port: Net) -> Result<(), AllocError>
@@ -98,7 +96,7 @@ fn add_memories(alloc: Global, draft: &mut Draft, shape: &Shape) -> Result<(), A
 }
 
 /// Adds the inputs: scalars, streams, memories.
-#[tactic(auto, using(hw_atoms::proofs::Grows::all_append))]
+#[tactic(auto, using(hw_nets::proofs::Grows::all_append))]
 pub(crate) fn add_inputs(alloc: Global, draft: &mut Draft, shape: &Shape) -> Result<(), AllocError>
     ensures { IfOk result (λ u. draft.new ≡ with_all draft.old (inputs (form shape.now))) }
 {
@@ -152,7 +150,7 @@ fn add_state(alloc: Global, draft: &mut Draft, shape: &Shape) -> Result<(), Allo
 }
 
 /// Adds the registers and the arrays.
-#[tactic(auto, using(hw_atoms::proofs::Grows::all_append))]
+#[tactic(auto, using(hw_nets::proofs::Grows::all_append))]
 pub(crate) fn add_held(alloc: Global, draft: &mut Draft, shape: &Shape) -> Result<(), AllocError>
     ensures { IfOk result (λ u. draft.new ≡ with_all draft.old (held (form shape.now))) }
 {

@@ -6,30 +6,28 @@ ghost use Rattle.vlog_tree.specs.declared.tree.Atom.TheVariants.{Literal, Net as
 ghost use Rattle.vlog_tree.specs.declared.tree.Value.TheVariants.{Binary, Cell as CellValue, Choose};
 ghost use Rattle.vlog_tree.specs.declared.tree.BinaryOp.TheVariants.{And, Less};
 ghost use Rattle.hw_build.specs.Elements.{Wire, with_all};
-ghost use Rattle.hw_lists.specs.Scope.{each};
-ghost use Rattle.hw_lists.specs.Choices.{choice as choice_lem};
-ghost use Rattle.task_law.specs.declared.nets.Choice.TheVariants.{Reads, Spot};
-ghost use Rattle.task_law.specs.declared.nets.Net.TheVariants.{Answer, Array, At, Raw, ReadInside, ReadOn};
-ghost use Rattle.task_law.specs.Nets.{front as front_lem, name as name_lem};
-ghost use Rattle.task_law.specs.Drivers.{low_bits as low_bits_lem};
-ghost use Rattle.task_law.specs.Shape.{array_cells as array_cells_lem, array_kind as array_kind_lem, index_bits as index_bits_lem, state_count};
-ghost use Rattle.task_law.specs.States.{net as net_lem};
-ghost use Rattle.task_law.specs.Effects.{at, effect, entries as entries_lem, entry};
-ghost use Rattle.task_law.specs.Texts.{answered, asked, asked_of, read_index, read_numbers, reads_of};
-ghost use Rattle.hw_choices.specs.Entries.{entries_in, entry_forms};
+ghost use Rattle.hw_build.specs.Scope.{each};
+ghost use Rattle.hw_build.specs.Choices.{choice as choice_lem};
+ghost use Rattle.hw_task_lines.specs.declared.nets.Choice.TheVariants.{Reads, Spot};
+ghost use Rattle.hw_task_lines.specs.declared.nets.Net.TheVariants.{Answer, Array, At, Raw, ReadInside, ReadOn};
+ghost use Rattle.hw_task_lines.specs.Nets.{front as front_lem, name as name_lem};
+ghost use Rattle.hw_task_lines.specs.Drivers.{low_bits as low_bits_lem};
+ghost use Rattle.hw_task_lines.specs.Shape.{array_cells as array_cells_lem, array_kind as array_kind_lem, index_bits as index_bits_lem, state_count};
+ghost use Rattle.hw_task_lines.specs.States.{net as net_lem};
+ghost use Rattle.hw_task_lines.specs.Effects.{at, effect, entries as entries_lem, entry};
+ghost use Rattle.hw_task_lines.specs.Texts.{answered, asked, asked_of, read_index, read_numbers, reads_of};
+ghost use Rattle.hw_nets.specs.Entries.{entries_in, entry_forms};
 ghost use Rattle.hw_expressions.specs.Reads.{read_form};
 ghost use Rattle.hw_task.specs.Asked.{AreAsked, asked_at, asked_form, port_of};
-ghost use Rattle.hw_shape.specs.Shapes.{form};
+ghost use Rattle.hw_nets.specs.Shapes.{form};
 
-use hw_atoms::{binary, bits, choose, copy, literal, low_bits, name, net, read_front};
+use hw_nets::{Entry, Shape, add_any, add_found, add_pick, binary, bits, choose, copy, entry_of, literal, low_bits, name, net, read_front, root};
 use hw_build::Draft;
-use hw_choices::{Entry, add_any, add_found, add_pick, entry_of, root};
 use hw_expressions::{ArrayRead, compile};
-use hw_parts::{add_wire, reads_at, reads_count};
-use hw_shape::Shape;
+use hw_states::{add_wire, reads_at, reads_count};
 use std::alloc::{AllocError, Global};
 use tapa_base::Kind;
-use task_law::{Choice, Net};
+use hw_task_lines::{Choice, Net};
 use vlog_tree::{Atom, BinaryOp, Value};
 
 /// What a read asks for: its array and the atom of its index.
@@ -255,7 +253,7 @@ fn add_ports(
     Ok(())
 }
 
-#[tactic(auto, using(hw_atoms::proofs::Grows::all_append))]
+#[tactic(auto, using(hw_nets::proofs::Grows::all_append))]
 fn add_reads(alloc: Global, draft: &mut Draft, shape: &Shape, p: u32) -> Result<(), AllocError>
     ensures { IfOk result (λ u. draft.new ≡ with_all draft.old (reads_of (form shape.now) p)) }
 {

@@ -1,1 +1,10 @@
+pub mod Found
+pub mod Joined
+pub mod BoundNets
+pub mod Parts
+pub mod Tops
+pub mod ChannelModules
+pub mod Named
 pub mod TaskModules
+pub mod Lowering
+pub mod Circuit

@@ -2,13 +2,14 @@
 
 ghost use Rattle.std.specs.Prelude.{◌≡◌, ◌++◌, IfOk, length, slice_get, slice_index};
 ghost use Rattle.hw_build.specs.Elements.{with_all};
-ghost use Rattle.hw_lists.specs.Scope.{each};
-ghost use Rattle.top_law.specs.Texts.{at_instance, channel_part, instances, task_part};
+ghost use Rattle.hw_build.specs.Scope.{each};
+ghost use Rattle.hw_top_lines.specs.Texts.{at_instance, channel_part, instances, task_part};
 
-use hw_atoms::small;
+use hw_nets::small;
 use hw_build::Draft;
-use hw_ends::{channel_ends, channel_instance, channel_name, task_ends, task_instance, task_name};
-use hw_wires::token_bits;
+use crate::ends::{channel_ends, task_ends};
+use crate::names::{channel_instance, channel_name, task_instance, task_name};
+use crate::wires::token_bits;
 use std::alloc::{AllocError, Global};
 use tapa_base::number_at;
 use tapa_syntax::{Instance, Leaf, Program};

@@ -3,16 +3,16 @@
 ghost use Rattle.std.specs.Prelude.{◌≡◌, ℕ, ◌++◌, ◌∷◌, [], IfOk, OnOk, slice_get};
 ghost use Rattle.tapa_syntax.specs.WellFormed.{IsWellFormed};
 ghost use Rattle.vlog_tree.specs.Form.{IsModule};
-ghost use Rattle.task_law.specs.Texts.{task_tree};
-ghost use Rattle.top_law.specs.Designs.{AreShort, design_tree, is_used as is_used_lem, leaf_module, task_modules, used_module};
-ghost use Rattle.top_law.specs.Legal.{AreMachinesOf, AreWritten, IsCountable, task_names};
-ghost use Rattle.top_law.specs.Texts.{top_tree};
+ghost use Rattle.hw_task_lines.specs.Texts.{task_tree};
+ghost use Rattle.hw_top_lines.specs.Designs.{AreShort, design_tree, is_used as is_used_lem, leaf_module, task_modules, used_module};
+ghost use Rattle.hw_top_lines.specs.Legal.{AreMachinesOf, AreWritten, IsCountable, task_names};
+ghost use Rattle.hw_top_lines.specs.Texts.{top_tree};
 ghost use Rattle.hw_task.specs.Promise.{IsOfLeaf, KeepsPromise};
 ghost use Rattle.hw_top.specs.Kept.{IsKept, IsOfBody};
 
 use crate::top::top_module;
-use hw_atoms::small;
-use hw_channels::all_channels;
+use hw_nets::small;
+use crate::channels::all_channels;
 use hw_task::module_of;
 use std::alloc::Global;
 use tapa_base::OutOfMemory;

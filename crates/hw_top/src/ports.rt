@@ -2,12 +2,12 @@
 
 ghost use Rattle.std.specs.Prelude.{◌≡◌, ◌++◌, IfOk, length, slice_get};
 ghost use Rattle.hw_build.specs.Elements.{with_all};
-ghost use Rattle.hw_lists.specs.Scope.{each};
-ghost use Rattle.top_law.specs.Texts.{scalar_port, memory_ports, ports};
+ghost use Rattle.hw_build.specs.Scope.{each};
+ghost use Rattle.hw_top_lines.specs.Texts.{scalar_port, memory_ports, ports};
 
-use hw_atoms::{bits, small};
+use hw_nets::{bits, small};
 use hw_build::Draft;
-use hw_ends::{ack, addr, rdata, scalar, wdata, we};
+use crate::names::{ack, addr, rdata, scalar, wdata, we};
 use std::alloc::{AllocError, Global};
 use tapa_syntax::Program;
 

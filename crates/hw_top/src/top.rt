@@ -3,14 +3,14 @@
 ghost use Rattle.std.specs.Prelude.{◌≡◌, ◌≤◌, IfOk, OnOk, length};
 ghost use Rattle.vlog_tree.specs.Form.{IsModule};
 ghost use Rattle.hw_build.specs.Elements.{with_all};
-ghost use Rattle.top_law.specs.Legal.{IsCountable};
-ghost use Rattle.top_law.specs.Texts.{top_elements, top_tree};
+ghost use Rattle.hw_top_lines.specs.Legal.{IsCountable};
+ghost use Rattle.hw_top_lines.specs.Texts.{top_elements, top_tree};
 
 use crate::instances::add_instances;
 use crate::ports::add_ports;
 use hw_build::Draft;
-use hw_ends::task_name;
-use hw_wires::{add_all_wires, add_done};
+use crate::names::task_name;
+use crate::wires::{add_all_wires, add_done};
 use std::alloc::{AllocError, Global};
 use tapa_syntax::Program;
 use vlog_tree::Module;

@@ -1,10 +1,12 @@
 ghost use Rattle.std.specs.Prelude.{◌≡◌, ◌<◌, ◌≤◌, ◌+◌, ◌-◌, ◌*◌, ◌^◌, ℕ, slice_index, length, IfOk};
 ghost use Rattle.task_graph.specs.Arcs.{streams};
 ghost use Rattle.flow_cert.specs.Verdicts.{balance_of};
-ghost use Rattle.plan_flows.specs.Moves.{AreLatencies, IsCarried};
+ghost use Rattle.latency_balance.specs.Moves.{AreLatencies, IsCarried};
 ghost use Rattle.latency_balance.specs.Result.{IsBalance};
 
-use plan_flows::{Found, amount_along, search_gain, send, settled};
+use crate::search::{Found, search_gain};
+use crate::sending::{amount_along, send};
+use crate::settling::settled;
 use std::alloc::{AllocError, Global};
 use task_graph::Graph;
 

@@ -4,5 +4,13 @@
 #![tactic(auto)]
 
 mod balance;
+mod cycle_test;
+mod exits;
+mod moves;
+mod paths;
+mod search;
+mod sending;
+mod settling;
+mod walking;
 
 pub use balance::{Balance, balance_streams};

@@ -10,7 +10,7 @@ use Rattle.kahn_model.proofs.Order.{prefix_trans, prefix_flat_map, prefix_whole}
 use Rattle.kahn_model.proofs.Grow.{ticks_grow}
 use Rattle.kahn_model.proofs.Count.{IsBelow, made_le, taken_le}
 use Rattle.kahn_model.proofs.Reach.{reach_founded, all_made}
-use Rattle.net_instances.proofs.Chunk.{plus, HasRoomFor, Chunk, chunk}
+use Rattle.net_core.proofs.Chunk.{plus, HasRoomFor, Chunk, chunk}
 
 module _ (net : Network) (ok : IsNetwork net) (k m : ℕ → ℕ) (rk : IsReachable net k) (rm : IsReachable net m) (below : IsBelow k m) (i : ℕ) (inside : i < net.size) (still : m i ≡ k i) where
   own_same : ticks_made net m i ≡ ticks_made net k i

@@ -16,10 +16,10 @@ use Rattle.kahn_model.proofs.Local.{here, here_is_fed}
 use Rattle.kahn_model.proofs.Late.{end_last}
 use Rattle.kahn_model.proofs.Order.{prefix_get, take_prefix}
 use Rattle.std.proofs.lemmas.Option.{slice_get_within}
-use Rattle.net_ports.specs.declared.body.Pause.{Pause}
-use Rattle.net_ports.specs.declared.body.Pause.TheVariants.{Ended as Ends, WantsRead, WantsWrite, BadToken, Fuel}
-use Rattle.net_instances.specs.Waits.{StopsIn, IsFullFor, HoldsPause, IsToldBy}
-use Rattle.net_instances.proofs.Stuck.{stops_here, not_fed, made_is, ended}
+use Rattle.net_core.specs.declared.body.Pause.{Pause}
+use Rattle.net_core.specs.declared.body.Pause.TheVariants.{Ended as Ends, WantsRead, WantsWrite, BadToken, Fuel}
+use Rattle.net_core.specs.Waits.{StopsIn, IsFullFor, HoldsPause, IsToldBy}
+use Rattle.net_core.proofs.Stuck.{stops_here, not_fed, made_is, ended}
 
 module _ (net : Network) (ok : IsNetwork net) (k : ℕ → ℕ) (r : IsFounded net k) (i : ℕ) (inside : i < net.size) where
   full_next : (s : ℕ) → (h : IsFullFor net k i s) → next net k i ≡ Some (Did (Put s h.token))

@@ -19,13 +19,13 @@ use Rattle.kahn_model.specs.Prefix.{IsPrefixOf}
 use Rattle.kahn_model.specs.Behavior.{Behavior, Finished, OutOfTurns, Act, Await, Offer, NoToken, WrongToken, Answer, judge_token, first_offer, tick_of, lists_after, on_offer, ticks, trace_end}
 use Rattle.kahn_model.specs.Network.{take_from}
 use Rattle.kahn_model.proofs.Order.{prefix_trans, prefix_append}
-use Rattle.net_ports.specs.declared.ports.Ports.{Ports}
-use Rattle.net_ports.specs.declared.body.Pause.{Pause}
-use Rattle.net_ports.specs.declared.body.Pause.TheVariants.{Ended as HasEnded, WantsRead, WantsWrite, BadToken, Fuel}
-use Rattle.net_ports.specs.Ports.{waiting, Moved}
-use Rattle.net_ports.specs.Resume.{lists_at, Agrees, HasRoomAt, StopsAt, GoesOnBy, PausesBy}
+use Rattle.net_core.specs.declared.ports.Ports.{Ports}
+use Rattle.net_core.specs.declared.body.Pause.{Pause}
+use Rattle.net_core.specs.declared.body.Pause.TheVariants.{Ended as HasEnded, WantsRead, WantsWrite, BadToken, Fuel}
+use Rattle.net_core.specs.Ports.{waiting, Moved}
+use Rattle.net_core.specs.Resume.{lists_at, Agrees, HasRoomAt, StopsAt, GoesOnBy, PausesBy}
 use Rattle.net_core.specs.Follow.{Rest, Over, Still, ticks_left, trace_end_left, left, Follows, Going, IsReady, IsLook}
-use Rattle.net_ports.proofs.Moves.{drop_sum, moved_none, moved_append}
+use Rattle.net_core.proofs.Moves.{drop_sum, moved_none, moved_append}
 
 pub prefix_of_append : {A : Type 0} (xs ys : List A) → IsPrefixOf xs (xs ++ ys)
 prefix_of_append [] ys = tt

@@ -11,20 +11,20 @@ use Rattle.kahn_model.specs.Outcome.{IsJoined, joined_part, joined_ticks}
 use Rattle.kahn_model.proofs.Count.{IsBelow, step_stays}
 use Rattle.kahn_model.proofs.Ends.{total_cap}
 use Rattle.kahn_model.proofs.Joined.{part_is, joined_has, joined_same}
-use Rattle.net_ports.specs.declared.body.Pause.{Pause}
-use Rattle.net_ports.specs.declared.body.Pause.TheVariants.{Fuel}
-use Rattle.net_instances.specs.declared.input.Input.{Input}
-use Rattle.net_instances.specs.declared.net_state.NetState.{NetState}
-use Rattle.net_instances.specs.Bindings.{IsFedBySelf, stream_at, Reads, Writes, producer_of, consumer_of}
-use Rattle.net_instances.specs.Bounded.{network_on}
-use Rattle.net_instances.specs.Waits.{HoldsPause}
-use Rattle.net_instances.specs.Load.{IsIn, AreWoken}
-use Rattle.net_instances.specs.State.{network, count, total_ticks, joined_total, IsValid, HasResumed, IsWithin, HasResumedWithin}
+use Rattle.net_core.specs.declared.body.Pause.{Pause}
+use Rattle.net_core.specs.declared.body.Pause.TheVariants.{Fuel}
+use Rattle.net_core.specs.declared.input.Input.{Input}
+use Rattle.net_core.specs.declared.net_state.NetState.{NetState}
+use Rattle.net_core.specs.Bindings.{IsFedBySelf, stream_at, Reads, Writes, producer_of, consumer_of}
+use Rattle.net_core.specs.Bounded.{network_on}
+use Rattle.net_core.specs.Waits.{HoldsPause}
+use Rattle.net_core.specs.Load.{IsIn, AreWoken}
+use Rattle.net_core.specs.State.{network, count, total_ticks, joined_total, IsValid, HasResumed, IsWithin, HasResumedWithin}
 use Rattle.net_core.specs.Settle.{IsQuiet, IsSpent, IsAtRest, ticks_ahead, Visited}
-use Rattle.net_ports.proofs.Moves.{get_set_same, get_set_other}
-use Rattle.net_instances.proofs.Chunk.{plus, plus_same, plus_other, total_plus}
-use Rattle.net_instances.proofs.Stepped.{plus_above}
-use Rattle.net_instances.proofs.Lasting.{decide_fuel}
+use Rattle.net_core.proofs.Moves.{get_set_same, get_set_other}
+use Rattle.net_core.proofs.Chunk.{plus, plus_same, plus_other, total_plus}
+use Rattle.net_core.proofs.Stepped.{plus_above}
+use Rattle.net_core.proofs.Lasting.{decide_fuel}
 
 pub decide_in : (x : ℕ) (xs : List ℕ) → IsIn x xs ⊎ (IsIn x xs → ⊥)
 decide_in x [] = inr (λ h. let e = h.1 in cc)

@@ -10,15 +10,15 @@ use Rattle.kahn_model.proofs.Reach.{reach_founded}
 use Rattle.kahn_model.proofs.Ends.{greatest, greatest_by}
 use Rattle.kahn_model.proofs.Ended.{ended_over}
 use Rattle.kahn_model.proofs.Joined.{joined_more}
-use Rattle.net_ports.specs.declared.body.Pause.TheVariants.{Ended, Fuel}
+use Rattle.net_core.specs.declared.body.Pause.TheVariants.{Ended, Fuel}
 use Rattle.net_core.specs.declared.outcome.Outcome.TheVariants.{Done, Stopped, Limit}
-use Rattle.net_instances.specs.declared.net_state.NetState.{NetState}
-use Rattle.net_instances.specs.Bindings.{stream_at}
-use Rattle.net_instances.specs.Waits.{IsToldBy}
-use Rattle.net_instances.specs.State.{network, count, joined_total, IsValid, IsWithin}
+use Rattle.net_core.specs.declared.net_state.NetState.{NetState}
+use Rattle.net_core.specs.Bindings.{stream_at}
+use Rattle.net_core.specs.Waits.{IsToldBy}
+use Rattle.net_core.specs.State.{network, count, joined_total, IsValid, IsWithin}
 use Rattle.net_core.specs.Settle.{IsQuiet, IsSpent, IsAtRest, IsLimited, EndsAs, IsTold, AreTold, AreJoinedTold, AreJoinedEnded, IsSomeJoinedLeft, IsSomeWithFuel, AreNoneWithFuel}
 use Rattle.net_core.proofs.Ends.{stopped, told, not_ended}
-use Rattle.net_instances.proofs.Shown.{detached_is}
+use Rattle.net_core.proofs.Shown.{detached_is}
 
 module _ (net : NetState) (v : IsValid net) (budget left : ℕ) (within : IsWithin net budget left) where
   abbrev N : Network

@@ -10,11 +10,11 @@ use Rattle.kahn_model.specs.declared.tick.StreamOperation.{StreamOperation}
 use Rattle.kahn_model.specs.Prefix.{IsPrefixOf}
 use Rattle.kahn_model.specs.Behavior.{Behavior, Finished, OutOfTurns, Act, Await, WrongToken, Answer, judge_token, ticks, trace_end}
 use Rattle.kahn_model.specs.Network.{take_from}
-use Rattle.net_ports.specs.declared.ports.Ports.{Ports}
-use Rattle.net_ports.specs.declared.body.Pause.{Pause}
-use Rattle.net_ports.specs.declared.body.Pause.TheVariants.{Ended as HasEnded, WantsRead, WantsWrite, BadToken, Fuel}
-use Rattle.net_ports.specs.Ports.{waiting, room_at, Moved}
-use Rattle.net_ports.specs.Resume.{lists_at, HasRoomAt}
+use Rattle.net_core.specs.declared.ports.Ports.{Ports}
+use Rattle.net_core.specs.declared.body.Pause.{Pause}
+use Rattle.net_core.specs.declared.body.Pause.TheVariants.{Ended as HasEnded, WantsRead, WantsWrite, BadToken, Fuel}
+use Rattle.net_core.specs.Ports.{waiting, room_at, Moved}
+use Rattle.net_core.specs.Resume.{lists_at, HasRoomAt}
 
 -- the rest of a job, or nothing after End
 pub data Rest : Type 0 where

@@ -4,15 +4,15 @@ use Rattle.tapa_syntax.specs.declared.program.Program.{Program}
 use Rattle.kahn_model.specs.Counts.{IsAllowed}
 use Rattle.kahn_model.specs.Outcome.{IsJoined, IsDone, IsStopped}
 use Rattle.kahn_model.specs.Ending.{GoesPast}
-use Rattle.net_ports.specs.declared.body.Pause.{Pause}
-use Rattle.net_ports.specs.declared.body.Pause.TheVariants.{Ended, Fuel}
+use Rattle.net_core.specs.declared.body.Pause.{Pause}
+use Rattle.net_core.specs.declared.body.Pause.TheVariants.{Ended, Fuel}
 use Rattle.net_core.specs.declared.outcome.Outcome.{Outcome}
 use Rattle.net_core.specs.declared.outcome.Outcome.TheVariants.{Done, Stopped, Limit}
-use Rattle.net_instances.specs.declared.net_state.NetState.{NetState}
-use Rattle.net_instances.specs.Bindings.{detached_at, stream_at}
-use Rattle.net_instances.specs.Waits.{HoldsPause, IsToldBy}
-use Rattle.net_instances.specs.Load.{IsIn, AreBelow}
-use Rattle.net_instances.specs.State.{network, count, total_ticks, joined_total, given, IsWithin}
+use Rattle.net_core.specs.declared.net_state.NetState.{NetState}
+use Rattle.net_core.specs.Bindings.{detached_at, stream_at}
+use Rattle.net_core.specs.Waits.{HoldsPause, IsToldBy}
+use Rattle.net_core.specs.Load.{IsIn, AreBelow}
+use Rattle.net_core.specs.State.{network, count, total_ticks, joined_total, given, IsWithin}
 
 -- the outcome within a budget of ticks: exactly one holds (Kahn's network at its declared depths, see kahn_model's
 -- specs/Outcome)

@@ -1,13 +1,15 @@
 // What an instance may still make within a budget.
 ghost use Rattle.std.specs.Prelude.{ℕ, ◌≡◌, ◌<◌, ◌≤◌, ◌+◌, length, true, IfOk, MatchBool};
-ghost use Rattle.net_instances.specs.State.{network, count, given, IsWithin, HasResumedWithin};
-ghost use Rattle.net_instances.specs.Bindings.{arity};
-ghost use Rattle.net_instances.specs.Ties.{AreTies};
+ghost use Rattle.net_core.specs.State.{network, count, given, IsWithin, HasResumedWithin};
+ghost use Rattle.net_core.specs.Bindings.{arity};
+ghost use Rattle.net_core.specs.Ties.{AreTies};
 ghost use Rattle.kahn_model.specs.Outcome.{IsJoined};
-ghost use Rattle.net_ports.specs.declared.body.Pause.TheVariants.{Fuel};
+ghost use Rattle.net_core.specs.declared.body.Pause.TheVariants.{Fuel};
 
-use net_instances::{Net, Tie, resume_instance};
-use net_ports::{Body, Pause};
+use crate::net::Net;
+use crate::ties::Tie;
+use crate::resume::resume_instance;
+use crate::body::{Body, Pause};
 use std::alloc::Global;
 use tapa_base::OutOfMemory;
 

@@ -7,12 +7,12 @@ use Rattle.task_graph.specs.declared.Graph.{Graph}
 use Rattle.run_data.specs.Seen.{first}
 use Rattle.plan_device.specs.Answer.{IsFirstOf}
 use Rattle.plan_device.specs.Checked.{AreKeysRight, IsPlaced}
-use Rattle.plan_keys.specs.GroupPins.{ArePins}
-use Rattle.plan_keys.specs.Pins.{pins_of, elsewhere, is_forbidden, on_forbidden}
-use Rattle.plan_keys.specs.Tests.{grid_of}
+use Rattle.plan_device.specs.GroupPins.{ArePins}
+use Rattle.plan_device.specs.Pins.{pins_of, elsewhere, is_forbidden, on_forbidden}
+use Rattle.plan_device.specs.Tests.{grid_of}
 use Rattle.plan_device.specs.declared.fault.DeviceFault.{DeviceFault}
 use Rattle.plan_device.specs.declared.read.Placed.{Placed}
-use Rattle.plan_keys.proofs.Pinned.{pinned_inside}
+use Rattle.plan_device.proofs.Pinned.{pinned_inside}
 
 module _ (program : Program) (graph : Graph) (file : Json) where
   pub placed_of : (r : Result Placed DeviceFault) (slots : List (Option ℕ)) → OnOk r (None ≡ first (on_forbidden (grid_of file) program file)) → IfOk r (λ placed. placed.groups.items ≡ slots)

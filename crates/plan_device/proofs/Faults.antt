@@ -10,17 +10,17 @@ use Rattle.run_data.specs.Seen.{first}
 use Rattle.run_data.proofs.Lists.{or_else, first-append, first-map}
 use Rattle.run_data.proofs.Faults.{first_of_two}
 use Rattle.plan_device.specs.Checked.{AreKeysRight}
-use Rattle.plan_keys.specs.Faults.{faulty_members, faulty_at, faulty, is_key_in, misshapen, Misshapen, Misfit, OutOfRange, Unknown, Elsewhere, OnForbidden, faults}
-use Rattle.plan_keys.specs.Keys.{Names, names_of, group_of, key_name, keys_in, format_of}
-use Rattle.plan_keys.specs.Pins.{elsewhere, on_forbidden}
-use Rattle.plan_keys.specs.Tests.{passes, grid_of}
-use Rattle.plan_keys.specs.declared.check.Check.{Check}
-use Rattle.plan_keys.specs.declared.check.Check.TheVariants.{Shape, Number, Range, Name}
-use Rattle.plan_keys.specs.declared.grid.Grid.{Grid}
-use Rattle.plan_keys.specs.declared.key.Format.{Format}
-use Rattle.plan_keys.specs.declared.key.Key.{Key}
-use Rattle.plan_keys.proofs.Lists.{nothing_first}
-use Rattle.plan_keys.proofs.Numbers.{true_or_false}
+use Rattle.plan_device.specs.Faults.{faulty_members, faulty_at, faulty, is_key_in, misshapen, Misshapen, Misfit, OutOfRange, Unknown, Elsewhere, OnForbidden, faults}
+use Rattle.plan_device.specs.Keys.{Names, names_of, group_of, key_name, keys_in, format_of}
+use Rattle.plan_device.specs.Pins.{elsewhere, on_forbidden}
+use Rattle.plan_device.specs.Tests.{passes, grid_of}
+use Rattle.plan_device.specs.declared.check.Check.{Check}
+use Rattle.plan_device.specs.declared.check.Check.TheVariants.{Shape, Number, Range, Name}
+use Rattle.plan_device.specs.declared.grid.Grid.{Grid}
+use Rattle.plan_device.specs.declared.key.Format.{Format}
+use Rattle.plan_device.specs.declared.key.Key.{Key}
+use Rattle.plan_device.proofs.Lists.{nothing_first}
+use Rattle.plan_device.proofs.Numbers.{true_or_false}
 
 -- ---- a key
 

@@ -1,3 +1,9 @@
+pub mod Asked
+pub mod Entries
+pub mod KnownNames
+pub mod Lists
+pub mod Numbers
+pub mod Pinned
 pub mod Checks
 pub mod Faults
 pub mod Meaning

@@ -15,17 +15,17 @@ use Rattle.plan_device.specs.Answer.{IsMeaning, IsFirstOf, IsCause}
 use Rattle.plan_device.specs.Checked.{AreKeysRight, IsPlaced}
 use Rattle.plan_device.specs.Contents.{borders, percent_of, slots_of, uses_of}
 use Rattle.plan_device.specs.Devices.{IsDevice}
-use Rattle.plan_keys.specs.Keys.{names_of, format_of}
-use Rattle.plan_keys.specs.Pins.{IsPinned, pins_of}
-use Rattle.plan_keys.specs.Tests.{grid_of}
+use Rattle.plan_device.specs.Keys.{names_of, format_of}
+use Rattle.plan_device.specs.Pins.{IsPinned, pins_of}
+use Rattle.plan_device.specs.Tests.{grid_of}
 use Rattle.plan_device.specs.declared.device.Device.{Device}
 use Rattle.plan_device.specs.declared.fault.DeviceFault.{DeviceFault}
 use Rattle.plan_device.specs.declared.fault.DeviceFault.TheVariants.{J1, J2, J3, K1, K2, K3, K4, OutOfMemory}
-use Rattle.plan_keys.specs.declared.grid.Grid.{Grid}
-use Rattle.plan_keys.specs.declared.key.Format.{Format}
-use Rattle.plan_keys.specs.declared.key.Key.{Key}
+use Rattle.plan_device.specs.declared.grid.Grid.{Grid}
+use Rattle.plan_device.specs.declared.key.Format.{Format}
+use Rattle.plan_device.specs.declared.key.Key.{Key}
 use Rattle.plan_device.specs.declared.read.Placed.{Placed}
-use Rattle.plan_keys.specs.declared.key.Key.TheVariants.{LevelsRows, LevelsCols}
+use Rattle.plan_device.specs.declared.key.Key.TheVariants.{LevelsRows, LevelsCols}
 use Rattle.plan_device.proofs.Ranges.{number_there, number_below, rows_right, cols_right, slots_right, row_borders, col_borders, as_many_slots}
 use Rattle.plan_device.proofs.Uses.{uses_small, as_many_uses}
 

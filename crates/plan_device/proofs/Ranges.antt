@@ -7,22 +7,22 @@ use Rattle.serde_json.specs.Data.{Data as Json}
 use Rattle.serde_json.specs.Find.{get}
 use Rattle.run_data.specs.Data.{items_at}
 use Rattle.run_data.specs.Seen.{first}
-use Rattle.plan_keys.specs.Amounts.{amounts_of}
+use Rattle.plan_device.specs.Amounts.{amounts_of}
 use Rattle.plan_device.specs.Contents.{borders, listed, slots_of, levels_of}
-use Rattle.plan_keys.specs.Faults.{faulty_at, faulty}
-use Rattle.plan_keys.specs.Json.{natural_in, natural_of, number_or}
-use Rattle.plan_keys.specs.Keys.{Names, key_name, keys_in}
-use Rattle.plan_keys.specs.Tests.{passes, is_there_in, is_for_borders}
-use Rattle.plan_keys.specs.declared.check.Check.{Check}
-use Rattle.plan_keys.specs.declared.check.Check.TheVariants.{Range}
-use Rattle.plan_keys.specs.declared.key.Format.{Format}
-use Rattle.plan_keys.specs.declared.key.Format.TheVariants.{One, Two, Neither}
-use Rattle.plan_keys.specs.declared.key.Key.{Key}
-use Rattle.plan_keys.specs.declared.key.Key.TheVariants as key
+use Rattle.plan_device.specs.Faults.{faulty_at, faulty}
+use Rattle.plan_device.specs.Json.{natural_in, natural_of, number_or}
+use Rattle.plan_device.specs.Keys.{Names, key_name, keys_in}
+use Rattle.plan_device.specs.Tests.{passes, is_there_in, is_for_borders}
+use Rattle.plan_device.specs.declared.check.Check.{Check}
+use Rattle.plan_device.specs.declared.check.Check.TheVariants.{Range}
+use Rattle.plan_device.specs.declared.key.Format.{Format}
+use Rattle.plan_device.specs.declared.key.Format.TheVariants.{One, Two, Neither}
+use Rattle.plan_device.specs.declared.key.Key.{Key}
+use Rattle.plan_device.specs.declared.key.Key.TheVariants as key
 use Rattle.plan_device.proofs.Faults.{passes_faultless}
-use Rattle.plan_keys.specs.declared.grid.Grid.{Grid}
-use Rattle.plan_keys.proofs.Numbers.{is_same, true_or_false}
-use Rattle.plan_keys.proofs.Lists.{nothing_first, nothing_before, nothing_behind}
+use Rattle.plan_device.specs.declared.grid.Grid.{Grid}
+use Rattle.plan_device.proofs.Numbers.{is_same, true_or_false}
+use Rattle.plan_device.proofs.Lists.{nothing_first, nothing_before, nothing_behind}
 
 -- each key passes
 pub each_passes : (check : Check) (names : Names) (file : Json) (keys : List Key) (i : ℕ) (key : Key) → flat_map (faulty_at check names file) keys ≡ [] → slice_get keys i ≡ Some key → passes check key (get (key_name key) file) ≡ true

@@ -12,9 +12,9 @@ use Rattle.task_graph.specs.declared.Use.{Use}
 use Rattle.task_graph.specs.Streams.{amount, amount_at}
 use Rattle.task_graph.specs.Uses.{use_of}
 use Rattle.run_data.specs.Data.{items_at, members_at}
-use Rattle.plan_keys.specs.Amounts.{amounts_of}
+use Rattle.plan_device.specs.Amounts.{amounts_of}
 use Rattle.plan_device.specs.Contents.{slots_of, use_by, use_in, uses_of}
-use Rattle.plan_keys.specs.Json.{past_amounts}
+use Rattle.plan_device.specs.Json.{past_amounts}
 use Rattle.plan_device.proofs.Ranges.{number_below}
 
 pub amounts_small : (json : Json) (k : ℕ) → amount (amounts_of json) k < 2 ^ 32

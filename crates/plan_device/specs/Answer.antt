@@ -6,14 +6,14 @@ use Rattle.task_graph.specs.declared.Graph.{Graph}
 use Rattle.run_data.specs.Data.{IsJson}
 use Rattle.run_data.specs.Seen.{first}
 use Rattle.plan_device.specs.Contents.{borders, percent_of, slots_of, uses_of}
-use Rattle.plan_keys.specs.Faults.{Fault, Misshapen, Misfit, OutOfRange, Unknown, Elsewhere, OnForbidden, faults}
-use Rattle.plan_keys.specs.Keys.{format_of}
-use Rattle.plan_keys.specs.Pins.{IsPinned, pins_of, is_forbidden}
-use Rattle.plan_keys.specs.Tests.{grid_of}
+use Rattle.plan_device.specs.Faults.{Fault, Misshapen, Misfit, OutOfRange, Unknown, Elsewhere, OnForbidden, faults}
+use Rattle.plan_device.specs.Keys.{format_of}
+use Rattle.plan_device.specs.Pins.{IsPinned, pins_of, is_forbidden}
+use Rattle.plan_device.specs.Tests.{grid_of}
 use Rattle.plan_device.specs.declared.device.Device.{Device}
 use Rattle.plan_device.specs.declared.fault.DeviceFault.{DeviceFault}
 use Rattle.plan_device.specs.declared.fault.DeviceFault.TheVariants.{J1, J2, J3, K1, K2, K3, K4, OutOfMemory}
-use Rattle.plan_keys.specs.declared.key.Key.TheVariants.{LevelsRows, LevelsCols}
+use Rattle.plan_device.specs.declared.key.Key.TheVariants.{LevelsRows, LevelsCols}
 
 -- the device is what the JSON value gives
 pub record IsMeaning (program : Program) (graph : Graph) (file : Json) (device : Device) : Type 0 where

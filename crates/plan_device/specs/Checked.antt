@@ -4,12 +4,12 @@ use Rattle.serde_json.specs.Data.{Data as Json}
 use Rattle.tapa_syntax.specs.declared.program.Program.{Program}
 use Rattle.task_graph.specs.declared.Graph.{Graph}
 use Rattle.run_data.specs.Seen.{first}
-use Rattle.plan_keys.specs.declared.check.Check.TheVariants.{Number, Range, Name}
+use Rattle.plan_device.specs.declared.check.Check.TheVariants.{Number, Range, Name}
 use Rattle.plan_device.specs.declared.read.Placed.{Placed}
-use Rattle.plan_keys.specs.Faults.{misshapen, faulty}
-use Rattle.plan_keys.specs.Keys.{names_of, format_of}
-use Rattle.plan_keys.specs.Pins.{pins_of, elsewhere, on_forbidden, IsPinned, is_forbidden}
-use Rattle.plan_keys.specs.Tests.{grid_of}
+use Rattle.plan_device.specs.Faults.{misshapen, faulty}
+use Rattle.plan_device.specs.Keys.{names_of, format_of}
+use Rattle.plan_device.specs.Pins.{pins_of, elsewhere, on_forbidden, IsPinned, is_forbidden}
+use Rattle.plan_device.specs.Tests.{grid_of}
 
 -- no fault of shape, number, range or name
 pub record AreKeysRight (program : Program) (file : Json) : Type 0 where

@@ -9,12 +9,12 @@ use Rattle.tapa_syntax.specs.declared.program.Program.{Program}
 use Rattle.task_graph.specs.declared.Use.{Use}
 use Rattle.task_graph.specs.Uses.{use_of}
 use Rattle.run_data.specs.Data.{items_at, members_at}
-use Rattle.plan_keys.specs.declared.key.Format.{Format}
-use Rattle.plan_keys.specs.declared.key.Format.TheVariants.{One, Two, Neither}
-use Rattle.plan_keys.specs.declared.key.Key.{Key}
-use Rattle.plan_keys.specs.Amounts.{amounts_of}
-use Rattle.plan_keys.specs.Json.{number_or}
-use Rattle.plan_keys.specs.Keys.{key_name}
+use Rattle.plan_device.specs.declared.key.Format.{Format}
+use Rattle.plan_device.specs.declared.key.Format.TheVariants.{One, Two, Neither}
+use Rattle.plan_device.specs.declared.key.Key.{Key}
+use Rattle.plan_device.specs.Amounts.{amounts_of}
+use Rattle.plan_device.specs.Json.{number_or}
+use Rattle.plan_device.specs.Keys.{key_name}
 
 -- 2 where the file says nothing
 abbrev pub levels_of : Option Json → ℕ

@@ -1,3 +1,12 @@
+pub mod Amounts
+pub mod Asked
+pub mod Faults
+pub mod GroupPins
+pub mod Json
+pub mod Keys
+pub mod Known
+pub mod Pins
+pub mod Tests
 pub mod Answer
 pub mod Checked
 pub mod Contents

@@ -7,10 +7,12 @@ ghost use Rattle.task_graph.specs.Uses.{use_of};
 ghost use Rattle.task_graph.specs.Streams.{amount_at};
 ghost use Rattle.run_data.specs.Data.{members_at};
 ghost use Rattle.run_data.specs.Seen.{seen};
-ghost use Rattle.plan_keys.specs.Amounts.{amounts_of};
+ghost use Rattle.plan_device.specs.Amounts.{amounts_of};
 ghost use Rattle.plan_device.specs.Contents as spec;
 
-use plan_keys::{Format, Group, Key, amounts_of, items, member, number_or};
+use crate::key::{Format, Group, Key};
+use crate::amounts::amounts_of;
+use crate::json::{items, member, number_or};
 use serde_json::Value;
 use std::alloc::{AllocError, Global};
 use tapa_syntax::{Instance, Leaf, Program};

@@ -2,11 +2,19 @@
 //! device file.
 #![tactic(auto)]
 
+mod amounts;
+mod check;
 mod contents;
 mod device;
 mod fault;
 mod find;
+mod grid;
+mod json;
+mod key;
 mod misshapen;
+mod names;
+mod passes;
+mod pins;
 mod read;
 
 pub use device::Device;

@@ -2,11 +2,13 @@ ghost use Rattle.std.specs.Prelude.{◌≡◌, filter, not, option_map, IfOk};
 ghost use Rattle.serde_json.specs.View.{view, members_view};
 ghost use Rattle.run_data.specs.Data.{keys_of};
 ghost use Rattle.run_data.specs.Seen.{first};
-ghost use Rattle.plan_keys.specs.Faults.{is_key_in, misshapen};
-ghost use Rattle.plan_keys.specs.Known.{names_known};
+ghost use Rattle.plan_device.specs.Faults.{is_key_in, misshapen};
+ghost use Rattle.plan_device.specs.Known.{names_known};
 
 use crate::find::find;
-use plan_keys::{Check, Format, Known};
+use crate::check::Check;
+use crate::key::Format;
+use crate::names::Known;
 use serde_json::{Map, Value};
 use std::alloc::{AllocError, Global};
 

@@ -8,18 +8,19 @@ ghost use Rattle.run_data.specs.Seen.{first};
 ghost use Rattle.plan_device.specs.Answer.{IsDeviceOf, IsCause, IsFirstOf};
 ghost use Rattle.plan_device.specs.Checked.{AreKeysRight, IsPlaced};
 ghost use Rattle.plan_device.specs.Devices.{IsDevice};
-ghost use Rattle.plan_keys.specs.Pins.{label_at, pins_of, elsewhere, is_forbidden, on_forbidden};
-ghost use Rattle.plan_keys.specs.Tests.{grid_of};
+ghost use Rattle.plan_device.specs.Pins.{label_at, pins_of, elsewhere, is_forbidden, on_forbidden};
+ghost use Rattle.plan_device.specs.Tests.{grid_of};
 
 use crate::contents::{borders, percent_of, slots_of, uses_of};
 use crate::device::Device;
 use crate::fault::DeviceFault;
 use crate::find::find;
 use crate::misshapen::find_misshapen;
-use plan_keys::{
-    Check, Format, GroupPins, Key, Known, find_on_forbidden, forbidden, grid_of, pin_groups,
-    pins_of,
-};
+use crate::check::Check;
+use crate::key::{Format, Key};
+use crate::pins::{GroupPins, find_on_forbidden, forbidden, pin_groups, pins_of};
+use crate::names::Known;
+use crate::json::grid_of;
 use serde_json::Value;
 use std::alloc::{AllocError, Global};
 use tapa_syntax::Program;
@@ -66,7 +67,7 @@ fn check_keys(alloc: Global, program: &Program, file: &Value) -> Result<(), Devi
 }
 
 // The label of an instance.
-#[tactic(auto, unfolding(plan_keys::specs::Pins::label_at))]
+#[tactic(auto, unfolding(crate::specs::Pins::label_at))]
 fn label_at(alloc: Global, program: &Program, i: usize) -> Result<Vec<u8>, AllocError>
     ensures { IfOk result (λ label. label.items ≡ label_at program.now i) }
 {

@@ -1,1 +1,4 @@
+pub mod Grown
+pub mod Still
+pub mod Sums
 pub mod Below

@@ -16,14 +16,14 @@ use Rattle.kahn_model.specs.Counts.{ticks_made}
 use Rattle.kahn_model.specs.Start.{network_of}
 use Rattle.kahn_model.specs.Trace.{with_cell}
 use Rattle.task_fsm.specs.Run.{cells_after}
-use Rattle.net_instances.specs.declared.net_state.NetState.{NetState}
-use Rattle.net_instances.specs.Bindings.{stream_at, Reads, Writes}
-use Rattle.net_instances.specs.Bounded.{scalars_of, memories_of, network_on, instance_job, count_of, IsBodyAt}
-use Rattle.net_ports.specs.Job.{Job}
-use Rattle.net_instances.specs.Placement.{tick_at}
-use Rattle.net_instances.specs.State.{IsValid}
-use Rattle.net_instances.proofs.Connected.{program_is}
-use Rattle.net_instances.proofs.Stepped.{made_is_map}
+use Rattle.net_core.specs.declared.net_state.NetState.{NetState}
+use Rattle.net_core.specs.Bindings.{stream_at, Reads, Writes}
+use Rattle.net_core.specs.Bounded.{scalars_of, memories_of, network_on, instance_job, count_of, IsBodyAt}
+use Rattle.net_core.specs.Job.{Job}
+use Rattle.net_core.specs.Placement.{tick_at}
+use Rattle.net_core.specs.State.{IsValid}
+use Rattle.net_core.proofs.Connected.{program_is}
+use Rattle.net_core.proofs.Stepped.{made_is_map}
 use Rattle.coro_machine.specs.declared.coro.Coro.{Coro}
 use Rattle.coro_machine.specs.Coro.{IsCoroOf}
 use Rattle.run_program.proofs.Starting.{job_is}

@@ -12,10 +12,10 @@ use Rattle.kahn_model.specs.ProgramNetwork.{end_of}
 use Rattle.kahn_model.specs.Start.{network_of}
 use Rattle.kahn_model.proofs.Shown.{shown_begins, shown_whole}
 use Rattle.kahn_model.proofs.WellFormed.{program_network}
-use Rattle.net_instances.specs.declared.input.Input.{Input}
-use Rattle.net_instances.specs.declared.net_state.NetState.{NetState}
-use Rattle.net_instances.specs.Bounded.{network_on}
-use Rattle.net_instances.specs.State as state
+use Rattle.net_core.specs.declared.input.Input.{Input}
+use Rattle.net_core.specs.declared.net_state.NetState.{NetState}
+use Rattle.net_core.specs.Bounded.{network_on}
+use Rattle.net_core.specs.State as state
 use Rattle.net_core.specs.Settle.{EndsAs}
 use Rattle.net_core.specs.declared.outcome.Outcome.{Outcome}
 use Rattle.net_core.specs.declared.outcome.Outcome.TheVariants as outcome

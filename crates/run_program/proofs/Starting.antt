@@ -10,10 +10,10 @@ use Rattle.kahn_model.specs.Fits.{FitsInput}
 use Rattle.kahn_model.specs.Start.{bound_value, instance_state, leaf_state}
 use Rattle.kahn_model.specs.Trace.{State, job_of}
 use Rattle.kahn_model.proofs.FitsNetwork.{first_fits}
-use Rattle.net_instances.specs.declared.input.Input.{Input}
-use Rattle.net_instances.specs.Bindings.{ends_at, ends_in_leaf, leaf_in}
-use Rattle.net_instances.specs.Bounded.{instance_job, leaf_behavior, scalars_of, memories_of}
-use Rattle.net_ports.specs.Job.{Job}
+use Rattle.net_core.specs.declared.input.Input.{Input}
+use Rattle.net_core.specs.Bindings.{ends_at, ends_in_leaf, leaf_in}
+use Rattle.net_core.specs.Bounded.{instance_job, leaf_behavior, scalars_of, memories_of}
+use Rattle.net_core.specs.Job.{Job}
 use Rattle.std.specs.Arc.{arc_value}
 use Rattle.std.specs.declared.alloc.Global.{Global}
 use Rattle.std.specs.declared.sync.Arc.{Arc}

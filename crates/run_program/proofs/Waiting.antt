@@ -3,9 +3,9 @@ use Rattle.std.proofs.Common.{◌≡◌, ℕ, suc, ◌+◌, List, [], ◌∷◌,
 use Rattle.tapa_syntax.specs.declared.program.Instance.{Instance}
 use Rattle.tapa_syntax.specs.declared.program.Stream.{Stream}
 use Rattle.kahn_model.specs.Network.{Network}
-use Rattle.net_ports.specs.declared.body.Pause.{Pause}
-use Rattle.net_ports.specs.declared.body.Pause.TheVariants.{Ended, WantsRead, WantsWrite, BadToken, Fuel}
-use Rattle.net_instances.specs.Waits.{IsToldBy}
+use Rattle.net_core.specs.declared.body.Pause.{Pause}
+use Rattle.net_core.specs.declared.body.Pause.TheVariants.{Ended, WantsRead, WantsWrite, BadToken, Fuel}
+use Rattle.net_core.specs.Waits.{IsToldBy}
 use Rattle.run_program.specs.Pauses.{pause_line, in_list, last_pause_lines}
 use Rattle.run_program.specs.Run.{AreWaitLines}
 use Rattle.std.specs.Prelude.{slice_index}

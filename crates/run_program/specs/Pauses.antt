@@ -2,8 +2,8 @@
 use Rattle.std.specs.Prelude.{ℕ, List, [], ◌∷◌, Option, Some, None, slice_index}
 use Rattle.tapa_syntax.specs.declared.program.Instance.{Instance}
 use Rattle.tapa_syntax.specs.declared.program.Stream.{Stream}
-use Rattle.net_ports.specs.declared.body.Pause.{Pause}
-use Rattle.net_ports.specs.declared.body.Pause.TheVariants.{Ended, WantsRead, WantsWrite, BadToken, Fuel}
+use Rattle.net_core.specs.declared.body.Pause.{Pause}
+use Rattle.net_core.specs.declared.body.Pause.TheVariants.{Ended, WantsRead, WantsWrite, BadToken, Fuel}
 use Rattle.run_program.specs.Run.{label_of, read_line, write_line, bad_line}
 
 -- the stream at a position of an instance

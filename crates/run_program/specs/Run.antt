@@ -13,8 +13,8 @@ use Rattle.kahn_model.specs.Outcome as outcome
 use Rattle.kahn_model.specs.Outcome.{IsJoined, joined_ticks, IsDone, IsStopped, WaitsToRead, WaitsToWrite, HasBadToken}
 use Rattle.kahn_model.specs.Start.{network_of}
 use Rattle.kahn_model.specs.Cells.{cells_at}
-use Rattle.net_instances.specs.declared.input.Input.{Input}
-use Rattle.net_instances.specs.Bounded.{scalars_of, memories_of}
+use Rattle.net_core.specs.declared.input.Input.{Input}
+use Rattle.net_core.specs.Bounded.{scalars_of, memories_of}
 use Rattle.run_data.specs.Report.{stream_line, memory_line, last_line}
 use Rattle.run_data.specs.declared.lines.Last.{Last}
 use Rattle.run_data.specs.declared.lines.Last.TheVariants.{Done, Stopped, Running}

@@ -1,12 +1,12 @@
 // The cells of a memory after the ticks that its instance has made.
 ghost use Rattle.std.specs.Prelude.{ℕ, ◌≡◌, ◌<◌, ◌≤◌, List, [], length, slice_get, slice_index_or, Some, IfOk, MatchOption};
 ghost use Rattle.kahn_model.specs.Cells.{cells_at};
-ghost use Rattle.net_instances.specs.Bounded.{scalars_of, memories_of};
-ghost use Rattle.net_instances.specs.State.{count};
+ghost use Rattle.net_core.specs.Bounded.{scalars_of, memories_of};
+ghost use Rattle.net_core.specs.State.{count};
 ghost use Rattle.run_program.specs.Run.{IsNotBound};
 
 use coro_machine::Coro;
-use net_instances::{Input, Net};
+use net_core::{Input, Net};
 use tapa_base::{OutOfMemory, position_of};
 use tapa_syntax::Program;
 

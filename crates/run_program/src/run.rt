@@ -5,7 +5,7 @@ ghost use Rattle.tapa_files.specs.Outside.{Rose};
 ghost use Rattle.tapa_syntax.specs.WellFormed.{IsWellFormed};
 ghost use Rattle.kahn_model.specs.Fits.{FitsInput};
 ghost use Rattle.run_program.specs.Ending.{EndsSo, HasPart};
-ghost use Rattle.net_instances.specs.Bounded.{scalars_of, memories_of};
+ghost use Rattle.net_core.specs.Bounded.{scalars_of, memories_of};
 ghost use Rattle.run_program.specs.Fresh.{IsFresh};
 ghost use Rattle.run_program.specs.Run.{values_of};
 
@@ -13,8 +13,7 @@ use crate::shown::show;
 use crate::start::coroutines;
 use crate::waits::wait_lines;
 use coro_machine::Coro;
-use net_core::{Outcome, settle};
-use net_instances::{Input, Net};
+use net_core::{Input, Net, Outcome, settle};
 use run_data::Last;
 use std::alloc::Global;
 use std::sync::Arc;

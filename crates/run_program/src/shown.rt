@@ -3,15 +3,14 @@ ghost use Rattle.std.specs.Prelude.{◌≡◌, ◌<◌, ◌≤◌, ◌++◌, len
 ghost use Rattle.std.specs.Io.KnownBytes.{Appends};
 ghost use Rattle.tapa_files.specs.Outside.{AppendsPart, Rose};
 ghost use Rattle.run_data.specs.Report.{last_line};
-ghost use Rattle.net_instances.specs.State.{network, count};
+ghost use Rattle.net_core.specs.State.{network, count};
 ghost use Rattle.kahn_model.specs.Cells.{cells_at};
-ghost use Rattle.net_instances.specs.Bounded.{scalars_of, memories_of};
+ghost use Rattle.net_core.specs.Bounded.{scalars_of, memories_of};
 ghost use Rattle.run_program.specs.Run.{values_of, tokens_at, stream_lines, memory_lines, lines_at};
 
 use crate::cells::last_cells;
 use coro_machine::Coro;
-use net_instances::{Input, Net};
-use net_ports::Body;
+use net_core::{Body, Input, Net};
 use run_data::{Last, report_last, report_memory, report_stream};
 use std::alloc::Global;
 use tapa_base::Token;

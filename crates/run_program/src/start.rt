@@ -2,13 +2,13 @@
 ghost use Rattle.std.specs.Prelude.{ℕ, ◌≡◌, ◌<◌, [], length, IfOk};
 ghost use Rattle.tapa_syntax.specs.WellFormed.{IsWellFormed};
 ghost use Rattle.kahn_model.specs.Fits.{FitsInput};
-ghost use Rattle.net_instances.specs.Bounded.{instance_job, scalars_of, memories_of};
+ghost use Rattle.net_core.specs.Bounded.{instance_job, scalars_of, memories_of};
 ghost use Rattle.coro_machine.specs.Coro.{IsCoroOf};
 ghost use Rattle.run_program.specs.Started.{AreLowered, AreStarted};
 
 use coro_machine::{Coro, Machine};
 use kahn_model::start::{bound_values, first_cells};
-use net_instances::Input;
+use net_core::Input;
 use std::alloc::Global;
 use std::sync::Arc;
 use tapa_base::OutOfMemory;

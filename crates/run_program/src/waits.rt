@@ -2,14 +2,13 @@
 ghost use Rattle.std.specs.Prelude.{◌≡◌, ◌<◌, ◌≤◌, ◌++◌, length, codes, Some, None, IfOk, OnOk, MatchOption};
 ghost use Rattle.std.specs.Arc.{arc_value};
 ghost use Rattle.tapa_syntax.specs.WellFormed.{IsWellFormed};
-ghost use Rattle.net_instances.specs.State.{network, count};
+ghost use Rattle.net_core.specs.State.{network, count};
 ghost use Rattle.net_core.specs.Settle.{AreTold};
 ghost use Rattle.run_program.specs.Ending.{lines_in};
 ghost use Rattle.run_program.specs.Pauses.{bound_label, pause_line, last_pause_lines};
 ghost use Rattle.run_program.specs.Run.{label_of, wait_line, AreWaitLines};
 
-use net_instances::Net;
-use net_ports::{Body, Pause};
+use net_core::{Body, Net, Pause};
 use std::alloc::{AllocError, Global};
 use tapa_base::OutOfMemory;
 use tapa_syntax::{Instance, Program};

@@ -3,10 +3,10 @@ use Rattle.std.proofs.Common.{◌≡◌, ℕ, Bool, true, false, cond, ◌&&◌,
 use Rattle.std.specs.Prelude.{◌≢◌, ◌==◌, nat_lt}
 use Rattle.std.proofs.lemmas.Bool.{ne_eqb}
 use Rattle.vlog_tree.specs.Grounded.{Has}
-use Rattle.sim_operations.specs.declared.gates.Pair.{Pair}
+use Rattle.sim_tape.specs.declared.gates.Pair.{Pair}
 use Rattle.sim_tape.specs.Tape.{number_at, pair_value}
-use Rattle.sim_blocks.specs.declared.writes.Store.{Store}
-use Rattle.sim_blocks.specs.Next.{hits, cell_after}
+use Rattle.sim_gates.specs.declared.writes.Store.{Store}
+use Rattle.sim_gates.specs.Next.{hits, cell_after}
 
 -- one after another
 pub cells_both : (ns : List ℕ) (count : ℕ) (q : Pair) (a : ℕ) (xs ys : List Store) (n : ℕ) → cell_after ns count q a (xs ++ ys) n ≡ cell_after ns count q a ys (cell_after ns count q a xs n)

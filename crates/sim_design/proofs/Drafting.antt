@@ -4,18 +4,18 @@ use Rattle.std.specs.Prelude.{is_some}
 use Rattle.vlog_tree.specs.Form.{ModuleTree}
 use Rattle.vlog_tree.specs.Environment.{shape_of}
 use Rattle.vlog_tree.specs.Table.{declared, bits_of}
-use Rattle.vlog_law_runs.proofs.Sizes.{memory_item}
-use Rattle.sim_operations.specs.declared.gates.Pair.{Pair}
+use Rattle.vlog_run_laws.proofs.runs.Sizes.{memory_item}
+use Rattle.sim_tape.specs.declared.gates.Pair.{Pair}
 use Rattle.sim_tape.specs.Tape.{TapeTree, Extends}
 use Rattle.sim_tape.specs.Trees.{tree_of}
 use Rattle.sim_tape.proofs.Growing.{solved_on}
-use Rattle.sim_names.specs.declared.flat.Flat.{Flat}
-use Rattle.sim_names.specs.Flat.{IsFlat}
-use Rattle.sim_placed.specs.declared.plan.Plan.{Plan}
-use Rattle.sim_placed.specs.Plans.{IsPlan}
-use Rattle.sim_placed.specs.States.{AreMemories as OnlyMemories, MemoriesPlaced, Tells}
-use Rattle.sim_placed.specs.Given.{IsGivenPair, ArePlaced, AreGiven}
-use Rattle.sim_placed.proofs.Giving.{slot_given_on}
+use Rattle.sim_flat.specs.declared.flat.Flat.{Flat}
+use Rattle.sim_flat.specs.Flat.{IsFlat}
+use Rattle.sim_design.specs.declared.plan.Plan.{Plan}
+use Rattle.sim_design.specs.Plans.{IsPlan}
+use Rattle.sim_design.specs.States.{AreMemories as OnlyMemories, MemoriesPlaced, Tells}
+use Rattle.sim_design.specs.Given.{IsGivenPair, ArePlaced, AreGiven}
+use Rattle.sim_design.proofs.Giving.{slot_given_on}
 use Rattle.sim_design.specs.declared.drafts.Width.{Width}
 use Rattle.sim_design.specs.declared.drafts.Draft.{Draft}
 use Rattle.sim_design.specs.Drafts.{AreMemories, AreNext, IsDraft}

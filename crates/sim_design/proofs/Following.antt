@@ -10,24 +10,24 @@ use Rattle.vlog_tree.specs.Flattened.{FlatNet}
 use Rattle.vlog_tree.specs.Table.{declared, net_kind_of, net_kind_is_register}
 use Rattle.vlog_tree.specs.Cycle.{Cycle, Sizes, Path, Holds, module_at, run_items}
 use Rattle.vlog_tree.proofs.Lists.{has_got, has_left, has_right, has_split}
-use Rattle.vlog_law_runs.proofs.Sizes.{all_at, declared_net_kind}
+use Rattle.vlog_run_laws.proofs.runs.Sizes.{all_at, declared_net_kind}
 use Rattle.vlog_ref_start.proofs.Found.{some_of}
-use Rattle.sim_operations.specs.declared.gates.Pair.{Pair}
-use Rattle.sim_operations.specs.Operators.{Cells}
+use Rattle.sim_tape.specs.declared.gates.Pair.{Pair}
+use Rattle.sim_tape.specs.Operators.{Cells}
 use Rattle.sim_tape.specs.Tape.{TapeTree, Extends}
 use Rattle.sim_tape.specs.Solved.{IsSolved}
 use Rattle.sim_tape.proofs.Growing.{solved_on}
-use Rattle.sim_lower.specs.Nets.{pair_in}
-use Rattle.sim_blocks.specs.declared.writes.Store.{Store}
-use Rattle.sim_blocks.specs.Next.{cell_after, ShowsNext}
+use Rattle.sim_gates.specs.Nets.{pair_in}
+use Rattle.sim_gates.specs.declared.writes.Store.{Store}
+use Rattle.sim_gates.specs.Next.{cell_after, ShowsNext}
 use Rattle.sim_flat.specs.Instances.{StandsAt, IsModuleOf}
-use Rattle.sim_names.specs.declared.flat.Flat.{Flat}
-use Rattle.sim_names.specs.Places.{DeclaredAt}
-use Rattle.sim_names.specs.Flat.{HasNumber}
-use Rattle.sim_names.proofs.Names.{place_is}
-use Rattle.sim_placed.specs.Valuations.{IsLawful, IsValuation}
-use Rattle.sim_placed.specs.States.{ShowsPlaced}
-use Rattle.sim_placed.proofs.Parts.{is_at, shows_nets}
+use Rattle.sim_flat.specs.declared.flat.Flat.{Flat}
+use Rattle.sim_flat.specs.Places.{DeclaredAt}
+use Rattle.sim_flat.specs.Flat.{HasNumber}
+use Rattle.sim_flat.proofs.Names.{place_is}
+use Rattle.sim_design.specs.Valuations.{IsLawful, IsValuation}
+use Rattle.sim_design.specs.States.{ShowsPlaced}
+use Rattle.sim_design.proofs.Parts.{is_at, shows_nets}
 use Rattle.sim_design.specs.declared.drafts.Commit.{Commit}
 use Rattle.sim_design.specs.declared.drafts.Width.{Width}
 use Rattle.sim_design.specs.Commits.{commits_of, commits_below}

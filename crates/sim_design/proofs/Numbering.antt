@@ -14,17 +14,17 @@ use Rattle.vlog_tree.specs.Cycle.{module_at}
 use Rattle.vlog_tree.specs.Environment.{shape_of}
 use Rattle.vlog_tree.specs.Table.{declared, find_name, net_kind_of, net_kind_is_memory}
 use Rattle.vlog_tree.proofs.Lists.{has_got}
-use Rattle.vlog_law_runs.proofs.Alike.{memory_is}
-use Rattle.vlog_law_runs.proofs.Alone.{stands_for}
-use Rattle.vlog_law_runs.proofs.Settled.{module_in}
-use Rattle.vlog_law_runs.proofs.Sizes.{has_line}
-use Rattle.sim_operations.specs.declared.gates.Pair.{Pair}
-use Rattle.sim_names.specs.declared.flat.Flat.{Flat}
-use Rattle.sim_names.specs.declared.tables.Table.{Table}
-use Rattle.sim_names.specs.Flat.{IsFlat, HasNumber}
-use Rattle.sim_names.specs.Edges.{table_at, base_at}
-use Rattle.sim_names.proofs.Got.{got_left, got_behind}
-use Rattle.sim_names.proofs.Standing.{module_of, table_of, number_low}
+use Rattle.vlog_run_laws.proofs.runs.Alike.{memory_is}
+use Rattle.vlog_run_laws.proofs.runs.Alone.{stands_for}
+use Rattle.vlog_run_laws.proofs.runs.Settled.{module_in}
+use Rattle.vlog_run_laws.proofs.runs.Sizes.{has_line}
+use Rattle.sim_tape.specs.declared.gates.Pair.{Pair}
+use Rattle.sim_flat.specs.declared.flat.Flat.{Flat}
+use Rattle.sim_flat.specs.declared.tables.Table.{Table}
+use Rattle.sim_flat.specs.Flat.{IsFlat, HasNumber}
+use Rattle.sim_flat.specs.Edges.{table_at, base_at}
+use Rattle.sim_flat.proofs.Got.{got_left, got_behind}
+use Rattle.sim_flat.proofs.Standing.{module_of, table_of, number_low}
 use Rattle.sim_design.specs.declared.drafts.Width.{Width}
 use Rattle.sim_design.specs.Memories.{declaration_at, memory_pair, number_for, widths_for, IsMemoryAt, IsMemoryOf, AreNumbersBelow}
 use Rattle.sim_design.specs.Drafts.{AreMemories}

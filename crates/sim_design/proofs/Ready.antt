@@ -17,12 +17,12 @@ use Rattle.vlog_tree.specs.Table.{Name, NameUse, is_clk, declared, net_kind_of, 
 use Rattle.vlog_tree.specs.V2.{read_use, register_use, memory_use, inner_use, step_uses, item_uses}
 use Rattle.vlog_tree.specs.V3.{v3_uses, module_widths, item_widths, port_widths, step_widths, net_fits, memory_fits, has_bits, atom_bits, atom_fits}
 use Rattle.vlog_tree.proofs.Lists.{has_flat, has_right}
-use Rattle.vlog_law_runs.proofs.Sound.{right, both_false, not_no, item_right, atom_read}
-use Rattle.vlog_law_runs.proofs.Sizes.{all_from, register_item}
-use Rattle.sim_operations.specs.declared.gates.Pair.{Pair}
-use Rattle.sim_lower.specs.Nets.{pair_in}
-use Rattle.sim_blocks.specs.Parts.{is_condition, has_conditions}
-use Rattle.sim_blocks.specs.Ready.{IsStepReady, IsReady}
+use Rattle.vlog_run_laws.proofs.runs.Sound.{right, both_false, not_no, item_right, atom_read}
+use Rattle.vlog_run_laws.proofs.runs.Sizes.{all_from, register_item}
+use Rattle.sim_tape.specs.declared.gates.Pair.{Pair}
+use Rattle.sim_gates.specs.Nets.{pair_in}
+use Rattle.sim_gates.specs.Parts.{is_condition, has_conditions}
+use Rattle.sim_gates.specs.Ready.{IsStepReady, IsReady}
 
 pub register_is : (s : NetKind) → net_kind_is_register s ≡ true → s ≡ kind.Register
 register_is kind.Unknown h = cc

@@ -6,7 +6,7 @@ use Rattle.vlog_tree.specs.declared.table.Declaration.{Declaration}
 use Rattle.vlog_tree.specs.Grounded.{Has}
 use Rattle.vlog_tree.specs.Table.{net_kind_is_register}
 use Rattle.vlog_tree.proofs.Lists.{has_got, has_left, has_right, has_split}
-use Rattle.sim_operations.specs.declared.gates.Pair.{Pair}
+use Rattle.sim_tape.specs.declared.gates.Pair.{Pair}
 use Rattle.sim_design.specs.declared.drafts.Commit.{Commit}
 use Rattle.sim_design.specs.Commits.{commits_of, commits_at, commits_for, commits_below}
 use Rattle.sim_design.specs.Drafts.{IsCommitted}

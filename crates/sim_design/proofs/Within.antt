@@ -14,22 +14,22 @@ use Rattle.vlog_tree.specs.Table.{Name, declared, declaration_name, net_kind_of,
 use Rattle.vlog_tree.specs.Cycle.{Path, and_then, module_at}
 use Rattle.vlog_tree.proofs.Lists.{has_got}
 use Rattle.vlog_scope.specs.NameTable.{places_from}
-use Rattle.vlog_law_runs.proofs.Alike.{memory_is}
-use Rattle.vlog_law_runs.proofs.Sizes.{all_at, memory_item, register_item, declared_net_kind, has_line}
-use Rattle.vlog_law_runs.proofs.Settled.{module_in}
-use Rattle.sim_operations.specs.declared.gates.Pair.{Pair}
+use Rattle.vlog_run_laws.proofs.runs.Alike.{memory_is}
+use Rattle.vlog_run_laws.proofs.runs.Sizes.{all_at, memory_item, register_item, declared_net_kind, has_line}
+use Rattle.vlog_run_laws.proofs.runs.Settled.{module_in}
+use Rattle.sim_tape.specs.declared.gates.Pair.{Pair}
 use Rattle.sim_tape.specs.Tape.{TapeTree}
-use Rattle.sim_lower.specs.Nets.{pair_in}
-use Rattle.sim_blocks.specs.Next.{AreApart}
-use Rattle.sim_blocks.specs.Ready.{IsReady}
+use Rattle.sim_gates.specs.Nets.{pair_in}
+use Rattle.sim_gates.specs.Next.{AreApart}
+use Rattle.sim_gates.specs.Ready.{IsReady}
 use Rattle.sim_flat.specs.Instances.{StandsAt, IsModuleOf}
-use Rattle.sim_names.specs.declared.flat.Flat.{Flat}
-use Rattle.sim_names.specs.Places.{place_in, DeclaredAt}
-use Rattle.sim_names.specs.Flat.{IsFlat, HasNumber}
-use Rattle.sim_names.proofs.Standing.{module_of, in_top}
-use Rattle.sim_placed.specs.States.{IsFree}
-use Rattle.sim_placed.specs.Given.{HaveOwnSlots}
-use Rattle.sim_placed.proofs.Parts.{there, is_at}
+use Rattle.sim_flat.specs.declared.flat.Flat.{Flat}
+use Rattle.sim_flat.specs.Places.{place_in, DeclaredAt}
+use Rattle.sim_flat.specs.Flat.{IsFlat, HasNumber}
+use Rattle.sim_flat.proofs.Standing.{module_of, in_top}
+use Rattle.sim_design.specs.States.{IsFree}
+use Rattle.sim_design.specs.Given.{HaveOwnSlots}
+use Rattle.sim_design.proofs.Parts.{there, is_at}
 use Rattle.sim_design.specs.declared.drafts.Width.{Width}
 use Rattle.sim_design.specs.declared.drafts.Commit.{Commit}
 use Rattle.sim_design.specs.Left.{own_pairs}

@@ -5,17 +5,17 @@ use Rattle.vlog_tree.specs.Form.{ModuleTree}
 use Rattle.vlog_tree.specs.Grounded.{Has}
 use Rattle.vlog_tree.specs.Flattened.{FlatNet}
 use Rattle.vlog_tree.specs.Cycle.{Cycle, Sizes, Path, module_at, run_items}
-use Rattle.sim_operations.specs.declared.gates.Pair.{Pair}
-use Rattle.sim_operations.specs.Operators.{Cells}
+use Rattle.sim_tape.specs.declared.gates.Pair.{Pair}
+use Rattle.sim_tape.specs.Operators.{Cells}
 use Rattle.sim_tape.specs.Tape.{TapeTree, pair_value}
 use Rattle.sim_tape.specs.Solved.{IsSolved}
-use Rattle.sim_blocks.specs.declared.writes.Store.{Store}
-use Rattle.sim_blocks.specs.Next.{cell_after}
-use Rattle.sim_names.specs.declared.flat.Flat.{Flat}
-use Rattle.sim_names.specs.Flat.{IsFlat, HasNumber}
-use Rattle.sim_placed.specs.Valuations.{IsLawful, IsValuation}
-use Rattle.sim_placed.specs.States.{ShowsPlaced}
-use Rattle.sim_placed.specs.Given.{ArePlaced, AreGiven}
+use Rattle.sim_gates.specs.declared.writes.Store.{Store}
+use Rattle.sim_gates.specs.Next.{cell_after}
+use Rattle.sim_flat.specs.declared.flat.Flat.{Flat}
+use Rattle.sim_flat.specs.Flat.{IsFlat, HasNumber}
+use Rattle.sim_design.specs.Valuations.{IsLawful, IsValuation}
+use Rattle.sim_design.specs.States.{ShowsPlaced}
+use Rattle.sim_design.specs.Given.{ArePlaced, AreGiven}
 use Rattle.sim_design.specs.declared.drafts.Commit.{Commit}
 use Rattle.sim_design.specs.declared.drafts.Width.{Width}
 use Rattle.sim_design.specs.Drafts.{AreMemories, IsCommitted}

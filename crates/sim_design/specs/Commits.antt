@@ -2,7 +2,7 @@
 use Rattle.std.specs.Prelude.{ℕ, Bool, false, List, [], ◌∷◌, Option, Some, None, ◌++◌, zero, suc, get_or, slice_get, ◌==◌, if◌then◌else◌}
 use Rattle.vlog_tree.specs.declared.table.Declaration.{Declaration}
 use Rattle.vlog_tree.specs.Table.{net_kind_is_register}
-use Rattle.sim_operations.specs.declared.gates.Pair.{Pair}
+use Rattle.sim_tape.specs.declared.gates.Pair.{Pair}
 use Rattle.sim_design.specs.declared.drafts.Commit.{Commit}
 
 -- the commits that bring the numbers of one pair into another; slot 0 takes over none

@@ -8,21 +8,21 @@ use Rattle.vlog_tree.specs.Flattened.{FlatNet}
 use Rattle.vlog_tree.specs.Table.{declared, net_kind_of}
 use Rattle.vlog_tree.specs.Cycle.{Cycle, Sizes, Path, module_at, run_items}
 use Rattle.vlog_tree.specs.Environment.{shape_of}
-use Rattle.sim_operations.specs.declared.gates.Pair.{Pair}
-use Rattle.sim_operations.specs.Operators.{Cells}
+use Rattle.sim_tape.specs.declared.gates.Pair.{Pair}
+use Rattle.sim_tape.specs.Operators.{Cells}
 use Rattle.sim_tape.specs.Tape.{TapeTree, IsTape, pair_value}
 use Rattle.sim_tape.specs.Solved.{IsSolved}
 use Rattle.sim_tape.specs.Trees.{tree_of}
-use Rattle.sim_blocks.specs.declared.writes.Store.{Store}
-use Rattle.sim_blocks.specs.Next.{cell_after}
-use Rattle.sim_names.specs.declared.flat.Flat.{Flat}
-use Rattle.sim_names.specs.Flat.{IsFlat, HasNumber}
+use Rattle.sim_gates.specs.declared.writes.Store.{Store}
+use Rattle.sim_gates.specs.Next.{cell_after}
+use Rattle.sim_flat.specs.declared.flat.Flat.{Flat}
+use Rattle.sim_flat.specs.Flat.{IsFlat, HasNumber}
 use Rattle.sim_design.specs.declared.drafts.Commit.{Commit}
 use Rattle.sim_design.specs.declared.drafts.Width.{Width}
 use Rattle.sim_design.specs.declared.drafts.Draft.{Draft}
-use Rattle.sim_placed.specs.Valuations.{IsLawful, IsValuation}
-use Rattle.sim_placed.specs.States.{ShowsPlaced, Tells}
-use Rattle.sim_placed.specs.Given.{ArePlaced, AreGiven}
+use Rattle.sim_design.specs.Valuations.{IsLawful, IsValuation}
+use Rattle.sim_design.specs.States.{ShowsPlaced, Tells}
+use Rattle.sim_design.specs.Given.{ArePlaced, AreGiven}
 
 -- The memories inside have two numbers each, one behind the other, behind those of the memories outside.
 pub record AreMemories (ms : List ModuleTree) (top : ModuleTree) (f : Flat) (memories : List (Option Pair)) (widths : List Width) : Type 0 where

@@ -5,14 +5,14 @@ use Rattle.vlog_tree.specs.declared.tree.Item.{Item}
 use Rattle.vlog_tree.specs.declared.table.Declaration.{Declaration}
 use Rattle.vlog_tree.specs.Form.{ModuleTree}
 use Rattle.vlog_tree.specs.Cycle.{run_items}
-use Rattle.sim_operations.specs.declared.gates.Pair.{Pair}
+use Rattle.sim_tape.specs.declared.gates.Pair.{Pair}
 use Rattle.sim_tape.specs.Tape.{TapeTree}
-use Rattle.sim_lower.specs.Nets.{Told}
-use Rattle.sim_blocks.specs.declared.writes.Store.{Store}
-use Rattle.sim_blocks.specs.Parts.{has_conditions}
-use Rattle.sim_blocks.specs.Next.{ShowsNext, AreApart, AreKnown, SamePlaces}
+use Rattle.sim_gates.specs.Nets.{Told}
+use Rattle.sim_gates.specs.declared.writes.Store.{Store}
+use Rattle.sim_gates.specs.Parts.{has_conditions}
+use Rattle.sim_gates.specs.Next.{ShowsNext, AreApart, AreKnown, SamePlaces}
 use Rattle.sim_flat.specs.declared.instances.Instance as row
-use Rattle.sim_names.specs.declared.flat.Flat.{Flat}
+use Rattle.sim_flat.specs.declared.flat.Flat.{Flat}
 use Rattle.sim_design.specs.declared.drafts.Commit.{Commit}
 use Rattle.sim_design.specs.Commits.{commits_below}
 

@@ -1,3 +1,9 @@
+pub mod Valuations
+pub mod States
+pub mod Lines
+pub mod Plans
+pub mod Placed
+pub mod Given
 pub mod Memories
 pub mod Commits
 pub mod Left

@@ -2,10 +2,10 @@
 use Rattle.std.specs.Prelude.{◌≡◌, ℕ, ◌+◌, ◌*◌, ◌-◌, ◌<◌, true, List, [], ◌∷◌, Option, Some, None, length, get_or, slice_get, option_and_then, if◌then◌else◌}
 use Rattle.vlog_tree.specs.declared.table.Declaration.{Declaration}
 use Rattle.vlog_tree.specs.Table.{net_kind_is_memory}
-use Rattle.sim_operations.specs.declared.gates.Pair.{Pair}
-use Rattle.sim_names.specs.declared.flat.Flat.{Flat}
-use Rattle.sim_names.specs.declared.tables.Table.{Table}
-use Rattle.sim_names.specs.Edges.{table_at, base_at}
+use Rattle.sim_tape.specs.declared.gates.Pair.{Pair}
+use Rattle.sim_flat.specs.declared.flat.Flat.{Flat}
+use Rattle.sim_flat.specs.declared.tables.Table.{Table}
+use Rattle.sim_flat.specs.Edges.{table_at, base_at}
 use Rattle.sim_design.specs.declared.drafts.Width.{Width}
 
 -- the declaration of a number's name

@@ -4,13 +4,13 @@ ghost use Rattle.std.specs.Prelude.{◌≡◌, ◌++◌, ◌∷◌, [], List, le
 ghost use Rattle.vlog_tree.specs.Form.{ModuleTree};
 ghost use Rattle.vlog_tree.specs.Table.{net_kind_is_memory};
 ghost use Rattle.vlog_tree.specs.Environment.{shape_of};
-ghost use Rattle.sim_names.specs.Flat.{IsFlat};
+ghost use Rattle.sim_flat.specs.Flat.{IsFlat};
 ghost use Rattle.sim_design.specs.Memories.{declaration_at, memory_pair, number_for, widths_for};
 ghost use Rattle.sim_design.specs.Drafts.{AreMemories};
 
 use crate::drafts::Width;
-use sim_names::{Flat, base_at, owner_of, table_at};
-use sim_operations::Pair;
+use sim_flat::{Flat, base_at, owner_of, table_at};
+use sim_tape::Pair;
 use std::alloc::{AllocError, Global};
 use vlog_tree::{Declaration, NetKind};
 

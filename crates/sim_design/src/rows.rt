@@ -6,8 +6,8 @@ ghost use Rattle.std.specs.List.{AllByRecursion};
 ghost use Rattle.vlog_tree.specs.Form.{ModuleTree};
 ghost use Rattle.sim_tape.specs.Tape.{TapeTree, Extends, IsTape};
 ghost use Rattle.sim_tape.specs.Trees.{tree_of};
-ghost use Rattle.sim_lower.specs.Nets.{SlotsBefore};
-ghost use Rattle.sim_blocks.specs.Ready.{IsReady};
+ghost use Rattle.sim_gates.specs.Nets.{SlotsBefore};
+ghost use Rattle.sim_gates.specs.Ready.{IsReady};
 ghost use Rattle.sim_design.specs.Commits.{commits_below};
 ghost use Rattle.sim_design.specs.Left.{own_pairs, module_of_instance, AreLeft, AreAdded};
 ghost use Rattle.sim_design.specs.Drafts.{AreNext};
@@ -15,12 +15,10 @@ ghost use Rattle.sim_design.specs.Below.{HasPlaces, AreNextBelow};
 
 use crate::drafts::Draft;
 use crate::next::{add_commits, add_stores};
-use sim_blocks::{Blocks, blocks_of};
-use sim_lower::Nets;
-use sim_names::{Flat, Table, base_at, table_at};
-use sim_operations::Pair;
-use sim_placed::part_of;
-use sim_tape::Tape;
+use sim_gates::{Blocks, Nets, blocks_of};
+use sim_flat::{Flat, Table, base_at, table_at};
+use sim_tape::{Pair, Tape};
+use crate::slices::part_of;
 use std::alloc::{AllocError, Global};
 use vlog_tree::Module;
 

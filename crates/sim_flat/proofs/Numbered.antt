@@ -11,11 +11,11 @@ use Rattle.vlog_tree.specs.Loops.{item_instances, instances}
 use Rattle.vlog_tree.specs.V6.{is_top}
 use Rattle.vlog_tree.specs.Refused.{IsDesign}
 use Rattle.vlog_tree.proofs.Lists.{has_flat, has_got, got_has}
-use Rattle.vlog_law_runs.proofs.Alone.{module_there, instance_item}
-use Rattle.vlog_law_runs.proofs.Sound.{is_known_module}
-use Rattle.vlog_law_runs.proofs.Settled.{module_in, child_at}
-use Rattle.vlog_law_runs.proofs.Solved.{child_item, Around, module_around}
-use Rattle.vlog_law_loops.proofs.Climbed.{named_is}
+use Rattle.vlog_run_laws.proofs.runs.Alone.{module_there, instance_item}
+use Rattle.vlog_run_laws.proofs.runs.Sound.{is_known_module}
+use Rattle.vlog_run_laws.proofs.runs.Settled.{module_in, child_at}
+use Rattle.vlog_run_laws.proofs.runs.Solved.{child_item, Around, module_around}
+use Rattle.vlog_run_laws.proofs.loops.Climbed.{named_is}
 use Rattle.vlog_ref_start.proofs.Short.{way_short}
 use Rattle.sim_flat.specs.declared.instances.Instance as row
 use Rattle.sim_flat.specs.Kinds.{kind_place, module_kinds, all_kinds}

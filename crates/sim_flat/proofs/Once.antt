@@ -14,7 +14,7 @@ use Rattle.vlog_tree.specs.Table.{Name, declared, port_declared, items_declared,
 use Rattle.vlog_tree.specs.V2.{v2_uses}
 use Rattle.vlog_tree.specs.Loops.{item_instances, instances}
 use Rattle.vlog_tree.proofs.Lists.{has_got}
-use Rattle.vlog_law_runs.proofs.Alone.{same_name, count_cons, twice_counted, below_two, declared_once, instance_item, instance_single}
+use Rattle.vlog_run_laws.proofs.runs.Alone.{same_name, count_cons, twice_counted, below_two, declared_once, instance_item, instance_single}
 
 -- what is counted less than twice stands at one place
 pub position_once : {A : Type 0} (p : A → Bool) (xs : List A) (c e : ℕ) (x y : A) → slice_get xs c ≡ Some x → slice_get xs e ≡ Some y → p x ≡ true → p y ≡ true → count_by p xs < 2 → c ≡ e

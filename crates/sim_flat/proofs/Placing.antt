@@ -10,7 +10,7 @@ use Rattle.vlog_tree.specs.Form.{ModuleTree}
 use Rattle.vlog_tree.specs.Table.{Name, declaration_name, module_declared, module_named}
 use Rattle.vlog_tree.specs.Loops.{item_instances, instances}
 use Rattle.vlog_scope.specs.NameTable.{places_from}
-use Rattle.vlog_graph.specs.Graphs.{rows_of}
+use Rattle.number_graph.specs.Graphs.{rows_of}
 use Rattle.sim_flat.specs.Kinds.{kind_place, item_kinds, module_kinds, all_kinds}
 
 abbrev names_in : List ModuleTree → List Name

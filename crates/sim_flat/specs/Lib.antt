@@ -1,3 +1,10 @@
 pub mod Kinds
 pub mod Rows
 pub mod Instances
+pub mod Places
+pub mod Tables
+pub mod Flat
+pub mod Numbering
+pub mod Written
+pub mod Edges
+pub mod Order

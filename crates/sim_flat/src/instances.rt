@@ -4,7 +4,7 @@ ghost use Rattle.std.specs.Prelude.{◌≡◌, ◌+◌, ◌<◌, ◌≤◌, ◌+
 ghost use Rattle.vlog_tree.specs.Form.{ModuleTree};
 ghost use Rattle.vlog_tree.specs.Table.{module_declared};
 ghost use Rattle.vlog_design.specs.Designs.{TopOf};
-ghost use Rattle.vlog_graph.specs.Graphs.{rows_of, targets_of};
+ghost use Rattle.number_graph.specs.Graphs.{rows_of, targets_of};
 ghost use Rattle.sim_flat.specs.Kinds.{kind_place, all_kinds};
 ghost use Rattle.sim_flat.specs.Rows.{row_at, rows_inside, AreMore, AreRows, HaveDepth};
 ghost use Rattle.sim_flat.specs.Instances.{AreInstances};

@@ -1,7 +1,7 @@
 // The modules of instances by their places.
 
 ghost use Rattle.std.specs.Prelude.{◌≡◌, ◌++◌, ◌∷◌, [], IfOk, OnOk};
-ghost use Rattle.vlog_graph.specs.Graphs.{rows_of};
+ghost use Rattle.number_graph.specs.Graphs.{rows_of};
 ghost use Rattle.sim_flat.specs.Kinds.{kind_place, item_kinds, module_kinds, all_kinds};
 
 use std::alloc::{AllocError, Global};

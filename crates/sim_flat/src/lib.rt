@@ -1,8 +1,18 @@
 //! The instances of a design by number, each with its module's place, the instance around it and its place among the instances there.
 #![tactic(auto)]
 
+mod edges;
+mod flat;
 mod instances;
 mod kinds;
+mod laws;
+mod links;
+mod order;
+mod places;
+mod tables;
 
-pub use instances::{Instance, Instances, instances_of};
-pub use kinds::place_of;
+pub use flat::{Flat, base_at, flatten, owner_of, table_at};
+pub use laws::law_parts_come_first;
+pub use links::{net_around, net_inside};
+pub use order::order_of_nets;
+pub use tables::{Source, Table};

@@ -1,3 +1,4 @@
+pub mod Operators
 pub mod Tape
 pub mod Solved
 pub mod Trees

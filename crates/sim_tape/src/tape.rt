@@ -1,15 +1,15 @@
 // A tape that grows gate by gate.
 
 ghost use Rattle.std.specs.Prelude.{◌≡◌, ◌+◌, ◌*◌, ◌<◌, ◌≤◌, ◌^◌, true, length, IfOk, OnOk};
-ghost use Rattle.sim_operations.specs.declared.gates.Rule.TheVariants as rules;
+ghost use Rattle.sim_tape.specs.declared.gates.Rule.TheVariants as rules;
 ghost use Rattle.vlog_tree.specs.Cycle.{op_value};
-ghost use Rattle.sim_operations.specs.Operators.{operator_value};
+ghost use Rattle.sim_tape.specs.Operators.{operator_value};
 ghost use Rattle.sim_tape.specs.Tape.{gate_at, number_at, pair_value, wide_at, wide_value, Extends, HasGate, IsTape, PairBefore, ReadsBefore, WideBefore};
 ghost use Rattle.sim_tape.specs.Solved.{Says};
 ghost use Rattle.sim_tape.specs.Trees.{tree_of};
 
 use crate::program::Program;
-use sim_operations::{Gate, Operator, Pair, Rule, Wide};
+use crate::gates::{Gate, Operator, Pair, Rule, Wide};
 use std::alloc::{AllocError, Global};
 use std::collections::HashMap;
 use vlog_tree::BinaryOp;

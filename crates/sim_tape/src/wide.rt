@@ -3,8 +3,8 @@
 ghost use Rattle.std.specs.Prelude.{◌≡◌, ◌+◌, ◌*◌, ◌/◌, ◌%◌, ◌^◌, ◌<◌, ◌≤◌, length};
 ghost use Rattle.sim_tape.specs.Tape.{pair_value, wide_value, PairBefore};
 
-use sim_operations::{Pair, Wide};
-use vlog_ref_driver::apply;
+use crate::gates::{Pair, Wide};
+use vlog_values::apply;
 
 fn number_of(numbers: &[u64], pair: Pair) -> u128
     requires { PairBefore (length numbers.now) pair }

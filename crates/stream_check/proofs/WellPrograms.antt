@@ -24,7 +24,7 @@ use Rattle.tapa_syntax.specs.WellFormed.{IsBoundTo, IsEndOf, IsInstance, IsJoine
 use Rattle.check_scope.specs.declared.fault.CheckCode.TheVariants.{C3}
 use Rattle.check_leaf.proofs.Leaves.{leaf_well}
 use Rattle.check_upper.specs.declared.task.Channel.{Channel}
-use Rattle.check_users.specs.One.{is_one, the_one}
+use Rattle.check_scope.specs.One.{is_one, the_one}
 use Rattle.stream_check.specs.Items.{no_items, items_faults, tasks_of}
 use Rattle.check_upper.specs.Tasks.{leaf_body, Task, task_position}
 use Rattle.stream_check.specs.Parts.{streams_in, instances_in}

@@ -6,7 +6,7 @@ use Rattle.tapa_syntax.specs.declared.program.End.{End}
 use Rattle.tapa_syntax.specs.LeafKinds.{writes_of}
 use Rattle.tapa_syntax.specs.Flat.{FlatInstance}
 use Rattle.check_upper.specs.Tasks.{Task}
-use Rattle.check_users.specs.One.{is_one, the_one}
+use Rattle.check_scope.specs.One.{is_one, the_one}
 use Rattle.stream_check.specs.Programs.{is_end, bound_ends, ends_of, instances_at, bound_memories, instances_with}
 use Rattle.stream_check.proofs.WellLists.{nothing, the_same, both, not_so}
 

@@ -18,7 +18,7 @@ use Rattle.check_scope.specs.declared.fault.CheckCode.TheVariants.{C4, C5, C7, C
 use Rattle.check_scope.specs.Faults.{over, where_so}
 use Rattle.check_upper.specs.declared.task.Channel.{Channel}
 use Rattle.check_upper.specs.Tasks.{Task}
-use Rattle.check_users.specs.One.{is_one, the_one, one_faults}
+use Rattle.check_scope.specs.One.{is_one, the_one, one_faults}
 use Rattle.stream_check.specs.Parts.{Part, own, instance, too_deep, streams_in, instances_in}
 use Rattle.stream_check.specs.Programs.{is_stream_parameter, top_scalars, top_memories, top_instance, limit_faults, instances_at, instances_with, stream_faults, stream_of, streams_faults, streams_of, memories_faults, memories_of, scalars_of}
 use Rattle.stream_check.proofs.WellLists.{nothing, the_same, no_faults, holds, get_left, get_last, Pairs, pairs_push}

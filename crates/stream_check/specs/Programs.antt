@@ -15,7 +15,7 @@ use Rattle.check_scope.specs.declared.fault.CheckCode.TheVariants.{C1, C3, C4, C
 use Rattle.check_scope.specs.Faults.{fault, over, where_so}
 use Rattle.check_upper.specs.declared.task.Channel.{Channel}
 use Rattle.check_upper.specs.Tasks.{Body, leaf_body, upper_body, Task, task_position}
-use Rattle.check_users.specs.One.{the_one, one_faults}
+use Rattle.check_scope.specs.One.{the_one, one_faults}
 use Rattle.stream_check.specs.Items.{no_items, items_faults, tasks_of}
 use Rattle.stream_check.specs.Parts.{Part, own, instance, too_deep, streams_in, instances_in, parts_of}
 

@@ -4,13 +4,12 @@ ghost use Rattle.tapa_syntax.specs.Flat.{FlatInstance, flat_instance};
 ghost use Rattle.check_scope.specs.Answers.{Answers};
 ghost use Rattle.check_upper.specs.Tasks as table;
 ghost use Rattle.check_upper.specs.Views.{task_view};
-ghost use Rattle.check_users.specs.Users.{users_of, with_user, with_users};
-ghost use Rattle.check_users.specs.declared.users.Users.{Users as Among};
+ghost use Rattle.check_scope.specs.Users.{users_of, with_user, with_users};
+ghost use Rattle.check_scope.specs.declared.users.Users.{Users as Among};
 ghost use Rattle.stream_check.specs.Programs as program;
 
-use check_scope::{CheckCode, CheckFault, copied, next_number, number_of, refused};
+use check_scope::{CheckCode, CheckFault, UserTable, Users, copied, next_number, number_of, refused};
 use check_upper::{Body, Channel, Task};
-use check_users::{UserTable, Users};
 use std::alloc::Global;
 use tapa_syntax::{End, Instance, Memory, Parameter, Stream};
 

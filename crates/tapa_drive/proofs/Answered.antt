@@ -3,16 +3,16 @@ use Rattle.std.proofs.Common.{◌≡◌, ◌≢◌, ◌⊎◌, ℕ, List, Ok, Er
 use Rattle.plan_device.specs.declared.fault.DeviceFault.TheVariants as device_fault
 use Rattle.run_data.specs.declared.data.DataFault.TheVariants.{J1, J2, J3, J4, OutOfMemory}
 use Rattle.vlog_tree.specs.declared.fault.VFault.TheVariants as verilog_fault
-use Rattle.command_files.specs.Meaning.{refusal_of}
-use Rattle.command_files.specs.Outside.{Outside}
-use Rattle.command_files.specs.Refusal.{Refusal, Memory, IsFixed}
-use Rattle.command_files.specs.Refusal as spec
-use Rattle.command_files.specs.Status.{status_of}
-use Rattle.command_files.specs.Told.{IsToldAs}
-use Rattle.command_files.specs.declared.refusal.Refusal.{Refusal as CodeRefusal}
-use Rattle.command_files.specs.declared.refusal.Refusal.TheVariants as code
-use Rattle.command_files.specs.declared.status.Status.{Status}
-use Rattle.command_files.specs.declared.status.Status.TheVariants as status
+use Rattle.command_source.specs.Meaning.{refusal_of}
+use Rattle.command_source.specs.Outside.{Outside}
+use Rattle.command_source.specs.Refusal.{Refusal, Memory, IsFixed}
+use Rattle.command_source.specs.Refusal as spec
+use Rattle.command_source.specs.Status.{status_of}
+use Rattle.command_source.specs.Told.{IsToldAs}
+use Rattle.command_source.specs.declared.refusal.Refusal.{Refusal as CodeRefusal}
+use Rattle.command_source.specs.declared.refusal.Refusal.TheVariants as code
+use Rattle.command_source.specs.declared.status.Status.{Status}
+use Rattle.command_source.specs.declared.status.Status.TheVariants as status
 use Rattle.tapa_drive.specs.Answer.{HasCause, HasPartOf, Leaves, IsAnswer}
 use Rattle.tapa_drive.specs.Carried.{IsCarriedOut}
 

@@ -4,12 +4,12 @@ use Rattle.std.specs.Io.KnownBytes.{Appends}
 use Rattle.tapa_files.specs.Outside.{Files, AppendsPart}
 use Rattle.tapa_syntax.specs.declared.program.Program.{Program}
 use Rattle.tapa_words.specs.Words.{Build, command_of}
-use Rattle.command_files.specs.Files.{OfSource, source_limit}
-use Rattle.command_files.specs.Meaning.{refusal_of}
-use Rattle.command_files.specs.Outside.{Outside, Written, outside}
-use Rattle.command_files.specs.Source.{IsProgramOf}
-use Rattle.command_files.specs.declared.refusal.Refusal.{Refusal as CodeRefusal}
-use Rattle.command_files.proofs.OfFiles.{of_file_also}
+use Rattle.command_source.specs.Files.{OfSource, source_limit}
+use Rattle.command_source.specs.Meaning.{refusal_of}
+use Rattle.command_source.specs.Outside.{Outside, Written, outside}
+use Rattle.command_source.specs.Source.{IsProgramOf}
+use Rattle.command_source.specs.declared.refusal.Refusal.{Refusal as CodeRefusal}
+use Rattle.command_source.proofs.OfFiles.{of_file_also}
 use Rattle.command_plans.specs.Built.{IsCircuitText, HasCircuit}
 use Rattle.command_plans.specs.Unwritten.{IsUnwritten}
 use Rattle.command_plans.proofs.Put.{WritesWhole}

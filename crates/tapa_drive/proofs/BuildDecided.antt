@@ -7,13 +7,13 @@ use Rattle.tapa_files.specs.Take.{IsLongerThan}
 use Rattle.tapa_words.specs.Words.{Run, Build, Plan, Cosim, command_of}
 use Rattle.tapa_words.specs.declared.command.PlanAim.{PlanAim}
 use Rattle.tapa_words.specs.declared.command.PlanMode.{PlanMode}
-use Rattle.command_files.specs.Files.{OfFile, OfSource, source_limit, data_limit}
-use Rattle.command_files.specs.Outside.{Outside, Written, outside}
-use Rattle.command_files.specs.Refusal.{Refusal, Usage, Read, Write, TooLong, Source, Data, Ticks, Stopped, Device, TooManyPlans, NoPlan, NoRoom, Verilog, DesignData, Undone, Memory}
-use Rattle.command_files.specs.Source.{IsRefusedSource}
-use Rattle.command_files.specs.Told.{IsTold, IsToldAs}
-use Rattle.command_files.specs.declared.status.Status.{Status}
-use Rattle.command_files.specs.declared.status.Status.TheVariants as status
+use Rattle.command_source.specs.Files.{OfFile, OfSource, source_limit, data_limit}
+use Rattle.command_source.specs.Outside.{Outside, Written, outside}
+use Rattle.command_source.specs.Refusal.{Refusal, Usage, Read, Write, TooLong, Source, Data, Ticks, Stopped, Device, TooManyPlans, NoPlan, NoRoom, Verilog, DesignData, Undone, Memory}
+use Rattle.command_source.specs.Source.{IsRefusedSource}
+use Rattle.command_source.specs.Told.{IsTold, IsToldAs}
+use Rattle.command_source.specs.declared.status.Status.{Status}
+use Rattle.command_source.specs.declared.status.Status.TheVariants as status
 use Rattle.command_plans.specs.Built.{HasCircuit}
 use Rattle.tapa_drive.specs.Answer.{OfRun, OfBuild, OfPlan, OfCosim, source_in, most_in, IsTaken, IsRefusedIn, IsFaultyIn, IsReached, IsTooLong, IsDone, HasCause, Leaves, IsAnswer}
 use Rattle.tapa_drive.specs.BuildDecided.{TellsBuildOf, TellsBuild}

@@ -3,14 +3,14 @@ use Rattle.std.proofs.Common.{◌≡◌, ◌≢◌, ◌⊎◌, ◌≤◌, ℕ, L
 use Rattle.tapa_files.specs.Outside.{Files}
 use Rattle.tapa_syntax.specs.declared.program.Program.{Program}
 use Rattle.tapa_words.specs.Words.{Command, command_of}
-use Rattle.command_files.specs.Files.{OfFile, OfSource, source_limit}
-use Rattle.command_files.specs.Found.{IsNotTaken}
-use Rattle.command_files.specs.Meaning.{refusal_of}
-use Rattle.command_files.specs.Outside.{Outside, Written, outside}
-use Rattle.command_files.specs.Refusal.{Refusal, Usage, Read, Write, TooLong, Source, Data, Ticks, Stopped, Device, TooManyPlans, NoPlan, NoRoom, Verilog, DesignData, Undone, Memory}
-use Rattle.command_files.specs.Source.{IsProgramOf}
-use Rattle.command_files.specs.declared.refusal.Refusal.{Refusal as CodeRefusal}
-use Rattle.command_files.proofs.OfFiles.{of_file_also}
+use Rattle.command_source.specs.Files.{OfFile, OfSource, source_limit}
+use Rattle.command_source.specs.Found.{IsNotTaken}
+use Rattle.command_source.specs.Meaning.{refusal_of}
+use Rattle.command_source.specs.Outside.{Outside, Written, outside}
+use Rattle.command_source.specs.Refusal.{Refusal, Usage, Read, Write, TooLong, Source, Data, Ticks, Stopped, Device, TooManyPlans, NoPlan, NoRoom, Verilog, DesignData, Undone, Memory}
+use Rattle.command_source.specs.Source.{IsProgramOf}
+use Rattle.command_source.specs.declared.refusal.Refusal.{Refusal as CodeRefusal}
+use Rattle.command_source.proofs.OfFiles.{of_file_also}
 use Rattle.tapa_drive.specs.Answer.{OfCommand, source_in, most_in, file_in, HasProgram, IsTaken, IsRefusedIn, IsFaultyIn, IsReached, HasCause, Leaves, ReadsAsked}
 use Rattle.tapa_drive.specs.Carried.{IsCarriedOut}
 use Rattle.tapa_drive.proofs.Counts.{one_name}

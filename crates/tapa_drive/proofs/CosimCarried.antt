@@ -5,15 +5,15 @@ use Rattle.tapa_files.specs.Outside.{Files, Rose, AppendsPart}
 use Rattle.tapa_words.specs.Words.{Command, Cosim, command_of}
 use Rattle.vlog_tree.specs.Environment.{Environment}
 use Rattle.vlog_design.specs.Designs.{DesignTree}
-use Rattle.run_design.specs.Ending.{EndsSo, HasPart}
-use Rattle.run_design.specs.declared.run.DesignEnd.TheVariants as design_end
-use Rattle.command_files.specs.Files.{OfFile, OfData, verilog_limit}
-use Rattle.command_files.specs.Meaning.{refusal_of}
-use Rattle.command_files.specs.Outside.{Outside, Written, outside}
-use Rattle.command_files.specs.Refusal.{Refusal, Usage, Read, Write, TooLong, Source, Data, Ticks, Stopped, Device, TooManyPlans, NoPlan, NoRoom, Verilog, DesignData, Undone, Memory, DataFault}
-use Rattle.command_files.specs.declared.refusal.Refusal.{Refusal as CodeRefusal}
-use Rattle.command_files.specs.declared.refusal.Refusal.TheVariants as code
-use Rattle.command_files.proofs.OfFiles.{of_file_also}
+use Rattle.sim_report.specs.Ending.{EndsSo, HasPart}
+use Rattle.sim_report.specs.declared.run.DesignEnd.TheVariants as design_end
+use Rattle.command_source.specs.Files.{OfFile, OfData, verilog_limit}
+use Rattle.command_source.specs.Meaning.{refusal_of}
+use Rattle.command_source.specs.Outside.{Outside, Written, outside}
+use Rattle.command_source.specs.Refusal.{Refusal, Usage, Read, Write, TooLong, Source, Data, Ticks, Stopped, Device, TooManyPlans, NoPlan, NoRoom, Verilog, DesignData, Undone, Memory, DataFault}
+use Rattle.command_source.specs.declared.refusal.Refusal.{Refusal as CodeRefusal}
+use Rattle.command_source.specs.declared.refusal.Refusal.TheVariants as code
+use Rattle.command_source.proofs.OfFiles.{of_file_also}
 use Rattle.tapa_drive.specs.Answer.{OfDesignTexts, HasCause, HasPartOf, Leaves, ReadsAsked}
 use Rattle.tapa_drive.specs.Carried.{IsCarriedOut}
 use Rattle.tapa_drive.specs.Designs.{IsDesignOf, HasDesign, GivesEnvironment, HasDesignFault, HasBadDesignData, HasSimulated, HasCosimmed, HasUndone}

@@ -6,13 +6,13 @@ use Rattle.tapa_words.specs.Words.{Command, Run, Build, Plan, Cosim, command_of}
 use Rattle.tapa_words.specs.declared.command.PlanAim.{PlanAim}
 use Rattle.tapa_words.specs.declared.command.PlanMode.{PlanMode}
 use Rattle.run_program.specs.Laws as run
-use Rattle.command_files.specs.Files.{OfFile, OfSource, OfData, source_limit, data_limit, shown_name}
-use Rattle.command_files.specs.Outside.{Outside, Written, outside}
-use Rattle.command_files.specs.Refusal.{Refusal, Usage, Read, Write, TooLong, Source, Data, Ticks, Stopped, Device, TooManyPlans, NoPlan, NoRoom, Verilog, DesignData, Undone, Memory, VerilogFault}
-use Rattle.command_files.specs.Source.{IsRefusedSource}
-use Rattle.command_files.specs.Told.{IsTold, IsToldAs}
-use Rattle.command_files.specs.declared.status.Status.{Status}
-use Rattle.command_files.specs.declared.status.Status.TheVariants as status
+use Rattle.command_source.specs.Files.{OfFile, OfSource, OfData, source_limit, data_limit, shown_name}
+use Rattle.command_source.specs.Outside.{Outside, Written, outside}
+use Rattle.command_source.specs.Refusal.{Refusal, Usage, Read, Write, TooLong, Source, Data, Ticks, Stopped, Device, TooManyPlans, NoPlan, NoRoom, Verilog, DesignData, Undone, Memory, VerilogFault}
+use Rattle.command_source.specs.Source.{IsRefusedSource}
+use Rattle.command_source.specs.Told.{IsTold, IsToldAs}
+use Rattle.command_source.specs.declared.status.Status.{Status}
+use Rattle.command_source.specs.declared.status.Status.TheVariants as status
 use Rattle.tapa_drive.specs.Answer.{OfCommand, OfRun, OfBuild, OfPlan, OfTexts, OfCosim, source_in, most_in, HasProgram, IsRefusedIn, IsFaultyIn, HasBadData, HasDone, HasStopped, HasLimit, IsReached, IsTooLong, IsDone, HasCause, Leaves, IsAnswer}
 use Rattle.tapa_drive.specs.Decided.{SourceMeaning, Ran, Misgiven, Overlong, Refused, Given, Bytes, TooMany, IsGiven, Means, IsRefusedWith, Tells, WritesAll, NothingFails, Expects, IsLengthy}
 use Rattle.tapa_drive.proofs.OneMeaning.{means_one}

@@ -19,12 +19,12 @@ use Rattle.vlog_tree.specs.Table.{Name, declared, port_declared, bits_of}
 use Rattle.vlog_tree.specs.V6.{scalar_fits, rdata_fits, has_all_five, agrees}
 use Rattle.vlog_tree.proofs.Lists.{of_flat, has_got}
 use Rattle.vlog_design.specs.Designs.{DesignTree, TopOf}
-use Rattle.vlog_law_runs.proofs.Labelled.{ack_label, rdata_of_label}
-use Rattle.vlog_law_runs.proofs.Ports.{PortFits, fits, ack_input, named_port}
-use Rattle.vlog_law_runs.proofs.Settled.{IsTopTree, top_tree}
-use Rattle.vlog_law_runs.proofs.Sizes.{declared_bits, has_port as port_in}
-use Rattle.vlog_law_runs.proofs.Sound.{both_true}
-use Rattle.vlog_law_runs.proofs.TopPorts.{five_rdata}
+use Rattle.vlog_run_laws.proofs.runs.Labelled.{ack_label, rdata_of_label}
+use Rattle.vlog_run_laws.proofs.runs.Ports.{PortFits, fits, ack_input, named_port}
+use Rattle.vlog_run_laws.proofs.runs.Settled.{IsTopTree, top_tree}
+use Rattle.vlog_run_laws.proofs.runs.Sizes.{declared_bits, has_port as port_in}
+use Rattle.vlog_run_laws.proofs.runs.Sound.{both_true}
+use Rattle.vlog_run_laws.proofs.runs.TopPorts.{five_rdata}
 use Rattle.run_data.specs.Answer.{bits_of_ports, IsDataOf, IsCause}
 use Rattle.run_data.specs.declared.data.Data.{Data}
 use Rattle.run_data.specs.declared.data.DataFault.{DataFault}

@@ -1,8 +1,8 @@
 -- What holds of one file and what holds of a further one hold of both.
 use Rattle.std.proofs.Common.{ℕ, List, Option}
 use Rattle.tapa_files.specs.Outside.{Files}
-use Rattle.command_files.specs.Files.{OfFile, OfSource, OfData, verilog_limit}
-use Rattle.command_files.proofs.OfFiles.{of_data_also}
+use Rattle.command_source.specs.Files.{OfFile, OfSource, OfData, verilog_limit}
+use Rattle.command_source.proofs.OfFiles.{of_data_also}
 use Rattle.tapa_drive.specs.Answer.{OfTexts, OfDesignTexts}
 
 -- what holds of a source, and of data, holds of both

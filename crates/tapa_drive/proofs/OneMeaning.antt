@@ -9,13 +9,13 @@ use Rattle.stream_check.proofs.WellPrograms.{legal_program_well}
 use Rattle.run_program.specs.Laws.{RunMeaning, Runs}
 use Rattle.run_program.specs.Run.{Values}
 use Rattle.run_program.proofs.OneWay.{runs_alike, one_way, some_way}
-use Rattle.command_files.specs.Inputs.{HasDataFault}
-use Rattle.command_files.specs.Refusal.{DataFault}
-use Rattle.command_files.specs.Source.{IsProgramOf, IsRefusedSource}
-use Rattle.command_files.specs.declared.source.SourceCode.{SourceCode}
+use Rattle.command_source.specs.Inputs.{HasDataFault}
+use Rattle.command_source.specs.Refusal.{DataFault}
+use Rattle.command_source.specs.Source.{IsProgramOf, IsRefusedSource}
+use Rattle.command_source.specs.declared.source.SourceCode.{SourceCode}
 use Rattle.tapa_base.specs.declared.text.Place.{Place}
-use Rattle.command_files.proofs.Given.{one_input, one_fault, not_misgiven}
-use Rattle.command_files.proofs.Sourced.{one_tree, means_nothing}
+use Rattle.command_source.proofs.Given.{one_input, one_fault, not_misgiven}
+use Rattle.command_source.proofs.Sourced.{one_tree, means_nothing}
 use Rattle.tapa_drive.specs.Answer.{IsAsked}
 use Rattle.tapa_drive.specs.Decided.{SourceMeaning, Ran, Misgiven, Overlong, Refused, Given, Bytes, TooMany, Means}
 use Rattle.tapa_drive.proofs.OneRefusal.{one_refusal}

@@ -15,11 +15,11 @@ use Rattle.tapa_parse.specs.Answers.{stopped_at}
 use Rattle.check_scope.specs.Answers.{IsFirst}
 use Rattle.check_scope.specs.declared.fault.Broken.{Broken}
 use Rattle.stream_check.specs.Programs.{program_faults}
-use Rattle.command_files.specs.declared.source.SourceCode.{SourceCode}
-use Rattle.command_files.specs.declared.source.SourceCode.TheVariants.{L1, L2, L3, L4, P1, P2, Rule}
-use Rattle.command_files.specs.Codes.{lex_code, parse_code}
-use Rattle.command_files.specs.Source.{StopsAt, HasNoTree, BreaksFirst, IsRefusedSource}
-use Rattle.command_files.proofs.Sourced.{one_tree, no_tree}
+use Rattle.command_source.specs.declared.source.SourceCode.{SourceCode}
+use Rattle.command_source.specs.declared.source.SourceCode.TheVariants.{L1, L2, L3, L4, P1, P2, Rule}
+use Rattle.command_source.specs.Codes.{lex_code, parse_code}
+use Rattle.command_source.specs.Source.{StopsAt, HasNoTree, BreaksFirst, IsRefusedSource}
+use Rattle.command_source.proofs.Sourced.{one_tree, no_tree}
 use Rattle.tapa_drive.specs.OneMeaning.{SourcesHaveOneRefusal}
 
 abbrev ByLexer : List ℕ → Place → SourceCode → Type 0

@@ -11,12 +11,12 @@ use Rattle.task_graph.specs.Programs.{IsGraphOf}
 use Rattle.plan_device.specs.declared.device.Device.{Device as DeviceOf}
 use Rattle.plan_device.specs.Answer.{IsDeviceOf}
 use Rattle.slot_plan.specs.declared.floorplan.Plan.{Plan as FloorPlan}
-use Rattle.command_files.specs.Files.{OfSource, OfData}
-use Rattle.command_files.specs.Meaning.{refusal_of}
-use Rattle.command_files.specs.Outside.{Outside, Written, outside}
-use Rattle.command_files.specs.Refusal.{Refusal, Usage, Read, Write, TooLong, Source, Data, Ticks, Stopped, Device, TooManyPlans, NoPlan, NoRoom, Verilog, DesignData, Undone, Memory, DeviceFault}
-use Rattle.command_files.specs.Source.{IsProgramOf}
-use Rattle.command_files.specs.declared.refusal.Refusal.{Refusal as CodeRefusal}
+use Rattle.command_source.specs.Files.{OfSource, OfData}
+use Rattle.command_source.specs.Meaning.{refusal_of}
+use Rattle.command_source.specs.Outside.{Outside, Written, outside}
+use Rattle.command_source.specs.Refusal.{Refusal, Usage, Read, Write, TooLong, Source, Data, Ticks, Stopped, Device, TooManyPlans, NoPlan, NoRoom, Verilog, DesignData, Undone, Memory, DeviceFault}
+use Rattle.command_source.specs.Source.{IsProgramOf}
+use Rattle.command_source.specs.declared.refusal.Refusal.{Refusal as CodeRefusal}
 use Rattle.command_plans.specs.Unwritten.{IsUnwritten}
 use Rattle.command_plans.specs.Found.{IsNoDevice}
 use Rattle.command_plans.specs.Planned.{mode_of, IsFound, IsToldBy, IsUnplanned, HasDeviceFault, IsAskedOn, HasBadDevice, HasNoPlan, HasPlan}

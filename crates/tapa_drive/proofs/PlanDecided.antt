@@ -6,14 +6,14 @@ use Rattle.tapa_files.specs.Take.{IsLongerThan}
 use Rattle.tapa_words.specs.Words.{Run, Build, Plan, Cosim, command_of}
 use Rattle.tapa_words.specs.declared.command.PlanAim.{PlanAim}
 use Rattle.tapa_words.specs.declared.command.PlanMode.{PlanMode}
-use Rattle.command_files.specs.Files.{OfFile, OfSource, source_limit, data_limit}
-use Rattle.command_files.specs.Outside.{Outside, Written, outside}
-use Rattle.command_files.specs.Refusal.{Refusal, Usage, Read, Write, TooLong, Source, Data, Ticks, Stopped, Device, TooManyPlans, NoPlan, NoRoom, Verilog, DesignData, Undone, Memory, VerilogFault}
-use Rattle.command_files.specs.Source.{IsRefusedSource}
-use Rattle.command_files.specs.Told.{IsTold, IsToldAs}
-use Rattle.command_files.specs.declared.status.Status.{Status}
-use Rattle.command_files.specs.declared.status.Status.TheVariants as status
-use Rattle.command_files.proofs.Sourced.{means_nothing}
+use Rattle.command_source.specs.Files.{OfFile, OfSource, source_limit, data_limit}
+use Rattle.command_source.specs.Outside.{Outside, Written, outside}
+use Rattle.command_source.specs.Refusal.{Refusal, Usage, Read, Write, TooLong, Source, Data, Ticks, Stopped, Device, TooManyPlans, NoPlan, NoRoom, Verilog, DesignData, Undone, Memory, VerilogFault}
+use Rattle.command_source.specs.Source.{IsRefusedSource}
+use Rattle.command_source.specs.Told.{IsTold, IsToldAs}
+use Rattle.command_source.specs.declared.status.Status.{Status}
+use Rattle.command_source.specs.declared.status.Status.TheVariants as status
+use Rattle.command_source.proofs.Sourced.{means_nothing}
 use Rattle.command_plans.specs.Planned.{mode_of, HasBadDevice, HasNoPlan, HasPlan}
 use Rattle.tapa_drive.specs.Answer.{OfRun, OfBuild, OfPlan, OfTexts, OfCosim, source_in, most_in, HasProgram, IsRefusedIn, IsFaultyIn, IsReached, IsTooLong, IsDone, HasCause, Leaves, IsAnswer}
 use Rattle.tapa_drive.specs.Decided.{NothingFails}

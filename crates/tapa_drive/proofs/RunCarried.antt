@@ -8,15 +8,15 @@ use Rattle.tapa_words.specs.Words.{Command, Run, command_of}
 use Rattle.run_program.specs.Ending.{EndsSo, HasPart}
 use Rattle.run_program.specs.Run.{Values}
 use Rattle.run_program.specs.declared.run.RunEnd.TheVariants as run_end
-use Rattle.command_files.specs.Files.{OfSource, OfData}
-use Rattle.command_files.specs.Found.{IsNotGiven}
-use Rattle.command_files.specs.Inputs.{GivesValues, HasDataFault}
-use Rattle.command_files.specs.Meaning.{refusal_of}
-use Rattle.command_files.specs.Outside.{Outside, Written, outside}
-use Rattle.command_files.specs.Refusal.{Refusal, Usage, Read, Write, TooLong, Source, Data, Ticks, Stopped, Device, TooManyPlans, NoPlan, NoRoom, Verilog, DesignData, Undone, Memory, DataFault}
-use Rattle.command_files.specs.Source.{IsProgramOf}
-use Rattle.command_files.specs.declared.refusal.Refusal.{Refusal as CodeRefusal}
-use Rattle.command_files.specs.declared.refusal.Refusal.TheVariants as code
+use Rattle.command_source.specs.Files.{OfSource, OfData}
+use Rattle.command_source.specs.Found.{IsNotGiven}
+use Rattle.command_source.specs.Inputs.{GivesValues, HasDataFault}
+use Rattle.command_source.specs.Meaning.{refusal_of}
+use Rattle.command_source.specs.Outside.{Outside, Written, outside}
+use Rattle.command_source.specs.Refusal.{Refusal, Usage, Read, Write, TooLong, Source, Data, Ticks, Stopped, Device, TooManyPlans, NoPlan, NoRoom, Verilog, DesignData, Undone, Memory, DataFault}
+use Rattle.command_source.specs.Source.{IsProgramOf}
+use Rattle.command_source.specs.declared.refusal.Refusal.{Refusal as CodeRefusal}
+use Rattle.command_source.specs.declared.refusal.Refusal.TheVariants as code
 use Rattle.tapa_drive.specs.Answer.{OfTexts, IsAsked, HasProgram, HasBadData, HasDone, HasStopped, HasLimit, IsReportOfSource, HasCause, HasPartOf, Leaves, ReadsAsked}
 use Rattle.tapa_drive.specs.Carried.{IsCarriedOut}
 use Rattle.tapa_drive.proofs.Carried as carried

@@ -6,10 +6,10 @@ use Rattle.run_data.specs.Data.{Misshapen, Misfit, Oversized}
 use Rattle.run_data.specs.declared.data.DataFault.{DataFault}
 use Rattle.run_data.specs.declared.data.DataFault.TheVariants.{J1, J2, J3, J4, OutOfMemory}
 use Rattle.vlog_design.specs.Designs.{DesignTree}
-use Rattle.command_files.specs.Files.{data_limit, no_data}
-use Rattle.command_files.specs.Meaning.{design_refusal}
-use Rattle.command_files.specs.Refusal.{NotJson, Faulty}
-use Rattle.command_files.proofs.OfFiles.{of_taken}
+use Rattle.command_source.specs.Files.{data_limit, no_data}
+use Rattle.command_source.specs.Meaning.{design_refusal}
+use Rattle.command_source.specs.Refusal.{NotJson, Faulty}
+use Rattle.command_source.proofs.OfFiles.{of_taken}
 use Rattle.tapa_drive.specs.Designs.{HasDesignFault, IsUnfitFor}
 use Rattle.tapa_drive.specs.Found.{IsNotSurrounded}
 

@@ -10,15 +10,15 @@ use Rattle.tapa_words.specs.declared.command.PlanAim.{PlanAim}
 use Rattle.tapa_words.specs.declared.command.PlanMode.{PlanMode}
 use Rattle.run_program.specs.Ending.{IsReportOf}
 use Rattle.run_program.specs.Run.{Values, DoneRun, StoppedRun, LimitRun}
-use Rattle.command_files.specs.Files.{OfFile, OfSource, OfData, source_limit, data_limit, verilog_limit, shown_name}
-use Rattle.command_files.specs.Inputs.{GivesValues, HasDataFault}
-use Rattle.command_files.specs.Outside.{Outside}
-use Rattle.command_files.specs.Refusal.{Refusal, Usage, Read, Write, TooLong, Source, Data, Ticks, Stopped, Device, TooManyPlans, NoPlan, NoRoom, Verilog, DesignData, Undone, Memory, DataFault, VerilogFault}
-use Rattle.command_files.specs.Source.{IsProgramOf, IsRefusedSource}
-use Rattle.command_files.specs.Told.{IsToldAs}
-use Rattle.command_files.specs.declared.source.SourceCode.{SourceCode}
-use Rattle.command_files.specs.declared.status.Status.{Status}
-use Rattle.command_files.specs.declared.status.Status.TheVariants.{Ok}
+use Rattle.command_source.specs.Files.{OfFile, OfSource, OfData, source_limit, data_limit, verilog_limit, shown_name}
+use Rattle.command_source.specs.Inputs.{GivesValues, HasDataFault}
+use Rattle.command_source.specs.Outside.{Outside}
+use Rattle.command_source.specs.Refusal.{Refusal, Usage, Read, Write, TooLong, Source, Data, Ticks, Stopped, Device, TooManyPlans, NoPlan, NoRoom, Verilog, DesignData, Undone, Memory, DataFault, VerilogFault}
+use Rattle.command_source.specs.Source.{IsProgramOf, IsRefusedSource}
+use Rattle.command_source.specs.Told.{IsToldAs}
+use Rattle.command_source.specs.declared.source.SourceCode.{SourceCode}
+use Rattle.command_source.specs.declared.status.Status.{Status}
+use Rattle.command_source.specs.declared.status.Status.TheVariants.{Ok}
 use Rattle.command_plans.specs.Built.{HasCircuit}
 use Rattle.command_plans.specs.Planned.{mode_of, HasPlan, HasNoPlan, HasBadDevice}
 use Rattle.tapa_drive.specs.Designs.{HasDesign, IsRefusedText, HasBadDesignData, HasSimulated, HasCosimmed, HasUndone}

@@ -3,13 +3,13 @@ use Rattle.std.specs.Prelude.{◌≡◌, ◌⊎◌, ◌<◌, ◌≤◌, ℕ, Lis
 use Rattle.std.specs.Io.KnownBytes.{Appends}
 use Rattle.tapa_base.specs.declared.text.Place.{Place}
 use Rattle.tapa_files.specs.Outside.{Files, file_bytes}
-use Rattle.command_files.specs.Files.{source_limit}
-use Rattle.command_files.specs.Outside.{Outside}
-use Rattle.command_files.specs.Refusal.{Source, TooLong}
-use Rattle.command_files.specs.Source.{IsRefusedSource}
-use Rattle.command_files.specs.declared.source.SourceCode.{SourceCode}
-use Rattle.command_files.specs.declared.status.Status.{Status}
-use Rattle.command_files.specs.declared.status.Status.TheVariants.{Ok}
+use Rattle.command_source.specs.Files.{source_limit}
+use Rattle.command_source.specs.Outside.{Outside}
+use Rattle.command_source.specs.Refusal.{Source, TooLong}
+use Rattle.command_source.specs.Source.{IsRefusedSource}
+use Rattle.command_source.specs.declared.source.SourceCode.{SourceCode}
+use Rattle.command_source.specs.declared.status.Status.{Status}
+use Rattle.command_source.specs.declared.status.Status.TheVariants.{Ok}
 use Rattle.command_plans.specs.Built.{HasCircuit}
 use Rattle.tapa_drive.specs.Decided.{IsRefusedWith}
 

@@ -1,8 +1,8 @@
 -- What a step that carries a command out answers.
 use Rattle.std.specs.Prelude.{List, ℕ, Result, OnOk, IfErr}
-use Rattle.command_files.specs.Meaning.{refusal_of}
-use Rattle.command_files.specs.Outside.{Outside}
-use Rattle.command_files.specs.declared.refusal.Refusal.{Refusal}
+use Rattle.command_source.specs.Meaning.{refusal_of}
+use Rattle.command_source.specs.Outside.{Outside}
+use Rattle.command_source.specs.declared.refusal.Refusal.{Refusal}
 use Rattle.tapa_drive.specs.Answer.{IsDone, HasCause, Leaves, ReadsAsked}
 
 -- the command did what it is for, or the refusal has its cause and leaves the output so

@@ -2,12 +2,12 @@
 use Rattle.std.specs.Prelude.{◌≡◌, ◌<◌, ◌≤◌, ℕ, List, length, Option, Some, None}
 use Rattle.std.specs.Io.KnownBytes.{Appends}
 use Rattle.tapa_files.specs.Outside.{Files, file_bytes}
-use Rattle.command_files.specs.Files.{data_limit, verilog_limit, shown_name}
-use Rattle.command_files.specs.Outside.{Outside}
-use Rattle.command_files.specs.Refusal.{DataFault, VerilogFault, TooLong, Verilog, DesignData, Undone}
-use Rattle.command_files.specs.Told.{IsTold}
-use Rattle.command_files.specs.declared.status.Status.{Status}
-use Rattle.command_files.specs.declared.status.Status.TheVariants.{Ok}
+use Rattle.command_source.specs.Files.{data_limit, verilog_limit, shown_name}
+use Rattle.command_source.specs.Outside.{Outside}
+use Rattle.command_source.specs.Refusal.{DataFault, VerilogFault, TooLong, Verilog, DesignData, Undone}
+use Rattle.command_source.specs.Told.{IsTold}
+use Rattle.command_source.specs.declared.status.Status.{Status}
+use Rattle.command_source.specs.declared.status.Status.TheVariants.{Ok}
 use Rattle.tapa_drive.specs.Decided.{Given, Bytes, TooMany, IsGiven, IsRefusedWith}
 use Rattle.tapa_drive.specs.Designs.{HasDesign, IsRefusedText, HasBadDesignData, HasSimulated}
 

@@ -6,16 +6,16 @@ use Rattle.tapa_files.specs.Outside.{Files, file_bytes, Rose}
 use Rattle.tapa_syntax.specs.declared.program.Program.{Program}
 use Rattle.run_program.specs.Laws.{RunMeaning, Done, Stopped, Limit, Runs}
 use Rattle.run_program.specs.Run.{Values}
-use Rattle.command_files.specs.Files.{source_limit, data_limit, no_data, shown_name}
-use Rattle.command_files.specs.Inputs.{HasDataFault}
-use Rattle.command_files.specs.Outside.{Outside}
-use Rattle.command_files.specs.Refusal.{DataFault, Source, Data, TooLong, Ticks}
-use Rattle.command_files.specs.Refusal as refusal
-use Rattle.command_files.specs.Source.{IsProgramOf, IsRefusedSource}
-use Rattle.command_files.specs.Told.{IsTold}
-use Rattle.command_files.specs.declared.source.SourceCode.{SourceCode}
-use Rattle.command_files.specs.declared.status.Status.{Status}
-use Rattle.command_files.specs.declared.status.Status.TheVariants.{Ok}
+use Rattle.command_source.specs.Files.{source_limit, data_limit, no_data, shown_name}
+use Rattle.command_source.specs.Inputs.{HasDataFault}
+use Rattle.command_source.specs.Outside.{Outside}
+use Rattle.command_source.specs.Refusal.{DataFault, Source, Data, TooLong, Ticks}
+use Rattle.command_source.specs.Refusal as refusal
+use Rattle.command_source.specs.Source.{IsProgramOf, IsRefusedSource}
+use Rattle.command_source.specs.Told.{IsTold}
+use Rattle.command_source.specs.declared.source.SourceCode.{SourceCode}
+use Rattle.command_source.specs.declared.status.Status.{Status}
+use Rattle.command_source.specs.declared.status.Status.TheVariants.{Ok}
 use Rattle.tapa_drive.specs.Answer.{IsAsked}
 
 -- what a text means with the name of its top task and with data: a program that runs in some way on the values that the

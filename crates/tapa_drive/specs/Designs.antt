@@ -8,15 +8,15 @@ use Rattle.vlog_tree.specs.declared.fault.VFault.TheVariants as verilog_fault
 use Rattle.vlog_tree.specs.Environment.{Environment, shape_of}
 use Rattle.vlog_tree.specs.Form.{ModuleTree}
 use Rattle.vlog_tree.specs.Refused.{IsDesign}
-use Rattle.vlog_grammar.specs.Grammar.{HasTree}
+use Rattle.vlog_lex.specs.Grammar.{HasTree}
 use Rattle.vlog_design.specs.Designs.{DesignTree, TopOf}
 use Rattle.vlog_read.specs.Texts.{RefusesText}
 use Rattle.run_data.specs.Answer.{IsFirstFault}
 use Rattle.run_data.specs.Data.{IsJson, Misshapen, Misfit, Oversized, faults, scalars_of, memories_of, waits_of}
 use Rattle.run_data.specs.declared.data.DataFault.{DataFault as FaultOfData}
 use Rattle.run_data.specs.declared.data.DataFault.TheVariants.{J1, J2, J3, J4, OutOfMemory}
-use Rattle.run_design.specs.Reports.{IsSimulated}
-use Rattle.command_files.specs.Refusal.{DataFault, NotJson, Faulty, VerilogFault, V1, V2, V3, V4, V5, V6}
+use Rattle.sim_report.specs.Reports.{IsSimulated}
+use Rattle.command_source.specs.Refusal.{DataFault, NotJson, Faulty, VerilogFault, V1, V2, V3, V4, V5, V6}
 
 -- the text spells modules, and these are a design
 pub record IsDesignOf (text : List ℕ) (design : DesignTree) : Type 0 where

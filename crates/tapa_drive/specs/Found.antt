@@ -3,9 +3,9 @@ use Rattle.std.specs.Prelude.{◌≡◌, ℕ, List, Option, Some, ⊤}
 use Rattle.tapa_files.specs.Outside.{Files, Rose}
 use Rattle.tapa_files.specs.Take.{IsLongerThan}
 use Rattle.vlog_design.specs.Designs.{DesignTree}
-use Rattle.command_files.specs.Found.{IsNotTaken}
-use Rattle.command_files.specs.Files.{OfData, data_limit, verilog_limit, shown_name}
-use Rattle.command_files.specs.Refusal.{Refusal, Read, TooLong, DesignData, Memory}
+use Rattle.command_source.specs.Found.{IsNotTaken}
+use Rattle.command_source.specs.Files.{OfData, data_limit, verilog_limit, shown_name}
+use Rattle.command_source.specs.Refusal.{Refusal, Read, TooLong, DesignData, Memory}
 use Rattle.tapa_drive.specs.Designs.{IsRefusedText, HasDesignFault}
 
 -- why a Verilog text on a shelf has no design

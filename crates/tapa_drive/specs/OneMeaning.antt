@@ -5,10 +5,10 @@ use Rattle.tapa_syntax.specs.declared.program.Program.{Program}
 use Rattle.tapa_syntax.specs.Flat.{flat_program}
 use Rattle.run_program.specs.Laws.{RunMeaning}
 use Rattle.run_program.specs.Run.{Values}
-use Rattle.command_files.specs.Inputs.{HasDataFault}
-use Rattle.command_files.specs.Refusal.{DataFault}
-use Rattle.command_files.specs.Source.{IsProgramOf, IsRefusedSource, MeansNothing}
-use Rattle.command_files.specs.declared.source.SourceCode.{SourceCode}
+use Rattle.command_source.specs.Inputs.{HasDataFault}
+use Rattle.command_source.specs.Refusal.{DataFault}
+use Rattle.command_source.specs.Source.{IsProgramOf, IsRefusedSource, MeansNothing}
+use Rattle.command_source.specs.declared.source.SourceCode.{SourceCode}
 use Rattle.tapa_drive.specs.Answer.{IsAsked}
 use Rattle.tapa_drive.specs.Decided.{SourceMeaning, Ran, Given, Bytes, Means}
 

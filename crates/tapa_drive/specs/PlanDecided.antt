@@ -4,11 +4,11 @@ use Rattle.std.specs.Io.KnownBytes.{Appends}
 use Rattle.tapa_files.specs.Outside.{Files, file_bytes}
 use Rattle.tapa_words.specs.declared.command.PlanAim.{PlanAim}
 use Rattle.slot_plan.specs.declared.floorplan.Mode.{Mode}
-use Rattle.command_files.specs.Files.{source_limit, data_limit}
-use Rattle.command_files.specs.Outside.{Outside}
-use Rattle.command_files.specs.Refusal.{Refusal, DeviceFault}
-use Rattle.command_files.specs.declared.status.Status.{Status}
-use Rattle.command_files.specs.declared.status.Status.TheVariants.{Ok}
+use Rattle.command_source.specs.Files.{source_limit, data_limit}
+use Rattle.command_source.specs.Outside.{Outside}
+use Rattle.command_source.specs.Refusal.{Refusal, DeviceFault}
+use Rattle.command_source.specs.declared.status.Status.{Status}
+use Rattle.command_source.specs.declared.status.Status.TheVariants.{Ok}
 use Rattle.command_plans.specs.Planned.{HasBadDevice, HasNoPlan, HasPlan}
 use Rattle.tapa_drive.specs.Answer.{HasProgram}
 use Rattle.tapa_drive.specs.Decided.{IsRefusedWith}

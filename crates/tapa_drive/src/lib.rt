@@ -6,6 +6,6 @@ pub mod laws;
 mod sources;
 mod top;
 
-pub use command_files::{SourceCode, SourceFault, Status, read_input, read_program, refuse_words};
+pub use command_source::{SourceCode, SourceFault, Status, read_input, read_program, refuse_words};
 pub use tapa_words::WordsFault;
 pub use top::tapa;

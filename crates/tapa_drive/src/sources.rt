@@ -1,10 +1,10 @@
 // The commands of a source: its run, its circuit and its plan.
 ghost use Rattle.std.specs.Prelude.{◌≡◌, ◌≤◌, ℕ, List, Some, option_map};
 ghost use Rattle.tapa_words.specs.Words.{command_of, most_limit, Run, Build, Plan as PlanWords};
-ghost use Rattle.command_files.specs.Outside.{Written, written, outside};
+ghost use Rattle.command_source.specs.Outside.{Written, written, outside};
 ghost use Rattle.tapa_drive.specs.Carried.{IsCarriedOut};
 
-use command_files::{Refusal, read_source, read_values};
+use command_source::{Refusal, read_source, read_values};
 use command_plans::{mode_of, planned, put_aim, put_circuit, read_device_file};
 use run_program::{RunEnd, run_program};
 use std::alloc::Global;

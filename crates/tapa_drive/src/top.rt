@@ -2,9 +2,9 @@ ghost use Rattle.std.specs.Prelude.{◌≡◌, ◌⊎◌, ℕ, List, Option, Som
 ghost use Rattle.tapa_words.specs.Words.{texts, command_of, Run, Build, Plan, Cosim};
 ghost use Rattle.tapa_words.specs.declared.command.PlanAim.{PlanAim as PlanAimWord};
 ghost use Rattle.tapa_words.specs.declared.command.PlanMode.{PlanMode as PlanModeWord};
-ghost use Rattle.command_files.specs.Files.{source_limit};
-ghost use Rattle.command_files.specs.Outside.{Written, written, outside};
-ghost use Rattle.command_files.specs.Refusal.{Refusal as Why};
+ghost use Rattle.command_source.specs.Files.{source_limit};
+ghost use Rattle.command_source.specs.Outside.{Written, written, outside};
+ghost use Rattle.command_source.specs.Refusal.{Refusal as Why};
 ghost use Rattle.command_plans.specs.Planned.{mode_of};
 ghost use Rattle.tapa_drive.specs.Answer.{IsAnswer};
 ghost use Rattle.tapa_drive.specs.BuildDecided.{TellsBuild};
@@ -15,7 +15,7 @@ ghost use Rattle.tapa_drive.specs.PlanDecided.{ArePlannable, TellsPlan};
 
 use crate::cosim::cosim_text;
 use crate::sources::{build_source, plan_source, run_source};
-use command_files::{Refusal, Status, tell};
+use command_source::{Refusal, Status, tell};
 use std::alloc::Global;
 use tapa_files::{Shelf, Sink};
 use tapa_words::{Command, WordsFault, read_words};

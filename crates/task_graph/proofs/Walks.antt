@@ -7,7 +7,7 @@ use Rattle.std.proofs.lemmas.List.{length_push}
 use Rattle.vlog_tree.specs.Grounded.{Has}
 use Rattle.vlog_tree.specs.Loops.{Chain, one, more}
 use Rattle.vlog_tree.proofs.Lists.{of_map, got_has}
-use Rattle.vlog_graph.specs.Graphs.{Adjacency, Steps, IsReached, targets_of}
+use Rattle.number_graph.specs.Graphs.{Adjacency, Steps, IsReached, targets_of}
 use Rattle.task_graph.specs.declared.Edge.{Edge}
 use Rattle.task_graph.specs.Streams.{from_of, to_of, Walk, Reaches}
 use Rattle.task_graph.specs.Edges.{EndBelow}

@@ -1,6 +1,6 @@
 -- Which instances reach which, as marks in rows, and groups of those that reach each other.
 use Rattle.std.specs.Prelude.{◌≡◌, ◌⊎◌, ◌↔◌, ℕ, suc, ◌<◌, List, Bool, true, false, length, get_or, slice_index, Vec}
-use Rattle.vlog_graph.specs.Graphs.{targets_of}
+use Rattle.number_graph.specs.Graphs.{targets_of}
 use Rattle.task_graph.specs.declared.Edge.{Edge}
 use Rattle.task_graph.specs.declared.groups.Groups.{Groups}
 use Rattle.task_graph.specs.Streams.{Reaches, AreNumbered}

@@ -1,13 +1,13 @@
 //! Which instances reach which along streams.
 ghost use Rattle.std.specs.Prelude.{◌≡◌, ◌↔◌, ◌<◌, ℕ, true, IfOk, length, [], ◌∷◌};
-ghost use Rattle.vlog_graph.specs.Graphs.{IsReached};
+ghost use Rattle.number_graph.specs.Graphs.{IsReached};
 ghost use Rattle.task_graph.specs.Edges.{EndBelow};
 ghost use Rattle.task_graph.specs.Reach.{mark, AreTransitive, MarkReached};
 
 use crate::Edge;
 use crate::edges::ends_of;
 use std::alloc::{AllocError, Global};
-use vlog_graph::{Graph, reach_from};
+use number_graph::{Graph, reach_from};
 
 /// For each node a row of marks at the nodes that it reaches by one or more steps.
 fn rows_of(alloc: Global, graph: &Graph) -> Result<Vec<Vec<bool>>, AllocError>

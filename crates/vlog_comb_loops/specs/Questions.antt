@@ -7,7 +7,7 @@ use Rattle.vlog_tree.specs.Form.{ModuleTree}
 use Rattle.vlog_tree.specs.Table.{Name}
 use Rattle.vlog_tree.specs.Loops.{item_instances, port_of}
 use Rattle.vlog_scope.specs.NameTable.{value_in}
-use Rattle.vlog_graph.specs.Graphs.{targets_of}
+use Rattle.number_graph.specs.Graphs.{targets_of}
 use Rattle.vlog_net_graph.specs.Names.{texts}
 use Rattle.vlog_comb_loops.specs.declared.suspects.Suspect.{Suspect}
 use Rattle.vlog_comb_loops.specs.declared.questions.Questions.{Questions}

@@ -5,7 +5,7 @@ ghost use Rattle.vlog_tree.specs.Grounded.{Has};
 ghost use Rattle.vlog_tree.specs.Form.{ModuleTree};
 ghost use Rattle.vlog_tree.specs.Loops.{item_instances, port_of};
 ghost use Rattle.vlog_scope.specs.NameTable.{value_in};
-ghost use Rattle.vlog_graph.specs.Graphs.{targets_of};
+ghost use Rattle.number_graph.specs.Graphs.{targets_of};
 ghost use Rattle.vlog_net_graph.specs.Names.{texts};
 ghost use Rattle.vlog_comb_loops.specs.Questions.{asked_of, Keeps, AsksLines, NamesLines, AsksPort, Asks, AsksAll, AreUses};
 

@@ -22,7 +22,7 @@ use crate::through::graph_of;
 use std::alloc::{AllocError, Global};
 use std::marker::Model;
 use tapa_base::Text;
-use vlog_graph::Searches;
+use number_graph::Searches;
 use vlog_net_graph::NamedGraph;
 use vlog_scope::{Library, Scope, copy_text};
 use vlog_tree::{Module, NetKind};

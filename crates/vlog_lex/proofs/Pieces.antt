@@ -7,10 +7,10 @@ use Rattle.std.proofs.lemmas.Bool.{and_parts, or_cases, false≢true, ltb-true}
 use Rattle.std.proofs.lemmas.List.{length-drop, length-take-le, drop-drop}
 use Rattle.tapa_syntax.specs.Characters.{is_among, run}
 use Rattle.vlog_tree.specs.Names.{starts_name, goes_on, has_name_form}
-use Rattle.vlog_grammar.specs.Numerals.{base_of}
+use Rattle.vlog_lex.specs.Numerals.{base_of}
 use Rattle.tapa_base.specs.Gaps.{Bytes, begins, is_blank, is_in_line, has_close}
-use Rattle.vlog_grammar.specs.Lexemes.{is_digit_of, makes_literal, signs, is_sign, is_sign_or_mark, IsSignWord, Piece, gap, word, Stands}
-use Rattle.vlog_grammar.proofs.Cuts.{digits_begin, sized_begins}
+use Rattle.vlog_lex.specs.Lexemes.{is_digit_of, makes_literal, signs, is_sign, is_sign_or_mark, IsSignWord, Piece, gap, word, Stands}
+use Rattle.vlog_lex.proofs.Cuts.{digits_begin, sized_begins}
 use Rattle.vlog_lex.specs.declared.cut.Sort.{Sort}
 use Rattle.vlog_lex.specs.declared.cut.Sort.TheVariants.{Gap, Word}
 use Rattle.tapa_syntax.specs.Comments.{closing}

@@ -6,7 +6,7 @@ use Rattle.std.proofs.lemmas.Slice.Eq.{bytes_eq-Decides}
 use Rattle.tapa_syntax.specs.Characters.{is_among}
 use Rattle.vlog_tree.specs.Spelling.{Word}
 use Rattle.tapa_base.specs.Gaps.{Bytes, begins}
-use Rattle.vlog_grammar.specs.Lexemes.{signs, is_sign, is_sign_or_mark, IsSignWord}
+use Rattle.vlog_lex.specs.Lexemes.{signs, is_sign, is_sign_or_mark, IsSignWord}
 use Rattle.vlog_lex.specs.Reading.{is_single, is_pair, singles, doubled, before_equals}
 
 -- what holds of each of a few bytes holds of one of them

@@ -2,8 +2,8 @@
 use Rattle.std.proofs.Common.{◌≡◌, ℕ, ◌+◌, ◌-◌, ◌<◌, ◌≤◌, List, [], ◌∷◌, ◌++◌, append_assoc, length, take, drop, Some, None, refl, sym, ap, subst, ◌∙◌, arith}
 use Rattle.std.proofs.lemmas.List.{length-append, length-drop, length-take-le, drop-drop, take-append-drop, append-nil, append_cancel_left, drop_all, take_rest}
 use Rattle.tapa_base.specs.Gaps.{Bytes}
-use Rattle.vlog_grammar.specs.Lexemes.{Piece, gap, word, Stands, piece_bytes, text_of, StandInTurn}
-use Rattle.vlog_grammar.proofs.Cuts.{cut as grammar_cut, stands_cut, no_piece}
+use Rattle.vlog_lex.specs.Lexemes.{Piece, gap, word, Stands, piece_bytes, text_of, StandInTurn}
+use Rattle.vlog_lex.proofs.Cuts.{cut as grammar_cut, stands_cut, no_piece}
 use Rattle.vlog_lex.specs.declared.cut.Sort.{Sort}
 use Rattle.vlog_lex.specs.declared.cut.Sort.TheVariants.{Gap, Word}
 use Rattle.vlog_lex.specs.declared.lexer.Lexeme.{Lexeme}

@@ -1,2 +1,11 @@
+pub mod Spans
+pub mod Numerals
+pub mod Lexemes
+pub mod Grammar
+pub mod Flat
+pub mod Numbers
 pub mod Reading
 pub mod Scanned
+pub mod Coming
+pub mod Keywords
+pub mod ReadNumerals

@@ -3,9 +3,9 @@ use Rattle.std.specs.Prelude.{ℕ, ◌+◌, Bool, ◌&&◌, ◌||◌, if◌then�
 use Rattle.tapa_syntax.specs.Comments.{closing}
 use Rattle.tapa_syntax.specs.Characters.{is_among, run}
 use Rattle.vlog_tree.specs.Names.{starts_name, goes_on}
-use Rattle.vlog_grammar.specs.Numerals.{base_of}
+use Rattle.vlog_lex.specs.Numerals.{base_of}
 use Rattle.tapa_base.specs.Gaps.{Bytes, is_blank, is_in_line}
-use Rattle.vlog_grammar.specs.Lexemes.{is_digit_of, makes_literal}
+use Rattle.vlog_lex.specs.Lexemes.{is_digit_of, makes_literal}
 use Rattle.vlog_lex.specs.declared.class.Class.{Class}
 use Rattle.vlog_lex.specs.declared.class.Class.TheVariants as class
 use Rattle.vlog_lex.specs.declared.cut.Sort.{Sort}

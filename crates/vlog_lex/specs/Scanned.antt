@@ -2,7 +2,7 @@
 use Rattle.std.specs.Prelude.{◌≡◌, ℕ, ◌+◌, nat_le, ◌&&◌, if◌then◌else◌, List, [], ◌∷◌, ◌++◌, length, map, slice_range}
 use Rattle.vlog_tree.specs.Spelling.{Word}
 use Rattle.tapa_base.specs.Gaps.{Bytes}
-use Rattle.vlog_grammar.specs.Lexemes.{Piece, gap, word, Stands, piece_bytes, text_of, StandInTurn}
+use Rattle.vlog_lex.specs.Lexemes.{Piece, gap, word, Stands, piece_bytes, text_of, StandInTurn}
 use Rattle.vlog_lex.specs.declared.cut.Sort.{Sort}
 use Rattle.vlog_lex.specs.declared.cut.Sort.TheVariants as sort
 use Rattle.vlog_lex.specs.declared.lexer.Lexeme.{Lexeme}

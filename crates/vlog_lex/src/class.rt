@@ -3,7 +3,7 @@
 ghost use Rattle.std.specs.Prelude.{◌≡◌, ◌≤◌, ◌<◌, length};
 ghost use Rattle.std.specs.Char.{digit_value};
 ghost use Rattle.tapa_syntax.specs.Characters as characters;
-ghost use Rattle.vlog_grammar.specs.Numerals as numerals;
+ghost use Rattle.vlog_lex.specs.Numerals as numerals;
 ghost use Rattle.vlog_tree.specs.Names as names;
 ghost use Rattle.vlog_lex.specs.Reading.{is_in};
 

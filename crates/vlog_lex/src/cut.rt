@@ -1,7 +1,7 @@
 //! The piece that a text begins with.
 
 ghost use Rattle.std.specs.Prelude.{◌≡◌, ◌+◌, ◌<◌, ◌≤◌, ◌^◌, length, drop, IfSome};
-ghost use Rattle.vlog_grammar.specs.Lexemes as lexemes;
+ghost use Rattle.vlog_lex.specs.Lexemes as lexemes;
 ghost use Rattle.tapa_syntax.specs.Comments.{closing};
 ghost use Rattle.vlog_lex.specs.Reading as reading;
 

@@ -4,7 +4,7 @@ use Rattle.vlog_tree.specs.Grounded.{Has}
 use Rattle.vlog_tree.specs.Table.{Name}
 use Rattle.vlog_tree.specs.Loops.{Edges}
 use Rattle.vlog_scope.specs.NameTable.{value_in}
-use Rattle.vlog_graph.specs.Graphs.{Steps}
+use Rattle.number_graph.specs.Graphs.{Steps}
 use Rattle.vlog_net_graph.specs.declared.names.Draft.{Draft}
 use Rattle.vlog_net_graph.specs.declared.names.NamedGraph.{NamedGraph}
 

@@ -3,12 +3,12 @@
 ghost use Rattle.std.specs.Prelude.{◌≡◌, ◌++◌, ◌∷◌, [], ℕ, List, Some, None, true, length, bytes_eq, ◌↔◌, if◌then◌else◌, IfOk, OnOk};
 ghost use Rattle.vlog_tree.specs.Loops.{Edges, Reaches};
 ghost use Rattle.vlog_scope.specs.NameTable.{value_in};
-ghost use Rattle.vlog_graph.specs.Graphs.{Steps};
+ghost use Rattle.number_graph.specs.Graphs.{Steps};
 ghost use Rattle.vlog_net_graph.specs.Names.{IsNumbered, IsDraftOf, IsGraphOf, IsExtended, IsListed, IsGraphListed};
 
 use std::alloc::{AllocError, Global};
 use std::collections::HashMap;
-use vlog_graph::{Graph, LeveledGraph, Order, order_of};
+use number_graph::{Graph, LeveledGraph, Order, order_of};
 
 /// A graph of names that grows: the names by their numbers, and the edges by numbers.
 #[derive(Drop)]

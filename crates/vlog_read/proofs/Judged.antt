@@ -10,7 +10,7 @@ use Rattle.vlog_tree.specs.Refused.{Refuses, IsDesign}
 use Rattle.vlog_tree.specs.Clamped.{clamped}
 use Rattle.vlog_tree.proofs.ClampedModules.{widths_same}
 use Rattle.tapa_base.specs.Gaps.{Bytes}
-use Rattle.vlog_grammar.specs.Grammar.{SpellsDesign, HasTree}
+use Rattle.vlog_lex.specs.Grammar.{SpellsDesign, HasTree}
 use Rattle.vlog_lex.specs.declared.lexer.Lexeme.{Lexeme}
 use Rattle.vlog_lex.specs.Scanned.{IsScan, words_at}
 use Rattle.vlog_read.specs.Texts.{RefusesText}

@@ -1,3 +1,15 @@
+pub mod IsRead
+pub mod Folded
+pub mod HeadReads
+pub mod ItemReads
+pub mod AtomReads
+pub mod ValueReads
+pub mod BlockReads
+pub mod ReaderReads
+pub mod Alive
+pub mod Behind
+pub mod Formed
+pub mod Items
 pub mod Placed
 pub mod Stopped
 pub mod OnePlace

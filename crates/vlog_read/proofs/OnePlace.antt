@@ -5,11 +5,11 @@ use Rattle.tapa_base.specs.declared.text.Place.{Place}
 use Rattle.tapa_syntax.specs.Characters.{place_of}
 use Rattle.vlog_tree.specs.Spelling.{Word}
 use Rattle.tapa_base.specs.Gaps.{Bytes}
-use Rattle.vlog_grammar.specs.Lexemes.{Piece, gap, word, Stands, IsWord, piece_bytes, text_of, StandInTurn, words_of}
-use Rattle.vlog_grammar.specs.Grammar.{SpellsDesign}
-use Rattle.vlog_grammar.proofs.Cuts.{cut, stands_cut}
+use Rattle.vlog_lex.specs.Lexemes.{Piece, gap, word, Stands, IsWord, piece_bytes, text_of, StandInTurn, words_of}
+use Rattle.vlog_lex.specs.Grammar.{SpellsDesign}
+use Rattle.vlog_lex.proofs.Cuts.{cut, stands_cut}
 use Rattle.vlog_lex.specs.Scanned.{NothingStands}
-use Rattle.vlog_parse.specs.Refused.{Begins}
+use Rattle.vlog_read.specs.Refused.{Begins}
 use Rattle.vlog_read.specs.Texts.{StopsAt, IsRefusedAt}
 
 -- which words may come

@@ -5,7 +5,7 @@ use Rattle.std.proofs.lemmas.Bool.{le-leb}
 use Rattle.std.proofs.lemmas.List.{length-append}
 use Rattle.vlog_tree.specs.Spelling.{Word}
 use Rattle.tapa_base.specs.Gaps.{Bytes}
-use Rattle.vlog_grammar.specs.Lexemes.{Piece, gap, word, Stands, IsWord, text_of, StandInTurn, words_of}
+use Rattle.vlog_lex.specs.Lexemes.{Piece, gap, word, Stands, IsWord, text_of, StandInTurn, words_of}
 use Rattle.vlog_lex.specs.declared.lexer.Lexeme.{Lexeme}
 use Rattle.vlog_lex.specs.Scanned.{word_of, words_at, slices_of}
 use Rattle.vlog_read.specs.Texts.{refused_at}

@@ -8,13 +8,13 @@ use Rattle.tapa_syntax.specs.Characters.{place_of}
 use Rattle.vlog_tree.specs.Form.{ModuleTree}
 use Rattle.vlog_tree.specs.Spelling.{Word}
 use Rattle.tapa_base.specs.Gaps.{Bytes}
-use Rattle.vlog_grammar.specs.Lexemes.{Piece, gap, word, piece_bytes, text_of, StandInTurn, words_of, HasWords}
-use Rattle.vlog_grammar.specs.Grammar.{SpellsDesign}
-use Rattle.vlog_grammar.proofs.Cuts.{cut, stands_cut, no_piece}
+use Rattle.vlog_lex.specs.Lexemes.{Piece, gap, word, piece_bytes, text_of, StandInTurn, words_of, HasWords}
+use Rattle.vlog_lex.specs.Grammar.{SpellsDesign}
+use Rattle.vlog_lex.proofs.Cuts.{cut, stands_cut, no_piece}
 use Rattle.vlog_lex.specs.declared.lexer.Lexeme.{Lexeme}
 use Rattle.vlog_lex.specs.Scanned.{IsScan, word_of, words_at, slices_of}
 use Rattle.vlog_lex.proofs.Whole.{text_split}
-use Rattle.vlog_parse.specs.Refused.{Begins, IsFirstRefused}
+use Rattle.vlog_read.specs.Refused.{Begins, IsFirstRefused}
 use Rattle.vlog_read.specs.Texts.{StopsAt, IsRefusedAt, HasNoTree, refused_at}
 use Rattle.vlog_read.proofs.Placed.{taken, told_words, IsParted, parted}
 

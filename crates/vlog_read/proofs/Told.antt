@@ -6,7 +6,7 @@ use Rattle.vlog_tree.specs.Form.{ModuleTree}
 use Rattle.vlog_tree.specs.Refused.{Refuses, IsDesign}
 use Rattle.vlog_tree.specs.Clamped.{clamped}
 use Rattle.tapa_base.specs.Gaps.{Bytes}
-use Rattle.vlog_grammar.specs.Grammar.{HasTree}
+use Rattle.vlog_lex.specs.Grammar.{HasTree}
 use Rattle.vlog_design.specs.Designs.{DesignTree}
 use Rattle.vlog_read.specs.Texts.{RefusesText}
 use Rattle.vlog_read.proofs.Judged.{refuses_text, tree_uncut}

@@ -8,11 +8,11 @@ use Rattle.vlog_tree.specs.Form.{ModuleTree}
 use Rattle.vlog_tree.specs.Spelling.{Word}
 use Rattle.vlog_tree.specs.Refused.{Refuses}
 use Rattle.tapa_base.specs.Gaps.{Bytes}
-use Rattle.vlog_grammar.specs.Lexemes.{Piece, IsWord, text_of, StandInTurn, words_of}
-use Rattle.vlog_grammar.specs.Grammar.{SpellsDesign, HasTree}
+use Rattle.vlog_lex.specs.Lexemes.{Piece, IsWord, text_of, StandInTurn, words_of}
+use Rattle.vlog_lex.specs.Grammar.{SpellsDesign, HasTree}
 use Rattle.vlog_lex.specs.declared.lexer.Lexeme.{Lexeme}
 use Rattle.vlog_lex.specs.Scanned.{NothingStands}
-use Rattle.vlog_parse.specs.Refused.{Begins}
+use Rattle.vlog_read.specs.Refused.{Begins}
 
 -- Behind words of a text: a word with which no design goes on, or a byte that begins no word, or the end of the text, where
 -- more would have to come.

@@ -6,11 +6,11 @@ ghost use Rattle.vlog_tree.specs.declared.fault.VFault.{VFault as VFaultTree};
 ghost use Rattle.vlog_tree.specs.declared.fault.VFault.TheVariants as fault;
 ghost use Rattle.vlog_tree.specs.Refused.{IsDesign};
 ghost use Rattle.vlog_tree.specs.Spelling.{spelling};
-ghost use Rattle.vlog_grammar.specs.Grammar.{HasTree};
+ghost use Rattle.vlog_lex.specs.Grammar.{HasTree};
 ghost use Rattle.vlog_design.specs.Designs.{DesignTree};
 ghost use Rattle.vlog_read.specs.Texts.{IsRefusedAt, RefusesText};
 
-use vlog_grammar::{law_design_is_its_text, law_one_tree};
+use vlog_lex::{law_design_is_its_text, law_one_tree};
 use vlog_tree::law_design_is_not_refused;
 
 /// A text is refused at one place at most.

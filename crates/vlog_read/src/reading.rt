@@ -4,15 +4,15 @@ ghost use Rattle.std.specs.Prelude.{◌≡◌, ◌<◌, ◌-◌, ◌^◌, List, 
 ghost use Rattle.vlog_tree.specs.Clamped.{clamped};
 ghost use Rattle.vlog_tree.specs.Form.{ModuleTree};
 ghost use Rattle.vlog_tree.specs.Refused.{IsDesign};
-ghost use Rattle.vlog_grammar.specs.Grammar.{SpellsDesign, HasTree};
+ghost use Rattle.vlog_lex.specs.Grammar.{SpellsDesign, HasTree};
 ghost use Rattle.vlog_lex.specs.Scanned.{IsScan, words_at};
-ghost use Rattle.vlog_parse.specs.Refused.{IsFirstRefused};
+ghost use Rattle.vlog_read.specs.Refused.{IsFirstRefused};
 ghost use Rattle.vlog_read.specs.Texts.{RefusesText, refused_at};
 
 use std::alloc::Global;
 use vlog_design::Design;
 use vlog_lex::{Words, place_at, scan};
-use vlog_parse::{ParseFault, parse};
+use crate::design::{ParseFault, parse};
 use vlog_tree::{Module, VFault};
 
 /// How many bytes stand before the word behind so many, or before the end of what is cut into words.

@@ -5,11 +5,11 @@ use Rattle.vlog_tree.specs.Form.{ModuleTree}
 use Rattle.vlog_tree.specs.Cycle.{Cycle, Path, Sizes, module_at, run_items}
 use Rattle.vlog_tree.specs.Environment.{Environment}
 use Rattle.vlog_tree.specs.Grounded.{AllTwo}
-use Rattle.vlog_ref_driver.specs.declared.numbers.NetNumber.{NetNumber}
-use Rattle.vlog_ref_driver.specs.declared.numbers.MemoryCells.{MemoryCells}
-use Rattle.vlog_ref_driver.specs.declared.moment.Circuit.{Circuit}
-use Rattle.vlog_ref_driver.specs.declared.moment.Held.{Held}
-use Rattle.vlog_ref_driver.specs.declared.moment.Moment.{Moment}
+use Rattle.vlog_values.specs.declared.numbers.NetNumber.{NetNumber}
+use Rattle.vlog_values.specs.declared.numbers.MemoryCells.{MemoryCells}
+use Rattle.vlog_values.specs.declared.moment.Circuit.{Circuit}
+use Rattle.vlog_values.specs.declared.moment.Held.{Held}
+use Rattle.vlog_values.specs.declared.moment.Moment.{Moment}
 use Rattle.vlog_ref_cycle.specs.Numbers.{all_numbers, number_at}
 use Rattle.vlog_ref_cycle.specs.Moments.{HeldIs, IsRunAt, run_at, InRuns}
 use Rattle.vlog_ref_cycle.specs.Next.{item_nets, reads_of, ReadsAre, Fits, ShowsNet, ShowsCells, Shows, IsAlike, IsCopy, net_shape, memory_shape}

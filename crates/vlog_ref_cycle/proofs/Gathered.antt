@@ -4,7 +4,7 @@ use Rattle.std.specs.Option.{option_map}
 use Rattle.vlog_tree.specs.Cycle.{and_then}
 use Rattle.vlog_tree.specs.Table.{Name}
 use Rattle.vlog_tree.proofs.Walks.{opened, over}
-use Rattle.vlog_ref_driver.specs.declared.numbers.NetNumber.{NetNumber}
+use Rattle.vlog_values.specs.declared.numbers.NetNumber.{NetNumber}
 use Rattle.vlog_ref_cycle.specs.Numbers.{all_numbers}
 
 abbrev pub numbered : NetNumber → ℕ → NetNumber

@@ -8,8 +8,8 @@ use Rattle.vlog_tree.specs.Grounded.{AllTwo}
 use Rattle.vlog_tree.specs.Table.{Name}
 use Rattle.vlog_tree.specs.Labels.{s_din, s_wr, s_rdy, done, m_ack, m_we, m_addr, m_wdata}
 use Rattle.vlog_tree.specs.Environment.{carried, set_cell, IsDone}
-use Rattle.vlog_ref_driver.specs.declared.moment.Circuit.{Circuit}
-use Rattle.vlog_ref_driver.specs.declared.moment.Moment.{Moment}
+use Rattle.vlog_values.specs.declared.moment.Circuit.{Circuit}
+use Rattle.vlog_values.specs.declared.moment.Moment.{Moment}
 use Rattle.vlog_ref_cycle.specs.Moments.{InRuns}
 use Rattle.vlog_ref_cycle.specs.Next.{stored_cells}
 use Rattle.vlog_ref_cycle.proofs.Carried.{carries_one, carries_none}

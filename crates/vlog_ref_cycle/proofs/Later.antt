@@ -8,14 +8,14 @@ use Rattle.vlog_tree.specs.Grounded.{Has, AllTwo}
 use Rattle.vlog_tree.specs.Table.{Name, declared}
 use Rattle.vlog_tree.specs.Cycle.{Cycle, Path, Sizes, module_at, Holds, Takes, run_items}
 use Rattle.vlog_tree.specs.Environment.{Environment, RunsIn, shape_of, cells_at}
-use Rattle.vlog_law_runs.proofs.Sizes.{all_at}
-use Rattle.vlog_ref_driver.specs.declared.numbers.NetNumber.{NetNumber}
-use Rattle.vlog_ref_driver.specs.declared.numbers.MemoryCells.{MemoryCells}
+use Rattle.vlog_run_laws.proofs.runs.Sizes.{all_at}
+use Rattle.vlog_values.specs.declared.numbers.NetNumber.{NetNumber}
+use Rattle.vlog_values.specs.declared.numbers.MemoryCells.{MemoryCells}
 use Rattle.tapa_base.specs.declared.shape.Port.{Port}
-use Rattle.vlog_ref_driver.specs.declared.moment.Circuit.{Circuit}
-use Rattle.vlog_ref_driver.specs.declared.moment.OutsideMemory.{OutsideMemory}
-use Rattle.vlog_ref_driver.specs.declared.moment.Held.{Held}
-use Rattle.vlog_ref_driver.specs.declared.moment.Moment.{Moment}
+use Rattle.vlog_values.specs.declared.moment.Circuit.{Circuit}
+use Rattle.vlog_values.specs.declared.moment.OutsideMemory.{OutsideMemory}
+use Rattle.vlog_values.specs.declared.moment.Held.{Held}
+use Rattle.vlog_values.specs.declared.moment.Moment.{Moment}
 use Rattle.vlog_ref_cycle.specs.Numbers.{all_numbers, net_within}
 use Rattle.vlog_ref_cycle.specs.Moments.{RegisterIs, MemoryIs, HeldIs, ScalarIs, OutsideIs, IsAt, IsRunAt, run_at, InRuns}
 use Rattle.vlog_ref_cycle.specs.Next.{stored_cells, IsAfterStore, item_nets, reads_of, ReadsAre, Fits, ShowsNet, ShowsCells, Shows, IsAlike, net_shape, memory_shape}

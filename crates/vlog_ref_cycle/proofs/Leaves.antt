@@ -10,8 +10,8 @@ use Rattle.std.specs.Cmp.Lexicographic.{bytes_decides}
 use Rattle.vlog_tree.specs.Cycle.{Cycle, Sizes, put, store}
 use Rattle.vlog_tree.specs.Table.{Name}
 use Rattle.vlog_tree.specs.Grounded.{AllTwo}
-use Rattle.vlog_ref_driver.specs.declared.numbers.NetNumber.{NetNumber}
-use Rattle.vlog_ref_driver.specs.declared.numbers.MemoryCells.{MemoryCells}
+use Rattle.vlog_values.specs.declared.numbers.NetNumber.{NetNumber}
+use Rattle.vlog_values.specs.declared.numbers.MemoryCells.{MemoryCells}
 use Rattle.vlog_ref_cycle.specs.Next.{put_net, IsStored, ShowsNet, ShowsCells, net_shape, memory_shape}
 
 pub shows_put : (c : Cycle) (x : Name) (v : ℕ) (ns : List NetNumber) → AllByRecursion (ShowsNet c) ns → AllByRecursion (ShowsNet (put x v c)) (map (put_net x v) ns)

@@ -3,10 +3,10 @@ use Rattle.std.proofs.Common.{◌≡◌, ℕ, zero, suc, ◌+◌, ◌<◌, Bool,
 use Rattle.std.specs.List.{AllByRecursion, list_all}
 use Rattle.vlog_tree.specs.Grounded.{AllTwo}
 use Rattle.vlog_tree.proofs.Walks.{step}
-use Rattle.vlog_ref_driver.specs.declared.moment.Circuit.{Circuit}
-use Rattle.vlog_ref_driver.specs.declared.moment.Held.{Held}
-use Rattle.vlog_ref_driver.specs.declared.moment.OutsideMemory.{OutsideMemory}
-use Rattle.vlog_ref_driver.specs.declared.moment.Moment.{Moment}
+use Rattle.vlog_values.specs.declared.moment.Circuit.{Circuit}
+use Rattle.vlog_values.specs.declared.moment.Held.{Held}
+use Rattle.vlog_values.specs.declared.moment.OutsideMemory.{OutsideMemory}
+use Rattle.vlog_values.specs.declared.moment.Moment.{Moment}
 use Rattle.vlog_ref_cycle.specs.Moments.{HeldIs, IsAt, IsRunAt, run_at, InRuns}
 use Rattle.vlog_tree.specs.Cycle.{Cycle, Path}
 use Rattle.vlog_tree.specs.Environment.{Environment}

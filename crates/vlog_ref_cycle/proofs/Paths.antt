@@ -8,7 +8,7 @@ use Rattle.vlog_tree.specs.Form.{ModuleTree}
 use Rattle.vlog_tree.specs.Cycle.{Path, and_then, child_of, module_at}
 use Rattle.vlog_tree.specs.Table.{Name, module_named}
 use Rattle.vlog_tree.proofs.Walks.{opened}
-use Rattle.vlog_ref_driver.specs.Scopes.{or_else}
+use Rattle.vlog_values.specs.Scopes.{or_else}
 use Rattle.vlog_ref_cycle.specs.Sources.{same_path}
 
 choice : {A : Type 0} (b : Bool) (x : A) (o : Option A) → cond b (Some x) o ≡ or_else (cond b (Some x) None) o

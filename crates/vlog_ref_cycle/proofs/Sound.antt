@@ -16,15 +16,15 @@ use Rattle.vlog_tree.specs.Grounded.{Has, AllTwo}
 use Rattle.vlog_tree.specs.Table.{Name, declared, port_declared, ports_of, net_kind_of, bits_of, net_kind_is_input, net_kind_is_read}
 use Rattle.vlog_tree.specs.Cycle.{Cycle, Path, Sizes, and_then, Holds, PortHolds, driven}
 use Rattle.vlog_tree.specs.Loops.{value_nets}
-use Rattle.vlog_law_runs.proofs.Sound.{both_true, true_not_false}
-use Rattle.vlog_law_runs.proofs.Sizes.{all_at, width_held}
-use Rattle.vlog_law_runs.proofs.Values.{ReadsAlike, driven_same}
-use Rattle.vlog_ref_driver.specs.declared.numbers.NetNumber.{NetNumber}
-use Rattle.vlog_ref_driver.specs.declared.numbers.MemoryCells.{MemoryCells}
-use Rattle.vlog_ref_driver.specs.Numbers.{first_net, first_memory, net_in, bits_in, cycle_of, sizes_of, fitting}
-use Rattle.vlog_ref_driver.proofs.Fits.{is_fit}
-use Rattle.vlog_ref_driver.specs.declared.moment.Held.{Held}
-use Rattle.vlog_ref_driver.specs.declared.moment.OutsideMemory.{OutsideMemory}
+use Rattle.vlog_run_laws.proofs.runs.Sound.{both_true, true_not_false}
+use Rattle.vlog_run_laws.proofs.runs.Sizes.{all_at, width_held}
+use Rattle.vlog_run_laws.proofs.runs.Values.{ReadsAlike, driven_same}
+use Rattle.vlog_values.specs.declared.numbers.NetNumber.{NetNumber}
+use Rattle.vlog_values.specs.declared.numbers.MemoryCells.{MemoryCells}
+use Rattle.vlog_values.specs.Numbers.{first_net, first_memory, net_in, bits_in, cycle_of, sizes_of, fitting}
+use Rattle.vlog_values.proofs.Fits.{is_fit}
+use Rattle.vlog_values.specs.declared.moment.Held.{Held}
+use Rattle.vlog_values.specs.declared.moment.OutsideMemory.{OutsideMemory}
 use Rattle.vlog_ref_cycle.specs.Sources.{RuleTree, SourceTree, same_path, held_at, assigned_in, assigned, connection_out, output_in, output_of, connection_in, joined_in, joined_to, net_read, are_read, has_cells, given_number, same_number, can_drive, memory_of}
 use Rattle.vlog_ref_cycle.specs.Numbers.{by_rule, all_numbers}
 use Rattle.vlog_ref_cycle.specs.Moments.{MemoryIs}

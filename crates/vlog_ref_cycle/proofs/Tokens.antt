@@ -6,8 +6,8 @@ use Rattle.std.specs.Option.{option_to_list}
 use Rattle.tapa_base.specs.declared.token.Token.{Token}
 use Rattle.vlog_tree.specs.Table.{Name}
 use Rattle.vlog_tree.specs.Environment.{carried, token_of, tokens}
-use Rattle.vlog_ref_driver.specs.declared.moment.Circuit.{Circuit}
-use Rattle.vlog_ref_driver.specs.declared.moment.Moment.{Moment}
+use Rattle.vlog_values.specs.declared.moment.Circuit.{Circuit}
+use Rattle.vlog_values.specs.declared.moment.Moment.{Moment}
 use Rattle.vlog_ref_cycle.specs.Moments.{InRuns}
 
 pub low_datum : (bits din : ℕ) → bits ≤ 65 → din < 2 ^ (bits - 1) → din < 2 ^ 64

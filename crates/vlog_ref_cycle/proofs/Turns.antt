@@ -16,11 +16,11 @@ use Rattle.vlog_tree.specs.Cycle.{Cycle, Sizes, atom_value, put, store, run_step
 use Rattle.vlog_tree.specs.Table.{Name}
 use Rattle.vlog_tree.proofs.Walks.{opened, over}
 use Rattle.vlog_tree.proofs.Lists.{has_flat, has_got, got_index}
-use Rattle.vlog_law_runs.proofs.Values.{atom_same}
-use Rattle.vlog_ref_driver.specs.declared.numbers.NetNumber.{NetNumber}
-use Rattle.vlog_ref_driver.specs.declared.numbers.MemoryCells.{MemoryCells}
-use Rattle.vlog_ref_driver.specs.Numbers.{net_in, cycle_of}
-use Rattle.vlog_ref_driver.specs.declared.moment.Held.{Held}
+use Rattle.vlog_run_laws.proofs.runs.Values.{atom_same}
+use Rattle.vlog_values.specs.declared.numbers.NetNumber.{NetNumber}
+use Rattle.vlog_values.specs.declared.numbers.MemoryCells.{MemoryCells}
+use Rattle.vlog_values.specs.Numbers.{net_in, cycle_of}
+use Rattle.vlog_values.specs.declared.moment.Held.{Held}
 use Rattle.vlog_ref_cycle.specs.Next.{put_net, IsStored, ShowsNet, ShowsCells, Shows, ReadsAre, Fits, IsAlike, memory_shape, step_next, StepLeaves}
 use Rattle.vlog_ref_cycle.proofs.Options.{cons_same}
 use Rattle.vlog_ref_cycle.proofs.Leaves.{shows_put, shows_store}

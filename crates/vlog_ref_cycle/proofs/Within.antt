@@ -15,16 +15,16 @@ use Rattle.vlog_tree.specs.Cycle.{Cycle, Path, and_then, module_at, Connected}
 use Rattle.vlog_tree.specs.Environment.{Environment, RunsIn, shape_of, ready_at, Answers}
 use Rattle.vlog_tree.specs.Labels.{rst, scalar, m_ack, m_rdata, m_addr, scalar_of, ack_of, rdata_of}
 use Rattle.vlog_tree.specs.Loops.{value_nets}
-use Rattle.vlog_law_runs.proofs.Sizes.{all_at}
-use Rattle.vlog_law_runs.proofs.Labelled.{scalar_label, ack_label, rdata_label}
-use Rattle.vlog_ref_driver.specs.declared.numbers.NetNumber.{NetNumber}
-use Rattle.vlog_ref_driver.specs.Numbers.{first_net}
-use Rattle.vlog_ref_driver.specs.declared.moment.Held.{Held}
-use Rattle.vlog_ref_driver.specs.declared.moment.OutsideMemory.{OutsideMemory}
-use Rattle.vlog_ref_driver.specs.declared.moment.Moment.{Moment}
+use Rattle.vlog_run_laws.proofs.runs.Sizes.{all_at}
+use Rattle.vlog_run_laws.proofs.runs.Labelled.{scalar_label, ack_label, rdata_label}
+use Rattle.vlog_values.specs.declared.numbers.NetNumber.{NetNumber}
+use Rattle.vlog_values.specs.Numbers.{first_net}
+use Rattle.vlog_values.specs.declared.moment.Held.{Held}
+use Rattle.vlog_values.specs.declared.moment.OutsideMemory.{OutsideMemory}
+use Rattle.vlog_values.specs.declared.moment.Moment.{Moment}
 use Rattle.vlog_ref_cycle.specs.Sources.{RuleTree, SourceTree, held_at, assigned, output_of, joined_to, net_read, given_number, same_number, can_drive, rdata_source, ack_source, scalar_source, memory_of, input_source, outer_source, output_source, line_source, register_source, source_of}
 use Rattle.vlog_ref_cycle.specs.Numbers.{by_rule, all_numbers, net_within, number_at}
-use Rattle.vlog_ref_driver.specs.declared.moment.Circuit.{Circuit}
+use Rattle.vlog_values.specs.declared.moment.Circuit.{Circuit}
 use Rattle.vlog_ref_cycle.specs.Moments.{RegisterIs, MemoryIs, HeldIs, ScalarIs, OutsideIs, IsAt, IsRunAt, run_at, InRuns}
 use Rattle.vlog_ref_cycle.proofs.Options.{and_then_some, map_some, cond_some}
 use Rattle.vlog_ref_cycle.proofs.Sound.{held_found, net_found, outside_found, driver_found, numbers_read, IsOutput, output_found, joined_found, Gives, given_gives, same_gives, cells_give, driver_gives}

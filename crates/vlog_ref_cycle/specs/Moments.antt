@@ -11,12 +11,12 @@ use Rattle.vlog_tree.specs.Table.{Name}
 use Rattle.vlog_tree.specs.Labels.{s_din, s_wr, s_rdy}
 use Rattle.vlog_ref_cycle.specs.Numbers.{number_at}
 use Rattle.vlog_tree.specs.Environment.{Environment, RunsIn, shape_of, cells_at}
-use Rattle.vlog_ref_driver.specs.declared.numbers.NetNumber.{NetNumber}
-use Rattle.vlog_ref_driver.specs.declared.numbers.MemoryCells.{MemoryCells}
-use Rattle.vlog_ref_driver.specs.declared.moment.Circuit.{Circuit}
-use Rattle.vlog_ref_driver.specs.declared.moment.Held.{Held}
-use Rattle.vlog_ref_driver.specs.declared.moment.OutsideMemory.{OutsideMemory}
-use Rattle.vlog_ref_driver.specs.declared.moment.Moment.{Moment}
+use Rattle.vlog_values.specs.declared.numbers.NetNumber.{NetNumber}
+use Rattle.vlog_values.specs.declared.numbers.MemoryCells.{MemoryCells}
+use Rattle.vlog_values.specs.declared.moment.Circuit.{Circuit}
+use Rattle.vlog_values.specs.declared.moment.Held.{Held}
+use Rattle.vlog_values.specs.declared.moment.OutsideMemory.{OutsideMemory}
+use Rattle.vlog_values.specs.declared.moment.Moment.{Moment}
 
 -- a register of a module, with the number that it has
 abbrev pub RegisterIs : List Item → Cycle → NetNumber → Type 0

@@ -12,13 +12,13 @@ use Rattle.vlog_tree.specs.declared.tree.Item.TheVariants.{Wire, Reg, Memory, As
 use Rattle.vlog_tree.specs.Cycle.{Cycle, Sizes, and_then, module_at, atom_value, put, store, run_steps}
 use Rattle.vlog_tree.specs.Environment.{set_cell}
 use Rattle.vlog_tree.specs.Loops.{atom_nets}
-use Rattle.vlog_ref_driver.specs.declared.numbers.NetNumber.{NetNumber}
-use Rattle.vlog_ref_driver.specs.declared.numbers.MemoryCells.{MemoryCells}
-use Rattle.vlog_ref_driver.specs.Numbers.{net_in}
-use Rattle.vlog_ref_driver.specs.declared.moment.Held.{Held}
-use Rattle.vlog_ref_driver.specs.declared.moment.OutsideMemory.{OutsideMemory}
-use Rattle.vlog_ref_driver.specs.declared.moment.Circuit.{Circuit}
-use Rattle.vlog_ref_driver.specs.declared.moment.Moment.{Moment}
+use Rattle.vlog_values.specs.declared.numbers.NetNumber.{NetNumber}
+use Rattle.vlog_values.specs.declared.numbers.MemoryCells.{MemoryCells}
+use Rattle.vlog_values.specs.Numbers.{net_in}
+use Rattle.vlog_values.specs.declared.moment.Held.{Held}
+use Rattle.vlog_values.specs.declared.moment.OutsideMemory.{OutsideMemory}
+use Rattle.vlog_values.specs.declared.moment.Circuit.{Circuit}
+use Rattle.vlog_values.specs.declared.moment.Moment.{Moment}
 use Rattle.vlog_ref_cycle.specs.Sources.{net_read}
 use Rattle.vlog_ref_cycle.specs.Numbers.{all_numbers, number_at}
 

@@ -15,13 +15,13 @@ use Rattle.vlog_tree.specs.Cycle.{Path, and_then, module_at}
 use Rattle.vlog_tree.specs.Environment.{ready_at}
 use Rattle.vlog_tree.specs.Labels.{rst, scalar_of, ack_of, rdata_of, m_addr}
 use Rattle.vlog_tree.specs.Loops.{value_nets}
-use Rattle.vlog_ref_driver.specs.declared.numbers.NetNumber.{NetNumber}
-use Rattle.vlog_ref_driver.specs.declared.numbers.MemoryCells.{MemoryCells}
-use Rattle.vlog_ref_driver.specs.Scopes.{or_else}
-use Rattle.vlog_ref_driver.specs.Numbers.{first_net, first_memory}
-use Rattle.vlog_ref_driver.specs.declared.moment.Held.{Held}
-use Rattle.vlog_ref_driver.specs.declared.moment.OutsideMemory.{OutsideMemory}
-use Rattle.vlog_ref_driver.specs.declared.moment.Moment.{Moment}
+use Rattle.vlog_values.specs.declared.numbers.NetNumber.{NetNumber}
+use Rattle.vlog_values.specs.declared.numbers.MemoryCells.{MemoryCells}
+use Rattle.vlog_values.specs.Scopes.{or_else}
+use Rattle.vlog_values.specs.Numbers.{first_net, first_memory}
+use Rattle.vlog_values.specs.declared.moment.Held.{Held}
+use Rattle.vlog_values.specs.declared.moment.OutsideMemory.{OutsideMemory}
+use Rattle.vlog_values.specs.declared.moment.Moment.{Moment}
 use Rattle.vlog_ref_cycle.specs.declared.sources.Rule.{Rule}
 use Rattle.vlog_ref_cycle.specs.declared.sources.Rule.TheVariants.{Number, Same, Driver, Cells}
 use Rattle.vlog_ref_cycle.specs.declared.sources.Source.{Source}

@@ -4,14 +4,14 @@ ghost use Rattle.std.specs.Prelude.{◌≡◌, ◌==◌, IfOk, if◌then◌else�
 ghost use Rattle.std.specs.Option.{option_map, option_copied};
 ghost use Rattle.vlog_tree.specs.Environment.{ready_at as ready_at_lem};
 ghost use Rattle.vlog_tree.specs.Labels.{rst, scalar_of as scalar_lem, ack_of as ack_lem, rdata_of as rdata_lem};
-ghost use Rattle.vlog_ref_driver.specs.declared.numbers.NetNumber.{NetNumber as NetNumberTree};
-ghost use Rattle.vlog_ref_driver.specs.Numbers.{first_net};
+ghost use Rattle.vlog_values.specs.declared.numbers.NetNumber.{NetNumber as NetNumberTree};
+ghost use Rattle.vlog_values.specs.Numbers.{first_net};
 ghost use Rattle.vlog_ref_cycle.specs.Sources.{source_tree, memory_of as memory_of_lem, rdata_source, ack_source, scalar_source, input_source as input_source_lem};
 
 use crate::sources::{Rule, Source, given, one_read};
 use std::alloc::{AllocError, Global};
 use tapa_base::Text;
-use vlog_ref_driver::{Moment, NetNumber, OutsideMemory};
+use vlog_values::{Moment, NetNumber, OutsideMemory};
 use vlog_tree::{ack_of, addr_name, rdata_of, scalar_of};
 
 #[tactic(auto, unfolding(vlog_tree::specs::Labels::rst))]

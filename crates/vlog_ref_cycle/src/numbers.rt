@@ -6,12 +6,12 @@ ghost use Rattle.vlog_ref_cycle.specs.Moments.{InRuns};
 ghost use Rattle.vlog_ref_cycle.specs.Numbers.{first_number, by_rule as by_rule_lem, all_numbers as all_numbers_lem, number_at};
 ghost use Rattle.std.specs.Option.{option_map};
 ghost use Rattle.std.specs.declared.alloc.Global.{Global};
-ghost use Rattle.vlog_ref_driver.specs.declared.numbers.NetNumber.{NetNumber};
+ghost use Rattle.vlog_values.specs.declared.numbers.NetNumber.{NetNumber};
 
 use crate::sources::{Rule, source_of};
 use std::alloc::{AllocError, Global};
 use tapa_base::Text;
-use vlog_ref_driver::{Circuit, Moment, NetNumber, value_of};
+use vlog_values::{Circuit, Moment, NetNumber, value_of};
 
 fn first_of(nets: &[NetNumber]) -> Option<u128>
     ensures { result ≡ first_number nets.now }

@@ -8,7 +8,7 @@ ghost use Rattle.vlog_ref_cycle.specs.Sources.{same_path as same_path_lem, held_
 
 use std::alloc::{AllocError, Global};
 use tapa_base::Text;
-use vlog_ref_driver::Held;
+use vlog_values::Held;
 use vlog_tree::{Item, Module};
 
 /// The first module of a name.

@@ -11,7 +11,7 @@ ghost use Rattle.vlog_ref_cycle.specs.Numbers.{number_at};
 use crate::numbers::net_number;
 use std::alloc::{AllocError, Global};
 use tapa_base::{Port, Text, Token};
-use vlog_ref_driver::{Circuit, Moment};
+use vlog_values::{Circuit, Moment};
 use vlog_tree::{rdy_name, wr_name};
 
 /// The number of a net of the top.

@@ -6,8 +6,8 @@ use Rattle.tapa_base.specs.declared.shape.Port.{Port}
 use Rattle.vlog_tree.specs.Environment.{Environment}
 use Rattle.vlog_tree.specs.Grounded.{Has}
 use Rattle.vlog_tree.specs.Cycle.{Cycle}
-use Rattle.vlog_ref_driver.specs.declared.numbers.NetNumber.{NetNumber}
-use Rattle.vlog_ref_driver.specs.declared.moment.OutsideMemory.{OutsideMemory}
+use Rattle.vlog_values.specs.declared.numbers.NetNumber.{NetNumber}
+use Rattle.vlog_values.specs.declared.moment.OutsideMemory.{OutsideMemory}
 use Rattle.vlog_ref_cycle.specs.Moments.{ScalarIs, OutsideIs}
 use Rattle.vlog_ref_start.specs.Outside.{OutsideTree, outside_tree, labelled_from, outside_from}
 

@@ -4,16 +4,16 @@ use Rattle.std.specs.Prelude.{slice_get}
 use Rattle.vlog_tree.specs.Refused.{IsDesign}
 use Rattle.vlog_tree.specs.Cycle.{Cycle, Path}
 use Rattle.vlog_tree.specs.Environment.{Environment, FitsShape, shape_of}
-use Rattle.vlog_law_runs.specs.OneRun.{IsRunFrom}
-use Rattle.vlog_law_runs.specs.Filled.{IsFilled}
-use Rattle.vlog_ref_driver.specs.declared.moment.Circuit.{Circuit}
-use Rattle.vlog_ref_driver.specs.declared.moment.Moment.{Moment}
+use Rattle.vlog_run_laws.specs.runs.OneRun.{IsRunFrom}
+use Rattle.vlog_run_laws.specs.runs.Filled.{IsFilled}
+use Rattle.vlog_values.specs.declared.moment.Circuit.{Circuit}
+use Rattle.vlog_values.specs.declared.moment.Moment.{Moment}
 use Rattle.vlog_ref_cycle.specs.Moments.{IsAt, run_at}
-use Rattle.vlog_ref_law.specs.Whole.{IsWhole, HasNoMore}
-use Rattle.vlog_ref_law.proofs.Deeper.{deeper}
-use Rattle.vlog_ref_law.proofs.Found.{each_found}
-use Rattle.vlog_ref_law.proofs.Kept.{whole_kept, no_more_kept}
-use Rattle.vlog_ref_law.proofs.Known.{next_from}
+use Rattle.vlog_ref_start.specs.Whole.{IsWhole, HasNoMore}
+use Rattle.vlog_ref_start.proofs.Deeper.{deeper}
+use Rattle.vlog_ref_start.proofs.FoundNets.{each_found}
+use Rattle.vlog_ref_start.proofs.Kept.{whole_kept, no_more_kept}
+use Rattle.vlog_ref_start.proofs.Known.{next_from}
 use Rattle.vlog_ref_start.specs.Runs.{IsStart, IsComputed, at_first, at_next, IsMomentOf, ReferenceIsRun}
 
 more_steps : (d e : ℕ) → d ≤ e → e ≡ d + (e - d)

@@ -4,12 +4,12 @@ use Rattle.std.specs.Prelude.{bytes_eq, is_some}
 use Rattle.vlog_tree.specs.Grounded.{Has}
 use Rattle.vlog_tree.specs.Cycle.{Path}
 use Rattle.vlog_tree.specs.Table.{Name}
-use Rattle.vlog_law_runs.proofs.Alone.{same_name}
-use Rattle.vlog_ref_driver.specs.declared.numbers.NetNumber.{NetNumber}
-use Rattle.vlog_ref_driver.specs.declared.numbers.MemoryCells.{MemoryCells}
-use Rattle.vlog_ref_driver.specs.Numbers.{first_net, first_memory}
-use Rattle.vlog_ref_driver.specs.declared.moment.Held.{Held}
-use Rattle.vlog_ref_driver.specs.declared.moment.OutsideMemory.{OutsideMemory}
+use Rattle.vlog_run_laws.proofs.runs.Alone.{same_name}
+use Rattle.vlog_values.specs.declared.numbers.NetNumber.{NetNumber}
+use Rattle.vlog_values.specs.declared.numbers.MemoryCells.{MemoryCells}
+use Rattle.vlog_values.specs.Numbers.{first_net, first_memory}
+use Rattle.vlog_values.specs.declared.moment.Held.{Held}
+use Rattle.vlog_values.specs.declared.moment.OutsideMemory.{OutsideMemory}
 use Rattle.vlog_ref_cycle.specs.Sources.{same_path, held_at, memory_of}
 
 here : {A : Type 0} (b : Bool) (x : A) (o : Option A) → b ≡ true → is_some (cond b (Some x) o) ≡ true

@@ -10,15 +10,15 @@ use Rattle.vlog_tree.specs.Grounded.{Has}
 use Rattle.vlog_tree.specs.Cycle.{Cycle, Path, module_at}
 use Rattle.vlog_tree.specs.Table.{Name}
 use Rattle.vlog_tree.proofs.Lists.{has_flat, of_flat, has_map, of_map}
-use Rattle.vlog_law_runs.specs.OneRun.{SameHeld}
-use Rattle.vlog_law_runs.specs.Filled.{HoldsFill}
-use Rattle.vlog_law_runs.proofs.Sizes.{all_at, all_from}
-use Rattle.vlog_ref_driver.specs.declared.numbers.NetNumber.{NetNumber}
-use Rattle.vlog_ref_driver.specs.declared.numbers.MemoryCells.{MemoryCells}
-use Rattle.vlog_ref_driver.specs.Numbers.{first_net, first_memory}
-use Rattle.vlog_ref_driver.specs.declared.moment.Held.{Held}
+use Rattle.vlog_run_laws.specs.runs.OneRun.{SameHeld}
+use Rattle.vlog_run_laws.specs.runs.Filled.{HoldsFill}
+use Rattle.vlog_run_laws.proofs.runs.Sizes.{all_at, all_from}
+use Rattle.vlog_values.specs.declared.numbers.NetNumber.{NetNumber}
+use Rattle.vlog_values.specs.declared.numbers.MemoryCells.{MemoryCells}
+use Rattle.vlog_values.specs.Numbers.{first_net, first_memory}
+use Rattle.vlog_values.specs.declared.moment.Held.{Held}
 use Rattle.vlog_ref_cycle.specs.Moments.{RegisterIs, MemoryIs, HeldIs}
-use Rattle.vlog_ref_law.specs.Whole.{HoldsAll}
+use Rattle.vlog_ref_start.specs.Whole.{HoldsAll}
 use Rattle.vlog_ref_start.specs.Instances.{PlaceTree}
 use Rattle.vlog_ref_start.specs.Contents.{HeldTree, memory_tree, held_tree, filled_net, filled_cells, filled_held}
 use Rattle.vlog_ref_start.proofs.Found.{net_there, memory_there}

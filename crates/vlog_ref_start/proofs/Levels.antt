@@ -9,8 +9,8 @@ use Rattle.vlog_tree.specs.Table.{module_named, first_violation}
 use Rattle.vlog_tree.specs.V2.{v2_uses}
 use Rattle.vlog_tree.specs.Loops.{item_instances}
 use Rattle.vlog_tree.proofs.Lists.{has_flat, of_flat, has_left, has_right, has_split}
-use Rattle.vlog_law_runs.proofs.Settled.{module_in, child_at}
-use Rattle.vlog_law_runs.proofs.Solved.{child_item, module_around}
+use Rattle.vlog_run_laws.proofs.runs.Settled.{module_in, child_at}
+use Rattle.vlog_run_laws.proofs.runs.Solved.{child_item, module_around}
 use Rattle.vlog_ref_start.specs.Instances.{PlaceTree, place_of, line_places, inner_places, places_at, places_below}
 
 module _ (ms : List ModuleTree) (root : ModuleTree) where

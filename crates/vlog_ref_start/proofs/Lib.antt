@@ -1,3 +1,12 @@
+pub mod Deeper
+pub mod Searched
+pub mod Outside
+pub mod Driven
+pub mod FoundNets
+pub mod Kept
+pub mod Blocks
+pub mod Asked
+pub mod Known
 pub mod Levels
 pub mod Short
 pub mod Found

@@ -9,11 +9,11 @@ use Rattle.vlog_tree.specs.Table.{Name}
 use Rattle.vlog_tree.specs.Loops.{item_instances, containment, Reaches, one, own_places, IsLoopless}
 use Rattle.vlog_tree.specs.declared.tree.Item.TheVariants.{Instance}
 use Rattle.vlog_tree.proofs.Lists.{has_flat, has_map, of_map, chains}
-use Rattle.vlog_law_runs.proofs.Ending.{Distinct, no_more}
-use Rattle.vlog_law_runs.proofs.Alone.{module_is, IsNamed}
-use Rattle.vlog_law_runs.proofs.Module.{contains}
-use Rattle.vlog_law_runs.proofs.Settled.{module_in}
-use Rattle.vlog_law_runs.proofs.Solved.{child_item, Around, module_around}
+use Rattle.vlog_run_laws.proofs.runs.Ending.{Distinct, no_more}
+use Rattle.vlog_run_laws.proofs.runs.Alone.{module_is, IsNamed}
+use Rattle.vlog_run_laws.proofs.runs.Module.{contains}
+use Rattle.vlog_run_laws.proofs.runs.Settled.{module_in}
+use Rattle.vlog_run_laws.proofs.runs.Solved.{child_item, Around, module_around}
 
 abbrev name_in : Option ModuleTree → Name
 name_in None = []

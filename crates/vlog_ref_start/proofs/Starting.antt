@@ -9,18 +9,18 @@ use Rattle.vlog_tree.specs.V6.{is_top}
 use Rattle.vlog_tree.specs.Cycle.{Cycle, Path, module_at}
 use Rattle.vlog_tree.specs.Environment.{Environment, shape_of}
 use Rattle.vlog_tree.proofs.Lists.{has_map, of_map, has_got}
-use Rattle.vlog_law_runs.specs.OneRun.{IsRunFrom}
-use Rattle.vlog_law_runs.specs.Filled.{IsFilled}
-use Rattle.vlog_law_runs.proofs.Sizes.{all_from}
-use Rattle.vlog_law_runs.proofs.Settled.{IsTopTree, top_tree}
-use Rattle.vlog_ref_driver.specs.Numbers.{first_net}
-use Rattle.vlog_ref_driver.specs.declared.moment.Held.{Held}
-use Rattle.vlog_ref_driver.specs.declared.moment.OutsideMemory.{OutsideMemory}
-use Rattle.vlog_ref_driver.specs.declared.moment.Moment.{Moment}
+use Rattle.vlog_run_laws.specs.runs.OneRun.{IsRunFrom}
+use Rattle.vlog_run_laws.specs.runs.Filled.{IsFilled}
+use Rattle.vlog_run_laws.proofs.runs.Sizes.{all_from}
+use Rattle.vlog_run_laws.proofs.runs.Settled.{IsTopTree, top_tree}
+use Rattle.vlog_values.specs.Numbers.{first_net}
+use Rattle.vlog_values.specs.declared.moment.Held.{Held}
+use Rattle.vlog_values.specs.declared.moment.OutsideMemory.{OutsideMemory}
+use Rattle.vlog_values.specs.declared.moment.Moment.{Moment}
 use Rattle.vlog_ref_cycle.specs.Sources.{held_at, memory_of}
 use Rattle.vlog_ref_cycle.specs.Moments.{HeldIs, ScalarIs, OutsideIs, IsAt}
 use Rattle.vlog_ref_cycle.proofs.Sound.{held_found}
-use Rattle.vlog_ref_law.specs.Whole.{HoldsAll, IsWhole, HasNoMore}
+use Rattle.vlog_ref_start.specs.Whole.{HoldsAll, IsWhole, HasNoMore}
 use Rattle.vlog_ref_start.specs.Instances.{PlaceTree, places_below}
 use Rattle.vlog_ref_start.specs.Contents.{HeldTree, held_tree, filled_held}
 use Rattle.vlog_ref_start.specs.Outside.{OutsideTree, outside_tree, labelled_from, outside_from}

@@ -1,3 +1,4 @@
+pub mod Whole
 pub mod Instances
 pub mod Contents
 pub mod Outside

@@ -5,14 +5,14 @@ use Rattle.vlog_tree.specs.Refused.{IsDesign}
 use Rattle.vlog_tree.specs.Table.{Name, is_clk, declared, net_kind_of, net_kind_is_read}
 use Rattle.vlog_tree.specs.Cycle.{Cycle, Path, module_at}
 use Rattle.vlog_tree.specs.Environment.{Environment, FitsShape, shape_of}
-use Rattle.vlog_law_runs.specs.OneRun.{IsRunFrom}
-use Rattle.vlog_law_runs.specs.Filled.{IsFilled}
-use Rattle.vlog_ref_driver.specs.declared.moment.Circuit.{Circuit}
-use Rattle.vlog_ref_driver.specs.declared.moment.Moment.{Moment}
+use Rattle.vlog_run_laws.specs.runs.OneRun.{IsRunFrom}
+use Rattle.vlog_run_laws.specs.runs.Filled.{IsFilled}
+use Rattle.vlog_values.specs.declared.moment.Circuit.{Circuit}
+use Rattle.vlog_values.specs.declared.moment.Moment.{Moment}
 use Rattle.vlog_ref_cycle.specs.Numbers.{net_within}
 use Rattle.vlog_ref_cycle.specs.Moments.{InRuns, IsAt}
 use Rattle.vlog_ref_cycle.specs.Next.{IsKept, next_known}
-use Rattle.vlog_ref_law.specs.Whole.{IsWhole, HasNoMore}
+use Rattle.vlog_ref_start.specs.Whole.{IsWhole, HasNoMore}
 
 -- The moment of cycle 0 of each run in an environment in which every register and every cell begins with a number, cut to
 -- its width. It leaves out nothing, and has nothing but parts of the design.

@@ -8,10 +8,10 @@ ghost use Rattle.vlog_ref_start.specs.Contents.{memory_tree, held_tree, filled_n
 use crate::instances::{Place, level_below};
 use std::alloc::{AllocError, Global};
 use tapa_base::Text;
-use vlog_ref_driver::{Held, MemoryCells, NetNumber};
+use vlog_values::{Held, MemoryCells, NetNumber};
 use vlog_tree::{Item, Module};
 
-#[tactic(auto, using(vlog_ref_driver::proofs::Cuts::all_in))]
+#[tactic(auto, using(vlog_values::proofs::Cuts::all_in))]
 fn cut(fill: u128, bits: u32) -> u128
     ensures { result ≡ fill % 2 ^ bits }
 {

@@ -11,7 +11,7 @@ use crate::outside::{first_memories, first_scalars};
 use crate::surroundings::Surroundings;
 use std::alloc::{AllocError, Global};
 use vlog_design::Design;
-use vlog_ref_driver::Moment;
+use vlog_values::Moment;
 
 /// The moment of cycle 0, in which every register and every cell of the design holds `fill` modulo 2 to the power of its
 /// width, and around the design stands what is given.

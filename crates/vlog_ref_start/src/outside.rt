@@ -6,7 +6,7 @@ ghost use Rattle.vlog_ref_start.specs.Outside.{environment_of, labelled_from, ou
 use crate::surroundings::Surroundings;
 use std::alloc::{AllocError, Global};
 use tapa_base::Port;
-use vlog_ref_driver::{NetNumber, OutsideMemory};
+use vlog_values::{NetNumber, OutsideMemory};
 
 fn number_at(numbers: &[u64], at: usize) -> u128
     ensures { result ≡ slice_index numbers.now at }

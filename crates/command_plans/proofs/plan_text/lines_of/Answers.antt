@@ -1,6 +1,6 @@
 use Rattle.std.proofs.Common.{ℕ, List, sym, subst}
-use Rattle.plan_flows.specs.Moves.{AreLatencies}
-use Rattle.plan_latency.specs.Borders.{AreBorderLatencies}
+use Rattle.latency_balance.specs.Moves.{AreLatencies}
+use Rattle.plan_report.specs.Borders.{AreBorderLatencies}
 use Rattle.command_plans.proofs.plan_text.lines_of.Goals as goal
 
 pub lines_with-requires-clause-borders : goal.lines_with-requires-clause-borders

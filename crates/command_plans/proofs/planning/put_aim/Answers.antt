@@ -1,7 +1,7 @@
 use Rattle.std.proofs.Common.{IfErr, sym, subst}
 use Rattle.tapa_words.specs.declared.command.PlanAim.{PlanAim}
-use Rattle.command_files.specs.Meaning.{refusal_of}
-use Rattle.command_files.specs.Outside.{written}
+use Rattle.command_source.specs.Meaning.{refusal_of}
+use Rattle.command_source.specs.Outside.{written}
 use Rattle.command_plans.specs.Unwritten.{IsUnwritten}
 use Rattle.command_plans.specs.Planned.{IsToldBy}
 use Rattle.command_plans.proofs.planning.put_aim.Goals as goal

@@ -1,7 +1,7 @@
 use Rattle.std.proofs.Common.{ℕ, List, refl, sym, subst, inl}
-use Rattle.plan_latency.specs.Added.{AreAdded}
-use Rattle.top_law.specs.Designs.{AreShort}
-use Rattle.command_files.specs.Outside.{written}
+use Rattle.plan_report.specs.Added.{AreAdded}
+use Rattle.hw_top_lines.specs.Designs.{AreShort}
+use Rattle.command_source.specs.Outside.{written}
 use Rattle.command_plans.specs.Built.{IsCircuitText}
 use Rattle.command_plans.specs.Planned.{IsCircuitBy}
 use Rattle.command_plans.proofs.Put.{whole_also, unwritten_also}

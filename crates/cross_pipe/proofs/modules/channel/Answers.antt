@@ -1,9 +1,9 @@
 use Rattle.std.proofs.Common.{arith}
 use Rattle.std.proofs.lemmas.Result.{IfOk-weaker}
-use Rattle.channel_law.proofs.Whole.{acts}
-use Rattle.channel_law.proofs.Parts.{no_tasks}
-use Rattle.channel_law.proofs.Clear.{outermost, no_loop, first_cut, clocks}
-use Rattle.channel_law.proofs.Fits.{sound}
+use Rattle.hw_channel_laws.proofs.modules.Whole.{acts}
+use Rattle.hw_channel_laws.proofs.modules.Parts.{no_tasks}
+use Rattle.hw_channel_laws.proofs.modules.Clear.{outermost, no_loop, first_cut, clocks}
+use Rattle.hw_channel_laws.proofs.modules.Fits.{sound}
 use Rattle.cross_pipe.proofs.modules.channel.Goals as goal
 
 pub returns : goal.returns

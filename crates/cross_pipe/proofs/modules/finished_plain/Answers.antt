@@ -1,6 +1,6 @@
 use Rattle.std.proofs.Common.{sym, subst, arith}
 use Rattle.vlog_tree.specs.Form.{IsModule}
-use Rattle.channel_law.proofs.Forms.{plain_form}
+use Rattle.hw_channel_laws.proofs.modules.Forms.{plain_form}
 use Rattle.cross_pipe.proofs.modules.finished_plain.Goals as goal
 
 pub module-requires : goal.module-requires

@@ -1,6 +1,6 @@
 use Rattle.std.proofs.Common.{◌≡◌, ◌<◌, ◌≤◌, ℕ, [], get_or}
 use Rattle.vlog_ref_start.specs.Outside.{lists_of}
-use Rattle.sim_parts.specs.Sims.{IsAdded}
+use Rattle.cycle_sim.specs.Sims.{IsAdded}
 use Rattle.cycle_sim.specs.Simulators.{sim_of}
 use Rattle.cycle_sim.proofs.sim.add_tokens.Given as goal
 

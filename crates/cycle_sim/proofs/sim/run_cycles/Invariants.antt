@@ -1,7 +1,7 @@
 use Rattle.std.proofs.Common.{◌≡◌}
 use Rattle.vlog_ref_start.specs.Outside.{lists_of}
 use Rattle.cycle_sim.specs.Simulators.{sim_of}
-use Rattle.sim_parts.specs.Sims.{IsRunTo}
+use Rattle.cycle_sim.specs.Sims.{IsRunTo}
 use Rattle.cycle_sim.proofs.sim.run_cycles.Given as goal
 
 abbrev pub invariant-loop-cycle : goal.invariant-loop-cycle

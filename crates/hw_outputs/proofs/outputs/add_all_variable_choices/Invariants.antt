@@ -1,8 +1,8 @@
 use Rattle.std.proofs.Common.{◌≡◌}
 use Rattle.hw_build.specs.Elements.{with_all}
-use Rattle.hw_lists.specs.Scope.{each}
-use Rattle.task_law.specs.Texts.{variable_choices}
-use Rattle.hw_shape.specs.Shapes.{form}
+use Rattle.hw_build.specs.Scope.{each}
+use Rattle.hw_task_lines.specs.Texts.{variable_choices}
+use Rattle.hw_nets.specs.Shapes.{form}
 use Rattle.hw_outputs.proofs.outputs.add_all_variable_choices.Given as goal
 
 abbrev pub invariant-loop-r : goal.invariant-loop-r

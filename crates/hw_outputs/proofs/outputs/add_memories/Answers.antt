@@ -1,7 +1,7 @@
 use Rattle.std.proofs.Common.{◌≡◌, length, arith}
-use Rattle.task_law.specs.Texts.{memory_outputs}
-use Rattle.hw_atoms.proofs.Grows.{each_more, each_end}
-use Rattle.hw_shape.specs.Shapes.{form}
+use Rattle.hw_task_lines.specs.Texts.{memory_outputs}
+use Rattle.hw_nets.proofs.Grows.{each_more, each_end}
+use Rattle.hw_nets.specs.Shapes.{form}
 use Rattle.hw_outputs.proofs.outputs.add_memories.Goals as goal
 
 pub loop-m-preserved : goal.loop-m-preserved

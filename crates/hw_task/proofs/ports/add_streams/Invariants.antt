@@ -1,8 +1,8 @@
 use Rattle.std.proofs.Common.{◌≡◌}
 use Rattle.hw_build.specs.Elements.{with_all}
-use Rattle.hw_lists.specs.Scope.{each}
-use Rattle.task_law.specs.Texts.{stream_inputs}
-use Rattle.hw_shape.specs.Shapes.{form}
+use Rattle.hw_build.specs.Scope.{each}
+use Rattle.hw_task_lines.specs.Texts.{stream_inputs}
+use Rattle.hw_nets.specs.Shapes.{form}
 use Rattle.hw_task.proofs.ports.add_streams.Given as goal
 
 abbrev pub invariant-loop-s : goal.invariant-loop-s

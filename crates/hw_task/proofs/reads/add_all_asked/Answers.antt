@@ -1,8 +1,8 @@
 use Rattle.std.proofs.Common.{◌≡◌, ◌+◌, sym, subst, arith}
-use Rattle.task_law.specs.Shape.{state_count}
-use Rattle.task_law.specs.Texts.{asked}
-use Rattle.hw_atoms.proofs.Grows.{each_more, each_end}
-use Rattle.hw_shape.specs.Shapes.{form}
+use Rattle.hw_task_lines.specs.Shape.{state_count}
+use Rattle.hw_task_lines.specs.Texts.{asked}
+use Rattle.hw_nets.proofs.Grows.{each_more, each_end}
+use Rattle.hw_nets.specs.Shapes.{form}
 use Rattle.hw_task.specs.Asked.{AreAsked}
 use Rattle.hw_task.proofs.ReadPorts.{one_more_asked}
 use Rattle.hw_task.proofs.reads.add_all_asked.Goals as goal

@@ -1,9 +1,9 @@
 use Rattle.std.proofs.Common.{◌≡◌}
 use Rattle.hw_build.specs.Elements.{with_all}
-use Rattle.hw_lists.specs.Scope.{each}
-use Rattle.task_law.specs.Texts.{asked}
+use Rattle.hw_build.specs.Scope.{each}
+use Rattle.hw_task_lines.specs.Texts.{asked}
 use Rattle.hw_task.specs.Asked.{AreAsked}
-use Rattle.hw_shape.specs.Shapes.{form}
+use Rattle.hw_nets.specs.Shapes.{form}
 use Rattle.hw_task.proofs.reads.add_all_asked.Given as goal
 
 abbrev pub invariant-loop-k : goal.invariant-loop-k

@@ -1,8 +1,8 @@
 use Rattle.std.proofs.Common.{arith}
-use Rattle.task_law.specs.declared.nets.Choice.TheVariants.{Reads}
-use Rattle.task_law.specs.Effects.{entries}
-use Rattle.task_law.specs.Texts.{answered}
-use Rattle.hw_shape.specs.Shapes.{form}
+use Rattle.hw_task_lines.specs.declared.nets.Choice.TheVariants.{Reads}
+use Rattle.hw_task_lines.specs.Effects.{entries}
+use Rattle.hw_task_lines.specs.Texts.{answered}
+use Rattle.hw_nets.specs.Shapes.{form}
 use Rattle.hw_task.proofs.Stands.{stands_not, stands}
 use Rattle.hw_task.proofs.reads.add_port.Goals as goal
 

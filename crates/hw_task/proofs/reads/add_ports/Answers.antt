@@ -1,7 +1,7 @@
 use Rattle.std.proofs.Common.{◌≡◌, length, arith}
 use Rattle.hw_task.specs.Asked.{port_of}
-use Rattle.hw_atoms.proofs.Grows.{each_more, each_end}
-use Rattle.hw_shape.specs.Shapes.{form}
+use Rattle.hw_nets.proofs.Grows.{each_more, each_end}
+use Rattle.hw_nets.specs.Shapes.{form}
 use Rattle.hw_task.proofs.reads.add_ports.Goals as goal
 
 pub loop-a-preserved : goal.loop-a-preserved

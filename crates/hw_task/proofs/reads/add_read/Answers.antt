@@ -6,16 +6,16 @@ use Rattle.vlog_tree.specs.declared.tree.BinaryOp.TheVariants.{And, Less}
 use Rattle.vlog_tree.specs.declared.tree.Value.TheVariants.{Binary}
 use Rattle.hw_build.specs.Elements.{Element, Wire, with_all}
 use Rattle.task_fsm.specs.Machine.{expression_of}
-use Rattle.task_law.specs.declared.nets.Net.TheVariants.{At, ReadInside, ReadOn}
-use Rattle.task_law.specs.Nets.{name}
-use Rattle.task_law.specs.Shape.{array_cells}
-use Rattle.task_law.specs.States.{net}
-use Rattle.task_law.specs.Wires.{Compiled, compiled}
-use Rattle.task_law.specs.Texts.{read_index}
-use Rattle.hw_atoms.proofs.Grows.{both}
+use Rattle.hw_task_lines.specs.declared.nets.Net.TheVariants.{At, ReadInside, ReadOn}
+use Rattle.hw_task_lines.specs.Nets.{name}
+use Rattle.hw_task_lines.specs.Shape.{array_cells}
+use Rattle.hw_task_lines.specs.States.{net}
+use Rattle.hw_task_lines.specs.Wires.{Compiled, compiled}
+use Rattle.hw_task_lines.specs.Texts.{read_index}
+use Rattle.hw_nets.proofs.Grows.{both}
 use Rattle.hw_expressions.specs.Grown.{Grows}
 use Rattle.hw_expressions.specs.Reads.{read_form}
-use Rattle.hw_shape.specs.Shapes.{form}
+use Rattle.hw_nets.specs.Shapes.{form}
 use Rattle.hw_task.proofs.reads.add_read.Goals as goal
 
 pub returns-clause-draft : goal.returns-clause-draft

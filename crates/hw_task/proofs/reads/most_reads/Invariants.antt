@@ -1,8 +1,8 @@
 use Rattle.std.proofs.Common.{◌≡◌}
 use Rattle.std.specs.Prelude.{length}
-use Rattle.task_law.specs.States.{reads_at}
-use Rattle.task_law.specs.Texts.{most}
-use Rattle.hw_shape.specs.Shapes.{form}
+use Rattle.hw_task_lines.specs.States.{reads_at}
+use Rattle.hw_task_lines.specs.Texts.{most}
+use Rattle.hw_nets.specs.Shapes.{form}
 use Rattle.hw_task.proofs.reads.most_reads.Given as goal
 
 abbrev pub invariant-loop-k : goal.invariant-loop-k

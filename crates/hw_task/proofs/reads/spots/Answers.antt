@@ -1,11 +1,11 @@
 use Rattle.std.proofs.Common.{◌≡◌, ◌++◌, sym, ap, ◌∙◌, arith}
-use Rattle.hw_lists.specs.Scope.{each}
-use Rattle.task_law.specs.declared.nets.Choice.TheVariants.{Reads}
-use Rattle.task_law.specs.Shape.{state_count}
-use Rattle.task_law.specs.Effects.{effect}
-use Rattle.hw_atoms.proofs.Grows.{each_next}
-use Rattle.hw_choices.specs.Entries.{entries_in}
-use Rattle.hw_shape.specs.Shapes.{form}
+use Rattle.hw_build.specs.Scope.{each}
+use Rattle.hw_task_lines.specs.declared.nets.Choice.TheVariants.{Reads}
+use Rattle.hw_task_lines.specs.Shape.{state_count}
+use Rattle.hw_task_lines.specs.Effects.{effect}
+use Rattle.hw_nets.proofs.Grows.{each_next}
+use Rattle.hw_nets.specs.Entries.{entries_in}
+use Rattle.hw_nets.specs.Shapes.{form}
 use Rattle.hw_task.proofs.reads.spots.Goals as goal
 
 pub loop-k-preserved : goal.loop-k-preserved

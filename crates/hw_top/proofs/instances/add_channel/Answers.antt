@@ -1,6 +1,6 @@
 use Rattle.std.proofs.lemmas.Result.{IfOk-weaker}
-use Rattle.hw_ends.proofs.Found.{found, missing}
-use Rattle.hw_wires.proofs.Parts.{channel_grows, no_channel_stays}
+use Rattle.hw_top.proofs.Found.{found, missing}
+use Rattle.hw_top.proofs.Parts.{channel_grows, no_channel_stays}
 use Rattle.hw_top.proofs.instances.add_channel.Goals as goal
 
 pub returns-in_ok-ends-in-Some : goal.returns-in_ok-ends-in-Some

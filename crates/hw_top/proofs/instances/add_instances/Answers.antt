@@ -1,9 +1,9 @@
 use Rattle.std.proofs.Common.{ℕ, List, length}
 use Rattle.std.specs.Prelude.{slice_get, slice_index}
 use Rattle.hw_build.specs.Elements.{Element}
-use Rattle.hw_lists.specs.Scope.{each}
-use Rattle.hw_atoms.proofs.Grows.{both}
-use Rattle.top_law.specs.Texts.{at_instance, channel_part, task_part}
+use Rattle.hw_build.specs.Scope.{each}
+use Rattle.hw_nets.proofs.Grows.{both}
+use Rattle.hw_top_lines.specs.Texts.{at_instance, channel_part, task_part}
 use Rattle.hw_top.proofs.instances.add_instances.Goals as goal
 
 pub returns : goal.returns

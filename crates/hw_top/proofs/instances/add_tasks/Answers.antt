@@ -1,6 +1,6 @@
 use Rattle.std.proofs.Common.{◌≡◌, length, arith}
-use Rattle.top_law.specs.Texts.{at_instance, task_part}
-use Rattle.hw_atoms.proofs.Grows.{each_more, each_end}
+use Rattle.hw_top_lines.specs.Texts.{at_instance, task_part}
+use Rattle.hw_nets.proofs.Grows.{each_more, each_end}
 use Rattle.hw_top.proofs.instances.add_tasks.Goals as goal
 
 pub loop-i-preserved : goal.loop-i-preserved

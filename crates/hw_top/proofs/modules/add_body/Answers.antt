@@ -2,7 +2,7 @@ use Rattle.std.proofs.Common.{List, ◌++◌, refl, sym, ap, ◌∙◌}
 use Rattle.std.proofs.lemmas.List.{append-nil}
 use Rattle.std.proofs.lemmas.Result.{IfOk-weaker, on_ok_weaker}
 use Rattle.vlog_tree.specs.Form.{ModuleTree}
-use Rattle.hw_ends.proofs.Found.{found, missing}
+use Rattle.hw_top.proofs.Found.{found, missing}
 use Rattle.hw_top.proofs.TaskModules.{module_at, no_machine_at, no_body_at, kept_at, no_machine_kept, no_body_kept}
 use Rattle.hw_top.proofs.modules.add_body.Goals as goal
 

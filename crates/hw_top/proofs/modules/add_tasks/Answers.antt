@@ -1,6 +1,6 @@
 use Rattle.std.proofs.Common.{◌≡◌, length, below_more, arith}
-use Rattle.top_law.specs.Designs.{used_module}
-use Rattle.hw_ends.proofs.Joined.{part_more, part_last}
+use Rattle.hw_top_lines.specs.Designs.{used_module}
+use Rattle.hw_top.proofs.Joined.{part_more, part_last}
 use Rattle.hw_top.specs.Kept.{IsKept}
 use Rattle.hw_top.proofs.TaskModules.{all_kept}
 use Rattle.hw_top.proofs.modules.add_tasks.Goals as goal

@@ -1,9 +1,9 @@
 use Rattle.std.proofs.Common.{ℕ, List, length}
 use Rattle.std.specs.Prelude.{slice_get}
 use Rattle.hw_build.specs.Elements.{Element}
-use Rattle.hw_lists.specs.Scope.{each}
-use Rattle.hw_atoms.proofs.Grows.{both}
-use Rattle.top_law.specs.Texts.{memory_ports, scalar_port}
+use Rattle.hw_build.specs.Scope.{each}
+use Rattle.hw_nets.proofs.Grows.{both}
+use Rattle.hw_top_lines.specs.Texts.{memory_ports, scalar_port}
 use Rattle.hw_top.proofs.ports.add_ports.Goals as goal
 
 pub returns : goal.returns

@@ -1,6 +1,6 @@
 use Rattle.std.proofs.Common.{sym, subst, ◌∙◌}
 use Rattle.vlog_tree.specs.Form.{IsModule}
-use Rattle.hw_wires.proofs.Tops.{counted}
+use Rattle.hw_top.proofs.Tops.{counted}
 use Rattle.hw_top.proofs.top.top_module.Goals as goal
 
 pub module-requires : goal.module-requires

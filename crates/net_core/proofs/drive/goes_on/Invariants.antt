@@ -1,6 +1,6 @@
 use Rattle.std.proofs.Common.{◌≡◌, ℕ, ◌<◌, Some}
 use Rattle.std.specs.Prelude.{slice_get}
-use Rattle.net_ports.specs.declared.body.Pause.TheVariants.{Fuel}
+use Rattle.net_core.specs.declared.body.Pause.TheVariants.{Fuel}
 use Rattle.net_core.proofs.drive.goes_on.Given as goal
 
 abbrev pub invariant-loop-j : goal.invariant-loop-j

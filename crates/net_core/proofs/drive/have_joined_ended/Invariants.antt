@@ -1,7 +1,7 @@
 use Rattle.std.proofs.Common.{◌≡◌, ℕ, ◌<◌, false, Some}
 use Rattle.std.specs.Prelude.{slice_get}
-use Rattle.net_ports.specs.declared.body.Pause.TheVariants.{Ended}
-use Rattle.net_instances.specs.Bindings.{detached_at}
+use Rattle.net_core.specs.declared.body.Pause.TheVariants.{Ended}
+use Rattle.net_core.specs.Bindings.{detached_at}
 use Rattle.net_core.proofs.drive.have_joined_ended.Given as goal
 
 abbrev pub invariant-loop-j : goal.invariant-loop-j

@@ -1,8 +1,8 @@
 use Rattle.std.proofs.Common.{ap, ◌∙◌, arith}
 use Rattle.std.proofs.Math.Path.{fun_ext}
 use Rattle.kahn_model.specs.Outcome.{joined_ticks}
-use Rattle.net_instances.specs.State.{network}
-use Rattle.net_instances.proofs.Constructed.{zero_joined}
+use Rattle.net_core.specs.State.{network}
+use Rattle.net_core.proofs.Constructed.{zero_joined}
 use Rattle.net_core.proofs.drive.settle.Goals as goal
 
 pub settle_rounds-outcome-requires-clause-new : goal.settle_rounds-outcome-requires-clause-new

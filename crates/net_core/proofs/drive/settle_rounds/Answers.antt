@@ -4,11 +4,11 @@ use Rattle.std.specs.declared.alloc.Global.{Global}
 use Rattle.std.proofs.lemmas.Bool.Decides.{nat_tests}
 use Rattle.std.proofs.lemmas.Option.{slice_get_within}
 use Rattle.tapa_syntax.specs.declared.program.Program.{Program}
-use Rattle.net_instances.specs.declared.input.Input.{Input}
-use Rattle.net_instances.specs.declared.net_state.NetState.{NetState}
-use Rattle.net_instances.specs.Bindings.{IsConnected, IsWriter, producer_of}
-use Rattle.net_instances.specs.Load.{IsIn, AreBelow, AreListed}
-use Rattle.net_instances.specs.Ties.{AreAllTies}
+use Rattle.net_core.specs.declared.input.Input.{Input}
+use Rattle.net_core.specs.declared.net_state.NetState.{NetState}
+use Rattle.net_core.specs.Bindings.{IsConnected, IsWriter, producer_of}
+use Rattle.net_core.specs.Load.{IsIn, AreBelow, AreListed}
+use Rattle.net_core.specs.Ties.{AreAllTies}
 use Rattle.net_core.specs.Settle.{IsAtRest, AreJoinedEnded, IsSomeJoinedLeft, IsSomeWithFuel, AreNoneWithFuel}
 use Rattle.net_core.proofs.Settled.{limit_ends, done_ends, spent_ends, stopped_ends, told_joined, told_all}
 use Rattle.net_core.proofs.drive.settle_rounds.Goals as goal

@@ -1,9 +1,9 @@
 use Rattle.std.proofs.Common.{ℕ, refl, sym, subst, arith}
 use Rattle.std.proofs.lemmas.Option.{slice_get_read}
 use Rattle.tapa_syntax.specs.declared.program.Program.{Program}
-use Rattle.net_instances.specs.declared.input.Input.{Input}
-use Rattle.net_instances.specs.Load.{AreBelow, AreWoken}
-use Rattle.net_instances.proofs.Loaded.{woken_by}
+use Rattle.net_core.specs.declared.input.Input.{Input}
+use Rattle.net_core.specs.Load.{AreBelow, AreWoken}
+use Rattle.net_core.proofs.Loaded.{woken_by}
 use Rattle.net_core.proofs.Quiet.{visited_limit, visited_none, visited_woken}
 use Rattle.net_core.proofs.drive.visit.Goals as goal
 

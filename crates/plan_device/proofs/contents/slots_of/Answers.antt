@@ -6,7 +6,7 @@ use Rattle.task_graph.specs.declared.Use.{Use}
 use Rattle.task_graph.specs.Streams.{amount_at}
 use Rattle.run_data.specs.Seen.{seen}
 use Rattle.run_data.proofs.Lists.{map_map}
-use Rattle.plan_keys.specs.Amounts.{amounts_of}
+use Rattle.plan_device.specs.Amounts.{amounts_of}
 use Rattle.plan_device.proofs.Uses.{slots_by, slots_small}
 use Rattle.plan_device.proofs.contents.slots_of.Goals as goal
 

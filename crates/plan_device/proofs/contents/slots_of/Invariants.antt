@@ -1,6 +1,6 @@
 use Rattle.std.proofs.Common.{◌≡◌, map, take}
 use Rattle.serde_json.specs.View.{view}
-use Rattle.plan_keys.specs.Amounts.{amounts_of}
+use Rattle.plan_device.specs.Amounts.{amounts_of}
 use Rattle.plan_device.proofs.contents.slots_of.Given as goal
 
 abbrev pub invariant-loop-value : goal.invariant-loop-value

@@ -1,9 +1,9 @@
 use Rattle.std.proofs.Common.{Some, None, ◌∙◌, arith}
 use Rattle.serde_json.specs.View.{view}
-use Rattle.plan_keys.specs.Faults.{faulty_at}
-use Rattle.plan_keys.specs.Known.{names_known}
+use Rattle.plan_device.specs.Faults.{faulty_at}
+use Rattle.plan_device.specs.Known.{names_known}
 use Rattle.plan_device.proofs.Faults.{faulty_by}
-use Rattle.plan_keys.proofs.Lists.{flat_at, flat_over}
+use Rattle.plan_device.proofs.Lists.{flat_at, flat_over}
 use Rattle.plan_device.proofs.find.find.Goals as goal
 
 pub returns-in-Some : goal.returns-in-Some

@@ -2,8 +2,8 @@ use Rattle.std.proofs.Common.{◌≡◌, drop}
 use Rattle.std.specs.List.{flat_map}
 use Rattle.serde_json.specs.View.{view}
 use Rattle.run_data.specs.Seen.{first}
-use Rattle.plan_keys.specs.Faults.{faulty_at}
-use Rattle.plan_keys.specs.Known.{names_known}
+use Rattle.plan_device.specs.Faults.{faulty_at}
+use Rattle.plan_device.specs.Known.{names_known}
 use Rattle.plan_device.proofs.find.find.Given as goal
 
 abbrev pub invariant-loop-key : goal.invariant-loop-key

@@ -2,9 +2,9 @@ use Rattle.std.proofs.Common.{◌≡◌, ℕ, List, true, false, Some, refl, sym
 use Rattle.serde_json.specs.Find.{get}
 use Rattle.serde_json.specs.View.{view}
 use Rattle.run_data.specs.Seen.{seen}
-use Rattle.plan_keys.specs.Keys.{key_name}
-use Rattle.plan_keys.specs.Known.{names_known}
-use Rattle.plan_keys.specs.Tests.{passes}
+use Rattle.plan_device.specs.Keys.{key_name}
+use Rattle.plan_device.specs.Known.{names_known}
+use Rattle.plan_device.specs.Tests.{passes}
 use Rattle.plan_device.proofs.Faults.{faulty_key, right_key}
 use Rattle.plan_device.proofs.find.find_at.Goals as goal
 

@@ -2,7 +2,7 @@ use Rattle.std.proofs.Common.{◌≡◌, drop, filter, not, true}
 use Rattle.serde_json.specs.Find.{get_member}
 use Rattle.run_data.specs.Data.{is_absent_or, members_at}
 use Rattle.run_data.specs.Seen.{seen, first}
-use Rattle.plan_keys.specs.Tests.{member_passes}
+use Rattle.plan_device.specs.Tests.{member_passes}
 use Rattle.plan_device.proofs.find.find_known.Given as goal
 
 abbrev pub invariant-loop-name : goal.invariant-loop-name

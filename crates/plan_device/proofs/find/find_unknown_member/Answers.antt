@@ -4,8 +4,8 @@ use Rattle.std.specs.Map.Iter.{deref_pair}
 use Rattle.serde_json.specs.Data.{Data as Json}
 use Rattle.serde_json.specs.View.{view}
 use Rattle.run_data.specs.Seen.{has_name}
-use Rattle.plan_keys.specs.Tests.{member_passes}
-use Rattle.plan_keys.proofs.Entries.{entry_here, entry_nowhere}
+use Rattle.plan_device.specs.Tests.{member_passes}
+use Rattle.plan_device.proofs.Entries.{entry_here, entry_nowhere}
 use Rattle.plan_device.proofs.find.find_unknown_member.Goals as goal
 
 pub returns-then-not-contains_key : goal.returns-then-not-contains_key

@@ -1,8 +1,8 @@
 use Rattle.std.proofs.Common.{◌≡◌, ◌&&◌, ℕ, List, filter, not, false, map}
 use Rattle.serde_json.specs.Data.{Data as Json}
 use Rattle.run_data.specs.Seen.{first, has_name}
-use Rattle.plan_keys.specs.Tests.{member_passes}
-use Rattle.plan_keys.proofs.Entries.{entry_of}
+use Rattle.plan_device.specs.Tests.{member_passes}
+use Rattle.plan_device.proofs.Entries.{entry_of}
 use Rattle.plan_device.proofs.find.find_unknown_member.Given as goal
 
 abbrev pub invariant-loop-key : goal.invariant-loop-key

@@ -2,7 +2,7 @@ use Rattle.std.proofs.Common.{◌≡◌, true, false, Some, is_some, sym, ap, �
 use Rattle.serde_json.specs.View.{view}
 use Rattle.run_data.specs.Data.{is_object}
 use Rattle.run_data.proofs.Views.{members_at-view}
-use Rattle.plan_keys.specs.Known.{names_known}
+use Rattle.plan_device.specs.Known.{names_known}
 use Rattle.plan_device.proofs.Faults.{misshapen_file, first_misshapen}
 use Rattle.plan_device.proofs.misshapen.find_misshapen.Goals as goal
 

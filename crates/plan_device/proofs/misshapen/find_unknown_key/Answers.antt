@@ -2,7 +2,7 @@ use Rattle.std.proofs.Common.{◌≡◌, true, not, Some, string_bytes, sym, ap,
 use Rattle.std.proofs.lemmas.Map.Iter.{rest_more, rest_all}
 use Rattle.std.specs.Map.Iter.{deref}
 use Rattle.run_data.proofs.Views.{key_here, key_nowhere}
-use Rattle.plan_keys.specs.Faults.{is_key_in}
+use Rattle.plan_device.specs.Faults.{is_key_in}
 use Rattle.plan_device.proofs.misshapen.find_unknown_key.Goals as goal
 
 pub returns-then-not-has_key : goal.returns-then-not-has_key

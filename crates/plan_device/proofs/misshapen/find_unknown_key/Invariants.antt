@@ -1,7 +1,7 @@
 use Rattle.std.proofs.Common.{◌≡◌, filter, not, map, string_bytes}
 use Rattle.std.specs.Map.{keys_of as entry_keys}
 use Rattle.run_data.specs.Seen.{first}
-use Rattle.plan_keys.specs.Faults.{is_key_in}
+use Rattle.plan_device.specs.Faults.{is_key_in}
 use Rattle.plan_device.proofs.misshapen.find_unknown_key.Given as goal
 
 abbrev pub invariant-loop-key : goal.invariant-loop-key

@@ -1,11 +1,11 @@
 use Rattle.std.proofs.Common.{◌≡◌, ℕ, ◌*◌, ◌<◌, List, Bool, false, Some, None, filter, length, get_or, ap, subst, ◌∙◌}
 use Rattle.serde_json.specs.View.{view}
 use Rattle.run_data.specs.Seen.{first}
-use Rattle.plan_keys.specs.Pins.{numbers, pin_at, is_pinned_at, is_forbidden}
-use Rattle.plan_keys.specs.Tests.{grid_of}
-use Rattle.plan_keys.specs.declared.grid.Grid.{Grid}
+use Rattle.plan_device.specs.Pins.{numbers, pin_at, is_pinned_at, is_forbidden}
+use Rattle.plan_device.specs.Tests.{grid_of}
+use Rattle.plan_device.specs.declared.grid.Grid.{Grid}
 use Rattle.plan_device.proofs.Faults.{tells_forbidden}
-use Rattle.plan_keys.proofs.Pinned.{label_of_forbidden}
+use Rattle.plan_device.proofs.Pinned.{label_of_forbidden}
 use Rattle.plan_device.proofs.read.check_forbidden.Goals as goal
 
 pub returns-in-Some-clause-cause : goal.returns-in-Some-clause-cause

@@ -1,6 +1,6 @@
 use Rattle.std.proofs.Common.{Some, None}
 use Rattle.serde_json.specs.View.{view}
-use Rattle.plan_keys.specs.declared.check.Check.TheVariants.{Number, Name}
+use Rattle.plan_device.specs.declared.check.Check.TheVariants.{Number, Name}
 use Rattle.plan_device.proofs.Faults.{tells_misshapen, tells_misfit, tells_range, tells_unknown, shapes_by, found_by, ranges_by}
 use Rattle.plan_device.proofs.read.check_keys.Goals as goal
 

@@ -1,12 +1,12 @@
 use Rattle.std.proofs.Common.{◌*◌, ◌<◌, List, ℕ, Option, All, IfSome, Some, None, ap, subst, ◌∙◌}
 use Rattle.serde_json.specs.View.{view}
-use Rattle.plan_keys.specs.Pins.{pins_of}
-use Rattle.plan_keys.specs.Tests.{grid_of}
-use Rattle.plan_keys.specs.declared.grid.Grid.{Grid}
+use Rattle.plan_device.specs.Pins.{pins_of}
+use Rattle.plan_device.specs.Tests.{grid_of}
+use Rattle.plan_device.specs.declared.grid.Grid.{Grid}
 use Rattle.plan_device.proofs.Checks.{placed_of, cause_together}
 use Rattle.plan_device.proofs.Faults.{tells_elsewhere}
 use Rattle.plan_device.proofs.Meaning.{as_many_instances}
-use Rattle.plan_keys.proofs.Pinned.{are_pins_of, label_of_elsewhere, pins_of_graph}
+use Rattle.plan_device.proofs.Pinned.{are_pins_of, label_of_elsewhere, pins_of_graph}
 use Rattle.plan_device.proofs.read.check_pins.Goals as goal
 
 pub check_forbidden-requires-clause-pins : goal.check_forbidden-requires-clause-pins

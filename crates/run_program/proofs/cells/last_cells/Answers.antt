@@ -3,9 +3,9 @@ use Rattle.std.specs.Prelude.{MatchOption, slice_get}
 use Rattle.std.proofs.lemmas.Option.{slice_get_read}
 use Rattle.tapa_syntax.specs.declared.program.Program.{Program}
 use Rattle.kahn_model.specs.Cells.{cells_at}
-use Rattle.net_instances.specs.Bounded.{scalars_of, memories_of}
-use Rattle.net_instances.specs.declared.input.Input.{Input}
-use Rattle.net_instances.specs.State.{count}
+use Rattle.net_core.specs.Bounded.{scalars_of, memories_of}
+use Rattle.net_core.specs.declared.input.Input.{Input}
+use Rattle.net_core.specs.State.{count}
 use Rattle.run_program.specs.Run.{IsNotBound}
 use Rattle.run_program.proofs.LastCells.{absent, instance_is, unlisted, listed}
 use Rattle.run_program.proofs.cells.last_cells.Goals as goal

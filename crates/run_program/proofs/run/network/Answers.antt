@@ -3,8 +3,8 @@ use Rattle.std.specs.Prelude.{slice_get}
 use Rattle.std.specs.Arc.{arc_value}
 use Rattle.std.proofs.lemmas.Option.{slice_get_within}
 use Rattle.tapa_syntax.specs.declared.program.Program.{Program}
-use Rattle.net_instances.specs.declared.input.Input.{Input}
-use Rattle.net_instances.specs.Bounded.{instance_job}
+use Rattle.net_core.specs.declared.input.Input.{Input}
+use Rattle.net_core.specs.Bounded.{instance_job}
 use Rattle.coro_machine.specs.declared.coro.Coro.{Coro}
 use Rattle.coro_machine.specs.Coro.{IsCoroOf}
 use Rattle.run_program.specs.Started.{AreStarted}

@@ -1,6 +1,6 @@
 use Rattle.std.proofs.Common.{◌≡◌, ◌∙◌, OnErr, IfOk, subst}
 use Rattle.tapa_syntax.specs.declared.program.Program.{Program}
-use Rattle.net_instances.specs.declared.input.Input.{Input}
+use Rattle.net_core.specs.declared.input.Input.{Input}
 use Rattle.run_program.specs.Ending.{EndsSo, HasPart}
 use Rattle.run_program.specs.Run.{values_of}
 use Rattle.run_program.proofs.run.run_program.Goals as goal

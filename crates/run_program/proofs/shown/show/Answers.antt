@@ -6,10 +6,10 @@ use Rattle.tapa_files.proofs.Known.{part_of_next, appends_none, appends_both}
 use Rattle.tapa_syntax.specs.declared.program.Program.{Program}
 use Rattle.kahn_model.specs.Cells.{cells_at}
 use Rattle.kahn_model.specs.Network.{Network}
-use Rattle.net_instances.specs.Bounded.{scalars_of, memories_of}
-use Rattle.net_instances.specs.declared.input.Input.{Input}
-use Rattle.net_instances.specs.declared.net_state.NetState.{NetState}
-use Rattle.net_instances.specs.State as state
+use Rattle.net_core.specs.Bounded.{scalars_of, memories_of}
+use Rattle.net_core.specs.declared.input.Input.{Input}
+use Rattle.net_core.specs.declared.net_state.NetState.{NetState}
+use Rattle.net_core.specs.State as state
 use Rattle.run_data.specs.Report.{last_line}
 use Rattle.run_data.specs.declared.lines.Last.{Last}
 use Rattle.run_program.specs.Run.{values_of, tokens_at, stream_lines, memory_lines, lines_at}

@@ -2,8 +2,8 @@ use Rattle.std.proofs.Common.{◌≡◌, ◌<◌, ℕ, List, length, take, drop,
 use Rattle.tapa_files.proofs.Known.{part_so_far, part_of_next, appends_both}
 use Rattle.tapa_syntax.specs.declared.program.Memory.{Memory}
 use Rattle.kahn_model.specs.Cells.{cells_at}
-use Rattle.net_instances.specs.Bounded.{scalars_of, memories_of}
-use Rattle.net_instances.specs.State.{count}
+use Rattle.net_core.specs.Bounded.{scalars_of, memories_of}
+use Rattle.net_core.specs.State.{count}
 use Rattle.run_data.specs.Report.{memory_line}
 use Rattle.run_program.specs.Run.{memory_lines}
 use Rattle.run_program.proofs.Lines.{on_err}

@@ -1,8 +1,8 @@
 use Rattle.std.proofs.Common.{◌≤◌, take}
 use Rattle.std.specs.Io.KnownBytes.{Appends}
 use Rattle.kahn_model.specs.Cells.{cells_at}
-use Rattle.net_instances.specs.Bounded.{scalars_of, memories_of}
-use Rattle.net_instances.specs.State.{count}
+use Rattle.net_core.specs.Bounded.{scalars_of, memories_of}
+use Rattle.net_core.specs.State.{count}
 use Rattle.run_program.specs.Run.{memory_lines}
 use Rattle.run_program.proofs.shown.show_memories.Given as goal
 

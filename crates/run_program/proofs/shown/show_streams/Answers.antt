@@ -2,7 +2,7 @@ use Rattle.std.proofs.Common.{◌≡◌, ◌<◌, ℕ, List, length, take, drop,
 use Rattle.tapa_base.specs.declared.token.Token.{Token}
 use Rattle.tapa_files.proofs.Known.{part_of_next, appends_both}
 use Rattle.tapa_syntax.specs.declared.program.Stream.{Stream}
-use Rattle.net_instances.specs.State.{network, count}
+use Rattle.net_core.specs.State.{network, count}
 use Rattle.run_data.specs.Report.{stream_line}
 use Rattle.run_program.specs.Run.{tokens_at, stream_lines}
 use Rattle.run_program.proofs.Lines.{on_err}

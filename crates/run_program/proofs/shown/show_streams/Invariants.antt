@@ -1,6 +1,6 @@
 use Rattle.std.proofs.Common.{◌≤◌, take}
 use Rattle.std.specs.Io.KnownBytes.{Appends}
-use Rattle.net_instances.specs.State.{network, count}
+use Rattle.net_core.specs.State.{network, count}
 use Rattle.run_program.specs.Run.{tokens_at, stream_lines}
 use Rattle.run_program.proofs.shown.show_streams.Given as goal
 

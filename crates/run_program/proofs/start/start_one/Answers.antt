@@ -4,7 +4,7 @@ use Rattle.std.specs.declared.alloc.Global.{Global}
 use Rattle.std.specs.Arc.{arc_value}
 use Rattle.std.proofs.lemmas.Option.{slice_get_read, slice_get_within}
 use Rattle.kahn_model.specs.Start.{bound_value}
-use Rattle.net_instances.specs.Bounded.{instance_job}
+use Rattle.net_core.specs.Bounded.{instance_job}
 use Rattle.coro_machine.specs.declared.machine.Machine.{Machine}
 use Rattle.coro_machine.specs.Coro.{IsMachineOf}
 use Rattle.kahn_model.specs.Rows.{rows_of}

@@ -1,8 +1,8 @@
 use Rattle.std.proofs.Common.{◌≡◌, ℕ, List, Some, codes, ap, ◌∙◌, sym}
 use Rattle.tapa_syntax.specs.declared.program.Instance.{Instance}
 use Rattle.tapa_syntax.specs.declared.program.Stream.{Stream}
-use Rattle.net_ports.specs.declared.body.Pause.{Pause}
-use Rattle.net_ports.specs.declared.body.Pause.TheVariants.{WantsRead}
+use Rattle.net_core.specs.declared.body.Pause.{Pause}
+use Rattle.net_core.specs.declared.body.Pause.TheVariants.{WantsRead}
 use Rattle.run_program.specs.Run.{wait_line}
 use Rattle.run_program.specs.Pauses.{pause_line, bound_label}
 use Rattle.run_program.proofs.waits.pause_text.Goals as goal

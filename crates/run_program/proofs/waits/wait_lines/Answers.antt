@@ -5,12 +5,12 @@ use Rattle.std.specs.Prelude.{slice_get, slice_index}
 use Rattle.tapa_syntax.specs.declared.program.Instance.{Instance}
 use Rattle.tapa_syntax.specs.declared.program.Program.{Program}
 use Rattle.kahn_model.specs.Network.{Network}
-use Rattle.net_ports.specs.declared.body.Pause.{Pause}
-use Rattle.net_instances.specs.declared.net_state.NetState.{NetState}
-use Rattle.net_instances.specs.Bindings.{stream_at, stream_in}
+use Rattle.net_core.specs.declared.body.Pause.{Pause}
+use Rattle.net_core.specs.declared.net_state.NetState.{NetState}
+use Rattle.net_core.specs.Bindings.{stream_at, stream_in}
 use Rattle.net_core.specs.Settle.{AreTold}
-use Rattle.net_instances.specs.State.{network, count}
-use Rattle.net_instances.specs.Waits.{IsToldBy}
+use Rattle.net_core.specs.State.{network, count}
+use Rattle.net_core.specs.Waits.{IsToldBy}
 use Rattle.run_program.specs.Ending.{lines_in}
 use Rattle.run_program.specs.Pauses.{pause_line, in_list, last_pause_lines}
 use Rattle.run_program.specs.Run.{AreWaitLines}

@@ -1,9 +1,9 @@
 use Rattle.std.proofs.Common.{◌≡◌, length, sym, ap, subst, ◌∙◌, arith}
 use Rattle.vlog_tree.specs.Environment.{shape_of}
 use Rattle.sim_tape.specs.Trees.{tree_of}
-use Rattle.sim_nets.specs.Order.{IsNetOrder}
-use Rattle.sim_placed.specs.States.{Tells}
-use Rattle.sim_placed.proofs.Giving.{given_free, given_read}
+use Rattle.sim_flat.specs.Order.{IsNetOrder}
+use Rattle.sim_design.specs.States.{Tells}
+use Rattle.sim_design.proofs.Giving.{given_free, given_read}
 use Rattle.sim_design.proofs.Drafting.{is_plan}
 use Rattle.sim_design.proofs.drafts.placed_of.Goals as goal
 

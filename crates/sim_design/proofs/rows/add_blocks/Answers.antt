@@ -1,5 +1,5 @@
 use Rattle.std.proofs.Common.{◌+◌, ◌≤◌, ◌++◌, length, refl, sym, ap, subst, ◌∙◌}
-use Rattle.sim_placed.proofs.Driving.{part_is}
+use Rattle.sim_design.proofs.Driving.{part_is}
 use Rattle.sim_design.specs.Commits.{commits_below}
 use Rattle.sim_design.specs.Left.{own_pairs}
 use Rattle.sim_design.proofs.rows.add_blocks.Goals as goal

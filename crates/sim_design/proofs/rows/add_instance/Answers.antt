@@ -1,9 +1,9 @@
 use Rattle.std.proofs.Common.{◌+◌, ◌≤◌, length, sym, ap, subst}
 use Rattle.std.specs.List.{AllByRecursion}
 use Rattle.sim_tape.specs.Trees.{tree_of}
-use Rattle.sim_lower.proofs.AtomSlots.{some_is, not_missing}
-use Rattle.sim_blocks.specs.declared.writes.Blocks.{Blocks}
-use Rattle.sim_blocks.specs.Ready.{IsReady}
+use Rattle.sim_gates.proofs.AtomSlots.{some_is, not_missing}
+use Rattle.sim_gates.specs.declared.writes.Blocks.{Blocks}
+use Rattle.sim_gates.specs.Ready.{IsReady}
 use Rattle.sim_design.specs.Left.{own_pairs, AreLeft}
 use Rattle.sim_design.proofs.rows.add_instance.Goals as goal
 

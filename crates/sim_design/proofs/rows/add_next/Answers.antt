@@ -1,14 +1,14 @@
 use Rattle.std.proofs.Common.{◌≡◌, ℕ, ◌+◌, ◌<◌, List, Option, length, refl, sym, subst, ◌∙◌, arith}
 use Rattle.std.proofs.lemmas.Bool.{OnTrue_at, both_ways}
 use Rattle.vlog_tree.specs.Form.{ModuleTree}
-use Rattle.sim_operations.specs.declared.gates.Pair.{Pair}
+use Rattle.sim_tape.specs.declared.gates.Pair.{Pair}
 use Rattle.sim_tape.specs.Tape.{TapeTree}
 use Rattle.sim_tape.specs.Trees.{tree_of}
 use Rattle.sim_tape.proofs.Growing.{extends_refl, extends_twice}
-use Rattle.sim_lower.specs.Nets.{SlotsBefore}
-use Rattle.sim_lower.proofs.AtomSlots.{slots_on}
-use Rattle.sim_blocks.specs.declared.writes.Store.{Store}
-use Rattle.sim_names.specs.declared.flat.Flat.{Flat}
+use Rattle.sim_gates.specs.Nets.{SlotsBefore}
+use Rattle.sim_gates.proofs.AtomSlots.{slots_on}
+use Rattle.sim_gates.specs.declared.writes.Store.{Store}
+use Rattle.sim_flat.specs.declared.flat.Flat.{Flat}
 use Rattle.sim_design.specs.declared.drafts.Commit.{Commit}
 use Rattle.sim_design.specs.declared.drafts.Width.{Width}
 use Rattle.sim_design.specs.Below.{HasPlaces, AreNextBelow}

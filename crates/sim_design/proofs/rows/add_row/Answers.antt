@@ -8,18 +8,18 @@ use Rattle.vlog_tree.specs.declared.table.Declaration.{Declaration}
 use Rattle.vlog_tree.specs.Form.{ModuleTree}
 use Rattle.vlog_tree.specs.Table.{declared}
 use Rattle.vlog_tree.specs.Cycle.{Path}
-use Rattle.sim_operations.specs.declared.gates.Pair.{Pair}
+use Rattle.sim_tape.specs.declared.gates.Pair.{Pair}
 use Rattle.sim_tape.specs.Tape.{TapeTree}
 use Rattle.sim_tape.specs.Trees.{tree_of}
-use Rattle.sim_blocks.specs.declared.writes.Store.{Store}
-use Rattle.sim_blocks.specs.Ready.{IsReady}
+use Rattle.sim_gates.specs.declared.writes.Store.{Store}
+use Rattle.sim_gates.specs.Ready.{IsReady}
 use Rattle.sim_flat.specs.declared.instances.Instance as row
 use Rattle.sim_flat.specs.Instances.{StandsAt, IsModuleOf}
-use Rattle.sim_names.specs.declared.flat.Flat.{Flat}
-use Rattle.sim_names.specs.declared.tables.Table.{Table}
-use Rattle.sim_names.specs.Edges.{table_at}
-use Rattle.sim_names.specs.Flat.{IsFlat}
-use Rattle.sim_names.proofs.Standing.{table_of}
+use Rattle.sim_flat.specs.declared.flat.Flat.{Flat}
+use Rattle.sim_flat.specs.declared.tables.Table.{Table}
+use Rattle.sim_flat.specs.Edges.{table_at}
+use Rattle.sim_flat.specs.Flat.{IsFlat}
+use Rattle.sim_flat.proofs.Standing.{table_of}
 use Rattle.sim_design.specs.declared.drafts.Commit.{Commit}
 use Rattle.sim_design.specs.Left.{own_pairs, module_of_instance, AreAdded}
 use Rattle.sim_design.proofs.Within.{room, blocks_ready}

@@ -4,15 +4,15 @@ use Rattle.std.specs.List.{list_all, AllByRecursion}
 use Rattle.vlog_tree.specs.declared.tree.Item.{Item}
 use Rattle.vlog_tree.specs.declared.table.Declaration.{Declaration}
 use Rattle.vlog_tree.specs.Cycle.{run_items}
-use Rattle.sim_operations.specs.declared.gates.Pair.{Pair}
+use Rattle.sim_tape.specs.declared.gates.Pair.{Pair}
 use Rattle.sim_tape.specs.Tape.{TapeTree}
 use Rattle.sim_tape.specs.Trees.{tree_of}
-use Rattle.sim_lower.specs.Nets.{Told}
-use Rattle.sim_blocks.specs.declared.writes.Blocks.{Blocks}
-use Rattle.sim_blocks.specs.Parts.{has_conditions}
-use Rattle.sim_blocks.specs.Next.{ShowsNext, AreApart, AreKnown, SamePlaces}
-use Rattle.sim_blocks.specs.Ready.{IsReady}
-use Rattle.sim_placed.proofs.Driving.{part_is}
+use Rattle.sim_gates.specs.Nets.{Told}
+use Rattle.sim_gates.specs.declared.writes.Blocks.{Blocks}
+use Rattle.sim_gates.specs.Parts.{has_conditions}
+use Rattle.sim_gates.specs.Next.{ShowsNext, AreApart, AreKnown, SamePlaces}
+use Rattle.sim_gates.specs.Ready.{IsReady}
+use Rattle.sim_design.proofs.Driving.{part_is}
 use Rattle.sim_design.specs.Left.{own_pairs, AreLeft}
 use Rattle.sim_design.proofs.rows.blocks_at.Goals as goal
 

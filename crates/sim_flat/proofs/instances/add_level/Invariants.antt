@@ -1,5 +1,5 @@
 use Rattle.std.proofs.Common.{◌≡◌, ℕ, ◌+◌, ◌<◌, ◌≤◌, length}
-use Rattle.vlog_graph.specs.Graphs.{rows_of}
+use Rattle.number_graph.specs.Graphs.{rows_of}
 use Rattle.sim_flat.specs.Rows.{row_at, AreRows, HaveDepth}
 use Rattle.sim_flat.proofs.instances.add_level.Given as goal
 

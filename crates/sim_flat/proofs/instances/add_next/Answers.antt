@@ -1,6 +1,6 @@
 use Rattle.std.proofs.Common.{◌≡◌, ℕ, ◌+◌, ◌<◌, List, [], ◌∷◌, ◌++◌, length, sym, ap, subst, ◌∙◌, rules, arith}
-use Rattle.vlog_graph.specs.Graphs.{rows_of, targets_of}
-use Rattle.vlog_graph.proofs.Rows.{row_at as row_of}
+use Rattle.number_graph.specs.Graphs.{rows_of, targets_of}
+use Rattle.number_graph.proofs.Rows.{row_at as row_of}
 use Rattle.sim_flat.specs.declared.instances.Instance.{Instance}
 use Rattle.sim_flat.specs.Rows.{row_at, kinds_at, AreRows, HaveDepth}
 use Rattle.sim_flat.proofs.Grown.{grown_deep, rows_grow}

@@ -1,5 +1,5 @@
 use Rattle.std.proofs.Common.{length}
-use Rattle.vlog_graph.specs.Graphs.{rows_of}
+use Rattle.number_graph.specs.Graphs.{rows_of}
 use Rattle.sim_flat.specs.Rows.{AreRows, HaveDepth}
 use Rattle.sim_flat.proofs.instances.all_levels.Given as goal
 

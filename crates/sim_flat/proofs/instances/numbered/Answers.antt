@@ -2,8 +2,8 @@ use Rattle.std.proofs.Common.{◌≡◌, ℕ, List, length, map, sym, ap, subst,
 use Rattle.std.proofs.lemmas.List.{length-map}
 use Rattle.vlog_tree.specs.declared.table.Declaration.{Declaration}
 use Rattle.vlog_tree.specs.Table.{module_declared}
-use Rattle.vlog_graph.specs.Graphs.{rows_of}
-use Rattle.vlog_graph.proofs.Rows.{rows_len}
+use Rattle.number_graph.specs.Graphs.{rows_of}
+use Rattle.number_graph.proofs.Rows.{rows_len}
 use Rattle.sim_flat.specs.Kinds.{kind_place, all_kinds, module_kinds}
 use Rattle.sim_flat.specs.Rows.{AreRows, HaveDepth}
 use Rattle.sim_flat.proofs.instances.numbered.Goals as goal

@@ -1,5 +1,5 @@
 use Rattle.std.proofs.Common.{◌≡◌, take}
-use Rattle.vlog_graph.specs.Graphs.{rows_of}
+use Rattle.number_graph.specs.Graphs.{rows_of}
 use Rattle.sim_flat.specs.Kinds.{all_kinds}
 use Rattle.sim_flat.proofs.kinds.kinds_of.Given as goal
 

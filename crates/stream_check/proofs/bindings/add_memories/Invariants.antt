@@ -1,7 +1,7 @@
 use Rattle.std.proofs.Common.{◌≡◌, ◌<◌, ℕ, length, drop, get_or}
-use Rattle.check_users.specs.declared.users.Users.{Users}
+use Rattle.check_scope.specs.declared.users.Users.{Users}
 use Rattle.stream_check.specs.Programs.{bound_memories}
-use Rattle.check_users.specs.Users.{with_users}
+use Rattle.check_scope.specs.Users.{with_users}
 use Rattle.stream_check.proofs.bindings.add_memories.Given as goal
 
 abbrev pub invariant-loop-memory : goal.invariant-loop-memory

@@ -2,9 +2,9 @@ use Rattle.std.proofs.Common.{◌≡◌, ◌<◌, ◌+◌, [], ◌++◌, drop, g
 use Rattle.std.proofs.lemmas.List.{append-nil}
 use Rattle.std.proofs.lemmas.Result.{err_from_is_err_and}
 use Rattle.tapa_syntax.specs.Flat.{flat_instance}
-use Rattle.check_users.specs.declared.users.Users.TheVariants.{Nobody}
+use Rattle.check_scope.specs.declared.users.Users.TheVariants.{Nobody}
 use Rattle.stream_check.specs.Programs as program
-use Rattle.check_users.specs.Users.{users_of}
+use Rattle.check_scope.specs.Users.{users_of}
 use Rattle.check_scope.proofs.Order.{begins, refuses}
 use Rattle.stream_check.proofs.Bound.{few_memories, none_left}
 use Rattle.stream_check.proofs.bindings.memories.Goals as goal

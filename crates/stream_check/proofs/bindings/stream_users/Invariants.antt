@@ -1,9 +1,9 @@
 use Rattle.std.proofs.Common.{◌≡◌, ◌<◌, ℕ, true, false, length, map, drop, get_or}
 use Rattle.tapa_syntax.specs.Flat.{flat_instance}
 use Rattle.check_upper.specs.Views.{task_view}
-use Rattle.check_users.specs.declared.users.Users.{Users}
+use Rattle.check_scope.specs.declared.users.Users.{Users}
 use Rattle.stream_check.specs.Programs.{instances_at}
-use Rattle.check_users.specs.Users.{users_of, with_users}
+use Rattle.check_scope.specs.Users.{users_of, with_users}
 use Rattle.stream_check.proofs.bindings.stream_users.Given as goal
 
 abbrev pub invariant-loop-number : goal.invariant-loop-number

@@ -1,10 +1,10 @@
 use Rattle.std.proofs.Common.{Err, ap, subst}
 use Rattle.std.specs.Prelude.{option_map}
 use Rattle.vlog_ref_start.specs.Outside.{environment_of}
-use Rattle.run_design.specs.Ending.{EndsSo}
-use Rattle.run_design.specs.declared.run.DesignEnd.{DesignEnd}
+use Rattle.sim_report.specs.Ending.{EndsSo}
+use Rattle.sim_report.specs.declared.run.DesignEnd.{DesignEnd}
 use Rattle.tapa_words.specs.Words.{Cosim}
-use Rattle.command_files.specs.Outside.{written}
+use Rattle.command_source.specs.Outside.{written}
 use Rattle.tapa_drive.proofs.Carried.{not_found}
 use Rattle.tapa_drive.proofs.CosimCarried.{not_surrounded, ended, unfinished, unwritten, no_memory}
 use Rattle.tapa_drive.proofs.cosim.cosim_text.Goals as goal

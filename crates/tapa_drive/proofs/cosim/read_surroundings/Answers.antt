@@ -1,7 +1,7 @@
 use Rattle.std.proofs.Common.{ℕ, List, sym, subst}
 use Rattle.std.specs.Prelude.{option_map}
-use Rattle.command_files.specs.Files.{no_data}
-use Rattle.command_files.specs.Meaning.{design_refusal}
+use Rattle.command_source.specs.Files.{no_data}
+use Rattle.command_source.specs.Meaning.{design_refusal}
 use Rattle.tapa_drive.specs.Designs.{IsUnfitFor}
 use Rattle.tapa_drive.specs.Found.{IsNotSurrounded}
 use Rattle.tapa_drive.proofs.Taking.{unfit_design_none}

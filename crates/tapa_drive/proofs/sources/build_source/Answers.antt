@@ -1,5 +1,5 @@
 use Rattle.tapa_words.specs.Words.{Build}
-use Rattle.command_files.specs.Outside.{written}
+use Rattle.command_source.specs.Outside.{written}
 use Rattle.tapa_drive.proofs.BuildCarried.{put}
 use Rattle.tapa_drive.proofs.Carried.{not_found}
 use Rattle.tapa_drive.proofs.sources.build_source.Goals as goal

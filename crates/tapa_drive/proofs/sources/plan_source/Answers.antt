@@ -1,9 +1,9 @@
 use Rattle.std.proofs.Common.{subst}
 use Rattle.tapa_words.specs.Words.{Plan}
 use Rattle.slot_plan.specs.declared.floorplan.Mode.{Mode}
-use Rattle.command_files.specs.Meaning.{refusal_of}
-use Rattle.command_files.specs.Outside.{written}
-use Rattle.command_files.specs.declared.refusal.Refusal.TheVariants as code
+use Rattle.command_source.specs.Meaning.{refusal_of}
+use Rattle.command_source.specs.Outside.{written}
+use Rattle.command_source.specs.declared.refusal.Refusal.TheVariants as code
 use Rattle.command_plans.specs.Planned.{IsFound, IsUnplanned}
 use Rattle.tapa_drive.proofs.Carried.{not_found}
 use Rattle.tapa_drive.proofs.PlanCarried.{no_device, unplanned, put}

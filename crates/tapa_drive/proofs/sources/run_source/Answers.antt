@@ -3,7 +3,7 @@ use Rattle.std.specs.Prelude.{option_map}
 use Rattle.run_program.specs.declared.run.RunEnd.{RunEnd}
 use Rattle.run_program.specs.Ending.{EndsSo}
 use Rattle.run_program.specs.Run.{values_of}
-use Rattle.command_files.specs.Outside.{written}
+use Rattle.command_source.specs.Outside.{written}
 use Rattle.tapa_words.specs.Words.{Run}
 use Rattle.tapa_drive.proofs.Carried.{not_found}
 use Rattle.tapa_drive.proofs.RunCarried.{not_given, ended, stopped, past, unwritten, no_memory}

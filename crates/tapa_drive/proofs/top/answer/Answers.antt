@@ -1,4 +1,4 @@
-use Rattle.command_files.specs.Outside.{written}
+use Rattle.command_source.specs.Outside.{written}
 use Rattle.tapa_drive.proofs.Answered.{done, refused}
 use Rattle.tapa_drive.proofs.top.answer.Goals as goal
 

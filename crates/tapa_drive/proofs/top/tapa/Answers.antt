@@ -1,6 +1,6 @@
 use Rattle.std.proofs.Common.{ap}
 use Rattle.tapa_words.specs.Words.{texts}
-use Rattle.command_files.specs.Outside.{written}
+use Rattle.command_source.specs.Outside.{written}
 use Rattle.tapa_drive.proofs.BuildDecided.{build_decided}
 use Rattle.tapa_drive.proofs.CosimDecided.{cosim_decided}
 use Rattle.tapa_drive.proofs.Decided.{decided, lengthy, usage}

@@ -1,6 +1,6 @@
 use Rattle.std.proofs.Common.{◌≡◌, ℕ, ◌<◌, true, length, [], ◌∷◌}
 use Rattle.std.specs.Prelude.{◌↔◌}
-use Rattle.vlog_graph.specs.Graphs.{IsReached}
+use Rattle.number_graph.specs.Graphs.{IsReached}
 use Rattle.task_graph.specs.Reach.{mark}
 use Rattle.task_graph.proofs.reach.rows_of.Given as goal
 

@@ -3,7 +3,7 @@ use Rattle.std.specs.Prelude.{◌↔◌}
 use Rattle.vlog_tree.specs.Grounded.{Has}
 use Rattle.vlog_tree.specs.Loops.{Edges, Chain}
 use Rattle.vlog_scope.specs.NameTable.{value_in}
-use Rattle.vlog_graph.specs.Graphs.{Adjacency, Steps}
+use Rattle.number_graph.specs.Graphs.{Adjacency, Steps}
 use Rattle.vlog_comb_loops.specs.Growth.{Gathers}
 use Rattle.vlog_comb_loops.specs.Summaries.{IsPair}
 use Rattle.vlog_comb_loops.proofs.Gathering.{found_gathers, not_numbered}

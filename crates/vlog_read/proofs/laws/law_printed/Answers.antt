@@ -4,7 +4,7 @@ use Rattle.vlog_tree.specs.declared.fault.VFault.TheVariants.{V1, V2, V3, V4, V5
 use Rattle.vlog_tree.specs.Form.{ModuleTree}
 use Rattle.vlog_tree.specs.Spelling.{spelling}
 use Rattle.vlog_tree.specs.Refused.{IsDesign, Refuses}
-use Rattle.vlog_grammar.specs.Grammar.{HasTree}
+use Rattle.vlog_lex.specs.Grammar.{HasTree}
 use Rattle.vlog_design.specs.Designs.{DesignTree}
 use Rattle.vlog_read.specs.Texts.{RefusesText}
 use Rattle.vlog_read.proofs.OneTop.{one_design}

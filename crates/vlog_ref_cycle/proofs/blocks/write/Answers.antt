@@ -2,7 +2,7 @@ use Rattle.std.proofs.Common.{[], ◌∷◌, ap, subst, sym, ◌∙◌, refl, ma
 use Rattle.std.specs.List.{AllByRecursion}
 use Rattle.vlog_tree.specs.Grounded.{AllTwo}
 use Rattle.vlog_tree.specs.Loops.{atom_nets}
-use Rattle.vlog_ref_driver.specs.Numbers.{cycle_of}
+use Rattle.vlog_values.specs.Numbers.{cycle_of}
 use Rattle.vlog_ref_cycle.specs.Next.{put_net, IsStored, ShowsNet, ShowsCells, ReadsAre, step_nets, step_next, net_shape}
 use Rattle.vlog_ref_cycle.proofs.Leaves.{shapes_put, shapes_store}
 use Rattle.vlog_ref_cycle.proofs.Turns.{put_leaves, store_leaves}

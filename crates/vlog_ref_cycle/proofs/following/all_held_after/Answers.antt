@@ -1,7 +1,7 @@
 use Rattle.std.proofs.Common.{◌≡◌, suc, ◌<◌, true, Option, length, get_or, sym, ap, subst, ◌∙◌}
 use Rattle.std.specs.Prelude.{is_some, IfSome}
 use Rattle.std.specs.List.{list_all}
-use Rattle.vlog_ref_driver.specs.declared.moment.Held.{Held}
+use Rattle.vlog_values.specs.declared.moment.Held.{Held}
 use Rattle.vlog_ref_cycle.specs.Moments.{HeldIs, InRuns}
 use Rattle.vlog_ref_cycle.specs.Next.{IsAlike, held_known}
 use Rattle.vlog_ref_cycle.proofs.Leaves.{taken_more}

@@ -1,7 +1,7 @@
 use Rattle.std.proofs.Common.{◌≡◌, ◌<◌, ◌≤◌, true, [], Option, length, get_or, sym, ap, subst, ◌∙◌}
 use Rattle.std.specs.Prelude.{is_some, IfSome}
 use Rattle.std.specs.List.{list_all}
-use Rattle.vlog_ref_driver.specs.declared.moment.OutsideMemory.{OutsideMemory}
+use Rattle.vlog_values.specs.declared.moment.OutsideMemory.{OutsideMemory}
 use Rattle.vlog_ref_cycle.specs.Moments.{InRuns}
 use Rattle.vlog_ref_cycle.specs.Next.{outside_known, IsAfterStore, IsSameMemory}
 use Rattle.vlog_ref_cycle.proofs.Leaves.{taken_more}

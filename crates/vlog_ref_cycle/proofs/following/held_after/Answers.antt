@@ -4,7 +4,7 @@ use Rattle.std.specs.List.{flat_map}
 use Rattle.std.specs.Option.{option_map}
 use Rattle.std.specs.declared.alloc.Global.{Global}
 use Rattle.vlog_tree.specs.Cycle.{module_at, run_items}
-use Rattle.vlog_ref_driver.specs.declared.numbers.NetNumber.{NetNumber}
+use Rattle.vlog_values.specs.declared.numbers.NetNumber.{NetNumber}
 use Rattle.vlog_ref_cycle.specs.Sources.{net_read}
 use Rattle.vlog_ref_cycle.specs.Numbers.{all_numbers, number_at}
 use Rattle.vlog_ref_cycle.specs.Next.{item_nets, reads_of, ReadsAre, Shows}

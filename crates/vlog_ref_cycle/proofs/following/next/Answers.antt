@@ -3,8 +3,8 @@ use Rattle.std.specs.Prelude.{IfSome, Vec}
 use Rattle.std.specs.List.{AllByRecursion}
 use Rattle.std.specs.declared.alloc.Global.{Global}
 use Rattle.vlog_tree.specs.Grounded.{AllTwo}
-use Rattle.vlog_ref_driver.specs.declared.moment.Held.{Held}
-use Rattle.vlog_ref_driver.specs.declared.moment.OutsideMemory.{OutsideMemory}
+use Rattle.vlog_values.specs.declared.moment.Held.{Held}
+use Rattle.vlog_values.specs.declared.moment.OutsideMemory.{OutsideMemory}
 use Rattle.vlog_ref_cycle.specs.Moments.{HeldIs, InRuns}
 use Rattle.vlog_ref_cycle.specs.Next.{IsAfterStore, IsAlike, IsSameMemory}
 use Rattle.vlog_ref_cycle.proofs.Later.{at_next}

@@ -1,5 +1,5 @@
 use Rattle.std.proofs.Common.{◌≡◌, drop}
-use Rattle.vlog_ref_driver.specs.Numbers.{first_net}
+use Rattle.vlog_values.specs.Numbers.{first_net}
 use Rattle.vlog_ref_cycle.proofs.inputs.scalar_at.Given as goal
 
 abbrev pub invariant-loop-v : goal.invariant-loop-v

@@ -1,7 +1,7 @@
 use Rattle.std.proofs.Common.{◌≡◌, ◌-◌, Some, None, sym, ap, ◌∙◌, arith}
 use Rattle.std.specs.Prelude.{Vec}
 use Rattle.std.specs.declared.alloc.Global.{Global}
-use Rattle.vlog_ref_driver.specs.declared.numbers.NetNumber.{NetNumber}
+use Rattle.vlog_values.specs.declared.numbers.NetNumber.{NetNumber}
 use Rattle.std.specs.Option.{option_map}
 use Rattle.vlog_ref_cycle.specs.Sources.{source_tree}
 use Rattle.vlog_ref_cycle.specs.Numbers.{all_numbers, by_rule, number_at}

@@ -1,7 +1,7 @@
 use Rattle.std.proofs.Common.{◌≡◌, List, length, map, refl, ap, subst, ◌∙◌}
 use Rattle.vlog_tree.specs.Form.{ModuleTree}
 use Rattle.vlog_tree.specs.Environment.{Environment, shape_of}
-use Rattle.vlog_ref_driver.specs.declared.moment.Moment.{Moment}
+use Rattle.vlog_values.specs.declared.moment.Moment.{Moment}
 use Rattle.vlog_ref_start.specs.Instances.{places_below}
 use Rattle.vlog_ref_start.specs.Contents.{held_tree, filled_held}
 use Rattle.vlog_ref_start.specs.Outside.{environment_of, labelled_from, outside_tree, outside_from}

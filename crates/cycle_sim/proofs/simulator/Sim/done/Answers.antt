@@ -1,10 +1,10 @@
 use Rattle.std.proofs.Common.{[], subst}
 use Rattle.std.specs.Prelude.{◌↔◌, IsTrue}
 use Rattle.vlog_tree.specs.Environment.{IsDone}
-use Rattle.sim_parts.specs.declared.parts.Parts.{Parts}
-use Rattle.sim_parts.specs.declared.parts.State.{State}
+use Rattle.cycle_sim.specs.declared.parts.Parts.{Parts}
+use Rattle.cycle_sim.specs.declared.parts.State.{State}
 use Rattle.cycle_sim.specs.Simulators.{sim_of}
-use Rattle.sim_parts.specs.Sims.{InRuns}
+use Rattle.cycle_sim.specs.Sims.{InRuns}
 use Rattle.cycle_sim.proofs.simulator.Sim.done.Goals as goal
 
 pub returns : goal.returns

@@ -1,5 +1,5 @@
 use Rattle.std.proofs.Common.{◌≡◌, IfOk, subst}
-use Rattle.sim_operations.specs.declared.gates.Wide.{Wide}
+use Rattle.sim_tape.specs.declared.gates.Wide.{Wide}
 use Rattle.sim_tape.specs.Tape.{pair_value, wide_value}
 use Rattle.sim_tape.specs.Solved.{Says}
 use Rattle.sim_tape.specs.Trees.{tree_of}

@@ -1,10 +1,10 @@
 use Rattle.std.proofs.Common.{◌≡◌, ◌<◌, length, List, ℕ, true, false, refl, subst}
 use Rattle.vlog_tree.specs.Loops.{Chain, Reaches}
 use Rattle.vlog_scope.specs.NameTable.{value_in}
-use Rattle.vlog_graph.specs.declared.order.Order.{Order}
-use Rattle.vlog_graph.specs.Graphs.{Steps, IsOrder}
-use Rattle.vlog_graph.specs.Orders.{IsAnswer}
-use Rattle.vlog_graph.proofs.Visits.{no_cycle}
+use Rattle.number_graph.specs.declared.order.Order.{Order}
+use Rattle.number_graph.specs.Graphs.{Steps, IsOrder}
+use Rattle.number_graph.specs.Orders.{IsAnswer}
+use Rattle.number_graph.proofs.Visits.{no_cycle}
 use Rattle.vlog_net_graph.specs.Names.{IsNumbered}
 use Rattle.vlog_net_graph.proofs.Numbered.{some_loop, returned}
 use Rattle.vlog_net_graph.proofs.names.Draft.is_loopless.Goals as goal

@@ -2,10 +2,10 @@ use Rattle.std.proofs.Common.{◌≡◌, ◌<◌, ℕ, length, List, true, false
 use Rattle.std.specs.Prelude.{◌↔◌, IfOk}
 use Rattle.vlog_tree.specs.Loops.{Chain, Reaches}
 use Rattle.vlog_scope.specs.NameTable.{value_in}
-use Rattle.vlog_graph.specs.declared.order.Order.{Order}
-use Rattle.vlog_graph.specs.Graphs.{Adjacency, Steps, IsOrder}
-use Rattle.vlog_graph.specs.Orders.{IsAnswer}
-use Rattle.vlog_graph.proofs.Visits.{no_cycle}
+use Rattle.number_graph.specs.declared.order.Order.{Order}
+use Rattle.number_graph.specs.Graphs.{Adjacency, Steps, IsOrder}
+use Rattle.number_graph.specs.Orders.{IsAnswer}
+use Rattle.number_graph.proofs.Visits.{no_cycle}
 use Rattle.vlog_net_graph.proofs.Numbered.{some_loop, returned}
 use Rattle.vlog_net_graph.proofs.names.NamedGraph.is_loopless.Goals as goal
 use Rattle.vlog_net_graph.proofs.names.NamedGraph.is_loopless.Goals.{in-PartsFirst, in-Cycle}

@@ -1,7 +1,0 @@
-//! The modules of channels by their lines, and that they do what a channel owes: a FIFO, and before it a relay of
-//! registers, one a cycle of added latency.
-#![tactic(auto)]
-
-mod laws;
-
-pub use laws::{law_channels_act, law_modules_are_clear, law_names_tell_modules};

@@ -1,5 +1,0 @@
-pub mod Labels
-pub mod Named
-pub mod Owned
-pub mod Told
-pub mod Writers

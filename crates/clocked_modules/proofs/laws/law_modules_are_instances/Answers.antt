@@ -1,5 +1,0 @@
-use Rattle.clocked_modules.proofs.Tasks.{instance_is}
-use Rattle.clocked_modules.proofs.laws.law_modules_are_instances.Goals as goal
-
-pub returns : goal.returns
-returns c = λ program w scalars memories i x leaf machine at body low run cells S runs begins wired. instance_is program w scalars memories i x leaf machine at body low run cells begins S runs wired

@@ -1,0 +1,90 @@
+-- Every source is legal or is refused, and none is both.
+use Rattle.std.proofs.Common.{◌≡◌, ◌⊎◌, inl, inr, ℕ, List, [], ◌∷◌, Ok, Err, refl, sym, subst, arith}
+use Rattle.tapa_base.specs.declared.text.Place.{Place}
+use Rattle.tapa_syntax.specs.declared.lexeme.Lexeme.{Lexeme}
+use Rattle.tapa_syntax.specs.Grammar.{IsTreeOf}
+use Rattle.tapa_syntax.specs.Lexemes.{HasLexemes}
+use Rattle.tapa_syntax.specs.Limits.{most_levels, most_operators}
+use Rattle.tapa_syntax.specs.Symbols.{Symbol, symbols_of}
+use Rattle.tapa_syntax.specs.Trees.{ItemTree}
+use Rattle.tapa_lex.specs.declared.fault.LexCode.{LexCode}
+use Rattle.tapa_lex.specs.Refusals.{IsRefused}
+use Rattle.tapa_lex.proofs.Whole.{one_list, not_both}
+use Rattle.tapa_parse_expression.specs.declared.fault.ParseCode.{ParseCode}
+use Rattle.tapa_parse_expression.specs.Readers.{Outcome}
+use Rattle.tapa_parse.specs.Answers.{stopped_at}
+use Rattle.tapa_parse.specs.Reading as reading
+use Rattle.tapa_parse.proofs.CompleteFiles.{file_complete, one_tree}
+use Rattle.tapa_parse.proofs.SoundTasks.{found_sound}
+use Rattle.check_scope.specs.Answers.{IsFirst}
+use Rattle.check_scope.specs.declared.fault.Broken.{Broken}
+use Rattle.stream_check.specs.Programs.{program_faults}
+use Rattle.command_source.specs.Sources.{HasFile, IsLegal, IsUnread, BreaksRule, IsRefusedSomehow}
+use Rattle.command_source.proofs.Pieces.{lexemes_or_refusal}
+
+-- ---- every source is one of them
+
+abbrev Lexed : List ℕ → Type 0
+Lexed text = ((lexemes : List Lexeme) × HasLexemes text lexemes) ⊎ ((code : LexCode) × (place : Place) × IsRefused text code place)
+
+abbrev Parsed : List ℕ → Type 0
+Parsed text = ((items : List ItemTree) × HasFile text items) ⊎ ((code : ParseCode) × (place : Place) × IsUnread text code place)
+
+abbrev Checked : List ℕ → List ℕ → Type 0
+Checked text top = IsLegal text top ⊎ ((broken : Broken) × BreaksRule text top broken)
+
+-- reading the symbols gives a file or stops
+parsed : (text : List ℕ) (lexemes : List Lexeme) → HasLexemes text lexemes → (o : Outcome (List ItemTree)) → reading.file most_operators (reading.below most_levels) (symbols_of text lexemes) ≡ o → Parsed text
+parsed text lexemes h (Ok (items, left)) e =
+    let found = found_sound (symbols_of text lexemes) left items e in
+    inl (items, record { lexemes = lexemes; are = h; spelled = found.0; within = found.1 })
+parsed text lexemes h (Err (code, left)) e = inr (code, stopped_at text left, record { lexemes = lexemes; are = h; left = left; at = refl; stops = e })
+
+-- a file breaks no rule or there is a first one
+checked : (text top : List ℕ) (items : List ItemTree) → HasFile text items → (faults : List Broken) → program_faults items top ≡ faults → Checked text top
+checked text top items h [] e = inl (record { items = items; file = h; legal = e })
+checked text top items h (b ∷ rest) e = inr (b, record { items = items; file = h; first = subst (λ (l : List Broken). IsFirst l b) (sym e) refl })
+
+pub legal_or_refused : (text top : List ℕ) → IsLegal text top ⊎ IsRefusedSomehow text top
+legal_or_refused text top = of_lexed (lexemes_or_refusal text)
+  where
+    of_checked : Checked text top → IsLegal text top ⊎ IsRefusedSomehow text top
+    of_checked (inl h) = inl h
+    of_checked (inr h) = inr (inr (inr h))
+
+    of_parsed : Parsed text → IsLegal text top ⊎ IsRefusedSomehow text top
+    of_parsed (inl (items, h)) = of_checked (checked text top items h (program_faults items top) refl)
+    of_parsed (inr h) = inr (inr (inl h))
+
+    of_lexed : Lexed text → IsLegal text top ⊎ IsRefusedSomehow text top
+    of_lexed (inl (lexemes, h)) = of_parsed (parsed text lexemes h (reading.file most_operators (reading.below most_levels) (symbols_of text lexemes)) refl)
+    of_lexed (inr h) = inr (inl h)
+
+-- ---- no source is both
+
+-- a text has one file
+one_file : (text : List ℕ) (items others : List ItemTree) → HasFile text items → HasFile text others → items ≡ others
+one_file text items others h k =
+    let same = one_list text h.lexemes k.lexemes h.are k.are in
+    one_tree (symbols_of text k.lexemes) items others (subst (λ (l : List Lexeme). IsTreeOf (symbols_of text l) items) same h.spelled) k.spelled
+
+read_once : (o : Outcome (List ItemTree)) (items : List ItemTree) (code : ParseCode) (left : List Symbol) → o ≡ Ok (items, []) → o ≡ Err (code, left) → ⊥
+read_once o items code left e f = cc
+
+-- what has a file is read
+no_file : (text : List ℕ) (items : List ItemTree) (code : ParseCode) (place : Place) → HasFile text items → IsUnread text code place → ⊥
+no_file text items code place h k =
+    let same = one_list text h.lexemes k.lexemes h.are k.are in
+    let spelled = subst (λ (l : List Lexeme). IsTreeOf (symbols_of text l) items) same h.spelled in
+    read_once (reading.file most_operators (reading.below most_levels) (symbols_of text k.lexemes)) items code k.left
+    (file_complete most_operators most_levels (symbols_of text k.lexemes) items spelled h.within.levels h.within.longest (omega arith)) k.stops
+
+not_first : (faults : List Broken) (broken : Broken) → faults ≡ [] → IsFirst faults broken → ⊥
+not_first faults broken none first = subst (λ (l : List Broken). IsFirst l broken) none first
+
+pub not_legal_and_refused : (text top : List ℕ) → IsLegal text top → IsRefusedSomehow text top → ⊥
+not_legal_and_refused text top p (inl (code, place, h)) = not_both text p.file.lexemes code place p.file.are h
+not_legal_and_refused text top p (inr (inl (code, place, h))) = no_file text p.items code place p.file h
+not_legal_and_refused text top p (inr (inr (broken, h))) =
+    let same = one_file text p.items h.items p.file h.file in
+    not_first (program_faults h.items top) broken (subst (λ (items : List ItemTree). program_faults items top ≡ []) same p.legal) h.first

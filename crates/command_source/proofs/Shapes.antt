@@ -1,0 +1,96 @@
+-- The shape of a program, and the inputs that fit it.
+use Rattle.std.proofs.Common.{◌≡◌, ◌≤◌, ℕ, zero, suc, List, [], ◌∷◌, length, map, Some, sym, ap, subst, ◌∙◌, arith}
+use Rattle.std.specs.Prelude.{All, slice_get, option_map, Vec}
+use Rattle.std.specs.declared.alloc.Global.{Global}
+use Rattle.std.proofs.lemmas.Option.{slice_get-map}
+use Rattle.std.proofs.lemmas.List.{length-map}
+use Rattle.tapa_base.specs.declared.kind.Kind.{Kind}
+use Rattle.tapa_base.specs.declared.kind.Kind.TheVariants as kind
+use Rattle.tapa_base.specs.Kinds.{bits_of}
+use Rattle.tapa_base.specs.declared.shape.Port.{Port}
+use Rattle.tapa_base.specs.declared.shape.Shape.{Shape}
+use Rattle.tapa_syntax.specs.declared.program.Memory.{Memory}
+use Rattle.tapa_syntax.specs.declared.program.Program.{Program}
+use Rattle.tapa_syntax.specs.declared.program.Scalar.{Scalar}
+use Rattle.kahn_model.specs.Fits.{FitsInput}
+use Rattle.tapa_base.specs.Fits.{Fits}
+use Rattle.run_data.specs.Answer.{bits_of_ports, IsDataOf, IsCause}
+use Rattle.run_data.specs.declared.data.Data.{Data}
+use Rattle.run_data.specs.declared.data.DataFault.{DataFault}
+use Rattle.run_data.specs.declared.data.DataFault.TheVariants.{J1, J2, J3, J4, OutOfMemory}
+use Rattle.command_source.specs.Inputs.{port_of, IsShapeOf, GivesValues, IsUnfitBy}
+
+few_bits : (k : Kind) → bits_of k ≤ 64
+few_bits kind.Bool = omega arith
+few_bits kind.I8 = omega arith
+few_bits kind.U8 = omega arith
+few_bits kind.I16 = omega arith
+few_bits kind.U16 = omega arith
+few_bits kind.I32 = omega arith
+few_bits kind.U32 = omega arith
+few_bits kind.I64 = omega arith
+few_bits kind.U64 = omega arith
+
+abbrev FewBits : Port → Type 0
+FewBits port = port.bits ≤ 64
+
+few_scalars : (xs : List Scalar) → All FewBits (map (λ (c : Scalar). port_of c.name c.kind) xs)
+few_scalars [] k d h = absurd (omega arith)
+few_scalars (c ∷ xs) zero d h = few_bits c.kind
+few_scalars (c ∷ xs) (suc k) d h = few_scalars xs k d (omega arith)
+
+few_memories : (xs : List Memory) → All FewBits (map (λ (c : Memory). port_of c.name c.kind) xs)
+few_memories [] k d h = absurd (omega arith)
+few_memories (c ∷ xs) zero d h = few_bits c.kind
+few_memories (c ∷ xs) (suc k) d h = few_memories xs k d (omega arith)
+
+pub scalars_few : (xs : List Scalar) (ports : List Port) → ports ≡ map (λ (c : Scalar). port_of c.name c.kind) xs → All FewBits ports
+scalars_few xs ports is = subst (λ (l : List Port). All FewBits l) (sym is) (few_scalars xs)
+
+pub memories_few : (xs : List Memory) (ports : List Port) → ports ≡ map (λ (c : Memory). port_of c.name c.kind) xs → All FewBits ports
+memories_few xs ports is = subst (λ (l : List Port). All FewBits l) (sym is) (few_memories xs)
+
+get_map : {A B : Type 0} (f : A → B) (xs : List A) (i : ℕ) (x : A) → slice_get xs i ≡ Some x → slice_get (map f xs) i ≡ Some (f x)
+get_map f xs i x at = slice_get-map f xs i ∙ ap (option_map f) at
+
+module _ (program : Program) (shape : Shape) (is : IsShapeOf program shape) (given : Data) (fits : Fits (bits_of_ports shape.scalars.items) (bits_of_ports shape.memories.items) given.scalars.items (map (λ (v : Vec ℕ Global). v.items) given.memories.items)) where
+  abbrev width : Port → ℕ
+  width port = port.bits
+
+  scalar_bits : (x : ℕ) (c : Scalar) → slice_get program.scalars.items x ≡ Some c → slice_get (bits_of_ports shape.scalars.items) x ≡ Some (bits_of c.kind)
+  scalar_bits x c at =
+      get_map width shape.scalars.items x (port_of c.name c.kind)
+      (ap (λ (l : List Port). slice_get l x) is.scalars ∙ get_map (λ (s : Scalar). port_of s.name s.kind) program.scalars.items x c at)
+
+  memory_bits : (m : ℕ) (c : Memory) → slice_get program.memories.items m ≡ Some c → slice_get (bits_of_ports shape.memories.items) m ≡ Some (bits_of c.kind)
+  memory_bits m c at =
+      get_map width shape.memories.items m (port_of c.name c.kind)
+      (ap (λ (l : List Port). slice_get l m) is.memories ∙ get_map (λ (s : Memory). port_of s.name s.kind) program.memories.items m c at)
+
+  -- data that fit the shape of a program fit the program
+  pub fits_program : FitsInput program given.scalars.items (map (λ (v : Vec ℕ Global). v.items) given.memories.items)
+  fits_program = record {
+    as_many_scalars = fits.as_many_scalars ∙ length-map shape.scalars.items width ∙ ap length is.scalars ∙ length-map program.scalars.items (λ (c : Scalar). port_of c.name c.kind);
+    as_many_memories = fits.as_many_memories ∙ length-map shape.memories.items width ∙ ap length is.memories ∙ length-map program.memories.items (λ (c : Memory). port_of c.name c.kind);
+    scalars_fit = λ x c at. fits.scalars_fit x (bits_of c.kind) (scalar_bits x c at);
+    cells_fit = λ m c at. fits.cells_fit m (bits_of c.kind) (memory_bits m c at);
+  }
+
+pub gives_values : (program : Program) (shape : Shape) → IsShapeOf program shape → (text : List ℕ) (given : Data) → IsDataOf text shape given → GivesValues program text (record { scalars = given.scalars.items; memories = map (λ (v : Vec ℕ Global). v.items) given.memories.items })
+gives_values program shape is text given d = record {
+  shape = shape;
+  is_shape = is;
+  file = d.file;
+  is_json = d.is_json;
+  faultless = d.faultless;
+  scalars = d.scalars;
+  memories = d.memories;
+}
+
+-- the fault of a text for the shape of a program is one for the program
+pub unfit : (program : Program) (shape : Shape) → IsShapeOf program shape → (text : List ℕ) (fault : DataFault) → IsCause text shape fault → IsUnfitBy program text fault
+unfit program shape is text J1 h = h
+unfit program shape is text (J2 key) h = (shape, is, h)
+unfit program shape is text (J3 key) h = (shape, is, h)
+unfit program shape is text (J4 key) h = (shape, is, h)
+unfit program shape is text OutOfMemory h = tt

@@ -1,0 +1,16 @@
+pub mod Labels
+pub mod Named
+pub mod Owned
+pub mod Sources
+pub mod Writers
+pub mod Codes
+pub mod Files
+pub mod Found
+pub mod Inputs
+pub mod Meaning
+pub mod Outside
+pub mod Refusal
+pub mod Refused
+pub mod Source
+pub mod Status
+pub mod Told

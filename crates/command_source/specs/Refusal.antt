@@ -1,0 +1,145 @@
+-- Why a command was not carried out to its end, and what is told of it.
+use Rattle.std.specs.Prelude.{ℕ, List, [], ◌++◌, Option, Some, None, codes, decimal, ⊤}
+use Rattle.tapa_base.specs.declared.text.Place.{Place}
+use Rattle.check_scope.specs.declared.fault.CheckCode.{CheckCode}
+use Rattle.check_scope.specs.declared.fault.CheckCode.TheVariants.{C1, C2, C3, C4, C5, C6, C7, C8, C9, C10, C11, C12}
+use Rattle.command_source.specs.declared.source.SourceCode.{SourceCode}
+use Rattle.command_source.specs.declared.source.SourceCode.TheVariants.{L1, L2, L3, L4, P1, P2, Rule}
+use Rattle.run_program.specs.Ending.{joined}
+use Rattle.run_data.specs.Data.{Fault, Misshapen, Misfit, Oversized}
+use Rattle.plan_device.specs.Faults as device
+
+-- what is wrong with data: the text is no JSON, or it has this fault
+pub data DataFault : Type 0 where
+  NotJson : DataFault
+  Faulty : (fault : Fault) → DataFault
+
+-- what is wrong with a device file: the text is no JSON, or it has this fault
+pub data DeviceFault : Type 0 where
+  NoJson : DeviceFault
+  HasFault : (fault : device.Fault) → DeviceFault
+
+-- why a Verilog text has no design: no text of the subset goes on at a place, or a rule is broken first at a name
+pub data VerilogFault : Type 0 where
+  V1 : (place : Place) → VerilogFault
+  V2 : (name : List ℕ) → VerilogFault
+  V3 : (name : List ℕ) → VerilogFault
+  V4 : (name : List ℕ) → VerilogFault
+  V5 : (name : List ℕ) → VerilogFault
+  V6 : (name : List ℕ) → VerilogFault
+
+-- why a command ends with another status than that of done work
+pub data Refusal : Type 0 where
+  -- the words are no command
+  Usage : Refusal
+  -- a file could not be read
+  Read : (file : List ℕ) → Refusal
+  -- the output could not be written
+  Write : Refusal
+  -- a file is longer than its limit
+  TooLong : (file : List ℕ) (limit : ℕ) → Refusal
+  -- a source breaks a rule
+  Source : (file : List ℕ) (place : Place) (code : SourceCode) → Refusal
+  -- data are not what the program asks for
+  Data : (file : List ℕ) (fault : DataFault) → Refusal
+  -- the joined instances of a run make more ticks than its limit, or never end
+  Ticks : (limit : ℕ) → Refusal
+  -- a run stopped, and each line tells what an instance waits for
+  Stopped : (lines : List (List ℕ)) → Refusal
+  -- a device file is not what the program asks for
+  Device : (file : List ℕ) (fault : DeviceFault) → Refusal
+  -- there are more ways to place the free groups than are looked at
+  TooManyPlans : (slots free : ℕ) → Refusal
+  -- no plan is within capacity
+  NoPlan : Refusal
+  -- first fit has no slot for the group of this instance
+  NoRoom : (label : List ℕ) → Refusal
+  -- a Verilog text has no design
+  Verilog : (file : List ℕ) (fault : VerilogFault) → Refusal
+  -- data are not what the design asks for
+  DesignData : (file : List ℕ) (fault : DataFault) → Refusal
+  -- a design is done in none of so many cycles
+  Undone : (limit : ℕ) → Refusal
+  -- memory ran out
+  Memory : Refusal
+
+-- the code of a rule beyond the grammar, and what it says
+abbrev pub rule_text : CheckCode → List ℕ
+rule_text C1 = codes "C1 unknown name"
+rule_text C2 = codes "C2 doubled name"
+rule_text C3 = codes "C3 wrong kind"
+rule_text C4 = codes "C4 stream without exactly one producer"
+rule_text C5 = codes "C5 stream without exactly one consumer"
+rule_text C6 = codes "C6 nonblocking operation"
+rule_text C7 = codes "C7 memory without exactly one instance"
+rule_text C8 = codes "C8 operation in a conditional place"
+rule_text C9 = codes "C9 divisor"
+rule_text C10 = codes "C10 task invokes itself"
+rule_text C11 = codes "C11 over the limit"
+rule_text C12 = codes "C12 memory written by a detached task"
+
+-- the greatest number that a limit allows
+abbrev pub limit_text : Option ℕ → List ℕ
+limit_text None = []
+limit_text (Some limit) = codes " of " ++ decimal limit
+
+-- the code of a rule, and what it says
+abbrev pub code_text : SourceCode → List ℕ
+code_text L1 = codes "L1 byte outside the profile"
+code_text L2 = codes "L2 open comment or string"
+code_text L3 = codes "L3 bad number"
+code_text L4 = codes "L4 refused line"
+code_text P1 = codes "P1 unexpected token"
+code_text P2 = codes "P2 nested too deep"
+code_text (Rule code limit) = rule_text code ++ limit_text limit
+
+-- the code of a fault of data, and its key
+abbrev pub data_text : DataFault → List ℕ
+data_text NotJson = codes "J1"
+data_text (Faulty (Misshapen key)) = codes "J2 " ++ key
+data_text (Faulty (Misfit key)) = codes "J3 " ++ key
+data_text (Faulty (Oversized key)) = codes "J4 " ++ key
+
+-- the code of a fault of a device file, and its key, name or label
+abbrev pub device_text : DeviceFault → List ℕ
+device_text NoJson = codes "J1"
+device_text (HasFault (device.Misshapen key)) = codes "J2 " ++ key
+device_text (HasFault (device.Misfit key)) = codes "J3 " ++ key
+device_text (HasFault (device.OutOfRange key)) = codes "K1 " ++ key
+device_text (HasFault (device.Unknown name)) = codes "K2 " ++ name
+device_text (HasFault (device.Elsewhere label)) = codes "K3 " ++ label
+device_text (HasFault (device.OnForbidden label)) = codes "K4 " ++ label
+
+-- the lines that tell it
+abbrev pub message_of : Refusal → List ℕ
+message_of Usage = codes "tapa: usage: tapa build|run|cosim|plan|gen\n"
+message_of (Read file) = codes "tapa: cannot read " ++ (file ++ codes "\n")
+message_of Write = codes "tapa: cannot write\n"
+message_of (TooLong file limit) = codes "tapa: " ++ (file ++ (codes " is longer than " ++ (decimal limit ++ codes " bytes\n")))
+message_of (Source file place code) =
+    codes "tapa: " ++ (file ++ (codes ":" ++ (decimal place.line ++ (codes ":" ++ (decimal place.col ++ (codes ": " ++ (code_text code ++ codes "\n")))))))
+message_of (Data file fault) = codes "tapa: " ++ (file ++ (codes ": " ++ (data_text fault ++ codes "\n")))
+message_of (Ticks limit) = codes "tapa: more than " ++ (decimal limit ++ codes " ticks\n")
+message_of (Stopped lines) = joined lines
+message_of (Device file fault) = codes "tapa: " ++ (file ++ (codes ": " ++ (device_text fault ++ codes "\n")))
+message_of (TooManyPlans slots free) = codes "tapa: too many plans: " ++ (decimal slots ++ (codes " slots, " ++ (decimal free ++ codes " free groups\n")))
+message_of NoPlan = codes "tapa: no plan within capacity\n"
+message_of (NoRoom label) = codes "tapa: no room for " ++ (label ++ codes "\n")
+message_of (Verilog file (V1 place)) = codes "tapa: " ++ (file ++ (codes ":" ++ (decimal place.line ++ (codes ":" ++ (decimal place.col ++ (codes ": " ++ (codes "V1 no text of the subset" ++ codes "\n")))))))
+message_of (Verilog file (V2 name)) = codes "tapa: " ++ (file ++ (codes ": " ++ ((codes "V2 " ++ name) ++ codes "\n")))
+message_of (Verilog file (V3 name)) = codes "tapa: " ++ (file ++ (codes ": " ++ ((codes "V3 " ++ name) ++ codes "\n")))
+message_of (Verilog file (V4 name)) = codes "tapa: " ++ (file ++ (codes ": " ++ ((codes "V4 " ++ name) ++ codes "\n")))
+message_of (Verilog file (V5 name)) = codes "tapa: " ++ (file ++ (codes ": " ++ ((codes "V5 " ++ name) ++ codes "\n")))
+message_of (Verilog file (V6 name)) = codes "tapa: " ++ (file ++ (codes ": " ++ ((codes "V6 " ++ name) ++ codes "\n")))
+message_of (DesignData file fault) = codes "tapa: " ++ (file ++ (codes ": " ++ (data_text fault ++ codes "\n")))
+message_of (Undone limit) = codes "tapa: not done after " ++ (decimal limit ++ codes " cycles\n")
+message_of Memory = codes "tapa: out of memory\n"
+
+-- its lines name nothing that is read or made while the program runs
+abbrev pub IsFixed : Refusal → Type 0
+IsFixed Usage = ⊤
+IsFixed Write = ⊤
+IsFixed (Stopped lines) = ⊤
+IsFixed NoPlan = ⊤
+IsFixed Memory = ⊤
+IsFixed _ = ⊥

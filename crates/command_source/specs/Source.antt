@@ -1,0 +1,68 @@
+-- The program of a source, and where a source is refused.
+use Rattle.std.specs.Prelude.{◌≡◌, ℕ, List, [], Err}
+use Rattle.tapa_base.specs.declared.text.Place.{Place}
+use Rattle.tapa_syntax.specs.declared.lexeme.Lexeme.{Lexeme}
+use Rattle.tapa_syntax.specs.declared.program.Program.{Program}
+use Rattle.tapa_syntax.specs.declared.tree.File.{File}
+use Rattle.tapa_syntax.specs.Lexemes.{HasLexemes}
+use Rattle.tapa_syntax.specs.Flat.{flat_program}
+use Rattle.tapa_syntax.specs.Grammar.{IsTreeOf}
+use Rattle.tapa_syntax.specs.Limits.{most_levels, most_operators, IsWithinLimits}
+use Rattle.tapa_syntax.specs.Symbols.{Symbol, symbols_of}
+use Rattle.tapa_syntax.specs.Trees.{ItemTree, file_of}
+use Rattle.tapa_lex.specs.declared.fault.LexCode.TheVariants as lex
+use Rattle.tapa_lex.specs.Refusals.{IsRefused}
+use Rattle.tapa_parse_expression.specs.declared.fault.ParseCode.{ParseCode}
+use Rattle.tapa_parse_expression.specs.declared.fault.ParseCode.TheVariants as parse
+use Rattle.tapa_parse.specs.Answers.{stopped_at}
+use Rattle.tapa_parse.specs.Reading as reading
+use Rattle.check_scope.specs.Answers.{IsFirst}
+use Rattle.check_scope.specs.declared.fault.Broken.{Broken}
+use Rattle.stream_check.specs.Programs.{program_faults, program_of}
+use Rattle.command_source.specs.declared.source.SourceCode.{SourceCode}
+use Rattle.command_source.specs.declared.source.SourceCode.TheVariants.{L1, L2, L3, L4, P1, P2, Rule}
+
+-- the text has lexemes, and this is the file that the grammar has for them, within the limits
+pub record HasTree (text : List ℕ) (file : File) : Type 0 where
+  pub lexemes : List Lexeme
+  pub are : HasLexemes text lexemes
+  pub spelled : IsTreeOf (symbols_of text lexemes) (file_of file)
+  pub within : IsWithinLimits (file_of file)
+
+-- the flat program of a text and the name of its top task: the file breaks no rule and means this program
+pub record IsProgramOf (text top : List ℕ) (program : Program) : Type 0 where
+  pub file : File
+  pub tree : HasTree text file
+  pub legal : program_faults (file_of file) top ≡ []
+  pub means : flat_program program ≡ program_of (file_of file) top
+
+-- reading the symbols of a text from left to right stops at this place, with this code
+abbrev pub StopsAt : List ℕ → List Symbol → Place → ParseCode → Type 0
+StopsAt text symbols place code = (left : List Symbol) × (place ≡ stopped_at text left) × (reading.file most_operators (reading.below most_levels) symbols ≡ Err (code, left))
+
+-- the grammar has no file for the lexemes of the text, within the limits, and reading them stops so
+pub record HasNoTree (text : List ℕ) (place : Place) (code : ParseCode) : Type 0 where
+  pub lexemes : List Lexeme
+  pub are : HasLexemes text lexemes
+  pub none : (items : List ItemTree) → IsTreeOf (symbols_of text lexemes) items → IsWithinLimits items → ⊥
+  pub stops : StopsAt text (symbols_of text lexemes) place code
+
+-- the text has a tree, and this is the first rule that it breaks with this top task
+pub record BreaksFirst (text top : List ℕ) (broken : Broken) : Type 0 where
+  pub file : File
+  pub tree : HasTree text file
+  pub first : IsFirst (program_faults (file_of file) top) broken
+
+-- the text is refused at this place by this rule
+abbrev pub IsRefusedSource : List ℕ → List ℕ → Place → SourceCode → Type 0
+IsRefusedSource text top place L1 = IsRefused text lex.L1 place
+IsRefusedSource text top place L2 = IsRefused text lex.L2 place
+IsRefusedSource text top place L3 = IsRefused text lex.L3 place
+IsRefusedSource text top place L4 = IsRefused text lex.L4 place
+IsRefusedSource text top place P1 = HasNoTree text place parse.P1
+IsRefusedSource text top place P2 = HasNoTree text place parse.P2
+IsRefusedSource text top place (Rule code limit) = BreaksFirst text top (record { code = code; place = place; limit = limit })
+
+-- the source means no program
+abbrev pub MeansNothing : List ℕ → List ℕ → Type 0
+MeansNothing text top = (program : Program) → IsProgramOf text top program → ⊥

@@ -1,0 +1,18 @@
+//! What a command reads: the program of a source, the input that data give it, why either is refused, and how a refusal is told.
+#![tactic(auto)]
+
+mod files;
+mod inputs;
+mod laws;
+mod program;
+mod refusal;
+mod source;
+mod status;
+
+pub use files::{DATA_LIMIT, NO_DATA, read_file, read_source, read_values};
+pub use inputs::read_input;
+pub use laws::{law_every_source_is_legal_or_refused, law_labels_tell_parts_apart, law_writers_are_joined};
+pub use program::{SourceFault, read_program};
+pub use refusal::{Refusal, put_lines, refuse_words, tell};
+pub use source::SourceCode;
+pub use status::Status;

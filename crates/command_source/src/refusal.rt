@@ -1,0 +1,338 @@
+ghost use Rattle.std.specs.Prelude.{◌≡◌, ◌⊎◌, ◌++◌, codes, IfOk, OnOk, OnErr, ◌≤◌};
+ghost use Rattle.std.specs.Io.KnownBytes.{Appends};
+ghost use Rattle.tapa_files.specs.Outside.{AppendsPart, Rose};
+ghost use Rattle.run_program.specs.Ending.{joined, lines_in};
+ghost use Rattle.command_source.specs.Meaning.{refusal_of, data_refusal, device_refusal, design_refusal, verilog_refusal, words_refusal};
+ghost use Rattle.command_source.specs.Outside.{written};
+ghost use Rattle.command_source.specs.Told.{IsToldAs};
+ghost use Rattle.command_source.specs.Refusal.{Refusal as Why, V1, message_of, code_text, IsFixed};
+ghost use Rattle.command_source.specs.Status.{status_of};
+
+use crate::source::SourceCode;
+use crate::status::Status;
+use plan_device::DeviceFault;
+use run_data::DataFault;
+use std::alloc::Global;
+use tapa_base::{OutOfMemory, Place};
+use tapa_files::{Sink, WriteFault, put_all};
+use tapa_words::WordsFault;
+use vlog_tree::VFault;
+
+/// Why a command ends with another status than that of done work.
+#[derive(Drop)]
+pub enum Refusal<'a> {
+    Usage,
+    Read {
+        file: &'a str,
+    },
+    Write,
+    TooLong {
+        file: &'a str,
+        limit: u64,
+    },
+    /// A rule that the source breaks, and where.
+    Source {
+        file: &'a str,
+        place: Place,
+        code: SourceCode,
+    },
+    /// What is wrong with the data, or want of memory in its place.
+    Data {
+        file: &'a str,
+        fault: DataFault,
+    },
+    /// The joined instances make more ticks than this, or never end.
+    Ticks {
+        limit: u64,
+    },
+    /// The run stopped; each line tells what an instance waits for.
+    Stopped {
+        lines: Vec<Vec<u8>>,
+    },
+    /// What is wrong with a device file, or want of memory in its place.
+    Device {
+        file: &'a str,
+        fault: DeviceFault,
+    },
+    /// There are more ways to place the free groups than are looked at.
+    TooManyPlans {
+        slots: u32,
+        free: u32,
+    },
+    /// No plan is within capacity.
+    NoPlan,
+    /// First fit has no slot for the group whose first instance has this label.
+    NoRoom {
+        label: Vec<u8>,
+    },
+    /// Why a Verilog text has no design, or want of memory in its place.
+    Verilog {
+        file: &'a str,
+        fault: VFault,
+    },
+    /// What is wrong with the data of a design, or want of memory in its place.
+    DesignData {
+        file: &'a str,
+        fault: DataFault,
+    },
+    /// The design is done in none of so many cycles.
+    Undone {
+        limit: u64,
+    },
+    Memory,
+}
+
+const USAGE: &[u8] = b"tapa: usage: tapa build|run|cosim|plan|gen\n";
+
+const NO_OUTPUT: &[u8] = b"tapa: cannot write\n";
+
+const NO_PLAN: &[u8] = b"tapa: no plan within capacity\n";
+
+const NO_MEMORY: &[u8] = b"tapa: out of memory\n";
+
+// ---- lines that are made
+
+fn read_line(alloc: Global, file: &str) -> Result<Vec<u8>, OutOfMemory>
+    ensures { IfOk result (λ line. line.items ≡ message_of (Why.Read file.now)) }
+{
+    Ok(format!(in alloc; "tapa: cannot read {file}\n")?.into_bytes())
+}
+
+fn long_line(alloc: Global, file: &str, limit: u64) -> Result<Vec<u8>, OutOfMemory>
+    ensures { IfOk result (λ line. line.items ≡ message_of (Why.TooLong file.now limit)) }
+{
+    Ok(format!(in alloc; "tapa: {file} is longer than {limit} bytes\n")?.into_bytes())
+}
+
+fn source_line(
+    alloc: Global,
+    file: &str,
+    place: Place,
+    code: SourceCode,
+) -> Result<Vec<u8>, OutOfMemory>
+    ensures { IfOk result (λ line. line.items ≡ message_of (Why.Source file.now place code)) }
+{
+    let line = place.line;
+    let col = place.col;
+    let text = code.text(alloc)?;
+    Ok(format!(in alloc; "tapa: {file}:{line}:{col}: {text}\n")?.into_bytes())
+}
+
+fn ticks_line(alloc: Global, limit: u64) -> Result<Vec<u8>, OutOfMemory>
+    ensures { IfOk result (λ line. line.items ≡ message_of (Why.Ticks limit)) }
+{
+    Ok(format!(in alloc; "tapa: more than {limit} ticks\n")?.into_bytes())
+}
+
+fn plans_line(alloc: Global, slots: u32, free: u32) -> Result<Vec<u8>, OutOfMemory>
+    ensures { IfOk result (λ line. line.items ≡ message_of (Why.TooManyPlans slots free)) }
+{
+    Ok(format!(in alloc; "tapa: too many plans: {slots} slots, {free} free groups\n")?.into_bytes())
+}
+
+fn room_line(alloc: Global, label: &[u8]) -> Result<Vec<u8>, OutOfMemory>
+    ensures { IfOk result (λ line. line.items ≡ message_of (Why.NoRoom label.now)) }
+{
+    let mut line = Vec::from_slice(alloc, b"tapa: no room for ")?;
+    line.extend_from_slice(label)?;
+    line.push(b'\n')?;
+    Ok(line)
+}
+
+fn undone_line(alloc: Global, limit: u64) -> Result<Vec<u8>, OutOfMemory>
+    ensures { IfOk result (λ line. line.items ≡ message_of (Why.Undone limit)) }
+{
+    Ok(format!(in alloc; "tapa: not done after {limit} cycles\n")?.into_bytes())
+}
+
+// That no text of the subset goes on at a place.
+fn no_text_line(alloc: Global, file: &str, place: Place) -> Result<Vec<u8>, OutOfMemory>
+    ensures { IfOk result (λ line. line.items ≡ message_of (Why.Verilog file.now (V1 place))) }
+{
+    let line = place.line;
+    let col = place.col;
+    let text = "V1 no text of the subset";
+    Ok(format!(in alloc; "tapa: {file}:{line}:{col}: {text}\n")?.into_bytes())
+}
+
+// A line: a file, a code and a key.
+fn key_line(alloc: Global, file: &str, code: &[u8], key: &[u8]) -> Result<Vec<u8>, OutOfMemory>
+    ensures { IfOk result (λ line. line.items ≡ codes "tapa: " ++ (file.now ++ (codes ": " ++ ((code.now ++ key.now) ++ codes "\n")))) }
+{
+    let mut line = Vec::from_slice(alloc, b"tapa: ")?;
+    line.extend_from_slice(file.as_bytes())?;
+    line.extend_from_slice(b": ")?;
+    line.extend_from_slice(code)?;
+    line.extend_from_slice(key)?;
+    line.push(b'\n')?;
+    Ok(line)
+}
+
+// ---- telling
+
+// Puts a line, and answers the status, or that it could not be put.
+fn tell_line<E: Sink>(line: &[u8], status: Status, err: &mut E) -> Status
+    ensures { (why : Why) → line.now ≡ message_of why → status ≡ status_of why →
+        IsToldAs why result (written (E.contents err.old) (E.faults err.old)) (written (E.contents err.new) (E.faults err.new)) }
+{
+    match put_all(err, line) {
+        Ok(()) => status,
+        Err(_) => Status::Write,
+    }
+}
+
+// Puts a line that was made, and tells want of memory where it was not.
+fn tell_made<E: Sink>(line: Result<Vec<u8>, OutOfMemory>, status: Status, err: &mut E) -> Status
+    ensures { (why : Why) → IfOk line (λ made. made.items ≡ message_of why) → status ≡ status_of why →
+        IsToldAs why result (written (E.contents err.old) (E.faults err.old)) (written (E.contents err.new) (E.faults err.new))
+        ⊎ IsToldAs Why.Memory result (written (E.contents err.old) (E.faults err.old)) (written (E.contents err.new) (E.faults err.new)) }
+{
+    match line {
+        Ok(line) => tell_line(&line, status, err),
+        Err(_) => tell_line(NO_MEMORY, Status::Memory, err),
+    }
+}
+
+/// Puts lines, one a call. After an error a front part of them stands.
+pub fn put_lines<E: Sink>(err: &mut E, lines: &[Vec<u8>]) -> Result<(), WriteFault>
+    ensures whole { OnOk result (Appends (E.contents err.old) (E.contents err.new) (joined (lines_in lines.now))) }
+    ensures part { OnErr result (AppendsPart (E.contents err.old) (E.contents err.new) (joined (lines_in lines.now))) }
+    ensures later { E.faults err.old ≤ E.faults err.new }
+    ensures fault { OnErr result (Rose (E.faults err.old) (E.faults err.new)) }
+{
+    for line in lines {
+        put_all(err, line)?;
+    }
+    Ok(())
+}
+
+// Tells what the instances of a stopped run wait for, a line each.
+fn tell_stopped<E: Sink>(lines: &[Vec<u8>], err: &mut E) -> Status
+    ensures { IsToldAs (Why.Stopped (lines_in lines.now)) result (written (E.contents err.old) (E.faults err.old)) (written (E.contents err.new) (E.faults err.new)) }
+{
+    match put_lines(err, lines) {
+        Ok(()) => Status::Stopped,
+        Err(_) => Status::Write,
+    }
+}
+
+// Tells a fault of a file by its code and what it names.
+fn tell_key<E: Sink>(
+    alloc: Global,
+    file: &str,
+    code: &[u8],
+    key: &[u8],
+    status: Status,
+    err: &mut E,
+) -> Status
+    ensures { (why : Why) → message_of why ≡ codes "tapa: " ++ (file.now ++ (codes ": " ++ ((code.now ++ key.now) ++ codes "\n"))) → status ≡ status_of why →
+        IsToldAs why result (written (E.contents err.old) (E.faults err.old)) (written (E.contents err.new) (E.faults err.new))
+        ⊎ IsToldAs Why.Memory result (written (E.contents err.old) (E.faults err.old)) (written (E.contents err.new) (E.faults err.new)) }
+{
+    tell_made(key_line(alloc, file, code, key), status, err)
+}
+
+// Tells a fault of data.
+fn tell_data<E: Sink>(alloc: Global, file: &str, fault: &DataFault, err: &mut E) -> Status
+    ensures { IsToldAs (data_refusal file.now fault.now) result (written (E.contents err.old) (E.faults err.old)) (written (E.contents err.new) (E.faults err.new))
+        ⊎ IsToldAs Why.Memory result (written (E.contents err.old) (E.faults err.old)) (written (E.contents err.new) (E.faults err.new)) }
+{
+    match fault {
+        DataFault::J1 => tell_key(alloc, file, b"J1", b"", Status::Data, err),
+        DataFault::J2(key) => tell_key(alloc, file, b"J2 ", key, Status::Data, err),
+        DataFault::J3(key) => tell_key(alloc, file, b"J3 ", key, Status::Data, err),
+        DataFault::J4(key) => tell_key(alloc, file, b"J4 ", key, Status::Data, err),
+        DataFault::OutOfMemory => tell_line(NO_MEMORY, Status::Memory, err),
+    }
+}
+
+// Tells a fault of the data of a design.
+fn tell_design_data<E: Sink>(alloc: Global, file: &str, fault: &DataFault, err: &mut E) -> Status
+    ensures { IsToldAs (design_refusal file.now fault.now) result (written (E.contents err.old) (E.faults err.old)) (written (E.contents err.new) (E.faults err.new))
+        ⊎ IsToldAs Why.Memory result (written (E.contents err.old) (E.faults err.old)) (written (E.contents err.new) (E.faults err.new)) }
+{
+    match fault {
+        DataFault::J1 => tell_key(alloc, file, b"J1", b"", Status::Data, err),
+        DataFault::J2(key) => tell_key(alloc, file, b"J2 ", key, Status::Data, err),
+        DataFault::J3(key) => tell_key(alloc, file, b"J3 ", key, Status::Data, err),
+        DataFault::J4(key) => tell_key(alloc, file, b"J4 ", key, Status::Data, err),
+        DataFault::OutOfMemory => tell_line(NO_MEMORY, Status::Memory, err),
+    }
+}
+
+// Tells why a Verilog text has no design.
+fn tell_verilog<E: Sink>(alloc: Global, file: &str, fault: &VFault, err: &mut E) -> Status
+    ensures { IsToldAs (verilog_refusal file.now fault.now) result (written (E.contents err.old) (E.faults err.old)) (written (E.contents err.new) (E.faults err.new))
+        ⊎ IsToldAs Why.Memory result (written (E.contents err.old) (E.faults err.old)) (written (E.contents err.new) (E.faults err.new)) }
+{
+    match fault {
+        VFault::V1(place) => tell_made(no_text_line(alloc, file, *place), Status::Source, err),
+        VFault::V2(name) => tell_key(alloc, file, b"V2 ", name.bytes(), Status::Source, err),
+        VFault::V3(name) => tell_key(alloc, file, b"V3 ", name.bytes(), Status::Source, err),
+        VFault::V4(name) => tell_key(alloc, file, b"V4 ", name.bytes(), Status::Source, err),
+        VFault::V5(name) => tell_key(alloc, file, b"V5 ", name.bytes(), Status::Source, err),
+        VFault::V6(name) => tell_key(alloc, file, b"V6 ", name.bytes(), Status::Source, err),
+        VFault::OutOfMemory => tell_line(NO_MEMORY, Status::Memory, err),
+    }
+}
+
+// Tells a fault of a device file.
+fn tell_device<E: Sink>(alloc: Global, file: &str, fault: &DeviceFault, err: &mut E) -> Status
+    ensures { IsToldAs (device_refusal file.now fault.now) result (written (E.contents err.old) (E.faults err.old)) (written (E.contents err.new) (E.faults err.new))
+        ⊎ IsToldAs Why.Memory result (written (E.contents err.old) (E.faults err.old)) (written (E.contents err.new) (E.faults err.new)) }
+{
+    match fault {
+        DeviceFault::J1 => tell_key(alloc, file, b"J1", b"", Status::Data, err),
+        DeviceFault::J2(key) => tell_key(alloc, file, b"J2 ", key, Status::Data, err),
+        DeviceFault::J3(key) => tell_key(alloc, file, b"J3 ", key, Status::Data, err),
+        DeviceFault::K1(key) => tell_key(alloc, file, b"K1 ", key, Status::Data, err),
+        DeviceFault::K2(name) => tell_key(alloc, file, b"K2 ", name, Status::Data, err),
+        DeviceFault::K3(label) => tell_key(alloc, file, b"K3 ", label, Status::Data, err),
+        DeviceFault::K4(label) => tell_key(alloc, file, b"K4 ", label, Status::Data, err),
+        DeviceFault::OutOfMemory => tell_line(NO_MEMORY, Status::Memory, err),
+    }
+}
+
+/// Tells a refusal, or want of memory in its place, and answers the status. A refusal that names nothing takes no memory.
+pub fn tell<E: Sink>(alloc: Global, refusal: &Refusal<'_>, err: &mut E) -> Status
+    ensures told { IsToldAs (refusal_of refusal.now) result (written (E.contents err.old) (E.faults err.old)) (written (E.contents err.new) (E.faults err.new))
+        ⊎ IsToldAs Why.Memory result (written (E.contents err.old) (E.faults err.old)) (written (E.contents err.new) (E.faults err.new)) }
+    ensures fixed { IsFixed (refusal_of refusal.now) →
+        IsToldAs (refusal_of refusal.now) result (written (E.contents err.old) (E.faults err.old)) (written (E.contents err.new) (E.faults err.new)) }
+{
+    match refusal {
+        Refusal::Usage => tell_line(USAGE, Status::Usage, err),
+        Refusal::Read { file } => tell_made(read_line(alloc, file), Status::Read, err),
+        Refusal::Write => tell_line(NO_OUTPUT, Status::Write, err),
+        Refusal::TooLong { file, limit } => {
+            tell_made(long_line(alloc, file, *limit), Status::Limit, err)
+        }
+        Refusal::Source { file, place, code } => {
+            tell_made(source_line(alloc, file, *place, *code), Status::Source, err)
+        }
+        Refusal::Data { file, fault } => tell_data(alloc, file, fault, err),
+        Refusal::Ticks { limit } => tell_made(ticks_line(alloc, *limit), Status::Limit, err),
+        Refusal::Stopped { lines } => tell_stopped(lines, err),
+        Refusal::Device { file, fault } => tell_device(alloc, file, fault, err),
+        Refusal::TooManyPlans { slots, free } => {
+            tell_made(plans_line(alloc, *slots, *free), Status::Data, err)
+        }
+        Refusal::NoPlan => tell_line(NO_PLAN, Status::NoPlan, err),
+        Refusal::NoRoom { label } => tell_made(room_line(alloc, label), Status::NoPlan, err),
+        Refusal::Verilog { file, fault } => tell_verilog(alloc, file, fault, err),
+        Refusal::DesignData { file, fault } => tell_design_data(alloc, file, fault, err),
+        Refusal::Undone { limit } => tell_made(undone_line(alloc, *limit), Status::Limit, err),
+        Refusal::Memory => tell_line(NO_MEMORY, Status::Memory, err),
+    }
+}
+
+/// Tells why the words of a command could not be read, before there is anything to carry out: they are no text, or memory
+/// ran out while they were copied.
+pub fn refuse_words<E: Sink>(fault: WordsFault, err: &mut E) -> Status
+    ensures { IsToldAs (words_refusal fault) result (written (E.contents err.old) (E.faults err.old)) (written (E.contents err.new) (E.faults err.new)) }
+{
+    match fault {
+        WordsFault::Usage => tell_line(USAGE, Status::Usage, err),
+        WordsFault::OutOfMemory => tell_line(NO_MEMORY, Status::Memory, err),
+    }
+}

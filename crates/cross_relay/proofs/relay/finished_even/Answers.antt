@@ -1,7 +1,0 @@
-use Rattle.std.proofs.Common.{sym, subst, arith}
-use Rattle.vlog_tree.specs.Form.{IsModule}
-use Rattle.channel_law.proofs.Forms.{even_form}
-use Rattle.cross_relay.proofs.relay.finished_even.Goals as goal
-
-pub module-requires : goal.module-requires
-module-requires c = subst IsModule (sym c.requires.is) (even_form c.args.bits c.args.steps c.args.half c.requires.bits (omega arith) (omega arith) (omega arith))

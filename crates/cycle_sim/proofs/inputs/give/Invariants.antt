@@ -1,0 +1,12 @@
+use Rattle.std.proofs.Common.{◌≡◌, ◌<◌, ℕ, Some}
+use Rattle.std.specs.Prelude.{slice_get}
+use Rattle.vlog_ref_start.specs.Outside.{lists_of}
+use Rattle.sim_tape.specs.Tape.{number_at}
+use Rattle.cycle_sim.specs.declared.inputs.Input.{Input}
+use Rattle.cycle_sim.specs.Steps.{IsAway, PairHas, supplied}
+use Rattle.cycle_sim.proofs.inputs.give.Given as goal
+
+abbrev pub invariant-loop-input : goal.invariant-loop-input
+invariant-loop-input l =
+    ((i : ℕ) (a : Input) → i < l.input-index → slice_get l.inputs i ≡ Some a → PairHas l.numbers a.pair (supplied (lists_of l.ready) l.cycle a.supply))
+    × ((k : ℕ) → ((i : ℕ) (a : Input) → slice_get l.inputs i ≡ Some a → IsAway k a.pair) → number_at l.numbers k ≡ number_at l.initial.numbers k)

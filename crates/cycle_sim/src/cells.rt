@@ -1,0 +1,84 @@
+// Cells of memories, inside a design and around it.
+
+ghost use Rattle.std.specs.Prelude.{◌≡◌, ◌≤◌, ◌==◌, ℕ, [], Some, length, get_or, slice_get, if◌then◌else◌};
+ghost use Rattle.vlog_tree.specs.Environment.{set_cell as set_cell_lem};
+ghost use Rattle.sim_tape.specs.Operators.{cells_of};
+ghost use Rattle.cycle_sim.specs.declared.cells.Outside.{Outside as OutsideTree};
+ghost use Rattle.cycle_sim.specs.Steps.{put_list, stored_list, stored_all, outside_list};
+
+use crate::slots::{is_one, number};
+use sim_gates::Store;
+use sim_tape::Pair;
+
+/// A memory around the design: the pairs and the slot of what it is asked.
+#[derive(Clone, Copy)]
+pub struct Outside {
+    pub ack: Pair,
+    pub we: Pair,
+    pub addr: Pair,
+    pub wdata: u32,
+}
+
+fn set_cell(cells: &mut Vec<u64>, at: usize, n: u64)
+    ensures { cells.new.items ≡ set_cell_lem cells.old.items at n }
+{
+    if at < cells.len() {
+        cells[at] = n;
+    }
+}
+
+fn put_cell(cells: &mut [Vec<u64>], memory: usize, at: usize, n: u64)
+    ensures { (m : ℕ) → get_or (cells_of cells.new) m [] ≡ put_list memory at n m (get_or (cells_of cells.old) m []) }
+{
+    if memory < cells.len() {
+        set_cell(&mut cells[memory], at, n);
+    }
+}
+
+fn store(numbers: &[u64], store: &Store, cells: &mut [Vec<u64>])
+    ensures { (m : ℕ) → get_or (cells_of cells.new) m [] ≡ stored_list numbers.now store.now m (get_or (cells_of cells.old) m []) }
+{
+    if number(numbers, store.on) == 1 && number(numbers, store.at.high) == 0 {
+        let at = number(numbers, store.at.low) as usize;
+        put_cell(
+            cells,
+            store.memory.low as usize,
+            at,
+            number(numbers, store.value.low),
+        );
+        put_cell(
+            cells,
+            store.memory.high as usize,
+            at,
+            number(numbers, store.value.high),
+        );
+    }
+}
+
+/// The stores of a cycle, in the order of the text.
+pub fn store_all(numbers: &[u64], stores: &[Store], cells: &mut [Vec<u64>])
+    ensures { (m : ℕ) → get_or (cells_of cells.new) m [] ≡ stored_all numbers.now m (get_or (cells_of cells.old) m []) stores.now }
+{
+    for s in stores {
+        store(numbers, s, cells);
+    }
+}
+
+fn ask(numbers: &[u64], o: &Outside, place: usize, cells: &mut [Vec<u64>])
+    ensures { (m : ℕ) → get_or (cells_of cells.new) m [] ≡ (if m == place then outside_list numbers.now o.now (get_or (cells_of cells.old) m []) else get_or (cells_of cells.old) m []) }
+{
+    if is_one(numbers, o.ack) && is_one(numbers, o.we) && number(numbers, o.addr.high) == 0 {
+        let at = number(numbers, o.addr.low) as usize;
+        put_cell(cells, place, at, number(numbers, o.wdata));
+    }
+}
+
+/// What the memories around the design are asked in a cycle, each at its place.
+pub fn ask_all(numbers: &[u64], outside: &[Outside], cells: &mut [Vec<u64>])
+    ensures asked { (i : ℕ) (o : OutsideTree) → slice_get outside.now i ≡ Some o → get_or (cells_of cells.new) i [] ≡ outside_list numbers.now o (get_or (cells_of cells.old) i []) }
+    ensures kept { (m : ℕ) → length outside.now ≤ m → get_or (cells_of cells.new) m [] ≡ get_or (cells_of cells.old) m [] }
+{
+    for i in 0..outside.len() {
+        ask(numbers, &outside[i], i, cells);
+    }
+}

@@ -1,0 +1,139 @@
+// A design on a tape, and what changes from cycle to cycle.
+
+ghost use Rattle.std.specs.Prelude.{◌+◌, ◌*◌, ◌<◌, ◌≤◌, ◌^◌, ◌≡◌, ◌↔◌, IsTrue, [], get_or};
+ghost use Rattle.sim_tape.specs.Operators.{cells_of};
+ghost use Rattle.vlog_tree.specs.Environment.{IsDone, token_of as token_lem};
+ghost use Rattle.cycle_sim.specs.Sims.{InRuns, IsNext, IsCarried};
+ghost use Rattle.cycle_sim.specs.Wholes.{IsSim, sim_tree, token_on};
+
+use crate::cells::{Outside, ask_all, store_all};
+use crate::inputs::{Input, give};
+use crate::slots::{is_one, number, take_over};
+use sim_gates::Store;
+use sim_design::{Commit, Width};
+use sim_flat::Flat;
+use sim_tape::{Pair, Program};
+use tapa_base::Token;
+use vlog_design::Design;
+
+/// A stream of the top: the pairs of its `wr`, `rdy` and `din`, and the bits of `din`.
+#[derive(Clone, Copy)]
+pub struct Stream {
+    pub wr: Pair,
+    pub rdy: Pair,
+    pub din: Pair,
+    pub bits: u32,
+}
+
+/// A design, the numbers of its nets, their pairs of slots, and by names of memories the numbers of their lists of cells; the
+/// tape, what registers take over, what is stored, and what stands around the design.
+#[derive(Drop)]
+pub struct Parts {
+    pub design: Design,
+    pub flat: Flat,
+    pub pairs: Vec<Option<Pair>>,
+    pub memories: Vec<Option<Pair>>,
+    pub widths: Vec<Width>,
+    pub program: Program,
+    pub commits: Vec<Commit>,
+    pub stores: Vec<Store>,
+    pub scalars: Vec<u64>,
+    pub inputs: Vec<Input>,
+    pub outside: Vec<Outside>,
+    pub streams: Vec<Stream>,
+    pub done: Pair,
+    pub ready: Vec<Vec<bool>>,
+}
+
+/// A cycle: its number, the numbers of all slots, the cells of all memories, and room for the numbers that are taken over.
+#[derive(Drop)]
+pub struct State {
+    pub cycle: u64,
+    pub numbers: Vec<u64>,
+    pub cells: Vec<Vec<u64>>,
+    pub next: Vec<u64>,
+}
+
+/// Goes to the next cycle.
+pub fn advance(parts: &Parts, state: &mut State)
+    requires sim { IsSim parts.now state.old }
+    requires few { state.old.cycle + 1 < 2 ^ 64 }
+    ensures sim { IsSim parts.now state.new }
+    ensures next { IsNext (sim_tree parts.now state.old) (sim_tree parts.now state.new) }
+{
+    store_all(&state.numbers, &parts.stores, &mut state.cells);
+    ask_all(&state.numbers, &parts.outside, &mut state.cells);
+    take_over(&parts.commits, &mut state.next, &mut state.numbers);
+    state.cycle += 1;
+    give(&parts.inputs, &parts.ready, state.cycle, &mut state.numbers);
+    parts.program.pass(&mut state.numbers, &state.cells);
+}
+
+/// Whether the design is done in a cycle.
+pub fn is_done(parts: &Parts, state: &State) -> bool
+    requires { IsSim parts.now state.now }
+    ensures { InRuns (sim_tree parts.now state.now) (λ m env nets. IsTrue result ↔ IsDone (λ n. nets n []) state.now.cycle) }
+{
+    state.cycle > 0 && is_one(&state.numbers, parts.done)
+}
+
+fn join(low: u64, high: u64) -> u128
+    ensures { result ≡ high * 2 ^ 64 + low }
+{
+    (u128::from(high) << 64) + u128::from(low)
+}
+
+// What the bits of a stream say: an end where the highest one is set, and else a datum.
+#[tactic(auto, using(vlog_ref_cycle::proofs::Tokens::low_datum))]
+fn token_of(bits: u32, din: u128) -> Token
+    requires low { 2 ≤ bits }
+    requires high { bits ≤ 65 }
+    ensures { result ≡ token_lem bits din }
+{
+    let first_end = 1u128 << (bits - 1);
+    if din < first_end {
+        Token::Datum(din as u64)
+    } else {
+        Token::Eot
+    }
+}
+
+fn carries(numbers: &[u64], s: &Stream) -> Option<Token>
+    requires low { 2 ≤ s.now.bits }
+    requires high { s.now.bits ≤ 65 }
+    ensures { result ≡ token_on numbers.now s.now }
+{
+    if is_one(numbers, s.wr) && is_one(numbers, s.rdy) {
+        let din = join(number(numbers, s.din.low), number(numbers, s.din.high));
+        Some(token_of(s.bits, din))
+    } else {
+        None
+    }
+}
+
+/// The token that a stream carries in a cycle; in cycle 0 it carries none.
+pub fn carried(parts: &Parts, state: &State, place: usize) -> Option<Token>
+    requires { IsSim parts.now state.now }
+    ensures { IsCarried (sim_tree parts.now state.now) place result }
+{
+    match parts.streams.get(place) {
+        Some(s) => {
+            if state.cycle == 0 {
+                None
+            } else {
+                carries(&state.numbers, s)
+            }
+        }
+        None => None,
+    }
+}
+
+/// The cells of a list in a cycle.
+pub fn cells_in(state: &State, m: usize) -> &[u64]
+    ensures { result.now ≡ get_or (cells_of state.now.cells.items) m [] }
+{
+    match state.cells.get(m) {
+        Some(cells) => cells,
+        None => &[],
+    }
+}

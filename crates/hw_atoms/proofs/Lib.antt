@@ -1,2 +1,0 @@
-pub mod Widest
-pub mod Grows

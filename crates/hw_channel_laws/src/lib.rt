@@ -1,0 +1,7 @@
+//! The modules of channels by their lines, and that they do what a channel owes: a FIFO, and before it a relay of
+//! registers, one a cycle of added latency.
+#![tactic(auto)]
+
+mod laws;
+
+pub use laws::{law_bits, law_channel, law_channels_act, law_exists, law_fifo, law_modules_are_clear, law_names_tell_modules, law_next_place, law_plain, law_relay, law_room, law_store, law_test};

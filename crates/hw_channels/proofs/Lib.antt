@@ -1,2 +1,0 @@
-pub mod ChannelModules
-pub mod Named

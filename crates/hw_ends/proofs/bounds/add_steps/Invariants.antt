@@ -1,8 +1,0 @@
-use Rattle.std.proofs.Common.{◌≡◌}
-use Rattle.hw_build.specs.Elements.{with_all}
-use Rattle.hw_lists.specs.Scope.{each}
-use Rattle.top_law.specs.Bounds.{conversion_step}
-use Rattle.hw_ends.proofs.bounds.add_steps.Given as goal
-
-abbrev pub invariant-loop-step : goal.invariant-loop-step
-invariant-loop-step l = l.draft ≡ with_all l.initial.draft (each (conversion_step l.i l.p l.first l.kinds) l.step)

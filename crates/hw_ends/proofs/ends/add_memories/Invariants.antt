@@ -1,7 +1,0 @@
-use Rattle.std.proofs.Common.{◌≡◌, ◌++◌}
-use Rattle.hw_lists.specs.Scope.{each}
-use Rattle.top_law.specs.Texts.{memory_ends}
-use Rattle.hw_ends.proofs.ends.add_memories.Given as goal
-
-abbrev pub invariant-loop-p : goal.invariant-loop-p
-invariant-loop-p l = l.ends.items ≡ l.initial.ends.items ++ each (memory_ends l.program l.x) l.p

@@ -1,6 +1,0 @@
-use Rattle.hw_lists.proofs.Fit.{alone_fits}
-use Rattle.hw_lists.proofs.Form.{alone_has_form}
-use Rattle.hw_lists.proofs.laws.law_fit_in_order.Goals as goal
-
-pub returns : goal.returns
-returns c = record { fitting = alone_fits; form = alone_has_form }

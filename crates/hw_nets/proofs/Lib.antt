@@ -1,0 +1,4 @@
+pub mod Widest
+pub mod Grows
+pub mod Shapes
+pub mod Leaves

@@ -1,0 +1,16 @@
+//! Choices among entries, each a value and the net that says when it is meant, as trees of ors over gates.
+#![tactic(auto)]
+
+mod atoms;
+mod choices;
+mod entries;
+mod names;
+mod numbers;
+mod shape;
+
+pub use atoms::{binary, choose, concat, copy, literal, low_bits, net, sign_of, wire};
+pub use choices::{add_any, add_pick, result_of, root};
+pub use entries::{Entry, add_found, entry_of};
+pub use names::{index_front, name, read_front, value_front};
+pub use numbers::{bits, plus, power, small};
+pub use shape::Shape;

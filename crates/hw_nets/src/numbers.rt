@@ -1,0 +1,56 @@
+// Numbers of 32 bits, and powers of 2.
+
+ghost use Rattle.std.specs.Prelude.{◌≡◌, ◌+◌, ◌<◌, ◌≤◌, ◌^◌, IfOk};
+ghost use Rattle.tapa_base.specs.Kinds.{bits_of};
+ghost use Rattle.hw_task_lines.specs.Shape.{bits_for as bits_for_lem};
+
+use std::alloc::AllocError;
+use tapa_base::Kind;
+
+/// A number of 32 bits. What is held in memory has no larger one.
+pub fn small(n: usize) -> Result<u32, AllocError>
+    ensures { IfOk result (λ r. r ≡ n) }
+{
+    if n <= 4294967295 {
+        Ok(n as u32)
+    } else {
+        Err(AllocError)
+    }
+}
+
+/// The sum of two numbers of 32 bits. A module has no larger one.
+pub fn plus(a: u32, b: u32) -> Result<u32, AllocError>
+    ensures { IfOk result (λ r. r ≡ a + b) }
+{
+    match a.checked_add(b) {
+        Some(n) => Ok(n),
+        None => Err(AllocError),
+    }
+}
+
+/// 2 to the power of n.
+pub fn power(n: u32) -> u128
+    requires { n < 128 }
+    ensures value { result ≡ 2 ^ n }
+    ensures some { 0 < result }
+{
+    1 << n
+}
+
+/// The bits of a kind.
+#[tactic(auto, using(crate::proofs::Widest::most_bits))]
+pub fn bits(kind: Kind) -> u32
+    ensures value { result ≡ bits_of kind }
+    ensures most { result ≤ 64 }
+{
+    kind.bits()
+}
+
+/// Bits for the numbers up to n, at least one.
+#[tactic(auto, unfolding(hw_task_lines::specs::Shape::bits_for))]
+pub fn bits_for(n: u32) -> u32
+    ensures value { result ≡ bits_for_lem n }
+    ensures most { result ≤ 32 }
+{
+    if n == 0 { 1 } else { 32 - n.leading_zeros() }
+}

@@ -1,0 +1,13 @@
+use Rattle.std.proofs.Common.{◌≡◌, length, arith}
+use Rattle.hw_task_lines.specs.Texts.{array_block}
+use Rattle.hw_nets.proofs.Grows.{each_more, each_end}
+use Rattle.hw_nets.specs.Shapes.{form}
+use Rattle.hw_outputs.proofs.blocks.add_array_blocks.Goals as goal
+
+pub loop-a-preserved : goal.loop-a-preserved
+loop-a-preserved c = each_more c.args.draft.now c.loop-a.draft c.add_array_block.new.draft (array_block (form c.args.shape.now)) c.loop-a.a c.loop-a.invariant c.in_ok-add_array_block.ensures
+
+pub returns : goal.returns
+returns c =
+    let all : c.loop-a.a ≡ length (form c.args.shape.now).arrays = omega (arith, c.in_ok-count.ensures) in
+    each_end c.args.draft.now c.loop-a.draft (array_block (form c.args.shape.now)) c.loop-a.a (length (form c.args.shape.now).arrays) all c.loop-a.invariant

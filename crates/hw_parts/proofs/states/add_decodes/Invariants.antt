@@ -1,9 +1,0 @@
-use Rattle.std.proofs.Common.{◌≡◌}
-use Rattle.hw_build.specs.Elements.{with_all}
-use Rattle.hw_lists.specs.Scope.{each}
-use Rattle.task_law.specs.States.{decoded}
-use Rattle.hw_shape.specs.Shapes.{form}
-use Rattle.hw_parts.proofs.states.add_decodes.Given as goal
-
-abbrev pub invariant-loop-k : goal.invariant-loop-k
-invariant-loop-k l = l.draft ≡ with_all l.initial.draft (each (decoded (form l.shape)) l.k)

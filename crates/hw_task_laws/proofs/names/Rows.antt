@@ -1,0 +1,167 @@
+-- Wires with numbered names, one after another: those of drivers, of an expression, and of a choice.
+use Rattle.std.proofs.Common.{◌≡◌, ℕ, zero, suc, ◌+◌, ◌-◌, ◌*◌, ◌<◌, ◌≤◌, List, [], ◌∷◌, ◌++◌, length, Option, Some, None, inl, inr, refl, sym, ap, subst, arith, length-append}
+use Rattle.std.specs.List.{flat_map}
+use Rattle.tapa_base.specs.declared.kind.Kind.{Kind}
+use Rattle.tapa_base.specs.declared.kind.Kind.TheVariants as kind
+use Rattle.tapa_base.specs.Kinds.{bits_of}
+use Rattle.tapa_syntax.specs.Typed.{right_kind}
+use Rattle.vlog_tree.specs.declared.tree.Atom.{Atom}
+use Rattle.vlog_tree.specs.declared.tree.Atom.TheVariants.{Net, Literal}
+use Rattle.vlog_tree.specs.declared.tree.BinaryOp.TheVariants.{And, Or}
+use Rattle.vlog_tree.specs.declared.tree.Value.{Value}
+use Rattle.vlog_tree.specs.declared.tree.Value.TheVariants.{Plain, Invert, Binary, Choose}
+use Rattle.vlog_tree.specs.Grounded.{Has}
+use Rattle.vlog_tree.specs.Table.{Name}
+use Rattle.vlog_tree.proofs.Lists.{has_split}
+use Rattle.hw_build.specs.Elements.{Element, Wire}
+use Rattle.hw_build.specs.Trees.{numbered, tree_node, tree_nodes}
+use Rattle.hw_build.specs.Choices.{Entry, any_leaves, any_elements, pick_leaves, pick_elements}
+use Rattle.hw_build.specs.Fits.{declared_names}
+use Rattle.task_fsm.specs.Machine.{Expression, Number, Reg, CellOf, Converted, Applied, Flipped, Inverse, Both, Either, Chosen, Operation}
+use Rattle.hw_task_lines.specs.Fixed.{fixed}
+use Rattle.hw_task_lines.specs.Drivers.{Driver, wires_of, one, conversion, operation}
+use Rattle.hw_task_lines.specs.Wires.{read_count, Compiled, by_fixed, behind, converting, one_more, joining, choosing, compiled}
+
+abbrev pub IsWire : Name → Element → Type 0
+IsWire x e = (w : ℕ) × (v : Value) × (e ≡ Wire w x v)
+
+abbrev pub AreRow : Name → ℕ → List Element → Type 0
+AreRow front n [] = Unit {0}
+AreRow front n (e ∷ es) = IsWire (numbered front n) e × AreRow front (suc n) es
+
+pub row_append : (front : Name) (n : ℕ) (xs ys : List Element) → AreRow front n xs → AreRow front (n + length xs) ys → AreRow front n (xs ++ ys)
+row_append front n [] ys h k = let e : n + 0 ≡ n = omega arith in subst (λ z. AreRow front z ys) e k
+row_append front n (x ∷ xs) ys h k =
+    let e : n + suc (length xs) ≡ suc n + length xs = omega arith in
+    (h.0, row_append front (suc n) xs ys h.1 (subst (λ z. AreRow front z ys) e k))
+
+-- so many of them, from a number on
+pub record IsRow (front : Name) (n c : ℕ) (es : List Element) : Type 0 where
+  pub wires : AreRow front n es
+  pub count : length es ≡ c
+
+row_none : (front : Name) (n : ℕ) → IsRow front n 0 []
+row_none front n = record { wires = tt; count = refl }
+
+row_join : (front : Name) (n c d : ℕ) (xs ys : List Element) → IsRow front n c xs → IsRow front (n + c) d ys → IsRow front n (c + d) (xs ++ ys)
+row_join front n c d xs ys h k = record {
+  wires = row_append front n xs ys h.wires (subst (λ z. AreRow front (n + z) ys) (sym h.count) k.wires);
+  count = let e = length-append xs ys in let f = h.count in let g = k.count in omega (arith, e, f, g);
+}
+
+-- ---- drivers and expressions
+
+drivers_wires : (front : Name) (n : ℕ) (drivers : List Driver) → AreRow front n (wires_of front n drivers)
+drivers_wires front n [] = tt
+drivers_wires front n (d ∷ drivers) = ((d.0, d.1, refl), drivers_wires front (suc n) drivers)
+
+drivers_count : (front : Name) (n : ℕ) (drivers : List Driver) → length (wires_of front n drivers) ≡ length drivers
+drivers_count front n [] = refl
+drivers_count front n (d ∷ drivers) = ap suc (drivers_count front (suc n) drivers)
+
+pub drivers_row : (front : Name) (n : ℕ) (drivers : List Driver) → IsRow front n (length drivers) (wires_of front n drivers)
+drivers_row front n drivers = record { wires = drivers_wires front n drivers; count = drivers_count front n drivers }
+
+abbrev IsCompiledRow : Name → ℕ → Compiled → Type 0
+IsCompiledRow front n C = IsRow front n C.count C.elements
+
+behind_row : (front : Name) (n : ℕ) (es : List Element) (c : ℕ) (drivers : List Driver) (a : Atom) → IsRow front n c es → IsCompiledRow front n (behind front n es c drivers a)
+behind_row front n es c drivers a h = row_join front n c (length drivers) es (wires_of front (n + c) drivers) h (drivers_row front (n + c) drivers)
+
+fixed_row : (front : Name) (n : ℕ) (o : Option ℕ) (k : Kind) (C : Compiled) → IsCompiledRow front n C → IsCompiledRow front n (by_fixed o k C)
+fixed_row front n (Some v) k C h = row_none front n
+fixed_row front n None k C h = h
+
+-- the wires of an expression
+pub compiled_row : (front : Name) (m n : ℕ) (k : Kind) (e : Expression) → IsCompiledRow front n (compiled front m n k e)
+compiled_row front m n k (Number j v) = row_none front n
+compiled_row front m n k (Reg x) = row_none front n
+compiled_row front m n k (CellOf a i) = row_none front n
+compiled_row front m n k (Converted s t e) =
+    let C = compiled front m n s e in
+    fixed_row front n (fixed (Converted s t e)) k (converting front n s t C) (behind_row front n C.elements C.count (conversion front (n + C.count) s t C.atom) C.atom (compiled_row front m n s e))
+compiled_row front m n k (Applied o j l r) =
+    let C = compiled front m n j l in
+    let D = compiled front (m + read_count l) (n + C.count) (right_kind o j) r in
+    fixed_row front n (fixed (Applied o j l r)) k (joining front n C D (λ i a b. operation front i o j k a b))
+    (behind_row front n (C.elements ++ D.elements) (C.count + D.count) (operation front (n + (C.count + D.count)) o j k C.atom D.atom) C.atom
+    (row_join front n C.count D.count C.elements D.elements (compiled_row front m n j l) (compiled_row front (m + read_count l) (n + C.count) (right_kind o j) r)))
+compiled_row front m n k (Flipped j e) =
+    let C = compiled front m n j e in
+    fixed_row front n (fixed (Flipped j e)) k (one_more front n C (λ a. one (bits_of j) (Invert a))) (behind_row front n C.elements C.count (one (bits_of j) (Invert C.atom)) C.atom (compiled_row front m n j e))
+compiled_row front m n k (Inverse e) =
+    let C = compiled front m n kind.Bool e in
+    fixed_row front n (fixed (Inverse e)) k (one_more front n C (λ a. one 1 (Invert a))) (behind_row front n C.elements C.count (one 1 (Invert C.atom)) C.atom (compiled_row front m n kind.Bool e))
+compiled_row front m n k (Both l r) =
+    let C = compiled front m n kind.Bool l in
+    let D = compiled front (m + read_count l) (n + C.count) kind.Bool r in
+    fixed_row front n (fixed (Both l r)) k (joining front n C D (λ i a b. one 1 (Binary a And b)))
+    (behind_row front n (C.elements ++ D.elements) (C.count + D.count) (one 1 (Binary C.atom And D.atom)) C.atom
+    (row_join front n C.count D.count C.elements D.elements (compiled_row front m n kind.Bool l) (compiled_row front (m + read_count l) (n + C.count) kind.Bool r)))
+compiled_row front m n k (Either l r) =
+    let C = compiled front m n kind.Bool l in
+    let D = compiled front (m + read_count l) (n + C.count) kind.Bool r in
+    fixed_row front n (fixed (Either l r)) k (joining front n C D (λ i a b. one 1 (Binary a Or b)))
+    (behind_row front n (C.elements ++ D.elements) (C.count + D.count) (one 1 (Binary C.atom Or D.atom)) C.atom
+    (row_join front n C.count D.count C.elements D.elements (compiled_row front m n kind.Bool l) (compiled_row front (m + read_count l) (n + C.count) kind.Bool r)))
+compiled_row front m n k (Chosen e a b) =
+    let C = compiled front m n kind.Bool e in
+    let D = compiled front (m + read_count e) (n + C.count) k a in
+    let E = compiled front (m + read_count e + read_count a) (n + C.count + D.count) k b in
+    fixed_row front n (fixed (Chosen e a b)) k (choosing front n k C D E)
+    (behind_row front n (C.elements ++ (D.elements ++ E.elements)) (C.count + (D.count + E.count)) (one (bits_of k) (Choose C.atom D.atom E.atom)) C.atom
+    (row_join front n C.count (D.count + E.count) C.elements (D.elements ++ E.elements) (compiled_row front m n kind.Bool e)
+    (row_join front (n + C.count) D.count E.count D.elements E.elements (compiled_row front (m + read_count e) (n + C.count) k a)
+    (compiled_row front (m + read_count e + read_count a) (n + C.count + D.count) k b))))
+compiled_row front m n k Operation = row_none front n
+
+-- ---- choices
+
+any_leaves_row : (front : Name) (j : ℕ) (entries : List Entry) → IsRow front j (length entries) (any_leaves front j entries)
+any_leaves_row front j [] = row_none front j
+any_leaves_row front j (e ∷ entries) =
+    let r = any_leaves_row front (suc j) entries in
+    record { wires = ((1, Plain (Net e.condition), refl), r.wires); count = ap suc r.count }
+
+pick_leaves_row : (w : ℕ) (front : Name) (j : ℕ) (entries : List Entry) → IsRow front j (length entries) (pick_leaves w front j entries)
+pick_leaves_row w front j [] = row_none front j
+pick_leaves_row w front j (e ∷ entries) =
+    let r = pick_leaves_row w front (suc j) entries in
+    record { wires = ((w, Choose (Net e.condition) e.value (Literal w 0), refl), r.wires); count = ap suc r.count }
+
+nodes_row : (w : ℕ) (front : Name) (leaves m : ℕ) → IsRow front leaves m (tree_nodes w front leaves m)
+nodes_row w front leaves zero = row_none front leaves
+nodes_row w front leaves (suc m) =
+    let e : m + 1 ≡ suc m = omega arith in
+    subst (λ z. IsRow front leaves z (tree_nodes w front leaves (suc m))) e
+    (row_join front leaves m 1 (tree_nodes w front leaves m) (tree_node w front leaves m ∷ []) (nodes_row w front leaves m)
+    (record { wires = ((w, Binary (Net (numbered front (2 * m))) Or (Net (numbered front (2 * m + 1))), refl), tt); count = refl }))
+
+tree_row : (w : ℕ) (front : Name) (leaves : List Element) (n m : ℕ) → IsRow front 0 n leaves → AreRow front 0 (leaves ++ tree_nodes w front n m)
+tree_row w front leaves n m h =
+    row_append front 0 leaves (tree_nodes w front n m) h.wires
+    (subst (λ z. AreRow front z (tree_nodes w front n m)) (let c = h.count in let e : n ≡ 0 + length leaves = omega (arith, c) in e) (nodes_row w front n m).wires)
+
+pub any_row : (front : Name) (entries : List Entry) → AreRow front 0 (any_elements front entries)
+any_row front entries = tree_row 1 front (any_leaves front 0 entries) (length entries) (length entries - 1) (any_leaves_row front 0 entries)
+
+pub pick_row : (w : ℕ) (front : Name) (entries : List Entry) → AreRow front 0 (pick_elements w front entries)
+pick_row w front [] = tt
+pick_row w front (e ∷ []) = ((w, Plain e.value, refl), tt)
+pick_row w front (e ∷ d ∷ entries) =
+    tree_row w front (pick_leaves w front 0 (e ∷ d ∷ entries)) (length (e ∷ d ∷ entries)) (length (e ∷ d ∷ entries) - 1) (pick_leaves_row w front 0 (e ∷ d ∷ entries))
+
+-- ---- their names
+
+named_so : (e : Element) (x y : Name) → IsWire y e → Has (declared_names e) x → x ≡ y
+named_so e x y h k = only (subst (λ l. Has l x) (ap declared_names h.2) k) where
+  only : Has (y ∷ []) x → x ≡ y
+  only (inl s) = sym s
+  only (inr n) = absurd n
+
+pub row_names : (front : Name) (n : ℕ) (es : List Element) → AreRow front n es → (x : Name) → Has (flat_map declared_names es) x → (i : ℕ) × (n ≤ i) × (i < n + length es) × (x ≡ numbered front i)
+row_names front n [] h x k = absurd k
+row_names front n (e ∷ es) h x k = elim (has_split (declared_names e) (flat_map declared_names es) x k) [
+  | inl l ↦ (n, omega arith, omega arith, named_so e x (numbered front n) h.0 l)
+  | inr r ↦ (let t = row_names front (suc n) es h.1 x r in let low : suc n ≤ t.0 = t.1 in let high : t.0 < suc n + length es = t.2 in (t.0, omega (arith, low), omega (arith, high), t.3))
+]

@@ -1,0 +1,10 @@
+pub mod words
+pub mod names
+pub mod wires
+pub mod fit
+pub mod form
+pub mod rests
+pub mod acts
+pub mod steps
+pub mod effects
+pub mod runs

@@ -1,0 +1,20 @@
+-- A net is told by its name.
+use Rattle.std.specs.Prelude.{◌≡◌, ℕ, ◌^◌, ◌<◌, List, true}
+use Rattle.std.specs.List.{AllByRecursion}
+use Rattle.vlog_tree.specs.Names.{is_name}
+use Rattle.hw_build.specs.Trees.{numbered}
+use Rattle.hw_task_lines.specs.Nets.{Choice, Net, Node, numbers, name, front}
+
+abbrev pub AreSmall : List ℕ → Type 0
+AreSmall ns = AllByRecursion (λ n. n < 2 ^ 64) ns
+
+abbrev pub NamesTellNets : Type 0
+NamesTellNets = (x y : Net) → AreSmall (numbers x) → AreSmall (numbers y) → name x ≡ name y → x ≡ y
+
+-- the leaves and nodes of a choice are numbered behind its front
+abbrev pub NodesAreNumbered : Type 0
+NodesAreNumbered = (c : Choice) (j : ℕ) → name (Node c j) ≡ numbered (front c) j
+
+-- and every net's name is one
+abbrev pub NetsHaveNames : Type 0
+NetsHaveNames = (x : Net) → AreSmall (numbers x) → is_name (name x) ≡ true

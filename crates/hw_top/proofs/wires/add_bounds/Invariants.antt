@@ -1,0 +1,9 @@
+use Rattle.std.proofs.Common.{◌≡◌}
+use Rattle.hw_build.specs.Elements.{with_all}
+use Rattle.hw_build.specs.Scope.{each}
+use Rattle.hw_top_lines.specs.Bounds.{parameters}
+use Rattle.hw_top_lines.specs.Texts.{at_instance}
+use Rattle.hw_top.proofs.wires.add_bounds.Given as goal
+
+abbrev pub invariant-loop-i : goal.invariant-loop-i
+invariant-loop-i l = l.draft ≡ with_all l.initial.draft (each (at_instance l.program (parameters l.program)) l.i)

@@ -1,0 +1,15 @@
+use Rattle.std.proofs.Common.{◌≡◌, length, arith}
+use Rattle.hw_top_lines.specs.Texts.{ended_wire}
+use Rattle.hw_nets.proofs.Grows.{each_more, each_end}
+use Rattle.hw_top.proofs.wires.add_ends.Goals as goal
+
+pub loop-i-preserved : goal.loop-i-preserved
+loop-i-preserved c =
+    let f = ended_wire in
+    each_more c.args.draft.now c.loop-i.draft c.add_ended.new.draft f c.loop-i.i c.loop-i.invariant c.in_ok-add_ended.ensures
+
+pub returns : goal.returns
+returns c =
+    let f = ended_wire in
+    let all : c.loop-i.i ≡ length c.args.program.now.instances.items = omega (arith, c.in_ok-count.ensures, c.args.program.now.instances.ok.0) in
+    each_end c.args.draft.now c.loop-i.draft f c.loop-i.i (length c.args.program.now.instances.items) all c.loop-i.invariant

@@ -1,0 +1,20 @@
+-- What the circuit of a program is.
+use Rattle.std.specs.Prelude.{◌≡◌, ℕ, List}
+use Rattle.tapa_syntax.specs.declared.program.Program.{Program}
+use Rattle.vlog_design.specs.Designs.{DesignTree, TopOf}
+use Rattle.vlog_tree.specs.Cycle.{Cycle, Path}
+use Rattle.vlog_tree.specs.Environment.{Environment, FitsShape, RunsIn, shape_of, streams_of}
+use Rattle.vlog_tree.specs.Refused.{IsDesign}
+use Rattle.hw_top_lines.specs.Legal.{scalar_ports, memory_ports, stream_ports}
+use Rattle.hw_top_lines.specs.Texts.{top_tree}
+use Rattle.hw_top_laws.specs.kahn.Carries.{CarriesStreams}
+
+-- A design that breaks no rule, whose scalars, memories and streams are the program's in order, with the program's labels
+-- and their bits. In each run in an environment that fits it, from any power-up contents, it carries the program's streams.
+pub record IsCircuitOf (program : Program) (added : List ℕ) (design : DesignTree) : Type 0 where
+  pub legal : IsDesign design.modules design.top
+  pub is_top : TopOf design (top_tree program added)
+  pub scalars : (shape_of (top_tree program added)).scalars ≡ scalar_ports program
+  pub memories : (shape_of (top_tree program added)).memories ≡ memory_ports program
+  pub streams : streams_of (top_tree program added) ≡ stream_ports program
+  pub carries : (env : Environment) → FitsShape env (shape_of (top_tree program added)) → (nets : ℕ → Path → Cycle) → RunsIn design.modules (top_tree program added) env nets → CarriesStreams program added env nets

@@ -1,0 +1,182 @@
+-- What stands before the instances of the top: its ports, its wires, and when all is done.
+use Rattle.std.proofs.Common.{◌≡◌, ℕ, ◌<◌, List, ◌++◌, length, Some, inl, inr, refl, sym, ap, subst, ◌∙◌, ⊎_elim}
+use Rattle.std.specs.Prelude.{slice_get}
+use Rattle.tapa_base.specs.Kinds.{bits_of}
+use Rattle.tapa_syntax.specs.declared.program.Instance.{Instance}
+use Rattle.tapa_syntax.specs.declared.program.Leaf.{Leaf}
+use Rattle.tapa_syntax.specs.declared.program.Memory.{Memory}
+use Rattle.tapa_syntax.specs.declared.program.Program.{Program}
+use Rattle.tapa_syntax.specs.declared.program.Scalar.{Scalar}
+use Rattle.tapa_syntax.specs.declared.program.Stream.{Stream}
+use Rattle.vlog_tree.specs.Grounded.{Has}
+use Rattle.vlog_tree.specs.Labels.{m_ack, m_rdata, m_addr, m_wdata, m_we, s_din, s_wr, s_rdy, scalar}
+use Rattle.vlog_tree.specs.Table.{Name}
+use Rattle.vlog_tree.proofs.Lists.{has_left, has_right, has_split, has_flat}
+use Rattle.hw_build.specs.Elements.{Element, Input, Outlet, Link}
+use Rattle.hw_build.specs.Scope.{each, IsNet}
+use Rattle.hw_build.specs.Fits.{IsAmong}
+use Rattle.hw_build.proofs.Parts.{has_each}
+use Rattle.hw_task_laws.proofs.fit.Scopes.{net_of}
+use Rattle.hw_top_laws.specs.joins.Joins.{open_nets, IsOpen}
+use Rattle.hw_top_lines.specs.Names.{s_has, s_dout, s_take, ended_net}
+use Rattle.hw_top_lines.specs.Bounds.{parameters}
+use Rattle.hw_top_lines.specs.Texts.{scalar_port, memory_ports, ports, token_bits, stream_wires, take_wire, of_leaf, of_instance, at_instance, ended_wire, doneness, wires}
+use Rattle.hw_top_laws.proofs.modules.Tasks.{some_index}
+
+-- a link or an outlet among elements is an open net
+pub open_of : (before : List Element) (e : Element) (x : Name) (w : ℕ) → Has before e → Has {N = Name × ℕ} (open_nets e) (x, w) → IsOpen before x w
+open_of before e x w h k = has_flat open_nets before e (x, w) h k
+
+module _ (program : Program) where
+  abbrev pub standing : List Element
+  standing = ports program ++ wires program ++ doneness program
+
+  pub ports_among : IsAmong (ports program) standing
+  ports_among e h = has_left (ports program ++ wires program) (doneness program) e (has_left (ports program) (wires program) e h)
+
+  pub wires_among : IsAmong (wires program) standing
+  wires_among e h = has_left (ports program ++ wires program) (doneness program) e (has_right (ports program) (wires program) e h)
+
+  abbrev pub scalars : List Element
+  scalars = each (λ x. scalar_port (slice_get program.scalars.items x)) (length program.scalars.items)
+
+  abbrev pub memories : List Element
+  memories = each (λ m. memory_ports (slice_get program.memories.items m)) (length program.memories.items)
+
+  abbrev pub streams : List Element
+  streams = each (λ s. stream_wires (slice_get program.streams.items s)) (length program.streams.items)
+
+  abbrev pub bounds : List Element
+  bounds = each (at_instance program (parameters program)) (length program.instances.items)
+
+  abbrev pub ends : List Element
+  ends = each ended_wire (length program.instances.items)
+
+  abbrev pub takes : List Element
+  takes = each (λ s. take_wire (slice_get program.streams.items s)) (length program.streams.items)
+
+  -- all but the wires that say what is taken, and when all is done
+  abbrev pub front : List Element
+  front = ports program ++ (streams ++ bounds ++ ends)
+
+  pub front_among : IsAmong front standing
+  front_among e h =
+      ⊎_elim (λ l. ports_among e l) (λ r. wires_among e (has_left (streams ++ bounds ++ ends) takes e r)) (has_split (ports program) (streams ++ bounds ++ ends) e h)
+
+  pub scalar_there : (x : ℕ) (c : Scalar) → slice_get program.scalars.items x ≡ Some c → Has scalars (Input (bits_of c.kind) (scalar c.name))
+  scalar_there x c g =
+      let e = Input (bits_of c.kind) (scalar c.name) in
+      has_each (λ x. scalar_port (slice_get program.scalars.items x)) (length program.scalars.items) x e (some_index program.scalars.items x c g) (subst (λ o. Has (scalar_port o) e) (sym g) (inl refl))
+
+  pub scalars_among : IsAmong scalars (ports program)
+  scalars_among e h = has_left scalars memories e h
+
+  pub memory_there : (m : ℕ) (r : Memory) → slice_get program.memories.items m ≡ Some r → (e : Element) → Has (memory_ports (Some r)) e → Has (ports program) e
+  memory_there m r g e h =
+      has_right scalars memories e
+      (has_each (λ m. memory_ports (slice_get program.memories.items m)) (length program.memories.items) m e (some_index program.memories.items m r g) (subst (λ o. Has (memory_ports o) e) (sym g) h))
+
+  pub stream_there : (s : ℕ) (r : Stream) → slice_get program.streams.items s ≡ Some r → (e : Element) → Has (stream_wires (Some r)) e → Has (wires program) e
+  stream_there s r g e h =
+      has_left (streams ++ bounds ++ ends) takes e
+      (has_left (streams ++ bounds) ends e
+      (has_left streams bounds e
+      (has_each (λ s. stream_wires (slice_get program.streams.items s)) (length program.streams.items) s e (some_index program.streams.items s r g) (subst (λ o. Has (stream_wires o) e) (sym g) h))))
+
+  stream_front : (s : ℕ) (r : Stream) → slice_get program.streams.items s ≡ Some r → (e : Element) → Has (stream_wires (Some r)) e → Has front e
+  stream_front s r g e h =
+      has_right (ports program) (streams ++ bounds ++ ends) e
+      (has_left (streams ++ bounds) ends e
+      (has_left streams bounds e
+      (has_each (λ s. stream_wires (slice_get program.streams.items s)) (length program.streams.items) s e (some_index program.streams.items s r g) (subst (λ o. Has (stream_wires o) e) (sym g) h))))
+
+  pub take_there : (s : ℕ) (r : Stream) → slice_get program.streams.items s ≡ Some r → Has (wires program) (Link 1 (s_take r.label))
+  take_there s r g =
+      let e = Link 1 (s_take r.label) in
+      has_right (streams ++ bounds ++ ends) takes e
+      (has_each (λ s. take_wire (slice_get program.streams.items s)) (length program.streams.items) s e (some_index program.streams.items s r g) (subst (λ o. Has (take_wire o) e) (sym g) (inl refl)))
+
+  pub ended_there : (i : ℕ) → i < length program.instances.items → Has (wires program) (Link 1 (ended_net i))
+  ended_there i l =
+      let e = Link 1 (ended_net i) in
+      has_left (streams ++ bounds ++ ends) takes e (has_right (streams ++ bounds) ends e (has_each ended_wire (length program.instances.items) i e l (inl refl)))
+
+  at_is : (f : ℕ → Instance → Leaf → List Element) (i : ℕ) (x : Instance) (leaf : Leaf) → slice_get program.instances.items i ≡ Some x → slice_get program.bodies.items x.body ≡ Some leaf → at_instance program f i ≡ f i x leaf
+  at_is f i x leaf g k = ap (of_instance program (f i)) g ∙ ap (of_leaf (f i) x) k
+
+  pub parameters_front : (i : ℕ) (x : Instance) (leaf : Leaf) → slice_get program.instances.items i ≡ Some x → slice_get program.bodies.items x.body ≡ Some leaf → IsAmong (parameters program i x leaf) front
+  parameters_front i x leaf g k e h =
+      has_right (ports program) (streams ++ bounds ++ ends) e
+      (has_left (streams ++ bounds) ends e
+      (has_right streams bounds e
+      (has_each (at_instance program (parameters program)) (length program.instances.items) i e (some_index program.instances.items i x g) (subst (λ (l : List Element). Has l e) (sym (at_is (parameters program) i x leaf g k)) h))))
+
+  -- ---- the nets
+
+  module _ (s : ℕ) (r : Stream) (g : slice_get program.streams.items s ≡ Some r) where
+    at_stream : (e : Element) → Has (stream_wires (Some r)) e → Has standing e
+    at_stream e h = wires_among e (stream_there s r g e h)
+
+    at_front : (e : Element) → Has (stream_wires (Some r)) e → Has front e
+    at_front e h = stream_front s r g e h
+
+    pub din_open : IsOpen standing (s_din r.label) (token_bits r.kind)
+    din_open = open_of standing (Link (token_bits r.kind) (s_din r.label)) (s_din r.label) (token_bits r.kind) (at_stream _ (inl refl)) (inl refl)
+
+    pub wr_open : IsOpen standing (s_wr r.label) 1
+    wr_open = open_of standing (Link 1 (s_wr r.label)) (s_wr r.label) 1 (at_stream _ (inr (inl refl))) (inl refl)
+
+    pub rdy_open : IsOpen standing (s_rdy r.label) 1
+    rdy_open = open_of standing (Link 1 (s_rdy r.label)) (s_rdy r.label) 1 (at_stream _ (inr (inr (inl refl)))) (inl refl)
+
+    pub has_open : IsOpen standing (s_has r.label) 1
+    has_open = open_of standing (Link 1 (s_has r.label)) (s_has r.label) 1 (at_stream _ (inr (inr (inr (inl refl))))) (inl refl)
+
+    pub dout_open : IsOpen standing (s_dout r.label) (token_bits r.kind)
+    dout_open = open_of standing (Link (token_bits r.kind) (s_dout r.label)) (s_dout r.label) (token_bits r.kind) (at_stream _ (inr (inr (inr (inr (inl refl)))))) (inl refl)
+
+    pub take_open : IsOpen standing (s_take r.label) 1
+    take_open = open_of standing (Link 1 (s_take r.label)) (s_take r.label) 1 (wires_among _ (take_there s r g)) (inl refl)
+
+    pub din_net : IsNet standing (s_din r.label) (token_bits r.kind)
+    din_net = net_of standing (Link (token_bits r.kind) (s_din r.label)) (s_din r.label) (token_bits r.kind) (at_stream _ (inl refl)) (inl refl)
+
+    pub wr_net : IsNet standing (s_wr r.label) 1
+    wr_net = net_of standing (Link 1 (s_wr r.label)) (s_wr r.label) 1 (at_stream _ (inr (inl refl))) (inl refl)
+
+    pub rdy_net : IsNet front (s_rdy r.label) 1
+    rdy_net = net_of front (Link 1 (s_rdy r.label)) (s_rdy r.label) 1 (at_front _ (inr (inr (inl refl)))) (inl refl)
+
+    pub has_net : IsNet front (s_has r.label) 1
+    has_net = net_of front (Link 1 (s_has r.label)) (s_has r.label) 1 (at_front _ (inr (inr (inr (inl refl))))) (inl refl)
+
+    pub dout_net : IsNet front (s_dout r.label) (token_bits r.kind)
+    dout_net = net_of front (Link (token_bits r.kind) (s_dout r.label)) (s_dout r.label) (token_bits r.kind) (at_front _ (inr (inr (inr (inr (inl refl)))))) (inl refl)
+
+    pub take_net : IsNet standing (s_take r.label) 1
+    take_net = net_of standing (Link 1 (s_take r.label)) (s_take r.label) 1 (wires_among _ (take_there s r g)) (inl refl)
+
+  module _ (m : ℕ) (r : Memory) (g : slice_get program.memories.items m ≡ Some r) where
+    at_memory : (e : Element) → Has (memory_ports (Some r)) e → Has standing e
+    at_memory e h = ports_among e (memory_there m r g e h)
+
+    memory_front : (e : Element) → Has (memory_ports (Some r)) e → Has front e
+    memory_front e h = has_left (ports program) (streams ++ bounds ++ ends) e (memory_there m r g e h)
+
+    pub addr_open : IsOpen standing (m_addr r.name) 64
+    addr_open = open_of standing (Outlet 64 (m_addr r.name)) (m_addr r.name) 64 (at_memory _ (inl refl)) (inl refl)
+
+    pub wdata_open : IsOpen standing (m_wdata r.name) (bits_of r.kind)
+    wdata_open = open_of standing (Outlet (bits_of r.kind) (m_wdata r.name)) (m_wdata r.name) (bits_of r.kind) (at_memory _ (inr (inl refl))) (inl refl)
+
+    pub we_open : IsOpen standing (m_we r.name) 1
+    we_open = open_of standing (Outlet 1 (m_we r.name)) (m_we r.name) 1 (at_memory _ (inr (inr (inl refl)))) (inl refl)
+
+    pub ack_net : IsNet front (m_ack r.name) 1
+    ack_net = net_of front (Input 1 (m_ack r.name)) (m_ack r.name) 1 (memory_front _ (inr (inr (inr (inl refl))))) (inl refl)
+
+    pub rdata_net : IsNet front (m_rdata r.name) (bits_of r.kind)
+    rdata_net = net_of front (Input (bits_of r.kind) (m_rdata r.name)) (m_rdata r.name) (bits_of r.kind) (memory_front _ (inr (inr (inr (inr (inl refl)))))) (inl refl)
+
+  pub ended_open : (i : ℕ) → i < length program.instances.items → IsOpen standing (ended_net i) 1
+  ended_open i l = open_of standing (Link 1 (ended_net i)) (ended_net i) 1 (wires_among _ (ended_there i l)) (inl refl)

@@ -1,0 +1,63 @@
+-- What the circuit of a program carries in a run.
+use Rattle.std.specs.Prelude.{◌≡◌, ◌↔◌, ℕ, suc, ◌+◌, ◌*◌, ◌≤◌, List, [], Option, Some, slice_get, slice_index, slice_index_or}
+use Rattle.tapa_base.specs.declared.token.Token.{Token}
+use Rattle.tapa_syntax.specs.WellFormed.{IsWellFormed}
+use Rattle.tapa_syntax.specs.declared.program.Memory.{Memory}
+use Rattle.tapa_syntax.specs.declared.program.Program.{Program}
+use Rattle.tapa_syntax.specs.declared.program.Stream.{Stream}
+use Rattle.vlog_tree.specs.Cycle.{Cycle, Path}
+use Rattle.vlog_tree.specs.Environment.{Environment, FitsShape, RunsIn, shape_of, cells_at, tokens, IsDone}
+use Rattle.vlog_tree.specs.Form.{ModuleTree}
+use Rattle.kahn_model.specs.Cells.{cells_at as cells_of}
+use Rattle.kahn_model.specs.Counts.{written, IsKahnPrefix, IsKahnStream}
+use Rattle.kahn_model.specs.Ending.{IsLeastToEnd}
+use Rattle.kahn_model.specs.Network.{Network}
+use Rattle.kahn_model.specs.Outcome.{IsJoined, HaveJoinedEnded, IsDone as EndsWithin, shown}
+use Rattle.kahn_model.specs.Start.{network_of}
+use Rattle.kahn_model.specs.Timed.{lost}
+use Rattle.task_fsm.specs.declared.machine.Fsm.{Fsm}
+use Rattle.hw_top_lines.specs.Designs.{AreShort}
+use Rattle.hw_top_lines.specs.Texts.{token_bits, top_tree}
+use Rattle.hw_top_laws.specs.runs.Designs.{IsCircuit}
+use Rattle.hw_top_laws.specs.kahn.Clock.{counts, all_answer}
+
+-- the network of a program on the environment's scalars and cells
+abbrev pub network : Program → Environment → Network
+network program env = network_of program env.scalars env.memories
+
+-- the numbers of the top's nets in each cycle
+abbrev pub top_of : (ℕ → Path → Cycle) → ℕ → Cycle
+top_of nets n = nets n []
+
+-- what stream q has carried in the cycles from 1 to n
+abbrev pub carried_by : (ℕ → Path → Cycle) → Stream → ℕ → List Token
+carried_by nets q n = tokens (token_bits q.kind) (top_of nets) q.label n
+
+pub record CarriesStreams (program : Program) (added : List ℕ) (env : Environment) (nets : ℕ → Path → Cycle) : Type 0 where
+  -- each stream has carried what the timed counts write to it
+  pub streams : (s n : ℕ) (q : Stream) → slice_get program.streams.items s ≡ Some q → carried_by nets q n ≡ written (network program env) (counts program added env (suc n)) s
+  -- each memory outside has the cells of the timed counts
+  pub memories :
+      (m n : ℕ) (o : Memory) → slice_get program.memories.items m ≡ Some o → cells_at (top_of nets) o.name (slice_index_or env.memories m []) (suc n) ≡ cells_of program env.scalars env.memories (counts program added env (suc n)) m
+  -- done is raised exactly where every instance that is waited for has ended
+  pub done : (n : ℕ) → IsDone (top_of nets) (suc n) ↔ HaveJoinedEnded (network program env) (counts program added env (suc n))
+  -- in every cycle each stream has carried a prefix of its Kahn stream
+  pub begins : (s n : ℕ) (q : Stream) → slice_get program.streams.items s ≡ Some q → IsKahnPrefix (network program env) s (carried_by nets q n)
+  -- and all of it once done is raised, where its writer is waited for
+  pub whole :
+      (s n m : ℕ) (q : Stream) → slice_get program.streams.items s ≡ Some q → IsDone (top_of nets) n → n ≤ m → IsJoined (network program env) q.producer → IsKahnStream (network program env) s (carried_by nets q m)
+  -- which is what a run within a bound shows of it
+  pub shows :
+      (bound : ℕ) (k : ℕ → ℕ) → EndsWithin (network program env) bound k → (s n m : ℕ) (q : Stream) → slice_get program.streams.items s ≡ Some q → IsDone (top_of nets) n → n ≤ m → IsJoined (network program env) q.producer → carried_by nets q m ≡ shown (network program env) k s
+  -- by the greatest added latency, and the cycles in which some memory does not answer, done is raised in time where a run
+  -- within some bound is done
+  pub in_time :
+      (most waits : ℕ) → ((s : ℕ) → slice_index added s ≤ most) → ((n : ℕ) → lost (all_answer env) n ≤ waits) → (bound : ℕ) (k : ℕ → ℕ) → EndsWithin (network program env) bound k
+      → (a : ℕ) × IsLeastToEnd (network program env) a × ((n : ℕ) × IsDone (top_of nets) n × (n ≤ (a + 2) * (2 * most + 4) + waits))
+
+-- from any power-up contents
+abbrev pub CircuitsCarryStreams : Type 0
+CircuitsCarryStreams =
+    (program : Program) → IsWellFormed program → (added : List ℕ) → AreShort added → (machines : ℕ → Option Fsm) (all : List ModuleTree) (at : ℕ) → IsCircuit program added machines all at
+    → (env : Environment) → FitsShape env (shape_of (top_tree program added)) → (nets : ℕ → Path → Cycle) → RunsIn all (top_tree program added) env nets
+    → CarriesStreams program added env nets

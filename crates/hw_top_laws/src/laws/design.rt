@@ -1,0 +1,31 @@
+// Laws on whole circuits.
+
+ghost use Rattle.hw_top_laws.specs.design.Outside.{TopsHaveMemories, TopsHaveScalars, TopsHaveStreams};
+ghost use Rattle.hw_top_laws.specs.design.Order.{DesignsAreLoopless, TopsHaveNoLoop, TopsKeepAnswers, TopsKeepOrder};
+ghost use Rattle.hw_top_laws.specs.design.Design.{DesignsAreLegal, DesignsAreSound, OutsidesAreRight, TopsAreRoots};
+
+/// The top of a circuit has the program's scalars, memories and streams, with their labels and widths, in order.
+pub fn law_top_outside()
+    ensures scalars { TopsHaveScalars }
+    ensures memories { TopsHaveMemories }
+    ensures streams { TopsHaveStreams }
+{}
+
+/// Where an output of an instance of the top rests on an input of it, the input's net stands before the output's, and what a
+/// memory answers stands behind the place that it is asked for. So no net of the top rests on itself, and no name of the
+/// circuit is on a loop.
+pub fn law_designs_are_loopless()
+    ensures order { TopsKeepOrder }
+    ensures answers { TopsKeepAnswers }
+    ensures top { TopsHaveNoLoop }
+    ensures designs { DesignsAreLoopless }
+{}
+
+/// The modules of a circuit break no rule on names, widths and drivers. The top alone stands in no other module, its ports are
+/// those of a design, and the clock of an instance is the clock. So a circuit is a design with this top.
+pub fn law_designs_are_legal()
+    ensures sound { DesignsAreSound }
+    ensures root { TopsAreRoots }
+    ensures outside { OutsidesAreRight }
+    ensures legal { DesignsAreLegal }
+{}

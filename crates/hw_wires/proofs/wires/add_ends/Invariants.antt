@@ -1,8 +1,0 @@
-use Rattle.std.proofs.Common.{◌≡◌}
-use Rattle.hw_build.specs.Elements.{with_all}
-use Rattle.hw_lists.specs.Scope.{each}
-use Rattle.top_law.specs.Texts.{ended_wire}
-use Rattle.hw_wires.proofs.wires.add_ends.Given as goal
-
-abbrev pub invariant-loop-i : goal.invariant-loop-i
-invariant-loop-i l = l.draft ≡ with_all l.initial.draft (each (ended_wire) l.i)

@@ -1,0 +1,207 @@
+-- Filled ports.
+use Rattle.std.proofs.Common.{◌≡◌, ℕ, zero, suc, ◌+◌, ◌-◌, ◌<◌, ◌≤◌, List, [], ◌∷◌, ◌++◌, length, drop, Bool, true, false, Some, refl, sym, ap, ◌∙◌, subst, ⊎_elim, arith}
+use Rattle.std.specs.Prelude.{replicate, slice_get, slice_index, slice_set}
+use Rattle.std.proofs.lemmas.Bool.{cases_lt, cases_eq}
+use Rattle.tapa_syntax.specs.declared.program.Program.{Program}
+use Rattle.net_core.specs.declared.ports.Ports.{Ports}
+use Rattle.tapa_base.specs.declared.token.Token.{Token}
+use Rattle.kahn_model.specs.Fits.{stream_kind}
+use Rattle.net_core.specs.Kinds.{kind_in}
+use Rattle.net_core.specs.Ports.{carried, kind_at, port_count, ends_by, carried_by, IsReloaded, ends_in, carried_of, waiting_of, room_of}
+use Rattle.net_core.specs.Bindings.{IsConnected, IsWriter, arity, ends_at, arity_in, stream_at, stream_in, Reads, Writes, producer_of, consumer_of, depth_of}
+use Rattle.net_core.proofs.Moves.{has_item, get_set_other, port_count_is}
+use Rattle.net_core.specs.declared.ties.Tie.{Tie}
+use Rattle.net_core.specs.Ties.{IsTie}
+use Rattle.net_core.specs.Load.{IsIn, AreBelow, AreListed, AreKept, AreLoaded, IsLoaded, AreWoken, list_at, queue_at}
+
+pub in_streams : (program : Program) → IsConnected program → (i p : ℕ) → i < length program.instances.items → p < arity program i → stream_at program i p < length program.streams.items
+in_streams program connected i p inside l =
+    let x = has_item program.instances.items i inside in
+    let b = connected.built i x.0 x.1 in
+    let l' : p < length x.0.streams.items = subst (λ o. p < arity_in o) x.1 l in
+    subst (λ o. stream_in o p < length program.streams.items) (sym x.1) (b.streams p l')
+
+pub producer_in : (program : Program) → IsConnected program → (s : ℕ) → s < length program.streams.items → producer_of program s < length program.instances.items
+producer_in program connected s l =
+    let r = has_item program.streams.items s l in
+    let k = connected.linked s r.0 r.1 in
+    subst (λ n. n < length program.instances.items) (sym k.producer) k.producer_in
+
+pub consumer_in : (program : Program) → IsConnected program → (s : ℕ) → s < length program.streams.items → consumer_of program s < length program.instances.items
+consumer_in program connected s l =
+    let r = has_item program.streams.items s l in
+    let k = connected.linked s r.0 r.1 in
+    subst (λ n. n < length program.instances.items) (sym k.consumer) k.consumer_in
+
+-- what a reading port is loaded from
+pub list_read : (program : Program) (all : List Ports) (writers : List ℕ) (s s' j q : ℕ) (x : Ports) (list : List Token) → s ≡ s' → j ≡ producer_of program s → slice_index writers s ≡ q → slice_get all j ≡ Some x → list ≡ carried x q → list ≡ list_at program all writers s'
+list_read program all writers s s' j q x list es ej qw at e =
+    e ∙ ap (λ o. carried_by o q) (sym at) ∙ ap (λ z. carried_of all z q) ej ∙ ap (carried_of all (producer_of program s)) (sym qw) ∙ ap (list_at program all writers) es
+
+kind_of_end : (program : Program) → IsConnected program → (i p : ℕ) (all : List Ports) (x : Ports) → p < arity program i → slice_get all i ≡ Some x → ends_in all i ≡ ends_at program i → kind_at x p ≡ stream_kind program (stream_at program i p)
+kind_of_end program connected i p all x l e h = ap (λ ends. kind_in ends p) (ap ends_by (sym e) ∙ h) ∙ connected.kinds i p l
+
+-- the two ends of a stream have its kind
+pub same_kind : (program : Program) → IsConnected program → (all : List Ports) (writers : List ℕ) (i p s j q : ℕ) (x y : Ports) → ((i : ℕ) → i < length program.instances.items → ends_in all i ≡ ends_at program i) → i < length program.instances.items → Reads program i p → s ≡ stream_at program i p → j ≡ producer_of program s → j < length program.instances.items → slice_index writers s ≡ q → IsWriter program s (producer_of program s) (slice_index writers s) → slice_get all i ≡ Some x → slice_get all j ≡ Some y → kind_at y q ≡ kind_at x p
+same_kind program connected all writers i p s j q x y ends inside d es ej lj qw w ex ey =
+    let w' : IsWriter program s j q = subst (λ z. IsWriter program s z q) (sym ej) (subst (IsWriter program s (producer_of program s)) qw w) in
+    kind_of_end program connected j q all y w'.0.0 ey (ends j lj) ∙ ap (stream_kind program) (w'.1 ∙ es) ∙ sym (kind_of_end program connected i p all x d.0 ex (ends i inside))
+
+-- the port is there
+pub port_in : (program : Program) → IsConnected program → (all : List Ports) → ((i : ℕ) → i < length program.instances.items → ends_in all i ≡ ends_at program i) → (i p : ℕ) → i < length program.instances.items → p < arity program i → (x : Ports) → slice_get all i ≡ Some x → p < port_count x
+port_in program connected all ends i p inside l x ex =
+    let it = has_item program.instances.items i inside in
+    let b = connected.built i it.0 it.1 in
+    let l' : p < length it.0.streams.items = subst (λ o. p < arity_in o) it.1 l in
+    let e = ap length (ap ends_by (sym ex) ∙ ends i inside) in
+    let n = port_count_is x in
+    let m = b.as_many in
+    omega arith
+
+pub read_or_write : (program : Program) (i p : ℕ) → Reads program i p → Writes program i p → ⊥
+read_or_write program i p r w = let a = r.1 in let b = w.1 in cc
+
+pub kept_none : (a : List Ports) (o : List ℕ) → AreKept a o a o
+kept_none a o = record { len = refl; ends = λ j. refl; carries = λ j q. refl; offered_len = refl }
+
+pub kept_more : (a b c : List Ports) (o o' o'' : List ℕ) (i p : ℕ) → AreKept a o b o' → IsReloaded b i p c → length o'' ≡ length o' → AreKept a o c o''
+kept_more a b c o o' o'' i p h r e = record {
+  len = r.len ∙ h.len;
+  ends = λ j. r.ends j ∙ h.ends j;
+  carries = λ j q. r.carries j q ∙ h.carries j q;
+  offered_len = e ∙ h.offered_len;
+}
+
+pub loaded_none : (program : Program) (i : ℕ) (a b : List Ports) (w t o : List ℕ) → AreLoaded program 0 i a w t b o
+loaded_none program i a b w t o = record {
+  waits = λ p l d. absurd (omega arith);
+  offers = λ p l d. absurd (omega arith);
+  rooms = λ p l d. absurd (omega arith);
+}
+
+pub loaded_more : (program : Program) → IsConnected program → (i p : ℕ) → i < length program.instances.items → (a b c : List Ports) (w t o o' o'' : List ℕ) → AreKept a o b o' → AreLoaded program p i a w t b o' → IsReloaded b i p c → IsLoaded program i p b w t o' c o'' → AreLoaded program (p + 1) i a w t c o''
+loaded_more program connected i p inside a b c w t o o' o'' k h r f = record {
+  waits = λ q l d.
+      ⊎_elim
+      (λ (e : q < p). r.waits q (λ x. omega arith) ∙ h.waits q e d)
+      (λ (e : p ≤ q). let same : p ≡ q = omega arith in
+      subst (λ x. Reads program i x → waiting_of c i x ≡ queue_at program a w t (stream_at program i x)) same
+      (λ d'. f.waits d' ∙ ap (drop (slice_index t (stream_at program i p))) (k.carries (producer_of program (stream_at program i p)) (slice_index w (stream_at program i p)))) d)
+      (cases_lt q p);
+  offers = λ q l d.
+      ⊎_elim
+      (λ (e : q < p). f.others (stream_at program i q) (λ d' x. let y = connected.reads_one i q p d d' x in omega arith) ∙ h.offers q e d)
+      (λ (e : p ≤ q). let same : p ≡ q = omega arith in
+      subst (λ x. Reads program i x → slice_index o'' (stream_at program i x) ≡ length (list_at program a w (stream_at program i x))) same
+      (λ d'. f.offers d' ∙ ap length (k.carries (producer_of program (stream_at program i p)) (slice_index w (stream_at program i p)))) d)
+      (cases_lt q p);
+  rooms = λ q l d.
+      ⊎_elim
+      (λ (e : q < p). r.rooms q (λ x. omega arith) ∙ h.rooms q e d)
+      (λ (e : p ≤ q). let same : p ≡ q = omega arith in
+      subst (λ x. Writes program i x → room_of c i x ≡ depth_of program (stream_at program i x) - (length (carried_of a i x) - slice_index t (stream_at program i x))) same
+      (λ d'. f.room d' ∙ ap (λ l. depth_of program (stream_at program i p) - (length l - slice_index t (stream_at program i p))) (k.carries i p)) d)
+      (cases_lt q p);
+}
+
+-- what is collected at one more port
+pub took_more : (program : Program) → IsConnected program → (i p : ℕ) → i < length program.instances.items → (all : List Ports) (o t t' t'' : List ℕ) → ((q : ℕ) → q < p → Reads program i q → slice_index t' (stream_at program i q) ≡ slice_index o (stream_at program i q) - length (waiting_of all i q)) → (Reads program i p → slice_index t'' (stream_at program i p) ≡ slice_index o (stream_at program i p) - length (waiting_of all i p)) → ((s : ℕ) → (Reads program i p → s ≡ stream_at program i p → ⊥) → slice_index t'' s ≡ slice_index t' s) → (q : ℕ) → q < p + 1 → Reads program i q → slice_index t'' (stream_at program i q) ≡ slice_index o (stream_at program i q) - length (waiting_of all i q)
+took_more program connected i p inside all o t t' t'' h f g q l d =
+    ⊎_elim
+    (λ (e : q < p). g (stream_at program i q) (λ d' x. let y = connected.reads_one i q p d d' x in omega arith) ∙ h q e d)
+    (λ (e : p ≤ q). let same : p ≡ q = omega arith in
+    subst (λ x. Reads program i x → slice_index t'' (stream_at program i x) ≡ slice_index o (stream_at program i x) - length (waiting_of all i x)) same f d)
+    (cases_lt q p)
+
+get_append : {A : Type 0} (xs ys : List A) (n : ℕ) (x : A) → slice_get xs n ≡ Some x → slice_get (xs ++ ys) n ≡ Some x
+get_append [] ys n x e = cc
+get_append (z ∷ xs) ys zero x e = e
+get_append (z ∷ xs) ys (suc n) x e = get_append xs ys n x e
+
+get_last : {A : Type 0} (xs : List A) (x : A) → slice_get (xs ++ x ∷ []) (length xs) ≡ Some x
+get_last [] x = refl
+get_last (z ∷ xs) x = get_last xs x
+
+pub in_more : (xs ys : List ℕ) (x : ℕ) → IsIn x xs → IsIn x (xs ++ ys)
+in_more xs ys x (n, e) = (n, get_append xs ys n x e)
+
+pub in_last : (xs : List ℕ) (x : ℕ) → IsIn x (xs ++ x ∷ [])
+in_last xs x = (length xs, get_last xs x)
+
+pub below_push : (m : ℕ) (xs : List ℕ) (y : ℕ) → AreBelow m xs → y < m → AreBelow m (xs ++ y ∷ [])
+below_push m [] y h l zero x e = let q : y ≡ x = cc in omega arith
+below_push m [] y h l (suc n) x e = cc
+below_push m (z ∷ xs) y h l zero x e = h zero x e
+below_push m (z ∷ xs) y h l (suc n) x e = below_push m xs y (λ n' x' e'. h (suc n') x' e') l n x e
+
+-- what is on a list is on a longer one
+pub woken_by : (program : Program) (i p : ℕ) (xs zs : List ℕ) → ((x : ℕ) → IsIn x xs → IsIn x zs) → AreWoken program i p xs → AreWoken program i p zs
+woken_by program i p xs zs kept h = record { reader = λ d. kept _ (h.reader d); writer = λ d. kept _ (h.writer d) }
+
+-- one more port's other end is on the list
+pub woken_more : (program : Program) (i p : ℕ) (xs zs : List ℕ) (y : ℕ) → ((x : ℕ) → IsIn x xs → IsIn x zs) → IsIn y zs → ((q : ℕ) → q < p → AreWoken program i q xs) → (Writes program i p → y ≡ consumer_of program (stream_at program i p)) → (Reads program i p → y ≡ producer_of program (stream_at program i p)) → (q : ℕ) → q < p + 1 → AreWoken program i q zs
+woken_more program i p xs zs y kept there h w r q l =
+    ⊎_elim
+    (λ (e : q < p). woken_by program i q xs zs kept (h q e))
+    (λ (e : p ≤ q). let same : p ≡ q = omega arith in
+    subst (λ x. AreWoken program i x zs) same
+    (record {
+      reader = λ d. subst (λ z. IsIn z zs) (w d) there;
+      writer = λ d. subst (λ z. IsIn z zs) (r d) there;
+    }))
+    (cases_lt q p)
+
+-- an instance is listed
+pub listed_push : (listed listed' : List Bool) (xs zs : List ℕ) (j : ℕ) → AreListed listed xs → listed' ≡ slice_set listed j true → zs ≡ xs ++ j ∷ [] → AreListed listed' zs
+listed_push listed listed' xs zs j h el ez x e =
+    subst (IsIn x) (sym ez)
+    (⊎_elim
+    (λ (s : j ≡ x). subst (λ z. IsIn z (xs ++ j ∷ [])) s (in_last xs j))
+    (λ (d : j ≡ x → ⊥). in_more xs (j ∷ []) x (h x (sym (get_set_other listed j x true d) ∙ ap (λ l. slice_get l x) (sym el) ∙ e)))
+    (cases_eq j x))
+
+pub all_push : (i : ℕ) (xs : List ℕ) → ((j : ℕ) → j < i → IsIn j xs) → (j : ℕ) → j < i + 1 → IsIn j (xs ++ i ∷ [])
+all_push i xs h j l =
+    ⊎_elim
+    (λ (e : j < i). in_more xs (i ∷ []) j (h j e))
+    (λ (e : i ≤ j). let same : i ≡ j = omega arith in subst (λ z. IsIn z (xs ++ i ∷ [])) same (in_last xs i))
+    (cases_lt j i)
+
+-- one more item of a list is on another
+pub all_more : (near xs zs : List ℕ) (n y : ℕ) → slice_get near n ≡ Some y → ((x : ℕ) → IsIn x xs → IsIn x zs) → IsIn y zs → ((m x : ℕ) → m < n → slice_get near m ≡ Some x → IsIn x xs) → (m x : ℕ) → m < n + 1 → slice_get near m ≡ Some x → IsIn x zs
+all_more near xs zs n y at kept there h m x l e =
+    ⊎_elim
+    (λ (q : m < n). kept x (h m x q e))
+    (λ (q : n ≤ m).
+    let same : m ≡ n = omega arith in
+    let here : slice_get near n ≡ Some x = subst (λ z. slice_get near z ≡ Some x) same e in
+    let is : y ≡ x = cc in
+    subst (λ z. IsIn z zs) is there)
+    (cases_lt m n)
+
+-- nothing is in an empty list
+pub none_in : {A : Type 0} (n : ℕ) (x : A) (l : List A) → l ≡ [] → slice_get l n ≡ Some x → ⊥
+none_in n x [] e h = cc
+none_in n x (y ∷ l) e h = cc
+
+-- no instance is listed at first
+pub none_listed : (n x : ℕ) → slice_get (replicate n false) x ≡ Some true → ⊥
+none_listed zero x e = cc
+none_listed (suc n) zero e = cc
+none_listed (suc n) (suc x) e = none_listed n x e
+
+each_next : {A : Type 0} (xs : List A) (y : A) (P : ℕ → A → Type 0) → ((i : ℕ) (x : A) → slice_get xs i ≡ Some x → P i x) → P (length xs) y → (i : ℕ) (x : A) → slice_get (xs ++ y ∷ []) i ≡ Some x → P i x
+each_next [] y P h g zero x at = let q : y ≡ x = cc in subst (P 0) q g
+each_next [] y P h g (suc i) x at = cc
+each_next (z ∷ xs) y P h g zero x at = h zero x at
+each_next (z ∷ xs) y P h g (suc i) x at = each_next xs y (λ n. P (suc n)) (λ n w k. h (suc n) w k) g i x at
+
+-- what holds of each item of a list and of one more
+pub each_push : {A : Type 0} (xs zs : List A) (y : A) (P : ℕ → A → Type 0) → zs ≡ xs ++ y ∷ [] → ((i : ℕ) (x : A) → slice_get xs i ≡ Some x → P i x) → P (length xs) y → (i : ℕ) (x : A) → slice_get zs i ≡ Some x → P i x
+each_push xs zs y P e h g i x at = each_next xs y P h g i x (subst (λ v. slice_get v i ≡ Some x) e at)
+
+-- a tie has the position of its stream's writer
+pub tie_written : (program : Program) → IsConnected program → (writers : List ℕ) (i p : ℕ) (tie : Tie) → ((s : ℕ) → s < length program.streams.items → IsWriter program s (producer_of program s) (slice_index writers s)) → IsTie program i p tie → slice_index writers tie.stream ≡ tie.position
+tie_written program connected writers i p tie w t =
+    let a = w tie.stream t.stream_in in
+    connected.writes_one (producer_of program tie.stream) (slice_index writers tie.stream) tie.position a.0 t.writer.0 (a.1 ∙ sym t.writer.1)

@@ -1,4 +1,0 @@
-pub mod Kinds
-pub mod Ports
-pub mod Job
-pub mod Resume

@@ -1,0 +1,8 @@
+use Rattle.std.proofs.Common.{◌≡◌, drop}
+use Rattle.std.specs.List.{list_all}
+use Rattle.serde_json.specs.View.{view}
+use Rattle.plan_device.specs.Json.{is_inside}
+use Rattle.plan_device.proofs.passes.are_inside.Given as goal
+
+abbrev pub invariant-loop-value : goal.invariant-loop-value
+invariant-loop-value l = list_all (λ value. is_inside l.grid (view value)) l.values ≡ list_all (λ value. is_inside l.grid (view value)) (drop l.value-index l.values)

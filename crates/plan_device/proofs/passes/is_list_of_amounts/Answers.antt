@@ -1,0 +1,12 @@
+use Rattle.std.proofs.Common.{sym, ap, ◌∙◌}
+use Rattle.std.specs.List.{list_all}
+use Rattle.serde_json.specs.View.{view}
+use Rattle.serde_json.specs.declared.value.Value.{Value}
+use Rattle.plan_device.specs.Json.{is_amounts}
+use Rattle.plan_device.proofs.Entries.{is_list_of_view}
+use Rattle.plan_device.proofs.passes.is_list_of_amounts.Goals as goal
+
+pub returns-in-Some : goal.returns-in-Some
+returns-in-Some c =
+    c.are_amounts.ensures ∙ ap (list_all (λ (value : Value). is_amounts (view value))) c.as_slice.ensures.value
+    ∙ sym (is_list_of_view is_amounts (view c.args.value.now) c.in-Some.list.now.items (sym c.in-Some.ensures))

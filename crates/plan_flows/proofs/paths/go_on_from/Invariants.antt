@@ -1,5 +1,0 @@
-use Rattle.plan_flows.specs.Paths.{ArePaths}
-use Rattle.plan_flows.proofs.paths.go_on_from.Given as goal
-
-abbrev pub invariant-loop-place : goal.invariant-loop-place
-invariant-loop-place l = ArePaths l.graph l.paths

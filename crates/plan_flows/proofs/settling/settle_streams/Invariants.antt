@@ -1,5 +1,0 @@
-use Rattle.plan_flows.specs.Moves.{IsCarried}
-use Rattle.plan_flows.proofs.settling.settle_streams.Given as goal
-
-abbrev pub invariant-loop-stream : goal.invariant-loop-stream
-invariant-loop-stream l = IsCarried l.graph l.flow.items

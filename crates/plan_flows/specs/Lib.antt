@@ -1,4 +1,0 @@
-pub mod Moves
-pub mod Log
-pub mod Search
-pub mod Paths

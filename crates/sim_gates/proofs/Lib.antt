@@ -1,0 +1,14 @@
+pub mod Operating
+pub mod Parts
+pub mod Pairs
+pub mod AtomSlots
+pub mod Operands
+pub mod Operated
+pub mod Fronts
+pub mod Copying
+pub mod Halves
+pub mod Walking
+pub mod Putting
+pub mod Storing
+pub mod Stepping
+pub mod Readying

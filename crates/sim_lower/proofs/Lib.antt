@@ -1,4 +1,0 @@
-pub mod Operating
-pub mod Parts
-pub mod Pairs
-pub mod AtomSlots

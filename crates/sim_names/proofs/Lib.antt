@@ -1,9 +1,0 @@
-pub mod Got
-pub mod Names
-pub mod Ports
-pub mod Writes
-pub mod Tabled
-pub mod Tabling
-pub mod Counted
-pub mod Standing
-pub mod Linked

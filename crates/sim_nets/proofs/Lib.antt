@@ -1,3 +1,0 @@
-pub mod Edged
-pub mod Ordered
-pub mod Earlier

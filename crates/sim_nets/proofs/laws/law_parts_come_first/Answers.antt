@@ -1,5 +1,0 @@
-use Rattle.sim_nets.proofs.Earlier.{drivers_come_first, asked_come_first}
-use Rattle.sim_nets.proofs.laws.law_parts_come_first.Goals as goal
-
-pub returns : goal.returns
-returns c = record { drivers = drivers_come_first; asked = asked_come_first }

@@ -1,6 +1,0 @@
-use Rattle.std.proofs.Common.{◌≡◌, ◌++◌}
-use Rattle.sim_names.specs.Edges.{instance_edges, edges_below}
-use Rattle.sim_nets.proofs.order.add_instances.Given as goal
-
-abbrev pub invariant-loop-k : goal.invariant-loop-k
-invariant-loop-k l = l.edges.items ≡ l.fn.edges.items ++ edges_below (instance_edges l.modules l.flat) l.k

@@ -1,9 +1,0 @@
-pub mod Parts
-pub mod Driving
-pub mod Joining
-pub mod Answering
-pub mod Undriven
-pub mod Owning
-pub mod Reading
-pub mod Telling
-pub mod Giving

@@ -1,6 +1,0 @@
-use Rattle.std.proofs.Common.{ℕ, ◌<◌}
-use Rattle.sim_placed.specs.Lines.{IsLabelAt}
-use Rattle.sim_placed.proofs.answered.place_of_label.Given as goal
-
-abbrev pub invariant-loop-place : goal.invariant-loop-place
-invariant-loop-place l = (i : ℕ) → i < l.place → IsLabelAt l.labels i l.label → ⊥

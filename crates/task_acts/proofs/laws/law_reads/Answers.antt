@@ -1,5 +1,0 @@
-use Rattle.task_acts.proofs.Answered.{reads_are_shown, value_is_shown, index_is_shown}
-use Rattle.task_acts.proofs.laws.law_reads.Goals as goal
-
-pub returns : goal.returns
-returns c = record { reads = reads_are_shown; value = value_is_shown; index = index_is_shown }

@@ -1,8 +1,0 @@
-// Laws on what the outputs of a task's module rest on.
-
-ghost use Rattle.task_rests.specs.Rests.{OnlyTakesRest};
-
-/// No output of a task's module rests on an input in the same cycle, but those that take a token.
-pub fn law_task_rests()
-    ensures { OnlyTakesRest }
-{}

@@ -1,5 +1,0 @@
-use Rattle.vlog_grammar.proofs.Cuts.{one_list}
-use Rattle.vlog_grammar.proofs.laws.law_one_list_of_words.Goals as goal
-
-pub returns : goal.returns
-returns c = λ text some others h k. one_list text some others h k

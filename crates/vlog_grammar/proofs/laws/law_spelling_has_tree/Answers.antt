@@ -1,5 +1,0 @@
-use Rattle.vlog_grammar.proofs.Spelled.{spelling_has_tree}
-use Rattle.vlog_grammar.proofs.laws.law_spelling_has_tree.Goals as goal
-
-pub returns : goal.returns
-returns c = λ ms form numbers some. spelling_has_tree ms form numbers some

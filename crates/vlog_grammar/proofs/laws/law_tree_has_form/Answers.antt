@@ -1,5 +1,0 @@
-use Rattle.vlog_grammar.proofs.Formed.{tree_formed}
-use Rattle.vlog_grammar.proofs.laws.law_tree_has_form.Goals as goal
-
-pub returns : goal.returns
-returns c = tree_formed

@@ -1,5 +1,0 @@
-use Rattle.vlog_graph.proofs.Visits.{no_cycle}
-use Rattle.vlog_graph.proofs.order.law_order_has_no_cycle.Goals as goal
-
-pub returns : goal.returns
-returns c = λ g order o k h. no_cycle g order o k h

@@ -1,5 +1,0 @@
-use Rattle.vlog_law_loops.proofs.Flat.{loops_are_flat}
-use Rattle.vlog_law_loops.proofs.laws.law_loops_are_flat.Goals as goal
-
-pub returns : goal.returns
-returns c = λ ms root s forms sound only flat h. loops_are_flat ms root s forms sound only flat h

@@ -1,5 +1,0 @@
-use Rattle.vlog_law_runs.proofs.Settled.{design_settles}
-use Rattle.vlog_law_runs.proofs.laws.law_design_is_grounded.Goals as goal
-
-pub returns : goal.returns
-returns c = λ ms top m d at n. design_settles ms top d m at n

@@ -1,5 +1,0 @@
-use Rattle.vlog_law_runs.proofs.Inputs.{one_run}
-use Rattle.vlog_law_runs.proofs.laws.law_one_run_of_inputs.Goals as goal
-
-pub returns : goal.returns
-returns c = λ ms top m inputs contents d at fits. one_run ms top m d at inputs contents fits

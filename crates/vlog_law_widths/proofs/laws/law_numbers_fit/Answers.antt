@@ -1,5 +1,0 @@
-use Rattle.vlog_law_widths.proofs.Fitting.{run_fits}
-use Rattle.vlog_law_widths.proofs.laws.law_numbers_fit.Goals as goal
-
-pub returns : goal.returns
-returns c = λ ms top m env nets d at fits r. run_fits ms top m d at env fits nets r

@@ -1,9 +1,0 @@
-use Rattle.std.proofs.Common.{subst}
-use Rattle.vlog_read_words.specs.declared.coming.Coming.TheVariants.{Nothing}
-use Rattle.vlog_parse_value.specs.declared.state.State.{State}
-use Rattle.vlog_parse_value.specs.Reading.{behind}
-use Rattle.vlog_parse.specs.Finishing.{IsFormed}
-use Rattle.vlog_parse.proofs.design.state_next.Goals as goal
-
-pub item_next-requires : goal.item_next-requires
-item_next-requires c = subst (λ (s : State). IsFormed (behind Nothing s)) c.in-Item.is c.requires

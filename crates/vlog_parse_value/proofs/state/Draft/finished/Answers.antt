@@ -1,4 +1,0 @@
-use Rattle.vlog_parse_value.proofs.state.Draft.finished.Goals as goal
-
-pub of-requires : goal.of-requires
-of-requires c = rw (c.into_vec.ensures, c.into_vec-2.ensures) c.requires

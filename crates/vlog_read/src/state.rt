@@ -1,0 +1,362 @@
+// What is read so far, and what may come next.
+
+ghost use Rattle.std.specs.Prelude.{◌≡◌, IfOk, OnOk};
+ghost use Rattle.vlog_tree.specs.Form.{IsModule};
+ghost use Rattle.vlog_read.specs.ValueReading as spec;
+
+use crate::held::Held;
+use std::alloc::{AllocError, Global};
+use tapa_base::Text;
+use vlog_lex::{Coming, Listed, Parts};
+use vlog_tree::{Atom, BinaryOp, Connection, Item, Module, PortDecl, Step};
+
+/// Modules that are whole, and the module that is read, as far as it is.
+#[derive(Drop)]
+pub struct Draft {
+    pub modules: Listed<Module>,
+    pub name: Text,
+    pub ports: Listed<PortDecl>,
+    pub items: Listed<Item>,
+}
+
+/// The steps of a block so far, and the parts that are open.
+#[derive(Drop)]
+pub struct Steps {
+    pub steps: Listed<Step>,
+    pub parts: Parts,
+}
+
+/// An instance as far as it is read.
+#[derive(Drop)]
+pub struct Joining {
+    pub child: Text,
+    pub name: Text,
+    pub connections: Listed<Connection>,
+}
+
+/// What a range and a name declare.
+#[derive(Clone, Copy)]
+pub enum Declared {
+    Input,
+    Output,
+    Wire,
+    Reg,
+}
+
+/// What an atom is read for.
+#[derive(Drop)]
+pub enum Purpose {
+    /// The first atom of what drives a net.
+    First(Text),
+    Inverted(Text),
+    Right(Text, Atom, BinaryOp),
+    Yes(Text, Atom),
+    No(Text, Atom, Atom),
+    Joined(Text, Listed<Atom>),
+    Copied(Text, u32),
+    Assigned(Held<Steps>, Text),
+    Stored(Held<Steps>, Text, Text),
+}
+
+/// What is chosen by the next word between modules, and up to the items of one.
+#[derive(Drop)]
+pub enum HeadState {
+    Between(Listed<Module>),
+    ModuleName(Listed<Module>),
+    PortStart(Held<Draft>),
+    RangeOrName(Held<Draft>, Declared),
+    RangeHigh(Held<Draft>, Declared),
+    DeclaredName(Held<Draft>, Declared, u32),
+    PortNext(Held<Draft>),
+}
+
+/// What is chosen by the next word among items.
+#[derive(Drop)]
+pub enum ItemState {
+    ItemStart(Held<Draft>),
+    RegNext(Held<Draft>, u32, Text),
+    CellsLast(Held<Draft>, u32, Text),
+    InstanceName(Held<Draft>, Text),
+    ConnectionPort(Held<Draft>, Held<Joining>),
+    ConnectionNet(Held<Draft>, Held<Joining>, Text),
+    ConnectionNext(Held<Draft>, Held<Joining>),
+}
+
+/// What is chosen by the next word in an assignment, and in an atom.
+#[derive(Drop)]
+pub enum ValueState {
+    AssignName(Held<Draft>),
+    ValueStart(Held<Draft>, Text),
+    BraceStart(Held<Draft>, Text),
+    ValueNext(Held<Draft>, Text, Held<Atom>),
+    ConcatNext(Held<Draft>, Text, Listed<Atom>),
+    AtomStart(Held<Draft>, Held<Purpose>),
+    AtomNext(Held<Draft>, Held<Purpose>, Text),
+    AtomHigh(Held<Draft>, Held<Purpose>, Text),
+    AtomLow(Held<Draft>, Held<Purpose>, Text, u32),
+    AtomEnd(Held<Draft>, Held<Purpose>, Held<Atom>),
+}
+
+/// What is chosen by the next word in a block.
+#[derive(Drop)]
+pub enum BlockState {
+    StepStart(Held<Draft>, Held<Steps>),
+    AfterEnd(Held<Draft>, Held<Steps>),
+    IfName(Held<Draft>, Held<Steps>),
+    StepTarget(Held<Draft>, Held<Steps>, Text),
+    StepIndex(Held<Draft>, Held<Steps>, Text),
+}
+
+/// What is chosen by the next word.
+#[derive(Drop)]
+pub enum State {
+    Head(HeadState),
+    Item(ItemState),
+    Value(ValueState),
+    Block(BlockState),
+}
+
+/// What must come, and what is chosen behind that. It is moved at each word, so what is read so far is held elsewhere.
+#[derive(Drop)]
+pub struct Reader {
+    pub coming: Coming,
+    pub state: State,
+}
+
+// Readers in which certain words must come, and then a choice of one of the four sorts.
+impl Reader {
+    /// A reader in the head of a module, before these words.
+    pub fn head(coming: Coming, state: HeadState) -> Reader
+        ensures { result ≡ spec.behind coming (State.Head state) }
+    {
+        let state = State::Head(state);
+        Reader { coming, state }
+    }
+
+    /// A reader among the items, before these words.
+    pub fn item(coming: Coming, state: ItemState) -> Reader
+        ensures { result ≡ spec.behind coming (State.Item state) }
+    {
+        let state = State::Item(state);
+        Reader { coming, state }
+    }
+
+    /// A reader in a value, before these words.
+    pub fn value(coming: Coming, state: ValueState) -> Reader
+        ensures { result ≡ spec.behind coming (State.Value state) }
+    {
+        let state = State::Value(state);
+        Reader { coming, state }
+    }
+
+    /// A reader in an `always` block, before these words.
+    pub fn block(coming: Coming, state: BlockState) -> Reader
+        ensures { result ≡ spec.behind coming (State.Block state) }
+    {
+        let state = State::Block(state);
+        Reader { coming, state }
+    }
+
+    /// A reader in front of an atom.
+    pub fn atom(
+        alloc: Global,
+        coming: Coming,
+        draft: Held<Draft>,
+        purpose: Purpose,
+    ) -> Result<Reader, AllocError>
+        ensures { IfOk result (λ r. r ≡ spec.behind coming (State.Value (ValueState.AtomStart draft purpose))) }
+    {
+        let purpose = Held::new(alloc, purpose)?;
+        Ok(Reader::value(coming, ValueState::AtomStart(draft, purpose)))
+    }
+
+    /// A reader behind an item, before the words that end it.
+    pub fn item_behind(coming: Coming, draft: Held<Draft>, item: Item) -> Result<Reader, AllocError>
+        ensures { IfOk result (λ r. r ≡ spec.item_behind coming draft item) }
+    {
+        let Held { mut held } = draft;
+        held.push_item(item)?;
+        let draft = Held { held };
+        Ok(Reader::item(coming, ItemState::ItemStart(draft)))
+    }
+}
+
+// A state is let go part by part: all at once is more than one function holds.
+
+/// Lets go what a reader in a head holds.
+pub fn discard_head(_state: HeadState) {}
+
+/// Lets go what a reader among items holds.
+pub fn discard_item(_state: ItemState) {}
+
+fn discard_purpose(_draft: Held<Draft>, _purpose: Held<Purpose>) {}
+
+/// Lets go what a reader in a value holds.
+pub fn discard_value(state: ValueState) {
+    match state {
+        ValueState::AssignName(_draft) => {}
+        ValueState::ValueStart(_draft, _net) => {}
+        ValueState::BraceStart(_draft, _net) => {}
+        ValueState::ValueNext(_draft, _net, _first) => {}
+        ValueState::ConcatNext(_draft, _net, _atoms) => {}
+        ValueState::AtomStart(draft, purpose) => discard_purpose(draft, purpose),
+        ValueState::AtomNext(draft, purpose, _name) => discard_purpose(draft, purpose),
+        ValueState::AtomHigh(draft, purpose, _name) => discard_purpose(draft, purpose),
+        ValueState::AtomLow(draft, purpose, _net, _high) => discard_purpose(draft, purpose),
+        ValueState::AtomEnd(draft, purpose, _atom) => discard_purpose(draft, purpose),
+    }
+}
+
+/// Lets go what a reader in a block holds.
+pub fn discard_block(_state: BlockState) {}
+
+/// Lets go what a reader holds.
+pub fn discard(state: State) {
+    match state {
+        State::Head(state) => discard_head(state),
+        State::Item(state) => discard_item(state),
+        State::Value(state) => discard_value(state),
+        State::Block(state) => discard_block(state),
+    }
+}
+
+impl Reader {
+    /// The reader behind this word, where it must come.
+    pub fn expected(self, word: &[u8]) -> Option<Reader>
+        ensures { result ≡ spec.expected self.coming self.state word.now }
+    {
+        let Reader { coming, state } = self;
+        if word == coming.first() {
+            let coming = coming.rest();
+            Some(Reader { coming, state })
+        } else {
+            discard(state);
+            None
+        }
+    }
+}
+
+impl Draft {
+    /// A module of which the name is read.
+    pub fn begun(alloc: Global, modules: Listed<Module>, name: Text) -> Draft
+        ensures { result ≡ spec.begun modules name }
+    {
+        Draft {
+            modules,
+            name,
+            ports: Listed::new(alloc),
+            items: Listed::new(alloc),
+        }
+    }
+
+    /// One more port.
+    pub fn push_port(&mut self, port: PortDecl) -> Result<(), AllocError>
+        ensures { OnOk result (self.new ≡ spec.with_port self.old port) }
+    {
+        self.ports.push(port)?;
+        Ok(())
+    }
+
+    /// One more item.
+    pub fn push_item(&mut self, item: Item) -> Result<(), AllocError>
+        ensures { OnOk result (self.new ≡ spec.with_item self.old item) }
+    {
+        self.items.push(item)?;
+        Ok(())
+    }
+
+    /// The modules with the one that was read.
+    pub fn finished(self) -> Result<Listed<Module>, AllocError>
+        requires { IsModule (spec.module_of self) }
+        ensures { IfOk result (λ ms. ms ≡ spec.finished self) }
+    {
+        let Draft {
+            modules,
+            name,
+            ports,
+            items,
+        } = self;
+        modules.with(Module::of(name, ports.into_vec(), items.into_vec()))
+    }
+}
+
+impl Steps {
+    /// No steps yet, and nothing open.
+    pub fn new(alloc: Global) -> Steps
+        ensures { result ≡ spec.no_steps }
+    {
+        Steps {
+            steps: Listed::new(alloc),
+            parts: Parts::new(alloc),
+        }
+    }
+
+    /// One more step, in the part that is open.
+    pub fn push(&mut self, step: Step) -> Result<(), AllocError>
+        ensures { OnOk result (self.new ≡ spec.with_step self.old step) }
+    {
+        self.steps.push(step)?;
+        Ok(())
+    }
+
+    /// One more step, which opens a part.
+    pub fn push_open(&mut self, step: Step, is_else: bool) -> Result<(), AllocError>
+        ensures { OnOk result (self.new ≡ spec.opened self.old step is_else) }
+    {
+        self.steps.push(step)?;
+        self.parts.push(is_else)?;
+        Ok(())
+    }
+}
+
+impl Held<Steps> {
+    /// The steps with one more, in the part that is open.
+    pub fn with_step(self, step: Step) -> Result<Held<Steps>, AllocError>
+        ensures { IfOk result (λ s. s ≡ spec.with_step self step) }
+    {
+        let Held { mut held } = self;
+        held.push(step)?;
+        Ok(Held { held })
+    }
+
+    /// The steps with one more, which opens a part.
+    pub fn opened(self, step: Step, is_else: bool) -> Result<Held<Steps>, AllocError>
+        ensures { IfOk result (λ s. s ≡ spec.opened self step is_else) }
+    {
+        let Held { mut held } = self;
+        held.push_open(step, is_else)?;
+        Ok(Held { held })
+    }
+}
+
+impl Joining {
+    /// One more connection.
+    pub fn push(&mut self, connection: Connection) -> Result<(), AllocError>
+        ensures { OnOk result (self.new ≡ spec.with_connection self.old connection) }
+    {
+        self.connections.push(connection)?;
+        Ok(())
+    }
+}
+
+impl Held<Draft> {
+    /// The draft with one more port.
+    pub fn with_port(self, port: PortDecl) -> Result<Held<Draft>, AllocError>
+        ensures { IfOk result (λ d. d ≡ spec.with_port self port) }
+    {
+        let Held { mut held } = self;
+        held.push_port(port)?;
+        Ok(Held { held })
+    }
+}
+
+impl Held<Joining> {
+    /// The instance with one more connection.
+    pub fn with_connection(self, connection: Connection) -> Result<Held<Joining>, AllocError>
+        ensures { IfOk result (λ q. q ≡ spec.with_connection self connection) }
+    {
+        let Held { mut held } = self;
+        held.push(connection)?;
+        Ok(Held { held })
+    }
+}

@@ -1,0 +1,410 @@
+// Atoms, and what drives a net.
+
+ghost use Rattle.std.specs.Prelude.{◌≡◌, IfOk};
+ghost use Rattle.vlog_read.specs.ValueReading as spec;
+
+use crate::held::Held;
+use crate::state::{BlockState, Draft, Purpose, Reader, Steps, ValueState};
+use std::alloc::{AllocError, Global};
+use tapa_base::Text;
+use vlog_lex::{Coming, Listed, is_name_word, is_number, literal_of, name_of, width_at};
+use vlog_tree::{Atom, Atoms, BinaryOp, Item, Step, Value};
+
+/// A reader behind what drives a net, and the words that end it.
+fn driven(draft: Held<Draft>, coming: Coming, net: Text, value: Value) -> Result<Reader, AllocError>
+    ensures { IfOk result (λ r. r ≡ spec.driven draft coming net value) }
+{
+    Reader::item_behind(coming, draft, Item::Assign { net, value })
+}
+
+/// The net that is driven.
+pub fn assign_name(
+    alloc: Global,
+    draft: Held<Draft>,
+    word: &[u8],
+) -> Result<Option<Reader>, AllocError>
+    ensures { IfOk result (λ o. o ≡ spec.assign_name draft word.now) }
+{
+    if !is_name_word(word) {
+        return Ok(None);
+    }
+    let net = name_of(alloc, word)?;
+    Ok(Some(Reader::value(Coming::Equals, ValueState::ValueStart(draft, net))))
+}
+
+/// Where an atom must come: a name, which may go on, or a literal.
+pub fn atom_start(
+    alloc: Global,
+    draft: Held<Draft>,
+    purpose: Held<Purpose>,
+    word: &[u8],
+) -> Result<Option<Reader>, AllocError>
+    ensures { IfOk result (λ o. o ≡ spec.atom_start draft purpose word.now) }
+{
+    if is_name_word(word) {
+        let name = name_of(alloc, word)?;
+        return Ok(Some(Reader::value(Coming::Nothing, ValueState::AtomNext(draft, purpose, name))));
+    }
+    match literal_of(word) {
+        Some(atom) => {
+            let atom = Held::new(alloc, atom)?;
+            Ok(Some(Reader::value(Coming::Nothing, ValueState::AtomEnd(draft, purpose, atom))))
+        }
+        None => Ok(None),
+    }
+}
+
+/// Where must come what drives a net.
+pub fn value_start(
+    alloc: Global,
+    draft: Held<Draft>,
+    net: Text,
+    word: &[u8],
+) -> Result<Option<Reader>, AllocError>
+    ensures { IfOk result (λ o. o ≡ spec.value_start draft net word.now) }
+{
+    if word == b"~".as_slice() {
+        let purpose = Purpose::Inverted(net);
+        Ok(Some(Reader::atom(alloc, Coming::Nothing, draft, purpose)?))
+    } else if word == b"{".as_slice() {
+        Ok(Some(Reader::value(Coming::Nothing, ValueState::BraceStart(draft, net))))
+    } else {
+        let purpose = Held::new(alloc, Purpose::First(net))?;
+        atom_start(alloc, draft, purpose, word)
+    }
+}
+
+/// Behind a brace: a number of copies, or the first atom of a concatenation.
+pub fn brace_start(
+    alloc: Global,
+    draft: Held<Draft>,
+    net: Text,
+    word: &[u8],
+) -> Result<Option<Reader>, AllocError>
+    ensures { IfOk result (λ o. o ≡ spec.brace_start draft net word.now) }
+{
+    if is_number(word) {
+        let purpose = Purpose::Copied(net, width_at(word));
+        return Ok(Some(Reader::atom(alloc, Coming::LeftBrace, draft, purpose)?));
+    }
+    let purpose = Held::new(alloc, Purpose::Joined(net, Listed::new(alloc)))?;
+    atom_start(alloc, draft, purpose, word)
+}
+
+/// The operator of arithmetic that a word is, if it is one.
+fn arithmetic_of(word: &[u8]) -> Option<BinaryOp>
+    ensures { result ≡ spec.arithmetic_of word.now }
+{
+    if word == b"+".as_slice() {
+        Some(BinaryOp::Plus)
+    } else if word == b"-".as_slice() {
+        Some(BinaryOp::Minus)
+    } else if word == b"*".as_slice() {
+        Some(BinaryOp::Times)
+    } else if word == b"/".as_slice() {
+        Some(BinaryOp::Divide)
+    } else if word == b"%".as_slice() {
+        Some(BinaryOp::Remainder)
+    } else {
+        None
+    }
+}
+
+/// The operator on bits, or the shift, that a word is, if it is one.
+fn bits_of(word: &[u8]) -> Option<BinaryOp>
+    ensures { result ≡ spec.bits_of word.now }
+{
+    if word == b"&".as_slice() {
+        Some(BinaryOp::And)
+    } else if word == b"|".as_slice() {
+        Some(BinaryOp::Or)
+    } else if word == b"^".as_slice() {
+        Some(BinaryOp::Xor)
+    } else if word == b"<<".as_slice() {
+        Some(BinaryOp::ShiftLeft)
+    } else if word == b">>".as_slice() {
+        Some(BinaryOp::ShiftRight)
+    } else {
+        None
+    }
+}
+
+/// The comparison that a word is, if it is one.
+fn comparison_of(word: &[u8]) -> Option<BinaryOp>
+    ensures { result ≡ spec.comparison_of word.now }
+{
+    if word == b"==".as_slice() {
+        Some(BinaryOp::Equals)
+    } else if word == b"!=".as_slice() {
+        Some(BinaryOp::Differs)
+    } else if word == b"<".as_slice() {
+        Some(BinaryOp::Less)
+    } else {
+        None
+    }
+}
+
+/// The operator that a word is, if it is one.
+fn operator_of(word: &[u8]) -> Option<BinaryOp>
+    ensures { result ≡ spec.operator_of word.now }
+{
+    if let Some(op) = arithmetic_of(word) {
+        return Some(op);
+    }
+    if let Some(op) = bits_of(word) {
+        return Some(op);
+    }
+    comparison_of(word)
+}
+
+/// Behind the first atom of what drives a net.
+pub fn value_next(
+    alloc: Global,
+    draft: Held<Draft>,
+    net: Text,
+    first: Atom,
+    word: &[u8],
+) -> Result<Option<Reader>, AllocError>
+    ensures { IfOk result (λ o. o ≡ spec.value_next draft net first word.now) }
+{
+    if word == b";".as_slice() {
+        return Ok(Some(driven(draft, Coming::Nothing, net, Value::Plain(first))?));
+    }
+    if word == b"?".as_slice() {
+        let purpose = Purpose::Yes(net, first);
+        return Ok(Some(Reader::atom(alloc, Coming::Nothing, draft, purpose)?));
+    }
+    match operator_of(word) {
+        Some(op) => {
+            let purpose = Purpose::Right(net, first, op);
+            Ok(Some(Reader::atom(alloc, Coming::Nothing, draft, purpose)?))
+        }
+        None => Ok(None),
+    }
+}
+
+/// Behind an atom of a concatenation: one more, or the end behind two at least.
+pub fn concat_next(
+    alloc: Global,
+    draft: Held<Draft>,
+    net: Text,
+    atoms: Listed<Atom>,
+    word: &[u8],
+) -> Result<Option<Reader>, AllocError>
+    ensures { IfOk result (λ o. o ≡ spec.concat_next draft net atoms word.now) }
+{
+    if word == b",".as_slice() {
+        let purpose = Purpose::Joined(net, atoms);
+        Ok(Some(Reader::atom(alloc, Coming::Nothing, draft, purpose)?))
+    } else if word == b"}".as_slice() && 2 <= atoms.len() {
+        let value = Value::Concat(Atoms::of(atoms.into_vec()));
+        Ok(Some(driven(draft, Coming::Semicolon, net, value)?))
+    } else {
+        Ok(None)
+    }
+}
+
+/// The word behind what drives a net.
+fn driven_by(
+    draft: Held<Draft>,
+    coming: Coming,
+    net: Text,
+    value: Value,
+    word: &[u8],
+) -> Result<Option<Reader>, AllocError>
+    ensures { IfOk result (λ o. o ≡ spec.expected coming (spec.driven draft coming net value).state word.now) }
+{
+    let reader = driven(draft, coming, net, value)?;
+    Ok(reader.expected(word))
+}
+
+/// The semicolon behind what drives a net.
+fn ended(
+    draft: Held<Draft>,
+    net: Text,
+    value: Value,
+    word: &[u8],
+) -> Result<Option<Reader>, AllocError>
+    ensures { IfOk result (λ o. o ≡ spec.expected Coming.Semicolon (spec.driven draft Coming.Semicolon net value).state word.now) }
+{
+    driven_by(draft, Coming::Semicolon, net, value, word)
+}
+
+/// The semicolon behind a step.
+fn stepped(
+    draft: Held<Draft>,
+    steps: Held<Steps>,
+    step: Step,
+    word: &[u8],
+) -> Result<Option<Reader>, AllocError>
+    ensures { IfOk result (λ o. o ≡ spec.expected Coming.Semicolon (spec.step_behind draft steps step).state word.now) }
+{
+    let steps = steps.with_step(step)?;
+    let reader = Reader::block(Coming::Semicolon, BlockState::StepStart(draft, steps));
+    Ok(reader.expected(word))
+}
+
+fn binary(left: Atom, op: BinaryOp, right: Atom) -> Value
+    ensures { result ≡ Value.Binary left op right }
+{
+    Value::Binary { left, op, right }
+}
+
+fn choose(condition: Atom, yes: Atom, no: Atom) -> Value
+    ensures { result ≡ Value.Choose condition yes no }
+{
+    Value::Choose { condition, yes, no }
+}
+
+fn assign(register: Text, value: Atom) -> Step
+    ensures { result ≡ Step.NonblockingAssign register value }
+{
+    Step::NonblockingAssign { register, value }
+}
+
+fn store(memory: Text, index: Text, value: Atom) -> Step
+    ensures { result ≡ Step.MemoryAssign memory index value }
+{
+    Step::MemoryAssign {
+        memory,
+        index,
+        value,
+    }
+}
+
+/// The colon behind the first of two atoms between which one is chosen.
+fn first_chosen(
+    alloc: Global,
+    draft: Held<Draft>,
+    net: Text,
+    condition: Atom,
+    yes: Atom,
+    word: &[u8],
+) -> Result<Option<Reader>, AllocError>
+    ensures { IfOk result (λ o. o ≡ spec.atom_end draft (Purpose.Yes net condition) yes word.now) }
+{
+    let reader = Reader::atom(
+        alloc,
+        Coming::Colon,
+        draft,
+        Purpose::No(net, condition, yes),
+    )?;
+    Ok(reader.expected(word))
+}
+
+/// Behind an atom that is whole.
+pub fn atom_end(
+    alloc: Global,
+    draft: Held<Draft>,
+    purpose: Held<Purpose>,
+    atom: Atom,
+    word: &[u8],
+) -> Result<Option<Reader>, AllocError>
+    ensures { IfOk result (λ o. o ≡ spec.atom_end draft purpose atom word.now) }
+{
+    let purpose = purpose.into_inner();
+    match purpose {
+        Purpose::First(net) => value_next(alloc, draft, net, atom, word),
+        Purpose::Inverted(net) => ended(draft, net, Value::Invert(atom), word),
+        Purpose::Right(net, left, op) => ended(draft, net, binary(left, op, atom), word),
+        Purpose::Yes(net, condition) => first_chosen(alloc, draft, net, condition, atom, word),
+        Purpose::No(net, condition, yes) => {
+            ended(draft, net, choose(condition, yes, atom), word)
+        }
+        Purpose::Joined(net, atoms) => {
+            let atoms = atoms.with(atom)?;
+            concat_next(alloc, draft, net, atoms, word)
+        }
+        Purpose::Copied(net, count) => {
+            let value = Value::Repeat { count, atom };
+            driven_by(draft, Coming::BracesEnd, net, value, word)
+        }
+        Purpose::Assigned(steps, register) => stepped(draft, steps, assign(register, atom), word),
+        Purpose::Stored(steps, memory, index) => {
+            stepped(draft, steps, store(memory, index, atom), word)
+        }
+    }
+}
+
+/// Behind a name where an atom stands: a part of the net, the cell of a memory, or the whole net.
+pub fn atom_next(
+    alloc: Global,
+    draft: Held<Draft>,
+    purpose: Held<Purpose>,
+    name: Text,
+    word: &[u8],
+) -> Result<Option<Reader>, AllocError>
+    ensures { IfOk result (λ o. o ≡ spec.atom_next draft purpose name word.now) }
+{
+    if word == b"[".as_slice() {
+        Ok(Some(Reader::value(Coming::Nothing, ValueState::AtomHigh(draft, purpose, name))))
+    } else {
+        atom_end(alloc, draft, purpose, Atom::Net(name), word)
+    }
+}
+
+/// The index of a memory, which stands alone behind the net that it drives.
+fn cell_index(
+    alloc: Global,
+    draft: Held<Draft>,
+    purpose: Held<Purpose>,
+    memory: Text,
+    word: &[u8],
+) -> Result<Option<Reader>, AllocError>
+    ensures { IfOk result (λ o. o ≡ spec.cell_index draft purpose memory word.now) }
+{
+    let purpose = purpose.into_inner();
+    match purpose {
+        Purpose::First(net) => {
+            if !is_name_word(word) {
+                return Ok(None);
+            }
+            let index = name_of(alloc, word)?;
+            let value = Value::Cell { memory, index };
+            Ok(Some(driven(draft, Coming::BracketSemicolon, net, value)?))
+        }
+        _ => Ok(None),
+    }
+}
+
+/// Behind a bracket: the high bit of a part, or the index of a memory.
+pub fn atom_high(
+    alloc: Global,
+    draft: Held<Draft>,
+    purpose: Held<Purpose>,
+    name: Text,
+    word: &[u8],
+) -> Result<Option<Reader>, AllocError>
+    ensures { IfOk result (λ o. o ≡ spec.atom_high draft purpose name word.now) }
+{
+    if is_number(word) {
+        let high = width_at(word);
+        return Ok(Some(Reader::value(
+            Coming::Colon,
+            ValueState::AtomLow(draft, purpose, name, high),
+        )));
+    }
+    cell_index(alloc, draft, purpose, name, word)
+}
+
+/// The low bit of a part.
+pub fn atom_low(
+    alloc: Global,
+    draft: Held<Draft>,
+    purpose: Held<Purpose>,
+    net: Text,
+    high: u32,
+    word: &[u8],
+) -> Result<Option<Reader>, AllocError>
+    ensures { IfOk result (λ o. o ≡ spec.atom_low draft purpose net high word.now) }
+{
+    if !is_number(word) {
+        return Ok(None);
+    }
+    let low = width_at(word);
+    let part = Held::new(alloc, Atom::Part { net, high, low })?;
+    Ok(Some(Reader::value(
+        Coming::RightBracket,
+        ValueState::AtomEnd(draft, purpose, part),
+    )))
+}

@@ -1,4 +1,0 @@
-pub mod Ascii
-pub mod Capped
-pub mod NumberWords
-pub mod Keywords

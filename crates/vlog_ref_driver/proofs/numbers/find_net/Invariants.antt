@@ -1,6 +1,0 @@
-use Rattle.std.proofs.Common.{◌≡◌, drop}
-use Rattle.vlog_ref_driver.specs.Numbers.{first_net}
-use Rattle.vlog_ref_driver.proofs.numbers.find_net.Given as goal
-
-abbrev pub invariant-loop-n : goal.invariant-loop-n
-invariant-loop-n l = first_net l.nets l.name ≡ first_net (drop l.n-index l.nets) l.name

@@ -1,9 +1,0 @@
-pub mod Deeper
-pub mod Searched
-pub mod Outside
-pub mod Driven
-pub mod Found
-pub mod Kept
-pub mod Blocks
-pub mod Asked
-pub mod Known

@@ -1,0 +1,3 @@
+pub mod runs
+pub mod loops
+pub mod widths

@@ -1,0 +1,117 @@
+-- Runs of one design from one power-up with the same inputs are the same in each cycle.
+use Rattle.std.proofs.Common.{◌≡◌, ℕ, zero, suc, ◌<◌, true, false, List, [], Some, None, inl, refl, sym, ap, subst, ◌∙◌}
+use Rattle.std.specs.List.{AllByRecursion}
+use Rattle.vlog_tree.specs.declared.tree.Item.{Item}
+use Rattle.vlog_tree.specs.declared.tree.Item.TheVariants.{Wire, Reg, Memory, Assign, Always, Instance}
+use Rattle.vlog_tree.specs.declared.table.NetKind.TheVariants.{Input, Register, MemoryArray}
+use Rattle.vlog_tree.specs.Form.{ModuleTree}
+use Rattle.vlog_tree.specs.Grounded.{Has, IsGrounded}
+use Rattle.vlog_tree.specs.Cycle.{Cycle, Path, Holds, Takes, run_items, Runs, module_at}
+use Rattle.vlog_tree.specs.Table.{Name, declared, net_kind_of, net_kind_is_read, is_clk, first_violation}
+use Rattle.vlog_tree.specs.V2.{v2_uses}
+use Rattle.vlog_tree.specs.V4.{v4_uses}
+use Rattle.vlog_tree.specs.V6.{v6_uses, is_top}
+use Rattle.vlog_tree.specs.Flattened.{FlatNet, parts}
+use Rattle.vlog_run_laws.specs.runs.OneRun.{SameHeld, BeginsWith, IsSameRun}
+use Rattle.vlog_run_laws.proofs.runs.Alone.{register_clock}
+use Rattle.vlog_run_laws.proofs.runs.Settled.{module_in}
+use Rattle.vlog_run_laws.proofs.runs.Sizes.{all_at, all_from, memory_item, declared_net_kind, has_line}
+use Rattle.vlog_run_laws.proofs.runs.Run.{World, worlds, asked_at}
+use Rattle.vlog_run_laws.proofs.runs.Alike.{Alike, items_alike}
+use Rattle.vlog_run_laws.proofs.runs.Solved.{Allowed}
+use Rattle.vlog_run_laws.proofs.runs.Only.{nets_agree}
+
+-- a run whose inputs come from what is around the top; the clock's number is left open
+pub record IsRunIn (ms : List ModuleTree) (root : ModuleTree) (W : Type 0) (around : World W) (nets : ℕ → Path → Cycle) : Type 0 where
+  pub runs : Runs ms root nets
+  pub inputs : (n : ℕ) (x : Name) → net_kind_of (declared root) x ≡ Input → is_clk x ≡ false → (nets n []).net x ≡ around.give (worlds W around nets n) x (asked_at root (nets n) x)
+
+-- what the top's declared nets are decides what is around it in the next cycle
+abbrev pub IsDecided : ModuleTree → (W : Type 0) → World W → Type 0
+IsDecided root W around = (w : W) (c d : Cycle) → ((x : Name) → net_kind_is_read (net_kind_of (declared root) x) ≡ true → is_clk x ≡ false → c.net x ≡ d.net x) → around.next w c ≡ around.next w d
+
+module _ (ms : List ModuleTree) (root : ModuleTree) (names : first_violation (v2_uses ms) ≡ None) (drivers : first_violation (v4_uses ms) ≡ None) (tops : first_violation (v6_uses ms) ≡ None)
+    (in_root : Has ms root) (top_is : is_top ms root.name ≡ true) (settled : (n : FlatNet) → IsGrounded (parts ms root true) n) (W : Type 0) (around : World W) (decided : IsDecided root W around)
+    (a b : ℕ → Path → Cycle) (ra : IsRunIn ms root W around a) (rb : IsRunIn ms root W around b) where
+  allowed : (nets : ℕ → Path → Cycle) → Runs ms root nets → (n : ℕ) → Allowed ms root (nets n)
+  allowed nets r n = record {
+    each = λ path m at. record { sizes = (r.each path m at).sizes; ports = (r.each path m at).ports; lines = (r.each path m at).lines n };
+    connections = r.connections n;
+  }
+
+  abbrev HeldSame : ℕ → Type 0
+  HeldSame n = (path : Path) (m : ModuleTree) → module_at ms root path ≡ Some m → AllByRecursion (SameHeld (b n path) (a n path)) m.items
+
+  module _ (n : ℕ) (world : worlds W around a n ≡ worlds W around b n) (held : HeldSame n) where
+    net_same : (path : Path) (m : ModuleTree) → module_at ms root path ≡ Some m → (x : Name) → net_kind_is_read (net_kind_of (declared m) x) ≡ true → is_clk x ≡ false → (a n path).net x ≡ (b n path).net x
+    net_same path m at x r c =
+        nets_agree ms root names drivers tops in_root top_is (a n) (b n) (allowed a ra.runs n) (allowed b rb.runs n) held (around.give (worlds W around a n)) (ra.inputs n)
+        (λ x s c. rb.inputs n x s c ∙ ap (λ w. around.give w x (asked_at root (b n) x)) (sym world)) (path, x) (settled (path, x)) (record { tree = m; at = at; read = r; clock = c })
+
+    world_next : worlds W around a (suc n) ≡ worlds W around b (suc n)
+    world_next = decided (worlds W around a n) (a n []) (b n []) (net_same [] root refl) ∙ ap (λ w. around.next w (b n [])) world
+
+    module _ (path : Path) (m : ModuleTree) (at : module_at ms root path ≡ Some m) where
+      here : Has ms m
+      here = module_in ms root in_root path m at
+
+      cells_declared : (nets : ℕ → Path → Cycle) (r : Runs ms root nets) (w : ℕ) (x : Name) (k : ℕ) → Has m.items (Memory w x k) → (r.each path m at).sizes.cells x ≡ k
+      cells_declared nets r w x k has = (all_at (Holds (r.each path m at).sizes (nets n path)) m.items (Memory w x k) ((r.each path m at).lines n) has).1
+
+      alike : Alike m (ra.runs.each path m at).sizes (a n path) (b n path)
+      alike = record {
+        nets = net_same path m at;
+        cells = λ x s i low.
+            let t = memory_item m x s in
+            sym (all_at (SameHeld (b n path) (a n path)) m.items (Memory t.0 x t.1) (held path m at) t.2 i (subst (λ k. i < k) (cells_declared a ra.runs t.0 x t.1 t.2) low));
+      }
+
+      left_alike : Alike m (ra.runs.each path m at).sizes (run_items (ra.runs.each path m at).sizes (a n path) m.items (a n path)) (run_items (rb.runs.each path m at).sizes (b n path) m.items (b n path))
+      left_alike =
+          items_alike m (ra.runs.each path m at).sizes (rb.runs.each path m at).sizes
+          (λ x s. let t = memory_item m x s in cells_declared a ra.runs t.0 x t.1 t.2 ∙ sym (cells_declared b rb.runs t.0 x t.1 t.2))
+          (a n path) (b n path) (net_same path m at) ms names here alike
+
+      held_next : (it : Item) → Has m.items it → SameHeld (b (suc n) path) (a (suc n) path) it
+      held_next (Reg w x) has =
+          let net_kind : net_kind_of (declared m) x ≡ Register = declared_net_kind m ms names here _ (has_line m ms names here (Reg w x) has (record { name = x; net_kind = Register; bits = w; cells = 0 }) (inl refl)) in
+          all_at (Takes (rb.runs.each path m at).sizes m.items (b n path) (b (suc n) path)) m.items (Reg w x) ((rb.runs.each path m at).registers n) has
+          ∙ sym (left_alike.nets x (ap net_kind_is_read net_kind) (register_clock ms names m here w x has))
+          ∙ sym (all_at (Takes (ra.runs.each path m at).sizes m.items (a n path) (a (suc n) path)) m.items (Reg w x) ((ra.runs.each path m at).registers n) has)
+      held_next (Memory w x k) has = λ i low.
+          let net_kind : net_kind_of (declared m) x ≡ MemoryArray = declared_net_kind m ms names here _ (has_line m ms names here (Memory w x k) has (record { name = x; net_kind = MemoryArray; bits = w; cells = k }) (inl refl)) in
+          all_at (Takes (rb.runs.each path m at).sizes m.items (b n path) (b (suc n) path)) m.items (Memory w x k) ((rb.runs.each path m at).registers n) has i low
+          ∙ sym (left_alike.cells x net_kind i (subst (λ k. i < k) (sym (cells_declared a ra.runs w x k has)) low))
+          ∙ sym (all_at (Takes (ra.runs.each path m at).sizes m.items (a n path) (a (suc n) path)) m.items (Memory w x k) ((ra.runs.each path m at).registers n) has i low)
+      held_next (Wire w x) has = tt
+      held_next (Assign x e) has = tt
+      held_next (Always s) has = tt
+      held_next (Instance k i connections) has = tt
+
+    all_held_next : HeldSame (suc n)
+    all_held_next path m at = all_from (SameHeld (b (suc n) path) (a (suc n) path)) m.items (held_next path m at)
+
+  same_start : (contents : Path → Cycle) → BeginsWith ms root contents a → BeginsWith ms root contents b → HeldSame 0
+  same_start contents fa fb path m at =
+      all_from (SameHeld (b 0 path) (a 0 path)) m.items (λ it has. by_line it (all_at (SameHeld (a 0 path) (contents path)) m.items it (fa path m at) has) (all_at (SameHeld (b 0 path) (contents path)) m.items it (fb path m at) has)) where
+        by_line : (it : Item) → SameHeld (a 0 path) (contents path) it → SameHeld (b 0 path) (contents path) it → SameHeld (b 0 path) (a 0 path) it
+        by_line (Reg w x) p q = q ∙ sym p
+        by_line (Memory w x k) p q = λ i low. q i low ∙ sym (p i low)
+        by_line (Wire w x) p q = tt
+        by_line (Assign x e) p q = tt
+        by_line (Always s) p q = tt
+        by_line (Instance k i connections) p q = tt
+
+  module _ (start : HeldSame 0) where
+    all_same : (n : ℕ) → (worlds W around a n ≡ worlds W around b n) × HeldSame n
+    all_same zero = (refl, start)
+    all_same (suc n) = let r = all_same n in (world_next n r.0 r.1, all_held_next n r.0 r.1)
+
+    pub same_run : IsSameRun ms root b a
+    same_run = record {
+      nets = λ n path m at x r c. sym (net_same n (all_same n).0 (all_same n).1 path m at x r c);
+      cells = λ n path m at. (all_same n).1 path m at;
+    }
+
+  pub same_from : (contents : Path → Cycle) → BeginsWith ms root contents a → BeginsWith ms root contents b → IsSameRun ms root b a
+  same_from contents fa fb = same_run (same_start contents fa fb)

@@ -1,0 +1,92 @@
+-- In each run of a design every number fits.
+use Rattle.std.proofs.Common.{◌≡◌, ℕ, zero, suc, ◌^◌, ◌<◌, true, List, [], get_or, Some, inl, refl, sym, ap, subst, ◌∙◌}
+use Rattle.std.specs.Prelude.{slice_get}
+use Rattle.vlog_tree.specs.declared.tree.Item.{Item}
+use Rattle.vlog_tree.specs.declared.tree.Item.TheVariants.{Wire, Reg, Memory, Assign, Always, Instance}
+use Rattle.vlog_tree.specs.declared.table.NetKind.TheVariants.{Register}
+use Rattle.vlog_tree.specs.Form.{ModuleTree}
+use Rattle.vlog_tree.specs.Grounded.{Has}
+use Rattle.vlog_tree.specs.Cycle.{Cycle, Path, Holds, PowersUp, Takes, driven, run_items, module_at}
+use Rattle.vlog_tree.specs.Table.{declared, net_kind_of, bits_of, net_kind_is_read, net_kind_is_driven}
+use Rattle.vlog_tree.specs.Environment.{Environment, FitsShape, shape_of, RunsIn}
+use Rattle.vlog_tree.specs.Refused.{IsDesign}
+use Rattle.vlog_run_laws.specs.runs.OneRun.{FitsPowerUp}
+use Rattle.vlog_run_laws.proofs.runs.Sound.{assign_driven, assign_reads, driven_is_read}
+use Rattle.vlog_run_laws.proofs.runs.Alone.{register_clock}
+use Rattle.vlog_run_laws.proofs.runs.Settled.{design_settles, top_tree, IsTopTree, module_in}
+use Rattle.vlog_run_laws.proofs.runs.Sizes.{all_at, all_from, declared_net_kind, has_line, width_held}
+use Rattle.vlog_run_laws.proofs.runs.Solved.{Allowed}
+use Rattle.vlog_run_laws.specs.widths.Widths.{NumbersFit, OutsideFits, RunFits, DriversFit}
+use Rattle.vlog_run_laws.proofs.widths.Bits.{value_operates}
+use Rattle.vlog_run_laws.proofs.widths.Ruled.{assign_width, assign_clock, net_width, step_fits}
+use Rattle.vlog_run_laws.proofs.widths.Steps.{register_bits, items_fit}
+use Rattle.vlog_run_laws.proofs.widths.Nets.{cycle_fits}
+use Rattle.vlog_run_laws.proofs.widths.Given.{input_below, outside_next, mapped_got, listed}
+
+module _ (ms : List ModuleTree) (place : ℕ) (root : ModuleTree) (d : IsDesign ms place) (at_place : slice_get ms place ≡ Some root) (env : Environment) (env_fits : FitsShape env (shape_of root)) (nets : ℕ → Path → Cycle) (r : RunsIn ms root env nets) where
+  tree : IsTopTree ms root
+  tree = top_tree ms place d root at_place
+
+  abbrev run : ℕ → Cycle
+  run n = nets n []
+
+  allowed : (n : ℕ) → Allowed ms root (nets n)
+  allowed n = record {
+    each = λ path m at. record { sizes = (r.runs.each path m at).sizes; ports = (r.runs.each path m at).ports; lines = (r.runs.each path m at).lines n };
+    connections = r.runs.connections n;
+  }
+
+  abbrev AllFit : ℕ → Type 0
+  AllFit n = (path : Path) (m : ModuleTree) → module_at ms root path ≡ Some m → NumbersFit m (nets n path)
+
+  nets_fit : (n : ℕ) → FitsPowerUp ms root (nets n) → OutsideFits root env run n → AllFit n
+  nets_fit n held cells path m at =
+      cycle_fits ms root d.sound.names d.sound.widths d.sound.drivers d.outside tree.has (nets n) (allowed n) held
+      (input_below ms d.sound.names d.outside root tree.has tree.is_top env env_fits run r.stands n cells) (design_settles ms place d root at_place) path m at
+
+  module _ (n : ℕ) (fit : AllFit n) (path : Path) (m : ModuleTree) (at : module_at ms root path ≡ Some m) where
+    here : Has ms m
+    here = module_in ms root tree.has path m at
+
+    left_fits : NumbersFit m (run_items (r.runs.each path m at).sizes (nets n path) m.items (nets n path))
+    left_fits = items_fit ms d.sound.names m here (r.runs.each path m at).sizes (nets n path) (fit path m at) m.items (λ b has. step_fits ms d.sound.widths m here d.sound.names b has) (nets n path) (fit path m at)
+
+    held_next : (it : Item) → Has m.items it → Takes (r.runs.each path m at).sizes m.items (nets n path) (nets (suc n) path) it → PowersUp (nets (suc n) path) it
+    held_next (Reg w x) has t =
+        let net_kind : net_kind_of (declared m) x ≡ Register = declared_net_kind m ms d.sound.names here _ (has_line m ms d.sound.names here (Reg w x) has (record { name = x; net_kind = Register; bits = w; cells = 0 }) (inl refl)) in
+        let low = left_fits.nets x (ap net_kind_is_read net_kind) (register_clock ms d.sound.names m here w x has) in
+        subst (λ v. v < 2 ^ w) (sym t) (subst (λ k. (run_items (r.runs.each path m at).sizes (nets n path) m.items (nets n path)).net x < 2 ^ k) (register_bits ms d.sound.names m here w x has) low)
+    held_next (Memory w x k) has t = λ a low. subst (λ v. v < 2 ^ w) (sym (t a low)) (left_fits.cells w x k has a low)
+    held_next (Wire w x) has t = tt
+    held_next (Assign x e) has t = tt
+    held_next (Always b) has t = tt
+    held_next (Instance k i connections) has t = tt
+
+  all_held_next : (n : ℕ) → AllFit n → FitsPowerUp ms root (nets (suc n))
+  all_held_next n fit path m at =
+      let s = (r.runs.each path m at).sizes in
+      all_from (PowersUp (nets (suc n) path)) m.items (λ it has. held_next n fit path m at it has (all_at (Takes s m.items (nets n path) (nets (suc n) path)) m.items it ((r.runs.each path m at).registers n) has))
+
+  each_cycle : (n : ℕ) → FitsPowerUp ms root (nets n) × OutsideFits root env run n
+  each_cycle zero = ((λ path m at. (r.runs.each path m at).power_up), λ i l got. listed (λ v. v < 2 ^ l.bits) (get_or env.memories i []) (env_fits.numbers.cells_fit i l.bits (mapped_got (shape_of root).memories i l got)))
+  each_cycle (suc n) =
+      let p = each_cycle n in
+      let fit : AllFit n = nets_fit n p.0 p.1 in
+      (all_held_next n fit, outside_next ms d.sound.names d.outside root tree.has tree.is_top env env_fits run r.stands n (fit [] root refl) p.1)
+
+  pub run_fits : RunFits ms root env nets
+  run_fits = record { modules = λ n. nets_fit n (each_cycle n).0 (each_cycle n).1; outside = λ n. (each_cycle n).1 }
+
+  pub drivers_fit : (n : ℕ) (path : Path) (m : ModuleTree) → module_at ms root path ≡ Some m → DriversFit m (nets n path)
+  drivers_fit n path m at s ports lines x e has =
+      let here : Has ms m = module_in ms root tree.has path m at in
+      let fit : NumbersFit m (nets n path) = nets_fit n (each_cycle n).0 (each_cycle n).1 path m at in
+      let drives = assign_driven ms d.sound.names m here x e has in
+      let read : net_kind_is_read (net_kind_of (declared m) x) ≡ true = driven_is_read _ drives in
+      let width : s.width x ≡ bits_of (declared m) x = width_held m s (nets n path) ports lines x net_kind_is_driven refl refl drives in
+      let is : (nets n path).net x ≡ driven s (s.width x) (nets n path) e = all_at (Holds s (nets n path)) m.items (Assign x e) lines has in
+      record {
+        bits = net_width ms d.sound.widths m here x read;
+        operands = value_operates (declared m) s.cells (nets n path) (bits_of (declared m) x) e (assign_width ms d.sound.widths m here x e has) (λ z h. let q = assign_reads ms d.sound.names m here x e has z h in fit.nets z q.0 q.1);
+        value = subst (λ v. v < 2 ^ bits_of (declared m) x) (is ∙ ap (λ w. driven s w (nets n path) e) width) (fit.nets x read (assign_clock ms d.sound.names m here x e has));
+      }

@@ -1,0 +1,37 @@
+// Laws on the runs of designs.
+
+ghost use Rattle.std.specs.Prelude.{◌≡◌, ℕ, List, Some, true, slice_get};
+ghost use Rattle.vlog_tree.specs.Form.{ModuleTree};
+ghost use Rattle.vlog_tree.specs.Grounded.{IsGrounded};
+ghost use Rattle.vlog_tree.specs.Flattened.{FlatNet, parts};
+ghost use Rattle.vlog_tree.specs.Refused.{IsDesign};
+ghost use Rattle.vlog_tree.specs.Table.{Name};
+ghost use Rattle.vlog_tree.specs.Cycle.{Cycle, Path};
+ghost use Rattle.vlog_run_laws.specs.runs.Filled.{FillFits, FilledIsFilled};
+ghost use Rattle.vlog_run_laws.specs.runs.OneRun.{FitsPowerUp, IsRunOf, IsRunFrom, IsOnly};
+ghost use Rattle.vlog_tree.specs.Environment.{Environment};
+
+/// In a design each net of the flattened tree rests on others in finitely many steps, where what a memory of the top
+/// gives rests on the address that it is asked for.
+pub fn law_design_is_grounded()
+    ensures { (ms : List ModuleTree) (top : ℕ) (m : ModuleTree) → IsDesign ms top → slice_get ms top ≡ Some m → (n : FlatNet) → IsGrounded (parts ms m true) n }
+{}
+
+/// A design has exactly one run from each contents that registers and memories can have at power-up, with any numbers on
+/// the top's inputs in each cycle. The clock's number is left open, since no line reads it.
+pub fn law_one_run_of_inputs()
+    ensures { (ms : List ModuleTree) (top : ℕ) (m : ModuleTree) (inputs : ℕ → Name → ℕ) (contents : Path → Cycle)
+        → IsDesign ms top → slice_get ms top ≡ Some m → FitsPowerUp ms m contents → IsOnly ms m (IsRunOf ms m inputs contents) }
+{}
+
+/// A design has exactly one run from each contents that registers and memories can have at power-up, in each environment.
+pub fn law_one_run_in_environment()
+    ensures { (ms : List ModuleTree) (top : ℕ) (m : ModuleTree) (env : Environment) (contents : Path → Cycle)
+        → IsDesign ms top → slice_get ms top ≡ Some m → FitsPowerUp ms m contents → IsOnly ms m (IsRunFrom ms m env contents) }
+{}
+
+/// One number, cut to the width of each register and each cell, is contents that power-up may leave.
+pub fn law_fill()
+    ensures fits { FillFits }
+    ensures filled { FilledIsFilled }
+{}

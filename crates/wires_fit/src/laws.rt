@@ -1,9 +1,0 @@
-// Laws on the form of the wires of expressions.
-
-ghost use Rattle.wires_fit.specs.Built.{ExpressionsFit};
-
-/// The wires of an expression fit behind its registers and the answers of its reads, and the atom with its value has the
-/// bits of its kind.
-pub fn law_wires_fit()
-    ensures { ExpressionsFit }
-{}
