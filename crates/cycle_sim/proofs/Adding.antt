@@ -13,7 +13,7 @@ use Rattle.vlog_tree.specs.Form.{ModuleTree}
 use Rattle.vlog_tree.specs.Cycle.{Cycle, Path}
 use Rattle.vlog_tree.specs.Environment.{Environment, FitsShape, RunsIn, IsDone, shape_of, streams_of, tokens}
 use Rattle.vlog_design.specs.Designs.{DesignTree, TopOf}
-use Rattle.vlog_ref_start.specs.Outside.{lists_of}
+use Rattle.vlog_design.specs.Environments.{lists_of}
 use Rattle.cycle_sim.specs.Told.{IsToldOf}
 use Rattle.cycle_sim.specs.Sims.{SimTree, InRuns, IsNext, IsLater, IsCarried, IsAdded, AreAdded, IsRunTo, IsDoneAt}
 

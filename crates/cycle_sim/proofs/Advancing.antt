@@ -6,7 +6,7 @@ use Rattle.vlog_tree.specs.Form.{ModuleTree}
 use Rattle.vlog_tree.specs.Cycle.{Cycle, Path}
 use Rattle.vlog_tree.specs.Environment.{Environment, FitsShape, RunsIn, shape_of}
 use Rattle.vlog_run_laws.proofs.runs.Settled.{IsTopTree, top_tree}
-use Rattle.vlog_ref_start.specs.Outside.{lists_of}
+use Rattle.vlog_design.specs.Environments.{lists_of}
 use Rattle.cycle_sim.specs.Told.{IsToldOf}
 use Rattle.sim_tape.specs.Operators.{Cells, cells_of}
 use Rattle.sim_tape.specs.Tape.{number_at}

@@ -8,14 +8,14 @@ use Rattle.tapa_base.specs.declared.shape.Port.{Port}
 use Rattle.vlog_tree.specs.declared.tree.PortDecl.{PortDecl}
 use Rattle.vlog_tree.specs.declared.table.Declaration.{Declaration}
 use Rattle.vlog_tree.specs.Form.{ModuleTree, is_input}
-use Rattle.vlog_tree.specs.Grounded.{Has}
+use Rattle.tapa_base.specs.Lists.{Has}
 use Rattle.vlog_tree.specs.Table.{Name, clk, is_clk, declared, port_declared, items_declared, net_kind_of, bits_of, net_kind_is_read, first_violation}
 use Rattle.vlog_tree.specs.Labels.{m_rdata, m_wdata, ack_of, rdata_of}
 use Rattle.vlog_tree.specs.V2.{v2_uses}
 use Rattle.vlog_tree.specs.V6.{v6_uses, rdata_fits, has_all_five, agrees, is_top}
 use Rattle.vlog_tree.specs.Cycle.{Cycle}
 use Rattle.vlog_tree.specs.Environment.{shape_of, memory_label}
-use Rattle.vlog_tree.proofs.Lists.{of_flat}
+use Rattle.tapa_base.proofs.Lists.{of_flat}
 use Rattle.vlog_run_laws.proofs.runs.Sound.{both_true}
 use Rattle.vlog_run_laws.proofs.runs.Cycles.{port_stands}
 use Rattle.vlog_run_laws.proofs.runs.TopPorts.{five_of, five_rdata}

@@ -6,7 +6,7 @@ use Rattle.tapa_base.specs.declared.shape.Port.{Port}
 use Rattle.vlog_tree.specs.declared.tree.Item.TheVariants.{Reg, Memory}
 use Rattle.vlog_tree.specs.declared.table.NetKind.TheVariants as kind
 use Rattle.vlog_tree.specs.Form.{ModuleTree}
-use Rattle.vlog_tree.specs.Grounded.{Has}
+use Rattle.tapa_base.specs.Lists.{Has}
 use Rattle.vlog_tree.specs.Flattened.{FlatNet}
 use Rattle.vlog_tree.specs.Labels.{rdata_of, m_addr}
 use Rattle.vlog_tree.specs.Table.{Name, declared, net_kind_of}

@@ -9,12 +9,12 @@ use Rattle.vlog_tree.specs.declared.table.Declaration.{Declaration}
 use Rattle.vlog_tree.specs.declared.table.NetKind.{NetKind}
 use Rattle.vlog_tree.specs.declared.table.NetKind.TheVariants.{Unknown, Input, Output, WireNet, Register, MemoryArray, ChildInstance}
 use Rattle.vlog_tree.specs.Form.{ModuleTree}
-use Rattle.vlog_tree.specs.Grounded.{Has}
+use Rattle.tapa_base.specs.Lists.{Has}
 use Rattle.vlog_tree.specs.Environment.{shape_of, streams_of, is_bit_wire, is_stream, stream_label, item_stream}
 use Rattle.vlog_tree.specs.Labels.{done, m_ack, m_we, m_addr, m_wdata, s_wr, s_rdy, s_din, din_of}
 use Rattle.vlog_tree.specs.Table.{Name, clk, is_clk, declared, declaration_name, port_declared, items_declared, net_kind_of, net_kind_is_read, net_kind_is_wire, bits_of, first_violation}
 use Rattle.vlog_tree.specs.V6.{v6_uses, module_tops, is_top, is_whole_top, has_port}
-use Rattle.vlog_tree.proofs.Lists.{has_got, of_flat}
+use Rattle.tapa_base.proofs.Lists.{has_got, of_flat}
 use Rattle.vlog_scope.specs.NameTable.{places_from}
 use Rattle.vlog_scope.proofs.Found.{missing}
 use Rattle.vlog_run_laws.proofs.runs.Sound.{both_true, not_no, true_not_false}

@@ -3,12 +3,12 @@ use Rattle.std.proofs.Common.{◌≡◌, ℕ, zero, suc, ◌+◌, ◌<◌, Bool,
 use Rattle.std.specs.Prelude.{bytes_eq, slice_get, option_map, option_and_then}
 use Rattle.std.specs.Cmp.Lexicographic.{bytes_decides}
 use Rattle.vlog_tree.specs.Form.{ModuleTree}
-use Rattle.vlog_tree.specs.Grounded.{Has}
+use Rattle.tapa_base.specs.Lists.{Has}
 use Rattle.vlog_tree.specs.Cycle.{Path, module_at}
 use Rattle.vlog_tree.specs.Flattened.{FlatNet}
 use Rattle.vlog_tree.specs.Loops.{instances}
 use Rattle.vlog_tree.specs.Table.{Name, declared, declaration_name, net_kind_of, net_kind_is_read}
-use Rattle.vlog_tree.proofs.Lists.{has_got}
+use Rattle.tapa_base.proofs.Lists.{has_got}
 use Rattle.vlog_run_laws.proofs.runs.Sound.{declared_by}
 use Rattle.sim_flat.specs.declared.instances.Instance as row
 use Rattle.sim_flat.specs.Rows.{row_at}

@@ -5,7 +5,7 @@ use Rattle.vlog_tree.specs.Form.{ModuleTree}
 use Rattle.vlog_tree.specs.Cycle.{Cycle, Path}
 use Rattle.vlog_tree.specs.Environment.{Environment, cells_at}
 use Rattle.vlog_tree.specs.Refused.{IsDesign}
-use Rattle.vlog_tree.proofs.Lists.{has_got}
+use Rattle.tapa_base.proofs.Lists.{has_got}
 use Rattle.vlog_run_laws.specs.runs.OneRun.{IsRunFrom, IsOnly}
 use Rattle.vlog_run_laws.specs.runs.Filled.{IsFilled, filled}
 use Rattle.vlog_run_laws.proofs.runs.Filled.{fits, is_filled}

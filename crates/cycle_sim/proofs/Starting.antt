@@ -9,14 +9,14 @@ use Rattle.std.proofs.lemmas.Option.{same_Some, slice_get_within}
 use Rattle.tapa_base.specs.declared.shape.Port.{Port}
 use Rattle.vlog_tree.specs.declared.tree.Item.TheVariants.{Memory}
 use Rattle.vlog_tree.specs.Form.{ModuleTree}
-use Rattle.vlog_tree.specs.Grounded.{Has}
+use Rattle.tapa_base.specs.Lists.{Has}
 use Rattle.vlog_tree.specs.Flattened.{FlatNet}
 use Rattle.vlog_tree.specs.Cycle.{module_at}
 use Rattle.vlog_tree.specs.Environment.{Environment, FitsShape, shape_of}
 use Rattle.vlog_design.specs.Designs.{TopOf}
 use Rattle.vlog_run_laws.specs.runs.OneRun.{IsRunFrom}
 use Rattle.vlog_run_laws.specs.runs.Filled.{IsFilled}
-use Rattle.vlog_ref_start.specs.Outside.{lists_of}
+use Rattle.vlog_design.specs.Environments.{lists_of}
 use Rattle.cycle_sim.specs.Told.{IsToldOf, IsTold}
 use Rattle.sim_tape.specs.declared.gates.Pair.{Pair}
 use Rattle.sim_tape.specs.Operators.{Cells, cells_of, cell_in}

@@ -10,13 +10,13 @@ use Rattle.tapa_base.specs.declared.shape.Port.{Port}
 use Rattle.vlog_tree.specs.declared.tree.Item.TheVariants.{Reg, Memory}
 use Rattle.vlog_tree.specs.declared.table.NetKind.TheVariants as kind
 use Rattle.vlog_tree.specs.Form.{ModuleTree}
-use Rattle.vlog_tree.specs.Grounded.{Has}
+use Rattle.tapa_base.specs.Lists.{Has}
 use Rattle.vlog_tree.specs.Flattened.{FlatNet}
 use Rattle.vlog_tree.specs.Labels.{rdata_of, m_ack, m_we, m_addr, m_wdata}
 use Rattle.vlog_tree.specs.Table.{Name, declared, net_kind_of, bits_of}
 use Rattle.vlog_tree.specs.Cycle.{Cycle, Path, Takes, module_at, run_items}
 use Rattle.vlog_tree.specs.Environment.{Environment, FitsShape, RunsIn, shape_of, cells_at, ready_at, set_cell}
-use Rattle.vlog_tree.proofs.Lists.{has_got, got_has}
+use Rattle.tapa_base.proofs.Lists.{has_got, got_has}
 use Rattle.vlog_run_laws.proofs.runs.Settled.{module_in}
 use Rattle.vlog_run_laws.proofs.runs.Sizes.{all_at, memory_item, register_item, declared_net_kind, has_line}
 use Rattle.vlog_run_laws.specs.widths.Widths.{RunFits}

@@ -15,14 +15,14 @@ use Rattle.vlog_tree.specs.declared.tree.PortDecl.{PortDecl}
 use Rattle.vlog_tree.specs.declared.table.Declaration.{Declaration}
 use Rattle.vlog_tree.specs.declared.table.NetKind.TheVariants.{Input as InputKind, Output as OutputKind}
 use Rattle.vlog_tree.specs.Form.{ModuleTree, is_input}
-use Rattle.vlog_tree.specs.Grounded.{Has}
+use Rattle.tapa_base.specs.Lists.{Has}
 use Rattle.vlog_tree.specs.Flattened.{FlatNet}
 use Rattle.vlog_tree.specs.Environment.{shape_of, scalar_label, memory_label}
 use Rattle.vlog_tree.specs.Labels.{rst, scalar, m_ack, m_rdata, scalar_of, ack_of, rdata_of}
 use Rattle.vlog_tree.specs.Table.{Name, is_clk, declared, port_declared, net_kind_of, bits_of, first_violation}
 use Rattle.vlog_tree.specs.V2.{v2_uses}
 use Rattle.vlog_tree.specs.V6.{v6_uses, is_top}
-use Rattle.vlog_tree.proofs.Lists.{got_has, has_flat}
+use Rattle.tapa_base.proofs.Lists.{got_has, has_flat}
 use Rattle.vlog_run_laws.proofs.runs.Sound.{true_not_false}
 use Rattle.vlog_run_laws.proofs.runs.Labelled.{ack_label, ack_is_no_scalar}
 use Rattle.vlog_run_laws.proofs.runs.Ports.{PortFits, fits, input_has_label}

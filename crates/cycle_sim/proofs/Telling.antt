@@ -12,7 +12,7 @@ use Rattle.vlog_tree.specs.Flattened.{FlatNet}
 use Rattle.vlog_tree.specs.Cycle.{Cycle, Path, module_at}
 use Rattle.vlog_tree.specs.Table.{Name, declared, declaration_name}
 use Rattle.vlog_tree.specs.Environment.{Environment, shape_of}
-use Rattle.vlog_tree.proofs.Lists.{has_map}
+use Rattle.tapa_base.proofs.Lists.{has_map}
 use Rattle.vlog_run_laws.proofs.runs.Settled.{module_in}
 use Rattle.vlog_run_laws.proofs.runs.Sizes.{has_line}
 use Rattle.cycle_sim.specs.Told.{IsToldOf}

@@ -5,7 +5,7 @@ use Rattle.vlog_tree.specs.declared.tree.Item.TheVariants.{Reg, Memory}
 use Rattle.vlog_tree.specs.declared.table.Declaration.{Declaration}
 use Rattle.vlog_tree.specs.declared.table.NetKind.TheVariants as kind
 use Rattle.vlog_tree.specs.Form.{ModuleTree}
-use Rattle.vlog_tree.specs.Grounded.{Has}
+use Rattle.tapa_base.specs.Lists.{Has}
 use Rattle.vlog_tree.specs.Flattened.{FlatNet}
 use Rattle.vlog_tree.specs.Labels.{rst, scalar, scalar_of, ack_of, rdata_of, m_ack, m_we, m_addr, m_wdata}
 use Rattle.vlog_tree.specs.Table.{Name, declared, net_kind_of}

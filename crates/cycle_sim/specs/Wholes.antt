@@ -6,7 +6,7 @@ use Rattle.vlog_tree.specs.Labels.{s_wr, s_rdy, s_din, done}
 use Rattle.tapa_base.specs.declared.token.Token.{Token}
 use Rattle.vlog_tree.specs.Environment.{streams_of, token_of}
 use Rattle.vlog_design.specs.Designs.{TopOf}
-use Rattle.vlog_ref_start.specs.Outside.{lists_of}
+use Rattle.vlog_design.specs.Environments.{lists_of}
 use Rattle.sim_tape.specs.declared.gates.Pair.{Pair}
 use Rattle.sim_tape.specs.Operators.{cells_of}
 use Rattle.sim_tape.specs.Tape.{pair_value}

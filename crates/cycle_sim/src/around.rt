@@ -3,7 +3,7 @@
 ghost use Rattle.std.specs.Prelude.{◌≡◌, List, IfOk};
 ghost use Rattle.tapa_base.specs.declared.shape.Port.{Port as PortTree};
 ghost use Rattle.vlog_tree.specs.Form.{ModuleTree};
-ghost use Rattle.vlog_tree.specs.Grounded.{Has};
+ghost use Rattle.tapa_base.specs.Lists.{Has};
 ghost use Rattle.vlog_tree.specs.Environment.{shape_of, streams_of};
 ghost use Rattle.vlog_design.specs.Designs.{TopOf};
 ghost use Rattle.sim_tape.specs.Tape.{TapeTree};
@@ -34,7 +34,7 @@ pub struct Around {
     pub done: Pair,
 }
 
-#[tactic(auto, using(vlog_ref_cycle::proofs::Ascii::ack_ascii, vlog_ref_cycle::proofs::Ascii::we_ascii, vlog_ref_cycle::proofs::Ascii::addr_ascii, vlog_ref_cycle::proofs::Ascii::wdata_ascii))]
+#[tactic(auto, using(vlog_run_laws::proofs::runs::Ascii::ack_ascii, vlog_run_laws::proofs::runs::Ascii::we_ascii, vlog_run_laws::proofs::runs::Ascii::addr_ascii, vlog_run_laws::proofs::runs::Ascii::wdata_ascii))]
 fn outside_at(
     alloc: Global,
     scope: &Scope,
@@ -72,7 +72,7 @@ fn all_outside(
     Ok(outside)
 }
 
-#[tactic(auto, using(vlog_ref_cycle::proofs::Ascii::wr_ascii, vlog_ref_cycle::proofs::Ascii::rdy_ascii, vlog_ref_cycle::proofs::Ascii::din_ascii))]
+#[tactic(auto, using(vlog_run_laws::proofs::runs::Ascii::wr_ascii, vlog_run_laws::proofs::runs::Ascii::rdy_ascii, vlog_run_laws::proofs::runs::Ascii::din_ascii))]
 fn stream_at(
     alloc: Global,
     scope: &Scope,
@@ -110,7 +110,7 @@ fn all_streams(
 }
 
 /// What stands around a design: the inputs of its top, of which scalars have these numbers, and the memories and streams.
-#[tactic(auto, using(vlog_ref_cycle::proofs::Ascii::done_ascii))]
+#[tactic(auto, using(vlog_run_laws::proofs::runs::Ascii::done_ascii))]
 pub fn around_of(
     alloc: Global,
     design: &Design,

@@ -4,7 +4,7 @@ ghost use Rattle.std.specs.Prelude.{◌≡◌, ◌%◌, ◌^◌, ℕ, List, Some
 ghost use Rattle.vlog_tree.specs.Form.{ModuleTree};
 ghost use Rattle.vlog_tree.specs.Environment.{Environment, FitsShape, shape_of};
 ghost use Rattle.vlog_design.specs.Designs.{TopOf};
-ghost use Rattle.vlog_ref_start.specs.Outside.{lists_of};
+ghost use Rattle.vlog_design.specs.Environments.{lists_of};
 ghost use Rattle.cycle_sim.specs.Told.{IsTold};
 ghost use Rattle.sim_tape.specs.declared.gates.Pair.{Pair as PairTree};
 ghost use Rattle.sim_tape.specs.Operators.{cells_of};
@@ -30,8 +30,7 @@ use sim_tape::{Pair, Program};
 use crate::parts::{Parts, State};
 use crate::inputs::give;
 use std::alloc::{AllocError, Global};
-use vlog_design::Design;
-use vlog_ref_start::Surroundings;
+use vlog_design::{Design, Env};
 
 fn copied(alloc: Global, ready: &[Vec<bool>]) -> Result<Vec<Vec<bool>>, AllocError>
     ensures { IfOk result (λ v. lists_of v.items ≡ lists_of ready.now) }
@@ -89,7 +88,7 @@ fn laid_out(
 }
 
 /// A design on a tape, with all that stands around it.
-pub fn parts_of(alloc: Global, design: Design, around: &Surroundings) -> Result<Parts, AllocError>
+pub fn parts_of(alloc: Global, design: Design, around: &Env) -> Result<Parts, AllocError>
     ensures parts { IfOk result (λ p. AreParts p) }
     ensures design { IfOk result (λ p. p.design ≡ design) }
     ensures scalars { IfOk result (λ p. p.scalars.items ≡ around.now.scalars.items) }

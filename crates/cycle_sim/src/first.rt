@@ -3,7 +3,7 @@
 ghost use Rattle.std.specs.Prelude.{◌≡◌, ◌+◌, ◌*◌, ◌<◌, ◌%◌, ◌^◌, ◌++◌, ℕ, [], Some, length, get_or, replicate, slice_get, slice_index_or, IfOk, OnOk};
 ghost use Rattle.std.specs.List.{flat_map};
 ghost use Rattle.sim_tape.specs.Operators.{cells_of};
-ghost use Rattle.vlog_ref_start.specs.Outside.{lists_of};
+ghost use Rattle.vlog_design.specs.Environments.{lists_of};
 ghost use Rattle.sim_design.specs.declared.drafts.Width.{Width as WidthTree};
 ghost use Rattle.cycle_sim.specs.Firsts.{width_lists};
 

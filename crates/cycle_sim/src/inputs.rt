@@ -2,7 +2,7 @@
 
 ghost use Rattle.std.specs.Prelude.{◌≡◌, ℕ, Bool, List, [], Some, length, slice_get, slice_index_or};
 ghost use Rattle.vlog_tree.specs.Environment.{ready_at};
-ghost use Rattle.vlog_ref_start.specs.Outside.{lists_of};
+ghost use Rattle.vlog_design.specs.Environments.{lists_of};
 ghost use Rattle.sim_tape.specs.Tape.{number_at};
 ghost use Rattle.cycle_sim.specs.declared.inputs.Input.{Input as InputTree};
 ghost use Rattle.cycle_sim.specs.Steps.{HaveSlots, IsAway, PairHas, supplied as supplied_lem};

@@ -84,7 +84,7 @@ fn join(low: u64, high: u64) -> u128
 }
 
 // What the bits of a stream say: an end where the highest one is set, and else a datum.
-#[tactic(auto, using(vlog_ref_cycle::proofs::Tokens::low_datum))]
+#[tactic(auto, using(vlog_tree::proofs::Tokens::low_datum))]
 fn token_of(bits: u32, din: u128) -> Token
     requires low { 2 ≤ bits }
     requires high { bits ≤ 65 }

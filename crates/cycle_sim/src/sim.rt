@@ -5,7 +5,7 @@ ghost use Rattle.tapa_base.specs.declared.shape.Port.{Port as PortTree};
 ghost use Rattle.vlog_tree.specs.Form.{ModuleTree};
 ghost use Rattle.vlog_tree.specs.Environment.{IsDone, streams_of, tokens};
 ghost use Rattle.vlog_design.specs.Designs.{TopOf};
-ghost use Rattle.vlog_ref_start.specs.Outside.{environment_of, lists_of};
+ghost use Rattle.vlog_design.specs.Environments.{environment_of, lists_of};
 ghost use Rattle.cycle_sim.specs.Simulators.{sim_of};
 ghost use Rattle.cycle_sim.specs.Sims.{InRuns, IsFirst, IsNext, IsLater, IsCarried, IsDoneAt, last_cycle, IsAdded, AreAdded};
 
@@ -14,8 +14,7 @@ use crate::begin::{first_state, parts_of};
 use crate::parts::{advance, carried, cells_in, is_done};
 use std::alloc::{AllocError, Global};
 use tapa_base::Token;
-use vlog_design::Design;
-use vlog_ref_start::Surroundings;
+use vlog_design::{Design, Env};
 
 impl Sim {
     /// A design in cycle 0, in what stands around it, where every register and every cell holds `fill` modulo 2 to the power of
@@ -23,7 +22,7 @@ impl Sim {
     pub fn new(
         alloc: Global,
         design: Design,
-        around: &Surroundings,
+        around: &Env,
         fill: u64,
     ) -> Result<Sim, AllocError>
         ensures { IfOk result (λ sim. IsFirst design (environment_of around.now) fill (sim_of sim)) }

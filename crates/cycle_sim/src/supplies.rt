@@ -6,7 +6,7 @@ ghost use Rattle.tapa_base.specs.declared.shape.Port.{Port as PortTree};
 ghost use Rattle.vlog_tree.specs.declared.table.Declaration.{Declaration as DeclarationTree};
 ghost use Rattle.vlog_tree.specs.declared.table.NetKind.TheVariants as kinds;
 ghost use Rattle.vlog_tree.specs.Form.{ModuleTree};
-ghost use Rattle.vlog_tree.specs.Grounded.{Has};
+ghost use Rattle.tapa_base.specs.Lists.{Has};
 ghost use Rattle.vlog_tree.specs.Labels.{rst, scalar, m_ack, rdata_of as rdata_lem};
 ghost use Rattle.vlog_tree.specs.Environment.{shape_of};
 ghost use Rattle.sim_tape.specs.declared.gates.Pair.{Pair as PairTree};

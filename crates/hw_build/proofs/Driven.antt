@@ -11,11 +11,11 @@ use Rattle.vlog_tree.specs.declared.tree.PortDecl.{PortDecl}
 use Rattle.vlog_tree.specs.declared.table.Declaration.{Declaration}
 use Rattle.vlog_tree.specs.declared.table.NetKind.TheVariants.{ChildInstance}
 use Rattle.vlog_tree.specs.Form.{ModuleTree}
-use Rattle.vlog_tree.specs.Grounded.{Has}
+use Rattle.tapa_base.specs.Lists.{Has}
 use Rattle.vlog_tree.specs.Table.{Name}
 use Rattle.vlog_tree.specs.Cycle.{Cycle, Follows, Holds, driven}
 use Rattle.vlog_tree.specs.V4.{step_assigns, is_block_of}
-use Rattle.vlog_tree.proofs.Lists.{has_flat, of_flat, has_right}
+use Rattle.tapa_base.proofs.Lists.{has_flat, of_flat, has_right}
 use Rattle.vlog_module_laws.specs.Blocks.{IsOwnBlock}
 use Rattle.vlog_module_laws.proofs.Lines.{line, port}
 use Rattle.hw_build.specs.Elements.{Element, Input, Output, Outlet, Wire, Link, Register, Memory, Block, Instance, element_ports, element_items, empty, built}

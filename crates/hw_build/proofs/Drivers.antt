@@ -9,12 +9,12 @@ use Rattle.vlog_tree.specs.declared.tree.Item.TheVariants.{Always as BlockLine, 
 use Rattle.vlog_tree.specs.declared.table.Declaration.{Declaration}
 use Rattle.vlog_tree.specs.declared.table.NetKind.TheVariants.{Input as InputNet, Output as OutputNet, WireNet, Register as RegisterNet, MemoryArray, ChildInstance}
 use Rattle.vlog_tree.specs.Form.{ModuleTree}
-use Rattle.vlog_tree.specs.Grounded.{Has}
+use Rattle.tapa_base.specs.Lists.{Has}
 use Rattle.vlog_tree.specs.Names.{is_among}
 use Rattle.vlog_tree.specs.Table.{Name, clk, times_in, one_if}
 use Rattle.vlog_tree.specs.Labels.{rst}
 use Rattle.vlog_tree.specs.V4.{line_driven, step_assigns, is_block_of, breaks_driving}
-use Rattle.vlog_tree.proofs.Lists.{has_flat}
+use Rattle.tapa_base.proofs.Lists.{has_flat}
 use Rattle.vlog_module_laws.proofs.Lists.{count_cons, counted, both_true}
 use Rattle.hw_build.specs.Elements.{Element, Input, Output, Outlet, Wire, Link, Register, Memory, Block, Instance, element_items}
 use Rattle.hw_build.specs.Fitting.{declarations, first_table, table_after, link_names, instance_driven, stored_names, assigns, drive_links_once, have_own_blocks}

@@ -17,7 +17,7 @@ use Rattle.vlog_tree.specs.declared.tree.Step.TheVariants.{If, Else, End, Nonblo
 use Rattle.vlog_tree.specs.declared.table.Declaration.{Declaration}
 use Rattle.vlog_tree.specs.declared.table.NetKind.{NetKind}
 use Rattle.vlog_tree.specs.Form.{ModuleTree}
-use Rattle.vlog_tree.specs.Grounded.{Has}
+use Rattle.tapa_base.specs.Lists.{Has}
 use Rattle.vlog_tree.specs.Labels.{rst}
 use Rattle.vlog_tree.specs.Names.{is_among}
 use Rattle.vlog_tree.specs.Table.{Name, NameUse, clk, is_clk, find_name, net_kind_of, bits_of, net_kind_is_read, net_kind_is_register, net_kind_is_memory, times_in, one_if}

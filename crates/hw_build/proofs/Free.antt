@@ -9,13 +9,13 @@ use Rattle.vlog_tree.specs.declared.table.Declaration.{Declaration}
 use Rattle.vlog_tree.specs.declared.table.NetKind.{NetKind}
 use Rattle.vlog_tree.specs.declared.table.NetKind.TheVariants.{Input as InputNet, Output as OutputNet, WireNet, Register as RegisterNet, MemoryArray, ChildInstance}
 use Rattle.vlog_tree.specs.Form.{ModuleTree}
-use Rattle.vlog_tree.specs.Grounded.{Has}
+use Rattle.tapa_base.specs.Lists.{Has, Chain, one, more}
 use Rattle.vlog_tree.specs.Table.{Name, clk, declared, port_declared, items_declared, find_name, net_kind_of, net_kind_is_input, module_named}
 use Rattle.vlog_tree.specs.Labels.{rst}
 use Rattle.vlog_tree.specs.V2.{value_uses}
 use Rattle.vlog_tree.specs.V6.{module_children}
-use Rattle.vlog_tree.specs.Loops.{Rests, directly, through, after, LiesOnLoop, TextPlace, Chain, one, more, containment, own_containment, IsLoopless, value_nets, port_of, line_edges, connection_edge, direct_edges, memory_edges, instances}
-use Rattle.vlog_tree.proofs.Lists.{has_left, has_split, of_flat, of_map, has_flat}
+use Rattle.vlog_tree.specs.Loops.{Rests, directly, through, after, LiesOnLoop, TextPlace, containment, own_containment, IsLoopless, value_nets, port_of, line_edges, connection_edge, direct_edges, memory_edges, instances}
+use Rattle.tapa_base.proofs.Lists.{has_left, has_split, of_flat, of_map, has_flat}
 use Rattle.vlog_module_laws.proofs.Lists.{both_true, all_at}
 use Rattle.hw_build.specs.Elements.{Element, Input, Output, Outlet, Wire, Link, Register, Memory, Block, Instance, element_items, empty, built}
 use Rattle.hw_build.specs.Forms.{is_element}

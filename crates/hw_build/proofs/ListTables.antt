@@ -5,10 +5,10 @@ use Rattle.std.specs.List.{list_any, flat_map}
 use Rattle.vlog_tree.specs.declared.table.Declaration.{Declaration}
 use Rattle.vlog_tree.specs.declared.table.NetKind.{NetKind}
 use Rattle.vlog_tree.specs.declared.table.NetKind.TheVariants.{Input as InputNet, Output as OutputNet, WireNet, Register as RegisterNet, MemoryArray, ChildInstance}
-use Rattle.vlog_tree.specs.Grounded.{Has}
+use Rattle.tapa_base.specs.Lists.{Has}
 use Rattle.vlog_tree.specs.Table.{Name, clk, net_kind_is_read, net_kind_is_register, net_kind_is_memory, times_in, one_if}
 use Rattle.vlog_tree.specs.Labels.{rst}
-use Rattle.vlog_tree.proofs.Lists.{of_flat, has_flat}
+use Rattle.tapa_base.proofs.Lists.{of_flat, has_flat}
 use Rattle.vlog_module_laws.proofs.Lists.{count_cons}
 use Rattle.hw_build.specs.Elements.{Element, Input, Output, Outlet, Wire, Link, Register, Memory, Block, Instance}
 use Rattle.hw_build.specs.Fitting.{declarations, first_table, table_after, is_new}

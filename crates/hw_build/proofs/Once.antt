@@ -1,7 +1,7 @@
 -- Names that stand once.
 use Rattle.std.proofs.Common.{◌≡◌, ℕ, zero, suc, ◌+◌, ◌<◌, ◌≤◌, List, ◌++◌, arith}
 use Rattle.std.specs.Prelude.{bytes_eq}
-use Rattle.vlog_tree.specs.Grounded.{Has}
+use Rattle.tapa_base.specs.Lists.{Has}
 use Rattle.vlog_tree.specs.Table.{Name, times_in}
 use Rattle.hw_build.proofs.Tables.{count_append}
 use Rattle.hw_build.proofs.Drivers.{times_has}

@@ -12,12 +12,12 @@ use Rattle.vlog_tree.specs.declared.table.NetKind.{NetKind}
 use Rattle.vlog_tree.specs.declared.table.NetKind.TheVariants.{Input as InputNet, Output as OutputNet, WireNet, ChildInstance}
 use Rattle.vlog_tree.specs.Names.{within, is_name, has_name_form, starts_name, goes_on, is_keyword}
 use Rattle.vlog_tree.specs.Form.{ModuleTree, is_value, is_connection}
-use Rattle.vlog_tree.specs.Grounded.{Has}
+use Rattle.tapa_base.specs.Lists.{Has}
 use Rattle.vlog_tree.specs.Table.{Name, NameUse, clk, is_clk, port_declared, find_name, net_kind_of, net_kind_is_read, net_kind_is_driven, net_kind_is_input, ports_in, module_named, is_module_name, times_in, one_if}
 use Rattle.vlog_tree.specs.Labels.{rst}
 use Rattle.vlog_tree.specs.V2.{read_use, driven_use, clock_use, value_uses, connection_uses, all_connected}
 use Rattle.vlog_tree.specs.Loops.{Rests, value_nets, port_of, line_edges, connection_edge, direct_edges, memory_edges, instances, item_instances}
-use Rattle.vlog_tree.proofs.Lists.{has_split, of_flat, of_map}
+use Rattle.tapa_base.proofs.Lists.{has_split, of_flat, of_map}
 use Rattle.vlog_module_laws.specs.Ranks.{FallsBy}
 use Rattle.vlog_module_laws.proofs.Ranks.{on_no_loop}
 use Rattle.vlog_module_laws.proofs.Lists.{both_true, both_false, count_cons, counted, none_counted}

@@ -11,10 +11,10 @@ use Rattle.vlog_tree.specs.declared.tree.Atom.TheVariants.{Net, Literal}
 use Rattle.vlog_tree.specs.declared.tree.BinaryOp.TheVariants.{Or}
 use Rattle.vlog_tree.specs.declared.tree.Value.TheVariants.{Binary, Choose}
 use Rattle.vlog_tree.specs.Form.{ModuleTree}
-use Rattle.vlog_tree.specs.Grounded.{Has}
+use Rattle.tapa_base.specs.Lists.{Has}
 use Rattle.vlog_tree.specs.Table.{Name}
 use Rattle.vlog_tree.specs.Cycle.{Cycle, Follows, atom_value}
-use Rattle.vlog_tree.proofs.Lists.{has_left, has_right}
+use Rattle.tapa_base.proofs.Lists.{has_left, has_right}
 use Rattle.hw_build.specs.Elements.{Element, with, with_all, built}
 use Rattle.hw_build.specs.Trees.{numbered, gated, tree_node, tree_nodes, tree_root, or_range}
 use Rattle.hw_build.proofs.Driven.{wire_driven}

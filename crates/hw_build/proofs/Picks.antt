@@ -9,11 +9,11 @@ use Rattle.std.proofs.lemmas.Nat.Bits.{bit_at_or, same_from_bits}
 use Rattle.std.proofs.lemmas.Bool.{cases_eq, eq-eqb, ne_eqb}
 use Rattle.vlog_tree.specs.declared.tree.Atom.TheVariants.{Net}
 use Rattle.vlog_tree.specs.declared.tree.Value.TheVariants.{Plain}
-use Rattle.vlog_tree.specs.Grounded.{Has}
+use Rattle.tapa_base.specs.Lists.{Has}
 use Rattle.vlog_tree.specs.Table.{Name}
 use Rattle.vlog_tree.specs.Cycle.{Cycle, Follows, atom_value}
 use Rattle.vlog_tree.specs.V3.{is_width}
-use Rattle.vlog_tree.proofs.Lists.{has_left, has_right, has_flat}
+use Rattle.tapa_base.proofs.Lists.{has_left, has_right, has_flat}
 use Rattle.hw_build.specs.Elements.{Element, Wire, built}
 use Rattle.hw_build.specs.Trees.{numbered, gated, tree_nodes, or_range}
 use Rattle.hw_build.proofs.Driven.{wire_driven}

@@ -9,11 +9,11 @@ use Rattle.vlog_tree.specs.declared.tree.Value.TheVariants.{Plain, Invert, Binar
 use Rattle.vlog_tree.specs.declared.table.Declaration.{Declaration}
 use Rattle.vlog_tree.specs.declared.table.NetKind.TheVariants.{Input as InputNet, Output as OutputNet, WireNet, Register as RegisterNet, MemoryArray, ChildInstance}
 use Rattle.vlog_tree.specs.Form.{ModuleTree}
-use Rattle.vlog_tree.specs.Grounded.{Has}
+use Rattle.tapa_base.specs.Lists.{Has}
 use Rattle.vlog_tree.specs.Table.{Name, NameUse, is_clk, find_name, net_kind_of, net_kind_is_read, one_if}
 use Rattle.vlog_tree.specs.V2.{read_use, memory_use, atom_uses, value_uses}
 use Rattle.vlog_tree.specs.Loops.{atom_nets, value_nets}
-use Rattle.vlog_tree.proofs.Lists.{has_left, has_split, of_flat}
+use Rattle.tapa_base.proofs.Lists.{has_left, has_split, of_flat}
 use Rattle.vlog_module_laws.proofs.Lists.{count_cons, counted, both_true}
 use Rattle.hw_build.specs.Elements.{Element, Input, Output, Outlet, Wire, Link, Register, Memory, Block, Instance}
 use Rattle.hw_build.specs.Fitting.{declarations, table_after, is_new, are_kept, has_fitting_names, have_fitting_names}

@@ -11,13 +11,13 @@ use Rattle.vlog_tree.specs.declared.tree.Connection.{Connection}
 use Rattle.vlog_tree.specs.declared.table.Declaration.{Declaration}
 use Rattle.vlog_tree.specs.declared.table.NetKind.TheVariants.{Input as InputNet, Output as OutputNet, WireNet, Register as RegisterNet, MemoryArray, ChildInstance}
 use Rattle.vlog_tree.specs.Form.{ModuleTree}
-use Rattle.vlog_tree.specs.Grounded.{Has}
+use Rattle.tapa_base.specs.Lists.{Has}
 use Rattle.vlog_tree.specs.Table.{Name, NameUse, clk, is_clk, declared, module_declared, find_name, net_kind_of, net_kind_is_driven, net_kind_is_input, bits_of, is_doubled_name, is_module_name, first_violation, times_in}
 use Rattle.vlog_tree.specs.Labels.{rst}
 use Rattle.vlog_tree.specs.V2.{driven_use, value_uses, step_uses, port_uses, all_connected, connection_uses, instance_uses, item_uses, clock_use, module_uses}
 use Rattle.vlog_tree.specs.V3.{is_width, is_cell_count, net_fits, value_fits, step_widths, connection_widths, item_widths, port_widths, module_widths}
 use Rattle.vlog_tree.specs.V4.{line_driven, is_block_of, breaks_driving, driving_use, module_drives}
-use Rattle.vlog_tree.proofs.Lists.{of_map, has_left, has_right}
+use Rattle.tapa_base.proofs.Lists.{of_map, has_left, has_right}
 use Rattle.vlog_module_laws.specs.Larger.{IsRightBeside}
 use Rattle.vlog_module_laws.proofs.Lists.{both_true, counted, all_right}
 use Rattle.hw_build.specs.Elements.{Element, Input, Output, Outlet, Wire, Link, Register, Memory, Block, Instance, element_ports, element_items, empty, built}

@@ -11,10 +11,10 @@ use Rattle.vlog_tree.specs.declared.table.Declaration.{Declaration}
 use Rattle.vlog_tree.specs.declared.table.NetKind.{NetKind}
 use Rattle.vlog_tree.specs.declared.table.NetKind.TheVariants.{Unknown, Input as InputNet, Output as OutputNet, WireNet, Register as RegisterNet, MemoryArray, ChildInstance}
 use Rattle.vlog_tree.specs.Form.{ModuleTree}
-use Rattle.vlog_tree.specs.Grounded.{Has}
+use Rattle.tapa_base.specs.Lists.{Has}
 use Rattle.vlog_tree.specs.Labels.{rst}
 use Rattle.vlog_tree.specs.Table.{Name, clk, declared, port_declared, items_declared, find_name, net_kind_of, one_if}
-use Rattle.vlog_tree.proofs.Lists.{has_left, has_right, has_split}
+use Rattle.tapa_base.proofs.Lists.{has_left, has_right, has_split}
 use Rattle.vlog_module_laws.proofs.Lists.{count_cons, counted, none_counted, both_true, both_false}
 use Rattle.hw_build.specs.Elements.{Element, Input, Output, Outlet, Wire, Link, Register, Memory, Block, Instance, element_ports, element_items, empty, with, with_all}
 use Rattle.hw_build.specs.Fitting.{declarations, first_table, table_after, is_new, has_fitting_names, have_fitting_names}

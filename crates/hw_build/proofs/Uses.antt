@@ -12,7 +12,7 @@ use Rattle.vlog_tree.specs.declared.tree.Connection.{Connection}
 use Rattle.vlog_tree.specs.declared.table.Declaration.{Declaration}
 use Rattle.vlog_tree.specs.declared.table.NetKind.{NetKind}
 use Rattle.vlog_tree.specs.declared.table.NetKind.TheVariants.{Unknown, Input as InputNet, Output as OutputNet, WireNet, Register as RegisterNet, MemoryArray, ChildInstance}
-use Rattle.vlog_tree.specs.Grounded.{Has}
+use Rattle.tapa_base.specs.Lists.{Has}
 use Rattle.vlog_tree.specs.Table.{Name, NameUse, clk, is_clk, find_name, net_kind_of, net_kind_is_read, net_kind_is_driven, net_kind_is_register, net_kind_is_memory, net_kind_is_input, first_violation}
 use Rattle.vlog_tree.specs.V2.{read_use, driven_use, register_use, memory_use, clock_use, atom_uses, value_uses, step_uses, connection_uses}
 use Rattle.vlog_module_laws.proofs.Lists.{flat_same, both_true}

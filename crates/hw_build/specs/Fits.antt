@@ -2,7 +2,7 @@
 use Rattle.std.specs.Prelude.{◌≡◌, ℕ, ◌<◌, ◌≤◌, true, List, [], ◌∷◌, ◌++◌, IsTrue}
 use Rattle.std.specs.List.{flat_map, list_all}
 use Rattle.vlog_tree.specs.Form.{ModuleTree}
-use Rattle.vlog_tree.specs.Grounded.{Has}
+use Rattle.tapa_base.specs.Lists.{Has}
 use Rattle.vlog_tree.specs.Labels.{rst}
 use Rattle.vlog_tree.specs.Names.{is_name}
 use Rattle.vlog_tree.specs.Table.{Name, clk, times_in}

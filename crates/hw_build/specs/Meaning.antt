@@ -3,7 +3,7 @@ use Rattle.std.specs.Prelude.{◌≡◌, ℕ, suc, ◌<◌, nat_lt, ◌==◌, �
 use Rattle.vlog_tree.specs.declared.tree.Atom.{Atom}
 use Rattle.vlog_tree.specs.declared.tree.Item.TheVariants.{Reg, Memory}
 use Rattle.vlog_tree.specs.Form.{ModuleTree}
-use Rattle.vlog_tree.specs.Grounded.{Has}
+use Rattle.tapa_base.specs.Lists.{Has}
 use Rattle.vlog_tree.specs.Labels.{rst}
 use Rattle.vlog_tree.specs.Table.{Name}
 use Rattle.vlog_tree.specs.Cycle.{Cycle, Follows, atom_value}

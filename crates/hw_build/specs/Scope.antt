@@ -13,7 +13,7 @@ use Rattle.vlog_tree.specs.declared.tree.Value.TheVariants.{Plain, Invert, Binar
 use Rattle.vlog_tree.specs.declared.tree.Step.{Step}
 use Rattle.vlog_tree.specs.declared.tree.Step.TheVariants.{If, Else, End, NonblockingAssign, MemoryAssign}
 use Rattle.vlog_tree.specs.Form.{nested}
-use Rattle.vlog_tree.specs.Grounded.{Has}
+use Rattle.tapa_base.specs.Lists.{Has}
 use Rattle.vlog_tree.specs.Labels.{rst}
 use Rattle.vlog_tree.specs.Table.{Name}
 use Rattle.vlog_tree.specs.V3.{is_width, is_cell_count, is_divisor}

@@ -4,7 +4,7 @@ use Rattle.vlog_tree.specs.declared.tree.Atom.{Atom}
 use Rattle.vlog_tree.specs.declared.tree.Atom.TheVariants.{Net, Literal}
 use Rattle.vlog_tree.specs.declared.tree.BinaryOp.TheVariants.{Or}
 use Rattle.vlog_tree.specs.declared.tree.Value.TheVariants.{Binary, Choose}
-use Rattle.vlog_tree.specs.Grounded.{Has}
+use Rattle.tapa_base.specs.Lists.{Has}
 use Rattle.vlog_tree.specs.Table.{Name}
 use Rattle.vlog_tree.specs.Cycle.{Cycle, Follows, atom_value}
 use Rattle.hw_build.specs.Elements.{Element, Wire, built}

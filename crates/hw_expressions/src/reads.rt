@@ -5,9 +5,9 @@ ghost use Rattle.task_fsm.specs.Machine.{expression_of};
 ghost use Rattle.hw_task_lines.specs.Wires.{read_count as read_count_lem, reads_in};
 ghost use Rattle.hw_expressions.specs.Reads.{read_forms};
 
-use hw_nets::plus;
 use std::alloc::AllocError;
 use tapa_syntax::Expr;
+use tapa_base::plus;
 
 /// A read of an array: its index, and the number of the first read in that.
 #[derive(Clone, Copy)]

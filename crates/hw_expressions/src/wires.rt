@@ -13,11 +13,11 @@ ghost use Rattle.hw_expressions.specs.Grown.{Grows};
 
 use crate::fixed::fixed;
 use crate::reads::read_count;
-use hw_nets::{binary, bits, choose, copy, literal, net, plus, small};
+use hw_nets::{binary, bits, choose, copy, literal, net};
 use hw_build::{Draft, numbered};
 use hw_operators::{Driver, conversion, last, one, operation};
 use std::alloc::{AllocError, Global};
-use tapa_base::{Kind, Op, Text};
+use tapa_base::{Kind, Op, Text, narrow, plus};
 use tapa_syntax::Expr;
 use hw_task_lines::Net;
 use vlog_tree::{Atom, BinaryOp, Value};
@@ -62,7 +62,7 @@ fn with_drivers(
     ensures { IfOk result (λ r. (old : ModuleTree) (elements : List Element) (k : ℕ) → draft.old ≡ with_all old elements → n ≡ k + count → Grows old draft.new r (behind front.now k elements count drivers.items before.now)) }
 {
     let atom = last(alloc, front, n, &drivers, before)?;
-    let count = plus(count, small(drivers.len())?)?;
+    let count = plus(count, narrow(drivers.len())?)?;
     add_wires(alloc, draft, front, n, drivers)?;
     Ok(Wired { atom, count })
 }

@@ -13,10 +13,9 @@ ghost use Rattle.hw_nets.specs.Entries.{entry_forms};
 use crate::entries::Entry;
 use crate::atoms::copy;
 use crate::names::front;
-use crate::numbers::{plus, small};
 use hw_build::{Draft, numbered};
 use std::alloc::{AllocError, Global};
-use tapa_base::Text;
+use tapa_base::{Text, narrow, plus};
 use hw_task_lines::Choice;
 use vlog_tree::{Atom, Value};
 
@@ -59,7 +58,7 @@ fn add_conditions(
     ensures { IfOk result (λ u. draft.new ≡ with_all draft.old (any_leaves front.now 0 (entry_forms entries.now))) }
 {
     for (j, entry) in entries.iter().enumerate() {
-        add_condition(alloc, draft, front, small(j)?, &entry.condition)?;
+        add_condition(alloc, draft, front, narrow(j)?, &entry.condition)?;
     }
     Ok(())
 }
@@ -74,7 +73,7 @@ pub fn add_any(
     ensures { IfOk result (λ u. draft.new ≡ with_all draft.old (any_elements (front_lem choice) (entry_forms entries.now))) }
 {
     let front = front(alloc, choice)?;
-    let leaves = small(entries.len())?;
+    let leaves = narrow(entries.len())?;
     add_conditions(alloc, draft, &front, entries)?;
     add_tree(alloc, draft, 1, &front, leaves)?;
     Ok(())
@@ -111,7 +110,7 @@ fn add_gates(
             draft,
             width,
             front,
-            small(j)?,
+            narrow(j)?,
             &entry.condition,
             &entry.value,
         )?;
@@ -145,7 +144,7 @@ pub fn add_pick(
     ensures { IfOk result (λ u. draft.new ≡ with_all draft.old (pick_elements width (front_lem choice) (entry_forms entries.now))) }
 {
     let front = front(alloc, choice)?;
-    let leaves = small(entries.len())?;
+    let leaves = narrow(entries.len())?;
     if leaves == 0 {
         return Ok(());
     }
@@ -162,7 +161,7 @@ pub fn root(alloc: Global, choice: Choice, entries: &[Entry]) -> Result<Text, Al
     ensures { IfOk result (λ t. t ≡ choice_lem (front_lem choice) (entry_forms entries.now)) }
 {
     let front = front(alloc, choice)?;
-    let leaves = small(entries.len())?;
+    let leaves = narrow(entries.len())?;
     let twice = plus(leaves, leaves)?;
     numbered(alloc, front.bytes(), twice.saturating_sub(2))
 }

@@ -7,27 +7,6 @@ ghost use Rattle.hw_task_lines.specs.Shape.{bits_for as bits_for_lem};
 use std::alloc::AllocError;
 use tapa_base::Kind;
 
-/// A number of 32 bits. What is held in memory has no larger one.
-pub fn small(n: usize) -> Result<u32, AllocError>
-    ensures { IfOk result (λ r. r ≡ n) }
-{
-    if n <= 4294967295 {
-        Ok(n as u32)
-    } else {
-        Err(AllocError)
-    }
-}
-
-/// The sum of two numbers of 32 bits. A module has no larger one.
-pub fn plus(a: u32, b: u32) -> Result<u32, AllocError>
-    ensures { IfOk result (λ r. r ≡ a + b) }
-{
-    match a.checked_add(b) {
-        Some(n) => Ok(n),
-        None => Err(AllocError),
-    }
-}
-
 /// 2 to the power of n.
 pub fn power(n: u32) -> u128
     requires { n < 128 }

@@ -8,9 +8,9 @@ ghost use Rattle.hw_task_lines.specs.Shape.{array_cells as array_cells_lem, arra
 ghost use Rattle.hw_task_lines.specs.Texts.{writes as writes_lem};
 ghost use Rattle.hw_nets.specs.Shapes.{form};
 
-use crate::numbers::{bits, bits_for, small};
+use crate::numbers::{bits, bits_for};
 use std::alloc::AllocError;
-use tapa_base::{Kind, number_at};
+use tapa_base::{Kind, narrow, number_at};
 use tapa_syntax::End;
 use task_fsm::{Fsm, State};
 
@@ -28,7 +28,7 @@ impl<'a> Shape<'a> {
     pub fn state_count(&self) -> Result<u32, AllocError>
         ensures { IfOk result (λ n. n ≡ state_count_lem (form self.now)) }
     {
-        small(self.machine.states.len().saturating_sub(1))
+        narrow(self.machine.states.len().saturating_sub(1))
     }
 
     /// The bits of a state's number.
@@ -53,7 +53,7 @@ impl<'a> Shape<'a> {
     pub fn scalars(&self) -> Result<u32, AllocError>
         ensures { IfOk result (λ n. n ≡ length (form self.now).scalars) }
     {
-        small(self.machine.scalars.len())
+        narrow(self.machine.scalars.len())
     }
 
     /// How many registers the machine has.
@@ -61,7 +61,7 @@ impl<'a> Shape<'a> {
     pub fn registers(&self) -> Result<u32, AllocError>
         ensures { IfOk result (λ n. n ≡ length (form self.now).registers) }
     {
-        small(self.machine.regs.len())
+        narrow(self.machine.regs.len())
     }
 
     /// How many arrays.
@@ -69,7 +69,7 @@ impl<'a> Shape<'a> {
     pub fn arrays(&self) -> Result<u32, AllocError>
         ensures { IfOk result (λ n. n ≡ length (form self.now).arrays) }
     {
-        small(self.machine.arrays.len())
+        narrow(self.machine.arrays.len())
     }
 
     /// How many memories the task has.
@@ -77,7 +77,7 @@ impl<'a> Shape<'a> {
     pub fn memories(&self) -> Result<u32, AllocError>
         ensures { IfOk result (λ n. n ≡ length (form self.now).memories) }
     {
-        small(self.memories.len())
+        narrow(self.memories.len())
     }
 
     /// How many streams.
@@ -85,7 +85,7 @@ impl<'a> Shape<'a> {
     pub fn streams(&self) -> Result<u32, AllocError>
         ensures { IfOk result (λ n. n ≡ length (form self.now).streams) }
     {
-        small(self.streams.len())
+        narrow(self.streams.len())
     }
 
     /// The register of a scalar parameter.

@@ -8,9 +8,9 @@ ghost use Rattle.hw_task_lines.specs.Drivers.{as_wide as as_wide_lem, half as ha
 
 use crate::arithmetic::half;
 use crate::drivers::{Driver, last, one};
-use hw_nets::{binary, concat, copy, literal, plus, small, wire};
+use hw_nets::{binary, concat, copy, literal, wire};
 use std::alloc::{AllocError, Global};
-use tapa_base::Text;
+use tapa_base::{Text, narrow, plus};
 use vlog_tree::{Atom, BinaryOp, Value};
 
 // Adds the driver of an atom with its sign bit turned.
@@ -78,7 +78,7 @@ fn signed_less(
 {
     let mut drivers = Vec::new(alloc);
     add_turned(alloc, &mut drivers, width, a)?;
-    let second = plus(first, small(drivers.len())?)?;
+    let second = plus(first, narrow(drivers.len())?)?;
     add_turned(alloc, &mut drivers, width, b)?;
     let left = turned_atom(alloc, front, first, width, a)?;
     let right = turned_atom(alloc, front, second, width, b)?;

@@ -3,9 +3,9 @@
 ghost use Rattle.std.specs.Prelude.{◌≡◌, IfOk};
 ghost use Rattle.hw_task_lines.specs.Drivers.{last_of, one as one_lem};
 
-use hw_nets::{copy, plus, small, wire};
+use hw_nets::{copy, wire};
 use std::alloc::{AllocError, Global};
-use tapa_base::Text;
+use tapa_base::{Text, narrow, plus};
 use vlog_tree::{Atom, Value};
 
 /// The width of a wire and its driver.
@@ -34,6 +34,6 @@ pub fn last(
     if count == 0 {
         return copy(alloc, before);
     }
-    let offset = small(count - 1)?;
+    let offset = narrow(count - 1)?;
     wire(alloc, front, plus(first, offset)?)
 }

@@ -9,10 +9,10 @@ ghost use Rattle.hw_expressions.specs.Reads.{read_forms};
 ghost use Rattle.hw_states.specs.Operands.{expression_in};
 ghost use Rattle.hw_nets.specs.Shapes.{form};
 
-use hw_nets::{Shape, plus};
+use hw_nets::Shape;
 use hw_expressions::{ArrayRead, add_reads, read_count};
 use std::alloc::{AllocError, Global};
-use tapa_base::Kind;
+use tapa_base::{Kind, plus};
 use tapa_syntax::Expr;
 use task_fsm::State;
 use hw_task_lines::Net;

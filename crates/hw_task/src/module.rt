@@ -9,12 +9,12 @@ ghost use Rattle.hw_task.specs.Promise.{IsOfLeaf, KeepsPromise};
 
 use crate::ports::{add_held, add_inputs, add_offers};
 use crate::reads::add_all_reads;
-use hw_nets::{Shape, small};
+use hw_nets::Shape;
 use hw_outputs::{add_blocks, add_choices, add_outputs};
 use hw_build::Draft;
 use hw_states::{add_decodes, add_states};
 use std::alloc::{AllocError, Global};
-use tapa_base::{Kind, OutOfMemory, Text};
+use tapa_base::{Kind, OutOfMemory, Text, narrow};
 use tapa_syntax::End;
 use task_fsm::Fsm;
 use vlog_tree::Module;
@@ -66,7 +66,7 @@ fn count(machine: &Fsm, draft: &Draft) -> Result<(), AllocError>
     ensures states { IfOk result (λ u. length machine.now.states.items ≤ 2 ^ 32) }
     ensures lines { IfOk result (λ u. length draft.now.ports + length draft.now.items ≤ 2 ^ 64) }
 {
-    small(machine.states.len())?;
+    narrow(machine.states.len())?;
     draft.count()
 }
 

@@ -7,11 +7,11 @@ use Rattle.std.proofs.lemmas.Bool.{cases_eq, eq-eqb, ne_eqb}
 use Rattle.vlog_tree.specs.declared.tree.Atom.{Atom}
 use Rattle.vlog_tree.specs.declared.tree.BinaryOp.TheVariants.{And, Equals}
 use Rattle.vlog_tree.specs.declared.tree.Value.TheVariants.{Binary}
-use Rattle.vlog_tree.specs.Grounded.{Has}
+use Rattle.tapa_base.specs.Lists.{Has}
 use Rattle.vlog_tree.specs.Table.{Name, one_if}
 use Rattle.vlog_tree.specs.Cycle.{Cycle, Follows, atom_value}
 use Rattle.hw_build.specs.Elements.{Wire, built}
-use Rattle.vlog_tree.proofs.Lists.{has_right}
+use Rattle.tapa_base.proofs.Lists.{has_right}
 use Rattle.hw_build.proofs.Driven.{wire_driven}
 use Rattle.hw_build.specs.Scope.{each}
 use Rattle.hw_build.specs.Choices.{Entry, any_elements, pick_elements, choice}

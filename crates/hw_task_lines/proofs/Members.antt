@@ -2,8 +2,8 @@
 use Rattle.std.proofs.Common.{ℕ, ◌<◌, List, ◌++◌, length, inl, refl}
 use Rattle.vlog_tree.specs.declared.tree.BinaryOp.TheVariants.{Equals}
 use Rattle.vlog_tree.specs.declared.tree.Value.TheVariants.{Binary}
-use Rattle.vlog_tree.specs.Grounded.{Has}
-use Rattle.vlog_tree.proofs.Lists.{has_left, has_right}
+use Rattle.tapa_base.specs.Lists.{Has}
+use Rattle.tapa_base.proofs.Lists.{has_left, has_right}
 use Rattle.hw_build.specs.Elements.{Element, Wire}
 use Rattle.hw_build.specs.Scope.{each}
 use Rattle.hw_build.specs.Fits.{IsAmong}

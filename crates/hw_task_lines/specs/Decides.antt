@@ -1,6 +1,6 @@
 -- In a cycle in a state, a choice by state has what that state gives it.
 use Rattle.std.specs.Prelude.{◌≡◌, ℕ, ◌<◌, ◌⊎◌, length}
-use Rattle.vlog_tree.specs.Grounded.{Has}
+use Rattle.tapa_base.specs.Lists.{Has}
 use Rattle.vlog_tree.specs.Table.{Name}
 use Rattle.vlog_tree.specs.Cycle.{Cycle, Follows, atom_value}
 use Rattle.hw_build.specs.Elements.{built}

@@ -12,12 +12,12 @@ ghost use Rattle.hw_top_lines.specs.Names.{bound_net as bound_net_lem};
 ghost use Rattle.hw_top_lines.specs.Bounds.{scalar_kind as scalar_kind_lem, scalar_name as scalar_name_lem, parameter_kind as parameter_kind_lem, converted_net, kind_before as kind_before_lem, conversions as conversions_lem, conversion_step, bound_nets, bound_elements, bound_by as bound_by_lem, parameters};
 
 use crate::names::{bound_net, scalar};
-use hw_nets::{bits, literal, plus, small};
+use hw_nets::{bits, literal};
 use hw_build::{Draft, net_value};
 use hw_expressions::add_wires;
 use hw_operators::{conversion, last};
 use std::alloc::{AllocError, Global};
-use tapa_base::{Kind, Text, number_at};
+use tapa_base::{Kind, Text, narrow, number_at, plus};
 use tapa_syntax::{Bound, Instance, Leaf, Program};
 use vlog_tree::{Atom, Value};
 
@@ -115,7 +115,7 @@ fn add_steps(
 ) -> Result<(), AllocError>
     ensures { IfOk result (λ u. draft.new ≡ with_all draft.old (each (conversion_step i p first kinds.now) (length kinds.now))) }
 {
-    let count = small(kinds.len())?;
+    let count = narrow(kinds.len())?;
     for step in 0..count {
         add_step(alloc, draft, i, p, first, kinds, step)?;
     }
@@ -216,7 +216,7 @@ pub fn add_parameters(
 ) -> Result<(), AllocError>
     ensures { IfOk result (λ u. draft.new ≡ with_all draft.old (parameters program.now i x.now leaf.now)) }
 {
-    let count = small(leaf.scalars.len())?;
+    let count = narrow(leaf.scalars.len())?;
     for p in 0..count {
         add_parameter(alloc, draft, program, i, x, leaf, p)?;
     }
@@ -229,7 +229,7 @@ fn conversions(bound: &Bound) -> Result<u32, AllocError>
 {
     match bound {
         Bound::Number(_) => Ok(0),
-        Bound::Top { kinds, .. } => small(kinds.len()),
+        Bound::Top { kinds, .. } => narrow(kinds.len()),
     }
 }
 

@@ -8,11 +8,10 @@ ghost use Rattle.hw_top_lines.specs.Texts.{token_bits as token_bits_lem};
 ghost use Rattle.hw_top.specs.Places.{ArePlaces};
 
 use cross_pipe::channel;
-use hw_nets::small;
 use crate::wires::token_bits;
 use std::alloc::{AllocError, Global};
 use std::collections::HashMap;
-use tapa_base::number_at;
+use tapa_base::{narrow, number_at};
 use tapa_syntax::{Program, Stream};
 use vlog_scope::{NameTable, add_before, find_name};
 use vlog_tree::Module;
@@ -100,7 +99,7 @@ pub fn all_channels(
 {
     let mut modules = Vec::new(alloc);
     let mut places: NameTable = HashMap::new(alloc);
-    let count = small(program.streams.len())?;
+    let count = narrow(program.streams.len())?;
     for s in 0..count {
         add_channel(alloc, &mut modules, &mut places, program, added, s)?;
     }

@@ -12,10 +12,10 @@ ghost use Rattle.hw_top_lines.specs.Texts.{channel_ends as channel_ends_lem, mem
 
 use crate::bounds::bound_by;
 use crate::names::{ack, addr, din, dout, ended_net, has, rdata, rdy, take, wdata, we, wr};
-use hw_nets::{name, small};
+use hw_nets::name;
 use hw_build::text;
 use std::alloc::{AllocError, Global};
-use tapa_base::{Text, number_at};
+use tapa_base::{Text, narrow, number_at};
 use tapa_syntax::{Instance, Leaf, Program};
 use hw_task_lines::Net;
 use vlog_tree::{Connection, Connections};
@@ -203,7 +203,7 @@ fn add_scalars(
 ) -> Result<(), AllocError>
     ensures { IfOk result (λ u. ends.new.items ≡ ends.old.items ++ each (scalar_ends i x.now) (length leaf.now.scalars.items)) }
 {
-    let count = small(leaf.scalars.len())?;
+    let count = narrow(leaf.scalars.len())?;
     for p in 0..count {
         add_scalar(alloc, ends, i, x, p)?;
     }
@@ -219,7 +219,7 @@ fn add_streams(
 ) -> Result<(), AllocError>
     ensures { IfOk result (λ u. ends.new.items ≡ ends.old.items ++ each (stream_ends program.now x.now leaf.now) (length leaf.now.streams.items)) }
 {
-    let count = small(leaf.streams.len())?;
+    let count = narrow(leaf.streams.len())?;
     for p in 0..count {
         add_stream(alloc, ends, program, x, leaf, p)?;
     }
@@ -235,7 +235,7 @@ fn add_memories(
 ) -> Result<(), AllocError>
     ensures { IfOk result (λ u. ends.new.items ≡ ends.old.items ++ each (memory_ends program.now x.now) (length leaf.now.memories.items)) }
 {
-    let count = small(leaf.memories.len())?;
+    let count = narrow(leaf.memories.len())?;
     for p in 0..count {
         add_memory(alloc, ends, program, x, p)?;
     }

@@ -5,13 +5,12 @@ ghost use Rattle.hw_build.specs.Elements.{with_all};
 ghost use Rattle.hw_build.specs.Scope.{each};
 ghost use Rattle.hw_top_lines.specs.Texts.{at_instance, channel_part, instances, task_part};
 
-use hw_nets::small;
 use hw_build::Draft;
 use crate::ends::{channel_ends, task_ends};
 use crate::names::{channel_instance, channel_name, task_instance, task_name};
 use crate::wires::token_bits;
 use std::alloc::{AllocError, Global};
-use tapa_base::number_at;
+use tapa_base::{narrow, number_at};
 use tapa_syntax::{Instance, Leaf, Program};
 
 fn add_part(
@@ -67,7 +66,7 @@ fn add_channel(
 fn add_tasks(alloc: Global, draft: &mut Draft, program: &Program) -> Result<(), AllocError>
     ensures { IfOk result (λ u. draft.new ≡ with_all draft.old (each (at_instance program.now (task_part program.now)) (length program.now.instances.items))) }
 {
-    let count = small(program.instances.len())?;
+    let count = narrow(program.instances.len())?;
     for i in 0..count {
         add_task(alloc, draft, program, i)?;
     }
@@ -82,7 +81,7 @@ fn add_channels(
 ) -> Result<(), AllocError>
     ensures { IfOk result (λ u. draft.new ≡ with_all draft.old (each (λ s. channel_part (slice_index added.now s) (slice_get program.now.streams.items s)) (length program.now.streams.items))) }
 {
-    let count = small(program.streams.len())?;
+    let count = narrow(program.streams.len())?;
     for s in 0..count {
         add_channel(alloc, draft, program, added, s)?;
     }

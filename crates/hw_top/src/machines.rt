@@ -4,9 +4,8 @@ ghost use Rattle.std.specs.Prelude.{IfOk};
 ghost use Rattle.tapa_syntax.specs.WellFormed.{IsWellFormed};
 ghost use Rattle.hw_top_lines.specs.Legal.{AreMachinesOf};
 
-use hw_nets::small;
 use std::alloc::Global;
-use tapa_base::OutOfMemory;
+use tapa_base::{OutOfMemory, narrow};
 use tapa_syntax::Program;
 use task_fsm::{Fsm, lower};
 
@@ -15,7 +14,7 @@ pub fn machines_of(alloc: Global, program: &Program) -> Result<Vec<Fsm>, OutOfMe
     requires { IsWellFormed program.now }
     ensures { IfOk result (λ machines. AreMachinesOf program.now machines.items) }
 {
-    let count = small(program.bodies.len())?;
+    let count = narrow(program.bodies.len())?;
     let mut machines = Vec::new(alloc);
     for b in 0..count {
         let machine = lower(alloc, program, b)?;

@@ -11,11 +11,10 @@ ghost use Rattle.hw_task.specs.Promise.{IsOfLeaf, KeepsPromise};
 ghost use Rattle.hw_top.specs.Kept.{IsKept, IsOfBody};
 
 use crate::top::top_module;
-use hw_nets::small;
 use crate::channels::all_channels;
 use hw_task::module_of;
 use std::alloc::Global;
-use tapa_base::OutOfMemory;
+use tapa_base::{OutOfMemory, narrow};
 use tapa_syntax::{Leaf, Program};
 use task_fsm::Fsm;
 use vlog_tree::Module;
@@ -91,7 +90,7 @@ fn add_tasks(
     ensures modules { IfOk result (λ u. modules.new.items ≡ modules.old.items ++ task_modules program.now machines.now) }
     ensures promises { OnOk result ((b : ℕ) → IsKept program.now machines.now b) }
 {
-    let count = small(program.bodies.len())?;
+    let count = narrow(program.bodies.len())?;
     for b in 0..count {
         add_task(alloc, modules, program, machines, b)?;
     }

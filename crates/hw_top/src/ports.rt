@@ -5,11 +5,12 @@ ghost use Rattle.hw_build.specs.Elements.{with_all};
 ghost use Rattle.hw_build.specs.Scope.{each};
 ghost use Rattle.hw_top_lines.specs.Texts.{scalar_port, memory_ports, ports};
 
-use hw_nets::{bits, small};
+use hw_nets::bits;
 use hw_build::Draft;
 use crate::names::{ack, addr, rdata, scalar, wdata, we};
 use std::alloc::{AllocError, Global};
 use tapa_syntax::Program;
+use tapa_base::narrow;
 
 fn add_scalar(alloc: Global, draft: &mut Draft, program: &Program, x: u32) -> Result<(), AllocError>
     ensures { IfOk result (λ u. draft.new ≡ with_all draft.old (scalar_port (slice_get program.now.scalars.items x))) }
@@ -42,7 +43,7 @@ fn add_memory(alloc: Global, draft: &mut Draft, program: &Program, m: u32) -> Re
 fn add_scalars(alloc: Global, draft: &mut Draft, program: &Program) -> Result<(), AllocError>
     ensures { IfOk result (λ u. draft.new ≡ with_all draft.old (each (λ x. scalar_port (slice_get program.now.scalars.items x)) (length program.now.scalars.items))) }
 {
-    let count = small(program.scalars.len())?;
+    let count = narrow(program.scalars.len())?;
     for x in 0..count {
         add_scalar(alloc, draft, program, x)?;
     }
@@ -52,7 +53,7 @@ fn add_scalars(alloc: Global, draft: &mut Draft, program: &Program) -> Result<()
 fn add_memories(alloc: Global, draft: &mut Draft, program: &Program) -> Result<(), AllocError>
     ensures { IfOk result (λ u. draft.new ≡ with_all draft.old (each (λ m. memory_ports (slice_get program.now.memories.items m)) (length program.now.memories.items))) }
 {
-    let count = small(program.memories.len())?;
+    let count = narrow(program.memories.len())?;
     for m in 0..count {
         add_memory(alloc, draft, program, m)?;
     }

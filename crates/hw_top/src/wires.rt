@@ -9,12 +9,12 @@ ghost use Rattle.hw_top_lines.specs.Names.{waits as waits_lem};
 ghost use Rattle.hw_top_lines.specs.Bounds.{parameters};
 ghost use Rattle.hw_top_lines.specs.Texts.{at_instance, doneness, ended_wire, is_detached as is_detached_lem, none_waits as none_waits_lem, still_waits as still_waits_lem, stream_wires, take_wire, token_bits as token_bits_lem, waiting, wires};
 
-use hw_nets::{bits, literal, small};
+use hw_nets::{bits, literal};
 use hw_build::{Draft, net, numbered};
 use crate::bounds::add_parameters;
 use crate::names::{din, done, dout, ended_net, has, rdy, take, waits, wr};
 use std::alloc::{AllocError, Global};
-use tapa_base::Kind;
+use tapa_base::{Kind, narrow};
 use tapa_syntax::Program;
 use vlog_tree::{Atom, Value};
 
@@ -81,7 +81,7 @@ fn add_instance(
 fn add_streams(alloc: Global, draft: &mut Draft, program: &Program) -> Result<(), AllocError>
     ensures { IfOk result (λ u. draft.new ≡ with_all draft.old (each (λ s. stream_wires (slice_get program.now.streams.items s)) (length program.now.streams.items))) }
 {
-    let count = small(program.streams.len())?;
+    let count = narrow(program.streams.len())?;
     for s in 0..count {
         add_stream(alloc, draft, program, s)?;
     }
@@ -91,7 +91,7 @@ fn add_streams(alloc: Global, draft: &mut Draft, program: &Program) -> Result<()
 fn add_takes(alloc: Global, draft: &mut Draft, program: &Program) -> Result<(), AllocError>
     ensures { IfOk result (λ u. draft.new ≡ with_all draft.old (each (λ s. take_wire (slice_get program.now.streams.items s)) (length program.now.streams.items))) }
 {
-    let count = small(program.streams.len())?;
+    let count = narrow(program.streams.len())?;
     for s in 0..count {
         add_take(alloc, draft, program, s)?;
     }
@@ -101,7 +101,7 @@ fn add_takes(alloc: Global, draft: &mut Draft, program: &Program) -> Result<(), 
 fn add_bounds(alloc: Global, draft: &mut Draft, program: &Program) -> Result<(), AllocError>
     ensures { IfOk result (λ u. draft.new ≡ with_all draft.old (each (at_instance program.now (parameters program.now)) (length program.now.instances.items))) }
 {
-    let count = small(program.instances.len())?;
+    let count = narrow(program.instances.len())?;
     for i in 0..count {
         add_instance(alloc, draft, program, i)?;
     }
@@ -111,7 +111,7 @@ fn add_bounds(alloc: Global, draft: &mut Draft, program: &Program) -> Result<(),
 fn add_ends(alloc: Global, draft: &mut Draft, program: &Program) -> Result<(), AllocError>
     ensures { IfOk result (λ u. draft.new ≡ with_all draft.old (each ended_wire (length program.now.instances.items))) }
 {
-    let count = small(program.instances.len())?;
+    let count = narrow(program.instances.len())?;
     for i in 0..count {
         add_ended(alloc, draft, i)?;
     }
@@ -166,7 +166,7 @@ fn add_waiting(
 fn add_all_waiting(alloc: Global, draft: &mut Draft, program: &Program) -> Result<(), AllocError>
     ensures { IfOk result (λ u. draft.new ≡ with_all draft.old (each (waiting program.now) (length program.now.instances.items))) }
 {
-    let count = small(program.instances.len())?;
+    let count = narrow(program.instances.len())?;
     for i in 0..count {
         add_waiting(alloc, draft, program, i)?;
     }
@@ -209,7 +209,7 @@ pub fn add_done(alloc: Global, draft: &mut Draft, program: &Program) -> Result<(
     ensures { IfOk result (λ u. draft.new ≡ with_all draft.old (doneness program.now)) }
 {
     add_all_waiting(alloc, draft, program)?;
-    let count = small(program.instances.len())?;
+    let count = narrow(program.instances.len())?;
     add_tree(alloc, draft, count)?;
     add_output(alloc, draft, count)?;
     Ok(())

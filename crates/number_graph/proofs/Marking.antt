@@ -3,11 +3,10 @@ use Rattle.std.proofs.Common.{◌≡◌, ℕ, zero, suc, ◌+◌, ◌<◌, Bool,
 use Rattle.std.specs.Prelude.{◌⊎◌, ◌≢◌, slice_set}
 use Rattle.std.proofs.lemmas.Bool.{cases_eq}
 use Rattle.std.proofs.lemmas.List.{get_or-set_same, get_or-set_other, get_or_append_left, append-nil, length_push, length-set, take_more, drop_more}
-use Rattle.vlog_tree.specs.Grounded.{Has}
-use Rattle.vlog_tree.specs.Loops.{Chain, one, more}
+use Rattle.tapa_base.specs.Lists.{Has, Chain, one, more}
 use Rattle.number_graph.specs.Graphs.{Adjacency, Steps, IsReached}
 use Rattle.number_graph.specs.Marks.{IsMarked, unset, Grows}
-use Rattle.vlog_tree.proofs.Lists.{has_left, has_right, has_split}
+use Rattle.tapa_base.proofs.Lists.{has_left, has_right, has_split}
 use Rattle.number_graph.proofs.Reached.{snoc}
 
 pub unset_set : (marks : List Bool) (n : ℕ) → n < length marks → get_or marks n false ≡ false → suc (unset (slice_set marks n true)) ≡ unset marks

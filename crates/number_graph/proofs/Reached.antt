@@ -1,6 +1,6 @@
 -- What chains reach.
 use Rattle.std.proofs.Common.{ℕ, ◌<◌, ◌≤◌, arith}
-use Rattle.vlog_tree.specs.Loops.{Chain, one, more}
+use Rattle.tapa_base.specs.Lists.{Chain, one, more}
 
 pub snoc : {N : Type 0} (R : N → N → Type 0) (a b c : N) → Chain R a b → R b c → Chain R a c
 snoc R a b c (one h) s = more b h (one s)

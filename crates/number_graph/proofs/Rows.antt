@@ -2,9 +2,9 @@
 use Rattle.std.proofs.Common.{◌≡◌, ℕ, zero, suc, List, [], ◌∷◌, ◌++◌, length, get_or, inl, inr, refl, sym, ap, subst}
 use Rattle.std.specs.Prelude.{◌⊎◌, ◌≢◌, ◌↔◌, Vec}
 use Rattle.std.proofs.lemmas.Bool.{cases_eq}
-use Rattle.vlog_tree.specs.Grounded.{Has}
+use Rattle.tapa_base.specs.Lists.{Has}
 use Rattle.number_graph.specs.Graphs.{rows_of, targets_of}
-use Rattle.vlog_tree.proofs.Lists.{has_left, has_right, has_split}
+use Rattle.tapa_base.proofs.Lists.{has_left, has_right, has_split}
 
 pub rows_len : {A : Type 0} (rows : List (Vec ℕ A)) → length (rows_of rows) ≡ length rows
 rows_len [] = refl

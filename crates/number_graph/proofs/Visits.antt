@@ -3,11 +3,10 @@ use Rattle.std.proofs.Common.{◌≡◌, ℕ, zero, suc, ◌+◌, ◌-◌, ◌<�
 use Rattle.std.specs.Prelude.{◌⊎◌, ◌≢◌, slice_set}
 use Rattle.std.proofs.lemmas.Bool.{cases_eq, cases_lt}
 use Rattle.std.proofs.lemmas.List.{get_or-set_same, get_or-set_other, length-set, get_or_append_left, get_or_push, get_or_past, get_or-take, length_push, length-take-le, take-append-le, take_at}
-use Rattle.vlog_tree.specs.Grounded.{Has}
-use Rattle.vlog_tree.specs.Loops.{Chain, one, more}
+use Rattle.tapa_base.specs.Lists.{Has, Chain, one, more}
 use Rattle.number_graph.specs.Graphs.{Adjacency, Steps, ArePartsFirst, IsOrder}
 use Rattle.number_graph.specs.Visits.{IsOpen, IsDone, IsBehind, IsVisit, steps_left, IsFurther}
-use Rattle.vlog_tree.proofs.Lists.{has_left, has_right, has_split}
+use Rattle.tapa_base.proofs.Lists.{has_left, has_right, has_split}
 use Rattle.number_graph.proofs.Numbers.{has_at}
 use Rattle.number_graph.proofs.Reached.{snoc}
 

@@ -1,8 +1,7 @@
 -- Graphs of numbers.
 use Rattle.std.specs.Prelude.{ℕ, ◌<◌, ◌≤◌, List, [], ◌∷◌, length, slice_get, get_or, take, Vec}
 use Rattle.std.specs.Option.{option_map_or}
-use Rattle.vlog_tree.specs.Grounded.{Has}
-use Rattle.vlog_tree.specs.Loops.{Chain}
+use Rattle.tapa_base.specs.Lists.{Has, Chain}
 
 -- of each node its targets, the nodes that it rests on; the nodes are the numbers below the length
 abbrev pub Adjacency : Type 0

@@ -1,6 +1,6 @@
 -- Marks of numbers, and the numbers that are noted as marked.
 use Rattle.std.specs.Prelude.{◌≡◌, ◌↔◌, ℕ, suc, ◌+◌, List, [], ◌∷◌, ◌++◌, Bool, true, false, length, get_or}
-use Rattle.vlog_tree.specs.Grounded.{Has}
+use Rattle.tapa_base.specs.Lists.{Has}
 
 -- a mark stands at just the numbers that are noted
 abbrev pub IsMarked : List Bool → List ℕ → Type 0

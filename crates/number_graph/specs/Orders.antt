@@ -1,6 +1,6 @@
 -- What is answered of a graph.
 use Rattle.std.specs.Prelude.{◌≡◌, ℕ, ◌<◌, length, get_or, Option, Some, None}
-use Rattle.vlog_tree.specs.Loops.{Chain}
+use Rattle.tapa_base.specs.Lists.{Chain}
 use Rattle.number_graph.specs.declared.order.Order.{Order}
 use Rattle.number_graph.specs.declared.order.Order.TheVariants.{PartsFirst, Cycle}
 use Rattle.number_graph.specs.declared.order.Visit.{Visit}

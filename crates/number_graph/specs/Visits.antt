@@ -1,6 +1,6 @@
 -- How far a visit of all nodes has come.
 use Rattle.std.specs.Prelude.{◌≡◌, ◌≢◌, ◌⊎◌, ℕ, ◌+◌, ◌-◌, ◌<◌, ◌≤◌, List, [], ◌∷◌, length, get_or}
-use Rattle.vlog_tree.specs.Grounded.{Has}
+use Rattle.tapa_base.specs.Lists.{Has}
 use Rattle.number_graph.specs.Graphs.{Adjacency, Steps, ArePartsFirst}
 
 -- The progress of a node is 0 as long as it is new, one more than the number of its targets that were looked at as long as

@@ -1,8 +1,7 @@
 // Whether a node reaches itself, mostly without a search.
 
 ghost use Rattle.std.specs.Prelude.{◌≡◌, ◌↔◌, ◌<◌, [], ℕ, List, true, false, length, get_or, IfOk};
-ghost use Rattle.vlog_tree.specs.Grounded.{Has};
-ghost use Rattle.vlog_tree.specs.Loops.{Chain};
+ghost use Rattle.tapa_base.specs.Lists.{Has, Chain};
 ghost use Rattle.number_graph.specs.Graphs.{Steps, NeverRise};
 
 use crate::components::component_levels;

@@ -1,7 +1,7 @@
 // Graphs of numbers.
 
 ghost use Rattle.std.specs.Prelude.{◌≡◌, ◌≢◌, ◌<◌, ◌++◌, ◌∷◌, [], ℕ, List, length, get_or, ◌↔◌, IfOk, OnOk};
-ghost use Rattle.vlog_tree.specs.Grounded.{Has};
+ghost use Rattle.tapa_base.specs.Lists.{Has};
 ghost use Rattle.number_graph.specs.Graphs.{Steps, AreNodes, targets_of};
 
 use std::alloc::{AllocError, Global};

@@ -2,7 +2,7 @@
 
 ghost use Rattle.std.specs.Prelude.{◌≡◌, ◌<◌, ◌≤◌, ◌+◌, ◌-◌, ◌++◌, ◌∷◌, [], ℕ, List, Some, None, length, get_or, IfOk, OnOk};
 ghost use Rattle.number_graph.specs.Graphs.{Adjacency, Steps, IsOrder};
-ghost use Rattle.vlog_tree.specs.Loops.{Chain};
+ghost use Rattle.tapa_base.specs.Lists.{Chain};
 ghost use Rattle.number_graph.specs.Visits.{IsBehind, IsDone, IsOpen, IsFurther};
 ghost use Rattle.number_graph.specs.Orders.{IsAnswer, IsVisitOf, left_of, GoesOn, IsTurn, IsRootTurn};
 

@@ -1,8 +1,7 @@
 // What nodes reach.
 
 ghost use Rattle.std.specs.Prelude.{◌≡◌, ◌<◌, ◌≤◌, ◌+◌, ◌↔◌, [], ◌∷◌, ℕ, List, true, false, length, get_or, IfOk, OnOk};
-ghost use Rattle.vlog_tree.specs.Grounded.{Has};
-ghost use Rattle.vlog_tree.specs.Loops.{Chain};
+ghost use Rattle.tapa_base.specs.Lists.{Has, Chain};
 ghost use Rattle.number_graph.specs.Graphs.{Steps, IsReached};
 ghost use Rattle.number_graph.specs.Marks.{IsMarked, unset, Grows};
 

@@ -11,12 +11,12 @@ use Rattle.vlog_tree.specs.declared.tree.PortDecl.{PortDecl}
 use Rattle.vlog_tree.specs.declared.table.NetKind.TheVariants.{Input, Unknown}
 use Rattle.vlog_tree.specs.Loops.{asked_port}
 use Rattle.vlog_tree.specs.Flattened.{parts}
-use Rattle.vlog_tree.specs.Grounded.{Has}
+use Rattle.tapa_base.specs.Lists.{Has}
 use Rattle.vlog_tree.specs.Labels.{ack_of, addr_of, m_ack, m_addr, m_rdata, read_of, address_of}
 use Rattle.vlog_tree.specs.Table.{Name, declared, port_declared, items_declared, declaration_name, find_name, net_kind_of, net_kind_is_read, net_kind_is_input, bits_of, first_violation}
 use Rattle.vlog_tree.specs.V6.{v6_uses, is_top, port_fits, addr_fits, wdata_fits, we_fits, has_all_five, is_out, has_port}
 use Rattle.vlog_tree.specs.Environment.{shape_of, memory_label}
-use Rattle.vlog_tree.proofs.Lists.{of_map, has_map, has_flat, got_has}
+use Rattle.tapa_base.proofs.Lists.{of_map, has_map, has_flat, got_has}
 use Rattle.vlog_scope.proofs.Found.{missing}
 use Rattle.vlog_scope.specs.NameTable.{places_from}
 use Rattle.vlog_run_laws.proofs.runs.Sound.{both_true, true_not_false}

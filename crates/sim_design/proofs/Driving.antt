@@ -9,11 +9,11 @@ use Rattle.vlog_tree.specs.Loops.{value_nets}
 use Rattle.vlog_tree.specs.declared.tree.Item.TheVariants.{Assign}
 use Rattle.vlog_tree.specs.declared.table.Declaration.{Declaration}
 use Rattle.vlog_tree.specs.Form.{ModuleTree}
-use Rattle.vlog_tree.specs.Grounded.{Has}
+use Rattle.tapa_base.specs.Lists.{Has}
 use Rattle.vlog_tree.specs.Table.{Name, declared, bits_of, net_kind_of, net_kind_is_driven, net_kind_is_read, net_kind_is_memory}
 use Rattle.vlog_tree.specs.V3.{value_fits}
 use Rattle.vlog_tree.specs.Cycle.{Cycle, Sizes, Path, Holds, driven, module_at}
-use Rattle.vlog_tree.proofs.Lists.{has_got}
+use Rattle.tapa_base.proofs.Lists.{has_got}
 use Rattle.vlog_run_laws.proofs.runs.Sizes.{all_at, width_held}
 use Rattle.vlog_run_laws.proofs.runs.Sound.{assign_driven, assign_reads, assign_cell}
 use Rattle.vlog_run_laws.proofs.runs.Settled.{module_in}

@@ -5,13 +5,12 @@ use Rattle.std.proofs.lemmas.Bool.{cases_lt}
 use Rattle.std.proofs.lemmas.Option.{same_Some, slice_get_within}
 use Rattle.vlog_tree.specs.declared.tree.Item.TheVariants.{Reg, Memory}
 use Rattle.vlog_tree.specs.Form.{ModuleTree}
-use Rattle.vlog_tree.specs.Grounded.{Has}
+use Rattle.tapa_base.specs.Lists.{Has}
 use Rattle.vlog_tree.specs.Flattened.{FlatNet}
 use Rattle.vlog_tree.specs.Table.{declared, net_kind_of, net_kind_is_register}
 use Rattle.vlog_tree.specs.Cycle.{Cycle, Sizes, Path, Holds, module_at, run_items}
-use Rattle.vlog_tree.proofs.Lists.{has_got, has_left, has_right, has_split}
+use Rattle.tapa_base.proofs.Lists.{has_got, has_left, has_right, has_split, some_of}
 use Rattle.vlog_run_laws.proofs.runs.Sizes.{all_at, declared_net_kind}
-use Rattle.vlog_ref_start.proofs.Found.{some_of}
 use Rattle.sim_tape.specs.declared.gates.Pair.{Pair}
 use Rattle.sim_tape.specs.Operators.{Cells}
 use Rattle.sim_tape.specs.Tape.{TapeTree, Extends}

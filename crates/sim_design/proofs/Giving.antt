@@ -8,7 +8,7 @@ use Rattle.vlog_tree.specs.Flattened.{FlatNet}
 use Rattle.vlog_tree.specs.Cycle.{module_at}
 use Rattle.vlog_tree.specs.Table.{is_clk, declared, net_kind_of, net_kind_is_read, bits_of}
 use Rattle.std.proofs.lemmas.Option.{same_Some}
-use Rattle.vlog_ref_start.proofs.Found.{some_of}
+use Rattle.tapa_base.proofs.Lists.{some_of}
 use Rattle.sim_tape.specs.declared.gates.Pair.{Pair}
 use Rattle.sim_tape.specs.declared.gates.Gate.{Gate}
 use Rattle.sim_tape.specs.declared.gates.Rule.TheVariants.{Given, Constant}

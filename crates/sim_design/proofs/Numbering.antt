@@ -8,12 +8,12 @@ use Rattle.vlog_tree.specs.declared.tree.Item.TheVariants.{Memory}
 use Rattle.vlog_tree.specs.declared.table.Declaration.{Declaration}
 use Rattle.vlog_tree.specs.declared.table.NetKind.TheVariants.{MemoryArray}
 use Rattle.vlog_tree.specs.Form.{ModuleTree}
-use Rattle.vlog_tree.specs.Grounded.{Has}
+use Rattle.tapa_base.specs.Lists.{Has}
 use Rattle.vlog_tree.specs.Flattened.{FlatNet}
 use Rattle.vlog_tree.specs.Cycle.{module_at}
 use Rattle.vlog_tree.specs.Environment.{shape_of}
 use Rattle.vlog_tree.specs.Table.{declared, find_name, net_kind_of, net_kind_is_memory}
-use Rattle.vlog_tree.proofs.Lists.{has_got}
+use Rattle.tapa_base.proofs.Lists.{has_got}
 use Rattle.vlog_run_laws.proofs.runs.Alike.{memory_is}
 use Rattle.vlog_run_laws.proofs.runs.Alone.{stands_for}
 use Rattle.vlog_run_laws.proofs.runs.Settled.{module_in}

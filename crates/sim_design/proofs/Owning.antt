@@ -9,7 +9,7 @@ use Rattle.vlog_tree.specs.Form.{ModuleTree}
 use Rattle.vlog_tree.specs.Flattened.{FlatNet}
 use Rattle.vlog_tree.specs.declared.table.Declaration.{Declaration}
 use Rattle.vlog_tree.specs.declared.table.NetKind.TheVariants as kind
-use Rattle.vlog_tree.specs.Grounded.{Has}
+use Rattle.tapa_base.specs.Lists.{Has}
 use Rattle.vlog_tree.specs.Cycle.{Path, module_at}
 use Rattle.vlog_tree.specs.Labels.{rdata_of, m_rdata}
 use Rattle.vlog_tree.specs.V6.{has_all_five}
@@ -19,7 +19,7 @@ use Rattle.vlog_run_laws.proofs.runs.Sound.{true_not_false}
 use Rattle.vlog_run_laws.proofs.runs.Settled.{module_in, top_tree}
 use Rattle.vlog_run_laws.proofs.runs.Labelled.{rdata_label}
 use Rattle.vlog_run_laws.proofs.runs.TopPorts.{input_port, all_five}
-use Rattle.vlog_tree.proofs.Lists.{has_got}
+use Rattle.tapa_base.proofs.Lists.{has_got}
 use Rattle.sim_flat.specs.Instances.{StandsAt, IsModuleOf}
 use Rattle.sim_flat.specs.declared.flat.Flat.{Flat}
 use Rattle.sim_flat.specs.declared.tables.Source.{Source}

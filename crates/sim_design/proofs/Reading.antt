@@ -2,12 +2,12 @@
 use Rattle.std.proofs.Common.{◌≡◌, ℕ, ◌<◌, true, List, Option, None, length, get_or, take, inl, inr}
 use Rattle.std.specs.Prelude.{IsSome}
 use Rattle.vlog_tree.specs.Form.{ModuleTree}
-use Rattle.vlog_tree.specs.Grounded.{Has}
+use Rattle.tapa_base.specs.Lists.{Has}
 use Rattle.vlog_tree.specs.Table.{first_violation}
 use Rattle.vlog_tree.specs.V2.{v2_uses}
 use Rattle.vlog_tree.specs.V6.{v6_uses, is_top}
 use Rattle.vlog_tree.specs.Flattened.{FlatNet, parts, line_parts}
-use Rattle.vlog_tree.proofs.Lists.{of_flat}
+use Rattle.tapa_base.proofs.Lists.{of_flat}
 use Rattle.vlog_run_laws.proofs.runs.Settled.{parts_split}
 use Rattle.sim_tape.specs.declared.gates.Pair.{Pair}
 use Rattle.sim_flat.specs.declared.flat.Flat.{Flat}

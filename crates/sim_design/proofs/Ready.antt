@@ -11,12 +11,12 @@ use Rattle.vlog_tree.specs.declared.table.NetKind.{NetKind}
 use Rattle.vlog_tree.specs.declared.table.NetKind.TheVariants as kind
 use Rattle.vlog_tree.specs.Form.{ModuleTree, IsModule, nested, is_step, is_item, is_port}
 use Rattle.vlog_tree.specs.Names.{is_name}
-use Rattle.vlog_tree.specs.Grounded.{Has}
+use Rattle.tapa_base.specs.Lists.{Has}
 use Rattle.vlog_tree.specs.Refused.{IsSound}
 use Rattle.vlog_tree.specs.Table.{Name, NameUse, is_clk, declared, net_kind_of, net_kind_is_read, net_kind_is_register, net_kind_is_memory, bits_of, is_doubled_name}
 use Rattle.vlog_tree.specs.V2.{read_use, register_use, memory_use, inner_use, step_uses, item_uses}
 use Rattle.vlog_tree.specs.V3.{v3_uses, module_widths, item_widths, port_widths, step_widths, net_fits, memory_fits, has_bits, atom_bits, atom_fits}
-use Rattle.vlog_tree.proofs.Lists.{has_flat, has_right}
+use Rattle.tapa_base.proofs.Lists.{has_flat, has_right}
 use Rattle.vlog_run_laws.proofs.runs.Sound.{right, both_false, not_no, item_right, atom_read}
 use Rattle.vlog_run_laws.proofs.runs.Sizes.{all_from, register_item}
 use Rattle.sim_tape.specs.declared.gates.Pair.{Pair}

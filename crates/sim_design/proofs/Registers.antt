@@ -3,9 +3,9 @@ use Rattle.std.proofs.Common.{◌≡◌, ℕ, zero, suc, ◌<◌, Bool, true, fa
 use Rattle.std.specs.Prelude.{◌⊎◌, ◌≢◌, ◌==◌, slice_get}
 use Rattle.std.proofs.lemmas.Bool.{cases_lt, eqb-true, eq-eqb, false≢true}
 use Rattle.vlog_tree.specs.declared.table.Declaration.{Declaration}
-use Rattle.vlog_tree.specs.Grounded.{Has}
+use Rattle.tapa_base.specs.Lists.{Has}
 use Rattle.vlog_tree.specs.Table.{net_kind_is_register}
-use Rattle.vlog_tree.proofs.Lists.{has_got, has_left, has_right, has_split}
+use Rattle.tapa_base.proofs.Lists.{has_got, has_left, has_right, has_split}
 use Rattle.sim_tape.specs.declared.gates.Pair.{Pair}
 use Rattle.sim_design.specs.declared.drafts.Commit.{Commit}
 use Rattle.sim_design.specs.Commits.{commits_of, commits_at, commits_for, commits_below}

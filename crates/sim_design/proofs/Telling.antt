@@ -18,7 +18,7 @@ use Rattle.sim_flat.specs.Flat.{HasNumber}
 use Rattle.sim_design.specs.States.{IsTold, AreRead, Tells}
 use Rattle.sim_design.specs.Placed.{AreFree, AllFree, AreKept, ArePlacedMore}
 use Rattle.vlog_run_laws.proofs.runs.Sound.{true_not_false}
-use Rattle.vlog_ref_start.proofs.Found.{some_of}
+use Rattle.tapa_base.proofs.Lists.{some_of}
 
 none_of : {A : Type 0} (o : Option A) → is_some o ≡ false → o ≡ None
 none_of None e = refl

@@ -6,7 +6,7 @@ use Rattle.vlog_tree.specs.declared.tree.Connection.{Connection}
 use Rattle.vlog_tree.specs.declared.tree.Item.TheVariants.{Assign, Instance}
 use Rattle.vlog_tree.specs.declared.table.NetKind.TheVariants as kind
 use Rattle.vlog_tree.specs.Form.{ModuleTree}
-use Rattle.vlog_tree.specs.Grounded.{Has}
+use Rattle.tapa_base.specs.Lists.{Has}
 use Rattle.vlog_tree.specs.Table.{Name, declared, port_declared, net_kind_of, net_kind_is_driven, net_kind_is_input, ports_of, first_violation}
 use Rattle.vlog_tree.specs.V2.{v2_uses}
 use Rattle.vlog_tree.specs.V4.{v4_uses}

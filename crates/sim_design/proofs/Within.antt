@@ -8,11 +8,11 @@ use Rattle.vlog_tree.specs.declared.tree.Item.TheVariants.{Reg}
 use Rattle.vlog_tree.specs.declared.table.Declaration.{Declaration}
 use Rattle.vlog_tree.specs.declared.table.NetKind.TheVariants.{Register}
 use Rattle.vlog_tree.specs.Form.{ModuleTree, IsModule}
-use Rattle.vlog_tree.specs.Grounded.{Has}
+use Rattle.tapa_base.specs.Lists.{Has}
 use Rattle.vlog_tree.specs.Flattened.{FlatNet}
 use Rattle.vlog_tree.specs.Table.{Name, declared, declaration_name, net_kind_of, net_kind_is_read, net_kind_is_register, net_kind_is_memory}
 use Rattle.vlog_tree.specs.Cycle.{Path, and_then, module_at}
-use Rattle.vlog_tree.proofs.Lists.{has_got}
+use Rattle.tapa_base.proofs.Lists.{has_got}
 use Rattle.vlog_scope.specs.NameTable.{places_from}
 use Rattle.vlog_run_laws.proofs.runs.Alike.{memory_is}
 use Rattle.vlog_run_laws.proofs.runs.Sizes.{all_at, memory_item, register_item, declared_net_kind, has_line}

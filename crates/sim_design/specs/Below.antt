@@ -2,7 +2,7 @@
 use Rattle.std.specs.Prelude.{◌≡◌, ◌≢◌, ◌⊎◌, ℕ, ◌<◌, List, [], ◌∷◌, Option, Some, None, get_or}
 use Rattle.vlog_tree.specs.declared.tree.Item.TheVariants.{Reg, Memory}
 use Rattle.vlog_tree.specs.Form.{ModuleTree}
-use Rattle.vlog_tree.specs.Grounded.{Has}
+use Rattle.tapa_base.specs.Lists.{Has}
 use Rattle.vlog_tree.specs.Flattened.{FlatNet}
 use Rattle.vlog_tree.specs.Cycle.{Cycle, Sizes, Path, module_at, run_items}
 use Rattle.sim_tape.specs.declared.gates.Pair.{Pair}

@@ -7,13 +7,13 @@ use Rattle.vlog_tree.specs.declared.tree.Item.TheVariants.{Assign}
 use Rattle.vlog_tree.specs.declared.table.Declaration.{Declaration}
 use Rattle.vlog_tree.specs.declared.table.NetKind.TheVariants.{Input}
 use Rattle.vlog_tree.specs.Form.{ModuleTree}
-use Rattle.vlog_tree.specs.Grounded.{Has}
+use Rattle.tapa_base.specs.Lists.{Has}
 use Rattle.vlog_tree.specs.Table.{Name, declared, port_declared, net_kind_of, net_kind_is_read, net_kind_is_input}
 use Rattle.vlog_tree.specs.Labels.{rdata_of, m_addr, read_of, address_of}
 use Rattle.vlog_tree.specs.V6.{has_port}
 use Rattle.vlog_tree.specs.Loops.{value_nets, asked_port}
 use Rattle.vlog_tree.specs.Flattened.{FlatNet, parts}
-use Rattle.vlog_tree.proofs.Lists.{has_got, has_map}
+use Rattle.tapa_base.proofs.Lists.{has_got, has_map}
 use Rattle.vlog_run_laws.proofs.runs.Sound.{declared_by, assign_reads}
 use Rattle.vlog_run_laws.proofs.runs.Settled.{top_tree}
 use Rattle.vlog_run_laws.proofs.runs.Module.{name_declared}

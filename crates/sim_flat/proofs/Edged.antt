@@ -10,14 +10,14 @@ use Rattle.vlog_tree.specs.declared.tree.Item.{Item}
 use Rattle.vlog_tree.specs.declared.tree.Item.TheVariants.{Wire, Reg, Memory, Assign, Always, Instance}
 use Rattle.vlog_tree.specs.declared.table.Declaration.{Declaration}
 use Rattle.vlog_tree.specs.Form.{ModuleTree}
-use Rattle.vlog_tree.specs.Grounded.{Has}
+use Rattle.tapa_base.specs.Lists.{Has}
 use Rattle.vlog_tree.specs.Cycle.{Path, module_at}
 use Rattle.vlog_tree.specs.Table.{Name, declared, port_declared, declaration_name, net_kind_of, net_kind_is_input, ports_of}
 use Rattle.vlog_tree.specs.V6.{has_port}
 use Rattle.vlog_tree.specs.Labels.{address_of}
 use Rattle.vlog_tree.specs.Loops.{value_nets, asked_port}
 use Rattle.vlog_tree.specs.Flattened.{FlatNet, parts, line_parts}
-use Rattle.vlog_tree.proofs.Lists.{has_left, has_right, has_split, has_flat, of_flat, has_map, of_map, has_got}
+use Rattle.tapa_base.proofs.Lists.{has_left, has_right, has_split, has_flat, of_flat, has_map, of_map, has_got}
 use Rattle.vlog_run_laws.proofs.runs.Sound.{declared_by}
 use Rattle.vlog_run_laws.proofs.runs.Alone.{one_instance}
 use Rattle.vlog_run_laws.proofs.runs.Settled.{outside, answers, parts_split, Joined, joined}

@@ -7,11 +7,11 @@ use Rattle.std.proofs.lemmas.Bool.{cases_eq}
 use Rattle.std.proofs.lemmas.Option.{slice_get_past}
 use Rattle.vlog_tree.specs.declared.table.Declaration.{Declaration}
 use Rattle.vlog_tree.specs.Form.{ModuleTree}
-use Rattle.vlog_tree.specs.Grounded.{Has}
+use Rattle.tapa_base.specs.Lists.{Has}
 use Rattle.vlog_tree.specs.Table.{Name}
 use Rattle.vlog_net_graph.proofs.Growing.{flat_map-append}
 use Rattle.vlog_tree.proofs.Walks.{grows}
-use Rattle.vlog_tree.proofs.Lists.{has_left, has_right, has_split, has_flat, of_flat}
+use Rattle.tapa_base.proofs.Lists.{has_left, has_right, has_split, has_flat, of_flat}
 use Rattle.sim_flat.specs.Places.{number_in, both}
 use Rattle.sim_flat.specs.declared.instances.Instance as row
 use Rattle.sim_flat.specs.declared.flat.Flat.{Flat}

@@ -7,12 +7,12 @@ use Rattle.vlog_tree.specs.declared.tree.PortDecl.{PortDecl}
 use Rattle.vlog_tree.specs.declared.table.Declaration.{Declaration}
 use Rattle.vlog_tree.specs.declared.table.NetKind.TheVariants.{Unknown, Input, Output}
 use Rattle.vlog_tree.specs.Form.{ModuleTree, is_input}
-use Rattle.vlog_tree.specs.Grounded.{Has}
+use Rattle.tapa_base.specs.Lists.{Has}
 use Rattle.vlog_tree.specs.Cycle.{Path}
 use Rattle.vlog_tree.specs.Table.{Name, declared, port_declared, find_name, net_kind_of, net_kind_is_input, ports_of}
 use Rattle.vlog_tree.specs.Loops.{instances}
 use Rattle.vlog_tree.specs.Flattened.{FlatNet, parts}
-use Rattle.vlog_tree.proofs.Lists.{has_got, of_map, has_map}
+use Rattle.tapa_base.proofs.Lists.{has_got, of_map, has_map}
 use Rattle.vlog_run_laws.proofs.runs.Sound.{input_is, port_net_kind}
 use Rattle.vlog_run_laws.proofs.runs.Alone.{module_is, find_there}
 use Rattle.vlog_run_laws.proofs.runs.TopPorts.{input_port}

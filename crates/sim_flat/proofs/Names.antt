@@ -4,10 +4,10 @@ use Rattle.std.specs.Prelude.{◌⊎◌, bytes_eq, slice_get, is_some, unwrap_or
 use Rattle.std.specs.Cmp.Lexicographic.{bytes_decides}
 use Rattle.vlog_tree.specs.declared.table.Declaration.{Declaration}
 use Rattle.vlog_tree.specs.Form.{ModuleTree}
-use Rattle.vlog_tree.specs.Grounded.{Has}
+use Rattle.tapa_base.specs.Lists.{Has}
 use Rattle.vlog_tree.specs.Table.{Name, declared, declaration_name, first_violation}
 use Rattle.vlog_tree.specs.V2.{v2_uses}
-use Rattle.vlog_tree.proofs.Lists.{has_got, of_map}
+use Rattle.tapa_base.proofs.Lists.{has_got, of_map}
 use Rattle.vlog_scope.specs.NameTable.{places_from}
 use Rattle.vlog_run_laws.proofs.runs.Sound.{true_not_false}
 use Rattle.sim_flat.proofs.Once.{declared_at_once}

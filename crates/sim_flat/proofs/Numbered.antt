@@ -4,19 +4,19 @@ use Rattle.std.specs.Prelude.{slice_get}
 use Rattle.std.proofs.lemmas.Bool.{cases_lt, cases_eq}
 use Rattle.vlog_tree.specs.declared.tree.Item.TheVariants.{Instance}
 use Rattle.vlog_tree.specs.Form.{ModuleTree}
-use Rattle.vlog_tree.specs.Grounded.{Has}
+use Rattle.tapa_base.specs.Lists.{Has}
 use Rattle.vlog_tree.specs.Cycle.{Path, module_at}
 use Rattle.vlog_tree.specs.Table.{Name, module_declared, module_named}
 use Rattle.vlog_tree.specs.Loops.{item_instances, instances}
 use Rattle.vlog_tree.specs.V6.{is_top}
 use Rattle.vlog_tree.specs.Refused.{IsDesign}
-use Rattle.vlog_tree.proofs.Lists.{has_flat, has_got, got_has}
+use Rattle.tapa_base.proofs.Lists.{has_flat, has_got, got_has}
 use Rattle.vlog_run_laws.proofs.runs.Alone.{module_there, instance_item}
 use Rattle.vlog_run_laws.proofs.runs.Sound.{is_known_module}
 use Rattle.vlog_run_laws.proofs.runs.Settled.{module_in, child_at}
 use Rattle.vlog_run_laws.proofs.runs.Solved.{child_item, Around, module_around}
 use Rattle.vlog_run_laws.proofs.loops.Climbed.{named_is}
-use Rattle.vlog_ref_start.proofs.Short.{way_short}
+use Rattle.vlog_run_laws.proofs.runs.Short.{way_short}
 use Rattle.sim_flat.specs.declared.instances.Instance as row
 use Rattle.sim_flat.specs.Kinds.{kind_place, module_kinds, all_kinds}
 use Rattle.sim_flat.specs.Rows.{row_at, IsInside, AreRows, HaveDepth}

@@ -2,8 +2,8 @@
 use Rattle.std.proofs.Common.{◌≡◌, ℕ, suc, ◌<◌, true, List, length, get_or, refl, sym, subst}
 use Rattle.std.specs.Prelude.{◌↔◌}
 use Rattle.vlog_tree.specs.Form.{ModuleTree}
-use Rattle.vlog_tree.specs.Grounded.{Has, Walk}
-use Rattle.vlog_tree.specs.Loops.{Chain, one, more}
+use Rattle.vlog_tree.specs.Grounded.{Walk}
+use Rattle.tapa_base.specs.Lists.{Has, Chain, one, more}
 use Rattle.vlog_tree.specs.Flattened.{FlatNet, parts}
 use Rattle.vlog_tree.proofs.Grounds.{no_loop}
 use Rattle.number_graph.specs.Graphs.{Adjacency, Steps, IsOrder}

@@ -4,7 +4,7 @@ use Rattle.vlog_tree.specs.declared.tree.Connection.{Connection}
 use Rattle.vlog_tree.specs.declared.tree.Item.TheVariants.{Instance}
 use Rattle.vlog_tree.specs.declared.table.Declaration.{Declaration}
 use Rattle.vlog_tree.specs.Form.{ModuleTree}
-use Rattle.vlog_tree.specs.Grounded.{Has}
+use Rattle.tapa_base.specs.Lists.{Has}
 use Rattle.vlog_tree.specs.Table.{Name, declared, port_declared, module_named, net_kind_of, net_kind_is_read, net_kind_is_input, ports_of, first_violation}
 use Rattle.vlog_tree.specs.V2.{v2_uses}
 use Rattle.std.specs.Prelude.{None}

@@ -14,11 +14,11 @@ use Rattle.vlog_tree.specs.declared.table.Declaration.{Declaration}
 use Rattle.vlog_tree.specs.declared.table.NetKind.{NetKind}
 use Rattle.vlog_tree.specs.declared.table.NetKind.TheVariants as kind
 use Rattle.vlog_tree.specs.Form.{ModuleTree}
-use Rattle.vlog_tree.specs.Grounded.{Has}
+use Rattle.tapa_base.specs.Lists.{Has}
 use Rattle.vlog_tree.specs.Table.{Name, is_clk, declared, port_declared, declaration_name, module_declared, module_named, find_name, net_kind_of, net_kind_is_read, net_kind_is_driven, net_kind_is_input, ports_of, one_if}
 use Rattle.vlog_tree.specs.Loops.{item_instances, instances}
 use Rattle.vlog_tree.specs.Refused.{IsSound}
-use Rattle.vlog_tree.proofs.Lists.{has_got, has_flat, of_flat, has_left, has_right, has_split}
+use Rattle.tapa_base.proofs.Lists.{has_got, has_flat, of_flat, has_left, has_right, has_split}
 use Rattle.vlog_run_laws.proofs.runs.Sound.{declared_by, is_known_module, connection_port, connection_net}
 use Rattle.vlog_run_laws.proofs.runs.Alone.{count_cons, module_there, instance_single}
 use Rattle.vlog_run_laws.proofs.runs.Sizes.{declared_net_kind, found_name}

@@ -4,7 +4,7 @@ use Rattle.vlog_tree.specs.declared.tree.Value.{Value}
 use Rattle.vlog_tree.specs.declared.tree.Item.TheVariants.{Assign}
 use Rattle.vlog_tree.specs.declared.table.NetKind.TheVariants.{Input}
 use Rattle.vlog_tree.specs.Form.{ModuleTree}
-use Rattle.vlog_tree.specs.Grounded.{Has}
+use Rattle.tapa_base.specs.Lists.{Has}
 use Rattle.vlog_tree.specs.Table.{Name, declared, net_kind_of}
 use Rattle.vlog_tree.specs.Labels.{rdata_of, m_addr}
 use Rattle.vlog_tree.specs.Loops.{value_nets}

@@ -6,7 +6,7 @@ use Rattle.vlog_tree.specs.declared.tree.Item.TheVariants.{Assign, Instance}
 use Rattle.vlog_tree.specs.declared.table.Declaration.{Declaration}
 use Rattle.vlog_tree.specs.declared.table.NetKind.TheVariants as kind
 use Rattle.vlog_tree.specs.Form.{ModuleTree}
-use Rattle.vlog_tree.specs.Grounded.{Has}
+use Rattle.tapa_base.specs.Lists.{Has}
 use Rattle.vlog_tree.specs.Table.{Name, is_clk, declared, port_declared, net_kind_of, net_kind_is_read, net_kind_is_input, ports_of, module_named}
 use Rattle.vlog_tree.specs.Loops.{instances}
 use Rattle.sim_flat.specs.declared.tables.Child.{Child}

@@ -3,7 +3,7 @@
 ghost use Rattle.std.specs.Prelude.{◌≡◌, ◌+◌, ◌++◌, ◌∷◌, [], List, Some, None, IfOk, OnOk, length, map, replicate, slice_set, option_to_list};
 ghost use Rattle.std.specs.List.{flat_map};
 ghost use Rattle.vlog_tree.specs.Form.{ModuleTree};
-ghost use Rattle.vlog_tree.specs.Grounded.{Has};
+ghost use Rattle.tapa_base.specs.Lists.{Has};
 ghost use Rattle.vlog_tree.specs.Refused.{IsSound};
 ghost use Rattle.vlog_tree.specs.Loops.{item_instances};
 ghost use Rattle.vlog_tree.specs.Table.{declared, module_declared};

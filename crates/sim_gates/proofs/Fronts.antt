@@ -9,11 +9,11 @@ use Rattle.vlog_tree.specs.declared.table.Declaration.{Declaration}
 use Rattle.vlog_tree.specs.declared.tree.Atom.{Atom}
 use Rattle.vlog_tree.specs.declared.tree.Value.TheVariants.{Concat}
 use Rattle.vlog_tree.specs.Cycle.{Cycle, Sizes, atom_value, atom_width, joined}
-use Rattle.vlog_tree.specs.Grounded.{Has}
+use Rattle.tapa_base.specs.Lists.{Has}
 use Rattle.vlog_tree.specs.Loops.{atom_nets}
 use Rattle.vlog_tree.specs.Table.{Name}
 use Rattle.vlog_tree.specs.V3.{atom_bits, atom_fits}
-use Rattle.vlog_tree.proofs.Lists.{has_left, has_right}
+use Rattle.tapa_base.proofs.Lists.{has_left, has_right}
 use Rattle.vlog_tree.proofs.Walks.{opened, over}
 use Rattle.sim_tape.specs.declared.gates.Pair.{Pair}
 use Rattle.sim_tape.specs.Tape.{TapeTree, IsTape, Extends, PairBefore, pair_value}

@@ -12,10 +12,9 @@ use Rattle.vlog_tree.specs.declared.tree.Atom.{Atom}
 use Rattle.vlog_tree.specs.declared.tree.Step.TheVariants.{NonblockingAssign}
 use Rattle.vlog_tree.specs.declared.table.Declaration.{Declaration}
 use Rattle.vlog_tree.specs.Table.{Name, declaration_name, find_name, one_if}
-use Rattle.vlog_tree.specs.Cycle.{Cycle, Sizes, and_then, atom_value, put}
+use Rattle.vlog_tree.specs.Cycle.{Cycle, Sizes, and_then, atom_value, put, step_next}
 use Rattle.vlog_scope.specs.NameTable.{places_from}
 use Rattle.vlog_scope.proofs.Found.{found}
-use Rattle.vlog_ref_cycle.specs.Next.{step_next}
 use Rattle.sim_tape.specs.declared.gates.Pair.{Pair}
 use Rattle.sim_tape.specs.Tape.{number_at, pair_value, PairBefore}
 use Rattle.sim_tape.proofs.Growing.{pair_later}

@@ -5,10 +5,9 @@ use Rattle.std.proofs.lemmas.Bool.{and_parts}
 use Rattle.vlog_tree.specs.declared.tree.Step.{Step}
 use Rattle.vlog_tree.specs.declared.tree.Item.{Item}
 use Rattle.vlog_tree.specs.declared.table.Declaration.{Declaration}
-use Rattle.vlog_tree.specs.Cycle.{Cycle, Sizes, run_steps, run_items}
+use Rattle.vlog_tree.specs.Cycle.{Cycle, Sizes, run_steps, run_items, step_next}
 use Rattle.vlog_tree.proofs.Walks.{opened}
-use Rattle.vlog_ref_cycle.specs.Next.{step_next}
-use Rattle.vlog_ref_cycle.proofs.Turns.{steps_end, items_on, items_end}
+use Rattle.vlog_tree.proofs.Turns.{steps_end, items_on, items_end}
 use Rattle.sim_tape.specs.declared.gates.Pair.{Pair}
 use Rattle.sim_gates.specs.Nets.{pair_in, ShowsNets}
 use Rattle.sim_gates.specs.declared.parts.Part.{Part}

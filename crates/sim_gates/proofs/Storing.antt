@@ -9,9 +9,8 @@ use Rattle.vlog_tree.specs.declared.tree.Atom.{Atom}
 use Rattle.vlog_tree.specs.declared.tree.Step.TheVariants.{MemoryAssign}
 use Rattle.vlog_tree.specs.declared.table.Declaration.{Declaration}
 use Rattle.vlog_tree.specs.Table.{Name, one_if}
-use Rattle.vlog_tree.specs.Cycle.{Cycle, Sizes, atom_value, store}
-use Rattle.vlog_tree.proofs.Lists.{has_split}
-use Rattle.vlog_ref_cycle.specs.Next.{step_next}
+use Rattle.vlog_tree.specs.Cycle.{Cycle, Sizes, atom_value, store, step_next}
+use Rattle.tapa_base.proofs.Lists.{has_split}
 use Rattle.sim_tape.specs.declared.gates.Pair.{Pair}
 use Rattle.sim_tape.specs.Tape.{number_at, pair_value}
 use Rattle.sim_gates.specs.Nets.{pair_in}

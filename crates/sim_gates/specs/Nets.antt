@@ -5,7 +5,7 @@ use Rattle.vlog_tree.specs.Table.{Name, declaration_name, bits_of, cells_of}
 use Rattle.vlog_tree.specs.declared.tree.Atom.{Atom}
 use Rattle.vlog_tree.specs.Cycle.{Cycle, Sizes, and_then, atom_value, atom_width, read_cell}
 use Rattle.vlog_tree.specs.V3.{atom_bits, atom_fits}
-use Rattle.vlog_tree.specs.Grounded.{Has}
+use Rattle.tapa_base.specs.Lists.{Has}
 use Rattle.vlog_scope.specs.NameTable.{places_from}
 use Rattle.sim_tape.specs.declared.gates.Pair.{Pair}
 use Rattle.sim_tape.specs.Operators.{Cells, cell_in}

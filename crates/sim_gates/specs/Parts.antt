@@ -7,8 +7,7 @@ use Rattle.vlog_tree.specs.declared.tree.Item.{Item}
 use Rattle.vlog_tree.specs.declared.tree.Item.TheVariants.{Wire, Reg, Memory, Assign, Always, Instance}
 use Rattle.vlog_tree.specs.declared.table.Declaration.{Declaration}
 use Rattle.vlog_tree.specs.Table.{bits_of}
-use Rattle.vlog_tree.specs.Cycle.{Cycle, Sizes, run_steps}
-use Rattle.vlog_ref_cycle.specs.Next.{step_next}
+use Rattle.vlog_tree.specs.Cycle.{Cycle, Sizes, run_steps, step_next}
 use Rattle.sim_tape.specs.Tape.{number_at}
 use Rattle.sim_gates.specs.declared.parts.Part.{Part}
 

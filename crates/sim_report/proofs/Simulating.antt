@@ -12,13 +12,13 @@ use Rattle.vlog_tree.specs.Form.{ModuleTree}
 use Rattle.vlog_tree.specs.Cycle.{Cycle, Path}
 use Rattle.vlog_tree.specs.Environment.{Environment, FitsShape, shape_of, streams_of, tokens, cells_at, RunsIn}
 use Rattle.vlog_tree.specs.Refused.{IsDesign}
-use Rattle.vlog_tree.proofs.Lists.{has_got}
+use Rattle.tapa_base.proofs.Lists.{has_got}
 use Rattle.vlog_design.specs.Designs.{DesignTree, TopOf}
 use Rattle.vlog_run_laws.specs.runs.Filled.{IsFilled, filled}
 use Rattle.vlog_run_laws.specs.runs.OneRun.{FitsPowerUp, IsRunFrom, IsOnly}
 use Rattle.vlog_run_laws.proofs.runs.Filled as fill
 use Rattle.vlog_run_laws.proofs.runs.Surround.{one_run_from}
-use Rattle.vlog_ref_start.specs.Outside.{lists_of}
+use Rattle.vlog_design.specs.Environments.{lists_of}
 use Rattle.cycle_sim.specs.Told.{IsToldOf}
 use Rattle.cycle_sim.specs.Sims.{SimTree, InRuns, IsFirst, IsLater, IsDoneAt, last_cycle}
 use Rattle.sim_report.specs.Ending.{EndsSo, end_of}

@@ -5,7 +5,7 @@ ghost use Rattle.tapa_files.specs.Outside.{Rose};
 ghost use Rattle.vlog_tree.specs.Environment.{FitsShape, shape_of};
 ghost use Rattle.vlog_tree.specs.Form.{ModuleTree};
 ghost use Rattle.vlog_design.specs.Designs.{TopOf};
-ghost use Rattle.vlog_ref_start.specs.Outside.{environment_of};
+ghost use Rattle.vlog_design.specs.Environments.{environment_of};
 ghost use Rattle.sim_report.specs.Ending.{EndsSo, HasPart, end_of};
 ghost use Rattle.sim_report.specs.Reports.{last_of};
 
@@ -14,8 +14,7 @@ use cycle_sim::{Sim, run_cycles};
 use run_data::Last;
 use std::alloc::Global;
 use tapa_files::{PrintFault, Sink};
-use vlog_design::Design;
-use vlog_ref_start::Surroundings;
+use vlog_design::{Design, Env};
 
 /// How the run of a design ended.
 #[derive(Clone, Copy, Debug, PartialEq, Eq)]
@@ -51,7 +50,7 @@ fn end_after(done_at: Option<u64>) -> DesignEnd
 pub fn run_design<O: Sink>(
     alloc: Global,
     design: Design,
-    around: &Surroundings,
+    around: &Env,
     limit: u64,
     out: &mut O,
 ) -> Result<DesignEnd, PrintFault>

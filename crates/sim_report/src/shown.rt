@@ -4,7 +4,7 @@ ghost use Rattle.std.specs.Prelude.{◌≡◌, ◌≤◌, ◌++◌, [], slice_in
 ghost use Rattle.std.specs.Io.KnownBytes.{Appends};
 ghost use Rattle.tapa_files.specs.Outside.{AppendsPart, Rose};
 ghost use Rattle.run_data.specs.Report.{last_line};
-ghost use Rattle.vlog_ref_start.specs.Outside.{lists_of};
+ghost use Rattle.vlog_design.specs.Environments.{lists_of};
 ghost use Rattle.cycle_sim.specs.Simulators.{sim_of};
 ghost use Rattle.sim_report.specs.Reports.{stream_lines, memory_lines};
 

@@ -3,3 +3,4 @@ pub mod Gaps
 pub mod Kinds
 pub mod Operators
 pub mod Spans
+pub mod Lists

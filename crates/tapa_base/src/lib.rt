@@ -12,7 +12,7 @@ mod token;
 
 pub use fault::OutOfMemory;
 pub use kind::{Kind, convert, low_bits};
-pub use numbers::{number_at, position_of, value_at};
+pub use numbers::{narrow, number_at, plus, position_of, value_at};
 pub use op::{Op, apply, can_apply};
 pub use shape::{Port, Shape};
 pub use text::{Place, Text};

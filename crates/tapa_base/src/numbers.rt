@@ -1,5 +1,28 @@
-// Numbers that stand in lists.
-ghost use Rattle.std.specs.Prelude.{◌≡◌, ◌<◌, ◌≢◌, ℕ, Some, MatchOption, slice_get, slice_index, length};
+// Numbers of 32 bits, and numbers in lists.
+ghost use Rattle.std.specs.Prelude.{◌≡◌, ◌<◌, ◌≢◌, ◌+◌, ℕ, Some, IfOk, MatchOption, slice_get, slice_index, length};
+
+use std::alloc::AllocError;
+
+/// Narrows a count to 32 bits. Nothing that is held in memory has a larger one, so a larger one is want of memory.
+pub fn narrow(n: usize) -> Result<u32, AllocError>
+    ensures { IfOk result (λ r. r ≡ n) }
+{
+    if n <= 4294967295 {
+        Ok(n as u32)
+    } else {
+        Err(AllocError)
+    }
+}
+
+/// The sum of two counts of 32 bits. Nothing that is held in memory has a larger one, so a larger one is want of memory.
+pub fn plus(a: u32, b: u32) -> Result<u32, AllocError>
+    ensures { IfOk result (λ r. r ≡ a + b) }
+{
+    match a.checked_add(b) {
+        Some(n) => Ok(n),
+        None => Err(AllocError),
+    }
+}
 
 /// The number at a position, and 0 past the end.
 pub fn number_at(numbers: &[u32], position: u32) -> u32

@@ -12,12 +12,12 @@ use Rattle.vlog_tree.specs.declared.tree.PortDecl.{PortDecl}
 use Rattle.vlog_tree.specs.declared.table.Declaration.{Declaration}
 use Rattle.vlog_tree.specs.Environment.{FitsShape, shape_of, scalar_label, memory_label, widths}
 use Rattle.vlog_tree.specs.Form.{ModuleTree, is_input}
-use Rattle.vlog_tree.specs.Grounded.{Has}
+use Rattle.tapa_base.specs.Lists.{Has}
 use Rattle.vlog_tree.specs.Labels.{m_rdata, m_wdata, scalar_of, ack_of, rdata_of}
 use Rattle.vlog_tree.specs.Refused.{IsDesign}
 use Rattle.vlog_tree.specs.Table.{Name, declared, port_declared, bits_of}
 use Rattle.vlog_tree.specs.V6.{scalar_fits, rdata_fits, has_all_five, agrees}
-use Rattle.vlog_tree.proofs.Lists.{of_flat, has_got}
+use Rattle.tapa_base.proofs.Lists.{of_flat, has_got}
 use Rattle.vlog_design.specs.Designs.{DesignTree, TopOf}
 use Rattle.vlog_run_laws.proofs.runs.Labelled.{ack_label, rdata_of_label}
 use Rattle.vlog_run_laws.proofs.runs.Ports.{PortFits, fits, ack_input, named_port}

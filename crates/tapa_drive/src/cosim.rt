@@ -4,7 +4,7 @@ ghost use Rattle.tapa_files.specs.Outside.{AsksFor};
 ghost use Rattle.vlog_tree.specs.Environment.{FitsShape, shape_of};
 ghost use Rattle.vlog_tree.specs.Form.{ModuleTree};
 ghost use Rattle.vlog_design.specs.Designs.{TopOf};
-ghost use Rattle.vlog_ref_start.specs.Outside.{environment_of};
+ghost use Rattle.vlog_design.specs.Environments.{environment_of};
 ghost use Rattle.tapa_words.specs.Words.{command_of, Cosim};
 ghost use Rattle.command_source.specs.Files.{OfFile, OfData, AsksForData, verilog_limit};
 ghost use Rattle.command_source.specs.Meaning.{refusal_of};
@@ -19,9 +19,8 @@ use sim_report::{DesignEnd, run_design};
 use std::alloc::{AllocError, Global};
 use tapa_base::Shape;
 use tapa_files::{PrintFault, Shelf, Sink};
-use vlog_design::Design;
+use vlog_design::{Design, Env};
 use vlog_read::read;
-use vlog_ref_start::Surroundings;
 
 const VERILOG_LIMIT: u64 = 16_777_216;
 
@@ -57,7 +56,7 @@ fn shape(alloc: Global, design: &Design) -> Result<Shape, AllocError>
 }
 
 // The environment that a text of data gives a design, or the first fault that it has.
-fn surroundings(alloc: Global, design: &Design, text: &[u8]) -> Result<Surroundings, DataFault>
+fn surroundings(alloc: Global, design: &Design, text: &[u8]) -> Result<Env, DataFault>
     ensures gives { IfOk result (λ around. GivesEnvironment design.now text.now (environment_of around)) }
     ensures fits { IfOk result (λ around. (m : ModuleTree) → TopOf design.now m → FitsShape (environment_of around) (shape_of m)) }
     ensures refused { IfErr result (IsUnfitFor design.now text.now) }
@@ -73,7 +72,7 @@ fn surroundings(alloc: Global, design: &Design, text: &[u8]) -> Result<Surroundi
                 memories,
                 waits,
             },
-        ) => Ok(Surroundings {
+        ) => Ok(Env {
             scalars,
             memories,
             ready: waits,
@@ -88,7 +87,7 @@ fn read_surroundings<'a, S: Shelf>(
     design: &Design,
     named: Option<&'a str>,
     shelf: &mut S,
-) -> Result<Surroundings, Refusal<'a>>
+) -> Result<Env, Refusal<'a>>
     ensures gives { IfOk result (λ around. OfData (S.files shelf.old) (option_map (λ file. file.now) named.entry) (λ bytes. GivesEnvironment design.now bytes (environment_of around))) }
     ensures fits { IfOk result (λ around. (m : ModuleTree) → TopOf design.now m → FitsShape (environment_of around) (shape_of m)) }
     ensures asks { AsksForData S.files S.faults (option_map (λ file. file.now) named.entry) shelf.old shelf.new }

@@ -9,10 +9,10 @@ ghost use Rattle.task_fsm.specs.Machine.{EndAt, TrapAt, forms_of};
 
 use crate::draft::Draft;
 use crate::machine::{Fsm, State};
-use crate::size::{plus, size_list, small};
+use crate::size::size_list;
 use crate::statements::write_list;
 use std::alloc::{AllocError, Global};
-use tapa_base::{Kind, OutOfMemory, Text};
+use tapa_base::{Kind, OutOfMemory, Text, narrow, plus};
 use tapa_syntax::{Array, Leaf, Program};
 
 fn copied_kinds(alloc: Global, kinds: &[Kind]) -> Result<Vec<Kind>, AllocError>
@@ -74,7 +74,7 @@ fn lower_leaf(alloc: Global, leaf: &Leaf) -> Result<Fsm, AllocError>
 {
     let size = size_list(&leaf.code)?;
     let total = plus(size, 2)?;
-    let counter = small(leaf.vars.len())?;
+    let counter = narrow(leaf.vars.len())?;
     let mut draft = last_states(alloc, &leaf.vars, size)?;
     write_list(
         alloc, &mut draft, leaf, total, counter, &leaf.code, size, size,

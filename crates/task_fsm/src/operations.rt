@@ -8,10 +8,9 @@ ghost use Rattle.task_fsm.specs.Draft.{emitted};
 use crate::draft::{Draft, write_held, write_state};
 use crate::machine::State;
 use crate::residual::rest;
-use crate::size::{plus, small};
 use kahn_model::kinds::{memory_kind, stream_kind};
 use std::alloc::{AllocError, Global};
-use tapa_base::Kind;
+use tapa_base::{Kind, narrow, plus};
 use tapa_syntax::{Expr, Leaf};
 
 // The operations of an expression, the last one first.
@@ -29,7 +28,7 @@ pub(crate) fn write_ops(
         Expr::Var(_) => Ok(()),
         Expr::Cell(_, i) => write_ops(alloc, draft, leaf, total, i),
         Expr::Read(s) => {
-            let t = small(draft.regs.len())?;
+            let t = narrow(draft.regs.len())?;
             let kind = stream_kind(leaf, *s);
             let next = draft.entry;
             write_held(
@@ -44,7 +43,7 @@ pub(crate) fn write_ops(
             )
         }
         Expr::Peek(s) => {
-            let t = small(draft.regs.len())?;
+            let t = narrow(draft.regs.len())?;
             let kind = stream_kind(leaf, *s);
             let next = draft.entry;
             write_held(
@@ -59,7 +58,7 @@ pub(crate) fn write_ops(
             )
         }
         Expr::Eot(s) => {
-            let t = small(draft.regs.len())?;
+            let t = narrow(draft.regs.len())?;
             let next = draft.entry;
             write_held(
                 draft,
@@ -73,7 +72,7 @@ pub(crate) fn write_ops(
             )
         }
         Expr::Load(m, i) => {
-            let t = small(draft.regs.len())?;
+            let t = narrow(draft.regs.len())?;
             let kind = memory_kind(leaf, *m);
             let next = draft.entry;
             let index = rest(alloc, i, plus(t, 1)?)?;
@@ -153,7 +152,7 @@ pub(crate) fn write_alone(
             },
         ),
         Expr::Load(m, i) => {
-            let t = small(draft.regs.len())?;
+            let t = narrow(draft.regs.len())?;
             let index = rest(alloc, i, t)?;
             write_state(
                 draft,
@@ -182,7 +181,7 @@ pub(crate) fn write_test(
 ) -> Result<(), AllocError>
     ensures { IfOk result (λ u. emitted draft.new ≡ test_code (kinds_of leaf.now) total e.now no (emitted draft.old)) }
 {
-    let t = small(draft.regs.len())?;
+    let t = narrow(draft.regs.len())?;
     let test = rest(alloc, e, t)?;
     let yes = draft.entry;
     write_state(draft, total, State::Test { test, yes, no })?;

@@ -4,9 +4,9 @@ ghost use Rattle.std.specs.Prelude.{◌≡◌, IfOk};
 ghost use Rattle.task_fsm.specs.Code.{residual, old_with};
 ghost use Rattle.task_fsm.specs.Machine.{expression_of, Converted, Reg};
 
-use crate::size::{count_of, plus};
+use crate::size::count_of;
 use std::alloc::{AllocError, Global};
-use tapa_base::{Kind, Op};
+use tapa_base::{Kind, Op, plus};
 use tapa_syntax::Expr;
 
 // The same in a box.

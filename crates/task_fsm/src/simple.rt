@@ -10,10 +10,10 @@ use crate::draft::{Draft, write_held, write_state};
 use crate::machine::State;
 use crate::operations::write_ops;
 use crate::residual::{boxed, converted, joined, rest};
-use crate::size::{count_of, plus, small};
+use crate::size::count_of;
 use kahn_model::kinds::{array_kind, memory_kind, stream_kind, var_kind};
 use std::alloc::{AllocError, Global};
-use tapa_base::{Kind, Op};
+use tapa_base::{Kind, Op, narrow, plus};
 use tapa_syntax::{Expr, Leaf};
 
 // `x = e`
@@ -27,7 +27,7 @@ pub(crate) fn write_set(
 ) -> Result<(), AllocError>
     ensures { IfOk result (λ u. emitted draft.new ≡ plain_code (kinds_of leaf.now) total (Set x e.now) (emitted draft.old)) }
 {
-    let t = small(draft.regs.len())?;
+    let t = narrow(draft.regs.len())?;
     let next = draft.entry;
     let value = rest(alloc, e, t)?;
     write_state(
@@ -54,7 +54,7 @@ pub(crate) fn write_set_cell(
 ) -> Result<(), AllocError>
     ensures { IfOk result (λ u. emitted draft.new ≡ plain_code (kinds_of leaf.now) total (SetCell array i.now e.now) (emitted draft.old)) }
 {
-    let t = small(draft.regs.len())?;
+    let t = narrow(draft.regs.len())?;
     let next = draft.entry;
     let after = plus(t, count_of(i)?)?;
     let index = rest(alloc, i, t)?;
@@ -84,7 +84,7 @@ pub(crate) fn write_set_cell_by(
 ) -> Result<(), AllocError>
     ensures { IfOk result (λ u. emitted draft.new ≡ plain_code (kinds_of leaf.now) total (SetCellBy array i.now op kind e.now) (emitted draft.old)) }
 {
-    let t = small(draft.regs.len())?;
+    let t = narrow(draft.regs.len())?;
     let next = draft.entry;
     let after = plus(t, count_of(i)?)?;
     let old = Expr::Cell(array, boxed(alloc, i, t)?);
@@ -114,7 +114,7 @@ pub(crate) fn write_store(
 ) -> Result<(), AllocError>
     ensures { IfOk result (λ u. emitted draft.new ≡ plain_code (kinds_of leaf.now) total (Store memory i.now e.now) (emitted draft.old)) }
 {
-    let t = small(draft.regs.len())?;
+    let t = narrow(draft.regs.len())?;
     let next = draft.entry;
     let after = plus(t, count_of(i)?)?;
     let index = rest(alloc, i, t)?;
@@ -144,7 +144,7 @@ pub(crate) fn write_store_by(
 ) -> Result<(), AllocError>
     ensures { IfOk result (λ u. emitted draft.new ≡ plain_code (kinds_of leaf.now) total (StoreBy memory i.now op kind e.now) (emitted draft.old)) }
 {
-    let t = small(draft.regs.len())?;
+    let t = narrow(draft.regs.len())?;
     let next = draft.entry;
     let cells = memory_kind(leaf, memory);
     let after = plus(t, 1)?;
@@ -183,7 +183,7 @@ pub(crate) fn write_read_var(
 ) -> Result<(), AllocError>
     ensures { IfOk result (λ u. emitted draft.new ≡ plain_code (kinds_of leaf.now) total (ReadVar stream var) (emitted draft.old)) }
 {
-    let t = small(draft.regs.len())?;
+    let t = narrow(draft.regs.len())?;
     let next = draft.entry;
     let kind = stream_kind(leaf, stream);
     let value = converted(alloc, kind, var_kind(leaf, var), t)?;
@@ -217,7 +217,7 @@ pub(crate) fn write_read_cell(
 ) -> Result<(), AllocError>
     ensures { IfOk result (λ u. emitted draft.new ≡ plain_code (kinds_of leaf.now) total (ReadCell stream array i.now) (emitted draft.old)) }
 {
-    let t = small(draft.regs.len())?;
+    let t = narrow(draft.regs.len())?;
     let next = draft.entry;
     let kind = stream_kind(leaf, stream);
     let index = rest(alloc, i, plus(t, 1)?)?;
@@ -251,7 +251,7 @@ pub(crate) fn write_read_store(
 ) -> Result<(), AllocError>
     ensures { IfOk result (λ u. emitted draft.new ≡ plain_code (kinds_of leaf.now) total (ReadStore stream memory i.now) (emitted draft.old)) }
 {
-    let t = small(draft.regs.len())?;
+    let t = narrow(draft.regs.len())?;
     let next = draft.entry;
     let kind = stream_kind(leaf, stream);
     let index = rest(alloc, i, plus(t, 1)?)?;
@@ -284,7 +284,7 @@ pub(crate) fn write_write(
 ) -> Result<(), AllocError>
     ensures { IfOk result (λ u. emitted draft.new ≡ plain_code (kinds_of leaf.now) total (Write stream e.now) (emitted draft.old)) }
 {
-    let t = small(draft.regs.len())?;
+    let t = narrow(draft.regs.len())?;
     let next = draft.entry;
     let value = rest(alloc, e, t)?;
     write_state(

@@ -4,9 +4,8 @@ use Rattle.std.specs.Prelude.{◌⊎◌, ◌↔◌, Option, Vec}
 use Rattle.std.specs.Option.{option_map_or}
 use Rattle.std.proofs.lemmas.Bool.{cases_lt}
 use Rattle.std.proofs.lemmas.List.{length_push}
-use Rattle.vlog_tree.specs.Grounded.{Has}
-use Rattle.vlog_tree.specs.Loops.{Chain, one, more}
-use Rattle.vlog_tree.proofs.Lists.{of_map, got_has}
+use Rattle.tapa_base.specs.Lists.{Has, Chain, one, more}
+use Rattle.tapa_base.proofs.Lists.{of_map, got_has}
 use Rattle.number_graph.specs.Graphs.{Adjacency, Steps, IsReached, targets_of}
 use Rattle.task_graph.specs.declared.Edge.{Edge}
 use Rattle.task_graph.specs.Streams.{from_of, to_of, Walk, Reaches}

@@ -1,8 +1,8 @@
 -- The first line of a text.
 use Rattle.std.proofs.Common.{◌≡◌, ℕ, zero, suc, ◌+◌, ◌-◌, ◌<◌, ◌≤◌, List, [], ◌∷◌, ◌++◌, length, get_or, take, inl, inr, refl, sym, ap, subst, ◌∙◌, arith}
 use Rattle.std.proofs.lemmas.List.{take_more, length-take-le}
-use Rattle.vlog_tree.specs.Grounded.{Has}
-use Rattle.vlog_tree.proofs.Lists.{taken_split}
+use Rattle.tapa_base.specs.Lists.{Has}
+use Rattle.tapa_base.proofs.Lists.{taken_split}
 use Rattle.verilog_text.specs.Lines.{IsLine, EndsLine}
 
 has_taken : (n : ℕ) (xs : List ℕ) (y : ℕ) → Has (take n xs) y → Has xs y

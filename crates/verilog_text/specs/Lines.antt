@@ -1,6 +1,6 @@
 -- Lines of a text.
 use Rattle.std.specs.Prelude.{◌≡◌, ◌-◌, ℕ, List, [], ◌∷◌, ◌++◌, length, take}
-use Rattle.vlog_tree.specs.Grounded.{Has}
+use Rattle.tapa_base.specs.Lists.{Has}
 
 -- no end of line (LF) stands before the last byte
 abbrev pub IsLine : List ℕ → Type 0

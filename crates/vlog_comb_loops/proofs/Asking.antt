@@ -5,7 +5,7 @@ use Rattle.std.specs.Option.{option_map_or}
 use Rattle.std.specs.Cmp.Lexicographic.{bytes_decides}
 use Rattle.std.proofs.lemmas.Bool.{cases_eq}
 use Rattle.vlog_tree.specs.declared.tree.Item.{Item}
-use Rattle.vlog_tree.specs.Grounded.{Has}
+use Rattle.tapa_base.specs.Lists.{Has}
 use Rattle.vlog_tree.specs.Form.{ModuleTree}
 use Rattle.vlog_tree.specs.Table.{Name}
 use Rattle.vlog_tree.specs.Loops.{Edges, Reaches, port_of, item_instances}
@@ -19,7 +19,7 @@ use Rattle.vlog_net_graph.specs.Names.{texts}
 use Rattle.vlog_comb_loops.specs.Summaries.{IsUsed}
 use Rattle.vlog_comb_loops.specs.Questions.{Question, asked_of, Keeps, AsksLines, AreUses, AsksPort, Asks}
 use Rattle.vlog_comb_loops.specs.Search.{LoopsIn, LoopsAt, LoopsBy, IsSuspect, IsEvidence}
-use Rattle.vlog_tree.proofs.Lists.{has_flat, of_flat, has_got, got_has, has_left, has_right}
+use Rattle.tapa_base.proofs.Lists.{has_flat, of_flat, has_got, got_has, has_left, has_right}
 use Rattle.vlog_net_graph.proofs.Numbered.{numbered_start}
 
 module _ {X A : Type 0} where

@@ -5,14 +5,15 @@ use Rattle.std.specs.List.{flat_map}
 use Rattle.std.proofs.lemmas.List.{take_all}
 use Rattle.vlog_tree.specs.declared.table.Declaration.{Declaration}
 use Rattle.vlog_tree.specs.declared.table.NetKind.TheVariants.{Unknown, Input, Output}
-use Rattle.vlog_tree.specs.Grounded.{Has}
+use Rattle.tapa_base.specs.Lists.{Has, Chain}
 use Rattle.vlog_tree.specs.Table.{Name, declaration_name, net_kind_of}
-use Rattle.vlog_tree.specs.Loops.{Edges, Chain, Reaches}
+use Rattle.vlog_tree.specs.Loops.{Edges, Reaches}
 use Rattle.vlog_net_graph.specs.Names.{IsNumbered}
 use Rattle.vlog_comb_loops.specs.Growth.{Gathers}
 use Rattle.vlog_comb_loops.specs.Places.{ArePlaces, picked, paired}
 use Rattle.vlog_comb_loops.specs.Summaries.{IsPair, IsSumOf}
-use Rattle.vlog_tree.proofs.Lists.{taken_mapped, known, has_flat, of_flat, has_left, has_right, has_split}
+use Rattle.vlog_tree.proofs.Lists.{known}
+use Rattle.tapa_base.proofs.Lists.{taken_mapped, has_flat, of_flat, has_left, has_right, has_split}
 use Rattle.vlog_net_graph.proofs.Numbered.{down, up, reached_by_none}
 
 module _ (P : Name → Name → Type 0) where

@@ -5,10 +5,11 @@ use Rattle.std.proofs.lemmas.Bool.{cases_eq}
 use Rattle.std.proofs.lemmas.List.{take_all, get_or-set_same, get_or-set_other, length-set}
 use Rattle.vlog_tree.specs.declared.table.Declaration.{Declaration}
 use Rattle.vlog_tree.specs.declared.table.NetKind.TheVariants.{Unknown, Input}
-use Rattle.vlog_tree.specs.Grounded.{Has}
+use Rattle.tapa_base.specs.Lists.{Has}
 use Rattle.vlog_tree.specs.Table.{Name, declaration_name, net_kind_of}
 use Rattle.vlog_comb_loops.specs.Places.{ArePlaces, PlacesInput}
-use Rattle.vlog_tree.proofs.Lists.{taken_mapped, known, got_index}
+use Rattle.vlog_tree.proofs.Lists.{known}
+use Rattle.tapa_base.proofs.Lists.{taken_mapped, got_index}
 
 -- nothing was noted
 pub places_same : (ports : List Declaration) (number : Name → Option ℕ) (at : ℕ) (name : Name) (old : List (Option ℕ)) → ((k : ℕ) → k < length old → net_kind_of ports name ≡ Input → number name ≡ Some k → ⊥) → PlacesInput ports number at name old old

@@ -5,16 +5,16 @@ use Rattle.std.specs.List.{flat_map}
 use Rattle.std.proofs.lemmas.Bool.{cases_eq}
 use Rattle.std.proofs.lemmas.List.{get_or-set_other, length-set}
 use Rattle.std.proofs.lemmas.Grind.{get_or-set_at}
-use Rattle.vlog_tree.specs.Grounded.{Has}
+use Rattle.tapa_base.specs.Lists.{Has, one, more}
 use Rattle.vlog_tree.specs.Form.{ModuleTree}
 use Rattle.vlog_scope.specs.NameTable.{places_from}
 use Rattle.vlog_tree.specs.declared.table.NetKind.TheVariants.{Input, Output}
 use Rattle.vlog_tree.specs.Table.{Name, port_declared, declaration_name, module_declared, module_named, net_kind_of}
-use Rattle.vlog_tree.specs.Loops.{Edges, Reaches, one, more, Rests, directly, through, after, port_of, direct_edges, instances}
+use Rattle.vlog_tree.specs.Loops.{Edges, Reaches, Rests, directly, through, after, port_of, direct_edges, instances}
 use Rattle.vlog_comb_loops.specs.Summaries.{sum_named, port_pair, through_edges, module_edges, IsPair, IsSoundSum, IsUsed, IsClosedSum, AreSums, AreRight}
 use Rattle.vlog_scope.proofs.Found.{module_found}
 use Rattle.vlog_net_graph.proofs.Covering.{found}
-use Rattle.vlog_tree.proofs.Lists.{has_flat, of_flat, has_map, of_map, has_left, has_right, has_split, chains}
+use Rattle.tapa_base.proofs.Lists.{has_flat, of_flat, has_map, of_map, has_left, has_right, has_split, chains}
 
 -- the sum of a module that a name finds
 named_of : (P : ModuleTree → Edges → Type 0) (m : ModuleTree) (ms : List ModuleTree) (s : Edges) (sums : List Edges) (x : Name) (k : ModuleTree) (b : Bool)

@@ -5,11 +5,12 @@ use Rattle.std.proofs.lemmas.Bool.Decides.{nat_tests}
 use Rattle.std.specs.Cmp.Lexicographic.{bytes_decides}
 use Rattle.vlog_tree.specs.declared.table.Declaration.{Declaration}
 use Rattle.vlog_tree.specs.declared.table.NetKind.TheVariants.{Unknown, Input, Output}
-use Rattle.vlog_tree.specs.Grounded.{Has}
+use Rattle.tapa_base.specs.Lists.{Has}
 use Rattle.vlog_tree.specs.Form.{ModuleTree}
 use Rattle.vlog_tree.specs.Table.{Name, port_declared, declaration_name, net_kind_of}
 use Rattle.vlog_tree.specs.Loops.{Edges}
-use Rattle.vlog_tree.proofs.Lists.{has_flat, has_map, has_left, has_right, has_split, known}
+use Rattle.vlog_tree.proofs.Lists.{known}
+use Rattle.tapa_base.proofs.Lists.{has_flat, has_map, has_left, has_right, has_split}
 use Rattle.vlog_comb_loops.specs.Rooms.{is_pair_in, missing, candidates, room}
 use Rattle.vlog_comb_loops.specs.Merges.{IsMerged, IsGrown}
 use Rattle.vlog_comb_loops.specs.Questions.{Question}

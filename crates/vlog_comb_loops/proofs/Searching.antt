@@ -2,7 +2,7 @@
 use Rattle.std.proofs.Common.{◌≡◌, ℕ, zero, suc, get_or, ◌+◌, ◌<◌, ◌≤◌, Bool, List, [], ◌∷◌, ◌++◌, length, arith, Option, Some, None, inl, inr, refl, sym, ap, subst, ◌∙◌, append_assoc}
 use Rattle.std.specs.Prelude.{◌⊎◌, ◌≢◌, slice_get}
 use Rattle.std.proofs.lemmas.Bool.{cases_eq}
-use Rattle.vlog_tree.specs.Grounded.{Has}
+use Rattle.tapa_base.specs.Lists.{Has}
 use Rattle.vlog_tree.specs.Form.{ModuleTree}
 use Rattle.vlog_tree.specs.Table.{Name}
 use Rattle.vlog_tree.specs.Loops.{Edges, Reaches, Rests, port_of, instances, TextPlace, place_name, IsFirst, LiesOnLoop}
@@ -12,7 +12,7 @@ use Rattle.vlog_comb_loops.specs.Search.{IsSearched, LoopsIn, IsSuspect, IsEvide
 use Rattle.vlog_comb_loops.specs.Summaries.{module_edges, IsSoundSum, IsClosedSum, AreSums, AreRight}
 use Rattle.vlog_net_graph.specs.Names.{IsGraphOf, IsGraphListed}
 use Rattle.vlog_comb_loops.proofs.Resting.{rests_is_reaches}
-use Rattle.vlog_tree.proofs.Lists.{has_got, got_has, has_left, has_right, has_split}
+use Rattle.tapa_base.proofs.Lists.{has_got, got_has, has_left, has_right, has_split}
 
 module _ (P : TextPlace → Type 0) where
   pub hits : (s : TextPlace) (xs : List TextPlace) → P s → IsSearched P (s ∷ xs) (Some (place_name s))

@@ -1,6 +1,6 @@
 -- Sums that take in the pairs of others.
 use Rattle.std.specs.Prelude.{◌≡◌, ◌⊎◌, List, Bool, true, false}
-use Rattle.vlog_tree.specs.Grounded.{Has}
+use Rattle.tapa_base.specs.Lists.{Has}
 use Rattle.vlog_tree.specs.Table.{Name}
 use Rattle.vlog_tree.specs.Loops.{Edges}
 use Rattle.vlog_tree.specs.declared.table.Declaration.{Declaration}

@@ -1,7 +1,7 @@
 // Pairs of names, each once.
 
 ghost use Rattle.std.specs.Prelude.{◌≡◌, ◌↔◌, true, IfOk};
-ghost use Rattle.vlog_tree.specs.Grounded.{Has};
+ghost use Rattle.tapa_base.specs.Lists.{Has};
 ghost use Rattle.vlog_comb_loops.specs.Merges.{IsMerged};
 
 use std::alloc::AllocError;

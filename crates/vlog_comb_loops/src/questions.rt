@@ -1,7 +1,7 @@
 // Which questions tell whether a name lies on a loop.
 
 ghost use Rattle.std.specs.Prelude.{◌≡◌, ◌≢◌, ◌<◌, ◌↔◌, ◌+◌, ◌++◌, ◌∷◌, [], ℕ, List, true, Some, None, take, drop, length, slice_get, IfOk, OnOk};
-ghost use Rattle.vlog_tree.specs.Grounded.{Has};
+ghost use Rattle.tapa_base.specs.Lists.{Has};
 ghost use Rattle.vlog_tree.specs.Form.{ModuleTree};
 ghost use Rattle.vlog_tree.specs.Loops.{item_instances, port_of};
 ghost use Rattle.vlog_scope.specs.NameTable.{value_in};

@@ -1,7 +1,7 @@
 // Whether a net lies on a loop.
 
 ghost use Rattle.std.specs.Prelude.{◌≡◌, ◌↔◌, ℕ, List, Bool, true, Some, IfOk};
-ghost use Rattle.vlog_tree.specs.Grounded.{Has};
+ghost use Rattle.tapa_base.specs.Lists.{Has};
 ghost use Rattle.vlog_tree.specs.Loops.{Edges, Reaches, port_of, item_instances, LiesOnLoop};
 ghost use Rattle.vlog_net_graph.specs.Names.{IsGraphOf};
 ghost use Rattle.vlog_comb_loops.specs.Search.{LoopsAt, LoopsBy, IsSuspect, IsEvidence};

@@ -7,13 +7,13 @@ use Rattle.std.specs.Cmp.Lexicographic.{bytes_decides}
 use Rattle.std.proofs.lemmas.Bool.{eqb-true}
 use Rattle.std.proofs.lemmas.List.{length-map}
 use Rattle.std.proofs.lemmas.List.Sums.{sum_by-cons}
-use Rattle.vlog_tree.specs.Grounded.{Has}
+use Rattle.tapa_base.specs.Lists.{Has, one, more}
 use Rattle.vlog_tree.specs.Form.{ModuleTree}
 use Rattle.vlog_tree.specs.Table.{Name, NameUse, clk, first_violation, port_declared, times_in}
 use Rattle.vlog_tree.specs.Labels.{rst, done}
 use Rattle.vlog_tree.specs.V6.{module_children, contained_names, roots, first_name, is_top, has_port, top_ports, clock_connections, is_whole_top, module_tops, v6_uses}
-use Rattle.vlog_tree.specs.Loops.{one, more, Reaches, own_containment, containment, own_places, IsLoopless}
-use Rattle.vlog_tree.proofs.Lists.{has_flat, of_flat, has_map}
+use Rattle.vlog_tree.specs.Loops.{Reaches, own_containment, containment, own_places, IsLoopless}
+use Rattle.tapa_base.proofs.Lists.{has_flat, of_flat, has_map}
 
 none_more : (n : ℕ) → 0 + n ≡ n
 none_more n = omega arith

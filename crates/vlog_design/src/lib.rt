@@ -2,9 +2,11 @@
 #![tactic(auto)]
 
 mod checked;
+mod env;
 mod outside;
 mod roots;
 mod shape;
 mod top;
 
 pub use checked::Design;
+pub use env::Env;

@@ -12,12 +12,12 @@ use Rattle.vlog_tree.specs.declared.table.Declaration.{Declaration}
 use Rattle.vlog_tree.specs.declared.table.NetKind.{NetKind}
 use Rattle.vlog_tree.specs.declared.table.NetKind.TheVariants.{Register, MemoryArray}
 use Rattle.vlog_tree.specs.Form.{ModuleTree}
-use Rattle.vlog_tree.specs.Grounded.{Has}
+use Rattle.tapa_base.specs.Lists.{Has}
 use Rattle.vlog_tree.specs.Cycle.{Cycle, Sizes, run_steps, run_items, put, store, atom_value}
 use Rattle.vlog_tree.specs.Table.{Name, declared, first_violation, one_if}
 use Rattle.vlog_tree.specs.V4.{step_assigns, is_block_of, module_drives, driving_use, breaks_driving, drives}
 use Rattle.vlog_module_laws.specs.Blocks.{IsSameAt}
-use Rattle.vlog_tree.proofs.Lists.{has_map}
+use Rattle.tapa_base.proofs.Lists.{has_map}
 use Rattle.vlog_module_laws.proofs.Lists.{count_cons, one_if_true, none_counted, counted, both_false, right}
 
 all_on : List Bool → Bool

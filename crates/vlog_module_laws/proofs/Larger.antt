@@ -7,7 +7,7 @@ use Rattle.vlog_tree.specs.declared.tree.Item.{Item}
 use Rattle.vlog_tree.specs.declared.tree.Item.TheVariants.{Wire, Reg, Memory, Assign, Always, Instance}
 use Rattle.vlog_tree.specs.declared.table.Declaration.{Declaration}
 use Rattle.vlog_tree.specs.Form.{ModuleTree}
-use Rattle.vlog_tree.specs.Grounded.{Has}
+use Rattle.tapa_base.specs.Lists.{Has}
 use Rattle.vlog_tree.specs.Table.{Name, NameUse, is_clk, declared, port_declared, module_named, module_declared, is_doubled_name, is_module_name, ports_in, ports_of, first_violation, times_in}
 use Rattle.vlog_tree.specs.V2.{all_connected, module_uses, item_uses, instance_uses, connection_uses, port_uses}
 use Rattle.vlog_tree.specs.V3.{module_widths, port_widths, item_widths, connection_widths}
@@ -15,7 +15,7 @@ use Rattle.vlog_tree.specs.V4.{is_block_of, module_drives, line_driven, connecti
 use Rattle.vlog_tree.specs.Refused.{IsSound}
 use Rattle.vlog_tree.specs.Loops.{Edges, Rests, directly, through, after, direct_edges, line_edges, connection_edge, memory_edges, instances, item_instances}
 use Rattle.vlog_module_laws.specs.Larger.{IsWithin, AreApart, HaveInstancesOf, IsRightBeside}
-use Rattle.vlog_tree.proofs.Lists.{has_flat, of_flat, has_right}
+use Rattle.tapa_base.proofs.Lists.{has_flat, of_flat, has_right}
 use Rattle.vlog_module_laws.proofs.Lists.{flat_same, right, all_right, right_behind}
 
 front_of : (ms ns : List ModuleTree) (m : ModuleTree) (x : Name) (k : ModuleTree) (b : Bool) → (module_named ms x ≡ Some k → module_named (ms ++ ns) x ≡ Some k)

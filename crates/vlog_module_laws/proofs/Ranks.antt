@@ -1,12 +1,12 @@
 -- Ranks that fall along all that a net rests on.
 use Rattle.std.proofs.Common.{◌≡◌, ℕ, ◌<◌, Bool, List, Some, None, inl, inr, ap, arith}
 use Rattle.vlog_tree.specs.Form.{ModuleTree}
-use Rattle.vlog_tree.specs.Grounded.{Has}
+use Rattle.tapa_base.specs.Lists.{Has, Chain, one, more}
 use Rattle.vlog_tree.specs.Table.{Name}
 use Rattle.vlog_tree.specs.V6.{module_children}
-use Rattle.vlog_tree.specs.Loops.{Rests, directly, through, after, LiesOnLoop, TextPlace, Chain, one, more, containment, own_containment, port_of}
+use Rattle.vlog_tree.specs.Loops.{Rests, directly, through, after, LiesOnLoop, TextPlace, containment, own_containment, port_of}
 use Rattle.vlog_module_laws.specs.Ranks.{FallsBy, HaveRanks}
-use Rattle.vlog_tree.proofs.Lists.{of_flat, of_map}
+use Rattle.tapa_base.proofs.Lists.{of_flat, of_map}
 
 module _ (ms : List ModuleTree) (is_top : Name → Bool) where
   pub lower : {m : ModuleTree} {x y : Name} → Rests ms is_top m x y → (rank : Name → ℕ) → FallsBy ms is_top m rank → rank y < rank x

@@ -7,7 +7,7 @@ use Rattle.vlog_tree.specs.declared.tree.Item.TheVariants.{Always}
 use Rattle.vlog_tree.specs.declared.table.Declaration.{Declaration}
 use Rattle.vlog_tree.specs.declared.table.NetKind.TheVariants.{Register, MemoryArray}
 use Rattle.vlog_tree.specs.Form.{ModuleTree}
-use Rattle.vlog_tree.specs.Grounded.{Has}
+use Rattle.tapa_base.specs.Lists.{Has}
 use Rattle.vlog_tree.specs.Cycle.{Cycle, Sizes, run_steps, run_items}
 use Rattle.vlog_tree.specs.Table.{Name, declared, first_violation}
 use Rattle.vlog_tree.specs.V4.{step_assigns, is_block_of, module_drives}

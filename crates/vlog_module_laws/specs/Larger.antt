@@ -1,7 +1,7 @@
 -- What is right of modules by themselves is right of them among more modules.
 use Rattle.std.specs.Prelude.{◌≡◌, ◌↔◌, Bool, true, false, List, ◌++◌, Some, None, map}
 use Rattle.vlog_tree.specs.Form.{ModuleTree}
-use Rattle.vlog_tree.specs.Grounded.{Has}
+use Rattle.tapa_base.specs.Lists.{Has}
 use Rattle.vlog_tree.specs.Table.{Name, module_named, module_declared, is_doubled_name, is_module_name, first_violation}
 use Rattle.vlog_tree.specs.V2.{module_uses}
 use Rattle.vlog_tree.specs.V3.{module_widths}

@@ -2,7 +2,7 @@
 use Rattle.std.specs.Prelude.{◌≡◌, ℕ, ◌<◌, Bool, List, Some, map}
 use Rattle.vlog_tree.specs.declared.table.NetKind.TheVariants.{Input, Output}
 use Rattle.vlog_tree.specs.Form.{ModuleTree}
-use Rattle.vlog_tree.specs.Grounded.{Has}
+use Rattle.tapa_base.specs.Lists.{Has}
 use Rattle.vlog_tree.specs.Table.{Name, module_named, port_declared, net_kind_of}
 use Rattle.vlog_tree.specs.V6.{module_children}
 use Rattle.vlog_tree.specs.Loops.{Rests, IsLoopless, direct_edges, instances, port_of}

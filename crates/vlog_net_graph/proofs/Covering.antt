@@ -7,11 +7,12 @@ use Rattle.vlog_tree.specs.declared.table.Declaration.{Declaration}
 use Rattle.vlog_tree.specs.declared.table.NetKind.{NetKind}
 use Rattle.vlog_tree.specs.declared.table.NetKind.TheVariants.{Unknown, Input, Output}
 use Rattle.vlog_tree.specs.declared.tree.PortDecl.{PortDecl}
-use Rattle.vlog_tree.specs.Grounded.{Has}
+use Rattle.tapa_base.specs.Lists.{Has, one, more}
 use Rattle.vlog_tree.specs.Form.{ModuleTree}
 use Rattle.vlog_tree.specs.Table.{Name, declaration_name, port_declared, module_named, net_kind_of, net_kind_is_input, ports_in, ports_of}
-use Rattle.vlog_tree.specs.Loops.{Reaches, one, more, Rests, directly, through, after, port_of, direct_edges, instances}
-use Rattle.vlog_tree.proofs.Lists.{known, has_flat, has_map, of_map, has_left, has_right, chains}
+use Rattle.vlog_tree.specs.Loops.{Reaches, Rests, directly, through, after, port_of, direct_edges, instances}
+use Rattle.vlog_tree.proofs.Lists.{known}
+use Rattle.tapa_base.proofs.Lists.{has_flat, has_map, of_map, has_left, has_right, chains}
 use Rattle.vlog_net_graph.specs.Merged.{port_pair, port_edge, join, joins, module_merged, merged_edges}
 
 -- the module that a name finds has that name

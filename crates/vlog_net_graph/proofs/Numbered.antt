@@ -2,10 +2,10 @@
 use Rattle.std.proofs.Common.{◌≡◌, ℕ, zero, suc, ◌+◌, ◌<◌, Bool, true, false, cond, List, [], ◌∷◌, ◌++◌, length, get_or, take, Option, Some, None, inl, inr, refl, sym, ap, subst, ◌∙◌, arith}
 use Rattle.std.specs.Prelude.{bytes_eq, ◌⊎◌, ◌↔◌, slice_get, Vec}
 use Rattle.std.specs.Cmp.Lexicographic.{bytes_decides}
-use Rattle.vlog_tree.specs.Grounded.{Has}
+use Rattle.tapa_base.specs.Lists.{Has, Chain, one, more}
 use Rattle.vlog_tree.specs.Table.{Name}
-use Rattle.vlog_tree.specs.Loops.{Edges, Chain, one, more, Reaches}
-use Rattle.vlog_tree.proofs.Lists.{has_left, has_right, has_split, taken_mapped}
+use Rattle.vlog_tree.specs.Loops.{Edges, Reaches}
+use Rattle.tapa_base.proofs.Lists.{has_left, has_right, has_split, taken_mapped}
 use Rattle.vlog_net_graph.specs.Names.{IsNumbered, AreListed, texts}
 
 -- a number that no name has yet is given to a name

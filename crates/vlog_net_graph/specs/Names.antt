@@ -1,6 +1,6 @@
 -- Graphs of names: numbers of names, and a graph of the numbers.
 use Rattle.std.specs.Prelude.{◌≡◌, ℕ, ◌<◌, length, Option, Some, List, map, slice_get, Vec}
-use Rattle.vlog_tree.specs.Grounded.{Has}
+use Rattle.tapa_base.specs.Lists.{Has}
 use Rattle.vlog_tree.specs.Table.{Name}
 use Rattle.vlog_tree.specs.Loops.{Edges}
 use Rattle.vlog_scope.specs.NameTable.{value_in}

@@ -18,12 +18,12 @@ use Rattle.vlog_tree.specs.declared.tree.Item.TheVariants.{Wire, Reg, Memory, As
 use Rattle.vlog_tree.specs.declared.tree.PortDecl.{PortDecl}
 use Rattle.vlog_tree.specs.declared.table.Declaration.{Declaration}
 use Rattle.vlog_tree.specs.Form.{ModuleTree}
-use Rattle.vlog_tree.specs.Grounded.{Has}
+use Rattle.tapa_base.specs.Lists.{Has}
 use Rattle.vlog_tree.specs.Table.{Name, NameUse, declared, bits_of, first_violation}
 use Rattle.vlog_tree.specs.V3.{is_width, is_cell_count, net_fits, memory_fits, atom_bits, atom_fits, has_bits, is_divisor, op_fits, value_fits, step_widths, item_widths, port_widths, module_widths, v3_uses}
 use Rattle.vlog_tree.specs.Clamped.{clamped_atom, clamped_value, clamped_step, clamped_item, clamped_port, clamped}
 use Rattle.vlog_tree.proofs.Clamped.{width_is, cells_is, width_low}
-use Rattle.vlog_tree.proofs.Lists.{has_left, has_right, has_flat}
+use Rattle.tapa_base.proofs.Lists.{has_left, has_right, has_flat}
 
 not_not : (a : Bool) → not a ≡ false → a ≡ true
 not_not true h = refl

@@ -4,7 +4,8 @@ use Rattle.std.specs.List.{AllByRecursion, flat_map}
 use Rattle.vlog_tree.specs.declared.tree.Item.{Item}
 use Rattle.vlog_tree.specs.declared.tree.Item.TheVariants.{Reg, Memory}
 use Rattle.vlog_tree.specs.Form.{ModuleTree}
-use Rattle.vlog_tree.specs.Grounded.{Has, AllTwo}
+use Rattle.vlog_tree.specs.Grounded.{AllTwo}
+use Rattle.tapa_base.specs.Lists.{Has}
 use Rattle.vlog_tree.specs.Table.{Name, declared}
 use Rattle.vlog_tree.specs.Cycle.{Cycle, Path, Sizes, module_at, Holds, Takes, run_items}
 use Rattle.vlog_tree.specs.Environment.{Environment, RunsIn, shape_of, cells_at}

@@ -1,6 +1,5 @@
 pub mod Options
 pub mod Paths
-pub mod Ascii
 pub mod Gathered
 pub mod Sound
 pub mod Within

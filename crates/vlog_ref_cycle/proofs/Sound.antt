@@ -12,7 +12,8 @@ use Rattle.vlog_tree.specs.declared.tree.Item.{Item}
 use Rattle.vlog_tree.specs.declared.tree.Item.TheVariants.{Wire, Reg, Memory, Assign, Always, Instance}
 use Rattle.vlog_tree.specs.declared.table.Declaration.{Declaration}
 use Rattle.vlog_tree.specs.Form.{ModuleTree}
-use Rattle.vlog_tree.specs.Grounded.{Has, AllTwo}
+use Rattle.vlog_tree.specs.Grounded.{AllTwo}
+use Rattle.tapa_base.specs.Lists.{Has}
 use Rattle.vlog_tree.specs.Table.{Name, declared, port_declared, ports_of, net_kind_of, bits_of, net_kind_is_input, net_kind_is_read}
 use Rattle.vlog_tree.specs.Cycle.{Cycle, Path, Sizes, and_then, Holds, PortHolds, driven}
 use Rattle.vlog_tree.specs.Loops.{value_nets}

@@ -10,9 +10,6 @@ use Rattle.vlog_values.specs.declared.moment.Circuit.{Circuit}
 use Rattle.vlog_values.specs.declared.moment.Moment.{Moment}
 use Rattle.vlog_ref_cycle.specs.Moments.{InRuns}
 
-pub low_datum : (bits din : ℕ) → bits ≤ 65 → din < 2 ^ (bits - 1) → din < 2 ^ 64
-low_datum bits din h low = let few : bits - 1 ≤ 64 = omega arith in let most : 2 ^ (bits - 1) ≤ 2 ^ 64 = pow_mono few in omega arith
-
 module _ (c : Circuit) (now : Moment) (w : ℕ) (x : Name) where
   pub one_token : (din : ℕ) (t : Token) → t ≡ token_of w din
       → InRuns c now (λ env nets. (k : ℕ) → now.cycle ≡ suc k → carried (λ n. nets n []) x (suc k) ≡ carried (λ n. nets n []) x k ++ option_to_list (Some din))

@@ -12,16 +12,16 @@ use Rattle.vlog_tree.specs.declared.tree.Item.{Item}
 use Rattle.vlog_tree.specs.declared.tree.Item.TheVariants.{Wire, Reg, Memory, Assign, Always, Instance}
 use Rattle.vlog_tree.specs.Grounded.{AllTwo}
 use Rattle.vlog_tree.specs.Loops.{atom_nets}
-use Rattle.vlog_tree.specs.Cycle.{Cycle, Sizes, atom_value, put, store, run_steps, run_items}
+use Rattle.vlog_tree.specs.Cycle.{Cycle, Sizes, atom_value, put, store, run_steps, run_items, step_next}
 use Rattle.vlog_tree.specs.Table.{Name}
 use Rattle.vlog_tree.proofs.Walks.{opened, over}
-use Rattle.vlog_tree.proofs.Lists.{has_flat, has_got, got_index}
+use Rattle.tapa_base.proofs.Lists.{has_flat, has_got, got_index}
 use Rattle.vlog_run_laws.proofs.runs.Values.{atom_same}
 use Rattle.vlog_values.specs.declared.numbers.NetNumber.{NetNumber}
 use Rattle.vlog_values.specs.declared.numbers.MemoryCells.{MemoryCells}
 use Rattle.vlog_values.specs.Numbers.{net_in, cycle_of}
 use Rattle.vlog_values.specs.declared.moment.Held.{Held}
-use Rattle.vlog_ref_cycle.specs.Next.{put_net, IsStored, ShowsNet, ShowsCells, Shows, ReadsAre, Fits, IsAlike, memory_shape, step_next, StepLeaves}
+use Rattle.vlog_ref_cycle.specs.Next.{put_net, IsStored, ShowsNet, ShowsCells, Shows, ReadsAre, Fits, IsAlike, memory_shape, StepLeaves}
 use Rattle.vlog_ref_cycle.proofs.Options.{cons_same}
 use Rattle.vlog_ref_cycle.proofs.Leaves.{shows_put, shows_store}
 
@@ -111,22 +111,3 @@ module _ (s : Sizes) (old next now : Cycle) (steps : List Step) (i : ℕ) (step 
 
   pub steps_shut : fits ≡ false → Shows h (run_steps s old [] steps next)
   steps_shut f = subst (λ c. Shows h c) (sym (after_one false f)) l.shows
-
-pub steps_end : (s : Sizes) (old next now : Cycle) (steps : List Step) (i : ℕ) (on : List Bool) → length steps ≤ i → run_steps s old [] steps next ≡ run_steps s old on (drop i steps) now → run_steps s old [] steps next ≡ now
-steps_end s old next now steps i on high e = e ∙ ap (λ l. run_steps s old on l now) (over steps i high)
-
-one_item : (s : Sizes) (old now : Cycle) (it : Item) (items : List Item) → run_items s old (it ∷ items) now ≡ run_items s old items (run_items s old (it ∷ []) now)
-one_item s old now (Always b) items = refl
-one_item s old now (Wire w x) items = refl
-one_item s old now (Reg w x) items = refl
-one_item s old now (Memory w m n) items = refl
-one_item s old now (Assign x e) items = refl
-one_item s old now (Instance m i connections) items = refl
-
--- the items from here on run on what the items before them left
-module _ (s : Sizes) (old next now : Cycle) (items : List Item) (i : ℕ) (e : run_items s old items next ≡ run_items s old (drop i items) now) where
-  pub items_on : (it : Item) → i < length items → it ≡ get_or items i it → run_items s old items next ≡ run_items s old (drop (i + 1) items) (run_items s old (it ∷ []) now)
-  items_on it low is = e ∙ ap (λ l. run_items s old l now) (opened items i it low is) ∙ one_item s old now it (drop (i + 1) items)
-
-  pub items_end : length items ≤ i → run_items s old items next ≡ now
-  items_end high = e ∙ ap (λ l. run_items s old l now) (over items i high)

@@ -3,7 +3,8 @@ use Rattle.std.specs.Prelude.{◌≡◌, ℕ, ◌+◌, ◌<◌, ◌^◌, Bool, �
 use Rattle.std.specs.List.{flat_map, list_all, AllByRecursion}
 use Rattle.vlog_tree.specs.Form.{ModuleTree}
 use Rattle.vlog_tree.specs.Table.{declared, Name}
-use Rattle.vlog_tree.specs.Grounded.{Has, AllTwo}
+use Rattle.vlog_tree.specs.Grounded.{AllTwo}
+use Rattle.tapa_base.specs.Lists.{Has}
 use Rattle.vlog_tree.specs.Labels.{m_ack, m_we, m_addr, m_wdata}
 use Rattle.vlog_tree.specs.declared.tree.Step.{Step}
 use Rattle.vlog_tree.specs.declared.tree.Step.TheVariants.{If, Else, End, NonblockingAssign, MemoryAssign}
@@ -90,14 +91,6 @@ ReadsAre nets old names = (z : Name) → Has names z → old.net z ≡ net_in ne
 -- memories have as many cells as the sizes say
 abbrev pub Fits : Sizes → Held → Type 0
 Fits s h = AllByRecursion (λ (k : MemoryCells). s.cells k.name ≡ length k.cells.items) h.memories.items
-
--- what one step leaves for the steps after it
-abbrev pub step_next : Sizes → Cycle → List Bool → Step → Cycle → Cycle
-step_next s old on (NonblockingAssign x a) next = if list_all (λ b. b) on then put x (atom_value old a) next else next
-step_next s old on (MemoryAssign m x a) next = if list_all (λ b. b) on then store s m (old.net x) (atom_value old a) next else next
-step_next s old on (If c) next = next
-step_next s old on Else next = next
-step_next s old on End next = next
 
 -- after one step the others run on what it leaves, unless it closes a part that is not open
 pub record StepLeaves (s : Sizes) (old : Cycle) (on : List Bool) (step : Step) (rest : List Step) (next : Cycle) (fits : Bool) (on_after : List Bool) (h : Held) : Type 0 where

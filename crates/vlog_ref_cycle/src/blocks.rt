@@ -3,10 +3,10 @@
 ghost use Rattle.std.specs.Prelude.{◌≡◌, ◌∷◌, ◌++◌, [], List, map, reverse, OnOk, IfOk, if◌then◌else◌};
 ghost use Rattle.std.specs.List.{flat_map, list_all};
 ghost use Rattle.vlog_tree.specs.declared.tree.Step.{Step as StepTree};
-ghost use Rattle.vlog_tree.specs.Cycle.{Cycle, Sizes, run_steps as run_steps_lem, run_items as run_items_lem};
+ghost use Rattle.vlog_tree.specs.Cycle.{Cycle, Sizes, run_steps as run_steps_lem, run_items as run_items_lem, step_next};
 ghost use Rattle.vlog_tree.specs.Grounded.{AllTwo};
 ghost use Rattle.vlog_ref_cycle.specs.Sources.{net_read};
-ghost use Rattle.vlog_ref_cycle.specs.Next.{step_nets, item_nets, put_net, IsStored, ReadsAre, Fits, Shows, IsAlike, step_next, StepLeaves};
+ghost use Rattle.vlog_ref_cycle.specs.Next.{step_nets, item_nets, put_net, IsStored, ReadsAre, Fits, Shows, IsAlike, StepLeaves};
 
 use crate::lines::{add_atom, add_net};
 use std::alloc::{AllocError, Global};

@@ -4,13 +4,13 @@ use Rattle.tapa_base.specs.declared.shape.Port.{Port}
 use Rattle.vlog_tree.specs.declared.tree.PortDecl.{PortDecl}
 use Rattle.vlog_tree.specs.declared.table.Declaration.{Declaration}
 use Rattle.vlog_tree.specs.Form.{ModuleTree}
-use Rattle.vlog_tree.specs.Grounded.{Has}
+use Rattle.tapa_base.specs.Lists.{Has}
 use Rattle.vlog_tree.specs.Table.{Name, clk, is_clk, declared, port_declared, items_declared, net_kind_of, net_kind_is_read, first_violation}
 use Rattle.vlog_tree.specs.Environment.{shape_of, memory_label}
 use Rattle.vlog_tree.specs.Labels.{ack_of, m_ack, m_we, m_addr, m_wdata}
 use Rattle.vlog_tree.specs.V2.{v2_uses}
 use Rattle.vlog_tree.specs.V6.{v6_uses, is_top, has_port, has_all_five}
-use Rattle.vlog_tree.proofs.Lists.{of_flat}
+use Rattle.tapa_base.proofs.Lists.{of_flat}
 use Rattle.vlog_run_laws.proofs.runs.Cycles.{port_stands}
 use Rattle.vlog_run_laws.proofs.runs.TopPorts.{memory_clock, five_of}
 use Rattle.vlog_run_laws.proofs.runs.Ports.{fits, ack_input}

@@ -7,10 +7,10 @@ use Rattle.vlog_tree.specs.declared.tree.Item.{Item}
 use Rattle.vlog_tree.specs.declared.tree.Item.TheVariants.{Wire, Reg, Memory, Assign, Always, Instance}
 use Rattle.vlog_tree.specs.declared.table.Declaration.{Declaration}
 use Rattle.vlog_tree.specs.Form.{ModuleTree}
-use Rattle.vlog_tree.specs.Grounded.{Has}
+use Rattle.tapa_base.specs.Lists.{Has}
 use Rattle.vlog_tree.specs.Table.{Name, is_clk, declared, net_kind_of, net_kind_is_read, first_violation}
 use Rattle.vlog_tree.specs.V2.{v2_uses, item_uses, step_uses, read_use}
-use Rattle.vlog_tree.proofs.Lists.{has_flat, of_flat}
+use Rattle.tapa_base.proofs.Lists.{has_flat, of_flat}
 use Rattle.vlog_run_laws.proofs.runs.Sound.{both_false, not_no, atom_read, item_right}
 use Rattle.vlog_ref_cycle.specs.Next.{step_nets, item_nets}
 use Rattle.std.specs.Prelude.{not}

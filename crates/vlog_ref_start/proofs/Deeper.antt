@@ -2,7 +2,7 @@
 use Rattle.std.proofs.Common.{◌≡◌, ℕ, zero, suc, ◌+◌, List, [], ◌∷◌, Option, Some, inl, inr, refl, ap, subst, sym, ◌∙◌, arith}
 use Rattle.std.specs.Prelude.{unwrap_or, slice_get}
 use Rattle.vlog_tree.specs.Form.{ModuleTree}
-use Rattle.vlog_tree.specs.Grounded.{Has}
+use Rattle.tapa_base.specs.Lists.{Has}
 use Rattle.vlog_tree.specs.Cycle.{Path, and_then}
 use Rattle.vlog_tree.specs.Table.{Name}
 use Rattle.vlog_tree.specs.Flattened.{FlatNet}

@@ -5,7 +5,8 @@ use Rattle.vlog_tree.specs.declared.tree.Value.{Value}
 use Rattle.vlog_tree.specs.declared.tree.Item.TheVariants.{Assign}
 use Rattle.vlog_tree.specs.declared.table.Declaration.{Declaration}
 use Rattle.vlog_tree.specs.Form.{ModuleTree}
-use Rattle.vlog_tree.specs.Grounded.{Has, AllTwo}
+use Rattle.vlog_tree.specs.Grounded.{AllTwo}
+use Rattle.tapa_base.specs.Lists.{Has}
 use Rattle.vlog_tree.specs.Table.{Name, declared, net_kind_of, bits_of, net_kind_is_read}
 use Rattle.vlog_tree.specs.Cycle.{Cycle, Sizes, Holds, PortHolds, driven}
 use Rattle.vlog_tree.specs.Loops.{value_nets}

@@ -1,7 +1,7 @@
 -- What a list has is found in it by its name.
 use Rattle.std.proofs.Common.{◌≡◌, Bool, true, false, cond, ◌&&◌, List, [], ◌∷◌, Option, Some, None, inl, inr, refl, ap, ◌∙◌}
 use Rattle.std.specs.Prelude.{bytes_eq, is_some}
-use Rattle.vlog_tree.specs.Grounded.{Has}
+use Rattle.tapa_base.specs.Lists.{Has}
 use Rattle.vlog_tree.specs.Cycle.{Path}
 use Rattle.vlog_tree.specs.Table.{Name}
 use Rattle.vlog_run_laws.proofs.runs.Alone.{same_name}
@@ -44,7 +44,3 @@ pub held_there : (hs : List Held) (h : Held) → Has hs h → is_some (held_at h
 held_there [] h k = absurd k
 held_there (g ∷ hs) h (inl e) = here (same_path g.path.items h.path.items) g (held_at hs h.path.items) (ap (λ (z : Held). same_path z.path.items h.path.items) e ∙ path_itself h.path.items)
 held_there (g ∷ hs) h (inr k) = later (same_path g.path.items h.path.items) g (held_at hs h.path.items) (held_there hs h k)
-
-pub some_of : {A : Type 0} (o : Option A) → is_some o ≡ true → (x : A) × (o ≡ Some x)
-some_of None h = cc
-some_of (Some x) h = (x, refl)

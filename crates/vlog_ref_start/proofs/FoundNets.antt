@@ -12,7 +12,8 @@ use Rattle.vlog_tree.specs.declared.table.Declaration.{Declaration}
 use Rattle.vlog_tree.specs.declared.table.NetKind.{NetKind}
 use Rattle.vlog_tree.specs.declared.table.NetKind.TheVariants.{Unknown, Input, Output, WireNet, Register, MemoryArray, ChildInstance}
 use Rattle.vlog_tree.specs.Form.{ModuleTree}
-use Rattle.vlog_tree.specs.Grounded.{Has, IsGrounded, grounded}
+use Rattle.vlog_tree.specs.Grounded.{IsGrounded, grounded}
+use Rattle.tapa_base.specs.Lists.{Has}
 use Rattle.vlog_tree.specs.Refused.{IsDesign}
 use Rattle.vlog_tree.specs.Table.{Name, is_clk, declared, port_declared, items_declared, net_kind_of, bits_of, net_kind_is_read, net_kind_is_driven, net_kind_is_input, ports_of}
 use Rattle.vlog_tree.specs.Cycle.{Cycle, Path, and_then, driven, module_at}
@@ -20,7 +21,7 @@ use Rattle.vlog_tree.specs.Environment.{Environment, FitsShape, RunsIn, shape_of
 use Rattle.vlog_tree.specs.V2.{all_connected}
 use Rattle.vlog_tree.specs.Loops.{asked_port, value_nets, item_instances}
 use Rattle.vlog_tree.specs.Flattened.{FlatNet, parts}
-use Rattle.vlog_tree.proofs.Lists.{has_flat, of_flat, has_map, of_map}
+use Rattle.tapa_base.proofs.Lists.{has_flat, of_flat, has_map, of_map}
 use Rattle.vlog_run_laws.proofs.runs.Sound.{true_not_false, assign_reads, assign_cell, connection_port, connection_net, connection_clock, is_known_module, output_is}
 use Rattle.vlog_run_laws.proofs.runs.Sizes.{all_at, memory_item, register_item}
 use Rattle.vlog_run_laws.proofs.runs.Alone.{child_is, instance_single, module_there, module_is, IsNamed}

@@ -6,10 +6,10 @@ use Rattle.std.proofs.lemmas.List.{length-replicate, get_or-replicate}
 use Rattle.vlog_tree.specs.declared.tree.Item.{Item}
 use Rattle.vlog_tree.specs.declared.tree.Item.TheVariants.{Wire, Reg, Memory, Assign, Always, Instance}
 use Rattle.vlog_tree.specs.Form.{ModuleTree}
-use Rattle.vlog_tree.specs.Grounded.{Has}
+use Rattle.tapa_base.specs.Lists.{Has}
 use Rattle.vlog_tree.specs.Cycle.{Cycle, Path, module_at}
 use Rattle.vlog_tree.specs.Table.{Name}
-use Rattle.vlog_tree.proofs.Lists.{has_flat, of_flat, has_map, of_map}
+use Rattle.tapa_base.proofs.Lists.{has_flat, of_flat, has_map, of_map}
 use Rattle.vlog_run_laws.specs.runs.OneRun.{SameHeld}
 use Rattle.vlog_run_laws.specs.runs.Filled.{HoldsFill}
 use Rattle.vlog_run_laws.proofs.runs.Sizes.{all_at, all_from}

@@ -4,13 +4,13 @@ use Rattle.std.specs.Prelude.{nat_lt, is_some, slice_get}
 use Rattle.std.specs.List.{flat_map, list_all}
 use Rattle.std.proofs.lemmas.Bool.Decides.{nat_tests}
 use Rattle.vlog_tree.specs.Form.{ModuleTree}
-use Rattle.vlog_tree.specs.Grounded.{Has}
+use Rattle.tapa_base.specs.Lists.{Has}
 use Rattle.vlog_tree.specs.Refused.{IsDesign}
 use Rattle.vlog_tree.specs.Table.{Name, is_clk, declared, net_kind_of, net_kind_is_read}
 use Rattle.vlog_tree.specs.Cycle.{Cycle, Path, and_then, module_at}
 use Rattle.vlog_tree.specs.Environment.{Environment, FitsShape, RunsIn, shape_of}
 use Rattle.vlog_tree.specs.Labels.{m_ack, m_we, m_addr, m_wdata}
-use Rattle.vlog_tree.proofs.Lists.{of_map}
+use Rattle.tapa_base.proofs.Lists.{of_map}
 use Rattle.vlog_run_laws.proofs.runs.Settled.{module_in, top_tree, IsTopTree}
 use Rattle.vlog_values.specs.declared.numbers.NetNumber.{NetNumber}
 use Rattle.vlog_values.specs.declared.moment.Circuit.{Circuit}

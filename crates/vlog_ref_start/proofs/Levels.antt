@@ -3,12 +3,12 @@ use Rattle.std.proofs.Common.{◌≡◌, ℕ, zero, suc, ◌+◌, ◌-◌, ◌<�
 use Rattle.vlog_tree.specs.declared.tree.Item.{Item}
 use Rattle.vlog_tree.specs.declared.tree.Item.TheVariants.{Wire, Reg, Memory, Assign, Always, Instance}
 use Rattle.vlog_tree.specs.Form.{ModuleTree}
-use Rattle.vlog_tree.specs.Grounded.{Has}
+use Rattle.tapa_base.specs.Lists.{Has}
 use Rattle.vlog_tree.specs.Cycle.{Path, module_at}
 use Rattle.vlog_tree.specs.Table.{module_named, first_violation}
 use Rattle.vlog_tree.specs.V2.{v2_uses}
 use Rattle.vlog_tree.specs.Loops.{item_instances}
-use Rattle.vlog_tree.proofs.Lists.{has_flat, of_flat, has_left, has_right, has_split}
+use Rattle.tapa_base.proofs.Lists.{has_flat, of_flat, has_left, has_right, has_split}
 use Rattle.vlog_run_laws.proofs.runs.Settled.{module_in, child_at}
 use Rattle.vlog_run_laws.proofs.runs.Solved.{child_item, module_around}
 use Rattle.vlog_ref_start.specs.Instances.{PlaceTree, place_of, line_places, inner_places, places_at, places_below}

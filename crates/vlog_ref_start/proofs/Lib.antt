@@ -8,7 +8,6 @@ pub mod Blocks
 pub mod Asked
 pub mod Known
 pub mod Levels
-pub mod Short
 pub mod Found
 pub mod Held
 pub mod Around

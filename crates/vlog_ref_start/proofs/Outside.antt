@@ -8,7 +8,7 @@ use Rattle.vlog_tree.specs.declared.tree.PortDecl.{PortDecl}
 use Rattle.vlog_tree.specs.declared.table.Declaration.{Declaration}
 use Rattle.vlog_tree.specs.declared.table.NetKind.TheVariants.{Input, Output}
 use Rattle.vlog_tree.specs.Form.{ModuleTree, is_input}
-use Rattle.vlog_tree.specs.Grounded.{Has}
+use Rattle.tapa_base.specs.Lists.{Has}
 use Rattle.vlog_tree.specs.Table.{Name, is_clk, declared, port_declared, items_declared, net_kind_of, bits_of, net_kind_is_input, first_violation}
 use Rattle.vlog_tree.specs.Labels.{rst, m_ack, m_rdata, m_addr, scalar_of, ack_of, rdata_of, read_of, address_of}
 use Rattle.vlog_tree.specs.V2.{v2_uses}
@@ -16,7 +16,7 @@ use Rattle.vlog_tree.specs.V6.{v6_uses, is_top, has_port}
 use Rattle.vlog_tree.specs.Environment.{scalar_label, memory_label, ready_at}
 use Rattle.vlog_tree.specs.Flattened.{FlatNet}
 use Rattle.vlog_tree.specs.Loops.{asked_port}
-use Rattle.vlog_tree.proofs.Lists.{has_flat, has_map}
+use Rattle.tapa_base.proofs.Lists.{has_flat, has_map}
 use Rattle.vlog_run_laws.proofs.runs.TopPorts.{input_port, five_of, five_rdata}
 use Rattle.vlog_run_laws.proofs.runs.Cycles.{port_stands}
 use Rattle.vlog_run_laws.proofs.runs.Settled.{answers}

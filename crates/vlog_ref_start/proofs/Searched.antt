@@ -10,7 +10,7 @@ use Rattle.vlog_tree.specs.declared.tree.Item.{Item}
 use Rattle.vlog_tree.specs.declared.tree.Item.TheVariants.{Wire, Reg, Memory, Assign, Always, Instance}
 use Rattle.vlog_tree.specs.declared.table.Declaration.{Declaration}
 use Rattle.vlog_tree.specs.Form.{ModuleTree}
-use Rattle.vlog_tree.specs.Grounded.{Has}
+use Rattle.tapa_base.specs.Lists.{Has}
 use Rattle.vlog_tree.specs.Table.{Name, port_declared, ports_of, net_kind_of, net_kind_is_input, one_if}
 use Rattle.vlog_run_laws.proofs.runs.Sound.{both_true, no_is, true_not_false}
 use Rattle.vlog_run_laws.proofs.runs.Alone.{same_name, count_cons}

@@ -3,12 +3,12 @@ use Rattle.std.proofs.Common.{◌≡◌, ℕ, true, List, [], Some, length, sym,
 use Rattle.std.specs.Prelude.{is_some, slice_get}
 use Rattle.std.specs.List.{AllByRecursion}
 use Rattle.vlog_tree.specs.Form.{ModuleTree}
-use Rattle.vlog_tree.specs.Grounded.{Has}
+use Rattle.tapa_base.specs.Lists.{Has}
 use Rattle.vlog_tree.specs.Refused.{IsDesign}
 use Rattle.vlog_tree.specs.V6.{is_top}
 use Rattle.vlog_tree.specs.Cycle.{Cycle, Path, module_at}
 use Rattle.vlog_tree.specs.Environment.{Environment, shape_of}
-use Rattle.vlog_tree.proofs.Lists.{has_map, of_map, has_got}
+use Rattle.tapa_base.proofs.Lists.{has_map, of_map, has_got, some_of}
 use Rattle.vlog_run_laws.specs.runs.OneRun.{IsRunFrom}
 use Rattle.vlog_run_laws.specs.runs.Filled.{IsFilled}
 use Rattle.vlog_run_laws.proofs.runs.Sizes.{all_from}
@@ -26,8 +26,8 @@ use Rattle.vlog_ref_start.specs.Contents.{HeldTree, held_tree, filled_held}
 use Rattle.vlog_ref_start.specs.Outside.{OutsideTree, outside_tree, labelled_from, outside_from}
 use Rattle.vlog_ref_start.specs.Runs.{IsStart}
 use Rattle.vlog_ref_start.proofs.Levels.{below_leads, below_has}
-use Rattle.vlog_ref_start.proofs.Short.{way_short}
-use Rattle.vlog_ref_start.proofs.Found.{net_there, outside_there, held_there, some_of}
+use Rattle.vlog_run_laws.proofs.runs.Short.{way_short}
+use Rattle.vlog_ref_start.proofs.Found.{net_there, outside_there, held_there}
 use Rattle.vlog_ref_start.proofs.Held.{path_is, holds_all, held_is}
 use Rattle.vlog_ref_start.proofs.Around.{StandsThere, scalars_are, stands_there, outside_is, scalar_has, memory_has}
 

@@ -6,13 +6,7 @@ use Rattle.vlog_tree.specs.Environment.{Environment}
 use Rattle.vlog_tree.specs.Table.{Name}
 use Rattle.vlog_values.specs.declared.numbers.NetNumber.{NetNumber}
 use Rattle.vlog_values.specs.declared.moment.OutsideMemory.{OutsideMemory}
-use Rattle.vlog_ref_start.specs.declared.surroundings.Surroundings.{Surroundings}
-
-abbrev pub lists_of : {A : Type 0} → List (Vec A Global) → List (List A)
-lists_of {A} vs = map (λ (v : Vec A Global). v.items) vs
-
-abbrev pub environment_of : Surroundings → Environment
-environment_of s = record { scalars = s.scalars.items; memories = lists_of s.memories.items; ready = lists_of s.ready.items }
+use Rattle.vlog_design.specs.declared.env.Env.{Env}
 
 -- labels with the numbers from a place on
 abbrev pub labelled_from : ℕ → List Port → List ℕ → List NetNumber

@@ -3,14 +3,13 @@
 ghost use Rattle.std.specs.Prelude.{◌≡◌, IfOk};
 ghost use Rattle.vlog_tree.specs.Form.{ModuleTree};
 ghost use Rattle.vlog_design.specs.Designs.{TopOf};
-ghost use Rattle.vlog_ref_start.specs.Outside.{environment_of};
+ghost use Rattle.vlog_design.specs.Environments.{environment_of};
 ghost use Rattle.vlog_ref_start.specs.Runs.{IsStart};
 
 use crate::contents::first_held;
 use crate::outside::{first_memories, first_scalars};
-use crate::surroundings::Surroundings;
+use vlog_design::{Design, Env};
 use std::alloc::{AllocError, Global};
-use vlog_design::Design;
 use vlog_values::Moment;
 
 /// The moment of cycle 0, in which every register and every cell of the design holds `fill` modulo 2 to the power of its
@@ -18,7 +17,7 @@ use vlog_values::Moment;
 pub fn first_moment(
     alloc: Global,
     design: &Design,
-    around: &Surroundings,
+    around: &Env,
     fill: u128,
 ) -> Result<Moment, AllocError>
     ensures { IfOk result (λ now. (m : ModuleTree) → TopOf design.now m → IsStart design.now.modules m (environment_of around.now) fill now) }

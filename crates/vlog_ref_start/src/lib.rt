@@ -7,9 +7,7 @@ mod first;
 mod instances;
 mod laws;
 mod outside;
-mod surroundings;
 
 pub use cycle_laws::{law_each_net_is_found, law_next_moment_is_known, law_next_moment_is_whole};
 pub use first::first_moment;
 pub use laws::law_reference_is_a_run;
-pub use surroundings::Surroundings;

@@ -1,9 +1,10 @@
 // What stands around a design in cycle 0.
 
 ghost use Rattle.std.specs.Prelude.{◌≡◌, ◌∷◌, ◌++◌, [], map, IfOk, OnOk, slice_index, slice_index_or};
-ghost use Rattle.vlog_ref_start.specs.Outside.{environment_of, labelled_from, outside_tree, outside_from, lists_of};
+ghost use Rattle.vlog_ref_start.specs.Outside.{labelled_from, outside_tree, outside_from};
+ghost use Rattle.vlog_design.specs.Environments.{environment_of, lists_of};
 
-use crate::surroundings::Surroundings;
+use vlog_design::Env;
 use std::alloc::{AllocError, Global};
 use tapa_base::Port;
 use vlog_values::{NetNumber, OutsideMemory};
@@ -69,7 +70,7 @@ fn ready_at(alloc: Global, ready: &[Vec<bool>], at: usize) -> Result<Vec<bool>, 
 pub(crate) fn first_memories(
     alloc: Global,
     labels: &[Port],
-    around: &Surroundings,
+    around: &Env,
 ) -> Result<Vec<OutsideMemory>, AllocError>
     ensures { IfOk result (λ v. map outside_tree v.items ≡ outside_from 0 labels.now (environment_of around.now)) }
 {

@@ -23,3 +23,5 @@ pub mod Lookups
 pub mod Ports
 pub mod Surround
 pub mod Filled
+pub mod Ascii
+pub mod Short

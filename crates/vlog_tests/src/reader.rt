@@ -6,22 +6,21 @@ use crate::simulated::simulated;
 use crate::table::{Found, Row, table};
 use std::alloc::Global;
 use std::mem;
-use vlog_design::Design;
+use vlog_design::{Design, Env};
 use vlog_read::read;
-use vlog_ref_start::Surroundings;
 
 /// The text so far, whether it is run, what stands around the top, the number at power-up, and the nets that are shown.
 #[derive(Drop)]
 pub(crate) struct Reader {
     text: String,
     is_run: bool,
-    around: Surroundings,
+    around: Env,
     fill: u128,
     rows: Vec<Row>,
 }
 
-fn nothing_around(alloc: Global) -> Surroundings {
-    Surroundings {
+fn nothing_around(alloc: Global) -> Env {
+    Env {
         scalars: Vec::new(alloc),
         memories: Vec::new(alloc),
         ready: Vec::new(alloc),

@@ -4,8 +4,7 @@ use crate::shown::{Carried, add_token, push_end, push_memory, push_streams, stre
 use cycle_sim::Sim;
 use std::alloc::{AllocError, Global};
 use tapa_base::Port;
-use vlog_design::Design;
-use vlog_ref_start::Surroundings;
+use vlog_design::{Design, Env};
 
 fn add_tokens(alloc: Global, sim: &Sim, streams: &mut [Carried]) -> Result<(), AllocError> {
     let mut place = 0u32;
@@ -73,7 +72,7 @@ fn shown(
 pub(crate) fn simulated(
     alloc: Global,
     design: Design,
-    around: &Surroundings,
+    around: &Env,
     fill: u64,
     cycles: u32,
 ) -> Result<String, AllocError> {

@@ -3,10 +3,10 @@
 use crate::shown::{Carried, add_number, add_token, push_end, push_memory, push_name, push_streams, streams_of};
 use std::alloc::{AllocError, Global};
 use tapa_base::Text;
-use vlog_design::Design;
+use vlog_design::{Design, Env};
 use vlog_ref_cycle::{carries, is_done, net_number, next};
 use vlog_values::{Circuit, Moment};
-use vlog_ref_start::{Surroundings, first_moment};
+use vlog_ref_start::first_moment;
 
 /// A net of an instance, with the names of the instances on the way to it, the innermost first, and its numbers so far.
 #[derive(Drop)]
@@ -80,7 +80,7 @@ fn push_memories(alloc: Global, to: &mut String, now: &Moment) -> Result<(), All
 pub(crate) fn table(
     alloc: Global,
     checked: &Design,
-    around: &Surroundings,
+    around: &Env,
     fill: u128,
     mut rows: Vec<Row>,
     cycles: u32,

@@ -1,6 +1,7 @@
 -- What grounded is on no loop, and has a rank above that of its parts.
 use Rattle.std.proofs.Common.{◌≡◌, ℕ, zero, suc, ◌<◌, ◌≤◌, max, inl, inr, List, [], ◌∷◌, refl, sym, ap, ◌∙◌, subst, arith}
-use Rattle.vlog_tree.specs.Grounded.{Has, Walk, OnLoop, IsGrounded, grounded}
+use Rattle.vlog_tree.specs.Grounded.{Walk, OnLoop, IsGrounded, grounded}
+use Rattle.tapa_base.specs.Lists.{Has}
 use Rattle.vlog_tree.proofs.Ranked.{IsRanked, solution, solves, one_solution}
 
 walk_on : {N : Type 0} (parts : N → List N) (n : ℕ) (a b c : N) → Walk parts n a b → Has (parts b) c → Walk parts (suc n) a c

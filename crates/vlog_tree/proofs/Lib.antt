@@ -6,3 +6,5 @@ pub mod Lists
 pub mod Labelled
 pub mod Clamped
 pub mod ClampedModules
+pub mod Turns
+pub mod Tokens

@@ -178,3 +178,11 @@ Connected nets path (Always b) = Unit {0}
 pub record Runs (ms : List ModuleTree) (top : ModuleTree) (nets : ℕ → Path → Cycle) : Type 0 where
   pub each : (path : Path) (m : ModuleTree) → module_at ms top path ≡ Some m → Follows m (λ n. nets n path)
   pub connections : (n : ℕ) (path : Path) (m : ModuleTree) → module_at ms top path ≡ Some m → AllByRecursion (Connected (nets n) path) m.items
+
+-- what one step leaves for the steps after it
+abbrev pub step_next : Sizes → Cycle → List Bool → Step → Cycle → Cycle
+step_next s old on (NonblockingAssign x a) next = if list_all (λ b. b) on then put x (atom_value old a) next else next
+step_next s old on (MemoryAssign m x a) next = if list_all (λ b. b) on then store s m (old.net x) (atom_value old a) next else next
+step_next s old on (If c) next = next
+step_next s old on Else next = next
+step_next s old on End next = next

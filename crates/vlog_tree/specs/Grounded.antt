@@ -1,9 +1,6 @@
--- What lists have, walks along parts, loops, and what rests on parts that come to an end.
+-- Lists of one length, walks along parts, loops, and what rests on parts that come to an end.
 use Rattle.std.specs.Prelude.{◌≡◌, ℕ, zero, suc, ◌⊎◌, List, [], ◌∷◌}
-
-abbrev pub Has : {N : Type 0} → List N → N → Type 0
-Has [] b = ⊥
-Has (x ∷ xs) b = (x ≡ b) ⊎ Has xs b
+use Rattle.tapa_base.specs.Lists.{Has}
 
 -- two lists of one length whose elements fit each other
 abbrev pub AllTwo : {A B : Type 0} → (A → B → Type 0) → List A → List B → Type 0

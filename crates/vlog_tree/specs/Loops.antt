@@ -19,7 +19,7 @@ use Rattle.vlog_tree.specs.declared.table.Declaration.{Declaration}
 use Rattle.vlog_tree.specs.declared.table.NetKind.TheVariants.{Input, Output}
 use Rattle.vlog_tree.specs.Form.{ModuleTree}
 use Rattle.vlog_tree.specs.Table.{Name, declared, port_declared, net_kind_of, net_kind_is_input, ports_of, module_named}
-use Rattle.vlog_tree.specs.Grounded.{Has}
+use Rattle.tapa_base.specs.Lists.{Has, Chain}
 use Rattle.vlog_tree.specs.Labels.{address_of}
 use Rattle.vlog_tree.specs.V6.{module_children, has_port}
 
@@ -102,11 +102,6 @@ own_containment m = map (λ k. (m.name, k)) (module_children m)
 
 abbrev pub containment : List ModuleTree → Edges
 containment ms = flat_map own_containment ms
-
--- one or more steps of a relation
-pub data Chain {N : Type 0} (R : N → N → Type 0) : N → N → Type 0 where
-  one : {a b : N} → R a b → Chain R a b
-  more : {a c : N} (b : N) → R a b → Chain R b c → Chain R a c
 
 -- from a thing to another along edges
 abbrev pub Reaches : Edges → Name → Name → Type 0

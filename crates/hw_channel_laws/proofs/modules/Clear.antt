@@ -8,7 +8,7 @@ use Rattle.vlog_tree.specs.declared.tree.Connection.{Connection}
 use Rattle.vlog_tree.specs.declared.tree.Item.{Item}
 use Rattle.vlog_tree.specs.declared.tree.Item.TheVariants.{Wire, Reg, Memory, Assign, Always, Instance}
 use Rattle.vlog_tree.specs.Form.{ModuleTree}
-use Rattle.vlog_tree.specs.Grounded.{Has}
+use Rattle.tapa_base.specs.Lists.{Has}
 use Rattle.vlog_tree.specs.Table.{Name, clk, module_named}
 use Rattle.vlog_module_laws.specs.Ranks.{HaveRanks}
 use Rattle.vlog_module_laws.proofs.Lists.{both_true}

@@ -12,7 +12,7 @@ use Rattle.vlog_tree.specs.declared.table.Declaration.{Declaration}
 use Rattle.vlog_tree.specs.declared.table.NetKind.TheVariants.{Unknown, Input, Output}
 use Rattle.vlog_tree.specs.Names.{is_among}
 use Rattle.vlog_tree.specs.Form.{ModuleTree, is_input}
-use Rattle.vlog_tree.specs.Grounded.{Has}
+use Rattle.tapa_base.specs.Lists.{Has}
 use Rattle.vlog_tree.specs.Table.{Name, clk, port_declared, find_name, net_kind_of, ports_of, module_named}
 use Rattle.vlog_tree.specs.Labels.{rst, rdata_of, m_addr, label_in}
 use Rattle.vlog_tree.specs.Loops.{Rests, line_edges, connection_edge, memory_edges, direct_edges, instances, port_of}

@@ -8,7 +8,7 @@ use Rattle.vlog_tree.specs.declared.tree.Step.{Step}
 use Rattle.vlog_tree.specs.declared.tree.Connection.{Connection}
 use Rattle.vlog_tree.specs.declared.tree.Item.TheVariants.{Reg, Always, Instance}
 use Rattle.vlog_tree.specs.Form.{ModuleTree}
-use Rattle.vlog_tree.specs.Grounded.{Has}
+use Rattle.tapa_base.specs.Lists.{Has}
 use Rattle.vlog_tree.specs.Labels.{rst}
 use Rattle.vlog_tree.specs.Table.{Name, module_named}
 use Rattle.vlog_tree.specs.Cycle.{Cycle, Path, Follows, Runs, module_at, child_of, and_then}

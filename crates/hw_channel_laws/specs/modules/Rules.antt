@@ -6,7 +6,7 @@ use Rattle.vlog_tree.specs.declared.tree.Item.TheVariants.{Instance}
 use Rattle.vlog_tree.specs.declared.tree.PortDecl.{PortDecl}
 use Rattle.vlog_tree.specs.declared.table.NetKind.TheVariants.{Input, Output}
 use Rattle.vlog_tree.specs.Form.{ModuleTree}
-use Rattle.vlog_tree.specs.Grounded.{Has}
+use Rattle.tapa_base.specs.Lists.{Has}
 use Rattle.vlog_tree.specs.Loops.{Rests, IsLoopless}
 use Rattle.vlog_tree.specs.Refused.{IsSound}
 use Rattle.vlog_tree.specs.Table.{Name, clk, port_declared, net_kind_of}

@@ -15,10 +15,10 @@ use Rattle.vlog_tree.specs.declared.tree.Atom.TheVariants.{Net, Literal}
 use Rattle.vlog_tree.specs.declared.tree.BinaryOp.TheVariants.{And, Less}
 use Rattle.vlog_tree.specs.declared.tree.Value.TheVariants.{Binary, Choose, Cell}
 use Rattle.vlog_tree.specs.declared.table.NetKind.TheVariants.{WireNet}
-use Rattle.vlog_tree.specs.Grounded.{Has}
+use Rattle.tapa_base.specs.Lists.{Has}
 use Rattle.vlog_tree.specs.Table.{Name, one_if}
 use Rattle.vlog_tree.specs.Cycle.{Cycle, Follows, atom_value}
-use Rattle.vlog_tree.proofs.Lists.{has_left, has_right}
+use Rattle.tapa_base.proofs.Lists.{has_left, has_right}
 use Rattle.hw_build.specs.Elements.{Element, Wire, Register, Memory, built}
 use Rattle.hw_build.proofs.Driven.{wire_driven, width_declared, cells_declared}
 use Rattle.hw_build.specs.Scope.{each}

@@ -16,11 +16,11 @@ use Rattle.vlog_tree.specs.declared.tree.Value.TheVariants.{Binary}
 use Rattle.vlog_tree.specs.declared.tree.Step.{Step}
 use Rattle.vlog_tree.specs.declared.tree.Item.TheVariants.{Memory as MemoryLine}
 use Rattle.vlog_tree.specs.Form.{ModuleTree}
-use Rattle.vlog_tree.specs.Grounded.{Has}
+use Rattle.tapa_base.specs.Lists.{Has}
 use Rattle.vlog_tree.specs.Table.{Name, one_if}
 use Rattle.vlog_tree.specs.Cycle.{Cycle, Follows, atom_value}
 use Rattle.vlog_tree.specs.V4.{step_assigns}
-use Rattle.vlog_tree.proofs.Lists.{has_flat}
+use Rattle.tapa_base.proofs.Lists.{has_flat}
 use Rattle.vlog_module_laws.specs.Blocks.{IsOwnBlock}
 use Rattle.vlog_module_laws.proofs.Blocks.{items_leave}
 use Rattle.vlog_module_laws.proofs.Lines.{line}

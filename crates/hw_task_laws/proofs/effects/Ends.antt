@@ -8,12 +8,12 @@ use Rattle.vlog_tree.specs.declared.tree.Item.TheVariants.{Reg}
 use Rattle.vlog_tree.specs.declared.tree.Step.{Step}
 use Rattle.vlog_tree.specs.declared.tree.Step.TheVariants.{If, Else, End, NonblockingAssign}
 use Rattle.vlog_tree.specs.Form.{ModuleTree}
-use Rattle.vlog_tree.specs.Grounded.{Has}
+use Rattle.tapa_base.specs.Lists.{Has}
 use Rattle.vlog_tree.specs.Labels.{rst}
 use Rattle.vlog_tree.specs.Table.{Name}
 use Rattle.vlog_tree.specs.Cycle.{Cycle, Follows}
 use Rattle.vlog_tree.specs.V4.{step_assigns}
-use Rattle.vlog_tree.proofs.Lists.{has_flat}
+use Rattle.tapa_base.proofs.Lists.{has_flat}
 use Rattle.vlog_module_laws.specs.Forms.{set_block}
 use Rattle.vlog_module_laws.specs.Blocks.{IsOwnBlock}
 use Rattle.vlog_module_laws.proofs.Forms.{set_leaves}

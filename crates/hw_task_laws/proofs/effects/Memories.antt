@@ -4,7 +4,7 @@ use Rattle.std.proofs.lemmas.Bool.{cases_eq, eq-eqb, ne_eqb, and_right}
 use Rattle.tapa_base.specs.declared.kind.Kind.TheVariants.{U64}
 use Rattle.tapa_base.specs.Kinds.{bits_of}
 use Rattle.kahn_model.specs.Trace.{State, cell, with_cell, store_cell}
-use Rattle.vlog_tree.specs.Grounded.{Has}
+use Rattle.tapa_base.specs.Lists.{Has}
 use Rattle.vlog_tree.specs.Table.{Name}
 use Rattle.vlog_tree.specs.Cycle.{Cycle, Follows}
 use Rattle.hw_build.specs.Elements.{Element, Output, built}

@@ -3,7 +3,7 @@ use Rattle.std.proofs.Common.{◌≡◌, ℕ, ◌<◌, Bool, true, false, cond, 
 use Rattle.std.proofs.lemmas.Bool.{cases_eq, eq-eqb, ne_eqb}
 use Rattle.vlog_tree.specs.declared.tree.Atom.{Atom}
 use Rattle.vlog_tree.specs.declared.tree.Value.TheVariants.{Plain}
-use Rattle.vlog_tree.specs.Grounded.{Has}
+use Rattle.tapa_base.specs.Lists.{Has}
 use Rattle.vlog_tree.specs.Table.{Name, one_if}
 use Rattle.vlog_tree.specs.Cycle.{Cycle, Follows, atom_value, driven}
 use Rattle.hw_build.specs.Elements.{Element, Output, built}

@@ -16,11 +16,11 @@ use Rattle.vlog_tree.specs.declared.tree.BinaryOp.TheVariants.{Plus, Less}
 use Rattle.vlog_tree.specs.declared.tree.Value.{Value}
 use Rattle.vlog_tree.specs.declared.tree.Value.TheVariants.{Binary, Choose}
 use Rattle.vlog_tree.specs.Form.{ModuleTree}
-use Rattle.vlog_tree.specs.Grounded.{Has}
+use Rattle.tapa_base.specs.Lists.{Has}
 use Rattle.vlog_tree.specs.Labels.{rst}
 use Rattle.vlog_tree.specs.Table.{Name, one_if}
 use Rattle.vlog_tree.specs.Cycle.{Cycle, Follows, atom_value}
-use Rattle.vlog_tree.proofs.Lists.{has_right}
+use Rattle.tapa_base.proofs.Lists.{has_right}
 use Rattle.hw_build.specs.Elements.{Wire, built}
 use Rattle.hw_build.specs.Fitting.{AreFitting}
 use Rattle.hw_build.proofs.Driven.{wire_driven}

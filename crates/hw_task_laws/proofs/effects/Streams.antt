@@ -11,10 +11,10 @@ use Rattle.vlog_tree.specs.declared.tree.Atom.{Atom}
 use Rattle.vlog_tree.specs.declared.tree.Atom.TheVariants.{Literal}
 use Rattle.vlog_tree.specs.declared.tree.Value.TheVariants.{Concat}
 use Rattle.vlog_tree.specs.Environment.{token_of}
-use Rattle.vlog_tree.specs.Grounded.{Has}
+use Rattle.tapa_base.specs.Lists.{Has}
 use Rattle.vlog_tree.specs.Table.{Name, one_if}
 use Rattle.vlog_tree.specs.Cycle.{Cycle, Follows, atom_value, atom_width}
-use Rattle.vlog_tree.proofs.Lists.{has_right}
+use Rattle.tapa_base.proofs.Lists.{has_right}
 use Rattle.hw_build.specs.Elements.{Element, Wire, Output, built}
 use Rattle.hw_build.proofs.Driven.{wire_driven}
 use Rattle.hw_build.specs.Fits.{IsAmong}

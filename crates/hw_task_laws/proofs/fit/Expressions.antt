@@ -14,7 +14,7 @@ use Rattle.vlog_tree.specs.declared.tree.Atom.TheVariants.{Net}
 use Rattle.vlog_tree.specs.declared.tree.BinaryOp.TheVariants.{And, Or}
 use Rattle.vlog_tree.specs.declared.tree.Value.TheVariants.{Invert, Binary, Choose}
 use Rattle.vlog_tree.specs.Table.{Name}
-use Rattle.vlog_tree.proofs.Lists.{has_left, has_right}
+use Rattle.tapa_base.proofs.Lists.{has_left, has_right}
 use Rattle.hw_build.specs.Elements.{Element}
 use Rattle.hw_build.specs.Scope.{IsNet, AtomIs, FitInOrder}
 use Rattle.hw_build.specs.Fits.{IsAmong}

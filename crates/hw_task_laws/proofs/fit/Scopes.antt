@@ -7,10 +7,10 @@ use Rattle.tapa_base.specs.Kinds.{bits_of, is_signed}
 use Rattle.vlog_tree.specs.declared.tree.Atom.{Atom}
 use Rattle.vlog_tree.specs.declared.tree.Atom.TheVariants.{Net, Part, Literal}
 use Rattle.vlog_tree.specs.declared.tree.Value.{Value}
-use Rattle.vlog_tree.specs.Grounded.{Has}
+use Rattle.tapa_base.specs.Lists.{Has}
 use Rattle.vlog_tree.specs.Table.{Name}
 use Rattle.vlog_tree.specs.V3.{is_width}
-use Rattle.vlog_tree.proofs.Lists.{has_left, has_right, has_split, has_flat, of_flat}
+use Rattle.tapa_base.proofs.Lists.{has_left, has_right, has_split, has_flat, of_flat}
 use Rattle.hw_build.specs.Elements.{Element, Input, Wire, Register, Memory}
 use Rattle.hw_build.specs.Trees.{numbered, tree_node, tree_nodes}
 use Rattle.hw_build.proofs.Forms.{yes_and}

@@ -11,8 +11,8 @@ use Rattle.vlog_tree.specs.declared.tree.Atom.{Atom}
 use Rattle.vlog_tree.specs.declared.tree.Atom.TheVariants.{Net as NetAtom, Literal}
 use Rattle.vlog_tree.specs.declared.tree.BinaryOp.TheVariants.{Less}
 use Rattle.vlog_tree.specs.declared.tree.Value.TheVariants.{Binary, Choose, Cell}
-use Rattle.vlog_tree.specs.Grounded.{Has}
-use Rattle.vlog_tree.proofs.Lists.{has_left, has_right}
+use Rattle.tapa_base.specs.Lists.{Has}
+use Rattle.tapa_base.proofs.Lists.{has_left, has_right}
 use Rattle.hw_build.specs.Elements.{Element, Wire, Register}
 use Rattle.hw_build.specs.Scope.{each, IsNet, IsMemory, AtomIs, FitInOrder}
 use Rattle.hw_build.specs.Choices.{Entry, choice}

@@ -6,7 +6,7 @@ use Rattle.tapa_base.specs.declared.kind.Kind.TheVariants as kind
 use Rattle.tapa_base.specs.Kinds.{bits_of}
 use Rattle.vlog_tree.specs.declared.tree.Atom.{Atom}
 use Rattle.vlog_tree.specs.declared.tree.Atom.TheVariants.{Literal}
-use Rattle.vlog_tree.specs.Grounded.{Has}
+use Rattle.tapa_base.specs.Lists.{Has}
 use Rattle.hw_build.specs.Elements.{Element}
 use Rattle.hw_build.specs.Trees.{numbered}
 use Rattle.hw_build.specs.Scope.{each, IsNet, AtomIs}
@@ -26,7 +26,7 @@ use Rattle.hw_task_lines.specs.Drivers.{low_bits}
 use Rattle.hw_task_lines.specs.States.{net, index_of, value_kind, index_wires, value_wires, awaited, acts_late, go_of, next_wires, next_atom, more_wires, state_wires, decoded}
 use Rattle.hw_task_lines.specs.Effects.{entry, at, datum_of, eot_of, end_token, sets, places, contents, tokens, takings, askings, savings, endings, effect, entries}
 use Rattle.hw_task_lines.specs.Texts.{inputs, held, offered, reads_of, read_numbers}
-use Rattle.vlog_tree.proofs.Lists.{has_left, has_right}
+use Rattle.tapa_base.proofs.Lists.{has_left, has_right}
 use Rattle.hw_task_laws.specs.wires.Shows.{IsWhole}
 use Rattle.hw_task_laws.proofs.fit.Scopes.{both_among, wire_net, atom_in}
 use Rattle.hw_task_laws.proofs.fit.Operators.{low_fits}

@@ -6,10 +6,10 @@ use Rattle.tapa_base.specs.Kinds.{bits_of}
 use Rattle.vlog_tree.specs.declared.tree.Atom.{Atom}
 use Rattle.vlog_tree.specs.declared.tree.Atom.TheVariants.{Net as NetAtom, Literal}
 use Rattle.vlog_tree.specs.declared.tree.Value.TheVariants.{Plain}
-use Rattle.vlog_tree.specs.Grounded.{Has}
+use Rattle.tapa_base.specs.Lists.{Has}
 use Rattle.vlog_tree.specs.Table.{Name}
 use Rattle.vlog_tree.specs.V3.{is_width}
-use Rattle.vlog_tree.proofs.Lists.{has_left, has_right}
+use Rattle.tapa_base.proofs.Lists.{has_left, has_right}
 use Rattle.hw_build.specs.Elements.{Element, Output, Block, reset_or}
 use Rattle.hw_build.specs.Scope.{each, IsNet, IsRegister, AtomIs, ValueIs, FitInOrder}
 use Rattle.hw_build.specs.Choices.{Entry, choice}

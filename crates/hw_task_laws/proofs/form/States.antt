@@ -9,9 +9,9 @@ use Rattle.vlog_tree.specs.declared.tree.Atom.{Atom}
 use Rattle.vlog_tree.specs.declared.tree.Atom.TheVariants.{Net as NetAtom, Literal}
 use Rattle.vlog_tree.specs.declared.tree.BinaryOp.TheVariants.{Plus, And, Less}
 use Rattle.vlog_tree.specs.declared.tree.Value.TheVariants.{Invert, Binary}
-use Rattle.vlog_tree.specs.Grounded.{Has}
+use Rattle.tapa_base.specs.Lists.{Has}
 use Rattle.vlog_tree.specs.V3.{is_width, is_cell_count}
-use Rattle.vlog_tree.proofs.Lists.{has_left, has_right}
+use Rattle.tapa_base.proofs.Lists.{has_left, has_right}
 use Rattle.hw_build.proofs.Forms.{yes_and}
 use Rattle.hw_build.specs.Elements.{Element, Input, Wire, Register}
 use Rattle.hw_build.specs.Trees.{numbered}

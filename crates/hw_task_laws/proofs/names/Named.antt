@@ -4,9 +4,9 @@ use Rattle.std.specs.Prelude.{◌⊎◌, bytes_eq, nat_le, nat_lt}
 use Rattle.std.specs.List.{flat_map}
 use Rattle.std.proofs.lemmas.Bool.{cases_eq}
 use Rattle.std.proofs.lemmas.Grind.{flat_map-append}
-use Rattle.vlog_tree.specs.Grounded.{Has}
+use Rattle.tapa_base.specs.Lists.{Has}
 use Rattle.vlog_tree.specs.Table.{Name, times_in, one_if}
-use Rattle.vlog_tree.proofs.Lists.{has_split}
+use Rattle.tapa_base.proofs.Lists.{has_split}
 use Rattle.vlog_module_laws.proofs.Lists.{both_true, count_cons}
 use Rattle.hw_build.specs.Elements.{Element}
 use Rattle.hw_build.specs.Trees.{numbered}

@@ -5,9 +5,9 @@ use Rattle.tapa_base.specs.Kinds.{bits_of}
 use Rattle.vlog_tree.specs.declared.table.Declaration.{Declaration}
 use Rattle.vlog_tree.specs.declared.table.NetKind.TheVariants.{Input as InputNet, Output as OutputNet}
 use Rattle.vlog_tree.specs.declared.tree.PortDecl.{PortDecl}
-use Rattle.vlog_tree.specs.Grounded.{Has}
+use Rattle.tapa_base.specs.Lists.{Has}
 use Rattle.vlog_tree.specs.Table.{Name, port_declared, find_name, net_kind_of}
-use Rattle.vlog_tree.proofs.Lists.{has_split, of_map}
+use Rattle.tapa_base.proofs.Lists.{has_split, of_map}
 use Rattle.hw_build.specs.Elements.{empty, built}
 use Rattle.hw_build.proofs.Tables.{is_known, known}
 use Rattle.hw_build.proofs.Free.{free_rests_on_no_input}

@@ -13,7 +13,7 @@ use Rattle.vlog_tree.specs.declared.tree.Atom.TheVariants.{Net, Part, Literal}
 use Rattle.vlog_tree.specs.declared.tree.BinaryOp.{BinaryOp}
 use Rattle.vlog_tree.specs.declared.tree.BinaryOp.TheVariants.{Plus, Minus, Times, Divide, Remainder, And, Or, Xor, ShiftLeft, ShiftRight, Equals, Differs, Less}
 use Rattle.vlog_tree.specs.declared.tree.Value.TheVariants.{Plain, Invert, Binary, Choose, Concat}
-use Rattle.vlog_tree.specs.Grounded.{Has}
+use Rattle.tapa_base.specs.Lists.{Has}
 use Rattle.vlog_tree.specs.Table.{Name}
 use Rattle.hw_build.specs.Elements.{Element, Wire}
 use Rattle.hw_build.specs.Trees.{numbered, tree_node, tree_nodes}

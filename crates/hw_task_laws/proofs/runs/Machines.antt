@@ -11,7 +11,7 @@ use Rattle.tapa_syntax.specs.WellFormed.{IsLeaf}
 use Rattle.kahn_model.specs.Trace.{State}
 use Rattle.vlog_tree.specs.declared.tree.Value.TheVariants.{Plain}
 use Rattle.vlog_tree.specs.Form.{ModuleTree}
-use Rattle.vlog_tree.specs.Grounded.{Has}
+use Rattle.tapa_base.specs.Lists.{Has}
 use Rattle.vlog_tree.specs.Table.{Name}
 use Rattle.vlog_tree.specs.Cycle.{Cycle, Follows}
 use Rattle.hw_build.specs.Elements.{Output, built}

@@ -14,7 +14,7 @@ use Rattle.kahn_model.specs.Behavior.{Offer, on_offer}
 use Rattle.kahn_model.specs.Trace.{State}
 use Rattle.vlog_tree.specs.declared.tree.BinaryOp.TheVariants.{And}
 use Rattle.vlog_tree.specs.declared.tree.Value.TheVariants.{Invert, Binary}
-use Rattle.vlog_tree.specs.Grounded.{Has}
+use Rattle.tapa_base.specs.Lists.{Has}
 use Rattle.vlog_tree.specs.Table.{Name, one_if}
 use Rattle.vlog_tree.specs.Cycle.{Cycle, Follows, atom_value}
 use Rattle.hw_build.specs.Elements.{Wire, built}

@@ -16,7 +16,7 @@ use Rattle.vlog_tree.specs.declared.tree.BinaryOp.TheVariants.{And, Or}
 use Rattle.vlog_tree.specs.declared.tree.Value.TheVariants.{Invert, Binary, Choose}
 use Rattle.vlog_tree.specs.Table.{Name}
 use Rattle.vlog_tree.specs.Cycle.{Cycle, Sizes, atom_value}
-use Rattle.vlog_tree.proofs.Lists.{has_left, has_right}
+use Rattle.tapa_base.proofs.Lists.{has_left, has_right}
 use Rattle.hw_build.specs.Elements.{Element, Wire}
 use Rattle.task_fsm.specs.Machine.{Expression, Number, Reg, CellOf, Converted, Applied, Flipped, Inverse, Both, Either, Chosen, Operation}
 use Rattle.task_fsm.specs.MachineKinds.{IsFixed, IsOfKind, HoldsValues}

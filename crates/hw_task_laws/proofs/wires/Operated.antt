@@ -17,10 +17,10 @@ use Rattle.vlog_tree.specs.declared.tree.Atom.TheVariants.{Net, Part, Literal}
 use Rattle.vlog_tree.specs.declared.tree.BinaryOp.{BinaryOp}
 use Rattle.vlog_tree.specs.declared.tree.BinaryOp.TheVariants.{Plus, Minus, Times, Divide, Remainder, And, Or, Xor, ShiftLeft, ShiftRight, Equals, Differs, Less}
 use Rattle.vlog_tree.specs.declared.tree.Value.TheVariants.{Invert, Binary, Choose, Concat}
-use Rattle.vlog_tree.specs.Grounded.{Has}
+use Rattle.tapa_base.specs.Lists.{Has}
 use Rattle.vlog_tree.specs.Table.{Name, one_if}
 use Rattle.vlog_tree.specs.Cycle.{Cycle, Sizes, atom_value, op_value}
-use Rattle.vlog_tree.proofs.Lists.{has_left, has_right}
+use Rattle.tapa_base.proofs.Lists.{has_left, has_right}
 use Rattle.hw_build.specs.Elements.{Wire}
 use Rattle.hw_build.specs.Trees.{numbered}
 use Rattle.hw_task_laws.specs.words.Words.{half_of}

@@ -10,7 +10,7 @@ use Rattle.task_fsm.specs.MachineKinds.{GivesKind}
 use Rattle.vlog_tree.specs.declared.tree.Atom.{Atom}
 use Rattle.vlog_tree.specs.declared.tree.Atom.TheVariants.{Net, Part, Literal}
 use Rattle.vlog_tree.specs.declared.tree.Value.{Value}
-use Rattle.vlog_tree.specs.Grounded.{Has}
+use Rattle.tapa_base.specs.Lists.{Has}
 use Rattle.vlog_tree.specs.Table.{Name}
 use Rattle.vlog_tree.specs.Cycle.{Cycle, Sizes, atom_value, atom_width, driven}
 use Rattle.hw_build.specs.Elements.{Element, Wire}

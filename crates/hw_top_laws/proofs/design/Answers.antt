@@ -10,11 +10,11 @@ use Rattle.task_fsm.specs.declared.machine.Fsm.{Fsm}
 use Rattle.vlog_tree.specs.declared.tree.PortDecl.{PortDecl}
 use Rattle.vlog_tree.specs.declared.table.Declaration.{Declaration}
 use Rattle.vlog_tree.specs.declared.table.NetKind.TheVariants.{Input as InputNet, Output as OutputNet}
-use Rattle.vlog_tree.specs.Grounded.{Has}
+use Rattle.tapa_base.specs.Lists.{Has}
 use Rattle.vlog_tree.specs.Labels.{rst, done, scalar, m_ack, m_rdata, m_addr, m_wdata, m_we, rdata_of, read_of, address_of}
 use Rattle.vlog_tree.specs.Loops.{asked_port, answer_edges, memory_edges}
 use Rattle.vlog_tree.specs.Table.{Name, clk, port_declared}
-use Rattle.vlog_tree.proofs.Lists.{has_split, has_flat, of_flat, of_map}
+use Rattle.tapa_base.proofs.Lists.{has_split, has_flat, of_flat, of_map}
 use Rattle.vlog_module_laws.proofs.Labelled.{labels}
 use Rattle.vlog_run_laws.proofs.runs.Settled.{asked_address}
 use Rattle.hw_build.specs.Elements.{Element, Input, Output, Outlet, element_ports, empty}

@@ -8,11 +8,11 @@ use Rattle.task_fsm.specs.declared.machine.Fsm.{Fsm}
 use Rattle.vlog_tree.specs.declared.tree.Item.{Item}
 use Rattle.vlog_tree.specs.declared.tree.Item.TheVariants.{Wire, Reg, Memory, Assign, Always, Instance}
 use Rattle.vlog_tree.specs.Form.{ModuleTree}
-use Rattle.vlog_tree.specs.Grounded.{Has}
-use Rattle.vlog_tree.specs.Loops.{Chain, one, more, Reaches, containment, own_containment, instances, item_instances}
+use Rattle.tapa_base.specs.Lists.{Has, Chain, one, more}
+use Rattle.vlog_tree.specs.Loops.{Reaches, containment, own_containment, instances, item_instances}
 use Rattle.vlog_tree.specs.Table.{Name, module_named}
 use Rattle.vlog_tree.specs.V6.{module_children, item_children}
-use Rattle.vlog_tree.proofs.Lists.{has_left, has_right, has_split, has_flat, of_flat, of_map}
+use Rattle.tapa_base.proofs.Lists.{has_left, has_right, has_split, has_flat, of_flat, of_map}
 use Rattle.vlog_module_laws.proofs.Larger.{right_has_instances}
 use Rattle.vlog_run_laws.proofs.runs.Alone.{module_is, module_there}
 use Rattle.hw_build.specs.Elements.{empty}

@@ -13,11 +13,11 @@ use Rattle.vlog_tree.specs.declared.tree.Item.{Item}
 use Rattle.vlog_tree.specs.declared.tree.Item.TheVariants.{Wire, Reg, Memory, Assign, Always, Instance as InstanceLine}
 use Rattle.vlog_tree.specs.declared.tree.PortDecl.{PortDecl}
 use Rattle.vlog_tree.specs.Form.{ModuleTree}
-use Rattle.vlog_tree.specs.Grounded.{Has}
+use Rattle.tapa_base.specs.Lists.{Has}
 use Rattle.vlog_tree.specs.Labels.{rst}
 use Rattle.vlog_tree.specs.Table.{Name, NameUse, clk, is_clk, times_in}
 use Rattle.vlog_tree.specs.V6.{item_children, module_children, clock_connection, clock_connections}
-use Rattle.vlog_tree.proofs.Lists.{has_split, has_flat, of_flat, of_map}
+use Rattle.tapa_base.proofs.Lists.{has_split, has_flat, of_flat, of_map}
 use Rattle.vlog_module_laws.proofs.Larger.{named_has}
 use Rattle.hw_build.specs.Elements.{Element, Instance as InstanceElement, element_items, empty}
 use Rattle.hw_build.proofs.Tables.{items_of_all}

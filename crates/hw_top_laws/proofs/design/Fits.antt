@@ -12,7 +12,7 @@ use Rattle.tapa_syntax.specs.declared.program.Scalar.{Scalar}
 use Rattle.vlog_tree.specs.declared.tree.PortDecl.{PortDecl}
 use Rattle.vlog_tree.specs.declared.table.Declaration.{Declaration}
 use Rattle.vlog_tree.specs.Form.{is_input}
-use Rattle.vlog_tree.specs.Grounded.{Has}
+use Rattle.tapa_base.specs.Lists.{Has}
 use Rattle.vlog_tree.specs.Labels.{rst, done, scalar, m_ack, m_rdata, m_addr, m_wdata, m_we, scalar_of, ack_of, rdata_of, addr_of, wdata_of, we_of}
 use Rattle.vlog_tree.specs.Table.{Name, NameUse, clk, is_clk, port_declared, find_name, net_kind_is_read}
 use Rattle.vlog_tree.specs.V6.{has_port, has_all_five, bits_before, agrees, is_in, is_out, is_memory_port, is_expected, fixed_fits, scalar_fits, ack_fits, rdata_fits, addr_fits, wdata_fits, we_fits, port_fits, top_ports}

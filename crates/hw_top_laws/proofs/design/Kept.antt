@@ -12,10 +12,10 @@ use Rattle.vlog_tree.specs.declared.tree.PortDecl.{PortDecl}
 use Rattle.vlog_tree.specs.declared.table.Declaration.{Declaration}
 use Rattle.vlog_tree.specs.declared.table.NetKind.TheVariants.{Input as InputNet, Output as OutputNet, WireNet}
 use Rattle.vlog_tree.specs.Form.{ModuleTree}
-use Rattle.vlog_tree.specs.Grounded.{Has}
+use Rattle.tapa_base.specs.Lists.{Has}
 use Rattle.vlog_tree.specs.Loops.{Rests}
 use Rattle.vlog_tree.specs.Table.{Name, module_named, port_declared, net_kind_of, times_in}
-use Rattle.vlog_tree.proofs.Lists.{has_left, has_right}
+use Rattle.tapa_base.proofs.Lists.{has_left, has_right}
 use Rattle.vlog_module_laws.proofs.Larger.{each_right, right_has_instances, named_has, rests_fewer}
 use Rattle.hw_build.specs.Elements.{Element, Link, Instance as InstanceElement}
 use Rattle.hw_build.specs.Fitting.{first_table, have_fitting_names}

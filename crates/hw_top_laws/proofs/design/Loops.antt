@@ -1,7 +1,7 @@
 -- The top has no loop: what it rests on it rests on beside the modules below it.
 use Rattle.std.proofs.Common.{◌≡◌, Bool, List, Some, refl, sym, subst, ◌∙◌}
 use Rattle.vlog_tree.specs.Form.{ModuleTree}
-use Rattle.vlog_tree.specs.Grounded.{Has}
+use Rattle.tapa_base.specs.Lists.{Has}
 use Rattle.vlog_tree.specs.Loops.{Edges, Rests, directly, through, after}
 use Rattle.vlog_tree.specs.Table.{Name, module_named}
 use Rattle.vlog_module_laws.specs.Larger.{IsWithin, HaveInstancesOf}

@@ -6,11 +6,11 @@ use Rattle.tapa_syntax.specs.declared.program.Stream.{Stream}
 use Rattle.task_fsm.specs.declared.machine.Fsm.{Fsm}
 use Rattle.vlog_tree.specs.declared.table.Declaration.{Declaration}
 use Rattle.vlog_tree.specs.Form.{ModuleTree}
-use Rattle.vlog_tree.specs.Grounded.{Has}
+use Rattle.tapa_base.specs.Lists.{Has}
 use Rattle.vlog_tree.specs.Loops.{Rests, TextPlace, LiesOnLoop, own_places, text_places, instances, port_of}
 use Rattle.vlog_tree.specs.Refused.{IsSound}
 use Rattle.vlog_tree.specs.Table.{Name, declared}
-use Rattle.vlog_tree.proofs.Lists.{has_split, has_flat, of_flat, of_map}
+use Rattle.tapa_base.proofs.Lists.{has_split, has_flat, of_flat, of_map}
 use Rattle.vlog_module_laws.specs.Larger.{IsWithin, HaveInstancesOf}
 use Rattle.vlog_module_laws.proofs.Larger.{front_within, each_right, right_has_instances, rests_fewer}
 use Rattle.vlog_run_laws.proofs.runs.Alone.{module_is, module_there}

@@ -18,10 +18,10 @@ use Rattle.vlog_tree.specs.declared.table.Declaration.{Declaration}
 use Rattle.vlog_tree.specs.declared.table.NetKind.TheVariants.{Input as InputNet, WireNet}
 use Rattle.vlog_tree.specs.Environment.{scalar_label, memory_label, is_stream, is_bit_wire, stream_label as stream_label_of, item_stream}
 use Rattle.vlog_tree.specs.Form.{ModuleTree}
-use Rattle.vlog_tree.specs.Grounded.{Has}
+use Rattle.tapa_base.specs.Lists.{Has}
 use Rattle.vlog_tree.specs.Labels.{rst, done, scalar, scalar_of, ack_of, din_of, m_ack, m_rdata, m_addr, m_wdata, m_we, s_din, s_wr, s_rdy}
 use Rattle.vlog_tree.specs.Table.{Name, clk, declared, find_name, net_kind_is_wire, bits_of as bits_in}
-use Rattle.vlog_tree.proofs.Lists.{has_left, has_right, has_flat}
+use Rattle.tapa_base.proofs.Lists.{has_left, has_right, has_flat}
 use Rattle.vlog_module_laws.proofs.Labelled.{labels}
 use Rattle.vlog_module_laws.proofs.Lists.{both_true}
 use Rattle.hw_build.specs.Elements.{Element, Input, Output, Outlet, Wire, Link, Register, Memory as MemoryElement, Block, Instance as InstanceElement, empty, element_ports, element_items}

@@ -4,7 +4,7 @@ use Rattle.std.specs.Prelude.{map, slice_get}
 use Rattle.std.specs.List.{flat_map}
 use Rattle.std.proofs.lemmas.Grind.{flat_map-append}
 use Rattle.std.proofs.lemmas.List.{append-nil}
-use Rattle.vlog_tree.specs.Grounded.{Has}
+use Rattle.tapa_base.specs.Lists.{Has}
 use Rattle.vlog_tree.specs.Labels.{scalar_of, ack_of, rdata_of, addr_of, wdata_of, we_of, din_of}
 use Rattle.vlog_tree.specs.Table.{Name}
 use Rattle.vlog_module_laws.specs.Labelled.{IsLabelOf}

@@ -6,9 +6,9 @@ use Rattle.std.proofs.lemmas.Bool.{cases_eq}
 use Rattle.vlog_tree.specs.declared.tree.Connection.{Connection}
 use Rattle.vlog_tree.specs.declared.table.Declaration.{Declaration}
 use Rattle.vlog_tree.specs.Form.{ModuleTree}
-use Rattle.vlog_tree.specs.Grounded.{Has}
+use Rattle.tapa_base.specs.Lists.{Has}
 use Rattle.vlog_tree.specs.Table.{Name, clk, times_in, one_if}
-use Rattle.vlog_tree.proofs.Lists.{has_left, has_right, has_map}
+use Rattle.tapa_base.proofs.Lists.{has_left, has_right, has_map}
 use Rattle.vlog_module_laws.proofs.Lists.{both_true, count_cons, counted}
 use Rattle.hw_build.specs.Elements.{Element}
 use Rattle.hw_build.specs.Fitting.{declarations, first_table, table_after, has_fitting_names, have_fitting_names}

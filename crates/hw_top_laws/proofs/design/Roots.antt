@@ -12,10 +12,10 @@ use Rattle.vlog_tree.specs.declared.tree.Connection.{Connection}
 use Rattle.vlog_tree.specs.declared.tree.Item.{Item}
 use Rattle.vlog_tree.specs.declared.tree.Item.TheVariants.{Instance as InstanceLine}
 use Rattle.vlog_tree.specs.Form.{ModuleTree}
-use Rattle.vlog_tree.specs.Grounded.{Has}
+use Rattle.tapa_base.specs.Lists.{Has}
 use Rattle.vlog_tree.specs.Table.{Name, times_in}
 use Rattle.vlog_tree.specs.V6.{item_children, module_children, contained_names, roots}
-use Rattle.vlog_tree.proofs.Lists.{has_left, has_right, has_split, has_flat, of_flat}
+use Rattle.tapa_base.proofs.Lists.{has_left, has_right, has_split, has_flat, of_flat}
 use Rattle.vlog_module_laws.proofs.Lists.{counted}
 use Rattle.hw_build.specs.Elements.{Element, Instance as InstanceElement, element_items, empty}
 use Rattle.hw_build.proofs.Drivers.{times_has}

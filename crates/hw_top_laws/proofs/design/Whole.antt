@@ -9,11 +9,11 @@ use Rattle.tapa_syntax.specs.declared.program.Program.{Program}
 use Rattle.task_fsm.specs.declared.machine.Fsm.{Fsm}
 use Rattle.vlog_tree.specs.declared.table.Declaration.{Declaration}
 use Rattle.vlog_tree.specs.Form.{ModuleTree, IsModule}
-use Rattle.vlog_tree.specs.Grounded.{Has}
+use Rattle.tapa_base.specs.Lists.{Has}
 use Rattle.vlog_tree.specs.Labels.{rst, done}
 use Rattle.vlog_tree.specs.Table.{Name, NameUse, clk, port_declared, module_declared, is_doubled_name, first_violation}
 use Rattle.vlog_tree.specs.V6.{roots, first_name, is_top, has_port, top_ports, clock_connections, is_whole_top, module_tops, v6_uses}
-use Rattle.vlog_tree.proofs.Lists.{has_split, of_flat}
+use Rattle.tapa_base.proofs.Lists.{has_split, of_flat}
 use Rattle.vlog_module_laws.specs.Larger.{IsRightBeside}
 use Rattle.vlog_module_laws.proofs.Larger.{front_within, stays_right, sound_of}
 use Rattle.vlog_module_laws.proofs.Lists.{all_right, all_from}

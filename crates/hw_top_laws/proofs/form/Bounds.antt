@@ -15,10 +15,10 @@ use Rattle.tapa_syntax.specs.declared.program.Scalar.{Scalar}
 use Rattle.tapa_syntax.specs.WellFormed.{IsInstance, IsBoundTo, last_kind}
 use Rattle.vlog_tree.specs.declared.tree.Atom.TheVariants.{Net, Literal}
 use Rattle.vlog_tree.specs.declared.tree.Value.TheVariants.{Plain}
-use Rattle.vlog_tree.specs.Grounded.{Has}
+use Rattle.tapa_base.specs.Lists.{Has}
 use Rattle.vlog_tree.specs.Labels.{scalar}
 use Rattle.vlog_tree.specs.Table.{Name}
-use Rattle.vlog_tree.proofs.Lists.{has_left, has_right}
+use Rattle.tapa_base.proofs.Lists.{has_left, has_right}
 use Rattle.hw_build.specs.Elements.{Element, Wire}
 use Rattle.hw_build.specs.Scope.{each, IsNet, FitInOrder}
 use Rattle.hw_build.specs.Fits.{IsAmong}

@@ -11,7 +11,7 @@ use Rattle.tapa_syntax.specs.declared.program.Program.{Program}
 use Rattle.tapa_syntax.specs.declared.program.Scalar.{Scalar}
 use Rattle.tapa_syntax.specs.declared.program.Stream.{Stream}
 use Rattle.task_fsm.specs.declared.machine.Fsm.{Fsm}
-use Rattle.vlog_tree.specs.Grounded.{Has}
+use Rattle.tapa_base.specs.Lists.{Has}
 use Rattle.vlog_tree.specs.Labels.{rst, m_ack, m_rdata, m_addr, m_wdata, m_we, s_din, s_wr, s_rdy, scalar}
 use Rattle.vlog_tree.specs.Names.{is_name}
 use Rattle.vlog_tree.specs.Table.{Name, clk, times_in}

@@ -14,10 +14,10 @@ use Rattle.tapa_syntax.specs.declared.program.Stream.{Stream}
 use Rattle.tapa_syntax.specs.WellFormed.{IsJoined as IsStreamEnd}
 use Rattle.task_fsm.specs.declared.machine.Fsm.{Fsm}
 use Rattle.vlog_tree.specs.Form.{ModuleTree}
-use Rattle.vlog_tree.specs.Grounded.{Has}
+use Rattle.tapa_base.specs.Lists.{Has}
 use Rattle.vlog_tree.specs.Labels.{m_addr, m_wdata, m_we, s_din, s_wr, s_rdy}
 use Rattle.vlog_tree.specs.Table.{Name}
-use Rattle.vlog_tree.proofs.Lists.{has_left, has_right, has_split, has_flat}
+use Rattle.tapa_base.proofs.Lists.{has_left, has_right, has_split, has_flat}
 use Rattle.hw_build.specs.Elements.{Element, Instance as InstanceElement}
 use Rattle.hw_build.specs.Fitting.{link_names, instance_driven}
 use Rattle.hw_build.specs.Scope.{each}

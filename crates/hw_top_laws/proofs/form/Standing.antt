@@ -8,10 +8,10 @@ use Rattle.tapa_syntax.specs.declared.program.Memory.{Memory}
 use Rattle.tapa_syntax.specs.declared.program.Program.{Program}
 use Rattle.tapa_syntax.specs.declared.program.Scalar.{Scalar}
 use Rattle.tapa_syntax.specs.declared.program.Stream.{Stream}
-use Rattle.vlog_tree.specs.Grounded.{Has}
+use Rattle.tapa_base.specs.Lists.{Has}
 use Rattle.vlog_tree.specs.Labels.{m_ack, m_rdata, m_addr, m_wdata, m_we, s_din, s_wr, s_rdy, scalar}
 use Rattle.vlog_tree.specs.Table.{Name}
-use Rattle.vlog_tree.proofs.Lists.{has_left, has_right, has_split, has_flat}
+use Rattle.tapa_base.proofs.Lists.{has_left, has_right, has_split, has_flat}
 use Rattle.hw_build.specs.Elements.{Element, Input, Outlet, Link}
 use Rattle.hw_build.specs.Scope.{each, IsNet}
 use Rattle.hw_build.specs.Fits.{IsAmong}

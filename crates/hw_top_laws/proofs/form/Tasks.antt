@@ -21,10 +21,10 @@ use Rattle.task_fsm.specs.Lowered.{IsLowered}
 use Rattle.vlog_tree.specs.declared.tree.Connection.{Connection}
 use Rattle.vlog_tree.specs.declared.tree.PortDecl.{PortDecl}
 use Rattle.vlog_tree.specs.Form.{ModuleTree}
-use Rattle.vlog_tree.specs.Grounded.{Has}
+use Rattle.tapa_base.specs.Lists.{Has}
 use Rattle.vlog_tree.specs.Labels.{rst, m_ack, m_rdata, m_addr, m_wdata, m_we, s_din, s_wr, s_rdy}
 use Rattle.vlog_tree.specs.Table.{Name, clk, module_named, times_in}
-use Rattle.vlog_tree.proofs.Lists.{has_left, has_right, has_split}
+use Rattle.tapa_base.proofs.Lists.{has_left, has_right, has_split}
 use Rattle.vlog_module_laws.proofs.Lists.{all_from}
 use Rattle.hw_build.specs.Elements.{empty}
 use Rattle.hw_build.proofs.Tables.{count_append}

@@ -8,12 +8,12 @@ use Rattle.vlog_tree.specs.declared.tree.PortDecl.{PortDecl}
 use Rattle.vlog_tree.specs.declared.table.Declaration.{Declaration}
 use Rattle.vlog_tree.specs.declared.table.NetKind.TheVariants.{Input as InputNet, Output as OutputNet}
 use Rattle.vlog_tree.specs.Form.{ModuleTree, is_port, is_item, is_connection, IsModule}
-use Rattle.vlog_tree.specs.Grounded.{Has}
+use Rattle.tapa_base.specs.Lists.{Has}
 use Rattle.vlog_tree.specs.Labels.{rst}
 use Rattle.vlog_tree.specs.Names.{is_name, starts_name, goes_on, is_keyword, always_to_default, defparam_to_event, for_to_input, instance_to_not, notif0_to_real, realtime_to_strong0, strong1_to_unsigned, use_to_xor}
 use Rattle.vlog_tree.specs.Table.{Name, clk, port_declared, find_name, net_kind_of, bits_of, times_in, one_if}
 use Rattle.vlog_tree.specs.V2.{all_connected}
-use Rattle.vlog_tree.proofs.Lists.{has_map, has_flat, of_flat}
+use Rattle.tapa_base.proofs.Lists.{has_map, has_flat, of_flat}
 use Rattle.vlog_module_laws.proofs.Lists.{count_cons, counted, both_true}
 use Rattle.vlog_run_laws.proofs.runs.Alone.{module_is}
 use Rattle.hw_build.specs.Elements.{Element, Input, Output, Outlet, Wire, Link, Register, Memory, Block, Instance}

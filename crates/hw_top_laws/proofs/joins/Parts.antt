@@ -5,9 +5,9 @@ use Rattle.std.proofs.lemmas.List.{append-nil}
 use Rattle.vlog_tree.specs.declared.tree.Connection.{Connection}
 use Rattle.vlog_tree.specs.declared.tree.PortDecl.{PortDecl}
 use Rattle.vlog_tree.specs.Form.{ModuleTree}
-use Rattle.vlog_tree.specs.Grounded.{Has}
+use Rattle.tapa_base.specs.Lists.{Has}
 use Rattle.vlog_tree.specs.Table.{Name}
-use Rattle.vlog_tree.proofs.Lists.{has_left, has_flat, of_flat}
+use Rattle.tapa_base.proofs.Lists.{has_left, has_flat, of_flat}
 use Rattle.hw_build.specs.Elements.{Element, Input, Output, Outlet, Wire, Link, Register, Memory, Block, Instance}
 use Rattle.hw_build.specs.Scope.{each, readable, IsNet, FitsAfter}
 use Rattle.hw_build.specs.Fits.{IsAmong}

@@ -11,13 +11,13 @@ use Rattle.vlog_tree.specs.declared.table.Declaration.{Declaration}
 use Rattle.vlog_tree.specs.declared.table.NetKind.{NetKind}
 use Rattle.vlog_tree.specs.declared.table.NetKind.TheVariants.{Output as OutputNet, WireNet}
 use Rattle.vlog_tree.specs.Form.{ModuleTree}
-use Rattle.vlog_tree.specs.Grounded.{Has}
+use Rattle.tapa_base.specs.Lists.{Has}
 use Rattle.vlog_tree.specs.Labels.{rst}
 use Rattle.vlog_tree.specs.Names.{is_among}
 use Rattle.vlog_tree.specs.Table.{Name, NameUse, clk, is_clk, port_declared, find_name, net_kind_of, bits_of, net_kind_is_read, net_kind_is_driven, net_kind_is_input, is_module_name, ports_of, times_in, one_if}
 use Rattle.vlog_tree.specs.V2.{read_use, driven_use, clock_use, joined_use, connection_uses, all_connected}
 use Rattle.vlog_tree.specs.V4.{connection_driven}
-use Rattle.vlog_tree.proofs.Lists.{has_left, has_split, has_flat, of_flat}
+use Rattle.tapa_base.proofs.Lists.{has_left, has_split, has_flat, of_flat}
 use Rattle.vlog_module_laws.proofs.Larger.{known_by}
 use Rattle.vlog_module_laws.proofs.Lists.{count_cons, counted, all_at}
 use Rattle.vlog_run_laws.proofs.runs.Alone.{module_is}

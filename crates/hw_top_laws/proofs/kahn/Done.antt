@@ -10,7 +10,7 @@ use Rattle.vlog_tree.specs.Cycle.{Cycle, Path, Follows, driven}
 use Rattle.vlog_tree.specs.Environment.{Environment, FitsShape, RunsIn, shape_of}
 use Rattle.vlog_tree.specs.Form.{ModuleTree}
 use Rattle.vlog_tree.specs.Labels.{done}
-use Rattle.vlog_tree.proofs.Lists.{has_left, has_right}
+use Rattle.tapa_base.proofs.Lists.{has_left, has_right}
 use Rattle.hw_build.specs.Elements.{Element, Output, Wire}
 use Rattle.hw_build.specs.Trees.{numbered, tree_nodes, tree_root, or_range}
 use Rattle.hw_build.proofs.Driven.{wire_driven, output_driven}

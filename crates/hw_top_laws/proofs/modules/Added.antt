@@ -3,9 +3,9 @@ use Rattle.std.proofs.Common.{◌≡◌, ℕ, zero, suc, ◌<◌, Bool, true, fa
 use Rattle.std.specs.Prelude.{◌⊎◌, bytes_eq, is_some}
 use Rattle.std.specs.Cmp.Lexicographic.{bytes_decides}
 use Rattle.vlog_tree.specs.Form.{ModuleTree}
-use Rattle.vlog_tree.specs.Grounded.{Has}
+use Rattle.tapa_base.specs.Lists.{Has}
 use Rattle.vlog_tree.specs.Table.{Name, module_named, is_module_name}
-use Rattle.vlog_tree.proofs.Lists.{has_left, has_right, has_split, has_got, of_map}
+use Rattle.tapa_base.proofs.Lists.{has_left, has_right, has_split, has_got, of_map}
 use Rattle.vlog_run_laws.proofs.runs.Alone.{module_is, module_there}
 use Rattle.hw_build.specs.Scope.{each}
 use Rattle.hw_build.proofs.Parts.{of_each}

@@ -9,7 +9,7 @@ use Rattle.tapa_syntax.specs.declared.program.Program.{Program}
 use Rattle.tapa_syntax.specs.declared.program.Stream.{Stream}
 use Rattle.tapa_syntax.specs.WellFormed.{IsWellFormed}
 use Rattle.vlog_tree.specs.Form.{ModuleTree, IsModule}
-use Rattle.vlog_tree.specs.Grounded.{Has}
+use Rattle.tapa_base.specs.Lists.{Has}
 use Rattle.vlog_tree.specs.Table.{Name}
 use Rattle.hw_task_laws.proofs.fit.Scopes.{few_bits}
 use Rattle.hw_channel_laws.specs.modules.Texts.{step_tree, even_tree, odd_tree, row_tree, fifo_tree, plain_tree, relayed_tree, AreRelays, One, More, AreModules, Alone, Relayed}

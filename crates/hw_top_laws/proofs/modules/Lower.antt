@@ -12,10 +12,10 @@ use Rattle.task_fsm.specs.declared.machine.Fsm.{Fsm}
 use Rattle.vlog_tree.specs.declared.tree.PortDecl.{PortDecl}
 use Rattle.vlog_tree.specs.declared.table.Declaration.{Declaration}
 use Rattle.vlog_tree.specs.Form.{ModuleTree, IsModule}
-use Rattle.vlog_tree.specs.Grounded.{Has}
+use Rattle.tapa_base.specs.Lists.{Has}
 use Rattle.vlog_tree.specs.Table.{Name, declared, port_declared, items_declared, module_named, module_declared, is_doubled_name, times_in, one_if}
 use Rattle.vlog_tree.specs.V2.{module_uses, port_uses, item_uses}
-use Rattle.vlog_tree.proofs.Lists.{has_left, has_right, has_split, has_flat, of_map}
+use Rattle.tapa_base.proofs.Lists.{has_left, has_right, has_split, has_flat, of_map}
 use Rattle.vlog_module_laws.specs.Larger.{IsRightBeside, IsWithin}
 use Rattle.vlog_module_laws.proofs.Larger.{each_right, stays_right, sound_of}
 use Rattle.vlog_module_laws.proofs.Lists.{count_cons, right}

@@ -12,7 +12,7 @@ use Rattle.tapa_syntax.specs.declared.program.Bound.TheVariants.{Number, Top}
 use Rattle.tapa_syntax.specs.declared.program.Program.{Program}
 use Rattle.vlog_tree.specs.declared.tree.Atom.TheVariants.{Net, Literal}
 use Rattle.vlog_tree.specs.declared.tree.Value.TheVariants.{Plain}
-use Rattle.vlog_tree.specs.Grounded.{Has}
+use Rattle.tapa_base.specs.Lists.{Has}
 use Rattle.vlog_tree.specs.Labels.{scalar}
 use Rattle.vlog_tree.specs.Names.{is_name, starts_name, goes_on}
 use Rattle.vlog_tree.specs.Table.{Name}

@@ -6,8 +6,8 @@ use Rattle.tapa_syntax.specs.declared.program.Instance.{Instance}
 use Rattle.tapa_syntax.specs.declared.program.Leaf.{Leaf}
 use Rattle.tapa_syntax.specs.declared.program.Program.{Program}
 use Rattle.tapa_syntax.specs.declared.program.Stream.{Stream}
-use Rattle.vlog_tree.specs.Grounded.{Has}
-use Rattle.vlog_tree.proofs.Lists.{has_left, has_right}
+use Rattle.tapa_base.specs.Lists.{Has}
+use Rattle.tapa_base.proofs.Lists.{has_left, has_right}
 use Rattle.hw_build.specs.Elements.{Element, Instance as InstanceElement}
 use Rattle.hw_build.specs.Scope.{each}
 use Rattle.hw_build.proofs.Parts.{has_each}

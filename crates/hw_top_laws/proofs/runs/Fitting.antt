@@ -19,10 +19,10 @@ use Rattle.vlog_tree.specs.declared.table.NetKind.TheVariants.{Input, Output}
 use Rattle.vlog_tree.specs.Cycle.{Cycle, Path, module_at}
 use Rattle.vlog_tree.specs.Environment.{Environment, FitsShape, RunsIn, shape_of}
 use Rattle.vlog_tree.specs.Form.{ModuleTree, is_input}
-use Rattle.vlog_tree.specs.Grounded.{Has}
+use Rattle.tapa_base.specs.Lists.{Has}
 use Rattle.vlog_tree.specs.Refused.{IsDesign}
 use Rattle.vlog_tree.specs.Table.{Name, clk, is_clk, declared, port_declared, items_declared, find_name, net_kind_is_read, module_named}
-use Rattle.vlog_tree.proofs.Lists.{has_left, has_right, has_map}
+use Rattle.tapa_base.proofs.Lists.{has_left, has_right, has_map}
 use Rattle.vlog_module_laws.proofs.Larger.{instance_there}
 use Rattle.vlog_run_laws.proofs.runs.Alone.{stands_for}
 use Rattle.vlog_run_laws.proofs.runs.Settled.{IsTopTree, top_tree as is_top_tree, module_in, child_at}

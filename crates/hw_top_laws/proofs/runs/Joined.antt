@@ -10,10 +10,10 @@ use Rattle.vlog_tree.specs.declared.tree.Connection.{Connection}
 use Rattle.vlog_tree.specs.declared.tree.Item.TheVariants.{Instance as InstanceLine}
 use Rattle.vlog_tree.specs.Cycle.{Cycle, Path, Runs}
 use Rattle.vlog_tree.specs.Form.{ModuleTree}
-use Rattle.vlog_tree.specs.Grounded.{Has}
+use Rattle.tapa_base.specs.Lists.{Has}
 use Rattle.vlog_tree.specs.Labels.{rst, s_din, s_wr, s_rdy, m_ack, m_rdata, m_addr, m_wdata, m_we}
 use Rattle.vlog_tree.specs.Table.{Name}
-use Rattle.vlog_tree.proofs.Lists.{has_left, has_right}
+use Rattle.tapa_base.proofs.Lists.{has_left, has_right}
 use Rattle.vlog_module_laws.proofs.Lines.{connection_holds}
 use Rattle.hw_build.specs.Elements.{Instance as InstanceElement}
 use Rattle.hw_build.proofs.Driven.{line_there}

@@ -25,10 +25,10 @@ use Rattle.vlog_tree.specs.declared.tree.Value.TheVariants.{Plain}
 use Rattle.vlog_tree.specs.Cycle.{Cycle, Path, Runs, Follows, Sizes, driven}
 use Rattle.vlog_tree.specs.Environment.{Environment, FitsShape, Stands, shape_of}
 use Rattle.vlog_tree.specs.Form.{ModuleTree}
-use Rattle.vlog_tree.specs.Grounded.{Has}
+use Rattle.tapa_base.specs.Lists.{Has}
 use Rattle.vlog_tree.specs.Labels.{scalar}
 use Rattle.vlog_tree.specs.Table.{Name}
-use Rattle.vlog_tree.proofs.Lists.{has_left, has_right}
+use Rattle.tapa_base.proofs.Lists.{has_left, has_right}
 use Rattle.vlog_module_laws.proofs.Lines.{line}
 use Rattle.hw_build.specs.Elements.{Element, Wire}
 use Rattle.hw_build.proofs.Driven.{line_there, wire_driven}

@@ -1,7 +1,7 @@
 -- Loops in a circuit.
 use Rattle.std.specs.Prelude.{◌≡◌, Bool, false, List}
 use Rattle.vlog_tree.specs.Form.{ModuleTree}
-use Rattle.vlog_tree.specs.Grounded.{Has}
+use Rattle.tapa_base.specs.Lists.{Has}
 use Rattle.vlog_tree.specs.Loops.{Rests, IsLoopless}
 use Rattle.vlog_tree.specs.Table.{Name}
 use Rattle.hw_build.specs.Order.{InstancesKeepOrder, AnswersKeepOrder}

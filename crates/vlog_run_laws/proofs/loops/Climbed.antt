@@ -9,13 +9,13 @@ use Rattle.vlog_tree.specs.declared.table.Declaration.{Declaration}
 use Rattle.vlog_tree.specs.declared.tree.Item.{Item}
 use Rattle.vlog_tree.specs.declared.tree.Item.TheVariants.{Wire, Reg, Memory, Assign, Always, Instance}
 use Rattle.vlog_tree.specs.Form.{ModuleTree}
-use Rattle.vlog_tree.specs.Grounded.{Has}
+use Rattle.tapa_base.specs.Lists.{Has, one, more}
 use Rattle.vlog_tree.specs.Cycle.{Path, module_at, child_of, and_then}
 use Rattle.vlog_tree.specs.Table.{Name, module_declared, module_named, is_module_name, is_doubled_name, first_violation, times_in}
 use Rattle.vlog_tree.specs.V2.{v2_uses, module_uses}
 use Rattle.vlog_tree.specs.V6.{item_children, module_children, contained_names, roots}
-use Rattle.vlog_tree.specs.Loops.{item_instances, instances, containment, own_containment, Reaches, one, more}
-use Rattle.vlog_tree.proofs.Lists.{has_flat, of_flat, of_map, chains}
+use Rattle.vlog_tree.specs.Loops.{item_instances, instances, containment, own_containment, Reaches}
+use Rattle.tapa_base.proofs.Lists.{has_flat, of_flat, of_map, chains}
 use Rattle.vlog_run_laws.proofs.runs.Sound.{right}
 use Rattle.vlog_run_laws.proofs.runs.Alone.{same_name, counted, below_two, alone, module_there, module_is, IsNamed}
 use Rattle.vlog_run_laws.proofs.runs.Drivers.{count_map}

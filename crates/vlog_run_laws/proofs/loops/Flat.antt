@@ -11,16 +11,17 @@ use Rattle.vlog_tree.specs.declared.tree.Item.{Item}
 use Rattle.vlog_tree.specs.declared.tree.Value.{Value}
 use Rattle.vlog_tree.specs.declared.tree.Item.TheVariants.{Wire, Reg, Memory, Assign, Always, Instance}
 use Rattle.vlog_tree.specs.Form.{ModuleTree, IsModule}
-use Rattle.vlog_tree.specs.Grounded.{Has, Walk}
+use Rattle.vlog_tree.specs.Grounded.{Walk}
+use Rattle.tapa_base.specs.Lists.{Has, Chain, one, more}
 use Rattle.vlog_tree.specs.Cycle.{Path, module_at}
 use Rattle.vlog_tree.specs.Labels.{address_of}
 use Rattle.vlog_tree.specs.Table.{Name, declared, port_declared, declaration_name, net_kind_of, net_kind_is_read, net_kind_is_driven, net_kind_is_input, ports_of, first_violation}
 use Rattle.vlog_tree.specs.V2.{v2_uses}
 use Rattle.vlog_tree.specs.V6.{is_top, roots, first_name, has_port}
-use Rattle.vlog_tree.specs.Loops.{port_of, connection_edge, line_edges, direct_edges, memory_edges, answer_edges, asked_port, value_nets, Chain, one, more, Rests, directly, through, after, TextPlace, LiesOnLoop, IsFirst}
+use Rattle.vlog_tree.specs.Loops.{port_of, connection_edge, line_edges, direct_edges, memory_edges, answer_edges, asked_port, value_nets, Rests, directly, through, after, TextPlace, LiesOnLoop, IsFirst}
 use Rattle.vlog_tree.specs.Flattened.{FlatNet, parts, outer_parts, lines_of}
 use Rattle.vlog_tree.specs.Refused.{IsSound, Refuses}
-use Rattle.vlog_tree.proofs.Lists.{has_flat, of_flat, has_map, of_map, has_split, chains}
+use Rattle.tapa_base.proofs.Lists.{has_flat, of_flat, has_map, of_map, has_split, chains}
 use Rattle.vlog_run_laws.proofs.runs.Sound.{declared_by, assign_driven, assign_reads, connection_net}
 use Rattle.vlog_run_laws.proofs.runs.Alone.{instance_item, same_name, module_is, IsNamed}
 use Rattle.vlog_run_laws.proofs.runs.Settled.{child_at}

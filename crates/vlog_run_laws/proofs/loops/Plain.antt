@@ -9,10 +9,10 @@ use Rattle.vlog_tree.specs.declared.tree.PortDecl.{PortDecl}
 use Rattle.vlog_tree.specs.declared.table.Declaration.{Declaration}
 use Rattle.vlog_tree.specs.declared.table.NetKind.TheVariants.{ChildInstance}
 use Rattle.vlog_tree.specs.Form.{ModuleTree, is_port, is_item, is_connection, IsModule}
-use Rattle.vlog_tree.specs.Grounded.{Has}
+use Rattle.tapa_base.specs.Lists.{Has}
 use Rattle.vlog_tree.specs.Names.{is_name}
 use Rattle.vlog_tree.specs.Table.{Name, declared, port_declared, items_declared, declaration_name}
-use Rattle.vlog_tree.proofs.Lists.{of_map, has_right, has_split}
+use Rattle.tapa_base.proofs.Lists.{of_map, has_right, has_split}
 use Rattle.vlog_run_laws.proofs.runs.Sound.{both_true}
 use Rattle.vlog_run_laws.proofs.runs.Alone.{of_items, items_have}
 use Rattle.vlog_run_laws.proofs.loops.Dots.{at_dot, name_plain}

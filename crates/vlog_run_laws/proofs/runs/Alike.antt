@@ -10,11 +10,11 @@ use Rattle.vlog_tree.specs.declared.tree.Item.TheVariants.{Wire, Reg, Memory, As
 use Rattle.vlog_tree.specs.declared.table.NetKind.{NetKind}
 use Rattle.vlog_tree.specs.declared.table.NetKind.TheVariants.{Unknown, Input, Output, WireNet, Register, MemoryArray, ChildInstance}
 use Rattle.vlog_tree.specs.Form.{ModuleTree}
-use Rattle.vlog_tree.specs.Grounded.{Has}
+use Rattle.tapa_base.specs.Lists.{Has}
 use Rattle.vlog_tree.specs.Cycle.{Cycle, Sizes, atom_value, put, store, run_steps, run_items}
 use Rattle.vlog_tree.specs.Table.{Name, NameUse, declared, net_kind_of, net_kind_is_read, net_kind_is_memory, is_clk, first_violation}
 use Rattle.vlog_tree.specs.V2.{v2_uses, item_uses, step_uses, atom_uses, read_use, memory_use}
-use Rattle.vlog_tree.proofs.Lists.{has_flat}
+use Rattle.tapa_base.proofs.Lists.{has_flat}
 use Rattle.vlog_run_laws.proofs.runs.Sound.{item_right, atom_read, both_false, not_no}
 use Rattle.vlog_run_laws.proofs.runs.Values.{atom_same}
 

@@ -10,12 +10,12 @@ use Rattle.vlog_tree.specs.declared.tree.Item.{Item}
 use Rattle.vlog_tree.specs.declared.tree.Item.TheVariants.{Wire, Reg, Memory, Assign, Always, Instance}
 use Rattle.vlog_tree.specs.declared.table.Declaration.{Declaration}
 use Rattle.vlog_tree.specs.Form.{ModuleTree}
-use Rattle.vlog_tree.specs.Grounded.{Has}
+use Rattle.tapa_base.specs.Lists.{Has}
 use Rattle.vlog_tree.specs.Cycle.{child_of}
 use Rattle.vlog_tree.specs.Table.{find_name, Name, is_clk, declared, port_declared, items_declared, ports_of, ports_in, is_module_name, is_doubled_name, first_violation, module_named, one_if}
 use Rattle.vlog_tree.specs.V2.{v2_uses, item_uses, instance_uses, inner_use, all_connected}
 use Rattle.vlog_tree.specs.Loops.{item_instances}
-use Rattle.vlog_tree.proofs.Lists.{of_flat, of_map, has_left, has_right, has_split}
+use Rattle.tapa_base.proofs.Lists.{of_flat, of_map, has_left, has_right, has_split}
 use Rattle.vlog_tree.proofs.Walks.{items_declared-cons}
 use Rattle.vlog_tree.specs.declared.tree.PortDecl.{PortDecl}
 use Rattle.vlog_tree.specs.declared.table.NetKind.TheVariants.{WireNet, Register, MemoryArray, ChildInstance}

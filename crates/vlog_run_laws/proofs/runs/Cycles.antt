@@ -12,14 +12,14 @@ use Rattle.vlog_tree.specs.declared.table.Declaration.{Declaration}
 use Rattle.vlog_tree.specs.declared.table.NetKind.{NetKind}
 use Rattle.vlog_tree.specs.declared.table.NetKind.TheVariants.{Input, WireNet, Register, MemoryArray}
 use Rattle.vlog_tree.specs.Form.{ModuleTree}
-use Rattle.vlog_tree.specs.Grounded.{Has}
+use Rattle.tapa_base.specs.Lists.{Has}
 use Rattle.vlog_tree.specs.Cycle.{Cycle, Path, Holds, driven, module_at, Connected}
 use Rattle.vlog_tree.specs.Table.{Name, declared, port_declared, items_declared, find_name, net_kind_of, bits_of, net_kind_is_input, net_kind_is_driven, net_kind_is_read, ports_of, first_violation}
 use Rattle.vlog_tree.specs.V2.{v2_uses, all_connected}
 use Rattle.vlog_tree.specs.V4.{v4_uses}
 use Rattle.vlog_tree.specs.Loops.{item_instances}
 use Rattle.vlog_tree.specs.Flattened.{FlatNet, outer_parts, lines_of}
-use Rattle.vlog_tree.proofs.Lists.{has_flat, of_flat}
+use Rattle.tapa_base.proofs.Lists.{has_flat, of_flat}
 use Rattle.vlog_run_laws.proofs.runs.Sound.{true_not_false, both_true, assign_driven, connection_port, connection_driven, is_known_module, input_is}
 use Rattle.vlog_run_laws.proofs.runs.Alone.{alone, same_name, one_instance, instance_single, module_there, module_is, IsNamed}
 use Rattle.vlog_run_laws.proofs.runs.Settled.{outside, Joined, joined, child_at, module_in}

@@ -12,10 +12,10 @@ use Rattle.vlog_tree.specs.declared.table.Declaration.{Declaration}
 use Rattle.vlog_tree.specs.declared.table.NetKind.{NetKind}
 use Rattle.vlog_tree.specs.declared.table.NetKind.TheVariants.{Unknown, Input, Output, WireNet, Register, MemoryArray, ChildInstance}
 use Rattle.vlog_tree.specs.Form.{ModuleTree}
-use Rattle.vlog_tree.specs.Grounded.{Has}
+use Rattle.tapa_base.specs.Lists.{Has}
 use Rattle.vlog_tree.specs.Table.{Name, declared, port_declared, find_name, net_kind_of, net_kind_is_driven, net_kind_is_input, ports_of, first_violation, one_if, times_in}
 use Rattle.vlog_tree.specs.V4.{connection_driven, line_driven, drives, is_block_of, breaks_driving, driving_use, module_drives, v4_uses}
-use Rattle.vlog_tree.proofs.Lists.{has_flat, of_flat, has_map}
+use Rattle.tapa_base.proofs.Lists.{has_flat, of_flat, has_map}
 use Rattle.vlog_run_laws.proofs.runs.Sound.{right}
 use Rattle.vlog_run_laws.proofs.runs.Alone.{count_cons, counted, alone, same_name}
 use Rattle.vlog_run_laws.proofs.runs.Sizes.{found_name}

@@ -1,6 +1,6 @@
 -- Relations without loops on the members of a list come to an end.
 use Rattle.std.proofs.Common.{◌≡◌, ℕ, zero, suc, ◌+◌, ◌<◌, ◌≤◌, List, [], ◌∷◌, length, inl, inr, refl, sym, ap, subst, ◌∙◌, arith}
-use Rattle.vlog_tree.specs.Grounded.{Has}
+use Rattle.tapa_base.specs.Lists.{Has}
 
 -- each step from here comes to an end
 pub data Ends {N : Type 0} (R : N → N → Type 0) : N → Type 0 where

@@ -7,11 +7,11 @@ use Rattle.vlog_tree.specs.declared.tree.Item.TheVariants.{Assign}
 use Rattle.vlog_tree.specs.declared.table.NetKind.{NetKind}
 use Rattle.vlog_tree.specs.declared.table.NetKind.TheVariants.{Unknown, Input, Output, WireNet, Register, MemoryArray, ChildInstance}
 use Rattle.vlog_tree.specs.Form.{ModuleTree}
-use Rattle.vlog_tree.specs.Grounded.{Has}
+use Rattle.tapa_base.specs.Lists.{Has}
 use Rattle.vlog_tree.specs.Cycle.{Cycle, Path, driven, module_at}
 use Rattle.vlog_tree.specs.Table.{Name, declared, net_kind_of, bits_of}
 use Rattle.vlog_tree.specs.Flattened.{FlatNet, parts, line_parts}
-use Rattle.vlog_tree.proofs.Lists.{of_flat}
+use Rattle.tapa_base.proofs.Lists.{of_flat}
 use Rattle.vlog_run_laws.proofs.runs.Settled.{outside, answers}
 use Rattle.vlog_run_laws.proofs.runs.Sizes.{sizes_of}
 use Rattle.vlog_run_laws.proofs.runs.Values.{driven_same, ReadsAlike}

@@ -7,7 +7,7 @@ use Rattle.vlog_tree.specs.declared.tree.Item.{Item}
 use Rattle.vlog_tree.specs.declared.tree.Item.TheVariants.{Wire, Reg, Memory, Assign, Always, Instance}
 use Rattle.vlog_tree.specs.declared.table.NetKind.TheVariants.{Register, MemoryArray}
 use Rattle.vlog_tree.specs.Form.{ModuleTree}
-use Rattle.vlog_tree.specs.Grounded.{Has}
+use Rattle.tapa_base.specs.Lists.{Has}
 use Rattle.vlog_tree.specs.Cycle.{Cycle, Path, PowersUp}
 use Rattle.vlog_tree.specs.Refused.{IsSound}
 use Rattle.vlog_run_laws.specs.runs.Filled.{HoldsFill, IsFilled, filled, filled_module}

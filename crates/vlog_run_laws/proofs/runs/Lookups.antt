@@ -5,9 +5,9 @@ use Rattle.std.specs.List.{flat_map}
 use Rattle.std.specs.Cmp.Lexicographic.{bytes_decides}
 use Rattle.tapa_base.specs.declared.shape.Port.{Port}
 use Rattle.vlog_tree.specs.declared.tree.PortDecl.{PortDecl}
-use Rattle.vlog_tree.specs.Grounded.{Has}
+use Rattle.tapa_base.specs.Lists.{Has}
 use Rattle.vlog_tree.specs.Table.{Name}
-use Rattle.vlog_tree.proofs.Lists.{of_flat, has_got}
+use Rattle.tapa_base.proofs.Lists.{of_flat, has_got}
 use Rattle.vlog_run_laws.proofs.runs.Sound.{true_not_false}
 use Rattle.vlog_run_laws.proofs.runs.Alone.{same_name, count_cons, twice_counted}
 

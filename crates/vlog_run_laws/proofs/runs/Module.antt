@@ -6,12 +6,12 @@ use Rattle.vlog_tree.specs.declared.tree.Item.{Item}
 use Rattle.vlog_tree.specs.declared.tree.Item.TheVariants.{Wire, Reg, Memory, Assign, Always, Instance}
 use Rattle.vlog_tree.specs.declared.table.Declaration.{Declaration}
 use Rattle.vlog_tree.specs.Form.{ModuleTree}
-use Rattle.vlog_tree.specs.Grounded.{Has}
+use Rattle.tapa_base.specs.Lists.{Has, one, more}
 use Rattle.vlog_tree.specs.Table.{Name, declared, port_declared, items_declared, declaration_name, net_kind_of, net_kind_is_read, net_kind_is_driven, net_kind_is_input, ports_of, first_violation}
 use Rattle.vlog_tree.specs.V2.{v2_uses}
 use Rattle.vlog_tree.specs.V6.{module_children, item_children}
-use Rattle.vlog_tree.specs.Loops.{port_of, connection_edge, line_edges, direct_edges, memory_edges, answer_edges, asked_port, instances, item_instances, value_nets, Rests, directly, through, after, containment, own_containment, Reaches, one, more, TextPlace, own_places, text_places, IsLoopless}
-use Rattle.vlog_tree.proofs.Lists.{has_flat, of_flat, has_map, of_map, has_left, has_right, has_split, chains}
+use Rattle.vlog_tree.specs.Loops.{port_of, connection_edge, line_edges, direct_edges, memory_edges, answer_edges, asked_port, instances, item_instances, value_nets, Rests, directly, through, after, containment, own_containment, Reaches, TextPlace, own_places, text_places, IsLoopless}
+use Rattle.tapa_base.proofs.Lists.{has_flat, of_flat, has_map, of_map, has_left, has_right, has_split, chains}
 use Rattle.vlog_run_laws.proofs.runs.Ending.{Ends, all_end}
 use Rattle.vlog_run_laws.proofs.runs.Sound.{declared_by, assign_driven, connection_port, connection_driven, is_known_module}
 use Rattle.vlog_run_laws.proofs.runs.Alone.{instance_item, module_there, module_is, IsNamed}

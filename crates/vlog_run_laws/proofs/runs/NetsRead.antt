@@ -10,7 +10,7 @@ use Rattle.vlog_tree.specs.declared.tree.Item.TheVariants.{Wire, Reg, Memory, As
 use Rattle.vlog_tree.specs.declared.table.Declaration.{Declaration}
 use Rattle.vlog_tree.specs.declared.table.NetKind.TheVariants.{Input, Output}
 use Rattle.vlog_tree.specs.Form.{ModuleTree}
-use Rattle.vlog_tree.specs.Grounded.{Has}
+use Rattle.tapa_base.specs.Lists.{Has}
 use Rattle.vlog_tree.specs.Cycle.{Path, module_at}
 use Rattle.vlog_tree.specs.Labels.{address_of}
 use Rattle.vlog_tree.specs.Table.{Name, declared, port_declared, net_kind_of, net_kind_is_read, net_kind_is_input, is_clk, ports_of, first_violation}
@@ -18,7 +18,7 @@ use Rattle.vlog_tree.specs.V2.{v2_uses}
 use Rattle.vlog_tree.specs.V6.{v6_uses, is_top, has_port}
 use Rattle.vlog_tree.specs.Loops.{asked_port, value_nets, item_instances}
 use Rattle.vlog_tree.specs.Flattened.{FlatNet, line_parts}
-use Rattle.vlog_tree.proofs.Lists.{has_flat, of_flat, of_map}
+use Rattle.tapa_base.proofs.Lists.{has_flat, of_flat, of_map}
 use Rattle.vlog_run_laws.proofs.runs.Sound.{assign_reads, connection_port, connection_net, connection_clock, output_is, input_is, is_known_module}
 use Rattle.vlog_run_laws.proofs.runs.Alone.{module_there, module_is, IsNamed}
 use Rattle.vlog_run_laws.proofs.runs.Settled.{outside, answers, asked_address, joined, child_at, module_in}

@@ -5,14 +5,15 @@ use Rattle.vlog_tree.specs.declared.tree.Item.{Item}
 use Rattle.vlog_tree.specs.declared.tree.Item.TheVariants.{Wire, Reg, Memory, Assign, Always, Instance}
 use Rattle.vlog_tree.specs.declared.table.NetKind.TheVariants.{Input}
 use Rattle.vlog_tree.specs.Form.{ModuleTree}
-use Rattle.vlog_tree.specs.Grounded.{Has, IsGrounded, grounded}
+use Rattle.vlog_tree.specs.Grounded.{IsGrounded, grounded}
+use Rattle.tapa_base.specs.Lists.{Has}
 use Rattle.vlog_tree.specs.Cycle.{Cycle, Path, module_at}
 use Rattle.vlog_tree.specs.Table.{Name, declared, net_kind_of, is_clk, first_violation}
 use Rattle.vlog_tree.specs.V2.{v2_uses}
 use Rattle.vlog_tree.specs.V4.{v4_uses}
 use Rattle.vlog_tree.specs.V6.{v6_uses, is_top}
 use Rattle.vlog_tree.specs.Flattened.{FlatNet, parts, line_parts}
-use Rattle.vlog_tree.proofs.Lists.{of_flat}
+use Rattle.tapa_base.proofs.Lists.{of_flat}
 use Rattle.vlog_run_laws.specs.runs.OneRun.{SameHeld}
 use Rattle.vlog_run_laws.specs.runs.Readable.{CanBeRead}
 use Rattle.vlog_run_laws.proofs.runs.Sizes.{all_from}

@@ -6,12 +6,12 @@ use Rattle.vlog_tree.specs.declared.tree.Value.{Value}
 use Rattle.vlog_tree.specs.declared.tree.Connection.{Connection}
 use Rattle.vlog_tree.specs.declared.tree.Item.TheVariants.{Assign, Instance}
 use Rattle.vlog_tree.specs.Form.{ModuleTree}
-use Rattle.vlog_tree.specs.Grounded.{Has}
+use Rattle.tapa_base.specs.Lists.{Has}
 use Rattle.vlog_tree.specs.Cycle.{Path, module_at}
 use Rattle.vlog_tree.specs.Table.{Name, port_declared, net_kind_of, net_kind_is_input, ports_of}
 use Rattle.vlog_tree.specs.Loops.{value_nets}
 use Rattle.vlog_tree.specs.Flattened.{FlatNet, parts, line_parts, lines_of, memory_parts}
-use Rattle.vlog_tree.proofs.Lists.{has_flat, has_map, has_left, has_right}
+use Rattle.tapa_base.proofs.Lists.{has_flat, has_map, has_left, has_right}
 use Rattle.vlog_run_laws.proofs.runs.Alone.{same_name}
 use Rattle.vlog_run_laws.proofs.runs.Settled.{outside, answers}
 use Rattle.vlog_run_laws.proofs.runs.Drivers.{IsDrivenBy}

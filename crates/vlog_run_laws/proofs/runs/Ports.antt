@@ -7,12 +7,12 @@ use Rattle.vlog_tree.specs.declared.tree.PortDecl.{PortDecl}
 use Rattle.vlog_tree.specs.declared.table.Declaration.{Declaration}
 use Rattle.vlog_tree.specs.declared.table.NetKind.TheVariants.{Input, Output}
 use Rattle.vlog_tree.specs.Form.{ModuleTree, is_input}
-use Rattle.vlog_tree.specs.Grounded.{Has}
+use Rattle.tapa_base.specs.Lists.{Has}
 use Rattle.vlog_tree.specs.Table.{Name, is_clk, declared, port_declared, declaration_name, net_kind_of, net_kind_is_read, first_violation}
 use Rattle.vlog_tree.specs.Labels.{rst, done, scalar_of, ack_of, rdata_of, addr_of, wdata_of, we_of, m_rdata, m_wdata}
 use Rattle.vlog_tree.specs.V2.{v2_uses}
 use Rattle.vlog_tree.specs.V6.{v6_uses, module_tops, port_fits, is_expected, is_memory_port, fixed_fits, scalar_fits, ack_fits, rdata_fits, addr_fits, wdata_fits, we_fits, has_all_five, has_port, is_in, is_out, agrees, is_top, is_whole_top}
-use Rattle.vlog_tree.proofs.Lists.{of_map}
+use Rattle.tapa_base.proofs.Lists.{of_map}
 use Rattle.vlog_run_laws.proofs.runs.Sound.{both_true, not_no, no_is, true_not_false, declared_by}
 use Rattle.vlog_run_laws.proofs.runs.Sizes.{declared_net_kind, has_port as port_in}
 use Rattle.vlog_run_laws.proofs.runs.TopPorts.{port_right, use_right}

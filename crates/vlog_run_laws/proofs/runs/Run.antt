@@ -5,7 +5,8 @@ use Rattle.vlog_tree.specs.declared.tree.Item.{Item}
 use Rattle.vlog_tree.specs.declared.tree.Item.TheVariants.{Wire, Reg, Memory, Assign, Always, Instance}
 use Rattle.vlog_tree.specs.declared.table.NetKind.TheVariants.{Input, Register}
 use Rattle.vlog_tree.specs.Form.{ModuleTree}
-use Rattle.vlog_tree.specs.Grounded.{Has, IsGrounded}
+use Rattle.vlog_tree.specs.Grounded.{IsGrounded}
+use Rattle.tapa_base.specs.Lists.{Has}
 use Rattle.vlog_tree.specs.Cycle.{Cycle, Path, module_at, run_items, PowersUp, Takes, Follows, Runs}
 use Rattle.vlog_tree.specs.Table.{Name, declared, net_kind_of, first_violation}
 use Rattle.vlog_tree.specs.V2.{v2_uses}

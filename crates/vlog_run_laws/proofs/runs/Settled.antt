@@ -10,17 +10,18 @@ use Rattle.vlog_tree.specs.declared.tree.Item.TheVariants.{Wire, Reg, Memory, As
 use Rattle.vlog_tree.specs.declared.table.Declaration.{Declaration}
 use Rattle.vlog_tree.specs.declared.table.NetKind.TheVariants.{Input, Output}
 use Rattle.vlog_tree.specs.Form.{ModuleTree}
-use Rattle.vlog_tree.specs.Grounded.{Has, IsGrounded, grounded}
+use Rattle.vlog_tree.specs.Grounded.{IsGrounded, grounded}
+use Rattle.tapa_base.specs.Lists.{Has, one}
 use Rattle.vlog_tree.specs.Cycle.{Path, module_at, child_of, and_then}
 use Rattle.vlog_tree.specs.Table.{Name, declared, port_declared, declaration_name, net_kind_of, net_kind_is_read, net_kind_is_input, ports_of, first_violation, module_named}
 use Rattle.vlog_tree.specs.V2.{v2_uses}
 use Rattle.std.specs.Option.{option_map_or}
 use Rattle.vlog_tree.specs.V6.{is_top, first_name, has_port}
 use Rattle.vlog_tree.specs.Labels.{address_of}
-use Rattle.vlog_tree.specs.Loops.{port_of, connection_edge, line_edges, memory_edges, answer_edges, asked_port, instances, item_instances, value_nets, Rests, directly, through, after, containment, Reaches, one, IsLoopless}
+use Rattle.vlog_tree.specs.Loops.{port_of, connection_edge, line_edges, memory_edges, answer_edges, asked_port, instances, item_instances, value_nets, Rests, directly, through, after, containment, Reaches, IsLoopless}
 use Rattle.vlog_tree.specs.Flattened.{FlatNet, parts, line_parts, outer_parts, lines_of, memory_parts}
 use Rattle.vlog_tree.specs.Refused.{IsDesign}
-use Rattle.vlog_tree.proofs.Lists.{has_flat, of_flat, has_map, of_map, has_got, has_left, has_right, has_split}
+use Rattle.tapa_base.proofs.Lists.{has_flat, of_flat, has_map, of_map, has_got, has_left, has_right, has_split}
 use Rattle.vlog_run_laws.proofs.runs.Ending.{Ends, ends}
 use Rattle.vlog_run_laws.proofs.runs.Sound.{declared_by, assign_reads, connection_port, connection_net, is_known_module, output_is, input_is}
 use Rattle.vlog_run_laws.proofs.runs.Alone.{instance_item, one_instance, child_is, module_there, module_is, IsNamed, same_name}

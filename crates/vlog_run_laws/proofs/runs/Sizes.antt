@@ -10,11 +10,11 @@ use Rattle.vlog_tree.specs.declared.table.Declaration.{Declaration}
 use Rattle.vlog_tree.specs.declared.table.NetKind.{NetKind}
 use Rattle.vlog_tree.specs.declared.table.NetKind.TheVariants.{Unknown, Input, Output, Register, MemoryArray, ChildInstance}
 use Rattle.vlog_tree.specs.Form.{ModuleTree, is_input}
-use Rattle.vlog_tree.specs.Grounded.{Has}
+use Rattle.tapa_base.specs.Lists.{Has}
 use Rattle.vlog_tree.specs.Cycle.{Cycle, Sizes, Holds, PortHolds}
 use Rattle.vlog_tree.specs.Table.{Name, declared, port_declared, items_declared, declaration_name, find_name, net_kind_of, bits_of, net_kind_is_memory, net_kind_is_register, first_violation}
 use Rattle.vlog_tree.specs.V2.{v2_uses}
-use Rattle.vlog_tree.proofs.Lists.{has_map, of_map, has_left, has_right, has_split}
+use Rattle.tapa_base.proofs.Lists.{has_map, of_map, has_left, has_right, has_split}
 use Rattle.vlog_run_laws.proofs.runs.Sound.{declared_by, true_not_false}
 use Rattle.vlog_run_laws.proofs.runs.Alone.{one_memory, stands_for, of_items, items_have, find_there}
 

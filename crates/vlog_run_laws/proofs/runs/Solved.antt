@@ -13,14 +13,14 @@ use Rattle.vlog_tree.specs.declared.table.Declaration.{Declaration}
 use Rattle.vlog_tree.specs.declared.table.NetKind.{NetKind}
 use Rattle.vlog_tree.specs.declared.table.NetKind.TheVariants.{Unknown, Input, Output, WireNet, Register, MemoryArray, ChildInstance}
 use Rattle.vlog_tree.specs.Form.{ModuleTree, is_input}
-use Rattle.vlog_tree.specs.Grounded.{Has}
+use Rattle.tapa_base.specs.Lists.{Has}
 use Rattle.vlog_tree.specs.Cycle.{Cycle, Path, Sizes, Holds, PortHolds, Connected, driven, read_cell, module_at, child_of, and_then}
 use Rattle.vlog_tree.specs.Table.{declaration_name, Name, declared, port_declared, items_declared, find_name, net_kind_of, bits_of, net_kind_is_read, net_kind_is_driven, net_kind_is_input, ports_of, first_violation, module_named, one_if}
 use Rattle.vlog_tree.specs.V2.{v2_uses, all_connected}
 use Rattle.vlog_tree.specs.declared.tree.PortDecl.{PortDecl}
 use Rattle.vlog_tree.specs.V4.{v4_uses}
 use Rattle.vlog_tree.specs.Flattened.{FlatNet}
-use Rattle.vlog_tree.proofs.Lists.{of_flat, of_map, has_map}
+use Rattle.tapa_base.proofs.Lists.{of_flat, of_map, has_map}
 use Rattle.vlog_run_laws.specs.runs.OneRun.{SameHeld}
 use Rattle.vlog_run_laws.proofs.runs.Sound.{both_true, assign_driven, assign_reads, assign_cell}
 use Rattle.vlog_run_laws.proofs.runs.Alone.{count_cons, instance_single, module_is, IsNamed, find_there}

@@ -15,11 +15,12 @@ use Rattle.vlog_tree.specs.declared.table.Declaration.{Declaration}
 use Rattle.vlog_tree.specs.declared.table.NetKind.{NetKind}
 use Rattle.vlog_tree.specs.declared.table.NetKind.TheVariants.{Unknown, Input, Output, WireNet, Register, MemoryArray, ChildInstance}
 use Rattle.vlog_tree.specs.Form.{ModuleTree, is_input}
-use Rattle.vlog_tree.specs.Grounded.{Has}
+use Rattle.tapa_base.specs.Lists.{Has}
 use Rattle.vlog_tree.specs.Table.{Name, NameUse, clk, is_clk, declared, port_declared, declaration_name, find_name, net_kind_of, net_kind_is_read, net_kind_is_driven, net_kind_is_input, net_kind_is_memory, ports_of, is_module_name, is_doubled_name, first_violation}
 use Rattle.vlog_tree.specs.V2.{memory_use, v2_uses, module_uses, port_uses, item_uses, instance_uses, connection_uses, joined_use, read_use, driven_use, clock_use, atom_uses, value_uses}
 use Rattle.vlog_tree.specs.Loops.{value_nets, atom_nets}
-use Rattle.vlog_tree.proofs.Lists.{has_flat, of_flat, known, has_left, has_right, has_split}
+use Rattle.vlog_tree.proofs.Lists.{known}
+use Rattle.tapa_base.proofs.Lists.{has_flat, of_flat, has_left, has_right, has_split}
 
 right_here : (b : Bool) (x : Name) (o : Option Name) → cond b (Some x) o ≡ None → b ≡ false
 right_here true x o h = cc

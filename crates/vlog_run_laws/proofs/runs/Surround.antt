@@ -12,7 +12,8 @@ use Rattle.vlog_tree.specs.declared.tree.PortDecl.{PortDecl}
 use Rattle.vlog_tree.specs.declared.table.Declaration.{Declaration}
 use Rattle.vlog_tree.specs.declared.table.NetKind.TheVariants.{Input, Output}
 use Rattle.vlog_tree.specs.Form.{ModuleTree, is_input}
-use Rattle.vlog_tree.specs.Grounded.{Has, IsGrounded}
+use Rattle.vlog_tree.specs.Grounded.{IsGrounded}
+use Rattle.tapa_base.specs.Lists.{Has}
 use Rattle.vlog_tree.specs.Cycle.{Cycle, Path}
 use Rattle.vlog_tree.specs.Table.{Name, bits_of, clk, is_clk, declared, port_declared, items_declared, net_kind_of, net_kind_is_read, net_kind_is_input, first_violation, one_if}
 use Rattle.vlog_tree.specs.Labels.{rst, scalar, m_ack, m_rdata, m_addr, m_wdata, m_we, scalar_of, ack_of, rdata_of, read_of}
@@ -21,7 +22,7 @@ use Rattle.vlog_tree.specs.V6.{v6_uses, is_top, has_all_five, has_port}
 use Rattle.vlog_tree.specs.Environment.{Environment, shape_of, scalar_label, memory_label, Answers, ready_at, set_cell, cells_at, Stands}
 use Rattle.vlog_tree.specs.Flattened.{FlatNet, parts}
 use Rattle.vlog_tree.specs.Refused.{IsDesign}
-use Rattle.vlog_tree.proofs.Lists.{has_flat, of_flat, has_map, has_left, has_got}
+use Rattle.tapa_base.proofs.Lists.{has_flat, of_flat, has_map, has_left, has_got}
 use Rattle.vlog_run_laws.specs.runs.OneRun.{FitsPowerUp, IsRunFrom, IsOnly}
 use Rattle.vlog_run_laws.proofs.runs.Alone.{same_name, declared_once, below_two}
 use Rattle.vlog_run_laws.proofs.runs.Drivers.{count_map}

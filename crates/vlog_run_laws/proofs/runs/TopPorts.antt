@@ -10,11 +10,11 @@ use Rattle.vlog_tree.specs.declared.tree.PortDecl.{PortDecl}
 use Rattle.vlog_tree.specs.declared.table.Declaration.{Declaration}
 use Rattle.vlog_tree.specs.declared.table.NetKind.TheVariants.{Input}
 use Rattle.vlog_tree.specs.Form.{ModuleTree, is_input}
-use Rattle.vlog_tree.specs.Grounded.{Has}
+use Rattle.tapa_base.specs.Lists.{Has}
 use Rattle.vlog_tree.specs.Table.{Name, NameUse, clk, is_clk, declared, port_declared, items_declared, find_name, net_kind_of, net_kind_is_read, first_violation}
 use Rattle.vlog_tree.specs.Labels.{rdata_of, m_addr, m_ack, m_we, m_wdata, m_rdata, read_of, address_of}
 use Rattle.vlog_tree.specs.V6.{v6_uses, module_tops, top_ports, clock_connections, clock_connection, port_fits, rdata_fits, addr_fits, wdata_fits, we_fits, has_all_five, has_port, is_top, agrees}
-use Rattle.vlog_tree.proofs.Lists.{has_flat, has_map, of_map, has_left, has_right, has_split}
+use Rattle.tapa_base.proofs.Lists.{has_flat, has_map, of_map, has_left, has_right, has_split}
 use Rattle.vlog_run_laws.proofs.runs.Sound.{right, both_true, not_no}
 use Rattle.vlog_run_laws.proofs.runs.Sizes.{found_name}
 use Rattle.vlog_run_laws.proofs.runs.Alone.{of_items}

@@ -7,12 +7,12 @@ use Rattle.std.specs.Cmp.Lexicographic.{bytes_decides}
 use Rattle.vlog_tree.specs.declared.tree.PortDecl.{PortDecl}
 use Rattle.vlog_tree.specs.declared.table.Declaration.{Declaration}
 use Rattle.vlog_tree.specs.Form.{ModuleTree, is_input}
-use Rattle.vlog_tree.specs.Grounded.{Has}
+use Rattle.tapa_base.specs.Lists.{Has}
 use Rattle.vlog_tree.specs.Table.{Name, NameUse, declared, port_declared, bits_of, first_violation}
 use Rattle.vlog_tree.specs.Labels.{m_rdata, m_wdata, rdata_of, wdata_of}
 use Rattle.vlog_tree.specs.V2.{v2_uses}
 use Rattle.vlog_tree.specs.V6.{v6_uses, module_tops, top_ports, clock_connections, port_fits, rdata_fits, wdata_fits, has_all_five, bits_before, agrees, is_top}
-use Rattle.vlog_tree.proofs.Lists.{has_left}
+use Rattle.tapa_base.proofs.Lists.{has_left}
 use Rattle.vlog_run_laws.proofs.runs.Sound.{both_true, not_no}
 use Rattle.vlog_run_laws.proofs.runs.Alone.{same_name}
 use Rattle.vlog_run_laws.proofs.runs.Sizes.{declared_bits, has_port}

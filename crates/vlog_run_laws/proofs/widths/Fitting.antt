@@ -5,7 +5,7 @@ use Rattle.vlog_tree.specs.declared.tree.Item.{Item}
 use Rattle.vlog_tree.specs.declared.tree.Item.TheVariants.{Wire, Reg, Memory, Assign, Always, Instance}
 use Rattle.vlog_tree.specs.declared.table.NetKind.TheVariants.{Register}
 use Rattle.vlog_tree.specs.Form.{ModuleTree}
-use Rattle.vlog_tree.specs.Grounded.{Has}
+use Rattle.tapa_base.specs.Lists.{Has}
 use Rattle.vlog_tree.specs.Cycle.{Cycle, Path, Holds, PowersUp, Takes, driven, run_items, module_at}
 use Rattle.vlog_tree.specs.Table.{declared, net_kind_of, bits_of, net_kind_is_read, net_kind_is_driven}
 use Rattle.vlog_tree.specs.Environment.{Environment, FitsShape, shape_of, RunsIn}

@@ -11,14 +11,14 @@ use Rattle.vlog_tree.specs.declared.tree.PortDecl.{PortDecl}
 use Rattle.vlog_tree.specs.declared.table.Declaration.{Declaration}
 use Rattle.vlog_tree.specs.declared.table.NetKind.TheVariants.{Input, Output}
 use Rattle.vlog_tree.specs.Form.{ModuleTree, is_input}
-use Rattle.vlog_tree.specs.Grounded.{Has}
+use Rattle.tapa_base.specs.Lists.{Has}
 use Rattle.vlog_tree.specs.Table.{Name, clk, is_clk, declared, port_declared, items_declared, net_kind_of, bits_of, net_kind_is_read, first_violation}
 use Rattle.vlog_tree.specs.Labels.{rst, done, m_ack, m_rdata, m_addr, m_wdata, m_we, scalar_of, ack_of, rdata_of}
 use Rattle.vlog_tree.specs.V2.{v2_uses}
 use Rattle.vlog_tree.specs.V6.{v6_uses, fixed_fits, ack_fits, has_all_five, is_in, is_out, is_top}
 use Rattle.vlog_tree.specs.Cycle.{Cycle}
 use Rattle.vlog_tree.specs.Environment.{Environment, FitsShape, widths, shape_of, scalar_label, memory_label, Stands, ready_at, set_cell, cells_at}
-use Rattle.vlog_tree.proofs.Lists.{has_flat, of_flat, got_has, has_got}
+use Rattle.tapa_base.proofs.Lists.{has_flat, of_flat, got_has, has_got}
 use Rattle.vlog_run_laws.proofs.runs.Sound.{both_true}
 use Rattle.vlog_run_laws.proofs.runs.Cycles.{port_stands}
 use Rattle.vlog_run_laws.proofs.runs.TopPorts.{input_port, five_of}

@@ -11,7 +11,8 @@ use Rattle.vlog_tree.specs.declared.table.Declaration.{Declaration}
 use Rattle.vlog_tree.specs.declared.table.NetKind.{NetKind}
 use Rattle.vlog_tree.specs.declared.table.NetKind.TheVariants.{Unknown, Input, Output, WireNet, Register, MemoryArray, ChildInstance}
 use Rattle.vlog_tree.specs.Form.{ModuleTree}
-use Rattle.vlog_tree.specs.Grounded.{Has, IsGrounded, grounded}
+use Rattle.vlog_tree.specs.Grounded.{IsGrounded, grounded}
+use Rattle.tapa_base.specs.Lists.{Has}
 use Rattle.vlog_tree.specs.Cycle.{Cycle, Path, PowersUp, driven, module_at}
 use Rattle.vlog_tree.specs.Table.{Name, is_clk, declared, port_declared, items_declared, net_kind_of, bits_of, net_kind_is_read, net_kind_is_input, ports_of, first_violation}
 use Rattle.vlog_tree.specs.V2.{v2_uses}
@@ -20,7 +21,7 @@ use Rattle.vlog_tree.specs.V4.{v4_uses}
 use Rattle.vlog_tree.specs.V6.{v6_uses}
 use Rattle.vlog_tree.specs.Loops.{item_instances}
 use Rattle.vlog_tree.specs.Flattened.{FlatNet, parts, line_parts}
-use Rattle.vlog_tree.proofs.Lists.{has_flat, of_flat}
+use Rattle.tapa_base.proofs.Lists.{has_flat, of_flat}
 use Rattle.vlog_run_laws.specs.runs.OneRun.{SameHeld, FitsPowerUp}
 use Rattle.vlog_run_laws.proofs.runs.Sound.{assign_reads, assign_cell, connection_port, connection_net, connection_clock, output_is, is_known_module, input_is}
 use Rattle.vlog_run_laws.proofs.runs.Alone.{child_is, module_there, module_is, IsNamed}

@@ -9,12 +9,12 @@ use Rattle.vlog_tree.specs.declared.tree.Item.TheVariants.{Wire, Reg, Memory, As
 use Rattle.vlog_tree.specs.declared.table.NetKind.{NetKind}
 use Rattle.vlog_tree.specs.declared.table.NetKind.TheVariants.{Unknown, Input, Output, WireNet, Register, MemoryArray, ChildInstance}
 use Rattle.vlog_tree.specs.Form.{ModuleTree}
-use Rattle.vlog_tree.specs.Grounded.{Has}
+use Rattle.tapa_base.specs.Lists.{Has}
 use Rattle.vlog_tree.specs.Cycle.{Cycle, Holds, PowersUp, Takes, Follows, driven, run_items}
 use Rattle.vlog_tree.specs.Table.{Name, is_clk, declared, net_kind_of, bits_of, net_kind_is_read, net_kind_is_driven}
 use Rattle.vlog_tree.specs.Refused.{IsSound}
 use Rattle.vlog_tree.specs.Loops.{Rests, directly, IsLoopless, value_nets, line_edges}
-use Rattle.vlog_tree.proofs.Lists.{has_flat, of_flat, has_map, has_left}
+use Rattle.tapa_base.proofs.Lists.{has_flat, of_flat, has_map, has_left}
 use Rattle.vlog_run_laws.proofs.runs.Ending.{Ends, ends}
 use Rattle.vlog_run_laws.proofs.runs.Sound.{assign_driven, assign_reads, assign_cell}
 use Rattle.vlog_run_laws.proofs.runs.Alone.{register_clock}

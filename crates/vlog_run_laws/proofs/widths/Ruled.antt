@@ -13,12 +13,12 @@ use Rattle.vlog_tree.specs.declared.tree.PortDecl.{PortDecl}
 use Rattle.vlog_tree.specs.declared.table.Declaration.{Declaration}
 use Rattle.vlog_tree.specs.declared.table.NetKind.TheVariants.{ChildInstance}
 use Rattle.vlog_tree.specs.Form.{ModuleTree}
-use Rattle.vlog_tree.specs.Grounded.{Has}
+use Rattle.tapa_base.specs.Lists.{Has}
 use Rattle.vlog_tree.specs.Table.{Name, NameUse, is_clk, declared, port_declared, items_declared, find_name, net_kind_of, bits_of, net_kind_is_read, net_kind_is_driven, ports_of, first_violation}
 use Rattle.vlog_tree.specs.V2.{v2_uses, item_uses, step_uses, read_use, driven_use}
 use Rattle.vlog_tree.specs.V3.{v3_uses, module_widths, item_widths, port_widths, connection_widths, step_widths, is_width, is_cell_count, net_fits, memory_fits, has_bits, value_fits}
 use Rattle.vlog_tree.specs.Loops.{atom_nets}
-use Rattle.vlog_tree.proofs.Lists.{has_flat, of_map, has_left, has_right, has_split}
+use Rattle.tapa_base.proofs.Lists.{has_flat, of_map, has_left, has_right, has_split}
 use Rattle.vlog_run_laws.proofs.runs.Sound.{right, both_false, both_true, not_no, true_not_false, item_right, atom_read}
 use Rattle.vlog_run_laws.proofs.runs.Alone.{of_items}
 use Rattle.vlog_run_laws.proofs.runs.Sizes.{found_name}

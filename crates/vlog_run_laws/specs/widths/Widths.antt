@@ -10,7 +10,7 @@ use Rattle.vlog_tree.specs.declared.tree.Item.TheVariants.{Memory, Assign, Insta
 use Rattle.vlog_tree.specs.declared.tree.Connection.{Connection}
 use Rattle.vlog_tree.specs.declared.table.NetKind.TheVariants.{Input}
 use Rattle.vlog_tree.specs.Form.{ModuleTree}
-use Rattle.vlog_tree.specs.Grounded.{Has}
+use Rattle.tapa_base.specs.Lists.{Has}
 use Rattle.vlog_tree.specs.Table.{Name, is_clk, declared, port_declared, ports_of, net_kind_of, bits_of, net_kind_is_read, net_kind_is_input}
 use Rattle.vlog_tree.specs.Cycle.{Cycle, Sizes, Path, Holds, PortHolds, atom_value, driven, module_at, Follows}
 use Rattle.vlog_tree.specs.Refused.{IsSound}

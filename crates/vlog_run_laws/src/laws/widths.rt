@@ -2,7 +2,7 @@
 
 ghost use Rattle.std.specs.Prelude.{◌≡◌, ℕ, List, Some, slice_get};
 ghost use Rattle.vlog_tree.specs.Form.{ModuleTree};
-ghost use Rattle.vlog_tree.specs.Grounded.{Has};
+ghost use Rattle.tapa_base.specs.Lists.{Has};
 ghost use Rattle.vlog_tree.specs.Refused.{IsDesign, IsSound};
 ghost use Rattle.vlog_tree.specs.Cycle.{Cycle, Path, module_at};
 ghost use Rattle.vlog_tree.specs.Environment.{Environment, FitsShape, RunsIn, shape_of};

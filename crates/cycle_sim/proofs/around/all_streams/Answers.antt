@@ -3,8 +3,8 @@ use Rattle.std.specs.Prelude.{slice_get}
 use Rattle.std.proofs.lemmas.List.{length_push}
 use Rattle.std.proofs.lemmas.Option.{same_Some, slice_get_within}
 use Rattle.tapa_base.specs.declared.shape.Port.{Port}
-use Rattle.vlog_tree.specs.Grounded.{Has}
-use Rattle.vlog_tree.proofs.Lists.{has_got, got_index}
+use Rattle.tapa_base.specs.Lists.{Has}
+use Rattle.tapa_base.proofs.Lists.{has_got, got_index}
 use Rattle.vlog_tree.specs.Environment.{streams_of}
 use Rattle.cycle_sim.specs.declared.parts.Stream.{Stream}
 use Rattle.cycle_sim.specs.Wholes.{IsStream}

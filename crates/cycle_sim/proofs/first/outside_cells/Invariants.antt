@@ -1,5 +1,5 @@
 use Rattle.std.proofs.Common.{◌≡◌, ◌<◌, ℕ, [], get_or, length}
-use Rattle.vlog_ref_start.specs.Outside.{lists_of}
+use Rattle.vlog_design.specs.Environments.{lists_of}
 use Rattle.sim_tape.specs.Operators.{cells_of}
 use Rattle.cycle_sim.proofs.first.outside_cells.Given as goal
 

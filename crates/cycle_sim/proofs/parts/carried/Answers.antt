@@ -1,6 +1,6 @@
 use Rattle.std.proofs.Common.{◌≡◌, ◌≤◌, Some, length, ap, subst, ◌∙◌, arith}
 use Rattle.std.specs.Prelude.{slice_get}
-use Rattle.vlog_tree.proofs.Lists.{got_index}
+use Rattle.tapa_base.proofs.Lists.{got_index}
 use Rattle.cycle_sim.specs.Wholes.{token_on}
 use Rattle.cycle_sim.proofs.Asked.{carried_one, no_stream, stream_bits}
 use Rattle.cycle_sim.proofs.parts.carried.Goals as goal

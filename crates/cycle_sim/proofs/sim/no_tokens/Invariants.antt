@@ -1,5 +1,5 @@
 use Rattle.std.proofs.Common.{◌≡◌, ℕ, [], get_or, length}
-use Rattle.vlog_ref_start.specs.Outside.{lists_of}
+use Rattle.vlog_design.specs.Environments.{lists_of}
 use Rattle.cycle_sim.proofs.sim.no_tokens.Given as goal
 
 abbrev pub invariant-loop-i : goal.invariant-loop-i

@@ -4,7 +4,7 @@ use Rattle.std.proofs.lemmas.List.{with_items_is}
 use Rattle.tapa_base.specs.declared.token.Token.{Token}
 use Rattle.vlog_tree.specs.Environment.{tokens}
 use Rattle.vlog_run_laws.proofs.runs.Sound.{true_not_false}
-use Rattle.vlog_ref_start.specs.Outside.{lists_of}
+use Rattle.vlog_design.specs.Environments.{lists_of}
 use Rattle.cycle_sim.specs.Simulators.{sim_of}
 use Rattle.cycle_sim.specs.Sims.{IsNext, IsLater, AreAdded, IsRunTo}
 use Rattle.cycle_sim.proofs.Adding.{tokens_next, later_next, run_on}

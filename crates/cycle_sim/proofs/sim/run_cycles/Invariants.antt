@@ -1,5 +1,5 @@
 use Rattle.std.proofs.Common.{◌≡◌}
-use Rattle.vlog_ref_start.specs.Outside.{lists_of}
+use Rattle.vlog_design.specs.Environments.{lists_of}
 use Rattle.cycle_sim.specs.Simulators.{sim_of}
 use Rattle.cycle_sim.specs.Sims.{IsRunTo}
 use Rattle.cycle_sim.proofs.sim.run_cycles.Given as goal

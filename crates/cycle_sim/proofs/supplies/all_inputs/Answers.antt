@@ -4,7 +4,7 @@ use Rattle.std.specs.Option.{option_to_list}
 use Rattle.std.proofs.lemmas.Option.{same_Some}
 use Rattle.vlog_tree.specs.declared.table.Declaration.{Declaration}
 use Rattle.vlog_tree.specs.Labels.{rdata_of}
-use Rattle.vlog_tree.proofs.Lists.{got_index}
+use Rattle.tapa_base.proofs.Lists.{got_index}
 use Rattle.cycle_sim.proofs.Supplying.{InputsBelow, no_inputs, more_inputs, all_inputs}
 use Rattle.cycle_sim.proofs.supplies.all_inputs.Goals as goal
 

@@ -15,7 +15,7 @@ loop-j-preserved c =
     let front = c.args.front.now in
     let entries = c.args.entries.now in
     let below : j < length entries = omega arith in
-    let grown = c.in_ok-add_condition.ensures ∙ ap (λ i. with c.loop-j.draft (Wire 1 (numbered front i) (Plain (Net x.condition)))) c.in_ok-small.ensures in
+    let grown = c.in_ok-add_condition.ensures ∙ ap (λ i. with c.loop-j.draft (Wire 1 (numbered front i) (Plain (Net x.condition)))) c.in_ok-narrow.ensures in
     ap (λ m. with_all m (any_leaves front (j + 1) (entry_forms (drop (j + 1) entries)))) grown ∙ sym (any_next front entries j x c.loop-j.draft below c.index-entries-j.is) ∙ c.loop-j.invariant
 
 pub returns : goal.returns

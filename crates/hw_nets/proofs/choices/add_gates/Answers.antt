@@ -14,7 +14,7 @@ loop-j-preserved c =
     let front = c.args.front.now in
     let entries = c.args.entries.now in
     let below : j < length entries = omega arith in
-    let grown = c.in_ok-add_gate.ensures ∙ ap (λ i. with c.loop-j.draft (gated width (numbered front i) x.condition x.value)) c.in_ok-small.ensures in
+    let grown = c.in_ok-add_gate.ensures ∙ ap (λ i. with c.loop-j.draft (gated width (numbered front i) x.condition x.value)) c.in_ok-narrow.ensures in
     ap (λ m. with_all m (pick_leaves width front (j + 1) (entry_forms (drop (j + 1) entries)))) grown ∙ sym (pick_next width front entries j x c.loop-j.draft below c.index-entries-j.is) ∙ c.loop-j.invariant
 
 pub returns : goal.returns

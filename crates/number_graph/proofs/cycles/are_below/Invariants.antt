@@ -1,5 +1,5 @@
 use Rattle.std.proofs.Common.{◌<◌, ℕ, take, get_or}
-use Rattle.vlog_tree.specs.Grounded.{Has}
+use Rattle.tapa_base.specs.Lists.{Has}
 use Rattle.number_graph.proofs.cycles.are_below.Given as goal
 
 abbrev pub invariant-loop-node : goal.invariant-loop-node

@@ -1,7 +1,7 @@
 use Rattle.std.proofs.Common.{◌<◌, ℕ, List, get_or, take, sym, subst, ◌∙◌}
 use Rattle.std.specs.Prelude.{◌↔◌}
 use Rattle.std.proofs.lemmas.List.{take_more}
-use Rattle.vlog_tree.specs.Grounded.{Has}
+use Rattle.tapa_base.specs.Lists.{Has}
 use Rattle.number_graph.specs.Graphs.{targets_of}
 use Rattle.number_graph.proofs.Numbers.{pair_at}
 use Rattle.number_graph.proofs.Rows.{one_more}

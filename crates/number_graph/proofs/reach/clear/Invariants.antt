@@ -1,5 +1,5 @@
 use Rattle.std.proofs.Common.{◌≡◌, ℕ, length, get_or, drop, true, false}
-use Rattle.vlog_tree.specs.Grounded.{Has}
+use Rattle.tapa_base.specs.Lists.{Has}
 use Rattle.number_graph.proofs.reach.clear.Given as goal
 
 abbrev pub invariant-loop-number : goal.invariant-loop-number

@@ -1,10 +1,9 @@
 use Rattle.std.proofs.Common.{rules, arith, ◌≡◌, ◌<◌, ◌≤◌, ◌+◌, [], ℕ, List, length, get_or, sym, ap, subst, ◌∙◌}
-use Rattle.vlog_tree.specs.Grounded.{Has}
-use Rattle.vlog_tree.specs.Loops.{Chain}
+use Rattle.tapa_base.specs.Lists.{Has, Chain}
 use Rattle.number_graph.specs.Graphs.{Steps}
 use Rattle.number_graph.specs.Marks.{unset}
 use Rattle.std.proofs.lemmas.List.{get_or_default}
-use Rattle.vlog_tree.proofs.Lists.{has_split}
+use Rattle.tapa_base.proofs.Lists.{has_split}
 use Rattle.number_graph.proofs.Numbers.{at_has, has_at}
 use Rattle.number_graph.proofs.Marking.{grows_both, closed_on, reached_on}
 use Rattle.number_graph.proofs.reach.close.Goals as goal

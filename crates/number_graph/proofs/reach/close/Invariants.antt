@@ -1,6 +1,5 @@
 use Rattle.std.proofs.Common.{ℕ, ◌<◌, length, get_or}
-use Rattle.vlog_tree.specs.Grounded.{Has}
-use Rattle.vlog_tree.specs.Loops.{Chain}
+use Rattle.tapa_base.specs.Lists.{Has, Chain}
 use Rattle.number_graph.specs.Graphs.{Steps}
 use Rattle.number_graph.specs.Marks.{Grows}
 use Rattle.number_graph.proofs.reach.close.Given as goal

@@ -1,7 +1,7 @@
 use Rattle.std.proofs.Common.{rules, ◌≡◌, ◌∷◌, [], get_or, true, false, slice_set, inl, refl, sym, subst}
-use Rattle.vlog_tree.specs.Grounded.{Has}
+use Rattle.tapa_base.specs.Lists.{Has}
 use Rattle.number_graph.specs.Marks.{Grows}
-use Rattle.vlog_tree.proofs.Lists.{has_right}
+use Rattle.tapa_base.proofs.Lists.{has_right}
 use Rattle.number_graph.proofs.Marking.{grows_one}
 use Rattle.number_graph.proofs.reach.mark.Goals as goal
 

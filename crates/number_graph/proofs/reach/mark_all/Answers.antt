@@ -1,5 +1,5 @@
 use Rattle.std.proofs.Common.{◌≡◌, ◌<◌, length, get_or, sym, subst}
-use Rattle.vlog_tree.specs.Grounded.{Has}
+use Rattle.tapa_base.specs.Lists.{Has}
 use Rattle.number_graph.proofs.Numbers.{at_has}
 use Rattle.number_graph.proofs.Marking.{grows_both, kept, taken_of}
 use Rattle.number_graph.proofs.reach.mark_all.Goals as goal

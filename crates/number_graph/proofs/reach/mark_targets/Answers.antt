@@ -1,5 +1,5 @@
 use Rattle.std.proofs.Common.{◌<◌, ℕ, length, get_or, sym, subst}
-use Rattle.vlog_tree.specs.Grounded.{Has}
+use Rattle.tapa_base.specs.Lists.{Has}
 use Rattle.number_graph.specs.Graphs.{Steps}
 use Rattle.number_graph.proofs.Numbers.{at_has}
 use Rattle.number_graph.proofs.Marking.{grows_both, kept, taken_of}

@@ -1,5 +1,5 @@
 use Rattle.std.proofs.Common.{ℕ, take}
-use Rattle.vlog_tree.specs.Grounded.{Has}
+use Rattle.tapa_base.specs.Lists.{Has}
 use Rattle.number_graph.specs.Graphs.{Steps}
 use Rattle.number_graph.specs.Marks.{Grows}
 use Rattle.number_graph.proofs.reach.mark_targets.Given as goal

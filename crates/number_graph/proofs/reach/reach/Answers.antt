@@ -1,9 +1,8 @@
 use Rattle.std.proofs.Common.{arith, ◌≡◌, ◌++◌, ℕ, length, ap, subst, ◌∙◌}
-use Rattle.vlog_tree.specs.Grounded.{Has}
-use Rattle.vlog_tree.specs.Loops.{Chain}
+use Rattle.tapa_base.specs.Lists.{Has, Chain}
 use Rattle.number_graph.specs.Graphs.{Steps}
 use Rattle.number_graph.specs.Marks.{unset}
-use Rattle.vlog_tree.proofs.Lists.{has_split}
+use Rattle.tapa_base.proofs.Lists.{has_split}
 use Rattle.number_graph.proofs.Marking.{none_set, complete, reached_all, kept}
 use Rattle.number_graph.proofs.reach.reach.Goals as goal
 

@@ -1,7 +1,7 @@
 use Rattle.std.proofs.Common.{None, get_or, inl, inr, sym, subst, ◌∙◌}
 use Rattle.std.proofs.lemmas.List.{take_all, get_or_default}
-use Rattle.vlog_tree.specs.Grounded.{Has}
-use Rattle.vlog_tree.proofs.Lists.{taken_split}
+use Rattle.tapa_base.specs.Lists.{Has}
+use Rattle.tapa_base.proofs.Lists.{taken_split}
 use Rattle.vlog_run_laws.proofs.runs.Settled.{top_tree}
 use Rattle.sim_flat.specs.Flat.{HasNumber}
 use Rattle.sim_flat.proofs.Standing.{number_low}

@@ -1,7 +1,7 @@
 use Rattle.std.proofs.Common.{◌≡◌, ℕ, List, None, length, get_or, take}
 use Rattle.std.specs.Prelude.{IsSome}
 use Rattle.vlog_tree.specs.Form.{ModuleTree}
-use Rattle.vlog_tree.specs.Grounded.{Has}
+use Rattle.tapa_base.specs.Lists.{Has}
 use Rattle.vlog_tree.specs.Flattened.{FlatNet}
 use Rattle.sim_flat.specs.Flat.{HasNumber}
 use Rattle.sim_flat.specs.Order.{IsNetOrder}

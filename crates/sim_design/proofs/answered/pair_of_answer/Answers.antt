@@ -5,7 +5,7 @@ use Rattle.vlog_tree.specs.Labels.{m_addr}
 use Rattle.vlog_scope.specs.NameTable.{places_from}
 use Rattle.sim_tape.specs.Trees.{tree_of}
 use Rattle.sim_tape.proofs.Growing.{solved_on}
-use Rattle.vlog_ref_cycle.proofs.Ascii.{addr_ascii}
+use Rattle.vlog_run_laws.proofs.runs.Ascii.{addr_ascii}
 use Rattle.sim_design.proofs.Answering.{answer_told, label_there, asked_there, asked_number}
 use Rattle.sim_design.proofs.answered.pair_of_answer.Goals as goal
 

@@ -1,4 +1,4 @@
-use Rattle.vlog_ref_cycle.proofs.Ascii.{addr_ascii}
+use Rattle.vlog_run_laws.proofs.runs.Ascii.{addr_ascii}
 use Rattle.sim_flat.proofs.edges.add_answer.Goals as goal
 
 pub new-address-requires : goal.new-address-requires

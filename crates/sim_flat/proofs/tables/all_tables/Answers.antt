@@ -1,7 +1,7 @@
 use Rattle.std.proofs.Common.{List, [], sym, subst}
 use Rattle.std.proofs.lemmas.List.{take_all}
 use Rattle.vlog_tree.specs.Form.{ModuleTree}
-use Rattle.vlog_tree.proofs.Lists.{has_got, got_index}
+use Rattle.tapa_base.proofs.Lists.{has_got, got_index}
 use Rattle.sim_flat.specs.declared.tables.Table.{Table}
 use Rattle.sim_flat.specs.Tables.{AreTablesOf}
 use Rattle.sim_flat.proofs.Tabling.{tables_start, tables_more}

@@ -1,7 +1,7 @@
 use Rattle.std.proofs.Common.{◌++◌, Option, subst}
 use Rattle.std.specs.Prelude.{IsSome}
 use Rattle.sim_tape.specs.declared.gates.Pair.{Pair}
-use Rattle.vlog_tree.proofs.Lists.{has_left, has_right}
+use Rattle.tapa_base.proofs.Lists.{has_left, has_right}
 use Rattle.vlog_tree.specs.Loops.{atom_nets}
 use Rattle.sim_tape.proofs.Growing.{pair_on, solved_on}
 use Rattle.sim_gates.proofs.AtomSlots.{slots_on, some_is}

@@ -3,7 +3,7 @@ use Rattle.sim_tape.specs.Trees.{tree_of}
 use Rattle.sim_gates.specs.Nets.{IsAtom, Told}
 use Rattle.sim_gates.proofs.AtomSlots.{some_is, not_missing}
 use Rattle.vlog_tree.specs.declared.tree.Step.TheVariants.{MemoryAssign}
-use Rattle.vlog_ref_cycle.specs.Next.{step_next}
+use Rattle.vlog_tree.specs.Cycle.{step_next}
 use Rattle.sim_gates.specs.declared.writes.Store.{Store}
 use Rattle.sim_gates.specs.Next.{CellsNext, AreKnown}
 use Rattle.sim_gates.proofs.Storing.{cells_stored, known_pushed}

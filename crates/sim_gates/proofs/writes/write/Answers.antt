@@ -1,8 +1,7 @@
 use Rattle.std.proofs.Common.{sym, subst, ◌∙◌}
 use Rattle.std.specs.List.{list_all}
 use Rattle.std.proofs.lemmas.Bool.{OnTrue_at, OnTrue_from}
-use Rattle.vlog_tree.specs.Cycle.{atom_value}
-use Rattle.vlog_ref_cycle.specs.Next.{step_next}
+use Rattle.vlog_tree.specs.Cycle.{atom_value, step_next}
 use Rattle.sim_gates.proofs.AtomSlots.{slots_on}
 use Rattle.sim_gates.specs.Next.{ShowsNext}
 use Rattle.sim_gates.proofs.Putting.{cell_put}

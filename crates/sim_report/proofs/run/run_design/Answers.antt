@@ -1,5 +1,5 @@
 use Rattle.std.proofs.Common.{inr, sym, subst, ◌∙◌}
-use Rattle.vlog_ref_start.specs.Outside.{environment_of}
+use Rattle.vlog_design.specs.Environments.{environment_of}
 use Rattle.run_program.proofs.Lines.{on_err}
 use Rattle.cycle_sim.specs.Simulators.{sim_of}
 use Rattle.sim_report.specs.declared.run.DesignEnd.{DesignEnd}

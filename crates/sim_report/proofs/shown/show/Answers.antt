@@ -4,7 +4,7 @@ use Rattle.std.proofs.lemmas.List.{append-nil}
 use Rattle.tapa_files.proofs.Known.{part_of_next, appends_none, appends_both}
 use Rattle.run_data.specs.Report.{last_line}
 use Rattle.run_program.proofs.Lines.{on_err, map_on_err}
-use Rattle.vlog_ref_start.specs.Outside.{lists_of}
+use Rattle.vlog_design.specs.Environments.{lists_of}
 use Rattle.cycle_sim.specs.Simulators.{sim_of}
 use Rattle.sim_report.specs.Reports.{stream_lines, memory_lines}
 use Rattle.sim_report.proofs.shown.show.Goals as goal

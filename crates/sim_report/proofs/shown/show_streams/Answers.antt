@@ -6,7 +6,7 @@ use Rattle.tapa_files.proofs.Known.{part_of_next, appends_both}
 use Rattle.run_data.specs.Report.{stream_line}
 use Rattle.run_program.proofs.Lines.{on_err}
 use Rattle.run_program.proofs.Showing.{first_next, first_more}
-use Rattle.vlog_ref_start.specs.Outside.{lists_of}
+use Rattle.vlog_design.specs.Environments.{lists_of}
 use Rattle.sim_report.specs.Reports.{stream_lines}
 use Rattle.sim_report.proofs.shown.show_streams.Goals as goal
 

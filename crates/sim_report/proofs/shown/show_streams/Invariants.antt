@@ -1,7 +1,7 @@
 use Rattle.std.proofs.Common.{◌≤◌, [], take}
 use Rattle.std.specs.Prelude.{slice_index_or}
 use Rattle.std.specs.Io.KnownBytes.{Appends}
-use Rattle.vlog_ref_start.specs.Outside.{lists_of}
+use Rattle.vlog_design.specs.Environments.{lists_of}
 use Rattle.sim_report.specs.Reports.{stream_lines}
 use Rattle.sim_report.proofs.shown.show_streams.Given as goal
 

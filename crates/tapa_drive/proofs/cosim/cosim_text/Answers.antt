@@ -1,6 +1,6 @@
 use Rattle.std.proofs.Common.{Err, ap, subst}
 use Rattle.std.specs.Prelude.{option_map}
-use Rattle.vlog_ref_start.specs.Outside.{environment_of}
+use Rattle.vlog_design.specs.Environments.{environment_of}
 use Rattle.sim_report.specs.Ending.{EndsSo}
 use Rattle.sim_report.specs.declared.run.DesignEnd.{DesignEnd}
 use Rattle.tapa_words.specs.Words.{Cosim}

@@ -1,6 +1,6 @@
 use Rattle.std.proofs.Common.{◌≡◌, ℕ, List, map, subst, ◌∙◌, arith}
 use Rattle.std.specs.Prelude.{◌↔◌}
-use Rattle.vlog_tree.specs.Grounded.{Has}
+use Rattle.tapa_base.specs.Lists.{Has}
 use Rattle.number_graph.specs.Graphs.{Steps}
 use Rattle.task_graph.proofs.Walks.{ends, ends_below, mark_reached, transitive}
 use Rattle.task_graph.proofs.reach.reach_rows.Goals as goal

@@ -1,5 +1,5 @@
 use Rattle.std.proofs.Common.{take}
-use Rattle.vlog_tree.specs.Grounded.{Has}
+use Rattle.tapa_base.specs.Lists.{Has}
 use Rattle.verilog_text.proofs.printed.line_length.Given as goal
 
 abbrev pub invariant-loop-at : goal.invariant-loop-at

@@ -1,7 +1,7 @@
 use Rattle.std.proofs.Common.{refl, subst}
-use Rattle.vlog_tree.specs.Grounded.{Has}
+use Rattle.tapa_base.specs.Lists.{Has}
 use Rattle.vlog_tree.specs.Table.{Name}
-use Rattle.vlog_tree.proofs.Lists.{has_got, got_index}
+use Rattle.tapa_base.proofs.Lists.{has_got, got_index}
 use Rattle.vlog_comb_loops.proofs.pairs.has_pair.Goals as goal
 
 pub returns-then-is_pair : goal.returns-then-is_pair

@@ -1,7 +1,7 @@
 use Rattle.std.proofs.Common.{◌≡◌, true, inl, inr, refl, subst}
-use Rattle.vlog_tree.specs.Grounded.{Has}
+use Rattle.tapa_base.specs.Lists.{Has}
 use Rattle.vlog_tree.specs.Table.{Name}
-use Rattle.vlog_tree.proofs.Lists.{has_got, got_index, taken_split}
+use Rattle.tapa_base.proofs.Lists.{has_got, got_index, taken_split}
 use Rattle.vlog_comb_loops.proofs.pairs.is_among.Goals as goal
 
 pub returns-then-is_pair : goal.returns-then-is_pair

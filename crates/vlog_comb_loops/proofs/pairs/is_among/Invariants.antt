@@ -1,5 +1,5 @@
 use Rattle.std.proofs.Common.{take}
-use Rattle.vlog_tree.specs.Grounded.{Has}
+use Rattle.tapa_base.specs.Lists.{Has}
 use Rattle.vlog_comb_loops.proofs.pairs.is_among.Given as goal
 
 abbrev pub invariant-loop-p : goal.invariant-loop-p

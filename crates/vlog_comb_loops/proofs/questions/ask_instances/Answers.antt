@@ -1,8 +1,8 @@
 use Rattle.std.proofs.Common.{◌≡◌, ◌∙◌, sym, subst, inl, inr, List, Some, None, get_or}
 use Rattle.std.proofs.lemmas.List.{take_all, get_or_default}
-use Rattle.vlog_tree.specs.Grounded.{Has}
+use Rattle.tapa_base.specs.Lists.{Has}
 use Rattle.vlog_tree.specs.Loops.{port_of}
-use Rattle.vlog_tree.proofs.Lists.{taken_split}
+use Rattle.tapa_base.proofs.Lists.{taken_split}
 use Rattle.vlog_comb_loops.specs.Questions.{Question, AsksPort, asked_of}
 use Rattle.vlog_comb_loops.proofs.questions.ask_instances.Goals as goal
 

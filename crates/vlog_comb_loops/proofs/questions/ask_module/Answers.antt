@@ -1,6 +1,6 @@
 use Rattle.std.proofs.Common.{◌≡◌, List, Some, refl, sym, ap, subst}
 use Rattle.vlog_tree.specs.declared.tree.Item.{Item}
-use Rattle.vlog_tree.specs.Grounded.{Has}
+use Rattle.tapa_base.specs.Lists.{Has}
 use Rattle.vlog_tree.specs.Table.{Name}
 use Rattle.vlog_tree.specs.Loops.{port_of}
 use Rattle.vlog_net_graph.specs.Names.{texts}

@@ -1,6 +1,6 @@
 use Rattle.std.proofs.Common.{◌≡◌, ◌∙◌, List, None, inl, inr, sym, ap, subst}
 use Rattle.std.proofs.lemmas.List.{take_all}
-use Rattle.vlog_tree.specs.Grounded.{Has}
+use Rattle.tapa_base.specs.Lists.{Has}
 use Rattle.vlog_tree.specs.Table.{Name}
 use Rattle.vlog_tree.specs.Loops.{port_of}
 use Rattle.vlog_net_graph.specs.Names.{texts}

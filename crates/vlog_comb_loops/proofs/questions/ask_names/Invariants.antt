@@ -1,5 +1,5 @@
 use Rattle.std.proofs.Common.{None, take}
-use Rattle.vlog_tree.specs.Grounded.{Has}
+use Rattle.tapa_base.specs.Lists.{Has}
 use Rattle.vlog_tree.specs.Table.{Name}
 use Rattle.vlog_tree.specs.Loops.{port_of}
 use Rattle.vlog_net_graph.specs.Names.{texts}

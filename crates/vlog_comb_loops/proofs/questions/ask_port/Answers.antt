@@ -2,9 +2,9 @@ use Rattle.std.proofs.Common.{◌≡◌, List, Some, None, subst}
 use Rattle.std.specs.Prelude.{slice_get}
 use Rattle.std.proofs.lemmas.Option.{slice_get_past}
 use Rattle.vlog_tree.specs.declared.tree.Item.{Item}
-use Rattle.vlog_tree.specs.Grounded.{Has}
+use Rattle.tapa_base.specs.Lists.{Has}
 use Rattle.vlog_tree.specs.Loops.{item_instances}
-use Rattle.vlog_tree.proofs.Lists.{got_index}
+use Rattle.tapa_base.proofs.Lists.{got_index}
 use Rattle.vlog_comb_loops.proofs.questions.ask_port.Goals as goal
 
 pub returns-in_ok-ask_item-in-Some-get-clause-there : goal.returns-in_ok-ask_item-in-Some-get-clause-there

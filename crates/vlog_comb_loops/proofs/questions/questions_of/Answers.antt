@@ -1,5 +1,5 @@
 use Rattle.std.proofs.Common.{◌<◌, length, arith}
-use Rattle.vlog_tree.proofs.Lists.{got_index}
+use Rattle.tapa_base.proofs.Lists.{got_index}
 use Rattle.vlog_comb_loops.proofs.Asking.{suspects_more, got_low}
 use Rattle.vlog_comb_loops.proofs.questions.questions_of.Goals as goal
 

@@ -1,6 +1,6 @@
 use Rattle.std.proofs.Common.{◌<◌, length, List, arith, subst}
 use Rattle.vlog_tree.specs.declared.tree.Item.{Item}
-use Rattle.vlog_tree.proofs.Lists.{got_index}
+use Rattle.tapa_base.proofs.Lists.{got_index}
 use Rattle.vlog_comb_loops.specs.Questions.{AsksLines}
 use Rattle.vlog_comb_loops.proofs.Asking.{uses_more, got_low}
 use Rattle.vlog_comb_loops.proofs.questions.uses_of.Goals as goal

@@ -1,5 +1,5 @@
 use Rattle.std.proofs.Common.{List, inl, subst}
-use Rattle.vlog_tree.specs.Grounded.{Has}
+use Rattle.tapa_base.specs.Lists.{Has}
 use Rattle.vlog_comb_loops.specs.declared.suspects.Suspect.{Suspect}
 use Rattle.vlog_comb_loops.proofs.search.suspects_among.Goals as goal
 

@@ -1,7 +1,7 @@
 use Rattle.std.proofs.Common.{◌≡◌, ℕ, List, Some, None, length, sym, subst, rules}
 use Rattle.std.specs.Prelude.{◌↔◌}
-use Rattle.vlog_tree.specs.Grounded.{Has}
-use Rattle.vlog_tree.specs.Loops.{Edges, Chain}
+use Rattle.tapa_base.specs.Lists.{Has, Chain}
+use Rattle.vlog_tree.specs.Loops.{Edges}
 use Rattle.vlog_scope.specs.NameTable.{value_in}
 use Rattle.number_graph.specs.Graphs.{Adjacency, Steps}
 use Rattle.vlog_comb_loops.specs.Growth.{Gathers}

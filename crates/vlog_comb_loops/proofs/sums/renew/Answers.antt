@@ -3,11 +3,11 @@ use Rattle.std.specs.Prelude.{slice_get, slice_set, not}
 use Rattle.std.specs.Option.{option_copied}
 use Rattle.std.proofs.lemmas.List.{length-set, set-get_or, get_or_default}
 use Rattle.vlog_tree.specs.declared.table.Declaration.{Declaration}
-use Rattle.vlog_tree.specs.Grounded.{Has}
+use Rattle.tapa_base.specs.Lists.{Has}
 use Rattle.vlog_tree.specs.Form.{ModuleTree}
 use Rattle.vlog_tree.specs.Table.{port_declared}
 use Rattle.vlog_tree.specs.Loops.{Edges}
-use Rattle.vlog_tree.proofs.Lists.{got_index}
+use Rattle.tapa_base.proofs.Lists.{got_index}
 use Rattle.vlog_net_graph.specs.Names.{IsGraphOf}
 use Rattle.vlog_comb_loops.specs.Merges.{IsGrown}
 use Rattle.vlog_comb_loops.specs.Rooms.{candidates, room}

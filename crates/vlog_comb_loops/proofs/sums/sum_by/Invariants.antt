@@ -1,5 +1,5 @@
 use Rattle.std.proofs.Common.{◌≡◌, [], length, map, take}
-use Rattle.vlog_tree.specs.Grounded.{Has}
+use Rattle.tapa_base.specs.Lists.{Has}
 use Rattle.vlog_tree.specs.Table.{declaration_name}
 use Rattle.vlog_tree.specs.Loops.{Edges}
 use Rattle.vlog_net_graph.specs.Names.{IsGraphOf}

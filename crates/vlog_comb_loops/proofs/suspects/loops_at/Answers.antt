@@ -3,11 +3,11 @@ use Rattle.std.specs.Prelude.{slice_get, ◌↔◌}
 use Rattle.std.proofs.lemmas.Option.{slice_get_past}
 use Rattle.std.proofs.lemmas.Result.{IfOk-weaker}
 use Rattle.vlog_tree.specs.declared.tree.Item.{Item}
-use Rattle.vlog_tree.specs.Grounded.{Has}
+use Rattle.tapa_base.specs.Lists.{Has}
 use Rattle.vlog_tree.specs.Table.{Name}
 use Rattle.vlog_tree.specs.Loops.{Reaches, port_of, item_instances}
 use Rattle.vlog_comb_loops.specs.Search.{LoopsAt}
-use Rattle.vlog_tree.proofs.Lists.{got_index}
+use Rattle.tapa_base.proofs.Lists.{got_index}
 use Rattle.vlog_comb_loops.proofs.Asking.{line_loops, no_line}
 use Rattle.vlog_comb_loops.proofs.suspects.loops_at.Goals as goal
 

@@ -2,12 +2,12 @@ use Rattle.std.proofs.Common.{◌≡◌, ◌∙◌, ℕ, arith, rules, sym, ap, 
 use Rattle.std.specs.Prelude.{◌==◌}
 use Rattle.std.proofs.lemmas.Bool.Decides.{nat_tests}
 use Rattle.std.proofs.lemmas.List.{take_all, get_or_default}
-use Rattle.vlog_tree.specs.Grounded.{Has}
+use Rattle.tapa_base.specs.Lists.{Has}
 use Rattle.vlog_tree.specs.Loops.{port_of}
 use Rattle.vlog_comb_loops.specs.declared.suspects.Suspect.{Suspect}
 use Rattle.vlog_comb_loops.specs.Questions.{Question, asked_of}
 use Rattle.vlog_comb_loops.specs.Search.{LoopsBy}
-use Rattle.vlog_tree.proofs.Lists.{taken_split}
+use Rattle.tapa_base.proofs.Lists.{taken_split}
 use Rattle.vlog_comb_loops.proofs.Searching.{lies_not}
 use Rattle.vlog_comb_loops.proofs.Asking.{no_suspect}
 use Rattle.vlog_comb_loops.proofs.suspects.on_loop.Goals as goal

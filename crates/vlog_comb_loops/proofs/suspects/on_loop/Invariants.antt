@@ -1,5 +1,5 @@
 use Rattle.std.proofs.Common.{Bool, take}
-use Rattle.vlog_tree.specs.Grounded.{Has}
+use Rattle.tapa_base.specs.Lists.{Has}
 use Rattle.vlog_tree.specs.Table.{Name}
 use Rattle.vlog_comb_loops.specs.Questions.{Question}
 use Rattle.vlog_comb_loops.specs.Search.{LoopsBy, IsEvidence}

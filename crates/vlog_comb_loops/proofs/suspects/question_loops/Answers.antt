@@ -3,7 +3,7 @@ use Rattle.std.specs.Prelude.{slice_get}
 use Rattle.std.proofs.lemmas.Option.{slice_get_past}
 use Rattle.vlog_comb_loops.specs.declared.suspects.Suspect.{Suspect}
 use Rattle.vlog_comb_loops.specs.Search.{LoopsAt, IsSuspect}
-use Rattle.vlog_tree.proofs.Lists.{got_index, has_got}
+use Rattle.tapa_base.proofs.Lists.{got_index, has_got}
 use Rattle.vlog_comb_loops.proofs.Searching.{loops_lie}
 use Rattle.vlog_comb_loops.proofs.Asking.{at_in}
 use Rattle.vlog_comb_loops.proofs.suspects.question_loops.Goals as goal

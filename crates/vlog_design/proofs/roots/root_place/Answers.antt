@@ -4,7 +4,7 @@ use Rattle.vlog_tree.specs.Form.{ModuleTree}
 use Rattle.vlog_tree.specs.Table.{times_in}
 use Rattle.vlog_tree.specs.V6.{roots_among}
 use Rattle.vlog_tree.proofs.Walks.{step, over}
-use Rattle.vlog_tree.proofs.Lists.{got_index}
+use Rattle.tapa_base.proofs.Lists.{got_index}
 use Rattle.vlog_design.proofs.roots.root_place.Goals as goal
 
 pub returns-then-is_root : goal.returns-then-is_root

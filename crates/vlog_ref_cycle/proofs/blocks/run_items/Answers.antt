@@ -1,7 +1,8 @@
 use Rattle.std.proofs.Common.{[], ◌∷◌, subst, sym}
 use Rattle.vlog_tree.specs.Cycle.{run_items}
 use Rattle.vlog_ref_cycle.specs.Next.{item_nets, Shows}
-use Rattle.vlog_ref_cycle.proofs.Turns.{fits_alike, alike_twice, reads_one, items_on, items_end}
+use Rattle.vlog_ref_cycle.proofs.Turns.{fits_alike, alike_twice, reads_one}
+use Rattle.vlog_tree.proofs.Turns.{items_on, items_end}
 use Rattle.vlog_ref_cycle.proofs.blocks.run_items.Goals as goal
 
 pub loop-item-preserved : goal.loop-item-preserved

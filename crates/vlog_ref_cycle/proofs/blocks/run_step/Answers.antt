@@ -1,8 +1,8 @@
 use Rattle.std.proofs.Common.{◌≡◌, cond, [], ◌∷◌, reverse, ap, subst, sym, ◌∙◌}
 use Rattle.std.specs.List.{list_all}
 use Rattle.std.proofs.lemmas.Result.{IfOk-weaker}
-use Rattle.vlog_tree.specs.Cycle.{run_steps}
-use Rattle.vlog_ref_cycle.specs.Next.{Shows, step_next, StepLeaves}
+use Rattle.vlog_tree.specs.Cycle.{run_steps, step_next}
+use Rattle.vlog_ref_cycle.specs.Next.{Shows, StepLeaves}
 use Rattle.vlog_ref_cycle.proofs.Turns.{leaves}
 use Rattle.vlog_ref_cycle.proofs.blocks.run_step.Goals as goal
 use Rattle.vlog_ref_cycle.proofs.blocks.run_step.Goals.{then-are_on+in_ok-write, else-are_on}

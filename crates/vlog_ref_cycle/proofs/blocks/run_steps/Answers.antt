@@ -1,7 +1,8 @@
 use Rattle.std.proofs.Common.{◌+◌, drop, reverse, ap, subst, sym}
 use Rattle.vlog_tree.specs.Cycle.{run_steps}
 use Rattle.vlog_ref_cycle.specs.Next.{step_nets, Shows}
-use Rattle.vlog_ref_cycle.proofs.Turns.{fits_alike, alike_self, alike_twice, reads_one, steps_on, steps_shut, steps_end}
+use Rattle.vlog_ref_cycle.proofs.Turns.{fits_alike, alike_self, alike_twice, reads_one, steps_on, steps_shut}
+use Rattle.vlog_tree.proofs.Turns.{steps_end}
 use Rattle.vlog_ref_cycle.proofs.blocks.run_steps.Goals as goal
 
 pub loop-step-init : goal.loop-step-init

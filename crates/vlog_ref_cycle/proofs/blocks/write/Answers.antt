@@ -3,7 +3,8 @@ use Rattle.std.specs.List.{AllByRecursion}
 use Rattle.vlog_tree.specs.Grounded.{AllTwo}
 use Rattle.vlog_tree.specs.Loops.{atom_nets}
 use Rattle.vlog_values.specs.Numbers.{cycle_of}
-use Rattle.vlog_ref_cycle.specs.Next.{put_net, IsStored, ShowsNet, ShowsCells, ReadsAre, step_nets, step_next, net_shape}
+use Rattle.vlog_ref_cycle.specs.Next.{put_net, IsStored, ShowsNet, ShowsCells, ReadsAre, step_nets, net_shape}
+use Rattle.vlog_tree.specs.Cycle.{step_next}
 use Rattle.vlog_ref_cycle.proofs.Leaves.{shapes_put, shapes_store}
 use Rattle.vlog_ref_cycle.proofs.Turns.{put_leaves, store_leaves}
 use Rattle.vlog_ref_cycle.proofs.blocks.write.Goals as goal

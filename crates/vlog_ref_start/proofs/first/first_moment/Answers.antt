@@ -4,7 +4,8 @@ use Rattle.vlog_tree.specs.Environment.{Environment, shape_of}
 use Rattle.vlog_values.specs.declared.moment.Moment.{Moment}
 use Rattle.vlog_ref_start.specs.Instances.{places_below}
 use Rattle.vlog_ref_start.specs.Contents.{held_tree, filled_held}
-use Rattle.vlog_ref_start.specs.Outside.{environment_of, labelled_from, outside_tree, outside_from}
+use Rattle.vlog_ref_start.specs.Outside.{labelled_from, outside_tree, outside_from}
+use Rattle.vlog_design.specs.Environments.{environment_of}
 use Rattle.vlog_ref_start.specs.Runs.{IsStart}
 use Rattle.vlog_ref_start.proofs.Starting.{starts}
 use Rattle.vlog_ref_start.proofs.first.first_moment.Goals as goal

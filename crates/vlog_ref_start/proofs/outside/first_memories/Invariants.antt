@@ -1,5 +1,6 @@
 use Rattle.std.proofs.Common.{◌≡◌, ◌++◌, map, drop}
-use Rattle.vlog_ref_start.specs.Outside.{environment_of, outside_tree, outside_from}
+use Rattle.vlog_ref_start.specs.Outside.{outside_tree, outside_from}
+use Rattle.vlog_design.specs.Environments.{environment_of}
 use Rattle.vlog_ref_start.proofs.outside.first_memories.Given as goal
 
 abbrev pub invariant-loop-at : goal.invariant-loop-at

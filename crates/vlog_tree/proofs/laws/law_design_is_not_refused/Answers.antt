@@ -2,11 +2,11 @@ use Rattle.std.proofs.Common.{◌≡◌, List, ◌∷◌, refl, inl, subst, sym}
 use Rattle.vlog_tree.specs.declared.fault.VFault.{VFault}
 use Rattle.vlog_tree.specs.declared.fault.VFault.TheVariants.{V1, V2, V3, V4, V5, V6, OutOfMemory}
 use Rattle.vlog_tree.specs.Form.{ModuleTree}
-use Rattle.vlog_tree.specs.Grounded.{Has}
+use Rattle.tapa_base.specs.Lists.{Has}
 use Rattle.vlog_tree.specs.V6.{is_top}
 use Rattle.vlog_tree.specs.Loops.{TextPlace, text_places, LiesOnLoop, IsFirst}
 use Rattle.vlog_tree.specs.Refused.{Refuses, IsDesign}
-use Rattle.vlog_tree.proofs.Lists.{has_right}
+use Rattle.tapa_base.proofs.Lists.{has_right}
 use Rattle.vlog_tree.proofs.laws.law_design_is_not_refused.Goals as goal
 
 there : {A : Type 0} (P : A → Type 0) (xs : List A) (x : A) → IsFirst P xs x → Has xs x

@@ -1,6 +1,6 @@
 use Rattle.std.proofs.Common.{sym, ap, subst}
 use Rattle.vlog_design.specs.Designs.{DesignTree, TopOf}
-use Rattle.vlog_ref_start.specs.Outside.{environment_of, lists_of}
+use Rattle.vlog_design.specs.Environments.{environment_of, lists_of}
 use Rattle.cycle_sim.specs.Told.{IsTold}
 use Rattle.cycle_sim.specs.Wholes.{sim_tree}
 use Rattle.cycle_sim.proofs.simulator.Sim.new.Goals as goal

@@ -1,6 +1,5 @@
 use Rattle.std.proofs.Common.{rules, ◌≡◌, ◌<◌, ℕ, List, sym, subst, get_or, []}
-use Rattle.vlog_tree.specs.Grounded.{Has}
-use Rattle.vlog_tree.specs.Loops.{Chain}
+use Rattle.tapa_base.specs.Lists.{Has, Chain}
 use Rattle.number_graph.specs.Graphs.{Steps}
 use Rattle.number_graph.proofs.Reached.{no_way_back}
 use Rattle.number_graph.proofs.cycles.LeveledGraph.is_off.Goals as goal

@@ -1,5 +1,5 @@
 use Rattle.std.proofs.Common.{◌<◌, sym, subst, ◌∙◌}
-use Rattle.vlog_tree.specs.Grounded.{Has}
+use Rattle.tapa_base.specs.Lists.{Has}
 use Rattle.number_graph.proofs.Rows.{rows_len, row_at}
 use Rattle.number_graph.proofs.graph.Graph.of.Goals as goal
 

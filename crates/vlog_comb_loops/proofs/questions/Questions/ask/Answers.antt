@@ -1,5 +1,5 @@
 use Rattle.std.proofs.Common.{List, sym, subst}
-use Rattle.vlog_tree.specs.Grounded.{Has}
+use Rattle.tapa_base.specs.Lists.{Has}
 use Rattle.vlog_scope.specs.NameTable.{value_in}
 use Rattle.vlog_comb_loops.specs.Questions.{Question}
 use Rattle.vlog_comb_loops.proofs.Asking.{pushed_kept, pushed_there}

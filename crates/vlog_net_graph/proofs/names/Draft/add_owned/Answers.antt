@@ -1,5 +1,5 @@
 use Rattle.std.proofs.Common.{◌++◌, ◌∷◌, [], ℕ, List, sym, subst, length}
-use Rattle.vlog_tree.specs.Grounded.{Has}
+use Rattle.tapa_base.specs.Lists.{Has}
 use Rattle.vlog_scope.specs.NameTable.{value_in}
 use Rattle.vlog_net_graph.specs.Names.{IsNumbered}
 use Rattle.vlog_net_graph.proofs.Numbered.{numbered_edge}

@@ -1,5 +1,6 @@
 use Rattle.std.proofs.Common.{◌≡◌, ◌<◌, length, List, ℕ, true, false, refl, subst}
-use Rattle.vlog_tree.specs.Loops.{Chain, Reaches}
+use Rattle.vlog_tree.specs.Loops.{Reaches}
+use Rattle.tapa_base.specs.Lists.{Chain}
 use Rattle.vlog_scope.specs.NameTable.{value_in}
 use Rattle.number_graph.specs.declared.order.Order.{Order}
 use Rattle.number_graph.specs.Graphs.{Steps, IsOrder}

@@ -1,6 +1,7 @@
 use Rattle.std.proofs.Common.{◌≡◌, ◌<◌, ℕ, length, List, true, false, refl, sym, subst}
 use Rattle.std.specs.Prelude.{◌↔◌, IfOk}
-use Rattle.vlog_tree.specs.Loops.{Chain, Reaches}
+use Rattle.vlog_tree.specs.Loops.{Reaches}
+use Rattle.tapa_base.specs.Lists.{Chain}
 use Rattle.vlog_scope.specs.NameTable.{value_in}
 use Rattle.number_graph.specs.declared.order.Order.{Order}
 use Rattle.number_graph.specs.Graphs.{Adjacency, Steps, IsOrder}

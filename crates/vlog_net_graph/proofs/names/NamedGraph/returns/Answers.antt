@@ -1,6 +1,7 @@
 use Rattle.std.proofs.Common.{◌≡◌, length, true, false, Some, sym, ◌∙◌}
 use Rattle.std.specs.Prelude.{◌↔◌}
-use Rattle.vlog_tree.specs.Loops.{Chain, Reaches}
+use Rattle.vlog_tree.specs.Loops.{Reaches}
+use Rattle.tapa_base.specs.Lists.{Chain}
 use Rattle.vlog_scope.specs.NameTable.{value_in}
 use Rattle.number_graph.specs.Graphs.{Steps}
 use Rattle.vlog_net_graph.proofs.Numbered.{reached_by_none, returns_both}

@@ -3,12 +3,12 @@ use Rattle.std.proofs.Common.{◌≡◌, suc, ◌<◌, ◌≤◌, Bool, List, []
 use Rattle.std.specs.Prelude.{◌⊎◌}
 use Rattle.std.proofs.lemmas.List.{length-map}
 use Rattle.vlog_tree.specs.Form.{ModuleTree}
-use Rattle.vlog_tree.specs.Grounded.{Has}
+use Rattle.tapa_base.specs.Lists.{Has, one}
 use Rattle.vlog_tree.specs.Cycle.{Path, module_at}
 use Rattle.vlog_tree.specs.Table.{Name}
-use Rattle.vlog_tree.specs.Loops.{item_instances, containment, Reaches, one, own_places, IsLoopless}
+use Rattle.vlog_tree.specs.Loops.{item_instances, containment, Reaches, own_places, IsLoopless}
 use Rattle.vlog_tree.specs.declared.tree.Item.TheVariants.{Instance}
-use Rattle.vlog_tree.proofs.Lists.{has_flat, has_map, of_map, chains}
+use Rattle.tapa_base.proofs.Lists.{has_flat, has_map, of_map, chains}
 use Rattle.vlog_run_laws.proofs.runs.Ending.{Distinct, no_more}
 use Rattle.vlog_run_laws.proofs.runs.Alone.{module_is, IsNamed}
 use Rattle.vlog_run_laws.proofs.runs.Module.{contains}
