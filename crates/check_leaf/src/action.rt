@@ -11,7 +11,9 @@ ghost use Rattle.check_leaf.specs.Views.{Appends};
 
 use crate::call::called;
 use crate::target::{assigned, check_target, read_into, stepped};
-use check_expression::{check_divisor, check_expression, check_wanted, entity_kind, entity_number, method_of};
+use check_expression::{
+    check_divisor, check_expression, check_wanted, entity_kind, entity_number, method_of,
+};
 use check_scope::{CheckFault, Role, Scope};
 use std::alloc::Global;
 use tapa_base::{Kind, Op, Place};

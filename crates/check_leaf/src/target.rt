@@ -9,11 +9,16 @@ ghost use Rattle.check_scope.specs.Scopes.{kind_of_entity, entity_of};
 ghost use Rattle.check_leaf.specs.Statements as task;
 ghost use Rattle.check_leaf.specs.Views.{flat_target};
 
-use check_expression::{Typed, as_kind, binary_kind, check_wanted, entity_kind, entity_number, operated, operated_kind, right_kind};
+use check_expression::{
+    Typed, as_kind, binary_kind, check_wanted, entity_kind, entity_number, operated, operated_kind,
+    right_kind,
+};
 use check_scope::{CheckCode, CheckFault, Entity, Role, Scope, refused};
 use std::alloc::Global;
 use tapa_base::{Kind, Op};
-use tapa_syntax::{AssignmentOperator, BinaryOperator, Expr, Name, PlaceExpression, StepOperator, Stmt};
+use tapa_syntax::{
+    AssignmentOperator, BinaryOperator, Expr, Name, PlaceExpression, StepOperator, Stmt,
+};
 
 /// What is assigned, with its kind and its number, and for a cell of an array or a word of a memory its index.
 #[derive(Drop)]

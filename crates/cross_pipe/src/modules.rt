@@ -9,9 +9,9 @@ ghost use Rattle.hw_channel_laws.specs.modules.Names.{fifo_name as fifo_lem, rel
 ghost use Rattle.hw_channel_laws.specs.modules.Texts.{relay_ends as relay_ends_lem, relayed_inside, plain_tree, fifo_tree, relayed_tree, channel_ports, AreRelays, AreModules};
 ghost use Rattle.hw_channel_laws.specs.modules.Rules.{OfFirst, IsOutermost, HaveNoLoop, HasNoWayThrough, JoinClocks, AreNoTasks};
 
+use crate::ends::{fifo_ends, relay_ends};
 use crate::module::{fifo, two};
 use crate::names::{channel_name, fifo_name, relay_name};
-use crate::ends::{fifo_ends, relay_ends};
 use crate::relay::add_relays;
 use hw_build::{Draft, net_value, text};
 use std::alloc::{AllocError, Global};

@@ -13,12 +13,12 @@ ghost use Rattle.sim_design.specs.Given.{ArePlaced, AreGiven};
 ghost use Rattle.cycle_sim.specs.Machines.{IsTopPlaced, IsOutside, AreOutside};
 ghost use Rattle.cycle_sim.specs.Wholes.{IsStream, AreStreams, IsAround};
 
+use crate::cells::Outside;
+use crate::inputs::Input;
 use crate::named::{din_name, done_name, pair_named};
+use crate::parts::Stream;
 use crate::supplies::all_inputs;
 use sim_tape::Pair;
-use crate::inputs::Input;
-use crate::cells::Outside;
-use crate::parts::Stream;
 use std::alloc::{AllocError, Global};
 use tapa_base::{Port, Text};
 use vlog_design::Design;

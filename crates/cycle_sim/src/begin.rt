@@ -22,13 +22,13 @@ ghost use Rattle.cycle_sim.specs.Wholes.{AreParts, IsAround, IsSim, sim_tree};
 
 use crate::around::{Around, around_of};
 use crate::first::first_cells;
+use crate::inputs::give;
+use crate::parts::{Parts, State};
 use crate::registers::fill_registers;
-use sim_gates::Store;
 use sim_design::{Commit, Draft, Width, draft_of};
 use sim_flat::{Flat, flatten};
+use sim_gates::Store;
 use sim_tape::{Pair, Program};
-use crate::parts::{Parts, State};
-use crate::inputs::give;
 use std::alloc::{AllocError, Global};
 use vlog_design::{Design, Env};
 

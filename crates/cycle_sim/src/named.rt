@@ -9,8 +9,8 @@ ghost use Rattle.sim_tape.specs.Tape.{TapeTree};
 ghost use Rattle.sim_flat.specs.declared.flat.Flat.{Flat as FlatTree};
 ghost use Rattle.cycle_sim.specs.Machines.{IsTopPlaced, IsPairOf};
 
-use sim_tape::Pair;
 use sim_design::pair_of;
+use sim_tape::Pair;
 use std::alloc::{AllocError, Global};
 use tapa_base::Text;
 use vlog_scope::Scope;

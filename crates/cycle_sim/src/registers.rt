@@ -8,10 +8,10 @@ ghost use Rattle.cycle_sim.specs.Firsts.{IsHeldAt, AreHeld};
 ghost use Rattle.cycle_sim.specs.Steps.{IsAway, PairHas};
 
 use crate::first::cut;
+use crate::slots::put_pair;
 use sim_design::{declaration_of, pair_of};
 use sim_flat::Flat;
 use sim_tape::Pair;
-use crate::slots::put_pair;
 use vlog_tree::NetKind;
 
 fn is_register(net_kind: NetKind) -> bool

@@ -9,9 +9,9 @@ ghost use Rattle.vlog_design.specs.Environments.{environment_of, lists_of};
 ghost use Rattle.cycle_sim.specs.Simulators.{sim_of};
 ghost use Rattle.cycle_sim.specs.Sims.{InRuns, IsFirst, IsNext, IsLater, IsCarried, IsDoneAt, last_cycle, IsAdded, AreAdded};
 
-use crate::simulator::Sim;
 use crate::begin::{first_state, parts_of};
 use crate::parts::{advance, carried, cells_in, is_done};
+use crate::simulator::Sim;
 use std::alloc::{AllocError, Global};
 use tapa_base::Token;
 use vlog_design::{Design, Env};
@@ -19,12 +19,7 @@ use vlog_design::{Design, Env};
 impl Sim {
     /// A design in cycle 0, in what stands around it, where every register and every cell holds `fill` modulo 2 to the power of
     /// its width.
-    pub fn new(
-        alloc: Global,
-        design: Design,
-        around: &Env,
-        fill: u64,
-    ) -> Result<Sim, AllocError>
+    pub fn new(alloc: Global, design: Design, around: &Env, fill: u64) -> Result<Sim, AllocError>
         ensures { IfOk result (λ sim. IsFirst design (environment_of around.now) fill (sim_of sim)) }
     {
         let parts = parts_of(alloc, design, around)?;

@@ -15,9 +15,9 @@ ghost use Rattle.sim_flat.specs.declared.flat.Flat.{Flat as FlatTree};
 ghost use Rattle.cycle_sim.specs.Firsts.{place_of as place_lem};
 ghost use Rattle.cycle_sim.specs.Machines.{HasSupply, IsTopPlaced, IsSuppliedBy, IsInput, AreInputs};
 
-use sim_tape::Pair;
 use crate::inputs::{Input, Supply};
 use sim_design::pair_of;
+use sim_tape::Pair;
 use std::alloc::{AllocError, Global};
 use tapa_base::{Port, Shape, Text};
 use vlog_rules::is_input;

@@ -10,7 +10,10 @@ mod texts;
 mod trees;
 
 pub use draft::Draft;
-pub use laws::{law_blocks, law_built_has_form, law_built_has_no_loop, law_built_is_right, law_elements_in_a_run, law_loopless, law_rests_on_no_input, law_trees};
+pub use laws::{
+    law_blocks, law_built_has_form, law_built_has_no_loop, law_built_is_right,
+    law_elements_in_a_run, law_loopless, law_rests_on_no_input, law_trees,
+};
 pub use list_laws::{law_choices, law_fit_in_order, law_fit_in_parts, law_names_once};
 pub use steps::{copy_steps, reset_set_steps, reset_steps, store_steps};
 pub use texts::{net, net_value, number, numbered, reset_name, text};

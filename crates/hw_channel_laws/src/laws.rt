@@ -3,5 +3,8 @@
 mod core;
 mod modules;
 
-pub use core::{law_bits, law_channel, law_exists, law_fifo, law_next_place, law_plain, law_relay, law_room, law_store, law_test};
+pub use core::{
+    law_bits, law_channel, law_exists, law_fifo, law_next_place, law_plain, law_relay, law_room,
+    law_store, law_test,
+};
 pub use modules::{law_channels_act, law_modules_are_clear, law_names_tell_modules};

@@ -6,8 +6,8 @@ ghost use Rattle.hw_task_lines.specs.Wires.{read_count as read_count_lem, reads_
 ghost use Rattle.hw_expressions.specs.Reads.{read_forms};
 
 use std::alloc::AllocError;
-use tapa_syntax::Expr;
 use tapa_base::plus;
+use tapa_syntax::Expr;
 
 /// A read of an array: its index, and the number of the first read in that.
 #[derive(Clone, Copy)]

@@ -13,13 +13,13 @@ ghost use Rattle.hw_expressions.specs.Grown.{Grows};
 
 use crate::fixed::fixed;
 use crate::reads::read_count;
-use hw_nets::{binary, bits, choose, copy, literal, net};
 use hw_build::{Draft, numbered};
+use hw_nets::{binary, bits, choose, copy, literal, net};
 use hw_operators::{Driver, conversion, last, one, operation};
+use hw_task_lines::Net;
 use std::alloc::{AllocError, Global};
 use tapa_base::{Kind, Op, Text, narrow, plus};
 use tapa_syntax::Expr;
-use hw_task_lines::Net;
 use vlog_tree::{Atom, BinaryOp, Value};
 
 /// The atom with the value of an expression, and how many wires it has.

@@ -9,9 +9,9 @@ ghost use Rattle.hw_task_lines.specs.States.{net as net_lem};
 use crate::names::name;
 use crate::numbers::power;
 use hw_build::numbered;
+use hw_task_lines::Net;
 use std::alloc::{AllocError, Global};
 use tapa_base::Text;
-use hw_task_lines::Net;
 use vlog_tree::{Atom, Atoms, BinaryOp, Value};
 
 /// The same atom in memory of its own.

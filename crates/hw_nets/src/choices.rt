@@ -10,13 +10,13 @@ ghost use Rattle.hw_task_lines.specs.Nets.{front as front_lem};
 ghost use Rattle.hw_task_lines.specs.Texts.{result_of as result_lem};
 ghost use Rattle.hw_nets.specs.Entries.{entry_forms};
 
-use crate::entries::Entry;
 use crate::atoms::copy;
+use crate::entries::Entry;
 use crate::names::front;
 use hw_build::{Draft, numbered};
+use hw_task_lines::Choice;
 use std::alloc::{AllocError, Global};
 use tapa_base::{Text, narrow, plus};
-use hw_task_lines::Choice;
 use vlog_tree::{Atom, Value};
 
 // A tree over so many leaves.

@@ -5,9 +5,9 @@ ghost use Rattle.hw_task_lines.specs.Effects.{entry};
 ghost use Rattle.hw_nets.specs.Entries.{entries_in, entry_forms};
 
 use crate::names::name;
+use hw_task_lines::Net;
 use std::alloc::{AllocError, Global};
 use tapa_base::Text;
-use hw_task_lines::Net;
 use vlog_tree::Atom;
 
 /// A value and the net that says when it is meant.

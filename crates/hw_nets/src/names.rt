@@ -7,9 +7,9 @@ ghost use Rattle.hw_task_lines.specs.declared.nets.Net.TheVariants.{Node};
 ghost use Rattle.hw_task_lines.specs.Nets.{front as front_lem, name as name_lem, value_front as value_front_lem, index_front as index_front_lem, read_front as read_front_lem};
 
 use hw_build::{numbered, text};
+use hw_task_lines::{Choice, Net};
 use std::alloc::{AllocError, Global};
 use tapa_base::Text;
-use hw_task_lines::{Choice, Net};
 
 fn two_numbers(alloc: Global, word: &[u8], first: u32, second: u32) -> Result<Text, AllocError>
     requires { IsAscii word.now }

@@ -18,12 +18,12 @@ ghost use Rattle.hw_nets.specs.Entries.{entry_forms};
 ghost use Rattle.hw_states.specs.Operands.{AreOperands};
 ghost use Rattle.hw_nets.specs.Shapes.{form};
 
-use hw_nets::{Entry, Shape, bits, literal, name, net, root};
 use hw_build::{Draft, reset_name, reset_set_steps, reset_steps, store_steps};
+use hw_nets::{Entry, Shape, bits, literal, name, net, root};
 use hw_states::{Operands, entries_of};
+use hw_task_lines::{Choice, Net};
 use std::alloc::{AllocError, Global};
 use tapa_base::Text;
-use hw_task_lines::{Choice, Net};
 use vlog_tree::{Atom, Step};
 
 // A register that nothing sets keeps its first value.

@@ -15,11 +15,11 @@ ghost use Rattle.hw_states.specs.ByState.{IsByState};
 ghost use Rattle.hw_states.specs.Operands.{AreOperands};
 ghost use Rattle.hw_nets.specs.Shapes.{form};
 
-use hw_nets::{Shape, add_any, add_pick, bits, name, net, result_of};
 use hw_build::Draft;
+use hw_nets::{Shape, add_any, add_pick, bits, name, net, result_of};
 use hw_states::{Operands, entries_of};
-use std::alloc::{AllocError, Global};
 use hw_task_lines::{Choice, Net};
+use std::alloc::{AllocError, Global};
 use vlog_tree::Value;
 
 // Adds whether one of a choice's conditions holds.

@@ -11,12 +11,12 @@ ghost use Rattle.hw_states.specs.ByState.{IsByState};
 ghost use Rattle.hw_states.specs.Operands.{AreOperands, IsOperands};
 ghost use Rattle.hw_nets.specs.Shapes.{form};
 
-use hw_nets::{Entry, Shape, add_found, bits, copy, entry_of, literal, low_bits, name, net, power};
 use crate::operands::{Operands, operands_of};
 use crate::states::number_of;
+use hw_nets::{Entry, Shape, add_found, bits, copy, entry_of, literal, low_bits, name, net, power};
+use hw_task_lines::{Choice, Net};
 use std::alloc::{AllocError, Global};
 use task_fsm::State;
-use hw_task_lines::{Choice, Net};
 use vlog_tree::Atom;
 
 // The datum of a token.

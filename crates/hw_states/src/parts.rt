@@ -9,13 +9,13 @@ ghost use Rattle.hw_expressions.specs.Reads.{read_forms};
 ghost use Rattle.hw_states.specs.Operands.{expression_in};
 ghost use Rattle.hw_nets.specs.Shapes.{form};
 
-use hw_nets::Shape;
 use hw_expressions::{ArrayRead, add_reads, read_count};
+use hw_nets::Shape;
+use hw_task_lines::Net;
 use std::alloc::{AllocError, Global};
 use tapa_base::{Kind, plus};
 use tapa_syntax::Expr;
 use task_fsm::State;
-use hw_task_lines::Net;
 
 /// The index of a state.
 pub fn index_of(state: &State) -> Option<&Expr>

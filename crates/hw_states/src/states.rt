@@ -14,13 +14,15 @@ ghost use Rattle.hw_nets.specs.Shapes.{form};
 
 use crate::operands::Operands;
 use crate::parts::{acts_late, awaited, index_of, index_reads, value_kind, value_of};
-use hw_nets::{Shape, binary, bits, choose, concat, copy, index_front, literal, name, net, value_front};
 use hw_build::{Draft, numbered};
 use hw_expressions::compile;
+use hw_nets::{
+    Shape, binary, bits, choose, concat, copy, index_front, literal, name, net, value_front,
+};
+use hw_task_lines::Net;
 use std::alloc::{AllocError, Global};
 use tapa_base::{Kind, Text};
 use task_fsm::State;
-use hw_task_lines::Net;
 use vlog_tree::{Atom, BinaryOp, Value};
 
 /// Adds the wire of a net.

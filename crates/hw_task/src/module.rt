@@ -9,9 +9,9 @@ ghost use Rattle.hw_task.specs.Promise.{IsOfLeaf, KeepsPromise};
 
 use crate::ports::{add_held, add_inputs, add_offers};
 use crate::reads::add_all_reads;
+use hw_build::Draft;
 use hw_nets::Shape;
 use hw_outputs::{add_blocks, add_choices, add_outputs};
-use hw_build::Draft;
 use hw_states::{add_decodes, add_states};
 use std::alloc::{AllocError, Global};
 use tapa_base::{Kind, OutOfMemory, Text, narrow};

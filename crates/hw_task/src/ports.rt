@@ -9,11 +9,11 @@ ghost use Rattle.hw_task_lines.specs.Shape.{state_bits};
 ghost use Rattle.hw_task_lines.specs.Texts.{array, held, inputs, memory_inputs, offered, offers, scalar_port, stream_inputs, variable};
 ghost use Rattle.hw_nets.specs.Shapes.{form};
 
-use hw_nets::{Shape, binary, bits, name, net};
 use hw_build::Draft;
+use hw_nets::{Shape, binary, bits, name, net};
 use hw_states::{add_wire, end_of_transaction};
-use std::alloc::{AllocError, Global};
 use hw_task_lines::Net;
+use std::alloc::{AllocError, Global};
 use vlog_tree::{BinaryOp, Value};
 
 fn add_input(alloc: Global, draft: &mut Draft, width: u32, port: Net) -> Result<(), AllocError>

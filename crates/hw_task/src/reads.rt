@@ -21,13 +21,16 @@ ghost use Rattle.hw_expressions.specs.Reads.{read_form};
 ghost use Rattle.hw_task.specs.Asked.{AreAsked, asked_at, asked_form, port_of};
 ghost use Rattle.hw_nets.specs.Shapes.{form};
 
-use hw_nets::{Entry, Shape, add_any, add_found, add_pick, binary, bits, choose, copy, entry_of, literal, low_bits, name, net, read_front, root};
 use hw_build::Draft;
 use hw_expressions::{ArrayRead, compile};
+use hw_nets::{
+    Entry, Shape, add_any, add_found, add_pick, binary, bits, choose, copy, entry_of, literal,
+    low_bits, name, net, read_front, root,
+};
 use hw_states::{add_wire, reads_at, reads_count};
+use hw_task_lines::{Choice, Net};
 use std::alloc::{AllocError, Global};
 use tapa_base::Kind;
-use hw_task_lines::{Choice, Net};
 use vlog_tree::{Atom, BinaryOp, Value};
 
 /// What a read asks for: its array and the atom of its index.

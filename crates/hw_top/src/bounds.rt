@@ -12,9 +12,9 @@ ghost use Rattle.hw_top_lines.specs.Names.{bound_net as bound_net_lem};
 ghost use Rattle.hw_top_lines.specs.Bounds.{scalar_kind as scalar_kind_lem, scalar_name as scalar_name_lem, parameter_kind as parameter_kind_lem, converted_net, kind_before as kind_before_lem, conversions as conversions_lem, conversion_step, bound_nets, bound_elements, bound_by as bound_by_lem, parameters};
 
 use crate::names::{bound_net, scalar};
-use hw_nets::{bits, literal};
 use hw_build::{Draft, net_value};
 use hw_expressions::add_wires;
+use hw_nets::{bits, literal};
 use hw_operators::{conversion, last};
 use std::alloc::{AllocError, Global};
 use tapa_base::{Kind, Text, narrow, number_at, plus};

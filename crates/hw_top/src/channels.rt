@@ -7,8 +7,8 @@ ghost use Rattle.hw_top_lines.specs.Designs.{AreShort, channels_before, stream_m
 ghost use Rattle.hw_top_lines.specs.Texts.{token_bits as token_bits_lem};
 ghost use Rattle.hw_top.specs.Places.{ArePlaces};
 
-use cross_pipe::channel;
 use crate::wires::token_bits;
+use cross_pipe::channel;
 use std::alloc::{AllocError, Global};
 use std::collections::HashMap;
 use tapa_base::{narrow, number_at};

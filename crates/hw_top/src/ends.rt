@@ -12,12 +12,12 @@ ghost use Rattle.hw_top_lines.specs.Texts.{channel_ends as channel_ends_lem, mem
 
 use crate::bounds::bound_by;
 use crate::names::{ack, addr, din, dout, ended_net, has, rdata, rdy, take, wdata, we, wr};
-use hw_nets::name;
 use hw_build::text;
+use hw_nets::name;
+use hw_task_lines::Net;
 use std::alloc::{AllocError, Global};
 use tapa_base::{Text, narrow, number_at};
 use tapa_syntax::{Instance, Leaf, Program};
-use hw_task_lines::Net;
 use vlog_tree::{Connection, Connections};
 
 fn join(connections: &mut Vec<Connection>, port: Text, net: Text) -> Result<(), AllocError>

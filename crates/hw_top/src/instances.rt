@@ -5,10 +5,10 @@ ghost use Rattle.hw_build.specs.Elements.{with_all};
 ghost use Rattle.hw_build.specs.Scope.{each};
 ghost use Rattle.hw_top_lines.specs.Texts.{at_instance, channel_part, instances, task_part};
 
-use hw_build::Draft;
 use crate::ends::{channel_ends, task_ends};
 use crate::names::{channel_instance, channel_name, task_instance, task_name};
 use crate::wires::token_bits;
+use hw_build::Draft;
 use std::alloc::{AllocError, Global};
 use tapa_base::{narrow, number_at};
 use tapa_syntax::{Instance, Leaf, Program};

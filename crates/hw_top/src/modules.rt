@@ -10,8 +10,8 @@ ghost use Rattle.hw_top_lines.specs.Texts.{top_tree};
 ghost use Rattle.hw_task.specs.Promise.{IsOfLeaf, KeepsPromise};
 ghost use Rattle.hw_top.specs.Kept.{IsKept, IsOfBody};
 
-use crate::top::top_module;
 use crate::channels::all_channels;
+use crate::top::top_module;
 use hw_task::module_of;
 use std::alloc::Global;
 use tapa_base::{OutOfMemory, narrow};

@@ -5,12 +5,12 @@ ghost use Rattle.hw_build.specs.Elements.{with_all};
 ghost use Rattle.hw_build.specs.Scope.{each};
 ghost use Rattle.hw_top_lines.specs.Texts.{scalar_port, memory_ports, ports};
 
-use hw_nets::bits;
-use hw_build::Draft;
 use crate::names::{ack, addr, rdata, scalar, wdata, we};
+use hw_build::Draft;
+use hw_nets::bits;
 use std::alloc::{AllocError, Global};
-use tapa_syntax::Program;
 use tapa_base::narrow;
+use tapa_syntax::Program;
 
 fn add_scalar(alloc: Global, draft: &mut Draft, program: &Program, x: u32) -> Result<(), AllocError>
     ensures { IfOk result (λ u. draft.new ≡ with_all draft.old (scalar_port (slice_get program.now.scalars.items x))) }

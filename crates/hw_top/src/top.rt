@@ -7,10 +7,10 @@ ghost use Rattle.hw_top_lines.specs.Legal.{IsCountable};
 ghost use Rattle.hw_top_lines.specs.Texts.{top_elements, top_tree};
 
 use crate::instances::add_instances;
-use crate::ports::add_ports;
-use hw_build::Draft;
 use crate::names::task_name;
+use crate::ports::add_ports;
 use crate::wires::{add_all_wires, add_done};
+use hw_build::Draft;
 use std::alloc::{AllocError, Global};
 use tapa_syntax::Program;
 use vlog_tree::Module;

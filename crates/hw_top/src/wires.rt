@@ -9,10 +9,10 @@ ghost use Rattle.hw_top_lines.specs.Names.{waits as waits_lem};
 ghost use Rattle.hw_top_lines.specs.Bounds.{parameters};
 ghost use Rattle.hw_top_lines.specs.Texts.{at_instance, doneness, ended_wire, is_detached as is_detached_lem, none_waits as none_waits_lem, still_waits as still_waits_lem, stream_wires, take_wire, token_bits as token_bits_lem, waiting, wires};
 
-use hw_nets::{bits, literal};
-use hw_build::{Draft, net, numbered};
 use crate::bounds::add_parameters;
 use crate::names::{din, done, dout, ended_net, has, rdy, take, waits, wr};
+use hw_build::{Draft, net, numbered};
+use hw_nets::{bits, literal};
 use std::alloc::{AllocError, Global};
 use tapa_base::{Kind, narrow};
 use tapa_syntax::Program;

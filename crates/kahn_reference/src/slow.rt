@@ -13,7 +13,10 @@ ghost use Rattle.tapa_syntax.specs.LeafKinds.{Kinds, kinds_of};
 ghost use Rattle.tapa_syntax.specs.Typed.{HasKind, IsTyped, IsTypedCode};
 
 use crate::cells::{apply_values, both, cell_of, chosen, convert_value, either, flipped, negated};
-use crate::simple_statements::{run_discard, run_open, run_read_cell, run_read_store, run_read_var, run_set, run_set_cell, run_set_cell_by, run_store, run_store_by, run_write};
+use crate::simple_statements::{
+    run_discard, run_open, run_read_cell, run_read_store, run_read_var, run_set, run_set_cell,
+    run_set_cell_by, run_store, run_store_by, run_write,
+};
 use crate::ticks::{ask_at, clear, load_cell, note};
 use kahn_model::tick::{Action, StreamOperation, Tick, TraceEnd};
 use std::alloc::{AllocError, Global};

@@ -3,8 +3,8 @@ ghost use Rattle.std.specs.Prelude.{◌≡◌, IfOk, length};
 
 #[cfg(test)]
 mod tests {
-use coro_machine::{Coro, Machine};
-use net_core::Body;
+    use coro_machine::{Coro, Machine};
+    use net_core::Body;
     use std::alloc::Global;
     use std::sync::Arc;
     use tapa_base::{Kind, OutOfMemory, Text};

@@ -7,8 +7,8 @@ ghost use Rattle.net_core.specs.Waits.{HasHeld};
 ghost use Rattle.net_core.specs.State.{network, count, IsValid};
 
 use crate::bindings::{consumer, is_detached, producer};
-use crate::net::Net;
 use crate::body::{Body, Pause};
+use crate::net::Net;
 use tapa_base::Token;
 
 impl<B: Body> Net<B> {

@@ -9,9 +9,9 @@ ghost use Rattle.net_core.specs.Bounded.{scalars_of, memories_of, instance_job};
 ghost use Rattle.net_core.specs.State.{IsNew};
 
 use crate::bindings::{arity, consumer, ends, producer, stream_at, writes_at};
+use crate::body::{Body, Pause};
 use crate::input::Input;
 use crate::net::Net;
-use crate::body::{Body, Pause};
 use crate::port::Port;
 use crate::ports::Ports;
 use std::alloc::Global;

@@ -8,8 +8,8 @@ ghost use Rattle.net_core.specs.Load.{IsIn, AreBelow, AreListed, AreKept, AreLoa
 ghost use Rattle.net_core.specs.Ties.{IsTie, AreTies};
 
 use crate::bindings::{arity, consumer, producer, stream_at, writes_at};
-use crate::ties::{Tie, is_writing};
 use crate::ports::Ports;
+use crate::ties::{Tie, is_writing};
 use std::alloc::Global;
 use tapa_base::{OutOfMemory, Token};
 use tapa_syntax::Program;

@@ -1,5 +1,5 @@
-use crate::input::Input;
 use crate::body::{Body, Pause};
+use crate::input::Input;
 use crate::ports::Ports;
 use std::marker::Model;
 use std::sync::Arc;

@@ -1,5 +1,5 @@
-use crate::input::Input;
 use crate::body::Pause;
+use crate::input::Input;
 use tapa_syntax::Program;
 
 /// What contracts see of a [`Net`](crate::Net), as lists: no value of this type is made.

@@ -9,11 +9,11 @@ ghost use Rattle.net_core.specs.State.{count, HasResumed};
 ghost use Rattle.net_core.specs.Bindings.{arity};
 ghost use Rattle.net_core.specs.Ties.{AreTies};
 
+use crate::body::{Body, Pause};
 use crate::load::{count_taken, load_ports};
 use crate::net::Net;
-use crate::ties::Tie;
-use crate::body::{Body, Pause};
 use crate::ports::Ports;
+use crate::ties::Tie;
 use std::alloc::Global;
 use tapa_base::OutOfMemory;
 

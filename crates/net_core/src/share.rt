@@ -6,10 +6,10 @@ ghost use Rattle.net_core.specs.Ties.{AreTies};
 ghost use Rattle.kahn_model.specs.Outcome.{IsJoined};
 ghost use Rattle.net_core.specs.declared.body.Pause.TheVariants.{Fuel};
 
-use crate::net::Net;
-use crate::ties::Tie;
-use crate::resume::resume_instance;
 use crate::body::{Body, Pause};
+use crate::net::Net;
+use crate::resume::resume_instance;
+use crate::ties::Tie;
 use std::alloc::Global;
 use tapa_base::OutOfMemory;
 

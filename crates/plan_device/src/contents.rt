@@ -10,9 +10,9 @@ ghost use Rattle.run_data.specs.Seen.{seen};
 ghost use Rattle.plan_device.specs.Amounts.{amounts_of};
 ghost use Rattle.plan_device.specs.Contents as spec;
 
-use crate::key::{Format, Group, Key};
 use crate::amounts::amounts_of;
 use crate::json::{items, member, number_or};
+use crate::key::{Format, Group, Key};
 use serde_json::Value;
 use std::alloc::{AllocError, Global};
 use tapa_syntax::{Instance, Leaf, Program};

@@ -5,8 +5,8 @@ ghost use Rattle.run_data.specs.Seen.{first};
 ghost use Rattle.plan_device.specs.Faults.{is_key_in, misshapen};
 ghost use Rattle.plan_device.specs.Known.{names_known};
 
-use crate::find::find;
 use crate::check::Check;
+use crate::find::find;
 use crate::key::Format;
 use crate::names::Known;
 use serde_json::{Map, Value};

@@ -11,14 +11,14 @@ ghost use Rattle.sim_design.specs.States.{Tells};
 ghost use Rattle.sim_design.specs.Drafts.{IsDraft};
 ghost use Rattle.sim_design.specs.Below.{HasPlaces};
 
-use crate::memories::memories_of;
-use crate::rows::add_next;
-use sim_gates::Store;
-use sim_flat::{Flat, order_of_nets};
-use sim_tape::{Pair, Tape};
-use crate::plan::Plan;
-use crate::given::give_all;
 use crate::all::place_all;
+use crate::given::give_all;
+use crate::memories::memories_of;
+use crate::plan::Plan;
+use crate::rows::add_next;
+use sim_flat::{Flat, order_of_nets};
+use sim_gates::Store;
+use sim_tape::{Pair, Tape};
 use std::alloc::{AllocError, Global};
 use vlog_design::Design;
 

@@ -12,8 +12,8 @@ ghost use Rattle.sim_design.specs.States.{AreRead, AreMemories, MemoriesPlaced, 
 ghost use Rattle.sim_design.specs.Lines.{IsLine};
 
 use crate::slices::part_of;
-use sim_gates::{Nets, pair_of_driver};
 use sim_flat::Flat;
+use sim_gates::{Nets, pair_of_driver};
 use sim_tape::{Pair, Tape};
 use std::alloc::AllocError;
 use vlog_scope::Scope;

@@ -5,8 +5,8 @@ ghost use Rattle.vlog_tree.specs.Table.{net_kind_is_register};
 ghost use Rattle.sim_design.specs.Commits.{commits_of, commits_at, has_register, commits_for, commits_below};
 
 use crate::drafts::Commit;
-use sim_gates::Store;
 use sim_flat::Table;
+use sim_gates::Store;
 use sim_tape::Pair;
 use std::alloc::AllocError;
 use vlog_tree::{Declaration, NetKind};

@@ -15,10 +15,10 @@ ghost use Rattle.sim_design.specs.Below.{HasPlaces, AreNextBelow};
 
 use crate::drafts::Draft;
 use crate::next::{add_commits, add_stores};
-use sim_gates::{Blocks, Nets, blocks_of};
-use sim_flat::{Flat, Table, base_at, table_at};
-use sim_tape::{Pair, Tape};
 use crate::slices::part_of;
+use sim_flat::{Flat, Table, base_at, table_at};
+use sim_gates::{Blocks, Nets, blocks_of};
+use sim_tape::{Pair, Tape};
 use std::alloc::{AllocError, Global};
 use vlog_tree::Module;
 

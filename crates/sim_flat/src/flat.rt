@@ -8,8 +8,8 @@ ghost use Rattle.sim_flat.specs.Numbering.{IsNumbering, names_at, count_at};
 ghost use Rattle.sim_flat.specs.Edges.{table_at as table_lem, base_at as base_lem};
 ghost use Rattle.sim_flat.specs.Flat.{IsFlat};
 
-use crate::tables::{Table, tables_of};
 use crate::instances::{Instance, instances_of};
+use crate::tables::{Table, tables_of};
 use std::alloc::{AllocError, Global};
 use vlog_design::Design;
 

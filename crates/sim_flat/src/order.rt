@@ -8,11 +8,11 @@ ghost use Rattle.sim_flat.specs.Order.{IsNetOrder};
 ghost use Rattle.sim_flat.specs.Edges.{lines_at as lines_lem, connections_of as connections_lem, connections_in as connections_in_lem, NumbersFit, own_edges, joins_in, join_edges, instance_edges, edges_below, top_answers, all_edges};
 
 use crate::edges::{Edges, add_answers, add_assigns, add_connections};
-use crate::instances::Instance;
 use crate::flat::{Flat, base_at, table_at};
+use crate::instances::Instance;
+use number_graph::{Graph, Order, order_of};
 use std::alloc::{AllocError, Global};
 use vlog_design::Design;
-use number_graph::{Graph, Order, order_of};
 use vlog_scope::Scope;
 use vlog_tree::{Connection, Item, Module};
 

@@ -10,8 +10,8 @@ ghost use Rattle.vlog_tree.specs.Table.{declared, module_declared};
 ghost use Rattle.sim_flat.specs.Tables.{AreTables, AreTablesOf, IsTable};
 ghost use Rattle.sim_flat.specs.Written.{written, source_by, first_source as first_source_lem, inner_names, AreScopes, join_of as join_lem, output_of as output_lem, join_writes, output_writes, joined_of as joined_lem, line_writes, lines_writes, line_children, lines_children, child_rows};
 
-use crate::places::{both, place_in};
 use crate::kinds::place_of;
+use crate::places::{both, place_in};
 use std::alloc::{AllocError, Global};
 use tapa_base::Text;
 use vlog_design::Design;

@@ -14,9 +14,9 @@ ghost use Rattle.sim_gates.specs.Parts.{parts_run, WalkShows, WalkBefore, IsTurn
 ghost use Rattle.sim_gates.specs.Next.{ShowsNext, AreApart, AreKnown, SamePlaces};
 ghost use Rattle.sim_gates.specs.Ready.{IsReady, IsStepReady, elses};
 
+use crate::nets::Nets;
 use crate::parts::{Walk, turn};
 use crate::writes::{Blocks, write};
-use crate::nets::Nets;
 use sim_tape::{Pair, Tape};
 use std::alloc::{AllocError, Global};
 use vlog_tree::{Item, Step};

@@ -10,14 +10,14 @@ ghost use Rattle.sim_tape.specs.Trees.{tree_of};
 ghost use Rattle.sim_gates.specs.Nets.{SlotsBefore};
 ghost use Rattle.sim_gates.specs.Drivers.{HasParts, IsDriven};
 
-use crate::operators::are_narrow;
-use crate::nets::Nets;
 use crate::atoms::{literal, pair_of_atom};
 use crate::binary::pair_of_operator;
+use crate::nets::Nets;
+use crate::operators::are_narrow;
 use sim_tape::{Pair, Tape};
 use std::alloc::AllocError;
-use vlog_values::value_of;
 use vlog_tree::{Atom, BinaryOp, Value};
+use vlog_values::value_of;
 
 // The number that has 1 in each of some copies of so many bits.
 fn one_in_each(bits: u32, count: u32) -> Option<u128>

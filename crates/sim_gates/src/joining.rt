@@ -13,9 +13,9 @@ ghost use Rattle.sim_tape.specs.Trees.{tree_of};
 ghost use Rattle.sim_gates.specs.Nets.{SlotsBefore};
 ghost use Rattle.sim_gates.specs.Drivers.{HasParts, IsDriven};
 
-use crate::nets::Nets;
 use crate::atoms::pair_of_atom;
 use crate::joins::put_below;
+use crate::nets::Nets;
 use sim_tape::{Pair, Tape};
 use std::alloc::AllocError;
 use vlog_tree::Atom;

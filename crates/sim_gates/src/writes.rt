@@ -13,9 +13,9 @@ ghost use Rattle.sim_gates.specs.Nets.{SlotsBefore, Told};
 ghost use Rattle.sim_gates.specs.Next.{NetsNext, CellsNext, ShowsNext, AreApart, AreKnown, SamePlaces, IsPut};
 ghost use Rattle.sim_gates.specs.Ready.{IsStepReady};
 
-use crate::nets::Nets;
-use crate::joins::choose;
 use crate::atoms::pair_of_atom;
+use crate::joins::choose;
+use crate::nets::Nets;
 use sim_tape::{Pair, Tape};
 use std::alloc::AllocError;
 use tapa_base::Text;

@@ -8,8 +8,8 @@ ghost use Rattle.sim_tape.specs.Tape.{gate_at, number_at, pair_value, wide_at, w
 ghost use Rattle.sim_tape.specs.Solved.{Says};
 ghost use Rattle.sim_tape.specs.Trees.{tree_of};
 
-use crate::program::Program;
 use crate::gates::{Gate, Operator, Pair, Rule, Wide};
+use crate::program::Program;
 use std::alloc::{AllocError, Global};
 use std::collections::HashMap;
 use vlog_tree::BinaryOp;

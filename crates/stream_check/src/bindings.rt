@@ -8,7 +8,9 @@ ghost use Rattle.check_scope.specs.Users.{users_of, with_user, with_users};
 ghost use Rattle.check_scope.specs.declared.users.Users.{Users as Among};
 ghost use Rattle.stream_check.specs.Programs as program;
 
-use check_scope::{CheckCode, CheckFault, UserTable, Users, copied, next_number, number_of, refused};
+use check_scope::{
+    CheckCode, CheckFault, UserTable, Users, copied, next_number, number_of, refused,
+};
 use check_upper::{Body, Channel, Task};
 use std::alloc::Global;
 use tapa_syntax::{End, Instance, Memory, Parameter, Stream};

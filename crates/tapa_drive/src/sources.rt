@@ -4,8 +4,8 @@ ghost use Rattle.tapa_words.specs.Words.{command_of, most_limit, Run, Build, Pla
 ghost use Rattle.command_source.specs.Outside.{Written, written, outside};
 ghost use Rattle.tapa_drive.specs.Carried.{IsCarriedOut};
 
-use command_source::{Refusal, read_source, read_values};
 use command_plans::{mode_of, planned, put_aim, put_circuit, read_device_file};
+use command_source::{Refusal, read_source, read_values};
 use run_program::{RunEnd, run_program};
 use std::alloc::Global;
 use tapa_files::{PrintFault, Shelf, Sink};

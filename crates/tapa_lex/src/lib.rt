@@ -10,5 +10,7 @@ mod lexer;
 mod literal;
 
 pub use fault::{LexCode, LexFault};
-pub use laws::{lexemes_are_in_order, lexemes_are_slices, lexemes_or_refusal, one_list_of_lexemes, one_refusal};
+pub use laws::{
+    lexemes_are_in_order, lexemes_are_slices, lexemes_or_refusal, one_list_of_lexemes, one_refusal,
+};
 pub use lexer::lex;

@@ -10,7 +10,10 @@ ghost use Rattle.tapa_parse_expression.specs.Reading as spec;
 use crate::action::{condition, whole_expression};
 use std::alloc::Global;
 use tapa_parse_expression::{Fault, Parser};
-use tapa_syntax::{Attribute, AttributeArgument, AttributeArguments, Count, CountValue, Declaration, Declarator, Name, Terminal};
+use tapa_syntax::{
+    Attribute, AttributeArgument, AttributeArguments, Count, CountValue, Declaration, Declarator,
+    Name, Terminal,
+};
 
 fn count_value(parser: &mut Parser, levels: u32) -> Result<CountValue, Fault>
     ensures { Gives view.count_form_of result parser.new (spec.form most_operators (spec.below levels) parser.old) }

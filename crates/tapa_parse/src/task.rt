@@ -13,7 +13,10 @@ use crate::statement::statements;
 use std::alloc::Global;
 use tapa_base::Kind;
 use tapa_parse_expression::{Fault, ParseCode, Parser};
-use tapa_syntax::{Attribute, Count, File, FileItem, Invocation, InvocationArgument, Name, Parameter, StreamDeclaration, TaskBody, TaskDeclaration, Terminal};
+use tapa_syntax::{
+    Attribute, Count, File, FileItem, Invocation, InvocationArgument, Name, Parameter,
+    StreamDeclaration, TaskBody, TaskDeclaration, Terminal,
+};
 
 #[tactic(auto, unfolding(crate::specs::Reading::stream_kind))]
 fn stream_kind(parser: &mut Parser) -> Result<Kind, Fault>

@@ -13,4 +13,9 @@ pub use lexeme::{LexKind, Lexeme};
 pub use program::{Array, Bound, End, Expr, Instance, Leaf, Memory, Program, Scalar, Stmt, Stream};
 pub use terminal::Terminal;
 pub use tick_places::{operations, places_in};
-pub use tree::{Action, AssignmentOperator, Attribute, AttributeArgument, AttributeArguments, BinaryOperator, Count, CountValue, Declaration, Declarator, Expression, File, FileItem, ForHead, ForStart, Invocation, InvocationArgument, Name, Parameter, PlaceExpression, PrefixOperator, Statement, StepOperator, StreamDeclaration, TaskBody, TaskDeclaration};
+pub use tree::{
+    Action, AssignmentOperator, Attribute, AttributeArgument, AttributeArguments, BinaryOperator,
+    Count, CountValue, Declaration, Declarator, Expression, File, FileItem, ForHead, ForStart,
+    Invocation, InvocationArgument, Name, Parameter, PlaceExpression, PrefixOperator, Statement,
+    StepOperator, StreamDeclaration, TaskBody, TaskDeclaration,
+};

@@ -1,7 +1,11 @@
 ghost use Rattle.std.specs.Prelude.{◌≤◌, length};
 
 use crate::probes::{OPERATORS, STATEMENTS};
-use crate::programs::{BAD_TOKEN, CROSSING_ENDS, CROSSING_STOPS, FEEDBACK, GIVEN_NUMBERS, LEVELS, LOOKS_FOR_EOT, MIX, NESTED_TRANSACTIONS, NO_TRANSACTION, PATH, PEEKS, RING, SELF_LOOP, SERVER, STARVED, TRANSACTIONS};
+use crate::programs::{
+    BAD_TOKEN, CROSSING_ENDS, CROSSING_STOPS, FEEDBACK, GIVEN_NUMBERS, LEVELS, LOOKS_FOR_EOT, MIX,
+    NESTED_TRANSACTIONS, NO_TRANSACTION, PATH, PEEKS, RING, SELF_LOOP, SERVER, STARVED,
+    TRANSACTIONS,
+};
 use kahn_reference::rounds::streams;
 use kahn_reference::slow::{Variables, trace};
 use run_data::{Last, report_last, report_stream};

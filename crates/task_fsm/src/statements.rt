@@ -8,11 +8,14 @@ ghost use Rattle.task_fsm.specs.Draft.{emitted};
 use crate::draft::{Draft, number_of_head, write_state};
 use crate::machine::State;
 use crate::operations::{write_alone, write_test};
-use crate::simple::{write_read_cell, write_read_store, write_read_var, write_set, write_set_cell, write_set_cell_by, write_store, write_store_by, write_write};
+use crate::simple::{
+    write_read_cell, write_read_store, write_read_var, write_set, write_set_cell,
+    write_set_cell_by, write_store, write_store_by, write_write,
+};
 use crate::size::{count_of, size_list};
 use std::alloc::{AllocError, Global};
-use tapa_syntax::{Leaf, Stmt};
 use tapa_base::plus;
+use tapa_syntax::{Leaf, Stmt};
 
 // A statement, with the counter's register, and where a break and a continue lead.
 #[cycle(statements)]

@@ -6,8 +6,8 @@ ghost use Rattle.task_graph.specs.Reach.{mark, AreTransitive, MarkReached};
 
 use crate::Edge;
 use crate::edges::ends_of;
-use std::alloc::{AllocError, Global};
 use number_graph::{Graph, reach_from};
+use std::alloc::{AllocError, Global};
 
 /// For each node a row of marks at the nodes that it reaches by one or more steps.
 fn rows_of(alloc: Global, graph: &Graph) -> Result<Vec<Vec<bool>>, AllocError>

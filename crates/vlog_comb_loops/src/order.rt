@@ -1,7 +1,7 @@
 // An order in which each module comes after those that it contains. It is a hint: nothing is promised of it.
 
-use std::alloc::{AllocError, Global};
 use number_graph::{Order, order_of as order_nodes};
+use std::alloc::{AllocError, Global};
 use vlog_net_graph::NamedGraph;
 use vlog_tree::Module;
 

@@ -19,10 +19,10 @@ ghost use Rattle.vlog_comb_loops.specs.Summaries.{is_named, module_edges, IsPair
 use crate::pairs::merge;
 use crate::questions::Questions;
 use crate::through::graph_of;
+use number_graph::Searches;
 use std::alloc::{AllocError, Global};
 use std::marker::Model;
 use tapa_base::Text;
-use number_graph::Searches;
 use vlog_net_graph::NamedGraph;
 use vlog_scope::{Library, Scope, copy_text};
 use vlog_tree::{Module, NetKind};

@@ -10,7 +10,9 @@ ghost use Rattle.vlog_tree.specs.Labels.{scalar_of as scalar_lem, ack_of as ack_
 use std::alloc::{AllocError, Global};
 use tapa_base::{Port, Shape, Text};
 use vlog_scope::Scope;
-use vlog_tree::{Item, Module, NetKind, PortDecl, ack_of, din_of, rdata_name, rdy_name, scalar_of, wr_name};
+use vlog_tree::{
+    Item, Module, NetKind, PortDecl, ack_of, din_of, rdata_name, rdy_name, scalar_of, wr_name,
+};
 
 fn push(alloc: Global, out: &mut Vec<Port>, label: &[u8], bits: u32) -> Result<(), AllocError>
     requires { IsAscii label.now }

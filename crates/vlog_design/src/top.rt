@@ -13,7 +13,10 @@ use std::alloc::{AllocError, Global};
 use tapa_base::Text;
 use vlog_rules::{is_clock, is_read, named_if};
 use vlog_scope::{NameBits, Scope, bits_of_name, set_bits};
-use vlog_tree::{PortDecl, ack_name, ack_of, addr_name, addr_of, rdata_name, rdata_of, scalar_of, wdata_name, wdata_of, we_name, we_of};
+use vlog_tree::{
+    PortDecl, ack_name, ack_of, addr_name, addr_of, rdata_name, rdata_of, scalar_of, wdata_name,
+    wdata_of, we_name, we_of,
+};
 
 #[tactic(auto, unfolding(vlog_tree::specs::Labels::rst))]
 fn is_reset(name: &Text) -> bool

@@ -11,7 +11,10 @@ mod names;
 mod number;
 
 pub use coming::Coming;
-pub use laws::{law_any_base, law_design_is_its_text, law_flat_block, law_gap_in_front, law_one_bit_range, law_one_list_of_words, law_one_tree, law_spelling_has_tree, law_tree_has_form};
+pub use laws::{
+    law_any_base, law_design_is_its_text, law_flat_block, law_gap_in_front, law_one_bit_range,
+    law_one_list_of_words, law_one_tree, law_spelling_has_tree, law_tree_has_form,
+};
 pub use lexer::{Lexeme, Words, place_at, scan};
 pub use listed::{Listed, Parts};
 pub use names::is_name_word;

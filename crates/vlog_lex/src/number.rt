@@ -5,9 +5,9 @@ ghost use Rattle.std.specs.Str.Parse.{digits_value};
 ghost use Rattle.vlog_tree.specs.Names.{is_name as is_name_lem};
 ghost use Rattle.vlog_lex.specs.ReadNumerals as spec;
 
+use crate::class::{Class, base_of, run, worth};
 use std::alloc::{AllocError, Global};
 use tapa_base::Text;
-use crate::class::{Class, base_of, run, worth};
 use vlog_tree::Atom;
 
 /// The bytes of a name, in memory of their own.

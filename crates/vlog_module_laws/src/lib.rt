@@ -4,4 +4,7 @@
 
 mod laws;
 
-pub use laws::{law_labels, law_larger, law_lines, law_names, law_no_loop_by_rank, law_own_block, law_rests_in_larger, law_usual_blocks};
+pub use laws::{
+    law_labels, law_larger, law_lines, law_names, law_no_loop_by_rank, law_own_block,
+    law_rests_in_larger, law_usual_blocks,
+};

@@ -6,9 +6,9 @@ ghost use Rattle.vlog_scope.specs.NameTable.{value_in};
 ghost use Rattle.number_graph.specs.Graphs.{Steps};
 ghost use Rattle.vlog_net_graph.specs.Names.{IsNumbered, IsDraftOf, IsGraphOf, IsExtended, IsListed, IsGraphListed};
 
+use number_graph::{Graph, LeveledGraph, Order, order_of};
 use std::alloc::{AllocError, Global};
 use std::collections::HashMap;
-use number_graph::{Graph, LeveledGraph, Order, order_of};
 
 /// A graph of names that grows: the names by their numbers, and the edges by numbers.
 #[derive(Drop)]

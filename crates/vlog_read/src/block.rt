@@ -3,10 +3,10 @@
 ghost use Rattle.std.specs.Prelude.{◌≡◌, ◌∷◌, IfOk};
 ghost use Rattle.vlog_read.specs.BlockReading as spec;
 
+use crate::held::Held;
+use crate::state::{BlockState, Draft, Purpose, Reader, Steps};
 use std::alloc::{AllocError, Global};
 use tapa_base::Text;
-use crate::state::{BlockState, Draft, Purpose, Reader, Steps};
-use crate::held::Held;
 use vlog_lex::{Coming, Listed, Parts, is_name_word, name_of};
 use vlog_tree::{Block, Item, Step};
 

@@ -10,13 +10,24 @@ ghost use Rattle.vlog_read.specs.Finishing.{IsFormed};
 ghost use Rattle.vlog_read.specs.ValueReading as read;
 ghost use Rattle.vlog_read.specs.BlockReading as spec;
 
-use crate::item::{cells_last, connection_net, connection_next, connection_port, instance_name, item_start, reg_next};
-use crate::port::{between, declared_name, module_name, port_next, port_start, range_high, range_or_name};
+use crate::block::{after_end, if_name, step_index, step_start, step_target};
+use crate::item::{
+    cells_last, connection_net, connection_next, connection_port, instance_name, item_start,
+    reg_next,
+};
+use crate::port::{
+    between, declared_name, module_name, port_next, port_start, range_high, range_or_name,
+};
+use crate::state::{
+    BlockState, HeadState, ItemState, Reader, State, ValueState, discard, discard_block,
+    discard_item, discard_value,
+};
+use crate::value::{
+    assign_name, atom_end, atom_high, atom_low, atom_next, atom_start, brace_start, concat_next,
+    value_next, value_start,
+};
 use std::alloc::{AllocError, Global};
 use vlog_lex::{Coming, Lexeme, Listed};
-use crate::block::{after_end, if_name, step_index, step_start, step_target};
-use crate::state::{BlockState, HeadState, ItemState, Reader, State, ValueState, discard, discard_block, discard_item, discard_value};
-use crate::value::{assign_name, atom_end, atom_high, atom_low, atom_next, atom_start, brace_start, concat_next, value_next, value_start};
 use vlog_tree::Module;
 
 /// Why words are no design.

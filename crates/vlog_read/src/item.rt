@@ -5,10 +5,12 @@ ghost use Rattle.vlog_tree.specs.Form.{IsModule};
 ghost use Rattle.vlog_read.specs.ValueReading as read;
 ghost use Rattle.vlog_read.specs.BlockReading as spec;
 
+use crate::held::Held;
+use crate::state::{
+    BlockState, Declared, Draft, HeadState, ItemState, Joining, Reader, Steps, ValueState,
+};
 use std::alloc::{AllocError, Global};
 use tapa_base::Text;
-use crate::state::{BlockState, Declared, Draft, HeadState, ItemState, Joining, Reader, Steps, ValueState};
-use crate::held::Held;
 use vlog_lex::{Coming, Listed, cells_behind, is_name_word, is_number, name_of};
 use vlog_tree::{Connection, Connections, Item};
 

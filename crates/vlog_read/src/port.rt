@@ -4,10 +4,10 @@ ghost use Rattle.std.specs.Prelude.{◌≡◌, IfOk, true};
 ghost use Rattle.vlog_tree.specs.Names.{is_name as is_name_lem};
 ghost use Rattle.vlog_read.specs.BlockReading as spec;
 
+use crate::held::Held;
+use crate::state::{Declared, Draft, HeadState, ItemState, Reader};
 use std::alloc::{AllocError, Global};
 use tapa_base::Text;
-use crate::state::{Declared, Draft, HeadState, ItemState, Reader};
-use crate::held::Held;
 use vlog_lex::{Coming, Listed, is_name_word, is_number, name_of, width_behind};
 use vlog_tree::{Direction, Item, Module, PortDecl};
 

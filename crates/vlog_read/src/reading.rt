@@ -9,10 +9,10 @@ ghost use Rattle.vlog_lex.specs.Scanned.{IsScan, words_at};
 ghost use Rattle.vlog_read.specs.Refused.{IsFirstRefused};
 ghost use Rattle.vlog_read.specs.Texts.{RefusesText, refused_at};
 
+use crate::design::{ParseFault, parse};
 use std::alloc::Global;
 use vlog_design::Design;
 use vlog_lex::{Words, place_at, scan};
-use crate::design::{ParseFault, parse};
 use vlog_tree::{Module, VFault};
 
 /// How many bytes stand before the word behind so many, or before the end of what is cut into words.

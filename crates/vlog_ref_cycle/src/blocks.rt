@@ -11,8 +11,8 @@ ghost use Rattle.vlog_ref_cycle.specs.Next.{step_nets, item_nets, put_net, IsSto
 use crate::lines::{add_atom, add_net};
 use std::alloc::{AllocError, Global};
 use tapa_base::Text;
-use vlog_values::{Held, MemoryCells, NetNumber, Scope, number_in, value_of_atom};
 use vlog_tree::{Item, Step};
+use vlog_values::{Held, MemoryCells, NetNumber, Scope, number_in, value_of_atom};
 
 fn add_step(
     alloc: Global,

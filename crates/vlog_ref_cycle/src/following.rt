@@ -12,8 +12,8 @@ use crate::numbers::all_numbers;
 use crate::places::{copy_path, module_at};
 use crate::streams::top_number;
 use std::alloc::{AllocError, Global};
-use vlog_values::{Circuit, Held, MemoryCells, Moment, NetNumber, OutsideMemory, Scope};
 use vlog_tree::{ack_name, addr_name, wdata_name, we_name};
+use vlog_values::{Circuit, Held, MemoryCells, Moment, NetNumber, OutsideMemory, Scope};
 
 fn copy_nets(alloc: Global, nets: &[NetNumber]) -> Result<Vec<NetNumber>, AllocError>
     ensures { IfOk result (λ v. v.items ≡ nets.now) }

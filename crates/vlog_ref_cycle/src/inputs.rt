@@ -11,8 +11,8 @@ ghost use Rattle.vlog_ref_cycle.specs.Sources.{source_tree, memory_of as memory_
 use crate::sources::{Rule, Source, given, one_read};
 use std::alloc::{AllocError, Global};
 use tapa_base::Text;
-use vlog_values::{Moment, NetNumber, OutsideMemory};
 use vlog_tree::{ack_of, addr_name, rdata_of, scalar_of};
+use vlog_values::{Moment, NetNumber, OutsideMemory};
 
 #[tactic(auto, unfolding(vlog_tree::specs::Labels::rst))]
 fn is_reset(name: &Text) -> bool

@@ -10,8 +10,8 @@ ghost use Rattle.vlog_ref_cycle.specs.Sources.{assigned_in as assigned_in_lem, o
 use crate::places::module_named;
 use std::alloc::{AllocError, Global};
 use tapa_base::Text;
-use vlog_values::{MemoryCells, NetNumber, Scope, find_memory, is_input, is_read};
 use vlog_tree::{Atom, Connection, Item, Module, Value};
+use vlog_values::{MemoryCells, NetNumber, Scope, find_memory, is_input, is_read};
 
 fn assigned_in<'a>(item: &'a Item, x: &Text) -> Option<&'a Value>
     ensures { option_copied result ≡ assigned_in_lem item.now x.now }

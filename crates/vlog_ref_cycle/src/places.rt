@@ -8,8 +8,8 @@ ghost use Rattle.vlog_ref_cycle.specs.Sources.{same_path as same_path_lem, held_
 
 use std::alloc::{AllocError, Global};
 use tapa_base::Text;
-use vlog_values::Held;
 use vlog_tree::{Item, Module};
+use vlog_values::Held;
 
 /// The first module of a name.
 pub(crate) fn module_named<'a>(modules: &'a [Module], name: &Text) -> Option<&'a Module>

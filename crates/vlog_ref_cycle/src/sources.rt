@@ -10,8 +10,8 @@ use crate::lines::{are_read, assigned, has_cells, joined_to, output_of, value_re
 use crate::places::{copy_path, held_at, module_at, path_inside};
 use std::alloc::{AllocError, Global};
 use tapa_base::Text;
-use vlog_values::{Circuit, Held, MemoryCells, Moment, NetNumber, Scope, find_net, is_read};
 use vlog_tree::{Module, Value};
+use vlog_values::{Circuit, Held, MemoryCells, Moment, NetNumber, Scope, find_net, is_read};
 
 /// How a number comes from those of some nets.
 #[derive(Drop)]

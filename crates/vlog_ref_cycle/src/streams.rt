@@ -11,8 +11,8 @@ ghost use Rattle.vlog_ref_cycle.specs.Numbers.{number_at};
 use crate::numbers::net_number;
 use std::alloc::{AllocError, Global};
 use tapa_base::{Port, Text, Token};
-use vlog_values::{Circuit, Moment};
 use vlog_tree::{rdy_name, wr_name};
+use vlog_values::{Circuit, Moment};
 
 /// The number of a net of the top.
 pub(crate) fn top_number(
@@ -70,7 +70,7 @@ fn carries_number(
 }
 
 // What the bits of a stream say: an end where the highest one is set, and else a datum.
-#[tactic(auto, using(crate::proofs::Tokens::low_datum))]
+#[tactic(auto, using(vlog_tree::proofs::Tokens::low_datum))]
 fn token_of(bits: u32, din: u128) -> Token
     requires low { 1 ≤ bits }
     requires high { bits ≤ 65 }

@@ -8,8 +8,8 @@ ghost use Rattle.vlog_ref_start.specs.Contents.{memory_tree, held_tree, filled_n
 use crate::instances::{Place, level_below};
 use std::alloc::{AllocError, Global};
 use tapa_base::Text;
-use vlog_values::{Held, MemoryCells, NetNumber};
 use vlog_tree::{Item, Module};
+use vlog_values::{Held, MemoryCells, NetNumber};
 
 #[tactic(auto, using(vlog_values::proofs::Cuts::all_in))]
 fn cut(fill: u128, bits: u32) -> u128

@@ -8,8 +8,8 @@ ghost use Rattle.vlog_ref_start.specs.Runs.{IsStart};
 
 use crate::contents::first_held;
 use crate::outside::{first_memories, first_scalars};
-use vlog_design::{Design, Env};
 use std::alloc::{AllocError, Global};
+use vlog_design::{Design, Env};
 use vlog_values::Moment;
 
 /// The moment of cycle 0, in which every register and every cell of the design holds `fill` modulo 2 to the power of its

@@ -4,9 +4,9 @@ ghost use Rattle.std.specs.Prelude.{◌≡◌, ◌∷◌, ◌++◌, [], map, IfO
 ghost use Rattle.vlog_ref_start.specs.Outside.{labelled_from, outside_tree, outside_from};
 ghost use Rattle.vlog_design.specs.Environments.{environment_of, lists_of};
 
-use vlog_design::Env;
 use std::alloc::{AllocError, Global};
 use tapa_base::Port;
+use vlog_design::Env;
 use vlog_values::{NetNumber, OutsideMemory};
 
 fn number_at(numbers: &[u64], at: usize) -> u128

@@ -8,5 +8,8 @@ mod name_table;
 mod scope;
 
 pub use library::Library;
-pub use name_table::{NameBits, NameCounts, NameTable, add_before, bits_of_name, count_of, count_one, find_name, set_bits};
+pub use name_table::{
+    NameBits, NameCounts, NameTable, add_before, bits_of_name, count_of, count_one, find_name,
+    set_bits,
+};
 pub use scope::{Scope, copy_text};

@@ -1,12 +1,14 @@
 // The numbers of a design's nets, cycle by cycle, as the slow reference finds them.
 
-use crate::shown::{Carried, add_number, add_token, push_end, push_memory, push_name, push_streams, streams_of};
+use crate::shown::{
+    Carried, add_number, add_token, push_end, push_memory, push_name, push_streams, streams_of,
+};
 use std::alloc::{AllocError, Global};
 use tapa_base::Text;
 use vlog_design::{Design, Env};
 use vlog_ref_cycle::{carries, is_done, net_number, next};
-use vlog_values::{Circuit, Moment};
 use vlog_ref_start::first_moment;
+use vlog_values::{Circuit, Moment};
 
 /// A net of an instance, with the names of the instances on the way to it, the innermost first, and its numbers so far.
 #[derive(Drop)]
