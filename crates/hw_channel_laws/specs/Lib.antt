@@ -1,2 +1,2 @@
-pub mod core
+pub mod signals
 pub mod modules

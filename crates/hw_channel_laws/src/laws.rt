@@ -1,9 +1,9 @@
 // The laws by their subject.
 
-mod core;
+mod signals;
 mod modules;
 
-pub use core::{
+pub use signals::{
     law_bits, law_channel, law_exists, law_fifo, law_next_place, law_plain, law_relay, law_room,
     law_store, law_test,
 };

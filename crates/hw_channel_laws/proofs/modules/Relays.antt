@@ -17,8 +17,8 @@ use Rattle.vlog_module_laws.specs.Blocks.{IsOwnBlock}
 use Rattle.vlog_module_laws.proofs.Lines.{line, connection_holds}
 use Rattle.hw_build.specs.Elements.{built, copied, reset_or}
 use Rattle.hw_build.proofs.Meaning.{has_got, driven_is, reset_is, copied_is}
-use Rattle.hw_channel_laws.specs.core.Signals.{Signal}
-use Rattle.hw_channel_laws.specs.core.Relay.{RelayPorts, IsStep, IsRow, IsRelay, Step as OneStep, Row as TwoParts}
+use Rattle.hw_channel_laws.specs.signals.Signals.{Signal}
+use Rattle.hw_channel_laws.specs.signals.Relay.{RelayPorts, IsStep, IsRow, IsRelay, Step as OneStep, Row as TwoParts}
 use Rattle.hw_channel_laws.specs.modules.Names.{relay_name}
 use Rattle.hw_channel_laws.specs.modules.Texts.{step_elements, step_tree, even_tree, odd_tree, row_tree, of_net, first_part, second_of_two, second_of_three, third_part, AreRelays, One, More}
 use Rattle.hw_channel_laws.specs.modules.Ports.{relay_ports, AreFoundIn}

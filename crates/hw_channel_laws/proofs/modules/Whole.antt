@@ -11,12 +11,12 @@ use Rattle.vlog_tree.specs.Labels.{rst}
 use Rattle.vlog_tree.specs.Table.{Name}
 use Rattle.vlog_tree.specs.Cycle.{Cycle, Path, Runs, module_at}
 use Rattle.hw_build.proofs.Meaning.{driven_is}
-use Rattle.hw_channel_laws.specs.core.Signals.{Resets, Signal}
-use Rattle.hw_channel_laws.specs.core.Contract.{MeetsContract}
-use Rattle.hw_channel_laws.specs.core.Fifo.{SizesFit}
-use Rattle.hw_channel_laws.proofs.core.Lines.{bits as bits_are}
-use Rattle.hw_channel_laws.proofs.core.Relays.{delays}
-use Rattle.hw_channel_laws.proofs.core.Laws.{plain, channel}
+use Rattle.hw_channel_laws.specs.signals.Signals.{Resets, Signal}
+use Rattle.hw_channel_laws.specs.signals.Contract.{MeetsContract}
+use Rattle.hw_channel_laws.specs.signals.Fifo.{SizesFit}
+use Rattle.hw_channel_laws.proofs.signals.Lines.{bits as bits_are}
+use Rattle.hw_channel_laws.proofs.signals.Relays.{delays}
+use Rattle.hw_channel_laws.proofs.signals.Laws.{plain, channel}
 use Rattle.hw_channel_laws.specs.modules.Names.{fifo_name, relay_name}
 use Rattle.hw_channel_laws.specs.modules.Texts.{bits_for, fifo_tree, plain_tree, relayed_tree, fifo_ends, relay_ends, of_net, two, AreRelays, AreModules, Alone, Relayed}
 use Rattle.hw_channel_laws.specs.modules.Ports.{fifo_ports, relay_ports, channel_ports, AreFoundIn, ActsAsChannel}

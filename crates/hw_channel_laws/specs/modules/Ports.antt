@@ -5,10 +5,10 @@ use Rattle.tapa_base.specs.Lists.{Has}
 use Rattle.vlog_tree.specs.Table.{module_named}
 use Rattle.vlog_tree.specs.Labels.{rst}
 use Rattle.vlog_tree.specs.Cycle.{Cycle, Path, Runs, module_at}
-use Rattle.hw_channel_laws.specs.core.Signals.{Resets}
-use Rattle.hw_channel_laws.specs.core.Contract.{ChannelPorts, MeetsContract}
-use Rattle.hw_channel_laws.specs.core.Fifo.{FifoPorts}
-use Rattle.hw_channel_laws.specs.core.Relay.{RelayPorts}
+use Rattle.hw_channel_laws.specs.signals.Signals.{Resets}
+use Rattle.hw_channel_laws.specs.signals.Contract.{ChannelPorts, MeetsContract}
+use Rattle.hw_channel_laws.specs.signals.Fifo.{FifoPorts}
+use Rattle.hw_channel_laws.specs.signals.Relay.{RelayPorts}
 use Rattle.hw_channel_laws.specs.modules.Texts.{AreModules}
 
 abbrev pub fifo_ports : (ℕ → Cycle) → FifoPorts

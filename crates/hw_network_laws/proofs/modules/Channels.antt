@@ -9,9 +9,9 @@ use Rattle.vlog_tree.specs.Environment.{token_of}
 use Rattle.kahn_model.specs.declared.tick.StreamOperation.{StreamOperation}
 use Rattle.kahn_model.specs.Behavior.{on_offer, takes}
 use Rattle.kahn_model.proofs.Clocked.{and_parts}
-use Rattle.hw_channel_laws.specs.core.Signals.{both}
-use Rattle.hw_channel_laws.specs.core.Contract.{ChannelPorts, MeetsContract as OwesContract, written, taken}
-use Rattle.hw_channel_laws.proofs.core.Pointers.{bit_is, fewer_than}
+use Rattle.hw_channel_laws.specs.signals.Signals.{both}
+use Rattle.hw_channel_laws.specs.signals.Contract.{ChannelPorts, MeetsContract as OwesContract, written, taken}
+use Rattle.hw_channel_laws.proofs.signals.Pointers.{bit_is, fewer_than}
 use Rattle.task_fsm.specs.Run.{StateStep, Performs, Awaits, Completes, Halts}
 use Rattle.hw_task_lines.specs.Signals.{Streams, History, Part}
 use Rattle.hw_task_lines.specs.Machine.{RunsMachine, offered, allows, takes_of, step_in, steps, put_in}

@@ -9,7 +9,7 @@ use Rattle.tapa_syntax.specs.declared.program.Leaf.{Leaf}
 use Rattle.tapa_syntax.specs.declared.program.Program.{Program}
 use Rattle.tapa_syntax.specs.declared.program.Stream.{Stream}
 use Rattle.vlog_tree.specs.Cycle.{Cycle}
-use Rattle.hw_channel_laws.specs.core.Contract.{ChannelPorts}
+use Rattle.hw_channel_laws.specs.signals.Contract.{ChannelPorts}
 use Rattle.kahn_model.specs.Network.{Network}
 use Rattle.kahn_model.specs.ProgramNetwork.{end_of}
 use Rattle.kahn_model.specs.Start.{network_of}

@@ -8,7 +8,7 @@ use Rattle.tapa_syntax.specs.declared.program.Leaf.{Leaf}
 use Rattle.tapa_syntax.specs.declared.program.Program.{Program}
 use Rattle.tapa_syntax.specs.declared.program.Stream.{Stream}
 use Rattle.vlog_tree.specs.Cycle.{Cycle}
-use Rattle.hw_channel_laws.specs.core.Contract.{ChannelPorts, MeetsContract as OwesContract}
+use Rattle.hw_channel_laws.specs.signals.Contract.{ChannelPorts, MeetsContract as OwesContract}
 use Rattle.kahn_model.specs.Start.{network_of}
 use Rattle.kahn_model.specs.Timed.{Clock}
 use Rattle.task_fsm.specs.declared.machine.Fsm.{Fsm}

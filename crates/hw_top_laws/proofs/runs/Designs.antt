@@ -14,7 +14,7 @@ use Rattle.vlog_tree.specs.Labels.{s_din, s_wr, s_rdy}
 use Rattle.vlog_tree.specs.Table.{Name}
 use Rattle.task_fsm.specs.declared.machine.Fsm.{Fsm}
 use Rattle.hw_task_lines.specs.Signals.{Streams}
-use Rattle.hw_channel_laws.specs.core.Contract.{MeetsContract as OwesContract}
+use Rattle.hw_channel_laws.specs.signals.Contract.{MeetsContract as OwesContract}
 use Rattle.hw_channel_laws.specs.modules.Ports.{channel_ports}
 use Rattle.hw_network_laws.specs.modules.Channels.{AreSignals, IsStill}
 use Rattle.hw_network_laws.specs.modules.Designs.{RunsInstance, HasMachine}

@@ -33,7 +33,7 @@ use Rattle.hw_task_lines.specs.Texts.{task_tree}
 use Rattle.hw_network_laws.specs.modules.Designs.{RunsInstance}
 use Rattle.hw_network_laws.specs.modules.Tasks.{shape_for}
 use Rattle.hw_network_laws.proofs.modules.Tasks.{there_at as item_at}
-use Rattle.hw_channel_laws.specs.core.Contract.{MeetsContract as OwesContract}
+use Rattle.hw_channel_laws.specs.signals.Contract.{MeetsContract as OwesContract}
 use Rattle.hw_channel_laws.specs.modules.Ports.{channel_ports}
 use Rattle.hw_channel_laws.proofs.modules.Whole.{acts}
 use Rattle.hw_top_lines.specs.Bounds.{parameter_kind}

@@ -10,7 +10,7 @@ use Rattle.vlog_tree.specs.Cycle.{Cycle, Path}
 use Rattle.vlog_tree.specs.Environment.{Environment, cells_at, token_of}
 use Rattle.vlog_tree.specs.Labels.{s_din, s_wr, s_rdy}
 use Rattle.vlog_tree.specs.Table.{Name}
-use Rattle.hw_channel_laws.specs.core.Contract.{ChannelPorts}
+use Rattle.hw_channel_laws.specs.signals.Contract.{ChannelPorts}
 use Rattle.hw_channel_laws.specs.modules.Ports.{channel_ports}
 use Rattle.hw_task_lines.specs.Signals.{Streams}
 use Rattle.hw_top_lines.specs.Names.{s_has, s_dout, s_take, task_instance, channel_instance}

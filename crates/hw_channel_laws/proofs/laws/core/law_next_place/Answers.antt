@@ -1,5 +1,0 @@
-use Rattle.hw_channel_laws.proofs.core.Lines.{next_is}
-use Rattle.hw_channel_laws.proofs.laws.core.law_next_place.Goals as goal
-
-pub returns : goal.returns
-returns c = next_is
