@@ -18,7 +18,7 @@ pub enum CheckCode {
     C4,
     /// A stream without exactly one consuming instance.
     C5,
-    /// A call of a stream's method that may answer before its turn.
+    /// A nonblocking method, or a method with the wrong arguments.
     C6,
     /// A memory of the top task that is not bound to exactly one instance.
     C7,

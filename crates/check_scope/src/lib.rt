@@ -1,4 +1,4 @@
-//! The names that are in scope at a place, what each is declared as, and how a rule that is broken is told.
+//! The names that are in scope, what each is declared as, who uses streams and memories, and how a broken rule is reported.
 #![tactic(auto)]
 
 mod entity;

@@ -3,7 +3,7 @@ ghost use Rattle.check_scope.specs.Answers.{Answers};
 
 use crate::fault::CheckFault;
 
-/// A number of 32 bits. What is held in memory has none past that.
+/// Narrows a count to 32 bits; a larger one can't be in memory, so it is reported as want of memory.
 pub fn number_of(count: usize) -> Result<u32, CheckFault>
     ensures { Answers (λ n. n) result [] count }
 {

@@ -74,7 +74,7 @@ fn first_instance(graph: &Graph, group: u32) -> usize
     }
 }
 
-// Its label.
+// The label of a group's first instance.
 fn first_label(alloc: Global, graph: &Graph, group: u32) -> Result<Vec<u8>, AllocError>
     ensures { IfOk result (λ label. label.items ≡ first_label_lem graph.now group) }
 {

@@ -33,7 +33,7 @@ abbrev pub shown_name : Option (List ℕ) → List ℕ
 shown_name None = no_data
 shown_name (Some name) = name
 
--- the same of the data: those of the named file, and else of an empty object
+-- the bytes of the data: those of the named file, and else of an empty object
 abbrev pub OfData : Option Files → Option (List ℕ) → (List ℕ → Type 0) → Type 0
 OfData files None P = P no_data
 OfData files (Some name) P = OfFile files data_limit name P

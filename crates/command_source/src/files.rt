@@ -29,7 +29,7 @@ pub const DATA_LIMIT: u64 = 33_554_432;
 /// The data where no file is named.
 pub const NO_DATA: &str = "{}";
 
-/// The bytes of a file, of which there may be so many.
+/// Reads a whole file of at most `limit` bytes.
 pub fn read_file<'a, S: Shelf>(
     alloc: Global,
     file: &'a str,

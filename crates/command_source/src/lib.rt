@@ -1,4 +1,5 @@
-//! What a command reads: the program of a source, the input that data give it, why either is refused, and how a refusal is told.
+//! What a command reads: the program of a source, the input that data give it, why either is refused, how a refusal is reported, and
+//! that each source is legal or refused and never both.
 #![tactic(auto)]
 
 mod files;

@@ -1,5 +1,5 @@
-//! The modules of channels for streams that cross slots: a FIFO, and before it a relay of registers, one a cycle of added
-//! latency.
+//! The modules of channels for streams that cross slots: their names, a FIFO, and before it a relay of registers, one a cycle of
+//! added latency.
 #![tactic(auto)]
 
 mod ends;

@@ -1,5 +1,5 @@
-//! The modules of channels by their lines, and that they do what a channel owes: a FIFO, and before it a relay of
-//! registers, one a cycle of added latency.
+//! Laws of channels: a FIFO, and before it a relay of registers, one a cycle of added latency, act as a bounded stream; and their
+//! modules are right.
 #![tactic(auto)]
 
 mod laws;

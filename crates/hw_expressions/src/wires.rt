@@ -49,7 +49,7 @@ pub fn add_wires(
     Ok(())
 }
 
-// Adds the wires of an operator behind those of its operands, of which there are so many; the first one has number n.
+// Adds an operator's wires, from number `n` on; its operands made `count` before it.
 fn with_drivers(
     alloc: Global,
     draft: &mut Draft,

@@ -14,7 +14,7 @@ use std::alloc::{AllocError, Global};
 use tapa_base::Text;
 use vlog_tree::{Atom, Atoms, BinaryOp, Value};
 
-/// The same atom in memory of its own.
+/// A copy of an atom, in memory of its own.
 pub fn copy(alloc: Global, atom: &Atom) -> Result<Atom, AllocError>
     ensures { IfOk result (λ a. a ≡ atom.now) }
 {

@@ -1,4 +1,5 @@
-//! Choices among entries, each a value and the net that says when it is meant, as trees of ors over gates.
+//! The nets of a task's module: their names, the atoms and operators that drive them, what a machine's shape gives them, and choices
+//! among entries, each a value and the net that says when it is meant, as trees of ors over gates.
 #![tactic(auto)]
 
 mod atoms;

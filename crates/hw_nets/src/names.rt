@@ -117,7 +117,7 @@ pub fn value_front(alloc: Global, state: u32) -> Result<Text, AllocError>
     numbered(alloc, b"e", state)
 }
 
-/// And of its index.
+/// The front of the names of the operators of a state's index.
 #[tactic(auto, unfolding(hw_task_lines::specs::Nets::index_front))]
 pub fn index_front(alloc: Global, state: u32) -> Result<Text, AllocError>
     ensures { IfOk result (λ t. t ≡ index_front_lem state) }
@@ -125,7 +125,7 @@ pub fn index_front(alloc: Global, state: u32) -> Result<Text, AllocError>
     numbered(alloc, b"i", state)
 }
 
-/// And of the index of a read.
+/// The front of the names of the operators of the index of a state's read.
 #[tactic(auto, unfolding(hw_task_lines::specs::Nets::read_front))]
 pub fn read_front(alloc: Global, state: u32, read: u32) -> Result<Text, AllocError>
     ensures { IfOk result (λ t. t ≡ read_front_lem state read) }

@@ -1,4 +1,4 @@
-//! Modules of tasks and of channels as machines and channels of a clocked network.
+//! Laws of clocked networks: modules of tasks and channels as machines and channels that tick by one clock.
 #![tactic(auto)]
 
 mod laws;

@@ -167,7 +167,7 @@ fn places(
     }
 }
 
-// And what is written there.
+// The value that a state writes into a cell.
 fn contents(
     alloc: Global,
     shape: &Shape,

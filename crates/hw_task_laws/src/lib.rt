@@ -1,4 +1,5 @@
-//! A run of a task's module runs its machine: from the cycle of reset on, one step in each cycle whose inputs allow it.
+//! Laws of a task's module: its names, wires and widths are right, and a run of it runs its machine, one step in each cycle whose
+//! inputs allow it.
 #![tactic(auto)]
 
 mod laws;

@@ -9,29 +9,29 @@ pub enum Choice {
     ToEnd,
     /// Whether a register gets a value.
     Set(u32),
-    /// And which.
+    /// The value that a register gets.
     In(u32),
-    /// Whether an array gets one.
+    /// Whether an array gets a value.
     Stores(u32),
-    /// Where.
+    /// The index of an array's write.
     Place(u32),
-    /// And which.
+    /// The value of an array's write.
     Content(u32),
     /// Whether an array is read by a read's number.
     Reads(u32, u32),
-    /// And where.
+    /// The index of an array's read, by the read's number.
     Spot(u32, u32),
     /// Whether a token is written.
     Puts(u32),
-    /// And which.
+    /// The token that is written to a stream.
     Token(u32),
     /// Whether a token is taken.
     Takes(u32),
-    /// The place that a memory is asked for.
+    /// The address that a memory is asked for.
     Asks(u32),
-    /// Whether it stores.
+    /// Whether a memory stores.
     Saves(u32),
-    /// And what.
+    /// The value that a memory stores.
     Data(u32),
 }
 
@@ -42,7 +42,7 @@ pub enum Net {
     State,
     /// Whether End is made.
     Ended,
-    /// The port that says so.
+    /// The port that says whether End is made.
     Done,
     /// The value of a scalar parameter, by its position.
     Scalar(u32),
@@ -52,39 +52,39 @@ pub enum Net {
     Array(u32),
     /// A stream that is read: whether a token is there.
     Has(u32),
-    /// The token.
+    /// The token at the front of a stream that is read.
     Dout(u32),
-    /// And whether it is taken.
+    /// Whether the token at the front of a stream is taken.
     Taken(u32),
-    /// A stream that is written: the token.
+    /// The token that is written to a stream.
     Din(u32),
-    /// Whether it is written.
+    /// Whether a token is written to a stream.
     Wr(u32),
-    /// And whether there is room.
+    /// Whether a stream that is written has room.
     Rdy(u32),
     /// A memory: whether it answers.
     Ack(u32),
-    /// The cell.
+    /// The cell that a memory shows.
     Rdata(u32),
-    /// The place that is asked for.
+    /// The address that a memory is asked for.
     Addr(u32),
-    /// What is stored there.
+    /// The value that a memory is given to store.
     Wdata(u32),
-    /// And whether it is.
+    /// Whether a memory is to store.
     We(u32),
     /// Whether a token, if there is one, is a datum.
     Plain(u32),
     /// Whether there is a datum.
     Datum(u32),
-    /// And whether there is an end of a transaction.
+    /// Whether there is an end of a transaction.
     Eot(u32),
     /// Whether the machine is in a state.
     At(u32),
-    /// And makes its tick.
+    /// Whether the machine is in a state and makes its tick.
     Go(u32),
     /// Whether the index of a cell that a state writes is one of its array.
     Inside(u32),
-    /// And the cell is written.
+    /// Whether a state writes a cell of its array.
     Into(u32),
     /// The token of a datum that a state writes.
     Packed(u32),
@@ -92,17 +92,17 @@ pub enum Net {
     Next(u32),
     /// The operators of a state's value, in order.
     Value(u32, u32),
-    /// And of its index.
+    /// The operators of a state's index, in order.
     Index(u32, u32),
     /// The operators of the index of a state's read, by the read's number.
     ReadIndex(u32, u32, u32),
     /// Whether that index is one of its array.
     ReadInside(u32, u32),
-    /// And the cell is read.
+    /// Whether a state's read reads a cell of its array.
     ReadOn(u32, u32),
     /// By the number of a read and its array: the cell at the index.
     Raw(u32, u32),
-    /// And what is read.
+    /// What a state's read gives: the cell, or 0 past the end.
     Answer(u32, u32),
     /// A leaf or a node of a choice.
     Node(Choice, u32),

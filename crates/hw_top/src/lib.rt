@@ -1,4 +1,5 @@
-//! The generator of circuits: the top module of a program, and with it the modules of its channels and of its tasks.
+//! The circuit of a program: the top module with its nets, connections and instances, the modules of its channels and tasks, and the
+//! design of them all, which carries the program's Kahn streams.
 #![tactic(auto)]
 
 mod bounds;

@@ -1,4 +1,4 @@
-//! The circuit of a program carries its streams: its modules are those that the laws of runs ask for.
+//! Laws of a circuit: its top and its modules make a design, and each run of it carries the program's streams.
 #![tactic(auto)]
 
 mod laws;

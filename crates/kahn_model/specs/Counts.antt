@@ -64,7 +64,7 @@ abbrev pub AreAllowed : Network → List ℕ → (ℕ → ℕ) → Type 0
 AreAllowed net [] k = Unit {0}
 AreAllowed net (i ∷ steps) k = IsAllowed net k i × AreAllowed net steps (with_tick_of i k)
 
--- the same without regard to room
+-- a step without regard to room
 abbrev pub AreSupplied : Network → List ℕ → (ℕ → ℕ) → Type 0
 AreSupplied net [] k = Unit {0}
 AreSupplied net (i ∷ steps) k = IsSupplied net k i × AreSupplied net steps (with_tick_of i k)

@@ -9,7 +9,7 @@ use crate::port::Port;
 use std::mem;
 use tapa_base::{OutOfMemory, Token};
 
-// So many tokens are the first ones of a list, and so many a large room.
+// `FEW`: from this length on a list gets `LARGE` at once (128 KiB), so that it is not moved as it grows.
 const FEW: usize = 64;
 
 const LARGE: usize = 8_192;

@@ -1,4 +1,4 @@
-//! Graphs of numbers: an order in which each node comes after those that it rests on, what nodes reach, and whether a node
+//! Graphs of numbers: an order in which each node comes after those that it depends on, what nodes reach, and whether a node
 //! reaches itself.
 #![tactic(auto)]
 

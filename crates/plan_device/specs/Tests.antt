@@ -71,7 +71,7 @@ passes Number key found = has_numbers key found
 passes (Range grid) key found = has_ranges grid key found
 passes Name key found = true
 
--- the same of a member of a group, whose name is known or not
+-- whether a member of a group passes, whose name is known or not
 abbrev pub member_passes : Check → Group → Bool → Json → Bool
 member_passes Shape Tasks known json = is_amounts json
 member_passes Shape Pins known json = is_place json

@@ -84,7 +84,7 @@ pub fn is_in(low: u64, past: u64, value: &Value) -> bool
     number_in(low, past, value).is_some()
 }
 
-/// The same, and another number where it is absent or is none.
+/// The whole number that a value is, and another number where it is absent or is none.
 pub fn number_or(other: u64, low: u64, past: u64, found: Option<&Value>) -> u64
     requires { other < past }
     ensures value { result ≡ number_or other low past (seen found.entry) }

@@ -37,7 +37,7 @@ pub enum Key {
 }
 
 impl Group {
-    /// Its name, as a device file has it.
+    /// The name of the key, as a device file has it.
     pub fn name(self) -> &'static str
         ensures { result.now ≡ group_name self }
     {
@@ -49,7 +49,7 @@ impl Group {
 }
 
 impl Key {
-    /// Its name, as a device file has it.
+    /// The name of the key, as a device file has it.
     pub fn name(self) -> &'static str
         ensures { result.now ≡ key_name self }
     {
@@ -137,7 +137,7 @@ impl Format {
         }
     }
 
-    /// Its keys, in the order in which they are looked at.
+    /// The keys of the group, in the order in which they are looked at.
     pub fn keys(self) -> &'static [Key]
         ensures { result.now ≡ keys_in self }
     {

@@ -1,5 +1,5 @@
-//! A device: its slots with their capacities and borders, and what the tasks of a graph are to keep on it; read from a
-//! device file.
+//! A device file: how it is read, the rules that it keeps or breaks, and the device that it gives: slots with their capacities and
+//! borders, and what the tasks of a graph are to keep on it.
 #![tactic(auto)]
 
 mod amounts;

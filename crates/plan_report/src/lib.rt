@@ -1,5 +1,5 @@
-//! The lines of a plan: each slot with what stands in it, each task with its slot, each stream with its registers, and the
-//! sums that show the plan's cost and the balance's least number of registers.
+//! The registers of a plan and its lines: the latency of each stream over the borders of slots, each slot with what it holds, each
+//! task with its slot, each stream with its registers, and the sums that show cost and balance.
 #![tactic(auto)]
 
 mod added;

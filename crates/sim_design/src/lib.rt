@@ -1,4 +1,4 @@
-//! A whole design on a tape: what each net has, and what registers and memories have in the next cycle.
+//! A whole design on a tape: the slots of each net, one after another, and what registers and memories have in the next cycle.
 #![tactic(auto)]
 
 mod all;

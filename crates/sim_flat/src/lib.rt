@@ -1,4 +1,5 @@
-//! The instances of a design by number, each with its module's place, the instance around it and its place among the instances there.
+//! A flattened design by numbers: its instances, its nets by name, the edges between them, and an order in which each net comes after
+//! those that it depends on.
 #![tactic(auto)]
 
 mod edges;

@@ -50,7 +50,7 @@ fn cut_part(tape: &mut Tape, slot: u32, low: u32, bits: u32) -> Result<Pair, All
     Ok(Pair { low: cut, high: 0 })
 }
 
-// The same, where all 64 bits need no gate.
+// Some bits of a slot, where all 64 bits need no gate.
 fn short_part(tape: &mut Tape, slot: u32, low: u32, bits: u32) -> Result<Pair, AllocError>
     requires tape { IsTape (tree_of tape.old) }
     requires slot { slot < length (tree_of tape.old).gates }

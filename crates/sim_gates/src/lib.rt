@@ -1,4 +1,5 @@
-//! The clocked blocks of a module on a tape: the pairs of slots with the numbers that registers take over, and the stores into memories.
+//! The drivers and clocked blocks of a module as gates on a tape: operators on pairs of slots, the numbers that registers take over,
+//! and the stores into memories.
 #![tactic(auto)]
 
 mod atoms;

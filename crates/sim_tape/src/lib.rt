@@ -1,4 +1,5 @@
-//! A tape of gates: each gives its slot a number of 64 bits from slots before it, and a pass gives every slot its number, run by run of gates of one rule.
+//! A tape of gates: the operators on 64 bits, a number for each slot from slots before it, and a pass that gives every slot its
+//! number, run by run of gates of one rule.
 #![tactic(auto)]
 
 mod gates;

@@ -37,14 +37,14 @@ fn is_no_better(best: &Option<Best>, cost: u64) -> bool
     }
 }
 
-/// The same places again.
+/// A copy of a list of slots.
 fn copy_of(alloc: Global, places: &[u32]) -> Result<Vec<u32>, AllocError>
     ensures { IfOk result (λ copied. copied.items ≡ places.now) }
 {
     places.to_vec(alloc)
 }
 
-/// The same rooms again.
+/// A copy of a list of amounts.
 fn rooms_of(alloc: Global, room: &[Use]) -> Result<Vec<Use>, AllocError>
     ensures { IfOk result (λ copied. copied.items ≡ room.now) }
 {

@@ -98,20 +98,20 @@ pub fn tapa<S: Shelf, O: Sink, E: Sink>(
         (source top : List ℕ) (named : Option (List ℕ)) (limit : ℕ) → command_of (texts words.now) ≡ Some (Run source top named limit) →
         (meaning : SourceMeaning) → Expects before.files source top named limit meaning → NothingFails source named before after →
         Tells source named limit meaning result before after ⊎ (result ≡ Status.Memory) }
-    // The same of a plan: its lines, or the circuit by it, are written whole, or it is told why there is none.
+    // What a plan means: its lines, or the circuit by it, are written whole, or it is told why there is none.
     ensures plan_decided { let before = (outside (S.files shelf.old) (S.faults shelf.old) (written (O.contents out.old) (O.faults out.old)) (written (E.contents err.old) (E.faults err.old))) in let after = (outside (S.files shelf.new) (S.faults shelf.new) (written (O.contents out.new) (O.faults out.new)) (written (E.contents err.new) (E.faults err.new))) in
         (source top device : List ℕ) (by : PlanModeWord) (aim : PlanAimWord) → command_of (texts words.now) ≡ Some (Plan source top device by aim) →
         ArePlannable before.files source top device → NothingFails source (Some device) before after →
         TellsPlan before.files source top device (mode_of by) aim result before after ⊎ (result ≡ Status.Memory) }
-    // The same of a circuit: its text is written whole, or it is told why the source has none.
+    // What a circuit means: its text is written whole, or it is told why the source has none.
     ensures build_decided { let before = (outside (S.files shelf.old) (S.faults shelf.old) (written (O.contents out.old) (O.faults out.old)) (written (E.contents err.old) (E.faults err.old))) in let after = (outside (S.files shelf.new) (S.faults shelf.new) (written (O.contents out.new) (O.faults out.new)) (written (E.contents err.new) (E.faults err.new))) in
         (source top : List ℕ) → command_of (texts words.now) ≡ Some (Build source top) →
         NothingFails source None before after → TellsBuild before.files source top result before after ⊎ (result ≡ Status.Memory) }
-    // The same of a simulation: the report of the design's cycles is written whole, or it is told why there is none.
+    // What a simulation means: the report of the design's cycles is written whole, or it is told why there is none.
     ensures cosim_decided { let before = (outside (S.files shelf.old) (S.faults shelf.old) (written (O.contents out.old) (O.faults out.old)) (written (E.contents err.old) (E.faults err.old))) in let after = (outside (S.files shelf.new) (S.faults shelf.new) (written (O.contents out.new) (O.faults out.new)) (written (E.contents err.new) (E.faults err.new))) in
         (text : List ℕ) (named : Option (List ℕ)) (limit : ℕ) → command_of (texts words.now) ≡ Some (Cosim text named limit) →
         NothingFails text named before after → TellsCosim text named limit result before after ⊎ (result ≡ Status.Memory) }
-    // The same where the source has more bytes than it may, and where the words are no command.
+    // What it means where the source has more bytes than it may, and where the words are no command.
     ensures lengthy { let before = (outside (S.files shelf.old) (S.faults shelf.old) (written (O.contents out.old) (O.faults out.old)) (written (E.contents err.old) (E.faults err.old))) in let after = (outside (S.files shelf.new) (S.faults shelf.new) (written (O.contents out.new) (O.faults out.new)) (written (E.contents err.new) (E.faults err.new))) in
         (source top : List ℕ) (named : Option (List ℕ)) (limit : ℕ) → command_of (texts words.now) ≡ Some (Run source top named limit) →
         IsLengthy before.files source → NothingFails source named before after →

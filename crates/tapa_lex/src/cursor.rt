@@ -62,7 +62,7 @@ impl Cursor {
         }
     }
 
-    /// Where one stands behind more bytes.
+    /// The cursor after these bytes.
     pub fn past_all(self, bytes: &[u8]) -> Self
         requires at { self.at + length bytes.now < 2 ^ 32 }
         requires line { self.place.line + length bytes.now < 2 ^ 32 }

@@ -249,7 +249,7 @@ impl<'a> Parser<'a> {
         self.take_name()
     }
 
-    /// The same behind `tapa::` and a dot, where the words of streams, memories and tasks are no names.
+    /// A name after `tapa::` or a dot, where the words of streams, memories and tasks are no names.
     #[tactic(auto, unfolding(crate::specs::Readers::plain_name))]
     pub fn plain_name(&mut self) -> Result<Name, Fault>
         ensures { Gives (λ x. x) result self.new (spec.plain_name self.old) }

@@ -42,7 +42,7 @@ fn said_with(
     Ok(Answer { status, out, err })
 }
 
-// The same without data.
+// A run without data.
 fn said(
     alloc: Global,
     source: &[u8],

@@ -17,7 +17,7 @@ void B(tapa::istream<uint64_t>& s1, tapa::istream<uint64_t>& s2) { s2.read(); s1
 void T() { tapa::stream<uint64_t, 2> s1; tapa::stream<uint64_t, 1> s2; tapa::task().invoke(A, s1, s2).invoke(B, s1, s2); }
 ";
 
-/// The same, too shallow: a deadlock.
+/// A fork and a join whose streams are too shallow: a deadlock.
 pub const CROSSING_STOPS: &str =
     "void A(tapa::ostream<uint64_t>& s1, tapa::ostream<uint64_t>& s2) { s1 << 1; s1 << 2; s2 << 3; }
 void B(tapa::istream<uint64_t>& s1, tapa::istream<uint64_t>& s2) { s2.read(); s1.read(); s1.read(); }
@@ -152,7 +152,7 @@ void VecAdd(tapa::mmap<const int> a, tapa::mmap<const int> b, tapa::mmap<int> c,
     .invoke(Add, a_q, b_q, c_q, n).invoke(Stream2Mmap, c_q, c, n); }
 ";
 
-/// Its data.
+/// The data of the program before.
 pub const VECADD_DATA: &str =
     "{\"scalars\":{\"n\":3},\"memories\":{\"a\":[1,2,3],\"b\":[10,20,30],\"c\":[0,0,0]}}";
 

@@ -39,7 +39,7 @@ pub record Emitted : Type 0 where
 abbrev pub emit : ℕ → (ℕ → StateForm) → Emitted → Emitted
 emit N p B = record { places = p B.entry ∷ B.places; entry = N - (length B.places + 1); regs = B.regs }
 
--- the same with a register of its own
+-- a state with a register of its own
 abbrev pub emit_held : ℕ → Kind → (ℕ → ℕ → StateForm) → Emitted → Emitted
 emit_held N kind p B = record {
   places = p (length B.regs) B.entry ∷ B.places;

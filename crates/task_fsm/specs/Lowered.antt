@@ -21,7 +21,7 @@ pub record IsStart (leaf : Leaf) (σ : State) : Type 0 where
   pub arrays : length σ.arrays ≡ length leaf.arrays.items
   pub cells : (a : ℕ) → a < length leaf.arrays.items → 1 ≤ cells_of σ a
 
--- the same with k registers more
+-- a machine with k registers more
 abbrev pub with_temporaries : ℕ → State → State
 with_temporaries k σ = record σ { vars = σ.vars ++ replicate k 0 }
 
@@ -29,10 +29,10 @@ pub record IsLowered (leaf : Leaf) (fsm : Fsm) : Type 0 where
   -- from every start the machine makes the job's ticks, one place a tick, whatever tokens come
   pub machine :
       (σ : State) → IsStart leaf σ → IsMachineOf (λ n. job_of (kinds_of leaf) leaf.code.items σ n) (forms_of fsm.states.items) (with_temporaries (length fsm.regs.items - length leaf.vars.items) σ)
-  -- the same for each tree of answers
+  -- so it does for each tree of answers
   pub follows :
       (σ : State) → IsStart leaf σ → (n : ℕ) → Follows (forms_of fsm.states.items) [] (job_of (kinds_of leaf) leaf.code.items σ n) 0 (with_temporaries (length fsm.regs.items - length leaf.vars.items) σ)
-  -- and the cells of its memories are those after the job's Stores
+  -- the cells of its memories are those after the job's Stores
   pub cells :
       (σ : State) → IsStart leaf σ → (n : ℕ) (ins : ℕ → List Token) → (run (forms_of fsm.states.items) (length (ticks (job_of (kinds_of leaf) leaf.code.items σ n) ins) + 0) 0 (with_temporaries (length fsm.regs.items - length leaf.vars.items) σ) [] ins).holds.cells ≡ cells_after (ticks (job_of (kinds_of leaf) leaf.code.items σ n) ins) σ.cells
   -- each expression has its kind

@@ -39,7 +39,7 @@ pub(crate) fn write_state(draft: &mut Draft, total: u32, state: State) -> Result
     Ok(())
 }
 
-// The same with a register of its own.
+// Writes a state that keeps its result in a new register.
 pub(crate) fn write_held(
     draft: &mut Draft,
     total: u32,
@@ -55,7 +55,7 @@ pub(crate) fn write_held(
     Ok(())
 }
 
-// The number of a state after which come so many before the others.
+// The number of the first of `size` states that will stand before those written.
 pub(crate) fn number_of_head(total: u32, others: usize, size: u32) -> u32
     requires { others < 9223372036854775808 }
     ensures { result ≡ total - (others + size) }

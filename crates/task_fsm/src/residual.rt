@@ -9,7 +9,7 @@ use std::alloc::{AllocError, Global};
 use tapa_base::{Kind, Op, plus};
 use tapa_syntax::Expr;
 
-// The same in a box.
+// What is left of an expression, in a box.
 #[cycle(rest)]
 pub(crate) fn boxed(alloc: Global, e: &Expr, t: u32) -> Result<Box<Expr>, AllocError>
     ensures { IfOk result (λ r. expression_of r.value ≡ residual e.now t) }

@@ -20,7 +20,7 @@ IsSearched P places (Some x) = (s : TextPlace) × IsFirst P places s × (place_n
 abbrev pub LoopsIn : Edges → ModuleTree → Name → Name → Type 0
 LoopsIn edges k m x = ((k.name ≡ m) × Reaches edges x x) ⊎ ((i : Name) × Has (instances k) (m, i) × Reaches edges (port_of i x) (port_of i x))
 
--- the same of one line alone, and with no line of the module's own nets
+-- what one line alone says, and with no line of the module's own nets
 abbrev pub LoopsAt : Edges → ModuleTree → Option ℕ → Name → Name → Type 0
 LoopsAt edges k None m x = (k.name ≡ m) × Reaches edges x x
 LoopsAt edges k (Some j) m x =

@@ -1,4 +1,5 @@
-//! The words of a text of the Verilog subset, each a slice of the text, up to the first byte that begins none.
+//! The words of a text of the Verilog subset (IEEE 1364-2005, clause 3): its lexical grammar, each word as a slice of the text, up to the
+//! first byte that begins none, and the lists that words are read into.
 #![tactic(auto)]
 
 mod class;

@@ -1,5 +1,5 @@
-//! What one module says by itself, for whoever builds modules: its blocks, its lines, its loops, its names, and that it
-//! says the same among more modules.
+//! Laws of one module by itself, for whoever builds modules: its blocks, its lines, its loops and its names, and that it says as
+//! much among more modules.
 #![tactic(auto)]
 
 mod laws;

@@ -101,7 +101,7 @@ impl Draft {
         }
     }
 
-    // The same of a name in memory of its own, which is kept where it is new.
+    // The number of a name in memory of its own, which is kept where it is new.
     fn number_of(&mut self, alloc: Global, name: Vec<u8>) -> Result<usize, AllocError>
         ensures number { IfOk result (λ j. value_in self.new.numbers name.items ≡ Some j) }
         ensures extended { OnOk result (IsExtended (value_in self.old.numbers) (value_in self.new.numbers)) }

@@ -198,7 +198,7 @@ fn whole(reader: Reader) -> Option<Listed<Module>>
     whole_state(state)
 }
 
-/// What is told behind the last of so many words.
+/// The modules after the last word, or `Refused(passed)` where the text ends too early.
 fn told(reader: Reader, passed: usize) -> Result<Vec<Module>, ParseFault>
     ensures tree { IfOk result (λ modules. spec.whole reader ≡ Some modules.items) }
     ensures refused { IfErr result (λ e. (spec.whole reader ≡ None) × (e ≡ ParseFault.Refused passed)) }

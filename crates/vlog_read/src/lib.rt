@@ -1,4 +1,5 @@
-//! The design that a text of the Verilog subset spells, or why it spells none, with the exact place.
+//! The reader of the Verilog subset: word by word to the one tree of a text, and the design that it spells, or why it spells none, with
+//! the exact position.
 #![tactic(auto)]
 
 mod block;

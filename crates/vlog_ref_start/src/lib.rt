@@ -1,4 +1,4 @@
-//! The first cycle of a design, where every register and every cell holds one number, cut to its width; and that the cycles computed from it are those of its run.
+//! The first cycle of a design by definition, and that the cycles computed from it one after another are those of its run.
 #![tactic(auto)]
 
 mod contents;

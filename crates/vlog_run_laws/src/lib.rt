@@ -1,4 +1,5 @@
-//! That in each run of a design every number fits its width.
+//! Laws of runs of a design: there is exactly one from each power-up in each environment, no net waits for itself, and every number
+//! fits its width.
 #![tactic(auto)]
 
 mod laws;

@@ -55,21 +55,21 @@ impl Module {
         }
     }
 
-    /// Its name.
+    /// The name of the module.
     pub fn name(&self) -> &Text
         ensures { result.now ≡ self.now.name }
     {
         &self.name
     }
 
-    /// Its ports, in their order.
+    /// The ports of the module, in their order.
     pub fn ports(&self) -> &[PortDecl]
         ensures { result.now ≡ self.now.ports }
     {
         &self.ports
     }
 
-    /// Its items, in their order.
+    /// The items of the module, in their order.
     pub fn items(&self) -> &[Item]
         ensures value { result.now ≡ self.now.items }
         ensures form { IsModule self.now }
