@@ -11,8 +11,9 @@ ghost use Rattle.plan_device.specs.Amounts.{amounts_of};
 ghost use Rattle.plan_device.specs.Contents as spec;
 
 use crate::amounts::amounts_of;
-use crate::json::{items, member, number_or};
+use crate::json::number_or;
 use crate::key::{Format, Group, Key};
+use run_data::{items, member};
 use serde_json::Value;
 use std::alloc::{AllocError, Global};
 use tapa_syntax::{Instance, Leaf, Program};

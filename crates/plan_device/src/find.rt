@@ -11,10 +11,10 @@ ghost use Rattle.plan_device.specs.Known.{names_known};
 ghost use Rattle.plan_device.specs.Tests as spec;
 
 use crate::check::Check;
-use crate::json::member;
 use crate::key::{Format, Group, Key};
 use crate::names::Known;
 use crate::passes::{member_passes, passes};
+use run_data::member;
 use serde_json::{Map, Value};
 use std::alloc::{AllocError, Global};
 use std::collections::HashMap;

@@ -8,42 +8,8 @@ ghost use Rattle.plan_device.specs.Json.{is_whole, natural_in, number_in, is_in,
 ghost use Rattle.plan_device.specs.Tests.{grid_of};
 
 use crate::grid::Grid;
+use run_data::items;
 use serde_json::Value;
-
-/// A name as text.
-pub fn text_of(name: &[u8]) -> &str
-    requires { IsAscii name.now }
-    ensures { result.now ≡ name.now }
-{
-    match std::str::from_utf8(name) {
-        Ok(text) => text,
-        Err(_) => "",
-    }
-}
-
-/// What a group has at a name.
-pub fn member<'v>(found: Option<&'v Value>, name: &[u8]) -> Option<&'v Value>
-    requires { IsAscii name.now }
-    ensures { seen result ≡ get_member name.now (members_at (seen found.entry)) }
-{
-    match found {
-        Some(value) => value.get(text_of(name)),
-        None => None,
-    }
-}
-
-/// The items of a list: none where it is absent or no list.
-pub fn items(found: Option<&Value>) -> &[Value]
-    ensures { map view result.now ≡ items_at (seen found.entry) }
-{
-    let Some(value) = found else {
-        return &[];
-    };
-    match value.as_array() {
-        Some(list) => list.as_slice(),
-        None => &[],
-    }
-}
 
 /// Whether a number is whole.
 pub fn is_whole(value: &Value) -> bool

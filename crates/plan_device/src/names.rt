@@ -4,8 +4,8 @@ ghost use Rattle.tapa_syntax.specs.declared.program.Leaf.{Leaf};
 ghost use Rattle.run_data.specs.Data.{is_among};
 ghost use Rattle.run_data.specs.Seen.{has_name};
 
-use crate::json::text_of;
 use crate::key::Group;
+use run_data::text_of;
 use std::alloc::{AllocError, Global};
 use std::collections::HashMap;
 use tapa_base::Text;

@@ -9,8 +9,9 @@ ghost use Rattle.plan_device.specs.Tests as spec;
 use crate::amounts::{has_amounts, is_amounts};
 use crate::check::Check;
 use crate::grid::Grid;
-use crate::json::{is_in, is_place, is_whole, is_whole_place, items, slot_of};
+use crate::json::{is_in, is_place, is_whole, is_whole_place, slot_of};
 use crate::key::{Group, Key};
+use run_data::{are_numbers, items};
 use serde_json::Value;
 
 /// The keys of versions are 1 and 2, levels at most 16, percentages at most 100, rows at most 8, columns at most 4.
@@ -25,12 +26,6 @@ const PAST_ROWS: u64 = 9;
 const PAST_COLS: u64 = 5;
 
 // ---- shapes
-
-fn are_numbers(values: &[Value]) -> bool
-    ensures { result ≡ list_all (λ value. is_number (view value)) values.now }
-{
-    values.iter().all(|value| value.is_number())
-}
 
 fn is_list_of_numbers(value: &Value) -> bool
     ensures { result ≡ json.is_list_of is_number (view value.now) }

@@ -7,8 +7,9 @@ ghost use Rattle.plan_device.specs.Pins as spec;
 ghost use Rattle.plan_device.specs.GroupPins.{IsPinning, IsFreeFor, IsTakenFrom};
 
 use crate::grid::Grid;
-use crate::json::{items, member, slot_of};
+use crate::json::slot_of;
 use crate::key::Group;
+use run_data::{items, member};
 use serde_json::Value;
 use std::alloc::{AllocError, Global};
 use tapa_syntax::Instance;

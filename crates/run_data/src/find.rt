@@ -15,41 +15,6 @@ pub(crate) fn group_in<'v>(group: Group, file: &'v Value) -> Option<&'v Value>
     file.get(group.key())
 }
 
-// A name as text.
-pub(crate) fn text_of(name: &[u8]) -> &str
-    requires { IsAscii name.now }
-    ensures { result.now ≡ name.now }
-{
-    match std::str::from_utf8(name) {
-        Ok(text) => text,
-        Err(_) => "",
-    }
-}
-
-// What a group has at a name.
-pub(crate) fn member<'v>(found: Option<&'v Value>, name: &[u8]) -> Option<&'v Value>
-    requires { IsAscii name.now }
-    ensures { seen result ≡ get_member name.now (members_at (seen found.entry)) }
-{
-    match found {
-        Some(value) => value.get(text_of(name)),
-        None => None,
-    }
-}
-
-// The items of a list: none where it is absent or no list.
-pub(crate) fn items(found: Option<&Value>) -> &[Value]
-    ensures { map view result.now ≡ items_at (seen found.entry) }
-{
-    let Some(value) = found else {
-        return &[];
-    };
-    match value.as_array() {
-        Some(list) => list.as_slice(),
-        None => &[],
-    }
-}
-
 // The bits of a number, if it is whole and one of so many bits.
 pub(crate) fn bits_of(bits: u32, value: &Value) -> Option<u64>
     requires { bits ≤ 64 }

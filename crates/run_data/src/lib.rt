@@ -5,6 +5,7 @@
 mod data;
 mod find;
 mod group;
+mod json;
 mod lines;
 mod misfit;
 mod misshapen;
@@ -12,4 +13,5 @@ mod oversized;
 mod values;
 
 pub use data::{Data, DataFault, read_data};
+pub use json::{are_numbers, items, member, text_of};
 pub use lines::{Last, report_last, report_memory, report_stream};

@@ -4,8 +4,9 @@ ghost use Rattle.serde_json.specs.View.{view};
 ghost use Rattle.run_data.specs.Data.{has_bits, has_right_bits, misfits_in, misfits, ports_of};
 ghost use Rattle.run_data.specs.Seen.{seen, first};
 
-use crate::find::{bits_of, group_in, items, member};
+use crate::find::{bits_of, group_in};
 use crate::group::Group;
+use crate::json::{items, member};
 use serde_json::Value;
 use std::alloc::{AllocError, Global};
 use tapa_base::{Port, Shape};

@@ -6,18 +6,13 @@ ghost use Rattle.serde_json.specs.View.{view, members_view};
 ghost use Rattle.run_data.specs.Data.{is_object, is_number, is_absent_or, is_list_of_numbers, is_shaped, is_among, is_name_of, members_at, keys_of, group_keys, misshapen_in, misshapen};
 ghost use Rattle.run_data.specs.Seen.{seen, first, has_name};
 
-use crate::find::{group_in, member, text_of};
+use crate::find::group_in;
 use crate::group::Group;
+use crate::json::{are_numbers, member, text_of};
 use serde_json::{Map, Value};
 use std::alloc::{AllocError, Global};
 use std::collections::HashMap;
 use tapa_base::{Port, Shape};
-
-fn are_numbers(values: &[Value]) -> bool
-    ensures { result ≡ list_all (λ value. is_number (view value)) values.now }
-{
-    values.iter().all(|value| value.is_number())
-}
 
 fn is_list_of_numbers(value: &Value) -> bool
     ensures { result ≡ is_list_of_numbers (view value.now) }

@@ -4,8 +4,9 @@ ghost use Rattle.serde_json.specs.View.{view};
 ghost use Rattle.run_data.specs.Data.{cells_in, most_cells_of_one, passing_from, oversized};
 ghost use Rattle.run_data.specs.Seen.{first};
 
-use crate::find::{group_in, items, member};
+use crate::find::group_in;
 use crate::group::Group;
+use crate::json::{items, member};
 use serde_json::Value;
 use std::alloc::{AllocError, Global};
 use tapa_base::{Port, Shape};

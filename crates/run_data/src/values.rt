@@ -3,8 +3,9 @@ ghost use Rattle.serde_json.specs.View.{view};
 ghost use Rattle.run_data.specs.Data.{bits_or_zero, is_ready, scalars_of, memories_of, waits_of};
 
 use crate::data::Data;
-use crate::find::{bits_of, group_in, items, member};
+use crate::find::{bits_of, group_in};
 use crate::group::Group;
+use crate::json::{items, member};
 use serde_json::Value;
 use std::alloc::{AllocError, Global};
 use tapa_base::Shape;

@@ -1,7 +1,7 @@
 use Rattle.std.proofs.Common.{map, sym, ap, ◌∙◌}
 use Rattle.serde_json.specs.View.{view}
 use Rattle.run_data.proofs.Views.{items_at-view}
-use Rattle.plan_device.proofs.json.items.Goals as goal
+use Rattle.run_data.proofs.json.items.Goals as goal
 
 pub returns-in-Some-as_array : goal.returns-in-Some-as_array
 returns-in-Some-as_array c =

@@ -1,5 +1,5 @@
 use Rattle.std.proofs.lemmas.Str.{IsUtf8-from_ascii}
-use Rattle.plan_device.proofs.json.text_of.Goals as goal
+use Rattle.run_data.proofs.json.text_of.Goals as goal
 
 -- ASCII is UTF-8
 pub returns-in-Err : goal.returns-in-Err
