@@ -10,7 +10,7 @@ tests/README.md says how cases are written.
 import os
 import sys
 
-from runner import circuits, crates, documents, endings, examples, inputs, pipelines, plans, reference, sessions, sources, texts, tools, values, words
+from runner import circuits, crates, documents, endings, examples, faults, house, icarus, inputs, limits, pipelines, plans, reference, sessions, sources, texts, tools, values, words
 from runner.trial import Trial
 
 
@@ -23,13 +23,17 @@ GROUPS = [
     ("values", values.try_all),
     ("words", words.try_all),
     ("endings", endings.try_all),
+    ("faults", faults.try_all),
     ("examples", examples.try_all),
     ("circuits", circuits.try_all),
     ("pipelines", pipelines.try_all),
+    ("limits", limits.try_all),
     ("reference", reference.try_all),
+    ("icarus", icarus.try_all),
     ("documents", documents.try_all),
     ("tools", tools.try_all),
     ("crates", crates.try_all),
+    ("house", house.try_all),
     ("messages", documents.try_messages),
 ]
 

@@ -1,14 +1,16 @@
 #!/usr/bin/env python3
 """Runs a circuit that `tapa build` wrote in Icarus Verilog, and prints the report that `tapa cosim` prints.
 
-    tools/icarus.py VTEXT [DATA] [--cycles N]
+    tools/icarus.py VTEXT [DATA] [--cycles N] [--dump F.vcd] [--bench F.v]
 
-Needs `iverilog` and `vvp` (11 or later). DATA is a data file (docs/DATA.md). A testbench is made in a folder of its own: reset in cycle 0, the scalars, and memories
-that answer within the cycle by their ready lists. Registers begin unknown, as IEEE 1364-2005 says.
+Needs `iverilog` and `vvp` (11 or later). DATA is a data file (docs/DATA.md). A testbench is made: reset in cycle 0, the scalars, and memories that answer within the cycle by
+their ready lists. Registers begin unknown, as IEEE 1364-2005 says. --dump writes a waveform of all nets, for GTKWave and others (docs/VERILOG.md, "A task's nets", says what
+they are; a cycle is 10 units of time), and --bench the testbench.
 """
 import json
 import os
 import re
+import shutil
 import subprocess
 import sys
 import tempfile
@@ -37,7 +39,7 @@ def memory_lines(name, bits, cells, ready):
     yield "end"
 
 
-def bench(text, data, cycles):
+def bench(text, data, cycles, dump=None):
     name, ports, wires = top_of(text)
     scalars = [(bits, port[2:]) for way, bits, port in ports if port.startswith("v_")]
     memories = [(dict((port, bits) for _, bits, port in ports)[f"m_{port[2:-4]}_rdata"], port[2:-4]) for _, _, port in ports if port.endswith("_ack")]
@@ -49,6 +51,8 @@ def bench(text, data, cycles):
     for bits, label in memories:
         yield from memory_lines(label, bits, cells[label], waits.get(label, []))
     yield f"{name} top (" + ", ".join(f".{port}({port})" for _, _, port in ports) + ");"
+    if dump:
+        yield f'initial begin $dumpfile("{dump}"); $dumpvars(0, bench); end'
     yield "initial begin clk = 0; cycle = 0; while (1) begin"
     yield "  rst = cycle == 0;"
     for _, label in memories:
@@ -88,11 +92,12 @@ def report(text, data, lines):
 
 
 def main(given):
-    cycles = "10000000"
-    if "--cycles" in given:
-        at = given.index("--cycles")
-        cycles = given[at + 1]
-        given = given[:at] + given[at + 2:]
+    options = {"--cycles": "10000000", "--dump": None, "--bench": None}
+    for name in options:
+        if name in given[:-1]:
+            at = given.index(name)
+            options[name] = given[at + 1]
+            given = given[:at] + given[at + 2:]
     if len(given) not in (2, 3):
         print(__doc__.strip(), file=sys.stderr)
         return 2
@@ -105,10 +110,12 @@ def main(given):
     with tempfile.TemporaryDirectory(prefix="tapa-icarus-") as folder:
         made, ran = os.path.join(folder, "bench.v"), os.path.join(folder, "bench")
         with open(made, "w", encoding="utf-8") as file:
-            file.write("\n".join(bench(text, data, int(cycles))) + "\n")
+            file.write("\n".join(bench(text, data, int(options["--cycles"]), options["--dump"])) + "\n")
+        if options["--bench"]:
+            shutil.copyfile(made, options["--bench"])
         subprocess.run(["iverilog", "-g2005", "-gno-xtypes", "-o", ran, given[1], made], check=True)
         said = subprocess.run(["vvp", "-n", ran], check=True, capture_output=True, text=True)
-    print("\n".join(report(text, data, said.stdout.splitlines())))
+    print("\n".join(report(text, data, [line for line in said.stdout.splitlines() if not line.startswith("VCD ")])))
     return 0
 
 

@@ -2,6 +2,7 @@
 import json
 import os
 import random
+import re
 import shlex
 
 from runner.examples import names
@@ -65,6 +66,19 @@ def try_circuit(trial, name):
         try_text(trial, name, words, with_waits(data, seed), ran, f"with memories that are not always ready, {seed}")
 
 
+def try_legend(trial):
+    """Each net of a task's module, in the texts of the examples and of the features, is in the legend of docs/VERILOG.md, with as many numbers."""
+    legend = read("docs/VERILOG.md").partition("## A task's nets")[2].partition("\n## ")[0]
+    known = {re.sub(r"_[A-Z]\b|_[A-Z](?=_)", "_#", name) for name in re.findall(r"`([a-z]+(?:_[A-Z])*)`", legend)}
+    for source, top in [(f"examples/{it}.cpp", None) for it in ("vector_add", "stencil", "run_length")] + [("tests/circuits/features.cpp", "Top"), ("tests/circuits/states.cpp", "T")]:
+        top = top or read(source).split("\n")[0].split()[4]
+        text = trial.run(["build", source, top], ROOT).out.decode()
+        leaves = re.findall(r"^module t_.*?^endmodule$", text, re.M | re.S)[:-1]
+        nets = {re.sub(r"_\d+\b|_\d+(?=_)", "_#", name) for leaf in leaves for name in re.findall(r"(?:wire|reg|input|output) (?:\[[^]]*\] )?([a-z]\w*)", leaf)}
+        trial.check_equal(f"nets of {source} that are not in the legend", nets - known - {"clk", "rst"}, set())
+
+
 def try_all(trial):
     for name in names():
         try_circuit(trial, name)
+    try_legend(trial)

@@ -11,9 +11,6 @@ import crates as listed  # noqa: E402
 # Pages whose words between ` and ` are names of the code.
 OF_NAMES = ("docs/PROMISES.md", "docs/READING.md")
 
-# The longest line of a crate in README.md.
-WIDTH = 160
-
 
 def texts_of_crates():
     """All sources and definitions of the crates, as one text."""
@@ -28,13 +25,14 @@ def texts_of_crates():
 
 
 def try_lists(trial):
-    """docs/ARCHITECTURE.md has each crate with its own first sentence, and README.md one short line for each."""
+    """docs/ARCHITECTURE.md has each crate with its own first sentence, and README.md a row for each room."""
     trial.check_equal("docs/ARCHITECTURE.md has the list of tests/crates.py", listed.listed(read("docs/ARCHITECTURE.md")), listed.text())
-    names = [name for _, crates in listed.rooms() for name in crates]
-    lines = {match[1]: match[0] for match in re.finditer(r"^- `(\w+)`: .*$", read("README.md"), re.M)}
-    trial.check_equal("README.md has a line for each crate, in the order of crates.txt", list(lines), names)
-    for name, line in lines.items():
-        trial.check(f"README.md: the line of {name} has at most {WIDTH} characters", len(line) <= WIDTH, f"   {len(line)}")
+    for room, crates in listed.rooms():
+        for name in crates:
+            trial.check(f"the crate {name} begins with a sentence that says what it is", listed.what_it_is(name).endswith("."))
+    rooms = [room.split(":")[0] for room, _ in listed.rooms()]
+    rows = re.findall(r"^\| ([\w ]+) \| .* \|$", read("README.md").partition("## What is proved, by room")[2].partition("\n\n**")[0], re.M)
+    trial.check_equal("README.md has a row for each room that has code, in the order of crates.txt", [row for row in rows if row != "room"], [room for room in rooms if not room.startswith("tests")])
 
 
 def try_names(trial):

@@ -72,6 +72,30 @@ def try_refusals(trial):
     trial.check("docs/REFUSALS.md and docs/LANGUAGE.md have the same codes", same == {h for h in headings if h[0] != "J"})
 
 
+# A row of docs/FROM_TAPA.md: words, where the texts stand, the refused one, its code, the accepted one.
+FROM_TAPA = re.compile(r"^\| ((?:`[^`]+`(?:, )?)+) \| (file|leaf|tasks) \| `([^`]*)` \| (\w+) \| `([^`]*)` \| [^|]+ \|$", re.M)
+
+
+def word_at(text, col):
+    """The word or sign at a column, and the word before it."""
+    at = re.match(r"\w+|\+\+|--|==|!=|[^\w]", text[col - 1:])
+    before = re.findall(r"\w+", text[: col - 1])
+    return {at[0] if at else "", before[-1] if before else ""}
+
+
+def try_from_tapa(trial):
+    """Each row of docs/FROM_TAPA.md: its code, one of its words at the place or before it, and what is accepted instead."""
+    rows = FROM_TAPA.findall(read("docs/FROM_TAPA.md"))
+    for words, name, refused, code, accepted in rows:
+        before, after = context(name)
+        told = trial.told(before + refused + after)
+        line, _, col = told.split(" ")[-1].partition(":")
+        is_there = line == "3" and col.isdigit() and word_at(refused, int(col)) & set(re.findall(r"`([^`]+)`", words))
+        trial.check(refused, code_of(told) == code and is_there, f"   {told}")
+        trial.check_equal(accepted, trial.told(before + accepted + after), "accepted")
+    trial.check("each row of docs/FROM_TAPA.md is tried", len(rows) == len(re.findall(r"^\|.* \| [PCL]\d+ \| ", read("docs/FROM_TAPA.md"), re.M)) >= 40, f"   {len(rows)}")
+
+
 def try_texts(trial):
     """The Verilog texts of docs/REFUSALS.md: `// text: V1 at LINE:COL`, `// text: CODE NAME`, or `// text: instead`."""
     shown = set()
@@ -154,6 +178,7 @@ def try_sessions(trial):
 def try_all(trial):
     try_language(trial)
     try_refusals(trial)
+    try_from_tapa(trial)
     try_texts(trial)
     try_data(trial)
     try_sessions(trial)

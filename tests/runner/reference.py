@@ -102,7 +102,9 @@ def try_beside(trial, name, run, lines):
 
 
 def sources():
-    return [f"tests/circuits/{name}" for name in sorted(os.listdir(os.path.join(TESTS, "circuits"))) if name.endswith(".cpp")]
+    """The sources of tests/circuits that the reference runs: those that have their data in the first line. It is too slow for the others."""
+    found = [f"tests/circuits/{name}" for name in sorted(os.listdir(os.path.join(TESTS, "circuits"))) if name.endswith(".cpp")]
+    return [name for name in found if re.match(r"// \w+ \{", read(name))]
 
 
 def numbers_of(values, ports):

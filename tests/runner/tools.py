@@ -44,6 +44,24 @@ From begin to end: 2 minutes 5 seconds.
 """
 
 
+# A source with streams of several kinds, one of them inside an upper-level task.
+SIGNS = """void P(tapa::ostream<int8_t>& x) { x << 255; x << 128; }
+void F(tapa::istream<int8_t>& x, tapa::ostream<uint8_t>& r) { x.read(); x.read(); r << 200; r.close(); }
+void C(tapa::istream<uint8_t>& r) { r.read(); r.open(); }
+void U(tapa::ostream<uint8_t>& r) { tapa::stream<int8_t, 4> x("x"); tapa::task().invoke(P, x).invoke(F, x, r); }
+void T() { tapa::stream<uint8_t> r; tapa::task().invoke(U, r).invoke(C, r); }
+"""
+
+# Sources, the word at the place that is told, and what explain.py then says.
+EXPLAINED_WORDS = [
+    ("void L(tapa::async_mmap<int> m) { }", "async_mmap", "`async_mmap` is not in the language here"),
+    ("void L() { ap_uint<5> x; }", "<", "`ap_uint` is not in the language here"),
+    ("int main() { return 0; }", "int", "has something of C++ that is not in it"),
+    ("void L(int n) { if (n == 0) { return; } }", "return", "`if` with `else`"),
+    ("void L(int n) { n = n + 1 }", "}", "missing `;`"),
+]
+
+
 def run_tool(name, *words, given=""):
     ran = subprocess.run([sys.executable, f"tools/{name}", *words], cwd=ROOT, input=given.encode(), capture_output=True, check=False)
     return ran.returncode, ran.stdout.decode(), ran.stderr.decode()
@@ -61,8 +79,16 @@ def try_explain(trial):
     for code in re.findall(r"`([LPCV]\d+) ", read("docs/COMMAND.md")):
         told = run_explain(trial, f"tapa: r.cpp:1:1: {code} x")
         trial.check(f"explain.py says why, and what instead, of {code}", told.count("      = ") >= 3, f"   {told}")
-    without = run_explain(trial, "tapa: cannot write")
-    trial.check_equal("explain.py on a message that needs no more", without, "tapa: cannot write\n")
+    for message in re.findall(r"^\| \d \| `(tapa: .*?)` \|", read("docs/COMMAND.md"), re.M):
+        told = message.replace("\\|", "|").replace("LINE:COL: CODE TEXT", "1:1: C1 unknown name")
+        trial.check(f"explain.py has a word on {told}", "\n      = " in run_explain(trial, told))
+    twice = run_tool("explain.py", given="tapa: A$0 waits to read q\ntapa: B$1 waits to write r\n")[1]
+    trial.check_equal("explain.py names the section on deadlocks once", twice, "tapa: A$0 waits to read q\ntapa: B$1 waits to write r\n      = docs/REFUSALS.md, Deadlock\n")
+    for source, word, wanted in EXPLAINED_WORDS:
+        told = trial.put("w.cpp", source)
+        col = source.index(word) + 1
+        shown = run_explain(trial, f"tapa: {told}:1:{col}: P1 unexpected token")
+        trial.check(f"explain.py on {source}", wanted in shown, f"   {shown}")
 
 
 def run_explain(trial, line):
@@ -85,6 +111,40 @@ def try_floorplan(trial):
         said = trial.run(["plan", f"examples/{source}.cpp", top, device], ROOT)
         _, drawn, err = run_tool("floorplan.py", trial.put("p.plan", said.out), device)
         trial.check(f"docs/{picture}.svg is drawn by floorplan.py", drawn == read(f"docs/{picture}.svg") and drawn.count("<rect") >= 6, f"   {err}")
+
+
+def try_graph(trial):
+    """The picture of README.md is what graph.py draws, and each example's circuit has a box for each task and an arrow for each stream."""
+    for name in sorted(os.listdir(os.path.join(ROOT, "examples"))):
+        if name.endswith(".cpp"):
+            source = f"examples/{name}"
+            top = read(source).split("\n")[0].split()[4]
+            text = trial.run(["build", source, top], ROOT).out.decode()
+            _, drawn, err = run_tool("graph.py", trial.put("g.v", text))
+            joined = [len(re.findall(rf"^  {module}[\w$]+ {front}_[\w$]+ \(", text, re.M)) for module, front in (("t_", "t"), ("channel_", "c"))]
+            boxes = [len(re.findall(r'<rect [^>]*height="40"', drawn)), drawn.count("<path d=") - 1]
+            trial.check(f"graph.py draws {name}", boxes == joined and joined[0] > 0, f"   {boxes} for {joined} {err}")
+            if name == "vector_add.cpp":
+                trial.check("docs/vector_add.svg is drawn by graph.py", drawn == read("docs/vector_add.svg"))
+
+
+def try_data_tools(trial):
+    """A template is a data file without faults; signed.py shows each number by its kind."""
+    for name in sorted(os.listdir(os.path.join(ROOT, "examples"))):
+        if name.endswith(".cpp"):
+            source = f"examples/{name}"
+            top = read(source).split("\n")[0].split()[4]
+            _, made, err = run_tool("template.py", source, top, "8")
+            said = trial.run(["run", source, top, trial.put("t.json", made), "--steps", "10000"], ROOT)
+            trial.check(f"the template of {name} is a data file of it", said.status in (0, 7, 8), f"   {said} {err}")
+    said = trial.run(["run", "examples/vector_add.cpp", "VecAdd", "examples/vector_add.json"], ROOT)
+    _, shown, _ = run_tool("signed.py", "examples/vector_add.cpp", "VecAdd", given=said.out.decode())
+    wanted = said.out.decode().replace("4294967246", "-50").replace("4294967251", "-45")
+    trial.check_equal("a report with signs", shown, wanted)
+    source = trial.put("s.cpp", SIGNS)
+    said = trial.run(["run", "s.cpp", "T"])
+    _, shown, _ = run_tool("signed.py", source, "T", given=said.out.decode())
+    trial.check_equal("signs of kinds, inside tasks too", shown, "stream r: 200 eot\nstream U$0$x: -1 -128\ndone 11\n")
 
 
 def try_editors(trial):
@@ -123,23 +183,59 @@ def with_terminal(words, folder):
     return ran.wait(), out.decode(), shown.decode().replace("\r\n", "\n")
 
 
+def repository(trial, name, has_program=True):
+    """A folder with what `./tapa` needs, and the program as if it had been proved there."""
+    folder = os.path.join(trial.folder.name, name)
+    os.makedirs(f"{folder}/crates/tapa_cli/out")
+    for file in ("tapa", "crates.txt", "tools/explain.py", "tools/unproved.py", "docs/REFUSALS.md", "docs/COMMAND.md", "docs/FROM_TAPA.md", "examples/refused/conditional_read.cpp", "examples/bad_token.cpp"):
+        os.makedirs(os.path.dirname(f"{folder}/{file}"), exist_ok=True)
+        shutil.copy(os.path.join(ROOT, file), f"{folder}/{file}")
+    if has_program:
+        shutil.copyfile(trial.program, f"{folder}/crates/tapa_cli/out/tapa_cli")
+        os.chmod(f"{folder}/crates/tapa_cli/out/tapa_cli", 0o755)
+    return folder
+
+
+def run_script(words, folder, path=None):
+    """A command without a terminal: its status, its output, and its lines of standard error."""
+    environment = {**os.environ, "PATH": path or os.environ["PATH"]}
+    ran = subprocess.run(words, cwd=folder, stdin=subprocess.DEVNULL, capture_output=True, text=True, check=False, env=environment)
+    return ran.returncode, ran.stdout, ran.stderr.splitlines()
+
+
 def try_script(trial):
     """`./tapa` explains on a terminal alone, and keeps statuses, output and bare messages."""
-    folder = os.path.join(trial.folder.name, "repository")
-    os.makedirs(f"{folder}/crates/tapa_cli/out")
-    for name in ("tapa", "crates.txt", "tools/explain.py", "docs/REFUSALS.md", "examples/refused/conditional_read.cpp", "examples/bad_token.cpp"):
-        os.makedirs(os.path.dirname(f"{folder}/{name}"), exist_ok=True)
-        shutil.copy(os.path.join(ROOT, name), f"{folder}/{name}")
-    shutil.copyfile(trial.program, f"{folder}/crates/tapa_cli/out/tapa_cli")
-    os.chmod(f"{folder}/crates/tapa_cli/out/tapa_cli", 0o755)
+    folder = repository(trial, "repository")
     words = ["./tapa", "run", "examples/refused/conditional_read.cpp", "Skip"]
+    bare = (1, "", EXPLAINED.split("\n")[:1])
     trial.check_equal("./tapa on a terminal", with_terminal(words, folder), (1, "", EXPLAINED))
-    ran = subprocess.run(words, cwd=folder, stdin=subprocess.DEVNULL, capture_output=True, check=False)
-    bare = (1, b"", EXPLAINED.split("\n")[0].encode() + b"\n")
-    trial.check_equal("./tapa without a terminal", (ran.returncode, ran.stdout, ran.stderr), bare)
+    trial.check_equal("./tapa without a terminal", run_script(words, folder), bare)
     told = "tapa: Consumer$1 bad token on numbers\n      = docs/REFUSALS.md, Deadlock\n"
     wanted = (8, read("examples/bad_token.out"), told)
     trial.check_equal("./tapa with a report", with_terminal(["./tapa", "run", "examples/bad_token.cpp", "BadToken"], folder), wanted)
+    os.makedirs(f"{folder}/below/bin")
+    os.symlink("../../tapa", f"{folder}/below/bin/tapa")
+    trial.check_equal("./tapa by a symbolic link", run_script(["below/bin/tapa", *words[1:]], folder), bare)
+
+
+def try_unproved(trial):
+    """Where there is no proved program, `./tapa` runs the unproved one that was built of the sources, and says so in each call; where there is none, it
+    says what is missing, with a status of its own."""
+    folder = repository(trial, "unproved", has_program=False)
+    words = ["./tapa", "run", "examples/refused/conditional_read.cpp", "Skip"]
+    missing = run_script(words, folder, path="/usr/bin:/bin")
+    trial.check("./tapa without the kit", missing[:2] == (125, "") and "Rattle kit" in missing[2][0], f"   {missing}")
+    os.makedirs(f"{folder}/out/unproved")
+    with open(f"{folder}/out/unproved/stamp", "w", encoding="utf-8") as file:
+        file.write(os.path.abspath(trial.program) + "\n")
+    said = run_script(words, folder)
+    trial.check("./tapa says that what runs is unproved", said[:2] == (1, "") and said[2][0].startswith("tapa: UNPROVED: "), f"   {said}")
+    trial.check_equal("./tapa with an unproved program tells what is told", said[2][1:], EXPLAINED.split("\n")[:1])
+    shutil.copy(f"{folder}/tapa", f"{folder}/below")
+    os.makedirs(f"{folder}/other")
+    shutil.move(f"{folder}/below", f"{folder}/other/tapa")
+    copied = run_script([f"{folder}/other/tapa", *words[1:]], folder)
+    trial.check("a copy of ./tapa without its sources says so", copied[:2] == (125, "") and "has no sources" in copied[2][0], f"   {copied}")
 
 
 def run_gate(folder, has_rows, gate, rows, cases, has_program=True):
@@ -177,6 +273,9 @@ def try_all(trial):
     try_explain(trial)
     try_gate(trial)
     try_script(trial)
+    try_unproved(trial)
     try_gate_seconds(trial)
     try_floorplan(trial)
+    try_graph(trial)
+    try_data_tools(trial)
     try_editors(trial)

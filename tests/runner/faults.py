@@ -1,0 +1,191 @@
+"""What the system's side does under `build`, `plan` and `cosim`, as runner/endings.py has it for `run`: full devices, closed pipes, files cut short, pipes and folders as
+files, reads that fail, files that are not there, too little memory."""
+import os
+import resource
+import socket
+import subprocess
+import threading
+
+SOURCE = """void P(tapa::mmap<const int> a, tapa::ostream<int>& q) { for (int i = 0; i < 3; ++i) q << a[i]; }
+void C(tapa::istream<int>& q) { q.read(); q.read(); q.read(); }
+void T(tapa::mmap<const int> a) { tapa::stream<int> q; tapa::task().invoke(P, a, q).invoke(C, q); }
+"""
+DATA = '{"memories": {"a": [7, 8, 9]}}'
+DEVICE = '{"rows": 1, "cols": 2, "slots": [{"LUT": 900, "FF": 900}, {"LUT": 900, "FF": 900}], "pins": {"P$0": [0, 0], "C$1": [0, 1]}}'
+SMALL = '{"rows": 1, "cols": 1, "slots": [{}]}'
+REPORT = b"stream q: 7 8 9\nmemory a: 7 8 9\n"
+
+# Each command that writes to the output, by its files.
+WHOLE = [["cosim", "x.v", "d.json"], ["build", "r.cpp", "T"], ["build", "r.cpp", "T", "--device", "v.json"], ["plan", "r.cpp", "T", "v.json"], ["plan", "r.cpp", "T", "v.json", "--plan", "exact"]]
+
+# Commands that are refused, by what they then tell.
+REFUSED = {
+    "tapa: no.v:1:1: V1 no text of the subset\n": ["cosim", "no.v"],
+    "tapa: {}: J2 memories.a\n": ["cosim", "x.v"],
+    "tapa: no.json: J2 .\n": ["cosim", "x.v", "no.json"],
+    "tapa: r.cpp:1:1: C1 unknown name\n": ["build", "r.cpp", "U"],
+    "tapa: no.cpp:1:1: P1 unexpected token\n": ["build", "no.cpp", "T"],
+    "tapa: no.json: J2 .\n ": ["build", "r.cpp", "T", "--device", "no.json"],
+    "tapa: no.json: J2 .\n  ": ["plan", "r.cpp", "T", "no.json"],
+    "tapa: no room for P$0\n": ["plan", "r.cpp", "T", "small.json"],
+    "tapa: no plan within capacity\n": ["build", "r.cpp", "T", "--device", "small.json", "--plan", "exact"],
+}
+
+
+def put_files(trial):
+    for name, text in (("r.cpp", SOURCE), ("no.cpp", "return"), ("d.json", DATA), ("v.json", DEVICE), ("small.json", SMALL), ("no.json", "[]"), ("no.v", "no")):
+        trial.put(name, text)
+    trial.put("x.v", trial.run(["build", "r.cpp", "T"]).out)
+
+
+def is_told(said, status, line, out=b""):
+    return (said.status, said.out, said.err) == (status, out, line.encode())
+
+
+def try_refused(trial):
+    """Each refusal with its status, and with status 6 where it cannot be told."""
+    for line, words in REFUSED.items():
+        status = 4 if "room" in line or "plan" in line else 3 if ": J" in line else 1
+        said = trial.run(words)
+        trial.check(f"{words} is refused", is_told(said, status, line.rstrip(" ")), f"   {said}")
+        if os.path.exists("/dev/full"):
+            with open("/dev/full", "wb") as full:
+                said = trial.run(words, stderr=full)
+            trial.check(f"standard error is full: {words}", (said.status, said.out) == (6, b""), f"   {said}")
+
+
+def try_full(trial, words, whole):
+    """The output is full, nobody reads it any more, or it ends after some bytes: status 6, and a front of the text."""
+    if os.path.exists("/dev/full"):
+        with open("/dev/full", "wb") as full:
+            said = trial.run(words, stdout=full)
+        trial.check(f"the output is full: {words}", is_told(said, 6, "tapa: cannot write\n"), f"   {said}")
+    reader, writer = os.pipe()
+    os.close(reader)
+    said = trial.run(words, stdout=writer)
+    os.close(writer)
+    trial.check(f"nobody reads the output: {words}", is_told(said, 6, "tapa: cannot write\n"), f"   {said}")
+    path = os.path.join(trial.folder.name, "cut")
+    for most in (0, 1, len(whole) // 2, len(whole) - 1):
+        with open(path, "wb") as file:
+            said = trial.run(words, stdout=file, before=lambda: resource.setrlimit(resource.RLIMIT_FSIZE, (most, most)))
+        with open(path, "rb") as file:
+            cut = file.read()
+        trial.check(f"the output ends after {most} bytes: {words}", said.status == 6 and whole.startswith(cut) and len(cut) <= most, f"   {said} {cut[-60:]}")
+
+
+def pieces_of(trial, words, to_error=False):
+    """What a command writes, write by write: a socket that keeps messages apart stands for its output, or for its standard error."""
+    ours, theirs = socket.socketpair(socket.AF_UNIX, socket.SOCK_SEQPACKET)
+    found = []
+
+    def listen():
+        while True:
+            piece = ours.recv(1 << 20)
+            if not piece:
+                return
+            found.append(piece)
+
+    listener = threading.Thread(target=listen)
+    listener.start()
+    said = trial.run(words, **({"stderr": theirs} if to_error else {"stdout": theirs}))
+    theirs.close()
+    listener.join()
+    ours.close()
+    return said, found
+
+
+def try_lines(trial):
+    """Each write has one line, with one LF, at its end: of reports, circuits, plans and messages."""
+    for words in [["run", "r.cpp", "T", "d.json"], *WHOLE]:
+        whole = trial.run(words).out
+        _, found = pieces_of(trial, words)
+        trial.check(f"{words}: a line a write", found == whole.splitlines(keepends=True), f"   {found[:5]}")
+    for words in REFUSED.values():
+        whole = trial.run(words).err
+        _, found = pieces_of(trial, words, to_error=True)
+        trial.check(f"{words}: a message a write", found == whole.splitlines(keepends=True), f"   {found[:5]}")
+
+
+def try_undone(trial):
+    """A simulation past its cycles leaves its report and status 7; where the report or the message cannot be written, 6."""
+    words = ["cosim", "x.v", "d.json", "--cycles", "2"]
+    said = trial.run(words)
+    wanted = (7, b"stream q:\nmemory a: 7 8 9\nrunning 2\n", b"tapa: not done after 2 cycles\n")
+    trial.check_equal("a simulation past its cycles", (said.status, said.out, said.err), wanted)
+    if os.path.exists("/dev/full"):
+        with open("/dev/full", "wb") as full:
+            trial.check("its report cannot be written", is_told(trial.run(words, stdout=full), 6, "tapa: cannot write\n"))
+            said = trial.run(words, stderr=full)
+            trial.check("its message cannot be written", (said.status, said.out) == (6, wanted[1]), f"   {said}")
+
+
+def try_pipes(trial, words, whole):
+    """Each file, and all at once, as a pipe: it is read once, whole, and in its turn."""
+    files = [word for word in words if "." in word]
+    for chosen in [*([file] for file in files), files]:
+        named = [f"pipe_{word}" if word in chosen else word for word in words]
+        for file in chosen:
+            os.mkfifo(os.path.join(trial.folder.name, f"pipe_{file}"))
+        feeds = "; ".join(f"cat {file} > pipe_{file}" for file in chosen)
+        writer = subprocess.Popen(["sh", "-c", f"exec 2>&-; {feeds}"], cwd=trial.folder.name)
+        said = trial.run(named)
+        writer.kill()
+        writer.wait()
+        trial.check(f"pipes: {named}", is_told(said, 0, "", whole), f"   {said}")
+        for file in chosen:
+            os.remove(os.path.join(trial.folder.name, f"pipe_{file}"))
+
+
+def try_unread(trial, words):
+    """A file that is not there, a folder, and a file of which the system refuses to read: status 5, and nothing is written."""
+    for word in [word for word in words if "." in word]:
+        for other in ("none", "/", *(["/proc/self/mem"] if os.path.exists("/proc/self/mem") else [])):
+            named = [other if it == word else it for it in words]
+            said = trial.run(named)
+            trial.check(f"{named}", is_told(said, 5, f"tapa: cannot read {other}\n"), f"   {said}")
+
+
+def try_little_memory(trial, words, whole):
+    """Under a limit on memory a command ends well, or says that memory is out and has written a front of its text; one of the limits is too little."""
+    short, has_begun = 0, False
+    for quarter in (*range(8, 40), 48, 64, 128, 256, 512):
+        limit = (quarter << 18, quarter << 18)
+        said = trial.run(words, before=lambda: resource.setrlimit(resource.RLIMIT_AS, limit))
+        if b"AddressSanitizer" in said.err:
+            trial.note("a build with a sanitizer has no limit on memory, so too little memory was not tried")
+            return
+        is_short = said.status == 9 and said.err == b"tapa: out of memory\n" and whole.startswith(said.out)
+        is_whole = is_told(said, 0, "", whole)
+        has_begun = has_begun or is_short or is_whole
+        short += is_short
+        if has_begun:
+            trial.check(f"{words} with {quarter * 256} KB", is_short or is_whole, f"   {said.status} {said.err}")
+    trial.check(f"{words}: one of the limits is too little", short)
+
+
+def try_all(trial):
+    put_files(trial)
+    try_refused(trial)
+    try_lines(trial)
+    try_undone(trial)
+    for words in WHOLE:
+        said = trial.run(words)
+        trial.check(f"{words}", said.status == 0 and said.err == b"" and (words[0] != "cosim" or said.out.startswith(REPORT)), f"   {said}")
+        try_full(trial, words, said.out)
+        try_pipes(trial, words, said.out)
+        try_unread(trial, words)
+    put_large(trial)
+    for words in (["cosim", "l.v", "l.json"], ["build", "l.cpp", "T"], ["build", "l.cpp", "T", "--device", "l_device.json"], ["plan", "l.cpp", "T", "l_device.json"]):
+        try_little_memory(trial, words, trial.run(words).out)
+
+
+def put_large(trial):
+    """A source, data and a device that take some megabytes."""
+    names = [f"q{number}" for number in range(250)]
+    pairs = "".join(f".invoke(P, {name}).invoke(C, {name})" for name in names)
+    trial.put("l.cpp", "void P(tapa::ostream<int>& q) { for (int i = 0; i < 20; ++i) q << i; }\nvoid C(tapa::istream<int>& q) { for (int i = 0; i < 20; ++i) q.read(); }\n"
+              f"void T() {{ {''.join(f'tapa::stream<int, 2000> {name}; ' for name in names)}tapa::task(){pairs}; }}\n")
+    trial.put("l_device.json", '{"rows": 1, "cols": 1, "slots": [{"LUT": 4000000000, "FF": 4000000000}], "percent": 100, "pins": {}}')
+    trial.put("l.v", trial.run(["build", "l.cpp", "T"]).out)
+    trial.put("l.json", "{" + " " * 2_000_000 + "}")
