@@ -202,7 +202,7 @@ def pattern(message):
 def told_by_code():
     """The texts in the code of the crates that go to standard error: whole messages, and the texts of codes."""
     found = set()
-    for crate in ("command_files", "run_program", "tapa_cli"):
+    for crate in ("command_source", "run_program", "tapa_cli"):
         folder = f"crates/{crate}/src"
         for name in sorted(os.listdir(os.path.join(ROOT, folder))):
             text = read(f"{folder}/{name}")
