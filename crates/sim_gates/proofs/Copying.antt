@@ -15,7 +15,7 @@ use Rattle.sim_tape.specs.Tape.{pair_value}
 use Rattle.sim_gates.specs.Nets.{IsAtom}
 use Rattle.sim_gates.proofs.AtomSlots.{atom_range}
 use Rattle.sim_gates.proofs.Pairs.{fits_word}
-use Rattle.sim_gates.proofs.Parts.{join_fits}
+use Rattle.sim_gates.proofs.ReadParts.{join_fits}
 use Rattle.sim_gates.proofs.Operands.{copy_fits, narrow_is}
 use Rattle.sim_gates.proofs.Operated.{word_below}
 

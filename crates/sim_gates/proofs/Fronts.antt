@@ -20,7 +20,7 @@ use Rattle.sim_tape.specs.Tape.{TapeTree, IsTape, Extends, PairBefore, pair_valu
 use Rattle.sim_tape.proofs.Growing.{extends_refl, extends_twice, solved_on}
 use Rattle.sim_gates.specs.Nets.{HavePairs, IsAtom, Told}
 use Rattle.sim_gates.proofs.Pairs.{nothing}
-use Rattle.sim_gates.proofs.Parts.{join_fits}
+use Rattle.sim_gates.proofs.ReadParts.{join_fits}
 use Rattle.sim_gates.specs.declared.joining.Front.{Front}
 use Rattle.sim_gates.specs.Drivers.{IsDriven}
 

@@ -11,7 +11,7 @@ use Rattle.sim_tape.specs.Operators.{Cells, cell_in}
 use Rattle.sim_tape.specs.Tape.{number_at, pair_value}
 use Rattle.sim_gates.specs.Nets.{ShowsMemories, ShowsNets, pair_in}
 use Rattle.sim_gates.proofs.Pairs.{fits_word, low_is}
-use Rattle.sim_gates.proofs.Parts.{high_is_none, low_alone}
+use Rattle.sim_gates.proofs.ReadParts.{high_is_none, low_alone}
 use Rattle.sim_gates.specs.Drivers.{cell_at}
 
 -- a cell at a place of 64 bits

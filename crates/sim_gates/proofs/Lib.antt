@@ -1,5 +1,5 @@
 pub mod Operating
-pub mod Parts
+pub mod ReadParts
 pub mod Pairs
 pub mod AtomSlots
 pub mod Operands

@@ -47,7 +47,7 @@ use Rattle.vlog_ref_cycle.proofs.Within.{number_is}
 use Rattle.vlog_ref_start.specs.Whole.{HoldsAll, IsWhole}
 use Rattle.vlog_ref_start.proofs.Deeper.{IsFound, IsGiven, all_found, found_by, number_answered, same_answered}
 use Rattle.vlog_ref_start.proofs.Searched.{assigned_there, output_there, output_found, joined_there}
-use Rattle.vlog_ref_start.proofs.Outside.{input_given}
+use Rattle.vlog_ref_start.proofs.OutsideNets.{input_given}
 use Rattle.vlog_ref_start.proofs.Driven.{drives, driver_number}
 
 le_test : (w : ℕ) → w ≤ 128 → nat_le w 128 ≡ true

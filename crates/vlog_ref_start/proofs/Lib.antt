@@ -1,6 +1,6 @@
 pub mod Deeper
 pub mod Searched
-pub mod Outside
+pub mod OutsideNets
 pub mod Driven
 pub mod FoundNets
 pub mod Kept

@@ -1,6 +1,6 @@
 use Rattle.std.proofs.Common.{◌∙◌}
 use Rattle.sim_tape.specs.Tape.{number_at}
-use Rattle.sim_gates.proofs.Parts.{all_bits}
+use Rattle.sim_gates.proofs.ReadParts.{all_bits}
 use Rattle.sim_gates.proofs.Pairs.{single}
 use Rattle.sim_gates.proofs.atoms.short_part.Goals as goal
 

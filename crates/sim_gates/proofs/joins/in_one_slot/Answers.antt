@@ -2,7 +2,7 @@ use Rattle.std.proofs.Common.{◌^◌, ◌∙◌}
 use Rattle.sim_tape.specs.Tape.{number_at, pair_value}
 use Rattle.sim_tape.proofs.Growing.{solved_on}
 use Rattle.sim_gates.proofs.Pairs.{single, low_is, join_says}
-use Rattle.sim_gates.proofs.Parts.{parts_low}
+use Rattle.sim_gates.proofs.ReadParts.{parts_low}
 use Rattle.sim_gates.proofs.joins.in_one_slot.Goals as goal
 
 pub returns-clause-says : goal.returns-clause-says

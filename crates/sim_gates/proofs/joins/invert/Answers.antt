@@ -1,7 +1,7 @@
 use Rattle.std.proofs.Common.{◌+◌, ◌-◌, ◌*◌, ◌^◌, ◌<◌, ◌≤◌, sym, ap, subst, ◌∙◌, arith}
 use Rattle.sim_tape.specs.Tape.{number_at, pair_value}
 use Rattle.sim_tape.proofs.Growing.{solved_on}
-use Rattle.sim_gates.proofs.Parts.{complement_halves}
+use Rattle.sim_gates.proofs.ReadParts.{complement_halves}
 use Rattle.sim_gates.proofs.Pairs.{single, low_is, fits_word, high_below}
 use Rattle.sim_gates.proofs.joins.invert.Goals as goal
 

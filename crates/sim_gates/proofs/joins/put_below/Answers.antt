@@ -1,6 +1,6 @@
 use Rattle.std.proofs.Common.{◌≡◌, ◌+◌, ◌*◌, ◌^◌, ◌<◌, sym, ap, ◌∙◌, arith}
 use Rattle.sim_tape.specs.Tape.{number_at, pair_value}
-use Rattle.sim_gates.proofs.Parts.{join_fits}
+use Rattle.sim_gates.proofs.ReadParts.{join_fits}
 use Rattle.sim_gates.proofs.Pairs.{low_is, none_above, fits_word, both_fit_word}
 use Rattle.sim_gates.proofs.joins.put_below.Goals as goal
 
