@@ -19,7 +19,7 @@ use Rattle.slot_plan.specs.declared.floorplan.Mode.TheVariants.{Exact, Fit}
 use Rattle.slot_plan.specs.declared.floorplan.Plan.{Plan}
 use Rattle.slot_plan.specs.declared.floorplan.PlanFault.TheVariants.{NoFit, TooMany}
 use Rattle.slot_plan.specs.Causes.{IsPlanBy, IsCause, AreUsed}
-use Rattle.slot_plan.specs.Plan.{cost}
+use Rattle.slot_plan.specs.Plan.{IsPlanOf, cost}
 use Rattle.plan_report.specs.Added.{AreAdded}
 use Rattle.plan_report.specs.Borders.{AreBorderLatencies}
 use Rattle.plan_report.specs.Lines.{plan_lines}
@@ -42,8 +42,9 @@ pub record AreLinesOf (graph : Graph) (device : Device) (plan : Plan) (lines : L
   pub best : IsBalance graph latencies balance
   pub told : lines ≡ plan_lines graph device plan latencies balance
 
--- the plan is one by a mode, with what its slots use and what it costs
+-- the plan keeps the pins and the capacities and is one by a mode, with what its slots use and what it costs
 pub record IsFound (graph : Graph) (device : Device) (mode : Mode) (plan : Plan) : Type 0 where
+  pub fits : IsPlanOf graph device plan.slot.items
   pub by : IsPlanBy graph device mode plan.slot.items
   pub used : AreUsed graph device plan.slot.items plan.used.items
   pub cost : plan.cost ≡ cost graph device plan.slot.items

@@ -7,7 +7,7 @@ pub mod verdict;
 
 ghost use Rattle.std.specs.Prelude.{◌≡◌, ◌<◌, ◌+◌, ℕ, slice_index};
 ghost use Rattle.flow_cert.specs.Flow.{WeakDuality};
-ghost use Rattle.flow_cert.specs.Walks.{LeastOfConsistent};
+ghost use Rattle.flow_cert.specs.Walks.{EvenIsConsistent, LeastOfConsistent};
 ghost use Rattle.flow_cert.specs.Verdicts.{IsVerdict, Proves, AreLists};
 
 use crate::verdict::Verdict;
@@ -48,6 +48,11 @@ pub fn check(graph: &Graph, lat: &[u32], s: &[u32], flow: &[u64]) -> Verdict
 /// No dual flow's value is above the cost of an even balance, so equal values show that both are best.
 pub fn law_weak_duality()
     ensures { WeakDuality }
+{}
+
+/// With an even balance any two walks between the same tasks take equally long: it gives them the same added latency.
+pub fn law_even_is_consistent()
+    ensures { EvenIsConsistent }
 {}
 
 /// Where some task reaches every other task, no balance that gives equal added latency to any two

@@ -7,5 +7,6 @@ pub mod Pinned
 pub mod Checks
 pub mod Faults
 pub mod Meaning
+pub mod One
 pub mod Ranges
 pub mod Uses

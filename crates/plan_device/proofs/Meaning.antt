@@ -51,11 +51,10 @@ module _ (program : Program) (graph : Graph) (file : Json) (device : Device) (of
       ap length m.slots ∙ as_many_slots file ((grid_of file).rows * (grid_of file).cols) (slots_right (names_of program) file (grid_of file) (format_of file) right.inside)
       ∙ ap (λ r. r * (grid_of file).cols) (sym m.rows) ∙ ap (λ c. device.rows * c) (sym m.cols)
 
-  pub is_device : length device.pins.items ≡ graph.groups → length device.forbidden.items ≡ (grid_of file).rows * (grid_of file).cols
-      → ((g s : ℕ) → get_or device.pins.items g None ≡ Some s → s < (grid_of file).rows * (grid_of file).cols)
+  pub is_device : ((g s : ℕ) → get_or device.pins.items g None ≡ Some s → s < (grid_of file).rows * (grid_of file).cols)
       → All (λ n. n ≤ 16) device.levels_rows.items → All (λ n. n ≤ 16) device.levels_cols.items → 0 < device.percent → device.percent ≤ 100
       → ((s k : ℕ) → amount_at device.slots.items s k < 2 ^ 32) → IsDevice graph device
-  is_device as_many marks inside few_rows few_cols some_percent most_percent small = record {
+  is_device inside few_rows few_cols some_percent most_percent small = record {
     some_rows = subst (λ n. 0 < n) (sym m.rows) some_of_rows;
     few_rows = subst (λ n. n ≤ 8) (sym m.rows) few_of_rows;
     some_cols = subst (λ n. 0 < n) (sym m.cols) some_of_cols;
@@ -67,8 +66,8 @@ module _ (program : Program) (graph : Graph) (file : Json) (device : Device) (of
     some_percent = some_percent;
     percent = most_percent;
     slots = as_many_slots_of;
-    forbidden = marks ∙ ap (λ r. r * (grid_of file).cols) (sym m.rows) ∙ ap (λ c. device.rows * c) (sym m.cols) ∙ sym as_many_slots_of;
-    pins = as_many;
+    forbidden = m.each_slot;
+    pins = m.each_group;
     pins_inside = λ v s at.
         let pinned = get_or_from_slice_get device.pins.items v (Some s) None at in
         subst (λ n. s < n) (ap (λ r. r * (grid_of file).cols) (sym m.rows) ∙ ap (λ c. device.rows * c) (sym m.cols) ∙ sym as_many_slots_of) (inside v s pinned);
@@ -97,6 +96,9 @@ pub borders_by : (format : Format) (grid : Grid) (file : Json) (k : Key) (count 
 borders_by format grid file k count levels is_format is_grid is = is ∙ ap (λ (f : Format). borders f k (count grid) file) is_format ∙ ap (λ (g : Grid). borders (format_of file) k (count g) file) is_grid
 
 module _ (program : Program) (graph : Graph) (file : Json) (device : Device) (placed : Placed) (format : Format) (grid : Grid) (is_format : format ≡ format_of file) (is_grid : grid ≡ grid_of file) (right : AreKeysRight program file) (of_placed : IsPlaced program graph file placed) where
+  marks_of : device.slots.items ≡ slots_of file → length device.slots.items ≡ length placed.forbidden.items
+  marks_of slots = ap length slots ∙ as_many_marks program file right ∙ sym of_placed.slots
+
   pub meaning_of : device.rows ≡ grid.rows → device.cols ≡ grid.cols → device.levels_rows.items ≡ borders format LevelsRows grid.rows file → device.levels_cols.items ≡ borders format LevelsCols grid.cols file → device.percent ≡ percent_of file
       → device.slots.items ≡ slots_of file → device.uses.items ≡ uses_of program file → device.pins.items ≡ placed.groups.items → device.forbidden.items ≡ placed.forbidden.items → IsMeaning program graph file device
   meaning_of rows cols row_levels col_levels percent slots uses pins marks = record {
@@ -107,8 +109,8 @@ module _ (program : Program) (graph : Graph) (file : Json) (device : Device) (pl
     percent = percent;
     slots = slots;
     uses = uses;
+    each_group = ap length pins ∙ of_placed.as_many;
     pins = λ g s inside. subst (λ (l : List (Option ℕ)). (get_or l g None ≡ Some s) ↔ IsPinned (pins_of (grid_of file) program file) graph.group.items g s) (sym pins) (of_placed.pinned g s inside);
-    forbidden = λ s less.
-        let as_many = ap length slots ∙ as_many_marks program file right ∙ sym of_placed.slots in
-        ap (λ (l : List Bool). get_or l s false) marks ∙ of_placed.forbidden s (subst (λ n. s < n) as_many less);
+    each_slot = ap length marks ∙ sym (marks_of slots);
+    forbidden = λ s less. ap (λ (l : List Bool). get_or l s false) marks ∙ of_placed.forbidden s (subst (λ n. s < n) (marks_of slots) less);
   }

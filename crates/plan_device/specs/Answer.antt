@@ -15,7 +15,7 @@ use Rattle.plan_device.specs.declared.fault.DeviceFault.{DeviceFault}
 use Rattle.plan_device.specs.declared.fault.DeviceFault.TheVariants.{J1, J2, J3, K1, K2, K3, K4, OutOfMemory}
 use Rattle.plan_device.specs.declared.key.Key.TheVariants.{LevelsRows, LevelsCols}
 
--- the device is what the JSON value gives
+-- the device is what the JSON value gives, with a pin or none for each group and a mark for each slot
 pub record IsMeaning (program : Program) (graph : Graph) (file : Json) (device : Device) : Type 0 where
   pub rows : device.rows ≡ (grid_of file).rows
   pub cols : device.cols ≡ (grid_of file).cols
@@ -24,7 +24,9 @@ pub record IsMeaning (program : Program) (graph : Graph) (file : Json) (device :
   pub percent : device.percent ≡ percent_of file
   pub slots : device.slots.items ≡ slots_of file
   pub uses : device.uses.items ≡ uses_of program file
+  pub each_group : length device.pins.items ≡ graph.groups
   pub pins : (g s : ℕ) → g < graph.groups → (get_or device.pins.items g None ≡ Some s) ↔ IsPinned (pins_of (grid_of file) program file) graph.group.items g s
+  pub each_slot : length device.forbidden.items ≡ length device.slots.items
   pub forbidden : (s : ℕ) → s < length device.slots.items → get_or device.forbidden.items s false ≡ is_forbidden (grid_of file) file s
 
 -- the text is JSON and has no fault, and the device is what it gives

@@ -11,3 +11,4 @@ pub mod Answer
 pub mod Checked
 pub mod Contents
 pub mod Devices
+pub mod One

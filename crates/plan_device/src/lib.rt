@@ -11,6 +11,7 @@ mod find;
 mod grid;
 mod json;
 mod key;
+mod laws;
 mod misshapen;
 mod names;
 mod passes;

@@ -4,7 +4,7 @@ ghost use Rattle.std.specs.Arc.{arc_value};
 ghost use Rattle.tapa_files.specs.Outside.{Rose};
 ghost use Rattle.tapa_syntax.specs.WellFormed.{IsWellFormed};
 ghost use Rattle.kahn_model.specs.Fits.{FitsInput};
-ghost use Rattle.run_program.specs.Ending.{EndsSo, HasPart};
+ghost use Rattle.run_program.specs.Ending.{EndsSo, HasFront, HasPart};
 ghost use Rattle.net_core.specs.Bounded.{scalars_of, memories_of};
 ghost use Rattle.run_program.specs.Fresh.{IsFresh};
 ghost use Rattle.run_program.specs.Run.{values_of};
@@ -59,6 +59,7 @@ fn drive<O: Sink>(
     requires limit { limit ≤ 1000000000000 }
     ensures end { IfOk result (λ end. EndsSo program.now (values_of input.now) limit (O.contents out.old) (O.contents out.new) end) }
     ensures part { OnErr result (HasPart program.now (values_of input.now) limit (O.contents out.old) (O.contents out.new)) }
+    ensures front { IsErrOf result PrintFault.WriteFault → HasFront program.now (values_of input.now) limit (O.contents out.old) (O.contents out.new) }
     ensures later { O.faults out.old ≤ O.faults out.new }
     ensures fault { IsErrOf result PrintFault.WriteFault → Rose (O.faults out.old) (O.faults out.new) }
 {
@@ -78,7 +79,8 @@ fn drive<O: Sink>(
 
 /// Runs a program on an input on one thread at its declared depths, and writes the report: what each stream carried, the last
 /// cells of each memory, and the ticks of the joined instances. All joined instances together make at most `limit` ticks, and
-/// each detached one as many of its own. After an error the output holds what it held and a front part of the report.
+/// each detached one as many of its own. After an error the output holds what it held and a front part of the report; a
+/// write fails only where there is a report.
 pub fn run_program<O: Sink>(
     alloc: Global,
     program: Program,
@@ -91,6 +93,7 @@ pub fn run_program<O: Sink>(
     requires limit { limit ≤ 1000000000000 }
     ensures end { IfOk result (λ end. EndsSo program (values_of input) limit (O.contents out.old) (O.contents out.new) end) }
     ensures part { OnErr result (HasPart program (values_of input) limit (O.contents out.old) (O.contents out.new)) }
+    ensures front { IsErrOf result PrintFault.WriteFault → HasFront program (values_of input) limit (O.contents out.old) (O.contents out.new) }
     ensures later { O.faults out.old ≤ O.faults out.new }
     ensures fault { IsErrOf result PrintFault.WriteFault → Rose (O.faults out.old) (O.faults out.new) }
 {

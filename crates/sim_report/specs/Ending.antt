@@ -18,7 +18,10 @@ abbrev pub EndsSo : DesignTree → Environment → ℕ → Option (List ℕ) →
 EndsSo design env limit old new Done = (at : ℕ) × (report : List ℕ) × IsSimulated design env limit (Some at) report × Appends old new report
 EndsSo design env limit old new Running = (report : List ℕ) × IsSimulated design env limit None report × Appends old new report
 
+-- a front part of the report was written, or of it nothing yet
+abbrev pub HasFront : DesignTree → Environment → ℕ → Option (List ℕ) → Option (List ℕ) → Type 0
+HasFront design env limit old new = (done_at : Option ℕ) × (report : List ℕ) × IsSimulated design env limit done_at report × AppendsPart old new report
+
 -- nothing was written, or a front part of the report
 abbrev pub HasPart : DesignTree → Environment → ℕ → Option (List ℕ) → Option (List ℕ) → Type 0
-HasPart design env limit old new =
-    (new ≡ old) ⊎ ((done_at : Option ℕ) × (report : List ℕ) × IsSimulated design env limit done_at report × AppendsPart old new report)
+HasPart design env limit old new = (new ≡ old) ⊎ HasFront design env limit old new

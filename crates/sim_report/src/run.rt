@@ -6,7 +6,7 @@ ghost use Rattle.vlog_tree.specs.Environment.{FitsShape, shape_of};
 ghost use Rattle.vlog_tree.specs.Form.{ModuleTree};
 ghost use Rattle.vlog_design.specs.Designs.{TopOf};
 ghost use Rattle.vlog_design.specs.Environments.{environment_of};
-ghost use Rattle.sim_report.specs.Ending.{EndsSo, HasPart, end_of};
+ghost use Rattle.sim_report.specs.Ending.{EndsSo, HasFront, HasPart, end_of};
 ghost use Rattle.sim_report.specs.Reports.{last_of};
 
 use crate::shown::show;
@@ -46,7 +46,8 @@ fn end_after(done_at: Option<u64>) -> DesignEnd
 
 /// Runs a design in an environment that fits it, from power-up with 0 in every register and every cell, until it is done and
 /// for at most `limit` cycles, and writes the report: what each stream carried, the cells of each memory in the last cycle,
-/// before its store, and the cycle. After an error the output holds what it held and a front part of the report.
+/// before its store, and the cycle. After an error the output holds what it held and a front part of the report; a write
+/// fails only where there is a report.
 pub fn run_design<O: Sink>(
     alloc: Global,
     design: Design,
@@ -57,6 +58,7 @@ pub fn run_design<O: Sink>(
     requires fits { (m : ModuleTree) → TopOf design m → FitsShape (environment_of around.now) (shape_of m) }
     ensures end { IfOk result (λ end. EndsSo design (environment_of around.now) limit (O.contents out.old) (O.contents out.new) end) }
     ensures part { OnErr result (HasPart design (environment_of around.now) limit (O.contents out.old) (O.contents out.new)) }
+    ensures front { IsErrOf result PrintFault.WriteFault → HasFront design (environment_of around.now) limit (O.contents out.old) (O.contents out.new) }
     ensures later { O.faults out.old ≤ O.faults out.new }
     ensures fault { IsErrOf result PrintFault.WriteFault → Rose (O.faults out.old) (O.faults out.new) }
 {

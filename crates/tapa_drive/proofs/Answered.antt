@@ -53,7 +53,7 @@ module _ (words : List (List ℕ)) (before after : Outside) where
     says : (r : CodeRefusal) → IsTold (refusal_of r) ⊎ IsTold Memory → (IsFixed (refusal_of r) → IsTold (refusal_of r)) → HasCause words before after (refusal_of r) → Leaves words before after (refusal_of r) → Says
     says code.Usage t f cause leaves = either (refusal_of code.Usage) cause leaves (inl leaves) t
     says (code.Read file) t f cause leaves = either (refusal_of (code.Read file)) cause leaves (inl leaves) t
-    says code.Write t f cause leaves = either (refusal_of code.Write) cause leaves leaves t
+    says code.Write t f cause leaves = either (refusal_of code.Write) cause leaves (inr leaves) t
     says (code.TooLong file most) t f cause leaves = either (refusal_of (code.TooLong file most)) cause leaves (inl leaves) t
     says (code.Source file place rule) t f cause leaves = either (refusal_of (code.Source file place rule)) cause leaves (inl leaves) t
     says (code.Data file J1) t f cause leaves = either (refusal_of (code.Data file J1)) cause leaves (inl leaves) t
@@ -86,7 +86,7 @@ module _ (words : List (List ℕ)) (before after : Outside) where
     says (code.DesignData file (J3 key)) t f cause leaves = either (refusal_of (code.DesignData file (J3 key))) cause leaves (inl leaves) t
     says (code.DesignData file (J4 key)) t f cause leaves = either (refusal_of (code.DesignData file (J4 key))) cause leaves (inl leaves) t
     says (code.DesignData file OutOfMemory) t f cause leaves = either (refusal_of (code.DesignData file OutOfMemory)) cause leaves leaves t
-    says (code.Undone most) t f cause leaves = either (refusal_of (code.Undone most)) cause leaves leaves t
+    says (code.Undone most) t f cause leaves = either (refusal_of (code.Undone most)) cause leaves (inr leaves) t
     says code.Memory t f cause leaves = either (refusal_of code.Memory) cause leaves leaves t
 
     not_ok : (why : Refusal) → IsTold why → result ≢ status.Ok

@@ -13,7 +13,7 @@ use Rattle.command_source.proofs.OfFiles.{of_file_also}
 use Rattle.command_plans.specs.Built.{IsCircuitText, HasCircuit}
 use Rattle.command_plans.specs.Unwritten.{IsUnwritten}
 use Rattle.command_plans.proofs.Put.{WritesWhole}
-use Rattle.tapa_drive.specs.Answer.{HasPartOf, IsDone, ReadsAsked}
+use Rattle.tapa_drive.specs.Answer.{HasFrontOf, IsDone, ReadsAsked}
 use Rattle.tapa_drive.specs.Carried.{IsCarriedOut}
 use Rattle.tapa_drive.proofs.Carried as carried
 use Rattle.tapa_drive.proofs.Put.{carried_out}
@@ -37,8 +37,8 @@ module _ (words : List (List ℕ)) (files : Option Files) (source top : List ℕ
   built : (l : List ℕ) → IsCircuitText program [] l → Appends old.bytes new.bytes l → IsDone words before after
   built l is shown = inr (inr (inr (source, top, asked, of_text (λ l. Appends old.bytes new.bytes l) l is shown)))
 
-  has_part : (l : List ℕ) → IsCircuitText program [] l → AppendsPart old.bytes new.bytes l → HasPartOf words before after
-  has_part l is part = inr (inr (inr (inr (source, top, asked, of_text (λ l. AppendsPart old.bytes new.bytes l) l is part))))
+  has_front : (l : List ℕ) → IsCircuitText program [] l → AppendsPart old.bytes new.bytes l → HasFrontOf words before after
+  has_front l is part = inr (inr (inr (source, top, asked, of_text (λ l. AppendsPart old.bytes new.bytes l) l is part)))
 
   pub put : {A : Type 0} (result : Result A CodeRefusal) → IfOk result (λ x. WritesWhole old new (IsCircuitText program [])) → IfErr result (λ r. IsUnwritten old new (IsCircuitText program []) (refusal_of r)) → IsCarriedOut words before after result
-  put result whole refused = carried_out words before after (IsCircuitText program []) built has_part reads result whole refused
+  put result whole refused = carried_out words before after (IsCircuitText program []) built has_front reads result whole refused

@@ -29,7 +29,7 @@ asked_build words source top asked P h =
     subst (λ (s : List ℕ). P s top) one (subst (λ (t : List ℕ). P h.0 t) two h.3)
 
 -- what holds of the bytes of a source holds of those that are told, which are few
-of_told_source : (files : Files) (source : List ℕ) (P : List ℕ → Type 0) → OfSource (Some files) source P → (length (file_bytes files source) ≤ source_limit) × P (file_bytes files source)
+pub of_told_source : (files : Files) (source : List ℕ) (P : List ℕ → Type 0) → OfSource (Some files) source P → (length (file_bytes files source) ≤ source_limit) × P (file_bytes files source)
 of_told_source files source P (text, is, few, h) = (subst (λ (l : List ℕ). length l ≤ source_limit) is few, subst P is h)
 
 module _ (words : List (List ℕ)) (files : Files) (reads : List ℕ → ℕ) (out errors : Written) (after : Outside) (source top : List ℕ) (asked : command_of words ≡ Some (Build source top)) (still : NothingFails source None (outside (Some files) reads out errors) after) where

@@ -5,7 +5,7 @@ use Rattle.tapa_files.specs.Outside.{Files, Rose, AppendsPart}
 use Rattle.tapa_words.specs.Words.{Command, Cosim, command_of}
 use Rattle.vlog_tree.specs.Environment.{Environment}
 use Rattle.vlog_design.specs.Designs.{DesignTree}
-use Rattle.sim_report.specs.Ending.{EndsSo, HasPart}
+use Rattle.sim_report.specs.Ending.{EndsSo, HasFront, HasPart}
 use Rattle.sim_report.specs.declared.run.DesignEnd.TheVariants as design_end
 use Rattle.command_source.specs.Files.{OfFile, OfData, verilog_limit}
 use Rattle.command_source.specs.Meaning.{refusal_of}
@@ -14,7 +14,7 @@ use Rattle.command_source.specs.Refusal.{Refusal, Usage, Read, Write, TooLong, S
 use Rattle.command_source.specs.declared.refusal.Refusal.{Refusal as CodeRefusal}
 use Rattle.command_source.specs.declared.refusal.Refusal.TheVariants as code
 use Rattle.command_source.proofs.OfFiles.{of_file_also}
-use Rattle.tapa_drive.specs.Answer.{OfDesignTexts, HasCause, HasPartOf, Leaves, ReadsAsked}
+use Rattle.tapa_drive.specs.Answer.{OfDesignTexts, HasCause, HasFrontOf, HasPartOf, Leaves, ReadsAsked}
 use Rattle.tapa_drive.specs.Carried.{IsCarriedOut}
 use Rattle.tapa_drive.specs.Designs.{IsDesignOf, HasDesign, GivesEnvironment, HasDesignFault, HasBadDesignData, HasSimulated, HasCosimmed, HasUndone}
 use Rattle.tapa_drive.specs.Found.{IsNotSurrounded}
@@ -111,18 +111,19 @@ module _ (words : List (List ℕ)) (files : Option Files) (name : List ℕ) (nam
       reads = reads_both new;
     }
 
+    has_front : HasFront design env limit old.bytes new.bytes → HasFrontOf words before after
+    has_front w =
+        inr (inr (inl (
+          name,
+          named,
+          limit,
+          asked,
+          of_asked (λ text bytes. (done_at : Option ℕ) × (report : List ℕ) × HasSimulated text bytes limit done_at report × AppendsPart old.bytes new.bytes report)
+              (λ text bytes d g. (w.0, w.1, record { design = design; env = env; means = d; gives = g; is = w.2 }, w.3)),
+        )))
+
     has_part : HasPart design env limit old.bytes new.bytes → HasPartOf words before after
-    has_part h = elim h [
-      | inl same ↦ inl same
-      | inr w ↦ inr (inr (inr (inl (
-        name,
-        named,
-        limit,
-        asked,
-        of_asked (λ text bytes. (done_at : Option ℕ) × (report : List ℕ) × HasSimulated text bytes limit done_at report × AppendsPart old.bytes new.bytes report)
-            (λ text bytes d g. (w.0, w.1, record { design = design; env = env; means = d; gives = g; is = w.2 }, w.3)),
-      ))))
-    ]
+    has_part h = elim h [ inl same ↦ inl same | inr w ↦ inr (has_front w) ]
 
     pub unfinished : {A : Type 0} → EndsSo design env limit old.bytes new.bytes design_end.Running → IsCarriedOut {A = A} words before after (Err (code.Undone limit))
     unfinished e = record {
@@ -138,12 +139,12 @@ module _ (words : List (List ℕ)) (files : Option Files) (name : List ℕ) (nam
               (λ text bytes d g. record { report = e.0; simulated = record { design = design; env = env; means = d; gives = g; is = e.1 }; shown = e.2 }),
         ),
       );
-      leaves = has_part (inr (None, e.0, e.1, (e.0, [], sym (append-nil e.0), e.2)));
+      leaves = has_front (None, e.0, e.1, (e.0, [], sym (append-nil e.0), e.2));
       reads = reads_both new;
     }
 
-    pub unwritten : {A : Type 0} → Rose old.failed new.failed → HasPart design env limit old.bytes new.bytes → IsCarriedOut {A = A} words before after (Err code.Write)
-    unwritten rose h = record { done = tt; cause = rose; leaves = has_part h; reads = reads_both new }
+    pub unwritten : {A : Type 0} → Rose old.failed new.failed → HasFront design env limit old.bytes new.bytes → IsCarriedOut {A = A} words before after (Err code.Write)
+    unwritten rose h = record { done = tt; cause = rose; leaves = has_front h; reads = reads_both new }
 
     pub no_memory : {A : Type 0} → HasPart design env limit old.bytes new.bytes → IsCarriedOut {A = A} words before after (Err code.Memory)
     no_memory h = record { done = tt; cause = tt; leaves = has_part h; reads = reads_both new }

@@ -21,7 +21,7 @@ use Rattle.command_plans.specs.Unwritten.{IsUnwritten}
 use Rattle.command_plans.specs.Found.{IsNoDevice}
 use Rattle.command_plans.specs.Planned.{mode_of, IsFound, IsToldBy, IsUnplanned, HasDeviceFault, IsAskedOn, HasBadDevice, HasNoPlan, HasPlan}
 use Rattle.command_plans.proofs.Put.{WritesWhole}
-use Rattle.tapa_drive.specs.Answer.{OfTexts, HasProgram, HasCause, HasPartOf, IsDone, Leaves, ReadsAsked}
+use Rattle.tapa_drive.specs.Answer.{OfTexts, HasProgram, HasCause, HasFrontOf, IsDone, Leaves, ReadsAsked}
 use Rattle.tapa_drive.specs.Carried.{IsCarriedOut}
 use Rattle.tapa_drive.proofs.Carried as carried
 use Rattle.tapa_drive.proofs.Counts.{rose_since, later_all}
@@ -163,8 +163,8 @@ module _ (words : List (List ℕ)) (files : Option Files) (source top name : Lis
       planned : (l : List ℕ) → IsText l → Appends old.bytes new.bytes l → IsDone words before after
       planned l is shown = inr (inl (source, top, name, mode, aim, asked, of_text (λ l. Appends old.bytes new.bytes l) l is shown))
 
-      has_part : (l : List ℕ) → IsText l → AppendsPart old.bytes new.bytes l → HasPartOf words before after
-      has_part l is part = inr (inr (inl (source, top, name, mode, aim, asked, of_text (λ l. AppendsPart old.bytes new.bytes l) l is part)))
+      has_front : (l : List ℕ) → IsText l → AppendsPart old.bytes new.bytes l → HasFrontOf words before after
+      has_front l is part = inr (inl (source, top, name, mode, aim, asked, of_text (λ l. AppendsPart old.bytes new.bytes l) l is part))
 
       pub put : {A : Type 0} (result : Result A CodeRefusal) → IfOk result (λ x. WritesWhole old new IsText) → IfErr result (λ r. IsUnwritten old new IsText (refusal_of r)) → IsCarriedOut words before after result
-      put result whole refused = carried_out words before after IsText planned has_part (reads_both new) result whole refused
+      put result whole refused = carried_out words before after IsText planned has_front (reads_both new) result whole refused

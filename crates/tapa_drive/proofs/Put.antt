@@ -8,11 +8,11 @@ use Rattle.command_source.specs.Refusal.{Refusal, Usage, Read, Write, TooLong, S
 use Rattle.command_source.specs.declared.refusal.Refusal.{Refusal as CodeRefusal}
 use Rattle.command_plans.specs.Unwritten.{IsUnwritten}
 use Rattle.command_plans.proofs.Put.{WritesWhole}
-use Rattle.tapa_drive.specs.Answer.{HasCause, HasPartOf, IsDone, Leaves, ReadsAsked}
+use Rattle.tapa_drive.specs.Answer.{HasCause, HasFrontOf, IsDone, Leaves, ReadsAsked}
 use Rattle.tapa_drive.specs.Carried.{IsCarriedOut}
 
 -- a command whose text was written whole did what it is for, and else a front part of the text stands
-module _ (words : List (List ℕ)) (before after : Outside) (P : List ℕ → Type 0) (done : (told : List ℕ) → P told → Appends before.out.bytes after.out.bytes told → IsDone words before after) (part : (told : List ℕ) → P told → AppendsPart before.out.bytes after.out.bytes told → HasPartOf words before after) (reads : ReadsAsked words before after) where
+module _ (words : List (List ℕ)) (before after : Outside) (P : List ℕ → Type 0) (done : (told : List ℕ) → P told → Appends before.out.bytes after.out.bytes told → IsDone words before after) (front : (told : List ℕ) → P told → AppendsPart before.out.bytes after.out.bytes told → HasFrontOf words before after) (reads : ReadsAsked words before after) where
   unwritten_cause : (r : Refusal) → IsUnwritten before.out after.out P r → HasCause words before after r
   unwritten_cause Usage h = absurd h
   unwritten_cause (Read file) h = absurd h
@@ -34,7 +34,7 @@ module _ (words : List (List ℕ)) (before after : Outside) (P : List ℕ → Ty
   unwritten_leaves : (r : Refusal) → IsUnwritten before.out after.out P r → Leaves words before after r
   unwritten_leaves Usage h = absurd h
   unwritten_leaves (Read file) h = absurd h
-  unwritten_leaves Write h = part h.1.0 h.1.1 h.1.2
+  unwritten_leaves Write h = front h.1.0 h.1.1 h.1.2
   unwritten_leaves (TooLong file most) h = absurd h
   unwritten_leaves (Source file place rule) h = absurd h
   unwritten_leaves (Data file fault) h = absurd h
@@ -48,7 +48,7 @@ module _ (words : List (List ℕ)) (before after : Outside) (P : List ℕ → Ty
   unwritten_leaves (DesignData file fault) h = absurd h
   unwritten_leaves (Undone most) h = absurd h
   unwritten_leaves Memory (inl same) = inl same
-  unwritten_leaves Memory (inr h) = part h.0 h.1 h.2
+  unwritten_leaves Memory (inr h) = inr (front h.0 h.1 h.2)
 
   pub carried_out : {A : Type 0} (result : Result A CodeRefusal) → IfOk result (λ x. WritesWhole before.out after.out P) → IfErr result (λ r. IsUnwritten before.out after.out P (refusal_of r)) → IsCarriedOut words before after result
   carried_out (Ok x) whole refused = record { done = done whole.0 whole.1 whole.2; cause = tt; leaves = tt; reads = reads }

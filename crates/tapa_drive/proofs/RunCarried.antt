@@ -5,7 +5,7 @@ use Rattle.std.specs.declared.alloc.Global.{Global}
 use Rattle.tapa_files.specs.Outside.{Files, Rose, AppendsPart}
 use Rattle.tapa_syntax.specs.declared.program.Program.{Program}
 use Rattle.tapa_words.specs.Words.{Command, Run, command_of}
-use Rattle.run_program.specs.Ending.{EndsSo, HasPart}
+use Rattle.run_program.specs.Ending.{EndsSo, HasFront, HasPart}
 use Rattle.run_program.specs.Run.{Values}
 use Rattle.run_program.specs.declared.run.RunEnd.TheVariants as run_end
 use Rattle.command_source.specs.Files.{OfSource, OfData}
@@ -17,7 +17,7 @@ use Rattle.command_source.specs.Refusal.{Refusal, Usage, Read, Write, TooLong, S
 use Rattle.command_source.specs.Source.{IsProgramOf}
 use Rattle.command_source.specs.declared.refusal.Refusal.{Refusal as CodeRefusal}
 use Rattle.command_source.specs.declared.refusal.Refusal.TheVariants as code
-use Rattle.tapa_drive.specs.Answer.{OfTexts, IsAsked, HasProgram, HasBadData, HasDone, HasStopped, HasLimit, IsReportOfSource, HasCause, HasPartOf, Leaves, ReadsAsked}
+use Rattle.tapa_drive.specs.Answer.{OfTexts, IsAsked, HasProgram, HasBadData, HasDone, HasStopped, HasLimit, IsReportOfSource, HasCause, HasFrontOf, HasPartOf, Leaves, ReadsAsked}
 use Rattle.tapa_drive.specs.Carried.{IsCarriedOut}
 use Rattle.tapa_drive.proofs.Carried as carried
 use Rattle.tapa_drive.proofs.Counts.{rose_since, later_all}
@@ -121,14 +121,15 @@ module _ (words : List (List ℕ)) (files : Option Files) (source top : List ℕ
       reads = reads_both new;
     }
 
-    has_part : HasPart program values limit old.bytes new.bytes → HasPartOf words before after
-    has_part h = elim h [
-      | inl same ↦ inl same
-      | inr w ↦ inr (inl (source, top, named, limit, asked, of_asked (λ text bytes. (report : List ℕ) × IsReportOfSource text top bytes limit report × AppendsPart old.bytes new.bytes report) (λ text bytes a. (w.0, record { program = program; values = values; asked = a; is = w.1 }, w.2))))
-    ]
+    has_front : HasFront program values limit old.bytes new.bytes → HasFrontOf words before after
+    has_front w =
+        inl (source, top, named, limit, asked, of_asked (λ text bytes. (report : List ℕ) × IsReportOfSource text top bytes limit report × AppendsPart old.bytes new.bytes report) (λ text bytes a. (w.0, record { program = program; values = values; asked = a; is = w.1 }, w.2)))
 
-    pub unwritten : {A : Type 0} → Rose old.failed new.failed → HasPart program values limit old.bytes new.bytes → IsCarriedOut {A = A} words before after (Err code.Write)
-    unwritten rose h = record { done = tt; cause = rose; leaves = has_part h; reads = reads_both new }
+    has_part : HasPart program values limit old.bytes new.bytes → HasPartOf words before after
+    has_part h = elim h [ inl same ↦ inl same | inr w ↦ inr (has_front w) ]
+
+    pub unwritten : {A : Type 0} → Rose old.failed new.failed → HasFront program values limit old.bytes new.bytes → IsCarriedOut {A = A} words before after (Err code.Write)
+    unwritten rose h = record { done = tt; cause = rose; leaves = has_front h; reads = reads_both new }
 
     pub no_memory : {A : Type 0} → HasPart program values limit old.bytes new.bytes → IsCarriedOut {A = A} words before after (Err code.Memory)
     no_memory h = record { done = tt; cause = tt; leaves = has_part h; reads = reads_both new }

@@ -194,20 +194,24 @@ IsBuilt words before after = OfBuild words (λ source top. OfSource before.files
 abbrev pub IsDone : List (List ℕ) → Outside → Outside → Type 0
 IsDone words before after = IsRun words before after ⊎ (IsPlanned words before after ⊎ (IsCosimmed words before after ⊎ IsBuilt words before after))
 
--- nothing was written, or a front part of a report of the source, of a plan, of a report of the Verilog text, or of a circuit
-abbrev pub HasPartOf : List (List ℕ) → Outside → Outside → Type 0
-HasPartOf words before after =
-    (after.out.bytes ≡ before.out.bytes)
-    ⊎ (OfRun words (λ source top given limit. OfTexts before.files source given (λ text bytes. (report : List ℕ) × IsReportOfSource text top bytes limit report × AppendsPart before.out.bytes after.out.bytes report))
+-- a front part was written of a report of the source, of a plan, of a report of the Verilog text, or of a circuit, or of it
+-- nothing yet: there is such a text, so no step before the writing refuses
+abbrev pub HasFrontOf : List (List ℕ) → Outside → Outside → Type 0
+HasFrontOf words before after =
+    OfRun words (λ source top given limit. OfTexts before.files source given (λ text bytes. (report : List ℕ) × IsReportOfSource text top bytes limit report × AppendsPart before.out.bytes after.out.bytes report))
     ⊎ (OfPlan words (λ source top device mode aim. OfTexts before.files source (Some device) (λ text bytes. (told : List ℕ) × HasPlan text top bytes (mode_of mode) aim told × AppendsPart before.out.bytes after.out.bytes told))
     ⊎ (OfCosim words (λ name given limit. OfDesignTexts before.files name given (λ text bytes. (done_at : Option ℕ) × (report : List ℕ) × HasSimulated text bytes limit done_at report × AppendsPart before.out.bytes after.out.bytes report))
-    ⊎ OfBuild words (λ source top. OfSource before.files source (λ text. (told : List ℕ) × HasCircuit text top told × AppendsPart before.out.bytes after.out.bytes told)))))
+    ⊎ OfBuild words (λ source top. OfSource before.files source (λ text. (told : List ℕ) × HasCircuit text top told × AppendsPart before.out.bytes after.out.bytes told))))
+
+-- nothing was written, or a front part of such a text
+abbrev pub HasPartOf : List (List ℕ) → Outside → Outside → Type 0
+HasPartOf words before after = (after.out.bytes ≡ before.out.bytes) ⊎ HasFrontOf words before after
 
 -- what stands in the output after a call that tells this refusal
 abbrev pub Leaves : List (List ℕ) → Outside → Outside → Refusal → Type 0
 Leaves words before after Usage = after.out.bytes ≡ before.out.bytes
 Leaves words before after (Read file) = after.out.bytes ≡ before.out.bytes
-Leaves words before after Write = HasPartOf words before after
+Leaves words before after Write = HasFrontOf words before after
 Leaves words before after (TooLong file most) = after.out.bytes ≡ before.out.bytes
 Leaves words before after (Source file place code) = after.out.bytes ≡ before.out.bytes
 Leaves words before after (Data file fault) = after.out.bytes ≡ before.out.bytes
@@ -219,7 +223,7 @@ Leaves words before after NoPlan = after.out.bytes ≡ before.out.bytes
 Leaves words before after (NoRoom label) = after.out.bytes ≡ before.out.bytes
 Leaves words before after (Verilog file fault) = after.out.bytes ≡ before.out.bytes
 Leaves words before after (DesignData file fault) = after.out.bytes ≡ before.out.bytes
-Leaves words before after (Undone most) = HasPartOf words before after
+Leaves words before after (Undone most) = HasFrontOf words before after
 Leaves words before after Memory = HasPartOf words before after
 
 -- the files stay, and reads fail of no other file than the source or the text and, where it is taken, the further file that is

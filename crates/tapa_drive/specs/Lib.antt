@@ -1,3 +1,4 @@
+pub mod AllDecided
 pub mod Answer
 pub mod BuildDecided
 pub mod Carried

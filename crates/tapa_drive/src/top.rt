@@ -1,17 +1,10 @@
-ghost use Rattle.std.specs.Prelude.{◌≡◌, ◌⊎◌, ℕ, List, Option, Some, None};
-ghost use Rattle.tapa_words.specs.Words.{texts, command_of, Run, Build, Plan, Cosim};
-ghost use Rattle.tapa_words.specs.declared.command.PlanAim.{PlanAim as PlanAimWord};
-ghost use Rattle.tapa_words.specs.declared.command.PlanMode.{PlanMode as PlanModeWord};
-ghost use Rattle.command_source.specs.Files.{source_limit};
+// The top call: a command is carried out, and what came of it is answered.
+ghost use Rattle.std.specs.Prelude.{◌≡◌};
+ghost use Rattle.tapa_words.specs.Words.{texts};
 ghost use Rattle.command_source.specs.Outside.{Written, written, outside};
-ghost use Rattle.command_source.specs.Refusal.{Refusal as Why};
-ghost use Rattle.command_plans.specs.Planned.{mode_of};
+ghost use Rattle.tapa_drive.specs.AllDecided.{IsDecided};
 ghost use Rattle.tapa_drive.specs.Answer.{IsAnswer};
-ghost use Rattle.tapa_drive.specs.BuildDecided.{TellsBuild};
 ghost use Rattle.tapa_drive.specs.Carried.{IsCarriedOut};
-ghost use Rattle.tapa_drive.specs.CosimDecided.{TellsCosim};
-ghost use Rattle.tapa_drive.specs.Decided.{SourceMeaning, Expects, IsLengthy, IsRefusedWith, NothingFails, WritesAll, Tells};
-ghost use Rattle.tapa_drive.specs.PlanDecided.{ArePlannable, TellsPlan};
 
 use crate::cosim::cosim_text;
 use crate::sources::{build_source, plan_source, run_source};
@@ -92,33 +85,11 @@ pub fn tapa<S: Shelf, O: Sink, E: Sink>(
     ensures answer { IsAnswer (texts words.now) (outside (S.files shelf.old) (S.faults shelf.old) (written (O.contents out.old) (O.faults out.old)) (written (E.contents err.old) (E.faults err.old)))
         (outside (S.files shelf.new) (S.faults shelf.new) (written (O.contents out.new) (O.faults out.new)) (written (E.contents err.new) (E.faults err.new))) result }
     ensures ok_err { result ≡ Status.Ok → err.new ≡ err.old }
-    // Where the files are told and nothing outside fails, the answer tells what the source means with its data, and the
-    // report is written whole: or memory ran out.
-    ensures decided { let before = (outside (S.files shelf.old) (S.faults shelf.old) (written (O.contents out.old) (O.faults out.old)) (written (E.contents err.old) (E.faults err.old))) in let after = (outside (S.files shelf.new) (S.faults shelf.new) (written (O.contents out.new) (O.faults out.new)) (written (E.contents err.new) (E.faults err.new))) in
-        (source top : List ℕ) (named : Option (List ℕ)) (limit : ℕ) → command_of (texts words.now) ≡ Some (Run source top named limit) →
-        (meaning : SourceMeaning) → Expects before.files source top named limit meaning → NothingFails source named before after →
-        Tells source named limit meaning result before after ⊎ (result ≡ Status.Memory) }
-    // What a plan means: its lines, or the circuit by it, are written whole, or it is told why there is none.
-    ensures plan_decided { let before = (outside (S.files shelf.old) (S.faults shelf.old) (written (O.contents out.old) (O.faults out.old)) (written (E.contents err.old) (E.faults err.old))) in let after = (outside (S.files shelf.new) (S.faults shelf.new) (written (O.contents out.new) (O.faults out.new)) (written (E.contents err.new) (E.faults err.new))) in
-        (source top device : List ℕ) (by : PlanModeWord) (aim : PlanAimWord) → command_of (texts words.now) ≡ Some (Plan source top device by aim) →
-        ArePlannable before.files source top device → NothingFails source (Some device) before after →
-        TellsPlan before.files source top device (mode_of by) aim result before after ⊎ (result ≡ Status.Memory) }
-    // What a circuit means: its text is written whole, or it is told why the source has none.
-    ensures build_decided { let before = (outside (S.files shelf.old) (S.faults shelf.old) (written (O.contents out.old) (O.faults out.old)) (written (E.contents err.old) (E.faults err.old))) in let after = (outside (S.files shelf.new) (S.faults shelf.new) (written (O.contents out.new) (O.faults out.new)) (written (E.contents err.new) (E.faults err.new))) in
-        (source top : List ℕ) → command_of (texts words.now) ≡ Some (Build source top) →
-        NothingFails source None before after → TellsBuild before.files source top result before after ⊎ (result ≡ Status.Memory) }
-    // What a simulation means: the report of the design's cycles is written whole, or it is told why there is none.
-    ensures cosim_decided { let before = (outside (S.files shelf.old) (S.faults shelf.old) (written (O.contents out.old) (O.faults out.old)) (written (E.contents err.old) (E.faults err.old))) in let after = (outside (S.files shelf.new) (S.faults shelf.new) (written (O.contents out.new) (O.faults out.new)) (written (E.contents err.new) (E.faults err.new))) in
-        (text : List ℕ) (named : Option (List ℕ)) (limit : ℕ) → command_of (texts words.now) ≡ Some (Cosim text named limit) →
-        NothingFails text named before after → TellsCosim text named limit result before after ⊎ (result ≡ Status.Memory) }
-    // What it means where the source has more bytes than it may, and where the words are no command.
-    ensures lengthy { let before = (outside (S.files shelf.old) (S.faults shelf.old) (written (O.contents out.old) (O.faults out.old)) (written (E.contents err.old) (E.faults err.old))) in let after = (outside (S.files shelf.new) (S.faults shelf.new) (written (O.contents out.new) (O.faults out.new)) (written (E.contents err.new) (E.faults err.new))) in
-        (source top : List ℕ) (named : Option (List ℕ)) (limit : ℕ) → command_of (texts words.now) ≡ Some (Run source top named limit) →
-        IsLengthy before.files source → NothingFails source named before after →
-        IsRefusedWith (Why.TooLong source source_limit) result before after ⊎ (result ≡ Status.Memory) }
-    ensures usage { let before = (outside (S.files shelf.old) (S.faults shelf.old) (written (O.contents out.old) (O.faults out.old)) (written (E.contents err.old) (E.faults err.old))) in let after = (outside (S.files shelf.new) (S.faults shelf.new) (written (O.contents out.new) (O.faults out.new)) (written (E.contents err.new) (E.faults err.new))) in
-        command_of (texts words.now) ≡ None → WritesAll before after →
-        IsRefusedWith Why.Usage result before after ⊎ (result ≡ Status.Memory) }
+    // Where the files are told and nothing outside fails, the answer tells what the source means with its data or its device
+    // file, or what the Verilog text means with its data, and a report, a plan's lines or a circuit is written whole: or
+    // memory ran out.
+    ensures decided { IsDecided (texts words.now) (outside (S.files shelf.old) (S.faults shelf.old) (written (O.contents out.old) (O.faults out.old)) (written (E.contents err.old) (E.faults err.old)))
+        (outside (S.files shelf.new) (S.faults shelf.new) (written (O.contents out.new) (O.faults out.new)) (written (E.contents err.new) (E.faults err.new))) result }
 {
     answer(alloc, words, shelf, out, err)
 }

@@ -67,5 +67,5 @@ returns-clause-device c =
     } in
     let meaning = meaning_of program graph file device placed c.of-format.result grid c.of-format.ensures c.grid_of-grid.ensures.value right of_placed
     refl refl c.in_ok-levels_rows.ensures.value c.in_ok-levels_cols.ensures.value c.percent_of.ensures.value c.in_ok-slots.ensures.value c.in_ok-uses.ensures refl refl in
-    is_device program graph file device c.requires.graph right meaning of_placed.as_many of_placed.slots of_placed.inside
+    is_device program graph file device c.requires.graph right meaning of_placed.inside
     c.in_ok-levels_rows.ensures.few c.in_ok-levels_cols.ensures.few c.percent_of.ensures.some c.percent_of.ensures.most c.in_ok-slots.ensures.below

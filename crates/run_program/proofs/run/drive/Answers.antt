@@ -9,6 +9,11 @@ returns-in_err-show-in-Done-clause-part g c =
     let done = done_report c.args.program.now c.args.input.now c.args.net.now c.settle.new.net c.args.limit c.in_ok-ticks.field-0 c.requires.fresh c.in_ok-ticks.ensures.program c.in_ok-ticks.ensures.input c.in-Done.ticks c.in_ok-ticks.ensures.outcome c.in-Done.is in
     on_err c.from_residual-in_err-show-in-Done.result (inr (_, inl done, c.in_err-show-in-Done.ensures.part))
 
+pub returns-in_err-show-in-Done-clause-front : goal.returns-in_err-show-in-Done-clause-front
+returns-in_err-show-in-Done-clause-front g c =
+    let done = done_report c.args.program.now c.args.input.now c.args.net.now c.settle.new.net c.args.limit c.in_ok-ticks.field-0 c.requires.fresh c.in_ok-ticks.ensures.program c.in_ok-ticks.ensures.input c.in-Done.ticks c.in_ok-ticks.ensures.outcome c.in-Done.is in
+    λ e. (_, inl done, c.in_err-show-in-Done.ensures.part)
+
 pub returns-in_ok-show-in-Done-clause-end : goal.returns-in_ok-show-in-Done-clause-end
 returns-in_ok-show-in-Done-clause-end g c =
     let done = done_report c.args.program.now c.args.input.now c.args.net.now c.settle.new.net c.args.limit c.in_ok-ticks.field-0 c.requires.fresh c.in_ok-ticks.ensures.program c.in_ok-ticks.ensures.input c.in-Done.ticks c.in_ok-ticks.ensures.outcome c.in-Done.is in
@@ -18,6 +23,11 @@ pub returns-in_err-show-in-Stopped-clause-part : goal.returns-in_err-show-in-Sto
 returns-in_err-show-in-Stopped-clause-part g c =
     let stopped = stopped_report c.args.program.now c.args.input.now c.args.net.now c.settle.new.net c.args.limit c.in_ok-ticks.field-0 c.requires.fresh c.in_ok-ticks.ensures.program c.in_ok-ticks.ensures.input c.in-Stopped.ticks c.in_ok-ticks.ensures.outcome c.in-Stopped.is (lines_in c.in_ok-lines-in-Stopped.lines.items) c.in_ok-lines-in-Stopped.ensures in
     on_err c.from_residual-in_err-show-in-Stopped.result (inr (_, inr (_, stopped), c.in_err-show-in-Stopped.ensures.part))
+
+pub returns-in_err-show-in-Stopped-clause-front : goal.returns-in_err-show-in-Stopped-clause-front
+returns-in_err-show-in-Stopped-clause-front g c =
+    let stopped = stopped_report c.args.program.now c.args.input.now c.args.net.now c.settle.new.net c.args.limit c.in_ok-ticks.field-0 c.requires.fresh c.in_ok-ticks.ensures.program c.in_ok-ticks.ensures.input c.in-Stopped.ticks c.in_ok-ticks.ensures.outcome c.in-Stopped.is (lines_in c.in_ok-lines-in-Stopped.lines.items) c.in_ok-lines-in-Stopped.ensures in
+    λ e. (_, inr (_, stopped), c.in_err-show-in-Stopped.ensures.part)
 
 pub returns-in-Limit-clause-end : goal.returns-in-Limit-clause-end
 returns-in-Limit-clause-end g c =

@@ -40,7 +40,7 @@ returns-in-Err-WriteFault g c = λ words errors told asked.
     (g.S.Shelf.files c.read_design.new.shelf) (g.S.Shelf.faults c.read_design.new.shelf) c.in-Ok.ensures.asks.same_files c.in-Ok.ensures.asks.later c.in-Ok.ensures.asks.others
     c.in-Ok.design c.in-Ok.ensures.found (g.S.Shelf.files c.read_surroundings.new.shelf) (g.S.Shelf.faults c.read_surroundings.new.shelf) c.in-Ok-read_surroundings.ensures.asks.same_files c.in-Ok-read_surroundings.ensures.asks.others
     (environment_of c.in-Ok-read_surroundings.around) c.in-Ok-read_surroundings.ensures.gives (written (g.O.Sink.contents c.run_design.new.out) (g.O.Sink.faults c.run_design.new.out))
-    (c.in-Err-WriteFault.ensures.fault (ap Err c.in-Err-WriteFault.field-0-is)) c.in-Err-WriteFault.ensures.part
+    (c.in-Err-WriteFault.ensures.fault (ap Err c.in-Err-WriteFault.field-0-is)) (c.in-Err-WriteFault.ensures.front (ap Err c.in-Err-WriteFault.field-0-is))
 
 pub returns-in-Err-OutOfMemory : goal.returns-in-Err-OutOfMemory
 returns-in-Err-OutOfMemory g c = λ words errors told asked.

@@ -40,7 +40,7 @@ returns-in-Err-WriteFault g c = λ words errors told asked.
     (g.S.Shelf.files c.read_source.new.shelf) (g.S.Shelf.faults c.read_source.new.shelf) c.in-Ok.ensures.asks.same_files c.in-Ok.ensures.asks.later c.in-Ok.ensures.asks.others
     c.in-Ok.program c.in-Ok.ensures.found (g.S.Shelf.files c.read_values.new.shelf) (g.S.Shelf.faults c.read_values.new.shelf) c.in-Ok-read_values.ensures.asks.same_files c.in-Ok-read_values.ensures.asks.others
     (values_of c.in-Ok-read_values.input) c.in-Ok-read_values.ensures.gives (written (g.O.Sink.contents c.run_program.new.out) (g.O.Sink.faults c.run_program.new.out))
-    (c.in-Err-WriteFault.ensures.fault (ap Err c.in-Err-WriteFault.field-0-is)) c.in-Err-WriteFault.ensures.part
+    (c.in-Err-WriteFault.ensures.fault (ap Err c.in-Err-WriteFault.field-0-is)) (c.in-Err-WriteFault.ensures.front (ap Err c.in-Err-WriteFault.field-0-is))
 
 pub returns-in-Err-OutOfMemory : goal.returns-in-Err-OutOfMemory
 returns-in-Err-OutOfMemory g c = λ words errors told asked.
