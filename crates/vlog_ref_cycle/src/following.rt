@@ -119,7 +119,7 @@ fn stored(mut cells: Vec<u128>, ack: u128, we: u128, addr: u128, wdata: u128) ->
     cells
 }
 
-#[tactic(auto, using(crate::proofs::Ascii::ack_ascii, crate::proofs::Ascii::we_ascii, crate::proofs::Ascii::addr_ascii, crate::proofs::Ascii::wdata_ascii))]
+#[tactic(auto, using(vlog_run_laws::proofs::runs::Ascii::ack_ascii, vlog_run_laws::proofs::runs::Ascii::we_ascii, vlog_run_laws::proofs::runs::Ascii::addr_ascii, vlog_run_laws::proofs::runs::Ascii::wdata_ascii))]
 fn top_cells(
     alloc: Global,
     design: &Circuit,

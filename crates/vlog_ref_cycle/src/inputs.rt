@@ -63,7 +63,7 @@ fn memory_of<'a>(memories: &'a [OutsideMemory], label: &[u8]) -> Option<&'a Outs
     None
 }
 
-#[tactic(auto, using(crate::proofs::Ascii::addr_ascii))]
+#[tactic(auto, using(vlog_run_laws::proofs::runs::Ascii::addr_ascii))]
 fn rdata<'a>(alloc: Global, now: &'a Moment, x: &Text) -> Result<Option<Source<'a>>, AllocError>
     ensures { IfOk result (λ o. option_map source_tree o ≡ rdata_source now.now.outside.items (rdata_lem x.now)) }
 {

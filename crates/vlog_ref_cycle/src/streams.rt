@@ -40,7 +40,7 @@ fn din_name(alloc: Global, label: &[u8]) -> Result<Vec<u8>, AllocError>
 }
 
 // The number on a stream's `din` in this cycle where `wr` and `rdy` are 1, and nothing in cycle 0.
-#[tactic(auto, using(crate::proofs::Ascii::wr_ascii, crate::proofs::Ascii::rdy_ascii, crate::proofs::Ascii::din_ascii))]
+#[tactic(auto, using(vlog_run_laws::proofs::runs::Ascii::wr_ascii, vlog_run_laws::proofs::runs::Ascii::rdy_ascii, vlog_run_laws::proofs::runs::Ascii::din_ascii))]
 fn carries_number(
     alloc: Global,
     design: &Circuit,
@@ -115,7 +115,7 @@ fn done_name(alloc: Global) -> Result<Vec<u8>, AllocError>
 }
 
 /// Whether the design is done in this cycle.
-#[tactic(auto, unfolding(vlog_tree::specs::Labels::done), using(crate::proofs::Ascii::done_ascii))]
+#[tactic(auto, unfolding(vlog_tree::specs::Labels::done), using(vlog_run_laws::proofs::runs::Ascii::done_ascii))]
 pub fn is_done(
     alloc: Global,
     design: &Circuit,
