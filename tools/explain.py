@@ -62,6 +62,8 @@ def words_at(text, col):
     at = re.match(r"\w+|\+\+|--|==|!=|[^\w]", told[col - 1:])
     before = re.findall(r"\w+", told[: col - 1])
     word = at[0] if at else ""
+    if re.match(r"int\s+main\b", told[col - 1:]):
+        return ["main"]
     found = before[-1:] + [word] if word in ("(", "<", ".") else [word, *before[-1:]] if word.isidentifier() else [word]
     return [it for it in found if it not in VAGUE]
 

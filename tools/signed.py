@@ -9,7 +9,8 @@ The kinds are read from the source: those of the streams, inside its upper-level
 import re
 import sys
 
-from declared import tasks
+sys.dont_write_bytecode = True
+from declared import tasks  # noqa: E402
 
 
 def kind_of(found, top, word, label):

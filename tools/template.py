@@ -7,7 +7,8 @@ CELLS is how many cells each memory gets, 4 if it is not there: the list's lengt
 """
 import sys
 
-from declared import tasks
+sys.dont_write_bytecode = True
+from declared import tasks  # noqa: E402
 
 
 def template(task, cells):

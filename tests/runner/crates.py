@@ -12,10 +12,10 @@ import crates as listed  # noqa: E402
 OF_NAMES = ("docs/PROMISES.md", "docs/READING.md")
 
 
-def texts_of_crates():
-    """All sources and definitions of the crates, as one text."""
+def texts_of_crates(crate=""):
+    """All sources and definitions of the crates, or of one, as one text."""
     parts = []
-    for folder, below, files in os.walk(os.path.join(ROOT, "crates")):
+    for folder, below, files in os.walk(os.path.join(ROOT, "crates", crate)):
         below[:] = [it for it in below if it not in ("out", "must-fail")]
         for name in files:
             if name.endswith((".rt", ".antt")):
@@ -47,6 +47,19 @@ def try_names(trial):
             trial.check(f"{page}: {law} is in the crates", f"fn {law}(" in text or f"fn {law}<" in text)
 
 
+def try_homes(trial):
+    """Where docs/READING.md names a definition with its crate, the definition stands in that crate."""
+    page = read("docs/READING.md")
+    named = re.findall(r"((?:`\w+`(?:, | and )?)+) \((\w+(?:, [a-z]\w*)*)(?:, specs/[\w.]+)?\)", page)
+    trial.check("docs/READING.md names definitions with their crates", len(named) >= 15, f"   {len(named)}")
+    crates_of = {name for _, crates in listed.rooms() for name in crates}
+    for names, homes in named:
+        homes = [home for home in homes.split(", ") if home in crates_of]
+        text = "\n".join(texts_of_crates(home) for home in homes)
+        for name in re.findall(r"`(\w+)`", names):
+            trial.check(f"docs/READING.md: `{name}` is in {', '.join(homes)}", bool(homes) and re.search(rf"pub (?:record )?{name}\b", text))
+
+
 def try_clauses(trial):
     """The clauses that docs/READING.md explains are those of the code."""
     code = read("crates/tapa_files/src/take.rt").partition("pub fn take_file")[2]
@@ -67,5 +80,6 @@ def try_links(trial):
 def try_all(trial):
     try_lists(trial)
     try_names(trial)
+    try_homes(trial)
     try_clauses(trial)
     try_links(trial)

@@ -8,7 +8,7 @@ from runner.trial import ROOT, read
 
 LINES, FILE, ARGUMENTS = 40, 500, 8
 # Bodies of fewer letters are not looked at for copies.
-COPY = 160
+COPY = 80
 EXCEPTIONS = "tests/runner/exceptions.txt"
 
 

@@ -4,7 +4,7 @@ What the contracts leave free is want of memory alone, so a body that answers it
 import json
 import os
 
-from runner import circuits, pipelines
+from runner import circuits, cycles, pipelines, reference
 from runner.trial import ROOT, read
 
 FEATURES = "tests/circuits/features"
@@ -61,6 +61,22 @@ def try_features(trial):
         trial.check("the features are built for a far device", b"relay_17_128" in built.out, f"   {built}")
         trial.put("x.v", built.out)
         circuits.try_text(trial, FEATURES, ["run", source], json.loads(read(data)), ran, f"on a far device {' '.join(words)}")
+
+
+def try_evaluator(trial):
+    """The circuit of the features, cycle by cycle in the second evaluator, from two contents at power-up: it carries what the run shows."""
+    data = json.loads(read(f"{FEATURES}.json"))
+    text = trial.run(["build", f"{FEATURES}.cpp", "Top"], ROOT).out.decode()
+    scalars, memories = reference.ports_of(text)
+    given = [(name, data["scalars"][name] % 2**bits) for name, bits in scalars]
+    cells = {name: [cell % 2**bits for cell in data["memories"][name]] for name, bits in memories}
+    waits = {name: data["waits"].get(name, []) for name, _ in memories}
+    wanted = [line.replace(":", "", 1) for line in read(f"{FEATURES}.out").splitlines()[:-1]]
+    for fill in reference.FILLS:
+        machine = cycles.Machine(text, given, {name: list(values) for name, values in cells.items()}, waits, fill)
+        *lines, end = cycles.shown(machine, [], reference.MOST)
+        trial.check_equal(f"the features by the second evaluator, from {fill}", lines, wanted)
+        trial.check_equal("their last cycle", end, "done in cycle 183")
 
 
 def try_detached(trial):
@@ -122,6 +138,7 @@ def try_sources(trial):
 
 def try_all(trial):
     try_features(trial)
+    try_evaluator(trial)
     try_detached(trial)
     try_sizes(trial)
     try_sources(trial)

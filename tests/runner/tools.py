@@ -56,7 +56,8 @@ void T() { tapa::stream<uint8_t> r; tapa::task().invoke(U, r).invoke(C, r); }
 EXPLAINED_WORDS = [
     ("void L(tapa::async_mmap<int> m) { }", "async_mmap", "`async_mmap` is not in the language here"),
     ("void L() { ap_uint<5> x; }", "<", "`ap_uint` is not in the language here"),
-    ("int main() { return 0; }", "int", "has something of C++ that is not in it"),
+    ("int main() { return 0; }", "int", "`main` is not in the language here"),
+    ("int x;", "int", "has something of C++ that is not in it"),
     ("void L(int n) { if (n == 0) { return; } }", "return", "`if` with `else`"),
     ("void L(int n) { n = n + 1 }", "}", "missing `;`"),
 ]
