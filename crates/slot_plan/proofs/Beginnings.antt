@@ -88,7 +88,7 @@ after_test j m x y h =
 pub low_at_most : (t : Tables) (p q : List ℕ) (low : ℕ) → IsLayout t q → Begins p q → length p ≤ items t → IsBelowRest t p low → cost_of t p + low ≤ cost_of t q
 low_at_most t p q low whole (rest, is) short h =
     let n = items t in
-    let a = h (λ j. get_or q j 0) (λ j l. whole.rooms.inside j (let e = whole.whole in omega arith)) in
+    let a = h (λ j. get_or q j 0) (λ j l. let k : j < length q = (let e = whole.whole in omega arith) in (whole.rooms.inside j k, whole.rooms.home j k)) in
     let b = total_le n (λ j. if nat_lt j (length p) then 0 else beside t p j (get_or q j 0)) (λ j. if nat_lt j (length p) then 0 else step_cost t q j)
     (λ j l. after_test j (length p) (beside t p j (get_or q j 0)) (step_cost t q j) (λ k. step_at_least t p q j (rest, is) k)) in
     let c = total_split n (length p) (step_cost t q) short in

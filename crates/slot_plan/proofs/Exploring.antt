@@ -10,7 +10,7 @@ use Rattle.slot_plan.specs.declared.tables.Tables.{Tables}
 use Rattle.slot_plan.specs.Least.{NotAfter}
 use Rattle.slot_plan.specs.Plan.{load}
 use Rattle.slot_plan.specs.Search.{IsAnswer, Begins, IsSound, Covers, IsEarlier, IsFrom, Explored, ExploredBelow, AreRows, IsBelowRest, IsAt, IsAtPlace}
-use Rattle.slot_plan.specs.Tables.{items, places, joint_at, distance_at, beside, cost_of, IsLayout, AreTables}
+use Rattle.slot_plan.specs.Tables.{items, places, joint_at, distance_at, beside, cost_of, Suits, IsLayout, AreTables}
 use Rattle.flow_cert.proofs.Sums.{total_le, total_const}
 use Rattle.slot_plan.proofs.Sums.{pick_same, pick_other}
 use Rattle.slot_plan.proofs.Uses.{amount_set}
@@ -158,6 +158,14 @@ too_much t p left spent s best at over =
     let c = load_here t.needs.items p s k in
     let e = at.left_is.value s k at.place in omega arith)))
 
+-- a place that does not suit the item
+pub unsuited : (t : Tables) (p : List ℕ) (left : List Use) (spent s : ℕ) (best : Option Best) → IsAtPlace t p left spent best s → (Suits t (length p) s → ⊥) → Explored t (p ++ s ∷ []) best best
+unsuited t p left spent s best at apart =
+    explored_none t (p ++ s ∷ []) best at.sound
+    (λ q layout begins.
+    let long : length p < length q = (let a = layout.whole in let b = at.more in omega arith) in
+    apart (subst (Suits t (length p)) (place_of_begin p q s begins) (layout.rooms.home (length p) long)))
+
 -- a place at which all layouts cost at least as much as the best
 pub prune_place : (t : Tables) (p : List ℕ) (left : List Use) (spent cost s : ℕ) (best : Option Best) → IsAtPlace t p left spent best s → cost ≡ spent + beside t p (length p) s → MatchOption best (true ≡ false) (λ b. IsTrue true ↔ (b.cost ≤ cost)) → Explored t (p ++ s ∷ []) best best
 prune_place t p left spent cost s best at is h =
@@ -183,8 +191,8 @@ at_place t p left spent s old mid at l ls h = record {
 }
 
 -- the item stands at the place
-pub at_child : (t : Tables) (p : List ℕ) (left : List Use) (spent : ℕ) (best : Option Best) (s : ℕ) (after : Use) (more : ℕ) → IsAtPlace t p left spent best s → ((k : ℕ) → amount after k + amount_at t.needs.items (length p) k ≡ amount_at left s k) → more ≡ beside t p (length p) s → more ≤ 2731622400 → IsAt t (p ++ s ∷ []) (set left s after) (spent + more) best
-at_child t p left spent best s after more at is m low =
+pub at_child : (t : Tables) (p : List ℕ) (left : List Use) (spent : ℕ) (best : Option Best) (s : ℕ) (after : Use) (more : ℕ) → IsAtPlace t p left spent best s → Suits t (length p) s → ((k : ℕ) → amount after k + amount_at t.needs.items (length p) k ≡ amount_at left s k) → more ≡ beside t p (length p) s → more ≤ 2731622400 → IsAt t (p ++ s ∷ []) (set left s after) (spent + more) best
+at_child t p left spent best s after more at suits is m low =
     let q = p ++ s ∷ [] in
     let needs = t.needs.items in
     let n = push_long p s in
@@ -214,6 +222,12 @@ at_child t p left spent best s after more at is m low =
             let b = last_place p s in
             let c = at.place in omega arith)
             (cases_lt j (length p));
+        home = λ j l. ⊎_elim
+            (λ (k : j < length p). subst (Suits t j) (sym (front_place p (s ∷ []) j k)) (at.rooms.home j k))
+            (λ (k : length p ≤ j).
+            let e : length p ≡ j = omega arith in
+            subst (λ (i : ℕ). Suits t i (get_or q i 0)) e (subst (Suits t (length p)) (sym (last_place p s)) suits))
+            (cases_lt j (length p));
         within = λ y k l. (let a = value y k l in omega arith);
       };
       left_is = record { long = length-set left s after ∙ at.left_is.long; value = value };
@@ -228,6 +242,7 @@ at_start t left e = record {
   short = omega arith;
   rooms = record {
     inside = λ j l. absurd (omega arith);
+    home = λ j l. absurd (omega arith);
     within = λ s k l. omega arith;
   };
   left_is = record {

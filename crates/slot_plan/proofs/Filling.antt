@@ -4,16 +4,16 @@ use Rattle.std.specs.Prelude.{if◌then◌else◌, not}
 use Rattle.std.proofs.Math.Nat.{div-le_self, mod-lt}
 use Rattle.std.proofs.lemmas.Bool.{cases_eq}
 use Rattle.std.proofs.lemmas.Grind.{flat_map-append}
-use Rattle.std.proofs.lemmas.List.{take_more, take_all, take-append-le}
+use Rattle.std.proofs.lemmas.List.{length-map, take_more, take_all, take-append-le}
 use Rattle.std.proofs.lemmas.Nat.{mul-le}
 use Rattle.task_graph.specs.declared.Graph.{Graph}
 use Rattle.task_graph.specs.declared.Use.{Use}
 use Rattle.task_graph.specs.Arcs.{streams, tail, head, width, total}
 use Rattle.plan_device.specs.declared.device.Device.{Device}
-use Rattle.plan_device.specs.Devices.{IsDevice}
+use Rattle.slot_plan.specs.Grids.{IsGrid}
 use Rattle.slot_plan.specs.declared.tables.Tables.{Tables}
 use Rattle.slot_plan.specs.FirstFit.{is_pinned}
-use Rattle.slot_plan.specs.Merging.{AreThose, is_open, is_unpinned, one, pin, between, beside_pins, table_of, AreTablesOf, IsMerged}
+use Rattle.slot_plan.specs.Merging.{AreThose, is_open, is_unpinned, one, pin, between, beside_pins, table_of, AreTablesOf, AreHomesOf, IsMerged}
 use Rattle.slot_plan.specs.Placing.{ArePlaced}
 use Rattle.slot_plan.specs.Plan.{distance, AreNeeds}
 use Rattle.slot_plan.specs.Tables.{items, places, AreTables}
@@ -121,13 +121,13 @@ few_in n test xs (suc m) h e =
 pub few_those : (n : ℕ) (test : ℕ → Bool) (xs : List ℕ) → AreThose n test xs → length xs ≤ n
 few_those n test xs h = few_in n test xs (length xs) h refl
 
-pub pins_near : (g : Graph) (d : Device) (needs : List Use) (b : List ℕ) (used : List Use) → IsDevice g d → AreNeeds g d needs → ArePlaced d needs false (length needs) b used → (x : ℕ) → x < g.groups → is_pinned d x ≡ true → get_or b x 0 < 32
+pub pins_near : (g : Graph) (d : Device) (needs : List Use) (b : List ℕ) (used : List Use) → IsGrid g d → AreNeeds g d needs → ArePlaced d needs false (length needs) b used → (x : ℕ) → x < g.groups → is_pinned d x ≡ true → get_or b x 0 < 32
 pins_near g d needs b used device needed placed x l e =
     let a = (pinned_may d needs b used x placed (let y = needed.long in omega arith) e).inside in
     let f = few_slots g d device in omega arith
 
-pub tables_low : (g : Graph) (d : Device) (needs : List Use) (b : List ℕ) (used : List Use) (free opens : List ℕ) (t : Tables) → IsDevice g d → AreParts g d needs b used free opens t → g.groups ≤ 512 → AreTables t
-tables_low g d needs b used free opens t device parts few =
+pub tables_low : (g : Graph) (d : Device) (needs : List Use) (b : List ℕ) (used : List Use) (free opens : List ℕ) (t : Tables) (homes regions : List ℕ) → IsGrid g d → AreParts g d needs b used free opens t → AreHomesOf homes regions free opens t → g.groups ≤ 512 → AreTables t
+tables_low g d needs b used free opens t homes regions device parts are few =
     let h = parts.tables in
     let slots = few_slots g d device in
     let open_low : (y : ℕ) → y < length opens → get_or opens y 0 < 32 = (λ y l. (let a = parts.opened.inside y l in omega arith)) in
@@ -136,6 +136,8 @@ tables_low g d needs b used free opens t device parts few =
     record {
       few_items = (let a = few_those g.groups (is_unpinned d) free parts.frees in omega arith);
       few_places = (let a = few_those (length d.slots.items) (is_open d) opens parts.opened in omega arith);
+      homes = ap length are.of_items ∙ (length-map free (λ v. get_or homes v 0) ∙ sym n);
+      regions = ap length are.of_places ∙ (length-map opens (λ v. get_or regions v 0) ∙ sym m);
       alone = ap length h.alone ∙ (length_table (beside_pins g d b) free opens ∙ (ap (λ (x : ℕ). x * length opens) (sym n) ∙ ap (λ (x : ℕ). items t * x) (sym m)));
       joint = ap length h.joint ∙ (length_table (between g) free free ∙ (ap (λ (x : ℕ). x * length free) (sym n) ∙ ap (λ (x : ℕ). items t * x) (sym n)));
       distance = ap length h.distance ∙ (length_table (distance d) opens opens ∙ (ap (λ (x : ℕ). x * length opens) (sym m) ∙ ap (λ (x : ℕ). places t * x) (sym m)));
@@ -252,3 +254,7 @@ merged_from g d b free opens layout p free' opens' layout' those long ef eo el a
     (subst (λ (x : List ℕ). (j : ℕ) → j < length free → get_or p (get_or free j 0) 0 ≡ get_or x (get_or layout' j 0) 0) eo
     (subst (λ (x : List ℕ). (j : ℕ) → j < length x → get_or p (get_or x j 0) 0 ≡ get_or opens' (get_or layout' j 0) 0) ef at)))
     (subst (λ (x : List ℕ). (v : ℕ) → ((j : ℕ) → j < length x → get_or x j 0 ≡ v → ⊥) → get_or p v 0 ≡ get_or b v 0) ef others)
+
+pub homes_by : (homes regions free opens : List ℕ) (t : Tables) (free' opens' : List ℕ) → free' ≡ free → opens' ≡ opens → AreHomesOf homes regions free' opens' t → AreHomesOf homes regions free opens t
+homes_by homes regions free opens t free' opens' ef eo h =
+    subst (λ (x : List ℕ). AreHomesOf homes regions free x t) eo (subst (λ (x : List ℕ). AreHomesOf homes regions x opens' t) ef h)

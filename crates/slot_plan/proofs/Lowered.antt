@@ -1,6 +1,6 @@
 -- Rows of what items cost, written over row by row.
-use Rattle.std.proofs.Common.{◌≡◌, ℕ, ◌+◌, ◌*◌, ◌<◌, ◌≤◌, Bool, false, cond, List, [], ◌∷◌, ◌++◌, length, get_or, set, refl, ap, ◌∙◌, arith, add-one, ⊎_elim, length-set}
-use Rattle.std.specs.Prelude.{if◌then◌else◌, nat_lt}
+use Rattle.std.proofs.Common.{◌≡◌, ℕ, ◌+◌, ◌*◌, ◌<◌, ◌≤◌, Bool, true, false, cond, List, [], ◌∷◌, ◌++◌, length, get_or, set, refl, ap, subst, ◌∙◌, arith, add-one, ⊎_elim, length-set}
+use Rattle.std.specs.Prelude.{if◌then◌else◌, nat_lt, ◌==◌}
 use Rattle.std.proofs.lemmas.Bool.{cases_lt, cases_eq}
 use Rattle.std.proofs.lemmas.Bool.Decides.{nat_tests}
 use Rattle.std.proofs.lemmas.List.{get_or-set_same, get_or-set_other}
@@ -8,7 +8,7 @@ use Rattle.std.proofs.lemmas.Nat.{mul-add-lt}
 use Rattle.task_graph.specs.Arcs.{total}
 use Rattle.slot_plan.specs.declared.tables.Tables.{Tables}
 use Rattle.slot_plan.specs.Search.{AreRows, IsBelowRest}
-use Rattle.slot_plan.specs.Tables.{items, places, cell, joint_at, distance_at, beside, AreTables}
+use Rattle.slot_plan.specs.Tables.{items, places, cell, joint_at, distance_at, beside, Suits, AreTables}
 use Rattle.slot_plan.proofs.Beginnings.{beside_push, push_long}
 use Rattle.slot_plan.proofs.Exploring.{beside_low}
 
@@ -20,19 +20,22 @@ pub record IsRowPart (t : Tables) (rows old : List ℕ) (placed place item y lea
   pub long : length next ≡ items t * places t
   pub row : (z : ℕ) → z < y → cell next (places t) item z ≡ cell rows (places t) item z + joint_at t placed item * distance_at t place z
   pub others : (i z : ℕ) → i < item → z < places t → cell next (places t) i z ≡ cell old (places t) i z
-  pub lower : (z : ℕ) → z < y → least ≤ cell next (places t) item z
-  pub small : least ≤ 2726297600
+  pub lower : (z : ℕ) → z < y → Suits t item z → least ≤ cell next (places t) item z
+  pub small : least ≤ 2731622400
 
-pub row_none : (t : Tables) (rows old : List ℕ) (placed place item least : ℕ) → length old ≡ items t * places t → least ≤ 2726297600 → IsRowPart t rows old placed place item 0 least old
+pub same_test : (a b : ℕ) → a ≡ b → (a == b) ≡ true
+same_test a b e = grind (arith, nat_tests)
+
+pub row_none : (t : Tables) (rows old : List ℕ) (placed place item least : ℕ) → length old ≡ items t * places t → least ≤ 2731622400 → IsRowPart t rows old placed place item 0 least old
 row_none t rows old placed place item least long small = record {
   long = long;
   row = λ z l. absurd (omega arith);
   others = λ i z l lz. refl;
-  lower = λ z l. absurd (omega arith);
+  lower = λ z l suits. absurd (omega arith);
   small = small;
 }
 
-pub row_more : (t : Tables) (rows old : List ℕ) (placed place item y least : ℕ) (next : List ℕ) (value low : ℕ) → low ≤ least → low ≤ value → IsRowPart t rows old placed place item y least next → item < items t → y < places t → value ≡ cell rows (places t) item y + joint_at t placed item * distance_at t place y → IsRowPart t rows old placed place item (y + 1) low (set next (item * places t + y) value)
+pub row_more : (t : Tables) (rows old : List ℕ) (placed place item y least : ℕ) (next : List ℕ) (value low : ℕ) → low ≤ least → (Suits t item y → low ≤ value) → IsRowPart t rows old placed place item y least next → item < items t → y < places t → value ≡ cell rows (places t) item y + joint_at t placed item * distance_at t place y → IsRowPart t rows old placed place item (y + 1) low (set next (item * places t + y) value)
 row_more t rows old placed place item y least next value low lo lv h li ly is =
     let m = places t in
     let at = item * m + y in
@@ -52,12 +55,13 @@ row_more t rows old placed place item y least next value low lo lv h li ly is =
           let c = mul-add-lt i m z item l lz in
           let a = get_or-set_other next at (i * m + z) value 0 (λ (q : i * m + z ≡ at). let i : ⊥ = omega arith in i) in
           let b = h.others i z l lz in omega arith);
-      lower = λ z l. ⊎_elim
+      lower = λ z l suits. ⊎_elim
           (λ (e : z ≡ y).
-          let a = ap (λ (x : ℕ). get_or (set next at value) (item * m + x) 0) e in omega arith)
+          let a = ap (λ (x : ℕ). get_or (set next at value) (item * m + x) 0) e in
+          let b = lv (subst (Suits t item) e suits) in omega arith)
           (λ (ne : z ≡ y → ⊥).
           let a = get_or-set_other next at (item * m + z) value 0 (λ (q : item * m + z ≡ at). ne (omega arith)) in
-          let b = h.lower z (omega arith) in omega arith)
+          let b = h.lower z (omega arith) suits in omega arith)
           (cases_eq z y);
       small = (let a = h.small in omega arith);
     }
@@ -66,8 +70,8 @@ row_more t rows old placed place item y least next value low lo lv h li ly is =
 pub record AreRowsPart (t : Tables) (p : List ℕ) (place j low : ℕ) (next : List ℕ) : Type 0 where
   pub long : length next ≡ items t * places t
   pub done : (i y : ℕ) → length p < i → i < j → y < places t → cell next (places t) i y ≡ beside t (p ++ place ∷ []) i y
-  pub below : (at : ℕ → ℕ) → ((i : ℕ) → i < items t → at i < places t) → low ≤ total j (λ i. if nat_lt i (length (p ++ place ∷ [])) then 0 else beside t (p ++ place ∷ []) i (at i))
-  pub small : low ≤ j * 2726297600
+  pub below : (at : ℕ → ℕ) → ((i : ℕ) → i < items t → (at i < places t) × Suits t i (at i)) → low ≤ total j (λ i. if nat_lt i (length (p ++ place ∷ [])) then 0 else beside t (p ++ place ∷ []) i (at i))
+  pub small : low ≤ j * 2731622400
 
 pub rows_none : (t : Tables) (p next : List ℕ) (place j : ℕ) → length next ≡ items t * places t → j ≡ length p + 1 → AreRowsPart t p place j 0 next
 rows_none t p next place j long e = record {
@@ -83,7 +87,7 @@ past_test j m x l = let e : nat_lt j m ≡ false = grind (arith, nat_tests) in a
 pub rows_more : (t : Tables) (p rows next : List ℕ) (place j low : ℕ) (next' : List ℕ) (least : ℕ) → AreRows t p rows → AreRowsPart t p place j low next → length p < j → j < items t → length next' ≡ items t * places t
     → ((y : ℕ) → y < places t → cell next' (places t) j y ≡ cell rows (places t) j y + joint_at t (length p) j * distance_at t place y)
     → ((i y : ℕ) → i < j → y < places t → cell next' (places t) i y ≡ cell next (places t) i y)
-    → ((y : ℕ) → y < places t → least ≤ cell next' (places t) j y) → least ≤ 2726297600
+    → ((y : ℕ) → y < places t → Suits t j y → least ≤ cell next' (places t) j y) → least ≤ 2731622400
     → AreRowsPart t p place (j + 1) (low + least) next'
 rows_more t p rows next place j low next' least are h lp lj long row others small low_least =
     let q = p ++ place ∷ [] in
@@ -102,8 +106,8 @@ rows_more t p rows next place j low next' least are h lp lj long row others smal
           (cases_lt i j);
       below = λ at inside. (
           let a = h.below at inside in
-          let b = small (at j) (inside j lj) in
-          let c = here (at j) (inside j lj) in
+          let b = small (at j) (inside j lj).0 (inside j lj).1 in
+          let c = here (at j) (inside j lj).0 in
           let e = past_test j (length q) (beside t q j (at j)) (omega arith) in
           let s : total (j + 1) (λ i. if nat_lt i (length q) then 0 else beside t q i (at i)) ≡ total j (λ i. if nat_lt i (length q) then 0 else beside t q i (at i)) + (if nat_lt j (length q) then 0 else beside t q j (at j)) = rw add-one refl in
           omega arith);

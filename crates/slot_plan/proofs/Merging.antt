@@ -1,8 +1,9 @@
 -- The plan of a layout of the free groups.
 use Rattle.std.proofs.Common.{◌≡◌, ℕ, zero, suc, ◌+◌, ◌*◌, ◌<◌, ◌≤◌, ◌⊎◌, inl, inr, Bool, true, false, List, [], ◌∷◌, ◌++◌, length, get_or, refl, sym, ap, subst, ◌∙◌, arith, ⊎_elim, length-append, Option, None, Some}
-use Rattle.std.specs.Prelude.{if◌then◌else◌, ◌==◌, ◌&&◌, not, nat_lt, slice_get}
+use Rattle.std.specs.Prelude.{if◌then◌else◌, ◌==◌, ◌&&◌, not, nat_lt, slice_get, replicate}
 use Rattle.std.proofs.lemmas.Bool.{cases_lt, cases_eq}
 use Rattle.std.proofs.lemmas.Bool.Decides.{nat_tests}
+use Rattle.std.proofs.lemmas.List.{get_or-map, get_or-replicate}
 use Rattle.task_graph.specs.declared.Graph.{Graph}
 use Rattle.task_graph.specs.declared.Use.{Use}
 use Rattle.task_graph.specs.Streams.{amount_at, from_of, to_of}
@@ -11,8 +12,8 @@ use Rattle.plan_device.specs.declared.device.Device.{Device}
 use Rattle.slot_plan.specs.declared.search.Best.{Best}
 use Rattle.slot_plan.specs.declared.tables.Tables.{Tables}
 use Rattle.slot_plan.specs.FirstFit.{is_pin, is_pinned, comes_before}
-use Rattle.slot_plan.specs.Least.{NotAfter, IsLeastPlanOf}
-use Rattle.slot_plan.specs.Merging.{AreThose, is_open, is_unpinned, one, pin, between, beside_pins, AreTablesOf, IsMerged}
+use Rattle.slot_plan.specs.Least.{NotAfter, IsLeastOf, HasNoneOf, IsLeastPlanOf}
+use Rattle.slot_plan.specs.Merging.{AreThose, is_open, is_unpinned, one, pin, between, beside_pins, AreTablesOf, AreHomesOf, StayAtHome, IsMerged}
 use Rattle.slot_plan.specs.Placing.{is_placed, ArePlaced, IsStuck}
 use Rattle.slot_plan.specs.Plan.{need_of, distance, link_cost, cost, load, MayStand, used_in, IsPlanOf, AreNeeds}
 use Rattle.slot_plan.specs.Search.{IsAnswer}
@@ -354,8 +355,25 @@ chosen (suc n) m opens want h =
           (cases_lt j n),
     )
 
-pub layout_of_plan : (g : Graph) (d : Device) (needs : List Use) (b : List ℕ) (used : List Use) (free opens : List ℕ) (t : Tables) (q : List ℕ) → AreParts g d needs b used free opens t → IsPlanOf g d q → (f : List ℕ) × IsLayout t f × IsMerged g d b free opens f q
-layout_of_plan g d needs b used free opens t q parts plan =
+-- homes and regions, read from the tables
+home_is : (homes regions free opens : List ℕ) (t : Tables) (j : ℕ) → AreHomesOf homes regions free opens t → j < length free → get_or t.homes.items j 0 ≡ get_or homes (get_or free j 0) 0
+home_is homes regions free opens t j h l = ap (λ (xs : List ℕ). get_or xs j 0) h.of_items ∙ get_or-map (λ v. get_or homes v 0) free j 0 0 l
+
+region_is : (homes regions free opens : List ℕ) (t : Tables) (y : ℕ) → AreHomesOf homes regions free opens t → y < length opens → get_or t.regions.items y 0 ≡ get_or regions (get_or opens y 0) 0
+region_is homes regions free opens t y h l = ap (λ (xs : List ℕ). get_or xs y 0) h.of_places ∙ get_or-map (λ v. get_or regions v 0) opens y 0 0 l
+
+-- the plan of a layout keeps the homes
+pub stays_merged : (g : Graph) (d : Device) (homes regions b free opens : List ℕ) (t : Tables) (f p : List ℕ) → AreThose g.groups (is_unpinned d) free → AreHomesOf homes regions free opens t → length f ≡ length free → ((j : ℕ) → j < length f → get_or f j 0 < length opens) → IsLayout t f → IsMerged g d b free opens f p → StayAtHome d homes regions p
+stays_merged g d homes regions b free opens t f p frees are long inside layout merged = λ v l e.
+    let w = frees.all v (let y = merged.long in omega arith) (ap not e) in
+    let lf : w.0 < length f = (let y = w.1 in omega arith) in
+    let is : get_or p v 0 ≡ get_or opens (get_or f w.0 0) 0 = ap (λ (x : ℕ). get_or p x 0) (sym w.2) ∙ merged.items w.0 w.1 in
+    ap (λ (x : ℕ). get_or homes x 0) (sym w.2)
+    ∙ (sym (home_is homes regions free opens t w.0 are w.1)
+    ∙ (layout.rooms.home w.0 lf ∙ (region_is homes regions free opens t (get_or f w.0 0) are (inside w.0 lf) ∙ ap (λ (x : ℕ). get_or regions x 0) (sym is))))
+
+pub layout_of_plan : (g : Graph) (d : Device) (needs : List Use) (b : List ℕ) (used : List Use) (free opens : List ℕ) (t : Tables) (homes regions q : List ℕ) → AreParts g d needs b used free opens t → AreHomesOf homes regions free opens t → IsPlanOf g d q → StayAtHome d homes regions q → (f : List ℕ) × IsLayout t f × IsMerged g d b free opens f q
+layout_of_plan g d needs b used free opens t homes regions q parts are plan stays =
     let n = length free in
     let r = chosen n (length opens) opens (λ j. get_or q (get_or free j 0) 0)
     (λ j l.
@@ -376,6 +394,12 @@ layout_of_plan g d needs b used free opens t q parts plan =
         whole = long ∙ sym parts.tables.needs_long;
         rooms = record {
           inside = λ j l. (let a = inside j l in let c = parts.tables.room_long in omega arith);
+          home = λ j l. (
+              let lj : j < n = omega arith in
+              let v = get_or free j 0 in
+              home_is homes regions free opens t j are lj
+              ∙ (stays v (let a = parts.frees.inside j lj in let c = plan.whole in omega arith) (not_true _ (parts.frees.pass j lj))
+              ∙ (ap (λ (x : ℕ). get_or regions x 0) (sym (r.2 j lj).1) ∙ sym (region_is homes regions free opens t (get_or f j 0) are (inside j l)))));
           within = λ y k l. (
               let ly : y < length opens = (let c = parts.tables.room_long in omega arith) in
               let s = get_or opens y 0 in
@@ -435,16 +459,17 @@ order_merged g d b free opens f f' p p' frees those long long' inside m m' h =
 
 -- ---- the least layout's plan is the least plan
 
-pub least_merged : (g : Graph) (d : Device) (needs : List Use) (b : List ℕ) (used : List Use) (free opens : List ℕ) (t : Tables) (best : Best) (p : List ℕ) → AreParts g d needs b used free opens t → IsAnswer t (Some best) → IsMerged g d b free opens best.places.items p → IsLeastPlanOf g d p
-least_merged g d needs b used free opens t best p parts answer merged =
+pub least_merged : (g : Graph) (d : Device) (needs : List Use) (b : List ℕ) (used : List Use) (free opens : List ℕ) (t : Tables) (homes regions : List ℕ) (best : Best) (p : List ℕ) → AreParts g d needs b used free opens t → AreHomesOf homes regions free opens t → IsAnswer t (Some best) → IsMerged g d b free opens best.places.items p → IsLeastOf g d (StayAtHome d homes regions) p
+least_merged g d needs b used free opens t homes regions best p parts are answer merged =
     let f = best.places.items in
     let long : length f ≡ length free = answer.layout.whole ∙ parts.tables.needs_long in
     let inside : (j : ℕ) → j < length f → get_or f j 0 < length opens = (λ j l. (let a = answer.layout.rooms.inside j l in let c = parts.tables.room_long in omega arith)) in
     let mine = cost_merged g d needs b used free opens t f p parts long inside merged in
     record {
       plan = plan_of_layout g d needs b used free opens t f p parts answer.layout merged;
-      beats = λ q plan. (
-          let w = layout_of_plan g d needs b used free opens t q parts plan in
+      holds = stays_merged g d homes regions b free opens t f p parts.frees are long inside answer.layout merged;
+      beats = λ q plan stays. (
+          let w = layout_of_plan g d needs b used free opens t homes regions q parts are plan stays in
           let f' = w.0 in
           let long' : length f' ≡ length free = w.1.whole ∙ parts.tables.needs_long in
           let inside' : (j : ℕ) → j < length f' → get_or f' j 0 < length opens = (λ j l. (let a = w.1.rooms.inside j l in let c = parts.tables.room_long in omega arith)) in
@@ -456,9 +481,9 @@ least_merged g d needs b used free opens t best p parts answer merged =
           });
     }
 
-pub none_merged : (g : Graph) (d : Device) (needs : List Use) (b : List ℕ) (used : List Use) (free opens : List ℕ) (t : Tables) → AreParts g d needs b used free opens t → IsAnswer t None → (q : List ℕ) → IsPlanOf g d q → ⊥
-none_merged g d needs b used free opens t parts answer q plan =
-    let w = layout_of_plan g d needs b used free opens t q parts plan in answer w.0 w.1
+pub none_merged : (g : Graph) (d : Device) (needs : List Use) (b : List ℕ) (used : List Use) (free opens : List ℕ) (t : Tables) (homes regions : List ℕ) → AreParts g d needs b used free opens t → AreHomesOf homes regions free opens t → IsAnswer t None → HasNoneOf g d (StayAtHome d homes regions)
+none_merged g d needs b used free opens t homes regions parts are answer = λ q plan stays. (
+    let w = layout_of_plan g d needs b used free opens t homes regions q parts are plan stays in answer w.0 w.1)
 
 -- ---- where pinned groups have no room there is no plan
 
@@ -508,3 +533,22 @@ stuck_none g d needs b v needed stuck q plan =
           let o = ap (λ (n : ℕ). total n X) (needed.long ∙ sym plan.whole) in
           omega arith);
     })
+
+-- ---- one region: all plans stay at home
+
+pub zeros_stay : (g : Graph) (d : Device) (homes regions q : List ℕ) (n m : ℕ) → homes ≡ replicate n 0 → regions ≡ replicate m 0 → n ≡ g.groups → m ≡ length d.slots.items → IsPlanOf g d q → StayAtHome d homes regions q
+zeros_stay g d homes regions q n m eh er en em plan = λ v l e.
+    let s = get_or q v 0 in
+    let inside = (plan.each v l).inside in
+    ap (λ (xs : List ℕ). get_or xs v 0) eh
+    ∙ (get_or-replicate n v 0 0 (let a = plan.whole in omega arith)
+    ∙ sym (ap (λ (xs : List ℕ). get_or xs s 0) er ∙ get_or-replicate m s 0 0 (omega arith)))
+
+pub least_of_all : (g : Graph) (d : Device) (homes regions p : List ℕ) (n m : ℕ) → homes ≡ replicate n 0 → regions ≡ replicate m 0 → n ≡ g.groups → m ≡ length d.slots.items → IsLeastOf g d (StayAtHome d homes regions) p → IsLeastPlanOf g d p
+least_of_all g d homes regions p n m eh er en em h = record {
+  plan = h.plan;
+  beats = λ q plan. h.beats q plan (zeros_stay g d homes regions q n m eh er en em plan);
+}
+
+pub none_of_all : (g : Graph) (d : Device) (homes regions : List ℕ) (n m : ℕ) → homes ≡ replicate n 0 → regions ≡ replicate m 0 → n ≡ g.groups → m ≡ length d.slots.items → HasNoneOf g d (StayAtHome d homes regions) → (q : List ℕ) → IsPlanOf g d q → ⊥
+none_of_all g d homes regions n m eh er en em h q plan = h q plan (zeros_stay g d homes regions q n m eh er en em plan)

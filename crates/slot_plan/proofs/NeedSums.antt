@@ -8,7 +8,7 @@ use Rattle.task_graph.specs.Streams.{amount, amount_at}
 use Rattle.task_graph.specs.Arcs.{total}
 use Rattle.plan_device.specs.declared.device.Device.{Device}
 use Rattle.slot_plan.specs.Plan.{need_of}
-use Rattle.plan_device.specs.Devices.{IsDevice}
+use Rattle.slot_plan.specs.Grids.{IsGrid}
 use Rattle.slot_plan.proofs.Uses.{amount_push, no_use, nothing_used}
 
 -- the part of a need over the first n instances
@@ -32,7 +32,7 @@ need_other g d n v sum ne h = record {
   low = λ k. (let a = h.low k in omega arith);
 }
 
-pub need_member : (g : Graph) (d : Device) (n v : ℕ) (sum new : Use) → IsDevice g d → get_or g.group.items n 0 ≡ v → ((k : ℕ) → amount new k ≡ amount sum k + amount_at d.uses.items n k) → IsNeedPart g d n v sum → IsNeedPart g d (n + 1) v new
+pub need_member : (g : Graph) (d : Device) (n v : ℕ) (sum new : Use) → IsGrid g d → get_or g.group.items n 0 ≡ v → ((k : ℕ) → amount new k ≡ amount sum k + amount_at d.uses.items n k) → IsNeedPart g d n v sum → IsNeedPart g d (n + 1) v new
 need_member g d n v sum new ok e is h = record {
   value = λ k. (
       let t : (get_or g.group.items n 0 == v) ≡ true = grind (arith, nat_tests) in

@@ -15,6 +15,16 @@ pub record Beats (g : Graph) (d : Device) (p q : List ℕ) : Type 0 where
   pub cheap : cost g d p ≤ cost g d q
   pub first : cost g d p ≡ cost g d q → NotAfter p q
 
+-- a plan that beats every plan of which this holds, as it holds of it
+pub record IsLeastOf (g : Graph) (d : Device) (P : List ℕ → Type 0) (p : List ℕ) : Type 0 where
+  pub plan : IsPlanOf g d p
+  pub holds : P p
+  pub beats : (q : List ℕ) → IsPlanOf g d q → P q → Beats g d p q
+
+-- no plan of which this holds
+abbrev pub HasNoneOf : Graph → Device → (List ℕ → Type 0) → Type 0
+HasNoneOf g d P = (q : List ℕ) → IsPlanOf g d q → P q → ⊥
+
 -- a plan that beats every plan
 pub record IsLeastPlanOf (g : Graph) (d : Device) (p : List ℕ) : Type 0 where
   pub plan : IsPlanOf g d p

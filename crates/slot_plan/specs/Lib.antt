@@ -1,3 +1,4 @@
+pub mod Grids
 pub mod Amounts
 pub mod Plan
 pub mod Least

@@ -57,6 +57,15 @@ pub record AreTablesOf (g : Graph) (d : Device) (needs : List Use) (b : List ℕ
   pub joint : t.joint.items ≡ table_of (between g) free free
   pub distance : t.distance.items ≡ table_of (distance d) open_slots open_slots
 
+-- where items are at home, and of which regions places are, by groups and by slots
+pub record AreHomesOf (homes regions free open_slots : List ℕ) (t : Tables) : Type 0 where
+  pub of_items : t.homes.items ≡ map (slice_index homes) free
+  pub of_places : t.regions.items ≡ map (slice_index regions) open_slots
+
+-- each group that is not pinned stands in a slot of the region where it is at home
+abbrev pub StayAtHome : Device → List ℕ → List ℕ → List ℕ → Type 0
+StayAtHome d homes regions p = (v : ℕ) → v < length p → is_pinned d v ≡ false → slice_index homes v ≡ slice_index regions (slice_index p v)
+
 -- the plan of a layout: pinned groups in their slots, free groups at the places of their items
 pub record IsMerged (g : Graph) (d : Device) (b free open_slots places p : List ℕ) : Type 0 where
   pub long : length p ≡ g.groups

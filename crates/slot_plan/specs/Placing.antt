@@ -24,7 +24,7 @@ pub record CanPlace (d : Device) (needs : List Use) : Type 0 where
   pub forbidden : length d.forbidden.items ≡ length d.slots.items
   pub few_slots : length d.slots.items ≤ 32
   pub percent : d.percent ≤ 100
-  pub capacities : (s k : ℕ) → amount_at d.slots.items s k < 2 ^ 32
+  pub capacities : (s k : ℕ) → amount_at d.slots.items s k < 2 ^ 40
   pub small : (v k : ℕ) → amount_at needs v k < 2 ^ 49
 
 -- what slots hold, within capacity

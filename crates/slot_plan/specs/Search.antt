@@ -7,7 +7,7 @@ use Rattle.slot_plan.specs.declared.search.Best.{Best}
 use Rattle.slot_plan.specs.declared.tables.Tables.{Tables}
 use Rattle.slot_plan.specs.Least.{NotAfter}
 use Rattle.slot_plan.specs.Plan.{load}
-use Rattle.slot_plan.specs.Tables.{items, places, cell, beside, cost_of, HasRooms, IsLayout}
+use Rattle.slot_plan.specs.Tables.{items, places, cell, beside, cost_of, Suits, HasRooms, IsLayout}
 
 -- p costs no more than q, and comes no later where it costs the same
 pub record IsNoWorse (t : Tables) (p q : List ℕ) : Type 0 where
@@ -68,10 +68,10 @@ pub record AreRows (t : Tables) (p rows : List ℕ) : Type 0 where
   pub long : length rows ≡ items t * places t
   pub value : (j y : ℕ) → length p ≤ j → j < items t → y < places t → cell rows (places t) j y ≡ beside t p j y
 
--- a number that those items cost at least, wherever they are placed
+-- a number that those items cost at least, wherever they are placed where they suit
 abbrev pub IsBelowRest : Tables → List ℕ → ℕ → Type 0
 IsBelowRest t p low =
-    (at : ℕ → ℕ) → ((j : ℕ) → j < items t → at j < places t) →
+    (at : ℕ → ℕ) → ((j : ℕ) → j < items t → (at j < places t) × Suits t j (at j)) →
     low ≤ total (items t) (λ j. if nat_lt j (length p) then 0 else beside t p j (at j))
 
 -- the state of the search at a beginning p

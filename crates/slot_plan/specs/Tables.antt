@@ -25,10 +25,16 @@ joint_at t i j = cell t.joint.items (items t) i j
 abbrev pub distance_at : Tables → ℕ → ℕ → ℕ
 distance_at t x y = cell t.distance.items (places t) x y
 
+-- an item may stand at a place that is of the region where it is at home
+abbrev pub Suits : Tables → ℕ → ℕ → Type 0
+Suits t j y = slice_index t.homes.items j ≡ slice_index t.regions.items y
+
 -- within the limits of graphs and devices
 pub record AreTables (t : Tables) : Type 0 where
   pub few_items : items t ≤ 512
   pub few_places : places t ≤ 32
+  pub homes : length t.homes.items ≡ items t
+  pub regions : length t.regions.items ≡ places t
   pub alone : length t.alone.items ≡ items t * places t
   pub joint : length t.joint.items ≡ items t * items t
   pub distance : length t.distance.items ≡ places t * places t
@@ -48,9 +54,10 @@ step_cost t p j = alone_at t j (slice_index p j) + total j (λ i. joint_at t i j
 abbrev pub cost_of : Tables → List ℕ → ℕ
 cost_of t p = total (length p) (step_cost t p)
 
--- a list of places that have room for their items
+-- a list of places that suit their items and have room for them
 pub record HasRooms (t : Tables) (p : List ℕ) : Type 0 where
   pub inside : (j : ℕ) → j < length p → slice_index p j < places t
+  pub home : (j : ℕ) → j < length p → Suits t j (slice_index p j)
   pub within : (s k : ℕ) → s < places t → load t.needs.items p s k ≤ amount_at t.room.items s k
 
 -- a place for each item

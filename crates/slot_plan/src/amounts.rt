@@ -31,7 +31,7 @@ pub(crate) fn sum_of(a: Use, b: Use) -> Use
 }
 
 /// An amount and one of a list.
-pub(crate) fn add_at(sum: Use, uses: &[Use], i: usize) -> Use
+pub fn add_at(sum: Use, uses: &[Use], i: usize) -> Use
     requires inside { i < length uses.now }
     requires first { (k : ℕ) → amount sum k < 2 ^ 60 }
     requires second { (k : ℕ) → amount_at uses.now i k < 2 ^ 60 }
@@ -43,7 +43,7 @@ pub(crate) fn add_at(sum: Use, uses: &[Use], i: usize) -> Use
 /// Whether an amount is within a part of a capacity, in hundredths.
 pub(crate) fn is_within(load: Use, capacity: Use, percent: u32) -> bool
     requires load { AreBelow load (2 ^ 50) }
-    requires capacity { AreBelow capacity (2 ^ 32) }
+    requires capacity { AreBelow capacity (2 ^ 40) }
     requires percent { percent ≤ 100 }
     ensures { IsTrue result ↔ FitsIn load capacity percent }
 {
@@ -56,7 +56,7 @@ pub(crate) fn is_within(load: Use, capacity: Use, percent: u32) -> bool
 }
 
 /// Slots that hold nothing.
-pub(crate) fn empty_slots(alloc: Global, count: usize) -> Result<Vec<Use>, AllocError>
+pub fn empty_slots(alloc: Global, count: usize) -> Result<Vec<Use>, AllocError>
     ensures long { IfOk result (λ used. length used.items ≡ count) }
     ensures empty { IfOk result (λ used. (s k : ℕ) → amount_at used.items s k ≡ 0) }
 {
@@ -115,7 +115,7 @@ pub(crate) fn room_beside(slots: &[Use], percent: u32, used: &[Use], slot: usize
     requires inside { slot < length slots.now }
     requires used { slot < length used.now }
     requires percent { percent ≤ 100 }
-    requires capacities { (k : ℕ) → amount_at slots.now slot k < 2 ^ 32 }
+    requires capacities { (k : ℕ) → amount_at slots.now slot k < 2 ^ 40 }
     requires within { (k : ℕ) → amount_at used.now slot k * 100 ≤ amount_at slots.now slot k * percent }
     ensures { (k : ℕ) → amount result k + amount_at used.now slot k * 100 ≡ amount_at slots.now slot k * percent }
 {

@@ -1,8 +1,10 @@
 //! Mode exact.
-ghost use Rattle.std.specs.Prelude.{◌≡◌, ◌<◌, ℕ, false, length, slice_index, IfOk, IfErr};
-ghost use Rattle.plan_device.specs.Devices.{IsDevice};
-ghost use Rattle.slot_plan.specs.Causes.{HasFewWays, IsPlanBy, IsCause};
-ghost use Rattle.slot_plan.specs.Placing.{ArePlaced, CanPlace, IsPinFault};
+ghost use Rattle.std.specs.Prelude.{◌≡◌, ◌<◌, ℕ, List, false, length, slice_index, IfOk, IfErr, MatchOption};
+ghost use Rattle.slot_plan.specs.Grids.{IsGrid};
+ghost use Rattle.slot_plan.specs.Causes.{IsPlanBy, IsCause};
+ghost use Rattle.slot_plan.specs.Least.{IsLeastOf, HasNoneOf};
+ghost use Rattle.slot_plan.specs.Merging.{StayAtHome};
+ghost use Rattle.slot_plan.specs.Placing.{ArePlaced, CanPlace, IsStuck};
 ghost use Rattle.slot_plan.specs.Plan.{AreNeeds, IsPlanOf};
 
 use crate::fit::{Placing, nothing_placed};
@@ -11,19 +13,22 @@ use crate::limit::check_ways;
 use crate::search::least_layout;
 use crate::tables::{free_groups, open_slots, tables_of};
 use plan_device::Device;
-use std::alloc::Global;
+use std::alloc::{AllocError, Global};
 use task_graph::{Graph, Use};
 
-/// The pinned groups in their slots.
-fn pinned_placed(alloc: Global, device: &Device, needs: &[Use]) -> Result<Placing, PlanFault>
+/// The pinned groups in their slots; none where one of them has no room.
+fn pinned_placed(
+    alloc: Global,
+    device: &Device,
+    needs: &[Use],
+) -> Result<Option<Placing>, AllocError>
     requires { CanPlace device.now needs.now }
-    ensures placed { IfOk result (λ placing. ArePlaced device.now needs.now false (length needs.now) placing.slots.items placing.used.items) }
-    ensures none { IfErr result (IsPinFault device.now needs.now) }
+    ensures { IfOk result (λ found. MatchOption found ((b : List ℕ) × (v : ℕ) × IsStuck device.now needs.now false b v) (λ placing. ArePlaced device.now needs.now false (length needs.now) placing.slots.items placing.used.items)) }
 {
     let mut placing = nothing_placed(alloc, device, needs)?;
     match placing.place_all(device, needs, false) {
-        Ok(()) => Ok(placing),
-        Err(_) => Err(PlanFault::NoFit { group: None }),
+        Ok(()) => Ok(Some(placing)),
+        Err(_) => Ok(None),
     }
 }
 
@@ -42,32 +47,57 @@ fn merge(slots: &mut Vec<u32>, items: &[u32], places: &[u32], layout: &[u32])
     }
 }
 
-/// The least plan beside pinned groups in their slots.
-fn least_slots(
+/// The least of the plans beside pinned groups in their slots in which each free group stays in its region.
+fn least_beside(
     alloc: Global,
     graph: &Graph,
     device: &Device,
     needs: &[Use],
     placing: Placing,
-) -> Result<Vec<u32>, PlanFault>
-    requires device { IsDevice graph.now device.now }
+    homes: &[u32],
+    regions: &[u32],
+) -> Result<Option<Vec<u32>>, AllocError>
+    requires device { IsGrid graph.now device.now }
     requires needs { AreNeeds graph.now device.now needs.now }
-    requires few { HasFewWays device.now }
     requires placed { ArePlaced device.now needs.now false (length needs.now) placing.slots.items placing.used.items }
-    ensures plan { IfOk result (λ slot. IsPlanOf graph.now device.now slot.items) }
-    ensures by_mode { IfOk result (λ slot. IsPlanBy graph.now device.now Mode.Exact slot.items) }
-    ensures cause { IfErr result (IsCause graph.now device.now Mode.Exact) }
+    requires homes { length homes.now ≡ graph.now.groups }
+    requires regions { length regions.now ≡ length device.now.slots.items }
+    ensures { IfOk result (λ found. MatchOption found (HasNoneOf graph.now device.now (StayAtHome device.now homes.now regions.now)) (λ slot. IsLeastOf graph.now device.now (StayAtHome device.now homes.now regions.now) slot.items)) }
 {
     let Placing { mut slots, used } = placing;
     let items = free_groups(alloc, device)?;
     let places = open_slots(alloc, device)?;
-    let tables = tables_of(alloc, graph, device, needs, &slots, &used, &items, &places)?;
+    let tables = tables_of(
+        alloc, graph, device, needs, &slots, &used, &items, &places, homes, regions,
+    )?;
     match least_layout(alloc, &tables)? {
-        None => Err(PlanFault::NoFit { group: None }),
+        None => Ok(None),
         Some(best) => {
             merge(&mut slots, &items, &places, &best.places);
-            Ok(slots)
+            Ok(Some(slots))
         }
+    }
+}
+
+/// The slots of the least of the plans in which each free group stays in a slot whose region is the one where the group is at
+/// home, and of several the first in order; or none where there is no such plan.
+pub fn least_at_home(
+    alloc: Global,
+    graph: &Graph,
+    device: &Device,
+    needs: &[Use],
+    homes: &[u32],
+    regions: &[u32],
+) -> Result<Option<Vec<u32>>, AllocError>
+    requires device { IsGrid graph.now device.now }
+    requires needs { AreNeeds graph.now device.now needs.now }
+    requires homes { length homes.now ≡ graph.now.groups }
+    requires regions { length regions.now ≡ length device.now.slots.items }
+    ensures { IfOk result (λ found. MatchOption found (HasNoneOf graph.now device.now (StayAtHome device.now homes.now regions.now)) (λ slot. IsLeastOf graph.now device.now (StayAtHome device.now homes.now regions.now) slot.items)) }
+{
+    match pinned_placed(alloc, device, needs)? {
+        None => Ok(None),
+        Some(placing) => least_beside(alloc, graph, device, needs, placing, homes, regions),
     }
 }
 
@@ -78,13 +108,17 @@ pub(crate) fn exact_slots(
     device: &Device,
     needs: &[Use],
 ) -> Result<Vec<u32>, PlanFault>
-    requires device { IsDevice graph.now device.now }
+    requires device { IsGrid graph.now device.now }
     requires needs { AreNeeds graph.now device.now needs.now }
     ensures plan { IfOk result (λ slot. IsPlanOf graph.now device.now slot.items) }
     ensures by_mode { IfOk result (λ slot. IsPlanBy graph.now device.now Mode.Exact slot.items) }
     ensures cause { IfErr result (IsCause graph.now device.now Mode.Exact) }
 {
     check_ways(device)?;
-    let placing = pinned_placed(alloc, device, needs)?;
-    least_slots(alloc, graph, device, needs, placing)
+    let homes = vec![in alloc; 0; graph.groups as usize]?;
+    let regions = vec![in alloc; 0; device.slots.len()]?;
+    match least_at_home(alloc, graph, device, needs, &homes, &regions)? {
+        None => Err(PlanFault::NoFit { group: None }),
+        Some(slots) => Ok(slots),
+    }
 }

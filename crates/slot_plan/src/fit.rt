@@ -1,6 +1,6 @@
 //! First fit.
 ghost use Rattle.std.specs.Prelude.{◌≡◌, ◌<◌, ◌+◌, ℕ, IsTrue, true, false, length, IfOk, IfErr, OnOk, Some};
-ghost use Rattle.plan_device.specs.Devices.{IsDevice};
+ghost use Rattle.slot_plan.specs.Grids.{IsGrid};
 ghost use Rattle.slot_plan.specs.Causes.{IsPlanBy, IsCause};
 ghost use Rattle.slot_plan.specs.Placing.{ArePlaced, CanPlace, IsStuck};
 ghost use Rattle.slot_plan.specs.Plan.{AreNeeds, IsPlanOf};
@@ -84,7 +84,7 @@ pub(crate) fn first_fit(
     device: &Device,
     needs: &[Use],
 ) -> Result<Vec<u32>, PlanFault>
-    requires device { IsDevice graph.now device.now }
+    requires device { IsGrid graph.now device.now }
     requires needs { AreNeeds graph.now device.now needs.now }
     ensures plan { IfOk result (λ slot. IsPlanOf graph.now device.now slot.items) }
     ensures by_mode { IfOk result (λ slot. IsPlanBy graph.now device.now Mode.Fit slot.items) }

@@ -15,5 +15,9 @@ mod slots;
 mod tables;
 mod totals;
 
+pub use amounts::{add_at, empty_slots};
+pub use exact::least_at_home;
 pub use floorplan::{Mode, Plan, PlanFault};
-pub use planning::plan;
+pub use limit::free_groups;
+pub use needs::group_needs;
+pub use planning::{plan, plan_of};

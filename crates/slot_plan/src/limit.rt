@@ -35,7 +35,7 @@ pub(crate) fn open_slots(device: &Device) -> usize
 }
 
 /// How many groups are not pinned.
-pub(crate) fn free_groups(device: &Device) -> usize
+pub fn free_groups(device: &Device) -> usize
     ensures { result ≡ free_of device.now }
 {
     device.pins.iter().filter(|pin| pin.is_none()).count()

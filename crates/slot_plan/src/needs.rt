@@ -1,7 +1,7 @@
 //! What groups need.
 ghost use Rattle.std.specs.Prelude.{◌≡◌, ◌<◌, ◌≤◌, ◌^◌, ◌*◌, ◌+◌, ℕ, IfOk, length};
 ghost use Rattle.task_graph.specs.Streams.{amount, amount_at};
-ghost use Rattle.plan_device.specs.Devices.{IsDevice};
+ghost use Rattle.slot_plan.specs.Grids.{IsGrid};
 ghost use Rattle.slot_plan.specs.Plan.{need_of, AreNeeds};
 
 use crate::amounts::{NOTHING, add_at};
@@ -11,7 +11,7 @@ use task_graph::{Graph, Use};
 
 /// What the members of a group use.
 fn need(graph: &Graph, device: &Device, group: usize) -> Use
-    requires { IsDevice graph.now device.now }
+    requires { IsGrid graph.now device.now }
     ensures value { (k : ℕ) → amount result k ≡ need_of graph.now device.now group k }
     ensures small { (k : ℕ) → amount result k < 2 ^ 49 }
 {
@@ -25,12 +25,8 @@ fn need(graph: &Graph, device: &Device, group: usize) -> Use
 }
 
 /// What all groups use.
-pub(crate) fn group_needs(
-    alloc: Global,
-    graph: &Graph,
-    device: &Device,
-) -> Result<Vec<Use>, AllocError>
-    requires { IsDevice graph.now device.now }
+pub fn group_needs(alloc: Global, graph: &Graph, device: &Device) -> Result<Vec<Use>, AllocError>
+    requires { IsGrid graph.now device.now }
     ensures { IfOk result (λ needs. AreNeeds graph.now device.now needs.items) }
 {
     let mut needs = Vec::new(alloc);

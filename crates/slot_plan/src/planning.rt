@@ -1,6 +1,7 @@
 //! The plan of a graph on a device.
 ghost use Rattle.std.specs.Prelude.{◌≡◌, IfOk, IfErr};
 ghost use Rattle.plan_device.specs.Devices.{IsDevice};
+ghost use Rattle.slot_plan.specs.Grids.{IsGrid};
 ghost use Rattle.slot_plan.specs.Causes.{IsPlanBy, IsCause, AreUsed};
 ghost use Rattle.slot_plan.specs.Plan.{AreNeeds, IsPlanOf, cost};
 
@@ -10,7 +11,7 @@ use crate::floorplan::{Mode, Plan, PlanFault};
 use crate::needs::group_needs;
 use crate::totals::{cost_of, used_by};
 use plan_device::Device;
-use std::alloc::Global;
+use std::alloc::{AllocError, Global};
 use task_graph::{Graph, Use};
 
 /// The slots of a plan by its mode.
@@ -21,7 +22,7 @@ fn slots_by(
     needs: &[Use],
     mode: Mode,
 ) -> Result<Vec<u32>, PlanFault>
-    requires device { IsDevice graph.now device.now }
+    requires device { IsGrid graph.now device.now }
     requires needs { AreNeeds graph.now device.now needs.now }
     ensures plan { IfOk result (λ slot. IsPlanOf graph.now device.now slot.items) }
     ensures by_mode { IfOk result (λ slot. IsPlanBy graph.now device.now mode slot.items) }
@@ -33,7 +34,28 @@ fn slots_by(
     }
 }
 
+/// A plan by its slots, with what they use and what it costs.
+pub fn plan_of(
+    alloc: Global,
+    graph: &Graph,
+    device: &Device,
+    needs: &[Use],
+    slot: Vec<u32>,
+) -> Result<Plan, AllocError>
+    requires device { IsGrid graph.now device.now }
+    requires needs { AreNeeds graph.now device.now needs.now }
+    requires plan { IsPlanOf graph.now device.now slot.items }
+    ensures slot { IfOk result (λ p. p.slot.items ≡ slot.items) }
+    ensures used { IfOk result (λ p. AreUsed graph.now device.now p.slot.items p.used.items) }
+    ensures cost { IfOk result (λ p. p.cost ≡ cost graph.now device.now p.slot.items) }
+{
+    let used = used_by(alloc, graph, device, needs, &slot)?;
+    let cost = cost_of(graph, device, &slot);
+    Ok(Plan { slot, used, cost })
+}
+
 /// A plan of a graph on a device that was read for it.
+#[tactic(auto, using(crate::proofs::Limits::grid_of))]
 pub fn plan(alloc: Global, graph: &Graph, device: &Device, mode: Mode) -> Result<Plan, PlanFault>
     requires { IsDevice graph.now device.now }
     ensures plan { IfOk result (λ p. IsPlanOf graph.now device.now p.slot.items) }

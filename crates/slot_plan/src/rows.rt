@@ -1,11 +1,22 @@
 //! What items cost that are still to be placed, at each place: a row for each item.
-ghost use Rattle.std.specs.Prelude.{◌≡◌, ◌<◌, ◌≤◌, ◌+◌, ◌*◌, ℕ, ◌⊎◌, length, slice_index, [], ◌∷◌, ◌++◌};
-ghost use Rattle.slot_plan.specs.Tables.{items, places, cell, joint_at, distance_at, AreTables};
+ghost use Rattle.std.specs.Prelude.{◌≡◌, true, ◌<◌, ◌≤◌, ◌+◌, ◌*◌, ℕ, ◌⊎◌, length, slice_index, [], ◌∷◌, ◌++◌};
+ghost use Rattle.slot_plan.specs.Tables.{items, places, cell, joint_at, distance_at, Suits, AreTables};
 ghost use Rattle.slot_plan.specs.Search.{AreRows, IsBelowRest};
 
 use crate::tables::Tables;
 
-/// Writes an item's row, where one more item was placed; the least that the item costs then.
+/// No cell of a row is greater.
+const MOST: u64 = 2_731_622_400;
+
+/// The lesser of two costs, where the second counts.
+fn lesser(least: u64, cost: u64, counts: bool) -> u64
+    ensures least { result ≤ least }
+    ensures cost { counts ≡ true → result ≤ cost }
+{
+    if counts { least.min(cost) } else { least }
+}
+
+/// Writes an item's row, where one more item was placed; the least that the item costs then where it suits.
 fn lower_row(
     tables: &Tables,
     rows: &[u64],
@@ -23,17 +34,17 @@ fn lower_row(
     requires low { (y : ℕ) → y < places tables.now → cell rows.now (places tables.now) item y ≤ 2726297600 }
     ensures row { (y : ℕ) → y < places tables.now → cell next.new (places tables.now) item y ≡ cell rows.now (places tables.now) item y + joint_at tables.now placed item * distance_at tables.now place y }
     ensures others { (i y : ℕ) → i < item → y < places tables.now → cell next.new (places tables.now) i y ≡ cell next.old (places tables.now) i y }
-    ensures least { (y : ℕ) → y < places tables.now → result ≤ cell next.new (places tables.now) item y }
-    ensures small { result ≤ 2726297600 }
+    ensures least { (y : ℕ) → y < places tables.now → Suits tables.now item y → result ≤ cell next.new (places tables.now) item y }
+    ensures small { result ≤ 2731622400 }
 {
     let places = tables.room.len();
     let width = tables.joint[placed * tables.needs.len() + item];
-    // at the same place the item costs no more than before
-    let mut least = rows[item * places + place];
+    let home = tables.homes[item];
+    let mut least = MOST;
     for y in 0..places {
         let cost = rows[item * places + y] + width * tables.distance[place * places + y];
         next[item * places + y] = cost;
-        least = least.min(cost);
+        least = lesser(least, cost, tables.regions[y] == home);
     }
     least
 }

@@ -130,6 +130,9 @@ impl Search {
         ensures explored { OnOk result (Explored tables.now (self.old.places.items ++ place ∷ []) self.old.best self.new.best) }
     {
         let item = self.places.len();
+        if tables.regions[place] != tables.homes[item] {
+            return Ok(());
+        }
         let need = tables.needs[item];
         let left = self.left[place];
         if !is_at_most(need, left) {

@@ -61,8 +61,8 @@ pub(crate) fn loaded(
     requires used { slot < length used.now }
     requires group { group < length needs.now }
     requires percent { device.now.percent ≤ 100 }
-    requires capacity { (k : ℕ) → amount_at device.now.slots.items slot k < 2 ^ 32 }
-    requires low { (k : ℕ) → amount_at used.now slot k ≤ 2 ^ 32 }
+    requires capacity { (k : ℕ) → amount_at device.now.slots.items slot k < 2 ^ 40 }
+    requires low { (k : ℕ) → amount_at used.now slot k ≤ 2 ^ 40 }
     requires need { (k : ℕ) → amount_at needs.now group k < 2 ^ 49 }
     ensures none { IfNone result (((k : ℕ) → (amount_at used.now slot k + amount_at needs.now group k) * 100 ≤ amount_at device.now.slots.items slot k * device.now.percent) → ⊥) }
     ensures sum { IfSome result (λ after. (k : ℕ) → amount after k ≡ amount_at used.now slot k + amount_at needs.now group k) }

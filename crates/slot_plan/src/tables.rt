@@ -2,9 +2,9 @@
 ghost use Rattle.std.specs.Prelude.{◌≡◌, ◌<◌, ◌≤◌, ◌+◌, ◌*◌, ◌^◌, ◌++◌, ◌∷◌, [], ℕ, true, false, map, length, slice_index, IfOk, OnOk};
 ghost use Rattle.task_graph.specs.Streams.{amount, amount_at};
 ghost use Rattle.task_graph.specs.Arcs.{streams, tail, head, width};
-ghost use Rattle.plan_device.specs.Devices.{IsDevice};
+ghost use Rattle.slot_plan.specs.Grids.{IsGrid};
 ghost use Rattle.slot_plan.specs.FirstFit.{is_pinned};
-ghost use Rattle.slot_plan.specs.Merging.{AreThose, is_open, is_unpinned, one, pin, between, beside_pins as cost_of_pins, table_of, AreTablesOf};
+ghost use Rattle.slot_plan.specs.Merging.{AreThose, is_open, is_unpinned, one, pin, between, beside_pins as cost_of_pins, table_of, AreTablesOf, AreHomesOf};
 ghost use Rattle.slot_plan.specs.Placing.{ArePlaced};
 ghost use Rattle.slot_plan.specs.Plan.{AreNeeds, distance};
 
@@ -27,6 +27,9 @@ pub(crate) struct Tables {
     pub joint: Vec<u64>,
     /// The distance of each two places.
     pub distance: Vec<u64>,
+    /// The region where each item is at home, and the region of each place: an item stands at a place of its own region alone.
+    pub homes: Vec<u32>,
+    pub regions: Vec<u32>,
 }
 
 /// Puts a number at the end of a list, if it is wanted.
@@ -87,7 +90,7 @@ fn place_rooms(
     requires inside { (y : ℕ) → y < length places.now → slice_index places.now y < length device.now.slots.items }
     requires used { length used.now ≡ length device.now.slots.items }
     requires percent { device.now.percent ≤ 100 }
-    requires capacities { (s k : ℕ) → amount_at device.now.slots.items s k < 2 ^ 32 }
+    requires capacities { (s k : ℕ) → amount_at device.now.slots.items s k < 2 ^ 40 }
     requires within { (s k : ℕ) → s < length device.now.slots.items → amount_at used.now s k * 100 ≤ amount_at device.now.slots.items s k * device.now.percent }
     ensures long { IfOk result (λ room. length room.items ≡ length places.now) }
     ensures value { IfOk result (λ room. (y k : ℕ) → y < length places.now → amount_at room.items y k + amount_at used.now (slice_index places.now y) k * 100 ≡ amount_at device.now.slots.items (slice_index places.now y) k * device.now.percent) }
@@ -97,6 +100,18 @@ fn place_rooms(
         room.push(room_beside(&device.slots, device.percent, used, places[y] as usize))?;
     }
     Ok(room)
+}
+
+/// The numbers at some places of a list.
+fn chosen(alloc: Global, numbers: &[u32], at: &[u32]) -> Result<Vec<u32>, AllocError>
+    requires { (j : ℕ) → j < length at.now → slice_index at.now j < length numbers.now }
+    ensures { IfOk result (λ list. list.items ≡ map (slice_index numbers.now) at.now) }
+{
+    let mut list = Vec::new(alloc);
+    for place in at {
+        list.push(numbers[*place as usize])?;
+    }
+    Ok(list)
 }
 
 /// Adds a stream's width at its other end, where one end is the group.
@@ -138,7 +153,7 @@ fn pinned_end(
     end: usize,
     other: usize,
 ) -> u32
-    requires device { IsDevice graph.now device.now }
+    requires device { IsGrid graph.now device.now }
     requires fixed { length fixed.now ≡ graph.now.groups }
     requires low { (v : ℕ) → v < graph.now.groups → is_pinned device.now v ≡ true → slice_index fixed.now v < 32 }
     requires slot { slot < 32 }
@@ -157,7 +172,7 @@ fn pinned_end(
 
 /// What the streams between a group in a slot and pinned groups cost.
 fn beside_pins(graph: &Graph, device: &Device, fixed: &[u32], group: usize, slot: u32) -> u64
-    requires device { IsDevice graph.now device.now }
+    requires device { IsGrid graph.now device.now }
     requires fixed { length fixed.now ≡ graph.now.groups }
     requires low { (v : ℕ) → v < graph.now.groups → is_pinned device.now v ≡ true → slice_index fixed.now v < 32 }
     requires slot { slot < 32 }
@@ -182,7 +197,7 @@ fn push_alone(
     group: u32,
     places: &[u32],
 ) -> Result<(), AllocError>
-    requires device { IsDevice graph.now device.now }
+    requires device { IsGrid graph.now device.now }
     requires fixed { length fixed.now ≡ graph.now.groups }
     requires low { (v : ℕ) → v < graph.now.groups → is_pinned device.now v ≡ true → slice_index fixed.now v < 32 }
     requires places { (y : ℕ) → y < length places.now → slice_index places.now y < 32 }
@@ -230,7 +245,7 @@ fn alone_table(
     items: &[u32],
     places: &[u32],
 ) -> Result<Vec<u64>, AllocError>
-    requires device { IsDevice graph.now device.now }
+    requires device { IsGrid graph.now device.now }
     requires fixed { length fixed.now ≡ graph.now.groups }
     requires low { (v : ℕ) → v < graph.now.groups → is_pinned device.now v ≡ true → slice_index fixed.now v < 32 }
     requires places { (y : ℕ) → y < length places.now → slice_index places.now y < 32 }
@@ -279,13 +294,18 @@ pub(crate) fn tables_of(
     used: &[Use],
     items: &[u32],
     places: &[u32],
+    homes: &[u32],
+    regions: &[u32],
 ) -> Result<Tables, AllocError>
-    requires device { IsDevice graph.now device.now }
+    requires device { IsGrid graph.now device.now }
     requires needs { AreNeeds graph.now device.now needs.now }
     requires placed { ArePlaced device.now needs.now false (length needs.now) fixed.now used.now }
     requires items { AreThose graph.now.groups (is_unpinned device.now) items.now }
     requires places { AreThose (length device.now.slots.items) (is_open device.now) places.now }
-    ensures { IfOk result (λ tables. AreTablesOf graph.now device.now needs.now fixed.now used.now items.now places.now tables) }
+    requires homes { length homes.now ≡ graph.now.groups }
+    requires regions { length regions.now ≡ length device.now.slots.items }
+    ensures tables { IfOk result (λ tables. AreTablesOf graph.now device.now needs.now fixed.now used.now items.now places.now tables) }
+    ensures homes { IfOk result (λ tables. AreHomesOf homes.now regions.now items.now places.now tables) }
 {
     Ok(Tables {
         needs: item_needs(alloc, needs, items)?,
@@ -293,5 +313,7 @@ pub(crate) fn tables_of(
         alone: alone_table(alloc, graph, device, fixed, items, places)?,
         joint: joint_table(alloc, graph, items)?,
         distance: distance_table(alloc, device, places)?,
+        homes: chosen(alloc, homes, items)?,
+        regions: chosen(alloc, regions, places)?,
     })
 }

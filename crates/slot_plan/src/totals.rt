@@ -1,6 +1,6 @@
 //! What a plan uses and costs.
 ghost use Rattle.std.specs.Prelude.{◌≡◌, IfOk};
-ghost use Rattle.plan_device.specs.Devices.{IsDevice};
+ghost use Rattle.slot_plan.specs.Grids.{IsGrid};
 ghost use Rattle.slot_plan.specs.Causes.{AreUsed};
 ghost use Rattle.slot_plan.specs.Plan.{AreNeeds, IsPlanOf, cost};
 
@@ -33,7 +33,7 @@ pub(crate) fn used_by(
 
 /// The cost of a plan.
 pub(crate) fn cost_of(graph: &Graph, device: &Device, slots: &[u32]) -> u64
-    requires device { IsDevice graph.now device.now }
+    requires device { IsGrid graph.now device.now }
     requires plan { IsPlanOf graph.now device.now slots.now }
     ensures { result ≡ cost graph.now device.now slots.now }
 {

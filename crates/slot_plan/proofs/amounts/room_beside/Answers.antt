@@ -12,7 +12,7 @@ multiple-requires-2-clause-small c = amounts_below _ _ (λ k.
     (let a = amount_or c.args.used.now c.args.slot no_use c.requires.used k in
     let b = c.requires.capacities k in
     let w = c.requires.within k in
-    let m = mul-le (amount_at c.args.slots.now c.args.slot k) c.args.percent 4294967295 100 (omega arith) c.requires.percent in
+    let m = mul-le (amount_at c.args.slots.now c.args.slot k) c.args.percent 1099511627775 100 (omega arith) c.requires.percent in
     omega arith))
 
 pub difference-requires : goal.difference-requires

@@ -1,16 +1,29 @@
-use Rattle.std.proofs.Common.{arith}
-use Rattle.std.proofs.lemmas.Result.{err_from_is_err_and}
-use Rattle.slot_plan.proofs.Limits.{few_groups, can_place}
-use Rattle.slot_plan.proofs.Blames.{pin_cause}
+use Rattle.std.proofs.Common.{◌∙◌, ℕ, Option, Vec, refl, subst, arith}
+use Rattle.std.specs.Prelude.{MatchOption}
+use Rattle.std.specs.declared.alloc.Global.{Global}
+use Rattle.slot_plan.specs.Least.{IsLeastOf, HasNoneOf}
+use Rattle.slot_plan.specs.Merging.{StayAtHome}
+use Rattle.slot_plan.proofs.Limits.{few_groups}
+use Rattle.slot_plan.proofs.Merging.{least_of_all, none_of_all}
 use Rattle.slot_plan.proofs.exact.exact_slots.Goals as goal
 
 pub check_ways-requires-clause-groups : goal.check_ways-requires-clause-groups
 check_ways-requires-clause-groups c = let a = few_groups c.args.graph.now in let b = c.requires.device.pins in omega arith
 
-pub pinned_placed-requires : goal.pinned_placed-requires
-pinned_placed-requires c = can_place c.args.graph.now c.args.device.now c.args.needs.now c.requires.device c.requires.needs
+pub returns-in-None-clause-cause : goal.returns-in-None-clause-cause
+returns-in-None-clause-cause c =
+    let g = c.args.graph.now in
+    let d = c.args.device.now in
+    let homes = c.deref.result.now in
+    let regions = c.deref-2.result.now in
+    let none = subst (λ (o : Option (Vec ℕ Global)). MatchOption o (HasNoneOf g d (StayAtHome d homes regions)) (λ slot. IsLeastOf g d (StayAtHome d homes regions) slot.items)) c.in-None.is c.in_ok-least_at_home.ensures in
+    (c.in_ok-check_ways.ensures.few, none_of_all g d homes regions g.groups c.len.result (c.deref.ensures.value ∙ c.in_ok-homes.ensures.items_if_clones_equal (λ y e. e)) (c.deref-2.ensures.value ∙ c.in_ok-regions.ensures.items_if_clones_equal (λ y e. e)) refl (let k = d.slots.ok.0 in let e = c.len.ensures in omega arith) none)
 
-pub returns-in_err-placing-clause-cause : goal.returns-in_err-placing-clause-cause
-returns-in_err-placing-clause-cause c =
-    let p = err_from_is_err_and c.from_residual-in_err-placing.result c.from_residual-in_err-placing.ensures.1 in
-    rw (p.1, p.2) (pin_cause c.args.graph.now c.args.device.now c.args.needs.now c.in_err-placing.field-0.0 c.requires.needs c.in_ok-check_ways.ensures.few c.in_err-placing.ensures.none)
+pub returns-clause-by_mode : goal.returns-clause-by_mode
+returns-clause-by_mode c =
+    let g = c.args.graph.now in
+    let d = c.args.device.now in
+    let homes = c.deref.result.now in
+    let regions = c.deref-2.result.now in
+    let least = subst (λ (o : Option (Vec ℕ Global)). MatchOption o (HasNoneOf g d (StayAtHome d homes regions)) (λ slot. IsLeastOf g d (StayAtHome d homes regions) slot.items)) c.in-Some.is c.in_ok-least_at_home.ensures in
+    (c.in_ok-check_ways.ensures.few, least_of_all g d homes regions c.in-Some.slots.items g.groups c.len.result (c.deref.ensures.value ∙ c.in_ok-homes.ensures.items_if_clones_equal (λ y e. e)) (c.deref-2.ensures.value ∙ c.in_ok-regions.ensures.items_if_clones_equal (λ y e. e)) refl (let k = d.slots.ok.0 in let e = c.len.ensures in omega arith) least)

@@ -1,7 +1,7 @@
 use Rattle.std.proofs.Common.{◌≡◌, ◌<◌, ◌+◌, ◌*◌, ℕ, length, get_or, set, ap, sym, subst, ◌∙◌, arith}
 use Rattle.std.proofs.lemmas.List.{get_or_read}
 use Rattle.slot_plan.specs.Tables.{items, places, cell, joint_at, distance_at}
-use Rattle.slot_plan.proofs.Lowered.{IsRowPart, cell_inside, row_more}
+use Rattle.slot_plan.proofs.Lowered.{IsRowPart, cell_inside, row_more, same_test}
 use Rattle.slot_plan.proofs.rows.lower_row.Goals as goal
 
 pub loop-y-preserved : goal.loop-y-preserved
@@ -29,7 +29,11 @@ loop-y-preserved c =
     let is : value ≡ cell rows m item y + joint_at t c.args.placed item * distance_at t c.args.place y =
     ap (λ (x : ℕ). get_or rows (item * x + y) 0 + c.index-width.result.now * c.index.result.now) em
     ∙ (ap (λ (x : ℕ). cell rows m item y + x * c.index.result.now) w ∙ ap (λ (x : ℕ). cell rows m item y + joint_at t c.args.placed item * x) z) in
-    let r = row_more t rows c.args.next.now c.args.placed c.args.place item y c.loop-y.least c.loop-y.next value c.min-least.result
-    (let h = c.min-least.ensures in omega arith) (let h = c.min-least.ensures in omega arith)
+    let lh : item < length t.homes.items = (let a = c.requires.tables.homes in let b = c.requires.item in omega arith) in
+    let lr : y < length t.regions.items = (let a = c.requires.tables.regions in omega arith) in
+    let home = get_or_read t.homes.items item c.index-home.result.now lh c.index-home.ensures 0 in
+    let region = get_or_read t.regions.items y c.index-in-loop-y.result.now lr c.index-in-loop-y.ensures 0 in
+    let r = row_more t rows c.args.next.now c.args.placed c.args.place item y c.loop-y.least c.loop-y.next value c.lesser-least.result
+    c.lesser-least.ensures.least (λ suits. c.lesser-least.ensures.cost (same_test c.index-in-loop-y.result.now c.index-home.result.now (region ∙ (sym suits ∙ sym home))))
     c.loop-y.invariant c.requires.item ly is in
-    subst (λ (x : ℕ). IsRowPart t rows c.args.next.now c.args.placed c.args.place item (y + 1) c.min-least.result (set c.loop-y.next (item * x + y) value)) (sym em) r
+    subst (λ (x : ℕ). IsRowPart t rows c.args.next.now c.args.placed c.args.place item (y + 1) c.lesser-least.result (set c.loop-y.next (item * x + y) value)) (sym em) r

@@ -1,10 +1,11 @@
 use Rattle.std.proofs.Common.{◌≡◌, ◌<◌, ◌≤◌, ◌+◌, ◌-◌, ◌*◌, ℕ, List, [], ◌∷◌, ◌++◌, length, get_or, set, arith, sym, ap, subst, length-append, refl, true, false, ◌∙◌}
+use Rattle.std.proofs.lemmas.List.{get_or_read}
 use Rattle.task_graph.specs.declared.Use.{Use}
 use Rattle.task_graph.specs.Streams.{amount_at}
 use Rattle.slot_plan.specs.Amounts.{IsAtMost}
 use Rattle.slot_plan.specs.Search.{IsAt, IsAtPlace, Explored, ExploredBelow, AreRows, IsBelowRest}
 use Rattle.slot_plan.specs.Tables.{items, places, beside}
-use Rattle.slot_plan.proofs.Exploring.{at_child, at_place, prune_low, prune_place, dear_any, explored_leaf, below_more, below_all, too_much, beside_low}
+use Rattle.slot_plan.proofs.Exploring.{at_child, at_place, prune_low, prune_place, dear_any, explored_leaf, below_more, below_all, too_much, beside_low, unsuited}
 use Rattle.slot_plan.proofs.Filling.{written_back}
 use Rattle.slot_plan.proofs.Uses.{restored, amount_read, amount_left, amounts_at_most}
 use Rattle.slot_plan.proofs.search.Search.+exploring.Goals as goal
@@ -63,6 +64,18 @@ explore-returns-clause-explored t c =
 
 false_not_true : false ≡ true → ⊥
 false_not_true e = cc
+
+pub explore_place-returns-then-index-clause-explored : goal.explore_place-returns-then-index-clause-explored
+explore_place-returns-then-index-clause-explored t c =
+    let tables = c.args.tables.now in
+    let p = c.args.self.now.places.items in
+    let s = c.args.place in
+    let at = c.requires.at in
+    let n : c.len-item.result ≡ length p = c.len-item.ensures ∙ c.args.self.now.places.ok.0 in
+    let home = get_or_read tables.homes.items c.len-item.result c.index-2.result.now (let a = c.requires.tables.homes in let m = at.more in omega arith) c.index-2.ensures 0 in
+    let region = get_or_read tables.regions.items s c.index.result.now (let a = c.requires.tables.regions in let m = at.place in omega arith) c.index.ensures 0 in
+    unsuited tables p c.args.self.now.left.items c.args.spent s c.args.self.now.best at
+    (λ suits. c.if-index.true (region ∙ (sym suits ∙ (ap (λ (i : ℕ). get_or tables.homes.items i 0) (sym n) ∙ sym home))))
 
 pub explore_place-returns-then-not-is_at_most-clause-explored : goal.explore_place-returns-then-not-is_at_most-clause-explored
 explore_place-returns-then-not-is_at_most-clause-explored t c =
@@ -124,7 +137,10 @@ explore_place-explore-requires t c =
     let pushed = c.in_ok-push.ensures.items in
     let low : more ≤ 2731622400 = (let a = beside_low tables p (length p) s c.requires.tables in let o = c.requires.tables.few_items in let r = at.more in omega arith) in
     let within : IsAtMost c.index-need.result.now c.index-left.result.now = c.is_at_most.ensures.0 c.if-not-is_at_most.false in
-    let child = at_child tables p left c.args.spent c.args.self.now.best s c.difference.result more at
+    let home = get_or_read tables.homes.items c.len-item.result c.index-2.result.now (let a = c.requires.tables.homes in let m = at.more in omega arith) c.index-2.ensures 0 in
+    let region = get_or_read tables.regions.items s c.index.result.now (let a = c.requires.tables.regions in let m = at.place in omega arith) c.index.ensures 0 in
+    let suits : get_or tables.homes.items (length p) 0 ≡ get_or tables.regions.items s 0 = ap (λ (i : ℕ). get_or tables.homes.items i 0) (sym n) ∙ (sym home ∙ (sym c.if-index.false ∙ region)) in
+    let child = at_child tables p left c.args.spent c.args.self.now.best s c.difference.result more at suits
     (λ k.
     (let a = amount_read tables.needs.items c.len-item.result c.index-need.result.now (let m = at.more in omega arith) c.index-need.ensures k in
     let b = amount_read left s c.index-left.result.now (let m = at.left_is.long in let o = at.place in omega arith) c.index-left.ensures k in
