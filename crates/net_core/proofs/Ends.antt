@@ -66,7 +66,7 @@ no_end Peek s t e = cc
 no_end TestEot s t e = cc
 no_end Open s t e = cc
 
-end_trace_ends : (a : Behavior) (xs : ℕ → List Token) (j : ℕ) → slice_get (ticks a xs) j ≡ Some End → trace_end a xs ≡ Ended
+pub end_trace_ends : (a : Behavior) (xs : ℕ → List Token) (j : ℕ) → slice_get (ticks a xs) j ≡ Some End → trace_end a xs ≡ Ended
 end_trace_ends Finished xs j e = refl
 end_trace_ends OutOfTurns xs j e = cc
 end_trace_ends (Act a rest) xs j e = end_trace_ends_cons (Did a) (ticks rest xs) (trace_end rest xs) (λ q. cc) (end_trace_ends rest xs) j e

@@ -27,7 +27,7 @@ decide_fuel (BadToken p) = inr (λ e. cc)
 decide_fuel Fuel = inl refl
 
 -- no token that comes later changes these ends
-abbrev IsFinal : TraceEnd → Type 0
+abbrev pub IsFinal : TraceEnd → Type 0
 IsFinal Ended = Unit {0}
 IsFinal (Needs s) = ⊥
 IsFinal (Bad s) = Unit {0}
@@ -44,7 +44,7 @@ stay_ask how s (x ∷ us) [] f g E final p h e = absurd p
 stay_ask how s (x ∷ us) (y ∷ vs) f g E final (q, p) h e =
     subst (λ z. on_offer (judge_token how z) (Needs s) (Bad s) g ≡ E) q (stay_judged (judge_token how x) s f g E h e)
 
-end_stays : (a : Behavior) (xs ys : ℕ → List Token) → Grows xs ys → (E : TraceEnd) → IsFinal E → trace_end a xs ≡ E → trace_end a ys ≡ E
+pub end_stays : (a : Behavior) (xs ys : ℕ → List Token) → Grows xs ys → (E : TraceEnd) → IsFinal E → trace_end a xs ≡ E → trace_end a ys ≡ E
 end_stays Finished xs ys p E final e = e
 end_stays OutOfTurns xs ys p E final e = e
 end_stays (Act a rest) xs ys p E final e = end_stays rest xs ys p E final e

@@ -1,6 +1,6 @@
 -- Ports after ticks.
 use Rattle.std.proofs.Common.{◌≡◌, ℕ, zero, suc, ◌+◌, ◌<◌, List, [], ◌∷◌, ◌++◌, length, map, drop, Some, refl, sym, ap, ◌∙◌, subst, ⊎_elim, arith, length-append, append_assoc}
-use Rattle.std.specs.Prelude.{slice_get, slice_set, flat_map, true, false, ◌==◌, if◌then◌else◌}
+use Rattle.std.specs.Prelude.{◌≤◌, vec_capacity, slice_get, slice_set, flat_map, true, false, ◌==◌, if◌then◌else◌}
 use Rattle.std.proofs.lemmas.Bool.{cases_eq}
 use Rattle.std.proofs.lemmas.Bool.Decides.{nat_tests}
 use Rattle.std.proofs.lemmas.List.{append-nil, length-map, length-set}
@@ -13,7 +13,7 @@ use Rattle.kahn_model.specs.declared.tick.Action.TheVariants.{Put}
 use Rattle.kahn_model.specs.Network.{put_on, take_from}
 use Rattle.net_core.specs.declared.port.Port.{Port}
 use Rattle.net_core.specs.declared.ports.Ports.{Ports}
-use Rattle.net_core.specs.Ports.{waiting_in, carried_in, room_in, waiting, carried, room_at, port_count, ends_of, Moved, Adjusted, ends_by, carried_by, waiting_by, room_by, ends_in, carried_of, IsReloaded}
+use Rattle.net_core.specs.Ports.{waiting_in, carried_in, room_in, held_in, space_in, waiting, carried, room_at, space_at, port_count, ends_of, Moved, Adjusted, ends_by, carried_by, waiting_by, room_by, ends_in, carried_of, IsReloaded}
 
 pub drop_sum : {A : Type 0} (m n q : ℕ) (xs : List A) → q ≡ m + n → drop n (drop m xs) ≡ drop q xs
 drop_sum zero n q xs e = ap (λ k. drop k xs) (omega arith)
@@ -24,7 +24,7 @@ drop_sum (suc m) n zero (x ∷ xs) e = absurd (omega arith)
 drop_sum (suc m) n (suc q) (x ∷ xs) e = drop_sum m n q xs (omega arith)
 
 pub moved_none : (a b : Ports) → a ≡ b → Moved a [] b
-moved_none a b e = subst (Moved a []) e (record { ends = refl; waits = λ p. refl; puts = λ p. sym (append-nil (carried a p)); rooms = λ p. omega arith })
+moved_none a b e = subst (Moved a []) e (record { ends = refl; waits = λ p. refl; puts = λ p. sym (append-nil (carried a p)); rooms = λ p. omega arith; spaces = λ p. omega arith })
 
 pub moved_append : (a b c : Ports) (xs ys : List Tick) → Moved a xs b → Moved b ys c → Moved a (xs ++ ys) c
 moved_append a b c xs ys h k = record {
@@ -42,6 +42,7 @@ moved_append a b c xs ys h k = record {
       let a = h.rooms p in
       let b = k.rooms p in
       omega arith;
+  spaces = λ p. let a = h.spaces p in let b = k.spaces p in omega arith;
 }
 
 pub moved_still : (a b : Ports) (t : Tick) → ((p : ℕ) → take_from p t ≡ []) → ((p : ℕ) → put_on p t ≡ []) → Moved a [] b → Moved a (t ∷ []) b
@@ -50,6 +51,7 @@ moved_still a b t ht hp h = record {
   waits = λ p. h.waits p ∙ ap (λ l. drop (length (l ++ [])) (waiting a p)) (sym (ht p));
   puts = λ p. h.puts p ∙ ap (λ l. carried a p ++ (l ++ [])) (sym (hp p));
   rooms = λ p. let e = ap (λ (l : List Token). length (l ++ [])) (hp p) in let r = h.rooms p in omega arith;
+  spaces = h.spaces;
 }
 
 pub has_item : {A : Type 0} (xs : List A) (i : ℕ) → i < length xs → (x : A) × (slice_get xs i ≡ Some x)
@@ -93,6 +95,18 @@ map_set f [] s q r e h = refl
 map_set f (x ∷ xs) zero q r e h = let w : x ≡ q = cc in ap (λ y. y ∷ map f xs) (h ∙ ap f (sym w))
 map_set f (x ∷ xs) (suc s) q r e h = ap (λ l. f x ∷ l) (map_set f xs s q r e h)
 
+-- the space of the ports after a change of one that keeps its queue
+space_kept : (a b : Ports) (s : ℕ) (q r : Port) → slice_get a.ports.items s ≡ Some q → b.ports.items ≡ slice_set a.ports.items s r → r.tokens ≡ q.tokens → (p : ℕ) → space_at a p ≤ space_at b p
+space_kept a b s q r eq eb et p =
+    let same : space_at b p ≡ space_at a p =
+    ⊎_elim
+    (λ (e : s ≡ p). subst (λ x. space_at b x ≡ space_at a x) e
+    (ap space_in (ap (λ l. slice_get l s) eb ∙ get_set_same a.ports.items s r (slice_get_within a.ports.items s q eq)) ∙ ap vec_capacity et ∙ ap space_in (sym eq)))
+    (λ (d : s ≡ p → ⊥). ap space_in (ap (λ l. slice_get l p) eb ∙ get_set_other a.ports.items s p r d))
+    (cases_eq s p)
+    in
+    omega arith
+
 -- what one port's change does to all
 pub moved_take : (a b : Ports) (s : ℕ) (t : Token) (q r : Port) → slice_get a.ports.items s ≡ Some q → b.ports.items ≡ slice_set a.ports.items s r → r.end ≡ q.end → r.tokens ≡ q.tokens → r.head ≡ q.head + 1 → r.carried ≡ q.carried → r.room ≡ q.room → Moved a (Take s t ∷ []) b
 moved_take a b s t q r eq eb ee et eh ec er = record {
@@ -126,6 +140,7 @@ moved_take a b s t q r eq eb ee et eh ec er = record {
       (cases_eq s p)
       in
       omega arith;
+  spaces = space_kept a b s q r eq eb et;
 }
   where
     there : s < length a.ports.items
@@ -162,6 +177,7 @@ moved_put a b s t q r eq eb ee et eh ec er = record {
       let z = ap length (put_other s p t d) in
       omega arith)
       (cases_eq s p);
+  spaces = space_kept a b s q r eq eb et;
 }
   where
     there : s < length a.ports.items
@@ -178,7 +194,33 @@ adjust a b s q r eq eb ee ec = record {
       (cases_eq s p);
   waits = λ p d. ap waiting_in (ap (λ l. slice_get l p) eb ∙ get_set_other a.ports.items s p r (λ e. d (sym e)));
   rooms = λ p d. ap room_in (ap (λ l. slice_get l p) eb ∙ get_set_other a.ports.items s p r (λ e. d (sym e)));
+  spaces = λ p d. let same = ap space_in (ap (λ l. slice_get l p) eb ∙ get_set_other a.ports.items s p r (λ e. d (sym e))) in omega arith;
 }
+
+pub adjusted_twice : (a b c : Ports) (s : ℕ) → Adjusted a s b → Adjusted b s c → Adjusted a s c
+adjusted_twice a b c s h k = record {
+  ends = k.ends ∙ h.ends;
+  carries = λ p. k.carries p ∙ h.carries p;
+  waits = λ p d. k.waits p d ∙ h.waits p d;
+  rooms = λ p d. k.rooms p d ∙ h.rooms p d;
+  spaces = λ p d. let x = h.spaces p d in let y = k.spaces p d in omega arith;
+}
+
+-- a port that is replaced has as much space, where its queue has, and holds as few tokens
+pub space_grows : (items : List Port) (s : ℕ) (q r : Port) → slice_get items s ≡ Some q → vec_capacity q.tokens ≤ vec_capacity r.tokens → space_in (slice_get items s) ≤ space_in (slice_get (slice_set items s r) s)
+space_grows items s q r eq le =
+    let x = ap space_in (get_set_same items s r (slice_get_within items s q eq)) in
+    let y = ap space_in eq in
+    omega arith
+
+pub space_at_least : (items : List Port) (s : ℕ) (q r : Port) (n : ℕ) → slice_get items s ≡ Some q → n ≤ vec_capacity r.tokens → n ≤ space_in (slice_get (slice_set items s r) s)
+space_at_least items s q r n eq le = let x = ap space_in (get_set_same items s r (slice_get_within items s q eq)) in omega arith
+
+pub held_few : (items : List Port) (s : ℕ) (q r : Port) (n : ℕ) → slice_get items s ≡ Some q → length r.tokens.items ≤ n → held_in (slice_get (slice_set items s r) s) ≤ n
+held_few items s q r n eq le = let x = ap held_in (get_set_same items s r (slice_get_within items s q eq)) in omega arith
+
+pub grown_twice : (a b c : ℕ) → a ≤ b → b ≤ c → a ≤ c
+grown_twice a b c h k = omega arith
 
 pub adjust_at : (a b : Ports) (s : ℕ) (r : Port) → s < length a.ports.items → b.ports.items ≡ slice_set a.ports.items s r → slice_get b.ports.items s ≡ Some r
 adjust_at a b s r h eb = ap (λ l. slice_get l s) eb ∙ get_set_same a.ports.items s r h

@@ -4,12 +4,14 @@ use Rattle.std.proofs.lemmas.Bool.{cases_lt}
 use Rattle.std.proofs.lemmas.Option.{slice_get_within}
 use Rattle.kahn_model.specs.Network.{Network}
 use Rattle.kahn_model.specs.Counts.{IsFounded, IsAllowed}
-use Rattle.kahn_model.specs.Outcome.{IsGreatest, IsJoined, HasJoinedLeft}
+use Rattle.kahn_model.specs.Outcome.{IsGreatest, IsJoined, HaveJoinedEnded, HasJoinedLeft}
+use Rattle.kahn_model.specs.Ending.{EndsWithin}
 use Rattle.kahn_model.proofs.Count.{step_stays}
 use Rattle.kahn_model.proofs.Reach.{reach_founded}
 use Rattle.kahn_model.proofs.Ends.{greatest, greatest_by}
-use Rattle.kahn_model.proofs.Ended.{ended_over}
+use Rattle.kahn_model.proofs.Ended.{ended_over, ended_later}
 use Rattle.kahn_model.proofs.Joined.{joined_more}
+use Rattle.kahn_model.proofs.Shown.{ends_alike}
 use Rattle.net_core.specs.declared.body.Pause.TheVariants.{Ended, Fuel}
 use Rattle.net_core.specs.declared.outcome.Outcome.TheVariants.{Done, Stopped, Limit}
 use Rattle.net_core.specs.declared.net_state.NetState.{NetState}
@@ -53,6 +55,39 @@ module _ (net : NetState) (v : IsValid net) (budget left : ℕ) (within : IsWith
       (k, record { greatest = g.1; more = inr (record { left = on; instance = i; allowed = here }) }))
       (cases_lt (count net i) (k i))
 
+  few : joined_total net ≤ budget
+  few = let sum = within.joined in omega arith
+
+  ticks : budget - left ≡ joined_total net
+  ticks = let sum = within.joined in omega arith
+
+  -- ---- where each joined instance answered last that it has ended
+
+  ended_here : AreJoinedEnded net.program net.pauses → HaveJoinedEnded N (count net)
+  ended_here h i l joined =
+      let j = inside i l in
+      let len = v.pauses_len in
+      let e = h i (omega arith) (sym (detached_is net.program net.input i) ∙ joined) in
+      told N v.is_network (count net) founded i l (stream_at net.program i) Ended (λ q. cc) ((v.paused i Ended e).for_good tt)
+
+  ends_here : HaveJoinedEnded N (count net) → EndsWithin N budget
+  ends_here ended =
+      let g = greatest N v.is_network budget in
+      let up : (j : ℕ) → count net j ≤ g.0 j = g.1.above (count net) v.reachable within.capped in
+      let there : HaveJoinedEnded N g.0 = λ i l joined. ended_later N v.is_network (count net) g.0 up i (ended i l joined) in
+      let same = (ends_alike N v.is_network (count net) g.0 v.reachable g.1.reachable ended there).ticks in
+      let sum = within.joined in
+      (g.0, record { greatest = g.1; ended = there; within = omega arith })
+
+  pub done_ends : AreJoinedEnded net.program net.pauses → EndsAs net budget (Done (budget - left))
+  done_ends h = let ended = ended_here h in (ends_here ended, ended, ticks)
+
+  pub told_joined : AreJoinedEnded net.program net.pauses → AreJoinedTold net
+  told_joined h j l joined =
+      let len = v.pauses_len in
+      let e = h j (omega arith) (sym (detached_is net.program net.input j) ∙ joined) in
+      (Ended, e, ended_here h j (outside j l) joined)
+
   module _ (rest : (j : ℕ) → j < length net.program.instances.items → IsAtRest net budget j) where
     -- no instance steps below the budget
     none_below : (i : ℕ) → IsAllowed N (count net) i → count net i < budget → ⊥
@@ -66,12 +101,6 @@ module _ (net : NetState) (v : IsValid net) (budget left : ℕ) (within : IsWith
     greatest_here : IsGreatest N budget (count net)
     greatest_here = greatest_by N v.is_network budget (count net) v.reachable within.capped none_below
 
-    few : joined_total net ≤ budget
-    few = let sum = within.joined in omega arith
-
-    ticks : budget - left ≡ joined_total net
-    ticks = let sum = within.joined in omega arith
-
     told_quiet : (j : ℕ) → j < length net.program.instances.items → IsQuiet net j → IsTold net j
     told_quiet j l q = (q.pause, q.last, told N v.is_network (count net) founded j (outside j l) (stream_at net.program j) q.pause q.stopped q.holds)
 
@@ -82,9 +111,6 @@ module _ (net : NetState) (v : IsValid net) (budget left : ℕ) (within : IsWith
         (λ (s : IsSpent net budget j). let d = s.detached in absurd (cc))
         (rest j l)
 
-    pub told_joined : AreJoinedTold net
-    told_joined j l joined = told_quiet j l (quiet_joined j l joined)
-
     quiet_all : AreNoneWithFuel net.pauses → (j : ℕ) → j < length net.program.instances.items → IsQuiet net j
     quiet_all none j l =
         ⊎_elim
@@ -94,23 +120,6 @@ module _ (net : NetState) (v : IsValid net) (budget left : ℕ) (within : IsWith
 
     pub told_all : AreNoneWithFuel net.pauses → AreTold net
     told_all none j l = told_quiet j l (quiet_all none j l)
-
-    pub done_ends : AreJoinedEnded net.program net.pauses → EndsAs net budget (Done (budget - left))
-    done_ends h = (
-      record {
-        greatest = greatest_here;
-        ended = λ i l joined.
-            let j = inside i l in
-            let s = told_joined i j joined in
-            let len = v.pauses_len in
-            let e = h i (omega arith) (sym (detached_is net.program net.input i) ∙ joined) in
-            let d = s.1 in
-            let x : s.0 ≡ Ended = cc in
-            subst (λ z. IsToldBy N (count net) i (stream_at net.program i) z) x s.2;
-        within = few;
-      },
-      ticks,
-    )
 
     left_here : IsSomeJoinedLeft net.program net.pauses → HasJoinedLeft N (count net)
     left_here (j, l, d, e) =

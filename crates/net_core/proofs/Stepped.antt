@@ -37,11 +37,11 @@ prefix_rest [] ys p = refl
 prefix_rest (x ∷ xs) [] p = absurd p
 prefix_rest (x ∷ xs) (y ∷ ys) (e, p) = ap (λ l. x ∷ l) (prefix_rest xs ys p) ∙ ap (λ z. z ∷ ys) e
 
-prefix_of_append : {A : Type 0} (xs ys : List A) → IsPrefixOf xs (xs ++ ys)
+pub prefix_of_append : {A : Type 0} (xs ys : List A) → IsPrefixOf xs (xs ++ ys)
 prefix_of_append [] ys = tt
 prefix_of_append (x ∷ xs) ys = (refl, prefix_of_append xs ys)
 
-prefix_unappend : {A : Type 0} (xs ys zs : List A) → IsPrefixOf (xs ++ ys) (xs ++ zs) → IsPrefixOf ys zs
+pub prefix_unappend : {A : Type 0} (xs ys zs : List A) → IsPrefixOf (xs ++ ys) (xs ++ zs) → IsPrefixOf ys zs
 prefix_unappend [] ys zs p = p
 prefix_unappend (x ∷ xs) ys zs (e, p) = prefix_unappend xs ys zs p
 

@@ -1,6 +1,9 @@
 -- Tokens of one kind in lists and ports.
 use Rattle.std.proofs.Common.{◌≡◌, ℕ, zero, suc, ◌+◌, List, [], ◌∷◌, ◌++◌, map, drop, Some, sym, ap, ◌∙◌, subst, arith}
-use Rattle.std.specs.Prelude.{slice_get, Bool, true, false, if◌then◌else◌}
+use Rattle.std.specs.Prelude.{slice_get, option_map, Bool, true, false, if◌then◌else◌}
+use Rattle.std.proofs.lemmas.Option.{slice_get-map}
+use Rattle.tapa_syntax.specs.declared.program.End.{End}
+use Rattle.tapa_syntax.specs.LeafKinds.{writes_of}
 use Rattle.tapa_base.specs.declared.kind.Kind.{Kind}
 use Rattle.tapa_base.specs.declared.token.Token.{Token}
 use Rattle.tapa_base.specs.declared.token.Token.TheVariants.{Datum, Eot}
@@ -8,7 +11,7 @@ use Rattle.kahn_model.specs.Fits.{IsTokenOf}
 use Rattle.net_core.specs.declared.port.Port.{Port}
 use Rattle.net_core.specs.declared.ports.Ports.{Ports}
 use Rattle.net_core.specs.Kinds.{AreTokensOf, kind_in}
-use Rattle.net_core.specs.Ports.{waiting, waiting_in, kind_at}
+use Rattle.net_core.specs.Ports.{waiting, waiting_in, ends_of, kind_at}
 
 get_map : (xs : List Port) (s : ℕ) (q : Port) → slice_get xs s ≡ Some q → kind_in (map (λ (p : Port). p.end) xs) s ≡ q.end.kind
 get_map [] s q e = cc
@@ -18,6 +21,11 @@ get_map (x ∷ xs) (suc s) q e = get_map xs s q e
 -- the kind of a port that is there
 pub kind_here : (ports : Ports) (s : ℕ) (q : Port) → slice_get ports.ports.items s ≡ Some q → kind_at ports s ≡ q.end.kind
 kind_here ports s q e = get_map ports.ports.items s q e
+
+-- whether it writes
+pub writes_here : (ports : Ports) (s : ℕ) (q : Port) → slice_get ports.ports.items s ≡ Some q → writes_of (ends_of ports) s ≡ Some q.end.writes
+writes_here ports s q e =
+    ap (option_map (λ (x : End). x.writes)) (slice_get-map (λ (p : Port). p.end) ports.ports.items s ∙ ap (option_map (λ (p : Port). p.end)) e)
 
 pub one_token : (k : Kind) (ts : List Token) (n : ℕ) (t : Token) → AreTokensOf k ts → slice_get ts n ≡ Some t → IsTokenOf k t
 one_token k ts n (Datum v) h e = h n v e

@@ -1,5 +1,5 @@
 -- What the ports of an instance hold.
-use Rattle.std.specs.Prelude.{◌≡◌, ℕ, ◌+◌, List, [], ◌++◌, length, map, drop, flat_map, Option, Some, None, slice_get}
+use Rattle.std.specs.Prelude.{◌≡◌, ℕ, ◌+◌, ◌≤◌, vec_capacity, List, [], ◌++◌, length, map, drop, flat_map, Option, Some, None, slice_get}
 use Rattle.tapa_base.specs.declared.kind.Kind.{Kind}
 use Rattle.tapa_base.specs.declared.token.Token.{Token}
 use Rattle.tapa_syntax.specs.declared.program.End.{End}
@@ -33,6 +33,22 @@ room_in (Some p) = p.room
 abbrev pub room_at : Ports → ℕ → ℕ
 room_at ports p = room_in (slice_get ports.ports.items p)
 
+abbrev pub held_in : Option Port → ℕ
+held_in None = 0
+held_in (Some p) = length p.tokens.items
+
+-- how many tokens the queue of a port holds, with those that were taken and not let go yet
+abbrev pub held_at : Ports → ℕ → ℕ
+held_at ports p = held_in (slice_get ports.ports.items p)
+
+abbrev pub space_in : Option Port → ℕ
+space_in None = 0
+space_in (Some p) = vec_capacity p.tokens
+
+-- how many tokens the queue of a port can hold without more memory
+abbrev pub space_at : Ports → ℕ → ℕ
+space_at ports p = space_in (slice_get ports.ports.items p)
+
 abbrev pub port_count : Ports → ℕ
 port_count ports = length ports.ports.items
 
@@ -50,6 +66,7 @@ pub record Moved (before : Ports) (ts : List Tick) (after : Ports) : Type 0 wher
   pub waits : (p : ℕ) → waiting after p ≡ drop (length (flat_map (take_from p) ts)) (waiting before p)
   pub puts : (p : ℕ) → carried after p ≡ carried before p ++ flat_map (put_on p) ts
   pub rooms : (p : ℕ) → room_at after p + length (flat_map (put_on p) ts) ≡ room_at before p
+  pub spaces : (p : ℕ) → space_at before p ≤ space_at after p
 
 -- the ports after a change of what waits at one of them, or of its room
 pub record Adjusted (before : Ports) (s : ℕ) (after : Ports) : Type 0 where
@@ -57,6 +74,7 @@ pub record Adjusted (before : Ports) (s : ℕ) (after : Ports) : Type 0 where
   pub carries : (p : ℕ) → carried after p ≡ carried before p
   pub waits : (p : ℕ) → (p ≡ s → ⊥) → waiting after p ≡ waiting before p
   pub rooms : (p : ℕ) → (p ≡ s → ⊥) → room_at after p ≡ room_at before p
+  pub spaces : (p : ℕ) → (p ≡ s → ⊥) → space_at before p ≤ space_at after p
 
 -- the ports of all instances
 abbrev pub ends_by : Option Ports → List End

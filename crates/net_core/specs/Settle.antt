@@ -2,8 +2,8 @@
 use Rattle.std.specs.Prelude.{◌≡◌, ℕ, ◌-◌, ◌*◌, ◌<◌, ◌≤◌, ◌⊎◌, List, length, Bool, true, false, Option, Some, slice_get}
 use Rattle.tapa_syntax.specs.declared.program.Program.{Program}
 use Rattle.kahn_model.specs.Counts.{IsAllowed}
-use Rattle.kahn_model.specs.Outcome.{IsJoined, IsDone, IsStopped}
-use Rattle.kahn_model.specs.Ending.{GoesPast}
+use Rattle.kahn_model.specs.Outcome.{IsJoined, HaveJoinedEnded, IsStopped}
+use Rattle.kahn_model.specs.Ending.{EndsWithin, GoesPast}
 use Rattle.net_core.specs.declared.body.Pause.{Pause}
 use Rattle.net_core.specs.declared.body.Pause.TheVariants.{Ended, Fuel}
 use Rattle.net_core.specs.declared.outcome.Outcome.{Outcome}
@@ -15,9 +15,10 @@ use Rattle.net_core.specs.Load.{IsIn, AreBelow}
 use Rattle.net_core.specs.State.{network, count, total_ticks, joined_total, given, IsWithin}
 
 -- the outcome within a budget of ticks: exactly one holds (Kahn's network at its declared depths, see kahn_model's
--- specs/Outcome)
+-- specs/Outcome). Where the network is done, each joined instance has ended at the net's count, and t is their ticks in it; a
+-- detached one may go on from there
 abbrev pub EndsAs : NetState → ℕ → Outcome → Type 0
-EndsAs net budget (Done t) = IsDone (network net) budget (count net) × (t ≡ joined_total net)
+EndsAs net budget (Done t) = EndsWithin (network net) budget × HaveJoinedEnded (network net) (count net) × (t ≡ joined_total net)
 EndsAs net budget (Stopped t) = IsStopped (network net) budget (count net) × (t ≡ joined_total net)
 EndsAs net budget Limit = GoesPast (network net) budget
 

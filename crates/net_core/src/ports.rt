@@ -1,9 +1,10 @@
-ghost use Rattle.std.specs.Prelude.{◌≡◌, ◌<◌, ◌≤◌, ◌↔◌, [], ◌∷◌, length, drop, slice_get, MatchOption, IsTrue, IfOk, MatchBool, ◌++◌, is_ok, if◌then◌else◌};
+ghost use Rattle.std.specs.Prelude.{ℕ, ◌≡◌, ◌+◌, ◌*◌, ◌<◌, ◌≤◌, ◌↔◌, [], ◌∷◌, length, drop, slice_get, MatchOption, Some, IsTrue, IsOk, IfOk, MatchBool, ◌++◌, is_ok, if◌then◌else◌};
 ghost use Rattle.kahn_model.specs.declared.tick.Tick.TheVariants.{Did, Take};
 ghost use Rattle.kahn_model.specs.declared.tick.Action.TheVariants.{Put};
 ghost use Rattle.kahn_model.specs.Fits.{IsTokenOf};
 ghost use Rattle.net_core.specs.Kinds.{AreTokensOf};
-ghost use Rattle.net_core.specs.Ports.{waiting, carried, room_at, port_count, kind_at, Moved, Adjusted};
+ghost use Rattle.tapa_syntax.specs.LeafKinds.{writes_of};
+ghost use Rattle.net_core.specs.Ports.{waiting, carried, room_at, held_at, space_at, port_count, ends_of, kind_at, Moved, Adjusted};
 
 use crate::port::Port;
 use std::mem;
@@ -24,6 +25,14 @@ fn without_front(tokens: Vec<Token>, count: usize) -> Vec<Token>
     rest.rotate_left(count);
     rest.truncate(left);
     rest
+}
+
+// The tokens of a list from a place on.
+fn from_place(tokens: &Vec<Token>, place: usize) -> &[Token]
+    requires { place ≤ length tokens.now.items }
+    ensures { result.now ≡ drop place tokens.now.items }
+{
+    &tokens[place..]
 }
 
 /// The ports of an instance, by the positions of its streams. Each datum in them is a value of the kind of its stream.
@@ -98,6 +107,24 @@ impl Ports {
         true
     }
 
+    /// Whether a port writes its stream.
+    pub fn writes(&self, s: usize) -> bool
+        requires { s < port_count self.now }
+        ensures { writes_of (ends_of self.now) s ≡ Some result }
+    {
+        self.ports[s].end.writes
+    }
+
+    /// The tokens that wait at a port, the next one first.
+    pub fn pending(&self, s: usize) -> &[Token]
+        requires { s < port_count self.now }
+        ensures tokens { result.now ≡ waiting self.now s }
+        ensures kind { AreTokensOf (kind_at self.now s) result.now }
+    {
+        let port = &self.ports[s];
+        from_place(&port.tokens, port.head)
+    }
+
     /// How many tokens wait at a port.
     pub fn left(&self, s: usize) -> usize
         requires { s < port_count self.now }
@@ -156,6 +183,8 @@ impl Ports {
         requires { s < port_count self.old }
         ensures adjusted { Adjusted self.old s self.new }
         ensures waits { waiting self.new s ≡ waiting self.old s }
+        ensures few { held_at self.new s ≤ 2 * length (waiting self.old s) }
+        ensures space { space_at self.old s ≤ space_at self.new s }
     {
         let port = &mut self.ports[s];
         let head = port.head;
@@ -168,13 +197,15 @@ impl Ports {
         port.tokens.truncate(left);
     }
 
-    /// Lets more tokens wait at a port.
+    /// Lets more tokens wait at a port. It takes no memory where the port's queue has space for twice as many as wait then.
     #[inline(always)]
     pub fn offer_more(&mut self, s: usize, more: &[Token]) -> Result<(), OutOfMemory>
         requires port { s < port_count self.old }
         requires kind { AreTokensOf (kind_at self.old s) more.now }
         ensures adjusted { Adjusted self.old s self.new }
         ensures waits { waiting self.new s ≡ (if is_ok result then waiting self.old s ++ more.now else waiting self.old s) }
+        ensures space { space_at self.old s ≤ space_at self.new s }
+        ensures succeeds { 2 * (length (waiting self.old s) + length more.now) ≤ space_at self.old s → IsOk result }
     {
         self.trim(s);
         let port = &mut self.ports[s];
@@ -182,10 +213,48 @@ impl Ports {
         Ok(())
     }
 
+    /// Lets the first of the tokens go that wait at a port.
+    pub fn skip(&mut self, s: usize, count: usize)
+        requires port { s < port_count self.old }
+        requires enough { count ≤ length (waiting self.old s) }
+        ensures adjusted { Adjusted self.old s self.new }
+        ensures waits { waiting self.new s ≡ drop count (waiting self.old s) }
+        ensures space { space_at self.old s ≤ space_at self.new s }
+    {
+        let port = &mut self.ports[s];
+        port.head += count;
+    }
+
+    /// Gives a port's queue space for so many tokens.
+    pub fn reserve_queue(&mut self, s: usize, space: usize) -> Result<(), OutOfMemory>
+        requires { s < port_count self.old }
+        ensures adjusted { Adjusted self.old s self.new }
+        ensures waits { waiting self.new s ≡ waiting self.old s }
+        ensures space { IfOk result (λ _. space ≤ space_at self.new s) }
+    {
+        let port = &mut self.ports[s];
+        port.tokens.reserve(space)?;
+        Ok(())
+    }
+
+    /// Leaves no room for tokens at a port.
+    pub fn shut(&mut self, s: usize)
+        requires { s < port_count self.old }
+        ensures adjusted { Adjusted self.old s self.new }
+        ensures waits { waiting self.new s ≡ waiting self.old s }
+        ensures room { room_at self.new s ≡ 0 }
+        ensures space { space_at self.old s ≤ space_at self.new s }
+    {
+        let port = &mut self.ports[s];
+        port.room = 0;
+    }
+
     /// Makes room for tokens at a port.
     pub fn make_room(&mut self, s: usize, room: usize) -> Result<(), OutOfMemory>
         requires { s < port_count self.old }
         ensures adjusted { Adjusted self.old s self.new }
+        ensures waits { waiting self.new s ≡ waiting self.old s }
+        ensures space { space_at self.old s ≤ space_at self.new s }
         ensures room { IfOk result (λ _. room_at self.new s ≡ room) }
     {
         let port = &mut self.ports[s];

@@ -1,6 +1,6 @@
 -- Programs that are one as plain data run alike, and a program runs in one way.
 use Rattle.std.proofs.Common.{◌≡◌, ◌⊎◌, ◌<◌, ◌≤◌, ◌+◌, ℕ, suc, List, [], ◌∷◌, ◌++◌, length, map, inl, inr, refl, sym, ap, subst, ◌∙◌, ⊎_elim, arith}
-use Rattle.std.specs.Prelude.{Option, Some, None, option_map, slice_get, slice_index_or}
+use Rattle.std.specs.Prelude.{Bool, Option, Some, None, if◌then◌else◌, option_map, slice_get, slice_index_or}
 use Rattle.std.proofs.Math.Path.{fun_ext}
 use Rattle.std.proofs.lemmas.Option.{slice_get-map}
 use Rattle.tapa_syntax.specs.declared.program.Instance.{Instance}
@@ -16,6 +16,7 @@ use Rattle.kahn_model.specs.Ending as way
 use Rattle.kahn_model.specs.Ending.{EndsWithin, StopsWithin, GoesPast, Way, RunsSo}
 use Rattle.kahn_model.specs.Outcome as outcome
 use Rattle.kahn_model.specs.Outcome.{IsJoined, joined_ticks, IsDone, IsStopped}
+use Rattle.kahn_model.specs.ProgramNetwork.{is_detached}
 use Rattle.kahn_model.specs.Standing.{Standing, over, to_read, to_write, at_bad, StandsSo}
 use Rattle.kahn_model.proofs.Ending as kahn
 use Rattle.kahn_model.proofs.Ending.{has_ended, three_ways}
@@ -27,7 +28,8 @@ use Rattle.run_data.specs.Report.{last_line}
 use Rattle.run_data.specs.declared.lines.Last.{Last}
 use Rattle.run_data.specs.declared.lines.Last.TheVariants as last_line_of
 use Rattle.run_program.specs.Laws.{RunMeaning, Done, Stopped, Limit, Runs}
-use Rattle.run_program.specs.Run.{Values, network, ticks_of, tokens_at, stream_lines, memory_lines, lines_at, report_of, label_of, read_line, write_line, bad_line, IsWaitLine, AreWaitLines, DoneRun, StoppedRun, LimitRun}
+use Rattle.net_core.specs.Bindings.{detached_at}
+use Rattle.run_program.specs.Run.{Values, network, ticks_of, tokens_at, cells_shown, stream_lines, memory_lines, lines_at, report_of, label_of, read_line, write_line, bad_line, IsWaitLine, AreWaitLines, DoneRun, StoppedRun, LimitRun}
 use Rattle.run_program.proofs.Running.{size_of, done_run, stopped_run}
 
 -- ---- the same lines of waiting instances, whose labels alone are shown
@@ -62,6 +64,12 @@ memory_alike None (Some y) m e q = absurd cc
 memory_alike (Some x) None m e q = absurd cc
 memory_alike (Some x) (Some y) m e q = let same : flat_instance x ≡ flat_instance y = cc in ap (λ (f : FlatInstance). slice_get f.memories q) same
 
+detached_alike : (x y : Option Instance) → option_map flat_instance x ≡ option_map flat_instance y → is_detached x ≡ is_detached y
+detached_alike None None e = refl
+detached_alike None (Some y) e = absurd cc
+detached_alike (Some x) None e = absurd cc
+detached_alike (Some x) (Some y) e = let same : flat_instance x ≡ flat_instance y = cc in ap (λ (f : FlatInstance). f.detached) same
+
 abbrev cells_by : Program → Values → (ℕ → ℕ) → ℕ → ℕ → Network → List ℕ
 cells_by p values k m owner net = after_stores (memory_at (slice_get p.instances.items owner)) m (slice_index_or values.memories m []) (ticks_made net k owner)
 
@@ -93,12 +101,25 @@ module _ (p q : Program) (same : flat_program p ≡ flat_program q) (values : Va
   cells : (k : ℕ → ℕ) → cells_at p values.scalars values.memories k ≡ cells_at q values.scalars values.memories k
   cells k = one_cells p q same values k
 
+  detached : (i : ℕ) → detached_at p i ≡ detached_at q i
+  detached i =
+      detached_alike (slice_get p.instances.items i) (slice_get q.instances.items i)
+      (sym (slice_get-map flat_instance p.instances.items i) ∙ ap (λ (l : List FlatInstance). slice_get l i) instances ∙ slice_get-map flat_instance q.instances.items i)
+
+  shown : (k : ℕ → ℕ) (last : Last) → cells_shown p values k last ≡ cells_shown q values k last
+  shown k (last_line_of.Done t) = fun_ext (λ m.
+      ap (λ (ms : List Memory). if detached_at p (owner_of (slice_get ms m)) then slice_index_or values.memories m [] else cells_at p values.scalars values.memories k m) memories
+      ∙ ap (λ (b : Bool). if b then slice_index_or values.memories m [] else cells_at p values.scalars values.memories k m) (detached (owner_of (slice_get q.memories.items m)))
+      ∙ ap (λ (c : ℕ → List ℕ). if detached_at q (owner_of (slice_get q.memories.items m)) then slice_index_or values.memories m [] else c m) (cells k))
+  shown k (last_line_of.Stopped t) = cells k
+  shown k (last_line_of.Running t) = cells k
+
   lines : (k : ℕ → ℕ) (last : Last) → lines_at p values k last ≡ lines_at q values k last
   lines k last =
-      ap (λ (net : Network). stream_lines (tokens_at net k last) 0 p.streams.items ++ memory_lines (cells_at p values.scalars values.memories k) 0 p.memories.items) networks
-      ∙ ap (λ (ss : List Stream). stream_lines (tokens_at (network q values) k last) 0 ss ++ memory_lines (cells_at p values.scalars values.memories k) 0 p.memories.items) same_streams
-      ∙ ap (λ (c : ℕ → List ℕ). stream_lines (tokens_at (network q values) k last) 0 q.streams.items ++ memory_lines c 0 p.memories.items) (cells k)
-      ∙ ap (λ (ms : List Memory). stream_lines (tokens_at (network q values) k last) 0 q.streams.items ++ memory_lines (cells_at q values.scalars values.memories k) 0 ms) memories
+      ap (λ (net : Network). stream_lines (tokens_at net k last) 0 p.streams.items ++ memory_lines (cells_shown p values k last) 0 p.memories.items) networks
+      ∙ ap (λ (ss : List Stream). stream_lines (tokens_at (network q values) k last) 0 ss ++ memory_lines (cells_shown p values k last) 0 p.memories.items) same_streams
+      ∙ ap (λ (c : ℕ → List ℕ). stream_lines (tokens_at (network q values) k last) 0 q.streams.items ++ memory_lines c 0 p.memories.items) (shown k last)
+      ∙ ap (λ (ms : List Memory). stream_lines (tokens_at (network q values) k last) 0 q.streams.items ++ memory_lines (cells_shown q values k last) 0 ms) memories
 
   reports : (k : ℕ → ℕ) (last : ℕ → Last) → report_of p values k (last (ticks_of p values k)) ≡ report_of q values k (last (ticks_of q values k))
   reports k last =

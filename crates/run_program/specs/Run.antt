@@ -1,6 +1,6 @@
 -- The run of a flat program on an input at its declared depths, within a limit on ticks: how it ends, what its report is, and
 -- what a stopped one waits for.
-use Rattle.std.specs.Prelude.{◌≡◌, ◌⊎◌, ℕ, suc, ◌<◌, List, [], ◌∷◌, ◌++◌, length, codes, option_map, unwrap_or, slice_get, Some}
+use Rattle.std.specs.Prelude.{◌≡◌, ◌⊎◌, ℕ, suc, ◌<◌, if◌then◌else◌, List, [], ◌∷◌, ◌++◌, length, codes, option_map, unwrap_or, slice_get, slice_index_or, Some}
 use Rattle.tapa_base.specs.declared.token.Token.{Token}
 use Rattle.tapa_syntax.specs.declared.program.Instance.{Instance}
 use Rattle.tapa_syntax.specs.declared.program.Memory.{Memory}
@@ -12,8 +12,9 @@ use Rattle.kahn_model.specs.Ending.{GoesPast}
 use Rattle.kahn_model.specs.Outcome as outcome
 use Rattle.kahn_model.specs.Outcome.{IsJoined, joined_ticks, IsDone, IsStopped, WaitsToRead, WaitsToWrite, HasBadToken}
 use Rattle.kahn_model.specs.Start.{network_of}
-use Rattle.kahn_model.specs.Cells.{cells_at}
+use Rattle.kahn_model.specs.Cells.{cells_at, owner_of}
 use Rattle.net_core.specs.declared.input.Input.{Input}
+use Rattle.net_core.specs.Bindings.{detached_at}
 use Rattle.net_core.specs.Bounded.{scalars_of, memories_of}
 use Rattle.run_data.specs.Report.{stream_line, memory_line, last_line}
 use Rattle.run_data.specs.declared.lines.Last.{Last}
@@ -53,6 +54,13 @@ tokens_at net k (Done t) s = outcome.shown net k s
 tokens_at net k (Stopped t) s = written net k s
 tokens_at net k (Running t) s = written net k s
 
+-- what it shows of memory m: the cells at the count; but where the run is done, the first cells of a memory whose instance is
+-- detached, and may be anywhere. Such a memory of a legal source is const, so that no store changes it
+abbrev pub cells_shown : Program → Values → (ℕ → ℕ) → Last → ℕ → List ℕ
+cells_shown program values k (Done t) m = if detached_at program (owner_of (slice_get program.memories.items m)) then slice_index_or values.memories m [] else cells_at program values.scalars values.memories k m
+cells_shown program values k (Stopped t) m = cells_at program values.scalars values.memories k m
+cells_shown program values k (Running t) m = cells_at program values.scalars values.memories k m
+
 -- the lines of the streams from number s on, with the tokens of each
 abbrev pub stream_lines : (ℕ → List Token) → ℕ → List Stream → List ℕ
 stream_lines tokens s streams = lines_from (λ (r : Stream) n. stream_line r.label (tokens n)) s streams
@@ -64,7 +72,7 @@ memory_lines cells m memories = lines_from (λ (r : Memory) n. memory_line r.nam
 -- the lines of the streams and the memories at a count
 abbrev pub lines_at : Program → Values → (ℕ → ℕ) → Last → List ℕ
 lines_at program values k last =
-    stream_lines (tokens_at (network program values) k last) 0 program.streams.items ++ memory_lines (cells_at program values.scalars values.memories k) 0 program.memories.items
+    stream_lines (tokens_at (network program values) k last) 0 program.streams.items ++ memory_lines (cells_shown program values k last) 0 program.memories.items
 
 -- the report at a count
 abbrev pub report_of : Program → Values → (ℕ → ℕ) → Last → List ℕ

@@ -1,12 +1,15 @@
-// The cells of a memory after the ticks that its instance has made.
+// The cells of a memory after the ticks that its instance has made, and what a report shows of them.
 ghost use Rattle.std.specs.Prelude.{ℕ, ◌≡◌, ◌<◌, ◌≤◌, List, [], length, slice_get, slice_index_or, Some, IfOk, MatchOption};
 ghost use Rattle.kahn_model.specs.Cells.{cells_at};
 ghost use Rattle.net_core.specs.Bounded.{scalars_of, memories_of};
 ghost use Rattle.net_core.specs.State.{count};
-ghost use Rattle.run_program.specs.Run.{IsNotBound};
+ghost use Rattle.net_core.specs.Bindings.{detached_at};
+ghost use Rattle.run_program.specs.Run.{values_of, cells_shown, IsNotBound};
+ghost use Rattle.kahn_model.specs.Cells.{owner_of};
 
 use coro_machine::Coro;
-use net_core::{Input, Net};
+use net_core::{Input, Net, is_detached};
+use run_data::Last;
 use tapa_base::{OutOfMemory, position_of};
 use tapa_syntax::Program;
 
@@ -36,8 +39,8 @@ fn first_cells(input: &Input, m: usize) -> &[u64]
     }
 }
 
-/// The cells of memory `m` of a program: the first ones, after the stores of the instance that it is bound to.
-pub(crate) fn last_cells<'a>(
+// The cells of memory `m` of a program: the first ones, after the stores of the instance that it is bound to.
+fn last_cells<'a>(
     program: &Program,
     input: &'a Input,
     net: &'a Net<Coro>,
@@ -57,5 +60,44 @@ pub(crate) fn last_cells<'a>(
     match bound_position(&instance.memories, m)? {
         None => Ok(first_cells(input, m)),
         Some(position) => Ok(net.body(owner).memory(position)),
+    }
+}
+
+// Whether the instance that a memory is bound to is detached.
+fn is_of_detached(program: &Program, m: usize) -> bool
+    requires memory { m < length program.now.memories.items }
+    ensures { result ≡ detached_at program.now (owner_of (slice_get program.now.memories.items m)) }
+{
+    let owner = program.memories[m].owner as usize;
+    if owner < program.instances.len() {
+        is_detached(program, owner)
+    } else {
+        false
+    }
+}
+
+/// What a report with this last line shows of memory `m`.
+pub(crate) fn shown_cells<'a>(
+    program: &Program,
+    input: &'a Input,
+    net: &'a Net<Coro>,
+    last: Last,
+    m: usize,
+) -> Result<&'a [u64], OutOfMemory>
+    requires program { program.now ≡ net.now.program }
+    requires input { input.now ≡ net.now.input }
+    requires few { length program.now.instances.items ≤ 512 }
+    requires memory { m < length program.now.memories.items }
+    ensures { IfOk result (λ cells. cells.now ≡ cells_shown program.now (values_of input.now) (count net.now) last m) }
+{
+    match last {
+        Last::Done(_) => {
+            if is_of_detached(program, m) {
+                return Ok(first_cells(input, m));
+            }
+            last_cells(program, input, net, m)
+        }
+        Last::Stopped(_) => last_cells(program, input, net, m),
+        Last::Running(_) => last_cells(program, input, net, m),
     }
 }

@@ -4,11 +4,9 @@ ghost use Rattle.std.specs.Io.KnownBytes.{Appends};
 ghost use Rattle.tapa_files.specs.Outside.{AppendsPart, Rose};
 ghost use Rattle.run_data.specs.Report.{last_line};
 ghost use Rattle.net_core.specs.State.{network, count};
-ghost use Rattle.kahn_model.specs.Cells.{cells_at};
-ghost use Rattle.net_core.specs.Bounded.{scalars_of, memories_of};
-ghost use Rattle.run_program.specs.Run.{values_of, tokens_at, stream_lines, memory_lines, lines_at};
+ghost use Rattle.run_program.specs.Run.{values_of, tokens_at, cells_shown, stream_lines, memory_lines, lines_at};
 
-use crate::cells::last_cells;
+use crate::cells::shown_cells;
 use coro_machine::Coro;
 use net_core::{Body, Input, Net};
 use run_data::{Last, report_last, report_memory, report_stream};
@@ -57,18 +55,19 @@ fn show_memories<O: Sink>(
     program: &Program,
     input: &Input,
     net: &Net<Coro>,
+    last: Last,
     out: &mut O,
 ) -> Result<(), PrintFault>
     requires program { program.now ≡ net.now.program }
     requires input { input.now ≡ net.now.input }
     requires few { length program.now.instances.items ≤ 512 }
-    ensures whole { OnOk result (Appends (O.contents out.old) (O.contents out.new) (memory_lines (cells_at program.now (scalars_of input.now) (memories_of input.now) (count net.now)) 0 program.now.memories.items)) }
-    ensures part { OnErr result (AppendsPart (O.contents out.old) (O.contents out.new) (memory_lines (cells_at program.now (scalars_of input.now) (memories_of input.now) (count net.now)) 0 program.now.memories.items)) }
+    ensures whole { OnOk result (Appends (O.contents out.old) (O.contents out.new) (memory_lines (cells_shown program.now (values_of input.now) (count net.now) last) 0 program.now.memories.items)) }
+    ensures part { OnErr result (AppendsPart (O.contents out.old) (O.contents out.new) (memory_lines (cells_shown program.now (values_of input.now) (count net.now) last) 0 program.now.memories.items)) }
     ensures later { O.faults out.old ≤ O.faults out.new }
     ensures fault { IsErrOf result PrintFault.WriteFault → Rose (O.faults out.old) (O.faults out.new) }
 {
     for m in 0..program.memories.len() {
-        let cells = last_cells(program, input, net, m)?;
+        let cells = shown_cells(program, input, net, last, m)?;
         let name = program.memories[m].name.bytes();
         report_memory(alloc, name, cells, out)?;
     }
@@ -94,6 +93,6 @@ pub(crate) fn show<O: Sink>(
     ensures fault { IsErrOf result PrintFault.WriteFault → Rose (O.faults out.old) (O.faults out.new) }
 {
     show_streams(alloc, program, net, last, out)?;
-    show_memories(alloc, program, input, net, out)?;
+    show_memories(alloc, program, input, net, last, out)?;
     report_last(alloc, last, out)
 }

@@ -63,7 +63,7 @@ pub returns-then-not-branch-clause-outcome : goal.returns-then-not-branch-clause
 returns-then-not-branch-clause-outcome g c =
     let e = c.in_ok-pass.ensures in
     let l = rw c.if-not-branch.true at e.passed in
-    limit_ends c.pass.new.net c.valid.ensures c.args.budget c.pass.new.left e.within l
+    limit_ends c.pass.new.net c.valid-then-not-branch.ensures c.args.budget c.pass.new.left e.within l
 
 pub rounds-preserved : goal.rounds-preserved
 rounds-preserved g c =
@@ -81,38 +81,35 @@ rounds-preserved g c =
       rest = λ j l. subst (λ (v : Vec ℕ Global). IsAtRest c.pass.new.net c.args.budget j ⊎ IsIn j v.items) x (p.rest j (omega arith) (inv.rest j (omega arith)));
     }
 
-pub returns-then-have_joined_ended-clause-outcome : goal.returns-then-have_joined_ended-clause-outcome
-returns-then-have_joined_ended-clause-outcome g c =
-    let inv = c.rounds.invariant in
-    let none : length c.rounds.now.items ≡ 0 = let t = c.rounds-test.ensures in let o = c.rounds.now.ok.0 in grind (arith, nat_tests) in
-    let rest = rest_all c.rounds.net c.args.budget c.rounds.now.items none inv.rest in
-    let same = c.deref-2.ensures ∙ ap (λ (z : NetState). z.program) c.net-2.view_is in
-    let ended : AreJoinedEnded c.rounds.net.program c.rounds.net.pauses = subst (λ (p : Program). AreJoinedEnded p c.rounds.net.pauses) same (subst (λ (z : NetState). AreJoinedEnded c.deref-2.result.now z.pauses) c.net-2.view_is c.if-have_joined_ended.ensures) in
-    done_ends c.rounds.net c.valid-2.ensures c.args.budget c.rounds.left inv.within rest ended
+pub returns-then-is_done-clause-outcome : goal.returns-then-is_done-clause-outcome
+returns-then-is_done-clause-outcome g c =
+    done_ends c.rounds.net c.valid.ensures c.args.budget c.rounds.left c.rounds.invariant.within c.if-is_done.ensures
 
-pub returns-then-have_joined_ended-clause-pauses : goal.returns-then-have_joined_ended-clause-pauses
-returns-then-have_joined_ended-clause-pauses g c =
-    let inv = c.rounds.invariant in
-    let none : length c.rounds.now.items ≡ 0 = let t = c.rounds-test.ensures in let o = c.rounds.now.ok.0 in grind (arith, nat_tests) in
-    told_joined c.rounds.net c.valid-2.ensures c.args.budget c.rounds.left inv.within (rest_all c.rounds.net c.args.budget c.rounds.now.items none inv.rest)
+pub returns-then-is_done-clause-pauses : goal.returns-then-is_done-clause-pauses
+returns-then-is_done-clause-pauses g c =
+    told_joined c.rounds.net c.valid.ensures c.args.budget c.rounds.left c.rounds.invariant.within c.if-is_done.ensures
+
+pub returns-then-is_done-2-clause-outcome : goal.returns-then-is_done-2-clause-outcome
+returns-then-is_done-2-clause-outcome g c =
+    done_ends c.rounds.net c.valid-2.ensures c.args.budget c.rounds.left c.rounds.invariant.within c.if-is_done-2.ensures
+
+pub returns-then-is_done-2-clause-pauses : goal.returns-then-is_done-2-clause-pauses
+returns-then-is_done-2-clause-pauses g c =
+    told_joined c.rounds.net c.valid-2.ensures c.args.budget c.rounds.left c.rounds.invariant.within c.if-is_done-2.ensures
 
 pub returns-then-goes_on-clause-outcome : goal.returns-then-goes_on-clause-outcome
 returns-then-goes_on-clause-outcome g c =
     let inv = c.rounds.invariant in
     let none : length c.rounds.now.items ≡ 0 = let t = c.rounds-test.ensures in let o = c.rounds.now.ok.0 in grind (arith, nat_tests) in
     let rest = rest_all c.rounds.net c.args.budget c.rounds.now.items none inv.rest in
-    let same = c.deref-2.ensures ∙ ap (λ (z : NetState). z.program) c.net-2.view_is in
-    let left : IsSomeJoinedLeft c.rounds.net.program c.rounds.net.pauses = subst (λ (p : Program). IsSomeJoinedLeft p c.rounds.net.pauses) same (subst (λ (z : NetState). IsSomeJoinedLeft c.deref-2.result.now z.pauses) c.net-2.view_is c.if-have_joined_ended.ensures) in
-    spent_ends c.rounds.net c.valid-2.ensures c.args.budget c.rounds.left inv.within rest left (subst (λ (z : NetState). IsSomeWithFuel z.pauses) c.net-2.view_is c.if-goes_on.ensures)
+    spent_ends c.rounds.net c.valid-2.ensures c.args.budget c.rounds.left inv.within rest c.if-is_done-2.ensures (subst (λ (z : NetState). IsSomeWithFuel z.pauses) c.net-2.view_is c.if-goes_on.ensures)
 
 pub returns-clause-outcome : goal.returns-clause-outcome
 returns-clause-outcome g c =
     let inv = c.rounds.invariant in
     let none : length c.rounds.now.items ≡ 0 = let t = c.rounds-test.ensures in let o = c.rounds.now.ok.0 in grind (arith, nat_tests) in
     let rest = rest_all c.rounds.net c.args.budget c.rounds.now.items none inv.rest in
-    let same = c.deref-2.ensures ∙ ap (λ (z : NetState). z.program) c.net-2.view_is in
-    let left : IsSomeJoinedLeft c.rounds.net.program c.rounds.net.pauses = subst (λ (p : Program). IsSomeJoinedLeft p c.rounds.net.pauses) same (subst (λ (z : NetState). IsSomeJoinedLeft c.deref-2.result.now z.pauses) c.net-2.view_is c.if-have_joined_ended.ensures) in
-    stopped_ends c.rounds.net c.valid-2.ensures c.args.budget c.rounds.left inv.within rest left (subst (λ (z : NetState). AreNoneWithFuel z.pauses) c.net-2.view_is c.if-goes_on.ensures)
+    stopped_ends c.rounds.net c.valid-2.ensures c.args.budget c.rounds.left inv.within rest c.if-is_done-2.ensures (subst (λ (z : NetState). AreNoneWithFuel z.pauses) c.net-2.view_is c.if-goes_on.ensures)
 
 pub returns-clause-pauses : goal.returns-clause-pauses
 returns-clause-pauses g c =

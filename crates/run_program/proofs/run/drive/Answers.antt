@@ -6,7 +6,7 @@ use Rattle.run_program.proofs.run.drive.Goals as goal
 
 pub returns-in_err-show-in-Done-clause-part : goal.returns-in_err-show-in-Done-clause-part
 returns-in_err-show-in-Done-clause-part g c =
-    let done = done_report c.args.program.now c.args.input.now c.args.net.now c.settle.new.net c.args.limit c.in_ok-ticks.field-0 c.requires.fresh c.in_ok-ticks.ensures.program c.in_ok-ticks.ensures.input c.in-Done.ticks c.in_ok-ticks.ensures.outcome c.in-Done.is in
+    let done = done_report c.args.program.now c.args.input.now c.args.net.now c.settle.new.net c.args.limit c.in_ok-ticks.field-0 c.requires.fresh c.in_ok-ticks.ensures.program c.in_ok-ticks.ensures.input c.in-Done.ticks c.in_ok-ticks.ensures.reachable c.in_ok-ticks.ensures.outcome c.in-Done.is in
     on_err c.from_residual-in_err-show-in-Done.result (inr (_, inl done, c.in_err-show-in-Done.ensures.part))
 
 pub returns-in_err-show-in-Done-clause-front : goal.returns-in_err-show-in-Done-clause-front
@@ -16,7 +16,7 @@ returns-in_err-show-in-Done-clause-front g c =
 
 pub returns-in_ok-show-in-Done-clause-end : goal.returns-in_ok-show-in-Done-clause-end
 returns-in_ok-show-in-Done-clause-end g c =
-    let done = done_report c.args.program.now c.args.input.now c.args.net.now c.settle.new.net c.args.limit c.in_ok-ticks.field-0 c.requires.fresh c.in_ok-ticks.ensures.program c.in_ok-ticks.ensures.input c.in-Done.ticks c.in_ok-ticks.ensures.outcome c.in-Done.is in
+    let done = done_report c.args.program.now c.args.input.now c.args.net.now c.settle.new.net c.args.limit c.in_ok-ticks.field-0 c.requires.fresh c.in_ok-ticks.ensures.program c.in_ok-ticks.ensures.input c.in-Done.ticks c.in_ok-ticks.ensures.reachable c.in_ok-ticks.ensures.outcome c.in-Done.is in
     (_, done, c.in_ok-show-in-Done.ensures.whole)
 
 pub returns-in_err-show-in-Stopped-clause-part : goal.returns-in_err-show-in-Stopped-clause-part

@@ -4,15 +4,13 @@ use Rattle.std.specs.Io.KnownBytes.{Appends}
 use Rattle.std.proofs.lemmas.List.{append-nil}
 use Rattle.tapa_files.proofs.Known.{part_of_next, appends_none, appends_both}
 use Rattle.tapa_syntax.specs.declared.program.Program.{Program}
-use Rattle.kahn_model.specs.Cells.{cells_at}
 use Rattle.kahn_model.specs.Network.{Network}
-use Rattle.net_core.specs.Bounded.{scalars_of, memories_of}
 use Rattle.net_core.specs.declared.input.Input.{Input}
 use Rattle.net_core.specs.declared.net_state.NetState.{NetState}
 use Rattle.net_core.specs.State as state
 use Rattle.run_data.specs.Report.{last_line}
 use Rattle.run_data.specs.declared.lines.Last.{Last}
-use Rattle.run_program.specs.Run.{values_of, tokens_at, stream_lines, memory_lines, lines_at}
+use Rattle.run_program.specs.Run.{values_of, tokens_at, cells_shown, stream_lines, memory_lines, lines_at}
 use Rattle.run_program.proofs.Lines.{on_err, map_on_err}
 use Rattle.run_program.proofs.Running.{network_is}
 use Rattle.run_program.proofs.shown.show.Goals as goal
@@ -26,7 +24,7 @@ module _ (program : Program) (input : Input) (net : NetState) (p : program ≡ n
   streams = stream_lines (tokens_at (state.network net) (state.count net) last) 0 program.streams.items
 
   abbrev memories : List ℕ
-  memories = memory_lines (cells_at program (scalars_of input) (memories_of input) (state.count net)) 0 program.memories.items
+  memories = memory_lines (cells_shown program (values_of input) (state.count net) last) 0 program.memories.items
 
   abbrev report : List ℕ
   report = lines_at program (values_of input) (state.count net) last ++ last_line last

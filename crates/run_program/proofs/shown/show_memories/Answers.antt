@@ -1,11 +1,9 @@
 use Rattle.std.proofs.Common.{◌≡◌, ◌<◌, ℕ, List, length, take, drop, suc, get_or, ◌∙◌, ap, add-one, arith}
 use Rattle.tapa_files.proofs.Known.{part_so_far, part_of_next, appends_both}
 use Rattle.tapa_syntax.specs.declared.program.Memory.{Memory}
-use Rattle.kahn_model.specs.Cells.{cells_at}
-use Rattle.net_core.specs.Bounded.{scalars_of, memories_of}
 use Rattle.net_core.specs.State.{count}
 use Rattle.run_data.specs.Report.{memory_line}
-use Rattle.run_program.specs.Run.{memory_lines}
+use Rattle.run_program.specs.Run.{values_of, cells_shown, memory_lines}
 use Rattle.run_program.proofs.Lines.{on_err}
 use Rattle.run_program.proofs.Showing.{first_so_far, first_next, first_more}
 use Rattle.run_program.proofs.shown.show_memories.Goals as goal
@@ -16,7 +14,7 @@ line_is name cells xs i x t a b e = ap (λ (l : List ℕ). memory_line l cells) 
 
 pub returns-in_err-cells-clause-part : goal.returns-in_err-cells-clause-part
 returns-in_err-cells-clause-part g c =
-    let t = cells_at c.args.program.now (scalars_of c.args.input.now) (memories_of c.args.input.now) (count c.args.net.now) in
+    let t = cells_shown c.args.program.now (values_of c.args.input.now) (count c.args.net.now) c.args.last in
     let xs = c.args.program.now.memories.items in
     on_err c.from_residual.result
     (part_so_far (g.O.Sink.contents c.args.out.now) (g.O.Sink.contents c.loop-m.out) (memory_lines t 0 xs) (memory_lines t 0 (take c.loop-m.m xs)) _ (first_so_far (λ (r : Memory) n. memory_line r.name (t n)) xs c.loop-m.m) c.loop-m.invariant.0)
@@ -26,7 +24,7 @@ returns-in_err-cells-clause-later g c = c.loop-m.invariant.1
 
 pub returns-in_err-report_memory-clause-part : goal.returns-in_err-report_memory-clause-part
 returns-in_err-report_memory-clause-part g c =
-    let t = cells_at c.args.program.now (scalars_of c.args.input.now) (memories_of c.args.input.now) (count c.args.net.now) in
+    let t = cells_shown c.args.program.now (values_of c.args.input.now) (count c.args.net.now) c.args.last in
     let xs = c.args.program.now.memories.items in
     let within : c.loop-m.m < length xs = omega (arith, c.loop-m-test.true, c.len-m-end.ensures) in
     let line = line_is c.bytes-name.result.now c.in_ok-cells.cells.now xs c.loop-m.m c.index.result.now t c.bytes-name.ensures.value c.index.ensures c.in_ok-cells.ensures in
@@ -35,7 +33,7 @@ returns-in_err-report_memory-clause-part g c =
 
 pub loop-m-preserved : goal.loop-m-preserved
 loop-m-preserved g c =
-    let t = cells_at c.args.program.now (scalars_of c.args.input.now) (memories_of c.args.input.now) (count c.args.net.now) in
+    let t = cells_shown c.args.program.now (values_of c.args.input.now) (count c.args.net.now) c.args.last in
     let xs = c.args.program.now.memories.items in
     let within : c.loop-m.m < length xs = omega (arith, c.loop-m-test.true, c.len-m-end.ensures) in
     let line = line_is c.bytes-name.result.now c.in_ok-cells.cells.now xs c.loop-m.m c.index.result.now t c.bytes-name.ensures.value c.index.ensures c.in_ok-cells.ensures in (

@@ -1,7 +1,7 @@
-use Rattle.std.proofs.Common.{refl, ap}
+use Rattle.std.proofs.Common.{refl, sym, ap, ◌∙◌, arith}
 use Rattle.std.proofs.lemmas.Option.{slice_get_read}
-use Rattle.net_core.specs.Ports.{room_in}
-use Rattle.net_core.proofs.Moves.{adjust, get_set_same}
+use Rattle.net_core.specs.Ports.{waiting_in, room_in}
+use Rattle.net_core.proofs.Moves.{adjust, get_set_same, space_grows}
 use Rattle.net_core.proofs.ports.Ports.make_room.Goals as goal
 
 pub returns-in_err-reserve-clause-adjusted : goal.returns-in_err-reserve-clause-adjusted
@@ -12,3 +12,15 @@ returns-clause-adjusted c = adjust c.args.self.now _ c.args.s c.index_mut-port.r
 
 pub returns-clause-room : goal.returns-clause-room
 returns-clause-room c = ap room_in (get_set_same c.args.self.now.ports.items c.args.s _ c.requires)
+
+pub returns-in_err-reserve-clause-waits : goal.returns-in_err-reserve-clause-waits
+returns-in_err-reserve-clause-waits c = ap waiting_in (get_set_same c.args.self.now.ports.items c.args.s _ c.requires) ∙ sym (ap waiting_in (slice_get_read c.args.self.now.ports.items _ c.args.s c.index_mut-port.result.now refl c.requires c.index_mut-port.ensures.value))
+
+pub returns-in_err-reserve-clause-space : goal.returns-in_err-reserve-clause-space
+returns-in_err-reserve-clause-space c = space_grows c.args.self.now.ports.items c.args.s c.index_mut-port.result.now _ (slice_get_read c.args.self.now.ports.items _ c.args.s c.index_mut-port.result.now refl c.requires c.index_mut-port.ensures.value) (omega arith)
+
+pub returns-clause-waits : goal.returns-clause-waits
+returns-clause-waits c = ap waiting_in (get_set_same c.args.self.now.ports.items c.args.s _ c.requires) ∙ sym (ap waiting_in (slice_get_read c.args.self.now.ports.items _ c.args.s c.index_mut-port.result.now refl c.requires c.index_mut-port.ensures.value))
+
+pub returns-clause-space : goal.returns-clause-space
+returns-clause-space c = space_grows c.args.self.now.ports.items c.args.s c.index_mut-port.result.now _ (slice_get_read c.args.self.now.ports.items _ c.args.s c.index_mut-port.result.now refl c.requires c.index_mut-port.ensures.value) (omega arith)
