@@ -63,7 +63,7 @@ run_begins first carried zero_cycle count none = record {
   going = λ m env nets at f ready r told n le d. (let a : 1 ≤ n = d.0 in absurd (omega (arith, zero_cycle)));
 }
 
-module _ (first now next : SimTree) (old new : List (List Token)) (run : IsRunTo first now old) (step : IsNext now next) (added : AreAdded next old new) where
+module _ (first now next : SimTree) (old : List (List Token)) (run : IsRunTo first now old) (step : IsNext now next) where
   told_next : InRuns first (λ m env nets. IsToldOf first.design.modules m env nets next.told)
   told_next m env nets at f ready r told =
       let at_now : TopOf now.design m = subst (λ (d : DesignTree). TopOf d m) (sym run.same) at in
@@ -78,32 +78,33 @@ module _ (first now next : SimTree) (old new : List (List Token)) (run : IsRunTo
       h m env nets (subst (λ (d : DesignTree). TopOf d m) (sym same) at) f (ready ∙ sym (step.ready ∙ run.ready)) (subst (λ (d : DesignTree). RunsIn d.modules m env nets) (sym same) r)
       (subst (λ (d : DesignTree). IsToldOf d.modules m env nets next.told) (sym same) (told_next m env nets at f ready r told))
 
+  -- it stands in a later cycle of the same runs
+  pub later_next : IsLater first next next.told.cycle
+  later_next = record { same = step.same ∙ run.same; at = refl; ready = step.ready ∙ run.ready; told = told_next }
+
+module _ (first now next : SimTree) (old new : List (List Token)) (run : IsRunTo first now old) (step : IsNext now next) (added : AreAdded next old new) where
   pub tokens_next : InRuns first (λ m env nets. (place : ℕ) (l : Port) → slice_get (streams_of m) place ≡ Some l → tokens l.bits (λ n. nets n []) l.name next.told.cycle ≡ slice_index_or new place [])
   tokens_next m env nets at f ready r told place l got =
       let low : place < length (streams_of m) = slice_get_within (streams_of m) place l got in
       let c : length old ≡ length (streams_of m) = run.count m at in
       let a = added.1 place (omega arith) in
       let later : next.told.cycle ≡ suc now.told.cycle = omega (arith, step.cycle) in
-      let grows = from_next (λ m env nets. (l : Port) (n : ℕ) → slice_get (streams_of m) place ≡ Some l → next.told.cycle ≡ suc n → tokens l.bits (λ k. nets k []) l.name (suc n) ≡ tokens l.bits (λ k. nets k []) l.name n ++ option_to_list a.0)
+      let grows = from_next first now next old run step (λ m env nets. (l : Port) (n : ℕ) → slice_get (streams_of m) place ≡ Some l → next.told.cycle ≡ suc n → tokens l.bits (λ k. nets k []) l.name (suc n) ≡ tokens l.bits (λ k. nets k []) l.name n ++ option_to_list a.0)
       a.1.later m env nets at f ready r told l now.told.cycle got later in
       ap (λ n. tokens l.bits (λ n. nets n []) l.name n) later ∙ grows ∙ ap (λ z. z ++ option_to_list a.0) (run.tokens m env nets at f ready r told place l got) ∙ sym a.2
-
-  -- it stands in a later cycle of the same runs
-  pub later_next : IsLater first next next.told.cycle
-  later_next = record { same = step.same ∙ run.same; at = refl; ready = step.ready ∙ run.ready; told = told_next }
 
   pub run_on : InRuns next (λ m env nets. IsDone (λ n. nets n []) next.told.cycle → ⊥) → IsRunTo first next new
   run_on not_done = record {
     same = step.same ∙ run.same;
     ready = step.ready ∙ run.ready;
-    told = told_next;
+    told = told_next first now next old run step;
     count = λ m at. added.0 ∙ run.count m at;
     tokens = tokens_next;
     going = λ m env nets at f ready r told n le d. by_last m env nets at f ready r told n d le (cases_eq n next.told.cycle);
   } where
     by_last : (m : ModuleTree) (env : Environment) (nets : ℕ → Path → Cycle) → TopOf first.design m → FitsShape env (shape_of m) → env.ready ≡ first.ready → RunsIn first.design.modules m env nets → IsToldOf first.design.modules m env nets first.told
         → (n : ℕ) → IsDone (λ n. nets n []) n → n ≤ next.told.cycle → (n ≡ next.told.cycle) ⊎ (n ≢ next.told.cycle) → ⊥
-    by_last m env nets at f ready r told n d le (inl e) = from_next (λ m env nets. IsDone (λ n. nets n []) next.told.cycle → ⊥) not_done m env nets at f ready r told (subst (λ k. IsDone (λ n. nets n []) k) e d)
+    by_last m env nets at f ready r told n d le (inl e) = from_next first now next old run step (λ m env nets. IsDone (λ n. nets n []) next.told.cycle → ⊥) not_done m env nets at f ready r told (subst (λ k. IsDone (λ n. nets n []) k) e d)
     by_last m env nets at f ready r told n d le (inr ne) =
         let c : next.told.cycle ≡ now.told.cycle + 1 = step.cycle in
         run.going m env nets at f ready r told n (omega arith) d
@@ -112,7 +113,11 @@ module _ (first now next : SimTree) (old new : List (List Token)) (run : IsRunTo
   pub done_first : (limit : ℕ) → next.told.cycle ≤ limit → InRuns next (λ m env nets. IsDone (λ n. nets n []) next.told.cycle) → InRuns first (λ m env nets. IsDoneAt (λ n. nets n []) limit (Some next.told.cycle))
   done_first limit le done m env nets at f ready r told =
       let c : next.told.cycle ≡ now.told.cycle + 1 = step.cycle in
-      (le, from_next (λ m env nets. IsDone (λ n. nets n []) next.told.cycle) done m env nets at f ready r told, λ n low d. run.going m env nets at f ready r told n (omega arith) d)
+      (le, from_next first now next old run step (λ m env nets. IsDone (λ n. nets n []) next.told.cycle) done m env nets at f ready r told, λ n low d. run.going m env nets at f ready r told n (omega arith) d)
+
+-- a simulator that has not gone on stands in cycle 0 of its own runs
+pub later_none : (first : SimTree) → first.told.cycle ≡ 0 → IsLater first first 0
+later_none first e = record { same = refl; at = e; ready = refl; told = λ m env nets at f ready r told. told }
 
 -- where no cycle up to the limit was the last
 pub none_done : (first now : SimTree) (carried : List (List Token)) (limit : ℕ) → IsRunTo first now carried → now.told.cycle ≡ limit → InRuns first (λ m env nets. IsDoneAt (λ n. nets n []) limit None)

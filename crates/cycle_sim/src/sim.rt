@@ -1,6 +1,6 @@
 // A design in one of its cycles.
 
-ghost use Rattle.std.specs.Prelude.{◌≡◌, ◌+◌, ◌<◌, ◌^◌, ◌↔◌, ℕ, [], Some, slice_get, slice_index_or, length, IfOk, OnOk, IsTrue};
+ghost use Rattle.std.specs.Prelude.{◌≡◌, ◌+◌, ◌<◌, ◌≤◌, ◌^◌, ◌↔◌, ℕ, [], Some, slice_get, slice_index_or, length, IfOk, OnOk, OnErr, IsTrue};
 ghost use Rattle.tapa_base.specs.declared.shape.Port.{Port as PortTree};
 ghost use Rattle.vlog_tree.specs.Form.{ModuleTree};
 ghost use Rattle.vlog_tree.specs.Environment.{IsDone, streams_of, tokens};
@@ -118,7 +118,7 @@ fn no_tokens(alloc: Global, count: usize) -> Result<Vec<Vec<Token>>, AllocError>
 // Steps once, and adds what the streams carry.
 fn go_on(sim: &mut Sim, tokens: &mut [Vec<Token>]) -> Result<(), AllocError>
     requires { (sim_of sim.old).told.cycle + 1 < 2 ^ 64 }
-    ensures next { OnOk result (IsNext (sim_of sim.old) (sim_of sim.new)) }
+    ensures next { IsNext (sim_of sim.old) (sim_of sim.new) }
     ensures added { OnOk result (AreAdded (sim_of sim.new) (lists_of tokens.old) (lists_of tokens.new)) }
 {
     sim.step();
@@ -126,12 +126,15 @@ fn go_on(sim: &mut Sim, tokens: &mut [Vec<Token>]) -> Result<(), AllocError>
 }
 
 /// Steps until the design is done or to a cycle, and gives the tokens of the cycles from 1 on, and the first cycle in which the
-/// design is done. The simulator then stands in the last of these cycles.
+/// design is done. The simulator then stands in the last of these cycles. Want of memory leaves it in one of them, from which
+/// it may go on.
 pub fn run_cycles(alloc: Global, sim: &mut Sim, limit: u64) -> Result<Carried, AllocError>
     requires { (sim_of sim.old).told.cycle ≡ 0 }
     ensures done { IfOk result (λ r. InRuns (sim_of sim.old) (λ m env nets. IsDoneAt (λ n. nets n []) limit r.done_at)) }
     ensures tokens { IfOk result (λ r. InRuns (sim_of sim.old) (λ m env nets. (place : ℕ) (l : PortTree) → slice_get (streams_of m) place ≡ Some l → tokens l.bits (λ n. nets n []) l.name (last_cycle limit r.done_at) ≡ slice_index_or (lists_of r.tokens.items) place [])) }
+    ensures count { IfOk result (λ r. (m : ModuleTree) → TopOf (sim_of sim.old).design m → length r.tokens.items ≡ length (streams_of m)) }
     ensures later { IfOk result (λ r. IsLater (sim_of sim.old) (sim_of sim.new) (last_cycle limit r.done_at)) }
+    ensures short { OnErr result ((n : ℕ) × (n ≤ limit) × IsLater (sim_of sim.old) (sim_of sim.new) n) }
 {
     let mut tokens = no_tokens(alloc, sim.streams())?;
     for cycle in 0..limit {
