@@ -17,6 +17,7 @@ use Rattle.vlog_tree.specs.Environment.{Environment, FitsShape, RunsIn, shape_of
 use Rattle.vlog_tree.specs.Form.{ModuleTree}
 use Rattle.vlog_tree.specs.Labels.{done, s_din, s_wr, s_rdy}
 use Rattle.kahn_model.proofs.Clocked.{and_parts}
+use Rattle.kahn_model.proofs.WellFormed.{program_network}
 use Rattle.kahn_model.specs.Cells.{cells_at as cells_of}
 use Rattle.kahn_model.specs.Counts.{written, IsKahnPrefix, IsKahnStream}
 use Rattle.kahn_model.specs.Network.{Network}
@@ -33,6 +34,7 @@ use Rattle.hw_network_laws.specs.network.Channel.{carried}
 use Rattle.hw_network_laws.specs.network.Joined.{AreJoinedOver, DoneIsOfJoined}
 use Rattle.hw_network_laws.proofs.network.Cells.{hold_cells}
 use Rattle.hw_network_laws.proofs.network.Joined.{done_is_of_joined}
+use Rattle.hw_network_laws.proofs.network.Pace.{keeps_pace}
 use Rattle.hw_network_laws.proofs.network.Together.{in_step}
 use Rattle.hw_network_laws.proofs.modules.Tasks.{there_at as item_at}
 use Rattle.hw_top_lines.specs.Designs.{AreShort}
@@ -204,6 +206,7 @@ module _ (program : Program) (w : IsWellFormed program) (added : List ℕ) (shor
     in_time = λ most waits late few bound k e.
         let t = D.in_time most (all_answer env) waits (is_clock most waits late few) bound k e in
         (t.0, t.1, (t.2.0, (t.2.1, over_done t.2.0 t.2.3), t.2.2));
+    pace = λ most late. keeps_pace net (program_network program w env.scalars env.memories) clock most late;
   }
 
 pub circuits_carry_streams : CircuitsCarryStreams

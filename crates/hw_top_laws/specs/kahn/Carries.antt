@@ -16,10 +16,11 @@ use Rattle.kahn_model.specs.Outcome.{IsJoined, HaveJoinedEnded, IsDone as EndsWi
 use Rattle.kahn_model.specs.Start.{network_of}
 use Rattle.kahn_model.specs.Timed.{lost}
 use Rattle.task_fsm.specs.declared.machine.Fsm.{Fsm}
+use Rattle.hw_network_laws.specs.network.Pace.{KeepsPace}
 use Rattle.hw_top_lines.specs.Designs.{AreShort}
 use Rattle.hw_top_lines.specs.Texts.{token_bits, top_tree}
 use Rattle.hw_top_laws.specs.runs.Designs.{IsCircuit}
-use Rattle.hw_top_laws.specs.kahn.Clock.{counts, all_answer}
+use Rattle.hw_top_laws.specs.kahn.Clock.{clock_in, counts, all_answer}
 
 -- the network of a program on the environment's scalars and cells
 abbrev pub network : Program → Environment → Network
@@ -54,6 +55,9 @@ pub record CarriesStreams (program : Program) (added : List ℕ) (env : Environm
   pub in_time :
       (most waits : ℕ) → ((s : ℕ) → slice_index added s ≤ most) → ((n : ℕ) → lost (all_answer env) n ≤ waits) → (bound : ℕ) (k : ℕ → ℕ) → EndsWithin (network program env) bound k
       → (a : ℕ) × IsLeastToEnd (network program env) a × ((n : ℕ) × IsDone (top_of nets) n × (n ≤ (a + 2) * (2 * most + 4) + waits))
+  -- a tick that is allowed is made at most the greatest added latency later, or in the first cycle in which its memory answers;
+  -- and what is written to a stream and not yet taken is no more than its depth and twice its added latency
+  pub pace : (most : ℕ) → ((s : ℕ) → slice_index added s ≤ most) → KeepsPace (network program env) (clock_in program added env) most
 
 -- from any power-up contents
 abbrev pub CircuitsCarryStreams : Type 0
