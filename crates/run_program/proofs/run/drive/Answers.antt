@@ -11,7 +11,7 @@ returns-in_err-show-in-Done-clause-part g c =
 
 pub returns-in_err-show-in-Done-clause-front : goal.returns-in_err-show-in-Done-clause-front
 returns-in_err-show-in-Done-clause-front g c =
-    let done = done_report c.args.program.now c.args.input.now c.args.net.now c.settle.new.net c.args.limit c.in_ok-ticks.field-0 c.requires.fresh c.in_ok-ticks.ensures.program c.in_ok-ticks.ensures.input c.in-Done.ticks c.in_ok-ticks.ensures.outcome c.in-Done.is in
+    let done = done_report c.args.program.now c.args.input.now c.args.net.now c.settle.new.net c.args.limit c.in_ok-ticks.field-0 c.requires.fresh c.in_ok-ticks.ensures.program c.in_ok-ticks.ensures.input c.in-Done.ticks c.in_ok-ticks.ensures.reachable c.in_ok-ticks.ensures.outcome c.in-Done.is in
     λ e. (_, inl done, c.in_err-show-in-Done.ensures.part)
 
 pub returns-in_ok-show-in-Done-clause-end : goal.returns-in_ok-show-in-Done-clause-end
