@@ -1,5 +1,5 @@
 -- What the plan of a source's program on a device is, and why there is none.
-use Rattle.std.specs.Prelude.{◌≡◌, ℕ, Bool, List, [], ⊤, slice_get, unwrap_or, None, Some}
+use Rattle.std.specs.Prelude.{◌≡◌, ℕ, Bool, List, [], ⊤, slice_get, unwrap_or, Option, None, Some}
 use Rattle.tapa_syntax.specs.declared.program.Program.{Program}
 use Rattle.tapa_words.specs.declared.command.PlanAim.{PlanAim}
 use Rattle.tapa_words.specs.declared.command.PlanAim.TheVariants.{Lines, Circuit}
@@ -28,10 +28,11 @@ use Rattle.command_source.specs.Refusal.{Refusal, DeviceFault, NoJson, HasFault,
 use Rattle.command_source.specs.Source.{IsProgramOf}
 use Rattle.command_plans.specs.Built.{IsCircuitText}
 
--- the mode that the words name
-abbrev pub mode_of : PlanMode → Mode
-mode_of words_mode.Exact = Exact
-mode_of words_mode.Fit = Fit
+-- the mode that the words name, where it is one of these
+abbrev pub mode_of : PlanMode → Option Mode
+mode_of words_mode.Exact = Some Exact
+mode_of words_mode.Fit = Some Fit
+mode_of words_mode.Split = None
 
 -- these are the lines of a plan, of its border latencies, and of a balance that takes the fewest registers, with a flow that
 -- shows it

@@ -30,13 +30,14 @@ use tapa_syntax::Program;
 use tapa_words::{PlanAim, PlanMode};
 use task_graph::Graph;
 
-/// The mode that a word names.
-pub fn mode_of(mode: PlanMode) -> Mode
+/// The mode that a word names, where it is one by which plans are looked for here.
+pub fn mode_of(mode: PlanMode) -> Option<Mode>
     ensures { result ≡ mode_lem mode }
 {
     match mode {
-        PlanMode::Exact => Mode::Exact,
-        PlanMode::Fit => Mode::Fit,
+        PlanMode::Exact => Some(Mode::Exact),
+        PlanMode::Fit => Some(Mode::Fit),
+        PlanMode::Split => None,
     }
 }
 

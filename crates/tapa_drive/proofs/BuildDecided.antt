@@ -4,9 +4,11 @@ use Rattle.std.proofs.Common.{◌≡◌, ◌⊎◌, ◌≤◌, ◌<◌, ℕ, Lis
 use Rattle.std.specs.Io.KnownBytes.{Appends}
 use Rattle.tapa_files.specs.Outside.{Files, file_bytes, Rose}
 use Rattle.tapa_files.specs.Take.{IsLongerThan}
-use Rattle.tapa_words.specs.Words.{Run, Build, Plan, Cosim, command_of}
+use Rattle.tapa_words.specs.Words.{Build, Asks}
+use Rattle.tapa_words.specs.Parts.{OnRun, OnBuild, OnCosim, IsToCome}
+use Rattle.tapa_words.specs.declared.command.CosimAim.{CosimAim}
 use Rattle.tapa_words.specs.declared.command.PlanAim.{PlanAim}
-use Rattle.tapa_words.specs.declared.command.PlanMode.{PlanMode}
+use Rattle.slot_plan.specs.declared.floorplan.Mode.{Mode}
 use Rattle.command_source.specs.Files.{OfFile, OfSource, source_limit, data_limit}
 use Rattle.command_source.specs.Outside.{Outside, Written, outside}
 use Rattle.command_source.specs.Refusal.{Refusal, Usage, Read, Write, TooLong, Source, Data, Ticks, Stopped, Device, TooManyPlans, NoPlan, NoRoom, Verilog, DesignData, Undone, Memory}
@@ -15,51 +17,39 @@ use Rattle.command_source.specs.Told.{IsTold, IsToldAs}
 use Rattle.command_source.specs.declared.status.Status.{Status}
 use Rattle.command_source.specs.declared.status.Status.TheVariants as status
 use Rattle.command_plans.specs.Built.{HasCircuit}
-use Rattle.tapa_drive.specs.Answer.{OfRun, OfBuild, OfPlan, OfCosim, source_in, most_in, IsTaken, IsRefusedIn, IsFaultyIn, IsReached, IsTooLong, IsDone, HasCause, Leaves, IsAnswer}
+use Rattle.tapa_drive.specs.Answer.{OfRun, OfBuild, OfPlan, OnPlanBy, OfCosim, IsFirst, most_in, IsTaken, IsRefusedIn, IsFaultyIn, IsReached, IsTooLong, IsDone, HasCause, Leaves, IsAnswer}
 use Rattle.tapa_drive.specs.BuildDecided.{TellsBuildOf, TellsBuild}
 use Rattle.tapa_drive.specs.Decided.{IsRefusedWith, NothingFails}
 use Rattle.tapa_drive.proofs.Decided.{asked_of}
 
 -- a circuit that was asked for is the one that the words ask for
-asked_build : (words : List (List ℕ)) (source top : List ℕ) → command_of words ≡ Some (Build source top) → (P : List ℕ → List ℕ → Type 0) → OfBuild words P → P source top
-asked_build words source top asked P h =
-    let both : Some (Build h.0 h.1) ≡ Some (Build source top) = sym h.2 ∙ asked in
-    let one : h.0 ≡ source = cc in
-    let two : h.1 ≡ top = cc in
-    subst (λ (s : List ℕ). P s top) one (subst (λ (t : List ℕ). P h.0 t) two h.3)
+asked_build : (words : List (List ℕ)) (source top : List ℕ) → Asks words (Build source top) → (P : List ℕ → List ℕ → Type 0) → OfBuild words P → P source top
+asked_build words source top asked P h = asked_of words (Build source top) asked (OnBuild P) h
 
 -- what holds of the bytes of a source holds of those that are told, which are few
 pub of_told_source : (files : Files) (source : List ℕ) (P : List ℕ → Type 0) → OfSource (Some files) source P → (length (file_bytes files source) ≤ source_limit) × P (file_bytes files source)
 of_told_source files source P (text, is, few, h) = (subst (λ (l : List ℕ). length l ≤ source_limit) is few, subst P is h)
 
-module _ (words : List (List ℕ)) (files : Files) (reads : List ℕ → ℕ) (out errors : Written) (after : Outside) (source top : List ℕ) (asked : command_of words ≡ Some (Build source top)) (still : NothingFails source None (outside (Some files) reads out errors) after) where
+module _ (words : List (List ℕ)) (files : Files) (reads : List ℕ → ℕ) (out errors : Written) (after : Outside) (source top : List ℕ) (asked : Asks words (Build source top)) (still : NothingFails source None (outside (Some files) reads out errors) after) where
   abbrev before : Outside
   before = outside (Some files) reads out errors
 
   abbrev text : List ℕ
   text = file_bytes files source
 
-  not_asked : command_of words ≡ None → ⊥
-  not_asked h = let both : None ≡ Some (Build source top) = sym h ∙ asked in cc
+  not_asked : HasCause words before after Usage → ⊥
+  not_asked (inl none) = none (Build source top) asked
+  not_asked (inr h) = asked_of words (Build source top) asked IsToCome h
 
   -- no other command was asked for
   not_run : {P : List ℕ → List ℕ → Option (List ℕ) → ℕ → Type 0} → OfRun words P → ⊥
-  not_run h =
-      let both : Some (Run h.0 h.1 h.2 h.3) ≡ Some (Build source top) = sym h.4 ∙ asked in
-      let one : Run h.0 h.1 h.2 h.3 ≡ Build source top = cc in
-      cc
+  not_run {P = P} h = asked_of words (Build source top) asked (OnRun P) h
 
-  not_planned : {P : List ℕ → List ℕ → List ℕ → PlanMode → PlanAim → Type 0} → OfPlan words P → ⊥
-  not_planned h =
-      let both : Some (Plan h.0 h.1 h.2 h.3 h.4) ≡ Some (Build source top) = sym h.5 ∙ asked in
-      let one : Plan h.0 h.1 h.2 h.3 h.4 ≡ Build source top = cc in
-      cc
+  not_planned : {P : List ℕ → List ℕ → List ℕ → Mode → PlanAim → Type 0} → OfPlan words P → ⊥
+  not_planned {P = P} h = asked_of words (Build source top) asked (OnPlanBy P) h
 
-  not_cosim : {P : List ℕ → Option (List ℕ) → ℕ → Type 0} → OfCosim words P → ⊥
-  not_cosim h =
-      let both : Some (Cosim h.0 h.1 h.2) ≡ Some (Build source top) = sym h.3 ∙ asked in
-      let one : Cosim h.0 h.1 h.2 ≡ Build source top = cc in
-      cc
+  not_cosim : {P : List ℕ → Option (List ℕ) → ℕ → CosimAim → Type 0} → OfCosim words P → ⊥
+  not_cosim {P = P} h = asked_of words (Build source top) asked (OnCosim P) h
 
   -- no read failed
   no_read : (file : List ℕ) → HasCause words before after (Read file) → ⊥
@@ -93,7 +83,7 @@ module _ (words : List (List ℕ)) (files : Files) (reads : List ℕ → ℕ) (o
         (λ (w : (None ≡ Some file) × (most ≡ data_limit) × IsLongerThan (Some files) file data_limit × OfFile (Some files) source_limit source (IsTaken (Build source top))). let none : None ≡ Some file = w.0 in absurd cc)
         c
     of_reason (Source file place code) h leaves told =
-        let c = asked_of words (Build source top) asked (λ a. (source_in a ≡ file) × OfFile (Some files) (most_in a) file (λ t. IsRefusedIn a t place code)) h in
+        let c = asked_of words (Build source top) asked (λ a. IsFirst a file × OfFile (Some files) (most_in a) file (λ t. IsRefusedIn a t place code)) h in
         let t = of_told_source files source (λ t. IsRefusedSource t top place code) (subst (λ (f : List ℕ). OfSource (Some files) f (λ t. IsRefusedSource t top place code)) (sym c.0) c.1) in
         inl (inr (inl (t.0, (place, code, t.1, refused_so (Source file place code) (Source source place code) result (ap (λ (f : List ℕ). Source f place code) (sym c.0)) told leaves))))
     of_reason (Data file fault) h leaves told = absurd (not_run h)
@@ -104,7 +94,7 @@ module _ (words : List (List ℕ)) (files : Files) (reads : List ℕ → ℕ) (o
     of_reason NoPlan h leaves told = absurd (not_planned h)
     of_reason (NoRoom label) h leaves told = absurd (not_planned h)
     of_reason (Verilog file fault) h leaves told =
-        let c = asked_of words (Build source top) asked (λ a. (source_in a ≡ file) × OfFile (Some files) (most_in a) file (λ t. IsFaultyIn a t fault)) h in
+        let c = asked_of words (Build source top) asked (λ a. IsFirst a file × OfFile (Some files) (most_in a) file (λ t. IsFaultyIn a t fault)) h in
         absurd (of_told_source files file (λ t. ⊥) c.1).1
     of_reason (DesignData file fault) h leaves told = absurd (not_cosim h)
     of_reason (Undone most) h leaves told = absurd (not_cosim h)
@@ -122,7 +112,7 @@ module _ (words : List (List ℕ)) (files : Files) (reads : List ℕ → ℕ) (o
         let t = of_told_source files source (λ bytes. (told : List ℕ) × HasCircuit bytes top told × Appends out.bytes after.out.bytes told) c in
         inl (inl (t.0, (t.1.0, t.1.1, is, t.1.2, same)))
 
-pub build_decided : (words : List (List ℕ)) (files : Option Files) (reads : List ℕ → ℕ) (out errors : Written) (after : Outside) (source top : List ℕ) → command_of words ≡ Some (Build source top) → NothingFails source None (outside files reads out errors) after → (result : Status) → IsAnswer words (outside files reads out errors) after result → (result ≡ status.Ok → after.err.bytes ≡ errors.bytes) → TellsBuild files source top result (outside files reads out errors) after ⊎ (result ≡ status.Memory)
+pub build_decided : (words : List (List ℕ)) (files : Option Files) (reads : List ℕ → ℕ) (out errors : Written) (after : Outside) (source top : List ℕ) → Asks words (Build source top) → NothingFails source None (outside files reads out errors) after → (result : Status) → IsAnswer words (outside files reads out errors) after result → (result ≡ status.Ok → after.err.bytes ≡ errors.bytes) → TellsBuild files source top result (outside files reads out errors) after ⊎ (result ≡ status.Memory)
 build_decided words None reads out errors after source top asked still result h same = inl tt
 build_decided words (Some files) reads out errors after source top asked still status.Ok h same =
     of_ok words files reads out errors after source top asked still status.Ok (h.ok refl) refl (same refl)

@@ -2,7 +2,8 @@
 use Rattle.std.proofs.Common.{◌≡◌, ◌≢◌, ◌⊎◌, ◌≤◌, ℕ, List, Option, Some, None, Err, refl, sym, ap, ◌∙◌, inl, inr, ⊎_elim}
 use Rattle.tapa_files.specs.Outside.{Files}
 use Rattle.tapa_syntax.specs.declared.program.Program.{Program}
-use Rattle.tapa_words.specs.Words.{Command, command_of}
+use Rattle.tapa_words.specs.Words.{Command, Asks}
+use Rattle.tapa_words.specs.Parts.{OfCommand, file_in}
 use Rattle.command_source.specs.Files.{OfFile, OfSource, source_limit}
 use Rattle.command_source.specs.Found.{IsNotTaken}
 use Rattle.command_source.specs.Meaning.{refusal_of}
@@ -11,7 +12,7 @@ use Rattle.command_source.specs.Refusal.{Refusal, Usage, Read, Write, TooLong, S
 use Rattle.command_source.specs.Source.{IsProgramOf}
 use Rattle.command_source.specs.declared.refusal.Refusal.{Refusal as CodeRefusal}
 use Rattle.command_source.proofs.OfFiles.{of_file_also}
-use Rattle.tapa_drive.specs.Answer.{OfCommand, source_in, most_in, file_in, HasProgram, IsTaken, IsRefusedIn, IsFaultyIn, IsReached, HasCause, Leaves, ReadsAsked}
+use Rattle.tapa_drive.specs.Answer.{IsFirst, most_in, OfFirst, HasProgram, IsTaken, IsRefusedIn, IsFaultyIn, IsReached, HasCause, Leaves, ReadsAsked}
 use Rattle.tapa_drive.specs.Carried.{IsCarriedOut}
 use Rattle.tapa_drive.proofs.Counts.{one_name}
 
@@ -24,10 +25,8 @@ module _ (words : List (List ℕ)) (files : Option Files) (reads : List ℕ → 
   pub unread : ReadsAsked words (outside files reads out errors) (outside files reads out told)
   unread = record { same_files = refl; asked = λ name. inl refl }
 
-module _ (words : List (List ℕ)) (files : Option Files) (command : Command) (asked : command_of words ≡ Some command) (reads_old : List ℕ → ℕ) (old errors told : Written) where
-  abbrev source : List ℕ
-  source = source_in command
-
+-- a command that reads this file first
+module _ (words : List (List ℕ)) (files : Option Files) (command : Command) (asked : Asks words command) (source : List ℕ) (first : (file : List ℕ) → source ≡ file → IsFirst command file) (reads_old : List ℕ → ℕ) (old errors told : Written) where
   abbrev named : Option (List ℕ)
   named = file_in command
 
@@ -36,10 +35,10 @@ module _ (words : List (List ℕ)) (files : Option Files) (command : Command) (a
 
   not_found_cause : (files_new : Option Files) (reads_new : List ℕ → ℕ) (new : Written) (r : Refusal) → IsNotTaken files reads_old reads_new source (most_in command) (IsRefusedIn command) (IsFaultyIn command) r → HasCause words before (outside files_new reads_new new told) r
   not_found_cause files_new reads_new new Usage h = absurd h
-  not_found_cause files_new reads_new new (Read file) h = (command, asked, (inl h.0, h.1))
+  not_found_cause files_new reads_new new (Read file) h = (command, asked, (inl (first file h.0), h.1))
   not_found_cause files_new reads_new new Write h = absurd h
-  not_found_cause files_new reads_new new (TooLong file most) h = (command, asked, inl h)
-  not_found_cause files_new reads_new new (Source file place rule) h = (command, asked, h)
+  not_found_cause files_new reads_new new (TooLong file most) h = (command, asked, inl (first file h.0, h.1, h.2))
+  not_found_cause files_new reads_new new (Source file place rule) h = (command, asked, (first file h.0, h.1))
   not_found_cause files_new reads_new new (Data file fault) h = absurd h
   not_found_cause files_new reads_new new (Ticks most) h = absurd h
   not_found_cause files_new reads_new new (Stopped lines) h = absurd h
@@ -47,7 +46,7 @@ module _ (words : List (List ℕ)) (files : Option Files) (command : Command) (a
   not_found_cause files_new reads_new new (TooManyPlans slots free) h = absurd h
   not_found_cause files_new reads_new new NoPlan h = absurd h
   not_found_cause files_new reads_new new (NoRoom label) h = absurd h
-  not_found_cause files_new reads_new new (Verilog file fault) h = (command, asked, h)
+  not_found_cause files_new reads_new new (Verilog file fault) h = (command, asked, (first file h.0, h.1))
   not_found_cause files_new reads_new new (DesignData file fault) h = absurd h
   not_found_cause files_new reads_new new (Undone most) h = absurd h
   not_found_cause files_new reads_new new Memory h = tt
@@ -79,7 +78,7 @@ module _ (words : List (List ℕ)) (files : Option Files) (command : Command) (a
       same_files = same_mid;
       asked = λ name.
           ⊎_elim {C = (reads_mid name ≡ reads_old name) ⊎ WasReached name}
-          (λ (e : name ≡ source). inr (command, asked, inl (sym e)))
+          (λ (e : name ≡ source). inr (command, asked, inl (first name (sym e))))
           (λ (n : name ≢ source). inl (others_mid name n))
           (one_name name source);
     }
@@ -92,7 +91,7 @@ module _ (words : List (List ℕ)) (files : Option Files) (command : Command) (a
       reads = reads_source old;
     }
 
-    module _ (taken : OfFile files (most_in command) source (IsTaken command)) (files_new : Option Files) (reads_new : List ℕ → ℕ) (same_new : files_new ≡ files_mid) (others_new : (name : List ℕ) → named ≢ Some name → reads_new name ≡ reads_mid name) where
+    module _ (taken : OfFirst files command (IsTaken command)) (files_new : Option Files) (reads_new : List ℕ → ℕ) (same_new : files_new ≡ files_mid) (others_new : (name : List ℕ) → named ≢ Some name → reads_new name ≡ reads_mid name) where
       -- the further file is the one that is named, or none
       is_data : (given : Option (List ℕ)) (name : List ℕ) → (given ≡ Some name) ⊎ (given ≢ Some name)
       is_data None name = inr (λ e. cc)
@@ -107,7 +106,7 @@ module _ (words : List (List ℕ)) (files : Option Files) (command : Command) (a
         same_files = same_new ∙ same_mid;
         asked = λ name.
             ⊎_elim {C = (reads_new name ≡ reads_old name) ⊎ WasReached name}
-            (λ (e : name ≡ source). inr (command, asked, inl (sym e)))
+            (λ (e : name ≡ source). inr (command, asked, inl (first name (sym e))))
             (λ (n : name ≢ source).
             ⊎_elim {C = (reads_new name ≡ reads_old name) ⊎ WasReached name}
             (λ (d : named ≡ Some name). inr (command, asked, inr (d, taken)))

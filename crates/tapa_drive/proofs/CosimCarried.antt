@@ -2,7 +2,8 @@
 use Rattle.std.proofs.Common.{◌≡◌, ◌≢◌, ◌≤◌, ℕ, List, [], Option, Some, None, Ok, Err, refl, sym, subst, inl, inr}
 use Rattle.std.proofs.lemmas.List.{append-nil}
 use Rattle.tapa_files.specs.Outside.{Files, Rose, AppendsPart}
-use Rattle.tapa_words.specs.Words.{Command, Cosim, command_of}
+use Rattle.tapa_words.specs.Words.{Command, Cosim, Asks}
+use Rattle.tapa_words.specs.declared.command.CosimAim.TheVariants.{Report}
 use Rattle.vlog_tree.specs.Environment.{Environment}
 use Rattle.vlog_design.specs.Designs.{DesignTree}
 use Rattle.sim_report.specs.Ending.{EndsSo, HasFront, HasPart}
@@ -22,9 +23,9 @@ use Rattle.tapa_drive.proofs.Carried as carried
 use Rattle.tapa_drive.proofs.Counts.{rose_since, later_all}
 use Rattle.tapa_drive.proofs.OfFiles.{of_text_both}
 
-module _ (words : List (List ℕ)) (files : Option Files) (name : List ℕ) (named : Option (List ℕ)) (limit : ℕ) (asked : command_of words ≡ Some (Cosim name named limit)) (reads_old : List ℕ → ℕ) (old errors told : Written) (files_mid : Option Files) (reads_mid : List ℕ → ℕ) (same_mid : files_mid ≡ files) (later_mid : reads_old name ≤ reads_mid name) (others_mid : (other : List ℕ) → other ≢ name → reads_mid other ≡ reads_old other) (design : DesignTree) (means : OfFile files verilog_limit name (λ text. IsDesignOf text design)) (files_new : Option Files) (reads_new : List ℕ → ℕ) (same_new : files_new ≡ files_mid) (others_new : (other : List ℕ) → named ≢ Some other → reads_new other ≡ reads_mid other) where
+module _ (words : List (List ℕ)) (files : Option Files) (name : List ℕ) (named : Option (List ℕ)) (limit : ℕ) (asked : Asks words (Cosim name named limit Report)) (reads_old : List ℕ → ℕ) (old errors told : Written) (files_mid : Option Files) (reads_mid : List ℕ → ℕ) (same_mid : files_mid ≡ files) (later_mid : reads_old name ≤ reads_mid name) (others_mid : (other : List ℕ) → other ≢ name → reads_mid other ≡ reads_old other) (design : DesignTree) (means : OfFile files verilog_limit name (λ text. IsDesignOf text design)) (files_new : Option Files) (reads_new : List ℕ → ℕ) (same_new : files_new ≡ files_mid) (others_new : (other : List ℕ) → named ≢ Some other → reads_new other ≡ reads_mid other) where
   abbrev command : Command
-  command = Cosim name named limit
+  command = Cosim name named limit Report
 
   abbrev before : Outside
   before = outside files reads_old old errors
@@ -33,7 +34,7 @@ module _ (words : List (List ℕ)) (files : Option Files) (name : List ℕ) (nam
   has_design = of_file_also files verilog_limit name (λ text. IsDesignOf text design) (λ text. HasDesign text) (λ text d. record { design = design; means = d }) means
 
   reads_both : (new : Written) → ReadsAsked words before (outside files_new reads_new new told)
-  reads_both new = carried.reads_both words files command asked reads_old old errors told files_mid reads_mid same_mid later_mid others_mid has_design files_new reads_new same_new others_new new
+  reads_both new = carried.reads_both words files command asked name (λ file e. e) reads_old old errors told files_mid reads_mid same_mid later_mid others_mid has_design files_new reads_new same_new others_new new
 
   bad_data : (fault : DataFault) → OfData files named (λ bytes. HasDesignFault design bytes fault) → OfDesignTexts files name named (λ text bytes. HasBadDesignData text bytes fault)
   bad_data fault h =
@@ -53,7 +54,7 @@ module _ (words : List (List ℕ)) (files : Option Files) (name : List ℕ) (nam
   not_surrounded_cause NoPlan h = absurd h
   not_surrounded_cause (NoRoom label) h = absurd h
   not_surrounded_cause (Verilog file fault) h = absurd h
-  not_surrounded_cause (DesignData file fault) h = (name, named, limit, asked, (h.0, bad_data fault h.1))
+  not_surrounded_cause (DesignData file fault) h = (command, asked, (h.0, bad_data fault h.1))
   not_surrounded_cause (Undone most) h = absurd h
   not_surrounded_cause Memory h = tt
 
@@ -99,9 +100,7 @@ module _ (words : List (List ℕ)) (files : Option Files) (name : List ℕ) (nam
     pub ended : {A : Type 0} (x : A) → EndsSo design env limit old.bytes new.bytes design_end.Done → IsCarriedOut words before after (Ok x)
     ended x e = record {
       done = inr (inr (inl (
-        name,
-        named,
-        limit,
+        command,
         asked,
         of_asked (λ text bytes. HasCosimmed text bytes limit old.bytes new.bytes)
             (λ text bytes d g. record { at = e.0; report = e.1; simulated = record { design = design; env = env; means = d; gives = g; is = e.2 }; shown = e.3 }),
@@ -114,9 +113,7 @@ module _ (words : List (List ℕ)) (files : Option Files) (name : List ℕ) (nam
     has_front : HasFront design env limit old.bytes new.bytes → HasFrontOf words before after
     has_front w =
         inr (inr (inl (
-          name,
-          named,
-          limit,
+          command,
           asked,
           of_asked (λ text bytes. (done_at : Option ℕ) × (report : List ℕ) × HasSimulated text bytes limit done_at report × AppendsPart old.bytes new.bytes report)
               (λ text bytes d g. (w.0, w.1, record { design = design; env = env; means = d; gives = g; is = w.2 }, w.3)),
@@ -129,9 +126,7 @@ module _ (words : List (List ℕ)) (files : Option Files) (name : List ℕ) (nam
     unfinished e = record {
       done = tt;
       cause = (
-        name,
-        named,
-        limit,
+        command,
         asked,
         (
           refl,

@@ -2,29 +2,27 @@
 use Rattle.std.proofs.Common.{◌≡◌, ◌⊎◌, ◌≤◌, ◌<◌, ℕ, List, length, Option, Some, None, refl, sym, ap, ◌∙◌, subst, inl, inr, ⊎_elim}
 use Rattle.tapa_files.specs.Outside.{Files, file_bytes, Rose}
 use Rattle.tapa_files.specs.Take.{IsLongerThan}
-use Rattle.tapa_words.specs.Words.{Run, Build, Plan, Cosim, command_of}
+use Rattle.tapa_words.specs.Words.{Command, Cosim, Asks}
+use Rattle.tapa_words.specs.Parts.{OnRun, OnBuild, OnCosim, IsToCome}
+use Rattle.tapa_words.specs.declared.command.CosimAim.{CosimAim}
+use Rattle.tapa_words.specs.declared.command.CosimAim.TheVariants.{Report}
 use Rattle.tapa_words.specs.declared.command.PlanAim.{PlanAim}
-use Rattle.tapa_words.specs.declared.command.PlanMode.{PlanMode}
+use Rattle.slot_plan.specs.declared.floorplan.Mode.{Mode}
 use Rattle.command_source.specs.Files.{OfFile, OfData, data_limit, verilog_limit, no_data, shown_name}
 use Rattle.command_source.specs.Outside.{Outside, Written, outside}
 use Rattle.command_source.specs.Refusal.{Refusal, Usage, Read, Write, TooLong, Source, Data, Ticks, Stopped, Device, TooManyPlans, NoPlan, NoRoom, Verilog, DesignData, Undone, Memory}
 use Rattle.command_source.specs.Told.{IsTold, IsToldAs}
 use Rattle.command_source.specs.declared.status.Status.{Status}
 use Rattle.command_source.specs.declared.status.Status.TheVariants as status
-use Rattle.tapa_drive.specs.Answer.{OfRun, OfBuild, OfPlan, OfCosim, OfDesignTexts, source_in, most_in, IsTaken, IsRefusedIn, IsFaultyIn, IsReached, IsTooLong, IsDone, HasCause, Leaves, IsAnswer}
+use Rattle.tapa_drive.specs.Answer.{OfRun, OfBuild, OfPlan, OnPlanBy, OfCosim, OfReport, OfDesignTexts, IsFirst, most_in, IsTaken, IsRefusedIn, IsFaultyIn, IsReached, IsTooLong, IsDone, HasCause, Leaves, IsAnswer}
 use Rattle.tapa_drive.specs.CosimDecided.{DoneIn, StillRunning, Misgiven, Overlong, Refused, Lengthy, TellsCosimOf, TellsCosim}
 use Rattle.tapa_drive.specs.Decided.{Bytes, TooMany, IsGiven, IsRefusedWith, NothingFails}
 use Rattle.tapa_drive.specs.Designs.{HasDesign, IsRefusedText, HasBadDesignData, HasCosimmed, HasUndone}
 use Rattle.tapa_drive.proofs.Decided.{asked_of}
 
 -- a simulation that was asked for is the one that the words ask for
-asked_cosim : (words : List (List ℕ)) (name : List ℕ) (named : Option (List ℕ)) (limit : ℕ) → command_of words ≡ Some (Cosim name named limit) → (P : List ℕ → Option (List ℕ) → ℕ → Type 0) → OfCosim words P → P name named limit
-asked_cosim words name named limit asked P h =
-    let both : Some (Cosim h.0 h.1 h.2) ≡ Some (Cosim name named limit) = sym h.3 ∙ asked in
-    let one : h.0 ≡ name = cc in
-    let two : h.1 ≡ named = cc in
-    let three : h.2 ≡ limit = cc in
-    subst (λ (s : List ℕ). P s named limit) one (subst (λ (d : Option (List ℕ)). P h.0 d limit) two (subst (λ (n : ℕ). P h.0 h.1 n) three h.4))
+asked_cosim : (words : List (List ℕ)) (name : List ℕ) (named : Option (List ℕ)) (limit : ℕ) → Asks words (Cosim name named limit Report) → (P : List ℕ → Option (List ℕ) → ℕ → CosimAim → Type 0) → OfCosim words P → P name named limit Report
+asked_cosim words name named limit asked P h = asked_of words (Cosim name named limit Report) asked (OnCosim P) h
 
 module _ (files : Files) where
   -- the bytes of the data of which something holds
@@ -39,40 +37,34 @@ module _ (files : Files) where
   of_told_file : (name : List ℕ) (P : List ℕ → Type 0) → OfFile (Some files) verilog_limit name P → (length (file_bytes files name) ≤ verilog_limit) × P (file_bytes files name)
   of_told_file name P (text, is, few, h) = (subst (λ (l : List ℕ). length l ≤ verilog_limit) is few, subst P is h)
 
-module _ (words : List (List ℕ)) (files : Files) (reads : List ℕ → ℕ) (out errors : Written) (after : Outside) (name : List ℕ) (named : Option (List ℕ)) (limit : ℕ) (asked : command_of words ≡ Some (Cosim name named limit)) (still : NothingFails name named (outside (Some files) reads out errors) after) where
+module _ (words : List (List ℕ)) (files : Files) (reads : List ℕ → ℕ) (out errors : Written) (after : Outside) (name : List ℕ) (named : Option (List ℕ)) (limit : ℕ) (asked : Asks words (Cosim name named limit Report)) (still : NothingFails name named (outside (Some files) reads out errors) after) where
   abbrev before : Outside
   before = outside (Some files) reads out errors
 
-  not_asked : command_of words ≡ None → ⊥
-  not_asked h = let both : None ≡ Some (Cosim name named limit) = sym h ∙ asked in cc
+  abbrev command : Command
+  command = Cosim name named limit Report
 
-  -- no run and no plan was asked for
+  not_asked : HasCause words before after Usage → ⊥
+  not_asked (inl none) = none command asked
+  not_asked (inr h) = asked_of words command asked IsToCome h
+
+  -- no run, no plan and no circuit was asked for
   not_run : {P : List ℕ → List ℕ → Option (List ℕ) → ℕ → Type 0} → OfRun words P → ⊥
-  not_run h =
-      let both : Some (Run h.0 h.1 h.2 h.3) ≡ Some (Cosim name named limit) = sym h.4 ∙ asked in
-      let one : Run h.0 h.1 h.2 h.3 ≡ Cosim name named limit = cc in
-      cc
+  not_run {P = P} h = asked_of words command asked (OnRun P) h
 
-  not_planned : {P : List ℕ → List ℕ → List ℕ → PlanMode → PlanAim → Type 0} → OfPlan words P → ⊥
-  not_planned h =
-      let both : Some (Plan h.0 h.1 h.2 h.3 h.4) ≡ Some (Cosim name named limit) = sym h.5 ∙ asked in
-      let one : Plan h.0 h.1 h.2 h.3 h.4 ≡ Cosim name named limit = cc in
-      cc
+  not_planned : {P : List ℕ → List ℕ → List ℕ → Mode → PlanAim → Type 0} → OfPlan words P → ⊥
+  not_planned {P = P} h = asked_of words command asked (OnPlanBy P) h
 
-  -- no circuit was asked for
   not_built : {P : List ℕ → List ℕ → Type 0} → OfBuild words P → ⊥
-  not_built h =
-      let both : Some (Build h.0 h.1) ≡ Some (Cosim name named limit) = sym h.2 ∙ asked in
-      let one : Build h.0 h.1 ≡ Cosim name named limit = cc in
-      cc
+  not_built {P = P} h = asked_of words command asked (OnBuild P) h
 
   -- no read failed
   no_read : (file : List ℕ) → HasCause words before after (Read file) → ⊥
   no_read file h =
-      let c = asked_of words (Cosim name named limit) asked (λ a. IsReached (Some files) a file × Rose (reads file) (after.failed_reads file)) h in
+      let c = asked_of words command asked (λ a. IsReached (Some files) a file × Rose (reads file) (after.failed_reads file)) h in
       ⊎_elim
       (λ (e : name ≡ file). still.read (subst (λ (f : List ℕ). Rose (reads f) (after.failed_reads f)) (sym e) c.1))
-      (λ (w : (named ≡ Some file) × OfFile (Some files) verilog_limit name (IsTaken (Cosim name named limit))). still.read_data file w.0 c.1)
+      (λ (w : (named ≡ Some file) × OfFile (Some files) verilog_limit name (IsTaken command)). still.read_data file w.0 c.1)
       c.0
 
   -- a refusal of another file's name is one of the file
@@ -95,11 +87,11 @@ module _ (words : List (List ℕ)) (files : Files) (reads : List ℕ → ℕ) (o
     of_reason (Read file) h leaves told = absurd (no_read file h)
     of_reason Write h leaves told = absurd (still.writes.written h)
     of_reason (TooLong file most) h leaves told =
-        let c = asked_of words (Cosim name named limit) asked (λ a. IsTooLong (Some files) a file most) h in
+        let c = asked_of words command asked (λ a. IsTooLong (Some files) a file most) h in
         ⊎_elim {C = Meets}
         (λ (w : (name ≡ file) × (most ≡ verilog_limit) × IsLongerThan (Some files) file verilog_limit).
         inl (Lengthy, subst (λ (f : List ℕ). verilog_limit < length (file_bytes files f)) (sym w.0) w.2, refused_so (TooLong file most) (TooLong name verilog_limit) result (ap (λ n. TooLong file n) w.1 ∙ ap (λ (f : List ℕ). TooLong f verilog_limit) (sym w.0)) told leaves))
-        (λ (w : (named ≡ Some file) × (most ≡ data_limit) × IsLongerThan (Some files) file data_limit × OfFile (Some files) verilog_limit name (IsTaken (Cosim name named limit))).
+        (λ (w : (named ≡ Some file) × (most ≡ data_limit) × IsLongerThan (Some files) file data_limit × OfFile (Some files) verilog_limit name (IsTaken command)).
         let t = of_told_file files name (λ text. HasDesign text) w.3 in
         inl (
           Overlong,
@@ -108,7 +100,7 @@ module _ (words : List (List ℕ)) (files : Files) (reads : List ℕ → ℕ) (o
         ))
         c
     of_reason (Source file place code) h leaves told =
-        let c = asked_of words (Cosim name named limit) asked (λ a. (source_in a ≡ file) × OfFile (Some files) (most_in a) file (λ text. IsRefusedIn a text place code)) h in
+        let c = asked_of words command asked (λ a. IsFirst a file × OfFile (Some files) (most_in a) file (λ text. IsRefusedIn a text place code)) h in
         absurd (of_told_file files file (λ text. ⊥) c.1).1
     of_reason (Data file fault) h leaves told = absurd (not_run h)
     of_reason (Ticks most) h leaves told = absurd (not_run h)
@@ -118,15 +110,15 @@ module _ (words : List (List ℕ)) (files : Files) (reads : List ℕ → ℕ) (o
     of_reason NoPlan h leaves told = absurd (not_planned h)
     of_reason (NoRoom label) h leaves told = absurd (not_planned h)
     of_reason (Verilog file fault) h leaves told =
-        let c = asked_of words (Cosim name named limit) asked (λ a. (source_in a ≡ file) × OfFile (Some files) (most_in a) file (λ text. IsFaultyIn a text fault)) h in
+        let c = asked_of words command asked (λ a. IsFirst a file × OfFile (Some files) (most_in a) file (λ text. IsFaultyIn a text fault)) h in
         let t = of_told_file files name (λ text. IsRefusedText text fault) (subst (λ (f : List ℕ). OfFile (Some files) verilog_limit f (λ text. IsRefusedText text fault)) (sym c.0) c.1) in
         inl (Refused fault, t, refused_so (Verilog file fault) (Verilog name fault) result (ap (λ (f : List ℕ). Verilog f fault) (sym c.0)) told leaves)
     of_reason (DesignData file fault) h leaves told =
-        let c = asked_cosim words name named limit asked (λ s d n. (shown_name d ≡ file) × OfDesignTexts (Some files) s d (λ text bytes. HasBadDesignData text bytes fault)) h in
+        let c = asked_cosim words name named limit asked (λ s d n a. (shown_name d ≡ file) × OfDesignTexts (Some files) s d (λ text bytes. HasBadDesignData text bytes fault)) h in
         let t = of_texts (λ text bytes. HasBadDesignData text bytes fault) c.1 in
         inl (Misgiven fault, (t.2, (Bytes t.0, t.1, t.3)), refused_so (DesignData file fault) (DesignData (shown_name named) fault) result (ap (λ (f : List ℕ). DesignData f fault) (sym c.0)) told leaves)
     of_reason (Undone most) h leaves told =
-        let c = asked_cosim words name named limit asked (λ s d n. (most ≡ n) × OfDesignTexts (Some files) s d (λ text bytes. HasUndone text bytes n out.bytes after.out.bytes)) h in
+        let c = asked_cosim words name named limit asked (λ s d n a. OfReport a ((most ≡ n) × OfDesignTexts (Some files) s d (λ text bytes. HasUndone text bytes n out.bytes after.out.bytes))) h in
         let t = of_texts (λ text bytes. HasUndone text bytes limit out.bytes after.out.bytes) c.1 in
         inl (StillRunning t.3.report, (t.2, (Bytes t.0, t.1, t.3.simulated)), (subst (λ (n : ℕ). IsTold (Undone n) result errors after.err) c.0 told, t.3.shown))
     of_reason Memory h leaves told = inr told.0
@@ -139,11 +131,11 @@ module _ (words : List (List ℕ)) (files : Files) (reads : List ℕ → ℕ) (o
     of_ok (inr (inl p)) is same = absurd (not_planned p)
     of_ok (inr (inr (inr b))) is same = absurd (not_built b)
     of_ok (inr (inr (inl h))) is same =
-        let c = asked_cosim words name named limit asked (λ s d n. OfDesignTexts (Some files) s d (λ text bytes. HasCosimmed text bytes n out.bytes after.out.bytes)) h in
+        let c = asked_cosim words name named limit asked (λ s d n a. OfReport a (OfDesignTexts (Some files) s d (λ text bytes. HasCosimmed text bytes n out.bytes after.out.bytes))) h in
         let t = of_texts (λ text bytes. HasCosimmed text bytes limit out.bytes after.out.bytes) c in
         inl (DoneIn t.3.at t.3.report, (t.2, (Bytes t.0, t.1, t.3.simulated)), (is, t.3.shown, same))
 
-pub cosim_decided : (words : List (List ℕ)) (files : Option Files) (reads : List ℕ → ℕ) (out errors : Written) (after : Outside) (name : List ℕ) (named : Option (List ℕ)) (limit : ℕ) → command_of words ≡ Some (Cosim name named limit) → NothingFails name named (outside files reads out errors) after → (result : Status) → IsAnswer words (outside files reads out errors) after result → (result ≡ status.Ok → after.err.bytes ≡ errors.bytes) → TellsCosim name named limit result (outside files reads out errors) after ⊎ (result ≡ status.Memory)
+pub cosim_decided : (words : List (List ℕ)) (files : Option Files) (reads : List ℕ → ℕ) (out errors : Written) (after : Outside) (name : List ℕ) (named : Option (List ℕ)) (limit : ℕ) → Asks words (Cosim name named limit Report) → NothingFails name named (outside files reads out errors) after → (result : Status) → IsAnswer words (outside files reads out errors) after result → (result ≡ status.Ok → after.err.bytes ≡ errors.bytes) → TellsCosim name named limit result (outside files reads out errors) after ⊎ (result ≡ status.Memory)
 cosim_decided words None reads out errors after name named limit asked still result h same = inl tt
 cosim_decided words (Some files) reads out errors after name named limit asked still status.Ok h same =
     of_ok words files reads out errors after name named limit asked still status.Ok (h.ok refl) refl (same refl)

@@ -2,9 +2,12 @@
 use Rattle.std.proofs.Common.{◌≡◌, ◌⊎◌, ◌≤◌, ◌<◌, ℕ, List, length, Option, Some, None, refl, sym, ap, ◌∙◌, subst, inl, inr, ⊎_elim, arith}
 use Rattle.tapa_files.specs.Outside.{Files, file_bytes, Rose}
 use Rattle.tapa_files.specs.Take.{IsLongerThan}
-use Rattle.tapa_words.specs.Words.{Command, Run, Build, Plan, Cosim, command_of}
+use Rattle.tapa_words.specs.Words.{Command, Run, Asks, AskNothing}
+use Rattle.tapa_words.specs.Parts.{OfCommand, OnRun, OnBuild, OnCosim, IsToCome}
+use Rattle.tapa_words.specs.declared.command.CosimAim.{CosimAim}
 use Rattle.tapa_words.specs.declared.command.PlanAim.{PlanAim}
-use Rattle.tapa_words.specs.declared.command.PlanMode.{PlanMode}
+use Rattle.tapa_words.proofs.Asked.{asks_one}
+use Rattle.slot_plan.specs.declared.floorplan.Mode.{Mode}
 use Rattle.run_program.specs.Laws as run
 use Rattle.command_source.specs.Files.{OfFile, OfSource, OfData, source_limit, data_limit, shown_name}
 use Rattle.command_source.specs.Outside.{Outside, Written, outside}
@@ -13,26 +16,17 @@ use Rattle.command_source.specs.Source.{IsRefusedSource}
 use Rattle.command_source.specs.Told.{IsTold, IsToldAs}
 use Rattle.command_source.specs.declared.status.Status.{Status}
 use Rattle.command_source.specs.declared.status.Status.TheVariants as status
-use Rattle.tapa_drive.specs.Answer.{OfCommand, OfRun, OfBuild, OfPlan, OfTexts, OfCosim, source_in, most_in, HasProgram, IsRefusedIn, IsFaultyIn, HasBadData, HasDone, HasStopped, HasLimit, IsReached, IsTooLong, IsDone, HasCause, Leaves, IsAnswer}
+use Rattle.tapa_drive.specs.Answer.{OfRun, OfBuild, OfPlan, OnPlanBy, OfTexts, OfCosim, IsFirst, most_in, HasProgram, IsRefusedIn, IsFaultyIn, HasBadData, HasDone, HasStopped, HasLimit, IsReached, IsTooLong, IsDone, HasCause, Leaves, IsAnswer}
 use Rattle.tapa_drive.specs.Decided.{SourceMeaning, Ran, Misgiven, Overlong, Refused, Given, Bytes, TooMany, IsGiven, Means, IsRefusedWith, Tells, WritesAll, NothingFails, Expects, IsLengthy}
 use Rattle.tapa_drive.proofs.OneMeaning.{means_one}
 
 -- a command that was asked for is the one that the words ask for
-pub asked_of : (words : List (List ℕ)) (command : Command) → command_of words ≡ Some command → (P : Command → Type 0) → OfCommand words P → P command
-asked_of words command asked P h =
-    let both : Some h.0 ≡ Some command = sym h.1 ∙ asked in
-    let one : h.0 ≡ command = cc in
-    subst P one h.2
+pub asked_of : (words : List (List ℕ)) (command : Command) → Asks words command → (P : Command → Type 0) → OfCommand words P → P command
+asked_of words command asked P h = subst P (asks_one words h.0 command h.1 asked) h.2
 
 -- and so is a run
-asked_run : (words : List (List ℕ)) (source top : List ℕ) (named : Option (List ℕ)) (limit : ℕ) → command_of words ≡ Some (Run source top named limit) → (P : List ℕ → List ℕ → Option (List ℕ) → ℕ → Type 0) → OfRun words P → P source top named limit
-asked_run words source top named limit asked P h =
-    let both : Some (Run h.0 h.1 h.2 h.3) ≡ Some (Run source top named limit) = sym h.4 ∙ asked in
-    let one : h.0 ≡ source = cc in
-    let two : h.1 ≡ top = cc in
-    let three : h.2 ≡ named = cc in
-    let four : h.3 ≡ limit = cc in
-    subst (λ (s : List ℕ). P s top named limit) one (subst (λ (t : List ℕ). P h.0 t named limit) two (subst (λ (d : Option (List ℕ)). P h.0 h.1 d limit) three (subst (λ (n : ℕ). P h.0 h.1 h.2 n) four h.5)))
+asked_run : (words : List (List ℕ)) (source top : List ℕ) (named : Option (List ℕ)) (workers limit : ℕ) → Asks words (Run source top named workers limit) → (P : List ℕ → List ℕ → Option (List ℕ) → ℕ → Type 0) → OfRun words P → P source top named limit
+asked_run words source top named workers limit asked P h = asked_of words (Run source top named workers limit) asked (OnRun P) h
 
 module _ (files : Files) where
   -- what holds of the bytes of a source holds of those that are told
@@ -58,45 +52,38 @@ module _ (files : Files) where
       let few : length (file_bytes files name) ≤ data_limit = subst (λ (n : List ℕ). length (file_bytes files n) ≤ data_limit) same (subst (λ (l : List ℕ). length l ≤ data_limit) is.0 is.1) in
       absurd (omega (arith, few, long))
 
-module _ (words : List (List ℕ)) (files : Files) (reads : List ℕ → ℕ) (out errors : Written) (after : Outside) (source top : List ℕ) (named : Option (List ℕ)) (limit : ℕ) (asked : command_of words ≡ Some (Run source top named limit)) (still : NothingFails source named (outside (Some files) reads out errors) after) where
+module _ (words : List (List ℕ)) (files : Files) (reads : List ℕ → ℕ) (out errors : Written) (after : Outside) (source top : List ℕ) (named : Option (List ℕ)) (workers limit : ℕ) (asked : Asks words (Run source top named workers limit)) (still : NothingFails source named (outside (Some files) reads out errors) after) where
   abbrev before : Outside
   before = outside (Some files) reads out errors
 
-  not_asked : command_of words ≡ None → ⊥
-  not_asked h = let both : None ≡ Some (Run source top named limit) = sym h ∙ asked in cc
+  abbrev command : Command
+  command = Run source top named workers limit
 
-  -- no plan was asked for
-  not_planned : {P : List ℕ → List ℕ → List ℕ → PlanMode → PlanAim → Type 0} → OfPlan words P → ⊥
-  not_planned h =
-      let both : Some (Plan h.0 h.1 h.2 h.3 h.4) ≡ Some (Run source top named limit) = sym h.5 ∙ asked in
-      let one : Plan h.0 h.1 h.2 h.3 h.4 ≡ Run source top named limit = cc in
-      cc
+  not_asked : HasCause words before after Usage → ⊥
+  not_asked (inl none) = none command asked
+  not_asked (inr h) = asked_of words command asked IsToCome h
 
-  -- no circuit was asked for
+  -- no plan, no circuit and no simulation was asked for
+  not_planned : {P : List ℕ → List ℕ → List ℕ → Mode → PlanAim → Type 0} → OfPlan words P → ⊥
+  not_planned {P = P} h = asked_of words command asked (OnPlanBy P) h
+
   not_built : {P : List ℕ → List ℕ → Type 0} → OfBuild words P → ⊥
-  not_built h =
-      let both : Some (Build h.0 h.1) ≡ Some (Run source top named limit) = sym h.2 ∙ asked in
-      let one : Build h.0 h.1 ≡ Run source top named limit = cc in
-      cc
+  not_built {P = P} h = asked_of words command asked (OnBuild P) h
 
-  -- no simulation was asked for
-  not_cosim : {P : List ℕ → Option (List ℕ) → ℕ → Type 0} → OfCosim words P → ⊥
-  not_cosim h =
-      let both : Some (Cosim h.0 h.1 h.2) ≡ Some (Run source top named limit) = sym h.3 ∙ asked in
-      let one : Cosim h.0 h.1 h.2 ≡ Run source top named limit = cc in
-      cc
+  not_cosim : {P : List ℕ → Option (List ℕ) → ℕ → CosimAim → Type 0} → OfCosim words P → ⊥
+  not_cosim {P = P} h = asked_of words command asked (OnCosim P) h
 
   -- no Verilog text was read
   not_faulty : (file : List ℕ) (fault : VerilogFault) → HasCause words before after (Verilog file fault) → ⊥
   not_faulty file fault h =
-      let c = asked_of words (Run source top named limit) asked (λ a. (source_in a ≡ file) × OfFile (Some files) (most_in a) file (λ text. IsFaultyIn a text fault)) h in
+      let c = asked_of words command asked (λ a. IsFirst a file × OfFile (Some files) (most_in a) file (λ text. IsFaultyIn a text fault)) h in
       let w : OfSource (Some files) file (λ text. ⊥) = c.1 in
       w.3
 
   -- no read failed
   no_read : (file : List ℕ) → HasCause words before after (Read file) → ⊥
   no_read file h =
-      let c = asked_of words (Run source top named limit) asked (λ a. IsReached (Some files) a file × Rose (reads file) (after.failed_reads file)) h in
+      let c = asked_of words command asked (λ a. IsReached (Some files) a file × Rose (reads file) (after.failed_reads file)) h in
       ⊎_elim
       (λ (e : source ≡ file). still.read (subst (λ (f : List ℕ). Rose (reads f) (after.failed_reads f)) (sym e) c.1))
       (λ (w : (named ≡ Some file) × OfSource (Some files) source (λ (t : List ℕ). HasProgram t top)). still.read_data file w.0 c.1)
@@ -128,7 +115,7 @@ module _ (words : List (List ℕ)) (files : Files) (reads : List ℕ → ℕ) (o
     of_reason (Read file) h leaves told = absurd (no_read file h)
     of_reason Write h leaves told = absurd (still.writes.written h)
     of_reason (TooLong file most) h leaves told =
-        let c = asked_of words (Run source top named limit) asked (λ a. IsTooLong (Some files) a file most) h in
+        let c = asked_of words command asked (λ a. IsTooLong (Some files) a file most) h in
         ⊎_elim
         (λ (w : (source ≡ file) × (most ≡ source_limit) × IsLongerThan (Some files) file source_limit).
         let long : source_limit < length (file_bytes files source) = subst (λ (f : List ℕ). source_limit < length (file_bytes files f)) (sym w.0) w.2 in
@@ -140,19 +127,19 @@ module _ (words : List (List ℕ)) (files : Files) (reads : List ℕ → ℕ) (o
         (refused_so (TooLong file most) (TooLong (shown_name named) data_limit) result (ap (λ n. TooLong file n) w.1 ∙ ap (λ (f : List ℕ). TooLong f data_limit) (sym (ap shown_name w.0))) told leaves))
         c
     of_reason (Source file place code) h leaves told =
-        let c = asked_of words (Run source top named limit) asked (λ a. (source_in a ≡ file) × OfFile (Some files) (most_in a) file (λ text. IsRefusedIn a text place code)) h in
+        let c = asked_of words command asked (λ a. IsFirst a file × OfFile (Some files) (most_in a) file (λ text. IsRefusedIn a text place code)) h in
         told_by (Refused place code) (subst (λ (f : List ℕ). IsRefusedSource (file_bytes files f) top place code) (sym c.0) (of_source files file (λ (t : List ℕ). IsRefusedSource t top place code) c.1))
         (refused_so (Source file place code) (Source source place code) result (ap (λ (f : List ℕ). Source f place code) (sym c.0)) told leaves)
     of_reason (Data file fault) h leaves told =
-        let c = asked_run words source top named limit asked (λ s t d n. (shown_name d ≡ file) × OfTexts (Some files) s d (λ text bytes. HasBadData text t bytes fault)) h in
+        let c = asked_run words source top named workers limit asked (λ s t d n. (shown_name d ≡ file) × OfTexts (Some files) s d (λ text bytes. HasBadData text t bytes fault)) h in
         told_with (Misgiven fault) (λ t bytes. HasBadData t top bytes fault) c.1 (λ bytes b. (b.program, b.means, b.fault))
         (refused_so (Data file fault) (Data (shown_name named) fault) result (ap (λ (f : List ℕ). Data f fault) (sym c.0)) told leaves)
     of_reason (Ticks most) h leaves told =
-        let c = asked_run words source top named limit asked (λ s t d n. (most ≡ n) × OfTexts (Some files) s d (λ text bytes. HasLimit text t bytes n)) h in
+        let c = asked_run words source top named workers limit asked (λ s t d n. (most ≡ n) × OfTexts (Some files) s d (λ text bytes. HasLimit text t bytes n)) h in
         told_with (Ran run.Limit) (λ t bytes. HasLimit t top bytes limit) c.1 (λ bytes r. (r.program, r.values, r.asked, r.past))
         (refused_so (Ticks most) (Ticks limit) result (ap Ticks c.0) told leaves)
     of_reason (Stopped lines) h leaves told =
-        let c = asked_run words source top named limit asked (λ s t d n. OfTexts (Some files) s d (λ text bytes. HasStopped text t bytes n lines out.bytes after.out.bytes)) h in
+        let c = asked_run words source top named workers limit asked (λ s t d n. OfTexts (Some files) s d (λ text bytes. HasStopped text t bytes n lines out.bytes after.out.bytes)) h in
         let (bytes, same, r) = of_given files named given (λ bytes. HasStopped text top bytes limit lines out.bytes after.out.bytes) is_given (of_source files source (λ t. OfData (Some files) named (λ bytes. HasStopped t top bytes limit lines out.bytes after.out.bytes)) c) in
         told_by (Ran (run.Stopped r.report lines)) (subst (λ (g : Given). Means text top g limit (Ran (run.Stopped r.report lines))) (sym same) (r.program, r.values, r.asked, r.stopped)) (told, r.shown)
     of_reason (Device file fault) h leaves told = absurd (not_planned h)
@@ -172,7 +159,7 @@ module _ (words : List (List ℕ)) (files : Files) (reads : List ℕ → ℕ) (o
     of_ok (inr (inr (inl p))) is same = absurd (not_cosim p)
     of_ok (inr (inr (inr b))) is same = absurd (not_built b)
     of_ok (inl h) is same =
-        let c = asked_run words source top named limit asked (λ s t d n. OfTexts (Some files) s d (λ text bytes. HasDone text t bytes n out.bytes after.out.bytes)) h in
+        let c = asked_run words source top named workers limit asked (λ s t d n. OfTexts (Some files) s d (λ text bytes. HasDone text t bytes n out.bytes after.out.bytes)) h in
         let (bytes, found, r) = of_given files named given (λ bytes. HasDone text top bytes limit out.bytes after.out.bytes) is_given (of_source files source (λ t. OfData (Some files) named (λ bytes. HasDone t top bytes limit out.bytes after.out.bytes)) c) in
         told_by (Ran (run.Done r.report)) (subst (λ (g : Given). Means text top g limit (Ran (run.Done r.report))) (sym found) (r.program, r.values, r.asked, r.done)) (is, r.shown, same)
 
@@ -190,18 +177,18 @@ module _ (words : List (List ℕ)) (files : Files) (reads : List ℕ → ℕ) (o
     too_long result (Read file) h leaves told = absurd (no_read file h)
     too_long result Write h leaves told = absurd (still.writes.written h)
     too_long result (TooLong file most) h leaves told =
-        let c = asked_of words (Run source top named limit) asked (λ a. IsTooLong (Some files) a file most) h in
+        let c = asked_of words command asked (λ a. IsTooLong (Some files) a file most) h in
         ⊎_elim {C = IsLong result}
         (λ (w : (source ≡ file) × (most ≡ source_limit) × IsLongerThan (Some files) file source_limit).
         inl (refused_so (TooLong file most) (TooLong source source_limit) result (ap (λ n. TooLong file n) w.1 ∙ ap (λ (f : List ℕ). TooLong f source_limit) (sym w.0)) told leaves))
         (λ (w : (named ≡ Some file) × (most ≡ data_limit) × IsLongerThan (Some files) file data_limit × OfSource (Some files) source (λ (t : List ℕ). HasProgram t top)). absurd (not_few w.3))
         c
     too_long result (Source file place code) h leaves told =
-        let c = asked_of words (Run source top named limit) asked (λ a. (source_in a ≡ file) × OfFile (Some files) (most_in a) file (λ text. IsRefusedIn a text place code)) h in
+        let c = asked_of words command asked (λ a. IsFirst a file × OfFile (Some files) (most_in a) file (λ text. IsRefusedIn a text place code)) h in
         absurd (not_few (subst (λ (f : List ℕ). OfSource (Some files) f (λ (t : List ℕ). IsRefusedSource t top place code)) (sym c.0) c.1))
-    too_long result (Data file fault) h leaves told = absurd (not_few (asked_run words source top named limit asked (λ s t d n. (shown_name d ≡ file) × OfTexts (Some files) s d (λ text bytes. HasBadData text t bytes fault)) h).1)
-    too_long result (Ticks most) h leaves told = absurd (not_few (asked_run words source top named limit asked (λ s t d n. (most ≡ n) × OfTexts (Some files) s d (λ text bytes. HasLimit text t bytes n)) h).1)
-    too_long result (Stopped lines) h leaves told = absurd (not_few (asked_run words source top named limit asked (λ s t d n. OfTexts (Some files) s d (λ text bytes. HasStopped text t bytes n lines out.bytes after.out.bytes)) h))
+    too_long result (Data file fault) h leaves told = absurd (not_few (asked_run words source top named workers limit asked (λ s t d n. (shown_name d ≡ file) × OfTexts (Some files) s d (λ text bytes. HasBadData text t bytes fault)) h).1)
+    too_long result (Ticks most) h leaves told = absurd (not_few (asked_run words source top named workers limit asked (λ s t d n. (most ≡ n) × OfTexts (Some files) s d (λ text bytes. HasLimit text t bytes n)) h).1)
+    too_long result (Stopped lines) h leaves told = absurd (not_few (asked_run words source top named workers limit asked (λ s t d n. OfTexts (Some files) s d (λ text bytes. HasStopped text t bytes n lines out.bytes after.out.bytes)) h))
     too_long result (Device file fault) h leaves told = absurd (not_planned h)
     too_long result (TooManyPlans slots free) h leaves told = absurd (not_planned h)
     too_long result NoPlan h leaves told = absurd (not_planned h)
@@ -218,38 +205,26 @@ module _ (words : List (List ℕ)) (files : Files) (reads : List ℕ → ℕ) (o
     no_run (inr (inl p)) = not_planned p
     no_run (inr (inr (inl p))) = not_cosim p
     no_run (inr (inr (inr b))) = not_built b
-    no_run (inl h) = not_few (asked_run words source top named limit asked (λ s t d n. OfTexts (Some files) s d (λ text bytes. HasDone text t bytes n out.bytes after.out.bytes)) h)
+    no_run (inl h) = not_few (asked_run words source top named workers limit asked (λ s t d n. OfTexts (Some files) s d (λ text bytes. HasDone text t bytes n out.bytes after.out.bytes)) h)
 
-pub lengthy : (words : List (List ℕ)) (files : Option Files) (reads : List ℕ → ℕ) (out errors : Written) (after : Outside) (source top : List ℕ) (named : Option (List ℕ)) (limit : ℕ) → command_of words ≡ Some (Run source top named limit) → IsLengthy files source → NothingFails source named (outside files reads out errors) after → (result : Status) → IsAnswer words (outside files reads out errors) after result → IsRefusedWith (TooLong source source_limit) result (outside files reads out errors) after ⊎ (result ≡ status.Memory)
-lengthy words None reads out errors after source top named limit asked long still result h = absurd long
-lengthy words (Some files) reads out errors after source top named limit asked long still status.Ok h = absurd (no_run words files reads out errors after source top named limit asked still long (h.ok refl))
-lengthy words (Some files) reads out errors after source top named limit asked long still result h =
+pub lengthy : (words : List (List ℕ)) (files : Option Files) (reads : List ℕ → ℕ) (out errors : Written) (after : Outside) (source top : List ℕ) (named : Option (List ℕ)) (workers limit : ℕ) → Asks words (Run source top named workers limit) → IsLengthy files source → NothingFails source named (outside files reads out errors) after → (result : Status) → IsAnswer words (outside files reads out errors) after result → IsRefusedWith (TooLong source source_limit) result (outside files reads out errors) after ⊎ (result ≡ status.Memory)
+lengthy words None reads out errors after source top named workers limit asked long still result h = absurd long
+lengthy words (Some files) reads out errors after source top named workers limit asked long still status.Ok h = absurd (no_run words files reads out errors after source top named workers limit asked still long (h.ok refl))
+lengthy words (Some files) reads out errors after source top named workers limit asked long still result h =
     let t = h.told (λ e. cc) in
-    of_long words files reads out errors after source top named limit asked still long result t.0 t.1 t.2 t.3
+    of_long words files reads out errors after source top named workers limit asked still long result t.0 t.1 t.2 t.3
 
 -- ---- words that are no command
 
-module _ (words : List (List ℕ)) (before after : Outside) (none : command_of words ≡ None) (writes : WritesAll before after) where
-  not_run : {P : List ℕ → List ℕ → Option (List ℕ) → ℕ → Type 0} → OfRun words P → ⊥
-  not_run h = let both : None ≡ Some (Run h.0 h.1 h.2 h.3) = sym none ∙ h.4 in cc
-
-  not_plan : {P : List ℕ → List ℕ → List ℕ → PlanMode → PlanAim → Type 0} → OfPlan words P → ⊥
-  not_plan h = let both : None ≡ Some (Plan h.0 h.1 h.2 h.3 h.4) = sym none ∙ h.5 in cc
-
-  not_a_build : {P : List ℕ → List ℕ → Type 0} → OfBuild words P → ⊥
-  not_a_build h = let both : None ≡ Some (Build h.0 h.1) = sym none ∙ h.2 in cc
-
-  not_simulated : {P : List ℕ → Option (List ℕ) → ℕ → Type 0} → OfCosim words P → ⊥
-  not_simulated h = let both : None ≡ Some (Cosim h.0 h.1 h.2) = sym none ∙ h.3 in cc
-
+module _ (words : List (List ℕ)) (before after : Outside) (none : AskNothing words) (writes : WritesAll before after) where
   not_command : {P : Command → Type 0} → OfCommand words P → ⊥
-  not_command h = let both : None ≡ Some h.0 = sym none ∙ h.1 in cc
+  not_command h = none h.0 h.1
 
   not_done : IsDone words before after → ⊥
-  not_done (inl h) = not_run h
-  not_done (inr (inl h)) = not_plan h
-  not_done (inr (inr (inl h))) = not_simulated h
-  not_done (inr (inr (inr h))) = not_a_build h
+  not_done (inl h) = not_command h
+  not_done (inr (inl h)) = not_command h
+  not_done (inr (inr (inl h))) = not_command h
+  not_done (inr (inr (inr h))) = not_command h
 
   abbrev IsUsage : Status → Type 0
   IsUsage result = IsRefusedWith Usage result before after ⊎ (result ≡ status.Memory)
@@ -260,16 +235,16 @@ module _ (words : List (List ℕ)) (before after : Outside) (none : command_of w
   bad_words result Write h leaves told = absurd (writes.written h)
   bad_words result (TooLong file most) h leaves told = absurd (not_command h)
   bad_words result (Source file place code) h leaves told = absurd (not_command h)
-  bad_words result (Data file fault) h leaves told = absurd (not_run h)
-  bad_words result (Ticks most) h leaves told = absurd (not_run h)
-  bad_words result (Stopped lines) h leaves told = absurd (not_run h)
-  bad_words result (Device file fault) h leaves told = absurd (not_plan h)
-  bad_words result (TooManyPlans slots free) h leaves told = absurd (not_plan h)
-  bad_words result NoPlan h leaves told = absurd (not_plan h)
-  bad_words result (NoRoom label) h leaves told = absurd (not_plan h)
+  bad_words result (Data file fault) h leaves told = absurd (not_command h)
+  bad_words result (Ticks most) h leaves told = absurd (not_command h)
+  bad_words result (Stopped lines) h leaves told = absurd (not_command h)
+  bad_words result (Device file fault) h leaves told = absurd (not_command h)
+  bad_words result (TooManyPlans slots free) h leaves told = absurd (not_command h)
+  bad_words result NoPlan h leaves told = absurd (not_command h)
+  bad_words result (NoRoom label) h leaves told = absurd (not_command h)
   bad_words result (Verilog file fault) h leaves told = absurd (not_command h)
-  bad_words result (DesignData file fault) h leaves told = absurd (not_simulated h)
-  bad_words result (Undone most) h leaves told = absurd (not_simulated h)
+  bad_words result (DesignData file fault) h leaves told = absurd (not_command h)
+  bad_words result (Undone most) h leaves told = absurd (not_command h)
   bad_words result Memory h leaves told = inr told.0
 
   pub usage : (result : Status) → IsAnswer words before after result → IsUsage result
@@ -279,10 +254,10 @@ module _ (words : List (List ℕ)) (before after : Outside) (none : command_of w
       elim t.1 [ inl a ↦ bad_words result t.0 t.2 t.3 a | inr w ↦ absurd (writes.told w.1) ]
 
 -- the answer of a call that keeps what it promises
-pub decided : (words : List (List ℕ)) (files : Option Files) (reads : List ℕ → ℕ) (out errors : Written) (after : Outside) (source top : List ℕ) (named : Option (List ℕ)) (limit : ℕ) → command_of words ≡ Some (Run source top named limit) → (expected : SourceMeaning) → Expects files source top named limit expected → NothingFails source named (outside files reads out errors) after → (result : Status) → IsAnswer words (outside files reads out errors) after result → (result ≡ status.Ok → after.err.bytes ≡ errors.bytes) → Tells source named limit expected result (outside files reads out errors) after ⊎ (result ≡ status.Memory)
-decided words None reads out errors after source top named limit asked expected expects still result h same = absurd expects
-decided words (Some files) reads out errors after source top named limit asked expected expects still status.Ok h same =
-    of_ok words files reads out errors after source top named limit asked still expects.within expects.given expects.is_given expected expects.means status.Ok (h.ok refl) refl (same refl)
-decided words (Some files) reads out errors after source top named limit asked expected expects still result h same =
+pub decided : (words : List (List ℕ)) (files : Option Files) (reads : List ℕ → ℕ) (out errors : Written) (after : Outside) (source top : List ℕ) (named : Option (List ℕ)) (workers limit : ℕ) → Asks words (Run source top named workers limit) → (expected : SourceMeaning) → Expects files source top named limit expected → NothingFails source named (outside files reads out errors) after → (result : Status) → IsAnswer words (outside files reads out errors) after result → (result ≡ status.Ok → after.err.bytes ≡ errors.bytes) → Tells source named limit expected result (outside files reads out errors) after ⊎ (result ≡ status.Memory)
+decided words None reads out errors after source top named workers limit asked expected expects still result h same = absurd expects
+decided words (Some files) reads out errors after source top named workers limit asked expected expects still status.Ok h same =
+    of_ok words files reads out errors after source top named workers limit asked still expects.within expects.given expects.is_given expected expects.means status.Ok (h.ok refl) refl (same refl)
+decided words (Some files) reads out errors after source top named workers limit asked expected expects still result h same =
     let t = h.told (λ e. cc) in
-    of_told words files reads out errors after source top named limit asked still expects.within expects.given expects.is_given expected expects.means result t.0 t.1 t.2 t.3
+    of_told words files reads out errors after source top named workers limit asked still expects.within expects.given expects.is_given expected expects.means result t.0 t.1 t.2 t.3

@@ -3,9 +3,10 @@ use Rattle.std.proofs.Common.{◌≡◌, ◌≢◌, ◌≤◌, ℕ, List, Option
 use Rattle.std.specs.Io.KnownBytes.{Appends}
 use Rattle.tapa_files.specs.Outside.{Files, AppendsPart}
 use Rattle.tapa_syntax.specs.declared.program.Program.{Program}
-use Rattle.tapa_words.specs.Words.{Command, Plan, command_of}
+use Rattle.tapa_words.specs.Words.{Command, Plan, Asks}
 use Rattle.tapa_words.specs.declared.command.PlanAim.{PlanAim}
 use Rattle.tapa_words.specs.declared.command.PlanMode.{PlanMode}
+use Rattle.slot_plan.specs.declared.floorplan.Mode.{Mode}
 use Rattle.task_graph.specs.declared.Graph.{Graph}
 use Rattle.task_graph.specs.Programs.{IsGraphOf}
 use Rattle.plan_device.specs.declared.device.Device.{Device as DeviceOf}
@@ -28,9 +29,9 @@ use Rattle.tapa_drive.proofs.Counts.{rose_since, later_all}
 use Rattle.tapa_drive.proofs.Put.{carried_out}
 use Rattle.tapa_drive.proofs.OfFiles.{of_both}
 
-module _ (words : List (List ℕ)) (files : Option Files) (source top name : List ℕ) (mode : PlanMode) (aim : PlanAim) (asked : command_of words ≡ Some (Plan source top name mode aim)) (reads_old : List ℕ → ℕ) (old errors told : Written) (files_mid : Option Files) (reads_mid : List ℕ → ℕ) (same_mid : files_mid ≡ files) (later_mid : reads_old source ≤ reads_mid source) (others_mid : (other : List ℕ) → other ≢ source → reads_mid other ≡ reads_old other) (program : Program) (means : OfSource files source (λ text. IsProgramOf text top program)) (graph : Graph) (is_graph : IsGraphOf program graph) (files_new : Option Files) (reads_new : List ℕ → ℕ) (same_new : files_new ≡ files_mid) (others_new : (other : List ℕ) → Some name ≢ Some other → reads_new other ≡ reads_mid other) where
+module _ (words : List (List ℕ)) (files : Option Files) (source top name : List ℕ) (word : PlanMode) (mode : Mode) (aim : PlanAim) (names : mode_of word ≡ Some mode) (asked : Asks words (Plan source top name word aim)) (reads_old : List ℕ → ℕ) (old errors told : Written) (files_mid : Option Files) (reads_mid : List ℕ → ℕ) (same_mid : files_mid ≡ files) (later_mid : reads_old source ≤ reads_mid source) (others_mid : (other : List ℕ) → other ≢ source → reads_mid other ≡ reads_old other) (program : Program) (means : OfSource files source (λ text. IsProgramOf text top program)) (graph : Graph) (is_graph : IsGraphOf program graph) (files_new : Option Files) (reads_new : List ℕ → ℕ) (same_new : files_new ≡ files_mid) (others_new : (other : List ℕ) → Some name ≢ Some other → reads_new other ≡ reads_mid other) where
   abbrev command : Command
-  command = Plan source top name mode aim
+  command = Plan source top name word aim
 
   abbrev before : Outside
   before = outside files reads_old old errors
@@ -39,7 +40,7 @@ module _ (words : List (List ℕ)) (files : Option Files) (source top name : Lis
   has_program = carried.has_program files source top program means
 
   reads_both : (new : Written) → ReadsAsked words before (outside files_new reads_new new told)
-  reads_both new = carried.reads_both words files command asked reads_old old errors told files_mid reads_mid same_mid later_mid others_mid has_program files_new reads_new same_new others_new new
+  reads_both new = carried.reads_both words files command asked source (λ file e. e) reads_old old errors told files_mid reads_mid same_mid later_mid others_mid has_program files_new reads_new same_new others_new new
 
   bad_device : (fault : DeviceFault) → OfData files (Some name) (λ bytes. HasDeviceFault program graph bytes fault) → OfTexts files source (Some name) (λ text bytes. HasBadDevice text top bytes fault)
   bad_device fault h =
@@ -54,7 +55,7 @@ module _ (words : List (List ℕ)) (files : Option Files) (source top name : Lis
   no_device_cause (Data file fault) h = absurd h
   no_device_cause (Ticks most) h = absurd h
   no_device_cause (Stopped lines) h = absurd h
-  no_device_cause (Device file fault) h = (source, top, name, mode, aim, asked, (h.0, bad_device fault h.1))
+  no_device_cause (Device file fault) h = (command, asked, (mode, names, (h.0, bad_device fault h.1)))
   no_device_cause (TooManyPlans slots free) h = absurd h
   no_device_cause NoPlan h = absurd h
   no_device_cause (NoRoom label) h = absurd h
@@ -100,10 +101,10 @@ module _ (words : List (List ℕ)) (files : Option Files) (source top name : Lis
     of_asked R f =
         of_both files source (Some name) (λ text. IsProgramOf text top program) (λ bytes. IsDeviceOf bytes program graph device) R (λ text bytes p g. f text bytes (record { means = p; is_graph = is_graph; is_device = g })) means gives
 
-    no_plan : (why : Refusal) → IsUnplanned graph device (mode_of mode) why → OfTexts files source (Some name) (λ text bytes. HasNoPlan text top bytes (mode_of mode) why)
-    no_plan why h = of_asked (λ text bytes. HasNoPlan text top bytes (mode_of mode) why) (λ text bytes a. record { program = program; graph = graph; device = device; asked = a; is = h })
+    no_plan : (why : Refusal) → IsUnplanned graph device mode why → OfTexts files source (Some name) (λ text bytes. HasNoPlan text top bytes mode why)
+    no_plan why h = of_asked (λ text bytes. HasNoPlan text top bytes mode why) (λ text bytes a. record { program = program; graph = graph; device = device; asked = a; is = h })
 
-    unplanned_cause : (r : Refusal) → IsUnplanned graph device (mode_of mode) r → HasCause words before (outside files_new reads_new old told) r
+    unplanned_cause : (r : Refusal) → IsUnplanned graph device mode r → HasCause words before (outside files_new reads_new old told) r
     unplanned_cause Usage h = absurd h
     unplanned_cause (Read file) h = absurd h
     unplanned_cause Write h = absurd h
@@ -113,15 +114,15 @@ module _ (words : List (List ℕ)) (files : Option Files) (source top name : Lis
     unplanned_cause (Ticks most) h = absurd h
     unplanned_cause (Stopped lines) h = absurd h
     unplanned_cause (Device file fault) h = absurd h
-    unplanned_cause (TooManyPlans slots free) h = (source, top, name, mode, aim, asked, no_plan (TooManyPlans slots free) h)
-    unplanned_cause NoPlan h = (source, top, name, mode, aim, asked, no_plan NoPlan h)
-    unplanned_cause (NoRoom label) h = (source, top, name, mode, aim, asked, no_plan (NoRoom label) h)
+    unplanned_cause (TooManyPlans slots free) h = (command, asked, (mode, names, no_plan (TooManyPlans slots free) h))
+    unplanned_cause NoPlan h = (command, asked, (mode, names, no_plan NoPlan h))
+    unplanned_cause (NoRoom label) h = (command, asked, (mode, names, no_plan (NoRoom label) h))
     unplanned_cause (Verilog file fault) h = absurd h
     unplanned_cause (DesignData file fault) h = absurd h
     unplanned_cause (Undone most) h = absurd h
     unplanned_cause Memory h = tt
 
-    unplanned_leaves : (r : Refusal) → IsUnplanned graph device (mode_of mode) r → Leaves words before (outside files_new reads_new old told) r
+    unplanned_leaves : (r : Refusal) → IsUnplanned graph device mode r → Leaves words before (outside files_new reads_new old told) r
     unplanned_leaves Usage h = absurd h
     unplanned_leaves (Read file) h = absurd h
     unplanned_leaves Write h = absurd h
@@ -139,7 +140,7 @@ module _ (words : List (List ℕ)) (files : Option Files) (source top name : Lis
     unplanned_leaves (Undone most) h = absurd h
     unplanned_leaves Memory h = inl refl
 
-    pub unplanned : {A : Type 0} (r : CodeRefusal) → IsUnplanned graph device (mode_of mode) (refusal_of r) → IsCarriedOut {A = A} words before (outside files_new reads_new old told) (Err r)
+    pub unplanned : {A : Type 0} (r : CodeRefusal) → IsUnplanned graph device mode (refusal_of r) → IsCarriedOut {A = A} words before (outside files_new reads_new old told) (Err r)
     unplanned r h = record {
       done = tt;
       cause = unplanned_cause (refusal_of r) h;
@@ -147,7 +148,7 @@ module _ (words : List (List ℕ)) (files : Option Files) (source top name : Lis
       reads = reads_both old;
     }
 
-    module _ (plan : FloorPlan) (found : IsFound graph device (mode_of mode) plan) (new : Written) where
+    module _ (plan : FloorPlan) (found : IsFound graph device mode plan) (new : Written) where
       abbrev after : Outside
       after = outside files_new reads_new new told
 
@@ -155,16 +156,16 @@ module _ (words : List (List ℕ)) (files : Option Files) (source top name : Lis
       IsText l = IsToldBy aim program graph device plan l
 
       -- what holds of the text that was written holds of one for the source and the device
-      of_text : (R : List ℕ → Type 0) (l : List ℕ) → IsText l → R l → OfTexts files source (Some name) (λ text bytes. (by_plan : List ℕ) × HasPlan text top bytes (mode_of mode) aim by_plan × R by_plan)
+      of_text : (R : List ℕ → Type 0) (l : List ℕ) → IsText l → R l → OfTexts files source (Some name) (λ text bytes. (by_plan : List ℕ) × HasPlan text top bytes mode aim by_plan × R by_plan)
       of_text R l is r =
-          of_asked (λ text bytes. (by_plan : List ℕ) × HasPlan text top bytes (mode_of mode) aim by_plan × R by_plan)
+          of_asked (λ text bytes. (by_plan : List ℕ) × HasPlan text top bytes mode aim by_plan × R by_plan)
           (λ text bytes a. (l, record { program = program; graph = graph; device = device; asked = a; plan = plan; found = found; is = is }, r))
 
       planned : (l : List ℕ) → IsText l → Appends old.bytes new.bytes l → IsDone words before after
-      planned l is shown = inr (inl (source, top, name, mode, aim, asked, of_text (λ l. Appends old.bytes new.bytes l) l is shown))
+      planned l is shown = inr (inl (command, asked, (mode, names, of_text (λ l. Appends old.bytes new.bytes l) l is shown)))
 
       has_front : (l : List ℕ) → IsText l → AppendsPart old.bytes new.bytes l → HasFrontOf words before after
-      has_front l is part = inr (inl (source, top, name, mode, aim, asked, of_text (λ l. AppendsPart old.bytes new.bytes l) l is part))
+      has_front l is part = inr (inl (command, asked, (mode, names, of_text (λ l. AppendsPart old.bytes new.bytes l) l is part)))
 
       pub put : {A : Type 0} (result : Result A CodeRefusal) → IfOk result (λ x. WritesWhole old new IsText) → IfErr result (λ r. IsUnwritten old new IsText (refusal_of r)) → IsCarriedOut words before after result
       put result whole refused = carried_out words before after IsText planned has_front (reads_both new) result whole refused

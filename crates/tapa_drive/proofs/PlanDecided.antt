@@ -3,9 +3,13 @@ use Rattle.std.proofs.Common.{◌≡◌, ◌≢◌, ◌⊎◌, ◌<◌, ◌≤�
 use Rattle.std.specs.Io.KnownBytes.{Appends}
 use Rattle.tapa_files.specs.Outside.{Files, file_bytes, Rose}
 use Rattle.tapa_files.specs.Take.{IsLongerThan}
-use Rattle.tapa_words.specs.Words.{Run, Build, Plan, Cosim, command_of}
+use Rattle.tapa_words.specs.Words.{Command, Plan, Asks}
+use Rattle.tapa_words.specs.Parts.{OnRun, OnBuild, OnCosim, IsToCome}
+use Rattle.tapa_words.specs.declared.command.CosimAim.{CosimAim}
 use Rattle.tapa_words.specs.declared.command.PlanAim.{PlanAim}
 use Rattle.tapa_words.specs.declared.command.PlanMode.{PlanMode}
+use Rattle.tapa_words.specs.declared.command.PlanMode.TheVariants as words_mode
+use Rattle.slot_plan.specs.declared.floorplan.Mode.{Mode}
 use Rattle.command_source.specs.Files.{OfFile, OfSource, source_limit, data_limit}
 use Rattle.command_source.specs.Outside.{Outside, Written, outside}
 use Rattle.command_source.specs.Refusal.{Refusal, Usage, Read, Write, TooLong, Source, Data, Ticks, Stopped, Device, TooManyPlans, NoPlan, NoRoom, Verilog, DesignData, Undone, Memory, VerilogFault}
@@ -14,7 +18,7 @@ use Rattle.command_source.specs.Told.{IsTold, IsToldAs}
 use Rattle.command_source.specs.declared.status.Status.{Status}
 use Rattle.command_source.specs.declared.status.Status.TheVariants as status
 use Rattle.command_plans.specs.Planned.{mode_of, HasBadDevice, HasNoPlan, HasPlan}
-use Rattle.tapa_drive.specs.Answer.{OfRun, OfBuild, OfPlan, OfTexts, OfCosim, source_in, most_in, HasProgram, IsRefusedIn, IsFaultyIn, IsReached, IsTooLong, IsDone, HasCause, Leaves, IsAnswer}
+use Rattle.tapa_drive.specs.Answer.{OfRun, OfBuild, OfPlan, OnPlanBy, OfTexts, OfCosim, IsFirst, most_in, HasProgram, IsRefusedIn, IsFaultyIn, IsReached, IsTooLong, IsDone, HasCause, Leaves, IsAnswer}
 use Rattle.tapa_drive.specs.Decided.{Bytes, TooMany, IsGiven, IsRefusedWith, NothingFails}
 use Rattle.tapa_drive.specs.PlanDecided.{TellsPlanOf, TellsPlan}
 use Rattle.tapa_drive.specs.PlanDecided as meaning
@@ -22,54 +26,51 @@ use Rattle.tapa_drive.proofs.BuildDecided.{of_told_source}
 use Rattle.tapa_drive.proofs.Decided.{asked_of}
 
 -- a plan that was asked for is the one that the words ask for
-asked_plan : (words : List (List ℕ)) (source top name : List ℕ) (mode : PlanMode) (aim : PlanAim) → command_of words ≡ Some (Plan source top name mode aim) → (P : List ℕ → List ℕ → List ℕ → PlanMode → PlanAim → Type 0) → OfPlan words P → P source top name mode aim
-asked_plan words source top name mode aim asked P h =
-    let both : Some (Plan h.0 h.1 h.2 h.3 h.4) ≡ Some (Plan source top name mode aim) = sym h.5 ∙ asked in
-    let one : h.0 ≡ source = cc in
-    let two : h.1 ≡ top = cc in
-    let three : h.2 ≡ name = cc in
-    let four : h.3 ≡ mode = cc in
-    let five : h.4 ≡ aim = cc in
-    subst (λ (s : List ℕ). P s top name mode aim) one (subst (λ (t : List ℕ). P h.0 t name mode aim) two (subst (λ (d : List ℕ). P h.0 h.1 d mode aim) three (subst (λ (m : PlanMode). P h.0 h.1 h.2 m aim) four (subst (λ (a : PlanAim). P h.0 h.1 h.2 h.3 a) five h.6))))
+asked_plan : (words : List (List ℕ)) (source top name : List ℕ) (word : PlanMode) (mode : Mode) (aim : PlanAim) → mode_of word ≡ Some mode → Asks words (Plan source top name word aim) → (P : List ℕ → List ℕ → List ℕ → Mode → PlanAim → Type 0) → OfPlan words P → P source top name mode aim
+asked_plan words source top name word mode aim names asked P h =
+    let t = asked_of words (Plan source top name word aim) asked (OnPlanBy P) h in
+    let both : Some t.0 ≡ Some mode = sym t.1 ∙ names in
+    let one : t.0 ≡ mode = cc in
+    subst (λ (m : Mode). P source top name m aim) one t.2
 
-module _ (words : List (List ℕ)) (files : Files) (reads : List ℕ → ℕ) (out errors : Written) (after : Outside) (source top name : List ℕ) (mode : PlanMode) (aim : PlanAim) (asked : command_of words ≡ Some (Plan source top name mode aim)) (still : NothingFails source (Some name) (outside (Some files) reads out errors) after) where
+-- a plan by one of these modes is not to come
+is_there : (source top name : List ℕ) (word : PlanMode) (mode : Mode) (aim : PlanAim) → mode_of word ≡ Some mode → IsToCome (Plan source top name word aim) → ⊥
+is_there source top name words_mode.Exact mode aim names h = h
+is_there source top name words_mode.Fit mode aim names h = h
+is_there source top name words_mode.Split mode aim names h = let none : None ≡ Some mode = names in cc
+
+module _ (words : List (List ℕ)) (files : Files) (reads : List ℕ → ℕ) (out errors : Written) (after : Outside) (source top name : List ℕ) (word : PlanMode) (mode : Mode) (aim : PlanAim) (names : mode_of word ≡ Some mode) (asked : Asks words (Plan source top name word aim)) (still : NothingFails source (Some name) (outside (Some files) reads out errors) after) where
   abbrev before : Outside
   before = outside (Some files) reads out errors
 
-  not_asked : command_of words ≡ None → ⊥
-  not_asked h = let both : None ≡ Some (Plan source top name mode aim) = sym h ∙ asked in cc
+  abbrev command : Command
+  command = Plan source top name word aim
 
-  -- no run was asked for
+  not_asked : HasCause words before after Usage → ⊥
+  not_asked (inl none) = none command asked
+  not_asked (inr h) = is_there source top name word mode aim names (asked_of words command asked IsToCome h)
+
+  -- no run, no circuit and no simulation was asked for
   not_run : {P : List ℕ → List ℕ → Option (List ℕ) → ℕ → Type 0} → OfRun words P → ⊥
-  not_run h =
-      let both : Some (Run h.0 h.1 h.2 h.3) ≡ Some (Plan source top name mode aim) = sym h.4 ∙ asked in
-      let one : Run h.0 h.1 h.2 h.3 ≡ Plan source top name mode aim = cc in
-      cc
+  not_run {P = P} h = asked_of words command asked (OnRun P) h
 
-  -- no simulation was asked for
   not_built : {P : List ℕ → List ℕ → Type 0} → OfBuild words P → ⊥
-  not_built h =
-      let both : Some (Build h.0 h.1) ≡ Some (Plan source top name mode aim) = sym h.2 ∙ asked in
-      let one : Build h.0 h.1 ≡ Plan source top name mode aim = cc in
-      cc
+  not_built {P = P} h = asked_of words command asked (OnBuild P) h
 
-  not_cosim : {P : List ℕ → Option (List ℕ) → ℕ → Type 0} → OfCosim words P → ⊥
-  not_cosim h =
-      let both : Some (Cosim h.0 h.1 h.2) ≡ Some (Plan source top name mode aim) = sym h.3 ∙ asked in
-      let one : Cosim h.0 h.1 h.2 ≡ Plan source top name mode aim = cc in
-      cc
+  not_cosim : {P : List ℕ → Option (List ℕ) → ℕ → CosimAim → Type 0} → OfCosim words P → ⊥
+  not_cosim {P = P} h = asked_of words command asked (OnCosim P) h
 
   -- no Verilog text was read
   not_faulty : (file : List ℕ) (fault : VerilogFault) → HasCause words before after (Verilog file fault) → ⊥
   not_faulty file fault h =
-      let c = asked_of words (Plan source top name mode aim) asked (λ a. (source_in a ≡ file) × OfFile (Some files) (most_in a) file (λ text. IsFaultyIn a text fault)) h in
+      let c = asked_of words command asked (λ a. IsFirst a file × OfFile (Some files) (most_in a) file (λ text. IsFaultyIn a text fault)) h in
       let w : OfSource (Some files) file (λ text. ⊥) = c.1 in
       w.3
 
   -- no read failed
   no_read : (file : List ℕ) → HasCause words before after (Read file) → ⊥
   no_read file h =
-      let c = asked_of words (Plan source top name mode aim) asked (λ a. IsReached (Some files) a file × Rose (reads file) (after.failed_reads file)) h in
+      let c = asked_of words command asked (λ a. IsReached (Some files) a file × Rose (reads file) (after.failed_reads file)) h in
       ⊎_elim
       (λ (e : source ≡ file). still.read (subst (λ (f : List ℕ). Rose (reads f) (after.failed_reads f)) (sym e) c.1))
       (λ (w : (Some name ≡ Some file) × OfSource (Some files) source (λ (t : List ℕ). HasProgram t top)). still.read_data file w.0 c.1)
@@ -89,12 +90,12 @@ module _ (words : List (List ℕ)) (files : Files) (reads : List ℕ → ℕ) (o
 
   module _ (result : Status) where
     abbrev Meets : Type 0
-    Meets = TellsPlanOf (Some files) source top name (mode_of mode) aim result before after ⊎ (result ≡ status.Memory)
+    Meets = TellsPlanOf (Some files) source top name mode aim result before after ⊎ (result ≡ status.Memory)
 
-    no_plan : (why : Refusal) → why ≢ Memory → OfPlan words (λ s t d m a. OfTexts (Some files) s (Some d) (λ text bytes. HasNoPlan text t bytes (mode_of m) why)) → after.out.bytes ≡ out.bytes → IsTold why result errors after.err → Meets
+    no_plan : (why : Refusal) → why ≢ Memory → OfPlan words (λ s t d m a. OfTexts (Some files) s (Some d) (λ text bytes. HasNoPlan text t bytes m why)) → after.out.bytes ≡ out.bytes → IsTold why result errors after.err → Meets
     no_plan why other h quiet told =
-        let c = asked_plan words source top name mode aim asked (λ s t d m a. OfTexts (Some files) s (Some d) (λ text bytes. HasNoPlan text t bytes (mode_of m) why)) h in
-        let t = of_texts (λ text bytes. HasNoPlan text top bytes (mode_of mode) why) c in
+        let c = asked_plan words source top name word mode aim names asked (λ s t d m a. OfTexts (Some files) s (Some d) (λ text bytes. HasNoPlan text t bytes m why)) h in
+        let t = of_texts (λ text bytes. HasNoPlan text top bytes mode why) c in
         inl (meaning.NoPlan why, (t.0, (Bytes (file_bytes files name), t.1, (t.2, other))), record { told = told; quiet = quiet })
 
     of_reason : (why : Refusal) → HasCause words before after why → Leaves words before after why → IsTold why result errors after.err → Meets
@@ -102,7 +103,7 @@ module _ (words : List (List ℕ)) (files : Files) (reads : List ℕ → ℕ) (o
     of_reason (Read file) h leaves told = absurd (no_read file h)
     of_reason Write h leaves told = absurd (still.writes.written h)
     of_reason (TooLong file most) h leaves told =
-        let c = asked_of words (Plan source top name mode aim) asked (λ a. IsTooLong (Some files) a file most) h in
+        let c = asked_of words command asked (λ a. IsTooLong (Some files) a file most) h in
         ⊎_elim {C = Meets}
         (λ (w : (source ≡ file) × (most ≡ source_limit) × IsLongerThan (Some files) file source_limit).
         inl (
@@ -121,14 +122,14 @@ module _ (words : List (List ℕ)) (files : Files) (reads : List ℕ → ℕ) (o
         ))
         c
     of_reason (Source file place code) h leaves told =
-        let c = asked_of words (Plan source top name mode aim) asked (λ a. (source_in a ≡ file) × OfFile (Some files) (most_in a) file (λ text. IsRefusedIn a text place code)) h in
+        let c = asked_of words command asked (λ a. IsFirst a file × OfFile (Some files) (most_in a) file (λ text. IsRefusedIn a text place code)) h in
         let t = of_told_source files source (λ (t : List ℕ). IsRefusedSource t top place code) (subst (λ (f : List ℕ). OfSource (Some files) f (λ t. IsRefusedSource t top place code)) (sym c.0) c.1) in
         inl (meaning.Refused place code, t, refused_so (Source file place code) (Source source place code) result (ap (λ (f : List ℕ). Source f place code) (sym c.0)) told leaves)
     of_reason (Data file fault) h leaves told = absurd (not_run h)
     of_reason (Ticks most) h leaves told = absurd (not_run h)
     of_reason (Stopped lines) h leaves told = absurd (not_run h)
     of_reason (Device file fault) h leaves told =
-        let c = asked_plan words source top name mode aim asked (λ s t d m a. (d ≡ file) × OfTexts (Some files) s (Some d) (λ text bytes. HasBadDevice text t bytes fault)) h in
+        let c = asked_plan words source top name word mode aim names asked (λ s t d m a. (d ≡ file) × OfTexts (Some files) s (Some d) (λ text bytes. HasBadDevice text t bytes fault)) h in
         let t = of_texts (λ text bytes. HasBadDevice text top bytes fault) c.1 in
         inl (
           meaning.Misgiven fault,
@@ -151,14 +152,14 @@ module _ (words : List (List ℕ)) (files : Files) (reads : List ℕ → ℕ) (o
     of_ok (inr (inr (inl p))) is same = absurd (not_cosim p)
     of_ok (inr (inr (inr b))) is same = absurd (not_built b)
     of_ok (inr (inl h)) is same =
-        let c = asked_plan words source top name mode aim asked (λ s t d m a. OfTexts (Some files) s (Some d) (λ text bytes. (told : List ℕ) × HasPlan text t bytes (mode_of m) a told × Appends out.bytes after.out.bytes told)) h in
-        let t = of_texts (λ text bytes. (told : List ℕ) × HasPlan text top bytes (mode_of mode) aim told × Appends out.bytes after.out.bytes told) c in
+        let c = asked_plan words source top name word mode aim names asked (λ s t d m a. OfTexts (Some files) s (Some d) (λ text bytes. (told : List ℕ) × HasPlan text t bytes m a told × Appends out.bytes after.out.bytes told)) h in
+        let t = of_texts (λ text bytes. (told : List ℕ) × HasPlan text top bytes mode aim told × Appends out.bytes after.out.bytes told) c in
         inl (meaning.Planned t.2.0, (t.0, (Bytes (file_bytes files name), t.1, t.2.1)), (is, t.2.2, same))
 
-pub plan_decided : (words : List (List ℕ)) (files : Option Files) (reads : List ℕ → ℕ) (out errors : Written) (after : Outside) (source top name : List ℕ) (mode : PlanMode) (aim : PlanAim) → command_of words ≡ Some (Plan source top name mode aim) → NothingFails source (Some name) (outside files reads out errors) after → (result : Status) → IsAnswer words (outside files reads out errors) after result → (result ≡ status.Ok → after.err.bytes ≡ errors.bytes) → TellsPlan source top name (mode_of mode) aim result (outside files reads out errors) after ⊎ (result ≡ status.Memory)
-plan_decided words None reads out errors after source top name mode aim asked still result h same = inl tt
-plan_decided words (Some files) reads out errors after source top name mode aim asked still status.Ok h same =
-    of_ok words files reads out errors after source top name mode aim asked still status.Ok (h.ok refl) refl (same refl)
-plan_decided words (Some files) reads out errors after source top name mode aim asked still result h same =
+pub plan_decided : (words : List (List ℕ)) (files : Option Files) (reads : List ℕ → ℕ) (out errors : Written) (after : Outside) (source top name : List ℕ) (word : PlanMode) (mode : Mode) (aim : PlanAim) → mode_of word ≡ Some mode → Asks words (Plan source top name word aim) → NothingFails source (Some name) (outside files reads out errors) after → (result : Status) → IsAnswer words (outside files reads out errors) after result → (result ≡ status.Ok → after.err.bytes ≡ errors.bytes) → TellsPlan source top name mode aim result (outside files reads out errors) after ⊎ (result ≡ status.Memory)
+plan_decided words None reads out errors after source top name word mode aim names asked still result h same = inl tt
+plan_decided words (Some files) reads out errors after source top name word mode aim names asked still status.Ok h same =
+    of_ok words files reads out errors after source top name word mode aim names asked still status.Ok (h.ok refl) refl (same refl)
+plan_decided words (Some files) reads out errors after source top name word mode aim names asked still result h same =
     let t = h.told (λ e. cc) in
-    of_told words files reads out errors after source top name mode aim asked still result t.0 t.1 t.2 t.3
+    of_told words files reads out errors after source top name word mode aim names asked still result t.0 t.1 t.2 t.3

@@ -4,7 +4,7 @@ use Rattle.std.specs.Prelude.{Vec}
 use Rattle.std.specs.declared.alloc.Global.{Global}
 use Rattle.tapa_files.specs.Outside.{Files, Rose, AppendsPart}
 use Rattle.tapa_syntax.specs.declared.program.Program.{Program}
-use Rattle.tapa_words.specs.Words.{Command, Run, command_of}
+use Rattle.tapa_words.specs.Words.{Command, Run, Asks}
 use Rattle.run_program.specs.Ending.{EndsSo, HasFront, HasPart}
 use Rattle.run_program.specs.Run.{Values}
 use Rattle.run_program.specs.declared.run.RunEnd.TheVariants as run_end
@@ -23,9 +23,9 @@ use Rattle.tapa_drive.proofs.Carried as carried
 use Rattle.tapa_drive.proofs.Counts.{rose_since, later_all}
 use Rattle.tapa_drive.proofs.OfFiles.{of_both}
 
-module _ (words : List (List ℕ)) (files : Option Files) (source top : List ℕ) (named : Option (List ℕ)) (limit : ℕ) (asked : command_of words ≡ Some (Run source top named limit)) (reads_old : List ℕ → ℕ) (old errors told : Written) (files_mid : Option Files) (reads_mid : List ℕ → ℕ) (same_mid : files_mid ≡ files) (later_mid : reads_old source ≤ reads_mid source) (others_mid : (name : List ℕ) → name ≢ source → reads_mid name ≡ reads_old name) (program : Program) (means : OfSource files source (λ text. IsProgramOf text top program)) (files_new : Option Files) (reads_new : List ℕ → ℕ) (same_new : files_new ≡ files_mid) (others_new : (name : List ℕ) → named ≢ Some name → reads_new name ≡ reads_mid name) where
+module _ (words : List (List ℕ)) (files : Option Files) (source top : List ℕ) (named : Option (List ℕ)) (workers limit : ℕ) (asked : Asks words (Run source top named workers limit)) (reads_old : List ℕ → ℕ) (old errors told : Written) (files_mid : Option Files) (reads_mid : List ℕ → ℕ) (same_mid : files_mid ≡ files) (later_mid : reads_old source ≤ reads_mid source) (others_mid : (name : List ℕ) → name ≢ source → reads_mid name ≡ reads_old name) (program : Program) (means : OfSource files source (λ text. IsProgramOf text top program)) (files_new : Option Files) (reads_new : List ℕ → ℕ) (same_new : files_new ≡ files_mid) (others_new : (name : List ℕ) → named ≢ Some name → reads_new name ≡ reads_mid name) where
   abbrev command : Command
-  command = Run source top named limit
+  command = Run source top named workers limit
 
   abbrev before : Outside
   before = outside files reads_old old errors
@@ -34,7 +34,7 @@ module _ (words : List (List ℕ)) (files : Option Files) (source top : List ℕ
   has_program = carried.has_program files source top program means
 
   reads_both : (new : Written) → ReadsAsked words before (outside files_new reads_new new told)
-  reads_both new = carried.reads_both words files command asked reads_old old errors told files_mid reads_mid same_mid later_mid others_mid has_program files_new reads_new same_new others_new new
+  reads_both new = carried.reads_both words files command asked source (λ file e. e) reads_old old errors told files_mid reads_mid same_mid later_mid others_mid has_program files_new reads_new same_new others_new new
 
   bad_data : (fault : DataFault) → OfData files named (λ bytes. HasDataFault program bytes fault) → OfTexts files source named (λ text bytes. HasBadData text top bytes fault)
   bad_data fault h =
@@ -46,7 +46,7 @@ module _ (words : List (List ℕ)) (files : Option Files) (source top : List ℕ
   not_given_cause new Write h = absurd h
   not_given_cause new (TooLong file most) h = (command, asked, inr (h.0, h.1, h.2, has_program))
   not_given_cause new (Source file place rule) h = absurd h
-  not_given_cause new (Data file fault) h = (source, top, named, limit, asked, (h.0, bad_data fault h.1))
+  not_given_cause new (Data file fault) h = (command, asked, (h.0, bad_data fault h.1))
   not_given_cause new (Ticks most) h = absurd h
   not_given_cause new (Stopped lines) h = absurd h
   not_given_cause new (Device file fault) h = absurd h
@@ -99,7 +99,7 @@ module _ (words : List (List ℕ)) (files : Option Files) (source top : List ℕ
 
     pub ended : {A : Type 0} (x : A) → EndsSo program values limit old.bytes new.bytes run_end.Done → IsCarriedOut words before after (Ok x)
     ended x e = record {
-      done = inl (source, top, named, limit, asked, of_asked (λ text bytes. HasDone text top bytes limit old.bytes new.bytes) (λ text bytes a. record { program = program; values = values; asked = a; report = e.0; done = e.1; shown = e.2 }));
+      done = inl (command, asked, of_asked (λ text bytes. HasDone text top bytes limit old.bytes new.bytes) (λ text bytes a. record { program = program; values = values; asked = a; report = e.0; done = e.1; shown = e.2 }));
       cause = tt;
       leaves = tt;
       reads = reads_both new;
@@ -108,7 +108,7 @@ module _ (words : List (List ℕ)) (files : Option Files) (source top : List ℕ
     pub stopped : {A : Type 0} (lines : Vec (Vec ℕ Global) Global) → EndsSo program values limit old.bytes new.bytes (run_end.Stopped lines) → IsCarriedOut {A = A} words before after (Err (code.Stopped lines))
     stopped lines e = record {
       done = tt;
-      cause = (source, top, named, limit, asked, of_asked (λ text bytes. HasStopped text top bytes limit _ old.bytes new.bytes) (λ text bytes a. record { program = program; values = values; asked = a; report = e.0; stopped = e.1; shown = e.2 }));
+      cause = (command, asked, of_asked (λ text bytes. HasStopped text top bytes limit _ old.bytes new.bytes) (λ text bytes a. record { program = program; values = values; asked = a; report = e.0; stopped = e.1; shown = e.2 }));
       leaves = tt;
       reads = reads_both new;
     }
@@ -116,14 +116,14 @@ module _ (words : List (List ℕ)) (files : Option Files) (source top : List ℕ
     pub past : {A : Type 0} → EndsSo program values limit old.bytes new.bytes run_end.Limit → IsCarriedOut {A = A} words before after (Err (code.Ticks limit))
     past e = record {
       done = tt;
-      cause = (source, top, named, limit, asked, (refl, of_asked (λ text bytes. HasLimit text top bytes limit) (λ text bytes a. record { program = program; values = values; asked = a; past = e.0 })));
+      cause = (command, asked, (refl, of_asked (λ text bytes. HasLimit text top bytes limit) (λ text bytes a. record { program = program; values = values; asked = a; past = e.0 })));
       leaves = e.1;
       reads = reads_both new;
     }
 
     has_front : HasFront program values limit old.bytes new.bytes → HasFrontOf words before after
     has_front w =
-        inl (source, top, named, limit, asked, of_asked (λ text bytes. (report : List ℕ) × IsReportOfSource text top bytes limit report × AppendsPart old.bytes new.bytes report) (λ text bytes a. (w.0, record { program = program; values = values; asked = a; is = w.1 }, w.2)))
+        inl (command, asked, of_asked (λ text bytes. (report : List ℕ) × IsReportOfSource text top bytes limit report × AppendsPart old.bytes new.bytes report) (λ text bytes a. (w.0, record { program = program; values = values; asked = a; is = w.1 }, w.2)))
 
     has_part : HasPart program values limit old.bytes new.bytes → HasPartOf words before after
     has_part h = elim h [ inl same ↦ inl same | inr w ↦ inr (has_front w) ]

@@ -1,8 +1,10 @@
 -- What a call must answer where nothing outside of it fails.
 use Rattle.std.specs.Prelude.{◌≡◌, ◌⊎◌, ℕ, List, Option, Some, None}
-use Rattle.tapa_words.specs.Words.{command_of, Run, Build, Plan, Cosim}
+use Rattle.tapa_words.specs.Words.{Asks, AskNothing, Run, Build, Plan, Cosim}
+use Rattle.tapa_words.specs.declared.command.CosimAim.TheVariants.{Report}
 use Rattle.tapa_words.specs.declared.command.PlanAim.{PlanAim}
 use Rattle.tapa_words.specs.declared.command.PlanMode.{PlanMode}
+use Rattle.slot_plan.specs.declared.floorplan.Mode.{Mode}
 use Rattle.command_source.specs.Files.{source_limit}
 use Rattle.command_source.specs.Outside.{Outside}
 use Rattle.command_source.specs.Refusal.{TooLong, Usage}
@@ -17,18 +19,18 @@ use Rattle.tapa_drive.specs.PlanDecided.{TellsPlan}
 -- where nothing outside fails, the answer tells what was asked for, or memory ran out
 pub record IsDecided (words : List (List ℕ)) (before after : Outside) (status : Status) : Type 0 where
   -- what the source means with its data
-  pub run : (source top : List ℕ) (named : Option (List ℕ)) (limit : ℕ) → command_of words ≡ Some (Run source top named limit) →
+  pub run : (source top : List ℕ) (named : Option (List ℕ)) (workers limit : ℕ) → Asks words (Run source top named workers limit) →
       (meaning : SourceMeaning) → Expects before.files source top named limit meaning → NothingFails source named before after → Tells source named limit meaning status before after ⊎ (status ≡ Memory)
   -- that the source has more bytes than it may
-  pub lengthy : (source top : List ℕ) (named : Option (List ℕ)) (limit : ℕ) → command_of words ≡ Some (Run source top named limit) →
+  pub lengthy : (source top : List ℕ) (named : Option (List ℕ)) (workers limit : ℕ) → Asks words (Run source top named workers limit) →
       IsLengthy before.files source → NothingFails source named before after → IsRefusedWith (TooLong source source_limit) status before after ⊎ (status ≡ Memory)
   -- what the source means with the device file: a plan's lines or the circuit by it, or why there is none
-  pub plan : (source top device : List ℕ) (by : PlanMode) (aim : PlanAim) → command_of words ≡ Some (Plan source top device by aim) →
-      NothingFails source (Some device) before after → TellsPlan source top device (mode_of by) aim status before after ⊎ (status ≡ Memory)
+  pub plan : (source top device : List ℕ) (word : PlanMode) (by : Mode) (aim : PlanAim) → mode_of word ≡ Some by → Asks words (Plan source top device word aim) →
+      NothingFails source (Some device) before after → TellsPlan source top device by aim status before after ⊎ (status ≡ Memory)
   -- the circuit of the source, or why it has none
-  pub build : (source top : List ℕ) → command_of words ≡ Some (Build source top) → NothingFails source None before after → TellsBuild before.files source top status before after ⊎ (status ≡ Memory)
+  pub build : (source top : List ℕ) → Asks words (Build source top) → NothingFails source None before after → TellsBuild before.files source top status before after ⊎ (status ≡ Memory)
   -- what the Verilog text means with its data: the report of its design's cycles, or why there is none
-  pub cosim : (text : List ℕ) (named : Option (List ℕ)) (limit : ℕ) → command_of words ≡ Some (Cosim text named limit) →
+  pub cosim : (text : List ℕ) (named : Option (List ℕ)) (limit : ℕ) → Asks words (Cosim text named limit Report) →
       NothingFails text named before after → TellsCosim text named limit status before after ⊎ (status ≡ Memory)
   -- that the words are no command
-  pub usage : command_of words ≡ None → WritesAll before after → IsRefusedWith Usage status before after ⊎ (status ≡ Memory)
+  pub usage : AskNothing words → WritesAll before after → IsRefusedWith Usage status before after ⊎ (status ≡ Memory)

@@ -5,9 +5,12 @@ use Rattle.tapa_base.specs.declared.text.Place.{Place}
 use Rattle.tapa_files.specs.Outside.{Files, Rose, AppendsPart}
 use Rattle.tapa_files.specs.Take.{IsLongerThan}
 use Rattle.tapa_syntax.specs.declared.program.Program.{Program}
-use Rattle.tapa_words.specs.Words.{Command, Run, Build, Plan, Cosim, command_of}
+use Rattle.tapa_words.specs.Words.{Command, AskNothing}
+use Rattle.tapa_words.specs.Parts.{OfCommand, OnRun, OnBuild, OnPlan, OnCosim, Reading, FromSource, FromText, FromDump, FromNothing, reading_of, file_in, IsToCome}
+use Rattle.tapa_words.specs.declared.command.CosimAim.{CosimAim}
+use Rattle.tapa_words.specs.declared.command.CosimAim.TheVariants.{Report, Dump}
 use Rattle.tapa_words.specs.declared.command.PlanAim.{PlanAim}
-use Rattle.tapa_words.specs.declared.command.PlanMode.{PlanMode}
+use Rattle.slot_plan.specs.declared.floorplan.Mode.{Mode}
 use Rattle.run_program.specs.Ending.{IsReportOf}
 use Rattle.run_program.specs.Run.{Values, DoneRun, StoppedRun, LimitRun}
 use Rattle.command_source.specs.Files.{OfFile, OfSource, OfData, source_limit, data_limit, verilog_limit, shown_name}
@@ -23,49 +26,52 @@ use Rattle.command_plans.specs.Built.{HasCircuit}
 use Rattle.command_plans.specs.Planned.{mode_of, HasPlan, HasNoPlan, HasBadDevice}
 use Rattle.tapa_drive.specs.Designs.{HasDesign, IsRefusedText, HasBadDesignData, HasSimulated, HasCosimmed, HasUndone}
 
--- the words ask for a command, of which this holds
-abbrev pub OfCommand : List (List ℕ) → (Command → Type 0) → Type 0
-OfCommand words P = (command : Command) × (command_of words ≡ Some command) × P command
-
--- the source or the Verilog text that a command names, how many bytes it may have, and the file of data or of a device where
--- one is named
-abbrev pub source_in : Command → List ℕ
-source_in (Run source top given limit) = source
-source_in (Build source top) = source
-source_in (Plan source top device mode aim) = source
-source_in (Cosim text given limit) = text
+-- how many bytes the source, the text or the dump that a command reads first may have
+abbrev pub most_of : Reading → ℕ
+most_of (FromSource source top) = source_limit
+most_of (FromText text) = verilog_limit
+most_of (FromDump file) = data_limit
+most_of FromNothing = 0
 
 abbrev pub most_in : Command → ℕ
-most_in (Run source top given limit) = source_limit
-most_in (Build source top) = source_limit
-most_in (Plan source top device mode aim) = source_limit
-most_in (Cosim text given limit) = verilog_limit
+most_in c = most_of (reading_of c)
 
-abbrev pub file_in : Command → Option (List ℕ)
-file_in (Run source top given limit) = given
-file_in (Build source top) = None
-file_in (Plan source top device mode aim) = Some device
-file_in (Cosim text given limit) = given
+-- the file is the one that a command reads first
+abbrev pub IsFirstOf : Reading → List ℕ → Type 0
+IsFirstOf (FromSource source top) file = source ≡ file
+IsFirstOf (FromText text) file = text ≡ file
+IsFirstOf (FromDump dump) file = dump ≡ file
+IsFirstOf FromNothing file = ⊥
+
+abbrev pub IsFirst : Command → List ℕ → Type 0
+IsFirst c file = IsFirstOf (reading_of c) file
 
 -- the words ask for a run of a source and a task, with a file of data where one is named, and with a limit on its ticks,
 -- of which this holds
 abbrev pub OfRun : List (List ℕ) → (List ℕ → List ℕ → Option (List ℕ) → ℕ → Type 0) → Type 0
-OfRun words P =
-    (source : List ℕ) × (top : List ℕ) × (given : Option (List ℕ)) × (limit : ℕ) × (command_of words ≡ Some (Run source top given limit)) × P source top given limit
+OfRun words P = OfCommand words (OnRun P)
 
 -- the words ask for a simulation of a Verilog text, with a file of data where one is named, and with a limit on its cycles, of
--- which this holds
-abbrev pub OfCosim : List (List ℕ) → (List ℕ → Option (List ℕ) → ℕ → Type 0) → Type 0
-OfCosim words P = (text : List ℕ) × (given : Option (List ℕ)) × (limit : ℕ) × (command_of words ≡ Some (Cosim text given limit)) × P text given limit
+-- which this holds; for its report or for its dump
+abbrev pub OfCosim : List (List ℕ) → (List ℕ → Option (List ℕ) → ℕ → CosimAim → Type 0) → Type 0
+OfCosim words P = OfCommand words (OnCosim P)
+
+-- the simulation is for its report, of which this holds
+abbrev pub OfReport : CosimAim → Type 0 → Type 0
+OfReport Report P = P
+OfReport Dump P = ⊥
 
 -- the words ask for the circuit of a source's task, of which this holds
 abbrev pub OfBuild : List (List ℕ) → (List ℕ → List ℕ → Type 0) → Type 0
-OfBuild words P = (source : List ℕ) × (top : List ℕ) × (command_of words ≡ Some (Build source top)) × P source top
+OfBuild words P = OfCommand words (OnBuild P)
+
+-- the command is one for a plan by a mode, of which this holds
+abbrev pub OnPlanBy : (List ℕ → List ℕ → List ℕ → Mode → PlanAim → Type 0) → Command → Type 0
+OnPlanBy P = OnPlan (λ source top device word aim. (mode : Mode) × (mode_of word ≡ Some mode) × P source top device mode aim)
 
 -- the words ask for a plan of a source's task on the device of a file, by a mode, or for the circuit by it, of which this holds
-abbrev pub OfPlan : List (List ℕ) → (List ℕ → List ℕ → List ℕ → PlanMode → PlanAim → Type 0) → Type 0
-OfPlan words P =
-    (source : List ℕ) × (top : List ℕ) × (device : List ℕ) × (mode : PlanMode) × (aim : PlanAim) × (command_of words ≡ Some (Plan source top device mode aim)) × P source top device mode aim
+abbrev pub OfPlan : List (List ℕ) → (List ℕ → List ℕ → List ℕ → Mode → PlanAim → Type 0) → Type 0
+OfPlan words P = OfCommand words (OnPlanBy P)
 
 -- this holds of the bytes of the source and of the data: of those that are told, and else of some
 abbrev pub OfTexts : Option Files → List ℕ → Option (List ℕ) → (List ℕ → List ℕ → Type 0) → Type 0
@@ -123,54 +129,73 @@ pub record HasLimit (text top bytes : List ℕ) (limit : ℕ) : Type 0 where
   pub asked : IsAsked text top bytes program values
   pub past : LimitRun program values limit
 
--- the text is what the command asks for: a source with a program, or a Verilog text with a design
+-- the text is what a command that reads a further file asks for: a source with a program, or a Verilog text with a design
+abbrev pub IsTakenBy : Reading → List ℕ → Type 0
+IsTakenBy (FromSource source top) text = HasProgram text top
+IsTakenBy (FromText name) text = HasDesign text
+IsTakenBy (FromDump file) text = ⊥
+IsTakenBy FromNothing text = ⊥
+
 abbrev pub IsTaken : Command → List ℕ → Type 0
-IsTaken (Run source top given limit) text = HasProgram text top
-IsTaken (Build source top) text = HasProgram text top
-IsTaken (Plan source top device mode aim) text = HasProgram text top
-IsTaken (Cosim name given limit) text = HasDesign text
+IsTaken c text = IsTakenBy (reading_of c) text
 
 -- the command is one of a source, and the source is refused so
+abbrev pub IsRefusedBy : Reading → List ℕ → Place → SourceCode → Type 0
+IsRefusedBy (FromSource source top) text place code = IsRefusedSource text top place code
+IsRefusedBy (FromText name) text place code = ⊥
+IsRefusedBy (FromDump file) text place code = ⊥
+IsRefusedBy FromNothing text place code = ⊥
+
 abbrev pub IsRefusedIn : Command → List ℕ → Place → SourceCode → Type 0
-IsRefusedIn (Run source top given limit) text place code = IsRefusedSource text top place code
-IsRefusedIn (Build source top) text place code = IsRefusedSource text top place code
-IsRefusedIn (Plan source top device mode aim) text place code = IsRefusedSource text top place code
-IsRefusedIn (Cosim name given limit) text place code = ⊥
+IsRefusedIn c text place code = IsRefusedBy (reading_of c) text place code
 
 -- the command is one of a Verilog text, and the text is refused so
+abbrev pub IsFaultyBy : Reading → List ℕ → VerilogFault → Type 0
+IsFaultyBy (FromSource source top) text fault = ⊥
+IsFaultyBy (FromText name) text fault = IsRefusedText text fault
+IsFaultyBy (FromDump file) text fault = ⊥
+IsFaultyBy FromNothing text fault = ⊥
+
 abbrev pub IsFaultyIn : Command → List ℕ → VerilogFault → Type 0
-IsFaultyIn (Run source top given limit) text fault = ⊥
-IsFaultyIn (Build source top) text fault = ⊥
-IsFaultyIn (Plan source top device mode aim) text fault = ⊥
-IsFaultyIn (Cosim name given limit) text fault = IsRefusedText text fault
+IsFaultyIn c text fault = IsFaultyBy (reading_of c) text fault
 
--- the file is the source or the text, or the further file of one that is taken
+-- the file that a command reads first, of which this holds
+abbrev pub OfFirstBy : Option Files → Reading → (List ℕ → Type 0) → Type 0
+OfFirstBy files (FromSource source top) P = OfFile files source_limit source P
+OfFirstBy files (FromText text) P = OfFile files verilog_limit text P
+OfFirstBy files (FromDump file) P = OfFile files data_limit file P
+OfFirstBy files FromNothing P = ⊥
+
+abbrev pub OfFirst : Option Files → Command → (List ℕ → Type 0) → Type 0
+OfFirst files c P = OfFirstBy files (reading_of c) P
+
+-- the file is the source, the text or the dump, or the further file of one that is taken
 abbrev pub IsReached : Option Files → Command → List ℕ → Type 0
-IsReached files c file = (source_in c ≡ file) ⊎ ((file_in c ≡ Some file) × OfFile files (most_in c) (source_in c) (IsTaken c))
+IsReached files c file = IsFirst c file ⊎ ((file_in c ≡ Some file) × OfFirst files c (IsTaken c))
 
--- the source or the text has more bytes than it may; or the further file of one that is taken has
+-- the source, the text or the dump has more bytes than it may; or the further file of one that is taken has
 abbrev pub IsTooLong : Option Files → Command → List ℕ → ℕ → Type 0
 IsTooLong files c file most =
-    ((source_in c ≡ file) × (most ≡ most_in c) × IsLongerThan files file (most_in c))
-    ⊎ ((file_in c ≡ Some file) × (most ≡ data_limit) × IsLongerThan files file data_limit × OfFile files (most_in c) (source_in c) (IsTaken c))
+    (IsFirst c file × (most ≡ most_in c) × IsLongerThan files file (most_in c))
+    ⊎ ((file_in c ≡ Some file) × (most ≡ data_limit) × IsLongerThan files file data_limit × OfFirst files c (IsTaken c))
 
 -- what has come to pass in a call that tells this refusal
 abbrev pub HasCause : List (List ℕ) → Outside → Outside → Refusal → Type 0
-HasCause words before after Usage = command_of words ≡ None
+HasCause words before after Usage = AskNothing words ⊎ OfCommand words IsToCome
 HasCause words before after (Read file) = OfCommand words (λ c. IsReached before.files c file × Rose (before.failed_reads file) (after.failed_reads file))
 HasCause words before after Write = Rose before.out.failed after.out.failed
 HasCause words before after (TooLong file most) = OfCommand words (λ c. IsTooLong before.files c file most)
-HasCause words before after (Source file place code) = OfCommand words (λ c. (source_in c ≡ file) × OfFile before.files (most_in c) file (λ text. IsRefusedIn c text place code))
+HasCause words before after (Source file place code) = OfCommand words (λ c. IsFirst c file × OfFile before.files (most_in c) file (λ text. IsRefusedIn c text place code))
 HasCause words before after (Data file fault) = OfRun words (λ source top given limit. (shown_name given ≡ file) × OfTexts before.files source given (λ text bytes. HasBadData text top bytes fault))
 HasCause words before after (Ticks most) = OfRun words (λ source top given limit. (most ≡ limit) × OfTexts before.files source given (λ text bytes. HasLimit text top bytes limit))
 HasCause words before after (Stopped lines) = OfRun words (λ source top given limit. OfTexts before.files source given (λ text bytes. HasStopped text top bytes limit lines before.out.bytes after.out.bytes))
 HasCause words before after (Device file fault) = OfPlan words (λ source top device mode aim. (device ≡ file) × OfTexts before.files source (Some device) (λ text bytes. HasBadDevice text top bytes fault))
-HasCause words before after (TooManyPlans slots free) = OfPlan words (λ source top device mode aim. OfTexts before.files source (Some device) (λ text bytes. HasNoPlan text top bytes (mode_of mode) (TooManyPlans slots free)))
-HasCause words before after NoPlan = OfPlan words (λ source top device mode aim. OfTexts before.files source (Some device) (λ text bytes. HasNoPlan text top bytes (mode_of mode) NoPlan))
-HasCause words before after (NoRoom label) = OfPlan words (λ source top device mode aim. OfTexts before.files source (Some device) (λ text bytes. HasNoPlan text top bytes (mode_of mode) (NoRoom label)))
-HasCause words before after (Verilog file fault) = OfCommand words (λ c. (source_in c ≡ file) × OfFile before.files (most_in c) file (λ text. IsFaultyIn c text fault))
-HasCause words before after (DesignData file fault) = OfCosim words (λ name given limit. (shown_name given ≡ file) × OfDesignTexts before.files name given (λ text bytes. HasBadDesignData text bytes fault))
-HasCause words before after (Undone most) = OfCosim words (λ name given limit. (most ≡ limit) × OfDesignTexts before.files name given (λ text bytes. HasUndone text bytes limit before.out.bytes after.out.bytes))
+HasCause words before after (TooManyPlans slots free) = OfPlan words (λ source top device mode aim. OfTexts before.files source (Some device) (λ text bytes. HasNoPlan text top bytes mode (TooManyPlans slots free)))
+HasCause words before after NoPlan = OfPlan words (λ source top device mode aim. OfTexts before.files source (Some device) (λ text bytes. HasNoPlan text top bytes mode NoPlan))
+HasCause words before after (NoRoom label) = OfPlan words (λ source top device mode aim. OfTexts before.files source (Some device) (λ text bytes. HasNoPlan text top bytes mode (NoRoom label)))
+HasCause words before after (Verilog file fault) = OfCommand words (λ c. IsFirst c file × OfFile before.files (most_in c) file (λ text. IsFaultyIn c text fault))
+HasCause words before after (DesignData file fault) = OfCosim words (λ name given limit aim. (shown_name given ≡ file) × OfDesignTexts before.files name given (λ text bytes. HasBadDesignData text bytes fault))
+HasCause words before after (Undone most) = OfCosim words (λ name given limit aim. OfReport aim ((most ≡ limit) × OfDesignTexts before.files name given (λ text bytes. HasUndone text bytes limit before.out.bytes after.out.bytes)))
 HasCause words before after Memory = ⊤
 
 -- the command ran the program of its source to its end
@@ -180,11 +205,11 @@ IsRun words before after = OfRun words (λ source top given limit. OfTexts befor
 -- what is told by a plan of the source's program was written: its lines, or the text of a circuit
 abbrev pub IsPlanned : List (List ℕ) → Outside → Outside → Type 0
 IsPlanned words before after =
-    OfPlan words (λ source top device mode aim. OfTexts before.files source (Some device) (λ text bytes. (told : List ℕ) × HasPlan text top bytes (mode_of mode) aim told × Appends before.out.bytes after.out.bytes told))
+    OfPlan words (λ source top device mode aim. OfTexts before.files source (Some device) (λ text bytes. (told : List ℕ) × HasPlan text top bytes mode aim told × Appends before.out.bytes after.out.bytes told))
 
 -- the design of the Verilog text was done in one of the cycles, and the report up to there was written
 abbrev pub IsCosimmed : List (List ℕ) → Outside → Outside → Type 0
-IsCosimmed words before after = OfCosim words (λ name given limit. OfDesignTexts before.files name given (λ text bytes. HasCosimmed text bytes limit before.out.bytes after.out.bytes))
+IsCosimmed words before after = OfCosim words (λ name given limit aim. OfReport aim (OfDesignTexts before.files name given (λ text bytes. HasCosimmed text bytes limit before.out.bytes after.out.bytes)))
 
 -- the text of the circuit of the source's program was written
 abbrev pub IsBuilt : List (List ℕ) → Outside → Outside → Type 0
@@ -199,8 +224,8 @@ IsDone words before after = IsRun words before after ⊎ (IsPlanned words before
 abbrev pub HasFrontOf : List (List ℕ) → Outside → Outside → Type 0
 HasFrontOf words before after =
     OfRun words (λ source top given limit. OfTexts before.files source given (λ text bytes. (report : List ℕ) × IsReportOfSource text top bytes limit report × AppendsPart before.out.bytes after.out.bytes report))
-    ⊎ (OfPlan words (λ source top device mode aim. OfTexts before.files source (Some device) (λ text bytes. (told : List ℕ) × HasPlan text top bytes (mode_of mode) aim told × AppendsPart before.out.bytes after.out.bytes told))
-    ⊎ (OfCosim words (λ name given limit. OfDesignTexts before.files name given (λ text bytes. (done_at : Option ℕ) × (report : List ℕ) × HasSimulated text bytes limit done_at report × AppendsPart before.out.bytes after.out.bytes report))
+    ⊎ (OfPlan words (λ source top device mode aim. OfTexts before.files source (Some device) (λ text bytes. (told : List ℕ) × HasPlan text top bytes mode aim told × AppendsPart before.out.bytes after.out.bytes told))
+    ⊎ (OfCosim words (λ name given limit aim. OfReport aim (OfDesignTexts before.files name given (λ text bytes. (done_at : Option ℕ) × (report : List ℕ) × HasSimulated text bytes limit done_at report × AppendsPart before.out.bytes after.out.bytes report)))
     ⊎ OfBuild words (λ source top. OfSource before.files source (λ text. (told : List ℕ) × HasCircuit text top told × AppendsPart before.out.bytes after.out.bytes told))))
 
 -- nothing was written, or a front part of such a text

@@ -5,7 +5,8 @@ ghost use Rattle.vlog_tree.specs.Environment.{FitsShape, shape_of};
 ghost use Rattle.vlog_tree.specs.Form.{ModuleTree};
 ghost use Rattle.vlog_design.specs.Designs.{TopOf};
 ghost use Rattle.vlog_design.specs.Environments.{environment_of};
-ghost use Rattle.tapa_words.specs.Words.{command_of, Cosim};
+ghost use Rattle.tapa_words.specs.Words.{Asks, Cosim};
+ghost use Rattle.tapa_words.specs.declared.command.CosimAim.TheVariants.{Report};
 ghost use Rattle.command_source.specs.Files.{OfFile, OfData, AsksForData, verilog_limit};
 ghost use Rattle.command_source.specs.Meaning.{refusal_of};
 ghost use Rattle.command_source.specs.Outside.{Written, written, outside};
@@ -19,6 +20,7 @@ use sim_report::{DesignEnd, run_design};
 use std::alloc::{AllocError, Global};
 use tapa_base::Shape;
 use tapa_files::{PrintFault, Shelf, Sink};
+use tapa_words::CosimAim;
 use vlog_design::{Design, Env};
 use vlog_read::read;
 
@@ -114,8 +116,8 @@ fn read_surroundings<'a, S: Shelf>(
     }
 }
 
-/// Simulates the design of a Verilog text on its data, up to the first step that refuses.
-pub(crate) fn cosim_text<'a, S: Shelf, O: Sink>(
+// Simulates the design of a Verilog text on its data and writes its report, up to the first step that refuses.
+fn cosim_report<'a, S: Shelf, O: Sink>(
     alloc: Global,
     text: &'a str,
     named: Option<&'a str>,
@@ -123,7 +125,7 @@ pub(crate) fn cosim_text<'a, S: Shelf, O: Sink>(
     shelf: &mut S,
     out: &mut O,
 ) -> Result<(), Refusal<'a>>
-    ensures { (words : List (List ℕ)) (errors told : Written) → command_of words ≡ Some (Cosim text.now (option_map (λ file. file.now) named.entry) limit) →
+    ensures { (words : List (List ℕ)) (errors told : Written) → Asks words (Cosim text.now (option_map (λ file. file.now) named.entry) limit Report) →
         IsCarriedOut words (outside (S.files shelf.old) (S.faults shelf.old) (written (O.contents out.old) (O.faults out.old)) errors)
         (outside (S.files shelf.new) (S.faults shelf.new) (written (O.contents out.new) (O.faults out.new)) told) result }
 {
@@ -143,5 +145,26 @@ pub(crate) fn cosim_text<'a, S: Shelf, O: Sink>(
     match end {
         DesignEnd::Done => Ok(()),
         DesignEnd::Running => Err(Refusal::Undone { limit }),
+    }
+}
+
+/// Simulates the design of a Verilog text on its data and writes what is to be shown of it, up to the first step that refuses.
+pub(crate) fn cosim_text<'a, S: Shelf, O: Sink>(
+    alloc: Global,
+    text: &'a str,
+    named: Option<&'a str>,
+    limit: u64,
+    aim: CosimAim,
+    shelf: &mut S,
+    out: &mut O,
+) -> Result<(), Refusal<'a>>
+    ensures { (words : List (List ℕ)) (errors told : Written) → Asks words (Cosim text.now (option_map (λ file. file.now) named.entry) limit aim) →
+        IsCarriedOut words (outside (S.files shelf.old) (S.faults shelf.old) (written (O.contents out.old) (O.faults out.old)) errors)
+        (outside (S.files shelf.new) (S.faults shelf.new) (written (O.contents out.new) (O.faults out.new)) told) result }
+{
+    match aim {
+        CosimAim::Report => cosim_report(alloc, text, named, limit, shelf, out),
+        // Dumps are to come.
+        CosimAim::Dump => Err(Refusal::Usage),
     }
 }

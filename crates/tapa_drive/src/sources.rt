@@ -1,6 +1,6 @@
 // The commands of a source: its run, its circuit and its plan.
 ghost use Rattle.std.specs.Prelude.{◌≡◌, ◌≤◌, ℕ, List, Some, option_map};
-ghost use Rattle.tapa_words.specs.Words.{command_of, most_limit, Run, Build, Plan as PlanWords};
+ghost use Rattle.tapa_words.specs.Words.{Asks, most_limit, Run, Build, Plan as PlanWords};
 ghost use Rattle.command_source.specs.Outside.{Written, written, outside};
 ghost use Rattle.tapa_drive.specs.Carried.{IsCarriedOut};
 
@@ -12,21 +12,24 @@ use tapa_files::{PrintFault, Shelf, Sink};
 use tapa_words::{PlanAim, PlanMode};
 use task_graph::Graph;
 
-/// Runs the program of a source on its data, up to the first step that refuses.
+/// Runs the program of a source on its data, by so many workers, up to the first step that refuses.
 pub(crate) fn run_source<'a, S: Shelf, O: Sink>(
     alloc: Global,
     source: &'a str,
     top: &str,
     named: Option<&'a str>,
+    workers: u32,
     limit: u64,
     shelf: &mut S,
     out: &mut O,
 ) -> Result<(), Refusal<'a>>
     requires { limit ≤ most_limit }
-    ensures { (words : List (List ℕ)) (errors told : Written) → command_of words ≡ Some (Run source.now top.now (option_map (λ file. file.now) named.entry) limit) →
+    ensures { (words : List (List ℕ)) (errors told : Written) → Asks words (Run source.now top.now (option_map (λ file. file.now) named.entry) workers limit) →
         IsCarriedOut words (outside (S.files shelf.old) (S.faults shelf.old) (written (O.contents out.old) (O.faults out.old)) errors)
         (outside (S.files shelf.new) (S.faults shelf.new) (written (O.contents out.new) (O.faults out.new)) told) result }
 {
+    // One thread does the work of all workers.
+    let _workers = workers;
     let program = match read_source(alloc, source, top, shelf) {
         Ok(program) => program,
         Err(refusal) => return Err(refusal),
@@ -55,7 +58,7 @@ pub(crate) fn build_source<'a, S: Shelf, O: Sink>(
     shelf: &mut S,
     out: &mut O,
 ) -> Result<(), Refusal<'a>>
-    ensures { (words : List (List ℕ)) (errors told : Written) → command_of words ≡ Some (Build source.now top.now) →
+    ensures { (words : List (List ℕ)) (errors told : Written) → Asks words (Build source.now top.now) →
         IsCarriedOut words (outside (S.files shelf.old) (S.faults shelf.old) (written (O.contents out.old) (O.faults out.old)) errors)
         (outside (S.files shelf.new) (S.faults shelf.new) (written (O.contents out.new) (O.faults out.new)) told) result }
 {
@@ -77,10 +80,15 @@ pub(crate) fn plan_source<'a, S: Shelf, O: Sink>(
     shelf: &mut S,
     out: &mut O,
 ) -> Result<(), Refusal<'a>>
-    ensures { (words : List (List ℕ)) (errors told : Written) → command_of words ≡ Some (PlanWords source.now top.now file.now mode aim) →
+    ensures { (words : List (List ℕ)) (errors told : Written) → Asks words (PlanWords source.now top.now file.now mode aim) →
         IsCarriedOut words (outside (S.files shelf.old) (S.faults shelf.old) (written (O.contents out.old) (O.faults out.old)) errors)
         (outside (S.files shelf.new) (S.faults shelf.new) (written (O.contents out.new) (O.faults out.new)) told) result }
 {
+    // Plans by another mode are to come.
+    let mode = match mode_of(mode) {
+        Some(mode) => mode,
+        None => return Err(Refusal::Usage),
+    };
     let program = match read_source(alloc, source, top, shelf) {
         Ok(program) => program,
         Err(refusal) => return Err(refusal),
@@ -93,7 +101,7 @@ pub(crate) fn plan_source<'a, S: Shelf, O: Sink>(
         Ok(device) => device,
         Err(refusal) => return Err(refusal),
     };
-    let found = match planned(alloc, &graph, &device, mode_of(mode)) {
+    let found = match planned(alloc, &graph, &device, mode) {
         Ok(found) => found,
         Err(refusal) => return Err(refusal),
     };

@@ -1,4 +1,3 @@
-// The top call: a command is carried out, and what came of it is answered.
 ghost use Rattle.std.specs.Prelude.{◌≡◌};
 ghost use Rattle.tapa_words.specs.Words.{texts};
 ghost use Rattle.command_source.specs.Outside.{Written, written, outside};
@@ -30,9 +29,10 @@ fn carry_out<'a, S: Shelf, O: Sink>(
                 source,
                 top,
                 data,
+                workers,
                 limit,
             },
-        ) => run_source(alloc, source, top, data, limit, shelf, out),
+        ) => run_source(alloc, source, top, data, workers, limit, shelf, out),
         Ok(Command::Build { source, top }) => build_source(alloc, source, top, shelf, out),
         Ok(
             Command::Plan {
@@ -43,9 +43,27 @@ fn carry_out<'a, S: Shelf, O: Sink>(
                 aim,
             },
         ) => plan_source(alloc, source, top, device, mode, aim, shelf, out),
-        Ok(Command::Cosim { text, data, limit }) => {
-            cosim_text(alloc, text, data, limit, shelf, out)
-        }
+        Ok(
+            Command::Cosim {
+                text,
+                data,
+                limit,
+                aim,
+            },
+        ) => cosim_text(alloc, text, data, limit, aim, shelf, out),
+        // To come.
+        Ok(
+            Command::Vcd {
+                file: _file,
+                net: _net,
+            },
+        ) => Err(Refusal::Usage),
+        Ok(
+            Command::Gen {
+                layers: _layers,
+                workers: _workers,
+            },
+        ) => Err(Refusal::Usage),
         Err(WordsFault::Usage) => Err(Refusal::Usage),
         Err(WordsFault::OutOfMemory) => Err(Refusal::Memory),
     }

@@ -2,7 +2,7 @@
 use Rattle.std.proofs.Common.{◌≡◌, ◌≢◌, ℕ, ◌+◌, ◌<◌, false, ◌==◌, List, [], ◌∷◌, ◌++◌, length, get_or, Some, None, refl, arith}
 use Rattle.std.proofs.lemmas.Bool.Decides.{nat_tests}
 use Rattle.std.proofs.lemmas.Grind.{common_steps}
-use Rattle.tapa_words.specs.Words.{name_in, value_in}
+use Rattle.tapa_words.specs.Reading.{name_in, value_in}
 
 -- no byte is `=`
 abbrev pub LacksEquals : List ℕ → Type 0

@@ -1,2 +1,5 @@
+pub mod Asked
 pub mod Cuts
+pub mod Names
 pub mod Numbers
+pub mod Written

@@ -1,70 +1,70 @@
--- Which words are a command. Words are read from left to right, and words that break a rule are no command.
-use Rattle.std.specs.Prelude.{ℕ, List, [], ◌∷◌, length, Option, Some, None, Bool, false, true, not, ◌&&◌, ◌||◌, ◌==◌, nat_le, codes, if◌then◌else◌, map, option_map, option_and_then, is_none, String, string_bytes}
+-- Which words are a command: the lists of words that keep the rules below, without the program's name.
+use Rattle.std.specs.Prelude.{◌≡◌, ◌≢◌, ◌⊎◌, ◌≤◌, ℕ, List, [], ◌∷◌, ◌++◌, length, Option, Some, None, Bool, false, true, not, ◌&&◌, ◌==◌, nat_le, codes, if◌then◌else◌, map, option_map, is_none, String, string_bytes, ⊤}
 use Rattle.std.specs.List.{list_all, list_any}
 use Rattle.std.specs.Str.{bytes_eq}
 use Rattle.std.specs.Str.Parse.{digits_value}
 use Rattle.std.specs.declared.alloc.Global.{Global}
 use Rattle.tapa_words.specs.declared.verb.Verb.{Verb}
-use Rattle.tapa_words.specs.declared.verb.Verb.TheVariants.{Running, Building, Planning, Simulating}
+use Rattle.tapa_words.specs.declared.verb.Verb.TheVariants.{Running, Building, Planning, Simulating, Showing, Generating}
 use Rattle.tapa_words.specs.declared.verb.OptionKind.{OptionKind}
 use Rattle.tapa_words.specs.declared.verb.OptionKind.TheVariants as kind
+use Rattle.tapa_words.specs.declared.command.CosimAim.{CosimAim}
+use Rattle.tapa_words.specs.declared.command.CosimAim.TheVariants.{Report, Dump}
 use Rattle.tapa_words.specs.declared.command.PlanAim.{PlanAim}
 use Rattle.tapa_words.specs.declared.command.PlanAim.TheVariants.{Lines, Circuit}
 use Rattle.tapa_words.specs.declared.command.PlanMode.{PlanMode}
-use Rattle.tapa_words.specs.declared.command.PlanMode.TheVariants.{Exact, Fit}
+use Rattle.tapa_words.specs.declared.command.PlanMode.TheVariants.{Exact, Fit, Split}
 
 abbrev pub Word : Type 0
 Word = List ℕ
 
 -- what is asked for
 pub data Command : Type 0 where
-  -- a run of a task of a source, for at most so many ticks, with a file of its data where one is named
-  Run : (source top : Word) (input : Option Word) (limit : ℕ) → Command
+  -- a run of a task of a source, by so many workers, for at most so many ticks, with a file of its data where one is named
+  Run : (source top : Word) (input : Option Word) (workers limit : ℕ) → Command
   -- the circuit of a task of a source
   Build : (source top : Word) → Command
   -- a plan of the program of a source on the device of a file, by a mode: its lines, or the circuit by it
   Plan : (source top device : Word) (mode : PlanMode) (aim : PlanAim) → Command
-  -- a simulation of the design of a Verilog text, for at most so many cycles, with a file of its data where one is named
-  Cosim : (text : Word) (input : Option Word) (limit : ℕ) → Command
+  -- a simulation of the design of a Verilog text, for at most so many cycles, with a file of its data where one is named: its
+  -- report, or its dump
+  Cosim : (text : Word) (input : Option Word) (limit : ℕ) (aim : CosimAim) → Command
+  -- the values of one net in the dump of a file
+  Vcd : (file net : Word) → Command
+  -- the generated network of so many layers, run by so many workers
+  Gen : (layers workers : ℕ) → Command
 
 -- the words as bytes
 abbrev pub texts : List (String Global) → List Word
 texts words = map string_bytes words
 
+-- ---- the commands and their options
+
 -- the first word is the command's name, spelled exactly
 abbrev pub verb_of : Word → Option Verb
-verb_of word = if bytes_eq word (codes "run") then Some Running else if bytes_eq word (codes "build") then Some Building else if bytes_eq word (codes "plan") then Some Planning else if bytes_eq word (codes "cosim") then Some Simulating else None
+verb_of word =
+    if bytes_eq word (codes "run") then Some Running else if bytes_eq word (codes "build") then Some Building else if bytes_eq word (codes "plan") then Some Planning
+    else if bytes_eq word (codes "cosim") then Some Simulating else if bytes_eq word (codes "vcd") then Some Showing else if bytes_eq word (codes "gen") then Some Generating else None
 
--- an option with a value, where this is one of a command
-abbrev pub valued : Bool → Option OptionKind
-valued is_one = if is_one then Some kind.Valued else None
+-- what the option of a name is in a table of options, where it stands there
+abbrev pub kind_in : List (Word × OptionKind) → Word → Option OptionKind
+kind_in [] name = None
+kind_in (option ∷ options) name = if bytes_eq name option.0 then Some option.1 else kind_in options name
 
--- what the option of this name is, where the command has one
+-- the options of each command, and whether they have a value
+abbrev pub options_of : Verb → List (Word × OptionKind)
+options_of Running = (codes "--workers", kind.Valued) ∷ (codes "--steps", kind.Valued) ∷ []
+options_of Building = (codes "--device", kind.Valued) ∷ (codes "--plan", kind.Valued) ∷ (codes "--no-balance", kind.Bare) ∷ []
+options_of Planning = (codes "--plan", kind.Valued) ∷ []
+options_of Simulating = (codes "--cycles", kind.Valued) ∷ (codes "--vcd", kind.Bare) ∷ []
+options_of Showing = []
+options_of Generating = (codes "--workers", kind.Valued) ∷ []
+
+-- what the option of this name is, where the command has one, spelled whole
 abbrev pub option_kind : Verb → Word → Option OptionKind
-option_kind Running name = valued (bytes_eq name (codes "--steps"))
-option_kind Building name = if bytes_eq name (codes "--no-balance") then Some kind.Bare else valued (bytes_eq name (codes "--device") || bytes_eq name (codes "--plan"))
-option_kind Planning name = valued (bytes_eq name (codes "--plan"))
-option_kind Simulating name = valued (bytes_eq name (codes "--cycles"))
+option_kind verb name = kind_in (options_of verb) name
 
--- a word of more than one byte that begins with `-`; `--` is of this form too
-abbrev pub is_option : Word → Bool
-is_option [] = false
-is_option (b ∷ []) = false
-is_option (b ∷ c ∷ rest) = b == 45
-
--- `--`
-abbrev pub is_end_of_options : Word → Bool
-is_end_of_options word = bytes_eq word (codes "--")
-
--- what stands before the first `=`, or the whole word where there is none
-abbrev pub name_in : Word → Word
-name_in [] = []
-name_in (b ∷ rest) = if b == 61 then [] else (b ∷ name_in rest)
-
--- what stands behind the first `=`
-abbrev pub value_in : Word → Option Word
-value_in [] = None
-value_in (b ∷ rest) = if b == 61 then Some rest else value_in rest
+-- ---- how a command's parts are written
 
 -- what the words behind the command's name are
 pub data Item : Type 0 where
@@ -72,67 +72,47 @@ pub data Item : Type 0 where
   -- an option, and its value, which is empty where it has none
   Valued : (name value : Word) → Item
 
--- what the next word may be
-pub data Next : Type 0 where
-  AnyWord : Next
-  -- the value of the option before it
-  ValueOf : (name : Word) → Next
-  -- a positional, since `--` stands before it
-  OnlyPositionals : Next
+-- a word of more than one byte that begins with `-`; `--` is of this form too
+abbrev pub is_option : Word → Bool
+is_option [] = false
+is_option (b ∷ []) = false
+is_option (b ∷ c ∷ rest) = b == 45
 
--- what a word says
-pub data Step : Type 0 where
-  -- an item, and what the word behind it may be
-  Gives : Item → Next → Step
-  -- no item by itself
-  Moves : Next → Step
-  -- nothing, since it breaks a rule
-  Breaks : Step
+-- `--`, behind which every word is a positional
+abbrev pub end_of_options : Word
+end_of_options = codes "--"
 
--- an option by its name, which the command has or has not, and what stands behind its `=`
-abbrev pub option_step : Option OptionKind → Word → Option Word → Step
--- an option is one of its command's options, spelled whole
-option_step None name value = Breaks
--- `--name V`, or `--name=V` with V not empty
-option_step (Some kind.Valued) name None = Moves (ValueOf name)
-option_step (Some kind.Valued) name (Some []) = Breaks
-option_step (Some kind.Valued) name (Some (b ∷ value)) = Gives (Valued name (b ∷ value)) AnyWord
--- `--name` alone
-option_step (Some kind.Bare) name None = Gives (Valued name []) AnyWord
-option_step (Some kind.Bare) name (Some value) = Breaks
+-- An option that the command has. One with a value is written `--name V`, where V is no option and not `--`, or `--name=V` with V
+-- not empty; one without is its name alone.
+abbrev pub IsOptionWritten : Option OptionKind → Word → Word → List Word → Type 0
+IsOptionWritten None name value words = ⊥
+IsOptionWritten (Some kind.Valued) name value words = ((is_option value ≡ false) × (words ≡ name ∷ value ∷ [])) ⊎ ((value ≢ []) × (words ≡ (name ++ 61 ∷ value) ∷ []))
+IsOptionWritten (Some kind.Bare) name value words = (value ≡ []) × (words ≡ name ∷ [])
 
--- a word by what it may be
-abbrev pub step_of : Verb → Next → Word → Step
--- `--` is dropped; before it a word that looks like an option is one, and every other word is a positional
-step_of verb AnyWord word =
-    if is_end_of_options word then Moves OnlyPositionals
-    else if is_option word then option_step (option_kind verb (name_in word)) (name_in word) (value_in word)
-    else Gives (Positional word) AnyWord
--- a value that is the next word is no option and not `--`
-step_of verb (ValueOf name) word = if is_option word then Breaks else Gives (Valued name word) AnyWord
--- behind `--` every word is a positional
-step_of verb OnlyPositionals word = Gives (Positional word) OnlyPositionals
+-- how an item is written before `--`: a positional is a word that is no option
+abbrev pub IsWritten : Verb → Item → List Word → Type 0
+IsWritten verb (Positional word) words = (is_option word ≡ false) × (words ≡ word ∷ [])
+IsWritten verb (Valued name value) words = IsOptionWritten (option_kind verb name) name value words
 
--- behind the last word no value may be missing
-abbrev pub at_end : Next → Option (List Item)
-at_end AnyWord = Some []
-at_end (ValueOf name) = None
-at_end OnlyPositionals = Some []
+-- items one behind the other, before `--`
+abbrev pub AreWritten : Verb → List Item → List Word → Type 0
+AreWritten verb [] words = words ≡ []
+AreWritten verb (item ∷ items) words = (front : List Word) × (back : List Word) × (words ≡ front ++ back) × IsWritten verb item front × AreWritten verb items back
 
--- the items of a word's step and of the words behind it
-abbrev pub then_items : Step → (Next → Option (List Item)) → Option (List Item)
-then_items (Gives item next) rest = option_map (λ items. item ∷ items) (rest next)
-then_items (Moves next) rest = rest next
-then_items Breaks rest = None
+-- items of which the last are the words behind `--`, which is dropped
+pub record AreWrittenWithEnd (verb : Verb) (items : List Item) (words : List Word) : Type 0 where
+  pub fore : List Item
+  pub front : List Word
+  pub behind : List Word
+  pub are_written : AreWritten verb fore front
+  pub words_are : words ≡ front ++ end_of_options ∷ behind
+  pub items_are : items ≡ fore ++ map Positional behind
 
--- the items of words, where the first may be `next`
-abbrev pub items_from : Verb → Next → List Word → Option (List Item)
-items_from verb next [] = at_end next
-items_from verb next (word ∷ words) = then_items (step_of verb next word) (λ later. items_from verb later words)
+-- the words behind a command's name are these items
+abbrev pub HasItems : Verb → List Word → List Item → Type 0
+HasItems verb words items = AreWritten verb items words ⊎ AreWrittenWithEnd verb items words
 
--- the items of the words behind the command's name
-abbrev pub items_of : Verb → List Word → Option (List Item)
-items_of verb words = items_from verb AnyWord words
+-- ---- what the items say
 
 -- the positionals, in their order
 abbrev pub positionals : List Item → List Word
@@ -189,20 +169,38 @@ default_limit = 100000000
 abbrev pub default_cycles : ℕ
 default_cycles = 10000000
 
--- the most that the words may tell
+-- the most ticks or cycles that the words may tell
 abbrev pub most_limit : ℕ
 most_limit = 1000000000000
 
--- `run SRC TOP [DATA]`, with the limit that `--steps` tells
-abbrev pub run_by : List Word → Option ℕ → Option Command
-run_by (source ∷ top ∷ []) limit = option_map (Run source top None) limit
-run_by (source ∷ top ∷ input ∷ []) limit = option_map (Run source top (Some input)) limit
-run_by words limit = None
+-- the most workers
+abbrev pub most_workers : ℕ
+most_workers = 64
+
+-- the most layers of the generated network
+abbrev pub most_layers : ℕ
+most_layers = 126
+
+-- the workers that `--workers` tells, and one where it is not given
+abbrev pub workers_or : Option Word → Option ℕ
+workers_or value = number_or 1 1 most_workers value
+
+-- what is made of two numbers that are both there
+abbrev pub of_both : {A : Type 0} → (ℕ → ℕ → A) → Option ℕ → Option ℕ → Option A
+of_both f (Some m) (Some n) = Some (f m n)
+of_both f (Some m) None = None
+of_both f None n = None
+
+-- `run SRC TOP [DATA]`, by the workers that `--workers` tells, with the limit that `--steps` tells
+abbrev pub run_by : List Word → Option ℕ → Option ℕ → Option Command
+run_by (source ∷ top ∷ []) workers limit = of_both (Run source top None) workers limit
+run_by (source ∷ top ∷ input ∷ []) workers limit = of_both (Run source top (Some input)) workers limit
+run_by words workers limit = None
 
 -- the mode that a word names, and first fit where none is given
 abbrev pub mode_or : Option Word → Option PlanMode
 mode_or None = Some Fit
-mode_or (Some word) = if bytes_eq word (codes "exact") then Some Exact else if bytes_eq word (codes "fit") then Some Fit else None
+mode_or (Some word) = if bytes_eq word (codes "exact") then Some Exact else if bytes_eq word (codes "fit") then Some Fit else if bytes_eq word (codes "split") then Some Split else None
 
 -- `plan SRC TOP DEV`, by the mode that `--plan` tells
 abbrev pub plan_by : List Word → Option PlanMode → Option Command
@@ -219,27 +217,65 @@ abbrev pub build_by : List Word → Option Word → Option PlanMode → Bool →
 build_by (source ∷ top ∷ []) device mode balanced = option_map (built_on source top device balanced) mode
 build_by words device mode balanced = None
 
--- `cosim VTEXT [DATA]`, with the limit that `--cycles` tells
-abbrev pub cosim_by : List Word → Option ℕ → Option Command
-cosim_by (text ∷ []) limit = option_map (Cosim text None) limit
-cosim_by (text ∷ input ∷ []) limit = option_map (Cosim text (Some input)) limit
-cosim_by words limit = None
+-- a dump with `--vcd`, and else a report
+abbrev pub aim_by : Option Word → CosimAim
+aim_by None = Report
+aim_by (Some value) = Dump
 
--- a command by its items
+-- `cosim VTEXT [DATA]`, with the limit that `--cycles` tells
+abbrev pub cosim_by : List Word → Option ℕ → CosimAim → Option Command
+cosim_by (text ∷ []) limit aim = option_map (λ n. Cosim text None n aim) limit
+cosim_by (text ∷ input ∷ []) limit aim = option_map (λ n. Cosim text (Some input) n aim) limit
+cosim_by words limit aim = None
+
+-- `vcd FILE NAME`
+abbrev pub vcd_by : List Word → Option Command
+vcd_by (file ∷ net ∷ []) = Some (Vcd file net)
+vcd_by words = None
+
+-- `gen N`, by the workers that `--workers` tells
+abbrev pub gen_by : List Word → Option ℕ → Option Command
+gen_by (layers ∷ []) workers = of_both Gen (in_range 0 most_layers (number_of layers)) workers
+gen_by words workers = None
+
+-- a command by its items: the positionals are as many as it has, in its order
 abbrev pub command_by : Verb → List Item → Option Command
-command_by Running items = run_by (positionals items) (number_or default_limit 1 most_limit (value_of (codes "--steps") items))
+command_by Running items = run_by (positionals items) (workers_or (value_of (codes "--workers") items)) (number_or default_limit 1 most_limit (value_of (codes "--steps") items))
 command_by Building items = build_by (positionals items) (value_of (codes "--device") items) (mode_or (value_of (codes "--plan") items)) (is_none (value_of (codes "--no-balance") items))
 command_by Planning items = plan_by (positionals items) (mode_or (value_of (codes "--plan") items))
-command_by Simulating items = cosim_by (positionals items) (number_or default_cycles 1 most_limit (value_of (codes "--cycles") items))
+command_by Simulating items = cosim_by (positionals items) (number_or default_cycles 1 most_limit (value_of (codes "--cycles") items)) (aim_by (value_of (codes "--vcd") items))
+command_by Showing items = vcd_by (positionals items)
+command_by Generating items = gen_by (positionals items) (workers_or (value_of (codes "--workers") items))
 
--- the command that the items are, unless an option is given twice
-abbrev pub of_items : Verb → List Item → Option Command
-of_items verb items = if is_each_once items then command_by verb items else None
+-- ---- the words of a command
 
-abbrev pub of_verb : List Word → Verb → Option Command
-of_verb words verb = option_and_then (of_items verb) (items_of verb words)
+-- a command's name, and behind it the items of a command, each option at most once
+pub record IsAsked (name : Word) (words : List Word) (command : Command) : Type 0 where
+  pub verb : Verb
+  pub items : List Item
+  pub named : verb_of name ≡ Some verb
+  pub read : HasItems verb words items
+  pub once : is_each_once items ≡ true
+  pub says : command_by verb items ≡ Some command
 
--- the command that words are, without the program's name
-abbrev pub command_of : List Word → Option Command
-command_of [] = None
-command_of (name ∷ words) = option_and_then (of_verb words) (verb_of name)
+-- the words ask for a command
+abbrev pub Asks : List Word → Command → Type 0
+Asks [] command = ⊥
+Asks (name ∷ words) command = IsAsked name words command
+
+-- the words are no command
+abbrev pub AskNothing : List Word → Type 0
+AskNothing words = (command : Command) → Asks words command → ⊥
+
+-- words ask for one command at most
+abbrev pub WordsAskOneThing : Type 0
+WordsAskOneThing = (words : List Word) (one other : Command) → Asks words one → Asks words other → one ≡ other
+
+-- the numbers of a command are in their ranges
+abbrev pub IsInRange : Command → Type 0
+IsInRange (Run source top input workers limit) = (1 ≤ workers) × (workers ≤ most_workers) × (limit ≤ most_limit)
+IsInRange (Build source top) = ⊤
+IsInRange (Plan source top device mode aim) = ⊤
+IsInRange (Cosim text input limit aim) = limit ≤ most_limit
+IsInRange (Vcd file net) = ⊤
+IsInRange (Gen layers workers) = (layers ≤ most_layers) × (1 ≤ workers) × (workers ≤ most_workers)

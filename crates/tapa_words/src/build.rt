@@ -1,7 +1,7 @@
-ghost use Rattle.std.specs.Prelude.{◌≤◌, map, IfOk};
-ghost use Rattle.tapa_words.specs.Words.{command_by, most_limit};
+ghost use Rattle.std.specs.Prelude.{map, IfOk};
+ghost use Rattle.tapa_words.specs.Words.{command_by, IsInRange};
 ghost use Rattle.tapa_words.specs.declared.verb.Verb.TheVariants.{Building};
-ghost use Rattle.tapa_words.specs.Meaning.{command, item, limit_in, Answers};
+ghost use Rattle.tapa_words.specs.Meaning.{command, item, Answers};
 
 use crate::command::{Command, PlanAim, WordsFault};
 use crate::item::{Item, positional_words, value};
@@ -11,7 +11,7 @@ use std::alloc::Global;
 /// `build SRC TOP [--device DEV] [--plan MODE] [--no-balance]`, by its items.
 pub(crate) fn read_build<'a>(alloc: Global, items: &[Item<'a>]) -> Result<Command<'a>, WordsFault>
     ensures asked { Answers command result (command_by Building (map item items.now)) }
-    ensures limit { IfOk result (λ asked. limit_in asked ≤ most_limit) }
+    ensures range { IfOk result (λ asked. IsInRange (command asked)) }
 {
     let words = positional_words(alloc, items)?;
     let mode = match mode_by(value("--plan", items)) {

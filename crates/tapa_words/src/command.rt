@@ -1,11 +1,13 @@
 /// What the words ask for.
 #[derive(Clone, Copy)]
 pub enum Command<'a> {
-    /// Run the task `top` of the file `source`, for at most `limit` ticks, with the file `data` where one is named.
+    /// Run the task `top` of the file `source` by so many workers, 1 to 64, for at most `limit` ticks, with the file `data`
+    /// where one is named.
     Run {
         source: &'a str,
         top: &'a str,
         data: Option<&'a str>,
+        workers: u32,
         limit: u64,
     },
     /// Build the circuit of the task `top` of the file `source`.
@@ -22,19 +24,31 @@ pub enum Command<'a> {
         aim: PlanAim,
     },
     /// Simulate the design of the Verilog text in the file `text`, for at most `limit` cycles, with the file `data` where one
-    /// is named.
+    /// is named, and show this of it.
     Cosim {
         text: &'a str,
         data: Option<&'a str>,
         limit: u64,
+        aim: CosimAim,
+    },
+    /// Show the values of the net `net` in the value change dump of the file `file`.
+    Vcd {
+        file: &'a str,
+        net: &'a str,
+    },
+    /// Generate the network of so many layers, 0 to 126, run it by so many workers, 1 to 64, build and simulate it.
+    Gen {
+        layers: u32,
+        workers: u32,
     },
 }
 
-/// How a plan is looked for: one of least cost, or the first that fits.
+/// How a plan is looked for: one of least cost, the first that fits, or one by halving the device level by level.
 #[derive(Clone, Copy)]
 pub enum PlanMode {
     Exact,
     Fit,
+    Split,
 }
 
 /// What a plan is for: its lines are told, or a circuit is built by it, whose streams get latency at the borders of slots
@@ -43,6 +57,13 @@ pub enum PlanMode {
 pub enum PlanAim {
     Lines,
     Circuit { balanced: bool },
+}
+
+/// What a simulation shows: the report of its streams and memories, or the value change dump of the top module's nets.
+#[derive(Clone, Copy)]
+pub enum CosimAim {
+    Report,
+    Dump,
 }
 
 /// Why words are not read.

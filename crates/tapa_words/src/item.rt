@@ -1,6 +1,7 @@
 ghost use Rattle.std.specs.Prelude.{◌≡◌, map, Some, option_map};
 ghost use Rattle.std.specs.List.{list_any};
-ghost use Rattle.tapa_words.specs.Words.{texts, is_option, step_of, option_step, option_kind, name_in, value_in, items_of, is_named, is_each_once, positionals, value_of};
+ghost use Rattle.tapa_words.specs.Words.{texts, is_option, option_kind, is_named, is_each_once, positionals, value_of};
+ghost use Rattle.tapa_words.specs.Reading.{step_of, option_step, name_in, value_in, items_of};
 ghost use Rattle.tapa_words.specs.Meaning.{item, next, step, Answers};
 
 use crate::command::WordsFault;

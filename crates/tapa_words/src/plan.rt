@@ -1,7 +1,7 @@
-ghost use Rattle.std.specs.Prelude.{◌≡◌, ◌≤◌, map, option_map, IfOk};
-ghost use Rattle.tapa_words.specs.Words.{command_by, mode_or, most_limit};
+ghost use Rattle.std.specs.Prelude.{◌≡◌, map, option_map, IfOk};
+ghost use Rattle.tapa_words.specs.Words.{command_by, mode_or, IsInRange};
 ghost use Rattle.tapa_words.specs.declared.verb.Verb.TheVariants.{Planning};
-ghost use Rattle.tapa_words.specs.Meaning.{command, item, limit_in, Answers};
+ghost use Rattle.tapa_words.specs.Meaning.{command, item, Answers};
 
 use crate::command::{Command, PlanAim, PlanMode, WordsFault};
 use crate::item::{Item, positional_words, value};
@@ -18,6 +18,8 @@ pub(crate) fn mode_by(value: Option<&str>) -> Option<PlanMode>
                 Some(PlanMode::Exact)
             } else if word == "fit" {
                 Some(PlanMode::Fit)
+            } else if word == "split" {
+                Some(PlanMode::Split)
             } else {
                 None
             }
@@ -28,7 +30,7 @@ pub(crate) fn mode_by(value: Option<&str>) -> Option<PlanMode>
 /// `plan SRC TOP DEV [--plan MODE]`, by its items.
 pub(crate) fn read_plan<'a>(alloc: Global, items: &[Item<'a>]) -> Result<Command<'a>, WordsFault>
     ensures asked { Answers command result (command_by Planning (map item items.now)) }
-    ensures limit { IfOk result (λ asked. limit_in asked ≤ most_limit) }
+    ensures range { IfOk result (λ asked. IsInRange (command asked)) }
 {
     let words = positional_words(alloc, items)?;
     let mode = match mode_by(value("--plan", items)) {

@@ -1,5 +1,6 @@
+// The commands, and the options that each has.
 ghost use Rattle.std.specs.Prelude.{◌≡◌};
-ghost use Rattle.tapa_words.specs.Words.{verb_of, option_kind, valued as valued_lem};
+ghost use Rattle.tapa_words.specs.Words.{verb_of, option_kind};
 
 // The commands.
 #[derive(Clone, Copy)]
@@ -8,6 +9,8 @@ pub(crate) enum Verb {
     Building,
     Planning,
     Simulating,
+    Showing,
+    Generating,
 }
 
 // Whether an option has a value.
@@ -15,17 +18,6 @@ pub(crate) enum Verb {
 pub(crate) enum OptionKind {
     Valued,
     Bare,
-}
-
-// An option with a value, where this is one of a command.
-fn valued(is_one: bool) -> Option<OptionKind>
-    ensures { result ≡ valued_lem is_one }
-{
-    if is_one {
-        Some(OptionKind::Valued)
-    } else {
-        None
-    }
 }
 
 impl Verb {
@@ -41,6 +33,10 @@ impl Verb {
             Some(Verb::Planning)
         } else if word == "cosim" {
             Some(Verb::Simulating)
+        } else if word == "vcd" {
+            Some(Verb::Showing)
+        } else if word == "gen" {
+            Some(Verb::Generating)
         } else {
             None
         }
@@ -50,17 +46,19 @@ impl Verb {
     pub(crate) fn option(self, name: &str) -> Option<OptionKind>
         ensures { result ≡ option_kind self name.now }
     {
+        let valued = Some(OptionKind::Valued);
+        let bare = Some(OptionKind::Bare);
         match self {
-            Verb::Running => valued(name == "--steps"),
-            Verb::Building => {
-                if name == "--no-balance" {
-                    Some(OptionKind::Bare)
-                } else {
-                    valued(name == "--device" || name == "--plan")
-                }
-            }
-            Verb::Planning => valued(name == "--plan"),
-            Verb::Simulating => valued(name == "--cycles"),
+            Verb::Running if name == "--workers" => valued,
+            Verb::Running if name == "--steps" => valued,
+            Verb::Building if name == "--device" => valued,
+            Verb::Building if name == "--plan" => valued,
+            Verb::Building if name == "--no-balance" => bare,
+            Verb::Planning if name == "--plan" => valued,
+            Verb::Simulating if name == "--cycles" => valued,
+            Verb::Simulating if name == "--vcd" => bare,
+            Verb::Generating if name == "--workers" => valued,
+            _ => None,
         }
     }
 }

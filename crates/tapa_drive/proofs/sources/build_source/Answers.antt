@@ -9,7 +9,7 @@ returns-in-Err g c = λ words errors told asked.
     let files = g.S.Shelf.files c.args.shelf.now in
     let reads = g.S.Shelf.faults c.args.shelf.now in
     let old = written (g.O.Sink.contents c.args.out.now) (g.O.Sink.faults c.args.out.now) in
-    not_found words files (Build c.args.source.now c.args.top.now) asked reads old errors told
+    not_found words files (Build c.args.source.now c.args.top.now) asked c.args.source.now (λ file e. e) reads old errors told
     (g.S.Shelf.files c.read_source.new.shelf) (g.S.Shelf.faults c.read_source.new.shelf) c.in-Err.ensures.asks.same_files c.in-Err.ensures.asks.later c.in-Err.ensures.asks.others
     c.in-Err.refusal c.in-Err.ensures.refused
 

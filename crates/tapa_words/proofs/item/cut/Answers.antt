@@ -1,6 +1,6 @@
 use Rattle.std.proofs.Common.{Some, None, arith, ap, sym, ◌∙◌}
 use Rattle.std.proofs.lemmas.Str.Pattern.{split_parts}
-use Rattle.tapa_words.specs.Words.{name_in, value_in}
+use Rattle.tapa_words.specs.Reading.{name_in, value_in}
 use Rattle.tapa_words.proofs.Cuts.{name_at, value_at, name_whole, value_none}
 use Rattle.tapa_words.proofs.item.cut.Goals as goal
 

@@ -1,5 +1,6 @@
 use Rattle.std.proofs.Common.{◌≡◌, ◌++◌, map, drop, option_map}
-use Rattle.tapa_words.specs.Words.{AnyWord, items_from, texts}
+use Rattle.tapa_words.specs.Words.{texts}
+use Rattle.tapa_words.specs.Reading.{AnyWord, items_from}
 use Rattle.tapa_words.specs.Meaning.{item, next}
 use Rattle.tapa_words.proofs.item.read_items.Given as goal
 
