@@ -13,11 +13,12 @@ use Rattle.tapa_syntax.specs.declared.program.Memory.{Memory}
 use Rattle.tapa_syntax.specs.declared.program.Program.{Program}
 use Rattle.kahn_model.specs.Cells.{is_memory, stored, after_stores, memory_at, owner_of, cells_at}
 use Rattle.kahn_model.specs.Counts.{ticks_made}
+use Rattle.kahn_model.specs.ProgramNetwork.{is_detached}
 use Rattle.kahn_model.specs.Start.{network_of}
 use Rattle.kahn_model.specs.Trace.{with_cell}
 use Rattle.task_fsm.specs.Run.{cells_after}
 use Rattle.net_core.specs.declared.net_state.NetState.{NetState}
-use Rattle.net_core.specs.Bindings.{stream_at, Reads, Writes}
+use Rattle.net_core.specs.Bindings.{detached_at, stream_at, Reads, Writes}
 use Rattle.net_core.specs.Bounded.{scalars_of, memories_of, network_on, instance_job, count_of, IsBodyAt}
 use Rattle.net_core.specs.Job.{Job}
 use Rattle.net_core.specs.Placement.{tick_at}
@@ -119,6 +120,16 @@ module _ (program : Program) (scalars : List ℕ) (memories : List (List ℕ)) (
   pub unlisted : (x : Instance) → slice_get program.instances.items o.owner ≡ Some x → IsNotBound x.memories.items m → (cells : List ℕ) → cells ≡ first → cells ≡ cells_at program scalars memories k m
   unlisted x there none cells same =
       same ∙ sym (unbound (memory_at (slice_get program.instances.items o.owner)) m first (ticks_made (network_of program scalars memories) k o.owner) (not_among (slice_get program.instances.items o.owner) x m there none)) ∙ owned
+
+-- whether the instance is detached
+pub owner_absent : (program : Program) (m : ℕ) (o : Memory) → slice_get program.memories.items m ≡ Some o → (xs : List Instance) → xs ≡ program.instances.items → length xs ≤ o.owner → false ≡ detached_at program (owner_of (slice_get program.memories.items m))
+owner_absent program m o at xs is past =
+    sym
+    (ap (λ (x : Option Memory). is_detached (slice_get program.instances.items (owner_of x))) at
+    ∙ ap is_detached (slice_get_past program.instances.items o.owner (subst (λ (l : List Instance). length l ≤ o.owner) is past)))
+
+pub owner_there : (program : Program) (m : ℕ) (o : Memory) → slice_get program.memories.items m ≡ Some o → (x : Instance) → slice_get program.instances.items o.owner ≡ Some x → x.detached ≡ detached_at program (owner_of (slice_get program.memories.items m))
+owner_there program m o at x there = sym (ap (λ (y : Option Memory). is_detached (slice_get program.instances.items (owner_of y))) at ∙ ap is_detached there)
 
 -- what a coroutine holds at the position at which the memory is bound
 pub listed : (net : NetState) → IsValid net → (m p : ℕ) (o : Memory) (x : Instance) (c : Coro) (cells : List ℕ) → slice_get net.program.memories.items m ≡ Some o → slice_get net.program.instances.items o.owner ≡ Some x → slice_get x.memories.items p ≡ Some m → IsBodyAt (IsCoroOf c) net.program net.input net.counts o.owner → ((job : Job) (ts : List Tick) → IsCoroOf c job ts → cells ≡ slice_index_or (cells_after ts job.cells) p []) → cells ≡ cells_at net.program (scalars_of net.input) (memories_of net.input) (count_of net.counts) m

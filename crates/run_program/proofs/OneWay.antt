@@ -29,7 +29,7 @@ use Rattle.run_data.specs.declared.lines.Last.{Last}
 use Rattle.run_data.specs.declared.lines.Last.TheVariants as last_line_of
 use Rattle.run_program.specs.Laws.{RunMeaning, Done, Stopped, Limit, Runs}
 use Rattle.net_core.specs.Bindings.{detached_at}
-use Rattle.run_program.specs.Run.{Values, network, ticks_of, tokens_at, cells_shown, stream_lines, memory_lines, lines_at, report_of, label_of, read_line, write_line, bad_line, IsWaitLine, AreWaitLines, DoneRun, StoppedRun, LimitRun}
+use Rattle.run_program.specs.Run.{Values, network, ticks_of, tokens_at, hides_stores, cells_shown, stream_lines, memory_lines, lines_at, report_of, label_of, read_line, write_line, bad_line, IsWaitLine, AreWaitLines, DoneRun, StoppedRun, LimitRun}
 use Rattle.run_program.proofs.Running.{size_of, done_run, stopped_run}
 
 -- ---- the same lines of waiting instances, whose labels alone are shown
@@ -106,13 +106,16 @@ module _ (p q : Program) (same : flat_program p ≡ flat_program q) (values : Va
       detached_alike (slice_get p.instances.items i) (slice_get q.instances.items i)
       (sym (slice_get-map flat_instance p.instances.items i) ∙ ap (λ (l : List FlatInstance). slice_get l i) instances ∙ slice_get-map flat_instance q.instances.items i)
 
+  hides : (last : Last) (m : ℕ) → hides_stores p last m ≡ hides_stores q last m
+  hides (last_line_of.Done t) m =
+      ap (λ (ms : List Memory). detached_at p (owner_of (slice_get ms m))) memories ∙ detached (owner_of (slice_get q.memories.items m))
+  hides (last_line_of.Stopped t) m = refl
+  hides (last_line_of.Running t) m = refl
+
   shown : (k : ℕ → ℕ) (last : Last) → cells_shown p values k last ≡ cells_shown q values k last
-  shown k (last_line_of.Done t) = fun_ext (λ m.
-      ap (λ (ms : List Memory). if detached_at p (owner_of (slice_get ms m)) then slice_index_or values.memories m [] else cells_at p values.scalars values.memories k m) memories
-      ∙ ap (λ (b : Bool). if b then slice_index_or values.memories m [] else cells_at p values.scalars values.memories k m) (detached (owner_of (slice_get q.memories.items m)))
-      ∙ ap (λ (c : ℕ → List ℕ). if detached_at q (owner_of (slice_get q.memories.items m)) then slice_index_or values.memories m [] else c m) (cells k))
-  shown k (last_line_of.Stopped t) = cells k
-  shown k (last_line_of.Running t) = cells k
+  shown k last = fun_ext (λ m.
+      ap (λ (b : Bool). if b then slice_index_or values.memories m [] else cells_at p values.scalars values.memories k m) (hides last m)
+      ∙ ap (λ (c : ℕ → List ℕ). if hides_stores q last m then slice_index_or values.memories m [] else c m) (cells k))
 
   lines : (k : ℕ → ℕ) (last : Last) → lines_at p values k last ≡ lines_at q values k last
   lines k last =

@@ -1,6 +1,6 @@
 -- The run of a flat program on an input at its declared depths, within a limit on ticks: how it ends, what its report is, and
 -- what a stopped one waits for.
-use Rattle.std.specs.Prelude.{◌≡◌, ◌⊎◌, ℕ, suc, ◌<◌, if◌then◌else◌, List, [], ◌∷◌, ◌++◌, length, codes, option_map, unwrap_or, slice_get, slice_index_or, Some}
+use Rattle.std.specs.Prelude.{◌≡◌, ◌⊎◌, ℕ, suc, ◌<◌, Bool, false, if◌then◌else◌, List, [], ◌∷◌, ◌++◌, length, codes, option_map, unwrap_or, slice_get, slice_index_or, Some}
 use Rattle.tapa_base.specs.declared.token.Token.{Token}
 use Rattle.tapa_syntax.specs.declared.program.Instance.{Instance}
 use Rattle.tapa_syntax.specs.declared.program.Memory.{Memory}
@@ -54,12 +54,16 @@ tokens_at net k (Done t) s = outcome.shown net k s
 tokens_at net k (Stopped t) s = written net k s
 tokens_at net k (Running t) s = written net k s
 
--- what it shows of memory m: the cells at the count; but where the run is done, the first cells of a memory whose instance is
--- detached, and may be anywhere. Such a memory of a legal source is const, so that no store changes it
+-- where a run is done, a report does not show what a detached instance has done to a memory
+abbrev pub hides_stores : Program → Last → ℕ → Bool
+hides_stores program (Done t) m = detached_at program (owner_of (slice_get program.memories.items m))
+hides_stores program (Stopped t) m = false
+hides_stores program (Running t) m = false
+
+-- what it shows of memory m: the cells at the count, or the first ones. A memory of a detached instance is const in a legal
+-- source, so that no store changes it
 abbrev pub cells_shown : Program → Values → (ℕ → ℕ) → Last → ℕ → List ℕ
-cells_shown program values k (Done t) m = if detached_at program (owner_of (slice_get program.memories.items m)) then slice_index_or values.memories m [] else cells_at program values.scalars values.memories k m
-cells_shown program values k (Stopped t) m = cells_at program values.scalars values.memories k m
-cells_shown program values k (Running t) m = cells_at program values.scalars values.memories k m
+cells_shown program values k last m = if hides_stores program last m then slice_index_or values.memories m [] else cells_at program values.scalars values.memories k m
 
 -- the lines of the streams from number s on, with the tokens of each
 abbrev pub stream_lines : (ℕ → List Token) → ℕ → List Stream → List ℕ

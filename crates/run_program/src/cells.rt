@@ -4,7 +4,7 @@ ghost use Rattle.kahn_model.specs.Cells.{cells_at};
 ghost use Rattle.net_core.specs.Bounded.{scalars_of, memories_of};
 ghost use Rattle.net_core.specs.State.{count};
 ghost use Rattle.net_core.specs.Bindings.{detached_at};
-ghost use Rattle.run_program.specs.Run.{values_of, cells_shown, IsNotBound};
+ghost use Rattle.run_program.specs.Run.{values_of, hides_stores, cells_shown, IsNotBound};
 ghost use Rattle.kahn_model.specs.Cells.{owner_of};
 
 use coro_machine::Coro;
@@ -65,14 +65,25 @@ fn last_cells<'a>(
 
 // Whether the instance that a memory is bound to is detached.
 fn is_of_detached(program: &Program, m: usize) -> bool
-    requires memory { m < length program.now.memories.items }
+    requires { m < length program.now.memories.items }
     ensures { result ≡ detached_at program.now (owner_of (slice_get program.now.memories.items m)) }
 {
-    let owner = program.memories[m].owner as usize;
-    if owner < program.instances.len() {
-        is_detached(program, owner)
-    } else {
-        false
+    let owner = program.memories[m].owner;
+    let Some(instance) = program.instances.get(owner as usize) else {
+        return false;
+    };
+    instance.detached
+}
+
+// Whether a report with this last line shows a memory without the stores of its instance.
+fn hides_stores(program: &Program, last: Last, m: usize) -> bool
+    requires { m < length program.now.memories.items }
+    ensures { result ≡ hides_stores program.now last m }
+{
+    match last {
+        Last::Done(_) => is_of_detached(program, m),
+        Last::Stopped(_) => false,
+        Last::Running(_) => false,
     }
 }
 
@@ -90,14 +101,8 @@ pub(crate) fn shown_cells<'a>(
     requires memory { m < length program.now.memories.items }
     ensures { IfOk result (λ cells. cells.now ≡ cells_shown program.now (values_of input.now) (count net.now) last m) }
 {
-    match last {
-        Last::Done(_) => {
-            if is_of_detached(program, m) {
-                return Ok(first_cells(input, m));
-            }
-            last_cells(program, input, net, m)
-        }
-        Last::Stopped(_) => last_cells(program, input, net, m),
-        Last::Running(_) => last_cells(program, input, net, m),
+    if hides_stores(program, last, m) {
+        return Ok(first_cells(input, m));
     }
+    last_cells(program, input, net, m)
 }
