@@ -10,7 +10,7 @@ tests/README.md says how cases are written.
 import os
 import sys
 
-from runner import circuits, crates, documents, endings, examples, faults, house, icarus, inputs, limits, pipelines, plans, reference, sessions, sources, texts, tools, values, words
+from runner import circuits, crates, documents, endings, examples, faults, halving, house, icarus, inputs, limits, pipelines, plans, reference, sessions, sources, texts, tools, values, words
 from runner.trial import Trial
 
 
@@ -19,6 +19,7 @@ GROUPS = [
     ("data", inputs.try_all),
     ("runs", sessions.try_all),
     ("plans", plans.try_all),
+    ("halving", halving.try_all),
     ("texts", texts.try_all),
     ("values", values.try_all),
     ("words", words.try_all),

@@ -3,7 +3,7 @@ use Rattle.std.proofs.Common.{ℕ, List, Result, Ok, Err, IfOk, IfErr, inl, inr}
 use Rattle.std.specs.Io.KnownBytes.{Appends}
 use Rattle.command_source.specs.Meaning.{refusal_of}
 use Rattle.command_source.specs.Outside.{Written}
-use Rattle.command_source.specs.Refusal.{Refusal, Usage, Read, Write, TooLong, Source, Data, Ticks, Stopped, Device, TooManyPlans, NoPlan, NoRoom, Verilog, DesignData, Undone, Memory}
+use Rattle.command_source.specs.Refusal.{Refusal, Usage, Read, Write, TooLong, Source, Data, Ticks, Stopped, Device, TooManyPlans, NoPlan, NoRoom, NoHalving, Verilog, DesignData, Undone, Memory}
 use Rattle.command_source.specs.declared.refusal.Refusal.{Refusal as CodeRefusal}
 use Rattle.command_plans.specs.Unwritten.{HasPartOfText, IsUnwritten}
 
@@ -33,6 +33,7 @@ module _ (old new : Written) (P Q : List ℕ → Type 0) (also : (told : List �
   unwritten_by (TooManyPlans slots free) h = absurd h
   unwritten_by NoPlan h = absurd h
   unwritten_by (NoRoom label) h = absurd h
+  unwritten_by (NoHalving level) h = absurd h
   unwritten_by (Verilog file fault) h = absurd h
   unwritten_by (DesignData file fault) h = absurd h
   unwritten_by (Undone most) h = absurd h

@@ -4,7 +4,7 @@ use Rattle.tapa_syntax.specs.declared.program.Program.{Program}
 use Rattle.tapa_words.specs.declared.command.PlanAim.{PlanAim}
 use Rattle.tapa_words.specs.declared.command.PlanAim.TheVariants.{Lines, Circuit}
 use Rattle.tapa_words.specs.declared.command.PlanMode.{PlanMode}
-use Rattle.tapa_words.specs.declared.command.PlanMode.TheVariants as words_mode
+use Rattle.tapa_words.specs.declared.command.PlanMode.TheVariants.{Exact, Fit, Split}
 use Rattle.task_graph.specs.declared.Graph.{Graph}
 use Rattle.task_graph.specs.Programs.{IsGraphOf}
 use Rattle.task_graph.specs.Streams.{least_of}
@@ -14,25 +14,40 @@ use Rattle.plan_device.specs.declared.device.Device.{Device}
 use Rattle.plan_device.specs.Answer.{IsDeviceOf, IsFirstFault}
 use Rattle.run_data.specs.Data.{IsJson}
 use Rattle.serde_json.specs.Data.{Data as Json}
-use Rattle.slot_plan.specs.declared.floorplan.Mode.{Mode}
-use Rattle.slot_plan.specs.declared.floorplan.Mode.TheVariants.{Exact, Fit}
+use Rattle.slot_plan.specs.declared.floorplan.Mode.TheVariants as floorplan_mode
 use Rattle.slot_plan.specs.declared.floorplan.Plan.{Plan}
+use Rattle.slot_plan.specs.declared.floorplan.PlanFault.{PlanFault}
 use Rattle.slot_plan.specs.declared.floorplan.PlanFault.TheVariants.{NoFit, TooMany}
 use Rattle.slot_plan.specs.Causes.{IsPlanBy, IsCause, AreUsed}
 use Rattle.slot_plan.specs.Plan.{IsPlanOf, cost}
+use Rattle.slot_split.specs.declared.planning.SplitFault.TheVariants as split_fault
+use Rattle.slot_split.specs.Causes.{IsSplitCause}
+use Rattle.slot_split.specs.Halving.{IsHalvingPlan}
 use Rattle.plan_report.specs.Added.{AreAdded}
 use Rattle.plan_report.specs.Borders.{AreBorderLatencies}
 use Rattle.plan_report.specs.Lines.{plan_lines}
 use Rattle.run_program.specs.Ending.{joined}
-use Rattle.command_source.specs.Refusal.{Refusal, DeviceFault, NoJson, HasFault, TooManyPlans, NoPlan, NoRoom, Memory}
+use Rattle.command_source.specs.Refusal.{Refusal, DeviceFault, NoJson, HasFault, TooManyPlans, NoPlan, NoRoom, NoHalving, Memory}
 use Rattle.command_source.specs.Source.{IsProgramOf}
 use Rattle.command_plans.specs.Built.{IsCircuitText}
 
--- the mode that the words name, where it is one of these
-abbrev pub mode_of : PlanMode → Option Mode
-mode_of words_mode.Exact = Some Exact
-mode_of words_mode.Fit = Some Fit
-mode_of words_mode.Split = None
+-- the least plan of all, first fit's, or the plan by halving
+abbrev pub IsPlanFor : Graph → Device → PlanMode → List ℕ → Type 0
+IsPlanFor graph device Exact slots = IsPlanBy graph device floorplan_mode.Exact slots
+IsPlanFor graph device Fit slots = IsPlanBy graph device floorplan_mode.Fit slots
+IsPlanFor graph device Split slots = IsHalvingPlan graph device slots
+
+-- why a mode finds none; halving has two parts for each free group to be in
+abbrev pub IsFaultOf : Graph → Device → PlanMode → PlanFault → Type 0
+IsFaultOf graph device Exact fault = IsCause graph device floorplan_mode.Exact fault
+IsFaultOf graph device Fit fault = IsCause graph device floorplan_mode.Fit fault
+IsFaultOf graph device Split (TooMany slots free) = (slots ≡ 2) × IsSplitCause graph device (split_fault.TooMany free)
+IsFaultOf graph device Split _ = ⊥
+
+-- no list of regions fits at a level of halving
+abbrev pub IsUnhalved : Graph → Device → PlanMode → ℕ → Type 0
+IsUnhalved graph device Split level = IsSplitCause graph device (split_fault.NoSplit level)
+IsUnhalved graph device mode level = ⊥
 
 -- these are the lines of a plan, of its border latencies, and of a balance that takes the fewest registers, with a flow that
 -- shows it
@@ -44,9 +59,9 @@ pub record AreLinesOf (graph : Graph) (device : Device) (plan : Plan) (lines : L
   pub told : lines ≡ plan_lines graph device plan latencies balance
 
 -- the plan keeps the pins and the capacities and is one by a mode, with what its slots use and what it costs
-pub record IsFound (graph : Graph) (device : Device) (mode : Mode) (plan : Plan) : Type 0 where
+pub record IsFound (graph : Graph) (device : Device) (mode : PlanMode) (plan : Plan) : Type 0 where
   pub fits : IsPlanOf graph device plan.slot.items
-  pub by : IsPlanBy graph device mode plan.slot.items
+  pub by : IsPlanFor graph device mode plan.slot.items
   pub used : AreUsed graph device plan.slot.items plan.used.items
   pub cost : plan.cost ≡ cost graph device plan.slot.items
 
@@ -70,10 +85,11 @@ abbrev pub first_label : Graph → ℕ → List ℕ
 first_label graph group = unwrap_or (slice_get graph.labels.items (least_of graph.group.items group)) []
 
 -- why a graph has no plan on a device by a mode
-abbrev pub IsUnplanned : Graph → Device → Mode → Refusal → Type 0
-IsUnplanned graph device mode (TooManyPlans slots free) = IsCause graph device mode (TooMany slots free)
-IsUnplanned graph device mode NoPlan = IsCause graph device mode (NoFit None)
-IsUnplanned graph device mode (NoRoom label) = (group : ℕ) × (label ≡ first_label graph group) × IsCause graph device mode (NoFit (Some group))
+abbrev pub IsUnplanned : Graph → Device → PlanMode → Refusal → Type 0
+IsUnplanned graph device mode (TooManyPlans slots free) = IsFaultOf graph device mode (TooMany slots free)
+IsUnplanned graph device mode NoPlan = IsFaultOf graph device mode (NoFit None)
+IsUnplanned graph device mode (NoRoom label) = (group : ℕ) × (label ≡ first_label graph group) × IsFaultOf graph device mode (NoFit (Some group))
+IsUnplanned graph device mode (NoHalving level) = IsUnhalved graph device mode level
 IsUnplanned graph device mode Memory = ⊤
 IsUnplanned graph device mode _ = ⊥
 
@@ -97,7 +113,7 @@ pub record HasBadDevice (text top bytes : List ℕ) (fault : DeviceFault) : Type
   pub has : HasDeviceFault program graph bytes fault
 
 -- the program of the source has no plan on the device
-pub record HasNoPlan (text top bytes : List ℕ) (mode : Mode) (why : Refusal) : Type 0 where
+pub record HasNoPlan (text top bytes : List ℕ) (mode : PlanMode) (why : Refusal) : Type 0 where
   pub program : Program
   pub graph : Graph
   pub device : Device
@@ -105,7 +121,7 @@ pub record HasNoPlan (text top bytes : List ℕ) (mode : Mode) (why : Refusal) :
   pub is : IsUnplanned graph device mode why
 
 -- what is told by a plan of the source's program on the device
-pub record HasPlan (text top bytes : List ℕ) (mode : Mode) (aim : PlanAim) (told : List ℕ) : Type 0 where
+pub record HasPlan (text top bytes : List ℕ) (mode : PlanMode) (aim : PlanAim) (told : List ℕ) : Type 0 where
   pub program : Program
   pub graph : Graph
   pub device : Device

@@ -6,4 +6,4 @@ mod plan_text;
 mod planning;
 
 pub use building::put_circuit;
-pub use planning::{mode_of, planned, put_aim, read_device_file};
+pub use planning::{planned, put_aim, read_device_file};

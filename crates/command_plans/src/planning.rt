@@ -3,19 +3,23 @@ ghost use Rattle.std.specs.Prelude.{◌≡◌, ℕ, List, length, Some, IfOk, If
 ghost use Rattle.std.specs.Io.KnownBytes.{Appends};
 ghost use Rattle.tapa_syntax.specs.WellFormed.{IsWellFormed};
 ghost use Rattle.task_graph.specs.Programs.{IsGraphOf};
+ghost use Rattle.task_graph.specs.declared.Graph.{Graph as GraphType};
 ghost use Rattle.task_graph.specs.Streams.{least_of};
 ghost use Rattle.plan_device.specs.Answer.{IsDeviceOf};
 ghost use Rattle.plan_device.specs.Devices.{IsDevice};
-ghost use Rattle.slot_plan.specs.Causes.{IsCause};
+ghost use Rattle.slot_plan.specs.Causes.{IsPlanBy, IsCause};
 ghost use Rattle.slot_plan.specs.Plan.{IsPlanOf};
+ghost use Rattle.slot_plan.specs.declared.floorplan.PlanFault.{PlanFault as PlanFaultType};
 ghost use Rattle.slot_plan.specs.declared.floorplan.PlanFault.TheVariants.{NoFit};
+ghost use Rattle.slot_split.specs.Causes.{IsSplitCause};
+ghost use Rattle.tapa_words.specs.declared.command.PlanMode.{PlanMode as PlanModeType};
 ghost use Rattle.hw_top_lines.specs.Legal.{HasOwnNames};
 ghost use Rattle.command_source.specs.Files.{OfData, AsksForData};
 ghost use Rattle.command_source.specs.Meaning.{refusal_of};
 ghost use Rattle.command_source.specs.Outside.{written};
 ghost use Rattle.command_plans.specs.Unwritten.{IsUnwritten};
 ghost use Rattle.command_plans.specs.Found.{IsNoDevice};
-ghost use Rattle.command_plans.specs.Planned.{mode_of as mode_lem, first_label as first_label_lem, IsCircuitBy, IsFound, IsToldBy, IsUnplanned};
+ghost use Rattle.command_plans.specs.Planned.{first_label as first_label_lem, IsCircuitBy, IsPlanFor, IsFaultOf, IsFound, IsToldBy, IsUnplanned};
 
 use crate::building::put_circuit;
 use crate::plan_text::put_plan;
@@ -23,23 +27,13 @@ use command_source::{DATA_LIMIT, Refusal, read_file};
 use plan_device::{Device, read_device};
 use plan_report::added_latencies;
 use slot_plan::{Mode, Plan, PlanFault, plan};
+use slot_split::{SplitFault, split};
 use std::alloc::{AllocError, Global};
 use tapa_base::position_of;
 use tapa_files::{Shelf, Sink};
 use tapa_syntax::Program;
 use tapa_words::{PlanAim, PlanMode};
 use task_graph::Graph;
-
-/// The mode that a word names, where it is one by which plans are looked for here.
-pub fn mode_of(mode: PlanMode) -> Option<Mode>
-    ensures { result ≡ mode_lem mode }
-{
-    match mode {
-        PlanMode::Exact => Some(Mode::Exact),
-        PlanMode::Fit => Some(Mode::Fit),
-        PlanMode::Split => None,
-    }
-}
 
 /// The device that a file on a shelf gives a program.
 pub fn read_device_file<'a, S: Shelf>(
@@ -87,7 +81,7 @@ fn first_label(alloc: Global, graph: &Graph, group: u32) -> Result<Vec<u8>, Allo
 
 // That no plan fits, or that a group finds no slot.
 fn no_fit<'a>(alloc: Global, graph: &Graph, group: Option<u32>) -> Refusal<'a>
-    ensures { (device : Device) (by : Mode) → IsCause graph.now device by (NoFit group) → IsUnplanned graph.now device by (refusal_of result) }
+    ensures { (device : Device) (mode : PlanModeType) → IsFaultOf graph.now device mode (NoFit group) → IsUnplanned graph.now device mode (refusal_of result) }
 {
     match group {
         None => Refusal::NoPlan,
@@ -100,7 +94,7 @@ fn no_fit<'a>(alloc: Global, graph: &Graph, group: Option<u32>) -> Refusal<'a>
 
 // Why there is no plan.
 fn refusal_by<'a>(alloc: Global, graph: &Graph, fault: PlanFault) -> Refusal<'a>
-    ensures { (device : Device) (by : Mode) → IsCause graph.now device by fault → IsUnplanned graph.now device by (refusal_of result) }
+    ensures { (device : Device) (mode : PlanModeType) → IsFaultOf graph.now device mode fault → IsUnplanned graph.now device mode (refusal_of result) }
 {
     match fault {
         PlanFault::TooMany { slots, free } => Refusal::TooManyPlans { slots, free },
@@ -109,21 +103,56 @@ fn refusal_by<'a>(alloc: Global, graph: &Graph, fault: PlanFault) -> Refusal<'a>
     }
 }
 
+// The least plan, or first fit's, or why there is none.
+fn planned_by<'a>(
+    alloc: Global,
+    graph: &Graph,
+    device: &Device,
+    by: Mode,
+) -> Result<Plan, Refusal<'a>>
+    requires { IsDevice graph.now device.now }
+    ensures plan { IfOk result (λ found. IsPlanOf graph.now device.now found.slot.items) }
+    ensures found { (mode : PlanModeType) → ((slots : List ℕ) → IsPlanBy graph.now device.now by slots → IsPlanFor graph.now device.now mode slots)
+        → IfOk result (λ found. IsFound graph.now device.now mode found) }
+    ensures refused { (mode : PlanModeType) → ((fault : PlanFaultType) → IsCause graph.now device.now by fault → IsFaultOf graph.now device.now mode fault)
+        → IfErr result (λ refusal. IsUnplanned graph.now device.now mode (refusal_of refusal)) }
+{
+    match plan(alloc, graph, device, by) {
+        Ok(found) => Ok(found),
+        Err(fault) => Err(refusal_by(alloc, graph, fault)),
+    }
+}
+
+// Why there is no plan by halving. Each group has two parts to be in.
+fn refusal_of_split<'a>(fault: SplitFault) -> Refusal<'a>
+    ensures { (graph : GraphType) (device : Device) → IsSplitCause graph device fault → IsUnplanned graph device PlanMode.Split (refusal_of result) }
+{
+    match fault {
+        SplitFault::TooMany { free } => Refusal::TooManyPlans { slots: 2, free },
+        SplitFault::NoSplit { level } => Refusal::NoHalving { level },
+        SplitFault::OutOfMemory => Refusal::Memory,
+    }
+}
+
 /// The plan of a graph on a device by a mode, or why there is none.
 pub fn planned<'a>(
     alloc: Global,
     graph: &Graph,
     device: &Device,
-    mode: Mode,
+    mode: PlanMode,
 ) -> Result<Plan, Refusal<'a>>
     requires { IsDevice graph.now device.now }
     ensures plan { IfOk result (λ found. IsPlanOf graph.now device.now found.slot.items) }
     ensures found { IfOk result (λ found. IsFound graph.now device.now mode found) }
     ensures refused { IfErr result (λ refusal. IsUnplanned graph.now device.now mode (refusal_of refusal)) }
 {
-    match plan(alloc, graph, device, mode) {
-        Ok(found) => Ok(found),
-        Err(fault) => Err(refusal_by(alloc, graph, fault)),
+    match mode {
+        PlanMode::Exact => planned_by(alloc, graph, device, Mode::Exact),
+        PlanMode::Fit => planned_by(alloc, graph, device, Mode::Fit),
+        PlanMode::Split => match split(alloc, graph, device) {
+            Ok(found) => Ok(found),
+            Err(fault) => Err(refusal_of_split(fault)),
+        },
     }
 }
 

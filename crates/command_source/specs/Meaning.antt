@@ -14,7 +14,7 @@ use Rattle.plan_device.specs.declared.fault.DeviceFault.TheVariants as device_fa
 use Rattle.vlog_tree.specs.declared.fault.VFault.{VFault}
 use Rattle.vlog_tree.specs.declared.fault.VFault.TheVariants as verilog_fault
 use Rattle.command_source.specs.declared.refusal.Refusal.{Refusal}
-use Rattle.command_source.specs.declared.refusal.Refusal.TheVariants.{Usage, Read, Write, TooLong, Source, Data, Ticks, Stopped, Device, TooManyPlans, NoPlan, NoRoom, Verilog, DesignData, Undone, Memory}
+use Rattle.command_source.specs.declared.refusal.Refusal.TheVariants.{Usage, Read, Write, TooLong, Source, Data, Ticks, Stopped, Device, TooManyPlans, NoPlan, NoRoom, NoHalving, Verilog, DesignData, Undone, Memory}
 
 -- a fault of data, told of a file
 abbrev pub data_refusal : List ℕ → FaultOfData → spec.Refusal
@@ -66,6 +66,7 @@ refusal_of (Device file fault) = device_refusal file.now fault
 refusal_of (TooManyPlans slots free) = spec.TooManyPlans slots free
 refusal_of NoPlan = spec.NoPlan
 refusal_of (NoRoom label) = spec.NoRoom label.items
+refusal_of (NoHalving level) = spec.NoHalving level
 refusal_of (Verilog file fault) = verilog_refusal file.now fault
 refusal_of (DesignData file fault) = design_refusal file.now fault
 refusal_of (Undone limit) = spec.Undone limit

@@ -54,6 +54,8 @@ pub data Refusal : Type 0 where
   NoPlan : Refusal
   -- first fit has no slot for the group of this instance
   NoRoom : (label : List ℕ) → Refusal
+  -- planning by halving has no list of regions that fits at this level
+  NoHalving : (level : ℕ) → Refusal
   -- a Verilog text has no design
   Verilog : (file : List ℕ) (fault : VerilogFault) → Refusal
   -- data are not what the design asks for
@@ -125,6 +127,7 @@ message_of (Device file fault) = codes "tapa: " ++ (file ++ (codes ": " ++ (devi
 message_of (TooManyPlans slots free) = codes "tapa: too many plans: " ++ (decimal slots ++ (codes " slots, " ++ (decimal free ++ codes " free groups\n")))
 message_of NoPlan = codes "tapa: no plan within capacity\n"
 message_of (NoRoom label) = codes "tapa: no room for " ++ (label ++ codes "\n")
+message_of (NoHalving level) = codes "tapa: no halving at level " ++ (decimal level ++ codes "\n")
 message_of (Verilog file (V1 place)) = codes "tapa: " ++ (file ++ (codes ":" ++ (decimal place.line ++ (codes ":" ++ (decimal place.col ++ (codes ": " ++ (codes "V1 no text of the subset" ++ codes "\n")))))))
 message_of (Verilog file (V2 name)) = codes "tapa: " ++ (file ++ (codes ": " ++ ((codes "V2 " ++ name) ++ codes "\n")))
 message_of (Verilog file (V3 name)) = codes "tapa: " ++ (file ++ (codes ": " ++ ((codes "V3 " ++ name) ++ codes "\n")))

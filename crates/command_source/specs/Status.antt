@@ -30,6 +30,7 @@ status_of (refusal.Device file fault) = Data
 status_of (refusal.TooManyPlans slots free) = Data
 status_of refusal.NoPlan = NoPlan
 status_of (refusal.NoRoom label) = NoPlan
+status_of (refusal.NoHalving level) = NoPlan
 status_of (refusal.Verilog file fault) = Source
 status_of (refusal.DesignData file fault) = Data
 status_of (refusal.Undone limit) = Limit

@@ -65,6 +65,10 @@ pub enum Refusal<'a> {
     NoRoom {
         label: Vec<u8>,
     },
+    /// Planning by halving has no list of regions that fits at this level.
+    NoHalving {
+        level: u32,
+    },
     /// Why a Verilog text has no design, or want of memory in its place.
     Verilog {
         file: &'a str,
@@ -128,6 +132,12 @@ fn plans_line(alloc: Global, slots: u32, free: u32) -> Result<Vec<u8>, OutOfMemo
     ensures { IfOk result (λ line. line.items ≡ message_of (Why.TooManyPlans slots free)) }
 {
     Ok(format!(in alloc; "tapa: too many plans: {slots} slots, {free} free groups\n")?.into_bytes())
+}
+
+fn halving_line(alloc: Global, level: u32) -> Result<Vec<u8>, OutOfMemory>
+    ensures { IfOk result (λ line. line.items ≡ message_of (Why.NoHalving level)) }
+{
+    Ok(format!(in alloc; "tapa: no halving at level {level}\n")?.into_bytes())
 }
 
 fn room_line(alloc: Global, label: &[u8]) -> Result<Vec<u8>, OutOfMemory>
@@ -319,6 +329,9 @@ pub fn tell<E: Sink>(alloc: Global, refusal: &Refusal<'_>, err: &mut E) -> Statu
         }
         Refusal::NoPlan => tell_line(NO_PLAN, Status::NoPlan, err),
         Refusal::NoRoom { label } => tell_made(room_line(alloc, label), Status::NoPlan, err),
+        Refusal::NoHalving { level } => {
+            tell_made(halving_line(alloc, *level), Status::NoPlan, err)
+        }
         Refusal::Verilog { file, fault } => tell_verilog(alloc, file, fault, err),
         Refusal::DesignData { file, fault } => tell_design_data(alloc, file, fault, err),
         Refusal::Undone { limit } => tell_made(undone_line(alloc, *limit), Status::Limit, err),

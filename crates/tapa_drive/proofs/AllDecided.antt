@@ -15,7 +15,7 @@ pub all_decided : (words : List (List ℕ)) (files : Option Files) (reads : List
 all_decided words files reads out errors after result h same = record {
   run = λ source top named workers limit asked meaning expects still. decided words files reads out errors after source top named workers limit asked meaning expects still result h same;
   lengthy = λ source top named workers limit asked long still. lengthy words files reads out errors after source top named workers limit asked long still result h;
-  plan = λ source top device word by aim names asked still. plan_decided words files reads out errors after source top device word by aim names asked still result h same;
+  plan = λ source top device mode aim asked still. plan_decided words files reads out errors after source top device mode aim asked still result h same;
   build = λ source top asked still. build_decided words files reads out errors after source top asked still result h same;
   cosim = λ name named limit asked still. cosim_decided words files reads out errors after name named limit asked still result h same;
   usage = λ none writes. usage words (outside files reads out errors) after none writes result h;

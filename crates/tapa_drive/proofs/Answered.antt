@@ -30,6 +30,7 @@ never (spec.Device file fault) e = cc
 never (spec.TooManyPlans slots free) e = cc
 never spec.NoPlan e = cc
 never (spec.NoRoom label) e = cc
+never (spec.NoHalving level) e = cc
 never (spec.Verilog file fault) e = cc
 never (spec.DesignData file fault) e = cc
 never (spec.Undone most) e = cc
@@ -74,6 +75,7 @@ module _ (words : List (List ℕ)) (before after : Outside) where
     says (code.TooManyPlans slots free) t f cause leaves = either (refusal_of (code.TooManyPlans slots free)) cause leaves (inl leaves) t
     says code.NoPlan t f cause leaves = either (refusal_of code.NoPlan) cause leaves (inl leaves) t
     says (code.NoRoom label) t f cause leaves = either (refusal_of (code.NoRoom label)) cause leaves (inl leaves) t
+    says (code.NoHalving level) t f cause leaves = either (refusal_of (code.NoHalving level)) cause leaves (inl leaves) t
     says (code.Verilog file (verilog_fault.V1 place)) t f cause leaves = either (refusal_of (code.Verilog file (verilog_fault.V1 place))) cause leaves (inl leaves) t
     says (code.Verilog file (verilog_fault.V2 name)) t f cause leaves = either (refusal_of (code.Verilog file (verilog_fault.V2 name))) cause leaves (inl leaves) t
     says (code.Verilog file (verilog_fault.V3 name)) t f cause leaves = either (refusal_of (code.Verilog file (verilog_fault.V3 name))) cause leaves (inl leaves) t

@@ -8,7 +8,7 @@ use Rattle.command_source.specs.Files.{OfFile, OfSource, source_limit}
 use Rattle.command_source.specs.Found.{IsNotTaken}
 use Rattle.command_source.specs.Meaning.{refusal_of}
 use Rattle.command_source.specs.Outside.{Outside, Written, outside}
-use Rattle.command_source.specs.Refusal.{Refusal, Usage, Read, Write, TooLong, Source, Data, Ticks, Stopped, Device, TooManyPlans, NoPlan, NoRoom, Verilog, DesignData, Undone, Memory}
+use Rattle.command_source.specs.Refusal.{Refusal, Usage, Read, Write, TooLong, Source, Data, Ticks, Stopped, Device, TooManyPlans, NoPlan, NoRoom, NoHalving, Verilog, DesignData, Undone, Memory}
 use Rattle.command_source.specs.Source.{IsProgramOf}
 use Rattle.command_source.specs.declared.refusal.Refusal.{Refusal as CodeRefusal}
 use Rattle.command_source.proofs.OfFiles.{of_file_also}
@@ -46,6 +46,7 @@ module _ (words : List (List ℕ)) (files : Option Files) (command : Command) (a
   not_found_cause files_new reads_new new (TooManyPlans slots free) h = absurd h
   not_found_cause files_new reads_new new NoPlan h = absurd h
   not_found_cause files_new reads_new new (NoRoom label) h = absurd h
+  not_found_cause files_new reads_new new (NoHalving level) h = absurd h
   not_found_cause files_new reads_new new (Verilog file fault) h = (command, asked, (first file h.0, h.1))
   not_found_cause files_new reads_new new (DesignData file fault) h = absurd h
   not_found_cause files_new reads_new new (Undone most) h = absurd h
@@ -64,6 +65,7 @@ module _ (words : List (List ℕ)) (files : Option Files) (command : Command) (a
   not_found_leaves files_new reads_new (TooManyPlans slots free) h = absurd h
   not_found_leaves files_new reads_new NoPlan h = absurd h
   not_found_leaves files_new reads_new (NoRoom label) h = absurd h
+  not_found_leaves files_new reads_new (NoHalving level) h = absurd h
   not_found_leaves files_new reads_new (Verilog file fault) h = refl
   not_found_leaves files_new reads_new (DesignData file fault) h = absurd h
   not_found_leaves files_new reads_new (Undone most) h = absurd h

@@ -11,7 +11,7 @@ use Rattle.sim_report.specs.declared.run.DesignEnd.TheVariants as design_end
 use Rattle.command_source.specs.Files.{OfFile, OfData, verilog_limit}
 use Rattle.command_source.specs.Meaning.{refusal_of}
 use Rattle.command_source.specs.Outside.{Outside, Written, outside}
-use Rattle.command_source.specs.Refusal.{Refusal, Usage, Read, Write, TooLong, Source, Data, Ticks, Stopped, Device, TooManyPlans, NoPlan, NoRoom, Verilog, DesignData, Undone, Memory, DataFault}
+use Rattle.command_source.specs.Refusal.{Refusal, Usage, Read, Write, TooLong, Source, Data, Ticks, Stopped, Device, TooManyPlans, NoPlan, NoRoom, NoHalving, Verilog, DesignData, Undone, Memory, DataFault}
 use Rattle.command_source.specs.declared.refusal.Refusal.{Refusal as CodeRefusal}
 use Rattle.command_source.specs.declared.refusal.Refusal.TheVariants as code
 use Rattle.command_source.proofs.OfFiles.{of_file_also}
@@ -53,6 +53,7 @@ module _ (words : List (List ℕ)) (files : Option Files) (name : List ℕ) (nam
   not_surrounded_cause (TooManyPlans slots free) h = absurd h
   not_surrounded_cause NoPlan h = absurd h
   not_surrounded_cause (NoRoom label) h = absurd h
+  not_surrounded_cause (NoHalving level) h = absurd h
   not_surrounded_cause (Verilog file fault) h = absurd h
   not_surrounded_cause (DesignData file fault) h = (command, asked, (h.0, bad_data fault h.1))
   not_surrounded_cause (Undone most) h = absurd h
@@ -71,6 +72,7 @@ module _ (words : List (List ℕ)) (files : Option Files) (name : List ℕ) (nam
   not_surrounded_leaves (TooManyPlans slots free) h = absurd h
   not_surrounded_leaves NoPlan h = absurd h
   not_surrounded_leaves (NoRoom label) h = absurd h
+  not_surrounded_leaves (NoHalving level) h = absurd h
   not_surrounded_leaves (Verilog file fault) h = absurd h
   not_surrounded_leaves (DesignData file fault) h = refl
   not_surrounded_leaves (Undone most) h = absurd h

@@ -2,19 +2,19 @@
 use Rattle.std.proofs.Common.{◌≡◌, ◌⊎◌, ◌≤◌, ◌<◌, ℕ, List, length, Option, Some, None, refl, sym, ap, ◌∙◌, subst, inl, inr, ⊎_elim}
 use Rattle.tapa_files.specs.Outside.{Files, file_bytes, Rose}
 use Rattle.tapa_files.specs.Take.{IsLongerThan}
+use Rattle.tapa_words.specs.declared.command.PlanMode.{PlanMode}
 use Rattle.tapa_words.specs.Words.{Command, Cosim, Asks}
-use Rattle.tapa_words.specs.Parts.{OnRun, OnBuild, OnCosim, IsToCome}
+use Rattle.tapa_words.specs.Parts.{OnRun, OnBuild, OnCosim, IsToCome, OnPlan}
 use Rattle.tapa_words.specs.declared.command.CosimAim.{CosimAim}
 use Rattle.tapa_words.specs.declared.command.CosimAim.TheVariants.{Report}
 use Rattle.tapa_words.specs.declared.command.PlanAim.{PlanAim}
-use Rattle.slot_plan.specs.declared.floorplan.Mode.{Mode}
 use Rattle.command_source.specs.Files.{OfFile, OfData, data_limit, verilog_limit, no_data, shown_name}
 use Rattle.command_source.specs.Outside.{Outside, Written, outside}
-use Rattle.command_source.specs.Refusal.{Refusal, Usage, Read, Write, TooLong, Source, Data, Ticks, Stopped, Device, TooManyPlans, NoPlan, NoRoom, Verilog, DesignData, Undone, Memory}
+use Rattle.command_source.specs.Refusal.{Refusal, Usage, Read, Write, TooLong, Source, Data, Ticks, Stopped, Device, TooManyPlans, NoPlan, NoRoom, NoHalving, Verilog, DesignData, Undone, Memory}
 use Rattle.command_source.specs.Told.{IsTold, IsToldAs}
 use Rattle.command_source.specs.declared.status.Status.{Status}
 use Rattle.command_source.specs.declared.status.Status.TheVariants as status
-use Rattle.tapa_drive.specs.Answer.{OfRun, OfBuild, OfPlan, OnPlanBy, OfCosim, OfReport, OfDesignTexts, IsFirst, most_in, IsTaken, IsRefusedIn, IsFaultyIn, IsReached, IsTooLong, IsDone, HasCause, Leaves, IsAnswer}
+use Rattle.tapa_drive.specs.Answer.{OfRun, OfBuild, OfPlan, OfCosim, OfReport, OfDesignTexts, IsFirst, most_in, IsTaken, IsRefusedIn, IsFaultyIn, IsReached, IsTooLong, IsDone, HasCause, Leaves, IsAnswer}
 use Rattle.tapa_drive.specs.CosimDecided.{DoneIn, StillRunning, Misgiven, Overlong, Refused, Lengthy, TellsCosimOf, TellsCosim}
 use Rattle.tapa_drive.specs.Decided.{Bytes, TooMany, IsGiven, IsRefusedWith, NothingFails}
 use Rattle.tapa_drive.specs.Designs.{HasDesign, IsRefusedText, HasBadDesignData, HasCosimmed, HasUndone}
@@ -52,8 +52,8 @@ module _ (words : List (List ℕ)) (files : Files) (reads : List ℕ → ℕ) (o
   not_run : {P : List ℕ → List ℕ → Option (List ℕ) → ℕ → Type 0} → OfRun words P → ⊥
   not_run {P = P} h = asked_of words command asked (OnRun P) h
 
-  not_planned : {P : List ℕ → List ℕ → List ℕ → Mode → PlanAim → Type 0} → OfPlan words P → ⊥
-  not_planned {P = P} h = asked_of words command asked (OnPlanBy P) h
+  not_planned : {P : List ℕ → List ℕ → List ℕ → PlanMode → PlanAim → Type 0} → OfPlan words P → ⊥
+  not_planned {P = P} h = asked_of words command asked (OnPlan P) h
 
   not_built : {P : List ℕ → List ℕ → Type 0} → OfBuild words P → ⊥
   not_built {P = P} h = asked_of words command asked (OnBuild P) h
@@ -109,6 +109,7 @@ module _ (words : List (List ℕ)) (files : Files) (reads : List ℕ → ℕ) (o
     of_reason (TooManyPlans slots free) h leaves told = absurd (not_planned h)
     of_reason NoPlan h leaves told = absurd (not_planned h)
     of_reason (NoRoom label) h leaves told = absurd (not_planned h)
+    of_reason (NoHalving level) h leaves told = absurd (not_planned h)
     of_reason (Verilog file fault) h leaves told =
         let c = asked_of words command asked (λ a. IsFirst a file × OfFile (Some files) (most_in a) file (λ text. IsFaultyIn a text fault)) h in
         let t = of_told_file files name (λ text. IsRefusedText text fault) (subst (λ (f : List ℕ). OfFile (Some files) verilog_limit f (λ text. IsRefusedText text fault)) (sym c.0) c.1) in

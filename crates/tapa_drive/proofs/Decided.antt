@@ -2,21 +2,21 @@
 use Rattle.std.proofs.Common.{◌≡◌, ◌⊎◌, ◌≤◌, ◌<◌, ℕ, List, length, Option, Some, None, refl, sym, ap, ◌∙◌, subst, inl, inr, ⊎_elim, arith}
 use Rattle.tapa_files.specs.Outside.{Files, file_bytes, Rose}
 use Rattle.tapa_files.specs.Take.{IsLongerThan}
+use Rattle.tapa_words.specs.declared.command.PlanMode.{PlanMode}
 use Rattle.tapa_words.specs.Words.{Command, Run, Asks, AskNothing}
-use Rattle.tapa_words.specs.Parts.{OfCommand, OnRun, OnBuild, OnCosim, IsToCome}
+use Rattle.tapa_words.specs.Parts.{OfCommand, OnRun, OnBuild, OnCosim, IsToCome, OnPlan}
 use Rattle.tapa_words.specs.declared.command.CosimAim.{CosimAim}
 use Rattle.tapa_words.specs.declared.command.PlanAim.{PlanAim}
 use Rattle.tapa_words.proofs.Asked.{asks_one}
-use Rattle.slot_plan.specs.declared.floorplan.Mode.{Mode}
 use Rattle.run_program.specs.Laws as run
 use Rattle.command_source.specs.Files.{OfFile, OfSource, OfData, source_limit, data_limit, shown_name}
 use Rattle.command_source.specs.Outside.{Outside, Written, outside}
-use Rattle.command_source.specs.Refusal.{Refusal, Usage, Read, Write, TooLong, Source, Data, Ticks, Stopped, Device, TooManyPlans, NoPlan, NoRoom, Verilog, DesignData, Undone, Memory, VerilogFault}
+use Rattle.command_source.specs.Refusal.{Refusal, Usage, Read, Write, TooLong, Source, Data, Ticks, Stopped, Device, TooManyPlans, NoPlan, NoRoom, NoHalving, Verilog, DesignData, Undone, Memory, VerilogFault}
 use Rattle.command_source.specs.Source.{IsRefusedSource}
 use Rattle.command_source.specs.Told.{IsTold, IsToldAs}
 use Rattle.command_source.specs.declared.status.Status.{Status}
 use Rattle.command_source.specs.declared.status.Status.TheVariants as status
-use Rattle.tapa_drive.specs.Answer.{OfRun, OfBuild, OfPlan, OnPlanBy, OfTexts, OfCosim, IsFirst, most_in, HasProgram, IsRefusedIn, IsFaultyIn, HasBadData, HasDone, HasStopped, HasLimit, IsReached, IsTooLong, IsDone, HasCause, Leaves, IsAnswer}
+use Rattle.tapa_drive.specs.Answer.{OfRun, OfBuild, OfPlan, OfTexts, OfCosim, IsFirst, most_in, HasProgram, IsRefusedIn, IsFaultyIn, HasBadData, HasDone, HasStopped, HasLimit, IsReached, IsTooLong, IsDone, HasCause, Leaves, IsAnswer}
 use Rattle.tapa_drive.specs.Decided.{SourceMeaning, Ran, Misgiven, Overlong, Refused, Given, Bytes, TooMany, IsGiven, Means, IsRefusedWith, Tells, WritesAll, NothingFails, Expects, IsLengthy}
 use Rattle.tapa_drive.proofs.OneMeaning.{means_one}
 
@@ -64,8 +64,8 @@ module _ (words : List (List ℕ)) (files : Files) (reads : List ℕ → ℕ) (o
   not_asked (inr h) = asked_of words command asked IsToCome h
 
   -- no plan, no circuit and no simulation was asked for
-  not_planned : {P : List ℕ → List ℕ → List ℕ → Mode → PlanAim → Type 0} → OfPlan words P → ⊥
-  not_planned {P = P} h = asked_of words command asked (OnPlanBy P) h
+  not_planned : {P : List ℕ → List ℕ → List ℕ → PlanMode → PlanAim → Type 0} → OfPlan words P → ⊥
+  not_planned {P = P} h = asked_of words command asked (OnPlan P) h
 
   not_built : {P : List ℕ → List ℕ → Type 0} → OfBuild words P → ⊥
   not_built {P = P} h = asked_of words command asked (OnBuild P) h
@@ -146,6 +146,7 @@ module _ (words : List (List ℕ)) (files : Files) (reads : List ℕ → ℕ) (o
     of_reason (TooManyPlans slots free) h leaves told = absurd (not_planned h)
     of_reason NoPlan h leaves told = absurd (not_planned h)
     of_reason (NoRoom label) h leaves told = absurd (not_planned h)
+    of_reason (NoHalving level) h leaves told = absurd (not_planned h)
     of_reason (Verilog file fault) h leaves told = absurd (not_faulty file fault h)
     of_reason (DesignData file fault) h leaves told = absurd (not_cosim h)
     of_reason (Undone most) h leaves told = absurd (not_cosim h)
@@ -193,6 +194,7 @@ module _ (words : List (List ℕ)) (files : Files) (reads : List ℕ → ℕ) (o
     too_long result (TooManyPlans slots free) h leaves told = absurd (not_planned h)
     too_long result NoPlan h leaves told = absurd (not_planned h)
     too_long result (NoRoom label) h leaves told = absurd (not_planned h)
+    too_long result (NoHalving level) h leaves told = absurd (not_planned h)
     too_long result (Verilog file fault) h leaves told = absurd (not_faulty file fault h)
     too_long result (DesignData file fault) h leaves told = absurd (not_cosim h)
     too_long result (Undone most) h leaves told = absurd (not_cosim h)
@@ -242,6 +244,7 @@ module _ (words : List (List ℕ)) (before after : Outside) (none : AskNothing w
   bad_words result (TooManyPlans slots free) h leaves told = absurd (not_command h)
   bad_words result NoPlan h leaves told = absurd (not_command h)
   bad_words result (NoRoom label) h leaves told = absurd (not_command h)
+  bad_words result (NoHalving level) h leaves told = absurd (not_command h)
   bad_words result (Verilog file fault) h leaves told = absurd (not_command h)
   bad_words result (DesignData file fault) h leaves told = absurd (not_command h)
   bad_words result (Undone most) h leaves told = absurd (not_command h)

@@ -6,7 +6,6 @@ use Rattle.tapa_syntax.specs.declared.program.Program.{Program}
 use Rattle.tapa_words.specs.Words.{Command, Plan, Asks}
 use Rattle.tapa_words.specs.declared.command.PlanAim.{PlanAim}
 use Rattle.tapa_words.specs.declared.command.PlanMode.{PlanMode}
-use Rattle.slot_plan.specs.declared.floorplan.Mode.{Mode}
 use Rattle.task_graph.specs.declared.Graph.{Graph}
 use Rattle.task_graph.specs.Programs.{IsGraphOf}
 use Rattle.plan_device.specs.declared.device.Device.{Device as DeviceOf}
@@ -15,12 +14,12 @@ use Rattle.slot_plan.specs.declared.floorplan.Plan.{Plan as FloorPlan}
 use Rattle.command_source.specs.Files.{OfSource, OfData}
 use Rattle.command_source.specs.Meaning.{refusal_of}
 use Rattle.command_source.specs.Outside.{Outside, Written, outside}
-use Rattle.command_source.specs.Refusal.{Refusal, Usage, Read, Write, TooLong, Source, Data, Ticks, Stopped, Device, TooManyPlans, NoPlan, NoRoom, Verilog, DesignData, Undone, Memory, DeviceFault}
+use Rattle.command_source.specs.Refusal.{Refusal, Usage, Read, Write, TooLong, Source, Data, Ticks, Stopped, Device, TooManyPlans, NoPlan, NoRoom, NoHalving, Verilog, DesignData, Undone, Memory, DeviceFault}
 use Rattle.command_source.specs.Source.{IsProgramOf}
 use Rattle.command_source.specs.declared.refusal.Refusal.{Refusal as CodeRefusal}
 use Rattle.command_plans.specs.Unwritten.{IsUnwritten}
 use Rattle.command_plans.specs.Found.{IsNoDevice}
-use Rattle.command_plans.specs.Planned.{mode_of, IsFound, IsToldBy, IsUnplanned, HasDeviceFault, IsAskedOn, HasBadDevice, HasNoPlan, HasPlan}
+use Rattle.command_plans.specs.Planned.{IsFound, IsToldBy, IsUnplanned, HasDeviceFault, IsAskedOn, HasBadDevice, HasNoPlan, HasPlan}
 use Rattle.command_plans.proofs.Put.{WritesWhole}
 use Rattle.tapa_drive.specs.Answer.{OfTexts, HasProgram, HasCause, HasFrontOf, IsDone, Leaves, ReadsAsked}
 use Rattle.tapa_drive.specs.Carried.{IsCarriedOut}
@@ -29,9 +28,9 @@ use Rattle.tapa_drive.proofs.Counts.{rose_since, later_all}
 use Rattle.tapa_drive.proofs.Put.{carried_out}
 use Rattle.tapa_drive.proofs.OfFiles.{of_both}
 
-module _ (words : List (List ℕ)) (files : Option Files) (source top name : List ℕ) (word : PlanMode) (mode : Mode) (aim : PlanAim) (names : mode_of word ≡ Some mode) (asked : Asks words (Plan source top name word aim)) (reads_old : List ℕ → ℕ) (old errors told : Written) (files_mid : Option Files) (reads_mid : List ℕ → ℕ) (same_mid : files_mid ≡ files) (later_mid : reads_old source ≤ reads_mid source) (others_mid : (other : List ℕ) → other ≢ source → reads_mid other ≡ reads_old other) (program : Program) (means : OfSource files source (λ text. IsProgramOf text top program)) (graph : Graph) (is_graph : IsGraphOf program graph) (files_new : Option Files) (reads_new : List ℕ → ℕ) (same_new : files_new ≡ files_mid) (others_new : (other : List ℕ) → Some name ≢ Some other → reads_new other ≡ reads_mid other) where
+module _ (words : List (List ℕ)) (files : Option Files) (source top name : List ℕ) (mode : PlanMode) (aim : PlanAim) (asked : Asks words (Plan source top name mode aim)) (reads_old : List ℕ → ℕ) (old errors told : Written) (files_mid : Option Files) (reads_mid : List ℕ → ℕ) (same_mid : files_mid ≡ files) (later_mid : reads_old source ≤ reads_mid source) (others_mid : (other : List ℕ) → other ≢ source → reads_mid other ≡ reads_old other) (program : Program) (means : OfSource files source (λ text. IsProgramOf text top program)) (graph : Graph) (is_graph : IsGraphOf program graph) (files_new : Option Files) (reads_new : List ℕ → ℕ) (same_new : files_new ≡ files_mid) (others_new : (other : List ℕ) → Some name ≢ Some other → reads_new other ≡ reads_mid other) where
   abbrev command : Command
-  command = Plan source top name word aim
+  command = Plan source top name mode aim
 
   abbrev before : Outside
   before = outside files reads_old old errors
@@ -55,10 +54,11 @@ module _ (words : List (List ℕ)) (files : Option Files) (source top name : Lis
   no_device_cause (Data file fault) h = absurd h
   no_device_cause (Ticks most) h = absurd h
   no_device_cause (Stopped lines) h = absurd h
-  no_device_cause (Device file fault) h = (command, asked, (mode, names, (h.0, bad_device fault h.1)))
+  no_device_cause (Device file fault) h = (command, asked, (h.0, bad_device fault h.1))
   no_device_cause (TooManyPlans slots free) h = absurd h
   no_device_cause NoPlan h = absurd h
   no_device_cause (NoRoom label) h = absurd h
+  no_device_cause (NoHalving level) h = absurd h
   no_device_cause (Verilog file fault) h = absurd h
   no_device_cause (DesignData file fault) h = absurd h
   no_device_cause (Undone most) h = absurd h
@@ -77,6 +77,7 @@ module _ (words : List (List ℕ)) (files : Option Files) (source top name : Lis
   no_device_leaves (TooManyPlans slots free) h = absurd h
   no_device_leaves NoPlan h = absurd h
   no_device_leaves (NoRoom label) h = absurd h
+  no_device_leaves (NoHalving level) h = absurd h
   no_device_leaves (Verilog file fault) h = absurd h
   no_device_leaves (DesignData file fault) h = absurd h
   no_device_leaves (Undone most) h = absurd h
@@ -114,9 +115,10 @@ module _ (words : List (List ℕ)) (files : Option Files) (source top name : Lis
     unplanned_cause (Ticks most) h = absurd h
     unplanned_cause (Stopped lines) h = absurd h
     unplanned_cause (Device file fault) h = absurd h
-    unplanned_cause (TooManyPlans slots free) h = (command, asked, (mode, names, no_plan (TooManyPlans slots free) h))
-    unplanned_cause NoPlan h = (command, asked, (mode, names, no_plan NoPlan h))
-    unplanned_cause (NoRoom label) h = (command, asked, (mode, names, no_plan (NoRoom label) h))
+    unplanned_cause (TooManyPlans slots free) h = (command, asked, no_plan (TooManyPlans slots free) h)
+    unplanned_cause NoPlan h = (command, asked, no_plan NoPlan h)
+    unplanned_cause (NoRoom label) h = (command, asked, no_plan (NoRoom label) h)
+    unplanned_cause (NoHalving level) h = (command, asked, no_plan (NoHalving level) h)
     unplanned_cause (Verilog file fault) h = absurd h
     unplanned_cause (DesignData file fault) h = absurd h
     unplanned_cause (Undone most) h = absurd h
@@ -135,6 +137,7 @@ module _ (words : List (List ℕ)) (files : Option Files) (source top name : Lis
     unplanned_leaves (TooManyPlans slots free) h = refl
     unplanned_leaves NoPlan h = refl
     unplanned_leaves (NoRoom label) h = refl
+    unplanned_leaves (NoHalving level) h = refl
     unplanned_leaves (Verilog file fault) h = absurd h
     unplanned_leaves (DesignData file fault) h = absurd h
     unplanned_leaves (Undone most) h = absurd h
@@ -162,10 +165,10 @@ module _ (words : List (List ℕ)) (files : Option Files) (source top name : Lis
           (λ text bytes a. (l, record { program = program; graph = graph; device = device; asked = a; plan = plan; found = found; is = is }, r))
 
       planned : (l : List ℕ) → IsText l → Appends old.bytes new.bytes l → IsDone words before after
-      planned l is shown = inr (inl (command, asked, (mode, names, of_text (λ l. Appends old.bytes new.bytes l) l is shown)))
+      planned l is shown = inr (inl (command, asked, of_text (λ l. Appends old.bytes new.bytes l) l is shown))
 
       has_front : (l : List ℕ) → IsText l → AppendsPart old.bytes new.bytes l → HasFrontOf words before after
-      has_front l is part = inr (inl (command, asked, (mode, names, of_text (λ l. AppendsPart old.bytes new.bytes l) l is part)))
+      has_front l is part = inr (inl (command, asked, of_text (λ l. AppendsPart old.bytes new.bytes l) l is part))
 
       pub put : {A : Type 0} (result : Result A CodeRefusal) → IfOk result (λ x. WritesWhole old new IsText) → IfErr result (λ r. IsUnwritten old new IsText (refusal_of r)) → IsCarriedOut words before after result
       put result whole refused = carried_out words before after IsText planned has_front (reads_both new) result whole refused

@@ -4,21 +4,19 @@ use Rattle.std.specs.Io.KnownBytes.{Appends}
 use Rattle.tapa_files.specs.Outside.{Files, file_bytes, Rose}
 use Rattle.tapa_files.specs.Take.{IsLongerThan}
 use Rattle.tapa_words.specs.Words.{Command, Plan, Asks}
-use Rattle.tapa_words.specs.Parts.{OnRun, OnBuild, OnCosim, IsToCome}
+use Rattle.tapa_words.specs.Parts.{OnRun, OnBuild, OnCosim, IsToCome, OnPlan}
 use Rattle.tapa_words.specs.declared.command.CosimAim.{CosimAim}
 use Rattle.tapa_words.specs.declared.command.PlanAim.{PlanAim}
 use Rattle.tapa_words.specs.declared.command.PlanMode.{PlanMode}
-use Rattle.tapa_words.specs.declared.command.PlanMode.TheVariants as words_mode
-use Rattle.slot_plan.specs.declared.floorplan.Mode.{Mode}
 use Rattle.command_source.specs.Files.{OfFile, OfSource, source_limit, data_limit}
 use Rattle.command_source.specs.Outside.{Outside, Written, outside}
-use Rattle.command_source.specs.Refusal.{Refusal, Usage, Read, Write, TooLong, Source, Data, Ticks, Stopped, Device, TooManyPlans, NoPlan, NoRoom, Verilog, DesignData, Undone, Memory, VerilogFault}
+use Rattle.command_source.specs.Refusal.{Refusal, Usage, Read, Write, TooLong, Source, Data, Ticks, Stopped, Device, TooManyPlans, NoPlan, NoRoom, NoHalving, Verilog, DesignData, Undone, Memory, VerilogFault}
 use Rattle.command_source.specs.Source.{IsRefusedSource}
 use Rattle.command_source.specs.Told.{IsTold, IsToldAs}
 use Rattle.command_source.specs.declared.status.Status.{Status}
 use Rattle.command_source.specs.declared.status.Status.TheVariants as status
-use Rattle.command_plans.specs.Planned.{mode_of, HasBadDevice, HasNoPlan, HasPlan}
-use Rattle.tapa_drive.specs.Answer.{OfRun, OfBuild, OfPlan, OnPlanBy, OfTexts, OfCosim, IsFirst, most_in, HasProgram, IsRefusedIn, IsFaultyIn, IsReached, IsTooLong, IsDone, HasCause, Leaves, IsAnswer}
+use Rattle.command_plans.specs.Planned.{HasBadDevice, HasNoPlan, HasPlan}
+use Rattle.tapa_drive.specs.Answer.{OfRun, OfBuild, OfPlan, OfTexts, OfCosim, IsFirst, most_in, HasProgram, IsRefusedIn, IsFaultyIn, IsReached, IsTooLong, IsDone, HasCause, Leaves, IsAnswer}
 use Rattle.tapa_drive.specs.Decided.{Bytes, TooMany, IsGiven, IsRefusedWith, NothingFails}
 use Rattle.tapa_drive.specs.PlanDecided.{TellsPlanOf, TellsPlan}
 use Rattle.tapa_drive.specs.PlanDecided as meaning
@@ -26,29 +24,19 @@ use Rattle.tapa_drive.proofs.BuildDecided.{of_told_source}
 use Rattle.tapa_drive.proofs.Decided.{asked_of}
 
 -- a plan that was asked for is the one that the words ask for
-asked_plan : (words : List (List ℕ)) (source top name : List ℕ) (word : PlanMode) (mode : Mode) (aim : PlanAim) → mode_of word ≡ Some mode → Asks words (Plan source top name word aim) → (P : List ℕ → List ℕ → List ℕ → Mode → PlanAim → Type 0) → OfPlan words P → P source top name mode aim
-asked_plan words source top name word mode aim names asked P h =
-    let t = asked_of words (Plan source top name word aim) asked (OnPlanBy P) h in
-    let both : Some t.0 ≡ Some mode = sym t.1 ∙ names in
-    let one : t.0 ≡ mode = cc in
-    subst (λ (m : Mode). P source top name m aim) one t.2
+asked_plan : (words : List (List ℕ)) (source top name : List ℕ) (mode : PlanMode) (aim : PlanAim) → Asks words (Plan source top name mode aim) → (P : List ℕ → List ℕ → List ℕ → PlanMode → PlanAim → Type 0) → OfPlan words P → P source top name mode aim
+asked_plan words source top name mode aim asked P h = asked_of words (Plan source top name mode aim) asked (OnPlan P) h
 
--- a plan by one of these modes is not to come
-is_there : (source top name : List ℕ) (word : PlanMode) (mode : Mode) (aim : PlanAim) → mode_of word ≡ Some mode → IsToCome (Plan source top name word aim) → ⊥
-is_there source top name words_mode.Exact mode aim names h = h
-is_there source top name words_mode.Fit mode aim names h = h
-is_there source top name words_mode.Split mode aim names h = let none : None ≡ Some mode = names in cc
-
-module _ (words : List (List ℕ)) (files : Files) (reads : List ℕ → ℕ) (out errors : Written) (after : Outside) (source top name : List ℕ) (word : PlanMode) (mode : Mode) (aim : PlanAim) (names : mode_of word ≡ Some mode) (asked : Asks words (Plan source top name word aim)) (still : NothingFails source (Some name) (outside (Some files) reads out errors) after) where
+module _ (words : List (List ℕ)) (files : Files) (reads : List ℕ → ℕ) (out errors : Written) (after : Outside) (source top name : List ℕ) (mode : PlanMode) (aim : PlanAim) (asked : Asks words (Plan source top name mode aim)) (still : NothingFails source (Some name) (outside (Some files) reads out errors) after) where
   abbrev before : Outside
   before = outside (Some files) reads out errors
 
   abbrev command : Command
-  command = Plan source top name word aim
+  command = Plan source top name mode aim
 
   not_asked : HasCause words before after Usage → ⊥
   not_asked (inl none) = none command asked
-  not_asked (inr h) = is_there source top name word mode aim names (asked_of words command asked IsToCome h)
+  not_asked (inr h) = asked_of words command asked IsToCome h
 
   -- no run, no circuit and no simulation was asked for
   not_run : {P : List ℕ → List ℕ → Option (List ℕ) → ℕ → Type 0} → OfRun words P → ⊥
@@ -94,7 +82,7 @@ module _ (words : List (List ℕ)) (files : Files) (reads : List ℕ → ℕ) (o
 
     no_plan : (why : Refusal) → why ≢ Memory → OfPlan words (λ s t d m a. OfTexts (Some files) s (Some d) (λ text bytes. HasNoPlan text t bytes m why)) → after.out.bytes ≡ out.bytes → IsTold why result errors after.err → Meets
     no_plan why other h quiet told =
-        let c = asked_plan words source top name word mode aim names asked (λ s t d m a. OfTexts (Some files) s (Some d) (λ text bytes. HasNoPlan text t bytes m why)) h in
+        let c = asked_plan words source top name mode aim asked (λ s t d m a. OfTexts (Some files) s (Some d) (λ text bytes. HasNoPlan text t bytes m why)) h in
         let t = of_texts (λ text bytes. HasNoPlan text top bytes mode why) c in
         inl (meaning.NoPlan why, (t.0, (Bytes (file_bytes files name), t.1, (t.2, other))), record { told = told; quiet = quiet })
 
@@ -129,7 +117,7 @@ module _ (words : List (List ℕ)) (files : Files) (reads : List ℕ → ℕ) (o
     of_reason (Ticks most) h leaves told = absurd (not_run h)
     of_reason (Stopped lines) h leaves told = absurd (not_run h)
     of_reason (Device file fault) h leaves told =
-        let c = asked_plan words source top name word mode aim names asked (λ s t d m a. (d ≡ file) × OfTexts (Some files) s (Some d) (λ text bytes. HasBadDevice text t bytes fault)) h in
+        let c = asked_plan words source top name mode aim asked (λ s t d m a. (d ≡ file) × OfTexts (Some files) s (Some d) (λ text bytes. HasBadDevice text t bytes fault)) h in
         let t = of_texts (λ text bytes. HasBadDevice text top bytes fault) c.1 in
         inl (
           meaning.Misgiven fault,
@@ -139,6 +127,7 @@ module _ (words : List (List ℕ)) (files : Files) (reads : List ℕ → ℕ) (o
     of_reason (TooManyPlans slots free) h leaves told = no_plan (TooManyPlans slots free) (λ e. cc) h leaves told
     of_reason NoPlan h leaves told = no_plan NoPlan (λ e. cc) h leaves told
     of_reason (NoRoom label) h leaves told = no_plan (NoRoom label) (λ e. cc) h leaves told
+    of_reason (NoHalving level) h leaves told = no_plan (NoHalving level) (λ e. cc) h leaves told
     of_reason (Verilog file fault) h leaves told = absurd (not_faulty file fault h)
     of_reason (DesignData file fault) h leaves told = absurd (not_cosim h)
     of_reason (Undone most) h leaves told = absurd (not_cosim h)
@@ -152,14 +141,14 @@ module _ (words : List (List ℕ)) (files : Files) (reads : List ℕ → ℕ) (o
     of_ok (inr (inr (inl p))) is same = absurd (not_cosim p)
     of_ok (inr (inr (inr b))) is same = absurd (not_built b)
     of_ok (inr (inl h)) is same =
-        let c = asked_plan words source top name word mode aim names asked (λ s t d m a. OfTexts (Some files) s (Some d) (λ text bytes. (told : List ℕ) × HasPlan text t bytes m a told × Appends out.bytes after.out.bytes told)) h in
+        let c = asked_plan words source top name mode aim asked (λ s t d m a. OfTexts (Some files) s (Some d) (λ text bytes. (told : List ℕ) × HasPlan text t bytes m a told × Appends out.bytes after.out.bytes told)) h in
         let t = of_texts (λ text bytes. (told : List ℕ) × HasPlan text top bytes mode aim told × Appends out.bytes after.out.bytes told) c in
         inl (meaning.Planned t.2.0, (t.0, (Bytes (file_bytes files name), t.1, t.2.1)), (is, t.2.2, same))
 
-pub plan_decided : (words : List (List ℕ)) (files : Option Files) (reads : List ℕ → ℕ) (out errors : Written) (after : Outside) (source top name : List ℕ) (word : PlanMode) (mode : Mode) (aim : PlanAim) → mode_of word ≡ Some mode → Asks words (Plan source top name word aim) → NothingFails source (Some name) (outside files reads out errors) after → (result : Status) → IsAnswer words (outside files reads out errors) after result → (result ≡ status.Ok → after.err.bytes ≡ errors.bytes) → TellsPlan source top name mode aim result (outside files reads out errors) after ⊎ (result ≡ status.Memory)
-plan_decided words None reads out errors after source top name word mode aim names asked still result h same = inl tt
-plan_decided words (Some files) reads out errors after source top name word mode aim names asked still status.Ok h same =
-    of_ok words files reads out errors after source top name word mode aim names asked still status.Ok (h.ok refl) refl (same refl)
-plan_decided words (Some files) reads out errors after source top name word mode aim names asked still result h same =
+pub plan_decided : (words : List (List ℕ)) (files : Option Files) (reads : List ℕ → ℕ) (out errors : Written) (after : Outside) (source top name : List ℕ) (mode : PlanMode) (aim : PlanAim) → Asks words (Plan source top name mode aim) → NothingFails source (Some name) (outside files reads out errors) after → (result : Status) → IsAnswer words (outside files reads out errors) after result → (result ≡ status.Ok → after.err.bytes ≡ errors.bytes) → TellsPlan source top name mode aim result (outside files reads out errors) after ⊎ (result ≡ status.Memory)
+plan_decided words None reads out errors after source top name mode aim asked still result h same = inl tt
+plan_decided words (Some files) reads out errors after source top name mode aim asked still status.Ok h same =
+    of_ok words files reads out errors after source top name mode aim asked still status.Ok (h.ok refl) refl (same refl)
+plan_decided words (Some files) reads out errors after source top name mode aim asked still result h same =
     let t = h.told (λ e. cc) in
-    of_told words files reads out errors after source top name word mode aim names asked still result t.0 t.1 t.2 t.3
+    of_told words files reads out errors after source top name mode aim asked still result t.0 t.1 t.2 t.3

@@ -4,7 +4,7 @@ use Rattle.std.specs.Io.KnownBytes.{Appends}
 use Rattle.tapa_files.specs.Outside.{AppendsPart}
 use Rattle.command_source.specs.Meaning.{refusal_of}
 use Rattle.command_source.specs.Outside.{Outside}
-use Rattle.command_source.specs.Refusal.{Refusal, Usage, Read, Write, TooLong, Source, Data, Ticks, Stopped, Device, TooManyPlans, NoPlan, NoRoom, Verilog, DesignData, Undone, Memory}
+use Rattle.command_source.specs.Refusal.{Refusal, Usage, Read, Write, TooLong, Source, Data, Ticks, Stopped, Device, TooManyPlans, NoPlan, NoRoom, NoHalving, Verilog, DesignData, Undone, Memory}
 use Rattle.command_source.specs.declared.refusal.Refusal.{Refusal as CodeRefusal}
 use Rattle.command_plans.specs.Unwritten.{IsUnwritten}
 use Rattle.command_plans.proofs.Put.{WritesWhole}
@@ -26,6 +26,7 @@ module _ (words : List (List ℕ)) (before after : Outside) (P : List ℕ → Ty
   unwritten_cause (TooManyPlans slots free) h = absurd h
   unwritten_cause NoPlan h = absurd h
   unwritten_cause (NoRoom label) h = absurd h
+  unwritten_cause (NoHalving level) h = absurd h
   unwritten_cause (Verilog file fault) h = absurd h
   unwritten_cause (DesignData file fault) h = absurd h
   unwritten_cause (Undone most) h = absurd h
@@ -44,6 +45,7 @@ module _ (words : List (List ℕ)) (before after : Outside) (P : List ℕ → Ty
   unwritten_leaves (TooManyPlans slots free) h = absurd h
   unwritten_leaves NoPlan h = absurd h
   unwritten_leaves (NoRoom label) h = absurd h
+  unwritten_leaves (NoHalving level) h = absurd h
   unwritten_leaves (Verilog file fault) h = absurd h
   unwritten_leaves (DesignData file fault) h = absurd h
   unwritten_leaves (Undone most) h = absurd h

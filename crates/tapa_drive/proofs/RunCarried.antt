@@ -13,7 +13,7 @@ use Rattle.command_source.specs.Found.{IsNotGiven}
 use Rattle.command_source.specs.Inputs.{GivesValues, HasDataFault}
 use Rattle.command_source.specs.Meaning.{refusal_of}
 use Rattle.command_source.specs.Outside.{Outside, Written, outside}
-use Rattle.command_source.specs.Refusal.{Refusal, Usage, Read, Write, TooLong, Source, Data, Ticks, Stopped, Device, TooManyPlans, NoPlan, NoRoom, Verilog, DesignData, Undone, Memory, DataFault}
+use Rattle.command_source.specs.Refusal.{Refusal, Usage, Read, Write, TooLong, Source, Data, Ticks, Stopped, Device, TooManyPlans, NoPlan, NoRoom, NoHalving, Verilog, DesignData, Undone, Memory, DataFault}
 use Rattle.command_source.specs.Source.{IsProgramOf}
 use Rattle.command_source.specs.declared.refusal.Refusal.{Refusal as CodeRefusal}
 use Rattle.command_source.specs.declared.refusal.Refusal.TheVariants as code
@@ -53,6 +53,7 @@ module _ (words : List (List ℕ)) (files : Option Files) (source top : List ℕ
   not_given_cause new (TooManyPlans slots free) h = absurd h
   not_given_cause new NoPlan h = absurd h
   not_given_cause new (NoRoom label) h = absurd h
+  not_given_cause new (NoHalving level) h = absurd h
   not_given_cause new (Verilog file fault) h = absurd h
   not_given_cause new (DesignData file fault) h = absurd h
   not_given_cause new (Undone most) h = absurd h
@@ -71,6 +72,7 @@ module _ (words : List (List ℕ)) (files : Option Files) (source top : List ℕ
   not_given_leaves (TooManyPlans slots free) h = absurd h
   not_given_leaves NoPlan h = absurd h
   not_given_leaves (NoRoom label) h = absurd h
+  not_given_leaves (NoHalving level) h = absurd h
   not_given_leaves (Verilog file fault) h = absurd h
   not_given_leaves (DesignData file fault) h = absurd h
   not_given_leaves (Undone most) h = absurd h

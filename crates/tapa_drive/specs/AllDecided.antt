@@ -4,13 +4,11 @@ use Rattle.tapa_words.specs.Words.{Asks, AskNothing, Run, Build, Plan, Cosim}
 use Rattle.tapa_words.specs.declared.command.CosimAim.TheVariants.{Report}
 use Rattle.tapa_words.specs.declared.command.PlanAim.{PlanAim}
 use Rattle.tapa_words.specs.declared.command.PlanMode.{PlanMode}
-use Rattle.slot_plan.specs.declared.floorplan.Mode.{Mode}
 use Rattle.command_source.specs.Files.{source_limit}
 use Rattle.command_source.specs.Outside.{Outside}
 use Rattle.command_source.specs.Refusal.{TooLong, Usage}
 use Rattle.command_source.specs.declared.status.Status.{Status}
 use Rattle.command_source.specs.declared.status.Status.TheVariants.{Memory}
-use Rattle.command_plans.specs.Planned.{mode_of}
 use Rattle.tapa_drive.specs.BuildDecided.{TellsBuild}
 use Rattle.tapa_drive.specs.CosimDecided.{TellsCosim}
 use Rattle.tapa_drive.specs.Decided.{SourceMeaning, Expects, IsLengthy, IsRefusedWith, NothingFails, WritesAll, Tells}
@@ -25,8 +23,8 @@ pub record IsDecided (words : List (List ℕ)) (before after : Outside) (status 
   pub lengthy : (source top : List ℕ) (named : Option (List ℕ)) (workers limit : ℕ) → Asks words (Run source top named workers limit) →
       IsLengthy before.files source → NothingFails source named before after → IsRefusedWith (TooLong source source_limit) status before after ⊎ (status ≡ Memory)
   -- what the source means with the device file: a plan's lines or the circuit by it, or why there is none
-  pub plan : (source top device : List ℕ) (word : PlanMode) (by : Mode) (aim : PlanAim) → mode_of word ≡ Some by → Asks words (Plan source top device word aim) →
-      NothingFails source (Some device) before after → TellsPlan source top device by aim status before after ⊎ (status ≡ Memory)
+  pub plan : (source top device : List ℕ) (mode : PlanMode) (aim : PlanAim) → Asks words (Plan source top device mode aim) →
+      NothingFails source (Some device) before after → TellsPlan source top device mode aim status before after ⊎ (status ≡ Memory)
   -- the circuit of the source, or why it has none
   pub build : (source top : List ℕ) → Asks words (Build source top) → NothingFails source None before after → TellsBuild before.files source top status before after ⊎ (status ≡ Memory)
   -- what the Verilog text means with its data: the report of its design's cycles, or why there is none

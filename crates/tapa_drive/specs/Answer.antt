@@ -10,20 +10,20 @@ use Rattle.tapa_words.specs.Parts.{OfCommand, OnRun, OnBuild, OnPlan, OnCosim, R
 use Rattle.tapa_words.specs.declared.command.CosimAim.{CosimAim}
 use Rattle.tapa_words.specs.declared.command.CosimAim.TheVariants.{Report, Dump}
 use Rattle.tapa_words.specs.declared.command.PlanAim.{PlanAim}
-use Rattle.slot_plan.specs.declared.floorplan.Mode.{Mode}
+use Rattle.tapa_words.specs.declared.command.PlanMode.{PlanMode}
 use Rattle.run_program.specs.Ending.{IsReportOf}
 use Rattle.run_program.specs.Run.{Values, DoneRun, StoppedRun, LimitRun}
 use Rattle.command_source.specs.Files.{OfFile, OfSource, OfData, source_limit, data_limit, verilog_limit, shown_name}
 use Rattle.command_source.specs.Inputs.{GivesValues, HasDataFault}
 use Rattle.command_source.specs.Outside.{Outside}
-use Rattle.command_source.specs.Refusal.{Refusal, Usage, Read, Write, TooLong, Source, Data, Ticks, Stopped, Device, TooManyPlans, NoPlan, NoRoom, Verilog, DesignData, Undone, Memory, DataFault, VerilogFault}
+use Rattle.command_source.specs.Refusal.{Refusal, Usage, Read, Write, TooLong, Source, Data, Ticks, Stopped, Device, TooManyPlans, NoPlan, NoRoom, NoHalving, Verilog, DesignData, Undone, Memory, DataFault, VerilogFault}
 use Rattle.command_source.specs.Source.{IsProgramOf, IsRefusedSource}
 use Rattle.command_source.specs.Told.{IsToldAs}
 use Rattle.command_source.specs.declared.source.SourceCode.{SourceCode}
 use Rattle.command_source.specs.declared.status.Status.{Status}
 use Rattle.command_source.specs.declared.status.Status.TheVariants.{Ok}
 use Rattle.command_plans.specs.Built.{HasCircuit}
-use Rattle.command_plans.specs.Planned.{mode_of, HasPlan, HasNoPlan, HasBadDevice}
+use Rattle.command_plans.specs.Planned.{HasPlan, HasNoPlan, HasBadDevice}
 use Rattle.tapa_drive.specs.Designs.{HasDesign, IsRefusedText, HasBadDesignData, HasSimulated, HasCosimmed, HasUndone}
 
 -- how many bytes the source, the text or the dump that a command reads first may have
@@ -65,13 +65,9 @@ OfReport Dump P = ⊥
 abbrev pub OfBuild : List (List ℕ) → (List ℕ → List ℕ → Type 0) → Type 0
 OfBuild words P = OfCommand words (OnBuild P)
 
--- the command is one for a plan by a mode, of which this holds
-abbrev pub OnPlanBy : (List ℕ → List ℕ → List ℕ → Mode → PlanAim → Type 0) → Command → Type 0
-OnPlanBy P = OnPlan (λ source top device word aim. (mode : Mode) × (mode_of word ≡ Some mode) × P source top device mode aim)
-
 -- the words ask for a plan of a source's task on the device of a file, by a mode, or for the circuit by it, of which this holds
-abbrev pub OfPlan : List (List ℕ) → (List ℕ → List ℕ → List ℕ → Mode → PlanAim → Type 0) → Type 0
-OfPlan words P = OfCommand words (OnPlanBy P)
+abbrev pub OfPlan : List (List ℕ) → (List ℕ → List ℕ → List ℕ → PlanMode → PlanAim → Type 0) → Type 0
+OfPlan words P = OfCommand words (OnPlan P)
 
 -- this holds of the bytes of the source and of the data: of those that are told, and else of some
 abbrev pub OfTexts : Option Files → List ℕ → Option (List ℕ) → (List ℕ → List ℕ → Type 0) → Type 0
@@ -193,6 +189,7 @@ HasCause words before after (Device file fault) = OfPlan words (λ source top de
 HasCause words before after (TooManyPlans slots free) = OfPlan words (λ source top device mode aim. OfTexts before.files source (Some device) (λ text bytes. HasNoPlan text top bytes mode (TooManyPlans slots free)))
 HasCause words before after NoPlan = OfPlan words (λ source top device mode aim. OfTexts before.files source (Some device) (λ text bytes. HasNoPlan text top bytes mode NoPlan))
 HasCause words before after (NoRoom label) = OfPlan words (λ source top device mode aim. OfTexts before.files source (Some device) (λ text bytes. HasNoPlan text top bytes mode (NoRoom label)))
+HasCause words before after (NoHalving level) = OfPlan words (λ source top device mode aim. OfTexts before.files source (Some device) (λ text bytes. HasNoPlan text top bytes mode (NoHalving level)))
 HasCause words before after (Verilog file fault) = OfCommand words (λ c. IsFirst c file × OfFile before.files (most_in c) file (λ text. IsFaultyIn c text fault))
 HasCause words before after (DesignData file fault) = OfCosim words (λ name given limit aim. (shown_name given ≡ file) × OfDesignTexts before.files name given (λ text bytes. HasBadDesignData text bytes fault))
 HasCause words before after (Undone most) = OfCosim words (λ name given limit aim. OfReport aim ((most ≡ limit) × OfDesignTexts before.files name given (λ text bytes. HasUndone text bytes limit before.out.bytes after.out.bytes)))
@@ -246,6 +243,7 @@ Leaves words before after (Device file fault) = after.out.bytes ≡ before.out.b
 Leaves words before after (TooManyPlans slots free) = after.out.bytes ≡ before.out.bytes
 Leaves words before after NoPlan = after.out.bytes ≡ before.out.bytes
 Leaves words before after (NoRoom label) = after.out.bytes ≡ before.out.bytes
+Leaves words before after (NoHalving level) = after.out.bytes ≡ before.out.bytes
 Leaves words before after (Verilog file fault) = after.out.bytes ≡ before.out.bytes
 Leaves words before after (DesignData file fault) = after.out.bytes ≡ before.out.bytes
 Leaves words before after (Undone most) = HasFrontOf words before after

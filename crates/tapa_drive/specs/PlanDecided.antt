@@ -4,7 +4,7 @@ use Rattle.std.specs.Io.KnownBytes.{Appends}
 use Rattle.tapa_base.specs.declared.text.Place.{Place}
 use Rattle.tapa_files.specs.Outside.{Files, file_bytes}
 use Rattle.tapa_words.specs.declared.command.PlanAim.{PlanAim}
-use Rattle.slot_plan.specs.declared.floorplan.Mode.{Mode}
+use Rattle.tapa_words.specs.declared.command.PlanMode.{PlanMode}
 use Rattle.command_source.specs.Files.{source_limit, data_limit}
 use Rattle.command_source.specs.Outside.{Outside}
 use Rattle.command_source.specs.Refusal.{Refusal, DeviceFault, TooLong, Source, Device, Memory}
@@ -28,7 +28,7 @@ pub data PlanMeaning : Type 0 where
   Lengthy : PlanMeaning
 
 -- a source that has a program means this with the bytes of a device file, by a mode and for an aim
-abbrev pub MeansOn : List ℕ → List ℕ → Given → Mode → PlanAim → PlanMeaning → Type 0
+abbrev pub MeansOn : List ℕ → List ℕ → Given → PlanMode → PlanAim → PlanMeaning → Type 0
 MeansOn text top (Bytes bytes) mode aim (Planned told) = HasPlan text top bytes mode aim told
 MeansOn text top (Bytes bytes) mode aim (NoPlan why) = HasNoPlan text top bytes mode why × (why ≢ Memory)
 MeansOn text top (Bytes bytes) mode aim (Misgiven fault) = HasBadDevice text top bytes fault
@@ -36,7 +36,7 @@ MeansOn text top TooMany mode aim Overlong = HasProgram text top
 MeansOn text top given mode aim meaning = ⊥
 
 -- the text of a source means this with the device file
-abbrev pub MeansPlan : Files → List ℕ → List ℕ → List ℕ → Mode → PlanAim → PlanMeaning → Type 0
+abbrev pub MeansPlan : Files → List ℕ → List ℕ → List ℕ → PlanMode → PlanAim → PlanMeaning → Type 0
 MeansPlan files source top device mode aim Lengthy = source_limit < length (file_bytes files source)
 MeansPlan files source top device mode aim (Refused place code) = (length (file_bytes files source) ≤ source_limit) × IsRefusedSource (file_bytes files source) top place code
 MeansPlan files source top device mode aim meaning =
@@ -52,10 +52,10 @@ TellsMeaning source device (Refused place code) status before after = IsRefusedW
 TellsMeaning source device Lengthy status before after = IsRefusedWith (TooLong source source_limit) status before after
 
 -- where the files are told, the answer tells what the source means with the device file
-abbrev pub TellsPlanOf : Option Files → List ℕ → List ℕ → List ℕ → Mode → PlanAim → Status → Outside → Outside → Type 0
+abbrev pub TellsPlanOf : Option Files → List ℕ → List ℕ → List ℕ → PlanMode → PlanAim → Status → Outside → Outside → Type 0
 TellsPlanOf None source top device mode aim status before after = Unit {0}
 TellsPlanOf (Some files) source top device mode aim status before after =
     (meaning : PlanMeaning) × MeansPlan files source top device mode aim meaning × TellsMeaning source device meaning status before after
 
-abbrev pub TellsPlan : List ℕ → List ℕ → List ℕ → Mode → PlanAim → Status → Outside → Outside → Type 0
+abbrev pub TellsPlan : List ℕ → List ℕ → List ℕ → PlanMode → PlanAim → Status → Outside → Outside → Type 0
 TellsPlan source top device mode aim status before after = TellsPlanOf before.files source top device mode aim status before after

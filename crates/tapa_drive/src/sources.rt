@@ -4,7 +4,7 @@ ghost use Rattle.tapa_words.specs.Words.{Asks, most_limit, Run, Build, Plan as P
 ghost use Rattle.command_source.specs.Outside.{Written, written, outside};
 ghost use Rattle.tapa_drive.specs.Carried.{IsCarriedOut};
 
-use command_plans::{mode_of, planned, put_aim, put_circuit, read_device_file};
+use command_plans::{planned, put_aim, put_circuit, read_device_file};
 use command_source::{Refusal, read_source, read_values};
 use run_program::{RunEnd, run_program};
 use std::alloc::Global;
@@ -84,11 +84,6 @@ pub(crate) fn plan_source<'a, S: Shelf, O: Sink>(
         IsCarriedOut words (outside (S.files shelf.old) (S.faults shelf.old) (written (O.contents out.old) (O.faults out.old)) errors)
         (outside (S.files shelf.new) (S.faults shelf.new) (written (O.contents out.new) (O.faults out.new)) told) result }
 {
-    // Plans by another mode are to come.
-    let mode = match mode_of(mode) {
-        Some(mode) => mode,
-        None => return Err(Refusal::Usage),
-    };
     let program = match read_source(alloc, source, top, shelf) {
         Ok(program) => program,
         Err(refusal) => return Err(refusal),

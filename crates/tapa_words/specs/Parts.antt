@@ -5,7 +5,6 @@ use Rattle.tapa_words.specs.declared.command.CosimAim.{CosimAim}
 use Rattle.tapa_words.specs.declared.command.CosimAim.TheVariants.{Dump}
 use Rattle.tapa_words.specs.declared.command.PlanAim.{PlanAim}
 use Rattle.tapa_words.specs.declared.command.PlanMode.{PlanMode}
-use Rattle.tapa_words.specs.declared.command.PlanMode.TheVariants.{Split}
 
 -- the words ask for a command, of which this holds
 abbrev pub OfCommand : List (List ℕ) → (Command → Type 0) → Type 0
@@ -73,7 +72,6 @@ file_in (Gen layers workers) = None
 
 -- the commands that the program has not yet: they are refused as words that are no command
 abbrev pub IsToCome : Command → Type 0
-IsToCome (Plan source top device Split aim) = ⊤
 IsToCome (Cosim text given limit Dump) = ⊤
 IsToCome (Vcd file net) = ⊤
 IsToCome (Gen layers workers) = ⊤

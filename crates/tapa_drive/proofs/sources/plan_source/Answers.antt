@@ -1,29 +1,9 @@
-use Rattle.std.proofs.Common.{◌≡◌, ℕ, List, None, refl, sym, inr}
 use Rattle.tapa_words.specs.Words.{Plan}
-use Rattle.tapa_words.specs.Parts.{IsToCome}
-use Rattle.tapa_words.specs.declared.command.PlanAim.{PlanAim}
-use Rattle.tapa_words.specs.declared.command.PlanMode.{PlanMode}
-use Rattle.tapa_words.specs.declared.command.PlanMode.TheVariants as words_mode
 use Rattle.command_source.specs.Outside.{written}
 use Rattle.command_source.specs.declared.refusal.Refusal.TheVariants as code
-use Rattle.command_plans.specs.Planned.{mode_of}
-use Rattle.tapa_drive.proofs.Carried.{not_found, unread}
+use Rattle.tapa_drive.proofs.Carried.{not_found}
 use Rattle.tapa_drive.proofs.PlanCarried.{no_device, unplanned, put}
 use Rattle.tapa_drive.proofs.sources.plan_source.Goals as goal
-
--- a plan by no mode is one that is to come
-to_come : (source top file : List ℕ) (word : PlanMode) (aim : PlanAim) → None ≡ mode_of word → IsToCome (Plan source top file word aim)
-to_come source top file words_mode.Exact aim none = absurd cc
-to_come source top file words_mode.Fit aim none = absurd cc
-to_come source top file words_mode.Split aim none = tt
-
-pub returns-in-None : goal.returns-in-None
-returns-in-None g c = λ words errors told asked. record {
-  done = tt;
-  cause = inr (Plan c.args.source.now c.args.top.now c.args.file.now c.args.mode c.args.aim, asked, to_come c.args.source.now c.args.top.now c.args.file.now c.args.mode c.args.aim c.in-None.ensures);
-  leaves = refl;
-  reads = unread _ _ _ _ errors told;
-}
 
 pub returns-in-Err : goal.returns-in-Err
 returns-in-Err g c = λ words errors told asked.
@@ -48,7 +28,7 @@ returns-in-Err-read_device_file g c = λ words errors told asked.
     let files = g.S.Shelf.files c.args.shelf.now in
     let reads = g.S.Shelf.faults c.args.shelf.now in
     let old = written (g.O.Sink.contents c.args.out.now) (g.O.Sink.faults c.args.out.now) in
-    no_device words files c.args.source.now c.args.top.now c.args.file.now c.args.mode c.in-Some.mode c.args.aim (sym c.in-Some.ensures) asked reads old errors told
+    no_device words files c.args.source.now c.args.top.now c.args.file.now c.args.mode c.args.aim asked reads old errors told
     (g.S.Shelf.files c.read_source.new.shelf) (g.S.Shelf.faults c.read_source.new.shelf) c.in-Ok.ensures.asks.same_files c.in-Ok.ensures.asks.later c.in-Ok.ensures.asks.others
     c.in-Ok.program c.in-Ok.ensures.found c.in-Ok-of.graph c.in-Ok-of.ensures (g.S.Shelf.files c.read_device_file.new.shelf) (g.S.Shelf.faults c.read_device_file.new.shelf) c.in-Err-read_device_file.ensures.asks.same_files c.in-Err-read_device_file.ensures.asks.others
     c.in-Err-read_device_file.refusal c.in-Err-read_device_file.ensures.refused
@@ -58,7 +38,7 @@ returns-in-Err-planned g c = λ words errors told asked.
     let files = g.S.Shelf.files c.args.shelf.now in
     let reads = g.S.Shelf.faults c.args.shelf.now in
     let old = written (g.O.Sink.contents c.args.out.now) (g.O.Sink.faults c.args.out.now) in
-    unplanned words files c.args.source.now c.args.top.now c.args.file.now c.args.mode c.in-Some.mode c.args.aim (sym c.in-Some.ensures) asked reads old errors told
+    unplanned words files c.args.source.now c.args.top.now c.args.file.now c.args.mode c.args.aim asked reads old errors told
     (g.S.Shelf.files c.read_source.new.shelf) (g.S.Shelf.faults c.read_source.new.shelf) c.in-Ok.ensures.asks.same_files c.in-Ok.ensures.asks.later c.in-Ok.ensures.asks.others
     c.in-Ok.program c.in-Ok.ensures.found c.in-Ok-of.graph c.in-Ok-of.ensures (g.S.Shelf.files c.read_device_file.new.shelf) (g.S.Shelf.faults c.read_device_file.new.shelf) c.in-Ok-read_device_file.ensures.asks.same_files c.in-Ok-read_device_file.ensures.asks.others
     c.in-Ok-read_device_file.device c.in-Ok-read_device_file.ensures.gives c.in-Err-planned.refusal
@@ -69,7 +49,7 @@ returns g c = λ words errors told asked.
     let files = g.S.Shelf.files c.args.shelf.now in
     let reads = g.S.Shelf.faults c.args.shelf.now in
     let old = written (g.O.Sink.contents c.args.out.now) (g.O.Sink.faults c.args.out.now) in
-    put words files c.args.source.now c.args.top.now c.args.file.now c.args.mode c.in-Some.mode c.args.aim (sym c.in-Some.ensures) asked reads old errors told
+    put words files c.args.source.now c.args.top.now c.args.file.now c.args.mode c.args.aim asked reads old errors told
     (g.S.Shelf.files c.read_source.new.shelf) (g.S.Shelf.faults c.read_source.new.shelf) c.in-Ok.ensures.asks.same_files c.in-Ok.ensures.asks.later c.in-Ok.ensures.asks.others
     c.in-Ok.program c.in-Ok.ensures.found c.in-Ok-of.graph c.in-Ok-of.ensures (g.S.Shelf.files c.read_device_file.new.shelf) (g.S.Shelf.faults c.read_device_file.new.shelf) c.in-Ok-read_device_file.ensures.asks.same_files c.in-Ok-read_device_file.ensures.asks.others
     c.in-Ok-read_device_file.device c.in-Ok-read_device_file.ensures.gives c.in-Ok-planned.found

@@ -1,0 +1,6 @@
+pub mod Parting
+pub mod Corners
+pub mod Grids
+pub mod Levels
+pub mod Sums
+pub mod Single

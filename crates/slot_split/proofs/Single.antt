@@ -1,0 +1,144 @@
+-- There is one plan by halving at most, and it is a plan.
+use Rattle.std.proofs.Common.{◌≡◌, ℕ, zero, suc, ◌+◌, ◌*◌, ◌<◌, ◌≤◌, Bool, true, false, List, [], ◌∷◌, length, get_or, refl, sym, ap, subst, ◌∙◌, arith, ⊎_elim}
+use Rattle.std.specs.Prelude.{if◌then◌else◌, ◌==◌, ◌&&◌, not, slice_index_or}
+use Rattle.std.proofs.lemmas.Bool.{cases_lt}
+use Rattle.std.proofs.lemmas.Grind.{same_number_lists}
+use Rattle.std.proofs.lemmas.Nat.{mul-le}
+use Rattle.task_graph.specs.declared.Graph.{Graph}
+use Rattle.task_graph.specs.Streams.{amount_at}
+use Rattle.task_graph.specs.Arcs.{total}
+use Rattle.plan_device.specs.declared.device.Device.{Device}
+use Rattle.flow_cert.proofs.Sums.{total_same, total_zero}
+use Rattle.slot_plan.specs.Least.{NotAfter, Beats}
+use Rattle.slot_plan.specs.Merging.{is_open}
+use Rattle.slot_split.specs.Halving.{corner, capacity_in, AreCuts, FitsLevel, IsNextLevel, IsLevel, HasOneHalvingPlan, HalvingGivesPlans}
+use Rattle.slot_split.proofs.Corners.{corner_start, corner_last}
+use Rattle.slot_split.proofs.Levels.{level_fits}
+use Rattle.slot_split.proofs.Sums.{bool_cases, true_not_false, first_of, test_same}
+
+-- ---- lists neither of which comes after the other
+
+pub not_after_both : (p q : List ℕ) → length p ≡ length q → NotAfter p q → NotAfter q p → p ≡ q
+not_after_both [] [] e a b = refl
+not_after_both [] (y ∷ ys) e a b = absurd b
+not_after_both (x ∷ xs) [] e a b = absurd a
+not_after_both (x ∷ xs) (y ∷ ys) e a b =
+    ⊎_elim
+    (λ (l : x < y). ⊎_elim
+    (λ (k : y < x). absurd (let i : ⊥ = omega arith in i))
+    (λ (k : (y ≡ x) × NotAfter ys xs). absurd (let f = k.0 in let i : ⊥ = omega arith in i))
+    b)
+    (λ (l : (x ≡ y) × NotAfter xs ys). ⊎_elim
+    (λ (k : y < x). absurd (let f = l.0 in let i : ⊥ = omega arith in i))
+    (λ (k : (y ≡ x) × NotAfter ys xs).
+    let rest = not_after_both xs ys (omega arith) l.1 k.1 in
+    ap (λ (z : ℕ). z ∷ xs) l.0 ∙ ap (λ (zs : List ℕ). y ∷ zs) rest)
+    b)
+    a
+
+beat_both : (g : Graph) (d : Device) (p q : List ℕ) → length p ≡ length q → Beats g d p q → Beats g d q p → p ≡ q
+beat_both g d p q e a b =
+    let x = a.cheap in
+    let y = b.cheap in
+    not_after_both p q e (a.first (omega arith)) (b.first (omega arith))
+
+-- ---- one list a level
+
+zero_lists : (g : Graph) (d : Device) (R : ℕ) (p q : List ℕ) → FitsLevel g d R 0 p → FitsLevel g d R 0 q → p ≡ q
+zero_lists g d R p q a b =
+    same_number_lists p q (a.whole ∙ sym b.whole)
+    (λ v l.
+    let lq : v < length q = (let x = a.whole in let y = b.whole in omega arith) in
+    sym (a.each v l).region ∙ (corner_start d R (get_or p v 0) ∙ (sym (corner_start d R (get_or q v 0)) ∙ (b.each v lq).region)))
+
+pub one_level : (g : Graph) (d : Device) (R K : ℕ) (p q : List ℕ) → IsLevel g d R K p → IsLevel g d R K q → p ≡ q
+one_level g d R zero p q a b = zero_lists g d R p q a b
+one_level g d R (suc K) p q a b =
+    let e : a.0 ≡ b.0 = one_level g d R K a.0 b.0 a.1 b.1 in
+    let next : IsNextLevel g d R K a.0 q = subst (λ (xs : List ℕ). IsNextLevel g d R K xs q) (sym e) b.2 in
+    beat_both g d p q (a.2.fits.whole ∙ sym next.fits.whole) (a.2.beats q next.fits next.stays) (next.beats p a.2.fits a.2.stays)
+
+-- ---- one number of cuts
+
+fewer_cuts : (n j k : ℕ) → AreCuts n j → AreCuts n k → j < k → ⊥
+fewer_cuts n j k a b l = let w = b.before j l in w.2 (a.alone w.0 w.1)
+
+pub one_cuts : (n j k : ℕ) → AreCuts n j → AreCuts n k → j ≡ k
+one_cuts n j k a b =
+    ⊎_elim
+    (λ (l : j < k). absurd (fewer_cuts n j k a b l))
+    (λ (l : k ≤ j). ⊎_elim
+    (λ (m : k < j). absurd (fewer_cuts n k j b a m))
+    (λ (m : j ≤ k). let e : j ≡ k = omega arith in e)
+    (cases_lt k j))
+    (cases_lt j k)
+
+pub one_halving_plan : HasOneHalvingPlan
+one_halving_plan = λ g d p q a b.
+    let rows = one_cuts d.rows a.rows b.rows a.row_levels b.row_levels in
+    let cols = one_cuts d.cols a.cols b.cols a.col_levels b.col_levels in
+    let last : IsLevel g d a.rows (a.rows + a.cols) q =
+    subst (λ (n : ℕ). IsLevel g d a.rows (a.rows + n) q) (sym cols) (subst (λ (n : ℕ). IsLevel g d n (n + b.cols) q) (sym rows) b.last) in
+    one_level g d a.rows (a.rows + a.cols) p q a.last last
+
+-- ---- the last level is a plan
+
+open_free : (b : Bool) → not b ≡ true → b ≡ false
+open_free true e = absurd (true_not_false (sym e))
+open_free false e = refl
+
+pick_le : (b : Bool) (x : ℕ) → (if b then x else 0) ≤ x
+pick_le true x = omega arith
+pick_le false x = omega arith
+
+total_single : (n i x : ℕ) (f : ℕ → ℕ) → ((v : ℕ) → v < n → (v ≡ i → ⊥) → f v ≡ 0) → f i ≤ x → total n f ≤ x
+total_single zero i x f others here = omega arith
+total_single (suc n) i x f others here =
+    ⊎_elim
+    (λ (l : i < n). let a = total_single n i x f (λ v lv ne. others v (omega arith) ne) here in let b = others n (omega arith) (λ (e : n ≡ i). let i : ⊥ = omega arith in i) in omega arith)
+    (λ (l : n ≤ i).
+    let a = total_same n f (λ v. 0) (λ v lv. others v (omega arith) (λ (e : v ≡ i). let i : ⊥ = omega arith in i)) in
+    let b = total_zero n in
+    ⊎_elim
+    (λ (m : n < i). let c = others n (omega arith) (λ (e : n ≡ i). let i : ⊥ = omega arith in i) in omega arith)
+    (λ (m : i ≤ n). let e : i ≡ n = omega arith in let c = ap f e in omega arith)
+    (cases_lt n i))
+    (cases_lt i n)
+
+-- a region of one slot has no more than the slot
+one_slot : (d : Device) (R C c k : ℕ) → length d.slots.items ≡ d.rows * d.cols → 0 < d.cols → AreCuts d.rows R → AreCuts d.cols C → c < length d.slots.items → capacity_in d R (R + C) c k ≤ amount_at d.slots.items c k
+one_slot d R C c k slots some rows cols l =
+    total_single (length d.slots.items) c (amount_at d.slots.items c k) (λ s. if (corner d R (R + C) s == c) && is_open d s then amount_at d.slots.items s k else 0)
+    (λ s ls ne.
+    let t = (corner d R (R + C) s == c) && is_open d s in
+    ⊎_elim
+    (λ (e : t ≡ true). absurd (ne (sym (corner_last d R C s rows cols some (omega arith)) ∙ test_same (corner d R (R + C) s) c (first_of (corner d R (R + C) s == c) (is_open d s) e))))
+    (λ (e : t ≡ false). ap (λ (b : Bool). if b then amount_at d.slots.items s k else 0) e)
+    (bool_cases t))
+    (pick_le ((corner d R (R + C) c == c) && is_open d c) (amount_at d.slots.items c k))
+
+pub halving_gives_plans : HalvingGivesPlans
+halving_gives_plans = λ g d p device h.
+    let R = h.rows in
+    let C = h.cols in
+    let some = device.some_cols in
+    let fits = level_fits g d R (R + C) p h.last in
+    record {
+      whole = fits.whole;
+      each = λ v l.
+          (let has = fits.each v l in
+          let w = has.usable in
+          let at : w.0 ≡ get_or p v 0 = sym (corner_last d R C w.0 h.row_levels h.col_levels some (let a = w.1.inside in let b = device.slots in omega arith)) ∙ w.1.region in
+          record {
+            inside = has.inside;
+            free = open_free (slice_index_or d.forbidden.items (get_or p v 0) false) (subst (λ (s : ℕ). is_open d s ≡ true) at w.1.free);
+            pinned = λ t e. (
+                let a = device.pins_inside v t e in
+                sym (has.pinned t e) ∙ corner_last d R C t h.row_levels h.col_levels some (let b = device.slots in omega arith));
+          });
+      within = λ s k l. (
+          let a = fits.within s k l in
+          let b = one_slot d R C s k device.slots some h.row_levels h.col_levels l in
+          let c = mul-le (capacity_in d R (R + C) s k) d.percent (amount_at d.slots.items s k) d.percent b (omega arith) in
+          omega arith);
+    }

@@ -1,0 +1,12 @@
+//! Laws on plans by halving, which have no code.
+ghost use Rattle.slot_split.specs.Halving.{HasOneHalvingPlan, HalvingGivesPlans};
+
+/// A graph has one plan by halving on a device at most: the cheapest list of a level that comes first is one list.
+pub fn law_one_halving_plan()
+    ensures { HasOneHalvingPlan }
+{}
+
+/// The plan by halving is within the capacity of each slot, keeps the pins, and uses no forbidden slot.
+pub fn law_halving_is_a_plan()
+    ensures { HalvingGivesPlans }
+{}
