@@ -115,7 +115,7 @@ fn pins_of(alloc: Global, device: &Device, corners: &[u32]) -> Result<Vec<Option
     Ok(pins)
 }
 
-/// The same uses again.
+/// A copy of a list of uses.
 fn copy_of(alloc: Global, uses: &[Use]) -> Result<Vec<Use>, AllocError>
     ensures { IfOk result (λ copied. copied.items ≡ uses.now) }
 {
