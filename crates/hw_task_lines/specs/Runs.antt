@@ -63,8 +63,8 @@ abbrev pub all_stored : Shape → (ℕ → Cycle) → ℕ → ℕ → List (List
 all_stored S run n zero cells = cells
 all_stored S run n (suc m) cells = stored_in S run n m (all_stored S run n m cells)
 
--- what stands around the module: a cycle of reset, numbers of the widths of the inputs, and memories that answer with their
--- cells
+-- what stands around the module: a cycle of reset, numbers of the widths of the inputs, and memories that show their cells in the
+-- cycles in which they answer
 pub record StandsAround (S : Shape) (run : ℕ → Cycle) (cells : ℕ → List (List ℕ)) : Type 0 where
   pub reset : (run 0).net rst ≡ 1
   pub runs : (n : ℕ) → (run (suc n)).net rst ≡ 0
@@ -74,7 +74,7 @@ pub record StandsAround (S : Shape) (run : ℕ → Cycle) (cells : ℕ → List 
   pub rdy : (n s : ℕ) → writes_of S.streams s ≡ Some true → number_at run (Rdy s) n < 2
   pub ack : (n m : ℕ) → m < length S.memories → number_at run (Ack m) n < 2
   pub memories : length (cells 0) ≡ length S.memories
-  pub rdata : (n m : ℕ) → m < length S.memories → number_at run (Rdata m) n ≡ cell (cells n) m (number_at run (Addr m) n)
+  pub rdata : (n m : ℕ) → m < length S.memories → bit_at run (Ack m) n ≡ true → number_at run (Rdata m) n ≡ cell (cells n) m (number_at run (Addr m) n)
   pub fit : (n m i : ℕ) → cell (cells n) m i < values_of (memory_kind S m)
   pub goes : (n : ℕ) → cells (suc n) ≡ all_stored S run n (length S.memories) (cells n)
 

@@ -4,6 +4,7 @@ use Rattle.std.specs.Prelude.{slice_get}
 use Rattle.tapa_syntax.specs.declared.program.Program.{Program}
 use Rattle.task_fsm.specs.declared.machine.Fsm.{Fsm}
 use Rattle.vlog_design.specs.Designs.{DesignTree}
+use Rattle.vlog_run_laws.specs.Beside.{RunsBeside}
 use Rattle.vlog_tree.specs.Environment.{RunsIn}
 use Rattle.vlog_tree.specs.Form.{ModuleTree}
 use Rattle.vlog_tree.specs.Refused.{IsDesign}
@@ -11,7 +12,7 @@ use Rattle.hw_top_lines.specs.Designs.{design_tree}
 use Rattle.hw_top_lines.specs.Legal.{IsReady}
 use Rattle.hw_top_lines.specs.Texts.{top_tree}
 use Rattle.hw_top_laws.specs.modules.Lower.{lower_modules, KeepPromises}
-use Rattle.hw_top_laws.proofs.circuit.Circuit.{tops_have_scalars, tops_have_memories, tops_have_streams, designs_are_legal, designs_carry_streams}
+use Rattle.hw_top_laws.proofs.circuit.Circuit.{tops_have_scalars, tops_have_memories, tops_have_streams, designs_are_legal, designs_carry_streams, designs_carry_beside}
 use Rattle.hw_top.specs.Kept.{IsKept}
 use Rattle.hw_top.specs.Circuits.{IsCircuitOf}
 
@@ -44,4 +45,5 @@ module _ (program : Program) (machines : List Fsm) (added : List ℕ) (ready : I
     memories = tops_have_memories program machines added ready kept;
     streams = tops_have_streams program machines added ready kept;
     carries = λ env fits nets runs. designs_carry_streams program machines added ready kept env fits nets (subst (λ (ms : List ModuleTree). RunsIn ms (top_tree program added) env nets) e runs);
+    beside = λ env fits answers nets runs. designs_carry_beside program machines added ready kept env fits answers nets (subst (λ (ms : List ModuleTree). RunsBeside ms (top_tree program added) env answers nets) e runs);
   }

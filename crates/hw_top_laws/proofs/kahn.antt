@@ -2,3 +2,4 @@ pub mod Answers
 pub mod Networks
 pub mod Done
 pub mod Carries
+pub mod Waits

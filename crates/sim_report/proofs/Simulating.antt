@@ -33,7 +33,7 @@ lines_same {A} f g n (x ∷ xs) h =
     lines_same f g (suc n) xs (λ i y at. let next : n + suc i ≡ suc n + i = omega arith in subst (λ (m : ℕ). f y m ≡ g y m) next (h (suc i) y at)) in
     ap (λ (l : List ℕ). l ++ lines_from f (suc n) xs) first ∙ ap (λ (l : List ℕ). g x n ++ l) rest
 
-first_same : {A : Type 0} (f g : A → ℕ → List ℕ) (xs : List A) → ((i : ℕ) (x : A) → slice_get xs i ≡ Some x → f x i ≡ g x i) → lines_from f 0 xs ≡ lines_from g 0 xs
+pub first_same : {A : Type 0} (f g : A → ℕ → List ℕ) (xs : List A) → ((i : ℕ) (x : A) → slice_get xs i ≡ Some x → f x i ≡ g x i) → lines_from f 0 xs ≡ lines_from g 0 xs
 first_same f g xs h = lines_same f g 0 xs (λ i x at. subst (λ (m : ℕ). f x m ≡ g x m) (sym (zero-add i)) (h i x at))
 
 module _ (design : DesignTree) (env : Environment) (limit : ℕ) (top : ModuleTree) (is_top : TopOf design top) (is_design : IsDesign design.modules design.top) (fits : FitsShape env (shape_of top)) where

@@ -117,8 +117,9 @@ module _ (design : DesignTree) (shape : Shape) (is : IsShapeIn design shape) whe
         as_many_ready = length-map given.waits.items (λ (v : Vec Bool Global). v.items) ∙ waits ∙ ap length memories;
       }
 
-  pub gives_environment : (text : List ℕ) (given : Data) → IsDataOf text shape given → GivesEnvironment design text (record { scalars = given.scalars.items; memories = map (λ (v : Vec ℕ Global). v.items) given.memories.items; ready = map (λ (v : Vec Bool Global). v.items) given.waits.items })
-  gives_environment text given d = record {
+  pub gives_environment : (text : List ℕ) (given : Data) → IsDataOf text shape given → Fits (bits_of_ports shape.scalars.items) (bits_of_ports shape.memories.items) given.scalars.items (map (λ (v : Vec ℕ Global). v.items) given.memories.items) → length given.waits.items ≡ length shape.memories.items
+      → GivesEnvironment design text (record { scalars = given.scalars.items; memories = map (λ (v : Vec ℕ Global). v.items) given.memories.items; ready = map (λ (v : Vec Bool Global). v.items) given.waits.items })
+  gives_environment text given d h waits = record {
     shape = shape;
     is_shape = is;
     file = d.file;
@@ -127,6 +128,7 @@ module _ (design : DesignTree) (shape : Shape) (is : IsShapeIn design shape) whe
     scalars = d.scalars;
     memories = d.memories;
     ready = d.waits;
+    fits = fits_top given h waits;
   }
 
   -- the fault of a text for the shape of a design is one for the design

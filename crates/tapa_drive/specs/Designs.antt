@@ -5,7 +5,7 @@ use Rattle.serde_json.specs.Data.{Data as Json}
 use Rattle.tapa_base.specs.declared.shape.Shape.{Shape}
 use Rattle.vlog_tree.specs.declared.fault.VFault.{VFault}
 use Rattle.vlog_tree.specs.declared.fault.VFault.TheVariants as verilog_fault
-use Rattle.vlog_tree.specs.Environment.{Environment, shape_of}
+use Rattle.vlog_tree.specs.Environment.{Environment, FitsShape, shape_of}
 use Rattle.vlog_tree.specs.Form.{ModuleTree}
 use Rattle.vlog_tree.specs.Refused.{IsDesign}
 use Rattle.vlog_lex.specs.Grammar.{HasTree}
@@ -46,8 +46,8 @@ pub record IsShapeIn (design : DesignTree) (shape : Shape) : Type 0 where
   pub scalars : shape.scalars.items ≡ (shape_of top).scalars
   pub memories : shape.memories.items ≡ (shape_of top).memories
 
--- the text is JSON without a fault for the design, and gives this environment: a value for each scalar, and for each memory its
--- first cells and when it is ready
+-- the text is JSON without a fault for the design, and gives this environment, which fits the design: a value for each scalar, and
+-- for each memory its first cells and when it is ready
 pub record GivesEnvironment (design : DesignTree) (bytes : List ℕ) (env : Environment) : Type 0 where
   pub shape : Shape
   pub is_shape : IsShapeIn design shape
@@ -57,6 +57,7 @@ pub record GivesEnvironment (design : DesignTree) (bytes : List ℕ) (env : Envi
   pub scalars : env.scalars ≡ scalars_of shape file
   pub memories : env.memories ≡ memories_of shape file
   pub ready : env.ready ≡ waits_of shape file
+  pub fits : (m : ModuleTree) → TopOf design m → FitsShape env (shape_of m)
 
 -- the text has this fault for the design, and no fault before it
 abbrev pub HasDesignFault : DesignTree → List ℕ → DataFault → Type 0

@@ -1,6 +1,7 @@
 pub mod AllDecided
 pub mod Answer
 pub mod BuildDecided
+pub mod BuiltRuns
 pub mod Carried
 pub mod CosimDecided
 pub mod Decided

@@ -1,5 +1,6 @@
-//! What a source means: the contracts of functions that do nothing.
+//! What a source means, and what a simulation of its circuit shows: the contracts of functions that do nothing.
 
+ghost use Rattle.tapa_drive.specs.BuiltRuns.{CircuitsShowTheirProgram};
 ghost use Rattle.tapa_drive.specs.OneMeaning.{SourcesHaveOneProgram, SourcesHaveOneInput, SourcesHaveOneDataFault, SourcesMeanOneThing, SourcesMeanSomething, RefusedSourcesMeanNothing, SourcesHaveOneRefusal};
 
 /// The programs of a text and the name of its top task differ only in where they lie in memory, and data give all of them
@@ -17,4 +18,11 @@ pub fn law_one_meaning()
     ensures some { SourcesMeanSomething }
     ensures refused { RefusedSourcesMeanNothing }
     ensures once { SourcesHaveOneRefusal }
+{}
+
+/// What `cosim` shows of the text of a source's circuit is what `run` shows of the source. Its stream lines are those of the timed
+/// counts; where the circuit is done in a cycle, each stream whose writer is waited for shows its whole Kahn stream, and the cycle
+/// comes within a stated number where a run within some bound ends (Kahn 1974).
+pub fn law_circuits_show_their_program()
+    ensures { CircuitsShowTheirProgram }
 {}

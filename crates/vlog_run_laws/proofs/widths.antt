@@ -6,3 +6,4 @@ pub mod Agreeing
 pub mod Given
 pub mod Fitting
 pub mod OneModule
+pub mod Beside

@@ -1,3 +1,4 @@
 pub mod runs
 pub mod loops
 pub mod widths
+pub mod Beside

@@ -154,11 +154,11 @@ module _ (S : Shape) (title : Name) (run : ℕ → Cycle) (f : Follows (built ti
       eot_is S title run f cells is.around n s reads
       ∙ sym (ap (λ (o : Offer). on_offer o 0 0 (λ t x. x)) (offer_is S title run f cells is.around n s reads TestEot) ∙ test_found (bit_at run (HasNet s) n) (nat_lt (v s) (2 ^ bits_of (stream_kind S s))) (v s) right)
 
-  load_value : (m : ℕ) (i : Expression) (into : Option ℕ) (next : ℕ) → form_at S k ≡ LoadAt m i into next → number_at run (Rdata m) n ≡ cell σ.cells m (value i σ)
-  load_value m i into next same =
+  load_value : (m : ℕ) (i : Expression) (into : Option ℕ) (next : ℕ) → form_at S k ≡ LoadAt m i into next → bit_at run (Ack m) n ≡ true → number_at run (Rdata m) n ≡ cell σ.cells m (value i σ)
+  load_value m i into next same ok =
       let g : IsInRange (ranges_in S) (LoadAt m i into next) = subst (IsInRange (ranges_in S)) same is.shows.ranged in
       let t : IsTypedState (kinds_in S) (LoadAt m i into next) = subst (IsTypedState (kinds_in S)) same is.shows.typed in
-      is.around.rdata n m g.0 ∙ ap (cell (cells n) m) (addr_is S title run f cells n k σ is m g.0 (LoadAt m i into next) same m refl refl t.0)
+      is.around.rdata n m g.0 ok ∙ ap (cell (cells n) m) (addr_is S title run f cells n k σ is m g.0 (LoadAt m i into next) same m refl refl t.0)
       ∙ ap (λ rows. cell rows m (value i σ)) (sym is.outside)
 
   counter_value : (a c next : ℕ) → form_at S k ≡ ClearAt a c next → (run n).net (name (ValueNet k 2)) ≡ cond (is_last σ a c) (slice_index σ.vars c + 1) 0
@@ -292,7 +292,7 @@ module _ (S : Shape) (title : Name) (run : ℕ → Cycle) (f : Follows (built ti
     register_is (LoadAt m i into next) same =
         set_into into (Go k) (net (Rdata m)) (ap (sets S r k) same) (bit_at run (Ack m) n)
         (λ x e. go_is S title run f cells n k σ is (LoadAt m i into next) same (Ack m) refl (ap is_some_register e))
-        (cell σ.cells m (value i σ)) (λ ok. load_value m i into next same)
+        (cell σ.cells m (value i σ)) (load_value m i into next same)
     register_is (StoreAt m i e next) same = stays (StoreAt m i e next) same refl refl
     register_is (ClearAt a c next) same =
         set_at c (At k) (net (ValueNet k 2)) (ap (sets S r k) same) true at_one (cond (is_last σ a c) (slice_index σ.vars c + 1) 0) (λ h. counter_value a c next same)

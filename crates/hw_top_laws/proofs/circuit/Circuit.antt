@@ -23,8 +23,8 @@ pub use Rattle.hw_top_laws.proofs.design.Outside.{tops_have_scalars, tops_have_m
 pub use Rattle.hw_top_laws.proofs.design.Whole.{designs_are_legal}
 use Rattle.hw_top_laws.specs.runs.Designs.{StandsForTask, StandsForChannel, IsCircuit}
 use Rattle.hw_top_laws.proofs.runs.Designs.{circuits_are_designs}
-use Rattle.hw_top_laws.proofs.kahn.Carries.{circuits_carry_streams}
-use Rattle.hw_top_laws.specs.circuit.Circuit.{machine_in, machine_of, DesignsAreCircuits, DesignsRunPrograms, DesignsCarryStreams}
+use Rattle.hw_top_laws.proofs.kahn.Carries.{circuits_carry_streams, circuits_carry_beside}
+use Rattle.hw_top_laws.specs.circuit.Circuit.{machine_in, machine_of, DesignsAreCircuits, DesignsRunPrograms, DesignsCarryStreams, DesignsCarryBeside}
 
 last_there : (xs : List ModuleTree) (x : ModuleTree) → slice_get (xs ++ x ∷ []) (length xs) ≡ Some x
 last_there [] x = refl
@@ -83,3 +83,8 @@ pub designs_carry_streams : DesignsCarryStreams
 designs_carry_streams program machines added ready kept env fits nets runs =
     circuits_carry_streams program ready.well_formed added ready.short (machine_of program machines) (design_tree program machines added) (length (lower_modules program machines added))
     (circuit program machines added ready kept) env fits nets runs
+
+pub designs_carry_beside : DesignsCarryBeside
+designs_carry_beside program machines added ready kept env fits answers nets runs =
+    circuits_carry_beside program ready.well_formed added ready.short (machine_of program machines) (design_tree program machines added) (length (lower_modules program machines added))
+    (circuit program machines added ready kept) env fits answers nets runs

@@ -1,10 +1,11 @@
 -- What a program's circuit carries in a run.
-use Rattle.std.proofs.Common.{◌≡◌, ℕ, zero, suc, ◌+◌, ◌<◌, ◌≤◌, Bool, true, false, ◌&&◌, List, [], ◌∷◌, ◌++◌, length, map, Option, Some, None, refl, sym, ap, subst, ◌∙◌, arith}
-use Rattle.std.specs.Prelude.{◌==◌, if◌then◌else◌, option_map, slice_get, slice_index, slice_index_or, unwrap_or, nat_lt}
+use Rattle.std.proofs.Common.{◌≡◌, ℕ, zero, suc, ◌+◌, ◌*◌, ◌<◌, ◌≤◌, Bool, true, false, ◌&&◌, List, [], ◌∷◌, ◌++◌, length, map, Option, Some, None, refl, sym, ap, subst, ◌∙◌, arith, ⊎_elim}
+use Rattle.std.specs.Prelude.{◌↔◌, ◌==◌, if◌then◌else◌, option_map, slice_get, slice_index, slice_index_or, unwrap_or, nat_lt}
 use Rattle.std.specs.List.{list_all}
-use Rattle.std.proofs.lemmas.Bool.{eq-eqb, eqb-true, lt-ltb}
+use Rattle.std.proofs.lemmas.Bool.{cases_eq, eq-eqb, eqb-true, lt-ltb}
 use Rattle.std.proofs.lemmas.List.{append-nil, map-append, get_or-map}
-use Rattle.std.proofs.lemmas.Option.{slice_get_within, get_or_from_slice_get}
+use Rattle.std.proofs.lemmas.Option.{slice_get_within, slice_get-get_or, get_or_from_slice_get}
+use Rattle.tapa_base.specs.declared.kind.Kind.TheVariants.{U64}
 use Rattle.tapa_base.specs.declared.token.Token.{Token}
 use Rattle.tapa_syntax.specs.WellFormed.{IsWellFormed}
 use Rattle.tapa_syntax.specs.declared.program.Instance.{Instance}
@@ -13,7 +14,9 @@ use Rattle.tapa_syntax.specs.declared.program.Memory.{Memory}
 use Rattle.tapa_syntax.specs.declared.program.Program.{Program}
 use Rattle.tapa_syntax.specs.declared.program.Stream.{Stream}
 use Rattle.vlog_tree.specs.Cycle.{Cycle, Path}
-use Rattle.vlog_tree.specs.Environment.{Environment, FitsShape, RunsIn, shape_of, cells_at, ready_at, carried as carried_bits, tokens, token_of}
+use Rattle.vlog_tree.specs.Environment.{Environment, FitsShape, IsDone, shape_of, cells_at, ready_at, carried as carried_bits, tokens, token_of}
+use Rattle.vlog_run_laws.specs.Beside.{RunsBeside, answers_in}
+use Rattle.vlog_run_laws.proofs.widths.Beside.{runs_beside}
 use Rattle.vlog_tree.specs.Form.{ModuleTree}
 use Rattle.vlog_tree.specs.Labels.{done, s_din, s_wr, s_rdy}
 use Rattle.kahn_model.proofs.Clocked.{and_parts}
@@ -21,10 +24,12 @@ use Rattle.kahn_model.proofs.WellFormed.{program_network}
 use Rattle.kahn_model.specs.Cells.{cells_at as cells_of}
 use Rattle.kahn_model.specs.Counts.{written, IsKahnPrefix, IsKahnStream}
 use Rattle.kahn_model.specs.Network.{Network}
-use Rattle.kahn_model.specs.Outcome.{IsJoined}
+use Rattle.kahn_model.specs.Ending.{IsLeastToEnd}
+use Rattle.kahn_model.specs.Outcome.{IsJoined, HaveJoinedEnded, IsDone as EndsWithin, shown}
+use Rattle.kahn_model.proofs.Least.{least_to_end}
 use Rattle.kahn_model.specs.ProgramNetwork.{end_of, is_detached as is_left}
 use Rattle.kahn_model.specs.Start.{kinds_in, leaf_state, instance_state, first_state, network_of}
-use Rattle.kahn_model.specs.Timed.{Clock, IsClock, lost}
+use Rattle.kahn_model.specs.Timed.{Clock, IsClock, count_at, lost}
 use Rattle.task_fsm.specs.declared.machine.Fsm.{Fsm}
 use Rattle.hw_task_lines.specs.declared.nets.Net.TheVariants.{Ended}
 use Rattle.hw_task_lines.specs.Machine.{put_in}
@@ -32,6 +37,7 @@ use Rattle.hw_task_lines.specs.Runs.{number_at, bit_at}
 use Rattle.hw_task_lines.specs.Signals.{Streams, History, Part}
 use Rattle.hw_network_laws.specs.network.Channel.{carried}
 use Rattle.hw_network_laws.specs.network.Joined.{AreJoinedOver, DoneIsOfJoined}
+use Rattle.hw_network_laws.proofs.network.Ports.{is_instance}
 use Rattle.hw_network_laws.proofs.network.Cells.{hold_cells}
 use Rattle.hw_network_laws.proofs.network.Joined.{done_is_of_joined}
 use Rattle.hw_network_laws.proofs.network.Pace.{keeps_pace}
@@ -42,9 +48,10 @@ use Rattle.hw_top_lines.specs.Names.{task_instance}
 use Rattle.hw_top_lines.specs.Texts.{token_bits, top_tree, is_detached, memory_name}
 use Rattle.hw_top_laws.specs.runs.Designs.{IsCircuit}
 use Rattle.hw_top_laws.specs.runs.Parts.{bit_of, token_in, streams_seen, memory_before, rows_of}
-use Rattle.hw_top_laws.specs.kahn.Carries.{network, carried_by, CarriesStreams, CircuitsCarryStreams}
-use Rattle.hw_top_laws.specs.kahn.Clock.{answers_of, clock_in, counts, all_answer}
+use Rattle.hw_top_laws.specs.kahn.Carries.{network, carried_by, CircuitsCarryStreams, CircuitsCarryBeside}
+use Rattle.hw_top_laws.specs.kahn.Clock.{answers_of, all_answer, answer_of, bound_answers, each_answers, all_answer_beside}
 use Rattle.hw_top_laws.proofs.kahn.Done.{told, only, end_is, end_low}
+use Rattle.hw_top_laws.proofs.kahn.Waits.{in_time_by}
 use Rattle.hw_top_laws.proofs.kahn.Networks.{parts, histories, design, are_machines, label_is, in_clock}
 
 push : (f : ℕ → Token) (b : Bool) (l : List ℕ) (d : ℕ) → map f l ++ (if b then f d ∷ [] else []) ≡ map f (if b then l ++ d ∷ [] else l)
@@ -56,6 +63,14 @@ all_got n [] k h = refl
 all_got n (x ∷ all) zero h = (and_parts (ready_at x (suc n) == 1) (list_all (λ (ready : List Bool). ready_at ready (suc n) == 1) all) h).0
 all_got n (x ∷ all) (suc k) h = all_got n all k (and_parts (ready_at x (suc n) == 1) (list_all (λ (ready : List Bool). ready_at ready (suc n) == 1) all) h).1
 
+wide : (a x y : ℕ) → 1 ≤ y → x ≤ y → 1 + a * x ≤ (a + 2) * y
+wide zero x y one le = let e : (0 + 2) * y ≡ y + y = omega arith in omega arith
+wide (suc a) x y one le =
+    let h = wide a x y one le in
+    let e : suc a * x ≡ x + a * x = omega arith in
+    let f : (suc a + 2) * y ≡ y + (a + 2) * y = omega arith in
+    omega arith
+
 -- where every memory answers, each does
 one_answers : (env : Environment) (o : Option Instance) (m n : ℕ) → all_answer env n ≡ true → answers_of env o m n ≡ true
 one_answers env None m n h = refl
@@ -63,7 +78,8 @@ one_answers env (Some x) m zero h = cc
 one_answers env (Some x) m (suc n) h = all_got n env.ready (slice_index x.memories.items m) (and_parts (nat_lt 0 (suc n)) (list_all (λ (ready : List Bool). ready_at ready (suc n) == 1) env.ready) h).1
 
 module _ (program : Program) (w : IsWellFormed program) (added : List ℕ) (short : AreShort added) (machines : ℕ → Option Fsm) (all : List ModuleTree) (place : ℕ) (c : IsCircuit program added machines all place) (env : Environment)
-    (env_fits : FitsShape env (shape_of (top_tree program added))) (nets : ℕ → Path → Cycle) (r : RunsIn all (top_tree program added) env nets) where
+    (env_fits : FitsShape env (shape_of (top_tree program added))) (acks : ℕ → ℕ → Bool) (nets : ℕ → Path → Cycle) (r : RunsBeside all (top_tree program added) env acks nets) (seen : ℕ → ℕ → ℕ → Bool)
+    (same : (i : ℕ) (x : Instance) (leaf : Leaf) → slice_get program.instances.items i ≡ Some x → slice_get program.bodies.items x.body ≡ Some leaf → (n m : ℕ) → m < length leaf.memories.items → acks (slice_index x.memories.items m) n ≡ seen i m n) where
   abbrev T : Streams
   T = streams_seen program nets
 
@@ -71,16 +87,16 @@ module _ (program : Program) (w : IsWellFormed program) (added : List ℕ) (shor
   net = network program env
 
   abbrev clock : Clock
-  clock = clock_in program added env
+  clock = record { latency = slice_index added; answers = seen }
 
   abbrev top : ℕ → Cycle
   top n = nets n []
 
   abbrev h : ℕ → History
-  h = histories program w added short machines all place c env env_fits nets r
+  h = histories program w added short machines all place c env env_fits acks nets r
 
   abbrev p : ℕ → Part
-  p = parts program w added short machines all place c env env_fits nets r
+  p = parts program w added short machines all place c env env_fits acks nets r
 
   size_is : net.size ≡ length program.instances.items
   unfolding network_of
@@ -123,8 +139,8 @@ module _ (program : Program) (w : IsWellFormed program) (added : List ℕ) (shor
   module _ (i : ℕ) (x : Instance) (leaf : Leaf) (at : slice_get program.instances.items i ≡ Some x) (body : slice_get program.bodies.items x.body ≡ Some leaf) where
     over_is : (n : ℕ) → (h i).ended n ≡ (number_at (λ k. nets k (task_instance x.label ∷ [])) Ended n == 1)
     over_is n =
-        ap (λ (z : History). z.ended n) ((are_machines program w added short machines all place c env env_fits nets r).history i x leaf (c.tasks i x leaf at body).machine at body (c.tasks i x leaf at body).is)
-        ∙ ap (λ l. bit_at (λ k. nets k (task_instance l ∷ [])) Ended n) (label_is program w added short machines all place c env env_fits nets r i x at)
+        ap (λ (z : History). z.ended n) ((are_machines program w added short machines all place c env env_fits acks nets r).history i x leaf (c.tasks i x leaf at body).machine at body (c.tasks i x leaf at body).is)
+        ∙ ap (λ l. bit_at (λ k. nets k (task_instance l ∷ [])) Ended n) (label_is program w added short machines all place c env env_fits acks nets r i x at)
 
     left_is : is_detached (slice_get program.instances.items i) ≡ net.detached i
     unfolding network_of
@@ -136,19 +152,19 @@ module _ (program : Program) (w : IsWellFormed program) (added : List ℕ) (shor
       let l : i < length program.instances.items = omega (arith, low, z) in
       let x = item_at program.instances.items i l in
       let leaf = w.instances i x.0 x.1 in
-      let one = only program w added short machines all place c env env_fits nets r n is i l (left_is i x.0 leaf.0 x.1 leaf.1.body ∙ joined) (end_low program w added short machines all place c env env_fits nets r i x.0 leaf.0 x.1 leaf.1.body n) in
+      let one = only program w added short machines all place c env env_fits acks nets r n is i l (left_is i x.0 leaf.0 x.1 leaf.1.body ∙ joined) (end_low program w added short machines all place c env env_fits acks nets r i x.0 leaf.0 x.1 leaf.1.body n) in
       over_is i x.0 leaf.0 x.1 leaf.1.body n
-      ∙ eq-eqb (number_at (λ k. nets k (task_instance x.0.label ∷ [])) Ended n) 1 (sym (end_is program w added short machines all place c env env_fits nets r i x.0 leaf.0 x.1 leaf.1.body n) ∙ one)
+      ∙ eq-eqb (number_at (λ k. nets k (task_instance x.0.label ∷ [])) Ended n) 1 (sym (end_is program w added short machines all place c env env_fits acks nets r i x.0 leaf.0 x.1 leaf.1.body n) ∙ one)
 
   over_done : (n : ℕ) → AreJoinedOver net h n → (top n).net done ≡ 1
   over_done n over =
-      told program w added short machines all place c env env_fits nets r n
+      told program w added short machines all place c env env_fits acks nets r n
       (λ i l left.
       let z = size_is in
       let x = item_at program.instances.items i l in
       let leaf = w.instances i x.0 x.1 in
       let ended = over i (omega (arith, l, z)) (sym (left_is i x.0 leaf.0 x.1 leaf.1.body) ∙ left) in
-      end_is program w added short machines all place c env env_fits nets r i x.0 leaf.0 x.1 leaf.1.body n
+      end_is program w added short machines all place c env env_fits acks nets r i x.0 leaf.0 x.1 leaf.1.body n
       ∙ eqb-true (number_at (λ k. nets k (task_instance x.0.label ∷ [])) Ended n) 1 (sym (over_is i x.0 leaf.0 x.1 leaf.1.body n) ∙ ended))
 
   -- ---- memories
@@ -159,8 +175,8 @@ module _ (program : Program) (w : IsWellFormed program) (added : List ℕ) (shor
 
     first_cells : (p i).first.cells ≡ (first_state program env.scalars env.memories i).cells
     first_cells =
-        ap (λ (z : Part). z.first.cells) ((are_machines program w added short machines all place c env env_fits nets r).part i x leaf (c.tasks i x leaf owner body).machine owner body (c.tasks i x leaf owner body).is)
-        ∙ ((design program w added short machines all place c env env_fits nets r).tasks i x leaf owner body).runs.begins.cells_stand
+        ap (λ (z : Part). z.first.cells) ((are_machines program w added short machines all place c env env_fits acks nets r).part i x leaf (c.tasks i x leaf owner body).machine owner body (c.tasks i x leaf owner body).is)
+        ∙ ((design program w added short machines all place c env env_fits acks nets r).tasks i x leaf owner body).runs.begins.cells_stand
         ∙ sym (ap (λ z. (instance_state program env.scalars env.memories z).cells) owner ∙ ap (λ z. (leaf_state (kinds_in program) env.scalars env.memories x z).cells) body)
 
     name_is : memory_name program m ≡ o.name
@@ -168,18 +184,18 @@ module _ (program : Program) (w : IsWellFormed program) (added : List ℕ) (shor
 
     row_is : (n : ℕ) → slice_index_or ((h i).holds n).cells k [] ≡ cells_at top o.name (slice_index_or env.memories m []) n
     row_is n =
-        ap (λ (z : History). slice_index_or (z.holds n).cells k []) ((are_machines program w added short machines all place c env env_fits nets r).history i x leaf (c.tasks i x leaf owner body).machine owner body (c.tasks i x leaf owner body).is)
+        ap (λ (z : History). slice_index_or (z.holds n).cells k []) ((are_machines program w added short machines all place c env env_fits acks nets r).history i x leaf (c.tasks i x leaf owner body).machine owner body (c.tasks i x leaf owner body).is)
         ∙ ap (λ z. slice_index_or (rows_of program env nets z n) k []) owner
         ∙ get_or-map (λ y. memory_before program env nets y n) x.memories.items k 0 [] (slice_get_within x.memories.items k m bound)
         ∙ ap (λ y. memory_before program env nets y n) (get_or_from_slice_get x.memories.items k m 0 bound)
         ∙ ap (λ y. cells_at top y (slice_index_or env.memories m []) n) name_is
 
-    cells_are : (n : ℕ) → cells_at top o.name (slice_index_or env.memories m []) (suc n) ≡ cells_of program env.scalars env.memories (counts program added env (suc n)) m
+    cells_are : (n : ℕ) → cells_at top o.name (slice_index_or env.memories m []) (suc n) ≡ cells_of program env.scalars env.memories (count_at net clock (suc n)) m
     cells_are n =
         sym (row_is (suc n))
-        ∙ hold_cells program w env.scalars env.memories clock p T h (in_clock program w added short machines all place c env env_fits nets r) m k o x at owner bound first_cells n
+        ∙ hold_cells program w env.scalars env.memories clock p T h (in_clock program w added short machines all place c env env_fits acks nets r seen same) m k o x at owner bound first_cells n
 
-  memory_holds : (m n : ℕ) (o : Memory) → slice_get program.memories.items m ≡ Some o → cells_at top o.name (slice_index_or env.memories m []) (suc n) ≡ cells_of program env.scalars env.memories (counts program added env (suc n)) m
+  pub memory_holds : (m n : ℕ) (o : Memory) → slice_get program.memories.items m ≡ Some o → cells_at top o.name (slice_index_or env.memories m []) (suc n) ≡ cells_of program env.scalars env.memories (count_at net clock (suc n)) m
   memory_holds m n o at =
       let own = w.memories m o at in
       let leaf = w.instances o.owner own.instance own.is in
@@ -188,26 +204,109 @@ module _ (program : Program) (w : IsWellFormed program) (added : List ℕ) (shor
   -- ---- all of it
 
   D : DoneIsOfJoined net clock T h
-  D = done_is_of_joined net clock p T h (in_clock program w added short machines all place c env env_fits nets r)
+  D = done_is_of_joined net clock p T h (in_clock program w added short machines all place c env env_fits acks nets r seen same)
 
-  is_clock : (most waits : ℕ) → ((s : ℕ) → slice_index added s ≤ most) → ((n : ℕ) → lost (all_answer env) n ≤ waits) → IsClock clock most (all_answer env) waits
-  is_clock most waits late few = record { latest = late; answered = λ n yes i m. one_answers env (slice_get program.instances.items i) m n yes; few = few }
+  pub streams_are : (s n : ℕ) (q : Stream) → slice_get program.streams.items s ≡ Some q → carried_by nets q n ≡ written net (count_at net clock (suc n)) s
+  streams_are s n q at = sym (seen_is s q at n) ∙ (in_step net clock p T h (in_clock program w added short machines all place c env env_fits acks nets r seen same) n).0.put s
 
-  pub carries : CarriesStreams program added env nets
-  carries = record {
-    streams = λ s n q at. sym (seen_is s q at n) ∙ (in_step net clock p T h (in_clock program w added short machines all place c env env_fits nets r) n).0.put s;
-    memories = memory_holds;
-    done = λ n. (λ d. D.told (suc n) d.0 (done_over (suc n) d.1), λ ended. (omega arith, over_done (suc n) (D.only (suc n) (omega arith) ended)));
-    begins = λ s n q at. subst (IsKahnPrefix net s) (seen_is s q at n) (D.begins s (suc n));
-    whole = λ s n m q at d le joined.
-        subst (IsKahnStream net s) (seen_is s q at m) (D.whole s n (suc m) d.0 (omega (arith, le)) (done_over n d.1) (writer_inside s q at) (writer_joined s q at joined));
-    shows = λ bound k e s n m q at d le joined.
-        sym (seen_is s q at m) ∙ D.shows bound k e s n (suc m) d.0 (omega (arith, le)) (done_over n d.1) (writer_inside s q at) (writer_joined s q at joined);
-    in_time = λ most waits late few bound k e.
-        let t = D.in_time most (all_answer env) waits (is_clock most waits late few) bound k e in
-        (t.0, t.1, (t.2.0, (t.2.1, over_done t.2.0 t.2.3), t.2.2));
-    pace = λ most late. keeps_pace net (program_network program w env.scalars env.memories) clock most late;
-  }
+  pub done_is : (n : ℕ) → IsDone top (suc n) ↔ HaveJoinedEnded net (count_at net clock (suc n))
+  done_is n = (λ d. D.told (suc n) d.0 (done_over (suc n) d.1), λ ended. (omega arith, over_done (suc n) (D.only (suc n) (omega arith) ended)))
+
+  pub begins : (s n : ℕ) (q : Stream) → slice_get program.streams.items s ≡ Some q → IsKahnPrefix net s (carried_by nets q n)
+  begins s n q at = subst (IsKahnPrefix net s) (seen_is s q at n) (D.begins s (suc n))
+
+  pub whole : (s n m : ℕ) (q : Stream) → slice_get program.streams.items s ≡ Some q → IsDone top n → n ≤ m → IsJoined net q.producer → IsKahnStream net s (carried_by nets q m)
+  whole s n m q at d le joined = subst (IsKahnStream net s) (seen_is s q at m) (D.whole s n (suc m) d.0 (omega (arith, le)) (done_over n d.1) (writer_inside s q at) (writer_joined s q at joined))
+
+  pub shows : (bound : ℕ) (k : ℕ → ℕ) → EndsWithin net bound k → (s n m : ℕ) (q : Stream) → slice_get program.streams.items s ≡ Some q → IsDone top n → n ≤ m → IsJoined net q.producer → carried_by nets q m ≡ shown net k s
+  shows bound k e s n m q at d le joined = sym (seen_is s q at m) ∙ D.shows bound k e s n (suc m) d.0 (omega (arith, le)) (done_over n d.1) (writer_inside s q at) (writer_joined s q at joined)
+
+  pub in_time : (most : ℕ) (ready : ℕ → Bool) (waits : ℕ) → IsClock clock most ready waits → (bound : ℕ) (k : ℕ → ℕ) → EndsWithin net bound k → (a : ℕ) × IsLeastToEnd net a × ((n : ℕ) × IsDone top n × (n ≤ (a + 2) * (2 * most + 4) + waits))
+  in_time most ready waits is_clock bound k e =
+      let t = D.in_time most ready waits is_clock bound k e in
+      (t.0, t.1, (t.2.0, (t.2.1, over_done t.2.0 t.2.3), t.2.2))
+
+  -- by the answers up to then alone
+  pub in_time_beside : (most : ℕ) (ready : ℕ → Bool) → ((s : ℕ) → slice_index added s ≤ most) → ((n : ℕ) → ready n ≡ true → (i m : ℕ) → seen i m n ≡ true) → (bound : ℕ) (k : ℕ → ℕ) → EndsWithin net bound k
+      → (a : ℕ) × IsLeastToEnd net a × ((limit : ℕ) → (a + 2) * (2 * most + 4) + lost ready limit ≤ limit → (n : ℕ) × IsDone top n × (n ≤ (a + 2) * (2 * most + 4) + lost ready n))
+  in_time_beside most ready late answered bound k e =
+      let ok = (in_clock program w added short machines all place c env env_fits acks nets r seen same).network in
+      let least = least_to_end net ok bound k e in
+      let long : 1 + least.0 * suc most ≤ (least.0 + 2) * (2 * most + 4) = wide least.0 (suc most) (2 * most + 4) (omega arith) (omega arith) in
+      let some : 1 ≤ (least.0 + 2) * (2 * most + 4) = omega arith in (
+        least.0,
+        least.1,
+        λ limit enough.
+            let t = in_time_by net ok clock most ready late answered least.0 least.1 ((least.0 + 2) * (2 * most + 4)) some long limit enough in
+            (t.0, (t.1, over_done t.0 (D.only t.0 t.1 t.3)), t.2),
+      )
+
+-- ---- in an environment, and beside memories that show a cell where they answer
 
 pub circuits_carry_streams : CircuitsCarryStreams
-circuits_carry_streams program w added short machines all place c env env_fits nets r = carries program w added short machines all place c env env_fits nets r
+circuits_carry_streams program w added short machines all place c env env_fits nets r =
+    let acks = answers_in env in
+    let b : RunsBeside all (top_tree program added) env acks nets = runs_beside all place (top_tree program added) c.design c.is_top env env_fits nets r in
+    let seen : ℕ → ℕ → ℕ → Bool = λ i. answers_of env (slice_get program.instances.items i) in
+    let same = λ (i : ℕ) (x : Instance) (leaf : Leaf) (at : slice_get program.instances.items i ≡ Some x) (body : slice_get program.bodies.items x.body ≡ Some leaf) (n m : ℕ) (l : m < length leaf.memories.items).
+    sym (ap (λ o. answers_of env o m n) at) in
+    record {
+      streams = streams_are program w added short machines all place c env env_fits acks nets b seen same;
+      memories = memory_holds program w added short machines all place c env env_fits acks nets b seen same;
+      done = done_is program w added short machines all place c env env_fits acks nets b seen same;
+      begins = begins program w added short machines all place c env env_fits acks nets b seen same;
+      whole = whole program w added short machines all place c env env_fits acks nets b seen same;
+      shows = shows program w added short machines all place c env env_fits acks nets b seen same;
+      in_time = λ most waits late few.
+          in_time program w added short machines all place c env env_fits acks nets b seen same most (all_answer env) waits
+          (record { latest = late; answered = λ n yes i m. one_answers env (slice_get program.instances.items i) m n yes; few = few });
+      pace = λ most late. keeps_pace (network program env) (program_network program w env.scalars env.memories) (clock_in program added env) most late;
+    }
+
+each_of : (answers : ℕ → ℕ → Bool) (k m n : ℕ) → each_answers answers k n ≡ true → m < k → answers m n ≡ true
+each_of answers zero m n h l = absurd (omega (arith, l))
+each_of answers (suc k) m n h l =
+    let both = and_parts (each_answers answers k n) (answers k n) h in
+    ⊎_elim (λ (e : m ≡ k). ap (λ z. answers z n) e ∙ both.1) (λ (d : m ≡ k → ⊥). each_of answers k m n both.0 (omega (arith, l, d))) (cases_eq m k)
+
+module _ (program : Program) (w : IsWellFormed program) (acks : ℕ → ℕ → Bool) where
+  -- a position that is bound is bound to a memory of the program
+  bound_there : (i : ℕ) (x : Instance) → slice_get program.instances.items i ≡ Some x → (p m : ℕ) → slice_get x.memories.items p ≡ Some m → m < length program.memories.items
+  bound_there i x at p m got =
+      let leaf = w.instances i x at in
+      let is = is_instance program w i x leaf.0 at leaf.1.body in
+      let e = is.memories_len in
+      let l = slice_get_within x.memories.items p m got in
+      let o = is.memories p m (slice_index_or leaf.0.memories.items p U64) got (slice_get-get_or leaf.0.memories.items p U64 (omega (arith, l, e))) in
+      slice_get_within program.memories.items m o.memory o.is
+
+  answered_at : (i : ℕ) (x : Instance) → slice_get program.instances.items i ≡ Some x → (p n : ℕ) (o : Option ℕ) → slice_get x.memories.items p ≡ o → all_answer_beside program acks n ≡ true → answer_of acks o n ≡ true
+  answered_at i x at p n None got h = refl
+  answered_at i x at p n (Some m) got h = each_of acks (length program.memories.items) m n h (bound_there i x at p m got)
+
+  answered_by : (n : ℕ) → all_answer_beside program acks n ≡ true → (i p : ℕ) (o : Option Instance) → slice_get program.instances.items i ≡ o → bound_answers acks o p n ≡ true
+  answered_by n h i p None got = refl
+  answered_by n h i p (Some x) got = answered_at i x got p n (slice_get x.memories.items p) refl h
+
+  seen_so : (i : ℕ) (x : Instance) (leaf : Leaf) → slice_get program.instances.items i ≡ Some x → slice_get program.bodies.items x.body ≡ Some leaf → (n m : ℕ) → m < length leaf.memories.items
+      → acks (slice_index x.memories.items m) n ≡ bound_answers acks (slice_get program.instances.items i) m n
+  seen_so i x leaf at body n m l =
+      let is = is_instance program w i x leaf at body in
+      let e = is.memories_len in
+      sym (ap (λ o. bound_answers acks o m n) at ∙ ap (λ o. answer_of acks o n) (slice_get-get_or x.memories.items m 0 (omega (arith, l, e))))
+
+pub circuits_carry_beside : CircuitsCarryBeside
+circuits_carry_beside program w added short machines all place c env env_fits acks nets b =
+    let seen : ℕ → ℕ → ℕ → Bool = λ i. bound_answers acks (slice_get program.instances.items i) in
+    let same = seen_so program w acks in
+    record {
+      streams = streams_are program w added short machines all place c env env_fits acks nets b seen same;
+      memories = memory_holds program w added short machines all place c env env_fits acks nets b seen same;
+      done = done_is program w added short machines all place c env env_fits acks nets b seen same;
+      begins = begins program w added short machines all place c env env_fits acks nets b seen same;
+      whole = whole program w added short machines all place c env env_fits acks nets b seen same;
+      shows = shows program w added short machines all place c env env_fits acks nets b seen same;
+      in_time = λ most late.
+          in_time_beside program w added short machines all place c env env_fits acks nets b seen same most (all_answer_beside program acks) late
+          (λ n yes i m. answered_by program w acks n yes i m (slice_get program.instances.items i) refl);
+    }

@@ -7,7 +7,8 @@ use Rattle.tapa_syntax.specs.declared.program.Instance.{Instance}
 use Rattle.tapa_syntax.specs.declared.program.Leaf.{Leaf}
 use Rattle.tapa_syntax.specs.declared.program.Program.{Program}
 use Rattle.vlog_tree.specs.Cycle.{Cycle, Path, Follows, driven}
-use Rattle.vlog_tree.specs.Environment.{Environment, FitsShape, RunsIn, shape_of}
+use Rattle.vlog_tree.specs.Environment.{Environment, FitsShape, shape_of}
+use Rattle.vlog_run_laws.specs.Beside.{RunsBeside}
 use Rattle.vlog_tree.specs.Form.{ModuleTree}
 use Rattle.vlog_tree.specs.Labels.{done}
 use Rattle.tapa_base.proofs.Lists.{has_left, has_right}
@@ -39,7 +40,7 @@ low_waits true e = omega arith
 low_waits false e = omega arith
 
 module _ (program : Program) (w : IsWellFormed program) (added : List ℕ) (short : AreShort added) (machines : ℕ → Option Fsm) (all : List ModuleTree) (place : ℕ) (c : IsCircuit program added machines all place) (env : Environment)
-    (env_fits : FitsShape env (shape_of (top_tree program added))) (nets : ℕ → Path → Cycle) (r : RunsIn all (top_tree program added) env nets) where
+    (env_fits : FitsShape env (shape_of (top_tree program added))) (acks : ℕ → ℕ → Bool) (nets : ℕ → Path → Cycle) (r : RunsBeside all (top_tree program added) env acks nets) where
   abbrev count : ℕ
   count = length program.instances.items
 
@@ -137,9 +138,9 @@ module _ (program : Program) (w : IsWellFormed program) (added : List ℕ) (shor
     -- the net is the instance's own register
     pub end_is : (n : ℕ) → (top n).net (ended_net i) ≡ number_at run Ended n
     end_is n =
-        sym (done_at program added all nets r.runs i x leaf at body n) ∙ (runs_task program w added short machines all place c env env_fits nets r i x leaf at body).done n
+        sym (done_at program added all nets r.runs i x leaf at body n) ∙ (runs_task program w added short machines all place c env env_fits acks nets r i x leaf at body).done n
 
     pub end_low : (n : ℕ) → (top n).net (ended_net i) < 2
     end_low n =
         subst (λ z. z < 2) (done_at program added all nets r.runs i x leaf at body n)
-        (done_low program added all place c.design c.is_top env env_fits nets r leaf (c.tasks i x leaf at body).machine (task_instance x.label ∷ []) (task_at program w added short machines all place c env env_fits nets r i x leaf at body) n)
+        (done_low program added all place c.design c.is_top env env_fits acks nets r leaf (c.tasks i x leaf at body).machine (task_instance x.label ∷ []) (task_at program w added short machines all place c env env_fits acks nets r i x leaf at body) n)

@@ -1,12 +1,13 @@
--- A program's circuit in a run is the clocked network of its program, at the clock of the environment.
-use Rattle.std.proofs.Common.{◌≡◌, ℕ, ◌<◌, false, List, [], ◌∷◌, length, Option, Some, None, sym, ap, subst, ◌∙◌}
+-- A program's circuit in a run is the clocked network of its program, at the clock of its memories' answers.
+use Rattle.std.proofs.Common.{◌≡◌, ℕ, ◌<◌, Bool, false, List, [], ◌∷◌, length, Option, Some, None, sym, ap, subst, ◌∙◌}
 use Rattle.std.specs.Prelude.{◌==◌, option_map, slice_get, slice_index, unwrap_or}
 use Rattle.tapa_syntax.specs.WellFormed.{IsWellFormed}
 use Rattle.tapa_syntax.specs.declared.program.Instance.{Instance}
 use Rattle.tapa_syntax.specs.declared.program.Leaf.{Leaf}
 use Rattle.tapa_syntax.specs.declared.program.Program.{Program}
 use Rattle.vlog_tree.specs.Cycle.{Cycle, Path}
-use Rattle.vlog_tree.specs.Environment.{Environment, FitsShape, RunsIn, shape_of}
+use Rattle.vlog_tree.specs.Environment.{Environment, FitsShape, shape_of}
+use Rattle.vlog_run_laws.specs.Beside.{RunsBeside}
 use Rattle.vlog_tree.specs.Form.{ModuleTree}
 use Rattle.kahn_model.specs.Network.{Network}
 use Rattle.kahn_model.specs.Start.{empty_state, network_of}
@@ -25,11 +26,10 @@ use Rattle.hw_top_lines.specs.Names.{task_instance}
 use Rattle.hw_top_lines.specs.Texts.{top_tree}
 use Rattle.hw_top_laws.specs.runs.Designs.{IsCircuit}
 use Rattle.hw_top_laws.specs.runs.Parts.{instance_run, instance_rows, channel_run, streams_seen}
-use Rattle.hw_top_laws.proofs.runs.Designs.{circuits_are_designs}
-use Rattle.hw_top_laws.proofs.runs.Rows.{ack_is}
+use Rattle.hw_top_laws.proofs.runs.Designs.{circuits_beside}
+use Rattle.hw_top_laws.proofs.runs.Rows.{answers_are}
 use Rattle.hw_top_laws.proofs.runs.Tasks.{outside_fits}
 use Rattle.hw_top_laws.specs.kahn.Carries.{network}
-use Rattle.hw_top_laws.specs.kahn.Clock.{answers_of, clock_in}
 use Rattle.hw_top_laws.proofs.kahn.Answers.{runs_with}
 
 abbrev no_part : Part
@@ -39,7 +39,7 @@ abbrev no_history : History
 no_history = record { at = λ n. 0; holds = λ n. empty_state; ended = λ n. false }
 
 module _ (program : Program) (w : IsWellFormed program) (added : List ℕ) (short : AreShort added) (machines : ℕ → Option Fsm) (all : List ModuleTree) (place : ℕ) (c : IsCircuit program added machines all place) (env : Environment)
-    (env_fits : FitsShape env (shape_of (top_tree program added))) (nets : ℕ → Path → Cycle) (r : RunsIn all (top_tree program added) env nets) where
+    (env_fits : FitsShape env (shape_of (top_tree program added))) (acks : ℕ → ℕ → Bool) (nets : ℕ → Path → Cycle) (r : RunsBeside all (top_tree program added) env acks nets) where
   abbrev T : Streams
   T = streams_seen program nets
 
@@ -73,7 +73,7 @@ module _ (program : Program) (w : IsWellFormed program) (added : List ℕ) (shor
   histories i = history_of i (slice_get program.instances.items i)
 
   pub design : IsDesignOf program env.scalars env.memories (slice_index added) machines (instance_run program nets) (instance_rows program env nets) (channel_run program nets) T
-  design = circuits_are_designs program w added short machines all place c env env_fits nets r
+  design = circuits_beside program w added short machines all place c env env_fits acks nets r
 
   pub are_machines : AreMachines program machines (instance_run program nets) (instance_rows program env nets) parts histories
   are_machines = record {
@@ -85,39 +85,41 @@ module _ (program : Program) (w : IsWellFormed program) (added : List ℕ) (shor
   by_modules =
       clocked program w env.scalars env.memories (slice_index added) machines (instance_run program nets) (instance_rows program env nets) (channel_run program nets) T design parts histories are_machines
 
-  -- ---- at the clock of the environment
+  -- ---- at the clock of the cycles in which its memories are seen to answer
 
   pub label_is : (i : ℕ) (x : Instance) → slice_get program.instances.items i ≡ Some x → unwrap_or (option_map (λ (z : Instance). z.label) (slice_get program.instances.items i)) [] ≡ x.label
   label_is i x at = ap (λ o. unwrap_or (option_map (λ (z : Instance). z.label) o) []) at
 
-  answers_same : (i : ℕ) (x : Instance) (leaf : Leaf) → slice_get program.instances.items i ≡ Some x → slice_get program.bodies.items x.body ≡ Some leaf → (n m : ℕ) → m < length leaf.memories.items
-      → answers_at (instance_run program nets i) m n ≡ answers_of env (slice_get program.instances.items i) m n
-  answers_same i x leaf at body n m l =
-      ap (λ z. answers_at (λ k. nets k (task_instance z ∷ [])) m n) (label_is i x at)
-      ∙ ap (λ z. z == 1) (ack_is program w added all nets r.runs env r.stands c.memories (outside_fits program w added short machines all place c env env_fits nets r i x leaf at body) i x leaf at body (c.tasks i x leaf at body).machine n m l)
-      ∙ sym (ap (λ o. answers_of env o m n) at)
+  module _ (seen : ℕ → ℕ → ℕ → Bool)
+      (same : (i : ℕ) (x : Instance) (leaf : Leaf) → slice_get program.instances.items i ≡ Some x → slice_get program.bodies.items x.body ≡ Some leaf → (n m : ℕ) → m < length leaf.memories.items → acks (slice_index x.memories.items m) n ≡ seen i m n) where
+    answers_same : (i : ℕ) (x : Instance) (leaf : Leaf) → slice_get program.instances.items i ≡ Some x → slice_get program.bodies.items x.body ≡ Some leaf → (n m : ℕ) → m < length leaf.memories.items
+        → answers_at (instance_run program nets i) m n ≡ seen i m n
+    answers_same i x leaf at body n m l =
+        ap (λ z. answers_at (λ k. nets k (task_instance z ∷ [])) m n) (label_is i x at)
+        ∙ answers_are program w added all nets r.runs env acks r.stands c.memories (outside_fits program w added short machines all place c env env_fits acks nets r i x leaf at body) i x leaf at body (c.tasks i x leaf at body).machine n m l
+        ∙ same i x leaf at body n m l
 
-  runs_there : (i : ℕ) → i < length program.instances.items → RunsMachine (parts i) T (answers_at (instance_run program nets i)) (λ s. net.consumer s ≡ i) (λ s. net.producer s ≡ i) (histories i)
-      → RunsMachine (parts i) T (answers_of env (slice_get program.instances.items i)) (λ s. net.consumer s ≡ i) (λ s. net.producer s ≡ i) (histories i)
-  runs_there i l m =
-      let x = item_at program.instances.items i l in
-      let leaf = w.instances i x.0 x.1 in
-      let task = c.tasks i x.0 leaf.0 x.1 leaf.1.body in
-      let own = are_machines.part i x.0 leaf.0 task.machine x.1 leaf.1.body task.is in
-      runs_with (parts i) T (answers_at (instance_run program nets i)) (answers_of env (slice_get program.instances.items i)) (λ s. net.consumer s ≡ i) (λ s. net.producer s ≡ i) (histories i) (ranges_of leaf.0 task.machine)
-      (subst (λ (p : Part). AreInRange (ranges_of leaf.0 task.machine) p.places) (sym own) task.lowered.in_range)
-      (λ n k low. answers_same i x.0 leaf.0 x.1 leaf.1.body n k low) m
+    runs_there : (i : ℕ) → i < length program.instances.items → RunsMachine (parts i) T (answers_at (instance_run program nets i)) (λ s. net.consumer s ≡ i) (λ s. net.producer s ≡ i) (histories i)
+        → RunsMachine (parts i) T (seen i) (λ s. net.consumer s ≡ i) (λ s. net.producer s ≡ i) (histories i)
+    runs_there i l m =
+        let x = item_at program.instances.items i l in
+        let leaf = w.instances i x.0 x.1 in
+        let task = c.tasks i x.0 leaf.0 x.1 leaf.1.body in
+        let own = are_machines.part i x.0 leaf.0 task.machine x.1 leaf.1.body task.is in
+        runs_with (parts i) T (answers_at (instance_run program nets i)) (seen i) (λ s. net.consumer s ≡ i) (λ s. net.producer s ≡ i) (histories i) (ranges_of leaf.0 task.machine)
+        (subst (λ (p : Part). AreInRange (ranges_of leaf.0 task.machine) p.places) (sym own) task.lowered.in_range)
+        (λ n k low. answers_same i x.0 leaf.0 x.1 leaf.1.body n k low) m
 
-  inside : (i : ℕ) → i < net.size → i < length program.instances.items
-  unfolding network_of
-  inside i l = l
+    inside : (i : ℕ) → i < net.size → i < length program.instances.items
+    unfolding network_of
+    inside i l = l
 
-  pub in_clock : IsClocked net (clock_in program added env) parts T histories
-  in_clock = record {
-    network = by_modules.network;
-    follows = by_modules.follows;
-    runs = λ i l. runs_there i (inside i l) (by_modules.runs i l);
-    channels = by_modules.channels;
-    put_inside = by_modules.put_inside;
-    taken_inside = by_modules.taken_inside;
-  }
+    pub in_clock : IsClocked net (record { latency = slice_index added; answers = seen }) parts T histories
+    in_clock = record {
+      network = by_modules.network;
+      follows = by_modules.follows;
+      runs = λ i l. runs_there i (inside i l) (by_modules.runs i l);
+      channels = by_modules.channels;
+      put_inside = by_modules.put_inside;
+      taken_inside = by_modules.taken_inside;
+    }

@@ -1,5 +1,5 @@
 -- The circuit of a program, in a run, is a design of the program's instances and streams.
-use Rattle.std.proofs.Common.{◌≡◌, ℕ, suc, ◌+◌, List, [], ◌∷◌, Option, Some, None, sym, ap, subst, ◌∙◌}
+use Rattle.std.proofs.Common.{◌≡◌, ℕ, suc, ◌+◌, Bool, List, [], ◌∷◌, Option, Some, None, sym, ap, subst, ◌∙◌}
 use Rattle.std.specs.Prelude.{◌==◌, option_map, slice_get, slice_index, unwrap_or, codes}
 use Rattle.tapa_base.specs.Kinds.{bits_of}
 use Rattle.tapa_syntax.specs.WellFormed.{IsWellFormed}
@@ -8,7 +8,9 @@ use Rattle.tapa_syntax.specs.declared.program.Leaf.{Leaf}
 use Rattle.tapa_syntax.specs.declared.program.Program.{Program}
 use Rattle.tapa_syntax.specs.declared.program.Stream.{Stream}
 use Rattle.vlog_tree.specs.Cycle.{Cycle, Path}
-use Rattle.vlog_tree.specs.Environment.{Environment, FitsShape, RunsIn, shape_of, token_of}
+use Rattle.vlog_tree.specs.Environment.{Environment, FitsShape, shape_of, token_of}
+use Rattle.vlog_run_laws.specs.Beside.{RunsBeside, answers_in}
+use Rattle.vlog_run_laws.proofs.widths.Beside.{runs_beside}
 use Rattle.vlog_tree.specs.Form.{ModuleTree}
 use Rattle.vlog_tree.specs.Labels.{s_din, s_wr, s_rdy}
 use Rattle.vlog_tree.specs.Table.{Name}
@@ -21,13 +23,13 @@ use Rattle.hw_network_laws.specs.modules.Designs.{RunsInstance, HasMachine}
 use Rattle.hw_top_lines.specs.Designs.{AreShort}
 use Rattle.hw_top_lines.specs.Names.{s_has, s_dout, s_take, task_instance, channel_instance}
 use Rattle.hw_top_lines.specs.Texts.{token_bits, top_tree, stream_label}
-use Rattle.hw_top_laws.specs.runs.Designs.{IsCircuit, CircuitsAreDesigns}
+use Rattle.hw_top_laws.specs.runs.Designs.{IsCircuit, CircuitsAreDesigns, CircuitsAreDesignsBeside}
 use Rattle.hw_top_laws.specs.runs.Parts.{instance_run, instance_rows, channel_run, bit_of, token_in, streams_seen, rows_of}
 use Rattle.hw_top_laws.proofs.runs.Joined.{channel_din, channel_wr, channel_take, channel_rdy, channel_has, channel_dout}
 use Rattle.hw_top_laws.proofs.runs.Tasks.{runs_instance, owes}
 
 module _ (program : Program) (w : IsWellFormed program) (added : List ℕ) (short : AreShort added) (machines : ℕ → Option Fsm) (all : List ModuleTree) (place : ℕ) (c : IsCircuit program added machines all place) (env : Environment)
-    (env_fits : FitsShape env (shape_of (top_tree program added))) (nets : ℕ → Path → Cycle) (r : RunsIn all (top_tree program added) env nets) where
+    (env_fits : FitsShape env (shape_of (top_tree program added))) (acks : ℕ → ℕ → Bool) (nets : ℕ → Path → Cycle) (r : RunsBeside all (top_tree program added) env acks nets) where
   abbrev T : Streams
   T = streams_seen program nets
 
@@ -41,7 +43,7 @@ module _ (program : Program) (w : IsWellFormed program) (added : List ℕ) (shor
         is = task.is;
         runs = subst (λ o. RunsInstance program env.scalars env.memories x leaf task.machine (instance_run program nets i) (λ n. rows_of program env nets o n) T) (sym at)
             (subst (λ l. RunsInstance program env.scalars env.memories x leaf task.machine (λ n. nets n (task_instance l ∷ [])) (λ n. rows_of program env nets (Some x) n) T) label
-            (runs_instance program w added short machines all place c env env_fits nets r i x leaf at body));
+            (runs_instance program w added short machines all place c env env_fits acks nets r i x leaf at body));
       }
 
   module _ (s : ℕ) (q : Stream) (at : slice_get program.streams.items s ≡ Some q) where
@@ -69,7 +71,7 @@ module _ (program : Program) (w : IsWellFormed program) (added : List ℕ) (shor
     }
 
     contract_is : OwesContract q.depth (slice_index added s) (channel_run program nets s)
-    contract_is = subst (λ l. OwesContract q.depth (slice_index added s) (channel_ports (λ n. nets n (channel_instance l ∷ [])))) label (owes program w added short machines all place c env env_fits nets r s q at)
+    contract_is = subst (λ l. OwesContract q.depth (slice_index added s) (channel_ports (λ n. nets n (channel_instance l ∷ [])))) label (owes program w added short machines all place c env env_fits acks nets r s q at)
 
   still_there : (s : ℕ) → slice_get program.streams.items s ≡ None → IsStill s T
   still_there s e = record {
@@ -78,10 +80,15 @@ module _ (program : Program) (w : IsWellFormed program) (added : List ℕ) (shor
     rdy = λ n. ap (λ o. bit_of o s_rdy (nets (suc n) [])) e;
   }
 
-pub circuits_are_designs : CircuitsAreDesigns
-circuits_are_designs program w added short machines all place c env env_fits nets r = record {
-  tasks = instance_there program w added short machines all place c env env_fits nets r;
-  signals = signals_are program w added short machines all place c env env_fits nets r;
-  contract = contract_is program w added short machines all place c env env_fits nets r;
-  still = still_there program w added short machines all place c env env_fits nets r;
+pub circuits_beside : CircuitsAreDesignsBeside
+circuits_beside program w added short machines all place c env env_fits acks nets r = record {
+  tasks = instance_there program w added short machines all place c env env_fits acks nets r;
+  signals = signals_are program w added short machines all place c env env_fits acks nets r;
+  contract = contract_is program w added short machines all place c env env_fits acks nets r;
+  still = still_there program w added short machines all place c env env_fits acks nets r;
 }
+
+-- a run in an environment is one beside its memories
+pub circuits_are_designs : CircuitsAreDesigns
+circuits_are_designs program w added short machines all place c env env_fits nets r =
+    circuits_beside program w added short machines all place c env env_fits (answers_in env) nets (runs_beside all place (top_tree program added) c.design c.is_top env env_fits nets r)

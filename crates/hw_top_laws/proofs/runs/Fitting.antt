@@ -17,7 +17,8 @@ use Rattle.vlog_tree.specs.declared.tree.PortDecl.{PortDecl}
 use Rattle.vlog_tree.specs.declared.table.Declaration.{Declaration}
 use Rattle.vlog_tree.specs.declared.table.NetKind.TheVariants.{Input, Output}
 use Rattle.vlog_tree.specs.Cycle.{Cycle, Path, module_at}
-use Rattle.vlog_tree.specs.Environment.{Environment, FitsShape, RunsIn, shape_of}
+use Rattle.vlog_tree.specs.Environment.{Environment, FitsShape, shape_of}
+use Rattle.vlog_run_laws.specs.Beside.{RunsBeside}
 use Rattle.vlog_tree.specs.Form.{ModuleTree, is_input}
 use Rattle.tapa_base.specs.Lists.{Has}
 use Rattle.vlog_tree.specs.Refused.{IsDesign}
@@ -27,7 +28,7 @@ use Rattle.vlog_module_laws.proofs.Larger.{instance_there}
 use Rattle.vlog_run_laws.proofs.runs.Alone.{stands_for}
 use Rattle.vlog_run_laws.proofs.runs.Settled.{IsTopTree, top_tree as is_top_tree, module_in, child_at}
 use Rattle.vlog_run_laws.specs.widths.Widths.{RunFits}
-use Rattle.vlog_run_laws.proofs.widths.Fitting.{run_fits}
+use Rattle.vlog_run_laws.proofs.widths.Fitting.{run_fits_beside}
 use Rattle.hw_build.specs.Elements.{Instance as InstanceElement, empty}
 use Rattle.hw_build.proofs.Driven.{line_there}
 use Rattle.hw_build.specs.Scope.{each}
@@ -124,9 +125,9 @@ module _ (program : Program) (added : List ℕ) (all : List ModuleTree) (place :
 
   -- ---- numbers
 
-  module _ (env : Environment) (env_fits : FitsShape env (shape_of (top_tree program added))) (nets : ℕ → Path → Cycle) (r : RunsIn all (top_tree program added) env nets) where
+  module _ (env : Environment) (env_fits : FitsShape env (shape_of (top_tree program added))) (acks : ℕ → ℕ → Bool) (nets : ℕ → Path → Cycle) (r : RunsBeside all (top_tree program added) env acks nets) where
     pub fits : RunFits all root env nets
-    fits = run_fits all place root d top_is env env_fits nets r
+    fits = run_fits_beside all place root d top_is env env_fits acks nets r
 
     module _ (path : Path) (m : ModuleTree) (at : module_at all root path ≡ Some m) where
       declared_as : (p : PortDecl) → Has m.ports p → find_name (declared m) p.name ≡ port_declared p

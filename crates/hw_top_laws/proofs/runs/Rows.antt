@@ -17,7 +17,8 @@ use Rattle.tapa_syntax.specs.declared.program.Program.{Program}
 use Rattle.kahn_model.specs.Trace.{cell, with_cell}
 use Rattle.hw_network_laws.proofs.network.Ports.{is_instance}
 use Rattle.vlog_tree.specs.Cycle.{Cycle, Path, Runs}
-use Rattle.vlog_tree.specs.Environment.{Environment, Answers, Stands, shape_of, ready_at, set_cell, cells_at}
+use Rattle.vlog_tree.specs.Environment.{Environment, shape_of, set_cell, cells_at}
+use Rattle.vlog_run_laws.specs.Beside.{ShowsCells, StandsBeside}
 use Rattle.vlog_tree.specs.Form.{ModuleTree}
 use Rattle.vlog_tree.specs.Labels.{m_ack, m_we, m_addr, m_wdata}
 use Rattle.vlog_tree.specs.Table.{Name}
@@ -92,14 +93,18 @@ got_below bits [] i a = pow_pos bits
 got_below bits (x ∷ xs) zero a = a.0
 got_below bits (x ∷ xs) (suc i) a = got_below bits xs i a.1
 
-ready_below : (ready : List Bool) (n : ℕ) → ready_at ready n < 2
-ready_below ready zero = omega arith
-ready_below ready (suc n) = one_of (unwrap_or (slice_get ready n) true) where
-  one_of : (b : Bool) → (if b then 1 else 0) < 2
-  one_of true = omega arith
-  one_of false = omega arith
+abbrev bit : Bool → ℕ
+bit b = if b then 1 else 0
 
-module _ (program : Program) (w : IsWellFormed program) (added : List ℕ) (all : List ModuleTree) (nets : ℕ → Path → Cycle) (runs : Runs all (top_tree program added) nets) (env : Environment) (stands : Stands (top_tree program added) env (λ n. nets n []))
+bit_low : (b : Bool) → bit b < 2
+bit_low true = omega arith
+bit_low false = omega arith
+
+bit_is : (b : Bool) → (bit b == 1) ≡ b
+bit_is true = refl
+bit_is false = refl
+
+module _ (program : Program) (w : IsWellFormed program) (added : List ℕ) (all : List ModuleTree) (nets : ℕ → Path → Cycle) (runs : Runs all (top_tree program added) nets) (env : Environment) (acks : ℕ → ℕ → Bool) (stands : StandsBeside (top_tree program added) env acks (λ n. nets n []))
     (shape : (shape_of (top_tree program added)).memories ≡ memory_ports program) (outside : (n : ℕ) → OutsideFits (top_tree program added) env (λ n. nets n []) n)
     (i : ℕ) (x : Instance) (leaf : Leaf) (at : slice_get program.instances.items i ≡ Some x) (body : slice_get program.bodies.items x.body ≡ Some leaf) (machine : Fsm) where
   abbrev top : ℕ → Cycle
@@ -155,23 +160,30 @@ module _ (program : Program) (w : IsWellFormed program) (added : List ℕ) (all 
         port = ap (λ l. slice_get l (number p)) shape ∙ slice_get-map port_of program.memories.items (number p) ∙ ap (option_map port_of) m.is;
       }
 
-  answers : (p : ℕ) → p < length leaf.memories.items → Answers top (X p) (first p) (slice_index_or env.ready (number p) [])
+  -- the memory at it, by its name at the top
+  abbrev port_at : (p : ℕ) → p < length leaf.memories.items → Port
+  port_at p l = record { name = X p; bits = bits_of (found p l).memory.kind }
+
+  answers : (p : ℕ) (l : p < length leaf.memories.items) → ShowsCells top (port_at p l) (first p) (acks (number p))
   answers p l =
       let f = found p l in
-      subst (λ z. Answers top z (first p) (slice_index_or env.ready (number p) [])) (sym f.named) (stands.memories (number p) (port_of f.memory) f.port)
+      subst (λ (z : Name). ShowsCells top (record { name = z; bits = bits_of f.memory.kind }) (first p) (acks (number p))) (sym f.named) (stands.memories (number p) (port_of f.memory) f.port)
 
   -- ---- what the module is told
 
-  pub ack_is : (n p : ℕ) → p < length leaf.memories.items → number_at run (Ack p) n ≡ ready_at (slice_index_or env.ready (number p) []) n
+  pub ack_is : (n p : ℕ) → p < length leaf.memories.items → number_at run (Ack p) n ≡ bit (acks (number p) n)
   ack_is n p l = ack_at program added all nets runs i x leaf at body p l n ∙ (answers p l).ack n
 
   pub ack_low : (n p : ℕ) → p < length leaf.memories.items → number_at run (Ack p) n < 2
-  ack_low n p l = subst (λ z. z < 2) (sym (ack_is n p l)) (ready_below (slice_index_or env.ready (number p) []) n)
+  ack_low n p l = subst (λ z. z < 2) (sym (ack_is n p l)) (bit_low (acks (number p) n))
 
-  pub answer_is : (n p : ℕ) → p < length leaf.memories.items → number_at run (Rdata p) n ≡ cell (rows n) p (number_at run (Addr p) n)
-  answer_is n p l =
+  pub answers_are : (n p : ℕ) → p < length leaf.memories.items → bit_at run (Ack p) n ≡ acks (number p) n
+  answers_are n p l = ap (λ z. z == 1) (ack_is n p l) ∙ bit_is (acks (number p) n)
+
+  pub answer_is : (n p : ℕ) → p < length leaf.memories.items → bit_at run (Ack p) n ≡ true → number_at run (Rdata p) n ≡ cell (rows n) p (number_at run (Addr p) n)
+  answer_is n p l ok =
       answer_at program added all nets runs i x leaf at body p l n
-      ∙ (answers p l).rdata n
+      ∙ (answers p l).rdata n (sym (answers_are n p l) ∙ ok)
       ∙ unwrap_or-slice_get (cells_at top (X p) (first p) n) ((top n).net (m_addr (X p))) 0
       ∙ ap (λ z. slice_index (cells_at top (X p) (first p) n) z) (sym (place_at program added all nets runs i x leaf at body p l n))
       ∙ ap (λ z. slice_index z (number_at run (Addr p) n)) (sym (row_is n p l))
@@ -223,5 +235,5 @@ module _ (program : Program) (w : IsWellFormed program) (added : List ℕ) (all 
       let low : p < length leaf.memories.items = omega (arith, l, long) in
       let c = top 0 in
       row_is 1 p low
-      ∙ ap (λ z. if (z == 1) && (c.net (m_we (X p)) == 1) then set_cell (first p) (c.net (m_addr (X p))) (c.net (m_wdata (X p))) else first p) ((answers p low).ack 0)
+      ∙ ap (λ z. if (z == 1) && (c.net (m_we (X p)) == 1) then set_cell (first p) (c.net (m_addr (X p))) (c.net (m_wdata (X p))) else first p) ((answers p low).ack 0 ∙ ap bit (answers p low).quiet)
       ∙ sym (get_or-map (λ m. slice_index_or env.memories m []) x.memories.items p 0 [] (omega (arith, low, e))))

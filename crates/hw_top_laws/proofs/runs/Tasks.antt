@@ -17,7 +17,8 @@ use Rattle.kahn_model.specs.Prefix.{IsPrefixOf}
 use Rattle.kahn_model.specs.ProgramNetwork.{stream_at}
 use Rattle.kahn_model.specs.Start.{bound_value, kinds_in}
 use Rattle.vlog_tree.specs.Cycle.{Cycle, Path, module_at}
-use Rattle.vlog_tree.specs.Environment.{Environment, FitsShape, RunsIn, shape_of, token_of}
+use Rattle.vlog_tree.specs.Environment.{Environment, FitsShape, shape_of, token_of}
+use Rattle.vlog_run_laws.specs.Beside.{RunsBeside}
 use Rattle.vlog_tree.specs.Form.{ModuleTree}
 use Rattle.vlog_tree.specs.Labels.{s_din, s_wr, s_rdy}
 use Rattle.vlog_tree.specs.Table.{Name}
@@ -55,7 +56,7 @@ kind_kept (k ∷ xs) (j ∷ ys) zero p l = sym p.0
 kind_kept (k ∷ xs) (j ∷ ys) (suc x) p l = kind_kept xs ys x p.1 (omega (arith, l))
 
 module _ (program : Program) (w : IsWellFormed program) (added : List ℕ) (short : AreShort added) (machines : ℕ → Option Fsm) (all : List ModuleTree) (place : ℕ) (c : IsCircuit program added machines all place) (env : Environment)
-    (env_fits : FitsShape env (shape_of (top_tree program added))) (nets : ℕ → Path → Cycle) (r : RunsIn all (top_tree program added) env nets) where
+    (env_fits : FitsShape env (shape_of (top_tree program added))) (acks : ℕ → ℕ → Bool) (nets : ℕ → Path → Cycle) (r : RunsBeside all (top_tree program added) env acks nets) where
   abbrev root : ModuleTree
   root = top_tree program added
 
@@ -77,13 +78,13 @@ module _ (program : Program) (w : IsWellFormed program) (added : List ℕ) (shor
       channel_placed program added all place c.design c.is_top s q e (omega (arith, some)) (omega (arith, within, late)) k.modules k.are k.found
 
   has_bit : (s : ℕ) (q : Stream) → slice_get program.streams.items s ≡ Some q → (n : ℕ) → (nets n []).net (s_has q.label) < 2
-  has_bit s q e n = subst (λ z. z < 2) (channel_has program added all nets r.runs s q e n) (has_low program added all place c.design c.is_top env env_fits nets r s q (placed s q e) n)
+  has_bit s q e n = subst (λ z. z < 2) (channel_has program added all nets r.runs s q e n) (has_low program added all place c.design c.is_top env env_fits acks nets r s q (placed s q e) n)
 
   rdy_bit : (s : ℕ) (q : Stream) → slice_get program.streams.items s ≡ Some q → (n : ℕ) → (nets n []).net (s_rdy q.label) < 2
-  rdy_bit s q e n = subst (λ z. z < 2) (channel_rdy program added all nets r.runs s q e n) (rdy_low program added all place c.design c.is_top env env_fits nets r s q (placed s q e) n)
+  rdy_bit s q e n = subst (λ z. z < 2) (channel_rdy program added all nets r.runs s q e n) (rdy_low program added all place c.design c.is_top env env_fits acks nets r s q (placed s q e) n)
 
   dout_bits : (s : ℕ) (q : Stream) → slice_get program.streams.items s ≡ Some q → (n : ℕ) → (nets n []).net (s_dout q.label) < 2 ^ token_bits q.kind
-  dout_bits s q e n = subst (λ z. z < 2 ^ token_bits q.kind) (channel_dout program added all nets r.runs s q e n) (dout_low program added all place c.design c.is_top env env_fits nets r s q (placed s q e) n)
+  dout_bits s q e n = subst (λ z. z < 2 ^ token_bits q.kind) (channel_dout program added all nets r.runs s q e n) (dout_low program added all place c.design c.is_top env env_fits acks nets r s q (placed s q e) n)
 
   -- ---- one instance
 
@@ -176,7 +177,7 @@ module _ (program : Program) (w : IsWellFormed program) (added : List ℕ) (shor
     value_is : (p : ℕ) → p < length leaf.scalars.items → (b : Bound) → slice_get x.scalars.items p ≡ Some b → IsBoundTo program (parameter_kind leaf p) b → (n : ℕ) → number_at run (Scalar p) n ≡ bound_value (kinds_in program) env.scalars b
     value_is p l b e h n =
         scalar_at program added all nets r.runs i x leaf at body n p l
-        ∙ parameter_is program added all nets r.runs env r.stands c.scalars env_fits i x leaf at body p b l e h n
+        ∙ parameter_is program added all nets r.runs env acks r.stands c.scalars env_fits i x leaf at body p b l e h n
 
     scalars_low : (n p y : ℕ) → slice_get S.scalars p ≡ Some y → number_at run (Scalar p) n < values_of (register_kind S y)
     scalars_low n p y e =
@@ -188,12 +189,12 @@ module _ (program : Program) (w : IsWellFormed program) (added : List ℕ) (shor
         ap (λ z. slice_index_or leaf.vars.items z U64) (get_or_from_slice_get leaf.scalars.items p y 0 e2) ∙ sym (kind_kept leaf.vars.items machine.regs.items y task.lowered.regs inside) in
         subst (λ k. number_at run (Scalar p) n < values_of k) same
         (subst (λ z. z < values_of (parameter_kind leaf p)) (sym (value_is p l g.bound g.there g.of_kind n))
-        (bound_fits program added all nets r.runs env r.stands c.scalars env_fits (parameter_kind leaf p) g.bound g.of_kind))
+        (bound_fits program added all nets r.runs env acks r.stands c.scalars env_fits (parameter_kind leaf p) g.bound g.of_kind))
 
     -- ---- what stands around it
 
     pub outside_fits : (n : ℕ) → OutsideFits root env (λ k. nets k []) n
-    outside_fits n = (fits program added all place c.design c.is_top env env_fits nets r).outside n
+    outside_fits n = (fits program added all place c.design c.is_top env env_fits acks nets r).outside n
 
     around : StandsAround S run rows
     around = record {
@@ -210,11 +211,11 @@ module _ (program : Program) (w : IsWellFormed program) (added : List ℕ) (shor
       rdy = λ n p h.
           let t = bound_to true p h in
           subst (λ z. z < 2) (sym (ready_at program added all nets r.runs i x leaf at body p h n ∙ ap (λ z. (nets n []).net (s_rdy z)) t.label)) (rdy_bit (stream_at x p) t.stream t.there n);
-      ack = λ n m l. ack_low program w added all nets r.runs env r.stands c.memories outside_fits i x leaf at body machine n m l;
-      memories = rows_length program w added all nets r.runs env r.stands c.memories outside_fits i x leaf at body machine 0;
-      rdata = λ n m l. answer_is program w added all nets r.runs env r.stands c.memories outside_fits i x leaf at body machine n m l;
-      fit = λ n m j. cells_low program w added all nets r.runs env r.stands c.memories outside_fits i x leaf at body machine n m j;
-      goes = λ n. rows_go program w added all nets r.runs env r.stands c.memories outside_fits i x leaf at body machine n;
+      ack = λ n m l. ack_low program w added all nets r.runs env acks r.stands c.memories outside_fits i x leaf at body machine n m l;
+      memories = rows_length program w added all nets r.runs env acks r.stands c.memories outside_fits i x leaf at body machine 0;
+      rdata = λ n m l ok. answer_is program w added all nets r.runs env acks r.stands c.memories outside_fits i x leaf at body machine n m l ok;
+      fit = λ n m j. cells_low program w added all nets r.runs env acks r.stands c.memories outside_fits i x leaf at body machine n m j;
+      goes = λ n. rows_go program w added all nets r.runs env acks r.stands c.memories outside_fits i x leaf at body machine n;
     }
 
     pub runs_task : RunsTask S (writes_of leaf.streams.items) run rows
@@ -230,7 +231,7 @@ module _ (program : Program) (w : IsWellFormed program) (added : List ℕ) (shor
             let l = slice_get_within x.scalars.items p b e in
             let low : p < length leaf.scalars.items = omega (arith, l, k) in
             value_is p low b e (is.scalars p (slice_index leaf.scalars.items p) b e (slice_get-get_or leaf.scalars.items p 0 low)) 0;
-        cells_stand = rows_begin program w added all nets r.runs env r.stands c.memories outside_fits i x leaf at body machine;
+        cells_stand = rows_begin program w added all nets r.runs env acks r.stands c.memories outside_fits i x leaf at body machine;
       };
       wired = wired;
     }
@@ -249,7 +250,7 @@ module _ (program : Program) (w : IsWellFormed program) (added : List ℕ) (shor
         subst (λ z. z < 2)
         (write_at program added all nets r.runs q.producer j.instance j.leaf j.is j.leaf_is j.position j.writes n
         ∙ ap (λ z. (nets n []).net (s_wr z)) (ap (stream_label program) here ∙ label_is s q at) ∙ sym (channel_wr program added all nets r.runs s q at n))
-        (write_low program added all place c.design c.is_top env env_fits nets r j.leaf (c.tasks q.producer j.instance j.leaf j.is j.leaf_is).machine (task_instance j.instance.label ∷ []) (task_at q.producer j.instance j.leaf j.is j.leaf_is) j.position j.writes n)
+        (write_low program added all place c.design c.is_top env env_fits acks nets r j.leaf (c.tasks q.producer j.instance j.leaf j.is j.leaf_is).machine (task_instance j.instance.label ∷ []) (task_at q.producer j.instance j.leaf j.is j.leaf_is) j.position j.writes n)
 
     take_bit : (n : ℕ) → (nets n channel).net (codes "take") < 2
     take_bit n =
@@ -258,7 +259,7 @@ module _ (program : Program) (w : IsWellFormed program) (added : List ℕ) (shor
         subst (λ z. z < 2)
         (take_at program added all nets r.runs q.consumer j.instance j.leaf j.is j.leaf_is j.position j.writes n
         ∙ ap (λ z. (nets n []).net (s_take z)) (ap (stream_label program) here ∙ label_is s q at) ∙ sym (channel_take program added all nets r.runs s q at n))
-        (take_low program added all place c.design c.is_top env env_fits nets r j.leaf (c.tasks q.consumer j.instance j.leaf j.is j.leaf_is).machine (task_instance j.instance.label ∷ []) (task_at q.consumer j.instance j.leaf j.is j.leaf_is) j.position j.writes n)
+        (take_low program added all place c.design c.is_top env env_fits acks nets r j.leaf (c.tasks q.consumer j.instance j.leaf j.is j.leaf_is).machine (task_instance j.instance.label ∷ []) (task_at q.consumer j.instance j.leaf j.is j.leaf_is) j.position j.writes n)
 
     pub owes : OwesContract q.depth (slice_index added s) (channel_ports (λ n. nets n channel))
     owes =

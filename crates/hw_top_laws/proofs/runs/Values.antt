@@ -23,7 +23,8 @@ use Rattle.vlog_tree.specs.declared.tree.Item.TheVariants.{Wire as WireLine}
 use Rattle.vlog_tree.specs.declared.tree.Value.{Value}
 use Rattle.vlog_tree.specs.declared.tree.Value.TheVariants.{Plain}
 use Rattle.vlog_tree.specs.Cycle.{Cycle, Path, Runs, Follows, Sizes, driven}
-use Rattle.vlog_tree.specs.Environment.{Environment, FitsShape, Stands, shape_of}
+use Rattle.vlog_tree.specs.Environment.{Environment, FitsShape, shape_of}
+use Rattle.vlog_run_laws.specs.Beside.{StandsBeside}
 use Rattle.vlog_tree.specs.Form.{ModuleTree}
 use Rattle.tapa_base.specs.Lists.{Has}
 use Rattle.vlog_tree.specs.Labels.{scalar}
@@ -129,7 +130,7 @@ module _ (program : Program) (added : List ℕ) (all : List ModuleTree) (nets : 
 
   -- ---- the scalars of the top
 
-  module _ (env : Environment) (stands : Stands (top_tree program added) env (λ n. nets n [])) (shape : (shape_of (top_tree program added)).scalars ≡ scalar_ports program) (env_fits : FitsShape env (shape_of (top_tree program added))) where
+  module _ (env : Environment) (acks : ℕ → ℕ → Bool) (stands : StandsBeside (top_tree program added) env acks (λ n. nets n [])) (shape : (shape_of (top_tree program added)).scalars ≡ scalar_ports program) (env_fits : FitsShape env (shape_of (top_tree program added))) where
     abbrev port_of : Scalar → Port
     port_of c = record { name = c.name; bits = bits_of c.kind }
 

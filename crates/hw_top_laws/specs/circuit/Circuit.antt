@@ -1,8 +1,9 @@
 -- The modules of a program as its circuit.
-use Rattle.std.specs.Prelude.{ℕ, List, Option, Some, None, length, slice_get, slice_index}
+use Rattle.std.specs.Prelude.{ℕ, Bool, List, Option, Some, None, length, slice_get, slice_index}
 use Rattle.tapa_syntax.specs.declared.program.Instance.{Instance}
 use Rattle.tapa_syntax.specs.declared.program.Program.{Program}
 use Rattle.task_fsm.specs.declared.machine.Fsm.{Fsm}
+use Rattle.vlog_run_laws.specs.Beside.{RunsBeside}
 use Rattle.vlog_tree.specs.Cycle.{Cycle, Path}
 use Rattle.vlog_tree.specs.Environment.{Environment, FitsShape, RunsIn, shape_of}
 use Rattle.hw_network_laws.specs.modules.Designs.{IsDesignOf}
@@ -11,7 +12,7 @@ use Rattle.hw_top_lines.specs.Texts.{top_tree}
 use Rattle.hw_top_laws.specs.modules.Lower.{lower_modules, OfReady}
 use Rattle.hw_top_laws.specs.runs.Designs.{IsCircuit}
 use Rattle.hw_top_laws.specs.runs.Parts.{instance_run, instance_rows, channel_run, streams_seen}
-use Rattle.hw_top_laws.specs.kahn.Carries.{CarriesStreams}
+use Rattle.hw_top_laws.specs.kahn.Carries.{CarriesStreams, CarriesBeside}
 
 -- the machine of an instance, by the machines of the program's bodies
 abbrev pub machine_in : List Fsm → Option Instance → Option Fsm
@@ -41,3 +42,11 @@ DesignsCarryStreams =
     (λ program machines added.
     (env : Environment) → FitsShape env (shape_of (top_tree program added)) → (nets : ℕ → Path → Cycle) → RunsIn (design_tree program machines added) (top_tree program added) env nets
     → CarriesStreams program added env nets)
+
+-- and so beside memories that show a cell in the cycles in which they answer
+abbrev pub DesignsCarryBeside : Type 0
+DesignsCarryBeside =
+    OfReady
+    (λ program machines added.
+    (env : Environment) → FitsShape env (shape_of (top_tree program added)) → (answers : ℕ → ℕ → Bool) (nets : ℕ → Path → Cycle) → RunsBeside (design_tree program machines added) (top_tree program added) env answers nets
+    → CarriesBeside program added env answers nets)

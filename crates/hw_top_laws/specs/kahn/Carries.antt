@@ -1,10 +1,11 @@
 -- What the circuit of a program carries in a run.
-use Rattle.std.specs.Prelude.{◌≡◌, ◌↔◌, ℕ, suc, ◌+◌, ◌*◌, ◌≤◌, List, [], Option, Some, slice_get, slice_index, slice_index_or}
+use Rattle.std.specs.Prelude.{◌≡◌, ◌↔◌, ℕ, suc, ◌+◌, ◌*◌, ◌≤◌, Bool, List, [], Option, Some, slice_get, slice_index, slice_index_or}
 use Rattle.tapa_base.specs.declared.token.Token.{Token}
 use Rattle.tapa_syntax.specs.WellFormed.{IsWellFormed}
 use Rattle.tapa_syntax.specs.declared.program.Memory.{Memory}
 use Rattle.tapa_syntax.specs.declared.program.Program.{Program}
 use Rattle.tapa_syntax.specs.declared.program.Stream.{Stream}
+use Rattle.vlog_run_laws.specs.Beside.{RunsBeside}
 use Rattle.vlog_tree.specs.Cycle.{Cycle, Path}
 use Rattle.vlog_tree.specs.Environment.{Environment, FitsShape, RunsIn, shape_of, cells_at, tokens, IsDone}
 use Rattle.vlog_tree.specs.Form.{ModuleTree}
@@ -20,7 +21,7 @@ use Rattle.hw_network_laws.specs.network.Pace.{KeepsPace}
 use Rattle.hw_top_lines.specs.Designs.{AreShort}
 use Rattle.hw_top_lines.specs.Texts.{token_bits, top_tree}
 use Rattle.hw_top_laws.specs.runs.Designs.{IsCircuit}
-use Rattle.hw_top_laws.specs.kahn.Clock.{clock_in, counts, all_answer}
+use Rattle.hw_top_laws.specs.kahn.Clock.{clock_in, counts, all_answer, counts_beside, all_answer_beside}
 
 -- the network of a program on the environment's scalars and cells
 abbrev pub network : Program → Environment → Network
@@ -58,6 +59,31 @@ pub record CarriesStreams (program : Program) (added : List ℕ) (env : Environm
   -- a tick that is allowed is made at most the greatest added latency later, or in the first cycle in which its memory answers;
   -- and what is written to a stream and not yet taken is no more than its depth and twice its added latency
   pub pace : (most : ℕ) → ((s : ℕ) → slice_index added s ≤ most) → KeepsPace (network program env) (clock_in program added env) most
+
+-- Beside memories that show a cell in the cycles in which they answer it carries the same, by the timed counts of these answers.
+pub record CarriesBeside (program : Program) (added : List ℕ) (env : Environment) (answers : ℕ → ℕ → Bool) (nets : ℕ → Path → Cycle) : Type 0 where
+  pub streams : (s n : ℕ) (q : Stream) → slice_get program.streams.items s ≡ Some q → carried_by nets q n ≡ written (network program env) (counts_beside program added env answers (suc n)) s
+  pub memories :
+      (m n : ℕ) (o : Memory) → slice_get program.memories.items m ≡ Some o → cells_at (top_of nets) o.name (slice_index_or env.memories m []) (suc n) ≡ cells_of program env.scalars env.memories (counts_beside program added env answers (suc n)) m
+  pub done : (n : ℕ) → IsDone (top_of nets) (suc n) ↔ HaveJoinedEnded (network program env) (counts_beside program added env answers (suc n))
+  pub begins : (s n : ℕ) (q : Stream) → slice_get program.streams.items s ≡ Some q → IsKahnPrefix (network program env) s (carried_by nets q n)
+  pub whole :
+      (s n m : ℕ) (q : Stream) → slice_get program.streams.items s ≡ Some q → IsDone (top_of nets) n → n ≤ m → IsJoined (network program env) q.producer → IsKahnStream (network program env) s (carried_by nets q m)
+  pub shows :
+      (bound : ℕ) (k : ℕ → ℕ) → EndsWithin (network program env) bound k → (s n m : ℕ) (q : Stream) → slice_get program.streams.items s ≡ Some q → IsDone (top_of nets) n → n ≤ m → IsJoined (network program env) q.producer → carried_by nets q m ≡ shown (network program env) k s
+  -- where the cycles up to some limit in which every memory answers are enough, done is raised in time, by the cycles before it in
+  -- which some memory does not answer
+  pub in_time :
+      (most : ℕ) → ((s : ℕ) → slice_index added s ≤ most) → (bound : ℕ) (k : ℕ → ℕ) → EndsWithin (network program env) bound k
+      → (a : ℕ) × IsLeastToEnd (network program env) a
+      × ((limit : ℕ) → (a + 2) * (2 * most + 4) + lost (all_answer_beside program answers) limit ≤ limit → (n : ℕ) × IsDone (top_of nets) n × (n ≤ (a + 2) * (2 * most + 4) + lost (all_answer_beside program answers) n))
+
+-- from any power-up contents
+abbrev pub CircuitsCarryBeside : Type 0
+CircuitsCarryBeside =
+    (program : Program) → IsWellFormed program → (added : List ℕ) → AreShort added → (machines : ℕ → Option Fsm) (all : List ModuleTree) (at : ℕ) → IsCircuit program added machines all at
+    → (env : Environment) → FitsShape env (shape_of (top_tree program added)) → (answers : ℕ → ℕ → Bool) (nets : ℕ → Path → Cycle) → RunsBeside all (top_tree program added) env answers nets
+    → CarriesBeside program added env answers nets
 
 -- from any power-up contents
 abbrev pub CircuitsCarryStreams : Type 0

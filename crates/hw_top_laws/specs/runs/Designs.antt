@@ -1,10 +1,11 @@
 -- The circuit of a program, in a run, is the design of the program's clocked network.
-use Rattle.std.specs.Prelude.{◌≡◌, ℕ, List, Option, Some, slice_get, slice_index}
+use Rattle.std.specs.Prelude.{◌≡◌, ℕ, Bool, List, Option, Some, slice_get, slice_index}
 use Rattle.tapa_syntax.specs.WellFormed.{IsWellFormed}
 use Rattle.tapa_syntax.specs.declared.program.Instance.{Instance}
 use Rattle.tapa_syntax.specs.declared.program.Leaf.{Leaf}
 use Rattle.tapa_syntax.specs.declared.program.Program.{Program}
 use Rattle.tapa_syntax.specs.declared.program.Stream.{Stream}
+use Rattle.vlog_run_laws.specs.Beside.{RunsBeside}
 use Rattle.vlog_tree.specs.Cycle.{Cycle, Path}
 use Rattle.vlog_tree.specs.Environment.{Environment, FitsShape, RunsIn, shape_of}
 use Rattle.vlog_tree.specs.Form.{ModuleTree}
@@ -50,4 +51,11 @@ abbrev pub CircuitsAreDesigns : Type 0
 CircuitsAreDesigns =
     (program : Program) → IsWellFormed program → (added : List ℕ) → AreShort added → (machines : ℕ → Option Fsm) (all : List ModuleTree) (at : ℕ) → IsCircuit program added machines all at
     → (env : Environment) → FitsShape env (shape_of (top_tree program added)) → (nets : ℕ → Path → Cycle) → RunsIn all (top_tree program added) env nets
+    → IsDesignOf program env.scalars env.memories (slice_index added) machines (instance_run program nets) (instance_rows program env nets) (channel_run program nets) (streams_seen program nets)
+
+-- and so in a run beside memories that show a cell where they answer
+abbrev pub CircuitsAreDesignsBeside : Type 0
+CircuitsAreDesignsBeside =
+    (program : Program) → IsWellFormed program → (added : List ℕ) → AreShort added → (machines : ℕ → Option Fsm) (all : List ModuleTree) (at : ℕ) → IsCircuit program added machines all at
+    → (env : Environment) → FitsShape env (shape_of (top_tree program added)) → (answers : ℕ → ℕ → Bool) (nets : ℕ → Path → Cycle) → RunsBeside all (top_tree program added) env answers nets
     → IsDesignOf program env.scalars env.memories (slice_index added) machines (instance_run program nets) (instance_rows program env nets) (channel_run program nets) (streams_seen program nets)

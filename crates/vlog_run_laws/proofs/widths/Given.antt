@@ -13,11 +13,12 @@ use Rattle.vlog_tree.specs.declared.table.NetKind.TheVariants.{Input, Output}
 use Rattle.vlog_tree.specs.Form.{ModuleTree, is_input}
 use Rattle.tapa_base.specs.Lists.{Has}
 use Rattle.vlog_tree.specs.Table.{Name, clk, is_clk, declared, port_declared, items_declared, net_kind_of, bits_of, net_kind_is_read, first_violation}
-use Rattle.vlog_tree.specs.Labels.{rst, done, m_ack, m_rdata, m_addr, m_wdata, m_we, scalar_of, ack_of, rdata_of}
+use Rattle.vlog_tree.specs.Labels.{rst, done, scalar, m_ack, m_rdata, m_addr, m_wdata, m_we, scalar_of, ack_of, rdata_of}
 use Rattle.vlog_tree.specs.V2.{v2_uses}
 use Rattle.vlog_tree.specs.V6.{v6_uses, fixed_fits, ack_fits, has_all_five, is_in, is_out, is_top}
 use Rattle.vlog_tree.specs.Cycle.{Cycle}
 use Rattle.vlog_tree.specs.Environment.{Environment, FitsShape, widths, shape_of, scalar_label, memory_label, Stands, ready_at, set_cell, cells_at}
+use Rattle.vlog_run_laws.specs.Beside.{StandsBeside}
 use Rattle.tapa_base.proofs.Lists.{has_flat, of_flat, got_has, has_got}
 use Rattle.vlog_run_laws.proofs.runs.Sound.{both_true}
 use Rattle.vlog_run_laws.proofs.runs.Cycles.{port_stands}
@@ -61,6 +62,39 @@ pub listed : (P : ℕ → Type 0) (xs : List ℕ) → All P xs → AllByRecursio
 listed P [] a = tt
 listed P (x ∷ xs) a = (All-head P x xs a, listed P xs (All-tail P x xs a))
 
+-- what stands around a top gives it: a bit of reset, its scalars, and of each memory a bit and a number of its width where its cells fit
+pub record GivesTop (m : ModuleTree) (env : Environment) (run : ℕ → Cycle) : Type 0 where
+  pub reset : (n : ℕ) → (run n).net rst < 2 ^ 1
+  pub scalars : (n i : ℕ) (l : Port) → slice_get (shape_of m).scalars i ≡ Some l → (run n).net (scalar l.name) ≡ get_or env.scalars i 0
+  pub ack : (n i : ℕ) (l : Port) → slice_get (shape_of m).memories i ≡ Some l → (run n).net (m_ack l.name) < 2 ^ 1
+  pub rdata : (n i : ℕ) (l : Port) → slice_get (shape_of m).memories i ≡ Some l → CellsFit run n l (get_or env.memories i []) → (run n).net (m_rdata l.name) < 2 ^ l.bits
+
+bit_of : (b : Bool) → cond b 1 0 < 2 ^ 1
+bit_of true = omega arith
+bit_of false = omega arith
+
+reset_bit : (run : ℕ → Cycle) → (run 0).net rst ≡ 1 → ((n : ℕ) → (run (suc n)).net rst ≡ 0) → (n : ℕ) → (run n).net rst < 2 ^ 1
+reset_bit run first later zero = subst (λ v. v < 2 ^ 1) (sym first) (omega arith)
+reset_bit run first later (suc n) = subst (λ v. v < 2 ^ 1) (sym (later n)) (omega arith)
+
+-- an environment does, and so do memories that show a cell where they answer
+pub stands_give : (m : ModuleTree) (env : Environment) (run : ℕ → Cycle) → Stands m env run → GivesTop m env run
+stands_give m env run s = record {
+  reset = reset_bit run s.reset s.runs;
+  scalars = λ n i l got. s.scalars n i l got;
+  ack = λ n i l got. subst (λ v. v < 2 ^ 1) (sym ((s.memories i l got).ack n)) (ready_below (get_or env.ready i []) n);
+  rdata = λ n i l got cells.
+      subst (λ v. v < 2 ^ l.bits) (sym ((s.memories i l got).rdata n)) (got_below l.bits (cells_at run l.name (get_or env.memories i []) n) ((run n).net (m_addr l.name)) cells);
+}
+
+pub beside_gives : (m : ModuleTree) (env : Environment) (acks : ℕ → ℕ → Bool) (run : ℕ → Cycle) → StandsBeside m env acks run → GivesTop m env run
+beside_gives m env acks run s = record {
+  reset = reset_bit run s.reset s.runs;
+  scalars = λ n i l got. s.scalars n i l got;
+  ack = λ n i l got. subst (λ v. v < 2 ^ 1) (sym ((s.memories i l got).ack n)) (bit_of (acks i n));
+  rdata = λ n i l got cells. (s.memories i l got).width n;
+}
+
 module _ (ports : List Declaration) (before : List PortDecl) (p : PortDecl) (f : PortFits ports before p) where
   ack_bits : (l : Name) → ack_of p.name ≡ Some l → p.width ≡ 1
   unfolding ack_fits
@@ -88,7 +122,7 @@ unfolding m_wdata clk
 wdata_clock l = refl
 
 module _ (ms : List ModuleTree) (names : first_violation (v2_uses ms) ≡ None) (tops : first_violation (v6_uses ms) ≡ None) (m : ModuleTree) (in_ms : Has ms m) (top : is_top ms m.name ≡ true)
-    (env : Environment) (env_fits : FitsShape env (shape_of m)) (run : ℕ → Cycle) (s : Stands m env run) where
+    (env : Environment) (env_fits : FitsShape env (shape_of m)) (run : ℕ → Cycle) (s : GivesTop m env run) where
   abbrev ports : List Declaration
   ports = map port_declared m.ports
 
@@ -119,9 +153,7 @@ module _ (ms : List ModuleTree) (names : first_violation (v2_uses ms) ≡ None) 
     ack_below l e =
         let f = fits ms names tops m in_ms top p h in
         let g = got_has (shape_of m).memories (memory l) (memory_there p h l e) in
-        let ready = get_or env.ready g.0 [] in
-        let is : (run n).net p.name ≡ ready_at ready n = ap (λ z. (run n).net z) (ack_label p.name l e).0 ∙ (s.memories g.0 (memory l) g.2).ack n in
-        subst (λ v. v < 2 ^ p.width) (sym is) (subst (λ w. ready_at ready n < 2 ^ w) (sym (ack_bits ports f.0 p f.1 l e)) (ready_below ready n))
+        subst (λ z. (run n).net z < 2 ^ p.width) (sym (ack_label p.name l e).0) (subst (λ w. (run n).net (m_ack l) < 2 ^ w) (sym (ack_bits ports f.0 p f.1 l e)) (s.ack n g.0 (memory l) g.2))
 
     rdata_below : OutsideFits m env run n → (l : Name) → rdata_of p.name ≡ Some l → (run n).net p.name < 2 ^ p.width
     rdata_below cells l e =
@@ -130,19 +162,14 @@ module _ (ms : List ModuleTree) (names : first_violation (v2_uses ms) ≡ None) 
         let five = (rdata_input ports f.0 p f.1 l e).1 in
         let q = named_port ms names tops m in_ms top (m_ack l) (five_of ms tops m in_ms l five).0 in
         let g = got_has (shape_of m).memories (memory l) (memory_there q.0 q.1 l (ap ack_of q.2 ∙ ack_of_label l a.1)) in
-        let held = cells_at run l (get_or env.memories g.0 []) n in
-        let low : unwrap_or (slice_get held ((run n).net (m_addr l))) 0 < 2 ^ bits_of (declared m) (m_rdata l) = got_below (bits_of (declared m) (m_rdata l)) held ((run n).net (m_addr l)) (cells g.0 (memory l) g.2) in
-        let is : (run n).net p.name ≡ unwrap_or (slice_get held ((run n).net (m_addr l))) 0 = ap (λ z. (run n).net z) a.0 ∙ (s.memories g.0 (memory l) g.2).rdata n in
+        let low : (run n).net (m_rdata l) < 2 ^ bits_of (declared m) (m_rdata l) = s.rdata n g.0 (memory l) g.2 (cells g.0 (memory l) g.2) in
         let bits : bits_of (declared m) (m_rdata l) ≡ p.width = ap (λ z. bits_of (declared m) z) (sym a.0) ∙ sym (port_bits ms names tops m in_ms top p h) in
-        subst (λ v. v < 2 ^ p.width) (sym is) (subst (λ w. unwrap_or (slice_get held ((run n).net (m_addr l))) 0 < 2 ^ w) bits low)
+        subst (λ z. (run n).net z < 2 ^ p.width) (sym a.0) (subst (λ w. (run n).net (m_rdata l) < 2 ^ w) bits low)
 
     reset_below : bytes_eq p.name rst ≡ true → (run n).net p.name < 2 ^ p.width
     reset_below e =
         let f = fits ms names tops m in_ms top p h in
-        subst (λ z. (run n).net z < 2 ^ p.width) (sym ((bytes_decides p.name rst).0 e)) (subst (λ w. (run n).net rst < 2 ^ w) (sym (reset_bits ports f.0 p f.1 e)) (by_cycle n)) where
-          by_cycle : (n : ℕ) → (run n).net rst < 2 ^ 1
-          by_cycle zero = subst (λ v. v < 2 ^ 1) (sym s.reset) (omega arith)
-          by_cycle (suc n) = subst (λ v. v < 2 ^ 1) (sym (s.runs n)) (omega arith)
+        subst (λ z. (run n).net z < 2 ^ p.width) (sym ((bytes_decides p.name rst).0 e)) (subst (λ w. (run n).net rst < 2 ^ w) (sym (reset_bits ports f.0 p f.1 e)) (s.reset n))
 
     port_below : OutsideFits m env run n → is_input p.direction ≡ true → is_clk p.name ≡ false → (b : Bool) (so ao ro : Option Name) → bytes_eq p.name rst ≡ b → scalar_of p.name ≡ so → ack_of p.name ≡ ao → rdata_of p.name ≡ ro → (run n).net p.name < 2 ^ p.width
     port_below cells i c true so ao ro r es ea er = reset_below r

@@ -13,9 +13,10 @@ use Rattle.vlog_tree.specs.Form.{ModuleTree}
 use Rattle.tapa_base.specs.Lists.{Has}
 use Rattle.vlog_tree.specs.Table.{Name, is_clk, declared, port_declared, ports_of, net_kind_of, bits_of, net_kind_is_read, net_kind_is_input}
 use Rattle.vlog_tree.specs.Cycle.{Cycle, Sizes, Path, Holds, PortHolds, atom_value, driven, module_at, Follows}
-use Rattle.vlog_tree.specs.Refused.{IsSound}
+use Rattle.vlog_tree.specs.Refused.{IsSound, IsDesign}
 use Rattle.vlog_tree.specs.Loops.{IsLoopless}
-use Rattle.vlog_tree.specs.Environment.{Environment, shape_of, cells_at}
+use Rattle.vlog_tree.specs.Environment.{Environment, FitsShape, RunsIn, shape_of, cells_at}
+use Rattle.vlog_run_laws.specs.Beside.{RunsBeside, answers_in}
 
 -- what a line may declare as a width
 abbrev pub IsInRange : ℕ → Type 0
@@ -44,6 +45,18 @@ OutsideFits top env run n = (i : ℕ) (l : Port) → slice_get (shape_of top).me
 pub record RunFits (ms : List ModuleTree) (top : ModuleTree) (env : Environment) (nets : ℕ → Path → Cycle) : Type 0 where
   pub modules : (n : ℕ) (path : Path) (m : ModuleTree) → module_at ms top path ≡ Some m → NumbersFit m (nets n path)
   pub outside : (n : ℕ) → OutsideFits top env (λ k. nets k []) n
+
+-- beside memories that show a cell where they answer they fit too
+abbrev pub NumbersFitBeside : Type 0
+NumbersFitBeside =
+    (ms : List ModuleTree) (place : ℕ) (top : ModuleTree) (env : Environment) (answers : ℕ → ℕ → Bool) (nets : ℕ → Path → Cycle)
+    → IsDesign ms place → slice_get ms place ≡ Some top → FitsShape env (shape_of top) → RunsBeside ms top env answers nets → RunFits ms top env nets
+
+-- and each run in an environment is one beside such memories
+abbrev pub EnvironmentsShowCells : Type 0
+EnvironmentsShowCells =
+    (ms : List ModuleTree) (place : ℕ) (top : ModuleTree) (env : Environment) (nets : ℕ → Path → Cycle)
+    → IsDesign ms place → slice_get ms place ≡ Some top → FitsShape env (shape_of top) → RunsIn ms top env nets → RunsBeside ms top env (answers_in env) nets
 
 -- an operator takes its operands, for a target of w bits: a difference is of numbers that fit it, and a divisor is not 0
 abbrev pub TakesOperands : ℕ → BinaryOp → ℕ → ℕ → Type 0

@@ -6,7 +6,7 @@ ghost use Rattle.tapa_base.specs.Lists.{Has};
 ghost use Rattle.vlog_tree.specs.Refused.{IsDesign, IsSound};
 ghost use Rattle.vlog_tree.specs.Cycle.{Cycle, Path, module_at};
 ghost use Rattle.vlog_tree.specs.Environment.{Environment, FitsShape, RunsIn, shape_of};
-ghost use Rattle.vlog_run_laws.specs.widths.Widths.{WidthsInRange, RunFits, DriversFit, OneModuleFits};
+ghost use Rattle.vlog_run_laws.specs.widths.Widths.{WidthsInRange, RunFits, NumbersFitBeside, EnvironmentsShowCells, DriversFit, OneModuleFits};
 
 /// Each net that can be read has from 1 to 128 bits, and so has each cell of a memory, where names, widths and drivers are
 /// right.
@@ -19,6 +19,13 @@ pub fn law_widths_in_range()
 pub fn law_numbers_fit()
     ensures { (ms : List ModuleTree) (top : ℕ) (m : ModuleTree) (env : Environment) (nets : ℕ → Path → Cycle)
         → IsDesign ms top → slice_get ms top ≡ Some m → FitsShape env (shape_of m) → RunsIn ms m env nets → RunFits ms m env nets }
+{}
+
+/// They do so too beside memories that show a cell in the cycles in which they answer, and any number of their width in others.
+/// The memories of an environment are such memories.
+pub fn law_numbers_fit_beside()
+    ensures fit { NumbersFitBeside }
+    ensures show { EnvironmentsShowCells }
 {}
 
 /// In each run of a design the operator of each driver takes its operands, and the driver's value fits its target, which

@@ -1,5 +1,5 @@
-use Rattle.hw_top_laws.proofs.kahn.Carries.{circuits_carry_streams}
+use Rattle.hw_top_laws.proofs.kahn.Carries.{circuits_carry_streams, circuits_carry_beside}
 use Rattle.hw_top_laws.proofs.laws.kahn.law_circuits_carry_streams.Goals as goal
 
 pub returns : goal.returns
-returns c = circuits_carry_streams
+returns c = record { run = circuits_carry_streams; beside = circuits_carry_beside }

@@ -1,0 +1,223 @@
+-- What a simulation of a circuit's text shows is what its program carries.
+use Rattle.std.proofs.Common.{◌≡◌, ℕ, zero, suc, ◌+◌, ◌*◌, ◌<◌, ◌≤◌, List, [], ◌++◌, Option, Some, None, inl, inr, refl, sym, ap, subst, ◌∙◌, arith, ⊎_elim}
+use Rattle.std.specs.Prelude.{option_map, slice_get, slice_index, slice_index_or}
+use Rattle.std.proofs.lemmas.Bool.{cases_lt}
+use Rattle.std.proofs.lemmas.Option.{slice_get-map}
+use Rattle.tapa_base.specs.declared.shape.Port.{Port}
+use Rattle.tapa_base.specs.declared.token.Token.{Token}
+use Rattle.tapa_base.specs.Kinds.{bits_of}
+use Rattle.tapa_syntax.specs.declared.program.Memory.{Memory}
+use Rattle.tapa_syntax.specs.declared.program.Program.{Program}
+use Rattle.tapa_syntax.specs.declared.program.Stream.{Stream}
+use Rattle.vlog_tree.specs.Cycle.{Cycle, Path}
+use Rattle.vlog_tree.specs.Environment.{Environment, FitsShape, RunsIn, IsDone, shape_of, streams_of, tokens, cells_at}
+use Rattle.vlog_tree.specs.Form.{ModuleTree}
+use Rattle.vlog_tree.specs.Spelling.{spelling}
+use Rattle.vlog_lex.specs.Grammar.{HasTree}
+use Rattle.vlog_lex.proofs.OneTree.{one_tree}
+use Rattle.vlog_lex.proofs.Spelled.{spelling_has_tree}
+use Rattle.vlog_lex.proofs.Written.{numbers_written, design_has_modules}
+use Rattle.vlog_design.specs.Designs.{DesignTree}
+use Rattle.vlog_read.proofs.OneTop.{one_design}
+use Rattle.vlog_tree.specs.Refused.{IsDesign}
+use Rattle.kahn_model.specs.Cells.{cells_at as cells_of}
+use Rattle.kahn_model.specs.Counts.{written, IsKahnStream}
+use Rattle.kahn_model.specs.Ending.{IsLeastToEnd}
+use Rattle.kahn_model.specs.Network.{Network}
+use Rattle.kahn_model.specs.Outcome.{IsJoined, HaveJoinedEnded, IsDone as EndsWithin, shown}
+use Rattle.kahn_model.specs.Timed.{lost}
+use Rattle.hw_top_lines.specs.Legal.{scalar_ports, stream_ports, memory_ports}
+use Rattle.hw_top_lines.specs.Texts.{token_bits, top_tree}
+use Rattle.hw_top_laws.specs.kahn.Carries.{CarriesStreams, carried_by}
+use Rattle.hw_top_laws.specs.kahn.Clock.{counts, all_answer}
+use Rattle.hw_top.specs.Circuits.{IsCircuitOf}
+use Rattle.run_data.specs.Report.{stream_line, memory_line, last_line}
+use Rattle.run_program.specs.Run.{lines_from}
+use Rattle.sim_report.specs.Reports.{IsSimulated, report_to, streams_to, memories_at, stream_lines, memory_lines, last_of}
+use Rattle.sim_report.proofs.Simulating.{first_same}
+use Rattle.cycle_sim.specs.Sims.{IsDoneAt, last_cycle}
+use Rattle.command_source.specs.Inputs.{GivesValues}
+use Rattle.command_plans.specs.Built.{HasCircuit, IsCircuitText}
+use Rattle.tapa_drive.specs.Answer.{IsAsked}
+use Rattle.tapa_drive.specs.BuiltRuns.{values_in, network_in, written_to, ShowsProgram, CircuitsShowTheirProgram}
+use Rattle.tapa_drive.specs.Designs.{GivesEnvironment, HasSimulated}
+
+mapped : {A B : Type 0} (f : A → B) (o : Option A) (y : B) → option_map f o ≡ Some y → (x : A) × (o ≡ Some x) × (f x ≡ y)
+mapped f None y e = absurd cc
+mapped f (Some x) y e = (x, refl, (let both : Some (f x) ≡ Some y = e in cc))
+
+abbrev name_of : Option Memory → List ℕ
+name_of None = []
+name_of (Some o) = o.name
+
+module _ (program : Program) (design : DesignTree) (circuit : IsCircuitOf program [] design) (env : Environment) (fits : FitsShape env (shape_of (top_tree program []))) (nets : ℕ → Path → Cycle)
+    (runs : RunsIn design.modules (top_tree program []) env nets) (limit : ℕ) (at : Option ℕ) (done : IsDoneAt (λ n. nets n []) limit at) where
+  abbrev root : ModuleTree
+  root = top_tree program []
+
+  abbrev net : Network
+  net = network_in program env
+
+  abbrev run : ℕ → Cycle
+  run n = nets n []
+
+  abbrev last : ℕ
+  last = last_cycle limit at
+
+  k : CarriesStreams program [] env nets
+  k = circuit.carries env fits nets runs
+
+  -- ---- lines
+
+  abbrev port_of : Stream → Port
+  port_of q = record { name = q.label; bits = token_bits q.kind }
+
+  tokens_are : (s : ℕ) (l : Port) → slice_get (stream_ports program) s ≡ Some l → tokens l.bits run l.name last ≡ written_to program env last s
+  tokens_are s l got =
+      let q = mapped port_of (slice_get program.streams.items s) l (sym (slice_get-map port_of program.streams.items s) ∙ got) in
+      ap (λ (p : Port). tokens p.bits run p.name last) (sym q.2) ∙ k.streams s last q.0 q.1
+
+  streams_are : streams_to root run last ≡ stream_lines (written_to program env last) (stream_ports program)
+  streams_are =
+      ap (λ (ports : List Port). lines_from (λ (l : Port) i. stream_line l.name (tokens l.bits run l.name last)) 0 ports) circuit.streams
+      ∙ first_same (λ (l : Port) i. stream_line l.name (tokens l.bits run l.name last)) (λ (l : Port) i. stream_line l.name (written_to program env last i)) (stream_ports program)
+      (λ i l got. ap (λ (ts : List Token). stream_line l.name ts) (tokens_are i l got))
+
+  -- the cells of a memory in the last cycle, by its place
+  abbrev held : ℕ → List ℕ
+  held m = cells_at run (name_of (slice_get program.memories.items m)) (slice_index_or env.memories m []) last
+
+  held_is : (m : ℕ) (o : Memory) → slice_get program.memories.items m ≡ Some o → held m ≡ cells_at run o.name (slice_index_or env.memories m []) last
+  held_is m o got = ap (λ z. cells_at run (name_of z) (slice_index_or env.memories m []) last) got
+
+  abbrev memory_port : Memory → Port
+  memory_port o = record { name = o.name; bits = bits_of o.kind }
+
+  cells_are : (m : ℕ) (l : Port) → slice_get (memory_ports program) m ≡ Some l → cells_at run l.name (slice_index_or env.memories m []) last ≡ held m
+  cells_are m l got =
+      let o = mapped memory_port (slice_get program.memories.items m) l (sym (slice_get-map memory_port program.memories.items m) ∙ got) in
+      ap (λ (p : Port). cells_at run p.name (slice_index_or env.memories m []) last) (sym o.2) ∙ sym (held_is m o.0 o.1)
+
+  memories_are : memories_at root env run last ≡ memory_lines held (memory_ports program)
+  memories_are =
+      ap (λ (ports : List Port). lines_from (λ (l : Port) i. memory_line l.name (cells_at run l.name (slice_index_or env.memories i []) last)) 0 ports) circuit.memories
+      ∙ first_same (λ (l : Port) i. memory_line l.name (cells_at run l.name (slice_index_or env.memories i []) last)) (λ (l : Port) i. memory_line l.name (held i)) (memory_ports program)
+      (λ i l got. ap (λ (cells : List ℕ). memory_line l.name cells) (cells_are i l got))
+
+  report_is : report_to root env run last (last_of limit at) ≡ (stream_lines (written_to program env last) (stream_ports program) ++ memory_lines held (memory_ports program)) ++ last_line (last_of limit at)
+  report_is =
+      ap (λ (l : List ℕ). (l ++ memories_at root env run last) ++ last_line (last_of limit at)) streams_are
+      ∙ ap (λ (l : List ℕ). (stream_lines (written_to program env last) (stream_ports program) ++ l) ++ last_line (last_of limit at)) memories_are
+
+  holds : (m n : ℕ) (o : Memory) → slice_get program.memories.items m ≡ Some o → last ≡ suc n → held m ≡ cells_of program env.scalars env.memories (counts program [] env (suc n)) m
+  holds m n o got e = held_is m o got ∙ ap (λ z. cells_at run o.name (slice_index_or env.memories m []) z) e ∙ k.memories m n o got
+
+  -- ---- done
+
+  abbrev IsDoneSo : Option ℕ → Type 0
+  IsDoneSo o = IsDoneAt run limit o
+
+  done_in : (n : ℕ) → at ≡ Some n → IsDone run n
+  done_in n e = (subst IsDoneSo e done).1
+
+  last_is : (n : ℕ) → at ≡ Some n → last ≡ n
+  last_is n e = ap (last_cycle limit) e
+
+  ended : (n : ℕ) → at ≡ Some n → HaveJoinedEnded net (counts program [] env n)
+  ended n e = by_cycle n (done_in n e) where
+    by_cycle : (n : ℕ) → IsDone run n → HaveJoinedEnded net (counts program [] env n)
+    by_cycle zero d = (let low : 1 ≤ 0 = d.0 in absurd (omega arith))
+    by_cycle (suc n) d = (k.done n).0 d
+
+  seen : (n s : ℕ) (q : Stream) → slice_get program.streams.items s ≡ Some q → carried_by nets q n ≡ written_to program env n s
+  seen n s q got = k.streams s n q got
+
+  whole : (n s : ℕ) (q : Stream) → at ≡ Some n → slice_get program.streams.items s ≡ Some q → IsJoined net q.producer → IsKahnStream net s (written_to program env n s)
+  whole n s q e got joined = subst (IsKahnStream net s) (seen n s q got) (k.whole s n n q got (done_in n e) (omega arith) joined)
+
+  as_run : (bound : ℕ) (c : ℕ → ℕ) → EndsWithin net bound c → (n s : ℕ) (q : Stream) → at ≡ Some n → slice_get program.streams.items s ≡ Some q → IsJoined net q.producer → written_to program env n s ≡ shown net c s
+  as_run bound c ends n s q e got joined = sym (seen n s q got) ∙ k.shows bound c ends s n n q got (done_in n e) (omega arith) joined
+
+  -- the first cycle in which it is done is no later than another
+  first_done : (o : Option ℕ) → at ≡ o → (m : ℕ) → IsDone run m → m ≤ limit → (n : ℕ) × (at ≡ Some n) × (n ≤ m)
+  first_done None e m d le = absurd ((subst IsDoneSo e done) m le d)
+  first_done (Some n) e m d le =
+      ⊎_elim {C = (n : ℕ) × (at ≡ Some n) × (n ≤ m)}
+      (λ (low : m < n). absurd ((subst IsDoneSo e done).2 m low d))
+      (λ (up : n ≤ m). (n, e, up))
+      (cases_lt m n)
+
+  in_time : (waits : ℕ) → ((n : ℕ) → lost (all_answer env) n ≤ waits) → (bound : ℕ) (c : ℕ → ℕ) → EndsWithin net bound c → (a : ℕ) × IsLeastToEnd net a × ((a + 2) * 4 + waits ≤ limit → (n : ℕ) × (at ≡ Some n) × (n ≤ (a + 2) * 4 + waits))
+  in_time waits few bound c ends =
+      let t = k.in_time 0 waits (λ s. omega arith) few bound c ends in (
+        t.0,
+        t.1,
+        λ le.
+            let soon : t.2.0 ≤ (t.0 + 2) * 4 + waits = t.2.2 in
+            let f = first_done at refl t.2.0 t.2.1 (omega arith) in
+            let early = f.2 in
+            (f.0, f.1, omega arith),
+      )
+
+-- data that give a circuit an environment give its program the values in it
+gives_values : (program : Program) (design : DesignTree) (circuit : IsCircuitOf program [] design) (bytes : List ℕ) (env : Environment) → GivesEnvironment design bytes env → GivesValues program bytes (values_in env)
+gives_values program design circuit bytes env g =
+    let both : Some g.is_shape.top ≡ Some (top_tree program []) = sym g.is_shape.is_top ∙ circuit.is_top in
+    let same : g.is_shape.top ≡ top_tree program [] = cc in
+    record {
+      shape = g.shape;
+      is_shape = record {
+        scalars = g.is_shape.scalars ∙ ap (λ (m : ModuleTree). (shape_of m).scalars) same ∙ circuit.scalars;
+        memories = g.is_shape.memories ∙ ap (λ (m : ModuleTree). (shape_of m).memories) same ∙ circuit.memories;
+      };
+      file = g.file;
+      is_json = g.is_json;
+      faultless = g.faultless;
+      scalars = g.scalars;
+      memories = g.memories;
+    }
+
+-- the design of a circuit's text is the circuit
+design_is : (program : Program) (told : List ℕ) (c : IsCircuitText program [] told) (design : DesignTree) → HasTree told design.modules → IsDesign design.modules design.top → design ≡ c.design
+design_is program told c design tree legal =
+    let ms = c.design.modules in
+    let printed = spelling_has_tree ms c.circuit.legal.form (numbers_written ms c.circuit.legal.sound.widths) (design_has_modules ms c.design.top c.circuit.legal) in
+    one_design c.design design c.circuit.legal legal (one_tree (spelling ms) design.modules ms (subst (λ (t : List ℕ). HasTree t design.modules) c.told tree) printed)
+
+module _ (source top told bytes : List ℕ) (limit : ℕ) (at : Option ℕ) (report : List ℕ) (h : HasCircuit source top told) where
+  abbrev program : Program
+  program = h.program
+
+  abbrev design : DesignTree
+  design = h.is.design
+
+  of_design : (env : Environment) → GivesEnvironment design bytes env → (is : IsSimulated design env limit at report) → is.top ≡ top_tree program [] → ShowsProgram source top bytes limit at report
+  of_design env gives is same =
+      let circuit = h.is.circuit in
+      let fits = gives.fits (top_tree program []) circuit.is_top in
+      let runs : RunsIn design.modules (top_tree program []) env is.nets = subst (λ (m : ModuleTree). RunsIn design.modules m env is.nets) same is.run.runs_in in
+      let run : ℕ → Cycle = λ n. is.nets n [] in
+      record {
+        program = program;
+        env = env;
+        asked = record { means = h.means; gives = gives_values program design circuit bytes env gives };
+        cells = held program design circuit env fits is.nets runs limit at is.done;
+        lines = is.shown ∙ ap (λ (m : ModuleTree). report_to m env run (last_cycle limit at) (last_of limit at)) same ∙ report_is program design circuit env fits is.nets runs limit at is.done;
+        holds = holds program design circuit env fits is.nets runs limit at is.done;
+        ended = ended program design circuit env fits is.nets runs limit at is.done;
+        whole = whole program design circuit env fits is.nets runs limit at is.done;
+        as_run = as_run program design circuit env fits is.nets runs limit at is.done;
+        in_time = in_time program design circuit env fits is.nets runs limit at is.done;
+      }
+
+  shows : HasSimulated told bytes limit at report → ShowsProgram source top bytes limit at report
+  shows s =
+      let same : s.design ≡ design = design_is program told h.is s.design s.means.spelled s.means.legal in
+      let gives : GivesEnvironment design bytes s.env = subst (λ (d : DesignTree). GivesEnvironment d bytes s.env) same s.gives in
+      let is : IsSimulated design s.env limit at report = subst (λ (d : DesignTree). IsSimulated d s.env limit at report) same s.is in
+      let both : Some is.top ≡ Some (top_tree program []) = sym is.is_top ∙ h.is.circuit.is_top in
+      let one : is.top ≡ top_tree program [] = cc in
+      of_design s.env gives is one
+
+pub circuits_show_their_program : CircuitsShowTheirProgram
+circuits_show_their_program source top told bytes limit at report h s = shows source top told bytes limit at report h s

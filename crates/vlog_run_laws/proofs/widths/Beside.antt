@@ -1,0 +1,40 @@
+-- Each run in an environment is one beside memories that show a cell where they answer.
+use Rattle.std.proofs.Common.{◌≡◌, ℕ, zero, suc, ◌^◌, ◌<◌, Bool, true, false, List, [], get_or, Some, refl, sym, subst, ◌∙◌}
+use Rattle.std.specs.Prelude.{◌==◌, if◌then◌else◌, slice_get, unwrap_or}
+use Rattle.vlog_run_laws.specs.Beside.{RunsBeside, answers_in}
+use Rattle.vlog_tree.specs.Cycle.{Cycle, Path}
+use Rattle.vlog_tree.specs.Environment.{Environment, FitsShape, RunsIn, shape_of, ready_at}
+use Rattle.vlog_tree.specs.Form.{ModuleTree}
+use Rattle.vlog_tree.specs.Refused.{IsDesign}
+use Rattle.vlog_run_laws.proofs.widths.Fitting.{run_fits}
+use Rattle.vlog_run_laws.proofs.widths.Given.{GivesTop, stands_give}
+
+abbrev bit : Bool → ℕ
+bit b = if b then 1 else 0
+
+-- a bit is told by whether it is 1
+bit_back : (ready : List Bool) (n : ℕ) → ready_at ready n ≡ bit (ready_at ready n == 1)
+bit_back ready zero = refl
+bit_back ready (suc n) = of_bit (unwrap_or (slice_get ready n) true) where
+  of_bit : (b : Bool) → bit b ≡ bit (bit b == 1)
+  of_bit true = refl
+  of_bit false = refl
+
+pub runs_beside : (ms : List ModuleTree) (place : ℕ) (root : ModuleTree) → IsDesign ms place → slice_get ms place ≡ Some root → (env : Environment) → FitsShape env (shape_of root) → (nets : ℕ → Path → Cycle) → RunsIn ms root env nets → RunsBeside ms root env (answers_in env) nets
+runs_beside ms place root d at env env_fits nets r =
+    let fits = run_fits ms place root d at env env_fits nets r in
+    let given : GivesTop root env (λ n. nets n []) = stands_give root env (λ n. nets n []) r.stands in
+    record {
+      runs = r.runs;
+      stands = record {
+        reset = r.stands.reset;
+        runs = r.stands.runs;
+        scalars = r.stands.scalars;
+        memories = λ i l got. record {
+          quiet = refl;
+          ack = λ n. (r.stands.memories i l got).ack n ∙ bit_back (get_or env.ready i []) n;
+          width = λ n. given.rdata n i l got (fits.outside n i l got);
+          rdata = λ n ok. (r.stands.memories i l got).rdata n;
+        };
+      };
+    }
