@@ -2,6 +2,7 @@ use Rattle.command_plans.proofs.planning.planned_by.Goals as goal
 
 pub returns-in-Ok-clause-found : goal.returns-in-Ok-clause-found
 returns-in-Ok-clause-found c = λ mode kept. record {
+  fits = c.in-Ok.ensures.plan;
   by = kept c.in-Ok.found.slot.items c.in-Ok.ensures.by_mode;
   used = c.in-Ok.ensures.used;
   cost = c.in-Ok.ensures.cost;
