@@ -150,8 +150,7 @@ def asked_wanted(words, cycles):
 def is_to_come(asked):
     """What the program has not yet: it is refused as words that are no command."""
     command, _, said = asked
-    planned = command == "plan" or (command == "build" and said["--device"] is not None)
-    return command in ("vcd", "gen") or (command == "cosim" and said["--vcd"] is not None) or (planned and said["--plan"] == "split")
+    return command in ("vcd", "gen") or (command == "cosim" and said["--vcd"] is not None)
 
 
 def try_random(trial):

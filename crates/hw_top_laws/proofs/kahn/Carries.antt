@@ -49,7 +49,7 @@ use Rattle.hw_top_lines.specs.Texts.{token_bits, top_tree, is_detached, memory_n
 use Rattle.hw_top_laws.specs.runs.Designs.{IsCircuit}
 use Rattle.hw_top_laws.specs.runs.Parts.{bit_of, token_in, streams_seen, memory_before, rows_of}
 use Rattle.hw_top_laws.specs.kahn.Carries.{network, carried_by, CircuitsCarryStreams, CircuitsCarryBeside}
-use Rattle.hw_top_laws.specs.kahn.Clock.{answers_of, all_answer, answer_of, bound_answers, each_answers, all_answer_beside}
+use Rattle.hw_top_laws.specs.kahn.Clock.{clock_in, answers_of, all_answer, answer_of, bound_answers, each_answers, all_answer_beside}
 use Rattle.hw_top_laws.proofs.kahn.Done.{told, only, end_is, end_low}
 use Rattle.hw_top_laws.proofs.kahn.Waits.{in_time_by}
 use Rattle.hw_top_laws.proofs.kahn.Networks.{parts, histories, design, are_machines, label_is, in_clock}
