@@ -62,6 +62,32 @@ EXPLAINED_WORDS = [
     ("void L(int n) { n = n + 1 }", "}", "missing `;`"),
 ]
 
+# A stream that takes two tokens in the cycles 1 and 2, and gives one in cycle 3.
+DUMP = """$timescale 1 ns $end
+$scope module T $end
+$var wire 33 ! s_q_din $end
+$var wire 1 " s_q_wr $end
+$var wire 1 # s_q_rdy $end
+$var reg 1 $ s_q_has $end
+$var wire 1 % s_q_take $end
+$upscope $end
+$enddefinitions $end
+#0
+b0 !
+0"
+1#
+0$
+0%
+#1
+b111 !
+1"
+#2
+1$
+#3
+0"
+1%
+"""
+
 
 def run_tool(name, *words, given=""):
     ran = subprocess.run([sys.executable, f"tools/{name}", *words], cwd=ROOT, input=given.encode(), capture_output=True, check=False)
@@ -146,6 +172,18 @@ def try_data_tools(trial):
     said = trial.run(["run", "s.cpp", "T"])
     _, shown, _ = run_tool("signed.py", source, "T", given=said.out.decode())
     trial.check_equal("signs of kinds, inside tasks too", shown, "stream r: 200 eot\nstream U$0$x: -1 -128\ndone 11\n")
+
+def try_waves(trial):
+    """Bits are lines, words are lozenges with their numbers, and a stream is as full as the dump says."""
+    dump = trial.put("d.vcd", DUMP)
+    _, drawn, err = run_tool("waves.py", dump)
+    trial.check_equal("waves.py draws a line a bit and a lozenge a value", (drawn.count("<polyline"), drawn.count("<polygon"), ">7<" in drawn), (4, 2, True))
+    _, drawn, err = run_tool("waves.py", dump, "--fill")
+    trial.check("waves.py shows how full a stream is", "most 2" in drawn and drawn.count("<polygon") == 1, f"   {err}")
+    _, drawn, err = run_tool("waves.py", dump, "--nets", "s_q_wr", "--from", "1", "--to", "2")
+    trial.check("waves.py draws the nets that are asked for", drawn.count("<polyline") == 1 and "s_q_din" not in drawn, f"   {err}")
+    status, _, err = run_tool("waves.py", dump, "--nets", "s_r_wr")
+    trial.check("waves.py says that there is no such net", (status, "no net s_r_wr" in err) == (1, True), f"   {err}")
 
 
 def try_editors(trial):
@@ -279,4 +317,6 @@ def try_all(trial):
     try_floorplan(trial)
     try_graph(trial)
     try_data_tools(trial)
+
+    try_waves(trial)
     try_editors(trial)

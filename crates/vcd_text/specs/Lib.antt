@@ -1,0 +1,9 @@
+pub mod Dump
+pub mod Along
+pub mod Read
+pub mod Lines
+pub mod Digits
+pub mod Rest
+pub mod Head
+pub mod Answers
+pub mod Nets
