@@ -125,6 +125,11 @@ def plans():
     alike = [10] * 22
     yield "22 groups alike on 2 slots, only the last two have a stream, exact", network(22, [(20, 21, "int")]), device(2, 1, 120, alike), ["--plan", "exact"], (0,)
     yield "22 groups alike on 2 slots for 20, a chain, no plan, exact", network(22, graphs["a chain"]), device(2, 1, 109, alike), ["--plan", "exact"], (4,)
+    apart = random.Random(2)
+    for count in (30, 60, 120, 200):
+        wide = [(*apart.choice(pairs), apart.choice(kinds)) for _ in range(count)]
+        for capacity in (10, 30, 100):
+            yield f"22 groups alike on 8 by 4 slots for {capacity // 10}, {count} streams at random, split", network(22, wide), device(8, 4, capacity, alike), ["--plan", "split"], (0, 4)
     streams = [(at, at + 1, "int") for at in range(511)]
     pins = {f"T{task}${task}": [task % 4, 0] for task in range(10, 512)}
     given = device(4, 1, 100_000, [10] * 512, pins=pins)
