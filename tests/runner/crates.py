@@ -57,7 +57,7 @@ def try_homes(trial):
         homes = [home for home in homes.split(", ") if home in crates_of]
         text = "\n".join(texts_of_crates(home) for home in homes)
         for name in re.findall(r"`(\w+)`", names):
-            trial.check(f"docs/READING.md: `{name}` is in {', '.join(homes)}", bool(homes) and re.search(rf"pub (?:record )?{name}\b", text))
+            trial.check(f"docs/READING.md: `{name}` is in {', '.join(homes)}", bool(homes) and re.search(rf"pub (?:record |data )?{name}\b", text))
 
 
 def try_clauses(trial):
