@@ -16,6 +16,23 @@ fn a_real_file_is_read(rt: HostRuntime) -> Result<(), Fail> {
 }
 
 #[test]
+fn two_real_files_are_read_by_turns(rt: HostRuntime) -> Result<(), Fail> {
+    let alloc = rt.alloc();
+    fs::write(&rt, "salt.txt", "salt and oil")?;
+    fs::write(&rt, "rice.txt", "rice")?;
+    let mut shelf = DirShelf::new(&rt, alloc);
+    let salt = take_file(alloc, &mut shelf, "salt.txt", 100)?;
+    let rice = take_file(alloc, &mut shelf, "rice.txt", 100)?;
+    let again = take_file(alloc, &mut shelf, "salt.txt", 100)?;
+    assert_eq!(rt; salt.as_slice(), b"salt and oil".as_slice());
+    assert_eq!(rt; rice.as_slice(), b"rice".as_slice());
+    assert_eq!(rt; again.as_slice(), b"salt and oil".as_slice());
+    fs::remove_file(&rt, "salt.txt")?;
+    fs::remove_file(&rt, "rice.txt")?;
+    Ok(())
+}
+
+#[test]
 fn a_long_real_file_is_read_whole(rt: HostRuntime) -> Result<(), Fail> {
     let alloc = rt.alloc();
     let mut long = Vec::new(alloc);
