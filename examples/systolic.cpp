@@ -1,10 +1,12 @@
 // tapa run examples/systolic.cpp Product examples/systolic.json
 // The product of two 2 by 2 matrices on a systolic array: four cells, each of which multiplies what comes from the left
 // and from above, adds it up, and passes both on. Look at `Cell`: one task, invoked four times, and the flat program's
-// instances are named by it (`Cell$2` to `Cell$5`); and at the drains, which take what leaves the array at its edges.
+// instances are named by it (`Cell$2` to `Cell$5`); and at the drains, which take what leaves the array at its edges: one
+// line with a count invokes N of them, each with its element of `right`.
 #include <tapa.h>
 
 const int N = 2;
+const int CELLS = 4;
 
 void Rows(tapa::mmap<const int> a, tapa::ostream<int>& row_0, tapa::ostream<int>& row_1) {
   for (int k = 0; k < N; ++k) { row_0 << a[k]; row_1 << a[N + k]; }
@@ -37,19 +39,17 @@ void Collect(tapa::istream<int>& s00, tapa::istream<int>& s01, tapa::istream<int
 }
 
 void Product(tapa::mmap<const int> a, tapa::mmap<const int> b, tapa::mmap<int> c) {
-  tapa::stream<int> a00("a00"), a01("a01"), a02("a02"), a10("a10"), a11("a11"), a12("a12");
-  tapa::stream<int> b00("b00"), b10("b10"), b20("b20"), b01("b01"), b11("b11"), b21("b21");
-  tapa::stream<int> s00("s00"), s01("s01"), s10("s10"), s11("s11");
+  tapa::streams<int, N> left("left"), middle("middle"), right("right");   // along the rows: an element for each row
+  tapa::streams<int, N> top("top"), inner("inner"), bottom("bottom");     // down the columns: an element for each column
+  tapa::streams<int, CELLS> sums("sums");
   tapa::task()
-    .invoke(Rows, a, a00, a10)
-    .invoke(Columns, b, b00, b01)
-    .invoke(Cell, a00, b00, a01, b10, s00)
-    .invoke(Cell, a01, b01, a02, b11, s01)
-    .invoke(Cell, a10, b10, a11, b20, s10)
-    .invoke(Cell, a11, b11, a12, b21, s11)
-    .invoke(Drain, a02)
-    .invoke(Drain, a12)
-    .invoke(Drain, b20)
-    .invoke(Drain, b21)
-    .invoke(Collect, s00, s01, s10, s11, c);
+    .invoke(Rows, a, left[0], left[1])
+    .invoke(Columns, b, top[0], top[1])
+    .invoke(Cell, left[0], top[0], middle[0], inner[0], sums[0])
+    .invoke(Cell, middle[0], top[1], right[0], inner[1], sums[1])
+    .invoke(Cell, left[1], inner[0], middle[1], bottom[0], sums[2])
+    .invoke(Cell, middle[1], inner[1], right[1], bottom[1], sums[3])
+    .invoke<tapa::join, N>(Drain, right)
+    .invoke<tapa::join, N>(Drain, bottom)
+    .invoke(Collect, sums[0], sums[1], sums[2], sums[3], c);
 }

@@ -10,7 +10,7 @@ tests/README.md says how cases are written.
 import os
 import sys
 
-from runner import circuits, crates, documents, endings, examples, faults, halving, house, icarus, inputs, limits, pipelines, plans, reference, sessions, sources, texts, tools, values, words
+from runner import arrays, bounds, circuits, crates, documents, dumps, endings, examples, faults, halving, house, icarus, inputs, limits, networks, pipelines, plans, reference, sessions, sources, texts, tools, values, words, workers
 from runner.trial import Trial
 
 
@@ -18,18 +18,23 @@ GROUPS = [
     ("sources", sources.try_all),
     ("data", inputs.try_all),
     ("runs", sessions.try_all),
+    ("arrays", arrays.try_all),
     ("plans", plans.try_all),
     ("halving", halving.try_all),
     ("texts", texts.try_all),
     ("values", values.try_all),
     ("words", words.try_all),
+    ("networks", networks.try_all),
     ("endings", endings.try_all),
+    ("workers", workers.try_all),
     ("faults", faults.try_all),
     ("examples", examples.try_all),
     ("circuits", circuits.try_all),
     ("pipelines", pipelines.try_all),
     ("limits", limits.try_all),
+    ("bounds", bounds.try_all),
     ("reference", reference.try_all),
+    ("dumps", dumps.try_all),
     ("icarus", icarus.try_all),
     ("documents", documents.try_all),
     ("tools", tools.try_all),

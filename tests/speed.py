@@ -1,11 +1,13 @@
 #!/usr/bin/env python3
 """Measures how fast a built `tapa` runs programs, and prints the rows of docs/FIGURES.md, "Speed".
 
-    tests/speed.py PROGRAM [WORD]      all of them, or those whose name has the word
+    tests/speed.py PROGRAM [WORD]              all of them, or those whose name has the word
+    tests/speed.py PROGRAM --workers [WORD]    the same by several workers: a column for each number of them
 
 The sources are those of tests/speed/, and wide networks that are made here. Seconds are processor seconds of one call, the best of seven, with the
 report, which goes nowhere; ticks are those that the report counts. Where g++ is there, the anchors of tests/speed/ are compiled with -O2
-and measured beside it.
+and measured beside it. With --workers a cell has the seconds by the clock and the processor seconds, of the call that was best by the clock: they say
+something on a machine that has nothing else to do, and has as many processors as workers.
 """
 import json
 import os
@@ -13,11 +15,13 @@ import shutil
 import subprocess
 import sys
 import tempfile
+import time
 
 from figures import chain
 
 HERE = os.path.dirname(os.path.abspath(__file__))
 REPEATS = 7
+WORKERS = (1, 2, 4, 64)
 
 
 def source(name):
@@ -62,6 +66,17 @@ def queue(depth, tokens):
     )
 
 
+def apart(tasks, turns):
+    """Tasks that have nothing to do with one another until they end, and one that waits for them all."""
+    busy = f"void B(tapa::ostream<int>& q) {{ int x = 1; for (int i = 0; i < {turns}; ++i) {{ x = x * 5 + i; }} q << x; }}\n"
+    ends = ", ".join(f"tapa::istream<int>& q{at}" for at in range(tasks))
+    reads = " ".join(f"q{at}.read();" for at in range(tasks))
+    streams = " ".join(f"tapa::stream<int> q{at};" for at in range(tasks))
+    calls = "".join(f".invoke(B, q{at})" for at in range(tasks))
+    bound = ", ".join(f"q{at}" for at in range(tasks))
+    return f"{busy}void C({ends}) {{ {reads} }}\nvoid Top() {{ {streams} tapa::task(){calls}.invoke(C, {bound}); }}\n"
+
+
 def cases():
     """Each measurement: its name, its source, its top task, and its data."""
     yield "a busy task, 50,000,000 turns", source("busy"), "Top", {"scalars": {"n": 50_000_000}, "memories": {"m": [0]}}
@@ -74,19 +89,21 @@ def cases():
         yield f"two tasks and {count:,} stream{'s' if count > 1 else ''}, {rounds:,} rounds", pair(count, rounds), "Top", {}
     for depth in (2, 4_096):
         yield f"a task held up on its output, input depth {depth:,}", queue(depth, 1_000_000), "Top", {}
+    yield "64 busy tasks side by side, 300,000 turns", apart(64, 300_000), "Top", {}
     for turns in (100_000, 400_000, 1_600_000):
         yield f"a ring of three, {turns:,} turns", source("ring"), "Top", {"scalars": {"n": turns}}
 
 
 def used(words, folder, out):
-    """The processor seconds and megabytes of one call, which must end well."""
+    """The processor seconds, the megabytes and the seconds by the clock of one call, which must end well."""
+    begun = time.monotonic()
     ran = subprocess.Popen(words, cwd=folder, stdout=out, stderr=subprocess.PIPE)
     err = ran.stderr.read().decode()
     _, status, spent = os.wait4(ran.pid, 0)
     ran.returncode = os.waitstatus_to_exitcode(status)
     if ran.returncode:
         sys.exit(f"{words}: status {ran.returncode}: {err[:300].strip()}")
-    return spent.ru_utime + spent.ru_stime, spent.ru_maxrss / 1024
+    return spent.ru_utime + spent.ru_stime, spent.ru_maxrss / 1024, time.monotonic() - begun
 
 
 def ticks_of(words, folder):
@@ -115,25 +132,43 @@ def anchors(folder):
     return found
 
 
+def put_all(program, wanted, folder):
+    """Writes the sources and their data, and gives the name and the call of each."""
+    for at, (name, text, top, data) in enumerate(it for it in cases() if wanted in it[0]):
+        for file, content in ((f"{at}.cpp", text), (f"{at}.json", json.dumps(data))):
+            with open(os.path.join(folder, file), "w", encoding="utf-8") as it:
+                it.write(content)
+        yield name, [program, "run", f"{at}.cpp", top, f"{at}.json", "--steps", "1000000000"]
+
+
+def by_workers(program, wanted):
+    """The rows by several workers."""
+    print(f"| what | {' | '.join(f'{count} worker' + 's' * (count > 1) for count in WORKERS)} |\n|---|{'---|' * len(WORKERS)}")
+    with tempfile.TemporaryDirectory() as folder:
+        rows = list(put_all(program, wanted, folder))
+        spent = [[[used([*call, "--workers", str(count)], folder, subprocess.DEVNULL) for count in WORKERS] for _, call in rows] for _ in range(REPEATS)]
+        for at, (name, _) in enumerate(rows):
+            best = [min((one[at][column] for one in spent), key=lambda it: it[2]) for column in range(len(WORKERS))]
+            print(f"| {name} | {' | '.join(f'{clock:.2f} s ({seconds:.2f} s)' for seconds, _, clock in best)} |", flush=True)
+    return 0
+
+
 def main(words):
+    words, is_by_workers = [word for word in words if word != "--workers"], "--workers" in words
     if len(words) not in (1, 2):
         print(__doc__.strip(), file=sys.stderr)
         return 2
     program, wanted = os.path.abspath(words[0]), words[1] if len(words) == 2 else ""
+    if is_by_workers:
+        return by_workers(program, wanted)
     print("| what | ticks | time | ticks a second | memory | g++ -O2 |\n|---|---|---|---|---|---|")
     with tempfile.TemporaryDirectory() as folder:
         plain = anchors(folder)
-        rows = []
-        for at, (name, text, top, data) in enumerate(it for it in cases() if wanted in it[0]):
-            for file, content in ((f"{at}.cpp", text), (f"{at}.json", json.dumps(data))):
-                with open(os.path.join(folder, file), "w", encoding="utf-8") as it:
-                    it.write(content)
-            call = [program, "run", f"{at}.cpp", top, f"{at}.json", "--steps", "1000000000"]
-            rows.append((name, call, ticks_of(call, folder)))
+        rows = [(name, call, ticks_of(call, folder)) for name, call in put_all(program, wanted, folder)]
         # (the calls of a row are spread over the whole run, so that a slow minute of the machine strikes no row alone)
         spent = [[used(call, folder, subprocess.DEVNULL) for _, call, _ in rows] for _ in range(REPEATS)]
         for at, (name, _, ticks) in enumerate(rows):
-            seconds, megabytes = min(one[at] for one in spent)
+            seconds, megabytes, _ = min(one[at] for one in spent)
             anchor = next((f"{least:.2f} s" for word, least in plain.items() if f"a {word} " in name), "")
             print(f"| {name} | {ticks:,} | {seconds:.2f} s | {ticks / max(seconds, 0.001) / 1e6:.0f} million | {megabytes:.0f} MB | {anchor} |", flush=True)
     return 0

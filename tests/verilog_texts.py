@@ -9,6 +9,8 @@ first cycle on, without streams and memories, so `cosim FILE` writes the one lin
 """
 import sys
 
+from runner import alike
+
 MOST = 16_777_216
 HEAD = "module t_X ( input clk , input rst , output done ) ;\n"
 TAIL = "assign done = 1'd1 ;\nendmodule\n"
@@ -123,6 +125,11 @@ def open_comment():
     return text + "/*" + " *" * ((MOST - len(text) - 2) // 2)
 
 
+def same_hash():
+    """Wires whose names all share a chain of a table by their hashes."""
+    return filled(HEAD, (f"wire {name} ;\nassign {name} = rst ;\n" for name in alike.names(MOST)), TAIL)
+
+
 KINDS = {
     "assigns": (assigns, DONE),
     "chain": (chain, DONE),
@@ -130,6 +137,7 @@ KINDS = {
     "elses": (elses, DONE),
     "line": (line, DONE),
     "modules": (modules, DONE),
+    "alike": (same_hash, DONE),
     "name": (name, DONE),
     "number": (number, DONE),
     "comments": (comments, DONE),

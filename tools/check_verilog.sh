@@ -1,5 +1,5 @@
 #!/bin/sh
-# Builds every example and shows what other tools say of the texts, where they are installed: Icarus Verilog (and its run beside `tapa cosim`), Verilator, Yosys.
+# Builds every example and shows what other tools say of the texts, where they are installed: Icarus Verilog (and its run and its nets beside `tapa cosim`), GTKWave's vcd2fst, Verilator, Yosys.
 #
 #     tools/check_verilog.sh PROGRAM
 #
@@ -14,7 +14,7 @@ cd "$(dirname "$0")/.." || exit 2
 folder=$(mktemp -d)
 trap 'rm -rf "$folder"' EXIT
 tools=""
-for tool in iverilog verilator yosys; do
+for tool in iverilog vcd2fst verilator yosys; do
   if command -v "$tool" >/dev/null; then tools="$tools $tool"; else echo "check_verilog: $tool is not installed, so it was not tried" >&2; fi
 done
 status=0
@@ -25,13 +25,18 @@ look() {
   set -- $(head -n 1 "$source" | sed 's|^// tapa run ||')
   text=$folder/$(basename "$source" .cpp).v
   "$program" build "$1" "$2" $options > "$text" || { echo "check_verilog: $source is not built"; status=1; return; }
+  "$program" cosim "$text" $3 --cycles 2000 --vcd > "$folder/cosim.vcd" 2>/dev/null
   case $tools in *iverilog*)
     iverilog -g2005 -gno-xtypes -Wall -o /dev/null "$text" > "$folder/said" 2>&1 || status=1
     sed "s|^|iverilog: |" "$folder/said"
     [ -s "$folder/said" ] && status=1
     "$program" cosim "$text" $3 --cycles 2000 > "$folder/cosim" 2>/dev/null
     python3 tools/icarus.py "$text" $3 --cycles 2000 > "$folder/icarus"
-    diff "$folder/cosim" "$folder/icarus" || { echo "check_verilog: $source runs otherwise in Icarus Verilog"; status=1; };;
+    diff "$folder/cosim" "$folder/icarus" || { echo "check_verilog: $source runs otherwise in Icarus Verilog"; status=1; }
+    python3 tools/icarus.py "$text" $3 --cycles 2000 --beside "$folder/cosim.vcd" || { echo "check_verilog: nets of $source are otherwise in Icarus Verilog"; status=1; };;
+  esac
+  case $tools in *vcd2fst*)
+    vcd2fst "$folder/cosim.vcd" "$folder/cosim.fst" > "$folder/said" 2>&1 || { sed "s|^|vcd2fst: |" "$folder/said"; status=1; };;
   esac
   case $tools in *verilator*)
     verilator --lint-only -Wall -Wno-UNUSEDSIGNAL -Wno-DECLFILENAME "$text" > "$folder/said" 2>&1 || status=1

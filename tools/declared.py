@@ -2,6 +2,8 @@
 that needs; what is right is what `tapa` says."""
 import re
 
+import written_out
+
 # Bits and sign of each name of a kind.
 KINDS = {"bool": (1, False), "size_t": (64, False), "short": (16, True), "int": (32, True), "long": (64, True), "unsigned": (32, False)}
 KINDS.update({f"{sign}int{bits}_t": (bits, not sign) for sign in ("", "u") for bits in (8, 16, 32, 64)})
@@ -9,7 +11,7 @@ KINDS.update({f"{sign}int{bits}_t": (bits, not sign) for sign in ("", "u") for b
 
 def kind(words):
     """Bits and sign of a kind as it is written: `uint8_t`, `unsigned long`, `const int`."""
-    words = [word for word in words.replace("std::", "").split() if word != "const"]
+    words = [word for word in re.sub(r"std\s*::", "", words).split() if word != "const"]
     if len(words) == 1:
         return KINDS[words[0]]
     bits = 64 if "long" in words else 16 if "short" in words else 32
@@ -34,8 +36,16 @@ class Task:
         self.invoked = re.findall(r"\.\s*invoke\s*(?:<[^>]*>)?\s*\(\s*(\w+)", body)
 
 
+def with_arrays_written_out(text):
+    try:
+        return written_out.Writer(text.encode()).written()[0].decode()
+    except (written_out.Refused, written_out.NoLexemes):
+        return text
+
+
 def tasks(text):
     """The tasks of a source by name."""
+    text = with_arrays_written_out(text)
     text = re.sub(r"//[^\n]*|/\*.*?\*/|^\s*#[^\n]*", " ", text, flags=re.S | re.M)
     found = {}
     for head in re.finditer(r"\bvoid\s+(\w+)\s*\(([^)]*)\)\s*\{", text):

@@ -2,17 +2,25 @@
 """Shows what `tapa` tells of a source: the line, a caret, why it is refused, and the way round, read from the pages in docs/.
 
     tapa run F.cpp T 2>&1 >/dev/null | tools/explain.py
+    tapa run F.cpp T 2>&1 | tools/explain.py --places
 
-Each line is passed on as it is; what is explained stands below it. Nothing here is proved.
+Each line is passed on as it is; what is explained stands below it. With `--places` nothing is explained, and a place of the text in which arrays are written out
+(docs/LANGUAGE.md, "Stream arrays") becomes the place in the source, for editors. Nothing here is proved.
 """
 import os
 import re
 import sys
 
+sys.dont_write_bytecode = True
+import written_out
+
 DOCS = os.path.join(os.path.dirname(os.path.dirname(os.path.abspath(__file__))), "docs")
 
 # Signs that may be at the place for many reasons, so that no row of docs/FROM_TAPA.md is shown for them.
 VAGUE = {";", ",", "{", "=", "]", "+", "int"}
+
+# A message with a place.
+PLACE = re.compile(r"tapa: (.+):(\d+):(\d+): ([A-Z]\d+)\b")
 
 # What stands for a word of the case's own in a message of docs/COMMAND.md.
 OPEN = r"\b(?:FILE|LABEL|STREAM|KEY|NAME|N)\b"
@@ -49,6 +57,15 @@ def line_of(file, line):
         return None
 
 
+def place_in_source(file, line, col, code):
+    """The place in a source from which this place of its written-out text comes: rules of the grammar and those beyond it are told by places of that text."""
+    try:
+        with open(file, "rb") as source:
+            return written_out.source_place(source.read(), line, col) if code[0] in "PC" else (line, col)
+    except (OSError, written_out.Refused, written_out.NoLexemes):
+        return line, col
+
+
 def shown_line(text, line, col):
     """The line of a source, and one with a caret below its byte of this number."""
     front = text[: col - 1].decode("utf-8", "replace").replace("\t", " ")
@@ -78,10 +95,12 @@ def row_of(code, words):
     return None
 
 
-def explained_place(file, line, col, code):
+def explained_place(file, told_line, told_col, code):
+    line, col = place_in_source(file, told_line, told_col, code)
     text = line_of(file, line)
     about = section(page("REFUSALS.md"), code)
     lines = shown_line(text, line, col) if text is not None else []
+    lines += [f"      = in the text with its arrays written out: {told_line}:{told_col} (tools/written_out.py shows it)"] * ((line, col) != (told_line, told_col))
     row = row_of(code, words_at(text, col)) if text is not None else None
     if row and code in ("P1", "C6", "L1", "L4"):
         word, instead, example = row
@@ -106,7 +125,7 @@ def explained_status(told):
 
 def explained(told):
     """The lines that stand below a message."""
-    at_place = re.match(r"tapa: (.+):(\d+):(\d+): ([A-Z]\d+)\b", told)
+    at_place = PLACE.match(told)
     in_data = re.match(r"tapa: .+: ([JKV]\d)\b", told)
     if at_place:
         file, line, col, code = at_place.groups()
@@ -120,7 +139,22 @@ def explained(told):
     return lines + ["      = docs/REFUSALS.md, No plan"] * bool(re.match(r"tapa: (too many plans: |no plan within |no room for )", told))
 
 
-def main():
+def placed(told):
+    """A message, with the place in the source."""
+    found = PLACE.match(told)
+    if not found:
+        return told
+    file, line, col, code = found.groups()
+    line, col = place_in_source(file, int(line), int(col), code)
+    return f"tapa: {file}:{line}:{col}: {told[found.start(4):]}"
+
+
+def main(given):
+    if given == ["--places"]:
+        for line in sys.stdin.buffer:
+            sys.stdout.buffer.write(placed(line.decode("utf-8", "surrogateescape")).encode("utf-8", "surrogateescape"))
+            sys.stdout.buffer.flush()
+        return
     is_stopped = False
     for line in sys.stdin.buffer:
         told = line.decode("utf-8", "replace").rstrip("\n")
@@ -133,4 +167,4 @@ def main():
 
 
 if __name__ == "__main__":
-    main()
+    main(sys.argv[1:])

@@ -1,7 +1,7 @@
 #!/usr/bin/env python3
 """Runs a circuit that `tapa build` wrote in Icarus Verilog, and prints the report that `tapa cosim` prints.
 
-    tools/icarus.py VTEXT [DATA] [--cycles N] [--dump F.vcd] [--bench F.v]
+    tools/icarus.py VTEXT [DATA] [--cycles N] [--dump F.vcd] [--bench F.v] [--beside F.vcd]
 
 Needs `iverilog` and `vvp` (11 or later). DATA is a data file (docs/DATA.md). A testbench is made: reset in cycle 0, the scalars, and memories that answer within the cycle by
 their ready lists. Registers begin unknown, as IEEE 1364-2005 says. --dump writes a waveform of all nets, for GTKWave and others (docs/VERILOG.md, "A task's nets", says what
@@ -91,8 +91,48 @@ def report(text, data, lines):
     return [" ".join([f"{name}:", *shown[name]]) for name in names] + lines[-1:]
 
 
+class Waves:
+    """The nets of one scope of a dump: for each its changes, as pairs of a time and a value, which is a text of binary digits, `x` and `z`."""
+
+    def __init__(self, path, scope):
+        self.changes, self.last, names, scopes, time = {}, 0, {}, [], 0
+        with open(path, encoding="utf-8") as file:
+            for words in map(str.split, file):
+                if not words:
+                    continue
+                if words[0] == "$scope":
+                    scopes.append(words[2])
+                elif words[0] == "$upscope":
+                    scopes.pop()
+                elif words[0] == "$var" and scopes == scope:
+                    # names of one identifier have the same changes, and a name with `$` is escaped
+                    self.changes[words[4].lstrip("\\")] = names.setdefault(words[3], [])
+                elif words[0][0] == "#":
+                    time = self.last = int(words[0][1:])
+                elif words[0][0] == "b" and words[-1] in names:
+                    names[words[1]].append((time, words[0][1:]))
+                elif words[0][0] in "01xz" and words[0][1:] in names:
+                    names[words[0][1:]].append((time, words[0][0]))
+
+    def value(self, name, time):
+        """The last value up to a time; none where a bit of it is unknown."""
+        digits = next((digits for at, digits in reversed(self.changes[name]) if at <= time), "x")
+        return None if set(digits) & set("xz") else int(digits, 2)
+
+
+def beside(told, shown, top):
+    """Where a dump of `tapa cosim --vcd` and one of the testbench differ; registers take over in the middle of the ten units of a cycle."""
+    ours, theirs = Waves(told, [top]), Waves(shown, ["bench", "top"])
+    for name in ours.changes:
+        for cycle in range(ours.last + 1):
+            value, other = ours.value(name, cycle), theirs.value(name, 10 * cycle + 3)
+            if other is not None and value != other:
+                yield f"{name} in cycle {cycle}: {value}, and {other} in Icarus Verilog"
+                break
+
+
 def main(given):
-    options = {"--cycles": "10000000", "--dump": None, "--bench": None}
+    options = {"--cycles": "10000000", "--dump": None, "--bench": None, "--beside": None}
     for name in options:
         if name in given[:-1]:
             at = given.index(name)
@@ -109,12 +149,17 @@ def main(given):
             data = json.load(file)
     with tempfile.TemporaryDirectory(prefix="tapa-icarus-") as folder:
         made, ran = os.path.join(folder, "bench.v"), os.path.join(folder, "bench")
+        dump = options["--dump"] or (os.path.join(folder, "bench.vcd") if options["--beside"] else None)
         with open(made, "w", encoding="utf-8") as file:
-            file.write("\n".join(bench(text, data, int(options["--cycles"]), options["--dump"])) + "\n")
+            file.write("\n".join(bench(text, data, int(options["--cycles"]), dump)) + "\n")
         if options["--bench"]:
             shutil.copyfile(made, options["--bench"])
         subprocess.run(["iverilog", "-g2005", "-gno-xtypes", "-o", ran, given[1], made], check=True)
         said = subprocess.run(["vvp", "-n", ran], check=True, capture_output=True, text=True)
+        if options["--beside"]:
+            others = list(beside(options["--beside"], dump, top_of(text)[0]))
+            print("".join(f"{line}\n" for line in others), end="")
+            return 1 if others else 0
     print("\n".join(report(text, data, [line for line in said.stdout.splitlines() if not line.startswith("VCD ")])))
     return 0
 

@@ -14,7 +14,7 @@ def sections(page):
     """Each section of a page with a code as its heading: the code, the whole heading, and its text."""
     for text in re.split(r"^##+ ", read(page), flags=re.M)[1:]:
         heading, _, body = text.partition("\n")
-        found = re.match(r"([LPCJ]\d+)\b", heading)
+        found = re.match(r"([LAPCJ]\d+)\b", heading)
         if found:
             yield found[1], heading, body
 
@@ -65,7 +65,7 @@ def try_refusals(trial):
             trial.check(f"{code}: {text}", (code_of(told), told.split(" ")[-1]) == (wanted, f"{line}:{col}"), f"   {told}")
             trial.check(f"the section {code} shows {code}", wanted == code)
             shown.add(code)
-    rules = {f"{letter}{number}" for letter, most in (("L", 4), ("P", 1), ("C", 12)) for number in range(1, most + 1)}
+    rules = {f"{letter}{number}" for letter, most in (("L", 4), ("A", 3), ("P", 1), ("C", 12)) for number in range(1, most + 1)}
     trial.check("each code has a text that is refused", shown == rules, f"   {sorted(rules ^ shown)}")
     headings = {heading for _, heading, _ in sections("docs/REFUSALS.md")}
     same = {heading for _, heading, _ in sections("docs/LANGUAGE.md")}
@@ -93,7 +93,7 @@ def try_from_tapa(trial):
         is_there = line == "3" and col.isdigit() and word_at(refused, int(col)) & set(re.findall(r"`([^`]+)`", words))
         trial.check(refused, code_of(told) == code and is_there, f"   {told}")
         trial.check_equal(accepted, trial.told(before + accepted + after), "accepted")
-    trial.check("each row of docs/FROM_TAPA.md is tried", len(rows) == len(re.findall(r"^\|.* \| [PCL]\d+ \| ", read("docs/FROM_TAPA.md"), re.M)) >= 40, f"   {len(rows)}")
+    trial.check("each row of docs/FROM_TAPA.md is tried", len(rows) == len(re.findall(r"^\|.* \| [PCLA]\d+ \| ", read("docs/FROM_TAPA.md"), re.M)) >= 40, f"   {len(rows)}")
 
 
 def try_texts(trial):
@@ -191,7 +191,7 @@ OPEN = r"\b(FILE|LINE|COL|CODE|TEXT|KEY|NAME|LABEL|STREAM|N)\b"
 def messages():
     """The messages of docs/COMMAND.md: those of its table of statuses, and the texts of the codes."""
     rows = re.findall(r"^\| (\d) \| `(tapa: .*?)` \|", read("docs/COMMAND.md"), re.M)
-    texts = re.findall(r"`([LPCV]\d+ [^`]*)`", read("docs/COMMAND.md"))
+    texts = re.findall(r"`([LAPCV]\d+ [^`]*)`", read("docs/COMMAND.md"))
     return [line.replace("\\|", "|") for _, line in rows], texts
 
 
@@ -206,7 +206,7 @@ def told_by_code():
         folder = f"crates/{crate}/src"
         for name in sorted(os.listdir(os.path.join(ROOT, folder))):
             text = read(f"{folder}/{name}")
-            found.update(re.findall(r'"((?:tapa: |[LPCV]\d+ | waits to | bad token )[^"]*?)(?:\\n)?"', text))
+            found.update(re.findall(r'"((?:tapa: |[LAPCV]\d+ | waits to | bad token )[^"]*?)(?:\\n)?"', text))
     return {re.sub(r"\{\w*\}", "*", text) for text in found}
 
 
@@ -222,7 +222,7 @@ def try_messages(trial):
         trial.check(f"a document has the text {text}", re.search(r"\w+".join(parts), page))
     if not trial.is_whole:
         return
-    refused = [line for line in trial.lines if re.match(r"tapa: .*:\d+:\d+: [LPCV]\d+ ", line)]
+    refused = [line for line in trial.lines if re.match(r"tapa: .*:\d+:\d+: [LAPCVX]\d+ ", line)]
     for text in texts:
         told = pattern(text)
         trial.check(f"the text {text} is told", any(told.fullmatch(line.split(": ", 2)[2]) for line in refused))

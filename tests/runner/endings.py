@@ -125,7 +125,7 @@ def try_strange_files(trial):
 
 def try_strange_words(trial):
     """Words that are no UTF-8 are no command, and that is told."""
-    usage = "tapa: usage: tapa build|run|cosim|plan|gen\n"
+    usage = "tapa: usage: tapa build|run|cosim|plan|gen|vcd\n"
     said = trial.run(["run", b"caf\xe9.cpp", "T"])
     trial.check("a word that is no UTF-8", is_told(said, 2, usage), f"   {said}")
     trial.put("näme ☃.cpp", PAIR)

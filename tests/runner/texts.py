@@ -1,6 +1,9 @@
 """Verilog texts as they are read: whether each is of the subset, and else the rule that it breaks, with the place or the name: tests/texts."""
+import os
 import re
+import resource
 
+from runner import alike
 from runner.sources import bytes_of, parts
 from runner.trial import read
 
@@ -89,7 +92,54 @@ def try_large(trial):
     trial.check_equal("a block 200,000 deep", told(trial, f"{top} ) ;\nreg r ;\nassign done = r ;\nalways @ ( posedge clk ) begin\n{nested}end\nendmodule\n"), "ok")
 
 
+def seconds(call):
+    """What a call answers, and the processor seconds that the programs took which it ran."""
+    before = os.times()
+    said = call()
+    after = os.times()
+    return said, after.children_user + after.children_system - before.children_user - before.children_system
+
+
+def try_alike(trial):
+    """Names that share one chain of a table by their hashes are found nearly as fast as others: by a walk along the chain they would take minutes. One of them may
+    be declared again, or not at all."""
+    names = list(alike.names(80_000))
+    wires = "".join(f"wire {name} ;\nassign {name} = rst ;\n" for name in names)
+    other = next(alike.names(1, front=6))
+    for what, line, wanted in (
+        ("80,000 names of one hash", "assign done = 1'd1 ;", "ok"),
+        ("one of them declared again", f"wire {names[-1]} ;\nassign done = 1'd1 ;", f"V2 {names[-1]}"),
+        ("one more that is not declared", f"assign done = {other} ;", f"V2 {other}"),
+    ):
+        said, taken = seconds(lambda: told(trial, f"module t_X ( input clk , input rst , output done ) ;\n{wires}{line}\nendmodule\n"))
+        trial.check_equal(what, said, wanted)
+        trial.check(f"{what}, in time", taken < 8, f"   {taken} seconds of a processor")
+
+
+def doubled(count):
+    """Modules of which each has two instances of the next: 2 to the power of their number in all."""
+    inside = "module c{0} ( input a , output o ) ;\nwire p ;\nc{1} i ( . a ( a ) , . o ( p ) ) ;\nc{1} j ( . a ( p ) , . o ( o ) ) ;\nendmodule\n"
+    top = "module t_X ( input clk , input rst , output done ) ;\nc0 i ( . a ( rst ) , . o ( done ) ) ;\nendmodule\n"
+    return top + "".join(inside.format(at, at + 1) for at in range(count)) + f"module c{count} ( input a , output o ) ;\nassign o = a ;\nendmodule\n"
+
+
+def try_doubled(trial):
+    """A short text with more instances than there is memory for is told at once; one with a thousand is no matter."""
+    trial.check_equal("modules doubled ten times", told(trial, doubled(10)), "ok")
+    for count, megabytes in ((30, 500), (40, 500), (70, 500)):
+        trial.put("x.v", doubled(count))
+        limit = (megabytes << 20, megabytes << 20)
+        said, taken = seconds(lambda: trial.run(["cosim", "x.v"], before=lambda: resource.setrlimit(resource.RLIMIT_AS, limit)))
+        if b"AddressSanitizer" in said.err:
+            trial.note("a build with a sanitizer has no limit on memory, so too many instances were not tried")
+            return
+        trial.check_equal(f"modules doubled {count} times", (said.status, said.out, said.err), (9, b"", b"tapa: out of memory\n"))
+        trial.check(f"modules doubled {count} times in {megabytes} MB, in time", taken < 1, f"   {taken} seconds of a processor")
+
+
 def try_all(trial):
     try_table(trial, "tests/texts/read.rows")
     try_table(trial, "tests/texts/rules.rows")
     try_large(trial)
+    try_alike(trial)
+    try_doubled(trial)

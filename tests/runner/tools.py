@@ -52,6 +52,16 @@ void U(tapa::ostream<uint8_t>& r) { tapa::stream<int8_t, 4> x("x"); tapa::task()
 void T() { tapa::stream<uint8_t> r; tapa::task().invoke(U, r).invoke(C, r); }
 """
 
+# A source whose second task is unknown, the place that is told, and what stands below the message.
+ARRAYS = """void C(tapa::istream<int>& q) { q.read(); }
+void T() { tapa::streams<int, 3> s; tapa::task().invoke<tapa::join, 3>(Q, s).invoke<tapa::join, 3>(C, s); }
+"""
+ARRAYS_TOLD = "2:93"
+ARRAYS_SHOWN = """    2 | void T() { tapa::streams<int, 3> s; tapa::task().invoke<tapa::join, 3>(Q, s).invoke<tapa::join, 3>(C, s); }
+      |                                                                        ^
+      = in the text with its arrays written out: 2:93 (tools/written_out.py shows it)
+"""
+
 # Sources, the word at the place that is told, and what explain.py then says.
 EXPLAINED_WORDS = [
     ("void L(tapa::async_mmap<int> m) { }", "async_mmap", "`async_mmap` is not in the language here"),
@@ -103,7 +113,7 @@ def try_explain(trial):
     trial.check_equal("explain.py keeps every line that was told", kept, lines)
     for told, wanted in (("tapa: d.json: J3 scalars.n", "docs/REFUSALS.md, J3"), ("tapa: A$0 waits to write s", "docs/REFUSALS.md, Deadlock"), ("tapa: d.json: K3 B$1", "docs/REFUSALS.md, K3"), ("tapa: no room for A$0", "docs/REFUSALS.md, No plan")):
         trial.check(f"explain.py on {told}", wanted in run_explain(trial, told))
-    for code in re.findall(r"`([LPCV]\d+) ", read("docs/COMMAND.md")):
+    for code in re.findall(r"`([LAPCV]\d+) ", read("docs/COMMAND.md")):
         told = run_explain(trial, f"tapa: r.cpp:1:1: {code} x")
         trial.check(f"explain.py says why, and what instead, of {code}", told.count("      = ") >= 3, f"   {told}")
     for message in re.findall(r"^\| \d \| `(tapa: .*?)` \|", read("docs/COMMAND.md"), re.M):
@@ -155,6 +165,26 @@ def try_graph(trial):
                 trial.check("docs/vector_add.svg is drawn by graph.py", drawn == read("docs/vector_add.svg"))
 
 
+def try_written_out(trial):
+    """A source's text with its arrays written out, and where a place of it comes from."""
+    source = trial.put("w.cpp", ARRAYS)
+    said = trial.run(["run", "w.cpp", "T"])
+    trial.check_equal("a place of the written-out text", said.err.decode(), f"tapa: w.cpp:{ARRAYS_TOLD}: C1 unknown name\n")
+    told = f"tapa: {source}:{ARRAYS_TOLD}: C1 unknown name\n"
+    shown = run_tool("explain.py", given=told)[1]
+    trial.check("explain.py shows the line of the source", shown.startswith(told + ARRAYS_SHOWN), f"   {shown}")
+    trial.check_equal("explain.py --places", run_tool("explain.py", "--places", given=f"stream x: 1\n{told}"), (0, f"stream x: 1\ntapa: {source}:2:72: C1 unknown name\n", ""))
+    for told in (f"tapa: {source}:2:20: A1 bad count\n", f"tapa: {source}:2:93: L1 byte outside the profile\n", "tapa: none.cpp:2:93: C1 unknown name\n"):
+        trial.check_equal(f"explain.py --places keeps {told}", run_tool("explain.py", "--places", given=told)[1], told)
+    _, text, _ = run_tool("written_out.py", source)
+    trial.check("written_out.py writes the elements", text.splitlines()[0] == ARRAYS.splitlines()[0] and "tapa :: stream < int > s_0 , s_1 , s_2 ;" in text.splitlines()[1], f"   {text}")
+    trial.check_equal("written_out.py maps a place back", run_tool("written_out.py", source, "2", "93"), (0, f"{source}:2:72\n", ""))
+    source = trial.put("w.cpp", ARRAYS.replace("3", "0"))
+    trial.check_equal("written_out.py says what is wrong", run_tool("written_out.py", source), (1, "", f"tapa: {source}:2:31: A1 bad count\n"))
+    for name in ("vector_add.cpp", "run_length.cpp"):
+        trial.check_equal(f"{name} has nothing to write out", run_tool("written_out.py", f"examples/{name}")[1], read(f"examples/{name}"))
+
+
 def try_data_tools(trial):
     """A template is a data file without faults; signed.py shows each number by its kind."""
     for name in sorted(os.listdir(os.path.join(ROOT, "examples"))):
@@ -172,6 +202,10 @@ def try_data_tools(trial):
     said = trial.run(["run", "s.cpp", "T"])
     _, shown, _ = run_tool("signed.py", source, "T", given=said.out.decode())
     trial.check_equal("signs of kinds, inside tasks too", shown, "stream r: 200 eot\nstream U$0$x: -1 -128\ndone 11\n")
+    source = trial.put("s.cpp", SIGNS.replace("tapa::stream<int8_t, 4> x(\"x\")", "tapa::streams<std::int8_t, 1, 4> x(\"x\")").replace(", x)", ", x[0])").replace(", x, r)", ", x[0], r)"))
+    said = trial.run(["run", "s.cpp", "T"])
+    _, shown, _ = run_tool("signed.py", source, "T", given=said.out.decode())
+    trial.check_equal("signs of an array's kind", shown, "stream r: 200 eot\nstream U$0$x_0: -1 -128\ndone 11\n")
 
 def try_waves(trial):
     """Bits are lines, words are lozenges with their numbers, and a stream is as full as the dump says."""
@@ -202,6 +236,17 @@ def try_editors(trial):
     subprocess.run(words, cwd=trial.folder.name, stdin=subprocess.DEVNULL, capture_output=True, timeout=20, check=False)
     text = open(told, encoding="utf-8").read() if os.path.exists(told) else "nothing"
     trial.check_equal("Vim goes to the place", text, "r.cpp 2 3\n")
+    folder = repository(trial, "editor")
+    for name in ("tools/editors/tapa.vim", "w.cpp"):
+        os.makedirs(os.path.dirname(f"{folder}/{name}"), exist_ok=True)
+    shutil.copy(os.path.join(ROOT, "tools/editors/tapa.vim"), f"{folder}/tools/editors/tapa.vim")
+    with open(f"{folder}/w.cpp", "w", encoding="utf-8") as file:
+        file.write(ARRAYS)
+    words = ["vim", "-u", "NONE", "-es", "-S", f"{folder}/tools/editors/tapa.vim", "+silent make w.cpp T"]
+    words += [f"+call writefile([expand('%:t') . ' ' . line('.') . ' ' . col('.')], '{told}')", "+qa!"]
+    subprocess.run(words, cwd=folder, stdin=subprocess.DEVNULL, capture_output=True, timeout=20, check=False)
+    text = open(told, encoding="utf-8").read() if os.path.exists(told) else "nothing"
+    trial.check_equal("Vim's :make goes to the place in the source", text, "w.cpp 2 72\n")
 
 
 def with_terminal(words, folder):
@@ -226,7 +271,7 @@ def repository(trial, name, has_program=True):
     """A folder with what `./tapa` needs, and the program as if it had been proved there."""
     folder = os.path.join(trial.folder.name, name)
     os.makedirs(f"{folder}/crates/tapa_cli/out")
-    for file in ("tapa", "crates.txt", "tools/explain.py", "tools/unproved.py", "docs/REFUSALS.md", "docs/COMMAND.md", "docs/FROM_TAPA.md", "examples/refused/conditional_read.cpp", "examples/bad_token.cpp"):
+    for file in ("tapa", "crates.txt", "tools/explain.py", "tools/written_out.py", "tools/unproved.py", "docs/REFUSALS.md", "docs/COMMAND.md", "docs/FROM_TAPA.md", "examples/refused/conditional_read.cpp", "examples/bad_token.cpp"):
         os.makedirs(os.path.dirname(f"{folder}/{file}"), exist_ok=True)
         shutil.copy(os.path.join(ROOT, file), f"{folder}/{file}")
     if has_program:
@@ -317,6 +362,6 @@ def try_all(trial):
     try_floorplan(trial)
     try_graph(trial)
     try_data_tools(trial)
-
+    try_written_out(trial)
     try_waves(trial)
     try_editors(trial)

@@ -12,7 +12,7 @@ SHORT = "void A() { } void T() { tapa::task().invoke(A); }\n"
 DEFAULT = 100_000_000
 MANY = 1_000_000
 
-USAGE = "tapa: usage: tapa build|run|cosim|plan|gen\n"
+USAGE = "tapa: usage: tapa build|run|cosim|plan|gen|vcd\n"
 
 
 def wanted_of(source, top, data, limit):
@@ -127,16 +127,24 @@ def cosim_wanted(positionals, said, cycles):
     return (0, "") if said["--cycles"] >= cycles else (7, f"tapa: not done after {said['--cycles']} cycles\n")
 
 
+def vcd_wanted(file):
+    if file not in ("s.cpp", "d.json", "e.json", "x.v"):
+        return 5, f"tapa: cannot read {file}\n"
+    return 1, f"tapa: {file}:1:1: X1 no dump\n"
+
+
 def asked_wanted(words, cycles):
     """The status of these words, and what is told where that is known."""
     asked = reader.read(words)
-    if asked is None or is_to_come(asked):
+    if asked is None:
         return 2, USAGE
     command, positionals, said = asked
     if command == "gen":
         return 0, ""
     if command == "cosim":
         return cosim_wanted(positionals, said, cycles)
+    if command == "vcd":
+        return vcd_wanted(positionals[0])
     first = source_wanted(*positionals[:2])
     if first is not None:
         return first
@@ -145,12 +153,6 @@ def asked_wanted(words, cycles):
     if command == "plan":
         return plan_wanted(positionals[2])
     return (0, "") if said["--device"] is None else plan_wanted(said["--device"])
-
-
-def is_to_come(asked):
-    """What the program has not yet: it is refused as words that are no command."""
-    command, _, said = asked
-    return command in ("vcd", "gen") or (command == "cosim" and said["--vcd"] is not None)
 
 
 def try_random(trial):

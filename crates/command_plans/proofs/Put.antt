@@ -3,7 +3,7 @@ use Rattle.std.proofs.Common.{ℕ, List, Result, Ok, Err, IfOk, IfErr, inl, inr}
 use Rattle.std.specs.Io.KnownBytes.{Appends}
 use Rattle.command_source.specs.Meaning.{refusal_of}
 use Rattle.command_source.specs.Outside.{Written}
-use Rattle.command_source.specs.Refusal.{Refusal, Usage, Read, Write, TooLong, Source, Data, Ticks, Stopped, Device, TooManyPlans, NoPlan, NoRoom, NoHalving, Verilog, DesignData, Undone, Memory}
+use Rattle.command_source.specs.Refusal.{Refusal, Usage, Read, Write, TooLong, Source, Data, Ticks, Stopped, Device, TooManyPlans, NoPlan, NoRoom, NoHalving, Verilog, DesignData, Undone, Dump, Memory}
 use Rattle.command_source.specs.declared.refusal.Refusal.{Refusal as CodeRefusal}
 use Rattle.command_plans.specs.Unwritten.{HasPartOfText, IsUnwritten}
 
@@ -37,6 +37,7 @@ module _ (old new : Written) (P Q : List ℕ → Type 0) (also : (told : List �
   unwritten_by (Verilog file fault) h = absurd h
   unwritten_by (DesignData file fault) h = absurd h
   unwritten_by (Undone most) h = absurd h
+  unwritten_by (Dump file fault) h = absurd h
   unwritten_by Memory (inl same) = inl same
   unwritten_by Memory (inr h) = inr (part_also h)
 

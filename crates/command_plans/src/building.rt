@@ -19,8 +19,8 @@ use tapa_syntax::Program;
 use verilog_text::print;
 use vlog_design::Design;
 
-// The circuit of a program, to whose streams these latencies are added.
-fn circuit_of(alloc: Global, program: &Program, added: &[u32]) -> Result<Design, OutOfMemory>
+/// The circuit of a program, to whose streams these latencies are added.
+pub fn circuit_of(alloc: Global, program: &Program, added: &[u32]) -> Result<Design, OutOfMemory>
     requires program { IsWellFormed program.now }
     requires names { HasOwnNames program.now }
     requires added { AreShort added.now }

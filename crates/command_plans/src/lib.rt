@@ -5,5 +5,5 @@ mod building;
 mod plan_text;
 mod planning;
 
-pub use building::put_circuit;
+pub use building::{circuit_of, put_circuit};
 pub use planning::{planned, put_aim, read_device_file};

@@ -9,7 +9,7 @@ use Rattle.tapa_syntax.specs.declared.program.Memory.{Memory}
 use Rattle.tapa_syntax.specs.declared.program.Program.{Program}
 use Rattle.tapa_syntax.specs.declared.program.Scalar.{Scalar}
 use Rattle.tapa_syntax.specs.Flat.{FlatProgram, flat_program}
-use Rattle.run_data.specs.Data.{IsJson, Fault, faults, scalars_of, memories_of, misshapen, misshapen_in, misfits, misfits_in, oversized}
+use Rattle.run_data.specs.Data.{IsJson, Fault, faults, scalars_of, memories_of, waits_of, misshapen, misshapen_in, misfits, misfits_in, oversized}
 use Rattle.run_data.specs.Seen.{first}
 use Rattle.run_program.specs.Run.{Values}
 use Rattle.command_source.specs.Inputs.{port_of, IsShapeOf, GivesValues, HasDataFault}
@@ -65,6 +65,14 @@ module _ (s t : Shape) (xs : s.scalars.items ≡ t.scalars.items) (ms : s.memori
     unfolding memories_of
     end_memories h g = refl
 
+    begin_waits : Begins (λ shape. waits_of shape file)
+    unfolding waits_of
+    begin_waits h g = refl
+
+    end_waits : EndsAt (λ shape. waits_of shape file)
+    unfolding waits_of
+    end_waits h g = refl
+
     pub same_faults : faults s file ≡ faults t file
     same_faults = moved (λ shape. faults shape file) begin_faults end_faults
 
@@ -74,8 +82,14 @@ module _ (s t : Shape) (xs : s.scalars.items ≡ t.scalars.items) (ms : s.memori
     pub same_memories : memories_of s file ≡ memories_of t file
     same_memories = moved (λ shape. memories_of shape file) begin_memories end_memories
 
-one_json : (text : List ℕ) (a b : Json) → IsJson text a → IsJson text b → a ≡ b
+    pub same_waits : waits_of s file ≡ waits_of t file
+    same_waits = moved (λ shape. waits_of shape file) begin_waits end_waits
+
+pub one_json : (text : List ℕ) (a b : Json) → IsJson text a → IsJson text b → a ≡ b
 one_json text a b h g = let both : Some a ≡ Some b = sym h.1 ∙ g.1 in cc
+
+pub no_first : (l : List Fault) (f : Fault) → l ≡ [] → first l ≡ Some f → ⊥
+no_first l f e h = let none : first {A = Fault} [] ≡ Some f = subst (λ (k : List Fault). first k ≡ Some f) e h in cc
 
 module _ (p q : Program) (same : flat_program p ≡ flat_program q) where
   same_scalar_ports : (s t : Shape) → IsShapeOf p s → IsShapeOf q t → s.scalars.items ≡ t.scalars.items
@@ -92,9 +106,6 @@ module _ (p q : Program) (same : flat_program p ≡ flat_program q) where
       let scalars : v.scalars ≡ w.scalars = h.scalars ∙ ap (scalars_of h.shape) json ∙ same_scalars h.shape g.shape xs ms g.file ∙ sym g.scalars in
       let memories : v.memories ≡ w.memories = h.memories ∙ ap (memories_of h.shape) json ∙ same_memories h.shape g.shape xs ms g.file ∙ sym g.memories in
       ap (λ (l : List ℕ). record { scalars = l; memories = v.memories }) scalars ∙ ap (λ (l : List (List ℕ)). record { scalars = w.scalars; memories = l }) memories
-
-  no_first : (l : List Fault) (f : Fault) → l ≡ [] → first l ≡ Some f → ⊥
-  no_first l f e h = let none : first {A = Fault} [] ≡ Some f = subst (λ (k : List Fault). first k ≡ Some f) e h in cc
 
   -- data that give values have no fault
   pub not_misgiven : (text : List ℕ) (v : Values) (fault : DataFault) → GivesValues p text v → HasDataFault q text fault → ⊥

@@ -13,6 +13,7 @@ pub mod Writers
 pub mod Sources
 pub mod Given
 pub mod Joined
+pub mod KeptLines
 pub mod OfFiles
 pub mod OwnNames
 pub mod Read

@@ -16,7 +16,7 @@ use Rattle.command_source.specs.Labels.{IsPlainName, IsLabel, HasOwnLabels}
 use Rattle.command_source.proofs.Apart.{all_at, distinct, apart}
 use Rattle.command_source.proofs.Sources.{labels_tell}
 use Rattle.hw_top_lines.specs.Legal.{AreApart, AreWritten, HasOwnNames, instance_labels, stream_labels, parameter_names, task_names}
-use Rattle.command_source.specs.Source.{IsProgramOf}
+use Rattle.command_source.specs.Source.{IsProgramOfText, IsProgramOf}
 
 -- ---- what a name is written with
 
@@ -78,6 +78,9 @@ of_flat program h =
       tasks_written = name_written (task_names program) (h.top.written, subst (AllByRecursion IsPlainName) leaves h.leaves_written);
     }
 
-pub own_names : (text top : List ℕ) (program : Program) → IsProgramOf text top program → HasOwnNames program
-own_names text top program p =
+text_own_names : (text top : List ℕ) (program : Program) → IsProgramOfText text top program → HasOwnNames program
+text_own_names text top program p =
     of_flat program (subst HasOwnLabels (sym p.means) (labels_tell text p.tree.lexemes (file_of p.file) top p.tree.are p.tree.spelled p.legal))
+
+pub own_names : (text top : List ℕ) (program : Program) → IsProgramOf text top program → HasOwnNames program
+own_names text top program p = text_own_names p.out top program p.means

@@ -20,7 +20,7 @@ use Rattle.check_scope.specs.declared.fault.Broken.{Broken}
 use Rattle.check_scope.specs.declared.fault.CheckFault.{CheckFault}
 use Rattle.check_scope.specs.declared.fault.CheckFault.TheVariants as check_fault
 use Rattle.stream_check.specs.Programs.{program_faults, program_of}
-use Rattle.command_source.specs.Source.{StopsAt, HasTree, HasNoTree, IsProgramOf, IsRefusedSource}
+use Rattle.command_source.specs.Source.{StopsAt, HasTree, HasNoTree, IsProgramOfText, IsRefusedText}
 use Rattle.command_source.specs.declared.source.SourceCode.TheVariants.{Rule}
 
 pub has_tree : (text : List ℕ) (lexemes seen : List Lexeme) (file : File) → HasLexemes text lexemes → seen ≡ lexemes → IsTreeOf (symbols_of text seen) (file_of file) × IsWithinLimits (file_of file) → HasTree text file
@@ -43,8 +43,8 @@ has_no_tree text lexemes seen place code are same reads only = record {
 abbrev pub Checks : Result Program CheckFault → File → List ℕ → Type 0
 Checks result file top = check.Answers flat_program result (program_faults (file_of file) top) (program_of (file_of file) top)
 
-pub program_of_tree : (text top : List ℕ) (program : Program) (file : File) → HasTree text file → Checks (Ok program) file top → IsProgramOf text top program
+pub program_of_tree : (text top : List ℕ) (program : Program) (file : File) → HasTree text file → Checks (Ok program) file top → IsProgramOfText text top program
 program_of_tree text top program file tree means = record { file = file; tree = tree; legal = means.0; means = means.1 }
 
-pub breaks_first : (text top : List ℕ) (broken : Broken) (file : File) → HasTree text file → Checks (Err (check_fault.At broken)) file top → IsRefusedSource text top broken.place (Rule broken.code broken.limit)
+pub breaks_first : (text top : List ℕ) (broken : Broken) (file : File) → HasTree text file → Checks (Err (check_fault.At broken)) file top → IsRefusedText text top broken.place (Rule broken.code broken.limit)
 breaks_first text top broken file tree first = record { file = file; tree = tree; first = first }

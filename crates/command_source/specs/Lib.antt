@@ -7,6 +7,7 @@ pub mod Codes
 pub mod Files
 pub mod Found
 pub mod Inputs
+pub mod Lines
 pub mod Meaning
 pub mod Outside
 pub mod Refusal

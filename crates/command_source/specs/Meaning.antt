@@ -14,7 +14,9 @@ use Rattle.plan_device.specs.declared.fault.DeviceFault.TheVariants as device_fa
 use Rattle.vlog_tree.specs.declared.fault.VFault.{VFault}
 use Rattle.vlog_tree.specs.declared.fault.VFault.TheVariants as verilog_fault
 use Rattle.command_source.specs.declared.refusal.Refusal.{Refusal}
-use Rattle.command_source.specs.declared.refusal.Refusal.TheVariants.{Usage, Read, Write, TooLong, Source, Data, Ticks, Stopped, Device, TooManyPlans, NoPlan, NoRoom, NoHalving, Verilog, DesignData, Undone, Memory}
+use Rattle.command_source.specs.declared.refusal.Refusal.TheVariants.{Usage, Read, Write, TooLong, Source, Data, Ticks, Stopped, Device, TooManyPlans, NoPlan, NoRoom, NoHalving, Verilog, DesignData, Undone, Dump, Memory}
+use Rattle.command_source.specs.declared.refusal.DumpFault.{DumpFault}
+use Rattle.command_source.specs.declared.refusal.DumpFault.TheVariants.{NoDump, NoNet}
 
 -- a fault of data, told of a file
 abbrev pub data_refusal : List ℕ → FaultOfData → spec.Refusal
@@ -53,6 +55,11 @@ design_refusal file (J3 key) = spec.DesignData file (Faulty (Misfit key.items))
 design_refusal file (J4 key) = spec.DesignData file (Faulty (Oversized key.items))
 design_refusal file OutOfMemory = spec.Memory
 
+-- why a file shows nothing of a net, told of the file
+abbrev pub dump_refusal : List ℕ → DumpFault → spec.Refusal
+dump_refusal file (NoDump place) = spec.Dump file (spec.NoDump place)
+dump_refusal file (NoNet name) = spec.Dump file (spec.NoNet name.now)
+
 abbrev pub refusal_of : Refusal → spec.Refusal
 refusal_of Usage = spec.Usage
 refusal_of (Read file) = spec.Read file.now
@@ -70,6 +77,7 @@ refusal_of (NoHalving level) = spec.NoHalving level
 refusal_of (Verilog file fault) = verilog_refusal file.now fault
 refusal_of (DesignData file fault) = design_refusal file.now fault
 refusal_of (Undone limit) = spec.Undone limit
+refusal_of (Dump file fault) = dump_refusal file.now fault
 refusal_of Memory = spec.Memory
 
 -- why words were not read

@@ -4,7 +4,7 @@ use Rattle.tapa_base.specs.declared.text.Place.{Place}
 use Rattle.check_scope.specs.declared.fault.CheckCode.{CheckCode}
 use Rattle.check_scope.specs.declared.fault.CheckCode.TheVariants.{C1, C2, C3, C4, C5, C6, C7, C8, C9, C10, C11, C12}
 use Rattle.command_source.specs.declared.source.SourceCode.{SourceCode}
-use Rattle.command_source.specs.declared.source.SourceCode.TheVariants.{L1, L2, L3, L4, P1, P2, Rule}
+use Rattle.command_source.specs.declared.source.SourceCode.TheVariants.{L1, L2, L3, L4, A1, A2, A3, A4, P1, P2, Rule}
 use Rattle.run_program.specs.Ending.{joined}
 use Rattle.run_data.specs.Data.{Fault, Misshapen, Misfit, Oversized}
 use Rattle.plan_device.specs.Faults as device
@@ -27,6 +27,11 @@ pub data VerilogFault : Type 0 where
   V4 : (name : List ℕ) → VerilogFault
   V5 : (name : List ℕ) → VerilogFault
   V6 : (name : List ℕ) → VerilogFault
+
+-- why a file shows nothing of a net: no dump goes on at a place of its text, or its dump has no net of this name
+pub data DumpFault : Type 0 where
+  NoDump : (place : Place) → DumpFault
+  NoNet : (name : List ℕ) → DumpFault
 
 -- why a command ends with another status than that of done work
 pub data Refusal : Type 0 where
@@ -62,6 +67,8 @@ pub data Refusal : Type 0 where
   DesignData : (file : List ℕ) (fault : DataFault) → Refusal
   -- a design is done in none of so many cycles
   Undone : (limit : ℕ) → Refusal
+  -- a file has no dump with the net that is asked for
+  Dump : (file : List ℕ) (fault : DumpFault) → Refusal
   -- memory ran out
   Memory : Refusal
 
@@ -91,6 +98,10 @@ code_text L1 = codes "L1 byte outside the profile"
 code_text L2 = codes "L2 open comment or string"
 code_text L3 = codes "L3 bad number"
 code_text L4 = codes "L4 refused line"
+code_text A1 = codes "A1 bad count"
+code_text A2 = codes "A2 array of another length"
+code_text A3 = codes "A3 array out of place"
+code_text A4 = codes "A4 written out too long"
 code_text P1 = codes "P1 unexpected token"
 code_text P2 = codes "P2 nested too deep"
 code_text (Rule code limit) = rule_text code ++ limit_text limit
@@ -114,7 +125,7 @@ device_text (HasFault (device.OnForbidden label)) = codes "K4 " ++ label
 
 -- the lines that tell it
 abbrev pub message_of : Refusal → List ℕ
-message_of Usage = codes "tapa: usage: tapa build|run|cosim|plan|gen\n"
+message_of Usage = codes "tapa: usage: tapa build|run|cosim|plan|gen|vcd\n"
 message_of (Read file) = codes "tapa: cannot read " ++ (file ++ codes "\n")
 message_of Write = codes "tapa: cannot write\n"
 message_of (TooLong file limit) = codes "tapa: " ++ (file ++ (codes " is longer than " ++ (decimal limit ++ codes " bytes\n")))
@@ -136,6 +147,8 @@ message_of (Verilog file (V5 name)) = codes "tapa: " ++ (file ++ (codes ": " ++ 
 message_of (Verilog file (V6 name)) = codes "tapa: " ++ (file ++ (codes ": " ++ ((codes "V6 " ++ name) ++ codes "\n")))
 message_of (DesignData file fault) = codes "tapa: " ++ (file ++ (codes ": " ++ (data_text fault ++ codes "\n")))
 message_of (Undone limit) = codes "tapa: not done after " ++ (decimal limit ++ codes " cycles\n")
+message_of (Dump file (NoDump place)) = codes "tapa: " ++ (file ++ (codes ":" ++ (decimal place.line ++ (codes ":" ++ (decimal place.col ++ (codes ": " ++ (codes "X1 no dump" ++ codes "\n")))))))
+message_of (Dump file (NoNet name)) = codes "tapa: " ++ (file ++ (codes ": " ++ ((codes "X2 " ++ name) ++ codes "\n")))
 message_of Memory = codes "tapa: out of memory\n"
 
 -- its lines name nothing that is read or made while the program runs

@@ -1,4 +1,4 @@
--- What a source is, with the name of its top task: legal, or refused by the lexer, by the grammar and its limits, or by a rule.
+-- What a source is, with the name of its top task: legal, or refused by the lexer, by the rules on arrays, by the grammar and its limits, or by a rule beyond it.
 use Rattle.std.specs.Prelude.{◌≡◌, ◌⊎◌, ℕ, List, [], Err}
 use Rattle.tapa_base.specs.declared.text.Place.{Place}
 use Rattle.tapa_syntax.specs.declared.lexeme.Lexeme.{Lexeme}
@@ -14,7 +14,9 @@ use Rattle.tapa_parse.specs.Answers.{stopped_at}
 use Rattle.tapa_parse.specs.Reading as reading
 use Rattle.check_scope.specs.Answers.{IsFirst}
 use Rattle.check_scope.specs.declared.fault.Broken.{Broken}
+use Rattle.stream_arrays.specs.declared.fault.ArrayCode.{ArrayCode}
 use Rattle.stream_check.specs.Programs.{program_faults}
+use Rattle.command_source.specs.Source.{HasArrayFault, OfWritten}
 
 -- the text has lexemes, and the grammar has this file for them, within the limits
 pub record HasFile (text : List ℕ) (items : List ItemTree) : Type 0 where
@@ -24,7 +26,7 @@ pub record HasFile (text : List ℕ) (items : List ItemTree) : Type 0 where
   pub within : IsWithinLimits items
 
 -- the text has a file that breaks no rule with this top task
-pub record IsLegal (text top : List ℕ) : Type 0 where
+pub record IsLegalText (text top : List ℕ) : Type 0 where
   pub items : List ItemTree
   pub file : HasFile text items
   pub legal : program_faults items top ≡ []
@@ -43,8 +45,19 @@ pub record BreaksRule (text top : List ℕ) (broken : Broken) : Type 0 where
   pub file : HasFile text items
   pub first : IsFirst (program_faults items top) broken
 
-abbrev pub IsRefusedSomehow : List ℕ → List ℕ → Type 0
-IsRefusedSomehow text top =
+abbrev pub IsRefusedTextSomehow : List ℕ → List ℕ → Type 0
+IsRefusedTextSomehow text top =
     ((code : LexCode) × (place : Place) × IsRefused text code place)
     ⊎ (((code : ParseCode) × (place : Place) × IsUnread text code place)
     ⊎ ((broken : Broken) × BreaksRule text top broken))
+
+-- the source has a written-out text, which breaks no rule
+abbrev pub IsLegal : List ℕ → List ℕ → Type 0
+IsLegal text top = OfWritten text (λ out. IsLegalText out top)
+
+-- the source has no lexemes, or something is wrong with its arrays, or its written-out text is refused
+abbrev pub IsRefusedSomehow : List ℕ → List ℕ → Type 0
+IsRefusedSomehow text top =
+    ((code : LexCode) × (place : Place) × IsRefused text code place)
+    ⊎ (((code : ArrayCode) × (place : Place) × HasArrayFault text place code)
+    ⊎ OfWritten text (λ out. IsRefusedTextSomehow out top))

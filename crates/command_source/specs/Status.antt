@@ -34,4 +34,5 @@ status_of (refusal.NoHalving level) = NoPlan
 status_of (refusal.Verilog file fault) = Source
 status_of (refusal.DesignData file fault) = Data
 status_of (refusal.Undone limit) = Limit
+status_of (refusal.Dump file fault) = Source
 status_of refusal.Memory = Memory

@@ -7,6 +7,8 @@ ghost use Rattle.tapa_syntax.specs.Symbols.{symbols_of};
 ghost use Rattle.tapa_syntax.specs.Trees.{ItemTree};
 ghost use Rattle.stream_check.specs.Programs.{program_faults, program_of};
 ghost use Rattle.command_source.specs.Labels.{HasOwnLabels};
+ghost use Rattle.command_source.specs.Lines.{line_feeds};
+ghost use Rattle.command_source.specs.Source.{IsWrittenOut};
 ghost use Rattle.command_source.specs.Sources.{IsLegal, IsRefusedSomehow};
 ghost use Rattle.command_source.specs.Writers.{HasJoinedWriters};
 
@@ -17,7 +19,7 @@ pub fn law_every_source_is_legal_or_refused()
     ensures one { (text top : List ℕ) → IsLegal text top → IsRefusedSomehow text top → ⊥ }
 {}
 
-/// In the program of each source that breaks no rule no two instances have one label, no two streams, no two leaves one
+/// In the program of each source that breaks no rule (its stream arrays written out) no two instances have one label, no two streams, no two leaves one
 /// name, nor one and the top task, and no two parameters of the top task. Leaves and parameters have names as the source spells them; a label begins
 /// with a letter or `_`, and goes on with letters, digits, `_` and `$`.
 pub fn law_labels_tell_parts_apart()
@@ -29,4 +31,10 @@ pub fn law_labels_tell_parts_apart()
 /// cells are its last ones where the joined instances have ended.
 pub fn law_writers_are_joined()
     ensures { (items : List ItemTree) (top : List ℕ) → program_faults items top ≡ [] → HasJoinedWriters (program_of items top) }
+{}
+
+/// The text in which the arrays of a source are written out has as many line ends as the source, so that what stands behind a form
+/// is on its own line there.
+pub fn law_written_out_keeps_lines()
+    ensures { (text out : List ℕ) → IsWrittenOut text out → line_feeds out ≡ line_feeds text }
 {}

@@ -1,18 +1,20 @@
 // From the bytes of a source to its flat program.
 ghost use Rattle.std.specs.Prelude.{◌≡◌, ◌<◌, ◌-◌, ◌^◌, ℕ, List, length, IfOk, IfErr};
+ghost use Rattle.tapa_syntax.specs.Lexemes.{HasLexemes};
 ghost use Rattle.tapa_syntax.specs.WellFormed.{IsWellFormed};
-ghost use Rattle.command_source.specs.Refused.{IsSourceCause};
-ghost use Rattle.command_source.specs.Codes.{lex_code, parse_code};
-ghost use Rattle.command_source.specs.Source.{HasTree, IsProgramOf};
+ghost use Rattle.command_source.specs.Refused.{IsLexicalCause, IsUnwrittenCause, IsTextCause, IsSourceCause};
+ghost use Rattle.command_source.specs.Codes.{lex_code, array_code, parse_code};
+ghost use Rattle.command_source.specs.Source.{HasTree, IsWrittenOut, IsProgramOfText, IsProgramOf};
 
 use crate::source::SourceCode;
 use check_scope::CheckFault;
 use std::alloc::Global;
+use stream_arrays::{ArrayCode, ArrayRefusal, write_out};
 use stream_check::check;
 use tapa_base::Place;
 use tapa_lex::{LexCode, LexFault, lex};
 use tapa_parse::{ParseCode, ParseFault, parse};
-use tapa_syntax::{File, Program};
+use tapa_syntax::{File, Lexeme, Program};
 
 /// Why a source has no program: the rule that it breaks and where, or want of memory.
 #[derive(Clone, Copy, Debug, PartialEq, Eq)]
@@ -32,6 +34,17 @@ fn of_lexer(code: LexCode) -> SourceCode
     }
 }
 
+fn of_arrays(code: ArrayCode) -> SourceCode
+    ensures { result ≡ array_code code }
+{
+    match code {
+        ArrayCode::A1 => SourceCode::A1,
+        ArrayCode::A2 => SourceCode::A2,
+        ArrayCode::A3 => SourceCode::A3,
+        ArrayCode::A4 => SourceCode::A4,
+    }
+}
+
 fn of_parser(code: ParseCode) -> SourceCode
     ensures { result ≡ parse_code code }
 {
@@ -41,21 +54,50 @@ fn of_parser(code: ParseCode) -> SourceCode
     }
 }
 
-// The tree of a text, or where it is refused.
-fn read_tree(alloc: Global, text: &[u8]) -> Result<File, SourceFault>
+// The lexemes of a text, or where the lexer refuses it.
+fn lexemes_of(alloc: Global, text: &[u8]) -> Result<Vec<Lexeme>, SourceFault>
     requires { length text.now < 2 ^ 32 - 1 }
-    ensures found { IfOk result (HasTree text.now) }
-    ensures refused { (top : List ℕ) → IfErr result (IsSourceCause text.now top) }
+    ensures found { IfOk result (λ lexemes. HasLexemes text.now lexemes.items) }
+    ensures refused { IfErr result (IsLexicalCause text.now) }
 {
-    let lexemes = match lex(alloc, text) {
-        Ok(lexemes) => lexemes,
+    match lex(alloc, text) {
+        Ok(lexemes) => Ok(lexemes),
         Err(LexFault::At { code, place }) => {
             let code = of_lexer(code);
-            return Err(SourceFault::At { code, place });
+            Err(SourceFault::At { code, place })
         }
-        Err(LexFault::OutOfMemory) => return Err(SourceFault::OutOfMemory),
-    };
-    match parse(alloc, &lexemes, text) {
+        Err(LexFault::OutOfMemory) => Err(SourceFault::OutOfMemory),
+    }
+}
+
+// The text in which the arrays of a source with these lexemes are written out, or where the source is refused.
+fn written_text(alloc: Global, lexemes: &[Lexeme], text: &[u8]) -> Result<Vec<u8>, SourceFault>
+    requires { HasLexemes text.now lexemes.now }
+    ensures written { IfOk result (λ out. IsWrittenOut text.now out.items) }
+    ensures within { IfOk result (λ out. length out.items < 2 ^ 32 - 1) }
+    ensures refused { IfErr result (IsUnwrittenCause text.now) }
+{
+    match write_out(alloc, lexemes, text) {
+        Ok(out) => Ok(out),
+        Err(ArrayRefusal::Fault(fault)) => {
+            let code = of_arrays(fault.code);
+            Err(SourceFault::At {
+                code,
+                place: fault.place,
+            })
+        }
+        Err(ArrayRefusal::OutOfMemory) => Err(SourceFault::OutOfMemory),
+    }
+}
+
+// The tree of a text with these lexemes in which nothing is to be written out, or where it is refused.
+fn read_tree(alloc: Global, lexemes: &[Lexeme], text: &[u8]) -> Result<File, SourceFault>
+    requires short { length text.now < 2 ^ 32 - 1 }
+    requires lexed { HasLexemes text.now lexemes.now }
+    ensures found { IfOk result (HasTree text.now) }
+    ensures refused { (top : List ℕ) → IfErr result (IsTextCause text.now top) }
+{
+    match parse(alloc, lexemes, text) {
         Ok(file) => Ok(file),
         Err(ParseFault::At { code, place }) => {
             let code = of_parser(code);
@@ -65,14 +107,20 @@ fn read_tree(alloc: Global, text: &[u8]) -> Result<File, SourceFault>
     }
 }
 
-/// The flat program of a source whose top task is `top`, or the first rule that the source breaks.
-pub fn read_program(alloc: Global, text: &[u8], top: &str) -> Result<Program, SourceFault>
-    requires { length text.now < 2 ^ 32 - 1 }
-    ensures found { IfOk result (λ program. IsProgramOf text.now top.now program) }
+// The flat program of a text with these lexemes in which nothing is to be written out, or the first rule that it breaks.
+fn read_text(
+    alloc: Global,
+    lexemes: &[Lexeme],
+    text: &[u8],
+    top: &str,
+) -> Result<Program, SourceFault>
+    requires short { length text.now < 2 ^ 32 - 1 }
+    requires lexed { HasLexemes text.now lexemes.now }
+    ensures found { IfOk result (λ program. IsProgramOfText text.now top.now program) }
     ensures well_formed { IfOk result (λ program. IsWellFormed program) }
-    ensures refused { IfErr result (IsSourceCause text.now top.now) }
+    ensures refused { IfErr result (IsTextCause text.now top.now) }
 {
-    let file = match read_tree(alloc, text) {
+    let file = match read_tree(alloc, lexemes, text) {
         Ok(file) => file,
         Err(fault) => return Err(fault),
     };
@@ -90,4 +138,41 @@ pub fn read_program(alloc: Global, text: &[u8], top: &str) -> Result<Program, So
         }
         Err(CheckFault::OutOfMemory) => Err(SourceFault::OutOfMemory),
     }
+}
+
+// The flat program of a written-out text, which was not looked at before.
+fn read_written(alloc: Global, text: &[u8], top: &str) -> Result<Program, SourceFault>
+    requires { length text.now < 2 ^ 32 - 1 }
+    ensures found { IfOk result (λ program. IsProgramOfText text.now top.now program) }
+    ensures well_formed { IfOk result (λ program. IsWellFormed program) }
+    ensures refused { IfErr result (IsTextCause text.now top.now) }
+{
+    let lexemes = match lexemes_of(alloc, text) {
+        Ok(lexemes) => lexemes,
+        Err(fault) => return Err(fault),
+    };
+    read_text(alloc, &lexemes, text, top)
+}
+
+/// The flat program of a source whose top task is `top`, or the first rule that the source breaks. Stream arrays and counted invokes
+/// are written out first; places of rules of the grammar and of those beyond it are places of the written-out text. Where there is
+/// nothing to write out, the source is read once.
+pub fn read_program(alloc: Global, text: &[u8], top: &str) -> Result<Program, SourceFault>
+    requires { length text.now < 2 ^ 32 - 1 }
+    ensures found { IfOk result (λ program. IsProgramOf text.now top.now program) }
+    ensures well_formed { IfOk result (λ program. IsWellFormed program) }
+    ensures refused { IfErr result (IsSourceCause text.now top.now) }
+{
+    let lexemes = match lexemes_of(alloc, text) {
+        Ok(lexemes) => lexemes,
+        Err(fault) => return Err(fault),
+    };
+    let written = match written_text(alloc, &lexemes, text) {
+        Ok(written) => written,
+        Err(fault) => return Err(fault),
+    };
+    if written.as_slice() == text {
+        return read_text(alloc, &lexemes, text, top);
+    }
+    read_written(alloc, &written, top)
 }

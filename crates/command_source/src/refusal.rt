@@ -2,10 +2,10 @@ ghost use Rattle.std.specs.Prelude.{◌≡◌, ◌⊎◌, ◌++◌, codes, IfOk,
 ghost use Rattle.std.specs.Io.KnownBytes.{Appends};
 ghost use Rattle.tapa_files.specs.Outside.{AppendsPart, Rose};
 ghost use Rattle.run_program.specs.Ending.{joined, lines_in};
-ghost use Rattle.command_source.specs.Meaning.{refusal_of, data_refusal, device_refusal, design_refusal, verilog_refusal, words_refusal};
+ghost use Rattle.command_source.specs.Meaning.{refusal_of, data_refusal, device_refusal, design_refusal, verilog_refusal, dump_refusal, words_refusal};
 ghost use Rattle.command_source.specs.Outside.{written};
 ghost use Rattle.command_source.specs.Told.{IsToldAs};
-ghost use Rattle.command_source.specs.Refusal.{Refusal as Why, V1, message_of, code_text, IsFixed};
+ghost use Rattle.command_source.specs.Refusal.{Refusal as Why, V1, NoDump, message_of, code_text, IsFixed};
 ghost use Rattle.command_source.specs.Status.{status_of};
 
 use crate::source::SourceCode;
@@ -17,6 +17,15 @@ use tapa_base::{OutOfMemory, Place};
 use tapa_files::{Sink, WriteFault, put_all};
 use tapa_words::WordsFault;
 use vlog_tree::VFault;
+
+/// Why a file shows nothing of a net.
+#[derive(Clone, Copy, Debug, PartialEq, Eq)]
+pub enum DumpFault<'a> {
+    /// Its text is no value change dump: none goes on at this place.
+    NoDump(Place),
+    /// Its dump has no net of this name.
+    NoNet(&'a str),
+}
 
 /// Why a command ends with another status than that of done work.
 #[derive(Drop)]
@@ -83,10 +92,15 @@ pub enum Refusal<'a> {
     Undone {
         limit: u64,
     },
+    /// The file has no dump with the net that is asked for.
+    Dump {
+        file: &'a str,
+        fault: DumpFault<'a>,
+    },
     Memory,
 }
 
-const USAGE: &[u8] = b"tapa: usage: tapa build|run|cosim|plan|gen\n";
+const USAGE: &[u8] = b"tapa: usage: tapa build|run|cosim|plan|gen|vcd\n";
 
 const NO_OUTPUT: &[u8] = b"tapa: cannot write\n";
 
@@ -162,6 +176,16 @@ fn no_text_line(alloc: Global, file: &str, place: Place) -> Result<Vec<u8>, OutO
     let line = place.line;
     let col = place.col;
     let text = "V1 no text of the subset";
+    Ok(format!(in alloc; "tapa: {file}:{line}:{col}: {text}\n")?.into_bytes())
+}
+
+// That no dump goes on at a place.
+fn no_dump_line(alloc: Global, file: &str, place: Place) -> Result<Vec<u8>, OutOfMemory>
+    ensures { IfOk result (λ line. line.items ≡ message_of (Why.Dump file.now (NoDump place))) }
+{
+    let line = place.line;
+    let col = place.col;
+    let text = "X1 no dump";
     Ok(format!(in alloc; "tapa: {file}:{line}:{col}: {text}\n")?.into_bytes())
 }
 
@@ -286,6 +310,21 @@ fn tell_verilog<E: Sink>(alloc: Global, file: &str, fault: &VFault, err: &mut E)
     }
 }
 
+// Tells why a file shows nothing of a net.
+fn tell_dump<E: Sink>(alloc: Global, file: &str, fault: &DumpFault<'_>, err: &mut E) -> Status
+    ensures { IsToldAs (dump_refusal file.now fault.now) result (written (E.contents err.old) (E.faults err.old)) (written (E.contents err.new) (E.faults err.new))
+        ⊎ IsToldAs Why.Memory result (written (E.contents err.old) (E.faults err.old)) (written (E.contents err.new) (E.faults err.new)) }
+{
+    match fault {
+        DumpFault::NoDump(place) => {
+            tell_made(no_dump_line(alloc, file, *place), Status::Source, err)
+        }
+        DumpFault::NoNet(name) => {
+            tell_key(alloc, file, b"X2 ", name.as_bytes(), Status::Source, err)
+        }
+    }
+}
+
 // Tells a fault of a device file.
 fn tell_device<E: Sink>(alloc: Global, file: &str, fault: &DeviceFault, err: &mut E) -> Status
     ensures { IsToldAs (device_refusal file.now fault.now) result (written (E.contents err.old) (E.faults err.old)) (written (E.contents err.new) (E.faults err.new))
@@ -335,6 +374,7 @@ pub fn tell<E: Sink>(alloc: Global, refusal: &Refusal<'_>, err: &mut E) -> Statu
         Refusal::Verilog { file, fault } => tell_verilog(alloc, file, fault, err),
         Refusal::DesignData { file, fault } => tell_design_data(alloc, file, fault, err),
         Refusal::Undone { limit } => tell_made(undone_line(alloc, *limit), Status::Limit, err),
+        Refusal::Dump { file, fault } => tell_dump(alloc, file, fault, err),
         Refusal::Memory => tell_line(NO_MEMORY, Status::Memory, err),
     }
 }

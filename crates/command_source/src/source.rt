@@ -12,6 +12,10 @@ pub enum SourceCode {
     L2,
     L3,
     L4,
+    A1,
+    A2,
+    A3,
+    A4,
     P1,
     P2,
     /// A rule beyond the grammar; for a limit with the greatest number that is allowed.
@@ -47,6 +51,10 @@ impl SourceCode {
             SourceCode::L2 => Ok(String::from_str(alloc, "L2 open comment or string")?),
             SourceCode::L3 => Ok(String::from_str(alloc, "L3 bad number")?),
             SourceCode::L4 => Ok(String::from_str(alloc, "L4 refused line")?),
+            SourceCode::A1 => Ok(String::from_str(alloc, "A1 bad count")?),
+            SourceCode::A2 => Ok(String::from_str(alloc, "A2 array of another length")?),
+            SourceCode::A3 => Ok(String::from_str(alloc, "A3 array out of place")?),
+            SourceCode::A4 => Ok(String::from_str(alloc, "A4 written out too long")?),
             SourceCode::P1 => Ok(String::from_str(alloc, "P1 unexpected token")?),
             SourceCode::P2 => Ok(String::from_str(alloc, "P2 nested too deep")?),
             SourceCode::Rule { code, limit } => {

@@ -9,8 +9,10 @@ pub mod Advancing
 pub mod Asked
 pub mod Beginning
 pub mod Growing
+pub mod TopNets
 pub mod Naming
 pub mod Supplying
 pub mod Filling
 pub mod Starting
 pub mod Adding
+pub mod Showing

@@ -6,3 +6,4 @@ pub mod Machines
 pub mod Wholes
 pub mod Firsts
 pub mod Simulators
+pub mod ShownNets

@@ -20,6 +20,7 @@ use Rattle.cycle_sim.specs.declared.parts.State.{State}
 use Rattle.cycle_sim.specs.SlotsTold.{told_by}
 use Rattle.cycle_sim.specs.Sims.{SimTree}
 use Rattle.cycle_sim.specs.Steps.{supplied, is_one}
+use Rattle.cycle_sim.specs.ShownNets.{AreShown}
 use Rattle.cycle_sim.specs.Machines.{AreInputs, AreOutside, IsPairOf, IsMachine, HasCells}
 
 -- what a simulator is of, what it tells of its cycle, and when the memories around it are ready
@@ -45,10 +46,11 @@ pub record AreStreams (ms : List ModuleTree) (top : ModuleTree) (f : Flat) (pair
   pub each : (i : ℕ) (l : Port) → slice_get (streams_of top) i ≡ Some l → (t : Stream) × (slice_get streams i ≡ Some t) × IsStream ms f pairs l t
 
 -- what stands around a design, by the pairs of its top's names
-pub record IsAround (ms : List ModuleTree) (top : ModuleTree) (f : Flat) (pairs : List (Option Pair)) (scalars : List ℕ) (in_slots : List Input) (asked : List Outside) (carrying : List Stream) (done_pair : Pair) : Type 0 where
+pub record IsAround (ms : List ModuleTree) (top : ModuleTree) (f : Flat) (pairs : List (Option Pair)) (scalars : List ℕ) (in_slots : List Input) (asked : List Outside) (carrying : List Stream) (net_pairs : List Pair) (done_pair : Pair) : Type 0 where
   pub inputs : AreInputs ms top f pairs scalars in_slots
   pub outside : AreOutside ms top f pairs asked
   pub streams : AreStreams ms top f pairs carrying
+  pub shown : AreShown ms top f pairs net_pairs
   pub is_done : IsPairOf ms f pairs done done_pair
 
 -- the token on a stream, by the numbers of slots
@@ -60,7 +62,7 @@ pub record AreParts (p : Parts) : Type 0 where
   pub top : ModuleTree
   pub at : TopOf p.design top
   pub machine : IsMachine p.design.modules top p.flat p.pairs.items p.memories.items p.widths.items p.program p.commits.items p.stores.items
-  pub around : IsAround p.design.modules top p.flat p.pairs.items p.scalars.items p.inputs.items p.outside.items p.streams.items p.done
+  pub around : IsAround p.design.modules top p.flat p.pairs.items p.scalars.items p.inputs.items p.outside.items p.streams.items p.shown.items p.done
 
 -- The slots are those of a cycle of such a design.
 pub record IsSim (p : Parts) (s : State) : Type 0 where

@@ -17,6 +17,7 @@ use crate::cells::Outside;
 use crate::inputs::Input;
 use crate::named::{din_name, done_name, pair_named};
 use crate::parts::Stream;
+use crate::shown::all_shown;
 use crate::supplies::all_inputs;
 use sim_tape::Pair;
 use std::alloc::{AllocError, Global};
@@ -25,12 +26,14 @@ use vlog_design::Design;
 use vlog_scope::Scope;
 use vlog_tree::{ack_name, addr_name, rdy_name, wdata_name, we_name, wr_name};
 
-/// The inputs of the top with what they are given, the memories and the streams around a design, and the pair of its `done`.
+/// The inputs of the top with what they are given, the memories and the streams around a design, the pairs of its top's nets, and
+/// the pair of its `done`.
 #[derive(Drop)]
 pub struct Around {
     pub inputs: Vec<Input>,
     pub outside: Vec<Outside>,
     pub streams: Vec<Stream>,
+    pub shown: Vec<Pair>,
     pub done: Pair,
 }
 
@@ -118,7 +121,7 @@ pub fn around_of(
     scalars: &[u64],
 ) -> Result<Around, AllocError>
     ensures { IfOk result (λ a. (top : ModuleTree) (f : FlatTree) (t : TapeTree) → TopOf design.now top → IsFlat design.now.modules top f → ArePlaced design.now.modules top f pairs.now → AreGiven design.now.modules top f pairs.now t
-        → IsAround design.now.modules top f pairs.now scalars.now a.inputs.items a.outside.items a.streams.items a.done) }
+        → IsAround design.now.modules top f pairs.now scalars.now a.inputs.items a.outside.items a.streams.items a.shown.items a.done) }
 {
     let scope = design.scope();
     let shape = design.shape(alloc)?;
@@ -126,11 +129,13 @@ pub fn around_of(
     let inputs = all_inputs(alloc, scope, pairs, &shape, scalars)?;
     let outside = all_outside(alloc, scope, pairs, &shape.memories)?;
     let streams = all_streams(alloc, scope, pairs, &ports)?;
+    let shown = all_shown(alloc, scope, pairs)?;
     let done = pair_named(scope, pairs, done_name(alloc)?);
     Ok(Around {
         inputs,
         outside,
         streams,
+        shown,
         done,
     })
 }

@@ -78,7 +78,7 @@ fn laid_out(
 ) -> Result<(Finished, Around), AllocError>
     requires { (m : ModuleTree) → TopOf design.now m → IsFlat design.now.modules m flat.now }
     ensures machine { IfOk result (λ r. (m : ModuleTree) → TopOf design.now m → IsMachine design.now.modules m flat.now r.0.pairs.items r.0.memories.items r.0.widths.items r.0.program r.0.commits.items r.0.stores.items) }
-    ensures around { IfOk result (λ r. (m : ModuleTree) → TopOf design.now m → IsAround design.now.modules m flat.now r.0.pairs.items scalars.now r.1.inputs.items r.1.outside.items r.1.streams.items r.1.done) }
+    ensures around { IfOk result (λ r. (m : ModuleTree) → TopOf design.now m → IsAround design.now.modules m flat.now r.0.pairs.items scalars.now r.1.inputs.items r.1.outside.items r.1.streams.items r.1.shown.items r.1.done) }
 {
     let _top = design.top();
     let draft = draft_of(alloc, design, flat)?.unwrap();
@@ -111,6 +111,7 @@ pub fn parts_of(alloc: Global, design: Design, around: &Env) -> Result<Parts, Al
         inputs,
         outside,
         streams,
+        shown,
         done,
     } = around;
     Ok(Parts {
@@ -126,6 +127,7 @@ pub fn parts_of(alloc: Global, design: Design, around: &Env) -> Result<Parts, Al
         inputs,
         outside,
         streams,
+        shown,
         done,
         ready,
     })

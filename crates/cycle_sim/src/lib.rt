@@ -1,4 +1,4 @@
-//! The simulator of designs: it stands in one cycle of a design's run, shows streams and memories, and goes to the next.
+//! The simulator of designs: it stands in one cycle of a design's run, shows streams, memories and nets, and goes to the next.
 #![tactic(auto)]
 
 mod around;
@@ -10,11 +10,13 @@ mod laws;
 mod named;
 mod parts;
 mod registers;
+mod shown;
 mod sim;
 mod simulator;
 mod slots;
 mod supplies;
 
 pub use laws::law_told_is_one;
+pub use shown::is_shown;
 pub use sim::run_cycles;
 pub use simulator::Sim;

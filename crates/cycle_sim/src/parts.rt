@@ -1,9 +1,13 @@
 // A design on a tape, and what changes from cycle to cycle.
 
-ghost use Rattle.std.specs.Prelude.{◌+◌, ◌*◌, ◌<◌, ◌≤◌, ◌^◌, ◌≡◌, ◌↔◌, IsTrue, [], get_or};
+ghost use Rattle.std.specs.Prelude.{◌+◌, ◌*◌, ◌<◌, ◌≤◌, ◌^◌, ◌≡◌, ◌↔◌, IsTrue, [], Some, get_or, slice_get};
 ghost use Rattle.sim_tape.specs.Operators.{cells_of};
+ghost use Rattle.vlog_tree.specs.declared.table.Declaration.{Declaration as DeclarationTree};
+ghost use Rattle.vlog_tree.specs.Form.{ModuleTree};
 ghost use Rattle.vlog_tree.specs.Environment.{IsDone, token_of as token_lem};
+ghost use Rattle.vlog_design.specs.Designs.{TopOf};
 ghost use Rattle.cycle_sim.specs.Sims.{InRuns, IsNext, IsCarried};
+ghost use Rattle.cycle_sim.specs.ShownNets.{shown_nets};
 ghost use Rattle.cycle_sim.specs.Wholes.{IsSim, sim_tree, token_on};
 
 use crate::cells::{Outside, ask_all, store_all};
@@ -26,7 +30,7 @@ pub struct Stream {
 }
 
 /// A design, the numbers of its nets, their pairs of slots, and by names of memories the numbers of their lists of cells; the
-/// tape, what registers take over, what is stored, and what stands around the design.
+/// tape, what registers take over, what is stored, what stands around the design, and the pairs of its top's nets.
 #[derive(Drop)]
 pub struct Parts {
     pub design: Design,
@@ -41,6 +45,7 @@ pub struct Parts {
     pub inputs: Vec<Input>,
     pub outside: Vec<Outside>,
     pub streams: Vec<Stream>,
+    pub shown: Vec<Pair>,
     pub done: Pair,
     pub ready: Vec<Vec<bool>>,
 }
@@ -125,6 +130,21 @@ pub fn carried(parts: &Parts, state: &State, place: usize) -> Option<Token>
             }
         }
         None => None,
+    }
+}
+
+/// The number of a net of the top in a cycle, by its place among those that have one; past the last, 0.
+pub fn shown_value(parts: &Parts, state: &State, place: usize) -> u128
+    requires { IsSim parts.now state.now }
+    ensures told { (m : ModuleTree) (d : DeclarationTree) → TopOf parts.now.design m → slice_get (shown_nets m) place ≡ Some d → result ≡ (sim_tree parts.now state.now).told.number [] d.name }
+    ensures fits { InRuns (sim_tree parts.now state.now) (λ m env nets. (d : DeclarationTree) → slice_get (shown_nets m) place ≡ Some d → result < 2 ^ d.bits) }
+{
+    match parts.shown.get(place) {
+        Some(pair) => join(
+            number(&state.numbers, pair.low),
+            number(&state.numbers, pair.high),
+        ),
+        None => 0,
     }
 }
 

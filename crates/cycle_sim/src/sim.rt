@@ -2,15 +2,17 @@
 
 ghost use Rattle.std.specs.Prelude.{◌≡◌, ◌+◌, ◌<◌, ◌≤◌, ◌^◌, ◌↔◌, ℕ, [], Some, slice_get, slice_index_or, length, IfOk, OnOk, OnErr, IsTrue};
 ghost use Rattle.tapa_base.specs.declared.shape.Port.{Port as PortTree};
+ghost use Rattle.vlog_tree.specs.declared.table.Declaration.{Declaration as DeclarationTree};
 ghost use Rattle.vlog_tree.specs.Form.{ModuleTree};
 ghost use Rattle.vlog_tree.specs.Environment.{IsDone, streams_of, tokens};
 ghost use Rattle.vlog_design.specs.Designs.{TopOf};
 ghost use Rattle.vlog_design.specs.Environments.{environment_of, lists_of};
+ghost use Rattle.cycle_sim.specs.ShownNets.{shown_nets};
 ghost use Rattle.cycle_sim.specs.Simulators.{sim_of};
 ghost use Rattle.cycle_sim.specs.Sims.{InRuns, IsFirst, IsNext, IsLater, IsCarried, IsDoneAt, last_cycle, IsAdded, AreAdded};
 
 use crate::begin::{first_state, parts_of};
-use crate::parts::{advance, carried, cells_in, is_done};
+use crate::parts::{advance, carried, cells_in, is_done, shown_value};
 use crate::simulator::Sim;
 use std::alloc::{AllocError, Global};
 use tapa_base::Token;
@@ -61,6 +63,30 @@ impl Sim {
         ensures { result.now ≡ (sim_of self.now).told.outside m }
     {
         cells_in(&self.state, m as usize)
+    }
+
+    /// The value in this cycle of a net of the top, by its place among the ports but the clock, and then the wires and the
+    /// registers, in the order of the text (IEEE 1364-2005, two-valued); past the last, 0.
+    pub fn value(&self, net: u32) -> u128
+        ensures told { (m : ModuleTree) (d : DeclarationTree) → TopOf (sim_of self.now).design m → slice_get (shown_nets m) net ≡ Some d → result ≡ (sim_of self.now).told.number [] d.name }
+        ensures fits { InRuns (sim_of self.now) (λ m env nets. (d : DeclarationTree) → slice_get (shown_nets m) net ≡ Some d → result < 2 ^ d.bits) }
+    {
+        self.value_at(net as usize)
+    }
+
+    /// The value in this cycle of the net of the top at any place, past the last of them 0.
+    pub fn value_at(&self, place: usize) -> u128
+        ensures told { (m : ModuleTree) (d : DeclarationTree) → TopOf (sim_of self.now).design m → slice_get (shown_nets m) place ≡ Some d → result ≡ (sim_of self.now).told.number [] d.name }
+        ensures fits { InRuns (sim_of self.now) (λ m env nets. (d : DeclarationTree) → slice_get (shown_nets m) place ≡ Some d → result < 2 ^ d.bits) }
+    {
+        shown_value(&self.parts, &self.state, place)
+    }
+
+    /// The design that it was made with.
+    pub fn design(&self) -> &Design
+        ensures { result.now ≡ (sim_of self.now).design }
+    {
+        &self.parts.design
     }
 
     /// How many streams the design has.

@@ -8,9 +8,12 @@ use Rattle.vlog_run_laws.specs.Beside.{RunsBeside}
 use Rattle.vlog_tree.specs.Environment.{RunsIn}
 use Rattle.vlog_tree.specs.Form.{ModuleTree}
 use Rattle.vlog_tree.specs.Refused.{IsDesign}
+use Rattle.hw_build.specs.Elements.{empty}
+use Rattle.hw_build.proofs.Tables.{name_of_all}
+use Rattle.hw_task_lines.specs.Texts.{task_name}
 use Rattle.hw_top_lines.specs.Designs.{design_tree}
 use Rattle.hw_top_lines.specs.Legal.{IsReady}
-use Rattle.hw_top_lines.specs.Texts.{top_tree}
+use Rattle.hw_top_lines.specs.Texts.{top_tree, top_elements}
 use Rattle.hw_top_laws.specs.modules.Lower.{lower_modules, KeepPromises}
 use Rattle.hw_top_laws.proofs.circuit.Circuit.{tops_have_scalars, tops_have_memories, tops_have_streams, designs_are_legal, designs_carry_streams, designs_carry_beside}
 use Rattle.hw_top.specs.Kept.{IsKept}
@@ -39,8 +42,10 @@ module _ (program : Program) (machines : List Fsm) (added : List ℕ) (ready : I
 
   pub circuit_of : (design : DesignTree) → design.modules ≡ whole → design.top ≡ length lower → IsCircuitOf program added design
   circuit_of design e p = record {
-    legal = legal_at design.modules design.top e p;
+    top = top_tree program added;
     is_top = ap (λ (ms : List ModuleTree). slice_get ms design.top) e ∙ ap (slice_get whole) p ∙ last_at lower (top_tree program added);
+    named = name_of_all (top_elements program added) (empty (task_name program.top));
+    legal = legal_at design.modules design.top e p;
     scalars = tops_have_scalars program machines added ready kept;
     memories = tops_have_memories program machines added ready kept;
     streams = tops_have_streams program machines added ready kept;

@@ -5,20 +5,23 @@ use Rattle.vlog_design.specs.Designs.{DesignTree, TopOf}
 use Rattle.vlog_run_laws.specs.Beside.{RunsBeside}
 use Rattle.vlog_tree.specs.Cycle.{Cycle, Path}
 use Rattle.vlog_tree.specs.Environment.{Environment, FitsShape, RunsIn, shape_of, streams_of}
+use Rattle.vlog_tree.specs.Form.{ModuleTree}
 use Rattle.vlog_tree.specs.Refused.{IsDesign}
+use Rattle.hw_task_lines.specs.Texts.{task_name}
 use Rattle.hw_top_lines.specs.Legal.{scalar_ports, memory_ports, stream_ports}
-use Rattle.hw_top_lines.specs.Texts.{top_tree}
 use Rattle.hw_top_laws.specs.kahn.Carries.{CarriesStreams, CarriesBeside}
 
--- A design that breaks no rule, whose scalars, memories and streams are the program's in order, with the program's labels
--- and their bits. In each run in an environment that fits it, from any power-up contents, it carries the program's streams; and so
--- it does beside memories that show a cell in the cycles in which they answer, and any number of their width in the others.
+-- A design that breaks no rule, with a top of the program's name, whose scalars, memories and streams are the program's in order,
+-- with the program's labels and their bits. In each run in an environment that fits it, from any power-up contents, it carries the
+-- program's streams; and so it does beside memories that show a cell in the cycles in which they answer, and any number of their
+-- width in the others.
 pub record IsCircuitOf (program : Program) (added : List ℕ) (design : DesignTree) : Type 0 where
+  pub top : ModuleTree
+  pub is_top : TopOf design top
+  pub named : top.name ≡ task_name program.top
   pub legal : IsDesign design.modules design.top
-  pub is_top : TopOf design (top_tree program added)
-  pub scalars : (shape_of (top_tree program added)).scalars ≡ scalar_ports program
-  pub memories : (shape_of (top_tree program added)).memories ≡ memory_ports program
-  pub streams : streams_of (top_tree program added) ≡ stream_ports program
-  pub carries : (env : Environment) → FitsShape env (shape_of (top_tree program added)) → (nets : ℕ → Path → Cycle) → RunsIn design.modules (top_tree program added) env nets → CarriesStreams program added env nets
-  pub beside :
-      (env : Environment) → FitsShape env (shape_of (top_tree program added)) → (answers : ℕ → ℕ → Bool) (nets : ℕ → Path → Cycle) → RunsBeside design.modules (top_tree program added) env answers nets → CarriesBeside program added env answers nets
+  pub scalars : (shape_of top).scalars ≡ scalar_ports program
+  pub memories : (shape_of top).memories ≡ memory_ports program
+  pub streams : streams_of top ≡ stream_ports program
+  pub carries : (env : Environment) → FitsShape env (shape_of top) → (nets : ℕ → Path → Cycle) → RunsIn design.modules top env nets → CarriesStreams program added env nets
+  pub beside : (env : Environment) → FitsShape env (shape_of top) → (answers : ℕ → ℕ → Bool) (nets : ℕ → Path → Cycle) → RunsBeside design.modules top env answers nets → CarriesBeside program added env answers nets

@@ -3,3 +3,4 @@ pub mod Networks
 pub mod Done
 pub mod Carries
 pub mod Waits
+pub mod Excluded

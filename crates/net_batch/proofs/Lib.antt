@@ -4,3 +4,4 @@ pub mod Says
 pub mod Ran
 pub mod Commits
 pub mod Back
+pub mod Holds

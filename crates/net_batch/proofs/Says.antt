@@ -15,10 +15,9 @@ use Rattle.kahn_model.specs.Prefix.{IsPrefixOf}
 use Rattle.kahn_model.specs.Behavior.{Behavior, ticks, trace_end}
 use Rattle.kahn_model.specs.Network.{Network, IsNetwork, put_on}
 use Rattle.kahn_model.specs.Counts.{ticks_made, written, taken, IsAllowed, IsReachable, HasEnded}
-use Rattle.kahn_model.proofs.Order.{prefix_refl, prefix_trans, prefix_flat_map, prefix_length, prefix_get}
-use Rattle.kahn_model.proofs.Grow.{Grows, ticks_grow}
-use Rattle.kahn_model.proofs.Late.{IsLate, late, end_last}
-use Rattle.kahn_model.proofs.Count.{made_le}
+use Rattle.kahn_model.proofs.Order.{prefix_refl, prefix_trans, prefix_length, prefix_get}
+use Rattle.kahn_model.proofs.Grow.{ticks_grow}
+use Rattle.kahn_model.proofs.Late.{end_last}
 use Rattle.kahn_model.proofs.Reach.{reach_founded, all_made}
 use Rattle.kahn_model.proofs.Taken.{taken_begins}
 use Rattle.net_core.specs.declared.ports.Ports.{Ports}
@@ -29,11 +28,9 @@ use Rattle.net_core.specs.Resume.{lists_at, StopsAt, GoesOnBy, PausesBy}
 use Rattle.net_core.specs.Placement.{tick_at, trace_end_at, TickAt, IsPlaced}
 use Rattle.net_core.specs.Waits.{StopsIn, IsFullFor, HoldsPause}
 use Rattle.net_core.proofs.Chunk.{plus, plus_same, Chunk, is_step}
-use Rattle.net_core.proofs.Lasting.{end_stays}
 use Rattle.net_core.proofs.Placed.{placed_ticks, placed_trace_end, asks_ticks, asks_trace_end, ticks_at, at_asks, map_get, at_get, puts_same, put_found}
-use Rattle.net_core.proofs.Stepped.{plus_above}
 use Rattle.net_core.proofs.Ends.{end_trace_ends}
-use Rattle.net_batch.specs.Batch.{HasRun, HasSaid}
+use Rattle.net_batch.specs.Batch.{HasRun, EndsAfter}
 use Rattle.net_batch.proofs.Runs.{commits, made_now, run_there}
 
 -- of two lists that begin a third the shorter one begins the other
@@ -123,7 +120,7 @@ module _ (net : Network) (ok : IsNetwork net) (k : ℕ → ℕ) (r : IsReachable
     stops_with : (m : TraceEnd) → (s : StopsAt job (length now) ins m) → trace_end (net.job i s.tests) (written net k) ≡ trace_end_at f m
     stops_with m s = placed_at s.tests ∙ ap (trace_end_at f) (sym (ends_are s.tests) ∙ s.at)
 
-    next_there : (t : Tick) → (g : GoesOnBy job (length now) ins t) → slice_get (there g.tests) (k i + made) ≡ Some (tick_at f t)
+    pub next_there : (t : Tick) → (g : GoesOnBy job (length now) ins t) → slice_get (there g.tests) (k i + made) ≡ Some (tick_at f t)
     next_there t g =
         let a = subst (λ l. slice_get l (length now) ≡ Some t) (runs_are g.tests) g.next in
         let b = map_get (tick_at f) (ticks (job g.tests) ours) (length now) t a in
@@ -149,28 +146,16 @@ module _ (net : Network) (ok : IsNetwork net) (k : ℕ → ℕ) (r : IsReachable
         let all = whole_is in
         omega arith
 
-    -- one that ends has ended
-    grown : Grows (written net k) (written net later)
-    grown s = prefix_flat_map (put_on s) _ _ (made_le net ok k later (plus_above i made k) (net.producer s))
+    -- why it made no more
+    pub ends_after : (m : TraceEnd) → StopsAt job (length now) ins m → EndsAfter net k i made (trace_end_at f m)
+    ends_after m s = record { tests = s.tests; all = stops_all m s; at = stops_with m s }
 
-    ended_stop : StopsAt job (length now) ins Ended → StopsIn net later i Ended
-    ended_stop s =
-        let n = s.tests in
-        let at = stops_with Ended s in
-        let same : ticks (net.job i n) (written net later) ≡ there n =
-        subst (λ e. IsLate e (there n) (ticks (net.job i n) (written net later)) (written net k) n) at
-        (late (net.job i n) (net.job i n) (written net k) (written net later) n (ok.grows i n n (omega arith)) grown (ok.lasts i n))
-        in
-        let all = stops_all Ended s in
-        let l = later_is in
-        record { tests = n; all = ap length same ∙ all ∙ sym l; at = end_stays (net.job i n) (written net k) (written net later) grown Ended tt at }
-
-    pub says_by : (after : Ports) (Spent : Type 0) (x : Pause) → PausesBy job (length now) ins after Spent x → HasSaid net k i made x
-    says_by after Spent SaysEnded s = record { ended = λ e. ended_stop s; goes_on = λ d. absurd (d refl) }
-    says_by after Spent (WantsRead p) s = record { ended = λ e. absurd (cc); goes_on = λ d. not_ended_stop (Needs p) (needs_end (f p)) s }
-    says_by after Spent (BadToken p) s = record { ended = λ e. absurd (cc); goes_on = λ d. not_ended_stop (Bad p) (bad_end (f p)) s }
-    says_by after Spent (WantsWrite p) (t, g, e) = record { ended = λ e. absurd (cc); goes_on = λ d. not_ended_next (Did (Put p t)) g }
-    says_by after Spent Fuel (s, (t, g, e)) = record { ended = λ e. absurd (cc); goes_on = λ d. not_ended_next t g }
+    pub not_ended : (after : Ports) (Spent : Type 0) (x : Pause) → PausesBy job (length now) ins after Spent x → (x ≡ SaysEnded → ⊥) → HasEnded net later i → ⊥
+    not_ended after Spent SaysEnded s d = absurd (d refl)
+    not_ended after Spent (WantsRead p) s d = not_ended_stop (Needs p) (needs_end (f p)) s
+    not_ended after Spent (BadToken p) s d = not_ended_stop (Bad p) (bad_end (f p)) s
+    not_ended after Spent (WantsWrite p) (t, g, e) d = not_ended_next (Did (Put p t)) g
+    not_ended after Spent Fuel (s, (t, g, e)) d = not_ended_next t g
 
     -- ---- where it has made no tick
 

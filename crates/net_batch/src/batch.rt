@@ -26,6 +26,8 @@ pub struct Batch<B: Body> {
     pub fuel: u64,
     pub made: u64,
     pub pause: Option<Pause>,
+    /// Whether its ports have room for all that its streams may get.
+    pub ready: bool,
 }
 
 impl<B: Body> Model for Batch<B> {
@@ -39,7 +41,7 @@ impl<B: Body> Model for Batch<B> {
 
     ghost coded = { Prim.hlevel (codes, stmt.the_row.coded, expr.the_row.coded) };
 
-    ghost view = { λ b. record { program = b.program.value; input = b.input.value; budget = b.budget; instance = b.instance; at = b.at.value.items; from = b.from; fuel = b.fuel; made = b.made; pause = b.pause } };
+    ghost view = { λ b. record { program = b.program.value; input = b.input.value; budget = b.budget; instance = b.instance; at = b.at.value.items; from = b.from; fuel = b.fuel; made = b.made; pause = b.pause; ready = b.ready } };
 
-    ghost invariant = { λ b. IsBatchAt B.stands b.program.value b.input.value b.budget b.at.value.items b.instance b.from b.fuel b.made b.pause b.process.body b.process.ports b.process.limits.items };
+    ghost invariant = { λ b. IsBatchAt B.stands b.program.value b.input.value b.budget b.at.value.items b.instance b.from b.fuel b.made b.pause b.ready b.process.body b.process.ports b.process.limits.items };
 }

@@ -18,4 +18,6 @@ pub struct Lot {
     pub made: u64,
     /// The answer of the last resume.
     pub pause: Option<Pause>,
+    /// Whether there is memory for all that it may write.
+    pub ready: bool,
 }

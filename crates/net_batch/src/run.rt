@@ -1,7 +1,7 @@
 // A batch makes its ticks.
-ghost use Rattle.std.specs.Prelude.{◌≡◌, ◌<◌, ◌≤◌, ◌+◌, ◌-◌, length, IfOk, OnErr};
+ghost use Rattle.std.specs.Prelude.{◌≡◌, ◌<◌, ◌≤◌, ◌+◌, ◌-◌, length, true, IfOk, OnOk, OnErr};
 ghost use Rattle.net_core.specs.Ports.{port_count};
-ghost use Rattle.net_batch.specs.Batch.{KeepsTokens, AreRoomsWhole, Ran, CommitsAnywhere};
+ghost use Rattle.net_batch.specs.Batch.{KeepsTokens, AreRoomsWhole, Ran, IsPrepared, CommitsAnywhere};
 
 use crate::batch::Batch;
 use net_core::{Body, Pause, Ports, resume_body};
@@ -38,25 +38,38 @@ impl<B: Body> Batch<B> {
         self.made
     }
 
-    /// Makes the room in memory that its ticks may need, so that a call of `run` finds it.
+    /// Makes room in memory for the tokens that its streams have room for, so that `resume` takes none. After want of memory
+    /// the batch is as it was.
     pub fn prepare(&mut self) -> Result<(), OutOfMemory>
-        ensures { self.new ≡ self.old }
+        ensures failed { OnErr result (self.new ≡ self.old) }
+        ensures prepared { OnOk result (IsPrepared self.old self.new) }
     {
-        make_rooms(&mut self.process.ports, &self.process.limits)
+        if !self.ready {
+            make_rooms(&mut self.process.ports, &self.process.limits)?;
+            self.ready = true;
+        }
+        Ok(())
     }
 
-    /// Makes the ticks that the fuel, the tokens and the room allow, after there is memory for the tokens that its streams
-    /// have room for. After want of memory the batch is as it was.
-    pub fn run(&mut self) -> Result<Pause, OutOfMemory>
-        ensures failed { OnErr result (self.new ≡ self.old) }
-        ensures ran { IfOk result (λ pause. Ran self.old self.new pause) }
+    /// Makes the ticks that the fuel, the tokens and the room allow.
+    pub fn resume(&mut self) -> Pause
+        requires { self.old.ready ≡ true }
+        ensures { Ran self.old self.new result }
     {
-        make_rooms(&mut self.process.ports, &self.process.limits)?;
         let fuel = self.fuel - self.made;
         let (pause, made) = resume_body(&mut self.process.body, &mut self.process.ports, fuel);
         self.made += made;
         self.pause = Some(pause);
-        Ok(pause)
+        pause
+    }
+
+    /// Makes room for its tokens, and then its ticks. After want of memory the batch is as it was.
+    pub fn run(&mut self) -> Result<Pause, OutOfMemory>
+        ensures failed { OnErr result (self.new ≡ self.old) }
+        ensures ran { IfOk result (λ pause. Ran self.old self.new pause) }
+    {
+        self.prepare()?;
+        Ok(self.resume())
     }
 
     /// Whatever the others have done meanwhile, the batch's ticks are steps of the network there. It does nothing.

@@ -4,4 +4,5 @@ pub mod OneWay
 pub mod Running
 pub mod Showing
 pub mod Starting
+pub mod Totalling
 pub mod Waiting

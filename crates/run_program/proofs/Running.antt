@@ -75,7 +75,7 @@ module _ (program : Program) (values : Values) where
       let is : owner_of (slice_get program.memories.items m) ≡ r.owner = ap owner_of at in
       omega (arith, inside, is, size_of)
 
-there : (xs : List Stream) (s : ℕ) → s < length xs → (r : Stream) × (slice_get xs s ≡ Some r)
+pub there : (xs : List Stream) (s : ℕ) → s < length xs → (r : Stream) × (slice_get xs s ≡ Some r)
 there [] s h = absurd (omega arith)
 there (x ∷ xs) s h = (get_or (x ∷ xs) s x, slice_get-get_or (x ∷ xs) s x h)
 
@@ -128,7 +128,7 @@ module _ (program : Program) (values : Values) (w : IsWellFormed program) (k g :
   abbrev N : Network
   N = network program values
 
-  streams_same : (s : ℕ) (r : Stream) → slice_get program.streams.items s ≡ Some r → kahn.shown N k s ≡ kahn.shown N g s
+  pub streams_same : (s : ℕ) (r : Stream) → slice_get program.streams.items s ≡ Some r → kahn.shown N k s ≡ kahn.shown N g s
   streams_same s r at =
       (ends_alike N (program_network program w values.scalars values.memories) k g rk rg hk hg).tokens s (producer_inside program values w s r at) (consumer_inside program values w s r at)
 
@@ -142,7 +142,7 @@ module _ (program : Program) (values : Values) (w : IsWellFormed program) (k g :
       ap (after_stores (memory_at (slice_get program.instances.items owner)) m (slice_index_or values.memories m []))
       (ended_same N (program_network program w values.scalars values.memories) k g owner (hk owner inside joined) (hg owner inside joined)))
 
-  ticks_same : ticks_of program values k ≡ ticks_of program values g
+  pub ticks_same : ticks_of program values k ≡ ticks_of program values g
   ticks_same = (ends_alike N (program_network program w values.scalars values.memories) k g rk rg hk hg).ticks
 
   pub reports_same : (t : ℕ) → t ≡ ticks_of program values k → report_of program values k (Done t) ≡ report_of program values g (Done (ticks_of program values g))
@@ -167,7 +167,7 @@ pub limit_run : (program : Program) (values : Values) (N : Network) → N ≡ ne
 limit_run program values N same limit h = subst (λ (M : Network). GoesPast M limit) same h
 
 module _ (program : Program) (input : Input) (old new : NetState) (limit : ℕ) (o : Outcome) (fresh : IsFresh program input old) (p : new.program ≡ old.program) (n : new.input ≡ old.input) where
-  same_network : state.network new ≡ network program (values_of input)
+  pub same_network : state.network new ≡ network program (values_of input)
   same_network = network_is program input new (p ∙ fresh.program_is) (n ∙ fresh.input_is)
 
   pub done_report : (t : ℕ) → IsReachable (state.network new) (state.count new) → EndsAs new limit o → o ≡ outcome.Done t → DoneRun program (values_of input) limit (report_of program (values_of input) (state.count new) (Done t))

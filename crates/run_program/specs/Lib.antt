@@ -4,3 +4,4 @@ pub mod Laws
 pub mod Pauses
 pub mod Run
 pub mod Started
+pub mod Totals

@@ -6,6 +6,8 @@ pub mod laws;
 mod run;
 mod shown;
 mod start;
+mod totals;
 mod waits;
 
 pub use run::{RunEnd, run_program};
+pub use totals::{Totals, TotalsEnd, run_totals};

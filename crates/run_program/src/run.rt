@@ -32,8 +32,8 @@ pub enum RunEnd {
     Limit,
 }
 
-// The program's network before its first tick.
-fn network(
+/// The program's network before its first tick.
+pub(crate) fn network(
     alloc: Global,
     program: &Arc<Program>,
     input: &Arc<Input>,

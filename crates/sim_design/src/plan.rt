@@ -1,13 +1,12 @@
 // What nets are placed by.
 
 ghost use Rattle.std.specs.Prelude.{◌≡◌, get_or};
-ghost use Rattle.sim_flat.specs.Edges.{lines_at as lines_lem};
 ghost use Rattle.sim_flat.specs.declared.tables.Source.TheVariants as sources;
 
 use sim_flat::{Flat, Source, Table};
 use sim_tape::Pair;
 use tapa_base::Port;
-use vlog_tree::{Item, Module};
+use vlog_tree::Module;
 
 /// A flattened design with its modules, the memories inside by numbers of names, and those outside.
 #[derive(Drop)]
@@ -16,19 +15,6 @@ pub struct Plan<'a> {
     pub modules: &'a [Module],
     pub memories: &'a [Option<Pair>],
     pub outside: &'a [Port],
-}
-
-/// The lines of an instance's module.
-pub(crate) fn lines_at<'a>(flat: &Flat, modules: &'a [Module], k: usize) -> &'a [Item]
-    ensures { result.now ≡ lines_lem modules.now flat.now k }
-{
-    match flat.instances.get(k) {
-        Some(row) => match modules.get(row.kind) {
-            Some(m) => m.items(),
-            None => &[],
-        },
-        None => &[],
-    }
 }
 
 /// What the name at a place has its number from.

@@ -15,5 +15,5 @@ mod tables;
 pub use flat::{Flat, base_at, flatten, owner_of, table_at};
 pub use laws::law_parts_come_first;
 pub use links::{net_around, net_inside};
-pub use order::order_of_nets;
+pub use order::{lines_at, order_of_nets};
 pub use tables::{Source, Table};

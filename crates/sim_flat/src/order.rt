@@ -16,8 +16,8 @@ use vlog_design::Design;
 use vlog_scope::Scope;
 use vlog_tree::{Connection, Item, Module};
 
-// The lines of an instance's module.
-fn lines_at<'a>(flat: &Flat, modules: &'a [Module], k: usize) -> &'a [Item]
+/// The lines of an instance's module; none where there is no such instance.
+pub fn lines_at<'a>(flat: &Flat, modules: &'a [Module], k: usize) -> &'a [Item]
     ensures { result.now ≡ lines_lem modules.now flat.now k }
 {
     match flat.instances.get(k) {

@@ -1,1 +1,2 @@
 pub mod Simulating
+pub mod OneReport

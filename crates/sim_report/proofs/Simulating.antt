@@ -21,7 +21,7 @@ use Rattle.vlog_run_laws.proofs.runs.Surround.{one_run_from}
 use Rattle.vlog_design.specs.Environments.{lists_of}
 use Rattle.cycle_sim.specs.Told.{IsToldOf}
 use Rattle.cycle_sim.specs.Sims.{SimTree, InRuns, IsFirst, IsLater, IsDoneAt, last_cycle}
-use Rattle.sim_report.specs.Ending.{EndsSo, end_of}
+use Rattle.sim_report.specs.Ending.{Telling, EndsSo, end_of}
 use Rattle.sim_report.specs.Reports.{stream_lines, memory_lines, streams_to, memories_at, last_of, IsSimulated}
 
 -- lines that are the same one by one
@@ -37,24 +37,24 @@ pub first_same : {A : Type 0} (f g : A → ℕ → List ℕ) (xs : List A) → (
 first_same f g xs h = lines_same f g 0 xs (λ i x at. subst (λ (m : ℕ). f x m ≡ g x m) (sym (zero-add i)) (h i x at))
 
 module _ (design : DesignTree) (env : Environment) (limit : ℕ) (top : ModuleTree) (is_top : TopOf design top) (is_design : IsDesign design.modules design.top) (fits : FitsShape env (shape_of top)) where
-  abbrev contents : Path → Cycle
+  abbrev pub contents : Path → Cycle
   contents = filled design.modules top 0
 
-  zeros : IsFilled design.modules top 0 contents
+  pub zeros : IsFilled design.modules top 0 contents
   zeros = fill.is_filled design.modules top 0 is_design.sound (has_got design.modules design.top top is_top)
 
   power_up : FitsPowerUp design.modules top contents
   power_up = fill.fits design.modules top 0 contents zeros
 
-  only : IsOnly design.modules top (IsRunFrom design.modules top env contents)
+  pub only : IsOnly design.modules top (IsRunFrom design.modules top env contents)
   only = one_run_from design.modules design.top top is_design is_top env contents power_up
 
-  abbrev nets : ℕ → Path → Cycle
+  abbrev pub nets : ℕ → Path → Cycle
   nets = only.run
 
   module _ (first : SimTree) (is_first : IsFirst design env 0 first) where
     -- what holds of each run that the simulator tells of holds of the run
-    of_run : (P : ModuleTree → Environment → (ℕ → Path → Cycle) → Type 0) → InRuns first P → P top env nets
+    pub of_run : (P : ModuleTree → Environment → (ℕ → Path → Cycle) → Type 0) → InRuns first P → P top env nets
     of_run P h =
         let told : IsToldOf design.modules top env nets first.told = is_first.told top is_top fits contents nets zeros only.is in
         h top env nets (subst (λ (d : DesignTree). TopOf d top) (sym is_first.same) is_top) fits (sym is_first.ready)
@@ -110,7 +110,7 @@ module _ (design : DesignTree) (env : Environment) (limit : ℕ) (top : ModuleTr
           subst (λ (vs : List (Vec Token Global)). IsSimulated design env limit done_at ((stream_lines (λ i. slice_index_or (lists_of vs) i []) streams ++ memory_lines later.told.outside memories) ++ last_line last_one)) (sym same)
           (subst (λ (l : Last). IsSimulated design env limit done_at ((stream_lines by_place streams ++ memory_lines later.told.outside memories) ++ last_line l)) (sym is_last) simulated)
 
--- a report that was written whole
-pub ends : (design : DesignTree) (env : Environment) (limit : ℕ) (old new : Option (List ℕ)) (done_at : Option ℕ) (report : List ℕ) → IsSimulated design env limit done_at report → Appends old new report → EndsSo design env limit old new (end_of done_at)
-ends design env limit old new None report is shown = (report, is, shown)
-ends design env limit old new (Some at) report is shown = (at, report, is, shown)
+-- what is told was written whole
+pub ends : (Told : Telling) (design : DesignTree) (env : Environment) (limit : ℕ) (old new : Option (List ℕ)) (done_at : Option ℕ) (text : List ℕ) → Told design env limit done_at text → Appends old new text → EndsSo Told design env limit old new (end_of done_at)
+ends Told design env limit old new None text is shown = (text, is, shown)
+ends Told design env limit old new (Some at) text is shown = (at, text, is, shown)

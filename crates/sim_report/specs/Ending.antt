@@ -4,7 +4,6 @@ use Rattle.std.specs.Io.KnownBytes.{Appends}
 use Rattle.tapa_files.specs.Outside.{AppendsPart}
 use Rattle.vlog_tree.specs.Environment.{Environment}
 use Rattle.vlog_design.specs.Designs.{DesignTree}
-use Rattle.sim_report.specs.Reports.{IsSimulated}
 use Rattle.sim_report.specs.declared.run.DesignEnd.{DesignEnd}
 use Rattle.sim_report.specs.declared.run.DesignEnd.TheVariants.{Done, Running}
 
@@ -13,15 +12,19 @@ abbrev pub end_of : Option ℕ → DesignEnd
 end_of None = Running
 end_of (Some at) = Done
 
--- the design is done in one of the cycles, or in none, and the report was written
-abbrev pub EndsSo : DesignTree → Environment → ℕ → Option (List ℕ) → Option (List ℕ) → DesignEnd → Type 0
-EndsSo design env limit old new Done = (at : ℕ) × (report : List ℕ) × IsSimulated design env limit (Some at) report × Appends old new report
-EndsSo design env limit old new Running = (report : List ℕ) × IsSimulated design env limit None report × Appends old new report
+-- what is told of a design in an environment, up to a limit on its cycles, where it is done in a cycle or in none
+abbrev pub Telling : Type 1
+Telling = DesignTree → Environment → ℕ → Option ℕ → List ℕ → Type 0
 
--- a front part of the report was written, or of it nothing yet
-abbrev pub HasFront : DesignTree → Environment → ℕ → Option (List ℕ) → Option (List ℕ) → Type 0
-HasFront design env limit old new = (done_at : Option ℕ) × (report : List ℕ) × IsSimulated design env limit done_at report × AppendsPart old new report
+-- the design is done in one of the cycles, or in none, and what is told of it was written
+abbrev pub EndsSo : Telling → DesignTree → Environment → ℕ → Option (List ℕ) → Option (List ℕ) → DesignEnd → Type 0
+EndsSo Told design env limit old new Done = (at : ℕ) × (text : List ℕ) × Told design env limit (Some at) text × Appends old new text
+EndsSo Told design env limit old new Running = (text : List ℕ) × Told design env limit None text × Appends old new text
 
--- nothing was written, or a front part of the report
-abbrev pub HasPart : DesignTree → Environment → ℕ → Option (List ℕ) → Option (List ℕ) → Type 0
-HasPart design env limit old new = (new ≡ old) ⊎ HasFront design env limit old new
+-- a front part of what is told was written, or of it nothing yet
+abbrev pub HasFront : Telling → DesignTree → Environment → ℕ → Option (List ℕ) → Option (List ℕ) → Type 0
+HasFront Told design env limit old new = (done_at : Option ℕ) × (text : List ℕ) × Told design env limit done_at text × AppendsPart old new text
+
+-- nothing was written, or a front part of what is told
+abbrev pub HasPart : Telling → DesignTree → Environment → ℕ → Option (List ℕ) → Option (List ℕ) → Type 0
+HasPart Told design env limit old new = (new ≡ old) ⊎ HasFront Told design env limit old new

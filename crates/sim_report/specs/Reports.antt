@@ -50,3 +50,7 @@ pub record IsSimulated (design : DesignTree) (env : Environment) (limit : ℕ) (
   pub run : IsRunFrom design.modules top env contents nets
   pub done : IsDoneAt (λ n. nets n []) limit done_at
   pub shown : report ≡ report_to top env (λ n. nets n []) (last_cycle limit done_at) (last_of limit done_at)
+
+-- it is done first in this cycle, or in none up to a limit, with some report
+abbrev pub IsSimulatedSo : DesignTree → Environment → ℕ → Option ℕ → Type 0
+IsSimulatedSo design env limit done_at = (report : List ℕ) × IsSimulated design env limit done_at report

@@ -7,7 +7,7 @@ ghost use Rattle.vlog_tree.specs.Form.{ModuleTree};
 ghost use Rattle.vlog_design.specs.Designs.{TopOf};
 ghost use Rattle.vlog_design.specs.Environments.{environment_of};
 ghost use Rattle.sim_report.specs.Ending.{EndsSo, HasFront, HasPart, end_of};
-ghost use Rattle.sim_report.specs.Reports.{last_of};
+ghost use Rattle.sim_report.specs.Reports.{last_of, IsSimulated};
 
 use crate::shown::show;
 use cycle_sim::{Sim, run_cycles};
@@ -35,7 +35,8 @@ fn last_after(limit: u64, done_at: Option<u64>) -> Last
     }
 }
 
-fn end_after(done_at: Option<u64>) -> DesignEnd
+/// How a run ended, by the cycle in which the design was done.
+pub fn end_after(done_at: Option<u64>) -> DesignEnd
     ensures { result ≡ end_of done_at }
 {
     match done_at {
@@ -56,9 +57,9 @@ pub fn run_design<O: Sink>(
     out: &mut O,
 ) -> Result<DesignEnd, PrintFault>
     requires fits { (m : ModuleTree) → TopOf design m → FitsShape (environment_of around.now) (shape_of m) }
-    ensures end { IfOk result (λ end. EndsSo design (environment_of around.now) limit (O.contents out.old) (O.contents out.new) end) }
-    ensures part { OnErr result (HasPart design (environment_of around.now) limit (O.contents out.old) (O.contents out.new)) }
-    ensures front { IsErrOf result PrintFault.WriteFault → HasFront design (environment_of around.now) limit (O.contents out.old) (O.contents out.new) }
+    ensures end { IfOk result (λ end. EndsSo IsSimulated design (environment_of around.now) limit (O.contents out.old) (O.contents out.new) end) }
+    ensures part { OnErr result (HasPart IsSimulated design (environment_of around.now) limit (O.contents out.old) (O.contents out.new)) }
+    ensures front { IsErrOf result PrintFault.WriteFault → HasFront IsSimulated design (environment_of around.now) limit (O.contents out.old) (O.contents out.new) }
     ensures later { O.faults out.old ≤ O.faults out.new }
     ensures fault { IsErrOf result PrintFault.WriteFault → Rose (O.faults out.old) (O.faults out.new) }
 {

@@ -11,6 +11,7 @@ use Rattle.command_source.specs.Status.{status_of}
 use Rattle.command_source.specs.Told.{IsToldAs}
 use Rattle.command_source.specs.declared.refusal.Refusal.{Refusal as CodeRefusal}
 use Rattle.command_source.specs.declared.refusal.Refusal.TheVariants as code
+use Rattle.command_source.specs.declared.refusal.DumpFault.TheVariants as dump_fault
 use Rattle.command_source.specs.declared.status.Status.{Status}
 use Rattle.command_source.specs.declared.status.Status.TheVariants as status
 use Rattle.tapa_drive.specs.Answer.{HasCause, HasPartOf, Leaves, IsAnswer}
@@ -34,6 +35,7 @@ never (spec.NoHalving level) e = cc
 never (spec.Verilog file fault) e = cc
 never (spec.DesignData file fault) e = cc
 never (spec.Undone most) e = cc
+never (spec.Dump file fault) e = cc
 never spec.Memory e = cc
 
 module _ (words : List (List ℕ)) (before after : Outside) where
@@ -89,6 +91,8 @@ module _ (words : List (List ℕ)) (before after : Outside) where
     says (code.DesignData file (J4 key)) t f cause leaves = either (refusal_of (code.DesignData file (J4 key))) cause leaves (inl leaves) t
     says (code.DesignData file OutOfMemory) t f cause leaves = either (refusal_of (code.DesignData file OutOfMemory)) cause leaves leaves t
     says (code.Undone most) t f cause leaves = either (refusal_of (code.Undone most)) cause leaves (inr leaves) t
+    says (code.Dump file (dump_fault.NoDump place)) t f cause leaves = either (refusal_of (code.Dump file (dump_fault.NoDump place))) cause leaves (inl leaves) t
+    says (code.Dump file (dump_fault.NoNet name)) t f cause leaves = either (refusal_of (code.Dump file (dump_fault.NoNet name))) cause leaves (inl leaves) t
     says code.Memory t f cause leaves = either (refusal_of code.Memory) cause leaves leaves t
 
     not_ok : (why : Refusal) → IsTold why → result ≢ status.Ok

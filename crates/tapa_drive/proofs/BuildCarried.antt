@@ -1,5 +1,5 @@
 -- From what reading a source and writing its circuit give to what carrying the command of a circuit out answers.
-use Rattle.std.proofs.Common.{◌≡◌, ◌≢◌, ◌≤◌, ℕ, List, [], Option, Some, Result, IfOk, IfErr, inr}
+use Rattle.std.proofs.Common.{◌≡◌, ◌≢◌, ◌≤◌, ℕ, List, [], Option, Result, IfOk, IfErr, inl, inr}
 use Rattle.std.specs.Io.KnownBytes.{Appends}
 use Rattle.tapa_files.specs.Outside.{Files, AppendsPart}
 use Rattle.tapa_syntax.specs.declared.program.Program.{Program}
@@ -35,10 +35,10 @@ module _ (words : List (List ℕ)) (files : Option Files) (source top : List ℕ
       of_file_also files source_limit source (λ text. IsProgramOf text top program) (λ text. (circuit : List ℕ) × HasCircuit text top circuit × R circuit) (λ text p. (l, record { program = program; means = p; is = is }, r)) means
 
   built : (l : List ℕ) → IsCircuitText program [] l → Appends old.bytes new.bytes l → IsDone words before after
-  built l is shown = inr (inr (inr (Build source top, asked, of_text (λ l. Appends old.bytes new.bytes l) l is shown)))
+  built l is shown = inr (inr (inr (inl (Build source top, asked, of_text (λ l. Appends old.bytes new.bytes l) l is shown))))
 
   has_front : (l : List ℕ) → IsCircuitText program [] l → AppendsPart old.bytes new.bytes l → HasFrontOf words before after
-  has_front l is part = inr (inr (inr (Build source top, asked, of_text (λ l. AppendsPart old.bytes new.bytes l) l is part)))
+  has_front l is part = inr (inr (inr (inl (Build source top, asked, of_text (λ l. AppendsPart old.bytes new.bytes l) l is part))))
 
   pub put : {A : Type 0} (result : Result A CodeRefusal) → IfOk result (λ x. WritesWhole old new (IsCircuitText program [])) → IfErr result (λ r. IsUnwritten old new (IsCircuitText program []) (refusal_of r)) → IsCarriedOut words before after result
   put result whole refused = carried_out words before after (IsCircuitText program []) built has_front reads result whole refused

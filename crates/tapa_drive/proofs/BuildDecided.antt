@@ -6,12 +6,12 @@ use Rattle.tapa_files.specs.Outside.{Files, file_bytes, Rose}
 use Rattle.tapa_files.specs.Take.{IsLongerThan}
 use Rattle.tapa_words.specs.declared.command.PlanMode.{PlanMode}
 use Rattle.tapa_words.specs.Words.{Build, Asks}
-use Rattle.tapa_words.specs.Parts.{OnRun, OnBuild, OnCosim, IsToCome, OnPlan}
+use Rattle.tapa_words.specs.Parts.{OnRun, OnBuild, OnCosim, OnVcd, OnPlan}
 use Rattle.tapa_words.specs.declared.command.CosimAim.{CosimAim}
 use Rattle.tapa_words.specs.declared.command.PlanAim.{PlanAim}
 use Rattle.command_source.specs.Files.{OfFile, OfSource, source_limit, data_limit}
 use Rattle.command_source.specs.Outside.{Outside, Written, outside}
-use Rattle.command_source.specs.Refusal.{Refusal, Usage, Read, Write, TooLong, Source, Data, Ticks, Stopped, Device, TooManyPlans, NoPlan, NoRoom, NoHalving, Verilog, DesignData, Undone, Memory}
+use Rattle.command_source.specs.Refusal.{Refusal, Usage, Read, Write, TooLong, Source, Data, Ticks, Stopped, Device, TooManyPlans, NoPlan, NoRoom, NoHalving, Verilog, DesignData, Undone, Dump, Memory}
 use Rattle.command_source.specs.Source.{IsRefusedSource}
 use Rattle.command_source.specs.Told.{IsTold, IsToldAs}
 use Rattle.command_source.specs.declared.status.Status.{Status}
@@ -20,6 +20,7 @@ use Rattle.command_plans.specs.Built.{HasCircuit}
 use Rattle.tapa_drive.specs.Answer.{OfRun, OfBuild, OfPlan, OfCosim, IsFirst, most_in, IsTaken, IsRefusedIn, IsFaultyIn, IsReached, IsTooLong, IsDone, HasCause, Leaves, IsAnswer}
 use Rattle.tapa_drive.specs.BuildDecided.{TellsBuildOf, TellsBuild}
 use Rattle.tapa_drive.specs.Decided.{IsRefusedWith, NothingFails}
+use Rattle.tapa_drive.specs.Vcds.{OfVcd}
 use Rattle.tapa_drive.proofs.Decided.{asked_of}
 
 -- a circuit that was asked for is the one that the words ask for
@@ -38,8 +39,7 @@ module _ (words : List (List ℕ)) (files : Files) (reads : List ℕ → ℕ) (o
   text = file_bytes files source
 
   not_asked : HasCause words before after Usage → ⊥
-  not_asked (inl none) = none (Build source top) asked
-  not_asked (inr h) = asked_of words (Build source top) asked IsToCome h
+  not_asked none = none (Build source top) asked
 
   -- no other command was asked for
   not_run : {P : List ℕ → List ℕ → Option (List ℕ) → ℕ → Type 0} → OfRun words P → ⊥
@@ -50,6 +50,9 @@ module _ (words : List (List ℕ)) (files : Files) (reads : List ℕ → ℕ) (o
 
   not_cosim : {P : List ℕ → Option (List ℕ) → ℕ → CosimAim → Type 0} → OfCosim words P → ⊥
   not_cosim {P = P} h = asked_of words (Build source top) asked (OnCosim P) h
+
+  not_vcd : {P : List ℕ → List ℕ → Type 0} → OfVcd words P → ⊥
+  not_vcd {P = P} h = asked_of words (Build source top) asked (OnVcd P) h
 
   -- no read failed
   no_read : (file : List ℕ) → HasCause words before after (Read file) → ⊥
@@ -99,6 +102,7 @@ module _ (words : List (List ℕ)) (files : Files) (reads : List ℕ → ℕ) (o
         absurd (of_told_source files file (λ t. ⊥) c.1).1
     of_reason (DesignData file fault) h leaves told = absurd (not_cosim h)
     of_reason (Undone most) h leaves told = absurd (not_cosim h)
+    of_reason (Dump file fault) h leaves told = absurd (not_vcd h)
     of_reason Memory h leaves told = inr told.0
 
     of_told : (why : Refusal) → IsToldAs why result errors after.err → HasCause words before after why → Leaves words before after why → Meets
@@ -108,7 +112,8 @@ module _ (words : List (List ℕ)) (files : Files) (reads : List ℕ → ℕ) (o
     of_ok (inl r) is same = absurd (not_run r)
     of_ok (inr (inl p)) is same = absurd (not_planned p)
     of_ok (inr (inr (inl s))) is same = absurd (not_cosim s)
-    of_ok (inr (inr (inr h))) is same =
+    of_ok (inr (inr (inr (inr v)))) is same = absurd (not_vcd v)
+    of_ok (inr (inr (inr (inl h)))) is same =
         let c = asked_build words source top asked (λ s t. OfSource (Some files) s (λ bytes. (told : List ℕ) × HasCircuit bytes t told × Appends out.bytes after.out.bytes told)) h in
         let t = of_told_source files source (λ bytes. (told : List ℕ) × HasCircuit bytes top told × Appends out.bytes after.out.bytes told) c in
         inl (inl (t.0, (t.1.0, t.1.1, is, t.1.2, same)))

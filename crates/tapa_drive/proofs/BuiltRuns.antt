@@ -1,8 +1,8 @@
 -- What a simulation of a circuit's text shows is what its program carries.
-use Rattle.std.proofs.Common.{◌≡◌, ℕ, zero, suc, ◌+◌, ◌*◌, ◌<◌, ◌≤◌, List, [], ◌++◌, Option, Some, None, inl, inr, refl, sym, ap, subst, ◌∙◌, arith, ⊎_elim}
-use Rattle.std.specs.Prelude.{option_map, slice_get, slice_index, slice_index_or}
+use Rattle.std.proofs.Common.{◌≡◌, ℕ, zero, suc, ◌+◌, ◌*◌, ◌<◌, ◌≤◌, List, [], ◌++◌, Option, Some, None, refl, sym, ap, subst, ◌∙◌, arith, ⊎_elim}
+use Rattle.std.specs.Prelude.{option_map, slice_get, slice_index_or}
 use Rattle.std.proofs.lemmas.Bool.{cases_lt}
-use Rattle.std.proofs.lemmas.Option.{slice_get-map}
+use Rattle.std.proofs.lemmas.Option.{slice_get-map, same_Some}
 use Rattle.tapa_base.specs.declared.shape.Port.{Port}
 use Rattle.tapa_base.specs.declared.token.Token.{Token}
 use Rattle.tapa_base.specs.Kinds.{bits_of}
@@ -10,7 +10,7 @@ use Rattle.tapa_syntax.specs.declared.program.Memory.{Memory}
 use Rattle.tapa_syntax.specs.declared.program.Program.{Program}
 use Rattle.tapa_syntax.specs.declared.program.Stream.{Stream}
 use Rattle.vlog_tree.specs.Cycle.{Cycle, Path}
-use Rattle.vlog_tree.specs.Environment.{Environment, FitsShape, RunsIn, IsDone, shape_of, streams_of, tokens, cells_at}
+use Rattle.vlog_tree.specs.Environment.{Environment, FitsShape, RunsIn, IsDone, shape_of, tokens, cells_at}
 use Rattle.vlog_tree.specs.Form.{ModuleTree}
 use Rattle.vlog_tree.specs.Spelling.{spelling}
 use Rattle.vlog_lex.specs.Grammar.{HasTree}
@@ -21,13 +21,13 @@ use Rattle.vlog_design.specs.Designs.{DesignTree}
 use Rattle.vlog_read.proofs.OneTop.{one_design}
 use Rattle.vlog_tree.specs.Refused.{IsDesign}
 use Rattle.kahn_model.specs.Cells.{cells_at as cells_of}
-use Rattle.kahn_model.specs.Counts.{written, IsKahnStream}
+use Rattle.kahn_model.specs.Counts.{IsKahnStream}
 use Rattle.kahn_model.specs.Ending.{IsLeastToEnd}
 use Rattle.kahn_model.specs.Network.{Network}
 use Rattle.kahn_model.specs.Outcome.{IsJoined, HaveJoinedEnded, IsDone as EndsWithin, shown}
 use Rattle.kahn_model.specs.Timed.{lost}
-use Rattle.hw_top_lines.specs.Legal.{scalar_ports, stream_ports, memory_ports}
-use Rattle.hw_top_lines.specs.Texts.{token_bits, top_tree}
+use Rattle.hw_top_lines.specs.Legal.{stream_ports, memory_ports}
+use Rattle.hw_top_lines.specs.Texts.{token_bits}
 use Rattle.hw_top_laws.specs.kahn.Carries.{CarriesStreams, carried_by}
 use Rattle.hw_top_laws.specs.kahn.Clock.{counts, all_answer}
 use Rattle.hw_top.specs.Circuits.{IsCircuitOf}
@@ -38,8 +38,8 @@ use Rattle.sim_report.proofs.Simulating.{first_same}
 use Rattle.cycle_sim.specs.Sims.{IsDoneAt, last_cycle}
 use Rattle.command_source.specs.Inputs.{GivesValues}
 use Rattle.command_plans.specs.Built.{HasCircuit, IsCircuitText}
-use Rattle.tapa_drive.specs.Answer.{IsAsked}
 use Rattle.tapa_drive.specs.BuiltRuns.{values_in, network_in, written_to, ShowsProgram, CircuitsShowTheirProgram}
+use Rattle.tapa_words.specs.declared.command.CosimAim.TheVariants.{Report}
 use Rattle.tapa_drive.specs.Designs.{GivesEnvironment, HasSimulated}
 
 mapped : {A B : Type 0} (f : A → B) (o : Option A) (y : B) → option_map f o ≡ Some y → (x : A) × (o ≡ Some x) × (f x ≡ y)
@@ -50,10 +50,10 @@ abbrev name_of : Option Memory → List ℕ
 name_of None = []
 name_of (Some o) = o.name
 
-module _ (program : Program) (design : DesignTree) (circuit : IsCircuitOf program [] design) (env : Environment) (fits : FitsShape env (shape_of (top_tree program []))) (nets : ℕ → Path → Cycle)
-    (runs : RunsIn design.modules (top_tree program []) env nets) (limit : ℕ) (at : Option ℕ) (done : IsDoneAt (λ n. nets n []) limit at) where
+module _ (program : Program) (design : DesignTree) (circuit : IsCircuitOf program [] design) (env : Environment) (fits : FitsShape env (shape_of circuit.top)) (nets : ℕ → Path → Cycle)
+    (runs : RunsIn design.modules circuit.top env nets) (limit : ℕ) (at : Option ℕ) (done : IsDoneAt (λ n. nets n []) limit at) where
   abbrev root : ModuleTree
-  root = top_tree program []
+  root = circuit.top
 
   abbrev net : Network
   net = network_in program env
@@ -162,8 +162,7 @@ module _ (program : Program) (design : DesignTree) (circuit : IsCircuitOf progra
 -- data that give a circuit an environment give its program the values in it
 gives_values : (program : Program) (design : DesignTree) (circuit : IsCircuitOf program [] design) (bytes : List ℕ) (env : Environment) → GivesEnvironment design bytes env → GivesValues program bytes (values_in env)
 gives_values program design circuit bytes env g =
-    let both : Some g.is_shape.top ≡ Some (top_tree program []) = sym g.is_shape.is_top ∙ circuit.is_top in
-    let same : g.is_shape.top ≡ top_tree program [] = cc in
+    let same : g.is_shape.top ≡ circuit.top = same_Some g.is_shape.top circuit.top (sym g.is_shape.is_top ∙ circuit.is_top) in
     record {
       shape = g.shape;
       is_shape = record {
@@ -191,11 +190,11 @@ module _ (source top told bytes : List ℕ) (limit : ℕ) (at : Option ℕ) (rep
   abbrev design : DesignTree
   design = h.is.design
 
-  of_design : (env : Environment) → GivesEnvironment design bytes env → (is : IsSimulated design env limit at report) → is.top ≡ top_tree program [] → ShowsProgram source top bytes limit at report
+  of_design : (env : Environment) → GivesEnvironment design bytes env → (is : IsSimulated design env limit at report) → is.top ≡ h.is.circuit.top → ShowsProgram source top bytes limit at report
   of_design env gives is same =
       let circuit = h.is.circuit in
-      let fits = gives.fits (top_tree program []) circuit.is_top in
-      let runs : RunsIn design.modules (top_tree program []) env is.nets = subst (λ (m : ModuleTree). RunsIn design.modules m env is.nets) same is.run.runs_in in
+      let fits = gives.fits circuit.top circuit.is_top in
+      let runs : RunsIn design.modules circuit.top env is.nets = subst (λ (m : ModuleTree). RunsIn design.modules m env is.nets) same is.run.runs_in in
       let run : ℕ → Cycle = λ n. is.nets n [] in
       record {
         program = program;
@@ -210,14 +209,12 @@ module _ (source top told bytes : List ℕ) (limit : ℕ) (at : Option ℕ) (rep
         in_time = in_time program design circuit env fits is.nets runs limit at is.done;
       }
 
-  shows : HasSimulated told bytes limit at report → ShowsProgram source top bytes limit at report
+  shows : HasSimulated Report told bytes limit at report → ShowsProgram source top bytes limit at report
   shows s =
       let same : s.design ≡ design = design_is program told h.is s.design s.means.spelled s.means.legal in
       let gives : GivesEnvironment design bytes s.env = subst (λ (d : DesignTree). GivesEnvironment d bytes s.env) same s.gives in
       let is : IsSimulated design s.env limit at report = subst (λ (d : DesignTree). IsSimulated d s.env limit at report) same s.is in
-      let both : Some is.top ≡ Some (top_tree program []) = sym is.is_top ∙ h.is.circuit.is_top in
-      let one : is.top ≡ top_tree program [] = cc in
-      of_design s.env gives is one
+      of_design s.env gives is (same_Some is.top h.is.circuit.top (sym is.is_top ∙ h.is.circuit.is_top))
 
 pub circuits_show_their_program : CircuitsShowTheirProgram
 circuits_show_their_program source top told bytes limit at report h s = shows source top told bytes limit at report h s

@@ -4,11 +4,11 @@ use Rattle.tapa_files.specs.Outside.{Files}
 use Rattle.tapa_syntax.specs.declared.program.Program.{Program}
 use Rattle.tapa_words.specs.Words.{Command, Asks}
 use Rattle.tapa_words.specs.Parts.{OfCommand, file_in}
-use Rattle.command_source.specs.Files.{OfFile, OfSource, source_limit}
+use Rattle.command_source.specs.Files.{OfSource, source_limit}
 use Rattle.command_source.specs.Found.{IsNotTaken}
 use Rattle.command_source.specs.Meaning.{refusal_of}
 use Rattle.command_source.specs.Outside.{Outside, Written, outside}
-use Rattle.command_source.specs.Refusal.{Refusal, Usage, Read, Write, TooLong, Source, Data, Ticks, Stopped, Device, TooManyPlans, NoPlan, NoRoom, NoHalving, Verilog, DesignData, Undone, Memory}
+use Rattle.command_source.specs.Refusal.{Refusal, Usage, Read, Write, TooLong, Source, Data, Ticks, Stopped, Device, TooManyPlans, NoPlan, NoRoom, NoHalving, Verilog, DesignData, Undone, Dump, Memory}
 use Rattle.command_source.specs.Source.{IsProgramOf}
 use Rattle.command_source.specs.declared.refusal.Refusal.{Refusal as CodeRefusal}
 use Rattle.command_source.proofs.OfFiles.{of_file_also}
@@ -50,6 +50,7 @@ module _ (words : List (List ℕ)) (files : Option Files) (command : Command) (a
   not_found_cause files_new reads_new new (Verilog file fault) h = (command, asked, (first file h.0, h.1))
   not_found_cause files_new reads_new new (DesignData file fault) h = absurd h
   not_found_cause files_new reads_new new (Undone most) h = absurd h
+  not_found_cause files_new reads_new new (Dump file fault) h = absurd h
   not_found_cause files_new reads_new new Memory h = tt
 
   not_found_leaves : (files_new : Option Files) (reads_new : List ℕ → ℕ) (r : Refusal) → IsNotTaken files reads_old reads_new source (most_in command) (IsRefusedIn command) (IsFaultyIn command) r → Leaves words before (outside files_new reads_new old told) r
@@ -69,6 +70,7 @@ module _ (words : List (List ℕ)) (files : Option Files) (command : Command) (a
   not_found_leaves files_new reads_new (Verilog file fault) h = refl
   not_found_leaves files_new reads_new (DesignData file fault) h = absurd h
   not_found_leaves files_new reads_new (Undone most) h = absurd h
+  not_found_leaves files_new reads_new (Dump file fault) h = absurd h
   not_found_leaves files_new reads_new Memory h = inl refl
 
   abbrev WasReached : List ℕ → Type 0

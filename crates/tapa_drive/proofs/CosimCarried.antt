@@ -3,7 +3,7 @@ use Rattle.std.proofs.Common.{◌≡◌, ◌≢◌, ◌≤◌, ℕ, List, [], Op
 use Rattle.std.proofs.lemmas.List.{append-nil}
 use Rattle.tapa_files.specs.Outside.{Files, Rose, AppendsPart}
 use Rattle.tapa_words.specs.Words.{Command, Cosim, Asks}
-use Rattle.tapa_words.specs.declared.command.CosimAim.TheVariants.{Report}
+use Rattle.tapa_words.specs.declared.command.CosimAim.{CosimAim}
 use Rattle.vlog_tree.specs.Environment.{Environment}
 use Rattle.vlog_design.specs.Designs.{DesignTree}
 use Rattle.sim_report.specs.Ending.{EndsSo, HasFront, HasPart}
@@ -11,21 +11,21 @@ use Rattle.sim_report.specs.declared.run.DesignEnd.TheVariants as design_end
 use Rattle.command_source.specs.Files.{OfFile, OfData, verilog_limit}
 use Rattle.command_source.specs.Meaning.{refusal_of}
 use Rattle.command_source.specs.Outside.{Outside, Written, outside}
-use Rattle.command_source.specs.Refusal.{Refusal, Usage, Read, Write, TooLong, Source, Data, Ticks, Stopped, Device, TooManyPlans, NoPlan, NoRoom, NoHalving, Verilog, DesignData, Undone, Memory, DataFault}
+use Rattle.command_source.specs.Refusal.{Refusal, Usage, Read, Write, TooLong, Source, Data, Ticks, Stopped, Device, TooManyPlans, NoPlan, NoRoom, NoHalving, Verilog, DesignData, Undone, Dump, Memory, DataFault}
 use Rattle.command_source.specs.declared.refusal.Refusal.{Refusal as CodeRefusal}
 use Rattle.command_source.specs.declared.refusal.Refusal.TheVariants as code
 use Rattle.command_source.proofs.OfFiles.{of_file_also}
 use Rattle.tapa_drive.specs.Answer.{OfDesignTexts, HasCause, HasFrontOf, HasPartOf, Leaves, ReadsAsked}
 use Rattle.tapa_drive.specs.Carried.{IsCarriedOut}
-use Rattle.tapa_drive.specs.Designs.{IsDesignOf, HasDesign, GivesEnvironment, HasDesignFault, HasBadDesignData, HasSimulated, HasCosimmed, HasUndone}
+use Rattle.tapa_drive.specs.Designs.{IsDesignOf, HasDesign, GivesEnvironment, HasDesignFault, HasBadDesignData, IsToldFor, HasSimulated, HasCosimmed, HasUndone}
 use Rattle.tapa_drive.specs.Found.{IsNotSurrounded}
 use Rattle.tapa_drive.proofs.Carried as carried
 use Rattle.tapa_drive.proofs.Counts.{rose_since, later_all}
 use Rattle.tapa_drive.proofs.OfFiles.{of_text_both}
 
-module _ (words : List (List ℕ)) (files : Option Files) (name : List ℕ) (named : Option (List ℕ)) (limit : ℕ) (asked : Asks words (Cosim name named limit Report)) (reads_old : List ℕ → ℕ) (old errors told : Written) (files_mid : Option Files) (reads_mid : List ℕ → ℕ) (same_mid : files_mid ≡ files) (later_mid : reads_old name ≤ reads_mid name) (others_mid : (other : List ℕ) → other ≢ name → reads_mid other ≡ reads_old other) (design : DesignTree) (means : OfFile files verilog_limit name (λ text. IsDesignOf text design)) (files_new : Option Files) (reads_new : List ℕ → ℕ) (same_new : files_new ≡ files_mid) (others_new : (other : List ℕ) → named ≢ Some other → reads_new other ≡ reads_mid other) where
+module _ (words : List (List ℕ)) (files : Option Files) (name : List ℕ) (named : Option (List ℕ)) (limit : ℕ) (aim : CosimAim) (asked : Asks words (Cosim name named limit aim)) (reads_old : List ℕ → ℕ) (old errors told : Written) (files_mid : Option Files) (reads_mid : List ℕ → ℕ) (same_mid : files_mid ≡ files) (later_mid : reads_old name ≤ reads_mid name) (others_mid : (other : List ℕ) → other ≢ name → reads_mid other ≡ reads_old other) (design : DesignTree) (means : OfFile files verilog_limit name (λ text. IsDesignOf text design)) (files_new : Option Files) (reads_new : List ℕ → ℕ) (same_new : files_new ≡ files_mid) (others_new : (other : List ℕ) → named ≢ Some other → reads_new other ≡ reads_mid other) where
   abbrev command : Command
-  command = Cosim name named limit Report
+  command = Cosim name named limit aim
 
   abbrev before : Outside
   before = outside files reads_old old errors
@@ -57,6 +57,7 @@ module _ (words : List (List ℕ)) (files : Option Files) (name : List ℕ) (nam
   not_surrounded_cause (Verilog file fault) h = absurd h
   not_surrounded_cause (DesignData file fault) h = (command, asked, (h.0, bad_data fault h.1))
   not_surrounded_cause (Undone most) h = absurd h
+  not_surrounded_cause (Dump file fault) h = absurd h
   not_surrounded_cause Memory h = tt
 
   not_surrounded_leaves : (r : Refusal) → IsNotSurrounded files reads_mid reads_new design named r → Leaves words before (outside files_new reads_new old told) r
@@ -76,6 +77,7 @@ module _ (words : List (List ℕ)) (files : Option Files) (name : List ℕ) (nam
   not_surrounded_leaves (Verilog file fault) h = absurd h
   not_surrounded_leaves (DesignData file fault) h = refl
   not_surrounded_leaves (Undone most) h = absurd h
+  not_surrounded_leaves (Dump file fault) h = absurd h
   not_surrounded_leaves Memory h = inl refl
 
   pub not_surrounded : {A : Type 0} (r : CodeRefusal) → IsNotSurrounded files_mid reads_mid reads_new design named (refusal_of r) → IsCarriedOut {A = A} words before (outside files_new reads_new old told) (Err r)
@@ -99,12 +101,12 @@ module _ (words : List (List ℕ)) (files : Option Files) (name : List ℕ) (nam
     of_asked : (R : List ℕ → List ℕ → Type 0) → ((text bytes : List ℕ) → IsDesignOf text design → GivesEnvironment design bytes env → R text bytes) → OfDesignTexts files name named R
     of_asked R f = of_text_both files name named (λ text. IsDesignOf text design) (λ bytes. GivesEnvironment design bytes env) R f means gives
 
-    pub ended : {A : Type 0} (x : A) → EndsSo design env limit old.bytes new.bytes design_end.Done → IsCarriedOut words before after (Ok x)
+    pub ended : {A : Type 0} (x : A) → EndsSo (IsToldFor aim) design env limit old.bytes new.bytes design_end.Done → IsCarriedOut words before after (Ok x)
     ended x e = record {
       done = inr (inr (inl (
         command,
         asked,
-        of_asked (λ text bytes. HasCosimmed text bytes limit old.bytes new.bytes)
+        of_asked (λ text bytes. HasCosimmed aim text bytes limit old.bytes new.bytes)
             (λ text bytes d g. record { at = e.0; report = e.1; simulated = record { design = design; env = env; means = d; gives = g; is = e.2 }; shown = e.3 }),
       )));
       cause = tt;
@@ -112,19 +114,19 @@ module _ (words : List (List ℕ)) (files : Option Files) (name : List ℕ) (nam
       reads = reads_both new;
     }
 
-    has_front : HasFront design env limit old.bytes new.bytes → HasFrontOf words before after
+    has_front : HasFront (IsToldFor aim) design env limit old.bytes new.bytes → HasFrontOf words before after
     has_front w =
         inr (inr (inl (
           command,
           asked,
-          of_asked (λ text bytes. (done_at : Option ℕ) × (report : List ℕ) × HasSimulated text bytes limit done_at report × AppendsPart old.bytes new.bytes report)
+          of_asked (λ text bytes. (done_at : Option ℕ) × (report : List ℕ) × HasSimulated aim text bytes limit done_at report × AppendsPart old.bytes new.bytes report)
               (λ text bytes d g. (w.0, w.1, record { design = design; env = env; means = d; gives = g; is = w.2 }, w.3)),
         )))
 
-    has_part : HasPart design env limit old.bytes new.bytes → HasPartOf words before after
+    has_part : HasPart (IsToldFor aim) design env limit old.bytes new.bytes → HasPartOf words before after
     has_part h = elim h [ inl same ↦ inl same | inr w ↦ inr (has_front w) ]
 
-    pub unfinished : {A : Type 0} → EndsSo design env limit old.bytes new.bytes design_end.Running → IsCarriedOut {A = A} words before after (Err (code.Undone limit))
+    pub unfinished : {A : Type 0} → EndsSo (IsToldFor aim) design env limit old.bytes new.bytes design_end.Running → IsCarriedOut {A = A} words before after (Err (code.Undone limit))
     unfinished e = record {
       done = tt;
       cause = (
@@ -132,7 +134,7 @@ module _ (words : List (List ℕ)) (files : Option Files) (name : List ℕ) (nam
         asked,
         (
           refl,
-          of_asked (λ text bytes. HasUndone text bytes limit old.bytes new.bytes)
+          of_asked (λ text bytes. HasUndone aim text bytes limit old.bytes new.bytes)
               (λ text bytes d g. record { report = e.0; simulated = record { design = design; env = env; means = d; gives = g; is = e.1 }; shown = e.2 }),
         ),
       );
@@ -140,8 +142,8 @@ module _ (words : List (List ℕ)) (files : Option Files) (name : List ℕ) (nam
       reads = reads_both new;
     }
 
-    pub unwritten : {A : Type 0} → Rose old.failed new.failed → HasFront design env limit old.bytes new.bytes → IsCarriedOut {A = A} words before after (Err code.Write)
+    pub unwritten : {A : Type 0} → Rose old.failed new.failed → HasFront (IsToldFor aim) design env limit old.bytes new.bytes → IsCarriedOut {A = A} words before after (Err code.Write)
     unwritten rose h = record { done = tt; cause = rose; leaves = has_front h; reads = reads_both new }
 
-    pub no_memory : {A : Type 0} → HasPart design env limit old.bytes new.bytes → IsCarriedOut {A = A} words before after (Err code.Memory)
+    pub no_memory : {A : Type 0} → HasPart (IsToldFor aim) design env limit old.bytes new.bytes → IsCarriedOut {A = A} words before after (Err code.Memory)
     no_memory h = record { done = tt; cause = tt; leaves = has_part h; reads = reads_both new }

@@ -4,25 +4,25 @@ use Rattle.tapa_files.specs.Outside.{Files, file_bytes, Rose}
 use Rattle.tapa_files.specs.Take.{IsLongerThan}
 use Rattle.tapa_words.specs.declared.command.PlanMode.{PlanMode}
 use Rattle.tapa_words.specs.Words.{Command, Cosim, Asks}
-use Rattle.tapa_words.specs.Parts.{OnRun, OnBuild, OnCosim, IsToCome, OnPlan}
+use Rattle.tapa_words.specs.Parts.{OnRun, OnBuild, OnCosim, OnVcd, OnPlan}
 use Rattle.tapa_words.specs.declared.command.CosimAim.{CosimAim}
-use Rattle.tapa_words.specs.declared.command.CosimAim.TheVariants.{Report}
 use Rattle.tapa_words.specs.declared.command.PlanAim.{PlanAim}
 use Rattle.command_source.specs.Files.{OfFile, OfData, data_limit, verilog_limit, no_data, shown_name}
 use Rattle.command_source.specs.Outside.{Outside, Written, outside}
-use Rattle.command_source.specs.Refusal.{Refusal, Usage, Read, Write, TooLong, Source, Data, Ticks, Stopped, Device, TooManyPlans, NoPlan, NoRoom, NoHalving, Verilog, DesignData, Undone, Memory}
+use Rattle.command_source.specs.Refusal.{Refusal, Usage, Read, Write, TooLong, Source, Data, Ticks, Stopped, Device, TooManyPlans, NoPlan, NoRoom, NoHalving, Verilog, DesignData, Undone, Dump, Memory}
 use Rattle.command_source.specs.Told.{IsTold, IsToldAs}
 use Rattle.command_source.specs.declared.status.Status.{Status}
 use Rattle.command_source.specs.declared.status.Status.TheVariants as status
-use Rattle.tapa_drive.specs.Answer.{OfRun, OfBuild, OfPlan, OfCosim, OfReport, OfDesignTexts, IsFirst, most_in, IsTaken, IsRefusedIn, IsFaultyIn, IsReached, IsTooLong, IsDone, HasCause, Leaves, IsAnswer}
+use Rattle.tapa_drive.specs.Answer.{OfRun, OfBuild, OfPlan, OfCosim, OfDesignTexts, IsFirst, most_in, IsTaken, IsRefusedIn, IsFaultyIn, IsReached, IsTooLong, IsDone, HasCause, Leaves, IsAnswer}
 use Rattle.tapa_drive.specs.CosimDecided.{DoneIn, StillRunning, Misgiven, Overlong, Refused, Lengthy, TellsCosimOf, TellsCosim}
 use Rattle.tapa_drive.specs.Decided.{Bytes, TooMany, IsGiven, IsRefusedWith, NothingFails}
 use Rattle.tapa_drive.specs.Designs.{HasDesign, IsRefusedText, HasBadDesignData, HasCosimmed, HasUndone}
+use Rattle.tapa_drive.specs.Vcds.{OfVcd}
 use Rattle.tapa_drive.proofs.Decided.{asked_of}
 
 -- a simulation that was asked for is the one that the words ask for
-asked_cosim : (words : List (List ℕ)) (name : List ℕ) (named : Option (List ℕ)) (limit : ℕ) → Asks words (Cosim name named limit Report) → (P : List ℕ → Option (List ℕ) → ℕ → CosimAim → Type 0) → OfCosim words P → P name named limit Report
-asked_cosim words name named limit asked P h = asked_of words (Cosim name named limit Report) asked (OnCosim P) h
+asked_cosim : (words : List (List ℕ)) (name : List ℕ) (named : Option (List ℕ)) (limit : ℕ) (aim : CosimAim) → Asks words (Cosim name named limit aim) → (P : List ℕ → Option (List ℕ) → ℕ → CosimAim → Type 0) → OfCosim words P → P name named limit aim
+asked_cosim words name named limit aim asked P h = asked_of words (Cosim name named limit aim) asked (OnCosim P) h
 
 module _ (files : Files) where
   -- the bytes of the data of which something holds
@@ -37,16 +37,15 @@ module _ (files : Files) where
   of_told_file : (name : List ℕ) (P : List ℕ → Type 0) → OfFile (Some files) verilog_limit name P → (length (file_bytes files name) ≤ verilog_limit) × P (file_bytes files name)
   of_told_file name P (text, is, few, h) = (subst (λ (l : List ℕ). length l ≤ verilog_limit) is few, subst P is h)
 
-module _ (words : List (List ℕ)) (files : Files) (reads : List ℕ → ℕ) (out errors : Written) (after : Outside) (name : List ℕ) (named : Option (List ℕ)) (limit : ℕ) (asked : Asks words (Cosim name named limit Report)) (still : NothingFails name named (outside (Some files) reads out errors) after) where
+module _ (words : List (List ℕ)) (files : Files) (reads : List ℕ → ℕ) (out errors : Written) (after : Outside) (name : List ℕ) (named : Option (List ℕ)) (limit : ℕ) (aim : CosimAim) (asked : Asks words (Cosim name named limit aim)) (still : NothingFails name named (outside (Some files) reads out errors) after) where
   abbrev before : Outside
   before = outside (Some files) reads out errors
 
   abbrev command : Command
-  command = Cosim name named limit Report
+  command = Cosim name named limit aim
 
   not_asked : HasCause words before after Usage → ⊥
-  not_asked (inl none) = none command asked
-  not_asked (inr h) = asked_of words command asked IsToCome h
+  not_asked none = none command asked
 
   -- no run, no plan and no circuit was asked for
   not_run : {P : List ℕ → List ℕ → Option (List ℕ) → ℕ → Type 0} → OfRun words P → ⊥
@@ -57,6 +56,9 @@ module _ (words : List (List ℕ)) (files : Files) (reads : List ℕ → ℕ) (o
 
   not_built : {P : List ℕ → List ℕ → Type 0} → OfBuild words P → ⊥
   not_built {P = P} h = asked_of words command asked (OnBuild P) h
+
+  not_vcd : {P : List ℕ → List ℕ → Type 0} → OfVcd words P → ⊥
+  not_vcd {P = P} h = asked_of words command asked (OnVcd P) h
 
   -- no read failed
   no_read : (file : List ℕ) → HasCause words before after (Read file) → ⊥
@@ -73,7 +75,7 @@ module _ (words : List (List ℕ)) (files : Files) (reads : List ℕ → ℕ) (o
 
   module _ (result : Status) where
     abbrev Meets : Type 0
-    Meets = TellsCosimOf (Some files) name named limit result before after ⊎ (result ≡ status.Memory)
+    Meets = TellsCosimOf (Some files) name named limit aim result before after ⊎ (result ≡ status.Memory)
 
     -- what holds of the text and the data
     of_texts : (P : List ℕ → List ℕ → Type 0) → OfDesignTexts (Some files) name named P → (bytes : List ℕ) × IsGiven files named (Bytes bytes) × (length (file_bytes files name) ≤ verilog_limit) × P (file_bytes files name) bytes
@@ -115,13 +117,14 @@ module _ (words : List (List ℕ)) (files : Files) (reads : List ℕ → ℕ) (o
         let t = of_told_file files name (λ text. IsRefusedText text fault) (subst (λ (f : List ℕ). OfFile (Some files) verilog_limit f (λ text. IsRefusedText text fault)) (sym c.0) c.1) in
         inl (Refused fault, t, refused_so (Verilog file fault) (Verilog name fault) result (ap (λ (f : List ℕ). Verilog f fault) (sym c.0)) told leaves)
     of_reason (DesignData file fault) h leaves told =
-        let c = asked_cosim words name named limit asked (λ s d n a. (shown_name d ≡ file) × OfDesignTexts (Some files) s d (λ text bytes. HasBadDesignData text bytes fault)) h in
+        let c = asked_cosim words name named limit aim asked (λ s d n a. (shown_name d ≡ file) × OfDesignTexts (Some files) s d (λ text bytes. HasBadDesignData text bytes fault)) h in
         let t = of_texts (λ text bytes. HasBadDesignData text bytes fault) c.1 in
         inl (Misgiven fault, (t.2, (Bytes t.0, t.1, t.3)), refused_so (DesignData file fault) (DesignData (shown_name named) fault) result (ap (λ (f : List ℕ). DesignData f fault) (sym c.0)) told leaves)
     of_reason (Undone most) h leaves told =
-        let c = asked_cosim words name named limit asked (λ s d n a. OfReport a ((most ≡ n) × OfDesignTexts (Some files) s d (λ text bytes. HasUndone text bytes n out.bytes after.out.bytes))) h in
-        let t = of_texts (λ text bytes. HasUndone text bytes limit out.bytes after.out.bytes) c.1 in
+        let c = asked_cosim words name named limit aim asked (λ s d n a. (most ≡ n) × OfDesignTexts (Some files) s d (λ text bytes. HasUndone a text bytes n out.bytes after.out.bytes)) h in
+        let t = of_texts (λ text bytes. HasUndone aim text bytes limit out.bytes after.out.bytes) c.1 in
         inl (StillRunning t.3.report, (t.2, (Bytes t.0, t.1, t.3.simulated)), (subst (λ (n : ℕ). IsTold (Undone n) result errors after.err) c.0 told, t.3.shown))
+    of_reason (Dump file fault) h leaves told = absurd (not_vcd h)
     of_reason Memory h leaves told = inr told.0
 
     of_told : (why : Refusal) → IsToldAs why result errors after.err → HasCause words before after why → Leaves words before after why → Meets
@@ -130,16 +133,17 @@ module _ (words : List (List ℕ)) (files : Files) (reads : List ℕ → ℕ) (o
     of_ok : IsDone words before after → result ≡ status.Ok → after.err.bytes ≡ errors.bytes → Meets
     of_ok (inl r) is same = absurd (not_run r)
     of_ok (inr (inl p)) is same = absurd (not_planned p)
-    of_ok (inr (inr (inr b))) is same = absurd (not_built b)
+    of_ok (inr (inr (inr (inl b)))) is same = absurd (not_built b)
+    of_ok (inr (inr (inr (inr v)))) is same = absurd (not_vcd v)
     of_ok (inr (inr (inl h))) is same =
-        let c = asked_cosim words name named limit asked (λ s d n a. OfReport a (OfDesignTexts (Some files) s d (λ text bytes. HasCosimmed text bytes n out.bytes after.out.bytes))) h in
-        let t = of_texts (λ text bytes. HasCosimmed text bytes limit out.bytes after.out.bytes) c in
+        let c = asked_cosim words name named limit aim asked (λ s d n a. OfDesignTexts (Some files) s d (λ text bytes. HasCosimmed a text bytes n out.bytes after.out.bytes)) h in
+        let t = of_texts (λ text bytes. HasCosimmed aim text bytes limit out.bytes after.out.bytes) c in
         inl (DoneIn t.3.at t.3.report, (t.2, (Bytes t.0, t.1, t.3.simulated)), (is, t.3.shown, same))
 
-pub cosim_decided : (words : List (List ℕ)) (files : Option Files) (reads : List ℕ → ℕ) (out errors : Written) (after : Outside) (name : List ℕ) (named : Option (List ℕ)) (limit : ℕ) → Asks words (Cosim name named limit Report) → NothingFails name named (outside files reads out errors) after → (result : Status) → IsAnswer words (outside files reads out errors) after result → (result ≡ status.Ok → after.err.bytes ≡ errors.bytes) → TellsCosim name named limit result (outside files reads out errors) after ⊎ (result ≡ status.Memory)
-cosim_decided words None reads out errors after name named limit asked still result h same = inl tt
-cosim_decided words (Some files) reads out errors after name named limit asked still status.Ok h same =
-    of_ok words files reads out errors after name named limit asked still status.Ok (h.ok refl) refl (same refl)
-cosim_decided words (Some files) reads out errors after name named limit asked still result h same =
+pub cosim_decided : (words : List (List ℕ)) (files : Option Files) (reads : List ℕ → ℕ) (out errors : Written) (after : Outside) (name : List ℕ) (named : Option (List ℕ)) (limit : ℕ) (aim : CosimAim) → Asks words (Cosim name named limit aim) → NothingFails name named (outside files reads out errors) after → (result : Status) → IsAnswer words (outside files reads out errors) after result → (result ≡ status.Ok → after.err.bytes ≡ errors.bytes) → TellsCosim name named limit aim result (outside files reads out errors) after ⊎ (result ≡ status.Memory)
+cosim_decided words None reads out errors after name named limit aim asked still result h same = inl tt
+cosim_decided words (Some files) reads out errors after name named limit aim asked still status.Ok h same =
+    of_ok words files reads out errors after name named limit aim asked still status.Ok (h.ok refl) refl (same refl)
+cosim_decided words (Some files) reads out errors after name named limit aim asked still result h same =
     let t = h.told (λ e. cc) in
-    of_told words files reads out errors after name named limit asked still result t.0 t.1 t.2 t.3
+    of_told words files reads out errors after name named limit aim asked still result t.0 t.1 t.2 t.3

@@ -4,18 +4,19 @@ use Rattle.tapa_files.specs.Outside.{Files, file_bytes, Rose}
 use Rattle.tapa_files.specs.Take.{IsLongerThan}
 use Rattle.tapa_words.specs.declared.command.PlanMode.{PlanMode}
 use Rattle.tapa_words.specs.Words.{Command, Run, Asks, AskNothing}
-use Rattle.tapa_words.specs.Parts.{OfCommand, OnRun, OnBuild, OnCosim, IsToCome, OnPlan}
+use Rattle.tapa_words.specs.Parts.{OfCommand, OnRun, OnBuild, OnCosim, OnVcd, OnPlan}
 use Rattle.tapa_words.specs.declared.command.CosimAim.{CosimAim}
 use Rattle.tapa_words.specs.declared.command.PlanAim.{PlanAim}
 use Rattle.tapa_words.proofs.Asked.{asks_one}
 use Rattle.run_program.specs.Laws as run
 use Rattle.command_source.specs.Files.{OfFile, OfSource, OfData, source_limit, data_limit, shown_name}
 use Rattle.command_source.specs.Outside.{Outside, Written, outside}
-use Rattle.command_source.specs.Refusal.{Refusal, Usage, Read, Write, TooLong, Source, Data, Ticks, Stopped, Device, TooManyPlans, NoPlan, NoRoom, NoHalving, Verilog, DesignData, Undone, Memory, VerilogFault}
+use Rattle.command_source.specs.Refusal.{Refusal, Usage, Read, Write, TooLong, Source, Data, Ticks, Stopped, Device, TooManyPlans, NoPlan, NoRoom, NoHalving, Verilog, DesignData, Undone, Dump, Memory, VerilogFault}
 use Rattle.command_source.specs.Source.{IsRefusedSource}
 use Rattle.command_source.specs.Told.{IsTold, IsToldAs}
 use Rattle.command_source.specs.declared.status.Status.{Status}
 use Rattle.command_source.specs.declared.status.Status.TheVariants as status
+use Rattle.tapa_drive.specs.Vcds.{OfVcd}
 use Rattle.tapa_drive.specs.Answer.{OfRun, OfBuild, OfPlan, OfTexts, OfCosim, IsFirst, most_in, HasProgram, IsRefusedIn, IsFaultyIn, HasBadData, HasDone, HasStopped, HasLimit, IsReached, IsTooLong, IsDone, HasCause, Leaves, IsAnswer}
 use Rattle.tapa_drive.specs.Decided.{SourceMeaning, Ran, Misgiven, Overlong, Refused, Given, Bytes, TooMany, IsGiven, Means, IsRefusedWith, Tells, WritesAll, NothingFails, Expects, IsLengthy}
 use Rattle.tapa_drive.proofs.OneMeaning.{means_one}
@@ -60,8 +61,7 @@ module _ (words : List (List ℕ)) (files : Files) (reads : List ℕ → ℕ) (o
   command = Run source top named workers limit
 
   not_asked : HasCause words before after Usage → ⊥
-  not_asked (inl none) = none command asked
-  not_asked (inr h) = asked_of words command asked IsToCome h
+  not_asked none = none command asked
 
   -- no plan, no circuit and no simulation was asked for
   not_planned : {P : List ℕ → List ℕ → List ℕ → PlanMode → PlanAim → Type 0} → OfPlan words P → ⊥
@@ -72,6 +72,9 @@ module _ (words : List (List ℕ)) (files : Files) (reads : List ℕ → ℕ) (o
 
   not_cosim : {P : List ℕ → Option (List ℕ) → ℕ → CosimAim → Type 0} → OfCosim words P → ⊥
   not_cosim {P = P} h = asked_of words command asked (OnCosim P) h
+
+  not_vcd : {P : List ℕ → List ℕ → Type 0} → OfVcd words P → ⊥
+  not_vcd {P = P} h = asked_of words command asked (OnVcd P) h
 
   -- no Verilog text was read
   not_faulty : (file : List ℕ) (fault : VerilogFault) → HasCause words before after (Verilog file fault) → ⊥
@@ -150,6 +153,7 @@ module _ (words : List (List ℕ)) (files : Files) (reads : List ℕ → ℕ) (o
     of_reason (Verilog file fault) h leaves told = absurd (not_faulty file fault h)
     of_reason (DesignData file fault) h leaves told = absurd (not_cosim h)
     of_reason (Undone most) h leaves told = absurd (not_cosim h)
+    of_reason (Dump file fault) h leaves told = absurd (not_vcd h)
     of_reason Memory h leaves told = inr told.0
 
     of_told : (why : Refusal) → IsToldAs why result errors after.err → HasCause words before after why → Leaves words before after why → Meets expected
@@ -158,7 +162,8 @@ module _ (words : List (List ℕ)) (files : Files) (reads : List ℕ → ℕ) (o
     of_ok : IsDone words before after → result ≡ status.Ok → after.err.bytes ≡ errors.bytes → Meets expected
     of_ok (inr (inl p)) is same = absurd (not_planned p)
     of_ok (inr (inr (inl p))) is same = absurd (not_cosim p)
-    of_ok (inr (inr (inr b))) is same = absurd (not_built b)
+    of_ok (inr (inr (inr (inl b)))) is same = absurd (not_built b)
+    of_ok (inr (inr (inr (inr v)))) is same = absurd (not_vcd v)
     of_ok (inl h) is same =
         let c = asked_run words source top named workers limit asked (λ s t d n. OfTexts (Some files) s d (λ text bytes. HasDone text t bytes n out.bytes after.out.bytes)) h in
         let (bytes, found, r) = of_given files named given (λ bytes. HasDone text top bytes limit out.bytes after.out.bytes) is_given (of_source files source (λ t. OfData (Some files) named (λ bytes. HasDone t top bytes limit out.bytes after.out.bytes)) c) in
@@ -198,6 +203,7 @@ module _ (words : List (List ℕ)) (files : Files) (reads : List ℕ → ℕ) (o
     too_long result (Verilog file fault) h leaves told = absurd (not_faulty file fault h)
     too_long result (DesignData file fault) h leaves told = absurd (not_cosim h)
     too_long result (Undone most) h leaves told = absurd (not_cosim h)
+    too_long result (Dump file fault) h leaves told = absurd (not_vcd h)
     too_long result Memory h leaves told = inr told.0
 
     of_long : (result : Status) (why : Refusal) → IsToldAs why result errors after.err → HasCause words before after why → Leaves words before after why → IsLong result
@@ -206,7 +212,8 @@ module _ (words : List (List ℕ)) (files : Files) (reads : List ℕ → ℕ) (o
     no_run : IsDone words before after → ⊥
     no_run (inr (inl p)) = not_planned p
     no_run (inr (inr (inl p))) = not_cosim p
-    no_run (inr (inr (inr b))) = not_built b
+    no_run (inr (inr (inr (inl b)))) = not_built b
+    no_run (inr (inr (inr (inr v)))) = not_vcd v
     no_run (inl h) = not_few (asked_run words source top named workers limit asked (λ s t d n. OfTexts (Some files) s d (λ text bytes. HasDone text t bytes n out.bytes after.out.bytes)) h)
 
 pub lengthy : (words : List (List ℕ)) (files : Option Files) (reads : List ℕ → ℕ) (out errors : Written) (after : Outside) (source top : List ℕ) (named : Option (List ℕ)) (workers limit : ℕ) → Asks words (Run source top named workers limit) → IsLengthy files source → NothingFails source named (outside files reads out errors) after → (result : Status) → IsAnswer words (outside files reads out errors) after result → IsRefusedWith (TooLong source source_limit) result (outside files reads out errors) after ⊎ (result ≡ status.Memory)
@@ -226,7 +233,8 @@ module _ (words : List (List ℕ)) (before after : Outside) (none : AskNothing w
   not_done (inl h) = not_command h
   not_done (inr (inl h)) = not_command h
   not_done (inr (inr (inl h))) = not_command h
-  not_done (inr (inr (inr h))) = not_command h
+  not_done (inr (inr (inr (inl h)))) = not_command h
+  not_done (inr (inr (inr (inr h)))) = not_command h
 
   abbrev IsUsage : Status → Type 0
   IsUsage result = IsRefusedWith Usage result before after ⊎ (result ≡ status.Memory)
@@ -248,6 +256,7 @@ module _ (words : List (List ℕ)) (before after : Outside) (none : AskNothing w
   bad_words result (Verilog file fault) h leaves told = absurd (not_command h)
   bad_words result (DesignData file fault) h leaves told = absurd (not_command h)
   bad_words result (Undone most) h leaves told = absurd (not_command h)
+  bad_words result (Dump file fault) h leaves told = absurd (not_command h)
   bad_words result Memory h leaves told = inr told.0
 
   pub usage : (result : Status) → IsAnswer words before after result → IsUsage result

@@ -11,23 +11,28 @@ use Rattle.run_program.specs.Run.{Values}
 use Rattle.run_program.proofs.OneWay.{runs_alike, one_way, some_way}
 use Rattle.command_source.specs.Inputs.{HasDataFault}
 use Rattle.command_source.specs.Refusal.{DataFault}
-use Rattle.command_source.specs.Source.{IsProgramOf, IsRefusedSource}
+use Rattle.command_source.specs.Source.{IsProgramOfText, IsProgramOf, IsRefusedSource}
 use Rattle.command_source.specs.declared.source.SourceCode.{SourceCode}
 use Rattle.tapa_base.specs.declared.text.Place.{Place}
 use Rattle.command_source.proofs.Given.{one_input, one_fault, not_misgiven}
-use Rattle.command_source.proofs.Sourced.{one_tree, means_nothing}
+use Rattle.command_source.proofs.Sourced.{one_tree, one_written, means_nothing}
 use Rattle.tapa_drive.specs.Answer.{IsAsked}
 use Rattle.tapa_drive.specs.Decided.{SourceMeaning, Ran, Misgiven, Overlong, Refused, Given, Bytes, TooMany, Means}
 use Rattle.tapa_drive.proofs.OneRefusal.{one_refusal}
 
+-- a text in which nothing is to be written out has one program
+text_one_program : (text top : List ℕ) (p q : Program) → IsProgramOfText text top p → IsProgramOfText text top q → flat_program p ≡ flat_program q
+text_one_program text top p q h k =
+    let same = one_tree text h.file k.file h.tree k.tree in
+    h.means ∙ ap (λ (items : List ItemTree). program_of items top) same ∙ sym k.means
+
 module _ (text top : List ℕ) where
   pub one_program : (p q : Program) → IsProgramOf text top p → IsProgramOf text top q → flat_program p ≡ flat_program q
   one_program p q h k =
-      let same = one_tree text h.file k.file h.tree k.tree in
-      h.means ∙ ap (λ (items : List ItemTree). program_of items top) same ∙ sym k.means
+      text_one_program k.out top p q (subst (λ (t : List ℕ). IsProgramOfText t top p) (one_written text h.out k.out h.written k.written) h.means) k.means
 
   pub well : (p : Program) → IsProgramOf text top p → IsWellFormed p
-  well p h = legal_program_well (file_of h.file) top p h.legal h.means
+  well p h = legal_program_well (file_of h.means.file) top p h.means.legal h.means.means
 
   pub asked_once : (bytes : List ℕ) (p q : Program) (v w : Values) → IsAsked text top bytes p v → IsAsked text top bytes q w → v ≡ w
   asked_once bytes p q v w h g = one_input p q (one_program p q h.means g.means) bytes v w h.gives g.gives

@@ -12,14 +12,19 @@ use Rattle.tapa_parse_expression.specs.declared.fault.ParseCode.{ParseCode}
 use Rattle.tapa_parse_expression.specs.declared.fault.ParseCode.TheVariants as parse
 use Rattle.tapa_parse_expression.specs.Readers.{Outcome}
 use Rattle.tapa_parse.specs.Answers.{stopped_at}
+use Rattle.std.specs.Prelude.{Result}
+use Rattle.stream_arrays.specs.declared.fault.ArrayCode.{ArrayCode}
+use Rattle.stream_arrays.specs.declared.fault.ArrayCode.TheVariants as arrays
+use Rattle.stream_arrays.specs.declared.fault.ArrayFault.{ArrayFault}
+use Rattle.stream_arrays.specs.Written.{written_out}
 use Rattle.check_scope.specs.Answers.{IsFirst}
 use Rattle.check_scope.specs.declared.fault.Broken.{Broken}
 use Rattle.stream_check.specs.Programs.{program_faults}
 use Rattle.command_source.specs.declared.source.SourceCode.{SourceCode}
-use Rattle.command_source.specs.declared.source.SourceCode.TheVariants.{L1, L2, L3, L4, P1, P2, Rule}
-use Rattle.command_source.specs.Codes.{lex_code, parse_code}
-use Rattle.command_source.specs.Source.{StopsAt, HasNoTree, BreaksFirst, IsRefusedSource}
-use Rattle.command_source.proofs.Sourced.{one_tree, no_tree}
+use Rattle.command_source.specs.declared.source.SourceCode.TheVariants.{L1, L2, L3, L4, A1, A2, A3, A4, P1, P2, Rule}
+use Rattle.command_source.specs.Codes.{lex_code, array_code, parse_code}
+use Rattle.command_source.specs.Source.{StopsAt, HasNoTree, BreaksFirst, IsRefusedText, HasArrayFault, IsUnwritten}
+use Rattle.command_source.proofs.Sourced.{one_tree, no_tree, one_written, unwritten}
 use Rattle.tapa_drive.specs.OneMeaning.{SourcesHaveOneRefusal}
 
 abbrev ByLexer : List ℕ → Place → SourceCode → Type 0
@@ -34,11 +39,15 @@ ByRule text top place code = (b : Broken) × BreaksFirst text top b × (place �
 abbrev Refusal : List ℕ → List ℕ → Place → SourceCode → Type 0
 Refusal text top place code = ByLexer text place code ⊎ (ByParser text place code ⊎ ByRule text top place code)
 
-refusal : (text top : List ℕ) (place : Place) (code : SourceCode) → IsRefusedSource text top place code → Refusal text top place code
+refusal : (text top : List ℕ) (place : Place) (code : SourceCode) → IsRefusedText text top place code → Refusal text top place code
 refusal text top place L1 h = inl (lex.L1, h, refl)
 refusal text top place L2 h = inl (lex.L2, h, refl)
 refusal text top place L3 h = inl (lex.L3, h, refl)
 refusal text top place L4 h = inl (lex.L4, h, refl)
+refusal text top place A1 h = absurd h
+refusal text top place A2 h = absurd h
+refusal text top place A3 h = absurd h
+refusal text top place A4 h = absurd h
 refusal text top place P1 h = inr (inl (parse.P1, h, refl))
 refusal text top place P2 h = inr (inl (parse.P2, h, refl))
 refusal text top place (Rule code limit) h = inr (inr (record { code = code; place = place; limit = limit }, h, refl, refl))
@@ -85,5 +94,45 @@ module _ (text top : List ℕ) (place there : Place) (code other : SourceCode) w
   one_way (inr (inr (b, h, p, e))) (inr (inl (d, k, f))) = absurd (no_tree text there d h.file k h.tree)
   one_way (inr (inr p)) (inr (inr q)) = by_one_rule p q
 
+-- ---- a source before it is written out
+
+abbrev ByArrays : List ℕ → Place → SourceCode → Type 0
+ByArrays text place code = (c : ArrayCode) × HasArrayFault text place c × (code ≡ array_code c)
+
+abbrev Failure : List ℕ → Place → SourceCode → Type 0
+Failure text place code = ByLexer text place code ⊎ ByArrays text place code
+
+failure : (text : List ℕ) (place : Place) (code : SourceCode) → IsUnwritten text place code → Failure text place code
+failure text place L1 h = inl (lex.L1, h, refl)
+failure text place L2 h = inl (lex.L2, h, refl)
+failure text place L3 h = inl (lex.L3, h, refl)
+failure text place L4 h = inl (lex.L4, h, refl)
+failure text place A1 h = inr (arrays.A1, h, refl)
+failure text place A2 h = inr (arrays.A2, h, refl)
+failure text place A3 h = inr (arrays.A3, h, refl)
+failure text place A4 h = inr (arrays.A4, h, refl)
+failure text place P1 h = absurd h
+failure text place P2 h = absurd h
+failure text place (Rule code limit) h = absurd h
+
+failed_once : (o : Result (List ℕ) ArrayFault) (a b : ArrayFault) → o ≡ Err a → o ≡ Err b → a ≡ b
+failed_once o a b h k = cc
+
+one_failure : (text : List ℕ) (place there : Place) (code other : SourceCode) → Failure text place code → Failure text there other → (place ≡ there) × (code ≡ other)
+one_failure text place there code other (inl (c, h, e)) (inl (d, k, f)) =
+    let same = one_lexical_refusal text c d place there h k in
+    (same.1, e ∙ ap lex_code same.0 ∙ sym f)
+one_failure text place there code other (inl (c, h, e)) (inr (d, k, f)) = absurd (not_both text k.lexemes c place k.are h)
+one_failure text place there code other (inr (c, h, e)) (inl (d, k, f)) = absurd (not_both text h.lexemes d there h.are k)
+one_failure text place there code other (inr (c, h, e)) (inr (d, k, f)) =
+    let seen = subst (λ (l : List Lexeme). written_out text l ≡ Err (record { code = c; place = place })) (one_list text h.lexemes k.lexemes h.are k.are) h.fails in
+    let same = failed_once (written_out text k.lexemes) (record { code = c; place = place }) (record { code = d; place = there }) seen k.fails in
+    (ap (λ (x : ArrayFault). x.place) same, e ∙ ap (λ (x : ArrayFault). array_code x.code) same ∙ sym f)
+
 pub one_refusal : SourcesHaveOneRefusal
-one_refusal text top place there code other h k = one_way text top place there code other (refusal text top place code h) (refusal text top there other k)
+one_refusal text top place there code other (inl h) (inl k) = one_failure text place there code other (failure text place code h) (failure text there other k)
+one_refusal text top place there code other (inl h) (inr (out, w, k)) = absurd (unwritten text out place code h w)
+one_refusal text top place there code other (inr (out, w, h)) (inl k) = absurd (unwritten text out there other k w)
+one_refusal text top place there code other (inr (out, w, h)) (inr (next, v, k)) =
+    let same = one_written text out next w v in
+    one_way next top place there code other (refusal next top place code (subst (λ (t : List ℕ). IsRefusedText t top place code) same h)) (refusal next top there other k)

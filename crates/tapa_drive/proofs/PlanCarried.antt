@@ -14,7 +14,7 @@ use Rattle.slot_plan.specs.declared.floorplan.Plan.{Plan as FloorPlan}
 use Rattle.command_source.specs.Files.{OfSource, OfData}
 use Rattle.command_source.specs.Meaning.{refusal_of}
 use Rattle.command_source.specs.Outside.{Outside, Written, outside}
-use Rattle.command_source.specs.Refusal.{Refusal, Usage, Read, Write, TooLong, Source, Data, Ticks, Stopped, Device, TooManyPlans, NoPlan, NoRoom, NoHalving, Verilog, DesignData, Undone, Memory, DeviceFault}
+use Rattle.command_source.specs.Refusal.{Refusal, Usage, Read, Write, TooLong, Source, Data, Ticks, Stopped, Device, TooManyPlans, NoPlan, NoRoom, NoHalving, Verilog, DesignData, Undone, Dump, Memory, DeviceFault}
 use Rattle.command_source.specs.Source.{IsProgramOf}
 use Rattle.command_source.specs.declared.refusal.Refusal.{Refusal as CodeRefusal}
 use Rattle.command_plans.specs.Unwritten.{IsUnwritten}
@@ -62,6 +62,7 @@ module _ (words : List (List ℕ)) (files : Option Files) (source top name : Lis
   no_device_cause (Verilog file fault) h = absurd h
   no_device_cause (DesignData file fault) h = absurd h
   no_device_cause (Undone most) h = absurd h
+  no_device_cause (Dump file fault) h = absurd h
   no_device_cause Memory h = tt
 
   no_device_leaves : (r : Refusal) → IsNoDevice files reads_mid reads_new program graph name r → Leaves words before (outside files_new reads_new old told) r
@@ -81,6 +82,7 @@ module _ (words : List (List ℕ)) (files : Option Files) (source top name : Lis
   no_device_leaves (Verilog file fault) h = absurd h
   no_device_leaves (DesignData file fault) h = absurd h
   no_device_leaves (Undone most) h = absurd h
+  no_device_leaves (Dump file fault) h = absurd h
   no_device_leaves Memory h = inl refl
 
   pub no_device : {A : Type 0} (r : CodeRefusal) → IsNoDevice files_mid reads_mid reads_new program graph name (refusal_of r) → IsCarriedOut {A = A} words before (outside files_new reads_new old told) (Err r)
@@ -122,6 +124,7 @@ module _ (words : List (List ℕ)) (files : Option Files) (source top name : Lis
     unplanned_cause (Verilog file fault) h = absurd h
     unplanned_cause (DesignData file fault) h = absurd h
     unplanned_cause (Undone most) h = absurd h
+    unplanned_cause (Dump file fault) h = absurd h
     unplanned_cause Memory h = tt
 
     unplanned_leaves : (r : Refusal) → IsUnplanned graph device mode r → Leaves words before (outside files_new reads_new old told) r
@@ -141,6 +144,7 @@ module _ (words : List (List ℕ)) (files : Option Files) (source top name : Lis
     unplanned_leaves (Verilog file fault) h = absurd h
     unplanned_leaves (DesignData file fault) h = absurd h
     unplanned_leaves (Undone most) h = absurd h
+    unplanned_leaves (Dump file fault) h = absurd h
     unplanned_leaves Memory h = inl refl
 
     pub unplanned : {A : Type 0} (r : CodeRefusal) → IsUnplanned graph device mode (refusal_of r) → IsCarriedOut {A = A} words before (outside files_new reads_new old told) (Err r)

@@ -4,13 +4,13 @@ use Rattle.std.specs.Io.KnownBytes.{Appends}
 use Rattle.tapa_files.specs.Outside.{Files, file_bytes, Rose}
 use Rattle.tapa_files.specs.Take.{IsLongerThan}
 use Rattle.tapa_words.specs.Words.{Command, Plan, Asks}
-use Rattle.tapa_words.specs.Parts.{OnRun, OnBuild, OnCosim, IsToCome, OnPlan}
+use Rattle.tapa_words.specs.Parts.{OnRun, OnBuild, OnCosim, OnVcd, OnPlan}
 use Rattle.tapa_words.specs.declared.command.CosimAim.{CosimAim}
 use Rattle.tapa_words.specs.declared.command.PlanAim.{PlanAim}
 use Rattle.tapa_words.specs.declared.command.PlanMode.{PlanMode}
 use Rattle.command_source.specs.Files.{OfFile, OfSource, source_limit, data_limit}
 use Rattle.command_source.specs.Outside.{Outside, Written, outside}
-use Rattle.command_source.specs.Refusal.{Refusal, Usage, Read, Write, TooLong, Source, Data, Ticks, Stopped, Device, TooManyPlans, NoPlan, NoRoom, NoHalving, Verilog, DesignData, Undone, Memory, VerilogFault}
+use Rattle.command_source.specs.Refusal.{Refusal, Usage, Read, Write, TooLong, Source, Data, Ticks, Stopped, Device, TooManyPlans, NoPlan, NoRoom, NoHalving, Verilog, DesignData, Undone, Dump, Memory, VerilogFault}
 use Rattle.command_source.specs.Source.{IsRefusedSource}
 use Rattle.command_source.specs.Told.{IsTold, IsToldAs}
 use Rattle.command_source.specs.declared.status.Status.{Status}
@@ -21,6 +21,7 @@ use Rattle.tapa_drive.specs.Decided.{Bytes, TooMany, IsGiven, IsRefusedWith, Not
 use Rattle.tapa_drive.specs.PlanDecided.{TellsPlanOf, TellsPlan}
 use Rattle.tapa_drive.specs.PlanDecided as meaning
 use Rattle.tapa_drive.proofs.BuildDecided.{of_told_source}
+use Rattle.tapa_drive.specs.Vcds.{OfVcd}
 use Rattle.tapa_drive.proofs.Decided.{asked_of}
 
 -- a plan that was asked for is the one that the words ask for
@@ -35,8 +36,7 @@ module _ (words : List (List ℕ)) (files : Files) (reads : List ℕ → ℕ) (o
   command = Plan source top name mode aim
 
   not_asked : HasCause words before after Usage → ⊥
-  not_asked (inl none) = none command asked
-  not_asked (inr h) = asked_of words command asked IsToCome h
+  not_asked none = none command asked
 
   -- no run, no circuit and no simulation was asked for
   not_run : {P : List ℕ → List ℕ → Option (List ℕ) → ℕ → Type 0} → OfRun words P → ⊥
@@ -47,6 +47,9 @@ module _ (words : List (List ℕ)) (files : Files) (reads : List ℕ → ℕ) (o
 
   not_cosim : {P : List ℕ → Option (List ℕ) → ℕ → CosimAim → Type 0} → OfCosim words P → ⊥
   not_cosim {P = P} h = asked_of words command asked (OnCosim P) h
+
+  not_vcd : {P : List ℕ → List ℕ → Type 0} → OfVcd words P → ⊥
+  not_vcd {P = P} h = asked_of words command asked (OnVcd P) h
 
   -- no Verilog text was read
   not_faulty : (file : List ℕ) (fault : VerilogFault) → HasCause words before after (Verilog file fault) → ⊥
@@ -131,6 +134,7 @@ module _ (words : List (List ℕ)) (files : Files) (reads : List ℕ → ℕ) (o
     of_reason (Verilog file fault) h leaves told = absurd (not_faulty file fault h)
     of_reason (DesignData file fault) h leaves told = absurd (not_cosim h)
     of_reason (Undone most) h leaves told = absurd (not_cosim h)
+    of_reason (Dump file fault) h leaves told = absurd (not_vcd h)
     of_reason Memory h leaves told = inr told.0
 
     of_told : (why : Refusal) → IsToldAs why result errors after.err → HasCause words before after why → Leaves words before after why → Meets
@@ -139,7 +143,8 @@ module _ (words : List (List ℕ)) (files : Files) (reads : List ℕ → ℕ) (o
     of_ok : IsDone words before after → result ≡ status.Ok → after.err.bytes ≡ errors.bytes → Meets
     of_ok (inl r) is same = absurd (not_run r)
     of_ok (inr (inr (inl p))) is same = absurd (not_cosim p)
-    of_ok (inr (inr (inr b))) is same = absurd (not_built b)
+    of_ok (inr (inr (inr (inl b)))) is same = absurd (not_built b)
+    of_ok (inr (inr (inr (inr v)))) is same = absurd (not_vcd v)
     of_ok (inr (inl h)) is same =
         let c = asked_plan words source top name mode aim asked (λ s t d m a. OfTexts (Some files) s (Some d) (λ text bytes. (told : List ℕ) × HasPlan text t bytes m a told × Appends out.bytes after.out.bytes told)) h in
         let t = of_texts (λ text bytes. (told : List ℕ) × HasPlan text top bytes mode aim told × Appends out.bytes after.out.bytes told) c in

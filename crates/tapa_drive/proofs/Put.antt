@@ -4,7 +4,7 @@ use Rattle.std.specs.Io.KnownBytes.{Appends}
 use Rattle.tapa_files.specs.Outside.{AppendsPart}
 use Rattle.command_source.specs.Meaning.{refusal_of}
 use Rattle.command_source.specs.Outside.{Outside}
-use Rattle.command_source.specs.Refusal.{Refusal, Usage, Read, Write, TooLong, Source, Data, Ticks, Stopped, Device, TooManyPlans, NoPlan, NoRoom, NoHalving, Verilog, DesignData, Undone, Memory}
+use Rattle.command_source.specs.Refusal.{Refusal, Usage, Read, Write, TooLong, Source, Data, Ticks, Stopped, Device, TooManyPlans, NoPlan, NoRoom, NoHalving, Verilog, DesignData, Undone, Dump, Memory}
 use Rattle.command_source.specs.declared.refusal.Refusal.{Refusal as CodeRefusal}
 use Rattle.command_plans.specs.Unwritten.{IsUnwritten}
 use Rattle.command_plans.proofs.Put.{WritesWhole}
@@ -30,6 +30,7 @@ module _ (words : List (List ℕ)) (before after : Outside) (P : List ℕ → Ty
   unwritten_cause (Verilog file fault) h = absurd h
   unwritten_cause (DesignData file fault) h = absurd h
   unwritten_cause (Undone most) h = absurd h
+  unwritten_cause (Dump file fault) h = absurd h
   unwritten_cause Memory h = tt
 
   unwritten_leaves : (r : Refusal) → IsUnwritten before.out after.out P r → Leaves words before after r
@@ -49,6 +50,7 @@ module _ (words : List (List ℕ)) (before after : Outside) (P : List ℕ → Ty
   unwritten_leaves (Verilog file fault) h = absurd h
   unwritten_leaves (DesignData file fault) h = absurd h
   unwritten_leaves (Undone most) h = absurd h
+  unwritten_leaves (Dump file fault) h = absurd h
   unwritten_leaves Memory (inl same) = inl same
   unwritten_leaves Memory (inr h) = inr (front h.0 h.1 h.2)
 

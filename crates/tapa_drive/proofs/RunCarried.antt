@@ -13,7 +13,7 @@ use Rattle.command_source.specs.Found.{IsNotGiven}
 use Rattle.command_source.specs.Inputs.{GivesValues, HasDataFault}
 use Rattle.command_source.specs.Meaning.{refusal_of}
 use Rattle.command_source.specs.Outside.{Outside, Written, outside}
-use Rattle.command_source.specs.Refusal.{Refusal, Usage, Read, Write, TooLong, Source, Data, Ticks, Stopped, Device, TooManyPlans, NoPlan, NoRoom, NoHalving, Verilog, DesignData, Undone, Memory, DataFault}
+use Rattle.command_source.specs.Refusal.{Refusal, Usage, Read, Write, TooLong, Source, Data, Ticks, Stopped, Device, TooManyPlans, NoPlan, NoRoom, NoHalving, Verilog, DesignData, Undone, Dump, Memory, DataFault}
 use Rattle.command_source.specs.Source.{IsProgramOf}
 use Rattle.command_source.specs.declared.refusal.Refusal.{Refusal as CodeRefusal}
 use Rattle.command_source.specs.declared.refusal.Refusal.TheVariants as code
@@ -57,6 +57,7 @@ module _ (words : List (List ℕ)) (files : Option Files) (source top : List ℕ
   not_given_cause new (Verilog file fault) h = absurd h
   not_given_cause new (DesignData file fault) h = absurd h
   not_given_cause new (Undone most) h = absurd h
+  not_given_cause new (Dump file fault) h = absurd h
   not_given_cause new Memory h = tt
 
   not_given_leaves : (r : Refusal) → IsNotGiven files reads_mid reads_new program named r → Leaves words before (outside files_new reads_new old told) r
@@ -76,6 +77,7 @@ module _ (words : List (List ℕ)) (files : Option Files) (source top : List ℕ
   not_given_leaves (Verilog file fault) h = absurd h
   not_given_leaves (DesignData file fault) h = absurd h
   not_given_leaves (Undone most) h = absurd h
+  not_given_leaves (Dump file fault) h = absurd h
   not_given_leaves Memory h = inl refl
 
   pub not_given : {A : Type 0} (r : CodeRefusal) → IsNotGiven files_mid reads_mid reads_new program named (refusal_of r) → IsCarriedOut {A = A} words before (outside files_new reads_new old told) (Err r)

@@ -1,7 +1,7 @@
 -- What a call must answer where nothing outside of it fails.
 use Rattle.std.specs.Prelude.{◌≡◌, ◌⊎◌, ℕ, List, Option, Some, None}
-use Rattle.tapa_words.specs.Words.{Asks, AskNothing, Run, Build, Plan, Cosim}
-use Rattle.tapa_words.specs.declared.command.CosimAim.TheVariants.{Report}
+use Rattle.tapa_words.specs.Words.{Asks, AskNothing, Run, Build, Plan, Cosim, Vcd, Gen}
+use Rattle.tapa_words.specs.declared.command.CosimAim.{CosimAim}
 use Rattle.tapa_words.specs.declared.command.PlanAim.{PlanAim}
 use Rattle.tapa_words.specs.declared.command.PlanMode.{PlanMode}
 use Rattle.command_source.specs.Files.{source_limit}
@@ -12,7 +12,9 @@ use Rattle.command_source.specs.declared.status.Status.TheVariants.{Memory}
 use Rattle.tapa_drive.specs.BuildDecided.{TellsBuild}
 use Rattle.tapa_drive.specs.CosimDecided.{TellsCosim}
 use Rattle.tapa_drive.specs.Decided.{SourceMeaning, Expects, IsLengthy, IsRefusedWith, NothingFails, WritesAll, Tells}
+use Rattle.tapa_drive.specs.Generated.{TellsNetwork}
 use Rattle.tapa_drive.specs.PlanDecided.{TellsPlan}
+use Rattle.tapa_drive.specs.VcdDecided.{TellsVcd}
 
 -- where nothing outside fails, the answer tells what was asked for, or memory ran out
 pub record IsDecided (words : List (List ℕ)) (before after : Outside) (status : Status) : Type 0 where
@@ -27,8 +29,12 @@ pub record IsDecided (words : List (List ℕ)) (before after : Outside) (status 
       NothingFails source (Some device) before after → TellsPlan source top device mode aim status before after ⊎ (status ≡ Memory)
   -- the circuit of the source, or why it has none
   pub build : (source top : List ℕ) → Asks words (Build source top) → NothingFails source None before after → TellsBuild before.files source top status before after ⊎ (status ≡ Memory)
-  -- what the Verilog text means with its data: the report of its design's cycles, or why there is none
-  pub cosim : (text : List ℕ) (named : Option (List ℕ)) (limit : ℕ) → Asks words (Cosim text named limit Report) →
-      NothingFails text named before after → TellsCosim text named limit status before after ⊎ (status ≡ Memory)
+  -- what the Verilog text means with its data: the report or the dump of its design's cycles, or why there is none
+  pub cosim : (text : List ℕ) (named : Option (List ℕ)) (limit : ℕ) (aim : CosimAim) → Asks words (Cosim text named limit aim) →
+      NothingFails text named before after → TellsCosim text named limit aim status before after ⊎ (status ≡ Memory)
+  -- what the dump of a file shows of a net, or why it shows nothing
+  pub vcd : (file net : List ℕ) → Asks words (Vcd file net) → NothingFails file None before after → TellsVcd before.files file net status before after ⊎ (status ≡ Memory)
+  -- the summary of the generated network, or why there is none
+  pub network : (layers workers : ℕ) → Asks words (Gen layers workers) → WritesAll before after → TellsNetwork layers status before after ⊎ (status ≡ Memory)
   -- that the words are no command
   pub usage : AskNothing words → WritesAll before after → IsRefusedWith Usage status before after ⊎ (status ≡ Memory)

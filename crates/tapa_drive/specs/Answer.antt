@@ -1,14 +1,13 @@
 -- What has come to pass in a call of the program, and what stands after it.
-use Rattle.std.specs.Prelude.{◌≡◌, ◌≢◌, ◌⊎◌, ℕ, List, Option, Some, None, ⊤}
+use Rattle.std.specs.Prelude.{◌≡◌, ◌≢◌, ◌⊎◌, ℕ, List, Option, Some, ⊤}
 use Rattle.std.specs.Io.KnownBytes.{Appends}
 use Rattle.tapa_base.specs.declared.text.Place.{Place}
 use Rattle.tapa_files.specs.Outside.{Files, Rose, AppendsPart}
 use Rattle.tapa_files.specs.Take.{IsLongerThan}
 use Rattle.tapa_syntax.specs.declared.program.Program.{Program}
 use Rattle.tapa_words.specs.Words.{Command, AskNothing}
-use Rattle.tapa_words.specs.Parts.{OfCommand, OnRun, OnBuild, OnPlan, OnCosim, Reading, FromSource, FromText, FromDump, FromNothing, reading_of, file_in, IsToCome}
+use Rattle.tapa_words.specs.Parts.{OfCommand, OnRun, OnBuild, OnPlan, OnCosim, Reading, FromSource, FromText, FromDump, FromNothing, reading_of, file_in}
 use Rattle.tapa_words.specs.declared.command.CosimAim.{CosimAim}
-use Rattle.tapa_words.specs.declared.command.CosimAim.TheVariants.{Report, Dump}
 use Rattle.tapa_words.specs.declared.command.PlanAim.{PlanAim}
 use Rattle.tapa_words.specs.declared.command.PlanMode.{PlanMode}
 use Rattle.run_program.specs.Ending.{IsReportOf}
@@ -16,7 +15,7 @@ use Rattle.run_program.specs.Run.{Values, DoneRun, StoppedRun, LimitRun}
 use Rattle.command_source.specs.Files.{OfFile, OfSource, OfData, source_limit, data_limit, verilog_limit, shown_name}
 use Rattle.command_source.specs.Inputs.{GivesValues, HasDataFault}
 use Rattle.command_source.specs.Outside.{Outside}
-use Rattle.command_source.specs.Refusal.{Refusal, Usage, Read, Write, TooLong, Source, Data, Ticks, Stopped, Device, TooManyPlans, NoPlan, NoRoom, NoHalving, Verilog, DesignData, Undone, Memory, DataFault, VerilogFault}
+use Rattle.command_source.specs.Refusal.{Refusal, Usage, Read, Write, TooLong, Source, Data, Ticks, Stopped, Device, TooManyPlans, NoPlan, NoRoom, NoHalving, Verilog, DesignData, Undone, Dump, Memory, DataFault, VerilogFault}
 use Rattle.command_source.specs.Source.{IsProgramOf, IsRefusedSource}
 use Rattle.command_source.specs.Told.{IsToldAs}
 use Rattle.command_source.specs.declared.source.SourceCode.{SourceCode}
@@ -24,6 +23,7 @@ use Rattle.command_source.specs.declared.status.Status.{Status}
 use Rattle.command_source.specs.declared.status.Status.TheVariants.{Ok}
 use Rattle.command_plans.specs.Built.{HasCircuit}
 use Rattle.command_plans.specs.Planned.{HasPlan, HasNoPlan, HasBadDevice}
+use Rattle.tapa_drive.specs.Vcds.{HasWrongDump, IsVcdShown, IsVcdBegun}
 use Rattle.tapa_drive.specs.Designs.{HasDesign, IsRefusedText, HasBadDesignData, HasSimulated, HasCosimmed, HasUndone}
 
 -- how many bytes the source, the text or the dump that a command reads first may have
@@ -55,11 +55,6 @@ OfRun words P = OfCommand words (OnRun P)
 -- which this holds; for its report or for its dump
 abbrev pub OfCosim : List (List ℕ) → (List ℕ → Option (List ℕ) → ℕ → CosimAim → Type 0) → Type 0
 OfCosim words P = OfCommand words (OnCosim P)
-
--- the simulation is for its report, of which this holds
-abbrev pub OfReport : CosimAim → Type 0 → Type 0
-OfReport Report P = P
-OfReport Dump P = ⊥
 
 -- the words ask for the circuit of a source's task, of which this holds
 abbrev pub OfBuild : List (List ℕ) → (List ℕ → List ℕ → Type 0) → Type 0
@@ -177,7 +172,7 @@ IsTooLong files c file most =
 
 -- what has come to pass in a call that tells this refusal
 abbrev pub HasCause : List (List ℕ) → Outside → Outside → Refusal → Type 0
-HasCause words before after Usage = AskNothing words ⊎ OfCommand words IsToCome
+HasCause words before after Usage = AskNothing words
 HasCause words before after (Read file) = OfCommand words (λ c. IsReached before.files c file × Rose (before.failed_reads file) (after.failed_reads file))
 HasCause words before after Write = Rose before.out.failed after.out.failed
 HasCause words before after (TooLong file most) = OfCommand words (λ c. IsTooLong before.files c file most)
@@ -192,7 +187,8 @@ HasCause words before after (NoRoom label) = OfPlan words (λ source top device 
 HasCause words before after (NoHalving level) = OfPlan words (λ source top device mode aim. OfTexts before.files source (Some device) (λ text bytes. HasNoPlan text top bytes mode (NoHalving level)))
 HasCause words before after (Verilog file fault) = OfCommand words (λ c. IsFirst c file × OfFile before.files (most_in c) file (λ text. IsFaultyIn c text fault))
 HasCause words before after (DesignData file fault) = OfCosim words (λ name given limit aim. (shown_name given ≡ file) × OfDesignTexts before.files name given (λ text bytes. HasBadDesignData text bytes fault))
-HasCause words before after (Undone most) = OfCosim words (λ name given limit aim. OfReport aim ((most ≡ limit) × OfDesignTexts before.files name given (λ text bytes. HasUndone text bytes limit before.out.bytes after.out.bytes)))
+HasCause words before after (Undone most) = OfCosim words (λ name given limit aim. (most ≡ limit) × OfDesignTexts before.files name given (λ text bytes. HasUndone aim text bytes limit before.out.bytes after.out.bytes))
+HasCause words before after (Dump file fault) = HasWrongDump words before.files file fault
 HasCause words before after Memory = ⊤
 
 -- the command ran the program of its source to its end
@@ -204,9 +200,9 @@ abbrev pub IsPlanned : List (List ℕ) → Outside → Outside → Type 0
 IsPlanned words before after =
     OfPlan words (λ source top device mode aim. OfTexts before.files source (Some device) (λ text bytes. (told : List ℕ) × HasPlan text top bytes mode aim told × Appends before.out.bytes after.out.bytes told))
 
--- the design of the Verilog text was done in one of the cycles, and the report up to there was written
+-- the design of the Verilog text was done in one of the cycles, and the report or the dump up to there was written
 abbrev pub IsCosimmed : List (List ℕ) → Outside → Outside → Type 0
-IsCosimmed words before after = OfCosim words (λ name given limit aim. OfReport aim (OfDesignTexts before.files name given (λ text bytes. HasCosimmed text bytes limit before.out.bytes after.out.bytes)))
+IsCosimmed words before after = OfCosim words (λ name given limit aim. OfDesignTexts before.files name given (λ text bytes. HasCosimmed aim text bytes limit before.out.bytes after.out.bytes))
 
 -- the text of the circuit of the source's program was written
 abbrev pub IsBuilt : List (List ℕ) → Outside → Outside → Type 0
@@ -214,16 +210,17 @@ IsBuilt words before after = OfBuild words (λ source top. OfSource before.files
 
 -- the command did what it is for
 abbrev pub IsDone : List (List ℕ) → Outside → Outside → Type 0
-IsDone words before after = IsRun words before after ⊎ (IsPlanned words before after ⊎ (IsCosimmed words before after ⊎ IsBuilt words before after))
+IsDone words before after = IsRun words before after ⊎ (IsPlanned words before after ⊎ (IsCosimmed words before after ⊎ (IsBuilt words before after ⊎ IsVcdShown words before after)))
 
--- a front part was written of a report of the source, of a plan, of a report of the Verilog text, or of a circuit, or of it
+-- a front part was written of a report of the source, of a plan, of a report or a dump of the Verilog text, of a circuit, or of the lines of a net, or of it
 -- nothing yet: there is such a text, so no step before the writing refuses
 abbrev pub HasFrontOf : List (List ℕ) → Outside → Outside → Type 0
 HasFrontOf words before after =
     OfRun words (λ source top given limit. OfTexts before.files source given (λ text bytes. (report : List ℕ) × IsReportOfSource text top bytes limit report × AppendsPart before.out.bytes after.out.bytes report))
     ⊎ (OfPlan words (λ source top device mode aim. OfTexts before.files source (Some device) (λ text bytes. (told : List ℕ) × HasPlan text top bytes mode aim told × AppendsPart before.out.bytes after.out.bytes told))
-    ⊎ (OfCosim words (λ name given limit aim. OfReport aim (OfDesignTexts before.files name given (λ text bytes. (done_at : Option ℕ) × (report : List ℕ) × HasSimulated text bytes limit done_at report × AppendsPart before.out.bytes after.out.bytes report)))
-    ⊎ OfBuild words (λ source top. OfSource before.files source (λ text. (told : List ℕ) × HasCircuit text top told × AppendsPart before.out.bytes after.out.bytes told))))
+    ⊎ (OfCosim words (λ name given limit aim. OfDesignTexts before.files name given (λ text bytes. (done_at : Option ℕ) × (report : List ℕ) × HasSimulated aim text bytes limit done_at report × AppendsPart before.out.bytes after.out.bytes report))
+    ⊎ (OfBuild words (λ source top. OfSource before.files source (λ text. (told : List ℕ) × HasCircuit text top told × AppendsPart before.out.bytes after.out.bytes told))
+    ⊎ IsVcdBegun words before after)))
 
 -- nothing was written, or a front part of such a text
 abbrev pub HasPartOf : List (List ℕ) → Outside → Outside → Type 0
@@ -247,6 +244,7 @@ Leaves words before after (NoHalving level) = after.out.bytes ≡ before.out.byt
 Leaves words before after (Verilog file fault) = after.out.bytes ≡ before.out.bytes
 Leaves words before after (DesignData file fault) = after.out.bytes ≡ before.out.bytes
 Leaves words before after (Undone most) = HasFrontOf words before after
+Leaves words before after (Dump file fault) = after.out.bytes ≡ before.out.bytes
 Leaves words before after Memory = HasPartOf words before after
 
 -- the files stay, and reads fail of no other file than the source or the text and, where it is taken, the further file that is

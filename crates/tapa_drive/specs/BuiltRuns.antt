@@ -20,6 +20,7 @@ use Rattle.sim_report.specs.Reports.{stream_lines, memory_lines, last_of}
 use Rattle.cycle_sim.specs.Sims.{last_cycle}
 use Rattle.command_plans.specs.Built.{HasCircuit}
 use Rattle.tapa_drive.specs.Answer.{IsAsked}
+use Rattle.tapa_words.specs.declared.command.CosimAim.TheVariants.{Report}
 use Rattle.tapa_drive.specs.Designs.{HasSimulated}
 
 -- the values that an environment has for a program's scalars, and the first cells of its memories
@@ -62,4 +63,4 @@ pub record ShowsProgram (source top bytes : List ℕ) (limit : ℕ) (at : Option
 -- of the text of a source's circuit, each report is one
 abbrev pub CircuitsShowTheirProgram : Type 0
 CircuitsShowTheirProgram =
-    (source top told bytes : List ℕ) (limit : ℕ) (at : Option ℕ) (report : List ℕ) → HasCircuit source top told → HasSimulated told bytes limit at report → ShowsProgram source top bytes limit at report
+    (source top told bytes : List ℕ) (limit : ℕ) (at : Option ℕ) (report : List ℕ) → HasCircuit source top told → HasSimulated Report told bytes limit at report → ShowsProgram source top bytes limit at report

@@ -2,6 +2,7 @@
 use Rattle.std.specs.Prelude.{◌≡◌, ◌<◌, ◌≤◌, ℕ, List, length, Option, Some, None}
 use Rattle.std.specs.Io.KnownBytes.{Appends}
 use Rattle.tapa_files.specs.Outside.{Files, file_bytes}
+use Rattle.tapa_words.specs.declared.command.CosimAim.{CosimAim}
 use Rattle.command_source.specs.Files.{data_limit, verilog_limit, shown_name}
 use Rattle.command_source.specs.Outside.{Outside}
 use Rattle.command_source.specs.Refusal.{DataFault, VerilogFault, TooLong, Verilog, DesignData, Undone}
@@ -11,7 +12,7 @@ use Rattle.command_source.specs.declared.status.Status.TheVariants.{Ok}
 use Rattle.tapa_drive.specs.Decided.{Given, Bytes, TooMany, IsGiven, IsRefusedWith}
 use Rattle.tapa_drive.specs.Designs.{HasDesign, IsRefusedText, HasBadDesignData, HasSimulated}
 
--- what a text means with data and a limit on cycles: a design that is done in a cycle, with this report, or in none; one for which
+-- what a text means with data and a limit on cycles: a design that is done in a cycle, with this report or dump, or in none; one for which
 -- the data have this fault, or are too long; no design, by a fault; or more bytes than it may have
 pub data TextMeaning : Type 0 where
   DoneIn : (cycle : ℕ) (report : List ℕ) → TextMeaning
@@ -22,19 +23,19 @@ pub data TextMeaning : Type 0 where
   Lengthy : TextMeaning
 
 -- a text that has a design means this with these data
-abbrev pub MeansWithin : List ℕ → Given → ℕ → TextMeaning → Type 0
-MeansWithin text (Bytes bytes) limit (DoneIn cycle report) = HasSimulated text bytes limit (Some cycle) report
-MeansWithin text (Bytes bytes) limit (StillRunning report) = HasSimulated text bytes limit None report
-MeansWithin text (Bytes bytes) limit (Misgiven fault) = HasBadDesignData text bytes fault
-MeansWithin text TooMany limit Overlong = HasDesign text
-MeansWithin text given limit meaning = ⊥
+abbrev pub MeansWithin : CosimAim → List ℕ → Given → ℕ → TextMeaning → Type 0
+MeansWithin aim text (Bytes bytes) limit (DoneIn cycle report) = HasSimulated aim text bytes limit (Some cycle) report
+MeansWithin aim text (Bytes bytes) limit (StillRunning report) = HasSimulated aim text bytes limit None report
+MeansWithin aim text (Bytes bytes) limit (Misgiven fault) = HasBadDesignData text bytes fault
+MeansWithin aim text TooMany limit Overlong = HasDesign text
+MeansWithin aim text given limit meaning = ⊥
 
 -- the text of a file, with the data of a file or with none, means this
-abbrev pub MeansText : Files → List ℕ → Option (List ℕ) → ℕ → TextMeaning → Type 0
-MeansText files name named limit Lengthy = verilog_limit < length (file_bytes files name)
-MeansText files name named limit (Refused fault) = (length (file_bytes files name) ≤ verilog_limit) × IsRefusedText (file_bytes files name) fault
-MeansText files name named limit meaning =
-    (length (file_bytes files name) ≤ verilog_limit) × ((given : Given) × IsGiven files named given × MeansWithin (file_bytes files name) given limit meaning)
+abbrev pub MeansText : CosimAim → Files → List ℕ → Option (List ℕ) → ℕ → TextMeaning → Type 0
+MeansText aim files name named limit Lengthy = verilog_limit < length (file_bytes files name)
+MeansText aim files name named limit (Refused fault) = (length (file_bytes files name) ≤ verilog_limit) × IsRefusedText (file_bytes files name) fault
+MeansText aim files name named limit meaning =
+    (length (file_bytes files name) ≤ verilog_limit) × ((given : Given) × IsGiven files named given × MeansWithin aim (file_bytes files name) given limit meaning)
 
 -- the status and the lines that tell it
 abbrev pub TellsText : List ℕ → Option (List ℕ) → ℕ → TextMeaning → Status → Outside → Outside → Type 0
@@ -46,9 +47,9 @@ TellsText name named limit (Refused fault) status before after = IsRefusedWith (
 TellsText name named limit Lengthy status before after = IsRefusedWith (TooLong name verilog_limit) status before after
 
 -- where the files are told, the answer tells what the text means with its data
-abbrev pub TellsCosimOf : Option Files → List ℕ → Option (List ℕ) → ℕ → Status → Outside → Outside → Type 0
-TellsCosimOf None name named limit status before after = Unit {0}
-TellsCosimOf (Some files) name named limit status before after = (meaning : TextMeaning) × MeansText files name named limit meaning × TellsText name named limit meaning status before after
+abbrev pub TellsCosimOf : Option Files → List ℕ → Option (List ℕ) → ℕ → CosimAim → Status → Outside → Outside → Type 0
+TellsCosimOf None name named limit aim status before after = Unit {0}
+TellsCosimOf (Some files) name named limit aim status before after = (meaning : TextMeaning) × MeansText aim files name named limit meaning × TellsText name named limit meaning status before after
 
-abbrev pub TellsCosim : List ℕ → Option (List ℕ) → ℕ → Status → Outside → Outside → Type 0
-TellsCosim name named limit status before after = TellsCosimOf before.files name named limit status before after
+abbrev pub TellsCosim : List ℕ → Option (List ℕ) → ℕ → CosimAim → Status → Outside → Outside → Type 0
+TellsCosim name named limit aim status before after = TellsCosimOf before.files name named limit aim status before after

@@ -15,7 +15,11 @@ use Rattle.run_data.specs.Answer.{IsFirstFault}
 use Rattle.run_data.specs.Data.{IsJson, Misshapen, Misfit, Oversized, faults, scalars_of, memories_of, waits_of}
 use Rattle.run_data.specs.declared.data.DataFault.{DataFault as FaultOfData}
 use Rattle.run_data.specs.declared.data.DataFault.TheVariants.{J1, J2, J3, J4, OutOfMemory}
+use Rattle.sim_report.specs.Ending.{Telling}
 use Rattle.sim_report.specs.Reports.{IsSimulated}
+use Rattle.sim_dump.specs.Dumped.{IsDumped}
+use Rattle.tapa_words.specs.declared.command.CosimAim.{CosimAim}
+use Rattle.tapa_words.specs.declared.command.CosimAim.TheVariants.{Report, Dump}
 use Rattle.command_source.specs.Refusal.{DataFault, NotJson, Faulty, VerilogFault, V1, V2, V3, V4, V5, V6}
 
 -- the text spells modules, and these are a design
@@ -78,23 +82,28 @@ pub record HasBadDesignData (text bytes : List ℕ) (fault : DataFault) : Type 0
   pub means : IsDesignOf text design
   pub has : HasDesignFault design bytes fault
 
+-- what a simulation is for: the report of the run, or its dump
+abbrev pub IsToldFor : CosimAim → Telling
+IsToldFor Report design env limit done_at told = IsSimulated design env limit done_at told
+IsToldFor Dump design env limit done_at told = IsDumped design env limit done_at told
+
 -- The design of the text runs in the environment that the data give. It is done first in this cycle, or in none up to a limit;
--- and this is the report up to there.
-pub record HasSimulated (text bytes : List ℕ) (limit : ℕ) (done_at : Option ℕ) (report : List ℕ) : Type 0 where
+-- and this is the report or the dump up to there.
+pub record HasSimulated (aim : CosimAim) (text bytes : List ℕ) (limit : ℕ) (done_at : Option ℕ) (report : List ℕ) : Type 0 where
   pub design : DesignTree
   pub env : Environment
   pub means : IsDesignOf text design
   pub gives : GivesEnvironment design bytes env
-  pub is : IsSimulated design env limit done_at report
+  pub is : IsToldFor aim design env limit done_at report
 
--- a report of so many cycles at most was written: of a design that is done, or of one that is not
-pub record HasCosimmed (text bytes : List ℕ) (limit : ℕ) (old new : Option (List ℕ)) : Type 0 where
+-- a report or a dump of so many cycles at most was written: of a design that is done, or of one that is not
+pub record HasCosimmed (aim : CosimAim) (text bytes : List ℕ) (limit : ℕ) (old new : Option (List ℕ)) : Type 0 where
   pub at : ℕ
   pub report : List ℕ
-  pub simulated : HasSimulated text bytes limit (Some at) report
+  pub simulated : HasSimulated aim text bytes limit (Some at) report
   pub shown : Appends old new report
 
-pub record HasUndone (text bytes : List ℕ) (limit : ℕ) (old new : Option (List ℕ)) : Type 0 where
+pub record HasUndone (aim : CosimAim) (text bytes : List ℕ) (limit : ℕ) (old new : Option (List ℕ)) : Type 0 where
   pub report : List ℕ
-  pub simulated : HasSimulated text bytes limit None report
+  pub simulated : HasSimulated aim text bytes limit None report
   pub shown : Appends old new report

@@ -6,6 +6,10 @@ pub mod Carried
 pub mod CosimDecided
 pub mod Decided
 pub mod Designs
+pub mod Vcds
+pub mod VcdDecided
 pub mod Found
+pub mod Generated
 pub mod OneMeaning
+pub mod OneText
 pub mod PlanDecided

@@ -1,21 +1,22 @@
 // The simulation of a Verilog text on its data.
-ghost use Rattle.std.specs.Prelude.{◌≡◌, ◌≤◌, ℕ, List, All, IfOk, IfErr, option_map};
-ghost use Rattle.tapa_files.specs.Outside.{AsksFor};
+ghost use Rattle.std.specs.Prelude.{◌≡◌, ◌≤◌, ℕ, List, All, IfOk, IfErr, OnErr, IsErrOf, option_map};
+ghost use Rattle.tapa_files.specs.Outside.{AsksFor, Rose};
 ghost use Rattle.vlog_tree.specs.Environment.{FitsShape, shape_of};
 ghost use Rattle.vlog_tree.specs.Form.{ModuleTree};
 ghost use Rattle.vlog_design.specs.Designs.{TopOf};
 ghost use Rattle.vlog_design.specs.Environments.{environment_of};
 ghost use Rattle.tapa_words.specs.Words.{Asks, Cosim};
-ghost use Rattle.tapa_words.specs.declared.command.CosimAim.TheVariants.{Report};
+ghost use Rattle.sim_report.specs.Ending.{EndsSo, HasFront, HasPart};
 ghost use Rattle.command_source.specs.Files.{OfFile, OfData, AsksForData, verilog_limit};
 ghost use Rattle.command_source.specs.Meaning.{refusal_of};
 ghost use Rattle.command_source.specs.Outside.{Written, written, outside};
 ghost use Rattle.tapa_drive.specs.Carried.{IsCarriedOut};
-ghost use Rattle.tapa_drive.specs.Designs.{IsDesignOf, IsShapeIn, GivesEnvironment, IsUnfitFor};
+ghost use Rattle.tapa_drive.specs.Designs.{IsDesignOf, IsShapeIn, GivesEnvironment, IsUnfitFor, IsToldFor};
 ghost use Rattle.tapa_drive.specs.Found.{HasNoDesign, IsNotSurrounded};
 
 use command_source::{DATA_LIMIT, NO_DATA, Refusal, read_file};
 use run_data::{Data, DataFault, read_data};
+use sim_dump::dump_design;
 use sim_report::{DesignEnd, run_design};
 use std::alloc::{AllocError, Global};
 use tapa_base::Shape;
@@ -116,39 +117,29 @@ fn read_surroundings<'a, S: Shelf>(
     }
 }
 
-// Simulates the design of a Verilog text on its data and writes its report, up to the first step that refuses.
-fn cosim_report<'a, S: Shelf, O: Sink>(
+// Runs a design in an environment, and writes what is to be shown of it.
+fn show_design<O: Sink>(
     alloc: Global,
-    text: &'a str,
-    named: Option<&'a str>,
+    design: Design,
+    around: &Env,
     limit: u64,
-    shelf: &mut S,
+    aim: CosimAim,
     out: &mut O,
-) -> Result<(), Refusal<'a>>
-    ensures { (words : List (List ℕ)) (errors told : Written) → Asks words (Cosim text.now (option_map (λ file. file.now) named.entry) limit Report) →
-        IsCarriedOut words (outside (S.files shelf.old) (S.faults shelf.old) (written (O.contents out.old) (O.faults out.old)) errors)
-        (outside (S.files shelf.new) (S.faults shelf.new) (written (O.contents out.new) (O.faults out.new)) told) result }
+) -> Result<DesignEnd, PrintFault>
+    requires fits { (m : ModuleTree) → TopOf design m → FitsShape (environment_of around.now) (shape_of m) }
+    ensures end { IfOk result (λ end. EndsSo (IsToldFor aim) design (environment_of around.now) limit (O.contents out.old) (O.contents out.new) end) }
+    ensures part { OnErr result (HasPart (IsToldFor aim) design (environment_of around.now) limit (O.contents out.old) (O.contents out.new)) }
+    ensures front { IsErrOf result PrintFault.WriteFault → HasFront (IsToldFor aim) design (environment_of around.now) limit (O.contents out.old) (O.contents out.new) }
+    ensures later { O.faults out.old ≤ O.faults out.new }
+    ensures fault { IsErrOf result PrintFault.WriteFault → Rose (O.faults out.old) (O.faults out.new) }
 {
-    let design = match read_design(alloc, text, shelf) {
-        Ok(design) => design,
-        Err(refusal) => return Err(refusal),
-    };
-    let around = match read_surroundings(alloc, &design, named, shelf) {
-        Ok(around) => around,
-        Err(refusal) => return Err(refusal),
-    };
-    let end = match run_design(alloc, design, &around, limit, out) {
-        Ok(end) => end,
-        Err(PrintFault::WriteFault) => return Err(Refusal::Write),
-        Err(PrintFault::OutOfMemory) => return Err(Refusal::Memory),
-    };
-    match end {
-        DesignEnd::Done => Ok(()),
-        DesignEnd::Running => Err(Refusal::Undone { limit }),
+    match aim {
+        CosimAim::Report => run_design(alloc, design, around, limit, out),
+        CosimAim::Dump => dump_design(alloc, design, around, limit, out),
     }
 }
 
-/// Simulates the design of a Verilog text on its data and writes what is to be shown of it, up to the first step that refuses.
+/// Simulates the design of a Verilog text on its data and writes its report or its dump, up to the first step that refuses.
 pub(crate) fn cosim_text<'a, S: Shelf, O: Sink>(
     alloc: Global,
     text: &'a str,
@@ -162,9 +153,21 @@ pub(crate) fn cosim_text<'a, S: Shelf, O: Sink>(
         IsCarriedOut words (outside (S.files shelf.old) (S.faults shelf.old) (written (O.contents out.old) (O.faults out.old)) errors)
         (outside (S.files shelf.new) (S.faults shelf.new) (written (O.contents out.new) (O.faults out.new)) told) result }
 {
-    match aim {
-        CosimAim::Report => cosim_report(alloc, text, named, limit, shelf, out),
-        // Dumps are to come.
-        CosimAim::Dump => Err(Refusal::Usage),
+    let design = match read_design(alloc, text, shelf) {
+        Ok(design) => design,
+        Err(refusal) => return Err(refusal),
+    };
+    let around = match read_surroundings(alloc, &design, named, shelf) {
+        Ok(around) => around,
+        Err(refusal) => return Err(refusal),
+    };
+    let end = match show_design(alloc, design, &around, limit, aim, out) {
+        Ok(end) => end,
+        Err(PrintFault::WriteFault) => return Err(Refusal::Write),
+        Err(PrintFault::OutOfMemory) => return Err(Refusal::Memory),
+    };
+    match end {
+        DesignEnd::Done => Ok(()),
+        DesignEnd::Running => Err(Refusal::Undone { limit }),
     }
 }

@@ -1,7 +1,10 @@
 //! What a source means, and what a simulation of its circuit shows: the contracts of functions that do nothing.
 
 ghost use Rattle.tapa_drive.specs.BuiltRuns.{CircuitsShowTheirProgram};
+ghost use Rattle.tapa_drive.specs.OneText.{TextsMeanOneThing, TextsMeanSomething, RefusedTextsHaveNoDesign};
 ghost use Rattle.tapa_drive.specs.OneMeaning.{SourcesHaveOneProgram, SourcesHaveOneInput, SourcesHaveOneDataFault, SourcesMeanOneThing, SourcesMeanSomething, RefusedSourcesMeanNothing, SourcesHaveOneRefusal};
+
+use vlog_read::law_one_fault;
 
 /// The programs of a text and the name of its top task differ only in where they lie in memory, and data give all of them
 /// the same values, or have the same first fault for them. So the run of one is the run of each.
@@ -26,3 +29,13 @@ pub fn law_one_meaning()
 pub fn law_circuits_show_their_program()
     ensures { CircuitsShowTheirProgram }
 {}
+
+/// A Verilog text has at most one meaning with its data, and where it has a design to which they give an environment it has one;
+/// where a rule refuses it, it has no design.
+pub fn law_one_text_meaning()
+    ensures one { TextsMeanOneThing }
+    ensures some { TextsMeanSomething }
+    ensures refused { RefusedTextsHaveNoDesign }
+{
+    law_one_fault();
+}

@@ -2,9 +2,11 @@
 #![tactic(auto)]
 
 mod cosim;
+mod generated;
 pub mod laws;
 mod sources;
 mod top;
+mod vcd;
 
 pub use command_source::{SourceCode, SourceFault, Status, read_input, read_program, refuse_words};
 pub use tapa_words::WordsFault;

@@ -2,11 +2,12 @@ ghost use Rattle.std.specs.Prelude.{◌≡◌};
 ghost use Rattle.tapa_words.specs.Words.{texts};
 ghost use Rattle.command_source.specs.Outside.{Written, written, outside};
 ghost use Rattle.tapa_drive.specs.AllDecided.{IsDecided};
-ghost use Rattle.tapa_drive.specs.Answer.{IsAnswer};
-ghost use Rattle.tapa_drive.specs.Carried.{IsCarriedOut};
+ghost use Rattle.tapa_drive.specs.Generated.{IsAnswered, IsCarried};
 
 use crate::cosim::cosim_text;
+use crate::generated::sum_network;
 use crate::sources::{build_source, plan_source, run_source};
+use crate::vcd::show_net;
 use command_source::{Refusal, Status, tell};
 use std::alloc::Global;
 use tapa_files::{Shelf, Sink};
@@ -20,7 +21,7 @@ fn carry_out<'a, S: Shelf, O: Sink>(
     out: &mut O,
 ) -> Result<(), Refusal<'a>>
     ensures { (errors told : Written) →
-        IsCarriedOut (texts words.now) (outside (S.files shelf.old) (S.faults shelf.old) (written (O.contents out.old) (O.faults out.old)) errors)
+        IsCarried (texts words.now) (outside (S.files shelf.old) (S.faults shelf.old) (written (O.contents out.old) (O.faults out.old)) errors)
         (outside (S.files shelf.new) (S.faults shelf.new) (written (O.contents out.new) (O.faults out.new)) told) result }
 {
     match read_words(alloc, words) {
@@ -51,19 +52,8 @@ fn carry_out<'a, S: Shelf, O: Sink>(
                 aim,
             },
         ) => cosim_text(alloc, text, data, limit, aim, shelf, out),
-        // To come.
-        Ok(
-            Command::Vcd {
-                file: _file,
-                net: _net,
-            },
-        ) => Err(Refusal::Usage),
-        Ok(
-            Command::Gen {
-                layers: _layers,
-                workers: _workers,
-            },
-        ) => Err(Refusal::Usage),
+        Ok(Command::Vcd { file, net }) => show_net(alloc, file, net, shelf, out),
+        Ok(Command::Gen { layers, workers }) => sum_network(alloc, layers, workers, out),
         Err(WordsFault::Usage) => Err(Refusal::Usage),
         Err(WordsFault::OutOfMemory) => Err(Refusal::Memory),
     }
@@ -77,7 +67,7 @@ fn answer<S: Shelf, O: Sink, E: Sink>(
     out: &mut O,
     err: &mut E,
 ) -> Status
-    ensures answer { IsAnswer (texts words.now) (outside (S.files shelf.old) (S.faults shelf.old) (written (O.contents out.old) (O.faults out.old)) (written (E.contents err.old) (E.faults err.old)))
+    ensures answer { IsAnswered (texts words.now) (outside (S.files shelf.old) (S.faults shelf.old) (written (O.contents out.old) (O.faults out.old)) (written (E.contents err.old) (E.faults err.old)))
         (outside (S.files shelf.new) (S.faults shelf.new) (written (O.contents out.new) (O.faults out.new)) (written (E.contents err.new) (E.faults err.new))) result }
     ensures ok_err { result ≡ Status.Ok → err.new ≡ err.old }
 {
@@ -98,14 +88,15 @@ pub fn tapa<S: Shelf, O: Sink, E: Sink>(
     // Done work: every joined instance of the source's program has ended on its data, and the report of its streams, whole Kahn
     // streams where their producers are joined, and of the last cells is written; or the lines of a plan of the source's program on the device are; or the
     // text of its circuit is, with the latencies of such a plan where a device is named, whose streams carry prefixes of Kahn streams in every cycle, and all of them once its done is raised; or
-    // the design of the Verilog text was done, and the report of its cycles is. Each other status tells a refusal, which has its cause and leaves the output so. No other file is read than the source or the text and, where it has a
+    // the design of the Verilog text was done, and the report of its cycles is; or the summary of a generated network, of its run and of its
+    // circuit is. Each other status tells a refusal, which has its cause and leaves the output so. No other file is read than the source or the text and, where it has a
     // program or a design, the data or the device file.
-    ensures answer { IsAnswer (texts words.now) (outside (S.files shelf.old) (S.faults shelf.old) (written (O.contents out.old) (O.faults out.old)) (written (E.contents err.old) (E.faults err.old)))
+    ensures answer { IsAnswered (texts words.now) (outside (S.files shelf.old) (S.faults shelf.old) (written (O.contents out.old) (O.faults out.old)) (written (E.contents err.old) (E.faults err.old)))
         (outside (S.files shelf.new) (S.faults shelf.new) (written (O.contents out.new) (O.faults out.new)) (written (E.contents err.new) (E.faults err.new))) result }
     ensures ok_err { result ≡ Status.Ok → err.new ≡ err.old }
     // Where the files are told and nothing outside fails, the answer tells what the source means with its data or its device
-    // file, or what the Verilog text means with its data, and a report, a plan's lines or a circuit is written whole: or
-    // memory ran out.
+    // file, what the Verilog text means with its data, or what the generated network does, and a report, a plan's lines, a circuit
+    // or a summary is written whole: or memory ran out.
     ensures decided { IsDecided (texts words.now) (outside (S.files shelf.old) (S.faults shelf.old) (written (O.contents out.old) (O.faults out.old)) (written (E.contents err.old) (E.faults err.old)))
         (outside (S.files shelf.new) (S.faults shelf.new) (written (O.contents out.new) (O.faults out.new)) (written (E.contents err.new) (E.faults err.new))) result }
 {

@@ -9,4 +9,4 @@ mod types;
 
 pub use fault::{Fault, ParseCode};
 pub use parser::Parser;
-pub use terminal::{is_name, one_kind};
+pub use terminal::{is_name, one_kind, terminal_of, text_of};

@@ -159,9 +159,9 @@ fn is_ascii(text: &[u8]) -> bool
     text.iter().all(|byte| byte.is_ascii())
 }
 
-/// The lexeme's slice of the source.
+/// The lexeme's slice of the source, or nothing where the source has no such slice.
 #[tactic(auto, unfolding(tapa_syntax::specs::Symbols::text_of))]
-pub(crate) fn text_of<'a>(source: &'a [u8], lexeme: &Lexeme) -> &'a [u8]
+pub fn text_of<'a>(source: &'a [u8], lexeme: &Lexeme) -> &'a [u8]
     ensures { result.now ≡ symbols.text_of source.now lexeme.now }
 {
     let from = lexeme.from as usize;
@@ -173,8 +173,9 @@ pub(crate) fn text_of<'a>(source: &'a [u8], lexeme: &Lexeme) -> &'a [u8]
     }
 }
 
+/// What a lexeme of the source is to the grammar; a slice that isn't ASCII is no word of it.
 #[tactic(auto, unfolding(tapa_syntax::specs::Symbols::symbol_of))]
-pub(crate) fn terminal_of(source: &[u8], lexeme: &Lexeme) -> Terminal
+pub fn terminal_of(source: &[u8], lexeme: &Lexeme) -> Terminal
     ensures { result ≡ (symbols.symbol_of source.now lexeme.now).terminal }
 {
     let text = text_of(source, lexeme);

@@ -36,7 +36,7 @@ fn said_with(
         asked.push(String::from_str(alloc, word)?)?;
     }
     let mut shelf = MemShelf::new(alloc, files, shelf_fails);
-    let mut out = MemSink::new(alloc, 4096, out_fails)?;
+    let mut out = MemSink::new(alloc, 262_144, out_fails)?;
     let mut err = MemSink::new(alloc, 4096, err_fails)?;
     let status = tapa(alloc, &asked, &mut shelf, &mut out, &mut err);
     Ok(Answer { status, out, err })
@@ -153,6 +153,138 @@ fn waits_are_cut_at_lines(rt: HostRuntime) -> Result<(), Fail> {
         assert_eq!(rt; cut.err.bytes(), part.as_bytes());
     }
     Ok(())
+}
+
+// A command on the source or text `r.cpp` and the file `d.json`.
+#[derive(Drop)]
+struct Asked {
+    words: &'static [&'static str],
+    source: &'static str,
+    given: &'static str,
+}
+
+const DEVICE: &str = "{\"rows\": 1, \"cols\": 1, \"slots\": [{\"LUT\": 100000, \"FF\": 100000}]}";
+
+const DONE_AT_ONCE: &str =
+    "module t_X ( input clk , input rst , output done ) ; assign done = 1'd1 ; endmodule";
+
+// The commands that read files, each with its files.
+fn reading() -> [Asked; 5] {
+    [
+        Asked {
+            words: &["run", "r.cpp", "VecAdd", "d.json"],
+            source: VECADD,
+            given: VECADD_DATA,
+        },
+        Asked {
+            words: &["build", "r.cpp", "T"],
+            source: PATH,
+            given: "",
+        },
+        Asked {
+            words: &["build", "r.cpp", "T", "--device", "d.json"],
+            source: PATH,
+            given: DEVICE,
+        },
+        Asked {
+            words: &["plan", "r.cpp", "T", "d.json"],
+            source: PATH,
+            given: DEVICE,
+        },
+        Asked {
+            words: &["cosim", "r.cpp", "d.json"],
+            source: DONE_AT_ONCE,
+            given: "{}",
+        },
+    ]
+}
+
+// The shelf failing at each of its calls: the file that is read then is told, the output is empty, and each file that the words name
+// is told by some call.
+#[test]
+fn unread_files_are_told(rt: HostRuntime) -> Result<(), Fail> {
+    let alloc = rt.alloc();
+    for asked in &reading() {
+        let mut told = 0;
+        for call in 0..8u64 {
+            let failed = said_with(
+                alloc,
+                asked.source.as_bytes(),
+                asked.given.as_bytes(),
+                asked.words,
+                vec![in alloc; call; 1]?,
+                Vec::new(alloc),
+                Vec::new(alloc),
+            )?;
+            if failed.status == Status::Read {
+                let last = failed.err.bytes() == b"tapa: cannot read d.json\n".as_slice();
+                assert!(rt; last || failed.err.bytes() == b"tapa: cannot read r.cpp\n".as_slice());
+                assert!(rt; failed.out.bytes().is_empty());
+                assert!(rt; last || told < 2);
+                told = if last { 2 } else { 1 };
+            } else {
+                assert!(rt; failed.status == Status::Ok);
+                assert!(rt; failed.err.bytes().is_empty());
+            }
+        }
+        assert_eq!(rt; told == 2, !asked.given.is_empty());
+        assert!(rt; told > 0);
+    }
+    Ok(())
+}
+
+// The output failing at each of the first lines of a circuit's text, of a plan and of a simulation's report: it holds the lines before.
+#[test]
+fn texts_are_cut_at_lines(rt: HostRuntime) -> Result<(), Fail> {
+    let alloc = rt.alloc();
+    let commands = [
+        Asked {
+            words: &["build", "r.cpp", "T"],
+            source: PATH,
+            given: "",
+        },
+        Asked {
+            words: &["plan", "r.cpp", "T", "d.json"],
+            source: PATH,
+            given: DEVICE,
+        },
+        Asked {
+            words: &["cosim", "r.cpp", "d.json"],
+            source: DONE_AT_ONCE,
+            given: "{}",
+        },
+    ];
+    for asked in &commands {
+        for call in 0..3u64 {
+            let failed = said_with(
+                alloc,
+                asked.source.as_bytes(),
+                asked.given.as_bytes(),
+                asked.words,
+                Vec::new(alloc),
+                vec![in alloc; call; 1]?,
+                Vec::new(alloc),
+            )?;
+            if failed.status == Status::Write {
+                assert_eq!(rt; failed.err.bytes(), b"tapa: cannot write\n".as_slice());
+                assert_eq!(rt; lines(failed.out.bytes()), call);
+            } else {
+                assert!(rt; call > 0 && failed.status == Status::Ok);
+            }
+        }
+    }
+    Ok(())
+}
+
+// How many line feeds a text has, which ends with one where it is not empty.
+fn lines(text: &[u8]) -> u64 {
+    let mut count: u64 = 0;
+    for byte in text {
+        if *byte == b'\n' {
+            count = count.saturating_add(1);
+        }
+    }
+    count
 }
 
 // Words that could not be read are told.

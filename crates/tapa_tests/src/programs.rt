@@ -100,6 +100,15 @@ pub const SELF_LOOP: &str =
 void T() { tapa::stream<int, 1> s; tapa::task().invoke(A, s, s); }
 ";
 
+/// Arrays of streams, counted invokes and elements.
+pub const ARRAYS: &str = "const int N = 3;
+void P(tapa::ostream<uint64_t>& q, int n) { q << n; q << 8; }
+void Add(tapa::istream<uint64_t>& q, tapa::ostream<uint64_t>& r) { r << q.read() + q.read(); }
+void C(tapa::istream<uint64_t>& r) { r.read(); }
+void T() { tapa::streams<uint64_t, N> q; tapa::streams<uint64_t, 3, 1> r(\"sums\"); tapa::task().invoke<tapa::join, N>(P, q, N)
+  .invoke<tapa::join, 3>(Add, q, r).invoke(C, r[0]).invoke(C, r[2]).invoke<tapa::join>(C, r[1]); }
+";
+
 /// Constants, scalars of several kinds, and a depth by a constant.
 pub const GIVEN_NUMBERS: &str = "const int N = 3;
 constexpr uint8_t M = N * 100;

@@ -2,9 +2,9 @@ ghost use Rattle.std.specs.Prelude.{◌≤◌, length};
 
 use crate::probes::{OPERATORS, STATEMENTS};
 use crate::programs::{
-    BAD_TOKEN, CROSSING_ENDS, CROSSING_STOPS, FEEDBACK, GIVEN_NUMBERS, LEVELS, LOOKS_FOR_EOT, MIX,
-    NESTED_TRANSACTIONS, NO_TRANSACTION, PATH, PEEKS, RING, SELF_LOOP, SERVER, STARVED,
-    TRANSACTIONS,
+    ARRAYS, BAD_TOKEN, CROSSING_ENDS, CROSSING_STOPS, FEEDBACK, GIVEN_NUMBERS, LEVELS,
+    LOOKS_FOR_EOT, MIX, NESTED_TRANSACTIONS, NO_TRANSACTION, PATH, PEEKS, RING, SELF_LOOP, SERVER,
+    STARVED, TRANSACTIONS,
 };
 use kahn_reference::rounds::streams;
 use kahn_reference::slow::{Variables, trace};
@@ -141,6 +141,7 @@ fn ended_runs_are_the_rounds(rt: HostRuntime) -> Result<(), Fail> {
         NESTED_TRANSACTIONS,
         SELF_LOOP,
         GIVEN_NUMBERS,
+        ARRAYS,
         LEVELS,
         SERVER,
     ] {

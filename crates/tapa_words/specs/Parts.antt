@@ -1,8 +1,7 @@
 -- The parts of a command. The arity of each command's words is known here, and definitions above go by these.
-use Rattle.std.specs.Prelude.{ℕ, List, Option, Some, None, ⊤}
+use Rattle.std.specs.Prelude.{ℕ, List, Option, Some, None}
 use Rattle.tapa_words.specs.Words.{Command, Run, Build, Plan, Cosim, Vcd, Gen, Asks}
 use Rattle.tapa_words.specs.declared.command.CosimAim.{CosimAim}
-use Rattle.tapa_words.specs.declared.command.CosimAim.TheVariants.{Dump}
 use Rattle.tapa_words.specs.declared.command.PlanAim.{PlanAim}
 use Rattle.tapa_words.specs.declared.command.PlanMode.{PlanMode}
 
@@ -69,10 +68,3 @@ file_in (Plan source top device mode aim) = Some device
 file_in (Cosim text given limit aim) = given
 file_in (Vcd file net) = None
 file_in (Gen layers workers) = None
-
--- the commands that the program has not yet: they are refused as words that are no command
-abbrev pub IsToCome : Command → Type 0
-IsToCome (Cosim text given limit Dump) = ⊤
-IsToCome (Vcd file net) = ⊤
-IsToCome (Gen layers workers) = ⊤
-IsToCome other = ⊥

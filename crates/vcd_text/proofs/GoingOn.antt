@@ -21,7 +21,7 @@ use Rattle.vcd_text.proofs.Going.{put, put_here, put_there, turn, keep, change, 
 abbrev pub AreKnown : List Net → ℕ → Known → Type 0
 AreKnown nets k p = (i : ℕ) (x : Net) → i < k → slice_get nets i ≡ Some x → (v : ℕ) × (p i ≡ Some v) × (v < 2 ^ x.bits)
 
-net_at : (nets : List Net) (i : ℕ) → i < length nets → (x : Net) × (slice_get nets i ≡ Some x)
+pub net_at : (nets : List Net) (i : ℕ) → i < length nets → (x : Net) × (slice_get nets i ≡ Some x)
 net_at [] i h = absurd (omega arith)
 net_at (x ∷ nets) zero h = (x, refl)
 net_at (x ∷ nets) (suc i) h = net_at nets i (omega arith)

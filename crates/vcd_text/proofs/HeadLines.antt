@@ -173,7 +173,7 @@ type_same false false y z e = (refl, append_cancel_left (net_type false) y z e)
 type_same true false y z e = absurd (omega (arith, (heads 114 119 _ _ e).0))
 type_same false true y z e = absurd (omega (arith, (heads 119 114 _ _ e).0))
 
-var_same : (k : ℕ) (x w : Net) (y z : Bytes) → IsName x.name → IsName w.name → x.bits ≤ 128 → w.bits ≤ 128 → var_line k x ++ y ≡ var_line k w ++ z → (x ≡ w) × (y ≡ z)
+pub var_same : (k : ℕ) (x w : Net) (y z : Bytes) → IsName x.name → IsName w.name → x.bits ≤ 128 → w.bits ≤ 128 → var_line k x ++ y ≡ var_line k w ++ z → (x ≡ w) × (y ≡ z)
 var_same k x w y z n m p q e =
     let one : net_type x.is_reg ++ (decimal x.bits ++ 32 ∷ (identifier k ++ 32 ∷ (x.name ++ 32 ∷ (codes "$end\n" ++ y)))) ≡ net_type w.is_reg ++ (decimal w.bits ++ 32 ∷ (identifier k ++ 32 ∷ (w.name ++ 32 ∷ (codes "$end\n" ++ z)))) = append_cancel_left (codes "$var ") _ _ (sym (var_flat k x y) ∙ e ∙ var_flat k w z) in
     let two : (x.is_reg ≡ w.is_reg) × (decimal x.bits ++ 32 ∷ (identifier k ++ 32 ∷ (x.name ++ 32 ∷ (codes "$end\n" ++ y))) ≡ decimal w.bits ++ 32 ∷ (identifier k ++ 32 ∷ (w.name ++ 32 ∷ (codes "$end\n" ++ z)))) = type_same x.is_reg w.is_reg _ _ one in
@@ -190,7 +190,7 @@ var_same k x w y z n m p q e =
         let typed : Bool → Net = λ r. record { name = w.name; bits = w.bits; is_reg = r } in
         ap named a ∙ ap sized b ∙ ap typed c
 
-var_begins : (k : ℕ) (x : Net) (y z : Bytes) → var_line k x ++ y ≡ head_end ++ z → ⊥
+pub var_begins : (k : ℕ) (x : Net) (y z : Bytes) → var_line k x ++ y ≡ head_end ++ z → ⊥
 var_begins k x y z e = absurd (omega (arith, (heads 118 117 _ _ (heads 36 36 _ _ e).1).0))
 
 -- ---- behind a line
@@ -217,7 +217,7 @@ end_steps xs are a z = (to, λ l. head_ends xs a z are l)
 
 -- ---- a text that begins with no line of the head
 
-some_head : (xs : List Net) → AreNets xs → (a : Answer) × (z : Bytes) × LeftOfHead xs a (head_end ++ z)
+pub some_head : (xs : List Net) → AreNets xs → (a : Answer) × (z : Bytes) × LeftOfHead xs a (head_end ++ z)
 some_head xs are =
     let s : (a : Answer) × (z : Bytes) × Left xs 0 0 (λ _. None) [] a z = some_left xs 0 0 (λ _. None) [] (omega arith) (λ i x h at. absurd (omega arith)) in
     (s.0, s.1, head_ends xs s.0 s.1 are s.2)

@@ -16,3 +16,7 @@ pub mod HeadSteps
 pub mod HeadLines
 pub mod NoDump
 pub mod ValuesOf
+pub mod Tables
+pub mod Tops
+pub mod OneDump
+pub mod Ends

@@ -43,6 +43,13 @@ IsFromWidth nets k w = (n : ℕ) × (y : Bytes) × (1 ≤ n) × (n < 129) × IsF
 abbrev pub IsFromType : List Port → ℕ → Bytes → Type 0
 IsFromType nets k w = (r : Bool) × (y : Bytes) × IsFromWidth nets k y × (w ≡ net_type r ++ y)
 
+-- the lines of the time scale and of the top's name
+abbrev pub top_line : Name → Bytes
+top_line x = codes "$timescale 1 ns $end\n$scope module " ++ (x ++ codes " $end\n")
+
+abbrev pub IsTopLine : Bytes → Type 0
+IsTopLine w = (x : Name) × IsName x × (w ≡ top_line x)
+
 -- the line of one more net, or the end of the head
 abbrev pub IsHeadLineTo : List Port → ℕ → Bytes → Type 0
 IsHeadLineTo nets k w = (w ≡ head_end) ⊎ ((y : Bytes) × IsFromType nets k y × (w ≡ codes "$var " ++ y))

@@ -7,3 +7,4 @@ pub mod Rest
 pub mod Head
 pub mod Answers
 pub mod Nets
+pub mod Table

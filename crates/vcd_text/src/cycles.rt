@@ -1,6 +1,6 @@
 //! What is read behind the head of a dump: the values of the first cycle, and the changes of later ones.
 
-ghost use Rattle.std.specs.Prelude.{◌≡◌, ◌+◌, ◌<◌, ◌^◌, ℕ, List, [], None, length, map, slice_get, IfOk, IfErr};
+ghost use Rattle.std.specs.Prelude.{◌≡◌, ◌+◌, ◌<◌, ◌≤◌, ◌^◌, ℕ, List, [], None, length, map, slice_get, IfOk, IfErr};
 ghost use Rattle.vcd_text.specs.Nets.{Net};
 ghost use Rattle.vcd_text.specs.Read.{port_of};
 ghost use Rattle.vcd_text.specs.Lines.{HaveBits};
@@ -25,6 +25,7 @@ pub(crate) fn read_first<'a>(
     requires few { length nets.now < 2 ^ 32 }
     requires bits { HaveBits nets.now }
     ensures values { IfOk result (λ r. HaveValues nets.now r.0.items) }
+    ensures short { IfOk result (λ r. length r.2.now ≤ length text.now) }
     ensures found { IfOk result (λ r. (xs : List Net) → nets.now ≡ map port_of xs → Serves (Left xs 0 0 (λ _. None) []) text.now (Left xs 0 (length xs) (slice_get r.0.items) r.1.items) r.2.now) }
     ensures stop { IfErr result (λ h. (xs : List Net) → nets.now ≡ map port_of xs → IsStopOf (Left xs 0 0 (λ _. None) []) text.now h) }
 {

@@ -12,7 +12,7 @@ ghost use Rattle.vcd_text.specs.Head.{name_run, IsFree, MayName, IsNameWord, IsT
 use crate::along::{expect, next_byte};
 use crate::change::digits_at;
 use crate::identifier::identifier_at;
-use tapa_base::Port;
+use crate::table::NetTable;
 use vlog_tree::is_name;
 
 /// The greatest width of a net.
@@ -108,26 +108,14 @@ fn name_length(text: &[u8]) -> usize
     }
 }
 
-// Whether no net has a name.
-fn is_free(nets: &[Port], name: &[u8]) -> bool
-    ensures { MatchBool result (IsFree nets.now name.now) (IsFree nets.now name.now → ⊥) }
-{
-    for net in nets {
-        if net.name.bytes() == name {
-            return false;
-        }
-    }
-    true
-}
-
-fn may_name(nets: &[Port], name: &[u8]) -> bool
+fn may_name(nets: &NetTable, name: &[u8]) -> bool
     ensures { MatchBool result (MayName nets.now name.now) (MayName nets.now name.now → ⊥) }
 {
-    is_name(name) && is_free(nets, name)
+    is_name(name) && nets.is_free(name)
 }
 
 // A name that no net has yet, and what stands behind the blank behind it.
-fn name_at<'a>(nets: &[Port], text: &'a [u8]) -> Result<(&'a [u8], &'a [u8]), usize>
+fn name_at<'a>(nets: &NetTable, text: &'a [u8]) -> Result<(&'a [u8], &'a [u8]), usize>
     ensures found { IfOk result (λ r. MayName nets.now r.0.now × (text.now ≡ (r.0.now ++ 32 ∷ []) ++ r.1.now)) }
     ensures stop { IfErr result (λ left. StopsBefore (IsNameWord nets.now) text.now left) }
 {
@@ -155,7 +143,7 @@ fn spaced_identifier(number: u32, text: &[u8]) -> Result<&[u8], usize>
 }
 
 /// From a name on to the end of its line: the name, and what stands behind the line.
-pub(crate) fn from_name<'a>(nets: &[Port], text: &'a [u8]) -> Result<(&'a [u8], &'a [u8]), usize>
+pub(crate) fn from_name<'a>(nets: &NetTable, text: &'a [u8]) -> Result<(&'a [u8], &'a [u8]), usize>
     ensures found { IfOk result (λ r. MayName nets.now r.0.now × (text.now ≡ (r.0.now ++ codes " $end\n") ++ r.1.now)) }
     ensures stop { IfErr result (λ left. StopsBefore (IsFromName nets.now) text.now left) }
 {
@@ -165,7 +153,7 @@ pub(crate) fn from_name<'a>(nets: &[Port], text: &'a [u8]) -> Result<(&'a [u8], 
 }
 
 fn from_identifier<'a>(
-    nets: &[Port],
+    nets: &NetTable,
     number: u32,
     text: &'a [u8],
 ) -> Result<(&'a [u8], &'a [u8]), usize>
@@ -181,7 +169,7 @@ fn from_identifier<'a>(
 type NetFound<'a> = (&'a [u8], u32);
 
 fn from_width<'a>(
-    nets: &[Port],
+    nets: &NetTable,
     number: u32,
     text: &'a [u8],
 ) -> Result<(NetFound<'a>, &'a [u8]), usize>
@@ -194,7 +182,7 @@ fn from_width<'a>(
 }
 
 fn from_type<'a>(
-    nets: &[Port],
+    nets: &NetTable,
     number: u32,
     text: &'a [u8],
 ) -> Result<(NetFound<'a>, &'a [u8]), usize>
@@ -207,7 +195,11 @@ fn from_type<'a>(
 }
 
 // The line of one more net.
-fn var_at<'a>(nets: &[Port], number: u32, text: &'a [u8]) -> Result<(NetFound<'a>, &'a [u8]), usize>
+fn var_at<'a>(
+    nets: &NetTable,
+    number: u32,
+    text: &'a [u8],
+) -> Result<(NetFound<'a>, &'a [u8]), usize>
     ensures found { IfOk result (λ r. IsNetFound nets.now number r.0.0.now r.0.1 text.now r.1.now) }
     ensures stop { IfErr result (λ left. StopsBefore (λ w. (y : List ℕ) × IsFromType nets.now number y × (w ≡ codes "$var " ++ y)) text.now left) }
 {
@@ -219,7 +211,7 @@ fn var_at<'a>(nets: &[Port], number: u32, text: &'a [u8]) -> Result<(NetFound<'a
 /// The net that the line at the front of a text declares, or none at the end of the head, and what stands behind it; or how
 /// many bytes are left where the text stops going along with such a line.
 pub(crate) fn head_line<'a>(
-    nets: &[Port],
+    nets: &NetTable,
     text: &'a [u8],
 ) -> Result<(Option<NetFound<'a>>, &'a [u8]), usize>
     requires { length nets.now < 2 ^ 32 }

@@ -12,7 +12,11 @@ mod laws;
 mod line;
 mod number;
 mod push;
+mod read;
+mod table;
 mod value;
 
 pub use dump::{Change, Dump, VcdFault};
-pub use laws::{law_dump_or_none, law_none_once};
+pub use laws::{law_dump_or_none, law_none_once, law_one_dump, law_reads_values};
+pub use push::{push_change, push_cycle, push_var};
+pub use read::read_vcd;

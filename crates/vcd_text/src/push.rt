@@ -7,7 +7,7 @@ use itoa::Buffer;
 use std::alloc::AllocError;
 
 /// The identifier of the net of a number.
-fn push_identifier(text: &mut Vec<u8>, number: u32) -> Result<(), AllocError>
+fn push_identifier(text: &mut Vec<u8>, number: u64) -> Result<(), AllocError>
     ensures { OnOk result (text.new.items ≡ text.old.items ++ identifier number) }
 {
     text.push(33 + (number % 94) as u8)?;
@@ -29,13 +29,12 @@ fn push_binary(text: &mut Vec<u8>, number: u128) -> Result<(), AllocError>
     Ok(())
 }
 
-/// The value of a net of so many bits.
+/// The value of a net of so many bits, where it fits them.
 fn push_value(text: &mut Vec<u8>, bits: u32, value: u128) -> Result<(), AllocError>
-    requires { value < 2 ^ bits }
-    ensures { OnOk result (text.new.items ≡ text.old.items ++ value_text bits value) }
+    ensures { OnOk result (value < 2 ^ bits → text.new.items ≡ text.old.items ++ value_text bits value) }
 {
     if bits == 1 {
-        text.push(48 + value as u8)?;
+        text.push(48 + (value % 2) as u8)?;
         return Ok(());
     }
     text.push(b'b')?;
@@ -44,15 +43,15 @@ fn push_value(text: &mut Vec<u8>, bits: u32, value: u128) -> Result<(), AllocErr
     Ok(())
 }
 
-/// The line of a net's change.
-pub(crate) fn push_change(
+/// Puts the line of a net's change behind a text, for the net of a number and of so many bits, where the value fits them.
+/// Want of memory leaves a part of the line there.
+pub fn push_change(
     text: &mut Vec<u8>,
-    number: u32,
+    number: u64,
     bits: u32,
     value: u128,
 ) -> Result<(), AllocError>
-    requires { value < 2 ^ bits }
-    ensures { OnOk result (text.new.items ≡ text.old.items ++ change_line number bits value) }
+    ensures { OnOk result (value < 2 ^ bits → text.new.items ≡ text.old.items ++ change_line number bits value) }
 {
     push_value(text, bits, value)?;
     push_identifier(text, number)?;
@@ -67,8 +66,8 @@ fn push_decimal(text: &mut Vec<u8>, number: u64) -> Result<(), AllocError>
     text.extend_from_slice(buffer.format(number).as_bytes())
 }
 
-/// The line of a cycle.
-pub(crate) fn push_cycle(text: &mut Vec<u8>, cycle: u64) -> Result<(), AllocError>
+/// Puts the line of a cycle behind a text. Want of memory leaves a part of it there.
+pub fn push_cycle(text: &mut Vec<u8>, cycle: u64) -> Result<(), AllocError>
     ensures { OnOk result (text.new.items ≡ text.old.items ++ cycle_line cycle) }
 {
     text.push(b'#')?;
@@ -87,10 +86,10 @@ fn push_type(text: &mut Vec<u8>, is_reg: bool) -> Result<(), AllocError>
     }
 }
 
-/// The line that declares the net of a number.
-pub(crate) fn push_var(
+/// Puts the line that declares the net of a number behind a text. Want of memory leaves a part of it there.
+pub fn push_var(
     text: &mut Vec<u8>,
-    number: u32,
+    number: u64,
     name: &[u8],
     bits: u32,
     is_reg: bool,

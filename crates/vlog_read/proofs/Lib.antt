@@ -14,6 +14,7 @@ pub mod Placed
 pub mod Stopped
 pub mod OnePlace
 pub mod OneTop
+pub mod OneFault
 pub mod CutNames
 pub mod Uncut
 pub mod Judged

@@ -28,3 +28,12 @@ pub fn law_printed()
     law_one_tree();
     law_design_is_not_refused();
 }
+
+/// A text is refused with one fault at most, but for want of memory; and the text of a design with none.
+pub fn law_one_fault()
+    ensures once { (text : List ℕ) (e f : VFaultTree) → RefusesText text e → RefusesText text f → (e ≡ fault.OutOfMemory → ⊥) → (f ≡ fault.OutOfMemory → ⊥) → e ≡ f }
+    ensures taken { (text : List ℕ) (d : DesignTree) (e : VFaultTree) → HasTree text d.modules → IsDesign d.modules d.top → RefusesText text e → e ≡ fault.OutOfMemory }
+{
+    law_one_tree();
+    law_design_is_not_refused();
+}

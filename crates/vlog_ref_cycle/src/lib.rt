@@ -13,4 +13,5 @@ mod streams;
 
 pub use following::next;
 pub use numbers::net_number;
+pub use places::module_named;
 pub use streams::{carries, is_done};

@@ -12,7 +12,7 @@ use vlog_tree::{Item, Module};
 use vlog_values::Held;
 
 /// The first module of a name.
-pub(crate) fn module_named<'a>(modules: &'a [Module], name: &Text) -> Option<&'a Module>
+pub fn module_named<'a>(modules: &'a [Module], name: &Text) -> Option<&'a Module>
     ensures { option_copied result ≡ module_named_lem modules.now name.now }
 {
     for m in modules {

@@ -2,12 +2,11 @@
 
 ghost use Rattle.std.specs.Prelude.{◌≡◌, ◌∷◌, ◌++◌, [], map, IfOk, OnOk};
 ghost use Rattle.std.specs.List.{flat_map};
-ghost use Rattle.std.specs.Option.{option_copied};
-ghost use Rattle.vlog_tree.specs.Table.{module_named as module_named_lem};
 ghost use Rattle.vlog_ref_start.specs.Instances.{place_tree, line_places, inner_places};
 
 use std::alloc::{AllocError, Global};
 use tapa_base::Text;
+use vlog_ref_cycle::module_named;
 use vlog_tree::{Item, Module};
 
 /// An instance: the names of the instances on the way to it, the innermost first, and its module.
@@ -15,17 +14,6 @@ use vlog_tree::{Item, Module};
 pub(crate) struct Place<'a> {
     pub path: Vec<Text>,
     pub module: &'a Module,
-}
-
-fn module_named<'a>(modules: &'a [Module], name: &Text) -> Option<&'a Module>
-    ensures { option_copied result ≡ module_named_lem modules.now name.now }
-{
-    for m in modules {
-        if m.name().bytes() == name.bytes() {
-            return Some(m);
-        }
-    }
-    None
 }
 
 // The way to an instance inside another.

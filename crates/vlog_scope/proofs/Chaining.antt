@@ -158,7 +158,7 @@ place_here start d ds x p again false e ih h =
     let z : p - start ≡ suc (p - suc start) = omega arith in
     (omega arith, ap (λ k. name_at (d ∷ ds) k) z ∙ r.1)
 
-place_of : (start : ℕ) (ds : List Declaration) (x : Name) (p : ℕ) (again : Bool) → places_from start (map declaration_name ds) x ≡ Some (p, again) → (start ≤ p) × (name_at ds (p - start) ≡ x)
+pub place_of : (start : ℕ) (ds : List Declaration) (x : Name) (p : ℕ) (again : Bool) → places_from start (map declaration_name ds) x ≡ Some (p, again) → (start ≤ p) × (name_at ds (p - start) ≡ x)
 place_of start [] x p again e = cc
 place_of start (d ∷ ds) x p again e = place_here start d ds x p again (bytes_eq d.name x) refl (λ h. place_of (suc start) ds x p again h) e
 

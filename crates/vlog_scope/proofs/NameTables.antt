@@ -1,5 +1,5 @@
 -- A map from names after one more name was put in.
-use Rattle.std.proofs.Common.{◌≡◌, ℕ, Bool, true, false, cond, List, map, Option, refl, sym, ap, subst, ◌∙◌, Vec}
+use Rattle.std.proofs.Common.{◌≡◌, ℕ, Bool, true, false, cond, List, Option, refl, sym, ap, subst, ◌∙◌, Vec}
 use Rattle.std.specs.Prelude.{bytes_eq, Some, unwrap_or}
 use Rattle.std.specs.HashMap.{HashMap, UpdatesBy}
 use Rattle.std.specs.Map.{lookup, IsKeyTest, AreApart, KeepsOthers}
@@ -13,12 +13,12 @@ unwrap_cond : (b : Bool) (w : ℕ) (o : Option ℕ) → unwrap_or (cond b (Some 
 unwrap_cond true w o = refl
 unwrap_cond false w o = refl
 
-others : {K X : Type 0} (eq : K → K → Bool) (test : K → Bool) (old new : List (K × X)) → KeepsOthers eq test old new
+pub others : {K X : Type 0} (eq : K → K → Bool) (test : K → Bool) (old new : List (K × X)) → KeepsOthers eq test old new
     → (other : K → Bool) → IsKeyTest eq other → AreApart test other → lookup other new ≡ lookup other old
 unfolding KeepsOthers
 others eq test old new h = h
 
-by_bytes : {W : Type 0} (f g : List ℕ → W) (bs : List ℕ) (w : W) → g bs ≡ w → ((cs : List ℕ) → bytes_eq bs cs ≡ false → g cs ≡ f cs) → (cs : List ℕ) → (b : Bool) → bytes_eq bs cs ≡ b → g cs ≡ cond b w (f cs)
+pub by_bytes : {W : Type 0} (f g : List ℕ → W) (bs : List ℕ) (w : W) → g bs ≡ w → ((cs : List ℕ) → bytes_eq bs cs ≡ false → g cs ≡ f cs) → (cs : List ℕ) → (b : Bool) → bytes_eq bs cs ≡ b → g cs ≡ cond b w (f cs)
 by_bytes f g bs w here other cs true y = subst (λ l. g l ≡ w) ((bytes_decides bs cs).0 y) here
 by_bytes f g bs w here other cs false n = other cs n
 

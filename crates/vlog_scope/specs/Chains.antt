@@ -1,5 +1,5 @@
 -- Places of names by a hash of the name.
-use Rattle.std.specs.Prelude.{◌≡◌, ◌≢◌, ℕ, ◌+◌, ◌*◌, ◌-◌, ◌%◌, ◌<◌, ◌≤◌, List, [], ◌∷◌, length, get_or, bit_and}
+use Rattle.std.specs.Prelude.{◌≡◌, ◌≢◌, ℕ, zero, suc, ◌+◌, ◌*◌, ◌-◌, ◌%◌, ◌<◌, ◌≤◌, List, [], ◌∷◌, length, get_or, bit_and, All}
 use Rattle.vlog_tree.specs.declared.table.Declaration.{Declaration}
 use Rattle.vlog_tree.specs.Table.{Name, unknown}
 
@@ -26,3 +26,19 @@ pub record IsChained (least : ℕ) (ds : List Declaration) (heads nexts : List �
   pub later : (p : ℕ) → least ≤ p → p < length ds → p < get_or nexts p 0
   pub next : (p : ℕ) → least ≤ p → p < length ds → get_or nexts p 0 < length ds → chain_of (length heads) (name_at ds (get_or nexts p 0)) ≡ chain_of (length heads) (name_at ds p)
   pub between : (p q : ℕ) → least ≤ p → p < q → q < get_or nexts p 0 → q < length ds → chain_of (length heads) (name_at ds q) ≢ chain_of (length heads) (name_at ds p)
+
+-- the number so many steps further on a chain; from a number past the last place no step leads on
+unfoldable pub further : List ℕ → ℕ → ℕ → ℕ
+further nexts zero p = p
+further nexts (suc n) p = further nexts n (get_or nexts p p)
+
+-- the most places of a chain that is walked
+abbrev pub longest : ℕ
+longest = 32
+
+-- a chain with this head has no more places
+unfoldable pub IsShort : List ℕ → ℕ → Type 0
+IsShort nexts head = length nexts ≤ further nexts longest head
+
+abbrev pub AreShort : List ℕ → List ℕ → Type 0
+AreShort heads nexts = All (IsShort nexts) heads

@@ -1,13 +1,16 @@
 // The places of names in a list of declarations, by a hash of the name. Names of one hash are on one chain: from its head, the first
 // place, each place leads to the next. No name is copied, and names that differ in their last byte have heads next to one another.
 
-ghost use Rattle.std.specs.Prelude.{◌≡◌, ◌<◌, ◌≤◌, ℕ, suc, Some, None, length, map, drop, is_some, IfSome, IfOk};
+ghost use Rattle.std.specs.Prelude.{◌≡◌, ◌<◌, ◌≤◌, ℕ, suc, false, nat_lt, Some, None, length, map, drop, is_some, IfSome, IfOk};
 ghost use Rattle.vlog_tree.specs.Table.{declaration_name};
 ghost use Rattle.vlog_scope.specs.NameTable.{places_from};
-ghost use Rattle.vlog_scope.specs.Chains.{hash_from, chain_of, name_at, IsChained};
+ghost use Rattle.vlog_scope.specs.Chains.{hash_from, chain_of, name_at, IsChained, further, AreShort};
 
 use std::alloc::{AllocError, Global};
 use vlog_tree::Declaration;
+
+/// The most places of a chain that is walked.
+const LONGEST: usize = 32;
 
 /// By the number of a chain its head, and by a place the next one; a number past the last place is none.
 #[derive(Drop)]
@@ -77,6 +80,37 @@ pub(crate) fn chains_of(alloc: Global, declarations: &[Declaration]) -> Result<C
         link(&mut chains, declarations, left);
     }
     Ok(chains)
+}
+
+// Whether a chain goes on for more than so many places.
+fn is_longer(nexts: &[usize], head: usize, most: usize) -> bool
+    ensures { result ≡ nat_lt (further nexts.now most head) (length nexts.now) }
+{
+    let mut at = head;
+    let mut left = most;
+    while left > 0 && at < nexts.len() {
+        left -= 1;
+        at = nexts[at];
+    }
+    at < nexts.len()
+}
+
+fn is_one_long(heads: &[usize], nexts: &[usize]) -> bool
+    ensures { result ≡ false → AreShort heads.now nexts.now }
+{
+    for head in heads {
+        if is_longer(nexts, *head, LONGEST) {
+            return true;
+        }
+    }
+    false
+}
+
+/// Whether a chain has more than `LONGEST` places; with ordinary names none has.
+pub(crate) fn has_long_chain(chains: &Chains) -> bool
+    ensures { result ≡ false → AreShort chains.now.heads.items chains.now.nexts.items }
+{
+    is_one_long(&chains.heads, &chains.nexts)
 }
 
 // The first place that has a name, from a place of its chain on.

@@ -5,6 +5,8 @@
 mod chains;
 mod library;
 mod name_table;
+mod ordered;
+mod places;
 mod scope;
 
 pub use library::Library;

@@ -2,12 +2,12 @@
 
 ghost use Rattle.std.specs.Prelude.{◌≡◌, ◌<◌, ◌++◌, ◌∷◌, [], suc, Some, None, map, drop, is_some, IfOk, IfSome, OnOk, length, get_or};
 ghost use Rattle.vlog_scope.specs.NameTable.{places_from};
-ghost use Rattle.vlog_scope.specs.Chains.{name_at, IsChained};
+ghost use Rattle.vlog_scope.specs.Chains.{name_at};
 ghost use Rattle.vlog_tree.specs.Table.{declared, items_declared, port_declared, find_name, unknown, net_kind_of, bits_of, cells_of, is_doubled_name};
 ghost use Rattle.vlog_tree.specs.Form.{IsModule};
 ghost use Rattle.vlog_tree.specs.Table.{module_declared, declaration_name};
 
-use crate::chains::{Chains, chains_of, first_place, is_again};
+use crate::places::NamePlaces;
 use std::alloc::{AllocError, Global};
 use std::marker::Model;
 use tapa_base::Text;
@@ -17,19 +17,19 @@ use vlog_tree::{Declaration, Item, Module, NetKind, PortDecl};
 #[derive(Drop)]
 pub struct Scope {
     declarations: Vec<Declaration>,
-    chains: Chains,
+    places: NamePlaces,
 }
 
 impl Model for Scope {
     ghost use Rattle.std.specs.Prelude.{List};
     ghost use Rattle.vlog_tree.specs.declared.table.Declaration.{Declaration};
-    ghost use Rattle.vlog_scope.specs.Chains.{IsChained};
+    ghost use Rattle.vlog_scope.specs.NamePlaces.{HasPlaces};
 
     ghost Value = { List Declaration };
 
     ghost view = { λ scope. scope.declarations.items };
 
-    ghost invariant = { λ scope. IsChained 0 scope.declarations.items scope.chains.heads.items scope.chains.nexts.items };
+    ghost invariant = { λ scope. HasPlaces scope.declarations.items scope.places };
 }
 
 /// A text of its own with the same bytes.
@@ -147,10 +147,10 @@ impl Scope {
     fn of(alloc: Global, declarations: Vec<Declaration>) -> Result<Scope, AllocError>
         ensures { IfOk result (λ scope. scope ≡ declarations.items) }
     {
-        let chains = chains_of(alloc, &declarations)?;
+        let places = NamePlaces::of(alloc, &declarations)?;
         Ok(Scope {
             declarations,
-            chains,
+            places,
         })
     }
 
@@ -194,9 +194,7 @@ impl Scope {
     pub fn place(&self, name: &Text) -> Option<(usize, bool)>
         ensures { result ≡ places_from 0 (map declaration_name self.now) name.now }
     {
-        let place = self.first_place(name.bytes())?;
-        let again = is_again(&self.chains, &self.declarations, name.bytes(), place);
-        Some((place, again))
+        self.places.find(&self.declarations, name.bytes())
     }
 
     /// The first place of a name.
@@ -206,7 +204,7 @@ impl Scope {
         ensures found { IfSome result (λ p. places_from 0 (map declaration_name self.now) name.now ≡ Some (p, is_some (places_from (suc p) (map declaration_name (drop (suc p) self.now)) name.now))) }
         ensures none { result ≡ None → places_from 0 (map declaration_name self.now) name.now ≡ None }
     {
-        first_place(&self.chains, &self.declarations, name)
+        self.places.first(&self.declarations, name)
     }
 
     // What a name stands for, where it is declared.

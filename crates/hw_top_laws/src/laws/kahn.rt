@@ -1,6 +1,7 @@
-//! The law of what circuits carry: the contract of a function that does nothing.
+//! The laws of what circuits carry: the contracts of functions that do nothing.
 
 ghost use Rattle.hw_top_laws.specs.kahn.Carries.{CircuitsCarryStreams, CircuitsCarryBeside};
+ghost use Rattle.hw_top_laws.specs.kahn.Excluded.{StandingStill, DoneBeforeAnEnd, DoneBeforeTheWhole, DoneTooLate, OtherTokens, ReadyTooLong};
 
 /// In a run of the circuit of a program, in any environment that fits it, from any power-up contents and with any added
 /// latencies, each stream carries in every cycle what the timed counts write, a prefix of its Kahn stream, and all of it
@@ -10,4 +11,17 @@ ghost use Rattle.hw_top_laws.specs.kahn.Carries.{CircuitsCarryStreams, CircuitsC
 pub fn law_circuits_carry_streams()
     ensures run { CircuitsCarryStreams }
     ensures beside { CircuitsCarryBeside }
+{}
+
+/// What carrying a program's streams excludes, by the definitions alone: to stand still while a run of the program shows something, to be
+/// done before an instance that is waited for has ended or a stream has carried its whole Kahn stream, to be done later than the
+/// stated bound, and to carry another token. What a channel owes excludes to be ready while it holds as many tokens as it has
+/// room for.
+pub fn law_carrying_excludes()
+    ensures still { StandingStill }
+    ensures end { DoneBeforeAnEnd }
+    ensures whole { DoneBeforeTheWhole }
+    ensures late { DoneTooLate }
+    ensures other { OtherTokens }
+    ensures ready { ReadyTooLong }
 {}

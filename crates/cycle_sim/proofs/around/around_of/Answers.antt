@@ -1,7 +1,7 @@
 use Rattle.std.proofs.Common.{◌∙◌}
 use Rattle.vlog_tree.specs.Labels.{done}
 use Rattle.cycle_sim.specs.Machines.{IsTopPlaced}
-use Rattle.cycle_sim.proofs.Naming.{done_read, done_clock}
+use Rattle.cycle_sim.proofs.TopNets.{done_read, done_clock}
 use Rattle.cycle_sim.proofs.around.around_of.Goals as goal
 
 pub returns : goal.returns
@@ -15,5 +15,6 @@ returns c = λ top f t at flat placed given.
       inputs = c.in_ok-inputs.ensures d.modules top f t here shape.0 shape.1;
       outside = c.in_ok-outside.ensures d.modules top f t here (c.deref.ensures.value ∙ shape.1);
       streams = c.in_ok-streams.ensures d.modules top f t here (c.deref-2.ensures.value ∙ c.in_ok-ports.ensures top at);
-      is_done = c.pair_named-done.ensures d.modules top f t done here c.in_ok-done_name.ensures (done_read d.modules top f pairs t names here) done_clock;
+      shown = c.in_ok-shown.ensures d.modules top f t here;
+      is_done = c.pair_named-done.ensures d.modules top f t done here c.in_ok-done_name.ensures (done_read d.modules flat.top_place flat.design top flat.top_at) done_clock;
     }

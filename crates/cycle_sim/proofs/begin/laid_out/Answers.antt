@@ -31,4 +31,4 @@ returns-clause-around c = λ m at.
     let given = subst (λ l. AreGiven d.modules m flat l (tree_of draft.tape)) (sym c.deref.ensures.value) is.given in
     let a = c.in_ok-around.around in
     let around = c.in_ok-around.ensures m flat (tree_of draft.tape) at is.flat placed given in
-    rw c.in_ok-finished.ensures.pairs (subst (λ l. IsAround d.modules m flat l c.args.scalars.now a.inputs.items a.outside.items a.streams.items a.done) c.deref.ensures.value around)
+    rw c.in_ok-finished.ensures.pairs (subst (λ l. IsAround d.modules m flat l c.args.scalars.now a.inputs.items a.outside.items a.streams.items a.shown.items a.done) c.deref.ensures.value around)

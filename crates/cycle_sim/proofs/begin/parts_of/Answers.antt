@@ -12,5 +12,5 @@ returns-clause-parts c =
       top = top;
       at = at;
       machine = c.in_ok-finished.ensures.machine top at;
-      around = subst (λ l. IsAround c.args.design.modules top c.in_ok-flat.flat f.pairs.items l a.inputs.items a.outside.items a.streams.items a.done) c.deref-2.ensures.value (c.in_ok-finished.ensures.around top at);
+      around = subst (λ l. IsAround c.args.design.modules top c.in_ok-flat.flat f.pairs.items l a.inputs.items a.outside.items a.streams.items a.shown.items a.done) c.deref-2.ensures.value (c.in_ok-finished.ensures.around top at);
     }

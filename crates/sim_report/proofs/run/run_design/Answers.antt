@@ -4,6 +4,7 @@ use Rattle.run_program.proofs.Lines.{on_err}
 use Rattle.cycle_sim.specs.Simulators.{sim_of}
 use Rattle.sim_report.specs.declared.run.DesignEnd.{DesignEnd}
 use Rattle.sim_report.specs.Ending.{EndsSo}
+use Rattle.sim_report.specs.Reports.{IsSimulated}
 use Rattle.sim_report.proofs.Simulating.{simulated_so, ends}
 use Rattle.sim_report.proofs.run.run_design.Goals as goal
 
@@ -33,4 +34,4 @@ returns-clause-end g c =
     let is = simulated_so c.args.design env c.args.limit top c.top-top.ensures c.modules-modules.ensures.design (c.requires.fits top c.top-top.ensures) (sim_of c.in_ok-sim.sim) c.in_ok-sim.ensures (sim_of c.run_cycles.new.sim) done_at c.in_ok-carried.carried.tokens.items c.in_ok-carried.ensures.done c.in_ok-carried.ensures.tokens c.in_ok-carried.ensures.later
     c.deref.result.now c.deref-3.result.now (c.deref.ensures.value ∙ c.in_ok-streams.ensures top c.top-top.ensures) (c.deref-3.ensures.value ∙ (c.in_ok-shape.ensures top c.top-top.ensures).1)
     c.deref-2.result.now c.last_after.result c.deref-2.ensures.value c.last_after.ensures in
-    subst (λ (e : DesignEnd). EndsSo c.args.design env c.args.limit old new e) (sym c.end_after.ensures) (ends c.args.design env c.args.limit old new done_at _ is c.in_ok-show.ensures.whole)
+    subst (λ (e : DesignEnd). EndsSo IsSimulated c.args.design env c.args.limit old new e) (sym c.end_after.ensures) (ends IsSimulated c.args.design env c.args.limit old new done_at _ is c.in_ok-show.ensures.whole)

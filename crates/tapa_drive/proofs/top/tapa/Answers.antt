@@ -1,6 +1,6 @@
 use Rattle.std.proofs.Common.{ap}
 use Rattle.tapa_words.specs.Words.{texts}
-use Rattle.command_source.specs.Outside.{outside, written}
+use Rattle.command_source.specs.Outside.{written}
 use Rattle.tapa_drive.proofs.AllDecided.{all_decided}
 use Rattle.tapa_drive.proofs.top.tapa.Goals as goal
 

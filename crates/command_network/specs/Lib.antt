@@ -1,0 +1,4 @@
+pub mod Layers
+pub mod Summaries
+pub mod Network
+pub mod Nothing

@@ -1,0 +1,14 @@
+use Rattle.std.proofs.Common.{ap, ◌∙◌, arith}
+use Rattle.tapa_syntax.specs.Symbols.{text_of}
+use Rattle.stream_arrays.specs.Words.{element_name}
+use Rattle.stream_arrays.specs.Writing.{writing, said_word}
+use Rattle.stream_arrays.proofs.Writers.{said_elements}
+use Rattle.stream_arrays.proofs.declaration.write_elements.Goals as goal
+
+pub loop-i-preserved : goal.loop-i-preserved
+loop-i-preserved c = record {
+  written =
+      said_elements (text_of c.args.text.now c.args.name.now) c.loop-i.i (writing c.args.out.now) (writing c.loop-i.out) (writing c.word.new.self) (writing c.element-in-loop-i.new.self) (omega arith) c.loop-i.invariant.written c.in_ok-word.ensures
+      (c.in_ok-element-2.ensures ∙ ap (λ z. said_word (writing c.word.new.self) (element_name z c.loop-i.i)) c.text_of-word.ensures);
+  within = omega arith;
+}

@@ -1,0 +1,9 @@
+pub mod Standing
+pub mod Numbers
+pub mod Forms
+pub mod Words
+pub mod Written
+pub mod Answers
+pub mod Plain
+pub mod Writing
+pub mod Reading
