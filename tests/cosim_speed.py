@@ -1,18 +1,25 @@
 #!/usr/bin/env python3
-"""Measures how fast a built `tapa` simulates circuits beside Icarus Verilog (and Verilator, where it is there), and prints the rows of docs/FIGURES.md.
+"""Measures how fast a built `tapa` simulates circuits beside Icarus Verilog and, where it is there, Verilator, and prints the rows of docs/FIGURES.md.
 
-    tests/cosim_speed.py PROGRAM
+    tests/cosim_speed.py PROGRAM [--only WORD] [--no-verilator]
+    tests/cosim_speed.py PROGRAM --counted [--only WORD]
 
-The circuits are those of the examples, with loops and data so much longer that the start of a program counts for little, and a row of 36 busy tasks. Both simulators run
+The circuits are those of the examples, with loops and data so much longer that the start of a program counts for little; a row of 36 busy tasks; a chain of 512 tasks of which
+one passes a token on; and those of tests/cosim_speed, each a program of a usual kind, with arrays and memories in its tasks and twenty to sixty states. All simulators run
 the same text on the same data, until it is done or for so many cycles: examples that stop go on for a while. Seconds are processor seconds, the best of three;
-Icarus's are those of `vvp` alone, with the testbench of tools/icarus.py.
+Icarus's are those of `vvp` alone, and Verilator's those of the program that `verilator --binary -O3` makes, both with the testbench of tools/icarus.py.
+
+With --counted nothing is timed: `valgrind --tool=callgrind` counts the instructions that `cosim` takes, for two numbers of cycles, and what is told is the difference for a cycle,
+which no other work on the machine disturbs.
 """
 import glob
 import json
 import math
 import os
+import random
 import re
 import shlex
+import shutil
 import subprocess
 import sys
 import tempfile
@@ -24,10 +31,13 @@ sys.path.insert(0, os.path.join(ROOT, "tools"))
 import icarus  # noqa: E402
 
 TIMES, SHORT, CELLS, CYCLES = 500, 20, 60_000, 200_000
+COUNTED = (300, 1_300)
 
 
 def longer(text, times):
-    """A source whose loops and constants go so many times as far."""
+    """A source whose loops and constants go so many times as far, but not the counts of arrays of streams and of invokes."""
+    constants = dict(re.findall(r"const int (\w+) = (\d+);", text))
+    text = re.sub(r"(tapa::(?:streams|invoke|join|detach)(?:<\w+)?, )(\w+)", lambda it: it[1] + constants.get(it[2], it[2]), text)
     text = re.sub(r"(for \([^;]*; \w+ <=? )(\d+)(;)", lambda it: f"{it[1]}{int(it[2]) * times}{it[3]}", text)
     return re.sub(r"(const (?:int|uint64_t) \w+ = )(\d+)(;)", lambda it: f"{it[1]}{int(it[2]) * times}{it[3]}", text)
 
@@ -49,6 +59,26 @@ def busy(tasks, turns):
     return f"{text}void T() {{ {streams}tapa::task().invoke(P, s0){middle}.invoke(C, s{tasks - 2}); }}\n"
 
 
+def waiting(tasks):
+    """A chain of tasks that all wait for tokens, of which few come."""
+    text = "void P(tapa::ostream<int>& q) { for (int i = 0; i < 3; ++i) { q << i; } }\n"
+    text += "void M(tapa::istream<int>& p, tapa::ostream<int>& q) { for (int i = 0; i < 3; ++i) { int x = p.read(); q << x + 1; } }\n"
+    text += "void C(tapa::istream<int>& p) { for (int i = 0; i < 3; ++i) { p.read(); } }\n"
+    streams = "".join(f"tapa::stream<int> s{at}; " for at in range(tasks - 1))
+    middle = "".join(f".invoke(M, s{at}, s{at + 1})" for at in range(tasks - 2))
+    return f"{text}void T() {{ {streams}tapa::task().invoke(P, s0){middle}.invoke(C, s{tasks - 2}); }}\n"
+
+
+def written(path):
+    """A circuit of tests/cosim_speed: its first line tells the top task, the scalars and how many cells each memory has, which are filled with numbers of a fixed seed."""
+    with open(path, encoding="utf-8") as file:
+        text = file.read()
+    _, top, told = text.split("\n")[0].split(maxsplit=2)
+    told, numbers = json.loads(told), random.Random(7)
+    memories = {name: [numbers.randrange(256) for _ in range(count)] for name, count in told["cells"].items()}
+    return os.path.basename(path).removesuffix(".cpp"), text, top, {"scalars": told["scalars"], "memories": memories}
+
+
 def cases():
     """Each circuit: its name, its source, its top task and its data."""
     for path in sorted(glob.glob(os.path.join(ROOT, "examples", "*.cpp"))):
@@ -62,6 +92,9 @@ def cases():
         times = SHORT if "stencil" in path else TIMES
         yield os.path.basename(path).removesuffix(".cpp"), longer(text, times), words[1], longer_data(data, times)
     yield "36 busy tasks in a row", busy(36, 2_000), "T", {}
+    yield "512 tasks of which one passes a token", waiting(512), "T", {}
+    for path in sorted(glob.glob(os.path.join(HERE, "cosim_speed", "*.cpp"))):
+        yield written(path)
 
 
 def seconds(words, folder):
@@ -78,14 +111,27 @@ def seconds(words, folder):
         return best, said.read().split("\n")[-2]
 
 
-def measured(program, folder, source, top, data):
+def build(program, folder, source, top, data):
+    """Writes the source, its data and its circuit into a folder, and gives the text of the circuit."""
     for name, text in (("r.cpp", source), ("d.json", json.dumps(data))):
         with open(os.path.join(folder, name), "w", encoding="utf-8") as file:
             file.write(text)
     with open(os.path.join(folder, "x.v"), "w", encoding="utf-8") as file:
         subprocess.run([program, "build", "r.cpp", top], cwd=folder, stdout=file, check=True)
     with open(os.path.join(folder, "x.v"), encoding="utf-8") as file:
-        text = file.read()
+        return file.read()
+
+
+def verilated(folder):
+    """The program that Verilator makes of the circuit and its testbench; none where Verilator is not there."""
+    if not shutil.which("verilator"):
+        return None
+    words = ["verilator", "--binary", "-O3", "--timing", "-Wno-fatal", "-Wno-lint", "-Wno-style", "--top-module", "bench", "-Mdir", "made", "x.v", "bench.v"]
+    made = subprocess.run(words, cwd=folder, capture_output=True, check=False)
+    return [os.path.join(folder, "made", "Vbench")] if made.returncode == 0 else None
+
+
+def measured(program, folder, text, data, with_verilator):
     with open(os.path.join(folder, "bench.v"), "w", encoding="utf-8") as file:
         file.write("\n".join(icarus.bench(text, data, CYCLES)) + "\n")
     subprocess.run(["iverilog", "-g2005", "-gno-xtypes", "-o", "bench", "x.v", "bench.v"], cwd=folder, check=True)
@@ -93,22 +139,81 @@ def measured(program, folder, source, top, data):
     other, same = seconds(["vvp", "-n", "bench"], folder)
     if last != same:
         sys.exit(f"they differ: {last}, {same}")
-    return int(last.split()[1]), own, other
+    compiled = verilated(folder) if with_verilator else None
+    return int(last.split()[1]), own, other, seconds_beside(compiled, folder, last) if compiled else None
+
+
+def seconds_beside(words, folder, last):
+    """The processor seconds of Verilator's program, which says more behind the last line of a report."""
+    best = None
+    for _ in range(3):
+        ran = subprocess.Popen(words, cwd=folder, stdout=subprocess.PIPE, stderr=subprocess.DEVNULL)
+        said = ran.stdout.read().decode()
+        _, _, spent = os.wait4(ran.pid, 0)
+        ran.returncode = 0
+        used = spent.ru_utime + spent.ru_stime
+        best = used if best is None else min(best, used)
+    if last not in said.split("\n"):
+        sys.exit(f"Verilator's program does not say {last}")
+    return best
+
+
+def instructions(program, folder, cycles):
+    """The instructions of `cosim` for so many cycles, and the cycles that it came to."""
+    words = ["valgrind", "--tool=callgrind", "--callgrind-out-file=counts", program, "cosim", "x.v", "d.json", "--cycles", str(cycles)]
+    ran = subprocess.run(words, cwd=folder, capture_output=True, text=True, check=False)
+    return int(re.search(r"Collected : (\d+)", ran.stderr)[1]), int(ran.stdout.split("\n")[-2].split()[1])
+
+
+def mean_of(ratios):
+    return math.exp(sum(math.log(ratio) for ratio in ratios) / len(ratios))
+
+
+def count(program, folder, only):
+    """Prints the instructions of a cycle of each circuit."""
+    print("| circuit | instructions a cycle |\n|---|---|")
+    found = []
+    for name, source, top, data in cases():
+        if only in name:
+            build(program, folder, source, top, data)
+            (few, before), (many, after) = (instructions(program, folder, cycles) for cycles in COUNTED)
+            found.append((many - few) / (after - before))
+            print(f"| {name} | {found[-1]:,.0f} |", flush=True)
+    print(f"| geometric mean of {len(found)} | {mean_of(found):,.0f} |")
+
+
+def measure(program, folder, only, with_verilator):
+    """Prints the seconds of each circuit beside the others' simulators."""
+    print("| circuit | cycles | `cosim` | vvp | times as fast | Verilator | times as slow |\n|---|---|---|---|---|---|---|")
+    ratios, slower = [], []
+    for name, source, top, data in cases():
+        if only not in name:
+            continue
+        text = build(program, folder, source, top, data)
+        cycles, own, other, compiled = measured(program, folder, text, data, with_verilator)
+        ratios.append(other / own)
+        beside = ""
+        if compiled is not None:
+            slower.append(own / max(compiled, 0.001))
+            beside = f"{compiled:.3f} s | {slower[-1]:.1f}"
+        print(f"| {name} | {cycles:,} | {own:.3f} s | {other:.3f} s | {other / own:.1f} | {beside or '|'} |", flush=True)
+    last = f"{mean_of(slower):.1f}" if slower else ""
+    print(f"| geometric mean of {len(ratios)} | | | | {mean_of(ratios):.1f} | | {last} |")
 
 
 def main(words):
-    if len(words) != 1:
+    known = {"--counted", "--no-verilator"}
+    only = words[words.index("--only") + 1] if "--only" in words[:-1] else ""
+    rest = [word for word in words if word not in known | {"--only", only}]
+    if len(rest) != 1:
         print(__doc__.strip(), file=sys.stderr)
         return 2
-    print("| circuit | cycles | `cosim` | vvp | times as fast |\n|---|---|---|---|---|")
-    ratios = []
+    program = os.path.abspath(rest[0])
     with tempfile.TemporaryDirectory() as folder:
-        for name, source, top, data in cases():
-            cycles, own, other = measured(os.path.abspath(words[0]), folder, source, top, data)
-            ratios.append(other / own)
-            print(f"| {name} | {cycles:,} | {own:.3f} s | {other:.3f} s | {other / own:.1f} |", flush=True)
-    mean = math.exp(sum(math.log(ratio) for ratio in ratios) / len(ratios))
-    print(f"| geometric mean of {len(ratios)} | | | | {mean:.1f} |")
+        if "--counted" in words:
+            count(program, folder, only)
+        else:
+            measure(program, folder, only, "--no-verilator" not in words)
     return 0
 
 

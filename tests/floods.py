@@ -3,7 +3,7 @@
 
     tests/floods.py PROGRAM [--seconds N] [--seed S]      60 seconds and seed 1, where nothing else is said
 
-The good files are the examples, their circuits and devices, and random networks. Sources, data, device files, Verilog texts and words are changed: bytes, tokens,
+The good files are the examples, their circuits, devices and dumps, random networks, and random sources with stream arrays. Sources, data, device files, Verilog texts, dumps and words are changed: bytes, tokens,
 sizes, nesting, numbers at bounds, and parts of two files in one. Each call has 10 seconds and 2 GB of memory, and its output goes to a file. An input is a command
 with its files; it is kept in the folder that the first line names where its answer is wrong: a signal, no end, a status or a message that is not
 documented, output where there may be none, another answer with other workers. So are the inputs that took each command most time and memory. The last line is
@@ -13,13 +13,14 @@ import collections
 import json
 import os
 import random
+import re
 import shutil
 import sys
 import tempfile
 import time
 
 from figures import device, network
-from runner import mutants
+from runner import arrays, mutants
 from runner.hostile import Caller, Judge
 from runner.trial import ROOT, read
 
@@ -43,7 +44,7 @@ class Good:
     """A good source with its top task, data, device and Verilog text."""
 
     def __init__(self, source, top, data=b"{}", given=b"{}"):
-        self.source, self.top, self.data, self.device, self.text = source, top, data, given, b""
+        self.source, self.top, self.data, self.device, self.text, self.dump = source, top, data, given, b"", b""
 
 
 def examples():
@@ -91,9 +92,14 @@ class Flood:
             good.text = caller.call([b"build", b"r.cpp", good.top.encode()]).out
             if not good.text:
                 raise SystemExit(f"tests/floods.py: no circuit of {good.top}")
+            caller.put("x.v", good.text)
+            caller.put("d.json", good.data)
+            good.dump = caller.call([b"cosim", b"x.v", b"d.json", b"--cycles=60", b"--vcd"]).out
+            if not good.dump:
+                raise SystemExit(f"tests/floods.py: no dump of {good.top}")
 
     def text(self, good, field):
-        """A changed text: a source, data, a device file or a Verilog text."""
+        """A changed text: a source, data, a device file, a Verilog text or a dump."""
         own, other = getattr(good, field), getattr(self.some.choice(self.goods), field)
         if self.some.random() < 0.02:
             return mutants.noise(self.some)
@@ -104,7 +110,7 @@ class Flood:
     def files(self, good, fields):
         """Files by name, of which one is changed, sometimes two."""
         chosen = self.some.sample(fields, 2 if len(fields) > 1 and self.some.random() < 0.1 else 1)
-        names = {"source": "r.cpp", "data": "d.json", "device": "v.json", "text": "x.v"}
+        names = {"source": "r.cpp", "data": "d.json", "device": "v.json", "text": "x.v", "dump": "w.vcd"}
         return {names[field]: self.text(good, field) if field in chosen else getattr(good, field) for field in fields}
 
     def run(self):
@@ -130,10 +136,33 @@ class Flood:
         good = self.some.choice(self.goods)
         return Input(["cosim", "x.v", "d.json", f"--cycles={self.some.choice([1, 7, 100, 100, 3000])}"], self.files(good, ["text", "text", "text", "data"]))
 
+    def dumped(self):
+        good = self.some.choice(self.goods)
+        return Input(["cosim", "x.v", "d.json", f"--cycles={self.some.choice([1, 7, 100, 100, 1000])}", "--vcd"], self.files(good, ["text", "text", "data"]))
+
+    def shown(self):
+        """The values of a net, by a changed dump."""
+        good = self.some.choice(self.goods)
+        names = re.findall(rb"^\$var \w+ \d+ \S+ (\S+) \$end$", good.dump, re.M)
+        net = self.some.choice([*names, *names, b"none", b"clk", b"", b"$end"])
+        return Input(["vcd", "w.vcd", net], self.files(good, ["dump"]))
+
+    def generated(self):
+        layers = self.some.choice([0, 1, 1, 2, 3, 5, 8, 20, 126, 127, 1000, 10 ** 18, 10 ** 20])
+        return Input(["gen", str(layers), *self.some.choice([[], [f"--workers={self.some.choice([0, 1, 2, 64, 65])}"]])], {})
+
+    def arrayed(self):
+        """A random source with stream arrays and counted invokes, as it is or changed: run, built, or planned."""
+        source = arrays.Source(self.some.random(), most_changes=self.some.choice([0, 2, 5])).text().encode()
+        if self.some.random() < 0.4:
+            source = mutants.changed(self.some, source, self.some.choice(self.goods).source)
+        words = self.some.choice([["run", "r.cpp", "T", f"--steps={self.some.choice([10, 5000])}"], ["build", "r.cpp", "T"], ["plan", "r.cpp", "T", "v.json"]])
+        return Input(words, {"r.cpp": source, "v.json": DEVICES[1].encode()})
+
     def spoken(self):
         """Changed words over good files that come to an end."""
         good = next(it for it in self.goods if it.top == "VecAdd")
-        lines = [["run", "r.cpp", "VecAdd", "d.json", "--steps", "1000", "--workers", "2"], ["build", "r.cpp", "VecAdd", "--device", "v.json", "--plan", "exact"], ["plan", "r.cpp", "VecAdd", "v.json", "--plan=split"], ["cosim", "x.v", "d.json", "--cycles", "90"]]
+        lines = [["run", "r.cpp", "VecAdd", "d.json", "--steps", "1000", "--workers", "2"], ["build", "r.cpp", "VecAdd", "--device", "v.json", "--plan", "exact"], ["plan", "r.cpp", "VecAdd", "v.json", "--plan=split"], ["cosim", "x.v", "d.json", "--cycles", "90"], ["cosim", "x.v", "d.json", "--cycles", "9", "--vcd"], ["vcd", "w.vcd", "done"], ["gen", "2", "--workers", "2"]]
         words = [word.encode() for word in self.some.choice(lines)]
         for _ in range(self.some.choice([1, 1, 2, 3])):
             at, way = self.some.randint(0, len(words)), self.some.randrange(5)
@@ -147,10 +176,10 @@ class Flood:
                 self.some.shuffle(words)
             else:
                 words[at:at + 1] = [mutants.changed(self.some, word, b"--steps=").replace(b"\0", b"")[:9000] for word in words[at:at + 1]]
-        return Input(words, {"r.cpp": good.source, "d.json": good.data, "v.json": good.device, "x.v": good.text})
+        return Input(words, {"r.cpp": good.source, "d.json": good.data, "v.json": good.device, "x.v": good.text, "w.vcd": good.dump})
 
     def next(self):
-        ways = [(self.run, 36), (self.built, 12), (self.planned, 24), (self.simulated, 20), (self.spoken, 8)]
+        ways = [(self.run, 24), (self.arrayed, 12), (self.built, 8), (self.planned, 18), (self.simulated, 12), (self.dumped, 8), (self.shown, 10), (self.generated, 1), (self.spoken, 7)]
         return self.some.choices([way for way, _ in ways], [weight for _, weight in ways])[0]()
 
 
@@ -197,14 +226,15 @@ class Found:
 
 def try_input(caller, judge, found, given):
     """Calls the program, and looks at its answer; a tenth of the runs with other workers too."""
-    verb = given.verb if given.verb in ("run", "build", "plan", "cosim") else "other words"
+    verb = given.verb if given.verb in ("run", "build", "plan", "cosim", "vcd", "gen") else "other words"
     verb = "build --device" if verb == "build" and any(word.startswith(b"--device") for word in given.words) else verb
+    verb = "cosim --vcd" if verb == "cosim" and b"--vcd" in given.words else verb
     for name, text in given.files.items():
         caller.put(name, text)
     answer = caller.call(given.words)
     found.count(given, verb, answer)
     names = [word.decode("utf-8", "surrogateescape") for word in given.words for word in (word, word.split(b"=", 1)[-1])]
-    wrong = judge.wrong(answer, given.verb, names)
+    wrong = judge.wrong(answer, "cosim --vcd" if verb == "cosim --vcd" else given.verb, names)
     workers = [at for at, word in enumerate(given.words) if word.startswith(b"--workers=")]
     if verb == "run" and len(workers) == 1 and len(given.words) == 6 and found.inputs % 10 == 0:
         words = list(given.words)

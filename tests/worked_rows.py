@@ -10,7 +10,7 @@ import importlib.util
 import sys
 
 # The stages whose rows are tried.
-STAGES = ["first", "front", "check", "run", "data", "verilog", "cosim", "plan", "pipes", "balance", "words", "faults", "detach", "device2", "split", "arrays", "dump"]
+STAGES = ["first", "front", "check", "run", "data", "verilog", "cosim", "plan", "pipes", "balance", "words", "free", "faults", "detach", "device2", "split", "arrays", "dump"]
 
 # Rows of these stages that need what is not built yet: beginnings of their names, each with what they wait for.
 LEFT_OUT = {}

@@ -191,7 +191,7 @@ OPEN = r"\b(FILE|LINE|COL|CODE|TEXT|KEY|NAME|LABEL|STREAM|N)\b"
 def messages():
     """The messages of docs/COMMAND.md: those of its table of statuses, and the texts of the codes."""
     rows = re.findall(r"^\| (\d) \| `(tapa: .*?)` \|", read("docs/COMMAND.md"), re.M)
-    texts = re.findall(r"`([LAPCV]\d+ [^`]*)`", read("docs/COMMAND.md"))
+    texts = re.findall(r"`([LAPCVX]\d+ [^`]*)`", read("docs/COMMAND.md"))
     return [line.replace("\\|", "|") for _, line in rows], texts
 
 
@@ -206,7 +206,7 @@ def told_by_code():
         folder = f"crates/{crate}/src"
         for name in sorted(os.listdir(os.path.join(ROOT, folder))):
             text = read(f"{folder}/{name}")
-            found.update(re.findall(r'"((?:tapa: |[LAPCV]\d+ | waits to | bad token )[^"]*?)(?:\\n)?"', text))
+            found.update(re.findall(r'"((?:tapa: |[LAPCVX]\d+ | waits to | bad token )[^"]*?)(?:\\n)?"', text))
     return {re.sub(r"\{\w*\}", "*", text) for text in found}
 
 

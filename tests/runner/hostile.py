@@ -11,10 +11,12 @@ from runner.trial import read
 PARTS = {"FILE": "(?P<told>.*?)", "LINE": r"[1-9]\d*", "COL": r"[1-9]\d*", "KEY": ".*", "NAME": ".*", "LABEL": r"[\w$]+", "STREAM": r"[\w$]+", "N": r"\d+"}
 
 # What each command may answer.
-MAY = {"run": "012356789", "build": "012345679", "plan": "012345679", "cosim": "01235679"}
+MAY = {"run": "012356789", "build": "012345679", "plan": "012345679", "cosim": "01235679", "cosim --vcd": "01235679", "vcd": "0125679", "gen": "0269"}
 
 # How the output of a whole answer ends.
-ENDS = {("run", 0): rb"done \d+\n", ("run", 8): rb"stopped \d+\n", ("cosim", 0): rb"done [1-9]\d*\n", ("cosim", 7): rb"running [1-9]\d*\n", ("build", 0): rb"endmodule\n", ("plan", 0): rb"dual \d+\n"}
+ENDS = {("cosim --vcd", 0): rb"#\d+\n|[01][!-~]+\n|b1[01]* [!-~]+\n", ("cosim --vcd", 7): rb"#\d+\n|[01][!-~]+\n|b1[01]* [!-~]+\n",
+        ("vcd", 0): rb"\d+ \d+\n", ("gen", 0): rb"cycles [1-9]\d*\n",
+        ("run", 0): rb"done \d+\n", ("run", 8): rb"stopped \d+\n", ("cosim", 0): rb"done [1-9]\d*\n", ("cosim", 7): rb"running [1-9]\d*\n", ("build", 0): rb"endmodule\n", ("plan", 0): rb"dual \d+\n"}
 
 
 def patterns():
@@ -102,7 +104,7 @@ class Judge:
     def output(self, answer, verb):
         """What is wrong with standard output."""
         out, status = answer.out, answer.status
-        is_undone = verb == "cosim" and status == 7 and answer.err.startswith(b"tapa: not done after ")
+        is_undone = verb.startswith("cosim") and status == 7 and answer.err.startswith(b"tapa: not done after ")
         if status in (0, 8) or is_undone:
             end = ENDS.get((verb, status))
             is_right = end and re.fullmatch(end, out[out.rfind(b"\n", 0, -1) + 1:])

@@ -116,25 +116,36 @@ def try_alike(trial):
         trial.check(f"{what}, in time", taken < 8, f"   {taken} seconds of a processor")
 
 
-def doubled(count):
+def doubled(count, last="assign o = a ;\n"):
     """Modules of which each has two instances of the next: 2 to the power of their number in all."""
-    inside = "module c{0} ( input a , output o ) ;\nwire p ;\nc{1} i ( . a ( a ) , . o ( p ) ) ;\nc{1} j ( . a ( p ) , . o ( o ) ) ;\nendmodule\n"
-    top = "module t_X ( input clk , input rst , output done ) ;\nc0 i ( . a ( rst ) , . o ( done ) ) ;\nendmodule\n"
-    return top + "".join(inside.format(at, at + 1) for at in range(count)) + f"module c{count} ( input a , output o ) ;\nassign o = a ;\nendmodule\n"
+    inside = ("module c{0} ( input clk , input a , output o ) ;\nwire p ;\nc{1} i ( . clk ( clk ) , . a ( a ) , . o ( p ) ) ;\n"
+              "c{1} j ( . clk ( clk ) , . a ( p ) , . o ( o ) ) ;\nendmodule\n")
+    top = "module t_X ( input clk , input rst , output done ) ;\nc0 i ( . clk ( clk ) , . a ( rst ) , . o ( done ) ) ;\nendmodule\n"
+    return top + "".join(inside.format(at, at + 1) for at in range(count)) + f"module c{count} ( input clk , input a , output o ) ;\n{last}endmodule\n"
+
+
+# 1,048,576 cells of 128 bits, which are 16 MB
+MEMORY = "reg [127:0] cells [ 0 : 1048575 ] ;\nassign o = a ;\nalways @ ( posedge clk ) begin\nif ( a ) begin\ncells [ a ] <= 128'd1 ;\nend\nend\n"
 
 
 def try_doubled(trial):
-    """A short text with more instances than there is memory for is told at once; one with a thousand is no matter."""
+    """A short text with more instances, or more cells, than there is memory for is told at once; one with a thousand instances is no matter."""
     trial.check_equal("modules doubled ten times", told(trial, doubled(10)), "ok")
-    for count, megabytes in ((30, 500), (40, 500), (70, 500)):
-        trial.put("x.v", doubled(count))
+    for what, text, megabytes in (
+        ("modules doubled 30 times", doubled(30), 500),
+        ("modules doubled 40 times", doubled(40), 500),
+        ("modules doubled 70 times", doubled(70), 500),
+        ("modules doubled 40 times", doubled(40), 4000),
+        ("a memory of 16 MB doubled 10 times", doubled(10, MEMORY), 4000),
+    ):
+        trial.put("x.v", text)
         limit = (megabytes << 20, megabytes << 20)
         said, taken = seconds(lambda: trial.run(["cosim", "x.v"], before=lambda: resource.setrlimit(resource.RLIMIT_AS, limit)))
         if b"AddressSanitizer" in said.err:
             trial.note("a build with a sanitizer has no limit on memory, so too many instances were not tried")
             return
-        trial.check_equal(f"modules doubled {count} times", (said.status, said.out, said.err), (9, b"", b"tapa: out of memory\n"))
-        trial.check(f"modules doubled {count} times in {megabytes} MB, in time", taken < 1, f"   {taken} seconds of a processor")
+        trial.check_equal(f"{what} in {megabytes} MB", (said.status, said.out, said.err), (9, b"", b"tapa: out of memory\n"))
+        trial.check(f"{what} in {megabytes} MB, in time", taken < 0.5, f"   {taken} seconds of a processor")
 
 
 def try_all(trial):

@@ -13,7 +13,7 @@ use Rattle.kahn_model.specs.Start.{network_of}
 use Rattle.net_core.specs.Bounded.{scalars_of, memories_of}
 use Rattle.net_core.specs.declared.input.Input.{Input}
 use Rattle.run_program.specs.Run.{Values, network, values_of}
-use Rattle.sim_report.specs.Reports.{IsSimulatedSo}
+use Rattle.sim_output.specs.Reports.{IsSimulatedSo}
 use Rattle.tapa_words.specs.Words.{default_cycles}
 use Rattle.vlog_design.specs.Designs.{DesignTree, TopOf}
 use Rattle.vlog_tree.specs.Cycle.{Cycle, Path}

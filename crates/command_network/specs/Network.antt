@@ -11,7 +11,7 @@ use Rattle.run_program.specs.Ending.{joined}
 use Rattle.run_program.specs.Run.{network, StoppedRun, LimitRun}
 use Rattle.run_program.specs.Totals.{IsTotalled}
 use Rattle.run_program.specs.declared.totals.Totals.{Totals}
-use Rattle.sim_report.specs.Reports.{IsSimulatedSo}
+use Rattle.sim_output.specs.Reports.{IsSimulatedSo}
 use Rattle.command_network.specs.Layers.{network_text, network_top}
 use Rattle.command_network.specs.Summaries.{summary_lines}
 use Rattle.command_network.specs.declared.lines.Summary.{Summary}

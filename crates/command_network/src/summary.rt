@@ -1,5 +1,5 @@
 // The numbers of a generated network.
-ghost use Rattle.std.specs.Prelude.{◌≤◌, [], IfOk, IfErr};
+ghost use Rattle.std.specs.Prelude.{◌<◌, ◌≤◌, [], IfOk, IfErr};
 ghost use Rattle.std.specs.Arc.{arc_value};
 ghost use Rattle.tapa_syntax.specs.WellFormed.{IsWellFormed};
 ghost use Rattle.hw_top_lines.specs.Legal.{HasOwnNames};
@@ -14,10 +14,12 @@ use crate::nothing::{no_input, no_surroundings};
 use crate::program::network_program;
 use command_plans::circuit_of;
 use command_source::Refusal;
+use coro_threads::{Crew, Gate};
 use run_program::{Totals, TotalsEnd, run_totals};
-use sim_report::done_cycle;
+use sim_output::done_cycle;
 use std::alloc::Global;
-use std::sync::Arc;
+use std::sync::{Arc, Wait};
+use std::thread::Threads;
 use tapa_syntax::Program;
 
 // The most ticks of the run, and the most cycles of the simulation.
@@ -26,8 +28,13 @@ const MOST_TICKS: u64 = 100_000_000;
 const MOST_CYCLES: u64 = 10_000_000;
 
 // What a run of a program without a value makes and carries in all, or why it does not end.
-fn totals_of<'a>(alloc: Global, program: &Arc<Program>) -> Result<Totals, Refusal<'a>>
-    requires { IsWellFormed (arc_value program.now) }
+fn totals_of<'a, R: Threads + Wait + Sync, G: Gate>(
+    crew: &Crew<'_, R, G>,
+    alloc: Global,
+    program: &Arc<Program>,
+) -> Result<Totals, Refusal<'a>>
+    requires workers { (0 < crew.now.workers) × (crew.now.workers ≤ 64) }
+    requires well_formed { IsWellFormed (arc_value program.now) }
     ensures run { IfOk result (IsTotalled (arc_value program.now) (no_values (arc_value program.now)) default_limit) }
     ensures refused { IfErr result (λ refusal. IsNotRun (arc_value program.now) (refusal_of refusal)) }
 {
@@ -39,7 +46,7 @@ fn totals_of<'a>(alloc: Global, program: &Arc<Program>) -> Result<Totals, Refusa
         Ok(input) => input,
         Err(_) => return Err(Refusal::Memory),
     };
-    match run_totals(alloc, program, &input, MOST_TICKS) {
+    match run_totals(crew, alloc, program, &input, MOST_TICKS) {
         Ok(TotalsEnd::Done { totals }) => Ok(totals),
         Ok(TotalsEnd::Stopped { lines }) => Err(Refusal::Stopped { lines }),
         Ok(TotalsEnd::Limit) => Err(Refusal::Ticks { limit: MOST_TICKS }),
@@ -69,10 +76,15 @@ fn cycles_of<'a>(alloc: Global, program: &Program) -> Result<u64, Refusal<'a>>
     }
 }
 
-/// The numbers of the network of so many layers: of its program, of the run of that, and of the simulation of its circuit. The first
-/// of these that refuses decides.
-pub(crate) fn summary_of<'a>(alloc: Global, layers: u32) -> Result<Summary, Refusal<'a>>
-    requires { layers ≤ most_layers }
+/// The numbers of the network of so many layers: of its program, of the run of that by the workers of a crew, and of the simulation
+/// of its circuit. The first of these that refuses decides.
+pub(crate) fn summary_of<'a, R: Threads + Wait + Sync, G: Gate>(
+    crew: &Crew<'_, R, G>,
+    alloc: Global,
+    layers: u32,
+) -> Result<Summary, Refusal<'a>>
+    requires workers { (0 < crew.now.workers) × (crew.now.workers ≤ 64) }
+    requires layers { layers ≤ most_layers }
     ensures is { IfOk result (IsSummaryOf layers) }
     ensures refused { IfErr result (λ refusal. IsUntold layers (refusal_of refusal)) }
 {
@@ -84,7 +96,7 @@ pub(crate) fn summary_of<'a>(alloc: Global, layers: u32) -> Result<Summary, Refu
         Ok(program) => program,
         Err(_) => return Err(Refusal::Memory),
     };
-    let totals = match totals_of(alloc, &program) {
+    let totals = match totals_of(crew, alloc, &program) {
         Ok(totals) => totals,
         Err(refusal) => return Err(refusal),
     };

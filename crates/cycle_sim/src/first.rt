@@ -46,6 +46,17 @@ fn add_widths(
     Ok(())
 }
 
+// Asks for room for the numbers of all memories inside at once, and gives it back: where a short text has more of them than there
+// is memory for, that is told before the first one is filled.
+fn ask_room(alloc: Global, widths: &[Width]) -> Result<(), AllocError> {
+    let mut numbers: usize = 0;
+    for width in widths {
+        numbers = numbers.saturating_add((width.cells as usize).saturating_mul(2));
+    }
+    let _room = Vec::<u64>::with_capacity(alloc, numbers)?;
+    Ok(())
+}
+
 fn cells_at(alloc: Global, memories: &[Vec<u64>], at: usize) -> Result<Vec<u64>, AllocError>
     ensures { IfOk result (λ v. v.items ≡ slice_index_or (lists_of memories.now) at []) }
 {
@@ -83,6 +94,7 @@ pub fn first_cells(
     ensures outside { IfOk result (λ v. (i : ℕ) → i < count → get_or (cells_of v.items) i [] ≡ slice_index_or (lists_of memories.now) i []) }
     ensures inside { IfOk result (λ v. (i : ℕ) (w : WidthTree) → slice_get widths.now i ≡ Some w → (get_or (cells_of v.items) (count + 2 * i) [] ≡ replicate w.cells (fill % 2 ^ w.bits)) × (get_or (cells_of v.items) (count + 2 * i + 1) [] ≡ replicate w.cells 0)) }
 {
+    ask_room(alloc, widths)?;
     let mut all = outside_cells(alloc, memories, count)?;
     add_widths(alloc, &mut all, widths, fill)?;
     Ok(all)

@@ -6,3 +6,4 @@ pub mod Showing
 pub mod Starting
 pub mod Totalling
 pub mod Waiting
+pub mod Sending

@@ -1,5 +1,5 @@
 -- How a driven network's end is the program's.
-use Rattle.std.proofs.Common.{◌≡◌, ℕ, zero, suc, ◌+◌, ◌<◌, List, [], ◌∷◌, ◌++◌, length, Bool, true, false, Some, refl, sym, ◌∙◌, ap, subst, get_or, add-zero, zero-add, arith}
+use Rattle.std.proofs.Common.{◌≡◌, ℕ, suc, ◌+◌, ◌<◌, List, [], ◌∷◌, ◌++◌, length, Bool, true, false, Some, refl, sym, ◌∙◌, ap, subst, get_or, add-zero, zero-add, arith}
 use Rattle.std.specs.Prelude.{if◌then◌else◌, slice_get, slice_index_or}
 use Rattle.std.proofs.lemmas.Option.{slice_get-get_or, slice_get_within}
 use Rattle.tapa_syntax.specs.declared.program.Program.{Program}
@@ -7,7 +7,7 @@ use Rattle.tapa_syntax.specs.declared.program.Memory.{Memory}
 use Rattle.tapa_syntax.specs.declared.program.Stream.{Stream}
 use Rattle.tapa_syntax.specs.WellFormed.{IsWellFormed}
 use Rattle.kahn_model.specs.Cells.{after_stores, memory_at, owner_of, cells_at}
-use Rattle.kahn_model.specs.Counts.{ticks_made, IsReachable}
+use Rattle.kahn_model.specs.Counts.{IsReachable}
 use Rattle.kahn_model.specs.Ending.{EndsWithin, GoesPast}
 use Rattle.kahn_model.specs.Network.{Network}
 use Rattle.kahn_model.specs.Outcome as kahn

@@ -1,5 +1,5 @@
-// A run of a flat program on an input on one thread, and its report.
-ghost use Rattle.std.specs.Prelude.{◌≤◌, IfOk, OnErr, IsErrOf};
+// A run of a flat program on an input, and its report.
+ghost use Rattle.std.specs.Prelude.{◌<◌, ◌≤◌, IfOk, OnErr, IsErrOf};
 ghost use Rattle.std.specs.Arc.{arc_value};
 ghost use Rattle.tapa_files.specs.Outside.{Rose};
 ghost use Rattle.tapa_syntax.specs.WellFormed.{IsWellFormed};
@@ -13,10 +13,12 @@ use crate::shown::show;
 use crate::start::coroutines;
 use crate::waits::wait_lines;
 use coro_machine::Coro;
-use net_core::{Input, Net, Outcome, settle};
+use coro_threads::{Crew, Gate, Run, run_by};
+use net_core::{Input, Net, Outcome};
 use run_data::Last;
 use std::alloc::Global;
-use std::sync::Arc;
+use std::sync::{Arc, Wait};
+use std::thread::Threads;
 use tapa_base::OutOfMemory;
 use tapa_files::{PrintFault, Sink};
 use tapa_syntax::Program;
@@ -46,16 +48,18 @@ pub(crate) fn network(
     Net::new(alloc, program.clone()?, input.clone()?, bodies)
 }
 
-// Drives the network, and writes its report.
-fn drive<O: Sink>(
+// Drives the network by the workers of a crew, and writes its report.
+fn drive<R: Threads + Wait + Sync, G: Gate, O: Sink>(
+    crew: &Crew<'_, R, G>,
     alloc: Global,
     program: &Program,
     input: &Input,
-    net: &mut Net<Coro>,
+    net: Net<Coro>,
     limit: u64,
     out: &mut O,
 ) -> Result<RunEnd, PrintFault>
-    requires fresh { IsFresh program.now input.now net.old }
+    requires workers { (0 < crew.now.workers) × (crew.now.workers ≤ 64) }
+    requires fresh { IsFresh program.now input.now net }
     requires limit { limit ≤ 1000000000000 }
     ensures end { IfOk result (λ end. EndsSo program.now (values_of input.now) limit (O.contents out.old) (O.contents out.new) end) }
     ensures part { OnErr result (HasPart program.now (values_of input.now) limit (O.contents out.old) (O.contents out.new)) }
@@ -63,31 +67,34 @@ fn drive<O: Sink>(
     ensures later { O.faults out.old ≤ O.faults out.new }
     ensures fault { IsErrOf result PrintFault.WriteFault → Rose (O.faults out.old) (O.faults out.new) }
 {
-    match settle(alloc, net, limit)? {
+    let Run { net, end } = run_by(crew, alloc, net, limit);
+    match end? {
         Outcome::Done { ticks } => {
-            show(alloc, program, input, net, Last::Done(ticks), out)?;
+            show(alloc, program, input, &net, Last::Done(ticks), out)?;
             Ok(RunEnd::Done)
         }
         Outcome::Stopped { ticks } => {
-            let lines = wait_lines(alloc, program, net)?;
-            show(alloc, program, input, net, Last::Stopped(ticks), out)?;
+            let lines = wait_lines(alloc, program, &net)?;
+            show(alloc, program, input, &net, Last::Stopped(ticks), out)?;
             Ok(RunEnd::Stopped { lines })
         }
         Outcome::Limit => Ok(RunEnd::Limit),
     }
 }
 
-/// Runs a program on an input on one thread at its declared depths, and writes the report: what each stream carried, the last
+/// Runs a program on an input at its declared depths, by the workers of a crew, and writes the report: what each stream carried, the last
 /// cells of each memory, and the ticks of the joined instances. All joined instances together make at most `limit` ticks, and
 /// each detached one as many of its own. After an error the output holds what it held and a front part of the report; a
 /// write fails only where there is a report.
-pub fn run_program<O: Sink>(
+pub fn run_program<R: Threads + Wait + Sync, G: Gate, O: Sink>(
+    crew: &Crew<'_, R, G>,
     alloc: Global,
     program: Program,
     input: Input,
     limit: u64,
     out: &mut O,
 ) -> Result<RunEnd, PrintFault>
+    requires workers { (0 < crew.now.workers) × (crew.now.workers ≤ 64) }
     requires well_formed { IsWellFormed program }
     requires fits { FitsInput program (scalars_of input) (memories_of input) }
     requires limit { limit ≤ 1000000000000 }
@@ -105,6 +112,6 @@ pub fn run_program<O: Sink>(
         Ok(input) => input,
         Err(_) => return Err(PrintFault::OutOfMemory),
     };
-    let mut net = network(alloc, &program, &input)?;
-    drive(alloc, &program, &input, &mut net, limit, out)
+    let net = network(alloc, &program, &input)?;
+    drive(crew, alloc, &program, &input, net, limit, out)
 }

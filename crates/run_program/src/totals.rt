@@ -1,5 +1,5 @@
 // What a run makes and carries in all, without its report.
-ghost use Rattle.std.specs.Prelude.{◌≡◌, ◌+◌, ◌%◌, ◌^◌, ◌≤◌, length, sum_by, IfOk};
+ghost use Rattle.std.specs.Prelude.{◌≡◌, ◌+◌, ◌%◌, ◌^◌, ◌<◌, ◌≤◌, length, sum_by, IfOk};
 ghost use Rattle.std.specs.Arc.{arc_value};
 ghost use Rattle.tapa_syntax.specs.WellFormed.{IsWellFormed};
 ghost use Rattle.kahn_model.specs.Fits.{FitsInput};
@@ -13,9 +13,11 @@ ghost use Rattle.run_program.specs.Totals.{datum_of, tokens_below, sum_below, Ar
 use crate::run::network;
 use crate::waits::wait_lines;
 use coro_machine::Coro;
-use net_core::{Body, Input, Net, Outcome, settle};
+use coro_threads::{Crew, Gate, Run, run_by};
+use net_core::{Body, Input, Net, Outcome};
 use std::alloc::Global;
-use std::sync::Arc;
+use std::sync::{Arc, Wait};
+use std::thread::Threads;
 use tapa_base::{OutOfMemory, Token};
 use tapa_syntax::Program;
 
@@ -79,43 +81,48 @@ fn carried<B: Body>(net: &Net<B>, streams: usize, ticks: u64) -> Result<Totals, 
     Ok(Totals { ticks, tokens, sum })
 }
 
-// Drives the network of a program, and adds up what it shows.
-fn drive(
+// Drives the network of a program by the workers of a crew, and adds up what it shows.
+fn drive<R: Threads + Wait + Sync, G: Gate>(
+    crew: &Crew<'_, R, G>,
     alloc: Global,
     program: &Program,
-    net: &mut Net<Coro>,
+    net: Net<Coro>,
     limit: u64,
 ) -> Result<TotalsEnd, OutOfMemory>
-    requires fresh { IsFresh program.now net.old.input net.old }
+    requires workers { (0 < crew.now.workers) × (crew.now.workers ≤ 64) }
+    requires fresh { IsFresh program.now net.input net }
     requires limit { limit ≤ 1000000000000 }
-    ensures { IfOk result (TotalsEndSo program.now (values_of net.old.input) limit) }
+    ensures { IfOk result (TotalsEndSo program.now (values_of net.input) limit) }
 {
-    match settle(alloc, net, limit)? {
+    let Run { net, end } = run_by(crew, alloc, net, limit);
+    match end? {
         Outcome::Done { ticks } => {
-            let totals = carried(net, program.streams.len(), ticks)?;
+            let totals = carried(&net, program.streams.len(), ticks)?;
             Ok(TotalsEnd::Done { totals })
         }
         Outcome::Stopped { ticks: _ticks } => {
-            let lines = wait_lines(alloc, program, net)?;
+            let lines = wait_lines(alloc, program, &net)?;
             Ok(TotalsEnd::Stopped { lines })
         }
         Outcome::Limit => Ok(TotalsEnd::Limit),
     }
 }
 
-/// Runs a program on an input on one thread at its declared depths, and tells what it made and carried in all. All joined
-/// instances together make at most `limit` ticks, and each detached one as many of its own.
-pub fn run_totals(
+/// Runs a program on an input at its declared depths, by the workers of a crew, and tells what it made and carried in all. All
+/// joined instances together make at most `limit` ticks, and each detached one as many of its own.
+pub fn run_totals<R: Threads + Wait + Sync, G: Gate>(
+    crew: &Crew<'_, R, G>,
     alloc: Global,
     program: &Arc<Program>,
     input: &Arc<Input>,
     limit: u64,
 ) -> Result<TotalsEnd, OutOfMemory>
+    requires workers { (0 < crew.now.workers) × (crew.now.workers ≤ 64) }
     requires well_formed { IsWellFormed (arc_value program.now) }
     requires fits { FitsInput (arc_value program.now) (scalars_of (arc_value input.now)) (memories_of (arc_value input.now)) }
     requires limit { limit ≤ 1000000000000 }
     ensures { IfOk result (TotalsEndSo (arc_value program.now) (values_of (arc_value input.now)) limit) }
 {
-    let mut net = network(alloc, program, input)?;
-    drive(alloc, program, &mut net, limit)
+    let net = network(alloc, program, input)?;
+    drive(crew, alloc, program, net, limit)
 }

@@ -1,5 +1,5 @@
 -- Numbers of the nets of instances, one instance behind the other.
-use Rattle.std.proofs.Common.{◌≡◌, ℕ, ◌+◌, ◌<◌, ◌≤◌, List, [], ◌∷◌, ◌++◌, length, get_or, Some, inl, inr, refl, sym, ap, subst, ◌∙◌, arith}
+use Rattle.std.proofs.Common.{◌≡◌, ℕ, suc, ◌+◌, ◌<◌, ◌≤◌, List, [], ◌∷◌, ◌++◌, length, take, get_or, Some, inl, inr, refl, sym, ap, subst, ◌∙◌, arith}
 use Rattle.std.specs.Prelude.{◌⊎◌, slice_get, replicate}
 use Rattle.std.specs.Option.{option_map_or}
 use Rattle.std.proofs.lemmas.Bool.{cases_lt}
@@ -12,7 +12,9 @@ use Rattle.sim_flat.specs.Instances.{IsModuleOf, AreInstances}
 use Rattle.sim_flat.specs.declared.tables.Table.{Table}
 use Rattle.sim_flat.specs.Tables.{AreTables}
 use Rattle.sim_flat.specs.Flat.{IsOwner, AreNumbered}
-use Rattle.sim_flat.specs.Numbering.{count_at, IsNumbering}
+use Rattle.sim_flat.specs.Numbering.{names_at, count_at, IsNumbering}
+use Rattle.sim_flat.specs.Sizes.{own_sum}
+use Rattle.sim_flat.proofs.Sizing.{sum_next}
 use Rattle.sim_flat.proofs.Got.{got_left, got_behind, got_split, got_replicate, of_replicate}
 
 pub numbering_start : (count : ℕ → ℕ) (n : ℕ) → n ≡ 0 → IsNumbering count n [] []
@@ -23,6 +25,9 @@ numbering_start count n e = record {
   owned = λ k j low h. absurd (omega arith);
   owner = λ number k h. cc;
 }
+
+pub numbering_none : (count : ℕ → ℕ) (n : ℕ) (first owners : List ℕ) → n ≡ 0 → first ≡ [] → owners ≡ [] → IsNumbering count n first owners
+numbering_none count n first owners e f o = subst (λ l. IsNumbering count n first l) (sym o) (subst (λ l. IsNumbering count n l []) (sym f) (numbering_start count n e))
 
 start_more : (first : List ℕ) (owners more : ℕ) → get_or first 0 owners ≡ 0 → get_or (first ++ owners ∷ []) 0 more ≡ 0
 start_more [] owners more e = e
@@ -102,6 +107,18 @@ numbering_next tables rows k count first owners new_first new_owners c f o i =
     subst (λ l. IsNumbering (count_at tables rows) (k + 1) l new_owners) (sym f)
     (subst (λ l. IsNumbering (count_at tables rows) (k + 1) (first ++ length owners ∷ []) l) (sym (o ∙ ap (λ n. owners ++ replicate n k) c))
     (numbering_more (count_at tables rows) k first owners i))
+
+-- as many nets as the modules of the instances declare names
+pub nets_next : (tables : List Table) (rows : List row.Instance) (k count : ℕ) (owners new_owners : List ℕ) → k < length rows → count ≡ names_at tables (row_at rows k).kind
+    → new_owners ≡ owners ++ replicate count k → length owners ≡ own_sum (names_at tables) (take k rows) → length new_owners ≡ own_sum (names_at tables) (take (k + 1) rows)
+nets_next tables rows k count owners new_owners low c o e =
+    let a : length new_owners ≡ length owners + length (replicate count k) = ap length o ∙ length-append owners (replicate count k) in
+    let r : length (replicate count k) ≡ count = length-replicate count k in
+    let s : own_sum (names_at tables) (take (suc k) rows) ≡ own_sum (names_at tables) (take k rows) + names_at tables (row_at rows k).kind = sum_next (names_at tables) rows k low in
+    let n : suc k ≡ k + 1 = omega arith in
+    let t : own_sum (names_at tables) (take (suc k) rows) ≡ own_sum (names_at tables) (take (k + 1) rows) = ap (λ m. own_sum (names_at tables) (take m rows)) n in
+    let z : length new_owners ≡ own_sum (names_at tables) (take (suc k) rows) = omega (arith, a, r, s, c, e) in
+    z ∙ t
 
 -- with as many names as the modules of instances declare
 module _ (ms : List ModuleTree) (top : ModuleTree) (tables : List Table) (rows : List row.Instance) (first_child first owners : List ℕ) (t : AreTables ms tables) (a : AreInstances ms top rows first_child)

@@ -130,7 +130,7 @@ module _ (ms : List ModuleTree) (place : ℕ) (d : IsDesign ms place) (top : Mod
         let most : (row_at rows (length first)).depth ≡ length ms = deepest (length first) (omega arith) low in
         omega arith
 
-    all_done : length rows ≤ length first
+    pub all_done : length rows ≤ length first
     all_done = elim (cases_lt (length first) (length rows)) [ inl lt ↦ absurd (no_more lt) | inr ge ↦ ge ]
 
     inside_all : (k c : ℕ) (m : ModuleTree) → k < length rows → IsModuleOf ms rows k m → c < length (instances m) → IsInside rows (get_or first k 0 + c) k c

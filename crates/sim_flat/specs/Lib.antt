@@ -8,3 +8,4 @@ pub mod Numbering
 pub mod Written
 pub mod Edges
 pub mod Order
+pub mod Sizes

@@ -1,14 +1,17 @@
 // A flattened design.
 
-ghost use Rattle.std.specs.Prelude.{◌≡◌, ◌<◌, ◌++◌, ◌∷◌, [], IfOk, OnOk, length, replicate, slice_get, option_copied};
+ghost use Rattle.std.specs.Prelude.{◌≡◌, ◌<◌, ◌≤◌, ◌++◌, ◌∷◌, [], IfOk, OnOk, length, replicate, slice_get, option_copied};
 ghost use Rattle.vlog_tree.specs.Form.{ModuleTree};
 ghost use Rattle.vlog_design.specs.Designs.{TopOf};
 ghost use Rattle.sim_flat.specs.Rows.{row_at};
 ghost use Rattle.sim_flat.specs.Numbering.{IsNumbering, names_at, count_at};
 ghost use Rattle.sim_flat.specs.Edges.{table_at as table_lem, base_at as base_lem};
 ghost use Rattle.sim_flat.specs.Flat.{IsFlat};
+ghost use Rattle.sim_flat.specs.declared.sizes.Sizes.{Sizes as SizesTree};
+ghost use Rattle.sim_flat.specs.Sizes.{own_sum, AreSizes, AreReached};
 
 use crate::instances::{Instance, instances_of};
+use crate::sizes::sizes_of;
 use crate::tables::{Table, tables_of};
 use std::alloc::{AllocError, Global};
 use vlog_design::Design;
@@ -97,13 +100,22 @@ fn add_instance(numbers: &mut Numbers, instance: usize, count: usize) -> Result<
     add_owners(&mut numbers.owners, instance, count)
 }
 
-fn numbers_of(alloc: Global, tables: &[Table], rows: &[Instance]) -> Result<Numbers, AllocError>
-    ensures { IfOk result (λ n. IsNumbering (count_at tables.now rows.now) (length rows.now) n.first.items n.owners.items) }
+// No numbers yet, with room for so many nets.
+fn no_numbers(alloc: Global, nets: usize) -> Result<Numbers, AllocError>
+    ensures { IfOk result (λ n. (n.first.items ≡ []) × (n.owners.items ≡ [])) }
 {
-    let mut numbers = Numbers {
+    Ok(Numbers {
         first: Vec::new(alloc),
-        owners: Vec::new(alloc),
-    };
+        owners: Vec::with_capacity(alloc, nets)?,
+    })
+}
+
+fn numbers_of(none: Numbers, tables: &[Table], rows: &[Instance]) -> Result<Numbers, AllocError>
+    requires { (none.first.items ≡ []) × (none.owners.items ≡ []) }
+    ensures numbering { IfOk result (λ n. IsNumbering (count_at tables.now rows.now) (length rows.now) n.first.items n.owners.items) }
+    ensures count { IfOk result (λ n. length n.owners.items ≡ own_sum (names_at tables.now) rows.now) }
+{
+    let mut numbers = none;
     for k in 0..rows.len() {
         let count = names_of_kind(tables, kind_of(rows, k));
         add_instance(&mut numbers, k, count)?;
@@ -111,14 +123,19 @@ fn numbers_of(alloc: Global, tables: &[Table], rows: &[Instance]) -> Result<Numb
     Ok(numbers)
 }
 
-/// Flattens a design.
+/// Flattens a design. Its instances and nets are counted by modules, and room for them is taken before the first one is laid out, so
+/// that a text whose modules contain one another again and again is told at once where there is no such room. The flattened design is
+/// no smaller than that.
 pub fn flatten(alloc: Global, design: &Design) -> Result<Flat, AllocError>
-    ensures { IfOk result (λ f. (m : ModuleTree) → TopOf design.now m → IsFlat design.now.modules m f) }
+    ensures flat { IfOk result (λ f. (m : ModuleTree) → TopOf design.now m → IsFlat design.now.modules m f) }
+    ensures needed { IfOk result (λ f. (m : ModuleTree) (s : SizesTree) → TopOf design.now m → AreSizes design.now f.tables.items s → AreReached s (length f.instances.items) (length f.owners.items)) }
 {
     let _modules = design.modules();
     let tables = tables_of(alloc, design)?;
-    let all = instances_of(alloc, design)?;
-    let numbers = numbers_of(alloc, &tables, &all.rows)?;
+    let sizes = sizes_of(alloc, design, &tables)?;
+    let none = no_numbers(alloc, sizes.nets)?;
+    let all = instances_of(alloc, design, sizes.instances)?;
+    let numbers = numbers_of(none, &tables, &all.rows)?;
     Ok(Flat {
         tables,
         instances: all.rows,

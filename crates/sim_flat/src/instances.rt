@@ -1,6 +1,6 @@
 // The instances of a design by number.
 
-ghost use Rattle.std.specs.Prelude.{◌≡◌, ◌+◌, ◌<◌, ◌≤◌, ◌++◌, ℕ, map, length, IfOk, OnOk};
+ghost use Rattle.std.specs.Prelude.{◌≡◌, ◌+◌, ◌<◌, ◌≤◌, ◌++◌, ℕ, List, map, length, get_or, IfOk, OnOk};
 ghost use Rattle.vlog_tree.specs.Form.{ModuleTree};
 ghost use Rattle.vlog_tree.specs.Table.{module_declared};
 ghost use Rattle.vlog_design.specs.Designs.{TopOf};
@@ -8,6 +8,7 @@ ghost use Rattle.number_graph.specs.Graphs.{rows_of, targets_of};
 ghost use Rattle.sim_flat.specs.Kinds.{kind_place, all_kinds};
 ghost use Rattle.sim_flat.specs.Rows.{row_at, rows_inside, AreMore, AreRows, HaveDepth};
 ghost use Rattle.sim_flat.specs.Instances.{AreInstances};
+ghost use Rattle.sim_flat.specs.Sizes.{AreCounts, own_sum, KeepSums, CountsWithin};
 
 use crate::kinds::{kinds_of, place_of};
 use std::alloc::{AllocError, Global};
@@ -33,7 +34,8 @@ pub struct Instances {
     pub first: Vec<usize>,
 }
 
-fn kinds_at(kinds: &[Vec<usize>], kind: usize) -> &[usize]
+/// The places of the modules of a module's instances, and none where there is no such module.
+pub(crate) fn kinds_at(kinds: &[Vec<usize>], kind: usize) -> &[usize]
     ensures { result.now ≡ targets_of kinds.now kind }
 {
     match kinds.get(kind) {
@@ -77,6 +79,7 @@ fn add_next(kinds: &[Vec<usize>], depth: usize, all: &mut Instances) -> Result<(
     ensures more { OnOk result (AreMore all.old.rows.items all.new.rows.items) }
     ensures deeper { OnOk result (HaveDepth all.new.rows.items (length all.old.rows.items) (length all.new.rows.items) depth) }
     ensures rows { OnOk result ((top : ℕ) → AreRows (rows_of kinds.now) top all.old.rows.items all.old.first.items → AreRows (rows_of kinds.now) top all.new.rows.items all.new.first.items) }
+    ensures sums { OnOk result (KeepSums (rows_of kinds.now) all.old.rows.items (length all.old.first.items) all.new.rows.items (length all.new.first.items)) }
 {
     let around = all.first.len();
     let kind = kind_of(&all.rows, around);
@@ -94,6 +97,7 @@ fn add_level(kinds: &[Vec<usize>], depth: usize, all: &mut Instances) -> Result<
     ensures more { OnOk result (length all.old.rows.items ≤ length all.new.rows.items) }
     ensures deeper { OnOk result (HaveDepth all.new.rows.items (length all.old.rows.items) (length all.new.rows.items) depth) }
     ensures rows { OnOk result ((top : ℕ) → AreRows (rows_of kinds.now) top all.old.rows.items all.old.first.items → AreRows (rows_of kinds.now) top all.new.rows.items all.new.first.items) }
+    ensures sums { OnOk result (KeepSums (rows_of kinds.now) all.old.rows.items (length all.old.first.items) all.new.rows.items (length all.new.first.items)) }
 {
     let to = all.rows.len();
     let from = all.first.len();
@@ -103,12 +107,13 @@ fn add_level(kinds: &[Vec<usize>], depth: usize, all: &mut Instances) -> Result<
     Ok(())
 }
 
-fn top_alone(alloc: Global, top: usize) -> Result<Instances, AllocError>
+// The top, with room for so many instances.
+fn top_alone(alloc: Global, top: usize, room: usize) -> Result<Instances, AllocError>
     ensures first { IfOk result (λ v. length v.first.items ≡ 0) }
     ensures rows { IfOk result (λ v. length v.rows.items ≡ 1) }
     ensures top { IfOk result (λ v. ((row_at v.rows.items 0).kind ≡ top) × ((row_at v.rows.items 0).depth ≡ 0)) }
 {
-    let mut rows = Vec::new(alloc);
+    let mut rows = Vec::with_capacity(alloc, room)?;
     rows.push(Instance {
         kind: top,
         around: 0,
@@ -122,35 +127,48 @@ fn top_alone(alloc: Global, top: usize) -> Result<Instances, AllocError>
 }
 
 // The instances that fewer others are around than there are modules.
-fn all_levels(alloc: Global, kinds: &[Vec<usize>], top: usize) -> Result<Instances, AllocError>
+fn all_levels(
+    alloc: Global,
+    kinds: &[Vec<usize>],
+    top: usize,
+    room: usize,
+) -> Result<Instances, AllocError>
     ensures rows { IfOk result (λ v. AreRows (rows_of kinds.now) top v.rows.items v.first.items) }
     ensures deepest { IfOk result (λ v. HaveDepth v.rows.items (length v.first.items) (length v.rows.items) (length kinds.now)) }
+    ensures counted { IfOk result (λ v. CountsWithin (rows_of kinds.now) top v.rows.items (length v.first.items)) }
 {
-    let mut all = top_alone(alloc, top)?;
+    let mut all = top_alone(alloc, top, room)?;
     for depth in 0..kinds.len() {
         add_level(kinds, depth + 1, &mut all)?;
     }
     Ok(all)
 }
 
-fn numbered(alloc: Global, modules: &[Module], top: &Text) -> Result<Instances, AllocError>
+fn numbered(
+    alloc: Global,
+    modules: &[Module],
+    top: &Text,
+    room: usize,
+) -> Result<Instances, AllocError>
     ensures rows { IfOk result (λ v. AreRows (all_kinds (map module_declared modules.now) modules.now) (kind_place (map module_declared modules.now) top.now) v.rows.items v.first.items) }
     ensures deepest { IfOk result (λ v. HaveDepth v.rows.items (length v.first.items) (length v.rows.items) (length modules.now)) }
+    ensures counted { IfOk result (λ v. CountsWithin (all_kinds (map module_declared modules.now) modules.now) (kind_place (map module_declared modules.now) top.now) v.rows.items (length v.first.items)) }
 {
     let names = Scope::of_modules(alloc, modules)?;
     let kinds = kinds_of(alloc, &names, modules)?;
     let place = place_of(&names, top);
-    let all = all_levels(alloc, &kinds, place)?;
+    let all = all_levels(alloc, &kinds, place, room)?;
     Ok(all)
 }
 
 /// The instances of a design: number 0 is the top, and the instances in one have numbers one after the other, in the order of
-/// the text.
-pub fn instances_of(alloc: Global, design: &Design) -> Result<Instances, AllocError>
-    ensures { IfOk result (λ v. (m : ModuleTree) → TopOf design.now m → AreInstances design.now.modules m v.rows.items v.first.items) }
+/// the text. Room for so many is taken first.
+pub fn instances_of(alloc: Global, design: &Design, room: usize) -> Result<Instances, AllocError>
+    ensures instances { IfOk result (λ v. (m : ModuleTree) → TopOf design.now m → AreInstances design.now.modules m v.rows.items v.first.items) }
+    ensures counted { IfOk result (λ v. (m : ModuleTree) → TopOf design.now m → (own : ℕ → ℕ) (counts : List ℕ) → AreCounts (all_kinds (map module_declared design.now.modules) design.now.modules) own counts → get_or counts (kind_place (map module_declared design.now.modules) m.name) 0 ≤ own_sum own v.rows.items) }
 {
     let modules = design.modules();
     let name = design.top().name();
-    let all = numbered(alloc, modules, name)?;
+    let all = numbered(alloc, modules, name, room)?;
     Ok(all)
 }

@@ -10,6 +10,7 @@ mod laws;
 mod links;
 mod order;
 mod places;
+mod sizes;
 mod tables;
 
 pub use flat::{Flat, base_at, flatten, owner_of, table_at};

@@ -33,8 +33,8 @@ use Rattle.hw_top_laws.specs.kahn.Clock.{counts, all_answer}
 use Rattle.hw_top.specs.Circuits.{IsCircuitOf}
 use Rattle.run_data.specs.Report.{stream_line, memory_line, last_line}
 use Rattle.run_program.specs.Run.{lines_from}
-use Rattle.sim_report.specs.Reports.{IsSimulated, report_to, streams_to, memories_at, stream_lines, memory_lines, last_of}
-use Rattle.sim_report.proofs.Simulating.{first_same}
+use Rattle.sim_output.specs.Reports.{IsSimulated, report_to, streams_to, memories_at, stream_lines, memory_lines, last_of}
+use Rattle.sim_output.proofs.Simulating.{first_same}
 use Rattle.cycle_sim.specs.Sims.{IsDoneAt, last_cycle}
 use Rattle.command_source.specs.Inputs.{GivesValues}
 use Rattle.command_plans.specs.Built.{HasCircuit, IsCircuitText}

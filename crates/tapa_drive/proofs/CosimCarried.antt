@@ -6,8 +6,8 @@ use Rattle.tapa_words.specs.Words.{Command, Cosim, Asks}
 use Rattle.tapa_words.specs.declared.command.CosimAim.{CosimAim}
 use Rattle.vlog_tree.specs.Environment.{Environment}
 use Rattle.vlog_design.specs.Designs.{DesignTree}
-use Rattle.sim_report.specs.Ending.{EndsSo, HasFront, HasPart}
-use Rattle.sim_report.specs.declared.run.DesignEnd.TheVariants as design_end
+use Rattle.sim_output.specs.Ending.{EndsSo, HasFront, HasPart}
+use Rattle.sim_output.specs.declared.run.DesignEnd.TheVariants as design_end
 use Rattle.command_source.specs.Files.{OfFile, OfData, verilog_limit}
 use Rattle.command_source.specs.Meaning.{refusal_of}
 use Rattle.command_source.specs.Outside.{Outside, Written, outside}

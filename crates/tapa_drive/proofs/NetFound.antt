@@ -13,7 +13,7 @@ use Rattle.vcd_text.specs.Nets.{Net}
 use Rattle.vcd_text.specs.Dump.{Values}
 use Rattle.vcd_text.specs.Read.{port_of, changes_to, IsReadAs}
 use Rattle.vcd_text.specs.declared.dump.Change.{Change}
-use Rattle.vcd_net.specs.NetLines.{value_lines, IsNetShown, HasNoNet}
+use Rattle.vcd_text.specs.NetLines.{value_lines, IsNetShown, HasNoNet}
 
 ge_of : (a b : ℕ) → nat_lt a b ≡ false → b ≤ a
 ge_of a b h = grind (arith, nat_tests)

@@ -15,8 +15,8 @@ use Rattle.vlog_read.specs.Texts.{RefusesText}
 use Rattle.vlog_read.proofs.OneTop.{one_design}
 use Rattle.run_data.specs.Data.{faults, scalars_of, memories_of, waits_of}
 use Rattle.run_data.specs.Seen.{first}
-use Rattle.sim_report.proofs.OneReport.{one_report, some_report}
-use Rattle.sim_dump.proofs.OneDump.{one_dump, some_dump}
+use Rattle.sim_output.proofs.OneReport.{one_report, some_report}
+use Rattle.sim_output.proofs.OneDump.{one_dump, some_dump}
 use Rattle.tapa_words.specs.declared.command.CosimAim.{CosimAim}
 use Rattle.tapa_words.specs.declared.command.CosimAim.TheVariants.{Report, Dump}
 use Rattle.command_source.specs.Files.{data_limit, verilog_limit}

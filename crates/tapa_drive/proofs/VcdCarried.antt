@@ -3,7 +3,7 @@ use Rattle.std.proofs.Common.{◌≡◌, ◌≢◌, ◌≤◌, ℕ, List, Option
 use Rattle.std.specs.Io.KnownBytes.{Appends}
 use Rattle.tapa_files.specs.Outside.{Files, Rose, AppendsPart}
 use Rattle.tapa_words.specs.Words.{Vcd, Asks}
-use Rattle.vcd_net.specs.NetLines.{IsNetShown}
+use Rattle.vcd_text.specs.NetLines.{IsNetShown}
 use Rattle.command_source.specs.Files.{OfFile, data_limit}
 use Rattle.command_source.specs.Meaning.{refusal_of}
 use Rattle.command_source.specs.Outside.{Outside, Written, outside}

@@ -8,7 +8,7 @@ use Rattle.tapa_words.specs.Words.{Vcd, Asks}
 use Rattle.tapa_words.specs.Parts.{OnRun, OnBuild, OnCosim, OnVcd, OnPlan}
 use Rattle.tapa_words.specs.declared.command.CosimAim.{CosimAim}
 use Rattle.tapa_words.specs.declared.command.PlanAim.{PlanAim}
-use Rattle.vcd_net.specs.NetLines.{IsNetShown}
+use Rattle.vcd_text.specs.NetLines.{IsNetShown}
 use Rattle.command_source.specs.Files.{OfFile, data_limit}
 use Rattle.command_source.specs.Outside.{Outside, Written, outside}
 use Rattle.command_source.specs.Refusal.{Refusal, Usage, Read, Write, TooLong, Source, Data, Ticks, Stopped, Device, TooManyPlans, NoPlan, NoRoom, NoHalving, Verilog, DesignData, Undone, Dump, Memory}

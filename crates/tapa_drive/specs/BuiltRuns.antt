@@ -16,7 +16,7 @@ use Rattle.hw_top_lines.specs.Legal.{stream_ports, memory_ports}
 use Rattle.hw_top_laws.specs.kahn.Clock.{counts, all_answer}
 use Rattle.run_data.specs.Report.{last_line}
 use Rattle.run_program.specs.Run.{Values}
-use Rattle.sim_report.specs.Reports.{stream_lines, memory_lines, last_of}
+use Rattle.sim_output.specs.Reports.{stream_lines, memory_lines, last_of}
 use Rattle.cycle_sim.specs.Sims.{last_cycle}
 use Rattle.command_plans.specs.Built.{HasCircuit}
 use Rattle.tapa_drive.specs.Answer.{IsAsked}

@@ -15,9 +15,9 @@ use Rattle.run_data.specs.Answer.{IsFirstFault}
 use Rattle.run_data.specs.Data.{IsJson, Misshapen, Misfit, Oversized, faults, scalars_of, memories_of, waits_of}
 use Rattle.run_data.specs.declared.data.DataFault.{DataFault as FaultOfData}
 use Rattle.run_data.specs.declared.data.DataFault.TheVariants.{J1, J2, J3, J4, OutOfMemory}
-use Rattle.sim_report.specs.Ending.{Telling}
-use Rattle.sim_report.specs.Reports.{IsSimulated}
-use Rattle.sim_dump.specs.Dumped.{IsDumped}
+use Rattle.sim_output.specs.Ending.{Telling}
+use Rattle.sim_output.specs.Reports.{IsSimulated}
+use Rattle.sim_output.specs.Dumped.{IsDumped}
 use Rattle.tapa_words.specs.declared.command.CosimAim.{CosimAim}
 use Rattle.tapa_words.specs.declared.command.CosimAim.TheVariants.{Report, Dump}
 use Rattle.command_source.specs.Refusal.{DataFault, NotJson, Faulty, VerilogFault, V1, V2, V3, V4, V5, V6}

@@ -2,7 +2,7 @@
 use Rattle.std.specs.Prelude.{◌≡◌, ◌⊎◌, ◌<◌, ◌≤◌, ℕ, List, length, Option, Some, None}
 use Rattle.std.specs.Io.KnownBytes.{Appends}
 use Rattle.tapa_files.specs.Outside.{Files, file_bytes}
-use Rattle.vcd_net.specs.NetLines.{IsNetShown}
+use Rattle.vcd_text.specs.NetLines.{IsNetShown}
 use Rattle.command_source.specs.Files.{data_limit}
 use Rattle.command_source.specs.Outside.{Outside}
 use Rattle.command_source.specs.Refusal.{Dump, TooLong, DumpFault}

@@ -5,7 +5,7 @@ use Rattle.tapa_files.specs.Outside.{Files, Rose, AppendsPart}
 use Rattle.tapa_files.specs.Take.{IsLongerThan}
 use Rattle.tapa_words.specs.Parts.{OfCommand, OnVcd}
 use Rattle.vcd_text.specs.Dump.{IsNoDumpAt}
-use Rattle.vcd_net.specs.NetLines.{IsNetShown, HasNoNet}
+use Rattle.vcd_text.specs.NetLines.{IsNetShown, HasNoNet}
 use Rattle.command_source.specs.Files.{OfFile, data_limit}
 use Rattle.command_source.specs.Outside.{Outside}
 use Rattle.command_source.specs.Refusal.{Refusal, Read, TooLong, Dump, Memory, DumpFault, NoDump, NoNet}

@@ -6,7 +6,7 @@ ghost use Rattle.vlog_tree.specs.Form.{ModuleTree};
 ghost use Rattle.vlog_design.specs.Designs.{TopOf};
 ghost use Rattle.vlog_design.specs.Environments.{environment_of};
 ghost use Rattle.tapa_words.specs.Words.{Asks, Cosim};
-ghost use Rattle.sim_report.specs.Ending.{EndsSo, HasFront, HasPart};
+ghost use Rattle.sim_output.specs.Ending.{EndsSo, HasFront, HasPart};
 ghost use Rattle.command_source.specs.Files.{OfFile, OfData, AsksForData, verilog_limit};
 ghost use Rattle.command_source.specs.Meaning.{refusal_of};
 ghost use Rattle.command_source.specs.Outside.{Written, written, outside};
@@ -16,8 +16,7 @@ ghost use Rattle.tapa_drive.specs.Found.{HasNoDesign, IsNotSurrounded};
 
 use command_source::{DATA_LIMIT, NO_DATA, Refusal, read_file};
 use run_data::{Data, DataFault, read_data};
-use sim_dump::dump_design;
-use sim_report::{DesignEnd, run_design};
+use sim_output::{DesignEnd, dump_design, run_design};
 use std::alloc::{AllocError, Global};
 use tapa_base::Shape;
 use tapa_files::{PrintFault, Shelf, Sink};

@@ -9,5 +9,6 @@ mod top;
 mod vcd;
 
 pub use command_source::{SourceCode, SourceFault, Status, read_input, read_program, refuse_words};
+pub use coro_threads::{Gate, OpenGate};
 pub use tapa_words::WordsFault;
 pub use top::tapa;

@@ -9,16 +9,21 @@ use crate::generated::sum_network;
 use crate::sources::{build_source, plan_source, run_source};
 use crate::vcd::show_net;
 use command_source::{Refusal, Status, tell};
+use coro_threads::{Crew, Gate};
 use std::alloc::Global;
+use std::sync::Wait;
+use std::thread::Threads;
 use tapa_files::{Shelf, Sink};
 use tapa_words::{Command, WordsFault, read_words};
 
 // Carries a command out, up to the first step that refuses.
-fn carry_out<'a, S: Shelf, O: Sink>(
+fn carry_out<'a, R: Threads + Wait + Sync, S: Shelf, O: Sink, G: Gate>(
+    rt: &R,
     alloc: Global,
     words: &'a [String],
     shelf: &mut S,
     out: &mut O,
+    gate: &G,
 ) -> Result<(), Refusal<'a>>
     ensures { (errors told : Written) →
         IsCarried (texts words.now) (outside (S.files shelf.old) (S.faults shelf.old) (written (O.contents out.old) (O.faults out.old)) errors)
@@ -33,7 +38,10 @@ fn carry_out<'a, S: Shelf, O: Sink>(
                 workers,
                 limit,
             },
-        ) => run_source(alloc, source, top, data, workers, limit, shelf, out),
+        ) => {
+            let crew = Crew { rt, gate, workers };
+            run_source(&crew, alloc, source, top, data, limit, shelf, out)
+        }
         Ok(Command::Build { source, top }) => build_source(alloc, source, top, shelf, out),
         Ok(
             Command::Plan {
@@ -53,37 +61,45 @@ fn carry_out<'a, S: Shelf, O: Sink>(
             },
         ) => cosim_text(alloc, text, data, limit, aim, shelf, out),
         Ok(Command::Vcd { file, net }) => show_net(alloc, file, net, shelf, out),
-        Ok(Command::Gen { layers, workers }) => sum_network(alloc, layers, workers, out),
+        Ok(Command::Gen { layers, workers }) => {
+            let crew = Crew { rt, gate, workers };
+            sum_network(&crew, alloc, layers, out)
+        }
         Err(WordsFault::Usage) => Err(Refusal::Usage),
         Err(WordsFault::OutOfMemory) => Err(Refusal::Memory),
     }
 }
 
 // The program, with the cause of each answer.
-fn answer<S: Shelf, O: Sink, E: Sink>(
+fn answer<R: Threads + Wait + Sync, S: Shelf, O: Sink, E: Sink, G: Gate>(
+    rt: &R,
     alloc: Global,
     words: &[String],
     shelf: &mut S,
     out: &mut O,
     err: &mut E,
+    gate: &G,
 ) -> Status
     ensures answer { IsAnswered (texts words.now) (outside (S.files shelf.old) (S.faults shelf.old) (written (O.contents out.old) (O.faults out.old)) (written (E.contents err.old) (E.faults err.old)))
         (outside (S.files shelf.new) (S.faults shelf.new) (written (O.contents out.new) (O.faults out.new)) (written (E.contents err.new) (E.faults err.new))) result }
     ensures ok_err { result ≡ Status.Ok → err.new ≡ err.old }
 {
-    match carry_out(alloc, words, shelf, out) {
+    match carry_out(rt, alloc, words, shelf, out, gate) {
         Ok(()) => Status::Ok,
         Err(refusal) => tell(alloc, &refusal, err),
     }
 }
 
-/// The program: the words of a command, without the program's name; the files that it reads; and what it writes to.
-pub fn tapa<S: Shelf, O: Sink, E: Sink>(
+/// The program: the words of a command, without the program's name; the files that it reads; and what it writes to. The
+/// workers of `run` and `gen` are threads of the runtime, and pass the gate before they make ticks.
+pub fn tapa<R: Threads + Wait + Sync, S: Shelf, O: Sink, E: Sink, G: Gate>(
+    rt: &R,
     alloc: Global,
     words: &[String],
     shelf: &mut S,
     out: &mut O,
     err: &mut E,
+    gate: &G,
 ) -> Status
     // Done work: every joined instance of the source's program has ended on its data, and the report of its streams, whole Kahn
     // streams where their producers are joined, and of the last cells is written; or the lines of a plan of the source's program on the device are; or the
@@ -100,5 +116,5 @@ pub fn tapa<S: Shelf, O: Sink, E: Sink>(
     ensures decided { IsDecided (texts words.now) (outside (S.files shelf.old) (S.faults shelf.old) (written (O.contents out.old) (O.faults out.old)) (written (E.contents err.old) (E.faults err.old)))
         (outside (S.files shelf.new) (S.faults shelf.new) (written (O.contents out.new) (O.faults out.new)) (written (E.contents err.new) (E.faults err.new))) result }
 {
-    answer(alloc, words, shelf, out, err)
+    answer(rt, alloc, words, shelf, out, err, gate)
 }

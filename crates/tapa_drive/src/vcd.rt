@@ -2,7 +2,7 @@
 ghost use Rattle.std.specs.Prelude.{◌≡◌, ◌<◌, ◌-◌, ◌^◌, ℕ, List, length, IfOk, IfErr};
 ghost use Rattle.tapa_files.specs.Outside.{AsksFor};
 ghost use Rattle.tapa_words.specs.Words.{Asks, Vcd};
-ghost use Rattle.vcd_net.specs.NetLines.{IsNetShown};
+ghost use Rattle.vcd_text.specs.NetLines.{IsNetShown};
 ghost use Rattle.command_source.specs.Files.{OfFile, data_limit};
 ghost use Rattle.command_source.specs.Meaning.{refusal_of};
 ghost use Rattle.command_source.specs.Outside.{Written, written, outside};
@@ -12,8 +12,7 @@ ghost use Rattle.tapa_drive.specs.Vcds.{IsUnshown, HasNoLines};
 use command_source::{DATA_LIMIT, DumpFault, Refusal, read_file};
 use std::alloc::Global;
 use tapa_files::{Shelf, Sink, put_all};
-use vcd_net::{net_text, place_of};
-use vcd_text::{VcdFault, read_vcd};
+use vcd_text::{VcdFault, net_text, place_of, read_vcd};
 
 // The lines of a net of a dump.
 fn lines_in<'a>(

@@ -1,7 +1,9 @@
 use crate::programs::{CROSSING_STOPS, PATH, VECADD, VECADD_DATA, VECADD_REPORT};
 use std::alloc::Global;
+use std::sync::Wait;
 use std::test::Fail;
-use tapa_drive::{Status, WordsFault, refuse_words, tapa};
+use std::thread::Threads;
+use tapa_drive::{OpenGate, Status, WordsFault, refuse_words, tapa};
 use tapa_files::{MemShelf, MemSink};
 
 // What a command answers, and what it wrote.
@@ -13,7 +15,8 @@ struct Answer {
 }
 
 // A command on the source `r.cpp` and the data `d.json`, where the calls of these numbers fail.
-fn said_with(
+fn said_with<R: Threads + Wait + Sync>(
+    rt: &R,
     alloc: Global,
     source: &[u8],
     given: &[u8],
@@ -38,12 +41,13 @@ fn said_with(
     let mut shelf = MemShelf::new(alloc, files, shelf_fails);
     let mut out = MemSink::new(alloc, 262_144, out_fails)?;
     let mut err = MemSink::new(alloc, 4096, err_fails)?;
-    let status = tapa(alloc, &asked, &mut shelf, &mut out, &mut err);
+    let status = tapa(rt, alloc, &asked, &mut shelf, &mut out, &mut err, &OpenGate);
     Ok(Answer { status, out, err })
 }
 
 // A run without data.
-fn said(
+fn said<R: Threads + Wait + Sync>(
+    rt: &R,
     alloc: Global,
     source: &[u8],
     words: &[&str],
@@ -52,6 +56,7 @@ fn said(
     err_fails: Vec<u64>,
 ) -> Result<Answer, Fail> {
     said_with(
+        rt,
         alloc,
         source,
         b"{}",
@@ -71,6 +76,7 @@ fn reports_are_cut_at_lines(rt: HostRuntime) -> Result<(), Fail> {
     let mut shown = 0;
     for call in 0..7u64 {
         let failed = said_with(
+            &rt,
             alloc,
             VECADD.as_bytes(),
             VECADD_DATA.as_bytes(),
@@ -90,11 +96,12 @@ fn reports_are_cut_at_lines(rt: HostRuntime) -> Result<(), Fail> {
     Ok(())
 }
 
-// A shelf and sinks that fail at a call: the output holds the lines before it.
+// A shelf and an output that fail at a call: the output holds the lines before it.
 #[test]
 fn faults_are_told(rt: HostRuntime) -> Result<(), Fail> {
     let alloc = rt.alloc();
     let unread = said(
+        &rt,
         alloc,
         PATH.as_bytes(),
         &["run", "r.cpp", "T"],
@@ -111,6 +118,7 @@ fn faults_are_told(rt: HostRuntime) -> Result<(), Fail> {
     ];
     for (call, part) in parts.iter().enumerate() {
         let failed = said(
+            &rt,
             alloc,
             PATH.as_bytes(),
             &["run", "r.cpp", "T"],
@@ -122,7 +130,15 @@ fn faults_are_told(rt: HostRuntime) -> Result<(), Fail> {
         assert_eq!(rt; failed.out.bytes(), part.as_bytes());
         assert_eq!(rt; failed.err.bytes(), b"tapa: cannot write\n".as_slice());
     }
+    Ok(())
+}
+
+// Standard error that fails: nothing more is written there.
+#[test]
+fn messages_fail(rt: HostRuntime) -> Result<(), Fail> {
+    let alloc = rt.alloc();
     let untold = said(
+        &rt,
         alloc,
         b"void P(",
         &["run", "r.cpp", "T"],
@@ -142,6 +158,7 @@ fn waits_are_cut_at_lines(rt: HostRuntime) -> Result<(), Fail> {
     let parts = ["", "tapa: A$0 waits to write s1\n"];
     for (call, part) in parts.iter().enumerate() {
         let cut = said(
+            &rt,
             alloc,
             CROSSING_STOPS.as_bytes(),
             &["run", "r.cpp", "T"],
@@ -208,6 +225,7 @@ fn unread_files_are_told(rt: HostRuntime) -> Result<(), Fail> {
         let mut told = 0;
         for call in 0..8u64 {
             let failed = said_with(
+                &rt,
                 alloc,
                 asked.source.as_bytes(),
                 asked.given.as_bytes(),
@@ -257,6 +275,7 @@ fn texts_are_cut_at_lines(rt: HostRuntime) -> Result<(), Fail> {
     for asked in &commands {
         for call in 0..3u64 {
             let failed = said_with(
+                &rt,
                 alloc,
                 asked.source.as_bytes(),
                 asked.given.as_bytes(),

@@ -10,3 +10,5 @@ mod probes;
 mod programs;
 #[cfg(test)]
 mod runs;
+#[cfg(test)]
+mod workers;

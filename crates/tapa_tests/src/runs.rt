@@ -6,12 +6,15 @@ use crate::programs::{
     LOOKS_FOR_EOT, MIX, NESTED_TRANSACTIONS, NO_TRANSACTION, PATH, PEEKS, RING, SELF_LOOP, SERVER,
     STARVED, TRANSACTIONS,
 };
+use coro_threads::{Crew, OpenGate};
 use kahn_reference::rounds::streams;
 use kahn_reference::slow::{Variables, trace};
 use run_data::{Last, report_last, report_stream};
 use run_program::{RunEnd, run_program};
 use std::alloc::{AllocError, Global};
+use std::sync::Wait;
 use std::test::Fail;
+use std::thread::Threads;
 use tapa_base::Token;
 use tapa_drive::{read_input, read_program};
 use tapa_files::MemSink;
@@ -77,13 +80,22 @@ fn slow_report(alloc: Global, text: &str) -> Result<MemSink, Fail> {
 }
 
 // The report of a run, and whether it ended.
-fn run_report(alloc: Global, text: &str) -> Result<(bool, MemSink), Fail> {
+fn run_report<R: Threads + Wait + Sync>(
+    rt: &R,
+    alloc: Global,
+    text: &str,
+) -> Result<(bool, MemSink), Fail> {
     let program = read_program(alloc, short(text), "T")?;
     let mut out = MemSink::new(alloc, 4096, Vec::new(alloc))?;
     let Ok(input) = read_input(alloc, &program, b"{}") else {
         return Ok((false, out));
     };
-    let end = run_program(alloc, program, input, 100_000, &mut out)?;
+    let crew = Crew {
+        rt,
+        gate: &OpenGate,
+        workers: 3,
+    };
+    let end = run_program(&crew, alloc, program, input, 100_000, &mut out)?;
     Ok((matches!(end, RunEnd::Done), out))
 }
 
@@ -114,7 +126,7 @@ fn small_bodies_are_the_rounds(rt: HostRuntime) -> Result<(), Fail> {
     for (kind, body, tokens) in OPERATORS.iter().chain(&STATEMENTS) {
         let text = with_body(alloc, kind, body)?;
         let slow = slow_report(alloc, &text)?;
-        let (ended, out) = run_report(alloc, &text)?;
+        let (ended, out) = run_report(&rt, alloc, &text)?;
         assert!(rt; ended);
         assert_eq!(rt; out.bytes(), slow.bytes());
         let mut line = String::from_str(alloc, "stream q: ")?;
@@ -146,7 +158,7 @@ fn ended_runs_are_the_rounds(rt: HostRuntime) -> Result<(), Fail> {
         SERVER,
     ] {
         let slow = slow_report(alloc, text)?;
-        let (ended, out) = run_report(alloc, text)?;
+        let (ended, out) = run_report(&rt, alloc, text)?;
         assert!(rt; ended);
         assert_eq!(rt; out.bytes(), slow.bytes());
     }
@@ -164,7 +176,7 @@ fn stopped_runs_are_front_parts(rt: HostRuntime) -> Result<(), Fail> {
         (NO_TRANSACTION, 1),
     ] {
         let slow = slow_report(alloc, text)?;
-        let (ended, out) = run_report(alloc, text)?;
+        let (ended, out) = run_report(&rt, alloc, text)?;
         assert!(rt; !ended);
         let whole = slow.bytes().split(|byte| *byte == b'\n');
         let carried = out.bytes().split(|byte| *byte == b'\n');

@@ -19,4 +19,5 @@ pub mod ValuesOf
 pub mod Tables
 pub mod Tops
 pub mod OneDump
+pub mod NetChanges
 pub mod Ends

@@ -8,3 +8,4 @@ pub mod Head
 pub mod Answers
 pub mod Nets
 pub mod Table
+pub mod NetLines

@@ -2,7 +2,7 @@ use Rattle.std.proofs.Common.{refl, subst, None, Some}
 use Rattle.vlog_design.specs.Environments.{environment_of}
 use Rattle.vlog_tree.specs.Environment.{Environment}
 use Rattle.tapa_words.specs.Words.{default_cycles}
-use Rattle.sim_report.specs.Reports.{IsSimulatedSo}
+use Rattle.sim_output.specs.Reports.{IsSimulatedSo}
 use Rattle.command_network.proofs.Nothings.{circuit_fits, done_in}
 use Rattle.command_network.proofs.summary.cycles_of.Goals as goal
 

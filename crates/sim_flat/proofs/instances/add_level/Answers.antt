@@ -1,5 +1,7 @@
 use Rattle.std.proofs.Common.{◌≡◌, ◌+◌, ◌≤◌, length, arith}
+use Rattle.number_graph.specs.Graphs.{rows_of}
 use Rattle.sim_flat.proofs.Grown.{deeper_more, level_more}
+use Rattle.sim_flat.proofs.Sizing.{keep_more}
 use Rattle.sim_flat.proofs.instances.add_level.Goals as goal
 
 pub loop-k-preserved : goal.loop-k-preserved
@@ -16,4 +18,5 @@ loop-k-preserved c =
       level = level_more old new c.loop-k._k c.len-to.result c.args.depth e.more i.count i.level;
       deeper = deeper_more old new c.len-to.result c.args.depth e.more i.deeper e.deeper;
       rows = λ top r. e.rows top (i.rows top r);
+      sums = keep_more (rows_of c.args.kinds.now) c.args.all.now.rows.items old new (length c.args.all.now.first.items) (length c.loop-k.all.first.items) (length c.add_next.new.all.first.items) i.sums e.sums;
     }

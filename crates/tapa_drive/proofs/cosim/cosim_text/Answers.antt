@@ -1,8 +1,8 @@
 use Rattle.std.proofs.Common.{Err, ap, subst}
 use Rattle.std.specs.Prelude.{option_map}
 use Rattle.vlog_design.specs.Environments.{environment_of}
-use Rattle.sim_report.specs.Ending.{EndsSo}
-use Rattle.sim_report.specs.declared.run.DesignEnd.{DesignEnd}
+use Rattle.sim_output.specs.Ending.{EndsSo}
+use Rattle.sim_output.specs.declared.run.DesignEnd.{DesignEnd}
 use Rattle.tapa_words.specs.Words.{Cosim}
 use Rattle.command_source.specs.Outside.{written}
 use Rattle.tapa_drive.specs.Designs.{IsToldFor}

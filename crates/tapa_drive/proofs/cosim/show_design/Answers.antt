@@ -1,7 +1,7 @@
 use Rattle.std.proofs.Common.{sym, subst}
 use Rattle.std.specs.Prelude.{IfOk, OnErr}
 use Rattle.vlog_design.specs.Environments.{environment_of}
-use Rattle.sim_report.specs.Ending.{EndsSo, HasFront, HasPart}
+use Rattle.sim_output.specs.Ending.{EndsSo, HasFront, HasPart}
 use Rattle.tapa_words.specs.declared.command.CosimAim.{CosimAim}
 use Rattle.tapa_drive.specs.Designs.{IsToldFor}
 use Rattle.tapa_drive.proofs.cosim.show_design.Goals as goal

@@ -15,7 +15,7 @@ returns-in-Err g c = λ words errors told asked.
     let reads = g.S.Shelf.faults c.args.shelf.now in
     let old = written (g.O.Sink.contents c.args.out.now) (g.O.Sink.faults c.args.out.now) in
     let named = option_map (λ file. file.now) c.args.named in
-    not_found words files (Run c.args.source.now c.args.top.now named c.args.workers c.args.limit) asked c.args.source.now (λ file e. e) reads old errors told
+    not_found words files (Run c.args.source.now c.args.top.now named c.args.crew.now.workers c.args.limit) asked c.args.source.now (λ file e. e) reads old errors told
     (g.S.Shelf.files c.read_source.new.shelf) (g.S.Shelf.faults c.read_source.new.shelf) c.in-Err.ensures.asks.same_files c.in-Err.ensures.asks.later c.in-Err.ensures.asks.others
     c.in-Err.refusal c.in-Err.ensures.refused
 
@@ -25,7 +25,7 @@ returns-in-Err-read_values g c = λ words errors told asked.
     let reads = g.S.Shelf.faults c.args.shelf.now in
     let old = written (g.O.Sink.contents c.args.out.now) (g.O.Sink.faults c.args.out.now) in
     let named = option_map (λ file. file.now) c.args.named in
-    not_given words files c.args.source.now c.args.top.now named c.args.workers c.args.limit asked reads old errors told
+    not_given words files c.args.source.now c.args.top.now named c.args.crew.now.workers c.args.limit asked reads old errors told
     (g.S.Shelf.files c.read_source.new.shelf) (g.S.Shelf.faults c.read_source.new.shelf) c.in-Ok.ensures.asks.same_files c.in-Ok.ensures.asks.later c.in-Ok.ensures.asks.others
     c.in-Ok.program c.in-Ok.ensures.found (g.S.Shelf.files c.read_values.new.shelf) (g.S.Shelf.faults c.read_values.new.shelf) c.in-Err-read_values.ensures.asks.same_files c.in-Err-read_values.ensures.asks.others
     c.in-Err-read_values.refusal c.in-Err-read_values.ensures.refused
@@ -36,7 +36,7 @@ returns-in-Err-WriteFault g c = λ words errors told asked.
     let reads = g.S.Shelf.faults c.args.shelf.now in
     let old = written (g.O.Sink.contents c.args.out.now) (g.O.Sink.faults c.args.out.now) in
     let named = option_map (λ file. file.now) c.args.named in
-    unwritten words files c.args.source.now c.args.top.now named c.args.workers c.args.limit asked reads old errors told
+    unwritten words files c.args.source.now c.args.top.now named c.args.crew.now.workers c.args.limit asked reads old errors told
     (g.S.Shelf.files c.read_source.new.shelf) (g.S.Shelf.faults c.read_source.new.shelf) c.in-Ok.ensures.asks.same_files c.in-Ok.ensures.asks.later c.in-Ok.ensures.asks.others
     c.in-Ok.program c.in-Ok.ensures.found (g.S.Shelf.files c.read_values.new.shelf) (g.S.Shelf.faults c.read_values.new.shelf) c.in-Ok-read_values.ensures.asks.same_files c.in-Ok-read_values.ensures.asks.others
     (values_of c.in-Ok-read_values.input) c.in-Ok-read_values.ensures.gives (written (g.O.Sink.contents c.run_program.new.out) (g.O.Sink.faults c.run_program.new.out))
@@ -48,7 +48,7 @@ returns-in-Err-OutOfMemory g c = λ words errors told asked.
     let reads = g.S.Shelf.faults c.args.shelf.now in
     let old = written (g.O.Sink.contents c.args.out.now) (g.O.Sink.faults c.args.out.now) in
     let named = option_map (λ file. file.now) c.args.named in
-    no_memory words files c.args.source.now c.args.top.now named c.args.workers c.args.limit asked reads old errors told
+    no_memory words files c.args.source.now c.args.top.now named c.args.crew.now.workers c.args.limit asked reads old errors told
     (g.S.Shelf.files c.read_source.new.shelf) (g.S.Shelf.faults c.read_source.new.shelf) c.in-Ok.ensures.asks.same_files c.in-Ok.ensures.asks.later c.in-Ok.ensures.asks.others
     c.in-Ok.program c.in-Ok.ensures.found (g.S.Shelf.files c.read_values.new.shelf) (g.S.Shelf.faults c.read_values.new.shelf) c.in-Ok-read_values.ensures.asks.same_files c.in-Ok-read_values.ensures.asks.others
     (values_of c.in-Ok-read_values.input) c.in-Ok-read_values.ensures.gives (written (g.O.Sink.contents c.run_program.new.out) (g.O.Sink.faults c.run_program.new.out))
@@ -60,7 +60,7 @@ returns-in-Done g c = λ words errors told asked.
     let reads = g.S.Shelf.faults c.args.shelf.now in
     let old = written (g.O.Sink.contents c.args.out.now) (g.O.Sink.faults c.args.out.now) in
     let named = option_map (λ file. file.now) c.args.named in
-    ended words files c.args.source.now c.args.top.now named c.args.workers c.args.limit asked reads old errors told
+    ended words files c.args.source.now c.args.top.now named c.args.crew.now.workers c.args.limit asked reads old errors told
     (g.S.Shelf.files c.read_source.new.shelf) (g.S.Shelf.faults c.read_source.new.shelf) c.in-Ok.ensures.asks.same_files c.in-Ok.ensures.asks.later c.in-Ok.ensures.asks.others
     c.in-Ok.program c.in-Ok.ensures.found (g.S.Shelf.files c.read_values.new.shelf) (g.S.Shelf.faults c.read_values.new.shelf) c.in-Ok-read_values.ensures.asks.same_files c.in-Ok-read_values.ensures.asks.others
     (values_of c.in-Ok-read_values.input) c.in-Ok-read_values.ensures.gives (written (g.O.Sink.contents c.run_program.new.out) (g.O.Sink.faults c.run_program.new.out))
@@ -72,7 +72,7 @@ returns-in-Stopped g c = λ words errors told asked.
     let reads = g.S.Shelf.faults c.args.shelf.now in
     let old = written (g.O.Sink.contents c.args.out.now) (g.O.Sink.faults c.args.out.now) in
     let named = option_map (λ file. file.now) c.args.named in
-    stopped words files c.args.source.now c.args.top.now named c.args.workers c.args.limit asked reads old errors told
+    stopped words files c.args.source.now c.args.top.now named c.args.crew.now.workers c.args.limit asked reads old errors told
     (g.S.Shelf.files c.read_source.new.shelf) (g.S.Shelf.faults c.read_source.new.shelf) c.in-Ok.ensures.asks.same_files c.in-Ok.ensures.asks.later c.in-Ok.ensures.asks.others
     c.in-Ok.program c.in-Ok.ensures.found (g.S.Shelf.files c.read_values.new.shelf) (g.S.Shelf.faults c.read_values.new.shelf) c.in-Ok-read_values.ensures.asks.same_files c.in-Ok-read_values.ensures.asks.others
     (values_of c.in-Ok-read_values.input) c.in-Ok-read_values.ensures.gives (written (g.O.Sink.contents c.run_program.new.out) (g.O.Sink.faults c.run_program.new.out))
@@ -84,7 +84,7 @@ returns-in-Limit g c = λ words errors told asked.
     let reads = g.S.Shelf.faults c.args.shelf.now in
     let old = written (g.O.Sink.contents c.args.out.now) (g.O.Sink.faults c.args.out.now) in
     let named = option_map (λ file. file.now) c.args.named in
-    past words files c.args.source.now c.args.top.now named c.args.workers c.args.limit asked reads old errors told
+    past words files c.args.source.now c.args.top.now named c.args.crew.now.workers c.args.limit asked reads old errors told
     (g.S.Shelf.files c.read_source.new.shelf) (g.S.Shelf.faults c.read_source.new.shelf) c.in-Ok.ensures.asks.same_files c.in-Ok.ensures.asks.later c.in-Ok.ensures.asks.others
     c.in-Ok.program c.in-Ok.ensures.found (g.S.Shelf.files c.read_values.new.shelf) (g.S.Shelf.faults c.read_values.new.shelf) c.in-Ok-read_values.ensures.asks.same_files c.in-Ok-read_values.ensures.asks.others
     (values_of c.in-Ok-read_values.input) c.in-Ok-read_values.ensures.gives (written (g.O.Sink.contents c.run_program.new.out) (g.O.Sink.faults c.run_program.new.out))

@@ -12,8 +12,13 @@ returns-in-Err-Usage g c = λ errors told. inl (record { done = tt; cause = rw c
 pub returns-in-Err-OutOfMemory : goal.returns-in-Err-OutOfMemory
 returns-in-Err-OutOfMemory g c = λ errors told. inl (record { done = tt; cause = tt; leaves = inl refl; reads = unread _ _ _ _ errors told })
 
-pub run_source-requires : goal.run_source-requires
-run_source-requires g c = (subst (λ (asked : Command). IsInRange (command asked)) c.in-Ok-Run.field-0-is c.in-Ok-Run.ensures.range).2
+pub run_source-requires-clause-workers : goal.run_source-requires-clause-workers
+run_source-requires-clause-workers g c κs within =
+    let range = subst (λ (asked : Command). IsInRange (command asked)) c.in-Ok-Run.field-0-is c.in-Ok-Run.ensures.range in
+    (range.0, range.1)
+
+pub run_source-requires-clause-limit : goal.run_source-requires-clause-limit
+run_source-requires-clause-limit g c κs within = (subst (λ (asked : Command). IsInRange (command asked)) c.in-Ok-Run.field-0-is c.in-Ok-Run.ensures.range).2
 
 pub returns-in-Ok-Run : goal.returns-in-Ok-Run
 returns-in-Ok-Run g c = λ errors told. inl (c.run_source.ensures (texts c.args.words.now) errors told (rw c.in-Ok-Run.field-0-is at c.in-Ok-Run.ensures.asked))
@@ -30,8 +35,13 @@ returns-in-Ok-Cosim g c = λ errors told. inl (c.cosim_text.ensures (texts c.arg
 pub returns-in-Ok-Vcd : goal.returns-in-Ok-Vcd
 returns-in-Ok-Vcd g c = λ errors told. inl (c.show_net.ensures (texts c.args.words.now) errors told (rw c.in-Ok-Vcd.field-0-is at c.in-Ok-Vcd.ensures.asked))
 
-pub sum_network-requires : goal.sum_network-requires
-sum_network-requires g c = (subst (λ (asked : Command). IsInRange (command asked)) c.in-Ok-Gen.field-0-is c.in-Ok-Gen.ensures.range).0
+pub sum_network-requires-clause-workers : goal.sum_network-requires-clause-workers
+sum_network-requires-clause-workers g c κs within =
+    let range = subst (λ (asked : Command). IsInRange (command asked)) c.in-Ok-Gen.field-0-is c.in-Ok-Gen.ensures.range in
+    (range.1, range.2)
+
+pub sum_network-requires-clause-layers : goal.sum_network-requires-clause-layers
+sum_network-requires-clause-layers g c κs within = (subst (λ (asked : Command). IsInRange (command asked)) c.in-Ok-Gen.field-0-is c.in-Ok-Gen.ensures.range).0
 
 pub returns-in-Ok-Gen : goal.returns-in-Ok-Gen
 returns-in-Ok-Gen g c = λ errors told.

@@ -1,0 +1,12 @@
+pub mod Outs
+pub mod Lots
+pub mod Turns
+pub mod Changing
+pub mod Claiming
+pub mod Closing
+pub mod Crossing
+pub mod Gathering
+pub mod Larger
+pub mod Sums
+pub mod Steps
+pub mod Slices

@@ -1,0 +1,24 @@
+use Rattle.std.proofs.Common.{ap, ◌∙◌, arith, Some}
+use mathlib.Core.Option.{none}
+use Rattle.atomic_table.specs.Table.{step}
+use Rattle.coro_threads.proofs.Steps.{take_step, in_hand}
+use Rattle.coro_threads.proofs.board.take_case.Goals as goal
+
+pub compare_exchange-requires : goal.compare_exchange-requires
+compare_exchange-requires g c =
+    let m = c.loop.invariant.2 in (
+      c.loop.invariant.0 ∙ c.requires.table.0,
+      omega (arith, c.requires.table.1),
+      take_step c.args.shared.now.key.origin.value c.args.shared.now.key.workers c.args.shared.now.table_id.slots c.loop.seat.id c.loop.seat.me (step c.args.shared.now.table_id.slots 0 0 1 none)
+          (ap (λ x. x.1) m ∙ c.requires.ready.0) (ap (λ x. x.0.turn) m ∙ c.requires.ready.1) (omega (arith, ap (λ x. x.0.shares) m, c.requires.ready.2)),
+    )
+
+pub exchange-requires : goal.exchange-requires
+exchange-requires g c =
+    let t = c.compare_exchange.ensures.2.0 c.if-compare_exchange-eq0.true in (
+      c.compare_exchange.ensures.0 ∙ (c.loop.invariant.0 ∙ c.requires.table.0),
+      (
+        Some t.0,
+        in_hand _ (Some t.0) (ap (λ x. x.1) t.1),
+      ),
+    )

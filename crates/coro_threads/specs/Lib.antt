@@ -1,0 +1,4 @@
+pub mod Out
+pub mod Ends
+pub mod Seats
+pub mod Turn

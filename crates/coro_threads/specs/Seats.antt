@@ -1,0 +1,77 @@
+-- What clauses say of a board and a seat.
+use Rattle.std.specs.Prelude.{◌≡◌, ℕ, ◌≤◌, ◌⊎◌, Bool, true, false, List, [], Option, Some, slice_index}
+use Rattle.coro_threads.specs.Ends.{IsEndAt}
+use Rattle.atomic_table.specs.Seated.{TableId}
+use Rattle.atomic_table.specs.declared.shared.Seat.{Seat}
+use Rattle.coro_threads.specs.Turn.{HasNothing}
+use Rattle.net_case.specs.declared.case_state.CaseState.{CaseState}
+use Rattle.net_case.specs.declared.lot.Lot.{Lot}
+use Rattle.net_core.specs.declared.body.Body.{Ghosts}
+use Rattle.net_case.specs.declared.claim.Claimed.{Claimed}
+use Rattle.net_case.specs.declared.claim.Claimed.TheVariants.{Work, Wait, Over}
+use Rattle.coro_threads.specs.declared.views.View.{View}
+use Rattle.coro_threads.specs.declared.seats.Board.{Board}
+use Rattle.coro_threads.specs.declared.seats.BoardSeat.{BoardSeat}
+use Rattle.coro_threads.specs.declared.seats.Worker.{Worker}
+
+-- what a seat has that gathers others
+pub record Gathers (z : TableId) (o : CaseState) (p : Seat (Option CaseState) View) (n : ℕ) : Type 0 where
+  pub table : p.table_id ≡ z
+  pub empty : p.me.1 ≡ []
+  pub origin : p.me.0.origin ≡ Some o
+  pub idle : HasNothing p.me.0
+  pub shares : p.me.0.shares ≡ n
+
+-- the seat has this batch, on a board that was made with the case o
+pub record HasBatch (o : CaseState) (v : View) (batch : Lot) : Type 0 where
+  pub free : v.turn ≡ false
+  pub mine : v.batch ≡ Some batch.instance
+  pub counted : slice_index v.seen batch.instance ≡ batch.from
+  pub program : batch.program ≡ o.program
+  pub input : batch.input ≡ o.input
+  pub budget : batch.budget ≡ o.budget
+  pub at : (i : ℕ) → slice_index batch.at i ≤ slice_index v.seen i
+
+-- no batch, and the count that was seen is an end
+abbrev pub IsDone : CaseState → View → Type 0
+IsDone o v = HasNothing v × IsEndAt o v.seen
+
+-- what a worker is left with
+abbrev pub Finished : CaseState → View → Bool → Type 0
+Finished o v short = HasNothing v × ((short ≡ true) ⊎ IsEndAt o v.seen)
+
+-- what a seat has after a claim
+abbrev pub AfterClaim : {B : Type 0} → CaseState → View → Claimed B → Type 0
+AfterClaim o v (Work batch) = HasBatch o v batch
+AfterClaim o v Wait = HasNothing v
+AfterClaim o v (Over x) = IsDone o v
+
+-- the case that the board was made with
+abbrev pub origin : {B : Type 0} → Board B → CaseState
+origin b = b.table.shared.key.origin.value
+
+-- how many seats are to come back when it is closed
+abbrev pub workers_of : {B : Type 0} → Board B → ℕ
+workers_of b = b.table.shared.key.workers
+
+module _ {B : Type 0} {g : Ghosts B} where
+  -- what a seat knows and holds
+  abbrev pub view : BoardSeat B g → View
+  view s = s.seat.me.0
+
+  -- a seat of the table z, whose board was made with the case o
+  pub record IsSeatAt (z : TableId) (o : CaseState) (s : BoardSeat B g) : Type 0 where
+    pub table : s.seat.table_id ≡ z
+    pub origin : s.seat.me.0.origin ≡ Some o
+
+  -- a seat of this board
+  abbrev pub IsSeatOf : Board B → BoardSeat B g → Type 0
+  IsSeatOf b s = IsSeatAt b.table.shared.table_id (origin b) s
+
+  -- a worker whose seat may be split or joined
+  abbrev pub IsFree : TableId → CaseState → Worker B g → Type 0
+  IsFree z o w = IsSeatAt z o w.seat × HasNothing (view w.seat)
+
+  -- the seat's count, task by task, is at most that of the list
+  abbrev pub IsBehind : List ℕ → Worker B g → Type 0
+  IsBehind counts w = (i : ℕ) → slice_index (view w.seat).seen i ≤ slice_index counts i

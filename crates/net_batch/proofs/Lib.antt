@@ -1,7 +1,0 @@
-pub mod Runs
-pub mod Rooms
-pub mod Says
-pub mod Ran
-pub mod Commits
-pub mod Back
-pub mod Holds

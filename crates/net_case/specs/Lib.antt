@@ -1,0 +1,10 @@
+pub mod Batch
+pub mod Claims
+pub mod Commit
+pub mod Deliver
+pub mod Home
+pub mod Look
+pub mod Make
+pub mod Over
+pub mod Queue
+pub mod State

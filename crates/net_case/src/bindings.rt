@@ -1,0 +1,54 @@
+// How the instances of a program are bound to its streams.
+ghost use Rattle.std.specs.Prelude.{◌≡◌, ◌<◌, ◌^◌, length};
+ghost use Rattle.net_core.specs.Bindings.{IsConnected, arity, stream_at, producer_of, consumer_of, depth_of};
+
+use tapa_syntax::Program;
+
+/// How many streams an instance has.
+pub fn arity(program: &Program, i: usize) -> usize
+    requires { i < length program.now.instances.items }
+    ensures { result ≡ arity program.now i }
+{
+    program.instances[i].streams.len()
+}
+
+/// The stream at a position of an instance.
+pub fn stream_at(program: &Program, i: usize, p: usize) -> usize
+    requires connected { IsConnected program.now }
+    requires instance { i < length program.now.instances.items }
+    requires position { p < arity program.now i }
+    ensures is { result ≡ stream_at program.now i p }
+    ensures inside { result < length program.now.streams.items }
+{
+    program.instances[i].streams[p] as usize
+}
+
+/// The depth of a stream.
+pub fn depth(program: &Program, s: usize) -> usize
+    requires connected { IsConnected program.now }
+    requires stream { s < length program.now.streams.items }
+    ensures is { result ≡ depth_of program.now s }
+    ensures few { result < 2 ^ 32 }
+{
+    program.streams[s].depth as usize
+}
+
+/// The instance that writes a stream.
+pub fn producer(program: &Program, s: usize) -> usize
+    requires connected { IsConnected program.now }
+    requires stream { s < length program.now.streams.items }
+    ensures is { result ≡ producer_of program.now s }
+    ensures inside { result < length program.now.instances.items }
+{
+    program.streams[s].producer as usize
+}
+
+/// The instance that reads a stream.
+pub fn consumer(program: &Program, s: usize) -> usize
+    requires connected { IsConnected program.now }
+    requires stream { s < length program.now.streams.items }
+    ensures is { result ≡ consumer_of program.now s }
+    ensures inside { result < length program.now.instances.items }
+{
+    program.streams[s].consumer as usize
+}

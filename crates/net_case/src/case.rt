@@ -1,0 +1,82 @@
+// A network without the instances that are out.
+ghost use Rattle.std.specs.Prelude.{◌≡◌, false, slice_index_or};
+ghost use Rattle.net_case.specs.State.{IsValidCase};
+
+use crate::batch::Process;
+use crate::queue::Queue;
+use net_core::{Body, Input, Pause, Ports};
+use std::marker::Model;
+use std::sync::Arc;
+use tapa_syntax::Program;
+
+/// A network without the instances that are out, driven within a budget of ticks.
+#[derive(Drop)]
+pub struct Case<B: Body> {
+    pub program: Arc<Program>,
+    pub input: Arc<Input>,
+    pub budget: u64,
+    /// The instances that are at home.
+    pub homes: Vec<Option<Process<B>>>,
+    /// For each stream the tokens that were written and not taken.
+    pub queues: Vec<Queue>,
+    /// For each stream how many tokens were taken, and how many its reader's port was given.
+    pub taken: Vec<usize>,
+    pub offered: Vec<usize>,
+    pub counts: Vec<u64>,
+    pub pauses: Vec<Option<Pause>>,
+    /// Which instances may go on, as far as is known, and where the search for the next one begins.
+    pub listed: Vec<bool>,
+    pub cursor: usize,
+    /// The ticks of the joined instances.
+    pub joined: u64,
+    /// What the network needs again when it is put together.
+    pub writers: Vec<usize>,
+    pub fed_by_self: Vec<bool>,
+    pub bodies: Vec<B>,
+    pub ports: Vec<Ports>,
+}
+
+impl<B: Body> Model for Case<B> {
+    ghost use Rattle.std.specs.Prelude.{length, vec_capacity};
+    ghost use Rattle.std.specs.Arc.{arc_value};
+    ghost use Rattle.net_case.specs.declared.case_state.CaseState.{CaseState};
+    ghost use Rattle.net_case.specs.Home.{IsCaseAt, IsReadyFor, outs};
+    ghost use Rattle.std.specs.Coded.{codes};
+    ghost use Rattle.tapa_syntax.specs.contracts.program.Stmt as stmt;
+    ghost use Rattle.tapa_syntax.specs.contracts.program.Expr as expr;
+
+    ghost Value = { CaseState };
+
+    ghost coded = { Prim.hlevel (codes, stmt.the_row.coded, expr.the_row.coded) };
+
+    ghost view = { λ c. record { program = arc_value c.program; input = arc_value c.input; budget = c.budget; counts = c.counts.items; out = outs c.homes.items; pauses = c.pauses.items } };
+
+    ghost invariant = { λ c. IsCaseAt B.stands (arc_value c.program) (arc_value c.input) c.budget c.homes.items c.queues.items c.taken.items c.offered.items c.counts.items c.pauses.items c.listed.items c.joined c.writers.items c.fed_by_self.items × IsReadyFor (arc_value c.program) (length c.bodies.items) (length c.ports.items) (vec_capacity c.bodies) (vec_capacity c.ports) };
+}
+
+impl<B: Body> Case<B> {
+    /// What holds of every case, for proofs: it stands at a reachable count of its program's network, at which no instance has
+    /// made more ticks than the budget. It does nothing.
+    pub fn valid(&self)
+        ensures { IsValidCase self.now }
+    {
+        let _counts = &self.counts;
+    }
+
+    /// The ticks that each instance has made, as far as they are committed.
+    pub fn counts(&self) -> &[u64]
+        ensures { result.now ≡ self.now.counts }
+    {
+        self.counts.as_slice()
+    }
+
+    /// Whether an instance is out.
+    pub fn is_out(&self, i: usize) -> bool
+        ensures { result ≡ slice_index_or self.now.out i false }
+    {
+        match self.homes.get(i) {
+            Some(None) => true,
+            _ => false,
+        }
+    }
+}

@@ -1,0 +1,80 @@
+-- A coroutine may move to another thread.
+use denote.Param.Send.{IsSend, IsSync, sendable}
+use Rattle.std.proofs.Crossing.{crosses}
+use Rattle.tapa_syntax.specs.contracts.program.Expr as Expr
+use Rattle.tapa_syntax.proofs.program.Expr.TheLaws.TheKnot as knot
+use Rattle.task_fsm.specs.contracts.machine.State as State
+use Rattle.task_fsm.specs.contracts.machine.Fsm as Fsm
+use Rattle.coro_machine.specs.contracts.code.Operand as Operand
+use Rattle.coro_machine.specs.contracts.code.Computation as Computation
+use Rattle.coro_machine.specs.contracts.code.Instruction as Instruction
+use Rattle.coro_machine.specs.contracts.code.Request as Request
+use Rattle.coro_machine.specs.contracts.code.Act as Act
+use Rattle.coro_machine.specs.contracts.code.Place as Place
+use Rattle.coro_machine.specs.contracts.coro.Coro as Coro
+use Rattle.coro_machine.specs.contracts.machine.Machine as Machine
+use Rattle.coro_machine.proofs.run.Run.TheSendSync as run
+
+expr_send : IsSend Expr.the_field.row
+expr_send = search (knot.crosses, sendable, crosses) depth 60
+
+expr_sync : IsSync Expr.the_field.row
+expr_sync = search (knot.crosses, sendable, crosses) depth 60
+
+state_send : IsSend State.the_row
+state_send = search (expr_send, sendable, crosses) depth 60
+
+state_sync : IsSync State.the_row
+state_sync = search (expr_sync, sendable, crosses) depth 60
+
+operand_send : IsSend Operand.the_field.row
+operand_send = search (sendable, crosses) depth 60
+
+operand_sync : IsSync Operand.the_field.row
+operand_sync = search (sendable, crosses) depth 60
+
+computation_send : IsSend Computation.the_field.row
+computation_send = search (operand_send, sendable, crosses) depth 60 fits 20000
+
+computation_sync : IsSync Computation.the_field.row
+computation_sync = search (operand_sync, sendable, crosses) depth 60 fits 20000
+
+instruction_send : IsSend Instruction.the_row
+instruction_send = search (computation_send, sendable, crosses) depth 60
+
+instruction_sync : IsSync Instruction.the_row
+instruction_sync = search (computation_sync, sendable, crosses) depth 60
+
+request_send : IsSend Request.the_field.row
+request_send = search (sendable, crosses) depth 60
+
+request_sync : IsSync Request.the_field.row
+request_sync = search (sendable, crosses) depth 60
+
+act_send : IsSend Act.the_field.row
+act_send = search (computation_send, operand_send, sendable, crosses) depth 60 fits 20000
+
+act_sync : IsSync Act.the_field.row
+act_sync = search (computation_sync, operand_sync, sendable, crosses) depth 60 fits 20000
+
+place_send : IsSend Place.the_row
+place_send = search (request_send, instruction_send, act_send, sendable, crosses) depth 60
+
+place_sync : IsSync Place.the_row
+place_sync = search (request_sync, instruction_sync, act_sync, sendable, crosses) depth 60
+
+fsm_field_send : IsSend Fsm.the_field.row
+fsm_field_send = search (state_send, sendable, crosses) depth 60
+
+fsm_field_sync : IsSync Fsm.the_field.row
+fsm_field_sync = search (state_sync, sendable, crosses) depth 60
+
+machine_send : IsSend Machine.the_row
+machine_send = search (fsm_field_send, place_send, sendable, crosses) depth 60
+
+machine_sync : IsSync Machine.the_row
+machine_sync = search (fsm_field_sync, place_sync, sendable, crosses) depth 60
+
+-- its machine stands behind an `Arc`, which asks both laws of it
+pub coro_send : IsSend Coro.the_row
+coro_send = search (machine_send, machine_sync, run.the_field_send, sendable, crosses) depth 60

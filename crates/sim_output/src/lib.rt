@@ -1,0 +1,20 @@
+//! What is shown of a design that is simulated on its data: the report of what its streams carried and what the memories
+//! around it hold, the cycle in which it is done, or the value change dump of the nets of its top.
+#![tactic(auto)]
+
+mod done;
+mod dump_changes;
+mod dump_head;
+mod dump_laws;
+mod dump_run;
+mod dump_write;
+mod report_laws;
+mod run;
+mod shown;
+
+pub use done::done_cycle;
+pub use dump_laws::law_one_simulation_dump;
+pub use dump_run::dump_design;
+pub use dump_write::write_vcd;
+pub use report_laws::law_one_report;
+pub use run::{DesignEnd, end_after, run_design};

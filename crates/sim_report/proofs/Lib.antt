@@ -1,2 +1,0 @@
-pub mod Simulating
-pub mod OneReport

@@ -1,5 +1,0 @@
-use Rattle.sim_report.proofs.OneReport.{one_report, some_report}
-use Rattle.sim_report.proofs.laws.law_one_report.Goals as goal
-
-pub returns : goal.returns
-returns c = record { once = one_report; some = some_report }

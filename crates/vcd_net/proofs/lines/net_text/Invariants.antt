@@ -1,6 +1,0 @@
-use Rattle.std.proofs.Common.{◌≡◌, take}
-use Rattle.vcd_net.specs.NetLines.{lines_of}
-use Rattle.vcd_net.proofs.lines.net_text.Given as goal
-
-abbrev pub invariant-loop-i : goal.invariant-loop-i
-invariant-loop-i l = l.text.items ≡ lines_of l.net (take l.i l.changes)
