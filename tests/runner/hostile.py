@@ -14,7 +14,7 @@ PARTS = {"FILE": "(?P<told>.*?)", "LINE": r"[1-9]\d*", "COL": r"[1-9]\d*", "KEY"
 MAY = {"run": "012356789", "build": "012345679", "plan": "012345679", "cosim": "01235679", "cosim --vcd": "01235679", "vcd": "0125679", "gen": "0269"}
 
 # How the output of a whole answer ends.
-ENDS = {("cosim --vcd", 0): rb"#\d+\n|[01][!-~]+\n|b1[01]* [!-~]+\n", ("cosim --vcd", 7): rb"#\d+\n|[01][!-~]+\n|b1[01]* [!-~]+\n",
+ENDS = {("cosim --vcd", 0): rb"#\d+\n|[01][!-~]+\n|b(?:0|1[01]*) [!-~]+\n", ("cosim --vcd", 7): rb"#\d+\n|[01][!-~]+\n|b(?:0|1[01]*) [!-~]+\n",
         ("vcd", 0): rb"\d+ \d+\n", ("gen", 0): rb"cycles [1-9]\d*\n",
         ("run", 0): rb"done \d+\n", ("run", 8): rb"stopped \d+\n", ("cosim", 0): rb"done [1-9]\d*\n", ("cosim", 7): rb"running [1-9]\d*\n", ("build", 0): rb"endmodule\n", ("plan", 0): rb"dual \d+\n"}
 

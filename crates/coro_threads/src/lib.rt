@@ -1,6 +1,6 @@
-//! Runs of a network by several threads. Its case lies on a board, where free-running workers take turns: who holds the turn claims
-//! a batch or commits one, and batches are made outside of the turn, so the others go on meanwhile. Or they go by rounds of
-//! batches, each made by some thread; or one thread goes on from wherever a network was taken apart, batch by batch.
+//! Runs of a network by several threads: in rounds of batches, each made by some thread; by free-running workers, who take turns at a
+//! board on which the case of the network lies, and make batches outside of their turns; or by one thread, from wherever a network was
+//! taken apart.
 #![tactic(auto)]
 
 mod alone;
@@ -17,7 +17,7 @@ mod signals;
 mod views;
 
 pub use alone::finish;
-pub use crew::{Crew, run_by};
+pub use crew::{Crew, run_by, share};
 pub use deal::BoardFault;
 pub use free::{run_free, work};
 pub use net_case::{Batch, Case, CaseFault, Claimed, Gate, OpenGate, Stale};
