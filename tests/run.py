@@ -10,7 +10,7 @@ tests/README.md says how cases are written.
 import os
 import sys
 
-from runner import arrays, bounds, circuits, crates, documents, dumps, endings, examples, faults, halving, house, icarus, inputs, limits, networks, pipelines, plans, reference, sessions, sources, texts, tools, values, words, workers
+from runner import arrays, bounds, circuits, crates, documents, dumps, endings, examples, faults, halving, house, icarus, inputs, limits, networks, outputs, pipelines, plans, reference, sessions, sources, texts, tools, values, words, workers
 from runner.trial import Trial
 
 
@@ -28,6 +28,7 @@ GROUPS = [
     ("endings", endings.try_all),
     ("workers", workers.try_all),
     ("faults", faults.try_all),
+    ("outputs", outputs.try_all),
     ("examples", examples.try_all),
     ("circuits", circuits.try_all),
     ("pipelines", pipelines.try_all),

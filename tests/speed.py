@@ -3,6 +3,7 @@
 
     tests/speed.py PROGRAM [WORD]              all of them, or those whose name has the word
     tests/speed.py PROGRAM --workers [WORD]    the same by several workers: a column for each number of them
+    tests/speed.py PROGRAM --counted [WORD]    loops of one task by counted instructions (valgrind), which other work does not disturb
 
 The sources are those of tests/speed/, and wide networks that are made here. Seconds are processor seconds of one call, the best of seven, with the
 report, which goes nowhere; ticks are those that the report counts. Where g++ is there, the anchors of tests/speed/ are compiled with -O2
@@ -11,6 +12,7 @@ something on a machine that has nothing else to do, and has as many processors a
 """
 import json
 import os
+import re
 import shutil
 import subprocess
 import sys
@@ -22,6 +24,15 @@ from figures import chain
 HERE = os.path.dirname(os.path.abspath(__file__))
 REPEATS = 7
 WORKERS = (1, 2, 4, 64)
+# loops of one task, each with its source and its anchor, which turns as often
+LOOPS = (
+    ("a hash", "hash", 5_000_000),
+    ("a hash in 32 bits", "hash32", 5_000_000),
+    ("tests within tests", "nested", 4_000_000),
+    ("a table", "array", 5_000_000),
+    ("a filter", "fir", 4_000_000),
+    ("each kind of integers", "kinds", 2_000_000),
+)
 
 
 def source(name):
@@ -81,6 +92,8 @@ def cases():
     """Each measurement: its name, its source, its top task, and its data."""
     yield "a busy task, 50,000,000 turns", source("busy"), "Top", {"scalars": {"n": 50_000_000}, "memories": {"m": [0]}}
     yield "a task with an array, a memory and several kinds, 3,000,000 turns", source("mixed"), "Top", {"scalars": {"n": 3_000_000}, "memories": {"m": [0] * 256}}
+    for name, file, turns in LOOPS:
+        yield f"{name}, {turns:,} turns", source(file), "Top", {"scalars": {"n": turns}, "memories": {"m": [0]}}
     yield "a chain of ten, 1,000,000 tokens, depth 16", chain(10, 1_000_000), "T", {}
     # (rows that are compared make about as many ticks, so that none has more of the start in its time)
     for workers, rounds in ((8, 240_000), (500, 4_000)):
@@ -120,24 +133,29 @@ def ticks_of(words, folder):
 
 
 def anchors(folder):
-    """Plain C++ of the first rows, by their names: the seconds of one call."""
+    """Plain C++ of some rows, by how their names begin: the seconds of one call."""
     compiler = shutil.which("g++")
     if not compiler:
         return {}
     found = {}
-    for name, file, count in (("busy", "busy_anchor", 50_000_000), ("chain", "chain_anchor", 1_000_000)):
-        built = os.path.join(folder, file)
-        subprocess.run([compiler, "-O2", "-o", built, os.path.join(HERE, "speed", f"{file}.cc")], check=True)
+    for name, file, count in (("a busy task", "busy", 50_000_000), ("a chain of ten", "chain", 1_000_000), *LOOPS):
+        built = os.path.join(folder, f"{file}_anchor")
+        subprocess.run([compiler, "-O2", "-o", built, os.path.join(HERE, "speed", f"{file}_anchor.cc")], check=True)
         found[name] = min(used([built, str(count)], folder, subprocess.DEVNULL)[0] for _ in range(REPEATS))
     return found
+
+
+def put_one(folder, name, text, data):
+    """Writes a source and its data."""
+    for file, content in ((f"{name}.cpp", text), (f"{name}.json", json.dumps(data))):
+        with open(os.path.join(folder, file), "w", encoding="utf-8") as it:
+            it.write(content)
 
 
 def put_all(program, wanted, folder):
     """Writes the sources and their data, and gives the name and the call of each."""
     for at, (name, text, top, data) in enumerate(it for it in cases() if wanted in it[0]):
-        for file, content in ((f"{at}.cpp", text), (f"{at}.json", json.dumps(data))):
-            with open(os.path.join(folder, file), "w", encoding="utf-8") as it:
-                it.write(content)
+        put_one(folder, at, text, data)
         yield name, [program, "run", f"{at}.cpp", top, f"{at}.json", "--steps", "1000000000"]
 
 
@@ -153,14 +171,47 @@ def by_workers(program, wanted):
     return 0
 
 
+def instructions(words, folder):
+    """The instructions of one call, and what it writes."""
+    ran = subprocess.run(["valgrind", "--tool=callgrind", "--callgrind-out-file=/dev/null", *words], cwd=folder, capture_output=True, text=True, check=False)
+    counted = re.search(r"Collected : (\d+)", ran.stderr)
+    if not counted:
+        sys.exit(f"{words}: {ran.stderr[:300].strip()}")
+    return int(counted[1]), ran.stdout
+
+
+def counted(program, wanted):
+    """The instructions of a turn and of a tick of each loop, and those of a turn of its anchor: what two thousand further turns take."""
+    print("| what | ticks a turn | instructions a turn | a tick | g++ -O2, a turn |\n|---|---|---|---|---|")
+    turns = (1_000, 3_000)
+    with tempfile.TemporaryDirectory() as folder:
+        for name, file, _ in (("a busy task", "busy", 0), *LOOPS):
+            if wanted not in name:
+                continue
+            made = []
+            for n in turns:
+                put_one(folder, "it", source(file), {"scalars": {"n": n}, "memories": {"m": [0]}})
+                count, report = instructions([program, "run", "it.cpp", "Top", "it.json"], folder)
+                made.append((count, int(report.split()[-1])))
+            built = os.path.join(folder, "anchor")
+            subprocess.run(["g++", "-O2", "-o", built, os.path.join(HERE, "speed", f"{file}_anchor.cc")], check=True)
+            least, most = (instructions([built, str(n)], folder)[0] for n in turns)
+            count, ticks = (made[1][at] - made[0][at] for at in (0, 1))
+            more = turns[1] - turns[0]
+            print(f"| {name} | {ticks / more:.2f} | {count / more:.0f} | {count / ticks:.1f} | {(most - least) / more:.0f} |", flush=True)
+    return 0
+
+
 def main(words):
-    words, is_by_workers = [word for word in words if word != "--workers"], "--workers" in words
+    words, is_by_workers, is_counted = [word for word in words if not word.startswith("--")], "--workers" in words, "--counted" in words
     if len(words) not in (1, 2):
         print(__doc__.strip(), file=sys.stderr)
         return 2
     program, wanted = os.path.abspath(words[0]), words[1] if len(words) == 2 else ""
     if is_by_workers:
         return by_workers(program, wanted)
+    if is_counted:
+        return counted(program, wanted)
     print("| what | ticks | time | ticks a second | memory | g++ -O2 |\n|---|---|---|---|---|---|")
     with tempfile.TemporaryDirectory() as folder:
         plain = anchors(folder)
@@ -169,7 +220,7 @@ def main(words):
         spent = [[used(call, folder, subprocess.DEVNULL) for _, call, _ in rows] for _ in range(REPEATS)]
         for at, (name, _, ticks) in enumerate(rows):
             seconds, megabytes, _ = min(one[at] for one in spent)
-            anchor = next((f"{least:.2f} s" for word, least in plain.items() if f"a {word} " in name), "")
+            anchor = next((f"{least:.3f} s" for start, least in plain.items() if name.startswith(f"{start},")), "")
             print(f"| {name} | {ticks:,} | {seconds:.2f} s | {ticks / max(seconds, 0.001) / 1e6:.0f} million | {megabytes:.0f} MB | {anchor} |", flush=True)
     return 0
 

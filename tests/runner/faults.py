@@ -2,9 +2,7 @@
 files, reads that fail, files that are not there, too little memory."""
 import os
 import resource
-import socket
 import subprocess
-import threading
 
 SOURCE = """void P(tapa::mmap<const int> a, tapa::ostream<int>& q) { for (int i = 0; i < 3; ++i) q << a[i]; }
 void C(tapa::istream<int>& q) { q.read(); q.read(); q.read(); }
@@ -74,39 +72,6 @@ def try_full(trial, words, whole):
         trial.check(f"the output ends after {most} bytes: {words}", said.status == 6 and whole.startswith(cut) and len(cut) <= most, f"   {said} {cut[-60:]}")
 
 
-def pieces_of(trial, words, to_error=False):
-    """What a command writes, write by write: a socket that keeps messages apart stands for its output, or for its standard error."""
-    ours, theirs = socket.socketpair(socket.AF_UNIX, socket.SOCK_SEQPACKET)
-    found = []
-
-    def listen():
-        while True:
-            piece = ours.recv(1 << 20)
-            if not piece:
-                return
-            found.append(piece)
-
-    listener = threading.Thread(target=listen)
-    listener.start()
-    said = trial.run(words, **({"stderr": theirs} if to_error else {"stdout": theirs}))
-    theirs.close()
-    listener.join()
-    ours.close()
-    return said, found
-
-
-def try_lines(trial):
-    """Each write has one line, with one LF, at its end: of reports, circuits, plans and messages."""
-    for words in [["run", "r.cpp", "T", "d.json"], *WHOLE]:
-        whole = trial.run(words).out
-        _, found = pieces_of(trial, words)
-        trial.check(f"{words}: a line a write", found == whole.splitlines(keepends=True), f"   {found[:5]}")
-    for words in REFUSED.values():
-        whole = trial.run(words).err
-        _, found = pieces_of(trial, words, to_error=True)
-        trial.check(f"{words}: a message a write", found == whole.splitlines(keepends=True), f"   {found[:5]}")
-
-
 def try_undone(trial):
     """A simulation past its cycles leaves its report and status 7; where the report or the message cannot be written, 6."""
     words = ["cosim", "x.v", "d.json", "--cycles", "2"]
@@ -167,7 +132,6 @@ def try_little_memory(trial, words, whole):
 def try_all(trial):
     put_files(trial)
     try_refused(trial)
-    try_lines(trial)
     try_undone(trial)
     for words in WHOLE:
         said = trial.run(words)

@@ -13,6 +13,22 @@ first_none k (x ∷ xs) (false ∷ ys) h = first_none (suc k) xs ys (λ i. h (su
 first_none k (true ∷ xs) (true ∷ ys) h = first_none (suc k) xs ys (λ i. h (suc i))
 first_none k (false ∷ xs) (true ∷ ys) h = let e : true ≡ false = h zero in absurd (cc)
 
+-- which one is new depends on who is out alone
+pub first_same : (k : ℕ) (xs zs ys : List Bool) → ((i : ℕ) → is_out xs i ≡ is_out zs i) → first_new k xs ys ≡ first_new k zs ys
+first_same k xs zs [] h = refl
+first_same k [] [] (y ∷ ys) h = refl
+first_same k [] (z ∷ zs) (false ∷ ys) h = first_same (suc k) [] zs ys (λ i. h (suc i))
+first_same k [] (true ∷ zs) (true ∷ ys) h = let e : false ≡ true = h zero in absurd (cc)
+first_same k [] (false ∷ zs) (true ∷ ys) h = refl
+first_same k (x ∷ xs) [] (false ∷ ys) h = first_same (suc k) xs [] ys (λ i. h (suc i))
+first_same k (true ∷ xs) [] (true ∷ ys) h = let e : true ≡ false = h zero in absurd (cc)
+first_same k (false ∷ xs) [] (true ∷ ys) h = refl
+first_same k (x ∷ xs) (z ∷ zs) (false ∷ ys) h = first_same (suc k) xs zs ys (λ i. h (suc i))
+first_same k (true ∷ xs) (true ∷ zs) (true ∷ ys) h = first_same (suc k) xs zs ys (λ i. h (suc i))
+first_same k (true ∷ xs) (false ∷ zs) (true ∷ ys) h = let e : true ≡ false = h zero in absurd (cc)
+first_same k (false ∷ xs) (true ∷ zs) (true ∷ ys) h = let e : false ≡ true = h zero in absurd (cc)
+first_same k (false ∷ xs) (false ∷ zs) (true ∷ ys) h = refl
+
 pub first_goes : (k : ℕ) (xs ys : List Bool) (i n : ℕ) → k + i ≡ n → is_out xs i ≡ false → is_out ys i ≡ true → ((j : ℕ) → j ≢ i → is_out ys j ≡ is_out xs j) → first_new k xs ys ≡ Some n
 first_goes k xs [] i n e home out others = absurd (cc)
 first_goes k [] (false ∷ ys) zero n e home out others = absurd (cc)

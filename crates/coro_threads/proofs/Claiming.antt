@@ -99,7 +99,7 @@ claimed_after o v c c' (Over x) of none finds h = (
 
 -- ---- what a commit asks and leaves
 
-grows : (xs : List ℕ) (n v i : ℕ) → n < length xs → slice_index xs n ≤ v → slice_index xs i ≤ slice_index (set xs n v) i
+pub grows : (xs : List ℕ) (n v i : ℕ) → n < length xs → slice_index xs n ≤ v → slice_index xs i ≤ slice_index (set xs n v) i
 grows xs n v i l h = dite (ℕ_discrete i n)
     (λ (e : i ≡ n). subst (λ (x : ℕ). slice_index xs x ≤ slice_index (set xs n v) x) (sym e) (omega (arith, h, get_or-set_same xs n v 0 l)))
     (λ (ne : i ≢ n). omega (arith, get_or-set_other xs n i v 0 ne))

@@ -3,6 +3,7 @@ pub mod Lots
 pub mod Turns
 pub mod Changing
 pub mod Claiming
+pub mod InTurn
 pub mod Closing
 pub mod Crossing
 pub mod Gathering

@@ -3,7 +3,11 @@ use Rattle.std.specs.Prelude.{◌≡◌, ℕ, ◌≤◌, ◌⊎◌, Bool, true, 
 use Rattle.coro_threads.specs.Ends.{IsEndAt}
 use Rattle.atomic_table.specs.Seated.{TableId}
 use Rattle.atomic_table.specs.declared.shared.Seat.{Seat}
-use Rattle.coro_threads.specs.Turn.{HasNothing}
+use Rattle.coro_threads.specs.Turn.{HasNothing, HasTurned}
+use Rattle.net_case.specs.State.{IsValidCase}
+use Rattle.net_case.specs.Claims.{Claims}
+use Rattle.coro_threads.specs.declared.free.Turned.{Turned}
+use Rattle.coro_threads.specs.declared.free.Turned.TheVariants.{Found, Left, Again, Short}
 use Rattle.net_case.specs.declared.case_state.CaseState.{CaseState}
 use Rattle.net_case.specs.declared.lot.Lot.{Lot}
 use Rattle.net_core.specs.declared.body.Body.{Ghosts}
@@ -45,6 +49,20 @@ abbrev pub AfterClaim : {B : Type 0} → CaseState → View → Claimed B → Ty
 AfterClaim o v (Work batch) = HasBatch o v batch
 AfterClaim o v Wait = HasNothing v
 AfterClaim o v (Over x) = IsDone o v
+
+-- what a turn does to the case
+abbrev pub Turns : {B : Type 0} → CaseState → Turned B → CaseState → Type 0
+Turns c (Found x) c' = (c1 : CaseState) × HasTurned c c1 × IsValidCase c1 × Claims c1 x c'
+Turns c Left c' = HasTurned c c'
+Turns c Again c' = HasTurned c c'
+Turns c Short c' = HasTurned c c'
+
+-- what a seat without a batch has after a turn
+abbrev pub AfterTurn : {B : Type 0} → CaseState → View → Turned B → Type 0
+AfterTurn o v (Found x) = AfterClaim o v x
+AfterTurn o v Left = HasNothing v
+AfterTurn o v Again = HasNothing v
+AfterTurn o v Short = HasNothing v
 
 -- the case that the board was made with
 abbrev pub origin : {B : Type 0} → Board B → CaseState

@@ -155,3 +155,10 @@ hand_of false = []
 -- it has neither the turn nor a batch
 abbrev pub HasNothing : View → Type 0
 HasNothing v = (v.turn ≡ false) × (v.batch ≡ None)
+
+-- batches were claimed, run and committed, one after another
+pub record HasTurned (c c' : CaseState) : Type 0 where
+  pub run : IsSameRun c c'
+  pub out : (i : ℕ) → is_out c'.out i ≡ is_out c.out i
+  pub ahead : (i : ℕ) → slice_index c.counts i ≤ slice_index c'.counts i
+  pub still : (i : ℕ) → is_out c.out i ≡ true → slice_index c'.counts i ≡ slice_index c.counts i

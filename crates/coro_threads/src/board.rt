@@ -1,5 +1,5 @@
 // The turn is taken, with the case, and given back.
-ghost use Rattle.std.specs.Prelude.{◌≡◌, ◌<◌, [], ◌∷◌, true, false, None};
+ghost use Rattle.std.specs.Prelude.{◌≡◌, ◌<◌, [], ◌∷◌, true, false, None, MatchOption};
 ghost use Rattle.net_case.specs.State.{IsValidCase};
 ghost use Rattle.coro_threads.specs.Turn.{taken, given, Finds, MayGive};
 ghost use Rattle.coro_threads.specs.Seats.{IsSeatOf, view};
@@ -10,6 +10,19 @@ use net_case::Case;
 use net_core::Body;
 use std::sync::Wait;
 use std::sync::atomic::{AtomicU64, Ordering};
+
+// Takes the turn where it is free, with the case out of the slot.
+fn seize<B: Body + Drop>(shared: &SharedTable<B>, seat: &mut TableSeat<B>) -> Option<Case<B>>
+    requires table { (seat.old.table_id ≡ shared.now.table_id) × (shared.now.table_id.words ≡ 1) × (shared.now.table_id.slots ≡ 1) }
+    requires ready { (seat.old.me.1 ≡ []) × (seat.old.me.0.turn ≡ false) × (0 < seat.old.me.0.shares) }
+    ensures same { (seat.new.table_id ≡ seat.old.table_id) × (seat.new.id ≡ seat.old.id) }
+    ensures seized { MatchOption result (seat.new.me ≡ seat.old.me) (λ case. Finds seat.old.me.0 case × (seat.new.me ≡ (taken seat.old.me.0 case, (0, None) ∷ []))) }
+{
+    if shared.compare_exchange::<Take>(seat, 0, 0, 1) == 0 {
+        return Some(shared.exchange(seat, 0, None).unwrap());
+    }
+    None
+}
 
 // Waits for the turn, and takes the case out of the slot.
 fn take_case<R: Wait, B: Body + Drop>(
@@ -25,8 +38,8 @@ fn take_case<R: Wait, B: Body + Drop>(
     ensures view { seat.new.me ≡ (taken seat.old.me.0 result, (0, None) ∷ []) }
 {
     for _ in rt.forever() {
-        if shared.compare_exchange::<Take>(seat, 0, 0, 1) == 0 {
-            return shared.exchange(seat, 0, None).unwrap();
+        if let Some(case) = seize(shared, seat) {
+            return case;
         }
         let _ = sleepers.fetch_add(1, Ordering::SeqCst);
         shared.park(rt, 0, 1);
@@ -77,6 +90,15 @@ impl<B: Body + Drop> Board<B> {
             &self.signals.sleepers,
             &mut seat.seat,
         )
+    }
+
+    /// Gives the case as `take` does where the turn is free. Else nothing changes.
+    pub fn try_take(&self, seat: &mut BoardSeat<B>) -> Option<Case<B>>
+        requires { IsSeatOf self.now seat.old × ((view seat.old).turn ≡ false) }
+        ensures same { IsSeatOf self.now seat.new }
+        ensures taken { MatchOption result (view seat.new ≡ view seat.old) (λ case. Finds (view seat.old) case × (view seat.new ≡ taken (view seat.old) case)) }
+    {
+        seize(&self.table.shared, &mut seat.seat)
     }
 
     /// Gives the case back, and the turn with it. Since the seat's `take` the case has at most gone on, and at most one

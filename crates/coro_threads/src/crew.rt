@@ -10,14 +10,14 @@ ghost use Rattle.coro_threads.specs.Seats.{IsSeatOf, Finished, origin, view, wor
 use crate::alone::finish;
 use crate::deal::BoardFault;
 use crate::free::run_free;
-use crate::rounds::run_rounds;
 use crate::run::Run;
 use crate::seats::{Board, Worker};
-use net_case::{Case, Gate};
+use net_case::{Case, CaseFault, Gate};
 use net_core::{Body, Net, settle};
 use std::alloc::Global;
 use std::sync::Wait;
 use std::thread::Threads;
+use tapa_base::OutOfMemory;
 
 /// Who runs a network: so many workers, 1 to 64, on a runtime that can start threads. Each passes the gate before it makes
 /// ticks; one worker alone, which waits for no other, passes none.
@@ -62,7 +62,7 @@ pub fn share<R: Threads + Wait + Sync, B: Body + Send + Drop, G: Gate>(
     }
 }
 
-/// Drives a new net to its end, by the workers of a crew: one alone as `settle` does, and more in rounds.
+/// Drives a new net to its end, by the workers of a crew: one alone as `settle` does, and more as they share a case.
 pub fn run_by<R: Threads + Wait + Sync, B: Body + Send + Drop, G: Gate>(
     crew: &Crew<'_, R, G>,
     alloc: Global,
@@ -83,5 +83,12 @@ pub fn run_by<R: Threads + Wait + Sync, B: Body + Send + Drop, G: Gate>(
         let end = settle(alloc, &mut net, budget);
         return Run { net, end };
     }
-    run_rounds(crew.rt, alloc, net, crew.workers, crew.gate, budget)
+    net.valid();
+    match Case::new(alloc, net, budget) {
+        Ok(case) => share(crew, alloc, case),
+        Err(CaseFault { net }) => Run {
+            net,
+            end: Err(OutOfMemory),
+        },
+    }
 }

@@ -1,6 +1,6 @@
-//! Runs of a network by several threads: in rounds of batches, each made by some thread; by free-running workers, who take turns at a
-//! board on which the case of the network lies, and make batches outside of their turns; or by one thread, from wherever a network was
-//! taken apart.
+//! Runs of a network by several threads. Its case lies on a board, where free-running workers take turns: who holds the turn claims
+//! batches or commits one; small batches are made within the turn, large ones outside of it, so that the others go on meanwhile. Or
+//! they go by rounds of batches, each made by some thread; or one thread goes on from wherever a network was taken apart, batch by batch.
 #![tactic(auto)]
 
 mod alone;

@@ -8,7 +8,9 @@ use std::sync::atomic::{AtomicU64, Ordering};
 pub struct Signals {
     /// How many workers sleep until the turn is free, or are about to.
     pub sleepers: AtomicU64,
-    /// It grows with each commit, and at the end.
+    /// How many workers wait for the turn with a batch that has made its ticks.
+    pub comers: AtomicU64,
+    /// It grows where another worker may find something to do, and at the end.
     pub news: AtomicU64,
     /// How many workers sleep until there is news, or are about to.
     pub waiters: AtomicU64,
@@ -19,9 +21,25 @@ impl Signals {
     pub fn new() -> Signals {
         Signals {
             sleepers: AtomicU64::new(0),
+            comers: AtomicU64::new(0),
             news: AtomicU64::new(0),
             waiters: AtomicU64::new(0),
         }
+    }
+
+    /// One more worker waits for the turn with a batch.
+    pub fn comes(&self) {
+        let _ = self.comers.fetch_add(1, Ordering::SeqCst);
+    }
+
+    /// It has the turn.
+    pub fn has_come(&self) {
+        let _ = self.comers.fetch_sub(1, Ordering::SeqCst);
+    }
+
+    /// Whether some worker waits for the turn with a batch.
+    pub fn is_awaited(&self) -> bool {
+        self.comers.load(Ordering::SeqCst) > 0
     }
 
     /// How much news there was so far.

@@ -11,6 +11,8 @@ pub struct Process<B: Body> {
     pub body: B,
     pub ports: Ports,
     pub limits: Vec<usize>,
+    /// How many ticks its last resume made; before the first one, as many as can be. No contract rests on it.
+    pub last: u64,
 }
 
 /// An instance that is out of its case: it may make so many ticks, whatever the others do meanwhile.

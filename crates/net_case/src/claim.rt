@@ -2,7 +2,7 @@
 ghost use Rattle.std.specs.Prelude.{ℕ, ◌≡◌, true, false, length, slice_index_or, MatchBool, nat_lt, if◌then◌else◌};
 ghost use Rattle.kahn_model.specs.Outcome.{HaveJoinedEnded, HasJoinedLeft};
 ghost use Rattle.net_core.specs.declared.outcome.Outcome.TheVariants.{Done, Stopped, Limit};
-ghost use Rattle.net_core.specs.Settle.{AreJoinedEnded, IsSomeJoinedLeft, IsSomeWithFuel, AreNoneWithFuel, AreJoinedTold, IsSettled};
+ghost use Rattle.net_core.specs.Settle.{AreJoinedTold, IsSettled};
 ghost use Rattle.net_case.specs.Home.{outs};
 ghost use Rattle.net_case.specs.Over.{Answers};
 ghost use Rattle.net_case.specs.State.{network, count, net_of, AreAllHome};
@@ -10,8 +10,7 @@ ghost use Rattle.net_case.specs.Claims.{Claims, IsFinished};
 
 use crate::batch::{Batch, Process};
 use crate::case::Case;
-use net_core::{Body, Outcome, Pause, is_detached};
-use tapa_syntax::Program;
+use net_core::{Body, Outcome, goes_on, have_joined_ended};
 
 /// What a claim finds: a batch; nothing that may step while some instance is out; or the end.
 #[derive(Drop)]
@@ -19,34 +18,6 @@ pub enum Claimed<B: Body> {
     Work(Batch<B>),
     Wait,
     Over(Outcome),
-}
-
-// Whether every joined instance has ended.
-fn have_joined_ended(program: &Program, pauses: &Vec<Option<Pause>>) -> bool
-    requires { length pauses.now.items ≡ length program.now.instances.items }
-    ensures { MatchBool result (AreJoinedEnded program.now pauses.now.items) (IsSomeJoinedLeft program.now pauses.now.items) }
-{
-    for j in 0..pauses.len() {
-        if !is_detached(program, j) {
-            match pauses[j] {
-                Some(Pause::Ended) => {}
-                _ => return false,
-            }
-        }
-    }
-    true
-}
-
-// Whether some instance answered last that it may go on.
-fn some_may_go_on(pauses: &Vec<Option<Pause>>) -> bool
-    ensures { MatchBool result (IsSomeWithFuel pauses.now.items) (AreNoneWithFuel pauses.now.items) }
-{
-    for j in 0..pauses.len() {
-        if let Some(Pause::Fuel) = pauses[j] {
-            return true;
-        }
-    }
-    false
 }
 
 // Whether some instance is out.
@@ -95,7 +66,7 @@ impl<B: Body + Drop> Case<B> {
         ensures settled { IsSettled (net_of self.now) result }
     {
         let done = self.is_done();
-        let on = some_may_go_on(&self.pauses);
+        let on = goes_on(&self.pauses);
         ending(self.joined, self.budget, done, on)
     }
 

@@ -1,6 +1,6 @@
-//! A network taken apart: the instances that are at home, and for each stream the tokens that were not taken. An instance goes
-//! out with a batch of its ticks: its body, its ports, and the lists of the streams that it writes. They are made elsewhere, and
-//! are steps of the network when it comes back by a commit, in any order.
+//! A network taken apart: the instances that are at home, the batches of ticks with which others are out, and for each stream the
+//! tokens that were not taken. An instance goes out with its body, its ports, and the lists of the streams that it writes. Its ticks
+//! are made elsewhere, and are steps of the network when it comes back by a commit, in any order.
 #![tactic(auto)]
 
 mod batch;

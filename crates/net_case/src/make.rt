@@ -77,7 +77,7 @@ fn reserve_at(program: &Program, ports: &mut Ports, i: usize) -> Result<(), OutO
     Ok(())
 }
 
-// The same at all instances.
+// Room in memory at the ports of all instances that read.
 fn reserve_all(program: &Program, all: &mut Vec<Ports>) -> Result<(), OutOfMemory>
     requires connected { IsConnected program.now }
     requires len { length all.old.items ≡ length program.now.instances.items }
@@ -160,6 +160,7 @@ fn bring_home<B: Body + Drop>(
             body: bodies.take_last(),
             ports: ports.take_last(),
             limits: limits.take_last(),
+            last: u64::MAX,
         };
         homes[n - 1 - k] = Some(process);
     }

@@ -38,6 +38,12 @@ impl<B: Body> Batch<B> {
         self.made
     }
 
+    /// How many ticks its instance made when it was last resumed, here or in an earlier batch; before the first time, as many as
+    /// can be. It tells no more than what to expect of the next time.
+    pub fn last(&self) -> u64 {
+        self.process.last
+    }
+
     /// Makes room in memory for the tokens that its streams have room for, so that `resume` takes none. After want of memory
     /// the batch is as it was.
     pub fn prepare(&mut self) -> Result<(), OutOfMemory>
@@ -59,6 +65,7 @@ impl<B: Body> Batch<B> {
         let fuel = self.fuel - self.made;
         let (pause, made) = resume_body(&mut self.process.body, &mut self.process.ports, fuel);
         self.made += made;
+        self.process.last = made;
         self.pause = Some(pause);
         pause
     }

@@ -152,6 +152,7 @@ impl Ports {
         ensures tokens { drop result.1 result.0.items ≡ waiting self.old s }
         ensures within { result.1 ≤ length result.0.items }
         ensures kind { AreTokensOf (kind_at self.old s) result.0.items }
+        ensures nothing { waiting self.new s ≡ [] }
     {
         let port = &mut self.ports[s];
         let head = port.head;

@@ -9,5 +9,5 @@ mod start;
 mod totals;
 mod waits;
 
-pub use run::{RunEnd, run_program};
+pub use run::{RunEnd, network, run_program};
 pub use totals::{Totals, TotalsEnd, run_totals};

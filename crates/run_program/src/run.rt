@@ -35,7 +35,7 @@ pub enum RunEnd {
 }
 
 /// The program's network before its first tick.
-pub(crate) fn network(
+pub fn network(
     alloc: Global,
     program: &Arc<Program>,
     input: &Arc<Input>,

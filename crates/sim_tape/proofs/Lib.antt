@@ -1,5 +1,4 @@
 pub mod Shifts
-pub mod Writes
-pub mod Locals
 pub mod Running
 pub mod Growing
+pub mod Ordering

@@ -2,3 +2,4 @@ pub mod Operators
 pub mod Tape
 pub mod Solved
 pub mod Trees
+pub mod Orders

@@ -4,6 +4,8 @@
 
 mod gates;
 mod operations;
+mod order;
+mod phases;
 mod program;
 mod runs;
 mod solving;

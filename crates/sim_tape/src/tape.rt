@@ -1,6 +1,7 @@
 // A tape that grows gate by gate.
 
-ghost use Rattle.std.specs.Prelude.{◌≡◌, ◌+◌, ◌*◌, ◌<◌, ◌≤◌, ◌^◌, true, length, IfOk, OnOk};
+ghost use Rattle.std.specs.Prelude.{◌≡◌, ◌⊎◌, ◌+◌, ◌*◌, ◌<◌, ◌≤◌, ◌^◌, true, length, IfOk, IfSome, OnOk};
+ghost use Rattle.sim_tape.specs.declared.gates.Operator.TheVariants as operators;
 ghost use Rattle.sim_tape.specs.declared.gates.Rule.TheVariants as rules;
 ghost use Rattle.vlog_tree.specs.Cycle.{op_value};
 ghost use Rattle.sim_tape.specs.Operators.{operator_value};
@@ -14,13 +15,13 @@ use std::alloc::{AllocError, Global};
 use std::collections::HashMap;
 use vlog_tree::BinaryOp;
 
-/// The gates of slots 0, 1, 2 and so on, each reading slots before its own, the wide operators, and where constants stand.
-/// Slot 0 is the constant 0.
+/// The gates of slots 0, 1, 2 and so on, each reading slots before its own, the wide operators, and where constants and gates of
+/// operators stand, so that none of them is made twice. Slot 0 is the constant 0.
 #[derive(Drop)]
 pub struct Tape {
     gates: Vec<Gate>,
     wides: Vec<Wide>,
-    constants: HashMap<u64, u32>,
+    known: HashMap<Gate, u32>,
 }
 
 // The low 32 bits of a number, and those above.
@@ -51,6 +52,22 @@ fn has_gate(gates: &[Gate], slot: u32, gate: &Gate) -> bool
     slot < gates.len() && gates[slot] == *gate
 }
 
+// The other slot of an `or` with slot 0, which needs no gate.
+fn plain_or(operator: Operator, a: u32, b: u32) -> Option<u32>
+    ensures { IfSome result (λ s. (operator ≡ operators.Or) × (((a ≡ 0) × (s ≡ b)) ⊎ ((b ≡ 0) × (s ≡ a)))) }
+{
+    if operator != Operator::Or {
+        return None;
+    }
+    if a == 0 {
+        return Some(b);
+    }
+    if b == 0 {
+        return Some(a);
+    }
+    None
+}
+
 impl Tape {
     /// A tape with slot 0 alone.
     pub fn new(alloc: Global) -> Result<Tape, AllocError>
@@ -66,7 +83,7 @@ impl Tape {
         Ok(Tape {
             gates,
             wides: Vec::new(alloc),
-            constants: HashMap::new(alloc),
+            known: HashMap::new(alloc),
         })
     }
 
@@ -124,6 +141,23 @@ impl Tape {
         })
     }
 
+    // A slot with a gate that reads slots before it: one that has it already, or a new one.
+    fn share(&mut self, gate: Gate) -> Result<u32, AllocError>
+        requires tape { IsTape (tree_of self.old) }
+        requires reads { ReadsBefore self.old.wides.items (length self.old.gates.items) gate }
+        ensures extends { Extends (tree_of self.old) (tree_of self.new) }
+        ensures slot { IfOk result (λ s. HasGate (tree_of self.new) s gate) }
+    {
+        if let Some(slot) = self.known.get(&gate).copied() {
+            if has_gate(&self.gates, slot, &gate) {
+                return Ok(slot);
+            }
+        }
+        let slot = self.push(gate)?;
+        self.known.insert(gate, slot)?;
+        Ok(slot)
+    }
+
     /// A slot with a constant.
     pub fn constant(&mut self, n: u64) -> Result<u32, AllocError>
         requires { IsTape (tree_of self.old) }
@@ -131,14 +165,7 @@ impl Tape {
         ensures slot { IfOk result (λ s. s < length self.new.gates.items) }
         ensures says { IfOk result (λ s. Says (tree_of self.new) (λ cells ns. number_at ns s ≡ n)) }
     {
-        let gate = constant_gate(n);
-        if let Some(slot) = self.constants.get(&n).copied() {
-            if has_gate(&self.gates, slot, &gate) {
-                return Ok(slot);
-            }
-        }
-        let slot = self.push(gate)?;
-        self.constants.insert(n, slot)?;
+        let slot = self.share(constant_gate(n))?;
         Ok(slot)
     }
 
@@ -152,12 +179,16 @@ impl Tape {
         ensures slot { IfOk result (λ s. s < length self.new.gates.items) }
         ensures says { IfOk result (λ s. Says (tree_of self.new) (λ cells ns. number_at ns s ≡ operator_value operator cells (number_at ns a) (number_at ns b) (number_at ns c))) }
     {
-        self.push(Gate {
+        if let Some(slot) = plain_or(operator, a, b) {
+            return Ok(slot);
+        }
+        let slot = self.share(Gate {
             rule: Rule::Of(operator),
             a,
             b,
             c,
-        })
+        })?;
+        Ok(slot)
     }
 
     // The halves of what a wide operator makes.
@@ -231,7 +262,7 @@ impl Tape {
         let Tape {
             gates,
             wides,
-            constants: _,
+            known: _,
         } = self;
         Program::of(alloc, gates, wides)
     }

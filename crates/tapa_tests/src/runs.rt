@@ -24,7 +24,7 @@ use tapa_syntax::{Bound, Instance, Leaf, Program};
 const ROUNDS: u64 = 24;
 
 // The bytes of a source, which is short.
-fn short(text: &str) -> &[u8]
+pub fn short(text: &str) -> &[u8]
     ensures { length result.now ≤ 4096 }
 {
     let bytes = text.as_bytes();

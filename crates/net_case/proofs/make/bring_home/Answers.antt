@@ -35,7 +35,7 @@ loop-k-preserved g c =
     let k = c.loop-k.k in
     let n = length c.args.homes.now.items in
     let m = c.len-n.result - 1 - k in
-    let x : Process g.row.B.Denot = record { body = c.take_last.result; ports = c.take_last-in-loop-k.result; limits = c.take_last-in-loop-k-2.result } in
+    let x : Process g.row.B.Denot = record { body = c.take_last.result; ports = c.take_last-in-loop-k.result; limits = c.take_last-in-loop-k-2.result; last = 18446744073709551615 } in
     let bodies = c.args.bodies.now.items in
     let ports = c.args.ports.now.items in
     let limits = c.args.limits.now.items in

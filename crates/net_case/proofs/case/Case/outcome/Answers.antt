@@ -21,7 +21,7 @@ returns-clause-answer g c =
     let d = subst (λ (v : CaseState). MatchBool r (HaveJoinedEnded (network v) (count v)) (HasJoinedLeft (network v) (count v))) (sym c.self.view_is) c.is_done-done.ensures.ended in
     subst (λ (v : CaseState). Answers (network v) v.budget (count v) c.ending.result) c.self.view_is
     (subst (λ (o : Outcome). Answers (network_on (arc_value I.program) (arc_value I.input)) I.budget (count_of I.counts.items) o) (sym c.ending.ensures)
-    (answers g.B.Body.stands (arc_value I.program) (arc_value I.input) I.budget I.homes.items I.queues.items I.taken.items I.offered.items I.counts.items I.pauses.items I.listed.items I.joined I.writers.items I.fed_by_self.items c.self.invariant.0 home finished r c.some_may_go_on-on.result d c.some_may_go_on-on.ensures))
+    (answers g.B.Body.stands (arc_value I.program) (arc_value I.input) I.budget I.homes.items I.queues.items I.taken.items I.offered.items I.counts.items I.pauses.items I.listed.items I.joined I.writers.items I.fed_by_self.items c.self.invariant.0 home finished r c.goes_on-on.result d c.goes_on-on.ensures))
 
 pub returns-clause-settled : goal.returns-clause-settled
 returns-clause-settled g c =
@@ -33,4 +33,4 @@ returns-clause-settled g c =
     let t = subst (λ (v : CaseState). r ≡ true → AreJoinedTold (net_of v)) (sym c.self.view_is) c.is_done-done.ensures.told in
     subst (λ (v : CaseState). IsSettled (net_of v) c.ending.result) c.self.view_is
     (subst (λ (o : Outcome). IsSettled (record { program = arc_value I.program; input = arc_value I.input; counts = I.counts.items; pauses = I.pauses.items }) o) (sym c.ending.ensures)
-    (settles g.B.Body.stands (arc_value I.program) (arc_value I.input) I.budget I.homes.items I.queues.items I.taken.items I.offered.items I.counts.items I.pauses.items I.listed.items I.joined I.writers.items I.fed_by_self.items c.self.invariant.0 home finished r c.some_may_go_on-on.result t d c.some_may_go_on-on.ensures))
+    (settles g.B.Body.stands (arc_value I.program) (arc_value I.input) I.budget I.homes.items I.queues.items I.taken.items I.offered.items I.counts.items I.pauses.items I.listed.items I.joined I.writers.items I.fed_by_self.items c.self.invariant.0 home finished r c.goes_on-on.result t d c.goes_on-on.ensures))
