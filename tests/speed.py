@@ -88,6 +88,25 @@ def apart(tasks, turns):
     return f"{busy}void C({ends}) {{ {reads} }}\nvoid Top() {{ {streams} tapa::task(){calls}.invoke(C, {bound}); }}\n"
 
 
+def uneven(turns, tokens):
+    """A chain of tasks that pass tokens on, each after so many turns of its own."""
+    ends, tasks, calls = len(turns) - 1, "", ""
+    for at, count in enumerate(turns):
+        ports = ["tapa::istream<int>& p"] * (at > 0) + ["tapa::ostream<int>& q"] * (at < ends)
+        first, last = ("p.read()" if at > 0 else "i"), ("q << x; " if at < ends else "")
+        tasks += f"void S{at}({', '.join(ports)}) {{ for (int i = 0; i < {tokens}; ++i) {{ int x = {first}; for (int k = 0; k < {count}; ++k) {{ x = x * 5 + k; }} {last}}} }}\n"
+        bound = [f"s{at - 1}"] * (at > 0) + [f"s{at}"] * (at < ends)
+        calls += f".invoke(S{at}, {', '.join(bound)})"
+    streams = " ".join(f"tapa::stream<int, 16> s{at};" for at in range(ends))
+    return f"{tasks}void Top() {{ {streams} tapa::task(){calls}; }}\n"
+
+
+def one_heavy(turns, tasks, tokens):
+    """A task that makes turns beside a chain of light ones."""
+    busy = f"void B() {{ int x = 1; for (int i = 0; i < {turns}; ++i) {{ x = x * 5 + i; }} }}\n"
+    return busy + uneven([0] * tasks, tokens).replace("tapa::task()", "tapa::task().invoke(B)")
+
+
 def cases():
     """Each measurement: its name, its source, its top task, and its data."""
     yield "a busy task, 50,000,000 turns", source("busy"), "Top", {"scalars": {"n": 50_000_000}, "memories": {"m": [0]}}
@@ -103,6 +122,11 @@ def cases():
     for depth in (2, 4_096):
         yield f"a task held up on its output, input depth {depth:,}", queue(depth, 1_000_000), "Top", {}
     yield "64 busy tasks side by side, 300,000 turns", apart(64, 300_000), "Top", {}
+    yield "64 busy tasks side by side, 1,200,000 turns", apart(64, 1_200_000), "Top", {}
+    yield "a chain of ten whose tasks make 1,800 turns a token, 2,000 tokens", uneven([1_800] * 10, 2_000), "Top", {}
+    yield "a chain of ten whose tasks make 30 and 300 turns a token by turns, 20,000 tokens", uneven([30, 300] * 5, 20_000), "Top", {}
+    yield "a chain of ten in which one task makes 3,000 turns a token and the others 30, 5,000 tokens", uneven([30] * 5 + [3_000] + [30] * 4, 5_000), "Top", {}
+    yield "a busy task, 10,000,000 turns, beside a chain of five, 400,000 tokens", one_heavy(10_000_000, 5, 400_000), "Top", {}
     for turns in (100_000, 400_000, 1_600_000):
         yield f"a ring of three, {turns:,} turns", source("ring"), "Top", {"scalars": {"n": turns}}
 

@@ -2,7 +2,7 @@ pub mod Ran
 pub mod Prepares
 pub mod Steps
 pub mod Places
-pub mod Flat
+mod Flat
 pub mod Ticks
 pub mod Rest
 pub mod Compute

@@ -1,7 +1,6 @@
 pub mod Compute
-pub mod Flat
 pub mod Block
-pub mod Code
+pub mod Stored
 pub mod Step
 pub mod Run
 pub mod Tick

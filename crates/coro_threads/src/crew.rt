@@ -16,16 +16,33 @@ use net_case::{Case, CaseFault, Gate};
 use net_core::{Body, Net, settle};
 use std::alloc::Global;
 use std::sync::Wait;
+use std::thread;
 use std::thread::Threads;
 use tapa_base::OutOfMemory;
 
-/// Who runs a network: so many workers, 1 to 64, on a runtime that can start threads. Each passes the gate before it makes
+/// Who runs a network: at most so many workers, 1 to 64, on a runtime that can start threads. Each passes the gate before it makes
 /// ticks; one worker alone, which waits for no other, passes none.
 #[derive(Drop)]
 pub struct Crew<'a, R: Threads + Wait + Sync, G: Gate> {
     pub rt: &'a R,
     pub gate: &'a G,
     pub workers: u32,
+}
+
+// So many workers are of use: where the gate lets everyone through at once, no more than there are instances and processors.
+fn of_use<R: Threads + Wait + Sync, G: Gate>(crew: &Crew<'_, R, G>, instances: usize) -> u32
+    requires { (0 < crew.now.workers) × (crew.now.workers ≤ 64) }
+    ensures { (0 < result) × (result ≤ 64) }
+{
+    if !crew.gate.is_open() {
+        return crew.workers;
+    }
+    let processors = match thread::available_parallelism(crew.rt) {
+        Ok(count) => count.get(),
+        Err(_) => instances,
+    };
+    let most = processors.min(instances).clamp(1, 64);
+    crew.workers.min(most as u32)
 }
 
 // The case, once all workers have returned.
@@ -38,14 +55,16 @@ fn closed<B: Body + Drop>(board: Board<B>, workers: Vec<Worker<B>>) -> Case<B>
     board.close(workers)
 }
 
-/// Drives a case to its end, by workers of a crew that share it on a board and, where there is no memory for a board or one of them
-/// finds none for a batch, by this thread alone.
-pub fn share<R: Threads + Wait + Sync, B: Body + Send + Drop, G: Gate>(
-    crew: &Crew<'_, R, G>,
+// Drives a case to its end, by so many workers that share it on a board and, where there is no memory for a board or one of them
+// finds none for a batch, by this thread alone.
+fn share<R: Threads + Wait + Sync, B: Body + Send + Drop, G: Gate>(
+    rt: &R,
     alloc: Global,
     case: Case<B>,
+    workers: u32,
+    gate: &G,
 ) -> Run<B>
-    requires workers { (0 < crew.now.workers) × (crew.now.workers ≤ 64) }
+    requires workers { (0 < workers) × (workers ≤ 64) }
     requires home { AreAllHome case }
     ensures program { result.net.program ≡ case.program }
     ensures input { result.net.input ≡ case.input }
@@ -53,10 +72,10 @@ pub fn share<R: Threads + Wait + Sync, B: Body + Send + Drop, G: Gate>(
     ensures outcome { IfOk result.end (EndsAs result.net case.budget) }
     ensures pauses { IfOk result.end (IsSettled result.net) }
 {
-    match Board::new(alloc, case, crew.workers) {
-        Ok((board, mut workers)) => {
-            run_free(crew.rt, &board, workers.as_mut_slice(), crew.gate);
-            finish(closed(board, workers))
+    match Board::new(alloc, case, workers) {
+        Ok((board, mut crew)) => {
+            run_free(rt, &board, crew.as_mut_slice(), gate);
+            finish(closed(board, crew))
         }
         Err(BoardFault { case }) => finish(case),
     }
@@ -78,14 +97,15 @@ pub fn run_by<R: Threads + Wait + Sync, B: Body + Send + Drop, G: Gate>(
     ensures outcome { IfOk result.end (EndsAs result.net budget) }
     ensures pauses { IfOk result.end (IsSettled result.net) }
 {
-    if crew.workers == 1 {
+    let workers = of_use(crew, net.counts.len());
+    if workers == 1 {
         let mut net = net;
         let end = settle(alloc, &mut net, budget);
         return Run { net, end };
     }
     net.valid();
     match Case::new(alloc, net, budget) {
-        Ok(case) => share(crew, alloc, case),
+        Ok(case) => share(crew.rt, alloc, case, workers, crew.gate),
         Err(CaseFault { net }) => Run {
             net,
             end: Err(OutOfMemory),

@@ -12,7 +12,7 @@ use std::thread;
 use std::thread::Threads;
 
 // A batch whose instance made fewer ticks the last time is run within the turn.
-const SMALL: u64 = 1_024;
+const SMALL: u64 = 256;
 
 // So many small batches are run within one turn.
 const MANY: u32 = 65_536;

@@ -17,7 +17,7 @@ mod signals;
 mod views;
 
 pub use alone::finish;
-pub use crew::{Crew, run_by, share};
+pub use crew::{Crew, run_by};
 pub use deal::BoardFault;
 pub use free::{run_free, work};
 pub use net_case::{Batch, Case, CaseFault, Claimed, Gate, OpenGate, Stale};

@@ -6,6 +6,7 @@ pub mod Storing
 pub mod Stepping
 pub mod Asking
 pub mod Advancing
+pub mod Standing
 pub mod Asked
 pub mod Beginning
 pub mod Growing

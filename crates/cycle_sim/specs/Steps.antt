@@ -41,10 +41,14 @@ AreOnce commits = (i j : ℕ) (a b : Commit) → slice_get commits i ≡ Some a 
 abbrev pub put_list : ℕ → ℕ → ℕ → ℕ → List ℕ → List ℕ
 put_list memory at n m cells = if m == memory then set_cell cells at n else cells
 
+-- a store is made: its condition is 1, and its address has at most 64 bits
+abbrev pub is_made : List ℕ → Store → Bool
+is_made ns t = (number_at ns t.on == 1) && (number_at ns t.at.high == 0)
+
 -- the list of cells of a number after a store, and after all stores
 abbrev pub stored_list : List ℕ → Store → ℕ → List ℕ → List ℕ
 stored_list ns t m cells =
-    if (number_at ns t.on == 1) && (number_at ns t.at.high == 0)
+    if is_made ns t
     then put_list t.memory.high (number_at ns t.at.low) (number_at ns t.value.high) m (put_list t.memory.low (number_at ns t.at.low) (number_at ns t.value.low) m cells)
     else cells
 
@@ -56,7 +60,11 @@ stored_all ns m cells (t ∷ stores) = stored_all ns m (stored_list ns t m cells
 abbrev pub is_one : List ℕ → Pair → Bool
 is_one ns p = (number_at ns p.high == 0) && (number_at ns p.low == 1)
 
+-- a memory around the design is written
+abbrev pub is_written : List ℕ → Outside → Bool
+is_written ns o = is_one ns o.ack && (is_one ns o.we && (number_at ns o.addr.high == 0))
+
 -- the cells of a memory around the design after what it is asked
 abbrev pub outside_list : List ℕ → Outside → List ℕ → List ℕ
 outside_list ns o cells =
-    if is_one ns o.ack && (is_one ns o.we && (number_at ns o.addr.high == 0)) then set_cell cells (number_at ns o.addr.low) (number_at ns o.wdata) else cells
+    if is_written ns o then set_cell cells (number_at ns o.addr.low) (number_at ns o.wdata) else cells

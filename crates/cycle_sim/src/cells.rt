@@ -4,7 +4,7 @@ ghost use Rattle.std.specs.Prelude.{◌≡◌, ◌≤◌, ◌==◌, ℕ, [], Som
 ghost use Rattle.vlog_tree.specs.Environment.{set_cell as set_cell_lem};
 ghost use Rattle.sim_tape.specs.Operators.{cells_of};
 ghost use Rattle.cycle_sim.specs.declared.cells.Outside.{Outside as OutsideTree};
-ghost use Rattle.cycle_sim.specs.Steps.{put_list, stored_list, stored_all, outside_list};
+ghost use Rattle.cycle_sim.specs.Steps.{put_list, stored_list, stored_all, outside_list, is_made as is_made_lem, is_written as is_written_lem};
 
 use crate::slots::{is_one, number};
 use sim_gates::Store;
@@ -35,10 +35,17 @@ fn put_cell(cells: &mut [Vec<u64>], memory: usize, at: usize, n: u64)
     }
 }
 
+/// Whether a store is made in a cycle.
+pub fn is_made(numbers: &[u64], store: &Store) -> bool
+    ensures { result ≡ is_made_lem numbers.now store.now }
+{
+    number(numbers, store.on) == 1 && number(numbers, store.at.high) == 0
+}
+
 fn store(numbers: &[u64], store: &Store, cells: &mut [Vec<u64>])
     ensures { (m : ℕ) → get_or (cells_of cells.new) m [] ≡ stored_list numbers.now store.now m (get_or (cells_of cells.old) m []) }
 {
-    if number(numbers, store.on) == 1 && number(numbers, store.at.high) == 0 {
+    if is_made(numbers, store) {
         let at = number(numbers, store.at.low) as usize;
         put_cell(
             cells,
@@ -64,10 +71,17 @@ pub fn store_all(numbers: &[u64], stores: &[Store], cells: &mut [Vec<u64>])
     }
 }
 
+/// Whether a memory around the design is written in a cycle.
+pub fn is_written(numbers: &[u64], o: &Outside) -> bool
+    ensures { result ≡ is_written_lem numbers.now o.now }
+{
+    is_one(numbers, o.ack) && is_one(numbers, o.we) && number(numbers, o.addr.high) == 0
+}
+
 fn ask(numbers: &[u64], o: &Outside, place: usize, cells: &mut [Vec<u64>])
     ensures { (m : ℕ) → get_or (cells_of cells.new) m [] ≡ (if m == place then outside_list numbers.now o.now (get_or (cells_of cells.old) m []) else get_or (cells_of cells.old) m []) }
 {
-    if is_one(numbers, o.ack) && is_one(numbers, o.we) && number(numbers, o.addr.high) == 0 {
+    if is_written(numbers, o) {
         let at = number(numbers, o.addr.low) as usize;
         put_cell(cells, place, at, number(numbers, o.wdata));
     }

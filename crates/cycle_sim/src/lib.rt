@@ -14,6 +14,7 @@ mod shown;
 mod sim;
 mod simulator;
 mod slots;
+mod still;
 mod supplies;
 
 pub use laws::law_told_is_one;

@@ -13,6 +13,7 @@ ghost use Rattle.cycle_sim.specs.Wholes.{IsSim, sim_tree, token_on};
 use crate::cells::{Outside, ask_all, store_all};
 use crate::inputs::{Input, give};
 use crate::slots::{is_one, number, take_over};
+use crate::still::is_still;
 use sim_design::{Commit, Width};
 use sim_flat::Flat;
 use sim_gates::Store;
@@ -59,8 +60,8 @@ pub struct State {
     pub next: Vec<u64>,
 }
 
-/// Goes to the next cycle.
-pub fn advance(parts: &Parts, state: &mut State)
+// Goes to the next cycle, and works all gates out.
+fn work_out(parts: &Parts, state: &mut State)
     requires sim { IsSim parts.now state.old }
     requires few { state.old.cycle + 1 < 2 ^ 64 }
     ensures sim { IsSim parts.now state.new }
@@ -72,6 +73,20 @@ pub fn advance(parts: &Parts, state: &mut State)
     state.cycle += 1;
     give(&parts.inputs, &parts.ready, state.cycle, &mut state.numbers);
     parts.program.pass(&mut state.numbers, &state.cells);
+}
+
+/// Goes to the next cycle. Where nothing changes, no gate is worked out.
+pub fn advance(parts: &Parts, state: &mut State)
+    requires sim { IsSim parts.now state.old }
+    requires few { state.old.cycle + 1 < 2 ^ 64 }
+    ensures sim { IsSim parts.now state.new }
+    ensures next { IsNext (sim_tree parts.now state.old) (sim_tree parts.now state.new) }
+{
+    if is_still(parts, state) {
+        state.cycle += 1;
+        return;
+    }
+    work_out(parts, state);
 }
 
 /// Whether the design is done in a cycle.

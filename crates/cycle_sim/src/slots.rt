@@ -1,6 +1,6 @@
 // Numbers of slots, and those that registers take over.
 
-ghost use Rattle.std.specs.Prelude.{◌≡◌, ◌≢◌, ◌<◌, ℕ, Some, length, slice_get};
+ghost use Rattle.std.specs.Prelude.{◌≡◌, ◌≢◌, ◌<◌, ◌↔◌, ℕ, IsTrue, Some, length, slice_get};
 ghost use Rattle.sim_tape.specs.Tape.{number_at};
 ghost use Rattle.sim_design.specs.declared.drafts.Commit.{Commit as CommitTree};
 ghost use Rattle.cycle_sim.specs.Steps.{HasRoom, IsAway, PairHas, AreOnce, is_one as is_one_lem};
@@ -23,6 +23,13 @@ pub fn is_one(numbers: &[u64], pair: Pair) -> bool
     ensures { result ≡ is_one_lem numbers.now pair }
 {
     number(numbers, pair.high) == 0 && number(numbers, pair.low) == 1
+}
+
+/// Whether a pair has a number of at most 64 bits.
+pub fn has_number(numbers: &[u64], pair: Pair, n: u64) -> bool
+    ensures { IsTrue result ↔ PairHas numbers.now pair n }
+{
+    number(numbers, pair.low) == n && (pair.high == 0 || number(numbers, pair.high) == 0)
 }
 
 /// Gives a pair a number of at most 64 bits.

@@ -3,3 +3,4 @@ pub mod Tape
 pub mod Solved
 pub mod Trees
 pub mod Orders
+pub mod Rows

@@ -7,6 +7,7 @@ mod operations;
 mod order;
 mod phases;
 mod program;
+mod rows;
 mod runs;
 mod solving;
 mod tape;

@@ -9,10 +9,10 @@ use Rattle.coro_threads.proofs.crew.share.Goals as goal
 pub closed-requires-clause-workers : goal.closed-requires-clause-workers
 closed-requires-clause-workers g c =
     let board = c.in-Ok.board in
-    let workers = c.in-Ok.workers in
+    let crew = c.in-Ok.crew in
     let back = c.run_free.new.crew in
     subst (λ ws. All (λ w. IsSeatOf board w.seat × Finished (origin board) (view w.seat) w.short) ws)
-    (sym (whole workers.len workers.items back _ workers.ok.0 (c.run_free.ensures.len ∙ ap length c.as_mut_slice.ensures.value))) c.run_free.ensures.finished
+    (sym (whole crew.len crew.items back _ crew.ok.0 (c.run_free.ensures.len ∙ ap length c.as_mut_slice.ensures.value))) c.run_free.ensures.finished
 
 pub finish-requires-in-Err : goal.finish-requires-in-Err
 finish-requires-in-Err g c = subst (λ (x : CaseState). AreAllHome x) (sym c.in-Err.ensures.fault) c.requires.home

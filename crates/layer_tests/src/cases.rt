@@ -1,0 +1,209 @@
+// A network that is taken apart: a batch that comes back to another case, workers that meet in a round and at a board, and runs by
+// one thread within a budget.
+ghost use Rattle.std.specs.Prelude.{◌≡◌, ◌<◌, ◌≤◌, IfOk, slice_index};
+ghost use Rattle.std.specs.Arc.{arc_value};
+ghost use Rattle.kahn_model.specs.Fits.{FitsInput};
+ghost use Rattle.tapa_syntax.specs.WellFormed.{IsWellFormed};
+ghost use Rattle.net_core.specs.Bounded.{scalars_of, memories_of};
+ghost use Rattle.net_case.specs.State.{AreAllHome};
+
+use crate::gates::{APART, Meeting, Slow};
+use command_source::{read_input, read_program};
+use coro_machine::Coro;
+use coro_threads::{Board, finish, run_free, run_rounds};
+use net_case::{Case, Claimed, Gate};
+use net_core::{Input, Outcome, settle};
+use run_program::network;
+use std::alloc::Global;
+use std::sync::atomic::Ordering;
+use std::sync::{Arc, Wait};
+use std::test::Fail;
+use std::thread::Threads;
+use tapa_base::OutOfMemory;
+use tapa_syntax::Program;
+
+// Two tasks of which each may begin at once. They make 20 ticks in all.
+const SHIFTS: &str =
+    "void P(tapa::ostream<int64_t>& a) { a << (1L << 40); a << (1 << 40); a << 0xFFFFFFFF + 1; a << 4294967295 + 1; }
+void C(tapa::istream<int64_t>& a) { for (int i = 0; i < 4; ++i) a.read(); }
+void T() { tapa::stream<int64_t> a; tapa::task().invoke(P, a).invoke(C, a); }
+";
+
+// Two tasks of which the first has room for one token.
+const CROSSED: &str =
+    "void A(tapa::ostream<int>& s1, tapa::ostream<int>& s2) { s1 << 1; s1 << 2; s2 << 3; }
+void B(tapa::istream<int>& s1, tapa::istream<int>& s2) { s2.read(); s1.read(); s1.read(); }
+void T() { tapa::stream<int, 1> s1; tapa::stream<int, 1> s2; tapa::task().invoke(A, s1, s2).invoke(B, s1, s2); }
+";
+
+// A program, and the input of an empty object.
+fn given(alloc: Global, source: &str) -> Result<(Arc<Program>, Arc<Input>), Fail>
+    ensures well_formed { IfOk result (λ given. IsWellFormed (arc_value given.0)) }
+    ensures fits { IfOk result (λ given. FitsInput (arc_value given.0) (scalars_of (arc_value given.1)) (memories_of (arc_value given.1))) }
+{
+    let text = source.as_bytes();
+    if text.len() > 4096 {
+        return Err(OutOfMemory.into());
+    }
+    let Ok(program) = read_program(alloc, text, "T") else {
+        return Err(OutOfMemory.into());
+    };
+    let Ok(input) = read_input(alloc, &program, b"{}") else {
+        return Err(OutOfMemory.into());
+    };
+    Ok((Arc::new(alloc, program)?, Arc::new(alloc, input)?))
+}
+
+// A case of a program before its first tick.
+fn new_case(
+    alloc: Global,
+    program: &Arc<Program>,
+    input: &Arc<Input>,
+    budget: u64,
+) -> Result<Case<Coro>, Fail>
+    requires well_formed { IsWellFormed (arc_value program.now) }
+    requires fits { FitsInput (arc_value program.now) (scalars_of (arc_value input.now)) (memories_of (arc_value input.now)) }
+    requires budget { budget ≤ 1000000000000 }
+    ensures program { IfOk result (λ case. case.program ≡ arc_value program.now) }
+    ensures input { IfOk result (λ case. case.input ≡ arc_value input.now) }
+    ensures budget { IfOk result (λ case. case.budget ≡ budget) }
+    ensures home { IfOk result AreAllHome }
+{
+    let net = network(alloc, program, input)?;
+    match Case::new(alloc, net, budget) {
+        Ok(case) => Ok(case),
+        Err(_) => Err(OutOfMemory.into()),
+    }
+}
+
+// An instance that may step makes ticks: the case then, the instance, and how many ticks.
+fn step(case: Case<Coro>) -> Result<(Case<Coro>, usize, u64), Fail>
+    ensures program { IfOk result (λ r. r.0.program ≡ case.program) }
+    ensures input { IfOk result (λ r. r.0.input ≡ case.input) }
+    ensures budget { IfOk result (λ r. r.0.budget ≡ case.budget) }
+{
+    let mut case = case;
+    case.valid();
+    let Claimed::Work(mut batch) = case.claim() else {
+        return Err(OutOfMemory.into());
+    };
+    let instance = batch.instance();
+    batch.run()?;
+    let made = batch.made();
+    match case.commit(batch) {
+        Ok(()) => Ok((case, instance, made)),
+        Err(_stale) => Err(OutOfMemory.into()),
+    }
+}
+
+// A batch whose instance has made ticks since in the case to which it comes back is not taken, and that case stays as it is.
+#[test]
+fn a_batch_of_another_case_is_stale(rt: HostRuntime) -> Result<(), Fail> {
+    let alloc = rt.alloc();
+    let (program, input) = given(alloc, CROSSED)?;
+    let mut one = new_case(alloc, &program, &input, 100)?;
+    let (mut other, instance, made) = step(new_case(alloc, &program, &input, 100)?)?;
+    let Claimed::Work(batch) = one.claim() else {
+        return Err(OutOfMemory.into());
+    };
+    let first = batch.instance();
+    if first >= one.counts().len() || first >= other.counts().len() {
+        return Err(OutOfMemory.into());
+    }
+    if one.counts()[first] == other.counts()[first] {
+        return Err(OutOfMemory.into());
+    }
+    assert_eq!(rt; (first, instance, made), (0, 0, 1));
+    match other.commit(batch) {
+        Ok(()) => assert!(rt; false),
+        Err(stale) => {
+            assert_eq!(rt; (stale.kept, stale.brought), (1, 0));
+            assert_eq!(rt; (stale.batch.instance(), stale.batch.made()), (0, 0));
+        }
+    }
+    assert_eq!(rt; other.counts(), [1, 0].as_slice());
+    Ok(())
+}
+
+// With two workers both instances of a round are under way at once.
+#[test]
+fn two_workers_meet_in_a_round(rt: HostRuntime) -> Result<(), Fail> {
+    let (program, input) = given(rt.alloc(), SHIFTS)?;
+    let net = network(rt.alloc(), &program, &input)?;
+    let gate = Meeting::new();
+    let run = run_rounds(&rt, rt.alloc(), net, 2, &gate, 20);
+    assert!(rt; matches!(run.end, Ok(Outcome::Done { ticks: 20 })));
+    assert_eq!(rt; gate.met.load(Ordering::SeqCst), 2);
+    Ok(())
+}
+
+// How a case ends that two workers drive at a board, and whether one of them was short.
+fn at_a_board<R: Threads + Wait + Sync, G: Gate>(
+    rt: &R,
+    alloc: Global,
+    case: Case<Coro>,
+    gate: &G,
+) -> Result<(Outcome, bool), Fail>
+    requires { AreAllHome case }
+{
+    let Ok((board, mut workers)) = Board::new(alloc, case, 2) else {
+        return Err(OutOfMemory.into());
+    };
+    run_free(rt, &board, workers.as_mut_slice(), gate);
+    let mut short = false;
+    for worker in workers.iter() {
+        short = short || worker.short;
+    }
+    let outcome = finish(board.close(workers)).end?;
+    Ok((outcome, short))
+}
+
+// Two workers that share a board have both instances under way at once, and none of them is short.
+#[test]
+fn two_workers_meet_at_a_board(rt: HostRuntime) -> Result<(), Fail> {
+    let (program, input) = given(rt.alloc(), SHIFTS)?;
+    let case = new_case(rt.alloc(), &program, &input, 20)?;
+    let gate = Meeting::new();
+    let end = at_a_board(&rt, rt.alloc(), case, &gate)?;
+    assert!(rt; matches!(end, (Outcome::Done { ticks: 20 }, false)));
+    assert_eq!(rt; gate.met.load(Ordering::SeqCst), 2);
+    Ok(())
+}
+
+// While one worker is held up with one instance the other goes on with the others.
+#[test]
+fn the_others_go_on_at_a_board(rt: HostRuntime) -> Result<(), Fail> {
+    let (program, input) = given(rt.alloc(), APART)?;
+    let case = new_case(rt.alloc(), &program, &input, 100)?;
+    let gate = Slow::new();
+    let end = at_a_board(&rt, rt.alloc(), case, &gate)?;
+    assert!(rt; matches!(end, (Outcome::Done { ticks: 10 }, false)));
+    assert_eq!(rt; gate.seen.load(Ordering::SeqCst), 1);
+    Ok(())
+}
+
+// How a new network ends by one thread within a budget, whole and taken apart.
+fn ends(alloc: Global, budget: u64) -> Result<(Outcome, Outcome), Fail>
+    requires { budget ≤ 1000000000000 }
+{
+    let (program, input) = given(alloc, SHIFTS)?;
+    let mut net = network(alloc, &program, &input)?;
+    let whole = settle(alloc, &mut net, budget)?;
+    let apart = finish(new_case(alloc, &program, &input, budget)?).end?;
+    Ok((whole, apart))
+}
+
+// A budget of as many ticks as there are is enough, and one of a tick less is not.
+#[test]
+fn a_budget_of_all_ticks_is_enough(rt: HostRuntime) -> Result<(), Fail> {
+    let enough = ends(rt.alloc(), 20)?;
+    assert!(rt;
+        matches!(
+            enough,
+            (Outcome::Done { ticks: 20 }, Outcome::Done { ticks: 20 })
+        )
+    );
+    let short = ends(rt.alloc(), 19)?;
+    assert!(rt; matches!(short, (Outcome::Limit, Outcome::Limit)));
+    Ok(())
+}
