@@ -1,5 +1,5 @@
 -- A step keeps a simulator, and goes to the next cycle of each run that it tells of.
-use Rattle.std.proofs.Common.{◌≡◌, ℕ, zero, suc, ◌+◌, ◌^◌, ◌<◌, ◌≤◌, List, [], ◌∷◌, Some, length, get_or, refl, sym, ap, subst, ◌∙◌, arith}
+use Rattle.std.proofs.Common.{◌≡◌, ℕ, zero, suc, ◌+◌, ◌^◌, ◌<◌, ◌≤◌, List, [], ◌∷◌, Some, length, get_or, refl, sym, subst, ◌∙◌, arith}
 use Rattle.std.specs.Prelude.{slice_get, Vec}
 use Rattle.std.specs.declared.alloc.Global.{Global}
 use Rattle.vlog_tree.specs.Form.{ModuleTree}
@@ -8,7 +8,7 @@ use Rattle.vlog_tree.specs.Environment.{Environment, FitsShape, RunsIn, shape_of
 use Rattle.vlog_run_laws.proofs.runs.Settled.{IsTopTree, top_tree}
 use Rattle.vlog_design.specs.Environments.{lists_of}
 use Rattle.cycle_sim.specs.Told.{IsToldOf}
-use Rattle.sim_tape.specs.Operators.{Cells, cells_of}
+use Rattle.sim_tape.specs.Operators.{cells_of}
 use Rattle.sim_tape.specs.Tape.{number_at}
 use Rattle.sim_tape.specs.Solved.{IsSolved, SameGiven}
 use Rattle.sim_design.specs.declared.drafts.Commit.{Commit}
@@ -45,22 +45,15 @@ module _ (p : Parts) (s : State) (sim : IsSim p s) where
       (λ f r told. h env nets f ready r (shown_of p.design.modules sim.parts.top p.flat p.pairs.items p.memories.items p.widths.items p.program p.commits.items p.stores.items sim.parts.machine env nets s.cycle (cells_of s.cells.items) s.numbers.items told sim.cells))
       env_fits r told
 
-  module _ (t : State) (stored : Cells) (taken_ns given_ns : List ℕ) (cycle : t.cycle ≡ s.cycle + 1) (size : length t.numbers.items ≡ length s.numbers.items) (room : length t.next.items ≡ length s.next.items)
-      (stores : (m : ℕ) → get_or stored m [] ≡ stored_all s.numbers.items m (get_or (cells_of s.cells.items) m []) p.stores.items)
-      (asked : (i : ℕ) (o : Outside) → slice_get p.outside.items i ≡ Some o → get_or (cells_of t.cells.items) i [] ≡ outside_list s.numbers.items o (get_or stored i []))
-      (behind : (m : ℕ) → length p.outside.items ≤ m → get_or (cells_of t.cells.items) m [] ≡ get_or stored m [])
+  module _ (t : State) (taken_ns given_ns : List ℕ) (cycle : t.cycle ≡ s.cycle + 1) (size : length t.numbers.items ≡ length s.numbers.items) (room : length t.given.items ≡ length s.given.items)
+      (asked : (i : ℕ) (o : Outside) → slice_get p.outside.items i ≡ Some o → get_or (cells_of t.cells.items) i [] ≡ outside_list s.numbers.items o (stored_all s.numbers.items i (get_or (cells_of s.cells.items) i []) p.stores.items))
+      (behind : (m : ℕ) → length p.outside.items ≤ m → get_or (cells_of t.cells.items) m [] ≡ stored_all s.numbers.items m (get_or (cells_of s.cells.items) m []) p.stores.items)
       (taken : (i : ℕ) (a : Commit) → slice_get p.commits.items i ≡ Some a → number_at taken_ns a.slot ≡ number_at s.numbers.items a.next)
       (values : (i : ℕ) (a : Input) → slice_get p.inputs.items i ≡ Some a → PairHas given_ns a.pair (supplied (lists_of p.ready.items) t.cycle a.supply))
       (kept : (k : ℕ) → ((i : ℕ) (a : Input) → slice_get p.inputs.items i ≡ Some a → IsAway k a.pair) → number_at given_ns k ≡ number_at taken_ns k)
       (solved : IsSolved p.program (cells_of t.cells.items) t.numbers.items) (same : SameGiven p.program.gates given_ns t.numbers.items) where
     later : t.cycle ≡ suc s.cycle
     later = omega (arith, cycle)
-
-    asked_all : (i : ℕ) (o : Outside) → slice_get p.outside.items i ≡ Some o → get_or (cells_of t.cells.items) i [] ≡ outside_list s.numbers.items o (stored_all s.numbers.items i (get_or (cells_of s.cells.items) i []) p.stores.items)
-    asked_all i o got = asked i o got ∙ ap (outside_list s.numbers.items o) (stores i)
-
-    behind_all : (m : ℕ) → length p.outside.items ≤ m → get_or (cells_of t.cells.items) m [] ≡ stored_all s.numbers.items m (get_or (cells_of s.cells.items) m []) p.stores.items
-    behind_all m high = behind m high ∙ stores m
 
     values_later : (i : ℕ) (a : Input) → slice_get p.inputs.items i ≡ Some a → PairHas given_ns a.pair (supplied (lists_of p.ready.items) (suc s.cycle) a.supply)
     values_later i a got = subst (λ n. PairHas given_ns a.pair (supplied (lists_of p.ready.items) n a.supply)) later (values i a got)
@@ -73,7 +66,7 @@ module _ (p : Parts) (s : State) (sim : IsSim p s) where
       room = room ∙ sim.room;
       solved = solved;
       cells = has_next p.design.modules sim.parts.top p.flat p.pairs.items p.memories.items p.widths.items p.program p.commits.items p.stores.items sim.parts.machine p.scalars.items p.inputs.items sim.parts.around.inputs p.outside.items sim.parts.around.outside
-          (cells_of s.cells.items) (cells_of t.cells.items) s.numbers.items sim.cells behind_all;
+          (cells_of s.cells.items) (cells_of t.cells.items) s.numbers.items sim.cells behind;
       given = given_next p.design.modules sim.parts.top p.flat p.pairs.items p.memories.items p.widths.items p.program p.commits.items p.stores.items sim.parts.machine p.scalars.items p.inputs.items sim.parts.around.inputs p.outside.items sim.parts.around.outside
           (cells_of t.cells.items) given_ns t.numbers.items (lists_of p.ready.items) t.cycle solved same values;
     }
@@ -86,7 +79,7 @@ module _ (p : Parts) (s : State) (sim : IsSim p s) where
         let run_fits = fits p.design.modules sim.parts.top p.flat p.pairs.items p.memories.items p.widths.items p.program p.commits.items p.stores.items sim.parts.machine p.scalars.items p.inputs.items sim.parts.around.inputs p.outside.items sim.parts.around.outside env env_fits nets r in
         shown_next p.design.modules sim.parts.top p.flat p.pairs.items p.memories.items p.widths.items p.program p.commits.items p.stores.items sim.parts.machine p.scalars.items p.inputs.items sim.parts.around.inputs p.outside.items sim.parts.around.outside
         env env_fits nets r s.cycle (cells_of s.cells.items) (cells_of t.cells.items) s.numbers.items taken_ns given_ns t.numbers.items now sim.solved (lists_of p.ready.items) ready sim.given sim.cells (cells_short s.cells.items)
-        taken values_later kept solved same asked_all behind_all
+        taken values_later kept solved same asked behind
         (λ l has. data_low p.design.modules d.sound.names d.outside sim.parts.top tree.has tree.is_top (nets s.cycle []) (run_fits.modules s.cycle [] sim.parts.top refl) l has)
 
     -- it tells of the next cycle

@@ -139,7 +139,7 @@ module _ (p : Parts) (are : AreParts p) where
     }
 
     -- it is a simulator
-    pub sim_first : length ns ≡ length p.program.gates → length s.next.items ≡ length p.commits.items → IsSim p s
+    pub sim_first : length ns ≡ length p.program.gates → length s.given.items ≡ length p.program.gates → IsSim p s
     sim_first size room = record {
       parts = are;
       size = size;

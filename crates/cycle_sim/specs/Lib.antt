@@ -2,7 +2,7 @@ pub mod Told
 pub mod SlotsTold
 pub mod Sims
 pub mod Steps
-pub mod Stills
+pub mod Writes
 pub mod Machines
 pub mod Wholes
 pub mod Firsts

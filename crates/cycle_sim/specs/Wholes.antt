@@ -68,7 +68,7 @@ pub record AreParts (p : Parts) : Type 0 where
 pub record IsSim (p : Parts) (s : State) : Type 0 where
   pub parts : AreParts p
   pub size : length s.numbers.items ≡ length p.program.gates
-  pub room : length s.next.items ≡ length p.commits.items
+  pub room : length s.given.items ≡ length p.program.gates
   pub solved : IsSolved p.program (cells_of s.cells.items) s.numbers.items
   pub cells : HasCells p.design.modules parts.top p.flat p.memories.items (cells_of s.cells.items)
   pub given : (i : ℕ) (a : Input) → slice_get p.inputs.items i ≡ Some a → pair_value s.numbers.items a.pair ≡ supplied (lists_of p.ready.items) s.cycle a.supply

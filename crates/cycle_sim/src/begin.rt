@@ -163,11 +163,13 @@ pub fn first_state(
     let cells = first_cells(alloc, memories, parts.outside.len(), &parts.widths, fill)?;
     let mut numbers = vec![in alloc; 0; parts.program.len()]?;
     first_numbers(parts, fill, &cells, &mut numbers);
-    let next = vec![in alloc; 0; parts.commits.len()]?;
+    let given = vec![in alloc; 0; parts.program.len()]?;
+    let marks = parts.program.marks(alloc)?;
     Ok(State {
         cycle: 0,
         numbers,
         cells,
-        next,
+        given,
+        marks,
     })
 }

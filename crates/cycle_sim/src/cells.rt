@@ -1,10 +1,11 @@
 // Cells of memories, inside a design and around it.
 
-ghost use Rattle.std.specs.Prelude.{◌≡◌, ◌≤◌, ◌==◌, ℕ, [], Some, length, get_or, slice_get, if◌then◌else◌};
+ghost use Rattle.std.specs.Prelude.{◌≡◌, ◌↔◌, ◌≤◌, ◌==◌, ℕ, IsTrue, [], Some, false, length, get_or, slice_get, if◌then◌else◌};
 ghost use Rattle.vlog_tree.specs.Environment.{set_cell as set_cell_lem};
 ghost use Rattle.sim_tape.specs.Operators.{cells_of};
 ghost use Rattle.cycle_sim.specs.declared.cells.Outside.{Outside as OutsideTree};
 ghost use Rattle.cycle_sim.specs.Steps.{put_list, stored_list, stored_all, outside_list, is_made as is_made_lem, is_written as is_written_lem};
+ghost use Rattle.cycle_sim.specs.Writes.{AreUnmade, AreUnwritten};
 
 use crate::slots::{is_one, number};
 use sim_gates::Store;
@@ -35,8 +36,8 @@ fn put_cell(cells: &mut [Vec<u64>], memory: usize, at: usize, n: u64)
     }
 }
 
-/// Whether a store is made in a cycle.
-pub fn is_made(numbers: &[u64], store: &Store) -> bool
+// Whether a store is made in a cycle.
+fn is_made(numbers: &[u64], store: &Store) -> bool
     ensures { result ≡ is_made_lem numbers.now store.now }
 {
     number(numbers, store.on) == 1 && number(numbers, store.at.high) == 0
@@ -62,8 +63,8 @@ fn store(numbers: &[u64], store: &Store, cells: &mut [Vec<u64>])
     }
 }
 
-/// The stores of a cycle, in the order of the text.
-pub fn store_all(numbers: &[u64], stores: &[Store], cells: &mut [Vec<u64>])
+// The stores of a cycle, in the order of the text.
+fn store_all(numbers: &[u64], stores: &[Store], cells: &mut [Vec<u64>])
     ensures { (m : ℕ) → get_or (cells_of cells.new) m [] ≡ stored_all numbers.now m (get_or (cells_of cells.old) m []) stores.now }
 {
     for s in stores {
@@ -71,8 +72,8 @@ pub fn store_all(numbers: &[u64], stores: &[Store], cells: &mut [Vec<u64>])
     }
 }
 
-/// Whether a memory around the design is written in a cycle.
-pub fn is_written(numbers: &[u64], o: &Outside) -> bool
+// Whether a memory around the design is written in a cycle.
+fn is_written(numbers: &[u64], o: &Outside) -> bool
     ensures { result ≡ is_written_lem numbers.now o.now }
 {
     is_one(numbers, o.ack) && is_one(numbers, o.we) && number(numbers, o.addr.high) == 0
@@ -87,12 +88,66 @@ fn ask(numbers: &[u64], o: &Outside, place: usize, cells: &mut [Vec<u64>])
     }
 }
 
-/// What the memories around the design are asked in a cycle, each at its place.
-pub fn ask_all(numbers: &[u64], outside: &[Outside], cells: &mut [Vec<u64>])
+// What the memories around the design are asked in a cycle, each at its place.
+fn ask_all(numbers: &[u64], outside: &[Outside], cells: &mut [Vec<u64>])
     ensures asked { (i : ℕ) (o : OutsideTree) → slice_get outside.now i ≡ Some o → get_or (cells_of cells.new) i [] ≡ outside_list numbers.now o (get_or (cells_of cells.old) i []) }
     ensures kept { (m : ℕ) → length outside.now ≤ m → get_or (cells_of cells.new) m [] ≡ get_or (cells_of cells.old) m [] }
 {
     for i in 0..outside.len() {
         ask(numbers, &outside[i], i, cells);
     }
+}
+
+fn no_store_is_made(numbers: &[u64], stores: &[Store]) -> bool
+    ensures { IsTrue result ↔ AreUnmade numbers.now stores.now }
+{
+    for store in stores {
+        if is_made(numbers, store) {
+            return false;
+        }
+    }
+    true
+}
+
+fn no_memory_is_written(numbers: &[u64], outside: &[Outside]) -> bool
+    ensures { IsTrue result ↔ AreUnwritten numbers.now outside.now }
+{
+    for o in outside {
+        if is_written(numbers, o) {
+            return false;
+        }
+    }
+    true
+}
+
+// Whether no cell is written in a cycle.
+fn no_cell_is_written(numbers: &[u64], stores: &[Store], outside: &[Outside]) -> bool
+    ensures stores { IsTrue result → AreUnmade numbers.now stores.now }
+    ensures outside { IsTrue result → AreUnwritten numbers.now outside.now }
+    ensures all { AreUnmade numbers.now stores.now → AreUnwritten numbers.now outside.now → IsTrue result }
+{
+    if !no_store_is_made(numbers, stores) {
+        return false;
+    }
+    no_memory_is_written(numbers, outside)
+}
+
+/// Writes what a cycle stores and what the memories around the design are asked in it, each at its place. Says whether that is
+/// anything.
+pub fn write_all(
+    numbers: &[u64],
+    stores: &[Store],
+    outside: &[Outside],
+    cells: &mut [Vec<u64>],
+) -> bool
+    ensures asked { (i : ℕ) (o : OutsideTree) → slice_get outside.now i ≡ Some o → get_or (cells_of cells.new) i [] ≡ outside_list numbers.now o (stored_all numbers.now i (get_or (cells_of cells.old) i []) stores.now) }
+    ensures behind { (m : ℕ) → length outside.now ≤ m → get_or (cells_of cells.new) m [] ≡ stored_all numbers.now m (get_or (cells_of cells.old) m []) stores.now }
+    ensures none { result ≡ false → cells.new ≡ cells.old }
+{
+    if no_cell_is_written(numbers, stores, outside) {
+        return false;
+    }
+    store_all(numbers, stores, cells);
+    ask_all(numbers, outside, cells);
+    true
 }

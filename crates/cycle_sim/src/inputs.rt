@@ -1,13 +1,13 @@
 // What the inputs of the top are given.
 
-ghost use Rattle.std.specs.Prelude.{◌≡◌, ◌↔◌, ℕ, Bool, IsTrue, List, [], Some, length, slice_get, slice_index_or};
+ghost use Rattle.std.specs.Prelude.{◌≡◌, ℕ, Bool, List, [], Some, length, slice_get, slice_index_or};
 ghost use Rattle.vlog_tree.specs.Environment.{ready_at};
 ghost use Rattle.vlog_design.specs.Environments.{lists_of};
 ghost use Rattle.sim_tape.specs.Tape.{number_at};
 ghost use Rattle.cycle_sim.specs.declared.inputs.Input.{Input as InputTree};
 ghost use Rattle.cycle_sim.specs.Steps.{HaveSlots, IsAway, PairHas, supplied as supplied_lem};
 
-use crate::slots::{has_number, put_pair};
+use crate::slots::put_pair;
 use sim_tape::Pair;
 
 /// What an input of the top is given: reset, a number that stays, or whether the memory at a place is ready.
@@ -54,13 +54,6 @@ fn supplied(ready: &[Vec<bool>], cycle: u64, supply: Supply) -> u64
         Supply::Scalar(n) => n,
         Supply::Ready(place) => is_ready(ready, place, cycle),
     }
-}
-
-/// Whether an input has what it is given in a cycle.
-pub fn is_given(numbers: &[u64], input: &Input, ready: &[Vec<bool>], cycle: u64) -> bool
-    ensures { IsTrue result ↔ PairHas numbers.now input.now.pair (supplied_lem (lists_of ready.now) cycle input.now.supply) }
-{
-    has_number(numbers, input.pair, supplied(ready, cycle, input.supply))
 }
 
 /// Gives the inputs of the top what stands around the design in a cycle.

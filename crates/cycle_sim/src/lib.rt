@@ -14,7 +14,6 @@ mod shown;
 mod sim;
 mod simulator;
 mod slots;
-mod still;
 mod supplies;
 
 pub use laws::law_told_is_one;

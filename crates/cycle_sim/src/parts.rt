@@ -10,14 +10,13 @@ ghost use Rattle.cycle_sim.specs.Sims.{InRuns, IsNext, IsCarried};
 ghost use Rattle.cycle_sim.specs.ShownNets.{shown_nets};
 ghost use Rattle.cycle_sim.specs.Wholes.{IsSim, sim_tree, token_on};
 
-use crate::cells::{Outside, ask_all, store_all};
+use crate::cells::{Outside, write_all};
 use crate::inputs::{Input, give};
 use crate::slots::{is_one, number, take_over};
-use crate::still::is_still;
 use sim_design::{Commit, Width};
 use sim_flat::Flat;
 use sim_gates::Store;
-use sim_tape::{Pair, Program};
+use sim_tape::{Marks, Pair, Program};
 use tapa_base::Token;
 use vlog_design::Design;
 
@@ -51,42 +50,40 @@ pub struct Parts {
     pub ready: Vec<Vec<bool>>,
 }
 
-/// A cycle: its number, the numbers of all slots, the cells of all memories, and room for the numbers that are taken over.
+/// A cycle: its number, the numbers of all slots and the cells of all memories; and what the next cycle is worked out with: room for
+/// the numbers that slots are given, and marks of the gates that are to be worked out.
 #[derive(Drop)]
 pub struct State {
     pub cycle: u64,
     pub numbers: Vec<u64>,
     pub cells: Vec<Vec<u64>>,
-    pub next: Vec<u64>,
+    pub given: Vec<u64>,
+    pub marks: Marks,
 }
 
-// Goes to the next cycle, and works all gates out.
-fn work_out(parts: &Parts, state: &mut State)
-    requires sim { IsSim parts.now state.old }
-    requires few { state.old.cycle + 1 < 2 ^ 64 }
-    ensures sim { IsSim parts.now state.new }
-    ensures next { IsNext (sim_tree parts.now state.old) (sim_tree parts.now state.new) }
-{
-    store_all(&state.numbers, &parts.stores, &mut state.cells);
-    ask_all(&state.numbers, &parts.outside, &mut state.cells);
-    take_over(&parts.commits, &mut state.next, &mut state.numbers);
-    state.cycle += 1;
-    give(&parts.inputs, &parts.ready, state.cycle, &mut state.numbers);
-    parts.program.pass(&mut state.numbers, &state.cells);
-}
-
-/// Goes to the next cycle. Where nothing changes, no gate is worked out.
+/// Goes to the next cycle. Where few numbers change, only gates that read these are worked out.
 pub fn advance(parts: &Parts, state: &mut State)
     requires sim { IsSim parts.now state.old }
     requires few { state.old.cycle + 1 < 2 ^ 64 }
     ensures sim { IsSim parts.now state.new }
     ensures next { IsNext (sim_tree parts.now state.old) (sim_tree parts.now state.new) }
 {
-    if is_still(parts, state) {
-        state.cycle += 1;
-        return;
-    }
-    work_out(parts, state);
+    let is_written = write_all(
+        &state.numbers,
+        &parts.stores,
+        &parts.outside,
+        &mut state.cells,
+    );
+    take_over(&parts.commits, &state.numbers, &mut state.given);
+    state.cycle += 1;
+    give(&parts.inputs, &parts.ready, state.cycle, &mut state.given);
+    parts.program.follow(
+        &state.given,
+        is_written,
+        &mut state.numbers,
+        &state.cells,
+        &mut state.marks,
+    );
 }
 
 /// Whether the design is done in a cycle.

@@ -1,6 +1,6 @@
 // Numbers of slots, and those that registers take over.
 
-ghost use Rattle.std.specs.Prelude.{◌≡◌, ◌≢◌, ◌<◌, ◌↔◌, ℕ, IsTrue, Some, length, slice_get};
+ghost use Rattle.std.specs.Prelude.{◌≡◌, ◌<◌, ℕ, Some, length, slice_get};
 ghost use Rattle.sim_tape.specs.Tape.{number_at};
 ghost use Rattle.sim_design.specs.declared.drafts.Commit.{Commit as CommitTree};
 ghost use Rattle.cycle_sim.specs.Steps.{HasRoom, IsAway, PairHas, AreOnce, is_one as is_one_lem};
@@ -25,13 +25,6 @@ pub fn is_one(numbers: &[u64], pair: Pair) -> bool
     number(numbers, pair.high) == 0 && number(numbers, pair.low) == 1
 }
 
-/// Whether a pair has a number of at most 64 bits.
-pub fn has_number(numbers: &[u64], pair: Pair, n: u64) -> bool
-    ensures { IsTrue result ↔ PairHas numbers.now pair n }
-{
-    number(numbers, pair.low) == n && (pair.high == 0 || number(numbers, pair.high) == 0)
-}
-
 /// Gives a pair a number of at most 64 bits.
 pub fn put_pair(numbers: &mut [u64], pair: Pair, n: u64)
     requires { HasRoom (length numbers.old) pair }
@@ -44,36 +37,13 @@ pub fn put_pair(numbers: &mut [u64], pair: Pair, n: u64)
     numbers[pair.low as usize] = n;
 }
 
-// The numbers that registers have in the next cycle.
-fn next_numbers(commits: &[Commit], numbers: &[u64], next: &mut [u64])
-    requires { length next.old ≡ length commits.now }
-    ensures { (i : ℕ) (a : CommitTree) → slice_get commits.now i ≡ Some a → number_at next.new i ≡ number_at numbers.now a.next }
-{
-    for i in 0..commits.len() {
-        next[i] = number(numbers, commits[i].next);
-    }
-}
-
-fn put_numbers(commits: &[Commit], next: &[u64], numbers: &mut [u64])
-    requires size { length next.now ≡ length commits.now }
-    requires slots { (i : ℕ) (a : CommitTree) → slice_get commits.now i ≡ Some a → a.slot < length numbers.old }
+/// The numbers that registers take over, all at once.
+pub fn take_over(commits: &[Commit], numbers: &[u64], given: &mut [u64])
+    requires slots { (i : ℕ) (a : CommitTree) → slice_get commits.now i ≡ Some a → a.slot < length given.old }
     requires once { AreOnce commits.now }
-    ensures taken { (i : ℕ) (a : CommitTree) → slice_get commits.now i ≡ Some a → number_at numbers.new a.slot ≡ number_at next.now i }
-    ensures kept { (k : ℕ) → ((i : ℕ) (a : CommitTree) → slice_get commits.now i ≡ Some a → k ≢ a.slot) → number_at numbers.new k ≡ number_at numbers.old k }
+    ensures { (i : ℕ) (a : CommitTree) → slice_get commits.now i ≡ Some a → number_at given.new a.slot ≡ number_at numbers.now a.next }
 {
-    for i in 0..commits.len() {
-        numbers[commits[i].slot as usize] = next[i];
+    for commit in commits {
+        given[commit.slot as usize] = number(numbers, commit.next);
     }
-}
-
-/// All registers take over at once.
-pub fn take_over(commits: &[Commit], next: &mut [u64], numbers: &mut [u64])
-    requires size { length next.old ≡ length commits.now }
-    requires slots { (i : ℕ) (a : CommitTree) → slice_get commits.now i ≡ Some a → a.slot < length numbers.old }
-    requires once { AreOnce commits.now }
-    ensures taken { (i : ℕ) (a : CommitTree) → slice_get commits.now i ≡ Some a → number_at numbers.new a.slot ≡ number_at numbers.old a.next }
-    ensures kept { (k : ℕ) → ((i : ℕ) (a : CommitTree) → slice_get commits.now i ≡ Some a → k ≢ a.slot) → number_at numbers.new k ≡ number_at numbers.old k }
-{
-    next_numbers(commits, numbers, next);
-    put_numbers(commits, next, numbers);
 }

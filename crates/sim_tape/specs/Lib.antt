@@ -4,3 +4,5 @@ pub mod Solved
 pub mod Trees
 pub mod Orders
 pub mod Rows
+pub mod Marks
+pub mod Blocks

@@ -2,11 +2,18 @@
 //! number, run by run of gates of one rule.
 #![tactic(auto)]
 
+mod blocks;
+mod changes;
+mod follow;
 mod gates;
+mod given;
+mod marks;
 mod operations;
 mod order;
+mod passes;
 mod phases;
 mod program;
+mod readers;
 mod rows;
 mod runs;
 mod solving;
@@ -14,5 +21,5 @@ mod tape;
 mod wide;
 
 pub use gates::{Operator, Pair};
-pub use program::Program;
+pub use program::{Marks, Program};
 pub use tape::Tape;

@@ -8,7 +8,7 @@ use Rattle.vlog_tree.specs.declared.table.Declaration.{Declaration}
 use Rattle.tapa_base.proofs.Lists.{got_index}
 use Rattle.sim_tape.specs.declared.gates.Pair.{Pair}
 use Rattle.cycle_sim.specs.Machines.{IsPairOf}
-use Rattle.cycle_sim.specs.ShownNets.{is_shown, shown_nets}
+use Rattle.cycle_sim.specs.ShownNets.{is_shown}
 use Rattle.cycle_sim.proofs.Showing.{zip_more, shown_pair, shown_all}
 use Rattle.cycle_sim.proofs.shown.all_shown.Goals as goal
 
