@@ -28,7 +28,8 @@ use crate::registers::fill_registers;
 use sim_design::{Commit, Draft, Width, draft_of};
 use sim_flat::{Flat, flatten};
 use sim_gates::Store;
-use sim_tape::{Pair, Program};
+use sim_pass::Program;
+use sim_tape::Pair;
 use std::alloc::{AllocError, Global};
 use vlog_design::{Design, Env};
 
@@ -58,7 +59,7 @@ fn finish(alloc: Global, draft: Draft) -> Result<Finished, AllocError>
     ensures machine { IfOk result (λ f. (ms : List ModuleTree) (m : ModuleTree) (flat : FlatTree) → IsDraft ms m flat draft → IsMachine ms m flat f.pairs.items f.memories.items f.widths.items f.program f.commits.items f.stores.items) }
     ensures pairs { IfOk result (λ f. f.pairs ≡ draft.pairs) }
 {
-    let program = draft.tape.finish(alloc)?;
+    let program = Program::of_tape(alloc, draft.tape)?;
     Ok(Finished {
         program,
         pairs: draft.pairs,

@@ -16,7 +16,8 @@ use crate::slots::{is_one, number, take_over};
 use sim_design::{Commit, Width};
 use sim_flat::Flat;
 use sim_gates::Store;
-use sim_tape::{Marks, Pair, Program};
+use sim_pass::{Marks, Program};
+use sim_tape::Pair;
 use tapa_base::Token;
 use vlog_design::Design;
 

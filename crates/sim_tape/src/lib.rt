@@ -1,25 +1,9 @@
-//! A tape of gates: the operators on 64 bits, a number for each slot from slots before it, and a pass that gives every slot its
-//! number, run by run of gates of one rule.
+//! A tape of gates that grows gate by gate: the operators on 64 bits, and a number for each slot from slots before it.
 #![tactic(auto)]
 
-mod blocks;
-mod changes;
-mod follow;
 mod gates;
-mod given;
-mod marks;
-mod operations;
-mod order;
-mod passes;
-mod phases;
-mod program;
-mod readers;
-mod rows;
-mod runs;
-mod solving;
+pub mod operations;
 mod tape;
-mod wide;
 
-pub use gates::{Operator, Pair};
-pub use program::{Marks, Program};
+pub use gates::{Gate, Operator, Pair, Rule, Wide};
 pub use tape::Tape;

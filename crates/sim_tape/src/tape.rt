@@ -10,7 +10,6 @@ ghost use Rattle.sim_tape.specs.Solved.{Says};
 ghost use Rattle.sim_tape.specs.Trees.{tree_of};
 
 use crate::gates::{Gate, Operator, Pair, Rule, Wide};
-use crate::program::Program;
 use std::alloc::{AllocError, Global};
 use std::collections::HashMap;
 use vlog_tree::BinaryOp;
@@ -254,16 +253,16 @@ impl Tape {
         self.push_halves(place)
     }
 
-    /// The tape, ready to run.
-    pub fn finish(self, alloc: Global) -> Result<Program, AllocError>
-        requires { IsTape (tree_of self) }
-        ensures { IfOk result (λ p. p ≡ tree_of self) }
+    /// The gates of all slots and the wide operators, without the rest.
+    pub fn into_parts(self) -> (Vec<Gate>, Vec<Wide>)
+        ensures gates { result.0.items ≡ (tree_of self).gates }
+        ensures wides { result.1.items ≡ (tree_of self).wides }
     {
         let Tape {
             gates,
             wides,
             known: _,
         } = self;
-        Program::of(alloc, gates, wides)
+        (gates, wides)
     }
 }

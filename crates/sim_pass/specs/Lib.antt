@@ -1,0 +1,5 @@
+pub mod Runs
+pub mod Orders
+pub mod Rows
+pub mod Marks
+pub mod Blocks

@@ -1,6 +1,0 @@
-use Rattle.sim_tape.specs.Marks.{IsAside}
-use Rattle.sim_tape.specs.Rows.{slots_in}
-use Rattle.sim_tape.proofs.changes.keep_aside.Given as goal
-
-abbrev pub invariant-loop-i : goal.invariant-loop-i
-invariant-loop-i l = IsAside (slots_in l.rows) l.from l.i l.aside l.numbers

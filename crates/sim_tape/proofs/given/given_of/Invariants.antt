@@ -1,5 +1,0 @@
-use Rattle.sim_tape.specs.Marks.{ListsGiven}
-use Rattle.sim_tape.proofs.given.given_of.Given as goal
-
-abbrev pub invariant-loop-at : goal.invariant-loop-at
-invariant-loop-at l = ListsGiven l.gates l.at l.listed.items
