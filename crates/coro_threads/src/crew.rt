@@ -32,7 +32,8 @@ pub struct Crew<'a, R: Threads + Wait + Sync, G: Gate> {
 // So many workers are of use: where the gate lets everyone through at once, no more than there are instances and processors.
 fn of_use<R: Threads + Wait + Sync, G: Gate>(crew: &Crew<'_, R, G>, instances: usize) -> u32
     requires { (0 < crew.now.workers) × (crew.now.workers ≤ 64) }
-    ensures { (0 < result) × (result ≤ 64) }
+    ensures some { (0 < result) × (result ≤ 64) }
+    ensures most { result ≤ crew.now.workers }
 {
     if !crew.gate.is_open() {
         return crew.workers;
