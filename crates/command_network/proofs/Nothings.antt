@@ -19,7 +19,7 @@ use Rattle.vlog_design.specs.Designs.{DesignTree, TopOf}
 use Rattle.vlog_tree.specs.Cycle.{Cycle, Path}
 use Rattle.vlog_tree.specs.Environment.{Environment, ShapeTree, FitsShape, RunsIn, IsDone, shape_of, widths}
 use Rattle.vlog_tree.specs.Form.{ModuleTree}
-use Rattle.hw_top_lines.specs.Legal.{scalar_ports, memory_ports}
+use Rattle.hw_lines.specs.top.Legal.{scalar_ports, memory_ports}
 use Rattle.hw_top.specs.Circuits.{IsCircuitOf}
 use Rattle.hw_top_laws.specs.kahn.Carries.{CarriesStreams}
 use Rattle.hw_top_laws.specs.kahn.Clock.{counts}

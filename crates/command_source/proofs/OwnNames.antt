@@ -15,7 +15,7 @@ use Rattle.command_source.specs.Labels as labels
 use Rattle.command_source.specs.Labels.{IsPlainName, IsLabel, HasOwnLabels}
 use Rattle.command_source.proofs.Apart.{all_at, distinct, apart}
 use Rattle.command_source.proofs.Sources.{labels_tell}
-use Rattle.hw_top_lines.specs.Legal.{AreApart, AreWritten, HasOwnNames, instance_labels, stream_labels, parameter_names, task_names}
+use Rattle.hw_lines.specs.top.Legal.{AreApart, AreWritten, HasOwnNames, instance_labels, stream_labels, parameter_names, task_names}
 use Rattle.command_source.specs.Source.{IsProgramOfText, IsProgramOf}
 
 -- ---- what a name is written with

@@ -6,7 +6,7 @@ ghost use Rattle.tapa_syntax.specs.WellFormed.{IsWellFormed};
 ghost use Rattle.kahn_model.specs.Fits.{FitsInput};
 ghost use Rattle.net_core.specs.Bounded.{scalars_of, memories_of};
 ghost use Rattle.run_program.specs.Run.{values_of};
-ghost use Rattle.hw_top_lines.specs.Legal.{HasOwnNames};
+ghost use Rattle.hw_lines.specs.top.Legal.{HasOwnNames};
 ghost use Rattle.command_source.specs.Files.{OfSource, OfData, IsUntaken, AsksForData};
 ghost use Rattle.command_source.specs.Found.{IsNotFound, IsNotGiven};
 ghost use Rattle.command_source.specs.Inputs.{GivesValues};

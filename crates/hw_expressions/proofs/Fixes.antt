@@ -10,7 +10,7 @@ use Rattle.tapa_base.specs.Operators.{CanApply}
 use Rattle.vlog_module_laws.proofs.Lists.{both_true}
 use Rattle.hw_build.proofs.Forms.{yes_and}
 use Rattle.kahn_model.specs.Trace.{at_zero}
-use Rattle.hw_task_lines.specs.Fixed.{can_apply, only_if}
+use Rattle.hw_lines.specs.Fixed.{can_apply, only_if}
 
 -- the test is the one of the operators
 pub applies : (op : Op) (k : Kind) (b : ℕ) → CanApply op k b → can_apply op k b ≡ true

@@ -15,9 +15,9 @@ use Rattle.vlog_tree.specs.Table.{Name}
 use Rattle.hw_build.specs.Elements.{Element, Wire, with, with_all}
 use Rattle.hw_build.specs.Trees.{numbered}
 use Rattle.task_fsm.specs.Machine.{Expression, Number, Reg, CellOf, Converted, Applied, Flipped, Inverse, Both, Either, Chosen, Operation}
-use Rattle.hw_task_lines.specs.Fixed.{fixed}
-use Rattle.hw_task_lines.specs.Drivers.{Driver, wires_of, last_of, one, operation}
-use Rattle.hw_task_lines.specs.Wires.{Compiled, read_count, constant, behind, by_fixed, converting, one_more, joining, choosing, compiled}
+use Rattle.hw_lines.specs.Fixed.{fixed}
+use Rattle.hw_lines.specs.Drivers.{Driver, wires_of, last_of, one, operation}
+use Rattle.hw_lines.specs.Wires.{Compiled, read_count, constant, behind, by_fixed, converting, one_more, joining, choosing, compiled}
 use Rattle.hw_nets.proofs.Grows.{both}
 use Rattle.hw_expressions.specs.declared.wires.Wired.{Wired}
 use Rattle.hw_expressions.specs.Grown.{Grows}

@@ -2,7 +2,7 @@
 use Rattle.std.specs.Prelude.{◌≡◌}
 use Rattle.vlog_tree.specs.Form.{ModuleTree}
 use Rattle.hw_build.specs.Elements.{with_all}
-use Rattle.hw_task_lines.specs.Wires.{Compiled}
+use Rattle.hw_lines.specs.Wires.{Compiled}
 use Rattle.hw_expressions.specs.declared.wires.Wired.{Wired}
 
 -- the module has grown by the wires, and what was told is their atom and how many they are

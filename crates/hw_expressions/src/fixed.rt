@@ -5,7 +5,7 @@ ghost use Rattle.tapa_base.specs.Kinds.{bits_of, values_of, converted as convert
 ghost use Rattle.tapa_base.specs.Operators.{applied as applied_lem};
 ghost use Rattle.kahn_model.specs.Trace.{at_zero};
 ghost use Rattle.task_fsm.specs.Machine.{expression_of};
-ghost use Rattle.hw_task_lines.specs.Fixed.{can_apply as can_apply_lem, fixed as fixed_lem, only_if};
+ghost use Rattle.hw_lines.specs.Fixed.{can_apply as can_apply_lem, fixed as fixed_lem, only_if};
 
 use tapa_base::{Kind, Op, apply, can_apply, convert};
 use tapa_syntax::Expr;

@@ -2,7 +2,7 @@
 
 ghost use Rattle.std.specs.Prelude.{◌≡◌, ◌++◌, IfOk};
 ghost use Rattle.task_fsm.specs.Machine.{expression_of};
-ghost use Rattle.hw_task_lines.specs.Wires.{read_count as read_count_lem, reads_in};
+ghost use Rattle.hw_lines.specs.Wires.{read_count as read_count_lem, reads_in};
 ghost use Rattle.hw_expressions.specs.Reads.{read_forms};
 
 use std::alloc::AllocError;

@@ -8,7 +8,7 @@ use Rattle.vlog_tree.specs.Table.{Name}
 use Rattle.hw_build.specs.Elements.{Wire, with, with_all}
 use Rattle.hw_build.specs.Trees.{numbered, gated, tree_nodes}
 use Rattle.hw_build.specs.Choices.{any_leaves, any_elements, pick_leaves, pick_elements, choice}
-use Rattle.hw_task_lines.specs.Texts.{result_of}
+use Rattle.hw_lines.specs.Texts.{result_of}
 use Rattle.hw_nets.proofs.Grows.{both}
 use Rattle.hw_nets.specs.declared.entries.Entry.{Entry}
 use Rattle.hw_nets.specs.Entries.{entry_forms}

@@ -3,13 +3,13 @@
 ghost use Rattle.std.specs.Prelude.{◌≡◌, ◌<◌, ◌≤◌, [], ◌∷◌, IfOk};
 ghost use Rattle.vlog_tree.specs.declared.tree.Atom.TheVariants.{Net as NetAtom, Literal};
 ghost use Rattle.vlog_tree.specs.declared.tree.Value.TheVariants.{Plain, Invert, Binary, Choose, Concat, Repeat};
-ghost use Rattle.hw_task_lines.specs.Drivers.{low_bits as low_bits_lem, sign_of as sign_of_lem, wire as wire_lem};
-ghost use Rattle.hw_task_lines.specs.States.{net as net_lem};
+ghost use Rattle.hw_lines.specs.Drivers.{low_bits as low_bits_lem, sign_of as sign_of_lem, wire as wire_lem};
+ghost use Rattle.hw_lines.specs.States.{net as net_lem};
 
 use crate::names::name;
 use crate::numbers::power;
 use hw_build::numbered;
-use hw_task_lines::Net;
+use hw_lines::Net;
 use std::alloc::{AllocError, Global};
 use tapa_base::Text;
 use vlog_tree::{Atom, Atoms, BinaryOp, Value};

@@ -6,15 +6,15 @@ ghost use Rattle.vlog_tree.specs.declared.tree.Value.TheVariants.{Plain};
 ghost use Rattle.hw_build.specs.Elements.{Wire, with, with_all};
 ghost use Rattle.hw_build.specs.Trees.{gated, numbered as numbered_lem, tree_nodes};
 ghost use Rattle.hw_build.specs.Choices.{any_elements, any_leaves, choice as choice_lem, pick_elements, pick_leaves};
-ghost use Rattle.hw_task_lines.specs.Nets.{front as front_lem};
-ghost use Rattle.hw_task_lines.specs.Texts.{result_of as result_lem};
+ghost use Rattle.hw_lines.specs.Nets.{front as front_lem};
+ghost use Rattle.hw_lines.specs.Texts.{result_of as result_lem};
 ghost use Rattle.hw_nets.specs.Entries.{entry_forms};
 
 use crate::atoms::copy;
 use crate::entries::Entry;
 use crate::names::front;
 use hw_build::{Draft, numbered};
-use hw_task_lines::Choice;
+use hw_lines::Choice;
 use std::alloc::{AllocError, Global};
 use tapa_base::{Text, narrow, plus};
 use vlog_tree::{Atom, Value};

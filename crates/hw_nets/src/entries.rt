@@ -1,11 +1,11 @@
 // A value and the net that says when it is meant.
 
 ghost use Rattle.std.specs.Prelude.{◌≡◌, ◌++◌, IfOk};
-ghost use Rattle.hw_task_lines.specs.Effects.{entry};
+ghost use Rattle.hw_lines.specs.Effects.{entry};
 ghost use Rattle.hw_nets.specs.Entries.{entries_in, entry_forms};
 
 use crate::names::name;
-use hw_task_lines::Net;
+use hw_lines::Net;
 use std::alloc::{AllocError, Global};
 use tapa_base::Text;
 use vlog_tree::Atom;

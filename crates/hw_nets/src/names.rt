@@ -3,11 +3,11 @@
 ghost use Rattle.std.specs.Prelude.{◌≡◌, IfOk, codes};
 ghost use Rattle.std.specs.Str.{IsAscii};
 ghost use Rattle.hw_build.specs.Trees.{numbered as numbered_name};
-ghost use Rattle.hw_task_lines.specs.declared.nets.Net.TheVariants.{Node};
-ghost use Rattle.hw_task_lines.specs.Nets.{front as front_lem, name as name_lem, value_front as value_front_lem, index_front as index_front_lem, read_front as read_front_lem};
+ghost use Rattle.hw_lines.specs.declared.nets.Net.TheVariants.{Node};
+ghost use Rattle.hw_lines.specs.Nets.{front as front_lem, name as name_lem, value_front as value_front_lem, index_front as index_front_lem, read_front as read_front_lem};
 
 use hw_build::{numbered, text};
-use hw_task_lines::{Choice, Net};
+use hw_lines::{Choice, Net};
 use std::alloc::{AllocError, Global};
 use tapa_base::Text;
 
@@ -34,7 +34,7 @@ fn three_numbers(
 }
 
 /// The front of the names of a choice's leaves and nodes.
-#[tactic(auto, unfolding(hw_task_lines::specs::Nets::front))]
+#[tactic(auto, unfolding(hw_lines::specs::Nets::front))]
 pub fn front(alloc: Global, choice: Choice) -> Result<Text, AllocError>
     ensures { IfOk result (λ t. t ≡ front_lem choice) }
 {
@@ -58,7 +58,7 @@ pub fn front(alloc: Global, choice: Choice) -> Result<Text, AllocError>
 }
 
 // A leaf or a node of a choice.
-#[tactic(auto, using(hw_task_lines::proofs::Spelled::nodes_numbered))]
+#[tactic(auto, using(hw_lines::proofs::Spelled::nodes_numbered))]
 fn node_name(alloc: Global, choice: Choice, node: u32) -> Result<Text, AllocError>
     ensures { IfOk result (λ t. t ≡ name_lem (Node choice node)) }
 {
@@ -67,7 +67,7 @@ fn node_name(alloc: Global, choice: Choice, node: u32) -> Result<Text, AllocErro
 }
 
 /// The name of a net.
-#[tactic(auto, unfolding(hw_task_lines::specs::Nets::name))]
+#[tactic(auto, unfolding(hw_lines::specs::Nets::name))]
 pub fn name(alloc: Global, net: Net) -> Result<Text, AllocError>
     ensures { IfOk result (λ t. t ≡ name_lem net) }
 {
@@ -110,7 +110,7 @@ pub fn name(alloc: Global, net: Net) -> Result<Text, AllocError>
 }
 
 /// The front of the names of the operators of a state's value.
-#[tactic(auto, unfolding(hw_task_lines::specs::Nets::value_front))]
+#[tactic(auto, unfolding(hw_lines::specs::Nets::value_front))]
 pub fn value_front(alloc: Global, state: u32) -> Result<Text, AllocError>
     ensures { IfOk result (λ t. t ≡ value_front_lem state) }
 {
@@ -118,7 +118,7 @@ pub fn value_front(alloc: Global, state: u32) -> Result<Text, AllocError>
 }
 
 /// The front of the names of the operators of a state's index.
-#[tactic(auto, unfolding(hw_task_lines::specs::Nets::index_front))]
+#[tactic(auto, unfolding(hw_lines::specs::Nets::index_front))]
 pub fn index_front(alloc: Global, state: u32) -> Result<Text, AllocError>
     ensures { IfOk result (λ t. t ≡ index_front_lem state) }
 {
@@ -126,7 +126,7 @@ pub fn index_front(alloc: Global, state: u32) -> Result<Text, AllocError>
 }
 
 /// The front of the names of the operators of the index of a state's read.
-#[tactic(auto, unfolding(hw_task_lines::specs::Nets::read_front))]
+#[tactic(auto, unfolding(hw_lines::specs::Nets::read_front))]
 pub fn read_front(alloc: Global, state: u32, read: u32) -> Result<Text, AllocError>
     ensures { IfOk result (λ t. t ≡ read_front_lem state read) }
 {

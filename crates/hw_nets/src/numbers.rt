@@ -2,7 +2,7 @@
 
 ghost use Rattle.std.specs.Prelude.{◌≡◌, ◌+◌, ◌<◌, ◌≤◌, ◌^◌, IfOk};
 ghost use Rattle.tapa_base.specs.Kinds.{bits_of};
-ghost use Rattle.hw_task_lines.specs.Shape.{bits_for as bits_for_lem};
+ghost use Rattle.hw_lines.specs.Shape.{bits_for as bits_for_lem};
 
 use std::alloc::AllocError;
 use tapa_base::Kind;
@@ -26,7 +26,7 @@ pub fn bits(kind: Kind) -> u32
 }
 
 /// Bits for the numbers up to n, at least one.
-#[tactic(auto, unfolding(hw_task_lines::specs::Shape::bits_for))]
+#[tactic(auto, unfolding(hw_lines::specs::Shape::bits_for))]
 pub fn bits_for(n: u32) -> u32
     ensures value { result ≡ bits_for_lem n }
     ensures most { result ≤ 32 }

@@ -2,7 +2,7 @@
 use Rattle.std.proofs.Common.{◌≡◌, ℕ, suc, ◌+◌, ◌-◌, ◌<◌, List, [], ◌∷◌, length, sym, ap, ◌∙◌, arith, add-zero}
 use Rattle.vlog_tree.specs.declared.tree.Atom.{Atom}
 use Rattle.vlog_tree.specs.Table.{Name}
-use Rattle.hw_task_lines.specs.Drivers.{Driver, after, last_of, wire}
+use Rattle.hw_lines.specs.Drivers.{Driver, after, last_of, wire}
 
 pub after_is : (n : ℕ) (drivers : List Driver) → after n drivers ≡ n + length drivers
 after_is n [] = sym (add-zero n)

@@ -4,7 +4,7 @@ ghost use Rattle.std.specs.Prelude.{◌≡◌, ◌≤◌, ◌++◌, ◌∷◌, [
 ghost use Rattle.vlog_tree.specs.declared.tree.BinaryOp.TheVariants.{Xor};
 ghost use Rattle.vlog_tree.specs.declared.tree.Value.TheVariants.{Binary};
 ghost use Rattle.vlog_tree.specs.declared.tree.Atom.TheVariants.{Literal};
-ghost use Rattle.hw_task_lines.specs.Drivers.{as_wide as as_wide_lem, half as half_lem, less as less_lem, not_less as not_less_lem, turned, turned_atom as turned_atom_lem};
+ghost use Rattle.hw_lines.specs.Drivers.{as_wide as as_wide_lem, half as half_lem, less as less_lem, not_less as not_less_lem, turned, turned_atom as turned_atom_lem};
 
 use crate::arithmetic::half;
 use crate::drivers::{Driver, last, one};

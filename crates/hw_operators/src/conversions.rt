@@ -1,7 +1,7 @@
 // Values of one width as values of another.
 
 ghost use Rattle.std.specs.Prelude.{◌≡◌, ◌≤◌, IfOk, true};
-ghost use Rattle.hw_task_lines.specs.Drivers.{conversion as conversion_lem, extended as extended_lem, resized as resized_lem, tested as tested_lem};
+ghost use Rattle.hw_lines.specs.Drivers.{conversion as conversion_lem, extended as extended_lem, resized as resized_lem, tested as tested_lem};
 
 use crate::drivers::{Driver, one};
 use hw_nets::{binary, bits, concat, copy, literal, low_bits, sign_of, wire};

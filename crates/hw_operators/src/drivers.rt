@@ -1,7 +1,7 @@
 // Drivers of wires that stand one after another.
 
 ghost use Rattle.std.specs.Prelude.{◌≡◌, IfOk};
-ghost use Rattle.hw_task_lines.specs.Drivers.{last_of, one as one_lem};
+ghost use Rattle.hw_lines.specs.Drivers.{last_of, one as one_lem};
 
 use hw_nets::{copy, wire};
 use std::alloc::{AllocError, Global};

@@ -4,7 +4,7 @@ ghost use Rattle.std.specs.Prelude.{◌≡◌, ◌≤◌, IfOk};
 ghost use Rattle.tapa_base.specs.Kinds.{bits_of};
 ghost use Rattle.vlog_tree.specs.declared.tree.Value.TheVariants.{Binary};
 ghost use Rattle.vlog_tree.specs.declared.tree.BinaryOp.TheVariants.{ShiftLeft};
-ghost use Rattle.hw_task_lines.specs.Drivers.{as_wide as as_wide_lem, less as less_lem, not_less as not_less_lem, one as one_lem, operation as operation_lem, shift_count as shift_count_lem};
+ghost use Rattle.hw_lines.specs.Drivers.{as_wide as as_wide_lem, less as less_lem, not_less as not_less_lem, one as one_lem, operation as operation_lem, shift_count as shift_count_lem};
 
 use crate::arithmetic::{divided, is_negative, shift_count, shifted_right};
 use crate::comparisons::{as_wide, less, not_less};

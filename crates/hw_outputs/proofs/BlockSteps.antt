@@ -5,10 +5,10 @@ use Rattle.vlog_tree.specs.Labels.{rst}
 use Rattle.vlog_tree.specs.Table.{Name}
 use Rattle.vlog_module_laws.specs.Forms.{set_block}
 use Rattle.hw_build.specs.Elements.{reset_or_set}
-use Rattle.hw_task_lines.specs.declared.nets.Net.TheVariants.{Scalar}
-use Rattle.hw_task_lines.specs.Shape.{Shape}
-use Rattle.hw_task_lines.specs.States.{net}
-use Rattle.hw_task_lines.specs.Texts.{first_by, register_block}
+use Rattle.hw_lines.specs.declared.nets.Net.TheVariants.{Scalar}
+use Rattle.hw_lines.specs.Shape.{Shape}
+use Rattle.hw_lines.specs.States.{net}
+use Rattle.hw_lines.specs.Texts.{first_by, register_block}
 use Rattle.hw_nets.specs.declared.entries.Entry.{Entry}
 use Rattle.hw_nets.specs.Entries.{entry_forms}
 

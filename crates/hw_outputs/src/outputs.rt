@@ -5,20 +5,20 @@ ghost use Rattle.tapa_base.specs.Kinds.{bits_of};
 ghost use Rattle.vlog_tree.specs.declared.tree.Value.TheVariants.{Plain as PlainValue};
 ghost use Rattle.hw_build.specs.Elements.{Output, with, with_all};
 ghost use Rattle.hw_build.specs.Scope.{each};
-ghost use Rattle.hw_task_lines.specs.declared.nets.Choice.TheVariants.{Asks, Data, Puts, Saves, Takes, Token};
-ghost use Rattle.hw_task_lines.specs.declared.nets.Net.TheVariants.{Addr, Din, Done, Ended, Taken, Wdata, We, Wr};
-ghost use Rattle.hw_task_lines.specs.Nets.{name as name_lem};
-ghost use Rattle.hw_task_lines.specs.Shape.{memory_kind as memory_kind_lem, state_count, stream_kind as stream_kind_lem};
-ghost use Rattle.hw_task_lines.specs.States.{net as net_lem};
-ghost use Rattle.hw_task_lines.specs.Texts.{any, array_choices, choices, memory_outputs, outputs, pick, result as result_lem, stream_outputs, taken, variable_choices, written};
+ghost use Rattle.hw_lines.specs.declared.nets.Choice.TheVariants.{Asks, Data, Puts, Saves, Takes, Token};
+ghost use Rattle.hw_lines.specs.declared.nets.Net.TheVariants.{Addr, Din, Done, Ended, Taken, Wdata, We, Wr};
+ghost use Rattle.hw_lines.specs.Nets.{name as name_lem};
+ghost use Rattle.hw_lines.specs.Shape.{memory_kind as memory_kind_lem, state_count, stream_kind as stream_kind_lem};
+ghost use Rattle.hw_lines.specs.States.{net as net_lem};
+ghost use Rattle.hw_lines.specs.Texts.{any, array_choices, choices, memory_outputs, outputs, pick, result as result_lem, stream_outputs, taken, variable_choices, written};
 ghost use Rattle.hw_states.specs.ByState.{IsByState};
 ghost use Rattle.hw_states.specs.Operands.{AreOperands};
 ghost use Rattle.hw_nets.specs.Shapes.{form};
 
 use hw_build::Draft;
+use hw_lines::{Choice, Net};
 use hw_nets::{Shape, add_any, add_pick, bits, name, net, result_of};
 use hw_states::{Operands, entries_of};
-use hw_task_lines::{Choice, Net};
 use std::alloc::{AllocError, Global};
 use vlog_tree::Value;
 

@@ -4,8 +4,8 @@ use Rattle.std.proofs.lemmas.Bool.{cases_eq}
 use Rattle.std.proofs.lemmas.List.{get_or-map, get_or_push, get_or_append_left, length_push, map_push}
 use Rattle.vlog_tree.specs.declared.tree.Atom.{Atom}
 use Rattle.hw_build.specs.Scope.{each}
-use Rattle.hw_task_lines.specs.Shape.{Shape}
-use Rattle.hw_task_lines.specs.States.{index_wires, value_wires}
+use Rattle.hw_lines.specs.Shape.{Shape}
+use Rattle.hw_lines.specs.States.{index_wires, value_wires}
 use Rattle.hw_nets.proofs.Grows.{each_next}
 use Rattle.hw_states.specs.declared.operands.Operands.{Operands}
 use Rattle.hw_states.specs.Operands.{atoms_of, atoms_at, IsOperands, AreOperands}

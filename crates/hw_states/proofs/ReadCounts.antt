@@ -1,7 +1,7 @@
 -- How many reads an expression has.
 use Rattle.std.proofs.Common.{◌≡◌, ℕ, ◌+◌, List, [], ◌∷◌, ◌++◌, length, refl, arith, length-append}
 use Rattle.task_fsm.specs.Machine.{Expression, Number, Reg, CellOf, Converted, Applied, Flipped, Inverse, Both, Either, Chosen, Operation}
-use Rattle.hw_task_lines.specs.Wires.{ArrayRead, read_count, reads_in}
+use Rattle.hw_lines.specs.Wires.{ArrayRead, read_count, reads_in}
 
 two : (xs ys : List ArrayRead) (a b : ℕ) → length xs ≡ a → length ys ≡ b → length (xs ++ ys) ≡ a + b
 two xs ys a b p q = let e : length (xs ++ ys) ≡ length xs + length ys = length-append xs ys in omega (arith, e, p, q)

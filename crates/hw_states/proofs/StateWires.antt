@@ -3,8 +3,8 @@ use Rattle.std.proofs.Common.{◌≡◌, ℕ, ◌++◌, ap, ◌∙◌}
 use Rattle.vlog_tree.specs.Form.{ModuleTree}
 use Rattle.hw_build.specs.Elements.{with_all}
 use Rattle.task_fsm.specs.Machine.{StateForm}
-use Rattle.hw_task_lines.specs.Shape.{Shape, form_at}
-use Rattle.hw_task_lines.specs.States.{index_wires, value_wires, more_wires, go_of, awaited, acts_late, next_wires, state_wires}
+use Rattle.hw_lines.specs.Shape.{Shape, form_at}
+use Rattle.hw_lines.specs.States.{index_wires, value_wires, more_wires, go_of, awaited, acts_late, next_wires, state_wires}
 use Rattle.hw_nets.proofs.Grows.{both}
 
 pub state_grows : (S : Shape) (k : ℕ) (F : StateForm) (a b c d e f : ModuleTree) → F ≡ form_at S k → b ≡ with_all a (index_wires S k).elements → c ≡ with_all b (value_wires S k).elements

@@ -1,6 +1,6 @@
 -- Choices among what the states do.
-use Rattle.hw_task_lines.specs.declared.nets.Choice.{Choice}
-use Rattle.hw_task_lines.specs.declared.nets.Choice.TheVariants.{ToState, ToEnd, Set, In, Stores, Place, Content, Reads, Spot, Puts, Token, Takes, Asks, Saves, Data}
+use Rattle.hw_lines.specs.declared.nets.Choice.{Choice}
+use Rattle.hw_lines.specs.declared.nets.Choice.TheVariants.{ToState, ToEnd, Set, In, Stores, Place, Content, Reads, Spot, Puts, Token, Takes, Asks, Saves, Data}
 
 -- a read of an array is asked for by its own wires
 abbrev pub IsByState : Choice → Type 0

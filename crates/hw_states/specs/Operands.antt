@@ -4,8 +4,8 @@ use Rattle.tapa_syntax.specs.declared.program.Expr.{Expr}
 use Rattle.task_fsm.specs.Machine.{Expression, expression_of}
 use Rattle.vlog_tree.specs.declared.tree.Atom.{Atom}
 use Rattle.hw_build.specs.Scope.{each}
-use Rattle.hw_task_lines.specs.Shape.{Shape}
-use Rattle.hw_task_lines.specs.States.{nothing, index_wires, value_wires}
+use Rattle.hw_lines.specs.Shape.{Shape}
+use Rattle.hw_lines.specs.States.{nothing, index_wires, value_wires}
 use Rattle.hw_states.specs.declared.operands.Operands.{Operands}
 
 -- an expression that a state may lack

@@ -2,10 +2,10 @@
 
 ghost use Rattle.std.specs.Prelude.{◌≡◌, ◌<◌, ◌++◌, IfOk};
 ghost use Rattle.task_fsm.specs.Machine.{form_of};
-ghost use Rattle.hw_task_lines.specs.declared.nets.Net.TheVariants.{At};
-ghost use Rattle.hw_task_lines.specs.Shape.{form_at, state_count};
-ghost use Rattle.hw_task_lines.specs.Effects.{askings, at, contents, datum_of as datum_of_lem, effect as effect_lem, end_token, endings, entries as entries_lem, entry, eot_of, into_register, places, savings, sets, takings, tokens};
-ghost use Rattle.hw_task_lines.specs.States.{next_atom};
+ghost use Rattle.hw_lines.specs.declared.nets.Net.TheVariants.{At};
+ghost use Rattle.hw_lines.specs.Shape.{form_at, state_count};
+ghost use Rattle.hw_lines.specs.Effects.{askings, at, contents, datum_of as datum_of_lem, effect as effect_lem, end_token, endings, entries as entries_lem, entry, eot_of, into_register, places, savings, sets, takings, tokens};
+ghost use Rattle.hw_lines.specs.States.{next_atom};
 ghost use Rattle.hw_nets.specs.Entries.{entries_in, entry_forms};
 ghost use Rattle.hw_states.specs.ByState.{IsByState};
 ghost use Rattle.hw_states.specs.Operands.{AreOperands, IsOperands};
@@ -13,8 +13,8 @@ ghost use Rattle.hw_nets.specs.Shapes.{form};
 
 use crate::operands::{Operands, operands_of};
 use crate::states::number_of;
+use hw_lines::{Choice, Net};
 use hw_nets::{Entry, Shape, add_found, bits, copy, entry_of, literal, low_bits, name, net, power};
-use hw_task_lines::{Choice, Net};
 use std::alloc::{AllocError, Global};
 use task_fsm::State;
 use vlog_tree::Atom;

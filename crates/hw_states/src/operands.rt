@@ -3,8 +3,8 @@
 ghost use Rattle.std.specs.Prelude.{◌≡◌, ◌<◌, IfOk};
 ghost use Rattle.hw_build.specs.Elements.{with_all};
 ghost use Rattle.hw_build.specs.Scope.{each};
-ghost use Rattle.hw_task_lines.specs.Shape.{state_count};
-ghost use Rattle.hw_task_lines.specs.States.{state_wires};
+ghost use Rattle.hw_lines.specs.Shape.{state_count};
+ghost use Rattle.hw_lines.specs.States.{state_wires};
 ghost use Rattle.hw_states.specs.Operands.{AreOperands, IsOperands};
 ghost use Rattle.hw_nets.specs.Shapes.{form};
 

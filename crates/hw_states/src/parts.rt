@@ -3,15 +3,15 @@
 ghost use Rattle.std.specs.Prelude.{◌≡◌, ◌++◌, IfOk, length};
 ghost use Rattle.std.specs.Option.{option_copied};
 ghost use Rattle.task_fsm.specs.Machine.{form_of};
-ghost use Rattle.hw_task_lines.specs.Wires.{read_count as read_count_lem, reads_in};
-ghost use Rattle.hw_task_lines.specs.States.{acts_late as acts_late_lem, awaited as awaited_lem, index_of as index_of_lem, value_kind as value_kind_lem, value_of as value_of_lem};
+ghost use Rattle.hw_lines.specs.Wires.{read_count as read_count_lem, reads_in};
+ghost use Rattle.hw_lines.specs.States.{acts_late as acts_late_lem, awaited as awaited_lem, index_of as index_of_lem, value_kind as value_kind_lem, value_of as value_of_lem};
 ghost use Rattle.hw_expressions.specs.Reads.{read_forms};
 ghost use Rattle.hw_states.specs.Operands.{expression_in};
 ghost use Rattle.hw_nets.specs.Shapes.{form};
 
 use hw_expressions::{ArrayRead, add_reads, read_count};
+use hw_lines::Net;
 use hw_nets::Shape;
-use hw_task_lines::Net;
 use std::alloc::{AllocError, Global};
 use tapa_base::{Kind, plus};
 use tapa_syntax::Expr;

@@ -5,10 +5,10 @@ ghost use Rattle.hw_build.specs.Elements.{Wire, with, with_all};
 ghost use Rattle.hw_build.specs.Trees.{numbered as numbered_lem};
 ghost use Rattle.hw_build.specs.Scope.{each};
 ghost use Rattle.task_fsm.specs.Machine.{form_of};
-ghost use Rattle.hw_task_lines.specs.declared.nets.Net.TheVariants.{Variable};
-ghost use Rattle.hw_task_lines.specs.Nets.{name as name_lem};
-ghost use Rattle.hw_task_lines.specs.Shape.{form_at, state_count};
-ghost use Rattle.hw_task_lines.specs.States.{counting, decoded, go_of, index_wires, into_of, more_wires, net as net_lem, next_of, next_wires, number_of as number_of_lem, packed, state_wires, value_wires};
+ghost use Rattle.hw_lines.specs.declared.nets.Net.TheVariants.{Variable};
+ghost use Rattle.hw_lines.specs.Nets.{name as name_lem};
+ghost use Rattle.hw_lines.specs.Shape.{form_at, state_count};
+ghost use Rattle.hw_lines.specs.States.{counting, decoded, go_of, index_wires, into_of, more_wires, net as net_lem, next_of, next_wires, number_of as number_of_lem, packed, state_wires, value_wires};
 ghost use Rattle.hw_states.specs.Operands.{IsOperands};
 ghost use Rattle.hw_nets.specs.Shapes.{form};
 
@@ -16,10 +16,10 @@ use crate::operands::Operands;
 use crate::parts::{acts_late, awaited, index_of, index_reads, value_kind, value_of};
 use hw_build::{Draft, numbered};
 use hw_expressions::compile;
+use hw_lines::Net;
 use hw_nets::{
     Shape, binary, bits, choose, concat, copy, index_front, literal, name, net, value_front,
 };
-use hw_task_lines::Net;
 use std::alloc::{AllocError, Global};
 use tapa_base::{Kind, Text};
 use task_fsm::State;

@@ -5,8 +5,8 @@ use Rattle.tapa_syntax.specs.declared.program.End.{End}
 use Rattle.tapa_syntax.specs.declared.program.Leaf.{Leaf}
 use Rattle.task_fsm.specs.declared.machine.Fsm.{Fsm}
 use Rattle.vlog_tree.specs.Form.{ModuleTree}
-use Rattle.hw_task_lines.specs.Shape.{shape_of}
-use Rattle.hw_task_lines.specs.Texts.{task_elements, task_name, task_tree}
+use Rattle.hw_lines.specs.Shape.{shape_of}
+use Rattle.hw_lines.specs.Texts.{task_elements, task_name, task_tree}
 use Rattle.hw_task_laws.specs.names.Countable.{IsCountable}
 use Rattle.hw_task_laws.proofs.names.Lined.{lines_count, titles_are_names}
 use Rattle.hw_task_laws.proofs.names.Ported.{modules_have_ports}

@@ -11,15 +11,15 @@ use Rattle.vlog_tree.specs.Form.{ModuleTree}
 use Rattle.hw_build.specs.Elements.{Element, Wire, with_all}
 use Rattle.hw_build.specs.Scope.{each}
 use Rattle.hw_build.specs.Choices.{Entry as EntryForm, any_elements, pick_elements, choice}
-use Rattle.hw_task_lines.specs.declared.nets.Choice.TheVariants.{Reads, Spot}
-use Rattle.hw_task_lines.specs.declared.nets.Net.TheVariants.{Array, Raw, Answer, ReadOn}
-use Rattle.hw_task_lines.specs.Nets.{front, name}
-use Rattle.hw_task_lines.specs.Drivers.{low_bits}
-use Rattle.hw_task_lines.specs.Shape.{Shape, array_kind, index_bits}
-use Rattle.hw_task_lines.specs.States.{net, reads_at}
-use Rattle.hw_task_lines.specs.Wires.{ArrayRead as ReadForm}
-use Rattle.hw_task_lines.specs.Effects.{at, entry, effect, entries, spot_of}
-use Rattle.hw_task_lines.specs.Texts.{asked, asked_of, read_index, answered, most}
+use Rattle.hw_lines.specs.declared.nets.Choice.TheVariants.{Reads, Spot}
+use Rattle.hw_lines.specs.declared.nets.Net.TheVariants.{Array, Raw, Answer, ReadOn}
+use Rattle.hw_lines.specs.Nets.{front, name}
+use Rattle.hw_lines.specs.Drivers.{low_bits}
+use Rattle.hw_lines.specs.Shape.{Shape, array_kind, index_bits}
+use Rattle.hw_lines.specs.States.{net, reads_at}
+use Rattle.hw_lines.specs.Wires.{ArrayRead as ReadForm}
+use Rattle.hw_lines.specs.Effects.{at, entry, effect, entries, spot_of}
+use Rattle.hw_lines.specs.Texts.{asked, asked_of, read_index, answered, most}
 use Rattle.hw_nets.proofs.Grows.{both, each_next}
 use Rattle.hw_expressions.specs.declared.reads.ArrayRead.{ArrayRead}
 use Rattle.hw_expressions.specs.Reads.{read_form, read_forms}

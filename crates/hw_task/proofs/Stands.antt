@@ -3,7 +3,7 @@ use Rattle.std.proofs.Common.{◌≡◌, List, [], ◌∷◌, length, refl, ap, 
 use Rattle.vlog_tree.specs.Form.{ModuleTree}
 use Rattle.hw_build.specs.Elements.{Element, with_all}
 use Rattle.hw_build.specs.Choices.{Entry as EntryForm}
-use Rattle.hw_task_lines.specs.Texts.{unless_none}
+use Rattle.hw_lines.specs.Texts.{unless_none}
 use Rattle.hw_nets.specs.declared.entries.Entry.{Entry}
 use Rattle.hw_nets.specs.Entries.{entry_forms}
 

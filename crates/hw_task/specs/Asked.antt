@@ -3,12 +3,12 @@ use Rattle.std.specs.Prelude.{◌≡◌, ℕ, List, [], ◌∷◌, map, Option, 
 use Rattle.vlog_tree.specs.declared.tree.Atom.{Atom}
 use Rattle.hw_build.specs.Elements.{Element}
 use Rattle.hw_build.specs.Scope.{each}
-use Rattle.hw_task_lines.specs.declared.nets.Choice.TheVariants.{Reads}
-use Rattle.hw_task_lines.specs.Shape.{Shape}
-use Rattle.hw_task_lines.specs.States.{reads_at}
-use Rattle.hw_task_lines.specs.Wires.{ArrayRead}
-use Rattle.hw_task_lines.specs.Effects.{entries}
-use Rattle.hw_task_lines.specs.Texts.{read_index, answered, unless_none}
+use Rattle.hw_lines.specs.declared.nets.Choice.TheVariants.{Reads}
+use Rattle.hw_lines.specs.Shape.{Shape}
+use Rattle.hw_lines.specs.States.{reads_at}
+use Rattle.hw_lines.specs.Wires.{ArrayRead}
+use Rattle.hw_lines.specs.Effects.{entries}
+use Rattle.hw_lines.specs.Texts.{read_index, answered, unless_none}
 use Rattle.hw_task.specs.declared.reads.Asked.{Asked}
 
 -- the array and the atom of the index

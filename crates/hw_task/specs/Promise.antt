@@ -15,9 +15,9 @@ use Rattle.vlog_tree.specs.Table.{Name, is_doubled_name, module_declared, port_d
 use Rattle.vlog_tree.specs.V6.{module_children}
 use Rattle.vlog_module_laws.specs.Larger.{IsRightBeside}
 use Rattle.hw_build.specs.Elements.{empty}
-use Rattle.hw_task_lines.specs.Runs.{ActsAsTask}
-use Rattle.hw_task_lines.specs.Shape.{Shape, shape_of}
-use Rattle.hw_task_lines.specs.Texts.{task_name}
+use Rattle.hw_lines.specs.Runs.{ActsAsTask}
+use Rattle.hw_lines.specs.Shape.{Shape, shape_of}
+use Rattle.hw_lines.specs.Texts.{task_name}
 use Rattle.hw_task_laws.specs.names.Ports.{task_inputs, task_outputs}
 use Rattle.hw_task_laws.specs.rests.Rests.{TakesToken}
 

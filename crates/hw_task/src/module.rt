@@ -3,7 +3,7 @@
 ghost use Rattle.std.specs.Prelude.{◌≡◌, ◌+◌, ◌≤◌, ◌^◌, length, IfOk};
 ghost use Rattle.tapa_syntax.specs.declared.program.Leaf.{Leaf};
 ghost use Rattle.hw_build.specs.Elements.{empty, with_all};
-ghost use Rattle.hw_task_lines.specs.Texts.{task_elements, task_name as task_name_lem, task_tree};
+ghost use Rattle.hw_lines.specs.Texts.{task_elements, task_name as task_name_lem, task_tree};
 ghost use Rattle.hw_nets.specs.Shapes.{form};
 ghost use Rattle.hw_task.specs.Promise.{IsOfLeaf, KeepsPromise};
 

@@ -3,16 +3,16 @@
 ghost use Rattle.std.specs.Prelude.{◌≡◌, ◌∷◌, ◌++◌, [], IfOk, length};
 ghost use Rattle.hw_build.specs.Elements.{Input, Register, with, with_all};
 ghost use Rattle.hw_build.specs.Scope.{each};
-ghost use Rattle.hw_task_lines.specs.declared.nets.Net.TheVariants.{Ended, State};
-ghost use Rattle.hw_task_lines.specs.Nets.{name as name_lem};
-ghost use Rattle.hw_task_lines.specs.Shape.{state_bits};
-ghost use Rattle.hw_task_lines.specs.Texts.{array, held, inputs, memory_inputs, offered, offers, scalar_port, stream_inputs, variable};
+ghost use Rattle.hw_lines.specs.declared.nets.Net.TheVariants.{Ended, State};
+ghost use Rattle.hw_lines.specs.Nets.{name as name_lem};
+ghost use Rattle.hw_lines.specs.Shape.{state_bits};
+ghost use Rattle.hw_lines.specs.Texts.{array, held, inputs, memory_inputs, offered, offers, scalar_port, stream_inputs, variable};
 ghost use Rattle.hw_nets.specs.Shapes.{form};
 
 use hw_build::Draft;
+use hw_lines::Net;
 use hw_nets::{Shape, binary, bits, name, net};
 use hw_states::{add_wire, end_of_transaction};
-use hw_task_lines::Net;
 use std::alloc::{AllocError, Global};
 use vlog_tree::{BinaryOp, Value};
 

@@ -8,14 +8,14 @@ ghost use Rattle.vlog_tree.specs.declared.tree.BinaryOp.TheVariants.{And, Less};
 ghost use Rattle.hw_build.specs.Elements.{Wire, with_all};
 ghost use Rattle.hw_build.specs.Scope.{each};
 ghost use Rattle.hw_build.specs.Choices.{choice as choice_lem};
-ghost use Rattle.hw_task_lines.specs.declared.nets.Choice.TheVariants.{Reads, Spot};
-ghost use Rattle.hw_task_lines.specs.declared.nets.Net.TheVariants.{Answer, Array, At, Raw, ReadInside, ReadOn};
-ghost use Rattle.hw_task_lines.specs.Nets.{front as front_lem, name as name_lem};
-ghost use Rattle.hw_task_lines.specs.Drivers.{low_bits as low_bits_lem};
-ghost use Rattle.hw_task_lines.specs.Shape.{array_cells as array_cells_lem, array_kind as array_kind_lem, index_bits as index_bits_lem, state_count};
-ghost use Rattle.hw_task_lines.specs.States.{net as net_lem};
-ghost use Rattle.hw_task_lines.specs.Effects.{at, effect, entries as entries_lem, entry};
-ghost use Rattle.hw_task_lines.specs.Texts.{answered, asked, asked_of, read_index, read_numbers, reads_of};
+ghost use Rattle.hw_lines.specs.declared.nets.Choice.TheVariants.{Reads, Spot};
+ghost use Rattle.hw_lines.specs.declared.nets.Net.TheVariants.{Answer, Array, At, Raw, ReadInside, ReadOn};
+ghost use Rattle.hw_lines.specs.Nets.{front as front_lem, name as name_lem};
+ghost use Rattle.hw_lines.specs.Drivers.{low_bits as low_bits_lem};
+ghost use Rattle.hw_lines.specs.Shape.{array_cells as array_cells_lem, array_kind as array_kind_lem, index_bits as index_bits_lem, state_count};
+ghost use Rattle.hw_lines.specs.States.{net as net_lem};
+ghost use Rattle.hw_lines.specs.Effects.{at, effect, entries as entries_lem, entry};
+ghost use Rattle.hw_lines.specs.Texts.{answered, asked, asked_of, read_index, read_numbers, reads_of};
 ghost use Rattle.hw_nets.specs.Entries.{entries_in, entry_forms};
 ghost use Rattle.hw_expressions.specs.Reads.{read_form};
 ghost use Rattle.hw_task.specs.Asked.{AreAsked, asked_at, asked_form, port_of};
@@ -23,12 +23,12 @@ ghost use Rattle.hw_nets.specs.Shapes.{form};
 
 use hw_build::Draft;
 use hw_expressions::{ArrayRead, compile};
+use hw_lines::{Choice, Net};
 use hw_nets::{
     Entry, Shape, add_any, add_found, add_pick, binary, bits, choose, copy, entry_of, literal,
     low_bits, name, net, read_front, root,
 };
 use hw_states::{add_wire, reads_at, reads_count};
-use hw_task_lines::{Choice, Net};
 use std::alloc::{AllocError, Global};
 use tapa_base::Kind;
 use vlog_tree::{Atom, BinaryOp, Value};

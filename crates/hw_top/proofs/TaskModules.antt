@@ -13,9 +13,9 @@ use Rattle.task_fsm.specs.declared.machine.Fsm.{Fsm}
 use Rattle.vlog_tree.specs.Form.{ModuleTree}
 use Rattle.vlog_tree.specs.Names.{goes_on}
 use Rattle.vlog_tree.specs.Table.{Name}
-use Rattle.hw_task_lines.specs.Texts.{task_tree}
-use Rattle.hw_top_lines.specs.Designs.{is_used, leaf_module, machine_module, used_module}
-use Rattle.hw_top_lines.specs.Legal.{AreMachinesOf, AreWritten, task_names}
+use Rattle.hw_lines.specs.Texts.{task_tree}
+use Rattle.hw_lines.specs.top.Designs.{is_used, leaf_module, machine_module, used_module}
+use Rattle.hw_lines.specs.top.Legal.{AreMachinesOf, AreWritten, task_names}
 use Rattle.hw_task.specs.Promise.{IsOfLeaf, KeepsPromise}
 use Rattle.hw_top.specs.Kept.{IsKept, IsOfBody}
 

@@ -8,8 +8,8 @@ ghost use Rattle.vlog_tree.specs.declared.tree.Value.TheVariants.{Plain};
 ghost use Rattle.vlog_tree.specs.Labels.{scalar as scalar_lem};
 ghost use Rattle.hw_build.specs.Elements.{Wire, with, with_all};
 ghost use Rattle.hw_build.specs.Scope.{each};
-ghost use Rattle.hw_top_lines.specs.Names.{bound_net as bound_net_lem};
-ghost use Rattle.hw_top_lines.specs.Bounds.{scalar_kind as scalar_kind_lem, scalar_name as scalar_name_lem, parameter_kind as parameter_kind_lem, converted_net, kind_before as kind_before_lem, conversions as conversions_lem, conversion_step, bound_nets, bound_elements, bound_by as bound_by_lem, parameters};
+ghost use Rattle.hw_lines.specs.top.Names.{bound_net as bound_net_lem};
+ghost use Rattle.hw_lines.specs.top.Bounds.{scalar_kind as scalar_kind_lem, scalar_name as scalar_name_lem, parameter_kind as parameter_kind_lem, converted_net, kind_before as kind_before_lem, conversions as conversions_lem, conversion_step, bound_nets, bound_elements, bound_by as bound_by_lem, parameters};
 
 use crate::names::{bound_net, scalar};
 use hw_build::{Draft, net_value};

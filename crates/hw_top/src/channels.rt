@@ -2,9 +2,9 @@
 
 ghost use Rattle.std.specs.Prelude.{◌≡◌, ◌≤◌, IfOk, OnOk, length, slice_get, slice_index};
 ghost use Rattle.tapa_syntax.specs.WellFormed.{IsWellFormed};
-ghost use Rattle.hw_top_lines.specs.Channels.{channel_modules as channel_modules_lem, with_new, with_one};
-ghost use Rattle.hw_top_lines.specs.Designs.{AreShort, channels_before, stream_modules};
-ghost use Rattle.hw_top_lines.specs.Texts.{token_bits as token_bits_lem};
+ghost use Rattle.hw_lines.specs.top.Channels.{channel_modules as channel_modules_lem, with_new, with_one};
+ghost use Rattle.hw_lines.specs.top.Designs.{AreShort, channels_before, stream_modules};
+ghost use Rattle.hw_lines.specs.top.Texts.{token_bits as token_bits_lem};
 ghost use Rattle.hw_top.specs.Places.{ArePlaces};
 
 use crate::wires::token_bits;

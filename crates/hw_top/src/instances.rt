@@ -3,7 +3,7 @@
 ghost use Rattle.std.specs.Prelude.{◌≡◌, ◌++◌, IfOk, length, slice_get, slice_index};
 ghost use Rattle.hw_build.specs.Elements.{with_all};
 ghost use Rattle.hw_build.specs.Scope.{each};
-ghost use Rattle.hw_top_lines.specs.Texts.{at_instance, channel_part, instances, task_part};
+ghost use Rattle.hw_lines.specs.top.Texts.{at_instance, channel_part, instances, task_part};
 
 use crate::ends::{channel_ends, task_ends};
 use crate::names::{channel_instance, channel_name, task_instance, task_name};

@@ -3,7 +3,7 @@
 ghost use Rattle.std.specs.Prelude.{◌≡◌, ◌++◌, IfOk, length, slice_get};
 ghost use Rattle.hw_build.specs.Elements.{with_all};
 ghost use Rattle.hw_build.specs.Scope.{each};
-ghost use Rattle.hw_top_lines.specs.Texts.{scalar_port, memory_ports, ports};
+ghost use Rattle.hw_lines.specs.top.Texts.{scalar_port, memory_ports, ports};
 
 use crate::names::{ack, addr, rdata, scalar, wdata, we};
 use hw_build::Draft;

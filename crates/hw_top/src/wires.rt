@@ -5,9 +5,9 @@ ghost use Rattle.hw_build.specs.Elements.{Output, with_all};
 ghost use Rattle.hw_build.specs.Trees.{tree_nodes};
 ghost use Rattle.hw_build.specs.Scope.{each};
 ghost use Rattle.vlog_tree.specs.Labels.{done as done_lem};
-ghost use Rattle.hw_top_lines.specs.Names.{waits as waits_lem};
-ghost use Rattle.hw_top_lines.specs.Bounds.{parameters};
-ghost use Rattle.hw_top_lines.specs.Texts.{at_instance, doneness, ended_wire, is_detached as is_detached_lem, none_waits as none_waits_lem, still_waits as still_waits_lem, stream_wires, take_wire, token_bits as token_bits_lem, waiting, wires};
+ghost use Rattle.hw_lines.specs.top.Names.{waits as waits_lem};
+ghost use Rattle.hw_lines.specs.top.Bounds.{parameters};
+ghost use Rattle.hw_lines.specs.top.Texts.{at_instance, doneness, ended_wire, is_detached as is_detached_lem, none_waits as none_waits_lem, still_waits as still_waits_lem, stream_wires, take_wire, token_bits as token_bits_lem, waiting, wires};
 
 use crate::bounds::add_parameters;
 use crate::names::{din, done, dout, ended_net, has, rdy, take, waits, wr};

@@ -26,8 +26,8 @@ use Rattle.kahn_model.specs.Ending.{IsLeastToEnd}
 use Rattle.kahn_model.specs.Network.{Network}
 use Rattle.kahn_model.specs.Outcome.{IsJoined, HaveJoinedEnded, IsDone as EndsWithin, shown}
 use Rattle.kahn_model.specs.Timed.{lost}
-use Rattle.hw_top_lines.specs.Legal.{stream_ports, memory_ports}
-use Rattle.hw_top_lines.specs.Texts.{token_bits}
+use Rattle.hw_lines.specs.top.Legal.{stream_ports, memory_ports}
+use Rattle.hw_lines.specs.top.Texts.{token_bits}
 use Rattle.hw_top_laws.specs.kahn.Carries.{CarriesStreams, carried_by}
 use Rattle.hw_top_laws.specs.kahn.Clock.{counts, all_answer}
 use Rattle.hw_top.specs.Circuits.{IsCircuitOf}

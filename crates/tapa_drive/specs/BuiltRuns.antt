@@ -12,7 +12,7 @@ use Rattle.kahn_model.specs.Network.{Network}
 use Rattle.kahn_model.specs.Outcome.{IsJoined, HaveJoinedEnded, IsDone as EndsWithin, shown}
 use Rattle.kahn_model.specs.Start.{network_of}
 use Rattle.kahn_model.specs.Timed.{lost}
-use Rattle.hw_top_lines.specs.Legal.{stream_ports, memory_ports}
+use Rattle.hw_lines.specs.top.Legal.{stream_ports, memory_ports}
 use Rattle.hw_top_laws.specs.kahn.Clock.{counts, all_answer}
 use Rattle.run_data.specs.Report.{last_line}
 use Rattle.run_program.specs.Run.{Values}

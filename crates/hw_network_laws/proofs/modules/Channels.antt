@@ -13,8 +13,8 @@ use Rattle.hw_channel_laws.specs.signals.Signals.{both}
 use Rattle.hw_channel_laws.specs.signals.Contract.{ChannelPorts, MeetsContract as OwesContract, written, taken}
 use Rattle.hw_channel_laws.proofs.signals.Pointers.{bit_is, fewer_than}
 use Rattle.task_fsm.specs.Run.{StateStep, Performs, Awaits, Completes, Halts}
-use Rattle.hw_task_lines.specs.Signals.{Streams, History, Part}
-use Rattle.hw_task_lines.specs.Machine.{RunsMachine, offered, allows, takes_of, step_in, steps, put_in}
+use Rattle.hw_lines.specs.Signals.{Streams, History, Part}
+use Rattle.hw_lines.specs.Machine.{RunsMachine, offered, allows, takes_of, step_in, steps, put_in}
 use Rattle.hw_network_laws.specs.network.Channel.{carried, drawn, took_in, MeetsContract}
 use Rattle.hw_network_laws.specs.modules.Channels.{AreSignals, TakesOffers, IsStill}
 

@@ -15,9 +15,9 @@ use Rattle.kahn_model.specs.ProgramNetwork.{end_of}
 use Rattle.kahn_model.specs.Start.{network_of}
 use Rattle.kahn_model.proofs.WellFormed.{program_network}
 use Rattle.task_fsm.specs.declared.machine.Fsm.{Fsm}
-use Rattle.hw_task_lines.specs.Signals.{Streams, History, Part}
-use Rattle.hw_task_lines.specs.Machine.{RunsMachine, put_in}
-use Rattle.hw_task_lines.specs.Runs.{answers_at}
+use Rattle.hw_lines.specs.Signals.{Streams, History, Part}
+use Rattle.hw_lines.specs.Machine.{RunsMachine, put_in}
+use Rattle.hw_lines.specs.Runs.{answers_at}
 use Rattle.hw_network_laws.specs.network.Channel.{MeetsContract}
 use Rattle.hw_network_laws.specs.network.Clocked.{IsPartOf, IsClocked}
 use Rattle.hw_network_laws.specs.modules.Channels.{TakesOffers}

@@ -16,10 +16,10 @@ use Rattle.kahn_model.specs.Start.{bound_value, with_values, kinds_in, leaf_stat
 use Rattle.kahn_model.specs.Trace.{State, cells_of}
 use Rattle.task_fsm.specs.declared.machine.Fsm.{Fsm}
 use Rattle.task_fsm.specs.Lowered.{IsLowered, IsStart, with_temporaries}
-use Rattle.hw_task_lines.specs.declared.nets.Net.TheVariants.{Scalar}
-use Rattle.hw_task_lines.specs.Shape.{Shape, array_cells}
-use Rattle.hw_task_lines.specs.Signals.{Streams}
-use Rattle.hw_task_lines.specs.Runs.{number_at, array_at, first_of, first_held, streams_at, answers_at, history_at, RunsTask}
+use Rattle.hw_lines.specs.declared.nets.Net.TheVariants.{Scalar}
+use Rattle.hw_lines.specs.Shape.{Shape, array_cells}
+use Rattle.hw_lines.specs.Signals.{Streams}
+use Rattle.hw_lines.specs.Runs.{number_at, array_at, first_of, first_held, streams_at, answers_at, history_at, RunsTask}
 use Rattle.hw_task_laws.proofs.runs.Lists.{ones, ones_length, ones_at, ones_past, ones_are, same_held}
 use Rattle.hw_network_laws.specs.network.Clocked.{IsPartOf}
 use Rattle.hw_network_laws.specs.network.Parts.{AgreeOn}

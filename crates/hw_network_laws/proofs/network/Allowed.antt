@@ -10,8 +10,8 @@ use Rattle.kahn_model.specs.declared.tick.Tick.TheVariants.{Did, End}
 use Rattle.kahn_model.specs.Behavior.{Behavior, Finished, OutOfTurns, Act, Await, Offer, NoToken, WrongToken, Answer, judge_token, first_offer, on_offer, tick_of, lists_after, ticks}
 use Rattle.kahn_model.specs.Trace.{State, act_at, at_streams}
 use Rattle.task_fsm.specs.Run.{StateStep, step_at}
-use Rattle.hw_task_lines.specs.Signals.{Streams, Part}
-use Rattle.hw_task_lines.specs.Machine.{offered, allows, allows_act}
+use Rattle.hw_lines.specs.Signals.{Streams, Part}
+use Rattle.hw_lines.specs.Machine.{offered, allows, allows_act}
 use Rattle.hw_network_laws.proofs.network.Rest.{ticks_left, IsAlive, Continues}
 use Rattle.hw_network_laws.proofs.network.Stands.{rest_at, tick_in, matched}
 use Rattle.hw_network_laws.proofs.network.Ahead.{OwnsRest}

@@ -19,7 +19,7 @@ use Rattle.kahn_model.specs.Start.{network_of, first_state, instance_state, leaf
 use Rattle.kahn_model.specs.Timed.{Clock, count_at}
 use Rattle.kahn_model.specs.Trace.{with_cell}
 use Rattle.task_fsm.specs.Run.{cells_after}
-use Rattle.hw_task_lines.specs.Signals.{Streams, History, Part}
+use Rattle.hw_lines.specs.Signals.{Streams, History, Part}
 use Rattle.hw_network_laws.specs.network.Clocked.{IsClocked}
 use Rattle.hw_network_laws.proofs.network.Together.{in_step}
 

@@ -10,9 +10,9 @@ use Rattle.kahn_model.specs.Timed.{Clock, tick_moves, past_of, count_at}
 use Rattle.kahn_model.specs.Trace.{State}
 use Rattle.kahn_model.proofs.Clocked.{and_parts, clock_founded, count_up}
 use Rattle.task_fsm.specs.Run.{StateStep, step_at, cells_after}
-use Rattle.hw_task_lines.specs.After.{at_after, held_after, ends_by}
-use Rattle.hw_task_lines.specs.Signals.{Streams, History, Part}
-use Rattle.hw_task_lines.specs.Machine.{RunsMachine, steps, step_in, allows, found}
+use Rattle.hw_lines.specs.After.{at_after, held_after, ends_by}
+use Rattle.hw_lines.specs.Signals.{Streams, History, Part}
+use Rattle.hw_lines.specs.Machine.{RunsMachine, steps, step_in, allows, found}
 use Rattle.hw_network_laws.proofs.network.Rest.{after, ticks_left, rest_step, after_snoc, IsAlive, Continues}
 use Rattle.hw_network_laws.specs.network.Clocked.{IsClocked, AreCarried}
 use Rattle.hw_network_laws.proofs.network.Stands.{StandsFor, rest_at, tick_in, step_leaves, cells_are, cells_snoc, end_only, end_is}

@@ -12,7 +12,7 @@ use Rattle.kahn_model.proofs.Ended.{ended_later, ended_same}
 use Rattle.kahn_model.proofs.Shown.{shown_written}
 use Rattle.kahn_model.proofs.Least.{least_to_end}
 use Rattle.kahn_model.proofs.Bound.{joined_in_time}
-use Rattle.hw_task_lines.specs.Signals.{Streams, History, Part}
+use Rattle.hw_lines.specs.Signals.{Streams, History, Part}
 use Rattle.hw_network_laws.specs.network.Channel.{carried}
 use Rattle.hw_network_laws.specs.network.Clocked.{IsClocked}
 use Rattle.hw_network_laws.specs.network.Joined.{AreJoinedOver, DoneIsOfJoined}

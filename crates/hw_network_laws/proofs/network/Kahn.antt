@@ -6,7 +6,7 @@ use Rattle.kahn_model.specs.Timed.{Clock, count_at}
 use Rattle.kahn_model.proofs.Clocked.{clock_founded}
 use Rattle.kahn_model.proofs.Reach.{is_kahn, whole as all_of_it}
 use Rattle.kahn_model.proofs.Bound.{done_in_time}
-use Rattle.hw_task_lines.specs.Signals.{Streams, History, Part}
+use Rattle.hw_lines.specs.Signals.{Streams, History, Part}
 use Rattle.hw_network_laws.specs.network.Clocked.{IsClocked, CarriesKahn}
 use Rattle.hw_network_laws.proofs.network.Together.{in_step}
 

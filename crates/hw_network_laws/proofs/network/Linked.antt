@@ -10,9 +10,9 @@ use Rattle.kahn_model.specs.Behavior.{on_offer, takes}
 use Rattle.kahn_model.specs.Trace.{State}
 use Rattle.task_fsm.specs.Machine.{StateForm, SetAt, CellAt, TestAt, ReadAt, WriteAt, PeekAt, EotAt, OpenAt, CloseAt, LoadAt, StoreAt, ClearAt, EndAt, TrapAt}
 use Rattle.task_fsm.specs.Run.{StateStep, Performs, Awaits, Completes, Halts, step, step_at, clear_step, is_last}
-use Rattle.hw_task_lines.specs.After.{at_after, held_after, ends_by}
-use Rattle.hw_task_lines.specs.Signals.{Streams, History, Part}
-use Rattle.hw_task_lines.specs.Machine.{offered, offer_in, allows, found, takes_of, puts_of, step_in, steps, put_in, RunsMachine}
+use Rattle.hw_lines.specs.After.{at_after, held_after, ends_by}
+use Rattle.hw_lines.specs.Signals.{Streams, History, Part}
+use Rattle.hw_lines.specs.Machine.{offered, offer_in, allows, found, takes_of, puts_of, step_in, steps, put_in, RunsMachine}
 use Rattle.hw_network_laws.specs.network.Ports.{UsesPorts, UsesPortsAt, alone, IsLinked}
 
 -- the ports of a step are declared

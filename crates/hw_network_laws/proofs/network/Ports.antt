@@ -16,8 +16,8 @@ use Rattle.task_fsm.specs.declared.machine.Fsm.{Fsm}
 use Rattle.task_fsm.specs.Lowered.{IsLowered}
 use Rattle.task_fsm.specs.Machine.{forms_of, StateForm, SetAt, CellAt, TestAt, ReadAt, WriteAt, PeekAt, EotAt, OpenAt, CloseAt, LoadAt, StoreAt, ClearAt, EndAt, TrapAt}
 use Rattle.task_fsm.specs.Ranges.{Ranges, ranges_of, IsInRange, AreInRange}
-use Rattle.hw_task_lines.specs.Signals.{Streams}
-use Rattle.hw_task_lines.specs.Machine.{put_in}
+use Rattle.hw_lines.specs.Signals.{Streams}
+use Rattle.hw_lines.specs.Machine.{put_in}
 use Rattle.hw_network_laws.specs.network.Ports.{UsesPorts, UsesPortsAt, IsAtPort, IsLinked, HasPorts, AreWired}
 
 uses_form : (r : Ranges) (p : StateForm) → IsInRange r p → UsesPorts r.writes p

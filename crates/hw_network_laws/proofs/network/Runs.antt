@@ -9,10 +9,10 @@ use Rattle.kahn_model.specs.declared.tick.Action.TheVariants.{Local, Put, Load, 
 use Rattle.kahn_model.specs.Network.{Network, IsNetwork}
 use Rattle.kahn_model.specs.Timed.{Clock}
 use Rattle.kahn_model.proofs.Clocked.{and_parts}
-use Rattle.hw_task_lines.specs.After.{at_after, held_after, ends_by}
+use Rattle.hw_lines.specs.After.{at_after, held_after, ends_by}
 use Rattle.task_fsm.specs.Run.{StateStep, Performs, Awaits, Completes, Halts}
-use Rattle.hw_task_lines.specs.Signals.{Streams, History, Part}
-use Rattle.hw_task_lines.specs.Machine.{RunsMachine, allows, allows_act, takes_of, puts_by, puts_of, put_in, step_in, steps, found}
+use Rattle.hw_lines.specs.Signals.{Streams, History, Part}
+use Rattle.hw_lines.specs.Machine.{RunsMachine, allows, allows_act, takes_of, puts_by, puts_of, put_in, step_in, steps, found}
 use Rattle.hw_network_laws.specs.network.Channel.{carried, drawn, took_in, MeetsContract}
 use Rattle.hw_network_laws.specs.network.Clocked.{IsPartOf, IsClocked}
 use Rattle.hw_network_laws.specs.network.Run.{Stand, stood, has_by, dout_by, rdy_by, inputs_by, step_by, does_by, puts_in, takes_in, stands, is_some, streams_of, history_of}

@@ -10,7 +10,7 @@ use Rattle.kahn_model.specs.Behavior.{tick_of}
 use Rattle.kahn_model.specs.Network.{Network}
 use Rattle.kahn_model.specs.Counts.{written, taken}
 use Rattle.kahn_model.specs.Timed.{Clock, ago, tick_moves, past_of, count_at}
-use Rattle.hw_task_lines.specs.Signals.{Streams}
+use Rattle.hw_lines.specs.Signals.{Streams}
 use Rattle.hw_network_laws.specs.network.Channel.{carried, drawn, MeetsContract}
 use Rattle.hw_network_laws.specs.network.Clocked.{AreCarried}
 use Rattle.hw_network_laws.proofs.network.Ahead.{ahead, ahead_is}

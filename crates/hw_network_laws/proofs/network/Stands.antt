@@ -16,9 +16,9 @@ use Rattle.task_fsm.specs.Machine.{StateForm, EndAt}
 use Rattle.task_fsm.specs.Run.{StateStep, Performs, Awaits, Completes, Halts, step, step_at, put_into, cells_after, cells_by}
 use Rattle.task_fsm.specs.Follows.{Follows}
 use Rattle.task_fsm.proofs.Runs.{StepCells, step_at_cells, into_cells}
-use Rattle.hw_task_lines.specs.After.{at_after, held_after, ends_by}
-use Rattle.hw_task_lines.specs.Signals.{Streams, Part}
-use Rattle.hw_task_lines.specs.Machine.{offered, offer_in, allows, found, takes_of, puts_by, puts_of}
+use Rattle.hw_lines.specs.After.{at_after, held_after, ends_by}
+use Rattle.hw_lines.specs.Signals.{Streams, Part}
+use Rattle.hw_lines.specs.Machine.{offered, offer_in, allows, found, takes_of, puts_by, puts_of}
 use Rattle.hw_network_laws.proofs.network.Rest.{after, rest_step, same_answer, same_token, after_answer, IsAlive, Continues, still}
 
 -- a rest at the streams of the ports

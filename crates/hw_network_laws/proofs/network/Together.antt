@@ -9,8 +9,8 @@ use Rattle.kahn_model.specs.Counts.{ticks_made, written, taken}
 use Rattle.kahn_model.specs.Timed.{Clock, moves, past_of, count_at}
 use Rattle.kahn_model.proofs.Clocked.{and_parts, clock_founded, count_up}
 use Rattle.task_fsm.specs.Follows.{Follows}
-use Rattle.hw_task_lines.specs.Signals.{Streams, History, Part}
-use Rattle.hw_task_lines.specs.Machine.{steps, steps_before, step_in, put_in, puts_of, takes_of}
+use Rattle.hw_lines.specs.Signals.{Streams, History, Part}
+use Rattle.hw_lines.specs.Machine.{steps, steps_before, step_in, put_in, puts_of, takes_of}
 use Rattle.hw_network_laws.specs.network.Channel.{carried, took_in, drawn}
 use Rattle.hw_network_laws.specs.network.Clocked.{IsClocked, AreCarried, IsInStep}
 use Rattle.hw_network_laws.proofs.network.Stands.{tick_in, puts_are, takes_are}

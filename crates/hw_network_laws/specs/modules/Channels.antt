@@ -3,8 +3,8 @@ use Rattle.std.specs.Prelude.{◌≡◌, ℕ, suc, Bool, true, false, ◌==◌}
 use Rattle.vlog_tree.specs.Environment.{token_of}
 use Rattle.kahn_model.specs.Network.{Network}
 use Rattle.hw_channel_laws.specs.signals.Contract.{ChannelPorts, MeetsContract as OwesContract}
-use Rattle.hw_task_lines.specs.Signals.{Streams, History, Part}
-use Rattle.hw_task_lines.specs.Machine.{RunsMachine}
+use Rattle.hw_lines.specs.Signals.{Streams, History, Part}
+use Rattle.hw_lines.specs.Machine.{RunsMachine}
 use Rattle.hw_network_laws.specs.network.Channel.{MeetsContract}
 
 -- the signals of a channel whose tokens have so many bits are those of stream s

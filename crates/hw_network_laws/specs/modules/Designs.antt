@@ -13,8 +13,8 @@ use Rattle.kahn_model.specs.Start.{network_of}
 use Rattle.kahn_model.specs.Timed.{Clock}
 use Rattle.task_fsm.specs.declared.machine.Fsm.{Fsm}
 use Rattle.task_fsm.specs.Lowered.{IsLowered}
-use Rattle.hw_task_lines.specs.Signals.{Streams, History, Part}
-use Rattle.hw_task_lines.specs.Runs.{streams_at, answers_at, history_at, RunsTask}
+use Rattle.hw_lines.specs.Signals.{Streams, History, Part}
+use Rattle.hw_lines.specs.Runs.{streams_at, answers_at, history_at, RunsTask}
 use Rattle.hw_network_laws.specs.network.Clocked.{IsClocked}
 use Rattle.hw_network_laws.specs.network.Ports.{AreWired}
 use Rattle.hw_network_laws.specs.modules.Channels.{AreSignals, IsStill}

@@ -11,11 +11,11 @@ use Rattle.kahn_model.specs.ProgramNetwork.{stream_at}
 use Rattle.kahn_model.specs.Start.{kinds_in, bound_value, network_of}
 use Rattle.task_fsm.specs.declared.machine.Fsm.{Fsm}
 use Rattle.task_fsm.specs.Lowered.{IsLowered}
-use Rattle.hw_task_lines.specs.declared.nets.Net.TheVariants.{Scalar}
-use Rattle.hw_task_lines.specs.Shape.{Shape, shape_of}
-use Rattle.hw_task_lines.specs.Signals.{Streams, Part}
-use Rattle.hw_task_lines.specs.Machine.{RunsMachine}
-use Rattle.hw_task_lines.specs.Runs.{number_at, streams_at, answers_at, history_at, part_at, RunsTask}
+use Rattle.hw_lines.specs.declared.nets.Net.TheVariants.{Scalar}
+use Rattle.hw_lines.specs.Shape.{Shape, shape_of}
+use Rattle.hw_lines.specs.Signals.{Streams, Part}
+use Rattle.hw_lines.specs.Machine.{RunsMachine}
+use Rattle.hw_lines.specs.Runs.{number_at, streams_at, answers_at, history_at, part_at, RunsTask}
 use Rattle.hw_network_laws.specs.network.Clocked.{IsPartOf}
 use Rattle.hw_network_laws.specs.network.Ports.{AreWired}
 

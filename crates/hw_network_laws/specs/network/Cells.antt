@@ -7,7 +7,7 @@ use Rattle.tapa_syntax.specs.declared.program.Program.{Program}
 use Rattle.kahn_model.specs.Cells.{cells_at}
 use Rattle.kahn_model.specs.Start.{network_of, first_state}
 use Rattle.kahn_model.specs.Timed.{Clock, count_at}
-use Rattle.hw_task_lines.specs.Signals.{Streams, History, Part}
+use Rattle.hw_lines.specs.Signals.{Streams, History, Part}
 use Rattle.hw_network_laws.specs.network.Clocked.{IsClocked}
 
 -- at the position of its owner to which it is bound, memory m has before each cycle its cells at the count of the clock

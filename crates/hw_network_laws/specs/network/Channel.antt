@@ -1,8 +1,8 @@
 -- What a channel owes its two ends: tokens late by its latency, readiness late by its latency, and room for its depth.
 use Rattle.std.specs.Prelude.{◌≡◌, ℕ, zero, suc, ◌-◌, ◌*◌, List, [], ◌∷◌, ◌++◌, length, true, ◌&&◌, nat_lt, if◌then◌else◌, Some, slice_get}
 use Rattle.tapa_base.specs.declared.token.Token.{Token}
-use Rattle.hw_task_lines.specs.Signals.{Streams}
-use Rattle.hw_task_lines.specs.Machine.{put_in}
+use Rattle.hw_lines.specs.Signals.{Streams}
+use Rattle.hw_lines.specs.Machine.{put_in}
 
 -- the tokens that are put in the cycles from 1 to before n
 abbrev pub carried : Streams → ℕ → ℕ → List Token

@@ -7,8 +7,8 @@ use Rattle.kahn_model.specs.Counts.{ticks_made, written, taken, total, HasEnded,
 use Rattle.kahn_model.specs.Timed.{Clock, IsClock, count_at}
 use Rattle.task_fsm.specs.Run.{cells_after}
 use Rattle.task_fsm.specs.Follows.{Follows}
-use Rattle.hw_task_lines.specs.Signals.{Streams, History, Part}
-use Rattle.hw_task_lines.specs.Machine.{RunsMachine, steps_before, put_in}
+use Rattle.hw_lines.specs.Signals.{Streams, History, Part}
+use Rattle.hw_lines.specs.Machine.{RunsMachine, steps_before, put_in}
 use Rattle.hw_network_laws.specs.network.Channel.{carried, drawn, MeetsContract}
 
 -- the part follows the job, at the streams of its ports

@@ -6,7 +6,7 @@ use Rattle.kahn_model.specs.Counts.{IsKahnPrefix, IsKahnStream}
 use Rattle.kahn_model.specs.Outcome.{IsJoined, HaveJoinedEnded, IsDone, shown}
 use Rattle.kahn_model.specs.Ending.{IsLeastToEnd}
 use Rattle.kahn_model.specs.Timed.{Clock, IsClock, count_at}
-use Rattle.hw_task_lines.specs.Signals.{Streams, History, Part}
+use Rattle.hw_lines.specs.Signals.{Streams, History, Part}
 use Rattle.hw_network_laws.specs.network.Channel.{carried}
 use Rattle.hw_network_laws.specs.network.Clocked.{IsClocked}
 

@@ -11,7 +11,7 @@ use Rattle.kahn_model.specs.ProgramNetwork.{network_with, stream_at}
 use Rattle.task_fsm.specs.declared.machine.Fsm.{Fsm}
 use Rattle.task_fsm.specs.Machine.{forms_of}
 use Rattle.task_fsm.specs.Lowered.{IsStart, IsLowered, with_temporaries}
-use Rattle.hw_task_lines.specs.Signals.{Part}
+use Rattle.hw_lines.specs.Signals.{Part}
 use Rattle.hw_network_laws.specs.network.Clocked.{IsPartOf}
 
 -- two states that differ at most in the cells of arrays that are not in S

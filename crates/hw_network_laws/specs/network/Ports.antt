@@ -12,8 +12,8 @@ use Rattle.task_fsm.specs.declared.machine.Fsm.{Fsm}
 use Rattle.task_fsm.specs.Lowered.{IsLowered}
 use Rattle.kahn_model.specs.Network.{Network}
 use Rattle.task_fsm.specs.Machine.{forms_of, StateForm, SetAt, CellAt, TestAt, ReadAt, WriteAt, PeekAt, EotAt, OpenAt, CloseAt, LoadAt, StoreAt, ClearAt, EndAt, TrapAt}
-use Rattle.hw_task_lines.specs.Signals.{Streams, History, Part}
-use Rattle.hw_task_lines.specs.Machine.{RunsMachine, put_in}
+use Rattle.hw_lines.specs.Signals.{Streams, History, Part}
+use Rattle.hw_lines.specs.Machine.{RunsMachine, put_in}
 
 -- a place reads and writes ports as they are declared: w says which are written
 abbrev pub UsesPorts : (ℕ → Option Bool) → StateForm → Type 0

@@ -6,9 +6,9 @@ use Rattle.kahn_model.specs.Trace.{State}
 use Rattle.kahn_model.specs.Network.{Network, IsNetwork}
 use Rattle.kahn_model.specs.Timed.{Clock}
 use Rattle.task_fsm.specs.Run.{StateStep, step_at}
-use Rattle.hw_task_lines.specs.After.{at_after, held_after, ends_by}
-use Rattle.hw_task_lines.specs.Signals.{Streams, History, Part}
-use Rattle.hw_task_lines.specs.Machine.{allows, found, takes_of, puts_of}
+use Rattle.hw_lines.specs.After.{at_after, held_after, ends_by}
+use Rattle.hw_lines.specs.Signals.{Streams, History, Part}
+use Rattle.hw_lines.specs.Machine.{allows, found, takes_of, puts_of}
 use Rattle.hw_network_laws.specs.network.Clocked.{IsPartOf, IsClocked}
 
 -- what stands before a cycle: each machine, and what each stream has carried and given

@@ -29,20 +29,20 @@ use Rattle.task_fsm.specs.Machine.{Expression, Number, Reg, CellOf, Converted, A
 use Rattle.task_fsm.specs.MachineKinds.{IsOfKind, IsTypedState}
 use Rattle.task_fsm.specs.Ranges.{Ranges, NamesWithin, IsInRange}
 use Rattle.task_fsm.specs.Run.{value}
-use Rattle.hw_task_lines.specs.declared.nets.Choice.TheVariants.{Reads, Spot}
-use Rattle.hw_task_lines.specs.declared.nets.Net.TheVariants.{State as StateNet, Ended, At, Array, Answer, Raw, ReadInside, ReadOn}
-use Rattle.hw_task_lines.specs.Nets.{name, front, value_front, index_front, read_front}
-use Rattle.hw_task_lines.specs.Shape.{Shape, bits_for, kinds_in, array_kind, array_cells, index_bits, state_count, state_bits, form_at}
-use Rattle.hw_task_lines.specs.Drivers.{low_bits}
-use Rattle.hw_task_lines.specs.Wires.{ArrayRead, read_count, reads_in}
-use Rattle.hw_task_lines.specs.States.{net, nothing, index_of, value_of, value_kind, index_wires, value_wires, reads_at}
-use Rattle.hw_task_lines.specs.Effects.{entry, at, effect, entries, spot_of}
-use Rattle.hw_task_lines.specs.Texts.{array, read_index, asked_of, answered, unless_none, read_numbers, variable, task_elements}
+use Rattle.hw_lines.specs.declared.nets.Choice.TheVariants.{Reads, Spot}
+use Rattle.hw_lines.specs.declared.nets.Net.TheVariants.{State as StateNet, Ended, At, Array, Answer, Raw, ReadInside, ReadOn}
+use Rattle.hw_lines.specs.Nets.{name, front, value_front, index_front, read_front}
+use Rattle.hw_lines.specs.Shape.{Shape, bits_for, kinds_in, array_kind, array_cells, index_bits, state_count, state_bits, form_at}
+use Rattle.hw_lines.specs.Drivers.{low_bits}
+use Rattle.hw_lines.specs.Wires.{ArrayRead, read_count, reads_in}
+use Rattle.hw_lines.specs.States.{net, nothing, index_of, value_of, value_kind, index_wires, value_wires, reads_at}
+use Rattle.hw_lines.specs.Effects.{entry, at, effect, entries, spot_of}
+use Rattle.hw_lines.specs.Texts.{array, read_index, asked_of, answered, unless_none, read_numbers, variable, task_elements}
 use Rattle.hw_task_laws.specs.wires.Shows.{Shows, AreSaid}
 use Rattle.hw_task_laws.specs.wires.Computes.{Numbered, AnswerShown, AnswersShown}
 use Rattle.hw_task_laws.specs.acts.Reads.{IsIn, ReadsAreShown, ValueIsShown, IndexIsShown}
-use Rattle.hw_task_lines.proofs.Members.{all, asked_in, answered_in, held_in, value_in, index_in, among_left, among_right, among_each}
-use Rattle.hw_task_lines.proofs.Decodes.{at_here, any_on, any_off, pick_on, most_of, got_low}
+use Rattle.hw_lines.proofs.Members.{all, asked_in, answered_in, held_in, value_in, index_in, among_left, among_right, among_each}
+use Rattle.hw_lines.proofs.Decodes.{at_here, any_on, any_off, pick_on, most_of, got_low}
 use Rattle.hw_task_laws.proofs.wires.Shown.{low_bits_is}
 use Rattle.hw_task_laws.proofs.wires.Computed.{numbered_left, numbered_second, numbered_join, computed}
 

@@ -36,18 +36,18 @@ use Rattle.task_fsm.specs.MachineKinds.{IsTypedState}
 use Rattle.task_fsm.specs.Ranges.{Ranges, IsInRange}
 use Rattle.task_fsm.specs.Run.{value}
 use Rattle.task_fsm.proofs.Steps.{value_fits}
-use Rattle.hw_task_lines.specs.declared.nets.Choice.{Choice}
-use Rattle.hw_task_lines.specs.declared.nets.Choice.TheVariants.{ToState, ToEnd, Set, In}
-use Rattle.hw_task_lines.specs.declared.nets.Net.TheVariants.{State as StateNet, Ended, Variable, Has as HasNet, Rdy, Ack, Datum, Eot as EotNet, At, Next, Value}
-use Rattle.hw_task_lines.specs.Nets.{name, front, value_front}
-use Rattle.hw_task_lines.specs.Shape.{Shape, kinds_in, array_cells, register_kind, state_count, state_bits, form_at}
-use Rattle.hw_task_lines.specs.States.{net, number_of, next_of, next_wires, next_atom, value_wires, value_of, into_of, counting, more_wires}
-use Rattle.hw_task_lines.specs.Effects.{effect, entries}
-use Rattle.hw_task_lines.specs.Texts.{variable, array, any, pick, root, variable_choices, array_choices, register_block, first_value, variable_block, array_block, blocks, task_elements}
+use Rattle.hw_lines.specs.declared.nets.Choice.{Choice}
+use Rattle.hw_lines.specs.declared.nets.Choice.TheVariants.{ToState, ToEnd, Set, In}
+use Rattle.hw_lines.specs.declared.nets.Net.TheVariants.{State as StateNet, Ended, Variable, Has as HasNet, Rdy, Ack, Datum, Eot as EotNet, At, Next, Value}
+use Rattle.hw_lines.specs.Nets.{name, front, value_front}
+use Rattle.hw_lines.specs.Shape.{Shape, kinds_in, array_cells, register_kind, state_count, state_bits, form_at}
+use Rattle.hw_lines.specs.States.{net, number_of, next_of, next_wires, next_atom, value_wires, value_of, into_of, counting, more_wires}
+use Rattle.hw_lines.specs.Effects.{effect, entries}
+use Rattle.hw_lines.specs.Texts.{variable, array, any, pick, root, variable_choices, array_choices, register_block, first_value, variable_block, array_block, blocks, task_elements}
 use Rattle.hw_task_laws.specs.acts.Reads.{IsIn}
 use Rattle.hw_task_laws.specs.acts.Moves.{place_after, set_next, StateMoves, StateGoesOn, RegistersGoOn}
-use Rattle.hw_task_lines.proofs.Members.{all, held_in, choices_in, blocks_in, next_in, more_in, among_left, among_right, among_each}
-use Rattle.hw_task_lines.proofs.Decodes.{at_here, any_on, any_off, pick_on}
+use Rattle.hw_lines.proofs.Members.{all, held_in, choices_in, blocks_in, next_in, more_in, among_left, among_right, among_each}
+use Rattle.hw_lines.proofs.Decodes.{at_here, any_on, any_off, pick_on}
 use Rattle.hw_task_laws.proofs.wires.Computed.{choose_bit}
 use Rattle.hw_task_laws.proofs.acts.Answered.{value_shown}
 

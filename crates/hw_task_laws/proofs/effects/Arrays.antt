@@ -37,17 +37,17 @@ use Rattle.task_fsm.specs.Machine.{Expression, StateForm, SetAt, CellAt, TestAt,
 use Rattle.task_fsm.specs.MachineKinds.{IsOfKind, IsTypedState}
 use Rattle.task_fsm.specs.Ranges.{IsInRange}
 use Rattle.task_fsm.specs.Run.{value, step, put_into, is_last, clear_step}
-use Rattle.hw_task_lines.specs.declared.nets.Choice.TheVariants.{ToState, ToEnd, Stores, Place, Content}
-use Rattle.hw_task_lines.specs.declared.nets.Net.TheVariants.{State as StateNet, Ended, Variable, Array, At, Inside, Into}
-use Rattle.hw_task_lines.specs.Nets.{name}
-use Rattle.hw_task_lines.specs.Shape.{Shape, kinds_in, array_kind, array_cells, index_bits, register_kind, state_count, state_bits, form_at}
-use Rattle.hw_task_lines.specs.Drivers.{low_bits}
-use Rattle.hw_task_lines.specs.States.{net, index_of, value_of, index_wires, value_wires, into_of, counting, more_wires}
-use Rattle.hw_task_lines.specs.Effects.{entry, at, places, contents, effect, entries}
-use Rattle.hw_task_lines.specs.Texts.{array, variable, unless_none, any, pick, root, variable_choices, array_choices, register_block, variable_block, array_block, task_elements}
-use Rattle.hw_task_lines.specs.After.{held_after}
-use Rattle.hw_task_lines.proofs.Members.{all, held_in, choices_in, blocks_in, more_in, among_left, among_right, among_each}
-use Rattle.hw_task_lines.proofs.Decodes.{at_here}
+use Rattle.hw_lines.specs.declared.nets.Choice.TheVariants.{ToState, ToEnd, Stores, Place, Content}
+use Rattle.hw_lines.specs.declared.nets.Net.TheVariants.{State as StateNet, Ended, Variable, Array, At, Inside, Into}
+use Rattle.hw_lines.specs.Nets.{name}
+use Rattle.hw_lines.specs.Shape.{Shape, kinds_in, array_kind, array_cells, index_bits, register_kind, state_count, state_bits, form_at}
+use Rattle.hw_lines.specs.Drivers.{low_bits}
+use Rattle.hw_lines.specs.States.{net, index_of, value_of, index_wires, value_wires, into_of, counting, more_wires}
+use Rattle.hw_lines.specs.Effects.{entry, at, places, contents, effect, entries}
+use Rattle.hw_lines.specs.Texts.{array, variable, unless_none, any, pick, root, variable_choices, array_choices, register_block, variable_block, array_block, task_elements}
+use Rattle.hw_lines.specs.After.{held_after}
+use Rattle.hw_lines.proofs.Members.{all, held_in, choices_in, blocks_in, more_in, among_left, among_right, among_each}
+use Rattle.hw_lines.proofs.Decodes.{at_here}
 use Rattle.hw_task_laws.specs.wires.Shows.{Shows}
 use Rattle.hw_task_laws.proofs.wires.Shown.{low_bits_is}
 use Rattle.hw_task_laws.proofs.acts.Answered.{fits_bits, has_bits, value_shown, index_shown}

@@ -18,16 +18,16 @@ use Rattle.hw_build.proofs.Tables.{items_of_all}
 use Rattle.hw_build.proofs.Drivers.{all_blocks}
 use Rattle.hw_build.specs.Scope.{each}
 use Rattle.hw_build.specs.Choices.{Entry}
-use Rattle.hw_task_lines.specs.declared.nets.Choice.TheVariants.{ToState, ToEnd, Set, In, Stores, Place, Content, Puts, Token, Takes, Asks, Saves, Data}
-use Rattle.hw_task_lines.specs.declared.nets.Net.{Net}
-use Rattle.hw_task_lines.specs.declared.nets.Net.TheVariants.{State, Ended, Done, Variable, Array}
-use Rattle.hw_task_lines.specs.Nets.{name, numbers}
-use Rattle.hw_task_lines.specs.Names.{AreSmall}
-use Rattle.hw_task_lines.specs.Shape.{Shape, stream_kind, memory_kind, state_count, state_bits}
-use Rattle.hw_task_lines.specs.States.{net, decoded, state_wires}
-use Rattle.hw_task_lines.specs.Effects.{entries}
-use Rattle.hw_task_lines.specs.Texts.{scalar_port, writes, stream_inputs, memory_inputs, inputs, held, offered, unless_none, reads_of, read_numbers, any, pick, root, choices, written, taken, stream_outputs, memory_outputs, outputs, first_value, register_block, variable_block, array_block, blocks, task_elements}
-use Rattle.hw_task_lines.proofs.Names.{names_tell}
+use Rattle.hw_lines.specs.declared.nets.Choice.TheVariants.{ToState, ToEnd, Set, In, Stores, Place, Content, Puts, Token, Takes, Asks, Saves, Data}
+use Rattle.hw_lines.specs.declared.nets.Net.{Net}
+use Rattle.hw_lines.specs.declared.nets.Net.TheVariants.{State, Ended, Done, Variable, Array}
+use Rattle.hw_lines.specs.Nets.{name, numbers}
+use Rattle.hw_lines.specs.Names.{AreSmall}
+use Rattle.hw_lines.specs.Shape.{Shape, stream_kind, memory_kind, state_count, state_bits}
+use Rattle.hw_lines.specs.States.{net, decoded, state_wires}
+use Rattle.hw_lines.specs.Effects.{entries}
+use Rattle.hw_lines.specs.Texts.{scalar_port, writes, stream_inputs, memory_inputs, inputs, held, offered, unless_none, reads_of, read_numbers, any, pick, root, choices, written, taken, stream_outputs, memory_outputs, outputs, first_value, register_block, variable_block, array_block, blocks, task_elements}
+use Rattle.hw_lines.proofs.Names.{names_tell}
 use Rattle.hw_task_laws.proofs.names.Empty.{GiveNone, both_none, more_none, each_none, by_end_none, any_none, pick_none, decodes_none, offers_none, held_none, reads_none, states_none, choices_none}
 use Rattle.hw_task_laws.specs.effects.Held.{HasFew}
 

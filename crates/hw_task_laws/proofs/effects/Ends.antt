@@ -29,15 +29,15 @@ use Rattle.hw_build.specs.Fits.{IsAmong}
 use Rattle.hw_build.proofs.Parts.{has_each}
 use Rattle.task_fsm.specs.Machine.{StateForm, SetAt, CellAt, TestAt, ReadAt, WriteAt, PeekAt, EotAt, OpenAt, CloseAt, LoadAt, StoreAt, ClearAt, EndAt, TrapAt}
 use Rattle.task_fsm.specs.Run.{step, is_last, clear_step}
-use Rattle.hw_task_lines.specs.declared.nets.Choice.TheVariants.{ToState, ToEnd}
-use Rattle.hw_task_lines.specs.declared.nets.Net.TheVariants.{Ended, At}
-use Rattle.hw_task_lines.specs.Nets.{name}
-use Rattle.hw_task_lines.specs.Shape.{Shape, state_count, state_bits, form_at}
-use Rattle.hw_task_lines.specs.Effects.{endings, effect, entries}
-use Rattle.hw_task_lines.specs.Texts.{any, pick, root, variable_choices, array_choices, register_block, task_elements}
-use Rattle.hw_task_lines.specs.After.{ends_by}
-use Rattle.hw_task_lines.proofs.Members.{all, held_in, choices_in, blocks_in, among_left, among_right}
-use Rattle.hw_task_lines.proofs.Decodes.{at_here}
+use Rattle.hw_lines.specs.declared.nets.Choice.TheVariants.{ToState, ToEnd}
+use Rattle.hw_lines.specs.declared.nets.Net.TheVariants.{Ended, At}
+use Rattle.hw_lines.specs.Nets.{name}
+use Rattle.hw_lines.specs.Shape.{Shape, state_count, state_bits, form_at}
+use Rattle.hw_lines.specs.Effects.{endings, effect, entries}
+use Rattle.hw_lines.specs.Texts.{any, pick, root, variable_choices, array_choices, register_block, task_elements}
+use Rattle.hw_lines.specs.After.{ends_by}
+use Rattle.hw_lines.proofs.Members.{all, held_in, choices_in, blocks_in, among_left, among_right}
+use Rattle.hw_lines.proofs.Decodes.{at_here}
 use Rattle.hw_task_laws.proofs.acts.Moves.{only_set, none_clear}
 use Rattle.hw_task_laws.specs.steps.Steps.{IsAt}
 use Rattle.hw_task_laws.specs.effects.Held.{EndIsHeld}

@@ -13,17 +13,17 @@ use Rattle.task_fsm.specs.Machine.{Expression, StateForm, SetAt, CellAt, TestAt,
 use Rattle.task_fsm.specs.MachineKinds.{IsOfKind, IsTypedState}
 use Rattle.task_fsm.specs.Ranges.{IsInRange}
 use Rattle.task_fsm.specs.Run.{value, step, put_into, is_last, clear_step}
-use Rattle.hw_task_lines.specs.declared.nets.Choice.TheVariants.{Asks, Saves, Data}
-use Rattle.hw_task_lines.specs.declared.nets.Net.TheVariants.{Ack, Addr, Wdata, We, At}
-use Rattle.hw_task_lines.specs.Nets.{name}
-use Rattle.hw_task_lines.specs.Shape.{Shape, kinds_in, memory_kind, form_at}
-use Rattle.hw_task_lines.specs.States.{index_of, value_of, index_wires, value_wires}
-use Rattle.hw_task_lines.specs.Effects.{entry, at, askings, savings}
-use Rattle.hw_task_lines.specs.Texts.{any, pick, result, task_elements}
-use Rattle.hw_task_lines.specs.After.{held_after}
-use Rattle.hw_task_lines.specs.Runs.{number_at, bit_at, stored_in, all_stored, stores_to, by_act}
-use Rattle.hw_task_lines.proofs.Members.{all, among_left, among_right}
-use Rattle.hw_task_lines.proofs.Decodes.{at_here}
+use Rattle.hw_lines.specs.declared.nets.Choice.TheVariants.{Asks, Saves, Data}
+use Rattle.hw_lines.specs.declared.nets.Net.TheVariants.{Ack, Addr, Wdata, We, At}
+use Rattle.hw_lines.specs.Nets.{name}
+use Rattle.hw_lines.specs.Shape.{Shape, kinds_in, memory_kind, form_at}
+use Rattle.hw_lines.specs.States.{index_of, value_of, index_wires, value_wires}
+use Rattle.hw_lines.specs.Effects.{entry, at, askings, savings}
+use Rattle.hw_lines.specs.Texts.{any, pick, result, task_elements}
+use Rattle.hw_lines.specs.After.{held_after}
+use Rattle.hw_lines.specs.Runs.{number_at, bit_at, stored_in, all_stored, stores_to, by_act}
+use Rattle.hw_lines.proofs.Members.{all, among_left, among_right}
+use Rattle.hw_lines.proofs.Decodes.{at_here}
 use Rattle.hw_task_laws.proofs.acts.Answered.{value_shown, index_shown}
 use Rattle.hw_task_laws.specs.steps.Steps.{ranges_in, allowed, found_by, IsAt}
 use Rattle.hw_task_laws.proofs.steps.Allowed.{bit_back}

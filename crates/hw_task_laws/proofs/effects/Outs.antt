@@ -12,15 +12,15 @@ use Rattle.hw_build.specs.Scope.{each}
 use Rattle.hw_build.specs.Choices.{Entry, choice}
 use Rattle.hw_build.specs.Fits.{IsAmong}
 use Rattle.hw_build.proofs.Parts.{has_each}
-use Rattle.hw_task_lines.specs.declared.nets.Choice.{Choice}
-use Rattle.hw_task_lines.specs.declared.nets.Net.{Net}
-use Rattle.hw_task_lines.specs.declared.nets.Net.TheVariants.{State as StateNet, Ended, Done}
-use Rattle.hw_task_lines.specs.Nets.{name, front}
-use Rattle.hw_task_lines.specs.Shape.{Shape, state_count}
-use Rattle.hw_task_lines.specs.States.{net}
-use Rattle.hw_task_lines.specs.Effects.{entry, at, effect, entries}
-use Rattle.hw_task_lines.specs.Texts.{any, pick, result_of, result, root, stream_outputs, memory_outputs, task_elements}
-use Rattle.hw_task_lines.proofs.Members.{all, outputs_in, among_left, among_right, among_each}
+use Rattle.hw_lines.specs.declared.nets.Choice.{Choice}
+use Rattle.hw_lines.specs.declared.nets.Net.{Net}
+use Rattle.hw_lines.specs.declared.nets.Net.TheVariants.{State as StateNet, Ended, Done}
+use Rattle.hw_lines.specs.Nets.{name, front}
+use Rattle.hw_lines.specs.Shape.{Shape, state_count}
+use Rattle.hw_lines.specs.States.{net}
+use Rattle.hw_lines.specs.Effects.{entry, at, effect, entries}
+use Rattle.hw_lines.specs.Texts.{any, pick, result_of, result, root, stream_outputs, memory_outputs, task_elements}
+use Rattle.hw_lines.proofs.Members.{all, outputs_in, among_left, among_right, among_each}
 use Rattle.hw_task_laws.proofs.acts.Moves.{only_picked, only_set, only_clear, none_clear}
 
 pub and_true : (b : Bool) → b ≡ (b && true)

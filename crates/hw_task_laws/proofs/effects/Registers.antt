@@ -32,19 +32,19 @@ use Rattle.task_fsm.specs.Machine.{Expression, StateForm, SetAt, CellAt, TestAt,
 use Rattle.task_fsm.specs.MachineKinds.{IsTypedState}
 use Rattle.task_fsm.specs.Ranges.{IsInRange}
 use Rattle.task_fsm.specs.Run.{value, step, put_into, is_last, clear_step}
-use Rattle.hw_task_lines.specs.declared.nets.Choice.TheVariants.{ToState, ToEnd, Set, In}
-use Rattle.hw_task_lines.specs.declared.nets.Net.{Net}
-use Rattle.hw_task_lines.specs.declared.nets.Net.TheVariants.{Has as HasNet, Dout, Datum as DatumNet, Ack, Rdata, Variable, At, Go, Value as ValueNet}
-use Rattle.hw_task_lines.specs.Nets.{name, value_front}
-use Rattle.hw_task_lines.specs.Shape.{Shape, kinds_in, array_cells, stream_kind, register_kind, state_count, state_bits, form_at}
-use Rattle.hw_task_lines.specs.States.{net, value_of, value_wires, is_some_register, into_of, counting, more_wires}
-use Rattle.hw_task_lines.specs.Effects.{entry, at, into_register, datum_of, eot_of, sets, effect, entries}
-use Rattle.hw_task_lines.specs.Texts.{any, pick, root, first_value, variable_choices, array_choices, task_elements}
-use Rattle.hw_task_lines.specs.After.{held_after}
-use Rattle.hw_task_lines.specs.Machine.{offered}
-use Rattle.hw_task_lines.specs.Runs.{number_at, bit_at}
-use Rattle.hw_task_lines.proofs.Members.{all, choices_in, more_in, among_left, among_right, among_each}
-use Rattle.hw_task_lines.proofs.Decodes.{at_here}
+use Rattle.hw_lines.specs.declared.nets.Choice.TheVariants.{ToState, ToEnd, Set, In}
+use Rattle.hw_lines.specs.declared.nets.Net.{Net}
+use Rattle.hw_lines.specs.declared.nets.Net.TheVariants.{Has as HasNet, Dout, Datum as DatumNet, Ack, Rdata, Variable, At, Go, Value as ValueNet}
+use Rattle.hw_lines.specs.Nets.{name, value_front}
+use Rattle.hw_lines.specs.Shape.{Shape, kinds_in, array_cells, stream_kind, register_kind, state_count, state_bits, form_at}
+use Rattle.hw_lines.specs.States.{net, value_of, value_wires, is_some_register, into_of, counting, more_wires}
+use Rattle.hw_lines.specs.Effects.{entry, at, into_register, datum_of, eot_of, sets, effect, entries}
+use Rattle.hw_lines.specs.Texts.{any, pick, root, first_value, variable_choices, array_choices, task_elements}
+use Rattle.hw_lines.specs.After.{held_after}
+use Rattle.hw_lines.specs.Machine.{offered}
+use Rattle.hw_lines.specs.Runs.{number_at, bit_at}
+use Rattle.hw_lines.proofs.Members.{all, choices_in, more_in, among_left, among_right, among_each}
+use Rattle.hw_lines.proofs.Decodes.{at_here}
 use Rattle.hw_task_laws.proofs.wires.Shown.{by_one, some_bits}
 use Rattle.hw_task_laws.specs.acts.Moves.{set_next}
 use Rattle.hw_task_laws.proofs.acts.Answered.{value_shown}

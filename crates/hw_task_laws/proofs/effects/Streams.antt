@@ -22,17 +22,17 @@ use Rattle.task_fsm.specs.Machine.{Expression, StateForm, SetAt, CellAt, TestAt,
 use Rattle.task_fsm.specs.MachineKinds.{IsTypedState}
 use Rattle.task_fsm.specs.Run.{value, step, is_last, clear_step}
 use Rattle.task_fsm.proofs.Steps.{value_fits}
-use Rattle.hw_task_lines.specs.declared.nets.Choice.TheVariants.{Puts, Token as TokenChoice, Takes}
-use Rattle.hw_task_lines.specs.declared.nets.Net.TheVariants.{Taken, Din, Wr, Rdy, Datum as DatumNet, Eot as EotNet, At, Go, Packed}
-use Rattle.hw_task_lines.specs.Nets.{name}
-use Rattle.hw_task_lines.specs.Shape.{Shape, kinds_in, stream_kind, form_at}
-use Rattle.hw_task_lines.specs.States.{net, value_of, value_wires, more_wires}
-use Rattle.hw_task_lines.specs.Effects.{entry, at, end_token, tokens, takings}
-use Rattle.hw_task_lines.specs.Texts.{by_end, any, pick, result, written, taken, task_elements}
-use Rattle.hw_task_lines.specs.Machine.{takes_of, puts_of, put_in}
-use Rattle.hw_task_lines.specs.Runs.{number_at, bit_at, token_bits, streams_at}
-use Rattle.hw_task_lines.proofs.Members.{all, more_in, among_left, among_right}
-use Rattle.hw_task_lines.proofs.Decodes.{at_here}
+use Rattle.hw_lines.specs.declared.nets.Choice.TheVariants.{Puts, Token as TokenChoice, Takes}
+use Rattle.hw_lines.specs.declared.nets.Net.TheVariants.{Taken, Din, Wr, Rdy, Datum as DatumNet, Eot as EotNet, At, Go, Packed}
+use Rattle.hw_lines.specs.Nets.{name}
+use Rattle.hw_lines.specs.Shape.{Shape, kinds_in, stream_kind, form_at}
+use Rattle.hw_lines.specs.States.{net, value_of, value_wires, more_wires}
+use Rattle.hw_lines.specs.Effects.{entry, at, end_token, tokens, takings}
+use Rattle.hw_lines.specs.Texts.{by_end, any, pick, result, written, taken, task_elements}
+use Rattle.hw_lines.specs.Machine.{takes_of, puts_of, put_in}
+use Rattle.hw_lines.specs.Runs.{number_at, bit_at, token_bits, streams_at}
+use Rattle.hw_lines.proofs.Members.{all, more_in, among_left, among_right}
+use Rattle.hw_lines.proofs.Decodes.{at_here}
 use Rattle.hw_task_laws.proofs.acts.Answered.{value_shown}
 use Rattle.hw_task_laws.specs.steps.Steps.{ranges_in, allowed, IsAt}
 use Rattle.hw_task_laws.proofs.steps.Allowed.{bit_back, stream_there, side_is, go_is}

@@ -24,11 +24,11 @@ use Rattle.task_fsm.specs.MachineKinds.{IsFixed, IsDivisor, IsOfKind, HoldsValue
 use Rattle.task_fsm.specs.Ranges.{Ranges, NamesWithin}
 use Rattle.task_fsm.specs.Run.{value}
 use Rattle.task_fsm.proofs.Steps.{value_fits}
-use Rattle.hw_task_lines.specs.declared.nets.Net.TheVariants.{Variable, Answer}
-use Rattle.hw_task_lines.specs.Nets.{name}
-use Rattle.hw_task_lines.specs.Fixed.{fixed}
-use Rattle.hw_task_lines.specs.Drivers.{Driver, wires_of, last_of, one, conversion, operation}
-use Rattle.hw_task_lines.specs.Wires.{ArrayRead, read_count, reads_in, Compiled, constant, by_fixed, behind, converting, one_more, joining, choosing, compiled}
+use Rattle.hw_lines.specs.declared.nets.Net.TheVariants.{Variable, Answer}
+use Rattle.hw_lines.specs.Nets.{name}
+use Rattle.hw_lines.specs.Fixed.{fixed}
+use Rattle.hw_lines.specs.Drivers.{Driver, wires_of, last_of, one, conversion, operation}
+use Rattle.hw_lines.specs.Wires.{ArrayRead, read_count, reads_in, Compiled, constant, by_fixed, behind, converting, one_more, joining, choosing, compiled}
 use Rattle.hw_task_laws.specs.wires.Computes.{Numbered}
 use Rattle.hw_task_laws.proofs.wires.Fixes.{fixed_value, numbers_fixed}
 use Rattle.hw_task_laws.proofs.wires.Computed.{numbered_left, numbered_second}

@@ -24,7 +24,7 @@ use Rattle.hw_build.specs.Elements.{Element, Wire}
 use Rattle.hw_build.specs.Trees.{numbered}
 use Rattle.hw_build.specs.Scope.{IsNet, AtomIs, SomeAtom, OpIs, ValueIs, FitInOrder}
 use Rattle.hw_build.proofs.Parts.{parts_fit}
-use Rattle.hw_task_lines.specs.Drivers.{Driver, wires_of, wire, after, last_of, one, half, low_bits, sign_of, extended, resized, tested, conversion, turned, turned_atom, less, not_less, as_wide, shift_count, shifted_right, absolute, is_negative, divided, operation}
+use Rattle.hw_lines.specs.Drivers.{Driver, wires_of, wire, after, last_of, one, half, low_bits, sign_of, extended, resized, tested, conversion, turned, turned_atom, less, not_less, as_wide, shift_count, shifted_right, absolute, is_negative, divided, operation}
 use Rattle.hw_task_laws.specs.wires.Shows.{IsWhole}
 use Rattle.hw_task_laws.proofs.wires.Shown.{two_halves, some_bits}
 use Rattle.hw_task_laws.proofs.wires.Operated.{wires_behind, last_behind}

@@ -22,17 +22,17 @@ use Rattle.hw_build.proofs.Picks.{any_fits, pick_fits}
 use Rattle.task_fsm.specs.Machine.{Expression, Number, Reg, CellOf, Converted, Applied, Flipped, Inverse, Both, Either, Chosen, Operation, StateForm, SetAt, CellAt, TestAt, WriteAt, LoadAt, StoreAt}
 use Rattle.task_fsm.specs.MachineKinds.{IsOfKind, IsTypedState}
 use Rattle.task_fsm.specs.Ranges.{Ranges, NamesWithin, IsInRange}
-use Rattle.hw_task_lines.specs.declared.nets.Choice.TheVariants.{Reads, Spot}
-use Rattle.hw_task_lines.specs.declared.nets.Net.{Net}
-use Rattle.hw_task_lines.specs.declared.nets.Net.TheVariants.{State as StateNet, Ended, Variable, Array, At, Answer, Raw, ReadInside, ReadOn}
-use Rattle.hw_task_lines.specs.Nets.{name, front, read_front}
-use Rattle.hw_task_lines.specs.Shape.{Shape, kinds_in, array_kind, array_cells, register_kind, index_bits, state_count, state_bits, form_at}
-use Rattle.hw_task_lines.specs.Drivers.{low_bits}
-use Rattle.hw_task_lines.specs.Wires.{ArrayRead, read_count, reads_in}
-use Rattle.hw_task_lines.specs.States.{net, nothing, index_of, value_of, value_kind, reads_at, decoded}
-use Rattle.hw_task_lines.specs.Effects.{entry, at, effect, entries, spot_of}
-use Rattle.hw_task_lines.specs.Texts.{variable, array, held, read_index, asked_of, asked, answered, unless_none, reads_of, read_numbers, any, pick}
-use Rattle.hw_task_lines.proofs.Decodes.{most_of, got_low}
+use Rattle.hw_lines.specs.declared.nets.Choice.TheVariants.{Reads, Spot}
+use Rattle.hw_lines.specs.declared.nets.Net.{Net}
+use Rattle.hw_lines.specs.declared.nets.Net.TheVariants.{State as StateNet, Ended, Variable, Array, At, Answer, Raw, ReadInside, ReadOn}
+use Rattle.hw_lines.specs.Nets.{name, front, read_front}
+use Rattle.hw_lines.specs.Shape.{Shape, kinds_in, array_kind, array_cells, register_kind, index_bits, state_count, state_bits, form_at}
+use Rattle.hw_lines.specs.Drivers.{low_bits}
+use Rattle.hw_lines.specs.Wires.{ArrayRead, read_count, reads_in}
+use Rattle.hw_lines.specs.States.{net, nothing, index_of, value_of, value_kind, reads_at, decoded}
+use Rattle.hw_lines.specs.Effects.{entry, at, effect, entries, spot_of}
+use Rattle.hw_lines.specs.Texts.{variable, array, held, read_index, asked_of, asked, answered, unless_none, reads_of, read_numbers, any, pick}
+use Rattle.hw_lines.proofs.Decodes.{most_of, got_low}
 use Rattle.hw_task_laws.specs.wires.Computes.{Numbered}
 use Rattle.hw_task_laws.proofs.wires.Computed.{reads_counted, numbered_left, numbered_second, numbered_join}
 use Rattle.hw_task_laws.proofs.fit.Scopes.{left_among, both_among, wire_net, register_net, memory_there, atom_in, fit_behind, kind_wide, any_root, pick_root}

@@ -16,16 +16,16 @@ use Rattle.hw_build.proofs.Parts.{has_each, of_each}
 use Rattle.task_fsm.specs.Machine.{StateForm, SetAt, CellAt, ReadAt, WriteAt, PeekAt, EotAt, OpenAt, CloseAt, LoadAt, StoreAt, ClearAt, EndAt, TrapAt}
 use Rattle.task_fsm.specs.MachineKinds.{IsOfKind, IsTypedState}
 use Rattle.task_fsm.specs.Ranges.{IsInRange}
-use Rattle.hw_task_lines.specs.declared.nets.Net.{Net}
-use Rattle.hw_task_lines.specs.declared.nets.Net.TheVariants.{Variable, Rdata, At, Go, Into, Packed, Next, Value as ValueNet}
-use Rattle.hw_task_lines.specs.declared.nets.Choice.{Choice}
-use Rattle.hw_task_lines.specs.declared.nets.Choice.TheVariants.{ToState, ToEnd, Set, Place, Content, Token, Takes, Asks, Data}
-use Rattle.hw_task_lines.specs.Nets.{name, value_front}
-use Rattle.hw_task_lines.specs.Shape.{Shape, kinds_in, array_kind, stream_kind, register_kind, memory_kind, index_bits, state_count, state_bits, form_at}
-use Rattle.hw_task_lines.specs.Drivers.{low_bits}
-use Rattle.hw_task_lines.specs.States.{net, index_of, value_kind, index_wires, value_wires, awaited, acts_late, go_of, next_wires, next_atom, more_wires, state_wires, decoded}
-use Rattle.hw_task_lines.specs.Effects.{entry, at, datum_of, eot_of, end_token, sets, places, contents, tokens, takings, askings, savings, endings, effect, entries}
-use Rattle.hw_task_lines.specs.Texts.{inputs, held, offered, reads_of, read_numbers}
+use Rattle.hw_lines.specs.declared.nets.Net.{Net}
+use Rattle.hw_lines.specs.declared.nets.Net.TheVariants.{Variable, Rdata, At, Go, Into, Packed, Next, Value as ValueNet}
+use Rattle.hw_lines.specs.declared.nets.Choice.{Choice}
+use Rattle.hw_lines.specs.declared.nets.Choice.TheVariants.{ToState, ToEnd, Set, Place, Content, Token, Takes, Asks, Data}
+use Rattle.hw_lines.specs.Nets.{name, value_front}
+use Rattle.hw_lines.specs.Shape.{Shape, kinds_in, array_kind, stream_kind, register_kind, memory_kind, index_bits, state_count, state_bits, form_at}
+use Rattle.hw_lines.specs.Drivers.{low_bits}
+use Rattle.hw_lines.specs.States.{net, index_of, value_kind, index_wires, value_wires, awaited, acts_late, go_of, next_wires, next_atom, more_wires, state_wires, decoded}
+use Rattle.hw_lines.specs.Effects.{entry, at, datum_of, eot_of, end_token, sets, places, contents, tokens, takings, askings, savings, endings, effect, entries}
+use Rattle.hw_lines.specs.Texts.{inputs, held, offered, reads_of, read_numbers}
 use Rattle.tapa_base.proofs.Lists.{has_left, has_right}
 use Rattle.hw_task_laws.specs.wires.Shows.{IsWhole}
 use Rattle.hw_task_laws.proofs.fit.Scopes.{both_among, wire_net, atom_in}

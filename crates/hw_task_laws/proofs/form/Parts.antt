@@ -17,14 +17,14 @@ use Rattle.hw_build.specs.Fits.{IsAmong}
 use Rattle.hw_build.proofs.Parts.{has_each, of_each, parts_fit, each_part_fits}
 use Rattle.hw_build.proofs.Picks.{any_fits, pick_fits}
 use Rattle.task_fsm.specs.Machine.{StateForm, CellAt, ClearAt}
-use Rattle.hw_task_lines.specs.declared.nets.Net.TheVariants.{State as StateNet, Ended, Done, Scalar, Variable, Wr, Addr, Wdata, Into}
-use Rattle.hw_task_lines.specs.declared.nets.Choice.{Choice}
-use Rattle.hw_task_lines.specs.declared.nets.Choice.TheVariants.{ToState, ToEnd, Set, In, Stores, Place, Content, Puts, Token, Takes, Asks, Saves, Data}
-use Rattle.hw_task_lines.specs.Nets.{name, front}
-use Rattle.hw_task_lines.specs.Shape.{Shape, array_kind, stream_kind, register_kind, memory_kind, index_bits, state_count, state_bits, form_at}
-use Rattle.hw_task_lines.specs.States.{net, value_wires}
-use Rattle.hw_task_lines.specs.Effects.{places, contents, effect, entries}
-use Rattle.hw_task_lines.specs.Texts.{by_end, writes, any, pick, result_of, result, root, variable_choices, array_choices, choices, written, taken, stream_outputs, memory_outputs, outputs, first_by, first_value, register_block, variable_block, array_block, blocks}
+use Rattle.hw_lines.specs.declared.nets.Net.TheVariants.{State as StateNet, Ended, Done, Scalar, Variable, Wr, Addr, Wdata, Into}
+use Rattle.hw_lines.specs.declared.nets.Choice.{Choice}
+use Rattle.hw_lines.specs.declared.nets.Choice.TheVariants.{ToState, ToEnd, Set, In, Stores, Place, Content, Puts, Token, Takes, Asks, Saves, Data}
+use Rattle.hw_lines.specs.Nets.{name, front}
+use Rattle.hw_lines.specs.Shape.{Shape, array_kind, stream_kind, register_kind, memory_kind, index_bits, state_count, state_bits, form_at}
+use Rattle.hw_lines.specs.States.{net, value_wires}
+use Rattle.hw_lines.specs.Effects.{places, contents, effect, entries}
+use Rattle.hw_lines.specs.Texts.{by_end, writes, any, pick, result_of, result, root, variable_choices, array_choices, choices, written, taken, stream_outputs, memory_outputs, outputs, first_by, first_value, register_block, variable_block, array_block, blocks}
 use Rattle.hw_task_laws.proofs.fit.Scopes.{right_among, input_net, register_there, fit_behind, kind_wide, token_wide, any_root, pick_root}
 use Rattle.hw_task_laws.proofs.form.Task.{IsTask, state_wide, index_wide}
 use Rattle.hw_task_laws.proofs.form.Asked.{EntryFits, of_at, unless_fits, ended_net, variable_has, array_in}

@@ -21,15 +21,15 @@ use Rattle.hw_build.proofs.Parts.{has_each, parts_fit, each_part_fits}
 use Rattle.task_fsm.specs.Machine.{StateForm, SetAt, CellAt, TestAt, ReadAt, WriteAt, PeekAt, EotAt, OpenAt, CloseAt, LoadAt, StoreAt, ClearAt, EndAt, TrapAt}
 use Rattle.task_fsm.specs.MachineKinds.{IsOfKind, IsTypedState}
 use Rattle.task_fsm.specs.Ranges.{IsInRange}
-use Rattle.hw_task_lines.specs.declared.nets.Net.{Net}
-use Rattle.hw_task_lines.specs.declared.nets.Net.TheVariants.{State as StateNet, Ended, Variable, Has as HasNet, Dout, Rdy, Ack, Rdata, Plain as PlainNet, Datum, Eot, At, Inside, Value as ValueNet}
-use Rattle.hw_task_lines.specs.Nets.{name, value_front, index_front}
-use Rattle.hw_task_lines.specs.Shape.{Shape, kinds_in, array_kind, array_cells, stream_kind, register_kind, memory_kind, state_count, state_bits, form_at}
-use Rattle.hw_task_lines.specs.Wires.{read_count, compiled}
-use Rattle.hw_task_lines.specs.States.{net, index_of, value_of, value_kind, index_wires, value_wires, awaited, acts_late, go_of, next_of, next_wires, into_of, counting, more_wires, state_wires, decoded}
-use Rattle.hw_task_lines.specs.Effects.{datum_of, eot_of}
-use Rattle.hw_task_lines.specs.Texts.{by_end, scalar_port, is_written, writes, stream_inputs, memory_inputs, inputs, variable, array, held, offers, offered, reads_of, read_numbers}
-use Rattle.hw_task_lines.proofs.Decodes.{got_low}
+use Rattle.hw_lines.specs.declared.nets.Net.{Net}
+use Rattle.hw_lines.specs.declared.nets.Net.TheVariants.{State as StateNet, Ended, Variable, Has as HasNet, Dout, Rdy, Ack, Rdata, Plain as PlainNet, Datum, Eot, At, Inside, Value as ValueNet}
+use Rattle.hw_lines.specs.Nets.{name, value_front, index_front}
+use Rattle.hw_lines.specs.Shape.{Shape, kinds_in, array_kind, array_cells, stream_kind, register_kind, memory_kind, state_count, state_bits, form_at}
+use Rattle.hw_lines.specs.Wires.{read_count, compiled}
+use Rattle.hw_lines.specs.States.{net, index_of, value_of, value_kind, index_wires, value_wires, awaited, acts_late, go_of, next_of, next_wires, into_of, counting, more_wires, state_wires, decoded}
+use Rattle.hw_lines.specs.Effects.{datum_of, eot_of}
+use Rattle.hw_lines.specs.Texts.{by_end, scalar_port, is_written, writes, stream_inputs, memory_inputs, inputs, variable, array, held, offers, offered, reads_of, read_numbers}
+use Rattle.hw_lines.proofs.Decodes.{got_low}
 use Rattle.hw_task_laws.proofs.wires.Shown.{some_bits}
 use Rattle.hw_task_laws.proofs.fit.Scopes.{left_among, both_among, wire_net, input_net, atom_in, fit_behind, kind_wide, token_wide}
 use Rattle.hw_task_laws.proofs.fit.Operators.{with_wire, wire_there}

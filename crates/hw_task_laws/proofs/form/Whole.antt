@@ -18,9 +18,9 @@ use Rattle.hw_build.specs.Fits.{IsAmong, FitAlone}
 use Rattle.hw_build.proofs.Fit.{alone_fits}
 use Rattle.hw_build.proofs.Form.{alone_has_form}
 use Rattle.hw_build.proofs.Parts.{parts_fit}
-use Rattle.hw_task_lines.specs.Shape.{Shape, shape_of, state_count}
-use Rattle.hw_task_lines.specs.States.{state_wires, decoded}
-use Rattle.hw_task_lines.specs.Texts.{inputs, held, offered, reads_of, read_numbers, choices, outputs, blocks, task_elements}
+use Rattle.hw_lines.specs.Shape.{Shape, shape_of, state_count}
+use Rattle.hw_lines.specs.States.{state_wires, decoded}
+use Rattle.hw_lines.specs.Texts.{inputs, held, offered, reads_of, read_numbers, choices, outputs, blocks, task_elements}
 use Rattle.hw_task_laws.specs.names.Countable.{IsCountable}
 use Rattle.hw_task_laws.proofs.names.Sorts.{names_once, nets_named, blocks_once}
 use Rattle.hw_task_laws.proofs.fit.Scopes.{left_among, right_among, among_more}

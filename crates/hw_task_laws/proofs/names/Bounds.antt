@@ -8,14 +8,14 @@ use Rattle.vlog_tree.specs.declared.tree.BinaryOp.TheVariants.{And, Less}
 use Rattle.vlog_tree.specs.declared.tree.Value.TheVariants.{Binary}
 use Rattle.hw_build.specs.Elements.{Element, Input, Wire, Register}
 use Rattle.hw_build.specs.Scope.{each}
-use Rattle.hw_task_lines.specs.declared.nets.Choice.TheVariants.{Reads}
-use Rattle.hw_task_lines.specs.declared.nets.Net.TheVariants.{State, Ended, Has, Dout, Rdy, At, ReadInside, ReadOn}
-use Rattle.hw_task_lines.specs.Nets.{name}
-use Rattle.hw_task_lines.specs.Shape.{Shape, stream_kind, array_cells, state_count, state_bits}
-use Rattle.hw_task_lines.specs.Wires.{ArrayRead}
-use Rattle.hw_task_lines.specs.States.{net, reads_at, state_wires, decoded}
-use Rattle.hw_task_lines.specs.Effects.{entries}
-use Rattle.hw_task_lines.specs.Texts.{by_end, scalar_port, writes, stream_inputs, memory_inputs, inputs, variable, array, held, offered, read_index, asked_of, asked, answered, unless_none, reads_of, most, read_numbers, choices, outputs, blocks}
+use Rattle.hw_lines.specs.declared.nets.Choice.TheVariants.{Reads}
+use Rattle.hw_lines.specs.declared.nets.Net.TheVariants.{State, Ended, Has, Dout, Rdy, At, ReadInside, ReadOn}
+use Rattle.hw_lines.specs.Nets.{name}
+use Rattle.hw_lines.specs.Shape.{Shape, stream_kind, array_cells, state_count, state_bits}
+use Rattle.hw_lines.specs.Wires.{ArrayRead}
+use Rattle.hw_lines.specs.States.{net, reads_at, state_wires, decoded}
+use Rattle.hw_lines.specs.Effects.{entries}
+use Rattle.hw_lines.specs.Texts.{by_end, scalar_port, writes, stream_inputs, memory_inputs, inputs, variable, array, held, offered, read_index, asked_of, asked, answered, unless_none, reads_of, most, read_numbers, choices, outputs, blocks}
 use Rattle.hw_task_laws.specs.names.Countable.{IsCountable}
 
 -- the numbers of parts are below 2 ^ 64

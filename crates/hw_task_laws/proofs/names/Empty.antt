@@ -14,16 +14,16 @@ use Rattle.hw_build.specs.Trees.{numbered}
 use Rattle.hw_build.specs.Scope.{each}
 use Rattle.hw_build.specs.Choices.{Entry, choice}
 use Rattle.task_fsm.specs.Machine.{StateForm, SetAt, CellAt, WriteAt, ClearAt, EndAt, TrapAt}
-use Rattle.hw_task_lines.specs.declared.nets.Choice.{Choice}
-use Rattle.hw_task_lines.specs.declared.nets.Net.{Net}
-use Rattle.hw_task_lines.specs.declared.nets.Choice.TheVariants.{ToState, ToEnd, Set, In, Stores, Place, Content, Reads, Spot}
-use Rattle.hw_task_lines.specs.declared.nets.Net.TheVariants.{State, Ended, Variable, Array, Raw, Answer}
-use Rattle.hw_task_lines.specs.Nets.{name, front, value_front, index_front, read_front}
-use Rattle.hw_task_lines.specs.Shape.{Shape, array_kind, array_cells, register_kind, index_bits, state_count, state_bits, form_at}
-use Rattle.hw_task_lines.specs.Wires.{ArrayRead, read_count}
-use Rattle.hw_task_lines.specs.States.{net, packed, index_of, value_of, value_kind, index_wires, value_wires, reads_at, awaited, acts_late, go_of, next_wires, into_of, counting, more_wires, state_wires, decoded}
-use Rattle.hw_task_lines.specs.Effects.{entries}
-use Rattle.hw_task_lines.specs.Texts.{by_end, writes, variable, array, held, offered, offers, read_index, asked_of, asked, answered, unless_none, reads_of, read_numbers, any, pick, variable_choices, array_choices, choices}
+use Rattle.hw_lines.specs.declared.nets.Choice.{Choice}
+use Rattle.hw_lines.specs.declared.nets.Net.{Net}
+use Rattle.hw_lines.specs.declared.nets.Choice.TheVariants.{ToState, ToEnd, Set, In, Stores, Place, Content, Reads, Spot}
+use Rattle.hw_lines.specs.declared.nets.Net.TheVariants.{State, Ended, Variable, Array, Raw, Answer}
+use Rattle.hw_lines.specs.Nets.{name, front, value_front, index_front, read_front}
+use Rattle.hw_lines.specs.Shape.{Shape, array_kind, array_cells, register_kind, index_bits, state_count, state_bits, form_at}
+use Rattle.hw_lines.specs.Wires.{ArrayRead, read_count}
+use Rattle.hw_lines.specs.States.{net, packed, index_of, value_of, value_kind, index_wires, value_wires, reads_at, awaited, acts_late, go_of, next_wires, into_of, counting, more_wires, state_wires, decoded}
+use Rattle.hw_lines.specs.Effects.{entries}
+use Rattle.hw_lines.specs.Texts.{by_end, writes, variable, array, held, offered, offers, read_index, asked_of, asked, answered, unless_none, reads_of, read_numbers, any, pick, variable_choices, array_choices, choices}
 use Rattle.hw_task_laws.proofs.names.Rows.{AreRow, compiled_row, any_row, pick_row}
 use Rattle.hw_task_laws.proofs.names.Bounds.{asked_end}
 

@@ -14,13 +14,13 @@ use Rattle.hw_build.specs.Scope.{each}
 use Rattle.hw_build.specs.Fits.{declared_names, AreOnce}
 use Rattle.hw_build.proofs.Parts.{of_each}
 use Rattle.hw_build.proofs.Once.{two_once, parts_once}
-use Rattle.hw_task_lines.specs.declared.nets.Choice.{Choice}
-use Rattle.hw_task_lines.specs.declared.nets.Net.{Net}
-use Rattle.hw_task_lines.specs.declared.nets.Choice.TheVariants.{ToState, ToEnd, Set, In, Stores, Place, Content, Reads, Spot, Puts, Token, Takes, Asks, Saves, Data}
-use Rattle.hw_task_lines.specs.declared.nets.Net.TheVariants.{State, Ended, Done, Scalar, Variable, Array, Has as HasNet, Dout, Taken, Din, Wr, Rdy, Ack, Rdata, Addr, Wdata, We, Plain, Datum, Eot, At, Go, Inside, Into, Packed, Next, Value, Index, ReadIndex, ReadInside, ReadOn, Raw, Answer, Node}
-use Rattle.hw_task_lines.specs.Nets.{numbers, name}
-use Rattle.hw_task_lines.specs.Names.{AreSmall}
-use Rattle.hw_task_lines.proofs.Names.{names_tell}
+use Rattle.hw_lines.specs.declared.nets.Choice.{Choice}
+use Rattle.hw_lines.specs.declared.nets.Net.{Net}
+use Rattle.hw_lines.specs.declared.nets.Choice.TheVariants.{ToState, ToEnd, Set, In, Stores, Place, Content, Reads, Spot, Puts, Token, Takes, Asks, Saves, Data}
+use Rattle.hw_lines.specs.declared.nets.Net.TheVariants.{State, Ended, Done, Scalar, Variable, Array, Has as HasNet, Dout, Taken, Din, Wr, Rdy, Ack, Rdata, Addr, Wdata, We, Plain, Datum, Eot, At, Go, Inside, Into, Packed, Next, Value, Index, ReadIndex, ReadInside, ReadOn, Raw, Answer, Node}
+use Rattle.hw_lines.specs.Nets.{numbers, name}
+use Rattle.hw_lines.specs.Names.{AreSmall}
+use Rattle.hw_lines.proofs.Names.{names_tell}
 use Rattle.hw_task_laws.proofs.names.Bounds.{left_short, right_short}
 use Rattle.hw_task_laws.proofs.names.Rows.{AreRow, row_names}
 

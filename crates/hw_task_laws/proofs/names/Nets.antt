@@ -12,19 +12,19 @@ use Rattle.hw_build.specs.Scope.{each}
 use Rattle.hw_build.specs.Choices.{Entry}
 use Rattle.hw_build.specs.Fits.{declared_names}
 use Rattle.task_fsm.specs.Machine.{StateForm, SetAt, CellAt, WriteAt, ClearAt, EndAt, TrapAt}
-use Rattle.hw_task_lines.specs.declared.nets.Choice.{Choice}
-use Rattle.hw_task_lines.specs.declared.nets.Net.{Net}
-use Rattle.hw_task_lines.specs.declared.nets.Choice.TheVariants.{ToState, ToEnd, Set, In, Stores, Place, Content, Reads, Spot, Puts, Token, Takes, Asks, Saves, Data}
-use Rattle.hw_task_lines.specs.declared.nets.Net.TheVariants.{State, Ended, Done, Scalar, Variable, Array, Has, Dout, Taken, Din, Wr, Rdy, Ack, Rdata, Addr, Wdata, We, Plain, Datum, Eot, At, Go, Inside, Into, Packed, Next, Value, Index, ReadIndex, ReadInside, ReadOn, Raw, Answer, Node}
-use Rattle.hw_task_lines.specs.Nets.{numbers, name, front, value_front, index_front, read_front}
-use Rattle.hw_task_lines.specs.Names.{AreSmall}
-use Rattle.hw_task_lines.specs.Shape.{Shape, array_kind, array_cells, register_kind, index_bits, stream_kind, memory_kind, state_count, state_bits, form_at}
-use Rattle.hw_task_lines.specs.Drivers.{Driver}
-use Rattle.hw_task_lines.specs.Wires.{ArrayRead, read_count, compiled}
-use Rattle.hw_task_lines.specs.States.{net, index_of, value_of, value_kind, index_wires, reads_at, awaited, acts_late, go_of, next_wires, into_of, counting, more_wires, state_wires, decoded}
-use Rattle.hw_task_lines.specs.Effects.{entries}
-use Rattle.hw_task_lines.specs.Texts.{by_end, scalar_port, writes, stream_inputs, memory_inputs, inputs, variable, array, held, offered, read_index, asked_of, asked, answered, unless_none, reads_of, read_numbers, any, pick, result, variable_choices, array_choices, choices, written, taken, stream_outputs, memory_outputs, outputs}
-use Rattle.hw_task_lines.proofs.Spelled.{nodes_numbered}
+use Rattle.hw_lines.specs.declared.nets.Choice.{Choice}
+use Rattle.hw_lines.specs.declared.nets.Net.{Net}
+use Rattle.hw_lines.specs.declared.nets.Choice.TheVariants.{ToState, ToEnd, Set, In, Stores, Place, Content, Reads, Spot, Puts, Token, Takes, Asks, Saves, Data}
+use Rattle.hw_lines.specs.declared.nets.Net.TheVariants.{State, Ended, Done, Scalar, Variable, Array, Has, Dout, Taken, Din, Wr, Rdy, Ack, Rdata, Addr, Wdata, We, Plain, Datum, Eot, At, Go, Inside, Into, Packed, Next, Value, Index, ReadIndex, ReadInside, ReadOn, Raw, Answer, Node}
+use Rattle.hw_lines.specs.Nets.{numbers, name, front, value_front, index_front, read_front}
+use Rattle.hw_lines.specs.Names.{AreSmall}
+use Rattle.hw_lines.specs.Shape.{Shape, array_kind, array_cells, register_kind, index_bits, stream_kind, memory_kind, state_count, state_bits, form_at}
+use Rattle.hw_lines.specs.Drivers.{Driver}
+use Rattle.hw_lines.specs.Wires.{ArrayRead, read_count, compiled}
+use Rattle.hw_lines.specs.States.{net, index_of, value_of, value_kind, index_wires, reads_at, awaited, acts_late, go_of, next_wires, into_of, counting, more_wires, state_wires, decoded}
+use Rattle.hw_lines.specs.Effects.{entries}
+use Rattle.hw_lines.specs.Texts.{by_end, scalar_port, writes, stream_inputs, memory_inputs, inputs, variable, array, held, offered, read_index, asked_of, asked, answered, unless_none, reads_of, read_numbers, any, pick, result, variable_choices, array_choices, choices, written, taken, stream_outputs, memory_outputs, outputs}
+use Rattle.hw_lines.proofs.Spelled.{nodes_numbered}
 use Rattle.hw_task_laws.proofs.names.Rows.{compiled_row, drivers_row, any_row, pick_row}
 use Rattle.hw_task_laws.proofs.names.Bounds.{IsBounded}
 use Rattle.hw_task_laws.proofs.names.Named.{part_of, inner_of, AreNumbered, In_part, Names, is_sorted, names_both, names_each, names_none, names_one, names_more, names_row}

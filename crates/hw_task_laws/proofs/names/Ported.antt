@@ -9,13 +9,13 @@ use Rattle.vlog_tree.specs.declared.tree.Value.TheVariants.{Plain}
 use Rattle.hw_build.specs.Elements.{Element, Output, element_ports, empty}
 use Rattle.hw_build.proofs.Tables.{ports_of_all}
 use Rattle.hw_build.specs.Scope.{each}
-use Rattle.hw_task_lines.specs.declared.nets.Choice.TheVariants.{Puts, Token, Takes, Asks, Saves, Data, Stores}
-use Rattle.hw_task_lines.specs.declared.nets.Net.TheVariants.{Ended, Done}
-use Rattle.hw_task_lines.specs.Nets.{name}
-use Rattle.hw_task_lines.specs.Shape.{Shape, stream_kind, memory_kind, state_count}
-use Rattle.hw_task_lines.specs.States.{net, state_wires, decoded}
-use Rattle.hw_task_lines.specs.Texts.{by_end, scalar_port, writes, stream_inputs, memory_inputs, inputs, held, offered, reads_of, read_numbers, any, pick, choices, written, taken, stream_outputs, memory_outputs, outputs, variable_block, array_block, blocks, task_elements}
-use Rattle.hw_task_lines.specs.Effects.{entries}
+use Rattle.hw_lines.specs.declared.nets.Choice.TheVariants.{Puts, Token, Takes, Asks, Saves, Data, Stores}
+use Rattle.hw_lines.specs.declared.nets.Net.TheVariants.{Ended, Done}
+use Rattle.hw_lines.specs.Nets.{name}
+use Rattle.hw_lines.specs.Shape.{Shape, stream_kind, memory_kind, state_count}
+use Rattle.hw_lines.specs.States.{net, state_wires, decoded}
+use Rattle.hw_lines.specs.Texts.{by_end, scalar_port, writes, stream_inputs, memory_inputs, inputs, held, offered, reads_of, read_numbers, any, pick, choices, written, taken, stream_outputs, memory_outputs, outputs, variable_block, array_block, blocks, task_elements}
+use Rattle.hw_lines.specs.Effects.{entries}
 use Rattle.hw_task_laws.specs.names.Ports.{outward, scalar_input, stream_in, stream_out, memory_in, memory_out, task_inputs, task_outputs, ModulesHavePorts, PortsAreThese}
 use Rattle.hw_task_laws.proofs.names.Named.{flat_each}
 use Rattle.hw_task_laws.proofs.names.Empty.{GiveNone, both_none, each_none, unless_gives, any_none, pick_none, decodes_none, offers_none, reads_none, states_none, choices_none, held_none}

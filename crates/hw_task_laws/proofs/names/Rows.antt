@@ -18,9 +18,9 @@ use Rattle.hw_build.specs.Trees.{numbered, tree_node, tree_nodes}
 use Rattle.hw_build.specs.Choices.{Entry, any_leaves, any_elements, pick_leaves, pick_elements}
 use Rattle.hw_build.specs.Fits.{declared_names}
 use Rattle.task_fsm.specs.Machine.{Expression, Number, Reg, CellOf, Converted, Applied, Flipped, Inverse, Both, Either, Chosen, Operation}
-use Rattle.hw_task_lines.specs.Fixed.{fixed}
-use Rattle.hw_task_lines.specs.Drivers.{Driver, wires_of, one, conversion, operation}
-use Rattle.hw_task_lines.specs.Wires.{read_count, Compiled, by_fixed, behind, converting, one_more, joining, choosing, compiled}
+use Rattle.hw_lines.specs.Fixed.{fixed}
+use Rattle.hw_lines.specs.Drivers.{Driver, wires_of, one, conversion, operation}
+use Rattle.hw_lines.specs.Wires.{read_count, Compiled, by_fixed, behind, converting, one_more, joining, choosing, compiled}
 
 abbrev pub IsWire : Name → Element → Type 0
 IsWire x e = (w : ℕ) × (v : Value) × (e ≡ Wire w x v)

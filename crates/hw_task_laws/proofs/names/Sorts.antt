@@ -15,18 +15,18 @@ use Rattle.hw_build.specs.Scope.{each}
 use Rattle.hw_build.specs.Choices.{Entry}
 use Rattle.hw_build.specs.Fits.{declared_names, targets, AreOnce}
 use Rattle.hw_build.proofs.Once.{two_once}
-use Rattle.hw_task_lines.specs.declared.nets.Choice.{Choice}
-use Rattle.hw_task_lines.specs.declared.nets.Net.{Net}
-use Rattle.hw_task_lines.specs.declared.nets.Choice.TheVariants.{ToState, ToEnd, Set, In, Stores, Place, Content, Reads, Spot, Puts, Token, Takes, Asks, Saves, Data}
-use Rattle.hw_task_lines.specs.declared.nets.Net.TheVariants.{State, Ended, Done, Variable, Array, Node}
-use Rattle.hw_task_lines.specs.Nets.{word, choice_word, choice_numbers, numbers, name}
-use Rattle.hw_task_lines.specs.Shape.{Shape, state_count, stream_kind, memory_kind}
-use Rattle.hw_task_lines.specs.States.{net, state_wires, decoded}
-use Rattle.hw_task_lines.specs.Effects.{entries}
-use Rattle.hw_task_lines.specs.Texts.{scalar_port, writes, stream_inputs, memory_inputs, inputs, held, offered, reads_of, read_numbers, any, pick, choices, written, taken, stream_outputs, memory_outputs, outputs, register_block, variable_block, array_block, unless_none, blocks, task_elements}
+use Rattle.hw_lines.specs.declared.nets.Choice.{Choice}
+use Rattle.hw_lines.specs.declared.nets.Net.{Net}
+use Rattle.hw_lines.specs.declared.nets.Choice.TheVariants.{ToState, ToEnd, Set, In, Stores, Place, Content, Reads, Spot, Puts, Token, Takes, Asks, Saves, Data}
+use Rattle.hw_lines.specs.declared.nets.Net.TheVariants.{State, Ended, Done, Variable, Array, Node}
+use Rattle.hw_lines.specs.Nets.{word, choice_word, choice_numbers, numbers, name}
+use Rattle.hw_lines.specs.Shape.{Shape, state_count, stream_kind, memory_kind}
+use Rattle.hw_lines.specs.States.{net, state_wires, decoded}
+use Rattle.hw_lines.specs.Effects.{entries}
+use Rattle.hw_lines.specs.Texts.{scalar_port, writes, stream_inputs, memory_inputs, inputs, held, offered, reads_of, read_numbers, any, pick, choices, written, taken, stream_outputs, memory_outputs, outputs, register_block, variable_block, array_block, unless_none, blocks, task_elements}
 use Rattle.tapa_base.specs.Kinds.{bits_of}
-use Rattle.hw_task_lines.proofs.Names.{tail_of, spelled_tail}
-use Rattle.hw_task_lines.proofs.Spelled.{nets_named as net_is_named}
+use Rattle.hw_lines.proofs.Names.{tail_of, spelled_tail}
+use Rattle.hw_lines.proofs.Spelled.{nets_named as net_is_named}
 use Rattle.hw_task_laws.specs.names.Countable.{IsCountable, NamesAreOnce, NetsAreNamed, BlocksAreOnce}
 use Rattle.hw_task_laws.proofs.names.Bounds.{IsBounded, bounds, right_short}
 use Rattle.hw_task_laws.proofs.names.Named.{part_of, Named, In_part, Names, single, names_both, names_each, names_none, names_one, names_more}

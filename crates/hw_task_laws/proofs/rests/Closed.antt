@@ -19,18 +19,18 @@ use Rattle.hw_build.specs.Scope.{each}
 use Rattle.hw_build.specs.Choices.{Entry, choice}
 use Rattle.hw_build.proofs.Parts.{of_each}
 use Rattle.task_fsm.specs.Machine.{StateForm, CellAt, TestAt, ReadAt, WriteAt, PeekAt, EotAt, OpenAt, CloseAt, LoadAt, StoreAt, ClearAt}
-use Rattle.hw_task_lines.specs.declared.nets.Choice.{Choice}
-use Rattle.hw_task_lines.specs.declared.nets.Choice.TheVariants.{ToState, ToEnd, Set, In, Stores, Place, Content, Reads, Spot, Puts, Token, Takes, Asks, Saves, Data}
-use Rattle.hw_task_lines.specs.declared.nets.Net.{Net}
-use Rattle.hw_task_lines.specs.declared.nets.Net.TheVariants.{State, Ended, Done, Scalar, Variable, Array, Has as HasNet, Dout, Taken, Din, Wr, Rdy, Ack, Rdata, Addr, Wdata, We, Plain as PlainNet, Datum, Eot, At, Go, Inside, Into, Packed, Next, Value as ValueNet, Index, ReadIndex, ReadInside, ReadOn, Raw, Answer, Node}
-use Rattle.hw_task_lines.specs.Nets.{name, choice_word, front, value_front, index_front, read_front}
-use Rattle.hw_task_lines.specs.Shape.{Shape, array_kind, array_cells, stream_kind, register_kind, memory_kind, index_bits, state_count, state_bits, form_at}
-use Rattle.hw_task_lines.specs.Drivers.{Driver, low_bits}
-use Rattle.hw_task_lines.specs.Wires.{ArrayRead, read_count}
-use Rattle.hw_task_lines.specs.States.{net, number_of, index_of, value_of, value_kind, index_wires, value_wires, reads_at, awaited, acts_late, go_of, next_of, next_wires, into_of, counting, more_wires, state_wires, decoded}
-use Rattle.hw_task_lines.specs.Effects.{entry, end_token, eot_of, spot_of, tokens, askings, savings, effect, entries}
-use Rattle.hw_task_lines.specs.Texts.{scalar_port, writes, stream_inputs, memory_inputs, inputs, variable, array, held, offers, offered, read_index, asked_of, asked, answered, unless_none, reads_of, read_numbers, any, pick, result_of, result, root, variable_choices, array_choices, choices, written, taken, stream_outputs, memory_outputs, outputs, variable_block, array_block, blocks, task_elements}
-use Rattle.hw_task_lines.proofs.Spelled.{nodes_numbered}
+use Rattle.hw_lines.specs.declared.nets.Choice.{Choice}
+use Rattle.hw_lines.specs.declared.nets.Choice.TheVariants.{ToState, ToEnd, Set, In, Stores, Place, Content, Reads, Spot, Puts, Token, Takes, Asks, Saves, Data}
+use Rattle.hw_lines.specs.declared.nets.Net.{Net}
+use Rattle.hw_lines.specs.declared.nets.Net.TheVariants.{State, Ended, Done, Scalar, Variable, Array, Has as HasNet, Dout, Taken, Din, Wr, Rdy, Ack, Rdata, Addr, Wdata, We, Plain as PlainNet, Datum, Eot, At, Go, Inside, Into, Packed, Next, Value as ValueNet, Index, ReadIndex, ReadInside, ReadOn, Raw, Answer, Node}
+use Rattle.hw_lines.specs.Nets.{name, choice_word, front, value_front, index_front, read_front}
+use Rattle.hw_lines.specs.Shape.{Shape, array_kind, array_cells, stream_kind, register_kind, memory_kind, index_bits, state_count, state_bits, form_at}
+use Rattle.hw_lines.specs.Drivers.{Driver, low_bits}
+use Rattle.hw_lines.specs.Wires.{ArrayRead, read_count}
+use Rattle.hw_lines.specs.States.{net, number_of, index_of, value_of, value_kind, index_wires, value_wires, reads_at, awaited, acts_late, go_of, next_of, next_wires, into_of, counting, more_wires, state_wires, decoded}
+use Rattle.hw_lines.specs.Effects.{entry, end_token, eot_of, spot_of, tokens, askings, savings, effect, entries}
+use Rattle.hw_lines.specs.Texts.{scalar_port, writes, stream_inputs, memory_inputs, inputs, variable, array, held, offers, offered, read_index, asked_of, asked, answered, unless_none, reads_of, read_numbers, any, pick, result_of, result, root, variable_choices, array_choices, choices, written, taken, stream_outputs, memory_outputs, outputs, variable_block, array_block, blocks, task_elements}
+use Rattle.hw_lines.proofs.Spelled.{nodes_numbered}
 use Rattle.hw_task_laws.proofs.names.Rows.{any_row, pick_row}
 use Rattle.hw_task_laws.proofs.names.Bounds.{asked_end}
 use Rattle.hw_task_laws.proofs.form.Asked.{of_at}

@@ -17,13 +17,13 @@ use Rattle.hw_build.specs.Order.{is_closed_at}
 use Rattle.hw_build.proofs.Forms.{yes_and, all_append}
 use Rattle.hw_build.specs.Scope.{each}
 use Rattle.hw_build.specs.Choices.{Entry}
-use Rattle.hw_task_lines.specs.declared.nets.Choice.{Choice}
-use Rattle.hw_task_lines.specs.declared.nets.Net.{Net}
-use Rattle.hw_task_lines.specs.declared.nets.Choice.TheVariants.{ToState, ToEnd, Set, In, Stores, Place, Content, Reads, Spot, Puts, Token, Takes, Asks, Saves, Data}
-use Rattle.hw_task_lines.specs.declared.nets.Net.TheVariants.{State, Node}
-use Rattle.hw_task_lines.specs.Nets.{word, choice_word, choice_numbers, numbers, name}
-use Rattle.hw_task_lines.specs.Texts.{by_end, unless_none}
-use Rattle.hw_task_lines.proofs.Names.{tail_of, spelled_tail}
+use Rattle.hw_lines.specs.declared.nets.Choice.{Choice}
+use Rattle.hw_lines.specs.declared.nets.Net.{Net}
+use Rattle.hw_lines.specs.declared.nets.Choice.TheVariants.{ToState, ToEnd, Set, In, Stores, Place, Content, Reads, Spot, Puts, Token, Takes, Asks, Saves, Data}
+use Rattle.hw_lines.specs.declared.nets.Net.TheVariants.{State, Node}
+use Rattle.hw_lines.specs.Nets.{word, choice_word, choice_numbers, numbers, name}
+use Rattle.hw_lines.specs.Texts.{by_end, unless_none}
+use Rattle.hw_lines.proofs.Names.{tail_of, spelled_tail}
 use Rattle.hw_task_laws.proofs.names.Rows.{AreRow}
 
 -- the bytes before the first mark

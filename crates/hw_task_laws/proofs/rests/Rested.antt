@@ -13,11 +13,11 @@ use Rattle.hw_build.proofs.Tables.{is_known, known}
 use Rattle.hw_build.proofs.Free.{free_rests_on_no_input}
 use Rattle.hw_build.specs.Scope.{each}
 use Rattle.hw_build.proofs.Parts.{of_each}
-use Rattle.hw_task_lines.specs.declared.nets.Net.{Net}
-use Rattle.hw_task_lines.specs.declared.nets.Net.TheVariants.{Done, Taken, Din, Wr, Rdy, Has as HasNet, Dout, Addr, Wdata, We}
-use Rattle.hw_task_lines.specs.Nets.{name}
-use Rattle.hw_task_lines.specs.Shape.{Shape, shape_of, stream_kind}
-use Rattle.hw_task_lines.specs.Texts.{writes, task_elements}
+use Rattle.hw_lines.specs.declared.nets.Net.{Net}
+use Rattle.hw_lines.specs.declared.nets.Net.TheVariants.{Done, Taken, Din, Wr, Rdy, Has as HasNet, Dout, Addr, Wdata, We}
+use Rattle.hw_lines.specs.Nets.{name}
+use Rattle.hw_lines.specs.Shape.{Shape, shape_of, stream_kind}
+use Rattle.hw_lines.specs.Texts.{writes, task_elements}
 use Rattle.hw_task_laws.specs.names.Ports.{inward, outward, scalar_input, stream_in, stream_out, memory_in, memory_out, task_inputs, task_outputs}
 use Rattle.hw_task_laws.proofs.names.Ported.{modules_have_ports}
 use Rattle.hw_task_laws.proofs.form.Whole.{tasks_fit, tasks_are_fitting, in_form, childless}

@@ -19,11 +19,11 @@ use Rattle.hw_build.specs.Elements.{Element, Wire}
 use Rattle.hw_build.specs.Trees.{numbered, tree_node, tree_nodes}
 use Rattle.hw_build.specs.Choices.{Entry, any_leaves, any_elements, pick_leaves, pick_elements, choice}
 use Rattle.task_fsm.specs.Machine.{Expression, Number, Reg, CellOf, Converted, Applied, Flipped, Inverse, Both, Either, Chosen, Operation}
-use Rattle.hw_task_lines.specs.declared.nets.Net.TheVariants.{Variable, Answer}
-use Rattle.hw_task_lines.specs.Nets.{name}
-use Rattle.hw_task_lines.specs.Fixed.{fixed}
-use Rattle.hw_task_lines.specs.Drivers.{Driver, wires_of, wire, after, last_of, one, half, low_bits, sign_of, extended, resized, tested, conversion, turned, turned_atom, less, not_less, as_wide, shift_count, shifted_right, absolute, is_negative, divided, operation}
-use Rattle.hw_task_lines.specs.Wires.{read_count, Compiled, by_fixed, behind, converting, one_more, joining, choosing, compiled}
+use Rattle.hw_lines.specs.declared.nets.Net.TheVariants.{Variable, Answer}
+use Rattle.hw_lines.specs.Nets.{name}
+use Rattle.hw_lines.specs.Fixed.{fixed}
+use Rattle.hw_lines.specs.Drivers.{Driver, wires_of, wire, after, last_of, one, half, low_bits, sign_of, extended, resized, tested, conversion, turned, turned_atom, less, not_less, as_wide, shift_count, shifted_right, absolute, is_negative, divided, operation}
+use Rattle.hw_lines.specs.Wires.{read_count, Compiled, by_fixed, behind, converting, one_more, joining, choosing, compiled}
 use Rattle.hw_task_laws.proofs.rests.Free.{is_free, free_by, FreeAtom, FreeValue, free_net, free_binary, free_choose, free_concat, Closed, wire_closed, one_closed, both_closed}
 
 abbrev pub FreeDrivers : List Driver → Type 0

@@ -11,14 +11,14 @@ use Rattle.hw_build.specs.Fitting.{AreFitting}
 use Rattle.task_fsm.specs.Machine.{StateForm, EndAt}
 use Rattle.task_fsm.specs.MachineKinds.{HoldsValues}
 use Rattle.task_fsm.specs.Run.{StateStep, step}
-use Rattle.hw_task_lines.specs.declared.nets.Choice.TheVariants.{ToState, ToEnd}
-use Rattle.hw_task_lines.specs.declared.nets.Net.TheVariants.{State as StateNet, Ended, Variable, Array}
-use Rattle.hw_task_lines.specs.Nets.{name}
-use Rattle.hw_task_lines.specs.Shape.{Shape, kinds_in, array_cells, state_count, form_at}
-use Rattle.hw_task_lines.specs.Effects.{entries}
-use Rattle.hw_task_lines.specs.Texts.{root, task_elements}
-use Rattle.hw_task_lines.specs.After.{at_after, ends_by}
-use Rattle.hw_task_lines.specs.Runs.{number_at, bit_at, array_at, held_at, StandsAround}
+use Rattle.hw_lines.specs.declared.nets.Choice.TheVariants.{ToState, ToEnd}
+use Rattle.hw_lines.specs.declared.nets.Net.TheVariants.{State as StateNet, Ended, Variable, Array}
+use Rattle.hw_lines.specs.Nets.{name}
+use Rattle.hw_lines.specs.Shape.{Shape, kinds_in, array_cells, state_count, form_at}
+use Rattle.hw_lines.specs.Effects.{entries}
+use Rattle.hw_lines.specs.Texts.{root, task_elements}
+use Rattle.hw_lines.specs.After.{at_after, ends_by}
+use Rattle.hw_lines.specs.Runs.{number_at, bit_at, array_at, held_at, StandsAround}
 use Rattle.hw_task_laws.proofs.acts.Moves.{state_goes_on}
 use Rattle.hw_task_laws.specs.steps.Steps.{allowed, HasSizes, IsAt}
 use Rattle.hw_task_laws.proofs.steps.Places.{place_goes_on}

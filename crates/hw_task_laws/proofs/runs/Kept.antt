@@ -16,11 +16,11 @@ use Rattle.task_fsm.specs.Machine.{StateForm, SetAt, CellAt, TestAt, ReadAt, Wri
 use Rattle.task_fsm.specs.MachineKinds.{HoldsValues, StepFits}
 use Rattle.task_fsm.specs.Ranges.{Ranges, IsInRange, AreInRange}
 use Rattle.task_fsm.specs.Run.{StateStep, Performs, Awaits, Completes, Halts, value, step, put_into, is_last, clear_step}
-use Rattle.hw_task_lines.specs.declared.nets.Net.TheVariants.{Has as HasNet, Dout}
-use Rattle.hw_task_lines.specs.Shape.{Shape, kinds_in, stream_kind, state_count}
-use Rattle.hw_task_lines.specs.After.{at_after, held_after, ends_by}
-use Rattle.hw_task_lines.specs.Machine.{offered}
-use Rattle.hw_task_lines.specs.Runs.{number_at, bit_at, token_bits, streams_at}
+use Rattle.hw_lines.specs.declared.nets.Net.TheVariants.{Has as HasNet, Dout}
+use Rattle.hw_lines.specs.Shape.{Shape, kinds_in, stream_kind, state_count}
+use Rattle.hw_lines.specs.After.{at_after, held_after, ends_by}
+use Rattle.hw_lines.specs.Machine.{offered}
+use Rattle.hw_lines.specs.Runs.{number_at, bit_at, token_bits, streams_at}
 use Rattle.hw_task_laws.specs.steps.Steps.{ranges_in, allowed, found_by, HasSizes}
 use Rattle.hw_task_laws.specs.effects.Held.{held_by}
 use Rattle.hw_task_laws.proofs.runs.Lists.{row_kept}

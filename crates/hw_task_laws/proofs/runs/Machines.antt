@@ -26,16 +26,16 @@ use Rattle.task_fsm.specs.MachineKinds.{machine_kinds, AreTypedStates}
 use Rattle.task_fsm.specs.Ranges.{Ranges, ranges_of, AreInRange}
 use Rattle.vlog_tree.specs.Labels.{rst}
 use Rattle.task_fsm.specs.Run.{StateStep, Completes, step}
-use Rattle.hw_task_lines.specs.declared.nets.Net.TheVariants.{State as StateNet, Ended, Done, Variable, Taken, We}
-use Rattle.hw_task_lines.specs.Nets.{name}
-use Rattle.hw_task_lines.specs.Shape.{Shape, shape_of, kinds_in, form_at}
-use Rattle.hw_task_lines.specs.States.{net}
-use Rattle.hw_task_lines.specs.Texts.{stream_outputs, memory_outputs, task_elements, task_tree, task_name}
-use Rattle.hw_task_lines.specs.After.{at_after, held_after, ends_by}
-use Rattle.hw_task_lines.specs.Signals.{Streams, History, Part}
-use Rattle.hw_task_lines.specs.Machine.{takes_of, puts_of, put_in, step_in, steps}
-use Rattle.hw_task_lines.specs.Runs.{number_at, bit_at, held_at, first_of, first_held, streams_at, answers_at, history_at, part_at, stores_to, by_act, StandsAround, RunsTask}
-use Rattle.hw_task_lines.proofs.Members.{all, outputs_in, among_left}
+use Rattle.hw_lines.specs.declared.nets.Net.TheVariants.{State as StateNet, Ended, Done, Variable, Taken, We}
+use Rattle.hw_lines.specs.Nets.{name}
+use Rattle.hw_lines.specs.Shape.{Shape, shape_of, kinds_in, form_at}
+use Rattle.hw_lines.specs.States.{net}
+use Rattle.hw_lines.specs.Texts.{stream_outputs, memory_outputs, task_elements, task_tree, task_name}
+use Rattle.hw_lines.specs.After.{at_after, held_after, ends_by}
+use Rattle.hw_lines.specs.Signals.{Streams, History, Part}
+use Rattle.hw_lines.specs.Machine.{takes_of, puts_of, put_in, step_in, steps}
+use Rattle.hw_lines.specs.Runs.{number_at, bit_at, held_at, first_of, first_held, streams_at, answers_at, history_at, part_at, stores_to, by_act, StandsAround, RunsTask}
+use Rattle.hw_lines.proofs.Members.{all, outputs_in, among_left}
 use Rattle.hw_task_laws.specs.names.Countable.{IsCountable}
 use Rattle.hw_task_laws.proofs.names.Bounds.{bounds}
 use Rattle.hw_task_laws.specs.steps.Steps.{ranges_in, allowed, found_by, IsAt}

@@ -23,16 +23,16 @@ use Rattle.task_fsm.specs.Machine.{TrapAt}
 use Rattle.task_fsm.specs.MachineKinds.{HoldsValues}
 use Rattle.task_fsm.specs.Run.{step, step_at}
 use Rattle.task_fsm.proofs.Steps.{step_fits, typed_at}
-use Rattle.hw_task_lines.specs.declared.nets.Choice.TheVariants.{Set, In, Stores}
-use Rattle.hw_task_lines.specs.declared.nets.Net.TheVariants.{State as StateNet, Ended, Scalar, Variable, Array}
-use Rattle.hw_task_lines.specs.Nets.{name, front}
-use Rattle.hw_task_lines.specs.Shape.{Shape, kinds_in, array_kind, array_cells, register_kind, state_count, state_bits, form_at}
-use Rattle.hw_task_lines.specs.States.{net}
-use Rattle.hw_task_lines.specs.Effects.{effect, entries}
-use Rattle.hw_task_lines.specs.Texts.{variable, array, root, first_by, first_value, task_elements}
-use Rattle.hw_task_lines.specs.Runs.{number_at, array_at, held_at, first_of, StandsAround}
-use Rattle.hw_task_lines.proofs.Members.{all, held_in, among_left, among_right, among_each}
-use Rattle.hw_task_lines.proofs.Decodes.{own, others_off}
+use Rattle.hw_lines.specs.declared.nets.Choice.TheVariants.{Set, In, Stores}
+use Rattle.hw_lines.specs.declared.nets.Net.TheVariants.{State as StateNet, Ended, Scalar, Variable, Array}
+use Rattle.hw_lines.specs.Nets.{name, front}
+use Rattle.hw_lines.specs.Shape.{Shape, kinds_in, array_kind, array_cells, register_kind, state_count, state_bits, form_at}
+use Rattle.hw_lines.specs.States.{net}
+use Rattle.hw_lines.specs.Effects.{effect, entries}
+use Rattle.hw_lines.specs.Texts.{variable, array, root, first_by, first_value, task_elements}
+use Rattle.hw_lines.specs.Runs.{number_at, array_at, held_at, first_of, StandsAround}
+use Rattle.hw_lines.proofs.Members.{all, held_in, among_left, among_right, among_each}
+use Rattle.hw_lines.proofs.Decodes.{own, others_off}
 use Rattle.hw_task_laws.specs.acts.Moves.{set_next}
 use Rattle.hw_task_laws.proofs.acts.Moves.{registers_go_on}
 use Rattle.hw_task_laws.specs.steps.Steps.{ranges_in, HasSizes, IsAt}

@@ -23,18 +23,18 @@ use Rattle.hw_build.specs.Fits.{IsAmong}
 use Rattle.task_fsm.specs.Machine.{StateForm, SetAt, CellAt, TestAt, ReadAt, WriteAt, PeekAt, EotAt, OpenAt, CloseAt, LoadAt, StoreAt, ClearAt, EndAt, TrapAt}
 use Rattle.task_fsm.specs.Ranges.{IsInRange}
 use Rattle.task_fsm.specs.Run.{step, is_last, clear_step}
-use Rattle.hw_task_lines.specs.declared.nets.Net.{Net}
-use Rattle.hw_task_lines.specs.declared.nets.Net.TheVariants.{Has as HasNet, Dout, Plain as PlainNet, Datum as DatumNet, Eot as EotNet, Rdy, Ack, At, Go}
-use Rattle.hw_task_lines.specs.Nets.{name}
-use Rattle.hw_task_lines.specs.Shape.{Shape, stream_kind, form_at}
-use Rattle.hw_task_lines.specs.States.{net, awaited, acts_late, go_of}
-use Rattle.hw_task_lines.specs.Effects.{eot_of}
-use Rattle.hw_task_lines.specs.Texts.{by_end, is_written, offers, task_elements}
-use Rattle.hw_task_lines.specs.Signals.{Streams}
-use Rattle.hw_task_lines.specs.Machine.{offered, offer_in}
-use Rattle.hw_task_lines.specs.Runs.{number_at, bit_at, streams_at, StandsAround}
-use Rattle.hw_task_lines.proofs.Members.{all, offer_in as offers_in, go_in}
-use Rattle.hw_task_lines.proofs.Decodes.{at_here, got_low}
+use Rattle.hw_lines.specs.declared.nets.Net.{Net}
+use Rattle.hw_lines.specs.declared.nets.Net.TheVariants.{Has as HasNet, Dout, Plain as PlainNet, Datum as DatumNet, Eot as EotNet, Rdy, Ack, At, Go}
+use Rattle.hw_lines.specs.Nets.{name}
+use Rattle.hw_lines.specs.Shape.{Shape, stream_kind, form_at}
+use Rattle.hw_lines.specs.States.{net, awaited, acts_late, go_of}
+use Rattle.hw_lines.specs.Effects.{eot_of}
+use Rattle.hw_lines.specs.Texts.{by_end, is_written, offers, task_elements}
+use Rattle.hw_lines.specs.Signals.{Streams}
+use Rattle.hw_lines.specs.Machine.{offered, offer_in}
+use Rattle.hw_lines.specs.Runs.{number_at, bit_at, streams_at, StandsAround}
+use Rattle.hw_lines.proofs.Members.{all, offer_in as offers_in, go_in}
+use Rattle.hw_lines.proofs.Decodes.{at_here, got_low}
 use Rattle.hw_task_laws.proofs.wires.Shown.{high_bit}
 use Rattle.hw_task_laws.specs.steps.Steps.{ranges_in, allowed, halts, IsAt, AwaitedIsAllowed, OthersAreAllowed, GoIsAllowed}
 

@@ -12,14 +12,14 @@ use Rattle.hw_build.specs.Fitting.{AreFitting}
 use Rattle.task_fsm.specs.Machine.{StateForm, SetAt, CellAt, TestAt, ReadAt, WriteAt, PeekAt, EotAt, OpenAt, CloseAt, LoadAt, StoreAt, ClearAt, EndAt, TrapAt}
 use Rattle.task_fsm.specs.Ranges.{IsInRange}
 use Rattle.task_fsm.specs.Run.{step, is_last, clear_step}
-use Rattle.hw_task_lines.specs.declared.nets.Choice.TheVariants.{ToState}
-use Rattle.hw_task_lines.specs.declared.nets.Net.{Net}
-use Rattle.hw_task_lines.specs.declared.nets.Net.TheVariants.{State as StateNet, Has as HasNet, Datum as DatumNet, Eot as EotNet, Rdy, Ack}
-use Rattle.hw_task_lines.specs.Nets.{name}
-use Rattle.hw_task_lines.specs.Shape.{Shape, array_cells, form_at}
-use Rattle.hw_task_lines.specs.States.{awaited}
-use Rattle.hw_task_lines.specs.Texts.{root, task_elements}
-use Rattle.hw_task_lines.specs.After.{at_after}
+use Rattle.hw_lines.specs.declared.nets.Choice.TheVariants.{ToState}
+use Rattle.hw_lines.specs.declared.nets.Net.{Net}
+use Rattle.hw_lines.specs.declared.nets.Net.TheVariants.{State as StateNet, Has as HasNet, Datum as DatumNet, Eot as EotNet, Rdy, Ack}
+use Rattle.hw_lines.specs.Nets.{name}
+use Rattle.hw_lines.specs.Shape.{Shape, array_cells, form_at}
+use Rattle.hw_lines.specs.States.{awaited}
+use Rattle.hw_lines.specs.Texts.{root, task_elements}
+use Rattle.hw_lines.specs.After.{at_after}
 use Rattle.hw_task_laws.specs.acts.Moves.{waits, place_after}
 use Rattle.hw_task_laws.proofs.acts.Moves.{state_moves, state_goes_on}
 use Rattle.hw_task_laws.specs.steps.Steps.{ranges_in, allowed, IsAt, PlaceGoesOn}

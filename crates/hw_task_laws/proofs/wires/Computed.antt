@@ -24,11 +24,11 @@ use Rattle.task_fsm.specs.MachineKinds as machine
 use Rattle.task_fsm.specs.Ranges.{Ranges, NamesWithin}
 use Rattle.task_fsm.specs.Run.{value}
 use Rattle.task_fsm.proofs.Steps.{value_fits}
-use Rattle.hw_task_lines.specs.declared.nets.Net.TheVariants.{Answer}
-use Rattle.hw_task_lines.specs.Nets.{name}
-use Rattle.hw_task_lines.specs.Fixed.{fixed}
-use Rattle.hw_task_lines.specs.Drivers.{wires_of, one, conversion, operation}
-use Rattle.hw_task_lines.specs.Wires.{ArrayRead, read_count, reads_in, Compiled, by_fixed, converting, one_more, joining, choosing, compiled}
+use Rattle.hw_lines.specs.declared.nets.Net.TheVariants.{Answer}
+use Rattle.hw_lines.specs.Nets.{name}
+use Rattle.hw_lines.specs.Fixed.{fixed}
+use Rattle.hw_lines.specs.Drivers.{wires_of, one, conversion, operation}
+use Rattle.hw_lines.specs.Wires.{ArrayRead, read_count, reads_in, Compiled, by_fixed, converting, one_more, joining, choosing, compiled}
 use Rattle.hw_task_laws.specs.wires.Shows.{IsNumber, IsDivisor, Shows, AreSaid}
 use Rattle.hw_task_laws.specs.wires.Computes.{Numbered, RegistersShown, AnswerShown, AnswersShown, ShowsValue}
 use Rattle.hw_task_laws.proofs.wires.Shown.{said_first, conversion_shown}

@@ -14,7 +14,7 @@ use Rattle.task_fsm.specs.Machine.{Expression, Number, Reg, CellOf, Converted, A
 use Rattle.task_fsm.specs.MachineKinds.{IsDivisor}
 use Rattle.task_fsm.specs.Run.{value}
 use Rattle.task_fsm.proofs.Steps.{value_fits}
-use Rattle.hw_task_lines.specs.Fixed.{only_if, on_one, on_two, on_three, can_apply, fixed}
+use Rattle.hw_lines.specs.Fixed.{only_if, on_one, on_two, on_three, can_apply, fixed}
 use Rattle.hw_task_laws.specs.wires.Computes.{FixedIsValue, NumbersAreFixed}
 
 some_same : (n v : ℕ) → Some n ≡ Some v → n ≡ v

@@ -30,7 +30,7 @@ use Rattle.hw_task_laws.proofs.words.Words.{left, right, far_left}
 use Rattle.hw_task_laws.proofs.words.Numbers.{quotient_none}
 use Rattle.hw_task_laws.proofs.words.Signed.{plain_order, turned_order, opposite, divides, leaves}
 use Rattle.hw_task_laws.specs.wires.Shows.{IsNumber, IsDivisor, Shows, AreSaid}
-use Rattle.hw_task_lines.specs.Drivers.{Driver, wires_of, wire, after, last_of, one, half, sign_of, turned, turned_atom, less, not_less, as_wide, shift_count, shifted_right, absolute, is_negative, divided, operation}
+use Rattle.hw_lines.specs.Drivers.{Driver, wires_of, wire, after, last_of, one, half, sign_of, turned, turned_atom, less, not_less, as_wide, shift_count, shifted_right, absolute, is_negative, divided, operation}
 use Rattle.hw_task_laws.proofs.wires.Shown.{said_first, said_rest, same_value, same_width, sign_is, widened, some_bits}
 
 -- drivers behind drivers

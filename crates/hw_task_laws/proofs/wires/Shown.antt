@@ -19,7 +19,7 @@ use Rattle.hw_build.specs.Trees.{numbered}
 use Rattle.hw_task_laws.specs.words.Words.{half_of}
 use Rattle.hw_task_laws.proofs.words.Words.{cuts, extends}
 use Rattle.hw_task_laws.specs.wires.Shows.{Shows, AreSaid}
-use Rattle.hw_task_lines.specs.Drivers.{Driver, wires_of, wire, last_of, one, half, low_bits, sign_of, extended, resized, tested, conversion}
+use Rattle.hw_lines.specs.Drivers.{Driver, wires_of, wire, last_of, one, half, low_bits, sign_of, extended, resized, tested, conversion}
 
 -- ---- numbers
 

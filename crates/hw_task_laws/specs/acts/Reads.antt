@@ -9,11 +9,11 @@ use Rattle.hw_build.specs.Elements.{built}
 use Rattle.task_fsm.specs.MachineKinds.{IsOfKind, IsTypedState, HoldsValues}
 use Rattle.task_fsm.specs.Ranges.{Ranges, IsInRange}
 use Rattle.task_fsm.specs.Run.{value}
-use Rattle.hw_task_lines.specs.declared.nets.Net.TheVariants.{State as StateNet, Array}
-use Rattle.hw_task_lines.specs.Nets.{name}
-use Rattle.hw_task_lines.specs.Shape.{Shape, kinds_in, array_cells, state_count, form_at}
-use Rattle.hw_task_lines.specs.States.{index_of, value_of, value_kind, index_wires, value_wires, reads_at}
-use Rattle.hw_task_lines.specs.Texts.{task_elements}
+use Rattle.hw_lines.specs.declared.nets.Net.TheVariants.{State as StateNet, Array}
+use Rattle.hw_lines.specs.Nets.{name}
+use Rattle.hw_lines.specs.Shape.{Shape, kinds_in, array_cells, state_count, form_at}
+use Rattle.hw_lines.specs.States.{index_of, value_of, value_kind, index_wires, value_wires, reads_at}
+use Rattle.hw_lines.specs.Texts.{task_elements}
 use Rattle.hw_task_laws.specs.wires.Shows.{Shows}
 use Rattle.hw_task_laws.specs.wires.Computes.{RegistersShown, AnswersShown}
 

@@ -8,11 +8,11 @@ use Rattle.vlog_tree.specs.Cycle.{Cycle, Follows}
 use Rattle.hw_build.specs.Elements.{built}
 use Rattle.hw_build.specs.Fitting.{AreFitting}
 use Rattle.task_fsm.specs.Run.{StateStep, step}
-use Rattle.hw_task_lines.specs.declared.nets.Net.TheVariants.{Ended, Variable, Array}
-use Rattle.hw_task_lines.specs.Nets.{name}
-use Rattle.hw_task_lines.specs.Shape.{Shape, array_cells, form_at}
-use Rattle.hw_task_lines.specs.Texts.{task_elements}
-use Rattle.hw_task_lines.specs.After.{held_after, ends_by}
+use Rattle.hw_lines.specs.declared.nets.Net.TheVariants.{Ended, Variable, Array}
+use Rattle.hw_lines.specs.Nets.{name}
+use Rattle.hw_lines.specs.Shape.{Shape, array_cells, form_at}
+use Rattle.hw_lines.specs.Texts.{task_elements}
+use Rattle.hw_lines.specs.After.{held_after, ends_by}
 use Rattle.hw_task_laws.specs.steps.Steps.{allowed, found_by, IsAt}
 
 -- what is held after a step of cycle n

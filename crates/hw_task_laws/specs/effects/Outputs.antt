@@ -8,11 +8,11 @@ use Rattle.vlog_tree.specs.Table.{Name}
 use Rattle.vlog_tree.specs.Cycle.{Cycle, Follows}
 use Rattle.hw_build.specs.Elements.{built}
 use Rattle.task_fsm.specs.Run.{StateStep, Performs, Awaits, Completes, Halts, step}
-use Rattle.hw_task_lines.specs.declared.nets.Net.TheVariants.{Taken, Addr, Wdata, We}
-use Rattle.hw_task_lines.specs.Shape.{Shape, form_at}
-use Rattle.hw_task_lines.specs.Texts.{task_elements}
-use Rattle.hw_task_lines.specs.Machine.{takes_of, puts_of, put_in}
-use Rattle.hw_task_lines.specs.Runs.{bit_at, number_at, streams_at, stores_to, by_act}
+use Rattle.hw_lines.specs.declared.nets.Net.TheVariants.{Taken, Addr, Wdata, We}
+use Rattle.hw_lines.specs.Shape.{Shape, form_at}
+use Rattle.hw_lines.specs.Texts.{task_elements}
+use Rattle.hw_lines.specs.Machine.{takes_of, puts_of, put_in}
+use Rattle.hw_lines.specs.Runs.{bit_at, number_at, streams_at, stores_to, by_act}
 use Rattle.hw_task_laws.specs.steps.Steps.{allowed, IsAt}
 
 -- what a step asks memory m for: a cell, which it may store

@@ -10,9 +10,9 @@ use Rattle.hw_build.specs.Scope.{IsNet, AtomIs, FitInOrder}
 use Rattle.task_fsm.specs.Machine.{Expression}
 use Rattle.task_fsm.specs.MachineKinds.{IsOfKind}
 use Rattle.task_fsm.specs.Ranges.{Ranges, NamesWithin}
-use Rattle.hw_task_lines.specs.declared.nets.Net.TheVariants.{Variable, Answer}
-use Rattle.hw_task_lines.specs.Nets.{name}
-use Rattle.hw_task_lines.specs.Wires.{ArrayRead, Compiled, reads_in, compiled}
+use Rattle.hw_lines.specs.declared.nets.Net.TheVariants.{Variable, Answer}
+use Rattle.hw_lines.specs.Nets.{name}
+use Rattle.hw_lines.specs.Wires.{ArrayRead, Compiled, reads_in, compiled}
 use Rattle.hw_task_laws.specs.wires.Shows.{IsWhole}
 use Rattle.hw_task_laws.specs.wires.Computes.{Numbered}
 

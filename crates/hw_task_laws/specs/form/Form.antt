@@ -13,8 +13,8 @@ use Rattle.vlog_module_laws.specs.Larger.{IsRightBeside}
 use Rattle.hw_build.specs.Elements.{built}
 use Rattle.hw_build.specs.Fitting.{AreFitting}
 use Rattle.hw_build.specs.Fits.{FitAlone}
-use Rattle.hw_task_lines.specs.Shape.{Shape, shape_of}
-use Rattle.hw_task_lines.specs.Texts.{task_elements}
+use Rattle.hw_lines.specs.Shape.{Shape, shape_of}
+use Rattle.hw_lines.specs.Texts.{task_elements}
 use Rattle.hw_task_laws.specs.names.Countable.{IsCountable}
 
 -- of every leaf and its machine, where the lines of the module can be counted

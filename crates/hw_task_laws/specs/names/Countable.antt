@@ -6,8 +6,8 @@ use Rattle.vlog_tree.specs.Names.{is_name, goes_on}
 use Rattle.vlog_tree.specs.Table.{Name, clk}
 use Rattle.hw_build.specs.Elements.{Element, built}
 use Rattle.hw_build.specs.Fits.{declared_names, targets, AreOnce}
-use Rattle.hw_task_lines.specs.Shape.{Shape}
-use Rattle.hw_task_lines.specs.Texts.{task_elements, task_name}
+use Rattle.hw_lines.specs.Shape.{Shape}
+use Rattle.hw_lines.specs.Texts.{task_elements, task_name}
 
 -- its states have numbers of 32 bits, and its elements of 64
 pub record IsCountable (S : Shape) : Type 0 where

@@ -7,11 +7,11 @@ use Rattle.vlog_tree.specs.declared.tree.PortDecl.{PortDecl}
 use Rattle.vlog_tree.specs.Table.{Name}
 use Rattle.hw_build.specs.Elements.{element_ports, empty, built}
 use Rattle.hw_build.specs.Scope.{each}
-use Rattle.hw_task_lines.specs.declared.nets.Net.{Net}
-use Rattle.hw_task_lines.specs.declared.nets.Net.TheVariants.{Done, Scalar, Has, Dout, Taken, Din, Wr, Rdy, Ack, Rdata, Addr, Wdata, We}
-use Rattle.hw_task_lines.specs.Nets.{name}
-use Rattle.hw_task_lines.specs.Shape.{Shape, stream_kind, register_kind, memory_kind}
-use Rattle.hw_task_lines.specs.Texts.{writes, task_elements}
+use Rattle.hw_lines.specs.declared.nets.Net.{Net}
+use Rattle.hw_lines.specs.declared.nets.Net.TheVariants.{Done, Scalar, Has, Dout, Taken, Din, Wr, Rdy, Ack, Rdata, Addr, Wdata, We}
+use Rattle.hw_lines.specs.Nets.{name}
+use Rattle.hw_lines.specs.Shape.{Shape, stream_kind, register_kind, memory_kind}
+use Rattle.hw_lines.specs.Texts.{writes, task_elements}
 
 abbrev pub inward : ℕ → Net → PortDecl
 inward w x = record { direction = Inward; width = w; name = name x }

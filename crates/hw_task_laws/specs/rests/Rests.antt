@@ -5,10 +5,10 @@ use Rattle.vlog_tree.specs.Form.{ModuleTree}
 use Rattle.vlog_tree.specs.Loops.{Rests}
 use Rattle.vlog_tree.specs.Table.{Name, port_declared, net_kind_of}
 use Rattle.hw_build.specs.Elements.{built}
-use Rattle.hw_task_lines.specs.declared.nets.Net.TheVariants.{Taken}
-use Rattle.hw_task_lines.specs.Nets.{name}
-use Rattle.hw_task_lines.specs.Shape.{Shape}
-use Rattle.hw_task_lines.specs.Texts.{writes, task_elements}
+use Rattle.hw_lines.specs.declared.nets.Net.TheVariants.{Taken}
+use Rattle.hw_lines.specs.Nets.{name}
+use Rattle.hw_lines.specs.Shape.{Shape}
+use Rattle.hw_lines.specs.Texts.{writes, task_elements}
 use Rattle.hw_task_laws.specs.form.Form.{ForTasks}
 
 -- one that does takes a token of a stream that is read

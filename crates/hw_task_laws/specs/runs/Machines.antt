@@ -12,9 +12,9 @@ use Rattle.task_fsm.specs.declared.machine.Fsm.{Fsm}
 use Rattle.task_fsm.specs.Lowered.{IsLowered}
 use Rattle.task_fsm.specs.MachineKinds.{AreTypedStates}
 use Rattle.task_fsm.specs.Ranges.{AreInRange}
-use Rattle.hw_task_lines.specs.Shape.{Shape, shape_of, kinds_in, array_cells, state_count}
-use Rattle.hw_task_lines.specs.Texts.{task_elements, task_tree}
-use Rattle.hw_task_lines.specs.Runs.{StandsAround, RunsTask, ActsAsTask}
+use Rattle.hw_lines.specs.Shape.{Shape, shape_of, kinds_in, array_cells, state_count}
+use Rattle.hw_lines.specs.Texts.{task_elements, task_tree}
+use Rattle.hw_lines.specs.Runs.{StandsAround, RunsTask, ActsAsTask}
 use Rattle.hw_task_laws.specs.names.Countable.{IsCountable}
 use Rattle.hw_task_laws.specs.steps.Steps.{ranges_in}
 use Rattle.hw_task_laws.specs.effects.Held.{HasFew}

@@ -10,15 +10,15 @@ use Rattle.hw_build.specs.Elements.{built}
 use Rattle.hw_build.specs.Fitting.{AreFitting}
 use Rattle.task_fsm.specs.Ranges.{Ranges}
 use Rattle.task_fsm.specs.Run.{StateStep, Performs, Awaits, Completes, Halts, step}
-use Rattle.hw_task_lines.specs.declared.nets.Net.{Net}
-use Rattle.hw_task_lines.specs.declared.nets.Net.TheVariants.{State as StateNet, Go}
-use Rattle.hw_task_lines.specs.Nets.{name}
-use Rattle.hw_task_lines.specs.Shape.{Shape, array_cells, state_count, form_at}
-use Rattle.hw_task_lines.specs.States.{awaited, acts_late}
-use Rattle.hw_task_lines.specs.Texts.{task_elements}
-use Rattle.hw_task_lines.specs.After.{at_after}
-use Rattle.hw_task_lines.specs.Machine.{allows, found}
-use Rattle.hw_task_lines.specs.Runs.{streams_at, answers_at, StandsAround}
+use Rattle.hw_lines.specs.declared.nets.Net.{Net}
+use Rattle.hw_lines.specs.declared.nets.Net.TheVariants.{State as StateNet, Go}
+use Rattle.hw_lines.specs.Nets.{name}
+use Rattle.hw_lines.specs.Shape.{Shape, array_cells, state_count, form_at}
+use Rattle.hw_lines.specs.States.{awaited, acts_late}
+use Rattle.hw_lines.specs.Texts.{task_elements}
+use Rattle.hw_lines.specs.After.{at_after}
+use Rattle.hw_lines.specs.Machine.{allows, found}
+use Rattle.hw_lines.specs.Runs.{streams_at, answers_at, StandsAround}
 use Rattle.hw_task_laws.specs.acts.Reads.{IsIn}
 
 -- what a machine's states may name is what the module has

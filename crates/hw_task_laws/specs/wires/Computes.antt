@@ -11,10 +11,10 @@ use Rattle.task_fsm.specs.Machine.{Expression}
 use Rattle.task_fsm.specs.MachineKinds.{IsFixed, IsOfKind, HoldsValues}
 use Rattle.task_fsm.specs.Ranges.{Ranges, NamesWithin}
 use Rattle.task_fsm.specs.Run.{value}
-use Rattle.hw_task_lines.specs.declared.nets.Net.TheVariants.{Variable, Answer}
-use Rattle.hw_task_lines.specs.Nets.{name}
-use Rattle.hw_task_lines.specs.Fixed.{fixed}
-use Rattle.hw_task_lines.specs.Wires.{ArrayRead, reads_in, compiled}
+use Rattle.hw_lines.specs.declared.nets.Net.TheVariants.{Variable, Answer}
+use Rattle.hw_lines.specs.Nets.{name}
+use Rattle.hw_lines.specs.Fixed.{fixed}
+use Rattle.hw_lines.specs.Wires.{ArrayRead, reads_in, compiled}
 use Rattle.hw_task_laws.specs.wires.Shows.{Shows, AreSaid}
 
 -- what is computed before anything is printed is the value

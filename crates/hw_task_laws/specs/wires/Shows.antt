@@ -14,7 +14,7 @@ use Rattle.tapa_base.specs.Lists.{Has}
 use Rattle.vlog_tree.specs.Table.{Name}
 use Rattle.vlog_tree.specs.Cycle.{Cycle, Sizes, atom_value, atom_width, driven}
 use Rattle.hw_build.specs.Elements.{Element, Wire}
-use Rattle.hw_task_lines.specs.Drivers.{wires_of, last_of, conversion, operation}
+use Rattle.hw_lines.specs.Drivers.{wires_of, last_of, conversion, operation}
 
 -- a net or a number
 abbrev pub IsWhole : Atom → Type 0

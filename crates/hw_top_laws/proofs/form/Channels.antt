@@ -14,9 +14,9 @@ use Rattle.hw_channel_laws.specs.modules.Names.{channel_name}
 use Rattle.hw_channel_laws.specs.modules.Rules.{OfFirst, IsOutermost, outer_ports}
 use Rattle.hw_channel_laws.proofs.modules.Clear.{outermost}
 use Rattle.hw_top_laws.specs.joins.Joins.{IsJoin, ToClock, ToInput, FromOutput, IsJoined}
-use Rattle.hw_top_lines.specs.Channels.{channel_modules}
-use Rattle.hw_top_lines.specs.Legal.{IsReady}
-use Rattle.hw_top_lines.specs.Texts.{token_bits, channel_ends}
+use Rattle.hw_lines.specs.top.Channels.{channel_modules}
+use Rattle.hw_lines.specs.top.Legal.{IsReady}
+use Rattle.hw_lines.specs.top.Texts.{token_bits, channel_ends}
 use Rattle.hw_top_laws.specs.modules.Lower.{lower_modules, KeepPromises}
 use Rattle.hw_top_laws.proofs.modules.Channels.{channel_are}
 use Rattle.hw_top_laws.proofs.modules.Lower.{channels_found}

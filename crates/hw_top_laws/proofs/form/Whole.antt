@@ -7,13 +7,13 @@ use Rattle.task_fsm.specs.declared.machine.Fsm.{Fsm}
 use Rattle.hw_build.specs.Fitting.{stored_names, assigns, have_own_blocks}
 use Rattle.hw_build.proofs.Forms.{built_form}
 use Rattle.hw_build.proofs.Right.{built_right}
-use Rattle.hw_task_lines.specs.Texts.{task_name}
+use Rattle.hw_lines.specs.Texts.{task_name}
 use Rattle.hw_task_laws.proofs.names.Empty.{GiveNone, both_none}
 use Rattle.hw_task_laws.proofs.names.Lined.{titles_are_names}
 use Rattle.hw_top_laws.specs.joins.Joins.{FitTogether}
 use Rattle.hw_top_laws.proofs.joins.Together.{together_fits}
-use Rattle.hw_top_lines.specs.Legal.{IsReady}
-use Rattle.hw_top_lines.specs.Texts.{ports, wires, doneness, instances, top_elements}
+use Rattle.hw_lines.specs.top.Legal.{IsReady}
+use Rattle.hw_lines.specs.top.Texts.{ports, wires, doneness, instances, top_elements}
 use Rattle.hw_top_laws.specs.modules.Lower.{lower_modules, KeepPromises}
 use Rattle.hw_top_laws.proofs.modules.Lower.{lower_ports, top_new}
 use Rattle.hw_top_laws.proofs.names.Top.{top_once}

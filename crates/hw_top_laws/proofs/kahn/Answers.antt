@@ -6,9 +6,9 @@ use Rattle.task_fsm.specs.Machine.{StateForm, SetAt, CellAt, TestAt, ReadAt, Wri
 use Rattle.task_fsm.specs.Ranges.{Ranges, IsInRange, AreInRange}
 use Rattle.task_fsm.specs.Run.{clear_step, is_last, step, step_at}
 use Rattle.task_fsm.proofs.Ranged.{in_range_at}
-use Rattle.hw_task_lines.specs.After.{at_after, held_after, ends_by}
-use Rattle.hw_task_lines.specs.Machine.{RunsMachine, allows, found, takes_of, puts_of, step_in, steps}
-use Rattle.hw_task_lines.specs.Signals.{Streams, History, Part}
+use Rattle.hw_lines.specs.After.{at_after, held_after, ends_by}
+use Rattle.hw_lines.specs.Machine.{RunsMachine, allows, found, takes_of, puts_of, step_in, steps}
+use Rattle.hw_lines.specs.Signals.{Streams, History, Part}
 
 module _ (S : Streams) (f g : ℕ → ℕ → Bool) (bound : ℕ → ℕ) (n : ℕ) (r : Ranges) (same : (m : ℕ) → m < r.memories → f m n ≡ g m n) where
   clear_same : (b : Bool) (a c pc next : ℕ) (σ : State) → allows S f bound n (clear_step b a c pc next σ) ≡ allows S g bound n (clear_step b a c pc next σ)

@@ -31,10 +31,10 @@ use Rattle.kahn_model.specs.ProgramNetwork.{end_of, is_detached as is_left}
 use Rattle.kahn_model.specs.Start.{kinds_in, leaf_state, instance_state, first_state, network_of}
 use Rattle.kahn_model.specs.Timed.{Clock, IsClock, count_at, lost}
 use Rattle.task_fsm.specs.declared.machine.Fsm.{Fsm}
-use Rattle.hw_task_lines.specs.declared.nets.Net.TheVariants.{Ended}
-use Rattle.hw_task_lines.specs.Machine.{put_in}
-use Rattle.hw_task_lines.specs.Runs.{number_at, bit_at}
-use Rattle.hw_task_lines.specs.Signals.{Streams, History, Part}
+use Rattle.hw_lines.specs.declared.nets.Net.TheVariants.{Ended}
+use Rattle.hw_lines.specs.Machine.{put_in}
+use Rattle.hw_lines.specs.Runs.{number_at, bit_at}
+use Rattle.hw_lines.specs.Signals.{Streams, History, Part}
 use Rattle.hw_network_laws.specs.network.Channel.{carried}
 use Rattle.hw_network_laws.specs.network.Joined.{AreJoinedOver, DoneIsOfJoined}
 use Rattle.hw_network_laws.proofs.network.Ports.{is_instance}
@@ -43,9 +43,9 @@ use Rattle.hw_network_laws.proofs.network.Joined.{done_is_of_joined}
 use Rattle.hw_network_laws.proofs.network.Pace.{keeps_pace}
 use Rattle.hw_network_laws.proofs.network.Together.{in_step}
 use Rattle.hw_network_laws.proofs.modules.Tasks.{there_at as item_at}
-use Rattle.hw_top_lines.specs.Designs.{AreShort}
-use Rattle.hw_top_lines.specs.Names.{task_instance}
-use Rattle.hw_top_lines.specs.Texts.{token_bits, top_tree, is_detached, memory_name}
+use Rattle.hw_lines.specs.top.Designs.{AreShort}
+use Rattle.hw_lines.specs.top.Names.{task_instance}
+use Rattle.hw_lines.specs.top.Texts.{token_bits, top_tree, is_detached, memory_name}
 use Rattle.hw_top_laws.specs.runs.Designs.{IsCircuit}
 use Rattle.hw_top_laws.specs.runs.Parts.{bit_of, token_in, streams_seen, memory_before, rows_of}
 use Rattle.hw_top_laws.specs.kahn.Carries.{network, carried_by, CircuitsCarryStreams, CircuitsCarryBeside}

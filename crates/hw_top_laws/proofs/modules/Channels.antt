@@ -16,9 +16,9 @@ use Rattle.hw_channel_laws.specs.modules.Texts.{step_tree, even_tree, odd_tree, 
 use Rattle.hw_channel_laws.proofs.modules.Forms.{step_form, even_form, odd_form, fifo_form, plain_form, relayed_form}
 use Rattle.hw_channel_laws.proofs.modules.Parts.{IsPart, Outer, Queue, Part, part_of, no_tasks, names_tell}
 use Rattle.hw_channel_laws.proofs.modules.Together.{AreApart}
-use Rattle.hw_top_lines.specs.Channels.{relays_below, relays, channel_modules}
-use Rattle.hw_top_lines.specs.Designs.{AreShort, stream_modules, channels_before}
-use Rattle.hw_top_lines.specs.Texts.{token_bits}
+use Rattle.hw_lines.specs.top.Channels.{relays_below, relays, channel_modules}
+use Rattle.hw_lines.specs.top.Designs.{AreShort, stream_modules, channels_before}
+use Rattle.hw_lines.specs.top.Texts.{token_bits}
 use Rattle.hw_top_laws.proofs.modules.Added.{new_of, new_keeps, new_apart, new_has}
 use Rattle.hw_top_laws.proofs.modules.Tasks.{some_index}
 

@@ -24,14 +24,14 @@ use Rattle.hw_build.specs.Scope.{each}
 use Rattle.hw_build.specs.Fits.{declared_names}
 use Rattle.hw_build.proofs.Once.{two_once}
 use Rattle.hw_channel_laws.specs.modules.Names.{channel_name}
-use Rattle.hw_task_lines.specs.Texts.{task_name}
+use Rattle.hw_lines.specs.Texts.{task_name}
 use Rattle.hw_task_laws.proofs.names.Bounds.{got_some, each_many, left_short, right_short}
 use Rattle.hw_task_laws.proofs.names.Named.{single}
 use Rattle.hw_task_laws.proofs.names.Rows.{AreRow, row_append}
-use Rattle.hw_top_lines.specs.Names.{s_has, s_dout, s_take, task_instance, channel_instance, ended_net, waits}
-use Rattle.hw_top_lines.specs.Bounds.{parameter_kind, bound_elements, parameters}
-use Rattle.hw_top_lines.specs.Legal.{AreApart, HasOwnNames, IsCountable}
-use Rattle.hw_top_lines.specs.Texts.{scalar_port, memory_ports, ports, token_bits, stream_wires, take_wire, of_leaf, of_instance, at_instance, task_ends, task_part, ended_wire, still_waits, is_detached, waiting, none_waits, doneness, channel_ends, channel_part, wires, instances, top_elements}
+use Rattle.hw_lines.specs.top.Names.{s_has, s_dout, s_take, task_instance, channel_instance, ended_net, waits}
+use Rattle.hw_lines.specs.top.Bounds.{parameter_kind, bound_elements, parameters}
+use Rattle.hw_lines.specs.top.Legal.{AreApart, HasOwnNames, IsCountable}
+use Rattle.hw_lines.specs.top.Texts.{scalar_port, memory_ports, ports, token_bits, stream_wires, take_wire, of_leaf, of_instance, at_instance, task_ends, task_part, ended_wire, still_waits, is_detached, waiting, none_waits, doneness, channel_ends, channel_part, wires, instances, top_elements}
 use Rattle.hw_top_laws.specs.names.Names.{TopNamesAreOnce, TopNetsAreNamed}
 use Rattle.hw_top_laws.proofs.names.Made.{sort, IsMade, same_label, made_addr, made_wdata, made_we, made_ack, made_rdata, made_din, made_wr, made_rdy, made_has, made_dout, made_take, IsFronted, same_fronted, fronted_scalar, fronted_task, fronted_channel, clk_sort, rst_sort, done_sort, done_is_name}
 use Rattle.hw_top_laws.proofs.names.Named.{Named, Names, Any, names_both, names_each, names_none, names_one, names_more, all_named}

@@ -39,16 +39,16 @@ use Rattle.hw_channel_laws.specs.modules.Rules.{OfFirst, IsOutermost, outer_port
 use Rattle.hw_channel_laws.specs.modules.Texts.{AreModules}
 use Rattle.hw_channel_laws.proofs.modules.Fits.{clear}
 use Rattle.task_fsm.specs.declared.machine.Fsm.{Fsm}
-use Rattle.hw_task_lines.specs.declared.nets.Net.TheVariants.{Done, Din, Wr, Taken}
-use Rattle.hw_task_lines.specs.Nets.{name}
-use Rattle.hw_task_lines.specs.Shape.{Shape, stream_kind}
-use Rattle.hw_task_lines.specs.Texts.{task_name, task_tree}
+use Rattle.hw_lines.specs.declared.nets.Net.TheVariants.{Done, Din, Wr, Taken}
+use Rattle.hw_lines.specs.Nets.{name}
+use Rattle.hw_lines.specs.Shape.{Shape, stream_kind}
+use Rattle.hw_lines.specs.Texts.{task_name, task_tree}
 use Rattle.hw_task_laws.specs.names.Ports.{outward, stream_out, memory_out, task_inputs, task_outputs}
 use Rattle.hw_task_laws.proofs.names.Ported.{modules_have_ports}
 use Rattle.hw_task_laws.proofs.steps.Allowed.{stream_there, side_is}
 use Rattle.hw_network_laws.specs.modules.Tasks.{shape_for}
-use Rattle.hw_top_lines.specs.Names.{task_instance, channel_instance}
-use Rattle.hw_top_lines.specs.Texts.{token_bits, top_elements, top_tree, task_ends, channel_ends}
+use Rattle.hw_lines.specs.top.Names.{task_instance, channel_instance}
+use Rattle.hw_lines.specs.top.Texts.{token_bits, top_elements, top_tree, task_ends, channel_ends}
 use Rattle.hw_top_laws.proofs.runs.Elements.{task_there, channel_there}
 
 pub kind_bits : (k : Kind) → (1 ≤ bits_of k) × (bits_of k ≤ 64)

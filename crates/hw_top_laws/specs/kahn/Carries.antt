@@ -18,8 +18,8 @@ use Rattle.kahn_model.specs.Start.{network_of}
 use Rattle.kahn_model.specs.Timed.{lost}
 use Rattle.task_fsm.specs.declared.machine.Fsm.{Fsm}
 use Rattle.hw_network_laws.specs.network.Pace.{KeepsPace}
-use Rattle.hw_top_lines.specs.Designs.{AreShort}
-use Rattle.hw_top_lines.specs.Texts.{token_bits, top_tree}
+use Rattle.hw_lines.specs.top.Designs.{AreShort}
+use Rattle.hw_lines.specs.top.Texts.{token_bits, top_tree}
 use Rattle.hw_top_laws.specs.runs.Designs.{IsCircuit}
 use Rattle.hw_top_laws.specs.kahn.Clock.{clock_in, counts, all_answer, counts_beside, all_answer_beside}
 

@@ -5,8 +5,8 @@ use Rattle.tapa_base.specs.Kinds.{bits_of}
 use Rattle.vlog_tree.specs.declared.tree.Atom.TheVariants.{Literal}
 use Rattle.task_fsm.specs.Machine.{expression_of, Converted, Applied, Flipped, Inverse, Both, Either, Chosen}
 use Rattle.tapa_syntax.specs.Typed.{right_kind}
-use Rattle.hw_task_lines.specs.Fixed.{fixed}
-use Rattle.hw_task_lines.specs.Wires.{read_count, compiled}
+use Rattle.hw_lines.specs.Fixed.{fixed}
+use Rattle.hw_lines.specs.Wires.{read_count, compiled}
 use Rattle.hw_expressions.specs.declared.wires.Wired.{Wired}
 use Rattle.hw_expressions.proofs.Grown.{constant_grows, compound, is_none_of, same_start}
 use Rattle.hw_expressions.proofs.wires.+compile.Goals as goal

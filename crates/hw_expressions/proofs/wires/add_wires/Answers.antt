@@ -1,7 +1,7 @@
 use Rattle.std.proofs.Common.{◌≡◌, ◌+◌, ◌<◌, length, sym, ap, ◌∙◌, arith}
 use Rattle.hw_build.specs.Elements.{Wire, with, with_all}
 use Rattle.hw_build.specs.Trees.{numbered}
-use Rattle.hw_task_lines.specs.Drivers.{wires_of}
+use Rattle.hw_lines.specs.Drivers.{wires_of}
 use Rattle.hw_expressions.proofs.Grown.{some_left, none_left, wires_next, wires_done}
 use Rattle.hw_expressions.proofs.wires.add_wires.Goals as goal
 

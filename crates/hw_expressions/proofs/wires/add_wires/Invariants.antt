@@ -1,6 +1,6 @@
 use Rattle.std.proofs.Common.{◌≡◌, vec_len}
 use Rattle.hw_build.specs.Elements.{with_all}
-use Rattle.hw_task_lines.specs.Drivers.{wires_of}
+use Rattle.hw_lines.specs.Drivers.{wires_of}
 use Rattle.hw_expressions.proofs.wires.add_wires.Given as goal
 
 abbrev pub invariant-loop-alloc : goal.invariant-loop-alloc

@@ -1,6 +1,6 @@
 use Rattle.std.proofs.Common.{◌≡◌, ◌+◌, ap, ◌∙◌, arith}
 use Rattle.std.proofs.lemmas.Result.{IfOk-weaker}
-use Rattle.hw_task_lines.specs.Drivers.{operation}
+use Rattle.hw_lines.specs.Drivers.{operation}
 use Rattle.hw_expressions.proofs.Grown.{two_operands}
 use Rattle.hw_expressions.proofs.wires.applied.Goals as goal
 

@@ -2,7 +2,7 @@ use Rattle.std.proofs.Common.{arith}
 use Rattle.std.proofs.lemmas.Result.{IfOk-weaker}
 use Rattle.tapa_base.specs.Kinds.{bits_of}
 use Rattle.vlog_tree.specs.declared.tree.Value.TheVariants.{Choose}
-use Rattle.hw_task_lines.specs.Drivers.{one}
+use Rattle.hw_lines.specs.Drivers.{one}
 use Rattle.hw_expressions.proofs.Grown.{three_operands}
 use Rattle.hw_expressions.proofs.wires.chosen.Goals as goal
 

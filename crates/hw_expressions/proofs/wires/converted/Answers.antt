@@ -1,6 +1,6 @@
 use Rattle.std.proofs.Common.{◌+◌, ap, ◌∙◌}
 use Rattle.std.proofs.lemmas.Result.{IfOk-weaker}
-use Rattle.hw_task_lines.specs.Drivers.{conversion}
+use Rattle.hw_lines.specs.Drivers.{conversion}
 use Rattle.hw_expressions.proofs.Grown.{one_operand}
 use Rattle.hw_expressions.proofs.wires.converted.Goals as goal
 

@@ -1,7 +1,7 @@
 use Rattle.std.proofs.lemmas.Result.{IfOk-weaker}
 use Rattle.tapa_base.specs.Kinds.{bits_of}
 use Rattle.vlog_tree.specs.declared.tree.Value.TheVariants.{Invert}
-use Rattle.hw_task_lines.specs.Drivers.{one}
+use Rattle.hw_lines.specs.Drivers.{one}
 use Rattle.hw_expressions.proofs.Grown.{one_operand}
 use Rattle.hw_expressions.proofs.wires.inverted.Goals as goal
 

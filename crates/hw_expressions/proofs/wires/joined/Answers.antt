@@ -1,6 +1,6 @@
 use Rattle.std.proofs.lemmas.Result.{IfOk-weaker}
 use Rattle.vlog_tree.specs.declared.tree.Value.TheVariants.{Binary}
-use Rattle.hw_task_lines.specs.Drivers.{one}
+use Rattle.hw_lines.specs.Drivers.{one}
 use Rattle.hw_expressions.proofs.Grown.{two_operands}
 use Rattle.hw_expressions.proofs.wires.joined.Goals as goal
 

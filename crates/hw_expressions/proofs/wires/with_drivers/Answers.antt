@@ -1,5 +1,5 @@
 use Rattle.std.proofs.Common.{ap, ◌∙◌, arith}
-use Rattle.hw_task_lines.specs.Drivers.{last_of}
+use Rattle.hw_lines.specs.Drivers.{last_of}
 use Rattle.hw_expressions.proofs.Grown.{behind_grows}
 use Rattle.hw_expressions.proofs.wires.with_drivers.Goals as goal
 

@@ -1,5 +1,5 @@
 use Rattle.std.proofs.Common.{◌≡◌, length, arith}
-use Rattle.hw_task_lines.specs.Texts.{array_block}
+use Rattle.hw_lines.specs.Texts.{array_block}
 use Rattle.hw_nets.proofs.Grows.{each_more, each_end}
 use Rattle.hw_nets.specs.Shapes.{form}
 use Rattle.hw_outputs.proofs.blocks.add_array_blocks.Goals as goal

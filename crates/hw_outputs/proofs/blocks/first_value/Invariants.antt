@@ -1,5 +1,5 @@
 use Rattle.std.proofs.Common.{◌≡◌}
-use Rattle.hw_task_lines.specs.Texts.{first_by}
+use Rattle.hw_lines.specs.Texts.{first_by}
 use Rattle.hw_nets.specs.Shapes.{form}
 use Rattle.hw_outputs.proofs.blocks.first_value.Given as goal
 

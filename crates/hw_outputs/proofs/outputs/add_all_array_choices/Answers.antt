@@ -1,5 +1,5 @@
 use Rattle.std.proofs.Common.{◌≡◌, length, arith}
-use Rattle.hw_task_lines.specs.Texts.{array_choices}
+use Rattle.hw_lines.specs.Texts.{array_choices}
 use Rattle.hw_nets.proofs.Grows.{each_more, each_end}
 use Rattle.hw_nets.specs.Shapes.{form}
 use Rattle.hw_outputs.proofs.outputs.add_all_array_choices.Goals as goal

@@ -1,7 +1,7 @@
 use Rattle.std.proofs.Common.{◌≡◌, ◌++◌, sym, ap, ◌∙◌, arith}
 use Rattle.hw_build.specs.Scope.{each}
-use Rattle.hw_task_lines.specs.Shape.{state_count}
-use Rattle.hw_task_lines.specs.Effects.{effect}
+use Rattle.hw_lines.specs.Shape.{state_count}
+use Rattle.hw_lines.specs.Effects.{effect}
 use Rattle.hw_nets.proofs.Grows.{each_next}
 use Rattle.hw_nets.specs.Shapes.{form}
 use Rattle.hw_states.proofs.effects.entries_of.Goals as goal

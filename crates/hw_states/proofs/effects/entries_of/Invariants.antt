@@ -1,6 +1,6 @@
 use Rattle.std.proofs.Common.{◌≡◌}
 use Rattle.hw_build.specs.Scope.{each}
-use Rattle.hw_task_lines.specs.Effects.{effect}
+use Rattle.hw_lines.specs.Effects.{effect}
 use Rattle.hw_nets.specs.Entries.{entry_forms}
 use Rattle.hw_nets.specs.Shapes.{form}
 use Rattle.hw_states.proofs.effects.entries_of.Given as goal

@@ -1,6 +1,6 @@
 use Rattle.std.proofs.Common.{◌≡◌, ◌+◌, sym, subst, arith}
-use Rattle.hw_task_lines.specs.Shape.{state_count}
-use Rattle.hw_task_lines.specs.States.{state_wires}
+use Rattle.hw_lines.specs.Shape.{state_count}
+use Rattle.hw_lines.specs.States.{state_wires}
 use Rattle.hw_nets.proofs.Grows.{each_more, each_end}
 use Rattle.hw_states.specs.Operands.{AreOperands}
 use Rattle.hw_nets.specs.Shapes.{form}

@@ -1,5 +1,5 @@
 use Rattle.std.proofs.Common.{◌≡◌, length, arith}
-use Rattle.hw_task_lines.specs.Shape.{state_count}
+use Rattle.hw_lines.specs.Shape.{state_count}
 use Rattle.hw_nets.specs.Shapes.{form}
 use Rattle.hw_states.proofs.FirstStates.{operands_count, operand_at}
 use Rattle.hw_states.proofs.operands.operands_of.Goals as goal

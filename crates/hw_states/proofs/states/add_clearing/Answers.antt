@@ -1,7 +1,7 @@
 use Rattle.std.proofs.Common.{ap, ◌∙◌}
 use Rattle.hw_build.specs.Elements.{with_all}
-use Rattle.hw_task_lines.specs.States.{net, into_of, counting}
-use Rattle.hw_task_lines.specs.declared.nets.Net.TheVariants.{Variable}
+use Rattle.hw_lines.specs.States.{net, into_of, counting}
+use Rattle.hw_lines.specs.declared.nets.Net.TheVariants.{Variable}
 use Rattle.hw_nets.proofs.Grows.{both}
 use Rattle.hw_nets.specs.Shapes.{form}
 use Rattle.hw_states.proofs.states.add_clearing.Goals as goal

@@ -1,6 +1,6 @@
 use Rattle.std.proofs.Common.{arith}
-use Rattle.hw_task_lines.specs.Shape.{state_count}
-use Rattle.hw_task_lines.specs.States.{decoded}
+use Rattle.hw_lines.specs.Shape.{state_count}
+use Rattle.hw_lines.specs.States.{decoded}
 use Rattle.hw_nets.proofs.Grows.{each_more, each_end}
 use Rattle.hw_nets.specs.Shapes.{form}
 use Rattle.hw_states.proofs.states.add_decodes.Goals as goal

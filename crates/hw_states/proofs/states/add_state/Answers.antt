@@ -1,7 +1,7 @@
 use Rattle.std.proofs.Common.{ap, ◌∙◌}
 use Rattle.hw_build.specs.Elements.{with_all}
 use Rattle.task_fsm.specs.Machine.{form_of}
-use Rattle.hw_task_lines.specs.States.{awaited, go_of}
+use Rattle.hw_lines.specs.States.{awaited, go_of}
 use Rattle.hw_nets.specs.Shapes.{form}
 use Rattle.hw_states.proofs.StateWires.{state_grows}
 use Rattle.hw_states.proofs.states.add_state.Goals as goal

@@ -1,9 +1,9 @@
 use Rattle.std.proofs.Common.{List, ◌++◌, length}
 use Rattle.hw_build.specs.Elements.{Element}
 use Rattle.hw_build.specs.Scope.{each}
-use Rattle.hw_task_lines.specs.Shape.{state_count}
-use Rattle.hw_task_lines.specs.States.{decoded, state_wires}
-use Rattle.hw_task_lines.specs.Texts.{inputs, held, offered, reads_of, read_numbers, choices, outputs, blocks}
+use Rattle.hw_lines.specs.Shape.{state_count}
+use Rattle.hw_lines.specs.States.{decoded, state_wires}
+use Rattle.hw_lines.specs.Texts.{inputs, held, offered, reads_of, read_numbers, choices, outputs, blocks}
 use Rattle.hw_nets.proofs.Grows.{both}
 use Rattle.hw_nets.specs.Shapes.{form}
 use Rattle.hw_task.proofs.module.add_elements.Goals as goal

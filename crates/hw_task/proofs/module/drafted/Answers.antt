@@ -1,7 +1,7 @@
 use Rattle.std.proofs.Common.{ap, ◌∙◌}
 use Rattle.hw_build.specs.Elements.{empty, with_all}
-use Rattle.hw_task_lines.specs.Shape.{shape_of}
-use Rattle.hw_task_lines.specs.Texts.{task_elements}
+use Rattle.hw_lines.specs.Shape.{shape_of}
+use Rattle.hw_lines.specs.Texts.{task_elements}
 use Rattle.hw_nets.specs.Shapes.{form}
 use Rattle.hw_task.proofs.module.drafted.Goals as goal
 

@@ -1,7 +1,7 @@
 use Rattle.std.proofs.Common.{◌≡◌}
 use Rattle.hw_build.specs.Elements.{with_all}
 use Rattle.hw_build.specs.Scope.{each}
-use Rattle.hw_task_lines.specs.Texts.{scalar_port}
+use Rattle.hw_lines.specs.Texts.{scalar_port}
 use Rattle.hw_nets.specs.Shapes.{form}
 use Rattle.hw_task.proofs.ports.add_scalars.Given as goal
 

@@ -1,5 +1,5 @@
 use Rattle.std.proofs.Common.{◌≡◌, length, arith}
-use Rattle.hw_task_lines.specs.Texts.{stream_inputs}
+use Rattle.hw_lines.specs.Texts.{stream_inputs}
 use Rattle.hw_nets.proofs.Grows.{each_more, each_end}
 use Rattle.hw_nets.specs.Shapes.{form}
 use Rattle.hw_task.proofs.ports.add_streams.Goals as goal

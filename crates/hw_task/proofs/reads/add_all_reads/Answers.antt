@@ -1,6 +1,6 @@
 use Rattle.std.proofs.Common.{◌≡◌, arith}
-use Rattle.hw_task_lines.specs.Texts.{reads_of}
-use Rattle.hw_task_lines.specs.Texts.{read_numbers}
+use Rattle.hw_lines.specs.Texts.{reads_of}
+use Rattle.hw_lines.specs.Texts.{read_numbers}
 use Rattle.hw_nets.proofs.Grows.{each_more, each_end}
 use Rattle.hw_nets.specs.Shapes.{form}
 use Rattle.hw_task.proofs.reads.add_all_reads.Goals as goal

@@ -1,8 +1,8 @@
 use Rattle.std.proofs.Common.{ap, ◌∙◌}
 use Rattle.hw_build.specs.Elements.{with_all}
 use Rattle.hw_build.specs.Choices.{pick_elements}
-use Rattle.hw_task_lines.specs.declared.nets.Choice.TheVariants.{Spot}
-use Rattle.hw_task_lines.specs.Nets.{front}
+use Rattle.hw_lines.specs.declared.nets.Choice.TheVariants.{Spot}
+use Rattle.hw_lines.specs.Nets.{front}
 use Rattle.hw_nets.specs.Entries.{entry_forms}
 use Rattle.hw_nets.specs.Shapes.{form}
 use Rattle.hw_task.proofs.ReadPorts.{answered_grows}

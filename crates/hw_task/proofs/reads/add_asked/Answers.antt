@@ -1,7 +1,7 @@
 use Rattle.std.proofs.Common.{◌≡◌, ◌++◌, ap, ◌∙◌}
 use Rattle.task_fsm.specs.Machine.{StateForm}
-use Rattle.hw_task_lines.specs.States.{reads_at, index_of, value_of}
-use Rattle.hw_task_lines.specs.Wires.{read_count, reads_in}
+use Rattle.hw_lines.specs.States.{reads_at, index_of, value_of}
+use Rattle.hw_lines.specs.Wires.{read_count, reads_in}
 use Rattle.hw_expressions.specs.Reads.{read_form, read_forms}
 use Rattle.hw_nets.specs.Shapes.{form}
 use Rattle.hw_task.proofs.ReadPorts.{get_none, get_some, read_none, read_some, asked_none, asked_some, none_asked, some_asked}

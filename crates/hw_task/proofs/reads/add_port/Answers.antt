@@ -1,7 +1,7 @@
 use Rattle.std.proofs.Common.{arith}
-use Rattle.hw_task_lines.specs.declared.nets.Choice.TheVariants.{Reads}
-use Rattle.hw_task_lines.specs.Effects.{entries}
-use Rattle.hw_task_lines.specs.Texts.{answered}
+use Rattle.hw_lines.specs.declared.nets.Choice.TheVariants.{Reads}
+use Rattle.hw_lines.specs.Effects.{entries}
+use Rattle.hw_lines.specs.Texts.{answered}
 use Rattle.hw_nets.specs.Shapes.{form}
 use Rattle.hw_task.proofs.Stands.{stands_not, stands}
 use Rattle.hw_task.proofs.reads.add_port.Goals as goal

@@ -6,12 +6,12 @@ use Rattle.vlog_tree.specs.declared.tree.BinaryOp.TheVariants.{And, Less}
 use Rattle.vlog_tree.specs.declared.tree.Value.TheVariants.{Binary}
 use Rattle.hw_build.specs.Elements.{Element, Wire, with_all}
 use Rattle.task_fsm.specs.Machine.{expression_of}
-use Rattle.hw_task_lines.specs.declared.nets.Net.TheVariants.{At, ReadInside, ReadOn}
-use Rattle.hw_task_lines.specs.Nets.{name}
-use Rattle.hw_task_lines.specs.Shape.{array_cells}
-use Rattle.hw_task_lines.specs.States.{net}
-use Rattle.hw_task_lines.specs.Wires.{Compiled, compiled}
-use Rattle.hw_task_lines.specs.Texts.{read_index}
+use Rattle.hw_lines.specs.declared.nets.Net.TheVariants.{At, ReadInside, ReadOn}
+use Rattle.hw_lines.specs.Nets.{name}
+use Rattle.hw_lines.specs.Shape.{array_cells}
+use Rattle.hw_lines.specs.States.{net}
+use Rattle.hw_lines.specs.Wires.{Compiled, compiled}
+use Rattle.hw_lines.specs.Texts.{read_index}
 use Rattle.hw_nets.proofs.Grows.{both}
 use Rattle.hw_expressions.specs.Grown.{Grows}
 use Rattle.hw_expressions.specs.Reads.{read_form}

@@ -1,9 +1,9 @@
 use Rattle.std.proofs.Common.{◌≡◌, ℕ, ◌++◌, max, length, sym, ap, ◌∙◌, arith}
 use Rattle.task_fsm.specs.Machine.{StateForm}
-use Rattle.hw_task_lines.specs.Shape.{state_count}
-use Rattle.hw_task_lines.specs.States.{reads_at, index_of, value_of}
-use Rattle.hw_task_lines.specs.Wires.{read_count, reads_in}
-use Rattle.hw_task_lines.specs.Texts.{most}
+use Rattle.hw_lines.specs.Shape.{state_count}
+use Rattle.hw_lines.specs.States.{reads_at, index_of, value_of}
+use Rattle.hw_lines.specs.Wires.{read_count, reads_in}
+use Rattle.hw_lines.specs.Texts.{most}
 use Rattle.hw_nets.specs.Shapes.{form}
 use Rattle.hw_task.proofs.ReadPorts.{most_more}
 use Rattle.hw_task.proofs.reads.most_reads.Goals as goal

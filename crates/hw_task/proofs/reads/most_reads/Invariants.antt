@@ -1,7 +1,7 @@
 use Rattle.std.proofs.Common.{◌≡◌}
 use Rattle.std.specs.Prelude.{length}
-use Rattle.hw_task_lines.specs.States.{reads_at}
-use Rattle.hw_task_lines.specs.Texts.{most}
+use Rattle.hw_lines.specs.States.{reads_at}
+use Rattle.hw_lines.specs.Texts.{most}
 use Rattle.hw_nets.specs.Shapes.{form}
 use Rattle.hw_task.proofs.reads.most_reads.Given as goal
 

@@ -1,6 +1,6 @@
 use Rattle.std.proofs.Common.{◌≡◌, length, ◌∙◌, arith}
 use Rattle.std.proofs.lemmas.Result.{IfOk-weaker}
-use Rattle.hw_task_lines.specs.Shape.{state_count}
+use Rattle.hw_lines.specs.Shape.{state_count}
 use Rattle.hw_nets.specs.Shapes.{form}
 use Rattle.hw_task.proofs.ReadPorts.{asked_count, asked_here, no_entry, an_entry}
 use Rattle.hw_task.proofs.reads.spot_at.Goals as goal

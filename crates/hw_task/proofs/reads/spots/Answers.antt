@@ -1,8 +1,8 @@
 use Rattle.std.proofs.Common.{◌≡◌, ◌++◌, sym, ap, ◌∙◌, arith}
 use Rattle.hw_build.specs.Scope.{each}
-use Rattle.hw_task_lines.specs.declared.nets.Choice.TheVariants.{Reads}
-use Rattle.hw_task_lines.specs.Shape.{state_count}
-use Rattle.hw_task_lines.specs.Effects.{effect}
+use Rattle.hw_lines.specs.declared.nets.Choice.TheVariants.{Reads}
+use Rattle.hw_lines.specs.Shape.{state_count}
+use Rattle.hw_lines.specs.Effects.{effect}
 use Rattle.hw_nets.proofs.Grows.{each_next}
 use Rattle.hw_nets.specs.Entries.{entries_in}
 use Rattle.hw_nets.specs.Shapes.{form}

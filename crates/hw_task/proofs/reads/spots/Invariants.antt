@@ -1,7 +1,7 @@
 use Rattle.std.proofs.Common.{◌≡◌}
 use Rattle.hw_build.specs.Scope.{each}
-use Rattle.hw_task_lines.specs.declared.nets.Choice.TheVariants.{Reads}
-use Rattle.hw_task_lines.specs.Effects.{effect}
+use Rattle.hw_lines.specs.declared.nets.Choice.TheVariants.{Reads}
+use Rattle.hw_lines.specs.Effects.{effect}
 use Rattle.hw_nets.specs.Entries.{entry_forms}
 use Rattle.hw_nets.specs.Shapes.{form}
 use Rattle.hw_task.proofs.reads.spots.Given as goal

@@ -3,7 +3,7 @@ use Rattle.tapa_base.specs.Kinds.{bits_of}
 use Rattle.vlog_tree.specs.declared.tree.Atom.TheVariants.{Net}
 use Rattle.vlog_tree.specs.declared.tree.Value.TheVariants.{Plain}
 use Rattle.hw_build.specs.Elements.{Wire, with}
-use Rattle.hw_task_lines.specs.Drivers.{last_of}
+use Rattle.hw_lines.specs.Drivers.{last_of}
 use Rattle.hw_top.proofs.BoundNets.{converted_grows}
 use Rattle.hw_top.proofs.bounds.add_converted.Goals as goal
 

@@ -1,7 +1,7 @@
 use Rattle.hw_channel_laws.specs.modules.Texts.{joined_to}
 use Rattle.vlog_tree.specs.Labels.{m_ack, m_addr, m_rdata, m_wdata, m_we}
-use Rattle.hw_task_lines.specs.declared.nets.Net.TheVariants.{Ack, Addr, Rdata, Wdata, We}
-use Rattle.hw_task_lines.specs.Nets.{name}
+use Rattle.hw_lines.specs.declared.nets.Net.TheVariants.{Ack, Addr, Rdata, Wdata, We}
+use Rattle.hw_lines.specs.Nets.{name}
 use Rattle.hw_top.proofs.Joined.{joined_as, three_more, five_more}
 use Rattle.hw_top.proofs.ends.add_named.Goals as goal
 

@@ -1,7 +1,7 @@
 use Rattle.hw_channel_laws.specs.modules.Texts.{joined_to}
 use Rattle.vlog_tree.specs.Labels.{s_din, s_rdy, s_wr}
-use Rattle.hw_task_lines.specs.declared.nets.Net.TheVariants.{Din, Rdy, Wr}
-use Rattle.hw_task_lines.specs.Nets.{name}
+use Rattle.hw_lines.specs.declared.nets.Net.TheVariants.{Din, Rdy, Wr}
+use Rattle.hw_lines.specs.Nets.{name}
 use Rattle.hw_top.proofs.Joined.{joined_as, three_more}
 use Rattle.hw_top.proofs.ends.add_written.Goals as goal
 

@@ -8,9 +8,9 @@ use Rattle.tapa_syntax.specs.declared.program.Stream.{Stream}
 use Rattle.task_fsm.specs.declared.machine.Fsm.{Fsm}
 use Rattle.vlog_tree.specs.Form.{ModuleTree, IsModule}
 use Rattle.hw_build.specs.Scope.{each}
-use Rattle.hw_task_lines.specs.Texts.{task_tree}
-use Rattle.hw_top_lines.specs.Channels.{channel_modules, with_new}
-use Rattle.hw_top_lines.specs.Texts.{token_bits, top_tree}
+use Rattle.hw_lines.specs.Texts.{task_tree}
+use Rattle.hw_lines.specs.top.Channels.{channel_modules, with_new}
+use Rattle.hw_lines.specs.top.Texts.{token_bits, top_tree}
 
 -- the modules of the channel of a stream with so many cycles of added latency
 abbrev pub stream_modules : ℕ → Option Stream → List ModuleTree

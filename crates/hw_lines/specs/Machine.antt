@@ -6,8 +6,8 @@ use Rattle.kahn_model.specs.declared.tick.Action.TheVariants.{Local, Put, Load, 
 use Rattle.kahn_model.specs.declared.tick.StreamOperation.{StreamOperation}
 use Rattle.kahn_model.specs.Behavior.{Offer, NoToken, judge_token, on_offer, takes}
 use Rattle.task_fsm.specs.Run.{StateStep, Performs, Awaits, Completes, Halts, step_at}
-use Rattle.hw_task_lines.specs.After.{at_after, held_after, ends_by}
-use Rattle.hw_task_lines.specs.Signals.{Streams, History, Part}
+use Rattle.hw_lines.specs.After.{at_after, held_after, ends_by}
+use Rattle.hw_lines.specs.Signals.{Streams, History, Part}
 
 -- what an operation finds at the reader's end of a stream
 abbrev pub offered : Bool → StreamOperation → Token → Offer

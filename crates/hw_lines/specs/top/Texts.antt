@@ -21,11 +21,11 @@ use Rattle.hw_build.specs.Trees.{numbered, tree_nodes, tree_root}
 use Rattle.hw_build.specs.Scope.{each}
 use Rattle.hw_channel_laws.specs.modules.Names.{channel_name}
 use Rattle.hw_channel_laws.specs.modules.Texts.{clocks, joined_to}
-use Rattle.hw_task_lines.specs.declared.nets.Net.TheVariants.{Done, Scalar as ScalarPort, Has, Dout, Taken, Din, Wr, Rdy, Ack, Rdata, Addr, Wdata, We}
-use Rattle.hw_task_lines.specs.Nets.{name}
-use Rattle.hw_task_lines.specs.Texts.{is_written, task_name}
-use Rattle.hw_top_lines.specs.Names.{s_has, s_dout, s_take, task_instance, channel_instance, ended_net, waits}
-use Rattle.hw_top_lines.specs.Bounds.{parameters, bound_by}
+use Rattle.hw_lines.specs.declared.nets.Net.TheVariants.{Done, Scalar as ScalarPort, Has, Dout, Taken, Din, Wr, Rdy, Ack, Rdata, Addr, Wdata, We}
+use Rattle.hw_lines.specs.Nets.{name}
+use Rattle.hw_lines.specs.Texts.{is_written, task_name}
+use Rattle.hw_lines.specs.top.Names.{s_has, s_dout, s_take, task_instance, channel_instance, ended_net, waits}
+use Rattle.hw_lines.specs.top.Bounds.{parameters, bound_by}
 
 -- ---- ports
 

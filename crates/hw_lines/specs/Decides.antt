@@ -6,10 +6,10 @@ use Rattle.vlog_tree.specs.Cycle.{Cycle, Follows, atom_value}
 use Rattle.hw_build.specs.Elements.{built}
 use Rattle.hw_build.specs.Choices.{Entry, any_elements, pick_elements, choice}
 use Rattle.hw_build.specs.Fits.{IsAmong}
-use Rattle.hw_task_lines.specs.Nets.{Choice, State, name, front}
-use Rattle.hw_task_lines.specs.Shape.{Shape, state_count}
-use Rattle.hw_task_lines.specs.Effects.{effect, entries}
-use Rattle.hw_task_lines.specs.Texts.{task_elements}
+use Rattle.hw_lines.specs.Nets.{Choice, State, name, front}
+use Rattle.hw_lines.specs.Shape.{Shape, state_count}
+use Rattle.hw_lines.specs.Effects.{effect, entries}
+use Rattle.hw_lines.specs.Texts.{task_elements}
 
 -- whether one of the conditions holds: it is one of the state's
 abbrev pub StateSetsAny : Type 0

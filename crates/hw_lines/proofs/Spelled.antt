@@ -9,9 +9,9 @@ use Rattle.vlog_tree.specs.Table.{Name}
 use Rattle.vlog_module_laws.proofs.Labelled.{early_name}
 use Rattle.vlog_module_laws.proofs.Lists.{both_true}
 use Rattle.hw_build.proofs.Forms.{all_append, yes_and}
-use Rattle.hw_task_lines.specs.Nets.{Choice, Net, choice_word, choice_numbers, word, numbers, spelled, name, front, ToState, ToEnd, Set, In, Stores, Place, Content, Reads, Spot, Puts, Token, Takes, Asks, Saves, Data, State, Ended, Done, Scalar, Variable, Array, Has, Dout, Taken, Din, Wr, Rdy, Ack, Rdata, Addr, Wdata, We, Plain, Datum, Eot, At, Go, Inside, Into, Packed, Next, Value, Index, ReadIndex, ReadInside, ReadOn, Raw, Answer, Node}
-use Rattle.hw_task_lines.specs.Names.{AreSmall, NetsHaveNames, NodesAreNumbered}
-use Rattle.hw_task_lines.proofs.Names.{tail_of, spelled_tail}
+use Rattle.hw_lines.specs.Nets.{Choice, Net, choice_word, choice_numbers, word, numbers, spelled, name, front, ToState, ToEnd, Set, In, Stores, Place, Content, Reads, Spot, Puts, Token, Takes, Asks, Saves, Data, State, Ended, Done, Scalar, Variable, Array, Has, Dout, Taken, Din, Wr, Rdy, Ack, Rdata, Addr, Wdata, We, Plain, Datum, Eot, At, Go, Inside, Into, Packed, Next, Value, Index, ReadIndex, ReadInside, ReadOn, Raw, Answer, Node}
+use Rattle.hw_lines.specs.Names.{AreSmall, NetsHaveNames, NodesAreNumbered}
+use Rattle.hw_lines.proofs.Names.{tail_of, spelled_tail}
 
 node_numbered : (c : Choice) (j : ℕ) → name (Node c j) ≡ spelled (choice_word c) (choice_numbers c ++ j ∷ [])
 unfolding name

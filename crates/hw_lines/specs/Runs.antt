@@ -16,10 +16,10 @@ use Rattle.task_fsm.specs.declared.machine.Fsm.{Fsm}
 use Rattle.task_fsm.specs.Machine.{forms_of}
 use Rattle.task_fsm.specs.Run.{StateStep, Performs, Awaits, Completes, Halts}
 use Rattle.hw_build.specs.Scope.{each}
-use Rattle.hw_task_lines.specs.Nets.{Net, State as StateNet, Ended, Done, Scalar, Variable, Array, Has, Dout, Taken, Din, Wr, Rdy, Ack, Rdata, Addr, Wdata, We, name}
-use Rattle.hw_task_lines.specs.Shape.{Shape, shape_of, array_cells, stream_kind, register_kind, memory_kind}
-use Rattle.hw_task_lines.specs.Signals.{Streams, History, Part}
-use Rattle.hw_task_lines.specs.Machine.{RunsMachine, step_in, steps}
+use Rattle.hw_lines.specs.Nets.{Net, State as StateNet, Ended, Done, Scalar, Variable, Array, Has, Dout, Taken, Din, Wr, Rdy, Ack, Rdata, Addr, Wdata, We, name}
+use Rattle.hw_lines.specs.Shape.{Shape, shape_of, array_cells, stream_kind, register_kind, memory_kind}
+use Rattle.hw_lines.specs.Signals.{Streams, History, Part}
+use Rattle.hw_lines.specs.Machine.{RunsMachine, step_in, steps}
 
 abbrev pub number_at : (ℕ → Cycle) → Net → ℕ → ℕ
 number_at run x n = (run n).net (name x)

@@ -12,3 +12,4 @@ pub mod Signals
 pub mod Machine
 pub mod Runs
 pub mod Decides
+pub mod top

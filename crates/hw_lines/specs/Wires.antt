@@ -12,9 +12,9 @@ use Rattle.vlog_tree.specs.declared.tree.Value.TheVariants.{Invert, Binary, Choo
 use Rattle.vlog_tree.specs.Table.{Name}
 use Rattle.hw_build.specs.Elements.{Element}
 use Rattle.task_fsm.specs.Machine.{Expression, Number, Reg, CellOf, Converted, Applied, Flipped, Inverse, Both, Either, Chosen, Operation}
-use Rattle.hw_task_lines.specs.Nets.{Variable, Answer, name}
-use Rattle.hw_task_lines.specs.Fixed.{fixed}
-use Rattle.hw_task_lines.specs.Drivers.{Driver, wires_of, last_of, one, conversion, operation}
+use Rattle.hw_lines.specs.Nets.{Variable, Answer, name}
+use Rattle.hw_lines.specs.Fixed.{fixed}
+use Rattle.hw_lines.specs.Drivers.{Driver, wires_of, last_of, one, conversion, operation}
 
 -- a read of an array: its index, and the number of the first read in that
 pub record ArrayRead : Type 0 where

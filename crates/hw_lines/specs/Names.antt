@@ -3,7 +3,7 @@ use Rattle.std.specs.Prelude.{◌≡◌, ℕ, ◌^◌, ◌<◌, List, true}
 use Rattle.std.specs.List.{AllByRecursion}
 use Rattle.vlog_tree.specs.Names.{is_name}
 use Rattle.hw_build.specs.Trees.{numbered}
-use Rattle.hw_task_lines.specs.Nets.{Choice, Net, Node, numbers, name, front}
+use Rattle.hw_lines.specs.Nets.{Choice, Net, Node, numbers, name, front}
 
 abbrev pub AreSmall : List ℕ → Type 0
 AreSmall ns = AllByRecursion (λ n. n < 2 ^ 64) ns

@@ -14,8 +14,8 @@ use Rattle.task_fsm.specs.declared.machine.Fsm.{Fsm}
 use Rattle.task_fsm.specs.Lowered.{IsLowered}
 use Rattle.vlog_tree.specs.Names.{goes_on}
 use Rattle.vlog_tree.specs.Table.{Name}
-use Rattle.hw_top_lines.specs.Designs.{AreShort}
-use Rattle.hw_top_lines.specs.Texts.{token_bits, top_elements}
+use Rattle.hw_lines.specs.top.Designs.{AreShort}
+use Rattle.hw_lines.specs.top.Texts.{token_bits, top_elements}
 
 -- nothing stands twice in a list
 abbrev pub AreApart : List Name → Type 0

@@ -16,8 +16,8 @@ use Rattle.vlog_tree.specs.Labels.{scalar}
 use Rattle.vlog_tree.specs.Table.{Name}
 use Rattle.hw_build.specs.Elements.{Element, Wire}
 use Rattle.hw_build.specs.Scope.{each}
-use Rattle.hw_task_lines.specs.Drivers.{wires_of, last_of, conversion}
-use Rattle.hw_top_lines.specs.Names.{bound_net}
+use Rattle.hw_lines.specs.Drivers.{wires_of, last_of, conversion}
+use Rattle.hw_lines.specs.top.Names.{bound_net}
 
 -- the kind and the name of a scalar of the top task
 abbrev pub scalar_kind : Program → ℕ → Kind

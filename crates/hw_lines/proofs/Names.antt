@@ -9,8 +9,8 @@ use Rattle.vlog_tree.specs.Table.{Name}
 use Rattle.vlog_module_laws.proofs.Lists.{both_true}
 use Rattle.hw_build.specs.Trees.{numbered}
 use Rattle.hw_build.proofs.Forms.{all_append, yes_and}
-use Rattle.hw_task_lines.specs.Nets.{Choice, Net, choice_word, choice_numbers, word, numbers, spelled, name, ToState, ToEnd, Set, In, Stores, Place, Content, Reads, Spot, Puts, Token, Takes, Asks, Saves, Data, State, Ended, Done, Scalar, Variable, Array, Has, Dout, Taken, Din, Wr, Rdy, Ack, Rdata, Addr, Wdata, We, Plain, Datum, Eot, At, Go, Inside, Into, Packed, Next, Value, Index, ReadIndex, ReadInside, ReadOn, Raw, Answer, Node}
-use Rattle.hw_task_lines.specs.Names.{AreSmall, NamesTellNets}
+use Rattle.hw_lines.specs.Nets.{Choice, Net, choice_word, choice_numbers, word, numbers, spelled, name, ToState, ToEnd, Set, In, Stores, Place, Content, Reads, Spot, Puts, Token, Takes, Asks, Saves, Data, State, Ended, Done, Scalar, Variable, Array, Has, Dout, Taken, Din, Wr, Rdy, Ack, Rdata, Addr, Wdata, We, Plain, Datum, Eot, At, Go, Inside, Into, Packed, Next, Value, Index, ReadIndex, ReadInside, ReadOn, Raw, Answer, Node}
+use Rattle.hw_lines.specs.Names.{AreSmall, NamesTellNets}
 
 -- below `_`, as digits and the letters of words are
 abbrev pub is_below : ℕ → Bool

@@ -18,11 +18,11 @@ use Rattle.hw_build.specs.Scope.{each}
 use Rattle.hw_build.specs.Choices.{Entry, any_elements, pick_elements, choice}
 use Rattle.task_fsm.specs.declared.machine.Fsm.{Fsm}
 use Rattle.tapa_base.specs.declared.kind.Kind.{Kind}
-use Rattle.hw_task_lines.specs.Nets.{Net, State, Ended, Done, Scalar, Variable, Array, Has, Dout, Taken, Din, Wr, Rdy, Ack, Rdata, Addr, Wdata, We, Plain as PlainNet, Datum, Eot, At, ReadIndex, ReadInside, ReadOn, Raw, Answer, Choice, ToState, ToEnd, Set, In, Stores, Place, Content, Reads, Spot, Puts, Token, Takes, Asks, Saves, Data, name, front, read_front}
-use Rattle.hw_task_lines.specs.Shape.{Shape, shape_of, array_kind, array_cells, stream_kind, register_kind, memory_kind, index_bits, state_count, state_bits}
-use Rattle.hw_task_lines.specs.Wires.{ArrayRead, Compiled, compiled}
-use Rattle.hw_task_lines.specs.States.{net, reads_at, state_wires, decoded}
-use Rattle.hw_task_lines.specs.Effects.{eot_of, entries}
+use Rattle.hw_lines.specs.Nets.{Net, State, Ended, Done, Scalar, Variable, Array, Has, Dout, Taken, Din, Wr, Rdy, Ack, Rdata, Addr, Wdata, We, Plain as PlainNet, Datum, Eot, At, ReadIndex, ReadInside, ReadOn, Raw, Answer, Choice, ToState, ToEnd, Set, In, Stores, Place, Content, Reads, Spot, Puts, Token, Takes, Asks, Saves, Data, name, front, read_front}
+use Rattle.hw_lines.specs.Shape.{Shape, shape_of, array_kind, array_cells, stream_kind, register_kind, memory_kind, index_bits, state_count, state_bits}
+use Rattle.hw_lines.specs.Wires.{ArrayRead, Compiled, compiled}
+use Rattle.hw_lines.specs.States.{net, reads_at, state_wires, decoded}
+use Rattle.hw_lines.specs.Effects.{eot_of, entries}
 
 abbrev pub by_end : List Element → List Element → Bool → List Element
 by_end written read b = if b then written else read

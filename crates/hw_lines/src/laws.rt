@@ -1,7 +1,7 @@
 // Laws on the modules of tasks.
 
-ghost use Rattle.hw_task_lines.specs.Decides.{StateClearsAny, StatePicks, StateSetsAny};
-ghost use Rattle.hw_task_lines.specs.Names.{NamesTellNets, NetsHaveNames, NodesAreNumbered};
+ghost use Rattle.hw_lines.specs.Decides.{StateClearsAny, StatePicks, StateSetsAny};
+ghost use Rattle.hw_lines.specs.Names.{NamesTellNets, NetsHaveNames, NodesAreNumbered};
 
 /// Each net of a task's module has a name, and is told by it.
 pub fn law_nets()

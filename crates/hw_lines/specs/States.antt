@@ -9,10 +9,10 @@ use Rattle.vlog_tree.specs.declared.tree.BinaryOp.TheVariants.{Plus, And, Equals
 use Rattle.vlog_tree.specs.declared.tree.Value.TheVariants.{Binary, Choose, Concat}
 use Rattle.hw_build.specs.Elements.{Element, Wire}
 use Rattle.task_fsm.specs.Machine.{Expression, Number, StateForm, SetAt, CellAt, TestAt, ReadAt, WriteAt, PeekAt, EotAt, OpenAt, CloseAt, LoadAt, StoreAt, ClearAt, EndAt, TrapAt}
-use Rattle.hw_task_lines.specs.Nets.{Net, Variable, Has, Rdy, Ack, Datum, Eot, At, Go, Inside, Into, Packed, Next, Value, State, name, value_front, index_front}
-use Rattle.hw_task_lines.specs.Shape.{Shape, array_kind, array_cells, stream_kind, register_kind, memory_kind, state_bits, form_at}
-use Rattle.hw_task_lines.specs.Drivers.{wires_of}
-use Rattle.hw_task_lines.specs.Wires.{ArrayRead, Compiled, reads_in, read_count, compiled}
+use Rattle.hw_lines.specs.Nets.{Net, Variable, Has, Rdy, Ack, Datum, Eot, At, Go, Inside, Into, Packed, Next, Value, State, name, value_front, index_front}
+use Rattle.hw_lines.specs.Shape.{Shape, array_kind, array_cells, stream_kind, register_kind, memory_kind, state_bits, form_at}
+use Rattle.hw_lines.specs.Drivers.{wires_of}
+use Rattle.hw_lines.specs.Wires.{ArrayRead, Compiled, reads_in, read_count, compiled}
 
 abbrev pub net : Net → Atom
 net x = NetAtom (name x)

@@ -19,13 +19,13 @@ use Rattle.hw_build.specs.Fits.{IsAmong}
 use Rattle.hw_build.proofs.Parts.{has_each, of_each}
 use Rattle.hw_build.proofs.Picks.{any_set, any_clear, pick_chosen}
 use Rattle.task_fsm.specs.Machine.{StateForm, SetAt, CellAt, TestAt, ReadAt, WriteAt, PeekAt, EotAt, OpenAt, CloseAt, LoadAt, StoreAt, ClearAt, EndAt, TrapAt}
-use Rattle.hw_task_lines.specs.Nets.{Net, State, At, Go, Inside, Into, ReadInside, ReadOn, Datum, Has as HasNet, Eot as EotNet, Ack, name, Choice, ToState, ToEnd, Set, In, Stores, Place, Content, Reads, Spot, Puts, Token, Takes, Asks, Saves, Data, front}
-use Rattle.hw_task_lines.specs.Shape.{Shape, state_count, form_at}
-use Rattle.hw_task_lines.specs.Wires.{ArrayRead}
-use Rattle.hw_task_lines.specs.States.{net, number_of, reads_at, awaited, acts_late, go_of, more_wires}
-use Rattle.hw_task_lines.specs.Effects.{entry, at, sets, places, contents, spot_of, tokens, takings, askings, savings, endings, effect, entries}
-use Rattle.hw_task_lines.specs.Texts.{asked_of, read_index, most, read_numbers, task_elements}
-use Rattle.hw_task_lines.proofs.Members.{all, decode_in, go_in, more_in, asked_in}
+use Rattle.hw_lines.specs.Nets.{Net, State, At, Go, Inside, Into, ReadInside, ReadOn, Datum, Has as HasNet, Eot as EotNet, Ack, name, Choice, ToState, ToEnd, Set, In, Stores, Place, Content, Reads, Spot, Puts, Token, Takes, Asks, Saves, Data, front}
+use Rattle.hw_lines.specs.Shape.{Shape, state_count, form_at}
+use Rattle.hw_lines.specs.Wires.{ArrayRead}
+use Rattle.hw_lines.specs.States.{net, number_of, reads_at, awaited, acts_late, go_of, more_wires}
+use Rattle.hw_lines.specs.Effects.{entry, at, sets, places, contents, spot_of, tokens, takings, askings, savings, endings, effect, entries}
+use Rattle.hw_lines.specs.Texts.{asked_of, read_index, most, read_numbers, task_elements}
+use Rattle.hw_lines.proofs.Members.{all, decode_in, go_in, more_in, asked_in}
 
 zero_is_not_one : ◌≡◌ {A = ℕ} 0 1 → ⊥
 zero_is_not_one e = absurd (omega (arith, e))
