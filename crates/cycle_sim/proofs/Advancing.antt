@@ -1,5 +1,5 @@
 -- A step keeps a simulator, and goes to the next cycle of each run that it tells of.
-use Rattle.std.proofs.Common.{◌≡◌, ℕ, zero, suc, ◌+◌, ◌^◌, ◌<◌, ◌≤◌, List, [], ◌∷◌, Some, length, get_or, refl, sym, subst, ◌∙◌, arith}
+use Rattle.std.proofs.Common.{◌≡◌, ℕ, zero, suc, ◌+◌, ◌^◌, ◌<◌, ◌≤◌, List, [], ◌∷◌, true, Some, length, get_or, refl, sym, subst, ◌∙◌, arith}
 use Rattle.std.specs.Prelude.{slice_get, Vec}
 use Rattle.std.specs.declared.alloc.Global.{Global}
 use Rattle.vlog_tree.specs.Form.{ModuleTree}
@@ -19,7 +19,7 @@ use Rattle.cycle_sim.specs.declared.parts.State.{State}
 use Rattle.cycle_sim.specs.Sims.{InRuns, IsNext}
 use Rattle.cycle_sim.specs.Steps.{IsAway, PairHas, supplied, stored_all, outside_list}
 use Rattle.cycle_sim.specs.Machines.{IsShown}
-use Rattle.cycle_sim.specs.Wholes.{IsSim, sim_tree}
+use Rattle.cycle_sim.specs.Wholes.{IsSim, IsStill, sim_tree}
 use Rattle.cycle_sim.proofs.Telling.{shown_of, told_of}
 use Rattle.cycle_sim.proofs.Stepping.{has_next, given_next, fits, shown_next}
 use Rattle.cycle_sim.proofs.Asking.{data_low}
@@ -51,7 +51,7 @@ module _ (p : Parts) (s : State) (sim : IsSim p s) where
       (taken : (i : ℕ) (a : Commit) → slice_get p.commits.items i ≡ Some a → number_at taken_ns a.slot ≡ number_at s.numbers.items a.next)
       (values : (i : ℕ) (a : Input) → slice_get p.inputs.items i ≡ Some a → PairHas given_ns a.pair (supplied (lists_of p.ready.items) t.cycle a.supply))
       (kept : (k : ℕ) → ((i : ℕ) (a : Input) → slice_get p.inputs.items i ≡ Some a → IsAway k a.pair) → number_at given_ns k ≡ number_at taken_ns k)
-      (solved : IsSolved p.program (cells_of t.cells.items) t.numbers.items) (same : SameGiven p.program.gates given_ns t.numbers.items) where
+      (solved : IsSolved p.program (cells_of t.cells.items) t.numbers.items) (same : SameGiven p.program.gates given_ns t.numbers.items) (still : t.is_still ≡ true → IsStill p t) where
     later : t.cycle ≡ suc s.cycle
     later = omega (arith, cycle)
 
@@ -69,6 +69,7 @@ module _ (p : Parts) (s : State) (sim : IsSim p s) where
           (cells_of s.cells.items) (cells_of t.cells.items) s.numbers.items sim.cells behind;
       given = given_next p.design.modules sim.parts.top p.flat p.pairs.items p.memories.items p.widths.items p.program p.commits.items p.stores.items sim.parts.machine p.scalars.items p.inputs.items sim.parts.around.inputs p.outside.items sim.parts.around.outside
           (cells_of t.cells.items) given_ns t.numbers.items (lists_of p.ready.items) t.cycle solved same values;
+      still = still;
     }
 
     shown_later : (env : Environment) (nets : ℕ → Path → Cycle) → FitsShape env (shape_of sim.parts.top) → env.ready ≡ lists_of p.ready.items → RunsIn p.design.modules sim.parts.top env nets

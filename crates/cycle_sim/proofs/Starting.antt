@@ -1,5 +1,5 @@
 -- The first cycle of a design: its cells, and what is told of it.
-use Rattle.std.proofs.Common.{◌≡◌, ◌≢◌, ℕ, zero, suc, ◌+◌, ◌*◌, ◌%◌, ◌^◌, ◌<◌, List, [], ◌∷◌, ◌++◌, Some, None, length, get_or, replicate, inl, inr, sym, ap, subst, ◌∙◌, arith}
+use Rattle.std.proofs.Common.{◌≡◌, ◌≢◌, ℕ, zero, suc, ◌+◌, ◌*◌, ◌%◌, ◌^◌, ◌<◌, true, false, List, [], ◌∷◌, ◌++◌, Some, None, length, get_or, replicate, inl, inr, sym, ap, subst, ◌∙◌, arith}
 use Rattle.std.specs.Prelude.{◌⊎◌, Vec, slice_get, slice_index_or}
 use Rattle.std.specs.List.{flat_map}
 use Rattle.std.specs.declared.alloc.Global.{Global}
@@ -139,14 +139,15 @@ module _ (p : Parts) (are : AreParts p) where
     }
 
     -- it is a simulator
-    pub sim_first : length ns ≡ length p.program.gates → length s.given.items ≡ length p.program.gates → IsSim p s
-    sim_first size room = record {
+    pub sim_first : length ns ≡ length p.program.gates → length s.given.items ≡ length p.program.gates → s.is_still ≡ false → IsSim p s
+    sim_first size room moves = record {
       parts = are;
       size = size;
       room = room;
       solved = solved;
       cells = has_cells;
       given = λ i a got. subst (λ n. pair_value ns a.pair ≡ supplied (lists_of p.ready.items) n a.supply) (sym cycle) (given i a got);
+      still = λ e. absurd (let both : true ≡ false = sym e ∙ moves in cc);
     }
 
     -- what is told of the first cycle is what each run has there that begins with one number everywhere

@@ -90,3 +90,13 @@ module _ (ready : List (List Bool)) (cycle room : ℕ) (inputs : List Input) (sl
 
   pub away_more : (k : ℕ) → ((j : ℕ) (a : Input) → slice_get inputs j ≡ Some a → IsAway k a.pair) → number_at new k ≡ number_at old k
   away_more k away = same k (away i x got) ∙ kept k away
+
+-- one more input has what it is given
+pub held_more : (ready : List (List Bool)) (cycle : ℕ) (inputs : List Input) (ns : List ℕ) (i : ℕ) (x : Input) → slice_get inputs i ≡ Some x → (v : ℕ) → v ≡ supplied ready cycle x.supply → PairHas ns x.pair v
+    → ((j : ℕ) (a : Input) → j < i → slice_get inputs j ≡ Some a → PairHas ns a.pair (supplied ready cycle a.supply)) → (j : ℕ) (a : Input) → j < i + 1 → slice_get inputs j ≡ Some a → PairHas ns a.pair (supplied ready cycle a.supply)
+held_more ready cycle inputs ns i x got v v_is has before j a low g = by_case (cases_eq j i) where
+  by_case : (j ≡ i) ⊎ (j ≢ i) → PairHas ns a.pair (supplied ready cycle a.supply)
+  by_case (inl s) =
+      let one : x ≡ a = cc (subst (λ z. slice_get inputs z ≡ Some x) (sym s) got, g) in
+      subst (λ (z : Input). PairHas ns z.pair (supplied ready cycle z.supply)) one (subst (λ z. PairHas ns x.pair z) v_is has)
+  by_case (inr ne) = before j a (omega arith) g

@@ -1,5 +1,5 @@
 -- A whole simulator.
-use Rattle.std.specs.Prelude.{◌≡◌, ℕ, ◌≤◌, ◌&&◌, List, Option, Some, None, length, slice_get, if◌then◌else◌}
+use Rattle.std.specs.Prelude.{◌≡◌, ℕ, ◌≤◌, true, ◌&&◌, List, Option, Some, None, length, slice_get, if◌then◌else◌}
 use Rattle.tapa_base.specs.declared.shape.Port.{Port}
 use Rattle.vlog_tree.specs.Form.{ModuleTree}
 use Rattle.vlog_tree.specs.Labels.{s_wr, s_rdy, s_din, done}
@@ -9,9 +9,10 @@ use Rattle.vlog_design.specs.Designs.{TopOf}
 use Rattle.vlog_design.specs.Environments.{lists_of}
 use Rattle.sim_tape.specs.declared.gates.Pair.{Pair}
 use Rattle.sim_tape.specs.Operators.{cells_of}
-use Rattle.sim_tape.specs.Tape.{pair_value}
-use Rattle.sim_tape.specs.Solved.{IsSolved}
+use Rattle.sim_tape.specs.Tape.{number_at, pair_value}
+use Rattle.sim_tape.specs.Solved.{IsSolved, SameGiven}
 use Rattle.sim_flat.specs.declared.flat.Flat.{Flat}
+use Rattle.sim_design.specs.declared.drafts.Commit.{Commit}
 use Rattle.cycle_sim.specs.declared.inputs.Input.{Input}
 use Rattle.cycle_sim.specs.declared.cells.Outside.{Outside}
 use Rattle.cycle_sim.specs.declared.parts.Stream.{Stream}
@@ -19,7 +20,8 @@ use Rattle.cycle_sim.specs.declared.parts.Parts.{Parts}
 use Rattle.cycle_sim.specs.declared.parts.State.{State}
 use Rattle.cycle_sim.specs.SlotsTold.{told_by}
 use Rattle.cycle_sim.specs.Sims.{SimTree}
-use Rattle.cycle_sim.specs.Steps.{supplied, is_one}
+use Rattle.cycle_sim.specs.Steps.{IsAway, supplied, is_one}
+use Rattle.cycle_sim.specs.Writes.{AreUnmade, AreUnwritten}
 use Rattle.cycle_sim.specs.ShownNets.{AreShown}
 use Rattle.cycle_sim.specs.Machines.{AreInputs, AreOutside, IsPairOf, IsMachine, HasCells}
 
@@ -64,6 +66,16 @@ pub record AreParts (p : Parts) : Type 0 where
   pub machine : IsMachine p.design.modules top p.flat p.pairs.items p.memories.items p.widths.items p.program p.commits.items p.stores.items
   pub around : IsAround p.design.modules top p.flat p.pairs.items p.scalars.items p.inputs.items p.outside.items p.streams.items p.shown.items p.done
 
+-- The numbers that slots are given are those that they have, and those that registers take over, and nothing is written: while the inputs
+-- stay, the next cycle is one like this.
+pub record IsStill (p : Parts) (s : State) : Type 0 where
+  pub taken_ns : List ℕ
+  pub taken : (i : ℕ) (a : Commit) → slice_get p.commits.items i ≡ Some a → number_at taken_ns a.slot ≡ number_at s.numbers.items a.next
+  pub kept : (k : ℕ) → ((i : ℕ) (a : Input) → slice_get p.inputs.items i ≡ Some a → IsAway k a.pair) → number_at s.given.items k ≡ number_at taken_ns k
+  pub same : SameGiven p.program.gates s.given.items s.numbers.items
+  pub unmade : AreUnmade s.numbers.items p.stores.items
+  pub unwritten : AreUnwritten s.numbers.items p.outside.items
+
 -- The slots are those of a cycle of such a design.
 pub record IsSim (p : Parts) (s : State) : Type 0 where
   pub parts : AreParts p
@@ -72,3 +84,4 @@ pub record IsSim (p : Parts) (s : State) : Type 0 where
   pub solved : IsSolved p.program (cells_of s.cells.items) s.numbers.items
   pub cells : HasCells p.design.modules parts.top p.flat p.memories.items (cells_of s.cells.items)
   pub given : (i : ℕ) (a : Input) → slice_get p.inputs.items i ≡ Some a → pair_value s.numbers.items a.pair ≡ supplied (lists_of p.ready.items) s.cycle a.supply
+  pub still : s.is_still ≡ true → IsStill p s

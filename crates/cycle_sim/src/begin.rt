@@ -172,5 +172,6 @@ pub fn first_state(
         cells,
         given,
         marks,
+        is_still: false,
     })
 }

@@ -143,6 +143,8 @@ pub fn write_all(
     ensures asked { (i : ℕ) (o : OutsideTree) → slice_get outside.now i ≡ Some o → get_or (cells_of cells.new) i [] ≡ outside_list numbers.now o (stored_all numbers.now i (get_or (cells_of cells.old) i []) stores.now) }
     ensures behind { (m : ℕ) → length outside.now ≤ m → get_or (cells_of cells.new) m [] ≡ stored_all numbers.now m (get_or (cells_of cells.old) m []) stores.now }
     ensures none { result ≡ false → cells.new ≡ cells.old }
+    ensures unmade { result ≡ false → AreUnmade numbers.now stores.now }
+    ensures unwritten { result ≡ false → AreUnwritten numbers.now outside.now }
 {
     if no_cell_is_written(numbers, stores, outside) {
         return false;

@@ -1,13 +1,13 @@
 // What the inputs of the top are given.
 
-ghost use Rattle.std.specs.Prelude.{◌≡◌, ℕ, Bool, List, [], Some, length, slice_get, slice_index_or};
+ghost use Rattle.std.specs.Prelude.{◌≡◌, ℕ, Bool, List, [], Some, true, length, slice_get, slice_index_or};
 ghost use Rattle.vlog_tree.specs.Environment.{ready_at};
 ghost use Rattle.vlog_design.specs.Environments.{lists_of};
 ghost use Rattle.sim_tape.specs.Tape.{number_at};
 ghost use Rattle.cycle_sim.specs.declared.inputs.Input.{Input as InputTree};
 ghost use Rattle.cycle_sim.specs.Steps.{HaveSlots, IsAway, PairHas, supplied as supplied_lem};
 
-use crate::slots::put_pair;
+use crate::slots::{number, put_pair};
 use sim_tape::Pair;
 
 /// What an input of the top is given: reset, a number that stays, or whether the memory at a place is ready.
@@ -65,4 +65,26 @@ pub fn give(inputs: &[Input], ready: &[Vec<bool>], cycle: u64, numbers: &mut [u6
     for input in inputs {
         put_pair(numbers, input.pair, supplied(ready, cycle, input.supply));
     }
+}
+
+// Whether a pair has a number of at most 64 bits.
+fn has_number(numbers: &[u64], pair: Pair, n: u64) -> bool
+    ensures { result ≡ true → PairHas numbers.now pair n }
+{
+    if number(numbers, pair.low) != n {
+        return false;
+    }
+    pair.high == 0 || number(numbers, pair.high) == 0
+}
+
+/// Whether the inputs of the top have what stands around the design in a cycle.
+pub fn are_given(inputs: &[Input], ready: &[Vec<bool>], cycle: u64, numbers: &[u64]) -> bool
+    ensures { result ≡ true → (i : ℕ) (a : InputTree) → slice_get inputs.now i ≡ Some a → PairHas numbers.now a.pair (supplied_lem (lists_of ready.now) cycle a.supply) }
+{
+    for input in inputs {
+        if !has_number(numbers, input.pair, supplied(ready, cycle, input.supply)) {
+            return false;
+        }
+    }
+    true
 }

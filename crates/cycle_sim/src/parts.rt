@@ -1,6 +1,6 @@
 // A design on a tape, and what changes from cycle to cycle.
 
-ghost use Rattle.std.specs.Prelude.{◌+◌, ◌*◌, ◌<◌, ◌≤◌, ◌^◌, ◌≡◌, ◌↔◌, IsTrue, [], Some, get_or, slice_get};
+ghost use Rattle.std.specs.Prelude.{◌+◌, ◌*◌, ◌<◌, ◌≤◌, ◌^◌, ◌≡◌, ◌↔◌, IsTrue, [], Some, false, true, get_or, slice_get};
 ghost use Rattle.sim_tape.specs.Operators.{cells_of};
 ghost use Rattle.vlog_tree.specs.declared.table.Declaration.{Declaration as DeclarationTree};
 ghost use Rattle.vlog_tree.specs.Form.{ModuleTree};
@@ -11,7 +11,7 @@ ghost use Rattle.cycle_sim.specs.ShownNets.{shown_nets};
 ghost use Rattle.cycle_sim.specs.Wholes.{IsSim, sim_tree, token_on};
 
 use crate::cells::{Outside, write_all};
-use crate::inputs::{Input, give};
+use crate::inputs::{Input, are_given, give};
 use crate::slots::{is_one, number, take_over};
 use sim_design::{Commit, Width};
 use sim_flat::Flat;
@@ -52,7 +52,7 @@ pub struct Parts {
 }
 
 /// A cycle: its number, the numbers of all slots and the cells of all memories; and what the next cycle is worked out with: room for
-/// the numbers that slots are given, and marks of the gates that are to be worked out.
+/// the numbers that slots are given, marks of the gates that are to be worked out, and whether nothing changes while the inputs stay.
 #[derive(Drop)]
 pub struct State {
     pub cycle: u64,
@@ -60,10 +60,19 @@ pub struct State {
     pub cells: Vec<Vec<u64>>,
     pub given: Vec<u64>,
     pub marks: Marks,
+    pub is_still: bool,
 }
 
-/// Goes to the next cycle. Where few numbers change, only gates that read these are worked out.
-pub fn advance(parts: &Parts, state: &mut State)
+// Whether nothing changes while the inputs stay: no number has changed, and no cell is written.
+fn is_still(is_same: bool, is_written: bool) -> bool
+    ensures same { result ≡ true → is_same ≡ true }
+    ensures unwritten { result ≡ true → is_written ≡ false }
+{
+    is_same && !is_written
+}
+
+// Works the next cycle out. Where few numbers change, only gates that read these are.
+fn work_out(parts: &Parts, state: &mut State)
     requires sim { IsSim parts.now state.old }
     requires few { state.old.cycle + 1 < 2 ^ 64 }
     ensures sim { IsSim parts.now state.new }
@@ -78,13 +87,28 @@ pub fn advance(parts: &Parts, state: &mut State)
     take_over(&parts.commits, &state.numbers, &mut state.given);
     state.cycle += 1;
     give(&parts.inputs, &parts.ready, state.cycle, &mut state.given);
-    parts.program.follow(
+    let is_same = parts.program.follow(
         &state.given,
         is_written,
         &mut state.numbers,
         &state.cells,
         &mut state.marks,
     );
+    state.is_still = is_still(is_same, is_written);
+}
+
+/// Goes to the next cycle. Where nothing changes while the inputs stay, and they do, that is one like this.
+pub fn advance(parts: &Parts, state: &mut State)
+    requires sim { IsSim parts.now state.old }
+    requires few { state.old.cycle + 1 < 2 ^ 64 }
+    ensures sim { IsSim parts.now state.new }
+    ensures next { IsNext (sim_tree parts.now state.old) (sim_tree parts.now state.new) }
+{
+    if state.is_still && are_given(&parts.inputs, &parts.ready, state.cycle + 1, &state.given) {
+        state.cycle += 1;
+        return;
+    }
+    work_out(parts, state);
 }
 
 /// Whether the design is done in a cycle.

@@ -94,36 +94,50 @@ pub(crate) fn copy_slots(given: &[u64], listed: &[u32], numbers: &mut [u64])
     }
 }
 
-// Gives a slot a number, and marks the blocks that read it if it had another.
-fn give_slot(slot: u32, n: u64, readers: &[Vec<u32>], numbers: &mut [u64], marks: &mut [bool])
+// Gives a slot a number, and marks the blocks that read it if it had another. Says whether it had.
+fn give_slot(
+    slot: u32,
+    n: u64,
+    readers: &[Vec<u32>],
+    numbers: &mut [u64],
+    marks: &mut [bool],
+) -> bool
     requires { slot < length numbers.old }
     ensures kept { KeepsMarks marks.old marks.new }
     ensures given { number_at numbers.new slot ≡ n }
     ensures others { (s : ℕ) → (slot ≡ s → ⊥) → number_at numbers.new s ≡ number_at numbers.old s }
     ensures followed { IsFollowed readers.now marks.new numbers.old numbers.new slot }
+    ensures still { result ≡ false → numbers.new ≡ numbers.old }
 {
-    if numbers[slot as usize] != n {
-        numbers[slot as usize] = n;
-        mark_readers(marks, readers, slot);
+    if numbers[slot as usize] == n {
+        return false;
     }
+    numbers[slot as usize] = n;
+    mark_readers(marks, readers, slot);
+    true
 }
 
-/// Gives the slots of a list the numbers given, and marks the blocks that read those that change.
+/// Gives the slots of a list the numbers given, and marks the blocks that read those that change. Says whether some do.
 pub(crate) fn give_slots(
     given: &[u64],
     listed: &[u32],
     readers: &[Vec<u32>],
     numbers: &mut [u64],
     marks: &mut [bool],
-)
+) -> bool
     requires fits { (i : ℕ) → i < length listed.now → number_at listed.now i < length numbers.old }
     requires room { length given.now ≡ length numbers.old }
     ensures kept { KeepsMarks marks.old marks.new }
     ensures given { HaveGiven listed.now given.now numbers.new }
     ensures others { KeepsUnlisted listed.now numbers.old numbers.new }
     ensures followed { AllFollowed readers.now marks.new numbers.old numbers.new }
+    ensures still { result ≡ false → numbers.new ≡ numbers.old }
 {
+    let mut is_changed = false;
     for slot in listed {
-        give_slot(*slot, given[*slot as usize], readers, numbers, marks);
+        if give_slot(*slot, given[*slot as usize], readers, numbers, marks) {
+            is_changed = true;
+        }
     }
+    is_changed
 }

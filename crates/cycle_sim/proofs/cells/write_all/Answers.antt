@@ -14,6 +14,8 @@ returns-then-no_cell_is_written c =
       asked = λ i o g. stored_same ns i (get_or cells i []) stores unmade ∙ asked_same ns o (stored_all ns i (get_or cells i []) stores) (c.no_cell_is_written.ensures.outside c.if-no_cell_is_written.true i o g);
       behind = λ m h. stored_same ns m (get_or cells m []) stores unmade;
       none = λ e. refl;
+      unmade = λ e. unmade;
+      unwritten = λ e. c.no_cell_is_written.ensures.outside c.if-no_cell_is_written.true;
     }
 
 pub returns-clause-asked : goal.returns-clause-asked
