@@ -9,3 +9,5 @@ pub mod Compute
 pub mod Continue
 pub mod Resumes
 pub mod Begins
+mod Goes
+mod Led

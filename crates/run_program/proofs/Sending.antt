@@ -5,7 +5,10 @@ use Rattle.tapa_syntax.specs.contracts.program.Expr as Expr
 use Rattle.tapa_syntax.proofs.program.Expr.TheLaws.TheKnot as knot
 use Rattle.task_fsm.specs.contracts.machine.State as State
 use Rattle.task_fsm.specs.contracts.machine.Fsm as Fsm
+use Rattle.tapa_base.specs.contracts.kind.Kind as Kind
+use Rattle.tapa_base.specs.contracts.op.Op as Op
 use Rattle.flat_code.specs.contracts.code.Operand as Operand
+use Rattle.flat_code.specs.contracts.code.Other as Other
 use Rattle.flat_code.specs.contracts.code.Computation as Computation
 use Rattle.flat_code.specs.contracts.code.Instruction as Instruction
 use Rattle.flat_code.specs.contracts.code.Request as Request
@@ -33,11 +36,29 @@ operand_send = search (sendable, crosses) depth 60
 operand_sync : IsSync Operand.the_field.row
 operand_sync = search (sendable, crosses) depth 60
 
+kind_send : IsSend Kind.the_field.row
+kind_send = search (sendable, crosses) depth 60
+
+kind_sync : IsSync Kind.the_field.row
+kind_sync = search (sendable, crosses) depth 60
+
+op_send : IsSend Op.the_field.row
+op_send = search (sendable, crosses) depth 60
+
+op_sync : IsSync Op.the_field.row
+op_sync = search (sendable, crosses) depth 60
+
+other_send : IsSend Other.the_field.row
+other_send = search (kind_send, op_send, operand_send, sendable, crosses) depth 120 fits 60000
+
+other_sync : IsSync Other.the_field.row
+other_sync = search (kind_sync, op_sync, operand_sync, sendable, crosses) depth 120 fits 60000
+
 computation_send : IsSend Computation.the_field.row
-computation_send = search (operand_send, sendable, crosses) depth 60 fits 20000
+computation_send = search (kind_send, operand_send, other_send, sendable, crosses) depth 120 fits 60000
 
 computation_sync : IsSync Computation.the_field.row
-computation_sync = search (operand_sync, sendable, crosses) depth 60 fits 20000
+computation_sync = search (kind_sync, operand_sync, other_sync, sendable, crosses) depth 120 fits 60000
 
 instruction_send : IsSend Instruction.the_row
 instruction_send = search (computation_send, sendable, crosses) depth 60
