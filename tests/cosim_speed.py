@@ -1,13 +1,15 @@
 #!/usr/bin/env python3
 """Measures how fast a built `tapa` simulates circuits beside Icarus Verilog and, where it is there, Verilator, and prints the rows of docs/FIGURES.md.
 
-    tests/cosim_speed.py PROGRAM [--only WORD] [--no-verilator]
+    tests/cosim_speed.py PROGRAM [--median N] [--only WORD] [--no-verilator] [--g++-O3]
     tests/cosim_speed.py PROGRAM --counted [--only WORD]
 
 The circuits are those of the examples, with loops and data so much longer that the start of a program counts for little; a row of 36 busy tasks; a chain of 512 tasks of which
 one passes a token on; and those of tests/cosim_speed, each a program of a usual kind, with arrays and memories in its tasks and twenty to sixty states. All simulators run
-the same text on the same data, until it is done or for so many cycles: examples that stop go on for a while. Seconds are processor seconds, the best of three;
-Icarus's are those of `vvp` alone, and Verilator's those of the program that `verilator --binary -O3` makes, both with the testbench of tools/icarus.py.
+the same text on the same data, until it is done or for so many cycles: examples that stop go on for a while. Seconds are processor seconds, the best of three calls or the
+median of N; the simulators take turns, so that a slow minute of the machine strikes them alike. Icarus's are those of `vvp` alone, and Verilator's those of the program that
+`verilator --binary -O3` makes, both with the testbench of tools/icarus.py. Verilator has g++ compile that program with -Os; with --g++-O3 it is -O3, which makes a faster one.
+The last rows tell the geometric means of the quotients, the least and the most of them, and the means of the circuits that wait for most of their time and of the others.
 
 With --counted nothing is timed: `valgrind --tool=callgrind` counts the instructions that `cosim` takes, for two numbers of cycles, and what is told is the difference for a cycle,
 which no other work on the machine disturbs.
@@ -20,6 +22,7 @@ import random
 import re
 import shlex
 import shutil
+import statistics
 import subprocess
 import sys
 import tempfile
@@ -32,6 +35,9 @@ import icarus  # noqa: E402
 
 TIMES, SHORT, CELLS, CYCLES = 500, 20, 60_000, 200_000
 COUNTED = (300, 1_300)
+OPTIMISED = ("-MAKEFLAGS", "OPT_FAST=-O3 OPT_GLOBAL=-O3")
+ONE_PASSES = "512 tasks of which one passes a token"
+WAITING = ("bad_token", "feedback", "too_shallow", ONE_PASSES)
 
 
 def longer(text, times):
@@ -92,23 +98,25 @@ def cases():
         times = SHORT if "stencil" in path else TIMES
         yield os.path.basename(path).removesuffix(".cpp"), longer(text, times), words[1], longer_data(data, times)
     yield "36 busy tasks in a row", busy(36, 2_000), "T", {}
-    yield "512 tasks of which one passes a token", waiting(512), "T", {}
+    yield ONE_PASSES, waiting(512), "T", {}
     for path in sorted(glob.glob(os.path.join(HERE, "cosim_speed", "*.cpp"))):
         yield written(path)
 
 
-def seconds(words, folder):
-    """The processor seconds of a call, the best of three, and what it printed last."""
-    best = None
-    for _ in range(3):
-        with open(os.path.join(folder, "said"), "wb") as out:
-            ran = subprocess.Popen(words, cwd=folder, stdout=out, stderr=subprocess.DEVNULL)
-            _, _, spent = os.wait4(ran.pid, 0)
-            ran.returncode = 0
-        used = spent.ru_utime + spent.ru_stime
-        best = used if best is None else min(best, used)
+def once(words, folder):
+    """The processor seconds of a call, and the lines that it printed."""
+    with open(os.path.join(folder, "said"), "wb") as out:
+        ran = subprocess.Popen(words, cwd=folder, stdout=out, stderr=subprocess.DEVNULL)
+        _, _, spent = os.wait4(ran.pid, 0)
+        ran.returncode = 0
     with open(os.path.join(folder, "said"), encoding="utf-8") as said:
-        return best, said.read().split("\n")[-2]
+        return spent.ru_utime + spent.ru_stime, said.read().split("\n")
+
+
+def by_turns(calls, folder, times, middle):
+    """For each of the calls, which take turns: the least or the middle of its processor seconds, and the lines that it printed."""
+    made = [[once(words, folder) for words in calls] for _ in range(times)]
+    return [((statistics.median if middle else min)(spent for spent, _ in own), own[-1][1]) for own in zip(*made)]
 
 
 def build(program, folder, source, top, data):
@@ -122,40 +130,34 @@ def build(program, folder, source, top, data):
         return file.read()
 
 
-def verilated(folder):
-    """The program that Verilator makes of the circuit and its testbench; none where Verilator is not there."""
+def verilated(folder, more):
+    """The call of the program that Verilator makes of the circuit and its testbench, with more words for it; none where Verilator is not there."""
     if not shutil.which("verilator"):
         return None
-    words = ["verilator", "--binary", "-O3", "--timing", "-Wno-fatal", "-Wno-lint", "-Wno-style", "--top-module", "bench", "-Mdir", "made", "x.v", "bench.v"]
+    words = ["verilator", "--binary", "-O3", *more, "--timing", "-Wno-fatal", "-Wno-lint", "-Wno-style", "--top-module", "bench", "-Mdir", "made", "x.v", "bench.v"]
     made = subprocess.run(words, cwd=folder, capture_output=True, check=False)
-    return [os.path.join(folder, "made", "Vbench")] if made.returncode == 0 else None
+    if made.returncode:
+        print(f"Verilator refuses a circuit: {made.stderr.decode()[:300].strip()}", file=sys.stderr)
+        return None
+    return [os.path.join(folder, "made", "Vbench")]
 
 
-def measured(program, folder, text, data, with_verilator):
+def measured(program, folder, text, data, simulators):
+    """The cycles of a circuit, and the processor seconds of `cosim`, of Icarus and, where it is wanted and there, of Verilator."""
+    with_verilator, more, times, middle = simulators
     with open(os.path.join(folder, "bench.v"), "w", encoding="utf-8") as file:
         file.write("\n".join(icarus.bench(text, data, CYCLES)) + "\n")
     subprocess.run(["iverilog", "-g2005", "-gno-xtypes", "-o", "bench", "x.v", "bench.v"], cwd=folder, check=True)
-    own, last = seconds([program, "cosim", "x.v", "d.json", "--cycles", str(CYCLES)], folder)
-    other, same = seconds(["vvp", "-n", "bench"], folder)
-    if last != same:
-        sys.exit(f"they differ: {last}, {same}")
-    compiled = verilated(folder) if with_verilator else None
-    return int(last.split()[1]), own, other, seconds_beside(compiled, folder, last) if compiled else None
-
-
-def seconds_beside(words, folder, last):
-    """The processor seconds of Verilator's program, which says more behind the last line of a report."""
-    best = None
-    for _ in range(3):
-        ran = subprocess.Popen(words, cwd=folder, stdout=subprocess.PIPE, stderr=subprocess.DEVNULL)
-        said = ran.stdout.read().decode()
-        _, _, spent = os.wait4(ran.pid, 0)
-        ran.returncode = 0
-        used = spent.ru_utime + spent.ru_stime
-        best = used if best is None else min(best, used)
-    if last not in said.split("\n"):
+    compiled = verilated(folder, more) if with_verilator else None
+    calls = [[program, "cosim", "x.v", "d.json", "--cycles", str(CYCLES)], ["vvp", "-n", "bench"], *([compiled] if compiled else [])]
+    (own, lines), (other, same), *beside = by_turns(calls, folder, times, middle)
+    last = lines[-2]
+    if last != same[-2]:
+        sys.exit(f"they differ: {last}, {same[-2]}")
+    # (Verilator's program says more behind the last line of a report)
+    if beside and last not in beside[0][1]:
         sys.exit(f"Verilator's program does not say {last}")
-    return best
+    return int(last.split()[1]), own, other, beside[0][0] if beside else None
 
 
 def instructions(program, folder, cycles):
@@ -182,30 +184,47 @@ def count(program, folder, only):
     print(f"| geometric mean of {len(found)} | {mean_of(found):,.0f} |")
 
 
-def measure(program, folder, only, with_verilator):
+def ends(found):
+    """The last rows of a table of circuits: (name, times as fast as Icarus, times as slow as Verilator or None)."""
+    groups = [("geometric mean", mean_of, found), ("least", min, found), ("most", max, found)]
+    groups.append(("geometric mean of those that wait,", mean_of, [it for it in found if it[0] in WAITING]))
+    groups.append(("geometric mean of the others,", mean_of, [it for it in found if it[0] not in WAITING]))
+    for what, taken, of in groups:
+        if of:
+            slower = [it[2] for it in of if it[2] is not None]
+            yield f"| {what} of {len(of)} | | | | {taken([it[1] for it in of]):.1f} | | {f'{taken(slower):.2f}' if slower else ''} |"
+
+
+def measure(program, folder, only, simulators):
     """Prints the seconds of each circuit beside the others' simulators."""
     print("| circuit | cycles | `cosim` | vvp | times as fast | Verilator | times as slow |\n|---|---|---|---|---|---|---|")
-    ratios, slower = [], []
+    found = []
     for name, source, top, data in cases():
-        if only not in name:
-            continue
-        text = build(program, folder, source, top, data)
-        cycles, own, other, compiled = measured(program, folder, text, data, with_verilator)
-        ratios.append(other / own)
-        beside = ""
-        if compiled is not None:
-            slower.append(own / max(compiled, 0.001))
-            beside = f"{compiled:.3f} s | {slower[-1]:.1f}"
-        print(f"| {name} | {cycles:,} | {own:.3f} s | {other:.3f} s | {other / own:.1f} | {beside or '|'} |", flush=True)
-    last = f"{mean_of(slower):.1f}" if slower else ""
-    print(f"| geometric mean of {len(ratios)} | | | | {mean_of(ratios):.1f} | | {last} |")
+        if only in name:
+            text = build(program, folder, source, top, data)
+            cycles, own, other, compiled = measured(program, folder, text, data, simulators)
+            slower = None if compiled is None else own / max(compiled, 0.001)
+            found.append((name, other / own, slower))
+            beside = "|" if slower is None else f"{compiled:.4f} s | {slower:.2f}"
+            print(f"| {name} | {cycles:,} | {own:.4f} s | {other:.3f} s | {other / own:.1f} | {beside} |", flush=True)
+    print("\n".join(ends(found)))
+
+
+def taken_from(words, option, default):
+    """What stands behind an option among the words, which both lose; the default where it is not there."""
+    if option not in words[:-1]:
+        return default
+    at = words.index(option)
+    _, value = words[at : at + 2]
+    del words[at : at + 2]
+    return value
 
 
 def main(words):
-    known = {"--counted", "--no-verilator"}
-    only = words[words.index("--only") + 1] if "--only" in words[:-1] else ""
-    rest = [word for word in words if word not in known | {"--only", only}]
-    if len(rest) != 1:
+    words = list(words)
+    only, median = taken_from(words, "--only", ""), taken_from(words, "--median", "")
+    rest = [word for word in words if word not in {"--counted", "--no-verilator", "--g++-O3"}]
+    if len(rest) != 1 or rest[0].startswith("--") or not re.fullmatch(r"[1-9]\d*|", median):
         print(__doc__.strip(), file=sys.stderr)
         return 2
     program = os.path.abspath(rest[0])
@@ -213,7 +232,8 @@ def main(words):
         if "--counted" in words:
             count(program, folder, only)
         else:
-            measure(program, folder, only, "--no-verilator" not in words)
+            more = OPTIMISED if "--g++-O3" in words else ()
+            measure(program, folder, only, ("--no-verilator" not in words, more, int(median or 3), bool(median)))
     return 0
 
 

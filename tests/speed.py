@@ -4,16 +4,22 @@
     tests/speed.py PROGRAM [WORD]              all of them, or those whose name has the word
     tests/speed.py PROGRAM --workers [WORD]    the same by several workers: a column for each number of them
     tests/speed.py PROGRAM --counted [WORD]    loops of one task by counted instructions (valgrind), which other work does not disturb
+    tests/speed.py PROGRAM --loops [WORD]      loops of one task beside plain loops, and a chain beside plain C++ in one thread and in a thread for each task: medians
 
 The sources are those of tests/speed/, and wide networks that are made here. Seconds are processor seconds of one call, the best of seven, with the
 report, which goes nowhere; ticks are those that the report counts. Where g++ is there, the anchors of tests/speed/ are compiled with -O2
 and measured beside it. With --workers a cell has the seconds by the clock and the processor seconds, of the call that was best by the clock: they say
-something on a machine that has nothing else to do, and has as many processors as workers.
+something on a machine that has nothing else to do, and has as many processors as workers. With --loops a call of `run` takes some 50 to 300 ms and
+stands next to a call of each anchor, seven times in all; a plain loop, and the chain in one thread, goes ten times as far, so that it takes about as long.
+A cell is the median of the seven, "single rounds" the least and the most of the seven quotients of two calls that stand together. By the clock a thread for
+each task says something on a machine that has nothing else to do.
 """
 import json
+import math
 import os
 import re
 import shutil
+import statistics
 import subprocess
 import sys
 import tempfile
@@ -33,6 +39,9 @@ LOOPS = (
     ("a filter", "fir", 4_000_000),
     ("each kind of integers", "kinds", 2_000_000),
 )
+# with --loops: the busy task is shorter, a plain loop makes so many times the turns, and the chain passes so many tokens
+SHORT_LOOPS = (("a busy task", "busy", 10_000_000), *LOOPS)
+PLAIN, TOKENS = 10, 400_000
 
 
 def source(name):
@@ -156,15 +165,20 @@ def ticks_of(words, folder):
     return int(ticks)
 
 
+def anchor(file, folder, *options):
+    """The program that g++ makes of an anchor."""
+    built = os.path.join(folder, f"{file}_anchor")
+    subprocess.run(["g++", "-O2", *options, "-o", built, os.path.join(HERE, "speed", f"{file}_anchor.cc")], check=True)
+    return built
+
+
 def anchors(folder):
     """Plain C++ of some rows, by how their names begin: the seconds of one call."""
-    compiler = shutil.which("g++")
-    if not compiler:
+    if not shutil.which("g++"):
         return {}
     found = {}
     for name, file, count in (("a busy task", "busy", 50_000_000), ("a chain of ten", "chain", 1_000_000), *LOOPS):
-        built = os.path.join(folder, f"{file}_anchor")
-        subprocess.run([compiler, "-O2", "-o", built, os.path.join(HERE, "speed", f"{file}_anchor.cc")], check=True)
+        built = anchor(file, folder)
         found[name] = min(used([built, str(count)], folder, subprocess.DEVNULL)[0] for _ in range(REPEATS))
     return found
 
@@ -176,11 +190,16 @@ def put_one(folder, name, text, data):
             it.write(content)
 
 
+def called(program, name, top):
+    """The call of `run` for a source that was written with its data."""
+    return [program, "run", f"{name}.cpp", top, f"{name}.json", "--steps", "1000000000"]
+
+
 def put_all(program, wanted, folder):
     """Writes the sources and their data, and gives the name and the call of each."""
     for at, (name, text, top, data) in enumerate(it for it in cases() if wanted in it[0]):
         put_one(folder, at, text, data)
-        yield name, [program, "run", f"{at}.cpp", top, f"{at}.json", "--steps", "1000000000"]
+        yield name, called(program, at, top)
 
 
 def by_workers(program, wanted):
@@ -217,8 +236,7 @@ def counted(program, wanted):
                 put_one(folder, "it", source(file), {"scalars": {"n": n}, "memories": {"m": [0]}})
                 count, report = instructions([program, "run", "it.cpp", "Top", "it.json"], folder)
                 made.append((count, int(report.split()[-1])))
-            built = os.path.join(folder, "anchor")
-            subprocess.run(["g++", "-O2", "-o", built, os.path.join(HERE, "speed", f"{file}_anchor.cc")], check=True)
+            built = anchor(file, folder)
             least, most = (instructions([built, str(n)], folder)[0] for n in turns)
             count, ticks = (made[1][at] - made[0][at] for at in (0, 1))
             more = turns[1] - turns[0]
@@ -226,16 +244,72 @@ def counted(program, wanted):
     return 0
 
 
+def by_turns(calls, folder):
+    """What each of the calls used, seven times; they take turns, so that a slow minute of the machine strikes them alike."""
+    made = [[used(call, folder, subprocess.DEVNULL) for call in calls] for _ in range(REPEATS)]
+    return list(zip(*made))
+
+
+def median(spent, by_clock=False):
+    return statistics.median(it[2 if by_clock else 0] for it in spent)
+
+
+def rounds(over, under, scale=1, by_clock=False):
+    """The least and the most of the quotients of calls that stand next to each other."""
+    at = 2 if by_clock else 0
+    quotients = [scale * one[at] / two[at] for one, two in zip(over, under)]
+    return f"{min(quotients):.3g} to {max(quotients):.3g}"
+
+
+def tell_loops(rows, spent):
+    """Prints the loops, whose calls and those of their plain loops stand in pairs."""
+    print("| loop | turns | `run` | g++ -O2, a tenth | a turn | g++ -O2, a turn | times as long | single rounds |\n|---|---|---|---|---|---|---|---|")
+    ratios = []
+    for (name, _, turns), own, plain in zip(rows, spent[::2], spent[1::2]):
+        took, beside = median(own), median(plain) / PLAIN
+        ratios.append(took / beside)
+        print(f"| {name} | {turns:,} | {took:.3f} s | {beside:.4f} s | {took / turns * 1e9:.1f} ns | {beside / turns * 1e9:.2f} ns | {ratios[-1]:.1f} | {rounds(own, plain, PLAIN)} |")
+    print(f"| geometric mean of {len(ratios)} | | | | | | {math.exp(sum(map(math.log, ratios)) / len(ratios)):.1f} | |\n| the most of {len(ratios)} | | | | | | {max(ratios):.1f} | |")
+
+
+def tell_chain(name, own, rings, threads):
+    """Prints the chain beside one thread of plain C++, which passes ten times as many tokens, and beside a thread for each task."""
+    print(f"\n| {name} | by the clock | processor seconds | times as long as `run`, by the clock | single rounds | processor seconds |\n|---|---|---|---|---|---|")
+    clock, seconds = median(own, True), median(own)
+    print(f"| `run` | {clock:.3f} s | {seconds:.3f} s | | | |")
+    for what, spent, scale in (("g++ -O2, one thread, a tenth", rings, 1 / PLAIN), ("g++ -O2, a thread a task", threads, 1)):
+        took, all_took = median(spent, True) * scale, median(spent) * scale
+        print(f"| {what} | {took:.3f} s | {all_took:.3f} s | {took / clock:.2f} | {rounds(spent, own, scale, True)} | {all_took / seconds:.2f} |")
+
+
+def loops(program, wanted):
+    """The loops of one task and the chain beside their anchors."""
+    name = f"a chain of ten, {TOKENS:,} tokens, depth 16"
+    with tempfile.TemporaryDirectory() as folder:
+        rows, calls = [it for it in SHORT_LOOPS if wanted in it[0]], []
+        for _, file, turns in rows:
+            put_one(folder, file, source(file), {"scalars": {"n": turns}, "memories": {"m": [0]}})
+            calls += [called(program, file, "Top"), [anchor(file, folder), str(PLAIN * turns)]]
+        if wanted in name:
+            put_one(folder, "chain", chain(10, TOKENS), {})
+            calls += [called(program, "chain", "T"), [anchor("chain", folder), str(PLAIN * TOKENS)], [anchor("chain_threads", folder, "-pthread"), str(TOKENS)]]
+        spent = by_turns(calls, folder)
+        if rows:
+            tell_loops(rows, spent)
+        if wanted in name:
+            tell_chain(name, *spent[-3:])
+    return 0
+
+
 def main(words):
-    words, is_by_workers, is_counted = [word for word in words if not word.startswith("--")], "--workers" in words, "--counted" in words
-    if len(words) not in (1, 2):
+    words, options = [word for word in words if not word.startswith("--")], [word for word in words if word.startswith("--")]
+    others = {"--workers": by_workers, "--counted": counted, "--loops": loops}
+    if len(words) not in (1, 2) or len(options) > 1 or not set(options) <= set(others):
         print(__doc__.strip(), file=sys.stderr)
         return 2
     program, wanted = os.path.abspath(words[0]), words[1] if len(words) == 2 else ""
-    if is_by_workers:
-        return by_workers(program, wanted)
-    if is_counted:
-        return counted(program, wanted)
+    if options:
+        return others[options[0]](program, wanted)
     print("| what | ticks | time | ticks a second | memory | g++ -O2 |\n|---|---|---|---|---|---|")
     with tempfile.TemporaryDirectory() as folder:
         plain = anchors(folder)
@@ -244,8 +318,8 @@ def main(words):
         spent = [[used(call, folder, subprocess.DEVNULL) for _, call, _ in rows] for _ in range(REPEATS)]
         for at, (name, _, ticks) in enumerate(rows):
             seconds, megabytes, _ = min(one[at] for one in spent)
-            anchor = next((f"{least:.3f} s" for start, least in plain.items() if name.startswith(f"{start},")), "")
-            print(f"| {name} | {ticks:,} | {seconds:.2f} s | {ticks / max(seconds, 0.001) / 1e6:.0f} million | {megabytes:.0f} MB | {anchor} |", flush=True)
+            beside = next((f"{least:.3f} s" for start, least in plain.items() if name.startswith(f"{start},")), "")
+            print(f"| {name} | {ticks:,} | {seconds:.2f} s | {ticks / max(seconds, 0.001) / 1e6:.0f} million | {megabytes:.0f} MB | {beside} |", flush=True)
     return 0
 
 

@@ -11,3 +11,4 @@ pub mod Resumes
 pub mod Begins
 mod Goes
 mod Led
+mod Shifts

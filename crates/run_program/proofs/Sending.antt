@@ -7,6 +7,7 @@ use Rattle.task_fsm.specs.contracts.machine.State as State
 use Rattle.task_fsm.specs.contracts.machine.Fsm as Fsm
 use Rattle.tapa_base.specs.contracts.kind.Kind as Kind
 use Rattle.tapa_base.specs.contracts.op.Op as Op
+use Rattle.flat_code.specs.contracts.width.Width as Width
 use Rattle.flat_code.specs.contracts.code.Operand as Operand
 use Rattle.flat_code.specs.contracts.code.Other as Other
 use Rattle.flat_code.specs.contracts.code.Computation as Computation
@@ -48,6 +49,12 @@ op_send = search (sendable, crosses) depth 60
 op_sync : IsSync Op.the_field.row
 op_sync = search (sendable, crosses) depth 60
 
+width_send : IsSend Width.the_row
+width_send = search (kind_send, sendable, crosses) depth 60
+
+width_sync : IsSync Width.the_row
+width_sync = search (kind_sync, sendable, crosses) depth 60
+
 other_send : IsSend Other.the_field.row
 other_send = search (kind_send, op_send, operand_send, sendable, crosses) depth 120 fits 60000
 
@@ -55,10 +62,10 @@ other_sync : IsSync Other.the_field.row
 other_sync = search (kind_sync, op_sync, operand_sync, sendable, crosses) depth 120 fits 60000
 
 computation_send : IsSend Computation.the_field.row
-computation_send = search (kind_send, operand_send, other_send, sendable, crosses) depth 120 fits 60000
+computation_send = search (kind_send, width_send, operand_send, other_send, sendable, crosses) depth 120 fits 60000
 
 computation_sync : IsSync Computation.the_field.row
-computation_sync = search (kind_sync, operand_sync, other_sync, sendable, crosses) depth 120 fits 60000
+computation_sync = search (kind_sync, width_sync, operand_sync, other_sync, sendable, crosses) depth 120 fits 60000
 
 instruction_send : IsSend Instruction.the_row
 instruction_send = search (computation_send, sendable, crosses) depth 60
