@@ -1,8 +1,10 @@
 pub mod Ran
+pub mod Pairs
 pub mod Prepares
 pub mod Steps
 pub mod Places
 mod Flat
+mod Counts
 pub mod Ticks
 pub mod Rest
 pub mod Compute

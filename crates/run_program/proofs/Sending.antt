@@ -8,12 +8,15 @@ use Rattle.task_fsm.specs.contracts.machine.Fsm as Fsm
 use Rattle.tapa_base.specs.contracts.kind.Kind as Kind
 use Rattle.tapa_base.specs.contracts.op.Op as Op
 use Rattle.flat_code.specs.contracts.width.Width as Width
+use Rattle.flat_code.specs.contracts.width.Conversion as Conversion
 use Rattle.flat_code.specs.contracts.code.Operand as Operand
 use Rattle.flat_code.specs.contracts.code.Other as Other
 use Rattle.flat_code.specs.contracts.code.Computation as Computation
 use Rattle.flat_code.specs.contracts.code.Instruction as Instruction
 use Rattle.flat_code.specs.contracts.code.Request as Request
 use Rattle.flat_code.specs.contracts.code.Act as Act
+use Rattle.flat_code.specs.contracts.code.Branch as Branch
+use Rattle.flat_code.specs.contracts.code.Count as Count
 use Rattle.flat_code.specs.contracts.code.Place as Place
 use Rattle.coro_machine.specs.contracts.coro.Coro as Coro
 use Rattle.coro_machine.specs.contracts.machine.Machine as Machine
@@ -55,6 +58,12 @@ width_send = search (kind_send, sendable, crosses) depth 60
 width_sync : IsSync Width.the_row
 width_sync = search (kind_sync, sendable, crosses) depth 60
 
+conversion_send : IsSend Conversion.the_row
+conversion_send = search (kind_send, sendable, crosses) depth 60
+
+conversion_sync : IsSync Conversion.the_row
+conversion_sync = search (kind_sync, sendable, crosses) depth 60
+
 other_send : IsSend Other.the_field.row
 other_send = search (kind_send, op_send, operand_send, sendable, crosses) depth 120 fits 60000
 
@@ -62,10 +71,10 @@ other_sync : IsSync Other.the_field.row
 other_sync = search (kind_sync, op_sync, operand_sync, sendable, crosses) depth 120 fits 60000
 
 computation_send : IsSend Computation.the_field.row
-computation_send = search (kind_send, width_send, operand_send, other_send, sendable, crosses) depth 120 fits 60000
+computation_send = search (kind_send, op_send, width_send, conversion_send, operand_send, other_send, sendable, crosses) depth 120 fits 60000
 
 computation_sync : IsSync Computation.the_field.row
-computation_sync = search (kind_sync, width_sync, operand_sync, other_sync, sendable, crosses) depth 120 fits 60000
+computation_sync = search (kind_sync, op_sync, width_sync, conversion_sync, operand_sync, other_sync, sendable, crosses) depth 120 fits 60000
 
 instruction_send : IsSend Instruction.the_row
 instruction_send = search (computation_send, sendable, crosses) depth 60
@@ -79,17 +88,29 @@ request_send = search (sendable, crosses) depth 60
 request_sync : IsSync Request.the_field.row
 request_sync = search (sendable, crosses) depth 60
 
+branch_send : IsSend Branch.the_row
+branch_send = search (sendable, crosses) depth 60
+
+branch_sync : IsSync Branch.the_row
+branch_sync = search (sendable, crosses) depth 60
+
 act_send : IsSend Act.the_field.row
-act_send = search (computation_send, operand_send, sendable, crosses) depth 60 fits 20000
+act_send = search (computation_send, operand_send, kind_send, width_send, branch_send, sendable, crosses) depth 120 fits 60000
 
 act_sync : IsSync Act.the_field.row
-act_sync = search (computation_sync, operand_sync, sendable, crosses) depth 60 fits 20000
+act_sync = search (computation_sync, operand_sync, kind_sync, width_sync, branch_sync, sendable, crosses) depth 120 fits 60000
+
+count_send : IsSend Count.the_row
+count_send = search (branch_send, width_send, operand_send, sendable, crosses) depth 60
+
+count_sync : IsSync Count.the_row
+count_sync = search (branch_sync, width_sync, operand_sync, sendable, crosses) depth 60
 
 place_send : IsSend Place.the_row
-place_send = search (request_send, instruction_send, act_send, sendable, crosses) depth 60
+place_send = search (request_send, instruction_send, count_send, act_send, sendable, crosses) depth 60
 
 place_sync : IsSync Place.the_row
-place_sync = search (request_sync, instruction_sync, act_sync, sendable, crosses) depth 60
+place_sync = search (request_sync, instruction_sync, count_sync, act_sync, sendable, crosses) depth 60
 
 fsm_field_send : IsSend Fsm.the_field.row
 fsm_field_send = search (state_send, sendable, crosses) depth 60
