@@ -53,7 +53,7 @@ def try_numbers(trial, layers):
     trial.put("n.cpp", network(layers))
     report = trial.run(["run", "n.cpp", "Gen"]).out.decode().splitlines()
     tokens = [int(token) for line in report[:-1] for token in line.split(": ", 1)[1].split()]
-    trial.check_equal(f"what run tells of the network of {layers} layers", (len(report) - 1, report[-1], len(tokens), sum(tokens) % 2**64), (told["streams"], f"done {told['ticks']}", told["tokens"], told["sum"]))
+    trial.check_equal(f"what run tells of the network of {layers} layers", (len(report) - 1, report[-1] if report else "", len(tokens), sum(tokens) % 2**64), (told["streams"], f"done {told['ticks']}", told["tokens"], told["sum"]))
     trial.put("n.v", trial.run(["build", "n.cpp", "Gen"]).out)
     report = trial.run(["cosim", "n.v"]).out.decode().splitlines()
     trial.check_equal(f"what cosim tells of its circuit, {layers} layers", (len(report) - 1, report[-1] if report else ""), (told["streams"], f"done {cycles}"))

@@ -4,6 +4,7 @@ pub mod Prepares
 pub mod Steps
 pub mod Places
 mod Flat
+mod Transfers
 mod Counts
 pub mod Ticks
 pub mod Rest

@@ -17,6 +17,7 @@ use Rattle.flat_code.specs.contracts.code.Request as Request
 use Rattle.flat_code.specs.contracts.code.Act as Act
 use Rattle.flat_code.specs.contracts.code.Branch as Branch
 use Rattle.flat_code.specs.contracts.code.Count as Count
+use Rattle.flat_code.specs.contracts.code.Transfer as Transfer
 use Rattle.flat_code.specs.contracts.code.Place as Place
 use Rattle.coro_machine.specs.contracts.coro.Coro as Coro
 use Rattle.coro_machine.specs.contracts.machine.Machine as Machine
@@ -106,11 +107,17 @@ count_send = search (branch_send, width_send, operand_send, sendable, crosses) d
 count_sync : IsSync Count.the_row
 count_sync = search (branch_sync, width_sync, operand_sync, sendable, crosses) depth 60
 
+transfer_send : IsSend Transfer.the_field.row
+transfer_send = search (sendable, crosses) depth 60
+
+transfer_sync : IsSync Transfer.the_field.row
+transfer_sync = search (sendable, crosses) depth 60
+
 place_send : IsSend Place.the_row
-place_send = search (request_send, instruction_send, count_send, act_send, sendable, crosses) depth 60
+place_send = search (request_send, instruction_send, count_send, transfer_send, act_send, sendable, crosses) depth 60
 
 place_sync : IsSync Place.the_row
-place_sync = search (request_sync, instruction_sync, count_sync, act_sync, sendable, crosses) depth 60
+place_sync = search (request_sync, instruction_sync, count_sync, transfer_sync, act_sync, sendable, crosses) depth 60
 
 fsm_field_send : IsSend Fsm.the_field.row
 fsm_field_send = search (state_send, sendable, crosses) depth 60
