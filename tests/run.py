@@ -10,7 +10,7 @@ tests/README.md says how cases are written.
 import os
 import sys
 
-from runner import arrays, bounds, circuits, crates, documents, dumps, endings, examples, faults, halving, house, icarus, inputs, limits, networks, outputs, pipelines, plans, reference, sessions, sources, texts, tools, values, words, workers
+from runner import arrays, bounds, circuits, crates, documents, dumps, endings, examples, faults, halving, house, icarus, inputs, limits, networks, outputs, pipelines, placing, plans, reference, sessions, sources, texts, tools, values, words, workers
 from runner.trial import Trial
 
 
@@ -21,6 +21,7 @@ GROUPS = [
     ("arrays", arrays.try_all),
     ("plans", plans.try_all),
     ("halving", halving.try_all),
+    ("placing", placing.try_all),
     ("texts", texts.try_all),
     ("values", values.try_all),
     ("words", words.try_all),
