@@ -10,7 +10,36 @@ tests/README.md says how cases are written.
 import os
 import sys
 
-from runner import arrays, bounds, circuits, crates, documents, dumps, endings, examples, faults, halving, house, icarus, inputs, limits, networks, outputs, pipelines, placing, plans, reference, sessions, sources, texts, tools, values, words, workers
+from runner import (
+    arrays,
+    bounds,
+    circuits,
+    crates,
+    documents,
+    dumps,
+    endings,
+    examples,
+    faults,
+    halving,
+    house,
+    icarus,
+    inputs,
+    limits,
+    networks,
+    outputs,
+    pipelines,
+    placing,
+    plans,
+    readers,
+    reference,
+    sessions,
+    sources,
+    texts,
+    tools,
+    values,
+    words,
+    workers,
+)
 from runner.trial import Trial
 
 
@@ -38,6 +67,7 @@ GROUPS = [
     ("reference", reference.try_all),
     ("dumps", dumps.try_all),
     ("icarus", icarus.try_all),
+    ("readers", readers.try_all),
     ("documents", documents.try_all),
     ("tools", tools.try_all),
     ("crates", crates.try_all),

@@ -10,42 +10,30 @@ import re
 import sys
 
 sys.dont_write_bytecode = True
-from declared import tasks  # noqa: E402
+from vechaqir import script, source  # noqa: E402
 
 
-def kind_of(found, top, word, label):
-    """Bits and sign of what a line shows."""
-    if word == "memory":
-        return next(((bits, sign) for name, bits, sign in found[top].memories if name == label), None)
-    *way, name = label.split("$")
-    owner = way[-2] if len(way) >= 2 else top
-    return found[owner].streams.get(name) if owner in found else None
+def shown(text, kind):
+    number = int(text) if text.isdecimal() else None
+    return str(number - 2**kind.bits) if number is not None and kind.signed and number >= 2 ** (kind.bits - 1) else text
 
 
-def shown(text, bits, is_signed):
-    number = int(text) if text.isdigit() else None
-    return str(number - 2**bits) if number is not None and is_signed and number >= 2 ** (bits - 1) else text
-
-
-def line_shown(found, top, line):
+def line_shown(kinds, line):
     row = re.fullmatch(r"(stream|memory) ([\w$]+):(.*)", line)
-    kind = kind_of(found, top, row[1], row[2]) if row else None
-    return f"{row[1]} {row[2]}:" + "".join(f" {shown(it, *kind)}" for it in row[3].split()) if kind else line
+    kind = kinds.get((row[1], row[2])) if row else None
+    return f"{row[1]} {row[2]}:" + "".join(f" {shown(it, kind)}" for it in row[3].split()) if kind else line
 
 
 def main(given):
     if len(given) != 2:
-        print(__doc__.strip(), file=sys.stderr)
-        return 2
-    with open(given[0], encoding="utf-8") as file:
-        found = tasks(file.read())
-    if given[1] not in found:
-        print(f"tools/signed.py: {given[0]} has no task {given[1]}: {', '.join(found)}", file=sys.stderr)
-        return 1
-    for line in sys.stdin:
-        print(line_shown(found, given[1], line.rstrip("\n")))
+        raise script.Usage()
+    network = source.network(source.read(given[0]), given[1])
+    kinds = {("stream", it.name): it.kind for it in network.streams}
+    kinds.update({("memory", it.name): it.kind for it in network.memories})
+    for line in sys.stdin.buffer:
+        print(line_shown(kinds, line.decode("utf-8", "replace").rstrip("\n")))
     return 0
 
 
 if __name__ == "__main__":
-    sys.exit(main(sys.argv[1:]))
+    script.run("tools/signed.py", __doc__, main)

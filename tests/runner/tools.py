@@ -274,6 +274,7 @@ def repository(trial, name, has_program=True):
     for file in ("tapa", "crates.txt", "tools/explain.py", "tools/written_out.py", "tools/unproved.py", "docs/REFUSALS.md", "docs/COMMAND.md", "docs/FROM_TAPA.md", "examples/refused/conditional_read.cpp", "examples/bad_token.cpp"):
         os.makedirs(os.path.dirname(f"{folder}/{file}"), exist_ok=True)
         shutil.copy(os.path.join(ROOT, file), f"{folder}/{file}")
+    shutil.copytree(os.path.join(ROOT, "tools/vechaqir"), f"{folder}/tools/vechaqir", ignore=shutil.ignore_patterns("__pycache__"))
     if has_program:
         shutil.copyfile(trial.program, f"{folder}/crates/tapa_cli/out/tapa_cli")
         os.chmod(f"{folder}/crates/tapa_cli/out/tapa_cli", 0o755)

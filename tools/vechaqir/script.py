@@ -1,0 +1,58 @@
+"""What each script of tools/ does around its one function: `--help`, faults in one line, closed pipes, Ctrl-C, and the status."""
+import os
+import signal
+import sys
+from typing import Callable, List, NoReturn, Optional, Union
+
+
+class Usage(Exception):
+    """The words are no command of the script; with a sentence where one says more."""
+
+
+class Fault(Exception):
+    """Something outside is not as it must be; the sentence says what."""
+
+
+def told(why: BaseException) -> str:
+    """A fault in one line."""
+    if isinstance(why, OSError):
+        return f"{why.filename}: {why.strerror}" if why.filename is not None else str(why.strerror or why)
+    if isinstance(why, UnicodeDecodeError):
+        return "a file is no text of UTF-8"
+    if isinstance(why, MemoryError):
+        return "out of memory"
+    return str(why)
+
+
+def leave(status: Union[int, str, None]) -> NoReturn:
+    """Ends with a status; a pipe that nobody reads any more is no fault of the script."""
+    try:
+        sys.stdout.flush()
+    except OSError:
+        os.dup2(os.open(os.devnull, os.O_WRONLY), 1)
+        status = status or 1
+    sys.exit(status)
+
+
+def run(name: str, page: Optional[str], main: Callable[[List[str]], int]) -> NoReturn:
+    """Runs a script by its words: `--help` prints the page; status 0 is done, 1 a fault, which is told in one line, 2 words that are no command."""
+    given = sys.argv[1:]
+    if given and given[0] in ("--help", "-h"):
+        print((page or "").strip())
+        leave(0)
+    try:
+        status = main(given)
+    except Usage as why:
+        sys.stderr.write(f"{name}: {why}\n" if str(why) else "")
+        sys.stderr.write((page or "").strip() + "\n")
+        status = 2
+    except BrokenPipeError:
+        status = 1
+    except KeyboardInterrupt:
+        signal.signal(signal.SIGINT, signal.SIG_DFL)
+        os.kill(os.getpid(), signal.SIGINT)
+        status = 1
+    except (Fault, LookupError, OSError, ValueError, MemoryError) as why:
+        sys.stderr.write(f"{name}: {told(why)}\n")
+        status = 1
+    leave(status)
