@@ -84,7 +84,7 @@ class Dump:
         for name in chosen:
             wanted.setdefault(self.nets[name].key, []).append(name)
         values: Dict[str, Value] = {name: None for name in chosen}
-        cycle = 0
+        cycle, time = 0, 0
         for time, key, digits in self._raw_changes():
             while time > cycle * self.period + self.sample:
                 yield cycle, values
@@ -93,7 +93,8 @@ class Dump:
                 value = _number(digits)
                 for name in wanted[key]:
                     values[name] = value
-        yield cycle, values
+        if time >= cycle * self.period:
+            yield cycle, values
 
     def _raw_changes(self) -> Iterator[Tuple[int, str, str]]:
         """Time, key and digits of each change; for a time without changes the key is empty."""
