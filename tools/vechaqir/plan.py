@@ -1,4 +1,4 @@
-"""What `tapa plan` prints (docs/COMMAND.md, "The lines of a plan"), read into names and numbers."""
+"""What `tapa plan` prints (docs/COMMAND.md, "The lines of a plan"), read into names and numbers; and the call that prints it."""
 from __future__ import annotations
 
 import re
@@ -6,6 +6,18 @@ from dataclasses import dataclass, field
 from typing import Dict, List
 
 from .device import Amounts, SlotPlace
+from .program import Outcome, Program
+
+# Where the program reads a device file that it is given on standard input.
+GIVEN = "/dev/stdin"
+
+
+class Refused(Exception):
+    """The program answered a call with another status than 0; its lines on standard error are the text."""
+
+    def __init__(self, outcome: Outcome) -> None:
+        super().__init__(outcome.err.decode("utf-8", "replace").strip())
+        self.outcome = outcome
 
 
 class PlanFault(ValueError):
@@ -41,6 +53,14 @@ class Plan:
     def crossing(self) -> List[PlannedStream]:
         """The streams that have registers, at borders or by the balance."""
         return [stream for stream in self.streams if stream.latency or stream.balance]
+
+
+def ask(program: Program, source: str, top: str, device: str, mode: str = "fit") -> Plan:
+    """The program's plan of a source on a device, whose file's text is given. Refused where it answers none."""
+    outcome = program.call(["plan", source, top, GIVEN, "--plan", mode], input=device.encode())
+    if outcome.status != 0:
+        raise Refused(outcome)
+    return parse(outcome.out.decode())
 
 
 _SLOT = re.compile(r"slot (\d+) (\d+): (\d+) (\d+) (\d+) (\d+) (\d+)")
