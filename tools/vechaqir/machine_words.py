@@ -71,8 +71,8 @@ class Words:
                 return scope[name]
         self.fail()
 
-    def is_kind(self, ahead: int = 0) -> bool:
-        return kind_at(self.words, self.position + ahead) is not None
+    def is_kind(self) -> bool:
+        return kind_at(self.words, self.position) is not None
 
     def kind(self) -> Kind:
         found = kind_at(self.words, self.position)
@@ -107,11 +107,10 @@ class Words:
     def unary(self) -> Node:
         if self.text() in ("-", "+", "~", "!"):
             return prefixed(self.take(), self.unary())
-        if self.text() == "(" and self.is_kind(1):
-            self.take("(")
-            kind = self.kind()
-            self.take(")")
-            return converted(self.unary(), kind)
+        cast = kind_at(self.words, self.position + 1) if self.text() == "(" else None
+        if cast and self.words[cast[1]].text == ")":
+            self.position = cast[1] + 1
+            return converted(self.unary(), cast[0])
         return self.primary()
 
     def primary(self) -> Node:
