@@ -1,0 +1,199 @@
+"""Changes that would make a circuit faster, each tried: it is built with the change and simulated.
+
+A greater depth is found in three steps: the circuit with FIFOs that are never full tells the fewest cycles that depths can give, and how full each FIFO then gets; each
+change that is not needed for these cycles is taken back; and each that stays is made as small as it may be.
+"""
+from __future__ import annotations
+
+import copy
+import os
+from dataclasses import dataclass
+from typing import Dict, List, NamedTuple, Optional, Sequence, Tuple
+
+from .data import Data, text_of
+from .dump import Dump
+from .machine_run import Run
+from .profile import Profile, profile
+from .program import Program
+from .source import Source, Stream, network, parse
+
+# The greatest depth of a stream, and the most streams whose depths are made as small as they may be.
+DEEPEST, MOST_STREAMS = 4096, 8
+# The most cycles of a circuit that is to come to its end, and how many cycles a tick of a run that stops is given.
+MOST_CYCLES, SLACK = 10_000_000, 4
+
+
+class NotBuilt(ValueError):
+    """A circuit that could not be built or simulated; the words are those of the program."""
+
+
+class Declared(NamedTuple):
+    """A stream or an array of streams by the task that declares it, and its name there."""
+
+    task: str
+    name: str
+
+
+@dataclass
+class Change:
+    """A change that was tried: what it is in words, the cycles of the circuit with it, and of a change of depths the depths by declaration."""
+
+    text: str
+    cycles: int
+    depths: Dict[Declared, int]
+
+
+class Bench:
+    """Builds and simulates a source on some data, in a folder of its own; `options` are those of `build`, `limit` is the most cycles, 0 for as many as a run needs."""
+
+    def __init__(self, program: Program, folder: str, top: str, data: Data, options: Sequence[str] = (), limit: int = 0) -> None:
+        self.program, self.folder, self.top, self.data, self.options, self.limit = program, folder, top, data, list(options), limit
+
+    def put(self, name: str, text: bytes) -> str:
+        path = os.path.join(self.folder, name)
+        with open(path, "wb") as file:
+            file.write(text)
+        return path
+
+    def most_cycles(self, text: bytes) -> int:
+        """The limit; without one, of a run that stops, the cycles in which its circuit comes to that too, since some tick is made in each but where all wait."""
+        if self.limit:
+            return self.limit
+        given = self.put("run.json", text_of(self.data).encode())
+        ran = self.program.call(["run", self.put("source.cpp", text), self.top, given])
+        stopped = [line.split()[1] for line in ran.out.decode().splitlines()[-1:] if line.startswith("stopped ")]
+        return SLACK * (int(stopped[0]) + sum(map(len, self.data.ready.values())) + 100) if stopped else MOST_CYCLES
+
+    def build(self, text: bytes) -> str:
+        """The path of the circuit's text. Raises NotBuilt."""
+        made = self.program.call(["build", self.put("source.cpp", text), self.top, *self.options])
+        if made.status != 0:
+            raise NotBuilt(made.err.decode("utf-8", "replace").strip())
+        return self.put("circuit.v", made.out)
+
+    def cycles(self, text: bytes, data: Optional[Data] = None) -> Optional[int]:
+        """The cycle in which the circuit of a source has done, or None where it has not within the limit. Raises NotBuilt."""
+        given = self.put("data.json", text_of(data or self.data).encode())
+        said = self.program.call(["cosim", self.build(text), given, "--cycles", str(self.most_cycles(text))])
+        last = said.out.decode().splitlines()[-1:] or [""]
+        return int(last[0].split()[1]) if last[0].startswith("done ") else None
+
+    def profile(self, text: bytes) -> Profile:
+        """The profile of a source's circuit. Raises NotBuilt."""
+        given = self.put("data.json", text_of(self.data).encode())
+        said = self.program.call(["cosim", self.build(text), given, "--vcd", "--cycles", str(self.most_cycles(text))])
+        if said.status not in (0, 7):
+            raise NotBuilt(said.err.decode("utf-8", "replace").strip())
+        source = parse(text)
+        return profile(Run(source, network(source, self.top), Dump(self.put("dump.vcd", said.out))))
+
+
+# ---- depths
+
+
+def declarations(source: Source, top: str) -> Dict[str, Declared]:
+    """Of each stream of the flat network by name the declaration that it comes from."""
+    uppers = {it.label: it.task for it in network(source, top).uppers}
+    found = {}
+    for channel in network(source, top).streams:
+        *way, name = channel.name.split("$")
+        task = uppers["$".join(way)] if way else top
+        stream = next(it for it in source.tasks[task].streams if it.name == name or it.is_array and name.startswith(it.name + "_"))
+        found[channel.name] = Declared(task, stream.name)
+    return found
+
+
+def with_depths(source: Source, depths: Dict[Declared, int]) -> bytes:
+    """The text of a source with other depths: a declaration that has one of these names is written anew, on its line."""
+    text, pieces = source.text, []
+    for task in source.tasks.values():
+        for begin, end, streams in _groups(source, task.streams):
+            if any(Declared(task.name, it.name) in depths for it in streams):
+                words = " ".join(_declaration(it, depths.get(Declared(task.name, it.name), it.depth)) for it in streams)
+                pieces.append((begin, end, words + "\n".join([""] * (1 + text[begin:end].count(b"\n")))))
+    for begin, end, words in sorted(pieces, reverse=True):
+        text = text[:begin] + words.encode() + text[end:]
+    return text
+
+
+def _declaration(stream: Stream, depth: Optional[int]) -> str:
+    if stream.is_array:
+        return f"tapa::streams<{stream.kind.word}, {stream.count}, {depth}> {stream.name};"
+    return f"tapa::stream<{stream.kind.word}, {depth}> {stream.name};"
+
+
+def _groups(source: Source, streams: List[Stream]) -> List[Tuple[int, int, List[Stream]]]:
+    """The streams of each declaration, with the offsets of its `tapa` and behind its `;`."""
+    found: Dict[Tuple[int, int], List[Stream]] = {}
+    words = source.lexemes
+    for stream in streams:
+        at = source.index_at(source.lines.offset(stream.place))
+        first, last = at, at
+        while words[first].text != "tapa":
+            first -= 1
+        while words[last].text != ";":
+            last += 1
+        found.setdefault((words[first].begin, words[last].end), []).append(stream)
+    return [(begin, end, group) for (begin, end), group in found.items()]
+
+
+def _with(depths: Dict[Declared, int], name: Declared, depth: Optional[int]) -> Dict[Declared, int]:
+    """Other depths: one more, or without this one where `depth` is None."""
+    changed = {it: number for it, number in depths.items() if it != name}
+    return changed if depth is None else {**changed, name: depth}
+
+
+def deeper(bench: Bench, source: Source, found: Profile) -> Optional[Change]:
+    """The least depths with which the circuit takes the fewest cycles that any depths give, or ends where it stands still; None where depths change nothing. Raises NotBuilt."""
+    names = declarations(source, bench.top)
+    full = {names[name] for name, it in found.streams.items() if it.holds_writer}
+    own = {names[name]: it.channel.depth or 2 for name, it in found.streams.items()}
+    if not full:
+        return None
+    free = bench.profile(with_depths(source, {name: DEEPEST for name in own}))
+    if not free.is_done or found.is_done and free.cycles >= found.cycles:
+        return None
+    needed: Dict[Declared, int] = {}
+    for name, it in free.streams.items():
+        needed[names[name]] = max(needed.get(names[name], 0), it.most, own[names[name]])
+    depths = {name: depth for name, depth in needed.items() if depth > own[name]}
+    for declared in sorted(depths, key=lambda it: -depths[it])[:MOST_STREAMS]:
+        depths = _smallest(bench, source, depths, declared, own[declared], free.cycles)
+    return _depths_changed(source, depths, free.cycles)
+
+
+def _smallest(bench: Bench, source: Source, depths: Dict[Declared, int], name: Declared, own: int, cycles: int) -> Dict[Declared, int]:
+    """The depths with that of one stream as small as these cycles allow, its own one if it may be that."""
+    low, high = own, depths[name]
+    while low < high:
+        middle = (low + high) // 2
+        tried = _with(depths, name, middle if middle > own else None)
+        if bench.cycles(with_depths(source, tried)) == cycles:
+            high = middle
+        else:
+            low = middle + 1
+    return _with(depths, name, high if high > own else None)
+
+
+def _depths_changed(source: Source, depths: Dict[Declared, int], cycles: int) -> Change:
+    words = []
+    for name, depth in depths.items():
+        stream = next(it for it in source.tasks[name.task].streams if it.name == name.name)
+        words.append(f"depth of {name.name} (line {stream.place.line}) {stream.depth} -> {depth}")
+    return Change(", ".join(words), cycles, depths)
+
+
+# ---- memories and slow tasks
+
+
+def ready_memories(bench: Bench, source: Source, found: Profile) -> List[Change]:
+    """For each memory for which some task waited: the cycles if it were ready in each cycle. Raises NotBuilt."""
+    late = {wait.name for task in found.tasks.values() for wait in task.waits if wait.what == "memory"}
+    changes = []
+    for name in sorted(late):
+        data = copy.deepcopy(bench.data)
+        data.ready.pop(name, None)
+        cycles = bench.cycles(source.text, data)
+        if cycles is not None and found.is_done:
+            changes.append(Change(f"memory {name} ready in each cycle", cycles, {}))
+    return changes
