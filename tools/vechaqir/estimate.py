@@ -161,8 +161,19 @@ def _crowded_lines(found: Estimate, known: Device, group: Sequence[str], left: M
         return ["no slot is open: all are forbidden"]
     _, at, slot = min(lacks)
     row, col = known.place(slot)
-    wanted, has = found.uses(found.labels)[at], added(rooms_of(known))[at]
     return [
         f"{_named(group)} {needs[at]} {RESOURCES[at]}, and of what the tasks placed before leave slot {row} {col} comes nearest with {left[slot][at]}",
-        f"all tasks together need {wanted} {RESOURCES[at]} of the {has} of all slots (at {known.percent} percent)",
+        _share(found, known, at),
     ]
+
+
+def _share(found: Estimate, known: Device, at: int) -> str:
+    """What all tasks need of a resource, and what all slots have."""
+    wanted, has = found.uses(found.labels)[at], added(rooms_of(known))[at]
+    return f"all tasks together need {wanted} {RESOURCES[at]} of the {has} of all slots (at {known.percent} percent)"
+
+
+def fullest(found: Estimate, known: Device) -> str:
+    """What all tasks need of the resource of which they leave least."""
+    pairs = zip(found.uses(found.labels), added(rooms_of(known)))
+    return _share(found, known, max((_times(need, has), at) for at, (need, has) in enumerate(pairs))[1])

@@ -5,12 +5,13 @@ import json
 import sys
 from typing import Dict, List, Optional, Sequence, Union
 
+from . import device as devices
 from . import estimate as estimates
 from . import place_groups, script
 from . import plan as plans
 from .device import RESOURCES, Amounts, Device
 from .estimate import Estimate
-from .place_input import read_files
+from .place_input import program_for
 
 Cell = Union[str, int]
 
@@ -61,7 +62,8 @@ def main(given: List[str]) -> int:
         raise script.Usage()
     device = words[2] if len(words) == 3 else None
     try:
-        called, known = read_files(words[0], words[1], device)
+        called = program_for(words[0], words[1], device)
+        known = devices.read(device) if device else None
         found = estimates.estimate(called, words[0], words[1], known.tasks if known else None)
     except plans.Refused as refused:
         sys.stderr.write(f"{refused}\n")
