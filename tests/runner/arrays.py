@@ -1,12 +1,14 @@
-"""Stream arrays and counted invokes: random sources beside the text that a second implementation writes out for them (tools/written_out.py). What is told
+"""Stream arrays and counted invokes: random sources beside the text that a second implementation writes out for them (tools/vechaqir/arrays.py). What is told
 of a source is what is told of that text."""
-import importlib.util
 import os
 import random
 import re
 import sys
 
-from runner.trial import ROOT, read
+from runner.trial import ROOT
+
+sys.path.insert(0, os.path.join(ROOT, "tools"))
+from vechaqir import arrays as WRITTEN  # noqa: E402
 
 SOURCES = 200
 LEAVES = """void P(tapa::ostream<int>& q) { q << 1 << 2; }
@@ -20,18 +22,6 @@ WORDS = ("tapa :: streams stream < > , ; ( ) [ ] { } . = + 0 1 2 3 512 513 2u 02
          "std uint8_t unsigned long \"s\" (2) s[0] t[1] ,s ,1").split()
 COUNTS = "0 1 2 3 4 513 2u 02 0x1 ONE TWO FAR NONE SUM s".split()
 LEXEME = re.compile(r"\"[^\"\n]*\"|//[^\n]*\n|/\*.*?\*/|\w+|::|<<|>>|\s+|.", re.S)
-
-
-def second():
-    """The second implementation."""
-    spec = importlib.util.spec_from_file_location("written_out", os.path.join(ROOT, "tools", "written_out.py"))
-    module = importlib.util.module_from_spec(spec)
-    sys.dont_write_bytecode = True
-    spec.loader.exec_module(module)
-    return module
-
-
-WRITTEN = second()
 
 
 class Source:

@@ -2,10 +2,14 @@
 import os
 import re
 import shlex
+import sys
 
 from runner import inputs
 from runner.sources import context
 from runner.trial import ROOT, read
+
+sys.path.insert(0, os.path.join(ROOT, "tools"))
+from vechaqir import pages  # noqa: E402
 
 PAGES = ["README.md", "CONTRIBUTING.md", *sorted(f"docs/{name}" for name in os.listdir(os.path.join(ROOT, "docs")))]
 
@@ -72,28 +76,14 @@ def try_refusals(trial):
     trial.check("docs/REFUSALS.md and docs/LANGUAGE.md have the same codes", same == {h for h in headings if h[0] != "J"})
 
 
-# A row of docs/FROM_TAPA.md: words, where the texts stand, the refused one, its code, the accepted one.
-FROM_TAPA = re.compile(r"^\| ((?:`[^`]+`(?:, )?)+) \| (file|leaf|tasks) \| `([^`]*)` \| (\w+) \| `([^`]*)` \| [^|]+ \|$", re.M)
-
-
-def word_at(text, col):
-    """The word or sign at a column, and the word before it."""
-    at = re.match(r"\w+|\+\+|--|==|!=|[^\w]", text[col - 1:])
-    before = re.findall(r"\w+", text[: col - 1])
-    return {at[0] if at else "", before[-1] if before else ""}
-
-
 def try_from_tapa(trial):
-    """Each row of docs/FROM_TAPA.md: its code, one of its words at the place or before it, and what is accepted instead."""
-    rows = FROM_TAPA.findall(read("docs/FROM_TAPA.md"))
-    for words, name, refused, code, accepted in rows:
-        before, after = context(name)
-        told = trial.told(before + refused + after)
-        line, _, col = told.split(" ")[-1].partition(":")
-        is_there = line == "3" and col.isdigit() and word_at(refused, int(col)) & set(re.findall(r"`([^`]+)`", words))
-        trial.check(refused, code_of(told) == code and is_there, f"   {told}")
-        trial.check_equal(accepted, trial.told(before + accepted + after), "accepted")
-    trial.check("each row of docs/FROM_TAPA.md is tried", len(rows) == len(re.findall(r"^\|.* \| [PCLA]\d+ \| ", read("docs/FROM_TAPA.md"), re.M)) >= 40, f"   {len(rows)}")
+    """Each row of docs/FROM_TAPA.md: its code, and what is accepted instead. That its construct is found by `tools/explain.py` is tried by the group `explanations`."""
+    rows = pages.rows()
+    for row in rows.values():
+        before, after = context(row.context)
+        trial.check_equal(row.refused, code_of(trial.told(before + row.refused + after)), row.code)
+        trial.check_equal(row.accepted, trial.told(before + row.accepted + after), "accepted")
+    trial.check("each row of docs/FROM_TAPA.md is tried", len(rows) == len(re.findall(r"^\|.* \| [PCLA]\d+ \| ", read("docs/FROM_TAPA.md"), re.M)) >= 100, f"   {len(rows)}")
 
 
 def try_texts(trial):

@@ -12,15 +12,11 @@ from runner.trial import ROOT, read
 EXPLAINED = """tapa: examples/refused/conditional_read.cpp:8:31: C8 operation in a conditional place
     8 |   while (!q.eot(nullptr) && q.peek(nullptr) == 0) { q.read(); }
       |                               ^
-      = Every expression is computed whole, as a circuit does, so an operation on a stream or memory may not be skipped by `&&`, `||` or `?:`.
-      = instead, for example:
-      |   while (true) {
-      |     bool over = i.eot(nullptr);
-      |     if (over) break;
-      |     int next = i.peek(nullptr);
-      |     if (next != n) break;
-      |     i.read();
-      |   }
+      = `q.peek` stands right of `&&`: every expression is computed whole, as a circuit does, so no operation may be skipped
+      = instead: the operation before the expression, or a nested `if`
+      = for example:
+      |   bool over = i.eot(nullptr);
+      |   if (!over) { int next = i.peek(nullptr); if (next == n) { i.read(); } }
       = docs/REFUSALS.md, C8
 """
 
@@ -61,16 +57,6 @@ ARRAYS_SHOWN = """    2 | void T() { tapa::streams<int, 3> s; tapa::task().invok
       |                                                                        ^
       = in the text with its arrays written out: 2:93 (tools/written_out.py shows it)
 """
-
-# Sources, the word at the place that is told, and what explain.py then says.
-EXPLAINED_WORDS = [
-    ("void L(tapa::async_mmap<int> m) { }", "async_mmap", "`async_mmap` is not in the language here"),
-    ("void L() { ap_uint<5> x; }", "<", "`ap_uint` is not in the language here"),
-    ("int main() { return 0; }", "int", "`main` is not in the language here"),
-    ("int x;", "int", "has something of C++ that is not in it"),
-    ("void L(int n) { if (n == 0) { return; } }", "return", "`if` with `else`"),
-    ("void L(int n) { n = n + 1 }", "}", "missing `;`"),
-]
 
 # A stream that takes two tokens in the cycles 1 and 2, and gives one in cycle 3.
 DUMP = """$timescale 1 ns $end
@@ -121,11 +107,6 @@ def try_explain(trial):
         trial.check(f"explain.py has a word on {told}", "\n      = " in run_explain(trial, told))
     twice = run_tool("explain.py", given="tapa: A$0 waits to read q\ntapa: B$1 waits to write r\n")[1]
     trial.check_equal("explain.py names the section on deadlocks once", twice, "tapa: A$0 waits to read q\ntapa: B$1 waits to write r\n      = docs/REFUSALS.md, Deadlock\n")
-    for source, word, wanted in EXPLAINED_WORDS:
-        told = trial.put("w.cpp", source)
-        col = source.index(word) + 1
-        shown = run_explain(trial, f"tapa: {told}:1:{col}: P1 unexpected token")
-        trial.check(f"explain.py on {source}", wanted in shown, f"   {shown}")
 
 
 def run_explain(trial, line):
@@ -271,7 +252,7 @@ def repository(trial, name, has_program=True):
     """A folder with what `./tapa` needs, and the program as if it had been proved there."""
     folder = os.path.join(trial.folder.name, name)
     os.makedirs(f"{folder}/crates/tapa_cli/out")
-    for file in ("tapa", "crates.txt", "tools/explain.py", "tools/written_out.py", "tools/unproved.py", "docs/REFUSALS.md", "docs/COMMAND.md", "docs/FROM_TAPA.md", "examples/refused/conditional_read.cpp", "examples/bad_token.cpp"):
+    for file in ("tapa", "crates.txt", "tools/explain.py", "tools/unproved.py", "docs/REFUSALS.md", "docs/COMMAND.md", "docs/FROM_TAPA.md", "examples/refused/conditional_read.cpp", "examples/bad_token.cpp"):
         os.makedirs(os.path.dirname(f"{folder}/{file}"), exist_ok=True)
         shutil.copy(os.path.join(ROOT, file), f"{folder}/{file}")
     shutil.copytree(os.path.join(ROOT, "tools/vechaqir"), f"{folder}/tools/vechaqir", ignore=shutil.ignore_patterns("__pycache__"))
@@ -295,9 +276,9 @@ def try_script(trial):
     bare = (1, "", EXPLAINED.split("\n")[:1])
     trial.check_equal("./tapa on a terminal", with_terminal(words, folder), (1, "", EXPLAINED))
     trial.check_equal("./tapa without a terminal", run_script(words, folder), bare)
-    told = "tapa: Consumer$1 bad token on numbers\n      = docs/REFUSALS.md, Deadlock\n"
-    wanted = (8, read("examples/bad_token.out"), told)
-    trial.check_equal("./tapa with a report", with_terminal(["./tapa", "run", "examples/bad_token.cpp", "BadToken"], folder), wanted)
+    said = with_terminal(["./tapa", "run", "examples/bad_token.cpp", "BadToken"], folder)
+    is_explained = said[2].startswith("tapa: Consumer$1 bad token on numbers\n      = Consumer$1 met the end of a transaction") and said[2].endswith("      = docs/REFUSALS.md, Deadlock\n")
+    trial.check("./tapa with a report", said[:2] == (8, read("examples/bad_token.out")) and is_explained, f"   {said}")
     os.makedirs(f"{folder}/below/bin")
     os.symlink("../../tapa", f"{folder}/below/bin/tapa")
     trial.check_equal("./tapa by a symbolic link", run_script(["below/bin/tapa", *words[1:]], folder), bare)

@@ -1,0 +1,87 @@
+"""Runs `tapa` for a person at a terminal: its messages with their explanations, how long it has run, and its own end."""
+import os
+import resource
+import select
+import signal
+import subprocess
+import sys
+import time
+from typing import List, NoReturn
+
+from . import explain
+
+# Signals that go on to the program, which decides what they do.
+PASSED_ON = (signal.SIGINT, signal.SIGTERM, signal.SIGHUP, signal.SIGQUIT)
+SECONDS = 1.0
+CLEAR = b"\r\x1b[K"
+
+
+class Clock:
+    """Tells once a second on standard error how long a program has run; what is written next takes its place."""
+
+    def __init__(self) -> None:
+        self.begun, self.is_shown = time.monotonic(), False
+
+    def tell(self) -> None:
+        os.write(2, b"%d s\r" % (time.monotonic() - self.begun))
+        self.is_shown = True
+
+    def clear(self) -> None:
+        if self.is_shown:
+            os.write(2, CLEAR)
+        self.is_shown = False
+
+
+def end_like(status: int) -> NoReturn:
+    """Ends with a status, or by the signal by which the program died."""
+    if status < 0:
+        resource.setrlimit(resource.RLIMIT_CORE, (0, resource.getrlimit(resource.RLIMIT_CORE)[1]))
+        signal.signal(-status, signal.SIG_DFL)
+        os.kill(os.getpid(), -status)
+    sys.exit(status if status >= 0 else 128 - status)
+
+
+def messages_of(running: "subprocess.Popen[bytes]", clock: Clock, explainer: explain.Explainer) -> None:
+    """Passes on each line of the program's standard error with its explanation, until it closes it."""
+    assert running.stderr is not None
+    number = running.stderr.fileno()
+    held = b""
+    while True:
+        if not select.select([number], [], [], SECONDS)[0]:
+            clock.tell()
+            continue
+        piece = os.read(number, 65_536)
+        clock.clear()
+        lines = (held + piece).split(b"\n")
+        held = lines.pop()
+        for line in lines + ([held] if held and not piece else []):
+            os.write(2, line + b"\n")
+            written(explainer.safely(line.decode("utf-8", "surrogateescape")))
+        if not piece:
+            return
+
+
+def written(lines: List[str]) -> None:
+    for it in lines:
+        os.write(2, (it + "\n").encode("utf-8", "replace"))
+
+
+def run(program: str, words: List[str]) -> NoReturn:
+    """Runs the program with these words; standard output is its own."""
+    clock, explainer = Clock(), explain.Explainer(explain.Command(words))
+    try:
+        running = subprocess.Popen([program, *words], stderr=subprocess.PIPE)
+    except OSError as why:
+        sys.stderr.write(f"tapa: {program}: {why.strerror}\n")
+        sys.exit(125)
+    for number in PASSED_ON:
+        signal.signal(number, lambda told, _: running.send_signal(told))
+    try:
+        messages_of(running, clock, explainer)
+        status = running.wait()
+        clock.clear()
+        if status >= 0:
+            written(explainer.ended())
+    except OSError:
+        status = running.wait()
+    end_like(status)

@@ -1,0 +1,160 @@
+"""The words of a command: which of them is wrong, and what the command takes, from docs/COMMAND.md."""
+import re
+from typing import Dict, List, NamedTuple, Optional, Tuple
+
+from . import pages
+from .explain_base import listed, nearest
+
+
+class Word(NamedTuple):
+    """A row of the table of words in docs/COMMAND.md: a word or an option with its value, the commands that have it, what it is, its values, and what is taken without it."""
+
+    word: str
+    of: List[str]
+    what: str
+    values: str
+    without: str
+
+
+class Command(NamedTuple):
+    """A command: its synopsis, the words that have to stand, those that may, and its options, each with whether it has a value."""
+
+    name: str
+    synopsis: str
+    words: List[str]
+    more: List[str]
+    options: Dict[str, bool]
+
+
+def commands() -> Dict[str, Command]:
+    """The commands of docs/COMMAND.md by name."""
+    found = {}
+    for name, rest in re.findall(r"^    \./tapa (\w+) ?(.*)$", pages.page("COMMAND.md").split("\n\n`run`", 1)[0], re.M):
+        bracketed = re.findall(r"\[([^\]]+)\]", rest)
+        options = {it.split()[0]: " " in it for it in bracketed if it.startswith("--")}
+        found[name] = Command(name, f"tapa {name} {rest}", re.sub(r"\[[^\]]+\]", "", rest).split(), [it for it in bracketed if not it.startswith("--")], options)
+    return found
+
+
+def words_of(command: Command) -> List[Word]:
+    """The words and options of a command, in the order of the page."""
+    found = []
+    for line in pages.page("COMMAND.md").splitlines():
+        cells = [it.strip() for it in line.strip("|").split("|")]
+        if len(cells) == 5 and re.fullmatch(r"`[^`]+`", cells[0]) and command.name in cells[1].split(", "):
+            found.append(Word(cells[0].strip("`"), cells[1].split(", "), *cells[2:]))
+    return found
+
+
+def about(command: Command) -> List[str]:
+    """A line for each word and option of a command: what it is, its values, and what is taken without it."""
+    lines = []
+    for it in words_of(command):
+        tail = [part for part in (it.values, it.without and f"{it.without} if it is not there") if part]
+        lines.append((f"{it.word:<14} {it.what}" + (f": {'; '.join(tail)}" if tail else "")).replace("`", ""))
+    return lines
+
+
+def value(command: Command, name: str, text: str) -> Optional[str]:
+    """What is wrong with the value of an option, or with a word: a number out of its range, or none of the words that there are."""
+    values = next((it.values for it in words_of(command) if it.word.split()[0] == name), "")
+    bounds = re.fullmatch(r"([0-9,]+) to ([0-9,]+)", values)
+    if bounds:
+        least, most = (int(it.replace(",", "")) for it in bounds.groups())
+        is_right = re.fullmatch(r"[0-9]{1,19}", text) and least <= int(text) <= most
+        return None if is_right else f"`{text}` is no whole number from {least:,} to {most:,}"
+    may = re.findall(r"`(\w+)`", values)
+    if may and text not in may:
+        near = nearest(text, may)
+        return f"`{text}` is none of {listed(may)}" + (f"; `{near}` is meant, perhaps" if near else "")
+    return None
+
+
+def is_option(word: str) -> bool:
+    return len(word) > 1 and word[0] == "-"
+
+
+def unknown_option(command: Command, word: str) -> str:
+    name = word.split("=")[0]
+    has = f"its options are {listed(command.options)}" if command.options else "it has no options"
+    if name in ("--help", "-h", "--version", "-v"):
+        return f"`{name}`: `tapa` has no such option; what `{command.name}` takes is this"
+    others = [it.name for it in commands().values() if name in it.options]
+    if others:
+        return f"`{name}` is an option of {listed(others)}, and not of `{command.name}`: {has}"
+    near = nearest(name, command.options)
+    return f"`{command.name}` has no option `{name}`: {has}" + (f"; `{near}` is meant, perhaps" if near else "")
+
+
+def options(command: Command, words: List[str]) -> Tuple[Optional[str], List[str]]:
+    """What is wrong with the options among the words behind a command's name, or else the other words."""
+    plain: List[str] = []
+    given: List[str] = []
+    at = 0
+    while at < len(words):
+        word = words[at]
+        at += 1
+        if word == "--":
+            return None, plain + words[at:]
+        if not is_option(word):
+            plain.append(word)
+            continue
+        name, sign, text = word.partition("=")
+        if name not in command.options:
+            return unknown_option(command, word), plain
+        if name in given:
+            return f"`{name}` is given twice", plain
+        given.append(name)
+        if not command.options[name]:
+            if sign:
+                return f"`{name}` has no value, and `{word}` gives it one", plain
+            continue
+        if not sign:
+            if at == len(words) or is_option(words[at]):
+                return f"behind `{name}` its value is missing" + (f": `{words[at]}` is an option" if at < len(words) else ""), plain
+            text = words[at]
+            at += 1
+        wrong = value(command, name, text) if text else f"the value of `{name}` is empty"
+        if wrong:
+            return f"`{name} {text}`: {wrong}" if text else wrong, plain
+    return None, plain
+
+
+def wrong(words: List[str]) -> Optional[str]:
+    """What is wrong with the words of a command, in a sentence that names the word; None where nothing is."""
+    known = commands()
+    if any("\udc80" <= it <= "\udcff" for word in words for it in word):
+        return "a word is no UTF-8"
+    if not words:
+        return f"there is no word: the first one is a command, {listed(known, 'or')}"
+    if words[0] not in known:
+        near = nearest(words[0], known)
+        return f"`{words[0]}` is no command: there are {listed(known)}" + (f"; `{near}` is meant, perhaps" if near else "")
+    command = known[words[0]]
+    fault, plain = options(command, words[1:])
+    if fault:
+        return fault
+    if len(plain) < len(command.words):
+        return f"`{command.words[len(plain)]}` is missing" + (f" behind `{plain[-1]}`" if plain else "")
+    most = len(command.words) + len(command.more)
+    if len(plain) > most:
+        return f"`{plain[most]}` is one word too many: `{command.name}` takes {listed(command.words + command.more)}"
+    if command.name == "gen":
+        fault = value(command, "N", plain[0])
+        return f"N: {fault}" if fault else None
+    return None
+
+
+def explained(words: Optional[List[str]]) -> List[str]:
+    """The lines below a usage message: the wrong word, and what its command takes, or all commands."""
+    known = commands()
+    lines = []
+    fault = wrong(words) if words is not None else None
+    if fault:
+        lines.append(f"      = {fault}")
+    if words and words[0] in known:
+        command = known[words[0]]
+        lines += [f"      = {command.synopsis}"] + [f"      |   {it}" for it in about(command)]
+    else:
+        lines += [f"      = {it.synopsis}" for it in known.values()]
+    return lines + ["      = docs/COMMAND.md"]
