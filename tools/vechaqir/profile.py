@@ -83,14 +83,24 @@ class StreamProfile:
         return len(self.written)
 
 
+class PastEnd(NamedTuple):
+    """Accesses of an instance to a memory past its end, at one state: a load gives 0 there, and a store is dropped."""
+
+    label: str
+    act: str
+    memory: str
+    line: int
+
+
 @dataclass
 class Profile:
-    """A run's cycles. `is_done` says whether all joined tasks have ended."""
+    """A run's cycles. `is_done` says whether all joined tasks have ended; `past_end` has of each access past a memory's end how often it was made, and the first index."""
 
     cycles: int
     is_done: bool
     tasks: Dict[str, TaskProfile]
     streams: Dict[str, StreamProfile]
+    past_end: Dict[PastEnd, Tuple[int, int]] = field(default_factory=dict)
 
     def lines(self) -> Dict[int, LineCost]:
         """The cycles of each line, of all instances together, in the order of the source."""
@@ -107,8 +117,12 @@ class Profile:
         return max((task.statuses.rfind(0) + 1 for task in self.tasks.values()), default=0)
 
 
-def profile(run: Run) -> Profile:
-    """The profile of a run that is followed through its dump. Raises NotOfThisSource where the dump is that of another circuit."""
+def profile(run: Run, sizes: Optional[Dict[str, int]] = None) -> Profile:
+    """The profile of a run that is followed through its dump; `sizes` are the cells of the memories, by which accesses past their ends are found.
+
+    Raises NotOfThisSource where the dump is that of another circuit.
+    """
+    past_end: Dict[PastEnd, Tuple[int, int]] = {}
     tasks = {it.instance.label: TaskProfile(it.instance, it.machine) for it in run.followers}
     streams = {it.name: StreamProfile(it) for it in run.network.streams}
     cycles = 0
@@ -118,12 +132,23 @@ def profile(run: Run) -> Profile:
             it.fills.append(len(it.written) - len(it.taken))
         for follower, task in zip(run.followers, tasks.values()):
             _take(cycles, follower, task, streams)
+            if sizes and follower.status == TICK and follower.state.act in MEMORY:
+                _look_past_end(follower, sizes, past_end)
     for task in tasks.values():
         _sum_up(task)
     for name, stream in streams.items():
         _sum_up_stream(stream, tasks, name)
     is_done = cycles > 0 and all(it.statuses[-1] == CODES[ENDED] for it in tasks.values() if not it.instance.detached)
-    return Profile(cycles, is_done, tasks, streams)
+    return Profile(cycles, is_done, tasks, streams, past_end)
+
+
+def _look_past_end(follower: Follower, sizes: Dict[str, int], past_end: Dict[PastEnd, Tuple[int, int]]) -> None:
+    state, index = follower.state, follower.index()
+    name = follower.memories[state.subject or 0].name
+    if index >= sizes.get(name, index + 1):
+        access = PastEnd(follower.instance.label, state.act, name, follower.machine.place(state).line)
+        times, first = past_end.get(access, (0, index))
+        past_end[access] = (times + 1, first)
 
 
 def _take(cycle: int, follower: Follower, task: TaskProfile, streams: Dict[str, StreamProfile]) -> None:

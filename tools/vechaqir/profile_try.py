@@ -85,7 +85,8 @@ class Bench:
         if said.status not in (0, 7):
             raise NotBuilt(said.err.decode("utf-8", "replace").strip())
         source = parse(text)
-        return profile(Run(source, network(source, self.top), Dump(self.put("dump.vcd", said.out))))
+        sizes = {name: len(cells) for name, cells in self.data.memories.items()}
+        return profile(Run(source, network(source, self.top), Dump(self.put("dump.vcd", said.out))), sizes)
 
 
 # ---- depths

@@ -1,0 +1,63 @@
+"""Parts of pictures: texts whose width is known, so that labels have room, and the frame of an SVG file."""
+from __future__ import annotations
+
+from html import escape
+from typing import Iterable, Iterator
+
+# The families that pictures ask for; Verdana has the widths of DejaVu Sans, and most others are narrower.
+FONT = "DejaVu Sans, Verdana, sans-serif"
+INK, QUIET, LINE, PAPER = "#1f2933", "#5b6770", "#7b8794", "#f5f7f9"
+
+# Widths of the characters 32 to 126 in thousandths of the size: DejaVu Sans, and its bold face.
+PLAIN = (
+    318, 401, 460, 838, 636, 950, 780, 275, 390, 390, 500, 838, 318, 361, 318, 337, 636, 636, 636, 636, 636, 636, 636, 636, 636, 636, 337, 337, 838, 838, 838, 531,
+    1000, 684, 686, 698, 770, 632, 575, 775, 752, 295, 295, 656, 557, 863, 748, 787, 603, 787, 695, 635, 611, 732, 684, 989, 685, 611, 685, 390, 337, 390, 838, 500,
+    500, 613, 635, 550, 635, 615, 352, 635, 634, 278, 278, 579, 278, 974, 634, 612, 635, 635, 411, 521, 392, 634, 592, 818, 592, 592, 525, 636, 337, 636, 838)
+BOLD = (
+    348, 456, 521, 838, 696, 1002, 872, 306, 457, 457, 523, 838, 380, 415, 380, 365, 696, 696, 696, 696, 696, 696, 696, 696, 696, 696, 400, 400, 838, 838, 838, 580,
+    1000, 774, 762, 734, 830, 683, 683, 821, 837, 372, 372, 775, 637, 995, 837, 850, 733, 850, 770, 720, 682, 812, 774, 1103, 771, 724, 725, 457, 365, 457, 838, 500,
+    500, 675, 716, 593, 716, 678, 435, 716, 712, 343, 343, 665, 343, 1042, 712, 687, 716, 716, 493, 595, 478, 712, 652, 924, 645, 652, 582, 712, 365, 712, 838)
+
+
+def text_width(words: str, size: float, is_bold: bool = False) -> float:
+    """How wide a text is at a font size, both in the picture's units."""
+    widths = BOLD if is_bold else PLAIN
+    return sum(widths[ord(it) - 32] if 32 <= ord(it) <= 126 else 1000 for it in words) * size / 1000
+
+
+def cut(words: str, size: float, width: float, is_bold: bool = False) -> str:
+    """A text, or the front of it and two dots where it is wider than this."""
+    if text_width(words, size, is_bold) <= width:
+        return words
+    while words and text_width(words + "..", size, is_bold) > width:
+        words = words[:-1]
+    return words + ".."
+
+
+def text(x: float, y: float, words: str, size: float = 12, anchor: str = "start", is_bold: bool = False, colour: str = INK) -> str:
+    """A line of text whose base line begins, has its middle, or ends at a place."""
+    style = f' font-size="{size:g}"' + (f' text-anchor="{anchor}"' if anchor != "start" else "") + (' font-weight="bold"' if is_bold else "")
+    return f'<text x="{x:.1f}" y="{y:.1f}"{style} fill="{colour}">{escape(words)}</text>'
+
+
+def box(x: float, y: float, width: float, height: float, fill: str = PAPER, stroke: str = LINE, radius: float = 3, dashes: str = "") -> str:
+    dashed = f' stroke-dasharray="{dashes}"' if dashes else ""
+    return f'<rect x="{x:.1f}" y="{y:.1f}" width="{width:.1f}" height="{height:.1f}" rx="{radius:g}" fill="{fill}" stroke="{stroke}"{dashed}/>'
+
+
+def line(x: float, y: float, to_x: float, to_y: float, stroke: str = LINE, width: float = 1) -> str:
+    return f'<line x1="{x:.1f}" y1="{y:.1f}" x2="{to_x:.1f}" y2="{to_y:.1f}" stroke="{stroke}" stroke-width="{width:g}"/>'
+
+
+def path(way: str, stroke: str = LINE, width: float = 1.2, is_arrow: bool = True) -> str:
+    return f'<path d="{way}" fill="none" stroke="{stroke}" stroke-width="{width:g}"' + (' marker-end="url(#end)"' if is_arrow else "") + "/>"
+
+
+def picture(width: float, height: float, parts: Iterable[str]) -> Iterator[str]:
+    """The lines of an SVG file: these parts on white, so that it also stands on a dark page."""
+    yield f'<svg xmlns="http://www.w3.org/2000/svg" width="{width:.0f}" height="{height:.0f}" viewBox="0 0 {width:.0f} {height:.0f}" font-family="{FONT}">'
+    yield '<defs><marker id="end" markerUnits="userSpaceOnUse" markerWidth="9" markerHeight="8" refX="8" refY="4" orient="auto">'
+    yield f'<path d="M0 0 L9 4 L0 8 Z" fill="{LINE}"/></marker></defs>'
+    yield f'<rect width="{width:.0f}" height="{height:.0f}" fill="#ffffff"/>'
+    yield from parts
+    yield "</svg>"
