@@ -36,7 +36,7 @@ def signed_report(network: Network, out: str, err: str = "") -> Report:
 
 def rows(network: Network, report: Report, is_run: bool) -> List[Row]:
     """The lines of a report with signs; `is_run` says that `run` made it, which shows of detached tasks no more than joined ones have to do with."""
-    kinds = {it.name: it.kind.word for it in [*network.streams, *network.memories]}
+    kinds = {**{it.name: it.kind.word for it in network.streams}, **{it.name: it.kind.word for it in network.memories}}
     found = []
     for name, tokens in report.streams.items():
         note = _unshown(network, name) if is_run and report.end == "done" else ""
