@@ -7,7 +7,6 @@ from typing import Any, Dict, Iterator, List, Mapping, Optional, Tuple
 from .network import Network
 from .profile import Profile
 from .report import Report, Shape, parse, text_of, with_signs
-from .source import Source
 
 # The most values of a line, of which half are the first and half the last ones.
 SHOWN = 24
@@ -116,7 +115,7 @@ def first_difference(made: Mapping[str, Any], expected: Mapping[str, Any]) -> Op
     return None
 
 
-def signed_lines(source: Source, network: Network, text: str) -> str:
+def signed_lines(network: Network, text: str) -> str:
     """The lines of a report with signs, whole; other lines are passed on."""
     found = []
     for line in text.splitlines():

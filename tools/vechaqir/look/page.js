@@ -289,19 +289,20 @@ function drawTime() {
 
 function drawRow(pen, colour, row, y, width) {
   if (row.name === chosen || isNear(row.name)) { pen.fillStyle = colour.markpale; pen.fillRect(0, y, width, ROW); }
-  const pixels = width - LEFT - 12, step = time.count / pixels, cell = Math.max(1, pixels / time.count);
-  const last = Math.min(D.cycles, Math.ceil(time.first + time.count));
-  const x = (cycle) => LEFT + (cycle - time.first) / step;
-  for (let cycle = Math.floor(time.first); cycle <= last; cycle += Math.max(1, step)) {
-    const now = Math.floor(cycle);
+  const pixels = width - LEFT - 12, step = time.count / pixels;
+  // a mark for each cycle, or where they are narrower than a pixel for each pixel
+  for (let at = 0; at < time.count; at += Math.max(1, step)) {
+    const now = Math.floor(time.first + at), x = LEFT + Math.max(0, Math.round((step > 1 ? at : now - time.first) / step));
+    if (now > D.cycles) break;
+    const wide = Math.max(1, LEFT + Math.round((now + 1 - time.first) / step) - x);
     if (row.task) {
       pen.fillStyle = colour[kindOf(row.task, codeOf(row.task, now))];
-      pen.fillRect(Math.max(LEFT, x(now)), y + 4, cell + 0.3, ROW - 7);
+      pen.fillRect(x, y + 4, wide, ROW - 7);
     } else {
       const fill = digit.get(row.stream.fill[Math.floor((now - 1) / D.span)]) * row.stream.scale;
       const high = (ROW - 5) * Math.min(fill / Math.max(row.stream.depth, row.stream.most, 1), 1);
       pen.fillStyle = colour.fill;
-      pen.fillRect(Math.max(LEFT, x(now)), y + ROW - 2 - high, cell + 0.3, high);
+      pen.fillRect(x, y + ROW - 2 - high, wide, high);
     }
   }
   pen.fillStyle = colour.ink;
@@ -352,23 +353,26 @@ function showBounds() {
 // ---- the source
 
 function showSource() {
-  const place = byId("code");
-  const fill = () => {
-    const task = tasks.get(chosen), costs = task ? costsOf(task) : D.costs;
+  const place = byId("code"), made = make("table", {});
+  const rows = D.lines.map((text, at) => make("tr", {}, make("td", { class: "number" }, String(at + 1)), make("td", { class: "number" }), make("td", {}), make("td", {}, text)));
+  made.append(...rows);
+  place.append(made);
+  let costs = {}, here = null;
+  listeners.push(() => {
+    const task = tasks.get(chosen), before = costs;
+    costs = task ? costsOf(task) : D.costs;
     const most = Math.max(1, ...Object.values(costs).map(([ticks, waits]) => ticks + waits));
-    const made = make("table", {});
-    D.lines.forEach((text, at) => {
-      const cost = costs[at + 1], row = make("tr", {}, make("td", { class: "number" }, String(at + 1)));
-      row.append(make("td", { class: "number" }, cost ? String(cost[0] + cost[1]) : ""), make("td", {}, cost ? bar([["tick", "ticks", cost[0]], ["wait", "waits", cost[1]], ["none", "", most - cost[0] - cost[1]]]) : ""), make("td", {}, text));
-      if (task && task.line === at + 1) row.classList.add("here");
-      made.append(row);
-    });
-    place.replaceChildren(made);
+    for (const line of new Set([...Object.keys(before), ...Object.keys(costs)])) showCost(rows[line - 1], costs[line], most);
+    if (here) here.classList.remove("here");
+    here = task ? rows[task.line - 1] : null;
     // the page stays where it is: only the box with the source is moved
-    const here = made.querySelector("tr.here");
-    if (here) place.scrollTop = here.offsetTop - 60;
-  };
-  listeners.push(fill);
+    if (here) { here.classList.add("here"); place.scrollTop = here.offsetTop - 60; }
+  });
+}
+
+function showCost(row, cost, most) {
+  row.children[1].textContent = cost ? String(cost[0] + cost[1]) : "";
+  row.children[2].replaceChildren(cost ? bar([["tick", "ticks", cost[0]], ["wait", "waits", cost[1]], ["none", "", most - cost[0] - cost[1]]]) : "");
 }
 
 function costsOf(task) {
