@@ -12,6 +12,7 @@ import sys
 
 from runner import (
     arrays,
+    benches,
     bounds,
     circuits,
     crates,
@@ -82,6 +83,7 @@ GROUPS = [
     ("reports", reports.try_all),
     ("looks", looks.try_all),
     ("readers", readers.try_all),
+    ("benches", benches.try_all),
     ("module", module.try_all),
     ("parts", parts.try_all),
     ("explanations", explanations.try_all),
