@@ -27,8 +27,8 @@ class Found(NamedTuple):
 
 # Proposals at one temperature.
 SWEEP = 500
-# By what the cost of overfull slots is raised for each sweep of the second half at whose end there are some.
-STIFFER = 1.05
+# How many times the cost of overfull slots is at the end what it was, where there are some all through the second half.
+STIFFER = 40.0
 # Of a hundred proposals those that move a node to a neighbour's slot, and those that move it to any slot; the others are swaps.
 TO_NEIGHBOUR, TO_ANY = 60, 10
 
@@ -83,7 +83,7 @@ def anneal(layout: Layout, some: random.Random, schedule: Schedule) -> Optional[
             best = sweep(layout, some, temperature, weight, best)
             temperature *= cooling
             if 2 * number > rounds and not layout.fits():
-                weight *= STIFFER
+                weight *= STIFFER ** (2 / rounds)
     return best
 
 

@@ -22,7 +22,7 @@ HOT, WARM, COLD = 2.0, 0.7, 0.12
 STARTS = 2
 # What an average node beyond a slot's room costs, in average streams: attempts take them in turn, since loose devices ask for the first, full ones for
 # the others.
-OVERFULL = (8.0, 2.0, 4.0)
+OVERFULL = (8.0, 2.0, 30.0, 4.0)
 # Proposals for each node and slot of the graph, of the first attempts and of all later ones.
 EFFORTS = (40, 80, 160, 160, 160, 160)
 

@@ -1,0 +1,220 @@
+#!/usr/bin/env python3
+"""Tries and measures placements of designs of real size: families/ has the designs, parts.py their devices. It stands outside of the gate.
+
+    tests/measure/plans/run.py PROGRAM check [NAME ..]      each design runs to its end with what Python computes; its placements are taken by
+                                                            `plan` and `build`, and `cosim` carries the same; exact's cost where it can plan
+    tests/measure/plans/run.py PROGRAM random COUNT         random devices for the designs that exact can plan, beside exact
+    tests/measure/plans/run.py PROGRAM table SECONDS [NAME ..]   what each mode costs, and place.py after 1, 10, .. SECONDS of one processor
+    tests/measure/plans/run.py PROGRAM write FOLDER [NAME ..]    writes sources, data and device files
+
+NAME is the name of a design, all if none is given. The status is 1 where something is wrong.
+"""
+import json
+import os
+import random
+import subprocess
+import sys
+import tempfile
+import time
+
+sys.dont_write_bytecode = True
+from families import DESIGNS  # noqa: E402
+from parts import PARTS, ROOT, device_of  # noqa: E402
+from vechaqir import device as devices  # noqa: E402
+from vechaqir import estimate, place, place_graph, place_groups, place_levels, place_exact, program, report  # noqa: E402
+from vechaqir import plan as plans  # noqa: E402
+
+# The most plans that exact looks at, and the orders of invokes that are tried.
+MOST, ORDERS = 4_194_304, (0, 1)
+ATTEMPTS = 6
+
+
+class Suite:
+    """A program, a folder for files, and how many faults were found."""
+
+    def __init__(self, path, folder):
+        self.program, self.folder, self.faults = program.Program(os.path.abspath(path), False), folder, 0
+
+    def put(self, name, text):
+        path = os.path.join(self.folder, name)
+        with open(path, "w", encoding="utf-8") as file:
+            file.write(text)
+        return path
+
+    def check(self, name, holds, told=""):
+        self.faults += not holds
+        if not holds:
+            print(f"FAILED {name} {told}", flush=True)
+
+    def cost(self, source, device, mode="fit"):
+        """What a plan costs and how many registers it takes, by a mode; None where it gives none. And the seconds of the call."""
+        begun = time.monotonic()
+        answer = self.program.call(["plan", source, "Top", device, "--plan", mode])
+        plan = plans.parse(answer.out.decode()) if answer.status == 0 else None
+        return plan, time.monotonic() - begun
+
+
+class Prepared:
+    """A design's source in an order of its invokes, and what the program says of it."""
+
+    def __init__(self, suite, name, order=0):
+        self.name, self.design = name, DESIGNS[name]()
+        self.source = suite.put(f"{name.replace(' ', '_')}_{order}.cpp", self.design.source(order))
+        self.found = estimate.estimate(suite.program, self.source, "Top")
+        self.links = place_groups.links(self.source, "Top", self.found.labels, self.found.widths)
+        self.groups = place_groups.groups(self.found.labels, self.links)
+
+    def device(self, part):
+        return device_of(part, self.found, len(self.groups))
+
+
+def placed(suite, source, device, *words):
+    """What place.py answers, and the path of a file with its output."""
+    known = dict(os.environ, TAPA=suite.program.path)
+    ran = subprocess.run([sys.executable, os.path.join(ROOT, "tools/place.py"), source, "Top", device, *words], env=known, capture_output=True, text=True, check=False)
+    return ran, suite.put("pinned.json", ran.stdout)
+
+
+def check_run(suite, prepared):
+    """Runs a design; gives its report and the path of its data."""
+    data = suite.put("data.json", json.dumps(prepared.design.data))
+    answer = suite.program.call(["run", prepared.source, "Top", data])
+    told = report.parse(answer.out.decode(), answer.err.decode())
+    wanted = {name: [cell % 2**32 for cell in cells] for name, cells in prepared.design.wanted.items()}
+    got = {name: told.memories.get(name) for name in wanted}
+    suite.check(f"{prepared.name}: run", answer.status == 0 and got == wanted, f"{answer.err.decode()} {got}")
+    return answer, data
+
+
+def check_placement(suite, prepared, part, ran, data):
+    """A placement through `plan`, `build` and `cosim`; gives its cost."""
+    name, device = f"{prepared.name} on {part}", suite.put("device.json", prepared.device(part).text())
+    answered, pinned = placed(suite, prepared.source, device, "--attempts", str(ATTEMPTS))
+    suite.check(f"{name}: place.py", answered.returncode == 0, answered.stderr)
+    plan, _ = suite.cost(prepared.source, pinned, "exact")
+    suite.check(f"{name}: plan of the pins", plan is not None and f"cost {plan.cost}," in answered.stderr, answered.stderr)
+    if len(prepared.device(part).slots) ** len(prepared.groups) <= MOST:
+        least, _ = suite.cost(prepared.source, device, "exact")
+        suite.check(f"{name}: the cost of exact", plan and least and plan.cost == least.cost, f"{plan and plan.cost} {least and least.cost}")
+    built = suite.program.call(["build", prepared.source, "Top", "--device", pinned])
+    simulated = suite.program.call(["cosim", suite.put("pinned.v", built.out.decode()), data])
+    same = simulated.status == 0 and simulated.out.splitlines()[:-1] == ran.out.splitlines()[:-1]
+    suite.check(f"{name}: cosim carries what run prints", same, simulated.err.decode())
+    return plan.cost if plan else None
+
+
+def check(suite, names):
+    for name in names:
+        prepared = [Prepared(suite, name, order) for order in ORDERS]
+        ran, data = check_run(suite, prepared[0])
+        for part in PARTS:
+            costs = [check_placement(suite, prepared[0], part, ran, data)]
+            print(f"{name} on {part}: {len(prepared[0].found.labels)} tasks, cost {costs[0]}", flush=True)
+
+
+def random_device(prepared, some):
+    """A device on which exact can plan a design: a few slots of random sizes that hold from 1.1 to 2 times what the tasks use."""
+    grids = [(rows, cols) for rows in range(1, 5) for cols in range(1, 4) if 1 < (rows * cols) ** len(prepared.groups) <= MOST]
+    rows, cols = some.choice(grids)
+    shares = [some.uniform(0.6, 1.4) for _ in range(rows * cols)]
+    uses = prepared.found.uses(prepared.found.labels)
+    spare = some.uniform(1.1, 2.0)
+    slots = [[int(use * spare * share / sum(shares)) + 1 for use in uses] for share in shares]
+    return devices.Device(rows, cols, slots, 2, [some.randrange(5) for _ in range(rows - 1)], [some.randrange(5) for _ in range(cols - 1)], percent=100)
+
+
+def check_random(suite, count):
+    """Random devices for each design that exact can plan on two slots at least."""
+    for name in DESIGNS:
+        prepared = Prepared(suite, name)
+        if 2 ** len(prepared.groups) > MOST:
+            continue
+        for seed in range(count):
+            device = suite.put("device.json", random_device(prepared, random.Random(f"{name} {seed}")).text())
+            least, _ = suite.cost(prepared.source, device, "exact")
+            answered, pinned = placed(suite, prepared.source, device, "--attempts", str(ATTEMPTS))
+            plan = suite.cost(prepared.source, pinned)[0] if answered.returncode == 0 else None
+            suite.check(f"{name} on random device {seed}", (plan and plan.cost) == (least and least.cost), f"{plan and plan.cost} {least and least.cost} {answered.stderr}")
+        print(f"{name}: {count} random devices", flush=True)
+
+
+def searched(suite, prepared, device, seconds):
+    """The least costs that attempts found within 1, 10, .. and `seconds` of one processor."""
+    request = place.read_request(suite.program, prepared.source, "Top", device)
+    scarce = place_graph.scarce_in(device, request.found.uses(request.found.labels))
+    board = place_graph.board_of(device, scarce, False)
+    graph = place_graph.graph_of(request.found, request.groups, request.links, device, board, scarce)
+    marks, best, found, number, begun = sorted({1.0, 10.0, seconds}), None, {}, 0, time.process_time()
+    while time.process_time() - begun < seconds:
+        layout = place_levels.attempt(graph, board, 1, number)
+        layout = layout if number else place_exact.search(graph, board, layout).found
+        spent = time.process_time() - begun
+        for mark in marks:
+            if number and spent > mark and mark not in found:
+                found[mark] = best
+        if layout and (best is None or layout.cost < best.cost):
+            best = layout
+        number += 1
+    found[marks[-1]] = best
+    return {mark: found.get(mark, best) for mark in marks}, request, board, number
+
+
+def row(suite, name, part, order, seconds):
+    """A line of the table: tasks, streams, groups, then cost, registers and seconds of each mode, and place.py's costs."""
+    prepared = Prepared(suite, name, order)
+    known = prepared.device(part)
+    device = suite.put("device.json", known.text())
+    cells = [name, part, order, len(prepared.found.labels), len(prepared.links)]
+    for mode in ("fit", "split", "exact"):
+        plan, took = suite.cost(prepared.source, device, mode)
+        cells.append(f"{plan.cost}, {plan.registers}, {took:.2f} s" if plan else "none")
+    found, request, board, number = searched(suite, prepared, known, seconds)
+    cells += [it.cost if it else "none" for it in found.values()]
+    last = list(found.values())[-1]
+    if last:
+        pinned = suite.put("pinned.json", known.text(place.pins_of(request, [board.slots[slot] for slot in last.at])))
+        plan, _ = suite.cost(prepared.source, pinned)
+        cells += [plan.registers]
+    return cells + [number]
+
+
+def table(suite, seconds, names):
+    for name in names:
+        for order in ORDERS:
+            print("| " + " | ".join(map(str, row(suite, name, "u250", order, seconds))) + " |", flush=True)
+
+
+def write(suite, names):
+    for name in names:
+        prepared = Prepared(suite, name)
+        front = name.replace(" ", "_")
+        suite.put(f"{front}_data.json", json.dumps(prepared.design.data))
+        for part in PARTS:
+            suite.put(f"{front}_{part}.json", prepared.device(part).text())
+
+
+def main(given):
+    if len(given) < 2 or given[1] not in ("check", "random", "table", "write") or given[1] != "check" and len(given) < 3:
+        print(__doc__.strip(), file=sys.stderr)
+        return 2
+    names = given[2 if given[1] == "check" else 3:] or list(DESIGNS)
+    unknown = [name for name in names if name not in DESIGNS]
+    if unknown:
+        print(f"tests/measure/plans/run.py: no design {unknown[0]}: {', '.join(DESIGNS)}", file=sys.stderr)
+        return 2
+    with tempfile.TemporaryDirectory(prefix="tapa-plans-") as folder:
+        suite = Suite(given[0], given[2] if given[1] == "write" else folder)
+        if given[1] == "check":
+            check(suite, names)
+        elif given[1] == "random":
+            check_random(suite, int(given[2]))
+        elif given[1] == "table":
+            table(suite, float(given[2]), names)
+        else:
+            write(suite, names)
+        print(f"{suite.faults} faults")
+        return 1 if suite.faults else 0
+
+
+if __name__ == "__main__":
+    sys.exit(main(sys.argv[1:]))
