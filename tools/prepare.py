@@ -1,17 +1,37 @@
 #!/usr/bin/env python3
 """Lists all that has to change in a TAPA source before `tapa` accepts it: the place, the construct, and what to write instead.
 
-    tools/prepare.py F.cpp
+    tools/prepare.py F.cpp                  the list
+    tools/prepare.py F.cpp --write OUT.cpp  does what is mechanical, and marks what is left with lines `// prepare: ..`
+    tools/prepare.py F.cpp --write          the same in place; F.cpp.orig keeps what was there
 
-The rows are those of docs/FROM_TAPA.md. What is listed is what can be seen without running `tapa`; what else a rule refuses, `tapa run F.cpp TOP` tells. The status is 0 where nothing is listed, and else 1.
+Mechanical are headers beside the source, constants by `#define`, names of kinds, enumerations, `static`, labels, lists of values, parentheses around sizes, modes and names in invokes, `&` of streams,
+several steps in the head of a `for`, functions of one expression and more; docs/FROM_TAPA.md has all constructs. What else a rule refuses, `tapa run F.cpp TOP` tells. The status is 0
+where nothing is left to change, and else 1.
 """
+import os
 import sys
 
 sys.dont_write_bytecode = True
-from vechaqir import prepare_list, script, source  # noqa: E402
+from vechaqir import prepare_list, prepare_write, script, source  # noqa: E402
+
+
+def write(path, out):
+    """Writes the prepared source; what is left is told on standard error."""
+    text = source.read(path).text
+    made, left = prepare_write.prepared(text, path)
+    if out == path and not os.path.exists(path + ".orig"):
+        with open(path + ".orig", "wb") as file:
+            file.write(text)
+    with open(out, "wb") as file:
+        file.write(made)
+    print(f"tools/prepare.py: {out} is written; {len(left)} left to change by hand, marked by `{prepare_write.MARK.strip()}`", file=sys.stderr)
+    return 1 if left else 0
 
 
 def main(given):
+    if len(given) in (2, 3) and given[1] == "--write":
+        return write(given[0], given[-1] if len(given) == 3 else given[0])
     if len(given) != 1:
         raise script.Usage()
     found = prepare_list.changes(source.read(given[0]))

@@ -130,6 +130,10 @@ def out_of_place(case: Case) -> Why:
     behind = view.text(opening - 1) if opening else ""
     if behind == ">" and matches(view, "invoke < tapa :: NAME , ANY OPERATOR ... @(", opening or 0):
         return Why(["the count of this invoke is an expression"], "the number itself, or a constant of the file that is one literal")
+    called = view.source.tasks.get(view.text(opening + 1)) if opening else None
+    if called and any(it.direction in ("istreams", "ostreams") for it in called.parameters):
+        row = of_row("a parameter of streams")
+        return row._replace(says=[f"`{name}` is an array of {counted(length or 0, 'stream')}, and `{called.name}` has a parameter of streams, which is not in the language"])
     if behind in ("invoke", ">"):
         row = of_row("an array of streams as one argument")
         return row._replace(says=[f"`{name}` is an array of {counted(length or 0, 'stream')}, and this invoke makes one instance of one task"])

@@ -79,7 +79,7 @@ def is_called(view: View, at: int) -> bool:
 def is_field(view: View, at: int) -> bool:
     """What stands behind `a.b` or `m[0].b` where no call and no channel of a memory is."""
     channels = ("read_addr", "read_data", "write_addr", "write_data", "write_resp", "invoke")
-    return view.text(at - 1) not in channels
+    return view.text(at - 1) not in channels and not (view.text(at - 1) == "]" and view.text(at + 2) == "(")
 
 
 FILES: List[Pattern] = [
@@ -104,7 +104,7 @@ FILES: List[Pattern] = [
 ]
 
 HEADS: List[Pattern] = [
-    Pattern("a parameter of streams", "P1", "", ("tapa :: @istreams|ostreams",)),
+    Pattern("a parameter of streams", "P1", "", ("tapa :: @istreams|ostreams", "NAME [..] @. NAME (")),
     Pattern("`async_mmap`, `hmap`", "P1", "", ("tapa :: @async_mmap|hmap",)),
     Pattern("`immap`, `ommap`", "P1", "", ("tapa :: @immap|ommap",)),
     Pattern("`mmaps`", "P1", "", ("tapa :: @mmaps",)),
@@ -117,7 +117,7 @@ HEADS: List[Pattern] = [
     Pattern("an array as a parameter", "P1", "head", ("NAME @[",)),
     Pattern("a default of a parameter", "P1", "head", ("NAME @=",)),
     Pattern("`void` for no parameters", "P1", "head", ("( @void )",)),
-    Pattern("a parameter without a name", "P1", "head", ("KIND @)", "KIND @,", "& @)", "& @,", "> @)", "> @,")),
+    Pattern("a parameter without a name", "P1", "head", ("( KIND @)", "( KIND @,", ", KIND @)", ", KIND @,", "const KIND @)", "const KIND @,", "> & @)", "> & @,", "tapa :: mmap <..> @)", "tapa :: mmap <..> @,")),
 ]
 
 KINDS: List[Pattern] = [
@@ -126,7 +126,7 @@ KINDS: List[Pattern] = [
     Pattern("`vec_t`", "P1", "", ("tapa :: @vec_t", "@tapa :: vec_t", "@vec_t", "tapa :: @streams < tapa :: vec_t")),
     Pattern("a container of `std`", "P1", "", ("std :: @vector|array|deque|queue|string|pair|tuple|complex|map|list", "@std :: vector|array|pair|string|complex")),
     Pattern("`char`, `signed`", "P1", "", ("@char|signed|wchar_t", "unsigned @char", "tapa :: @streams < char|signed")),
-    Pattern("the words of a kind in another order", "P1", "", ("int @long|short|unsigned", "long|short @unsigned")),
+    Pattern("the words of a kind in another order", "P1", "", ("int @long|short|unsigned", "long|short @unsigned", "KIND @const NAME")),
     Pattern("`volatile`, `register`", "P1", "", ("@volatile|register WORD", "volatile|register @WORD")),
     Pattern("a number with an exponent or `f`", "L3", "", ("@NUMBER",), is_no_number),
     Pattern("a number with a point", "P1 L3", "", ("NUMBER @.", "@. NUMBER")),
@@ -141,7 +141,7 @@ UPPERS: List[Pattern] = [
     Pattern("a computed number of streams", "P1", "upper", (
         "tapa :: @streams < .. , (", "tapa :: @streams < .. , NUMBER|NAME OPERATOR", "tapa :: @streams < .. , NUMBER|NAME , (", "tapa :: @streams < .. , NUMBER|NAME , NUMBER|NAME OPERATOR")),
     Pattern("a computed depth", "P1", "upper", ("tapa :: stream < .. , NUMBER|NAME @OPERATOR",)),
-    Pattern("a stream's name in braces", "P1", "upper", ("tapa :: stream|streams <..> NAME @{", "tapa :: @streams <..> NAME {")),
+    Pattern("a stream's name in braces", "P1", "upper", ("NAME @{ TEXT }", "tapa :: @streams <..> NAME {")),
     Pattern("a chain with a name", "P1", "", ("tapa :: task @NAME", "@tapa :: task NAME")),
     Pattern("a loop in an upper-level task", "P1", "upper", ("@for|while|if|do", "@tapa :: task"), lambda view, at: view.text(at) != "tapa" or is_inner(view, at)),
     Pattern("a second chain", "P1", "upper", ("; @tapa :: task (",), has_chain_before),
