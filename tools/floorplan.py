@@ -9,6 +9,9 @@ import json
 import sys
 from html import escape
 
+sys.dont_write_bytecode = True
+from vechaqir.svg import text_width  # noqa: E402
+
 KINDS = ["LUT", "FF", "BRAM", "DSP", "URAM"]
 WIDTH, HEIGHT, GAP, BAR = 260, 170, 40, 170
 
@@ -61,14 +64,15 @@ def drawing(plan, device):
     rows, cols = device["rows"], device["cols"]
     forbidden = {tuple(place) for place in device.get("forbidden", [])}
     crossing = [stream for stream in plan.streams if stream[2] or stream[3]]
-    width, bottom = cols * (WIDTH + GAP) + GAP, rows * (HEIGHT + GAP) + GAP
+    bottom = rows * (HEIGHT + GAP) + GAP
+    told = [f"{label}: {bits} bits, {latency} registers on the way, {balance} more for balance" for label, bits, latency, balance, _ in crossing]
+    width = max([cols * (WIDTH + GAP) + GAP] + [round(text_width(words, 12)) + 2 * GAP for words in told])
     height = bottom + 18 * (len(crossing) + 2)
     yield f'<svg xmlns="http://www.w3.org/2000/svg" width="{width}" height="{height}" font-family="sans-serif" font-size="12">'
     for place, used in sorted(plan.slots.items()):
         capacity = device["slots"][place[0] * cols + place[1]]
         yield from slot(place, used, plan.tasks.get(place, []), capacity, device.get("percent", 70), place in forbidden)
-    for number, (label, bits, latency, balance, _) in enumerate(crossing):
-        words = f"{label}: {bits} bits, {latency} registers on the way, {balance} more for balance"
+    for number, words in enumerate(told):
         yield text(GAP, bottom + 18 * number, words)
     yield text(GAP, bottom + 18 * len(crossing), ", ".join(plan.sums), ' fill="#345"')
     yield "</svg>"

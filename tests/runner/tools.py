@@ -140,7 +140,7 @@ def try_graph(trial):
             text = trial.run(["build", source, top], ROOT).out.decode()
             _, drawn, err = run_tool("graph.py", trial.put("g.v", text))
             joined = [len(re.findall(rf"^  {module}[\w$]+ {front}_[\w$]+ \(", text, re.M)) for module, front in (("t_", "t"), ("channel_", "c"))]
-            boxes = [len(re.findall(r'<rect [^>]*height="40"', drawn)), drawn.count("<path d=") - 1]
+            boxes = [len(re.findall(r'<rect [^>]*rx="4"', drawn)), drawn.count("marker-end=")]
             trial.check(f"graph.py draws {name}", boxes == joined and joined[0] > 0, f"   {boxes} for {joined} {err}")
             if name == "vector_add.cpp":
                 trial.check("docs/vector_add.svg is drawn by graph.py", drawn == read("docs/vector_add.svg"))

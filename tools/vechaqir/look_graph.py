@@ -104,7 +104,7 @@ class Layout:
         """Puts the stops of each band and column in rows: near to those before them."""
         stops = list(self.stops.values()) + [it for way in self.ways.values() for it in way[1:-1]]
         self.all = stops
-        top = float(MARGIN + TITLE)
+        top = float(MARGIN + TITLE + TITLE * self._depth())
         before: Dict[int, List[Stop]] = {}
         for way in self.ways.values():
             for one, other in zip(way, way[1:]):
