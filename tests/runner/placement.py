@@ -1,11 +1,15 @@
 """Placements by tools/place.py: beside `--plan exact` where that one can plan, through `plan`, `build` and `cosim`, and what is told where none fits."""
+import html
+import itertools
 import json
 import os
 import random
+import re
 
 from runner.placing import check_hostile, grid_of, run_tool
 from runner.plans import Case, source_of
 from runner.trial import ROOT
+from vechaqir import svg
 
 # Random devices of small programs that the gate tries; tests/measure/plans/run.py tries more.
 DEVICES = 12
@@ -101,7 +105,44 @@ def check_orders(trial):
     trial.check("a device without room is told as such", (status, out) == (4, "") and f"all tasks together need {uses} LUT" in err, f"   {err}")
 
 
+def texts_of(drawn):
+    """The texts of a picture, each as the box that it covers: left, top, right, bottom."""
+    for found in re.finditer(r'<text x="([\d.]+)" y="([\d.]+)" font-size="([\d.]+)"( text-anchor="(?:middle|end)")?( font-weight="bold")?[^>]*>([^<]*)<', drawn):
+        x, y, size = (float(found[at]) for at in (1, 2, 3))
+        wide = svg.text_width(html.unescape(found[6]), size, bool(found[5]))
+        left = x - (wide / 2 if found[4] and "middle" in found[4] else wide if found[4] else 0)
+        yield found[6], (left, y - 0.75 * size, left + wide, y + 0.2 * size)
+
+
+def check_picture(trial, name, drawn):
+    """No text of a picture lies over another or outside of it."""
+    width, height = (float(it) for it in re.search(r'width="(\d+)" height="(\d+)"', drawn).groups())
+    boxes = list(texts_of(drawn))
+    out = [words for words, box in boxes if box[0] < 0 or box[1] < 0 or box[2] > width or box[3] > height]
+    over = [(one, other) for (one, a), (other, b) in itertools.combinations(boxes, 2) if a[0] < b[2] and b[0] < a[2] and a[1] < b[3] and b[1] < a[3]]
+    trial.check(f"{name}: no text outside of the picture or over another", len(boxes) > 5 and not out and not over, f"   {out} {over}")
+
+
+def check_drawings(trial):
+    """Pictures of a plan with many tasks and of one with few; the bits of the bundles are the cost. What is no plan or no device is told in a line."""
+    source, device = trial.put("grid.cpp", grid_source(9, 1)), trial.put("nine.json", grid_of({"slots": [[2400, 90000]] * 9}, rows=3))
+    said = trial.run(["plan", source, "T", device])
+    path = trial.put("p.plan", said.out)
+    _, drawn, err = run_tool("draw/floorplan.py", path, device, source, "T")
+    check_picture(trial, "a plan of 117 tasks", drawn)
+    bits = sum(int(it) for it in re.findall(r">(\d+) bits<", drawn))
+    trial.check("the bundles have the bits of the cost", bits == cost_of(said) and drawn.count("<title>") == 117, f"   {bits} {said.out[-60:]} {err}")
+    trial.check("floorplan.py is draw/floorplan.py", run_tool("floorplan.py", path, device, source, "T")[1] == drawn)
+    few = trial.run(["plan", "examples/systolic.cpp", "Product", "examples/devices/u250.json", "--plan", "fit"], ROOT)
+    _, drawn, _ = run_tool("draw/floorplan.py", trial.put("few.plan", few.out), "examples/devices/u250.json")
+    check_picture(trial, "a plan on eight slots", drawn)
+    for words in ([source, device], [path, source], [path, "examples/devices/u250.json"], ["missing.plan", device], [path, device, source, "U"]):
+        status, out, err = run_tool("draw/floorplan.py", *words)
+        trial.check(f"draw/floorplan.py {' '.join(map(os.path.basename, words))}", (status, out, err.count("\n")) == (1, "", 1), f"   {status} {err}")
+
+
 def try_all(trial):
+    check_drawings(trial)
     check_hostile(trial, "place.py")
     for names in EXAMPLES:
         check_example(trial, *names)

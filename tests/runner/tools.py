@@ -127,8 +127,8 @@ def try_floorplan(trial):
     for picture, source, top, device in (("plan", "vector_add", "VecAdd", "two_slots"), ("two_dies", "two_ways", "TwoWays", "two_dies")):
         device = f"examples/devices/{device}.json"
         said = trial.run(["plan", f"examples/{source}.cpp", top, device], ROOT)
-        _, drawn, err = run_tool("floorplan.py", trial.put("p.plan", said.out), device)
-        trial.check(f"docs/{picture}.svg is drawn by floorplan.py", drawn == read(f"docs/{picture}.svg") and drawn.count("<rect") >= 6, f"   {err}")
+        _, drawn, err = run_tool("draw/floorplan.py", trial.put("p.plan", said.out), device, f"examples/{source}.cpp", top)
+        trial.check(f"docs/{picture}.svg is drawn by draw/floorplan.py", drawn == read(f"docs/{picture}.svg") and drawn.count("<rect") >= 6, f"   {err}")
 
 
 def try_graph(trial):
