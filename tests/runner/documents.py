@@ -2,11 +2,12 @@
 import os
 import re
 import shlex
+import subprocess
 import sys
 
 from runner import inputs
 from runner.sources import context
-from runner.trial import ROOT, read
+from runner.trial import ROOT, Said, read
 
 sys.path.insert(0, os.path.join(ROOT, "tools"))
 from vechaqir import pages  # noqa: E402
@@ -133,10 +134,16 @@ def sessions(page):
         if command and (line.startswith("$ ") or not line):
             yield command
             command = None
-        if line.startswith("$ ./tapa "):
+        if line.startswith(("$ ./tapa ", "$ tools/")):
             command = (line[2:], [])
         elif command:
             command[1].append(line)
+
+
+def by_tool(trial, words):
+    """What a script of tools/ answers, which calls the program that is tried."""
+    ran = subprocess.run([sys.executable, *words], cwd=ROOT, env={**os.environ, "TAPA": trial.program}, stdin=subprocess.DEVNULL, capture_output=True, check=False)
+    return Said(ran.returncode, ran.stdout, ran.stderr)
 
 
 def shown_by(trial, command, made):
@@ -145,10 +152,11 @@ def shown_by(trial, command, made):
     words, _, asks = command.partition(";")
     words, _, behind = words.partition(" | ")
     words, _, target = words.partition(" > ")
-    said = trial.run([made.get(word, word) for word in shlex.split(words)[1:]], ROOT)
+    words = [made.get(word, word) for word in shlex.split(words)]
+    said = trial.run(words[1:], ROOT) if words[0] == "./tapa" else by_tool(trial, words)
     out = said.out
     if target:
-        made[target.strip()] = trial.put(target.strip(), out)
+        made[target.strip()] = trial.put(os.path.basename(target.strip()), out)
         out = b""
     if behind:
         out = b"".join(out.splitlines(keepends=True)[-1:]) if behind == "tail -1" else behind.encode()
