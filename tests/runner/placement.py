@@ -99,7 +99,7 @@ def check_orders(trial):
     check_carried(trial, "a full device", source, "T", pinned, [])
     again = placed(trial, source, "T", device, "--attempts", "4", "--workers", "1")[0]
     trial.check("one worker finds what two find", again == (status, out, err), f"   {again[2]} {err}")
-    trial.check("the order of invokes changes the cost by at most 5 percent", all(costs) and max(costs) <= 1.05 * min(costs), f"   {costs}")
+    trial.check("the order of invokes does not change the cost", all(costs) and len(set(costs)) == 1, f"   {costs}")
     small = trial.put("small.json", grid_of({"slots": [[uses // 4 - 1, 90000]] * 4}, rows=2))
     status, out, err = placed(trial, source, "T", small, "--attempts", "1")[0]
     trial.check("a device without room is told as such", (status, out) == (4, "") and f"all tasks together need {uses} LUT" in err, f"   {err}")

@@ -41,6 +41,15 @@ def groups(labels: Sequence[str], joined: Sequence[Link]) -> List[List[str]]:
     return found
 
 
+def by_streams(found: Sequence[List[str]], joined: Sequence[Link]) -> List[List[str]]:
+    """Groups in the order of the names of their streams, which the order of a chain's invokes does not change as it does that of labels."""
+    names: Dict[str, List[str]] = {label: [] for group in found for label in group}
+    for link in joined:
+        names[link.writer].append(link.name + " out")
+        names[link.reader].append(link.name)
+    return sorted(found, key=lambda group: (sorted(name for label in group for name in names[label]), sorted(label.split("$")[-2] for label in group)))
+
+
 def _reached(start: str, after: Dict[str, List[str]]) -> Set[str]:
     """An instance and all to which streams lead from it."""
     reached, waiting = {start}, [start]

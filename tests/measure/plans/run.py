@@ -4,8 +4,9 @@
     tests/measure/plans/run.py PROGRAM check [NAME ..]      each design runs to its end with what Python computes; its placements are taken by
                                                             `plan` and `build`, and `cosim` carries the same; exact's cost where it can plan
     tests/measure/plans/run.py PROGRAM random COUNT         random devices for the designs that exact can plan, beside exact
-    tests/measure/plans/run.py PROGRAM table SECONDS [NAME ..]   what each mode costs, and place.py after 1, 10, .. SECONDS of one processor
-    tests/measure/plans/run.py PROGRAM write FOLDER [NAME ..]    writes sources, data and device files
+    tests/measure/plans/run.py PROGRAM table COUNT [NAME ..]    what each mode costs on the U250 in two orders of the invokes, and what place.py
+                                                            finds in 1, 6 and COUNT attempts, with the seconds of one processor
+    tests/measure/plans/run.py PROGRAM write FOLDER [NAME ..]   writes sources, data and device files
 
 NAME is the name of a design, all if none is given. The status is 1 where something is wrong.
 """
@@ -138,29 +139,26 @@ def check_random(suite, count):
         print(f"{name}: {count} random devices", flush=True)
 
 
-def searched(suite, prepared, device, seconds):
-    """The least costs that attempts found within 1, 10, .. and `seconds` of one processor."""
+def searched(suite, prepared, device, most):
+    """The best layout after 1, ATTEMPTS and `most` attempts, with the seconds of one processor; and what was asked."""
     request = place.read_request(suite.program, prepared.source, "Top", device)
     scarce = place_graph.scarce_in(device, request.found.uses(request.found.labels))
     board = place_graph.board_of(device, scarce, False)
     graph = place_graph.graph_of(request.found, request.groups, request.links, device, board, scarce)
-    marks, best, found, number, begun = sorted({1.0, 10.0, seconds}), None, {}, 0, time.process_time()
-    while time.process_time() - begun < seconds:
+    best, marks, begun = None, {}, time.process_time()
+    for number in range(most):
         layout = place_levels.attempt(graph, board, 1, number)
         layout = layout if number else place_exact.search(graph, board, layout).found
-        spent = time.process_time() - begun
-        for mark in marks:
-            if number and spent > mark and mark not in found:
-                found[mark] = best
         if layout and (best is None or layout.cost < best.cost):
             best = layout
-        number += 1
-    found[marks[-1]] = best
-    return {mark: found.get(mark, best) for mark in marks}, request, board, number
+        if number + 1 in (1, ATTEMPTS, most):
+            marks[number + 1] = best, time.process_time() - begun
+    return marks, request, board
 
 
-def row(suite, name, part, order, seconds):
-    """A line of the table: tasks, streams, groups, then cost, registers and seconds of each mode, and place.py's costs."""
+def row(suite, name, part, order, most):
+    """A line of the table: tasks, streams, cost, registers and seconds of each mode, and cost and seconds of place.py after some attempts, with the
+    registers at last."""
     prepared = Prepared(suite, name, order)
     known = prepared.device(part)
     device = suite.put("device.json", known.text())
@@ -168,20 +166,19 @@ def row(suite, name, part, order, seconds):
     for mode in ("fit", "split", "exact"):
         plan, took = suite.cost(prepared.source, device, mode)
         cells.append(f"{plan.cost}, {plan.registers}, {took:.2f} s" if plan else "none")
-    found, request, board, number = searched(suite, prepared, known, seconds)
-    cells += [it.cost if it else "none" for it in found.values()]
-    last = list(found.values())[-1]
-    if last:
-        pinned = suite.put("pinned.json", known.text(place.pins_of(request, [board.slots[slot] for slot in last.at])))
-        plan, _ = suite.cost(prepared.source, pinned)
-        cells += [plan.registers]
-    return cells + [number]
+    marks, request, board = searched(suite, prepared, known, most)
+    cells += [f"{best.cost}, {spent:.1f} s" if best else f"none, {spent:.1f} s" for best, spent in marks.values()]
+    best = marks[most][0]
+    if best:
+        pinned = suite.put("pinned.json", known.text(place.pins_of(request, [board.slots[slot] for slot in best.at])))
+        cells.append(suite.cost(prepared.source, pinned)[0].registers)
+    return cells
 
 
-def table(suite, seconds, names):
+def table(suite, most, names):
     for name in names:
         for order in ORDERS:
-            print("| " + " | ".join(map(str, row(suite, name, "u250", order, seconds))) + " |", flush=True)
+            print("| " + " | ".join(map(str, row(suite, name, "u250", order, most))) + " |", flush=True)
 
 
 def write(suite, names):
@@ -209,7 +206,7 @@ def main(given):
         elif given[1] == "random":
             check_random(suite, int(given[2]))
         elif given[1] == "table":
-            table(suite, float(given[2]), names)
+            table(suite, int(given[2]), names)
         else:
             write(suite, names)
         print(f"{suite.faults} faults")
