@@ -18,6 +18,7 @@ import tempfile
 
 sys.dont_write_bytecode = True
 from icarus import report, top_of  # noqa: E402
+from vechaqir import script  # noqa: E402
 
 ROOT = os.path.dirname(os.path.dirname(os.path.abspath(__file__)))
 LIMIT = 20_000
@@ -194,4 +195,4 @@ def main(given):
 
 
 if __name__ == "__main__":
-    sys.exit(main(sys.argv[1:]))
+    script.run("tools/check_memories.py", __doc__, main)

@@ -6,6 +6,10 @@
 # Nothing is shown where they agree. Left out of Verilator's warnings are UNUSEDSIGNAL, a fact of the source (bits that a conversion drops, the data of a memory that is
 # only stored to, `done` of detached instances), and DECLFILENAME.
 program=$1
+if [ "$program" = --help ] || [ "$program" = -h ]; then
+  sed -n '2,7s/^# \{0,1\}//p' "$0"
+  exit 0
+fi
 if [ -z "$program" ]; then
   sed -n '2,7s/^# \{0,1\}//p' "$0" >&2
   exit 2

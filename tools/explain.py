@@ -13,7 +13,7 @@ Nothing here is proved.
 import sys
 
 sys.dont_write_bytecode = True
-from vechaqir import explain, explain_run, script  # noqa: E402
+from vechaqir import explain_run, script  # noqa: E402
 
 
 def out(text):
@@ -22,14 +22,15 @@ def out(text):
 
 
 def main(given):
+    if len(given) > 1 and given[0] == "--run":
+        explain_run.run(given[1], given[2:])
+    if given and given[0] != "--" and given != ["--places"]:
+        raise script.Usage()
+    from vechaqir import explain
     if given == ["--places"]:
         for line in sys.stdin.buffer:
             out((explain.placed(line.decode("utf-8", "surrogateescape").rstrip("\n")) + "\n").encode("utf-8", "surrogateescape"))
         return 0
-    if len(given) > 1 and given[0] == "--run":
-        explain_run.run(given[1], given[2:])
-    if given and given[0] != "--":
-        raise script.Usage()
     explain.run(sys.stdin.buffer, out, explain.Command(given[1:] if given else None))
     return 0
 

@@ -14,6 +14,9 @@ import sys
 import threading
 import time
 
+sys.dont_write_bytecode = True
+from vechaqir import script  # noqa: E402
+
 TICKS = os.sysconf("SC_CLK_TCK")
 KINDS = ("proof", "tests", "edits")
 
@@ -128,9 +131,8 @@ def main(words):
         return watch(words[1], words[2:])
     if len(words) == 2 and words[0] == "table":
         return table(words[1])
-    print(__doc__.strip(), file=sys.stderr)
-    return 2
+    raise script.Usage()
 
 
 if __name__ == "__main__":
-    sys.exit(main(sys.argv[1:]))
+    script.run("tools/gate_seconds.py", __doc__, main)

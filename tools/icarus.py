@@ -15,6 +15,9 @@ import subprocess
 import sys
 import tempfile
 
+sys.dont_write_bytecode = True
+from vechaqir import script  # noqa: E402
+
 PORT = re.compile(r"(input|output)\s*(?:\[\s*(\d+)\s*:\s*0\s*\])?\s*([\w$]+)")
 WIRE = re.compile(r"^\s*wire\s*(?:\[\s*(\d+)\s*:\s*0\s*\])?\s*([\w$]+)\s*;", re.M)
 
@@ -139,8 +142,7 @@ def main(given):
             options[name] = given[at + 1]
             given = given[:at] + given[at + 2:]
     if len(given) not in (2, 3):
-        print(__doc__.strip(), file=sys.stderr)
-        return 2
+        raise script.Usage()
     with open(given[1], encoding="utf-8") as file:
         text = file.read()
     data = {}
@@ -154,7 +156,9 @@ def main(given):
             file.write("\n".join(bench(text, data, int(options["--cycles"]), dump)) + "\n")
         if options["--bench"]:
             shutil.copyfile(made, options["--bench"])
-        subprocess.run(["iverilog", "-g2005", "-gno-xtypes", "-o", ran, given[1], made], check=True)
+        compiled = subprocess.run(["iverilog", "-g2005", "-gno-xtypes", "-o", ran, given[1], made], check=False)
+        if compiled.returncode != 0:
+            raise script.Fault(f"{given[1]}: Icarus Verilog refuses the text or its testbench")
         said = subprocess.run(["vvp", "-n", ran], check=True, capture_output=True, text=True)
         if options["--beside"]:
             others = list(beside(options["--beside"], dump, top_of(text)[0]))
@@ -165,4 +169,4 @@ def main(given):
 
 
 if __name__ == "__main__":
-    sys.exit(main(sys.argv))
+    script.run("tools/icarus.py", __doc__, lambda words: main(["tools/icarus.py", *words]))

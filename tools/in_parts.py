@@ -174,6 +174,9 @@ def compile_parts(kit, words, source, made):
 
 
 def main(given):
+    if given[:1] in (["--help"], ["-h"]):
+        print(__doc__.strip())
+        return 0
     if len(given) < 2:
         print(__doc__.strip(), file=sys.stderr)
         return 2

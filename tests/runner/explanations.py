@@ -12,6 +12,7 @@ from runner.trial import ROOT, TESTS, read
 sys.path.insert(0, os.path.join(ROOT, "tools"))
 from vechaqir import explain, explain_source, messages, pages, patterns, source, usage  # noqa: E402
 from vechaqir.patterns_match import View  # noqa: E402
+from vechaqir.program import Program  # noqa: E402
 
 # What no explanation says where it knows the cause, and what none says at all.
 GENERAL, NEVER = "no source of the language goes on with", "no explanation: "
@@ -32,7 +33,7 @@ def quoted(row):
 def explained(trial, words):
     """The status of a command, and its messages with all that is explained, as one text."""
     said = trial.run(words)
-    explainer = explain.Explainer(explain.Command(words))
+    explainer = explain.Explainer(explain.Command(words), Program(trial.program, False))
     lines = []
     for line in said.err.decode().splitlines():
         lines += [line, *explainer.safely(line)]
@@ -135,6 +136,24 @@ def try_data(trial):
         trial.check(f"the explanation of {data}", status == 3 and wanted in told and NEVER not in told, f"   {told}")
 
 
+def try_plans(trial):
+    """Where there is no plan, the resource that is short is told in each mode."""
+    text = PLAN_TOP.replace("q << 1;", "q << 1; for (int i = 0; i < 9; ++i) { int x = i * 5; }")
+    device = trial.put("e.json", '{"rows": 2, "cols": 1, "slots": [{"LUT": 1000, "FF": 2000}, {"LUT": 1000, "FF": 2000}]}')
+    for mode in ("fit", "exact", "split"):
+        _, told = explained(trial, ["plan", trial.put("e.cpp", text), "T", device, "--plan", mode])
+        trial.check(f"what is short where `--plan {mode}` has no plan", "P$0 needs 3 DSP, and no slot has more than 0" in told and NEVER not in told, f"   {told}")
+
+
+def try_dumps(trial):
+    """A net that a dump has not leads to one that it has."""
+    trial.put("e.cpp", PLAN_TOP)
+    trial.put("e.v", trial.run(["build", "e.cpp", "T"]).out)
+    dump = trial.put("e.vcd", trial.run(["cosim", "e.v", "--vcd"]).out)
+    _, told = explained(trial, ["vcd", dump, "s_q_rd"])
+    trial.check("a net that is not there", "the dump has no net `s_q_rd`; `s_q_rdy` is meant, perhaps" in told, f"   {told}")
+
+
 def try_ends(trial):
     """Runs that stop or pass a limit: tests/explanations/ends.cases."""
     for case in read("tests/explanations/ends.cases").split("=== ")[1:]:
@@ -190,6 +209,8 @@ def try_all(trial):
     try_legal(trial)
     try_words(trial)
     try_data(trial)
+    try_plans(trial)
+    try_dumps(trial)
     try_ends(trial)
     try_files(trial)
     try_fronts(trial)

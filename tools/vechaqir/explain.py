@@ -3,12 +3,13 @@ import os
 import re
 from typing import BinaryIO, Callable, Dict, List, Optional
 
-from . import arrays, explain_data, explain_end, explain_source, messages, pages, usage
-from .explain_base import Why
+from . import arrays, estimate, explain_data, explain_end, explain_source, messages, pages, usage
+from .explain_base import Why, listed, nearest
 from .explain_source import lines_of
 from .lexemes import Place
 from .messages import Message
 from .network import Network, network
+from .program import Program
 from .source import Source, parse
 
 MOST_BYTES = 40_000_000
@@ -49,10 +50,10 @@ def contents(path: Optional[str]) -> Optional[bytes]:
 
 
 class Explainer:
-    """Explains the messages of one call; files are read once."""
+    """Explains the messages of one call; files are read once. With a program it can be asked which resource is short where it finds no plan."""
 
-    def __init__(self, command: Command) -> None:
-        self.command = command
+    def __init__(self, command: Command, program: Optional[Program] = None) -> None:
+        self.command, self.program = command, program
         self.waits: List[Message] = []
         self.sources: Dict[str, Optional[Source]] = {}
 
@@ -101,13 +102,16 @@ class Explainer:
             shown = [] if text is None else shown_line(text.split(b"\n")[told.line - 1:told.line], told)
             return shown + explain_source.general(message.code)
         place, word = in_source(source, told, message.code)
-        lines = shown_line([source.lines.line(place.line)], place)
+        is_top = message.code == "C1" and told == Place(1, 1) and self.command.top not in source.tasks
+        lines = [] if is_top else shown_line([source.lines.line(place.line)], place)
         lines += [f"      = in the text with its arrays written out: {told.line}:{told.column} (tools/written_out.py shows it)"] * (place != told)
         _, more = explain_source.explained(source, place, message.code, message.text, self.command.top, word)
         return lines + more
 
     def at_key(self, message: Message) -> List[str]:
         """A code with a key: of a data or device file, or a name of a Verilog text or a dump."""
+        if message.code == "X2":
+            return lines_of(no_net(message), message.code)
         if message.code[0] in "VX":
             return explain_source.general(message.code)
         is_device = self.command.device == message.file if self.command.words else explain_data.looks_like_device(message.text)
@@ -126,14 +130,27 @@ class Explainer:
             return unreadable(message.line[len("tapa: cannot read "):], self.command)
         lines = [f"      = {it}" for it in pages.status(message.line) or []]
         has_no_plan = re.match(r"tapa: (too many plans: |no plan within |no room for |no halving at )", message.line)
-        return lines + (self.shortage(message.line) + ["      = docs/REFUSALS.md, No plan"] if has_no_plan else [])
+        return lines + (self.shortage() + ["      = docs/REFUSALS.md, No plan"] if has_no_plan else [])
 
-    def shortage(self, _: str) -> List[str]:
-        return []
+    def shortage(self) -> List[str]:
+        """Which resource is short where there is no plan, by the program's own estimates."""
+        source, top, device = self.command.source, self.command.top, self.command.device
+        if self.program is None or not source or not top or not device:
+            return []
+        return [f"      = {it}" for it in estimate.shortage(self.program, source, top, device)]
 
     def ended(self) -> List[str]:
         """The lines behind the last message."""
         return explain_end.stopped(self.waits, self.network()) if self.waits else []
+
+
+def no_net(message: Message) -> Why:
+    """A dump without the net that is asked for."""
+    nets = [it.decode("utf-8", "replace") for it in re.findall(rb"^\$var \w+ \d+ \S+ (\S+) \$end", contents(message.file) or b"", re.M)]
+    near = nearest(message.text, nets)
+    says = [f"the dump has no net `{message.text}`" + (f"; `{near}` is meant, perhaps" if near else "")]
+    more = f", and {len(nets) - 12} more" if len(nets) > 12 else ""
+    return Why(says, f"one of its {len(nets)} nets: {listed(nets[:12])}{more}")
 
 
 def unreadable(path: str, command: Command) -> List[str]:

@@ -6,9 +6,10 @@ import signal
 import subprocess
 import sys
 import time
-from typing import List, NoReturn
+from typing import TYPE_CHECKING, List, NoReturn, Optional
 
-from . import explain
+if TYPE_CHECKING:
+    from .explain import Explainer
 
 # Signals that go on to the program, which decides what they do.
 PASSED_ON = (signal.SIGINT, signal.SIGTERM, signal.SIGHUP, signal.SIGQUIT)
@@ -41,7 +42,25 @@ def end_like(status: int) -> NoReturn:
     sys.exit(status if status >= 0 else 128 - status)
 
 
-def messages_of(running: "subprocess.Popen[bytes]", clock: Clock, explainer: explain.Explainer) -> None:
+class Explanations:
+    """Explains messages; what that needs is only loaded where there is one, so that a run without messages begins at once."""
+
+    def __init__(self, program: str, words: List[str]) -> None:
+        self.program, self.words = program, words
+        self.explainer: Optional["Explainer"] = None
+
+    def of(self, line: str) -> List[str]:
+        if self.explainer is None:
+            from . import explain
+            from .program import Program
+            self.explainer = explain.Explainer(explain.Command(self.words), Program(self.program, False))
+        return self.explainer.safely(line)
+
+    def ended(self) -> List[str]:
+        return self.explainer.ended() if self.explainer else []
+
+
+def messages_of(running: "subprocess.Popen[bytes]", clock: Clock, explanations: Explanations) -> None:
     """Passes on each line of the program's standard error with its explanation, until it closes it."""
     assert running.stderr is not None
     number = running.stderr.fileno()
@@ -56,7 +75,7 @@ def messages_of(running: "subprocess.Popen[bytes]", clock: Clock, explainer: exp
         held = lines.pop()
         for line in lines + ([held] if held and not piece else []):
             os.write(2, line + b"\n")
-            written(explainer.safely(line.decode("utf-8", "surrogateescape")))
+            written(explanations.of(line.decode("utf-8", "surrogateescape")))
         if not piece:
             return
 
@@ -68,7 +87,7 @@ def written(lines: List[str]) -> None:
 
 def run(program: str, words: List[str]) -> NoReturn:
     """Runs the program with these words; standard output is its own."""
-    clock, explainer = Clock(), explain.Explainer(explain.Command(words))
+    clock, explanations = Clock(), Explanations(program, words)
     try:
         running = subprocess.Popen([program, *words], stderr=subprocess.PIPE)
     except OSError as why:
@@ -77,11 +96,11 @@ def run(program: str, words: List[str]) -> NoReturn:
     for number in PASSED_ON:
         signal.signal(number, lambda told, _: running.send_signal(told))
     try:
-        messages_of(running, clock, explainer)
+        messages_of(running, clock, explanations)
         status = running.wait()
         clock.clear()
         if status >= 0:
-            written(explainer.ended())
+            written(explanations.ended())
     except OSError:
         status = running.wait()
     end_like(status)

@@ -1,6 +1,7 @@
 """What each script of tools/ does around its one function: `--help`, faults in one line, closed pipes, Ctrl-C, and the status."""
 import os
 import signal
+import subprocess
 import sys
 from typing import Callable, List, NoReturn, Optional, Union
 
@@ -21,6 +22,8 @@ def told(why: BaseException) -> str:
         return "a file is no text of UTF-8"
     if isinstance(why, MemoryError):
         return "out of memory"
+    if isinstance(why, (KeyError, IndexError, TypeError, AttributeError)):
+        return f"the input is not as it has to be ({type(why).__name__}: {why})"
     return str(why)
 
 
@@ -52,7 +55,7 @@ def run(name: str, page: Optional[str], main: Callable[[List[str]], int]) -> NoR
         signal.signal(signal.SIGINT, signal.SIG_DFL)
         os.kill(os.getpid(), signal.SIGINT)
         status = 1
-    except (Fault, LookupError, OSError, ValueError, MemoryError) as why:
+    except (Fault, LookupError, OSError, ValueError, TypeError, AttributeError, MemoryError, RecursionError, subprocess.SubprocessError) as why:
         sys.stderr.write(f"{name}: {told(why)}\n")
         status = 1
     leave(status)
