@@ -9,6 +9,7 @@ a module is small, there is one processor, or a part cannot be made, the module 
 """
 import os
 import re
+import signal
 import subprocess
 import sys
 
@@ -175,6 +176,7 @@ def compile_parts(kit, words, source, made):
 
 def main(given):
     if given[:1] in (["--help"], ["-h"]):
+        signal.signal(signal.SIGPIPE, signal.SIG_DFL)
         print(__doc__.strip())
         return 0
     if len(given) < 2:

@@ -3,12 +3,11 @@ import glob
 import os
 import random
 import subprocess
-import sys
 
 from runner.trial import ROOT, read
 
-# Those that build or prove something whatever they are given, or run many circuits; only their `--help` is tried.
-LONG = ("unproved.py", "in_parts.py", "check_memories.py", "check_verilog.sh", "gate_seconds.py")
+# Those that build, install or prove something whatever they are given, or run many circuits; only their `--help` is tried.
+LONG = ("unproved.py", "in_parts.py", "check_memories.py", "check_verilog.sh", "gate_seconds.py", "install", "release.sh")
 PIECES = ["void T(", "tapa::istream<int>& q", ") {", "}", "{", '{"rows": 1,', '"slots": [', "]", "stream q: 1 2", "slot 0 0: 1 2", "$var wire 1 ! x $end", "#0", "1!", "$enddefinitions $end", "module t_T (", "endmodule",
           "\xff", "\x00", "tapa: A$0 waits to read q", "tapa: x.cpp:1:1: P1 x", "done 3", "1e999", "-5", "[[", "#define N", "struct", "/*", "\"", "\n", "\n", "\n", " ", " "]
 WORDS = ["T", "--write", "--nets", "--fill", "-1", "3", "--json", "--top", "--", "", "x", "--plan", "--places"]
@@ -24,7 +23,7 @@ def run(trial, path, words, folder):
     try:
         ran = subprocess.run([path, *words], cwd=folder, stdin=subprocess.DEVNULL, capture_output=True, timeout=60, env=environment, check=False)
     except subprocess.TimeoutExpired:
-        return None, "it had not ended"
+        return None, "it had not ended", b""
     return ran.returncode, ran.stderr.decode("utf-8", "replace"), ran.stdout
 
 
@@ -35,6 +34,8 @@ def try_help(trial, path):
         trial.check(f"{name} begins with python3", read(name).startswith("#!/usr/bin/env python3\n"))
     status, err, out = run(trial, path, ["--help"], ROOT)
     trial.check(f"{name} answers --help", status == 0 and len(out) > 60 and not err, f"   {status} {err}")
+    closed = subprocess.run(["sh", "-c", f"exec {path} --help | true"], cwd=ROOT, stdin=subprocess.DEVNULL, capture_output=True, check=False)
+    trial.check(f"{name} --help ends where nobody reads it", b"Traceback" not in closed.stderr, f"   {closed.stderr[-300:]}")
 
 
 def random_file(some, folder, number):
@@ -70,4 +71,3 @@ def try_all(trial):
     for path in scripts():
         try_help(trial, path)
     try_flood(trial, 1, 4)
-    sys.stdout.flush()

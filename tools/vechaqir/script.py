@@ -37,14 +37,16 @@ def leave(status: Union[int, str, None]) -> NoReturn:
     sys.exit(status)
 
 
+def helped(page: Optional[str]) -> int:
+    print((page or "").strip())
+    return 0
+
+
 def run(name: str, page: Optional[str], main: Callable[[List[str]], int]) -> NoReturn:
     """Runs a script by its words: `--help` prints the page; status 0 is done, 1 a fault, which is told in one line, 2 words that are no command."""
     given = sys.argv[1:]
-    if given and given[0] in ("--help", "-h"):
-        print((page or "").strip())
-        leave(0)
     try:
-        status = main(given)
+        status = helped(page) if given and given[0] in ("--help", "-h") else main(given)
     except Usage as why:
         sys.stderr.write(f"{name}: {why}\n" if str(why) else "")
         sys.stderr.write((page or "").strip() + "\n")
