@@ -2,6 +2,7 @@
 change that makes the circuit as fast as it says."""
 import json
 import os
+import re
 import shlex
 import subprocess
 import sys
@@ -129,6 +130,32 @@ def try_late(trial):
     trial.check_equal("what a ready memory gives", found["changes"], [{"text": "memory a ready in each cycle", "cycles": ready}])
 
 
+def try_page(trial):
+    """The sources of docs/CYCLES.md: their cycles, one result of all of them, and each line that the page shows of a profile; with the depths that it tells, the cycles."""
+    page = read("docs/CYCLES.md")
+    results = set()
+    for name, cycles in re.findall(r"^\| `(\w+\.cpp)` \| (\d+) \|", page, re.M):
+        source, data = f"examples/cycles/{name}", f"examples/cycles/{name.replace('.cpp', '.json')}"
+        trial.put("c.v", trial.run(["build", source, "Sums"], ROOT).out)
+        said = trial.run(["cosim", os.path.join(trial.folder.name, "c.v"), data], ROOT).out.decode().splitlines()
+        trial.check_equal(f"the cycles of {name}", said[-1], f"done {cycles}")
+        results.add(" ".join(line.split(":")[1].strip() for line in said if line.startswith("memory b")))
+    trial.check_equal("one result of the sources of docs/CYCLES.md", len(results), 1)
+    shown = ""
+    for block in re.findall(r"(?:^    .*\n|^\n(?=    ))+", page, re.M):
+        lines = [line[4:] for line in block.splitlines() if line.strip()]
+        if lines[0].startswith("$ tools/profile.py "):
+            shown = run_tool(trial, *lines.pop(0).split()[2:])[1]
+        if not lines[0].startswith("tools/"):
+            missing = [line for line in lines if line != ".." and line not in shown.splitlines()]
+            trial.check(f"the page's lines {lines[0]}", not missing, f"   {missing}")
+    text = read("examples/cycles/shared.cpp")
+    told = re.search(r"^    (depth of .*): +done in cycle (\d+)", page, re.M)
+    for name, depth in re.findall(r"depth of (\w+) \(line \d+\) 2 -> (\d+)", told[1]):
+        text = re.sub(rf"tapa::stream<int> (?:early, )?{name};", lambda it: it[0].replace("<int> early, ", "<int> early; tapa::stream<int> ").replace(f"<int> {name}", f"<int, {depth}> {name}"), text)
+    trial.check_equal("the depths that the page tells", cycles_of(trial, text.replace("Sums(", "T("), read("examples/cycles/shared.json")), int(told[2]))
+
+
 def try_words(trial):
     """A dump in place of a simulation, a dump of another circuit, words that are no command, and files that are missing."""
     trial.put("p.cpp", SLOW)
@@ -150,4 +177,5 @@ def try_all(trial):
     try_shallow(trial)
     try_slow(trial)
     try_late(trial)
+    try_page(trial)
     try_words(trial)

@@ -44,22 +44,28 @@ def _name(instance: Instance) -> str:
 
 def _graph(network: Network, facts: Dict[str, str]) -> Iterator[str]:
     """The network in Graphviz's language: a cluster for each upper-level task."""
-    yield f'digraph G {{ rankdir=LR; nodesep={GAP / POINTS:.2f}; ranksep=0.5; node [shape=box, fixedsize=true, label=""]; edge [fontname="DejaVu Sans", fontsize={SMALL}];'
+    yield f'digraph G {{ rankdir=LR; nodesep={GAP / POINTS:.2f}; ranksep=0.5; node [shape=plain]; edge [fontname="DejaVu Sans", fontsize={SMALL}];'
     yield from _cluster(network, ())
     for stream in network.streams:
         if stream.writer and stream.reader:
             width = max(text_width(stream.name.rsplit("$", 1)[-1], SMALL, True), text_width(facts.get(stream.name, ""), SMALL)) + 12
             # a table of the label's size, whose words are written by whoever draws the picture
             label = f'<<table border="0" fixedsize="true" width="{width:.0f}" height="28"><tr><td></td></tr></table>>'
-            yield f'"{stream.writer}" -> "{stream.reader}" [id="{stream.name}", label={label}];'
+            yield f'"{stream.writer}":t -> "{stream.reader}":t [id="{stream.name}", label={label}];'
     yield "}"
+
+
+def _cells(width: float, height: float) -> str:
+    """A node's table: a cell for the task's box, at which streams end, and room below it for its memories."""
+    rest = f'<tr><td fixedsize="true" width="{width:.0f}" height="{height - NODE:.0f}"></td></tr>' if height > NODE else ""
+    return f'<table border="0" cellborder="0" cellspacing="0" cellpadding="0"><tr><td port="t" fixedsize="true" width="{width:.0f}" height="{NODE}"></td></tr>{rest}</table>'
 
 
 def _cluster(network: Network, path: Tuple[str, ...]) -> Iterator[str]:
     for instance in network.instances:
         if instance.path == path:
             width, height = _size(network, instance)
-            yield f'"{instance.label}" [width={width / POINTS:.3f}, height={height / POINTS:.3f}];'
+            yield f'"{instance.label}" [label=<{_cells(width, height)}>];'
     for upper in network.uppers:
         if upper.path == path:
             label = f'<<table border="0" fixedsize="true" width="{text_width(_name(upper), SMALL) + 12:.0f}" height="{TITLE}"><tr><td></td></tr></table>>'

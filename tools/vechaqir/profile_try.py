@@ -156,11 +156,12 @@ def deeper(bench: Bench, source: Source, found: Profile) -> Optional[Change]:
         return None
     needed: Dict[Declared, int] = {}
     for name, it in free.streams.items():
-        needed[names[name]] = max(needed.get(names[name], 0), it.most, own[names[name]])
+        # a FIFO that holds as many tokens as its depth is full in that cycle, so one place more is never waited for
+        needed[names[name]] = min(max(needed.get(names[name], 0), it.most + 1), DEEPEST)
     depths = {name: depth for name, depth in needed.items() if depth > own[name]}
     for declared in sorted(depths, key=lambda it: -depths[it])[:MOST_STREAMS]:
         depths = _smallest(bench, source, depths, declared, own[declared], free.cycles)
-    return _depths_changed(source, depths, free.cycles)
+    return _depths_changed(source, depths, bench.cycles(with_depths(source, depths)) or 0)
 
 
 def _smallest(bench: Bench, source: Source, depths: Dict[Declared, int], name: Declared, own: int, cycles: int) -> Dict[Declared, int]:

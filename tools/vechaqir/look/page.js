@@ -84,6 +84,7 @@ function showGraph() {
     else inside.append(...boxes.filter((it) => it[0] === kind).map(boxShape));
   }
   svg.append(inside);
+  byId("graph").style.height = `${Math.max(220, Math.min(460, 1.2 * height + 40))}px`;
   byId("graph").append(svg);
   panAndZoom(svg, width, height);
   document.querySelector("#network .note").textContent = "A box is a task, an arrow a stream, a round box a memory, a dashed box an upper-level task. Click or press Enter on one; drag and wheel move and zoom.";
