@@ -42,7 +42,7 @@ def try_names(trial):
     for page in OF_NAMES:
         for name in sorted(set(re.findall(r"`([A-Za-z_][\w.]*)`", read(page)))):
             trial.check(f"{page}: `{name}` is in the crates", set(name.split(".")) <= known)
-    for page in ["README.md", *(f"docs/{name}" for name in sorted(os.listdir(os.path.join(ROOT, "docs"))))]:
+    for page in ["README.md", *(f"docs/{name}" for name in sorted(os.listdir(os.path.join(ROOT, "docs"))) if name.endswith(".md"))]:
         for law in sorted(set(re.findall(r"\blaw_\w+", read(page)))):
             trial.check(f"{page}: {law} is in the crates", f"fn {law}(" in text or f"fn {law}<" in text)
 
@@ -71,7 +71,7 @@ def try_clauses(trial):
 def try_links(trial):
     """Each page of the repository that a page names is there."""
     pages = ["README.md", "CONTRIBUTING.md", "examples/README.md", "tests/README.md", "tools/README.md"]
-    pages += [f"docs/{name}" for name in sorted(os.listdir(os.path.join(ROOT, "docs")))]
+    pages += [f"docs/{name}" for name in sorted(os.listdir(os.path.join(ROOT, "docs"))) if name.endswith(".md")]
     for page in pages:
         for path in sorted(set(re.findall(r"\b(?:docs|examples|tests|tools|crates)/[\w./]*\w", read(page)))):
             trial.check(f"{page}: {path} is there", "/out/" in path or os.path.exists(os.path.join(ROOT, path)))

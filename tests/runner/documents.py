@@ -12,7 +12,7 @@ from runner.trial import ROOT, Said, read
 sys.path.insert(0, os.path.join(ROOT, "tools"))
 from vechaqir import pages  # noqa: E402
 
-PAGES = ["README.md", "CONTRIBUTING.md", *sorted(f"docs/{name}" for name in os.listdir(os.path.join(ROOT, "docs")))]
+PAGES = ["README.md", "CONTRIBUTING.md", *sorted(f"docs/{name}" for name in os.listdir(os.path.join(ROOT, "docs")) if name.endswith(".md"))]
 
 
 def sections(page):
