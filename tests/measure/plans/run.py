@@ -1,5 +1,5 @@
 #!/usr/bin/env python3
-"""Tries and measures placements of designs of real size: families/ has the designs, parts.py their devices. It stands outside of the gate.
+"""Tries and measures placements of designs of real size: families/ has the designs, chips.py their devices. It stands outside of the gate.
 
     tests/measure/plans/run.py PROGRAM check [NAME ..]      each design runs to its end with what Python computes; its placements are taken by
                                                             `plan` and `build`, and `cosim` carries the same; exact's cost where it can plan
@@ -20,7 +20,7 @@ import time
 
 sys.dont_write_bytecode = True
 from families import DESIGNS  # noqa: E402
-from parts import PARTS, ROOT, device_of  # noqa: E402
+from chips import PARTS, ROOT, device_of  # noqa: E402
 from vechaqir import device as devices  # noqa: E402
 from vechaqir import estimate, place, place_graph, place_groups, place_levels, place_exact, program, report  # noqa: E402
 from vechaqir import plan as plans  # noqa: E402
