@@ -70,4 +70,4 @@ def try_flood(trial, seed, count):
 def try_all(trial):
     for path in scripts():
         try_help(trial, path)
-    try_flood(trial, 1, 4)
+    try_flood(trial, 1, 2)

@@ -30,10 +30,14 @@ def applied(text: bytes, edits: Sequence[Edit]) -> bytes:
 
 def done(text: bytes, path: Optional[str], steps: Sequence[Step], most: int = 200) -> bytes:
     """A text with all that the steps do, until none does more."""
+    view = View(parse(text, path))
     for _ in range(most):
         before = text
         for step in steps:
-            text = applied(text, step(View(parse(text, path))))
+            edits = step(view)
+            if edits:
+                text = applied(text, edits)
+                view = View(parse(text, path))
         if text == before:
             break
     return text
