@@ -14,6 +14,7 @@ from runner import (
     arrays,
     benches,
     bounds,
+    changes,
     circuits,
     crates,
     documents,
@@ -60,6 +61,7 @@ from runner.trial import Trial
 GROUPS = [
     ("sources", sources.try_all),
     ("data", inputs.try_all),
+    ("grammar", changes.try_all),
     ("runs", sessions.try_all),
     ("arrays", arrays.try_all),
     ("plans", plans.try_all),
