@@ -8,6 +8,7 @@ use Rattle.tapa_base.specs.declared.op.Op.TheVariants as op
 use Rattle.tapa_base.specs.declared.text.Place.{Place}
 use Rattle.tapa_base.specs.Kinds.{bits_of, values_of, promoted, joined, converted}
 use Rattle.tapa_base.specs.Operators.{bit, applied}
+pub use Rattle.tapa_base.specs.Operators.{is_comparison}
 use Rattle.tapa_syntax.specs.declared.tree.Name.{Name}
 use Rattle.tapa_syntax.specs.declared.tree.PrefixOperator.{PrefixOperator}
 use Rattle.tapa_syntax.specs.declared.tree.PrefixOperator.TheVariants as prefix
@@ -108,15 +109,6 @@ abbrev pub operated_kind : Op → Kind → Kind → Kind
 operated_kind op.Shl j k = promoted j
 operated_kind op.Shr j k = promoted j
 operated_kind o j k = joined j k
-
-abbrev pub is_comparison : Op → Bool
-is_comparison op.Eq = true
-is_comparison op.Ne = true
-is_comparison op.Lt = true
-is_comparison op.Le = true
-is_comparison op.Gt = true
-is_comparison op.Ge = true
-is_comparison o = false
 
 abbrev pub binary_kind : BinaryOperator → Kind → Kind → Kind
 binary_kind (Value o) j k = if is_comparison o then kind.Bool else operated_kind o j k

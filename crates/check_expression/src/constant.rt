@@ -12,7 +12,7 @@ ghost use Rattle.check_expression.specs.Expressions as meaning;
 ghost use Rattle.check_expression.specs.Expressions.{constant_value};
 ghost use Rattle.check_scope.specs.Scopes.{IsSound, entity_of};
 
-use crate::kinds::{arm_kind, greatest, low_bits, operated_kind, right_kind, same_kind};
+use crate::kinds::{arm_kind, operated_kind, same_kind};
 use crate::typed::{binary_kind, prefix_kind};
 use check_scope::{CheckCode, CheckFault, Entity, Scope, refused};
 use tapa_base::{Kind, Op, Place, Text, apply, convert};
@@ -71,7 +71,7 @@ fn operated(op: Op, left: Constant, right: Constant) -> u64
 {
     let kind = operated_kind(op, left.kind, right.kind);
     let left = converted(left, kind);
-    let right = converted(right, right_kind(op, kind));
+    let right = converted(right, op.right_kind(kind));
     applied(op, kind, left, right)
 }
 
@@ -118,7 +118,7 @@ fn prefixed(operator: PrefixOperator, constant: Constant) -> Constant
     let value = match operator {
         PrefixOperator::Negate => applied(Op::Sub, kind, 0, value),
         PrefixOperator::Plus => value,
-        PrefixOperator::Complement => greatest(kind) - value,
+        PrefixOperator::Complement => kind.flipped(value),
         PrefixOperator::Not => 1 - value,
     };
     Constant { kind, value }
@@ -169,7 +169,7 @@ pub(crate) fn literal(kind: Kind, number: u64) -> Constant
 {
     Constant {
         kind,
-        value: low_bits(kind, number),
+        value: kind.low(number),
     }
 }
 

@@ -1,6 +1,4 @@
-ghost use Rattle.std.specs.Prelude.{◌≡◌, ◌+◌, ◌%◌, ◌<◌};
-ghost use Rattle.tapa_base.specs.Kinds.{values_of};
-ghost use Rattle.tapa_syntax.specs.Typed as flat;
+ghost use Rattle.std.specs.Prelude.{◌≡◌};
 ghost use Rattle.check_expression.specs.Kinds as spec;
 ghost use Rattle.check_expression.specs.Expressions as meaning;
 
@@ -39,22 +37,6 @@ pub fn operated_kind(op: Op, left: Kind, right: Kind) -> Kind
     }
 }
 
-/// The kind of the right operand of an operator that is done in a kind.
-pub fn right_kind(op: Op, kind: Kind) -> Kind
-    ensures { result ≡ flat.right_kind op kind }
-{
-    match op {
-        Op::Shl | Op::Shr => Kind::U64,
-        _ => kind,
-    }
-}
-
-pub(crate) fn is_comparison(op: Op) -> bool
-    ensures { result ≡ meaning.is_comparison op }
-{
-    matches!(op, Op::Eq | Op::Ne | Op::Lt | Op::Le | Op::Gt | Op::Ge)
-}
-
 /// The kind that two arms of a choice share (ISO C++ [expr.cond]).
 pub(crate) fn arm_kind(first: Kind, second: Kind) -> Kind
     ensures { result ≡ meaning.arm_kind first second }
@@ -63,32 +45,5 @@ pub(crate) fn arm_kind(first: Kind, second: Kind) -> Kind
         first
     } else {
         first.join(second)
-    }
-}
-
-/// The lowest bits of a number, as many as a kind has.
-pub fn low_bits(kind: Kind, number: u64) -> u64
-    ensures value { result ≡ number % values_of kind }
-    ensures within { result < values_of kind }
-{
-    match kind {
-        Kind::Bool => number % (1 << 1),
-        Kind::I8 | Kind::U8 => number % (1 << 8),
-        Kind::I16 | Kind::U16 => number % (1 << 16),
-        Kind::I32 | Kind::U32 => number % (1 << 32),
-        Kind::I64 | Kind::U64 => number,
-    }
-}
-
-/// The greatest number that a kind's bits make.
-pub(crate) fn greatest(kind: Kind) -> u64
-    ensures { result + 1 ≡ values_of kind }
-{
-    match kind {
-        Kind::Bool => 1,
-        Kind::I8 | Kind::U8 => 0xff,
-        Kind::I16 | Kind::U16 => 0xffff,
-        Kind::I32 | Kind::U32 => 0xffff_ffff,
-        Kind::I64 | Kind::U64 => u64::MAX,
     }
 }

@@ -14,6 +14,6 @@ pub use constant::{Constant, check_divisor, converted, evaluated};
 pub use constant_use::{check_constant, known};
 pub use count::count_in;
 pub use expression::{check_expression, check_wanted};
-pub use kinds::{low_bits, operated_kind, right_kind, same_kind};
+pub use kinds::{operated_kind, same_kind};
 pub use method::{StreamCall, StreamMethod, check_call, method_of};
 pub use typed::{Typed, as_kind, binary_kind, entity_kind, entity_number, operated};

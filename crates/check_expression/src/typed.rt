@@ -8,7 +8,7 @@ ghost use Rattle.check_scope.specs.Answers.{Answers};
 ghost use Rattle.check_expression.specs.Expressions as meaning;
 ghost use Rattle.check_scope.specs.Scopes.{kind_of_entity, number_of};
 
-use crate::kinds::{arm_kind, is_comparison, operated_kind, right_kind, same_kind};
+use crate::kinds::{arm_kind, operated_kind, same_kind};
 use check_scope::{CheckFault, Entity};
 use std::alloc::Global;
 use tapa_base::{Kind, Op};
@@ -50,7 +50,7 @@ pub fn operated(alloc: Global, op: Op, left: Typed, right: Typed) -> Result<Expr
 {
     let kind = operated_kind(op, left.kind, right.kind);
     let left = as_kind(alloc, left, kind)?;
-    let right = as_kind(alloc, right, right_kind(op, kind))?;
+    let right = as_kind(alloc, right, op.right_kind(kind))?;
     Ok(Expr::Apply {
         op,
         kind,
@@ -80,7 +80,7 @@ pub fn binary_kind(operator: BinaryOperator, left: Kind, right: Kind) -> Kind
     ensures { result ≡ meaning.binary_kind operator left right }
 {
     match operator {
-        BinaryOperator::Value(op) if is_comparison(op) => Kind::Bool,
+        BinaryOperator::Value(op) if op.is_comparison() => Kind::Bool,
         BinaryOperator::Value(op) => operated_kind(op, left, right),
         BinaryOperator::LogicalAnd => Kind::Bool,
         BinaryOperator::LogicalOr => Kind::Bool,

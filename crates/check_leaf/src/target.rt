@@ -11,7 +11,6 @@ ghost use Rattle.check_leaf.specs.Views.{flat_target};
 
 use check_expression::{
     Typed, as_kind, binary_kind, check_wanted, entity_kind, entity_number, operated, operated_kind,
-    right_kind,
 };
 use check_scope::{CheckCode, CheckFault, Entity, Role, Scope, refused};
 use std::alloc::Global;
@@ -138,7 +137,7 @@ fn change_target(alloc: Global, target: Target, op: Op, value: Typed) -> Result<
                 index,
                 op,
                 kind,
-                value: as_kind(alloc, value, right_kind(op, kind))?,
+                value: as_kind(alloc, value, op.right_kind(kind))?,
             })
         }
         Target::Word(kind, number, index) => {
@@ -148,7 +147,7 @@ fn change_target(alloc: Global, target: Target, op: Op, value: Typed) -> Result<
                 index,
                 op,
                 kind,
-                value: as_kind(alloc, value, right_kind(op, kind))?,
+                value: as_kind(alloc, value, op.right_kind(kind))?,
             })
         }
     }

@@ -10,16 +10,16 @@ use Rattle.tapa_syntax.specs.declared.program.Program.{Program}
 use Rattle.kahn_model.specs.Fits.{FitsInput}
 use Rattle.kahn_model.specs.Outcome.{HaveJoinedEnded}
 use Rattle.kahn_model.specs.Start.{network_of}
-use Rattle.net_core.specs.Bounded.{scalars_of, memories_of}
+use Rattle.net_core.specs.Bounded.{scalars_of, memories_of, Values, values_of}
 use Rattle.net_core.specs.declared.input.Input.{Input}
-use Rattle.run_program.specs.Run.{Values, network, values_of}
+use Rattle.run_program.specs.Run.{network}
 use Rattle.sim_output.specs.Reports.{IsSimulatedSo}
 use Rattle.tapa_words.specs.Words.{default_cycles}
 use Rattle.vlog_design.specs.Designs.{DesignTree, TopOf}
 use Rattle.vlog_tree.specs.Cycle.{Cycle, Path}
 use Rattle.vlog_tree.specs.Environment.{Environment, ShapeTree, FitsShape, RunsIn, IsDone, shape_of, widths}
 use Rattle.vlog_tree.specs.Form.{ModuleTree}
-use Rattle.hw_lines.specs.top.Legal.{scalar_ports, memory_ports}
+use Rattle.hw_top_lines.specs.Legal.{scalar_ports, memory_ports}
 use Rattle.hw_top.specs.Circuits.{IsCircuitOf}
 use Rattle.hw_top_laws.specs.kahn.Carries.{CarriesStreams}
 use Rattle.hw_top_laws.specs.kahn.Clock.{counts}

@@ -7,7 +7,7 @@ use Rattle.tapa_words.specs.Words.{default_limit, default_cycles}
 use Rattle.vlog_design.specs.Designs.{DesignTree}
 use Rattle.hw_top.specs.Circuits.{IsCircuitOf}
 use Rattle.hw_top_laws.specs.kahn.Clock.{counts}
-use Rattle.run_program.specs.Ending.{joined}
+use Rattle.run_data.specs.Lines.{joined}
 use Rattle.run_program.specs.Run.{network, StoppedRun, LimitRun}
 use Rattle.run_program.specs.Totals.{IsTotalled}
 use Rattle.run_program.specs.declared.totals.Totals.{Totals}

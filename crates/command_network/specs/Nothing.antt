@@ -3,7 +3,7 @@
 use Rattle.std.specs.Prelude.{[], length, replicate}
 use Rattle.tapa_syntax.specs.declared.program.Program.{Program}
 use Rattle.vlog_tree.specs.Environment.{Environment}
-use Rattle.run_program.specs.Run.{Values}
+use Rattle.net_core.specs.Bounded.{Values}
 
 abbrev pub no_values : Program → Values
 no_values program = record { scalars = replicate (length program.scalars.items) 0; memories = replicate (length program.memories.items) [] }

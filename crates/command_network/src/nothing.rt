@@ -1,7 +1,7 @@
 // What a program runs on where nothing is given, and what stands around its circuit.
 ghost use Rattle.std.specs.Prelude.{◌≡◌, [], replicate, length, IfOk};
 ghost use Rattle.vlog_design.specs.Environments.{environment_of, lists_of};
-ghost use Rattle.run_program.specs.Run.{values_of};
+ghost use Rattle.net_core.specs.Bounded.{values_of};
 ghost use Rattle.command_network.specs.Nothing.{no_values, no_environment};
 
 use net_core::Input;

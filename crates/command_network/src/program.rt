@@ -1,7 +1,7 @@
 // The program of a generated network.
 ghost use Rattle.std.specs.Prelude.{◌≤◌, IfOk, IfErr};
 ghost use Rattle.tapa_syntax.specs.WellFormed.{IsWellFormed};
-ghost use Rattle.hw_lines.specs.top.Legal.{HasOwnNames};
+ghost use Rattle.tapa_syntax.specs.OwnNames.{HasOwnNames};
 ghost use Rattle.tapa_words.specs.Words.{most_layers};
 ghost use Rattle.command_source.specs.Meaning.{refusal_of};
 ghost use Rattle.command_source.specs.Source.{IsProgramOf};

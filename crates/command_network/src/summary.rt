@@ -2,7 +2,7 @@
 ghost use Rattle.std.specs.Prelude.{◌<◌, ◌≤◌, [], IfOk, IfErr};
 ghost use Rattle.std.specs.Arc.{arc_value};
 ghost use Rattle.tapa_syntax.specs.WellFormed.{IsWellFormed};
-ghost use Rattle.hw_lines.specs.top.Legal.{HasOwnNames};
+ghost use Rattle.tapa_syntax.specs.OwnNames.{HasOwnNames};
 ghost use Rattle.tapa_words.specs.Words.{most_layers, default_limit};
 ghost use Rattle.run_program.specs.Totals.{IsTotalled};
 ghost use Rattle.command_source.specs.Meaning.{refusal_of};

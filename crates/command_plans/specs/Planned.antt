@@ -26,7 +26,7 @@ use Rattle.slot_split.specs.Halving.{IsHalvingPlan}
 use Rattle.plan_report.specs.Added.{AreAdded}
 use Rattle.plan_report.specs.Borders.{AreBorderLatencies}
 use Rattle.plan_report.specs.Lines.{plan_lines}
-use Rattle.run_program.specs.Ending.{joined}
+use Rattle.run_data.specs.Lines.{joined}
 use Rattle.command_source.specs.Refusal.{Refusal, DeviceFault, NoJson, HasFault, TooManyPlans, NoPlan, NoRoom, NoHalving, Memory}
 use Rattle.command_source.specs.Source.{IsProgramOf}
 use Rattle.command_plans.specs.Built.{IsCircuitText}

@@ -13,7 +13,7 @@ ghost use Rattle.slot_plan.specs.declared.floorplan.PlanFault.{PlanFault as Plan
 ghost use Rattle.slot_plan.specs.declared.floorplan.PlanFault.TheVariants.{NoFit};
 ghost use Rattle.slot_split.specs.Causes.{IsSplitCause};
 ghost use Rattle.tapa_words.specs.declared.command.PlanMode.{PlanMode as PlanModeType};
-ghost use Rattle.hw_lines.specs.top.Legal.{HasOwnNames};
+ghost use Rattle.tapa_syntax.specs.OwnNames.{HasOwnNames};
 ghost use Rattle.command_source.specs.Files.{OfData, AsksForData};
 ghost use Rattle.command_source.specs.Meaning.{refusal_of};
 ghost use Rattle.command_source.specs.Outside.{written};

@@ -4,7 +4,7 @@ use Rattle.std.specs.Prelude.{slice_get}
 use Rattle.std.specs.List.{AllByRecursion}
 use Rattle.tapa_base.specs.Gaps.{Bytes}
 use Rattle.stream_check.proofs.WellLists.{nothing, the_same}
-use Rattle.command_source.specs.Labels.{AreApart}
+use Rattle.tapa_syntax.specs.OwnNames.{AreApart}
 
 -- ---- what holds of each element
 

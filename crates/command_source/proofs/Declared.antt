@@ -26,9 +26,10 @@ use Rattle.check_upper.specs.Uppers as upper
 use Rattle.check_upper.specs.Uppers.{Signature, Channels}
 use Rattle.stream_check.specs.Items.{Items, no_items, with_task, body_of, body_faults, after_task, after_item, item_faults, after_items, items_faults, tasks_of}
 use Rattle.stream_check.proofs.WellLists.{nothing, the_same, no_faults, holds_not}
-use Rattle.command_source.specs.Labels.{IsPlainName, AreApart}
+use Rattle.command_source.specs.Labels.{IsPlainName}
+use Rattle.tapa_syntax.specs.OwnNames.{AreApart}
 use Rattle.command_source.specs.Named.{parameter_name, NamesStreams, IsNamedTask, IsNamedItem, AreNamed}
-use Rattle.command_source.specs.Owned.{HasOwnNames}
+use Rattle.command_source.specs.Owned.{HaveOwnNames}
 use Rattle.command_source.proofs.Apart.{all_at}
 
 -- ---- lists
@@ -266,7 +267,7 @@ item_steps f (x ∷ xs) (n, a) e g =
     item_steps (after_item f x) xs a h.1 (item_step f x n h.0 g)
 
 -- the tasks of a legal file whose names are names
-pub legal_names : (items : List ItemTree) → items_faults no_items items ≡ [] → AreNamed items → HasOwnNames (tasks_of items)
+pub legal_names : (items : List ItemTree) → items_faults no_items items ≡ [] → AreNamed items → HaveOwnNames (tasks_of items)
 legal_names items e a =
     let g = item_steps no_items items a e (record { names = none_declared ([] ∷ []) tt; tasks = tt }) in
     let parts : (n : ℕ) (t : Task) → slice_get (tasks_of items) n ≡ Some t → HasOwnParts t = λ n t h. all_at HasOwnParts (tasks_of items) n t g.tasks h in

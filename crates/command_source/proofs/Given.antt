@@ -11,8 +11,9 @@ use Rattle.tapa_syntax.specs.declared.program.Scalar.{Scalar}
 use Rattle.tapa_syntax.specs.Flat.{FlatProgram, flat_program}
 use Rattle.run_data.specs.Data.{IsJson, Fault, faults, scalars_of, memories_of, waits_of, misshapen, misshapen_in, misfits, misfits_in, oversized}
 use Rattle.run_data.specs.Seen.{first}
-use Rattle.run_program.specs.Run.{Values}
-use Rattle.command_source.specs.Inputs.{port_of, IsShapeOf, GivesValues, HasDataFault}
+use Rattle.net_core.specs.Bounded.{Values}
+use Rattle.command_source.specs.Inputs.{GivesValues, HasDataFault}
+use Rattle.tapa_syntax.specs.Shapes.{port_of, IsShapeOf}
 use Rattle.command_source.specs.Refusal.{DataFault, NotJson, Faulty}
 
 -- a vector with another list of as many elements

@@ -12,7 +12,7 @@ use Rattle.check_upper.specs.declared.task.Binding.TheVariants.{OwnStream, Strea
 use Rattle.check_upper.specs.Tasks.{Invocation, Body, leaf_body, upper_body, Task}
 use Rattle.stream_check.specs.Parts.{Part, own, instance, too_deep, streams_in, instances_in, below, instance_name, name_of, bind, bind_all, unbound, invoked, own_parts, Expands, chain_parts, body_of, body_parts, deepest_parts, parts_of}
 use Rattle.command_source.specs.Labels.{IsPlainName, IsLabel}
-use Rattle.command_source.specs.Owned.{HasOwnNames}
+use Rattle.command_source.specs.Owned.{HaveOwnNames}
 use Rattle.command_source.proofs.Apart.{all_append, all_more, all_map, all_at, Distinct, distinct, distinct_append, distinct_map, all_avoid}
 use Rattle.command_source.proofs.Dollars.{IsFree, IsTail, below_same, below_append, name_free, name_is_label, IsStart, label_starts, below_is_label, instance_is_label, positions_differ, name_differs}
 use Rattle.stream_check.proofs.WellParts.{bind_bodies}
@@ -210,7 +210,7 @@ leaf_good at y w = (
   omega arith,
 )
 
-module _ (tasks : List Task) (h : HasOwnNames tasks) (invoked_so : AreInvoked tasks) where
+module _ (tasks : List Task) (h : HaveOwnNames tasks) (invoked_so : AreInvoked tasks) where
   task_plain : (n : ℕ) (t : Task) → slice_get tasks n ≡ Some t → IsPlainName t.declared.name.text
   task_plain n t there = all_at (λ (u : Task). IsPlainName u.declared.name.text) tasks n t h.names there
 

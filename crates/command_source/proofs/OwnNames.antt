@@ -9,13 +9,11 @@ use Rattle.tapa_syntax.specs.Trees.{file_of}
 use Rattle.tapa_syntax.specs.declared.program.Instance.{Instance}
 use Rattle.tapa_syntax.specs.declared.program.Leaf.{Leaf}
 use Rattle.tapa_syntax.specs.declared.program.Program.{Program}
-use Rattle.kahn_model.proofs.Clocked.{and_parts}
-use Rattle.vlog_tree.specs.Names.{starts_name, goes_on}
-use Rattle.command_source.specs.Labels as labels
+use Rattle.std.proofs.lemmas.Bool.{and_parts}
 use Rattle.command_source.specs.Labels.{IsPlainName, IsLabel, HasOwnLabels}
 use Rattle.command_source.proofs.Apart.{all_at, distinct, apart}
 use Rattle.command_source.proofs.Sources.{labels_tell}
-use Rattle.hw_lines.specs.top.Legal.{AreApart, AreWritten, HasOwnNames, instance_labels, stream_labels, parameter_names, task_names}
+use Rattle.tapa_syntax.specs.OwnNames.{AreApart, AreWritten, HasOwnNames, instance_labels, stream_labels, parameter_names, task_names}
 use Rattle.command_source.specs.Source.{IsProgramOfText, IsProgramOf}
 
 -- ---- what a name is written with
@@ -23,13 +21,6 @@ use Rattle.command_source.specs.Source.{IsProgramOfText, IsProgramOf}
 or_left : (a b : Bool) → a ≡ true → (a || b) ≡ true
 or_left true b e = refl
 or_left false b e = cc
-
-label_goes_on : (b : ℕ) → (is_word_byte b || b == 36) ≡ true → goes_on b ≡ true
-unfolding goes_on starts_name
-label_goes_on b h = h
-
-name_goes_on : (b : ℕ) → is_word_byte b ≡ true → goes_on b ≡ true
-name_goes_on b h = label_goes_on b (or_left (is_word_byte b) (b == 36) h)
 
 all_true : (f g : ℕ → Bool) → ((b : ℕ) → f b ≡ true → g b ≡ true) → (xs : List ℕ) → list_all f xs ≡ true → list_all g xs ≡ true
 all_true f g h [] a = refl
@@ -44,12 +35,12 @@ not_empty (b ∷ x) h e = cc
 label_written : (xs : List Bytes) → AllByRecursion IsLabel xs → AreWritten xs
 label_written xs a p x e =
     let l = all_at IsLabel xs p x a e in
-    (all_true (λ b. is_word_byte b || b == 36) goes_on label_goes_on x l.all, not_empty x l.first)
+    (l.all, not_empty x l.first)
 
 name_written : (xs : List Bytes) → AllByRecursion IsPlainName xs → AreWritten xs
 name_written xs a p x e =
     let l = all_at IsPlainName xs p x a e in
-    (all_true is_word_byte goes_on name_goes_on x l.all, not_empty x l.first)
+    (all_true is_word_byte (λ b. is_word_byte b || b == 36) (λ b h. or_left (is_word_byte b) (b == 36) h) x l.all, not_empty x l.first)
 
 -- ---- the names of a program are those of its plain data
 
@@ -66,7 +57,7 @@ of_flat program h =
     let instances = instances_same program.instances.items in
     let leaves = leaves_same program.bodies.items in
     let far = subst (AllByRecursion (λ x. program.top ≡ x → ⊥)) leaves h.top.apart in
-    let own = subst (λ l. labels.AreApart l) leaves h.leaves in
+    let own = subst (λ l. AreApart l) leaves h.leaves in
     record {
       instances = subst (λ l. AreApart l) instances h.instances;
       streams = h.streams;

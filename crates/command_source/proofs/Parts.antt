@@ -15,7 +15,7 @@ use Rattle.stream_check.proofs.WellLists.{both, holds, no_faults}
 use Rattle.stream_check.proofs.WellTops.{limits}
 use Rattle.command_source.specs.Labels.{IsPlainName, IsLabel, HasOwnLabels}
 use Rattle.command_source.specs.Named.{parameter_name}
-use Rattle.command_source.specs.Owned.{HasOwnNames}
+use Rattle.command_source.specs.Owned.{HaveOwnNames}
 use Rattle.command_source.proofs.Apart.{all_append, all_at, all_from, Distinct, distinct, apart}
 use Rattle.command_source.proofs.Names.{scalar_names, memory_names, scalars_all, memories_all, parameters_distinct, task_names, NamesLeaf, leaf_names_of, leaves_all, leaves_by, leaves_distinct}
 use Rattle.command_source.proofs.Labelled.{AreInvoked, IsBelow, IsFlat, AreTold, top_good}
@@ -38,7 +38,7 @@ made_instances : (numbers : List ℕ) (is : List FlatInstance) → map (λ (x : 
 made_instances numbers [] = refl
 made_instances numbers (x ∷ is) = ap (λ rest. x.label ∷ rest) (made_instances numbers is)
 
-module _ (tasks : List Task) (h : HasOwnNames tasks) where
+module _ (tasks : List Task) (h : HaveOwnNames tasks) where
   names_leaves : AllByRecursion NamesLeaf tasks
   names_leaves = all_from NamesLeaf tasks (λ n t there l e. h.leaves n t l there e)
 
@@ -102,5 +102,5 @@ module _ (tasks : List Task) (h : HasOwnNames tasks) where
       made_labelled n t u.0 u.1 parts there u.2 (top_good tasks h invoked levels t.declared.name.place (top_instance n t.declared.parameters) 0 t u.0 u.1 there u.2 refl (flat_within 0 0 parts q.0) (omega arith))
 
 -- where no rule is broken, and each upper-level task invokes tasks of the list
-pub tasks_labelled : (levels : ℕ) (tasks : List Task) (n : ℕ) → HasOwnNames tasks → AreInvoked tasks → whole_faults levels tasks n ≡ [] → HasOwnLabels (whole_program levels tasks n)
+pub tasks_labelled : (levels : ℕ) (tasks : List Task) (n : ℕ) → HaveOwnNames tasks → AreInvoked tasks → whole_faults levels tasks n ≡ [] → HasOwnLabels (whole_program levels tasks n)
 tasks_labelled levels tasks n h invoked f = top_labelled tasks h invoked levels n (slice_get tasks n) refl f

@@ -18,37 +18,8 @@ use Rattle.run_data.specs.Answer.{bits_of_ports, IsDataOf, IsCause}
 use Rattle.run_data.specs.declared.data.Data.{Data}
 use Rattle.run_data.specs.declared.data.DataFault.{DataFault}
 use Rattle.run_data.specs.declared.data.DataFault.TheVariants.{J1, J2, J3, J4, OutOfMemory}
-use Rattle.command_source.specs.Inputs.{port_of, IsShapeOf, GivesValues, IsUnfitBy}
-
-few_bits : (k : Kind) → bits_of k ≤ 64
-few_bits kind.Bool = omega arith
-few_bits kind.I8 = omega arith
-few_bits kind.U8 = omega arith
-few_bits kind.I16 = omega arith
-few_bits kind.U16 = omega arith
-few_bits kind.I32 = omega arith
-few_bits kind.U32 = omega arith
-few_bits kind.I64 = omega arith
-few_bits kind.U64 = omega arith
-
-abbrev FewBits : Port → Type 0
-FewBits port = port.bits ≤ 64
-
-few_scalars : (xs : List Scalar) → All FewBits (map (λ (c : Scalar). port_of c.name c.kind) xs)
-few_scalars [] k d h = absurd (omega arith)
-few_scalars (c ∷ xs) zero d h = few_bits c.kind
-few_scalars (c ∷ xs) (suc k) d h = few_scalars xs k d (omega arith)
-
-few_memories : (xs : List Memory) → All FewBits (map (λ (c : Memory). port_of c.name c.kind) xs)
-few_memories [] k d h = absurd (omega arith)
-few_memories (c ∷ xs) zero d h = few_bits c.kind
-few_memories (c ∷ xs) (suc k) d h = few_memories xs k d (omega arith)
-
-pub scalars_few : (xs : List Scalar) (ports : List Port) → ports ≡ map (λ (c : Scalar). port_of c.name c.kind) xs → All FewBits ports
-scalars_few xs ports is = subst (λ (l : List Port). All FewBits l) (sym is) (few_scalars xs)
-
-pub memories_few : (xs : List Memory) (ports : List Port) → ports ≡ map (λ (c : Memory). port_of c.name c.kind) xs → All FewBits ports
-memories_few xs ports is = subst (λ (l : List Port). All FewBits l) (sym is) (few_memories xs)
+use Rattle.command_source.specs.Inputs.{GivesValues, IsUnfitBy}
+use Rattle.tapa_syntax.specs.Shapes.{port_of, IsShapeOf}
 
 get_map : {A B : Type 0} (f : A → B) (xs : List A) (i : ℕ) (x : A) → slice_get xs i ≡ Some x → slice_get (map f xs) i ≡ Some (f x)
 get_map f xs i x at = slice_get-map f xs i ∙ ap (option_map f) at

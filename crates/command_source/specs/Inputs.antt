@@ -1,27 +1,15 @@
 -- What a text of data gives a program: values for its top task's parameters, or a fault.
-use Rattle.std.specs.Prelude.{◌≡◌, ℕ, List, [], map, ⊤}
+use Rattle.std.specs.Prelude.{◌≡◌, ℕ, List, [], ⊤}
 use Rattle.serde_json.specs.Data.{Data as Json}
-use Rattle.tapa_base.specs.declared.kind.Kind.{Kind}
-use Rattle.tapa_base.specs.declared.shape.Port.{Port}
 use Rattle.tapa_base.specs.declared.shape.Shape.{Shape}
-use Rattle.tapa_base.specs.Kinds.{bits_of}
-use Rattle.tapa_syntax.specs.declared.program.Memory.{Memory}
 use Rattle.tapa_syntax.specs.declared.program.Program.{Program}
-use Rattle.tapa_syntax.specs.declared.program.Scalar.{Scalar}
+use Rattle.tapa_syntax.specs.Shapes.{IsShapeOf}
 use Rattle.run_data.specs.Answer.{IsFirstFault}
 use Rattle.run_data.specs.Data.{IsJson, Misshapen, Misfit, Oversized, faults, scalars_of, memories_of}
 use Rattle.run_data.specs.declared.data.DataFault.{DataFault as FaultOfData}
 use Rattle.run_data.specs.declared.data.DataFault.TheVariants.{J1, J2, J3, J4, OutOfMemory}
-use Rattle.run_program.specs.Run.{Values}
+use Rattle.net_core.specs.Bounded.{Values}
 use Rattle.command_source.specs.Refusal.{DataFault, NotJson, Faulty}
-
-abbrev pub port_of : List ℕ → Kind → Port
-port_of name kind = record { name = name; bits = bits_of kind }
-
--- what the parameters of a program's top task ask for: a name and a number of bits for each scalar and for each memory
-pub record IsShapeOf (program : Program) (shape : Shape) : Type 0 where
-  pub scalars : shape.scalars.items ≡ map (λ (c : Scalar). port_of c.name c.kind) program.scalars.items
-  pub memories : shape.memories.items ≡ map (λ (c : Memory). port_of c.name c.kind) program.memories.items
 
 -- the text is JSON without a fault for the program, and gives these values
 pub record GivesValues (program : Program) (text : List ℕ) (values : Values) : Type 0 where

@@ -1,5 +1,5 @@
 -- The labels of a program's parts: made of the names of the source, and no two parts of one entity have the same.
-use Rattle.std.specs.Prelude.{◌≡◌, ◌==◌, ◌||◌, ℕ, List, map, ◌++◌, Some, slice_get, IsTrue}
+use Rattle.std.specs.Prelude.{◌≡◌, ◌==◌, ◌||◌, List, map, ◌++◌, IsTrue}
 use Rattle.std.specs.List.{list_all, AllByRecursion}
 use Rattle.tapa_syntax.specs.declared.program.Memory.{Memory}
 use Rattle.tapa_syntax.specs.declared.program.Scalar.{Scalar}
@@ -7,6 +7,7 @@ use Rattle.tapa_syntax.specs.declared.program.Stream.{Stream}
 use Rattle.tapa_base.specs.Gaps.{Bytes, begins}
 use Rattle.tapa_syntax.specs.Characters.{is_letter, is_word_byte}
 use Rattle.tapa_syntax.specs.Flat.{FlatInstance, FlatLeaf, FlatProgram}
+use Rattle.tapa_syntax.specs.OwnNames.{AreApart}
 
 -- a name of a source (ISO C++ [lex.name]): a letter or `_`, and then letters, digits and `_`
 pub record IsPlainName (x : Bytes) : Type 0 where
@@ -17,10 +18,6 @@ pub record IsPlainName (x : Bytes) : Type 0 where
 pub record IsLabel (x : Bytes) : Type 0 where
   pub first : IsTrue (begins is_letter x)
   pub all : IsTrue (list_all (λ b. is_word_byte b || b == 36) x)
-
--- nothing stands twice in a list
-abbrev pub AreApart : List Bytes → Type 0
-AreApart xs = (p q : ℕ) (x : Bytes) → slice_get xs p ≡ Some x → slice_get xs q ≡ Some x → p ≡ q
 
 abbrev pub instance_labels : FlatProgram → List Bytes
 instance_labels program = map (λ (x : FlatInstance). x.label) program.instances

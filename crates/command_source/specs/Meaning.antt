@@ -3,9 +3,7 @@ use Rattle.std.specs.Prelude.{ℕ, List}
 use Rattle.run_data.specs.Data.{Misshapen, Misfit, Oversized}
 use Rattle.run_data.specs.declared.data.DataFault.{DataFault as FaultOfData}
 use Rattle.run_data.specs.declared.data.DataFault.TheVariants.{J1, J2, J3, J4, OutOfMemory}
-use Rattle.run_program.specs.Ending.{lines_in}
-use Rattle.tapa_words.specs.declared.command.WordsFault.{WordsFault}
-use Rattle.tapa_words.specs.declared.command.WordsFault.TheVariants as words_fault
+use Rattle.run_data.specs.Lines.{lines_in}
 use Rattle.command_source.specs.Refusal as spec
 use Rattle.command_source.specs.Refusal.{NotJson, Faulty, NoJson, HasFault}
 use Rattle.plan_device.specs.Faults as device
@@ -79,8 +77,3 @@ refusal_of (DesignData file fault) = design_refusal file.now fault
 refusal_of (Undone limit) = spec.Undone limit
 refusal_of (Dump file fault) = dump_refusal file.now fault
 refusal_of Memory = spec.Memory
-
--- why words were not read
-abbrev pub words_refusal : WordsFault → spec.Refusal
-words_refusal words_fault.Usage = spec.Usage
-words_refusal words_fault.OutOfMemory = spec.Memory

@@ -4,11 +4,12 @@ use Rattle.std.specs.List.{AllByRecursion}
 use Rattle.tapa_syntax.specs.Flat.{FlatLeaf}
 use Rattle.check_upper.specs.declared.task.Channel.{Channel}
 use Rattle.check_upper.specs.Tasks.{Invocation, Task, leaf_body, upper_body}
-use Rattle.command_source.specs.Labels.{IsPlainName, AreApart}
+use Rattle.command_source.specs.Labels.{IsPlainName}
+use Rattle.tapa_syntax.specs.OwnNames.{AreApart}
 use Rattle.command_source.specs.Named.{parameter_name}
 
 -- what holds of the tasks of a legal file whose names are names
-pub record HasOwnNames (tasks : List Task) : Type 0 where
+pub record HaveOwnNames (tasks : List Task) : Type 0 where
   pub names : AllByRecursion (λ (t : Task). IsPlainName t.declared.name.text) tasks
   pub apart : AreApart (map (λ (t : Task). t.declared.name.text) tasks)
   pub parameters : (n : ℕ) (t : Task) → slice_get tasks n ≡ Some t → AllByRecursion IsPlainName (map parameter_name t.declared.parameters)

@@ -5,7 +5,7 @@ use Rattle.check_scope.specs.declared.fault.CheckCode.{CheckCode}
 use Rattle.check_scope.specs.declared.fault.CheckCode.TheVariants.{C1, C2, C3, C4, C5, C6, C7, C8, C9, C10, C11, C12}
 use Rattle.command_source.specs.declared.source.SourceCode.{SourceCode}
 use Rattle.command_source.specs.declared.source.SourceCode.TheVariants.{L1, L2, L3, L4, A1, A2, A3, A4, P1, P2, Rule}
-use Rattle.run_program.specs.Ending.{joined}
+use Rattle.run_data.specs.Lines.{joined}
 use Rattle.run_data.specs.Data.{Fault, Misshapen, Misfit, Oversized}
 use Rattle.plan_device.specs.Faults as device
 

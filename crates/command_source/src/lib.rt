@@ -17,6 +17,6 @@ pub use laws::{
     law_written_out_keeps_lines,
 };
 pub use program::{SourceFault, read_program};
-pub use refusal::{DumpFault, Refusal, put_lines, refuse_words, tell};
+pub use refusal::{DumpFault, Refusal, put_lines, tell, tell_memory, tell_usage};
 pub use source::SourceCode;
 pub use status::Status;

@@ -1,8 +1,8 @@
 ghost use Rattle.std.specs.Prelude.{◌≡◌, ◌⊎◌, ◌++◌, codes, IfOk, OnOk, OnErr, ◌≤◌};
 ghost use Rattle.std.specs.Io.KnownBytes.{Appends};
 ghost use Rattle.tapa_files.specs.Outside.{AppendsPart, Rose};
-ghost use Rattle.run_program.specs.Ending.{joined, lines_in};
-ghost use Rattle.command_source.specs.Meaning.{refusal_of, data_refusal, device_refusal, design_refusal, verilog_refusal, dump_refusal, words_refusal};
+ghost use Rattle.run_data.specs.Lines.{joined, lines_in};
+ghost use Rattle.command_source.specs.Meaning.{refusal_of, data_refusal, device_refusal, design_refusal, verilog_refusal, dump_refusal};
 ghost use Rattle.command_source.specs.Outside.{written};
 ghost use Rattle.command_source.specs.Told.{IsToldAs};
 ghost use Rattle.command_source.specs.Refusal.{Refusal as Why, V1, NoDump, message_of, code_text, IsFixed};
@@ -15,7 +15,6 @@ use run_data::DataFault;
 use std::alloc::Global;
 use tapa_base::{OutOfMemory, Place};
 use tapa_files::{Sink, WriteFault, put_all};
-use tapa_words::WordsFault;
 use vlog_tree::VFault;
 
 /// Why a file shows nothing of a net.
@@ -379,13 +378,16 @@ pub fn tell<E: Sink>(alloc: Global, refusal: &Refusal<'_>, err: &mut E) -> Statu
     }
 }
 
-/// Tells why the words of a command could not be read, before there is anything to carry out: they are no text, or memory
-/// ran out while they were copied.
-pub fn refuse_words<E: Sink>(fault: WordsFault, err: &mut E) -> Status
-    ensures { IsToldAs (words_refusal fault) result (written (E.contents err.old) (E.faults err.old)) (written (E.contents err.new) (E.faults err.new)) }
+/// Tells that the words are no command.
+pub fn tell_usage<E: Sink>(err: &mut E) -> Status
+    ensures { IsToldAs Why.Usage result (written (E.contents err.old) (E.faults err.old)) (written (E.contents err.new) (E.faults err.new)) }
 {
-    match fault {
-        WordsFault::Usage => tell_line(USAGE, Status::Usage, err),
-        WordsFault::OutOfMemory => tell_line(NO_MEMORY, Status::Memory, err),
-    }
+    tell_line(USAGE, Status::Usage, err)
+}
+
+/// Tells want of memory.
+pub fn tell_memory<E: Sink>(err: &mut E) -> Status
+    ensures { IsToldAs Why.Memory result (written (E.contents err.old) (E.faults err.old)) (written (E.contents err.new) (E.faults err.new)) }
+{
+    tell_line(NO_MEMORY, Status::Memory, err)
 }

@@ -2,7 +2,7 @@
 use Rattle.std.proofs.Common.{◌≡◌, ℕ, ◌/◌, ◌%◌, ◌<◌, List, [], ◌∷◌, ◌++◌, cond, sym, ap, ◌∙◌, append_assoc}
 use Rattle.std.proofs.lemmas.Bool.{eq-eqb, ne_eqb}
 use Rattle.vlog_tree.specs.Form.{ModuleTree}
-use Rattle.hw_channel_laws.specs.modules.Texts.{step_tree, even_tree, odd_tree, row_tree, AreRelays, One, More}
+use Rattle.hw_channel_lines.specs.Texts.{step_tree, even_tree, odd_tree, row_tree, AreRelays, One, More}
 
 pub even_is : (bits steps : ℕ) → steps % 2 ≡ 0 → even_tree bits steps (steps / 2) ≡ row_tree bits steps
 even_is bits steps e = sym (ap (λ b. cond b (even_tree bits steps (steps / 2)) (odd_tree bits steps (steps / 2))) (eq-eqb (steps % 2) 0 e))

@@ -1,7 +1,7 @@
 -- The modules of a channel.
 use Rattle.std.proofs.Common.{◌≡◌, ℕ, ◌+◌, ◌*◌, ◌<◌, List, [], ◌∷◌, ◌++◌, sym, subst, ap, ◌∙◌}
 use Rattle.vlog_tree.specs.Form.{ModuleTree}
-use Rattle.hw_channel_laws.specs.modules.Texts.{plain_tree, relayed_tree, fifo_tree, AreRelays, AreModules, Alone, Relayed}
+use Rattle.hw_channel_lines.specs.Texts.{plain_tree, relayed_tree, fifo_tree, AreRelays, AreModules, Alone, Relayed}
 
 -- relays behind the outermost module and its FIFO
 pub behind : (bits depth late : ℕ) (two all : List ModuleTree) → two ≡ relayed_tree bits depth late ∷ fifo_tree bits depth (depth + 2 * late) ∷ []

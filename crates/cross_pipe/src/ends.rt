@@ -2,7 +2,7 @@
 
 ghost use Rattle.std.specs.Prelude.{◌≡◌, ◌++◌, ◌∷◌, [], IfOk, codes};
 ghost use Rattle.std.specs.Str.{IsAscii};
-ghost use Rattle.hw_channel_laws.specs.modules.Texts.{clocks as clocks_lem, fifo_ends as fifo_lem, relay_ends as relay_lem, joined_to};
+ghost use Rattle.hw_channel_lines.specs.Texts.{clocks as clocks_lem, fifo_ends as fifo_lem, relay_ends as relay_lem, joined_to};
 
 use hw_build::text;
 use std::alloc::{AllocError, Global};

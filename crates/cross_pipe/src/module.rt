@@ -6,19 +6,12 @@ ghost use Rattle.vlog_tree.specs.declared.tree.Atom.TheVariants.{Net, Literal};
 ghost use Rattle.vlog_tree.specs.declared.tree.Value.TheVariants.{Choose, Cell};
 ghost use Rattle.vlog_tree.specs.declared.tree.BinaryOp.TheVariants.{Plus, Minus, And, Xor, Equals, Differs, Less};
 ghost use Rattle.hw_build.specs.Elements.{with_all, Input, Output, Wire, Register, Memory, Block, reset_or_set, stored};
-ghost use Rattle.hw_channel_laws.specs.modules.Texts.{bits_for as bits_for_lem, of_net, two as two_lem, with_number as with_number_lem, fifo_tree, next_wires as next_wires_lem, pointer_wires, count_wires as count_wires_lem, fifo_blocks};
+ghost use Rattle.hw_channel_lines.specs.Texts.{of_net, two as two_lem, with_number as with_number_lem, fifo_tree, next_wires as next_wires_lem, pointer_wires, count_wires as count_wires_lem, fifo_blocks};
 
 use crate::names::fifo_name;
-use hw_build::{Draft, net, net_value, number, reset_set_steps, store_steps, text};
+use hw_build::{Draft, bits_for, net, net_value, number, reset_set_steps, store_steps, text};
 use std::alloc::{AllocError, Global};
 use vlog_tree::{BinaryOp, Module, Value};
-
-#[tactic(auto, unfolding(hw_channel_laws::specs::modules::Texts::bits_for))]
-fn bits_for(n: u32) -> u32
-    ensures { result ≡ bits_for_lem n }
-{
-    if n == 0 { 1 } else { 32 - n.leading_zeros() }
-}
 
 /// What an operator makes of two nets.
 pub fn two(alloc: Global, x: &[u8], op: BinaryOp, y: &[u8]) -> Result<Value, AllocError>

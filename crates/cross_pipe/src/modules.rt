@@ -5,8 +5,8 @@ ghost use Rattle.vlog_tree.specs.Form.{ModuleTree};
 ghost use Rattle.vlog_tree.specs.Refused.{IsSound};
 ghost use Rattle.hw_build.specs.Elements.{with, with_all, Instance};
 ghost use Rattle.hw_channel_laws.specs.modules.Ports.{ActsAsChannel};
-ghost use Rattle.hw_channel_laws.specs.modules.Names.{fifo_name as fifo_lem, relay_name as relay_lem};
-ghost use Rattle.hw_channel_laws.specs.modules.Texts.{relay_ends as relay_ends_lem, relayed_inside, plain_tree, fifo_tree, relayed_tree, channel_ports, AreRelays, AreModules};
+ghost use Rattle.hw_channel_lines.specs.Names.{fifo_name as fifo_lem, relay_name as relay_lem};
+ghost use Rattle.hw_channel_lines.specs.Texts.{relay_ends as relay_ends_lem, relayed_inside, plain_tree, fifo_tree, relayed_tree, channel_ports, AreRelays, AreModules};
 ghost use Rattle.hw_channel_laws.specs.modules.Rules.{OfFirst, IsOutermost, HaveNoLoop, HasNoWayThrough, JoinClocks, AreNoTasks};
 
 use crate::ends::{fifo_ends, relay_ends};

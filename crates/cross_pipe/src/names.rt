@@ -2,7 +2,7 @@
 
 ghost use Rattle.std.specs.Prelude.{◌≡◌, ◌++◌, ◌∷◌, IfOk, decimal};
 ghost use Rattle.std.specs.Str.{IsAscii};
-ghost use Rattle.hw_channel_laws.specs.modules.Names.{channel_name as channel_lem, fifo_name as fifo_lem, relay_name as relay_lem};
+ghost use Rattle.hw_channel_lines.specs.Names.{channel_name as channel_lem, fifo_name as fifo_lem, relay_name as relay_lem};
 
 use itoa::Buffer;
 use std::alloc::{AllocError, Global};
@@ -28,7 +28,7 @@ fn add_next(bytes: &mut Vec<u8>, number: u32) -> Result<(), AllocError>
 }
 
 /// The name of the module of a channel.
-#[tactic(auto, unfolding(hw_channel_laws::specs::modules::Names::channel_name))]
+#[tactic(auto, unfolding(hw_channel_lines::specs::Names::channel_name))]
 pub fn channel_name(alloc: Global, bits: u32, depth: u32, latency: u32) -> Result<Text, AllocError>
     ensures { IfOk result (λ t. t ≡ channel_lem bits depth latency) }
 {
@@ -40,7 +40,7 @@ pub fn channel_name(alloc: Global, bits: u32, depth: u32, latency: u32) -> Resul
 }
 
 /// The name of the module of a FIFO.
-#[tactic(auto, unfolding(hw_channel_laws::specs::modules::Names::fifo_name))]
+#[tactic(auto, unfolding(hw_channel_lines::specs::Names::fifo_name))]
 pub fn fifo_name(alloc: Global, bits: u32, depth: u32, places: u32) -> Result<Text, AllocError>
     ensures { IfOk result (λ t. t ≡ fifo_lem bits depth places) }
 {
@@ -52,7 +52,7 @@ pub fn fifo_name(alloc: Global, bits: u32, depth: u32, places: u32) -> Result<Te
 }
 
 /// The name of the module of a relay.
-#[tactic(auto, unfolding(hw_channel_laws::specs::modules::Names::relay_name))]
+#[tactic(auto, unfolding(hw_channel_lines::specs::Names::relay_name))]
 pub fn relay_name(alloc: Global, bits: u32, steps: u32) -> Result<Text, AllocError>
     ensures { IfOk result (λ t. t ≡ relay_lem bits steps) }
 {

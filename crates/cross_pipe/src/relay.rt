@@ -5,8 +5,8 @@ ghost use Rattle.std.specs.Str.{IsAscii};
 ghost use Rattle.vlog_tree.specs.Form.{ModuleTree};
 ghost use Rattle.vlog_tree.specs.declared.tree.Atom.TheVariants.{Net, Literal};
 ghost use Rattle.hw_build.specs.Elements.{with, with_all, Input, Output, Outlet, Link, Register, Block, Instance, copied, reset_or};
-ghost use Rattle.hw_channel_laws.specs.modules.Names.{relay_name as relay_name_lem};
-ghost use Rattle.hw_channel_laws.specs.modules.Texts.{step_tree, even_tree, odd_tree, row_tree, row_ports as row_ports_lem, of_net, first_part as first_lem, second_of_two as second_of_two_lem, second_of_three as second_of_three_lem, third_part as third_lem, AreRelays};
+ghost use Rattle.hw_channel_lines.specs.Names.{relay_name as relay_name_lem};
+ghost use Rattle.hw_channel_lines.specs.Texts.{step_tree, even_tree, odd_tree, row_tree, row_ports as row_ports_lem, of_net, first_part as first_lem, second_of_two as second_of_two_lem, second_of_three as second_of_three_lem, third_part as third_lem, AreRelays};
 
 use crate::ends::relay_ends;
 use crate::names::relay_name;

@@ -8,3 +8,4 @@ pub mod Trees
 pub mod Scope
 pub mod Fits
 pub mod Choices
+pub mod Widths

@@ -2,6 +2,7 @@
 //! blocks of such a module make of its registers and memories in a run is proved here once.
 #![tactic(auto)]
 
+mod bits;
 mod draft;
 mod laws;
 mod list_laws;
@@ -9,6 +10,7 @@ mod steps;
 mod texts;
 mod trees;
 
+pub use bits::bits_for;
 pub use draft::Draft;
 pub use laws::{
     law_blocks, law_built_has_form, law_built_has_no_loop, law_built_is_right,

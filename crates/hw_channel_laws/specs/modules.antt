@@ -1,4 +1,2 @@
-pub mod Names
-pub mod Texts
 pub mod Ports
 pub mod Rules

@@ -14,7 +14,7 @@ use Rattle.vlog_tree.specs.Form.{ModuleTree}
 use Rattle.vlog_tree.specs.Table.{Name}
 use Rattle.hw_build.specs.Elements.{Element, Wire, with, with_all}
 use Rattle.hw_build.specs.Trees.{numbered}
-use Rattle.task_fsm.specs.Machine.{Expression, Number, Reg, CellOf, Converted, Applied, Flipped, Inverse, Both, Either, Chosen, Operation}
+use Rattle.task_fsm.specs.Machine.{Expression, Number, Reg, CellOf, Converted, Applied, Flipped, Inverse, Both, Either, Chosen}
 use Rattle.hw_lines.specs.Fixed.{fixed}
 use Rattle.hw_lines.specs.Drivers.{Driver, wires_of, last_of, one, operation}
 use Rattle.hw_lines.specs.Wires.{Compiled, read_count, constant, behind, by_fixed, converting, one_more, joining, choosing, compiled}
@@ -113,7 +113,6 @@ constant_is front m n k (Chosen t a b) v e =
     fixed_by (fixed (Chosen t a b)) v k
     (choosing front n k (compiled front m n Bool t) (compiled front (m + read_count t) (n + (compiled front m n Bool t).count) k a)
     (compiled front (m + read_count t + read_count a) (n + (compiled front m n Bool t).count + (compiled front (m + read_count t) (n + (compiled front m n Bool t).count) k a).count) k b)) e
-constant_is front m n k Operation v e = cc
 
 pub constant_grows : (d : ModuleTree) (told : Wired) (front : Name) (m n : ℕ) (k : Kind) (E : Expression) (v : ℕ) → fixed E ≡ Some v → told.atom ≡ Literal (bits_of k) v → told.count ≡ 0
     → Grows d d told (compiled front m n k E)

@@ -8,7 +8,7 @@ ghost use Rattle.task_fsm.specs.Machine.{expression_of};
 ghost use Rattle.hw_lines.specs.Fixed.{can_apply as can_apply_lem, fixed as fixed_lem, only_if};
 
 use tapa_base::{Kind, Op, apply, can_apply, convert};
-use tapa_syntax::Expr;
+use task_fsm::Expr;
 
 fn converted(source: Kind, target: Kind, value: u64) -> Option<u64>
     ensures { result ≡ only_if (nat_lt value (values_of source)) (converted_lem source target value) }
@@ -30,25 +30,12 @@ fn applied(op: Op, kind: Kind, left: u64, right: u64) -> Option<u64>
     }
 }
 
-// The greatest value of a kind, every bit set.
-fn greatest(kind: Kind) -> u64
-    ensures { result ≡ 2 ^ bits_of kind - 1 }
-{
-    match kind {
-        Kind::Bool => 1,
-        Kind::I8 | Kind::U8 => 0xff,
-        Kind::I16 | Kind::U16 => 0xffff,
-        Kind::I32 | Kind::U32 => 0xffff_ffff,
-        Kind::I64 | Kind::U64 => u64::MAX,
-    }
-}
-
 // Every bit turned.
 fn flipped(kind: Kind, value: u64) -> Option<u64>
     ensures { result ≡ only_if (nat_lt value (values_of kind)) (2 ^ bits_of kind - 1 - value) }
 {
     if kind.holds(value) {
-        Some(greatest(kind) - value)
+        Some(kind.flipped(value))
     } else {
         None
     }
@@ -133,9 +120,5 @@ pub(crate) fn fixed(e: &Expr) -> Option<u64>
             let no = fixed(b)?;
             Some(chosen(test, yes, no))
         }
-        Expr::Read(_) => None,
-        Expr::Peek(_) => None,
-        Expr::Eot(_) => None,
-        Expr::Load(_, _) => None,
     }
 }

@@ -7,7 +7,7 @@ ghost use Rattle.hw_expressions.specs.Reads.{read_forms};
 
 use std::alloc::AllocError;
 use tapa_base::plus;
-use tapa_syntax::Expr;
+use task_fsm::Expr;
 
 /// A read of an array: its index, and the number of the first read in that.
 #[derive(Clone, Copy)]
@@ -36,10 +36,6 @@ pub fn read_count(e: &Expr) -> Result<u32, AllocError>
             let branches = plus(read_count(a)?, read_count(b)?)?;
             plus(test, branches)
         }
-        Expr::Read(_) => Ok(0),
-        Expr::Peek(_) => Ok(0),
-        Expr::Eot(_) => Ok(0),
-        Expr::Load(_, _) => Ok(0),
     }
 }
 
@@ -98,9 +94,5 @@ pub fn add_reads<'a>(reads: &mut Vec<ArrayRead<'a>>, m: u32, e: &'a Expr) -> Res
             add_reads(reads, third, b)?;
             Ok(())
         }
-        Expr::Read(_) => Ok(()),
-        Expr::Peek(_) => Ok(()),
-        Expr::Eot(_) => Ok(()),
-        Expr::Load(_, _) => Ok(()),
     }
 }

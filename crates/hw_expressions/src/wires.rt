@@ -2,7 +2,6 @@
 
 ghost use Rattle.std.specs.Prelude.{◌≡◌, ◌+◌, ◌++◌, ℕ, List, IfOk};
 ghost use Rattle.tapa_base.specs.Kinds.{bits_of};
-ghost use Rattle.tapa_syntax.specs.Typed.{right_kind as right_kind_lem};
 ghost use Rattle.vlog_tree.specs.Form.{ModuleTree};
 ghost use Rattle.vlog_tree.specs.declared.tree.Value.TheVariants.{Binary, Invert};
 ghost use Rattle.hw_build.specs.Elements.{Element, with_all};
@@ -15,11 +14,11 @@ use crate::fixed::fixed;
 use crate::reads::read_count;
 use hw_build::{Draft, numbered};
 use hw_lines::Net;
-use hw_nets::{binary, bits, choose, copy, literal, net};
+use hw_nets::{binary, choose, copy, literal, net};
 use hw_operators::{Driver, conversion, last, one, operation};
 use std::alloc::{AllocError, Global};
 use tapa_base::{Kind, Op, Text, narrow, plus};
-use tapa_syntax::Expr;
+use task_fsm::Expr;
 use vlog_tree::{Atom, BinaryOp, Value};
 
 /// The atom with the value of an expression, and how many wires it has.
@@ -79,7 +78,7 @@ fn inverted(
 {
     let n = plus(first, operand.count)?;
     let inverse = Value::Invert(copy(alloc, &operand.atom)?);
-    let drivers = one(alloc, bits(kind), inverse)?;
+    let drivers = one(alloc, kind.bits(), inverse)?;
     with_drivers(
         alloc,
         draft,
@@ -170,19 +169,8 @@ fn chosen(
     let count = plus(test.count, branches)?;
     let n = plus(first, count)?;
     let value = choose(copy(alloc, &test.atom)?, yes.atom, no.atom);
-    let drivers = one(alloc, bits(kind), value)?;
+    let drivers = one(alloc, kind.bits(), value)?;
     with_drivers(alloc, draft, front, n, drivers, &test.atom, count)
-}
-
-// The right operand of a shift is a count.
-fn right_kind(op: Op, kind: Kind) -> Kind
-    ensures { result ≡ right_kind_lem op kind }
-{
-    match op {
-        Op::Shl => Kind::U64,
-        Op::Shr => Kind::U64,
-        _ => kind,
-    }
 }
 
 // What makes no wire.
@@ -205,10 +193,10 @@ pub fn compile(
     ensures { IfOk result (λ r. Grows draft.old draft.new r (compiled front.now m first kind (expression_of e.now))) }
 {
     if let Some(value) = fixed(e) {
-        return Ok(as_is(literal(bits(kind), u128::from(value))));
+        return Ok(as_is(literal(kind.bits(), u128::from(value))));
     }
     match e {
-        Expr::Lit(_, n) => Ok(as_is(literal(bits(kind), u128::from(*n)))),
+        Expr::Lit(_, n) => Ok(as_is(literal(kind.bits(), u128::from(*n)))),
         Expr::Var(x) => Ok(as_is(net(alloc, Net::Variable(*x))?)),
         Expr::Cell(a, i) => {
             let number = plus(m, read_count(i)?)?;
@@ -225,7 +213,7 @@ pub fn compile(
             right,
         } => {
             let after = plus(m, read_count(left)?)?;
-            let count = right_kind(*op, *own);
+            let count = op.right_kind(*own);
             let a = compile(alloc, draft, front, first, m, *own, left)?;
             let second = plus(first, a.count)?;
             let b = compile(alloc, draft, front, second, after, count, right)?;
@@ -263,10 +251,5 @@ pub fn compile(
             let b = compile(alloc, draft, front, third, later, kind, no)?;
             chosen(alloc, draft, front, first, kind, c, a, b)
         }
-        // a machine's expressions have no operations
-        Expr::Read(_) => Ok(as_is(literal(bits(kind), 0))),
-        Expr::Peek(_) => Ok(as_is(literal(bits(kind), 0))),
-        Expr::Eot(_) => Ok(as_is(literal(bits(kind), 0))),
-        Expr::Load(_, _) => Ok(as_is(literal(bits(kind), 0))),
     }
 }

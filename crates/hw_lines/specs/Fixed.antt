@@ -6,7 +6,7 @@ use Rattle.tapa_base.specs.declared.op.Op.TheVariants.{Div, Rem, Shl, Shr}
 use Rattle.tapa_base.specs.Kinds.{bits_of, values_of, converted}
 use Rattle.tapa_base.specs.Operators.{applied}
 use Rattle.kahn_model.specs.Trace.{at_zero}
-use Rattle.task_fsm.specs.Machine.{Expression, Number, Reg, CellOf, Converted, Applied, Flipped, Inverse, Both, Either, Chosen, Operation}
+use Rattle.task_fsm.specs.Machine.{Expression, Number, Reg, CellOf, Converted, Applied, Flipped, Inverse, Both, Either, Chosen}
 
 abbrev pub only_if : Bool → ℕ → Option ℕ
 only_if b n = if b then Some n else None
@@ -45,4 +45,3 @@ fixed (Inverse e) = on_one (fixed e) (λ v. only_if (nat_lt v 2) (1 - v))
 fixed (Both l r) = on_two (fixed l) (fixed r) (λ a b. only_if (nat_lt a 2 && nat_lt b 2) (a * b))
 fixed (Either l r) = on_two (fixed l) (fixed r) (λ a b. only_if (nat_lt a 2 && nat_lt b 2) (1 - (1 - a) * (1 - b)))
 fixed (Chosen e a b) = on_three (fixed e) (fixed a) (fixed b) (λ v x y. Some (at_zero v y x))
-fixed Operation = None

@@ -12,4 +12,3 @@ pub mod Signals
 pub mod Machine
 pub mod Runs
 pub mod Decides
-pub mod top

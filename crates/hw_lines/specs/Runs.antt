@@ -7,6 +7,7 @@ use Rattle.tapa_syntax.specs.declared.program.Leaf.{Leaf}
 use Rattle.tapa_syntax.specs.LeafKinds.{writes_of}
 use Rattle.vlog_tree.specs.Form.{ModuleTree}
 use Rattle.vlog_tree.specs.Labels.{rst}
+use Rattle.vlog_tree.specs.Table.{one_if}
 use Rattle.vlog_tree.specs.Cycle.{Cycle, Path, Runs, module_at}
 use Rattle.vlog_tree.specs.Environment.{token_of}
 use Rattle.kahn_model.specs.declared.tick.Action.{Action}
@@ -97,13 +98,20 @@ part_at S run cells = record { places = S.states; bound = λ p. p; first = first
 abbrev pub answers_at : (ℕ → Cycle) → ℕ → ℕ → Bool
 answers_at run m n = bit_at run (Ack m) n
 
--- whether a step asks memory m for a cell, or stores there
-abbrev pub asks_for : ℕ → Action → Bool
-asks_for m Local = false
-asks_for m (Put s t) = false
-asks_for m (Load x i) = x == m
-asks_for m (Store x i v) = x == m
+-- what a step asks memory m for: a cell, which it may store
+abbrev pub AsksBy : (ℕ → Cycle) → ℕ → ℕ → Action → Type 0
+AsksBy run n m Local = Unit {0}
+AsksBy run n m (Put s t) = Unit {0}
+AsksBy run n m (Load x i) = x ≡ m → number_at run (Addr m) n ≡ i
+AsksBy run n m (Store x i v) = x ≡ m → (number_at run (Addr m) n ≡ i) × (number_at run (Wdata m) n ≡ v)
 
+abbrev pub AsksAs : (ℕ → Cycle) → ℕ → ℕ → StateStep → Type 0
+AsksAs run n m (Performs a pc σ) = AsksBy run n m a
+AsksAs run n m (Awaits s how pc into) = Unit {0}
+AsksAs run n m Completes = Unit {0}
+AsksAs run n m Halts = Unit {0}
+
+-- whether a step stores in memory m
 abbrev pub stores_to : ℕ → Action → Bool
 stores_to m Local = false
 stores_to m (Put s t) = false
@@ -117,11 +125,14 @@ by_act f Completes = false
 by_act f Halts = false
 
 -- A run of the module runs its machine at its ports: it makes each step where its inputs allow it, and else keeps what it
--- holds. It asks a memory to store in the states that store there alone, and says that it is done once it has ended.
+-- holds. It says that it is done once it has ended.
 pub record RunsTask (S : Shape) (w : ℕ → Option Bool) (run : ℕ → Cycle) (cells : ℕ → List (List ℕ)) : Type 0 where
   pub machine : RunsMachine (part_at S run cells) (streams_at S run) (answers_at run) (λ s. w s ≡ Some false) (λ s. w s ≡ Some true) (history_at S run cells)
+  -- in each cycle a memory's ports show what the next step asks of it, whether it is made in this cycle or not
+  pub asks : (n m : ℕ) → m < length S.memories → AsksAs run (suc n) m (step_in (part_at S run cells) (history_at S run cells) (suc n))
+  -- and that something is to be stored is said exactly where the next step stores there
   pub stores :
-      (n m : ℕ) → m < length S.memories → bit_at run (We m) (suc n) ≡ (not (bit_at run Ended (suc n)) && by_act (stores_to m) (step_in (part_at S run cells) (history_at S run cells) (suc n)))
+      (n m : ℕ) → m < length S.memories → number_at run (We m) (suc n) ≡ one_if (not (bit_at run Ended (suc n)) && by_act (stores_to m) (step_in (part_at S run cells) (history_at S run cells) (suc n)))
   pub done : (n : ℕ) → number_at run Done n ≡ number_at run Ended n
 
 -- In a run of any design that has the module, an instance of it runs the machine, whatever registers and arrays hold at

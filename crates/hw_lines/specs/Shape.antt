@@ -1,6 +1,5 @@
 -- What of a machine and its task the task's module is made of.
 use Rattle.std.specs.Prelude.{ℕ, ◌-◌, List, length, Option, option_map, unwrap_or, slice_get, slice_index_or, if◌then◌else◌, ◌==◌}
-use Rattle.std.specs.Int.Count.{count_leading_zeros}
 use Rattle.tapa_base.specs.declared.kind.Kind.{Kind}
 use Rattle.tapa_base.specs.declared.kind.Kind.TheVariants.{U64}
 use Rattle.tapa_base.specs.Kinds.{bits_of}
@@ -9,10 +8,7 @@ use Rattle.tapa_syntax.specs.declared.program.End.{End}
 use Rattle.tapa_syntax.specs.LeafKinds.{Kinds}
 use Rattle.task_fsm.specs.declared.machine.Fsm.{Fsm}
 use Rattle.task_fsm.specs.Machine.{StateForm, TrapAt, forms_of}
-
--- bits for the numbers up to n, at least one
-unfoldable pub bits_for : ℕ → ℕ
-bits_for n = if n == 0 then 1 else 32 - count_leading_zeros 32 n
+use Rattle.hw_build.specs.Widths.{bits_for}
 
 -- the registers of the scalar parameters, the kinds of registers, arrays, memories and streams, and the states
 pub record Shape : Type 0 where

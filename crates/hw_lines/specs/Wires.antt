@@ -11,7 +11,7 @@ use Rattle.vlog_tree.specs.declared.tree.BinaryOp.TheVariants.{And, Or}
 use Rattle.vlog_tree.specs.declared.tree.Value.TheVariants.{Invert, Binary, Choose}
 use Rattle.vlog_tree.specs.Table.{Name}
 use Rattle.hw_build.specs.Elements.{Element}
-use Rattle.task_fsm.specs.Machine.{Expression, Number, Reg, CellOf, Converted, Applied, Flipped, Inverse, Both, Either, Chosen, Operation}
+use Rattle.task_fsm.specs.Machine.{Expression, Number, Reg, CellOf, Converted, Applied, Flipped, Inverse, Both, Either, Chosen}
 use Rattle.hw_lines.specs.Nets.{Variable, Answer, name}
 use Rattle.hw_lines.specs.Fixed.{fixed}
 use Rattle.hw_lines.specs.Drivers.{Driver, wires_of, last_of, one, conversion, operation}
@@ -33,7 +33,6 @@ read_count (Inverse e) = read_count e
 read_count (Both l r) = read_count l + read_count r
 read_count (Either l r) = read_count l + read_count r
 read_count (Chosen e a b) = read_count e + (read_count a + read_count b)
-read_count Operation = 0
 
 -- the reads of an expression, of which the first has number m
 abbrev pub reads_in : ℕ → Expression → List ArrayRead
@@ -47,7 +46,6 @@ reads_in m (Inverse e) = reads_in m e
 reads_in m (Both l r) = reads_in m l ++ reads_in (m + read_count l) r
 reads_in m (Either l r) = reads_in m l ++ reads_in (m + read_count l) r
 reads_in m (Chosen e a b) = reads_in m e ++ (reads_in (m + read_count e) a ++ reads_in (m + read_count e + read_count a) b)
-reads_in m Operation = []
 
 -- the wires of an expression, how many there are, and the atom with its value
 pub record Compiled : Type 0 where
@@ -112,4 +110,3 @@ compiled front m n k (Chosen e a b) =
     by_fixed (fixed (Chosen e a b)) k
     (choosing front n k (compiled front m n Bool e) (compiled front (m + read_count e) (n + (compiled front m n Bool e).count) k a)
     (compiled front (m + read_count e + read_count a) (n + (compiled front m n Bool e).count + (compiled front (m + read_count e) (n + (compiled front m n Bool e).count) k a).count) k b))
-compiled front m n k Operation = constant k 0

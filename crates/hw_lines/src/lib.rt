@@ -1,5 +1,4 @@
-//! The modules of a circuit by their lines. Of a task's module: its nets, what each state does to them, and what a run of it
-//! is to do. Of the top: the ports, wires and instances that a program's parts are, and the modules of its design.
+//! The module of a task by its lines: its nets, what each state does to them, and what a run of it is to do.
 #![tactic(auto)]
 
 mod laws;

@@ -1,4 +1,3 @@
-pub mod Widest
 pub mod Grows
 pub mod Shapes
 pub mod Leaves

@@ -13,5 +13,5 @@ pub use atoms::{binary, choose, concat, copy, literal, low_bits, net, sign_of, w
 pub use choices::{add_any, add_pick, result_of, root};
 pub use entries::{Entry, add_found, entry_of};
 pub use names::{index_front, name, read_front, value_front};
-pub use numbers::{bits, power};
+pub use numbers::power;
 pub use shape::Shape;

@@ -8,7 +8,7 @@ ghost use Rattle.hw_lines.specs.Shape.{array_cells as array_cells_lem, array_kin
 ghost use Rattle.hw_lines.specs.Texts.{writes as writes_lem};
 ghost use Rattle.hw_nets.specs.Shapes.{form};
 
-use crate::numbers::{bits, bits_for};
+use hw_build::bits_for;
 use std::alloc::AllocError;
 use tapa_base::{Kind, narrow, number_at};
 use tapa_syntax::End;
@@ -168,7 +168,7 @@ impl<'a> Shape<'a> {
     pub fn token_bits(&self, s: u32) -> u32
         ensures { result ≡ bits_of (stream_kind_lem (form self.now) s) + 1 }
     {
-        bits(self.stream_kind(s)) + 1
+        self.stream_kind(s).token_bits()
     }
 }
 

@@ -16,3 +16,4 @@ pub mod Ports
 pub mod FirstArrays
 pub mod Parts
 pub mod Runs
+pub mod Asked

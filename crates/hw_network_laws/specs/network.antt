@@ -7,3 +7,4 @@ pub mod Cells
 pub mod Ports
 pub mod Parts
 pub mod Run
+pub mod Asked

@@ -4,7 +4,7 @@ ghost use Rattle.std.specs.Prelude.{◌≡◌, ◌≤◌, IfOk, true};
 ghost use Rattle.hw_lines.specs.Drivers.{conversion as conversion_lem, extended as extended_lem, resized as resized_lem, tested as tested_lem};
 
 use crate::drivers::{Driver, one};
-use hw_nets::{binary, bits, concat, copy, literal, low_bits, sign_of, wire};
+use hw_nets::{binary, concat, copy, literal, low_bits, sign_of, wire};
 use std::alloc::{AllocError, Global};
 use tapa_base::{Kind, Text};
 use vlog_tree::{Atom, BinaryOp, Value};
@@ -98,8 +98,8 @@ pub fn conversion(
 ) -> Result<Vec<Driver>, AllocError>
     ensures { IfOk result (λ v. v.items ≡ conversion_lem front.now first source target a.now) }
 {
-    let old = bits(source);
-    let new = bits(target);
+    let old = source.bits();
+    let new = target.bits();
     match target {
         Kind::Bool => tested(alloc, old, a),
         _ => resized(alloc, source.signed(), front, first, old, new, a),

@@ -9,7 +9,7 @@ ghost use Rattle.hw_lines.specs.Drivers.{as_wide as as_wide_lem, less as less_le
 use crate::arithmetic::{divided, is_negative, shift_count, shifted_right};
 use crate::comparisons::{as_wide, less, not_less};
 use crate::drivers::{Driver, one};
-use hw_nets::{binary, bits, copy};
+use hw_nets::{binary, copy};
 use std::alloc::{AllocError, Global};
 use tapa_base::{Kind, Op, Text};
 use vlog_tree::{Atom, BinaryOp};
@@ -98,8 +98,8 @@ pub fn operation(
 ) -> Result<Vec<Driver>, AllocError>
     ensures { IfOk result (λ v. v.items ≡ operation_lem front.now first op kind asked a.now b.now) }
 {
-    let width = bits(kind);
-    let wide = bits(asked);
+    let width = kind.bits();
+    let wide = asked.bits();
     let signed = kind.signed();
     match op {
         Op::Add => plain(alloc, width, BinaryOp::Plus, a, b),

@@ -17,7 +17,7 @@ ghost use Rattle.hw_nets.specs.Shapes.{form};
 
 use hw_build::Draft;
 use hw_lines::{Choice, Net};
-use hw_nets::{Shape, add_any, add_pick, bits, name, net, result_of};
+use hw_nets::{Shape, add_any, add_pick, name, net, result_of};
 use hw_states::{Operands, entries_of};
 use std::alloc::{AllocError, Global};
 use vlog_tree::Value;
@@ -68,7 +68,7 @@ fn add_variable_choices(
     requires { AreOperands (form shape.now) operands.now (state_count (form shape.now)) }
     ensures { IfOk result (λ u. draft.new ≡ with_all draft.old (variable_choices (form shape.now) r)) }
 {
-    let width = bits(shape.register_kind(r));
+    let width = shape.register_kind(r).bits();
     add_condition(alloc, draft, shape, operands, Choice::Set(r))?;
     add_value(alloc, draft, shape, operands, width, Choice::In(r))?;
     Ok(())
@@ -102,7 +102,7 @@ fn add_array_choices(
     ensures { IfOk result (λ u. draft.new ≡ with_all draft.old (array_choices (form shape.now) a)) }
 {
     let place = shape.index_bits(a);
-    let width = bits(shape.array_kind(a));
+    let width = shape.array_kind(a).bits();
     add_condition(alloc, draft, shape, operands, Choice::Stores(a))?;
     add_value(alloc, draft, shape, operands, place, Choice::Place(a))?;
     add_value(alloc, draft, shape, operands, width, Choice::Content(a))?;
@@ -262,7 +262,7 @@ fn add_memory_ports(
     requires { AreOperands (form shape.now) operands.now (state_count (form shape.now)) }
     ensures { IfOk result (λ u. draft.new ≡ with_all draft.old (Output 64 (name_lem (Addr m)) (result_lem (form shape.now) 64 (Asks m)) ∷ Output (bits_of (memory_kind_lem (form shape.now) m)) (name_lem (Wdata m)) (result_lem (form shape.now) (bits_of (memory_kind_lem (form shape.now) m)) (Data m)) ∷ Output 1 (name_lem (We m)) (result_lem (form shape.now) 1 (Saves m)) ∷ [])) }
 {
-    let width = bits(shape.memory_kind(m));
+    let width = shape.memory_kind(m).bits();
     let asks = Choice::Asks(m);
     let data = Choice::Data(m);
     let saves = Choice::Saves(m);
@@ -283,7 +283,7 @@ fn add_memory(
     requires { AreOperands (form shape.now) operands.now (state_count (form shape.now)) }
     ensures { IfOk result (λ u. draft.new ≡ with_all draft.old (memory_outputs (form shape.now) m)) }
 {
-    let width = bits(shape.memory_kind(m));
+    let width = shape.memory_kind(m).bits();
     add_value(alloc, draft, shape, operands, 64, Choice::Asks(m))?;
     add_condition(alloc, draft, shape, operands, Choice::Saves(m))?;
     add_value(alloc, draft, shape, operands, width, Choice::Data(m))?;

@@ -1,6 +1,6 @@
 -- How many reads an expression has.
 use Rattle.std.proofs.Common.{◌≡◌, ℕ, ◌+◌, List, [], ◌∷◌, ◌++◌, length, refl, arith, length-append}
-use Rattle.task_fsm.specs.Machine.{Expression, Number, Reg, CellOf, Converted, Applied, Flipped, Inverse, Both, Either, Chosen, Operation}
+use Rattle.task_fsm.specs.Machine.{Expression, Number, Reg, CellOf, Converted, Applied, Flipped, Inverse, Both, Either, Chosen}
 use Rattle.hw_lines.specs.Wires.{ArrayRead, read_count, reads_in}
 
 two : (xs ys : List ArrayRead) (a b : ℕ) → length xs ≡ a → length ys ≡ b → length (xs ++ ys) ≡ a + b
@@ -19,7 +19,6 @@ reads_length m (Either l r) = two (reads_in m l) (reads_in (m + read_count l) r)
 reads_length m (Chosen e a b) =
     two (reads_in m e) (reads_in (m + read_count e) a ++ reads_in (m + read_count e + read_count a) b) (read_count e) (read_count a + read_count b) (reads_length m e)
     (two (reads_in (m + read_count e) a) (reads_in (m + read_count e + read_count a) b) (read_count a) (read_count b) (reads_length (m + read_count e) a) (reads_length (m + read_count e + read_count a) b))
-reads_length m Operation = refl
 
 pub reads_total : (i v : Expression) → length (reads_in 0 i ++ reads_in (read_count i) v) ≡ read_count i + read_count v
 reads_total i v = two (reads_in 0 i) (reads_in (read_count i) v) (read_count i) (read_count v) (reads_length 0 i) (reads_length (read_count i) v)

@@ -1,6 +1,6 @@
 -- The atoms of each state's index and value.
 use Rattle.std.specs.Prelude.{◌≡◌, ℕ, List, [], ◌∷◌, map, Option, Some, None}
-use Rattle.tapa_syntax.specs.declared.program.Expr.{Expr}
+use Rattle.task_fsm.specs.declared.machine.Expr.{Expr}
 use Rattle.task_fsm.specs.Machine.{Expression, expression_of}
 use Rattle.vlog_tree.specs.declared.tree.Atom.{Atom}
 use Rattle.hw_build.specs.Scope.{each}

@@ -14,7 +14,7 @@ ghost use Rattle.hw_nets.specs.Shapes.{form};
 use crate::operands::{Operands, operands_of};
 use crate::states::number_of;
 use hw_lines::{Choice, Net};
-use hw_nets::{Entry, Shape, add_found, bits, copy, entry_of, literal, low_bits, name, net, power};
+use hw_nets::{Entry, Shape, add_found, copy, entry_of, literal, low_bits, name, net, power};
 use std::alloc::{AllocError, Global};
 use task_fsm::State;
 use vlog_tree::Atom;
@@ -25,7 +25,7 @@ fn datum_of(alloc: Global, shape: &Shape, stream: u32) -> Result<Atom, AllocErro
 {
     Ok(Atom::Part {
         net: name(alloc, Net::Dout(stream))?,
-        high: bits(shape.stream_kind(stream)).saturating_sub(1),
+        high: shape.stream_kind(stream).bits().saturating_sub(1),
         low: 0,
     })
 }
@@ -34,7 +34,7 @@ fn datum_of(alloc: Global, shape: &Shape, stream: u32) -> Result<Atom, AllocErro
 pub fn end_of_transaction(alloc: Global, shape: &Shape, stream: u32) -> Result<Atom, AllocError>
     ensures { IfOk result (λ a. a ≡ eot_of (form shape.now) stream) }
 {
-    let top = bits(shape.stream_kind(stream));
+    let top = shape.stream_kind(stream).bits();
     Ok(Atom::Part {
         net: name(alloc, Net::Dout(stream))?,
         high: top,
@@ -46,7 +46,7 @@ pub fn end_of_transaction(alloc: Global, shape: &Shape, stream: u32) -> Result<A
 fn end_of(shape: &Shape, stream: u32) -> Atom
     ensures { result ≡ end_token (form shape.now) stream }
 {
-    let datum = bits(shape.stream_kind(stream));
+    let datum = shape.stream_kind(stream).bits();
     literal(shape.token_bits(stream), power(datum))
 }
 
@@ -99,13 +99,10 @@ fn sets(
             let value = copy(alloc, &operands.value)?;
             entry_at(alloc, *reg, r, Net::At(k), value)
         }
-        State::Cell { .. } => Ok(None),
-        State::Test { .. } => Ok(None),
         State::Read { stream, into, .. } => {
             let value = datum_of(alloc, shape, *stream)?;
             entry_into(alloc, *into, r, Net::Go(k), value)
         }
-        State::Write { .. } => Ok(None),
         State::Peek { stream, into, .. } => {
             let value = datum_of(alloc, shape, *stream)?;
             entry_into(alloc, *into, r, Net::Go(k), value)
@@ -114,19 +111,15 @@ fn sets(
             let value = end_of_transaction(alloc, shape, *stream)?;
             entry_into(alloc, *into, r, Net::Go(k), value)
         }
-        State::Open { .. } => Ok(None),
-        State::Close { .. } => Ok(None),
         State::Load { memory, into, .. } => {
             let value = net(alloc, Net::Rdata(*memory))?;
             entry_into(alloc, *into, r, Net::Go(k), value)
         }
-        State::Store { .. } => Ok(None),
         State::Clear { count, .. } => {
             let value = net(alloc, Net::Value(k, 2))?;
             entry_at(alloc, *count, r, Net::At(k), value)
         }
-        State::End => Ok(None),
-        State::Trap => Ok(None),
+        _ => Ok(None),
     }
 }
 
@@ -143,27 +136,16 @@ fn places(
     ensures { IfOk result (λ o. entries_in o ≡ places (form shape.now) a k (form_of state.now)) }
 {
     match state {
-        State::Set { .. } => Ok(None),
         State::Cell { array, .. } => {
             let place = low_bits(alloc, shape.index_bits(a), &operands.index)?;
             entry_at(alloc, *array, a, Net::Into(k), place)
         }
-        State::Test { .. } => Ok(None),
-        State::Read { .. } => Ok(None),
-        State::Write { .. } => Ok(None),
-        State::Peek { .. } => Ok(None),
-        State::Eot { .. } => Ok(None),
-        State::Open { .. } => Ok(None),
-        State::Close { .. } => Ok(None),
-        State::Load { .. } => Ok(None),
-        State::Store { .. } => Ok(None),
         State::Clear { array, count, .. } => {
             let counter = net(alloc, Net::Variable(*count))?;
             let place = low_bits(alloc, shape.index_bits(a), &counter)?;
             entry_at(alloc, *array, a, Net::Into(k), place)
         }
-        State::End => Ok(None),
-        State::Trap => Ok(None),
+        _ => Ok(None),
     }
 }
 
@@ -180,26 +162,15 @@ fn contents(
     ensures { IfOk result (λ o. entries_in o ≡ contents (form shape.now) a k (form_of state.now)) }
 {
     match state {
-        State::Set { .. } => Ok(None),
         State::Cell { array, .. } => {
             let value = copy(alloc, &operands.value)?;
             entry_at(alloc, *array, a, Net::Into(k), value)
         }
-        State::Test { .. } => Ok(None),
-        State::Read { .. } => Ok(None),
-        State::Write { .. } => Ok(None),
-        State::Peek { .. } => Ok(None),
-        State::Eot { .. } => Ok(None),
-        State::Open { .. } => Ok(None),
-        State::Close { .. } => Ok(None),
-        State::Load { .. } => Ok(None),
-        State::Store { .. } => Ok(None),
         State::Clear { array, .. } => {
-            let zero = literal(bits(shape.array_kind(a)), 0);
+            let zero = literal(shape.array_kind(a).bits(), 0);
             entry_at(alloc, *array, a, Net::Into(k), zero)
         }
-        State::End => Ok(None),
-        State::Trap => Ok(None),
+        _ => Ok(None),
     }
 }
 
@@ -214,23 +185,12 @@ fn tokens(
     ensures { IfOk result (λ o. entries_in o ≡ tokens (form shape.now) s k (form_of state.now)) }
 {
     match state {
-        State::Set { .. } => Ok(None),
-        State::Cell { .. } => Ok(None),
-        State::Test { .. } => Ok(None),
-        State::Read { .. } => Ok(None),
         State::Write { stream, .. } => {
             let token = net(alloc, Net::Packed(k))?;
             entry_at(alloc, *stream, s, Net::At(k), token)
         }
-        State::Peek { .. } => Ok(None),
-        State::Eot { .. } => Ok(None),
-        State::Open { .. } => Ok(None),
         State::Close { stream, .. } => { entry_at(alloc, *stream, s, Net::At(k), end_of(shape, s)) }
-        State::Load { .. } => Ok(None),
-        State::Store { .. } => Ok(None),
-        State::Clear { .. } => Ok(None),
-        State::End => Ok(None),
-        State::Trap => Ok(None),
+        _ => Ok(None),
     }
 }
 
@@ -245,20 +205,9 @@ fn takings(
     ensures { IfOk result (λ o. entries_in o ≡ takings (form shape.now) s k (form_of state.now)) }
 {
     match state {
-        State::Set { .. } => Ok(None),
-        State::Cell { .. } => Ok(None),
-        State::Test { .. } => Ok(None),
         State::Read { stream, .. } => { entry_at(alloc, *stream, s, Net::Go(k), literal(1, 1)) }
-        State::Write { .. } => Ok(None),
-        State::Peek { .. } => Ok(None),
-        State::Eot { .. } => Ok(None),
         State::Open { stream, .. } => { entry_at(alloc, *stream, s, Net::Go(k), literal(1, 1)) }
-        State::Close { .. } => Ok(None),
-        State::Load { .. } => Ok(None),
-        State::Store { .. } => Ok(None),
-        State::Clear { .. } => Ok(None),
-        State::End => Ok(None),
-        State::Trap => Ok(None),
+        _ => Ok(None),
     }
 }
 
@@ -275,15 +224,6 @@ fn askings(
     ensures { IfOk result (λ o. entries_in o ≡ askings (form shape.now) m k (form_of state.now)) }
 {
     match state {
-        State::Set { .. } => Ok(None),
-        State::Cell { .. } => Ok(None),
-        State::Test { .. } => Ok(None),
-        State::Read { .. } => Ok(None),
-        State::Write { .. } => Ok(None),
-        State::Peek { .. } => Ok(None),
-        State::Eot { .. } => Ok(None),
-        State::Open { .. } => Ok(None),
-        State::Close { .. } => Ok(None),
         State::Load { memory, .. } => {
             let index = copy(alloc, &operands.index)?;
             entry_at(alloc, *memory, m, Net::At(k), index)
@@ -292,9 +232,7 @@ fn askings(
             let index = copy(alloc, &operands.index)?;
             entry_at(alloc, *memory, m, Net::At(k), index)
         }
-        State::Clear { .. } => Ok(None),
-        State::End => Ok(None),
-        State::Trap => Ok(None),
+        _ => Ok(None),
     }
 }
 
@@ -311,23 +249,11 @@ fn savings(
     ensures { IfOk result (λ o. entries_in o ≡ savings (form shape.now) m k (form_of state.now)) }
 {
     match state {
-        State::Set { .. } => Ok(None),
-        State::Cell { .. } => Ok(None),
-        State::Test { .. } => Ok(None),
-        State::Read { .. } => Ok(None),
-        State::Write { .. } => Ok(None),
-        State::Peek { .. } => Ok(None),
-        State::Eot { .. } => Ok(None),
-        State::Open { .. } => Ok(None),
-        State::Close { .. } => Ok(None),
-        State::Load { .. } => Ok(None),
         State::Store { memory, .. } => {
             let value = copy(alloc, &operands.value)?;
             entry_at(alloc, *memory, m, Net::At(k), value)
         }
-        State::Clear { .. } => Ok(None),
-        State::End => Ok(None),
-        State::Trap => Ok(None),
+        _ => Ok(None),
     }
 }
 
@@ -336,20 +262,8 @@ fn endings(alloc: Global, k: u32, state: &State) -> Result<Option<Entry>, AllocE
     ensures { IfOk result (λ o. entries_in o ≡ endings k (form_of state.now)) }
 {
     match state {
-        State::Set { .. } => Ok(None),
-        State::Cell { .. } => Ok(None),
-        State::Test { .. } => Ok(None),
-        State::Read { .. } => Ok(None),
-        State::Write { .. } => Ok(None),
-        State::Peek { .. } => Ok(None),
-        State::Eot { .. } => Ok(None),
-        State::Open { .. } => Ok(None),
-        State::Close { .. } => Ok(None),
-        State::Load { .. } => Ok(None),
-        State::Store { .. } => Ok(None),
-        State::Clear { .. } => Ok(None),
         State::End => entry_of(alloc, Net::At(k), literal(1, 1)),
-        State::Trap => Ok(None),
+        _ => Ok(None),
     }
 }
 
@@ -360,18 +274,9 @@ fn next_of(alloc: Global, shape: &Shape, k: u32, state: &State) -> Result<Atom, 
     match state {
         State::Set { next, .. } => number_of(shape, *next),
         State::Cell { next, .. } => number_of(shape, *next),
-        State::Test { .. } => net(alloc, Net::Next(k)),
-        State::Read { .. } => net(alloc, Net::Next(k)),
-        State::Write { .. } => net(alloc, Net::Next(k)),
-        State::Peek { .. } => net(alloc, Net::Next(k)),
-        State::Eot { .. } => net(alloc, Net::Next(k)),
-        State::Open { .. } => net(alloc, Net::Next(k)),
-        State::Close { .. } => net(alloc, Net::Next(k)),
-        State::Load { .. } => net(alloc, Net::Next(k)),
-        State::Store { .. } => net(alloc, Net::Next(k)),
-        State::Clear { .. } => net(alloc, Net::Next(k)),
         State::End => number_of(shape, k),
         State::Trap => number_of(shape, k),
+        _ => net(alloc, Net::Next(k)),
     }
 }
 

@@ -14,28 +14,17 @@ use hw_lines::Net;
 use hw_nets::Shape;
 use std::alloc::{AllocError, Global};
 use tapa_base::{Kind, plus};
-use tapa_syntax::Expr;
-use task_fsm::State;
+use task_fsm::{Expr, State};
 
 /// The index of a state.
 pub fn index_of(state: &State) -> Option<&Expr>
     ensures { expression_in (option_copied result) ≡ index_of_lem (form_of state.now) }
 {
     match state {
-        State::Set { .. } => None,
         State::Cell { index, .. } => Some(index),
-        State::Test { .. } => None,
-        State::Read { .. } => None,
-        State::Write { .. } => None,
-        State::Peek { .. } => None,
-        State::Eot { .. } => None,
-        State::Open { .. } => None,
-        State::Close { .. } => None,
         State::Load { index, .. } => Some(index),
         State::Store { index, .. } => Some(index),
-        State::Clear { .. } => None,
-        State::End => None,
-        State::Trap => None,
+        _ => None,
     }
 }
 
@@ -47,17 +36,9 @@ pub fn value_of(state: &State) -> Option<&Expr>
         State::Set { value, .. } => Some(value),
         State::Cell { value, .. } => Some(value),
         State::Test { test, .. } => Some(test),
-        State::Read { .. } => None,
         State::Write { value, .. } => Some(value),
-        State::Peek { .. } => None,
-        State::Eot { .. } => None,
-        State::Open { .. } => None,
-        State::Close { .. } => None,
-        State::Load { .. } => None,
         State::Store { value, .. } => Some(value),
-        State::Clear { .. } => None,
-        State::End => None,
-        State::Trap => None,
+        _ => None,
     }
 }
 
@@ -68,18 +49,9 @@ pub fn value_kind(shape: &Shape, state: &State) -> Kind
     match state {
         State::Set { reg, .. } => shape.register_kind(*reg),
         State::Cell { array, .. } => shape.array_kind(*array),
-        State::Test { .. } => Kind::Bool,
-        State::Read { .. } => Kind::Bool,
         State::Write { stream, .. } => shape.stream_kind(*stream),
-        State::Peek { .. } => Kind::Bool,
-        State::Eot { .. } => Kind::Bool,
-        State::Open { .. } => Kind::Bool,
-        State::Close { .. } => Kind::Bool,
-        State::Load { .. } => Kind::Bool,
         State::Store { memory, .. } => shape.memory_kind(*memory),
-        State::Clear { .. } => Kind::Bool,
-        State::End => Kind::Bool,
-        State::Trap => Kind::Bool,
+        _ => Kind::Bool,
     }
 }
 
@@ -139,9 +111,6 @@ pub fn awaited(state: &State) -> Option<Net>
     ensures { result ≡ awaited_lem (form_of state.now) }
 {
     match state {
-        State::Set { .. } => None,
-        State::Cell { .. } => None,
-        State::Test { .. } => None,
         State::Read { stream, .. } => Some(Net::Datum(*stream)),
         State::Write { stream, .. } => Some(Net::Rdy(*stream)),
         State::Peek { stream, .. } => Some(Net::Datum(*stream)),
@@ -150,9 +119,7 @@ pub fn awaited(state: &State) -> Option<Net>
         State::Close { stream, .. } => Some(Net::Rdy(*stream)),
         State::Load { memory, .. } => Some(Net::Ack(*memory)),
         State::Store { memory, .. } => Some(Net::Ack(*memory)),
-        State::Clear { .. } => None,
-        State::End => None,
-        State::Trap => None,
+        _ => None,
     }
 }
 
@@ -161,19 +128,11 @@ pub fn acts_late(state: &State) -> bool
     ensures { result ≡ acts_late_lem (form_of state.now) }
 {
     match state {
-        State::Set { .. } => false,
-        State::Cell { .. } => false,
-        State::Test { .. } => false,
         State::Read { .. } => true,
-        State::Write { .. } => false,
         State::Peek { into, .. } => into.is_some(),
         State::Eot { into, .. } => into.is_some(),
         State::Open { .. } => true,
-        State::Close { .. } => false,
         State::Load { into, .. } => into.is_some(),
-        State::Store { .. } => false,
-        State::Clear { .. } => false,
-        State::End => false,
-        State::Trap => false,
+        _ => false,
     }
 }

@@ -17,9 +17,7 @@ use crate::parts::{acts_late, awaited, index_of, index_reads, value_kind, value_
 use hw_build::{Draft, numbered};
 use hw_expressions::compile;
 use hw_lines::Net;
-use hw_nets::{
-    Shape, binary, bits, choose, concat, copy, index_front, literal, name, net, value_front,
-};
+use hw_nets::{Shape, binary, choose, concat, copy, index_front, literal, name, net, value_front};
 use std::alloc::{AllocError, Global};
 use tapa_base::{Kind, Text};
 use task_fsm::State;
@@ -75,7 +73,7 @@ fn add_value(
     let reads = index_reads(state)?;
     match value_of(state) {
         Some(value) => Ok(compile(alloc, draft, &front, 0, reads, kind, value)?.atom),
-        None => Ok(literal(bits(kind), 0)),
+        None => Ok(literal(kind.bits(), 0)),
     }
 }
 
@@ -151,8 +149,6 @@ fn add_next_wire(
     ensures { IfOk result (λ u. draft.new ≡ with_all draft.old (next_wires (form shape.now) k (form_of state.now))) }
 {
     match state {
-        State::Set { .. } => Ok(()),
-        State::Cell { .. } => Ok(()),
         State::Test { yes, no, .. } => {
             let test = copy(alloc, value)?;
             add_next(alloc, draft, shape, k, test, *yes, *no)
@@ -185,8 +181,7 @@ fn add_next_wire(
             let more = net(alloc, Net::Value(k, 0))?;
             add_next(alloc, draft, shape, k, more, k, *next)
         }
-        State::End => Ok(()),
-        State::Trap => Ok(()),
+        _ => Ok(()),
     }
 }
 
@@ -298,27 +293,17 @@ fn add_more(
     ensures { IfOk result (λ u. draft.new ≡ with_all draft.old (more_wires (form shape.now) k (form_of state.now))) }
 {
     match state {
-        State::Set { .. } => Ok(()),
         State::Cell { array, .. } => {
             let index = copy(alloc, &operands.index)?;
             add_into(alloc, draft, shape, k, *array, index, 64)
         }
-        State::Test { .. } => Ok(()),
-        State::Read { .. } => Ok(()),
         State::Write { stream, .. } => {
             add_packed(alloc, draft, shape, k, *stream, &operands.value)
         }
-        State::Peek { .. } => Ok(()),
-        State::Eot { .. } => Ok(()),
-        State::Open { .. } => Ok(()),
-        State::Close { .. } => Ok(()),
-        State::Load { .. } => Ok(()),
-        State::Store { .. } => Ok(()),
         State::Clear { array, count, .. } => {
             add_clearing(alloc, draft, shape, k, *array, *count)
         }
-        State::End => Ok(()),
-        State::Trap => Ok(()),
+        _ => Ok(()),
     }
 }
 

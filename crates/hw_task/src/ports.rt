@@ -11,7 +11,7 @@ ghost use Rattle.hw_nets.specs.Shapes.{form};
 
 use hw_build::Draft;
 use hw_lines::Net;
-use hw_nets::{Shape, binary, bits, name, net};
+use hw_nets::{Shape, binary, name, net};
 use hw_states::{add_wire, end_of_transaction};
 use std::alloc::{AllocError, Global};
 use vlog_tree::{BinaryOp, Value};
@@ -34,7 +34,7 @@ fn add_scalar(alloc: Global, draft: &mut Draft, shape: &Shape, i: u32) -> Result
     ensures { IfOk result (λ u. draft.new ≡ with_all draft.old (scalar_port (form shape.now) i)) }
 {
     let kind = shape.register_kind(shape.scalar(i));
-    add_input(alloc, draft, bits(kind), Net::Scalar(i))
+    add_input(alloc, draft, kind.bits(), Net::Scalar(i))
 }
 
 fn add_scalars(alloc: Global, draft: &mut Draft, shape: &Shape) -> Result<(), AllocError>
@@ -82,7 +82,7 @@ fn add_memory_inputs(
     ensures { IfOk result (λ u. draft.new ≡ with_all draft.old (memory_inputs (form shape.now) m)) }
 {
     add_input(alloc, draft, 1, Net::Ack(m))?;
-    add_input(alloc, draft, bits(shape.memory_kind(m)), Net::Rdata(m))
+    add_input(alloc, draft, shape.memory_kind(m).bits(), Net::Rdata(m))
 }
 
 fn add_memories(alloc: Global, draft: &mut Draft, shape: &Shape) -> Result<(), AllocError>
@@ -109,7 +109,12 @@ pub(crate) fn add_inputs(alloc: Global, draft: &mut Draft, shape: &Shape) -> Res
 fn add_variable(alloc: Global, draft: &mut Draft, shape: &Shape, r: u32) -> Result<(), AllocError>
     ensures { IfOk result (λ u. draft.new ≡ with_all draft.old (variable (form shape.now) r)) }
 {
-    add_register(alloc, draft, bits(shape.register_kind(r)), Net::Variable(r))
+    add_register(
+        alloc,
+        draft,
+        shape.register_kind(r).bits(),
+        Net::Variable(r),
+    )
 }
 
 fn add_variables(alloc: Global, draft: &mut Draft, shape: &Shape) -> Result<(), AllocError>
@@ -126,7 +131,7 @@ fn add_array(alloc: Global, draft: &mut Draft, shape: &Shape, a: u32) -> Result<
     ensures { IfOk result (λ u. draft.new ≡ with_all draft.old (array (form shape.now) a)) }
 {
     let name = name(alloc, Net::Array(a))?;
-    let width = bits(shape.array_kind(a));
+    let width = shape.array_kind(a).bits();
     draft.memory(alloc, width, name.bytes(), shape.array_cells(a))
 }
 

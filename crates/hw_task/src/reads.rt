@@ -25,8 +25,8 @@ use hw_build::Draft;
 use hw_expressions::{ArrayRead, compile};
 use hw_lines::{Choice, Net};
 use hw_nets::{
-    Entry, Shape, add_any, add_found, add_pick, binary, bits, choose, copy, entry_of, literal,
-    low_bits, name, net, read_front, root,
+    Entry, Shape, add_any, add_found, add_pick, binary, choose, copy, entry_of, literal, low_bits,
+    name, net, read_front, root,
 };
 use hw_states::{add_wire, reads_at, reads_count};
 use std::alloc::{AllocError, Global};
@@ -190,7 +190,7 @@ fn add_cell(
 ) -> Result<(), AllocError>
     ensures { IfOk result (λ u. draft.new ≡ with_all draft.old (Wire (bits_of (array_kind_lem (form shape.now) a)) (name_lem (Raw p a)) (CellValue (name_lem (Array a)) (choice_lem (front_lem (Spot p a)) (entry_forms found.now))) ∷ Wire (bits_of (array_kind_lem (form shape.now) a)) (name_lem (Answer p a)) (Choose (NetAtom (choice_lem (front_lem (Reads p a)) (entry_forms found.now))) (net_lem (Raw p a)) (Literal (bits_of (array_kind_lem (form shape.now) a)) 0)) ∷ [])) }
 {
-    let width = bits(shape.array_kind(a));
+    let width = shape.array_kind(a).bits();
     let cell = Value::Cell {
         memory: name(alloc, Net::Array(a))?,
         index: root(alloc, Choice::Spot(p, a), found)?,

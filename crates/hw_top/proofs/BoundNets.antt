@@ -14,8 +14,8 @@ use Rattle.vlog_tree.specs.Table.{Name}
 use Rattle.hw_build.specs.Elements.{Wire, with, with_all}
 use Rattle.hw_lines.specs.Drivers.{Driver, conversion, last_of, wires_of}
 use Rattle.hw_nets.proofs.Grows.{both}
-use Rattle.hw_lines.specs.top.Names.{bound_net}
-use Rattle.hw_lines.specs.top.Bounds.{converted_net, kind_before, conversion_step, bound_nets, bound_elements, conversions, bound_by}
+use Rattle.hw_top_lines.specs.Names.{bound_net}
+use Rattle.hw_top_lines.specs.Bounds.{converted_net, kind_before, conversion_step, bound_nets, bound_elements, conversions, bound_by}
 
 -- the wires of a conversion, and the net behind them
 pub converted_grows : (d e f : ModuleTree) (x old : Name) (source target : Kind) (drivers : List Driver) (a b : Atom) → a ≡ Net old → drivers ≡ conversion x 0 source target a

@@ -5,10 +5,10 @@ use Rattle.std.proofs.lemmas.Bool.{eq-eqb, ne_eqb}
 use Rattle.tapa_syntax.specs.declared.program.Program.{Program}
 use Rattle.tapa_syntax.specs.declared.program.Stream.{Stream}
 use Rattle.vlog_tree.specs.Form.{ModuleTree}
-use Rattle.hw_channel_laws.specs.modules.Texts.{step_tree, row_tree, plain_tree, relayed_tree, fifo_tree, AreRelays, One, More, AreModules, Alone, Relayed}
-use Rattle.hw_lines.specs.top.Channels.{relays_below, relays, channel_modules, with_new}
-use Rattle.hw_lines.specs.top.Designs.{stream_modules, channels_before}
-use Rattle.hw_lines.specs.top.Texts.{token_bits}
+use Rattle.hw_channel_lines.specs.Texts.{step_tree, row_tree, plain_tree, relayed_tree, fifo_tree, AreRelays, One, More, AreModules, Alone, Relayed}
+use Rattle.hw_top_lines.specs.Channels.{relays_below, relays, channel_modules, with_new}
+use Rattle.hw_top_lines.specs.Designs.{stream_modules, channels_before}
+use Rattle.hw_top_lines.specs.Texts.{token_bits}
 
 -- relays of so many steps are those on so many levels
 half_less : (steps levels : ℕ) → 1 < steps → steps ≤ suc levels → steps / 2 ≤ levels

@@ -11,9 +11,9 @@ use Rattle.vlog_tree.specs.Refused.{IsDesign}
 use Rattle.hw_build.specs.Elements.{empty}
 use Rattle.hw_build.proofs.Tables.{name_of_all}
 use Rattle.hw_lines.specs.Texts.{task_name}
-use Rattle.hw_lines.specs.top.Designs.{design_tree}
-use Rattle.hw_lines.specs.top.Legal.{IsReady}
-use Rattle.hw_lines.specs.top.Texts.{top_tree, top_elements}
+use Rattle.hw_top_lines.specs.Designs.{design_tree}
+use Rattle.hw_top_lines.specs.Legal.{IsReady}
+use Rattle.hw_top_lines.specs.Texts.{top_tree, top_elements}
 use Rattle.hw_top_laws.specs.modules.Lower.{lower_modules, KeepPromises}
 use Rattle.hw_top_laws.proofs.circuit.Circuit.{tops_have_scalars, tops_have_memories, tops_have_streams, designs_are_legal, designs_carry_streams, designs_carry_beside}
 use Rattle.hw_top.specs.Kept.{IsKept}

@@ -7,10 +7,10 @@ use Rattle.tapa_syntax.specs.declared.program.Program.{Program}
 use Rattle.vlog_tree.specs.declared.tree.Connection.{Connection}
 use Rattle.vlog_tree.specs.Table.{Name}
 use Rattle.hw_build.specs.Scope.{each}
-use Rattle.hw_channel_laws.specs.modules.Texts.{joined_to}
+use Rattle.hw_channel_lines.specs.Texts.{joined_to}
 use Rattle.hw_lines.specs.Texts.{is_written}
 use Rattle.hw_nets.proofs.Grows.{each_next}
-use Rattle.hw_lines.specs.top.Texts.{stream_label, written_ends, read_ends, stream_ends}
+use Rattle.hw_top_lines.specs.Texts.{stream_label, written_ends, read_ends, stream_ends}
 
 -- one part more
 pub part_more : {A : Type 0} (xs ys zs : List A) (f : ℕ → List A) (n : ℕ) → ys ≡ xs ++ each f n → zs ≡ ys ++ f n → zs ≡ xs ++ each f (n + 1)

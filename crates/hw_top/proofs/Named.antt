@@ -5,7 +5,7 @@ use Rattle.std.specs.List.{remove}
 use Rattle.vlog_tree.specs.Form.{ModuleTree}
 use Rattle.vlog_tree.specs.Table.{Name, module_named, is_module_name}
 use Rattle.vlog_scope.specs.NameTable.{Places, with_name}
-use Rattle.hw_lines.specs.top.Channels.{with_one, with_new}
+use Rattle.hw_top_lines.specs.Channels.{with_one, with_new}
 
 -- ---- one module
 

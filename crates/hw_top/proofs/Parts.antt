@@ -9,9 +9,9 @@ use Rattle.vlog_tree.specs.declared.tree.Connection.{Connection}
 use Rattle.vlog_tree.specs.Form.{ModuleTree}
 use Rattle.vlog_tree.specs.Table.{Name}
 use Rattle.hw_build.specs.Elements.{Element, Instance as InstanceElement, with, with_all}
-use Rattle.hw_channel_laws.specs.modules.Names.{channel_name}
-use Rattle.hw_lines.specs.top.Names.{channel_instance}
-use Rattle.hw_lines.specs.top.Texts.{token_bits, of_leaf, of_instance, at_instance, channel_ends, channel_part}
+use Rattle.hw_channel_lines.specs.Names.{channel_name}
+use Rattle.hw_top_lines.specs.Names.{channel_instance}
+use Rattle.hw_top_lines.specs.Texts.{token_bits, of_leaf, of_instance, at_instance, channel_ends, channel_part}
 
 -- an instance of a leaf
 pub part_at : (program : Program) (f : ℕ → Instance → Leaf → List Element) (i : ℕ) (x : Instance) (leaf : Leaf) → slice_get program.instances.items i ≡ Some x → slice_get program.bodies.items x.body ≡ Some leaf

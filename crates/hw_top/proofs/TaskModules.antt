@@ -14,8 +14,10 @@ use Rattle.vlog_tree.specs.Form.{ModuleTree}
 use Rattle.vlog_tree.specs.Names.{goes_on}
 use Rattle.vlog_tree.specs.Table.{Name}
 use Rattle.hw_lines.specs.Texts.{task_tree}
-use Rattle.hw_lines.specs.top.Designs.{is_used, leaf_module, machine_module, used_module}
-use Rattle.hw_lines.specs.top.Legal.{AreMachinesOf, AreWritten, task_names}
+use Rattle.hw_top_lines.specs.Designs.{is_used, leaf_module, machine_module, used_module}
+use Rattle.hw_top_lines.specs.Legal.{AreMachinesOf}
+use Rattle.tapa_syntax.specs.OwnNames.{AreWritten, task_names}
+use Rattle.hw_top_laws.proofs.names.Written.{label_goes_on}
 use Rattle.hw_task.specs.Promise.{IsOfLeaf, KeepsPromise}
 use Rattle.hw_top.specs.Kept.{IsKept, IsOfBody}
 
@@ -71,7 +73,7 @@ unused_kept program machines b unused = record { promise = λ l m r s used. absu
 
 named_leaf : (program : Program) → AreWritten (task_names program) → (b : ℕ) (leaf : Leaf) → slice_get program.bodies.items b ≡ Some leaf → list_all goes_on leaf.name ≡ true
 named_leaf program written b leaf at =
-    (written (suc b) leaf.name (slice_get-map (λ (l : Leaf). l.name) program.bodies.items b ∙ ap (λ o. option_map (λ (l : Leaf). l.name) o) at)).0
+    label_goes_on leaf.name (written (suc b) leaf.name (slice_get-map (λ (l : Leaf). l.name) program.bodies.items b ∙ ap (λ o. option_map (λ (l : Leaf). l.name) o) at)).0
 
 pub of_bodies : (program : Program) (machines : List Fsm) → IsWellFormed program → AreWritten (task_names program) → AreMachinesOf program machines → (b : ℕ) → IsOfBody program machines b
 of_bodies program machines well written are b = record {

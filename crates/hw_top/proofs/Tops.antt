@@ -10,11 +10,11 @@ use Rattle.hw_build.specs.Elements.{Output, with_all}
 use Rattle.hw_build.specs.Trees.{numbered, tree_nodes, tree_root}
 use Rattle.hw_build.specs.Scope.{each}
 use Rattle.hw_nets.proofs.Grows.{both}
-use Rattle.hw_lines.specs.top.Names.{waits}
+use Rattle.hw_top_lines.specs.Names.{waits}
 use Rattle.hw_lines.specs.Texts.{task_name}
 use Rattle.hw_task_laws.proofs.names.Lined.{lines_count}
-use Rattle.hw_lines.specs.top.Legal.{IsCountable}
-use Rattle.hw_lines.specs.top.Texts.{doneness, none_waits, top_elements, top_tree, waiting}
+use Rattle.hw_top_lines.specs.Legal.{IsCountable}
+use Rattle.hw_top_lines.specs.Texts.{doneness, none_waits, top_elements, top_tree, waiting}
 
 -- of some instances
 some_wait : (n : ℕ) → (n ≡ 0 → ⊥) → Invert (Net (tree_root waits n)) ≡ none_waits n

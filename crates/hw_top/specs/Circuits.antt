@@ -8,7 +8,7 @@ use Rattle.vlog_tree.specs.Environment.{Environment, FitsShape, RunsIn, shape_of
 use Rattle.vlog_tree.specs.Form.{ModuleTree}
 use Rattle.vlog_tree.specs.Refused.{IsDesign}
 use Rattle.hw_lines.specs.Texts.{task_name}
-use Rattle.hw_lines.specs.top.Legal.{scalar_ports, memory_ports, stream_ports}
+use Rattle.hw_top_lines.specs.Legal.{scalar_ports, memory_ports, stream_ports}
 use Rattle.hw_top_laws.specs.kahn.Carries.{CarriesStreams, CarriesBeside}
 
 -- A design that breaks no rule, with a top of the program's name, whose scalars, memories and streams are the program's in order,

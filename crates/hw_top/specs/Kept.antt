@@ -4,7 +4,7 @@ use Rattle.tapa_syntax.specs.declared.program.Leaf.{Leaf}
 use Rattle.tapa_syntax.specs.declared.program.Program.{Program}
 use Rattle.task_fsm.specs.declared.machine.Fsm.{Fsm}
 use Rattle.hw_lines.specs.Texts.{task_tree}
-use Rattle.hw_lines.specs.top.Designs.{is_used}
+use Rattle.hw_top_lines.specs.Designs.{is_used}
 use Rattle.hw_task.specs.Promise.{IsOfLeaf, KeepsPromise}
 
 -- body b and its machine belong together

@@ -8,13 +8,13 @@ ghost use Rattle.vlog_tree.specs.declared.tree.Value.TheVariants.{Plain};
 ghost use Rattle.vlog_tree.specs.Labels.{scalar as scalar_lem};
 ghost use Rattle.hw_build.specs.Elements.{Wire, with, with_all};
 ghost use Rattle.hw_build.specs.Scope.{each};
-ghost use Rattle.hw_lines.specs.top.Names.{bound_net as bound_net_lem};
-ghost use Rattle.hw_lines.specs.top.Bounds.{scalar_kind as scalar_kind_lem, scalar_name as scalar_name_lem, parameter_kind as parameter_kind_lem, converted_net, kind_before as kind_before_lem, conversions as conversions_lem, conversion_step, bound_nets, bound_elements, bound_by as bound_by_lem, parameters};
+ghost use Rattle.hw_top_lines.specs.Names.{bound_net as bound_net_lem};
+ghost use Rattle.hw_top_lines.specs.Bounds.{scalar_kind as scalar_kind_lem, scalar_name as scalar_name_lem, parameter_kind as parameter_kind_lem, converted_net, kind_before as kind_before_lem, conversions as conversions_lem, conversion_step, bound_nets, bound_elements, bound_by as bound_by_lem, parameters};
 
 use crate::names::{bound_net, scalar};
 use hw_build::{Draft, net_value};
 use hw_expressions::add_wires;
-use hw_nets::{bits, literal};
+use hw_nets::literal;
 use hw_operators::{conversion, last};
 use std::alloc::{AllocError, Global};
 use tapa_base::{Kind, Text, narrow, number_at, plus};
@@ -81,7 +81,7 @@ fn add_converted(
     let drivers = conversion(alloc, net, 0, source, target, &atom)?;
     let converted = last(alloc, net, 0, &drivers, &atom)?;
     add_wires(alloc, draft, net, 0, drivers)?;
-    draft.wire(alloc, bits(target), net.bytes(), Value::Plain(converted))?;
+    draft.wire(alloc, target.bits(), net.bytes(), Value::Plain(converted))?;
     Ok(())
 }
 
@@ -133,8 +133,8 @@ fn add_constant(
     ensures { IfOk result (λ u. draft.new ≡ with draft.old (Wire (bits_of kind) (bound_net_lem i p 0) (Plain (Literal (bits_of kind) n)))) }
 {
     let net = bound_net(alloc, i, p, 0)?;
-    let value = Value::Plain(literal(bits(kind), u128::from(n)));
-    draft.wire(alloc, bits(kind), net.bytes(), value)
+    let value = Value::Plain(literal(kind.bits(), u128::from(n)));
+    draft.wire(alloc, kind.bits(), net.bytes(), value)
 }
 
 fn add_scalar(
@@ -150,7 +150,7 @@ fn add_scalar(
     let net = bound_net(alloc, i, p, 0)?;
     let port = scalar(alloc, &scalar_name(alloc, program, x)?)?;
     let value = net_value(alloc, port.bytes())?;
-    draft.wire(alloc, bits(scalar_kind(program, x)), net.bytes(), value)
+    draft.wire(alloc, scalar_kind(program, x).bits(), net.bytes(), value)
 }
 
 // The nets of a parameter that is bound to a scalar of the top task.

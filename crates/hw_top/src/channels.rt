@@ -2,12 +2,11 @@
 
 ghost use Rattle.std.specs.Prelude.{◌≡◌, ◌≤◌, IfOk, OnOk, length, slice_get, slice_index};
 ghost use Rattle.tapa_syntax.specs.WellFormed.{IsWellFormed};
-ghost use Rattle.hw_lines.specs.top.Channels.{channel_modules as channel_modules_lem, with_new, with_one};
-ghost use Rattle.hw_lines.specs.top.Designs.{AreShort, channels_before, stream_modules};
-ghost use Rattle.hw_lines.specs.top.Texts.{token_bits as token_bits_lem};
+ghost use Rattle.hw_top_lines.specs.Channels.{channel_modules as channel_modules_lem, with_new, with_one};
+ghost use Rattle.hw_top_lines.specs.Designs.{AreShort, channels_before, stream_modules};
+ghost use Rattle.hw_top_lines.specs.Texts.{token_bits as token_bits_lem};
 ghost use Rattle.hw_top.specs.Places.{ArePlaces};
 
-use crate::wires::token_bits;
 use cross_pipe::channel;
 use std::alloc::{AllocError, Global};
 use std::collections::HashMap;
@@ -60,7 +59,7 @@ fn channel_modules(alloc: Global, stream: &Stream, late: u32) -> Result<Vec<Modu
     requires late { late ≤ 500000 }
     ensures { IfOk result (λ ms. ms.items ≡ channel_modules_lem (token_bits_lem stream.now.kind) stream.now.depth late) }
 {
-    channel(alloc, token_bits(stream.kind), stream.depth, late)
+    channel(alloc, stream.kind.token_bits(), stream.depth, late)
 }
 
 fn add_channel(

@@ -3,11 +3,10 @@
 ghost use Rattle.std.specs.Prelude.{◌≡◌, ◌++◌, IfOk, length, slice_get, slice_index};
 ghost use Rattle.hw_build.specs.Elements.{with_all};
 ghost use Rattle.hw_build.specs.Scope.{each};
-ghost use Rattle.hw_lines.specs.top.Texts.{at_instance, channel_part, instances, task_part};
+ghost use Rattle.hw_top_lines.specs.Texts.{at_instance, channel_part, instances, task_part};
 
 use crate::ends::{channel_ends, task_ends};
 use crate::names::{channel_instance, channel_name, task_instance, task_name};
-use crate::wires::token_bits;
 use hw_build::Draft;
 use std::alloc::{AllocError, Global};
 use tapa_base::{narrow, number_at};
@@ -54,7 +53,7 @@ fn add_channel(
 {
     match program.streams.get(s as usize) {
         Some(r) => {
-            let module = channel_name(alloc, token_bits(r.kind), r.depth, number_at(added, s))?;
+            let module = channel_name(alloc, r.kind.token_bits(), r.depth, number_at(added, s))?;
             let name = channel_instance(alloc, &r.label)?;
             let ends = channel_ends(alloc, &r.label)?;
             draft.instance(module, name, ends)

@@ -2,7 +2,7 @@
 
 ghost use Rattle.std.specs.Prelude.{IfOk};
 ghost use Rattle.tapa_syntax.specs.WellFormed.{IsWellFormed};
-ghost use Rattle.hw_lines.specs.top.Legal.{AreMachinesOf};
+ghost use Rattle.hw_top_lines.specs.Legal.{AreMachinesOf};
 
 use std::alloc::Global;
 use tapa_base::{OutOfMemory, narrow};

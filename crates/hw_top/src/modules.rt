@@ -4,9 +4,10 @@ ghost use Rattle.std.specs.Prelude.{◌≡◌, ℕ, ◌++◌, ◌∷◌, [], IfO
 ghost use Rattle.tapa_syntax.specs.WellFormed.{IsWellFormed};
 ghost use Rattle.vlog_tree.specs.Form.{IsModule};
 ghost use Rattle.hw_lines.specs.Texts.{task_tree};
-ghost use Rattle.hw_lines.specs.top.Designs.{AreShort, design_tree, is_used as is_used_lem, leaf_module, task_modules, used_module};
-ghost use Rattle.hw_lines.specs.top.Legal.{AreMachinesOf, AreWritten, IsCountable, task_names};
-ghost use Rattle.hw_lines.specs.top.Texts.{top_tree};
+ghost use Rattle.hw_top_lines.specs.Designs.{AreShort, design_tree, is_used as is_used_lem, leaf_module, task_modules, used_module};
+ghost use Rattle.hw_top_lines.specs.Legal.{AreMachinesOf, IsCountable};
+ghost use Rattle.tapa_syntax.specs.OwnNames.{AreWritten, task_names};
+ghost use Rattle.hw_top_lines.specs.Texts.{top_tree};
 ghost use Rattle.hw_task.specs.Promise.{IsOfLeaf, KeepsPromise};
 ghost use Rattle.hw_top.specs.Kept.{IsKept, IsOfBody};
 

@@ -3,9 +3,9 @@
 ghost use Rattle.std.specs.Prelude.{◌≡◌, ◌++◌, IfOk, codes};
 ghost use Rattle.std.specs.Str.{IsAscii};
 ghost use Rattle.vlog_tree.specs.Labels.{scalar as scalar_lem, m_ack as ack_lem, m_rdata as rdata_lem, m_addr as addr_lem, m_wdata as wdata_lem, m_we as we_lem, s_din as din_lem, s_wr as wr_lem, s_rdy as rdy_lem, done as done_lem};
-ghost use Rattle.hw_channel_laws.specs.modules.Names.{channel_name as channel_name_lem};
+ghost use Rattle.hw_channel_lines.specs.Names.{channel_name as channel_name_lem};
 ghost use Rattle.hw_lines.specs.Texts.{task_name as task_name_lem};
-ghost use Rattle.hw_lines.specs.top.Names.{s_has as has_lem, s_dout as dout_lem, s_take as take_lem, task_instance as task_instance_lem, channel_instance as channel_instance_lem, ended_net as ended_lem, waits as waits_lem, bound_net as bound_lem};
+ghost use Rattle.hw_top_lines.specs.Names.{s_has as has_lem, s_dout as dout_lem, s_take as take_lem, task_instance as task_instance_lem, channel_instance as channel_instance_lem, ended_net as ended_lem, waits as waits_lem, bound_net as bound_lem};
 
 use hw_build::{numbered, text};
 use std::alloc::{AllocError, Global};
@@ -106,7 +106,7 @@ pub fn rdy(alloc: Global, label: &Text) -> Result<Text, AllocError>
 }
 
 /// The wire that says whether a stream has a token.
-#[tactic(auto, unfolding(hw_lines::specs::top::Names::s_has))]
+#[tactic(auto, unfolding(hw_top_lines::specs::Names::s_has))]
 pub fn has(alloc: Global, label: &Text) -> Result<Text, AllocError>
     ensures { IfOk result (λ t. t ≡ has_lem label.now) }
 {
@@ -114,7 +114,7 @@ pub fn has(alloc: Global, label: &Text) -> Result<Text, AllocError>
 }
 
 /// The wire with the token that a stream has.
-#[tactic(auto, unfolding(hw_lines::specs::top::Names::s_dout))]
+#[tactic(auto, unfolding(hw_top_lines::specs::Names::s_dout))]
 pub fn dout(alloc: Global, label: &Text) -> Result<Text, AllocError>
     ensures { IfOk result (λ t. t ≡ dout_lem label.now) }
 {
@@ -122,7 +122,7 @@ pub fn dout(alloc: Global, label: &Text) -> Result<Text, AllocError>
 }
 
 /// The wire that says whether the token of a stream is taken.
-#[tactic(auto, unfolding(hw_lines::specs::top::Names::s_take))]
+#[tactic(auto, unfolding(hw_top_lines::specs::Names::s_take))]
 pub fn take(alloc: Global, label: &Text) -> Result<Text, AllocError>
     ensures { IfOk result (λ t. t ≡ take_lem label.now) }
 {
@@ -130,7 +130,7 @@ pub fn take(alloc: Global, label: &Text) -> Result<Text, AllocError>
 }
 
 /// The instance of a task, by its label.
-#[tactic(auto, unfolding(hw_lines::specs::top::Names::task_instance))]
+#[tactic(auto, unfolding(hw_top_lines::specs::Names::task_instance))]
 pub fn task_instance(alloc: Global, label: &Text) -> Result<Text, AllocError>
     ensures { IfOk result (λ t. t ≡ task_instance_lem label.now) }
 {
@@ -138,7 +138,7 @@ pub fn task_instance(alloc: Global, label: &Text) -> Result<Text, AllocError>
 }
 
 /// The instance of a channel, by the label of its stream.
-#[tactic(auto, unfolding(hw_lines::specs::top::Names::channel_instance))]
+#[tactic(auto, unfolding(hw_top_lines::specs::Names::channel_instance))]
 pub fn channel_instance(alloc: Global, label: &Text) -> Result<Text, AllocError>
     ensures { IfOk result (λ t. t ≡ channel_instance_lem label.now) }
 {
@@ -153,7 +153,7 @@ pub fn task_name(alloc: Global, name: &Text) -> Result<Text, AllocError>
 }
 
 /// The outermost module of a channel for tokens of so many bits, by its depth and its added latency.
-#[tactic(auto, unfolding(hw_channel_laws::specs::modules::Names::channel_name, hw_build::specs::Trees::numbered))]
+#[tactic(auto, unfolding(hw_channel_lines::specs::Names::channel_name, hw_build::specs::Trees::numbered))]
 pub fn channel_name(alloc: Global, bits: u32, depth: u32, late: u32) -> Result<Text, AllocError>
     ensures { IfOk result (λ t. t ≡ channel_name_lem bits depth late) }
 {
@@ -163,7 +163,7 @@ pub fn channel_name(alloc: Global, bits: u32, depth: u32, late: u32) -> Result<T
 }
 
 /// The net that says whether an instance has ended.
-#[tactic(auto, unfolding(hw_lines::specs::top::Names::ended_net))]
+#[tactic(auto, unfolding(hw_top_lines::specs::Names::ended_net))]
 pub fn ended_net(alloc: Global, i: u32) -> Result<Text, AllocError>
     ensures { IfOk result (λ t. t ≡ ended_lem i) }
 {
@@ -171,7 +171,7 @@ pub fn ended_net(alloc: Global, i: u32) -> Result<Text, AllocError>
 }
 
 /// The front of the names of the nets that say which instances are waited for.
-#[tactic(auto, unfolding(hw_lines::specs::top::Names::waits))]
+#[tactic(auto, unfolding(hw_top_lines::specs::Names::waits))]
 pub fn waits(alloc: Global) -> Result<Text, AllocError>
     ensures { IfOk result (λ t. t ≡ waits_lem) }
 {
@@ -187,7 +187,7 @@ pub fn done(alloc: Global) -> Result<Text, AllocError>
 }
 
 /// The net with the value of scalar parameter `p` of instance `i` after so many conversions.
-#[tactic(auto, unfolding(hw_lines::specs::top::Names::bound_net))]
+#[tactic(auto, unfolding(hw_top_lines::specs::Names::bound_net))]
 pub(crate) fn bound_net(alloc: Global, i: u32, p: u32, steps: u32) -> Result<Text, AllocError>
     ensures { IfOk result (λ t. t ≡ bound_lem i p steps) }
 {

@@ -3,11 +3,10 @@
 ghost use Rattle.std.specs.Prelude.{◌≡◌, ◌++◌, IfOk, length, slice_get};
 ghost use Rattle.hw_build.specs.Elements.{with_all};
 ghost use Rattle.hw_build.specs.Scope.{each};
-ghost use Rattle.hw_lines.specs.top.Texts.{scalar_port, memory_ports, ports};
+ghost use Rattle.hw_top_lines.specs.Texts.{scalar_port, memory_ports, ports};
 
 use crate::names::{ack, addr, rdata, scalar, wdata, we};
 use hw_build::Draft;
-use hw_nets::bits;
 use std::alloc::{AllocError, Global};
 use tapa_base::narrow;
 use tapa_syntax::Program;
@@ -18,7 +17,7 @@ fn add_scalar(alloc: Global, draft: &mut Draft, program: &Program, x: u32) -> Re
     match program.scalars.get(x as usize) {
         Some(c) => {
             let port = scalar(alloc, &c.name)?;
-            draft.input(alloc, bits(c.kind), port.bytes())
+            draft.input(alloc, c.kind.bits(), port.bytes())
         }
         None => Ok(()),
     }
@@ -29,7 +28,7 @@ fn add_memory(alloc: Global, draft: &mut Draft, program: &Program, m: u32) -> Re
 {
     match program.memories.get(m as usize) {
         Some(memory) => {
-            let width = bits(memory.kind);
+            let width = memory.kind.bits();
             draft.outlet(alloc, 64, addr(alloc, &memory.name)?.bytes())?;
             draft.outlet(alloc, width, wdata(alloc, &memory.name)?.bytes())?;
             draft.outlet(alloc, 1, we(alloc, &memory.name)?.bytes())?;

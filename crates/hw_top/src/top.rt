@@ -3,8 +3,8 @@
 ghost use Rattle.std.specs.Prelude.{◌≡◌, ◌≤◌, IfOk, OnOk, length};
 ghost use Rattle.vlog_tree.specs.Form.{IsModule};
 ghost use Rattle.hw_build.specs.Elements.{with_all};
-ghost use Rattle.hw_lines.specs.top.Legal.{IsCountable};
-ghost use Rattle.hw_lines.specs.top.Texts.{top_elements, top_tree};
+ghost use Rattle.hw_top_lines.specs.Legal.{IsCountable};
+ghost use Rattle.hw_top_lines.specs.Texts.{top_elements, top_tree};
 
 use crate::instances::add_instances;
 use crate::names::task_name;

@@ -2,8 +2,9 @@
 
 ghost use Rattle.std.specs.Prelude.{IfOk};
 ghost use Rattle.tapa_syntax.specs.WellFormed.{IsWellFormed};
-ghost use Rattle.hw_lines.specs.top.Designs.{AreShort};
-ghost use Rattle.hw_lines.specs.top.Legal.{AreMachinesOf, HasOwnNames};
+ghost use Rattle.hw_top_lines.specs.Designs.{AreShort};
+ghost use Rattle.hw_top_lines.specs.Legal.{AreMachinesOf};
+ghost use Rattle.tapa_syntax.specs.OwnNames.{HasOwnNames};
 ghost use Rattle.hw_top.specs.Circuits.{IsCircuitOf};
 
 use crate::modules::modules_of;

@@ -5,35 +5,25 @@ ghost use Rattle.hw_build.specs.Elements.{Output, with_all};
 ghost use Rattle.hw_build.specs.Trees.{tree_nodes};
 ghost use Rattle.hw_build.specs.Scope.{each};
 ghost use Rattle.vlog_tree.specs.Labels.{done as done_lem};
-ghost use Rattle.hw_lines.specs.top.Names.{waits as waits_lem};
-ghost use Rattle.hw_lines.specs.top.Bounds.{parameters};
-ghost use Rattle.hw_lines.specs.top.Texts.{at_instance, doneness, ended_wire, is_detached as is_detached_lem, none_waits as none_waits_lem, still_waits as still_waits_lem, stream_wires, take_wire, token_bits as token_bits_lem, waiting, wires};
+ghost use Rattle.hw_top_lines.specs.Names.{waits as waits_lem};
+ghost use Rattle.hw_top_lines.specs.Bounds.{parameters};
+ghost use Rattle.hw_top_lines.specs.Texts.{at_instance, doneness, ended_wire, is_detached as is_detached_lem, none_waits as none_waits_lem, still_waits as still_waits_lem, stream_wires, take_wire, waiting, wires};
 
 use crate::bounds::add_parameters;
 use crate::names::{din, done, dout, ended_net, has, rdy, take, waits, wr};
 use hw_build::{Draft, net, numbered};
-use hw_nets::{bits, literal};
+use hw_nets::literal;
 use std::alloc::{AllocError, Global};
 use tapa_base::{Kind, narrow};
 use tapa_syntax::Program;
 use vlog_tree::{Atom, Value};
-
-/// The bits of a token: those of its datum, and one that says whether it is the end of a transaction.
-#[tactic(auto, using(hw_task_laws::proofs::wires::Shown::some_bits))]
-pub fn token_bits(kind: Kind) -> u32
-    ensures value { result ≡ token_bits_lem kind }
-    ensures least { 2 ≤ result }
-    ensures most { result ≤ 65 }
-{
-    bits(kind) + 1
-}
 
 fn add_stream(alloc: Global, draft: &mut Draft, program: &Program, s: u32) -> Result<(), AllocError>
     ensures { IfOk result (λ u. draft.new ≡ with_all draft.old (stream_wires (slice_get program.now.streams.items s))) }
 {
     match program.streams.get(s as usize) {
         Some(r) => {
-            let width = token_bits(r.kind);
+            let width = r.kind.token_bits();
             draft.link(alloc, width, din(alloc, &r.label)?.bytes())?;
             draft.link(alloc, 1, wr(alloc, &r.label)?.bytes())?;
             draft.link(alloc, 1, rdy(alloc, &r.label)?.bytes())?;

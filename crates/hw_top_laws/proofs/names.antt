@@ -1,4 +1,5 @@
 pub mod Made
+pub mod Written
 pub mod Named
 pub mod Bound
 pub mod Top

@@ -1,3 +1,4 @@
 pub mod Clock
+pub mod Asked
 pub mod Carries
 pub mod Excluded

@@ -29,6 +29,14 @@ scalars_of input = input.scalars.items
 abbrev pub memories_of : Input → List (List ℕ)
 memories_of input = map (λ (m : Vec ℕ Global). m.items) input.memories.items
 
+-- what a program runs on: the values of the top task's scalars, and the first cells of its memories, in their order
+pub record Values : Type 0 where
+  pub scalars : List ℕ
+  pub memories : List (List ℕ)
+
+abbrev pub values_of : Input → Values
+values_of input = record { scalars = scalars_of input; memories = memories_of input }
+
 -- the network of a program on an input
 abbrev pub network_on : Program → Input → Network
 network_on program input = network_of program (scalars_of input) (memories_of input)

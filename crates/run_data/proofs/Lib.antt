@@ -1,8 +1,10 @@
 pub mod Faults
 pub mod Fits
+pub mod Given
+pub mod Joining
 pub mod Lists
-pub mod OneLine
 pub mod Names
 pub mod Numbers
-pub mod Given
+pub mod OneLine
+pub mod Showing
 pub mod Views

@@ -1,4 +1,5 @@
 pub mod Answer
 pub mod Data
+pub mod Lines
 pub mod Report
 pub mod Seen

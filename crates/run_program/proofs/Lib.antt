@@ -1,9 +1,7 @@
 pub mod LastCells
-pub mod Lines
 pub mod OneWay
 pub mod Running
-pub mod Showing
+pub mod Sending
 pub mod Starting
 pub mod Totalling
 pub mod Waiting
-pub mod Sending

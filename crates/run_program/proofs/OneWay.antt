@@ -29,7 +29,8 @@ use Rattle.run_data.specs.declared.lines.Last.{Last}
 use Rattle.run_data.specs.declared.lines.Last.TheVariants as last_line_of
 use Rattle.run_program.specs.Laws.{RunMeaning, Done, Stopped, Limit, Runs}
 use Rattle.net_core.specs.Bindings.{detached_at}
-use Rattle.run_program.specs.Run.{Values, network, ticks_of, tokens_at, hides_stores, cells_shown, stream_lines, memory_lines, lines_at, report_of, label_of, read_line, write_line, bad_line, IsWaitLine, AreWaitLines, DoneRun, StoppedRun, LimitRun}
+use Rattle.run_program.specs.Run.{network, ticks_of, tokens_at, hides_stores, cells_shown, stream_lines, memory_lines, lines_at, report_of, label_of, read_line, write_line, bad_line, IsWaitLine, AreWaitLines, DoneRun, StoppedRun, LimitRun}
+use Rattle.net_core.specs.Bounded.{Values}
 use Rattle.run_program.proofs.Running.{size_of, done_run, stopped_run}
 
 -- ---- the same lines of waiting instances, whose labels alone are shown

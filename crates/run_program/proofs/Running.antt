@@ -20,7 +20,7 @@ use Rattle.kahn_model.proofs.WellFormed.{program_network}
 use Rattle.net_core.specs.declared.input.Input.{Input}
 use Rattle.net_core.specs.declared.net_state.NetState.{NetState}
 use Rattle.net_core.specs.Bindings.{detached_at}
-use Rattle.net_core.specs.Bounded.{network_on}
+use Rattle.net_core.specs.Bounded.{network_on, Values, values_of}
 use Rattle.net_core.specs.State as state
 use Rattle.net_core.specs.Settle.{EndsAs}
 use Rattle.net_core.specs.declared.outcome.Outcome.{Outcome}
@@ -29,7 +29,8 @@ use Rattle.run_program.specs.Fresh.{IsFresh}
 use Rattle.run_data.specs.declared.lines.Last.{Last}
 use Rattle.run_data.specs.declared.lines.Last.TheVariants.{Done, Stopped}
 use Rattle.run_data.specs.Report.{stream_line, memory_line, last_line}
-use Rattle.run_program.specs.Run.{Values, values_of, network, ticks_of, lines_from, tokens_at, cells_shown, stream_lines, memory_lines, report_of, AreWaitLines, DoneRun, StoppedRun, LimitRun}
+use Rattle.run_program.specs.Run.{network, ticks_of, tokens_at, cells_shown, stream_lines, memory_lines, report_of, AreWaitLines, DoneRun, StoppedRun, LimitRun}
+use Rattle.run_data.specs.Lines.{lines_from}
 
 -- the net's network is the program's on its input
 pub network_is : (program : Program) (input : Input) (net : NetState) → net.program ≡ program → net.input ≡ input → state.network net ≡ network program (values_of input)

@@ -1,8 +1,8 @@
 -- A coroutine may move to another thread.
 use denote.Param.Send.{IsSend, IsSync, sendable}
 use Rattle.std.proofs.Crossing.{crosses}
-use Rattle.tapa_syntax.specs.contracts.program.Expr as Expr
-use Rattle.tapa_syntax.proofs.program.Expr.TheLaws.TheKnot as knot
+use Rattle.task_fsm.specs.contracts.machine.Expr as Expr
+use Rattle.task_fsm.proofs.machine.Expr.TheLaws.TheKnot as knot
 use Rattle.task_fsm.specs.contracts.machine.State as State
 use Rattle.task_fsm.specs.contracts.machine.Fsm as Fsm
 use Rattle.tapa_base.specs.contracts.kind.Kind as Kind

@@ -16,7 +16,8 @@ use Rattle.net_core.specs.declared.outcome.Outcome.{Outcome}
 use Rattle.net_core.specs.declared.outcome.Outcome.TheVariants as outcome
 use Rattle.run_data.specs.declared.lines.Last.TheVariants.{Done}
 use Rattle.run_program.specs.Fresh.{IsFresh}
-use Rattle.run_program.specs.Run.{Values, values_of, network, ticks_of, report_of, DoneRun}
+use Rattle.run_program.specs.Run.{network, ticks_of, report_of, DoneRun}
+use Rattle.net_core.specs.Bounded.{Values, values_of}
 use Rattle.run_program.specs.Totals.{datum_of, tokens_below, sum_below, AreCarried, IsTotalled}
 use Rattle.run_program.specs.declared.totals.Totals.{Totals}
 use Rattle.run_program.proofs.Running.{there, done_run, streams_same, ticks_same, same_network}

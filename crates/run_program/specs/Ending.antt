@@ -1,21 +1,13 @@
 -- How a run leaves the output.
-use Rattle.std.specs.Prelude.{◌≡◌, ◌⊎◌, ℕ, List, Option, map, Vec}
-use Rattle.std.specs.List.{flat_map}
-use Rattle.std.specs.declared.alloc.Global.{Global}
+use Rattle.std.specs.Prelude.{◌≡◌, ◌⊎◌, ℕ, List, Option}
 use Rattle.std.specs.Io.KnownBytes.{Appends}
 use Rattle.tapa_files.specs.Outside.{AppendsPart}
 use Rattle.tapa_syntax.specs.declared.program.Program.{Program}
-use Rattle.run_program.specs.Run.{Values, DoneRun, StoppedRun, LimitRun}
+use Rattle.run_data.specs.Lines.{lines_in}
+use Rattle.net_core.specs.Bounded.{Values}
+use Rattle.run_program.specs.Run.{DoneRun, StoppedRun, LimitRun}
 use Rattle.run_program.specs.declared.run.RunEnd.{RunEnd}
 use Rattle.run_program.specs.declared.run.RunEnd.TheVariants.{Done, Stopped, Limit}
-
--- the lines that vectors hold
-abbrev pub lines_in : List (Vec ℕ Global) → List (List ℕ)
-lines_in vectors = map (λ (line : Vec ℕ Global). line.items) vectors
-
--- lines one after another
-abbrev pub joined : List (List ℕ) → List ℕ
-joined lines = flat_map (λ (line : List ℕ). line) lines
 
 -- the run ended in this way, and its report was written; where it passed its limit nothing was
 abbrev pub EndsSo : Program → Values → ℕ → Option (List ℕ) → Option (List ℕ) → RunEnd → Type 0

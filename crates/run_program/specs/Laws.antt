@@ -3,7 +3,8 @@ use Rattle.std.specs.Prelude.{◌≡◌, ℕ, List}
 use Rattle.tapa_syntax.specs.declared.program.Program.{Program}
 use Rattle.tapa_syntax.specs.Flat.{flat_program}
 use Rattle.tapa_syntax.specs.WellFormed.{IsWellFormed}
-use Rattle.run_program.specs.Run.{Values, DoneRun, StoppedRun, LimitRun}
+use Rattle.run_program.specs.Run.{DoneRun, StoppedRun, LimitRun}
+use Rattle.net_core.specs.Bounded.{Values}
 
 -- how a run goes: its joined instances end, with this report; it stops with this report, where each line tells what an
 -- instance waits for; or they make more ticks than they may, or never end

@@ -13,20 +13,12 @@ use Rattle.kahn_model.specs.Outcome as outcome
 use Rattle.kahn_model.specs.Outcome.{IsJoined, joined_ticks, IsDone, IsStopped, WaitsToRead, WaitsToWrite, HasBadToken}
 use Rattle.kahn_model.specs.Start.{network_of}
 use Rattle.kahn_model.specs.Cells.{cells_at, owner_of}
-use Rattle.net_core.specs.declared.input.Input.{Input}
 use Rattle.net_core.specs.Bindings.{detached_at}
-use Rattle.net_core.specs.Bounded.{scalars_of, memories_of}
+use Rattle.net_core.specs.Bounded.{Values}
+use Rattle.run_data.specs.Lines.{lines_from}
 use Rattle.run_data.specs.Report.{stream_line, memory_line, last_line}
 use Rattle.run_data.specs.declared.lines.Last.{Last}
 use Rattle.run_data.specs.declared.lines.Last.TheVariants.{Done, Stopped, Running}
-
--- what a program runs on: the values of the top task's scalars, and the first cells of its memories, in their order
-pub record Values : Type 0 where
-  pub scalars : List ℕ
-  pub memories : List (List ℕ)
-
-abbrev pub values_of : Input → Values
-values_of input = record { scalars = scalars_of input; memories = memories_of input }
 
 -- the network of a program on these values
 abbrev pub network : Program → Values → Network
@@ -41,11 +33,6 @@ abbrev pub IsNotBound : List ℕ → ℕ → Type 0
 IsNotBound bound m = (p : ℕ) → slice_get bound p ≡ Some m → ⊥
 
 -- ---- the report
-
--- the lines of things that are counted, from number n on
-abbrev pub lines_from : {A : Type 0} → (A → ℕ → List ℕ) → ℕ → List A → List ℕ
-lines_from line n [] = []
-lines_from line n (x ∷ rest) = line x n ++ lines_from line (suc n) rest
 
 -- what a report with this last line shows of stream s: what was written where the run stopped; where it is done, what was
 -- written by a producer that is joined, else what was taken by a consumer that is, else nothing

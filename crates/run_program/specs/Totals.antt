@@ -5,8 +5,9 @@ use Rattle.tapa_base.specs.declared.token.Token.TheVariants.{Datum, Eot}
 use Rattle.tapa_syntax.specs.declared.program.Program.{Program}
 use Rattle.kahn_model.specs.Counts.{IsKahnStream}
 use Rattle.kahn_model.specs.Outcome.{IsJoined, IsDone, shown}
-use Rattle.run_program.specs.Ending.{lines_in}
-use Rattle.run_program.specs.Run.{Values, network, ticks_of, StoppedRun, LimitRun}
+use Rattle.run_data.specs.Lines.{lines_in}
+use Rattle.run_program.specs.Run.{network, ticks_of, StoppedRun, LimitRun}
+use Rattle.net_core.specs.Bounded.{Values}
 use Rattle.run_program.specs.declared.totals.Totals.{Totals}
 use Rattle.run_program.specs.declared.totals.TotalsEnd.{TotalsEnd}
 use Rattle.run_program.specs.declared.totals.TotalsEnd.TheVariants.{Done, Stopped, Limit}

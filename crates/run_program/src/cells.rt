@@ -1,10 +1,10 @@
 // The cells of a memory after the ticks that its instance has made, and what a report shows of them.
 ghost use Rattle.std.specs.Prelude.{ℕ, ◌≡◌, ◌<◌, ◌≤◌, List, [], length, slice_get, slice_index_or, Some, IfOk, MatchOption};
 ghost use Rattle.kahn_model.specs.Cells.{cells_at};
-ghost use Rattle.net_core.specs.Bounded.{scalars_of, memories_of};
+ghost use Rattle.net_core.specs.Bounded.{scalars_of, memories_of, values_of};
 ghost use Rattle.net_core.specs.State.{count};
 ghost use Rattle.net_core.specs.Bindings.{detached_at};
-ghost use Rattle.run_program.specs.Run.{values_of, hides_stores, cells_shown, IsNotBound};
+ghost use Rattle.run_program.specs.Run.{hides_stores, cells_shown, IsNotBound};
 ghost use Rattle.kahn_model.specs.Cells.{owner_of};
 
 use coro_machine::Coro;

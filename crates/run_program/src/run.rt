@@ -5,9 +5,8 @@ ghost use Rattle.tapa_files.specs.Outside.{Rose};
 ghost use Rattle.tapa_syntax.specs.WellFormed.{IsWellFormed};
 ghost use Rattle.kahn_model.specs.Fits.{FitsInput};
 ghost use Rattle.run_program.specs.Ending.{EndsSo, HasFront, HasPart};
-ghost use Rattle.net_core.specs.Bounded.{scalars_of, memories_of};
+ghost use Rattle.net_core.specs.Bounded.{scalars_of, memories_of, values_of};
 ghost use Rattle.run_program.specs.Fresh.{IsFresh};
-ghost use Rattle.run_program.specs.Run.{values_of};
 
 use crate::shown::show;
 use crate::start::coroutines;

@@ -4,7 +4,8 @@ ghost use Rattle.std.specs.Io.KnownBytes.{Appends};
 ghost use Rattle.tapa_files.specs.Outside.{AppendsPart, Rose};
 ghost use Rattle.run_data.specs.Report.{last_line};
 ghost use Rattle.net_core.specs.State.{network, count};
-ghost use Rattle.run_program.specs.Run.{values_of, tokens_at, cells_shown, stream_lines, memory_lines, lines_at};
+ghost use Rattle.run_program.specs.Run.{tokens_at, cells_shown, stream_lines, memory_lines, lines_at};
+ghost use Rattle.net_core.specs.Bounded.{values_of};
 
 use crate::cells::shown_cells;
 use coro_machine::Coro;

@@ -4,10 +4,9 @@ ghost use Rattle.std.specs.Arc.{arc_value};
 ghost use Rattle.tapa_syntax.specs.WellFormed.{IsWellFormed};
 ghost use Rattle.kahn_model.specs.Fits.{FitsInput};
 ghost use Rattle.kahn_model.specs.Outcome.{shown};
-ghost use Rattle.net_core.specs.Bounded.{scalars_of, memories_of};
+ghost use Rattle.net_core.specs.Bounded.{scalars_of, memories_of, values_of};
 ghost use Rattle.net_core.specs.State.{network, count};
 ghost use Rattle.run_program.specs.Fresh.{IsFresh};
-ghost use Rattle.run_program.specs.Run.{values_of};
 ghost use Rattle.run_program.specs.Totals.{datum_of, tokens_below, sum_below, AreCarried, TotalsEndSo};
 
 use crate::run::network;

@@ -4,7 +4,7 @@ ghost use Rattle.std.specs.Arc.{arc_value};
 ghost use Rattle.tapa_syntax.specs.WellFormed.{IsWellFormed};
 ghost use Rattle.net_core.specs.State.{network, count};
 ghost use Rattle.net_core.specs.Settle.{AreTold};
-ghost use Rattle.run_program.specs.Ending.{lines_in};
+ghost use Rattle.run_data.specs.Lines.{lines_in};
 ghost use Rattle.run_program.specs.Pauses.{bound_label, pause_line, last_pause_lines};
 ghost use Rattle.run_program.specs.Run.{label_of, wait_line, AreWaitLines};
 

@@ -8,3 +8,4 @@ pub mod Dumping
 pub mod Writing
 pub mod Designs
 pub mod OneDump
+pub mod AreDumps

@@ -5,7 +5,7 @@ use Rattle.tapa_base.specs.declared.token.Token.{Token}
 use Rattle.run_data.specs.Report.{stream_line, memory_line, last_line}
 use Rattle.run_data.specs.declared.lines.Last.{Last}
 use Rattle.run_data.specs.declared.lines.Last.TheVariants.{Done, Running}
-use Rattle.run_program.specs.Run.{lines_from}
+use Rattle.run_data.specs.Lines.{lines_from}
 use Rattle.vlog_tree.specs.Form.{ModuleTree}
 use Rattle.vlog_tree.specs.Cycle.{Cycle, Path}
 use Rattle.vlog_tree.specs.Environment.{Environment, shape_of, streams_of, tokens, cells_at}

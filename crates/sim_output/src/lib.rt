@@ -13,7 +13,7 @@ mod run;
 mod shown;
 
 pub use done::done_cycle;
-pub use dump_laws::law_one_simulation_dump;
+pub use dump_laws::{law_dumps_show_the_run, law_one_simulation_dump};
 pub use dump_run::dump_design;
 pub use dump_write::write_vcd;
 pub use report_laws::law_one_report;

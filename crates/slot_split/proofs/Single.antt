@@ -11,7 +11,7 @@ use Rattle.plan_device.specs.declared.device.Device.{Device}
 use Rattle.flow_cert.proofs.Sums.{total_same, total_zero}
 use Rattle.slot_plan.specs.Least.{NotAfter, Beats}
 use Rattle.slot_plan.specs.Merging.{is_open}
-use Rattle.slot_split.specs.Halving.{corner, capacity_in, AreCuts, FitsLevel, IsNextLevel, IsLevel, HasOneHalvingPlan, HalvingGivesPlans}
+use Rattle.slot_split.specs.Halving.{corner, capacity_in, AreCuts, FitsLevel, StaysIn, IsNextLevel, IsLevel, HasNone, HasOneHalvingPlan, HalvingGivesPlans, HalvesOrFails, FailsAtOneLevel}
 use Rattle.slot_split.proofs.Corners.{corner_start, corner_last}
 use Rattle.slot_split.proofs.Levels.{level_fits}
 use Rattle.slot_split.proofs.Sums.{bool_cases, true_not_false, first_of, test_same}
@@ -80,6 +80,53 @@ one_halving_plan = λ g d p q a b.
     let last : IsLevel g d a.rows (a.rows + a.cols) q =
     subst (λ (n : ℕ). IsLevel g d a.rows (a.rows + n) q) (sym cols) (subst (λ (n : ℕ). IsLevel g d n (n + b.cols) q) (sym rows) b.last) in
     one_level g d a.rows (a.rows + a.cols) p q a.last last
+
+-- ---- a plan, or one level without a list
+
+module _ (g : Graph) (d : Device) (R : ℕ) where
+  level_below : (J K : ℕ) (p : List ℕ) → J ≤ K → IsLevel g d R K p → (q : List ℕ) × IsLevel g d R J q
+  level_below J zero p le h = let e : 0 ≡ J = omega arith in (p, subst (λ (n : ℕ). IsLevel g d R n p) e h)
+  level_below J (suc K) p le h =
+      ⊎_elim {C = (q : List ℕ) × IsLevel g d R J q}
+      (λ (l : J < suc K). level_below J K h.0 (omega arith) h.1)
+      (λ (l : suc K ≤ J). let e : suc K ≡ J = omega arith in (p, subst (λ (n : ℕ). IsLevel g d R n p) e h))
+      (cases_lt J (suc K))
+
+  none_here : (J : ℕ) (q : List ℕ) → IsLevel g d R J q → HasNone g d R J → ⊥
+  none_here zero q h none = none q h
+  none_here (suc J) q h none =
+      let e : h.0 ≡ none.0 = one_level g d R J h.0 none.0 h.1 none.1 in
+      none.2 q h.2.fits (subst (λ (xs : List ℕ). StaysIn d R J xs q) e h.2.stays)
+
+  goes_past : (J K : ℕ) (p : List ℕ) → J ≤ K → IsLevel g d R K p → HasNone g d R J → ⊥
+  goes_past J K p le h none = let q = level_below J K p le h in none_here J q.0 q.1 none
+
+  no_later : (J K : ℕ) → J < K → HasNone g d R J → HasNone g d R K → ⊥
+  no_later J zero less a b = absurd (let i : ⊥ = omega arith in i)
+  no_later J (suc K) less a b = goes_past J K b.0 (omega arith) b.1 a
+
+  one_failure : (J K : ℕ) → HasNone g d R J → HasNone g d R K → J ≡ K
+  one_failure J K a b =
+      ⊎_elim
+      (λ (l : J < K). absurd (no_later J K l a b))
+      (λ (l : K ≤ J). ⊎_elim
+      (λ (m : K < J). absurd (no_later K J m b a))
+      (λ (m : J ≤ K). let e : J ≡ K = omega arith in e)
+      (cases_lt K J))
+      (cases_lt J K)
+
+pub halves_or_fails : HalvesOrFails
+halves_or_fails = λ g d p level a h.
+    let rows = one_cuts d.rows h.rows a.rows h.row_levels a.row_levels in
+    let cols = one_cuts d.cols h.cols a.cols h.col_levels a.col_levels in
+    let none : HasNone g d a.rows level = subst (λ (n : ℕ). HasNone g d n level) rows h.none in
+    let within = h.within in
+    goes_past g d a.rows level (a.rows + a.cols) p (omega (arith, rows, cols)) a.last none
+
+pub fails_at_one_level : FailsAtOneLevel
+fails_at_one_level = λ g d level other a b.
+    let rows = one_cuts d.rows b.rows a.rows b.row_levels a.row_levels in
+    one_failure g d a.rows level other a.none (subst (λ (n : ℕ). HasNone g d n other) rows b.none)
 
 -- ---- the last level is a plan
 

@@ -104,3 +104,11 @@ HasOneHalvingPlan = (g : Graph) (d : Device) (p q : List ℕ) → IsHalvingPlan 
 -- it is a plan within capacity that keeps the pins, in no forbidden slot
 abbrev pub HalvingGivesPlans : Type 0
 HalvingGivesPlans = (g : Graph) (d : Device) (p : List ℕ) → IsDevice g d → IsHalvingPlan g d p → IsPlanOf g d p
+
+-- a graph that has a plan by levels has a list at each level
+abbrev pub HalvesOrFails : Type 0
+HalvesOrFails = (g : Graph) (d : Device) (p : List ℕ) (level : ℕ) → IsHalvingPlan g d p → HasNoHalving g d level → ⊥
+
+-- and one that has none is without a list at one level
+abbrev pub FailsAtOneLevel : Type 0
+FailsAtOneLevel = (g : Graph) (d : Device) (level other : ℕ) → HasNoHalving g d level → HasNoHalving g d other → level ≡ other

@@ -6,5 +6,5 @@ mod laws;
 mod planning;
 mod regions;
 
-pub use laws::{law_halving_is_a_plan, law_one_halving_plan};
+pub use laws::{law_halves_or_fails, law_halving_is_a_plan, law_one_halving_plan};
 pub use planning::{SplitFault, split};

@@ -6,7 +6,7 @@ ghost use Rattle.check_upper.specs.Views.{invocation_view, task_view};
 ghost use Rattle.stream_check.specs.Parts as parts;
 
 use crate::label::{below, instance_name};
-use check_expression::{low_bits, same_kind};
+use check_expression::same_kind;
 use check_scope::{CheckFault, number_of};
 use check_upper::{Binding, Invoked, Task};
 use std::alloc::Global;
@@ -18,7 +18,7 @@ fn passed(alloc: Global, from: Kind, to: Kind, bound: &Bound) -> Result<Bound, C
     ensures { Answers flat_bound result [] (parts.passed from to (flat_bound bound.now)) }
 {
     match bound {
-        Bound::Number(number) => Ok(Bound::Number(convert(from, to, low_bits(from, *number)))),
+        Bound::Number(number) => Ok(Bound::Number(convert(from, to, from.low(*number)))),
         Bound::Top { scalar, kinds } => {
             let mut through = kinds.as_slice().to_vec(alloc)?;
             if !same_kind(from, to) {

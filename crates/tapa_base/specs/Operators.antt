@@ -1,13 +1,36 @@
 -- What the operators give, on the bits of two values of one kind.
-use Rattle.std.specs.Prelude.{ℕ, ◌+◌, ◌-◌, ◌*◌, ◌/◌, ◌%◌, ◌^◌, ◌<◌, ⊤, ℤ, pos, negsuc, nat_lt, Bool, if◌then◌else◌, ◌==◌, not, bit_and, bit_or, bit_xor}
+use Rattle.std.specs.Prelude.{ℕ, ◌+◌, ◌-◌, ◌*◌, ◌/◌, ◌%◌, ◌^◌, ◌<◌, ⊤, ℤ, pos, negsuc, nat_lt, Bool, true, false, if◌then◌else◌, ◌==◌, not, bit_and, bit_or, bit_xor}
 use Rattle.std.specs.Int.RustNames.{int_lt, int_le, int_div, int_rem}
 use Rattle.tapa_base.specs.declared.kind.Kind.{Kind}
+use Rattle.tapa_base.specs.declared.kind.Kind.TheVariants as kind
 use Rattle.tapa_base.specs.declared.op.Op.{Op}
 use Rattle.tapa_base.specs.declared.op.Op.TheVariants as op
 use Rattle.tapa_base.specs.Kinds.{bits_of, values_of, number, residue}
 
 abbrev pub bit : Bool → ℕ
 bit b = if b then 1 else 0
+
+-- the operators whose right operand is a count
+abbrev pub is_shift : Op → Bool
+is_shift op.Shl = true
+is_shift op.Shr = true
+is_shift o = false
+
+-- the operators that give a truth value
+abbrev pub is_comparison : Op → Bool
+is_comparison op.Eq = true
+is_comparison op.Ne = true
+is_comparison op.Lt = true
+is_comparison op.Le = true
+is_comparison op.Gt = true
+is_comparison op.Ge = true
+is_comparison o = false
+
+-- the kind of the right operand of an operator that is done in a kind: a count of a shift has 64 bits without sign
+abbrev pub right_kind : Op → Kind → Kind
+right_kind op.Shl k = kind.U64
+right_kind op.Shr k = kind.U64
+right_kind o k = k
 
 -- the greatest whole number whose d-fold is no greater
 abbrev pub floor_div : ℤ → ℕ → ℤ

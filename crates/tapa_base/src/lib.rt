@@ -11,7 +11,7 @@ mod text;
 mod token;
 
 pub use fault::OutOfMemory;
-pub use kind::{Kind, convert, low_bits};
+pub use kind::{Kind, convert};
 pub use numbers::{narrow, number_at, plus, position_of, value_at};
 pub use op::{Op, apply, can_apply};
 pub use shape::{Port, Shape};

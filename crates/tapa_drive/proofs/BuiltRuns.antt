@@ -1,6 +1,6 @@
 -- What a simulation of a circuit's text shows is what its program carries.
-use Rattle.std.proofs.Common.{◌≡◌, ℕ, zero, suc, ◌+◌, ◌*◌, ◌<◌, ◌≤◌, List, [], ◌++◌, Option, Some, None, refl, sym, ap, subst, ◌∙◌, arith, ⊎_elim}
-use Rattle.std.specs.Prelude.{option_map, slice_get, slice_index_or}
+use Rattle.std.proofs.Common.{◌≡◌, ℕ, zero, suc, ◌+◌, ◌*◌, ◌<◌, ◌≤◌, List, [], ◌++◌, Option, Some, None, refl, sym, ap, subst, ◌∙◌, arith, le_trans, ⊎_elim}
+use Rattle.std.specs.Prelude.{option_map, slice_get, slice_index, slice_index_or}
 use Rattle.std.proofs.lemmas.Bool.{cases_lt}
 use Rattle.std.proofs.lemmas.Option.{slice_get-map, same_Some}
 use Rattle.tapa_base.specs.declared.shape.Port.{Port}
@@ -22,23 +22,27 @@ use Rattle.vlog_read.proofs.OneTop.{one_design}
 use Rattle.vlog_tree.specs.Refused.{IsDesign}
 use Rattle.kahn_model.specs.Cells.{cells_at as cells_of}
 use Rattle.kahn_model.specs.Counts.{IsKahnStream}
+use Rattle.kahn_model.specs.Start.{network_of}
+use Rattle.kahn_model.proofs.Order.{prefix_trans, prefix_length, prefix_whole}
 use Rattle.kahn_model.specs.Ending.{IsLeastToEnd}
-use Rattle.kahn_model.specs.Network.{Network}
+use Rattle.kahn_model.specs.Network.{Network, stream}
 use Rattle.kahn_model.specs.Outcome.{IsJoined, HaveJoinedEnded, IsDone as EndsWithin, shown}
 use Rattle.kahn_model.specs.Timed.{lost}
-use Rattle.hw_lines.specs.top.Legal.{stream_ports, memory_ports}
-use Rattle.hw_lines.specs.top.Texts.{token_bits}
+use Rattle.hw_top_lines.specs.Legal.{stream_ports, memory_ports}
+use Rattle.hw_top_lines.specs.Texts.{token_bits}
 use Rattle.hw_top_laws.specs.kahn.Carries.{CarriesStreams, carried_by}
 use Rattle.hw_top_laws.specs.kahn.Clock.{counts, all_answer}
 use Rattle.hw_top.specs.Circuits.{IsCircuitOf}
 use Rattle.run_data.specs.Report.{stream_line, memory_line, last_line}
-use Rattle.run_program.specs.Run.{lines_from}
+use Rattle.run_data.specs.Lines.{lines_from}
 use Rattle.sim_output.specs.Reports.{IsSimulated, report_to, streams_to, memories_at, stream_lines, memory_lines, last_of}
 use Rattle.sim_output.proofs.Simulating.{first_same}
 use Rattle.cycle_sim.specs.Sims.{IsDoneAt, last_cycle}
+use Rattle.net_core.specs.Bounded.{Values}
 use Rattle.command_source.specs.Inputs.{GivesValues}
-use Rattle.command_plans.specs.Built.{HasCircuit, IsCircuitText}
-use Rattle.tapa_drive.specs.BuiltRuns.{values_in, network_in, written_to, ShowsProgram, CircuitsShowTheirProgram}
+use Rattle.command_source.proofs.Given.{one_input}
+use Rattle.command_plans.specs.Built.{IsCircuitText}
+use Rattle.tapa_drive.specs.BuiltRuns.{values_in, network_in, written_to, ShowsProgram, CircuitTextsShowTheirProgram, CircuitsShowTheirProgram, PlannedCircuitsShowTheirProgram, LatencyChangesNoReport}
 use Rattle.tapa_words.specs.declared.command.CosimAim.TheVariants.{Report}
 use Rattle.tapa_drive.specs.Designs.{GivesEnvironment, HasSimulated}
 
@@ -50,7 +54,7 @@ abbrev name_of : Option Memory → List ℕ
 name_of None = []
 name_of (Some o) = o.name
 
-module _ (program : Program) (design : DesignTree) (circuit : IsCircuitOf program [] design) (env : Environment) (fits : FitsShape env (shape_of circuit.top)) (nets : ℕ → Path → Cycle)
+module _ (program : Program) (added : List ℕ) (design : DesignTree) (circuit : IsCircuitOf program added design) (env : Environment) (fits : FitsShape env (shape_of circuit.top)) (nets : ℕ → Path → Cycle)
     (runs : RunsIn design.modules circuit.top env nets) (limit : ℕ) (at : Option ℕ) (done : IsDoneAt (λ n. nets n []) limit at) where
   abbrev root : ModuleTree
   root = circuit.top
@@ -64,7 +68,7 @@ module _ (program : Program) (design : DesignTree) (circuit : IsCircuitOf progra
   abbrev last : ℕ
   last = last_cycle limit at
 
-  k : CarriesStreams program [] env nets
+  k : CarriesStreams program added env nets
   k = circuit.carries env fits nets runs
 
   -- ---- lines
@@ -72,15 +76,15 @@ module _ (program : Program) (design : DesignTree) (circuit : IsCircuitOf progra
   abbrev port_of : Stream → Port
   port_of q = record { name = q.label; bits = token_bits q.kind }
 
-  tokens_are : (s : ℕ) (l : Port) → slice_get (stream_ports program) s ≡ Some l → tokens l.bits run l.name last ≡ written_to program env last s
+  tokens_are : (s : ℕ) (l : Port) → slice_get (stream_ports program) s ≡ Some l → tokens l.bits run l.name last ≡ written_to program added env last s
   tokens_are s l got =
       let q = mapped port_of (slice_get program.streams.items s) l (sym (slice_get-map port_of program.streams.items s) ∙ got) in
       ap (λ (p : Port). tokens p.bits run p.name last) (sym q.2) ∙ k.streams s last q.0 q.1
 
-  streams_are : streams_to root run last ≡ stream_lines (written_to program env last) (stream_ports program)
+  streams_are : streams_to root run last ≡ stream_lines (written_to program added env last) (stream_ports program)
   streams_are =
       ap (λ (ports : List Port). lines_from (λ (l : Port) i. stream_line l.name (tokens l.bits run l.name last)) 0 ports) circuit.streams
-      ∙ first_same (λ (l : Port) i. stream_line l.name (tokens l.bits run l.name last)) (λ (l : Port) i. stream_line l.name (written_to program env last i)) (stream_ports program)
+      ∙ first_same (λ (l : Port) i. stream_line l.name (tokens l.bits run l.name last)) (λ (l : Port) i. stream_line l.name (written_to program added env last i)) (stream_ports program)
       (λ i l got. ap (λ (ts : List Token). stream_line l.name ts) (tokens_are i l got))
 
   -- the cells of a memory in the last cycle, by its place
@@ -104,12 +108,12 @@ module _ (program : Program) (design : DesignTree) (circuit : IsCircuitOf progra
       ∙ first_same (λ (l : Port) i. memory_line l.name (cells_at run l.name (slice_index_or env.memories i []) last)) (λ (l : Port) i. memory_line l.name (held i)) (memory_ports program)
       (λ i l got. ap (λ (cells : List ℕ). memory_line l.name cells) (cells_are i l got))
 
-  report_is : report_to root env run last (last_of limit at) ≡ (stream_lines (written_to program env last) (stream_ports program) ++ memory_lines held (memory_ports program)) ++ last_line (last_of limit at)
+  report_is : report_to root env run last (last_of limit at) ≡ (stream_lines (written_to program added env last) (stream_ports program) ++ memory_lines held (memory_ports program)) ++ last_line (last_of limit at)
   report_is =
       ap (λ (l : List ℕ). (l ++ memories_at root env run last) ++ last_line (last_of limit at)) streams_are
-      ∙ ap (λ (l : List ℕ). (stream_lines (written_to program env last) (stream_ports program) ++ l) ++ last_line (last_of limit at)) memories_are
+      ∙ ap (λ (l : List ℕ). (stream_lines (written_to program added env last) (stream_ports program) ++ l) ++ last_line (last_of limit at)) memories_are
 
-  holds : (m n : ℕ) (o : Memory) → slice_get program.memories.items m ≡ Some o → last ≡ suc n → held m ≡ cells_of program env.scalars env.memories (counts program [] env (suc n)) m
+  holds : (m n : ℕ) (o : Memory) → slice_get program.memories.items m ≡ Some o → last ≡ suc n → held m ≡ cells_of program env.scalars env.memories (counts program added env (suc n)) m
   holds m n o got e = held_is m o got ∙ ap (λ z. cells_at run o.name (slice_index_or env.memories m []) z) e ∙ k.memories m n o got
 
   -- ---- done
@@ -123,19 +127,19 @@ module _ (program : Program) (design : DesignTree) (circuit : IsCircuitOf progra
   last_is : (n : ℕ) → at ≡ Some n → last ≡ n
   last_is n e = ap (last_cycle limit) e
 
-  ended : (n : ℕ) → at ≡ Some n → HaveJoinedEnded net (counts program [] env n)
+  ended : (n : ℕ) → at ≡ Some n → HaveJoinedEnded net (counts program added env n)
   ended n e = by_cycle n (done_in n e) where
-    by_cycle : (n : ℕ) → IsDone run n → HaveJoinedEnded net (counts program [] env n)
+    by_cycle : (n : ℕ) → IsDone run n → HaveJoinedEnded net (counts program added env n)
     by_cycle zero d = (let low : 1 ≤ 0 = d.0 in absurd (omega arith))
     by_cycle (suc n) d = (k.done n).0 d
 
-  seen : (n s : ℕ) (q : Stream) → slice_get program.streams.items s ≡ Some q → carried_by nets q n ≡ written_to program env n s
+  seen : (n s : ℕ) (q : Stream) → slice_get program.streams.items s ≡ Some q → carried_by nets q n ≡ written_to program added env n s
   seen n s q got = k.streams s n q got
 
-  whole : (n s : ℕ) (q : Stream) → at ≡ Some n → slice_get program.streams.items s ≡ Some q → IsJoined net q.producer → IsKahnStream net s (written_to program env n s)
+  whole : (n s : ℕ) (q : Stream) → at ≡ Some n → slice_get program.streams.items s ≡ Some q → IsJoined net q.producer → IsKahnStream net s (written_to program added env n s)
   whole n s q e got joined = subst (IsKahnStream net s) (seen n s q got) (k.whole s n n q got (done_in n e) (omega arith) joined)
 
-  as_run : (bound : ℕ) (c : ℕ → ℕ) → EndsWithin net bound c → (n s : ℕ) (q : Stream) → at ≡ Some n → slice_get program.streams.items s ≡ Some q → IsJoined net q.producer → written_to program env n s ≡ shown net c s
+  as_run : (bound : ℕ) (c : ℕ → ℕ) → EndsWithin net bound c → (n s : ℕ) (q : Stream) → at ≡ Some n → slice_get program.streams.items s ≡ Some q → IsJoined net q.producer → written_to program added env n s ≡ shown net c s
   as_run bound c ends n s q e got joined = sym (seen n s q got) ∙ k.shows bound c ends s n n q got (done_in n e) (omega arith) joined
 
   -- the first cycle in which it is done is no later than another
@@ -147,21 +151,22 @@ module _ (program : Program) (design : DesignTree) (circuit : IsCircuitOf progra
       (λ (up : n ≤ m). (n, e, up))
       (cases_lt m n)
 
-  in_time : (waits : ℕ) → ((n : ℕ) → lost (all_answer env) n ≤ waits) → (bound : ℕ) (c : ℕ → ℕ) → EndsWithin net bound c → (a : ℕ) × IsLeastToEnd net a × ((a + 2) * 4 + waits ≤ limit → (n : ℕ) × (at ≡ Some n) × (n ≤ (a + 2) * 4 + waits))
-  in_time waits few bound c ends =
-      let t = k.in_time 0 waits (λ s. omega arith) few bound c ends in (
+  in_time :
+      (most waits : ℕ) → ((s : ℕ) → slice_index added s ≤ most) → ((n : ℕ) → lost (all_answer env) n ≤ waits) → (bound : ℕ) (c : ℕ → ℕ) → EndsWithin net bound c
+      → (a : ℕ) × IsLeastToEnd net a × ((a + 2) * (2 * most + 4) + waits ≤ limit → (n : ℕ) × (at ≡ Some n) × (n ≤ (a + 2) * (2 * most + 4) + waits))
+  in_time most waits late few bound c ends =
+      let t = k.in_time most waits late few bound c ends in (
         t.0,
         t.1,
         λ le.
-            let soon : t.2.0 ≤ (t.0 + 2) * 4 + waits = t.2.2 in
-            let f = first_done at refl t.2.0 t.2.1 (omega arith) in
-            let early = f.2 in
-            (f.0, f.1, omega arith),
+            let soon : t.2.0 ≤ (t.0 + 2) * (2 * most + 4) + waits = t.2.2 in
+            let f = first_done at refl t.2.0 t.2.1 (le_trans soon le) in
+            (f.0, f.1, le_trans f.2 soon),
       )
 
 -- data that give a circuit an environment give its program the values in it
-gives_values : (program : Program) (design : DesignTree) (circuit : IsCircuitOf program [] design) (bytes : List ℕ) (env : Environment) → GivesEnvironment design bytes env → GivesValues program bytes (values_in env)
-gives_values program design circuit bytes env g =
+gives_values : (program : Program) (added : List ℕ) (design : DesignTree) (circuit : IsCircuitOf program added design) (bytes : List ℕ) (env : Environment) → GivesEnvironment design bytes env → GivesValues program bytes (values_in env)
+gives_values program added design circuit bytes env g =
     let same : g.is_shape.top ≡ circuit.top = same_Some g.is_shape.top circuit.top (sym g.is_shape.is_top ∙ circuit.is_top) in
     record {
       shape = g.shape;
@@ -177,44 +182,65 @@ gives_values program design circuit bytes env g =
     }
 
 -- the design of a circuit's text is the circuit
-design_is : (program : Program) (told : List ℕ) (c : IsCircuitText program [] told) (design : DesignTree) → HasTree told design.modules → IsDesign design.modules design.top → design ≡ c.design
-design_is program told c design tree legal =
+design_is : (program : Program) (added told : List ℕ) (c : IsCircuitText program added told) (design : DesignTree) → HasTree told design.modules → IsDesign design.modules design.top → design ≡ c.design
+design_is program added told c design tree legal =
     let ms = c.design.modules in
     let printed = spelling_has_tree ms c.circuit.legal.form (numbers_written ms c.circuit.legal.sound.widths) (design_has_modules ms c.design.top c.circuit.legal) in
     one_design c.design design c.circuit.legal legal (one_tree (spelling ms) design.modules ms (subst (λ (t : List ℕ). HasTree t design.modules) c.told tree) printed)
 
-module _ (source top told bytes : List ℕ) (limit : ℕ) (at : Option ℕ) (report : List ℕ) (h : HasCircuit source top told) where
-  abbrev program : Program
-  program = h.program
-
-  abbrev design : DesignTree
-  design = h.is.design
-
-  of_design : (env : Environment) → GivesEnvironment design bytes env → (is : IsSimulated design env limit at report) → is.top ≡ h.is.circuit.top → ShowsProgram source top bytes limit at report
+module _ (program : Program) (added told bytes : List ℕ) (limit : ℕ) (at : Option ℕ) (report : List ℕ) (h : IsCircuitText program added told) where
+  of_design : (env : Environment) → GivesEnvironment h.design bytes env → (is : IsSimulated h.design env limit at report) → is.top ≡ h.circuit.top → ShowsProgram program added bytes limit at report
   of_design env gives is same =
-      let circuit = h.is.circuit in
+      let design = h.design in
+      let circuit = h.circuit in
       let fits = gives.fits circuit.top circuit.is_top in
       let runs : RunsIn design.modules circuit.top env is.nets = subst (λ (m : ModuleTree). RunsIn design.modules m env is.nets) same is.run.runs_in in
       let run : ℕ → Cycle = λ n. is.nets n [] in
       record {
-        program = program;
         env = env;
-        asked = record { means = h.means; gives = gives_values program design circuit bytes env gives };
-        cells = held program design circuit env fits is.nets runs limit at is.done;
-        lines = is.shown ∙ ap (λ (m : ModuleTree). report_to m env run (last_cycle limit at) (last_of limit at)) same ∙ report_is program design circuit env fits is.nets runs limit at is.done;
-        holds = holds program design circuit env fits is.nets runs limit at is.done;
-        ended = ended program design circuit env fits is.nets runs limit at is.done;
-        whole = whole program design circuit env fits is.nets runs limit at is.done;
-        as_run = as_run program design circuit env fits is.nets runs limit at is.done;
-        in_time = in_time program design circuit env fits is.nets runs limit at is.done;
+        gives = gives_values program added design circuit bytes env gives;
+        cells = held program added design circuit env fits is.nets runs limit at is.done;
+        lines = is.shown ∙ ap (λ (m : ModuleTree). report_to m env run (last_cycle limit at) (last_of limit at)) same ∙ report_is program added design circuit env fits is.nets runs limit at is.done;
+        holds = holds program added design circuit env fits is.nets runs limit at is.done;
+        ended = ended program added design circuit env fits is.nets runs limit at is.done;
+        whole = whole program added design circuit env fits is.nets runs limit at is.done;
+        as_run = as_run program added design circuit env fits is.nets runs limit at is.done;
+        in_time = in_time program added design circuit env fits is.nets runs limit at is.done;
       }
 
-  shows : HasSimulated Report told bytes limit at report → ShowsProgram source top bytes limit at report
+  shows : HasSimulated Report told bytes limit at report → ShowsProgram program added bytes limit at report
   shows s =
-      let same : s.design ≡ design = design_is program told h.is s.design s.means.spelled s.means.legal in
+      let design : DesignTree = h.design in
+      let same : s.design ≡ design = design_is program added told h s.design s.means.spelled s.means.legal in
       let gives : GivesEnvironment design bytes s.env = subst (λ (d : DesignTree). GivesEnvironment d bytes s.env) same s.gives in
       let is : IsSimulated design s.env limit at report = subst (λ (d : DesignTree). IsSimulated d s.env limit at report) same s.is in
-      of_design s.env gives is (same_Some is.top h.is.circuit.top (sym is.is_top ∙ h.is.circuit.is_top))
+      of_design s.env gives is (same_Some is.top h.circuit.top (sym is.is_top ∙ h.circuit.is_top))
+
+pub circuit_texts_show_their_program : CircuitTextsShowTheirProgram
+circuit_texts_show_their_program program added told bytes limit at report h s = shows program added told bytes limit at report h s
 
 pub circuits_show_their_program : CircuitsShowTheirProgram
-circuits_show_their_program source top told bytes limit at report h s = shows source top told bytes limit at report h s
+circuits_show_their_program source top told bytes limit at report h s = (h.program, h.means, shows h.program [] told bytes limit at report h.is s)
+
+pub planned_circuits_show_their_program : PlannedCircuitsShowTheirProgram
+planned_circuits_show_their_program source top device told bytes mode balanced limit at report h s =
+    (h.program, h.asked.means, (h.is.added, shows h.program h.is.added told bytes limit at report h.is.is s))
+
+-- ---- two circuits of one program
+
+-- a Kahn stream is one list
+one_stream : (net : Network) (s : ℕ) (c d : List Token) → IsKahnStream net s c → IsKahnStream net s d → c ≡ d
+one_stream net s c d h k =
+    let here = prefix_trans c (stream net h.0.0 s) d h.0.1 (k.1 h.0.0) in
+    let back = prefix_trans d (stream net k.0.0 s) c k.0.1 (h.1 k.0.0) in
+    prefix_whole c d here (prefix_length d c back)
+
+abbrev network_by : Program → Values → Network
+network_by program v = network_of program v.scalars v.memories
+
+pub latency_changes_no_report : LatencyChangesNoReport
+latency_changes_no_report program added more bytes limit most m n report other a b s q got joined =
+    let same : values_in a.env ≡ values_in b.env = one_input program program refl bytes (values_in a.env) (values_in b.env) a.gives b.gives in
+    let joined_there : IsJoined (network_in program b.env) q.producer = subst (λ (v : Values). IsJoined (network_by program v) q.producer) same joined in
+    let there : IsKahnStream (network_in program a.env) s (written_to program more b.env n s) = subst (λ (v : Values). IsKahnStream (network_by program v) s (written_to program more b.env n s)) (sym same) (b.whole n s q refl got joined_there) in
+    one_stream (network_in program a.env) s (written_to program added a.env m s) (written_to program more b.env n s) (a.whole m s q refl got joined) there

@@ -7,7 +7,7 @@ use Rattle.tapa_syntax.specs.WellFormed.{IsWellFormed}
 use Rattle.stream_check.specs.Programs.{program_of}
 use Rattle.stream_check.proofs.WellPrograms.{legal_program_well}
 use Rattle.run_program.specs.Laws.{RunMeaning, Runs}
-use Rattle.run_program.specs.Run.{Values}
+use Rattle.net_core.specs.Bounded.{Values}
 use Rattle.run_program.proofs.OneWay.{runs_alike, one_way, some_way}
 use Rattle.command_source.specs.Inputs.{HasDataFault}
 use Rattle.command_source.specs.Refusal.{DataFault}

@@ -6,7 +6,7 @@ use Rattle.tapa_files.specs.Outside.{Files, Rose, AppendsPart}
 use Rattle.tapa_syntax.specs.declared.program.Program.{Program}
 use Rattle.tapa_words.specs.Words.{Command, Run, Asks}
 use Rattle.run_program.specs.Ending.{EndsSo, HasFront, HasPart}
-use Rattle.run_program.specs.Run.{Values}
+use Rattle.net_core.specs.Bounded.{Values}
 use Rattle.run_program.specs.declared.run.RunEnd.TheVariants as run_end
 use Rattle.command_source.specs.Files.{OfSource, OfData}
 use Rattle.command_source.specs.Found.{IsNotGiven}

@@ -11,7 +11,8 @@ use Rattle.tapa_words.specs.declared.command.CosimAim.{CosimAim}
 use Rattle.tapa_words.specs.declared.command.PlanAim.{PlanAim}
 use Rattle.tapa_words.specs.declared.command.PlanMode.{PlanMode}
 use Rattle.run_program.specs.Ending.{IsReportOf}
-use Rattle.run_program.specs.Run.{Values, DoneRun, StoppedRun, LimitRun}
+use Rattle.run_program.specs.Run.{DoneRun, StoppedRun, LimitRun}
+use Rattle.net_core.specs.Bounded.{Values}
 use Rattle.command_source.specs.Files.{OfFile, OfSource, OfData, source_limit, data_limit, verilog_limit, shown_name}
 use Rattle.command_source.specs.Inputs.{GivesValues, HasDataFault}
 use Rattle.command_source.specs.Outside.{Outside}

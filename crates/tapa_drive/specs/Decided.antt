@@ -5,7 +5,7 @@ use Rattle.tapa_base.specs.declared.text.Place.{Place}
 use Rattle.tapa_files.specs.Outside.{Files, file_bytes, Rose}
 use Rattle.tapa_syntax.specs.declared.program.Program.{Program}
 use Rattle.run_program.specs.Laws.{RunMeaning, Done, Stopped, Limit, Runs}
-use Rattle.run_program.specs.Run.{Values}
+use Rattle.net_core.specs.Bounded.{Values}
 use Rattle.command_source.specs.Files.{source_limit, data_limit, no_data, shown_name}
 use Rattle.command_source.specs.Inputs.{HasDataFault}
 use Rattle.command_source.specs.Outside.{Outside}

@@ -13,3 +13,5 @@ pub mod Generated
 pub mod OneMeaning
 pub mod OneText
 pub mod PlanDecided
+pub mod Words
+pub mod DumpedRuns

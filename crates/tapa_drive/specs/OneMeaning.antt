@@ -4,7 +4,7 @@ use Rattle.tapa_base.specs.declared.text.Place.{Place}
 use Rattle.tapa_syntax.specs.declared.program.Program.{Program}
 use Rattle.tapa_syntax.specs.Flat.{flat_program}
 use Rattle.run_program.specs.Laws.{RunMeaning}
-use Rattle.run_program.specs.Run.{Values}
+use Rattle.net_core.specs.Bounded.{Values}
 use Rattle.command_source.specs.Inputs.{HasDataFault}
 use Rattle.command_source.specs.Refusal.{DataFault}
 use Rattle.command_source.specs.Source.{IsProgramOf, IsRefusedSource, MeansNothing}

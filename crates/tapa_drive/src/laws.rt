@@ -1,6 +1,7 @@
 //! What a source means, and what a simulation of its circuit shows: the contracts of functions that do nothing.
 
-ghost use Rattle.tapa_drive.specs.BuiltRuns.{CircuitsShowTheirProgram};
+ghost use Rattle.tapa_drive.specs.BuiltRuns.{CircuitTextsShowTheirProgram, CircuitsShowTheirProgram, PlannedCircuitsShowTheirProgram, LatencyChangesNoReport};
+ghost use Rattle.tapa_drive.specs.DumpedRuns.{DumpsShowTheirRun};
 ghost use Rattle.tapa_drive.specs.OneText.{TextsMeanOneThing, TextsMeanSomething, RefusedTextsHaveNoDesign};
 ghost use Rattle.tapa_drive.specs.OneMeaning.{SourcesHaveOneProgram, SourcesHaveOneInput, SourcesHaveOneDataFault, SourcesMeanOneThing, SourcesMeanSomething, RefusedSourcesMeanNothing, SourcesHaveOneRefusal};
 
@@ -23,11 +24,15 @@ pub fn law_one_meaning()
     ensures once { SourcesHaveOneRefusal }
 {}
 
-/// What `cosim` shows of the text of a source's circuit is what `run` shows of the source. Its stream lines are those of the timed
-/// counts; where the circuit is done in a cycle, each stream whose writer is waited for shows its whole Kahn stream, and the cycle
-/// comes within a stated number where a run within some bound ends (Kahn 1974).
+/// What `cosim` shows of the text of a circuit is what `run` shows of its program, of the circuit of a source and of the one by a
+/// plan on a device. Its stream lines are those of the timed counts; where the circuit is done in a cycle, each stream whose writer
+/// is waited for shows its whole Kahn stream, and the cycle comes within a stated number where a run within some bound ends (Kahn
+/// 1974). So added latency changes none of these streams.
 pub fn law_circuits_show_their_program()
-    ensures { CircuitsShowTheirProgram }
+    ensures any { CircuitTextsShowTheirProgram }
+    ensures built { CircuitsShowTheirProgram }
+    ensures planned { PlannedCircuitsShowTheirProgram }
+    ensures latency { LatencyChangesNoReport }
 {}
 
 /// A Verilog text has at most one meaning with its data, and where it has a design to which they give an environment it has one;
@@ -39,3 +44,8 @@ pub fn law_one_text_meaning()
 {
     law_one_fault();
 }
+
+/// What `vcd` shows of a net of a dump that `cosim --vcd` wrote are the numbers of that net in the run of the text's design.
+pub fn law_dumps_show_their_run()
+    ensures { DumpsShowTheirRun }
+{}

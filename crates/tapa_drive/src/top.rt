@@ -5,9 +5,9 @@ ghost use Rattle.tapa_drive.specs.AllDecided.{IsDecided};
 ghost use Rattle.tapa_drive.specs.Generated.{IsAnswered, IsCarried};
 
 use crate::cosim::cosim_text;
-use crate::generated::sum_network;
 use crate::sources::{build_source, plan_source, run_source};
 use crate::vcd::show_net;
+use command_network::put_network;
 use command_source::{Refusal, Status, tell};
 use coro_threads::{Crew, Gate};
 use std::alloc::Global;
@@ -63,7 +63,7 @@ fn carry_out<'a, R: Threads + Wait + Sync, S: Shelf, O: Sink, G: Gate>(
         Ok(Command::Vcd { file, net }) => show_net(alloc, file, net, shelf, out),
         Ok(Command::Gen { layers, workers }) => {
             let crew = Crew { rt, gate, workers };
-            sum_network(&crew, alloc, layers, out)
+            put_network(&crew, alloc, layers, out)
         }
         Err(WordsFault::Usage) => Err(Refusal::Usage),
         Err(WordsFault::OutOfMemory) => Err(Refusal::Memory),

@@ -8,6 +8,8 @@ pub mod Lexemes
 pub mod Limits
 pub mod Literals
 pub mod MemoryUse
+pub mod OwnNames
+pub mod Shapes
 pub mod StreamUse
 pub mod Symbols
 pub mod TickPlaces

@@ -6,6 +6,7 @@ use Rattle.tapa_base.specs.declared.op.Op.{Op}
 use Rattle.tapa_base.specs.declared.op.Op.TheVariants as op
 use Rattle.tapa_base.specs.Kinds.{bits_of, values_of, converted}
 use Rattle.tapa_base.specs.Operators.{applied}
+pub use Rattle.tapa_base.specs.Operators.{right_kind}
 use Rattle.tapa_syntax.specs.declared.program.Expr.{Expr}
 use Rattle.tapa_syntax.specs.declared.program.Expr.TheVariants.{Lit, Var, Cell', Read, Peek, Eot, Load', Conv', Apply', Flip', Not', And', Or', Choose'}
 use Rattle.tapa_syntax.specs.declared.program.Stmt.{Stmt, Row_of-Stmt, end_of-Stmt, more_of-Stmt}
@@ -21,12 +22,6 @@ result_kind op.Le k = kind.Bool
 result_kind op.Gt k = kind.Bool
 result_kind op.Ge k = kind.Bool
 result_kind o k = k
-
--- the kind of its right operand: a count of a shift has 64 bits without sign
-abbrev pub right_kind : Op → Kind → Kind
-right_kind op.Shl k = kind.U64
-right_kind op.Shr k = kind.U64
-right_kind o k = k
 
 -- the first where the number is 0, and else the second
 abbrev pub by_zero : ℕ → ℕ → ℕ → ℕ

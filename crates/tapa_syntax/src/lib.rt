@@ -4,6 +4,7 @@
 mod gap;
 mod lexeme;
 mod program;
+mod shape;
 mod terminal;
 mod tick_places;
 mod tree;

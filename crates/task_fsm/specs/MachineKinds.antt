@@ -14,7 +14,7 @@ use Rattle.kahn_model.specs.Behavior.{Answer, judge_token}
 use Rattle.kahn_model.specs.Fits.{IsTokenOf, ActionFits}
 use Rattle.kahn_model.specs.Trace.{State, cell, cells_of}
 use Rattle.task_fsm.specs.declared.machine.Fsm.{Fsm}
-use Rattle.task_fsm.specs.Machine.{Expression, Number, Reg, CellOf, Converted, Applied, Flipped, Inverse, Both, Either, Chosen, Operation, StateForm, SetAt, CellAt, TestAt, ReadAt, WriteAt, PeekAt, EotAt, OpenAt, CloseAt, LoadAt, StoreAt, ClearAt, EndAt, TrapAt}
+use Rattle.task_fsm.specs.Machine.{Expression, Number, Reg, CellOf, Converted, Applied, Flipped, Inverse, Both, Either, Chosen, StateForm, SetAt, CellAt, TestAt, ReadAt, WriteAt, PeekAt, EotAt, OpenAt, CloseAt, LoadAt, StoreAt, ClearAt, EndAt, TrapAt}
 use Rattle.task_fsm.specs.Run.{value, StateStep, Performs, Awaits, Completes, Halts, put_into}
 
 -- the kinds of a leaf with these registers in place of its variables
@@ -36,7 +36,6 @@ IsFixed (Inverse e) = IsFixed e
 IsFixed (Both l r) = IsFixed l × IsFixed r
 IsFixed (Either l r) = IsFixed l × IsFixed r
 IsFixed (Chosen e a b) = IsFixed e × IsFixed a × IsFixed b
-IsFixed Operation = ⊥
 
 -- a divisor is a constant that is not 0
 abbrev pub IsDivisor : Op → Expression → Type 0
@@ -66,7 +65,6 @@ IsOfKind K (Inverse e) k = (Bool ≡ k) × IsOfKind K e Bool
 IsOfKind K (Both l r) k = (Bool ≡ k) × IsOfKind K l Bool × IsOfKind K r Bool
 IsOfKind K (Either l r) k = (Bool ≡ k) × IsOfKind K l Bool × IsOfKind K r Bool
 IsOfKind K (Chosen e a b) k = IsOfKind K e Bool × IsOfKind K a k × IsOfKind K b k
-IsOfKind K Operation k = ⊥
 
 -- the register that gets a value, if there is one, has its kind
 abbrev pub IsTarget : Kinds → Option ℕ → Kind → Type 0

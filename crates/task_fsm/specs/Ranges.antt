@@ -4,7 +4,7 @@ use Rattle.std.specs.Prelude.{◌≡◌, ℕ, ◌-◌, ◌<◌, List, [], ◌∷
 use Rattle.tapa_syntax.specs.declared.program.Leaf.{Leaf}
 use Rattle.tapa_syntax.specs.LeafKinds.{writes_of}
 use Rattle.task_fsm.specs.declared.machine.Fsm.{Fsm}
-use Rattle.task_fsm.specs.Machine.{Expression, Number, Reg, CellOf, Converted, Applied, Flipped, Inverse, Both, Either, Chosen, Operation, StateForm, SetAt, CellAt, TestAt, ReadAt, WriteAt, PeekAt, EotAt, OpenAt, CloseAt, LoadAt, StoreAt, ClearAt, EndAt, TrapAt}
+use Rattle.task_fsm.specs.Machine.{Expression, Number, Reg, CellOf, Converted, Applied, Flipped, Inverse, Both, Either, Chosen, StateForm, SetAt, CellAt, TestAt, ReadAt, WriteAt, PeekAt, EotAt, OpenAt, CloseAt, LoadAt, StoreAt, ClearAt, EndAt, TrapAt}
 
 -- how many registers, arrays, memories and states before the trap there are, and which streams are written
 pub record Ranges : Type 0 where
@@ -35,7 +35,6 @@ NamesWithin r (Inverse e) = NamesWithin r e
 NamesWithin r (Both a b) = NamesWithin r a × NamesWithin r b
 NamesWithin r (Either a b) = NamesWithin r a × NamesWithin r b
 NamesWithin r (Chosen e a b) = NamesWithin r e × NamesWithin r a × NamesWithin r b
-NamesWithin r Operation = ⊥
 
 -- the register that gets a value, if there is one
 abbrev pub IsRegister : Ranges → Option ℕ → Type 0

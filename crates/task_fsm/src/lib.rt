@@ -11,4 +11,4 @@ mod size;
 mod statements;
 
 pub use leaf::lower;
-pub use machine::{Fsm, State};
+pub use machine::{Expr, Fsm, State};

@@ -1,7 +1,32 @@
 // The machine of a leaf task.
 
-use tapa_base::{Kind, Text};
-use tapa_syntax::{Array, Expr};
+use tapa_base::{Kind, Op, Text};
+use tapa_syntax::Array;
+
+/// An expression over the registers and arrays of a machine. It has no operation on a stream or a memory: each of these is a
+/// state of its own, and its value is in a register.
+#[derive(Drop)]
+pub enum Expr {
+    Lit(Kind, u64),
+    Var(u32),
+    Cell(u32, Box<Expr>),
+    Conv {
+        from: Kind,
+        to: Kind,
+        value: Box<Expr>,
+    },
+    Apply {
+        op: Op,
+        kind: Kind,
+        left: Box<Expr>,
+        right: Box<Expr>,
+    },
+    Flip(Kind, Box<Expr>),
+    Not(Box<Expr>),
+    And(Box<Expr>, Box<Expr>),
+    Or(Box<Expr>, Box<Expr>),
+    Choose(Box<Expr>, Box<Expr>, Box<Expr>),
+}
 
 /// A state, which is one place at which the task makes ticks.
 #[derive(Drop)]

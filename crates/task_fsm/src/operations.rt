@@ -7,7 +7,7 @@ ghost use Rattle.task_fsm.specs.Draft.{emitted};
 
 use crate::draft::{Draft, write_held, write_state};
 use crate::machine::State;
-use crate::residual::rest;
+use crate::residual::residual;
 use kahn_model::kinds::{memory_kind, stream_kind};
 use std::alloc::{AllocError, Global};
 use tapa_base::{Kind, narrow, plus};
@@ -75,7 +75,7 @@ pub(crate) fn write_ops(
             let t = narrow(draft.regs.len())?;
             let kind = memory_kind(leaf, *m);
             let next = draft.entry;
-            let index = rest(alloc, i, plus(t, 1)?)?;
+            let index = residual(alloc, i, plus(t, 1)?)?;
             write_held(
                 draft,
                 total,
@@ -153,7 +153,7 @@ pub(crate) fn write_alone(
         ),
         Expr::Load(m, i) => {
             let t = narrow(draft.regs.len())?;
-            let index = rest(alloc, i, t)?;
+            let index = residual(alloc, i, t)?;
             write_state(
                 draft,
                 total,
@@ -182,7 +182,7 @@ pub(crate) fn write_test(
     ensures { IfOk result (λ u. emitted draft.new ≡ test_code (kinds_of leaf.now) total e.now no (emitted draft.old)) }
 {
     let t = narrow(draft.regs.len())?;
-    let test = rest(alloc, e, t)?;
+    let test = residual(alloc, e, t)?;
     let yes = draft.entry;
     write_state(draft, total, State::Test { test, yes, no })?;
     write_ops(alloc, draft, leaf, total, e)

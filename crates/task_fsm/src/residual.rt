@@ -1,42 +1,40 @@
 // What is left of an expression whose operations have registers.
 
 ghost use Rattle.std.specs.Prelude.{◌≡◌, IfOk};
-ghost use Rattle.task_fsm.specs.Code.{residual, old_with};
-ghost use Rattle.task_fsm.specs.Machine.{expression_of, Converted, Reg};
+ghost use Rattle.task_fsm.specs.Code.{residual as residual_lem, old_with};
+ghost use Rattle.task_fsm.specs.Machine.{expression_of, CellOf, Converted, Reg};
 
+use crate::machine::Expr;
 use crate::size::count_of;
 use std::alloc::{AllocError, Global};
 use tapa_base::{Kind, Op, plus};
-use tapa_syntax::Expr;
+use tapa_syntax::Expr as Source;
 
 // What is left of an expression, in a box.
-#[cycle(rest)]
-pub(crate) fn boxed(alloc: Global, e: &Expr, t: u32) -> Result<Box<Expr>, AllocError>
-    ensures { IfOk result (λ r. expression_of r.value ≡ residual e.now t) }
+#[cycle(residual)]
+pub(crate) fn boxed(alloc: Global, e: &Source, t: u32) -> Result<Box<Expr>, AllocError>
+    ensures { IfOk result (λ r. expression_of r.value ≡ residual_lem e.now t) }
 {
-    let left = rest(alloc, e, t)?;
+    let left = residual(alloc, e, t)?;
     Ok(Box::new(alloc, left)?)
 }
 
 // What is left of an expression whose operations have their values in the registers from t on.
-#[cycle(rest)]
-pub(crate) fn rest(alloc: Global, e: &Expr, t: u32) -> Result<Expr, AllocError>
-    ensures { IfOk result (λ r. expression_of r ≡ residual e.now t) }
+#[cycle(residual)]
+pub(crate) fn residual(alloc: Global, e: &Source, t: u32) -> Result<Expr, AllocError>
+    ensures { IfOk result (λ r. expression_of r ≡ residual_lem e.now t) }
 {
     match e {
-        Expr::Lit(kind, n) => Ok(Expr::Lit(*kind, *n)),
-        Expr::Var(x) => Ok(Expr::Var(*x)),
-        Expr::Cell(a, i) => Ok(Expr::Cell(*a, boxed(alloc, i, t)?)),
-        Expr::Read(_) => Ok(Expr::Var(t)),
-        Expr::Peek(_) => Ok(Expr::Var(t)),
-        Expr::Eot(_) => Ok(Expr::Var(t)),
-        Expr::Load(_, _) => Ok(Expr::Var(t)),
-        Expr::Conv { from, to, value } => Ok(Expr::Conv {
+        Source::Lit(kind, n) => Ok(Expr::Lit(*kind, *n)),
+        Source::Var(x) => Ok(Expr::Var(*x)),
+        Source::Cell(a, i) => Ok(Expr::Cell(*a, boxed(alloc, i, t)?)),
+        Source::Read(_) | Source::Peek(_) | Source::Eot(_) | Source::Load(_, _) => Ok(Expr::Var(t)),
+        Source::Conv { from, to, value } => Ok(Expr::Conv {
             from: *from,
             to: *to,
             value: boxed(alloc, value, t)?,
         }),
-        Expr::Apply {
+        Source::Apply {
             op,
             kind,
             left,
@@ -50,17 +48,17 @@ pub(crate) fn rest(alloc: Global, e: &Expr, t: u32) -> Result<Expr, AllocError>
                 right: boxed(alloc, right, t)?,
             })
         }
-        Expr::Flip(kind, e) => Ok(Expr::Flip(*kind, boxed(alloc, e, t)?)),
-        Expr::Not(e) => Ok(Expr::Not(boxed(alloc, e, t)?)),
-        Expr::And(l, r) => {
+        Source::Flip(kind, e) => Ok(Expr::Flip(*kind, boxed(alloc, e, t)?)),
+        Source::Not(e) => Ok(Expr::Not(boxed(alloc, e, t)?)),
+        Source::And(l, r) => {
             let after = plus(t, count_of(r)?)?;
             Ok(Expr::And(boxed(alloc, l, after)?, boxed(alloc, r, t)?))
         }
-        Expr::Or(l, r) => {
+        Source::Or(l, r) => {
             let after = plus(t, count_of(r)?)?;
             Ok(Expr::Or(boxed(alloc, l, after)?, boxed(alloc, r, t)?))
         }
-        Expr::Choose(e, a, b) => {
+        Source::Choose(e, a, b) => {
             let second = count_of(b)?;
             let both = plus(second, count_of(a)?)?;
             Ok(Expr::Choose(
@@ -99,6 +97,20 @@ pub(crate) fn joined(
         to: k,
         value: Box::new(alloc, value)?,
     })
+}
+
+// A register's value.
+pub(crate) fn register(t: u32) -> Expr
+    ensures { expression_of result ≡ Reg t }
+{
+    Expr::Var(t)
+}
+
+// The value of a cell of an array, at what is left of an index.
+pub(crate) fn cell_at(alloc: Global, array: u32, i: &Source, t: u32) -> Result<Expr, AllocError>
+    ensures { IfOk result (λ r. expression_of r ≡ CellOf array (residual_lem i.now t)) }
+{
+    Ok(Expr::Cell(array, boxed(alloc, i, t)?))
 }
 
 // A register's value in another kind.

@@ -9,7 +9,7 @@ ghost use Rattle.task_fsm.specs.Draft.{emitted};
 use crate::draft::{Draft, write_held, write_state};
 use crate::machine::State;
 use crate::operations::write_ops;
-use crate::residual::{boxed, converted, joined, rest};
+use crate::residual::{cell_at, converted, joined, register, residual};
 use crate::size::count_of;
 use kahn_model::kinds::{array_kind, memory_kind, stream_kind, var_kind};
 use std::alloc::{AllocError, Global};
@@ -29,7 +29,7 @@ pub(crate) fn write_set(
 {
     let t = narrow(draft.regs.len())?;
     let next = draft.entry;
-    let value = rest(alloc, e, t)?;
+    let value = residual(alloc, e, t)?;
     write_state(
         draft,
         total,
@@ -57,8 +57,8 @@ pub(crate) fn write_set_cell(
     let t = narrow(draft.regs.len())?;
     let next = draft.entry;
     let after = plus(t, count_of(i)?)?;
-    let index = rest(alloc, i, t)?;
-    let value = rest(alloc, e, after)?;
+    let index = residual(alloc, i, t)?;
+    let value = residual(alloc, e, after)?;
     let state = State::Cell {
         array,
         index,
@@ -87,10 +87,10 @@ pub(crate) fn write_set_cell_by(
     let t = narrow(draft.regs.len())?;
     let next = draft.entry;
     let after = plus(t, count_of(i)?)?;
-    let old = Expr::Cell(array, boxed(alloc, i, t)?);
-    let new = rest(alloc, e, after)?;
+    let old = cell_at(alloc, array, i, t)?;
+    let new = residual(alloc, e, after)?;
     let value = joined(alloc, op, kind, array_kind(leaf, array), old, new)?;
-    let index = rest(alloc, i, t)?;
+    let index = residual(alloc, i, t)?;
     let state = State::Cell {
         array,
         index,
@@ -117,8 +117,8 @@ pub(crate) fn write_store(
     let t = narrow(draft.regs.len())?;
     let next = draft.entry;
     let after = plus(t, count_of(i)?)?;
-    let index = rest(alloc, i, t)?;
-    let value = rest(alloc, e, after)?;
+    let index = residual(alloc, i, t)?;
+    let value = residual(alloc, e, after)?;
     let state = State::Store {
         memory,
         index,
@@ -149,9 +149,9 @@ pub(crate) fn write_store_by(
     let cells = memory_kind(leaf, memory);
     let after = plus(t, 1)?;
     let behind = plus(after, count_of(i)?)?;
-    let new = rest(alloc, e, behind)?;
-    let value = joined(alloc, op, kind, cells, Expr::Var(t), new)?;
-    let index = rest(alloc, i, after)?;
+    let new = residual(alloc, e, behind)?;
+    let value = joined(alloc, op, kind, cells, register(t), new)?;
+    let index = residual(alloc, i, after)?;
     let state = State::Store {
         memory,
         index,
@@ -159,7 +159,7 @@ pub(crate) fn write_store_by(
         next,
     };
     write_state(draft, total, state)?;
-    let index = rest(alloc, i, after)?;
+    let index = residual(alloc, i, after)?;
     let next = draft.entry;
     let state = State::Load {
         memory,
@@ -220,7 +220,7 @@ pub(crate) fn write_read_cell(
     let t = narrow(draft.regs.len())?;
     let next = draft.entry;
     let kind = stream_kind(leaf, stream);
-    let index = rest(alloc, i, plus(t, 1)?)?;
+    let index = residual(alloc, i, plus(t, 1)?)?;
     let value = converted(alloc, kind, array_kind(leaf, array), t)?;
     let state = State::Cell {
         array,
@@ -254,7 +254,7 @@ pub(crate) fn write_read_store(
     let t = narrow(draft.regs.len())?;
     let next = draft.entry;
     let kind = stream_kind(leaf, stream);
-    let index = rest(alloc, i, plus(t, 1)?)?;
+    let index = residual(alloc, i, plus(t, 1)?)?;
     let value = converted(alloc, kind, memory_kind(leaf, memory), t)?;
     let state = State::Store {
         memory,
@@ -286,7 +286,7 @@ pub(crate) fn write_write(
 {
     let t = narrow(draft.regs.len())?;
     let next = draft.entry;
-    let value = rest(alloc, e, t)?;
+    let value = residual(alloc, e, t)?;
     write_state(
         draft,
         total,

@@ -9,13 +9,6 @@ use std::alloc::{AllocError, Global};
 use tapa_base::Kind;
 use tapa_syntax::Stream;
 
-/// A kind's bits, and one for the end of a transmission.
-fn width_of(kind: Kind) -> u32
-    ensures { result ≡ bits_of kind + 1 }
-{
-    kind.bits() + 1
-}
-
 fn edge(alloc: Global, stream: &Stream) -> Result<Edge, AllocError>
     ensures { IfOk result (λ e. e ≡ edge_of stream.now) }
 {
@@ -23,7 +16,7 @@ fn edge(alloc: Global, stream: &Stream) -> Result<Edge, AllocError>
     Ok(Edge {
         from: stream.producer,
         to: stream.consumer,
-        width: width_of(stream.kind),
+        width: stream.kind.token_bits(),
         label,
     })
 }

@@ -13,8 +13,8 @@ use Rattle.vlog_tree.specs.Table.{Name, clk, module_named}
 use Rattle.vlog_module_laws.specs.Ranks.{HaveRanks}
 use Rattle.vlog_module_laws.proofs.Lists.{both_true}
 use Rattle.vlog_module_laws.proofs.Ranks.{loopless}
-use Rattle.hw_channel_laws.specs.modules.Names.{channel_name, relay_name}
-use Rattle.hw_channel_laws.specs.modules.Texts.{step_tree, even_tree, odd_tree, fifo_tree, plain_tree, relayed_tree, AreRelays, One, More, AreModules, Alone, Relayed}
+use Rattle.hw_channel_lines.specs.Names.{channel_name, relay_name}
+use Rattle.hw_channel_lines.specs.Texts.{step_tree, even_tree, odd_tree, fifo_tree, plain_tree, relayed_tree, AreRelays, One, More, AreModules, Alone, Relayed}
 use Rattle.hw_channel_laws.specs.modules.Rules.{OfFirst, IsOutermost, HasNoWayThrough, HaveNoLoop, JoinClocks}
 use Rattle.hw_channel_laws.proofs.modules.Parts.{part_of, IsPart, Outer, Queue, Part}
 use Rattle.hw_channel_laws.proofs.modules.Ranks.{rank, IsCut, no_way, cut_step, cut_fifo, cut_even, cut_odd, cut_plain, cut_relayed}

@@ -20,7 +20,7 @@ use Rattle.hw_channel_laws.specs.signals.Signals.{Resets, Signal}
 use Rattle.hw_channel_laws.specs.signals.Fifo.{FifoSizes, IsFifo, next_place, next_count}
 use Rattle.hw_channel_laws.proofs.signals.Pointers.{bit_is}
 use Rattle.hw_channel_laws.proofs.signals.Lines.{bits, stores}
-use Rattle.hw_channel_laws.specs.modules.Texts.{fifo_elements, of_net, two, with_number}
+use Rattle.hw_channel_lines.specs.Texts.{fifo_elements, of_net, two, with_number}
 use Rattle.hw_channel_laws.specs.modules.Ports.{fifo_ports}
 
 pub small_bit : (t : Bool) → bit t < 2

@@ -17,8 +17,9 @@ use Rattle.hw_build.specs.Elements.{Instance}
 use Rattle.hw_build.specs.Fitting.{AreFitting}
 use Rattle.hw_build.proofs.Forms.{yes_and}
 use Rattle.hw_build.proofs.Right.{built_right}
-use Rattle.hw_channel_laws.specs.modules.Names.{channel_name, fifo_name, relay_name}
-use Rattle.hw_channel_laws.specs.modules.Texts.{bits_for, step_elements, even_elements, odd_elements, fifo_elements, channel_ports, relayed_inside, step_tree, even_tree, odd_tree, row_tree, fifo_tree, plain_tree, relayed_tree, AreRelays, One, More, AreModules, Alone, Relayed}
+use Rattle.hw_channel_lines.specs.Names.{channel_name, fifo_name, relay_name}
+use Rattle.hw_channel_lines.specs.Texts.{step_elements, even_elements, odd_elements, fifo_elements, channel_ports, relayed_inside, step_tree, even_tree, odd_tree, row_tree, fifo_tree, plain_tree, relayed_tree, AreRelays, One, More, AreModules, Alone, Relayed}
+use Rattle.hw_build.specs.Widths.{bits_for}
 use Rattle.hw_channel_laws.proofs.modules.Whole.{fits_bits}
 use Rattle.hw_channel_laws.proofs.modules.Forms.{some_bits}
 use Rattle.hw_channel_laws.proofs.modules.Ranks.{relay_ports, fifo_ports, plain_joined}

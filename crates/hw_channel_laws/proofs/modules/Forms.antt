@@ -21,8 +21,9 @@ use Rattle.vlog_module_laws.proofs.Labelled.{early_name}
 use Rattle.hw_build.specs.Elements.{Element, Input, Output, Outlet, Wire, Link, Register, Memory, Block, Instance, built, copied, reset_or, reset_or_set, stored}
 use Rattle.hw_build.specs.Forms.{is_element}
 use Rattle.hw_build.proofs.Forms.{built_form, all_append, yes_and}
-use Rattle.hw_channel_laws.specs.modules.Names.{channel_name, fifo_name, relay_name}
-use Rattle.hw_channel_laws.specs.modules.Texts.{bits_for, joined_to, of_net, two, with_number, step_elements, step_tree, first_part, second_of_two, second_of_three, third_part, relay_ends, even_elements, even_tree, odd_elements, odd_tree, fifo_elements, fifo_tree, plain_tree, relayed_tree, channel_ports, fifo_ends, relayed_inside}
+use Rattle.hw_channel_lines.specs.Names.{channel_name, fifo_name, relay_name}
+use Rattle.hw_channel_lines.specs.Texts.{joined_to, of_net, two, with_number, step_elements, step_tree, first_part, second_of_two, second_of_three, third_part, relay_ends, even_elements, even_tree, odd_elements, odd_tree, fifo_elements, fifo_tree, plain_tree, relayed_tree, channel_ports, fifo_ends, relayed_inside}
+use Rattle.hw_build.specs.Widths.{bits_for}
 use Rattle.hw_channel_laws.proofs.modules.Words.{relay_word, fifo_word, channel_word, rst_is_name}
 
 -- names that end in numbers

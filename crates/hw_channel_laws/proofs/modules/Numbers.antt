@@ -7,7 +7,7 @@ use Rattle.std.proofs.lemmas.Fmt.{decimal_by_steps, decimal_injective}
 use Rattle.vlog_tree.specs.Table.{Name}
 use Rattle.vlog_module_laws.proofs.Lists.{both_true}
 use Rattle.hw_build.proofs.Forms.{all_append, yes_and}
-use Rattle.hw_channel_laws.specs.modules.Names.{channel_name, fifo_name, relay_name}
+use Rattle.hw_channel_lines.specs.Names.{channel_name, fifo_name, relay_name}
 
 -- below `_`, as digits are
 abbrev below : ℕ → Bool

@@ -3,8 +3,8 @@ use Rattle.std.proofs.Common.{◌≡◌, ℕ, ◌+◌, ◌*◌, ◌/◌, ◌^◌
 use Rattle.std.proofs.lemmas.Bool.{eq-eqb, ne_eqb, cases_eq}
 use Rattle.vlog_tree.specs.Form.{ModuleTree}
 use Rattle.tapa_base.specs.Lists.{Has}
-use Rattle.hw_channel_laws.specs.modules.Names.{channel_name, fifo_name, relay_name}
-use Rattle.hw_channel_laws.specs.modules.Texts.{step_tree, row_tree, fifo_tree, plain_tree, relayed_tree, AreRelays, One, More, AreModules, Alone, Relayed}
+use Rattle.hw_channel_lines.specs.Names.{channel_name, fifo_name, relay_name}
+use Rattle.hw_channel_lines.specs.Texts.{step_tree, row_tree, fifo_tree, plain_tree, relayed_tree, AreRelays, One, More, AreModules, Alone, Relayed}
 use Rattle.hw_channel_laws.proofs.modules.Relays.{row_name}
 use Rattle.hw_channel_laws.specs.modules.Rules.{NamesTellModules, AreNoTasks}
 use Rattle.hw_channel_laws.proofs.modules.Numbers.{relay_numbers, fifo_numbers, channel_numbers, letter, channel_letter, fifo_letter, relay_letter, task_letter}

@@ -21,8 +21,8 @@ use Rattle.vlog_module_laws.proofs.Lists.{both_true}
 use Rattle.vlog_module_laws.proofs.Ranks.{lower}
 use Rattle.vlog_module_laws.proofs.Larger.{known_by}
 use Rattle.hw_build.proofs.Forms.{all_append}
-use Rattle.hw_channel_laws.specs.modules.Names.{fifo_name, relay_name}
-use Rattle.hw_channel_laws.specs.modules.Texts.{step_tree, even_tree, odd_tree, fifo_tree, plain_tree, relayed_tree, first_part, second_of_two, second_of_three, third_part, relay_ends, fifo_ends}
+use Rattle.hw_channel_lines.specs.Names.{fifo_name, relay_name}
+use Rattle.hw_channel_lines.specs.Texts.{step_tree, even_tree, odd_tree, fifo_tree, plain_tree, relayed_tree, first_part, second_of_two, second_of_three, third_part, relay_ends, fifo_ends}
 use Rattle.hw_channel_laws.specs.modules.Rules.{outer_ports}
 
 abbrev firsts : List Name

@@ -19,8 +19,8 @@ use Rattle.hw_build.specs.Elements.{built, copied, reset_or}
 use Rattle.hw_build.proofs.Meaning.{has_got, driven_is, reset_is, copied_is}
 use Rattle.hw_channel_laws.specs.signals.Signals.{Signal}
 use Rattle.hw_channel_laws.specs.signals.Relay.{RelayPorts, IsStep, IsRow, IsRelay, Step as OneStep, Row as TwoParts}
-use Rattle.hw_channel_laws.specs.modules.Names.{relay_name}
-use Rattle.hw_channel_laws.specs.modules.Texts.{step_elements, step_tree, even_tree, odd_tree, row_tree, of_net, first_part, second_of_two, second_of_three, third_part, AreRelays, One, More}
+use Rattle.hw_channel_lines.specs.Names.{relay_name}
+use Rattle.hw_channel_lines.specs.Texts.{step_elements, step_tree, even_tree, odd_tree, row_tree, of_net, first_part, second_of_two, second_of_three, third_part, AreRelays, One, More}
 use Rattle.hw_channel_laws.specs.modules.Ports.{relay_ports, AreFoundIn}
 
 module _ (name : Name) (bits : ℕ) (run : ℕ → Cycle) (f : Follows (built name (step_elements bits)) run) where

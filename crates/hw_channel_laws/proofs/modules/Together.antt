@@ -9,8 +9,8 @@ use Rattle.tapa_base.specs.Lists.{Has}
 use Rattle.vlog_tree.specs.Table.{Name, module_named, module_declared, is_doubled_name, one_if}
 use Rattle.vlog_tree.specs.V6.{module_children}
 use Rattle.vlog_module_laws.proofs.Lists.{count_cons}
-use Rattle.hw_channel_laws.specs.modules.Names.{channel_name, fifo_name, relay_name}
-use Rattle.hw_channel_laws.specs.modules.Texts.{step_tree, even_tree, odd_tree, row_tree, fifo_tree, plain_tree, relayed_tree, AreRelays, One, More, AreModules, Alone, Relayed}
+use Rattle.hw_channel_lines.specs.Names.{channel_name, fifo_name, relay_name}
+use Rattle.hw_channel_lines.specs.Texts.{step_tree, even_tree, odd_tree, row_tree, fifo_tree, plain_tree, relayed_tree, AreRelays, One, More, AreModules, Alone, Relayed}
 use Rattle.hw_channel_laws.proofs.modules.Numbers.{relay_numbers, letter, channel_letter, fifo_letter, relay_letter}
 use Rattle.hw_channel_laws.proofs.modules.Relays.{row_name}
 use Rattle.hw_channel_laws.proofs.modules.Parts.{relay_of, relay_tree_name}

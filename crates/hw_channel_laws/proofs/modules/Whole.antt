@@ -17,8 +17,9 @@ use Rattle.hw_channel_laws.specs.signals.Fifo.{SizesFit}
 use Rattle.hw_channel_laws.proofs.signals.Lines.{bits as bits_are}
 use Rattle.hw_channel_laws.proofs.signals.Relays.{delays}
 use Rattle.hw_channel_laws.proofs.signals.Laws.{plain, channel}
-use Rattle.hw_channel_laws.specs.modules.Names.{fifo_name, relay_name}
-use Rattle.hw_channel_laws.specs.modules.Texts.{bits_for, fifo_tree, plain_tree, relayed_tree, fifo_ends, relay_ends, of_net, two, AreRelays, AreModules, Alone, Relayed}
+use Rattle.hw_channel_lines.specs.Names.{fifo_name, relay_name}
+use Rattle.hw_channel_lines.specs.Texts.{fifo_tree, plain_tree, relayed_tree, fifo_ends, relay_ends, of_net, two, AreRelays, AreModules, Alone, Relayed}
+use Rattle.hw_build.specs.Widths.{bits_for}
 use Rattle.hw_channel_laws.specs.modules.Ports.{fifo_ports, relay_ports, channel_ports, AreFoundIn, ActsAsChannel}
 use Rattle.hw_channel_laws.proofs.modules.Fifos.{is_fifo, rdy_is, small_bit}
 use Rattle.hw_channel_laws.proofs.modules.Relays.{joined, inside, is_relay}

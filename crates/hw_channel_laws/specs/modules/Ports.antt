@@ -9,7 +9,7 @@ use Rattle.hw_channel_laws.specs.signals.Signals.{Resets}
 use Rattle.hw_channel_laws.specs.signals.Contract.{ChannelPorts, MeetsContract}
 use Rattle.hw_channel_laws.specs.signals.Fifo.{FifoPorts}
 use Rattle.hw_channel_laws.specs.signals.Relay.{RelayPorts}
-use Rattle.hw_channel_laws.specs.modules.Texts.{AreModules}
+use Rattle.hw_channel_lines.specs.Texts.{AreModules}
 
 abbrev pub fifo_ports : (ℕ → Cycle) → FifoPorts
 fifo_ports run = record {

@@ -11,8 +11,8 @@ use Rattle.vlog_tree.specs.Loops.{Rests, IsLoopless}
 use Rattle.vlog_tree.specs.Refused.{IsSound}
 use Rattle.vlog_tree.specs.Table.{Name, clk, port_declared, net_kind_of}
 use Rattle.vlog_tree.specs.Labels.{rst}
-use Rattle.hw_channel_laws.specs.modules.Names.{channel_name}
-use Rattle.hw_channel_laws.specs.modules.Texts.{AreModules}
+use Rattle.hw_channel_lines.specs.Names.{channel_name}
+use Rattle.hw_channel_lines.specs.Texts.{AreModules}
 
 abbrev pub OfFirst : (ModuleTree → Type 0) → List ModuleTree → Type 0
 OfFirst P [] = ⊥

@@ -57,7 +57,7 @@ rest_alive net ok k r i inside =
 abbrev pub first_tick : Network → (ℕ → ℕ) → ℕ → Option Tick
 first_tick net k i = slice_get (ticks_left (rest_of net k i) (ahead net k i)) 0
 
-first_is : (net : Network) → IsNetwork net → (k : ℕ → ℕ) → IsFounded net k → (i : ℕ) → slice_get (ticks (net.job i (round_of net k)) (written net k)) (k i) ≡ first_tick net k i
+pub first_is : (net : Network) → IsNetwork net → (k : ℕ → ℕ) → IsFounded net k → (i : ℕ) → slice_get (ticks (net.job i (round_of net k)) (written net k)) (k i) ≡ first_tick net k i
 first_is net ok k r i =
     let l = all_made net ok k r i in
     let halves = split (net.job i (round_of net k)) (ticks_made net k i) (written net k) (made_here net ok k r i) in

@@ -23,11 +23,11 @@ use Rattle.hw_lines.specs.Signals.{Streams, History, Part}
 use Rattle.hw_network_laws.specs.network.Clocked.{IsClocked}
 use Rattle.hw_network_laws.proofs.network.Together.{in_step}
 
-is_the_memory : (o : Option ℕ) (m : ℕ) → o ≡ Some m → is_memory o m ≡ true
+pub is_the_memory : (o : Option ℕ) (m : ℕ) → o ≡ Some m → is_memory o m ≡ true
 is_the_memory None m e = absurd cc
 is_the_memory (Some r) m e = let q : r ≡ m = cc in grind (arith, nat_tests)
 
-not_the_memory : (o : Option ℕ) (m : ℕ) → (o ≡ Some m → ⊥) → is_memory o m ≡ false
+pub not_the_memory : (o : Option ℕ) (m : ℕ) → (o ≡ Some m → ⊥) → is_memory o m ≡ false
 not_the_memory None m d = refl
 not_the_memory (Some r) m d = let q : r ≡ m → ⊥ = λ e. d (ap Some e) in grind (arith, nat_tests)
 

@@ -94,13 +94,13 @@ module _ (net : Network) (clock : Clock) (parts : ℕ → Part) (S : Streams) (h
   tick = tick_in S (parts i).bound (suc n) (step_in (parts i) (h i) (suc n))
 
   module _ (k : Keeps (net.job i) (parts i) made ((h i).at (suc n)) ((h i).holds (suc n)) ((h i).ended (suc n))) where
-    abbrev rest : Option Behavior
+    abbrev pub rest : Option Behavior
     rest = rest_of net now i
 
-    stood : StandsFor (parts i) ((h i).at (suc n)) ((h i).holds (suc n)) ((h i).ended (suc n)) rest
+    pub stood : StandsFor (parts i) ((h i).at (suc n)) ((h i).holds (suc n)) ((h i).ended (suc n)) rest
     stood = k.stands (round_of net now)
 
-    alive : IsAlive stood.0
+    pub alive : IsAlive stood.0
     alive = alive_at (parts i).bound stood.0 (subst IsAlive stood.1 (rest_alive net ok.network now (clock_founded net ok.network clock (suc n)) i inside))
 
     own : OwnsRest net.producer net.consumer i (rest_at (parts i).bound stood.0)

@@ -1,5 +1,6 @@
 //! The laws of clocked networks: the contracts of functions that do nothing.
 
+ghost use Rattle.hw_network_laws.specs.network.Asked.{MachinesStandAtNext, RequestsStay};
 ghost use Rattle.hw_network_laws.specs.network.Clocked.{ClockedNetworksKeepTime, ClockedNetworksCarryKahn};
 ghost use Rattle.hw_network_laws.specs.network.Joined.{ClockedNetworksAreDone};
 ghost use Rattle.hw_network_laws.specs.network.Timed.{TimedCountsGoByRows};
@@ -42,6 +43,13 @@ pub fn law_timed_counts_go_by_rows()
 /// are never more than its depth and twice its latency.
 pub fn law_timed_counts_keep_pace()
     ensures { TimedCountsKeepPace }
+{}
+
+/// In each cycle a machine that has not ended stands at the act that its count makes next, whether it is made in the cycle or not; and
+/// a Load or Store whose memory does not answer is the next tick in the cycle after, too.
+pub fn law_requests_stay()
+    ensures next { MachinesStandAtNext }
+    ensures held { RequestsStay }
 {}
 
 /// A module that runs its machine at its ports runs it at the streams that they are bound to.

@@ -25,14 +25,15 @@ use Rattle.hw_build.specs.Scope.{each}
 use Rattle.hw_build.specs.Choices.{Entry, any_elements, pick_elements, choice}
 use Rattle.hw_build.specs.Fits.{IsAmong}
 use Rattle.hw_build.proofs.Parts.{has_each}
-use Rattle.task_fsm.specs.Machine.{Expression, Number, Reg, CellOf, Converted, Applied, Flipped, Inverse, Both, Either, Chosen, Operation, StateForm, SetAt, CellAt, TestAt, ReadAt, WriteAt, PeekAt, EotAt, OpenAt, CloseAt, LoadAt, StoreAt, ClearAt, EndAt, TrapAt}
+use Rattle.task_fsm.specs.Machine.{Expression, Number, Reg, CellOf, Converted, Applied, Flipped, Inverse, Both, Either, Chosen, StateForm, SetAt, CellAt, TestAt, ReadAt, WriteAt, PeekAt, EotAt, OpenAt, CloseAt, LoadAt, StoreAt, ClearAt, EndAt, TrapAt}
 use Rattle.task_fsm.specs.MachineKinds.{IsOfKind, IsTypedState}
 use Rattle.task_fsm.specs.Ranges.{Ranges, NamesWithin, IsInRange}
 use Rattle.task_fsm.specs.Run.{value}
 use Rattle.hw_lines.specs.declared.nets.Choice.TheVariants.{Reads, Spot}
 use Rattle.hw_lines.specs.declared.nets.Net.TheVariants.{State as StateNet, Ended, At, Array, Answer, Raw, ReadInside, ReadOn}
 use Rattle.hw_lines.specs.Nets.{name, front, value_front, index_front, read_front}
-use Rattle.hw_lines.specs.Shape.{Shape, bits_for, kinds_in, array_kind, array_cells, index_bits, state_count, state_bits, form_at}
+use Rattle.hw_lines.specs.Shape.{Shape, kinds_in, array_kind, array_cells, index_bits, state_count, state_bits, form_at}
+use Rattle.hw_build.specs.Widths.{bits_for}
 use Rattle.hw_lines.specs.Drivers.{low_bits}
 use Rattle.hw_lines.specs.Wires.{ArrayRead, read_count, reads_in}
 use Rattle.hw_lines.specs.States.{net, nothing, index_of, value_of, value_kind, index_wires, value_wires, reads_at}
@@ -363,7 +364,6 @@ module _ (S : Shape) (title : Name) (run : ℕ → Cycle) (f : Follows (built ti
         (numbered_join (AnswerShown f.sizes (run n) K σ) (m + read_count e) x (reads_in (m + read_count e + read_count x) y)
         (answers_of x j (m + read_count e) t.1 g.1 (numbered_left IsRead (m + read_count e) (reads_in (m + read_count e) x) (reads_in (m + read_count e + read_count x) y) late))
         (answers_of y j (m + read_count e + read_count x) t.2 g.2 (numbered_second IsRead (m + read_count e) x (reads_in (m + read_count e + read_count x) y) late)))
-    answers_of Operation j m t g h = tt
 
     abbrev index : Expression
     index = index_of (form_at S k)

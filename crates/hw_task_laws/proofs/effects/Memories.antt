@@ -5,7 +5,7 @@ use Rattle.tapa_base.specs.declared.kind.Kind.TheVariants.{U64}
 use Rattle.tapa_base.specs.Kinds.{bits_of}
 use Rattle.kahn_model.specs.Trace.{State, cell, with_cell, store_cell}
 use Rattle.tapa_base.specs.Lists.{Has}
-use Rattle.vlog_tree.specs.Table.{Name}
+use Rattle.vlog_tree.specs.Table.{Name, one_if}
 use Rattle.vlog_tree.specs.Cycle.{Cycle, Follows}
 use Rattle.hw_build.specs.Elements.{Element, Output, built}
 use Rattle.hw_build.specs.Fits.{IsAmong}
@@ -21,14 +21,14 @@ use Rattle.hw_lines.specs.States.{index_of, value_of, index_wires, value_wires}
 use Rattle.hw_lines.specs.Effects.{entry, at, askings, savings}
 use Rattle.hw_lines.specs.Texts.{any, pick, result, task_elements}
 use Rattle.hw_lines.specs.After.{held_after}
-use Rattle.hw_lines.specs.Runs.{number_at, bit_at, stored_in, all_stored, stores_to, by_act}
+use Rattle.hw_lines.specs.Runs.{number_at, bit_at, stored_in, all_stored, stores_to, by_act, AsksAs}
 use Rattle.hw_lines.proofs.Members.{all, among_left, among_right}
 use Rattle.hw_lines.proofs.Decodes.{at_here}
 use Rattle.hw_task_laws.proofs.acts.Answered.{value_shown, index_shown}
 use Rattle.hw_task_laws.specs.steps.Steps.{ranges_in, allowed, found_by, IsAt}
 use Rattle.hw_task_laws.proofs.steps.Allowed.{bit_back}
 use Rattle.hw_task_laws.specs.effects.Held.{held_by, MemoriesAreHeld}
-use Rattle.hw_task_laws.specs.effects.Outputs.{AsksAs, AsksAreMade, StoresAreAsked}
+use Rattle.hw_task_laws.specs.effects.Outputs.{AsksAreMade, StoresAreAsked}
 use Rattle.hw_task_laws.proofs.effects.Outs.{at_same, memory_outs, out_none, out_value, out_at}
 
 clear_stores : (m k a c next : ℕ) (σ : State) (b : Bool) → false ≡ by_act (stores_to m) (clear_step b a c k next σ)
@@ -121,11 +121,11 @@ module _ (S : Shape) (title : Name) (run : ℕ → Cycle) (f : Follows (built ti
     asks_are EndAt same = tt
     asks_are TrapAt same = tt
 
-    no_store : (g : StateForm) → form_at S k ≡ g → savings S m k g ≡ [] → bit_at run (We m) n ≡ false
+    no_store : (g : StateForm) → form_at S k ≡ g → savings S m k g ≡ [] → number_at run (We m) n ≡ 0
     no_store g same none =
-        ap (λ z. eqb z 1) (out_none S title run f n k is.shows.here is.shows.low 1 (name (We m)) (Saves m) we_there saves_among (ap (savings S m k) same ∙ none))
+        out_none S title run f n k is.shows.here is.shows.low 1 (name (We m)) (Saves m) we_there saves_among (ap (savings S m k) same ∙ none)
 
-    we_is : (g : StateForm) → form_at S k ≡ g → bit_at run (We m) n ≡ by_act (stores_to m) (step g k σ)
+    we_is : (g : StateForm) → form_at S k ≡ g → number_at run (We m) n ≡ one_if (by_act (stores_to m) (step g k σ))
     we_is (SetAt r e next) same = no_store (SetAt r e next) same refl
     we_is (CellAt a i e next) same = no_store (CellAt a i e next) same refl
     we_is (TestAt e y l) same = no_store (TestAt e y l) same refl
@@ -137,10 +137,8 @@ module _ (S : Shape) (title : Name) (run : ℕ → Cycle) (f : Follows (built ti
     we_is (CloseAt s next) same = no_store (CloseAt s next) same refl
     we_is (LoadAt x i into next) same = no_store (LoadAt x i into next) same refl
     we_is (StoreAt x i e next) same =
-        ap (λ z. eqb z 1)
-        (out_at S title run f n k is.shows.here is.shows.low 1 (name (We m)) (Saves m) we_there saves_among x m (At k) (value_wires S k).atom (ap (savings S m k) same) true at_one)
-        ∙ bit_back (eqb x m)
-    we_is (ClearAt a c next) same = no_store (ClearAt a c next) same refl ∙ clear_stores m k a c next σ (is_last σ a c)
+        out_at S title run f n k is.shows.here is.shows.low 1 (name (We m)) (Saves m) we_there saves_among x m (At k) (value_wires S k).atom (ap (savings S m k) same) true at_one
+    we_is (ClearAt a c next) same = no_store (ClearAt a c next) same refl ∙ ap one_if (clear_stores m k a c next σ (is_last σ a c))
     we_is EndAt same = no_store EndAt same refl
     we_is TrapAt same = no_store TrapAt same refl
 
@@ -192,15 +190,16 @@ module _ (S : Shape) (title : Name) (run : ℕ → Cycle) (f : Follows (built ti
 
   -- a state that stores nothing
   stays : (g : StateForm) → form_at S k ≡ g → ((m : ℕ) → savings S m k g ≡ []) → cells (suc n) ≡ σ.cells
-  stays g same none = goes ∙ none_stored S run n (length S.memories) σ.cells (λ m l. no_store S title run f cells n k σ is m l g same (none m))
+  stays g same none = goes ∙ none_stored S run n (length S.memories) σ.cells (λ m l. ap (λ z. eqb z 1) (no_store S title run f cells n k σ is m l g same (none m)))
 
   stores : (x : ℕ) (i e : Expression) (next : ℕ) → form_at S k ≡ StoreAt x i e next → cells (suc n) ≡ (cond (bit_at run (Ack x) n) (store_cell σ x (value i σ) (value e σ)) σ).cells
   stores x i e next same =
       let g : IsInRange (ranges_in S) (StoreAt x i e next) = subst (IsInRange (ranges_in S)) same is.shows.ranged in
       let asked = asks_are S title run f cells n k σ is x g.0 (StoreAt x i e next) same refl in
-      let on : bit_at run (We x) n ≡ true = we_is S title run f cells n k σ is x g.0 (StoreAt x i e next) same ∙ eq-eqb x x refl in
+      let said = λ (y : ℕ) (l : y < length S.memories). ap (λ z. eqb z 1) (we_is S title run f cells n k σ is y l (StoreAt x i e next) same) ∙ bit_back (eqb x y) in
+      let on : bit_at run (We x) n ≡ true = said x g.0 ∙ eq-eqb x x refl in
       goes
-      ∙ one_stored S run n (length S.memories) x σ.cells g.0 (λ y l d. we_is S title run f cells n k σ is y l (StoreAt x i e next) same ∙ ne_eqb x y d)
+      ∙ one_stored S run n (length S.memories) x σ.cells g.0 (λ y l d. said y l ∙ ne_eqb x y d)
       ∙ ap (λ z. cond (bit_at run (Ack x) n && bit_at run (We x) n) (with_cell σ.cells x z (number_at run (Wdata x) n)) σ.cells) asked.0
       ∙ ap (λ z. cond (bit_at run (Ack x) n && bit_at run (We x) n) (with_cell σ.cells x (value i σ) z) σ.cells) asked.1
       ∙ store_goes σ x (value i σ) (value e σ) (bit_at run (Ack x) n) (bit_at run (We x) n) on

@@ -19,7 +19,7 @@ use Rattle.hw_build.specs.Elements.{Element}
 use Rattle.hw_build.specs.Scope.{IsNet, AtomIs, FitInOrder}
 use Rattle.hw_build.specs.Fits.{IsAmong}
 use Rattle.hw_build.proofs.Parts.{parts_fit}
-use Rattle.task_fsm.specs.Machine.{Expression, Number, Reg, CellOf, Converted, Applied, Flipped, Inverse, Both, Either, Chosen, Operation}
+use Rattle.task_fsm.specs.Machine.{Expression, Number, Reg, CellOf, Converted, Applied, Flipped, Inverse, Both, Either, Chosen}
 use Rattle.task_fsm.specs.MachineKinds.{IsFixed, IsDivisor, IsOfKind, HoldsValues}
 use Rattle.task_fsm.specs.Ranges.{Ranges, NamesWithin}
 use Rattle.task_fsm.specs.Run.{value}
@@ -65,7 +65,6 @@ constant_compiled front m n k (Inverse e) v f h = as_constant (fixed (Inverse e)
 constant_compiled front m n k (Both l r) v f h = as_constant (fixed (Both l r)) v k _ h
 constant_compiled front m n k (Either l r) v f h = as_constant (fixed (Either l r)) v k _ h
 constant_compiled front m n k (Chosen e a b) v f h = as_constant (fixed (Chosen e a b)) v k _ h
-constant_compiled front m n k Operation v f h = absurd f
 
 some_atom : (K : Kinds) (front : Name) (m n : ℕ) (k : Kind) (e : Expression) → IsOfKind K e k → IsFixed e → ((σ : State) → 0 < value e σ) → IsSome (compiled front m n k e).atom
 some_atom K front m n k e t f some =
@@ -214,4 +213,3 @@ module _ (before : List Element) (K : Kinds) where
           atom_in (before ++ two) (before ++ es) lift (bits_of k) D.atom (atom_in (before ++ D.elements) (before ++ two) (first_in D.elements E.elements) (bits_of k) D.atom d.atom),
           atom_in (before ++ two) (before ++ es) lift (bits_of k) E.atom (atom_in (before ++ E.elements) (before ++ two) (second_in D.elements E.elements) (bits_of k) E.atom f.atom),
         )))
-    compiled_fits Operation k front m n t g answers = absurd t

@@ -19,7 +19,7 @@ use Rattle.hw_build.specs.Choices.{Entry, choice}
 use Rattle.hw_build.specs.Fits.{IsAmong}
 use Rattle.hw_build.proofs.Parts.{has_each, of_each, parts_fit, each_part_fits}
 use Rattle.hw_build.proofs.Picks.{any_fits, pick_fits}
-use Rattle.task_fsm.specs.Machine.{Expression, Number, Reg, CellOf, Converted, Applied, Flipped, Inverse, Both, Either, Chosen, Operation, StateForm, SetAt, CellAt, TestAt, WriteAt, LoadAt, StoreAt}
+use Rattle.task_fsm.specs.Machine.{Expression, Number, Reg, CellOf, Converted, Applied, Flipped, Inverse, Both, Either, Chosen, StateForm, SetAt, CellAt, TestAt, WriteAt, LoadAt, StoreAt}
 use Rattle.task_fsm.specs.MachineKinds.{IsOfKind, IsTypedState}
 use Rattle.task_fsm.specs.Ranges.{Ranges, NamesWithin, IsInRange}
 use Rattle.hw_lines.specs.declared.nets.Choice.TheVariants.{Reads, Spot}
@@ -190,7 +190,6 @@ module _ (S : Shape) (T : IsTask S) where
       numbered_join (IsGood k) m e (xs ++ ys) (good_of k e kind.Bool m t.0 g.0 (numbered_left (IsRead k) m (reads_in m e) (xs ++ ys) h))
       (numbered_join (IsGood k) (m + read_count e) x ys (good_of k x j (m + read_count e) t.1 g.1 (numbered_left (IsRead k) (m + read_count e) xs ys late))
       (good_of k y j (m + read_count e + read_count x) t.2 g.2 (numbered_second (IsRead k) (m + read_count e) x ys late)))
-  good_of k Operation j m t g h = tt
 
   none_before : (m : ℕ) → 0 + m ≡ m
   none_before m = omega arith

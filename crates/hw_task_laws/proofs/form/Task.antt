@@ -17,7 +17,8 @@ use Rattle.task_fsm.specs.MachineKinds.{machine_kinds, IsTypedState, AreTypedSta
 use Rattle.task_fsm.specs.Ranges.{Ranges, ranges_of, IsInRange, AreInRange}
 use Rattle.task_fsm.specs.Lowered.{IsLowered}
 use Rattle.vlog_tree.specs.V3.{is_width}
-use Rattle.hw_lines.specs.Shape.{Shape, shape_of, bits_for, kinds_in, array_cells, index_bits, state_count, state_bits, form_at}
+use Rattle.hw_lines.specs.Shape.{Shape, shape_of, kinds_in, array_cells, index_bits, state_count, state_bits, form_at}
+use Rattle.hw_build.specs.Widths.{bits_for}
 use Rattle.hw_task_laws.specs.names.Countable.{IsCountable}
 use Rattle.hw_task_laws.proofs.fit.Scopes.{wide}
 

@@ -17,7 +17,7 @@ use Rattle.hw_build.specs.Elements.{Element, Wire}
 use Rattle.hw_build.specs.Trees.{numbered, tree_node, tree_nodes}
 use Rattle.hw_build.specs.Choices.{Entry, any_leaves, any_elements, pick_leaves, pick_elements}
 use Rattle.hw_build.specs.Fits.{declared_names}
-use Rattle.task_fsm.specs.Machine.{Expression, Number, Reg, CellOf, Converted, Applied, Flipped, Inverse, Both, Either, Chosen, Operation}
+use Rattle.task_fsm.specs.Machine.{Expression, Number, Reg, CellOf, Converted, Applied, Flipped, Inverse, Both, Either, Chosen}
 use Rattle.hw_lines.specs.Fixed.{fixed}
 use Rattle.hw_lines.specs.Drivers.{Driver, wires_of, one, conversion, operation}
 use Rattle.hw_lines.specs.Wires.{read_count, Compiled, by_fixed, behind, converting, one_more, joining, choosing, compiled}
@@ -113,7 +113,6 @@ compiled_row front m n k (Chosen e a b) =
     (row_join front n C.count (D.count + E.count) C.elements (D.elements ++ E.elements) (compiled_row front m n kind.Bool e)
     (row_join front (n + C.count) D.count E.count D.elements E.elements (compiled_row front (m + read_count e) (n + C.count) k a)
     (compiled_row front (m + read_count e + read_count a) (n + C.count + D.count) k b))))
-compiled_row front m n k Operation = row_none front n
 
 -- ---- choices
 

@@ -18,7 +18,7 @@ use Rattle.vlog_tree.specs.Table.{Name}
 use Rattle.hw_build.specs.Elements.{Element, Wire}
 use Rattle.hw_build.specs.Trees.{numbered, tree_node, tree_nodes}
 use Rattle.hw_build.specs.Choices.{Entry, any_leaves, any_elements, pick_leaves, pick_elements, choice}
-use Rattle.task_fsm.specs.Machine.{Expression, Number, Reg, CellOf, Converted, Applied, Flipped, Inverse, Both, Either, Chosen, Operation}
+use Rattle.task_fsm.specs.Machine.{Expression, Number, Reg, CellOf, Converted, Applied, Flipped, Inverse, Both, Either, Chosen}
 use Rattle.hw_lines.specs.declared.nets.Net.TheVariants.{Variable, Answer}
 use Rattle.hw_lines.specs.Nets.{name}
 use Rattle.hw_lines.specs.Fixed.{fixed}
@@ -242,7 +242,6 @@ module _ (front : Name) (own : (i : ℕ) → is_free (numbered front i) ≡ true
       fixed_free (fixed (Chosen e a b)) k (choosing front n k C D E)
       (behind_free n (C.elements ++ (D.elements ++ E.elements)) (C.count + (D.count + E.count)) (one (bits_of k) (Choose C.atom D.atom E.atom)) C.atom
       (both_closed C.elements (D.elements ++ E.elements) c.closed (both_closed D.elements E.elements d.closed f.closed)) (free_choose C.atom D.atom E.atom c.atom d.atom f.atom, tt) c.atom)
-  compiled_free m n k Operation = record { closed = refl; atom = refl }
 
   -- ---- choices
 

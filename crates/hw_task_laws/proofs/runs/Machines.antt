@@ -12,7 +12,7 @@ use Rattle.kahn_model.specs.Trace.{State}
 use Rattle.vlog_tree.specs.declared.tree.Value.TheVariants.{Plain}
 use Rattle.vlog_tree.specs.Form.{ModuleTree}
 use Rattle.tapa_base.specs.Lists.{Has}
-use Rattle.vlog_tree.specs.Table.{Name}
+use Rattle.vlog_tree.specs.Table.{Name, one_if}
 use Rattle.vlog_tree.specs.Cycle.{Cycle, Follows}
 use Rattle.hw_build.specs.Elements.{Output, built}
 use Rattle.hw_build.specs.Fitting.{AreFitting}
@@ -34,7 +34,7 @@ use Rattle.hw_lines.specs.Texts.{stream_outputs, memory_outputs, task_elements, 
 use Rattle.hw_lines.specs.After.{at_after, held_after, ends_by}
 use Rattle.hw_lines.specs.Signals.{Streams, History, Part}
 use Rattle.hw_lines.specs.Machine.{takes_of, puts_of, put_in, step_in, steps}
-use Rattle.hw_lines.specs.Runs.{number_at, bit_at, held_at, first_of, first_held, streams_at, answers_at, history_at, part_at, stores_to, by_act, StandsAround, RunsTask}
+use Rattle.hw_lines.specs.Runs.{number_at, bit_at, held_at, first_of, first_held, streams_at, answers_at, history_at, part_at, AsksAs, stores_to, by_act, StandsAround, RunsTask}
 use Rattle.hw_lines.proofs.Members.{all, outputs_in, among_left}
 use Rattle.hw_task_laws.specs.names.Countable.{IsCountable}
 use Rattle.hw_task_laws.proofs.names.Bounds.{bounds}
@@ -42,7 +42,7 @@ use Rattle.hw_task_laws.specs.steps.Steps.{ranges_in, allowed, found_by, IsAt}
 use Rattle.hw_task_laws.proofs.steps.Places.{place_goes_on}
 use Rattle.hw_task_laws.proofs.effects.Outs.{and_false, same_cond}
 use Rattle.hw_task_laws.proofs.effects.Streams.{takes_are_made, puts_are_made}
-use Rattle.hw_task_laws.proofs.effects.Memories.{stores_are_asked}
+use Rattle.hw_task_laws.proofs.effects.Memories.{asks_are_made, stores_are_asked}
 use Rattle.hw_task_laws.proofs.effects.Ends.{end_is_held}
 use Rattle.hw_task_laws.proofs.form.Whole.{tasks_are_fitting}
 use Rattle.hw_task_laws.specs.runs.Machines.{IsMachine, RunsMachines, LoweredIsMachine, InstancesRun}
@@ -140,10 +140,13 @@ module _ (S : Shape) (title : Name) (run : ℕ → Cycle) (f : Follows (built ti
         said (put_in W s n) (λ u. cond (not (ended n) && allowed S run n u) (puts_of (λ p. p) s u) [])
         (puts_are_made S title run f cells n (place n) (σ n) is s writes ∙ while_on (ended n) ok (puts_of (λ p. p) s t) [] (λ e. ap (puts_of (λ p. p) s) (complete e)))
 
-    stores_is : (m : ℕ) → m < length S.memories → bit_at run (We m) n ≡ (not (ended n) && by_act (stores_to m) (step_in part past n))
+    asks_is : (m : ℕ) → m < length S.memories → AsksAs run n m (step_in part past n)
+    asks_is m low = subst (AsksAs run n m) same_step (asks_are_made S title run f cells n (place n) (σ n) is m low)
+
+    stores_is : (m : ℕ) → m < length S.memories → number_at run (We m) n ≡ one_if (not (ended n) && by_act (stores_to m) (step_in part past n))
     stores_is m low =
-        said (bit_at run (We m) n) (λ u. not (ended n) && by_act (stores_to m) u)
-        (stores_are_asked S title run f cells n (place n) (σ n) is m low ∙ asks_on (ended n) (by_act (stores_to m) t) (λ e. ap (by_act (stores_to m)) (complete e)))
+        said (number_at run (We m) n) (λ u. one_if (not (ended n) && by_act (stores_to m) u))
+        (stores_are_asked S title run f cells n (place n) (σ n) is m low ∙ ap one_if (asks_on (ended n) (by_act (stores_to m) t) (λ e. ap (by_act (stores_to m)) (complete e))))
 
   held_first : σ 1 ≡ first_held S run cells
   held_first =
@@ -170,6 +173,7 @@ module _ (S : Shape) (title : Name) (run : ℕ → Cycle) (f : Follows (built ti
       take = λ s n reads. take_is (suc n) (stands S title run f ms fit machine cells around n) (around.runs n) s reads;
       put = λ s n writes. put_is (suc n) (stands S title run f ms fit machine cells around n) (around.runs n) s writes;
     };
+    asks = λ n m low. asks_is (suc n) (stands S title run f ms fit machine cells around n) (around.runs n) m low;
     stores = λ n m low. stores_is (suc n) (stands S title run f ms fit machine cells around n) (around.runs n) m low;
     done = λ n. output_driven title (task_elements S) run f 1 (name Done) (Plain (net Ended)) done_there n;
   }

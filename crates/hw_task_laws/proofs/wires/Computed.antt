@@ -18,7 +18,7 @@ use Rattle.vlog_tree.specs.Table.{Name}
 use Rattle.vlog_tree.specs.Cycle.{Cycle, Sizes, atom_value}
 use Rattle.tapa_base.proofs.Lists.{has_left, has_right}
 use Rattle.hw_build.specs.Elements.{Element, Wire}
-use Rattle.task_fsm.specs.Machine.{Expression, Number, Reg, CellOf, Converted, Applied, Flipped, Inverse, Both, Either, Chosen, Operation}
+use Rattle.task_fsm.specs.Machine.{Expression, Number, Reg, CellOf, Converted, Applied, Flipped, Inverse, Both, Either, Chosen}
 use Rattle.task_fsm.specs.MachineKinds.{IsFixed, IsOfKind, HoldsValues}
 use Rattle.task_fsm.specs.MachineKinds as machine
 use Rattle.task_fsm.specs.Ranges.{Ranges, NamesWithin}
@@ -51,7 +51,6 @@ reads_counted m (Either l r) = sum_length (reads_in m l) (reads_in (m + read_cou
 reads_counted m (Chosen e a b) =
     sum_length (reads_in m e) (reads_in (m + read_count e) a ++ reads_in (m + read_count e + read_count a) b) (read_count e) (read_count a + read_count b) (reads_counted m e)
     (sum_length (reads_in (m + read_count e) a) (reads_in (m + read_count e + read_count a) b) (read_count a) (read_count b) (reads_counted (m + read_count e) a) (reads_counted (m + read_count e + read_count a) b))
-reads_counted m Operation = refl
 
 -- reads before and behind others
 module _ (P : ℕ → ArrayRead → Type 0) where
@@ -90,7 +89,6 @@ constant_atom front m n k (Inverse e) v f h = number_of (fixed (Inverse e)) v h 
 constant_atom front m n k (Both l r) v f h = number_of (fixed (Both l r)) v h k _
 constant_atom front m n k (Either l r) v f h = number_of (fixed (Either l r)) v h k _
 constant_atom front m n k (Chosen e a b) v f h = number_of (fixed (Chosen e a b)) v h k _
-constant_atom front m n k Operation v f h = absurd f
 
 and_bits : (a b : ℕ) → a < 2 → b < 2 → bit_and a b ≡ a * b
 and_bits zero zero h i = refl
@@ -272,7 +270,6 @@ module _ (s : Sizes) (c : Cycle) where
         (ap (λ q. cond (eqb q 1) (atom_value c D.atom) (atom_value c E.atom)) x.value ∙ ap (λ q. cond (eqb (value e σ) 1) q (atom_value c E.atom)) y.value ∙ ap (cond (eqb (value e σ) 1) (value a σ)) z.value
         ∙ choose_bit (value e σ) (value a σ) (value b σ) (value_fits K e kind.Bool σ t.0 fits)))
         said
-    computed Operation k front m n t g answers said = absurd t
 
 pub shows_value : ShowsValue
 shows_value s c K R σ fits registers e k front m n t g answers said = computed s c K R σ fits registers e k front m n t g answers said

@@ -10,7 +10,7 @@ use Rattle.tapa_base.specs.Kinds.{bits_of, values_of, converted}
 use Rattle.tapa_base.specs.Operators.{applied}
 use Rattle.tapa_syntax.specs.Typed.{right_kind}
 use Rattle.kahn_model.specs.Trace.{State, at_zero}
-use Rattle.task_fsm.specs.Machine.{Expression, Number, Reg, CellOf, Converted, Applied, Flipped, Inverse, Both, Either, Chosen, Operation}
+use Rattle.task_fsm.specs.Machine.{Expression, Number, Reg, CellOf, Converted, Applied, Flipped, Inverse, Both, Either, Chosen}
 use Rattle.task_fsm.specs.MachineKinds.{IsDivisor}
 use Rattle.task_fsm.specs.Run.{value}
 use Rattle.task_fsm.proofs.Steps.{value_fits}
@@ -54,7 +54,6 @@ fixed_value (Either l r) σ v h =
     two_is (fixed l) (fixed r) (value l σ) (value r σ) (λ a g. fixed_value l σ a g) (λ a g. fixed_value r σ a g) _ (λ a b. 1 - (1 - a) * (1 - b)) (λ a b. only_is (nat_lt a 2 && nat_lt b 2) (1 - (1 - a) * (1 - b))) v h
 fixed_value (Chosen e a b) σ v h =
     three_is (fixed e) (fixed a) (fixed b) (value e σ) (value a σ) (value b σ) (λ x g. fixed_value e σ x g) (λ x g. fixed_value a σ x g) (λ x g. fixed_value b σ x g) _ (λ x y z. at_zero x z y) (λ x y z r g. some_same (at_zero x z y) r g) v h
-fixed_value Operation σ v h = cc
 
 -- ---- and the other way
 
@@ -114,4 +113,3 @@ numbers_fixed K (Either l r) k σ t h f =
 numbers_fixed K (Chosen e a b) k σ t h f =
     ap (λ z. on_three z (fixed a) (fixed b) (λ v x y. Some (at_zero v y x))) (numbers_fixed K e kind.Bool σ t.0 h f.0)
     ∙ two_there (fixed a) (fixed b) (value a σ) (value b σ) (numbers_fixed K a k σ t.1 h f.1) (numbers_fixed K b k σ t.2 h f.2) (λ x y. Some (at_zero (value e σ) y x)) (at_zero (value e σ) (value b σ) (value a σ)) refl
-numbers_fixed K Operation k σ t h f = absurd f

@@ -1,32 +1,17 @@
 -- What a task's module takes, puts and asks for in a cycle.
 use Rattle.std.specs.Prelude.{◌≡◌, ℕ, ◌<◌, List, [], length, true, false, ◌&&◌, Some, if◌then◌else◌}
 use Rattle.tapa_syntax.specs.LeafKinds.{writes_of}
-use Rattle.kahn_model.specs.declared.tick.Action.{Action}
-use Rattle.kahn_model.specs.declared.tick.Action.TheVariants.{Local, Put, Load, Store}
 use Rattle.kahn_model.specs.Trace.{State}
-use Rattle.vlog_tree.specs.Table.{Name}
+use Rattle.vlog_tree.specs.Table.{Name, one_if}
 use Rattle.vlog_tree.specs.Cycle.{Cycle, Follows}
 use Rattle.hw_build.specs.Elements.{built}
-use Rattle.task_fsm.specs.Run.{StateStep, Performs, Awaits, Completes, Halts, step}
-use Rattle.hw_lines.specs.declared.nets.Net.TheVariants.{Taken, Addr, Wdata, We}
+use Rattle.task_fsm.specs.Run.{step}
+use Rattle.hw_lines.specs.declared.nets.Net.TheVariants.{Taken, We}
 use Rattle.hw_lines.specs.Shape.{Shape, form_at}
 use Rattle.hw_lines.specs.Texts.{task_elements}
 use Rattle.hw_lines.specs.Machine.{takes_of, puts_of, put_in}
-use Rattle.hw_lines.specs.Runs.{bit_at, number_at, streams_at, stores_to, by_act}
+use Rattle.hw_lines.specs.Runs.{bit_at, number_at, streams_at, stores_to, by_act, AsksAs}
 use Rattle.hw_task_laws.specs.steps.Steps.{allowed, IsAt}
-
--- what a step asks memory m for: a cell, which it may store
-abbrev pub AsksBy : (ℕ → Cycle) → ℕ → ℕ → Action → Type 0
-AsksBy run n m Local = Unit {0}
-AsksBy run n m (Put s t) = Unit {0}
-AsksBy run n m (Load x i) = x ≡ m → number_at run (Addr m) n ≡ i
-AsksBy run n m (Store x i v) = x ≡ m → (number_at run (Addr m) n ≡ i) × (number_at run (Wdata m) n ≡ v)
-
-abbrev pub AsksAs : (ℕ → Cycle) → ℕ → ℕ → StateStep → Type 0
-AsksAs run n m (Performs a pc σ) = AsksBy run n m a
-AsksAs run n m (Awaits s how pc into) = Unit {0}
-AsksAs run n m Completes = Unit {0}
-AsksAs run n m Halts = Unit {0}
 
 abbrev pub TakesAreMade : Type 0
 TakesAreMade =
@@ -47,4 +32,4 @@ AsksAreMade =
 abbrev pub StoresAreAsked : Type 0
 StoresAreAsked =
     (S : Shape) (title : Name) (run : ℕ → Cycle) (f : Follows (built title (task_elements S)) run) (cells : ℕ → List (List ℕ)) (n k : ℕ) (σ : State) → IsAt S run f.sizes cells n k σ
-    → (m : ℕ) → m < length S.memories → bit_at run (We m) n ≡ by_act (stores_to m) (step (form_at S k) k σ)
+    → (m : ℕ) → m < length S.memories → number_at run (We m) n ≡ one_if (by_act (stores_to m) (step (form_at S k) k σ))

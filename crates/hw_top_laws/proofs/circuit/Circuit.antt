@@ -10,10 +10,10 @@ use Rattle.vlog_tree.specs.Form.{ModuleTree}
 use Rattle.vlog_module_laws.specs.Larger.{IsWithin}
 use Rattle.vlog_module_laws.proofs.Larger.{front_within}
 use Rattle.hw_lines.specs.Texts.{task_name}
-use Rattle.hw_lines.specs.top.Channels.{channel_modules}
-use Rattle.hw_lines.specs.top.Designs.{design_tree}
-use Rattle.hw_lines.specs.top.Legal.{IsReady}
-use Rattle.hw_lines.specs.top.Texts.{token_bits, top_tree}
+use Rattle.hw_top_lines.specs.Channels.{channel_modules}
+use Rattle.hw_top_lines.specs.Designs.{design_tree}
+use Rattle.hw_top_lines.specs.Legal.{IsReady}
+use Rattle.hw_top_lines.specs.Texts.{token_bits, top_tree}
 use Rattle.hw_top_laws.specs.modules.Lower.{lower_modules, task_module, KeepPromises}
 use Rattle.hw_top_laws.proofs.modules.Channels.{channel_are}
 use Rattle.hw_top_laws.proofs.modules.Lower.{channels_found}

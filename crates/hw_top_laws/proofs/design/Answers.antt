@@ -24,9 +24,9 @@ use Rattle.hw_build.proofs.Tables.{ports_of_all}
 use Rattle.hw_build.specs.Scope.{each}
 use Rattle.hw_build.proofs.Parts.{of_each}
 use Rattle.hw_lines.specs.Texts.{task_name}
-use Rattle.hw_lines.specs.top.Legal.{IsReady}
-use Rattle.hw_lines.specs.top.Names.{waits}
-use Rattle.hw_lines.specs.top.Texts.{scalar_port, memory_ports, ports, wires, waiting, none_waits, doneness, instances, top_elements, top_tree}
+use Rattle.hw_top_lines.specs.Legal.{IsReady}
+use Rattle.hw_top_lines.specs.Names.{waits}
+use Rattle.hw_top_lines.specs.Texts.{scalar_port, memory_ports, ports, wires, waiting, none_waits, doneness, instances, top_elements, top_tree}
 use Rattle.hw_top_laws.specs.modules.Lower.{lower_modules, KeepPromises}
 use Rattle.hw_top_laws.proofs.modules.Tasks.{some_index}
 use Rattle.hw_top_laws.proofs.names.Made.{sort, clk_sort, rst_sort, scalar_sort, addr_sort, wdata_sort, we_sort, ack_sort, rdata_sort, done_sort, same_between}

@@ -19,10 +19,10 @@ use Rattle.hw_build.specs.Elements.{empty}
 use Rattle.hw_build.proofs.Tables.{name_of_all}
 use Rattle.hw_channel_laws.proofs.modules.Together.{AreApart, finds, modules_apart, modules_later, level_in, lower_level}
 use Rattle.hw_lines.specs.Texts.{task_name}
-use Rattle.hw_lines.specs.top.Channels.{channel_modules}
-use Rattle.hw_lines.specs.top.Designs.{design_tree}
-use Rattle.hw_lines.specs.top.Legal.{IsReady}
-use Rattle.hw_lines.specs.top.Texts.{token_bits, top_elements, top_tree}
+use Rattle.hw_top_lines.specs.Channels.{channel_modules}
+use Rattle.hw_top_lines.specs.Designs.{design_tree}
+use Rattle.hw_top_lines.specs.Legal.{IsReady}
+use Rattle.hw_top_lines.specs.Texts.{token_bits, top_elements, top_tree}
 use Rattle.hw_top_laws.specs.modules.Lower.{lower_modules, KeepPromises}
 use Rattle.hw_top_laws.proofs.modules.Added.{apart_append, apart_one}
 use Rattle.hw_top_laws.proofs.modules.Channels.{sizes, channel_are}

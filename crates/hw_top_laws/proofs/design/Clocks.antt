@@ -21,14 +21,14 @@ use Rattle.tapa_base.proofs.Lists.{has_split, has_flat, of_flat, of_map}
 use Rattle.vlog_module_laws.proofs.Larger.{named_has}
 use Rattle.hw_build.specs.Elements.{Element, Instance as InstanceElement, element_items, empty}
 use Rattle.hw_build.proofs.Tables.{items_of_all}
-use Rattle.hw_channel_laws.specs.modules.Names.{channel_name}
-use Rattle.hw_channel_laws.specs.modules.Texts.{joined_to}
+use Rattle.hw_channel_lines.specs.Names.{channel_name}
+use Rattle.hw_channel_lines.specs.Texts.{joined_to}
 use Rattle.hw_channel_laws.proofs.modules.Clear.{clocks}
 use Rattle.hw_lines.specs.Texts.{task_name}
 use Rattle.hw_top_laws.specs.joins.Joins.{joined_ports}
-use Rattle.hw_lines.specs.top.Legal.{IsReady}
-use Rattle.hw_lines.specs.top.Names.{task_instance, channel_instance}
-use Rattle.hw_lines.specs.top.Texts.{ports, wires, doneness, token_bits, task_ends, channel_ends, instances, top_elements, top_tree}
+use Rattle.hw_top_lines.specs.Legal.{IsReady}
+use Rattle.hw_top_lines.specs.Names.{task_instance, channel_instance}
+use Rattle.hw_top_lines.specs.Texts.{ports, wires, doneness, token_bits, task_ends, channel_ends, instances, top_elements, top_tree}
 use Rattle.hw_top_laws.specs.modules.Lower.{lower_modules, KeepPromises}
 use Rattle.hw_top_laws.proofs.modules.Channels.{channel_are}
 use Rattle.hw_top_laws.proofs.modules.Lower.{one_of, lower_ports}

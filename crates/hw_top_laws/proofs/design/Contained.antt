@@ -5,8 +5,8 @@ use Rattle.vlog_tree.specs.Form.{ModuleTree}
 use Rattle.tapa_base.specs.Lists.{Has}
 use Rattle.vlog_tree.specs.Table.{Name}
 use Rattle.vlog_tree.specs.V6.{module_children}
-use Rattle.hw_channel_laws.specs.modules.Names.{channel_name, relay_name}
-use Rattle.hw_channel_laws.specs.modules.Texts.{even_tree, odd_tree, row_tree, plain_tree, relayed_tree, AreRelays, One, More, AreModules, Alone, Relayed}
+use Rattle.hw_channel_lines.specs.Names.{channel_name, relay_name}
+use Rattle.hw_channel_lines.specs.Texts.{even_tree, odd_tree, row_tree, plain_tree, relayed_tree, AreRelays, One, More, AreModules, Alone, Relayed}
 use Rattle.hw_channel_laws.proofs.modules.Relays.{row_name}
 
 abbrev pub StandsIn : List ModuleTree → Name → Type 0

@@ -24,7 +24,7 @@ use Rattle.hw_build.specs.Fits.{AreOnce}
 use Rattle.hw_task_laws.proofs.fit.Scopes.{few_bits}
 use Rattle.hw_top_laws.specs.joins.Joins.{input_port, output_port, port_names}
 use Rattle.hw_top_laws.proofs.joins.Joined.{found_port, input_kind, output_kind}
-use Rattle.hw_lines.specs.top.Texts.{memory_ports}
+use Rattle.hw_top_lines.specs.Texts.{memory_ports}
 use Rattle.hw_top_laws.proofs.names.Made.{sort, clk_sort, rst_sort, scalar_sort, addr_sort, wdata_sort, we_sort, ack_sort, rdata_sort, done_sort}
 use Rattle.hw_top_laws.proofs.design.OutsideParts.{no_scalar, no_ack, no_rdata, no_addr, no_wdata, no_we}
 use Rattle.hw_top_laws.proofs.design.Ports.{whole, IsTopPort, AtClock, AtReset, AtDone, AtScalar, AtMemory, port_is, clock_there, reset_there, done_there, memory_there}

@@ -25,8 +25,8 @@ use Rattle.hw_build.specs.Fits.{AreOnce}
 use Rattle.hw_build.specs.Scope.{each}
 use Rattle.hw_build.proofs.Parts.{has_each}
 use Rattle.hw_build.proofs.ListTables.{table}
-use Rattle.hw_channel_laws.specs.modules.Names.{channel_name}
-use Rattle.hw_channel_laws.specs.modules.Texts.{joined_to}
+use Rattle.hw_channel_lines.specs.Names.{channel_name}
+use Rattle.hw_channel_lines.specs.Texts.{joined_to}
 use Rattle.hw_channel_laws.proofs.modules.Clear.{no_way_in}
 use Rattle.hw_channel_laws.proofs.modules.Fits.{clear}
 use Rattle.hw_lines.specs.declared.nets.Net.TheVariants.{Taken}
@@ -34,10 +34,10 @@ use Rattle.hw_lines.specs.Nets.{name}
 use Rattle.hw_lines.specs.Texts.{is_written, task_name}
 use Rattle.hw_top_laws.specs.joins.Joins.{port_names, joined_ports}
 use Rattle.hw_top_laws.proofs.joins.Joined.{output_kind}
-use Rattle.hw_lines.specs.top.Channels.{channel_modules}
-use Rattle.hw_lines.specs.top.Legal.{IsReady}
-use Rattle.hw_lines.specs.top.Names.{s_take}
-use Rattle.hw_lines.specs.top.Texts.{ports, doneness, take_wire, token_bits, stream_label, written_ends, read_ends, scalar_ends, stream_ends, memory_ends, task_ends, instances, top_elements}
+use Rattle.hw_top_lines.specs.Channels.{channel_modules}
+use Rattle.hw_top_lines.specs.Legal.{IsReady}
+use Rattle.hw_top_lines.specs.Names.{s_take}
+use Rattle.hw_top_lines.specs.Texts.{ports, doneness, take_wire, token_bits, stream_label, written_ends, read_ends, scalar_ends, stream_ends, memory_ends, task_ends, instances, top_elements}
 use Rattle.hw_top_laws.specs.modules.Lower.{lower_modules, KeepPromises}
 use Rattle.hw_top_laws.proofs.modules.Channels.{sizes, channel_are}
 use Rattle.hw_top_laws.proofs.modules.Lower.{channel_within, lower_ports}

@@ -8,7 +8,7 @@ use Rattle.vlog_module_laws.specs.Larger.{IsWithin, HaveInstancesOf}
 use Rattle.vlog_module_laws.proofs.Larger.{direct_same, found, named_has, rests_fewer}
 use Rattle.hw_build.proofs.Order.{no_loop}
 use Rattle.hw_lines.specs.Texts.{task_name}
-use Rattle.hw_lines.specs.top.Texts.{top_elements}
+use Rattle.hw_top_lines.specs.Texts.{top_elements}
 use Rattle.hw_top_laws.specs.modules.Lower.{lower_modules}
 use Rattle.hw_top_laws.proofs.form.Form.{elements_form}
 use Rattle.hw_top_laws.proofs.form.Whole.{tops_are_fitting}

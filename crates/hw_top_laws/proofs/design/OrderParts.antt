@@ -14,10 +14,10 @@ use Rattle.hw_build.specs.Elements.{Element, Instance as InstanceElement}
 use Rattle.hw_build.specs.Order.{child_names}
 use Rattle.hw_build.specs.Scope.{each}
 use Rattle.hw_build.proofs.Parts.{of_each}
-use Rattle.hw_channel_laws.specs.modules.Names.{channel_name}
+use Rattle.hw_channel_lines.specs.Names.{channel_name}
 use Rattle.hw_lines.specs.Texts.{task_name}
-use Rattle.hw_lines.specs.top.Names.{task_instance, channel_instance}
-use Rattle.hw_lines.specs.top.Texts.{ports, wires, doneness, token_bits, of_leaf, of_instance, at_instance, task_ends, task_part, channel_ends, channel_part, instances, top_elements}
+use Rattle.hw_top_lines.specs.Names.{task_instance, channel_instance}
+use Rattle.hw_top_lines.specs.Texts.{ports, wires, doneness, token_bits, of_leaf, of_instance, at_instance, task_ends, task_part, channel_ends, channel_part, instances, top_elements}
 use Rattle.hw_top_laws.proofs.form.Drives.{ports_none, wires_none, done_none}
 
 none_there : (xs : List Element) → flat_map child_names xs ≡ [] → (k i : Name) (ls : List Connection) → Has xs (InstanceElement k i ls) → ⊥

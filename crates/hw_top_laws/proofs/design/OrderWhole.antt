@@ -17,10 +17,10 @@ use Rattle.vlog_run_laws.proofs.runs.Alone.{module_is, module_there}
 use Rattle.hw_channel_laws.proofs.modules.Clear.{no_loop}
 use Rattle.hw_channel_laws.proofs.modules.Fits.{clear}
 use Rattle.hw_lines.specs.Texts.{task_name}
-use Rattle.hw_lines.specs.top.Channels.{channel_modules}
-use Rattle.hw_lines.specs.top.Designs.{design_tree}
-use Rattle.hw_lines.specs.top.Legal.{IsReady}
-use Rattle.hw_lines.specs.top.Texts.{token_bits, top_tree}
+use Rattle.hw_top_lines.specs.Channels.{channel_modules}
+use Rattle.hw_top_lines.specs.Designs.{design_tree}
+use Rattle.hw_top_lines.specs.Legal.{IsReady}
+use Rattle.hw_top_lines.specs.Texts.{token_bits, top_tree}
 use Rattle.hw_top_laws.specs.modules.Lower.{lower_modules, KeepPromises}
 use Rattle.hw_top_laws.proofs.modules.Channels.{sizes, channel_are}
 use Rattle.hw_top_laws.proofs.modules.Lower.{one_of, lower_right, channel_within}

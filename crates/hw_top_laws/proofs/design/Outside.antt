@@ -33,11 +33,11 @@ use Rattle.hw_build.specs.Scope.{each}
 use Rattle.hw_build.specs.Fits.{declared_names}
 use Rattle.hw_top_laws.specs.joins.Joins.{input_port, output_port}
 use Rattle.hw_lines.specs.Texts.{task_name}
-use Rattle.hw_lines.specs.top.Legal.{scalar_ports, memory_ports as memory_shapes, stream_ports}
-use Rattle.hw_lines.specs.top.Names.{s_has, s_dout}
-use Rattle.hw_lines.specs.top.Bounds.{parameters}
-use Rattle.hw_lines.specs.top.Legal.{IsReady}
-use Rattle.hw_lines.specs.top.Texts.{scalar_port, memory_ports, ports, token_bits, stream_wires, take_wire, at_instance, ended_wire, doneness, wires, instances, top_elements, top_tree}
+use Rattle.hw_top_lines.specs.Legal.{scalar_ports, memory_ports as memory_shapes, stream_ports}
+use Rattle.hw_top_lines.specs.Names.{s_has, s_dout}
+use Rattle.hw_top_lines.specs.Bounds.{parameters}
+use Rattle.hw_top_lines.specs.Legal.{IsReady}
+use Rattle.hw_top_lines.specs.Texts.{scalar_port, memory_ports, ports, token_bits, stream_wires, take_wire, at_instance, ended_wire, doneness, wires, instances, top_elements, top_tree}
 use Rattle.hw_top_laws.specs.modules.Lower.{lower_modules, KeepPromises}
 use Rattle.hw_top_laws.proofs.names.Made.{sort, scalar_sort, addr_sort, wdata_sort, we_sort, ack_sort, rdata_sort, clk_sort, rst_sort, done_sort, wr_sort, rdy_sort, has_sort, dout_sort}
 use Rattle.hw_top_laws.proofs.names.Top.{got_map, got_left, got_right, rest_sorts, done_sorts}

@@ -18,8 +18,8 @@ use Rattle.hw_build.specs.Scope.{each}
 use Rattle.hw_build.proofs.Parts.{has_each, of_each}
 use Rattle.hw_lines.specs.Texts.{task_name}
 use Rattle.hw_top_laws.specs.joins.Joins.{input_port, output_port}
-use Rattle.hw_lines.specs.top.Names.{waits}
-use Rattle.hw_lines.specs.top.Texts.{scalar_port, memory_ports, ports, wires, waiting, none_waits, doneness, instances, top_elements, top_tree}
+use Rattle.hw_top_lines.specs.Names.{waits}
+use Rattle.hw_top_lines.specs.Texts.{scalar_port, memory_ports, ports, wires, waiting, none_waits, doneness, instances, top_elements, top_tree}
 use Rattle.hw_top_laws.proofs.modules.Tasks.{some_index}
 use Rattle.hw_top_laws.proofs.form.Drives.{wires_none, waits_none, instances_none}
 

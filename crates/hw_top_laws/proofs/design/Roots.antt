@@ -22,12 +22,12 @@ use Rattle.hw_build.proofs.Drivers.{times_has}
 use Rattle.hw_build.proofs.Tables.{same_name, items_of_all}
 use Rattle.hw_build.specs.Scope.{each}
 use Rattle.hw_build.proofs.Parts.{has_each}
-use Rattle.hw_channel_laws.specs.modules.Names.{channel_name}
+use Rattle.hw_channel_lines.specs.Names.{channel_name}
 use Rattle.hw_lines.specs.Texts.{task_name}
-use Rattle.hw_lines.specs.top.Designs.{design_tree}
-use Rattle.hw_lines.specs.top.Legal.{IsReady}
-use Rattle.hw_lines.specs.top.Names.{task_instance, channel_instance}
-use Rattle.hw_lines.specs.top.Texts.{ports, wires, doneness, token_bits, of_leaf, of_instance, at_instance, task_ends, task_part, channel_ends, channel_part, instances, top_elements, top_tree}
+use Rattle.hw_top_lines.specs.Designs.{design_tree}
+use Rattle.hw_top_lines.specs.Legal.{IsReady}
+use Rattle.hw_top_lines.specs.Names.{task_instance, channel_instance}
+use Rattle.hw_top_lines.specs.Texts.{ports, wires, doneness, token_bits, of_leaf, of_instance, at_instance, task_ends, task_part, channel_ends, channel_part, instances, top_elements, top_tree}
 use Rattle.hw_top_laws.specs.modules.Lower.{lower_modules, KeepPromises}
 use Rattle.hw_top_laws.proofs.modules.Channels.{IsOfStream, channel_are}
 use Rattle.hw_top_laws.proofs.modules.Lower.{one_of, no_top}

@@ -22,9 +22,9 @@ use Rattle.hw_build.proofs.Tables.{same_name}
 use Rattle.hw_build.specs.Fits.{AreOnce}
 use Rattle.hw_channel_laws.proofs.modules.Together.{single}
 use Rattle.hw_top_laws.specs.joins.Joins.{port_names}
-use Rattle.hw_lines.specs.top.Designs.{design_tree}
-use Rattle.hw_lines.specs.top.Legal.{IsReady}
-use Rattle.hw_lines.specs.top.Texts.{top_tree}
+use Rattle.hw_top_lines.specs.Designs.{design_tree}
+use Rattle.hw_top_lines.specs.Legal.{IsReady}
+use Rattle.hw_top_lines.specs.Texts.{top_tree}
 use Rattle.hw_top_laws.specs.modules.Lower.{lower_modules, KeepPromises}
 use Rattle.hw_top_laws.proofs.modules.Lower.{lower_form, lower_right, no_top, ports_once}
 use Rattle.hw_top_laws.proofs.form.Whole.{tops_are_right, tops_are_modules}

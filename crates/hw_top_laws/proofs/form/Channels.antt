@@ -10,13 +10,13 @@ use Rattle.vlog_tree.specs.Form.{ModuleTree}
 use Rattle.tapa_base.specs.Lists.{Has}
 use Rattle.vlog_tree.specs.Labels.{rst}
 use Rattle.vlog_tree.specs.Table.{Name, clk, module_named}
-use Rattle.hw_channel_laws.specs.modules.Names.{channel_name}
+use Rattle.hw_channel_lines.specs.Names.{channel_name}
 use Rattle.hw_channel_laws.specs.modules.Rules.{OfFirst, IsOutermost, outer_ports}
 use Rattle.hw_channel_laws.proofs.modules.Clear.{outermost}
 use Rattle.hw_top_laws.specs.joins.Joins.{IsJoin, ToClock, ToInput, FromOutput, IsJoined}
-use Rattle.hw_lines.specs.top.Channels.{channel_modules}
-use Rattle.hw_lines.specs.top.Legal.{IsReady}
-use Rattle.hw_lines.specs.top.Texts.{token_bits, channel_ends}
+use Rattle.hw_top_lines.specs.Channels.{channel_modules}
+use Rattle.hw_top_lines.specs.Legal.{IsReady}
+use Rattle.hw_top_lines.specs.Texts.{token_bits, channel_ends}
 use Rattle.hw_top_laws.specs.modules.Lower.{lower_modules, KeepPromises}
 use Rattle.hw_top_laws.proofs.modules.Channels.{channel_are}
 use Rattle.hw_top_laws.proofs.modules.Lower.{channels_found}

@@ -34,9 +34,9 @@ use Rattle.hw_build.specs.Fitting.{instance_driven}
 use Rattle.hw_build.specs.Trees.{numbered, tree_node, tree_nodes}
 use Rattle.hw_build.specs.Scope.{each}
 use Rattle.hw_build.specs.Fits.{AreOnce}
-use Rattle.hw_channel_laws.specs.modules.Names.{channel_name}
+use Rattle.hw_channel_lines.specs.Names.{channel_name}
 use Rattle.hw_channel_laws.specs.modules.Rules.{outer_ports}
-use Rattle.hw_channel_laws.specs.modules.Texts.{clocks, joined_to}
+use Rattle.hw_channel_lines.specs.Texts.{clocks, joined_to}
 use Rattle.hw_lines.specs.Drivers.{Driver, wires_of, last_of, conversion}
 use Rattle.hw_lines.specs.declared.nets.Net.TheVariants.{Done, Scalar as ScalarPort, Has as HasPort, Dout, Taken, Din, Wr, Rdy, Ack, Rdata, Addr, Wdata, We}
 use Rattle.hw_lines.specs.Nets.{name}
@@ -46,10 +46,10 @@ use Rattle.hw_task_laws.specs.names.Ports.{inward, outward}
 use Rattle.hw_task_laws.proofs.names.Empty.{GiveNone, both_none, more_none, each_none}
 use Rattle.hw_top_laws.specs.joins.Joins.{input_port, output_port, port_names}
 use Rattle.hw_top_laws.proofs.joins.Joined.{input_kind, output_kind}
-use Rattle.hw_lines.specs.top.Names.{s_has, s_dout, s_take, task_instance, channel_instance, ended_net, waits, bound_net}
-use Rattle.hw_lines.specs.top.Bounds.{scalar_kind, scalar_name, parameter_kind, converted_net, kind_before, conversion_step, bound_elements, bound_by, parameters}
-use Rattle.hw_lines.specs.top.Legal.{IsReady}
-use Rattle.hw_lines.specs.top.Texts.{scalar_port, memory_ports, ports, token_bits, stream_wires, take_wire, stream_label, memory_name, of_leaf, of_instance, at_instance, scalar_ends, written_ends, read_ends, stream_ends, named_ends, memory_ends, task_ends, ended_wire, still_waits, is_detached, waiting, none_waits, doneness, channel_ends, task_part, channel_part, wires, instances}
+use Rattle.hw_top_lines.specs.Names.{s_has, s_dout, s_take, task_instance, channel_instance, ended_net, waits, bound_net}
+use Rattle.hw_top_lines.specs.Bounds.{scalar_kind, scalar_name, parameter_kind, converted_net, kind_before, conversion_step, bound_elements, bound_by, parameters}
+use Rattle.hw_top_lines.specs.Legal.{IsReady}
+use Rattle.hw_top_lines.specs.Texts.{scalar_port, memory_ports, ports, token_bits, stream_wires, take_wire, stream_label, memory_name, of_leaf, of_instance, at_instance, scalar_ends, written_ends, read_ends, stream_ends, named_ends, memory_ends, task_ends, ended_wire, still_waits, is_detached, waiting, none_waits, doneness, channel_ends, task_part, channel_part, wires, instances}
 use Rattle.hw_top_laws.specs.modules.Lower.{lower_modules, KeepPromises}
 use Rattle.hw_top_laws.proofs.modules.Lower.{lower_ports}
 use Rattle.hw_top_laws.proofs.form.Channels.{outer}

@@ -26,16 +26,16 @@ use Rattle.hw_build.specs.Scope.{each, FitInOrder}
 use Rattle.hw_build.specs.Fits.{declared_names, targets, AreOnce}
 use Rattle.hw_build.proofs.Form.{alone_has_form}
 use Rattle.hw_build.proofs.Parts.{has_each, parts_fit, each_part_fits}
-use Rattle.hw_channel_laws.specs.modules.Names.{channel_name}
+use Rattle.hw_channel_lines.specs.Names.{channel_name}
 use Rattle.hw_lines.specs.Texts.{task_name}
 use Rattle.hw_task_laws.proofs.names.Empty.{GiveNone, both_none, each_none}
 use Rattle.hw_task_laws.proofs.names.Named.{flat_each}
 use Rattle.hw_task_laws.proofs.fit.Scopes.{input_net, kind_wide, token_wide}
 use Rattle.hw_top_laws.proofs.joins.Joined.{joined_has_form}
-use Rattle.hw_lines.specs.top.Names.{s_has, s_dout, s_take, task_instance, channel_instance, ended_net}
-use Rattle.hw_lines.specs.top.Bounds.{parameters}
-use Rattle.hw_lines.specs.top.Legal.{IsReady}
-use Rattle.hw_lines.specs.top.Texts.{scalar_port, memory_ports, ports, token_bits, stream_wires, take_wire, of_leaf, of_instance, at_instance, task_ends, task_part, ended_wire, doneness, channel_ends, channel_part, wires, instances, top_elements}
+use Rattle.hw_top_lines.specs.Names.{s_has, s_dout, s_take, task_instance, channel_instance, ended_net}
+use Rattle.hw_top_lines.specs.Bounds.{parameters}
+use Rattle.hw_top_lines.specs.Legal.{IsReady}
+use Rattle.hw_top_lines.specs.Texts.{scalar_port, memory_ports, ports, token_bits, stream_wires, take_wire, of_leaf, of_instance, at_instance, task_ends, task_part, ended_wire, doneness, channel_ends, channel_part, wires, instances, top_elements}
 use Rattle.hw_top_laws.specs.modules.Lower.{lower_modules, KeepPromises}
 use Rattle.hw_top_laws.proofs.modules.Lower.{lower_form}
 use Rattle.hw_top_laws.proofs.names.Named.{all_named}

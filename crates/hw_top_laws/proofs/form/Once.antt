@@ -25,13 +25,13 @@ use Rattle.hw_build.specs.Scope.{each}
 use Rattle.hw_build.specs.Fits.{AreOnce}
 use Rattle.hw_build.proofs.Once.{two_once, parts_once}
 use Rattle.hw_build.proofs.Parts.{of_each}
-use Rattle.hw_channel_laws.specs.modules.Names.{channel_name}
+use Rattle.hw_channel_lines.specs.Names.{channel_name}
 use Rattle.hw_lines.specs.Texts.{is_written, task_name}
 use Rattle.hw_task_laws.proofs.names.Empty.{GiveNone, both_none}
 use Rattle.hw_task_laws.proofs.names.Named.{single, flat_each}
-use Rattle.hw_lines.specs.top.Names.{s_has, s_dout, s_take, task_instance, channel_instance, ended_net}
-use Rattle.hw_lines.specs.top.Legal.{IsReady}
-use Rattle.hw_lines.specs.top.Texts.{ports, of_leaf, of_instance, at_instance, stream_label, memory_name, token_bits, task_ends, task_part, doneness, channel_ends, channel_part, wires, top_elements}
+use Rattle.hw_top_lines.specs.Names.{s_has, s_dout, s_take, task_instance, channel_instance, ended_net}
+use Rattle.hw_top_lines.specs.Legal.{IsReady}
+use Rattle.hw_top_lines.specs.Texts.{ports, of_leaf, of_instance, at_instance, stream_label, memory_name, token_bits, task_ends, task_part, doneness, channel_ends, channel_part, wires, top_elements}
 use Rattle.hw_top_laws.specs.modules.Lower.{lower_modules, KeepPromises}
 use Rattle.hw_top_laws.proofs.modules.Tasks.{some_index}
 use Rattle.hw_top_laws.proofs.names.Made.{sort, IsMade, same_label, made_addr, made_wdata, made_we, made_din, made_wr, made_rdy, made_has, made_dout, made_take}

@@ -18,10 +18,10 @@ use Rattle.hw_build.proofs.Parts.{has_each, in_order_more, parts_fit, each_part_
 use Rattle.hw_task_laws.proofs.fit.Scopes.{left_among, wire_net, net_in, net_of, kind_wide, token_wide}
 use Rattle.hw_top_laws.specs.joins.Joins.{StandInOrder}
 use Rattle.hw_top_laws.proofs.joins.Parts.{alone_stands, stands_more, parts_stand, each_part_stands}
-use Rattle.hw_lines.specs.top.Names.{ended_net, waits}
-use Rattle.hw_lines.specs.top.Bounds.{parameters}
-use Rattle.hw_lines.specs.top.Legal.{IsReady}
-use Rattle.hw_lines.specs.top.Texts.{scalar_port, memory_ports, ports, stream_wires, take_wire, of_leaf, of_instance, at_instance, task_part, ended_wire, still_waits, is_detached, waiting, none_waits, doneness, channel_part, wires, instances, top_elements}
+use Rattle.hw_top_lines.specs.Names.{ended_net, waits}
+use Rattle.hw_top_lines.specs.Bounds.{parameters}
+use Rattle.hw_top_lines.specs.Legal.{IsReady}
+use Rattle.hw_top_lines.specs.Texts.{scalar_port, memory_ports, ports, stream_wires, take_wire, of_leaf, of_instance, at_instance, task_part, ended_wire, still_waits, is_detached, waiting, none_waits, doneness, channel_part, wires, instances, top_elements}
 use Rattle.hw_top_laws.specs.modules.Lower.{lower_modules, KeepPromises}
 use Rattle.hw_top_laws.proofs.form.Bounds.{parameters_fit}
 use Rattle.hw_top_laws.proofs.form.Channels.{channel_joined}

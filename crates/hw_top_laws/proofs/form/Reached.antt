@@ -22,15 +22,15 @@ use Rattle.hw_build.specs.Elements.{Element, Instance as InstanceElement}
 use Rattle.hw_build.specs.Fitting.{link_names, instance_driven}
 use Rattle.hw_build.specs.Scope.{each}
 use Rattle.hw_build.proofs.Parts.{has_each, of_each}
-use Rattle.hw_channel_laws.specs.modules.Names.{channel_name}
+use Rattle.hw_channel_lines.specs.Names.{channel_name}
 use Rattle.hw_lines.specs.Texts.{is_written, task_name}
 use Rattle.hw_task_laws.proofs.names.Bounds.{got_some}
 use Rattle.hw_task_laws.proofs.names.Empty.{GiveNone, each_none}
 use Rattle.hw_task_laws.proofs.names.Named.{flat_each}
-use Rattle.hw_lines.specs.top.Names.{s_has, s_dout, s_take, task_instance, channel_instance, ended_net}
-use Rattle.hw_lines.specs.top.Bounds.{parameters}
-use Rattle.hw_lines.specs.top.Legal.{IsReady}
-use Rattle.hw_lines.specs.top.Texts.{scalar_port, memory_ports, ports, stream_wires, take_wire, of_leaf, of_instance, at_instance, stream_label, memory_name, token_bits, task_ends, task_part, ended_wire, doneness, channel_ends, channel_part, wires, instances, top_elements}
+use Rattle.hw_top_lines.specs.Names.{s_has, s_dout, s_take, task_instance, channel_instance, ended_net}
+use Rattle.hw_top_lines.specs.Bounds.{parameters}
+use Rattle.hw_top_lines.specs.Legal.{IsReady}
+use Rattle.hw_top_lines.specs.Texts.{scalar_port, memory_ports, ports, stream_wires, take_wire, of_leaf, of_instance, at_instance, stream_label, memory_name, token_bits, task_ends, task_part, ended_wire, doneness, channel_ends, channel_part, wires, instances, top_elements}
 use Rattle.hw_top_laws.specs.modules.Lower.{lower_modules, KeepPromises}
 use Rattle.hw_top_laws.proofs.modules.Tasks.{some_index}
 use Rattle.hw_top_laws.proofs.form.Drives.{bounds_none, done_none, instances_none, stream_drives, memory_drives, task_drives, channel_drives, task_driven, channel_driven}

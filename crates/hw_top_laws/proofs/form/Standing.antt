@@ -18,9 +18,9 @@ use Rattle.hw_build.specs.Fits.{IsAmong}
 use Rattle.hw_build.proofs.Parts.{has_each}
 use Rattle.hw_task_laws.proofs.fit.Scopes.{net_of}
 use Rattle.hw_top_laws.specs.joins.Joins.{open_nets, IsOpen}
-use Rattle.hw_lines.specs.top.Names.{s_has, s_dout, s_take, ended_net}
-use Rattle.hw_lines.specs.top.Bounds.{parameters}
-use Rattle.hw_lines.specs.top.Texts.{scalar_port, memory_ports, ports, token_bits, stream_wires, take_wire, of_leaf, of_instance, at_instance, ended_wire, doneness, wires}
+use Rattle.hw_top_lines.specs.Names.{s_has, s_dout, s_take, ended_net}
+use Rattle.hw_top_lines.specs.Bounds.{parameters}
+use Rattle.hw_top_lines.specs.Texts.{scalar_port, memory_ports, ports, token_bits, stream_wires, take_wire, of_leaf, of_instance, at_instance, ended_wire, doneness, wires}
 use Rattle.hw_top_laws.proofs.modules.Tasks.{some_index}
 
 -- a link or an outlet among elements is an open net

@@ -31,7 +31,7 @@ use Rattle.hw_build.proofs.Tables.{count_append}
 use Rattle.hw_build.specs.Scope.{each, IsNet}
 use Rattle.hw_build.specs.Fits.{IsAmong}
 use Rattle.hw_build.proofs.Parts.{has_each, of_each}
-use Rattle.hw_channel_laws.specs.modules.Texts.{clocks, joined_to}
+use Rattle.hw_channel_lines.specs.Texts.{clocks, joined_to}
 use Rattle.hw_lines.specs.declared.nets.Net.TheVariants.{Done, Scalar as ScalarPort, Has as HasPort, Dout, Taken, Din, Wr, Rdy, Ack, Rdata, Addr, Wdata, We}
 use Rattle.hw_lines.specs.Nets.{name}
 use Rattle.hw_lines.specs.Shape.{Shape, shape_of, stream_kind, register_kind, memory_kind}
@@ -40,11 +40,11 @@ use Rattle.hw_task_laws.specs.names.Ports.{inward, outward, scalar_input, stream
 use Rattle.hw_task_laws.proofs.names.Bounds.{got_some}
 use Rattle.hw_task_laws.proofs.fit.Scopes.{left_among, net_in, both_among}
 use Rattle.hw_top_laws.specs.joins.Joins.{IsOpen, input_port, output_port, port_names, joined_ports, IsJoin, ToClock, ToInput, FromOutput, IsJoined}
-use Rattle.hw_lines.specs.top.Names.{s_has, s_dout, s_take, ended_net}
-use Rattle.hw_lines.specs.top.Bounds.{parameter_kind, bound_by, parameters}
-use Rattle.hw_lines.specs.top.Designs.{is_used}
-use Rattle.hw_lines.specs.top.Legal.{IsReady}
-use Rattle.hw_lines.specs.top.Texts.{ports, token_bits, stream_label, memory_name, scalar_ends, written_ends, read_ends, stream_ends, named_ends, memory_ends, task_ends}
+use Rattle.hw_top_lines.specs.Names.{s_has, s_dout, s_take, ended_net}
+use Rattle.hw_top_lines.specs.Bounds.{parameter_kind, bound_by, parameters}
+use Rattle.hw_top_lines.specs.Designs.{is_used}
+use Rattle.hw_top_lines.specs.Legal.{IsReady}
+use Rattle.hw_top_lines.specs.Texts.{ports, token_bits, stream_label, memory_name, scalar_ends, written_ends, read_ends, stream_ends, named_ends, memory_ends, task_ends}
 use Rattle.hw_top_laws.specs.modules.Lower.{lower_modules, task_module, KeepPromises}
 use Rattle.hw_top_laws.proofs.modules.Lower.{tasks_found}
 use Rattle.hw_top_laws.proofs.modules.Tasks.{some_index}

@@ -10,10 +10,11 @@ use Rattle.hw_build.proofs.Right.{built_right}
 use Rattle.hw_lines.specs.Texts.{task_name}
 use Rattle.hw_task_laws.proofs.names.Empty.{GiveNone, both_none}
 use Rattle.hw_task_laws.proofs.names.Lined.{titles_are_names}
+use Rattle.hw_top_laws.proofs.names.Written.{label_goes_on}
 use Rattle.hw_top_laws.specs.joins.Joins.{FitTogether}
 use Rattle.hw_top_laws.proofs.joins.Together.{together_fits}
-use Rattle.hw_lines.specs.top.Legal.{IsReady}
-use Rattle.hw_lines.specs.top.Texts.{ports, wires, doneness, instances, top_elements}
+use Rattle.hw_top_lines.specs.Legal.{IsReady}
+use Rattle.hw_top_lines.specs.Texts.{ports, wires, doneness, instances, top_elements}
 use Rattle.hw_top_laws.specs.modules.Lower.{lower_modules, KeepPromises}
 use Rattle.hw_top_laws.proofs.modules.Lower.{lower_ports, top_new}
 use Rattle.hw_top_laws.proofs.names.Top.{top_once}
@@ -54,4 +55,4 @@ tops_are_right program machines added ready kept =
 
 pub tops_are_modules : TopsAreModules
 tops_are_modules program machines added ready kept =
-    built_form (task_name program.top) (top_elements program added) (titles_are_names program.top (ready.told_apart.tasks_written 0 program.top refl).0) (elements_form program machines added ready kept)
+    built_form (task_name program.top) (top_elements program added) (titles_are_names program.top (label_goes_on program.top (ready.told_apart.tasks_written 0 program.top refl).0)) (elements_form program machines added ready kept)

@@ -18,14 +18,15 @@ use Rattle.vlog_tree.specs.Environment.{Environment, FitsShape, IsDone, shape_of
 use Rattle.vlog_run_laws.specs.Beside.{RunsBeside, answers_in}
 use Rattle.vlog_run_laws.proofs.widths.Beside.{runs_beside}
 use Rattle.vlog_tree.specs.Form.{ModuleTree}
-use Rattle.vlog_tree.specs.Labels.{done, s_din, s_wr, s_rdy}
+use Rattle.vlog_tree.specs.Labels.{done, m_we, s_din, s_wr, s_rdy}
 use Rattle.kahn_model.proofs.Clocked.{and_parts}
 use Rattle.kahn_model.proofs.WellFormed.{program_network}
-use Rattle.kahn_model.specs.Cells.{cells_at as cells_of}
-use Rattle.kahn_model.specs.Counts.{written, IsKahnPrefix, IsKahnStream}
+use Rattle.kahn_model.specs.Cells.{cells_at as cells_of, after_stores, memory_at, owner_of}
+use Rattle.kahn_model.specs.Counts.{ticks_made, written, IsKahnPrefix, IsKahnStream}
 use Rattle.kahn_model.specs.Network.{Network}
 use Rattle.kahn_model.specs.Ending.{IsLeastToEnd}
 use Rattle.kahn_model.specs.Outcome.{IsJoined, HaveJoinedEnded, IsDone as EndsWithin, shown}
+use Rattle.kahn_model.proofs.Ended.{ended_same}
 use Rattle.kahn_model.proofs.Least.{least_to_end}
 use Rattle.kahn_model.specs.ProgramNetwork.{end_of, is_detached as is_left}
 use Rattle.kahn_model.specs.Start.{kinds_in, leaf_state, instance_state, first_state, network_of}
@@ -43,13 +44,15 @@ use Rattle.hw_network_laws.proofs.network.Joined.{done_is_of_joined}
 use Rattle.hw_network_laws.proofs.network.Pace.{keeps_pace}
 use Rattle.hw_network_laws.proofs.network.Together.{in_step}
 use Rattle.hw_network_laws.proofs.modules.Tasks.{there_at as item_at}
-use Rattle.hw_lines.specs.top.Designs.{AreShort}
-use Rattle.hw_lines.specs.top.Names.{task_instance}
-use Rattle.hw_lines.specs.top.Texts.{token_bits, top_tree, is_detached, memory_name}
+use Rattle.hw_top_lines.specs.Designs.{AreShort}
+use Rattle.hw_top_lines.specs.Names.{task_instance}
+use Rattle.hw_top_lines.specs.Texts.{token_bits, top_tree, is_detached, memory_name}
 use Rattle.hw_top_laws.specs.runs.Designs.{IsCircuit}
 use Rattle.hw_top_laws.specs.runs.Parts.{bit_of, token_in, streams_seen, memory_before, rows_of}
 use Rattle.hw_top_laws.specs.kahn.Carries.{network, carried_by, CircuitsCarryStreams, CircuitsCarryBeside}
-use Rattle.hw_top_laws.specs.kahn.Clock.{clock_in, answers_of, all_answer, answer_of, bound_answers, each_answers, all_answer_beside}
+use Rattle.hw_top_laws.specs.kahn.Asked.{Nothing, request_at, ShowsRequest}
+use Rattle.hw_top_laws.proofs.kahn.Asked.{asks_are, holds_are, idle}
+use Rattle.hw_top_laws.specs.kahn.Clock.{clock_in, clock_beside, answers_of, all_answer, answer_of, bound_answers, each_answers, all_answer_beside}
 use Rattle.hw_top_laws.proofs.kahn.Done.{told, only, end_is, end_low}
 use Rattle.hw_top_laws.proofs.kahn.Waits.{in_time_by}
 use Rattle.hw_top_laws.proofs.kahn.Networks.{parts, histories, design, are_machines, label_is, in_clock}
@@ -241,6 +244,52 @@ module _ (program : Program) (w : IsWellFormed program) (added : List ℕ) (shor
             (t.0, (t.1, over_done t.0 (D.only t.0 t.1 t.3)), t.2),
       )
 
+  -- ---- what memories are asked for, and what they have in the end
+
+  pub asks : (m n : ℕ) (o : Memory) → slice_get program.memories.items m ≡ Some o → ShowsRequest (top (suc n)) o.name (request_at program net (count_at net clock (suc n)) m)
+  asks m n o at = asks_are program w added short machines all place c env env_fits acks nets r seen same m o at n
+
+  pub holds :
+      (m n : ℕ) (o : Memory) → slice_get program.memories.items m ≡ Some o → (request_at program net (count_at net clock (suc n)) m ≡ Nothing → ⊥) → acks m (suc n) ≡ false
+      → request_at program net (count_at net clock (suc (suc n))) m ≡ request_at program net (count_at net clock (suc n)) m
+  holds m n o at = holds_are program w added short machines all place c env env_fits acks nets r seen same m o at n
+
+  module _ (m : ℕ) (o : Memory) (at : slice_get program.memories.items m ≡ Some o) (joined : IsJoined net o.owner) where
+    owner_inside : o.owner < net.size
+    owner_inside =
+        let own = w.memories m o at in
+        let l = slice_get_within program.instances.items o.owner own.instance own.is in
+        let z = size_is in
+        omega (arith, l, z)
+
+    -- its instance has ended
+    over_at : (n l : ℕ) → IsDone top n → n ≤ l → (h o.owner).ended l ≡ true
+    over_at n l d le = D.stays n l d.0 le (done_over n d.1) o.owner owner_inside joined
+
+    quiet_at : (n l : ℕ) → IsDone top n → n ≤ l → (top l).net (m_we o.name) ≡ 0
+    quiet_at n zero d le = (let some : 1 ≤ n = d.0 in absurd (omega (arith, some, le)))
+    quiet_at n (suc l) d le = idle program w added short machines all place c env env_fits acks nets r seen same m o at l (over_at n (suc l) d le)
+
+    leaves_at : (bound : ℕ) (k : ℕ → ℕ) → EndsWithin net bound k → (n l : ℕ) → IsDone top n → n ≤ l → cells_at top o.name (slice_index_or env.memories m []) l ≡ cells_of program env.scalars env.memories k m
+    leaves_at bound k e n zero d le = (let some : 1 ≤ n = d.0 in absurd (omega (arith, some, le)))
+    leaves_at bound k e n (suc l) d le =
+        let ok = (in_clock program w added short machines all place c env env_fits acks nets r seen same).network in
+        let there = D.told (suc l) (omega arith) (D.stays n (suc l) d.0 le (done_over n d.1)) o.owner owner_inside joined in
+        let made = ended_same net ok (count_at net clock (suc l)) k o.owner there (e.ended o.owner owner_inside joined) in
+        let owner : o.owner ≡ owner_of (slice_get program.memories.items m) = sym (ap owner_of at) in
+        memory_holds m l o at
+        ∙ subst (λ j. after_stores (memory_at (slice_get program.instances.items j)) m (slice_index_or env.memories m []) (ticks_made net (count_at net clock (suc l)) j)
+        ≡ after_stores (memory_at (slice_get program.instances.items j)) m (slice_index_or env.memories m []) (ticks_made net k j)) owner
+        (ap (after_stores (memory_at (slice_get program.instances.items o.owner)) m (slice_index_or env.memories m [])) made)
+
+  pub quiet : (m n l : ℕ) (o : Memory) → slice_get program.memories.items m ≡ Some o → IsJoined net o.owner → IsDone top n → n ≤ l → (top l).net (m_we o.name) ≡ 0
+  quiet m n l o at joined = quiet_at m o at joined n l
+
+  pub leaves :
+      (bound : ℕ) (k : ℕ → ℕ) → EndsWithin net bound k → (m n l : ℕ) (o : Memory) → slice_get program.memories.items m ≡ Some o → IsJoined net o.owner → IsDone top n → n ≤ l
+      → cells_at top o.name (slice_index_or env.memories m []) l ≡ cells_of program env.scalars env.memories k m
+  leaves bound k e m n l o at joined = leaves_at m o at joined bound k e n l
+
 -- ---- in an environment, and beside memories that show a cell where they answer
 
 pub circuits_carry_streams : CircuitsCarryStreams
@@ -260,6 +309,10 @@ circuits_carry_streams program w added short machines all place c env env_fits n
       in_time = λ most waits late few.
           in_time program w added short machines all place c env env_fits acks nets b seen same most (all_answer env) waits
           (record { latest = late; answered = λ n yes i m. one_answers env (slice_get program.instances.items i) m n yes; few = few });
+      asks = asks program w added short machines all place c env env_fits acks nets b seen same;
+      holds = holds program w added short machines all place c env env_fits acks nets b seen same;
+      quiet = quiet program w added short machines all place c env env_fits acks nets b seen same;
+      leaves = leaves program w added short machines all place c env env_fits acks nets b seen same;
       pace = λ most late. keeps_pace (network program env) (program_network program w env.scalars env.memories) (clock_in program added env) most late;
     }
 
@@ -309,4 +362,9 @@ circuits_carry_beside program w added short machines all place c env env_fits ac
       in_time = λ most late.
           in_time_beside program w added short machines all place c env env_fits acks nets b seen same most (all_answer_beside program acks) late
           (λ n yes i m. answered_by program w acks n yes i m (slice_get program.instances.items i) refl);
+      asks = asks program w added short machines all place c env env_fits acks nets b seen same;
+      holds = holds program w added short machines all place c env env_fits acks nets b seen same;
+      quiet = quiet program w added short machines all place c env env_fits acks nets b seen same;
+      leaves = leaves program w added short machines all place c env env_fits acks nets b seen same;
+      pace = λ most late. keeps_pace (network program env) (program_network program w env.scalars env.memories) (clock_beside program added acks) most late;
     }

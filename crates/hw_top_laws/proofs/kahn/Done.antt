@@ -22,9 +22,9 @@ use Rattle.task_fsm.specs.declared.machine.Fsm.{Fsm}
 use Rattle.hw_lines.specs.declared.nets.Net.TheVariants.{Ended}
 use Rattle.hw_lines.specs.Runs.{number_at}
 use Rattle.hw_lines.specs.Texts.{task_name}
-use Rattle.hw_lines.specs.top.Designs.{AreShort}
-use Rattle.hw_lines.specs.top.Names.{ended_net, task_instance, waits}
-use Rattle.hw_lines.specs.top.Texts.{top_elements, top_tree, still_waits, is_detached, waiting, none_waits}
+use Rattle.hw_top_lines.specs.Designs.{AreShort}
+use Rattle.hw_top_lines.specs.Names.{ended_net, task_instance, waits}
+use Rattle.hw_top_lines.specs.Texts.{top_elements, top_tree, still_waits, is_detached, waiting, none_waits}
 use Rattle.hw_top_laws.specs.runs.Designs.{IsCircuit}
 use Rattle.hw_top_laws.proofs.runs.Elements.{of_doneness}
 use Rattle.hw_top_laws.proofs.runs.Joined.{done_at}

@@ -21,9 +21,9 @@ use Rattle.hw_network_laws.specs.modules.Designs.{IsDesignOf, AreMachines, clock
 use Rattle.hw_network_laws.specs.modules.Tasks.{shape_for, part_in}
 use Rattle.hw_network_laws.proofs.modules.Designs.{clocked}
 use Rattle.hw_network_laws.proofs.modules.Tasks.{there_at as item_at}
-use Rattle.hw_lines.specs.top.Designs.{AreShort}
-use Rattle.hw_lines.specs.top.Names.{task_instance}
-use Rattle.hw_lines.specs.top.Texts.{top_tree}
+use Rattle.hw_top_lines.specs.Designs.{AreShort}
+use Rattle.hw_top_lines.specs.Names.{task_instance}
+use Rattle.hw_top_lines.specs.Texts.{top_tree}
 use Rattle.hw_top_laws.specs.runs.Designs.{IsCircuit}
 use Rattle.hw_top_laws.specs.runs.Parts.{instance_run, instance_rows, channel_run, streams_seen}
 use Rattle.hw_top_laws.proofs.runs.Designs.{circuits_beside}

@@ -10,8 +10,8 @@ use Rattle.vlog_run_laws.proofs.runs.Alone.{module_is, module_there}
 use Rattle.hw_build.specs.Scope.{each}
 use Rattle.hw_build.proofs.Parts.{of_each}
 use Rattle.hw_channel_laws.proofs.modules.Together.{AreApart}
-use Rattle.hw_lines.specs.top.Channels.{with_one, with_new}
-use Rattle.hw_lines.specs.top.Legal.{AreApart as ArePlacedApart}
+use Rattle.hw_top_lines.specs.Channels.{with_one, with_new}
+use Rattle.tapa_syntax.specs.OwnNames.{AreApart as ArePlacedApart}
 
 -- ---- names that differ
 

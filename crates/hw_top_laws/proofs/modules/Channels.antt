@@ -12,13 +12,13 @@ use Rattle.vlog_tree.specs.Form.{ModuleTree, IsModule}
 use Rattle.tapa_base.specs.Lists.{Has}
 use Rattle.vlog_tree.specs.Table.{Name}
 use Rattle.hw_task_laws.proofs.fit.Scopes.{few_bits}
-use Rattle.hw_channel_laws.specs.modules.Texts.{step_tree, even_tree, odd_tree, row_tree, fifo_tree, plain_tree, relayed_tree, AreRelays, One, More, AreModules, Alone, Relayed}
+use Rattle.hw_channel_lines.specs.Texts.{step_tree, even_tree, odd_tree, row_tree, fifo_tree, plain_tree, relayed_tree, AreRelays, One, More, AreModules, Alone, Relayed}
 use Rattle.hw_channel_laws.proofs.modules.Forms.{step_form, even_form, odd_form, fifo_form, plain_form, relayed_form}
 use Rattle.hw_channel_laws.proofs.modules.Parts.{IsPart, Outer, Queue, Part, part_of, no_tasks, names_tell}
 use Rattle.hw_channel_laws.proofs.modules.Together.{AreApart}
-use Rattle.hw_lines.specs.top.Channels.{relays_below, relays, channel_modules}
-use Rattle.hw_lines.specs.top.Designs.{AreShort, stream_modules, channels_before}
-use Rattle.hw_lines.specs.top.Texts.{token_bits}
+use Rattle.hw_top_lines.specs.Channels.{relays_below, relays, channel_modules}
+use Rattle.hw_top_lines.specs.Designs.{AreShort, stream_modules, channels_before}
+use Rattle.hw_top_lines.specs.Texts.{token_bits}
 use Rattle.hw_top_laws.proofs.modules.Added.{new_of, new_keeps, new_apart, new_has}
 use Rattle.hw_top_laws.proofs.modules.Tasks.{some_index}
 

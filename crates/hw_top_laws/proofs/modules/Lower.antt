@@ -27,10 +27,10 @@ use Rattle.hw_channel_laws.proofs.modules.Together.{AreApart, finds, single}
 use Rattle.hw_lines.specs.Texts.{task_name}
 use Rattle.hw_top_laws.specs.joins.Joins.{port_names}
 use Rattle.hw_top_laws.proofs.joins.Joined.{declared_times}
-use Rattle.hw_lines.specs.top.Channels.{channel_modules}
-use Rattle.hw_lines.specs.top.Designs.{channels_before, task_modules}
-use Rattle.hw_lines.specs.top.Legal.{IsReady}
-use Rattle.hw_lines.specs.top.Texts.{token_bits}
+use Rattle.hw_top_lines.specs.Channels.{channel_modules}
+use Rattle.hw_top_lines.specs.Designs.{channels_before, task_modules}
+use Rattle.hw_top_lines.specs.Legal.{IsReady}
+use Rattle.hw_top_lines.specs.Texts.{token_bits}
 use Rattle.hw_top_laws.specs.modules.Lower.{lower_modules, task_module, KeepPromises, LowerAreApart, TopIsApart, ChannelsAreFound, TasksAreFound, LowerAreModules, LowerAreRight, LowerIsSound, LowerPortsAreOnce}
 use Rattle.hw_top_laws.proofs.modules.Added.{apart_append, placed_apart}
 use Rattle.hw_top_laws.proofs.modules.Channels.{sizes, IsOfStream, in_channels, channels_apart, channel_are, stream_there, channel_form, channel_no_task}

@@ -14,8 +14,9 @@ use Rattle.hw_build.proofs.Parts.{has_each, of_each}
 use Rattle.hw_channel_laws.proofs.modules.Together.{AreApart}
 use Rattle.hw_lines.specs.Shape.{shape_of}
 use Rattle.hw_lines.specs.Texts.{task_name, task_elements}
-use Rattle.hw_lines.specs.top.Designs.{machine_module, leaf_module, is_used, used_module, task_modules}
-use Rattle.hw_lines.specs.top.Legal.{HasOwnNames, AreMachinesOf}
+use Rattle.hw_top_lines.specs.Designs.{machine_module, leaf_module, is_used, used_module, task_modules}
+use Rattle.hw_top_lines.specs.Legal.{AreMachinesOf}
+use Rattle.tapa_syntax.specs.OwnNames.{HasOwnNames}
 use Rattle.hw_top_laws.specs.modules.Lower.{task_module}
 use Rattle.hw_top_laws.proofs.modules.Added.{apart_each}
 

@@ -29,8 +29,8 @@ use Rattle.hw_lines.proofs.Spelled.{numbered_name}
 use Rattle.hw_task_laws.proofs.names.Bounds.{each_many}
 use Rattle.hw_task_laws.proofs.names.Named.{single}
 use Rattle.hw_task_laws.proofs.names.Rows.{AreRow, row_append, row_names, drivers_row}
-use Rattle.hw_lines.specs.top.Names.{bound_net, ended_net, waits}
-use Rattle.hw_lines.specs.top.Bounds.{scalar_kind, scalar_name, converted_net, kind_before, conversion_step, bound_nets}
+use Rattle.hw_top_lines.specs.Names.{bound_net, ended_net, waits}
+use Rattle.hw_top_lines.specs.Bounds.{scalar_kind, scalar_name, converted_net, kind_before, conversion_step, bound_nets}
 use Rattle.hw_top_laws.proofs.names.Made.{sort}
 use Rattle.hw_top_laws.proofs.names.Named.{IsOf, Names, Any, names_apart, names_each, names_one}
 

@@ -9,7 +9,7 @@ use Rattle.vlog_tree.specs.Names.{is_name, starts_name, goes_on, is_keyword, alw
 use Rattle.vlog_tree.specs.Table.{Name, clk}
 use Rattle.vlog_module_laws.proofs.Labelled.{early_name}
 use Rattle.hw_build.proofs.Forms.{all_append, yes_and}
-use Rattle.hw_lines.specs.top.Names.{s_has, s_dout, s_take, task_instance, channel_instance}
+use Rattle.hw_top_lines.specs.Names.{s_has, s_dout, s_take, task_instance, channel_instance}
 
 -- ---- sorts, in the order of the top's elements
 

@@ -23,16 +23,18 @@ use Rattle.hw_build.specs.Trees.{tree_nodes}
 use Rattle.hw_build.specs.Scope.{each}
 use Rattle.hw_build.specs.Fits.{declared_names}
 use Rattle.hw_build.proofs.Once.{two_once}
-use Rattle.hw_channel_laws.specs.modules.Names.{channel_name}
+use Rattle.hw_channel_lines.specs.Names.{channel_name}
 use Rattle.hw_lines.specs.Texts.{task_name}
 use Rattle.hw_task_laws.proofs.names.Bounds.{got_some, each_many, left_short, right_short}
 use Rattle.hw_task_laws.proofs.names.Named.{single}
 use Rattle.hw_task_laws.proofs.names.Rows.{AreRow, row_append}
-use Rattle.hw_lines.specs.top.Names.{s_has, s_dout, s_take, task_instance, channel_instance, ended_net, waits}
-use Rattle.hw_lines.specs.top.Bounds.{parameter_kind, bound_elements, parameters}
-use Rattle.hw_lines.specs.top.Legal.{AreApart, HasOwnNames, IsCountable}
-use Rattle.hw_lines.specs.top.Texts.{scalar_port, memory_ports, ports, token_bits, stream_wires, take_wire, of_leaf, of_instance, at_instance, task_ends, task_part, ended_wire, still_waits, is_detached, waiting, none_waits, doneness, channel_ends, channel_part, wires, instances, top_elements}
+use Rattle.hw_top_lines.specs.Names.{s_has, s_dout, s_take, task_instance, channel_instance, ended_net, waits}
+use Rattle.hw_top_lines.specs.Bounds.{parameter_kind, bound_elements, parameters}
+use Rattle.hw_top_lines.specs.Legal.{IsCountable}
+use Rattle.tapa_syntax.specs.OwnNames.{AreApart, HasOwnNames}
+use Rattle.hw_top_lines.specs.Texts.{scalar_port, memory_ports, ports, token_bits, stream_wires, take_wire, of_leaf, of_instance, at_instance, task_ends, task_part, ended_wire, still_waits, is_detached, waiting, none_waits, doneness, channel_ends, channel_part, wires, instances, top_elements}
 use Rattle.hw_top_laws.specs.names.Names.{TopNamesAreOnce, TopNetsAreNamed}
+use Rattle.hw_top_laws.proofs.names.Written.{label_goes_on}
 use Rattle.hw_top_laws.proofs.names.Made.{sort, IsMade, same_label, made_addr, made_wdata, made_we, made_ack, made_rdata, made_din, made_wr, made_rdy, made_has, made_dout, made_take, IsFronted, same_fronted, fronted_scalar, fronted_task, fronted_channel, clk_sort, rst_sort, done_sort, done_is_name}
 use Rattle.hw_top_laws.proofs.names.Named.{Named, Names, Any, names_both, names_each, names_none, names_one, names_more, all_named}
 use Rattle.hw_top_laws.proofs.names.Bound.{IsSpelled, OfInstance, OfParameter, bound_named, told_parameter, told_instance, ended_facts, same_ended, waits_named, nodes_row}
@@ -95,18 +97,18 @@ module _ (program : Program) (own : HasOwnNames program) where
       omega (arith, s)
 
   scalar_written : (k : ℕ) (c : Scalar) → slice_get scalars k ≡ Some c → list_all goes_on c.name ≡ true
-  scalar_written k c e = (own.parameters_written k c.name (got_left (map (λ (c : Scalar). c.name) scalars) (map (λ (m : Memory). m.name) memories) k c.name (got_map (λ (c : Scalar). c.name) scalars k c e))).0
+  scalar_written k c e = label_goes_on c.name (own.parameters_written k c.name (got_left (map (λ (c : Scalar). c.name) scalars) (map (λ (m : Memory). m.name) memories) k c.name (got_map (λ (c : Scalar). c.name) scalars k c e))).0
 
   pub memory_written : (k : ℕ) (m : Memory) → slice_get memories k ≡ Some m → list_all goes_on m.name ≡ true
   memory_written k m e =
       let front = map (λ (c : Scalar). c.name) scalars in
-      (own.parameters_written (length front + k) m.name (got_right front (map (λ (m : Memory). m.name) memories) k m.name (got_map (λ (m : Memory). m.name) memories k m e))).0
+      label_goes_on m.name (own.parameters_written (length front + k) m.name (got_right front (map (λ (m : Memory). m.name) memories) k m.name (got_map (λ (m : Memory). m.name) memories k m e))).0
 
   pub stream_written : (k : ℕ) (r : Stream) → slice_get program.streams.items k ≡ Some r → list_all goes_on r.label ≡ true
-  stream_written k r e = (own.streams_written k r.label (got_map (λ (r : Stream). r.label) program.streams.items k r e)).0
+  stream_written k r e = label_goes_on r.label (own.streams_written k r.label (got_map (λ (r : Stream). r.label) program.streams.items k r e)).0
 
   instance_written : (k : ℕ) (x : Instance) → slice_get program.instances.items k ≡ Some x → list_all goes_on x.label ≡ true
-  instance_written k x e = (own.instances_written k x.label (got_map (λ (x : Instance). x.label) program.instances.items k x e)).0
+  instance_written k x e = label_goes_on x.label (own.instances_written k x.label (got_map (λ (x : Instance). x.label) program.instances.items k x e)).0
 
   -- ---- ports
 

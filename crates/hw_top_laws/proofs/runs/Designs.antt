@@ -20,9 +20,9 @@ use Rattle.hw_channel_laws.specs.signals.Contract.{MeetsContract as OwesContract
 use Rattle.hw_channel_laws.specs.modules.Ports.{channel_ports}
 use Rattle.hw_network_laws.specs.modules.Channels.{AreSignals, IsStill}
 use Rattle.hw_network_laws.specs.modules.Designs.{RunsInstance, HasMachine}
-use Rattle.hw_lines.specs.top.Designs.{AreShort}
-use Rattle.hw_lines.specs.top.Names.{s_has, s_dout, s_take, task_instance, channel_instance}
-use Rattle.hw_lines.specs.top.Texts.{token_bits, top_tree, stream_label}
+use Rattle.hw_top_lines.specs.Designs.{AreShort}
+use Rattle.hw_top_lines.specs.Names.{s_has, s_dout, s_take, task_instance, channel_instance}
+use Rattle.hw_top_lines.specs.Texts.{token_bits, top_tree, stream_label}
 use Rattle.hw_top_laws.specs.runs.Designs.{IsCircuit, CircuitsAreDesigns, CircuitsAreDesignsBeside}
 use Rattle.hw_top_laws.specs.runs.Parts.{instance_run, instance_rows, channel_run, bit_of, token_in, streams_seen, rows_of}
 use Rattle.hw_top_laws.proofs.runs.Joined.{channel_din, channel_wr, channel_take, channel_rdy, channel_has, channel_dout}

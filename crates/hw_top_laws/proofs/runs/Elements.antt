@@ -11,11 +11,11 @@ use Rattle.tapa_base.proofs.Lists.{has_left, has_right}
 use Rattle.hw_build.specs.Elements.{Element, Instance as InstanceElement}
 use Rattle.hw_build.specs.Scope.{each}
 use Rattle.hw_build.proofs.Parts.{has_each}
-use Rattle.hw_channel_laws.specs.modules.Names.{channel_name}
+use Rattle.hw_channel_lines.specs.Names.{channel_name}
 use Rattle.hw_lines.specs.Texts.{task_name}
-use Rattle.hw_lines.specs.top.Bounds.{parameters}
-use Rattle.hw_lines.specs.top.Names.{task_instance, channel_instance}
-use Rattle.hw_lines.specs.top.Texts.{token_bits, ports, wires, doneness, instances, top_elements, of_leaf, of_instance, at_instance, task_part, task_ends, channel_part, channel_ends, stream_wires, take_wire, ended_wire}
+use Rattle.hw_top_lines.specs.Bounds.{parameters}
+use Rattle.hw_top_lines.specs.Names.{task_instance, channel_instance}
+use Rattle.hw_top_lines.specs.Texts.{token_bits, ports, wires, doneness, instances, top_elements, of_leaf, of_instance, at_instance, task_part, task_ends, channel_part, channel_ends, stream_wires, take_wire, ended_wire}
 
 module _ (program : Program) (added : List ℕ) where
   abbrev before : List Element

@@ -33,10 +33,10 @@ use Rattle.hw_build.specs.Elements.{Instance as InstanceElement, empty}
 use Rattle.hw_build.proofs.Driven.{line_there}
 use Rattle.hw_build.specs.Scope.{each}
 use Rattle.hw_build.proofs.Parts.{has_each}
-use Rattle.hw_channel_laws.specs.modules.Names.{channel_name}
+use Rattle.hw_channel_lines.specs.Names.{channel_name}
 use Rattle.hw_channel_laws.specs.modules.Ports.{AreFoundIn}
 use Rattle.hw_channel_laws.specs.modules.Rules.{OfFirst, IsOutermost, outer_ports}
-use Rattle.hw_channel_laws.specs.modules.Texts.{AreModules}
+use Rattle.hw_channel_lines.specs.Texts.{AreModules}
 use Rattle.hw_channel_laws.proofs.modules.Fits.{clear}
 use Rattle.task_fsm.specs.declared.machine.Fsm.{Fsm}
 use Rattle.hw_lines.specs.declared.nets.Net.TheVariants.{Done, Din, Wr, Taken}
@@ -47,8 +47,8 @@ use Rattle.hw_task_laws.specs.names.Ports.{outward, stream_out, memory_out, task
 use Rattle.hw_task_laws.proofs.names.Ported.{modules_have_ports}
 use Rattle.hw_task_laws.proofs.steps.Allowed.{stream_there, side_is}
 use Rattle.hw_network_laws.specs.modules.Tasks.{shape_for}
-use Rattle.hw_lines.specs.top.Names.{task_instance, channel_instance}
-use Rattle.hw_lines.specs.top.Texts.{token_bits, top_elements, top_tree, task_ends, channel_ends}
+use Rattle.hw_top_lines.specs.Names.{task_instance, channel_instance}
+use Rattle.hw_top_lines.specs.Texts.{token_bits, top_elements, top_tree, task_ends, channel_ends}
 use Rattle.hw_top_laws.proofs.runs.Elements.{task_there, channel_there}
 
 pub kind_bits : (k : Kind) → (1 ≤ bits_of k) × (bits_of k ≤ 64)

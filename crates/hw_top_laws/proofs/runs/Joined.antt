@@ -19,15 +19,15 @@ use Rattle.hw_build.specs.Elements.{Instance as InstanceElement}
 use Rattle.hw_build.proofs.Driven.{line_there}
 use Rattle.hw_build.specs.Scope.{each}
 use Rattle.hw_build.proofs.Parts.{has_each}
-use Rattle.hw_channel_laws.specs.modules.Names.{channel_name}
-use Rattle.hw_channel_laws.specs.modules.Texts.{clocks, joined_to}
+use Rattle.hw_channel_lines.specs.Names.{channel_name}
+use Rattle.hw_channel_lines.specs.Texts.{clocks, joined_to}
 use Rattle.hw_lines.specs.declared.nets.Net.TheVariants.{Done, Scalar as ScalarPort, Has as HasPort, Dout, Taken, Din, Wr, Rdy, Ack, Rdata, Addr, Wdata, We}
 use Rattle.hw_lines.specs.Nets.{name}
 use Rattle.hw_lines.specs.Texts.{task_name}
 use Rattle.hw_task_laws.proofs.steps.Allowed.{stream_there, side_is}
-use Rattle.hw_lines.specs.top.Bounds.{bound_by}
-use Rattle.hw_lines.specs.top.Names.{s_has, s_dout, s_take, task_instance, channel_instance, ended_net}
-use Rattle.hw_lines.specs.top.Texts.{token_bits, top_elements, top_tree, stream_label, memory_name, scalar_ends, written_ends, read_ends, stream_ends, named_ends, memory_ends, task_ends, channel_ends}
+use Rattle.hw_top_lines.specs.Bounds.{bound_by}
+use Rattle.hw_top_lines.specs.Names.{s_has, s_dout, s_take, task_instance, channel_instance, ended_net}
+use Rattle.hw_top_lines.specs.Texts.{token_bits, top_elements, top_tree, stream_label, memory_name, scalar_ends, written_ends, read_ends, stream_ends, named_ends, memory_ends, task_ends, channel_ends}
 use Rattle.hw_top_laws.proofs.runs.Elements.{task_there, channel_there}
 
 module _ (program : Program) (added : List ℕ) (all : List ModuleTree) (nets : ℕ → Path → Cycle) (runs : Runs all (top_tree program added) nets) where

@@ -28,9 +28,9 @@ use Rattle.hw_lines.specs.declared.nets.Net.TheVariants.{Ack, Rdata, Addr, Wdata
 use Rattle.hw_lines.specs.Runs.{number_at, bit_at, all_stored}
 use Rattle.hw_lines.specs.Shape.{Shape, memory_kind}
 use Rattle.hw_network_laws.specs.modules.Tasks.{shape_for}
-use Rattle.hw_lines.specs.top.Legal.{memory_ports}
-use Rattle.hw_lines.specs.top.Names.{task_instance}
-use Rattle.hw_lines.specs.top.Texts.{top_tree, memory_name}
+use Rattle.hw_top_lines.specs.Legal.{memory_ports}
+use Rattle.hw_top_lines.specs.Names.{task_instance}
+use Rattle.hw_top_lines.specs.Texts.{top_tree, memory_name}
 use Rattle.hw_top_laws.specs.runs.Parts.{memory_before, rows_of}
 use Rattle.hw_top_laws.proofs.runs.Joined.{ack_at, answer_at, place_at, cell_at, store_at}
 

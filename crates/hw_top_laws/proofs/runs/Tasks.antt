@@ -37,10 +37,10 @@ use Rattle.hw_network_laws.proofs.modules.Tasks.{there_at as item_at}
 use Rattle.hw_channel_laws.specs.signals.Contract.{MeetsContract as OwesContract}
 use Rattle.hw_channel_laws.specs.modules.Ports.{channel_ports}
 use Rattle.hw_channel_laws.proofs.modules.Whole.{acts}
-use Rattle.hw_lines.specs.top.Bounds.{parameter_kind}
-use Rattle.hw_lines.specs.top.Designs.{AreShort}
-use Rattle.hw_lines.specs.top.Names.{s_has, s_dout, s_take, task_instance, channel_instance}
-use Rattle.hw_lines.specs.top.Texts.{token_bits, top_tree, stream_label}
+use Rattle.hw_top_lines.specs.Bounds.{parameter_kind}
+use Rattle.hw_top_lines.specs.Designs.{AreShort}
+use Rattle.hw_top_lines.specs.Names.{s_has, s_dout, s_take, task_instance, channel_instance}
+use Rattle.hw_top_lines.specs.Texts.{token_bits, top_tree, stream_label}
 use Rattle.hw_top_laws.specs.runs.Designs.{StandsForTask, IsCircuit}
 use Rattle.hw_top_laws.specs.runs.Parts.{bit_of, token_in, streams_seen, rows_of}
 use Rattle.hw_top_laws.proofs.runs.Joined.{reset_at, scalar_at, ready_at, write_at, put_at, there_at, token_at, take_at, channel_reset, channel_wr, channel_take, channel_rdy, channel_has, channel_dout}

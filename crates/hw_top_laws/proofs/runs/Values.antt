@@ -39,10 +39,10 @@ use Rattle.hw_lines.specs.Drivers.{wires_of, last_of, conversion}
 use Rattle.hw_lines.specs.Texts.{task_name}
 use Rattle.hw_task_laws.specs.wires.Shows.{Shows}
 use Rattle.hw_task_laws.proofs.wires.Shown.{conversion_shown}
-use Rattle.hw_lines.specs.top.Bounds.{scalar_kind, scalar_name, parameter_kind, kind_before, conversion_step, bound_nets, bound_elements, bound_by}
-use Rattle.hw_lines.specs.top.Legal.{scalar_ports}
-use Rattle.hw_lines.specs.top.Names.{bound_net}
-use Rattle.hw_lines.specs.top.Texts.{top_elements, top_tree}
+use Rattle.hw_top_lines.specs.Bounds.{scalar_kind, scalar_name, parameter_kind, kind_before, conversion_step, bound_nets, bound_elements, bound_by}
+use Rattle.hw_top_lines.specs.Legal.{scalar_ports}
+use Rattle.hw_top_lines.specs.Names.{bound_net}
+use Rattle.hw_top_lines.specs.Texts.{top_elements, top_tree}
 use Rattle.hw_top_laws.proofs.runs.Elements.{of_parameters}
 
 -- what a chain of conversions gives is a value of its last kind

@@ -3,8 +3,8 @@ use Rattle.std.specs.Prelude.{◌≡◌, [], ◌∷◌, None, length}
 use Rattle.vlog_tree.specs.Refused.{IsSound, IsDesign}
 use Rattle.vlog_tree.specs.Table.{first_violation}
 use Rattle.vlog_tree.specs.V6.{roots, v6_uses}
-use Rattle.hw_lines.specs.top.Designs.{design_tree}
-use Rattle.hw_lines.specs.top.Texts.{top_tree}
+use Rattle.hw_top_lines.specs.Designs.{design_tree}
+use Rattle.hw_top_lines.specs.Texts.{top_tree}
 use Rattle.hw_top_laws.specs.modules.Lower.{lower_modules, OfReady}
 
 -- its modules break no rule on names, widths and drivers

@@ -6,8 +6,8 @@ use Rattle.vlog_tree.specs.Loops.{Rests, IsLoopless}
 use Rattle.vlog_tree.specs.Table.{Name}
 use Rattle.hw_build.specs.Order.{InstancesKeepOrder, AnswersKeepOrder}
 use Rattle.hw_lines.specs.Texts.{task_name}
-use Rattle.hw_lines.specs.top.Designs.{design_tree}
-use Rattle.hw_lines.specs.top.Texts.{top_elements, top_tree}
+use Rattle.hw_top_lines.specs.Designs.{design_tree}
+use Rattle.hw_top_lines.specs.Texts.{top_elements, top_tree}
 use Rattle.hw_top_laws.specs.modules.Lower.{lower_modules, OfReady}
 
 -- none of these modules is the top

@@ -1,8 +1,8 @@
 -- What stands at the outside of a circuit.
 use Rattle.std.specs.Prelude.{◌≡◌}
 use Rattle.vlog_tree.specs.Environment.{shape_of, streams_of}
-use Rattle.hw_lines.specs.top.Legal.{scalar_ports, memory_ports, stream_ports}
-use Rattle.hw_lines.specs.top.Texts.{top_tree}
+use Rattle.hw_top_lines.specs.Legal.{scalar_ports, memory_ports, stream_ports}
+use Rattle.hw_top_lines.specs.Texts.{top_tree}
 use Rattle.hw_top_laws.specs.modules.Lower.{OfReady}
 
 abbrev pub TopsHaveScalars : Type 0

@@ -2,7 +2,7 @@
 use Rattle.vlog_tree.specs.Form.{IsModule}
 use Rattle.vlog_module_laws.specs.Larger.{IsRightBeside}
 use Rattle.hw_build.specs.Fitting.{AreFitting}
-use Rattle.hw_lines.specs.top.Texts.{top_elements, top_tree}
+use Rattle.hw_top_lines.specs.Texts.{top_elements, top_tree}
 use Rattle.hw_top_laws.specs.modules.Lower.{lower_modules, OfReady}
 
 -- its elements fit one after another, beside the modules of the channels and of the leaf tasks

@@ -1,11 +1,12 @@
 -- What the circuit of a program carries in a run.
-use Rattle.std.specs.Prelude.{◌≡◌, ◌↔◌, ℕ, suc, ◌+◌, ◌*◌, ◌≤◌, Bool, List, [], Option, Some, slice_get, slice_index, slice_index_or}
+use Rattle.std.specs.Prelude.{◌≡◌, ◌↔◌, ℕ, suc, ◌+◌, ◌*◌, ◌≤◌, Bool, false, List, [], Option, Some, slice_get, slice_index, slice_index_or}
 use Rattle.tapa_base.specs.declared.token.Token.{Token}
 use Rattle.tapa_syntax.specs.WellFormed.{IsWellFormed}
 use Rattle.tapa_syntax.specs.declared.program.Memory.{Memory}
 use Rattle.tapa_syntax.specs.declared.program.Program.{Program}
 use Rattle.tapa_syntax.specs.declared.program.Stream.{Stream}
-use Rattle.vlog_run_laws.specs.Beside.{RunsBeside}
+use Rattle.vlog_run_laws.specs.Beside.{RunsBeside, answers_in}
+use Rattle.vlog_tree.specs.Labels.{m_we}
 use Rattle.vlog_tree.specs.Cycle.{Cycle, Path}
 use Rattle.vlog_tree.specs.Environment.{Environment, FitsShape, RunsIn, shape_of, cells_at, tokens, IsDone}
 use Rattle.vlog_tree.specs.Form.{ModuleTree}
@@ -18,10 +19,11 @@ use Rattle.kahn_model.specs.Start.{network_of}
 use Rattle.kahn_model.specs.Timed.{lost}
 use Rattle.task_fsm.specs.declared.machine.Fsm.{Fsm}
 use Rattle.hw_network_laws.specs.network.Pace.{KeepsPace}
-use Rattle.hw_lines.specs.top.Designs.{AreShort}
-use Rattle.hw_lines.specs.top.Texts.{token_bits, top_tree}
+use Rattle.hw_top_lines.specs.Designs.{AreShort}
+use Rattle.hw_top_lines.specs.Texts.{token_bits, top_tree}
 use Rattle.hw_top_laws.specs.runs.Designs.{IsCircuit}
-use Rattle.hw_top_laws.specs.kahn.Clock.{clock_in, counts, all_answer, counts_beside, all_answer_beside}
+use Rattle.hw_top_laws.specs.kahn.Asked.{Nothing, request_at, ShowsRequest}
+use Rattle.hw_top_laws.specs.kahn.Clock.{clock_in, clock_beside, counts, all_answer, counts_beside, all_answer_beside}
 
 -- the network of a program on the environment's scalars and cells
 abbrev pub network : Program → Environment → Network
@@ -59,6 +61,18 @@ pub record CarriesStreams (program : Program) (added : List ℕ) (env : Environm
   -- a tick that is allowed is made at most the greatest added latency later, or in the first cycle in which its memory answers;
   -- and what is written to a stream and not yet taken is no more than its depth and twice its added latency
   pub pace : (most : ℕ) → ((s : ℕ) → slice_index added s ≤ most) → KeepsPace (network program env) (clock_in program added env) most
+  -- in each cycle the ports of a memory show what the next tick of its instance asks for, whether it is made in this cycle or not
+  pub asks : (m n : ℕ) (o : Memory) → slice_get program.memories.items m ≡ Some o → ShowsRequest (top_of nets (suc n)) o.name (request_at program (network program env) (counts program added env (suc n)) m)
+  -- what is asked for and not answered is asked for in the next cycle, too
+  pub holds :
+      (m n : ℕ) (o : Memory) → slice_get program.memories.items m ≡ Some o → (request_at program (network program env) (counts program added env (suc n)) m ≡ Nothing → ⊥) → answers_in env m (suc n) ≡ false
+      → request_at program (network program env) (counts program added env (suc (suc n))) m ≡ request_at program (network program env) (counts program added env (suc n)) m
+  -- once done is raised nothing is to be stored, where the instance of the memory is waited for
+  pub quiet : (m n l : ℕ) (o : Memory) → slice_get program.memories.items m ≡ Some o → IsJoined (network program env) o.owner → IsDone (top_of nets) n → n ≤ l → (top_of nets l).net (m_we o.name) ≡ 0
+  -- and the memory has the cells that a run within a bound leaves
+  pub leaves :
+      (bound : ℕ) (k : ℕ → ℕ) → EndsWithin (network program env) bound k → (m n l : ℕ) (o : Memory) → slice_get program.memories.items m ≡ Some o → IsJoined (network program env) o.owner → IsDone (top_of nets) n → n ≤ l
+      → cells_at (top_of nets) o.name (slice_index_or env.memories m []) l ≡ cells_of program env.scalars env.memories k m
 
 -- Beside memories that show a cell in the cycles in which they answer it carries the same, by the timed counts of these answers.
 pub record CarriesBeside (program : Program) (added : List ℕ) (env : Environment) (answers : ℕ → ℕ → Bool) (nets : ℕ → Path → Cycle) : Type 0 where
@@ -77,6 +91,20 @@ pub record CarriesBeside (program : Program) (added : List ℕ) (env : Environme
       (most : ℕ) → ((s : ℕ) → slice_index added s ≤ most) → (bound : ℕ) (k : ℕ → ℕ) → EndsWithin (network program env) bound k
       → (a : ℕ) × IsLeastToEnd (network program env) a
       × ((limit : ℕ) → (a + 2) * (2 * most + 4) + lost (all_answer_beside program answers) limit ≤ limit → (n : ℕ) × IsDone (top_of nets) n × (n ≤ (a + 2) * (2 * most + 4) + lost (all_answer_beside program answers) n))
+  -- in each cycle the ports of a memory show what the next tick of its instance asks for, whether it is made in this cycle or not
+  pub asks : (m n : ℕ) (o : Memory) → slice_get program.memories.items m ≡ Some o → ShowsRequest (top_of nets (suc n)) o.name (request_at program (network program env) (counts_beside program added env answers (suc n)) m)
+  -- what is asked for and not answered is asked for in the next cycle, too
+  pub holds :
+      (m n : ℕ) (o : Memory) → slice_get program.memories.items m ≡ Some o → (request_at program (network program env) (counts_beside program added env answers (suc n)) m ≡ Nothing → ⊥) → answers m (suc n) ≡ false
+      → request_at program (network program env) (counts_beside program added env answers (suc (suc n))) m ≡ request_at program (network program env) (counts_beside program added env answers (suc n)) m
+  -- once done is raised nothing is to be stored, where the instance of the memory is waited for
+  pub quiet : (m n l : ℕ) (o : Memory) → slice_get program.memories.items m ≡ Some o → IsJoined (network program env) o.owner → IsDone (top_of nets) n → n ≤ l → (top_of nets l).net (m_we o.name) ≡ 0
+  -- and the memory has the cells that a run within a bound leaves
+  pub leaves :
+      (bound : ℕ) (k : ℕ → ℕ) → EndsWithin (network program env) bound k → (m n l : ℕ) (o : Memory) → slice_get program.memories.items m ≡ Some o → IsJoined (network program env) o.owner → IsDone (top_of nets) n → n ≤ l
+      → cells_at (top_of nets) o.name (slice_index_or env.memories m []) l ≡ cells_of program env.scalars env.memories k m
+  -- an instance is never late, and no stream holds more than its channel has room for
+  pub pace : (most : ℕ) → ((s : ℕ) → slice_index added s ≤ most) → KeepsPace (network program env) (clock_beside program added answers) most
 
 -- from any power-up contents
 abbrev pub CircuitsCarryBeside : Type 0

@@ -12,10 +12,11 @@ use Rattle.vlog_module_laws.specs.Larger.{IsRightBeside}
 use Rattle.hw_channel_laws.specs.modules.Ports.{AreFoundIn}
 use Rattle.hw_task.specs.Promise.{KeepsPromise}
 use Rattle.hw_lines.specs.Texts.{task_name, task_tree}
-use Rattle.hw_lines.specs.top.Channels.{channel_modules}
-use Rattle.hw_lines.specs.top.Designs.{channels_before, is_used, task_modules}
-use Rattle.hw_lines.specs.top.Legal.{AreApart, IsReady}
-use Rattle.hw_lines.specs.top.Texts.{token_bits}
+use Rattle.hw_top_lines.specs.Channels.{channel_modules}
+use Rattle.hw_top_lines.specs.Designs.{channels_before, is_used, task_modules}
+use Rattle.hw_top_lines.specs.Legal.{IsReady}
+use Rattle.tapa_syntax.specs.OwnNames.{AreApart}
+use Rattle.hw_top_lines.specs.Texts.{token_bits}
 use Rattle.hw_top_laws.specs.joins.Joins.{PortsAreOnce}
 
 abbrev pub lower_modules : Program → List Fsm → List ℕ → List ModuleTree

@@ -7,8 +7,9 @@ use Rattle.vlog_tree.specs.Labels.{rst}
 use Rattle.vlog_tree.specs.Names.{is_name}
 use Rattle.vlog_tree.specs.Table.{clk}
 use Rattle.hw_build.specs.Fits.{AreOnce, declared_names}
-use Rattle.hw_lines.specs.top.Legal.{HasOwnNames, IsCountable}
-use Rattle.hw_lines.specs.top.Texts.{top_elements}
+use Rattle.hw_top_lines.specs.Legal.{IsCountable}
+use Rattle.tapa_syntax.specs.OwnNames.{HasOwnNames}
+use Rattle.hw_top_lines.specs.Texts.{top_elements}
 
 -- no name is declared twice
 abbrev pub TopNamesAreOnce : Type 0

@@ -12,14 +12,14 @@ use Rattle.vlog_tree.specs.Form.{ModuleTree}
 use Rattle.vlog_tree.specs.Refused.{IsDesign}
 use Rattle.vlog_tree.specs.Table.{module_named}
 use Rattle.hw_channel_laws.specs.modules.Ports.{AreFoundIn}
-use Rattle.hw_channel_laws.specs.modules.Texts.{AreModules}
+use Rattle.hw_channel_lines.specs.Texts.{AreModules}
 use Rattle.task_fsm.specs.declared.machine.Fsm.{Fsm}
 use Rattle.task_fsm.specs.Lowered.{IsLowered}
 use Rattle.hw_lines.specs.Runs.{ActsAsTask}
 use Rattle.hw_lines.specs.Texts.{task_name, task_tree}
-use Rattle.hw_lines.specs.top.Designs.{AreShort}
-use Rattle.hw_lines.specs.top.Legal.{scalar_ports, memory_ports}
-use Rattle.hw_lines.specs.top.Texts.{token_bits, top_tree}
+use Rattle.hw_top_lines.specs.Designs.{AreShort}
+use Rattle.hw_top_lines.specs.Legal.{scalar_ports, memory_ports}
+use Rattle.hw_top_lines.specs.Texts.{token_bits, top_tree}
 use Rattle.hw_network_laws.specs.modules.Designs.{IsDesignOf}
 use Rattle.hw_top_laws.specs.runs.Parts.{instance_run, instance_rows, channel_run, streams_seen}
 

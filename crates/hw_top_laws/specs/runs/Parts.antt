@@ -13,8 +13,8 @@ use Rattle.vlog_tree.specs.Table.{Name}
 use Rattle.hw_channel_laws.specs.signals.Contract.{ChannelPorts}
 use Rattle.hw_channel_laws.specs.modules.Ports.{channel_ports}
 use Rattle.hw_lines.specs.Signals.{Streams}
-use Rattle.hw_lines.specs.top.Names.{s_has, s_dout, s_take, task_instance, channel_instance}
-use Rattle.hw_lines.specs.top.Texts.{token_bits, stream_label, memory_name}
+use Rattle.hw_top_lines.specs.Names.{s_has, s_dout, s_take, task_instance, channel_instance}
+use Rattle.hw_top_lines.specs.Texts.{token_bits, stream_label, memory_name}
 
 -- the label of an instance, by its number
 abbrev pub instance_label : Program → ℕ → Name

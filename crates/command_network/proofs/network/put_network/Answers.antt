@@ -3,7 +3,7 @@ use Rattle.std.specs.Prelude.{Vec}
 use Rattle.std.specs.Io.KnownBytes.{Appends}
 use Rattle.std.specs.declared.alloc.Global.{Global}
 use Rattle.tapa_files.specs.Outside.{AppendsPart}
-use Rattle.run_program.specs.Ending.{joined, lines_in}
+use Rattle.run_data.specs.Lines.{joined, lines_in}
 use Rattle.command_network.specs.Summaries.{summary_lines}
 use Rattle.command_network.proofs.network.put_network.Goals as goal
 

@@ -1,7 +1,8 @@
 use Rattle.std.proofs.Common.{◌≡◌, ◌∙◌, ap, refl, subst}
 use Rattle.std.specs.Arc.{arc_value}
-use Rattle.run_program.specs.Ending.{lines_in}
-use Rattle.run_program.specs.Run.{Values, values_of, StoppedRun, LimitRun}
+use Rattle.run_data.specs.Lines.{lines_in}
+use Rattle.run_program.specs.Run.{StoppedRun, LimitRun}
+use Rattle.net_core.specs.Bounded.{Values, values_of}
 use Rattle.run_program.specs.Totals.{IsTotalled}
 use Rattle.tapa_words.specs.Words.{default_limit}
 use Rattle.command_network.specs.Nothing.{no_values}

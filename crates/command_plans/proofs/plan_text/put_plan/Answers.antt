@@ -4,7 +4,7 @@ use Rattle.std.specs.Io.KnownBytes.{Appends}
 use Rattle.std.specs.declared.alloc.Global.{Global}
 use Rattle.tapa_files.specs.Outside.{AppendsPart}
 use Rattle.plan_report.specs.Lines.{texts}
-use Rattle.run_program.specs.Ending.{joined, lines_in}
+use Rattle.run_data.specs.Lines.{joined, lines_in}
 use Rattle.command_plans.proofs.plan_text.put_plan.Goals as goal
 
 pub returns-in-Err-clause-refused : goal.returns-in-Err-clause-refused

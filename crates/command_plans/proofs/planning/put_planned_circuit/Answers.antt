@@ -1,6 +1,6 @@
 use Rattle.std.proofs.Common.{ℕ, List, refl, sym, subst, inl}
 use Rattle.plan_report.specs.Added.{AreAdded}
-use Rattle.hw_lines.specs.top.Designs.{AreShort}
+use Rattle.hw_top_lines.specs.Designs.{AreShort}
 use Rattle.command_source.specs.Outside.{written}
 use Rattle.command_plans.specs.Built.{IsCircuitText}
 use Rattle.command_plans.specs.Planned.{IsCircuitBy}

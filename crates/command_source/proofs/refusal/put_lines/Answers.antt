@@ -4,8 +4,8 @@ use Rattle.std.specs.declared.alloc.Global.{Global}
 use Rattle.std.specs.List.{flat_map}
 use Rattle.std.proofs.lemmas.List.{take_all}
 use Rattle.tapa_files.proofs.Known.{part_of_next}
-use Rattle.run_program.specs.Ending.{joined, lines_in}
-use Rattle.run_program.proofs.Lines.{on_err, lines_next}
+use Rattle.run_data.specs.Lines.{joined, lines_in}
+use Rattle.run_data.proofs.Joining.{on_err, lines_next}
 use Rattle.command_source.proofs.Joined.{joined_is}
 use Rattle.command_source.proofs.refusal.put_lines.Goals as goal
 

@@ -4,7 +4,7 @@ use Rattle.vlog_tree.specs.declared.tree.BinaryOp.TheVariants.{Plus, Minus}
 use Rattle.vlog_tree.specs.declared.tree.Atom.TheVariants.{Net}
 use Rattle.vlog_tree.specs.declared.tree.Value.TheVariants.{Choose}
 use Rattle.hw_build.specs.Elements.{with, Wire}
-use Rattle.hw_channel_laws.specs.modules.Texts.{with_number}
+use Rattle.hw_channel_lines.specs.Texts.{with_number}
 use Rattle.cross_pipe.proofs.module.count_wires.Goals as goal
 
 pub returns : goal.returns

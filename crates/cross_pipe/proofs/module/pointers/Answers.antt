@@ -1,7 +1,7 @@
 use Rattle.std.proofs.Common.{[], ap, ◌∙◌, codes}
 use Rattle.std.proofs.lemmas.Result.{IfOk-weaker}
 use Rattle.hw_build.specs.Elements.{with_all}
-use Rattle.hw_channel_laws.specs.modules.Texts.{next_wires}
+use Rattle.hw_channel_lines.specs.Texts.{next_wires}
 use Rattle.cross_pipe.proofs.module.pointers.Goals as goal
 
 pub returns : goal.returns

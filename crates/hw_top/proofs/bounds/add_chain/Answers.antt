@@ -6,8 +6,8 @@ use Rattle.vlog_tree.specs.Labels.{scalar}
 use Rattle.hw_build.specs.Elements.{Wire, with_all}
 use Rattle.hw_build.specs.Scope.{each}
 use Rattle.hw_nets.proofs.Grows.{both}
-use Rattle.hw_lines.specs.top.Names.{bound_net}
-use Rattle.hw_lines.specs.top.Bounds.{scalar_kind, scalar_name, conversion_step}
+use Rattle.hw_top_lines.specs.Names.{bound_net}
+use Rattle.hw_top_lines.specs.Bounds.{scalar_kind, scalar_name, conversion_step}
 use Rattle.hw_top.proofs.bounds.add_chain.Goals as goal
 
 pub returns : goal.returns

@@ -1,5 +1,5 @@
 use Rattle.std.proofs.lemmas.Result.{IfOk-weaker}
-use Rattle.hw_lines.specs.top.Bounds.{parameter_kind}
+use Rattle.hw_top_lines.specs.Bounds.{parameter_kind}
 use Rattle.hw_top.proofs.BoundNets.{bound_grows, unbound_stays}
 use Rattle.hw_top.proofs.Found.{found, missing}
 use Rattle.hw_top.proofs.bounds.add_parameter.Goals as goal

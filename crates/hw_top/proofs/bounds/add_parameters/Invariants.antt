@@ -2,7 +2,7 @@ use Rattle.std.proofs.Common.{◌≡◌}
 use Rattle.hw_build.specs.Elements.{with_all}
 use Rattle.hw_build.specs.Scope.{each}
 use Rattle.std.specs.Prelude.{slice_get}
-use Rattle.hw_lines.specs.top.Bounds.{parameter_kind, bound_elements}
+use Rattle.hw_top_lines.specs.Bounds.{parameter_kind, bound_elements}
 use Rattle.hw_top.proofs.bounds.add_parameters.Given as goal
 
 abbrev pub invariant-loop-p : goal.invariant-loop-p

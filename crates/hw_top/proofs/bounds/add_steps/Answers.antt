@@ -1,5 +1,5 @@
 use Rattle.std.proofs.Common.{◌≡◌, length, arith}
-use Rattle.hw_lines.specs.top.Bounds.{conversion_step}
+use Rattle.hw_top_lines.specs.Bounds.{conversion_step}
 use Rattle.hw_nets.proofs.Grows.{each_more, each_end}
 use Rattle.hw_top.proofs.bounds.add_steps.Goals as goal
 

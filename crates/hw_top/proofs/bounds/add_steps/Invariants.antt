@@ -1,7 +1,7 @@
 use Rattle.std.proofs.Common.{◌≡◌}
 use Rattle.hw_build.specs.Elements.{with_all}
 use Rattle.hw_build.specs.Scope.{each}
-use Rattle.hw_lines.specs.top.Bounds.{conversion_step}
+use Rattle.hw_top_lines.specs.Bounds.{conversion_step}
 use Rattle.hw_top.proofs.bounds.add_steps.Given as goal
 
 abbrev pub invariant-loop-step : goal.invariant-loop-step

@@ -1,5 +1,5 @@
 use Rattle.std.proofs.Common.{◌≡◌, vec_len}
-use Rattle.hw_lines.specs.top.Channels.{with_new}
+use Rattle.hw_top_lines.specs.Channels.{with_new}
 use Rattle.hw_top.specs.Places.{ArePlaces}
 use Rattle.hw_top.proofs.channels.add_new.Given as goal
 

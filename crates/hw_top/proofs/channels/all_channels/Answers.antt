@@ -1,5 +1,5 @@
 use Rattle.std.proofs.Common.{◌≡◌, length, ap, ◌∙◌, arith}
-use Rattle.hw_lines.specs.top.Designs.{channels_before}
+use Rattle.hw_top_lines.specs.Designs.{channels_before}
 use Rattle.hw_top.proofs.ChannelModules.{channels_grow}
 use Rattle.hw_top.proofs.channels.all_channels.Goals as goal
 

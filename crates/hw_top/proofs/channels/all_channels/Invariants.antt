@@ -1,5 +1,5 @@
 use Rattle.std.proofs.Common.{◌≡◌}
-use Rattle.hw_lines.specs.top.Designs.{channels_before}
+use Rattle.hw_top_lines.specs.Designs.{channels_before}
 use Rattle.hw_top.specs.Places.{ArePlaces}
 use Rattle.hw_top.proofs.channels.all_channels.Given as goal
 

@@ -1,6 +1,6 @@
 use Rattle.std.proofs.Common.{ap, ◌∙◌}
 use Rattle.std.proofs.lemmas.Result.{IfOk-weaker}
-use Rattle.hw_lines.specs.top.Channels.{channel_modules}
+use Rattle.hw_top_lines.specs.Channels.{channel_modules}
 use Rattle.hw_top.proofs.ChannelModules.{modules_are}
 use Rattle.hw_top.proofs.channels.channel_modules.Goals as goal
 

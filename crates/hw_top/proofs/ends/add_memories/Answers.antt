@@ -1,5 +1,5 @@
 use Rattle.std.proofs.Common.{◌≡◌, length, arith}
-use Rattle.hw_lines.specs.top.Texts.{memory_ends}
+use Rattle.hw_top_lines.specs.Texts.{memory_ends}
 use Rattle.hw_top.proofs.Joined.{part_more, part_last}
 use Rattle.hw_top.proofs.ends.add_memories.Goals as goal
 

@@ -1,4 +1,4 @@
-use Rattle.hw_channel_laws.specs.modules.Texts.{joined_to}
+use Rattle.hw_channel_lines.specs.Texts.{joined_to}
 use Rattle.vlog_tree.specs.Labels.{m_ack, m_addr, m_rdata, m_wdata, m_we}
 use Rattle.hw_lines.specs.declared.nets.Net.TheVariants.{Ack, Addr, Rdata, Wdata, We}
 use Rattle.hw_lines.specs.Nets.{name}

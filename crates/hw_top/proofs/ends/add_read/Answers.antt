@@ -1,7 +1,7 @@
-use Rattle.hw_channel_laws.specs.modules.Texts.{joined_to}
+use Rattle.hw_channel_lines.specs.Texts.{joined_to}
 use Rattle.hw_lines.specs.declared.nets.Net.TheVariants.{Dout, Has, Taken}
 use Rattle.hw_lines.specs.Nets.{name}
-use Rattle.hw_lines.specs.top.Names.{s_dout, s_has, s_take}
+use Rattle.hw_top_lines.specs.Names.{s_dout, s_has, s_take}
 use Rattle.hw_top.proofs.Joined.{joined_as, three_more}
 use Rattle.hw_top.proofs.ends.add_read.Goals as goal
 

@@ -1,6 +1,6 @@
 use Rattle.std.proofs.Common.{◌≡◌, ◌++◌}
 use Rattle.hw_build.specs.Scope.{each}
-use Rattle.hw_lines.specs.top.Texts.{scalar_ends}
+use Rattle.hw_top_lines.specs.Texts.{scalar_ends}
 use Rattle.hw_top.proofs.ends.add_scalars.Given as goal
 
 abbrev pub invariant-loop-p : goal.invariant-loop-p

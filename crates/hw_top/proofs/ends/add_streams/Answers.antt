@@ -1,5 +1,5 @@
 use Rattle.std.proofs.Common.{◌≡◌, length, arith}
-use Rattle.hw_lines.specs.top.Texts.{stream_ends}
+use Rattle.hw_top_lines.specs.Texts.{stream_ends}
 use Rattle.hw_top.proofs.Joined.{part_more, part_last}
 use Rattle.hw_top.proofs.ends.add_streams.Goals as goal
 

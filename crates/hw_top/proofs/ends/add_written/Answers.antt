@@ -1,4 +1,4 @@
-use Rattle.hw_channel_laws.specs.modules.Texts.{joined_to}
+use Rattle.hw_channel_lines.specs.Texts.{joined_to}
 use Rattle.vlog_tree.specs.Labels.{s_din, s_rdy, s_wr}
 use Rattle.hw_lines.specs.declared.nets.Net.TheVariants.{Din, Rdy, Wr}
 use Rattle.hw_lines.specs.Nets.{name}

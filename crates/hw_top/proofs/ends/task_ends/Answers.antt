@@ -1,6 +1,6 @@
 use Rattle.std.proofs.Common.{length, ◌∙◌}
 use Rattle.hw_build.specs.Scope.{each}
-use Rattle.hw_lines.specs.top.Texts.{scalar_ends, stream_ends, memory_ends}
+use Rattle.hw_top_lines.specs.Texts.{scalar_ends, stream_ends, memory_ends}
 use Rattle.hw_top.proofs.Joined.{all_joined}
 use Rattle.hw_top.proofs.ends.task_ends.Goals as goal
 

@@ -1,6 +1,6 @@
 use Rattle.std.proofs.Common.{◌≡◌, ℕ, length, arith}
 use Rattle.std.specs.Prelude.{slice_get, slice_index}
-use Rattle.hw_lines.specs.top.Texts.{channel_part}
+use Rattle.hw_top_lines.specs.Texts.{channel_part}
 use Rattle.hw_nets.proofs.Grows.{each_more, each_end}
 use Rattle.hw_top.proofs.instances.add_channels.Goals as goal
 

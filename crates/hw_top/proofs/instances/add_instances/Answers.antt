@@ -3,7 +3,7 @@ use Rattle.std.specs.Prelude.{slice_get, slice_index}
 use Rattle.hw_build.specs.Elements.{Element}
 use Rattle.hw_build.specs.Scope.{each}
 use Rattle.hw_nets.proofs.Grows.{both}
-use Rattle.hw_lines.specs.top.Texts.{at_instance, channel_part, task_part}
+use Rattle.hw_top_lines.specs.Texts.{at_instance, channel_part, task_part}
 use Rattle.hw_top.proofs.instances.add_instances.Goals as goal
 
 pub returns : goal.returns

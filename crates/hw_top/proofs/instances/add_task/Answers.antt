@@ -1,7 +1,7 @@
 use Rattle.std.proofs.Common.{sym, ap, ◌∙◌}
 use Rattle.std.proofs.lemmas.Result.{IfOk-weaker}
 use Rattle.hw_build.specs.Elements.{with_all}
-use Rattle.hw_lines.specs.top.Texts.{task_part}
+use Rattle.hw_top_lines.specs.Texts.{task_part}
 use Rattle.hw_top.proofs.Found.{found, missing}
 use Rattle.hw_top.proofs.Parts.{part_at, no_leaf_at, no_instance_at}
 use Rattle.hw_top.proofs.instances.add_task.Goals as goal

@@ -1,5 +1,5 @@
 use Rattle.std.proofs.Common.{◌≡◌, length, arith}
-use Rattle.hw_lines.specs.top.Texts.{at_instance, task_part}
+use Rattle.hw_top_lines.specs.Texts.{at_instance, task_part}
 use Rattle.hw_nets.proofs.Grows.{each_more, each_end}
 use Rattle.hw_top.proofs.instances.add_tasks.Goals as goal
 

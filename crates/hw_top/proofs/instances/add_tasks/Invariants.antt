@@ -1,7 +1,7 @@
 use Rattle.std.proofs.Common.{◌≡◌}
 use Rattle.hw_build.specs.Elements.{with_all}
 use Rattle.hw_build.specs.Scope.{each}
-use Rattle.hw_lines.specs.top.Texts.{at_instance, task_part}
+use Rattle.hw_top_lines.specs.Texts.{at_instance, task_part}
 use Rattle.hw_top.proofs.instances.add_tasks.Given as goal
 
 abbrev pub invariant-loop-i : goal.invariant-loop-i

@@ -1,5 +1,5 @@
 use Rattle.std.proofs.Common.{◌≡◌, length, below_more, arith}
-use Rattle.hw_lines.specs.top.Designs.{used_module}
+use Rattle.hw_top_lines.specs.Designs.{used_module}
 use Rattle.hw_top.proofs.Joined.{part_more, part_last}
 use Rattle.hw_top.specs.Kept.{IsKept}
 use Rattle.hw_top.proofs.TaskModules.{all_kept}

@@ -1,6 +1,6 @@
 use Rattle.std.proofs.Common.{◌≡◌, ℕ, ◌<◌, ◌++◌}
 use Rattle.hw_build.specs.Scope.{each}
-use Rattle.hw_lines.specs.top.Designs.{used_module}
+use Rattle.hw_top_lines.specs.Designs.{used_module}
 use Rattle.hw_top.specs.Kept.{IsKept}
 use Rattle.hw_top.proofs.modules.add_tasks.Given as goal
 

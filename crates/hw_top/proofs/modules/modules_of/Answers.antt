@@ -1,7 +1,7 @@
 use Rattle.std.proofs.Common.{List, [], ◌∷◌, ◌++◌, ap, ◌∙◌}
 use Rattle.vlog_tree.specs.Form.{ModuleTree}
-use Rattle.hw_lines.specs.top.Designs.{task_modules}
-use Rattle.hw_lines.specs.top.Texts.{top_tree}
+use Rattle.hw_top_lines.specs.Designs.{task_modules}
+use Rattle.hw_top_lines.specs.Texts.{top_tree}
 use Rattle.hw_top.proofs.TaskModules.{of_bodies}
 use Rattle.hw_top.proofs.modules.modules_of.Goals as goal
 

@@ -1,6 +1,6 @@
 use Rattle.std.proofs.Common.{◌≡◌, ℕ, length, arith}
 use Rattle.std.specs.Prelude.{slice_get}
-use Rattle.hw_lines.specs.top.Texts.{memory_ports}
+use Rattle.hw_top_lines.specs.Texts.{memory_ports}
 use Rattle.hw_nets.proofs.Grows.{each_more, each_end}
 use Rattle.hw_top.proofs.ports.add_memories.Goals as goal
 

@@ -2,7 +2,7 @@ use Rattle.std.proofs.Common.{◌≡◌}
 use Rattle.hw_build.specs.Elements.{with_all}
 use Rattle.hw_build.specs.Scope.{each}
 use Rattle.std.specs.Prelude.{slice_get}
-use Rattle.hw_lines.specs.top.Texts.{memory_ports}
+use Rattle.hw_top_lines.specs.Texts.{memory_ports}
 use Rattle.hw_top.proofs.ports.add_memories.Given as goal
 
 abbrev pub invariant-loop-m : goal.invariant-loop-m

@@ -3,7 +3,7 @@ use Rattle.std.specs.Prelude.{slice_get}
 use Rattle.hw_build.specs.Elements.{Element}
 use Rattle.hw_build.specs.Scope.{each}
 use Rattle.hw_nets.proofs.Grows.{both}
-use Rattle.hw_lines.specs.top.Texts.{memory_ports, scalar_port}
+use Rattle.hw_top_lines.specs.Texts.{memory_ports, scalar_port}
 use Rattle.hw_top.proofs.ports.add_ports.Goals as goal
 
 pub returns : goal.returns

@@ -1,6 +1,6 @@
 use Rattle.std.proofs.Common.{◌++◌}
 use Rattle.hw_nets.proofs.Grows.{both}
-use Rattle.hw_lines.specs.top.Texts.{ports, wires, doneness, instances}
+use Rattle.hw_top_lines.specs.Texts.{ports, wires, doneness, instances}
 use Rattle.hw_top.proofs.top.add_elements.Goals as goal
 
 pub returns : goal.returns

@@ -1,6 +1,6 @@
 use Rattle.std.proofs.Common.{ap, ◌∙◌}
 use Rattle.hw_build.specs.Elements.{empty, with_all}
-use Rattle.hw_lines.specs.top.Texts.{top_elements}
+use Rattle.hw_top_lines.specs.Texts.{top_elements}
 use Rattle.hw_top.proofs.top.drafted.Goals as goal
 
 pub returns : goal.returns

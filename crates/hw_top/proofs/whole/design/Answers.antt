@@ -3,8 +3,9 @@ use Rattle.tapa_syntax.specs.declared.program.Program.{Program}
 use Rattle.tapa_syntax.specs.WellFormed.{IsWellFormed}
 use Rattle.task_fsm.specs.declared.machine.Fsm.{Fsm}
 use Rattle.vlog_tree.specs.Form.{ModuleTree}
-use Rattle.hw_lines.specs.top.Designs.{AreShort}
-use Rattle.hw_lines.specs.top.Legal.{AreMachinesOf, HasOwnNames, IsCountable, IsReady}
+use Rattle.hw_top_lines.specs.Designs.{AreShort}
+use Rattle.hw_top_lines.specs.Legal.{AreMachinesOf, IsCountable, IsReady}
+use Rattle.tapa_syntax.specs.OwnNames.{HasOwnNames}
 use Rattle.hw_top_laws.proofs.circuit.Circuit.{tops_are_modules}
 use Rattle.hw_top.proofs.Circuit.{kept_promises, whole_long, legal_at, circuit_of}
 use Rattle.hw_top.proofs.whole.design.Goals as goal

@@ -1,5 +1,5 @@
 use Rattle.std.proofs.Common.{◌≡◌, length, arith}
-use Rattle.hw_lines.specs.top.Texts.{waiting}
+use Rattle.hw_top_lines.specs.Texts.{waiting}
 use Rattle.hw_nets.proofs.Grows.{each_more, each_end}
 use Rattle.hw_top.proofs.wires.add_all_waiting.Goals as goal
 

@@ -3,8 +3,8 @@ use Rattle.std.specs.Prelude.{slice_get}
 use Rattle.hw_build.specs.Elements.{Element}
 use Rattle.hw_build.specs.Scope.{each}
 use Rattle.hw_nets.proofs.Grows.{both}
-use Rattle.hw_lines.specs.top.Bounds.{parameters}
-use Rattle.hw_lines.specs.top.Texts.{at_instance, ended_wire, stream_wires, take_wire}
+use Rattle.hw_top_lines.specs.Bounds.{parameters}
+use Rattle.hw_top_lines.specs.Texts.{at_instance, ended_wire, stream_wires, take_wire}
 use Rattle.hw_top.proofs.wires.add_all_wires.Goals as goal
 
 pub returns : goal.returns

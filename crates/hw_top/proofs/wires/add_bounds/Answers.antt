@@ -1,6 +1,6 @@
 use Rattle.std.proofs.Common.{◌≡◌, length, arith}
-use Rattle.hw_lines.specs.top.Bounds.{parameters}
-use Rattle.hw_lines.specs.top.Texts.{at_instance}
+use Rattle.hw_top_lines.specs.Bounds.{parameters}
+use Rattle.hw_top_lines.specs.Texts.{at_instance}
 use Rattle.hw_nets.proofs.Grows.{each_more, each_end}
 use Rattle.hw_top.proofs.wires.add_bounds.Goals as goal
 

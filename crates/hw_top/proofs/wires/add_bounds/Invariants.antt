@@ -1,8 +1,8 @@
 use Rattle.std.proofs.Common.{◌≡◌}
 use Rattle.hw_build.specs.Elements.{with_all}
 use Rattle.hw_build.specs.Scope.{each}
-use Rattle.hw_lines.specs.top.Bounds.{parameters}
-use Rattle.hw_lines.specs.top.Texts.{at_instance}
+use Rattle.hw_top_lines.specs.Bounds.{parameters}
+use Rattle.hw_top_lines.specs.Texts.{at_instance}
 use Rattle.hw_top.proofs.wires.add_bounds.Given as goal
 
 abbrev pub invariant-loop-i : goal.invariant-loop-i

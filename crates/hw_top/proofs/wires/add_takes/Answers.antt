@@ -1,6 +1,6 @@
 use Rattle.std.proofs.Common.{◌≡◌, ℕ, length, arith}
 use Rattle.std.specs.Prelude.{slice_get}
-use Rattle.hw_lines.specs.top.Texts.{take_wire}
+use Rattle.hw_top_lines.specs.Texts.{take_wire}
 use Rattle.hw_nets.proofs.Grows.{each_more, each_end}
 use Rattle.hw_top.proofs.wires.add_takes.Goals as goal
 

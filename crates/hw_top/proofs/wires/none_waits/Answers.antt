@@ -1,6 +1,6 @@
 use Rattle.std.proofs.Common.{sym, ap, ◌∙◌}
 use Rattle.vlog_tree.specs.declared.tree.Value.TheVariants.{Plain}
-use Rattle.hw_lines.specs.top.Texts.{none_waits}
+use Rattle.hw_top_lines.specs.Texts.{none_waits}
 use Rattle.hw_top.proofs.Tops.{root_waits}
 use Rattle.hw_top.proofs.wires.none_waits.Goals as goal
 

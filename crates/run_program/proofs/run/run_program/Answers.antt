@@ -4,7 +4,7 @@ use Rattle.tapa_files.specs.declared.fault.PrintFault.TheVariants.{WriteFault}
 use Rattle.tapa_syntax.specs.declared.program.Program.{Program}
 use Rattle.net_core.specs.declared.input.Input.{Input}
 use Rattle.run_program.specs.Ending.{EndsSo, HasFront, HasPart}
-use Rattle.run_program.specs.Run.{values_of}
+use Rattle.net_core.specs.Bounded.{values_of}
 use Rattle.run_program.proofs.run.run_program.Goals as goal
 
 pub returns-clause-part : goal.returns-clause-part

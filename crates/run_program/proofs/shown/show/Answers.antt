@@ -10,8 +10,9 @@ use Rattle.net_core.specs.declared.net_state.NetState.{NetState}
 use Rattle.net_core.specs.State as state
 use Rattle.run_data.specs.Report.{last_line}
 use Rattle.run_data.specs.declared.lines.Last.{Last}
-use Rattle.run_program.specs.Run.{values_of, tokens_at, cells_shown, stream_lines, memory_lines, lines_at}
-use Rattle.run_program.proofs.Lines.{on_err, map_on_err}
+use Rattle.run_program.specs.Run.{tokens_at, cells_shown, stream_lines, memory_lines, lines_at}
+use Rattle.net_core.specs.Bounded.{values_of}
+use Rattle.run_data.proofs.Joining.{on_err, map_on_err}
 use Rattle.run_program.proofs.Running.{network_is}
 use Rattle.run_program.proofs.shown.show.Goals as goal
 

@@ -3,9 +3,10 @@ use Rattle.tapa_files.proofs.Known.{part_so_far, part_of_next, appends_both}
 use Rattle.tapa_syntax.specs.declared.program.Memory.{Memory}
 use Rattle.net_core.specs.State.{count}
 use Rattle.run_data.specs.Report.{memory_line}
-use Rattle.run_program.specs.Run.{values_of, cells_shown, memory_lines}
-use Rattle.run_program.proofs.Lines.{on_err}
-use Rattle.run_program.proofs.Showing.{first_so_far, first_next, first_more}
+use Rattle.run_program.specs.Run.{cells_shown, memory_lines}
+use Rattle.net_core.specs.Bounded.{values_of}
+use Rattle.run_data.proofs.Joining.{on_err}
+use Rattle.run_data.proofs.Showing.{first_so_far, first_next, first_more}
 use Rattle.run_program.proofs.shown.show_memories.Goals as goal
 
 -- the line that a turn writes is that of its memory

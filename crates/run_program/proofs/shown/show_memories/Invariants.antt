@@ -1,7 +1,8 @@
 use Rattle.std.proofs.Common.{◌≤◌, take}
 use Rattle.std.specs.Io.KnownBytes.{Appends}
 use Rattle.net_core.specs.State.{count}
-use Rattle.run_program.specs.Run.{values_of, cells_shown, memory_lines}
+use Rattle.run_program.specs.Run.{cells_shown, memory_lines}
+use Rattle.net_core.specs.Bounded.{values_of}
 use Rattle.run_program.proofs.shown.show_memories.Given as goal
 
 abbrev pub invariant-loop-m : goal.invariant-loop-m

@@ -6,7 +6,7 @@ use Rattle.net_core.specs.Settle.{EndsAs}
 use Rattle.run_program.proofs.Sending.{coro_send}
 use Rattle.kahn_model.specs.Outcome.{shown}
 use Rattle.net_core.specs.State.{network, count}
-use Rattle.run_program.specs.Ending.{lines_in}
+use Rattle.run_data.specs.Lines.{lines_in}
 use Rattle.run_program.specs.Totals.{AreCarried}
 use Rattle.run_program.proofs.Running.{stopped_report, limit_past}
 use Rattle.run_program.proofs.Totalling.{totals_done}

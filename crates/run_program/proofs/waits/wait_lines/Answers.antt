@@ -11,7 +11,7 @@ use Rattle.net_core.specs.Bindings.{stream_at, stream_in}
 use Rattle.net_core.specs.Settle.{AreTold}
 use Rattle.net_core.specs.State.{network, count}
 use Rattle.net_core.specs.Waits.{IsToldBy}
-use Rattle.run_program.specs.Ending.{lines_in}
+use Rattle.run_data.specs.Lines.{lines_in}
 use Rattle.run_program.specs.Pauses.{pause_line, in_list, last_pause_lines}
 use Rattle.run_program.specs.Run.{AreWaitLines}
 use Rattle.run_program.proofs.Waiting.{waits_more, last_lines}

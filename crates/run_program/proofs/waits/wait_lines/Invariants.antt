@@ -1,6 +1,6 @@
 use Rattle.std.proofs.Common.{take}
 use Rattle.net_core.specs.State.{network, count}
-use Rattle.run_program.specs.Ending.{lines_in}
+use Rattle.run_data.specs.Lines.{lines_in}
 use Rattle.run_program.specs.Run.{AreWaitLines}
 use Rattle.run_program.proofs.waits.wait_lines.Given as goal
 

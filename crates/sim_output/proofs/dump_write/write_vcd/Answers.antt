@@ -7,7 +7,7 @@ use Rattle.vlog_tree.specs.Refused.{IsDesign}
 use Rattle.vlog_tree.specs.Environment.{IsDone}
 use Rattle.vlog_run_laws.proofs.runs.Sound.{true_not_false}
 use Rattle.vlog_design.specs.Designs.{DesignTree, TopOf}
-use Rattle.run_program.proofs.Lines.{on_err}
+use Rattle.run_data.proofs.Joining.{on_err}
 use Rattle.cycle_sim.specs.Simulators.{sim_of}
 use Rattle.cycle_sim.specs.Sims.{InRuns, IsLater, IsDoneAt, last_cycle}
 use Rattle.cycle_sim.proofs.Adding.{later_none}

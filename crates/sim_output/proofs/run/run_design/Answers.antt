@@ -1,6 +1,6 @@
 use Rattle.std.proofs.Common.{inr, sym, subst, ◌∙◌}
 use Rattle.vlog_design.specs.Environments.{environment_of}
-use Rattle.run_program.proofs.Lines.{on_err}
+use Rattle.run_data.proofs.Joining.{on_err}
 use Rattle.cycle_sim.specs.Simulators.{sim_of}
 use Rattle.sim_output.specs.declared.run.DesignEnd.{DesignEnd}
 use Rattle.sim_output.specs.Ending.{EndsSo}

@@ -1,5 +1,10 @@
-use Rattle.tapa_drive.proofs.BuiltRuns.{circuits_show_their_program}
+use Rattle.tapa_drive.proofs.BuiltRuns.{circuit_texts_show_their_program, circuits_show_their_program, planned_circuits_show_their_program, latency_changes_no_report}
 use Rattle.tapa_drive.proofs.laws.law_circuits_show_their_program.Goals as goal
 
 pub returns : goal.returns
-returns c = circuits_show_their_program
+returns c = record {
+  any = circuit_texts_show_their_program;
+  built = circuits_show_their_program;
+  planned = planned_circuits_show_their_program;
+  latency = latency_changes_no_report;
+}

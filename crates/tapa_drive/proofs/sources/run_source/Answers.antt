@@ -2,7 +2,7 @@ use Rattle.std.proofs.Common.{Err, ap, subst}
 use Rattle.std.specs.Prelude.{option_map}
 use Rattle.run_program.specs.declared.run.RunEnd.{RunEnd}
 use Rattle.run_program.specs.Ending.{EndsSo}
-use Rattle.run_program.specs.Run.{values_of}
+use Rattle.net_core.specs.Bounded.{values_of}
 use Rattle.command_source.specs.Outside.{written}
 use Rattle.tapa_words.specs.Words.{Run}
 use Rattle.tapa_drive.proofs.Carried.{not_found}

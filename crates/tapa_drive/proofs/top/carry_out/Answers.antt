@@ -35,14 +35,14 @@ returns-in-Ok-Cosim g c = λ errors told. inl (c.cosim_text.ensures (texts c.arg
 pub returns-in-Ok-Vcd : goal.returns-in-Ok-Vcd
 returns-in-Ok-Vcd g c = λ errors told. inl (c.show_net.ensures (texts c.args.words.now) errors told (rw c.in-Ok-Vcd.field-0-is at c.in-Ok-Vcd.ensures.asked))
 
-pub sum_network-requires-clause-workers : goal.sum_network-requires-clause-workers
-sum_network-requires-clause-workers g c κs within =
+pub put_network-requires-clause-workers : goal.put_network-requires-clause-workers
+put_network-requires-clause-workers g c κs within =
     let range = subst (λ (asked : Command). IsInRange (command asked)) c.in-Ok-Gen.field-0-is c.in-Ok-Gen.ensures.range in
     (range.1, range.2)
 
-pub sum_network-requires-clause-layers : goal.sum_network-requires-clause-layers
-sum_network-requires-clause-layers g c κs within = (subst (λ (asked : Command). IsInRange (command asked)) c.in-Ok-Gen.field-0-is c.in-Ok-Gen.ensures.range).0
+pub put_network-requires-clause-layers : goal.put_network-requires-clause-layers
+put_network-requires-clause-layers g c κs within = (subst (λ (asked : Command). IsInRange (command asked)) c.in-Ok-Gen.field-0-is c.in-Ok-Gen.ensures.range).0
 
 pub returns-in-Ok-Gen : goal.returns-in-Ok-Gen
 returns-in-Ok-Gen g c = λ errors told.
-    inr (Gen c.in-Ok-Gen.layers c.in-Ok-Gen.workers, rw c.in-Ok-Gen.field-0-is at c.in-Ok-Gen.ensures.asked, put_carried c.in-Ok-Gen.layers _ _ c.sum_network.result c.sum_network.ensures.whole c.sum_network.ensures.refused (record { same_files = refl; none = λ name. refl }))
+    inr (Gen c.in-Ok-Gen.layers c.in-Ok-Gen.workers, rw c.in-Ok-Gen.field-0-is at c.in-Ok-Gen.ensures.asked, put_carried c.in-Ok-Gen.layers _ _ c.put_network.result c.put_network.ensures.whole c.put_network.ensures.refused (record { same_files = refl; none = λ name. refl }))

@@ -1,7 +1,0 @@
-use Rattle.std.proofs.Common.{◌≡◌, map, take}
-use Rattle.tapa_syntax.specs.declared.program.Memory.{Memory}
-use Rattle.command_source.specs.Inputs.{port_of}
-use Rattle.command_source.proofs.inputs.memory_ports.Given as goal
-
-abbrev pub invariant-loop-memory : goal.invariant-loop-memory
-invariant-loop-memory l = l.ports.items ≡ map (λ (c : Memory). port_of c.name c.kind) (take l.memory-index l.memories)
