@@ -12,6 +12,7 @@ import sys
 
 from runner import (
     arrays,
+    balances,
     benches,
     bounds,
     changes,
@@ -43,6 +44,7 @@ from runner import (
     plans,
     profiles,
     readers,
+    recipes,
     reference,
     reports,
     scripts,
@@ -65,6 +67,7 @@ GROUPS = [
     ("runs", sessions.try_all),
     ("arrays", arrays.try_all),
     ("plans", plans.try_all),
+    ("balances", balances.try_all),
     ("halving", halving.try_all),
     ("placing", placing.try_all),
     ("placement", placement.try_all),
@@ -102,6 +105,7 @@ GROUPS = [
     ("terminal", terminal.try_all),
     ("crates", crates.try_all),
     ("house", house.try_all),
+    ("recipes", recipes.try_all),
     ("messages", documents.try_messages),
 ]
 

@@ -4,7 +4,8 @@
     tests/threads.py PROGRAM [--runs N] [--seed S]     1,000 runs and seed 1, where nothing else is said
 
 The networks are twenty random ones of tests/runner/workers.py that end in all ways, and some with much to do. Beside them two processes for each processor do
-nothing but use it, and four runs are made at once, some of them on one processor alone. A run that has not ended after 60 seconds is a hang. The last line is
+nothing but use it, and four runs are made at once. Some of them have all of their threads put on one processor while they run, once the program has looked how many processors
+there are. A run that has not ended after 60 seconds is a hang. The last line is
 `N runs, M findings`.
 """
 import json
@@ -14,6 +15,7 @@ import subprocess
 import sys
 import tempfile
 import threading
+import time
 
 from runner.workers import Network
 from speed import apart, hub
@@ -26,6 +28,17 @@ def networks(seed):
     found = [Network(f"{seed} {at}") for at in range(NETWORKS - 3)]
     given = [(it.source, "T", it.data, it.limit) for it in found]
     return given + [(apart(64, 3000), "Top", {}, "1000000"), (hub(12, 200), "Top", {}, "1000000"), (apart(3, 60_000), "Top", {}, "1000000")]
+
+
+def confine(process):
+    """Puts the threads of a process on one processor, those that it starts meanwhile too, until it ends."""
+    while process.poll() is None:
+        try:
+            for thread in os.listdir(f"/proc/{process.pid}/task"):
+                os.sched_setaffinity(int(thread), {0})
+        except OSError:
+            pass
+        time.sleep(0.001)
 
 
 class Runs:
@@ -42,17 +55,21 @@ class Runs:
             self.words.append(["run", f"{at}.cpp", top, f"{at}.json", "--steps", limit])
             self.wanted.append(self.answer(self.words[at]))
 
-    def answer(self, words, before=()):
+    def answer(self, words, is_confined=False):
         """The status and both outputs; none where it has not ended."""
-        try:
-            said = subprocess.run([*before, self.program, *words], cwd=self.folder, capture_output=True, timeout=SECONDS, check=False)
-        except subprocess.TimeoutExpired:
-            return None
-        return said.returncode, said.stdout, said.stderr
+        with subprocess.Popen([self.program, *words], cwd=self.folder, stdout=subprocess.PIPE, stderr=subprocess.PIPE) as process:
+            if is_confined:
+                threading.Thread(target=confine, args=(process,), daemon=True).start()
+            try:
+                out, err = process.communicate(timeout=SECONDS)
+            except subprocess.TimeoutExpired:
+                process.kill()
+                return None
+        return process.returncode, out, err
 
     def work(self, chosen):
         for at, workers, alone in chosen:
-            said = self.answer([*self.words[at], "--workers", str(workers)], ["taskset", "-c", "0"] if alone else [])
+            said = self.answer([*self.words[at], "--workers", str(workers)], alone)
             with self.lock:
                 status = said[0] if said else "hang"
                 self.statuses[status] = self.statuses.get(status, 0) + 1

@@ -97,15 +97,16 @@ def try_words(trial):
         trial.check(f"testbench.py {' '.join(words)}", got == status and part in out + err and "Traceback" not in err, f"   {got} {err[:300]}")
 
 
-def try_verilator(trial):
-    """Verilator makes a program of a testbench, without a warning, and it passes."""
-    _, text, _ = made(trial, [*words_of("run_length"), "--waits", "random"])
-    folder = os.path.join(trial.folder.name, "verilated")
+def try_verilator(trial, name, way):
+    """Verilator makes a program of an example's testbench, without a warning, and it passes."""
+    _, text, _ = made(trial, [*words_of(name), "--waits", way])
+    folder = os.path.join(trial.folder.name, f"verilated_{name}")
     words = ["verilator", "--binary", "--top-module", "bench", "--Mdir", folder, "-CFLAGS", "-O0", trial.put("bench.v", text)]
     ran = subprocess.run(words, capture_output=True, text=True, check=False)
-    trial.check("Verilator takes a testbench without a warning", ran.returncode == 0 and "%Warning" not in ran.stderr, ran.stderr[-1000:])
+    trial.check(f"Verilator takes a testbench of {name} without a warning", ran.returncode == 0 and "%Warning" not in ran.stderr, ran.stderr[-1000:])
     said = subprocess.run([f"{folder}/Vbench"], capture_output=True, text=True, check=False).stdout if ran.returncode == 0 else ""
-    trial.check("the testbench passes in Verilator", said.startswith("PASS: "), said[:500])
+    trial.check(f"the testbench of {name} passes in Verilator", said.startswith("PASS: "), said[:500])
+    shutil.rmtree(folder, ignore_errors=True)
 
 
 def try_all(trial):
@@ -117,6 +118,6 @@ def try_all(trial):
         trial.note("there is no Icarus Verilog here, so testbenches were not tried in it")
     version = subprocess.run(["verilator", "--version"], capture_output=True, text=True, check=False).stdout if shutil.which("verilator") else ""
     if re.match(r"Verilator (5\.00[6-9]|5\.0[1-9]|5\.[1-9]|[6-9])", version):
-        try_verilator(trial)
+        try_verilator(trial, "run_length", "random")
     else:
         trial.note("there is no Verilator from 5.006 on here, so testbenches were not tried in it")

@@ -47,6 +47,16 @@ def try_names(trial):
             trial.check(f"{page}: {law} is in the crates", f"fn {law}(" in text or f"fn {law}<" in text)
 
 
+def try_figures(trial):
+    """docs/FIGURES.md is short, and its table of the gate has crates that there are."""
+    page = read("docs/FIGURES.md")
+    trial.check("docs/FIGURES.md has at most 150 lines", page.count("\n") <= 150)
+    rows = re.findall(r"^\| (?:\w+ \| \d+ \| \d+ \| \d+ \|).*$", page.partition("## The gate")[2], re.M)
+    named = {name for row in rows for name in re.findall(r"\b[a-z]\w+\b", row)}
+    trial.check("docs/FIGURES.md has what the gate spends on crates", len(named) > 60)
+    trial.check_equal("crates of docs/FIGURES.md that are gone", named - {name for _, crates in listed.rooms() for name in crates}, set())
+
+
 def try_homes(trial):
     """Where docs/READING.md names a definition with its crate, the definition stands in that crate."""
     page = read("docs/READING.md")
@@ -80,6 +90,7 @@ def try_links(trial):
 def try_all(trial):
     try_lists(trial)
     try_names(trial)
+    try_figures(trial)
     try_homes(trial)
     try_clauses(trial)
     try_links(trial)

@@ -163,12 +163,21 @@ def shown_by(trial, command, made):
     return (out + said.err + (f"{said.status}\n".encode() if asks else b"")).decode()
 
 
+def is_shown(command, lines, out):
+    """Whether a page shows what a command answers. Of a tool it may show less: `..` stands for any lines, and a blank line of the answer ends what is shown."""
+    if not command.startswith("tools/"):
+        return out == "".join(line + "\n" for line in lines)
+    shown = "".join(r"(?:.*\n)*" if line == ".." else re.escape(line) + r"\n" for line in lines)
+    return bool(lines) and re.fullmatch(shown + r"(?:\n(?:.*\n)*)?", out) is not None
+
+
 def try_sessions(trial):
     count = 0
     for page in PAGES:
         made = {}
         for command, lines in sessions(page):
-            trial.check_equal(f"{page}: {command}", shown_by(trial, command, made), "".join(line + "\n" for line in lines))
+            out = shown_by(trial, command, made)
+            trial.check(f"{page}: {command}", is_shown(command, lines, out), f"   {lines}   {out}")
             count += 1
     trial.check("documents show sessions", count >= 6, f"   {count}")
 

@@ -1,5 +1,6 @@
 """Circuits in Icarus Verilog, where it is installed: beside `cosim`, with waveforms, and with memories that answer late."""
 import os
+import re
 import shutil
 import subprocess
 import sys
@@ -29,6 +30,13 @@ def try_memories(trial):
     for words in ([], ["tests/circuits/features.cpp", "Top", "tests/circuits/features.json"]):
         status, out, err = run_tool("tools/check_memories.py", trial.program, *words)
         trial.check(f"circuits with other memories {' '.join(words)}", (status, out.endswith(", 0 runs otherwise\n")) == (0, True), out + err)
+    status, out, err = run_tool("tests/memories.py", trial.program, "--programs", "4")
+    trial.check("random programs with other memories", (status, out) == (0, "8 circuits, 0 runs otherwise\n"), out + err)
+    words = ["examples/vector_add.cpp", "VecAdd", "examples/vector_add.json"]
+    text = trial.run(["build", *words[:2]], ROOT).out.decode()
+    gated = re.sub(r"assign addr_0 = (.*?) ;", r"assign addr_0 = ack_0 ? \1 : 64'd0 ;", text)
+    status, out, err = run_tool("tools/check_memories.py", trial.program, *words, "--text", trial.put("gated.v", gated.encode()), "--memories", "random")
+    trial.check("an address that comes only with ack is seen", (status, "bad a is asked for something else while it waits" in out) == (1, True), out + err)
 
 
 def try_all(trial):

@@ -8,7 +8,7 @@ import shutil
 import subprocess
 import sys
 
-from runner import leaves
+from runner import leaves, networks
 from runner.trial import ROOT, read
 
 sys.path.insert(0, os.path.join(ROOT, "tools"))
@@ -16,6 +16,8 @@ from vechaqir import dump, machine_run, names, source  # noqa: E402
 
 # Random leaf tasks, those of them that Icarus Verilog runs too, and the most cycles of each.
 COUNT, IN_ICARUS, CYCLES = 60, 12, "400"
+# The layers of a network of 512 tasks, which is followed to its end.
+LAYERS = 126
 # What a state waits for, by its act: the net's front, with the number of its stream or memory.
 WAITS = {"read": "datum", "peek": "datum", "eot": "has", "open": "eot", "write": "rdy", "close": "rdy", "load": "ack", "store": "ack"}
 
@@ -73,7 +75,7 @@ def differing(found, machine):
     return [f"{part}: {has} in the text, {want} by name" for part, has, want in parts if has != want]
 
 
-def try_source(trial, name, text, top, data, with_icarus):
+def try_source(trial, name, text, top, data, with_icarus, cycles=CYCLES):
     """A source's names beside its circuit; the number of cycles in which they were compared."""
     trial.put("n.cpp", text)
     data = trial.put("n.json", data)
@@ -84,16 +86,16 @@ def try_source(trial, name, text, top, data, with_icarus):
     circuit = trial.put("n.v", built.out)
     has = source.parse(text.encode(), name)
     network = source.network(has, top)
-    run = compared_with_cosim(trial, name, has, network, circuit, data)
+    run = compared_with_cosim(trial, name, has, network, circuit, data, cycles)
     told = [f"t_{task}: {line}" for task, machine in run.machines.items() for line in differing(module_of(built.out.decode(), f"t_{task}"), machine)]
     trial.check(f"registers and states of {name} as in its text", not told, "\n".join(told[:3]))
     if with_icarus:
         compared_with_icarus(trial, name, has, network, circuit, data)
 
 
-def compared_with_cosim(trial, name, has, network, circuit, data):
+def compared_with_cosim(trial, name, has, network, circuit, data, cycles):
     """Each cycle of a dump of `cosim` shows what the machines do, and at the end they have made the ticks of the run."""
-    said = trial.run(["cosim", circuit, data, "--vcd", "--cycles", CYCLES])
+    said = trial.run(["cosim", circuit, data, "--vcd", "--cycles", cycles])
     dumped = dump.read(trial.put("n.vcd", said.out))
     run = machine_run.Run(has, network, dumped)
     ticks, told = 0, ""
@@ -165,4 +167,5 @@ def try_all(trial):
         try_source(trial, name, text, top, data, has_icarus)
     for seed in range(COUNT):
         try_source(trial, f"the random leaf {seed}", leaves.source(seed), "T", json.dumps(leaves.DATA), has_icarus and seed < IN_ICARUS)
+    try_source(trial, "a network of 512 tasks", networks.network(LAYERS), "Gen", "{}", False, "2000")
     try_tool(trial)

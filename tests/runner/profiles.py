@@ -7,6 +7,8 @@ import shlex
 import subprocess
 import sys
 
+from runner import networks
+from runner.names import LAYERS
 from runner.trial import ROOT, read
 
 # A worker that takes eight tokens before it gives any, beside a stream that is too shallow for them.
@@ -72,9 +74,14 @@ def cycles_of(trial, text, data="{}"):
     return int(trial.run(["cosim", "c.v", "c.json"]).out.split()[-1])
 
 
-def try_sums(trial, name):
+def try_example(trial, name):
+    """An example, by the words of its first line."""
+    text = read(f"examples/{name}")
+    try_sums(trial, name, shlex.split(text.split("\n")[0])[3:], "detach" in text)
+
+
+def try_sums(trial, name, words, has_detached):
     """The cycles of each task, those of the lines and the tokens of the streams, beside the reports of the run and of the simulation."""
-    words = shlex.split(read(f"examples/{name}").split("\n")[0])[3:]
     found = profiled(trial, *words, "--no-tries")
     for label, task in found["tasks"].items():
         parts = task["ticks"] + sum(it["cycles"] for it in task["waits"]) + task["ended"] + task["before_wrong_token"]
@@ -87,7 +94,7 @@ def try_sums(trial, name):
     trial.check_equal(f"the end of {name}", said[-1], f"{'done' if found['done'] else 'running'} {found['cycles']}")
     tokens = [len(line.split(":")[1].split()) for line in said if line.startswith("stream ")]
     trial.check_equal(f"tokens of {name}", [it["tokens"] for it in found["streams"].values()], tokens)
-    if found["done"] and "detach" not in read(f"examples/{name}"):
+    if found["done"] and not has_detached:
         trial.check_equal(f"ticks of {name}", f"done {sum(it['ticks'] for it in found['tasks'].values())}", ran[-1])
     if not found["done"]:
         stands = [line.split()[1] for line in trial.run(["run", *words], ROOT).err.decode().splitlines() if "waits to" in line]
@@ -173,7 +180,9 @@ def try_words(trial):
 def try_all(trial):
     for name in sorted(os.listdir(os.path.join(ROOT, "examples"))):
         if name.endswith(".cpp"):
-            try_sums(trial, name)
+            try_example(trial, name)
+    trial.put("gen.cpp", networks.network(LAYERS))
+    try_sums(trial, "a network of 512 tasks", [os.path.join(trial.folder.name, "gen.cpp"), "Gen"], False)
     try_shallow(trial)
     try_slow(trial)
     try_late(trial)

@@ -20,6 +20,7 @@ class Shown:
         self.number, self.ours = pty.fork()
         if self.number == 0:
             os.chdir(folder)
+            signal.signal(signal.SIGINT, signal.SIG_DFL)  # as a shell gives it to a command in front; who runs these tests may ignore it
             os.execvp(words[0], words)
         self.text = b""
 

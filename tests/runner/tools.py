@@ -304,16 +304,14 @@ def try_unproved(trial):
     trial.check("a copy of ./tapa without its sources says so", copied[:2] == (125, "") and "has no sources" in copied[2][0], f"   {copied}")
 
 
-def run_gate(folder, has_rows, gate, rows, cases, has_program=True):
+def run_gate(folder, gate, cases, has_program=True):
     """The gate in a repository where `rt` and `python3` only end with these statuses: its status, and what it ran."""
     repository = f"{folder}/gate/tapa"
     shutil.rmtree(f"{folder}/gate", ignore_errors=True)
-    for path in (f"{repository}/.ci", f"{repository}/crates/tapa_cli/out", f"{folder}/gate/bin", f"{folder}/gate/shared/rows"):
+    for path in (f"{repository}/.ci", f"{repository}/crates/tapa_cli/out", f"{folder}/gate/bin"):
         os.makedirs(path)
     shutil.copy(os.path.join(ROOT, ".ci/run"), f"{repository}/.ci/run")
-    scripts = {"bin/rt": f"echo rt $1; exit {gate}", "bin/python3": f"case $1 in *rows.py) echo rows; exit {rows};; esac; echo cases; exit {cases}"}
-    if has_rows:
-        scripts["shared/rows/rows.py"] = ""
+    scripts = {"bin/rt": f"echo rt $1; exit {gate}", "bin/python3": f"echo cases; exit {cases}"}
     if has_program:
         scripts["tapa/crates/tapa_cli/out/tapa_cli"] = ""
     for name, text in scripts.items():
@@ -328,11 +326,10 @@ def run_gate(folder, has_rows, gate, rows, cases, has_program=True):
 def try_gate(trial):
     """Each part of the gate runs, none hides another's failure, and what is not tried is said."""
     folder = trial.folder.name
-    every = ["rt ci", "rows", "cases"]
-    for statuses, wanted in (((0, 0, 0), 0), ((1, 0, 0), 1), ((0, 1, 0), 1), ((0, 0, 1), 1), ((2, 1, 1), 2), ((0, 1, 0), 1)):
-        trial.check_equal(f"the gate with the statuses {statuses}", run_gate(folder, True, *statuses), (wanted, every, False))
-    trial.check_equal("the gate without rows", run_gate(folder, False, 0, 0, 0), (0, ["rt ci", "cases"], True))
-    trial.check_equal("the gate without a program", run_gate(folder, True, 0, 0, 0, has_program=False), (1, ["rt ci"], True))
+    every = ["rt ci", "cases"]
+    for statuses, wanted in (((0, 0), 0), ((1, 0), 1), ((0, 1), 1), ((2, 1), 2)):
+        trial.check_equal(f"the gate with the statuses {statuses}", run_gate(folder, *statuses), (wanted, every, False))
+    trial.check_equal("the gate without a program", run_gate(folder, 0, 0, has_program=False), (1, ["rt ci"], True))
 
 
 def try_all(trial):

@@ -1,6 +1,9 @@
-"""Runs by several workers: what is told of a network does not depend on their number, however it ends."""
+"""Runs by several workers: what is told of a network does not depend on their number, however it ends, and where there are processors for them they work at once."""
 import json
+import os
 import random
+import subprocess
+import time
 
 COUNT = 200
 WORKERS = ("2", "3", "64")
@@ -105,5 +108,50 @@ def try_networks(trial):
     trial.check_equal("ways in which networks end", found, {0, 7, 8, "waits to read", "waits to write", "bad token on"})
 
 
+# What a thread has to have worked to count, in nanoseconds.
+WORKED = 50_000_000
+
+
+def busy(tasks, turns):
+    """A source of tasks side by side that do nothing but count."""
+    calls = "".join(".invoke(A)" for _ in range(tasks))
+    return f"void A() {{ uint64_t s = 0; for (uint64_t i = 0; i < {turns}; ++i) {{ s = s + i; }} }}\nvoid T() {{ tapa::task(){calls}; }}\n"
+
+
+def times_of(process):
+    """How long each thread of a process has been on a processor, in nanoseconds by the thread's number; nothing once it has ended."""
+    found = {}
+    try:
+        for thread in os.listdir(f"/proc/{process.pid}/task"):
+            with open(f"/proc/{process.pid}/task/{thread}/schedstat", encoding="ascii") as file:
+                found[thread] = int(file.read().split()[0])
+    except (OSError, ValueError, IndexError):
+        pass
+    return found
+
+
+def working_threads(trial, words):
+    """How many threads of a run worked, and its status."""
+    process = subprocess.Popen([trial.program, *words], cwd=trial.folder.name, stdout=subprocess.DEVNULL, stderr=subprocess.DEVNULL)
+    times = {}
+    while process.poll() is None:
+        times.update(times_of(process))
+        time.sleep(0.005)
+    return sum(it >= WORKED for it in times.values()), process.returncode
+
+
+def try_threads(trial):
+    """Two workers are two threads that work, where there are two processors; one worker is one thread."""
+    if len(os.sched_getaffinity(0)) < 2 or not os.path.exists("/proc/self/schedstat"):
+        trial.note("workers: whether two threads work is not tried: there is one processor, or nothing tells the time of a thread")
+        return
+    trial.put("w.cpp", busy(64, 600_000))
+    words = ["run", "w.cpp", "T", "--steps", "1000000000"]
+    for count, wanted in (("1", 1), ("2", 2)):
+        trial.check_equal(f"threads that work in a run with --workers {count}, and its status", working_threads(trial, [*words, "--workers", count]), (wanted, 0))
+    trial.check_equal("threads that work in a run without --workers, and its status", working_threads(trial, words), (1, 0))
+
+
 def try_all(trial):
     try_networks(trial)
+    try_threads(trial)
