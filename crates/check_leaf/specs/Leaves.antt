@@ -26,7 +26,13 @@ pub record Head : Type 0 where
 
 abbrev pub with_stream : Bool → Kind → Name → Head → Head
 with_stream writes k x h =
-    record { frame = with_name x.text (entity.Stream writes k (length h.streams)) h.frame; streams = h.streams ++ record { kind = k; writes = writes } ∷ []; memories = h.memories; scalars = h.scalars }
+    record {
+      frame = with_name x.text (entity.Stream writes k
+          (length h.streams)) h.frame;
+      streams = h.streams ++ record { kind = k; writes = writes } ∷ [];
+      memories = h.memories;
+      scalars = h.scalars;
+    }
 
 abbrev pub with_memory : Bool → Kind → Name → Head → Head
 with_memory free k x h =

@@ -19,14 +19,16 @@ use Rattle.tapa_syntax.specs.Trees as tree
 use Rattle.tapa_syntax.specs.Trees.{ExpressionTree, PlaceTree, ActionTree, DeclaratorTree, DeclarationTree, StartTree, HeadTree, StatementTree, Statements}
 use Rattle.tapa_syntax.specs.Typed.{right_kind}
 use Rattle.tapa_syntax.specs.Flat as flat
-use Rattle.tapa_syntax.specs.Flat.{FlatExpression, FlatStatement, FlatStatements, literal, variable, set, set_cell, set_cell_by, store, store_by, read_variable, read_cell, read_store, take_end, put_end, discard, clear, branch, loop, in_row}
+use Rattle.tapa_syntax.specs.Flat.{FlatExpression, FlatStatement, FlatStatements, literal, variable, set, set_cell, set_cell_by, store, store_by, read_variable, read_cell}
+use Rattle.tapa_syntax.specs.Flat.{read_store, take_end, put_end, discard, clear, branch, loop, in_row}
 use Rattle.check_scope.specs.declared.fault.CheckCode.TheVariants.{C3}
 use Rattle.check_scope.specs.declared.entity.Entity.{Entity}
 use Rattle.check_scope.specs.declared.entity.Entity.TheVariants as entity
 use Rattle.check_scope.specs.Scopes.{Scope, entity_of, declaring, kind_of_entity, number_of, is_free_variable, has_free_cells, is_output, is_input}
 use Rattle.check_scope.specs.declared.fault.Broken.{Broken}
 use Rattle.check_scope.specs.Faults.{fault, over, where_so, name_faults, doubled}
-use Rattle.check_expression.specs.Expressions.{Method, peeks, tests_end, writes, opens, closes, method_of, call_faults, kind_of, value_of, wanted, as_kind, binary_kind, operated, operated_kind, faults_of, divides, divisor_faults}
+use Rattle.check_expression.specs.Expressions.{Method, peeks, tests_end, writes, opens, closes, method_of, call_faults, kind_of, value_of, wanted, as_kind, binary_kind}
+use Rattle.check_expression.specs.Expressions.{operated, operated_kind, faults_of, divides, divisor_faults}
 use Rattle.check_expression.specs.Counts.{count_of, count_faults}
 
 -- What a task has declared where a statement stands: the names in scope, and the kinds of its variables and its arrays so

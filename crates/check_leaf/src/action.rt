@@ -77,7 +77,8 @@ fn assignment(
     value: &Expression,
 ) -> Result<Stmt, CheckFault>
     ensures { Answers flat_statement result
-        (task.place_faults scope.now (tree.place_expression_of target.now) ++ divisor_faults scope.now (task.assignment_divides operator) place (tree.expression value.now) ++ faults_of scope.now false (tree.expression value.now))
+        (task.place_faults scope.now (tree.place_expression_of target.now) ++ divisor_faults scope.now (task.assignment_divides operator) place
+        (tree.expression value.now) ++ faults_of scope.now false (tree.expression value.now))
         (task.assigned (task.target_of scope.now (tree.place_expression_of target.now)) operator (kind_of scope.now (tree.expression value.now)) (value_of scope.now (tree.expression value.now))) }
 {
     let target = check_target(alloc, scope, false, target)?;
@@ -92,7 +93,8 @@ fn step(
     step: StepOperator,
     target: &PlaceExpression,
 ) -> Result<Stmt, CheckFault>
-    ensures { Answers flat_statement result (task.step_faults scope.now step (tree.place_expression_of target.now)) (task.stepped (task.target_of scope.now (tree.place_expression_of target.now)) step) }
+    ensures { Answers flat_statement result (task.step_faults scope.now step (tree.place_expression_of target.now))
+        (task.stepped (task.target_of scope.now (tree.place_expression_of target.now)) step) }
 {
     let increment = step == StepOperator::Increment;
     let target = check_target(alloc, scope, increment, target)?;

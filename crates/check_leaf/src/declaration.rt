@@ -39,7 +39,8 @@ fn array(
     count: &Count,
     code: &mut Vec<Stmt>,
 ) -> Result<(), CheckFault>
-    ensures { Adds result frame.new code.old.items code.new.items (task.declarator_faults frame.old (tree.array name.now (tree.count_of count.now))) (task.after_declarator free kind frame.old (tree.array name.now (tree.count_of count.now))) (flat.clear (length frame.old.arrays) ∷ []) }
+    ensures { Adds result frame.new code.old.items code.new.items (task.declarator_faults frame.old (tree.array name.now (tree.count_of count.now)))
+        (task.after_declarator free kind frame.old (tree.array name.now (tree.count_of count.now))) (flat.clear (length frame.old.arrays) ∷ []) }
 {
     frame.scope().check_new(name)?;
     let cells = count_in(frame.scope(), count)?;
@@ -56,7 +57,8 @@ fn declarator(
     declarator: &Declarator,
     code: &mut Vec<Stmt>,
 ) -> Result<(), CheckFault>
-    ensures { Adds result frame.new code.old.items code.new.items (task.declarator_faults frame.old (tree.declarator_of declarator.now)) (task.after_declarator free kind frame.old (tree.declarator_of declarator.now)) (task.declarator_code kind frame.old (tree.declarator_of declarator.now) ∷ []) }
+    ensures { Adds result frame.new code.old.items code.new.items (task.declarator_faults frame.old (tree.declarator_of declarator.now))
+        (task.after_declarator free kind frame.old (tree.declarator_of declarator.now)) (task.declarator_code kind frame.old (tree.declarator_of declarator.now) ∷ []) }
 {
     match declarator {
         Declarator::Plain(name) => {
@@ -79,7 +81,8 @@ fn declarators(
     names: &[Declarator],
     code: &mut Vec<Stmt>,
 ) -> Result<(), CheckFault>
-    ensures { Adds result frame.new code.old.items code.new.items (task.declarators_faults free kind frame.old (map tree.declarator_of names.now)) (task.after_declarators free kind frame.old (map tree.declarator_of names.now)) (task.declarators_code free kind frame.old (map tree.declarator_of names.now)) }
+    ensures { Adds result frame.new code.old.items code.new.items (task.declarators_faults free kind frame.old (map tree.declarator_of names.now))
+        (task.after_declarators free kind frame.old (map tree.declarator_of names.now)) (task.declarators_code free kind frame.old (map tree.declarator_of names.now)) }
 {
     for name in names {
         declarator(frame, free, kind, name, code)?;
@@ -93,7 +96,8 @@ pub(crate) fn declaration(
     declared: &Declaration,
     code: &mut Vec<Stmt>,
 ) -> Result<(), CheckFault>
-    ensures { Adds result frame.new code.old.items code.new.items (task.declaration_faults frame.old (tree.declaration_of declared.now)) (task.after_declaration frame.old (tree.declaration_of declared.now)) (task.declaration_code frame.old (tree.declaration_of declared.now)) }
+    ensures { Adds result frame.new code.old.items code.new.items (task.declaration_faults frame.old (tree.declaration_of declared.now))
+        (task.after_declaration frame.old (tree.declaration_of declared.now)) (task.declaration_code frame.old (tree.declaration_of declared.now)) }
 {
     declarators(
         frame,

@@ -67,7 +67,8 @@ fn push_if(
     first: Result<Vec<Stmt>, CheckFault>,
     code: &mut Vec<Stmt>,
 ) -> Result<(), CheckFault>
-    ensures { (f g : FrameValue) (faults : List Broken) (inner : List FlatStatement) → Answers {B = Part} (λ c. (f, map flat_statement c.items)) first faults (g, inner) → Adds result f code.old.items code.new.items faults g (flat.branch (flat_expression test) (in_row inner) (in_row []) ∷ []) }
+    ensures { (f g : FrameValue) (faults : List Broken) (inner : List FlatStatement) → Answers {B = Part} (λ c. (f, map flat_statement c.items)) first faults (g, inner)
+        → Adds result f code.old.items code.new.items faults g (flat.branch (flat_expression test) (in_row inner) (in_row []) ∷ []) }
 {
     let first = first?;
     code.push(Stmt::If(test, first, Vec::new(alloc)))?;
@@ -79,7 +80,8 @@ fn push_if_else(
     second: Result<Vec<Stmt>, CheckFault>,
     code: &mut Vec<Stmt>,
 ) -> Result<(), CheckFault>
-    ensures { (f g : FrameValue) (faults : List Broken) (inner : List FlatStatement) → Answers {B = Part} (λ c. (f, map flat_statement c.items)) second faults (g, inner) → Adds result f code.old.items code.new.items faults g (flat.branch (flat_expression turn.test) (in_row (map flat_statement turn.step.items)) (in_row inner) ∷ []) }
+    ensures { (f g : FrameValue) (faults : List Broken) (inner : List FlatStatement) → Answers {B = Part} (λ c. (f, map flat_statement c.items)) second faults (g, inner)
+        → Adds result f code.old.items code.new.items faults g (flat.branch (flat_expression turn.test) (in_row (map flat_statement turn.step.items)) (in_row inner) ∷ []) }
 {
     let second = second?;
     let Turn { test, step: first } = turn;
@@ -92,7 +94,8 @@ fn push_loop(
     body: Result<Vec<Stmt>, CheckFault>,
     code: &mut Vec<Stmt>,
 ) -> Result<(), CheckFault>
-    ensures { (f g : FrameValue) (faults : List Broken) (inner : List FlatStatement) → Answers {B = Part} (λ c. (f, map flat_statement c.items)) body faults (g, inner) → Adds result f code.old.items code.new.items faults g (flat.loop (flat_expression turn.test) (in_row inner) (in_row (map flat_statement turn.step.items)) ∷ []) }
+    ensures { (f g : FrameValue) (faults : List Broken) (inner : List FlatStatement) → Answers {B = Part} (λ c. (f, map flat_statement c.items)) body faults (g, inner)
+        → Adds result f code.old.items code.new.items faults g (flat.loop (flat_expression turn.test) (in_row inner) (in_row (map flat_statement turn.step.items)) ∷ []) }
 {
     let body = body?;
     let Turn { test, step } = turn;
@@ -102,7 +105,8 @@ fn push_loop(
 
 /// What stands first in the head of a `for`.
 fn start(frame: &mut Frame, start: &ForStart, code: &mut Vec<Stmt>) -> Result<(), CheckFault>
-    ensures { Adds result frame.new code.old.items code.new.items (task.start_faults frame.old (tree.start_of start.now)) (task.after_start frame.old (tree.start_of start.now)) (task.start_code frame.old (tree.start_of start.now)) }
+    ensures { Adds result frame.new code.old.items code.new.items (task.start_faults frame.old (tree.start_of start.now))
+        (task.after_start frame.old (tree.start_of start.now)) (task.start_code frame.old (tree.start_of start.now)) }
 {
     match start {
         ForStart::Nothing => Ok(()),
@@ -123,7 +127,8 @@ fn loop_test(frame: &Frame, value: &Option<Expression>) -> Result<Expr, CheckFau
 
 /// What is done between two turns of a `for`.
 fn loop_step(frame: &Frame, done: &Option<Action>) -> Result<Vec<Stmt>, CheckFault>
-    ensures { Answers (λ code. map flat_statement code.items) result (task.next_faults frame.now.scope (tree.option_of tree.action_of done.now)) (task.next_code frame.now.scope (tree.option_of tree.action_of done.now)) }
+    ensures { Answers (λ code. map flat_statement code.items) result (task.next_faults frame.now.scope (tree.option_of tree.action_of done.now))
+        (task.next_code frame.now.scope (tree.option_of tree.action_of done.now)) }
 {
     let mut code = Vec::new(frame.alloc());
     if let Some(done) = done {
@@ -135,12 +140,13 @@ fn loop_step(frame: &Frame, done: &Option<Action>) -> Result<Vec<Stmt>, CheckFau
 /// The head of a `for`, which is a block.
 fn head(frame: &mut Frame, head: &ForHead, code: &mut Vec<Stmt>) -> Result<Turn, CheckFault>
     ensures deep { IfOk result (λ turn. 2 < length frame.new.scope) }
-    ensures value { Answers {B = HeadPart} (λ turn. (frame.new, map flat_statement code.new.items, flat_expression turn.test, map flat_statement turn.step.items)) result (task.head_faults frame.old (tree.head_of head.now)) (
-      task.in_head frame.old (tree.head_of head.now),
-      map flat_statement code.old.items ++ task.start_code (task.opened frame.old) (tree.head_of head.now).start,
-      task.test_of (task.in_head frame.old (tree.head_of head.now)).scope (tree.head_of head.now).test,
-      task.next_code (task.in_head frame.old (tree.head_of head.now)).scope (tree.head_of head.now).step,
-    ) }
+    ensures value { Answers {B = HeadPart} (λ turn. (frame.new, map flat_statement code.new.items, flat_expression turn.test, map flat_statement turn.step.items)) result
+        (task.head_faults frame.old (tree.head_of head.now)) (
+          task.in_head frame.old (tree.head_of head.now),
+          map flat_statement code.old.items ++ task.start_code (task.opened frame.old) (tree.head_of head.now).start,
+          task.test_of (task.in_head frame.old (tree.head_of head.now)).scope (tree.head_of head.now).test,
+          task.next_code (task.in_head frame.old (tree.head_of head.now)).scope (tree.head_of head.now).step,
+        ) }
 {
     frame.enter()?;
     start(frame, &head.start, code)?;
@@ -170,7 +176,8 @@ fn block(
     code: &mut Vec<Stmt>,
 ) -> Result<(), CheckFault>
     ensures { Adds result frame.new code.old.items code.new.items (task.statements_faults in_loop (task.opened frame.old) (tree.statements (map tree.statement inner.now)))
-        (task.closed frame.old (task.after_all (task.opened frame.old) (tree.statements (map tree.statement inner.now)))) (task.codes_of (task.opened frame.old) (tree.statements (map tree.statement inner.now))) }
+        (task.closed frame.old (task.after_all (task.opened frame.old) (tree.statements (map tree.statement inner.now))))
+        (task.codes_of (task.opened frame.old) (tree.statements (map tree.statement inner.now))) }
 {
     frame.enter()?;
     statements(frame, in_loop, inner, code)?;
@@ -200,7 +207,8 @@ fn statement(
     stated: &Statement,
     code: &mut Vec<Stmt>,
 ) -> Result<(), CheckFault>
-    ensures { Adds result frame.new code.old.items code.new.items (task.statement_faults in_loop frame.old (tree.statement stated.now)) (task.after frame.old (tree.statement stated.now)) (task.code_of frame.old (tree.statement stated.now)) }
+    ensures { Adds result frame.new code.old.items code.new.items (task.statement_faults in_loop frame.old (tree.statement stated.now))
+        (task.after frame.old (tree.statement stated.now)) (task.code_of frame.old (tree.statement stated.now)) }
 {
     match stated {
         Statement::Attributed(_, inner) => statement(frame, in_loop, inner, code),

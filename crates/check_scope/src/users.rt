@@ -63,7 +63,8 @@ impl UserTable {
     /// Adds an instance at a number, where there is a row of it.
     pub fn add(&mut self, number: u32, instance: u32)
         ensures count { length self.new.rows.items ≡ length self.old.rows.items }
-        ensures each { (s : ℕ) (d : Among) → s < length self.old.rows.items → get_or self.new.rows.items s d ≡ (if number == s then with_user (get_or self.old.rows.items s d) instance else get_or self.old.rows.items s d) }
+        ensures each { (s : ℕ) (d : Among) → s < length self.old.rows.items
+            → get_or self.new.rows.items s d ≡ (if number == s then with_user (get_or self.old.rows.items s d) instance else get_or self.old.rows.items s d) }
     {
         let at = number as usize;
         if at < self.rows.len() {

@@ -102,7 +102,8 @@ fn named_binding(kind: Kind, entity: Entity) -> Binding
 }
 
 fn name_argument(scope: &Scope, parameter: &Parameter, name: &Name) -> Result<Binding, CheckFault>
-    ensures { Answers (λ binding. binding) result (wrong_entity (upper.is_bound_to parameter.now) name.now.place (entity_of name.now.text scope.now)) (upper.named_binding (upper.parameter_kind parameter.now) (entity_of name.now.text scope.now)) }
+    ensures { Answers (λ binding. binding) result (wrong_entity (upper.is_bound_to parameter.now) name.now.place (entity_of name.now.text scope.now))
+        (upper.named_binding (upper.parameter_kind parameter.now) (entity_of name.now.text scope.now)) }
 {
     match scope.entity(&name.text) {
         Some(entity) if is_bound_to(parameter, entity) => Ok(named_binding(
@@ -121,7 +122,8 @@ fn constant_argument(
     place: Place,
     value: &Expression,
 ) -> Result<Binding, CheckFault>
-    ensures { Answers (λ binding. binding) result (upper.constant_argument_faults scope.now parameter.now place (tree.expression value.now)) (upper.constant_binding scope.now (upper.parameter_kind parameter.now) (tree.expression value.now)) }
+    ensures { Answers (λ binding. binding) result (upper.constant_argument_faults scope.now parameter.now place (tree.expression value.now))
+        (upper.constant_binding scope.now (upper.parameter_kind parameter.now) (tree.expression value.now)) }
 {
     if !is_scalar(parameter) && evaluated(scope, value).is_some() {
         return Err(refused(CheckCode::C3, place));
@@ -135,7 +137,8 @@ fn argument(
     parameter: &Parameter,
     argument: &InvocationArgument,
 ) -> Result<Binding, CheckFault>
-    ensures { Answers (λ binding. binding) result (upper.argument_faults scope.now parameter.now argument.now.place (tree.expression argument.now.value)) (upper.binding_of scope.now (upper.parameter_kind parameter.now) (tree.expression argument.now.value)) }
+    ensures { Answers (λ binding. binding) result (upper.argument_faults scope.now parameter.now argument.now.place (tree.expression argument.now.value))
+        (upper.binding_of scope.now (upper.parameter_kind parameter.now) (tree.expression argument.now.value)) }
 {
     match &argument.value {
         Expression::Variable(name) => name_argument(scope, parameter, name),
@@ -150,7 +153,8 @@ pub(crate) fn arguments(
     parameters: &[Parameter],
     arguments: &[InvocationArgument],
 ) -> Result<Vec<Binding>, CheckFault>
-    ensures { Answers (λ bindings. bindings.items) result (upper.arguments_faults scope.now parameters.now (map tree.argument_of arguments.now)) (upper.bindings_of scope.now parameters.now (map tree.argument_of arguments.now)) }
+    ensures { Answers (λ bindings. bindings.items) result (upper.arguments_faults scope.now parameters.now (map tree.argument_of arguments.now))
+        (upper.bindings_of scope.now parameters.now (map tree.argument_of arguments.now)) }
 {
     let mut bindings = Vec::new(alloc);
     for (position, parameter) in parameters.iter().enumerate() {

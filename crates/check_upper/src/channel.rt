@@ -64,7 +64,8 @@ impl<'a> Channels<'a> {
     ) -> Result<(), CheckFault>
         requires { 1 < length self.old.scope }
         ensures count { length self.new.scope ≡ length self.old.scope }
-        ensures value { Answers (λ x. channels_of self.new) result (upper.channels_faults kind depth (channels_of self.old) names.now) (upper.with_channels kind depth (channels_of self.old) names.now) }
+        ensures value { Answers (λ x. channels_of self.new) result (upper.channels_faults kind depth (channels_of self.old) names.now)
+            (upper.with_channels kind depth (channels_of self.old) names.now) }
     {
         for name in names {
             self.channel(alloc, kind, depth, name)?;
@@ -75,7 +76,8 @@ impl<'a> Channels<'a> {
     fn stream(&mut self, alloc: Global, stream: &StreamDeclaration) -> Result<(), CheckFault>
         requires { 1 < length self.old.scope }
         ensures count { length self.new.scope ≡ length self.old.scope }
-        ensures value { Answers (λ x. channels_of self.new) result (upper.stream_faults (channels_of self.old) (tree.stream_of stream.now)) (upper.after_stream (channels_of self.old) (tree.stream_of stream.now)) }
+        ensures value { Answers (λ x. channels_of self.new) result (upper.stream_faults (channels_of self.old) (tree.stream_of stream.now))
+            (upper.after_stream (channels_of self.old) (tree.stream_of stream.now)) }
     {
         let depth = depth_of(&self.scope, &stream.depth)?;
         self.channels(alloc, stream.kind, depth, &stream.names)
@@ -88,7 +90,8 @@ impl<'a> Channels<'a> {
         streams: &[StreamDeclaration],
     ) -> Result<(), CheckFault>
         requires { 1 < length self.old.scope }
-        ensures { Answers (λ x. channels_of self.new) result (upper.streams_faults (channels_of self.old) (map tree.stream_of streams.now)) (upper.after_streams (channels_of self.old) (map tree.stream_of streams.now)) }
+        ensures { Answers (λ x. channels_of self.new) result (upper.streams_faults (channels_of self.old) (map tree.stream_of streams.now))
+            (upper.after_streams (channels_of self.old) (map tree.stream_of streams.now)) }
     {
         for stream in streams {
             self.stream(alloc, stream)?;

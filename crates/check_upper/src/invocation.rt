@@ -59,7 +59,8 @@ fn bindings_of(
     is_self: bool,
     invocation: &Invocation,
 ) -> Result<Vec<Binding>, CheckFault>
-    ensures { Answers (λ bindings. bindings.items) result (upper.callee_faults scope.now parameters.now is_self (tree.invocation_of invocation.now)) (upper.bindings_of scope.now parameters.now (map tree.argument_of invocation.now.arguments.items)) }
+    ensures { Answers (λ bindings. bindings.items) result (upper.callee_faults scope.now parameters.now is_self (tree.invocation_of invocation.now))
+        (upper.bindings_of scope.now parameters.now (map tree.argument_of invocation.now.arguments.items)) }
 {
     let place = invocation.task.place;
     if parameters.len() != invocation.arguments.len() {
@@ -78,7 +79,8 @@ fn invocation(
     own: &TaskDeclaration,
     invocation: &Invocation,
 ) -> Result<Invoked, CheckFault>
-    ensures { Answers invocation_view result (upper.invocation_faults scope.now (map task_view tasks.now) (tree.task_of own.now) (tree.invocation_of invocation.now)) (upper.invocation_of scope.now (map task_view tasks.now) (tree.task_of own.now) (tree.invocation_of invocation.now)) }
+    ensures { Answers invocation_view result (upper.invocation_faults scope.now (map task_view tasks.now) (tree.task_of own.now) (tree.invocation_of invocation.now))
+        (upper.invocation_of scope.now (map task_view tasks.now) (tree.task_of own.now) (tree.invocation_of invocation.now)) }
 {
     let detached = is_detached(&invocation.mode)?;
     let task = task_number(scope, &invocation.task)? as usize;
@@ -103,7 +105,9 @@ fn invocations(
     own: &TaskDeclaration,
     invoked: &[Invocation],
 ) -> Result<Vec<Invoked>, CheckFault>
-    ensures { Answers (λ made. map invocation_view made.items) result (upper.invocations_faults scope.now (map task_view tasks.now) (tree.task_of own.now) (map tree.invocation_of invoked.now)) (upper.invocations_of scope.now (map task_view tasks.now) (tree.task_of own.now) (map tree.invocation_of invoked.now)) }
+    ensures { Answers (λ made. map invocation_view made.items) result
+        (upper.invocations_faults scope.now (map task_view tasks.now) (tree.task_of own.now) (map tree.invocation_of invoked.now))
+        (upper.invocations_of scope.now (map task_view tasks.now) (tree.task_of own.now) (map tree.invocation_of invoked.now)) }
 {
     let mut made = Vec::new(alloc);
     for one in invoked {

@@ -41,7 +41,8 @@ pub fn put_circuit<'a, O: Sink>(
     requires names { HasOwnNames program.now }
     requires added { AreShort added.now }
     ensures whole { IfOk result (λ _. (told : List ℕ) × IsCircuitText program.now added.now told × Appends (O.contents out.old) (O.contents out.new) told) }
-    ensures refused { IfErr result (λ refusal. IsUnwritten (written (O.contents out.old) (O.faults out.old)) (written (O.contents out.new) (O.faults out.new)) (IsCircuitText program.now added.now) (refusal_of refusal)) }
+    ensures refused { IfErr result (λ refusal. IsUnwritten (written (O.contents out.old) (O.faults out.old)) (written (O.contents out.new) (O.faults out.new))
+        (IsCircuitText program.now added.now) (refusal_of refusal)) }
 {
     let design = match circuit_of(alloc, program, added) {
         Ok(design) => design,

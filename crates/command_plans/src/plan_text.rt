@@ -66,7 +66,8 @@ pub fn put_plan<'a, O: Sink>(
     requires device { IsDevice graph.now device.now }
     requires slots { length plan.now.slot.items ≡ graph.now.groups }
     ensures whole { IfOk result (λ _. (told : List ℕ) × IsPlanText graph.now device.now plan.now told × Appends (O.contents out.old) (O.contents out.new) told) }
-    ensures refused { IfErr result (λ refusal. IsUnwritten (written (O.contents out.old) (O.faults out.old)) (written (O.contents out.new) (O.faults out.new)) (IsPlanText graph.now device.now plan.now) (refusal_of refusal)) }
+    ensures refused { IfErr result (λ refusal. IsUnwritten (written (O.contents out.old) (O.faults out.old)) (written (O.contents out.new) (O.faults out.new))
+        (IsPlanText graph.now device.now plan.now) (refusal_of refusal)) }
 {
     let lines = match lines_of(alloc, graph, device, plan) {
         Ok(lines) => lines,

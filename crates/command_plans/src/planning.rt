@@ -171,7 +171,8 @@ fn put_planned_circuit<'a, O: Sink>(
     requires device { IsDevice graph.now device.now }
     requires slots { length plan.now.slot.items ≡ graph.now.groups }
     ensures whole { IfOk result (λ _. (told : List ℕ) × IsCircuitBy program.now graph.now device.now plan.now balanced told × Appends (O.contents out.old) (O.contents out.new) told) }
-    ensures refused { IfErr result (λ refusal. IsUnwritten (written (O.contents out.old) (O.faults out.old)) (written (O.contents out.new) (O.faults out.new)) (IsCircuitBy program.now graph.now device.now plan.now balanced) (refusal_of refusal)) }
+    ensures refused { IfErr result (λ refusal. IsUnwritten (written (O.contents out.old) (O.faults out.old)) (written (O.contents out.new) (O.faults out.new))
+        (IsCircuitBy program.now graph.now device.now plan.now balanced) (refusal_of refusal)) }
 {
     match added_latencies(alloc, graph, plan, device, balanced) {
         Ok(added) => put_circuit(alloc, program, &added, out),
@@ -194,7 +195,8 @@ pub fn put_aim<'a, O: Sink>(
     requires device { IsDevice graph.now device.now }
     requires slots { length plan.now.slot.items ≡ graph.now.groups }
     ensures whole { IfOk result (λ _. (told : List ℕ) × IsToldBy aim program.now graph.now device.now plan.now told × Appends (O.contents out.old) (O.contents out.new) told) }
-    ensures refused { IfErr result (λ refusal. IsUnwritten (written (O.contents out.old) (O.faults out.old)) (written (O.contents out.new) (O.faults out.new)) (IsToldBy aim program.now graph.now device.now plan.now) (refusal_of refusal)) }
+    ensures refused { IfErr result (λ refusal. IsUnwritten (written (O.contents out.old) (O.faults out.old)) (written (O.contents out.new) (O.faults out.new))
+        (IsToldBy aim program.now graph.now device.now plan.now) (refusal_of refusal)) }
 {
     match aim {
         PlanAim::Lines => put_plan(alloc, graph, device, plan, out),

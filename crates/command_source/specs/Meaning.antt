@@ -12,7 +12,8 @@ use Rattle.plan_device.specs.declared.fault.DeviceFault.TheVariants as device_fa
 use Rattle.vlog_tree.specs.declared.fault.VFault.{VFault}
 use Rattle.vlog_tree.specs.declared.fault.VFault.TheVariants as verilog_fault
 use Rattle.command_source.specs.declared.refusal.Refusal.{Refusal}
-use Rattle.command_source.specs.declared.refusal.Refusal.TheVariants.{Usage, Read, Write, TooLong, Source, Data, Ticks, Stopped, Device, TooManyPlans, NoPlan, NoRoom, NoHalving, Verilog, DesignData, Undone, Dump, Memory}
+use Rattle.command_source.specs.declared.refusal.Refusal.TheVariants.{Usage, Read, Write, TooLong, Source, Data, Ticks, Stopped, Device, TooManyPlans, NoPlan, NoRoom}
+use Rattle.command_source.specs.declared.refusal.Refusal.TheVariants.{NoHalving, Verilog, DesignData, Undone, Dump, Memory}
 use Rattle.command_source.specs.declared.refusal.DumpFault.{DumpFault}
 use Rattle.command_source.specs.declared.refusal.DumpFault.TheVariants.{NoDump, NoNet}
 

@@ -14,6 +14,8 @@ pub record HaveOwnNames (tasks : List Task) : Type 0 where
   pub apart : AreApart (map (λ (t : Task). t.declared.name.text) tasks)
   pub parameters : (n : ℕ) (t : Task) → slice_get tasks n ≡ Some t → AllByRecursion IsPlainName (map parameter_name t.declared.parameters)
   pub parameters_apart : (n : ℕ) (t : Task) → slice_get tasks n ≡ Some t → AreApart (map parameter_name t.declared.parameters)
-  pub streams : (n : ℕ) (t : Task) (channels : List Channel) (invocations : List Invocation) → slice_get tasks n ≡ Some t → t.body ≡ upper_body channels invocations → AllByRecursion IsPlainName (map (λ (c : Channel). c.name) channels)
-  pub streams_apart : (n : ℕ) (t : Task) (channels : List Channel) (invocations : List Invocation) → slice_get tasks n ≡ Some t → t.body ≡ upper_body channels invocations → AreApart (map (λ (c : Channel). c.name) channels)
+  pub streams : (n : ℕ) (t : Task) (channels : List Channel) (invocations : List Invocation) → slice_get tasks n ≡ Some t → t.body ≡ upper_body channels invocations
+      → AllByRecursion IsPlainName (map (λ (c : Channel). c.name) channels)
+  pub streams_apart : (n : ℕ) (t : Task) (channels : List Channel) (invocations : List Invocation) → slice_get tasks n ≡ Some t
+      → t.body ≡ upper_body channels invocations → AreApart (map (λ (c : Channel). c.name) channels)
   pub leaves : (n : ℕ) (t : Task) (l : FlatLeaf) → slice_get tasks n ≡ Some t → t.body ≡ leaf_body l → l.name ≡ t.declared.name.text

@@ -139,7 +139,8 @@ message_of (TooManyPlans slots free) = codes "tapa: too many plans: " ++ (decima
 message_of NoPlan = codes "tapa: no plan within capacity\n"
 message_of (NoRoom label) = codes "tapa: no room for " ++ (label ++ codes "\n")
 message_of (NoHalving level) = codes "tapa: no halving at level " ++ (decimal level ++ codes "\n")
-message_of (Verilog file (V1 place)) = codes "tapa: " ++ (file ++ (codes ":" ++ (decimal place.line ++ (codes ":" ++ (decimal place.col ++ (codes ": " ++ (codes "V1 no text of the subset" ++ codes "\n")))))))
+message_of (Verilog file (V1 place)) = codes "tapa: " ++
+    (file ++ (codes ":" ++ (decimal place.line ++ (codes ":" ++ (decimal place.col ++ (codes ": " ++ (codes "V1 no text of the subset" ++ codes "\n")))))))
 message_of (Verilog file (V2 name)) = codes "tapa: " ++ (file ++ (codes ": " ++ ((codes "V2 " ++ name) ++ codes "\n")))
 message_of (Verilog file (V3 name)) = codes "tapa: " ++ (file ++ (codes ": " ++ ((codes "V3 " ++ name) ++ codes "\n")))
 message_of (Verilog file (V4 name)) = codes "tapa: " ++ (file ++ (codes ": " ++ ((codes "V4 " ++ name) ++ codes "\n")))

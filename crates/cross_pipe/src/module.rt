@@ -6,7 +6,8 @@ ghost use Rattle.vlog_tree.specs.declared.tree.Atom.TheVariants.{Net, Literal};
 ghost use Rattle.vlog_tree.specs.declared.tree.Value.TheVariants.{Choose, Cell};
 ghost use Rattle.vlog_tree.specs.declared.tree.BinaryOp.TheVariants.{Plus, Minus, And, Xor, Equals, Differs, Less};
 ghost use Rattle.hw_build.specs.Elements.{with_all, Input, Output, Wire, Register, Memory, Block, reset_or_set, stored};
-ghost use Rattle.hw_channel_lines.specs.Texts.{of_net, two as two_lem, with_number as with_number_lem, fifo_tree, next_wires as next_wires_lem, pointer_wires, count_wires as count_wires_lem, fifo_blocks};
+ghost use Rattle.hw_channel_lines.specs.Texts.{of_net, two as two_lem, with_number as with_number_lem, fifo_tree, next_wires as next_wires_lem, pointer_wires};
+ghost use Rattle.hw_channel_lines.specs.Texts.{count_wires as count_wires_lem, fifo_blocks};
 
 use crate::names::fifo_name;
 use hw_build::{Draft, bits_for, net, net_value, number, reset_set_steps, store_steps, text};
@@ -152,7 +153,8 @@ fn registers(
     places: u32,
     widths: Widths,
 ) -> Result<(), AllocError>
-    ensures { IfOk result (λ u. draft.new ≡ with_all draft.old (Register widths.place (codes "head") ∷ Register widths.place (codes "tail") ∷ Register widths.count (codes "count") ∷ Memory bits (codes "tokens") places ∷ [])) }
+    ensures { IfOk result (λ u. draft.new ≡ with_all draft.old
+        (Register widths.place (codes "head") ∷ Register widths.place (codes "tail") ∷ Register widths.count (codes "count") ∷ Memory bits (codes "tokens") places ∷ [])) }
 {
     draft.register(alloc, widths.place, b"head")?;
     draft.register(alloc, widths.place, b"tail")?;
@@ -167,7 +169,10 @@ fn outputs(
     depth: u32,
     width: u32,
 ) -> Result<(), AllocError>
-    ensures { IfOk result (λ u. draft.new ≡ with_all draft.old (Output 1 (codes "rdy") (with_number_lem (codes "count") Less width depth) ∷ Wire 1 (codes "some") (with_number_lem (codes "count") Differs width 0) ∷ Output 1 (codes "has") (of_net (codes "some")) ∷ Output bits (codes "dout") (Cell (codes "tokens") (codes "head")) ∷ Wire 1 (codes "pop") (two_lem (codes "take") And (codes "some")) ∷ [])) }
+    ensures { IfOk result (λ u. draft.new ≡ with_all draft.old
+        (Output 1 (codes "rdy") (with_number_lem (codes "count") Less width depth) ∷ Wire 1 (codes "some") (with_number_lem (codes "count") Differs width 0) ∷ Output 1
+        (codes "has") (of_net (codes "some")) ∷ Output bits (codes "dout") (Cell (codes "tokens") (codes "head")) ∷ Wire 1 (codes "pop")
+        (two_lem (codes "take") And (codes "some")) ∷ [])) }
 {
     draft.output(
         alloc,

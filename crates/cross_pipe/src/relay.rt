@@ -6,7 +6,8 @@ ghost use Rattle.vlog_tree.specs.Form.{ModuleTree};
 ghost use Rattle.vlog_tree.specs.declared.tree.Atom.TheVariants.{Net, Literal};
 ghost use Rattle.hw_build.specs.Elements.{with, with_all, Input, Output, Outlet, Link, Register, Block, Instance, copied, reset_or};
 ghost use Rattle.hw_channel_lines.specs.Names.{relay_name as relay_name_lem};
-ghost use Rattle.hw_channel_lines.specs.Texts.{step_tree, even_tree, odd_tree, row_tree, row_ports as row_ports_lem, of_net, first_part as first_lem, second_of_two as second_of_two_lem, second_of_three as second_of_three_lem, third_part as third_lem, AreRelays};
+ghost use Rattle.hw_channel_lines.specs.Texts.{step_tree, even_tree, odd_tree, row_tree, row_ports as row_ports_lem, of_net, first_part as first_lem};
+ghost use Rattle.hw_channel_lines.specs.Texts.{second_of_two as second_of_two_lem, second_of_three as second_of_three_lem, third_part as third_lem, AreRelays};
 
 use crate::ends::relay_ends;
 use crate::names::relay_name;
@@ -31,7 +32,9 @@ fn registers(alloc: Global, draft: &mut Draft, bits: u32) -> Result<(), AllocErr
 }
 
 fn outputs(alloc: Global, draft: &mut Draft, bits: u32) -> Result<(), AllocError>
-    ensures { IfOk result (λ u. draft.new ≡ with_all draft.old (Output 1 (codes "put_late") (of_net (codes "full")) ∷ Output bits (codes "din_late") (of_net (codes "token")) ∷ Output 1 (codes "rdy") (of_net (codes "room")) ∷ [])) }
+    ensures { IfOk result (λ u. draft.new ≡ with_all draft.old
+        (Output 1 (codes "put_late") (of_net (codes "full")) ∷ Output bits (codes "din_late") (of_net (codes "token")) ∷ Output 1 (codes "rdy")
+        (of_net (codes "room")) ∷ [])) }
 {
     draft.output(alloc, 1, b"put_late", net_value(alloc, b"full")?)?;
     draft.output(alloc, bits, b"din_late", net_value(alloc, b"token")?)?;
@@ -69,7 +72,9 @@ fn free_follower(
 }
 
 fn blocks(alloc: Global, draft: &mut Draft) -> Result<(), AllocError>
-    ensures { IfOk result (λ u. draft.new ≡ with_all draft.old (Block (reset_or (codes "full") (Literal 1 0) (Net (codes "put"))) ∷ Block (copied (codes "token") (Net (codes "din"))) ∷ Block (reset_or (codes "room") (Literal 1 0) (Net (codes "rdy_early"))) ∷ [])) }
+    ensures { IfOk result (λ u. draft.new ≡ with_all draft.old
+        (Block (reset_or (codes "full") (Literal 1 0) (Net (codes "put"))) ∷ Block (copied (codes "token") (Net (codes "din"))) ∷ Block
+        (reset_or (codes "room") (Literal 1 0) (Net (codes "rdy_early"))) ∷ [])) }
 {
     follower(alloc, draft, b"full", b"put")?;
     free_follower(alloc, draft, b"token", b"din")?;

@@ -79,7 +79,8 @@ pub record AreOutside (ms : List ModuleTree) (top : ModuleTree) (f : Flat) (pair
   pub each : (i : ℕ) (l : Port) → slice_get (shape_of top).memories i ≡ Some l → (o : Outside) × (slice_get outside i ≡ Some o) × IsOutside ms f pairs l.name o
 
 -- a design on a tape, ready to run
-pub record IsMachine (ms : List ModuleTree) (top : ModuleTree) (f : Flat) (pairs memories : List (Option Pair)) (widths : List Width) (t : TapeTree) (commits : List Commit) (stores : List Store) : Type 0 where
+pub record IsMachine (ms : List ModuleTree) (top : ModuleTree) (f : Flat) (pairs memories : List (Option Pair)) (widths : List Width) (t : TapeTree)
+    (commits : List Commit) (stores : List Store) : Type 0 where
   pub flat : IsFlat ms top f
   pub tape : IsTape t
   pub placed : ArePlaced ms top f pairs
@@ -96,13 +97,17 @@ HasCells ms top f memories cells =
 
 -- every register and every cell has a number, cut to its width
 pub record IsFilledWith (ms : List ModuleTree) (top : ModuleTree) (f : Flat) (pairs memories : List (Option Pair)) (fill : ℕ) (cells : Cells) (ns : List ℕ) : Type 0 where
-  pub registers : (number : ℕ) (n : FlatNet) (m : ModuleTree) (w : ℕ) (p : Pair) → HasNumber ms f number n → module_at ms top n.0 ≡ Some m → Has m.items (Reg w n.1) → get_or pairs number None ≡ Some p → pair_value ns p ≡ fill % 2 ^ w
-  pub inside : (number : ℕ) (n : FlatNet) (m : ModuleTree) (w k : ℕ) (q : Pair) → HasNumber ms f number n → module_at ms top n.0 ≡ Some m → Has m.items (Memory w n.1 k) → get_or memories number None ≡ Some q
+  pub registers : (number : ℕ) (n : FlatNet) (m : ModuleTree) (w : ℕ) (p : Pair) → HasNumber ms f number n → module_at ms top n.0 ≡ Some m → Has m.items (Reg w n.1)
+      → get_or pairs number None ≡ Some p → pair_value ns p ≡ fill % 2 ^ w
+  pub inside : (number : ℕ) (n : FlatNet) (m : ModuleTree) (w k : ℕ) (q : Pair) → HasNumber ms f number n → module_at ms top n.0 ≡ Some m
+      → Has m.items (Memory w n.1 k) → get_or memories number None ≡ Some q
       → (a : ℕ) → a < k → cell_in cells q.high a * 2 ^ 64 + cell_in cells q.low a ≡ fill % 2 ^ w
 
 -- slots and cells show a cycle of a run
-pub record IsShown (ms : List ModuleTree) (top : ModuleTree) (f : Flat) (pairs memories : List (Option Pair)) (env : Environment) (nets : ℕ → Path → Cycle) (cycle : ℕ) (cells : Cells) (ns : List ℕ) : Type 0 where
+pub record IsShown (ms : List ModuleTree) (top : ModuleTree) (f : Flat) (pairs memories : List (Option Pair)) (env : Environment) (nets : ℕ → Path → Cycle)
+    (cycle : ℕ) (cells : Cells) (ns : List ℕ) : Type 0 where
   pub placed : ShowsPlaced ms f pairs (nets cycle) ns
-  pub inside : (number : ℕ) (n : FlatNet) (q : Pair) (m : ModuleTree) (w k : ℕ) → HasNumber ms f number n → module_at ms top n.0 ≡ Some m → Has m.items (Memory w n.1 k) → get_or memories number None ≡ Some q
+  pub inside : (number : ℕ) (n : FlatNet) (q : Pair) (m : ModuleTree) (w k : ℕ) → HasNumber ms f number n → module_at ms top n.0 ≡ Some m
+      → Has m.items (Memory w n.1 k) → get_or memories number None ≡ Some q
       → CellsAre (nets cycle n.0) n.1 k cells q
   pub outside : (i : ℕ) (l : Port) → slice_get (shape_of top).memories i ≡ Some l → get_or cells i [] ≡ cells_at (λ n. nets n []) l.name (slice_index_or env.memories i []) cycle

@@ -32,7 +32,8 @@ IsTold ms top env fill t = (contents : Path → Cycle) (nets : ℕ → Path → 
 
 -- in all that can be asked for, two say the same
 pub record IsSameTold (ms : List ModuleTree) (top : ModuleTree) (s t : TellTree) : Type 0 where
-  pub numbers : (path : Path) (m : ModuleTree) (x : Name) → module_at ms top path ≡ Some m → IsTrue (net_kind_is_read (net_kind_of (declared m) x)) → is_clk x ≡ false → s.number path x ≡ t.number path x
+  pub numbers : (path : Path) (m : ModuleTree) (x : Name) → module_at ms top path ≡ Some m → IsTrue (net_kind_is_read (net_kind_of (declared m) x))
+      → is_clk x ≡ false → s.number path x ≡ t.number path x
   pub cells : (path : Path) (m : ModuleTree) (w : ℕ) (x : Name) (k a : ℕ) → module_at ms top path ≡ Some m → Has m.items (Memory w x k) → a < k → s.cell path x a ≡ t.cell path x a
   pub outside : (i : ℕ) (l : Port) → slice_get (shape_of top).memories i ≡ Some l → s.outside i ≡ t.outside i
 

@@ -48,7 +48,8 @@ pub record AreStreams (ms : List ModuleTree) (top : ModuleTree) (f : Flat) (pair
   pub each : (i : ℕ) (l : Port) → slice_get (streams_of top) i ≡ Some l → (t : Stream) × (slice_get streams i ≡ Some t) × IsStream ms f pairs l t
 
 -- what stands around a design, by the pairs of its top's names
-pub record IsAround (ms : List ModuleTree) (top : ModuleTree) (f : Flat) (pairs : List (Option Pair)) (scalars : List ℕ) (in_slots : List Input) (asked : List Outside) (carrying : List Stream) (net_pairs : List Pair) (done_pair : Pair) : Type 0 where
+pub record IsAround (ms : List ModuleTree) (top : ModuleTree) (f : Flat) (pairs : List (Option Pair)) (scalars : List ℕ) (in_slots : List Input)
+    (asked : List Outside) (carrying : List Stream) (net_pairs : List Pair) (done_pair : Pair) : Type 0 where
   pub inputs : AreInputs ms top f pairs scalars in_slots
   pub outside : AreOutside ms top f pairs asked
   pub streams : AreStreams ms top f pairs carrying

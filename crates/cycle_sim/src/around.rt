@@ -44,7 +44,8 @@ fn outside_at(
     pairs: &[Option<Pair>],
     label: &Text,
 ) -> Result<Outside, AllocError>
-    ensures { IfOk result (λ o. (ms : List ModuleTree) (top : ModuleTree) (f : FlatTree) (t : TapeTree) (l : PortTree) → IsTopPlaced ms top f pairs.now t scope.now → Has (shape_of top).memories l → label.now ≡ l.name → IsOutside ms f pairs.now l.name o) }
+    ensures { IfOk result (λ o. (ms : List ModuleTree) (top : ModuleTree) (f : FlatTree) (t : TapeTree) (l : PortTree) → IsTopPlaced ms top f pairs.now t scope.now
+        → Has (shape_of top).memories l → label.now ≡ l.name → IsOutside ms f pairs.now l.name o) }
 {
     let label = label.bytes();
     let ack = pair_named(scope, pairs, ack_name(alloc, label)?);
@@ -65,7 +66,8 @@ fn all_outside(
     pairs: &[Option<Pair>],
     memories: &[Port],
 ) -> Result<Vec<Outside>, AllocError>
-    ensures { IfOk result (λ v. (ms : List ModuleTree) (top : ModuleTree) (f : FlatTree) (t : TapeTree) → IsTopPlaced ms top f pairs.now t scope.now → memories.now ≡ (shape_of top).memories → AreOutside ms top f pairs.now v.items) }
+    ensures { IfOk result (λ v. (ms : List ModuleTree) (top : ModuleTree) (f : FlatTree) (t : TapeTree) → IsTopPlaced ms top f pairs.now t scope.now
+        → memories.now ≡ (shape_of top).memories → AreOutside ms top f pairs.now v.items) }
 {
     let mut outside = Vec::new(alloc);
     for i in 0..memories.len() {
@@ -82,7 +84,8 @@ fn stream_at(
     pairs: &[Option<Pair>],
     port: &Port,
 ) -> Result<Stream, AllocError>
-    ensures { IfOk result (λ s. (ms : List ModuleTree) (top : ModuleTree) (f : FlatTree) (t : TapeTree) → IsTopPlaced ms top f pairs.now t scope.now → Has (streams_of top) port.now → IsStream ms f pairs.now port.now s) }
+    ensures { IfOk result (λ s. (ms : List ModuleTree) (top : ModuleTree) (f : FlatTree) (t : TapeTree) → IsTopPlaced ms top f pairs.now t scope.now
+        → Has (streams_of top) port.now → IsStream ms f pairs.now port.now s) }
 {
     let label = port.name.bytes();
     let wr = pair_named(scope, pairs, wr_name(alloc, label)?);
@@ -102,7 +105,8 @@ fn all_streams(
     pairs: &[Option<Pair>],
     ports: &[Port],
 ) -> Result<Vec<Stream>, AllocError>
-    ensures { IfOk result (λ v. (ms : List ModuleTree) (top : ModuleTree) (f : FlatTree) (t : TapeTree) → IsTopPlaced ms top f pairs.now t scope.now → ports.now ≡ streams_of top → AreStreams ms top f pairs.now v.items) }
+    ensures { IfOk result (λ v. (ms : List ModuleTree) (top : ModuleTree) (f : FlatTree) (t : TapeTree) → IsTopPlaced ms top f pairs.now t scope.now
+        → ports.now ≡ streams_of top → AreStreams ms top f pairs.now v.items) }
 {
     let mut streams = Vec::new(alloc);
     for i in 0..ports.len() {
@@ -120,7 +124,8 @@ pub fn around_of(
     pairs: &[Option<Pair>],
     scalars: &[u64],
 ) -> Result<Around, AllocError>
-    ensures { IfOk result (λ a. (top : ModuleTree) (f : FlatTree) (t : TapeTree) → TopOf design.now top → IsFlat design.now.modules top f → ArePlaced design.now.modules top f pairs.now → AreGiven design.now.modules top f pairs.now t
+    ensures { IfOk result (λ a. (top : ModuleTree) (f : FlatTree) (t : TapeTree) → TopOf design.now top → IsFlat design.now.modules top f
+        → ArePlaced design.now.modules top f pairs.now → AreGiven design.now.modules top f pairs.now t
         → IsAround design.now.modules top f pairs.now scalars.now a.inputs.items a.outside.items a.streams.items a.shown.items a.done) }
 {
     let scope = design.scope();

@@ -25,10 +25,10 @@ use crate::first::first_cells;
 use crate::inputs::give;
 use crate::parts::{Parts, State};
 use crate::registers::fill_registers;
-use sim_design::{Commit, Draft, Width, draft_of};
+use sim_design::{Commit, TapeDraft, Width, draft_of};
 use sim_flat::{Flat, flatten};
 use sim_gates::Store;
-use sim_pass::Program;
+use sim_pass::Schedule;
 use sim_tape::Pair;
 use std::alloc::{AllocError, Global};
 use vlog_design::{Design, Env};
@@ -46,7 +46,7 @@ fn copied(alloc: Global, ready: &[Vec<bool>]) -> Result<Vec<Vec<bool>>, AllocErr
 
 // A draft whose tape is ready to run.
 struct Finished {
-    program: Program,
+    program: Schedule,
     pairs: Vec<Option<Pair>>,
     memories: Vec<Option<Pair>>,
     widths: Vec<Width>,
@@ -54,12 +54,13 @@ struct Finished {
     stores: Vec<Store>,
 }
 
-fn finish(alloc: Global, draft: Draft) -> Result<Finished, AllocError>
+fn finish(alloc: Global, draft: TapeDraft) -> Result<Finished, AllocError>
     requires { IsTape (tree_of draft.tape) }
-    ensures machine { IfOk result (λ f. (ms : List ModuleTree) (m : ModuleTree) (flat : FlatTree) → IsDraft ms m flat draft → IsMachine ms m flat f.pairs.items f.memories.items f.widths.items f.program f.commits.items f.stores.items) }
+    ensures machine { IfOk result (λ f. (ms : List ModuleTree) (m : ModuleTree) (flat : FlatTree) → IsDraft ms m flat draft
+        → IsMachine ms m flat f.pairs.items f.memories.items f.widths.items f.program f.commits.items f.stores.items) }
     ensures pairs { IfOk result (λ f. f.pairs ≡ draft.pairs) }
 {
-    let program = Program::of_tape(alloc, draft.tape)?;
+    let program = Schedule::of_tape(alloc, draft.tape)?;
     Ok(Finished {
         program,
         pairs: draft.pairs,
@@ -78,10 +79,12 @@ fn laid_out(
     scalars: &[u64],
 ) -> Result<(Finished, Around), AllocError>
     requires { (m : ModuleTree) → TopOf design.now m → IsFlat design.now.modules m flat.now }
-    ensures machine { IfOk result (λ r. (m : ModuleTree) → TopOf design.now m → IsMachine design.now.modules m flat.now r.0.pairs.items r.0.memories.items r.0.widths.items r.0.program r.0.commits.items r.0.stores.items) }
-    ensures around { IfOk result (λ r. (m : ModuleTree) → TopOf design.now m → IsAround design.now.modules m flat.now r.0.pairs.items scalars.now r.1.inputs.items r.1.outside.items r.1.streams.items r.1.shown.items r.1.done) }
+    ensures machine { IfOk result (λ r. (m : ModuleTree) → TopOf design.now m
+        → IsMachine design.now.modules m flat.now r.0.pairs.items r.0.memories.items r.0.widths.items r.0.program r.0.commits.items r.0.stores.items) }
+    ensures around { IfOk result (λ r. (m : ModuleTree) → TopOf design.now m
+        → IsAround design.now.modules m flat.now r.0.pairs.items scalars.now r.1.inputs.items r.1.outside.items r.1.streams.items r.1.shown.items r.1.done) }
 {
-    let _top = design.top();
+    design.valid();
     let draft = draft_of(alloc, design, flat)?.unwrap();
     let around = around_of(alloc, design, &draft.pairs, scalars)?;
     let finished = finish(alloc, draft)?;
@@ -95,7 +98,7 @@ pub fn parts_of(alloc: Global, design: Design, around: &Env) -> Result<Parts, Al
     ensures scalars { IfOk result (λ p. p.scalars.items ≡ around.now.scalars.items) }
     ensures ready { IfOk result (λ p. lists_of p.ready.items ≡ lists_of around.now.ready.items) }
 {
-    let _top = design.top();
+    design.valid();
     let scalars = around.scalars.as_slice().to_vec(alloc)?;
     let ready = copied(alloc, &around.ready)?;
     let flat = flatten(alloc, &design)?;
@@ -158,7 +161,8 @@ pub fn first_state(
     requires { AreParts parts.now }
     ensures sim { IfOk result (λ s. IsSim parts.now s) }
     ensures cycle { IfOk result (λ s. s.cycle ≡ 0) }
-    ensures told { IfOk result (λ s. (m : ModuleTree) (env : Environment) → TopOf parts.now.design m → FitsShape env (shape_of m) → env.scalars ≡ parts.now.scalars.items → env.memories ≡ lists_of memories.now
+    ensures told { IfOk result (λ s. (m : ModuleTree) (env : Environment) → TopOf parts.now.design m → FitsShape env (shape_of m) → env.scalars ≡ parts.now.scalars.items
+        → env.memories ≡ lists_of memories.now
         → IsTold parts.now.design.modules m env fill (sim_tree parts.now s).told) }
 {
     let cells = first_cells(alloc, memories, parts.outside.len(), &parts.widths, fill)?;

@@ -140,7 +140,8 @@ pub fn write_all(
     outside: &[Outside],
     cells: &mut [Vec<u64>],
 ) -> bool
-    ensures asked { (i : ℕ) (o : OutsideTree) → slice_get outside.now i ≡ Some o → get_or (cells_of cells.new) i [] ≡ outside_list numbers.now o (stored_all numbers.now i (get_or (cells_of cells.old) i []) stores.now) }
+    ensures asked { (i : ℕ) (o : OutsideTree) → slice_get outside.now i ≡ Some o
+        → get_or (cells_of cells.new) i [] ≡ outside_list numbers.now o (stored_all numbers.now i (get_or (cells_of cells.old) i []) stores.now) }
     ensures behind { (m : ℕ) → length outside.now ≤ m → get_or (cells_of cells.new) m [] ≡ stored_all numbers.now m (get_or (cells_of cells.old) m []) stores.now }
     ensures none { result ≡ false → cells.new ≡ cells.old }
     ensures unmade { result ≡ false → AreUnmade numbers.now stores.now }

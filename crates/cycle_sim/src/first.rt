@@ -92,7 +92,9 @@ pub fn first_cells(
     fill: u64,
 ) -> Result<Vec<Vec<u64>>, AllocError>
     ensures outside { IfOk result (λ v. (i : ℕ) → i < count → get_or (cells_of v.items) i [] ≡ slice_index_or (lists_of memories.now) i []) }
-    ensures inside { IfOk result (λ v. (i : ℕ) (w : WidthTree) → slice_get widths.now i ≡ Some w → (get_or (cells_of v.items) (count + 2 * i) [] ≡ replicate w.cells (fill % 2 ^ w.bits)) × (get_or (cells_of v.items) (count + 2 * i + 1) [] ≡ replicate w.cells 0)) }
+    ensures inside { IfOk result (λ v. (i : ℕ) (w : WidthTree) → slice_get widths.now i ≡ Some w
+        → (get_or (cells_of v.items) (count + 2 * i) [] ≡ replicate w.cells (fill % 2 ^ w.bits))
+        × (get_or (cells_of v.items) (count + 2 * i + 1) [] ≡ replicate w.cells 0)) }
 {
     ask_room(alloc, widths)?;
     let mut all = outside_cells(alloc, memories, count)?;

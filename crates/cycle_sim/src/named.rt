@@ -37,7 +37,8 @@ pub fn done_name(alloc: Global) -> Result<Vec<u8>, AllocError>
 /// The pair of a name that can be read; the constant 0 where there is no such name.
 pub fn pair_named(scope: &Scope, pairs: &[Option<Pair>], name: Vec<u8>) -> Pair
     requires { IsAscii name.items }
-    ensures { (ms : List ModuleTree) (top : ModuleTree) (f : FlatTree) (t : TapeTree) (x : List ℕ) → IsTopPlaced ms top f pairs.now t scope.now → name.items ≡ x → IsTrue (net_kind_is_read (net_kind_of (declared top) x)) → is_clk x ≡ false
+    ensures { (ms : List ModuleTree) (top : ModuleTree) (f : FlatTree) (t : TapeTree) (x : List ℕ) → IsTopPlaced ms top f pairs.now t scope.now → name.items ≡ x
+        → IsTrue (net_kind_is_read (net_kind_of (declared top) x)) → is_clk x ≡ false
         → IsPairOf ms f pairs.now x result }
 {
     let text = Text::new(name);

@@ -16,7 +16,7 @@ use crate::slots::{is_one, number, take_over};
 use sim_design::{Commit, Width};
 use sim_flat::Flat;
 use sim_gates::Store;
-use sim_pass::{Marks, Program};
+use sim_pass::{Marks, Schedule};
 use sim_tape::Pair;
 use tapa_base::Token;
 use vlog_design::Design;
@@ -39,7 +39,7 @@ pub struct Parts {
     pub pairs: Vec<Option<Pair>>,
     pub memories: Vec<Option<Pair>>,
     pub widths: Vec<Width>,
-    pub program: Program,
+    pub program: Schedule,
     pub commits: Vec<Commit>,
     pub stores: Vec<Store>,
     pub scalars: Vec<u64>,

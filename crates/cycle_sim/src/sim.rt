@@ -157,7 +157,9 @@ fn go_on(sim: &mut Sim, tokens: &mut [Vec<Token>]) -> Result<(), AllocError>
 pub fn run_cycles(alloc: Global, sim: &mut Sim, limit: u64) -> Result<Carried, AllocError>
     requires { (sim_of sim.old).told.cycle ≡ 0 }
     ensures done { IfOk result (λ r. InRuns (sim_of sim.old) (λ m env nets. IsDoneAt (λ n. nets n []) limit r.done_at)) }
-    ensures tokens { IfOk result (λ r. InRuns (sim_of sim.old) (λ m env nets. (place : ℕ) (l : PortTree) → slice_get (streams_of m) place ≡ Some l → tokens l.bits (λ n. nets n []) l.name (last_cycle limit r.done_at) ≡ slice_index_or (lists_of r.tokens.items) place [])) }
+    ensures tokens { IfOk result (λ r. InRuns (sim_of sim.old)
+        (λ m env nets. (place : ℕ) (l : PortTree) → slice_get (streams_of m) place ≡ Some l
+        → tokens l.bits (λ n. nets n []) l.name (last_cycle limit r.done_at) ≡ slice_index_or (lists_of r.tokens.items) place [])) }
     ensures count { IfOk result (λ r. (m : ModuleTree) → TopOf (sim_of sim.old).design m → length r.tokens.items ≡ length (streams_of m)) }
     ensures later { IfOk result (λ r. IsLater (sim_of sim.old) (sim_of sim.new) (last_cycle limit r.done_at)) }
     ensures short { OnErr result ((n : ℕ) × (n ≤ limit) × IsLater (sim_of sim.old) (sim_of sim.new) n) }

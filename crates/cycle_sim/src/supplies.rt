@@ -69,7 +69,8 @@ fn ready_supply(labels: &[Port], label: &[u8]) -> Option<Supply>
 
 // What a name of the top is given, where it is the reset, a scalar's or the `ack` of a memory.
 fn supply_of(shape: &Shape, scalars: &[u64], name: &Text) -> Option<Supply>
-    ensures is { (top : ModuleTree) → shape.now.scalars.items ≡ (shape_of top).scalars → shape.now.memories.items ≡ (shape_of top).memories → IfSome result (λ s. IsSuppliedBy top scalars.now name.now s) }
+    ensures is { (top : ModuleTree) → shape.now.scalars.items ≡ (shape_of top).scalars → shape.now.memories.items ≡ (shape_of top).memories
+        → IfSome result (λ s. IsSuppliedBy top scalars.now name.now s) }
     ensures some { (top : ModuleTree) → shape.now.scalars.items ≡ (shape_of top).scalars → shape.now.memories.items ≡ (shape_of top).memories → HasSupply top name.now → IsSome result }
 {
     if is_reset(name) {
@@ -92,9 +93,11 @@ fn input_at(
     place: usize,
     d: &Declaration,
 ) -> Option<Input>
-    ensures is { (ms : List ModuleTree) (top : ModuleTree) (f : FlatTree) (t : TapeTree) (names : List DeclarationTree) → IsTopPlaced ms top f pairs.now t names → shape.now.scalars.items ≡ (shape_of top).scalars → shape.now.memories.items ≡ (shape_of top).memories
+    ensures is { (ms : List ModuleTree) (top : ModuleTree) (f : FlatTree) (t : TapeTree) (names : List DeclarationTree) → IsTopPlaced ms top f pairs.now t names
+        → shape.now.scalars.items ≡ (shape_of top).scalars → shape.now.memories.items ≡ (shape_of top).memories
         → slice_get names place ≡ Some d.now → IfSome result (λ a. IsInput ms top f pairs.now scalars.now place a) }
-    ensures all { (ms : List ModuleTree) (top : ModuleTree) (f : FlatTree) (t : TapeTree) (names : List DeclarationTree) (p : PairTree) → IsTopPlaced ms top f pairs.now t names → shape.now.scalars.items ≡ (shape_of top).scalars → shape.now.memories.items ≡ (shape_of top).memories
+    ensures all { (ms : List ModuleTree) (top : ModuleTree) (f : FlatTree) (t : TapeTree) (names : List DeclarationTree) (p : PairTree)
+        → IsTopPlaced ms top f pairs.now t names → shape.now.scalars.items ≡ (shape_of top).scalars → shape.now.memories.items ≡ (shape_of top).memories
         → slice_get names place ≡ Some d.now → get_or pairs.now place None ≡ Some p → d.now.net_kind ≡ kinds.Input → rdata_lem d.now.name ≡ None → IsSome result }
 {
     if !is_input(d.net_kind) {
@@ -129,7 +132,8 @@ pub fn all_inputs(
     shape: &Shape,
     scalars: &[u64],
 ) -> Result<Vec<Input>, AllocError>
-    ensures { IfOk result (λ v. (ms : List ModuleTree) (top : ModuleTree) (f : FlatTree) (t : TapeTree) → IsTopPlaced ms top f pairs.now t scope.now → shape.now.scalars.items ≡ (shape_of top).scalars → shape.now.memories.items ≡ (shape_of top).memories
+    ensures { IfOk result (λ v. (ms : List ModuleTree) (top : ModuleTree) (f : FlatTree) (t : TapeTree) → IsTopPlaced ms top f pairs.now t scope.now
+        → shape.now.scalars.items ≡ (shape_of top).scalars → shape.now.memories.items ≡ (shape_of top).memories
         → AreInputs ms top f pairs.now scalars.now v.items) }
 {
     let names = scope.declarations();

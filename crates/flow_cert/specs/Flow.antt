@@ -25,7 +25,8 @@ weight g lat flow = total (streams g) (λ e. lat e * flow e)
 
 -- what a flow brings to places of a height, and what the widths take from there, are what the widths bring and the flow takes
 abbrev pub Levels : Graph → (ℕ → ℕ) → (ℕ → ℕ) → Type 0
-Levels g f t = total (streams g) (λ e. f e * t (head g e)) + total (streams g) (λ e. width g e * t (tail g e)) ≡ total (streams g) (λ e. width g e * t (head g e)) + total (streams g) (λ e. f e * t (tail g e))
+Levels g f t = total (streams g) (λ e. f e * t (head g e)) + total (streams g) (λ e. width g e * t (tail g e)) ≡ total (streams g)
+    (λ e. width g e * t (head g e)) + total (streams g) (λ e. f e * t (tail g e))
 
 -- no dual flow's value is above the cost of an even balance
 abbrev pub WeakDuality : Type 0

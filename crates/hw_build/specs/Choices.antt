@@ -55,7 +55,8 @@ AnyIsClear =
 -- the result of `pick` is the value whose condition holds, where no other value has one that does
 abbrev pub PickIsChosen : Type 0
 PickIsChosen =
-    (name : Name) (elements : List Element) (run : ℕ → Cycle) → Follows (built name elements) run → (width : ℕ) (front : Name) (entries : List Entry) → IsAmong (pick_elements width front entries) elements
+    (name : Name) (elements : List Element) (run : ℕ → Cycle) → Follows (built name elements) run → (width : ℕ) (front : Name) (entries : List Entry)
+    → IsAmong (pick_elements width front entries) elements
     → (n a : ℕ) → ((d : Entry) → Has entries d → ((run n).net d.condition ≡ 1 → ⊥) ⊎ (atom_value (run n) d.value ≡ a))
     → (e : Entry) → Has entries e → (run n).net e.condition ≡ 1 → (run n).net (choice front entries) ≡ a
 

@@ -60,5 +60,6 @@ RootsAreDriven =
 -- and a gate lets its value through where its condition is 1
 abbrev pub GatesAreDriven : Type 0
 GatesAreDriven =
-    (name : Name) (elements : List Element) (run : ℕ → Cycle) → Follows (built name elements) run → (width : ℕ) (x condition : Name) (value : Atom) → Has elements (gated width x condition value) → (n : ℕ)
+    (name : Name) (elements : List Element) (run : ℕ → Cycle) → Follows (built name elements) run → (width : ℕ) (x condition : Name) (value : Atom)
+    → Has elements (gated width x condition value) → (n : ℕ)
     → (run n).net x ≡ (if (run n).net condition == 1 then atom_value (run n) value else 0)

@@ -3,7 +3,8 @@
 ghost use Rattle.std.specs.Prelude.{◌≡◌, ◌+◌, ◌≤◌, ◌^◌, ◌++◌, ◌∷◌, [], length, IfOk};
 ghost use Rattle.std.specs.Str.{IsAscii};
 ghost use Rattle.vlog_tree.specs.Form.{IsModule};
-ghost use Rattle.hw_build.specs.Elements.{with, empty, Input as InputElement, Output as OutputElement, Outlet as OutletElement, Wire as WireElement, Link as LinkElement, Register as RegisterElement, Memory as MemoryElement, Block as BlockElement, Instance as InstanceElement};
+ghost use Rattle.hw_build.specs.Elements.{with, empty, Input as InputElement, Output as OutputElement, Outlet as OutletElement, Wire as WireElement, Link as LinkElement};
+ghost use Rattle.hw_build.specs.Elements.{Register as RegisterElement, Memory as MemoryElement, Block as BlockElement, Instance as InstanceElement};
 
 use crate::texts::{clock_name, reset_name, text};
 use std::alloc::{AllocError, Global};

@@ -33,7 +33,8 @@ step_elements bits =
     Input 1 (codes "put") ∷ Input bits (codes "din") ∷ Input 1 (codes "rdy_early")
     ∷ Register 1 (codes "full") ∷ Register bits (codes "token") ∷ Register 1 (codes "room")
     ∷ Output 1 (codes "put_late") (of_net (codes "full")) ∷ Output bits (codes "din_late") (of_net (codes "token")) ∷ Output 1 (codes "rdy") (of_net (codes "room"))
-    ∷ Block (reset_or (codes "full") (Literal 1 0) (Net (codes "put"))) ∷ Block (copied (codes "token") (Net (codes "din"))) ∷ Block (reset_or (codes "room") (Literal 1 0) (Net (codes "rdy_early"))) ∷ []
+    ∷ Block (reset_or (codes "full") (Literal 1 0) (Net (codes "put"))) ∷ Block (copied (codes "token") (Net (codes "din"))) ∷ Block
+    (reset_or (codes "room") (Literal 1 0) (Net (codes "rdy_early"))) ∷ []
 
 -- the nets of an instance of a relay
 abbrev pub relay_ends : (put din rdy_early put_late din_late rdy : Name) → List Connection

@@ -58,7 +58,8 @@ fn with_drivers(
     before: &Atom,
     count: u32,
 ) -> Result<Wired, AllocError>
-    ensures { IfOk result (λ r. (old : ModuleTree) (elements : List Element) (k : ℕ) → draft.old ≡ with_all old elements → n ≡ k + count → Grows old draft.new r (behind front.now k elements count drivers.items before.now)) }
+    ensures { IfOk result (λ r. (old : ModuleTree) (elements : List Element) (k : ℕ) → draft.old ≡ with_all old elements → n ≡ k + count
+        → Grows old draft.new r (behind front.now k elements count drivers.items before.now)) }
 {
     let atom = last(alloc, front, n, &drivers, before)?;
     let count = plus(count, narrow(drivers.len())?)?;
@@ -126,7 +127,8 @@ fn applied(
     left: Wired,
     right: Wired,
 ) -> Result<Wired, AllocError>
-    ensures { IfOk result (λ r. (old second : ModuleTree) (C D : Compiled) → Grows old second left C → Grows second draft.old right D → Grows old draft.new r (joining front.now first C D (λ i a b. operation_lem front.now i op own asked a b))) }
+    ensures { IfOk result (λ r. (old second : ModuleTree) (C D : Compiled) → Grows old second left C → Grows second draft.old right D
+        → Grows old draft.new r (joining front.now first C D (λ i a b. operation_lem front.now i op own asked a b))) }
 {
     let count = plus(left.count, right.count)?;
     let n = plus(first, count)?;
@@ -144,7 +146,8 @@ fn joined(
     left: Wired,
     right: Wired,
 ) -> Result<Wired, AllocError>
-    ensures { IfOk result (λ r. (old second : ModuleTree) (C D : Compiled) → Grows old second left C → Grows second draft.old right D → Grows old draft.new r (joining front.now first C D (λ i a b. one_lem 1 (Binary a op b)))) }
+    ensures { IfOk result (λ r. (old second : ModuleTree) (C D : Compiled) → Grows old second left C → Grows second draft.old right D
+        → Grows old draft.new r (joining front.now first C D (λ i a b. one_lem 1 (Binary a op b)))) }
 {
     let count = plus(left.count, right.count)?;
     let n = plus(first, count)?;
@@ -163,7 +166,8 @@ fn chosen(
     yes: Wired,
     no: Wired,
 ) -> Result<Wired, AllocError>
-    ensures { IfOk result (λ r. (old second third : ModuleTree) (C D E : Compiled) → Grows old second test C → Grows second third yes D → Grows third draft.old no E → Grows old draft.new r (choosing front.now first kind C D E)) }
+    ensures { IfOk result (λ r. (old second third : ModuleTree) (C D E : Compiled) → Grows old second test C → Grows second third yes D → Grows third draft.old no E
+        → Grows old draft.new r (choosing front.now first kind C D E)) }
 {
     let branches = plus(yes.count, no.count)?;
     let count = plus(test.count, branches)?;

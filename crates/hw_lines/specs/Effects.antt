@@ -6,7 +6,8 @@ use Rattle.vlog_tree.specs.declared.tree.Atom.TheVariants.{Part, Literal}
 use Rattle.task_fsm.specs.Machine.{StateForm, SetAt, CellAt, TestAt, ReadAt, WriteAt, PeekAt, EotAt, OpenAt, CloseAt, LoadAt, StoreAt, ClearAt, EndAt, TrapAt}
 use Rattle.hw_build.specs.Scope.{each}
 use Rattle.hw_build.specs.Choices.{Entry}
-use Rattle.hw_lines.specs.Nets.{Net, Variable, Dout, Rdata, At, Go, Into, Packed, Value, ReadOn, name, read_front, Choice, ToState, ToEnd, Set, In, Stores, Place, Content, Reads, Spot, Puts, Token, Takes, Asks, Saves, Data}
+use Rattle.hw_lines.specs.Nets.{Net, Variable, Dout, Rdata, At, Go, Into, Packed, Value, ReadOn, name, read_front, Choice, ToState, ToEnd, Set, In, Stores, Place, Content}
+use Rattle.hw_lines.specs.Nets.{Reads, Spot, Puts, Token, Takes, Asks, Saves, Data}
 use Rattle.hw_lines.specs.Shape.{Shape, array_kind, array_cells, stream_kind, index_bits, state_count, form_at}
 use Rattle.hw_lines.specs.Drivers.{low_bits}
 use Rattle.hw_lines.specs.Wires.{ArrayRead, compiled}

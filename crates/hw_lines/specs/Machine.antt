@@ -82,7 +82,8 @@ pub record RunsMachine (part : Part) (S : Streams) (answers : ℕ → ℕ → Bo
   pub not_ended : h.ended 1 ≡ false
   pub at : (n : ℕ) → h.at (suc (suc n)) ≡ (if steps part S answers h (suc n) then at_after (step_in part h (suc n)) (h.at (suc n)) else h.at (suc n))
   pub holds :
-      (n : ℕ) → h.holds (suc (suc n)) ≡ (if steps part S answers h (suc n) then held_after (step_in part h (suc n)) (h.holds (suc n)) (found S part.bound (suc n) (step_in part h (suc n))) else h.holds (suc n))
+      (n : ℕ) → h.holds (suc (suc n)) ≡ (if steps part S answers h (suc n) then held_after (step_in part h (suc n)) (h.holds (suc n))
+      (found S part.bound (suc n) (step_in part h (suc n))) else h.holds (suc n))
   pub ended : (n : ℕ) → h.ended (suc (suc n)) ≡ (if steps part S answers h (suc n) then ends_by (step_in part h (suc n)) else h.ended (suc n))
   pub take : (s n : ℕ) → Reads s → S.take s (suc n) ≡ (steps part S answers h (suc n) && takes_of part.bound s (step_in part h (suc n)))
   pub put : (s n : ℕ) → Writes s → put_in S s (suc n) ≡ (if steps part S answers h (suc n) then puts_of part.bound s (step_in part h (suc n)) else [])

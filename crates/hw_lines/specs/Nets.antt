@@ -5,7 +5,42 @@ use Rattle.hw_build.specs.Trees.{numbered}
 pub use Rattle.hw_lines.specs.declared.nets.Choice.{Choice}
 pub use Rattle.hw_lines.specs.declared.nets.Choice.TheVariants.{ToState, ToEnd, Set, In, Stores, Place, Content, Reads, Spot, Puts, Token, Takes, Asks, Saves, Data}
 pub use Rattle.hw_lines.specs.declared.nets.Net.{Net}
-pub use Rattle.hw_lines.specs.declared.nets.Net.TheVariants.{State, Ended, Done, Scalar, Variable, Array, Has, Dout, Taken, Din, Wr, Rdy, Ack, Rdata, Addr, Wdata, We, Plain, Datum, Eot, At, Go, Inside, Into, Packed, Next, Value, Index, ReadIndex, ReadInside, ReadOn, Raw, Answer, Node}
+pub use Rattle.hw_lines.specs.declared.nets.Net.TheVariants.{
+  State,
+  Ended,
+  Done,
+  Scalar,
+  Variable,
+  Array,
+  Has,
+  Dout,
+  Taken,
+  Din,
+  Wr,
+  Rdy,
+  Ack,
+  Rdata,
+  Addr,
+  Wdata,
+  We,
+  Plain,
+  Datum,
+  Eot,
+  At,
+  Go,
+  Inside,
+  Into,
+  Packed,
+  Next,
+  Value,
+  Index,
+  ReadIndex,
+  ReadInside,
+  ReadOn,
+  Raw,
+  Answer,
+  Node,
+}
 
 abbrev pub choice_word : Choice → Name
 choice_word ToState = codes "to"

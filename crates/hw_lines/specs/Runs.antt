@@ -132,7 +132,8 @@ pub record RunsTask (S : Shape) (w : ℕ → Option Bool) (run : ℕ → Cycle) 
   pub asks : (n m : ℕ) → m < length S.memories → AsksAs run (suc n) m (step_in (part_at S run cells) (history_at S run cells) (suc n))
   -- and that something is to be stored is said exactly where the next step stores there
   pub stores :
-      (n m : ℕ) → m < length S.memories → number_at run (We m) (suc n) ≡ one_if (not (bit_at run Ended (suc n)) && by_act (stores_to m) (step_in (part_at S run cells) (history_at S run cells) (suc n)))
+      (n m : ℕ) → m < length S.memories → number_at run (We m) (suc n) ≡ one_if
+      (not (bit_at run Ended (suc n)) && by_act (stores_to m) (step_in (part_at S run cells) (history_at S run cells) (suc n)))
   pub done : (n : ℕ) → number_at run Done n ≡ number_at run Ended n
 
 -- In a run of any design that has the module, an instance of it runs the machine, whatever registers and arrays hold at

@@ -125,7 +125,8 @@ into_of S k a index bits =
 abbrev pub counting : Shape → ℕ → ℕ → ℕ → List Element
 counting S k a c =
     wires_of (value_front k) 0
-    ((1, Binary (net (Variable c)) Less (Literal 32 (array_cells S a - 1))) ∷ (32, Binary (net (Variable c)) Plus (Literal 32 1)) ∷ (32, Choose (net (Value k 0)) (net (Value k 1)) (Literal 32 0)) ∷ [])
+    ((1, Binary (net (Variable c)) Less (Literal 32 (array_cells S a - 1))) ∷ (32, Binary (net (Variable c)) Plus (Literal 32 1)) ∷
+    (32, Choose (net (Value k 0)) (net (Value k 1)) (Literal 32 0)) ∷ [])
 
 -- the token of a datum: the bit of an end of a transaction stands on top
 abbrev pub packed : Shape → ℕ → ℕ → Atom → List Element

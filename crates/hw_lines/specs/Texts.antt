@@ -18,7 +18,9 @@ use Rattle.hw_build.specs.Scope.{each}
 use Rattle.hw_build.specs.Choices.{Entry, any_elements, pick_elements, choice}
 use Rattle.task_fsm.specs.declared.machine.Fsm.{Fsm}
 use Rattle.tapa_base.specs.declared.kind.Kind.{Kind}
-use Rattle.hw_lines.specs.Nets.{Net, State, Ended, Done, Scalar, Variable, Array, Has, Dout, Taken, Din, Wr, Rdy, Ack, Rdata, Addr, Wdata, We, Plain as PlainNet, Datum, Eot, At, ReadIndex, ReadInside, ReadOn, Raw, Answer, Choice, ToState, ToEnd, Set, In, Stores, Place, Content, Reads, Spot, Puts, Token, Takes, Asks, Saves, Data, name, front, read_front}
+use Rattle.hw_lines.specs.Nets.{Net, State, Ended, Done, Scalar, Variable, Array, Has, Dout, Taken, Din, Wr, Rdy, Ack, Rdata, Addr, Wdata, We, Plain as PlainNet, Datum}
+use Rattle.hw_lines.specs.Nets.{Eot, At, ReadIndex, ReadInside, ReadOn, Raw, Answer, Choice, ToState, ToEnd, Set, In, Stores, Place, Content, Reads, Spot, Puts, Token}
+use Rattle.hw_lines.specs.Nets.{Takes, Asks, Saves, Data, name, front, read_front}
 use Rattle.hw_lines.specs.Shape.{Shape, shape_of, array_kind, array_cells, stream_kind, register_kind, memory_kind, index_bits, state_count, state_bits}
 use Rattle.hw_lines.specs.Wires.{ArrayRead, Compiled, compiled}
 use Rattle.hw_lines.specs.States.{net, reads_at, state_wires, decoded}
@@ -146,7 +148,8 @@ stream_outputs S s = by_end (written S s) (taken S s) (writes S s)
 abbrev pub memory_outputs : Shape → ℕ → List Element
 memory_outputs S m =
     pick S 64 (Asks m) ++ any S (Saves m) ++ pick S (bits_of (memory_kind S m)) (Data m)
-    ++ (Output 64 (name (Addr m)) (result S 64 (Asks m)) ∷ Output (bits_of (memory_kind S m)) (name (Wdata m)) (result S (bits_of (memory_kind S m)) (Data m)) ∷ Output 1 (name (We m)) (result S 1 (Saves m)) ∷ [])
+    ++ (Output 64 (name (Addr m)) (result S 64 (Asks m)) ∷ Output (bits_of (memory_kind S m)) (name (Wdata m))
+    (result S (bits_of (memory_kind S m)) (Data m)) ∷ Output 1 (name (We m)) (result S 1 (Saves m)) ∷ [])
 
 abbrev pub outputs : Shape → List Element
 outputs S = (Output 1 (name Done) (Plain (net Ended)) ∷ []) ++ each (stream_outputs S) (length S.streams) ++ each (memory_outputs S) (length S.memories)

@@ -4,7 +4,8 @@ ghost use Rattle.std.specs.Prelude.{◌≡◌, ◌+◌, ◌<◌, ◌≤◌, leng
 ghost use Rattle.tapa_base.specs.declared.kind.Kind.TheVariants.{U64};
 ghost use Rattle.tapa_base.specs.Kinds.{bits_of};
 ghost use Rattle.task_fsm.specs.Machine.{form_of};
-ghost use Rattle.hw_lines.specs.Shape.{array_cells as array_cells_lem, array_kind as array_kind_lem, form_at, index_bits as index_bits_lem, memory_kind as memory_kind_lem, register_kind as register_kind_lem, state_bits as state_bits_lem, state_count as state_count_lem, stream_kind as stream_kind_lem};
+ghost use Rattle.hw_lines.specs.Shape.{array_cells as array_cells_lem, array_kind as array_kind_lem, form_at, index_bits as index_bits_lem, memory_kind as memory_kind_lem};
+ghost use Rattle.hw_lines.specs.Shape.{register_kind as register_kind_lem, state_bits as state_bits_lem, state_count as state_count_lem, stream_kind as stream_kind_lem};
 ghost use Rattle.hw_lines.specs.Texts.{writes as writes_lem};
 ghost use Rattle.hw_nets.specs.Shapes.{form};
 

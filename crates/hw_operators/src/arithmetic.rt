@@ -2,7 +2,8 @@
 
 ghost use Rattle.std.specs.Prelude.{◌≡◌, ◌≤◌, suc, if◌then◌else◌, IfOk, true};
 ghost use Rattle.vlog_tree.specs.declared.tree.Value.TheVariants.{Choose};
-ghost use Rattle.hw_lines.specs.Drivers.{absolute as absolute_lem, divided as divided_lem, half as half_lem, is_negative as is_negative_lem, shift_count as shift_count_lem, shifted_right as shifted_right_lem, sign_of as sign_of_lem, wire as wire_lem};
+ghost use Rattle.hw_lines.specs.Drivers.{absolute as absolute_lem, divided as divided_lem, half as half_lem, is_negative as is_negative_lem, shift_count as shift_count_lem};
+ghost use Rattle.hw_lines.specs.Drivers.{shifted_right as shifted_right_lem, sign_of as sign_of_lem, wire as wire_lem};
 
 use crate::drivers::{Driver, one};
 use hw_nets::{binary, choose, copy, literal, power, sign_of, wire};

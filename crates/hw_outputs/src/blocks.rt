@@ -115,7 +115,8 @@ fn add_end_block(
     operands: &[Operands],
 ) -> Result<(), AllocError>
     requires { AreOperands (form shape.now) operands.now (state_count (form shape.now)) }
-    ensures { IfOk result (λ u. draft.new ≡ with_all draft.old (Block (register_block (name_lem Ended) (Literal 1 0) (entries_lem (form shape.now) ToEnd) (root_lem (form shape.now) ToEnd) (Literal 1 1)) ∷ [])) }
+    ensures { IfOk result (λ u. draft.new ≡ with_all draft.old
+        (Block (register_block (name_lem Ended) (Literal 1 0) (entries_lem (form shape.now) ToEnd) (root_lem (form shape.now) ToEnd) (Literal 1 1)) ∷ [])) }
 {
     let found = entries_of(alloc, shape, Choice::ToEnd, operands)?;
     let register = name(alloc, Net::Ended)?;

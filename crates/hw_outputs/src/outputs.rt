@@ -174,7 +174,9 @@ fn add_writer(
     s: u32,
 ) -> Result<(), AllocError>
     requires { AreOperands (form shape.now) operands.now (state_count (form shape.now)) }
-    ensures { IfOk result (λ u. draft.new ≡ with_all draft.old (Output 1 (name_lem (Wr s)) (result_lem (form shape.now) 1 (Puts s)) ∷ Output (bits_of (stream_kind_lem (form shape.now) s) + 1) (name_lem (Din s)) (result_lem (form shape.now) (bits_of (stream_kind_lem (form shape.now) s) + 1) (Token s)) ∷ [])) }
+    ensures { IfOk result (λ u. draft.new ≡ with_all draft.old
+        (Output 1 (name_lem (Wr s)) (result_lem (form shape.now) 1 (Puts s)) ∷ Output (bits_of (stream_kind_lem (form shape.now) s) + 1) (name_lem (Din s))
+        (result_lem (form shape.now) (bits_of (stream_kind_lem (form shape.now) s) + 1) (Token s)) ∷ [])) }
 {
     let width = shape.token_bits(s);
     let puts = Choice::Puts(s);
@@ -260,7 +262,10 @@ fn add_memory_ports(
     m: u32,
 ) -> Result<(), AllocError>
     requires { AreOperands (form shape.now) operands.now (state_count (form shape.now)) }
-    ensures { IfOk result (λ u. draft.new ≡ with_all draft.old (Output 64 (name_lem (Addr m)) (result_lem (form shape.now) 64 (Asks m)) ∷ Output (bits_of (memory_kind_lem (form shape.now) m)) (name_lem (Wdata m)) (result_lem (form shape.now) (bits_of (memory_kind_lem (form shape.now) m)) (Data m)) ∷ Output 1 (name_lem (We m)) (result_lem (form shape.now) 1 (Saves m)) ∷ [])) }
+    ensures { IfOk result (λ u. draft.new ≡ with_all draft.old
+        (Output 64 (name_lem (Addr m)) (result_lem (form shape.now) 64 (Asks m)) ∷ Output (bits_of (memory_kind_lem (form shape.now) m)) (name_lem (Wdata m))
+        (result_lem (form shape.now) (bits_of (memory_kind_lem (form shape.now) m)) (Data m)) ∷ Output 1 (name_lem (We m))
+        (result_lem (form shape.now) 1 (Saves m)) ∷ [])) }
 {
     let width = shape.memory_kind(m).bits();
     let asks = Choice::Asks(m);

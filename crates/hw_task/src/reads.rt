@@ -50,7 +50,9 @@ fn add_inside(
     array: u32,
     index: &Atom,
 ) -> Result<(), AllocError>
-    ensures { IfOk result (λ u. draft.new ≡ with_all draft.old (Wire 1 (name_lem (ReadInside k p)) (Binary index.now Less (Literal 64 (array_cells_lem (form shape.now) array))) ∷ Wire 1 (name_lem (ReadOn k p)) (Binary (net_lem (At k)) And (net_lem (ReadInside k p))) ∷ [])) }
+    ensures { IfOk result (λ u. draft.new ≡ with_all draft.old
+        (Wire 1 (name_lem (ReadInside k p)) (Binary index.now Less (Literal 64 (array_cells_lem (form shape.now) array))) ∷ Wire 1 (name_lem (ReadOn k p))
+        (Binary (net_lem (At k)) And (net_lem (ReadInside k p))) ∷ [])) }
 {
     let cells = literal(64, u128::from(shape.array_cells(array)));
     let inside = binary(copy(alloc, index)?, BinaryOp::Less, cells);
@@ -188,7 +190,11 @@ fn add_cell(
     a: u32,
     found: &[Entry],
 ) -> Result<(), AllocError>
-    ensures { IfOk result (λ u. draft.new ≡ with_all draft.old (Wire (bits_of (array_kind_lem (form shape.now) a)) (name_lem (Raw p a)) (CellValue (name_lem (Array a)) (choice_lem (front_lem (Spot p a)) (entry_forms found.now))) ∷ Wire (bits_of (array_kind_lem (form shape.now) a)) (name_lem (Answer p a)) (Choose (NetAtom (choice_lem (front_lem (Reads p a)) (entry_forms found.now))) (net_lem (Raw p a)) (Literal (bits_of (array_kind_lem (form shape.now) a)) 0)) ∷ [])) }
+    ensures { IfOk result (λ u. draft.new ≡ with_all draft.old
+        (Wire (bits_of (array_kind_lem (form shape.now) a)) (name_lem (Raw p a))
+        (CellValue (name_lem (Array a)) (choice_lem (front_lem (Spot p a)) (entry_forms found.now))) ∷ Wire (bits_of (array_kind_lem (form shape.now) a))
+        (name_lem (Answer p a)) (Choose (NetAtom (choice_lem (front_lem (Reads p a)) (entry_forms found.now))) (net_lem (Raw p a))
+        (Literal (bits_of (array_kind_lem (form shape.now) a)) 0)) ∷ [])) }
 {
     let width = shape.array_kind(a).bits();
     let cell = Value::Cell {

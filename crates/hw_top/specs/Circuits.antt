@@ -24,4 +24,5 @@ pub record IsCircuitOf (program : Program) (added : List ℕ) (design : DesignTr
   pub memories : (shape_of top).memories ≡ memory_ports program
   pub streams : streams_of top ≡ stream_ports program
   pub carries : (env : Environment) → FitsShape env (shape_of top) → (nets : ℕ → Path → Cycle) → RunsIn design.modules top env nets → CarriesStreams program added env nets
-  pub beside : (env : Environment) → FitsShape env (shape_of top) → (answers : ℕ → ℕ → Bool) (nets : ℕ → Path → Cycle) → RunsBeside design.modules top env answers nets → CarriesBeside program added env answers nets
+  pub beside : (env : Environment) → FitsShape env (shape_of top) → (answers : ℕ → ℕ → Bool) (nets : ℕ → Path → Cycle)
+      → RunsBeside design.modules top env answers nets → CarriesBeside program added env answers nets

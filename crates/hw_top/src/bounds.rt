@@ -9,7 +9,9 @@ ghost use Rattle.vlog_tree.specs.Labels.{scalar as scalar_lem};
 ghost use Rattle.hw_build.specs.Elements.{Wire, with, with_all};
 ghost use Rattle.hw_build.specs.Scope.{each};
 ghost use Rattle.hw_top_lines.specs.Names.{bound_net as bound_net_lem};
-ghost use Rattle.hw_top_lines.specs.Bounds.{scalar_kind as scalar_kind_lem, scalar_name as scalar_name_lem, parameter_kind as parameter_kind_lem, converted_net, kind_before as kind_before_lem, conversions as conversions_lem, conversion_step, bound_nets, bound_elements, bound_by as bound_by_lem, parameters};
+ghost use Rattle.hw_top_lines.specs.Bounds.{scalar_kind as scalar_kind_lem, scalar_name as scalar_name_lem, parameter_kind as parameter_kind_lem, converted_net};
+ghost use Rattle.hw_top_lines.specs.Bounds.{kind_before as kind_before_lem, conversions as conversions_lem, conversion_step, bound_nets, bound_elements};
+ghost use Rattle.hw_top_lines.specs.Bounds.{bound_by as bound_by_lem, parameters};
 
 use crate::names::{bound_net, scalar};
 use hw_build::{Draft, net_value};
@@ -163,7 +165,9 @@ fn add_chain(
     x: u32,
     kinds: &[Kind],
 ) -> Result<(), AllocError>
-    ensures { IfOk result (λ u. draft.new ≡ with_all draft.old (Wire (bits_of (scalar_kind_lem program.now x)) (bound_net_lem i p 0) (Plain (NetAtom (scalar_lem (scalar_name_lem program.now x)))) ∷ each (conversion_step i p (scalar_kind_lem program.now x) kinds.now) (length kinds.now))) }
+    ensures { IfOk result (λ u. draft.new ≡ with_all draft.old
+        (Wire (bits_of (scalar_kind_lem program.now x)) (bound_net_lem i p 0) (Plain (NetAtom (scalar_lem (scalar_name_lem program.now x)))) ∷ each
+        (conversion_step i p (scalar_kind_lem program.now x) kinds.now) (length kinds.now))) }
 {
     add_scalar(alloc, draft, program, i, p, x)?;
     let first = scalar_kind(program, x);

@@ -8,7 +8,8 @@ ghost use Rattle.hw_lines.specs.declared.nets.Net.TheVariants.{Done};
 ghost use Rattle.hw_lines.specs.Nets.{name as name_lem};
 ghost use Rattle.hw_lines.specs.Texts.{is_written as is_written_lem};
 ghost use Rattle.hw_top_lines.specs.Names.{ended_net as ended_net_lem};
-ghost use Rattle.hw_top_lines.specs.Texts.{channel_ends as channel_ends_lem, memory_ends, memory_name as memory_name_lem, named_ends, read_ends, scalar_ends, stream_ends, stream_label as stream_label_lem, task_ends as task_ends_lem, written_ends};
+ghost use Rattle.hw_top_lines.specs.Texts.{channel_ends as channel_ends_lem, memory_ends, memory_name as memory_name_lem, named_ends, read_ends, scalar_ends, stream_ends};
+ghost use Rattle.hw_top_lines.specs.Texts.{stream_label as stream_label_lem, task_ends as task_ends_lem, written_ends};
 
 use crate::bounds::bound_by;
 use crate::names::{ack, addr, din, dout, ended_net, has, rdata, rdy, take, wdata, we, wr};

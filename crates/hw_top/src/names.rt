@@ -2,10 +2,12 @@
 
 ghost use Rattle.std.specs.Prelude.{◌≡◌, ◌++◌, IfOk, codes};
 ghost use Rattle.std.specs.Str.{IsAscii};
-ghost use Rattle.vlog_tree.specs.Labels.{scalar as scalar_lem, m_ack as ack_lem, m_rdata as rdata_lem, m_addr as addr_lem, m_wdata as wdata_lem, m_we as we_lem, s_din as din_lem, s_wr as wr_lem, s_rdy as rdy_lem, done as done_lem};
+ghost use Rattle.vlog_tree.specs.Labels.{scalar as scalar_lem, m_ack as ack_lem, m_rdata as rdata_lem, m_addr as addr_lem, m_wdata as wdata_lem, m_we as we_lem};
+ghost use Rattle.vlog_tree.specs.Labels.{s_din as din_lem, s_wr as wr_lem, s_rdy as rdy_lem, done as done_lem};
 ghost use Rattle.hw_channel_lines.specs.Names.{channel_name as channel_name_lem};
 ghost use Rattle.hw_lines.specs.Texts.{task_name as task_name_lem};
-ghost use Rattle.hw_top_lines.specs.Names.{s_has as has_lem, s_dout as dout_lem, s_take as take_lem, task_instance as task_instance_lem, channel_instance as channel_instance_lem, ended_net as ended_lem, waits as waits_lem, bound_net as bound_lem};
+ghost use Rattle.hw_top_lines.specs.Names.{s_has as has_lem, s_dout as dout_lem, s_take as take_lem, task_instance as task_instance_lem};
+ghost use Rattle.hw_top_lines.specs.Names.{channel_instance as channel_instance_lem, ended_net as ended_lem, waits as waits_lem, bound_net as bound_lem};
 
 use hw_build::{numbered, text};
 use std::alloc::{AllocError, Global};

@@ -7,7 +7,8 @@ ghost use Rattle.hw_build.specs.Scope.{each};
 ghost use Rattle.vlog_tree.specs.Labels.{done as done_lem};
 ghost use Rattle.hw_top_lines.specs.Names.{waits as waits_lem};
 ghost use Rattle.hw_top_lines.specs.Bounds.{parameters};
-ghost use Rattle.hw_top_lines.specs.Texts.{at_instance, doneness, ended_wire, is_detached as is_detached_lem, none_waits as none_waits_lem, still_waits as still_waits_lem, stream_wires, take_wire, waiting, wires};
+ghost use Rattle.hw_top_lines.specs.Texts.{at_instance, doneness, ended_wire, is_detached as is_detached_lem, none_waits as none_waits_lem, still_waits as still_waits_lem};
+ghost use Rattle.hw_top_lines.specs.Texts.{stream_wires, take_wire, waiting, wires};
 
 use crate::bounds::add_parameters;
 use crate::names::{din, done, dout, ended_net, has, rdy, take, waits, wr};

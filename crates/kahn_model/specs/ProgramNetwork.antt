@@ -51,4 +51,5 @@ pub record IsBound (producer consumer : ℕ → ℕ) (i : ℕ) (instance : Insta
 -- what the laws ask of a program
 pub record IsWired (program : Program) : Type 0 where
   pub bound :
-      (first : ℕ → State) (i : ℕ) (instance : Instance) (leaf : Leaf) → slice_get program.instances.items i ≡ Some instance → slice_get program.bodies.items instance.body ≡ Some leaf → IsBound (network_with program first).producer (network_with program first).consumer i instance leaf
+      (first : ℕ → State) (i : ℕ) (instance : Instance) (leaf : Leaf) → slice_get program.instances.items i ≡ Some instance
+      → slice_get program.bodies.items instance.body ≡ Some leaf → IsBound (network_with program first).producer (network_with program first).consumer i instance leaf

@@ -8,7 +8,8 @@ use Rattle.tapa_base.specs.Operators.{applied}
 use Rattle.tapa_syntax.specs.declared.program.Expr.{Expr}
 use Rattle.tapa_syntax.specs.declared.program.Expr.TheVariants.{Lit, Var, Cell', Read, Peek, Eot, Load' as LoadCell, Conv', Apply', Flip', Not', And', Or', Choose'}
 use Rattle.tapa_syntax.specs.declared.program.Stmt.{Stmt, Row_of-Stmt, end_of-Stmt, more_of-Stmt}
-use Rattle.tapa_syntax.specs.declared.program.Stmt.TheVariants.{Set, SetCell, SetCellBy, Store as StoreCell, StoreBy, ReadVar, ReadCell, ReadStore, Write, Open as OpenIt, Close, Discard, Clear, If', Loop', Break, Continue}
+use Rattle.tapa_syntax.specs.declared.program.Stmt.TheVariants.{Set, SetCell, SetCellBy, Store as StoreCell, StoreBy, ReadVar, ReadCell, ReadStore, Write, Open as OpenIt}
+use Rattle.tapa_syntax.specs.declared.program.Stmt.TheVariants.{Close, Discard, Clear, If', Loop', Break, Continue}
 use Rattle.tapa_syntax.specs.LeafKinds.{Kinds}
 use Rattle.kahn_model.specs.Behavior.{Action, Local, Put, Load, Store, Read as ByRead, Peek as ByPeek, TestEot, Open as ByOpen, Behavior, Finished, OutOfTurns, Act, Await}
 
@@ -81,7 +82,9 @@ abbrev mutual
       expr e σ (λ v. expr i σ (λ j. Act Local (go (set_cell σ a j (converted kind (K.arrays a) (applied op kind (converted (K.arrays a) kind (cell σ.arrays a j)) v))))))
   stmt K n (StoreCell m i e) σ go out again = expr e σ (λ v. expr i σ (λ j. Act (Store m j v) (go (store_cell σ m j v))))
   stmt K n (StoreBy m i op kind e) σ go out again =
-      expr e σ (λ v. expr i σ (λ j. Act (Load m j) (Act (Store m j (converted kind (K.memories m) (applied op kind (converted (K.memories m) kind (cell σ.cells m j)) v))) (go (store_cell σ m j (converted kind (K.memories m) (applied op kind (converted (K.memories m) kind (cell σ.cells m j)) v)))))))
+      expr e σ (λ v. expr i σ (λ j. Act (Load m j)
+      (Act (Store m j (converted kind (K.memories m) (applied op kind (converted (K.memories m) kind (cell σ.cells m j)) v)))
+      (go (store_cell σ m j (converted kind (K.memories m) (applied op kind (converted (K.memories m) kind (cell σ.cells m j)) v)))))))
   stmt K n (ReadVar s x) σ go out again = Await s ByRead (λ v. Act Local (go (set_var σ x (converted (K.streams s) (K.vars x) v))))
   stmt K n (ReadCell s a i) σ go out again =
       expr i σ (λ j. Await s ByRead (λ v. Act Local (go (set_cell σ a j (converted (K.streams s) (K.arrays a) v)))))

@@ -5,7 +5,8 @@ ghost use Rattle.kahn_model.specs.Behavior.{Tick, ticks};
 ghost use Rattle.kahn_model.specs.Network.{Network, IsNetwork, stream, round};
 ghost use Rattle.kahn_model.specs.Counts.{IsReachable, IsFounded, IsEnding, IsKahnPrefix, written, ticks_made, next, HasToken, IsSupplied, HasEnded, IsKahnStream, total, round_of};
 ghost use Rattle.kahn_model.specs.Outcome.{WaitsToWrite, WaitsToRead, HasBadToken, IsGreatest, HaveJoinedEnded};
-ghost use Rattle.kahn_model.specs.Ending.{NetworksRunInThreeWays, NetworksRunInOneWay, EndsShowAlike, EndsStay, ShownBegins, ShownIsWhole, IsLeastToEnd, EndsHaveALeast, JoinedNetworksAreToldByTheirEnd};
+ghost use Rattle.kahn_model.specs.Ending.{NetworksRunInThreeWays, NetworksRunInOneWay, EndsShowAlike, EndsStay, ShownBegins, ShownIsWhole, IsLeastToEnd, EndsHaveALeast};
+ghost use Rattle.kahn_model.specs.Ending.{JoinedNetworksAreToldByTheirEnd};
 ghost use Rattle.kahn_model.specs.Standing.{InstancesStandOneWay};
 ghost use Rattle.kahn_model.specs.Timed.{Clock, IsClock, count_at};
 ghost use Rattle.kahn_model.specs.Trace.{State};
@@ -45,7 +46,8 @@ pub fn law_one_end()
 
 /// The next tick of a count is the tick there of any round, if its token is written or it needs none.
 pub fn law_next_in_time()
-    ensures { (net : Network) → IsNetwork net → (k : ℕ → ℕ) → IsFounded net k → (n i : ℕ) (t : Tick) → i < net.size → slice_get (round net n i) (k i) ≡ Some t → HasToken net k t → next net k i ≡ Some t }
+    ensures { (net : Network) → IsNetwork net → (k : ℕ → ℕ) → IsFounded net k → (n i : ℕ) (t : Tick) → i < net.size → slice_get (round net n i) (k i) ≡ Some t
+        → HasToken net k t → next net k i ≡ Some t }
 {}
 
 /// The laws hold for the network of every program whose streams each have their two ends.
@@ -67,15 +69,20 @@ pub fn law_one_meaning()
 /// In the network of a well-formed program on an input that fits it, every token is one of its stream's kind, and what
 /// a task stores is a value of its memory's kind.
 pub fn law_tokens_fit()
-    ensures behaviors { (program : Program) → IsWellFormed program → (scalars : List ℕ) (memories : List (List ℕ)) → FitsInput program scalars memories → (i n : ℕ) → KeepsKinds (stream_kind program) (memory_kind program i) ((network_of program scalars memories).job i n) }
-    ensures rounds { (program : Program) → IsWellFormed program → (scalars : List ℕ) (memories : List (List ℕ)) → FitsInput program scalars memories → (n s : ℕ) → All (IsTokenOf (stream_kind program s)) (stream (network_of program scalars memories) n s) }
-    ensures written { (program : Program) → IsWellFormed program → (scalars : List ℕ) (memories : List (List ℕ)) → FitsInput program scalars memories → (k : ℕ → ℕ) (s : ℕ) → All (IsTokenOf (stream_kind program s)) (written (network_of program scalars memories) k s) }
-    ensures made { (program : Program) → IsWellFormed program → (scalars : List ℕ) (memories : List (List ℕ)) → FitsInput program scalars memories → (k : ℕ → ℕ) (i : ℕ) → All (TickFits (stream_kind program) (memory_kind program i)) (ticks_made (network_of program scalars memories) k i) }
+    ensures behaviors { (program : Program) → IsWellFormed program → (scalars : List ℕ) (memories : List (List ℕ)) → FitsInput program scalars memories → (i n : ℕ)
+        → KeepsKinds (stream_kind program) (memory_kind program i) ((network_of program scalars memories).job i n) }
+    ensures rounds { (program : Program) → IsWellFormed program → (scalars : List ℕ) (memories : List (List ℕ)) → FitsInput program scalars memories → (n s : ℕ)
+        → All (IsTokenOf (stream_kind program s)) (stream (network_of program scalars memories) n s) }
+    ensures written { (program : Program) → IsWellFormed program → (scalars : List ℕ) (memories : List (List ℕ)) → FitsInput program scalars memories → (k : ℕ → ℕ) (s : ℕ)
+        → All (IsTokenOf (stream_kind program s)) (written (network_of program scalars memories) k s) }
+    ensures made { (program : Program) → IsWellFormed program → (scalars : List ℕ) (memories : List (List ℕ)) → FitsInput program scalars memories → (k : ℕ → ℕ) (i : ℕ)
+        → All (TickFits (stream_kind program) (memory_kind program i)) (ticks_made (network_of program scalars memories) k i) }
 {}
 
 /// So the cells of each memory at every count are values of its kind.
 pub fn law_cells_fit()
-    ensures { (program : Program) → IsWellFormed program → (scalars : List ℕ) (memories : List (List ℕ)) → FitsInput program scalars memories → (k : ℕ → ℕ) (m : ℕ) (c : Memory) → slice_get program.memories.items m ≡ Some c → All (λ v. v < values_of c.kind) (cells_at program scalars memories k m) }
+    ensures { (program : Program) → IsWellFormed program → (scalars : List ℕ) (memories : List (List ℕ)) → FitsInput program scalars memories
+        → (k : ℕ → ℕ) (m : ℕ) (c : Memory) → slice_get program.memories.items m ≡ Some c → All (λ v. v < values_of c.kind) (cells_at program scalars memories k m) }
 {}
 
 /// The counts of a clock are counts that streams without limit reach, so what they have written is a prefix of the
@@ -87,20 +94,25 @@ pub fn law_clock_is_founded()
 /// What has ended in a reachable count has ended in the counts of a clock after at most so many cycles. So have all joined
 /// instances after at most so many cycles as the fewest ticks say with which they can end.
 pub fn law_done_in_time()
-    ensures ended { (net : Network) → IsNetwork net → (clock : Clock) (top : ℕ) (ready : ℕ → Bool) (waits : ℕ) → IsClock clock top ready waits → (k : ℕ → ℕ) → IsReachable net k → (n : ℕ) × (1 ≤ n) × (n ≤ 1 + total net.size k * suc top + waits) × ((i : ℕ) → HasEnded net k i → HasEnded net (count_at net clock n) i) }
-    ensures joined { (net : Network) → IsNetwork net → (clock : Clock) (top : ℕ) (ready : ℕ → Bool) (waits : ℕ) → IsClock clock top ready waits → (a : ℕ) → IsLeastToEnd net a → (n : ℕ) × (1 ≤ n) × (n ≤ 1 + a * suc top + waits) × HaveJoinedEnded net (count_at net clock n) }
+    ensures ended { (net : Network) → IsNetwork net → (clock : Clock) (top : ℕ) (ready : ℕ → Bool) (waits : ℕ) → IsClock clock top ready waits → (k : ℕ → ℕ) → IsReachable net k
+        → (n : ℕ) × (1 ≤ n) × (n ≤ 1 + total net.size k * suc top + waits) × ((i : ℕ) → HasEnded net k i → HasEnded net (count_at net clock n) i) }
+    ensures joined { (net : Network) → IsNetwork net → (clock : Clock) (top : ℕ) (ready : ℕ → Bool) (waits : ℕ) → IsClock clock top ready waits → (a : ℕ) → IsLeastToEnd net a
+        → (n : ℕ) × (1 ≤ n) × (n ≤ 1 + a * suc top + waits) × HaveJoinedEnded net (count_at net clock n) }
 {}
 
 /// The next tick of an instance whose token is there is its job's next tick on the tokens that are written so far, and
 /// no other tick is.
 pub fn law_next_is_local()
-    ensures found { (net : Network) → IsNetwork net → (k : ℕ → ℕ) → IsFounded net k → (i : ℕ) (supplied : IsSupplied net k i) → slice_get (ticks (net.job i (round_of net k)) (written net k)) (k i) ≡ Some supplied.tick }
-    ensures only { (net : Network) → IsNetwork net → (k : ℕ → ℕ) → IsFounded net k → (n i : ℕ) (t : Tick) → i < net.size → slice_get (ticks (net.job i n) (written net k)) (k i) ≡ Some t → (next net k i ≡ Some t) × HasToken net k t }
+    ensures found { (net : Network) → IsNetwork net → (k : ℕ → ℕ) → IsFounded net k → (i : ℕ) (supplied : IsSupplied net k i)
+        → slice_get (ticks (net.job i (round_of net k)) (written net k)) (k i) ≡ Some supplied.tick }
+    ensures only { (net : Network) → IsNetwork net → (k : ℕ → ℕ) → IsFounded net k → (n i : ℕ) (t : Tick) → i < net.size
+        → slice_get (ticks (net.job i n) (written net k)) (k i) ≡ Some t → (next net k i ≡ Some t) × HasToken net k t }
 {}
 
 /// An instance that has not ended where no step is allowed waits to write, waits to read or has a bad token.
 pub fn law_waits()
-    ensures { (net : Network) → IsNetwork net → (k : ℕ → ℕ) → IsEnding net k → (i : ℕ) → i < net.size → (HasEnded net k i → ⊥) → ((s : ℕ) × WaitsToWrite net k i s) ⊎ (((s : ℕ) × WaitsToRead net k i s) ⊎ ((s : ℕ) × HasBadToken net k i s)) }
+    ensures { (net : Network) → IsNetwork net → (k : ℕ → ℕ) → IsEnding net k → (i : ℕ) → i < net.size → (HasEnded net k i → ⊥) → ((s : ℕ) × WaitsToWrite net k i s)
+        ⊎ (((s : ℕ) × WaitsToRead net k i s) ⊎ ((s : ℕ) × HasBadToken net k i s)) }
 {}
 
 /// Within a bound on ticks a network ends, or it stops, or neither, and does one of these alone.

@@ -40,7 +40,8 @@ fn instance_ticks(
     lists: &[Vec<Token>],
 ) -> Result<Vec<Tick>, Fault>
     requires { ScalarsFit program.now scalars.now }
-    ensures ticks { IfOk result (λ v. v.items ≡ ticks (instance_job program.now.bodies.items (slice_get program.now.instances.items i) (instance_state program.now scalars.now (rows_of memories.now) (slice_get program.now.instances.items i)) n) (whole lists.now)) }
+    ensures ticks { IfOk result (λ v. v.items ≡ ticks (instance_job program.now.bodies.items (slice_get program.now.instances.items i)
+        (instance_state program.now scalars.now (rows_of memories.now) (slice_get program.now.instances.items i)) n) (whole lists.now)) }
     ensures fault { IsWellFormed program.now → FitsInput program.now scalars.now (rows_of memories.now) → TokensFit program.now lists.now → IsErrOf result Fault.NotOfItsKind → ⊥ }
 {
     match program.instances.get(i as usize) {
@@ -106,7 +107,9 @@ fn next_stream(
     lists: &[Vec<Token>],
 ) -> Result<Vec<Token>, Fault>
     requires { ScalarsFit program.now scalars.now }
-    ensures tokens { IfOk result (λ v. v.items ≡ flat_map (put_on s) (ticks ((network_of program.now scalars.now (rows_of memories.now)).job ((network_of program.now scalars.now (rows_of memories.now)).producer s) n) (whole lists.now))) }
+    ensures tokens { IfOk result (λ v. v.items ≡ flat_map (put_on s)
+        (ticks ((network_of program.now scalars.now (rows_of memories.now)).job ((network_of program.now scalars.now (rows_of memories.now)).producer s) n)
+        (whole lists.now))) }
     ensures fault { IsWellFormed program.now → FitsInput program.now scalars.now (rows_of memories.now) → TokensFit program.now lists.now → IsErrOf result Fault.NotOfItsKind → ⊥ }
 {
     let ticks = instance_ticks(
@@ -139,7 +142,10 @@ fn next_round(
 ) -> Result<Vec<Vec<Token>>, Fault>
     requires { ScalarsFit program.now scalars.now }
     ensures many { IfOk result (λ r. length r.items ≡ length program.now.streams.items) }
-    ensures each { IfOk result (λ r. (s : ℕ) → s < length program.now.streams.items → whole r.items s ≡ flat_map (put_on s) (ticks ((network_of program.now scalars.now (rows_of memories.now)).job ((network_of program.now scalars.now (rows_of memories.now)).producer s) n) (whole lists.now))) }
+    ensures each { IfOk result (λ r. (s : ℕ) → s < length program.now.streams.items
+        → whole r.items s ≡ flat_map (put_on s)
+        (ticks ((network_of program.now scalars.now (rows_of memories.now)).job ((network_of program.now scalars.now (rows_of memories.now)).producer s) n)
+        (whole lists.now))) }
     ensures fault { IsWellFormed program.now → FitsInput program.now scalars.now (rows_of memories.now) → TokensFit program.now lists.now → IsErrOf result Fault.NotOfItsKind → ⊥ }
 {
     let mut next = Vec::new(alloc);

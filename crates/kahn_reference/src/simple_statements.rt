@@ -51,7 +51,8 @@ pub(crate) fn run_set_cell(
 ) -> Result<Flow, Fault>
     requires { length run.old.heads.items ≡ length lists.now }
     ensures heads { IfOk result (λ f. length run.new.heads.items ≡ length lists.now) }
-    ensures flow { IfOk result (λ f. (K : Kinds) (n : ℕ) → GivesFlow (numbers streams.now) f (point lists.now run.old) (stmt K n (SetCell array index.now value.now) (state_of run.old.state)) (point lists.now run.new)) }
+    ensures flow { IfOk result (λ f. (K : Kinds) (n : ℕ) → GivesFlow (numbers streams.now) f (point lists.now run.old)
+        (stmt K n (SetCell array index.now value.now) (state_of run.old.state)) (point lists.now run.new)) }
     ensures fits { IfOk result (λ f. (K : Kinds) → IsTyped K (SetCell array index.now value.now) → StandsFit K streams.now lists.now (state_of run.old.state) → FlowFits K (state_of run.new.state) f) }
     ensures cause { IfErr result (λ fault. (K : Kinds) → IsTyped K (SetCell array index.now value.now) → StandsFit K streams.now lists.now (state_of run.old.state) → fault ≢ NotOfItsKind) }
 {
@@ -78,9 +79,12 @@ pub(crate) fn run_set_cell_by(
 ) -> Result<Flow, Fault>
     requires { length run.old.heads.items ≡ length lists.now }
     ensures heads { IfOk result (λ f. length run.new.heads.items ≡ length lists.now) }
-    ensures flow { IfOk result (λ f. (n : ℕ) → GivesFlow (numbers streams.now) f (point lists.now run.old) (stmt (kinds_of leaf.now) n (SetCellBy array index.now op kind value.now) (state_of run.old.state)) (point lists.now run.new)) }
-    ensures fits { IfOk result (λ f. IsTyped (kinds_of leaf.now) (SetCellBy array index.now op kind value.now) → StandsFit (kinds_of leaf.now) streams.now lists.now (state_of run.old.state) → FlowFits (kinds_of leaf.now) (state_of run.new.state) f) }
-    ensures cause { IfErr result (λ fault. IsTyped (kinds_of leaf.now) (SetCellBy array index.now op kind value.now) → StandsFit (kinds_of leaf.now) streams.now lists.now (state_of run.old.state) → fault ≢ NotOfItsKind) }
+    ensures flow { IfOk result (λ f. (n : ℕ) → GivesFlow (numbers streams.now) f (point lists.now run.old)
+        (stmt (kinds_of leaf.now) n (SetCellBy array index.now op kind value.now) (state_of run.old.state)) (point lists.now run.new)) }
+    ensures fits { IfOk result (λ f. IsTyped (kinds_of leaf.now) (SetCellBy array index.now op kind value.now)
+        → StandsFit (kinds_of leaf.now) streams.now lists.now (state_of run.old.state) → FlowFits (kinds_of leaf.now) (state_of run.new.state) f) }
+    ensures cause { IfErr result (λ fault. IsTyped (kinds_of leaf.now) (SetCellBy array index.now op kind value.now)
+        → StandsFit (kinds_of leaf.now) streams.now lists.now (state_of run.old.state) → fault ≢ NotOfItsKind) }
 {
     match run_pair(lists, streams, run, value, index)? {
         Pair::Stopped(m) => Ok(Flow::Stopped(m)),
@@ -104,8 +108,10 @@ pub(crate) fn run_store(
 ) -> Result<Flow, Fault>
     requires { length run.old.heads.items ≡ length lists.now }
     ensures heads { IfOk result (λ f. length run.new.heads.items ≡ length lists.now) }
-    ensures flow { IfOk result (λ f. (K : Kinds) (n : ℕ) → GivesFlow (numbers streams.now) f (point lists.now run.old) (stmt K n (StoreCell memory index.now value.now) (state_of run.old.state)) (point lists.now run.new)) }
-    ensures fits { IfOk result (λ f. (K : Kinds) → IsTyped K (StoreCell memory index.now value.now) → StandsFit K streams.now lists.now (state_of run.old.state) → FlowFits K (state_of run.new.state) f) }
+    ensures flow { IfOk result (λ f. (K : Kinds) (n : ℕ) → GivesFlow (numbers streams.now) f (point lists.now run.old)
+        (stmt K n (StoreCell memory index.now value.now) (state_of run.old.state)) (point lists.now run.new)) }
+    ensures fits { IfOk result (λ f. (K : Kinds) → IsTyped K (StoreCell memory index.now value.now) → StandsFit K streams.now lists.now (state_of run.old.state)
+        → FlowFits K (state_of run.new.state) f) }
     ensures cause { IfErr result (λ fault. (K : Kinds) → IsTyped K (StoreCell memory index.now value.now) → StandsFit K streams.now lists.now (state_of run.old.state) → fault ≢ NotOfItsKind) }
 {
     match run_pair(lists, streams, run, value, index)? {
@@ -131,9 +137,12 @@ pub(crate) fn run_store_by(
 ) -> Result<Flow, Fault>
     requires { length run.old.heads.items ≡ length lists.now }
     ensures heads { IfOk result (λ f. length run.new.heads.items ≡ length lists.now) }
-    ensures flow { IfOk result (λ f. (n : ℕ) → GivesFlow (numbers streams.now) f (point lists.now run.old) (stmt (kinds_of leaf.now) n (StoreBy memory index.now op kind value.now) (state_of run.old.state)) (point lists.now run.new)) }
-    ensures fits { IfOk result (λ f. IsTyped (kinds_of leaf.now) (StoreBy memory index.now op kind value.now) → StandsFit (kinds_of leaf.now) streams.now lists.now (state_of run.old.state) → FlowFits (kinds_of leaf.now) (state_of run.new.state) f) }
-    ensures cause { IfErr result (λ fault. IsTyped (kinds_of leaf.now) (StoreBy memory index.now op kind value.now) → StandsFit (kinds_of leaf.now) streams.now lists.now (state_of run.old.state) → fault ≢ NotOfItsKind) }
+    ensures flow { IfOk result (λ f. (n : ℕ) → GivesFlow (numbers streams.now) f (point lists.now run.old)
+        (stmt (kinds_of leaf.now) n (StoreBy memory index.now op kind value.now) (state_of run.old.state)) (point lists.now run.new)) }
+    ensures fits { IfOk result (λ f. IsTyped (kinds_of leaf.now) (StoreBy memory index.now op kind value.now)
+        → StandsFit (kinds_of leaf.now) streams.now lists.now (state_of run.old.state) → FlowFits (kinds_of leaf.now) (state_of run.new.state) f) }
+    ensures cause { IfErr result (λ fault. IsTyped (kinds_of leaf.now) (StoreBy memory index.now op kind value.now)
+        → StandsFit (kinds_of leaf.now) streams.now lists.now (state_of run.old.state) → fault ≢ NotOfItsKind) }
 {
     match run_pair(lists, streams, run, value, index)? {
         Pair::Stopped(m) => Ok(Flow::Stopped(m)),
@@ -157,8 +166,10 @@ pub(crate) fn run_read_var(
 ) -> Result<Flow, Fault>
     requires { length run.old.heads.items ≡ length lists.now }
     ensures heads { IfOk result (λ f. length run.new.heads.items ≡ length lists.now) }
-    ensures flow { IfOk result (λ f. (n : ℕ) → GivesFlow (numbers streams.now) f (point lists.now run.old) (stmt (kinds_of leaf.now) n (ReadVar stream var) (state_of run.old.state)) (point lists.now run.new)) }
-    ensures fits { IfOk result (λ f. IsTyped (kinds_of leaf.now) (ReadVar stream var) → StandsFit (kinds_of leaf.now) streams.now lists.now (state_of run.old.state) → FlowFits (kinds_of leaf.now) (state_of run.new.state) f) }
+    ensures flow { IfOk result (λ f. (n : ℕ) → GivesFlow (numbers streams.now) f (point lists.now run.old)
+        (stmt (kinds_of leaf.now) n (ReadVar stream var) (state_of run.old.state)) (point lists.now run.new)) }
+    ensures fits { IfOk result (λ f. IsTyped (kinds_of leaf.now) (ReadVar stream var) → StandsFit (kinds_of leaf.now) streams.now lists.now (state_of run.old.state)
+        → FlowFits (kinds_of leaf.now) (state_of run.new.state) f) }
     ensures cause { IfErr result (λ fault. IsTyped (kinds_of leaf.now) (ReadVar stream var) → StandsFit (kinds_of leaf.now) streams.now lists.now (state_of run.old.state) → fault ≢ NotOfItsKind) }
 {
     match ask_at(lists, streams, run, stream, StreamOperation::Read)? {
@@ -183,9 +194,12 @@ pub(crate) fn run_read_cell(
 ) -> Result<Flow, Fault>
     requires { length run.old.heads.items ≡ length lists.now }
     ensures heads { IfOk result (λ f. length run.new.heads.items ≡ length lists.now) }
-    ensures flow { IfOk result (λ f. (n : ℕ) → GivesFlow (numbers streams.now) f (point lists.now run.old) (stmt (kinds_of leaf.now) n (ReadCell stream array index.now) (state_of run.old.state)) (point lists.now run.new)) }
-    ensures fits { IfOk result (λ f. IsTyped (kinds_of leaf.now) (ReadCell stream array index.now) → StandsFit (kinds_of leaf.now) streams.now lists.now (state_of run.old.state) → FlowFits (kinds_of leaf.now) (state_of run.new.state) f) }
-    ensures cause { IfErr result (λ fault. IsTyped (kinds_of leaf.now) (ReadCell stream array index.now) → StandsFit (kinds_of leaf.now) streams.now lists.now (state_of run.old.state) → fault ≢ NotOfItsKind) }
+    ensures flow { IfOk result (λ f. (n : ℕ) → GivesFlow (numbers streams.now) f (point lists.now run.old)
+        (stmt (kinds_of leaf.now) n (ReadCell stream array index.now) (state_of run.old.state)) (point lists.now run.new)) }
+    ensures fits { IfOk result (λ f. IsTyped (kinds_of leaf.now) (ReadCell stream array index.now) → StandsFit (kinds_of leaf.now) streams.now lists.now (state_of run.old.state)
+        → FlowFits (kinds_of leaf.now) (state_of run.new.state) f) }
+    ensures cause { IfErr result (λ fault. IsTyped (kinds_of leaf.now) (ReadCell stream array index.now)
+        → StandsFit (kinds_of leaf.now) streams.now lists.now (state_of run.old.state) → fault ≢ NotOfItsKind) }
 {
     match run_read(lists, streams, run, index, stream)? {
         Pair::Stopped(m) => Ok(Flow::Stopped(m)),
@@ -209,9 +223,12 @@ pub(crate) fn run_read_store(
 ) -> Result<Flow, Fault>
     requires { length run.old.heads.items ≡ length lists.now }
     ensures heads { IfOk result (λ f. length run.new.heads.items ≡ length lists.now) }
-    ensures flow { IfOk result (λ f. (n : ℕ) → GivesFlow (numbers streams.now) f (point lists.now run.old) (stmt (kinds_of leaf.now) n (ReadStore stream memory index.now) (state_of run.old.state)) (point lists.now run.new)) }
-    ensures fits { IfOk result (λ f. IsTyped (kinds_of leaf.now) (ReadStore stream memory index.now) → StandsFit (kinds_of leaf.now) streams.now lists.now (state_of run.old.state) → FlowFits (kinds_of leaf.now) (state_of run.new.state) f) }
-    ensures cause { IfErr result (λ fault. IsTyped (kinds_of leaf.now) (ReadStore stream memory index.now) → StandsFit (kinds_of leaf.now) streams.now lists.now (state_of run.old.state) → fault ≢ NotOfItsKind) }
+    ensures flow { IfOk result (λ f. (n : ℕ) → GivesFlow (numbers streams.now) f (point lists.now run.old)
+        (stmt (kinds_of leaf.now) n (ReadStore stream memory index.now) (state_of run.old.state)) (point lists.now run.new)) }
+    ensures fits { IfOk result (λ f. IsTyped (kinds_of leaf.now) (ReadStore stream memory index.now) → StandsFit (kinds_of leaf.now) streams.now lists.now (state_of run.old.state)
+        → FlowFits (kinds_of leaf.now) (state_of run.new.state) f) }
+    ensures cause { IfErr result (λ fault. IsTyped (kinds_of leaf.now) (ReadStore stream memory index.now)
+        → StandsFit (kinds_of leaf.now) streams.now lists.now (state_of run.old.state) → fault ≢ NotOfItsKind) }
 {
     match run_read(lists, streams, run, index, stream)? {
         Pair::Stopped(m) => Ok(Flow::Stopped(m)),

@@ -179,9 +179,11 @@ pub(crate) fn run_pair(
     requires { length run.old.heads.items ≡ length lists.now }
     ensures heads { IfOk result (λ v. length run.new.heads.items ≡ length lists.now) }
     ensures state { IfOk result (λ v. run.new.state ≡ run.old.state) }
-    ensures value { IfOk result (λ v. GivesPair (numbers streams.now) v (point lists.now run.old) (λ go. expr first.now (state_of run.old.state) (λ a. expr second.now (state_of run.old.state) (go a))) (point lists.now run.new)) }
+    ensures value { IfOk result (λ v. GivesPair (numbers streams.now) v (point lists.now run.old)
+        (λ go. expr first.now (state_of run.old.state) (λ a. expr second.now (state_of run.old.state) (go a))) (point lists.now run.new)) }
     ensures fits { IfOk result (λ v. (K : Kinds) (j k : Kind) → HasKind K first.now j → HasKind K second.now k → StandsFit K streams.now lists.now (state_of run.old.state) → IsPairOf j k v) }
-    ensures cause { IfErr result (λ fault. (K : Kinds) (j k : Kind) → HasKind K first.now j → HasKind K second.now k → StandsFit K streams.now lists.now (state_of run.old.state) → fault ≢ NotOfItsKind) }
+    ensures cause { IfErr result (λ fault. (K : Kinds) (j k : Kind) → HasKind K first.now j → HasKind K second.now k → StandsFit K streams.now lists.now (state_of run.old.state)
+        → fault ≢ NotOfItsKind) }
 {
     match run_expr(lists, streams, run, first)? {
         Value::Stopped(m) => Ok(Pair::Stopped(m)),
@@ -203,7 +205,8 @@ pub(crate) fn run_read(
     requires { length run.old.heads.items ≡ length lists.now }
     ensures heads { IfOk result (λ v. length run.new.heads.items ≡ length lists.now) }
     ensures state { IfOk result (λ v. run.new.state ≡ run.old.state) }
-    ensures value { IfOk result (λ v. GivesPair (numbers streams.now) v (point lists.now run.old) (λ go. expr index.now (state_of run.old.state) (λ a. Await p ByRead (go a))) (point lists.now run.new)) }
+    ensures value { IfOk result (λ v. GivesPair (numbers streams.now) v (point lists.now run.old) (λ go. expr index.now (state_of run.old.state) (λ a. Await p ByRead (go a)))
+        (point lists.now run.new)) }
     ensures fits { IfOk result (λ v. (K : Kinds) (j : Kind) → HasKind K index.now j → StandsFit K streams.now lists.now (state_of run.old.state) → IsPairOf j (K.streams p) v) }
     ensures cause { IfErr result (λ fault. (K : Kinds) (j : Kind) → HasKind K index.now j → StandsFit K streams.now lists.now (state_of run.old.state) → fault ≢ NotOfItsKind) }
 {
@@ -229,7 +232,8 @@ fn run_stmt(
     requires { length run.old.heads.items ≡ length lists.now }
     ensures heads { IfOk result (λ f. length run.new.heads.items ≡ length lists.now) }
     ensures flow { IfOk result (λ f. GivesFlow (numbers streams.now) f (point lists.now run.old) (stmt (kinds_of leaf.now) n s.now (state_of run.old.state)) (point lists.now run.new)) }
-    ensures fits { IfOk result (λ f. IsTyped (kinds_of leaf.now) s.now → StandsFit (kinds_of leaf.now) streams.now lists.now (state_of run.old.state) → FlowFits (kinds_of leaf.now) (state_of run.new.state) f) }
+    ensures fits { IfOk result (λ f. IsTyped (kinds_of leaf.now) s.now → StandsFit (kinds_of leaf.now) streams.now lists.now (state_of run.old.state)
+        → FlowFits (kinds_of leaf.now) (state_of run.new.state) f) }
     ensures cause { IfErr result (λ fault. IsTyped (kinds_of leaf.now) s.now → StandsFit (kinds_of leaf.now) streams.now lists.now (state_of run.old.state) → fault ≢ NotOfItsKind) }
 {
     match s {
@@ -313,7 +317,8 @@ fn run_block(
     requires { length run.old.heads.items ≡ length lists.now }
     ensures heads { IfOk result (λ f. length run.new.heads.items ≡ length lists.now) }
     ensures flow { IfOk result (λ f. GivesFlow (numbers streams.now) f (point lists.now run.old) (statements (kinds_of leaf.now) n code.now (state_of run.old.state)) (point lists.now run.new)) }
-    ensures fits { IfOk result (λ f. IsTypedCode (kinds_of leaf.now) code.now → StandsFit (kinds_of leaf.now) streams.now lists.now (state_of run.old.state) → FlowFits (kinds_of leaf.now) (state_of run.new.state) f) }
+    ensures fits { IfOk result (λ f. IsTypedCode (kinds_of leaf.now) code.now → StandsFit (kinds_of leaf.now) streams.now lists.now (state_of run.old.state)
+        → FlowFits (kinds_of leaf.now) (state_of run.new.state) f) }
     ensures cause { IfErr result (λ fault. IsTypedCode (kinds_of leaf.now) code.now → StandsFit (kinds_of leaf.now) streams.now lists.now (state_of run.old.state) → fault ≢ NotOfItsKind) }
 {
     for s in code {
@@ -338,7 +343,8 @@ fn run_turn(
     requires { length run.old.heads.items ≡ length lists.now }
     ensures heads { IfOk result (λ f. length run.new.heads.items ≡ length lists.now) }
     ensures turn { IfOk result (λ f. GivesTurn (numbers streams.now) f (point lists.now run.old) (turn_of (kinds_of leaf.now) n s.now (state_of run.old.state)) (point lists.now run.new)) }
-    ensures fits { IfOk result (λ f. IsTyped (kinds_of leaf.now) s.now → StandsFit (kinds_of leaf.now) streams.now lists.now (state_of run.old.state) → TurnFits (kinds_of leaf.now) (state_of run.new.state) f) }
+    ensures fits { IfOk result (λ f. IsTyped (kinds_of leaf.now) s.now → StandsFit (kinds_of leaf.now) streams.now lists.now (state_of run.old.state)
+        → TurnFits (kinds_of leaf.now) (state_of run.new.state) f) }
     ensures cause { IfErr result (λ fault. IsTyped (kinds_of leaf.now) s.now → StandsFit (kinds_of leaf.now) streams.now lists.now (state_of run.old.state) → fault ≢ NotOfItsKind) }
 {
     match s {
@@ -386,7 +392,8 @@ fn run_loop(
     requires { length run.old.heads.items ≡ length lists.now }
     ensures heads { IfOk result (λ f. length run.new.heads.items ≡ length lists.now) }
     ensures flow { IfOk result (λ f. GivesFlow (numbers streams.now) f (point lists.now run.old) (loop_of (kinds_of leaf.now) n n s.now (state_of run.old.state)) (point lists.now run.new)) }
-    ensures fits { IfOk result (λ f. IsTyped (kinds_of leaf.now) s.now → StandsFit (kinds_of leaf.now) streams.now lists.now (state_of run.old.state) → FlowFits (kinds_of leaf.now) (state_of run.new.state) f) }
+    ensures fits { IfOk result (λ f. IsTyped (kinds_of leaf.now) s.now → StandsFit (kinds_of leaf.now) streams.now lists.now (state_of run.old.state)
+        → FlowFits (kinds_of leaf.now) (state_of run.new.state) f) }
     ensures cause { IfErr result (λ fault. IsTyped (kinds_of leaf.now) s.now → StandsFit (kinds_of leaf.now) streams.now lists.now (state_of run.old.state) → fault ≢ NotOfItsKind) }
 {
     for _turn in 0..n {

@@ -10,4 +10,11 @@ amount_in name json = number_or 0 0 past_amounts (get name json)
 
 -- 0 of a resource that is not named
 abbrev pub amounts_of : Json → Use
-amounts_of json = record { lut = amount_in (codes "LUT") json; ff = amount_in (codes "FF") json; bram = amount_in (codes "BRAM") json; dsp = amount_in (codes "DSP") json; uram = amount_in (codes "URAM") json }
+amounts_of json = record {
+  lut = amount_in (codes "LUT") json;
+  ff = amount_in (codes "FF") json;
+  bram = amount_in (codes "BRAM") json;
+  dsp = amount_in
+      (codes "DSP") json;
+  uram = amount_in (codes "URAM") json;
+}

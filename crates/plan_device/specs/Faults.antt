@@ -28,7 +28,8 @@ told_in Name group name = name
 abbrev pub faulty_in : Check → Group → Names → Json → List (List ℕ)
 faulty_in check group names file =
     filter (λ name. not (is_absent_or (member_passes check group true) (get_member name (members_at (get (group_name group) file))))) (names_in group names)
-    ++ map (λ (m : List ℕ × Json). m.0) (filter (λ (m : List ℕ × Json). not (is_among (names_in group names) m.0) && not (member_passes check group false m.1)) (entries_of (members_at (get (group_name group) file))))
+    ++ map (λ (m : List ℕ × Json). m.0) (filter (λ (m : List ℕ × Json). not (is_among (names_in group names) m.0) && not (member_passes check group false m.1))
+    (entries_of (members_at (get (group_name group) file))))
 
 abbrev pub faulty_members : Check → Option Group → Names → Json → List (List ℕ)
 faulty_members check None names file = []

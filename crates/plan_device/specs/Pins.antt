@@ -1,5 +1,6 @@
 -- The pins of instances, and the slots that are left empty.
-use Rattle.std.specs.Prelude.{◌≡◌, ℕ, zero, suc, ◌==◌, List, [], ◌∷◌, ◌++◌, map, filter, length, codes, Bool, false, not, ◌&&◌, Option, Some, None, option_and_then, slice_get, slice_index, get_or, ◌<◌}
+use Rattle.std.specs.Prelude.{◌≡◌, ℕ, zero, suc, ◌==◌, List, [], ◌∷◌, ◌++◌, map, filter, length, codes, Bool, false, not, ◌&&◌, Option, Some, None, option_and_then}
+use Rattle.std.specs.Prelude.{slice_get, slice_index, get_or, ◌<◌}
 use Rattle.std.specs.List.{list_any}
 use Rattle.std.specs.Option.{option_map_or}
 use Rattle.serde_json.specs.Data.{Data as Json}

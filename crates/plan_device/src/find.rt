@@ -59,7 +59,9 @@ fn find_unknown_member<'v>(
 ) -> Option<&'v [u8]>
     requires { spec.IsSmall check }
     ensures { option_map (λ key. key.now) result
-        ≡ option_map (λ (m : List ℕ × Json). m.0) (first (filter (λ (m : List ℕ × Json). not (has_name table.now m.0) && not (spec.member_passes check group false m.1)) (entries_of (members_view members.now.entries)))) }
+        ≡ option_map (λ (m : List ℕ × Json). m.0)
+        (first (filter (λ (m : List ℕ × Json). not (has_name table.now m.0) && not (spec.member_passes check group false m.1))
+        (entries_of (members_view members.now.entries)))) }
 {
     for (key, value) in members.iter() {
         if !member_passes(check, group, false, value) && !table.contains_key(key.as_str()) {
@@ -78,7 +80,9 @@ fn find_unknown<'v>(
 ) -> Option<&'v [u8]>
     requires { spec.IsSmall check }
     ensures { option_map (λ key. key.now) result
-        ≡ option_map (λ (m : List ℕ × Json). m.0) (first (filter (λ (m : List ℕ × Json). not (has_name table.now m.0) && not (spec.member_passes check group false m.1)) (entries_of (members_at (seen found.entry))))) }
+        ≡ option_map (λ (m : List ℕ × Json). m.0)
+        (first (filter (λ (m : List ℕ × Json). not (has_name table.now m.0) && not (spec.member_passes check group false m.1))
+        (entries_of (members_at (seen found.entry))))) }
 {
     let Some(value) = found else {
         return None;

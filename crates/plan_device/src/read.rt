@@ -98,7 +98,8 @@ fn check_forbidden(
     ensures groups { IfOk result (λ placed. placed.groups.items ≡ groups.items) }
     ensures slots { IfOk result (λ placed. length placed.forbidden.items ≡ (grid_of (view file.now)).rows * (grid_of (view file.now)).cols) }
     ensures forbidden { IfOk result (λ placed. (s : ℕ) → s < length placed.forbidden.items → get_or placed.forbidden.items s false ≡ is_forbidden (grid_of (view file.now)) (view file.now) s) }
-    ensures cause { IfErr result (λ fault. (graph : Graph) → AreKeysRight program.now (view file.now) → None ≡ first (elsewhere (grid_of (view file.now)) program.now graph (view file.now)) → IsFirstOf program.now graph (view file.now) fault) }
+    ensures cause { IfErr result (λ fault. (graph : Graph) → AreKeysRight program.now (view file.now)
+        → None ≡ first (elsewhere (grid_of (view file.now)) program.now graph (view file.now)) → IsFirstOf program.now graph (view file.now) fault) }
 {
     let grid = grid_of(file);
     let forbidden = forbidden(alloc, grid, file)?;

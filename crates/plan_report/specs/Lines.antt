@@ -45,7 +45,9 @@ slot_line cols used s = use_line (s / cols) (s % cols) (slice_index_or used s no
 -- `task LABEL: ROW COLUMN`: the slot of an instance of a task
 abbrev pub task_line : Graph → ℕ → List ℕ → ℕ → List ℕ
 task_line g cols slots i =
-    codes "task " ++ (unwrap_or (slice_get g.labels.items i) [] ++ (codes ": " ++ (decimal (slice_index slots (slice_index g.group.items i) / cols) ++ (codes " " ++ (decimal (slice_index slots (slice_index g.group.items i) % cols) ++ codes "\n")))))
+    codes "task " ++ (unwrap_or (slice_get g.labels.items i) [] ++
+    (codes ": " ++ (decimal (slice_index slots (slice_index g.group.items i) / cols) ++
+    (codes " " ++ (decimal (slice_index slots (slice_index g.group.items i) % cols) ++ codes "\n")))))
 
 -- `stream LABEL: width W latency L balance B flow F`: its bits, the registers of its border latency, those that balance it, and
 -- its part of the flow that shows the balance to be best

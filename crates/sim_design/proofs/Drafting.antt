@@ -17,7 +17,7 @@ use Rattle.sim_design.specs.States.{AreMemories as OnlyMemories, MemoriesPlaced,
 use Rattle.sim_design.specs.Given.{IsGivenPair, ArePlaced, AreGiven}
 use Rattle.sim_design.proofs.Giving.{slot_given_on}
 use Rattle.sim_design.specs.declared.drafts.Width.{Width}
-use Rattle.sim_design.specs.declared.drafts.Draft.{Draft}
+use Rattle.sim_design.specs.declared.drafts.TapeDraft.{TapeDraft}
 use Rattle.sim_design.specs.Drafts.{AreMemories, AreNext, IsDraft}
 use Rattle.sim_design.specs.Below.{HasPlaces}
 
@@ -54,7 +54,7 @@ is_plan ms top p numbers widths flat modules outside same own = record {
 }
 
 -- a draft over the places that its nets have had before
-pub draft_from : (ms : List ModuleTree) (top : ModuleTree) (f : Flat) (old new : Draft) → HasPlaces ms top f old.pairs.items old.memories.items old.cells.items (tree_of old.tape) → Tells ms top f old.pairs.items old.memories.items (tree_of old.tape)
+pub draft_from : (ms : List ModuleTree) (top : ModuleTree) (f : Flat) (old new : TapeDraft) → HasPlaces ms top f old.pairs.items old.memories.items old.cells.items (tree_of old.tape) → Tells ms top f old.pairs.items old.memories.items (tree_of old.tape)
     → Extends (tree_of old.tape) (tree_of new.tape) → new.pairs.items ≡ old.pairs.items → new.memories.items ≡ old.memories.items → new.cells.items ≡ old.cells.items
     → AreNext ms top f old.pairs.items old.memories.items (tree_of new.tape) new.commits.items new.stores.items → IsDraft ms top f new
 draft_from ms top f old new places tells g i j k next =

@@ -30,7 +30,8 @@ pub record HasPlaces (ms : List ModuleTree) (top : ModuleTree) (f : Flat) (pairs
 -- a pair has what a register has in the next cycle, wherever a tape is solved and shows all nets of a cycle
 abbrev pub IsNextOf : List ModuleTree → ModuleTree → Flat → List (Option Pair) → TapeTree → FlatNet → ModuleTree → Pair → Type 0
 IsNextOf ms top f pairs t n m q =
-    (cells : Cells) (ns : List ℕ) (c : Path → Cycle) (s : Sizes) → IsSolved t cells ns → IsValuation ms top c → ShowsPlaced ms f pairs c ns → IsLawful m s (c n.0) → (run_items s (c n.0) m.items (c n.0)).net n.1 ≡ pair_value ns q
+    (cells : Cells) (ns : List ℕ) (c : Path → Cycle) (s : Sizes) → IsSolved t cells ns → IsValuation ms top c → ShowsPlaced ms f pairs c ns → IsLawful m s (c n.0)
+    → (run_items s (c n.0) m.items (c n.0)).net n.1 ≡ pair_value ns q
 
 -- stores leave what the cells of a memory, which has so many, have in the next cycle
 abbrev pub AreCellsOf : List ModuleTree → ModuleTree → Flat → List (Option Pair) → TapeTree → FlatNet → ModuleTree → ℕ → Pair → List Store → Type 0
@@ -66,9 +67,11 @@ AreOnce (a ∷ commits) = ((b : Commit) → Has commits b → a.slot ≢ b.slot)
 
 -- what registers and memories of the first instances have in the next cycle
 pub record AreNextBelow (ms : List ModuleTree) (top : ModuleTree) (f : Flat) (pairs memories : List (Option Pair)) (t : TapeTree) (commits : List Commit) (stores : List Store) (k : ℕ) : Type 0 where
-  pub registers : (number : ℕ) (n : FlatNet) (m : ModuleTree) (w : ℕ) (p : Pair) (h : HasNumber ms f number n) → h.instance < k → module_at ms top n.0 ≡ Some m → Has m.items (Reg w n.1) → get_or pairs number None ≡ Some p
+  pub registers : (number : ℕ) (n : FlatNet) (m : ModuleTree) (w : ℕ) (p : Pair) (h : HasNumber ms f number n) → h.instance < k → module_at ms top n.0 ≡ Some m
+      → Has m.items (Reg w n.1) → get_or pairs number None ≡ Some p
       → (q : Pair) × IsCommitted commits p q × IsNextOf ms top f pairs t n m q
-  pub cells : (number : ℕ) (n : FlatNet) (m : ModuleTree) (w count : ℕ) (q : Pair) (h : HasNumber ms f number n) → h.instance < k → module_at ms top n.0 ≡ Some m → Has m.items (Memory w n.1 count) → get_or memories number None ≡ Some q
+  pub cells : (number : ℕ) (n : FlatNet) (m : ModuleTree) (w count : ℕ) (q : Pair) (h : HasNumber ms f number n) → h.instance < k → module_at ms top n.0 ≡ Some m
+      → Has m.items (Memory w n.1 count) → get_or memories number None ≡ Some q
       → AreCellsOf ms top f pairs t n m count q stores
   pub slots : (a : Commit) → Has commits a → (number : ℕ) × IsRegisterSlot ms top f pairs k number a.slot
   pub once : AreOnce commits

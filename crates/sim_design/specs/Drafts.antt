@@ -19,7 +19,7 @@ use Rattle.sim_flat.specs.declared.flat.Flat.{Flat}
 use Rattle.sim_flat.specs.Flat.{IsFlat, HasNumber}
 use Rattle.sim_design.specs.declared.drafts.Commit.{Commit}
 use Rattle.sim_design.specs.declared.drafts.Width.{Width}
-use Rattle.sim_design.specs.declared.drafts.Draft.{Draft}
+use Rattle.sim_design.specs.declared.drafts.TapeDraft.{TapeDraft}
 use Rattle.sim_design.specs.Valuations.{IsLawful, IsValuation}
 use Rattle.sim_design.specs.States.{ShowsPlaced, Tells}
 use Rattle.sim_design.specs.Given.{ArePlaced, AreGiven}
@@ -30,7 +30,8 @@ pub record AreMemories (ms : List ModuleTree) (top : ModuleTree) (f : Flat) (mem
   pub all : (number : ℕ) (n : FlatNet) (m : ModuleTree) (w k : ℕ) → HasNumber ms f number n → module_at ms top n.0 ≡ Some m → Has m.items (Memory w n.1 k)
       → (i : ℕ) × (slice_get widths i ≡ Some (record { pair = record { low = length (shape_of top).memories + 2 * i; high = length (shape_of top).memories + 2 * i + 1 }; bits = w; cells = k }))
       × (get_or memories number None ≡ Some (record { low = length (shape_of top).memories + 2 * i; high = length (shape_of top).memories + 2 * i + 1 }))
-  pub only : (number : ℕ) (n : FlatNet) (m : ModuleTree) (q : Pair) → HasNumber ms f number n → module_at ms top n.0 ≡ Some m → get_or memories number None ≡ Some q → net_kind_of (declared m) n.1 ≡ MemoryArray
+  pub only : (number : ℕ) (n : FlatNet) (m : ModuleTree) (q : Pair) → HasNumber ms f number n → module_at ms top n.0 ≡ Some m → get_or memories number None ≡ Some q
+      → net_kind_of (declared m) n.1 ≡ MemoryArray
   pub own : (number other : ℕ) (p q : Pair) → get_or memories number None ≡ Some p → get_or memories other None ≡ Some q → p.low ≡ q.low → number ≡ other
 
 -- commits bring the numbers of one pair into another
@@ -55,8 +56,10 @@ pub record IsSlotOf (ms : List ModuleTree) (top : ModuleTree) (f : Flat) (pairs 
 pub record AreNext (ms : List ModuleTree) (top : ModuleTree) (f : Flat) (pairs memories : List (Option Pair)) (t : TapeTree) (commits : List Commit) (stores : List Store) : Type 0 where
   pub registers : (number : ℕ) (n : FlatNet) (m : ModuleTree) (w : ℕ) (p : Pair) → HasNumber ms f number n → module_at ms top n.0 ≡ Some m → Has m.items (Reg w n.1) → get_or pairs number None ≡ Some p
       → (q : Pair) × IsCommitted commits p q
-      × ((cells : Cells) (ns : List ℕ) (c : Path → Cycle) (s : Sizes) → IsSolved t cells ns → IsValuation ms top c → ShowsPlaced ms f pairs c ns → IsLawful m s (c n.0) → (run_items s (c n.0) m.items (c n.0)).net n.1 ≡ pair_value ns q)
-  pub cells : (number : ℕ) (n : FlatNet) (m : ModuleTree) (w k : ℕ) (q : Pair) → HasNumber ms f number n → module_at ms top n.0 ≡ Some m → Has m.items (Memory w n.1 k) → get_or memories number None ≡ Some q
+      × ((cells : Cells) (ns : List ℕ) (c : Path → Cycle) (s : Sizes) → IsSolved t cells ns → IsValuation ms top c → ShowsPlaced ms f pairs c ns
+      → IsLawful m s (c n.0) → (run_items s (c n.0) m.items (c n.0)).net n.1 ≡ pair_value ns q)
+  pub cells : (number : ℕ) (n : FlatNet) (m : ModuleTree) (w k : ℕ) (q : Pair) → HasNumber ms f number n → module_at ms top n.0 ≡ Some m
+      → Has m.items (Memory w n.1 k) → get_or memories number None ≡ Some q
       → (cells : Cells) (ns : List ℕ) (c : Path → Cycle) (s : Sizes) → IsSolved t cells ns → IsValuation ms top c → ShowsPlaced ms f pairs c ns → IsLawful m s (c n.0)
       → (a : ℕ) → (run_items s (c n.0) m.items (c n.0)).cell n.1 a ≡ cell_after ns k q a stores ((c n.0).cell n.1 a)
   -- only registers take over numbers, each slot at most once
@@ -66,7 +69,7 @@ pub record AreNext (ms : List ModuleTree) (top : ModuleTree) (f : Flat) (pairs m
   pub known : (u : Store) → Has stores u → (number : ℕ) × (get_or memories number None ≡ Some u.memory)
 
 -- a design on a tape
-pub record IsDraft (ms : List ModuleTree) (top : ModuleTree) (f : Flat) (d : Draft) : Type 0 where
+pub record IsDraft (ms : List ModuleTree) (top : ModuleTree) (f : Flat) (d : TapeDraft) : Type 0 where
   pub flat : IsFlat ms top f
   pub tape : IsTape (tree_of d.tape)
   pub placed : ArePlaced ms top f d.pairs.items

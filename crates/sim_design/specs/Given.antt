@@ -17,8 +17,10 @@ use Rattle.sim_design.specs.States.{IsFree}
 -- just the nets that can be read, but the clocks, have pairs of slots
 pub record ArePlaced (ms : List ModuleTree) (top : ModuleTree) (f : Flat) (pairs : List (Option Pair)) : Type 0 where
   pub count : length pairs ≡ length f.owners.items
-  pub all : (number : ℕ) (n : FlatNet) (m : ModuleTree) → HasNumber ms f number n → module_at ms top n.0 ≡ Some m → IsTrue (net_kind_is_read (net_kind_of (declared m) n.1)) → is_clk n.1 ≡ false → IsSome (get_or pairs number None)
-  pub only : (number : ℕ) (n : FlatNet) (m : ModuleTree) (p : Pair) → HasNumber ms f number n → module_at ms top n.0 ≡ Some m → get_or pairs number None ≡ Some p → IsTrue (net_kind_is_read (net_kind_of (declared m) n.1)) × (is_clk n.1 ≡ false)
+  pub all : (number : ℕ) (n : FlatNet) (m : ModuleTree) → HasNumber ms f number n → module_at ms top n.0 ≡ Some m
+      → IsTrue (net_kind_is_read (net_kind_of (declared m) n.1)) → is_clk n.1 ≡ false → IsSome (get_or pairs number None)
+  pub only : (number : ℕ) (n : FlatNet) (m : ModuleTree) (p : Pair) → HasNumber ms f number n → module_at ms top n.0 ≡ Some m → get_or pairs number None ≡ Some p
+      → IsTrue (net_kind_is_read (net_kind_of (declared m) n.1)) × (is_clk n.1 ≡ false)
 
 -- a slot that is given from outside
 abbrev pub IsGivenSlot : TapeTree → ℕ → Type 0
@@ -43,7 +45,8 @@ pub record HaveOwn (pairs : List (Option Pair)) : Type 0 where
 
 -- registers and inputs of the top have slots of their own, which are given from outside
 pub record AreGiven (ms : List ModuleTree) (top : ModuleTree) (f : Flat) (pairs : List (Option Pair)) (t : TapeTree) : Type 0 where
-  pub given : (number : ℕ) (n : FlatNet) (m : ModuleTree) (p : Pair) → HasNumber ms f number n → module_at ms top n.0 ≡ Some m → IsFree ms top n → get_or pairs number None ≡ Some p → IsGivenPair t (bits_of (declared m) n.1) p
+  pub given : (number : ℕ) (n : FlatNet) (m : ModuleTree) (p : Pair) → HasNumber ms f number n → module_at ms top n.0 ≡ Some m → IsFree ms top n
+      → get_or pairs number None ≡ Some p → IsGivenPair t (bits_of (declared m) n.1) p
   pub own : (number other : ℕ) (n k : FlatNet) (p q : Pair) → HasNumber ms f number n → HasNumber ms f other k → IsFree ms top n → IsFree ms top k → number ≢ other
       → get_or pairs number None ≡ Some p → get_or pairs other None ≡ Some q → HaveOwnSlots p q
 

@@ -35,7 +35,8 @@ CellsAre c x count cells q = (a : ℕ) → (if nat_lt a count then c.cell x a el
 -- The cells of the memories inside have their numbers in a cycle. Outside stand the memories of the top by their places in its
 -- shape, each answering with the cell that it is asked for.
 pub record ShowsCells (ms : List ModuleTree) (top : ModuleTree) (f : Flat) (memories : List (Option Pair)) (c : Path → Cycle) (cells : Cells) : Type 0 where
-  pub inside : (number : ℕ) (n : FlatNet) (q : Pair) (m : ModuleTree) (w k : ℕ) → HasNumber ms f number n → module_at ms top n.0 ≡ Some m → Has m.items (Memory w n.1 k) → get_or memories number None ≡ Some q → CellsAre (c n.0) n.1 k cells q
+  pub inside : (number : ℕ) (n : FlatNet) (q : Pair) (m : ModuleTree) (w k : ℕ) → HasNumber ms f number n → module_at ms top n.0 ≡ Some m
+      → Has m.items (Memory w n.1 k) → get_or memories number None ≡ Some q → CellsAre (c n.0) n.1 k cells q
   pub outside : (i : ℕ) (l : Port) → slice_get (shape_of top).memories i ≡ Some l → (c []).net (m_rdata l.name) ≡ cell_in cells i ((c []).net (m_addr l.name))
 
 -- registers and inputs of the top have their numbers in a cycle
@@ -51,18 +52,21 @@ Tells ms top f pairs memories t =
 -- only nets that can be read have pairs, and no clock
 abbrev pub AreRead : List ModuleTree → ModuleTree → Flat → List (Option Pair) → Type 0
 AreRead ms top f pairs =
-    (number : ℕ) (n : FlatNet) (m : ModuleTree) (p : Pair) → HasNumber ms f number n → module_at ms top n.0 ≡ Some m → get_or pairs number None ≡ Some p → IsTrue (net_kind_is_read (net_kind_of (declared m) n.1)) × (is_clk n.1 ≡ false)
+    (number : ℕ) (n : FlatNet) (m : ModuleTree) (p : Pair) → HasNumber ms f number n → module_at ms top n.0 ≡ Some m → get_or pairs number None ≡ Some p
+    → IsTrue (net_kind_is_read (net_kind_of (declared m) n.1)) × (is_clk n.1 ≡ false)
 
 -- only memories have numbers of lists of cells
 abbrev pub AreMemories : List ModuleTree → ModuleTree → Flat → List (Option Pair) → Type 0
 AreMemories ms top f memories =
-    (number : ℕ) (n : FlatNet) (m : ModuleTree) (q : Pair) → HasNumber ms f number n → module_at ms top n.0 ≡ Some m → get_or memories number None ≡ Some q → net_kind_of (declared m) n.1 ≡ kind.MemoryArray
+    (number : ℕ) (n : FlatNet) (m : ModuleTree) (q : Pair) → HasNumber ms f number n → module_at ms top n.0 ≡ Some m → get_or memories number None ≡ Some q
+    → net_kind_of (declared m) n.1 ≡ kind.MemoryArray
 
 -- a pair has the number of a net in a cycle, wherever a tape is solved and shows the memories of the cycle and the nets that
 -- have pairs already
 abbrev pub IsTold : List ModuleTree → ModuleTree → Flat → List (Option Pair) → List (Option Pair) → TapeTree → FlatNet → Pair → Type 0
 IsTold ms top f memories pairs t n p =
-    (cells : Cells) (ns : List ℕ) (c : Path → Cycle) → IsSolved t cells ns → IsValuation ms top c → ShowsCells ms top f memories c cells → ShowsPlaced ms f pairs c ns → (c n.0).net n.1 ≡ pair_value ns p
+    (cells : Cells) (ns : List ℕ) (c : Path → Cycle) → IsSolved t cells ns → IsValuation ms top c → ShowsCells ms top f memories c cells
+    → ShowsPlaced ms f pairs c ns → (c n.0).net n.1 ≡ pair_value ns p
 
 -- all memories have numbers of lists of cells
 abbrev pub MemoriesPlaced : List ModuleTree → ModuleTree → Flat → List (Option Pair) → Type 0

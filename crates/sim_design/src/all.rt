@@ -42,8 +42,10 @@ fn put_net(
     ensures extends { Extends (tree_of tape.old) (tree_of tape.new) }
     ensures slots { OnOk result (SlotsBefore pairs.new.items (length (tree_of tape.new).gates)) }
     ensures kept { OnOk result (AreKept pairs.old.items pairs.new.items) }
-    ensures more { OnOk result ((ms : List ModuleTree) (top : ModuleTree) → IsPlan ms top plan.now → ArePlacedMore ms top plan.now.flat.now plan.now.memories.now pairs.old.items (tree_of tape.old) pairs.new.items (tree_of tape.new)) }
-    ensures all { OnOk result ((ms : List ModuleTree) (top : ModuleTree) (n : FlatNet) → IsPlan ms top plan.now → HasNumber ms plan.now.flat.now number n → CanBeRead ms top n → length pairs.old.items ≡ length plan.now.flat.now.owners.items
+    ensures more { OnOk result ((ms : List ModuleTree) (top : ModuleTree) → IsPlan ms top plan.now
+        → ArePlacedMore ms top plan.now.flat.now plan.now.memories.now pairs.old.items (tree_of tape.old) pairs.new.items (tree_of tape.new)) }
+    ensures all { OnOk result ((ms : List ModuleTree) (top : ModuleTree) (n : FlatNet) → IsPlan ms top plan.now → HasNumber ms plan.now.flat.now number n
+        → CanBeRead ms top n → length pairs.old.items ≡ length plan.now.flat.now.owners.items
         → AllFree ms top plan.now.flat.now pairs.old.items → PartsPlaced ms top plan.now.flat.now pairs.old.items n → IsSome (get_or pairs.new.items number None)) }
 {
     if is_placed(pairs, number) {
@@ -71,11 +73,14 @@ pub fn place_all(
     ensures extends { Extends (tree_of tape.old) (tree_of tape.new) }
     ensures slots { OnOk result (SlotsBefore pairs.new.items (length (tree_of tape.new).gates)) }
     ensures kept { OnOk result (AreKept pairs.old.items pairs.new.items) }
-    ensures tells { OnOk result ((ms : List ModuleTree) (top : ModuleTree) → IsPlan ms top plan.now → length pairs.old.items ≡ length plan.now.flat.now.owners.items → AreRead ms top plan.now.flat.now pairs.old.items → AreFree ms top plan.now.flat.now pairs.old.items
+    ensures tells { OnOk result ((ms : List ModuleTree) (top : ModuleTree) → IsPlan ms top plan.now → length pairs.old.items ≡ length plan.now.flat.now.owners.items
+        → AreRead ms top plan.now.flat.now pairs.old.items → AreFree ms top plan.now.flat.now pairs.old.items
         → AreRead ms top plan.now.flat.now pairs.new.items × Tells ms top plan.now.flat.now pairs.new.items plan.now.memories.now (tree_of tape.new)) }
-    ensures placed { OnOk result ((ms : List ModuleTree) (top : ModuleTree) → IsPlan ms top plan.now → IsNetOrder ms top plan.now.flat.now order.now → length pairs.old.items ≡ length plan.now.flat.now.owners.items → AreRead ms top plan.now.flat.now pairs.old.items → AllFree ms top plan.now.flat.now pairs.old.items
+    ensures placed { OnOk result ((ms : List ModuleTree) (top : ModuleTree) → IsPlan ms top plan.now → IsNetOrder ms top plan.now.flat.now order.now
+        → length pairs.old.items ≡ length plan.now.flat.now.owners.items → AreRead ms top plan.now.flat.now pairs.old.items → AllFree ms top plan.now.flat.now pairs.old.items
         → ArePlaced ms top plan.now.flat.now pairs.new.items) }
-    ensures given { OnOk result ((ms : List ModuleTree) (top : ModuleTree) → IsPlan ms top plan.now → length pairs.old.items ≡ length plan.now.flat.now.owners.items → AreRead ms top plan.now.flat.now pairs.old.items → AllFree ms top plan.now.flat.now pairs.old.items
+    ensures given { OnOk result ((ms : List ModuleTree) (top : ModuleTree) → IsPlan ms top plan.now → length pairs.old.items ≡ length plan.now.flat.now.owners.items
+        → AreRead ms top plan.now.flat.now pairs.old.items → AllFree ms top plan.now.flat.now pairs.old.items
         → AreGivenNets ms top plan.now.flat.now pairs.old.items (tree_of tape.old) → HaveOwn pairs.old.items → AreGiven ms top plan.now.flat.now pairs.new.items (tree_of tape.new)) }
 {
     for number in order {

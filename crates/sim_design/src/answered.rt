@@ -51,9 +51,11 @@ pub(crate) fn pair_of_answer(
     requires ascii { IsAscii label.now }
     ensures extends { Extends (tree_of tape.old) (tree_of tape.new) }
     ensures slots { IfOk result (λ o. IfSome o (λ p. PairBefore (length (tree_of tape.new).gates) p)) }
-    ensures told { (ms : List ModuleTree) (top : ModuleTree) (f : FlatTree) (memories : List (Option PairTree)) → IsFlat ms top f → scope.now ≡ declared top → outside.now ≡ (shape_of top).memories → 0 < length label.now → has_all_five (map port_declared top.ports) label.now ≡ true
+    ensures told { (ms : List ModuleTree) (top : ModuleTree) (f : FlatTree) (memories : List (Option PairTree)) → IsFlat ms top f → scope.now ≡ declared top
+        → outside.now ≡ (shape_of top).memories → 0 < length label.now → has_all_five (map port_declared top.ports) label.now ≡ true
         → IfOk result (λ o. IfSome o (λ p. IsTold ms top f memories pairs.now (tree_of tape.new) ([], m_rdata label.now) p)) }
-    ensures some { (ms : List ModuleTree) (top : ModuleTree) (f : FlatTree) → IsFlat ms top f → scope.now ≡ declared top → outside.now ≡ (shape_of top).memories → 0 < length label.now → has_all_five (map port_declared top.ports) label.now ≡ true
+    ensures some { (ms : List ModuleTree) (top : ModuleTree) (f : FlatTree) → IsFlat ms top f → scope.now ≡ declared top → outside.now ≡ (shape_of top).memories
+        → 0 < length label.now → has_all_five (map port_declared top.ports) label.now ≡ true
         → ((number : ℕ) → HasNumber ms f number ([], m_addr label.now) → IsSome (get_or pairs.now number None)) → IfOk result (λ o. IsSome o) }
 {
     let Some(place) = place_of_label(outside, label) else {

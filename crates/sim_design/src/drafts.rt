@@ -41,7 +41,7 @@ pub struct Commit {
 /// A design on a tape: by numbers of nets their pairs of slots, and by those of memories the numbers of the lists with the
 /// halves of their cells; the memories, what registers take over, and what is stored.
 #[derive(Drop)]
-pub struct Draft {
+pub struct TapeDraft {
     pub tape: Tape,
     pub pairs: Vec<Option<Pair>>,
     pub memories: Vec<Option<Pair>>,
@@ -51,7 +51,7 @@ pub struct Draft {
 }
 
 // The nets and memories of a design on a tape; nothing is taken over or stored yet.
-fn placed_of(alloc: Global, design: &Design, flat: &Flat) -> Result<Draft, AllocError>
+fn placed_of(alloc: Global, design: &Design, flat: &Flat) -> Result<TapeDraft, AllocError>
     requires { (m : ModuleTree) → TopOf design.now m → IsFlat design.now.modules m flat.now }
     ensures tape { IfOk result (λ d. IsTape (tree_of d.tape)) }
     ensures slots { IfOk result (λ d. SlotsBefore d.pairs.items (length (tree_of d.tape).gates)) }
@@ -72,7 +72,7 @@ fn placed_of(alloc: Global, design: &Design, flat: &Flat) -> Result<Draft, Alloc
         outside: &shape.memories,
     };
     place_all(alloc, &mut tape, &plan, &order, &mut pairs)?;
-    Ok(Draft {
+    Ok(TapeDraft {
         tape,
         pairs,
         memories: memories.numbers,
@@ -83,7 +83,11 @@ fn placed_of(alloc: Global, design: &Design, flat: &Flat) -> Result<Draft, Alloc
 }
 
 /// A design on a tape.
-pub fn draft_of(alloc: Global, design: &Design, flat: &Flat) -> Result<Option<Draft>, AllocError>
+pub fn draft_of(
+    alloc: Global,
+    design: &Design,
+    flat: &Flat,
+) -> Result<Option<TapeDraft>, AllocError>
     requires { (m : ModuleTree) → TopOf design.now m → IsFlat design.now.modules m flat.now }
     ensures draft { IfOk result (λ o. IfSome o (λ d. (m : ModuleTree) → TopOf design.now m → IsDraft design.now.modules m flat.now d)) }
     ensures some { IfOk result (λ o. IsSome o) }

@@ -41,9 +41,13 @@ pub fn pair_of_line(
     requires slots { SlotsBefore pairs.now (length (tree_of tape.old).gates) }
     ensures extends { Extends (tree_of tape.old) (tree_of tape.new) }
     ensures slots { IfOk result (λ o. IfSome o (λ p. PairBefore (length (tree_of tape.new).gates) p)) }
-    ensures told { (ms : List ModuleTree) (top : ModuleTree) (path : Path) (m : ModuleTree) (x : Name) → IsFlat ms top flat.now → IsLine ms flat.now spot scope.now path m x value.now bits → length pairs.now ≡ length flat.now.owners.items → length memories.now ≡ length flat.now.owners.items → AreRead ms top flat.now pairs.now → AreMemories ms top flat.now memories.now
+    ensures told { (ms : List ModuleTree) (top : ModuleTree) (path : Path) (m : ModuleTree) (x : Name) → IsFlat ms top flat.now
+        → IsLine ms flat.now spot scope.now path m x value.now bits → length pairs.now ≡ length flat.now.owners.items → length memories.now ≡ length flat.now.owners.items
+        → AreRead ms top flat.now pairs.now → AreMemories ms top flat.now memories.now
         → IfOk result (λ o. IfSome o (λ p. IsTold ms top flat.now memories.now pairs.now (tree_of tape.new) (path, x) p)) }
-    ensures some { (ms : List ModuleTree) (top : ModuleTree) (path : Path) (m : ModuleTree) (x : Name) → IsFlat ms top flat.now → IsLine ms flat.now spot scope.now path m x value.now bits → length pairs.now ≡ length flat.now.owners.items → length memories.now ≡ length flat.now.owners.items → PartsPlaced ms top flat.now pairs.now (path, x) → MemoriesPlaced ms top flat.now memories.now
+    ensures some { (ms : List ModuleTree) (top : ModuleTree) (path : Path) (m : ModuleTree) (x : Name) → IsFlat ms top flat.now
+        → IsLine ms flat.now spot scope.now path m x value.now bits → length pairs.now ≡ length flat.now.owners.items → length memories.now ≡ length flat.now.owners.items
+        → PartsPlaced ms top flat.now pairs.now (path, x) → MemoriesPlaced ms top flat.now memories.now
         → IfOk result (λ o. IsSome o) }
 {
     let count = scope.declarations().len();

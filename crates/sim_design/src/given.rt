@@ -76,8 +76,10 @@ fn give_net(tape: &mut Tape, flat: &Flat, number: usize) -> Result<Option<Pair>,
     requires { IsTape (tree_of tape.old) }
     ensures extends { Extends (tree_of tape.old) (tree_of tape.new) }
     ensures slots { IfOk result (λ o. IfSome o (λ p. PairBefore (length (tree_of tape.new).gates) p)) }
-    ensures given { (ms : List ModuleTree) (top : ModuleTree) (n : FlatNet) → IsFlat ms top flat.now → HasNumber ms flat.now number n → IfOk result (λ o. IfSome o (λ p. IsGivenNet ms top n (tree_of tape.new) p)) }
-    ensures all { (ms : List ModuleTree) (top : ModuleTree) (n : FlatNet) → IsFlat ms top flat.now → HasNumber ms flat.now number n → IsFree ms top n → is_clk n.1 ≡ false → IfOk result (λ o. IsSome o) }
+    ensures given { (ms : List ModuleTree) (top : ModuleTree) (n : FlatNet) → IsFlat ms top flat.now → HasNumber ms flat.now number n
+        → IfOk result (λ o. IfSome o (λ p. IsGivenNet ms top n (tree_of tape.new) p)) }
+    ensures all { (ms : List ModuleTree) (top : ModuleTree) (n : FlatNet) → IsFlat ms top flat.now → HasNumber ms flat.now number n → IsFree ms top n → is_clk n.1 ≡ false
+        → IfOk result (λ o. IsSome o) }
     ensures fresh { IfOk result (λ o. IfSome o (λ p. IsBehind (length (tree_of tape.old).gates) p)) }
 {
     let Some(instance) = owner_of(flat, number) else {

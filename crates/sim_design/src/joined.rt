@@ -24,9 +24,11 @@ pub fn pair_around(
     place: usize,
 ) -> Option<Pair>
     ensures slots { (n : ℕ) → SlotsBefore pairs.now n → IfSome result (λ p. PairBefore n p) }
-    ensures told { (ms : List ModuleTree) (top : ModuleTree) (n : FlatNet) → IsFlat ms top flat.now → 0 < instance → (h : IsNetAt ms flat.now instance place n) → net_kind_is_input (net_kind_of (declared h.tree) n.1) ≡ true
+    ensures told { (ms : List ModuleTree) (top : ModuleTree) (n : FlatNet) → IsFlat ms top flat.now → 0 < instance → (h : IsNetAt ms flat.now instance place n)
+        → net_kind_is_input (net_kind_of (declared h.tree) n.1) ≡ true
         → IfSome result (λ p. (c : Path → Cycle) (ns : List ℕ) → IsValuation ms top c → ShowsPlaced ms flat.now pairs.now c ns → (c n.0).net n.1 ≡ pair_value ns p) }
-    ensures some { (ms : List ModuleTree) (top : ModuleTree) (n : FlatNet) → IsFlat ms top flat.now → 0 < instance → (h : IsNetAt ms flat.now instance place n) → net_kind_is_input (net_kind_of (declared h.tree) n.1) ≡ true
+    ensures some { (ms : List ModuleTree) (top : ModuleTree) (n : FlatNet) → IsFlat ms top flat.now → 0 < instance → (h : IsNetAt ms flat.now instance place n)
+        → net_kind_is_input (net_kind_of (declared h.tree) n.1) ≡ true
         → PartsPlaced ms top flat.now pairs.now n → IsSome result }
 {
     let number = net_around(flat, instance, place);

@@ -14,6 +14,6 @@ mod plan;
 mod rows;
 mod slices;
 
-pub use drafts::{Commit, Draft, Width, draft_of};
+pub use drafts::{Commit, TapeDraft, Width, draft_of};
 pub use memories::declaration_of;
 pub use slices::pair_of;

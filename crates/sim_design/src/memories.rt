@@ -99,7 +99,8 @@ pub(crate) fn memories_of(
     flat: &Flat,
     outside: usize,
 ) -> Result<Memories, AllocError>
-    ensures { IfOk result (λ v. (ms : List ModuleTree) (top : ModuleTree) → IsFlat ms top flat.now → outside ≡ length (shape_of top).memories → AreMemories ms top flat.now v.numbers.items v.widths.items) }
+    ensures { IfOk result (λ v. (ms : List ModuleTree) (top : ModuleTree) → IsFlat ms top flat.now → outside ≡ length (shape_of top).memories
+        → AreMemories ms top flat.now v.numbers.items v.widths.items) }
 {
     let mut all = Memories {
         numbers: Vec::new(alloc),

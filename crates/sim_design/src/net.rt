@@ -44,9 +44,12 @@ fn place_line(
     requires slots { SlotsBefore pairs.now (length (tree_of tape.old).gates) }
     ensures extends { Extends (tree_of tape.old) (tree_of tape.new) }
     ensures slots { IfOk result (λ o. IfSome o (λ p. PairBefore (length (tree_of tape.new).gates) p)) }
-    ensures told { (ms : List ModuleTree) (top : ModuleTree) (n : FlatNet) → IsPlan ms top plan.now → IsAtSpot ms plan.now.flat.now table.now spot place n → sources.Line at ≡ get_or table.now.sources.items place sources.Nothing → length pairs.now ≡ length plan.now.flat.now.owners.items → AreRead ms top plan.now.flat.now pairs.now
+    ensures told { (ms : List ModuleTree) (top : ModuleTree) (n : FlatNet) → IsPlan ms top plan.now → IsAtSpot ms plan.now.flat.now table.now spot place n
+        → sources.Line at ≡ get_or table.now.sources.items place sources.Nothing → length pairs.now ≡ length plan.now.flat.now.owners.items
+        → AreRead ms top plan.now.flat.now pairs.now
         → IfOk result (λ o. IfSome o (λ p. IsTold ms top plan.now.flat.now plan.now.memories.now pairs.now (tree_of tape.new) n p)) }
-    ensures some { (ms : List ModuleTree) (top : ModuleTree) (n : FlatNet) → IsPlan ms top plan.now → IsAtSpot ms plan.now.flat.now table.now spot place n → sources.Line at ≡ get_or table.now.sources.items place sources.Nothing → length pairs.now ≡ length plan.now.flat.now.owners.items
+    ensures some { (ms : List ModuleTree) (top : ModuleTree) (n : FlatNet) → IsPlan ms top plan.now → IsAtSpot ms plan.now.flat.now table.now spot place n
+        → sources.Line at ≡ get_or table.now.sources.items place sources.Nothing → length pairs.now ≡ length plan.now.flat.now.owners.items
         → PartsPlaced ms top plan.now.flat.now pairs.now n → IfOk result (λ o. IsSome o) }
 {
     let items = lines_at(plan.flat, plan.modules, spot.instance);
@@ -97,9 +100,11 @@ fn place_answer(
     requires slots { SlotsBefore pairs.now (length (tree_of tape.old).gates) }
     ensures extends { Extends (tree_of tape.old) (tree_of tape.new) }
     ensures slots { IfOk result (λ o. IfSome o (λ p. PairBefore (length (tree_of tape.new).gates) p)) }
-    ensures told { (ms : List ModuleTree) (top : ModuleTree) (n : FlatNet) → IsPlan ms top plan.now → IsAtSpot ms plan.now.flat.now table.now spot place n → spot.instance ≡ 0 → sources.Input ≡ get_or table.now.sources.items place sources.Nothing
+    ensures told { (ms : List ModuleTree) (top : ModuleTree) (n : FlatNet) → IsPlan ms top plan.now → IsAtSpot ms plan.now.flat.now table.now spot place n
+        → spot.instance ≡ 0 → sources.Input ≡ get_or table.now.sources.items place sources.Nothing
         → IfOk result (λ o. IfSome o (λ p. IsTold ms top plan.now.flat.now plan.now.memories.now pairs.now (tree_of tape.new) n p)) }
-    ensures some { (ms : List ModuleTree) (top : ModuleTree) (n : FlatNet) → IsPlan ms top plan.now → IsAtSpot ms plan.now.flat.now table.now spot place n → spot.instance ≡ 0 → sources.Input ≡ get_or table.now.sources.items place sources.Nothing
+    ensures some { (ms : List ModuleTree) (top : ModuleTree) (n : FlatNet) → IsPlan ms top plan.now → IsAtSpot ms plan.now.flat.now table.now spot place n
+        → spot.instance ≡ 0 → sources.Input ≡ get_or table.now.sources.items place sources.Nothing
         → (IsFree ms top n → ⊥) → PartsPlaced ms top plan.now.flat.now pairs.now n → IfOk result (λ o. IsSome o) }
 {
     let Some(d) = name_at(table, place) else {
@@ -127,9 +132,12 @@ fn place_source(
     requires slots { SlotsBefore pairs.now (length (tree_of tape.old).gates) }
     ensures extends { Extends (tree_of tape.old) (tree_of tape.new) }
     ensures slots { IfOk result (λ o. IfSome o (λ p. PairBefore (length (tree_of tape.new).gates) p)) }
-    ensures told { (ms : List ModuleTree) (top : ModuleTree) (n : FlatNet) → IsPlan ms top plan.now → IsAtSpot ms plan.now.flat.now table.now spot place n → source ≡ get_or table.now.sources.items place sources.Nothing → length pairs.now ≡ length plan.now.flat.now.owners.items → AreRead ms top plan.now.flat.now pairs.now
+    ensures told { (ms : List ModuleTree) (top : ModuleTree) (n : FlatNet) → IsPlan ms top plan.now → IsAtSpot ms plan.now.flat.now table.now spot place n
+        → source ≡ get_or table.now.sources.items place sources.Nothing → length pairs.now ≡ length plan.now.flat.now.owners.items
+        → AreRead ms top plan.now.flat.now pairs.now
         → IfOk result (λ o. IfSome o (λ p. IsTold ms top plan.now.flat.now plan.now.memories.now pairs.now (tree_of tape.new) n p)) }
-    ensures some { (ms : List ModuleTree) (top : ModuleTree) (n : FlatNet) → IsPlan ms top plan.now → IsAtSpot ms plan.now.flat.now table.now spot place n → source ≡ get_or table.now.sources.items place sources.Nothing → length pairs.now ≡ length plan.now.flat.now.owners.items
+    ensures some { (ms : List ModuleTree) (top : ModuleTree) (n : FlatNet) → IsPlan ms top plan.now → IsAtSpot ms plan.now.flat.now table.now spot place n
+        → source ≡ get_or table.now.sources.items place sources.Nothing → length pairs.now ≡ length plan.now.flat.now.owners.items
         → CanBeRead ms top n → (IsFree ms top n → ⊥) → PartsPlaced ms top plan.now.flat.now pairs.now n → IfOk result (λ o. IsSome o) }
 {
     match source {
@@ -169,7 +177,8 @@ pub fn place_net(
     ensures slots { IfOk result (λ o. IfSome o (λ p. PairBefore (length (tree_of tape.new).gates) p)) }
     ensures read { (ms : List ModuleTree) (top : ModuleTree) (n : FlatNet) (m : ModuleTree) → IsPlan ms top plan.now → HasNumber ms plan.now.flat.now number n → module_at ms top n.0 ≡ Some m
         → IfOk result (λ o. IfSome o (λ p. IsTrue (net_kind_is_read (net_kind_of (declared m) n.1)) × (is_clk n.1 ≡ false))) }
-    ensures told { (ms : List ModuleTree) (top : ModuleTree) (n : FlatNet) → IsPlan ms top plan.now → HasNumber ms plan.now.flat.now number n → length pairs.now ≡ length plan.now.flat.now.owners.items → AreRead ms top plan.now.flat.now pairs.now
+    ensures told { (ms : List ModuleTree) (top : ModuleTree) (n : FlatNet) → IsPlan ms top plan.now → HasNumber ms plan.now.flat.now number n
+        → length pairs.now ≡ length plan.now.flat.now.owners.items → AreRead ms top plan.now.flat.now pairs.now
         → IfOk result (λ o. IfSome o (λ p. IsTold ms top plan.now.flat.now plan.now.memories.now pairs.now (tree_of tape.new) n p)) }
     ensures some { (ms : List ModuleTree) (top : ModuleTree) (n : FlatNet) → IsPlan ms top plan.now → HasNumber ms plan.now.flat.now number n → length pairs.now ≡ length plan.now.flat.now.owners.items
         → CanBeRead ms top n → (IsFree ms top n → ⊥) → PartsPlaced ms top plan.now.flat.now pairs.now n → IfOk result (λ o. IsSome o) }

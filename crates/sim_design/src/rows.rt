@@ -13,11 +13,11 @@ ghost use Rattle.sim_design.specs.Left.{own_pairs, module_of_instance, AreLeft, 
 ghost use Rattle.sim_design.specs.Drafts.{AreNext};
 ghost use Rattle.sim_design.specs.Below.{HasPlaces, AreNextBelow};
 
-use crate::drafts::Draft;
+use crate::drafts::TapeDraft;
 use crate::next::{add_commits, add_stores};
 use crate::slices::part_of;
 use sim_flat::{Flat, Table, base_at, table_at};
-use sim_gates::{Blocks, Nets, blocks_of};
+use sim_gates::{Nets, Writes, blocks_of};
 use sim_tape::{Pair, Tape};
 use std::alloc::{AllocError, Global};
 use vlog_tree::Module;
@@ -41,12 +41,13 @@ fn blocks_at(
     base: usize,
     pairs: &[Option<Pair>],
     memories: &[Option<Pair>],
-) -> Result<Option<Blocks>, AllocError>
+) -> Result<Option<Writes>, AllocError>
     requires tape { IsTape (tree_of tape.old) }
     requires slots { SlotsBefore pairs.now (length (tree_of tape.old).gates) }
     ensures extends { Extends (tree_of tape.old) (tree_of tape.new) }
     ensures left { base + length table.now.scope ≤ length pairs.now → base + length table.now.scope ≤ length memories.now
-        → IfOk result (λ o. IfSome o (λ b. AreLeft table.now.scope (own_pairs base table.now.scope pairs.now) (own_pairs base table.now.scope memories.now) m.now.items (tree_of tape.new) b.next.items b.stores.items)) }
+        → IfOk result (λ o. IfSome o (λ b. AreLeft table.now.scope (own_pairs base table.now.scope pairs.now) (own_pairs base table.now.scope memories.now) m.now.items
+        (tree_of tape.new) b.next.items b.stores.items)) }
     ensures some { base + length table.now.scope ≤ length pairs.now → base + length table.now.scope ≤ length memories.now
         → AllByRecursion (IsReady table.now.scope (own_pairs base table.now.scope pairs.now) (own_pairs base table.now.scope memories.now)) m.now.items → IfOk result (λ o. IsSome o) }
 {
@@ -62,17 +63,18 @@ fn blocks_at(
 
 // What the blocks of an instance leave is added to what others leave.
 fn add_blocks(
-    draft: &mut Draft,
+    draft: &mut TapeDraft,
     table: &Table,
     base: usize,
-    blocks: &Blocks,
+    blocks: &Writes,
 ) -> Result<(), AllocError>
     ensures tape { draft.new.tape ≡ draft.old.tape }
     ensures pairs { draft.new.pairs.items ≡ draft.old.pairs.items }
     ensures memories { draft.new.memories.items ≡ draft.old.memories.items }
     ensures cells { draft.new.cells.items ≡ draft.old.cells.items }
     ensures commits { base + length table.now.scope ≤ length draft.old.pairs.items
-        → OnOk result (draft.new.commits.items ≡ draft.old.commits.items ++ commits_below table.now.scope (own_pairs base table.now.scope draft.old.pairs.items) blocks.now.next.items (length table.now.scope)) }
+        → OnOk result (draft.new.commits.items ≡ draft.old.commits.items ++ commits_below table.now.scope
+        (own_pairs base table.now.scope draft.old.pairs.items) blocks.now.next.items (length table.now.scope)) }
     ensures stores { OnOk result (draft.new.stores.items ≡ draft.old.stores.items ++ blocks.now.stores.items) }
 {
     let count = table.scope.declarations().len();
@@ -85,7 +87,7 @@ fn add_blocks(
 // The blocks of one instance; false where a net that they read has no slots.
 fn add_instance(
     alloc: Global,
-    draft: &mut Draft,
+    draft: &mut TapeDraft,
     table: &Table,
     m: &Module,
     base: usize,
@@ -97,9 +99,11 @@ fn add_instance(
     ensures memories { draft.new.memories.items ≡ draft.old.memories.items }
     ensures cells { draft.new.cells.items ≡ draft.old.cells.items }
     ensures added { base + length table.now.scope ≤ length draft.old.pairs.items → base + length table.now.scope ≤ length draft.old.memories.items
-        → IfOk result (λ done. OnTrue done (AreAdded table.now.scope base m.now.items draft.old.pairs.items draft.old.memories.items (tree_of draft.new.tape) draft.old.commits.items draft.new.commits.items draft.old.stores.items draft.new.stores.items)) }
+        → IfOk result (λ done. OnTrue done (AreAdded table.now.scope base m.now.items draft.old.pairs.items draft.old.memories.items
+        (tree_of draft.new.tape) draft.old.commits.items draft.new.commits.items draft.old.stores.items draft.new.stores.items)) }
     ensures some { base + length table.now.scope ≤ length draft.old.pairs.items → base + length table.now.scope ≤ length draft.old.memories.items
-        → AllByRecursion (IsReady table.now.scope (own_pairs base table.now.scope draft.old.pairs.items) (own_pairs base table.now.scope draft.old.memories.items)) m.now.items → IfOk result (λ done. IsTrue done) }
+        → AllByRecursion (IsReady table.now.scope (own_pairs base table.now.scope draft.old.pairs.items)
+        (own_pairs base table.now.scope draft.old.memories.items)) m.now.items → IfOk result (λ done. IsTrue done) }
 {
     let found = blocks_at(
         alloc,
@@ -120,7 +124,7 @@ fn add_instance(
 // The blocks of the instance with this number.
 fn add_row(
     alloc: Global,
-    draft: &mut Draft,
+    draft: &mut TapeDraft,
     flat: &Flat,
     modules: &[Module],
     instance: usize,
@@ -131,10 +135,13 @@ fn add_row(
     ensures pairs { draft.new.pairs.items ≡ draft.old.pairs.items }
     ensures memories { draft.new.memories.items ≡ draft.old.memories.items }
     ensures cells { draft.new.cells.items ≡ draft.old.cells.items }
-    ensures more { (top : ModuleTree) (t : TapeTree) → HasPlaces modules.now top flat.now draft.old.pairs.items draft.old.memories.items draft.old.cells.items t → instance < length flat.now.instances.items
+    ensures more { (top : ModuleTree) (t : TapeTree) → HasPlaces modules.now top flat.now draft.old.pairs.items draft.old.memories.items draft.old.cells.items t
+        → instance < length flat.now.instances.items
         → AreNextBelow modules.now top flat.now draft.old.pairs.items draft.old.memories.items (tree_of draft.old.tape) draft.old.commits.items draft.old.stores.items instance
-        → IfOk result (λ done. OnTrue done (AreNextBelow modules.now top flat.now draft.old.pairs.items draft.old.memories.items (tree_of draft.new.tape) draft.new.commits.items draft.new.stores.items (instance + 1))) }
-    ensures some { (top : ModuleTree) (t : TapeTree) → HasPlaces modules.now top flat.now draft.old.pairs.items draft.old.memories.items draft.old.cells.items t → instance < length flat.now.instances.items → IfOk result (λ done. IsTrue done) }
+        → IfOk result (λ done. OnTrue done (AreNextBelow modules.now top flat.now draft.old.pairs.items draft.old.memories.items
+        (tree_of draft.new.tape) draft.new.commits.items draft.new.stores.items (instance + 1))) }
+    ensures some { (top : ModuleTree) (t : TapeTree) → HasPlaces modules.now top flat.now draft.old.pairs.items draft.old.memories.items draft.old.cells.items t
+        → instance < length flat.now.instances.items → IfOk result (λ done. IsTrue done) }
 {
     let Some(table) = table_at(flat, instance) else {
         return Ok(false);
@@ -150,7 +157,7 @@ fn add_row(
 /// What the blocks of all instances leave; false where a net that they read has no slots.
 pub(crate) fn add_next(
     alloc: Global,
-    draft: &mut Draft,
+    draft: &mut TapeDraft,
     flat: &Flat,
     modules: &[Module],
 ) -> Result<bool, AllocError>

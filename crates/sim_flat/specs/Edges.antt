@@ -70,7 +70,9 @@ connections_in ms f k c =
 
 abbrev pub joins_in : List ModuleTree → Flat → ℕ → row.Instance → List (ℕ × ℕ)
 joins_in ms f k r =
-    option_map_or (λ (inside : Table). option_map_or (λ (t : Table). flat_map (connection_edge (base_at f r.around) t.scope (base_at f k) inside.scope) (connections_in ms f r.around r.child)) (table_at f r.around) []) (table_at f k) []
+    option_map_or (λ (inside : Table). option_map_or
+    (λ (t : Table). flat_map (connection_edge (base_at f r.around) t.scope (base_at f k) inside.scope) (connections_in ms f r.around r.child))
+    (table_at f r.around) []) (table_at f k) []
 
 abbrev pub join_edges : List ModuleTree → Flat → ℕ → List (ℕ × ℕ)
 join_edges ms f k = if k == 0 then [] else option_map_or (joins_in ms f k) (slice_get f.instances.items k) []

@@ -30,5 +30,6 @@ DriversComeFirst =
 -- what a memory of the top answers comes behind the place that it is asked for; the top's nets have their places as numbers
 abbrev pub AskedComeFirst : Type 0
 AskedComeFirst =
-    (ms : List ModuleTree) (top : ModuleTree) (f : Flat) (order : List ℕ) → IsFlat ms top f → IsNetOrder ms top f order → (i : ℕ) (x label : Name) → i < length order → HasNumber ms f (get_or order i 0) ([], x)
+    (ms : List ModuleTree) (top : ModuleTree) (f : Flat) (order : List ℕ) → IsFlat ms top f → IsNetOrder ms top f order → (i : ℕ) (x label : Name) → i < length order
+    → HasNumber ms f (get_or order i 0) ([], x)
     → net_kind_of (declared top) x ≡ Input → rdata_of x ≡ Some label → (q : ℕ) × DeclaredAt top q (m_addr label) × Has (take i order) q

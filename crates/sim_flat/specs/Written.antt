@@ -37,13 +37,13 @@ first_source d = source_by d.name d.net_kind
 
 -- the names of modules, and those that each declares
 pub record AreScopes (ms : List ModuleTree) (s : Scopes) : Type 0 where
-  pub names : s.names ≡ map module_declared ms
+  pub names : s.names.now ≡ map module_declared ms
   pub scopes : s.scopes.now ≡ names_of ms
   pub none : s.none ≡ []
 
 -- the names of an instance's module
 abbrev pub inner_names : Scopes → Name → List Declaration
-inner_names s kn = unwrap_or (slice_get s.scopes.now (kind_place s.names kn)) s.none
+inner_names s kn = unwrap_or (slice_get s.scopes.now (kind_place s.names.now kn)) s.none
 
 -- the places of an input and of the net that it is joined to, and of another port and the net that it drives
 abbrev pub join_of : List Declaration → List Declaration → Connection → Option (ℕ × ℕ)

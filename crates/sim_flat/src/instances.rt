@@ -147,16 +147,18 @@ fn all_levels(
 fn numbered(
     alloc: Global,
     modules: &[Module],
+    names: &Scope,
     top: &Text,
     room: usize,
 ) -> Result<Instances, AllocError>
+    requires { names.now ≡ map module_declared modules.now }
     ensures rows { IfOk result (λ v. AreRows (all_kinds (map module_declared modules.now) modules.now) (kind_place (map module_declared modules.now) top.now) v.rows.items v.first.items) }
     ensures deepest { IfOk result (λ v. HaveDepth v.rows.items (length v.first.items) (length v.rows.items) (length modules.now)) }
-    ensures counted { IfOk result (λ v. CountsWithin (all_kinds (map module_declared modules.now) modules.now) (kind_place (map module_declared modules.now) top.now) v.rows.items (length v.first.items)) }
+    ensures counted { IfOk result (λ v. CountsWithin (all_kinds (map module_declared modules.now) modules.now) (kind_place (map module_declared modules.now) top.now) v.rows.items
+        (length v.first.items)) }
 {
-    let names = Scope::of_modules(alloc, modules)?;
-    let kinds = kinds_of(alloc, &names, modules)?;
-    let place = place_of(&names, top);
+    let kinds = kinds_of(alloc, names, modules)?;
+    let place = place_of(names, top);
     let all = all_levels(alloc, &kinds, place, room)?;
     Ok(all)
 }
@@ -165,10 +167,12 @@ fn numbered(
 /// the text. Room for so many is taken first.
 pub fn instances_of(alloc: Global, design: &Design, room: usize) -> Result<Instances, AllocError>
     ensures instances { IfOk result (λ v. (m : ModuleTree) → TopOf design.now m → AreInstances design.now.modules m v.rows.items v.first.items) }
-    ensures counted { IfOk result (λ v. (m : ModuleTree) → TopOf design.now m → (own : ℕ → ℕ) (counts : List ℕ) → AreCounts (all_kinds (map module_declared design.now.modules) design.now.modules) own counts → get_or counts (kind_place (map module_declared design.now.modules) m.name) 0 ≤ own_sum own v.rows.items) }
+    ensures counted { IfOk result (λ v. (m : ModuleTree) → TopOf design.now m → (own : ℕ → ℕ) (counts : List ℕ)
+        → AreCounts (all_kinds (map module_declared design.now.modules) design.now.modules) own counts
+        → get_or counts (kind_place (map module_declared design.now.modules) m.name) 0 ≤ own_sum own v.rows.items) }
 {
     let modules = design.modules();
     let name = design.top().name();
-    let all = numbered(alloc, modules, name, room)?;
+    let all = numbered(alloc, modules, design.names(), name, room)?;
     Ok(all)
 }

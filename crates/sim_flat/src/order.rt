@@ -5,7 +5,8 @@ ghost use Rattle.vlog_tree.specs.Form.{ModuleTree};
 ghost use Rattle.vlog_design.specs.Designs.{TopOf};
 ghost use Rattle.sim_flat.specs.Flat.{IsFlat};
 ghost use Rattle.sim_flat.specs.Order.{IsNetOrder};
-ghost use Rattle.sim_flat.specs.Edges.{lines_at as lines_lem, connections_of as connections_lem, connections_in as connections_in_lem, NumbersFit, own_edges, joins_in, join_edges, instance_edges, edges_below, top_answers, all_edges};
+ghost use Rattle.sim_flat.specs.Edges.{lines_at as lines_lem, connections_of as connections_lem, connections_in as connections_in_lem, NumbersFit, own_edges, joins_in};
+ghost use Rattle.sim_flat.specs.Edges.{join_edges, instance_edges, edges_below, top_answers, all_edges};
 
 use crate::edges::{Edges, add_answers, add_assigns, add_connections};
 use crate::flat::{Flat, base_at, table_at};

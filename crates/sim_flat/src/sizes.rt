@@ -11,7 +11,6 @@ use crate::tables::Table;
 use number_graph::{Graph, Order, order_of};
 use std::alloc::{AllocError, Global};
 use vlog_design::Design;
-use vlog_scope::Scope;
 
 /// Numbers of instances and of nets. A number that is too large is the largest one.
 #[derive(Clone, Copy)]
@@ -149,9 +148,9 @@ pub(crate) fn sizes_of(
     ensures { IfOk result (AreSizes design.now tables.now) }
 {
     let modules = design.modules();
-    let names = Scope::of_modules(alloc, modules)?;
-    let kinds = kinds_of(alloc, &names, modules)?;
-    let top = place_of(&names, design.top().name());
+    let names = design.names();
+    let kinds = kinds_of(alloc, names, modules)?;
+    let top = place_of(names, design.top().name());
     let order = order_of_kinds(alloc, &kinds)?;
     let ones = ones_of(alloc, modules.len())?;
     let lengths = names_of(alloc, tables)?;

@@ -8,7 +8,8 @@ ghost use Rattle.vlog_tree.specs.Refused.{IsSound};
 ghost use Rattle.vlog_tree.specs.Loops.{item_instances};
 ghost use Rattle.vlog_tree.specs.Table.{declared, module_declared};
 ghost use Rattle.sim_flat.specs.Tables.{AreTables, AreTablesOf, IsTable};
-ghost use Rattle.sim_flat.specs.Written.{written, source_by, first_source as first_source_lem, inner_names, AreScopes, join_of as join_lem, output_of as output_lem, join_writes, output_writes, joined_of as joined_lem, line_writes, lines_writes, line_children, lines_children, child_rows};
+ghost use Rattle.sim_flat.specs.Written.{written, source_by, first_source as first_source_lem, inner_names, AreScopes, join_of as join_lem, output_of as output_lem};
+ghost use Rattle.sim_flat.specs.Written.{join_writes, output_writes, joined_of as joined_lem, line_writes, lines_writes, line_children, lines_children, child_rows};
 
 use crate::kinds::place_of;
 use crate::places::{both, place_in};
@@ -49,7 +50,7 @@ pub struct Table {
 /// The names of all modules, those that each declares, and none for a module that is not there.
 #[derive(Drop)]
 pub struct Scopes<'a> {
-    pub names: Scope,
+    pub names: &'a Scope,
     pub scopes: &'a [Scope],
     pub none: Scope,
 }
@@ -87,7 +88,7 @@ fn first_sources(alloc: Global, scope: &Scope) -> Result<Vec<Source>, AllocError
 fn scopes_of(alloc: Global, design: &Design) -> Result<Scopes<'_>, AllocError>
     ensures { IfOk result (λ s. AreScopes design.now.modules s) }
 {
-    let names = Scope::of_modules(alloc, design.modules())?;
+    let names = design.names();
     let scopes = design.scopes();
     let none = Scope::of_ports(alloc, &[])?;
     Ok(Scopes {
@@ -101,7 +102,7 @@ fn scopes_of(alloc: Global, design: &Design) -> Result<Scopes<'_>, AllocError>
 fn inner_scope<'a>(scopes: &'a Scopes<'a>, kind: &Text) -> &'a Scope
     ensures { result.now ≡ inner_names scopes.now kind.now }
 {
-    let place = place_of(&scopes.names, kind);
+    let place = place_of(scopes.names, kind);
     match scopes.scopes.get(place) {
         Some(scope) => scope,
         None => &scopes.none,

@@ -55,7 +55,8 @@ IsPut ns on value place old new =
     → (q : Pair) × (get_or old i None ≡ Some q) × (pair_value ns p ≡ (if (i == place) && (number_at ns on == 1) then pair_value ns value else pair_value ns q))
 
 -- the steps that are left run on what those before them left
-pub record StepsLeft (ds : List Declaration) (memories next : List (Option Pair)) (stores : List Store) (on : ℕ) (parts : List Part) (steps rest : List Step) (s : Sizes) (c first now : Cycle) (ns : List ℕ) : Type 0 where
+pub record StepsLeft (ds : List Declaration) (memories next : List (Option Pair)) (stores : List Store) (on : ℕ) (parts : List Part) (steps rest : List Step)
+    (s : Sizes) (c first now : Cycle) (ns : List ℕ) : Type 0 where
   pub after : Cycle
   pub walk : WalkShows ns on parts
   pub shows : ShowsNext ds memories next stores s first after ns

@@ -120,8 +120,10 @@ fn pair_of_part(
     requires nets { SlotsBefore nets.now.pairs.now (length (tree_of tape.old).gates) }
     ensures extends { Extends (tree_of tape.old) (tree_of tape.new) }
     ensures slots { IfOk result (λ o. IfSome o (λ p. PairBefore (length (tree_of tape.new).gates) p)) }
-    ensures says { IfOk result (λ o. IfSome o (λ p. Told nets.now.scope.now nets.now.pairs.now (tree_of tape.new) (λ s c ns. IsAtom nets.now.scope.now (atom_variants.Part name.now high low) s c ns p))) }
-    ensures some { IsTrue (atom_fits nets.now.scope.now (atom_variants.Part name.now high low)) → HavePairs nets.now.scope.now nets.now.pairs.now (atom_nets (atom_variants.Part name.now high low)) → IfOk result (λ o. IsSome o) }
+    ensures says { IfOk result (λ o. IfSome o (λ p. Told nets.now.scope.now nets.now.pairs.now (tree_of tape.new)
+        (λ s c ns. IsAtom nets.now.scope.now (atom_variants.Part name.now high low) s c ns p))) }
+    ensures some { IsTrue (atom_fits nets.now.scope.now (atom_variants.Part name.now high low))
+        → HavePairs nets.now.scope.now nets.now.pairs.now (atom_nets (atom_variants.Part name.now high low)) → IfOk result (λ o. IsSome o) }
 {
     let Some(whole) = nets.pair(name) else {
         return Ok(None);

@@ -53,7 +53,9 @@ fn one_gate(
     requires right { PairBefore (length (tree_of tape.old).gates) right }
     ensures extends { Extends (tree_of tape.old) (tree_of tape.new) }
     ensures slots { IfOk result (λ p. PairBefore (length (tree_of tape.new).gates) p) }
-    ensures says { IfOk result (λ p. Says (tree_of tape.new) (λ cells ns. pair_value ns left < 2 ^ 64 → pair_value ns right < 2 ^ 64 → (op ≡ binary.Minus → pair_value ns right < 2 ^ bits) → pair_value ns p ≡ op_value bits op (pair_value ns left) (pair_value ns right))) }
+    ensures says { IfOk result (λ p. Says (tree_of tape.new)
+        (λ cells ns. pair_value ns left < 2 ^ 64 → pair_value ns right < 2 ^ 64 → (op ≡ binary.Minus → pair_value ns right < 2 ^ bits)
+        → pair_value ns p ≡ op_value bits op (pair_value ns left) (pair_value ns right))) }
 {
     let mask = tape.constant(mask_of(bits))?;
     let low = tape.operate(narrow(op), left.low, right.low, mask)?;
@@ -98,7 +100,9 @@ pub fn pair_of_operator(
     requires right { PairBefore (length (tree_of tape.old).gates) right }
     ensures extends { Extends (tree_of tape.old) (tree_of tape.new) }
     ensures slots { IfOk result (λ p. PairBefore (length (tree_of tape.new).gates) p) }
-    ensures says { IfOk result (λ p. Says (tree_of tape.new) (λ cells ns. (IsTrue is_narrow → (pair_value ns left < 2 ^ 64) × (pair_value ns right < 2 ^ 64)) → (op ≡ binary.Minus → pair_value ns right < 2 ^ bits) → pair_value ns p ≡ op_value bits op (pair_value ns left) (pair_value ns right))) }
+    ensures says { IfOk result (λ p. Says (tree_of tape.new)
+        (λ cells ns. (IsTrue is_narrow → (pair_value ns left < 2 ^ 64) × (pair_value ns right < 2 ^ 64)) → (op ≡ binary.Minus → pair_value ns right < 2 ^ bits)
+        → pair_value ns p ≡ op_value bits op (pair_value ns left) (pair_value ns right))) }
 {
     if is_narrow {
         let one = one_gate(tape, bits, op, left, right)?;

@@ -16,7 +16,7 @@ ghost use Rattle.sim_gates.specs.Ready.{IsReady, IsStepReady, elses};
 
 use crate::nets::Nets;
 use crate::parts::{Walk, turn};
-use crate::writes::{Blocks, write};
+use crate::writes::{Writes, write};
 use sim_tape::{Pair, Tape};
 use std::alloc::{AllocError, Global};
 use vlog_tree::{Item, Step};
@@ -26,7 +26,7 @@ fn add_step(
     nets: &Nets,
     walk: &mut Walk,
     step: &Step,
-    after: &mut Blocks,
+    after: &mut Writes,
 ) -> Result<bool, AllocError>
     requires tape { IsTape (tree_of tape.old) }
     requires nets { SlotsBefore nets.now.pairs.now (length (tree_of tape.old).gates) }
@@ -37,8 +37,16 @@ fn add_step(
     ensures slots { OnOk result (SlotsBefore after.new.next.items (length (tree_of tape.new).gates)) }
     ensures same { OnOk result (SamePlaces after.old.next.items after.new.next.items) }
     ensures known { OnOk result (AreKnown nets.now.scope.now nets.now.memories.now after.old.stores.items → AreKnown nets.now.scope.now nets.now.memories.now after.new.stores.items) }
-    ensures value { IfOk result (λ done. OnTrue done (AreApart nets.now.scope.now nets.now.memories.now → Told nets.now.scope.now nets.now.pairs.now (tree_of tape.new) (λ s c ns. (first now : Cycle) → IsTrue (is_condition nets.now.scope.now step.now) → WalkShows ns walk.old.on (reverse walk.old.parts.items) → ShowsNext nets.now.scope.now nets.now.memories.now after.old.next.items after.old.stores.items s first now ns → IsTurned s c ns step.now (reverse walk.old.parts.items) walk.new.on (reverse walk.new.parts.items) × ShowsNext nets.now.scope.now nets.now.memories.now after.new.next.items after.new.stores.items s first (step_next s c (parts_run ns (reverse walk.old.parts.items)) step.now now) ns))) }
-    ensures some { (rest : List StepTree) → SamePlaces nets.now.pairs.now after.old.next.items → IsStepReady nets.now.scope.now nets.now.pairs.now nets.now.memories.now step.now → IsTrue (nested (elses (reverse walk.old.parts.items)) (step.now ∷ rest)) → IfOk result (λ done. IsTrue done × IsTrue (nested (elses (reverse walk.new.parts.items)) rest)) }
+    ensures value { IfOk result (λ done. OnTrue done (AreApart nets.now.scope.now nets.now.memories.now
+        → Told nets.now.scope.now nets.now.pairs.now (tree_of tape.new)
+        (λ s c ns. (first now : Cycle) → IsTrue (is_condition nets.now.scope.now step.now) → WalkShows ns walk.old.on (reverse walk.old.parts.items)
+        → ShowsNext nets.now.scope.now nets.now.memories.now after.old.next.items after.old.stores.items s first now ns
+        → IsTurned s c ns step.now (reverse walk.old.parts.items) walk.new.on (reverse walk.new.parts.items)
+        × ShowsNext nets.now.scope.now nets.now.memories.now after.new.next.items after.new.stores.items s first
+        (step_next s c (parts_run ns (reverse walk.old.parts.items)) step.now now) ns))) }
+    ensures some { (rest : List StepTree) → SamePlaces nets.now.pairs.now after.old.next.items → IsStepReady nets.now.scope.now nets.now.pairs.now nets.now.memories.now step.now
+        → IsTrue (nested (elses (reverse walk.old.parts.items)) (step.now ∷ rest))
+        → IfOk result (λ done. IsTrue done × IsTrue (nested (elses (reverse walk.new.parts.items)) rest)) }
 {
     if !write(tape, nets, walk.on, step, after)? {
         return Ok(false);
@@ -52,7 +60,7 @@ fn add_steps(
     tape: &mut Tape,
     nets: &Nets,
     steps: &[Step],
-    after: &mut Blocks,
+    after: &mut Writes,
 ) -> Result<bool, AllocError>
     requires tape { IsTape (tree_of tape.old) }
     requires nets { SlotsBefore nets.now.pairs.now (length (tree_of tape.old).gates) }
@@ -61,8 +69,13 @@ fn add_steps(
     ensures slots { OnOk result (SlotsBefore after.new.next.items (length (tree_of tape.new).gates)) }
     ensures same { OnOk result (SamePlaces after.old.next.items after.new.next.items) }
     ensures known { OnOk result (AreKnown nets.now.scope.now nets.now.memories.now after.old.stores.items → AreKnown nets.now.scope.now nets.now.memories.now after.new.stores.items) }
-    ensures value { IfOk result (λ done. OnTrue done (AreApart nets.now.scope.now nets.now.memories.now → Told nets.now.scope.now nets.now.pairs.now (tree_of tape.new) (λ s c ns. (first now : Cycle) → IsTrue (list_all (is_condition nets.now.scope.now) steps.now) → ShowsNext nets.now.scope.now nets.now.memories.now after.old.next.items after.old.stores.items s first now ns → ShowsNext nets.now.scope.now nets.now.memories.now after.new.next.items after.new.stores.items s first (run_steps s c [] steps.now now) ns))) }
-    ensures some { SamePlaces nets.now.pairs.now after.old.next.items → IsReady nets.now.scope.now nets.now.pairs.now nets.now.memories.now (lines.Always steps.now) → IfOk result (λ done. IsTrue done) }
+    ensures value { IfOk result (λ done. OnTrue done (AreApart nets.now.scope.now nets.now.memories.now
+        → Told nets.now.scope.now nets.now.pairs.now (tree_of tape.new)
+        (λ s c ns. (first now : Cycle) → IsTrue (list_all (is_condition nets.now.scope.now) steps.now)
+        → ShowsNext nets.now.scope.now nets.now.memories.now after.old.next.items after.old.stores.items s first now ns
+        → ShowsNext nets.now.scope.now nets.now.memories.now after.new.next.items after.new.stores.items s first (run_steps s c [] steps.now now) ns))) }
+    ensures some { SamePlaces nets.now.pairs.now after.old.next.items → IsReady nets.now.scope.now nets.now.pairs.now nets.now.memories.now (lines.Always steps.now)
+        → IfOk result (λ done. IsTrue done) }
 {
     let on = tape.constant(1)?;
     let mut walk = Walk {
@@ -82,7 +95,7 @@ fn add_item(
     tape: &mut Tape,
     nets: &Nets,
     item: &Item,
-    after: &mut Blocks,
+    after: &mut Writes,
 ) -> Result<bool, AllocError>
     requires tape { IsTape (tree_of tape.old) }
     requires nets { SlotsBefore nets.now.pairs.now (length (tree_of tape.old).gates) }
@@ -91,7 +104,11 @@ fn add_item(
     ensures slots { OnOk result (SlotsBefore after.new.next.items (length (tree_of tape.new).gates)) }
     ensures same { OnOk result (SamePlaces after.old.next.items after.new.next.items) }
     ensures known { OnOk result (AreKnown nets.now.scope.now nets.now.memories.now after.old.stores.items → AreKnown nets.now.scope.now nets.now.memories.now after.new.stores.items) }
-    ensures value { IfOk result (λ done. OnTrue done (AreApart nets.now.scope.now nets.now.memories.now → Told nets.now.scope.now nets.now.pairs.now (tree_of tape.new) (λ s c ns. (first now : Cycle) → IsTrue (has_conditions nets.now.scope.now item.now) → ShowsNext nets.now.scope.now nets.now.memories.now after.old.next.items after.old.stores.items s first now ns → ShowsNext nets.now.scope.now nets.now.memories.now after.new.next.items after.new.stores.items s first (run_items s c (item.now ∷ []) now) ns))) }
+    ensures value { IfOk result (λ done. OnTrue done (AreApart nets.now.scope.now nets.now.memories.now
+        → Told nets.now.scope.now nets.now.pairs.now (tree_of tape.new)
+        (λ s c ns. (first now : Cycle) → IsTrue (has_conditions nets.now.scope.now item.now)
+        → ShowsNext nets.now.scope.now nets.now.memories.now after.old.next.items after.old.stores.items s first now ns
+        → ShowsNext nets.now.scope.now nets.now.memories.now after.new.next.items after.new.stores.items s first (run_items s c (item.now ∷ []) now) ns))) }
     ensures some { SamePlaces nets.now.pairs.now after.old.next.items → IsReady nets.now.scope.now nets.now.pairs.now nets.now.memories.now item.now → IfOk result (λ done. IsTrue done) }
 {
     match item {
@@ -124,18 +141,21 @@ pub fn blocks_of(
     tape: &mut Tape,
     nets: &Nets,
     items: &[Item],
-) -> Result<Option<Blocks>, AllocError>
+) -> Result<Option<Writes>, AllocError>
     requires tape { IsTape (tree_of tape.old) }
     requires nets { SlotsBefore nets.now.pairs.now (length (tree_of tape.old).gates) }
     ensures extends { Extends (tree_of tape.old) (tree_of tape.new) }
     ensures slots { IfOk result (λ o. IfSome o (λ b. SlotsBefore b.next.items (length (tree_of tape.new).gates))) }
     ensures same { IfOk result (λ o. IfSome o (λ b. SamePlaces nets.now.pairs.now b.next.items)) }
     ensures known { IfOk result (λ o. IfSome o (λ b. AreKnown nets.now.scope.now nets.now.memories.now b.stores.items)) }
-    ensures value { IfOk result (λ o. IfSome o (λ b. AreApart nets.now.scope.now nets.now.memories.now → Told nets.now.scope.now nets.now.pairs.now (tree_of tape.new) (λ s c ns. IsTrue (list_all (has_conditions nets.now.scope.now) items.now) → ShowsNext nets.now.scope.now nets.now.memories.now b.next.items b.stores.items s c (run_items s c items.now c) ns))) }
+    ensures value { IfOk result (λ o. IfSome o (λ b. AreApart nets.now.scope.now nets.now.memories.now
+        → Told nets.now.scope.now nets.now.pairs.now (tree_of tape.new)
+        (λ s c ns. IsTrue (list_all (has_conditions nets.now.scope.now) items.now)
+        → ShowsNext nets.now.scope.now nets.now.memories.now b.next.items b.stores.items s c (run_items s c items.now c) ns))) }
     ensures some { AllByRecursion (IsReady nets.now.scope.now nets.now.pairs.now nets.now.memories.now) items.now → IfOk result (λ o. IsSome o) }
 {
     let next = copy_pairs(alloc, nets.pairs)?;
-    let mut after = Blocks {
+    let mut after = Writes {
         next,
         stores: Vec::new(alloc),
     };

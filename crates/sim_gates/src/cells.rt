@@ -60,8 +60,11 @@ pub(crate) fn pair_of_cell(
     requires bits { bits ≤ 128 }
     ensures extends { Extends (tree_of tape.old) (tree_of tape.new) }
     ensures slots { IfOk result (λ o. IfSome o (λ p. PairBefore (length (tree_of tape.new).gates) p)) }
-    ensures says { IsTrue (value_fits nets.now.scope.now bits (driver.Cell memory.now index.now)) → IfOk result (λ o. IfSome o (λ p. IsDriven nets.now.scope.now nets.now.pairs.now nets.now.memories.now bits (driver.Cell memory.now index.now) (tree_of tape.new) p)) }
-    ensures some { IsTrue (value_fits nets.now.scope.now bits (driver.Cell memory.now index.now)) → HasParts nets.now.scope.now nets.now.pairs.now nets.now.memories.now (driver.Cell memory.now index.now) → IfOk result (λ o. IsSome o) }
+    ensures says { IsTrue (value_fits nets.now.scope.now bits (driver.Cell memory.now index.now))
+        → IfOk result (λ o. IfSome o (λ p. IsDriven nets.now.scope.now nets.now.pairs.now nets.now.memories.now bits (driver.Cell memory.now index.now)
+        (tree_of tape.new) p)) }
+    ensures some { IsTrue (value_fits nets.now.scope.now bits (driver.Cell memory.now index.now))
+        → HasParts nets.now.scope.now nets.now.pairs.now nets.now.memories.now (driver.Cell memory.now index.now) → IfOk result (λ o. IsSome o) }
 {
     let Some(halves) = nets.memory(memory) else {
         return Ok(None);

@@ -43,8 +43,10 @@ pub(crate) fn pair_of_copies(
     requires bits { bits ≤ 128 }
     ensures extends { Extends (tree_of tape.old) (tree_of tape.new) }
     ensures slots { IfOk result (λ o. IfSome o (λ p. PairBefore (length (tree_of tape.new).gates) p)) }
-    ensures says { IsTrue (value_fits nets.now.scope.now bits (driver.Repeat count atom.now)) → IfOk result (λ o. IfSome o (λ p. IsDriven nets.now.scope.now nets.now.pairs.now nets.now.memories.now bits (driver.Repeat count atom.now) (tree_of tape.new) p)) }
-    ensures some { IsTrue (value_fits nets.now.scope.now bits (driver.Repeat count atom.now)) → HasParts nets.now.scope.now nets.now.pairs.now nets.now.memories.now (driver.Repeat count atom.now) → IfOk result (λ o. IsSome o) }
+    ensures says { IsTrue (value_fits nets.now.scope.now bits (driver.Repeat count atom.now))
+        → IfOk result (λ o. IfSome o (λ p. IsDriven nets.now.scope.now nets.now.pairs.now nets.now.memories.now bits (driver.Repeat count atom.now) (tree_of tape.new) p)) }
+    ensures some { IsTrue (value_fits nets.now.scope.now bits (driver.Repeat count atom.now))
+        → HasParts nets.now.scope.now nets.now.pairs.now nets.now.memories.now (driver.Repeat count atom.now) → IfOk result (λ o. IsSome o) }
 {
     let width = nets.atom_bits(atom);
     let Some(pair) = pair_of_atom(tape, nets, atom)? else {

@@ -42,8 +42,12 @@ fn put_atom(
     ensures slots { IfOk result (λ o. IfSome o (λ f. PairBefore (length (tree_of tape.new).gates) f.pair)) }
     ensures bits { IfOk result (λ o. IfSome o (λ f. f.bits ≡ above.bits + atom_bits nets.now.scope.now atom.now)) }
     ensures most { IfOk result (λ o. IfSome o (λ f. f.bits ≤ 128)) }
-    ensures says { IsTrue (atom_fits nets.now.scope.now atom.now) → IfOk result (λ o. IfSome o (λ f. Told nets.now.scope.now nets.now.pairs.now (tree_of tape.new) (λ s c ns. pair_value ns above.pair < 2 ^ above.bits → (pair_value ns f.pair ≡ pair_value ns above.pair * 2 ^ atom_width s atom.now + atom_value c atom.now) × (pair_value ns f.pair < 2 ^ f.bits)))) }
-    ensures some { IsTrue (atom_fits nets.now.scope.now atom.now) → HavePairs nets.now.scope.now nets.now.pairs.now (atom_nets atom.now) → above.bits + atom_bits nets.now.scope.now atom.now ≤ 128 → IfOk result (λ o. IsSome o) }
+    ensures says { IsTrue (atom_fits nets.now.scope.now atom.now)
+        → IfOk result (λ o. IfSome o (λ f. Told nets.now.scope.now nets.now.pairs.now (tree_of tape.new)
+        (λ s c ns. pair_value ns above.pair < 2 ^ above.bits → (pair_value ns f.pair ≡ pair_value ns above.pair * 2 ^ atom_width s atom.now + atom_value c atom.now)
+        × (pair_value ns f.pair < 2 ^ f.bits)))) }
+    ensures some { IsTrue (atom_fits nets.now.scope.now atom.now) → HavePairs nets.now.scope.now nets.now.pairs.now (atom_nets atom.now)
+        → above.bits + atom_bits nets.now.scope.now atom.now ≤ 128 → IfOk result (λ o. IsSome o) }
 {
     let more = nets.atom_bits(atom);
     let Some(below) = pair_of_atom(tape, nets, atom)? else {
@@ -70,8 +74,10 @@ pub(crate) fn pair_of_concat(
     requires bits { bits ≤ 128 }
     ensures extends { Extends (tree_of tape.old) (tree_of tape.new) }
     ensures slots { IfOk result (λ o. IfSome o (λ p. PairBefore (length (tree_of tape.new).gates) p)) }
-    ensures says { IsTrue (value_fits nets.now.scope.now bits (driver.Concat atoms.now)) → IfOk result (λ o. IfSome o (λ p. IsDriven nets.now.scope.now nets.now.pairs.now nets.now.memories.now bits (driver.Concat atoms.now) (tree_of tape.new) p)) }
-    ensures some { IsTrue (value_fits nets.now.scope.now bits (driver.Concat atoms.now)) → HasParts nets.now.scope.now nets.now.pairs.now nets.now.memories.now (driver.Concat atoms.now) → IfOk result (λ o. IsSome o) }
+    ensures says { IsTrue (value_fits nets.now.scope.now bits (driver.Concat atoms.now))
+        → IfOk result (λ o. IfSome o (λ p. IsDriven nets.now.scope.now nets.now.pairs.now nets.now.memories.now bits (driver.Concat atoms.now) (tree_of tape.new) p)) }
+    ensures some { IsTrue (value_fits nets.now.scope.now bits (driver.Concat atoms.now))
+        → HasParts nets.now.scope.now nets.now.pairs.now nets.now.memories.now (driver.Concat atoms.now) → IfOk result (λ o. IsSome o) }
 {
     let mut above = Front {
         pair: Pair { low: 0, high: 0 },

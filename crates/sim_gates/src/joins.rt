@@ -23,7 +23,8 @@ fn in_one_slot(
     requires below { PairBefore (length (tree_of tape.old).gates) below }
     ensures extends { Extends (tree_of tape.old) (tree_of tape.new) }
     ensures slots { IfOk result (λ p. PairBefore (length (tree_of tape.new).gates) p) }
-    ensures says { IfOk result (λ p. Says (tree_of tape.new) (λ cells ns. pair_value ns above * 2 ^ below_bits + pair_value ns below < 2 ^ 64 → pair_value ns p ≡ pair_value ns above * 2 ^ below_bits + pair_value ns below)) }
+    ensures says { IfOk result (λ p. Says (tree_of tape.new)
+        (λ cells ns. pair_value ns above * 2 ^ below_bits + pair_value ns below < 2 ^ 64 → pair_value ns p ≡ pair_value ns above * 2 ^ below_bits + pair_value ns below)) }
 {
     let shift = tape.constant(u64::from(below_bits))?;
     let low = tape.operate(Operator::Join, above.low, shift, below.low)?;
@@ -44,7 +45,9 @@ fn in_two_slots(
     requires below { PairBefore (length (tree_of tape.old).gates) below }
     ensures extends { Extends (tree_of tape.old) (tree_of tape.new) }
     ensures slots { IfOk result (λ p. PairBefore (length (tree_of tape.new).gates) p) }
-    ensures says { IfOk result (λ p. Says (tree_of tape.new) (λ cells ns. pair_value ns above * 2 ^ below_bits + pair_value ns below < 2 ^ bits → pair_value ns p ≡ pair_value ns above * 2 ^ below_bits + pair_value ns below)) }
+    ensures says { IfOk result (λ p. Says (tree_of tape.new)
+        (λ cells ns. pair_value ns above * 2 ^ below_bits + pair_value ns below < 2 ^ bits
+        → pair_value ns p ≡ pair_value ns above * 2 ^ below_bits + pair_value ns below)) }
 {
     let shift = literal(tape, u128::from(below_bits))?;
     let moved = tape.wide(BinaryOp::ShiftLeft, bits, above, shift)?;
@@ -66,7 +69,9 @@ pub fn put_below(
     requires below { PairBefore (length (tree_of tape.old).gates) below }
     ensures extends { Extends (tree_of tape.old) (tree_of tape.new) }
     ensures slots { IfOk result (λ p. PairBefore (length (tree_of tape.new).gates) p) }
-    ensures says { IfOk result (λ p. Says (tree_of tape.new) (λ cells ns. pair_value ns above < 2 ^ above_bits → pair_value ns below < 2 ^ below_bits → pair_value ns p ≡ pair_value ns above * 2 ^ below_bits + pair_value ns below)) }
+    ensures says { IfOk result (λ p. Says (tree_of tape.new)
+        (λ cells ns. pair_value ns above < 2 ^ above_bits → pair_value ns below < 2 ^ below_bits
+        → pair_value ns p ≡ pair_value ns above * 2 ^ below_bits + pair_value ns below)) }
 {
     let bits = above_bits + below_bits;
     if above_bits == 0 {

@@ -18,4 +18,4 @@ mod writes;
 pub use blocks::blocks_of;
 pub use drivers::pair_of_driver;
 pub use nets::Nets;
-pub use writes::{Blocks, Store};
+pub use writes::{Store, Writes};

@@ -35,8 +35,10 @@ pub(crate) fn pair_of_plain(
     requires bits { bits ≤ 128 }
     ensures extends { Extends (tree_of tape.old) (tree_of tape.new) }
     ensures slots { IfOk result (λ o. IfSome o (λ p. PairBefore (length (tree_of tape.new).gates) p)) }
-    ensures says { IsTrue (value_fits nets.now.scope.now bits (driver.Plain atom.now)) → IfOk result (λ o. IfSome o (λ p. IsDriven nets.now.scope.now nets.now.pairs.now nets.now.memories.now bits (driver.Plain atom.now) (tree_of tape.new) p)) }
-    ensures some { IsTrue (value_fits nets.now.scope.now bits (driver.Plain atom.now)) → HasParts nets.now.scope.now nets.now.pairs.now nets.now.memories.now (driver.Plain atom.now) → IfOk result (λ o. IsSome o) }
+    ensures says { IsTrue (value_fits nets.now.scope.now bits (driver.Plain atom.now))
+        → IfOk result (λ o. IfSome o (λ p. IsDriven nets.now.scope.now nets.now.pairs.now nets.now.memories.now bits (driver.Plain atom.now) (tree_of tape.new) p)) }
+    ensures some { IsTrue (value_fits nets.now.scope.now bits (driver.Plain atom.now))
+        → HasParts nets.now.scope.now nets.now.pairs.now nets.now.memories.now (driver.Plain atom.now) → IfOk result (λ o. IsSome o) }
 {
     let Some(pair) = pair_of_atom(tape, nets, atom)? else {
         return Ok(None);
@@ -56,8 +58,10 @@ pub(crate) fn pair_of_inverse(
     requires bits { bits ≤ 128 }
     ensures extends { Extends (tree_of tape.old) (tree_of tape.new) }
     ensures slots { IfOk result (λ o. IfSome o (λ p. PairBefore (length (tree_of tape.new).gates) p)) }
-    ensures says { IsTrue (value_fits nets.now.scope.now bits (driver.Invert atom.now)) → IfOk result (λ o. IfSome o (λ p. IsDriven nets.now.scope.now nets.now.pairs.now nets.now.memories.now bits (driver.Invert atom.now) (tree_of tape.new) p)) }
-    ensures some { IsTrue (value_fits nets.now.scope.now bits (driver.Invert atom.now)) → HasParts nets.now.scope.now nets.now.pairs.now nets.now.memories.now (driver.Invert atom.now) → IfOk result (λ o. IsSome o) }
+    ensures says { IsTrue (value_fits nets.now.scope.now bits (driver.Invert atom.now))
+        → IfOk result (λ o. IfSome o (λ p. IsDriven nets.now.scope.now nets.now.pairs.now nets.now.memories.now bits (driver.Invert atom.now) (tree_of tape.new) p)) }
+    ensures some { IsTrue (value_fits nets.now.scope.now bits (driver.Invert atom.now))
+        → HasParts nets.now.scope.now nets.now.pairs.now nets.now.memories.now (driver.Invert atom.now) → IfOk result (λ o. IsSome o) }
 {
     let Some(pair) = pair_of_atom(tape, nets, atom)? else {
         return Ok(None);
@@ -80,8 +84,11 @@ pub(crate) fn pair_of_binary(
     requires bits { bits ≤ 128 }
     ensures extends { Extends (tree_of tape.old) (tree_of tape.new) }
     ensures slots { IfOk result (λ o. IfSome o (λ p. PairBefore (length (tree_of tape.new).gates) p)) }
-    ensures says { IsTrue (value_fits nets.now.scope.now bits (driver.Binary left.now op right.now)) → IfOk result (λ o. IfSome o (λ p. IsDriven nets.now.scope.now nets.now.pairs.now nets.now.memories.now bits (driver.Binary left.now op right.now) (tree_of tape.new) p)) }
-    ensures some { IsTrue (value_fits nets.now.scope.now bits (driver.Binary left.now op right.now)) → HasParts nets.now.scope.now nets.now.pairs.now nets.now.memories.now (driver.Binary left.now op right.now) → IfOk result (λ o. IsSome o) }
+    ensures says { IsTrue (value_fits nets.now.scope.now bits (driver.Binary left.now op right.now))
+        → IfOk result (λ o. IfSome o (λ p. IsDriven nets.now.scope.now nets.now.pairs.now nets.now.memories.now bits (driver.Binary left.now op right.now)
+        (tree_of tape.new) p)) }
+    ensures some { IsTrue (value_fits nets.now.scope.now bits (driver.Binary left.now op right.now))
+        → HasParts nets.now.scope.now nets.now.pairs.now nets.now.memories.now (driver.Binary left.now op right.now) → IfOk result (λ o. IsSome o) }
 {
     let Some(a) = pair_of_atom(tape, nets, left)? else {
         return Ok(None);
@@ -108,8 +115,11 @@ pub(crate) fn pair_of_choice(
     requires bits { bits ≤ 128 }
     ensures extends { Extends (tree_of tape.old) (tree_of tape.new) }
     ensures slots { IfOk result (λ o. IfSome o (λ p. PairBefore (length (tree_of tape.new).gates) p)) }
-    ensures says { IsTrue (value_fits nets.now.scope.now bits (driver.Choose condition.now yes.now no.now)) → IfOk result (λ o. IfSome o (λ p. IsDriven nets.now.scope.now nets.now.pairs.now nets.now.memories.now bits (driver.Choose condition.now yes.now no.now) (tree_of tape.new) p)) }
-    ensures some { IsTrue (value_fits nets.now.scope.now bits (driver.Choose condition.now yes.now no.now)) → HasParts nets.now.scope.now nets.now.pairs.now nets.now.memories.now (driver.Choose condition.now yes.now no.now) → IfOk result (λ o. IsSome o) }
+    ensures says { IsTrue (value_fits nets.now.scope.now bits (driver.Choose condition.now yes.now no.now))
+        → IfOk result (λ o. IfSome o (λ p. IsDriven nets.now.scope.now nets.now.pairs.now nets.now.memories.now bits (driver.Choose condition.now yes.now no.now)
+        (tree_of tape.new) p)) }
+    ensures some { IsTrue (value_fits nets.now.scope.now bits (driver.Choose condition.now yes.now no.now))
+        → HasParts nets.now.scope.now nets.now.pairs.now nets.now.memories.now (driver.Choose condition.now yes.now no.now) → IfOk result (λ o. IsSome o) }
 {
     let Some(test) = pair_of_atom(tape, nets, condition)? else {
         return Ok(None);

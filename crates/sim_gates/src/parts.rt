@@ -77,8 +77,11 @@ fn open_part(tape: &mut Tape, nets: &Nets, walk: &mut Walk, test: &Text) -> Resu
     requires walk { WalkBefore (length (tree_of tape.old).gates) walk.old.on (reverse walk.old.parts.items) }
     ensures extends { Extends (tree_of tape.old) (tree_of tape.new) }
     ensures slots { OnOk result (WalkBefore (length (tree_of tape.new).gates) walk.new.on (reverse walk.new.parts.items)) }
-    ensures value { IfOk result (λ done. OnTrue done (Told nets.now.scope.now nets.now.pairs.now (tree_of tape.new) (λ s c ns. IsTrue (is_condition nets.now.scope.now (steps.If test.now)) → WalkShows ns walk.old.on (reverse walk.old.parts.items) → IsTurned s c ns (steps.If test.now) (reverse walk.old.parts.items) walk.new.on (reverse walk.new.parts.items)))) }
-    ensures some { IsSome (pair_in nets.now.scope.now nets.now.pairs.now test.now) → IfOk result (λ done. IsTrue done × (elses (reverse walk.new.parts.items) ≡ false ∷ elses (reverse walk.old.parts.items))) }
+    ensures value { IfOk result (λ done. OnTrue done (Told nets.now.scope.now nets.now.pairs.now (tree_of tape.new)
+        (λ s c ns. IsTrue (is_condition nets.now.scope.now (steps.If test.now)) → WalkShows ns walk.old.on (reverse walk.old.parts.items)
+        → IsTurned s c ns (steps.If test.now) (reverse walk.old.parts.items) walk.new.on (reverse walk.new.parts.items)))) }
+    ensures some { IsSome (pair_in nets.now.scope.now nets.now.pairs.now test.now)
+        → IfOk result (λ done. IsTrue done × (elses (reverse walk.new.parts.items) ≡ false ∷ elses (reverse walk.old.parts.items))) }
 {
     let Some(pair) = nets.pair(test) else {
         return Ok(false);
@@ -99,7 +102,9 @@ fn turn_part(tape: &mut Tape, walk: &mut Walk) -> Result<bool, AllocError>
     requires walk { WalkBefore (length (tree_of tape.old).gates) walk.old.on (reverse walk.old.parts.items) }
     ensures extends { Extends (tree_of tape.old) (tree_of tape.new) }
     ensures slots { OnOk result (WalkBefore (length (tree_of tape.new).gates) walk.new.on (reverse walk.new.parts.items)) }
-    ensures value { IfOk result (λ done. OnTrue done (Says (tree_of tape.new) (λ cells ns. (s : Sizes) (c : Cycle) → WalkShows ns walk.old.on (reverse walk.old.parts.items) → IsTurned s c ns steps.Else (reverse walk.old.parts.items) walk.new.on (reverse walk.new.parts.items)))) }
+    ensures value { IfOk result (λ done. OnTrue done (Says (tree_of tape.new)
+        (λ cells ns. (s : Sizes) (c : Cycle) → WalkShows ns walk.old.on (reverse walk.old.parts.items)
+        → IsTurned s c ns steps.Else (reverse walk.old.parts.items) walk.new.on (reverse walk.new.parts.items)))) }
     ensures some { (parts : List Bool) → elses (reverse walk.old.parts.items) ≡ false ∷ parts → IfOk result (λ done. IsTrue done × (elses (reverse walk.new.parts.items) ≡ true ∷ parts)) }
 {
     let Some(part) = walk.parts.pop() else {
@@ -118,7 +123,8 @@ fn turn_part(tape: &mut Tape, walk: &mut Walk) -> Result<bool, AllocError>
 #[tactic(auto, using(crate::proofs::Walking::reverse_push))]
 fn close_part(walk: &mut Walk) -> bool
     ensures slots { (n : ℕ) → WalkBefore n walk.old.on (reverse walk.old.parts.items) → WalkBefore n walk.new.on (reverse walk.new.parts.items) }
-    ensures value { OnTrue result ((s : Sizes) (c : Cycle) (ns : List ℕ) → WalkShows ns walk.old.on (reverse walk.old.parts.items) → IsTurned s c ns steps.End (reverse walk.old.parts.items) walk.new.on (reverse walk.new.parts.items)) }
+    ensures value { OnTrue result ((s : Sizes) (c : Cycle) (ns : List ℕ) → WalkShows ns walk.old.on (reverse walk.old.parts.items)
+        → IsTurned s c ns steps.End (reverse walk.old.parts.items) walk.new.on (reverse walk.new.parts.items)) }
     ensures some { (b : Bool) (parts : List Bool) → elses (reverse walk.old.parts.items) ≡ b ∷ parts → IsTrue result × (elses (reverse walk.new.parts.items) ≡ parts) }
 {
     let Some(part) = walk.parts.pop() else {
@@ -140,8 +146,12 @@ pub(crate) fn turn(
     requires walk { WalkBefore (length (tree_of tape.old).gates) walk.old.on (reverse walk.old.parts.items) }
     ensures extends { Extends (tree_of tape.old) (tree_of tape.new) }
     ensures slots { OnOk result (WalkBefore (length (tree_of tape.new).gates) walk.new.on (reverse walk.new.parts.items)) }
-    ensures value { IfOk result (λ done. OnTrue done (Told nets.now.scope.now nets.now.pairs.now (tree_of tape.new) (λ s c ns. IsTrue (is_condition nets.now.scope.now step.now) → WalkShows ns walk.old.on (reverse walk.old.parts.items) → IsTurned s c ns step.now (reverse walk.old.parts.items) walk.new.on (reverse walk.new.parts.items)))) }
-    ensures some { (rest : List StepTree) → IsStepReady nets.now.scope.now nets.now.pairs.now nets.now.memories.now step.now → IsTrue (nested (elses (reverse walk.old.parts.items)) (step.now ∷ rest)) → IfOk result (λ done. IsTrue done × IsTrue (nested (elses (reverse walk.new.parts.items)) rest)) }
+    ensures value { IfOk result (λ done. OnTrue done (Told nets.now.scope.now nets.now.pairs.now (tree_of tape.new)
+        (λ s c ns. IsTrue (is_condition nets.now.scope.now step.now) → WalkShows ns walk.old.on (reverse walk.old.parts.items)
+        → IsTurned s c ns step.now (reverse walk.old.parts.items) walk.new.on (reverse walk.new.parts.items)))) }
+    ensures some { (rest : List StepTree) → IsStepReady nets.now.scope.now nets.now.pairs.now nets.now.memories.now step.now
+        → IsTrue (nested (elses (reverse walk.old.parts.items)) (step.now ∷ rest))
+        → IfOk result (λ done. IsTrue done × IsTrue (nested (elses (reverse walk.new.parts.items)) rest)) }
 {
     match step {
         Step::If(test) => {

@@ -33,7 +33,7 @@ pub struct Store {
 /// What the blocks of a module leave: by the places of its names the pairs with the numbers that nets have in the next cycle,
 /// and the stores, in the order of the text.
 #[derive(Drop)]
-pub struct Blocks {
+pub struct Writes {
     pub next: Vec<Option<Pair>>,
     pub stores: Vec<Store>,
 }
@@ -92,8 +92,11 @@ fn put_register(
     ensures extends { Extends (tree_of tape.old) (tree_of tape.new) }
     ensures slots { OnOk result (SlotsBefore next.new.items (length (tree_of tape.new).gates)) }
     ensures same { OnOk result (SamePlaces next.old.items next.new.items) }
-    ensures value { IfOk result (λ done. OnTrue done (Told nets.now.scope.now nets.now.pairs.now (tree_of tape.new) (λ s c ns. (bs : List Bool) (now : Cycle) → number_at ns on ≡ one_if (list_all (λ b. b) bs) → NetsNext nets.now.scope.now next.old.items now ns → NetsNext nets.now.scope.now next.new.items (step_next s c bs (steps.NonblockingAssign register.now value.now) now) ns))) }
-    ensures some { SamePlaces nets.now.pairs.now next.old.items → IsStepReady nets.now.scope.now nets.now.pairs.now nets.now.memories.now (steps.NonblockingAssign register.now value.now) → IfOk result (λ done. IsTrue done) }
+    ensures value { IfOk result (λ done. OnTrue done (Told nets.now.scope.now nets.now.pairs.now (tree_of tape.new)
+        (λ s c ns. (bs : List Bool) (now : Cycle) → number_at ns on ≡ one_if (list_all (λ b. b) bs) → NetsNext nets.now.scope.now next.old.items now ns
+        → NetsNext nets.now.scope.now next.new.items (step_next s c bs (steps.NonblockingAssign register.now value.now) now) ns))) }
+    ensures some { SamePlaces nets.now.pairs.now next.old.items
+        → IsStepReady nets.now.scope.now nets.now.pairs.now nets.now.memories.now (steps.NonblockingAssign register.now value.now) → IfOk result (λ done. IsTrue done) }
 {
     let Some((place, _)) = nets.scope.place(register) else {
         return Ok(false);
@@ -119,7 +122,11 @@ fn add_store(
     requires nets { SlotsBefore nets.now.pairs.now (length (tree_of tape.old).gates) }
     ensures extends { Extends (tree_of tape.old) (tree_of tape.new) }
     ensures known { OnOk result (AreKnown nets.now.scope.now nets.now.memories.now stores.old.items → AreKnown nets.now.scope.now nets.now.memories.now stores.new.items) }
-    ensures value { IfOk result (λ done. OnTrue done (AreApart nets.now.scope.now nets.now.memories.now → Told nets.now.scope.now nets.now.pairs.now (tree_of tape.new) (λ s c ns. (bs : List Bool) (first now : Cycle) → number_at ns on ≡ one_if (list_all (λ b. b) bs) → CellsNext nets.now.scope.now nets.now.memories.now stores.old.items s first now ns → CellsNext nets.now.scope.now nets.now.memories.now stores.new.items s first (step_next s c bs (steps.MemoryAssign memory.now index.now value.now) now) ns))) }
+    ensures value { IfOk result (λ done. OnTrue done (AreApart nets.now.scope.now nets.now.memories.now
+        → Told nets.now.scope.now nets.now.pairs.now (tree_of tape.new)
+        (λ s c ns. (bs : List Bool) (first now : Cycle) → number_at ns on ≡ one_if (list_all (λ b. b) bs)
+        → CellsNext nets.now.scope.now nets.now.memories.now stores.old.items s first now ns
+        → CellsNext nets.now.scope.now nets.now.memories.now stores.new.items s first (step_next s c bs (steps.MemoryAssign memory.now index.now value.now) now) ns))) }
     ensures some { IsStepReady nets.now.scope.now nets.now.pairs.now nets.now.memories.now (steps.MemoryAssign memory.now index.now value.now) → IfOk result (λ done. IsTrue done) }
 {
     let Some(numbers) = nets.memory(memory) else {
@@ -146,7 +153,7 @@ pub(crate) fn write(
     nets: &Nets,
     on: u32,
     step: &Step,
-    after: &mut Blocks,
+    after: &mut Writes,
 ) -> Result<bool, AllocError>
     requires tape { IsTape (tree_of tape.old) }
     requires nets { SlotsBefore nets.now.pairs.now (length (tree_of tape.old).gates) }
@@ -156,7 +163,11 @@ pub(crate) fn write(
     ensures slots { OnOk result (SlotsBefore after.new.next.items (length (tree_of tape.new).gates)) }
     ensures same { OnOk result (SamePlaces after.old.next.items after.new.next.items) }
     ensures known { OnOk result (AreKnown nets.now.scope.now nets.now.memories.now after.old.stores.items → AreKnown nets.now.scope.now nets.now.memories.now after.new.stores.items) }
-    ensures value { IfOk result (λ done. OnTrue done (AreApart nets.now.scope.now nets.now.memories.now → Told nets.now.scope.now nets.now.pairs.now (tree_of tape.new) (λ s c ns. (bs : List Bool) (first now : Cycle) → number_at ns on ≡ one_if (list_all (λ b. b) bs) → ShowsNext nets.now.scope.now nets.now.memories.now after.old.next.items after.old.stores.items s first now ns → ShowsNext nets.now.scope.now nets.now.memories.now after.new.next.items after.new.stores.items s first (step_next s c bs step.now now) ns))) }
+    ensures value { IfOk result (λ done. OnTrue done (AreApart nets.now.scope.now nets.now.memories.now
+        → Told nets.now.scope.now nets.now.pairs.now (tree_of tape.new)
+        (λ s c ns. (bs : List Bool) (first now : Cycle) → number_at ns on ≡ one_if (list_all (λ b. b) bs)
+        → ShowsNext nets.now.scope.now nets.now.memories.now after.old.next.items after.old.stores.items s first now ns
+        → ShowsNext nets.now.scope.now nets.now.memories.now after.new.next.items after.new.stores.items s first (step_next s c bs step.now now) ns))) }
     ensures some { SamePlaces nets.now.pairs.now after.old.next.items → IsStepReady nets.now.scope.now nets.now.pairs.now nets.now.memories.now step.now → IfOk result (λ done. IsTrue done) }
 {
     match step {

@@ -34,5 +34,6 @@ DumpsAreDumps =
 -- so what is shown of a net of it are the numbers of that net in the run
 abbrev pub DumpsShowTheRun : Type 0
 DumpsShowTheRun =
-    (design : DesignTree) → IsDesign design.modules design.top → (env : Environment) → FitsDesign design env → (limit : ℕ) (at : Option ℕ) (text name told : List ℕ) (h : IsDumped design env limit at text)
+    (design : DesignTree) → IsDesign design.modules design.top → (env : Environment) → FitsDesign design env
+    → (limit : ℕ) (at : Option ℕ) (text name told : List ℕ) (h : IsDumped design env limit at text)
     → IsNetShown text name told → (d : Declaration) × Has (shown_nets h.top) d × (d.name ≡ name) × (told ≡ value_lines (λ n. (h.nets n []).net name) (last_cycle limit at))

@@ -24,7 +24,7 @@ pub fn done_cycle(
     ensures { IfOk result (IsSimulatedSo design (environment_of around.now) limit) }
 {
     let _modules = design.modules();
-    let _top = design.top();
+    design.valid();
     let mut sim = Sim::new(alloc, design, around, 0)?;
     let carried = run_cycles(alloc, &mut sim, limit)?;
     Ok(carried.done_at)

@@ -34,7 +34,7 @@ pub fn dump_design<O: Sink>(
     ensures fault { IsErrOf result PrintFault.WriteFault → Rose (O.faults out.old) (O.faults out.new) }
 {
     let _modules = design.modules();
-    let _top = design.top();
+    design.valid();
     let mut sim = Sim::new(alloc, design, around, 0)?;
     let done_at = write_vcd(alloc, &mut sim, limit, out)?;
     Ok(end_after(done_at))

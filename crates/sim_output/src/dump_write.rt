@@ -43,7 +43,8 @@ pub fn write_vcd<O: Sink>(
     requires { (sim_of sim.old).told.cycle ≡ 0 }
     ensures done { IfOk result (λ at. InRuns (sim_of sim.old) (λ m env nets. IsDoneAt (λ n. nets n []) limit at)) }
     ensures whole { IfOk result (λ at. InRuns (sim_of sim.old) (λ m env nets. Appends (O.contents out.old) (O.contents out.new) (dump_of m (λ n. nets n []) (last_cycle limit at)))) }
-    ensures part { OnErr result (InRuns (sim_of sim.old) (λ m env nets. (at : Option ℕ) → IsDoneAt (λ n. nets n []) limit at → AppendsPart (O.contents out.old) (O.contents out.new) (dump_of m (λ n. nets n []) (last_cycle limit at)))) }
+    ensures part { OnErr result (InRuns (sim_of sim.old) (λ m env nets. (at : Option ℕ) → IsDoneAt (λ n. nets n []) limit at
+        → AppendsPart (O.contents out.old) (O.contents out.new) (dump_of m (λ n. nets n []) (last_cycle limit at)))) }
     ensures stands { IfOk result (λ at. IsLater (sim_of sim.old) (sim_of sim.new) (last_cycle limit at)) }
     ensures short { OnErr result ((n : ℕ) × (n ≤ limit) × IsLater (sim_of sim.old) (sim_of sim.new) n) }
     ensures later { O.faults out.old ≤ O.faults out.new }
@@ -51,7 +52,7 @@ pub fn write_vcd<O: Sink>(
 {
     let design = sim.design();
     let _modules = design.modules();
-    let _top = design.top();
+    design.valid();
     let mut text = Vec::new(alloc);
     let widths = push_head(alloc, &mut text, design)?;
     let mut values = vec![in alloc; 0u128; widths.len()]?;

@@ -64,7 +64,7 @@ pub fn run_design<O: Sink>(
     ensures fault { IsErrOf result PrintFault.WriteFault → Rose (O.faults out.old) (O.faults out.new) }
 {
     let _modules = design.modules();
-    let _top = design.top();
+    design.valid();
     let shape = design.shape(alloc)?;
     let streams = design.streams(alloc)?;
     let mut sim = Sim::new(alloc, design, around, 0)?;

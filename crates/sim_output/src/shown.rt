@@ -75,8 +75,10 @@ pub(crate) fn show<O: Sink>(
     last: Last,
     out: &mut O,
 ) -> Result<(), PrintFault>
-    ensures whole { OnOk result (Appends (O.contents out.old) (O.contents out.new) ((stream_lines (λ i. slice_index_or (lists_of tokens.now) i []) streams.now ++ memory_lines (sim_of sim.now).told.outside memories.now) ++ last_line last)) }
-    ensures part { OnErr result (AppendsPart (O.contents out.old) (O.contents out.new) ((stream_lines (λ i. slice_index_or (lists_of tokens.now) i []) streams.now ++ memory_lines (sim_of sim.now).told.outside memories.now) ++ last_line last)) }
+    ensures whole { OnOk result (Appends (O.contents out.old) (O.contents out.new)
+        ((stream_lines (λ i. slice_index_or (lists_of tokens.now) i []) streams.now ++ memory_lines (sim_of sim.now).told.outside memories.now) ++ last_line last)) }
+    ensures part { OnErr result (AppendsPart (O.contents out.old) (O.contents out.new)
+        ((stream_lines (λ i. slice_index_or (lists_of tokens.now) i []) streams.now ++ memory_lines (sim_of sim.now).told.outside memories.now) ++ last_line last)) }
     ensures later { O.faults out.old ≤ O.faults out.new }
     ensures fault { IsErrOf result PrintFault.WriteFault → Rose (O.faults out.old) (O.faults out.new) }
 {

@@ -8,7 +8,7 @@ ghost use Rattle.sim_pass.specs.Rows.{gates_in};
 use crate::given::given_of;
 use crate::readers::readers_of;
 use crate::rows::Row;
-use crate::runs::{Run, runs_of};
+use crate::runs::{GateRun, runs_of};
 use sim_tape::{Gate, Wide};
 use std::alloc::{AllocError, Global};
 
@@ -18,7 +18,7 @@ pub(crate) const BLOCK: usize = 16;
 /// Runs of a few gates of one rule; by slots those of them that read a slot; and the slots that are given from outside.
 #[derive(Drop)]
 pub struct Blocks {
-    pub runs: Vec<Run>,
+    pub runs: Vec<GateRun>,
     pub readers: Vec<Vec<u32>>,
     pub given: Vec<u32>,
 }

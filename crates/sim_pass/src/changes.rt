@@ -68,7 +68,8 @@ pub(crate) fn mark_changed(
     requires end { to ≤ length rows.now }
     requires fits { SlotsFit (slots_in rows.now) from to (length numbers.now) }
     ensures kept { KeepsMarks marks.old marks.new }
-    ensures followed { (old : List ℕ) → IsAside (slots_in rows.now) from to aside.now old → (i : ℕ) → from ≤ i → i < to → IsFollowed readers.now marks.new old numbers.now (number_at (slots_in rows.now) i) }
+    ensures followed { (old : List ℕ) → IsAside (slots_in rows.now) from to aside.now old → (i : ℕ) → from ≤ i → i < to
+        → IsFollowed readers.now marks.new old numbers.now (number_at (slots_in rows.now) i) }
 {
     for i in from..to {
         let slot = rows[i].slot;

@@ -17,4 +17,4 @@ mod runs;
 mod solving;
 mod wide;
 
-pub use program::{Marks, Program};
+pub use program::{Marks, Schedule};

@@ -3,7 +3,7 @@
 ghost use Rattle.std.specs.Prelude.{◌≡◌, ℕ, true};
 ghost use Rattle.sim_pass.specs.Marks.{is_marked as is_marked_lem, CellsMarked, HasMarks, KeepsMarks, Lists};
 
-use crate::runs::Run;
+use crate::runs::GateRun;
 use sim_tape::{Operator, Rule};
 
 /// Whether a block is marked; one that has no mark of its own is.
@@ -46,7 +46,7 @@ pub(crate) fn mark_readers(marks: &mut [bool], readers: &[Vec<u32>], slot: u32)
 }
 
 // Marks the blocks that read cells of memories.
-fn mark_cells(marks: &mut [bool], blocks: &[Run])
+fn mark_cells(marks: &mut [bool], blocks: &[GateRun])
     ensures { CellsMarked blocks.now marks.new }
 {
     for k in 0..blocks.len() {
@@ -57,7 +57,7 @@ fn mark_cells(marks: &mut [bool], blocks: &[Run])
 }
 
 /// Marks the blocks that read cells of memories, if some are written.
-pub(crate) fn mark_written(marks: &mut [bool], blocks: &[Run], is_written: bool)
+pub(crate) fn mark_written(marks: &mut [bool], blocks: &[GateRun], is_written: bool)
     ensures { is_written ≡ true → CellsMarked blocks.now marks.new }
 {
     if is_written {

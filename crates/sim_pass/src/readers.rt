@@ -8,7 +8,7 @@ ghost use Rattle.sim_pass.specs.Runs.{AreRuns};
 ghost use Rattle.sim_tape.specs.Tape.{wide_at};
 
 use crate::rows::Row;
-use crate::runs::Run;
+use crate::runs::GateRun;
 use sim_tape::{Pair, Rule, Wide};
 use std::alloc::{AllocError, Global};
 
@@ -94,7 +94,7 @@ fn add_rows(
     readers: &mut [Vec<u32>],
     wides: &[Wide],
     rows: &[Row],
-    run: &Run,
+    run: &GateRun,
     block: u32,
 ) -> Result<(), AllocError>
     requires { run.now.to ≤ length rows.now }
@@ -122,7 +122,7 @@ pub(crate) fn readers_of(
     slots: usize,
     wides: &[Wide],
     rows: &[Row],
-    blocks: &[Run],
+    blocks: &[GateRun],
 ) -> Result<Vec<Vec<u32>>, AllocError>
     requires { AreRuns (gates_in rows.now) 0 (length (gates_in rows.now)) blocks.now }
     ensures { IfOk result (λ r. AreReaders wides.now (gates_in rows.now) blocks.now (length blocks.now) r.items) }

@@ -23,7 +23,8 @@ fn pinned_placed(
     needs: &[Use],
 ) -> Result<Option<Placing>, AllocError>
     requires { CanPlace device.now needs.now }
-    ensures { IfOk result (λ found. MatchOption found ((b : List ℕ) × (v : ℕ) × IsStuck device.now needs.now false b v) (λ placing. ArePlaced device.now needs.now false (length needs.now) placing.slots.items placing.used.items)) }
+    ensures { IfOk result (λ found. MatchOption found ((b : List ℕ) × (v : ℕ) × IsStuck device.now needs.now false b v)
+        (λ placing. ArePlaced device.now needs.now false (length needs.now) placing.slots.items placing.used.items)) }
 {
     let mut placing = nothing_placed(alloc, device, needs)?;
     match placing.place_all(device, needs, false) {
@@ -62,7 +63,8 @@ fn least_beside(
     requires placed { ArePlaced device.now needs.now false (length needs.now) placing.slots.items placing.used.items }
     requires homes { length homes.now ≡ graph.now.groups }
     requires regions { length regions.now ≡ length device.now.slots.items }
-    ensures { IfOk result (λ found. MatchOption found (HasNoneOf graph.now device.now (StayAtHome device.now homes.now regions.now)) (λ slot. IsLeastOf graph.now device.now (StayAtHome device.now homes.now regions.now) slot.items)) }
+    ensures { IfOk result (λ found. MatchOption found (HasNoneOf graph.now device.now (StayAtHome device.now homes.now regions.now))
+        (λ slot. IsLeastOf graph.now device.now (StayAtHome device.now homes.now regions.now) slot.items)) }
 {
     let Placing { mut slots, used } = placing;
     let items = free_groups(alloc, device)?;
@@ -93,7 +95,8 @@ pub fn least_at_home(
     requires needs { AreNeeds graph.now device.now needs.now }
     requires homes { length homes.now ≡ graph.now.groups }
     requires regions { length regions.now ≡ length device.now.slots.items }
-    ensures { IfOk result (λ found. MatchOption found (HasNoneOf graph.now device.now (StayAtHome device.now homes.now regions.now)) (λ slot. IsLeastOf graph.now device.now (StayAtHome device.now homes.now regions.now) slot.items)) }
+    ensures { IfOk result (λ found. MatchOption found (HasNoneOf graph.now device.now (StayAtHome device.now homes.now regions.now))
+        (λ slot. IsLeastOf graph.now device.now (StayAtHome device.now homes.now regions.now) slot.items)) }
 {
     match pinned_placed(alloc, device, needs)? {
         None => Ok(None),

@@ -32,7 +32,8 @@ fn lower_row(
     requires item { item < items tables.now }
     requires place { place < places tables.now }
     requires low { (y : ℕ) → y < places tables.now → cell rows.now (places tables.now) item y ≤ 2726297600 }
-    ensures row { (y : ℕ) → y < places tables.now → cell next.new (places tables.now) item y ≡ cell rows.now (places tables.now) item y + joint_at tables.now placed item * distance_at tables.now place y }
+    ensures row { (y : ℕ) → y < places tables.now → cell next.new (places tables.now) item y ≡ cell rows.now
+        (places tables.now) item y + joint_at tables.now placed item * distance_at tables.now place y }
     ensures others { (i y : ℕ) → i < item → y < places tables.now → cell next.new (places tables.now) i y ≡ cell next.old (places tables.now) i y }
     ensures least { (y : ℕ) → y < places tables.now → Suits tables.now item y → result ≤ cell next.new (places tables.now) item y }
     ensures small { result ≤ 2731622400 }

@@ -93,7 +93,9 @@ fn place_rooms(
     requires capacities { (s k : ℕ) → amount_at device.now.slots.items s k < 2 ^ 40 }
     requires within { (s k : ℕ) → s < length device.now.slots.items → amount_at used.now s k * 100 ≤ amount_at device.now.slots.items s k * device.now.percent }
     ensures long { IfOk result (λ room. length room.items ≡ length places.now) }
-    ensures value { IfOk result (λ room. (y k : ℕ) → y < length places.now → amount_at room.items y k + amount_at used.now (slice_index places.now y) k * 100 ≡ amount_at device.now.slots.items (slice_index places.now y) k * device.now.percent) }
+    ensures value { IfOk result (λ room. (y k : ℕ) → y < length places.now
+        → amount_at room.items y k + amount_at used.now (slice_index places.now y) k * 100 ≡ amount_at device.now.slots.items
+        (slice_index places.now y) k * device.now.percent) }
 {
     let mut room = Vec::new(alloc);
     for y in 0..places.len() {

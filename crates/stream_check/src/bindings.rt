@@ -40,8 +40,14 @@ impl StreamUsers {
     fn add_port(&mut self, instance: u32, stream: u32, end: End)
         ensures writers { length self.new.writers.rows.items ≡ length self.old.writers.rows.items }
         ensures readers { length self.new.readers.rows.items ≡ length self.old.readers.rows.items }
-        ensures written { (s : ℕ) (d : Among) → s < length self.old.writers.rows.items → get_or self.new.writers.rows.items s d ≡ (if end.writes then (if stream == s then with_user (get_or self.old.writers.rows.items s d) instance else get_or self.old.writers.rows.items s d) else get_or self.old.writers.rows.items s d) }
-        ensures read { (s : ℕ) (d : Among) → s < length self.old.readers.rows.items → get_or self.new.readers.rows.items s d ≡ (if end.writes then get_or self.old.readers.rows.items s d else (if stream == s then with_user (get_or self.old.readers.rows.items s d) instance else get_or self.old.readers.rows.items s d)) }
+        ensures written { (s : ℕ) (d : Among) → s < length self.old.writers.rows.items
+            → get_or self.new.writers.rows.items s d ≡
+            (if end.writes then (if stream == s then with_user
+            (get_or self.old.writers.rows.items s d) instance else get_or self.old.writers.rows.items s d) else get_or self.old.writers.rows.items s d) }
+        ensures read { (s : ℕ) (d : Among) → s < length self.old.readers.rows.items
+            → get_or self.new.readers.rows.items s d ≡
+            (if end.writes then get_or self.old.readers.rows.items s d else
+            (if stream == s then with_user (get_or self.old.readers.rows.items s d) instance else get_or self.old.readers.rows.items s d)) }
     {
         if end.writes {
             self.writers.add(stream, instance);
@@ -54,8 +60,10 @@ impl StreamUsers {
     fn add_ports(&mut self, instance: u32, streams: &[u32], ends: &[End])
         ensures writers { length self.new.writers.rows.items ≡ length self.old.writers.rows.items }
         ensures readers { length self.new.readers.rows.items ≡ length self.old.readers.rows.items }
-        ensures written { (s : ℕ) (d : Among) → s < length self.old.writers.rows.items → get_or self.new.writers.rows.items s d ≡ with_users (get_or self.old.writers.rows.items s d) (program.bound_ends instance s true streams.now ends.now) }
-        ensures read { (s : ℕ) (d : Among) → s < length self.old.readers.rows.items → get_or self.new.readers.rows.items s d ≡ with_users (get_or self.old.readers.rows.items s d) (program.bound_ends instance s false streams.now ends.now) }
+        ensures written { (s : ℕ) (d : Among) → s < length self.old.writers.rows.items
+            → get_or self.new.writers.rows.items s d ≡ with_users (get_or self.old.writers.rows.items s d) (program.bound_ends instance s true streams.now ends.now) }
+        ensures read { (s : ℕ) (d : Among) → s < length self.old.readers.rows.items
+            → get_or self.new.readers.rows.items s d ≡ with_users (get_or self.old.readers.rows.items s d) (program.bound_ends instance s false streams.now ends.now) }
     {
         for (position, stream) in streams.iter().enumerate() {
             if position >= ends.len() {
@@ -120,7 +128,8 @@ pub(crate) fn streams(
     instances: &[Instance],
     channels: &[Channel],
 ) -> Result<Vec<Stream>, CheckFault>
-    ensures { Answers (λ made. made.items) result (program.streams_faults (map task_view tasks.now) (map flat_instance instances.now) 0 channels.now) (program.streams_of (map task_view tasks.now) (map flat_instance instances.now) 0 channels.now) }
+    ensures { Answers (λ made. made.items) result (program.streams_faults (map task_view tasks.now) (map flat_instance instances.now) 0 channels.now)
+        (program.streams_of (map task_view tasks.now) (map flat_instance instances.now) 0 channels.now) }
 {
     let users = stream_users(alloc, tasks, instances, channels.len())?;
     let mut made = Vec::new(alloc);
@@ -135,7 +144,8 @@ pub(crate) fn streams(
 /// Adds an instance once for each of its parameters that is bound to a memory.
 fn add_memories(instance: u32, memories: &[u32], owners: &mut UserTable)
     ensures count { length owners.new.rows.items ≡ length owners.old.rows.items }
-    ensures owned { (m : ℕ) (d : Among) → m < length owners.old.rows.items → get_or owners.new.rows.items m d ≡ with_users (get_or owners.old.rows.items m d) (program.bound_memories instance m memories.now) }
+    ensures owned { (m : ℕ) (d : Among) → m < length owners.old.rows.items
+        → get_or owners.new.rows.items m d ≡ with_users (get_or owners.old.rows.items m d) (program.bound_memories instance m memories.now) }
 {
     for memory in memories {
         owners.add(*memory, instance);
@@ -167,7 +177,8 @@ fn memory(
 ) -> Result<(), CheckFault>
     ensures { (instances : List FlatInstance)
         → owners ≡ users_of (program.instances_with (length memories.old.items) 0 instances)
-        → Answers (λ x. memories.new.items) result (program.memory_faults instances (length memories.old.items) parameter.now) (memories.old.items ++ program.memory_of instances (length memories.old.items) parameter.now) }
+        → Answers (λ x. memories.new.items) result (program.memory_faults instances (length memories.old.items) parameter.now)
+        (memories.old.items ++ program.memory_of instances (length memories.old.items) parameter.now) }
 {
     let Parameter::Memory {
         constant,
@@ -216,7 +227,8 @@ fn check_writer(
     parameter: &Parameter,
 ) -> Result<u32, CheckFault>
     ensures { owners ≡ users_of (program.instances_with number 0 (map flat_instance instances.now))
-        → Answers (λ next. next) result (program.writer_faults (map flat_instance instances.now) number parameter.now) (number + length (program.memory_of (map flat_instance instances.now) number parameter.now)) }
+        → Answers (λ next. next) result (program.writer_faults (map flat_instance instances.now) number parameter.now)
+        (number + length (program.memory_of (map flat_instance instances.now) number parameter.now)) }
 {
     let Parameter::Memory { constant, name, .. } = parameter else {
         return Ok(number);
@@ -253,7 +265,8 @@ pub(crate) fn memories(
     instances: &[Instance],
     parameters: &[Parameter],
 ) -> Result<Vec<Memory>, CheckFault>
-    ensures { Answers (λ made. made.items) result (program.memories_faults (map flat_instance instances.now) 0 parameters.now ++ program.writers_faults (map flat_instance instances.now) 0 parameters.now) (program.memories_of (map flat_instance instances.now) 0 parameters.now) }
+    ensures { Answers (λ made. made.items) result (program.memories_faults (map flat_instance instances.now) 0 parameters.now ++ program.writers_faults
+        (map flat_instance instances.now) 0 parameters.now) (program.memories_of (map flat_instance instances.now) 0 parameters.now) }
 {
     let owners = memory_owners(alloc, instances, parameters.len())?;
     let mut made: Vec<Memory> = Vec::new(alloc);

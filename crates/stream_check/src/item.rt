@@ -39,7 +39,8 @@ fn check_task<'a>(
     tasks: &mut Vec<Task<'a>>,
     task: &'a TaskDeclaration,
 ) -> Result<(), CheckFault>
-    ensures { Answers (λ x. items_view file.new tasks.new.items) result (items.task_faults (items_view file.old tasks.old.items) (tree.task_of task.now)) (items.after_task (items_view file.old tasks.old.items) (tree.task_of task.now)) }
+    ensures { Answers (λ x. items_view file.new tasks.new.items) result (items.task_faults (items_view file.old tasks.old.items) (tree.task_of task.now))
+        (items.after_task (items_view file.old tasks.old.items) (tree.task_of task.now)) }
 {
     let number = number_of(tasks.len())?;
     file.declare(alloc, &task.name, Entity::Task { number })?;
@@ -57,7 +58,8 @@ fn check_item<'a>(
     tasks: &mut Vec<Task<'a>>,
     item: &'a FileItem,
 ) -> Result<(), CheckFault>
-    ensures { Answers (λ x. items_view file.new tasks.new.items) result (items.item_faults (items_view file.old tasks.old.items) (tree.item_of item.now)) (items.after_item (items_view file.old tasks.old.items) (tree.item_of item.now)) }
+    ensures { Answers (λ x. items_view file.new tasks.new.items) result (items.item_faults (items_view file.old tasks.old.items) (tree.item_of item.now))
+        (items.after_item (items_view file.old tasks.old.items) (tree.item_of item.now)) }
 {
     match item {
         FileItem::Constant {

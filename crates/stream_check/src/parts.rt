@@ -124,7 +124,8 @@ fn upper(
     invocations: &[Invoked],
     parts: &mut Parts,
 ) -> Result<(), CheckFault>
-    ensures { AddsParts result parts.old parts.new (upper_parts levels (map task_view tasks.now) place (flat_instance made.now) (length parts.old.streams.items) channels.now (map invocation_view invocations.now)) }
+    ensures { AddsParts result parts.old parts.new (upper_parts levels (map task_view tasks.now) place (flat_instance made.now) (length parts.old.streams.items) channels.now
+        (map invocation_view invocations.now)) }
 {
     if levels == 0 {
         return Err(over(MOST_LEVELS, place));
@@ -145,7 +146,8 @@ fn chain(
     invocations: &[Invoked],
     parts: &mut Parts,
 ) -> Result<(), CheckFault>
-    ensures { AddsParts result parts.old parts.new (spec.chain_parts (spec.parts_of levels (map task_view tasks.now)) (map task_view tasks.now) (flat_instance outer.now) first 0 (length parts.old.streams.items) (map invocation_view invocations.now)) }
+    ensures { AddsParts result parts.old parts.new (spec.chain_parts (spec.parts_of levels (map task_view tasks.now)) (map task_view tasks.now)
+        (flat_instance outer.now) first 0 (length parts.old.streams.items) (map invocation_view invocations.now)) }
 {
     for (position, invocation) in invocations.iter().enumerate() {
         let made = invoked(alloc, tasks, outer, first, position, invocation)?;

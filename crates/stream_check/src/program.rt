@@ -26,7 +26,8 @@ fn parts_of(
     number: usize,
     top: &TaskDeclaration,
 ) -> Result<Parts, CheckFault>
-    ensures { Answers flat_of result (spec.limit_faults 0 0 (spec.top_parts levels (map task_view tasks.now) number (tree.task_of top.now))) (flat_parts (spec.top_parts levels (map task_view tasks.now) number (tree.task_of top.now))) }
+    ensures { Answers flat_of result (spec.limit_faults 0 0 (spec.top_parts levels (map task_view tasks.now) number (tree.task_of top.now)))
+        (flat_parts (spec.top_parts levels (map task_view tasks.now) number (tree.task_of top.now))) }
 {
     let mut parts = Parts {
         streams: Vec::new(alloc),

@@ -20,7 +20,8 @@ use Rattle.tapa_drive.specs.VcdDecided.{TellsVcd}
 pub record IsDecided (words : List (List ℕ)) (before after : Outside) (status : Status) : Type 0 where
   -- what the source means with its data
   pub run : (source top : List ℕ) (named : Option (List ℕ)) (workers limit : ℕ) → Asks words (Run source top named workers limit) →
-      (meaning : SourceMeaning) → Expects before.files source top named limit meaning → NothingFails source named before after → Tells source named limit meaning status before after ⊎ (status ≡ Memory)
+      (meaning : SourceMeaning) → Expects before.files source top named limit meaning → NothingFails source named before after
+      → Tells source named limit meaning status before after ⊎ (status ≡ Memory)
   -- that the source has more bytes than it may
   pub lengthy : (source top : List ℕ) (named : Option (List ℕ)) (workers limit : ℕ) → Asks words (Run source top named workers limit) →
       IsLengthy before.files source → NothingFails source named before after → IsRefusedWith (TooLong source source_limit) status before after ⊎ (status ≡ Memory)

@@ -16,7 +16,8 @@ use Rattle.net_core.specs.Bounded.{Values}
 use Rattle.command_source.specs.Files.{OfFile, OfSource, OfData, source_limit, data_limit, verilog_limit, shown_name}
 use Rattle.command_source.specs.Inputs.{GivesValues, HasDataFault}
 use Rattle.command_source.specs.Outside.{Outside}
-use Rattle.command_source.specs.Refusal.{Refusal, Usage, Read, Write, TooLong, Source, Data, Ticks, Stopped, Device, TooManyPlans, NoPlan, NoRoom, NoHalving, Verilog, DesignData, Undone, Dump, Memory, DataFault, VerilogFault}
+use Rattle.command_source.specs.Refusal.{Refusal, Usage, Read, Write, TooLong, Source, Data, Ticks, Stopped, Device, TooManyPlans, NoPlan, NoRoom, NoHalving, Verilog}
+use Rattle.command_source.specs.Refusal.{DesignData, Undone, Dump, Memory, DataFault, VerilogFault}
 use Rattle.command_source.specs.Source.{IsProgramOf, IsRefusedSource}
 use Rattle.command_source.specs.Told.{IsToldAs}
 use Rattle.command_source.specs.declared.source.SourceCode.{SourceCode}
@@ -180,15 +181,20 @@ HasCause words before after (TooLong file most) = OfCommand words (λ c. IsTooLo
 HasCause words before after (Source file place code) = OfCommand words (λ c. IsFirst c file × OfFile before.files (most_in c) file (λ text. IsRefusedIn c text place code))
 HasCause words before after (Data file fault) = OfRun words (λ source top given limit. (shown_name given ≡ file) × OfTexts before.files source given (λ text bytes. HasBadData text top bytes fault))
 HasCause words before after (Ticks most) = OfRun words (λ source top given limit. (most ≡ limit) × OfTexts before.files source given (λ text bytes. HasLimit text top bytes limit))
-HasCause words before after (Stopped lines) = OfRun words (λ source top given limit. OfTexts before.files source given (λ text bytes. HasStopped text top bytes limit lines before.out.bytes after.out.bytes))
-HasCause words before after (Device file fault) = OfPlan words (λ source top device mode aim. (device ≡ file) × OfTexts before.files source (Some device) (λ text bytes. HasBadDevice text top bytes fault))
-HasCause words before after (TooManyPlans slots free) = OfPlan words (λ source top device mode aim. OfTexts before.files source (Some device) (λ text bytes. HasNoPlan text top bytes mode (TooManyPlans slots free)))
+HasCause words before after (Stopped lines) = OfRun words
+    (λ source top given limit. OfTexts before.files source given (λ text bytes. HasStopped text top bytes limit lines before.out.bytes after.out.bytes))
+HasCause words before after (Device file fault) = OfPlan words
+    (λ source top device mode aim. (device ≡ file) × OfTexts before.files source (Some device) (λ text bytes. HasBadDevice text top bytes fault))
+HasCause words before after (TooManyPlans slots free) = OfPlan words
+    (λ source top device mode aim. OfTexts before.files source (Some device) (λ text bytes. HasNoPlan text top bytes mode (TooManyPlans slots free)))
 HasCause words before after NoPlan = OfPlan words (λ source top device mode aim. OfTexts before.files source (Some device) (λ text bytes. HasNoPlan text top bytes mode NoPlan))
 HasCause words before after (NoRoom label) = OfPlan words (λ source top device mode aim. OfTexts before.files source (Some device) (λ text bytes. HasNoPlan text top bytes mode (NoRoom label)))
 HasCause words before after (NoHalving level) = OfPlan words (λ source top device mode aim. OfTexts before.files source (Some device) (λ text bytes. HasNoPlan text top bytes mode (NoHalving level)))
 HasCause words before after (Verilog file fault) = OfCommand words (λ c. IsFirst c file × OfFile before.files (most_in c) file (λ text. IsFaultyIn c text fault))
-HasCause words before after (DesignData file fault) = OfCosim words (λ name given limit aim. (shown_name given ≡ file) × OfDesignTexts before.files name given (λ text bytes. HasBadDesignData text bytes fault))
-HasCause words before after (Undone most) = OfCosim words (λ name given limit aim. (most ≡ limit) × OfDesignTexts before.files name given (λ text bytes. HasUndone aim text bytes limit before.out.bytes after.out.bytes))
+HasCause words before after (DesignData file fault) = OfCosim words
+    (λ name given limit aim. (shown_name given ≡ file) × OfDesignTexts before.files name given (λ text bytes. HasBadDesignData text bytes fault))
+HasCause words before after (Undone most) = OfCosim words
+    (λ name given limit aim. (most ≡ limit) × OfDesignTexts before.files name given (λ text bytes. HasUndone aim text bytes limit before.out.bytes after.out.bytes))
 HasCause words before after (Dump file fault) = HasWrongDump words before.files file fault
 HasCause words before after Memory = ⊤
 
@@ -199,7 +205,8 @@ IsRun words before after = OfRun words (λ source top given limit. OfTexts befor
 -- what is told by a plan of the source's program was written: its lines, or the text of a circuit
 abbrev pub IsPlanned : List (List ℕ) → Outside → Outside → Type 0
 IsPlanned words before after =
-    OfPlan words (λ source top device mode aim. OfTexts before.files source (Some device) (λ text bytes. (told : List ℕ) × HasPlan text top bytes mode aim told × Appends before.out.bytes after.out.bytes told))
+    OfPlan words (λ source top device mode aim. OfTexts before.files source (Some device)
+    (λ text bytes. (told : List ℕ) × HasPlan text top bytes mode aim told × Appends before.out.bytes after.out.bytes told))
 
 -- the design of the Verilog text was done in one of the cycles, and the report or the dump up to there was written
 abbrev pub IsCosimmed : List (List ℕ) → Outside → Outside → Type 0
@@ -217,9 +224,12 @@ IsDone words before after = IsRun words before after ⊎ (IsPlanned words before
 -- nothing yet: there is such a text, so no step before the writing refuses
 abbrev pub HasFrontOf : List (List ℕ) → Outside → Outside → Type 0
 HasFrontOf words before after =
-    OfRun words (λ source top given limit. OfTexts before.files source given (λ text bytes. (report : List ℕ) × IsReportOfSource text top bytes limit report × AppendsPart before.out.bytes after.out.bytes report))
-    ⊎ (OfPlan words (λ source top device mode aim. OfTexts before.files source (Some device) (λ text bytes. (told : List ℕ) × HasPlan text top bytes mode aim told × AppendsPart before.out.bytes after.out.bytes told))
-    ⊎ (OfCosim words (λ name given limit aim. OfDesignTexts before.files name given (λ text bytes. (done_at : Option ℕ) × (report : List ℕ) × HasSimulated aim text bytes limit done_at report × AppendsPart before.out.bytes after.out.bytes report))
+    OfRun words (λ source top given limit. OfTexts before.files source given
+    (λ text bytes. (report : List ℕ) × IsReportOfSource text top bytes limit report × AppendsPart before.out.bytes after.out.bytes report))
+    ⊎ (OfPlan words (λ source top device mode aim. OfTexts before.files source (Some device)
+    (λ text bytes. (told : List ℕ) × HasPlan text top bytes mode aim told × AppendsPart before.out.bytes after.out.bytes told))
+    ⊎ (OfCosim words (λ name given limit aim. OfDesignTexts before.files name given
+    (λ text bytes. (done_at : Option ℕ) × (report : List ℕ) × HasSimulated aim text bytes limit done_at report × AppendsPart before.out.bytes after.out.bytes report))
     ⊎ (OfBuild words (λ source top. OfSource before.files source (λ text. (told : List ℕ) × HasCircuit text top told × AppendsPart before.out.bytes after.out.bytes told))
     ⊎ IsVcdBegun words before after)))
 

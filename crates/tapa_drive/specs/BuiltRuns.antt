@@ -53,10 +53,12 @@ pub record ShowsProgram (program : Program) (added bytes : List ℕ) (limit : �
   pub ended : (n : ℕ) → at ≡ Some n → HaveJoinedEnded (network_in program env) (counts program added env n)
   -- and what is shown of a stream whose writer is waited for is its whole Kahn stream
   pub whole :
-      (n s : ℕ) (q : Stream) → at ≡ Some n → slice_get program.streams.items s ≡ Some q → IsJoined (network_in program env) q.producer → IsKahnStream (network_in program env) s (written_to program added env n s)
+      (n s : ℕ) (q : Stream) → at ≡ Some n → slice_get program.streams.items s ≡ Some q → IsJoined (network_in program env) q.producer
+      → IsKahnStream (network_in program env) s (written_to program added env n s)
   -- which is what a run of the program within a bound shows of it
   pub as_run :
-      (bound : ℕ) (k : ℕ → ℕ) → EndsWithin (network_in program env) bound k → (n s : ℕ) (q : Stream) → at ≡ Some n → slice_get program.streams.items s ≡ Some q → IsJoined (network_in program env) q.producer
+      (bound : ℕ) (k : ℕ → ℕ) → EndsWithin (network_in program env) bound k → (n s : ℕ) (q : Stream) → at ≡ Some n → slice_get program.streams.items s ≡ Some q
+      → IsJoined (network_in program env) q.producer
       → written_to program added env n s ≡ shown (network_in program env) k s
   -- by the greatest added latency, and the cycles in which some memory does not answer, the circuit is done in time where a run
   -- within some bound is done
@@ -67,7 +69,8 @@ pub record ShowsProgram (program : Program) (added bytes : List ℕ) (limit : �
 -- of the text of a circuit of a program, whatever latencies are added, each report is one
 abbrev pub CircuitTextsShowTheirProgram : Type 0
 CircuitTextsShowTheirProgram =
-    (program : Program) (added told bytes : List ℕ) (limit : ℕ) (at : Option ℕ) (report : List ℕ) → IsCircuitText program added told → HasSimulated Report told bytes limit at report → ShowsProgram program added bytes limit at report
+    (program : Program) (added told bytes : List ℕ) (limit : ℕ) (at : Option ℕ) (report : List ℕ) → IsCircuitText program added told
+    → HasSimulated Report told bytes limit at report → ShowsProgram program added bytes limit at report
 
 -- so of the circuit of a source
 abbrev pub CircuitsShowTheirProgram : Type 0
@@ -78,11 +81,13 @@ CircuitsShowTheirProgram =
 -- and of the one by a plan on a device
 abbrev pub PlannedCircuitsShowTheirProgram : Type 0
 PlannedCircuitsShowTheirProgram =
-    (source top device told bytes : List ℕ) (mode : PlanMode) (balanced : Bool) (limit : ℕ) (at : Option ℕ) (report : List ℕ) → HasPlan source top device mode (Circuit balanced) told → HasSimulated Report told bytes limit at report
+    (source top device told bytes : List ℕ) (mode : PlanMode) (balanced : Bool) (limit : ℕ) (at : Option ℕ) (report : List ℕ)
+    → HasPlan source top device mode (Circuit balanced) told → HasSimulated Report told bytes limit at report
     → OfProgram source top (λ program. (added : List ℕ) × ShowsProgram program added bytes limit at report)
 
 -- once both are done, circuits of a program with other latencies show the same of a stream whose writer is waited for
 abbrev pub LatencyChangesNoReport : Type 0
 LatencyChangesNoReport =
-    (program : Program) (added more bytes : List ℕ) (limit most m n : ℕ) (report other : List ℕ) (a : ShowsProgram program added bytes limit (Some m) report) (b : ShowsProgram program more bytes most (Some n) other)
+    (program : Program) (added more bytes : List ℕ) (limit most m n : ℕ) (report other : List ℕ) (a : ShowsProgram program added bytes limit (Some m) report)
+    (b : ShowsProgram program more bytes most (Some n) other)
     → (s : ℕ) (q : Stream) → slice_get program.streams.items s ≡ Some q → IsJoined (network_in program a.env) q.producer → written_to program added a.env m s ≡ written_to program more b.env n s

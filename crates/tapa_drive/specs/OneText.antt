@@ -16,7 +16,8 @@ TextsMeanOneThing =
 -- a design to which data give an environment has a report, and a dump
 abbrev pub TextsMeanSomething : Type 0
 TextsMeanSomething =
-    (aim : CosimAim) (text bytes : List ℕ) (limit : ℕ) (design : DesignTree) (env : Environment) → IsDesignOf text design → GivesEnvironment design bytes env → (at : Option ℕ) × (report : List ℕ) × HasSimulated aim text bytes limit at report
+    (aim : CosimAim) (text bytes : List ℕ) (limit : ℕ) (design : DesignTree) (env : Environment) → IsDesignOf text design → GivesEnvironment design bytes env
+    → (at : Option ℕ) × (report : List ℕ) × HasSimulated aim text bytes limit at report
 
 -- a text that is refused has no design, and is refused with one fault
 abbrev pub RefusedTextsHaveNoDesign : Type 0

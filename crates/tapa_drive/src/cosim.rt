@@ -53,7 +53,7 @@ fn shape(alloc: Global, design: &Design) -> Result<Shape, AllocError>
     ensures memories { IfOk result (λ shape. All (λ port. port.bits ≤ 64) shape.memories.items) }
 {
     let _modules = design.modules();
-    let _top = design.top();
+    design.valid();
     design.shape(alloc)
 }
 
@@ -93,7 +93,8 @@ fn read_surroundings<'a, S: Shelf>(
     ensures gives { IfOk result (λ around. OfData (S.files shelf.old) (option_map (λ file. file.now) named.entry) (λ bytes. GivesEnvironment design.now bytes (environment_of around))) }
     ensures fits { IfOk result (λ around. (m : ModuleTree) → TopOf design.now m → FitsShape (environment_of around) (shape_of m)) }
     ensures asks { AsksForData S.files S.faults (option_map (λ file. file.now) named.entry) shelf.old shelf.new }
-    ensures refused { IfErr result (λ refusal. IsNotSurrounded (S.files shelf.old) (S.faults shelf.old) (S.faults shelf.new) design.now (option_map (λ file. file.now) named.entry) (refusal_of refusal)) }
+    ensures refused { IfErr result (λ refusal. IsNotSurrounded (S.files shelf.old) (S.faults shelf.old) (S.faults shelf.new) design.now (option_map (λ file. file.now) named.entry)
+        (refusal_of refusal)) }
 {
     match named {
         None => match surroundings(alloc, design, NO_DATA.as_bytes()) {

@@ -3,7 +3,8 @@
 ghost use Rattle.tapa_drive.specs.BuiltRuns.{CircuitTextsShowTheirProgram, CircuitsShowTheirProgram, PlannedCircuitsShowTheirProgram, LatencyChangesNoReport};
 ghost use Rattle.tapa_drive.specs.DumpedRuns.{DumpsShowTheirRun};
 ghost use Rattle.tapa_drive.specs.OneText.{TextsMeanOneThing, TextsMeanSomething, RefusedTextsHaveNoDesign};
-ghost use Rattle.tapa_drive.specs.OneMeaning.{SourcesHaveOneProgram, SourcesHaveOneInput, SourcesHaveOneDataFault, SourcesMeanOneThing, SourcesMeanSomething, RefusedSourcesMeanNothing, SourcesHaveOneRefusal};
+ghost use Rattle.tapa_drive.specs.OneMeaning.{SourcesHaveOneProgram, SourcesHaveOneInput, SourcesHaveOneDataFault, SourcesMeanOneThing, SourcesMeanSomething};
+ghost use Rattle.tapa_drive.specs.OneMeaning.{RefusedSourcesMeanNothing, SourcesHaveOneRefusal};
 
 use vlog_read::law_one_fault;
 

@@ -22,7 +22,12 @@ use Rattle.tapa_syntax.specs.declared.tree.Parameter.{Parameter}
 use Rattle.tapa_syntax.specs.declared.tree.Parameter.TheVariants as parameter
 use Rattle.tapa_syntax.specs.Symbols.{Symbol}
 use Rattle.tapa_base.specs.Spans.{Span, ◌⨾◌, Nothing, Never, ◌∣◌, Is, Given, Maybe, When, Each, EachOfSome, Separated, SeparatedOrNone}
-use Rattle.tapa_syntax.specs.Trees.{ExpressionTree, literal, boolean, variable, element, call, nullptr, construct, static_cast, cast, parenthesized, prefix, binary, conditional, Expressions, none, one, PlaceTree, variable_place, element_place, ActionTree, call_action, write, read, assign, postfix, prefix_step, CountForm, literal_count, name_count, parenthesized_count, CountTree, DeclaratorTree, plain, initialized, array, DeclarationTree, AttributeTree, StartTree, no_start, declare_start, act_start, HeadTree, StatementTree, attributed, empty, block, declare, act, if_only, if_else, while, for, while_not_eot, break, continue, Statements, no_statement, statement_then, StreamTree, ArgumentTree, InvocationTree, BodyTree, leaf, upper, TaskTree, ItemTree, constant, task}
+use Rattle.tapa_syntax.specs.Trees.{ExpressionTree, literal, boolean, variable, element, call, nullptr, construct, static_cast, cast, parenthesized, prefix, binary}
+use Rattle.tapa_syntax.specs.Trees.{conditional, Expressions, none, one, PlaceTree, variable_place, element_place, ActionTree, call_action, write, read, assign, postfix}
+use Rattle.tapa_syntax.specs.Trees.{prefix_step, CountForm, literal_count, name_count, parenthesized_count, CountTree, DeclaratorTree, plain, initialized, array}
+use Rattle.tapa_syntax.specs.Trees.{DeclarationTree, AttributeTree, StartTree, no_start, declare_start, act_start, HeadTree, StatementTree, attributed, empty, block}
+use Rattle.tapa_syntax.specs.Trees.{declare, act, if_only, if_else, while, for, while_not_eot, break, continue, Statements, no_statement, statement_then, StreamTree}
+use Rattle.tapa_syntax.specs.Trees.{ArgumentTree, InvocationTree, BodyTree, leaf, upper, TaskTree, ItemTree, constant, task}
 
 abbrev pub Part : Type 1
 Part = Span Symbol
@@ -212,12 +217,14 @@ abbrev mutual
   IsExpression n (call stream method es) = IsName stream ⨾ Takes terminal.Dot ⨾ IsPlainName method ⨾ Takes terminal.LeftParen ⨾ AreArguments es ⨾ Takes terminal.RightParen
   IsExpression n nullptr = Given (argument_level ≤ n) (Takes terminal.Nullptr)
   IsExpression n (construct kind e) = IsOne kind ⨾ Takes terminal.LeftParen ⨾ IsExpression expression_level e ⨾ Takes terminal.RightParen
-  IsExpression n (static_cast kind e) = Takes terminal.StaticCast ⨾ Takes terminal.Less ⨾ IsType kind ⨾ Takes terminal.Greater ⨾ Takes terminal.LeftParen ⨾ IsExpression expression_level e ⨾ Takes terminal.RightParen
+  IsExpression n (static_cast kind e) = Takes terminal.StaticCast ⨾ Takes terminal.Less ⨾ IsType kind ⨾ Takes terminal.Greater
+    ⨾ Takes terminal.LeftParen ⨾ IsExpression expression_level e ⨾ Takes terminal.RightParen
   IsExpression n (cast kind e) = Takes terminal.LeftParen ⨾ IsType kind ⨾ Takes terminal.RightParen ⨾ IsExpression 0 e
   IsExpression n (parenthesized e) = Takes terminal.LeftParen ⨾ IsExpression expression_level e ⨾ Takes terminal.RightParen
   IsExpression n (prefix o at e) = MeansAt prefix_operator_of o at ⨾ IsExpression 0 e
   IsExpression n (binary o at a b) = Given (suc (binds_at o) ≤ n) (IsExpression (suc (binds_at o)) a ⨾ MeansAt binary_operator_of o at ⨾ IsExpression (binds_at o) b)
-  IsExpression n (conditional at c a b) = Given (expression_level ≤ n) (IsExpression or_level c ⨾ TakesAt terminal.Question at ⨾ IsExpression expression_level a ⨾ Takes terminal.Colon ⨾ IsExpression expression_level b)
+  IsExpression n (conditional at c a b) = Given (expression_level ≤ n)
+      (IsExpression or_level c ⨾ TakesAt terminal.Question at ⨾ IsExpression expression_level a ⨾ Takes terminal.Colon ⨾ IsExpression expression_level b)
 
   pub AreArguments : Expressions → Part
   AreArguments none = Nothing
@@ -234,7 +241,8 @@ IsPlace (variable_place name) = IsName name
 IsPlace (element_place name e) = IsName name ⨾ Takes terminal.LeftBracket ⨾ IsExpression expression_level e ⨾ Takes terminal.RightBracket
 
 abbrev pub IsAction : ActionTree → Part
-IsAction (call_action stream method es) = IsName stream ⨾ Takes terminal.Dot ⨾ IsPlainName method ⨾ Takes terminal.LeftParen ⨾ SeparatedOrNone (Takes terminal.Comma) (IsExpression argument_level) es ⨾ Takes terminal.RightParen
+IsAction (call_action stream method es) = IsName stream ⨾ Takes terminal.Dot ⨾ IsPlainName method ⨾ Takes terminal.LeftParen ⨾ SeparatedOrNone (Takes terminal.Comma)
+    (IsExpression argument_level) es ⨾ Takes terminal.RightParen
 IsAction (write stream es) = IsName stream ⨾ EachOfSome (λ e. Takes terminal.ShiftLeft ⨾ IsExpression sum_level e) es
 IsAction (read stream places) = IsName stream ⨾ EachOfSome (λ p. Takes terminal.ShiftRight ⨾ IsPlace p) places
 IsAction (assign target o at e) = IsPlace target ⨾ MeansAt assignment_operator_of o at ⨾ IsExpression expression_level e
@@ -307,7 +315,8 @@ abbrev mutual
   IsStatement (declare d) = IsDeclaration d ⨾ Takes terminal.Semicolon
   IsStatement (act a) = IsAction a ⨾ Takes terminal.Semicolon
   IsStatement (if_only c s) = Takes terminal.If ⨾ Takes terminal.LeftParen ⨾ IsExpression expression_level c ⨾ Takes terminal.RightParen ⨾ IsStatement s
-  IsStatement (if_else c s t) = Given (IsClosed s) (Takes terminal.If ⨾ Takes terminal.LeftParen ⨾ IsExpression expression_level c ⨾ Takes terminal.RightParen ⨾ IsStatement s ⨾ Takes terminal.Else ⨾ IsStatement t)
+  IsStatement (if_else c s t) = Given (IsClosed s)
+      (Takes terminal.If ⨾ Takes terminal.LeftParen ⨾ IsExpression expression_level c ⨾ Takes terminal.RightParen ⨾ IsStatement s ⨾ Takes terminal.Else ⨾ IsStatement t)
   IsStatement (while c s) = Takes terminal.While ⨾ Takes terminal.LeftParen ⨾ IsExpression expression_level c ⨾ Takes terminal.RightParen ⨾ IsStatement s
   IsStatement (for head s) = Takes terminal.For ⨾ Takes terminal.LeftParen ⨾ IsHead head ⨾ Takes terminal.RightParen ⨾ IsStatement s
   IsStatement (while_not_eot stream s) = Takes terminal.WhileNotEot ⨾ Takes terminal.LeftParen ⨾ IsName stream ⨾ Takes terminal.RightParen ⨾ IsStatement s
@@ -321,9 +330,12 @@ abbrev mutual
 -- ---- tasks and files
 
 abbrev pub IsParameter : Parameter → Part
-IsParameter (parameter.InputStream kind name) = Takes terminal.Tapa ⨾ Takes terminal.Scope ⨾ Takes terminal.Istream ⨾ Takes terminal.Less ⨾ IsType kind ⨾ Takes terminal.Greater ⨾ Takes terminal.Ampersand ⨾ IsName name
-IsParameter (parameter.OutputStream kind name) = Takes terminal.Tapa ⨾ Takes terminal.Scope ⨾ Takes terminal.Ostream ⨾ Takes terminal.Less ⨾ IsType kind ⨾ Takes terminal.Greater ⨾ Takes terminal.Ampersand ⨾ IsName name
-IsParameter (parameter.Memory is_const kind name) = Takes terminal.Tapa ⨾ Takes terminal.Scope ⨾ Takes terminal.Mmap ⨾ Takes terminal.Less ⨾ When is_const (Takes terminal.Const) ⨾ IsType kind ⨾ Takes terminal.Greater ⨾ IsName name
+IsParameter (parameter.InputStream kind name) = Takes terminal.Tapa ⨾ Takes terminal.Scope ⨾ Takes terminal.Istream ⨾ Takes terminal.Less
+    ⨾ IsType kind ⨾ Takes terminal.Greater ⨾ Takes terminal.Ampersand ⨾ IsName name
+IsParameter (parameter.OutputStream kind name) = Takes terminal.Tapa ⨾ Takes terminal.Scope ⨾ Takes terminal.Ostream ⨾ Takes terminal.Less
+    ⨾ IsType kind ⨾ Takes terminal.Greater ⨾ Takes terminal.Ampersand ⨾ IsName name
+IsParameter (parameter.Memory is_const kind name) = Takes terminal.Tapa ⨾ Takes terminal.Scope ⨾ Takes terminal.Mmap ⨾ Takes terminal.Less ⨾ When is_const
+    (Takes terminal.Const) ⨾ IsType kind ⨾ Takes terminal.Greater ⨾ IsName name
 IsParameter (parameter.Scalar is_const kind name) = When is_const (Takes terminal.Const) ⨾ IsType kind ⨾ IsName name
 
 -- the string that may stand behind a stream's name

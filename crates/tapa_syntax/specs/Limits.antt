@@ -1,6 +1,11 @@
 -- How deep a tree nests, and how many operators its longest expression has.
 use Rattle.std.specs.Prelude.{ℕ, suc, max, ◌+◌, ◌≤◌, List, [], ◌∷◌, Option, Some, None}
-use Rattle.tapa_syntax.specs.Trees.{ExpressionTree, literal, boolean, variable, element, call, nullptr, construct, static_cast, cast, parenthesized, prefix, binary, conditional, Expressions, none, one, PlaceTree, variable_place, element_place, ActionTree, call_action, write, read, assign, postfix, prefix_step, CountForm, literal_count, name_count, parenthesized_count, DeclaratorTree, plain, initialized, array, DeclarationTree, AttributeTree, StartTree, no_start, declare_start, act_start, HeadTree, StatementTree, attributed, empty, block, declare, act, if_only, if_else, while, for, while_not_eot, break, continue, Statements, no_statement, statement_then, StreamTree, InvocationTree, BodyTree, leaf, upper, ItemTree, constant, task}
+use Rattle.tapa_syntax.specs.Trees.{ExpressionTree, literal, boolean, variable, element, call, nullptr, construct, static_cast, cast, parenthesized, prefix, binary}
+use Rattle.tapa_syntax.specs.Trees.{conditional, Expressions, none, one, PlaceTree, variable_place, element_place, ActionTree, call_action, write, read, assign, postfix}
+use Rattle.tapa_syntax.specs.Trees.{prefix_step, CountForm, literal_count, name_count, parenthesized_count, DeclaratorTree, plain, initialized, array, DeclarationTree}
+use Rattle.tapa_syntax.specs.Trees.{AttributeTree, StartTree, no_start, declare_start, act_start, HeadTree, StatementTree, attributed, empty, block, declare, act, if_only}
+use Rattle.tapa_syntax.specs.Trees.{if_else, while, for, while_not_eot, break, continue, Statements, no_statement, statement_then, StreamTree, InvocationTree, BodyTree}
+use Rattle.tapa_syntax.specs.Trees.{leaf, upper, ItemTree, constant, task}
 
 -- the largest number, and 0 of none
 abbrev pub most : {A : Type 0} → (A → ℕ) → List A → ℕ

@@ -72,7 +72,8 @@ pub record IsInstance (program : Program) (i : ℕ) (x : Instance) (leaf : Leaf)
   pub streams_len : length x.streams.items ≡ length leaf.streams.items
   pub streams : (p s : ℕ) (e : End) → slice_get x.streams.items p ≡ Some s → slice_get leaf.streams.items p ≡ Some e → IsStreamAt program i s e
   -- no two parameters of one direction are bound to one stream
-  pub streams_once : (p q s : ℕ) (b : Bool) → slice_get x.streams.items p ≡ Some s → slice_get x.streams.items q ≡ Some s → writes_of leaf.streams.items p ≡ Some b → writes_of leaf.streams.items q ≡ Some b → p ≡ q
+  pub streams_once : (p q s : ℕ) (b : Bool) → slice_get x.streams.items p ≡ Some s → slice_get x.streams.items q ≡ Some s → writes_of leaf.streams.items p ≡ Some b
+      → writes_of leaf.streams.items q ≡ Some b → p ≡ q
   pub memories_len : length x.memories.items ≡ length leaf.memories.items
   pub memories : (p m : ℕ) (k : Kind) → slice_get x.memories.items p ≡ Some m → slice_get leaf.memories.items p ≡ Some k → IsMemoryAt program i m k
   pub memories_once : AreDistinct x.memories.items

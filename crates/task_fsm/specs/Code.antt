@@ -10,7 +10,8 @@ use Rattle.tapa_syntax.specs.declared.program.Stmt.TheVariants.{Set, SetCell, Se
 use Rattle.tapa_syntax.specs.declared.program.Leaf.{Leaf}
 use Rattle.tapa_syntax.specs.LeafKinds.{Kinds, kinds_of}
 use Rattle.tapa_syntax.specs.TickPlaces.{operation_count, size_of_block, size_of_list}
-use Rattle.task_fsm.specs.Machine.{Expression, Number, Reg, CellOf, Converted, Applied, Flipped, Inverse, Both, Either, Chosen, StateForm, SetAt, CellAt, TestAt, ReadAt, WriteAt, PeekAt, EotAt, OpenAt, CloseAt, LoadAt, StoreAt, ClearAt, EndAt, TrapAt}
+use Rattle.task_fsm.specs.Machine.{Expression, Number, Reg, CellOf, Converted, Applied, Flipped, Inverse, Both, Either, Chosen, StateForm, SetAt, CellAt, TestAt, ReadAt}
+use Rattle.task_fsm.specs.Machine.{WriteAt, PeekAt, EotAt, OpenAt, CloseAt, LoadAt, StoreAt, ClearAt, EndAt, TrapAt}
 
 -- what is left of an expression whose operations have their values in the registers from t on, the last operation first
 abbrev pub residual : Expr → ℕ → Expression
@@ -95,17 +96,23 @@ abbrev mutual
   stmt_code K N c (SetCell a i e) out again B =
       operations K N e (operations K N i (emit N (λ next. CellAt a (residual i (length B.regs)) (residual e (length B.regs + operation_count i)) next) B))
   stmt_code K N c (SetCellBy a i op kind e) out again B =
-      operations K N e (operations K N i (emit N (λ next. CellAt a (residual i (length B.regs)) (old_with op kind (K.arrays a) (CellOf a (residual i (length B.regs))) (residual e (length B.regs + operation_count i))) next) B))
+      operations K N e (operations K N i (emit N
+      (λ next. CellAt a (residual i (length B.regs))
+      (old_with op kind (K.arrays a) (CellOf a (residual i (length B.regs))) (residual e (length B.regs + operation_count i))) next) B))
   stmt_code K N c (Store m i e) out again B =
       operations K N e (operations K N i (emit N (λ next. StoreAt m (residual i (length B.regs)) (residual e (length B.regs + operation_count i)) next) B))
   stmt_code K N c (StoreBy m i op kind e) out again B =
-      operations K N e (operations K N i (emit_held N (K.memories m) (λ t next. LoadAt m (residual i (t + 1)) (Some t) next) (emit N (λ next. StoreAt m (residual i (length B.regs + 1)) (old_with op kind (K.memories m) (Reg (length B.regs)) (residual e (length B.regs + 1 + operation_count i))) next) B)))
+      operations K N e (operations K N i (emit_held N (K.memories m) (λ t next. LoadAt m (residual i (t + 1)) (Some t) next)
+      (emit N (λ next. StoreAt m (residual i (length B.regs + 1))
+      (old_with op kind (K.memories m) (Reg (length B.regs)) (residual e (length B.regs + 1 + operation_count i))) next) B)))
   stmt_code K N c (ReadVar s x) out again B =
       emit_held N (K.streams s) (λ t next. ReadAt s (Some t) next) (emit N (λ next. SetAt x (Converted (K.streams s) (K.vars x) (Reg (length B.regs))) next) B)
   stmt_code K N c (ReadCell s a i) out again B =
-      operations K N i (emit_held N (K.streams s) (λ t next. ReadAt s (Some t) next) (emit N (λ next. CellAt a (residual i (length B.regs + 1)) (Converted (K.streams s) (K.arrays a) (Reg (length B.regs))) next) B))
+      operations K N i (emit_held N (K.streams s) (λ t next. ReadAt s (Some t) next)
+      (emit N (λ next. CellAt a (residual i (length B.regs + 1)) (Converted (K.streams s) (K.arrays a) (Reg (length B.regs))) next) B))
   stmt_code K N c (ReadStore s m i) out again B =
-      operations K N i (emit_held N (K.streams s) (λ t next. ReadAt s (Some t) next) (emit N (λ next. StoreAt m (residual i (length B.regs + 1)) (Converted (K.streams s) (K.memories m) (Reg (length B.regs))) next) B))
+      operations K N i (emit_held N (K.streams s) (λ t next. ReadAt s (Some t) next)
+      (emit N (λ next. StoreAt m (residual i (length B.regs + 1)) (Converted (K.streams s) (K.memories m) (Reg (length B.regs))) next) B))
   stmt_code K N c (Write s e) out again B = operations K N e (emit N (λ next. WriteAt s (residual e (length B.regs)) next) B)
   stmt_code K N c (Open s) out again B = emit N (λ next. OpenAt s next) B
   stmt_code K N c (Close s) out again B = emit N (λ next. CloseAt s next) B
@@ -137,4 +144,5 @@ last_code N leaf = record { places = EndAt ∷ TrapAt ∷ []; entry = N - 2; reg
 
 abbrev pub leaf_code : Leaf → Emitted
 leaf_code leaf =
-    list_code (kinds_of leaf) (size_of_list leaf.code.items + 2) (length leaf.vars.items) leaf.code.items (size_of_list leaf.code.items) (size_of_list leaf.code.items) (last_code (size_of_list leaf.code.items + 2) leaf)
+    list_code (kinds_of leaf) (size_of_list leaf.code.items + 2) (length leaf.vars.items) leaf.code.items (size_of_list leaf.code.items)
+    (size_of_list leaf.code.items) (last_code (size_of_list leaf.code.items + 2) leaf)

@@ -13,7 +13,8 @@ Follows P S OutOfTurns pc τ = slice_get P pc ≡ Some TrapAt → ⊥
 Follows P S (Act a rest) pc τ =
     (p : StateForm) × (pc' : ℕ) × (τ' : State) × (slice_get P pc ≡ Some p) × (step p pc τ ≡ Performs a pc' τ') × UsesOnly S p × Follows P (cleared_after p τ S) rest pc' τ'
 Follows P S (Await s how rest) pc τ =
-    (p : StateForm) × (pc' : ℕ) × (into : Option ℕ) × (slice_get P pc ≡ Some p) × (step p pc τ ≡ Awaits s how pc' into) × (cleared_after p τ S ≡ S) × UsesOnly S p × ((v : ℕ) → Follows P S (rest v) pc' (put_into τ into v))
+    (p : StateForm) × (pc' : ℕ) × (into : Option ℕ) × (slice_get P pc ≡ Some p) × (step p pc τ ≡ Awaits s how pc' into) × (cleared_after p τ S ≡ S) × UsesOnly S p
+    × ((v : ℕ) → Follows P S (rest v) pc' (put_into τ into v))
 
 -- what is left of a job after so many of its ticks on lists
 abbrev pub left_after : ℕ → Behavior → (ℕ → List Token) → Behavior

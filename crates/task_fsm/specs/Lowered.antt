@@ -31,10 +31,14 @@ pub record IsLowered (leaf : Leaf) (fsm : Fsm) : Type 0 where
       (σ : State) → IsStart leaf σ → IsMachineOf (λ n. job_of (kinds_of leaf) leaf.code.items σ n) (forms_of fsm.states.items) (with_temporaries (length fsm.regs.items - length leaf.vars.items) σ)
   -- so it does for each tree of answers
   pub follows :
-      (σ : State) → IsStart leaf σ → (n : ℕ) → Follows (forms_of fsm.states.items) [] (job_of (kinds_of leaf) leaf.code.items σ n) 0 (with_temporaries (length fsm.regs.items - length leaf.vars.items) σ)
+      (σ : State) → IsStart leaf σ → (n : ℕ) → Follows (forms_of fsm.states.items) [] (job_of (kinds_of leaf) leaf.code.items σ n) 0
+      (with_temporaries (length fsm.regs.items - length leaf.vars.items) σ)
   -- the cells of its memories are those after the job's Stores
   pub cells :
-      (σ : State) → IsStart leaf σ → (n : ℕ) (ins : ℕ → List Token) → (run (forms_of fsm.states.items) (length (ticks (job_of (kinds_of leaf) leaf.code.items σ n) ins) + 0) 0 (with_temporaries (length fsm.regs.items - length leaf.vars.items) σ) [] ins).holds.cells ≡ cells_after (ticks (job_of (kinds_of leaf) leaf.code.items σ n) ins) σ.cells
+      (σ : State) → IsStart leaf σ → (n : ℕ) (ins : ℕ → List Token)
+      → (run (forms_of fsm.states.items) (length (ticks (job_of (kinds_of leaf) leaf.code.items σ n) ins) + 0) 0
+      (with_temporaries (length fsm.regs.items - length leaf.vars.items) σ) [] ins).holds.cells ≡ cells_after
+      (ticks (job_of (kinds_of leaf) leaf.code.items σ n) ins) σ.cells
   -- each expression has its kind
   pub typed : AreTypedStates (machine_kinds leaf fsm) (forms_of fsm.states.items)
   -- a state for each tick place, the end and the trap, and a register for each variable and temporary

@@ -14,7 +14,8 @@ use Rattle.kahn_model.specs.Behavior.{Answer, judge_token}
 use Rattle.kahn_model.specs.Fits.{IsTokenOf, ActionFits}
 use Rattle.kahn_model.specs.Trace.{State, cell, cells_of}
 use Rattle.task_fsm.specs.declared.machine.Fsm.{Fsm}
-use Rattle.task_fsm.specs.Machine.{Expression, Number, Reg, CellOf, Converted, Applied, Flipped, Inverse, Both, Either, Chosen, StateForm, SetAt, CellAt, TestAt, ReadAt, WriteAt, PeekAt, EotAt, OpenAt, CloseAt, LoadAt, StoreAt, ClearAt, EndAt, TrapAt}
+use Rattle.task_fsm.specs.Machine.{Expression, Number, Reg, CellOf, Converted, Applied, Flipped, Inverse, Both, Either, Chosen, StateForm, SetAt, CellAt, TestAt, ReadAt}
+use Rattle.task_fsm.specs.Machine.{WriteAt, PeekAt, EotAt, OpenAt, CloseAt, LoadAt, StoreAt, ClearAt, EndAt, TrapAt}
 use Rattle.task_fsm.specs.Run.{value, StateStep, Performs, Awaits, Completes, Halts, put_into}
 
 -- the kinds of a leaf with these registers in place of its variables

@@ -12,7 +12,7 @@ use tapa_base::Kind;
 // What is written so far: the states, the last one first, the number of the state that comes first in time, and the
 // registers.
 #[derive(Drop)]
-pub(crate) struct Draft {
+pub(crate) struct Emission {
     pub(crate) states: Vec<State>,
     pub(crate) entry: u32,
     pub(crate) regs: Vec<Kind>,
@@ -30,7 +30,7 @@ fn number_before(total: u32, others: usize) -> u32
 }
 
 // One more state, which leads to the first in time.
-pub(crate) fn write_state(draft: &mut Draft, total: u32, state: State) -> Result<(), AllocError>
+pub(crate) fn write_state(draft: &mut Emission, total: u32, state: State) -> Result<(), AllocError>
     ensures { IfOk result (λ u. emitted draft.new ≡ emit total (λ next. form_of state) (emitted draft.old)) }
 {
     let number = number_before(total, draft.states.len());
@@ -41,7 +41,7 @@ pub(crate) fn write_state(draft: &mut Draft, total: u32, state: State) -> Result
 
 // Writes a state that keeps its result in a new register.
 pub(crate) fn write_held(
-    draft: &mut Draft,
+    draft: &mut Emission,
     total: u32,
     kind: Kind,
     state: State,

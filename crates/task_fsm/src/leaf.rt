@@ -7,7 +7,7 @@ ghost use Rattle.task_fsm.specs.Lowered.{IsLowered};
 ghost use Rattle.task_fsm.specs.Draft.{emitted};
 ghost use Rattle.task_fsm.specs.Machine.{EndAt, TrapAt, forms_of};
 
-use crate::draft::Draft;
+use crate::draft::Emission;
 use crate::machine::{Fsm, State};
 use crate::size::size_list;
 use crate::statements::write_list;
@@ -34,7 +34,7 @@ fn copied_arrays(alloc: Global, arrays: &[Array]) -> Result<Vec<Array>, AllocErr
 }
 
 // The last two states and the registers that each machine has.
-fn last_states(alloc: Global, vars: &[Kind], entry: u32) -> Result<Draft, AllocError>
+fn last_states(alloc: Global, vars: &[Kind], entry: u32) -> Result<Emission, AllocError>
     ensures { IfOk result (λ d. emitted d ≡ record { places = EndAt ∷ TrapAt ∷ []; entry = entry; regs = vars.now ++ Kind.U32 ∷ [] }) }
 {
     let mut regs = copied_kinds(alloc, vars)?;
@@ -42,7 +42,7 @@ fn last_states(alloc: Global, vars: &[Kind], entry: u32) -> Result<Draft, AllocE
     let mut states = Vec::new(alloc);
     states.push(State::Trap)?;
     states.push(State::End)?;
-    Ok(Draft {
+    Ok(Emission {
         states,
         entry,
         regs,
@@ -50,7 +50,7 @@ fn last_states(alloc: Global, vars: &[Kind], entry: u32) -> Result<Draft, AllocE
 }
 
 // The machine that is written, with its first state first.
-fn finished(draft: Draft, name: Text, scalars: Vec<u32>, arrays: Vec<Array>) -> Fsm
+fn finished(draft: Emission, name: Text, scalars: Vec<u32>, arrays: Vec<Array>) -> Fsm
     ensures name { result.name ≡ name }
     ensures places { let w = emitted draft in forms_of result.states.items ≡ w.places }
     ensures regs { result.regs.items ≡ draft.regs.items }

@@ -5,7 +5,7 @@ ghost use Rattle.tapa_syntax.specs.LeafKinds.{kinds_of};
 ghost use Rattle.task_fsm.specs.Code.{operations, discarded, test_code};
 ghost use Rattle.task_fsm.specs.Draft.{emitted};
 
-use crate::draft::{Draft, write_held, write_state};
+use crate::draft::{Emission, write_held, write_state};
 use crate::machine::State;
 use crate::residual::residual;
 use kahn_model::kinds::{memory_kind, stream_kind};
@@ -16,7 +16,7 @@ use tapa_syntax::{Expr, Leaf};
 // The operations of an expression, the last one first.
 pub(crate) fn write_ops(
     alloc: Global,
-    draft: &mut Draft,
+    draft: &mut Emission,
     leaf: &Leaf,
     total: u32,
     e: &Expr,
@@ -115,7 +115,7 @@ pub(crate) fn write_ops(
 // An expression that is a statement.
 pub(crate) fn write_alone(
     alloc: Global,
-    draft: &mut Draft,
+    draft: &mut Emission,
     leaf: &Leaf,
     total: u32,
     e: &Expr,
@@ -173,7 +173,7 @@ pub(crate) fn write_alone(
 // A test, which leads on where it holds.
 pub(crate) fn write_test(
     alloc: Global,
-    draft: &mut Draft,
+    draft: &mut Emission,
     leaf: &Leaf,
     total: u32,
     e: &Expr,

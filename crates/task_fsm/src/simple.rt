@@ -6,7 +6,7 @@ ghost use Rattle.tapa_syntax.specs.LeafKinds.{kinds_of};
 ghost use Rattle.task_fsm.specs.Code.{plain_code};
 ghost use Rattle.task_fsm.specs.Draft.{emitted};
 
-use crate::draft::{Draft, write_held, write_state};
+use crate::draft::{Emission, write_held, write_state};
 use crate::machine::State;
 use crate::operations::write_ops;
 use crate::residual::{cell_at, converted, joined, register, residual};
@@ -19,7 +19,7 @@ use tapa_syntax::{Expr, Leaf};
 // `x = e`
 pub(crate) fn write_set(
     alloc: Global,
-    draft: &mut Draft,
+    draft: &mut Emission,
     leaf: &Leaf,
     total: u32,
     x: u32,
@@ -45,7 +45,7 @@ pub(crate) fn write_set(
 // `a[i] = e`
 pub(crate) fn write_set_cell(
     alloc: Global,
-    draft: &mut Draft,
+    draft: &mut Emission,
     leaf: &Leaf,
     total: u32,
     array: u32,
@@ -73,7 +73,7 @@ pub(crate) fn write_set_cell(
 // `a[i] op= e`
 pub(crate) fn write_set_cell_by(
     alloc: Global,
-    draft: &mut Draft,
+    draft: &mut Emission,
     leaf: &Leaf,
     total: u32,
     array: u32,
@@ -105,7 +105,7 @@ pub(crate) fn write_set_cell_by(
 // `m[i] = e`
 pub(crate) fn write_store(
     alloc: Global,
-    draft: &mut Draft,
+    draft: &mut Emission,
     leaf: &Leaf,
     total: u32,
     memory: u32,
@@ -133,7 +133,7 @@ pub(crate) fn write_store(
 // `m[i] op= e`
 pub(crate) fn write_store_by(
     alloc: Global,
-    draft: &mut Draft,
+    draft: &mut Emission,
     leaf: &Leaf,
     total: u32,
     memory: u32,
@@ -175,7 +175,7 @@ pub(crate) fn write_store_by(
 // `s >> x`
 pub(crate) fn write_read_var(
     alloc: Global,
-    draft: &mut Draft,
+    draft: &mut Emission,
     leaf: &Leaf,
     total: u32,
     stream: u32,
@@ -208,7 +208,7 @@ pub(crate) fn write_read_var(
 // `s >> a[i]`
 pub(crate) fn write_read_cell(
     alloc: Global,
-    draft: &mut Draft,
+    draft: &mut Emission,
     leaf: &Leaf,
     total: u32,
     stream: u32,
@@ -242,7 +242,7 @@ pub(crate) fn write_read_cell(
 // `s >> m[i]`
 pub(crate) fn write_read_store(
     alloc: Global,
-    draft: &mut Draft,
+    draft: &mut Emission,
     leaf: &Leaf,
     total: u32,
     stream: u32,
@@ -276,7 +276,7 @@ pub(crate) fn write_read_store(
 // `s << e`
 pub(crate) fn write_write(
     alloc: Global,
-    draft: &mut Draft,
+    draft: &mut Emission,
     leaf: &Leaf,
     total: u32,
     stream: u32,

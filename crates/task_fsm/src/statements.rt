@@ -5,7 +5,7 @@ ghost use Rattle.tapa_syntax.specs.LeafKinds.{kinds_of};
 ghost use Rattle.task_fsm.specs.Code.{stmt_code, list_code};
 ghost use Rattle.task_fsm.specs.Draft.{emitted};
 
-use crate::draft::{Draft, number_of_head, write_state};
+use crate::draft::{Emission, number_of_head, write_state};
 use crate::machine::State;
 use crate::operations::{write_alone, write_test};
 use crate::simple::{
@@ -21,7 +21,7 @@ use tapa_syntax::{Leaf, Stmt};
 #[cycle(statements)]
 fn write_stmt(
     alloc: Global,
-    draft: &mut Draft,
+    draft: &mut Emission,
     leaf: &Leaf,
     total: u32,
     counter: u32,
@@ -128,7 +128,7 @@ fn write_stmt(
 #[cycle(statements)]
 pub(crate) fn write_list(
     alloc: Global,
-    draft: &mut Draft,
+    draft: &mut Emission,
     leaf: &Leaf,
     total: u32,
     counter: u32,

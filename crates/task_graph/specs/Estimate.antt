@@ -9,7 +9,9 @@ use Rattle.tapa_base.specs.declared.op.Op.TheVariants as op
 use Rattle.tapa_base.specs.Kinds.{bits_of}
 use Rattle.tapa_syntax.specs.declared.program.Array.{Array}
 use Rattle.tapa_syntax.specs.declared.program.Leaf.{Leaf}
-use Rattle.tapa_syntax.specs.Flat.{FlatExpression, FlatStatement, FlatStatements, literal, variable, cell, read, peek, is_end, load, convert, apply, flip, negation, conjunction, disjunction, choice, set, set_cell, set_cell_by, store, store_by, read_variable, read_cell, read_store, write, take_end, put_end, discard, clear, branch, loop, break, continue, no_statement, statement_then, flat_statement, in_row}
+use Rattle.tapa_syntax.specs.Flat.{FlatExpression, FlatStatement, FlatStatements, literal, variable, cell, read, peek, is_end, load, convert, apply, flip, negation}
+use Rattle.tapa_syntax.specs.Flat.{conjunction, disjunction, choice, set, set_cell, set_cell_by, store, store_by, read_variable, read_cell, read_store, write, take_end}
+use Rattle.tapa_syntax.specs.Flat.{put_end, discard, clear, branch, loop, break, continue, no_statement, statement_then, flat_statement, in_row}
 use Rattle.tapa_syntax.specs.LeafKinds.{Kinds, kinds_of}
 use Rattle.tapa_syntax.specs.TickPlaces.{places_of}
 use Rattle.tapa_syntax.specs.Typed.{result_kind}

@@ -235,7 +235,8 @@ fn in_discarded(counted: Counted, leaf: &Leaf, value: &Expr) -> u64
 
 /// The sum over two expressions.
 fn two(counted: Counted, leaf: &Leaf, first: &Expr, second: &Expr) -> u64
-    ensures { result ≡ capped (estimate.in_expression (rates_of counted) (kinds_of leaf.now) (flat_expression first.now) + estimate.in_expression (rates_of counted) (kinds_of leaf.now) (flat_expression second.now)) }
+    ensures { result ≡ capped (estimate.in_expression (rates_of counted) (kinds_of leaf.now) (flat_expression first.now) + estimate.in_expression (rates_of counted)
+        (kinds_of leaf.now) (flat_expression second.now)) }
 {
     in_expression(counted, leaf, first).saturating_add(in_expression(counted, leaf, second))
 }

@@ -132,7 +132,8 @@ pub record IsSameDump (nets others : List Net) (v w : Values) (last end : ℕ) :
   pub same_values : (n k : ℕ) → n ≤ last → k < length nets → v n k ≡ w n k
 
 abbrev pub IsOneDump : Type 0
-IsOneDump = (top other : Name) (nets others : List Net) (v w : Values) (last end : ℕ) (text : Bytes) → IsDumpOf top nets v last text → IsDumpOf other others w end text → IsSameDump nets others v w last end
+IsOneDump = (top other : Name) (nets others : List Net) (v w : Values) (last end : ℕ) (text : Bytes) → IsDumpOf top nets v last text
+    → IsDumpOf other others w end text → IsSameDump nets others v w last end
 
 -- a text is a dump, or it is told at one place that it is none
 abbrev pub IsDumpOrNone : Type 0

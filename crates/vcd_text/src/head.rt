@@ -173,7 +173,8 @@ fn from_width<'a>(
     number: u32,
     text: &'a [u8],
 ) -> Result<(NetFound<'a>, &'a [u8]), usize>
-    ensures found { IfOk result (λ r. MayName nets.now r.0.0.now × (1 ≤ r.0.1) × (r.0.1 ≤ 128) × (text.now ≡ ((decimal r.0.1 ++ 32 ∷ []) ++ ((identifier number ++ 32 ∷ []) ++ (r.0.0.now ++ codes " $end\n"))) ++ r.1.now)) }
+    ensures found { IfOk result (λ r. MayName nets.now r.0.0.now × (1 ≤ r.0.1) × (r.0.1 ≤ 128)
+        × (text.now ≡ ((decimal r.0.1 ++ 32 ∷ []) ++ ((identifier number ++ 32 ∷ []) ++ (r.0.0.now ++ codes " $end\n"))) ++ r.1.now)) }
     ensures stop { IfErr result (λ left. StopsBefore (IsFromWidth nets.now number) text.now left) }
 {
     let (bits, rest) = width_at(text)?;
@@ -186,7 +187,8 @@ fn from_type<'a>(
     number: u32,
     text: &'a [u8],
 ) -> Result<(NetFound<'a>, &'a [u8]), usize>
-    ensures found { IfOk result (λ r. MayName nets.now r.0.0.now × (1 ≤ r.0.1) × (r.0.1 ≤ 128) × ((q : Bool) × (text.now ≡ (net_type q ++ ((decimal r.0.1 ++ 32 ∷ []) ++ ((identifier number ++ 32 ∷ []) ++ (r.0.0.now ++ codes " $end\n")))) ++ r.1.now))) }
+    ensures found { IfOk result (λ r. MayName nets.now r.0.0.now × (1 ≤ r.0.1) × (r.0.1 ≤ 128)
+        × ((q : Bool) × (text.now ≡ (net_type q ++ ((decimal r.0.1 ++ 32 ∷ []) ++ ((identifier number ++ 32 ∷ []) ++ (r.0.0.now ++ codes " $end\n")))) ++ r.1.now))) }
     ensures stop { IfErr result (λ left. StopsBefore (IsFromType nets.now number) text.now left) }
 {
     let (_, rest) = type_at(text)?;

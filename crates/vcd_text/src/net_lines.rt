@@ -48,7 +48,8 @@ fn push_if(text: &mut Vec<u8>, change: &Change, net: usize) -> Result<(), AllocE
 /// which its value is another than in the cycle before, both in decimal.
 pub fn net_text(alloc: Global, changes: &[Change], net: usize) -> Result<Vec<u8>, AllocError>
     ensures lines { IfOk result (λ text. text.items ≡ lines_of net changes.now) }
-    ensures values { IfOk result (λ text. (nets : List Net) (values : Values) (last : ℕ) → changes.now ≡ changes_to nets values last → net < length nets → text.items ≡ value_lines (λ n. values n net) last) }
+    ensures values { IfOk result (λ text. (nets : List Net) (values : Values) (last : ℕ) → changes.now ≡ changes_to nets values last → net < length nets
+        → text.items ≡ value_lines (λ n. values n net) last) }
 {
     let mut text = Vec::new(alloc);
     for i in 0..changes.len() {

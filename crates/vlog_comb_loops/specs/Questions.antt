@@ -42,7 +42,8 @@ AreUses ms q = (at : ℕ) (k : ModuleTree) → slice_get ms at ≡ Some k → As
 
 -- those of some lines that have an instance ask of its port
 abbrev pub AsksPort : Questions → ModuleTree → List Question → Name → Type 0
-AsksPort q k lines x = (e : Question) (j : ℕ) (item : Item) (m i : Name) → Has lines e → e.1 ≡ Some j → slice_get k.items j ≡ Some item → Has (item_instances item) (m, i) → Has (asked_of q (port_of m x)) e
+AsksPort q k lines x = (e : Question) (j : ℕ) (item : Item) (m i : Name) → Has lines e → e.1 ≡ Some j → slice_get k.items j ≡ Some item
+    → Has (item_instances item) (m, i) → Has (asked_of q (port_of m x)) e
 
 -- the names of a module's graph are asked for: its own, and those of ports of its instances
 pub record Asks (q : Questions) (at : ℕ) (k : ModuleTree) (names : List Name) : Type 0 where

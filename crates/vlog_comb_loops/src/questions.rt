@@ -220,7 +220,8 @@ fn ask_port(
     line: (usize, Option<usize>),
     port: &[u8],
 ) -> Result<(), AllocError>
-    ensures there { OnOk result ((j : ℕ) (item : Item) (m i : List ℕ) → line.1 ≡ Some j → slice_get k.now.items j ≡ Some item → Has (item_instances item) (m, i) → Has (asked_of questions.new (port_of m port.now)) line) }
+    ensures there { OnOk result ((j : ℕ) (item : Item) (m i : List ℕ) → line.1 ≡ Some j → slice_get k.now.items j ≡ Some item → Has (item_instances item) (m, i)
+        → Has (asked_of questions.new (port_of m port.now)) line) }
     ensures kept { OnOk result (Keeps questions.old questions.new) }
 {
     match line.1 {

@@ -314,7 +314,8 @@ pub(crate) fn renew(
     requires sum { at < length sums.old.items }
     requires uses { AreUses library.now uses.now }
     ensures len { length sums.new.items ≡ length sums.old.items }
-    ensures sound { OnOk result (AreSums (IsSoundSum library.now (is_named (option_copied root.entry))) library.now sums.old.items → AreSums (IsSoundSum library.now (is_named (option_copied root.entry))) library.now sums.new.items) }
+    ensures sound { OnOk result (AreSums (IsSoundSum library.now (is_named (option_copied root.entry))) library.now sums.old.items
+        → AreSums (IsSoundSum library.now (is_named (option_copied root.entry))) library.now sums.new.items) }
     ensures same { IfOk result (λ r. r.steady ≡ true → sums.new.items ≡ sums.old.items) }
     ensures less { IfOk result (λ r. r.steady ≡ false → room library.now sums.new.items < room library.now sums.old.items) }
     ensures more { OnOk result (room library.now sums.new.items ≤ room library.now sums.old.items) }

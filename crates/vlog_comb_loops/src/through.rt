@@ -11,13 +11,13 @@ ghost use Rattle.vlog_comb_loops.specs.Summaries.{is_named, sum_named, port_pair
 use crate::sums::{Sum, pairs_at};
 use std::alloc::{AllocError, Global};
 use tapa_base::Text;
-use vlog_net_graph::{Draft, NamedGraph, add_edge, direct_draft, port_name};
+use vlog_net_graph::{GraphDraft, NamedGraph, add_edge, direct_draft, port_name};
 use vlog_scope::Library;
 use vlog_tree::{Item, Module};
 
 fn add_pair(
     alloc: Global,
-    g: &mut Draft,
+    g: &mut GraphDraft,
     instance: &Text,
     pair: &(Text, Text),
 ) -> Result<(), AllocError>
@@ -30,7 +30,7 @@ fn add_pair(
 
 fn add_pairs(
     alloc: Global,
-    g: &mut Draft,
+    g: &mut GraphDraft,
     instance: &Text,
     pairs: &[(Text, Text)],
 ) -> Result<(), AllocError>
@@ -55,7 +55,7 @@ fn pairs_named<'a>(library: &Library, sums: &'a [Sum], name: &Text) -> &'a [(Tex
 // An instance's outputs rest on those inputs on which they rest inside.
 fn add_through(
     alloc: Global,
-    g: &mut Draft,
+    g: &mut GraphDraft,
     library: &Library,
     sums: &[Sum],
     item: &Item,
@@ -78,7 +78,7 @@ fn add_through(
 
 fn add_all_through(
     alloc: Global,
-    g: &mut Draft,
+    g: &mut GraphDraft,
     library: &Library,
     sums: &[Sum],
     items: &[Item],

@@ -1,11 +1,11 @@
 // A design: modules that break none of the rules, with the place of their top.
 
-ghost use Rattle.std.specs.Prelude.{◌≡◌, ◌≤◌, ℕ, List, length, slice_get, Some, IfOk, IfErr, OnOk};
+ghost use Rattle.std.specs.Prelude.{◌≡◌, ◌≤◌, ℕ, List, length, map, slice_get, Some, IfOk, IfErr, OnOk};
 ghost use Rattle.std.specs.Option.{option_copied};
 ghost use Rattle.vlog_tree.specs.Form.{ModuleTree};
 ghost use Rattle.vlog_tree.specs.Environment.{shape_of, streams_of};
 ghost use Rattle.vlog_tree.specs.Loops.{IsLoopless};
-ghost use Rattle.vlog_tree.specs.Table.{first_violation, declared, names_of};
+ghost use Rattle.vlog_tree.specs.Table.{first_violation, declared, module_declared, names_of};
 ghost use Rattle.vlog_tree.specs.V6.{is_top, roots, first_name, v6_uses};
 ghost use Rattle.vlog_tree.specs.Refused.{Refuses, IsSound, IsDesign};
 ghost use Rattle.vlog_design.specs.Designs.{TopOf};
@@ -126,6 +126,20 @@ impl Design {
         let place = self.top;
         let modules = self.modules();
         &modules[place]
+    }
+
+    /// Says that a design has a top; nothing is done.
+    pub fn valid(&self)
+        ensures { (m : ModuleTree) × TopOf self.now m }
+    {
+        let _top = self.top();
+    }
+
+    /// The names of the modules, in the order of the text.
+    pub fn names(&self) -> &Scope
+        ensures { result.now ≡ map module_declared self.now.modules }
+    {
+        self.sound.library().names()
     }
 
     /// The names that each module declares.

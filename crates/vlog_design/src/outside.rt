@@ -5,7 +5,8 @@ ghost use Rattle.std.specs.Option.{option_copied, option_map_or};
 ghost use Rattle.std.specs.List.{flat_map};
 ghost use Rattle.vlog_tree.specs.Form.{ModuleTree};
 ghost use Rattle.vlog_tree.specs.Table.{first_violation, port_declared, times_in};
-ghost use Rattle.vlog_tree.specs.V6.{contained_names, roots, first_name, is_top as is_top_lem, is_whole_top as is_whole_top_lem, top_ports, clock_connection as clock_connection_lem, clock_connections as clock_connections_lem, module_tops, v6_uses};
+ghost use Rattle.vlog_tree.specs.V6.{contained_names, roots, first_name, is_top as is_top_lem, is_whole_top as is_whole_top_lem, top_ports};
+ghost use Rattle.vlog_tree.specs.V6.{clock_connection as clock_connection_lem, clock_connections as clock_connections_lem, module_tops, v6_uses};
 
 use crate::top::{first_misfit_port, has_port};
 use std::alloc::{AllocError, Global};

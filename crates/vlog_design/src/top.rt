@@ -7,7 +7,10 @@ ghost use Rattle.vlog_tree.specs.declared.tree.PortDecl.{PortDecl as PortTree};
 ghost use Rattle.vlog_scope.specs.NameTable.{value_in};
 ghost use Rattle.vlog_tree.specs.Table.{first_violation, NameUse, clk, is_clk, port_declared, declared};
 ghost use Rattle.vlog_tree.specs.Labels.{rst as rst_lem, done as done_lem, m_rdata, m_wdata};
-ghost use Rattle.vlog_tree.specs.V6.{has_port as has_port_lem, has_all_five as has_all_five_lem, bits_before, agrees as agrees_lem, is_in as is_in_lem, is_out as is_out_lem, is_memory_port as is_memory_port_lem, is_expected as is_expected_lem, fixed_fits as fixed_fits_lem, scalar_fits as scalar_fits_lem, ack_fits as ack_fits_lem, rdata_fits as rdata_fits_lem, addr_fits as addr_fits_lem, wdata_fits as wdata_fits_lem, we_fits as we_fits_lem, port_fits as port_fits_lem, top_ports};
+ghost use Rattle.vlog_tree.specs.V6.{has_port as has_port_lem, has_all_five as has_all_five_lem, bits_before, agrees as agrees_lem, is_in as is_in_lem};
+ghost use Rattle.vlog_tree.specs.V6.{is_out as is_out_lem, is_memory_port as is_memory_port_lem, is_expected as is_expected_lem, fixed_fits as fixed_fits_lem};
+ghost use Rattle.vlog_tree.specs.V6.{scalar_fits as scalar_fits_lem, ack_fits as ack_fits_lem, rdata_fits as rdata_fits_lem, addr_fits as addr_fits_lem};
+ghost use Rattle.vlog_tree.specs.V6.{wdata_fits as wdata_fits_lem, we_fits as we_fits_lem, port_fits as port_fits_lem, top_ports};
 
 use std::alloc::{AllocError, Global};
 use tapa_base::Text;

@@ -2,7 +2,9 @@
 use Rattle.std.specs.Prelude.{Bool, true, false, List, [], ◌∷◌, codes}
 use Rattle.vlog_tree.specs.Spelling.{Word}
 use Rattle.vlog_lex.specs.declared.coming.Coming.{Coming}
-use Rattle.vlog_lex.specs.declared.coming.Coming.TheVariants.{Nothing, Semicolon, LeftParen, ParenDot, Dot, RightParen, RangeEnd, ZeroBracket, RightBracket, ZeroColon, Colon, BracketSemicolon, BracketArrow, Arrow, Equals, LeftBrace, BracesEnd, BraceEnd, Clocked, ClockedParen, ClockedEdge, ClockedName, ParenBegin, Begin}
+use Rattle.vlog_lex.specs.declared.coming.Coming.TheVariants.{Nothing, Semicolon, LeftParen, ParenDot, Dot, RightParen, RangeEnd, ZeroBracket, RightBracket, ZeroColon}
+use Rattle.vlog_lex.specs.declared.coming.Coming.TheVariants.{Colon, BracketSemicolon, BracketArrow, Arrow, Equals, LeftBrace, BracesEnd, BraceEnd, Clocked, ClockedParen}
+use Rattle.vlog_lex.specs.declared.coming.Coming.TheVariants.{ClockedEdge, ClockedName, ParenBegin, Begin}
 
 abbrev pub is_nothing : Coming → Bool
 is_nothing Nothing = true

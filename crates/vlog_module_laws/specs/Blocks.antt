@@ -29,7 +29,8 @@ StepsLeaveTheRest = (s : Sizes) (old next : Cycle) (on : List Bool) (steps : Lis
 
 -- what steps make of a name depends on what was left there before them, and on nothing that was left elsewhere
 abbrev pub StepsLookAtOneName : Type 0
-StepsLookAtOneName = (s : Sizes) (old next other : Cycle) (on : List Bool) (steps : List Step) (x : Name) → IsSameAt x next other → IsSameAt x (run_steps s old on steps next) (run_steps s old on steps other)
+StepsLookAtOneName = (s : Sizes) (old next other : Cycle) (on : List Bool) (steps : List Step) (x : Name) → IsSameAt x next other
+    → IsSameAt x (run_steps s old on steps next) (run_steps s old on steps other)
 
 -- all blocks leave of a name what its own block leaves
 abbrev pub OwnBlocksDecide : Type 0

@@ -5,7 +5,7 @@ use Rattle.vlog_tree.specs.Table.{Name}
 use Rattle.vlog_tree.specs.Loops.{Edges}
 use Rattle.vlog_scope.specs.NameTable.{value_in}
 use Rattle.number_graph.specs.Graphs.{Steps}
-use Rattle.vlog_net_graph.specs.declared.names.Draft.{Draft}
+use Rattle.vlog_net_graph.specs.declared.names.GraphDraft.{GraphDraft}
 use Rattle.vlog_net_graph.specs.declared.names.NamedGraph.{NamedGraph}
 
 -- the numbers below a count stand for names, one for each, and their steps for the edges
@@ -16,7 +16,7 @@ pub record IsNumbered (edges : Edges) (number : Name → Option ℕ) (R : ℕ �
   pub only : (j k : ℕ) → R j k → (a : Name) × (b : Name) × (number a ≡ Some j) × (number b ≡ Some k) × Has edges (a, b)
 
 -- a graph that still grows has these edges
-abbrev pub IsDraftOf : Edges → Draft → Type 0
+abbrev pub IsDraftOf : Edges → GraphDraft → Type 0
 IsDraftOf edges d = IsNumbered edges (value_in d.numbers) (λ j k. Has d.edges.items (j, k)) (length d.names.items)
 
 abbrev pub IsGraphOf : Edges → NamedGraph → Type 0
@@ -34,7 +34,7 @@ texts names = map (λ v. v.items) names
 abbrev pub AreListed : (Name → Option ℕ) → List Name → Type 0
 AreListed number names = (x : Name) (k : ℕ) → number x ≡ Some k → slice_get names k ≡ Some x
 
-abbrev pub IsListed : Draft → Type 0
+abbrev pub IsListed : GraphDraft → Type 0
 IsListed d = AreListed (value_in d.numbers) (texts d.names.items)
 
 abbrev pub IsGraphListed : NamedGraph → Type 0

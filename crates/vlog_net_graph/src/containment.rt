@@ -7,12 +7,12 @@ ghost use Rattle.vlog_net_graph.specs.Names.{IsDraftOf, IsGraphOf};
 ghost use Rattle.vlog_net_graph.specs.Growth.{Adds};
 
 use crate::lines::add_edge;
-use crate::names::{Draft, NamedGraph};
+use crate::names::{GraphDraft, NamedGraph};
 use std::alloc::{AllocError, Global};
 use tapa_base::Text;
 use vlog_tree::{Item, Module};
 
-fn add_child(alloc: Global, g: &mut Draft, m: &Text, item: &Item) -> Result<(), AllocError>
+fn add_child(alloc: Global, g: &mut GraphDraft, m: &Text, item: &Item) -> Result<(), AllocError>
     ensures { OnOk result (Adds g.old g.new (map (λ k. (m.now, k)) (item_children item.now))) }
 {
     match item {
@@ -26,7 +26,7 @@ fn add_child(alloc: Global, g: &mut Draft, m: &Text, item: &Item) -> Result<(), 
 }
 
 #[tactic(auto, unfolding(vlog_tree::specs::Loops::own_containment, vlog_tree::specs::V6::module_children))]
-fn add_children(alloc: Global, g: &mut Draft, m: &Module) -> Result<(), AllocError>
+fn add_children(alloc: Global, g: &mut GraphDraft, m: &Module) -> Result<(), AllocError>
     ensures { OnOk result (Adds g.old g.new (own_containment m.now)) }
 {
     for item in m.items() {
@@ -35,10 +35,10 @@ fn add_children(alloc: Global, g: &mut Draft, m: &Module) -> Result<(), AllocErr
     Ok(())
 }
 
-fn containment_draft(alloc: Global, modules: &[Module]) -> Result<Draft, AllocError>
+fn containment_draft(alloc: Global, modules: &[Module]) -> Result<GraphDraft, AllocError>
     ensures { IfOk result (λ g. IsDraftOf (containment modules.now) g) }
 {
-    let mut g = Draft::new(alloc);
+    let mut g = GraphDraft::new(alloc);
     for m in modules {
         add_children(alloc, &mut g, m)?;
     }

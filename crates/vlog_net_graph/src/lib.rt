@@ -10,4 +10,4 @@ mod names;
 pub use containment::containment_of;
 pub use lines::{add_edge, direct_draft, dotted, port_name};
 pub use merged::merged_is_loopless;
-pub use names::{Draft, NamedGraph, insert_number};
+pub use names::{GraphDraft, NamedGraph, insert_number};

@@ -9,7 +9,7 @@ ghost use Rattle.vlog_net_graph.specs.Names.{IsDraftOf, IsListed};
 ghost use Rattle.vlog_net_graph.specs.Growth.{Adds};
 ghost use Rattle.vlog_net_graph.specs.Merged.{is_named, under};
 
-use crate::names::Draft;
+use crate::names::GraphDraft;
 use std::alloc::{AllocError, Global};
 use tapa_base::Text;
 use vlog_rules::{is_input, is_read};
@@ -37,7 +37,7 @@ pub fn port_name(alloc: Global, instance: &Text, port: &Text) -> Result<Vec<u8>,
 }
 
 /// One more edge: the first name rests on the second.
-pub fn add_edge(alloc: Global, g: &mut Draft, from: &[u8], to: &[u8]) -> Result<(), AllocError>
+pub fn add_edge(alloc: Global, g: &mut GraphDraft, from: &[u8], to: &[u8]) -> Result<(), AllocError>
     ensures { OnOk result (Adds g.old g.new ((from.now, to.now) ∷ [])) }
 {
     g.add_edge(alloc, from, to)?;
@@ -47,7 +47,7 @@ pub fn add_edge(alloc: Global, g: &mut Draft, from: &[u8], to: &[u8]) -> Result<
 /// One more edge, of names in memory of their own.
 pub(crate) fn add_owned(
     alloc: Global,
-    g: &mut Draft,
+    g: &mut GraphDraft,
     from: Vec<u8>,
     to: Vec<u8>,
 ) -> Result<(), AllocError>
@@ -90,7 +90,7 @@ pub(crate) fn port_under(
 // One more edge, of names with these bytes in front.
 fn add_under(
     alloc: Global,
-    g: &mut Draft,
+    g: &mut GraphDraft,
     front: &[u8],
     from: &[u8],
     to: &[u8],
@@ -109,7 +109,7 @@ fn add_under(
 
 fn add_atom(
     alloc: Global,
-    g: &mut Draft,
+    g: &mut GraphDraft,
     front: &[u8],
     x: &Text,
     atom: &Atom,
@@ -125,7 +125,7 @@ fn add_atom(
 
 fn add_two(
     alloc: Global,
-    g: &mut Draft,
+    g: &mut GraphDraft,
     front: &[u8],
     x: &Text,
     a: &Atom,
@@ -140,7 +140,7 @@ fn add_two(
 
 fn add_three(
     alloc: Global,
-    g: &mut Draft,
+    g: &mut GraphDraft,
     front: &[u8],
     x: &Text,
     a: &Atom,
@@ -156,7 +156,7 @@ fn add_three(
 
 fn add_atoms(
     alloc: Global,
-    g: &mut Draft,
+    g: &mut GraphDraft,
     front: &[u8],
     x: &Text,
     atoms: &[Atom],
@@ -172,7 +172,7 @@ fn add_atoms(
 // A driven net rests on the nets of its driver.
 fn add_value(
     alloc: Global,
-    g: &mut Draft,
+    g: &mut GraphDraft,
     front: &[u8],
     x: &Text,
     value: &Value,
@@ -202,7 +202,7 @@ fn add_value(
 #[tactic(auto, unfolding(vlog_tree::specs::Loops::connection_edge))]
 fn add_connection(
     alloc: Global,
-    g: &mut Draft,
+    g: &mut GraphDraft,
     ports: &Scope,
     front: &[u8],
     instance: &Text,
@@ -221,7 +221,7 @@ fn add_connection(
 
 fn add_connections(
     alloc: Global,
-    g: &mut Draft,
+    g: &mut GraphDraft,
     ports: &Scope,
     front: &[u8],
     instance: &Text,
@@ -237,7 +237,7 @@ fn add_connections(
 
 fn add_line(
     alloc: Global,
-    g: &mut Draft,
+    g: &mut GraphDraft,
     library: &Library,
     front: &[u8],
     item: &Item,
@@ -263,7 +263,7 @@ fn add_line(
 
 fn add_lines(
     alloc: Global,
-    g: &mut Draft,
+    g: &mut GraphDraft,
     library: &Library,
     front: &[u8],
     items: &[Item],
@@ -279,7 +279,7 @@ fn add_lines(
 // What a memory gives rests on the place that it is asked for, where the top has ports for both.
 fn add_answer(
     alloc: Global,
-    g: &mut Draft,
+    g: &mut GraphDraft,
     ports: &Scope,
     front: &[u8],
     d: &Declaration,
@@ -303,7 +303,7 @@ fn add_answer(
 
 fn add_answers(
     alloc: Global,
-    g: &mut Draft,
+    g: &mut GraphDraft,
     ports: &Scope,
     front: &[u8],
     names: &[Declaration],
@@ -318,7 +318,7 @@ fn add_answers(
 
 fn add_memories(
     alloc: Global,
-    g: &mut Draft,
+    g: &mut GraphDraft,
     front: &[u8],
     top: bool,
     m: &Module,
@@ -347,7 +347,7 @@ fn is_top(root: Option<&Text>, name: &Text) -> bool
 /// bytes in front. `root` is the name of the first module that no other contains.
 pub(crate) fn add_direct(
     alloc: Global,
-    g: &mut Draft,
+    g: &mut GraphDraft,
     library: &Library,
     root: Option<&Text>,
     front: &[u8],
@@ -367,11 +367,11 @@ pub fn direct_draft(
     library: &Library,
     root: Option<&Text>,
     m: &Module,
-) -> Result<Draft, AllocError>
+) -> Result<GraphDraft, AllocError>
     ensures graph { IfOk result (λ g. IsDraftOf (direct_edges library.now (is_named (option_copied root.entry)) m.now) g) }
     ensures listed { IfOk result (λ g. IsListed g) }
 {
-    let mut g = Draft::new(alloc);
+    let mut g = GraphDraft::new(alloc);
     add_direct(alloc, &mut g, library, root, &[], m)?;
     Ok(g)
 }

@@ -12,7 +12,7 @@ ghost use Rattle.vlog_net_graph.specs.Growth.{Adds};
 ghost use Rattle.vlog_net_graph.specs.Merged.{is_named, port_pair, port_edge, join, joins, module_merged, merged_edges};
 
 use crate::lines::{add_direct, add_owned, dotted, port_name};
-use crate::names::Draft;
+use crate::names::GraphDraft;
 use std::alloc::{AllocError, Global};
 use tapa_base::Text;
 use vlog_rules::is_input;
@@ -22,7 +22,7 @@ use vlog_tree::{Declaration, Item, Module};
 // The edges of a module's own lines.
 fn add_own(
     alloc: Global,
-    g: &mut Draft,
+    g: &mut GraphDraft,
     library: &Library,
     root: Option<&Text>,
     m: &Module,
@@ -38,7 +38,7 @@ fn add_own(
 // an output. The ports are those of that module, and the port's name has the given one before it.
 fn add_port_edge(
     alloc: Global,
-    g: &mut Draft,
+    g: &mut GraphDraft,
     ports: &Scope,
     before: &Text,
     port: &Text,
@@ -74,7 +74,7 @@ fn wire_name(alloc: Global, m: &Text, instance: &Text, port: &Text) -> Result<Ve
 // A port of an instance of k in a module m.
 fn add_join(
     alloc: Global,
-    g: &mut Draft,
+    g: &mut GraphDraft,
     ports: &Scope,
     m: &Text,
     k: &Text,
@@ -89,7 +89,7 @@ fn add_join(
 
 fn add_joins(
     alloc: Global,
-    g: &mut Draft,
+    g: &mut GraphDraft,
     ports: &Scope,
     m: &Text,
     k: &Text,
@@ -106,7 +106,7 @@ fn add_joins(
 
 fn add_instance(
     alloc: Global,
-    g: &mut Draft,
+    g: &mut GraphDraft,
     library: &Library,
     m: &Text,
     k: &Text,
@@ -120,7 +120,7 @@ fn add_instance(
 
 fn add_item(
     alloc: Global,
-    g: &mut Draft,
+    g: &mut GraphDraft,
     library: &Library,
     m: &Text,
     item: &Item,
@@ -143,7 +143,7 @@ fn add_item(
 
 fn add_items(
     alloc: Global,
-    g: &mut Draft,
+    g: &mut GraphDraft,
     library: &Library,
     m: &Text,
     items: &[Item],
@@ -158,7 +158,7 @@ fn add_items(
 
 fn add_module(
     alloc: Global,
-    g: &mut Draft,
+    g: &mut GraphDraft,
     library: &Library,
     root: Option<&Text>,
     m: &Module,
@@ -172,7 +172,7 @@ fn add_module(
 
 fn add_modules(
     alloc: Global,
-    g: &mut Draft,
+    g: &mut GraphDraft,
     library: &Library,
     root: Option<&Text>,
     modules: &[Module],
@@ -208,11 +208,15 @@ fn count_all_names(modules: &[Module]) -> usize {
     count
 }
 
-fn merged_draft(alloc: Global, library: &Library, root: Option<&Text>) -> Result<Draft, AllocError>
+fn merged_draft(
+    alloc: Global,
+    library: &Library,
+    root: Option<&Text>,
+) -> Result<GraphDraft, AllocError>
     ensures { IfOk result (λ g. IsDraftOf (merged_edges library.now (is_named (option_copied root.entry))) g) }
 {
     let modules = library.modules();
-    let mut g = Draft::with_room(alloc, count_all_names(modules))?;
+    let mut g = GraphDraft::with_room(alloc, count_all_names(modules))?;
     add_modules(alloc, &mut g, library, root, modules)?;
     Ok(g)
 }

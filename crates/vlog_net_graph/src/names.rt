@@ -12,7 +12,7 @@ use std::collections::HashMap;
 
 /// A graph of names that grows: the names by their numbers, and the edges by numbers.
 #[derive(Drop)]
-pub struct Draft {
+pub struct GraphDraft {
     pub numbers: HashMap<Vec<u8>, usize>,
     pub names: Vec<Vec<u8>>,
     pub edges: Vec<(usize, usize)>,
@@ -40,13 +40,13 @@ pub fn insert_number(
     Ok(())
 }
 
-impl Draft {
+impl GraphDraft {
     /// A graph of no names.
-    pub fn new(alloc: Global) -> Draft
+    pub fn new(alloc: Global) -> GraphDraft
         ensures graph { IsDraftOf [] result }
         ensures listed { IsListed result }
     {
-        Draft {
+        GraphDraft {
             numbers: HashMap::new(alloc),
             names: Vec::new(alloc),
             edges: Vec::new(alloc),
@@ -54,11 +54,11 @@ impl Draft {
     }
 
     /// A graph of no names, with room for so many.
-    pub fn with_room(alloc: Global, count: usize) -> Result<Draft, AllocError>
+    pub fn with_room(alloc: Global, count: usize) -> Result<GraphDraft, AllocError>
         ensures graph { IfOk result (λ g. IsDraftOf [] g) }
         ensures listed { IfOk result (λ g. IsListed g) }
     {
-        Ok(Draft {
+        Ok(GraphDraft {
             numbers: HashMap::with_capacity(alloc, count)?,
             names: Vec::with_capacity(alloc, count)?,
             edges: Vec::new(alloc),

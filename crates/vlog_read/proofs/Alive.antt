@@ -17,7 +17,7 @@ use Rattle.vlog_tree.specs.Clamped.{clamped_width, clamped_cells}
 use Rattle.tapa_base.specs.Spans.{Each}
 use Rattle.vlog_lex.specs.Numerals.{IsNumber}
 use Rattle.vlog_lex.specs.Flat.{SpellsStep}
-use Rattle.vlog_read.specs.declared.state.Draft.{Draft}
+use Rattle.vlog_read.specs.declared.state.ModuleDraft.{ModuleDraft}
 use Rattle.vlog_read.specs.declared.state.Steps.{Steps}
 use Rattle.vlog_read.specs.declared.state.Joining.{Joining}
 use Rattle.vlog_read.specs.declared.state.Declared.{Declared}
@@ -73,22 +73,22 @@ atom_on G h = let k = h (Net (codes "x")) in (k.0, codes "x" ∷ k.1, (Net (code
 -- ---- modules and their heads
 
 -- the end of a module may end the words
-pub items_end : (d : Draft) → Items (finished d) d (codes "endmodule" ∷ [])
+pub items_end : (d : ModuleDraft) → Items (finished d) d (codes "endmodule" ∷ [])
 items_end d = ([], codes "endmodule" ∷ [], refl, ([], refl, ([], refl, refl, some)))
   where
     some : 1 ≤ length (d.modules ++ module_of d ∷ [])
     some = omega (arith, length-append d.modules (module_of d ∷ []))
 
-items_on : (d : Draft) → Alive (λ cs. Items cs d)
+items_on : (d : ModuleDraft) → Alive (λ cs. Items cs d)
 items_on d = (finished d, codes "endmodule" ∷ [], items_end d)
 
-behind_on : (ws : List Word) (d : Draft) (x : ItemTree) → Alive (λ cs. ItemBehind cs ws d x)
+behind_on : (ws : List Word) (d : ModuleDraft) (x : ItemTree) → Alive (λ cs. ItemBehind cs ws d x)
 behind_on ws d x = words_on ws (λ cs. Items cs (with_item d x)) (items_on (with_item d x))
 
-more_ports_on : (d : Draft) → Alive (λ cs. MorePorts cs d)
+more_ports_on : (d : ModuleDraft) → Alive (λ cs. MorePorts cs d)
 more_ports_on d = let k = words_on (codes ")" ∷ codes ";" ∷ []) (λ cs. Items cs d) (items_on d) in (k.0, k.1, ([], k.1, refl, k.2))
 
-ports_on : (d : Draft) → Alive (λ cs. Ports cs d)
+ports_on : (d : ModuleDraft) → Alive (λ cs. Ports cs d)
 ports_on d =
     let k = more_ports_on (with_port d (port_of direction_form.Input 1 (codes "x"))) in
     (k.0, codes "input" ∷ codes "x" ∷ k.1, (port_of direction_form.Input 1 (codes "x"), k.1, (codes "x" ∷ k.1, refl, (codes "x" ∷ k.1, inl (refl, refl), (x_named, refl))), k.2))
@@ -100,26 +100,26 @@ modules_on : (ms : List ModuleTree) → Alive (λ cs. Modules cs ms)
 modules_on [] = let k = module_name_on [] in (k.0, codes "module" ∷ k.1, (between_read k.0 []).from (codes "module" ∷ k.1) k.2)
 modules_on (m ∷ ms) = (m ∷ ms, [], ([], refl, refl, omega arith))
 
-cells_on : (d : Draft) (bits : ℕ) (x : Word) → Alive (λ cs. Cells cs d bits x)
+cells_on : (d : ModuleDraft) (bits : ℕ) (x : Word) → Alive (λ cs. Cells cs d bits x)
 cells_on d bits x = counted_on (λ cs n. ItemBehind cs (codes "]" ∷ codes ";" ∷ []) d (Memory bits x (clamped_cells n))) (λ n. behind_on (codes "]" ∷ codes ";" ∷ []) d (Memory bits x (clamped_cells n)))
 
-reg_on : (d : Draft) (bits : ℕ) (x : Word) → Alive (λ cs. RegEnd cs d bits x)
+reg_on : (d : ModuleDraft) (bits : ℕ) (x : Word) → Alive (λ cs. RegEnd cs d bits x)
 reg_on d bits x = let k = behind_on (codes ";" ∷ []) d (Reg bits x) in (k.0, k.1, inl k.2)
 
-declaration_end_on : (d : Draft) (k : Declared) (bits : ℕ) (x : Word) → Alive (λ cs. DeclarationEnd cs d k bits x)
+declaration_end_on : (d : ModuleDraft) (k : Declared) (bits : ℕ) (x : Word) → Alive (λ cs. DeclarationEnd cs d k bits x)
 declaration_end_on d declared_form.Input bits x = more_ports_on (with_port d (port_of direction_form.Input bits x))
 declaration_end_on d declared_form.Output bits x = more_ports_on (with_port d (port_of direction_form.Output bits x))
 declaration_end_on d declared_form.Wire bits x = behind_on (codes ";" ∷ []) d (Wire bits x)
 declaration_end_on d declared_form.Reg bits x = reg_on d bits x
 
-name_on : (d : Draft) (k : Declared) (bits : ℕ) → Alive (λ cs. Name cs d k bits)
+name_on : (d : ModuleDraft) (k : Declared) (bits : ℕ) → Alive (λ cs. Name cs d k bits)
 name_on d k bits = named_on (λ cs x. DeclarationEnd cs d k bits x) (declaration_end_on d k bits)
 
-high_on : (d : Draft) (k : Declared) → Alive (λ cs. High cs d k)
+high_on : (d : ModuleDraft) (k : Declared) → Alive (λ cs. High cs d k)
 high_on d k =
     counted_on (λ cs n. Words (codes ":" ∷ codes "0" ∷ codes "]" ∷ []) (Name cs d k (clamped_width n))) (λ n. words_on (codes ":" ∷ codes "0" ∷ codes "]" ∷ []) (λ cs. Name cs d k (clamped_width n)) (name_on d k (clamped_width n)))
 
-declaration_on : (d : Draft) (k : Declared) → Alive (λ cs. Declaration cs d k)
+declaration_on : (d : ModuleDraft) (k : Declared) → Alive (λ cs. Declaration cs d k)
 declaration_on d k = let a = name_on d k 1 in (a.0, a.1, (1, a.1, inl (refl, refl), a.2))
 
 -- ---- blocks
@@ -139,27 +139,27 @@ unfolding ends
 ends_spell [] j = (j, refl)
 ends_spell (b ∷ parts) j = let k = ends_spell parts j in (codes "end" ∷ k.0, (k.0, refl, k.1))
 
-steps_on : (d : Draft) (s : Steps) → Alive (λ cs. MoreSteps cs d s)
+steps_on : (d : ModuleDraft) (s : Steps) → Alive (λ cs. MoreSteps cs d s)
 steps_on d s =
     let k = behind_on (codes "end" ∷ []) d (Always (fold put_step s.steps (ends s.parts))) in let e = ends_spell s.parts k.1 in (k.0, e.0, (ends s.parts, k.1, ends_nest s.parts, e.1, k.2))
 
-else_on : (d : Draft) (s : Steps) → Alive (λ cs. ElseOrMore cs d s)
+else_on : (d : ModuleDraft) (s : Steps) → Alive (λ cs. ElseOrMore cs d s)
 else_on d s = let k = steps_on d (with_step s End) in (k.0, k.1, inr k.2)
 
-condition_on : (d : Draft) (s : Steps) → Alive (λ cs. Condition cs d s)
+condition_on : (d : ModuleDraft) (s : Steps) → Alive (λ cs. Condition cs d s)
 condition_on d s =
     named_on (λ cs x. Words (codes ")" ∷ codes "begin" ∷ []) (MoreSteps cs d (opened s (If x) false)))
     (λ x. words_on (codes ")" ∷ codes "begin" ∷ []) (λ cs. MoreSteps cs d (opened s (If x) false)) (steps_on d (opened s (If x) false)))
 
 -- ---- atoms, and what drives a net
 
-driven_on : (d : Draft) (y : Word) (v : ValueTree) → Alive (λ cs. Driven cs d y v)
+driven_on : (d : ModuleDraft) (y : Word) (v : ValueTree) → Alive (λ cs. Driven cs d y v)
 driven_on d y v = behind_on (codes ";" ∷ []) d (Assign y v)
 
-value_end_on : (d : Draft) (y : Word) (a : Atom) → Alive (λ cs. ValueEnd cs d y a)
+value_end_on : (d : ModuleDraft) (y : Word) (a : Atom) → Alive (λ cs. ValueEnd cs d y a)
 value_end_on d y a = let k = driven_on d y (Plain a) in (k.0, k.1, inl k.2)
 
-more_atoms_on : (d : Draft) (y : Word) (atoms : List Atom) → Alive (λ cs. MoreAtoms cs d y atoms)
+more_atoms_on : (d : ModuleDraft) (y : Word) (atoms : List Atom) → Alive (λ cs. MoreAtoms cs d y atoms)
 more_atoms_on d y atoms =
     let more : List Atom = Net (codes "x") ∷ Net (codes "x") ∷ [] in
     let k = behind_on (codes "}" ∷ codes ";" ∷ []) d (Assign y (Concat (fold put_atom atoms more))) in
@@ -172,10 +172,10 @@ more_atoms_on d y atoms =
     some : 2 ≤ length ((atoms ++ Net (codes "x") ∷ []) ++ Net (codes "x") ∷ [])
     some = omega (arith, length-append (atoms ++ Net (codes "x") ∷ []) (Net (codes "x") ∷ []), length-append atoms (Net (codes "x") ∷ []))
 
-assigned_on : (d : Draft) (s : Steps) → Alive (λ cs. Words (codes ";" ∷ []) (MoreSteps cs d s))
+assigned_on : (d : ModuleDraft) (s : Steps) → Alive (λ cs. Words (codes ";" ∷ []) (MoreSteps cs d s))
 assigned_on d s = words_on (codes ";" ∷ []) (λ cs. MoreSteps cs d s) (steps_on d s)
 
-atom_behind_on : (d : Draft) (p : Purpose) (a : Atom) → Alive (λ cs. AtomBehind cs d p a)
+atom_behind_on : (d : ModuleDraft) (p : Purpose) (a : Atom) → Alive (λ cs. AtomBehind cs d p a)
 atom_behind_on d (First y) a = value_end_on d y a
 atom_behind_on d (Inverted y) a = driven_on d y (Invert a)
 atom_behind_on d (Right y left op) a = driven_on d y (Binary left op a)
@@ -186,51 +186,51 @@ atom_behind_on d (Copied y n) a = behind_on (codes "}" ∷ codes "}" ∷ codes "
 atom_behind_on d (Assigned s x) a = assigned_on d (with_step s (NonblockingAssign x a))
 atom_behind_on d (Stored s m x) a = assigned_on d (with_step s (MemoryAssign m x a))
 
-low_on : (d : Draft) (p : Purpose) (x : Word) (high : ℕ) → Alive (λ cs. Low cs d p x high)
+low_on : (d : ModuleDraft) (p : Purpose) (x : Word) (high : ℕ) → Alive (λ cs. Low cs d p x high)
 low_on d p x high =
     numbered_on (λ cs n. Words (codes "]" ∷ []) (AtomBehind cs d p (PartSelect x high (clamped_width n))))
     (λ n. words_on (codes "]" ∷ []) (λ cs. AtomBehind cs d p (PartSelect x high (clamped_width n))) (atom_behind_on d p (PartSelect x high (clamped_width n))))
 
-high_or_index_on : (d : Draft) (p : Purpose) (x : Word) → Alive (λ cs. HighOrIndex cs d p x)
+high_or_index_on : (d : ModuleDraft) (p : Purpose) (x : Word) → Alive (λ cs. HighOrIndex cs d p x)
 high_or_index_on d p x =
     let k = numbered_on (λ cs n. Words (codes ":" ∷ []) (Low cs d p x (clamped_width n))) (λ n. words_on (codes ":" ∷ []) (λ cs. Low cs d p x (clamped_width n)) (low_on d p x (clamped_width n))) in (k.0, k.1, inl k.2)
 
-name_end_on : (d : Draft) (p : Purpose) (x : Word) → Alive (λ cs. NameEnd cs d p x)
+name_end_on : (d : ModuleDraft) (p : Purpose) (x : Word) → Alive (λ cs. NameEnd cs d p x)
 name_end_on d p x = let k = atom_behind_on d p (Net x) in (k.0, k.1, inr k.2)
 
-an_atom_on : (d : Draft) (p : Purpose) → Alive (λ cs. AnAtom cs d p)
+an_atom_on : (d : ModuleDraft) (p : Purpose) → Alive (λ cs. AnAtom cs d p)
 an_atom_on d p = let k = atom_on (λ cs a. AtomBehind cs d p a) (atom_behind_on d p) in (k.0, k.1, inl k.2)
 
-braces_on : (d : Draft) (y : Word) → Alive (λ cs. InBraces cs d y)
+braces_on : (d : ModuleDraft) (y : Word) → Alive (λ cs. InBraces cs d y)
 braces_on d y = let k = an_atom_on d (Joined y []) in (k.0, k.1, inr k.2)
 
-drives_on : (d : Draft) (y : Word) → Alive (λ cs. Drives cs d y)
+drives_on : (d : ModuleDraft) (y : Word) → Alive (λ cs. Drives cs d y)
 drives_on d y = let k = driven_on d y (Plain (Net (codes "x"))) in (k.0, codes "x" ∷ k.1, (Plain (Net (codes "x")), k.1, (x_named, refl), k.2))
 
-assign_name_on : (d : Draft) → Alive (λ cs. FinishesValue cs (AssignName d))
+assign_name_on : (d : ModuleDraft) → Alive (λ cs. FinishesValue cs (AssignName d))
 assign_name_on d = named_on (λ cs x. Words (codes "=" ∷ []) (Drives cs d x)) (λ x. words_on (codes "=" ∷ []) (λ cs. Drives cs d x) (drives_on d x))
 
-place_on : (d : Draft) (s : Steps) (m : Word) → Alive (λ cs. Place cs d s m)
+place_on : (d : ModuleDraft) (s : Steps) (m : Word) → Alive (λ cs. Place cs d s m)
 place_on d s m =
     named_on (λ cs x. Words (codes "]" ∷ codes "<=" ∷ []) (AnAtom cs d (Stored s m x))) (λ x. words_on (codes "]" ∷ codes "<=" ∷ []) (λ cs. AnAtom cs d (Stored s m x)) (an_atom_on d (Stored s m x)))
 
-target_on : (d : Draft) (s : Steps) (x : Word) → Alive (λ cs. Target cs d s x)
+target_on : (d : ModuleDraft) (s : Steps) (x : Word) → Alive (λ cs. Target cs d s x)
 target_on d s x = let k = words_on (codes "<=" ∷ []) (λ cs. AnAtom cs d (Assigned s x)) (an_atom_on d (Assigned s x)) in (k.0, k.1, inl k.2)
 
 -- ---- instances
 
-more_connections_on : (d : Draft) (q : Joining) → Alive (λ cs. MoreConnections cs d q)
+more_connections_on : (d : ModuleDraft) (q : Joining) → Alive (λ cs. MoreConnections cs d q)
 more_connections_on d q = let k = behind_on (codes ")" ∷ codes ";" ∷ []) d (joined q) in (k.0, k.1, ([], k.1, refl, k.2))
 
-net_on : (d : Draft) (q : Joining) (p : Word) → Alive (λ cs. JoinedNet cs d q p)
+net_on : (d : ModuleDraft) (q : Joining) (p : Word) → Alive (λ cs. JoinedNet cs d q p)
 net_on d q p =
     named_on (λ cs n. Words (codes ")" ∷ []) (MoreConnections cs d (with_connection q (connection_of p n))))
     (λ n. words_on (codes ")" ∷ []) (λ cs. MoreConnections cs d (with_connection q (connection_of p n))) (more_connections_on d (with_connection q (connection_of p n))))
 
-port_on : (d : Draft) (q : Joining) → Alive (λ cs. JoinedPort cs d q)
+port_on : (d : ModuleDraft) (q : Joining) → Alive (λ cs. JoinedPort cs d q)
 port_on d q = named_on (λ cs p. Words (codes "(" ∷ []) (JoinedNet cs d q p)) (λ p. words_on (codes "(" ∷ []) (λ cs. JoinedNet cs d q p) (net_on d q p))
 
-instances_on : (d : Draft) (m : Word) → Alive (λ cs. Instances cs d m)
+instances_on : (d : ModuleDraft) (m : Word) → Alive (λ cs. Instances cs d m)
 instances_on d m =
     named_on (λ cs x. Words (codes "(" ∷ codes "." ∷ []) (JoinedPort cs d (no_connection m x))) (λ x. words_on (codes "(" ∷ codes "." ∷ []) (λ cs. JoinedPort cs d (no_connection m x)) (port_on d (no_connection m x)))
 

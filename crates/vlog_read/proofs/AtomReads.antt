@@ -15,7 +15,7 @@ use Rattle.tapa_base.specs.Spans.{Is}
 use Rattle.vlog_lex.specs.Numerals.{IsLiteral}
 use Rattle.vlog_lex.specs.Grammar.{SpellsOperator}
 use Rattle.vlog_lex.specs.declared.coming.Coming.TheVariants.{Nothing, Semicolon, RightBracket, Colon, BracketSemicolon, BraceEnd}
-use Rattle.vlog_read.specs.declared.state.Draft.{Draft}
+use Rattle.vlog_read.specs.declared.state.ModuleDraft.{ModuleDraft}
 use Rattle.vlog_read.specs.declared.state.Purpose.{Purpose}
 use Rattle.vlog_read.specs.declared.state.Purpose.TheVariants.{First, Inverted, Right, Yes, No, Joined, Copied, Assigned, Stored}
 use Rattle.vlog_read.specs.declared.state.ValueState.TheVariants.{AtomStart, AtomNext, AtomHigh, AtomLow, AtomEnd}
@@ -107,14 +107,14 @@ module _ (cs : List ModuleTree) where
   -- ---- what is left behind an atom
 
   -- no cell of a memory but where the first atom of a value stands
-  pub plain_atom : (d : Draft) (p : Purpose) → ((m : Word) (i : List Word) → Index cs d p m i → ⊥) → (i : List Word) → AnAtom cs d p i → OneAtom (AtomBehind cs d p) i
+  pub plain_atom : (d : ModuleDraft) (p : Purpose) → ((m : Word) (i : List Word) → Index cs d p m i → ⊥) → (i : List Word) → AnAtom cs d p i → OneAtom (AtomBehind cs d p) i
   plain_atom d p none i (inl h) = h
   plain_atom d p none i (inr (m, j, name, (t, opening, h))) = absurd (none m t h)
 
-  abbrev Operators : Draft → Word → Atom → Left
+  abbrev Operators : ModuleDraft → Word → Atom → Left
   Operators d y a i = (op : BinaryOp) × (j : List Word) × SpellsOperator op i j × OneAtom (λ b. Driven cs d y (Binary a op b)) j
 
-  operators_read : (d : Draft) (y : Word) (a : Atom) → IsRead cs (λ w. right_by d y a (operator_of w)) ⊥ (Operators d y a)
+  operators_read : (d : ModuleDraft) (y : Word) (a : Atom) → IsRead cs (λ w. right_by d y a (operator_of w)) ⊥ (Operators d y a)
   operators_read d y a = record { to = there; from = back }
     where
       there : (i : List Word) → Operators d y a i → Reads cs (λ w. right_by d y a (operator_of w)) ⊥ i
@@ -129,7 +129,7 @@ module _ (cs : List ModuleTree) where
       back [] x = absurd x
       back (w ∷ t) x = by_found w t (operator_of w) refl x
 
-  pub value_next_read : (d : Draft) (y : Word) (a : Atom) → IsRead cs (value_next d y a) ⊥ (ValueEnd cs d y a)
+  pub value_next_read : (d : ModuleDraft) (y : Word) (a : Atom) → IsRead cs (value_next d y a) ⊥ (ValueEnd cs d y a)
   value_next_read d y a =
       as_read (word_or cs (codes ";") (driven d Nothing y (Plain a)) (word_or cs (codes "?") (at (Value (AtomStart d (Yes y a)))) (operators_read d y a) refl) refl) (λ i. there i) (λ i. back i)
     where
@@ -149,10 +149,10 @@ module _ (cs : List ModuleTree) where
   of_le : (a b : ℕ) → a ≤ b → nat_le a b ≡ true
   of_le a b h = grind (arith, nat_tests)
 
-  abbrev Joins : Draft → Word → List Atom → Left
+  abbrev Joins : ModuleDraft → Word → List Atom → Left
   Joins d y atoms i = Words (codes "," ∷ []) (AnAtom cs d (Joined y atoms)) i ⊎ ((nat_le 2 (length atoms) ≡ true) × ItemBehind cs (codes "}" ∷ codes ";" ∷ []) d (Assign y (Concat atoms)) i)
 
-  pub concat_next_read : (d : Draft) (y : Word) (atoms : List Atom) → IsRead cs (concat_next d y atoms) ⊥ (MoreAtoms cs d y atoms)
+  pub concat_next_read : (d : ModuleDraft) (y : Word) (atoms : List Atom) → IsRead cs (concat_next d y atoms) ⊥ (MoreAtoms cs d y atoms)
   concat_next_read d y atoms =
       as_read (word_or cs (codes ",") (at (Value (AtomStart d (Joined y atoms)))) (guard_read cs (codes "}") (nat_le 2 (length atoms)) (driven d Semicolon y (Concat atoms))) refl) (λ i. there i) (λ i. back i)
     where
@@ -165,7 +165,7 @@ module _ (cs : List ModuleTree) where
       back i ([], j, e, two, (k, close, rest)) = inr (of_le 2 (length atoms) two, (k, e ∙ close, rest))
       back i (a ∷ more, j, (x, (t, comma, atom), each), two, rest) = inl (t, comma, inl (a, x, atom, (more, j, each, two, rest)))
 
-  pub atom_end_read : (d : Draft) (p : Purpose) (a : Atom) → IsRead cs (atom_end d p a) ⊥ (AtomBehind cs d p a)
+  pub atom_end_read : (d : ModuleDraft) (p : Purpose) (a : Atom) → IsRead cs (atom_end d p a) ⊥ (AtomBehind cs d p a)
   atom_end_read d (First y) a = value_next_read d y a
   atom_end_read d (Inverted y) a = fixed_read cs (codes ";") (driven d Nothing y (Invert a))
   atom_end_read d (Right y left op) a = fixed_read cs (codes ";") (driven d Nothing y (Binary left op a))
@@ -179,7 +179,7 @@ module _ (cs : List ModuleTree) where
 
   -- ---- atoms
 
-  no_bracket : (d : Draft) (p : Purpose) (a : Atom) → atom_end d p a (codes "[") ≡ None
+  no_bracket : (d : ModuleDraft) (p : Purpose) (a : Atom) → atom_end d p a (codes "[") ≡ None
   no_bracket d (First y) a = refl
   no_bracket d (Inverted y) a = refl
   no_bracket d (Right y left op) a = refl
@@ -190,10 +190,10 @@ module _ (cs : List ModuleTree) where
   no_bracket d (Assigned s x) a = refl
   no_bracket d (Stored s m x) a = refl
 
-  pub atom_next_read : (d : Draft) (p : Purpose) (x : Word) → IsRead cs (atom_next d p x) ⊥ (NameEnd cs d p x)
+  pub atom_next_read : (d : ModuleDraft) (p : Purpose) (x : Word) → IsRead cs (atom_next d p x) ⊥ (NameEnd cs d p x)
   atom_next_read d p x = word_or cs (codes "[") (at (Value (AtomHigh d p x))) (atom_end_read d p (Net x)) (no_bracket d p (Net x))
 
-  index_read : (d : Draft) (p : Purpose) (m : Word) → IsRead cs (cell_index d p m) ⊥ (Index cs d p m)
+  index_read : (d : ModuleDraft) (p : Purpose) (m : Word) → IsRead cs (cell_index d p m) ⊥ (Index cs d p m)
   index_read d (First y) m = name_read cs (λ x. driven d BracketSemicolon y (Cell m x))
   index_read d (Inverted y) m = no_read cs
   index_read d (Right y left op) m = no_read cs
@@ -204,7 +204,7 @@ module _ (cs : List ModuleTree) where
   index_read d (Assigned s x) m = no_read cs
   index_read d (Stored s n x) m = no_read cs
 
-  no_index : (d : Draft) (p : Purpose) (m w : Word) → is_number w ≡ true → cell_index d p m w ≡ None
+  no_index : (d : ModuleDraft) (p : Purpose) (m w : Word) → is_number w ≡ true → cell_index d p m w ≡ None
   no_index d (First y) m w h = ap (λ t. cond {A = Next} t (Some (driven d BracketSemicolon y (Cell m w))) None) (number_no_name w h)
   no_index d (Inverted y) m w h = refl
   no_index d (Right y left op) m w h = refl
@@ -215,16 +215,16 @@ module _ (cs : List ModuleTree) where
   no_index d (Assigned s x) m w h = refl
   no_index d (Stored s n x) m w h = refl
 
-  pub atom_high_read : (d : Draft) (p : Purpose) (x : Word) → IsRead cs (atom_high d p x) ⊥ (HighOrIndex cs d p x)
+  pub atom_high_read : (d : ModuleDraft) (p : Purpose) (x : Word) → IsRead cs (atom_high d p x) ⊥ (HighOrIndex cs d p x)
   atom_high_read d p x = number_or cs (λ n. behind Colon (Value (AtomLow d p x (clamped_width n)))) (index_read d p x) (no_index d p x)
 
-  pub atom_low_read : (d : Draft) (p : Purpose) (x : Word) (high : ℕ) → IsRead cs (atom_low d p x high) ⊥ (Low cs d p x high)
+  pub atom_low_read : (d : ModuleDraft) (p : Purpose) (x : Word) (high : ℕ) → IsRead cs (atom_low d p x high) ⊥ (Low cs d p x high)
   atom_low_read d p x high = number_read cs (λ n. behind RightBracket (Value (AtomEnd d p (PartSelect x high (clamped_width n)))))
 
-  abbrev Literals : Draft → Purpose → Left
+  abbrev Literals : ModuleDraft → Purpose → Left
   Literals d p i = (width : ℕ) × (value : ℕ) × (j : List Word) × Is (IsLiteral width value) i j × AtomBehind cs d p (clamped_atom (Literal width value)) j
 
-  literals_read : (d : Draft) (p : Purpose) → IsRead cs (λ w. atom_by d p (literal_of w)) ⊥ (Literals d p)
+  literals_read : (d : ModuleDraft) (p : Purpose) → IsRead cs (λ w. atom_by d p (literal_of w)) ⊥ (Literals d p)
   literals_read d p = record { to = there; from = back }
     where
       there : (i : List Word) → Literals d p i → Reads cs (λ w. atom_by d p (literal_of w)) ⊥ i
@@ -239,7 +239,7 @@ module _ (cs : List ModuleTree) where
       back [] x = absurd x
       back (w ∷ t) x = by_found w t (literal_of w) refl x
 
-  pub atom_start_read : (d : Draft) (p : Purpose) → IsRead cs (atom_start d p) ⊥ (AnAtom cs d p)
+  pub atom_start_read : (d : ModuleDraft) (p : Purpose) → IsRead cs (atom_start d p) ⊥ (AnAtom cs d p)
   atom_start_read d p =
       as_read (name_or cs (λ x. at (Value (AtomNext d p x))) (literals_read d p) (λ w e. ap (λ (o : Option Atom). atom_by d p o) (name_no_literal w e))) (λ i. there i) (λ i. back i)
     where

@@ -10,7 +10,7 @@ use Rattle.vlog_tree.specs.declared.tree.PortDecl.{PortDecl}
 use Rattle.vlog_tree.specs.Form.{ModuleTree}
 use Rattle.vlog_tree.specs.Spelling.{Word}
 use Rattle.vlog_tree.specs.Clamped.{clamped_atom, clamped_step, clamped_item, clamped_port, clamped}
-use Rattle.vlog_read.specs.declared.state.Draft.{Draft}
+use Rattle.vlog_read.specs.declared.state.ModuleDraft.{ModuleDraft}
 use Rattle.vlog_read.specs.declared.state.Joining.{Joining}
 use Rattle.vlog_read.specs.ValueReading.{begun, finished, with_connection, joined}
 use Rattle.vlog_read.specs.BlockReading.{no_connection}
@@ -52,18 +52,18 @@ pub all_connections : (m x : Word) (ls : List Connection) → joined (fold with_
 unfolding with_connections
 all_connections m x ls = ap joined (folded_connections (no_connection m x) ls)
 
-with_ports : Draft → List PortDecl → Draft
+with_ports : ModuleDraft → List PortDecl → ModuleDraft
 with_ports d more = record { modules = d.modules; name = d.name; ports = d.ports ++ more; items = d.items }
 
-with_items : Draft → List Item → Draft
+with_items : ModuleDraft → List Item → ModuleDraft
 with_items d more = record { modules = d.modules; name = d.name; ports = d.ports; items = d.items ++ more }
 
-folded_ports : (d : Draft) (more : List PortDecl) → fold put_port d more ≡ with_ports d (map clamped_port more)
+folded_ports : (d : ModuleDraft) (more : List PortDecl) → fold put_port d more ≡ with_ports d (map clamped_port more)
 unfolding with_ports
 folded_ports d [] = λ i. record { modules = d.modules; name = d.name; ports = sym (append-nil d.ports) i; items = d.items }
 folded_ports d (p ∷ more) = folded_ports (put_port d p) more ∙ (λ i. record { modules = d.modules; name = d.name; ports = behind_one d.ports (clamped_port p) (map clamped_port more) i; items = d.items })
 
-folded_items : (d : Draft) (more : List Item) → fold put_item d more ≡ with_items d (map clamped_item more)
+folded_items : (d : ModuleDraft) (more : List Item) → fold put_item d more ≡ with_items d (map clamped_item more)
 unfolding with_items
 folded_items d [] = λ i. record { modules = d.modules; name = d.name; ports = d.ports; items = sym (append-nil d.items) i }
 folded_items d (x ∷ more) = folded_items (put_item d x) more ∙ (λ i. record { modules = d.modules; name = d.name; ports = d.ports; items = behind_one d.items (clamped_item x) (map clamped_item more) i })
@@ -71,4 +71,4 @@ folded_items d (x ∷ more) = folded_items (put_item d x) more ∙ (λ i. record
 -- a module whose ports and items are put one by one
 pub whole_module : (ms : List ModuleTree) (m : ModuleTree) → finished (fold put_item (fold put_port (begun ms m.name) m.ports) m.items) ≡ put_module ms m
 unfolding with_ports with_items
-whole_module ms m = ap (λ (d : Draft). finished (fold put_item d m.items)) (folded_ports (begun ms m.name) m.ports) ∙ ap finished (folded_items (with_ports (begun ms m.name) (map clamped_port m.ports)) m.items)
+whole_module ms m = ap (λ (d : ModuleDraft). finished (fold put_item d m.items)) (folded_ports (begun ms m.name) m.ports) ∙ ap finished (folded_items (with_ports (begun ms m.name) (map clamped_port m.ports)) m.items)

@@ -22,7 +22,7 @@ use Rattle.vlog_lex.proofs.Formed.{module_formed}
 use Rattle.vlog_lex.specs.declared.coming.Coming.{Coming}
 use Rattle.vlog_lex.specs.declared.coming.Coming.TheVariants.{Nothing}
 use Rattle.vlog_lex.specs.Coming.{is_nothing}
-use Rattle.vlog_read.specs.declared.state.Draft.{Draft}
+use Rattle.vlog_read.specs.declared.state.ModuleDraft.{ModuleDraft}
 use Rattle.vlog_read.specs.declared.state.ItemState.TheVariants.{ItemStart}
 use Rattle.vlog_read.specs.declared.state.State.TheVariants.{Item}
 use Rattle.vlog_read.specs.declared.state.Reader.{Reader}
@@ -133,5 +133,5 @@ last_formed [] m h = h.0
 last_formed (k ∷ ms) m h = last_formed ms m h.1
 
 -- where an item may come, what is read of the module has the form of one
-pub item_formed : (d : Draft) → IsFormed (behind Nothing (Item (ItemStart d))) → IsModule (module_of d)
+pub item_formed : (d : ModuleDraft) → IsFormed (behind Nothing (Item (ItemStart d))) → IsModule (module_of d)
 item_formed d h = last_formed d.modules (module_of d) (h.all (finished d) (codes "endmodule" ∷ []) (items_end d))

@@ -11,7 +11,7 @@ use Rattle.tapa_base.specs.Spans.{Separated}
 use Rattle.vlog_lex.specs.Spans.{Takes}
 use Rattle.vlog_lex.specs.Grammar.{SpellsPort}
 use Rattle.vlog_lex.specs.declared.coming.Coming.TheVariants.{RangeEnd, Semicolon, LeftParen}
-use Rattle.vlog_read.specs.declared.state.Draft.{Draft}
+use Rattle.vlog_read.specs.declared.state.ModuleDraft.{ModuleDraft}
 use Rattle.vlog_read.specs.declared.state.Declared.{Declared}
 use Rattle.vlog_read.specs.declared.state.Declared.TheVariants as declared_form
 use Rattle.vlog_read.specs.declared.state.HeadState.TheVariants.{ModuleName, PortStart, RangeOrName, RangeHigh, DeclaredName}
@@ -28,7 +28,7 @@ abbrev pub EndsBetween : List ModuleTree → List ModuleTree → Type 0
 EndsBetween cs ms = (ms ≡ cs) × (1 ≤ length cs)
 
 module _ (cs : List ModuleTree) where
-  ports_in : (d : Draft) (ps : List PortDecl) (i j : List Word) → Separated (Takes (codes ",")) SpellsPort ps i j → Words (codes ")" ∷ codes ";" ∷ []) (Items cs (fold put_port d ps)) j → Ports cs d i
+  ports_in : (d : ModuleDraft) (ps : List PortDecl) (i j : List Word) → Separated (Takes (codes ",")) SpellsPort ps i j → Words (codes ")" ∷ codes ";" ∷ []) (Items cs (fold put_port d ps)) j → Ports cs d i
   ports_in d [] i j none h = absurd none
   ports_in d (p ∷ ps) i j (t, first, more) h = (p, t, first, (ps, j, more, h))
 
@@ -55,7 +55,7 @@ module _ (cs : List ModuleTree) where
   pub module_name_read : (ms : List ModuleTree) → IsRead cs (module_name ms) ⊥ (Named (λ x. Words (codes "(" ∷ []) (Ports cs (begun ms x))))
   module_name_read ms = name_read cs (λ x. behind LeftParen (Head (PortStart (begun ms x))))
 
-  pub port_start_read : (d : Draft) → IsRead cs (port_start d) ⊥ (Ports cs d)
+  pub port_start_read : (d : ModuleDraft) → IsRead cs (port_start d) ⊥ (Ports cs d)
   port_start_read d =
       as_read (word_or cs (codes "input") (at (Head (RangeOrName d declared_form.Input))) (fixed_read cs (codes "output") (at (Head (RangeOrName d declared_form.Output)))) refl) (λ i. there i) (λ i. back i)
     where
@@ -71,17 +71,17 @@ module _ (cs : List ModuleTree) where
       back : (i : List Word) → Ports cs d i → Words (codes "input" ∷ []) (Declaration cs d declared_form.Input) i ⊎ Words (codes "output" ∷ []) (Declaration cs d declared_form.Output) i
       back i (p, j, port, more) = by_way p.direction p.width p.name i j port more
 
-  pub name_read_of : (d : Draft) (k : Declared) (bits : ℕ) → IsRead cs (declared_name d k bits) ⊥ (Name cs d k bits)
+  pub name_read_of : (d : ModuleDraft) (k : Declared) (bits : ℕ) → IsRead cs (declared_name d k bits) ⊥ (Name cs d k bits)
   name_read_of d declared_form.Input bits = name_read cs (λ x. named d declared_form.Input bits x)
   name_read_of d declared_form.Output bits = name_read cs (λ x. named d declared_form.Output bits x)
   name_read_of d declared_form.Wire bits = name_read cs (λ x. named d declared_form.Wire bits x)
   name_read_of d declared_form.Reg bits = name_read cs (λ x. named d declared_form.Reg bits x)
 
-  no_bracket : (d : Draft) (k : Declared) → declared_name d k 1 (codes "[") ≡ None
+  no_bracket : (d : ModuleDraft) (k : Declared) → declared_name d k 1 (codes "[") ≡ None
   unfolding starts_name
   no_bracket d k = refl
 
-  pub range_or_name_read : (d : Draft) (k : Declared) → IsRead cs (range_or_name d k) ⊥ (Declaration cs d k)
+  pub range_or_name_read : (d : ModuleDraft) (k : Declared) → IsRead cs (range_or_name d k) ⊥ (Declaration cs d k)
   range_or_name_read d k = as_read (word_or cs (codes "[") (at (Head (RangeHigh d k))) (name_read_of d k 1) (no_bracket d k)) (λ i. there i) (λ i. back i)
     where
       there : (i : List Word) → Words (codes "[" ∷ []) (High cs d k) i ⊎ Name cs d k 1 i → Declaration cs d k i
@@ -92,10 +92,10 @@ module _ (cs : List ModuleTree) where
       back i (n, j, inl (one, e), name) = inr (subst (λ (m : ℕ). Name cs d k (clamped_width m) i) one (subst (Name cs d k (clamped_width n)) (sym e) name))
       back i (n, j, inr (t, opening, (u, last, (v, colon, (x, zero, close)))), name) = inl (t, opening, (n, u, last, (v, colon, (x, zero, (j, close, name)))))
 
-  pub range_high_read : (d : Draft) (k : Declared) → IsRead cs (range_high d k) ⊥ (High cs d k)
+  pub range_high_read : (d : ModuleDraft) (k : Declared) → IsRead cs (range_high d k) ⊥ (High cs d k)
   range_high_read d k = count_read cs (λ n. behind RangeEnd (Head (DeclaredName d k (clamped_width n))))
 
-  pub port_next_read : (d : Draft) → IsRead cs (port_next d) ⊥ (MorePorts cs d)
+  pub port_next_read : (d : ModuleDraft) → IsRead cs (port_next d) ⊥ (MorePorts cs d)
   port_next_read d = as_read (word_or cs (codes ",") (at (Head (PortStart d))) (fixed_read cs (codes ")") (behind Semicolon (Item (ItemStart d)))) refl) (λ i. there i) (λ i. back i)
     where
       there : (i : List Word) → Words (codes "," ∷ []) (Ports cs d) i ⊎ Words (codes ")" ∷ codes ";" ∷ []) (Items cs d) i → MorePorts cs d i

@@ -3,7 +3,7 @@ use Rattle.std.proofs.Common.{◌≡◌, Bool, true, false, ◌||◌, bytes_eq, 
 use Rattle.vlog_tree.specs.Names.{is_name}
 use Rattle.vlog_tree.specs.Spelling.{Word}
 use Rattle.vlog_lex.proofs.OneBlock.{NoName, keywords}
-use Rattle.vlog_read.specs.declared.state.Draft.{Draft}
+use Rattle.vlog_read.specs.declared.state.ModuleDraft.{ModuleDraft}
 use Rattle.vlog_read.specs.BlockReading.{begins_item, item_word, item_start}
 use Rattle.vlog_read.proofs.IsRead.{same_word}
 
@@ -15,7 +15,7 @@ not_word w v named none = by_test (bytes_eq w v) refl
     by_test true e = absurd (let f : true ≡ false = sym named ∙ ap is_name (same_word w v e) ∙ none in cc)
     by_test false e = e
 
-pub name_no_item : (d : Draft) (w : Word) → is_name w ≡ true → item_word d w ≡ None
+pub name_no_item : (d : ModuleDraft) (w : Word) → is_name w ≡ true → item_word d w ≡ None
 name_no_item d w h =
     rw (not_word w (codes "wire") h keywords.no_wire, not_word w (codes "reg") h keywords.no_reg, not_word w (codes "assign") h keywords.no_assign, not_word w (codes "always") h keywords.no_always, not_word w (codes "endmodule") h keywords.no_endmodule)
     refl
@@ -36,7 +36,7 @@ or_parts : (a b : Bool) → (a || b) ≡ false → (a ≡ false) × (b ≡ false
 or_parts false b h = (refl, h)
 or_parts true b h = cc
 
-pub no_item : (d : Draft) (w : Word) → begins_item w ≡ false → item_word d w ≡ None
+pub no_item : (d : ModuleDraft) (w : Word) → begins_item w ≡ false → item_word d w ≡ None
 no_item d w h =
     let e = or_parts _ (bytes_eq w (codes "endmodule")) h in
     let c = or_parts _ (bytes_eq w (codes "always")) e.0 in
@@ -44,5 +44,5 @@ no_item d w h =
     let a = or_parts (bytes_eq w (codes "wire")) (bytes_eq w (codes "reg")) b.0 in
     rw (a.0, a.1, b.1, c.1, e.1) refl
 
-pub keyword_starts : (d : Draft) (w : Word) → begins_item w ≡ true → item_word d w ≡ item_start d w
+pub keyword_starts : (d : ModuleDraft) (w : Word) → begins_item w ≡ true → item_word d w ≡ item_start d w
 keyword_starts d w h = rw (begins_no_name w h) refl

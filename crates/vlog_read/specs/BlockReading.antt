@@ -11,7 +11,7 @@ use Rattle.vlog_tree.specs.Form.{ModuleTree}
 use Rattle.vlog_tree.specs.Names.{is_name}
 use Rattle.vlog_tree.specs.Spelling.{Word}
 use Rattle.vlog_lex.specs.declared.coming.Coming.TheVariants.{Nothing, Semicolon, LeftParen, ParenDot, Dot, RightParen, RangeEnd, ZeroColon, BracketSemicolon, BracketArrow, Clocked, ParenBegin, Begin}
-use Rattle.vlog_read.specs.declared.state.Draft.{Draft}
+use Rattle.vlog_read.specs.declared.state.ModuleDraft.{ModuleDraft}
 use Rattle.vlog_read.specs.declared.state.Steps.{Steps}
 use Rattle.vlog_read.specs.declared.state.Joining.{Joining}
 use Rattle.vlog_read.specs.declared.state.Declared.{Declared}
@@ -30,7 +30,8 @@ use Rattle.vlog_read.specs.declared.state.State.TheVariants.{Head, Item, Value, 
 use Rattle.vlog_read.specs.declared.state.Reader.{Reader}
 use Rattle.vlog_lex.specs.Coming.{is_nothing}
 use Rattle.vlog_lex.specs.ReadNumerals.{is_number, width_behind, cells_behind}
-use Rattle.vlog_read.specs.ValueReading.{Next, behind, at, expected, begun, with_port, finished, item_behind, no_steps, with_step, opened, with_connection, joined, assign_name, atom_start, value_start, brace_start, value_next, concat_next, atom_end, atom_next, atom_high, atom_low}
+use Rattle.vlog_read.specs.ValueReading.{Next, behind, at, expected, begun, with_port, finished, item_behind, no_steps, with_step, opened, with_connection, joined}
+use Rattle.vlog_read.specs.ValueReading.{assign_name, atom_start, value_start, brace_start, value_next, concat_next, atom_end, atom_next, atom_high, atom_low}
 
 -- ---- modules up to their items
 
@@ -40,35 +41,35 @@ between modules w = if bytes_eq w (codes "module") then Some (at (Head (ModuleNa
 abbrev pub module_name : List ModuleTree → Word → Next
 module_name modules w = if is_name w then Some (behind LeftParen (Head (PortStart (begun modules w)))) else None
 
-abbrev pub port_start : Draft → Word → Next
+abbrev pub port_start : ModuleDraft → Word → Next
 port_start d w =
     if bytes_eq w (codes "input") then Some (at (Head (RangeOrName d declared_form.Input)))
     else (if bytes_eq w (codes "output") then Some (at (Head (RangeOrName d declared_form.Output))) else None)
 
-abbrev pub port_next : Draft → Word → Next
+abbrev pub port_next : ModuleDraft → Word → Next
 port_next d w =
     if bytes_eq w (codes ",") then Some (at (Head (PortStart d)))
     else (if bytes_eq w (codes ")") then Some (behind Semicolon (Item (ItemStart d))) else None)
 
-abbrev pub range_high : Draft → Declared → Word → Next
+abbrev pub range_high : ModuleDraft → Declared → Word → Next
 range_high d k w = if is_number w then Some (behind RangeEnd (Head (DeclaredName d k (width_behind w)))) else None
 
 abbrev pub port_of : Direction → ℕ → Word → PortDecl
 port_of way bits x = record { direction = way; width = bits; name = x }
 
-abbrev pub port_named : Draft → Direction → ℕ → Word → Reader
+abbrev pub port_named : ModuleDraft → Direction → ℕ → Word → Reader
 port_named d way bits x = at (Head (PortNext (with_port d (port_of way bits x))))
 
-abbrev pub named : Draft → Declared → ℕ → Word → Reader
+abbrev pub named : ModuleDraft → Declared → ℕ → Word → Reader
 named d declared_form.Input bits x = port_named d direction_form.Input bits x
 named d declared_form.Output bits x = port_named d direction_form.Output bits x
 named d declared_form.Wire bits x = item_behind Semicolon d (Wire bits x)
 named d declared_form.Reg bits x = at (Item (RegNext d bits x))
 
-abbrev pub declared_name : Draft → Declared → ℕ → Word → Next
+abbrev pub declared_name : ModuleDraft → Declared → ℕ → Word → Next
 declared_name d k bits w = if is_name w then Some (named d k bits w) else None
 
-abbrev pub range_or_name : Draft → Declared → Word → Next
+abbrev pub range_or_name : ModuleDraft → Declared → Word → Next
 range_or_name d k w = if bytes_eq w (codes "[") then Some (at (Head (RangeHigh d k))) else declared_name d k 1 w
 
 -- ---- items
@@ -77,7 +78,7 @@ range_or_name d k w = if bytes_eq w (codes "[") then Some (at (Head (RangeHigh d
 abbrev pub begins_item : Word → Bool
 begins_item w = bytes_eq w (codes "wire") || bytes_eq w (codes "reg") || bytes_eq w (codes "assign") || bytes_eq w (codes "always") || bytes_eq w (codes "endmodule")
 
-abbrev pub item_word : Draft → Word → Next
+abbrev pub item_word : ModuleDraft → Word → Next
 item_word d w =
     if bytes_eq w (codes "wire") then Some (at (Head (RangeOrName d declared_form.Wire)))
     else (if bytes_eq w (codes "reg") then Some (at (Head (RangeOrName d declared_form.Reg)))
@@ -85,65 +86,65 @@ item_word d w =
     else (if bytes_eq w (codes "always") then Some (behind Clocked (Block (StepStart d no_steps)))
     else (if bytes_eq w (codes "endmodule") then Some (at (Head (Between (finished d)))) else None))))
 
-abbrev pub item_start : Draft → Word → Next
+abbrev pub item_start : ModuleDraft → Word → Next
 item_start d w = if is_name w then Some (at (Item (InstanceName d w))) else item_word d w
 
-abbrev pub reg_next : Draft → ℕ → Word → Word → Next
+abbrev pub reg_next : ModuleDraft → ℕ → Word → Word → Next
 reg_next d bits x w =
     if bytes_eq w (codes ";") then Some (item_behind Nothing d (Reg bits x))
     else (if bytes_eq w (codes "[") then Some (behind ZeroColon (Item (CellsLast d bits x))) else None)
 
-abbrev pub cells_last : Draft → ℕ → Word → Word → Next
+abbrev pub cells_last : ModuleDraft → ℕ → Word → Word → Next
 cells_last d bits x w = if is_number w then Some (item_behind BracketSemicolon d (Memory bits x (cells_behind w))) else None
 
 abbrev pub no_connection : Word → Word → Joining
 no_connection m x = record { child = m; name = x; connections = [] }
 
-abbrev pub instance_name : Draft → Word → Word → Next
+abbrev pub instance_name : ModuleDraft → Word → Word → Next
 instance_name d m w = if is_name w then Some (behind ParenDot (Item (ConnectionPort d (no_connection m w)))) else None
 
-abbrev pub connection_port : Draft → Joining → Word → Next
+abbrev pub connection_port : ModuleDraft → Joining → Word → Next
 connection_port d q w = if is_name w then Some (behind LeftParen (Item (ConnectionNet d q w))) else None
 
 abbrev pub connection_of : Word → Word → Connection
 connection_of p n = record { port = p; net = n }
 
-abbrev pub connection_net : Draft → Joining → Word → Word → Next
+abbrev pub connection_net : ModuleDraft → Joining → Word → Word → Next
 connection_net d q p w = if is_name w then Some (behind RightParen (Item (ConnectionNext d (with_connection q (connection_of p w))))) else None
 
-abbrev pub connection_next : Draft → Joining → Word → Next
+abbrev pub connection_next : ModuleDraft → Joining → Word → Next
 connection_next d q w =
     if bytes_eq w (codes ",") then Some (behind Dot (Item (ConnectionPort d q)))
     else (if bytes_eq w (codes ")") then Some (item_behind Semicolon d (joined q)) else None)
 
 -- ---- blocks
 
-abbrev pub ended_by : Draft → List Step → List Bool → Reader
+abbrev pub ended_by : ModuleDraft → List Step → List Bool → Reader
 ended_by d steps [] = item_behind Nothing d (Always steps)
 ended_by d steps (false ∷ parts) = at (Block (AfterEnd d (record { steps = steps; parts = parts })))
 ended_by d steps (true ∷ parts) = at (Block (StepStart d (record { steps = steps ++ End ∷ []; parts = parts })))
 
-abbrev pub ended : Draft → Steps → Reader
+abbrev pub ended : ModuleDraft → Steps → Reader
 ended d s = ended_by d s.steps s.parts
 
-abbrev pub step_start : Draft → Steps → Word → Next
+abbrev pub step_start : ModuleDraft → Steps → Word → Next
 step_start d s w =
     if is_name w then Some (at (Block (StepTarget d s w)))
     else (if bytes_eq w (codes "if") then Some (behind LeftParen (Block (IfName d s)))
     else (if bytes_eq w (codes "end") then Some (ended d s) else None))
 
-abbrev pub after_end : Draft → Steps → Word → Next
+abbrev pub after_end : ModuleDraft → Steps → Word → Next
 after_end d s w = if bytes_eq w (codes "else") then Some (behind Begin (Block (StepStart d (opened s Else true)))) else step_start d (with_step s End) w
 
-abbrev pub if_name : Draft → Steps → Word → Next
+abbrev pub if_name : ModuleDraft → Steps → Word → Next
 if_name d s w = if is_name w then Some (behind ParenBegin (Block (StepStart d (opened s (If w) false)))) else None
 
-abbrev pub step_target : Draft → Steps → Word → Word → Next
+abbrev pub step_target : ModuleDraft → Steps → Word → Word → Next
 step_target d s x w =
     if bytes_eq w (codes "<=") then Some (at (Value (AtomStart d (Assigned s x))))
     else (if bytes_eq w (codes "[") then Some (at (Block (StepIndex d s x))) else None)
 
-abbrev pub step_index : Draft → Steps → Word → Word → Next
+abbrev pub step_index : ModuleDraft → Steps → Word → Word → Next
 step_index d s m w = if is_name w then Some (behind BracketArrow (Value (AtomStart d (Stored s m w)))) else None
 
 -- ---- any state

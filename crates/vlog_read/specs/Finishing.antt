@@ -21,7 +21,7 @@ use Rattle.tapa_base.specs.Spans.{◌⨾◌, Each}
 use Rattle.vlog_lex.specs.Spans.{Takes}
 use Rattle.vlog_lex.specs.Grammar.{SpellsName, SpellsNumber, SpellsLastOf, SpellsRange, SpellsAtom, SpellsOperator, SpellsValue, SpellsConnection, SpellsItem, SpellsPort, SpellsModule}
 use Rattle.vlog_lex.specs.Flat.{SpellsStep}
-use Rattle.vlog_read.specs.declared.state.Draft.{Draft}
+use Rattle.vlog_read.specs.declared.state.ModuleDraft.{ModuleDraft}
 use Rattle.vlog_read.specs.declared.state.Steps.{Steps}
 use Rattle.vlog_read.specs.declared.state.Joining.{Joining}
 use Rattle.vlog_read.specs.declared.state.Declared.{Declared}
@@ -70,10 +70,10 @@ OneAtom G i = (a : Atom) × (j : List Word) × SpellsAtom a i j × G (clamped_at
 abbrev pub put_module : List ModuleTree → ModuleTree → List ModuleTree
 put_module ms m = ms ++ clamped m ∷ []
 
-abbrev pub put_port : Draft → PortDecl → Draft
+abbrev pub put_port : ModuleDraft → PortDecl → ModuleDraft
 put_port d p = with_port d (clamped_port p)
 
-abbrev pub put_item : Draft → ItemTree → Draft
+abbrev pub put_item : ModuleDraft → ItemTree → ModuleDraft
 put_item d x = with_item d (clamped_item x)
 
 abbrev pub put_step : List Step → Step → List Step
@@ -88,69 +88,70 @@ module _ (cs : List ModuleTree) where
   abbrev pub Modules : List ModuleTree → Left
   Modules ms i = (more : List ModuleTree) × Each SpellsModule more i [] × (cs ≡ fold put_module ms more) × (1 ≤ length cs)
 
-  abbrev pub Items : Draft → Left
+  abbrev pub Items : ModuleDraft → Left
   Items d i = (more : List ItemTree) × (j : List Word) × Each SpellsItem more i j × Words (codes "endmodule" ∷ []) (Modules (finished (fold put_item d more))) j
 
   -- behind an item, and the words that end it
-  abbrev pub ItemBehind : List Word → Draft → ItemTree → Left
+  abbrev pub ItemBehind : List Word → ModuleDraft → ItemTree → Left
   ItemBehind ws d x = Words ws (Items (with_item d x))
 
-  abbrev pub MorePorts : Draft → Left
+  abbrev pub MorePorts : ModuleDraft → Left
   MorePorts d i = (more : List PortDecl) × (j : List Word) × Each (λ p. Takes (codes ",") ⨾ SpellsPort p) more i j × Words (codes ")" ∷ codes ";" ∷ []) (Items (fold put_port d more)) j
 
-  abbrev pub Ports : Draft → Left
+  abbrev pub Ports : ModuleDraft → Left
   Ports d i = (p : PortDecl) × (j : List Word) × SpellsPort p i j × MorePorts (put_port d p) j
 
   -- ---- declarations
 
-  abbrev pub Cells : Draft → ℕ → Word → Left
+  abbrev pub Cells : ModuleDraft → ℕ → Word → Left
   Cells d bits x = Counted (λ n. ItemBehind (codes "]" ∷ codes ";" ∷ []) d (Memory bits x (clamped_cells n)))
 
-  abbrev pub RegEnd : Draft → ℕ → Word → Left
+  abbrev pub RegEnd : ModuleDraft → ℕ → Word → Left
   RegEnd d bits x i = ItemBehind (codes ";" ∷ []) d (Reg bits x) i ⊎ Words (codes "[" ∷ codes "0" ∷ codes ":" ∷ []) (Cells d bits x) i
 
-  abbrev pub DeclarationEnd : Draft → Declared → ℕ → Word → Left
+  abbrev pub DeclarationEnd : ModuleDraft → Declared → ℕ → Word → Left
   DeclarationEnd d declared_form.Input bits x = MorePorts (with_port d (port_of direction_form.Input bits x))
   DeclarationEnd d declared_form.Output bits x = MorePorts (with_port d (port_of direction_form.Output bits x))
   DeclarationEnd d declared_form.Wire bits x = ItemBehind (codes ";" ∷ []) d (Wire bits x)
   DeclarationEnd d declared_form.Reg bits x = RegEnd d bits x
 
-  abbrev pub Name : Draft → Declared → ℕ → Left
+  abbrev pub Name : ModuleDraft → Declared → ℕ → Left
   Name d k bits = Named (λ x. DeclarationEnd d k bits x)
 
-  abbrev pub High : Draft → Declared → Left
+  abbrev pub High : ModuleDraft → Declared → Left
   High d k = Counted (λ n. Words (codes ":" ∷ codes "0" ∷ codes "]" ∷ []) (Name d k (clamped_width n)))
 
-  abbrev pub Declaration : Draft → Declared → Left
+  abbrev pub Declaration : ModuleDraft → Declared → Left
   Declaration d k i = (n : ℕ) × (j : List Word) × SpellsRange n i j × Name d k (clamped_width n) j
 
   -- ---- blocks
 
-  abbrev pub MoreSteps : Draft → Steps → Left
+  abbrev pub MoreSteps : ModuleDraft → Steps → Left
   MoreSteps d s i = (more : List Step) × (j : List Word) × (nested s.parts more ≡ true) × Each SpellsStep more i j × ItemBehind (codes "end" ∷ []) d (Always (fold put_step s.steps more)) j
 
-  abbrev pub ElseOrMore : Draft → Steps → Left
+  abbrev pub ElseOrMore : ModuleDraft → Steps → Left
   ElseOrMore d s i = Words (codes "else" ∷ codes "begin" ∷ []) (MoreSteps d (opened s Else true)) i ⊎ MoreSteps d (with_step s End) i
 
-  abbrev pub Condition : Draft → Steps → Left
+  abbrev pub Condition : ModuleDraft → Steps → Left
   Condition d s = Named (λ x. Words (codes ")" ∷ codes "begin" ∷ []) (MoreSteps d (opened s (If x) false)))
 
   -- ---- atoms, and what drives a net
 
-  abbrev pub Driven : Draft → Word → ValueTree → Left
+  abbrev pub Driven : ModuleDraft → Word → ValueTree → Left
   Driven d y v = ItemBehind (codes ";" ∷ []) d (Assign y v)
 
-  abbrev pub ValueEnd : Draft → Word → Atom → Left
+  abbrev pub ValueEnd : ModuleDraft → Word → Atom → Left
   ValueEnd d y a i =
       Driven d y (Plain a) i
       ⊎ (Words (codes "?" ∷ []) (OneAtom (λ b. Words (codes ":" ∷ []) (OneAtom (λ c. Driven d y (Choose a b c))))) i
       ⊎ ((op : BinaryOp) × (j : List Word) × SpellsOperator op i j × OneAtom (λ b. Driven d y (Binary a op b)) j))
 
-  abbrev pub MoreAtoms : Draft → Word → List Atom → Left
+  abbrev pub MoreAtoms : ModuleDraft → Word → List Atom → Left
   MoreAtoms d y atoms i =
-      (more : List Atom) × (j : List Word) × Each (λ a. Takes (codes ",") ⨾ SpellsAtom a) more i j × (2 ≤ length (fold put_atom atoms more)) × ItemBehind (codes "}" ∷ codes ";" ∷ []) d (Assign y (Concat (fold put_atom atoms more))) j
+      (more : List Atom) × (j : List Word) × Each (λ a. Takes (codes ",") ⨾ SpellsAtom a) more i j × (2 ≤ length (fold put_atom atoms more))
+      × ItemBehind (codes "}" ∷ codes ";" ∷ []) d (Assign y (Concat (fold put_atom atoms more))) j
 
-  abbrev pub AtomBehind : Draft → Purpose → Atom → Left
+  abbrev pub AtomBehind : ModuleDraft → Purpose → Atom → Left
   AtomBehind d (First y) a = ValueEnd d y a
   AtomBehind d (Inverted y) a = Driven d y (Invert a)
   AtomBehind d (Right y left op) a = Driven d y (Binary left op a)
@@ -162,48 +163,48 @@ module _ (cs : List ModuleTree) where
   AtomBehind d (Stored s m x) a = Words (codes ";" ∷ []) (MoreSteps d (with_step s (MemoryAssign m x a)))
 
   -- the index of a memory, which drives a net alone
-  abbrev pub Index : Draft → Purpose → Word → Left
+  abbrev pub Index : ModuleDraft → Purpose → Word → Left
   Index d (First y) m = Named (λ x. ItemBehind (codes "]" ∷ codes ";" ∷ []) d (Assign y (Cell m x)))
   Index d _ m = λ i. ⊥
 
-  abbrev pub Low : Draft → Purpose → Word → ℕ → Left
+  abbrev pub Low : ModuleDraft → Purpose → Word → ℕ → Left
   Low d p x high = Numbered (λ n. Words (codes "]" ∷ []) (AtomBehind d p (PartSelect x high (clamped_width n))))
 
-  abbrev pub HighOrIndex : Draft → Purpose → Word → Left
+  abbrev pub HighOrIndex : ModuleDraft → Purpose → Word → Left
   HighOrIndex d p x i = Numbered (λ n. Words (codes ":" ∷ []) (Low d p x (clamped_width n))) i ⊎ Index d p x i
 
-  abbrev pub NameEnd : Draft → Purpose → Word → Left
+  abbrev pub NameEnd : ModuleDraft → Purpose → Word → Left
   NameEnd d p x i = Words (codes "[" ∷ []) (HighOrIndex d p x) i ⊎ AtomBehind d p (Net x) i
 
   -- an atom, or a cell of a memory
-  abbrev pub AnAtom : Draft → Purpose → Left
+  abbrev pub AnAtom : ModuleDraft → Purpose → Left
   AnAtom d p i = OneAtom (AtomBehind d p) i ⊎ Named (λ m. Words (codes "[" ∷ []) (Index d p m)) i
 
-  abbrev pub InBraces : Draft → Word → Left
+  abbrev pub InBraces : ModuleDraft → Word → Left
   InBraces d y i = Numbered (λ n. Words (codes "{" ∷ []) (AnAtom d (Copied y (clamped_width n)))) i ⊎ AnAtom d (Joined y []) i
 
-  abbrev pub Drives : Draft → Word → Left
+  abbrev pub Drives : ModuleDraft → Word → Left
   Drives d y i = (v : ValueTree) × (j : List Word) × SpellsValue v i j × Driven d y (clamped_value v) j
 
-  abbrev pub Place : Draft → Steps → Word → Left
+  abbrev pub Place : ModuleDraft → Steps → Word → Left
   Place d s m = Named (λ x. Words (codes "]" ∷ codes "<=" ∷ []) (AnAtom d (Stored s m x)))
 
-  abbrev pub Target : Draft → Steps → Word → Left
+  abbrev pub Target : ModuleDraft → Steps → Word → Left
   Target d s x i = Words (codes "<=" ∷ []) (AnAtom d (Assigned s x)) i ⊎ Words (codes "[" ∷ []) (Place d s x) i
 
   -- ---- instances
 
-  abbrev pub MoreConnections : Draft → Joining → Left
+  abbrev pub MoreConnections : ModuleDraft → Joining → Left
   MoreConnections d q i =
       (more : List Connection) × (j : List Word) × Each (λ l. Takes (codes ",") ⨾ SpellsConnection l) more i j × ItemBehind (codes ")" ∷ codes ";" ∷ []) d (joined (fold with_connection q more)) j
 
-  abbrev pub JoinedNet : Draft → Joining → Word → Left
+  abbrev pub JoinedNet : ModuleDraft → Joining → Word → Left
   JoinedNet d q p = Named (λ n. Words (codes ")" ∷ []) (MoreConnections d (with_connection q (connection_of p n))))
 
-  abbrev pub JoinedPort : Draft → Joining → Left
+  abbrev pub JoinedPort : ModuleDraft → Joining → Left
   JoinedPort d q = Named (λ p. Words (codes "(" ∷ []) (JoinedNet d q p))
 
-  abbrev pub Instances : Draft → Word → Left
+  abbrev pub Instances : ModuleDraft → Word → Left
   Instances d m = Named (λ x. Words (codes "(" ∷ codes "." ∷ []) (JoinedPort d (no_connection m x)))
 
   -- ---- any state

@@ -17,7 +17,7 @@ use Rattle.vlog_tree.specs.Names.{is_name}
 use Rattle.vlog_tree.specs.Spelling.{Word}
 use Rattle.vlog_lex.specs.declared.coming.Coming.{Coming}
 use Rattle.vlog_lex.specs.declared.coming.Coming.TheVariants.{Nothing, Semicolon, RightBracket, Colon, BracketSemicolon, Equals, LeftBrace, BracesEnd}
-use Rattle.vlog_read.specs.declared.state.Draft.{Draft}
+use Rattle.vlog_read.specs.declared.state.ModuleDraft.{ModuleDraft}
 use Rattle.vlog_read.specs.declared.state.Steps.{Steps}
 use Rattle.vlog_read.specs.declared.state.Joining.{Joining}
 use Rattle.vlog_read.specs.declared.state.Purpose.{Purpose}
@@ -48,22 +48,22 @@ expected c s w = if bytes_eq w (first_coming (coming_words c)) then Some (behind
 
 -- ---- what is read so far
 
-abbrev pub begun : List ModuleTree → Word → Draft
+abbrev pub begun : List ModuleTree → Word → ModuleDraft
 begun modules x = record { modules = modules; name = x; ports = []; items = [] }
 
-abbrev pub with_port : Draft → PortDecl → Draft
+abbrev pub with_port : ModuleDraft → PortDecl → ModuleDraft
 with_port d p = record { modules = d.modules; name = d.name; ports = d.ports ++ p ∷ []; items = d.items }
 
-abbrev pub with_item : Draft → ItemTree → Draft
+abbrev pub with_item : ModuleDraft → ItemTree → ModuleDraft
 with_item d x = record { modules = d.modules; name = d.name; ports = d.ports; items = d.items ++ x ∷ [] }
 
-abbrev pub module_of : Draft → ModuleTree
+abbrev pub module_of : ModuleDraft → ModuleTree
 module_of d = record { name = d.name; ports = d.ports; items = d.items }
 
-abbrev pub finished : Draft → List ModuleTree
+abbrev pub finished : ModuleDraft → List ModuleTree
 finished d = d.modules ++ module_of d ∷ []
 
-abbrev pub item_behind : Coming → Draft → ItemTree → Reader
+abbrev pub item_behind : Coming → ModuleDraft → ItemTree → Reader
 item_behind c d x = behind c (Item (ItemStart (with_item d x)))
 
 abbrev pub no_steps : Steps
@@ -84,25 +84,25 @@ joined q = Instance q.child q.name q.connections
 
 -- ---- atoms, and what drives a net
 
-abbrev pub driven : Draft → Coming → Word → ValueTree → Reader
+abbrev pub driven : ModuleDraft → Coming → Word → ValueTree → Reader
 driven d c y v = item_behind c d (Assign y v)
 
-abbrev pub assign_name : Draft → Word → Next
+abbrev pub assign_name : ModuleDraft → Word → Next
 assign_name d w = if is_name w then Some (behind Equals (Value (ValueStart d w))) else None
 
-abbrev pub atom_by : Draft → Purpose → Option Atom → Next
+abbrev pub atom_by : ModuleDraft → Purpose → Option Atom → Next
 atom_by d p None = None
 atom_by d p (Some a) = Some (at (Value (AtomEnd d p a)))
 
-abbrev pub atom_start : Draft → Purpose → Word → Next
+abbrev pub atom_start : ModuleDraft → Purpose → Word → Next
 atom_start d p w = if is_name w then Some (at (Value (AtomNext d p w))) else atom_by d p (literal_of w)
 
-abbrev pub value_start : Draft → Word → Word → Next
+abbrev pub value_start : ModuleDraft → Word → Word → Next
 value_start d y w =
     if bytes_eq w (codes "~") then Some (at (Value (AtomStart d (Inverted y))))
     else (if bytes_eq w (codes "{") then Some (at (Value (BraceStart d y))) else atom_start d (First y) w)
 
-abbrev pub brace_start : Draft → Word → Word → Next
+abbrev pub brace_start : ModuleDraft → Word → Word → Next
 brace_start d y w = if is_number w then Some (behind LeftBrace (Value (AtomStart d (Copied y (width_at w))))) else atom_start d (Joined y []) w
 
 abbrev pub arithmetic_of : Word → Option BinaryOp
@@ -134,25 +134,25 @@ or_else (Some a) b = Some a
 abbrev pub operator_of : Word → Option BinaryOp
 operator_of w = or_else (arithmetic_of w) (or_else (bits_of w) (comparison_of w))
 
-abbrev pub right_by : Draft → Word → Atom → Option BinaryOp → Next
+abbrev pub right_by : ModuleDraft → Word → Atom → Option BinaryOp → Next
 right_by d y a None = None
 right_by d y a (Some op) = Some (at (Value (AtomStart d (Right y a op))))
 
-abbrev pub value_next : Draft → Word → Atom → Word → Next
+abbrev pub value_next : ModuleDraft → Word → Atom → Word → Next
 value_next d y a w =
     if bytes_eq w (codes ";") then Some (driven d Nothing y (Plain a))
     else (if bytes_eq w (codes "?") then Some (at (Value (AtomStart d (Yes y a)))) else right_by d y a (operator_of w))
 
-abbrev pub concat_next : Draft → Word → List Atom → Word → Next
+abbrev pub concat_next : ModuleDraft → Word → List Atom → Word → Next
 concat_next d y atoms w =
     if bytes_eq w (codes ",") then Some (at (Value (AtomStart d (Joined y atoms))))
     else (if bytes_eq w (codes "}") && nat_le 2 (length atoms) then Some (driven d Semicolon y (Concat atoms)) else None)
 
-abbrev pub step_behind : Draft → Steps → Step → Reader
+abbrev pub step_behind : ModuleDraft → Steps → Step → Reader
 step_behind d s x = behind Semicolon (Block (StepStart d (with_step s x)))
 
 -- behind an atom that is whole
-abbrev pub after_atom : Draft → Purpose → Atom → Reader
+abbrev pub after_atom : ModuleDraft → Purpose → Atom → Reader
 after_atom d (First y) a = at (Value (ValueNext d y a))
 after_atom d (Inverted y) a = driven d Semicolon y (Invert a)
 after_atom d (Right y left op) a = driven d Semicolon y (Binary left op a)
@@ -175,18 +175,18 @@ behind_state _ w = None
 abbrev pub next_behind : Reader → Word → Next
 next_behind r w = if is_nothing r.coming then behind_state r.state w else expected r.coming r.state w
 
-abbrev pub atom_end : Draft → Purpose → Atom → Word → Next
+abbrev pub atom_end : ModuleDraft → Purpose → Atom → Word → Next
 atom_end d p a w = next_behind (after_atom d p a) w
 
-abbrev pub atom_next : Draft → Purpose → Word → Word → Next
+abbrev pub atom_next : ModuleDraft → Purpose → Word → Word → Next
 atom_next d p x w = if bytes_eq w (codes "[") then Some (at (Value (AtomHigh d p x))) else atom_end d p (Net x) w
 
-abbrev pub cell_index : Draft → Purpose → Word → Word → Next
+abbrev pub cell_index : ModuleDraft → Purpose → Word → Word → Next
 cell_index d (First y) m w = if is_name w then Some (driven d BracketSemicolon y (Cell m w)) else None
 cell_index d _ m w = None
 
-abbrev pub atom_high : Draft → Purpose → Word → Word → Next
+abbrev pub atom_high : ModuleDraft → Purpose → Word → Word → Next
 atom_high d p x w = if is_number w then Some (behind Colon (Value (AtomLow d p x (width_at w)))) else cell_index d p x w
 
-abbrev pub atom_low : Draft → Purpose → Word → ℕ → Word → Next
+abbrev pub atom_low : ModuleDraft → Purpose → Word → ℕ → Word → Next
 atom_low d p x high w = if is_number w then Some (behind RightBracket (Value (AtomEnd d p (Part x high (width_at w))))) else None

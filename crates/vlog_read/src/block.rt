@@ -4,7 +4,7 @@ ghost use Rattle.std.specs.Prelude.{◌≡◌, ◌∷◌, IfOk};
 ghost use Rattle.vlog_read.specs.BlockReading as spec;
 
 use crate::held::Held;
-use crate::state::{BlockState, Draft, Purpose, Reader, Steps};
+use crate::state::{BlockState, ModuleDraft, Purpose, Reader, Steps};
 use std::alloc::{AllocError, Global};
 use tapa_base::Text;
 use vlog_lex::{Coming, Listed, Parts, is_name_word, name_of};
@@ -13,7 +13,7 @@ use vlog_tree::{Block, Item, Step};
 /// The end of a part: behind it an `else` may come, unless it is one.
 fn part_ended(
     alloc: Global,
-    draft: Held<Draft>,
+    draft: Held<ModuleDraft>,
     steps: Listed<Step>,
     is_else: bool,
     parts: Parts,
@@ -30,7 +30,7 @@ fn part_ended(
 }
 
 /// An `end`: of the innermost part that is open, or of the block where none is.
-fn ended(alloc: Global, draft: Held<Draft>, steps: Held<Steps>) -> Result<Reader, AllocError>
+fn ended(alloc: Global, draft: Held<ModuleDraft>, steps: Held<Steps>) -> Result<Reader, AllocError>
     ensures { IfOk result (λ r. r ≡ spec.ended draft steps) }
 {
     let Steps { steps, parts } = steps.into_inner();
@@ -46,7 +46,7 @@ fn ended(alloc: Global, draft: Held<Draft>, steps: Held<Steps>) -> Result<Reader
 /// Where a step may come, or the end of a part.
 pub fn step_start(
     alloc: Global,
-    draft: Held<Draft>,
+    draft: Held<ModuleDraft>,
     steps: Held<Steps>,
     word: &[u8],
 ) -> Result<Option<Reader>, AllocError>
@@ -70,7 +70,7 @@ pub fn step_start(
 /// Behind the end of the part of an `if`: its `else`, or what stands behind the `if`.
 pub fn after_end(
     alloc: Global,
-    draft: Held<Draft>,
+    draft: Held<ModuleDraft>,
     steps: Held<Steps>,
     word: &[u8],
 ) -> Result<Option<Reader>, AllocError>
@@ -86,7 +86,7 @@ pub fn after_end(
 /// The name that an `if` tests (IEEE 1364-2005, 9.4).
 pub fn if_name(
     alloc: Global,
-    draft: Held<Draft>,
+    draft: Held<ModuleDraft>,
     steps: Held<Steps>,
     word: &[u8],
 ) -> Result<Option<Reader>, AllocError>
@@ -103,7 +103,7 @@ pub fn if_name(
 /// Behind the name of what a step assigns: a register, or a memory.
 pub fn step_target(
     alloc: Global,
-    draft: Held<Draft>,
+    draft: Held<ModuleDraft>,
     steps: Held<Steps>,
     target: Text,
     word: &[u8],
@@ -123,7 +123,7 @@ pub fn step_target(
 /// The net that is the index of a memory.
 pub fn step_index(
     alloc: Global,
-    draft: Held<Draft>,
+    draft: Held<ModuleDraft>,
     steps: Held<Steps>,
     memory: Text,
     word: &[u8],

@@ -7,7 +7,7 @@ ghost use Rattle.vlog_read.specs.BlockReading as spec;
 
 use crate::held::Held;
 use crate::state::{
-    BlockState, Declared, Draft, HeadState, ItemState, Joining, Reader, Steps, ValueState,
+    BlockState, Declared, HeadState, ItemState, Joining, ModuleDraft, Reader, Steps, ValueState,
 };
 use std::alloc::{AllocError, Global};
 use tapa_base::Text;
@@ -26,7 +26,11 @@ fn begins_item(word: &[u8]) -> bool
 }
 
 /// An item that a keyword begins, or the end of the module.
-fn item_word(alloc: Global, draft: Held<Draft>, word: &[u8]) -> Result<Option<Reader>, AllocError>
+fn item_word(
+    alloc: Global,
+    draft: Held<ModuleDraft>,
+    word: &[u8],
+) -> Result<Option<Reader>, AllocError>
     requires { IsModule (read.module_of draft) }
     ensures { IfOk result (λ o. o ≡ spec.item_word draft word.now) }
 {
@@ -59,7 +63,7 @@ fn item_word(alloc: Global, draft: Held<Draft>, word: &[u8]) -> Result<Option<Re
 #[tactic(auto, using(crate::proofs::Items::no_item))]
 pub fn item_start(
     alloc: Global,
-    draft: Held<Draft>,
+    draft: Held<ModuleDraft>,
     word: &[u8],
 ) -> Result<Option<Reader>, AllocError>
     requires { IsModule (read.module_of draft) }
@@ -77,7 +81,7 @@ pub fn item_start(
 
 /// Behind the name of a register: its end, or the range that makes a memory of it.
 pub fn reg_next(
-    draft: Held<Draft>,
+    draft: Held<ModuleDraft>,
     width: u32,
     name: Text,
     word: &[u8],
@@ -95,7 +99,7 @@ pub fn reg_next(
 
 /// The last cell of a memory.
 pub fn cells_last(
-    draft: Held<Draft>,
+    draft: Held<ModuleDraft>,
     width: u32,
     name: Text,
     word: &[u8],
@@ -113,7 +117,7 @@ pub fn cells_last(
 /// The name of an instance.
 pub fn instance_name(
     alloc: Global,
-    draft: Held<Draft>,
+    draft: Held<ModuleDraft>,
     child: Text,
     word: &[u8],
 ) -> Result<Option<Reader>, AllocError>
@@ -135,7 +139,7 @@ pub fn instance_name(
 /// The port that is joined by its name (IEEE 1364-2005, 12.3.6).
 pub fn connection_port(
     alloc: Global,
-    draft: Held<Draft>,
+    draft: Held<ModuleDraft>,
     joining: Held<Joining>,
     word: &[u8],
 ) -> Result<Option<Reader>, AllocError>
@@ -154,7 +158,7 @@ pub fn connection_port(
 /// The net that a port is joined to.
 pub fn connection_net(
     alloc: Global,
-    draft: Held<Draft>,
+    draft: Held<ModuleDraft>,
     joining: Held<Joining>,
     port: Text,
     word: &[u8],
@@ -190,7 +194,7 @@ fn joined(joining: Held<Joining>) -> Item
 
 /// Behind a connection: one more, or the end of the instance.
 pub fn connection_next(
-    draft: Held<Draft>,
+    draft: Held<ModuleDraft>,
     joining: Held<Joining>,
     word: &[u8],
 ) -> Result<Option<Reader>, AllocError>

@@ -5,7 +5,7 @@ ghost use Rattle.vlog_tree.specs.Names.{is_name as is_name_lem};
 ghost use Rattle.vlog_read.specs.BlockReading as spec;
 
 use crate::held::Held;
-use crate::state::{Declared, Draft, HeadState, ItemState, Reader};
+use crate::state::{Declared, HeadState, ItemState, ModuleDraft, Reader};
 use std::alloc::{AllocError, Global};
 use tapa_base::Text;
 use vlog_lex::{Coming, Listed, is_name_word, is_number, name_of, width_behind};
@@ -34,12 +34,12 @@ pub fn module_name(
         return Ok(None);
     }
     let name = name_of(alloc, word)?;
-    let draft = Held::new(alloc, Draft::begun(alloc, modules, name))?;
+    let draft = Held::new(alloc, ModuleDraft::begun(alloc, modules, name))?;
     Ok(Some(Reader::head(Coming::LeftParen, HeadState::PortStart(draft))))
 }
 
 /// Where a port must come.
-pub fn port_start(draft: Held<Draft>, word: &[u8]) -> Option<Reader>
+pub fn port_start(draft: Held<ModuleDraft>, word: &[u8]) -> Option<Reader>
     ensures { result ≡ spec.port_start draft word.now }
 {
     if word == b"input".as_slice() {
@@ -58,7 +58,7 @@ pub fn port_start(draft: Held<Draft>, word: &[u8]) -> Option<Reader>
 }
 
 /// Behind a port: one more, or the end of the list.
-pub fn port_next(draft: Held<Draft>, word: &[u8]) -> Option<Reader>
+pub fn port_next(draft: Held<ModuleDraft>, word: &[u8]) -> Option<Reader>
     ensures { result ≡ spec.port_next draft word.now }
 {
     if word == b",".as_slice() {
@@ -71,7 +71,7 @@ pub fn port_next(draft: Held<Draft>, word: &[u8]) -> Option<Reader>
 }
 
 /// The last bit of a range.
-pub fn range_high(draft: Held<Draft>, declared: Declared, word: &[u8]) -> Option<Reader>
+pub fn range_high(draft: Held<ModuleDraft>, declared: Declared, word: &[u8]) -> Option<Reader>
     ensures { result ≡ spec.range_high draft declared word.now }
 {
     if is_number(word) {
@@ -87,7 +87,7 @@ pub fn range_high(draft: Held<Draft>, declared: Declared, word: &[u8]) -> Option
 
 /// A reader behind the name of a port.
 fn port_named(
-    draft: Held<Draft>,
+    draft: Held<ModuleDraft>,
     direction: Direction,
     width: u32,
     name: Text,
@@ -104,7 +104,7 @@ fn port_named(
 
 /// A reader behind a range and a name.
 fn named(
-    draft: Held<Draft>,
+    draft: Held<ModuleDraft>,
     declared: Declared,
     width: u32,
     name: Text,
@@ -122,7 +122,7 @@ fn named(
 /// The name that is declared.
 pub fn declared_name(
     alloc: Global,
-    draft: Held<Draft>,
+    draft: Held<ModuleDraft>,
     declared: Declared,
     width: u32,
     word: &[u8],
@@ -139,7 +139,7 @@ pub fn declared_name(
 /// A range, or at once the name that is declared.
 pub fn range_or_name(
     alloc: Global,
-    draft: Held<Draft>,
+    draft: Held<ModuleDraft>,
     declared: Declared,
     word: &[u8],
 ) -> Result<Option<Reader>, AllocError>

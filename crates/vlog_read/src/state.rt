@@ -12,7 +12,7 @@ use vlog_tree::{Atom, BinaryOp, Connection, Item, Module, PortDecl, Step};
 
 /// Modules that are whole, and the module that is read, as far as it is.
 #[derive(Drop)]
-pub struct Draft {
+pub struct ModuleDraft {
     pub modules: Listed<Module>,
     pub name: Text,
     pub ports: Listed<PortDecl>,
@@ -63,48 +63,48 @@ pub enum Purpose {
 pub enum HeadState {
     Between(Listed<Module>),
     ModuleName(Listed<Module>),
-    PortStart(Held<Draft>),
-    RangeOrName(Held<Draft>, Declared),
-    RangeHigh(Held<Draft>, Declared),
-    DeclaredName(Held<Draft>, Declared, u32),
-    PortNext(Held<Draft>),
+    PortStart(Held<ModuleDraft>),
+    RangeOrName(Held<ModuleDraft>, Declared),
+    RangeHigh(Held<ModuleDraft>, Declared),
+    DeclaredName(Held<ModuleDraft>, Declared, u32),
+    PortNext(Held<ModuleDraft>),
 }
 
 /// What is chosen by the next word among items.
 #[derive(Drop)]
 pub enum ItemState {
-    ItemStart(Held<Draft>),
-    RegNext(Held<Draft>, u32, Text),
-    CellsLast(Held<Draft>, u32, Text),
-    InstanceName(Held<Draft>, Text),
-    ConnectionPort(Held<Draft>, Held<Joining>),
-    ConnectionNet(Held<Draft>, Held<Joining>, Text),
-    ConnectionNext(Held<Draft>, Held<Joining>),
+    ItemStart(Held<ModuleDraft>),
+    RegNext(Held<ModuleDraft>, u32, Text),
+    CellsLast(Held<ModuleDraft>, u32, Text),
+    InstanceName(Held<ModuleDraft>, Text),
+    ConnectionPort(Held<ModuleDraft>, Held<Joining>),
+    ConnectionNet(Held<ModuleDraft>, Held<Joining>, Text),
+    ConnectionNext(Held<ModuleDraft>, Held<Joining>),
 }
 
 /// What is chosen by the next word in an assignment, and in an atom.
 #[derive(Drop)]
 pub enum ValueState {
-    AssignName(Held<Draft>),
-    ValueStart(Held<Draft>, Text),
-    BraceStart(Held<Draft>, Text),
-    ValueNext(Held<Draft>, Text, Held<Atom>),
-    ConcatNext(Held<Draft>, Text, Listed<Atom>),
-    AtomStart(Held<Draft>, Held<Purpose>),
-    AtomNext(Held<Draft>, Held<Purpose>, Text),
-    AtomHigh(Held<Draft>, Held<Purpose>, Text),
-    AtomLow(Held<Draft>, Held<Purpose>, Text, u32),
-    AtomEnd(Held<Draft>, Held<Purpose>, Held<Atom>),
+    AssignName(Held<ModuleDraft>),
+    ValueStart(Held<ModuleDraft>, Text),
+    BraceStart(Held<ModuleDraft>, Text),
+    ValueNext(Held<ModuleDraft>, Text, Held<Atom>),
+    ConcatNext(Held<ModuleDraft>, Text, Listed<Atom>),
+    AtomStart(Held<ModuleDraft>, Held<Purpose>),
+    AtomNext(Held<ModuleDraft>, Held<Purpose>, Text),
+    AtomHigh(Held<ModuleDraft>, Held<Purpose>, Text),
+    AtomLow(Held<ModuleDraft>, Held<Purpose>, Text, u32),
+    AtomEnd(Held<ModuleDraft>, Held<Purpose>, Held<Atom>),
 }
 
 /// What is chosen by the next word in a block.
 #[derive(Drop)]
 pub enum BlockState {
-    StepStart(Held<Draft>, Held<Steps>),
-    AfterEnd(Held<Draft>, Held<Steps>),
-    IfName(Held<Draft>, Held<Steps>),
-    StepTarget(Held<Draft>, Held<Steps>, Text),
-    StepIndex(Held<Draft>, Held<Steps>, Text),
+    StepStart(Held<ModuleDraft>, Held<Steps>),
+    AfterEnd(Held<ModuleDraft>, Held<Steps>),
+    IfName(Held<ModuleDraft>, Held<Steps>),
+    StepTarget(Held<ModuleDraft>, Held<Steps>, Text),
+    StepIndex(Held<ModuleDraft>, Held<Steps>, Text),
 }
 
 /// What is chosen by the next word.
@@ -161,7 +161,7 @@ impl Reader {
     pub fn atom(
         alloc: Global,
         coming: Coming,
-        draft: Held<Draft>,
+        draft: Held<ModuleDraft>,
         purpose: Purpose,
     ) -> Result<Reader, AllocError>
         ensures { IfOk result (λ r. r ≡ spec.behind coming (State.Value (ValueState.AtomStart draft purpose))) }
@@ -171,7 +171,11 @@ impl Reader {
     }
 
     /// A reader behind an item, before the words that end it.
-    pub fn item_behind(coming: Coming, draft: Held<Draft>, item: Item) -> Result<Reader, AllocError>
+    pub fn item_behind(
+        coming: Coming,
+        draft: Held<ModuleDraft>,
+        item: Item,
+    ) -> Result<Reader, AllocError>
         ensures { IfOk result (λ r. r ≡ spec.item_behind coming draft item) }
     {
         let Held { mut held } = draft;
@@ -189,7 +193,7 @@ pub fn discard_head(_state: HeadState) {}
 /// Lets go what a reader among items holds.
 pub fn discard_item(_state: ItemState) {}
 
-fn discard_purpose(_draft: Held<Draft>, _purpose: Held<Purpose>) {}
+fn discard_purpose(_draft: Held<ModuleDraft>, _purpose: Held<Purpose>) {}
 
 /// Lets go what a reader in a value holds.
 pub fn discard_value(state: ValueState) {
@@ -236,12 +240,12 @@ impl Reader {
     }
 }
 
-impl Draft {
+impl ModuleDraft {
     /// A module of which the name is read.
-    pub fn begun(alloc: Global, modules: Listed<Module>, name: Text) -> Draft
+    pub fn begun(alloc: Global, modules: Listed<Module>, name: Text) -> ModuleDraft
         ensures { result ≡ spec.begun modules name }
     {
-        Draft {
+        ModuleDraft {
             modules,
             name,
             ports: Listed::new(alloc),
@@ -270,7 +274,7 @@ impl Draft {
         requires { IsModule (spec.module_of self) }
         ensures { IfOk result (λ ms. ms ≡ spec.finished self) }
     {
-        let Draft {
+        let ModuleDraft {
             modules,
             name,
             ports,
@@ -339,9 +343,9 @@ impl Joining {
     }
 }
 
-impl Held<Draft> {
+impl Held<ModuleDraft> {
     /// The draft with one more port.
-    pub fn with_port(self, port: PortDecl) -> Result<Held<Draft>, AllocError>
+    pub fn with_port(self, port: PortDecl) -> Result<Held<ModuleDraft>, AllocError>
         ensures { IfOk result (λ d. d ≡ spec.with_port self port) }
     {
         let Held { mut held } = self;

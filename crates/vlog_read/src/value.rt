@@ -4,14 +4,19 @@ ghost use Rattle.std.specs.Prelude.{◌≡◌, IfOk};
 ghost use Rattle.vlog_read.specs.ValueReading as spec;
 
 use crate::held::Held;
-use crate::state::{BlockState, Draft, Purpose, Reader, Steps, ValueState};
+use crate::state::{BlockState, ModuleDraft, Purpose, Reader, Steps, ValueState};
 use std::alloc::{AllocError, Global};
 use tapa_base::Text;
 use vlog_lex::{Coming, Listed, is_name_word, is_number, literal_of, name_of, width_at};
 use vlog_tree::{Atom, Atoms, BinaryOp, Item, Step, Value};
 
 /// A reader behind what drives a net, and the words that end it.
-fn driven(draft: Held<Draft>, coming: Coming, net: Text, value: Value) -> Result<Reader, AllocError>
+fn driven(
+    draft: Held<ModuleDraft>,
+    coming: Coming,
+    net: Text,
+    value: Value,
+) -> Result<Reader, AllocError>
     ensures { IfOk result (λ r. r ≡ spec.driven draft coming net value) }
 {
     Reader::item_behind(coming, draft, Item::Assign { net, value })
@@ -20,7 +25,7 @@ fn driven(draft: Held<Draft>, coming: Coming, net: Text, value: Value) -> Result
 /// The net that is driven.
 pub fn assign_name(
     alloc: Global,
-    draft: Held<Draft>,
+    draft: Held<ModuleDraft>,
     word: &[u8],
 ) -> Result<Option<Reader>, AllocError>
     ensures { IfOk result (λ o. o ≡ spec.assign_name draft word.now) }
@@ -35,7 +40,7 @@ pub fn assign_name(
 /// Where an atom must come: a name, which may go on, or a literal.
 pub fn atom_start(
     alloc: Global,
-    draft: Held<Draft>,
+    draft: Held<ModuleDraft>,
     purpose: Held<Purpose>,
     word: &[u8],
 ) -> Result<Option<Reader>, AllocError>
@@ -57,7 +62,7 @@ pub fn atom_start(
 /// Where must come what drives a net.
 pub fn value_start(
     alloc: Global,
-    draft: Held<Draft>,
+    draft: Held<ModuleDraft>,
     net: Text,
     word: &[u8],
 ) -> Result<Option<Reader>, AllocError>
@@ -77,7 +82,7 @@ pub fn value_start(
 /// Behind a brace: a number of copies, or the first atom of a concatenation.
 pub fn brace_start(
     alloc: Global,
-    draft: Held<Draft>,
+    draft: Held<ModuleDraft>,
     net: Text,
     word: &[u8],
 ) -> Result<Option<Reader>, AllocError>
@@ -160,7 +165,7 @@ fn operator_of(word: &[u8]) -> Option<BinaryOp>
 /// Behind the first atom of what drives a net.
 pub fn value_next(
     alloc: Global,
-    draft: Held<Draft>,
+    draft: Held<ModuleDraft>,
     net: Text,
     first: Atom,
     word: &[u8],
@@ -186,7 +191,7 @@ pub fn value_next(
 /// Behind an atom of a concatenation: one more, or the end behind two at least.
 pub fn concat_next(
     alloc: Global,
-    draft: Held<Draft>,
+    draft: Held<ModuleDraft>,
     net: Text,
     atoms: Listed<Atom>,
     word: &[u8],
@@ -206,7 +211,7 @@ pub fn concat_next(
 
 /// The word behind what drives a net.
 fn driven_by(
-    draft: Held<Draft>,
+    draft: Held<ModuleDraft>,
     coming: Coming,
     net: Text,
     value: Value,
@@ -220,7 +225,7 @@ fn driven_by(
 
 /// The semicolon behind what drives a net.
 fn ended(
-    draft: Held<Draft>,
+    draft: Held<ModuleDraft>,
     net: Text,
     value: Value,
     word: &[u8],
@@ -232,7 +237,7 @@ fn ended(
 
 /// The semicolon behind a step.
 fn stepped(
-    draft: Held<Draft>,
+    draft: Held<ModuleDraft>,
     steps: Held<Steps>,
     step: Step,
     word: &[u8],
@@ -275,7 +280,7 @@ fn store(memory: Text, index: Text, value: Atom) -> Step
 /// The colon behind the first of two atoms between which one is chosen.
 fn first_chosen(
     alloc: Global,
-    draft: Held<Draft>,
+    draft: Held<ModuleDraft>,
     net: Text,
     condition: Atom,
     yes: Atom,
@@ -295,7 +300,7 @@ fn first_chosen(
 /// Behind an atom that is whole.
 pub fn atom_end(
     alloc: Global,
-    draft: Held<Draft>,
+    draft: Held<ModuleDraft>,
     purpose: Held<Purpose>,
     atom: Atom,
     word: &[u8],
@@ -329,7 +334,7 @@ pub fn atom_end(
 /// Behind a name where an atom stands: a part of the net, the cell of a memory, or the whole net.
 pub fn atom_next(
     alloc: Global,
-    draft: Held<Draft>,
+    draft: Held<ModuleDraft>,
     purpose: Held<Purpose>,
     name: Text,
     word: &[u8],
@@ -346,7 +351,7 @@ pub fn atom_next(
 /// The index of a memory, which stands alone behind the net that it drives.
 fn cell_index(
     alloc: Global,
-    draft: Held<Draft>,
+    draft: Held<ModuleDraft>,
     purpose: Held<Purpose>,
     memory: Text,
     word: &[u8],
@@ -370,7 +375,7 @@ fn cell_index(
 /// Behind a bracket: the high bit of a part, or the index of a memory.
 pub fn atom_high(
     alloc: Global,
-    draft: Held<Draft>,
+    draft: Held<ModuleDraft>,
     purpose: Held<Purpose>,
     name: Text,
     word: &[u8],
@@ -390,7 +395,7 @@ pub fn atom_high(
 /// The low bit of a part.
 pub fn atom_low(
     alloc: Global,
-    draft: Held<Draft>,
+    draft: Held<ModuleDraft>,
     purpose: Held<Purpose>,
     net: Text,
     high: u32,

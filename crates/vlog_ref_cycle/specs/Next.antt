@@ -108,7 +108,8 @@ held_known c now d h = is_some (and_then (module_at c.modules.now c.top.now h.pa
 
 -- what a memory around the design is asked for has numbers
 abbrev pub outside_known : Circuit → Moment → ℕ → OutsideMemory → Bool
-outside_known c now d l = is_some (number_at c now d [] (m_ack l.name)) && is_some (number_at c now d [] (m_we l.name)) && is_some (number_at c now d [] (m_addr l.name)) && is_some (number_at c now d [] (m_wdata l.name))
+outside_known c now d l = is_some (number_at c now d [] (m_ack l.name)) && is_some (number_at c now d [] (m_we l.name)) && is_some
+    (number_at c now d [] (m_addr l.name)) && is_some (number_at c now d [] (m_wdata l.name))
 
 -- what a memory around the design has after the store of a cycle
 abbrev pub stored_cells : Cycle → Name → List ℕ → List ℕ

@@ -153,7 +153,10 @@ fn are_on(on: &[bool]) -> bool
 // is closed that is not open.
 #[tactic(auto, using(vlog_tree::proofs::Nesting::reverse_push))]
 fn turn(nets: &[NetNumber], on: &mut Vec<bool>, step: &Step) -> Result<bool, AllocError>
-    ensures { (s : Sizes) (old : Cycle) (rest : List StepTree) (next : Cycle) → ReadsAre nets.now old (step_nets step.now) → IfOk result (λ fits. run_steps_lem s old (reverse on.old.items) (step.now ∷ rest) next ≡ (if fits then run_steps_lem s old (reverse on.new.items) rest (step_next s old (reverse on.old.items) step.now next) else step_next s old (reverse on.old.items) step.now next)) }
+    ensures { (s : Sizes) (old : Cycle) (rest : List StepTree) (next : Cycle) → ReadsAre nets.now old (step_nets step.now)
+        → IfOk result (λ fits. run_steps_lem s old (reverse on.old.items) (step.now ∷ rest) next ≡
+        (if fits then run_steps_lem s old (reverse on.new.items) rest (step_next s old (reverse on.old.items) step.now next) else step_next s old
+        (reverse on.old.items) step.now next)) }
 {
     match step {
         Step::If(c) => {
@@ -175,7 +178,8 @@ fn turn(nets: &[NetNumber], on: &mut Vec<bool>, step: &Step) -> Result<bool, All
 
 // The write of a step that runs.
 fn write(alloc: Global, nets: &[NetNumber], step: &Step, after: &mut Held) -> Result<(), AllocError>
-    ensures value { OnOk result ((s : Sizes) (old : Cycle) (next : Cycle) → ReadsAre nets.now old (step_nets step.now) → Fits s after.old → Shows after.old next → Shows after.new (step_next s old [] step.now next)) }
+    ensures value { OnOk result ((s : Sizes) (old : Cycle) (next : Cycle) → ReadsAre nets.now old (step_nets step.now) → Fits s after.old → Shows after.old next
+        → Shows after.new (step_next s old [] step.now next)) }
     ensures alike { OnOk result (IsAlike after.old after.new) }
 {
     match step {
@@ -207,7 +211,8 @@ fn run_step(
     step: &Step,
     after: &mut Held,
 ) -> Result<bool, AllocError>
-    ensures value { (s : Sizes) (old : Cycle) (rest : List StepTree) (next : Cycle) → ReadsAre nets.now old (step_nets step.now) → Fits s after.old → Shows after.old next → IfOk result (λ fits. StepLeaves s old (reverse on.old.items) step.now rest next fits (reverse on.new.items) after.new) }
+    ensures value { (s : Sizes) (old : Cycle) (rest : List StepTree) (next : Cycle) → ReadsAre nets.now old (step_nets step.now) → Fits s after.old → Shows after.old next
+        → IfOk result (λ fits. StepLeaves s old (reverse on.old.items) step.now rest next fits (reverse on.new.items) after.new) }
     ensures alike { OnOk result (IsAlike after.old after.new) }
 {
     if are_on(on) {
@@ -222,7 +227,8 @@ fn run_steps(
     steps: &[Step],
     after: &mut Held,
 ) -> Result<(), AllocError>
-    ensures value { OnOk result ((s : Sizes) (old : Cycle) (next : Cycle) → ReadsAre nets.now old (flat_map step_nets steps.now) → Fits s after.old → Shows after.old next → Shows after.new (run_steps_lem s old [] steps.now next)) }
+    ensures value { OnOk result ((s : Sizes) (old : Cycle) (next : Cycle) → ReadsAre nets.now old (flat_map step_nets steps.now) → Fits s after.old → Shows after.old next
+        → Shows after.new (run_steps_lem s old [] steps.now next)) }
     ensures alike { OnOk result (IsAlike after.old after.new) }
 {
     let mut on = Vec::new(alloc);
@@ -240,7 +246,8 @@ fn run_item(
     item: &Item,
     after: &mut Held,
 ) -> Result<(), AllocError>
-    ensures value { OnOk result ((s : Sizes) (old : Cycle) (next : Cycle) → ReadsAre nets.now old (item_nets item.now) → Fits s after.old → Shows after.old next → Shows after.new (run_items_lem s old (item.now ∷ []) next)) }
+    ensures value { OnOk result ((s : Sizes) (old : Cycle) (next : Cycle) → ReadsAre nets.now old (item_nets item.now) → Fits s after.old → Shows after.old next
+        → Shows after.new (run_items_lem s old (item.now ∷ []) next)) }
     ensures alike { OnOk result (IsAlike after.old after.new) }
 {
     match item {
@@ -260,7 +267,8 @@ pub(crate) fn run_items(
     items: &[Item],
     after: &mut Held,
 ) -> Result<(), AllocError>
-    ensures value { OnOk result ((s : Sizes) (old : Cycle) (next : Cycle) → ReadsAre nets.now old (flat_map item_nets items.now) → Fits s after.old → Shows after.old next → Shows after.new (run_items_lem s old items.now next)) }
+    ensures value { OnOk result ((s : Sizes) (old : Cycle) (next : Cycle) → ReadsAre nets.now old (flat_map item_nets items.now) → Fits s after.old → Shows after.old next
+        → Shows after.new (run_items_lem s old items.now next)) }
     ensures alike { OnOk result (IsAlike after.old after.new) }
 {
     for item in items {

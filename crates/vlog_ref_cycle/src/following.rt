@@ -72,7 +72,9 @@ fn held_after(
 ) -> Result<Option<Held>, AllocError>
     ensures known { IfOk result (λ o. is_some o ≡ held_known design.now now.now depth h.now) }
     ensures alike { IfOk result (λ o. IfSome o (λ k. IsAlike h.now k)) }
-    ensures value { IfOk result (λ o. IfSome o (λ k. InRuns design.now now.now (λ env nets. HeldIs design.now.modules.now design.now.top.now (nets now.now.cycle) h.now → HeldIs design.now.modules.now design.now.top.now (nets (suc now.now.cycle)) k))) }
+    ensures value { IfOk result (λ o. IfSome o (λ k. InRuns design.now now.now
+        (λ env nets. HeldIs design.now.modules.now design.now.top.now (nets now.now.cycle) h.now
+        → HeldIs design.now.modules.now design.now.top.now (nets (suc now.now.cycle)) k))) }
 {
     let Some(m) = module_at(design.modules, design.top, &h.path) else {
         return Ok(None);

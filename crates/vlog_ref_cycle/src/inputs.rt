@@ -97,7 +97,8 @@ fn ack<'a>(alloc: Global, now: &'a Moment, x: &Text) -> Result<Option<Source<'a>
 }
 
 fn scalar<'a>(alloc: Global, now: &'a Moment, x: &Text) -> Result<Option<Source<'a>>, AllocError>
-    ensures { IfOk result (λ o. option_map source_tree o ≡ scalar_source now.now.scalars.items (scalar_lem x.now) (ack_source now.now.cycle now.now.outside.items (ack_lem x.now) (rdata_source now.now.outside.items (rdata_lem x.now)))) }
+    ensures { IfOk result (λ o. option_map source_tree o ≡ scalar_source now.now.scalars.items (scalar_lem x.now)
+        (ack_source now.now.cycle now.now.outside.items (ack_lem x.now) (rdata_source now.now.outside.items (rdata_lem x.now)))) }
 {
     let Some(label) = scalar_of(x) else {
         return ack(alloc, now, x);

@@ -5,7 +5,9 @@ ghost use Rattle.std.specs.Option.{option_copied, option_map};
 ghost use Rattle.std.specs.List.{flat_map};
 ghost use Rattle.vlog_tree.specs.Table.{port_declared, ports_of as ports_of_lem};
 ghost use Rattle.vlog_tree.specs.Loops.{atom_nets, value_nets};
-ghost use Rattle.vlog_ref_cycle.specs.Sources.{assigned_in as assigned_in_lem, output_in as output_in_lem, joined_in as joined_in_lem, assigned as assigned_lem, connection_out as connection_out_lem, output_of as output_of_lem, pair_of, connection_in as connection_in_lem, joined_to as joined_to_lem, net_read, are_read as are_read_lem, has_cells as has_cells_lem};
+ghost use Rattle.vlog_ref_cycle.specs.Sources.{assigned_in as assigned_in_lem, output_in as output_in_lem, joined_in as joined_in_lem, assigned as assigned_lem};
+ghost use Rattle.vlog_ref_cycle.specs.Sources.{connection_out as connection_out_lem, output_of as output_of_lem, pair_of, connection_in as connection_in_lem};
+ghost use Rattle.vlog_ref_cycle.specs.Sources.{joined_to as joined_to_lem, net_read, are_read as are_read_lem, has_cells as has_cells_lem};
 
 use crate::places::module_named;
 use std::alloc::{AllocError, Global};

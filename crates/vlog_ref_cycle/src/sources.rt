@@ -3,7 +3,8 @@
 ghost use Rattle.std.specs.Prelude.{◌≡◌, ◌∷◌, [], IfOk};
 ghost use Rattle.std.specs.Option.{option_map};
 ghost use Rattle.vlog_tree.specs.Table.{declared};
-ghost use Rattle.vlog_ref_cycle.specs.Sources.{source_tree, given_number, same_number, driver_source, line_source, assigned as assigned_lem, output_source, output_of as output_of_lem, outer_source, source_of as source_of_lem};
+ghost use Rattle.vlog_ref_cycle.specs.Sources.{source_tree, given_number, same_number, driver_source, line_source, assigned as assigned_lem, output_source};
+ghost use Rattle.vlog_ref_cycle.specs.Sources.{output_of as output_of_lem, outer_source, source_of as source_of_lem};
 
 use crate::inputs::input_source;
 use crate::lines::{are_read, assigned, has_cells, joined_to, output_of, value_reads};
@@ -125,7 +126,8 @@ fn output<'a>(
     path: &[Text],
     x: &Text,
 ) -> Result<Option<Source<'a>>, AllocError>
-    ensures { IfOk result (λ o. option_map source_tree o ≡ output_source path.now (output_of_lem design.now.modules.now m.now.items x.now) (outer_source design.now.modules.now design.now.top.now now.now path.now x.now)) }
+    ensures { IfOk result (λ o. option_map source_tree o ≡ output_source path.now (output_of_lem design.now.modules.now m.now.items x.now)
+        (outer_source design.now.modules.now design.now.top.now now.now path.now x.now)) }
 {
     match output_of(design.modules, m.items(), x) {
         Some((i, p)) => {
@@ -146,7 +148,8 @@ fn line<'a>(
     path: &[Text],
     x: &Text,
 ) -> Result<Option<Source<'a>>, AllocError>
-    ensures { IfOk result (λ o. option_map source_tree o ≡ line_source (declared m.now) path.now h.now.memories.items x.now (assigned_lem m.now.items x.now) (output_source path.now (output_of_lem design.now.modules.now m.now.items x.now) (outer_source design.now.modules.now design.now.top.now now.now path.now x.now))) }
+    ensures { IfOk result (λ o. option_map source_tree o ≡ line_source (declared m.now) path.now h.now.memories.items x.now (assigned_lem m.now.items x.now)
+        (output_source path.now (output_of_lem design.now.modules.now m.now.items x.now) (outer_source design.now.modules.now design.now.top.now now.now path.now x.now))) }
 {
     match assigned(m.items(), x) {
         Some(e) => driver(alloc, m, path, &h.memories, x, e),

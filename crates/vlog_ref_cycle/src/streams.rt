@@ -50,7 +50,8 @@ fn carries_number(
 ) -> Result<Option<Option<u128>>, AllocError>
     ensures known { IfOk result (λ o. is_some o ≡ stream_known design.now now.now depth label.now) }
     ensures first { IfOk result (λ o. IfSome o (λ t. now.now.cycle ≡ 0 → t ≡ None)) }
-    ensures value { IfOk result (λ o. IfSome o (λ t. InRuns design.now now.now (λ env nets. (k : ℕ) → now.now.cycle ≡ suc k → carried (λ n. nets n []) label.now (suc k) ≡ carried (λ n. nets n []) label.now k ++ option_to_list t))) }
+    ensures value { IfOk result (λ o. IfSome o (λ t. InRuns design.now now.now
+        (λ env nets. (k : ℕ) → now.now.cycle ≡ suc k → carried (λ n. nets n []) label.now (suc k) ≡ carried (λ n. nets n []) label.now k ++ option_to_list t))) }
 {
     let label = label.bytes();
     let Some(wr) = top_number(alloc, design, now, wr_name(alloc, label)?, depth)? else {
@@ -98,7 +99,9 @@ pub fn carries(
     requires high { stream.now.bits ≤ 65 }
     ensures known { IfOk result (λ o. is_some o ≡ stream_known design.now now.now depth stream.now.name) }
     ensures first { IfOk result (λ o. IfSome o (λ t. now.now.cycle ≡ 0 → t ≡ None)) }
-    ensures value { IfOk result (λ o. IfSome o (λ t. InRuns design.now now.now (λ env nets. (k : ℕ) → now.now.cycle ≡ suc k → tokens stream.now.bits (λ n. nets n []) stream.now.name (suc k) ≡ tokens stream.now.bits (λ n. nets n []) stream.now.name k ++ option_to_list t))) }
+    ensures value { IfOk result (λ o. IfSome o (λ t. InRuns design.now now.now
+        (λ env nets. (k : ℕ) → now.now.cycle ≡ suc k
+        → tokens stream.now.bits (λ n. nets n []) stream.now.name (suc k) ≡ tokens stream.now.bits (λ n. nets n []) stream.now.name k ++ option_to_list t))) }
 {
     match carries_number(alloc, design, now, &stream.name, depth)? {
         Some(Some(din)) => Ok(Some(Some(token_of(stream.bits, din)))),

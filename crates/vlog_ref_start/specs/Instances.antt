@@ -6,13 +6,13 @@ use Rattle.vlog_tree.specs.declared.tree.Item.TheVariants.{Wire, Reg, Memory, As
 use Rattle.vlog_tree.specs.Form.{ModuleTree}
 use Rattle.vlog_tree.specs.Cycle.{Path}
 use Rattle.vlog_tree.specs.Table.{module_named}
-use Rattle.vlog_ref_start.specs.declared.instances.Place.{Place}
+use Rattle.vlog_ref_start.specs.declared.instances.InstancePlace.{InstancePlace}
 
 -- an instance: the way to it, and its module
 abbrev pub PlaceTree : Type 0
 PlaceTree = Path × ModuleTree
 
-abbrev pub place_tree : Place → PlaceTree
+abbrev pub place_tree : InstancePlace → PlaceTree
 place_tree p = (p.path.items, p.module.now)
 
 abbrev pub place_of : Path → Option ModuleTree → List PlaceTree

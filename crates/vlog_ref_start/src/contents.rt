@@ -5,7 +5,7 @@ ghost use Rattle.std.specs.List.{flat_map};
 ghost use Rattle.vlog_ref_start.specs.Instances.{place_tree, places_below};
 ghost use Rattle.vlog_ref_start.specs.Contents.{memory_tree, held_tree, filled_net, filled_cells, filled_held};
 
-use crate::instances::{Place, level_below};
+use crate::instances::{InstancePlace, level_below};
 use std::alloc::{AllocError, Global};
 use tapa_base::Text;
 use vlog_tree::{Item, Module};
@@ -97,7 +97,7 @@ fn copy_path(alloc: Global, path: &[Text]) -> Result<Vec<Text>, AllocError>
     Ok(out)
 }
 
-fn filled(alloc: Global, fill: u128, place: &Place) -> Result<Held, AllocError>
+fn filled(alloc: Global, fill: u128, place: &InstancePlace) -> Result<Held, AllocError>
     ensures { IfOk result (λ h. held_tree h ≡ filled_held fill (place_tree place.now)) }
 {
     let path = copy_path(alloc, &place.path)?;
@@ -113,7 +113,7 @@ fn filled(alloc: Global, fill: u128, place: &Place) -> Result<Held, AllocError>
 fn add_level(
     alloc: Global,
     fill: u128,
-    level: &[Place],
+    level: &[InstancePlace],
     out: &mut Vec<Held>,
 ) -> Result<(), AllocError>
     ensures { OnOk result (map held_tree out.new.items ≡ map held_tree out.old.items ++ map (filled_held fill) (map place_tree level.now)) }
@@ -135,7 +135,7 @@ pub(crate) fn first_held(
 {
     let mut held = Vec::new(alloc);
     let mut level = Vec::new(alloc);
-    level.push(Place {
+    level.push(InstancePlace {
         path: Vec::new(alloc),
         module: top,
     })?;

@@ -11,7 +11,7 @@ use vlog_tree::{Item, Module};
 
 /// An instance: the names of the instances on the way to it, the innermost first, and its module.
 #[derive(Drop)]
-pub(crate) struct Place<'a> {
+pub(crate) struct InstancePlace<'a> {
     pub path: Vec<Text>,
     pub module: &'a Module,
 }
@@ -33,7 +33,7 @@ fn add_line<'a>(
     modules: &'a [Module],
     path: &[Text],
     item: &Item,
-    out: &mut Vec<Place<'a>>,
+    out: &mut Vec<InstancePlace<'a>>,
 ) -> Result<(), AllocError>
     ensures { OnOk result (map place_tree out.new.items ≡ map place_tree out.old.items ++ line_places modules.now path.now item.now) }
 {
@@ -45,7 +45,7 @@ fn add_line<'a>(
         } => match module_named(modules, kind) {
             Some(module) => {
                 let path = path_inside(alloc, i, path)?;
-                out.push(Place { path, module })?;
+                out.push(InstancePlace { path, module })?;
                 Ok(())
             }
             None => Ok(()),
@@ -63,7 +63,7 @@ fn add_inner<'a>(
     modules: &'a [Module],
     path: &[Text],
     items: &[Item],
-    out: &mut Vec<Place<'a>>,
+    out: &mut Vec<InstancePlace<'a>>,
 ) -> Result<(), AllocError>
     ensures { OnOk result (map place_tree out.new.items ≡ map place_tree out.old.items ++ flat_map (line_places modules.now path.now) items.now) }
 {
@@ -77,8 +77,8 @@ fn add_inner<'a>(
 pub(crate) fn level_below<'a>(
     alloc: Global,
     modules: &'a [Module],
-    level: &[Place<'a>],
-) -> Result<Vec<Place<'a>>, AllocError>
+    level: &[InstancePlace<'a>],
+) -> Result<Vec<InstancePlace<'a>>, AllocError>
     ensures { IfOk result (λ v. map place_tree v.items ≡ flat_map (inner_places modules.now) (map place_tree level.now)) }
 {
     let mut out = Vec::new(alloc);

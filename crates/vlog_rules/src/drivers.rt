@@ -37,7 +37,8 @@ fn count_net(scope: &Scope, counts: &mut Vec<u8>, name: &Text)
 
 #[tactic(auto, using(crate::proofs::Counts::no_name_more), unfolding(vlog_tree::specs::V4::connection_driven))]
 fn count_connection(scope: &Scope, counts: &mut Vec<u8>, ports: &Scope, connection: &Connection)
-    ensures { (names : List (List ℕ)) → CountsPlaces scope.now counts.old.items (times_in names) → CountsPlaces scope.now counts.new.items (times_in (names ++ connection_driven ports.now connection.now)) }
+    ensures { (names : List (List ℕ)) → CountsPlaces scope.now counts.old.items (times_in names)
+        → CountsPlaces scope.now counts.new.items (times_in (names ++ connection_driven ports.now connection.now)) }
 {
     if is_input(ports.find(&connection.port).0) {
         return;
@@ -46,7 +47,8 @@ fn count_connection(scope: &Scope, counts: &mut Vec<u8>, ports: &Scope, connecti
 }
 
 fn count_connections(scope: &Scope, counts: &mut Vec<u8>, ports: &Scope, connections: &[Connection])
-    ensures { (names : List (List ℕ)) → CountsPlaces scope.now counts.old.items (times_in names) → CountsPlaces scope.now counts.new.items (times_in (names ++ flat_map (connection_driven ports.now) connections.now)) }
+    ensures { (names : List (List ℕ)) → CountsPlaces scope.now counts.old.items (times_in names)
+        → CountsPlaces scope.now counts.new.items (times_in (names ++ flat_map (connection_driven ports.now) connections.now)) }
 {
     for l in connections {
         count_connection(scope, counts, ports, l);
@@ -129,7 +131,8 @@ fn count_target(
     name: &Text,
 ) -> Result<(), AllocError>
     ensures own { OnOk result ((x : List ℕ) → count_in own.new x ≡ (if bytes_eq name.now x && (count_in own.old name.now == 0) then min (count_in own.old x + 1) 2 else count_in own.old x)) }
-    ensures blocks { OnOk result ((x : List ℕ) → count_in blocks.new x ≡ (if bytes_eq name.now x && (count_in own.old name.now == 0) then min (count_in blocks.old x + 1) 2 else count_in blocks.old x)) }
+    ensures blocks { OnOk result ((x : List ℕ) → count_in blocks.new x ≡
+        (if bytes_eq name.now x && (count_in own.old name.now == 0) then min (count_in blocks.old x + 1) 2 else count_in blocks.old x)) }
 {
     if count_of(own, name.bytes()) == 0 {
         count_one(alloc, own, name.bytes())?;
@@ -211,7 +214,8 @@ fn declaration<'a>(
     blocks: &NameCounts,
 ) -> Option<&'a Text>
     requires { (i : ℕ) × (i < length scope.now) × (name_at scope.now i ≡ d.now.name) }
-    ensures { (f g : List ℕ → ℕ) → CountsPlaces scope.now drives.now f → CountsTo blocks.now g → option_copied result ≡ first_violation ((d.now.name, breaks_driving_lem (f d.now.name) (g d.now.name) d.now.net_kind) ∷ []) }
+    ensures { (f g : List ℕ → ℕ) → CountsPlaces scope.now drives.now f → CountsTo blocks.now g
+        → option_copied result ≡ first_violation ((d.now.name, breaks_driving_lem (f d.now.name) (g d.now.name) d.now.net_kind) ∷ []) }
 {
     let driven = drives_of(scope, drives, &d.name);
     let assigned = count_of(blocks, d.name.bytes());
@@ -219,7 +223,8 @@ fn declaration<'a>(
 }
 
 fn declarations<'a>(scope: &'a Scope, drives: &[u8], blocks: &NameCounts) -> Option<&'a Text>
-    ensures { (f g : List ℕ → ℕ) → CountsPlaces scope.now drives.now f → CountsTo blocks.now g → option_copied result ≡ first_violation (map (λ d. (d.name, breaks_driving_lem (f d.name) (g d.name) d.net_kind)) scope.now) }
+    ensures { (f g : List ℕ → ℕ) → CountsPlaces scope.now drives.now f → CountsTo blocks.now g
+        → option_copied result ≡ first_violation (map (λ d. (d.name, breaks_driving_lem (f d.name) (g d.name) d.net_kind)) scope.now) }
 {
     for d in scope.declarations() {
         if let Some(x) = declaration(scope, d, drives, blocks) {

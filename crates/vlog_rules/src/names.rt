@@ -6,7 +6,8 @@ ghost use Rattle.vlog_scope.specs.NameTable.{count_in};
 ghost use Rattle.std.specs.Option.{option_copied};
 ghost use Rattle.std.specs.List.{flat_map, list_all};
 ghost use Rattle.vlog_tree.specs.Table.{first_violation, is_clk, net_kind_is_read, net_kind_is_driven, net_kind_is_input, port_declared, declared, net_kind_of, ports_of};
-ghost use Rattle.vlog_tree.specs.V2.{read_use, driven_use, register_use, memory_use, clock_use, atom_uses, value_uses, step_uses, inner_use, port_uses, instance_uses, all_connected as all_are_connected, joined_use, connection_uses, item_uses, module_uses, v2_uses};
+ghost use Rattle.vlog_tree.specs.V2.{read_use, driven_use, register_use, memory_use, clock_use, atom_uses, value_uses, step_uses, inner_use, port_uses, instance_uses};
+ghost use Rattle.vlog_tree.specs.V2.{all_connected as all_are_connected, joined_use, connection_uses, item_uses, module_uses, v2_uses};
 
 use std::alloc::{AllocError, Global};
 use tapa_base::Text;

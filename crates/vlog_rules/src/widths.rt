@@ -5,7 +5,9 @@ ghost use Rattle.std.specs.Prelude.{◌≡◌, ◌≤◌, ◌^◌, ◌∷◌, �
 ghost use Rattle.std.specs.Option.{option_copied};
 ghost use Rattle.std.specs.List.{flat_map, list_all};
 ghost use Rattle.vlog_tree.specs.Table.{first_violation, declared, bits_of};
-ghost use Rattle.vlog_tree.specs.V3.{is_width as is_width_lem, is_cell_count as is_cell_count_lem, net_fits as fits_net, memory_fits as fits_memory, atom_bits as bits_of_atom, atom_fits as fits_atom, has_bits as has_bits_lem, is_divisor as is_divisor_lem, op_fits as fits_op, value_fits as fits_value, step_widths, connection_widths, item_widths, port_widths, module_widths, v3_uses};
+ghost use Rattle.vlog_tree.specs.V3.{is_width as is_width_lem, is_cell_count as is_cell_count_lem, net_fits as fits_net, memory_fits as fits_memory};
+ghost use Rattle.vlog_tree.specs.V3.{atom_bits as bits_of_atom, atom_fits as fits_atom, has_bits as has_bits_lem, is_divisor as is_divisor_lem, op_fits as fits_op};
+ghost use Rattle.vlog_tree.specs.V3.{value_fits as fits_value, step_widths, connection_widths, item_widths, port_widths, module_widths, v3_uses};
 
 use crate::names::named_if;
 use tapa_base::Text;

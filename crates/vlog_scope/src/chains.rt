@@ -119,7 +119,8 @@ fn walk(chains: &Chains, declarations: &[Declaration], name: &[u8], from: usize)
     requires on { from < length declarations.now → chain_of (length chains.now.heads.items) (name_at declarations.now from) ≡ chain_of (length chains.now.heads.items) name.now }
     ensures within { IfSome result (λ p. p < length declarations.now) }
     ensures named { IfSome result (λ p. name_at declarations.now p ≡ name.now) }
-    ensures found { IfSome result (λ p. places_from from (map declaration_name (drop from declarations.now)) name.now ≡ Some (p, is_some (places_from (suc p) (map declaration_name (drop (suc p) declarations.now)) name.now))) }
+    ensures found { IfSome result (λ p. places_from from (map declaration_name (drop from declarations.now)) name.now ≡ Some
+        (p, is_some (places_from (suc p) (map declaration_name (drop (suc p) declarations.now)) name.now))) }
     ensures none { result ≡ None → places_from from (map declaration_name (drop from declarations.now)) name.now ≡ None }
 {
     let mut at = from;
@@ -141,7 +142,8 @@ pub(crate) fn first_place(
     requires { IsChained 0 declarations.now chains.now.heads.items chains.now.nexts.items }
     ensures within { IfSome result (λ p. p < length declarations.now) }
     ensures named { IfSome result (λ p. name_at declarations.now p ≡ name.now) }
-    ensures found { IfSome result (λ p. places_from 0 (map declaration_name declarations.now) name.now ≡ Some (p, is_some (places_from (suc p) (map declaration_name (drop (suc p) declarations.now)) name.now))) }
+    ensures found { IfSome result (λ p. places_from 0 (map declaration_name declarations.now) name.now ≡ Some
+        (p, is_some (places_from (suc p) (map declaration_name (drop (suc p) declarations.now)) name.now))) }
     ensures none { result ≡ None → places_from 0 (map declaration_name declarations.now) name.now ≡ None }
 {
     let chain = chain_at(name, chains.heads.len());

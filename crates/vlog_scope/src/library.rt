@@ -32,7 +32,8 @@ impl Model for Library {
 
     ghost view = { λ l. l.modules.items };
 
-    ghost invariant = { λ l. AllByRecursion IsModule l.modules.items × (l.names ≡ map module_declared l.modules.items) × (l.scopes.items ≡ names_of l.modules.items) × (l.ports.items ≡ all_ports l.modules.items) × (l.no_ports ≡ []) × (l.clk ≡ clk_name) };
+    ghost invariant = { λ l. AllByRecursion IsModule l.modules.items × (l.names ≡ map module_declared l.modules.items) × (l.scopes.items ≡ names_of l.modules.items)
+        × (l.ports.items ≡ all_ports l.modules.items) × (l.no_ports ≡ []) × (l.clk ≡ clk_name) };
 }
 
 #[tactic(auto, unfolding(vlog_tree::specs::Table::clk))]

@@ -38,7 +38,8 @@ impl NamePlaces {
         requires { HasPlaces declarations.now self.now }
         ensures within { IfSome result (λ p. p < length declarations.now) }
         ensures named { IfSome result (λ p. name_at declarations.now p ≡ name.now) }
-        ensures found { IfSome result (λ p. places_from 0 (map declaration_name declarations.now) name.now ≡ Some (p, is_some (places_from (suc p) (map declaration_name (drop (suc p) declarations.now)) name.now))) }
+        ensures found { IfSome result (λ p. places_from 0 (map declaration_name declarations.now) name.now ≡ Some
+            (p, is_some (places_from (suc p) (map declaration_name (drop (suc p) declarations.now)) name.now))) }
         ensures none { result ≡ None → places_from 0 (map declaration_name declarations.now) name.now ≡ None }
     {
         match self {

@@ -27,7 +27,8 @@ line_parts ms path x (Always b) = []
 -- what an input of an instance has its number from
 abbrev pub outer_parts : List ModuleTree → Path → Name → Name → Item → List FlatNet
 outer_parts ms path i x (Instance m j connections) =
-    if bytes_eq j i then flat_map (λ (l : Connection). if bytes_eq l.port x && net_kind_is_input (net_kind_of (map port_declared (ports_of ms m)) l.port) then (path, l.net) ∷ [] else []) connections else []
+    if bytes_eq j i then flat_map (λ (l : Connection). if bytes_eq l.port x && net_kind_is_input (net_kind_of (map port_declared (ports_of ms m)) l.port) then
+    (path, l.net) ∷ [] else []) connections else []
 outer_parts ms path i x (Assign y e) = []
 outer_parts ms path i x (Wire w y) = []
 outer_parts ms path i x (Reg w y) = []

@@ -13,7 +13,8 @@ use Rattle.vlog_tree.specs.declared.tree.Item.TheVariants.{Wire, Reg, Memory, As
 use Rattle.vlog_tree.specs.declared.tree.PortDecl.{PortDecl}
 use Rattle.vlog_tree.specs.declared.table.Declaration.{Declaration}
 use Rattle.vlog_tree.specs.Form.{ModuleTree}
-use Rattle.vlog_tree.specs.Table.{Name, NameUse, clk, is_clk, declared, port_declared, module_declared, net_kind_of, is_doubled_name, net_kind_is_read, net_kind_is_driven, net_kind_is_register, net_kind_is_memory, net_kind_is_input, ports_of, is_module_name}
+use Rattle.vlog_tree.specs.Table.{Name, NameUse, clk, is_clk, declared, port_declared, module_declared, net_kind_of, is_doubled_name, net_kind_is_read, net_kind_is_driven}
+use Rattle.vlog_tree.specs.Table.{net_kind_is_register, net_kind_is_memory, net_kind_is_input, ports_of, is_module_name}
 
 -- a net whose number is read; the clock's is never
 abbrev pub read_use : List Declaration → Name → NameUse

@@ -3,7 +3,8 @@
 ghost use Rattle.std.specs.Prelude.{◌≡◌, List, [], ◌∷◌, IfOk, reverse, false, if◌then◌else◌};
 ghost use Rattle.std.specs.List.{list_all};
 ghost use Rattle.vlog_tree.specs.declared.tree.Step.{Step as StepTree};
-ghost use Rattle.vlog_tree.specs.Form.{is_atom as is_atom_lem, is_value as is_value_lem, is_step as is_step_lem, is_connection as is_connection_lem, is_item as is_item_lem, is_port as is_port_lem, is_module as is_module_lem, nested as nested_lem};
+ghost use Rattle.vlog_tree.specs.Form.{is_atom as is_atom_lem, is_value as is_value_lem, is_step as is_step_lem, is_connection as is_connection_lem, is_item as is_item_lem};
+ghost use Rattle.vlog_tree.specs.Form.{is_port as is_port_lem, is_module as is_module_lem, nested as nested_lem};
 
 use crate::names::is_name;
 use crate::tree::{Atom, Connection, Item, PortDecl, Step, Value};

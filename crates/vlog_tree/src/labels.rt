@@ -3,7 +3,8 @@
 ghost use Rattle.std.specs.Prelude.{◌≡◌, ◌++◌, IfSome, IfOk};
 ghost use Rattle.std.specs.Str.{IsAscii};
 ghost use Rattle.std.specs.Option.{option_copied};
-ghost use Rattle.vlog_tree.specs.Labels.{label_in as label_lem, scalar_of as scalar_lem, ack_of as ack_lem, rdata_of as rdata_lem, addr_of as addr_lem, wdata_of as wdata_lem, we_of as we_lem, din_of as din_lem, m_ack, m_rdata, m_addr, m_wdata, m_we, s_wr, s_rdy};
+ghost use Rattle.vlog_tree.specs.Labels.{label_in as label_lem, scalar_of as scalar_lem, ack_of as ack_lem, rdata_of as rdata_lem, addr_of as addr_lem};
+ghost use Rattle.vlog_tree.specs.Labels.{wdata_of as wdata_lem, we_of as we_lem, din_of as din_lem, m_ack, m_rdata, m_addr, m_wdata, m_we, s_wr, s_rdy};
 
 use std::alloc::{AllocError, Global};
 use tapa_base::Text;

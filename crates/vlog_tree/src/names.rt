@@ -2,7 +2,9 @@
 
 ghost use Rattle.std.specs.Prelude.{◌≡◌, List, ℕ, Bool, ◌∷◌, bytes_eq};
 ghost use Rattle.std.specs.List.{list_all, list_any};
-ghost use Rattle.vlog_tree.specs.Names.{within, starts_name, goes_on, is_keyword as is_keyword_lem, is_among, has_name_form as has_name_form_lem, is_name as is_name_lem, always_to_default as words_0, defparam_to_event as words_1, for_to_input as words_2, instance_to_not as words_3, notif0_to_real as words_4, realtime_to_strong0 as words_5, strong1_to_unsigned as words_6, use_to_xor as words_7};
+ghost use Rattle.vlog_tree.specs.Names.{within, starts_name, goes_on, is_keyword as is_keyword_lem, is_among, has_name_form as has_name_form_lem, is_name as is_name_lem};
+ghost use Rattle.vlog_tree.specs.Names.{always_to_default as words_0, defparam_to_event as words_1, for_to_input as words_2, instance_to_not as words_3};
+ghost use Rattle.vlog_tree.specs.Names.{notif0_to_real as words_4, realtime_to_strong0 as words_5, strong1_to_unsigned as words_6, use_to_xor as words_7};
 
 fn is_within(low: u8, high: u8, byte: u8) -> bool
     ensures { result ≡ within low high byte }

@@ -26,7 +26,8 @@ ChannelsMeetContract =
 
 abbrev pub MachinesTakeOffers : Type 0
 MachinesTakeOffers =
-    (part : Part) (net : Network) (i : ℕ) (S : Streams) (answers : ℕ → ℕ → Bool) (h : History) → RunsMachine part S answers (λ s. net.consumer s ≡ i) (λ s. net.producer s ≡ i) h → (s : ℕ) → net.consumer s ≡ i → TakesOffers s S
+    (part : Part) (net : Network) (i : ℕ) (S : Streams) (answers : ℕ → ℕ → Bool) (h : History)
+    → RunsMachine part S answers (λ s. net.consumer s ≡ i) (λ s. net.producer s ≡ i) h → (s : ℕ) → net.consumer s ≡ i → TakesOffers s S
 
 -- nothing moves there from cycle 1 on
 pub record IsStill (s : ℕ) (S : Streams) : Type 0 where

@@ -32,13 +32,17 @@ shape_for leaf machine = shape_of machine leaf.memories.items leaf.streams.items
 abbrev pub part_in : Instance → Leaf → Fsm → (ℕ → Cycle) → (ℕ → List (List ℕ)) → Part
 part_in instance leaf machine run cells = record (part_at (shape_for leaf machine) run cells) { bound = stream_at instance }
 
-pub record IsInstanceOf (program : Program) (scalars : List ℕ) (memories : List (List ℕ)) (i : ℕ) (instance : Instance) (leaf : Leaf) (machine : Fsm) (run : ℕ → Cycle) (cells : ℕ → List (List ℕ)) (S : Streams) : Type 0 where
+pub record IsInstanceOf (program : Program) (scalars : List ℕ) (memories : List (List ℕ)) (i : ℕ) (instance : Instance) (leaf : Leaf) (machine : Fsm)
+    (run : ℕ → Cycle) (cells : ℕ → List (List ℕ)) (S : Streams) : Type 0 where
   pub part : IsPartOf ((network_of program scalars memories).job i) (part_in instance leaf machine run cells)
   pub runs :
-      RunsMachine (part_in instance leaf machine run cells) S (answers_at run) (λ s. (network_of program scalars memories).consumer s ≡ i) (λ s. (network_of program scalars memories).producer s ≡ i) (history_at (shape_for leaf machine) run cells)
+      RunsMachine (part_in instance leaf machine run cells) S (answers_at run) (λ s. (network_of program scalars memories).consumer s ≡ i)
+      (λ s. (network_of program scalars memories).producer s ≡ i) (history_at (shape_for leaf machine) run cells)
 
 abbrev pub ModulesAreInstances : Type 0
 ModulesAreInstances =
-    (program : Program) → IsWellFormed program → (scalars : List ℕ) (memories : List (List ℕ)) (i : ℕ) (instance : Instance) (leaf : Leaf) (machine : Fsm) → slice_get program.instances.items i ≡ Some instance → slice_get program.bodies.items instance.body ≡ Some leaf → IsLowered leaf machine
-    → (run : ℕ → Cycle) (cells : ℕ → List (List ℕ)) (S : Streams) → RunsTask (shape_for leaf machine) (writes_of leaf.streams.items) run cells → BeginsAs program scalars memories instance run cells → AreWired program instance leaf (streams_at (shape_for leaf machine) run) S
+    (program : Program) → IsWellFormed program → (scalars : List ℕ) (memories : List (List ℕ)) (i : ℕ) (instance : Instance) (leaf : Leaf) (machine : Fsm)
+    → slice_get program.instances.items i ≡ Some instance → slice_get program.bodies.items instance.body ≡ Some leaf → IsLowered leaf machine
+    → (run : ℕ → Cycle) (cells : ℕ → List (List ℕ)) (S : Streams) → RunsTask (shape_for leaf machine) (writes_of leaf.streams.items) run cells
+    → BeginsAs program scalars memories instance run cells → AreWired program instance leaf (streams_at (shape_for leaf machine) run) S
     → IsInstanceOf program scalars memories i instance leaf machine run cells S

@@ -36,4 +36,5 @@ MachinesStandAtNext =
 -- a tick that waits for a memory is the next one in the cycle after, too
 abbrev pub RequestsStay : Type 0
 RequestsStay =
-    (net : Network) → IsNetwork net → (clock : Clock) (n i x : ℕ) (t : Tick) → next net (count_at net clock n) i ≡ Some t → memory_of t ≡ Some x → clock.answers i x n ≡ false → next net (count_at net clock (suc n)) i ≡ Some t
+    (net : Network) → IsNetwork net → (clock : Clock) (n i x : ℕ) (t : Tick) → next net (count_at net clock n) i ≡ Some t → memory_of t ≡ Some x
+    → clock.answers i x n ≡ false → next net (count_at net clock (suc n)) i ≡ Some t

@@ -13,6 +13,8 @@ use Rattle.hw_network_laws.specs.network.Clocked.{IsClocked}
 -- at the position of its owner to which it is bound, memory m has before each cycle its cells at the count of the clock
 abbrev pub MemoriesHoldCells : Type 0
 MemoriesHoldCells =
-    (program : Program) → IsWellFormed program → (scalars : List ℕ) (memories : List (List ℕ)) (clock : Clock) (parts : ℕ → Part) (S : Streams) (h : ℕ → History) → IsClocked (network_of program scalars memories) clock parts S h
-    → (m p : ℕ) (o : Memory) (x : Instance) → slice_get program.memories.items m ≡ Some o → slice_get program.instances.items o.owner ≡ Some x → slice_get x.memories.items p ≡ Some m → (parts o.owner).first.cells ≡ (first_state program scalars memories o.owner).cells
+    (program : Program) → IsWellFormed program → (scalars : List ℕ) (memories : List (List ℕ)) (clock : Clock) (parts : ℕ → Part) (S : Streams) (h : ℕ → History)
+    → IsClocked (network_of program scalars memories) clock parts S h
+    → (m p : ℕ) (o : Memory) (x : Instance) → slice_get program.memories.items m ≡ Some o → slice_get program.instances.items o.owner ≡ Some x
+    → slice_get x.memories.items p ≡ Some m → (parts o.owner).first.cells ≡ (first_state program scalars memories o.owner).cells
     → (n : ℕ) → slice_index_or ((h o.owner).holds (suc n)).cells p [] ≡ cells_at program scalars memories (count_at (network_of program scalars memories) clock (suc n)) m

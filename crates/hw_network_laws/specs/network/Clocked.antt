@@ -40,7 +40,8 @@ pub record IsInStep (net : Network) (clock : Clock) (part : Part) (S : Streams) 
 -- all of it
 abbrev pub ClockedNetworksKeepTime : Type 0
 ClockedNetworksKeepTime =
-    (net : Network) (clock : Clock) (parts : ℕ → Part) (S : Streams) (h : ℕ → History) → IsClocked net clock parts S h → (n : ℕ) → AreCarried net clock S (suc n) × ((i : ℕ) → i < net.size → IsInStep net clock (parts i) S i (h i) (suc n))
+    (net : Network) (clock : Clock) (parts : ℕ → Part) (S : Streams) (h : ℕ → History) → IsClocked net clock parts S h → (n : ℕ) → AreCarried net clock S (suc n)
+    × ((i : ℕ) → i < net.size → IsInStep net clock (parts i) S i (h i) (suc n))
 
 -- so the streams carry what is Kahn's, all of it where the writer has ended, and what ends in a reachable count has ended
 -- after at most so many cycles
@@ -48,7 +49,8 @@ pub record CarriesKahn (net : Network) (clock : Clock) (S : Streams) (h : ℕ �
   pub begins : (s n : ℕ) → IsKahnPrefix net s (carried S s (suc n))
   pub whole : (s n : ℕ) → net.producer s < net.size → (h (net.producer s)).ended (suc n) ≡ true → IsKahnStream net s (carried S s (suc n))
   pub in_time :
-      (top : ℕ) (ready : ℕ → Bool) (waits : ℕ) → IsClock clock top ready waits → (k : ℕ → ℕ) → IsReachable net k → (n : ℕ) × (1 ≤ n) × (n ≤ 1 + total net.size k * suc top + waits) × ((i : ℕ) → i < net.size → HasEnded net k i → (h i).ended n ≡ true)
+      (top : ℕ) (ready : ℕ → Bool) (waits : ℕ) → IsClock clock top ready waits → (k : ℕ → ℕ) → IsReachable net k → (n : ℕ) × (1 ≤ n)
+      × (n ≤ 1 + total net.size k * suc top + waits) × ((i : ℕ) → i < net.size → HasEnded net k i → (h i).ended n ≡ true)
 
 abbrev pub ClockedNetworksCarryKahn : Type 0
 ClockedNetworksCarryKahn =

@@ -43,7 +43,8 @@ pub record KeepsPace (net : Network) (clock : Clock) (top : ℕ) : Type 0 where
       (n i : ℕ) → 1 ≤ n → (allowed : IsAllowed net (count_at net clock n) i) → memory_of allowed.supplied.tick ≡ None → (m : ℕ) × (n ≤ m) × (m ≤ n + top) × MakesIn net clock n i m
   -- where it is a Load or Store, in the first cycle in which its memory answers
   pub answered :
-      (n i x m : ℕ) → 1 ≤ n → (allowed : IsAllowed net (count_at net clock n) i) → memory_of allowed.supplied.tick ≡ Some x → n ≤ m → ((j : ℕ) → n ≤ j → j < m → clock.answers i x j ≡ false) → clock.answers i x m ≡ true → MakesIn net clock n i m
+      (n i x m : ℕ) → 1 ≤ n → (allowed : IsAllowed net (count_at net clock n) i) → memory_of allowed.supplied.tick ≡ Some x → n ≤ m
+      → ((j : ℕ) → n ≤ j → j < m → clock.answers i x j ≡ false) → clock.answers i x m ≡ true → MakesIn net clock n i m
   -- the tokens that are written and not taken, with the answers on their way
   pub few : (s n : ℕ) → length (written net (count_at net clock n) s) - length (taken net (count_at net clock n) s) + on_their_way net clock s n ≤ net.depth s + 2 * clock.latency s
 

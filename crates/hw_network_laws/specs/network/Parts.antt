@@ -37,4 +37,6 @@ part_of instance leaf fsm τ = record {
 
 abbrev pub LoweredMachinesAreParts : Type 0
 LoweredMachinesAreParts =
-    (program : Program) (first : ℕ → State) (i : ℕ) (instance : Instance) (leaf : Leaf) (fsm : Fsm) (τ : State) → slice_get program.instances.items i ≡ Some instance → slice_get program.bodies.items instance.body ≡ Some leaf → IsLeaf leaf → IsLowered leaf fsm → IsStart leaf (first i) → AgreeOn [] (first i) τ → IsPartOf ((network_with program first).job i) (part_of instance leaf fsm τ)
+    (program : Program) (first : ℕ → State) (i : ℕ) (instance : Instance) (leaf : Leaf) (fsm : Fsm) (τ : State) → slice_get program.instances.items i ≡ Some instance
+    → slice_get program.bodies.items instance.body ≡ Some leaf → IsLeaf leaf → IsLowered leaf fsm → IsStart leaf (first i) → AgreeOn [] (first i) τ
+    → IsPartOf ((network_with program first).job i) (part_of instance leaf fsm τ)

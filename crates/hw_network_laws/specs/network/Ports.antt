@@ -59,7 +59,10 @@ pub record IsLinked (bound : ℕ → ℕ) (w : ℕ → Option Bool) (Reads Write
 -- a module that runs its machine at its ports runs it at the streams, as instance i of a network
 abbrev pub PortsAreStreams : Type 0
 PortsAreStreams =
-    (part : Part) (w : ℕ → Option Bool) (net : Network) (i : ℕ) (ports S : Streams) (answers : ℕ → ℕ → Bool) (h : History) → ((pc : ℕ) → UsesPortsAt w (slice_get part.places pc)) → IsLinked part.bound w (λ s. net.consumer s ≡ i) (λ s. net.producer s ≡ i) ports S → RunsMachine (alone part) ports answers (λ p. w p ≡ Some false) (λ p. w p ≡ Some true) h → RunsMachine part S answers (λ s. net.consumer s ≡ i) (λ s. net.producer s ≡ i) h
+    (part : Part) (w : ℕ → Option Bool) (net : Network) (i : ℕ) (ports S : Streams) (answers : ℕ → ℕ → Bool) (h : History)
+    → ((pc : ℕ) → UsesPortsAt w (slice_get part.places pc)) → IsLinked part.bound w (λ s. net.consumer s ≡ i) (λ s. net.producer s ≡ i) ports S
+    → RunsMachine (alone part) ports answers (λ p. w p ≡ Some false) (λ p. w p ≡ Some true) h
+    → RunsMachine part S answers (λ s. net.consumer s ≡ i) (λ s. net.producer s ≡ i) h
 
 -- a lowered machine uses its ports as the leaf declares them
 abbrev pub LoweredMachinesUsePorts : Type 0
@@ -76,7 +79,8 @@ pub record HasPorts (program : Program) (i : ℕ) (instance : Instance) (leaf : 
 
 abbrev pub InstancesHavePorts : Type 0
 InstancesHavePorts =
-    (program : Program) → IsWellFormed program → (i : ℕ) (instance : Instance) (leaf : Leaf) → slice_get program.instances.items i ≡ Some instance → slice_get program.bodies.items instance.body ≡ Some leaf → HasPorts program i instance leaf
+    (program : Program) → IsWellFormed program → (i : ℕ) (instance : Instance) (leaf : Leaf) → slice_get program.instances.items i ≡ Some instance
+    → slice_get program.bodies.items instance.body ≡ Some leaf → HasPorts program i instance leaf
 
 -- the wires of an instance's module are those of the streams that it is bound to, and past the program's streams nothing
 -- moves
@@ -92,4 +96,8 @@ pub record AreWired (program : Program) (instance : Instance) (leaf : Leaf) (por
 -- so they are linked, as instance i of the program's network
 abbrev pub WiredInstancesAreLinked : Type 0
 WiredInstancesAreLinked =
-    (program : Program) → IsWellFormed program → (first : ℕ → State) (i : ℕ) (instance : Instance) (leaf : Leaf) → slice_get program.instances.items i ≡ Some instance → slice_get program.bodies.items instance.body ≡ Some leaf → (ports S : Streams) → AreWired program instance leaf ports S → IsLinked (stream_at instance) (writes_of leaf.streams.items) (λ s. (network_with program first).consumer s ≡ i) (λ s. (network_with program first).producer s ≡ i) ports S
+    (program : Program) → IsWellFormed program → (first : ℕ → State) (i : ℕ) (instance : Instance) (leaf : Leaf)
+    → slice_get program.instances.items i ≡ Some instance → slice_get program.bodies.items instance.body ≡ Some leaf → (ports S : Streams)
+    → AreWired program instance leaf ports S
+    → IsLinked (stream_at instance) (writes_of leaf.streams.items) (λ s. (network_with program first).consumer s ≡ i)
+    (λ s. (network_with program first).producer s ≡ i) ports S

@@ -65,7 +65,8 @@ takes_in net parts clock n past s =
 abbrev pub next_stand : Network → (ℕ → Part) → Clock → ℕ → List Stand → Stand
 next_stand net parts clock n past = record {
   at = λ i. if does_by net parts clock n past i then at_after (step_by parts past i) ((stood parts past 0).at i) else (stood parts past 0).at i;
-  holds = λ i. if does_by net parts clock n past i then held_after (step_by parts past i) ((stood parts past 0).holds i) (found (inputs_by net parts clock n past) (parts i).bound n (step_by parts past i)) else (stood parts past 0).holds i;
+  holds = λ i. if does_by net parts clock n past i then held_after (step_by parts past i) ((stood parts past 0).holds i)
+      (found (inputs_by net parts clock n past) (parts i).bound n (step_by parts past i)) else (stood parts past 0).holds i;
   ended = λ i. if does_by net parts clock n past i then ends_by (step_by parts past i) else (stood parts past 0).ended i;
   put = λ s. (stood parts past 0).put s ++ puts_in net parts clock n past s;
   took = λ s. (stood parts past 0).took s ++ (if takes_in net parts clock n past s then dout_by parts past s ∷ [] else []);
@@ -101,4 +102,5 @@ history_of net parts clock i = record {
 -- machines that follow the jobs of a network have a run at each clock
 abbrev pub ClockedNetworksRun : Type 0
 ClockedNetworksRun =
-    (net : Network) (clock : Clock) (parts : ℕ → Part) → IsNetwork net → ((i : ℕ) → i < net.size → IsPartOf (net.job i) (parts i)) → IsClocked net clock parts (streams_of net parts clock) (history_of net parts clock)
+    (net : Network) (clock : Clock) (parts : ℕ → Part) → IsNetwork net → ((i : ℕ) → i < net.size → IsPartOf (net.job i) (parts i))
+    → IsClocked net clock parts (streams_of net parts clock) (history_of net parts clock)

@@ -20,7 +20,8 @@ use Rattle.hw_task_laws.specs.names.Countable.{IsCountable}
 -- of every leaf and its machine, where the lines of the module can be counted
 abbrev pub ForTasks : (Shape → Type 0) → Type 0
 ForTasks P =
-    (leaf : Leaf) (machine : Fsm) → IsLeaf leaf → IsLowered leaf machine → IsCountable (shape_of machine leaf.memories.items leaf.streams.items) → P (shape_of machine leaf.memories.items leaf.streams.items)
+    (leaf : Leaf) (machine : Fsm) → IsLeaf leaf → IsLowered leaf machine → IsCountable (shape_of machine leaf.memories.items leaf.streams.items)
+    → P (shape_of machine leaf.memories.items leaf.streams.items)
 
 -- its elements fit one behind another, each name stands once, and each block has a target of its own
 abbrev pub TasksFit : Type 0

@@ -33,7 +33,8 @@ DesignsRunPrograms =
     OfReady
     (λ program machines added.
     (env : Environment) → FitsShape env (shape_of (top_tree program added)) → (nets : ℕ → Path → Cycle) → RunsIn (design_tree program machines added) (top_tree program added) env nets
-    → IsDesignOf program env.scalars env.memories (slice_index added) (machine_of program machines) (instance_run program nets) (instance_rows program env nets) (channel_run program nets) (streams_seen program nets))
+    → IsDesignOf program env.scalars env.memories (slice_index added) (machine_of program machines) (instance_run program nets) (instance_rows program env nets)
+    (channel_run program nets) (streams_seen program nets))
 
 -- and carries its Kahn streams
 abbrev pub DesignsCarryStreams : Type 0
@@ -48,5 +49,6 @@ abbrev pub DesignsCarryBeside : Type 0
 DesignsCarryBeside =
     OfReady
     (λ program machines added.
-    (env : Environment) → FitsShape env (shape_of (top_tree program added)) → (answers : ℕ → ℕ → Bool) (nets : ℕ → Path → Cycle) → RunsBeside (design_tree program machines added) (top_tree program added) env answers nets
+    (env : Environment) → FitsShape env (shape_of (top_tree program added)) → (answers : ℕ → ℕ → Bool) (nets : ℕ → Path → Cycle)
+    → RunsBeside (design_tree program machines added) (top_tree program added) env answers nets
     → CarriesBeside program added env answers nets)

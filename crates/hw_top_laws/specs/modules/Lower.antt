@@ -28,7 +28,8 @@ task_module leaf machine = task_tree machine leaf.memories.items leaf.streams.it
 -- the module of each used leaf task keeps what is promised of it
 abbrev pub KeepPromises : Program → List Fsm → Type 0
 KeepPromises program machines =
-    (b : ℕ) (leaf : Leaf) (machine : Fsm) → slice_get program.bodies.items b ≡ Some leaf → slice_get machines b ≡ Some machine → is_used program b ≡ true → KeepsPromise leaf machine (task_module leaf machine)
+    (b : ℕ) (leaf : Leaf) (machine : Fsm) → slice_get program.bodies.items b ≡ Some leaf → slice_get machines b ≡ Some machine → is_used program b ≡ true
+    → KeepsPromise leaf machine (task_module leaf machine)
 
 -- of every program that a circuit can be made of
 abbrev pub OfReady : (Program → List Fsm → List ℕ → Type 0) → Type 0

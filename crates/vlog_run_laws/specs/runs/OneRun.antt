@@ -33,7 +33,8 @@ TakesInputs top inputs nets = (n : ℕ) (x : Name) → net_kind_of (declared top
 -- In each module of the design the declared nets have the same numbers in both, and so have the memories' cells. The clock
 -- is left out: no line reads it.
 pub record IsSameRun (ms : List ModuleTree) (top : ModuleTree) (one two : ℕ → Path → Cycle) : Type 0 where
-  pub nets : (n : ℕ) (path : Path) (m : ModuleTree) → module_at ms top path ≡ Some m → (x : Name) → IsTrue (net_kind_is_read (net_kind_of (declared m) x)) → is_clk x ≡ false → (one n path).net x ≡ (two n path).net x
+  pub nets : (n : ℕ) (path : Path) (m : ModuleTree) → module_at ms top path ≡ Some m → (x : Name) → IsTrue (net_kind_is_read (net_kind_of (declared m) x))
+      → is_clk x ≡ false → (one n path).net x ≡ (two n path).net x
   pub cells : (n : ℕ) (path : Path) (m : ModuleTree) → module_at ms top path ≡ Some m → AllByRecursion (SameHeld (one n path) (two n path)) m.items
 
 -- a run with these inputs from these contents

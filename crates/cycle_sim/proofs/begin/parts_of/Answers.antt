@@ -4,8 +4,8 @@ use Rattle.cycle_sim.proofs.begin.parts_of.Goals as goal
 
 pub returns-clause-parts : goal.returns-clause-parts
 returns-clause-parts c =
-    let top = c.top-top.result.now in
-    let at = c.top-top.ensures in
+    let top = c.valid.ensures.0 in
+    let at = c.valid.ensures.1 in
     let f = c.in_ok-finished.finished in
     let a = c.in_ok-finished.around in
     record {

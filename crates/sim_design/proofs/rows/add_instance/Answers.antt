@@ -2,7 +2,7 @@ use Rattle.std.proofs.Common.{◌+◌, ◌≤◌, length, sym, ap, subst}
 use Rattle.std.specs.List.{AllByRecursion}
 use Rattle.sim_tape.specs.Trees.{tree_of}
 use Rattle.sim_gates.proofs.AtomSlots.{some_is, not_missing}
-use Rattle.sim_gates.specs.declared.writes.Blocks.{Blocks}
+use Rattle.sim_gates.specs.declared.writes.Writes.{Writes}
 use Rattle.sim_gates.specs.Ready.{IsReady}
 use Rattle.sim_design.specs.Left.{own_pairs, AreLeft}
 use Rattle.sim_design.proofs.rows.add_instance.Goals as goal
@@ -18,7 +18,7 @@ returns-clause-added c = λ room rooms.
     let j = c.deref-2.ensures.value in
     let b = c.in-Some.blocks in
     let left =
-    some_is (λ (b : Blocks). AreLeft ds (own_pairs base ds c.deref.result.now) (own_pairs base ds c.deref-2.result.now) items t b.next.items b.stores.items) c.in_ok-found.found b c.in-Some.is
+    some_is (λ (b : Writes). AreLeft ds (own_pairs base ds c.deref.result.now) (own_pairs base ds c.deref-2.result.now) items t b.next.items b.stores.items) c.in_ok-found.found b c.in-Some.is
     (c.in_ok-found.ensures.left (subst (λ l. base + length ds ≤ length l) (sym i) room) (subst (λ l. base + length ds ≤ length l) (sym j) rooms)) in
     record {
       next = b.next.items;

@@ -8,7 +8,7 @@ use Rattle.sim_tape.specs.declared.gates.Pair.{Pair}
 use Rattle.sim_tape.specs.Tape.{TapeTree}
 use Rattle.sim_tape.specs.Trees.{tree_of}
 use Rattle.sim_gates.specs.Nets.{Told}
-use Rattle.sim_gates.specs.declared.writes.Blocks.{Blocks}
+use Rattle.sim_gates.specs.declared.writes.Writes.{Writes}
 use Rattle.sim_gates.specs.Parts.{has_conditions}
 use Rattle.sim_gates.specs.Next.{ShowsNext, AreApart, AreKnown, SamePlaces}
 use Rattle.sim_gates.specs.Ready.{IsReady}
@@ -16,10 +16,10 @@ use Rattle.sim_design.proofs.Driving.{part_is}
 use Rattle.sim_design.specs.Left.{own_pairs, AreLeft}
 use Rattle.sim_design.proofs.rows.blocks_at.Goals as goal
 
-left_by : (o : Option Blocks) (ds : List Declaration) (ps qs ks ls : List (Option Pair)) (items lines : List Item) (t : TapeTree) → ps ≡ qs → ks ≡ ls → items ≡ lines
-    → IfSome o (λ (b : Blocks). SamePlaces ps b.next.items) → IfSome o (λ (b : Blocks). AreKnown ds ks b.stores.items)
-    → IfSome o (λ (b : Blocks). AreApart ds ks → Told ds ps t (λ s c ns. IsTrue (list_all (has_conditions ds) items) → ShowsNext ds ks b.next.items b.stores.items s c (run_items s c items c) ns))
-    → IfSome o (λ (b : Blocks). AreLeft ds qs ls lines t b.next.items b.stores.items)
+left_by : (o : Option Writes) (ds : List Declaration) (ps qs ks ls : List (Option Pair)) (items lines : List Item) (t : TapeTree) → ps ≡ qs → ks ≡ ls → items ≡ lines
+    → IfSome o (λ (b : Writes). SamePlaces ps b.next.items) → IfSome o (λ (b : Writes). AreKnown ds ks b.stores.items)
+    → IfSome o (λ (b : Writes). AreApart ds ks → Told ds ps t (λ s c ns. IsTrue (list_all (has_conditions ds) items) → ShowsNext ds ks b.next.items b.stores.items s c (run_items s c items c) ns))
+    → IfSome o (λ (b : Writes). AreLeft ds qs ls lines t b.next.items b.stores.items)
 left_by None ds ps qs ks ls items lines t i j l same known value = tt
 left_by (Some b) ds ps qs ks ls items lines t i j l same known value =
     subst (λ z. AreLeft ds z ls lines t b.next.items b.stores.items) i

@@ -14,7 +14,7 @@ returns-clause-rows c =
     let ms = c.args.modules.now in
     let rows = c.in_ok-all.all.rows.items in
     let first = c.in_ok-all.all.first.items in
-    let names = c.in_ok-names.ensures in
+    let names = c.requires in
     let items : rows_of c.deref.result.now ≡ rows_of c.in_ok-kinds.kinds.items = ap (λ l. rows_of l) c.deref.ensures.value in
     let k = items ∙ c.in_ok-kinds.ensures ∙ ap (λ (ds : List Declaration). all_kinds ds ms) names in
     let p = c.place_of-place.ensures ∙ ap (λ (ds : List Declaration). kind_place ds c.args.top.now) names in
@@ -26,7 +26,7 @@ returns-clause-deepest c =
     let ms = c.args.modules.now in
     let kinds = c.in_ok-kinds.kinds.items in
     let items : length c.deref.result.now ≡ length kinds = ap length c.deref.ensures.value in
-    let e : length c.deref.result.now ≡ length ms = items ∙ sym (rows_len kinds) ∙ ap length c.in_ok-kinds.ensures ∙ length-map ms (module_kinds c.in_ok-names.names) in
+    let e : length c.deref.result.now ≡ length ms = items ∙ sym (rows_len kinds) ∙ ap length c.in_ok-kinds.ensures ∙ length-map ms (module_kinds c.args.names.now) in
     subst (λ n. HaveDepth c.in_ok-all.all.rows.items (length c.in_ok-all.all.first.items) (length c.in_ok-all.all.rows.items) n) e c.in_ok-all.ensures.deepest
 
 pub returns-clause-counted : goal.returns-clause-counted
@@ -34,7 +34,7 @@ returns-clause-counted c =
     let ms = c.args.modules.now in
     let rows = c.in_ok-all.all.rows.items in
     let first = c.in_ok-all.all.first.items in
-    let names = c.in_ok-names.ensures in
+    let names = c.requires in
     let items : rows_of c.deref.result.now ≡ rows_of c.in_ok-kinds.kinds.items = ap (λ l. rows_of l) c.deref.ensures.value in
     let k = items ∙ c.in_ok-kinds.ensures ∙ ap (λ (ds : List Declaration). all_kinds ds ms) names in
     let p = c.place_of-place.ensures ∙ ap (λ (ds : List Declaration). kind_place ds c.args.top.now) names in
