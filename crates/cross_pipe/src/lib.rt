@@ -8,4 +8,4 @@ mod modules;
 mod names;
 mod relay;
 
-pub use modules::channel;
+pub use modules::{channel, fifo_size};

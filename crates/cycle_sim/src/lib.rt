@@ -18,5 +18,6 @@ mod supplies;
 
 pub use laws::law_told_is_one;
 pub use shown::is_shown;
-pub use sim::run_cycles;
+pub use sim::{Carried, run_cycles};
 pub use simulator::Sim;
+pub use vlog_design::Env;

@@ -3,16 +3,16 @@
 #![tactic(auto)]
 
 mod parts;
-pub mod verdict;
+mod verdict;
 
 ghost use Rattle.std.specs.Prelude.{◌≡◌, ◌<◌, ◌+◌, ℕ, slice_index};
 ghost use Rattle.flow_cert.specs.Flow.{WeakDuality};
 ghost use Rattle.flow_cert.specs.Walks.{EvenIsConsistent, LeastOfConsistent};
 ghost use Rattle.flow_cert.specs.Verdicts.{IsVerdict, Proves, AreLists};
 
-use crate::verdict::Verdict;
 pub use parts::{flow_weight, registers, width_weight};
 use task_graph::Graph;
+pub use verdict::Verdict;
 
 /// Whether one number per group and a flow show each other best: the first verdict that holds. `lat` has the latency of each
 /// stream in cycles, `s` the number of each group, and `flow` a flow along the streams.

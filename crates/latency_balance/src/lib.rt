@@ -13,4 +13,4 @@ mod sending;
 mod settling;
 mod walking;
 
-pub use balance::{Balance, balance_streams};
+pub use balance::{Balance, balance};

@@ -20,4 +20,5 @@ pub use exact::least_at_home;
 pub use floorplan::{Mode, Plan, PlanFault};
 pub use limit::free_groups;
 pub use needs::group_needs;
+pub use plan_device::{Device, DeviceFault, read_device};
 pub use planning::{plan, plan_of};

@@ -218,7 +218,7 @@ abbrev mutual
   IsExpression n nullptr = Given (argument_level ≤ n) (Takes terminal.Nullptr)
   IsExpression n (construct kind e) = IsOne kind ⨾ Takes terminal.LeftParen ⨾ IsExpression expression_level e ⨾ Takes terminal.RightParen
   IsExpression n (static_cast kind e) = Takes terminal.StaticCast ⨾ Takes terminal.Less ⨾ IsType kind ⨾ Takes terminal.Greater
-    ⨾ Takes terminal.LeftParen ⨾ IsExpression expression_level e ⨾ Takes terminal.RightParen
+      ⨾ Takes terminal.LeftParen ⨾ IsExpression expression_level e ⨾ Takes terminal.RightParen
   IsExpression n (cast kind e) = Takes terminal.LeftParen ⨾ IsType kind ⨾ Takes terminal.RightParen ⨾ IsExpression 0 e
   IsExpression n (parenthesized e) = Takes terminal.LeftParen ⨾ IsExpression expression_level e ⨾ Takes terminal.RightParen
   IsExpression n (prefix o at e) = MeansAt prefix_operator_of o at ⨾ IsExpression 0 e
