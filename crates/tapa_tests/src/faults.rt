@@ -168,7 +168,89 @@ fn waits_are_cut_at_lines(rt: HostRuntime) -> Result<(), Fail> {
         )?;
         assert_eq!(rt; cut.status, Status::Write);
         assert_eq!(rt; cut.err.bytes(), part.as_bytes());
+        assert_eq!(rt;
+            cut.out.bytes(),
+            b"stream s1: 1\nstream s2:\nstopped 1\n".as_slice()
+        );
     }
+    Ok(())
+}
+
+// A usage error that cannot be told: nothing is written.
+#[test]
+fn an_untold_usage_error_is_a_write_fault(rt: HostRuntime) -> Result<(), Fail> {
+    let alloc = rt.alloc();
+    let untold = said(
+        &rt,
+        alloc,
+        b"",
+        &["run"],
+        Vec::new(alloc),
+        Vec::new(alloc),
+        vec![in alloc; 0]?,
+    )?;
+    assert_eq!(rt; untold.status, Status::Write);
+    assert_eq!(rt; untold.out.bytes(), b"".as_slice());
+    assert_eq!(rt; untold.err.bytes(), b"".as_slice());
+    Ok(())
+}
+
+// A circuit whose third line is not taken: the output is the first two lines of its text, byte by byte.
+#[test]
+fn a_text_is_cut_behind_its_second_line(rt: HostRuntime) -> Result<(), Fail> {
+    let alloc = rt.alloc();
+    let words = ["build", "r.cpp", "VecAdd"];
+    let source = VECADD.as_bytes();
+    let whole = said(
+        &rt,
+        alloc,
+        source,
+        &words,
+        Vec::new(alloc),
+        Vec::new(alloc),
+        Vec::new(alloc),
+    )?;
+    assert_eq!(rt; whole.status, Status::Ok);
+    let cut = said(
+        &rt,
+        alloc,
+        source,
+        &words,
+        Vec::new(alloc),
+        vec![in alloc; 2; 1]?,
+        Vec::new(alloc),
+    )?;
+    assert_eq!(rt; cut.status, Status::Write);
+    assert_eq!(rt; cut.err.bytes(), b"tapa: cannot write\n".as_slice());
+    let held = cut.out.bytes();
+    assert!(rt; whole.out.bytes().starts_with(held));
+    assert_eq!(rt; lines(held), 2);
+    assert!(rt; held.ends_with(b"\n"));
+    Ok(())
+}
+
+// An output with room for ten bytes, less than the first line of a text: nothing is written there.
+#[test]
+fn an_output_that_is_full_stays_empty(rt: HostRuntime) -> Result<(), Fail> {
+    let alloc = rt.alloc();
+    let mut files = Vec::new(alloc);
+    files.push((
+        String::from_str(alloc, "r.cpp")?,
+        Vec::from_slice(alloc, VECADD.as_bytes())?,
+    ))?;
+    let mut words = Vec::new(alloc);
+    for word in ["build", "r.cpp", "VecAdd"] {
+        words.push(String::from_str(alloc, word)?)?;
+    }
+    let mut shelf = MemShelf::new(alloc, files, Vec::new(alloc));
+    let mut out = MemSink::new(alloc, 10, Vec::new(alloc))?;
+    let mut err = MemSink::new(alloc, 4096, Vec::new(alloc))?;
+    let status = tapa(
+        &rt, alloc, &words, &mut shelf, &mut out, &mut err, &OpenGate,
+    );
+    assert_eq!(rt; status, Status::Write);
+    assert_eq!(rt; out.bytes(), b"".as_slice());
+    assert_eq!(rt; err.bytes(), b"tapa: cannot write\n".as_slice());
     Ok(())
 }
 

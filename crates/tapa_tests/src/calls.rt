@@ -1,0 +1,156 @@
+// Calls of single crates, on what was worked out by hand: registers between tasks with the flow that shows them to be fewest, the room
+// of a channel, and values in a dump.
+ghost use Rattle.std.specs.Prelude.{◌≡◌, ◌≤◌, ◌<◌, ◌^◌, ℕ, length, slice_index};
+ghost use Rattle.std.specs.Bool.{OnTrue};
+ghost use Rattle.latency_balance.specs.Moves.{AreLatencies};
+ghost use Rattle.flow_cert.specs.Verdicts.{AreLists};
+
+use crate::runs::short;
+use cross_pipe::fifo_size;
+use flow_cert::{Verdict, check};
+use latency_balance::balance;
+use std::alloc::Global;
+use std::test::Fail;
+use tapa_base::OutOfMemory;
+use tapa_drive::read_program;
+use task_graph::{Graph, graph};
+use vcd_text::read_vcd;
+
+// A task that writes to another and, by a longer way, to it again.
+const TRIANGLE: &str = "void A(tapa::ostream<int>& ab, tapa::ostream<int>& ad) { ab << 1; ad << 2; }
+void B(tapa::istream<int>& ab, tapa::ostream<uint8_t>& bd) { bd << ab.read(); }
+void D(tapa::istream<uint8_t>& bd, tapa::istream<int>& ad) { bd.read(); ad.read(); }
+void T() { tapa::stream<int> ab; tapa::stream<uint8_t> bd; tapa::stream<int> ad;
+  tapa::task().invoke(A, ab, ad).invoke(B, ab, bd).invoke(D, bd, ad); }
+";
+
+// Whether these are latencies of a graph's streams: one each, at most 160, and none within a group.
+fn are_latencies(graph: &Graph, lat: &[u32]) -> bool
+    ensures { OnTrue result (AreLatencies graph.now lat.now) }
+{
+    if lat.len() != graph.streams() {
+        return false;
+    }
+    for e in 0..lat.len() {
+        if lat[e] > 160 || (graph.tail(e) == graph.head(e) && lat[e] != 0) {
+            return false;
+        }
+    }
+    true
+}
+
+// Whether these can be checked: latencies, a number for each group, and a flow of less than 2 to the 32nd for each stream.
+fn are_lists(graph: &Graph, lat: &[u32], s: &[u32], flow: &[u64]) -> bool
+    ensures { OnTrue result (AreLists graph.now lat.now s.now flow.now) }
+{
+    if !are_latencies(graph, lat)
+        || s.len() != graph.groups as usize
+        || flow.len() != graph.streams()
+    {
+        return false;
+    }
+    for e in 0..flow.len() {
+        if flow[e] >= 4_294_967_296 {
+            return false;
+        }
+    }
+    true
+}
+
+// What a check of these finds, if they can be checked.
+fn verdict(graph: &Graph, lat: &[u32], s: &[u32], flow: &[u64]) -> Option<Verdict> {
+    if are_lists(graph, lat, s, flow) {
+        Some(check(graph, lat, s, flow))
+    } else {
+        None
+    }
+}
+
+// The graph of the triangle.
+fn triangle(alloc: Global) -> Result<Graph, Fail> {
+    match read_program(alloc, short(TRIANGLE), "T") {
+        Ok(program) => Ok(graph(alloc, &program)?),
+        Err(_) => Err(OutOfMemory.into()),
+    }
+}
+
+// The balance of the triangle whose short way has two registers, with the flow that shows it.
+#[test]
+fn the_longer_way_gets_the_registers(rt: HostRuntime) -> Result<(), Fail> {
+    let alloc = rt.alloc();
+    let graph = triangle(alloc)?;
+    let lat = [0, 0, 2];
+    if !are_latencies(&graph, &lat) {
+        return Err(OutOfMemory.into());
+    }
+    let found = balance(alloc, &graph, &lat)?;
+    assert_eq!(rt; found.bal.as_slice(), [0, 2, 0].as_slice());
+    assert_eq!(rt; found.flow.as_slice(), [24, 0, 42].as_slice());
+    assert!(rt; verdict(&graph, &lat, &found.s, &found.flow) == Some(Verdict::Yes));
+    Ok(())
+}
+
+// All four verdicts on numbers and flows of the triangle.
+#[test]
+fn each_verdict_is_found(rt: HostRuntime) -> Result<(), Fail> {
+    let alloc = rt.alloc();
+    let graph = triangle(alloc)?;
+    let lat = [0, 0, 2];
+    let yes = verdict(&graph, &lat, &[0, 0, 2], &[24, 0, 42]);
+    assert!(rt; yes == Some(Verdict::Yes));
+    let stream = verdict(&graph, &lat, &[0, 0, 1], &[24, 0, 42]);
+    assert!(rt; stream == Some(Verdict::BadStream(2)));
+    let task = verdict(&graph, &lat, &[0, 0, 2], &[24, 0, 41]);
+    assert!(rt; task == Some(Verdict::BadTask(0)));
+    let value = verdict(&graph, &lat, &[0, 2, 2], &[24, 0, 42]);
+    assert!(rt;
+        value
+            == Some(Verdict::BadValue {
+                primal: 66,
+                dual: 18,
+            })
+    );
+    Ok(())
+}
+
+// A FIFO has its depth, and two places for each cycle of added latency.
+#[test]
+fn a_fifo_has_room_for_what_is_on_its_way(rt: HostRuntime) -> Result<(), Fail> {
+    assert_eq!(rt; fifo_size(1, 2), 5);
+    assert_eq!(rt; fifo_size(4096, 0), 4096);
+    Ok(())
+}
+
+const DUMP: &[u8] = b"$timescale 1 ns $end
+$scope module t_X $end
+$var wire 1 ! rst $end
+$var wire 8 \" r $end
+$upscope $end
+$enddefinitions $end
+#0
+1!
+b101 \"
+#1
+0!
+#2
+b11111111 \"
+";
+
+// The value of a net in each cycle: the last one that was written up to it.
+#[test]
+fn a_net_keeps_its_value_until_it_changes(rt: HostRuntime) -> Result<(), Fail> {
+    let alloc = rt.alloc();
+    let Ok(dump) = read_vcd(alloc, DUMP) else {
+        return Err(OutOfMemory.into());
+    };
+    assert_eq!(rt; dump.last, 2);
+    assert_eq!(rt; dump.nets.len(), 2);
+    if dump.nets.len() == 2 && dump.last == 2 {
+        assert_eq!(rt; dump.value_at(0, 0), 1);
+        assert_eq!(rt; dump.value_at(0, 2), 0);
+        assert_eq!(rt; dump.value_at(1, 0), 5);
+        assert_eq!(rt; dump.value_at(1, 1), 5);
+        assert_eq!(rt; dump.value_at(1, 2), 255);
+    }
+    Ok(())
+}
