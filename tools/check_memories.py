@@ -15,10 +15,13 @@ import os
 import random
 import re
 import subprocess
+import signal
 import sys
 import tempfile
 
 sys.dont_write_bytecode = True
+# Until the modules are there Ctrl-C ends the script without a word; `script.run` says it by itself from then on.
+signal.signal(signal.SIGINT, signal.SIG_DFL)
 from icarus import report, top_of  # noqa: E402
 from vechaqir import script  # noqa: E402
 

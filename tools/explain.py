@@ -10,9 +10,12 @@ explained, and a place of the text in which arrays are written out (docs/LANGUAG
 words behind it, as `./tapa` does on a terminal: its messages are explained, a run of more than a second tells once a second how long it has run, and the end is the program's own.
 Nothing here is proved.
 """
+import signal
 import sys
 
 sys.dont_write_bytecode = True
+# Until the modules are there Ctrl-C ends the script without a word; `script.run` says it by itself from then on.
+signal.signal(signal.SIGINT, signal.SIG_DFL)
 from vechaqir import explain_run, script  # noqa: E402
 
 

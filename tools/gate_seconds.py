@@ -10,11 +10,14 @@ prove its tests, and those that try its edits. They are looked at twice a second
 import os
 import re
 import subprocess
+import signal
 import sys
 import threading
 import time
 
 sys.dont_write_bytecode = True
+# Until the modules are there Ctrl-C ends the script without a word; `script.run` says it by itself from then on.
+signal.signal(signal.SIGINT, signal.SIG_DFL)
 from vechaqir import script  # noqa: E402
 
 TICKS = os.sysconf("SC_CLK_TCK")

@@ -12,10 +12,13 @@ import os
 import re
 import shutil
 import subprocess
+import signal
 import sys
 import tempfile
 
 sys.dont_write_bytecode = True
+# Until the modules are there Ctrl-C ends the script without a word; `script.run` says it by itself from then on.
+signal.signal(signal.SIGINT, signal.SIG_DFL)
 from vechaqir import script  # noqa: E402
 
 PORT = re.compile(r"(input|output)\s*(?:\[\s*(\d+)\s*:\s*0\s*\])?\s*([\w$]+)")

@@ -7,10 +7,13 @@ The program is run, its circuit built, for the device where one is given, and si
 memories that would make the circuit faster are looked for as tools/profile.py does; --no-tries leaves that out. With Graphviz (`dot`) on the PATH a network of up to 160 tasks is
 laid out by it.
 """
+import signal
 import sys
 import tempfile
 
 sys.dont_write_bytecode = True
+# Until the modules are there Ctrl-C ends the script without a word; `script.run` says it by itself from then on.
+signal.signal(signal.SIGINT, signal.SIG_DFL)
 from vechaqir import data, device, look_data, look_page, look_report, plan, profile_try, program, script, source  # noqa: E402
 
 VALUES = ("--device", "--plan", "--cycles")

@@ -11,9 +11,12 @@ nets inside of tasks, which --gtkw names; --waves takes either.
 """
 import json
 import os
+import signal
 import sys
 
 sys.dont_write_bytecode = True
+# Until the modules are there Ctrl-C ends the script without a word; `script.run` says it by itself from then on.
+signal.signal(signal.SIGINT, signal.SIG_DFL)
 from vechaqir import dump, machine_run, names, script, source, waves_source  # noqa: E402
 
 

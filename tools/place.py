@@ -15,9 +15,12 @@ cheapest of all attempts counts, the first of several, so the same seed and numb
 how many attempts are made. A line on standard error tells the cost and the attempt that found it. The status is 4 where no placement fits or none was
 found, with the resource that is short, and the program's own where it refuses a file.
 """
+import signal
 import sys
 
 sys.dont_write_bytecode = True
+# Until the modules are there Ctrl-C ends the script without a word; `script.run` says it by itself from then on.
+signal.signal(signal.SIGINT, signal.SIG_DFL)
 from vechaqir import place_answer, script  # noqa: E402
 
 if __name__ == "__main__":

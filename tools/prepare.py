@@ -10,9 +10,12 @@ several steps in the head of a `for`, functions of one expression and more; docs
 where nothing is left to change, and else 1.
 """
 import os
+import signal
 import sys
 
 sys.dont_write_bytecode = True
+# Until the modules are there Ctrl-C ends the script without a word; `script.run` says it by itself from then on.
+signal.signal(signal.SIGINT, signal.SIG_DFL)
 from vechaqir import prepare_list, prepare_write, script, source  # noqa: E402
 
 

@@ -9,10 +9,13 @@ that answer late are changed, built and simulated again, to say what each change
 `tools/icarus.py --dump` is read instead, and nothing is tried.
 """
 import json
+import signal
 import sys
 import tempfile
 
 sys.dont_write_bytecode = True
+# Until the modules are there Ctrl-C ends the script without a word; `script.run` says it by itself from then on.
+signal.signal(signal.SIGINT, signal.SIG_DFL)
 from vechaqir import data, dump, machine_run, profile, profile_text, profile_try, program, script, source  # noqa: E402
 
 VALUES = ("--dump", "--device", "--plan", "--cycles")

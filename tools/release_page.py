@@ -8,9 +8,12 @@ FOLDER is the release's, STATE `proved` or `unproved`, COMMIT the commit of the 
 import hashlib
 import os
 import re
+import signal
 import sys
 
 sys.dont_write_bytecode = True
+# Until the modules are there Ctrl-C ends the script without a word; `script.run` says it by itself from then on.
+signal.signal(signal.SIGINT, signal.SIG_DFL)
 from vechaqir import script  # noqa: E402
 
 PROVED = """The prover of the kit accepted every crate that the program is made of, and the gate of the repository passed: its proofs, the edits that must be refused, the tests and the cases. What is promised is in

@@ -10,10 +10,13 @@ word (a load gives 0 there, and a store is dropped). --no-circuit leaves that ou
 Else the status is that of the run.
 """
 import json
+import signal
 import sys
 import tempfile
 
 sys.dont_write_bytecode = True
+# Until the modules are there Ctrl-C ends the script without a word; `script.run` says it by itself from then on.
+signal.signal(signal.SIGINT, signal.SIG_DFL)
 from vechaqir import data, look_report, profile_try, program, script, source  # noqa: E402
 
 FLAGS, VALUES = ("--long", "--json", "--no-circuit", "--cosim"), ("--expect", "--from", "--cycles")

@@ -6,9 +6,12 @@
 
 The kinds are read from the source: those of the streams, inside its upper-level tasks too, and of the top task's memories. Other lines are passed on.
 """
+import signal
 import sys
 
 sys.dont_write_bytecode = True
+# Until the modules are there Ctrl-C ends the script without a word; `script.run` says it by itself from then on.
+signal.signal(signal.SIGINT, signal.SIG_DFL)
 from vechaqir import look_report, script, source  # noqa: E402
 
 

@@ -5,9 +5,12 @@
 
 CELLS is how many cells each memory gets, 4 if it is not there: the list's length is the memory's size (docs/DATA.md).
 """
+import signal
 import sys
 
 sys.dont_write_bytecode = True
+# Until the modules are there Ctrl-C ends the script without a word; `script.run` says it by itself from then on.
+signal.signal(signal.SIGINT, signal.SIG_DFL)
 from vechaqir import script, source  # noqa: E402
 
 

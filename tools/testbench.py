@@ -10,9 +10,12 @@ WAITS says how memories answer: `none` within the cycle (without the option), `l
 others, `data` by the ready lists of DATA. The simulation prints PASS, or FAIL with the first difference, and ends. With --alone the circuit is left out, for a text of
 its ports and streams that is simulated in its place. A run that stops (a deadlock) has a testbench too, but not for a device.
 """
+import signal
 import sys
 
 sys.dont_write_bytecode = True
+# Until the modules are there Ctrl-C ends the script without a word; `script.run` says it by itself from then on.
+signal.signal(signal.SIGINT, signal.SIG_DFL)
 from vechaqir import data, program, report, script, source, testbench  # noqa: E402
 from vechaqir.design import Design  # noqa: E402
 from vechaqir.results import Failure, NotDone  # noqa: E402

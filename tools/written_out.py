@@ -4,9 +4,12 @@
     tools/written_out.py F.cpp              the written-out text, or `tapa: F.cpp:LINE:COL: CODE TEXT` and the status 1
     tools/written_out.py F.cpp LINE COL     the place in F.cpp of this place of the written-out text
 """
+import signal
 import sys
 
 sys.dont_write_bytecode = True
+# Until the modules are there Ctrl-C ends the script without a word; `script.run` says it by itself from then on.
+signal.signal(signal.SIGINT, signal.SIG_DFL)
 from vechaqir import arrays, script  # noqa: E402
 
 

@@ -45,6 +45,8 @@ def helped(page: Optional[str]) -> int:
 def run(name: str, page: Optional[str], main: Callable[[List[str]], int]) -> NoReturn:
     """Runs a script by its words: `--help` prints the page; status 0 is done, 1 a fault, which is told in one line, 2 words that are no command."""
     given = sys.argv[1:]
+    if signal.getsignal(signal.SIGINT) == signal.SIG_DFL:
+        signal.signal(signal.SIGINT, signal.default_int_handler)
     try:
         status = helped(page) if given and given[0] in ("--help", "-h") else main(given)
     except Usage as why:
