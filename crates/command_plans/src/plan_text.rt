@@ -11,7 +11,7 @@ ghost use Rattle.command_plans.specs.Unwritten.{IsUnwritten};
 ghost use Rattle.command_plans.specs.Planned.{AreLinesOf, IsPlanText};
 
 use command_source::{Refusal, put_lines};
-use latency_balance::balance;
+use latency_balance::balance_streams;
 use plan_device::Device;
 use plan_report::{latencies, plan_lines};
 use slot_plan::Plan;
@@ -34,7 +34,7 @@ fn lines_with(
     requires low { AreLatencies graph.now border.now }
     ensures { IfOk result (λ lines. AreLinesOf graph.now device.now plan.now (texts lines.items)) }
 {
-    let balance = balance(alloc, graph, border)?;
+    let balance = balance_streams(alloc, graph, border)?;
     let lines = plan_lines(alloc, graph, device, plan, border, &balance)?;
     Ok(lines)
 }

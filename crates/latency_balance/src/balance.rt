@@ -59,7 +59,7 @@ fn balance_from(
 
 /// An even balance of the streams that takes the fewest registers, with a flow that shows it. `lat` has the latency of each
 /// stream in cycles.
-pub fn balance(alloc: Global, graph: &Graph, lat: &[u32]) -> Result<Balance, AllocError>
+pub fn balance_streams(alloc: Global, graph: &Graph, lat: &[u32]) -> Result<Balance, AllocError>
     requires { AreLatencies graph.now lat.now }
     ensures { IfOk result (λ b. IsBalance graph.now lat.now b) }
 {

@@ -13,4 +13,4 @@ mod sending;
 mod settling;
 mod walking;
 
-pub use balance::{Balance, balance};
+pub use balance::{Balance, balance_streams};

@@ -5,7 +5,7 @@ ghost use Rattle.plan_device.specs.Devices.{IsDevice};
 ghost use Rattle.plan_report.specs.Added.{AreAdded};
 
 use crate::borders::latencies;
-use latency_balance::balance;
+use latency_balance::balance_streams;
 use plan_device::Device;
 use slot_plan::Plan;
 use std::alloc::{AllocError, Global};
@@ -45,7 +45,7 @@ pub fn added_latencies(
     if !balanced {
         return Ok(border);
     }
-    let balance = balance(alloc, graph, &border)?;
+    let balance = balance_streams(alloc, graph, &border)?;
     let added = sums_of(alloc, &border, &balance.bal)?;
     Ok(added)
 }

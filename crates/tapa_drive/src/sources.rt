@@ -13,7 +13,7 @@ use std::sync::Wait;
 use std::thread::Threads;
 use tapa_files::{PrintFault, Shelf, Sink};
 use tapa_words::{PlanAim, PlanMode};
-use task_graph::graph;
+use task_graph::Graph;
 
 /// Runs the program of a source on its data, by the workers of a crew, up to the first step that refuses.
 pub(crate) fn run_source<'a, R: Threads + Wait + Sync, G: Gate, S: Shelf, O: Sink>(
@@ -90,7 +90,7 @@ pub(crate) fn plan_source<'a, S: Shelf, O: Sink>(
         Ok(program) => program,
         Err(refusal) => return Err(refusal),
     };
-    let graph = match graph(alloc, &program) {
+    let graph = match Graph::of(alloc, &program) {
         Ok(graph) => graph,
         Err(_) => return Err(Refusal::Memory),
     };

@@ -8,12 +8,12 @@ ghost use Rattle.flow_cert.specs.Verdicts.{AreLists};
 use crate::runs::short;
 use cross_pipe::fifo_size;
 use flow_cert::{Verdict, check};
-use latency_balance::balance;
+use latency_balance::balance_streams;
 use std::alloc::Global;
 use std::test::Fail;
 use tapa_base::OutOfMemory;
 use tapa_drive::read_program;
-use task_graph::{Graph, graph};
+use task_graph::Graph;
 use vcd_text::read_vcd;
 
 // A task that writes to another and, by a longer way, to it again.
@@ -69,7 +69,7 @@ fn verdict(graph: &Graph, lat: &[u32], s: &[u32], flow: &[u64]) -> Option<Verdic
 // The graph of the triangle.
 fn triangle(alloc: Global) -> Result<Graph, Fail> {
     match read_program(alloc, short(TRIANGLE), "T") {
-        Ok(program) => Ok(graph(alloc, &program)?),
+        Ok(program) => Ok(Graph::of(alloc, &program)?),
         Err(_) => Err(OutOfMemory.into()),
     }
 }
@@ -83,7 +83,7 @@ fn the_longer_way_gets_the_registers(rt: HostRuntime) -> Result<(), Fail> {
     if !are_latencies(&graph, &lat) {
         return Err(OutOfMemory.into());
     }
-    let found = balance(alloc, &graph, &lat)?;
+    let found = balance_streams(alloc, &graph, &lat)?;
     assert_eq!(rt; found.bal.as_slice(), [0, 2, 0].as_slice());
     assert_eq!(rt; found.flow.as_slice(), [24, 0, 42].as_slice());
     assert!(rt; verdict(&graph, &lat, &found.s, &found.flow) == Some(Verdict::Yes));

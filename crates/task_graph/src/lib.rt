@@ -13,7 +13,6 @@ mod reach;
 ghost use Rattle.std.specs.Prelude.{◌≡◌, ◌≤◌, ◌<◌, ◌^◌, ℕ, length};
 ghost use Rattle.task_graph.specs.Streams.{from_of, to_of, width_of, amount_at, AreGroups, AreNumbered, HasRank};
 
-pub use program_graph::graph;
 use tapa_base::Text;
 
 /// A stream from the instance that writes it to the one that reads it. Its width is in bits: those of its kind, and one that

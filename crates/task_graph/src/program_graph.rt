@@ -67,21 +67,23 @@ fn uses_of(alloc: Global, bodies: &[Leaf], instances: &[Instance]) -> Result<Vec
     Ok(uses)
 }
 
-/// The graph of a program: an instance is estimated to use what its leaf takes, and a stream is as wide as its kind and
-/// one bit for the end of a transmission.
-pub fn graph(alloc: Global, program: &Program) -> Result<Graph, OutOfMemory>
-    requires { IsWellFormed program.now }
-    ensures { IfOk result (λ graph. IsGraphOf program.now graph) }
-{
-    let labels = labels_of(alloc, &program.instances)?;
-    let uses = uses_of(alloc, &program.bodies, &program.instances)?;
-    let edges = edges_of(alloc, &program.streams)?;
-    let groups = groups_of(alloc, program.instances.len(), &edges)?;
-    Ok(Graph {
-        labels,
-        group: groups.numbers,
-        groups: groups.count,
-        uses,
-        edges,
-    })
+impl Graph {
+    /// The graph of a program: an instance is estimated to use what its leaf takes, and a stream is as wide as its kind and
+    /// one bit for the end of a transmission.
+    pub fn of(alloc: Global, program: &Program) -> Result<Graph, OutOfMemory>
+        requires { IsWellFormed program.now }
+        ensures { IfOk result (λ graph. IsGraphOf program.now graph) }
+    {
+        let labels = labels_of(alloc, &program.instances)?;
+        let uses = uses_of(alloc, &program.bodies, &program.instances)?;
+        let edges = edges_of(alloc, &program.streams)?;
+        let groups = groups_of(alloc, program.instances.len(), &edges)?;
+        Ok(Graph {
+            labels,
+            group: groups.numbers,
+            groups: groups.count,
+            uses,
+            edges,
+        })
+    }
 }

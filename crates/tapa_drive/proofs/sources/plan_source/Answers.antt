@@ -30,7 +30,7 @@ returns-in-Err-read_device_file g c = λ words errors told asked.
     let old = written (g.O.Sink.contents c.args.out.now) (g.O.Sink.faults c.args.out.now) in
     no_device words files c.args.source.now c.args.top.now c.args.file.now c.args.mode c.args.aim asked reads old errors told
     (g.S.Shelf.files c.read_source.new.shelf) (g.S.Shelf.faults c.read_source.new.shelf) c.in-Ok.ensures.asks.same_files c.in-Ok.ensures.asks.later c.in-Ok.ensures.asks.others
-    c.in-Ok.program c.in-Ok.ensures.found c.in-Ok-graph.graph c.in-Ok-graph.ensures (g.S.Shelf.files c.read_device_file.new.shelf) (g.S.Shelf.faults c.read_device_file.new.shelf) c.in-Err-read_device_file.ensures.asks.same_files c.in-Err-read_device_file.ensures.asks.others
+    c.in-Ok.program c.in-Ok.ensures.found c.in-Ok-of.graph c.in-Ok-of.ensures (g.S.Shelf.files c.read_device_file.new.shelf) (g.S.Shelf.faults c.read_device_file.new.shelf) c.in-Err-read_device_file.ensures.asks.same_files c.in-Err-read_device_file.ensures.asks.others
     c.in-Err-read_device_file.refusal c.in-Err-read_device_file.ensures.refused
 
 pub returns-in-Err-planned : goal.returns-in-Err-planned
@@ -40,7 +40,7 @@ returns-in-Err-planned g c = λ words errors told asked.
     let old = written (g.O.Sink.contents c.args.out.now) (g.O.Sink.faults c.args.out.now) in
     unplanned words files c.args.source.now c.args.top.now c.args.file.now c.args.mode c.args.aim asked reads old errors told
     (g.S.Shelf.files c.read_source.new.shelf) (g.S.Shelf.faults c.read_source.new.shelf) c.in-Ok.ensures.asks.same_files c.in-Ok.ensures.asks.later c.in-Ok.ensures.asks.others
-    c.in-Ok.program c.in-Ok.ensures.found c.in-Ok-graph.graph c.in-Ok-graph.ensures (g.S.Shelf.files c.read_device_file.new.shelf) (g.S.Shelf.faults c.read_device_file.new.shelf) c.in-Ok-read_device_file.ensures.asks.same_files c.in-Ok-read_device_file.ensures.asks.others
+    c.in-Ok.program c.in-Ok.ensures.found c.in-Ok-of.graph c.in-Ok-of.ensures (g.S.Shelf.files c.read_device_file.new.shelf) (g.S.Shelf.faults c.read_device_file.new.shelf) c.in-Ok-read_device_file.ensures.asks.same_files c.in-Ok-read_device_file.ensures.asks.others
     c.in-Ok-read_device_file.device c.in-Ok-read_device_file.ensures.gives c.in-Err-planned.refusal
     c.in-Err-planned.ensures.refused
 
@@ -51,7 +51,7 @@ returns g c = λ words errors told asked.
     let old = written (g.O.Sink.contents c.args.out.now) (g.O.Sink.faults c.args.out.now) in
     put words files c.args.source.now c.args.top.now c.args.file.now c.args.mode c.args.aim asked reads old errors told
     (g.S.Shelf.files c.read_source.new.shelf) (g.S.Shelf.faults c.read_source.new.shelf) c.in-Ok.ensures.asks.same_files c.in-Ok.ensures.asks.later c.in-Ok.ensures.asks.others
-    c.in-Ok.program c.in-Ok.ensures.found c.in-Ok-graph.graph c.in-Ok-graph.ensures (g.S.Shelf.files c.read_device_file.new.shelf) (g.S.Shelf.faults c.read_device_file.new.shelf) c.in-Ok-read_device_file.ensures.asks.same_files c.in-Ok-read_device_file.ensures.asks.others
+    c.in-Ok.program c.in-Ok.ensures.found c.in-Ok-of.graph c.in-Ok-of.ensures (g.S.Shelf.files c.read_device_file.new.shelf) (g.S.Shelf.faults c.read_device_file.new.shelf) c.in-Ok-read_device_file.ensures.asks.same_files c.in-Ok-read_device_file.ensures.asks.others
     c.in-Ok-read_device_file.device c.in-Ok-read_device_file.ensures.gives c.in-Ok-planned.found
     c.in-Ok-planned.ensures.found
     (written (g.O.Sink.contents c.put_aim.new.out) (g.O.Sink.faults c.put_aim.new.out))

@@ -6,7 +6,7 @@ use Rattle.task_graph.specs.Edges.{edge_of, EndBelow}
 use Rattle.task_graph.specs.Streams.{amount_at, AreGroups, HasRank}
 use Rattle.task_graph.specs.Uses.{use_of}
 use Rattle.task_graph.proofs.Made.{few_edges, ends_below, widths, uses_small, mapped_long}
-use Rattle.task_graph.proofs.program_graph.graph.Goals as goal
+use Rattle.task_graph.proofs.Graph.of.Goals as goal
 
 pub groups_of-requires-clause-ends : goal.groups_of-requires-clause-ends
 groups_of-requires-clause-ends c =
