@@ -3,6 +3,9 @@
 
     tests/run.py PROGRAM            for example crates/tapa_cli/out/tapa_cli
     tests/run.py PROGRAM --only W   the groups of cases whose name has W
+    tests/run.py write crates       puts the list of crates into docs/ARCHITECTURE.md
+    tests/run.py write reference PROGRAM   puts circuits and what they show into crates/vlog_tests
+    tests/run.py house [--shrink]   what of the crates is not as CONTRIBUTING.md wants it; takes exceptions away that hold no more
 
 Each case that fails is printed. The last line is `N passed, M failed`, and the exit status is 1 where M is not 0.
 tests/README.md says how cases are written.
@@ -10,7 +13,7 @@ tests/README.md says how cases are written.
 import os
 import sys
 
-from runner import (
+from runner.groups import (
     arrays,
     balances,
     benches,
@@ -58,6 +61,9 @@ from runner import (
     workers,
 )
 from runner.trial import Trial
+from runner.write import crates as write_crates
+from runner.write import house as write_house
+from runner.write import reference as write_reference
 
 
 GROUPS = [
@@ -110,7 +116,25 @@ GROUPS = [
 ]
 
 
+# What writes or tells something in place of trying cases.
+WRITERS = {("write", "crates"): write_crates.main, ("write", "reference"): write_reference.main, ("house",): write_house.main}
+
+
+def written(given):
+    """The status of a writer whose words these begin with, or None where there is none."""
+    for words, writer in WRITERS.items():
+        if tuple(given[:len(words)]) == words:
+            status = writer(given[len(words):])
+            if status == 2:
+                print(__doc__.strip(), file=sys.stderr)
+            return status
+    return None
+
+
 def main(given):
+    status = written(given)
+    if status is not None:
+        return status
     only = given[2] if len(given) == 3 and given[1] == "--only" else ""
     if len(given) != (3 if only else 1) or given[0].startswith("-"):
         print(__doc__.strip(), file=sys.stderr)

@@ -6,6 +6,7 @@ import tempfile
 
 ROOT = os.path.dirname(os.path.dirname(os.path.dirname(os.path.abspath(__file__))))
 TESTS = os.path.join(ROOT, "tests")
+CASES = os.path.join(TESTS, "cases")
 
 # The most seconds of one command.
 SECONDS = 300

@@ -1,7 +1,7 @@
 //! What designs do cycle by cycle, as the slow reference computes it, beside what the simulator, a hand or another simulator has found.
-//! `stdin` has the texts, `stdout` what is wanted. Of the circuits at the end, made by `tapa build` of the sources in tests/circuits, the wanted tokens
+//! `stdin` has the texts, `stdout` what is wanted. Of the circuits at the end, made by `tapa build` of the sources in tests/cases/circuits, the wanted tokens
 //! and cells are those that `tapa run` shows of the sources, so the reference agrees with the engine: the runner's group `reference` compares them, and
-//! tests/reference.py writes both files anew. The same group runs the texts by `tapa cosim`.
+//! tests/run.py write reference writes both files anew. The same group runs the texts by `tapa cosim`.
 #![tactic(auto)]
 
 mod line;

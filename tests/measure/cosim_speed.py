@@ -1,0 +1,241 @@
+#!/usr/bin/env python3
+"""Measures how fast a built `tapa` simulates circuits beside Icarus Verilog and, where it is there, Verilator, and prints the rows of docs/FIGURES.md.
+
+    tests/measure/cosim_speed.py PROGRAM [--median N] [--only WORD] [--no-verilator] [--g++-O3]
+    tests/measure/cosim_speed.py PROGRAM --counted [--only WORD]
+
+The circuits are those of the examples, with loops and data so much longer that the start of a program counts for little; a row of 36 busy tasks; a chain of 512 tasks of which
+one passes a token on; and those of tests/measure/cosim_speed, each a program of a usual kind, with arrays and memories in its tasks and twenty to sixty states. All simulators run
+the same text on the same data, until it is done or for so many cycles: examples that stop go on for a while. Seconds are processor seconds, the best of three calls or the
+median of N; the simulators take turns, so that a slow minute of the machine strikes them alike. Icarus's are those of `vvp` alone, and Verilator's those of the program that
+`verilator --binary -O3` makes, both with the testbench of tools/icarus.py. Verilator has g++ compile that program with -Os; with --g++-O3 it is -O3, which makes a faster one.
+The last rows tell the geometric means of the quotients, the least and the most of them, and the means of the circuits that wait for most of their time and of the others.
+
+With --counted nothing is timed: `valgrind --tool=callgrind` counts the instructions that `cosim` takes, for two numbers of cycles, and what is told is the difference for a cycle,
+which no other work on the machine disturbs.
+"""
+import glob
+import json
+import math
+import os
+import random
+import re
+import shlex
+import shutil
+import statistics
+import subprocess
+import sys
+import tempfile
+
+HERE = os.path.dirname(os.path.abspath(__file__))
+ROOT = os.path.dirname(os.path.dirname(HERE))
+sys.path.insert(0, os.path.join(ROOT, "tools"))
+
+import icarus  # noqa: E402
+
+TIMES, SHORT, CELLS, CYCLES = 500, 20, 60_000, 200_000
+COUNTED = (300, 1_300)
+OPTIMISED = ("-MAKEFLAGS", "OPT_FAST=-O3 OPT_GLOBAL=-O3")
+ONE_PASSES = "512 tasks of which one passes a token"
+WAITING = ("bad_token", "feedback", "too_shallow", ONE_PASSES)
+
+
+def longer(text, times):
+    """A source whose loops and constants go so many times as far, but not the counts of arrays of streams and of invokes."""
+    constants = dict(re.findall(r"const int (\w+) = (\d+);", text))
+    text = re.sub(r"(tapa::(?:streams|invoke|join|detach)(?:<\w+)?, )(\w+)", lambda it: it[1] + constants.get(it[2], it[2]), text)
+    text = re.sub(r"(for \([^;]*; \w+ <=? )(\d+)(;)", lambda it: f"{it[1]}{int(it[2]) * times}{it[3]}", text)
+    return re.sub(r"(const (?:int|uint64_t) \w+ = )(\d+)(;)", lambda it: f"{it[1]}{int(it[2]) * times}{it[3]}", text)
+
+
+def longer_data(data, times):
+    memories = {name: (cells * times)[:CELLS] for name, cells in data.get("memories", {}).items()}
+    scalars = {name: min(value * times, CELLS) for name, value in data.get("scalars", {}).items()}
+    return {"memories": memories, "scalars": scalars}
+
+
+def busy(tasks, turns):
+    """Tasks in a row that compute on each token."""
+    turn = f"for (int i = 0; i < {turns}; ++i)"
+    text = f"void P(tapa::ostream<int>& q) {{ int x = 1; {turn} {{ x = x * 5 + 3; q << x; }} }}\n"
+    text += f"void M(tapa::istream<int>& p, tapa::ostream<int>& q) {{ {turn} {{ int x = p.read(); int y = x ^ i; y = y + (x >> 3); q << y; }} }}\n"
+    text += f"void C(tapa::istream<int>& p) {{ int s = 0; {turn} {{ s = s + p.read(); }} }}\n"
+    streams = "".join(f"tapa::stream<int> s{at}; " for at in range(tasks - 1))
+    middle = "".join(f".invoke(M, s{at}, s{at + 1})" for at in range(tasks - 2))
+    return f"{text}void T() {{ {streams}tapa::task().invoke(P, s0){middle}.invoke(C, s{tasks - 2}); }}\n"
+
+
+def waiting(tasks):
+    """A chain of tasks that all wait for tokens, of which few come."""
+    text = "void P(tapa::ostream<int>& q) { for (int i = 0; i < 3; ++i) { q << i; } }\n"
+    text += "void M(tapa::istream<int>& p, tapa::ostream<int>& q) { for (int i = 0; i < 3; ++i) { int x = p.read(); q << x + 1; } }\n"
+    text += "void C(tapa::istream<int>& p) { for (int i = 0; i < 3; ++i) { p.read(); } }\n"
+    streams = "".join(f"tapa::stream<int> s{at}; " for at in range(tasks - 1))
+    middle = "".join(f".invoke(M, s{at}, s{at + 1})" for at in range(tasks - 2))
+    return f"{text}void T() {{ {streams}tapa::task().invoke(P, s0){middle}.invoke(C, s{tasks - 2}); }}\n"
+
+
+def written(path):
+    """A circuit of tests/measure/cosim_speed: its first line tells the top task, the scalars and how many cells each memory has, which are filled with numbers of a fixed seed."""
+    with open(path, encoding="utf-8") as file:
+        text = file.read()
+    _, top, told = text.split("\n")[0].split(maxsplit=2)
+    told, numbers = json.loads(told), random.Random(7)
+    memories = {name: [numbers.randrange(256) for _ in range(count)] for name, count in told["cells"].items()}
+    return os.path.basename(path).removesuffix(".cpp"), text, top, {"scalars": told["scalars"], "memories": memories}
+
+
+def cases():
+    """Each circuit: its name, its source, its top task and its data."""
+    for path in sorted(glob.glob(os.path.join(ROOT, "examples", "*.cpp"))):
+        with open(path, encoding="utf-8") as file:
+            text = file.read()
+        words = shlex.split(text.split("\n")[0].removeprefix("// tapa run "))
+        data = {}
+        if len(words) > 2:
+            with open(os.path.join(ROOT, words[2]), encoding="utf-8") as file:
+                data = json.load(file)
+        times = SHORT if "stencil" in path else TIMES
+        yield os.path.basename(path).removesuffix(".cpp"), longer(text, times), words[1], longer_data(data, times)
+    yield "36 busy tasks in a row", busy(36, 2_000), "T", {}
+    yield ONE_PASSES, waiting(512), "T", {}
+    for path in sorted(glob.glob(os.path.join(HERE, "cosim_speed", "*.cpp"))):
+        yield written(path)
+
+
+def once(words, folder):
+    """The processor seconds of a call, and the lines that it printed."""
+    with open(os.path.join(folder, "said"), "wb") as out:
+        ran = subprocess.Popen(words, cwd=folder, stdout=out, stderr=subprocess.DEVNULL)
+        _, _, spent = os.wait4(ran.pid, 0)
+        ran.returncode = 0
+    with open(os.path.join(folder, "said"), encoding="utf-8") as said:
+        return spent.ru_utime + spent.ru_stime, said.read().split("\n")
+
+
+def by_turns(calls, folder, times, middle):
+    """For each of the calls, which take turns: the least or the middle of its processor seconds, and the lines that it printed."""
+    made = [[once(words, folder) for words in calls] for _ in range(times)]
+    return [((statistics.median if middle else min)(spent for spent, _ in own), own[-1][1]) for own in zip(*made)]
+
+
+def build(program, folder, source, top, data):
+    """Writes the source, its data and its circuit into a folder, and gives the text of the circuit."""
+    for name, text in (("r.cpp", source), ("d.json", json.dumps(data))):
+        with open(os.path.join(folder, name), "w", encoding="utf-8") as file:
+            file.write(text)
+    with open(os.path.join(folder, "x.v"), "w", encoding="utf-8") as file:
+        subprocess.run([program, "build", "r.cpp", top], cwd=folder, stdout=file, check=True)
+    with open(os.path.join(folder, "x.v"), encoding="utf-8") as file:
+        return file.read()
+
+
+def verilated(folder, more):
+    """The call of the program that Verilator makes of the circuit and its testbench, with more words for it; none where Verilator is not there."""
+    if not shutil.which("verilator"):
+        return None
+    words = ["verilator", "--binary", "-O3", *more, "--timing", "-Wno-fatal", "-Wno-lint", "-Wno-style", "--top-module", "bench", "-Mdir", "made", "x.v", "bench.v"]
+    made = subprocess.run(words, cwd=folder, capture_output=True, check=False)
+    if made.returncode:
+        print(f"Verilator refuses a circuit: {made.stderr.decode()[:300].strip()}", file=sys.stderr)
+        return None
+    return [os.path.join(folder, "made", "Vbench")]
+
+
+def measured(program, folder, text, data, simulators):
+    """The cycles of a circuit, and the processor seconds of `cosim`, of Icarus and, where it is wanted and there, of Verilator."""
+    with_verilator, more, times, middle = simulators
+    with open(os.path.join(folder, "bench.v"), "w", encoding="utf-8") as file:
+        file.write("\n".join(icarus.bench(text, data, CYCLES)) + "\n")
+    subprocess.run(["iverilog", "-g2005", "-gno-xtypes", "-o", "bench", "x.v", "bench.v"], cwd=folder, check=True)
+    compiled = verilated(folder, more) if with_verilator else None
+    calls = [[program, "cosim", "x.v", "d.json", "--cycles", str(CYCLES)], ["vvp", "-n", "bench"], *([compiled] if compiled else [])]
+    (own, lines), (other, same), *beside = by_turns(calls, folder, times, middle)
+    last = lines[-2]
+    if last != same[-2]:
+        sys.exit(f"they differ: {last}, {same[-2]}")
+    # (Verilator's program says more behind the last line of a report)
+    if beside and last not in beside[0][1]:
+        sys.exit(f"Verilator's program does not say {last}")
+    return int(last.split()[1]), own, other, beside[0][0] if beside else None
+
+
+def instructions(program, folder, cycles):
+    """The instructions of `cosim` for so many cycles, and the cycles that it came to."""
+    words = ["valgrind", "--tool=callgrind", "--callgrind-out-file=counts", program, "cosim", "x.v", "d.json", "--cycles", str(cycles)]
+    ran = subprocess.run(words, cwd=folder, capture_output=True, text=True, check=False)
+    return int(re.search(r"Collected : (\d+)", ran.stderr)[1]), int(ran.stdout.split("\n")[-2].split()[1])
+
+
+def mean_of(ratios):
+    return math.exp(sum(math.log(ratio) for ratio in ratios) / len(ratios))
+
+
+def count(program, folder, only):
+    """Prints the instructions of a cycle of each circuit."""
+    print("| circuit | instructions a cycle |\n|---|---|")
+    found = []
+    for name, source, top, data in cases():
+        if only in name:
+            build(program, folder, source, top, data)
+            (few, before), (many, after) = (instructions(program, folder, cycles) for cycles in COUNTED)
+            found.append((many - few) / (after - before))
+            print(f"| {name} | {found[-1]:,.0f} |", flush=True)
+    print(f"| geometric mean of {len(found)} | {mean_of(found):,.0f} |")
+
+
+def ends(found):
+    """The last rows of a table of circuits: (name, times as fast as Icarus, times as slow as Verilator or None)."""
+    groups = [("geometric mean", mean_of, found), ("least", min, found), ("most", max, found)]
+    groups.append(("geometric mean of those that wait,", mean_of, [it for it in found if it[0] in WAITING]))
+    groups.append(("geometric mean of the others,", mean_of, [it for it in found if it[0] not in WAITING]))
+    for what, taken, of in groups:
+        if of:
+            slower = [it[2] for it in of if it[2] is not None]
+            yield f"| {what} of {len(of)} | | | | {taken([it[1] for it in of]):.1f} | | {f'{taken(slower):.2f}' if slower else ''} |"
+
+
+def measure(program, folder, only, simulators):
+    """Prints the seconds of each circuit beside the others' simulators."""
+    print("| circuit | cycles | `cosim` | vvp | times as fast | Verilator | times as slow |\n|---|---|---|---|---|---|---|")
+    found = []
+    for name, source, top, data in cases():
+        if only in name:
+            text = build(program, folder, source, top, data)
+            cycles, own, other, compiled = measured(program, folder, text, data, simulators)
+            slower = None if compiled is None else own / max(compiled, 0.001)
+            found.append((name, other / own, slower))
+            beside = "|" if slower is None else f"{compiled:.4f} s | {slower:.2f}"
+            print(f"| {name} | {cycles:,} | {own:.4f} s | {other:.3f} s | {other / own:.1f} | {beside} |", flush=True)
+    print("\n".join(ends(found)))
+
+
+def taken_from(words, option, default):
+    """What stands behind an option among the words, which both lose; the default where it is not there."""
+    if option not in words[:-1]:
+        return default
+    at = words.index(option)
+    _, value = words[at : at + 2]
+    del words[at : at + 2]
+    return value
+
+
+def main(words):
+    words = list(words)
+    only, median = taken_from(words, "--only", ""), taken_from(words, "--median", "")
+    rest = [word for word in words if word not in {"--counted", "--no-verilator", "--g++-O3"}]
+    if len(rest) != 1 or rest[0].startswith("--") or not re.fullmatch(r"[1-9]\d*|", median):
+        print(__doc__.strip(), file=sys.stderr)
+        return 2
+    program = os.path.abspath(rest[0])
+    with tempfile.TemporaryDirectory() as folder:
+        if "--counted" in words:
+            count(program, folder, only)
+        else:
+            more = OPTIMISED if "--g++-O3" in words else ()
+            measure(program, folder, only, ("--no-verilator" not in words, more, int(median or 3), bool(median)))
+    return 0
+
+
+if __name__ == "__main__":
+    sys.exit(main(sys.argv[1:]))

@@ -1,0 +1,58 @@
+#!/usr/bin/env python3
+"""What the gate has to prove anew after a change: the crates that stand on a crate, and the seconds of docs/FIGURES.md's table that they take with their tests and edits.
+
+    tests/measure/reach.py            the crates by their reach, the widest first, and the sum of all
+    tests/measure/reach.py CRATE..    of each of these its reach, and the crates in it
+
+A crate without a row in the table counts nothing.
+"""
+import os
+import re
+import sys
+
+ROOT = os.path.dirname(os.path.dirname(os.path.dirname(os.path.abspath(__file__))))
+
+
+def libraries():
+    """What each crate of crates.txt stands on."""
+    with open(os.path.join(ROOT, "crates.txt"), encoding="utf-8") as file:
+        return {name: words.split() for name, words in re.findall(r"^(\w+):(.*)$", file.read(), re.M)}
+
+
+def seconds():
+    """The seconds of each crate: its proof, its tests and its edits."""
+    found = {}
+    with open(os.path.join(ROOT, "docs", "FIGURES.md"), encoding="utf-8") as file:
+        for row in re.findall(r"^\| (\w+ \| \d+ \| \d+ \| \d+ \|.*)$", file.read(), re.M):
+            cells = [cell.strip() for cell in row.strip("| ").split("|")]
+            for at in range(0, len(cells) - 3, 4):
+                found[cells[at]] = sum(map(int, cells[at + 1 : at + 4]))
+    return found
+
+
+def reach(crate, below):
+    """The crate and all that stand on it, those below first."""
+    found = [crate]
+    while True:
+        more = [name for name, words in below.items() if name not in found and set(words) & set(found)]
+        if not more:
+            return [name for name in below if name in found]
+        found += more
+
+
+def main(words):
+    below, spent = libraries(), seconds()
+    if any(word not in below for word in words):
+        print(__doc__.strip(), file=sys.stderr)
+        return 2
+    reaches = {crate: reach(crate, below) for crate in words or below}
+    cost = {crate: sum(spent.get(name, 0) for name in names) for crate, names in reaches.items()}
+    for crate in words or sorted(cost, key=lambda name: -cost[name]):
+        print(f"{cost[crate]:7} {len(reaches[crate]):3} {crate}" + (f": {' '.join(reaches[crate])}" if words else ""))
+    if not words:
+        print(f"{sum(cost.values()):7} in all")
+    return 0
+
+
+if __name__ == "__main__":
+    sys.exit(main(sys.argv[1:]))

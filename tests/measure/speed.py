@@ -1,0 +1,305 @@
+#!/usr/bin/env python3
+"""Measures how fast a built `tapa` runs programs, and prints the rows of docs/FIGURES.md, "Speed".
+
+    tests/measure/speed.py PROGRAM [WORD]              all of them, or those whose name has the word
+    tests/measure/speed.py PROGRAM --workers [WORD]    the same by several workers: a column for each number of them
+    tests/measure/speed.py PROGRAM --counted [WORD]    loops of one task by counted instructions (valgrind), which other work does not disturb
+    tests/measure/speed.py PROGRAM --loops [WORD]      loops of one task beside plain loops, and a chain beside plain C++ in one thread and in a thread for each task: medians
+
+The sources are those of tests/measure/speed/, and wide networks that are made here. Seconds are processor seconds of one call, the best of seven, with the
+report, which goes nowhere; ticks are those that the report counts. Where g++ is there, the anchors of tests/measure/speed/ are compiled with -O2
+and measured beside it. With --workers a cell has the seconds by the clock and the processor seconds, of the call that was best by the clock: they say
+something on a machine that has nothing else to do, and has as many processors as workers. With --loops a call of `run` takes some 50 to 300 ms and
+stands next to a call of each anchor, seven times in all; a plain loop, and the chain in one thread, goes ten times as far, so that it takes about as long.
+A cell is the median of the seven, "single rounds" the least and the most of the seven quotients of two calls that stand together. By the clock a thread for
+each task says something on a machine that has nothing else to do.
+"""
+import json
+import math
+import os
+import re
+import shutil
+import statistics
+import subprocess
+import sys
+import tempfile
+import time
+
+sys.path.insert(0, os.path.dirname(os.path.dirname(os.path.abspath(__file__))))
+from runner.made.programs import apart, chain, hub  # noqa: E402
+
+HERE = os.path.dirname(os.path.abspath(__file__))
+REPEATS = 7
+WORKERS = (1, 2, 4, 64)
+# loops of one task, each with its source and its anchor, which turns as often
+LOOPS = (
+    ("a hash", "hash", 5_000_000),
+    ("a hash in 32 bits", "hash32", 5_000_000),
+    ("tests within tests", "nested", 4_000_000),
+    ("a table", "array", 5_000_000),
+    ("a filter", "fir", 4_000_000),
+    ("each kind of integers", "kinds", 2_000_000),
+)
+# with --loops: the busy task is shorter, a plain loop makes so many times the turns, and the chain passes so many tokens
+SHORT_LOOPS = (("a busy task", "busy", 10_000_000), *LOOPS)
+PLAIN, TOKENS = 10, 400_000
+
+
+def source(name):
+    with open(os.path.join(HERE, "speed", f"{name}.cpp"), encoding="utf-8") as it:
+        return it.read()
+
+
+def pair(count, rounds):
+    """Two tasks with so many streams from the one to the other."""
+    writes = "".join(f"s{at} << i; " for at in range(count))
+    reads = "".join(f"s{at}.read(); " for at in range(count))
+    outs = ", ".join(f"tapa::ostream<int>& s{at}" for at in range(count))
+    ins = ", ".join(f"tapa::istream<int>& s{at}" for at in range(count))
+    streams = "".join(f"tapa::stream<int, 2> s{at}; " for at in range(count))
+    bound = ", ".join(f"s{at}" for at in range(count))
+    return (
+        f"void P({outs}) {{ for (int i = 0; i < {rounds}; ++i) {{ {writes}}} }}\n"
+        f"void C({ins}) {{ for (int i = 0; i < {rounds}; ++i) {{ {reads}}} }}\n"
+        f"void Top() {{ {streams}tapa::task().invoke(P, {bound}).invoke(C, {bound}); }}\n"
+    )
+
+
+def queue(depth, tokens):
+    """A task that is held up on its output, behind a stream of a depth."""
+    return (
+        f"void P(tapa::ostream<int>& q) {{ for (int i = 0; i < {tokens}; ++i) q << i; }}\n"
+        f"void M(tapa::istream<int>& p, tapa::ostream<int>& q) {{ for (int i = 0; i < {tokens}; ++i) q << p.read(); }}\n"
+        f"void C(tapa::istream<int>& q) {{ for (int i = 0; i < {tokens}; ++i) q.read(); }}\n"
+        f"void Top() {{ tapa::stream<int, {depth}> a; tapa::stream<int, 1> b; tapa::task().invoke(P, a).invoke(M, a, b).invoke(C, b); }}\n"
+    )
+
+
+def uneven(turns, tokens):
+    """A chain of tasks that pass tokens on, each after so many turns of its own."""
+    ends, tasks, calls = len(turns) - 1, "", ""
+    for at, count in enumerate(turns):
+        ports = ["tapa::istream<int>& p"] * (at > 0) + ["tapa::ostream<int>& q"] * (at < ends)
+        first, last = ("p.read()" if at > 0 else "i"), ("q << x; " if at < ends else "")
+        tasks += f"void S{at}({', '.join(ports)}) {{ for (int i = 0; i < {tokens}; ++i) {{ int x = {first}; for (int k = 0; k < {count}; ++k) {{ x = x * 5 + k; }} {last}}} }}\n"
+        bound = [f"s{at - 1}"] * (at > 0) + [f"s{at}"] * (at < ends)
+        calls += f".invoke(S{at}, {', '.join(bound)})"
+    streams = " ".join(f"tapa::stream<int, 16> s{at};" for at in range(ends))
+    return f"{tasks}void Top() {{ {streams} tapa::task(){calls}; }}\n"
+
+
+def one_heavy(turns, tasks, tokens):
+    """A task that makes turns beside a chain of light ones."""
+    busy = f"void B() {{ int x = 1; for (int i = 0; i < {turns}; ++i) {{ x = x * 5 + i; }} }}\n"
+    return busy + uneven([0] * tasks, tokens).replace("tapa::task()", "tapa::task().invoke(B)")
+
+
+def cases():
+    """Each measurement: its name, its source, its top task, and its data."""
+    yield "a busy task, 50,000,000 turns", source("busy"), "Top", {"scalars": {"n": 50_000_000}, "memories": {"m": [0]}}
+    yield "a task with an array, a memory and several kinds, 3,000,000 turns", source("mixed"), "Top", {"scalars": {"n": 3_000_000}, "memories": {"m": [0] * 256}}
+    for name, file, turns in LOOPS:
+        yield f"{name}, {turns:,} turns", source(file), "Top", {"scalars": {"n": turns}, "memories": {"m": [0]}}
+    yield "a chain of ten, 1,000,000 tokens, depth 16", chain(10, 1_000_000), "T", {}
+    # (rows that are compared make about as many ticks, so that none has more of the start in its time)
+    for workers, rounds in ((8, 240_000), (500, 4_000)):
+        yield f"a hub and {workers} workers, {rounds:,} rounds", hub(workers, rounds), "Top", {}
+    for count, rounds in ((1, 2_000_000), (1_000, 6_000)):
+        yield f"two tasks and {count:,} stream{'s' if count > 1 else ''}, {rounds:,} rounds", pair(count, rounds), "Top", {}
+    for depth in (2, 4_096):
+        yield f"a task held up on its output, input depth {depth:,}", queue(depth, 1_000_000), "Top", {}
+    yield "64 busy tasks side by side, 300,000 turns", apart(64, 300_000), "Top", {}
+    yield "64 busy tasks side by side, 1,200,000 turns", apart(64, 1_200_000), "Top", {}
+    yield "a chain of ten whose tasks make 1,800 turns a token, 2,000 tokens", uneven([1_800] * 10, 2_000), "Top", {}
+    yield "a chain of ten whose tasks make 30 and 300 turns a token by turns, 20,000 tokens", uneven([30, 300] * 5, 20_000), "Top", {}
+    yield "a chain of ten in which one task makes 3,000 turns a token and the others 30, 5,000 tokens", uneven([30] * 5 + [3_000] + [30] * 4, 5_000), "Top", {}
+    yield "a busy task, 10,000,000 turns, beside a chain of five, 400,000 tokens", one_heavy(10_000_000, 5, 400_000), "Top", {}
+    for turns in (100_000, 400_000, 1_600_000):
+        yield f"a ring of three, {turns:,} turns", source("ring"), "Top", {"scalars": {"n": turns}}
+
+
+def used(words, folder, out):
+    """The processor seconds, the megabytes and the seconds by the clock of one call, which must end well."""
+    begun = time.monotonic()
+    ran = subprocess.Popen(words, cwd=folder, stdout=out, stderr=subprocess.PIPE)
+    err = ran.stderr.read().decode()
+    _, status, spent = os.wait4(ran.pid, 0)
+    ran.returncode = os.waitstatus_to_exitcode(status)
+    if ran.returncode:
+        sys.exit(f"{words}: status {ran.returncode}: {err[:300].strip()}")
+    return spent.ru_utime + spent.ru_stime, spent.ru_maxrss / 1024, time.monotonic() - begun
+
+
+def ticks_of(words, folder):
+    """The ticks that a report counts; of a long report only the end is kept."""
+    with open(os.path.join(folder, "report"), "wb") as it:
+        used(words, folder, it)
+    with open(os.path.join(folder, "report"), "rb") as it:
+        it.seek(max(0, os.path.getsize(it.name) - 100))
+        word, ticks = it.read().decode().split()[-2:]
+    os.remove(os.path.join(folder, "report"))
+    if word != "done":
+        sys.exit(f"{words}: it ended with {word}")
+    return int(ticks)
+
+
+def anchor(file, folder, *options):
+    """The program that g++ makes of an anchor."""
+    built = os.path.join(folder, f"{file}_anchor")
+    subprocess.run(["g++", "-O2", *options, "-o", built, os.path.join(HERE, "speed", f"{file}_anchor.cc")], check=True)
+    return built
+
+
+def anchors(folder):
+    """Plain C++ of some rows, by how their names begin: the seconds of one call."""
+    if not shutil.which("g++"):
+        return {}
+    found = {}
+    for name, file, count in (("a busy task", "busy", 50_000_000), ("a chain of ten", "chain", 1_000_000), *LOOPS):
+        built = anchor(file, folder)
+        found[name] = min(used([built, str(count)], folder, subprocess.DEVNULL)[0] for _ in range(REPEATS))
+    return found
+
+
+def put_one(folder, name, text, data):
+    """Writes a source and its data."""
+    for file, content in ((f"{name}.cpp", text), (f"{name}.json", json.dumps(data))):
+        with open(os.path.join(folder, file), "w", encoding="utf-8") as it:
+            it.write(content)
+
+
+def called(program, name, top):
+    """The call of `run` for a source that was written with its data."""
+    return [program, "run", f"{name}.cpp", top, f"{name}.json", "--steps", "1000000000"]
+
+
+def put_all(program, wanted, folder):
+    """Writes the sources and their data, and gives the name and the call of each."""
+    for at, (name, text, top, data) in enumerate(it for it in cases() if wanted in it[0]):
+        put_one(folder, at, text, data)
+        yield name, called(program, at, top)
+
+
+def by_workers(program, wanted):
+    """The rows by several workers."""
+    print(f"| what | {' | '.join(f'{count} worker' + 's' * (count > 1) for count in WORKERS)} |\n|---|{'---|' * len(WORKERS)}")
+    with tempfile.TemporaryDirectory() as folder:
+        rows = list(put_all(program, wanted, folder))
+        spent = [[[used([*call, "--workers", str(count)], folder, subprocess.DEVNULL) for count in WORKERS] for _, call in rows] for _ in range(REPEATS)]
+        for at, (name, _) in enumerate(rows):
+            best = [min((one[at][column] for one in spent), key=lambda it: it[2]) for column in range(len(WORKERS))]
+            print(f"| {name} | {' | '.join(f'{clock:.2f} s ({seconds:.2f} s)' for seconds, _, clock in best)} |", flush=True)
+    return 0
+
+
+def instructions(words, folder):
+    """The instructions of one call, and what it writes."""
+    ran = subprocess.run(["valgrind", "--tool=callgrind", "--callgrind-out-file=/dev/null", *words], cwd=folder, capture_output=True, text=True, check=False)
+    counted = re.search(r"Collected : (\d+)", ran.stderr)
+    if not counted:
+        sys.exit(f"{words}: {ran.stderr[:300].strip()}")
+    return int(counted[1]), ran.stdout
+
+
+def counted(program, wanted):
+    """The instructions of a turn and of a tick of each loop, and those of a turn of its anchor: what two thousand further turns take."""
+    print("| what | ticks a turn | instructions a turn | a tick | g++ -O2, a turn |\n|---|---|---|---|---|")
+    turns = (1_000, 3_000)
+    with tempfile.TemporaryDirectory() as folder:
+        for name, file, _ in (("a busy task", "busy", 0), *LOOPS):
+            if wanted not in name:
+                continue
+            made = []
+            for n in turns:
+                put_one(folder, "it", source(file), {"scalars": {"n": n}, "memories": {"m": [0]}})
+                count, report = instructions([program, "run", "it.cpp", "Top", "it.json"], folder)
+                made.append((count, int(report.split()[-1])))
+            built = anchor(file, folder)
+            least, most = (instructions([built, str(n)], folder)[0] for n in turns)
+            count, ticks = (made[1][at] - made[0][at] for at in (0, 1))
+            more = turns[1] - turns[0]
+            print(f"| {name} | {ticks / more:.2f} | {count / more:.0f} | {count / ticks:.1f} | {(most - least) / more:.0f} |", flush=True)
+    return 0
+
+
+def by_turns(calls, folder):
+    """What each of the calls used, seven times; they take turns, so that a slow minute of the machine strikes them alike."""
+    made = [[used(call, folder, subprocess.DEVNULL) for call in calls] for _ in range(REPEATS)]
+    return list(zip(*made))
+
+
+def median(spent, by_clock=False):
+    return statistics.median(it[2 if by_clock else 0] for it in spent)
+
+
+def rounds(over, under, scale=1, by_clock=False):
+    """The least and the most of the quotients of calls that stand next to each other."""
+    at = 2 if by_clock else 0
+    quotients = [scale * one[at] / two[at] for one, two in zip(over, under)]
+    return f"{min(quotients):.3g} to {max(quotients):.3g}"
+
+
+def tell_loops(rows, spent):
+    """Prints the loops, whose calls and those of their plain loops stand in pairs."""
+    print("| loop | turns | `run` | g++ -O2, a tenth | a turn | g++ -O2, a turn | times as long | single rounds |\n|---|---|---|---|---|---|---|---|")
+    ratios = []
+    for (name, _, turns), own, plain in zip(rows, spent[::2], spent[1::2]):
+        took, beside = median(own), median(plain) / PLAIN
+        ratios.append(took / beside)
+        print(f"| {name} | {turns:,} | {took:.3f} s | {beside:.4f} s | {took / turns * 1e9:.1f} ns | {beside / turns * 1e9:.2f} ns | {ratios[-1]:.1f} | {rounds(own, plain, PLAIN)} |")
+    print(f"| geometric mean of {len(ratios)} | | | | | | {math.exp(sum(map(math.log, ratios)) / len(ratios)):.1f} | |\n| the most of {len(ratios)} | | | | | | {max(ratios):.1f} | |")
+
+
+def tell_chain(name, own, rings, threads):
+    """Prints the chain beside one thread of plain C++, which passes ten times as many tokens, and beside a thread for each task."""
+    print(f"\n| {name} | by the clock | processor seconds | times as long as `run`, by the clock | single rounds | processor seconds |\n|---|---|---|---|---|---|")
+    clock, seconds = median(own, True), median(own)
+    print(f"| `run` | {clock:.3f} s | {seconds:.3f} s | | | |")
+    for what, spent, scale in (("g++ -O2, one thread, a tenth", rings, 1 / PLAIN), ("g++ -O2, a thread a task", threads, 1)):
+        took, all_took = median(spent, True) * scale, median(spent) * scale
+        print(f"| {what} | {took:.3f} s | {all_took:.3f} s | {took / clock:.2f} | {rounds(spent, own, scale, True)} | {all_took / seconds:.2f} |")
+
+
+def loops(program, wanted):
+    """The loops of one task and the chain beside their anchors."""
+    name = f"a chain of ten, {TOKENS:,} tokens, depth 16"
+    with tempfile.TemporaryDirectory() as folder:
+        rows, calls = [it for it in SHORT_LOOPS if wanted in it[0]], []
+        for _, file, turns in rows:
+            put_one(folder, file, source(file), {"scalars": {"n": turns}, "memories": {"m": [0]}})
+            calls += [called(program, file, "Top"), [anchor(file, folder), str(PLAIN * turns)]]
+        if wanted in name:
+            put_one(folder, "chain", chain(10, TOKENS), {})
+            calls += [called(program, "chain", "T"), [anchor("chain", folder), str(PLAIN * TOKENS)], [anchor("chain_threads", folder, "-pthread"), str(TOKENS)]]
+        spent = by_turns(calls, folder)
+        if rows:
+            tell_loops(rows, spent)
+        if wanted in name:
+            tell_chain(name, *spent[-3:])
+    return 0
+
+
+def main(words):
+    words, options = [word for word in words if not word.startswith("--")], [word for word in words if word.startswith("--")]
+    others = {"--workers": by_workers, "--counted": counted, "--loops": loops}
+    if len(words) not in (1, 2) or len(options) > 1 or not set(options) <= set(others):
+        print(__doc__.strip(), file=sys.stderr)
+        return 2
+    program, wanted = os.path.abspath(words[0]), words[1] if len(words) == 2 else ""
+    if options:
+        return others[options[0]](program, wanted)
+    print("| what | ticks | time | ticks a second | memory | g++ -O2 |\n|---|---|---|---|---|---|")
+    with tempfile.TemporaryDirectory() as folder:
+        plain = anchors(folder)
+        rows = [(name, call, ticks_of(call, folder)) for name, call in put_all(program, wanted, folder)]
+        # (the calls of a row are spread over the whole run, so that a slow minute of the machine strikes no row alone)
+        spent = [[used(call, folder, subprocess.DEVNULL) for _, call, _ in rows] for _ in range(REPEATS)]
+        for at, (name, _, ticks) in enumerate(rows):
+            seconds, megabytes, _ = min(one[at] for one in spent)
+            beside = next((f"{least:.3f} s" for start, least in plain.items() if name.startswith(f"{start},")), "")
+            print(f"| {name} | {ticks:,} | {seconds:.2f} s | {ticks / max(seconds, 0.001) / 1e6:.0f} million | {megabytes:.0f} MB | {beside} |", flush=True)
+    return 0
+
+
+if __name__ == "__main__":
+    sys.exit(main(sys.argv[1:]))

@@ -1,0 +1,216 @@
+"""What `tools/explain.py` says of refused sources, data, words and runs: the rows of docs/FROM_TAPA.md by their constructs, and the tables of tests/cases/explanations."""
+import glob
+import os
+import re
+import shlex
+import sys
+
+from runner.groups import documents
+from runner.groups.sources import context, table
+from runner.trial import ROOT, CASES, read
+
+sys.path.insert(0, os.path.join(ROOT, "tools"))
+from vechaqir import explain, explain_source, messages, pages, patterns, source, usage  # noqa: E402
+from vechaqir.patterns_match import View  # noqa: E402
+from vechaqir.program import Program  # noqa: E402
+
+# What no explanation says where it knows the cause, and what none says at all.
+GENERAL, NEVER = "no source of the language goes on with", "no explanation: "
+
+DATA_TOP = """void F(int8_t n, tapa::mmap<const int> a, tapa::mmap<bool> b) { }
+void T(int8_t n, tapa::mmap<const int> a, tapa::mmap<bool> b) { tapa::task().invoke(F, n, a, b); }
+"""
+PLAN_TOP = """void P(tapa::ostream<int>& q) { q << 1; } void C(tapa::istream<int>& q) { q.read(); }
+void T() { tapa::stream<int> q; tapa::task().invoke(P, q).invoke(C, q); }
+"""
+
+
+def quoted(row):
+    r"""The texts of a row between ` and `, in which \` is a `."""
+    return [it.replace("\\\\", "\\").replace("\\`", "`").replace("\\n", "\n") for it in re.findall(r"`((?:[^`\\]|\\.)*)`", row)]
+
+
+def explained(trial, words):
+    """The status of a command, and its messages with all that is explained, as one text."""
+    said = trial.run(words)
+    explainer = explain.Explainer(explain.Command(words), Program(trial.program, False))
+    lines = []
+    for line in said.err.decode().splitlines():
+        lines += [line, *explainer.safely(line)]
+    return said.status, "\n".join(lines + explainer.ended())
+
+
+def try_construct(trial, row):
+    """A row of docs/FROM_TAPA.md: its refused text is explained by this row, and by no other."""
+    before, after = context(row.context)
+    trial.put("e.cpp", before + row.refused + after)
+    words = ["run", os.path.join(trial.folder.name, "e.cpp"), "T"]
+    _, told = explained(trial, words)
+    first = next((line for line in told.splitlines() if line.startswith("      = ")), "")
+    trial.check(f"the explanation of {row.refused}", is_of_row(row, first, told), f"   wanted {row.construct}\n   {told}")
+
+
+def is_of_row(row, first, told):
+    named = first.startswith(f"      = {row.construct}: ")
+    return (named or f'docs/FROM_TAPA.md, "{row.section}"' in told) and f"      = instead: {row.instead}" in told
+
+
+def try_constructs(trial):
+    """The rows of docs/FROM_TAPA.md and the patterns are of the same constructs, and each row is found by its pattern."""
+    rows = pages.rows()
+    trial.check("docs/FROM_TAPA.md has rows", len(rows) >= 100, f"   {len(rows)}")
+    missing = sorted(set(patterns.constructs()) - set(rows))
+    trial.check("each pattern has a row in docs/FROM_TAPA.md", not missing, f"   {missing}")
+    for row in rows.values():
+        try_construct(trial, row)
+
+
+def try_faulty(trial):
+    """The rows of tests/cases/explanations: refused sources, each with its place and what is said of it."""
+    count = 0
+    for path in sorted(glob.glob(os.path.join(CASES, "explanations", "*.rows"))):
+        kind, rows = table(os.path.relpath(path, ROOT))
+        if not kind.startswith("in "):
+            continue
+        before, after = context(kind[len("in "):])
+        for row in rows:
+            refused, wanted = quoted(row)
+            trial.put("e.cpp", before + refused + after)
+            _, told = explained(trial, ["run", os.path.join(trial.folder.name, "e.cpp"), "T"])
+            place = re.match(r"tapa: .*?:(\d+:\d+): ([A-Z]\d+)", told)
+            is_told = place and f"{place[2]} {place[1]}" == row.split(" `")[0]
+            trial.check(f"the explanation of {refused}", is_told and wanted in told and GENERAL not in told and NEVER not in told, f"   {told}")
+            count += 1
+    trial.check("there are 120 faulty sources", count >= 120, f"   {count}")
+
+
+def legal_sources():
+    """Sources without a construct of the table: those that are accepted, and those that rules refuse which no construct breaks."""
+    for folder in ("examples", "tests/cases/circuits", "tests/measure/speed"):
+        for name in sorted(os.listdir(os.path.join(ROOT, folder))):
+            if name.endswith(".cpp"):
+                yield read(f"{folder}/{name}")
+    for row in pages.rows().values():
+        before, after = context(row.context)
+        yield before + row.accepted + after
+    for _, _, body in documents.sections("docs/REFUSALS.md"):
+        for name, text in re.findall(r"^```cpp\n// (\w+): instead\n([^`]*)^```$", body, re.M):
+            before, after = context(name)
+            yield before + text + after
+
+
+def try_legal(trial):
+    """No pattern stands in a source that is accepted, so that none is found by a bare sign."""
+    for text in legal_sources():
+        view = View(source.parse(text.encode()))
+        standing = [(it.construct, view.text(at)) for at in range(len(view.words) + 1) for it in patterns.standing(view, at)]
+        trial.check(f"no construct in {text[-200:]}", not standing, f"   {standing}")
+
+
+def try_words(trial):
+    """Wrong commands: the wrong word is named, and the command is shown with each of its options."""
+    for row in table("tests/cases/explanations/words.rows")[1] + [table("tests/cases/explanations/words.rows")[0]]:
+        words, wanted = quoted(row)
+        status, told = explained(trial, shlex.split(words))
+        name = words.split(" ")[0]
+        known = usage.commands().get(name)
+        shown = known is None or all(it in told for it in known.options) and known.synopsis in told
+        trial.check(f"what is wrong with `tapa {words}`", status == 2 and wanted in told and shown, f"   {told}")
+    for command in usage.commands().values():
+        trial.check(f"docs/COMMAND.md has a row for each word of `{command.name}`", len(usage.words_of(command)) == len(command.words + command.more) + len(command.options))
+
+
+def try_data(trial):
+    """Refused data files and device files."""
+    trial.put("e.cpp", DATA_TOP)
+    for row in ["", *table("tests/cases/explanations/data.rows")[1], table("tests/cases/explanations/data.rows")[0]]:
+        if row:
+            data, wanted = quoted(row)
+            words = ["run", os.path.join(trial.folder.name, "e.cpp"), "T"] + [trial.put("e.json", data)] * bool(data)
+            status, told = explained(trial, words)
+            trial.check(f"the explanation of {data}", status == 3 and wanted in told and NEVER not in told, f"   {told}")
+    trial.put("e.cpp", PLAN_TOP)
+    for row in [*table("tests/cases/explanations/devices.rows")[1], table("tests/cases/explanations/devices.rows")[0]]:
+        data, wanted = quoted(row)
+        status, told = explained(trial, ["plan", os.path.join(trial.folder.name, "e.cpp"), "T", trial.put("e.json", data)])
+        trial.check(f"the explanation of {data}", status == 3 and wanted in told and NEVER not in told, f"   {told}")
+
+
+def try_plans(trial):
+    """Where there is no plan, the resource that is short is told in each mode."""
+    text = PLAN_TOP.replace("q << 1;", "q << 1; for (int i = 0; i < 9; ++i) { int x = i * 5; }")
+    device = trial.put("e.json", '{"rows": 2, "cols": 1, "slots": [{"LUT": 1000, "FF": 2000}, {"LUT": 1000, "FF": 2000}]}')
+    for mode in ("fit", "exact", "split"):
+        _, told = explained(trial, ["plan", trial.put("e.cpp", text), "T", device, "--plan", mode])
+        trial.check(f"what is short where `--plan {mode}` has no plan", "P$0 needs 3 DSP, and no slot has more than 0" in told and NEVER not in told, f"   {told}")
+
+
+def try_dumps(trial):
+    """A net that a dump has not leads to one that it has."""
+    trial.put("e.cpp", PLAN_TOP)
+    trial.put("e.v", trial.run(["build", "e.cpp", "T"]).out)
+    dump = trial.put("e.vcd", trial.run(["cosim", "e.v", "--vcd"]).out)
+    _, told = explained(trial, ["vcd", dump, "s_q_rd"])
+    trial.check("a net that is not there", "the dump has no net `s_q_rd`; `s_q_rdy` is meant, perhaps" in told, f"   {told}")
+
+
+def try_ends(trial):
+    """Runs that stop or pass a limit: tests/cases/explanations/ends.cases."""
+    for case in read("tests/cases/explanations/ends.cases").split("=== ")[1:]:
+        name, _, rest = case.partition("\n")
+        text, _, wanted = rest.partition("---\n")
+        trial.put("e.cpp", text)
+        _, told = explained(trial, ["run", os.path.join(trial.folder.name, "e.cpp"), "T", "--steps", "1000"])
+        trial.check(f"what is said of {name}", all(it in told for it in wanted.splitlines()) and wanted and NEVER not in told, f"   {told}")
+
+
+def try_files(trial):
+    """Files that can't be read, a header that is skipped, and a top task that is not there."""
+    folder = trial.folder.name
+    trial.put("k.h", "const int LANES = 4;\n")
+    path = trial.put("e.cpp", '#include "k.h"\nvoid F(int n) { n = LANES; }\nvoid Top(int n) { tapa::task().invoke(F, n); }\n')
+    for words, wanted in (
+        (["run", path, "Top"], "`LANES` stands in `k.h`, and `#include` lines are skipped"),
+        (["run", trial.put("t.cpp", "void F(int n) { }\nvoid Top(int n) { tapa::task().invoke(F, n); }\n"), "top"], "the source has no task `top`; its tasks are `F` and `Top`"),
+        (["run", f"{folder}/none.cpp", "T"], f"there is no file `{folder}/none.cpp`"),
+        (["run", folder, "T"], "is a folder"),
+    ):
+        _, told = explained(trial, words)
+        trial.check(f"the explanation of `tapa {' '.join(words)}`", wanted in told and NEVER not in told, f"   {told}")
+    path = trial.put("e.cpp", DATA_TOP)
+    _, told = explained(trial, ["run", path, "T", f"{folder}/none.json"])
+    trial.check("a missing data file leads to the template", f"`tools/template.py {path} T > {folder}/none.json`" in told, f"   {told}")
+
+
+def try_fronts(trial):
+    """Every front part of two sources, and each place of them, can be explained: whatever is told, there is an explanation, and none fails."""
+    whole = read("examples/lanes.cpp") + "void G(float x) { int y[N + 1] = {1, 2}; a.b = c->d; for (auto e : f) return; }\n"
+    failed = []
+    text = whole.encode()
+    told = source.parse(text)
+    for code in ("L1", "L3", "A1", "A2", "A3", "P1", "P2", *(f"C{number}" for number in range(1, 13))):
+        for offset in range(0, len(text), 5):
+            why, lines = explain_source.explained(told, told.place(offset), code, "over the limit of 4096", "Squares", "in_0")
+            failed += [(code, offset)] * (not lines)
+    for end in range(0, len(text), 23):
+        explainer = explain.Explainer(explain.Command(["run", trial.put("e.cpp", text[:end]), "Squares"]))
+        place = source.parse(text[:end]).place(end)
+        lines = explainer.safely(f"tapa: {trial.folder.name}/e.cpp:{place.line}:{place.column}: P1 unexpected token")
+        failed += [("P1", end)] * (not lines or NEVER in lines[0])
+    trial.check("each place can be explained", not failed, f"   {failed[:10]}")
+    for line in ("tapa: ", "tapa: x", "tapa: a:1:2: Z9 x", "tapa: a:99999999999999999999:2: C1 x", "", "\udcff", "tapa: A$0 waits to read ", "tapa: usage: x"):
+        lines = explain.Explainer(explain.Command(None)).safely(line)
+        trial.check(f"a line like {line!r} is passed", not any(NEVER in it for it in lines) and (messages.parse(line) is not None or not lines))
+
+
+def try_all(trial):
+    try_constructs(trial)
+    try_faulty(trial)
+    try_legal(trial)
+    try_words(trial)
+    try_data(trial)
+    try_plans(trial)
+    try_dumps(trial)
+    try_ends(trial)
+    try_files(trial)
+    try_fronts(trial)

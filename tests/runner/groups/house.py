@@ -1,0 +1,171 @@
+"""How the crates are built: no crate without code but for laws and lines, small functions and files, few arguments, no body twice, no comment that leans on another.
+
+What does not hold yet stands in exceptions.txt, one line each; `tests/run.py house` prints what is found. A new exception is refused, and so is a line that holds no more."""
+import os
+import re
+
+from runner.trial import ROOT, read
+
+LINES, FILE, ARGUMENTS = 40, 500, 8
+# Bodies of fewer letters are not looked at for copies.
+COPY = 80
+EXCEPTIONS = "tests/runner/exceptions.txt"
+
+
+def blank(text):
+    """A text with blanks in place of comments, strings and characters."""
+    return re.sub(r'//[^\n]*|b?"(?:\\.|[^"\\])*"|b?\'(?:\\.[^\']*|[^\'\\\n])\'', lambda it: " " * len(it[0]), text, flags=re.S)
+
+
+def closing(text, at, pair):
+    """The place behind the sign that closes the one at a place."""
+    depth = 0
+    for place in range(at, len(text)):
+        depth += (text[place] == pair[0]) - (text[place] == pair[1])
+        if not depth:
+            return place + 1
+    return len(text)
+
+
+def count_of(parameters):
+    """How many parameters stand between parentheses, besides `self`."""
+    depth, count, part = 0, 0, ""
+    for sign in re.sub(r"->|=>", "  ", parameters) + ",":
+        depth += (sign in "(<[{") - (sign in ")>]}")
+        if sign == "," and not depth:
+            count += bool(part.strip()) and not re.fullmatch(r"\s*(?:&\s*)?(?:'\w+\s+)?(?:mut\s+)?self\s*", part)
+            part = ""
+        else:
+            part += sign
+    return count
+
+
+class Function:
+    """A function of a crate: its name, how many arguments it has, and its body between the braces, None where it has none."""
+
+    def __init__(self, name, arguments, body):
+        self.name, self.arguments, self.body = name, arguments, body
+        self.is_empty = not (body or "").strip()
+
+    def lines(self):
+        return len((self.body or "").strip("\n").splitlines())
+
+
+def functions(text):
+    """The functions of a file; contracts stand between the head and the body."""
+    code = blank(text)
+    for head in re.finditer(r"\bfn\s+(\w+)\s*(?:<[^({]*>)?\s*\(", code):
+        at = closing(code, head.end() - 1, "()")
+        arguments = count_of(code[head.end():at - 1])
+        while True:
+            found = re.compile(r"[{;]").search(code, at)
+            if not found or found[0] == ";":
+                yield Function(head[1], arguments, None)
+                break
+            end = closing(code, found.start(), "{}")
+            if not re.search(r"\b(?:requires|ensures|ghost|where)\b[^{}]*$", code[at:found.start()]) or code[:found.start()].endswith("\n" + " " * (len(code[:found.start()]) - code.rfind("\n", 0, found.start()) - 1)):
+                yield Function(head[1], arguments, text[found.start() + 1:end - 1])
+                break
+            at = end
+
+
+def files(crate):
+    """The sources of a crate, each with its text."""
+    for folder, folders, names in os.walk(os.path.join(ROOT, "crates", crate, "src")):
+        folders.sort()
+        for name in sorted(names):
+            if name.endswith(".rt"):
+                path = os.path.relpath(os.path.join(folder, name), ROOT)
+                yield path, read(path)
+
+
+def definitions(crate):
+    """The definitions and proofs of a crate, each with its text."""
+    for part in ("specs", "proofs"):
+        for folder, folders, names in os.walk(os.path.join(ROOT, "crates", crate, part)):
+            folders.sort()
+            for name in sorted(names):
+                if name.endswith(".antt"):
+                    path = os.path.relpath(os.path.join(folder, name), ROOT)
+                    yield path, read(path)
+
+
+def comments(text):
+    """The comments of a file, each by its first line."""
+    before = ""
+    for line in text.splitlines():
+        found = re.match(r"\s*(?:///|//!|//|--)\s?(.*)", line)
+        if found and not re.match(r"\s*(?:///|//!|//|--)", before):
+            yield found[1]
+        before = line
+
+
+def leaning(text):
+    return [comment for comment in comments(text) if re.match(r"(?:The same|And)\b", comment)]
+
+
+def found_in(crate, bodies):
+    """What of a crate is an exception; its bodies are put beside those of the others."""
+    has_code = False
+    for path, text in files(crate):
+        name = os.path.basename(path)
+        if len(text.splitlines()) > FILE:
+            yield f"file {name}"
+        has_code |= bool(re.search(r"^\s*pub (?:struct|enum|trait) ", text, re.M))
+        for it in functions(text):
+            has_code |= not it.is_empty
+            if it.lines() > LINES:
+                yield f"body {it.name}"
+            if it.arguments > ARGUMENTS:
+                yield f"arguments {it.name}"
+            short = " ".join(blank_comments(it.body or "").split())
+            if len(short) >= COPY:
+                bodies.setdefault(short, []).append((crate, it.name))
+        yield from (f"comment {comment[:80]}" for comment in leaning(text))
+    for path, text in definitions(crate):
+        if len(text.splitlines()) > FILE:
+            yield f"file {os.path.basename(path)}"
+        if "/specs/" in path:
+            yield from (f"comment {comment[:80]}" for comment in leaning(text))
+    if not has_code and not crate.endswith(("_laws", "_lines")):
+        yield f"crate {crate}"
+
+
+def blank_comments(text):
+    return re.sub(r"//[^\n]*", "", text)
+
+
+def found():
+    """Every exception that there is, in order."""
+    bodies, all_of_them = {}, []
+    for crate in sorted(os.listdir(os.path.join(ROOT, "crates"))):
+        if os.path.isdir(os.path.join(ROOT, "crates", crate, "src")):
+            all_of_them += found_in(crate, bodies)
+    for places in bodies.values():
+        if len({crate for crate, _ in places}) > 1:
+            all_of_them.append("twice " + " ".join(sorted({name for _, name in places})))
+    return sorted(all_of_them)
+
+
+def listed():
+    return [line for line in read(EXCEPTIONS).splitlines() if line and not line.startswith("# ")]
+
+
+def without(some, others):
+    """Those of a list that another does not have as often."""
+    left, rest = list(others), []
+    for it in some:
+        if it in left:
+            left.remove(it)
+        else:
+            rest.append(it)
+    return rest
+
+
+def try_all(trial):
+    are, known = found(), listed()
+    for new in without(are, known):
+        trial.check(f"a new exception: {new}", False, f"   make it smaller; {EXCEPTIONS} has the old ones")
+    for old in without(known, are):
+        trial.check(f"{EXCEPTIONS}: {old} holds no more", False, "   tests/run.py house --shrink takes such lines away")
+    trial.check("the exceptions are looked at", True)

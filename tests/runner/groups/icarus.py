@@ -1,0 +1,47 @@
+"""Circuits in Icarus Verilog, where it is installed: beside `cosim`, with waveforms, and with memories that answer late."""
+import os
+import re
+import shutil
+import subprocess
+import sys
+
+from runner.trial import ROOT
+
+
+def run_tool(*words):
+    ran = subprocess.run([sys.executable, *words], cwd=ROOT, stdin=subprocess.DEVNULL, capture_output=True, text=True, check=False)
+    return ran.returncode, ran.stdout, ran.stderr
+
+
+def try_report(trial):
+    """Icarus Verilog shows what `cosim` shows, and writes the waveform and the testbench that are asked for."""
+    folder = trial.folder.name
+    text = trial.put("i.v", trial.run(["build", "examples/vector_add.cpp", "VecAdd"], ROOT).out)
+    said = trial.run(["cosim", text, "examples/vector_add.json"], ROOT).out.decode()
+    words = ["tools/icarus.py", text, "examples/vector_add.json", "--dump", f"{folder}/i.vcd", "--bench", f"{folder}/bench.v"]
+    trial.check_equal("icarus.py prints what cosim prints", run_tool(*words)[1], said)
+    for name, word in (("i.vcd", " at_3 "), ("bench.v", "$dumpvars")):
+        with open(f"{folder}/{name}", encoding="utf-8") as file:
+            trial.check(f"icarus.py writes {name}", word in file.read())
+
+
+def try_memories(trial):
+    """The lines of docs/VERILOG.md for a block RAM, and memories with random bits where they are not ready, with resets in the middle of runs."""
+    for words in ([], ["tests/cases/circuits/features.cpp", "Top", "tests/cases/circuits/features.json"]):
+        status, out, err = run_tool("tools/check_memories.py", trial.program, *words)
+        trial.check(f"circuits with other memories {' '.join(words)}", (status, out.endswith(", 0 runs otherwise\n")) == (0, True), out + err)
+    status, out, err = run_tool("tests/stress/memories.py", trial.program, "--programs", "4")
+    trial.check("random programs with other memories", (status, out) == (0, "8 circuits, 0 runs otherwise\n"), out + err)
+    words = ["examples/vector_add.cpp", "VecAdd", "examples/vector_add.json"]
+    text = trial.run(["build", *words[:2]], ROOT).out.decode()
+    gated = re.sub(r"assign addr_0 = (.*?) ;", r"assign addr_0 = ack_0 ? \1 : 64'd0 ;", text)
+    status, out, err = run_tool("tools/check_memories.py", trial.program, *words, "--text", trial.put("gated.v", gated.encode()), "--memories", "random")
+    trial.check("an address that comes only with ack is seen", (status, "bad a is asked for something else while it waits" in out) == (1, True), out + err)
+
+
+def try_all(trial):
+    if not shutil.which("iverilog") or not shutil.which("vvp"):
+        trial.note("there is no Icarus Verilog here, so circuits were not tried in it")
+        return
+    try_report(trial)
+    try_memories(trial)

@@ -1,0 +1,120 @@
+"""Pictures that stand in a report: no label of a picture lies over another, outside of the picture, or over the border of a box."""
+import os
+import re
+import subprocess
+import sys
+
+from runner.trial import ROOT, read
+
+sys.path.insert(0, os.path.join(ROOT, "tools"))
+from vechaqir import svg  # noqa: E402
+
+TEXT = re.compile(r"<text ([^>]*)>([^<]*)</text>")
+RECT = re.compile(r"<rect ([^>]*)/>")
+# How much of a size stands over the base line, how much below, and the part of a unit by which two boxes may meet.
+OVER, BELOW, MEET = 0.78, 0.22, 0.6
+
+
+def attributes(words):
+    return dict(re.findall(r'([\w-]+)="([^"]*)"', words))
+
+
+def texts(drawn):
+    """Each text with its box: left, top, right, bottom. A size or an anchor that a text has not is the picture's."""
+    whole = attributes(re.search(r"<svg ([^>]*)>", drawn)[1])
+    for words, shown in TEXT.findall(drawn):
+        has = attributes(words)
+        shown = shown.replace("&lt;", "<").replace("&gt;", ">").replace("&amp;", "&").replace("&quot;", '"').replace("&#x27;", "'")
+        size = float(has.get("font-size", whole.get("font-size", 16)))
+        width = svg.text_width(shown, size, has.get("font-weight") == "bold")
+        left = float(has["x"]) - width * {"middle": 0.5, "end": 1}.get(has.get("text-anchor"), 0)
+        yield shown, (left, float(has["y"]) - OVER * size, left + width, float(has["y"]) + BELOW * size)
+
+
+def rects(drawn):
+    for words in RECT.findall(drawn):
+        has = attributes(words)
+        x, y = float(has.get("x", 0)), float(has.get("y", 0))
+        yield (x, y, x + float(has["width"]), y + float(has["height"]))
+
+
+def meet(one, other):
+    return one[0] + MEET < other[2] and other[0] + MEET < one[2] and one[1] + MEET < other[3] and other[1] + MEET < one[3]
+
+
+def inside(one, other):
+    return other[0] <= one[0] + MEET and one[2] <= other[2] + MEET and other[1] <= one[1] + MEET and one[3] <= other[3] + MEET
+
+
+def faults(drawn):
+    """What is wrong with the labels of a picture, in words."""
+    whole = attributes(re.search(r"<svg ([^>]*)>", drawn)[1])
+    frame = (0, 0, float(whole["width"]), float(whole["height"]))
+    found = list(texts(drawn))
+    for at, (shown, box) in enumerate(found):
+        if not inside(box, frame):
+            yield f"{shown!r} is not in the picture"
+        for other, place in found[at + 1:]:
+            if meet(box, place):
+                yield f"{shown!r} lies over {other!r}"
+        for rect in rects(drawn):
+            if meet(box, rect) and not inside(box, rect):
+                yield f"{shown!r} lies over the border of a box"
+
+
+def run_tool(name, *words):
+    ran = subprocess.run([sys.executable, f"tools/{name}", *words], cwd=ROOT, stdin=subprocess.DEVNULL, capture_output=True, text=True, check=False)
+    return ran.returncode, ran.stdout, ran.stderr
+
+
+def try_labels(trial, name, drawn):
+    told = list(faults(drawn))
+    trial.check(f"labels of {name}", bool(drawn) and not told, "".join(f"   {line}\n" for line in told[:5]))
+
+
+def try_finder(trial):
+    """The finder of faults finds them."""
+    frame = '<svg width="100" height="40">{}</svg>'
+    text = '<text x="{}" y="20" font-size="10">{}</text>'
+    trial.check_equal("labels apart", list(faults(frame.format(text.format(5, "abc") + text.format(60, "abc")))), [])
+    trial.check_equal("labels over each other", list(faults(frame.format(text.format(5, "abc") + text.format(20, "xyz")))), ["'abc' lies over 'xyz'"])
+    trial.check_equal("a label out of the picture", list(faults(frame.format(text.format(90, "abc")))), ["'abc' is not in the picture"])
+    box = '<rect x="10" y="5" width="15" height="30"/>'
+    trial.check_equal("a label out of its box", list(faults(frame.format(box + text.format(12, "abc")))), ["'abc' lies over the border of a box"])
+
+
+def circuits(trial):
+    """Name and text of the circuit of each example, of the features, and of one on two dies."""
+    for name in sorted(os.listdir(os.path.join(ROOT, "examples"))):
+        if name.endswith(".cpp"):
+            top = read(f"examples/{name}").split("\n")[0].split()[4]
+            yield name, trial.run(["build", f"examples/{name}", top], ROOT).out
+    yield "features.cpp", trial.run(["build", "tests/cases/circuits/features.cpp", "Top"], ROOT).out
+    yield "two_ways.cpp on two dies", trial.run(["build", "examples/two_ways.cpp", "TwoWays", "--device", "examples/devices/two_dies.json"], ROOT).out
+
+
+def try_waves(trial):
+    """Nets by their paths, unknown values, and the width of a page."""
+    text = trial.put("w.v", trial.run(["build", "examples/vector_add.cpp", "VecAdd"], ROOT).out)
+    dump = trial.put("w.vcd", trial.run(["cosim", text, "examples/vector_add.json", "--vcd"], ROOT).out)
+    for words in ([], ["--fill"], ["--from", "5", "--to", "9"], ["--nets", "s_a_q_din,t_VecAdd.done"]):
+        _, drawn, err = run_tool("waves.py", dump, *words)
+        trial.check(f"the width of waves {words}", 'width="960"' in drawn, err)
+        try_labels(trial, f"waves {words}", drawn)
+    known = trial.put("x.vcd", "$scope module T $end\n$var wire 1 ! a $end\n$scope module t_A $end\n$var wire 4 \" s $end\n$upscope $end\n$scope module t_B $end\n$var wire 4 # s $end\n$upscope $end\n$upscope $end\n$enddefinitions $end\n#0\nx!\nbx01x \"\nb11 #\n#1\n1!\n#2\nb101 \"\n#3\n0!\n")
+    _, drawn, err = run_tool("waves.py", known)
+    trial.check("unknown values are marked, and nets of one name told apart", drawn.count('fill-opacity="0.18"') == 2 and all(f">{name}<" in drawn for name in ("a", "t_A.s", "t_B.s", "3", "5")), drawn + err)
+    trial.check("a name that two nets have", "2 nets are named s: T.t_A.s, T.t_B.s" in run_tool("waves.py", known, "--nets", "s")[2])
+    for words, status in ((["--help"], 0), ([], 2), ([known, "--from", "x"], 2), (["none.vcd"], 1), (["README.md"], 1), ([known, "--from", "9"], 1)):
+        ran = run_tool("draw/waves.py", *words)
+        trial.check(f"waves.py {' '.join(words)}", ran[0] == status and "Traceback" not in ran[2], f"   {ran}")
+
+
+def try_all(trial):
+    try_finder(trial)
+    for name in sorted(os.listdir(os.path.join(ROOT, "docs"))):
+        if name.endswith(".svg"):
+            try_labels(trial, f"docs/{name}", read(f"docs/{name}"))
+    for name, text in circuits(trial):
+        try_labels(trial, f"the network of {name}", run_tool("graph.py", trial.put("g.v", text))[1])
+    try_waves(trial)

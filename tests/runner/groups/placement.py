@@ -1,0 +1,151 @@
+"""Placements by tools/place.py: beside `--plan exact` where that one can plan, through `plan`, `build` and `cosim`, and what is told where none fits."""
+import html
+import itertools
+import json
+import os
+import random
+import re
+
+from runner.groups.placing import check_hostile, grid_of, run_tool
+from runner.groups.plans import Case, source_of
+from runner.trial import ROOT
+from vechaqir import svg
+
+# Random devices of small programs that the gate tries; tests/measure/plans/run.py tries more.
+DEVICES = 12
+
+# Designs with their files in the repository, a device, and the words of place.py.
+EXAMPLES = [
+    ("vector_add", "VecAdd", {"slots": [[700, 4000], [700, 4000]], "percent": 70}, []),
+    ("two_ways", "TwoWays", {"slots": [[400, 4000]] * 4, "percent": 100, "pins": {"Filter$1": [1, 1]}, "forbidden": [[0, 1]]}, ["--levels"]),
+    ("systolic", "Product", {"slots": [[1100, 9000, 0, 20]] * 4, "percent": 80, "levels_rows": [3], "levels_cols": [1]}, []),
+]
+
+
+def grid_source(side, order):
+    """A square of tasks that add what comes from the left and from above; `order` mixes the invokes."""
+    pe = "void Pe(tapa::istream<int>& l, tapa::istream<int>& u, tapa::ostream<int>& r, tapa::ostream<int>& d) { int a = l.read(); int b = u.read(); r << a + b; d << a - b; }"
+    ends = "void Feed(tapa::ostream<int>& q) { q << 3; } void Drain(tapa::istream<int>& q) { q.read(); }"
+    across = "".join(f"tapa::streams<int, {side + 1}> h{at}, v{at}; " for at in range(side))
+    invokes = [f".invoke(Pe, h{row}[{col}], v{col}[{row}], h{row}[{col + 1}], v{col}[{row + 1}])" for row in range(side) for col in range(side)]
+    invokes += [f".invoke(Feed, {way}{at}[0])" for at in range(side) for way in "hv"]
+    invokes += [f".invoke(Drain, {way}{at}[{side}])" for at in range(side) for way in "hv"]
+    random.Random(order).shuffle(invokes)
+    return f"{pe}\n{ends}\nvoid T() {{ {across}tapa::task(){''.join(invokes)}; }}\n"
+
+
+def placed(trial, source, top, device, *words):
+    """What place.py answers, and the path of a file with its output."""
+    answered = run_tool("place.py", source, top, device, *words, program=trial.program)
+    return answered, trial.put("pinned.json", answered[1])
+
+
+def cost_of(said):
+    """The cost that `plan` prints, None where it printed no plan."""
+    lines = [line.split() for line in said.out.decode().splitlines() if line.startswith("cost ")]
+    return int(lines[0][1]) if lines and said.status == 0 else None
+
+
+def check_carried(trial, name, source, top, pinned, data):
+    """`plan` takes the pins in each mode, and the circuit for them carries what `run` prints."""
+    costs = [cost_of(trial.run(["plan", source, top, pinned, "--plan", mode])) for mode in ("fit", "exact")]
+    trial.check(f"{name}: plan takes the pins", costs[0] is not None and costs[0] == costs[1], f"   {costs}")
+    built = trial.run(["build", source, top, "--device", pinned])
+    ran = trial.run(["run", source, top, *data])
+    simulated = trial.run(["cosim", trial.put("pinned.v", built.out), *data])
+    same = built.status == 0 and simulated.status == 0 and simulated.out.splitlines()[:-1] == ran.out.splitlines()[:-1]
+    trial.check(f"{name}: the circuit carries what run prints", same, f"   {simulated}")
+
+
+def check_example(trial, name, top, given, words):
+    source = os.path.join(ROOT, f"examples/{name}.cpp")
+    data = [path for path in [source[:-4] + ".json"] if os.path.exists(path)]
+    device = trial.put("device.json", grid_of(given, rows=len(given["slots"]) // 2))
+    (status, _, err), pinned = placed(trial, source, top, device, "--attempts", "3", "--seed", "7", *words)
+    trial.check(f"{name} is placed", status == 0 and "Traceback" not in err, f"   {err}")
+    exact = cost_of(trial.run(["plan", source, top, device, "--plan", "exact"]))
+    trial.check(f"{name} is placed at the cost of exact", exact is not None and f"cost {exact}," in err or "--levels" in words, f"   {exact} {err}")
+    check_carried(trial, name, source, top, pinned, data)
+    with open(pinned, encoding="utf-8") as written, open(device, encoding="utf-8") as own:
+        kept, before = json.load(written), json.load(own)
+    pins = before.get("pins", {})
+    holds = {**kept, "pins": pins} == {**before, "pins": pins} and pins.items() <= kept["pins"].items()
+    trial.check(f"{name}: the device's own keys and pins are kept", holds, f"   {kept}")
+
+
+def check_random(trial, seed):
+    """A random program and device: a placement of exact's cost, or the word that none fits."""
+    case = Case(seed)
+    source, device = trial.put("p.cpp", source_of(case.count, case.streams)), trial.put("d.json", case.device())
+    exact = trial.run(["plan", source, "T", device, "--plan", "exact"])
+    (status, _, err), pinned = placed(trial, source, "T", device, "--attempts", "1")
+    trial.check(f"placement of random device {seed}", status == exact.status and ("cost" not in err or f"cost {cost_of(exact)}," in err), f"   {exact}\n   {status} {err}")
+    if exact.status == 0:
+        trial.check(f"the program's cost on random device {seed}", cost_of(trial.run(["plan", source, "T", pinned])) == cost_of(exact))
+
+
+def check_orders(trial):
+    """A square of 36 tasks and 24 ends on four slots that are nearly full: the order of invokes, the workers and a second call change nothing, and a device without room
+    is told as such."""
+    uses = json.loads(run_tool("estimate.py", trial.put("grid.cpp", grid_source(6, 1)), "T", "--json", program=trial.program)[1])["all"]["LUT"]
+    slot = uses * 100 // 95 // 4 + 1
+    device = trial.put("four.json", grid_of({"slots": [[slot, 90000]] * 4}, rows=2))
+    costs = []
+    for order in (1, 2):
+        source = trial.put("grid.cpp", grid_source(6, order))
+        (status, out, err), pinned = placed(trial, source, "T", device, "--attempts", "4", "--workers", "2")
+        costs.append(cost_of(trial.run(["plan", source, "T", pinned])))
+        trial.check(f"a full device holds a placement, invokes in order {order}", status == 0 and costs[-1] is not None, f"   {err}")
+    check_carried(trial, "a full device", source, "T", pinned, [])
+    again = placed(trial, source, "T", device, "--attempts", "4", "--workers", "1")[0]
+    trial.check("one worker finds what two find", again == (status, out, err), f"   {again[2]} {err}")
+    trial.check("the order of invokes does not change the cost", all(costs) and len(set(costs)) == 1, f"   {costs}")
+    small = trial.put("small.json", grid_of({"slots": [[uses // 4 - 1, 90000]] * 4}, rows=2))
+    status, out, err = placed(trial, source, "T", small, "--attempts", "1")[0]
+    trial.check("a device without room is told as such", (status, out) == (4, "") and f"all tasks together need {uses} LUT" in err, f"   {err}")
+
+
+def texts_of(drawn):
+    """The texts of a picture, each as the box that it covers: left, top, right, bottom."""
+    for found in re.finditer(r'<text x="([\d.]+)" y="([\d.]+)" font-size="([\d.]+)"( text-anchor="(?:middle|end)")?( font-weight="bold")?[^>]*>([^<]*)<', drawn):
+        x, y, size = (float(found[at]) for at in (1, 2, 3))
+        wide = svg.text_width(html.unescape(found[6]), size, bool(found[5]))
+        left = x - (wide / 2 if found[4] and "middle" in found[4] else wide if found[4] else 0)
+        yield found[6], (left, y - 0.75 * size, left + wide, y + 0.2 * size)
+
+
+def check_picture(trial, name, drawn):
+    """No text of a picture lies over another or outside of it."""
+    width, height = (float(it) for it in re.search(r'width="(\d+)" height="(\d+)"', drawn).groups())
+    boxes = list(texts_of(drawn))
+    out = [words for words, box in boxes if box[0] < 0 or box[1] < 0 or box[2] > width or box[3] > height]
+    over = [(one, other) for (one, a), (other, b) in itertools.combinations(boxes, 2) if a[0] < b[2] and b[0] < a[2] and a[1] < b[3] and b[1] < a[3]]
+    trial.check(f"{name}: no text outside of the picture or over another", len(boxes) > 5 and not out and not over, f"   {out} {over}")
+
+
+def check_drawings(trial):
+    """Pictures of a plan with many tasks and of one with few; the bits of the bundles are the cost. What is no plan or no device is told in a line."""
+    source, device = trial.put("grid.cpp", grid_source(9, 1)), trial.put("nine.json", grid_of({"slots": [[2400, 90000]] * 9}, rows=3))
+    said = trial.run(["plan", source, "T", device])
+    path = trial.put("p.plan", said.out)
+    _, drawn, err = run_tool("draw/floorplan.py", path, device, source, "T")
+    check_picture(trial, "a plan of 117 tasks", drawn)
+    bits = sum(int(it) for it in re.findall(r">(\d+) bits<", drawn))
+    trial.check("the bundles have the bits of the cost", bits == cost_of(said) and drawn.count("<title>") == 117, f"   {bits} {said.out[-60:]} {err}")
+    trial.check("floorplan.py is draw/floorplan.py", run_tool("floorplan.py", path, device, source, "T")[1] == drawn)
+    few = trial.run(["plan", "examples/systolic.cpp", "Product", "examples/devices/u250.json", "--plan", "fit"], ROOT)
+    _, drawn, _ = run_tool("draw/floorplan.py", trial.put("few.plan", few.out), "examples/devices/u250.json")
+    check_picture(trial, "a plan on eight slots", drawn)
+    for words in ([source, device], [path, source], [path, "examples/devices/u250.json"], ["missing.plan", device], [path, device, source, "U"]):
+        status, out, err = run_tool("draw/floorplan.py", *words)
+        trial.check(f"draw/floorplan.py {' '.join(map(os.path.basename, words))}", (status, out, err.count("\n")) == (1, "", 1), f"   {status} {err}")
+
+
+def try_all(trial):
+    check_drawings(trial)
+    check_hostile(trial, "place.py")
+    for names in EXAMPLES:
+        check_example(trial, *names)
+    for seed in range(DEVICES):
+        check_random(trial, seed)
+    check_orders(trial)

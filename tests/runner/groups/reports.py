@@ -1,0 +1,69 @@
+"""Reports for people: what tools/report.py makes of a run."""
+import json
+import os
+import subprocess
+import sys
+
+from runner.trial import ROOT
+
+# Two detached tasks in a row, and a stream of a hundred tokens.
+DETACHED = """void Ask(tapa::ostream<int>& q, tapa::istream<int>& r) { for (int i = 0; i < 100; ++i) { q << -i; int x = r.read(); } }
+void Pass(tapa::istream<int>& a, tapa::ostream<int>& b) { for (;;) b << a.read(); }
+void T() { tapa::stream<int> q, between, r; tapa::task().invoke(Ask, q, r).invoke<tapa::detach>(Pass, q, between).invoke<tapa::detach>(Pass, between, r); }
+"""
+VECTORS = ("examples/vector_add.cpp", "VecAdd", "examples/vector_add.json")
+
+
+def run_tool(trial, *words, given=""):
+    environment = {**os.environ, "TAPA": trial.program}
+    ran = subprocess.run([sys.executable, "tools/report.py", *words], cwd=ROOT, input=given, capture_output=True, text=True, check=False, env=environment)
+    return ran.returncode, ran.stdout, ran.stderr
+
+
+def try_lines(trial):
+    """Signs, notes, long streams, ticks by task, and a report that is read."""
+    status, out, err = run_tool(trial, *VECTORS)
+    trial.check("signed numbers and ticks by task", status == 0 and "stream b_q: 10 20 30 40 -50\n" in out and out.endswith("Add$2 28, Stream2Mmap$3 23; the circuit takes 33 cycles\n"), out + err)
+    source = trial.put("d.cpp", DETACHED)
+    shown = dict(line.split(":", 1) for line in run_tool(trial, source, "T")[1].splitlines() if ":" in line)
+    trial.check_equal("a long stream", shown["stream q [100]"], " 0 -1 -2 -3 -4 -5 -6 -7 -8 -9 -10 -11 .. 76 more .. -88 -89 -90 -91 -92 -93 -94 -95 -96 -97 -98 -99")
+    trial.check_equal("a stream between detached tasks", shown["stream between"], " (not shown: its reader is detached)")
+    whole = run_tool(trial, source, "T", "--long", "--no-circuit")[1].splitlines()
+    trial.check_equal("a long stream, whole", len(whole[0].split()), 102)
+    ran = trial.run(["run", *VECTORS], ROOT).out.decode()
+    trial.check_equal("a report that is read", run_tool(trial, *VECTORS[:2], "--from", "-", given=ran), (0, ran.replace("4294967246", "-50").replace("4294967251", "-45"), ""))
+    stopped = run_tool(trial, "examples/too_shallow.cpp", "TooShallow")
+    trial.check("a run that stops", stopped[0] == 8 and stopped[2] == "tapa: Producer$0 waits to write data\ntapa: Consumer$1 waits to read ready\n" and "stopped 1" in stopped[1], f"   {stopped}")
+
+
+def try_past_end(trial):
+    """Each load and store past a memory's end that a circuit's dump shows, with its line."""
+    words = ("tests/cases/circuits/features.cpp", "Top", "tests/cases/circuits/features.json")
+    told = [line for line in run_tool(trial, *words)[1].splitlines() if line.startswith("past the end: ")]
+    wanted = ["past the end: Keep$1 loads 0 from table[7] and 5 more, line 29", "past the end: Keep$1 stores nothing to half[6] and 2 more, line 28", "past the end: Keep$1 loads 0 from half[6] and 2 more, line 29"]
+    trial.check_equal("accesses past a memory's end", told, wanted)
+
+
+def try_json(trial):
+    """The report as JSON, and what is expected beside it."""
+    found = json.loads(run_tool(trial, *VECTORS, "--json")[1])
+    trial.check_equal("a report as JSON", (found["streams"]["b_q"], found["memories"]["c"], found["end"], found["ticks"]["Add$2"]), ([10, 20, 30, 40, -50], [11, 22, 33, 44, -45], "done", 28))
+    cases = [
+        ({"memories": {"c": [11, 22, 33, 44, -45]}, "end": "done"}, 0, ""),
+        ({"memories": {"c": [11, 22, 3, 44, -45]}}, 1, "c: cell 2 is 33, and 3 is expected"),
+        ({"streams": {"a_q": [1, 2]}}, 1, "a_q: 5 tokens, and 2 are expected"),
+        ({"streams": {"z": []}}, 1, "there is no stream z"),
+        ({"end": "stopped"}, 1, "the end is done, and stopped is expected"),
+    ]
+    for wanted, status, told in cases:
+        ran = run_tool(trial, *VECTORS, "--no-circuit", "--expect", trial.put("e.json", json.dumps(wanted)))
+        trial.check_equal(f"what is expected: {wanted}", (ran[0], ran[2]), (status, f"tools/report.py: {told}\n" if told else ""))
+    for words, status in ((["--help"], 0), ([], 2), (["a.cpp", "T", "--shrt"], 2), (["none.cpp", "T"], 1), ([*VECTORS, "--expect", trial.put("e.json", "[]")], 1)):
+        ran = run_tool(trial, *words)
+        trial.check(f"report.py {' '.join(words)}", ran[0] == status and "Traceback" not in ran[2], f"   {ran}")
+
+
+def try_all(trial):
+    try_lines(trial)
+    try_past_end(trial)
+    try_json(trial)

@@ -1,0 +1,73 @@
+"""Every script of tools/: it is executable, answers `--help`, and ends in no traceback whatever its words and files are."""
+import glob
+import os
+import random
+import subprocess
+
+from runner.trial import ROOT, read
+
+# Those that build, install or prove something whatever they are given, or run many circuits; only their `--help` is tried.
+LONG = ("unproved.py", "in_parts.py", "check_memories.py", "check_verilog.sh", "install", "release.sh")
+PIECES = ["void T(", "tapa::istream<int>& q", ") {", "}", "{", '{"rows": 1,', '"slots": [', "]", "stream q: 1 2", "slot 0 0: 1 2", "$var wire 1 ! x $end", "#0", "1!", "$enddefinitions $end", "module t_T (", "endmodule",
+          "\xff", "\x00", "tapa: A$0 waits to read q", "tapa: x.cpp:1:1: P1 x", "done 3", "1e999", "-5", "[[", "#define N", "struct", "/*", "\"", "\n", "\n", "\n", " ", " "]
+WORDS = ["T", "--write", "--nets", "--fill", "-1", "3", "--json", "--top", "--", "", "x", "--plan", "--places"]
+
+
+def scripts():
+    return sorted(glob.glob(os.path.join(ROOT, "tools", "*.py")) + glob.glob(os.path.join(ROOT, "tools", "*.sh")) + glob.glob(os.path.join(ROOT, "tools", "install")))
+
+
+def run(trial, path, words, folder):
+    """The status of a script and its standard error; a script that goes on for long is cut off."""
+    environment = {**os.environ, "TAPA": trial.program}
+    try:
+        ran = subprocess.run([path, *words], cwd=folder, stdin=subprocess.DEVNULL, capture_output=True, timeout=60, env=environment, check=False)
+    except subprocess.TimeoutExpired:
+        return None, "it had not ended", b""
+    return ran.returncode, ran.stderr.decode("utf-8", "replace"), ran.stdout
+
+
+def try_help(trial, path):
+    name = os.path.relpath(path, ROOT)
+    trial.check(f"{name} is executable", os.access(path, os.X_OK))
+    if path.endswith(".py"):
+        trial.check(f"{name} begins with python3", read(name).startswith("#!/usr/bin/env python3\n"))
+    status, err, out = run(trial, path, ["--help"], ROOT)
+    trial.check(f"{name} answers --help", status == 0 and len(out) > 60 and not err, f"   {status} {err}")
+    closed = subprocess.run(["sh", "-c", f"exec {path} --help | true"], cwd=ROOT, stdin=subprocess.DEVNULL, capture_output=True, check=False)
+    trial.check(f"{name} --help ends where nobody reads it", b"Traceback" not in closed.stderr, f"   {closed.stderr[-300:]}")
+
+
+def random_file(some, folder, number):
+    """A file with pieces of what the tools read."""
+    path = os.path.join(folder, f"{number}.{some.choice(['cpp', 'json', 'v', 'vcd', 'txt'])}")
+    with open(path, "wb") as file:
+        file.write("".join(some.choice(PIECES) for _ in range(some.randrange(40))).encode("latin-1"))
+    return path
+
+
+def try_words(trial, path, words, folder):
+    """A call with any words: a status from 0 to 9, or 125, and no traceback."""
+    status, err, *_ = run(trial, path, words, folder)
+    is_right = status is not None and (0 <= status <= 9 or status == 125) and "Traceback" not in err
+    trial.check(f"{os.path.relpath(path, ROOT)} {' '.join(words)} has a plain answer", is_right, f"   {status} {err[-600:]}")
+
+
+def try_flood(trial, seed, count):
+    """So many calls of each script with files and words made at random."""
+    some = random.Random(f"scripts {seed}")
+    folder = os.path.join(trial.folder.name, "scripts")
+    os.makedirs(folder, exist_ok=True)
+    for path in scripts():
+        if os.path.basename(path) in LONG:
+            continue
+        for number in range(count):
+            files = [random_file(some, folder, number), f"{folder}/none.cpp", folder, os.path.join(ROOT, "examples/lanes.cpp")]
+            words = [some.choice(files[:1] * 4 + files[1:]) if some.random() < 0.7 else some.choice(WORDS) for _ in range(some.randrange(4))]
+            try_words(trial, path, words, folder)
+
+
+def try_all(trial):
+    for path in scripts():
+        try_help(trial, path)
+    try_flood(trial, 1, 2)

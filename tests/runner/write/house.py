@@ -1,0 +1,31 @@
+"""What of the crates is not as CONTRIBUTING.md wants it: large functions and files, many arguments, bodies that stand twice, comments that lean on another, crates without code.
+
+The runner refuses what is not in tests/runner/exceptions.txt, and what there holds no more.
+"""
+import os
+import sys
+
+from runner.groups import house
+from runner.trial import ROOT, read
+
+
+def main(words):
+    """Prints what is found, and how many of each kind; with --shrink, takes away from the list of exceptions what holds no more."""
+    if words not in ([], ["--shrink"]):
+        return 2
+    are = house.found()
+    if words:
+        gone = house.without(house.listed(), are)
+        kept = []
+        for line in read(house.EXCEPTIONS).splitlines():
+            if line in gone:
+                gone.remove(line)
+            else:
+                kept.append(line)
+        with open(os.path.join(ROOT, house.EXCEPTIONS), "w", encoding="utf-8") as file:
+            file.write("\n".join(kept) + "\n")
+        return 0
+    print("\n".join(are))
+    kinds = [line.split()[0] for line in are]
+    print(", ".join(f"{kinds.count(kind)} {kind}" for kind in sorted(set(kinds))), file=sys.stderr)
+    return 0

@@ -1,0 +1,125 @@
+#!/usr/bin/env python3
+"""Runs networks by 1 to 64 workers again and again on a loaded machine: each has one answer, however its workers take turns, and none hangs.
+
+    tests/stress/threads.py PROGRAM [--runs N] [--seed S]     1,000 runs and seed 1, where nothing else is said
+
+The networks are twenty random ones of tests/runner/groups/workers.py that end in all ways, and some with much to do. Beside them two processes for each processor do
+nothing but use it, and four runs are made at once. Some of them have all of their threads put on one processor while they run, once the program has looked how many processors
+there are. A run that has not ended after 60 seconds is a hang. The last line is
+`N runs, M findings`.
+"""
+import json
+import os
+import random
+import subprocess
+import sys
+import tempfile
+import threading
+import time
+
+sys.path.insert(0, os.path.dirname(os.path.dirname(os.path.abspath(__file__))))
+from runner.groups.workers import Network  # noqa: E402
+from runner.made.programs import apart, hub  # noqa: E402
+
+NETWORKS, SECONDS, AT_ONCE = 20, 60, 4
+
+
+def networks(seed):
+    """Sources with their data and a limit: random ones, and some with much to do."""
+    found = [Network(f"{seed} {at}") for at in range(NETWORKS - 3)]
+    given = [(it.source, "T", it.data, it.limit) for it in found]
+    return given + [(apart(64, 3000), "Top", {}, "1000000"), (hub(12, 200), "Top", {}, "1000000"), (apart(3, 60_000), "Top", {}, "1000000")]
+
+
+def confine(process):
+    """Puts the threads of a process on one processor, those that it starts meanwhile too, until it ends."""
+    while process.poll() is None:
+        try:
+            for thread in os.listdir(f"/proc/{process.pid}/task"):
+                os.sched_setaffinity(int(thread), {0})
+        except OSError:
+            pass
+        time.sleep(0.001)
+
+
+class Runs:
+    """The runs of all networks, and what was found."""
+
+    def __init__(self, program, folder, seed):
+        self.program, self.folder, self.some = os.path.abspath(program), folder, random.Random(f"threads {seed}")
+        self.lock, self.findings, self.statuses = threading.Lock(), [], {}
+        self.words, self.wanted = [], []
+        for at, (source, top, data, limit) in enumerate(networks(seed)):
+            for name, text in ((f"{at}.cpp", source), (f"{at}.json", json.dumps(data))):
+                with open(os.path.join(folder, name), "w", encoding="utf-8") as file:
+                    file.write(text)
+            self.words.append(["run", f"{at}.cpp", top, f"{at}.json", "--steps", limit])
+            self.wanted.append(self.answer(self.words[at]))
+
+    def answer(self, words, is_confined=False):
+        """The status and both outputs; none where it has not ended."""
+        with subprocess.Popen([self.program, *words], cwd=self.folder, stdout=subprocess.PIPE, stderr=subprocess.PIPE) as process:
+            if is_confined:
+                threading.Thread(target=confine, args=(process,), daemon=True).start()
+            try:
+                out, err = process.communicate(timeout=SECONDS)
+            except subprocess.TimeoutExpired:
+                process.kill()
+                return None
+        return process.returncode, out, err
+
+    def work(self, chosen):
+        for at, workers, alone in chosen:
+            said = self.answer([*self.words[at], "--workers", str(workers)], alone)
+            with self.lock:
+                status = said[0] if said else "hang"
+                self.statuses[status] = self.statuses.get(status, 0) + 1
+                if said != self.wanted[at]:
+                    self.findings.append(f"network {at} by {workers} workers{' on one processor' if alone else ''}: {str(said)[:300]}\n  one worker: {str(self.wanted[at])[:300]}")
+                    print(f"FOUND {self.findings[-1]}", flush=True)
+
+    def run(self, count):
+        chosen = [(at % NETWORKS, self.some.choice([1, 2, 3, 4, 5, 8, 16, 33, 63, 64]), self.some.random() < 0.1) for at in range(count)]
+        crew = [threading.Thread(target=self.work, args=(chosen[at::AT_ONCE],)) for at in range(AT_ONCE)]
+        for one in crew:
+            one.start()
+        for one in crew:
+            one.join()
+
+
+def load():
+    """Processes that do nothing but use the processors."""
+    return [subprocess.Popen([sys.executable, "-c", "while True: pass"]) for _ in range(2 * len(os.sched_getaffinity(0)))]
+
+
+def arguments(given):
+    """The program, the number of runs and the seed of a line; none where it is no line of this script."""
+    options = {"--runs": 1000, "--seed": 1}
+    rest = list(given)
+    while len(rest) > 2 and rest[-2] in options and rest[-1].isdigit():
+        options[rest[-2]] = int(rest[-1])
+        rest = rest[:-2]
+    return (rest[0], *options.values()) if len(rest) == 1 and os.access(rest[0], os.X_OK) else None
+
+
+def main(given):
+    words = arguments(given)
+    if not words:
+        print(__doc__.strip(), file=sys.stderr)
+        return 2
+    program, count, seed = words
+    with tempfile.TemporaryDirectory(prefix="tapa-threads-") as folder:
+        runs, busy = Runs(program, folder, seed), load()
+        try:
+            runs.run(count)
+        finally:
+            for one in busy:
+                one.kill()
+                one.wait()
+    print("by status: " + ", ".join(f"{status}: {number}" for status, number in sorted(runs.statuses.items(), key=str)))
+    print(f"{count} runs, {len(runs.findings)} findings")
+    return 1 if runs.findings else 0
+
+
+if __name__ == "__main__":
+    sys.exit(main(sys.argv[1:]))
