@@ -20,8 +20,8 @@ import tempfile
 import time
 
 sys.path.insert(0, os.path.dirname(os.path.dirname(os.path.abspath(__file__))))
-from runner.groups import arrays  # noqa: E402
-from runner.made import mutants  # noqa: E402
+from runner.groups import arrays, changes  # noqa: E402
+from runner.made import leaves, mutants  # noqa: E402
 from runner.made.programs import device, network  # noqa: E402
 from runner.made.hostile import Caller, Judge  # noqa: E402
 from runner.trial import ROOT, read  # noqa: E402
@@ -83,11 +83,31 @@ def random_network(some):
     return Good(network(count, streams).encode(), "T", b"{}", given.encode())
 
 
+# A value of a device file that is at a bound of its range, or one past it.
+AT_BOUNDS = {"rows": [0, 1, 16, 17], "cols": [0, 1, 16, 17], "percent": [0, 1, 100, 101], "version": [0, 1, 2, 3], "levels": [0, 1, 16, 17], "LUT": [0, 2**32 - 1, 2**32], "FF": [0, 2**32 - 1, 2**32]}
+
+
+def at_bounds(some, device):
+    """A device file with one number at a bound, and lists that are one too short or too long for it."""
+    try:
+        tree = json.loads(device)
+    except ValueError:
+        return device
+    spots = [(it, key) for it in [tree, *tree.get("slots", []), *tree.get("tasks", {}).values()] if isinstance(it, dict) for key in AT_BOUNDS if key in it or it is tree]
+    it, key = some.choice(spots)
+    it[key] = some.choice(AT_BOUNDS[key])
+    for name in ("slots", "levels_rows", "levels_cols", "forbidden"):
+        if isinstance(tree.get(name), list) and tree[name] and some.random() < 0.2:
+            tree[name] = some.choice([tree[name][:-1], tree[name] + tree[name][-1:]])
+    return json.dumps(tree).encode()
+
+
 class Flood:
     """All inputs of a seed, one by one."""
 
     def __init__(self, caller, seed):
         self.some, self.caller = random.Random(seed), caller
+        self.stock = changes.Stock()
         self.goods = list(examples())
         for good in self.goods:
             caller.put("r.cpp", good.source)
@@ -105,9 +125,25 @@ class Flood:
         own, other = getattr(good, field), getattr(self.some.choice(self.goods), field)
         if self.some.random() < 0.02:
             return mutants.noise(self.some)
+        if field == "source" and self.some.random() < 0.3:
+            return self.by_grammar(good)
+        if field == "device" and self.some.random() < 0.3:
+            return at_bounds(self.some, own)
         if field in ("data", "device") and self.some.random() < 0.5:
             return mutants.tree(self.some, own, other)
         return mutants.changed(self.some, own, other)
+
+    def by_grammar(self, good):
+        """A source made by the grammar, of which words may be changed for words of their kind; a random leaf with every construct; or parts of two designs."""
+        way = self.some.randrange(3)
+        if way == 0:
+            return self.stock.source(self.some.randrange(10**9))
+        if way == 1:
+            leaf = leaves.source(self.some.randrange(10**9)).encode()
+            return leaf if self.some.random() < 0.3 else mutants.changed(self.some, leaf, good.source)
+        ours, theirs = (changes.items(changes.words_of(it.source)) for it in (good, self.some.choice(self.goods)))
+        mixed = [self.some.choice((mine, other)) for mine, other in zip(ours, theirs)] + ours[len(theirs):]
+        return b"".join(changes.text_of(part) for part in mixed)
 
     def files(self, good, fields):
         """Files by name, of which one is changed, sometimes two."""
