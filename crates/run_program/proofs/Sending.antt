@@ -21,7 +21,7 @@ use Rattle.flat_code.specs.contracts.code.Transfer as Transfer
 use Rattle.flat_code.specs.contracts.code.Place as Place
 use Rattle.coro_machine.specs.contracts.coro.Coro as Coro
 use Rattle.coro_machine.specs.contracts.machine.Machine as Machine
-use Rattle.coro_machine.proofs.run.Run.TheSendSync as run
+use Rattle.coro_machine.proofs.run.MachineRun.TheSendSync as run
 
 expr_send : IsSend Expr.the_field.row
 expr_send = search (knot.crosses, sendable, crosses) depth 60

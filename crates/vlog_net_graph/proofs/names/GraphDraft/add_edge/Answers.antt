@@ -3,7 +3,7 @@ use Rattle.tapa_base.specs.Lists.{Has}
 use Rattle.vlog_scope.specs.NameTable.{value_in}
 use Rattle.vlog_net_graph.specs.Names.{IsNumbered}
 use Rattle.vlog_net_graph.proofs.Numbered.{numbered_edge}
-use Rattle.vlog_net_graph.proofs.names.Draft.add_edge.Goals as goal
+use Rattle.vlog_net_graph.proofs.names.GraphDraft.add_edge.Goals as goal
 
 pub returns-clause-graph : goal.returns-clause-graph
 returns-clause-graph c = λ edges g.

@@ -5,7 +5,7 @@ use Rattle.vlog_tree.specs.Table.{Name}
 use Rattle.vlog_scope.specs.NameTable.{value_in}
 use Rattle.vlog_net_graph.specs.Names.{IsNumbered, AreListed, texts}
 use Rattle.vlog_net_graph.proofs.Numbered.{numbered_more, listed_more}
-use Rattle.vlog_net_graph.proofs.names.Draft.add_name.Goals as goal
+use Rattle.vlog_net_graph.proofs.names.GraphDraft.add_name.Goals as goal
 
 pub returns-clause-graph : goal.returns-clause-graph
 returns-clause-graph c = λ edges g.

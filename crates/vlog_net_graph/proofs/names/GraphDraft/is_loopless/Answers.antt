@@ -8,7 +8,7 @@ use Rattle.number_graph.specs.Orders.{IsAnswer}
 use Rattle.number_graph.proofs.Visits.{no_cycle}
 use Rattle.vlog_net_graph.specs.Names.{IsNumbered}
 use Rattle.vlog_net_graph.proofs.Numbered.{some_loop, returned}
-use Rattle.vlog_net_graph.proofs.names.Draft.is_loopless.Goals as goal
+use Rattle.vlog_net_graph.proofs.names.GraphDraft.is_loopless.Goals as goal
 
 pub returns-in-PartsFirst : goal.returns-in-PartsFirst
 returns-in-PartsFirst c = λ edges draft.
