@@ -111,7 +111,8 @@ pub record AreComplete (levels : ℕ) (R : Readers) : Type 0 where
 
 -- the readers of the level below do what they are to, if there is one more level
 abbrev pub MayDo : (ℕ → Readers → Type 0) → ℕ → Option Readers → Type 0
-MayDo Does zero inner = Unit {0}
+MayDo Does zero None = Unit {0}
+MayDo Does zero (Some R) = ⊥
 MayDo Does (suc levels) None = ⊥
 MayDo Does (suc levels) (Some R) = Does levels R
 
@@ -143,7 +144,7 @@ count_is n m i e = rw e refl
 
 -- ---- each tree has a symbol
 
-is_longer : {P : Symbol → Type 0} (i r : Symbols) → Is P i r → length r < length i
+pub is_longer : {P : Symbol → Type 0} (i r : Symbols) → Is P i r → length r < length i
 is_longer i r (x, h, is) = omega (arith, ap length is)
 
 mutual
@@ -179,7 +180,7 @@ mutual
 
 -- ---- levels
 
-chain_stops : (operand : Counting ExpressionTree) (l turns : ℕ) (e : ExpressionTree) (n : ℕ) (r : Symbols) → operator_of l r ≡ None → chain operand l turns e n r ≡ Ok ((e, n), r)
+pub chain_stops : (operand : Counting ExpressionTree) (l turns : ℕ) (e : ExpressionTree) (n : ℕ) (r : Symbols) → operator_of l r ≡ None → chain operand l turns e n r ≡ Ok ((e, n), r)
 unfolding chain
 chain_stops operand l zero e n r stop = refl
 chain_stops operand l (suc turns) e n r stop = rw stop refl

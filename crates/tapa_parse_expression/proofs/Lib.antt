@@ -6,6 +6,7 @@ pub mod SoundTypes
 pub mod SoundExpressions
 pub mod CompleteTypes
 pub mod CompleteLevels
+pub mod ToldLevels
 pub mod Begins
 pub mod CompleteExpressions
 pub mod Lists
