@@ -21,11 +21,11 @@ use Rattle.tapa_parse_expression.proofs.Begins.{begins_type, one_begins, name_be
 
 -- ---- what a method is called with
 
-abbrev list_of : Expressions → List ExpressionTree
+abbrev pub list_of : Expressions → List ExpressionTree
 list_of no_expression = []
 list_of (one_expression e es) = e ∷ list_of es
 
-of_list : (es : Expressions) → expressions (list_of es) ≡ es
+pub of_list : (es : Expressions) → expressions (list_of es) ≡ es
 of_list no_expression = refl
 of_list (one_expression e es) = ap (one_expression e) (of_list es)
 
@@ -67,7 +67,7 @@ argument_begins e i r h =
     begins_null terminal.Nullptr = true
     begins_null _ = false
 
-more_ends : (es : Expressions) (i r s : Symbols) → AreMoreArguments es i r → Takes terminal.RightParen r s → Ends expression_level (next i)
+pub more_ends : (es : Expressions) (i r s : Symbols) → AreMoreArguments es i r → Takes terminal.RightParen r s → Ends expression_level (next i)
 more_ends no_expression i r s is close = rw is (ends_at expression_level terminal.RightParen r s close refl)
 more_ends (one_expression e es) i r s (j, comma, rest) close = ends_at expression_level terminal.Comma i j comma refl
 
@@ -99,21 +99,21 @@ any_arguments_complete levels R h (one_expression e es) n i left r s (k, first, 
 
 -- ---- an expression
 
-name_no_prefix : (m : Terminal) → is_name m ≡ true → prefix_operator_of m ≡ None
+pub name_no_prefix : (m : Terminal) → is_name m ≡ true → prefix_operator_of m ≡ None
 name_no_prefix terminal.Minus e = absurd cc
 name_no_prefix terminal.Plus e = absurd cc
 name_no_prefix terminal.Tilde e = absurd cc
 name_no_prefix terminal.Exclamation e = absurd cc
 name_no_prefix _ e = refl
 
-type_no_prefix : (m : Terminal) → begins_type m ≡ true → prefix_operator_of m ≡ None
+pub type_no_prefix : (m : Terminal) → begins_type m ≡ true → prefix_operator_of m ≡ None
 type_no_prefix terminal.Minus e = absurd cc
 type_no_prefix terminal.Plus e = absurd cc
 type_no_prefix terminal.Tilde e = absurd cc
 type_no_prefix terminal.Exclamation e = absurd cc
 type_no_prefix _ e = refl
 
-type_no_name : (m : Terminal) → begins_type m ≡ true → is_name m ≡ false
+pub type_no_name : (m : Terminal) → begins_type m ≡ true → is_name m ≡ false
 type_no_name terminal.Name e = absurd cc
 type_no_name terminal.Istream e = absurd cc
 type_no_name terminal.Ostream e = absurd cc
@@ -123,10 +123,10 @@ type_no_name terminal.Task e = absurd cc
 type_no_name terminal.Invoke e = absurd cc
 type_no_name _ e = refl
 
-name_no_paren : (m : Terminal) → is_name m ≡ true → same m terminal.LeftParen ≡ false
+pub name_no_paren : (m : Terminal) → is_name m ≡ true → same m terminal.LeftParen ≡ false
 name_no_paren m e = differ_by is_name m terminal.LeftParen (λ f. cc)
 
-type_no_paren : (m : Terminal) → begins_type m ≡ true → same m terminal.LeftParen ≡ false
+pub type_no_paren : (m : Terminal) → begins_type m ≡ true → same m terminal.LeftParen ≡ false
 type_no_paren m e = differ_by begins_type m terminal.LeftParen (λ f. cc)
 
 abbrev count_tree : Place → CountForm → CountTree

@@ -9,4 +9,5 @@ pub mod CompleteLevels
 pub mod ToldLevels
 pub mod Begins
 pub mod CompleteExpressions
+pub mod ToldExpressions
 pub mod Lists
