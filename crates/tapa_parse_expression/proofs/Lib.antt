@@ -11,3 +11,5 @@ pub mod Begins
 pub mod CompleteExpressions
 pub mod ToldExpressions
 pub mod Lists
+pub mod ToldLists
+pub mod Passing
