@@ -12,19 +12,17 @@ use Rattle.tapa_base.specs.Spans.{◌⨾◌, When, EachOfSome, Separated, Separa
 use Rattle.tapa_syntax.specs.Trees.{ExpressionTree, PlaceTree, variable_place, element_place, ActionTree, call_action, write, read, assign, postfix, prefix_step, CountForm, literal_count, name_count, parenthesized_count, CountTree, DeclaratorTree, plain, initialized, array, DeclarationTree, StatementTree}
 use Rattle.tapa_syntax.specs.Grammar.{Part, Takes, MeansAt, IsName, IsType, IsExpression, is_name, step_operator_of, assignment_operator_of, sum_level, expression_level, argument_level, IsPlace, IsAction, IsCountForm, IsCount, IsDeclarator, IsDeclaration, IsStatement, IsClosed}
 use Rattle.tapa_syntax.specs.Limits.{operators}
-use Rattle.tapa_parse_expression.specs.Readers.{Outcome, and_then, pure, ◌>>◌, skip, next, same, sees, past, name}
+use Rattle.tapa_parse_expression.specs.Readers.{and_then, pure, ◌>>◌, skip, next, same, sees, past, name}
 use Rattle.tapa_parse_expression.specs.Reading.{Readers, argument, level, unary_with, expression_with, whole, place_from, place_with, call_arguments, assigned, acted_by, acted, stepped, action_with, form_by, counted, declarator_by, declarator, declaration_with}
 use Rattle.tapa_parse_expression.specs.Reading as spec
 use Rattle.tapa_parse_expression.specs.Passing.{one_more, or_later, over_listed, over_behind}
 use Rattle.tapa_parse.specs.Passing.{over_whole, over_place, over_action, over_form, over_count, over_declarator, over_declaration, over_inside}
-use Rattle.tapa_parse_expression.proofs.Parts.{Symbols, done, then_is, if_true, if_false, differ_by, next_is, seen_is, dropped, expect_is, past_is, past_none, name_is, plain_is, literal_is, Told, told_ok, told_by, told_true, told_behind, told_then, told_after}
-use Rattle.tapa_parse_expression.proofs.ToldLists.{TellsAll, TellsEach, repeat_some_told, separated_told, separated_until_told}
+use Rattle.tapa_parse_expression.proofs.Parts.{Symbols, done, then_is, if_true, if_false, differ_by, next_is, seen_is, dropped, expect_is, past_is, past_none, name_is, plain_is, literal_is, Told, told_ok, told_by, told_true, told_behind, told_then, told_after, told_only}
+use Rattle.tapa_parse_expression.proofs.CompleteLists.{TellsAll, TellsEach, repeat_some_told, separated_told, separated_until_told}
 use Rattle.tapa_parse_expression.proofs.CompleteTypes.{extends_type, type_complete, takes_longer, sees_other}
-use Rattle.tapa_parse_expression.proofs.CompleteLevels.{stops, stop_ends, ends_at, Ends, shift_ends_sum, ends_tighter, MayDo, expression_longer}
-use Rattle.tapa_parse_expression.proofs.ToldLevels.{Tells, AllTell, MayTell, told_entered, told_opened, level_told}
+use Rattle.tapa_parse_expression.proofs.CompleteLevels.{stops, stop_ends, ends_at, Ends, shift_ends_sum, ends_tighter, MayDo, expression_longer, Tells, AllTell, MayTell, told_entered, told_opened, level_told}
 use Rattle.tapa_parse_expression.proofs.Begins.{begins_type, one_begins, name_begins}
-use Rattle.tapa_parse_expression.proofs.CompleteExpressions.{argument_begins, stands}
-use Rattle.tapa_parse_expression.proofs.ToldExpressions.{argument_told, in_parentheses_told, in_brackets_told, unary_told, expression_told, whole_told}
+use Rattle.tapa_parse_expression.proofs.CompleteExpressions.{argument_begins, stands, argument_told, in_parentheses_told, in_brackets_told, unary_told, expression_told, whole_told}
 
 -- ---- what may stand behind
 
@@ -69,11 +67,6 @@ may_be limit zero None h = tt
 may_be limit zero (Some R) h = absurd h
 may_be limit (suc levels) None h = absurd h
 may_be limit (suc levels) (Some R) h = h.expressions
-
--- a part with its limits, and nothing with any behind it
-told_only : {A : Type 0} {y : A × Symbols} {o : Outcome A} (first : Option Symbols) → Told (or_later first None) y o → Told first y o
-told_only None h = h
-told_only (Some w) h = h
 
 -- ---- what an action begins with, and goes on with
 

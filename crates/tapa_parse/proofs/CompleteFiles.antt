@@ -19,7 +19,7 @@ use Rattle.tapa_parse.specs.Reading.{constant_word, body, task_behind, constant_
 use Rattle.tapa_parse.specs.Passing.{over_attribute, over_body, over_item}
 use Rattle.tapa_base.specs.Gaps.{Bytes}
 use Rattle.tapa_parse_expression.proofs.Parts.{Symbols, done, ok_is, then_is, if_true, if_false, next_is, seen_is, dropped, expect_is, name_is, told, Told, told_true, told_false, told_behind, told_then, told_after}
-use Rattle.tapa_parse_expression.proofs.ToldLists.{TellsAll, repeat_told}
+use Rattle.tapa_parse_expression.proofs.CompleteLists.{TellsAll, repeat_told}
 use Rattle.tapa_parse_expression.proofs.CompleteTypes.{type_complete, type_longer, takes_longer, sees_other}
 use Rattle.tapa_parse_expression.proofs.CompleteLevels.{stops, expression_longer}
 use Rattle.tapa_parse.proofs.CompleteActions.{LevelMayTell, name_behind, name_longer, whole_expression_told}

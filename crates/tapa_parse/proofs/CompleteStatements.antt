@@ -1,5 +1,5 @@
 -- What is spelled as attributes or as a statement is read, or refused at the first lexeme that passes a limit; an else belongs to the nearest if.
-use Rattle.std.proofs.Common.{◌≡◌, ℕ, zero, suc, inl, inr, Bool, true, false, List, [], ◌∷◌, Option, Some, None, Ok, refl, ap, subst, ◌∙◌, arith}
+use Rattle.std.proofs.Common.{◌≡◌, ℕ, zero, suc, inl, inr, Bool, true, false, List, [], ◌∷◌, Option, Some, None, Ok, refl, ap, ◌∙◌, arith}
 use Rattle.std.specs.Prelude.{◌||◌, not}
 use Rattle.tapa_base.specs.declared.text.Place.{Place}
 use Rattle.tapa_syntax.specs.declared.terminal.Terminal.{Terminal}
@@ -11,18 +11,17 @@ use Rattle.tapa_syntax.specs.declared.tree.AttributeArgument.TheVariants as argu
 use Rattle.tapa_base.specs.Spans.{◌⨾◌, Maybe, When, Each, EachOfSome, SeparatedOrNone}
 use Rattle.tapa_syntax.specs.Trees.{ExpressionTree, ActionTree, call_action, write, read, assign, postfix, prefix_step, PlaceTree, variable_place, element_place, DeclarationTree, AttributeTree, StartTree, no_start, declare_start, act_start, HeadTree, StatementTree, attributed, empty, block, declare, act, if_only, if_else, while, for, while_not_eot, break, continue, Statements, no_statement, statement_then, statements}
 use Rattle.tapa_syntax.specs.Grammar.{Takes, TakesAt, IsName, IsExpression, is_name, step_operator_of, expression_level, IsPlace, IsAction, IsDeclaration, IsAttributeArgument, AreAttributeArguments, IsAttribute, IsBare, IsStart, IsHead, IsStatement, AreStatements}
-use Rattle.tapa_parse_expression.specs.Readers.{Outcome, and_then, pure, next, same, sees, name}
+use Rattle.tapa_parse_expression.specs.Readers.{and_then, pure, next, same, sees, name}
 use Rattle.tapa_parse_expression.specs.Reading.{Readers, begins_action, begins_statement, attribute_argument_by, attribute_argument, listed_arguments, attribute_arguments, attribute, start, loop_test, step, jump, statement_with, statements_with, simple, braces, otherwise, choice, repetition, counting_loop, transaction_loop, bare_by, bare, inside_with, readers, below_levels}
 use Rattle.tapa_parse_expression.specs.Reading as spec
 use Rattle.tapa_parse_expression.specs.Passing.{one_more, or_later, Over, over_each, over_maybe}
 use Rattle.tapa_parse.specs.Passing.{over_whole, over_action, over_declaration, over_attribute_arguments, over_attribute, over_start, over_head, over_inside, over_statements}
-use Rattle.tapa_parse_expression.proofs.Parts.{Symbols, done, then_is, if_true, if_false, differ_by, is_seen, next_is, seen_is, dropped, expect_is, name_is, plain_is, literal_is, Told, told_ok, told_by, told_true, told_false, told_behind, told_then, told_after}
-use Rattle.tapa_parse_expression.proofs.ToldLists.{TellsAll, repeat_told, repeat_some_told, separated_until_is}
+use Rattle.tapa_parse_expression.proofs.Parts.{Symbols, done, then_is, if_true, if_false, differ_by, is_seen, next_is, seen_is, dropped, expect_is, name_is, plain_is, literal_is, Told, told_ok, told_by, told_true, told_false, told_behind, told_then, told_after, told_over}
+use Rattle.tapa_parse_expression.proofs.CompleteLists.{TellsAll, repeat_told, repeat_some_told, separated_until_is}
 use Rattle.tapa_parse_expression.proofs.CompleteTypes.{sees_other}
-use Rattle.tapa_parse_expression.proofs.CompleteLevels.{stops, stop_ends}
-use Rattle.tapa_parse_expression.proofs.ToldLevels.{told_entered, told_opened}
+use Rattle.tapa_parse_expression.proofs.CompleteLevels.{stops, stop_ends, told_entered, told_opened}
 use Rattle.tapa_parse_expression.proofs.Begins.{begins_type, name_begins, expression_begins, begins_otherwise}
-use Rattle.tapa_parse_expression.proofs.ToldExpressions.{whole_told, unary_told, expression_told}
+use Rattle.tapa_parse_expression.proofs.CompleteExpressions.{whole_told, unary_told, expression_told}
 use Rattle.tapa_parse.proofs.CompleteActions.{NoElse, LevelTells, LevelMayTell, may_be, type_begins, condition_told, place_told, action_told, declaration_told}
 use Rattle.tapa_parse.proofs.CompleteLengths.{attribute_argument_longer, attribute_longer, statement_longer}
 
@@ -232,9 +231,6 @@ step_told limit levels R h None i r is ends = told_ok (if_true _ (is_seen termin
 step_told limit levels R h (Some a) i r is ends =
     let begins = action_begins a i r is in
     told_false _ (differ_by begins_action (next i) terminal.RightParen (λ f. cc)) (told_after _ a r (h.action a i r is (ap stops ends)) refl)
-
-told_over : {A : Type 0} {v w : Option Symbols} {y : A × Symbols} {o : Outcome A} → v ≡ w → Told v y o → Told w y o
-told_over {A} {v} {w} {y} {o} e h = subst (λ v. Told v y o) e h
 
 -- what stands behind a level with nothing in it that passes a limit
 alone : (levels : ℕ) (i : Symbols) (w : Option Symbols) → one_more levels i (λ less. w) ≡ or_later (one_more levels i (λ less. None)) w

@@ -16,13 +16,11 @@ use Rattle.tapa_parse_expression.specs.Passing.{Over, over_each, over_some, over
 use Rattle.tapa_parse.specs.Reading.{stream_kind, port, scalar, parameter, parameters, stream_name, mode, invocation_argument, depth, stream, invocation, chained, invocations, streams}
 use Rattle.tapa_parse.specs.Passing.{over_count, over_stream, over_argument, over_invocation}
 use Rattle.tapa_parse_expression.proofs.Parts.{Symbols, done, then_is, if_true, if_false, next_is, seen_is, dropped, expect_is, name_is, plain_is, Told, told_ok, told_by, told_true, told_behind, told_then, told_after}
-use Rattle.tapa_parse_expression.proofs.ToldLists.{TellsAll, repeat_told, repeat_one_told, separated_is, separated_until_is}
+use Rattle.tapa_parse_expression.proofs.CompleteLists.{TellsAll, repeat_told, repeat_one_told, separated_is, separated_until_is}
 use Rattle.tapa_parse_expression.proofs.CompleteTypes.{extends_type, type_complete, type_longer, takes_longer, sees_other}
-use Rattle.tapa_parse_expression.proofs.CompleteLevels.{Ends, ends_at, expression_longer}
-use Rattle.tapa_parse_expression.proofs.ToldLevels.{told_opened}
+use Rattle.tapa_parse_expression.proofs.CompleteLevels.{Ends, ends_at, expression_longer, told_opened}
 use Rattle.tapa_parse_expression.proofs.Begins.{begins_type}
-use Rattle.tapa_parse_expression.proofs.CompleteExpressions.{stands}
-use Rattle.tapa_parse_expression.proofs.ToldExpressions.{whole_told}
+use Rattle.tapa_parse_expression.proofs.CompleteExpressions.{stands, whole_told}
 use Rattle.tapa_parse.proofs.CompleteActions.{LevelTells, LevelMayTell, counted_told, name_behind, type_other, const_is, name_longer, form_longer}
 use Rattle.tapa_parse.proofs.CompleteLengths.{each_longer, separated_longer, maybe_longer, when_longer, behind_longer}
 

@@ -164,6 +164,7 @@ abbrev pub told : {A : Type 0} → Option Symbols → A × Symbols → Outcome A
 told None y = Ok y
 told (Some w) y = Err (P2, w)
 
+-- a reader gives this, or refuses where a limit is passed
 pub record Told {A : Type 0} (w : Option Symbols) (y : A × Symbols) (o : Outcome A) : Type 0 where
   pub is : o ≡ told w y
 
@@ -173,13 +174,26 @@ told_ok e = record { is = e }
 pub told_by : {A : Type 0} {w : Option Symbols} {y : A × Symbols} {o p : Outcome A} → o ≡ p → Told w y p → Told w y o
 told_by e h = record { is = e ∙ h.is }
 
--- another value, and the same symbols
+-- the value and the symbols behind it, written otherwise
 pub told_as : {A : Type 0} {w : Option Symbols} {y z : A × Symbols} {o : Outcome A} → y ≡ z → Told w y o → Told w z o
 told_as {A} {w} {y} {z} {o} e h = subst (λ x. Told w x o) e h
 
--- another count of operators that are left
+-- the count of the operators that are left, written otherwise
 pub told_left : {A : Type 0} {w : Option Symbols} {a : A} {n m : ℕ} {r : Symbols} {o : Outcome (A × ℕ)} → n ≡ m → Told w ((a, n), r) o → Told w ((a, m), r) o
 told_left {A} {w} {a} {n} {m} {r} {o} e h = subst (λ k. Told w ((a, k), r) o) e h
+
+-- the place where a limit is passed, written otherwise
+pub told_over : {A : Type 0} {v w : Option Symbols} {y : A × Symbols} {o : Outcome A} → v ≡ w → Told v y o → Told w y o
+told_over {A} {v} {w} {y} {o} e h = subst (λ v. Told v y o) e h
+
+-- where no limit is passed
+pub told_given : {A : Type 0} {w : Option Symbols} {y : A × Symbols} {o : Outcome A} → w ≡ None → Told w y o → o ≡ Ok y
+told_given e h = (told_over e h).is
+
+-- a part with its limits, and nothing with any behind it
+pub told_only : {A : Type 0} {y : A × Symbols} {o : Outcome A} (first : Option Symbols) → Told (or_later first None) y o → Told first y o
+told_only None h = h
+told_only (Some w) h = h
 
 pub told_true : {A : Type 0} {w : Option Symbols} {y : A × Symbols} {test : Bool} {p : Outcome A} (q : Outcome A) → test ≡ true → Told w y p → Told w y (cond test p q)
 told_true q e h = record { is = if_true q e h.is }
@@ -199,7 +213,7 @@ told_then {A} {B} {first} {later} {y} {o} f a j e h = record { is = pick first e
     pick None e = then_is f a j e h.is
     pick (Some w) e = ap (λ o. and_then o f) e
 
--- a part with its limits, and behind it nothing that has any
+-- a part with its limits, and what is given behind it whatever the limits
 pub told_after : {A B : Type 0} {first : Option Symbols} {y : B × Symbols} {o : Outcome A} (f : A → Reader B) (a : A) (j : Symbols) → Told first (a, j) o → f a j ≡ Ok y → Told first y (and_then o f)
 told_after {A} {B} {first} {y} {o} f a j e h = record { is = pick first e.is }
   where

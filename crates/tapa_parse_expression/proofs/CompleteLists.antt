@@ -1,11 +1,11 @@
 -- Lists of parts: what is spelled so is read, or refused at the first lexeme that passes a limit.
-use Rattle.std.proofs.Common.{◌≡◌, ℕ, zero, suc, ◌<◌, ◌≤◌, Bool, true, false, List, [], ◌∷◌, ◌++◌, length, Option, None, Ok, refl, ap, subst, ◌∙◌, arith, append_assoc}
+use Rattle.std.proofs.Common.{◌≡◌, ℕ, zero, suc, ◌<◌, ◌≤◌, Bool, true, false, List, [], ◌∷◌, ◌++◌, length, Option, None, Ok, refl, ap, ◌∙◌, arith, append_assoc}
 use Rattle.tapa_syntax.specs.declared.terminal.Terminal.{Terminal}
 use Rattle.tapa_base.specs.Spans.{◌⨾◌, Each, EachOfSome, Separated, SeparatedOrNone}
 use Rattle.tapa_syntax.specs.Grammar.{Part, Takes}
-use Rattle.tapa_parse_expression.specs.Readers.{Outcome, Reader, skip, sees, repeat_from, repeat_behind, repeat, separated, separated_until, ◌>>◌}
+use Rattle.tapa_parse_expression.specs.Readers.{Reader, skip, sees, repeat_from, repeat_behind, repeat, separated, separated_until, ◌>>◌}
 use Rattle.tapa_parse_expression.specs.Passing.{Over, over_each, over_some, over_behind, over_separated, over_listed}
-use Rattle.tapa_parse_expression.proofs.Parts.{Symbols, done, if_true, if_false, seen_is, dropped, Told, told_ok, told_by, told_as, told_true, told_false, told_then}
+use Rattle.tapa_parse_expression.proofs.Parts.{Symbols, done, if_true, if_false, seen_is, dropped, Told, told_ok, told_by, told_as, told_true, told_false, told_then, told_given}
 use Rattle.tapa_parse_expression.proofs.Lists.{nothing_behind}
 use Rattle.tapa_parse_expression.proofs.CompleteTypes.{takes_longer}
 
@@ -89,15 +89,14 @@ module _ {A : Type 0} (between : Terminal) (P : A → Part) (over : Over P) (ite
 
 -- ---- parts without limits
 
-pub none_told : {A : Type 0} {w : Option Symbols} {y : A × Symbols} {o : Outcome A} → w ≡ None → Told w y o → o ≡ Ok y
-none_told {A} {w} {y} {o} e h = (subst (λ v. Told v y o) e h).is
-
-pub each_none : {A : Type 0} (P : A → Part) (over : Over P) → ((x : A) (i j : Symbols) (h : P x i j) → over x i j h ≡ None) → (xs : List A) (i r : Symbols) (k : Each P xs i r) → over_each P over xs i r k ≡ None
+-- where no part passes a limit, the list passes none
+each_none : {A : Type 0} (P : A → Part) (over : Over P) → ((x : A) (i j : Symbols) (h : P x i j) → over x i j h ≡ None) → (xs : List A) (i r : Symbols) (k : Each P xs i r) → over_each P over xs i r k ≡ None
 unfolding over_each
 each_none P over none [] i r k = refl
 each_none P over none (x ∷ xs) i r (j, first, rest) = let here = none x i j first in let more = each_none P over none xs j r rest in rw (here, more) refl
 
 module _ {A : Type 0} (between : Terminal) (P : A → Part) (item : Reader A) (follows : Symbols → Type 0) (reads : (x : A) (i r : Symbols) → P x i r → follows r → item i ≡ Ok (x, r)) (longer : (x : A) (i r : Symbols) → P x i r → length r < length i) (go : (i j : Symbols) → Takes between i j → follows i) where
+  -- no part passes a limit
   abbrev over_none : Over P
   over_none x i j h = None
 
@@ -115,7 +114,7 @@ module _ {A : Type 0} (between : Terminal) (P : A → Part) (item : Reader A) (f
   listed_none (x ∷ xs) i r k = separated_none (x ∷ xs) i r k
 
   pub separated_is : (xs : List A) (i r : Symbols) → Separated (Takes between) P xs i r → sees between r ≡ false → follows r → separated between item i ≡ Ok (xs, r)
-  separated_is xs i r k stop behind = none_told (separated_none xs i r k) (separated_told between P over_none item follows no_limits go xs i r k stop behind)
+  separated_is xs i r k stop behind = told_given (separated_none xs i r k) (separated_told between P over_none item follows no_limits go xs i r k stop behind)
 
   pub separated_until_is : (end : Terminal) → ((x : A) (i r : Symbols) → P x i r → sees end i ≡ false) → (xs : List A) (i r : Symbols) → SeparatedOrNone (Takes between) P xs i r → sees end r ≡ true → sees between r ≡ false → follows r → separated_until end between item i ≡ Ok (xs, r)
-  separated_until_is end other xs i r k ended stop behind = none_told (listed_none xs i r k) (separated_until_told between P over_none item follows no_limits go end other xs i r k ended stop behind)
+  separated_until_is end other xs i r k ended stop behind = told_given (listed_none xs i r k) (separated_until_told between P over_none item follows no_limits go end other xs i r k ended stop behind)
