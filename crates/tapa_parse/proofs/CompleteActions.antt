@@ -165,8 +165,10 @@ abbrev count_tree : Place → CountForm → CountTree
 count_tree at f = record { place = at; form = f }
 
 module _ (limit levels : ℕ) (inner : Option Readers) (h : LevelMayTell limit levels inner) where
-  pub whole_expression_told : (e : ExpressionTree) (i r : Symbols) (k : IsExpression expression_level e i r) → Stops r → Told (over_whole limit levels expression_level e i r k) (e, r) (spec.whole_expression limit inner i)
-  whole_expression_told e i r k stop = whole_told expression_level levels limit (expression_with inner) (expression_told levels inner (may_be limit levels inner h)) i e r k (stop_ends expression_level (next r) stop)
+  pub whole_expression_told : (e : ExpressionTree) (i r : Symbols) (k : IsExpression expression_level e i r) → Stops r
+      → Told (over_whole limit levels expression_level e i r k) (e, r) (spec.whole_expression limit inner i)
+  whole_expression_told e i r k stop =
+      whole_told expression_level levels limit (expression_with inner) (expression_told levels inner (may_be limit levels inner h)) i e r k (stop_ends expression_level (next r) stop)
 
   pub condition_told : (e : ExpressionTree) (i j k r : Symbols) → Takes terminal.LeftParen i j → (inside : IsExpression expression_level e j k) → Takes terminal.RightParen k r
       → Told (one_more levels i (λ less. over_whole limit less expression_level e j k inside)) (e, r) (spec.condition limit inner i)
@@ -204,39 +206,46 @@ module _ (limit levels : ℕ) (inner : Option Readers) (h : LevelMayTell limit l
   by_target terminal.ShiftRight x i e = absurd cc
   by_target _ x i e = refl
 
-  to_assigned : {w : Option Symbols} {y : ActionTree × Symbols} (p : PlaceTree) (i j : Symbols) (k : IsPlace p i j) → ends_target (next j) ≡ true → Told w y (assigned limit inner p j) → Told (or_later (over_place limit levels p i j k) w) y (action_with limit inner i)
+  to_assigned : {w : Option Symbols} {y : ActionTree × Symbols} (p : PlaceTree) (i j : Symbols) (k : IsPlace p i j) → ends_target (next j) ≡ true → Told w y (assigned limit inner p j)
+      → Told (or_later (over_place limit levels p i j k) w) y (action_with limit inner i)
   unfolding acted
   to_assigned (variable_place x) i j is ends t = told_by (to_acted x i j is ∙ by_target (next j) x j ends) (told_behind _ (variable_place x) j (no_index x j (target_no_index j ends)) t)
   to_assigned (element_place x e) i j (a, named, (b, begin, (c, inside, close))) ends t =
       told_by (to_acted x i a named) (rw (next_is terminal.LeftBracket a b begin) (told_then _ (element_place x e) j (indexed x e a b c j begin inside close) t))
 
-  values_read : (R : Readers) (less : ℕ) → AllTell less R → TellsEach (IsExpression argument_level) (over_whole limit less argument_level) (whole (argument R) limit) (λ r. Ends argument_level (next r))
+  values_read : (R : Readers) (less : ℕ) → AllTell less R
+      → TellsEach (IsExpression argument_level) (over_whole limit less argument_level) (whole (argument R) limit) (λ r. Ends argument_level (next r))
   values_read R less tells = record { reads = λ e i r k ends. whole_told argument_level less limit (argument R) at i e r k ends; longer = expression_longer argument_level }
     where
       at : Tells argument_level less (argument R)
       at = record { on = λ n i e r k ends. argument_told less R tells n i e r k (ends_tighter expression_level (next r) ends) }
 
-  call_arguments_told : (es : List ExpressionTree) (i j k r : Symbols) → Takes terminal.LeftParen i j → (all : SeparatedOrNone (Takes terminal.Comma) (IsExpression argument_level) es j k) → Takes terminal.RightParen k r
+  call_arguments_told : (es : List ExpressionTree) (i j k r : Symbols) → Takes terminal.LeftParen i j → (all : SeparatedOrNone (Takes terminal.Comma) (IsExpression argument_level) es j k)
+      → Takes terminal.RightParen k r
       → Told (one_more levels i (λ less. over_listed (Takes terminal.Comma) (IsExpression argument_level) (over_whole limit less argument_level) es j k all)) (es, r) (call_arguments limit inner i)
   unfolding call_arguments same
   call_arguments_told es i j k r begin all close =
       told_opened (LevelTells limit) _ levels inner terminal.LeftParen i j _ h begin
       (λ R less tells. told_after _ es k
-      (separated_until_told terminal.Comma (IsExpression argument_level) (over_whole limit less argument_level) (whole (argument R) limit) (λ r. Ends argument_level (next r)) (values_read R less tells.expressions)
+      (separated_until_told terminal.Comma (IsExpression argument_level) (over_whole limit less argument_level) (whole (argument R) limit) (λ r. Ends argument_level (next r))
+      (values_read R less tells.expressions)
       (λ i j comma. ends_at argument_level terminal.Comma i j comma refl) terminal.RightParen argument_begins es j k all
       (seen_is terminal.RightParen k r close) (sees_other terminal.RightParen terminal.Comma k r close refl) (ends_at argument_level terminal.RightParen k r close refl))
       (then_is _ tt r (expect_is terminal.RightParen k r close) refl))
 
-  sums_read : TellsAll (λ e. Takes terminal.ShiftLeft ⨾ IsExpression sum_level e) (over_behind (Takes terminal.ShiftLeft) (IsExpression sum_level) (over_whole limit levels sum_level)) (sees terminal.ShiftLeft) (skip >> spec.sum limit inner) (λ r. Ends sum_level (next r))
+  sums_read : TellsAll (λ e. Takes terminal.ShiftLeft ⨾ IsExpression sum_level e) (over_behind (Takes terminal.ShiftLeft) (IsExpression sum_level) (over_whole limit levels sum_level))
+      (sees terminal.ShiftLeft) (skip >> spec.sum limit inner) (λ r. Ends sum_level (next r))
   sums_read = record {
     reads = λ e i r k ends.
         told_by (ap (spec.sum limit inner) (dropped terminal.ShiftLeft i k.0 k.1))
-        (whole_told sum_level levels limit (level (unary_with inner) sum_level) (level_told (unary_with inner) levels (unary_told levels inner (may_be limit levels inner h)) sum_level (omega arith)) k.0 e r k.2 ends);
+        (whole_told sum_level levels limit (level (unary_with inner) sum_level)
+        (level_told (unary_with inner) levels (unary_told levels inner (may_be limit levels inner h)) sum_level (omega arith)) k.0 e r k.2 ends);
     begins = λ e i r k. (seen_is terminal.ShiftLeft i k.0 k.1, rw (next_is terminal.ShiftLeft i k.0 k.1) shift_ends_sum);
     longer = λ e i r k. omega (arith, takes_longer terminal.ShiftLeft i k.0 k.1, expression_longer sum_level e k.0 r k.2);
   }
 
-  targets_read : TellsAll (λ p. Takes terminal.ShiftRight ⨾ IsPlace p) (over_behind (Takes terminal.ShiftRight) IsPlace (over_place limit levels)) (sees terminal.ShiftRight) (skip >> place_with limit inner) (λ r. sees terminal.LeftBracket r ≡ false)
+  targets_read : TellsAll (λ p. Takes terminal.ShiftRight ⨾ IsPlace p) (over_behind (Takes terminal.ShiftRight) IsPlace (over_place limit levels)) (sees terminal.ShiftRight)
+      (skip >> place_with limit inner) (λ r. sees terminal.LeftBracket r ≡ false)
   unfolding same
   targets_read = record {
     reads = λ p i r k free. told_by (ap (place_with limit inner) (dropped terminal.ShiftRight i k.0 k.1)) (place_told p k.0 r k.2 free);
@@ -244,7 +253,8 @@ module _ (limit levels : ℕ) (inner : Option Readers) (h : LevelMayTell limit l
     longer = λ p i r k. omega (arith, takes_longer terminal.ShiftRight i k.0 k.1, place_longer p k.0 r k.2);
   }
 
-  assigned_told : (p : PlaceTree) (o : AssignmentOperator) (at : Place) (e : ExpressionTree) (i j r : Symbols) → MeansAt assignment_operator_of o at i j → (k : IsExpression expression_level e j r) → Stops r
+  assigned_told : (p : PlaceTree) (o : AssignmentOperator) (at : Place) (e : ExpressionTree) (i j r : Symbols) → MeansAt assignment_operator_of o at i j → (k : IsExpression expression_level e j r)
+      → Stops r
       → Told (over_whole limit levels expression_level e j r k) (assign p o at e, r) (assigned limit inner p i)
   unfolding assigned
   assigned_told p o at e i j r sign k stop =
@@ -271,13 +281,15 @@ module _ (limit levels : ℕ) (inner : Option Readers) (h : LevelMayTell limit l
       told_by (to_acted stream i j named)
       (rw (some_next terminal.ShiftLeft (IsExpression sum_level) es j r all)
       (told_after _ es r
-      (repeat_some_told (λ e. Takes terminal.ShiftLeft ⨾ IsExpression sum_level e) (over_behind (Takes terminal.ShiftLeft) (IsExpression sum_level) (over_whole limit levels sum_level)) (sees terminal.ShiftLeft) (skip >> spec.sum limit inner) (λ r. Ends sum_level (next r)) sums_read es j r all
+      (repeat_some_told (λ e. Takes terminal.ShiftLeft ⨾ IsExpression sum_level e) (over_behind (Takes terminal.ShiftLeft) (IsExpression sum_level) (over_whole limit levels sum_level))
+      (sees terminal.ShiftLeft) (skip >> spec.sum limit inner) (λ r. Ends sum_level (next r)) sums_read es j r all
       (stop_other terminal.ShiftLeft r stop refl) (stop_ends sum_level (next r) stop)) refl))
   action_told (read stream places) i r (j, named, all) stop =
       told_by (to_acted stream i j named)
       (rw (some_next terminal.ShiftRight IsPlace places j r all)
       (told_after _ places r
-      (repeat_some_told (λ p. Takes terminal.ShiftRight ⨾ IsPlace p) (over_behind (Takes terminal.ShiftRight) IsPlace (over_place limit levels)) (sees terminal.ShiftRight) (skip >> place_with limit inner) (λ r. sees terminal.LeftBracket r ≡ false) targets_read places j r all
+      (repeat_some_told (λ p. Takes terminal.ShiftRight ⨾ IsPlace p) (over_behind (Takes terminal.ShiftRight) IsPlace (over_place limit levels)) (sees terminal.ShiftRight)
+      (skip >> place_with limit inner) (λ r. sees terminal.LeftBracket r ≡ false) targets_read places j r all
       (stop_other terminal.ShiftRight r stop refl) (stop_other terminal.LeftBracket r stop refl)) refl))
   action_told (assign target o at e) i r (j, place, (l, sign, value)) stop =
       let ends : ends_target (next j) ≡ true = rw sign.2 (assignment_ends sign.0.terminal o sign.1.0) in
@@ -315,15 +327,19 @@ module _ (limit levels : ℕ) (inner : Option Readers) (h : LevelMayTell limit l
       told_behind _ x j (name_is x i j named) (rw (next_is terminal.Assign j l sign, dropped terminal.Assign j l sign) (told_after _ e r (whole_expression_told e l r value stop) refl))
   declarator_told (array x count) i r (j, named, (l, begin, (o, inside, close))) stop =
       told_behind _ x j (name_is x i j named)
-      (rw (next_is terminal.LeftBracket j l begin, dropped terminal.LeftBracket j l begin) (told_after _ count o (counted_told count l o inside) (then_is _ tt r (expect_is terminal.RightBracket o r close) refl)))
+      (rw (next_is terminal.LeftBracket j l begin, dropped terminal.LeftBracket j l begin)
+      (told_after _ count o (counted_told count l o inside) (then_is _ tt r (expect_is terminal.RightBracket o r close) refl)))
 
   declarators_read : TellsEach IsDeclarator (over_declarator limit levels) (declarator limit inner) Stops
   declarators_read = record { reads = declarator_told; longer = declarator_longer }
 
-  pub declaration_told : (d : DeclarationTree) (i r : Symbols) (k : IsDeclaration d i r) → next r ≡ terminal.Semicolon → Told (over_declaration limit levels d i r k) (d, r) (declaration_with limit inner i)
+  pub declaration_told : (d : DeclarationTree) (i r : Symbols) (k : IsDeclaration d i r) → next r ≡ terminal.Semicolon
+      → Told (over_declaration limit levels d i r k) (d, r) (declaration_with limit inner i)
   unfolding declaration_with sees same over_declaration
   declaration_told d i r (j, constant, (l, type, names)) ends =
       let word = const_is d.constant i j constant (type_other d.kind terminal.Const j l type refl) in
       rw (word.0, word.1)
       (told_behind _ d.kind l (type_complete d.kind j l type (names_begin d.names l r names))
-      (told_after _ d.names r (separated_told terminal.Comma IsDeclarator (over_declarator limit levels) (declarator limit inner) Stops declarators_read (λ i j comma. stops_at terminal.Comma i j comma refl) d.names l r names (rw ends refl) (ap stops ends)) refl))
+      (told_after _ d.names r
+      (separated_told terminal.Comma IsDeclarator (over_declarator limit levels) (declarator limit inner) Stops declarators_read (λ i j comma. stops_at terminal.Comma i j comma refl) d.names l r names
+      (rw ends refl) (ap stops ends)) refl))

@@ -91,8 +91,10 @@ module _ (limit levels : ℕ) (inner : Option Readers) (h : LevelMayTell limit l
       (told_then _ streams j (streams_told limit levels inner h streams i j declared stop)
       (told_after _ invocations r (invocations_told limit levels inner h invocations j a b c d e f r tapa scope word begin close all end) refl))
 
-  attributes_told : (found : List AttributeTree) (i r : Symbols) (k : Each IsAttribute found i r) → sees terminal.LeftBracket r ≡ false → Told (over_each IsAttribute (over_attribute limit levels) found i r k) (found, r) (attributes inner i)
-  attributes_told found i r k stop = repeat_told IsAttribute (over_attribute limit levels) (sees terminal.LeftBracket) (attribute inner) (λ r. Unit {0}) (attributes_read limit levels inner h) found i r k stop tt
+  attributes_told : (found : List AttributeTree) (i r : Symbols) (k : Each IsAttribute found i r) → sees terminal.LeftBracket r ≡ false
+      → Told (over_each IsAttribute (over_attribute limit levels) found i r k) (found, r) (attributes inner i)
+  attributes_told found i r k stop =
+      repeat_told IsAttribute (over_attribute limit levels) (sees terminal.LeftBracket) (attribute inner) (λ r. Unit {0}) (attributes_read limit levels inner h) found i r k stop tt
 
   item_told : (x : ItemTree) (i r : Symbols) (k : IsItem x i r) → Told (over_item limit levels x i r k) (x, r) (item limit inner i)
   unfolding item task_behind constant_behind same over_item
@@ -127,14 +129,16 @@ module _ (limit levels : ℕ) (inner : Option Readers) (h : LevelMayTell limit l
 
 -- ---- files
 
-pub file_told : (limit levels : ℕ) (i : Symbols) (items : List ItemTree) (h : IsTreeOf i items) → file limit (below_levels limit levels) i ≡ told (over_each IsItem (over_item limit levels) items i [] h) (items, [])
+pub file_told : (limit levels : ℕ) (i : Symbols) (items : List ItemTree) (h : IsTreeOf i items)
+    → file limit (below_levels limit levels) i ≡ told (over_each IsItem (over_item limit levels) items i [] h) (items, [])
 unfolding file
 file_told limit levels i items h = reads.is
   where
     reads : Told (over_each IsItem (over_item limit levels) items i [] h) (items, []) (file limit (below_levels limit levels) i)
     reads =
         told_after _ items []
-        (repeat_told IsItem (over_item limit levels) is_left (item limit (below_levels limit levels)) (λ r. Unit {0}) (items_read limit levels (below_levels limit levels) (below_tells limit levels)) items i [] h refl tt) refl
+        (repeat_told IsItem (over_item limit levels) is_left (item limit (below_levels limit levels)) (λ r. Unit {0})
+        (items_read limit levels (below_levels limit levels) (below_tells limit levels)) items i [] h refl tt) refl
 
 pub file_complete : (limit levels : ℕ) (i : Symbols) (trees : List ItemTree) → IsTreeOf i trees → most item_nesting trees ≤ levels → most item_operators trees ≤ limit → 1 ≤ levels → file limit (below_levels limit levels) i ≡ Ok (trees, [])
 file_complete limit levels i trees h deep few one = file_told limit levels i trees h ∙ ap (λ w. told w (trees, [])) (none_over_items limit levels one trees i h deep few)

@@ -200,14 +200,16 @@ each_of (statement_then s ss) i r (j, first, rest) = (j, first, each_of ss j r r
 abbrev over_open : (limit levels : ℕ) → Over IsStatement
 over_open limit levels s i r k = one_more levels i (λ less. over_inside limit less s i r k)
 
-over_all : (limit levels : ℕ) (ss : Statements) (i r : Symbols) (k : AreStatements ss i r) → over_each IsStatement (over_open limit levels) (list_of ss) i r (each_of ss i r k) ≡ over_statements limit levels ss i r k
+over_all : (limit levels : ℕ) (ss : Statements) (i r : Symbols) (k : AreStatements ss i r)
+    → over_each IsStatement (over_open limit levels) (list_of ss) i r (each_of ss i r k) ≡ over_statements limit levels ss i r k
 unfolding over_each over_statements each_of
 over_all limit levels no_statement i r k = refl
 over_all limit levels (statement_then s ss) i r (j, first, rest) = ap (or_later (over_open limit levels s i j first)) (over_all limit levels ss j r rest)
 
 -- ---- the head of a `for`
 
-start_told : (limit levels : ℕ) (R : Readers) → LevelTells limit levels R → (s : StartTree) (i r : Symbols) (k : IsStart s i r) → next r ≡ terminal.Semicolon → Told (over_start limit levels s i r k) (s, r) (start R i)
+start_told : (limit levels : ℕ) (R : Readers) → LevelTells limit levels R → (s : StartTree) (i r : Symbols) (k : IsStart s i r) → next r ≡ terminal.Semicolon
+    → Told (over_start limit levels s i r k) (s, r) (start R i)
 unfolding start sees same
 start_told limit levels R h no_start i r k ends = told_ok (if_true _ (is_seen terminal.Semicolon i (ap next k ∙ ends)) (ap (λ (j : Symbols). done (no_start, j)) k))
 start_told limit levels R h (declare_start d) i r k ends =
@@ -225,7 +227,8 @@ test_told limit levels R h (Some e) i r is ends =
     told_false _ (begins_otherwise terminal.Semicolon i (expression_begins expression_level e i r (omega arith) is) refl)
     (told_after _ e r (whole_told expression_level levels limit R.expression h.expressions.expression i e r is (stop_ends expression_level (next r) (ap stops ends))) refl)
 
-step_told : (limit levels : ℕ) (R : Readers) → LevelTells limit levels R → (a : Option ActionTree) (i r : Symbols) (k : Maybe IsAction a i r) → next r ≡ terminal.RightParen → Told (over_maybe IsAction (over_action limit levels) a i r k) (a, r) (step R i)
+step_told : (limit levels : ℕ) (R : Readers) → LevelTells limit levels R → (a : Option ActionTree) (i r : Symbols) (k : Maybe IsAction a i r) → next r ≡ terminal.RightParen
+    → Told (over_maybe IsAction (over_action limit levels) a i r k) (a, r) (step R i)
 unfolding step sees
 step_told limit levels R h None i r is ends = told_ok (if_true _ (is_seen terminal.RightParen i (ap next is ∙ ends)) (ap (λ (j : Symbols). done (None, j)) is))
 step_told limit levels R h (Some a) i r is ends =
@@ -238,17 +241,20 @@ alone zero i w = refl
 alone (suc levels) i w = refl
 
 module _ (limit levels : ℕ) (inner : Option Readers) (h : LevelMayTell limit levels inner) where
-  listed_told : (xs : List AttributeArgument) (i r : Symbols) → (Takes terminal.LeftParen ⨾ SeparatedOrNone (Takes terminal.Comma) IsAttributeArgument xs ⨾ Takes terminal.RightParen) i r → Told (one_more levels i (λ less. None)) (xs, r) (listed_arguments inner i)
+  listed_told : (xs : List AttributeArgument) (i r : Symbols) → (Takes terminal.LeftParen ⨾ SeparatedOrNone (Takes terminal.Comma) IsAttributeArgument xs ⨾ Takes terminal.RightParen) i r
+      → Told (one_more levels i (λ less. None)) (xs, r) (listed_arguments inner i)
   unfolding listed_arguments same
   listed_told xs i r (j, begin, (k, all, close)) =
       told_opened (LevelTells limit) _ levels inner terminal.LeftParen i j _ h begin
       (λ R less tells. told_ok
       (then_is _ xs k
-      (separated_until_is terminal.Comma IsAttributeArgument attribute_argument (λ r. Unit {0}) (λ a i r k free. attribute_argument_complete a i r k) attribute_argument_longer (λ i j comma. tt) terminal.RightParen argument_no_end xs j k all
+      (separated_until_is terminal.Comma IsAttributeArgument attribute_argument (λ r. Unit {0}) (λ a i r k free. attribute_argument_complete a i r k) attribute_argument_longer
+      (λ i j comma. tt) terminal.RightParen argument_no_end xs j k all
       (seen_is terminal.RightParen k r close) (sees_other terminal.RightParen terminal.Comma k r close refl) tt)
       (then_is _ tt r (expect_is terminal.RightParen k r close) refl)))
 
-  attribute_arguments_told : (a : Option (List AttributeArgument)) (i r : Symbols) (k : AreAttributeArguments a i r) → sees terminal.LeftParen r ≡ false → Told (over_attribute_arguments limit levels a i r k) (a, r) (attribute_arguments inner i)
+  attribute_arguments_told : (a : Option (List AttributeArgument)) (i r : Symbols) (k : AreAttributeArguments a i r) → sees terminal.LeftParen r ≡ false
+      → Told (over_attribute_arguments limit levels a i r k) (a, r) (attribute_arguments inner i)
   unfolding attribute_arguments
   attribute_arguments_told None i r is free = told_ok (if_false _ (ap (sees terminal.LeftParen) is ∙ free) (ap (λ (j : Symbols). done (None, j)) is))
   attribute_arguments_told (Some xs) i r is free = told_true _ (seen_is terminal.LeftParen i is.0 is.1) (told_after _ xs r (listed_told xs i r is) refl)
@@ -285,11 +291,13 @@ module _ (limit levels : ℕ) (inner : Option Readers) (h : LevelMayTell limit l
     longer = statement_longer;
   }
 
-  pub statements_told : (ss : Statements) (i r : Symbols) (k : AreStatements ss i r) → next r ≡ terminal.RightBrace → Told (over_statements limit levels ss i r k) (list_of ss, r) (statements_with limit inner i)
+  pub statements_told : (ss : Statements) (i r : Symbols) (k : AreStatements ss i r) → next r ≡ terminal.RightBrace
+      → Told (over_statements limit levels ss i r k) (list_of ss, r) (statements_with limit inner i)
   unfolding sees same
   statements_told ss i r k ends =
       told_over (over_all limit levels ss i r k)
-      (repeat_told IsStatement (over_open limit levels) (λ i. not (sees terminal.RightBrace i)) (statement_with limit inner) (λ r. sees terminal.Else r ≡ false) one_statement_read (list_of ss) i r (each_of ss i r k) (rw ends refl) (rw ends refl))
+      (repeat_told IsStatement (over_open limit levels) (λ i. not (sees terminal.RightBrace i)) (statement_with limit inner) (λ r. sees terminal.Else r ≡ false) one_statement_read (list_of ss) i r
+      (each_of ss i r k) (rw ends refl) (rw ends refl))
 
   simple_by : (m : Terminal) (i : Symbols) → (begins_action m || begins_declaration m) ≡ true → bare_by limit inner m i ≡ simple limit inner i
   simple_by terminal.Semicolon i e = absurd cc
@@ -317,19 +325,23 @@ module _ (limit levels : ℕ) (inner : Option Readers) (h : LevelMayTell limit l
       told_by (simple_by (next i) i (rw acts refl))
       (told_true _ acts (told_after _ a j (action_told limit levels inner h a i j k (ap stops (next_is terminal.Semicolon j r end))) (then_is _ tt r (expect_is terminal.Semicolon j r end) refl)))
 
-  block_told : (ss : Statements) (i j l r : Symbols) → Takes terminal.LeftBrace i j → (all : AreStatements ss j l) → Takes terminal.RightBrace l r → Told (over_statements limit levels ss j l all) (block ss, r) (bare limit inner i)
+  block_told : (ss : Statements) (i j l r : Symbols) → Takes terminal.LeftBrace i j → (all : AreStatements ss j l) → Takes terminal.RightBrace l r
+      → Told (over_statements limit levels ss j l all) (block ss, r) (bare limit inner i)
   unfolding bare braces
   block_told ss i j l r begin all end =
       rw (next_is terminal.LeftBrace i j begin, dropped terminal.LeftBrace i j begin)
-      (told_after _ (list_of ss) l (statements_told ss j l all (next_is terminal.RightBrace l r end)) (then_is _ tt r (expect_is terminal.RightBrace l r end) (ap (λ xs. done (block xs, r)) (of_list ss))))
+      (told_after _ (list_of ss) l (statements_told ss j l all (next_is terminal.RightBrace l r end))
+      (then_is _ tt r (expect_is terminal.RightBrace l r end) (ap (λ xs. done (block xs, r)) (of_list ss))))
 
-  if_only_told : (c : ExpressionTree) (s : StatementTree) (i r : Symbols) (k : IsStatement (if_only c s) i r) → sees terminal.Else r ≡ false → Told (over_inside limit levels (if_only c s) i r k) (if_only c s, r) (bare limit inner i)
+  if_only_told : (c : ExpressionTree) (s : StatementTree) (i r : Symbols) (k : IsStatement (if_only c s) i r) → sees terminal.Else r ≡ false
+      → Told (over_inside limit levels (if_only c s) i r k) (if_only c s, r) (bare limit inner i)
   unfolding bare choice otherwise over_inside
   if_only_told c s i r (j, word, (l, begin, (o, test, (p, close, body)))) free =
       rw (next_is terminal.If i j word, dropped terminal.If i j word)
       (told_then _ c p (condition_told limit levels inner h c j l o p begin test close) (told_after _ s r (statement_told s p r body (inr free)) (if_false _ free refl)))
 
-  if_else_told : (c : ExpressionTree) (s t : StatementTree) (i r : Symbols) (k : IsStatement (if_else c s t) i r) → NoElse t r → Told (over_inside limit levels (if_else c s t) i r k) (if_else c s t, r) (bare limit inner i)
+  if_else_told : (c : ExpressionTree) (s t : StatementTree) (i r : Symbols) (k : IsStatement (if_else c s t) i r) → NoElse t r
+      → Told (over_inside limit levels (if_else c s t) i r k) (if_else c s t, r) (bare limit inner i)
   unfolding bare choice otherwise over_inside
   if_else_told c s t i r (closed, (j, word, (l, begin, (o, test, (p, close, (q, first, (u, other, second))))))) free =
       rw (next_is terminal.If i j word, dropped terminal.If i j word)
@@ -337,13 +349,15 @@ module _ (limit levels : ℕ) (inner : Option Readers) (h : LevelMayTell limit l
       (told_then _ s q (statement_told s p q first (inl closed))
       (told_true _ (seen_is terminal.Else q u other) (rw (dropped terminal.Else q u other) (told_after _ t r (statement_told t u r second free) refl)))))
 
-  while_told : (c : ExpressionTree) (s : StatementTree) (i r : Symbols) (k : IsStatement (while c s) i r) → NoElse s r → Told (over_inside limit levels (while c s) i r k) (while c s, r) (bare limit inner i)
+  while_told : (c : ExpressionTree) (s : StatementTree) (i r : Symbols) (k : IsStatement (while c s) i r) → NoElse s r
+      → Told (over_inside limit levels (while c s) i r k) (while c s, r) (bare limit inner i)
   unfolding bare repetition over_inside
   while_told c s i r (j, word, (l, begin, (o, test, (p, close, body)))) free =
       rw (next_is terminal.While i j word, dropped terminal.While i j word)
       (told_then _ c p (condition_told limit levels inner h c j l o p begin test close) (told_after _ s r (statement_told s p r body free) refl))
 
-  head_told : (head : HeadTree) (i j k r : Symbols) → Takes terminal.LeftParen i j → (inside : IsHead head j k) → Takes terminal.RightParen k r → Told (one_more levels i (λ less. over_head limit less head j k inside)) (head, r) (spec.head limit inner i)
+  head_told : (head : HeadTree) (i j k r : Symbols) → Takes terminal.LeftParen i j → (inside : IsHead head j k) → Takes terminal.RightParen k r
+      → Told (one_more levels i (λ less. over_head limit less head j k inside)) (head, r) (spec.head limit inner i)
   unfolding spec.head over_head
   head_told head i j k r begin (l, start, (o, first, (p, test, (q, second, step)))) close =
       told_opened (LevelTells limit) _ levels inner terminal.LeftParen i j _ h begin
@@ -354,13 +368,15 @@ module _ (limit levels : ℕ) (inner : Option Readers) (h : LevelMayTell limit l
       (told_after _ head.step k (step_told limit less R tells head.step q k step (next_is terminal.RightParen k r close))
       (then_is _ tt r (expect_is terminal.RightParen k r close) refl))))))
 
-  for_told : (head : HeadTree) (s : StatementTree) (i r : Symbols) (k : IsStatement (for head s) i r) → NoElse s r → Told (over_inside limit levels (for head s) i r k) (for head s, r) (bare limit inner i)
+  for_told : (head : HeadTree) (s : StatementTree) (i r : Symbols) (k : IsStatement (for head s) i r) → NoElse s r
+      → Told (over_inside limit levels (for head s) i r k) (for head s, r) (bare limit inner i)
   unfolding bare counting_loop over_inside
   for_told head s i r (j, word, (l, begin, (o, inside, (p, close, body)))) free =
       rw (next_is terminal.For i j word, dropped terminal.For i j word)
       (told_then _ head p (head_told head j l o p begin inside close) (told_after _ s r (statement_told s p r body free) refl))
 
-  while_not_eot_told : (x : Name) (s : StatementTree) (i r : Symbols) (k : IsStatement (while_not_eot x s) i r) → NoElse s r → Told (over_inside limit levels (while_not_eot x s) i r k) (while_not_eot x s, r) (bare limit inner i)
+  while_not_eot_told : (x : Name) (s : StatementTree) (i r : Symbols) (k : IsStatement (while_not_eot x s) i r) → NoElse s r
+      → Told (over_inside limit levels (while_not_eot x s) i r k) (while_not_eot x s, r) (bare limit inner i)
   unfolding bare transaction_loop over_inside
   while_not_eot_told x s i r (j, word, (l, begin, (o, stream, (p, close, body)))) free =
       rw (next_is terminal.WhileNotEot i j word, dropped terminal.WhileNotEot i j word)
@@ -398,7 +414,8 @@ module _ (limit levels : ℕ) (inner : Option Readers) (h : LevelMayTell limit l
   unfolding inside_with over_inside
   inside_told (attributed found s) i r (is_bare, (j, all, body)) free =
       told_true _ (is_seen terminal.LeftBracket i (attributes_begin found i j all))
-      (told_then _ found j (repeat_some_told IsAttribute (over_attribute limit levels) (sees terminal.LeftBracket) (attribute inner) (λ r. Unit {0}) attributes_read found i j all (bare_no_bracket s j r is_bare body) tt)
+      (told_then _ found j (repeat_some_told IsAttribute (over_attribute limit levels) (sees terminal.LeftBracket) (attribute inner) (λ r. Unit {0}) attributes_read found i j all
+      (bare_no_bracket s j r is_bare body) tt)
       (told_after _ s r (bare_told s j r is_bare body free) refl))
   inside_told s i r k free = told_false _ (bare_no_bracket s i r tt k) (bare_told s i r tt k free)
 

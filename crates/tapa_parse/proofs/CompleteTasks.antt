@@ -89,7 +89,8 @@ unfolding parameters same
 parameters_complete xs i j k r begin all close =
     then_is _ tt j (expect_is terminal.LeftParen i j begin)
     (then_is _ xs k
-    (separated_until_is terminal.Comma IsParameter parameter (λ r. Unit {0}) (λ x i r k free. parameter_complete x i r k) parameter_longer (λ i j comma. tt) terminal.RightParen parameter_no_end xs j k all
+    (separated_until_is terminal.Comma IsParameter parameter (λ r. Unit {0}) (λ x i r k free. parameter_complete x i r k) parameter_longer
+    (λ i j comma. tt) terminal.RightParen parameter_no_end xs j k all
     (seen_is terminal.RightParen k r close) (sees_other terminal.RightParen terminal.Comma k r close refl) tt)
     (then_is _ tt r (expect_is terminal.RightParen k r close) refl))
 
@@ -143,9 +144,11 @@ mode_longer x i r (a, less, (b, tapa, (c, scope, (d, (s, h, is), greater)))) =
 abbrev argument_tree : Place → ExpressionTree → ArgumentTree
 argument_tree at e = record { place = at; value = e }
 
-argument_told : (limit levels : ℕ) (R : Readers) → LevelTells limit levels R → (a : ArgumentTree) (i r : Symbols) (k : IsArgument a i r) → Ends expression_level (next r) → Told (over_argument limit levels a i r k) (a, r) (invocation_argument limit R i)
+argument_told : (limit levels : ℕ) (R : Readers) → LevelTells limit levels R → (a : ArgumentTree) (i r : Symbols) (k : IsArgument a i r) → Ends expression_level (next r)
+    → Told (over_argument limit levels a i r k) (a, r) (invocation_argument limit R i)
 unfolding invocation_argument
-argument_told limit levels R h a i r k ends = told_after _ a.value r (whole_told expression_level levels limit R.expression h.expressions.expression i a.value r k.1 ends) (ap (λ p. done (argument_tree p a.value, r)) (stands i a.place k.0))
+argument_told limit levels R h a i r k ends =
+    told_after _ a.value r (whole_told expression_level levels limit R.expression h.expressions.expression i a.value r k.1 ends) (ap (λ p. done (argument_tree p a.value, r)) (stands i a.place k.0))
 
 argument_longer : (a : ArgumentTree) (i r : Symbols) → IsArgument a i r → length r < length i
 argument_longer a i r h = expression_longer expression_level a.value i r h.1
@@ -154,7 +157,8 @@ argument_longer a i r h = expression_longer expression_level a.value i r h.1
 abbrev over_arguments : (limit levels : ℕ) → Over (λ a. Takes terminal.Comma ⨾ IsArgument a)
 over_arguments limit levels = over_behind (Takes terminal.Comma) IsArgument (over_argument limit levels)
 
-arguments_read : (limit levels : ℕ) (R : Readers) → LevelTells limit levels R → TellsAll (λ a. Takes terminal.Comma ⨾ IsArgument a) (over_arguments limit levels) (sees terminal.Comma) (skip >> invocation_argument limit R) (λ r. Ends expression_level (next r))
+arguments_read : (limit levels : ℕ) (R : Readers) → LevelTells limit levels R
+    → TellsAll (λ a. Takes terminal.Comma ⨾ IsArgument a) (over_arguments limit levels) (sees terminal.Comma) (skip >> invocation_argument limit R) (λ r. Ends expression_level (next r))
 arguments_read limit levels R h = record {
   reads = λ a i r k ends. told_by (ap (invocation_argument limit R) (dropped terminal.Comma i k.0 k.1)) (argument_told limit levels R h a k.0 r k.2 ends);
   begins = λ a i r k. (seen_is terminal.Comma i k.0 k.1, ends_at expression_level terminal.Comma i k.0 k.1 refl);
@@ -184,7 +188,8 @@ module _ (limit levels : ℕ) (inner : Option Readers) (h : LevelMayTell limit l
       (told_after _ s.depth f (depth_told s.depth e f count (sees_other terminal.Greater terminal.Comma f g greater refl))
       (then_is _ tt g (expect_is terminal.Greater f g greater)
       (then_is _ s.names l
-      (separated_is terminal.Comma (λ x. IsName x ⨾ MayBeLabelled) stream_name (λ r. sees terminal.LeftParen r ≡ false) stream_name_complete stream_name_longer (λ i j comma. sees_other terminal.Comma terminal.LeftParen i j comma refl) s.names g l names
+      (separated_is terminal.Comma (λ x. IsName x ⨾ MayBeLabelled) stream_name (λ r. sees terminal.LeftParen r ≡ false) stream_name_complete stream_name_longer
+      (λ i j comma. sees_other terminal.Comma terminal.LeftParen i j comma refl) s.names g l names
       (sees_other terminal.Semicolon terminal.Comma l r end refl) (sees_other terminal.Semicolon terminal.LeftParen l r end refl))
       (then_is _ tt r (expect_is terminal.Semicolon l r end) refl))))))))
 
@@ -195,7 +200,8 @@ module _ (limit levels : ℕ) (inner : Option Readers) (h : LevelMayTell limit l
     longer = stream_longer;
   }
 
-  pub streams_told : (xs : List StreamTree) (i r : Symbols) (k : Each IsStream xs i r) → sees terminal.Stream (drop 2 r) ≡ false → Told (over_each IsStream (over_stream limit levels) xs i r k) (xs, r) (streams limit inner i)
+  pub streams_told : (xs : List StreamTree) (i r : Symbols) (k : Each IsStream xs i r) → sees terminal.Stream (drop 2 r) ≡ false
+      → Told (over_each IsStream (over_stream limit levels) xs i r k) (xs, r) (streams limit inner i)
   streams_told xs i r k stop = repeat_told IsStream (over_stream limit levels) (λ i. sees terminal.Stream (drop 2 i)) (stream limit inner) (λ r. Unit {0}) streams_read xs i r k stop tt
 
   invocation_told : (x : InvocationTree) (i r : Symbols) (k : IsInvocation x i r) → Told (over_invocation limit levels x i r k) (x, r) (invocation limit inner i)
@@ -207,7 +213,8 @@ module _ (limit levels : ℕ) (inner : Option Readers) (h : LevelMayTell limit l
       (told_opened (LevelTells limit) _ levels inner terminal.LeftParen c d _ h begin
       (λ R less tells. told_behind _ x.task e (name_is x.task d e named)
       (told_after _ x.arguments f
-      (repeat_told (λ a. Takes terminal.Comma ⨾ IsArgument a) (over_arguments limit less) (sees terminal.Comma) (skip >> invocation_argument limit R) (λ r. Ends expression_level (next r)) (arguments_read limit less R tells) x.arguments e f all
+      (repeat_told (λ a. Takes terminal.Comma ⨾ IsArgument a) (over_arguments limit less) (sees terminal.Comma) (skip >> invocation_argument limit R) (λ r. Ends expression_level (next r))
+      (arguments_read limit less R tells) x.arguments e f all
       (sees_other terminal.RightParen terminal.Comma f r close refl) (ends_at expression_level terminal.RightParen f r close refl))
       (then_is _ tt r (expect_is terminal.RightParen f r close) refl))))))
 
@@ -218,13 +225,16 @@ module _ (limit levels : ℕ) (inner : Option Readers) (h : LevelMayTell limit l
     longer = invocation_longer;
   }
 
-  chained_told : (xs : List InvocationTree) (i r : Symbols) (k : EachOfSome IsInvocation xs i r) → sees terminal.Dot r ≡ false → Told (over_some IsInvocation (over_invocation limit levels) xs i r k) (xs, r) (chained limit inner i)
+  chained_told : (xs : List InvocationTree) (i r : Symbols) (k : EachOfSome IsInvocation xs i r) → sees terminal.Dot r ≡ false
+      → Told (over_some IsInvocation (over_invocation limit levels) xs i r k) (xs, r) (chained limit inner i)
   unfolding chained over_some
   chained_told [] i r k stop = absurd k
   chained_told (x ∷ xs) i r (j, first, rest) stop =
-      told_then _ x j (invocation_told x i j first) (repeat_one_told IsInvocation (over_invocation limit levels) (sees terminal.Dot) (invocation limit inner) (λ r. Unit {0}) invocations_read x xs j r rest stop tt)
+      told_then _ x j (invocation_told x i j first)
+      (repeat_one_told IsInvocation (over_invocation limit levels) (sees terminal.Dot) (invocation limit inner) (λ r. Unit {0}) invocations_read x xs j r rest stop tt)
 
-  pub invocations_told : (xs : List InvocationTree) (i a b c d e f r : Symbols) → Takes terminal.Tapa i a → Takes terminal.Scope a b → Takes terminal.Task b c → Takes terminal.LeftParen c d → Takes terminal.RightParen d e → (k : EachOfSome IsInvocation xs e f) → Takes terminal.Semicolon f r
+  pub invocations_told : (xs : List InvocationTree) (i a b c d e f r : Symbols) → Takes terminal.Tapa i a → Takes terminal.Scope a b → Takes terminal.Task b c → Takes terminal.LeftParen c d
+      → Takes terminal.RightParen d e → (k : EachOfSome IsInvocation xs e f) → Takes terminal.Semicolon f r
       → Told (over_some IsInvocation (over_invocation limit levels) xs e f k) (xs, r) (invocations limit inner i)
   unfolding invocations same
   invocations_told xs i a b c d e f r tapa scope word begin close all end =

@@ -61,14 +61,16 @@ more_ends no_expression i r s is close = rw is (ends_at expression_level termina
 more_ends (one_expression e es) i r s (j, comma, rest) close = ends_at expression_level terminal.Comma i j comma refl
 
 module _ (levels : ℕ) (R : Readers) (h : AllTell levels R) where
-  other : (n : ℕ) (i : Symbols) (e : ExpressionTree) (r : Symbols) (k : IsExpression expression_level e i r) → Ends expression_level (next r) → Told (over_expression levels n expression_level e i r k) ((e, n - operators e), r) (argument R n i)
+  other : (n : ℕ) (i : Symbols) (e : ExpressionTree) (r : Symbols) (k : IsExpression expression_level e i r) → Ends expression_level (next r)
+      → Told (over_expression levels n expression_level e i r k) ((e, n - operators e), r) (argument R n i)
   unfolding argument
   other n i e r k ends = told_false _ (begins_otherwise terminal.Nullptr i (expression_begins expression_level e i r (omega arith) k) refl) (h.expression.on n i e r k ends)
 
   nothing : (n : ℕ) (i j : Symbols) → Takes terminal.Nullptr i j → done {A = ExpressionTree × ℕ} ((nullptr, n), drop 1 i) ≡ done ((nullptr, n - 0), j)
   nothing n i j t = let same_count : n ≡ n - 0 = omega arith in let rest = dropped terminal.Nullptr i j t in cc
 
-  pub argument_told : (n : ℕ) (i : Symbols) (e : ExpressionTree) (r : Symbols) (k : IsExpression argument_level e i r) → Ends expression_level (next r) → Told (over_expression levels n argument_level e i r k) ((e, n - operators e), r) (argument R n i)
+  pub argument_told : (n : ℕ) (i : Symbols) (e : ExpressionTree) (r : Symbols) (k : IsExpression argument_level e i r) → Ends expression_level (next r)
+      → Told (over_expression levels n argument_level e i r k) ((e, n - operators e), r) (argument R n i)
   unfolding argument over_expression
   argument_told n i nullptr r k ends = told_ok (if_true _ (seen_is terminal.Nullptr i r k.1) (nothing n i r k.1))
   argument_told n i (literal v w) r k ends = other n i (literal v w) r k ends
@@ -107,7 +109,8 @@ module _ (levels : ℕ) (R : Readers) (h : AllTell levels R) where
       (told_as (ap (λ (xs : List ExpressionTree). ((xs, (n - operators e) - operators_in es), r)) (append_assoc found (e ∷ []) (list_of es)))
       (more_arguments_told es turns (found ++ e ∷ []) (n - operators e) l r s rest (omega (arith, le, takes_longer terminal.Comma i j comma, expression_longer argument_level e j l first)) close)))))
 
-  any_arguments_told : (es : Expressions) (n : ℕ) (i r s : Symbols) (k : AreArguments es i r) → Takes terminal.RightParen r s → Told (over_arguments levels n es i r k) ((list_of es, n - operators_in es), r) (any_arguments R n i)
+  any_arguments_told : (es : Expressions) (n : ℕ) (i r s : Symbols) (k : AreArguments es i r) → Takes terminal.RightParen r s
+      → Told (over_arguments levels n es i r k) ((list_of es, n - operators_in es), r) (any_arguments R n i)
   unfolding any_arguments some_arguments over_arguments
   any_arguments_told no_expression n i r s is close =
       let none : sees terminal.RightParen i ≡ true = rw is (seen_is terminal.RightParen r s close) in
@@ -191,14 +194,16 @@ module _ (levels : ℕ) (inner : Option Readers) (h : MayTell levels inner) wher
   unfolding in_parentheses
   in_parentheses_told n e i j k r begin inside close =
       told_opened AllTell _ levels inner terminal.LeftParen i j _ h begin
-      (λ R less tells. told_after _ (e, n - operators e) k (tells.expression.on n j e k inside (ends_at expression_level terminal.RightParen k r close refl)) (then_is _ tt r (expect_is terminal.RightParen k r close) refl))
+      (λ R less tells. told_after _ (e, n - operators e) k (tells.expression.on n j e k inside (ends_at expression_level terminal.RightParen k r close refl))
+      (then_is _ tt r (expect_is terminal.RightParen k r close) refl))
 
   pub in_brackets_told : (n : ℕ) (e : ExpressionTree) (i j k r : Symbols) → Takes terminal.LeftBracket i j → (inside : IsExpression expression_level e j k) → Takes terminal.RightBracket k r
       → Told (one_more levels i (λ less. over_expression less n expression_level e j k inside)) ((e, n - operators e), r) (in_brackets inner n i)
   unfolding in_brackets
   in_brackets_told n e i j k r begin inside close =
       told_opened AllTell _ levels inner terminal.LeftBracket i j _ h begin
-      (λ R less tells. told_after _ (e, n - operators e) k (tells.expression.on n j e k inside (ends_at expression_level terminal.RightBracket k r close refl)) (then_is _ tt r (expect_is terminal.RightBracket k r close) refl))
+      (λ R less tells. told_after _ (e, n - operators e) k (tells.expression.on n j e k inside (ends_at expression_level terminal.RightBracket k r close refl))
+      (then_is _ tt r (expect_is terminal.RightBracket k r close) refl))
 
   arguments_told : (n : ℕ) (es : Expressions) (i j k r : Symbols) → Takes terminal.LeftParen i j → (all : AreArguments es j k) → Takes terminal.RightParen k r
       → Told (one_more levels i (λ less. over_arguments less n es j k all)) ((list_of es, n - operators_in es), r) (arguments inner n i)
@@ -220,7 +225,8 @@ module _ (levels : ℕ) (inner : Option Readers) (h : MayTell levels inner) wher
       (λ R less tells. told_left (prefix_left n m e one_less)
       (told_after _ (e, m - operators e) r (tells.unary.on m j e r operand ends) (ap (λ p. done ((prefix o p e, m - operators e), r)) place)))))
 
-  cast_told : (n : ℕ) (v : Kind) (e : ExpressionTree) (i j k l r : Symbols) → Takes terminal.LeftParen i j → IsType v j k → Takes terminal.RightParen k l → (operand : IsExpression 0 e l r) → Ends 0 (next r)
+  cast_told : (n : ℕ) (v : Kind) (e : ExpressionTree) (i j k l r : Symbols) → Takes terminal.LeftParen i j → IsType v j k → Takes terminal.RightParen k l → (operand : IsExpression 0 e l r)
+      → Ends 0 (next r)
       → Told (one_more levels i (λ less. over_expression less n 0 e l r operand)) ((cast v e, n - operators e), r) (unary_with inner n i)
   unfolding unary_with converted
   cast_told n v e i j k l r begin type close operand ends =
@@ -240,7 +246,8 @@ module _ (levels : ℕ) (inner : Option Readers) (h : MayTell levels inner) wher
       (told_true _ (seen_is terminal.LeftParen i j begin) (told_false _ (cast_begins i j begin ∙ no_cast expression_level e j k (omega arith) inside)
       (told_after _ (e, n - operators e) r (in_parentheses_told n e i j k r begin inside close) refl)))
 
-  static_cast_told : (n : ℕ) (v : Kind) (e : ExpressionTree) (i a b c d f g r : Symbols) → Takes terminal.StaticCast i a → Takes terminal.Less a b → IsType v b c → Takes terminal.Greater c d → Takes terminal.LeftParen d f → (inside : IsExpression expression_level e f g) → Takes terminal.RightParen g r
+  static_cast_told : (n : ℕ) (v : Kind) (e : ExpressionTree) (i a b c d f g r : Symbols) → Takes terminal.StaticCast i a → Takes terminal.Less a b → IsType v b c → Takes terminal.Greater c d
+      → Takes terminal.LeftParen d f → (inside : IsExpression expression_level e f g) → Takes terminal.RightParen g r
       → Told (one_more levels d (λ less. over_expression less n expression_level e f g inside)) ((static_cast v e, n - operators e), r) (unary_with inner n i)
   unfolding statically_cast same
   static_cast_told n v e i a b c d f g r word angle type greater begin inside close =
@@ -259,7 +266,8 @@ module _ (levels : ℕ) (inner : Option Readers) (h : MayTell levels inner) wher
   unfolding named constructed same over_expression
   unary_told = record { on = tell }
     where
-      tell : (n : ℕ) (i : Symbols) (e : ExpressionTree) (r : Symbols) (k : IsExpression 0 e i r) → Ends 0 (next r) → Told (over_expression levels n 0 e i r k) ((e, n - operators e), r) (unary_with inner n i)
+      tell : (n : ℕ) (i : Symbols) (e : ExpressionTree) (r : Symbols) (k : IsExpression 0 e i r) → Ends 0 (next r)
+          → Told (over_expression levels n 0 e i r k) ((e, n - operators e), r) (unary_with inner n i)
       tell n i (literal v w) r k ends = told_left (no_operator n) (told_ok (to_other inner terminal.Literal n i (ap next k.2 ∙ k.1.0) refl refl refl ∙ then_is _ (v, w) r (literal_is v w i r k) refl))
       tell n i (boolean true) r k ends = told_left (no_operator n) (told_ok (to_other inner terminal.True n i (next_is terminal.True i r k) refl refl refl ∙ rw (dropped terminal.True i r k) refl))
       tell n i (boolean false) r k ends = told_left (no_operator n) (told_ok (to_other inner terminal.False n i (next_is terminal.False i r k) refl refl refl ∙ rw (dropped terminal.False i r k) refl))
@@ -280,13 +288,15 @@ module _ (levels : ℕ) (inner : Option Readers) (h : MayTell levels inner) wher
           (told_behind _ x j (name_is x i j k.1)
           (rw (next_is terminal.Dot j l dot, dropped terminal.Dot j l dot)
           (told_behind _ method o (plain_is method l o k.2.2.1)
-          (told_after _ (list_of es, n - operators_in es) r (arguments_told n es o rest.0 rest.2.0 r rest.1 rest.2.1 rest.2.2) (ap (λ xs. done ((call x method xs, n - operators_in es), r)) (of_list es))))))
+          (told_after _ (list_of es, n - operators_in es) r (arguments_told n es o rest.0 rest.2.0 r rest.1 rest.2.1 rest.2.2)
+          (ap (λ xs. done ((call x method xs, n - operators_in es), r)) (of_list es))))))
       tell n i nullptr r k ends = absurd (omega (arith, k.0))
       tell n i (construct v e) r k ends =
           let j = k.0 in
           told_by (to_constructed inner n i (one_begins v i j k.1))
           (told_behind _ v j (one_complete v i j k.1) (told_after _ (e, n - operators e) r (in_parentheses_told n e j k.2.0 k.2.2.0 r k.2.1 k.2.2.1 k.2.2.2) refl))
-      tell n i (static_cast v e) r (a, word, (b, angle, (c, type, (d, greater, (f, begin, (g, inside, close)))))) ends = static_cast_told n v e i a b c d f g r word angle type greater begin inside close
+      tell n i (static_cast v e) r (a, word, (b, angle, (c, type, (d, greater, (f, begin, (g, inside, close)))))) ends =
+          static_cast_told n v e i a b c d f g r word angle type greater begin inside close
       tell n i (cast v e) r (a, begin, (b, type, (c, close, operand))) ends = cast_told n v e i a b c r begin type close operand ends
       tell n i (parenthesized e) r (a, begin, (b, inside, close)) ends = parenthesis_told n e i a b r begin inside close
       tell n i (prefix o at e) r (a, sign, operand) ends = prefix_told n o at e i a r sign operand ends
@@ -297,16 +307,20 @@ module _ (levels : ℕ) (inner : Option Readers) (h : MayTell levels inner) wher
   tests = level_told (unary_with inner) levels unary_told or_level (omega arith)
 
   -- without a question
-  simple : (n : ℕ) (i : Symbols) (e : ExpressionTree) (r : Symbols) (k : IsExpression or_level e i r) → Ends expression_level (next r) → Told (over_expression levels n or_level e i r k) ((e, n - operators e), r) (expression_with inner n i)
+  simple : (n : ℕ) (i : Symbols) (e : ExpressionTree) (r : Symbols) (k : IsExpression or_level e i r) → Ends expression_level (next r)
+      → Told (over_expression levels n or_level e i r k) ((e, n - operators e), r) (expression_with inner n i)
   unfolding expression_with sees
   simple n i e r k ends = told_after _ (e, n - operators e) r (tests.on n i e r k (ends_tighter or_level (next r) ends)) (if_false _ (ends.question (omega arith)) refl)
 
   arms_left : (n m : ℕ) (c a b : ExpressionTree) → n - operators c ≡ suc m → (m - operators a) - operators b ≡ n - suc (operators c + operators a + operators b)
   arms_left n m c a b one_less = omega (arith, one_less)
 
-  conditional_told : (n : ℕ) (at : Place) (c a b : ExpressionTree) (i j k l o r : Symbols) (test : IsExpression or_level c i j) → TakesAt terminal.Question at j k → (first : IsExpression expression_level a k l) → Takes terminal.Colon l o → (second : IsExpression expression_level b o r)
+  conditional_told : (n : ℕ) (at : Place) (c a b : ExpressionTree) (i j k l o r : Symbols) (test : IsExpression or_level c i j) → TakesAt terminal.Question at j k
+      → (first : IsExpression expression_level a k l) → Takes terminal.Colon l o → (second : IsExpression expression_level b o r)
       → Ends expression_level (next r)
-      → Told (or_later (over_expression levels n or_level c i j test) (one_more (n - operators c) j (λ m. one_more levels j (λ less. or_later (over_expression less m expression_level a k l first) (over_expression less (m - operators a) expression_level b o r second)))))
+      → Told (or_later (over_expression levels n or_level c i j test)
+      (one_more (n - operators c) j
+      (λ m. one_more levels j (λ less. or_later (over_expression less m expression_level a k l first) (over_expression less (m - operators a) expression_level b o r second)))))
       ((conditional at c a b, n - suc (operators c + operators a + operators b)), r) (expression_with inner n i)
   unfolding expression_with arms
   conditional_told n at c a b i j k l o r test (x, (word, place), is) first colon second ends =
@@ -328,7 +342,8 @@ module _ (levels : ℕ) (inner : Option Readers) (h : MayTell levels inner) wher
   unfolding over_expression
   expression_told = record { on = tell }
     where
-      tell : (n : ℕ) (i : Symbols) (e : ExpressionTree) (r : Symbols) (k : IsExpression expression_level e i r) → Ends expression_level (next r) → Told (over_expression levels n expression_level e i r k) ((e, n - operators e), r) (expression_with inner n i)
+      tell : (n : ℕ) (i : Symbols) (e : ExpressionTree) (r : Symbols) (k : IsExpression expression_level e i r) → Ends expression_level (next r)
+          → Told (over_expression levels n expression_level e i r k) ((e, n - operators e), r) (expression_with inner n i)
       tell n i (conditional at c a b) r (fits, (d, test, (f, mark, (g, first, (k, colon, second))))) ends = conditional_told n at c a b i d f g k r test mark first colon second ends
       tell n i nullptr r k ends = absurd (omega (arith, k.0))
       tell n i (binary o at a b) r k ends = simple n i (binary o at a b) r (omega (arith, binds_small o), k.1) ends
@@ -345,7 +360,8 @@ module _ (levels : ℕ) (inner : Option Readers) (h : MayTell levels inner) wher
       tell n i (prefix o at e) r k ends = simple n i (prefix o at e) r k ends
 
 -- an expression with a count of its own
-pub whole_told : (l levels limit : ℕ) (p : Counting ExpressionTree) → Tells l levels p → (i : Symbols) (e : ExpressionTree) (r : Symbols) (h : IsExpression l e i r) → Ends l (next r) → Told (over_expression levels limit l e i r h) (e, r) (whole p limit i)
+pub whole_told : (l levels limit : ℕ) (p : Counting ExpressionTree) → Tells l levels p → (i : Symbols) (e : ExpressionTree) (r : Symbols) (h : IsExpression l e i r) → Ends l (next r)
+    → Told (over_expression levels limit l e i r h) (e, r) (whole p limit i)
 whole_told l levels limit p tells i e r h ends = told_after _ (e, limit - operators e) r (tells.on limit i e r h ends) refl
 
 pub below_told : (limit levels : ℕ) → MayTell levels (below_levels limit levels)

@@ -104,7 +104,8 @@ ends_unary l m h = record { name = h.name; operator = λ k lt. absurd (omega ari
 -- ---- what readers are to do
 
 pub record Tells (level levels : ℕ) (p : Counting ExpressionTree) : Type 0 where
-  pub on : (n : ℕ) (i : Symbols) (e : ExpressionTree) (r : Symbols) (h : IsExpression level e i r) → Ends level (next r) → Told (over_expression levels n level e i r h) ((e, n - operators e), r) (p n i)
+  pub on : (n : ℕ) (i : Symbols) (e : ExpressionTree) (r : Symbols) (h : IsExpression level e i r) → Ends level (next r)
+      → Told (over_expression levels n level e i r h) ((e, n - operators e), r) (p n i)
 
 pub record AllTell (levels : ℕ) (R : Readers) : Type 0 where
   pub unary : Tells 0 levels R.unary
@@ -121,7 +122,8 @@ abbrev pub MayTell : ℕ → Option Readers → Type 0
 MayTell = MayDo AllTell
 
 -- one more level, which the next symbol opens
-pub told_entered : {B : Type 0} {y : B × Symbols} (Does : ℕ → Readers → Type 0) (f : Readers → Reader B) (levels : ℕ) (inner : Option Readers) (i : Symbols) (behind : ℕ → Option Symbols) → MayDo Does levels inner
+pub told_entered : {B : Type 0} {y : B × Symbols} (Does : ℕ → Readers → Type 0) (f : Readers → Reader B) (levels : ℕ) (inner : Option Readers) (i : Symbols) (behind : ℕ → Option Symbols)
+    → MayDo Does levels inner
     → ((R : Readers) (less : ℕ) → Does less R → Told (behind less) y (f R i)) → Told (one_more levels i behind) y (and_then (enter inner i) f)
 told_entered Does f zero None i behind h k = record { is = refl }
 told_entered Does f zero (Some R) i behind h k = absurd h
@@ -129,7 +131,8 @@ told_entered Does f (suc levels) None i behind h k = absurd h
 told_entered Does f (suc levels) (Some R) i behind h k = k R levels h
 
 -- one more level, which this terminal opens
-pub told_opened : {B : Type 0} {y : B × Symbols} (Does : ℕ → Readers → Type 0) (f : Readers → Reader B) (levels : ℕ) (inner : Option Readers) (m : Terminal) (i j : Symbols) (behind : ℕ → Option Symbols) → MayDo Does levels inner → Takes m i j
+pub told_opened : {B : Type 0} {y : B × Symbols} (Does : ℕ → Readers → Type 0) (f : Readers → Reader B) (levels : ℕ) (inner : Option Readers) (m : Terminal) (i j : Symbols)
+    (behind : ℕ → Option Symbols) → MayDo Does levels inner → Takes m i j
     → ((R : Readers) (less : ℕ) → Does less R → Told (behind less) y (f R j)) → Told (one_more levels i behind) y (and_then (open_level m inner i) f)
 unfolding open_level
 told_opened Does f zero None m i j behind h t k = record { is = ap (λ o. and_then o f) (if_true _ (seen_is m i j t) refl) }
@@ -189,12 +192,14 @@ until_refused : {A B : Type 0} {o : Outcome A} (f : A → Reader B) (w : Symbols
 until_refused f w e = ap (λ o. and_then o f) e
 
 -- one operator too many
-chain_refused : (operand : Counting ExpressionTree) (l turns : ℕ) (o : BinaryOperator) (at : Place) (a : ExpressionTree) (j k : Symbols) → MeansAt binary_operator_of o at j k → binds_at o ≡ l → chain operand l (suc turns) a 0 j ≡ Err (P2, j)
+chain_refused : (operand : Counting ExpressionTree) (l turns : ℕ) (o : BinaryOperator) (at : Place) (a : ExpressionTree) (j k : Symbols) → MeansAt binary_operator_of o at j k → binds_at o ≡ l
+    → chain operand l (suc turns) a 0 j ≡ Err (P2, j)
 unfolding chain operator_of count
 chain_refused operand l turns o at a j k (x, h, is) binds = rw (is, h.0, eq-eqb (binds_at o) l binds) refl
 
 -- one operator more
-chain_goes : (operand : Counting ExpressionTree) (l turns : ℕ) (o : BinaryOperator) (at : Place) (a b : ExpressionTree) (m left : ℕ) (j k r : Symbols) (w : Option Symbols) → MeansAt binary_operator_of o at j k → binds_at o ≡ l → Told w ((b, left), r) (operand m k)
+chain_goes : (operand : Counting ExpressionTree) (l turns : ℕ) (o : BinaryOperator) (at : Place) (a b : ExpressionTree) (m left : ℕ) (j k r : Symbols) (w : Option Symbols)
+    → MeansAt binary_operator_of o at j k → binds_at o ≡ l → Told w ((b, left), r) (operand m k)
     → Until w (chain operand l (suc turns) a (suc m) j) (chain operand l turns (binary o at a b) left r)
 unfolding chain operator_of count
 chain_goes operand l turns o at a b m left j k r None (x, h, is) binds reads =
@@ -213,7 +218,8 @@ module _ (u : Counting ExpressionTree) (levels : ℕ) where
   starts l n i e left r None h = record { turns = length r; enough = omega arith; reads = then_is _ (e, left) r h.is refl }
   starts l n i e left r (Some w) h = record { turns = length r; enough = omega arith; reads = until_refused _ w h.is }
 
-  goes_on : (l n : ℕ) (i : Symbols) (o : BinaryOperator) (at : Place) (a b : ExpressionTree) (some left : ℕ) (j k r : Symbols) (w : Option Symbols) (behind : ℕ → Option Symbols) → MeansAt binary_operator_of o at j k → binds_at o ≡ l → length r < length k
+  goes_on : (l n : ℕ) (i : Symbols) (o : BinaryOperator) (at : Place) (a b : ExpressionTree) (some left : ℕ) (j k r : Symbols) (w : Option Symbols) (behind : ℕ → Option Symbols)
+      → MeansAt binary_operator_of o at j k → binds_at o ≡ l → length r < length k
       → ((m : ℕ) → some ≡ suc m → Told (behind m) ((b, left), r) (level u l m k)) → GoesOn l u n i a some j w → GoesOn l u n i (binary o at a b) left r (or_later w (one_more some j behind))
   goes_on l n i o at a b some left j k r (Some w) behind sign binds less reads before = record { turns = length r; enough = omega arith; reads = before.reads }
   goes_on l n i o at a b some left j k r None behind sign binds less reads before = pick some before.turns before.enough before.reads reads
@@ -221,24 +227,29 @@ module _ (u : Counting ExpressionTree) (levels : ℕ) where
       longer : length k < length j
       longer = is_longer j k sign
 
-      last : (turns m : ℕ) (w : Option Symbols) → length j ≤ suc turns → level u (suc l) n i ≡ chain (level u l) l (suc turns) a (suc m) j → Until w (chain (level u l) l (suc turns) a (suc m) j) (chain (level u l) l turns (binary o at a b) left r) → GoesOn l u n i (binary o at a b) left r w
+      last : (turns m : ℕ) (w : Option Symbols) → length j ≤ suc turns → level u (suc l) n i ≡ chain (level u l) l (suc turns) a (suc m) j
+          → Until w (chain (level u l) l (suc turns) a (suc m) j) (chain (level u l) l turns (binary o at a b) left r) → GoesOn l u n i (binary o at a b) left r w
       last turns m None le so_far more = record { turns = turns; enough = omega (arith, longer, less); reads = so_far ∙ more }
       last turns m (Some w) le so_far more = record { turns = length r; enough = omega arith; reads = so_far ∙ more }
 
-      pick : (some turns : ℕ) → length j ≤ turns → level u (suc l) n i ≡ chain (level u l) l turns a some j → ((m : ℕ) → some ≡ suc m → Told (behind m) ((b, left), r) (level u l m k)) → GoesOn l u n i (binary o at a b) left r (one_more some j behind)
+      pick : (some turns : ℕ) → length j ≤ turns → level u (suc l) n i ≡ chain (level u l) l turns a some j → ((m : ℕ) → some ≡ suc m → Told (behind m) ((b, left), r) (level u l m k))
+          → GoesOn l u n i (binary o at a b) left r (one_more some j behind)
       pick some zero le so_far reads = absurd (omega (arith, longer))
       pick zero (suc turns) le so_far reads = record { turns = length r; enough = omega arith; reads = so_far ∙ chain_refused (level u l) l turns o at a j k sign binds }
       pick (suc m) (suc turns) le so_far reads = last turns m (behind m) le so_far (chain_goes (level u l) l turns o at a b m left j k r (behind m) sign binds (reads m refl))
 
   -- what is spelled at a level that is this one
-  on_level : (l m : ℕ) → m ≡ l → (p : Counting ExpressionTree) → Tells l levels p → (n : ℕ) (i : Symbols) (e : ExpressionTree) (r : Symbols) (h : IsExpression m e i r) → Ends l (next r) → Told (over_expression levels n m e i r h) ((e, n - operators e), r) (p n i)
-  on_level l m is p tells n i e r h ends = subst (λ m. (h : IsExpression m e i r) → Told (over_expression levels n m e i r h) ((e, n - operators e), r) (p n i)) (sym is) (λ h. tells.on n i e r h ends) h
+  on_level : (l m : ℕ) → m ≡ l → (p : Counting ExpressionTree) → Tells l levels p → (n : ℕ) (i : Symbols) (e : ExpressionTree) (r : Symbols) (h : IsExpression m e i r) → Ends l (next r)
+      → Told (over_expression levels n m e i r h) ((e, n - operators e), r) (p n i)
+  on_level l m is p tells n i e r h ends =
+      subst (λ m. (h : IsExpression m e i r) → Told (over_expression levels n m e i r h) ((e, n - operators e), r) (p n i)) (sym is) (λ h. tells.on n i e r h ends) h
 
   left_is : (a b : ExpressionTree) (n m : ℕ) → n - operators a ≡ suc m → m - operators b ≡ n - suc (operators a + operators b)
   left_is a b n m one_less = omega (arith, one_less)
 
   -- the left side of the operators of a level
-  spine : (l m : ℕ) → m ≡ suc l → suc l ≤ or_level → Tells l levels (level u l) → (e : ExpressionTree) (n : ℕ) (i : Symbols) (r : Symbols) (k : IsExpression m e i r) → Ends l (next r) → GoesOn l u n i e (n - operators e) r (over_expression levels n m e i r k)
+  spine : (l m : ℕ) → m ≡ suc l → suc l ≤ or_level → Tells l levels (level u l) → (e : ExpressionTree) (n : ℕ) (i : Symbols) (r : Symbols) (k : IsExpression m e i r) → Ends l (next r)
+      → GoesOn l u n i e (n - operators e) r (over_expression levels n m e i r k)
   unfolding over_expression
   spine l m is le h (binary o at a b) n i r k ends =
       elim (cases_lt (binds_at o) l) [
@@ -247,7 +258,8 @@ module _ (u : Counting ExpressionTree) (levels : ℕ) where
             let parts = k.1 in
             let binds : binds_at o ≡ l = omega (arith, k.0) in
             let before = spine l (suc (binds_at o)) (ap suc binds) le h a n i parts.0 parts.1 (behind parts.0 parts.2.0 o at parts.2.1 ge) in
-            goes_on l n i o at a b (n - operators a) (n - operators (binary o at a b)) parts.0 parts.2.0 r (over_expression levels n (suc (binds_at o)) a i parts.0 parts.1) (λ m. over_expression levels m (binds_at o) b parts.2.0 r parts.2.2) parts.2.1 binds
+            goes_on l n i o at a b (n - operators a) (n - operators (binary o at a b)) parts.0 parts.2.0 r (over_expression levels n (suc (binds_at o)) a i parts.0 parts.1)
+            (λ m. over_expression levels m (binds_at o) b parts.2.0 r parts.2.2) parts.2.1 binds
             (expression_longer (binds_at o) b parts.2.0 r parts.2.2)
             (λ m one_less. told_left (left_is a b n m one_less) (on_level l (binds_at o) binds (level u l) h m parts.2.0 b r parts.2.2 ends))
             before
@@ -273,7 +285,8 @@ module _ (u : Counting ExpressionTree) (levels : ℕ) where
   unfolding operator_of
   stops_at l r ends = ends.operator l (omega arith)
 
-  finishes : (l n : ℕ) (i : Symbols) (e : ExpressionTree) (left : ℕ) (r : Symbols) (w : Option Symbols) → GoesOn l u n i e left r w → operator_of l r ≡ None → Told w ((e, left), r) (level u (suc l) n i)
+  finishes : (l n : ℕ) (i : Symbols) (e : ExpressionTree) (left : ℕ) (r : Symbols) (w : Option Symbols) → GoesOn l u n i e left r w → operator_of l r ≡ None
+      → Told w ((e, left), r) (level u (suc l) n i)
   finishes l n i e left r None s stop = record { is = s.reads ∙ chain_stops (level u l) l s.turns e left r stop }
   finishes l n i e left r (Some w) s stop = record { is = s.reads }
 
@@ -281,5 +294,7 @@ module _ (u : Counting ExpressionTree) (levels : ℕ) where
   unfolding level
   level_told h zero le = h
   level_told h (suc l) le = record {
-    on = λ n i e r k ends. finishes l n i e (n - operators e) r (over_expression levels n (suc l) e i r k) (spine l (suc l) refl le (level_told h l (omega arith)) e n i r k (ends_tighter l (next r) ends)) (stops_at l r ends);
+    on =
+        λ n i e r k ends. finishes l n i e (n - operators e) r (over_expression levels n (suc l) e i r k)
+        (spine l (suc l) refl le (level_told h l (omega arith)) e n i r k (ends_tighter l (next r) ends)) (stops_at l r ends);
   }

@@ -36,21 +36,25 @@ module _ {A : Type 0} (P : A → Part) (over : Over P) (goes : Symbols → Bool)
       (told_then _ x j (h.reads x i j k.1 (behind_next follows h xs j r k.2 behind))
       (told_as (ap (λ (ys : List A). (ys, r)) (append_assoc found (x ∷ []) xs)) (repeat_from_told follows h xs turns (found ++ x ∷ []) j r k.2 (omega (arith, h.longer x i j k.1)) stop behind)))
 
-  pub repeat_behind_told : (follows : Symbols → Type 0) → TellsAll follows → (xs found : List A) (i r : Symbols) (k : Each P xs i r) → goes r ≡ false → follows r → Told (over_each P over xs i r k) (found ++ xs, r) (repeat_behind goes item found i)
+  pub repeat_behind_told : (follows : Symbols → Type 0) → TellsAll follows → (xs found : List A) (i r : Symbols) (k : Each P xs i r) → goes r ≡ false → follows r
+      → Told (over_each P over xs i r k) (found ++ xs, r) (repeat_behind goes item found i)
   unfolding repeat_behind
   repeat_behind_told follows h xs found i r k stop behind = repeat_from_told follows h xs (length i) found i r k (omega arith) stop behind
 
-  pub repeat_told : (follows : Symbols → Type 0) → TellsAll follows → (xs : List A) (i r : Symbols) (k : Each P xs i r) → goes r ≡ false → follows r → Told (over_each P over xs i r k) (xs, r) (repeat goes item i)
+  pub repeat_told : (follows : Symbols → Type 0) → TellsAll follows → (xs : List A) (i r : Symbols) (k : Each P xs i r) → goes r ≡ false → follows r
+      → Told (over_each P over xs i r k) (xs, r) (repeat goes item i)
   repeat_told follows h xs i r k stop behind = repeat_behind_told follows h xs [] i r k stop behind
 
   -- at least one
-  pub repeat_some_told : (follows : Symbols → Type 0) → TellsAll follows → (xs : List A) (i r : Symbols) (k : EachOfSome P xs i r) → goes r ≡ false → follows r → Told (over_some P over xs i r k) (xs, r) (repeat goes item i)
+  pub repeat_some_told : (follows : Symbols → Type 0) → TellsAll follows → (xs : List A) (i r : Symbols) (k : EachOfSome P xs i r) → goes r ≡ false → follows r
+      → Told (over_some P over xs i r k) (xs, r) (repeat goes item i)
   unfolding over_some over_each
   repeat_some_told follows h [] i r k stop behind = absurd k
   repeat_some_told follows h (x ∷ xs) i r k stop behind = repeat_told follows h (x ∷ xs) i r k stop behind
 
 -- one more behind those that are found, where the first is found already
-pub repeat_one_told : {A : Type 0} (P : A → Part) (over : Over P) (goes : Symbols → Bool) (item : Reader A) (follows : Symbols → Type 0) → TellsAll P over goes item follows → (x : A) (xs : List A) (i r : Symbols) (k : Each P xs i r) → goes r ≡ false → follows r
+pub repeat_one_told : {A : Type 0} (P : A → Part) (over : Over P) (goes : Symbols → Bool) (item : Reader A) (follows : Symbols → Type 0) → TellsAll P over goes item follows
+    → (x : A) (xs : List A) (i r : Symbols) (k : Each P xs i r) → goes r ≡ false → follows r
     → Told (over_each P over xs i r k) (x ∷ xs, r) (repeat_behind goes item (x ∷ []) i)
 repeat_one_told P over goes item follows h x xs i r k stop behind = repeat_behind_told P over goes item follows h xs (x ∷ []) i r k stop behind
 
@@ -61,7 +65,8 @@ pub record TellsEach {A : Type 0} (P : A → Part) (over : Over P) (item : Reade
   pub reads : (x : A) (i r : Symbols) (h : P x i r) → follows r → Told (over x i r h) (x, r) (item i)
   pub longer : (x : A) (i r : Symbols) → P x i r → length r < length i
 
-module _ {A : Type 0} (between : Terminal) (P : A → Part) (over : Over P) (item : Reader A) (follows : Symbols → Type 0) (h : TellsEach P over item follows) (go : (i j : Symbols) → Takes between i j → follows i) where
+module _ {A : Type 0} (between : Terminal) (P : A → Part) (over : Over P) (item : Reader A) (follows : Symbols → Type 0)
+    (h : TellsEach P over item follows) (go : (i j : Symbols) → Takes between i j → follows i) where
   abbrev Behind : A → Part
   Behind x = Takes between ⨾ P x
 
@@ -72,7 +77,8 @@ module _ {A : Type 0} (between : Terminal) (P : A → Part) (over : Over P) (ite
     longer = λ x i r k. omega (arith, h.longer x k.0 r k.2, takes_longer between i k.0 k.1);
   }
 
-  pub separated_told : (xs : List A) (i r : Symbols) (k : Separated (Takes between) P xs i r) → sees between r ≡ false → follows r → Told (over_separated (Takes between) P over xs i r k) (xs, r) (separated between item i)
+  pub separated_told : (xs : List A) (i r : Symbols) (k : Separated (Takes between) P xs i r) → sees between r ≡ false → follows r
+      → Told (over_separated (Takes between) P over xs i r k) (xs, r) (separated between item i)
   unfolding separated over_separated
   separated_told [] i r k stop behind = absurd k
   separated_told (x ∷ xs) i r k stop behind =
@@ -81,7 +87,8 @@ module _ {A : Type 0} (between : Terminal) (P : A → Part) (over : Over P) (ite
       (repeat_one_told Behind (over_behind (Takes between) P over) (sees between) (skip >> item) follows all x xs j r k.2 stop behind)
 
   -- where the terminal that ends the list comes, and no part begins with it
-  pub separated_until_told : (end : Terminal) → ((x : A) (i r : Symbols) → P x i r → sees end i ≡ false) → (xs : List A) (i r : Symbols) (k : SeparatedOrNone (Takes between) P xs i r) → sees end r ≡ true → sees between r ≡ false → follows r
+  pub separated_until_told : (end : Terminal) → ((x : A) (i r : Symbols) → P x i r → sees end i ≡ false) → (xs : List A) (i r : Symbols) (k : SeparatedOrNone (Takes between) P xs i r)
+      → sees end r ≡ true → sees between r ≡ false → follows r
       → Told (over_listed (Takes between) P over xs i r k) (xs, r) (separated_until end between item i)
   unfolding separated_until over_listed
   separated_until_told end other [] i r k ended stop behind = told_ok (if_true _ (ap (sees end) k ∙ ended) (ap (λ (j : Symbols). done ([], j)) k))
@@ -90,12 +97,15 @@ module _ {A : Type 0} (between : Terminal) (P : A → Part) (over : Over P) (ite
 -- ---- parts without limits
 
 -- where no part passes a limit, the list passes none
-each_none : {A : Type 0} (P : A → Part) (over : Over P) → ((x : A) (i j : Symbols) (h : P x i j) → over x i j h ≡ None) → (xs : List A) (i r : Symbols) (k : Each P xs i r) → over_each P over xs i r k ≡ None
+each_none : {A : Type 0} (P : A → Part) (over : Over P) → ((x : A) (i j : Symbols) (h : P x i j) → over x i j h ≡ None) → (xs : List A) (i r : Symbols) (k : Each P xs i r)
+    → over_each P over xs i r k ≡ None
 unfolding over_each
 each_none P over none [] i r k = refl
 each_none P over none (x ∷ xs) i r (j, first, rest) = let here = none x i j first in let more = each_none P over none xs j r rest in rw (here, more) refl
 
-module _ {A : Type 0} (between : Terminal) (P : A → Part) (item : Reader A) (follows : Symbols → Type 0) (reads : (x : A) (i r : Symbols) → P x i r → follows r → item i ≡ Ok (x, r)) (longer : (x : A) (i r : Symbols) → P x i r → length r < length i) (go : (i j : Symbols) → Takes between i j → follows i) where
+module _ {A : Type 0} (between : Terminal) (P : A → Part) (item : Reader A) (follows : Symbols → Type 0)
+    (reads : (x : A) (i r : Symbols) → P x i r → follows r → item i ≡ Ok (x, r))
+    (longer : (x : A) (i r : Symbols) → P x i r → length r < length i) (go : (i j : Symbols) → Takes between i j → follows i) where
   -- no part passes a limit
   abbrev over_none : Over P
   over_none x i j h = None
@@ -116,5 +126,6 @@ module _ {A : Type 0} (between : Terminal) (P : A → Part) (item : Reader A) (f
   pub separated_is : (xs : List A) (i r : Symbols) → Separated (Takes between) P xs i r → sees between r ≡ false → follows r → separated between item i ≡ Ok (xs, r)
   separated_is xs i r k stop behind = told_given (separated_none xs i r k) (separated_told between P over_none item follows no_limits go xs i r k stop behind)
 
-  pub separated_until_is : (end : Terminal) → ((x : A) (i r : Symbols) → P x i r → sees end i ≡ false) → (xs : List A) (i r : Symbols) → SeparatedOrNone (Takes between) P xs i r → sees end r ≡ true → sees between r ≡ false → follows r → separated_until end between item i ≡ Ok (xs, r)
+  pub separated_until_is : (end : Terminal) → ((x : A) (i r : Symbols) → P x i r → sees end i ≡ false) → (xs : List A) (i r : Symbols) → SeparatedOrNone (Takes between) P xs i r → sees end r ≡ true
+      → sees between r ≡ false → follows r → separated_until end between item i ≡ Ok (xs, r)
   separated_until_is end other xs i r k ended stop behind = told_given (listed_none xs i r k) (separated_until_told between P over_none item follows no_limits go end other xs i r k ended stop behind)

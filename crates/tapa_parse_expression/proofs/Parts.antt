@@ -206,7 +206,8 @@ pub told_behind : {A B : Type 0} {w : Option Symbols} {y : B × Symbols} {o : Ou
 told_behind f a j e h = record { is = then_is f a j e h.is }
 
 -- two parts, each with its limits
-pub told_then : {A B : Type 0} {first later : Option Symbols} {y : B × Symbols} {o : Outcome A} (f : A → Reader B) (a : A) (j : Symbols) → Told first (a, j) o → Told later y (f a j) → Told (or_later first later) y (and_then o f)
+pub told_then : {A B : Type 0} {first later : Option Symbols} {y : B × Symbols} {o : Outcome A} (f : A → Reader B) (a : A) (j : Symbols) → Told first (a, j) o → Told later y (f a j)
+    → Told (or_later first later) y (and_then o f)
 told_then {A} {B} {first} {later} {y} {o} f a j e h = record { is = pick first e.is }
   where
     pick : (first : Option Symbols) → o ≡ told first (a, j) → and_then o f ≡ told (or_later first later) y
@@ -222,7 +223,8 @@ told_after {A} {B} {first} {y} {o} f a j e h = record { is = pick first e.is }
     pick (Some w) e = ap (λ o. and_then o f) e
 
 -- one more operator
-pub told_counted : {B : Type 0} {y : B × Symbols} (f : ℕ → Reader B) (n : ℕ) (i : Symbols) (behind : ℕ → Option Symbols) → ((m : ℕ) → n ≡ suc m → Told (behind m) y (f m i)) → Told (one_more n i behind) y (and_then (count n i) f)
+pub told_counted : {B : Type 0} {y : B × Symbols} (f : ℕ → Reader B) (n : ℕ) (i : Symbols) (behind : ℕ → Option Symbols) → ((m : ℕ) → n ≡ suc m → Told (behind m) y (f m i))
+    → Told (one_more n i behind) y (and_then (count n i) f)
 unfolding count
 told_counted f zero i behind h = record { is = refl }
 told_counted f (suc n) i behind h = h n refl

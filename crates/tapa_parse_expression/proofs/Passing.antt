@@ -25,15 +25,19 @@ mutual
   none_over levels n l (boolean b) i j h deep few = refl
   none_over levels n l (variable x) i j h deep few = refl
   none_over levels n l (element x e) i j (a, name, (b, bracket, (c, inside, close))) deep few = one_left levels a _ (omega arith) (λ less is. none_over less n _ e b c inside (omega arith) few)
-  none_over levels n l (call x y es) i j (a, name, (b, dot, (c, method, (d, paren, (k, inside, close))))) deep few = one_left levels c _ (omega arith) (λ less is. none_over_arguments less n es d k inside (omega arith) few)
+  none_over levels n l (call x y es) i j (a, name, (b, dot, (c, method, (d, paren, (k, inside, close))))) deep few =
+      one_left levels c _ (omega arith) (λ less is. none_over_arguments less n es d k inside (omega arith) few)
   none_over levels n l nullptr i j h deep few = refl
   none_over levels n l (construct k e) i j (a, word, (b, paren, (c, inside, close))) deep few = one_left levels a _ (omega arith) (λ less is. none_over less n _ e b c inside (omega arith) few)
-  none_over levels n l (static_cast k e) i j (a, word, (b, angle, (c, type, (d, greater, (f, paren, (g, inside, close)))))) deep few = one_left levels d _ (omega arith) (λ less is. none_over less n _ e f g inside (omega arith) few)
+  none_over levels n l (static_cast k e) i j (a, word, (b, angle, (c, type, (d, greater, (f, paren, (g, inside, close)))))) deep few =
+      one_left levels d _ (omega arith) (λ less is. none_over less n _ e f g inside (omega arith) few)
   none_over levels n l (cast k e) i j (a, paren, (b, type, (c, close, operand))) deep few = one_left levels i _ (omega arith) (λ less is. none_over less n 0 e c j operand (omega arith) few)
   none_over levels n l (parenthesized e) i j (a, paren, (b, inside, close)) deep few = one_left levels i _ (omega arith) (λ less is. none_over less n _ e a b inside (omega arith) few)
-  none_over levels n l (prefix o at e) i j (a, sign, operand) deep few = one_left n i _ (omega arith) (λ m one_less. one_left levels i _ (omega arith) (λ less is. none_over less m 0 e a j operand (omega arith) (omega arith)))
+  none_over levels n l (prefix o at e) i j (a, sign, operand) deep few =
+      one_left n i _ (omega arith) (λ m one_less. one_left levels i _ (omega arith) (λ less is. none_over less m 0 e a j operand (omega arith) (omega arith)))
   none_over levels n l (binary o at a b) i j (fits, (c, first, (d, sign, second))) deep few =
-      neither _ _ (none_over levels n _ a i c first (omega arith) (omega arith)) (one_left (n - operators a) c _ (omega arith) (λ m one_less. none_over levels m _ b d j second (omega arith) (omega arith)))
+      neither _ _ (none_over levels n _ a i c first (omega arith) (omega arith))
+      (one_left (n - operators a) c _ (omega arith) (λ m one_less. none_over levels m _ b d j second (omega arith) (omega arith)))
   none_over levels n l (conditional at c a b) i j (fits, (d, test, (f, mark, (g, first, (k, colon, second))))) deep few =
       neither _ _ (none_over levels n _ c i d test (omega arith) (omega arith))
       (one_left (n - operators c) d _ (omega arith) (λ m one_less. one_left levels d _ (omega arith)
@@ -41,11 +45,13 @@ mutual
 
   pub none_over_arguments : (levels n : ℕ) (es : Expressions) (i j : Symbols) (h : AreArguments es i j) → nestings es ≤ levels → operators_in es ≤ n → over_arguments levels n es i j h ≡ None
   none_over_arguments levels n none i j h deep few = refl
-  none_over_arguments levels n (one e es) i j (a, first, rest) deep few = neither _ _ (none_over levels n _ e i a first (omega arith) (omega arith)) (none_over_more levels (n - operators e) es a j rest (omega arith) (omega arith))
+  none_over_arguments levels n (one e es) i j (a, first, rest) deep few =
+      neither _ _ (none_over levels n _ e i a first (omega arith) (omega arith)) (none_over_more levels (n - operators e) es a j rest (omega arith) (omega arith))
 
   pub none_over_more : (levels n : ℕ) (es : Expressions) (i j : Symbols) (h : AreMoreArguments es i j) → nestings es ≤ levels → operators_in es ≤ n → over_more_arguments levels n es i j h ≡ None
   none_over_more levels n none i j h deep few = refl
-  none_over_more levels n (one e es) i j (a, comma, (b, first, rest)) deep few = neither _ _ (none_over levels n _ e a b first (omega arith) (omega arith)) (none_over_more levels (n - operators e) es b j rest (omega arith) (omega arith))
+  none_over_more levels n (one e es) i j (a, comma, (b, first, rest)) deep few =
+      neither _ _ (none_over levels n _ e a b first (omega arith) (omega arith)) (none_over_more levels (n - operators e) es b j rest (omega arith) (omega arith))
 
 -- ---- lists
 

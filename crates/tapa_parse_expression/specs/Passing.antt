@@ -24,7 +24,8 @@ unfoldable mutual
   over_expression levels n l (element name e) i j (a, x, (b, bracket, (c, inside, close))) = one_more levels a (λ less. over_expression less n expression_level e b c inside)
   over_expression levels n l (call stream method es) i j (a, x, (b, dot, (c, y, (d, paren, (k, inside, close))))) = one_more levels c (λ less. over_arguments less n es d k inside)
   over_expression levels n l (construct kind e) i j (a, word, (b, paren, (c, inside, close))) = one_more levels a (λ less. over_expression less n expression_level e b c inside)
-  over_expression levels n l (static_cast kind e) i j (a, word, (b, angle, (c, type, (d, greater, (f, paren, (g, inside, close)))))) = one_more levels d (λ less. over_expression less n expression_level e f g inside)
+  over_expression levels n l (static_cast kind e) i j (a, word, (b, angle, (c, type, (d, greater, (f, paren, (g, inside, close)))))) =
+      one_more levels d (λ less. over_expression less n expression_level e f g inside)
   -- the parenthesis of a cast is open over its operand
   over_expression levels n l (cast kind e) i j (a, paren, (b, type, (c, close, operand))) = one_more levels i (λ less. over_expression less n 0 e c j operand)
   over_expression levels n l (parenthesized e) i j (a, paren, (b, inside, close)) = one_more levels i (λ less. over_expression less n expression_level e a b inside)
@@ -33,7 +34,8 @@ unfoldable mutual
       or_later (over_expression levels n (suc (binds_at o)) a i c first) (one_more (n - operators a) c (λ m. over_expression levels m (binds_at o) b d j second))
   over_expression levels n l (conditional at c a b) i j (fits, (d, test, (f, mark, (g, first, (k, colon, second))))) =
       or_later (over_expression levels n or_level c i d test)
-      (one_more (n - operators c) d (λ m. one_more levels d (λ less. or_later (over_expression less m expression_level a f g first) (over_expression less (m - operators a) expression_level b k j second))))
+      (one_more (n - operators c) d
+      (λ m. one_more levels d (λ less. or_later (over_expression less m expression_level a f g first) (over_expression less (m - operators a) expression_level b k j second))))
   over_expression levels n l _ i j h = None
 
   -- the arguments of a call in an expression count with it
