@@ -1,5 +1,5 @@
 -- What is spelled as a file is read, or refused at the first lexeme that passes a limit; so a list of symbols has one tree.
-use Rattle.std.proofs.Common.{◌≡◌, ℕ, suc, max, ◌<◌, ◌≤◌, inl, inr, true, false, List, [], ◌∷◌, length, drop, Option, Some, None, Result, Ok, Err, refl, sym, ap, ◌∙◌, arith}
+use Rattle.std.proofs.Common.{◌≡◌, ℕ, suc, max, ◌<◌, ◌≤◌, inl, inr, true, false, List, [], ◌∷◌, length, drop, Option, Result, Ok, Err, refl, sym, ap, ◌∙◌, arith}
 use Rattle.std.specs.Prelude.{◌||◌}
 use Rattle.tapa_base.specs.declared.text.Place.{Place}
 use Rattle.tapa_syntax.specs.declared.terminal.Terminal.{Terminal}
@@ -18,7 +18,7 @@ use Rattle.tapa_parse_expression.specs.Passing.{over_each}
 use Rattle.tapa_parse.specs.Reading.{constant_word, body, task_behind, constant_behind, item, file}
 use Rattle.tapa_parse.specs.Passing.{over_attribute, over_body, over_item}
 use Rattle.tapa_base.specs.Gaps.{Bytes}
-use Rattle.tapa_parse_expression.proofs.Parts.{Symbols, done, ok_is, then_is, if_true, if_false, next_is, seen_is, dropped, expect_is, name_is, told, Told, told_true, told_false, told_behind, told_then, told_after}
+use Rattle.tapa_parse_expression.proofs.Parts.{Symbols, done, ok_is, then_is, if_true, next_is, seen_is, dropped, expect_is, name_is, told, Told, told_true, told_false, told_behind, told_then, told_after}
 use Rattle.tapa_parse_expression.proofs.CompleteLists.{TellsAll, repeat_told}
 use Rattle.tapa_parse_expression.proofs.CompleteTypes.{type_complete, type_longer, takes_longer, sees_other}
 use Rattle.tapa_parse_expression.proofs.CompleteLevels.{stops, expression_longer}

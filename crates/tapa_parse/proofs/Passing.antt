@@ -1,12 +1,12 @@
 -- What is within the limits passes none: actions, statements, tasks and files.
-use Rattle.std.proofs.Common.{◌≡◌, ℕ, zero, suc, ◌<◌, ◌≤◌, max, List, [], ◌∷◌, Option, Some, None, refl, arith}
+use Rattle.std.proofs.Common.{◌≡◌, ℕ, suc, ◌≤◌, List, [], ◌∷◌, Option, Some, None, refl, arith}
 use Rattle.tapa_base.specs.Spans.{◌⨾◌, Each}
 use Rattle.tapa_syntax.specs.declared.terminal.Terminal.TheVariants as terminal
 use Rattle.tapa_syntax.specs.declared.tree.AttributeArgument.{AttributeArgument}
-use Rattle.tapa_syntax.specs.Trees.{ExpressionTree, PlaceTree, variable_place, element_place, ActionTree, call_action, write, read, assign, postfix, prefix_step, CountForm, literal_count, name_count, parenthesized_count, CountTree, DeclaratorTree, plain, initialized, array, DeclarationTree, AttributeTree, StartTree, no_start, declare_start, act_start, HeadTree, StatementTree, attributed, empty, block, declare, act, if_only, if_else, while, for, while_not_eot, break, continue, Statements, no_statement, statement_then, StreamTree, ArgumentTree, InvocationTree, BodyTree, leaf, upper, ItemTree, constant, task}
+use Rattle.tapa_syntax.specs.Trees.{variable_place, element_place, call_action, write, read, assign, postfix, prefix_step, literal_count, name_count, parenthesized_count, plain, initialized, array, AttributeTree, no_start, declare_start, act_start, StatementTree, attributed, empty, block, declare, act, if_only, if_else, while, for, while_not_eot, break, continue, Statements, no_statement, statement_then, leaf, upper, ItemTree, constant, task}
 use Rattle.tapa_syntax.specs.Grammar.{Takes, IsExpression, sum_level, expression_level, argument_level, IsPlace, IsAction, IsCountForm, IsCount, IsDeclarator, IsDeclaration, AreAttributeArguments, IsAttribute, IsStart, IsHead, IsStatement, AreStatements, IsStream, IsArgument, IsInvocation, IsBody, IsItem, IsTreeOf}
 use Rattle.tapa_syntax.specs.Limits.{most, if_there, nesting, operators, place_nesting, place_operators, action_nesting, action_operators, form_nesting, form_operators, declarator_nesting, declarator_operators, declaration_nesting, declaration_operators, attribute_nesting, start_nesting, start_operators, head_nesting, head_operators, statement_nesting, statement_operators, statements_nesting, statements_operators, stream_nesting, stream_operators, invocation_nesting, invocation_operators, body_nesting, body_operators, item_nesting, item_operators}
-use Rattle.tapa_parse_expression.specs.Passing.{one_more, over_each, over_behind}
+use Rattle.tapa_parse_expression.specs.Passing.{over_each, over_behind}
 use Rattle.tapa_parse.specs.Passing.{over_whole, over_place, over_action, over_form, over_count, over_declarator, over_declaration, over_attribute_arguments, over_attribute, over_start, over_head, over_inside, over_statements, over_stream, over_argument, over_invocation, over_body, over_item}
 use Rattle.tapa_parse_expression.proofs.Parts.{Symbols}
 use Rattle.tapa_parse_expression.proofs.Passing.{one_left, neither, none_over, NoneOver, none_over_each, none_over_some, none_over_maybe, none_behind, none_over_separated, none_over_listed}

@@ -1,5 +1,5 @@
 -- What is spelled as an expression is read, where it does not go on, or refused at the first lexeme that passes a limit.
-use Rattle.std.proofs.Common.{◌≡◌, ℕ, zero, suc, ◌+◌, ◌-◌, ◌≤◌, ◌⊎◌, inl, inr, Bool, true, false, List, [], ◌∷◌, ◌++◌, length, drop, Option, Some, None, Ok, refl, sym, ap, ◌∙◌, arith, append_assoc}
+use Rattle.std.proofs.Common.{◌≡◌, ℕ, zero, suc, ◌+◌, ◌-◌, ◌≤◌, ◌⊎◌, inl, inr, Bool, true, false, List, [], ◌∷◌, ◌++◌, length, drop, Option, None, refl, ap, ◌∙◌, arith, append_assoc}
 use Rattle.tapa_base.specs.declared.kind.Kind.{Kind}
 use Rattle.tapa_base.specs.declared.text.Place.{Place}
 use Rattle.tapa_syntax.specs.declared.terminal.Terminal.{Terminal}
@@ -10,7 +10,7 @@ use Rattle.tapa_syntax.specs.Trees.{ExpressionTree, literal, boolean, variable, 
 use Rattle.tapa_syntax.specs.Trees.{none as no_expression, one as one_expression}
 use Rattle.tapa_syntax.specs.Limits.{operators, operators_in}
 use Rattle.tapa_syntax.specs.Grammar.{Takes, StandsAt, TakesAt, MeansAt, IsType, IsExpression, AreArguments, AreMoreArguments, is_name, prefix_operator_of, or_level, expression_level, argument_level}
-use Rattle.tapa_parse_expression.specs.Readers.{Outcome, and_then, next, first_place, same, sees, name}
+use Rattle.tapa_parse_expression.specs.Readers.{next, first_place, same, sees}
 use Rattle.tapa_parse_expression.specs.Reading.{Counting, Readers, level, argument, more_arguments, some_arguments, any_arguments, in_parentheses, in_brackets, arguments, named_by, named, constructed, statically_cast, primary_by, primary, parenthesis, converted, prefixed, unary_with, arms, expression_with, whole, below_levels}
 use Rattle.tapa_parse_expression.specs.Passing.{one_more, or_later, over_expression, over_arguments, over_more_arguments}
 use Rattle.tapa_parse_expression.proofs.Parts.{Symbols, done, then_is, if_true, if_false, differ_by, next_is, seen_is, dropped, expect_is, name_is, plain_is, literal_is, Told, told_ok, told_by, told_as, told_left, told_true, told_false, told_behind, told_then, told_after, told_counted}

@@ -1,5 +1,5 @@
 -- What an expression ends before, and its levels: what is spelled at a level is read, where it does not go on, or refused at the first lexeme that passes a limit.
-use Rattle.std.proofs.Common.{◌≡◌, ℕ, zero, suc, ◌+◌, ◌-◌, ◌<◌, ◌≤◌, inl, inr, Bool, true, false, cond, ◌∷◌, length, Option, Some, None, Ok, Err, refl, sym, ap, subst, ◌∙◌, arith, eqb}
+use Rattle.std.proofs.Common.{◌≡◌, ℕ, zero, suc, ◌+◌, ◌-◌, ◌<◌, ◌≤◌, inl, inr, Bool, true, false, cond, length, Option, Some, None, Ok, Err, refl, sym, ap, subst, ◌∙◌, arith, eqb}
 use Rattle.std.proofs.lemmas.Bool.{eqb-true, eq-eqb, cases_lt}
 use Rattle.tapa_base.specs.declared.op.Op.TheVariants as op
 use Rattle.tapa_base.specs.declared.text.Place.{Place}
@@ -17,7 +17,7 @@ use Rattle.tapa_parse_expression.specs.declared.fault.ParseCode.TheVariants.{P2}
 use Rattle.tapa_parse_expression.specs.Readers.{Outcome, Reader, and_then, next, same}
 use Rattle.tapa_parse_expression.specs.Reading.{Counting, Readers, enter, open_level, count, at_level, operator_of, chain, chain_of, level}
 use Rattle.tapa_parse_expression.specs.Passing.{one_more, or_later, over_expression}
-use Rattle.tapa_parse_expression.proofs.Parts.{Symbols, done, then_is, if_true, next_is, seen_is, dropped, told, Told, told_left, told_behind}
+use Rattle.tapa_parse_expression.proofs.Parts.{Symbols, done, then_is, if_true, next_is, seen_is, dropped, Told, told_left, told_behind}
 use Rattle.tapa_parse_expression.proofs.CompleteTypes.{one_longer, type_longer, takes_longer}
 
 -- ---- what may stand behind an expression

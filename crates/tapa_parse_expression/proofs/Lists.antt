@@ -1,12 +1,11 @@
 -- Lists of parts: what is read is spelled so, and within its limits.
-use Rattle.std.proofs.Common.{◌≡◌, ℕ, zero, suc, ◌<◌, ◌≤◌, Bool, true, false, List, [], ◌∷◌, ◌++◌, length, drop, Ok, refl, sym, ap, subst, ◌∙◌, arith, append_assoc}
+use Rattle.std.proofs.Common.{◌≡◌, ℕ, zero, suc, ◌<◌, ◌≤◌, Bool, true, false, List, [], ◌∷◌, ◌++◌, length, drop, refl, sym, ap, subst, ◌∙◌, arith, append_assoc}
 use Rattle.tapa_syntax.specs.declared.terminal.Terminal.{Terminal}
 use Rattle.tapa_base.specs.Spans.{◌⨾◌, Each, EachOfSome, Separated, SeparatedOrNone}
 use Rattle.tapa_syntax.specs.Grammar.{Part, Takes}
 use Rattle.tapa_syntax.specs.Limits.{most}
 use Rattle.tapa_parse_expression.specs.Readers.{Reader, skip, sees, repeat_from, repeat_behind, repeat, separated, separated_until, ◌>>◌}
-use Rattle.tapa_parse_expression.proofs.Parts.{Symbols, Yields, yields_pure, yields_then, yields_if, weaker, done, takes, is_end, then_is, if_true, if_false, seen_is, dropped}
-use Rattle.tapa_parse_expression.proofs.CompleteTypes.{takes_longer}
+use Rattle.tapa_parse_expression.proofs.Parts.{Symbols, Yields, yields_pure, yields_then, yields_if, weaker, takes, is_end}
 
 -- ---- parts within limits
 
