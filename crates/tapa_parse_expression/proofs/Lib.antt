@@ -1,3 +1,4 @@
+mod Fronts
 mod Symbols
 pub mod Turns
 pub mod Rows
