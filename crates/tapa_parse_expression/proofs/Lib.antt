@@ -1,4 +1,5 @@
 mod Fronts
+mod SteadyTypes
 mod Symbols
 pub mod Turns
 pub mod Rows
