@@ -1,5 +1,5 @@
 -- What a reader answers hangs on the symbols up to the one that it stops before, and on none behind; and what stands before that one may go on.
-use Rattle.std.proofs.Common.{◌≡◌, ◌⊎◌, inl, inr, ℕ, zero, suc, Bool, true, false, cond, List, [], ◌∷◌, ◌++◌, drop, Option, Some, None, Ok, Err, refl, sym, ap, subst, ◌∙◌, append_assoc}
+use Rattle.std.proofs.Common.{◌≡◌, ◌⊎◌, inl, inr, ℕ, zero, suc, ◌<◌, Bool, true, false, cond, List, [], ◌∷◌, ◌++◌, length, drop, Option, Some, None, Ok, Err, refl, sym, ap, subst, ◌∙◌, append_assoc, arith}
 use Rattle.std.specs.Prelude.{if◌then◌else◌}
 use Rattle.tapa_base.specs.declared.text.Place.{Place}
 use Rattle.tapa_base.specs.declared.kind.Kind.{Kind}
@@ -14,7 +14,7 @@ use Rattle.tapa_parse_expression.specs.declared.fault.ParseCode.{ParseCode}
 use Rattle.tapa_parse_expression.specs.declared.fault.ParseCode.TheVariants.{P1, P2}
 use Rattle.tapa_parse_expression.specs.Readers.{Outcome, Reader, and_then, ◌>>=◌, ◌>>◌, pure, refuse, next, first_place, first_text, first_literal, same, sees, skip, here, expect, past, eat, known, name_here, name, plain_by, plain_name, literal_value, no_place}
 use Rattle.tapa_parse_expression.specs.Reading.{Readers, enter, count, open_level}
-use Rattle.tapa_parse_expression.proofs.Parts.{Symbols, then_is, if_true, if_false, is_end, sees_is, is_seen, takes}
+use Rattle.tapa_parse_expression.proofs.Parts.{Symbols, ok_is, then_is, if_true, if_false, is_end, sees_is, is_seen, takes}
 
 -- ---- fronts
 
@@ -99,12 +99,12 @@ steady_map P Q f (refuses P2 g [] is e goes same) = absurd goes
 steady_map P Q f (refuses P2 g (x ∷ l) is e goes same) = refuses P2 g (x ∷ l) is e (goes.0, λ j. f (g.put (x ∷ goes.0 j)) j (goes.1 j)) same
 
 module _ {A B : Type 0} (P Q : Part) (p : Reader A) (q : A → Reader B) (i : Symbols) where
-  goes_on : (c : ParseCode) (f : Front) (l : Symbols) → Full Q → Goes P c f l → Goes (P ⨾ Q) c f l
+  pub goes_on : (c : ParseCode) (f : Front) (l : Symbols) → Full Q → Goes P c f l → Goes (P ⨾ Q) c f l
   goes_on P1 f l full goes = (λ j. goes.0 (full.before j), λ j. (full.before j, goes.1 (full.before j), full.spelled j))
   goes_on P2 f [] full goes = goes
   goes_on P2 f (x ∷ l) full goes = (λ j. goes.0 (full.before j), λ j. (full.before j, goes.1 (full.before j), full.spelled j))
 
-  goes_behind : (c : ParseCode) (f g : Front) (l : Symbols) → ((j : Symbols) → P (f.put j) j) → Goes Q c g l → Goes (P ⨾ Q) c (front_then f g) l
+  pub goes_behind : (c : ParseCode) (f g : Front) (l : Symbols) → ((j : Symbols) → P (f.put j) j) → Goes Q c g l → Goes (P ⨾ Q) c (front_then f g) l
   goes_behind P1 f g l part goes = (goes.0, λ j. (g.put (goes.0 j), part (g.put (goes.0 j)), goes.1 j))
   goes_behind P2 f g [] part goes = goes
   goes_behind P2 f g (x ∷ l) part goes = (goes.0, λ j. (g.put (x ∷ goes.0 j), part (g.put (x ∷ goes.0 j)), goes.1 j))
@@ -121,16 +121,32 @@ module _ {A B : Type 0} (P Q : Part) (p : Reader A) (q : A → Reader B) (i : Sy
           refuses c (front_then f g) m (is ∙ ap f.put behind) (then_is q a l e refused) (goes_behind c f g m part goes)
           (λ x z other ends. then_is q a (g.put (x ∷ other)) (carry p a f g l m x z other same behind ends) (same' x z other ends))
 
+-- a front with a symbol behind it is some
+pub none_left : (f : Front) (x : Symbol) (l : Symbols) → [] ≡ f.put (x ∷ l) → ⊥
+none_left f x l is = pick (f.put []) (is ∙ f.is (x ∷ l))
+  where
+    pick : (ys : Symbols) → [] ≡ ys ++ (x ∷ l) → ⊥
+    pick [] e = cc
+    pick (y ∷ ys) e = cc
+
+pub put_some : (f : Front) (x : Symbol) (l : Symbols) → 0 < length (f.put (x ∷ l))
+put_some f x l = subst (λ k. 0 < length k) (sym (f.is (x ∷ l))) (pick (f.put []))
+  where
+    pick : (ys : Symbols) → 0 < length (ys ++ (x ∷ l))
+    pick [] = omega arith
+    pick (y ∷ ys) = omega arith
+
 -- what is read at no symbol has a spelling
 pub full_of : {A : Type 0} (P : Part) (p : Reader A) → Steady P p [] → Full P
 full_of P p (gives a f l is e part same) = record { before = f.put; spelled = part }
 full_of P p (refuses P1 f l is e goes same) = record { before = λ j. f.put (goes.0 j); spelled = goes.1 }
 full_of P p (refuses P2 f [] is e goes same) = absurd goes
-full_of P p (refuses P2 f (x ∷ l) is e goes same) = absurd (pick (f.put []) (is ∙ f.is (x ∷ l)))
-  where
-    pick : (ys : Symbols) → [] ≡ ys ++ (x ∷ l) → ⊥
-    pick [] e = cc
-    pick (y ∷ ys) e = cc
+full_of P p (refuses P2 f (x ∷ l) is e goes same) = absurd (none_left f x l is)
+
+-- what is given is spelled so
+pub spelled_of : {A : Type 0} {P : Part} {p : Reader A} {i : Symbols} (a : A) (j : Symbols) → Steady P p i → p i ≡ Ok (a, j) → P i j
+spelled_of {P = P} {i = i} a j (gives b f l is e part same) h = let ends : l ≡ j = ap (λ y. y.1) (ok_is (b, l) (a, j) (sym e ∙ h)) in subst (λ k. P i k) ends (subst (λ k. P k l) (sym is) (part l))
+spelled_of a j (refuses c f l is e goes same) h = absurd (let both = sym e ∙ h in cc)
 
 -- where one value is known, what comes next needs no spelling of its own
 pub steady_then : {A B : Type 0} {P Q : Part} {p : Reader A} {q : A → Reader B} {i : Symbols} → A → Steady P p i → ((a : A) (j : Symbols) → Steady Q (q a) j) → Steady (P ⨾ Q) (p >>= q) i

@@ -1,4 +1,5 @@
 mod Fronts
+mod SteadyLists
 mod SteadyTypes
 mod Symbols
 pub mod Turns
