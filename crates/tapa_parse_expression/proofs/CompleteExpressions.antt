@@ -106,14 +106,14 @@ name_no_prefix terminal.Tilde e = absurd cc
 name_no_prefix terminal.Exclamation e = absurd cc
 name_no_prefix _ e = refl
 
-type_no_prefix : (m : Terminal) → begins_type m ≡ true → prefix_operator_of m ≡ None
+pub type_no_prefix : (m : Terminal) → begins_type m ≡ true → prefix_operator_of m ≡ None
 type_no_prefix terminal.Minus e = absurd cc
 type_no_prefix terminal.Plus e = absurd cc
 type_no_prefix terminal.Tilde e = absurd cc
 type_no_prefix terminal.Exclamation e = absurd cc
 type_no_prefix _ e = refl
 
-type_no_name : (m : Terminal) → begins_type m ≡ true → is_name m ≡ false
+pub type_no_name : (m : Terminal) → begins_type m ≡ true → is_name m ≡ false
 type_no_name terminal.Name e = absurd cc
 type_no_name terminal.Istream e = absurd cc
 type_no_name terminal.Ostream e = absurd cc
@@ -126,7 +126,7 @@ type_no_name _ e = refl
 name_no_paren : (m : Terminal) → is_name m ≡ true → same m terminal.LeftParen ≡ false
 name_no_paren m e = differ_by is_name m terminal.LeftParen (λ f. cc)
 
-type_no_paren : (m : Terminal) → begins_type m ≡ true → same m terminal.LeftParen ≡ false
+pub type_no_paren : (m : Terminal) → begins_type m ≡ true → same m terminal.LeftParen ≡ false
 type_no_paren m e = differ_by begins_type m terminal.LeftParen (λ f. cc)
 
 abbrev count_tree : Place → CountForm → CountTree

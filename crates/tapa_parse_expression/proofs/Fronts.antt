@@ -1,5 +1,5 @@
 -- What a reader answers hangs on the symbols up to the one that it stops before, and on none behind; and what stands before that one may go on.
-use Rattle.std.proofs.Common.{◌≡◌, ◌⊎◌, inl, inr, ℕ, zero, suc, ◌<◌, Bool, true, false, cond, List, [], ◌∷◌, ◌++◌, length, drop, Option, Some, None, Ok, Err, refl, sym, ap, subst, ◌∙◌, append_assoc, arith}
+use Rattle.std.proofs.Common.{◌≡◌, inl, inr, ℕ, zero, suc, ◌<◌, Bool, true, false, cond, [], ◌∷◌, ◌++◌, length, drop, Option, Some, None, Ok, Err, refl, sym, ap, subst, ◌∙◌, append_assoc, arith}
 use Rattle.std.specs.Prelude.{if◌then◌else◌}
 use Rattle.tapa_base.specs.declared.text.Place.{Place}
 use Rattle.tapa_base.specs.declared.kind.Kind.{Kind}
@@ -12,9 +12,9 @@ use Rattle.tapa_syntax.specs.Grammar.{Part, Takes, May, Means, IsName, IsPlainNa
 use Rattle.tapa_syntax.specs.declared.tree.Name.{Name}
 use Rattle.tapa_parse_expression.specs.declared.fault.ParseCode.{ParseCode}
 use Rattle.tapa_parse_expression.specs.declared.fault.ParseCode.TheVariants.{P1, P2}
-use Rattle.tapa_parse_expression.specs.Readers.{Outcome, Reader, and_then, ◌>>=◌, ◌>>◌, pure, refuse, next, first_place, first_text, first_literal, same, sees, skip, here, expect, past, eat, known, name_here, name, plain_by, plain_name, literal_value, no_place}
+use Rattle.tapa_parse_expression.specs.Readers.{Outcome, Reader, and_then, ◌>>=◌, ◌>>◌, pure, refuse, next, first_place, same, sees, skip, here, expect, past, eat, known, name, plain_by, plain_name, literal_value, no_place}
 use Rattle.tapa_parse_expression.specs.Reading.{Readers, enter, count, open_level}
-use Rattle.tapa_parse_expression.proofs.Parts.{Symbols, ok_is, then_is, if_true, if_false, is_end, sees_is, is_seen, takes}
+use Rattle.tapa_parse_expression.proofs.Parts.{Symbols, ok_is, then_is, if_false, is_end, sees_is}
 
 -- ---- fronts
 
@@ -163,6 +163,18 @@ steady_value g (refuses c f l is e goes same) = refuses c f l is (ap (λ o. and_
 pub steady_as : {A : Type 0} {P : Part} (p q : Reader A) (i : Symbols) → ((k : Symbols) → q k ≡ p k) → Steady P p i → Steady P q i
 steady_as p q i eq (gives a f l is e part same) = gives a f l is (eq i ∙ e) part (λ x z other ends. eq (f.put (x ∷ other)) ∙ same x z other ends)
 steady_as p q i eq (refuses c f l is e goes same) = refuses c f l is (eq i ∙ e) goes (λ x z other ends. eq (f.put (x ∷ other)) ∙ same x z other ends)
+
+-- the same, where the next symbol is this one
+pub steady_where : {A : Type 0} {P : Part} (p q : Reader A) (i : Symbols) → ((k : Symbols) → next k ≡ next i → q k ≡ p k) → Steady P p i → Steady P q i
+steady_where p q i eq (gives a f l is e part same) = gives a f l is (eq i refl ∙ e) part (λ x z other ends. eq (f.put (x ∷ other)) (same_first next (λ x z other. refl) f i l x z other is ends) ∙ same x z other ends)
+steady_where p q i eq (refuses c f l is e goes same) = refuses c f l is (eq i refl ∙ e) goes (λ x z other ends. eq (f.put (x ∷ other)) (same_first next (λ x z other. refl) f i l x z other is ends) ∙ same x z other ends)
+
+-- a reader that passes a symbol, and answers behind it as another does
+pub steady_behind : {A : Type 0} (P Q : Part) (p q : Reader A) (x : Symbol) (s : Symbols) → ((k : Symbols) → q (x ∷ k) ≡ p k) → ((j r : Symbols) → P j r → Q (x ∷ j) r) → Steady P p s → Steady Q q (x ∷ s)
+steady_behind P Q p q x s eq g (gives a f l is e part same) = gives a (front_then (front_one x) f) l (ap (λ k. x ∷ k) is) (eq s ∙ e) (λ j. g (f.put j) j (part j)) (λ y z other ends. eq (f.put (y ∷ other)) ∙ same y z other ends)
+steady_behind P Q p q x s eq g (refuses P1 f l is e goes same) = refuses P1 (front_then (front_one x) f) l (ap (λ k. x ∷ k) is) (eq s ∙ e) (goes.0, λ j. g (f.put (goes.0 j)) j (goes.1 j)) (λ y z other ends. eq (f.put (y ∷ other)) ∙ same y z other ends)
+steady_behind P Q p q x s eq g (refuses P2 f [] is e goes same) = absurd goes
+steady_behind P Q p q x s eq g (refuses P2 f (w ∷ l) is e goes same) = refuses P2 (front_then (front_one x) f) (w ∷ l) (ap (λ k. x ∷ k) is) (eq s ∙ e) (goes.0, λ j. g (f.put (w ∷ goes.0 j)) j (goes.1 j)) (λ y z other ends. eq (f.put (y ∷ other)) ∙ same y z other ends)
 
 -- ---- choices by the next symbol
 

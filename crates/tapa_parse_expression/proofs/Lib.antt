@@ -1,6 +1,3 @@
-mod Fronts
-mod SteadyLists
-mod SteadyTypes
 mod Symbols
 pub mod Turns
 pub mod Rows
@@ -12,3 +9,8 @@ pub mod CompleteLevels
 pub mod Begins
 pub mod CompleteExpressions
 pub mod Lists
+pub mod Fronts
+pub mod SteadyLists
+pub mod SteadyTypes
+pub mod SteadyExpressions
+pub mod SteadyCasts

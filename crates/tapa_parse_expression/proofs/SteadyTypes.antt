@@ -1,16 +1,18 @@
 -- The readers of types are steady.
 use Rattle.tapa_base.specs.declared.kind.Kind.{Kind}
-use Rattle.std.proofs.Common.{◌≡◌, [], ◌∷◌, ◌⊎◌, inl, inr, true, Some, refl, sym, ap, subst, ◌∙◌}
+use Rattle.std.proofs.Common.{◌≡◌, [], ◌∷◌, inl, inr, true, Some, refl, ap, ◌∙◌}
 use Rattle.tapa_base.specs.declared.kind.Kind.TheVariants as kind
-use Rattle.tapa_base.specs.Spans.{◌⨾◌, ◌∣◌}
+use Rattle.tapa_base.specs.Spans.{◌⨾◌, ◌∣◌, Nothing}
 use Rattle.tapa_syntax.specs.declared.terminal.Terminal.{Terminal}
 use Rattle.tapa_syntax.specs.declared.terminal.Terminal.TheVariants as terminal
 use Rattle.tapa_syntax.specs.Grammar.{Part, Takes, May, Means, sized_kind, word_kind, IsOne, IsType}
-use Rattle.tapa_parse_expression.specs.Readers.{next, skip, expect, eat, known, pure, ◌>>◌, ◌>>=◌}
+use Rattle.tapa_parse_expression.specs.Readers.{Reader, next, skip, expect, eat, known, pure, ◌>>◌, ◌>>=◌}
 use Rattle.tapa_parse_expression.specs.Reading.{sized, one_kind, one, unsigned_by, unsigned, type_by, type_name}
 use Rattle.tapa_parse_expression.proofs.Parts.{Symbols}
 use Rattle.tapa_parse_expression.proofs.SoundTypes.{is_word}
-use Rattle.tapa_parse_expression.proofs.Fronts.{Steady, Full, Any, full_of, steady_map, steady_then, steady_value, steady_by, steady_sees, steady_expect, steady_means, steady_skips, steady_eat}
+use Rattle.tapa_parse_expression.proofs.CompleteTypes.{one_word as first_word}
+use Rattle.tapa_syntax.specs.Symbols.{Symbol}
+use Rattle.tapa_parse_expression.proofs.Fronts.{Steady, Full, Any, full_of, steady_map, steady_pure, steady_then, steady_value, steady_by, steady_sees, steady_expect, steady_means, steady_skips, steady_eat}
 
 steady_sized : (i : Symbols) → Steady (Any (Means sized_kind)) sized i
 unfolding sized
@@ -71,3 +73,32 @@ steady_type i = steady_by type_by i (pick (next i) refl)
 
 pub full_type : Full (Any IsType)
 full_type = full_of (Any IsType) type_name (steady_type [])
+
+-- ---- behind a type's first word, which is not `std`
+
+abbrev pub words_behind : Terminal → Kind → Reader Kind
+words_behind terminal.Unsigned k = unsigned
+words_behind terminal.Short k = eat terminal.Int >> pure kind.I16
+words_behind terminal.Long k = eat terminal.Long >> eat terminal.Int >> pure kind.I64
+words_behind _ k = pure k
+
+pub words_read : (y : Symbol) (k : Kind) (s : Symbols) → one_kind y.terminal ≡ Some k → type_name (y ∷ s) ≡ words_behind y.terminal k s
+unfolding type_name
+words_read y k s e = pick y.terminal refl e
+  where
+    pick : (m : Terminal) → y.terminal ≡ m → one_kind m ≡ Some k → type_by m (y ∷ s) ≡ words_behind m k s
+    pick terminal.Unsigned is e = refl
+    pick terminal.Short is e = refl
+    pick terminal.Long is e = refl
+    pick _ is e = first_word k y s (ap one_kind is ∙ e)
+
+pub steady_words : (y : Symbol) (k : Kind) (s : Symbols) → one_kind y.terminal ≡ Some k → Steady (λ j r. Any IsType (y ∷ j) r) (words_behind y.terminal k) s
+steady_words y k s e = pick y.terminal refl e
+  where
+    pick : (m : Terminal) → y.terminal ≡ m → one_kind m ≡ Some k → Steady (λ j r. Any IsType (y ∷ j) r) (words_behind m k) s
+    pick terminal.Unsigned is e = steady_map IsUnsigned (λ j r. Any IsType (y ∷ j) r) (λ j r h. unsigned_type (y ∷ j) j r (y, is, refl) h) (steady_unsigned s)
+    pick terminal.Short is e = steady_map (May terminal.Int) (λ j r. Any IsType (y ∷ j) r) (λ j r h. short_type (y ∷ j) j r (y, is, refl) h) (steady_value (λ _. kind.I16) (steady_eat terminal.Int s refl))
+    pick terminal.Long is e =
+        steady_map (May terminal.Long ⨾ May terminal.Int) (λ j r. Any IsType (y ∷ j) r) (λ j r h. (kind.I64, inr (j, (y, is, refl), h)))
+        (steady_value (λ _. kind.I64) (steady_then true (steady_eat terminal.Long s refl) (λ _ j. steady_eat terminal.Int j refl)))
+    pick _ is e = steady_map Nothing (λ j r. Any IsType (y ∷ j) r) (λ j r h. (k, inl (is_word k (y ∷ j) r (y, ap one_kind is ∙ e, ap (λ l. y ∷ l) h)))) (steady_pure k s)
