@@ -8,3 +8,4 @@ pub mod CompleteLengths
 pub mod CompleteStatements
 pub mod CompleteTasks
 pub mod CompleteFiles
+pub mod SteadyActions
