@@ -9,3 +9,4 @@ pub mod CompleteStatements
 pub mod CompleteTasks
 pub mod CompleteFiles
 pub mod SteadyActions
+pub mod SteadyStatements
