@@ -10,3 +10,4 @@ pub mod CompleteTasks
 pub mod CompleteFiles
 pub mod SteadyActions
 pub mod SteadyStatements
+pub mod SteadyTasks

@@ -101,7 +101,7 @@ act_tree i j (a, (x, h), end) = (act x, tt, (a, h, end))
 declare_tree : (i j : Symbols) → (Any IsDeclaration ⨾ Takes terminal.Semicolon) i j → Bare i j
 declare_tree i j (a, (d, h), end) = (declare d, tt, (a, h, end))
 
-statements_tree : (i j : Symbols) → Many Statement i j → Any AreStatements i j
+pub statements_tree : (i j : Symbols) → Many Statement i j → Any AreStatements i j
 statements_tree i j h = all h.0 i j h.1
   where
     all : (us : List (Unit {0})) (i j : Symbols) → Each (λ (u : Unit {0}). Statement) us i j → Any AreStatements i j
