@@ -14,7 +14,11 @@ use Rattle.tapa_syntax.specs.declared.tree.AssignmentOperator.{AssignmentOperato
 use Rattle.tapa_syntax.specs.declared.tree.AttributeArgument.{AttributeArgument}
 use Rattle.tapa_syntax.specs.declared.tree.AttributeArgument.TheVariants as argument_form
 use Rattle.tapa_syntax.specs.Symbols.{Symbol}
-use Rattle.tapa_syntax.specs.Trees.{ExpressionTree, literal, boolean, variable, element, call, nullptr, construct, static_cast, cast, parenthesized, prefix, binary, conditional, expressions, PlaceTree, variable_place, element_place, ActionTree, call_action, write, read, assign, postfix, prefix_step, CountForm, literal_count, name_count, parenthesized_count, CountTree, DeclaratorTree, plain, initialized, array, DeclarationTree, AttributeTree, StartTree, no_start, declare_start, act_start, HeadTree, StatementTree, attributed, empty, block, declare, act, if_only, if_else, while, for, while_not_eot, break, continue, statements}
+use Rattle.tapa_syntax.specs.Trees.{ExpressionTree, literal, boolean, variable, element, call, nullptr, construct, static_cast, cast, parenthesized, prefix, binary}
+use Rattle.tapa_syntax.specs.Trees.{conditional, expressions, PlaceTree, variable_place, element_place, ActionTree, call_action, write, read, assign, postfix, prefix_step}
+use Rattle.tapa_syntax.specs.Trees.{CountForm, literal_count, name_count, parenthesized_count, CountTree, DeclaratorTree, plain, initialized, array, DeclarationTree}
+use Rattle.tapa_syntax.specs.Trees.{AttributeTree, StartTree, no_start, declare_start, act_start, HeadTree, StatementTree, attributed, empty, block, declare, act, if_only}
+use Rattle.tapa_syntax.specs.Trees.{if_else, while, for, while_not_eot, break, continue, statements}
 use Rattle.tapa_syntax.specs.Grammar.{is_name, sized_kind, word_kind, prefix_operator_of, binary_operator_of, step_operator_of, assignment_operator_of, binds_at, sum_level, or_level}
 use Rattle.tapa_syntax.specs.Limits.{most_operators}
 use Rattle.tapa_parse_expression.specs.declared.fault.ParseCode.TheVariants.{P1, P2}
@@ -437,7 +441,8 @@ abbrev pub begins_statement : Terminal → Bool
 begins_statement m = begins_other m || begins_action m || is_some (one_kind m)
 
 unfoldable pub start : Readers → Reader StartTree
-start below = λ i. if sees terminal.Semicolon i then Ok (no_start, i) else (if begins_action (next i) then (do a ← below.action; pure (act_start a)) i else (do d ← below.declaration; pure (declare_start d)) i)
+start below = λ i. if sees terminal.Semicolon i then Ok (no_start, i) else (if begins_action (next i) then (do a ← below.action; pure (act_start a)) i else
+    (do d ← below.declaration; pure (declare_start d)) i)
 
 unfoldable pub loop_test : ℕ → Readers → Reader (Option ExpressionTree)
 loop_test limit below = λ i. if sees terminal.Semicolon i then Ok (None, i) else (do e ← whole below.expression limit; pure (Some e)) i
@@ -461,7 +466,8 @@ module _ (limit : ℕ) (inner : Option Readers) where
   statements_with = repeat (λ i. not (sees terminal.RightBrace i)) statement_with
 
   unfoldable pub simple : Reader StatementTree
-  simple = λ i. if begins_action (next i) then (do a ← action_with limit inner; expect terminal.Semicolon; pure (act a)) i else (do d ← declaration_with limit inner; expect terminal.Semicolon; pure (declare d)) i
+  simple = λ i. if begins_action (next i) then (do a ← action_with limit inner; expect terminal.Semicolon; pure (act a)) i else
+      (do d ← declaration_with limit inner; expect terminal.Semicolon; pure (declare d)) i
 
   unfoldable pub braces : Reader StatementTree
   braces = do
