@@ -8,11 +8,11 @@ use Rattle.tapa_syntax.specs.declared.lexeme.Lexeme.{Lexeme}
 use Rattle.tapa_syntax.specs.declared.terminal.Terminal.TheVariants as terminal
 use Rattle.tapa_syntax.specs.Symbols.{text_of}
 use Rattle.stream_arrays.specs.Standing.{is, is_named, stand, first_word, type_size}
-use Rattle.stream_arrays.specs.Numbers.{Numbering, found, number_of}
+use Rattle.stream_arrays.specs.Numbers.{Numbering, found}
 use Rattle.stream_arrays.specs.Forms.{declaration, with_type, invocation, invoked, inside_size, first_may_count, is_mode}
 use Rattle.stream_arrays.specs.Plain.{is_plain, is_in_order, is_counted}
 use Rattle.stream_arrays.specs.Words.{end_of}
-use Rattle.stream_arrays.specs.Written.{Scope, Step, Outcome, and_then, faulty, is_selected, array_at, both, element_in, begins_argument, ends_argument, argument_element, declaration_step, invocation_step, element_step, other_step, constants_behind, depth_behind, opened_behind, scope_behind, step, written_from, most, within_most, written_out}
+use Rattle.stream_arrays.specs.Written.{Scope, Step, Outcome, and_then, faulty, is_selected, array_at, both, index_of, element_in, begins_argument, ends_argument, argument_element, declaration_step, invocation_step, element_step, other_step, constants_behind, depth_behind, opened_behind, scope_behind, step, written_from, most, within_most, written_out}
 use Rattle.stream_arrays.specs.declared.fault.ArrayCode.TheVariants.{A3, A4}
 
 pub and_left : (a b : Bool) → (a && b) ≡ true → a ≡ true
@@ -86,7 +86,7 @@ no_element text constants depth opened (l ∷ []) = refl
 no_element text constants depth opened (l ∷ a ∷ []) = refl
 no_element text constants depth opened (l ∷ a ∷ k ∷ []) = refl
 no_element text constants depth opened (l ∷ a ∷ k ∷ b ∷ ls) =
-    ap (λ o. cond (is text terminal.LeftBracket a && is text terminal.RightBracket b) (both o (number_of text constants k)) None) (no_array text [] l)
+    ap (λ o. cond (is text terminal.LeftBracket a && is text terminal.RightBracket b) (both o (index_of text (bare constants depth opened) k)) None) (no_array text [] l)
     ∙ no_choice (is text terminal.LeftBracket a && is text terminal.RightBracket b)
 
 no_argument : (text : Bytes) (constants : Numbering) (depth : ℕ) (opened : List Bool) (before ls : List Lexeme) → argument_element text (bare constants depth opened) before ls ≡ None
